@@ -1,0 +1,5 @@
+#![tactic(auto)]
+
+fn main(rt: HostRuntime) {
+    let _rt = rt;
+}
