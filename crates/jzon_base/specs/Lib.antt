@@ -1,0 +1,5 @@
+pub mod Decimal
+pub mod Digits
+pub mod NumberText
+pub mod Written
+pub mod PairList

@@ -1,0 +1,35 @@
+-- A list of pairs of a key and a value, in the order in which they were put (docs/RULES.md, "Objects"). A key is its bytes.
+use Rattle.std.specs.Prelude.{ℕ, zero, suc, cond, List, [], ◌∷◌, Option, None, Some, map}
+use Rattle.std.specs.Str.{bytes_eq}
+
+abbrev pub keys_of : {V : Type 0} → List (List ℕ × V) → List (List ℕ)
+keys_of ps = map (λ p. p.0) ps
+
+abbrev pub values_of : {V : Type 0} → List (List ℕ × V) → List V
+values_of ps = map (λ p. p.1) ps
+
+-- the value at k, or none
+abbrev pub find : {V : Type 0} → List ℕ → List (List ℕ × V) → Option V
+find k [] = None
+find k (p ∷ ps) = cond (bytes_eq p.0 k) (Some p.1) (find k ps)
+
+-- v at k: in its place where k is present, else last
+abbrev pub put : {V : Type 0} → List ℕ → V → List (List ℕ × V) → List (List ℕ × V)
+put k v [] = (k, v) ∷ []
+put k v (p ∷ ps) = cond (bytes_eq p.0 k) ((p.0, v) ∷ ps) (p ∷ put k v ps)
+
+-- without the pair of k; the others keep their order
+abbrev pub cut : {V : Type 0} → List ℕ → List (List ℕ × V) → List (List ℕ × V)
+cut k [] = []
+cut k (p ∷ ps) = cond (bytes_eq p.0 k) ps (p ∷ cut k ps)
+
+-- v as the value at place i
+abbrev pub set_value : {V : Type 0} → List (List ℕ × V) → ℕ → V → List (List ℕ × V)
+set_value [] i v = []
+set_value (p ∷ ps) zero v = (p.0, v) ∷ ps
+set_value (p ∷ ps) (suc i) v = p ∷ set_value ps i v
+
+-- v at k, last, where k is missing
+abbrev pub with_default : {V : Type 0} → List ℕ → V → List (List ℕ × V) → List (List ℕ × V)
+with_default k v [] = (k, v) ∷ []
+with_default k v (p ∷ ps) = cond (bytes_eq p.0 k) (p ∷ ps) (p ∷ with_default k v ps)
