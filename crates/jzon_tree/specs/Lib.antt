@@ -1,0 +1,5 @@
+pub mod Value
+pub mod Same
+pub mod Text
+pub mod Writing
+pub mod Lawful

@@ -1,0 +1,56 @@
+-- Which values a program can hold: numbers within range, texts that are UTF-8, distinct keys.
+use Rattle.std.specs.Prelude.{◌≢◌, ℕ, ◌≤◌, ◌<◌, ◌^◌, List, length, IsUtf8, ⊤, AllPairs, FitsSigned}
+use Rattle.std.specs.Int.{w16}
+use Rattle.jzon_base.specs.Decimal.{Decimal, nan, parts}
+use Rattle.jzon_base.specs.PairList.{keys_of}
+use Rattle.jzon_tree.specs.Value.{Value, null, boolean, text, number, array, object, Values, no_values, value, Pairs, no_pairs, pair, list_of_pairs, Kind, short, long}
+
+-- a mantissa of 64 bits and an exponent of 16
+abbrev pub InRange : Decimal → Type 0
+InRange nan = ⊤
+InRange (parts positive m e) = (m < 2 ^ 64) × FitsSigned w16 e
+
+-- a short text has at most 30 bytes
+abbrev pub IsText : Kind → List ℕ → Type 0
+IsText short s = IsUtf8 s × (length s ≤ 30)
+IsText long s = IsUtf8 s
+
+abbrev mutual
+  pub IsValue : Value → Type 0
+  IsValue null = ⊤
+  IsValue (boolean b) = ⊤
+  IsValue (text k s) = IsText k s
+  IsValue (number n) = InRange n
+  IsValue (array vs) = AreValues vs
+  IsValue (object ps) = ArePairs ps × AllPairs (λ j k. j ≢ k) (keys_of (list_of_pairs ps))
+
+  pub AreValues : Values → Type 0
+  AreValues no_values = ⊤
+  AreValues (value v vs) = IsValue v × AreValues vs
+
+  pub ArePairs : Pairs → Type 0
+  ArePairs no_pairs = ⊤
+  ArePairs (pair k v ps) = IsUtf8 k × IsValue v × ArePairs ps
+
+-- a number and not NaN
+abbrev pub IsNumber : Decimal → Type 0
+IsNumber nan = ⊥
+IsNumber (parts positive m e) = ⊤
+
+abbrev mutual
+  -- no NaN inside
+  pub HasNoNan : Value → Type 0
+  HasNoNan null = ⊤
+  HasNoNan (boolean b) = ⊤
+  HasNoNan (text k s) = ⊤
+  HasNoNan (number n) = IsNumber n
+  HasNoNan (array vs) = HaveNoNan vs
+  HasNoNan (object ps) = PairsHaveNoNan ps
+
+  pub HaveNoNan : Values → Type 0
+  HaveNoNan no_values = ⊤
+  HaveNoNan (value v vs) = HasNoNan v × HaveNoNan vs
+
+  pub PairsHaveNoNan : Pairs → Type 0
+  PairsHaveNoNan no_pairs = ⊤
+  PairsHaveNoNan (pair k v ps) = HasNoNan v × PairsHaveNoNan ps

@@ -1,0 +1,68 @@
+-- The bytes that values are written as (RFC 8259, sections 2 and 7; docs/RULES.md, "Printed values").
+use Rattle.std.specs.Prelude.{ℕ, suc, ◌*◌, ◌/◌, ◌%◌, List, [], ◌∷◌, ◌++◌, replicate, Bool, ◌||◌, ◌==◌, nat_lt, if◌then◌else◌, flat_map, codes}
+use Rattle.std.specs.Char.{digit_char}
+use Rattle.jzon_base.specs.NumberText.{written_text}
+use Rattle.jzon_tree.specs.Value.{Value, null, boolean, text, number, array, object, Values, no_values, value, Pairs, no_pairs, pair}
+
+-- what stands in a string for the byte c: a short escape where there is one, `\u00` and two lower-case digits for the other bytes below 32, else the byte
+abbrev pub escaped_byte : ℕ → List ℕ
+escaped_byte c =
+    if c == 34 || c == 92 then 92 ∷ c ∷ []
+    else (if c == 8 then codes "\\b"
+    else (if c == 9 then codes "\\t"
+    else (if c == 10 then codes "\\n"
+    else (if c == 12 then codes "\\f"
+    else (if c == 13 then codes "\\r"
+    else (if nat_lt c 32 then codes "\\u00" ++ digit_char (c / 16) ∷ digit_char (c % 16) ∷ [] else c ∷ []))))))
+
+abbrev pub escaped : List ℕ → List ℕ
+escaped = flat_map escaped_byte
+
+-- a string with its quotes
+abbrev pub quoted : List ℕ → List ℕ
+quoted s = 34 ∷ (escaped s ++ 34 ∷ [])
+
+abbrev pub boolean_text : Bool → List ℕ
+boolean_text b = if b then codes "true" else codes "false"
+
+-- what stands before each item, each key and each closing bracket of a non-empty container, by the count of open containers, and between a key and its value
+pub record Layout : Type 0 where
+  pub line : ℕ → List ℕ
+  pub colon : List ℕ
+
+abbrev mutual
+  -- the value's text inside `depth` open containers
+  pub layout_text : Layout → ℕ → Value → List ℕ
+  layout_text l depth null = codes "null"
+  layout_text l depth (boolean b) = boolean_text b
+  layout_text l depth (text k s) = quoted s
+  layout_text l depth (number n) = written_text n
+  layout_text l depth (array no_values) = codes "[]"
+  layout_text l depth (array (value v vs)) = 91 ∷ (l.line (suc depth) ++ layout_text l (suc depth) v ++ more_values_text l depth vs)
+  layout_text l depth (object no_pairs) = codes "{}"
+  layout_text l depth (object (pair k v ps)) =
+      123 ∷ (l.line (suc depth) ++ quoted k ++ l.colon ++ layout_text l (suc depth) v ++ more_pairs_text l depth ps)
+
+  -- the other items, and the closing bracket
+  pub more_values_text : Layout → ℕ → Values → List ℕ
+  more_values_text l depth no_values = l.line depth ++ 93 ∷ []
+  more_values_text l depth (value v vs) = 44 ∷ (l.line (suc depth) ++ layout_text l (suc depth) v ++ more_values_text l depth vs)
+
+  pub more_pairs_text : Layout → ℕ → Pairs → List ℕ
+  more_pairs_text l depth no_pairs = l.line depth ++ 125 ∷ []
+  more_pairs_text l depth (pair k v ps) =
+      44 ∷ (l.line (suc depth) ++ quoted k ++ l.colon ++ layout_text l (suc depth) v ++ more_pairs_text l depth ps)
+
+-- no whitespace at all
+abbrev pub compact_layout : Layout
+compact_layout = record { line = λ depth. []; colon = codes ":" }
+
+-- a newline and `spaces` blanks for each open container, and a blank after each colon
+abbrev pub pretty_layout : ℕ → Layout
+pretty_layout spaces = record { line = λ depth. 10 ∷ replicate (depth * spaces) 32; colon = codes ": " }
+
+abbrev pub compact : Value → List ℕ
+compact = layout_text compact_layout 0
+
+abbrev pub pretty : Value → ℕ → ℕ → List ℕ
+pretty v spaces depth = layout_text (pretty_layout spaces) depth v

@@ -1,0 +1,69 @@
+-- JSON values (RFC 8259, sections 3 to 7). A text and a key are their bytes in UTF-8.
+use Rattle.std.specs.Prelude.{ℕ, suc, max, List, [], ◌∷◌, length, nat_le, Bool, if◌then◌else◌}
+use Rattle.jzon_base.specs.Decimal.{Decimal}
+
+-- how a text is kept: in place, or in memory of its own; no other rule sees the difference
+pub data Kind : Type 0 where
+  short : Kind
+  long : Kind
+
+-- A list of values, or pairs of a key and a value in their order. A program's objects have distinct keys.
+mutual
+  pub data Value : Type 0 where
+    null : Value
+    boolean : Bool → Value
+    text : Kind → List ℕ → Value
+    number : Decimal → Value
+    array : Values → Value
+    object : Pairs → Value
+
+  pub data Values : Type 0 where
+    no_values : Values
+    value : Value → Values → Values
+
+  pub data Pairs : Type 0 where
+    no_pairs : Pairs
+    pair : List ℕ → Value → Pairs → Pairs
+
+-- the kind of a text that is read: short up to 30 bytes
+abbrev pub kind_of : List ℕ → Kind
+kind_of bytes = if nat_le (length bytes) 30 then short else long
+
+-- ---- the same lists, as lists
+
+abbrev pub values_of : List Value → Values
+values_of [] = no_values
+values_of (v ∷ vs) = value v (values_of vs)
+
+abbrev pub pairs_of : List (List ℕ × Value) → Pairs
+pairs_of [] = no_pairs
+pairs_of (p ∷ ps) = pair p.0 p.1 (pairs_of ps)
+
+abbrev pub list_of_values : Values → List Value
+list_of_values no_values = []
+list_of_values (value v vs) = v ∷ list_of_values vs
+
+abbrev pub list_of_pairs : Pairs → List (List ℕ × Value)
+list_of_pairs no_pairs = []
+list_of_pairs (pair k v ps) = (k, v) ∷ list_of_pairs ps
+
+-- ---- how deep non-empty containers nest
+
+abbrev mutual
+  pub nest : Value → ℕ
+  nest null = 0
+  nest (boolean b) = 0
+  nest (text k s) = 0
+  nest (number n) = 0
+  nest (array no_values) = 0
+  nest (array (value v vs)) = suc (max (nest v) (most_nest vs))
+  nest (object no_pairs) = 0
+  nest (object (pair k v ps)) = suc (max (nest v) (most_nest_under ps))
+
+  pub most_nest : Values → ℕ
+  most_nest no_values = 0
+  most_nest (value v vs) = max (nest v) (most_nest vs)
+
+  pub most_nest_under : Pairs → ℕ
+  most_nest_under no_pairs = 0
+  most_nest_under (pair k v ps) = max (nest v) (most_nest_under ps)
