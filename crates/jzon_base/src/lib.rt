@@ -2,3 +2,4 @@
 
 pub mod error;
 pub mod number;
+pub mod util;

@@ -3,6 +3,8 @@
 ghost use Rattle.std.specs.Prelude.{◌≡◌};
 ghost use Rattle.jzon_base.specs.Decimal.{nan, parts, parts_of, is_nan};
 
+use crate::util::print_dec::number_text;
+use std::fmt;
 use std::marker::Model;
 
 #[derive(Clone, Copy, Debug)]
@@ -74,5 +76,20 @@ impl Number {
         ensures { result ≡ is_nan self.now }
     {
         matches!(self.category, Category::Nan)
+    }
+}
+
+impl fmt::Display for Number {
+    ghost use Rattle.std.specs.Prelude.{Some};
+    ghost use Rattle.jzon_base.specs.NumberText.{decimal_text};
+
+    ghost output = { λ n. Some (decimal_text n) };
+
+    fn fmt<W: fmt::Write>(&self, f: &mut fmt::Formatter<W>) -> fmt::Result {
+        if self.is_nan() {
+            return f.write_str("nan");
+        }
+        let (positive, mantissa, exponent) = self.as_parts();
+        f.write_str(number_text(positive, mantissa, exponent).as_str())
     }
 }
