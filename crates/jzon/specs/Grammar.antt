@@ -1,5 +1,5 @@
 -- The grammar of RFC 8259 as trees: a tree has each part of a text, the blanks too. A text is a list of characters.
-use Rattle.std.specs.Prelude.{ℕ, zero, suc, ◌+◌, ◌*◌, List, [], ◌∷◌, Bool, false, not, ◌&&◌, ◌||◌, ◌==◌, nat_le, nat_lt, Option, Some, None, codes, IsTrue, ⊤}
+use Rattle.std.specs.Prelude.{◌≡◌, ℕ, zero, suc, ◌+◌, ◌*◌, List, [], ◌∷◌, Bool, false, not, ◌&&◌, ◌||◌, ◌==◌, nat_le, nat_lt, Option, Some, None, codes, IsTrue, ⊤}
 use Rattle.std.specs.Char.{is_ascii_digit, is_ascii_hexdigit, digit_value}
 use Rattle.std.specs.List.{list_any, fold}
 use lib.Utf8.{scalar}
@@ -54,14 +54,14 @@ mutual
     -- a first key and its value, and the members after it
     object : Key → List ℕ → Node → List ℕ → Members → Node
 
-  -- what follows a value of an array: the closing bracket, or a comma and one element more
+  -- what follows a value of an array: its closing bracket, or a comma and one element more
   pub data Elements : Type 0 where
-    end : Elements
-    next : List ℕ → Node → List ℕ → Elements → Elements
+    no_elements : Elements
+    element : List ℕ → Node → List ℕ → Elements → Elements
 
   pub data Members : Type 0 where
-    end : Members
-    next : Key → List ℕ → Node → List ℕ → Members → Members
+    no_members : Members
+    member : Key → List ℕ → Node → List ℕ → Members → Members
 
 -- a text (section 2)
 pub record Document : Type 0 where
@@ -174,12 +174,12 @@ abbrev mutual
   IsNode r (Node.object k b n c ms) = IsReadSoFar (Node.object k b n c ms) × IsKey r k × IsBlank r b × IsNode r n × IsBlank r c × AreMembers r ms
 
   pub AreElements : Reading → Elements → Type 0
-  AreElements r Elements.end = ⊤
-  AreElements r (Elements.next b n c es) = IsBlank r b × IsNode r n × IsBlank r c × AreElements r es
+  AreElements r no_elements = ⊤
+  AreElements r (element b n c es) = IsBlank r b × IsNode r n × IsBlank r c × AreElements r es
 
   pub AreMembers : Reading → Members → Type 0
-  AreMembers r Members.end = ⊤
-  AreMembers r (Members.next k b n c ms) = IsKey r k × IsBlank r b × IsNode r n × IsBlank r c × AreMembers r ms
+  AreMembers r no_members = ⊤
+  AreMembers r (member k b n c ms) = IsKey r k × IsBlank r b × IsNode r n × IsBlank r c × AreMembers r ms
 
 abbrev pub IsDocument : Reading → Document → Type 0
 IsDocument r d = IsBlank r d.before × IsNode r d.node × IsBlank r d.after

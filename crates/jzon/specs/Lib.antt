@@ -1,6 +1,5 @@
 pub mod Reading
 pub mod Grammar
-pub mod Meaning
 pub mod Spelling
 pub mod Meaning
 pub mod Fault

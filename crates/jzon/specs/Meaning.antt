@@ -4,7 +4,7 @@ use Rattle.jzon_base.specs.Decimal.{Decimal}
 use Rattle.jzon_base.specs.Digits.{digits_number, read_number}
 use Rattle.jzon_base.specs.PairList.{put}
 use Rattle.jzon_tree.specs.Value.{Value, null, boolean, text, number, array, object, no_values, Values, value, no_pairs, pairs_of, kind_of}
-use Rattle.jzon.specs.Grammar.{Sign, unsigned, plus, minus, Exponent, Numeral, Item, plain, simple, single, double, code_unit, is_high, is_low, Node, Elements, Members}
+use Rattle.jzon.specs.Grammar.{Sign, unsigned, plus, minus, Exponent, Numeral, Item, plain, simple, single, double, code_unit, is_high, is_low, Node, Elements, no_elements, element, Members, no_members, member}
 
 -- ---- numbers
 
@@ -63,10 +63,10 @@ abbrev mutual
   meaning (Node.object key b n c ms) = object (pairs_of (members_meaning ((bytes_of key.items, meaning n) ∷ []) ms))
 
   pub elements_meaning : Elements → Values
-  elements_meaning Elements.end = no_values
-  elements_meaning (Elements.next b n c es) = value (meaning n) (elements_meaning es)
+  elements_meaning no_elements = no_values
+  elements_meaning (element b n c es) = value (meaning n) (elements_meaning es)
 
   -- After the pairs so far: a repeated key keeps the first one's place and takes the last value.
   pub members_meaning : List (List ℕ × Value) → Members → List (List ℕ × Value)
-  members_meaning ps Members.end = ps
-  members_meaning ps (Members.next key b n c ms) = members_meaning (put (bytes_of key.items) (meaning n) ps) ms
+  members_meaning ps no_members = ps
+  members_meaning ps (member key b n c ms) = members_meaning (put (bytes_of key.items) (meaning n) ps) ms

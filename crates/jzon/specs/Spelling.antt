@@ -3,7 +3,7 @@ use Rattle.std.specs.Prelude.{◌≡◌, ℕ, zero, suc, ◌+◌, List, [], ◌�
 use Rattle.jzon_base.specs.Digits.{dropped, kept_fraction}
 use Rattle.jzon_tree.specs.Same.{is_known}
 use Rattle.jzon.specs.Reading.{Reading}
-use Rattle.jzon.specs.Grammar.{Sign, unsigned, plus, minus, Exponent, Numeral, Item, simple, single, double, Key, Node, Elements, Members, Document}
+use Rattle.jzon.specs.Grammar.{Sign, unsigned, plus, minus, Exponent, Numeral, Item, simple, single, double, Key, Node, Elements, no_elements, element, Members, no_members, member, Document}
 use Rattle.jzon.specs.Grammar as grammar
 use Rattle.jzon.specs.Meaning.{is_pair, bytes_of}
 
@@ -137,14 +137,14 @@ abbrev mutual
       (plain b (node_cells r n (suc depth) None (plain c (members_cells r ms (bytes_of key.items ∷ []) (suc depth) k))))
 
   pub elements_cells : Reading → Elements → ℕ → List Cell → List Cell
-  elements_cells r Elements.end depth k = cell 93 None ∷ k
-  elements_cells r (Elements.next b n c es) depth k =
+  elements_cells r no_elements depth k = cell 93 None ∷ k
+  elements_cells r (element b n c es) depth k =
       cell 44 None ∷ plain b (node_cells r n depth None (plain c (elements_cells r es depth k)))
 
   -- `seen` are the texts of the keys before
   pub members_cells : Reading → Members → List (List ℕ) → ℕ → List Cell → List Cell
-  members_cells r Members.end seen depth k = cell 125 None ∷ k
-  members_cells r (Members.next key b n c ms) seen depth k =
+  members_cells r no_members seen depth k = cell 125 None ∷ k
+  members_cells r (member key b n c ms) seen depth k =
       cell 44 None ∷ key_cells r seen key None
       (plain b (node_cells r n depth None (plain c (members_cells r ms (bytes_of key.items ∷ seen) depth k))))
 

@@ -25,6 +25,8 @@ pub enum Error {
     WrongType(String),
     /// Memory was refused.
     OutOfMemory,
+    /// An object of a text has a key twice, which a strict reading refuses: the place of the second one's opening quote.
+    DuplicateKey { line: usize, column: usize },
 }
 
 /// The result of a call that is refused by an `Error`.
@@ -59,6 +61,9 @@ impl fmt::Display for Error {
             Error::FailedUtf8Parsing => f.write_str("Failed to parse UTF-8 bytes"),
             Error::WrongType(expected) => write!(f, "Wrong type, expected: {expected}"),
             Error::OutOfMemory => f.write_str("Out of memory"),
+            Error::DuplicateKey { line, column } => {
+                write!(f, "Duplicate key at ({line}:{column})")
+            }
         }
     }
 }
