@@ -1,0 +1,2 @@
+pub mod TreeMachine
+pub mod Completion
