@@ -1,2 +1,4 @@
 pub mod TreeMachine
 pub mod Completion
+pub mod Columns
+pub mod FaultPlaces
