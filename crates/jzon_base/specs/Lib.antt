@@ -1,4 +1,5 @@
 pub mod Decimal
+pub mod DigitLimits
 pub mod Digits
 pub mod ErrorText
 pub mod NumberFields

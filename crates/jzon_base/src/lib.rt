@@ -1,5 +1,6 @@
 #![tactic(auto)]
 
+pub mod digits;
 pub mod error;
 pub mod number;
 pub mod util;
