@@ -4,5 +4,6 @@ pub mod Digits
 pub mod ErrorText
 pub mod NumberFields
 pub mod NumberText
-pub mod Written
 pub mod PairList
+pub mod Same
+pub mod Written
