@@ -3,4 +3,5 @@
 pub mod digits;
 pub mod error;
 pub mod number;
+pub mod short;
 pub mod util;
