@@ -1,5 +1,5 @@
--- the longest front of digits
-use Rattle.std.proofs.Common.{◌≡◌, ℕ, zero, suc, ◌+◌, ◌-◌, ◌^◌, ◌≤◌, ◌<◌, List, [], ◌∷◌, ◌++◌, length, take, drop, sym, ap, ◌∙◌, subst, arith, inl, inr, length-append, nat_lt, if◌then◌else◌, lit<}
+-- The longest front of digits that spells a number below 2 ^ 64.
+use Rattle.std.proofs.Common.{◌≡◌, ℕ, zero, suc, ◌+◌, ◌-◌, ◌^◌, ◌≤◌, ◌<◌, List, [], ◌∷◌, ◌++◌, length, take, drop, ap, ◌∙◌, subst, arith, inl, inr, length-append, nat_lt, if◌then◌else◌, lit<}
 use Rattle.std.specs.List.{fold}
 use Rattle.std.proofs.lemmas.List.Sums.{fold-append}
 use Rattle.std.proofs.lemmas.List.{take-append-le}
@@ -9,93 +9,91 @@ use Rattle.std.proofs.lemmas.Bool.Decides.{nat_tests}
 use Rattle.jzon_base.specs.DigitLimits.{IsLongestFront}
 use Rattle.jzon_base.specs.Digits.{add_digit, digits_number, longest_up_to, kept_len}
 
-pub fold-ge : (v : ℕ) (xs : List ℕ) → v ≤ fold add_digit v xs
-fold-ge v [] = omega arith
-fold-ge v (x ∷ xs) = let h : add_digit v x ≤ fold add_digit (add_digit v x) xs = fold-ge (add_digit v x) xs in omega (arith, h)
+-- ---- a longer front spells no smaller number
 
-pub number-take-le : (v : ℕ) (ds : List ℕ) (i n : ℕ) → i ≤ n → fold add_digit v (take i ds) ≤ fold add_digit v (take n ds)
-number-take-le v ds i n h =
+fold-ge : (v : ℕ) (ds : List ℕ) → v ≤ fold add_digit v ds
+fold-ge v [] = omega arith
+fold-ge v (d ∷ ds) = let h : add_digit v d ≤ fold add_digit (add_digit v d) ds = fold-ge (add_digit v d) ds in omega (arith, h)
+
+fold-take-le : (v : ℕ) (ds : List ℕ) (i n : ℕ) → i ≤ n → fold add_digit v (take i ds) ≤ fold add_digit v (take n ds)
+fold-take-le v ds i n h =
     let split : n ≡ i + (n - i) = omega arith in
     let e : fold add_digit v (take n ds) ≡ fold add_digit (fold add_digit v (take i ds)) (take (n - i) (drop i ds)) =
     ap (λ j. fold add_digit v (take j ds)) split ∙ ap (fold add_digit v) (take-add i (n - i) ds) ∙ fold-append add_digit v (take i ds) (take (n - i) (drop i ds)) in
     omega (arith, e, fold-ge (fold add_digit v (take i ds)) (take (n - i) (drop i ds)))
 
-taken : (a m x y : ℕ) → a < m → (if nat_lt a m then x else y) ≡ x
-taken a m x y h = grind (arith, nat_tests)
+-- ---- the kept digits are the longest front
 
-left : (a m x y : ℕ) → m ≤ a → (if nat_lt a m then x else y) ≡ y
-left a m x y h = grind (arith, nat_tests)
+if-lt : (a b x y : ℕ) → a < b → (if nat_lt a b then x else y) ≡ x
+if-lt a b x y h = grind (arith, nat_tests)
 
-pub longest_is : (ds : List ℕ) (k : ℕ) → digits_number (take k ds) < 2 ^ 64 → (n : ℕ) → k ≤ n → (k < n → 2 ^ 64 ≤ digits_number (take (k + 1) ds)) → longest_up_to n ds ≡ k
-longest_is ds k fits zero h big = omega arith
-longest_is ds k fits (suc n) h big =
-    elim (cases_lt k (suc n)) [
-      | inl lt ↦
-          (let more : digits_number (take (k + 1) ds) ≤ digits_number (take (suc n) ds) = number-take-le 0 ds (k + 1) (suc n) (omega arith) in
-          left (digits_number (take (suc n) ds)) (2 ^ 64) (suc n) (longest_up_to n ds) (omega (arith, more, big lt))
-          ∙ longest_is ds k fits n (omega arith) (λ below. big lt))
-      | inr ge ↦
-          (let e : k ≡ suc n = omega arith in
-          let here : digits_number (take (suc n) ds) < 2 ^ 64 = subst (λ (j : ℕ). digits_number (take j ds) < 2 ^ 64) e fits in
-          taken (digits_number (take (suc n) ds)) (2 ^ 64) (suc n) (longest_up_to n ds) here ∙ sym e)
-    ]
+if-ge : (a b x y : ℕ) → b ≤ a → (if nat_lt a b then x else y) ≡ y
+if-ge a b x y h = grind (arith, nat_tests)
 
-pub kept_len_is : (ds : List ℕ) (k : ℕ) → k ≤ length ds → digits_number (take k ds) < 2 ^ 64 → (k < length ds → 2 ^ 64 ≤ digits_number (take (k + 1) ds)) → kept_len ds ≡ k
-unfolding kept_len
-kept_len_is ds k h fits big = longest_is ds k fits (length ds) h big
+longest_up_to-fits : (ds : List ℕ) (n : ℕ) → digits_number (take (suc n) ds) < 2 ^ 64 → longest_up_to (suc n) ds ≡ suc n
+longest_up_to-fits ds n fits = if-lt (digits_number (take (suc n) ds)) (2 ^ 64) (suc n) (longest_up_to n ds) fits
 
-pub kept_len_whole : (whole fraction : List ℕ) (k : ℕ) → k < length whole → digits_number (take k whole) < 2 ^ 64 → 2 ^ 64 ≤ digits_number (take (k + 1) whole) → kept_len (whole ++ fraction) ≡ k
-kept_len_whole whole fraction k h fits big =
-    let at : take k (whole ++ fraction) ≡ take k whole = take-append-le k whole fraction (omega arith) in
-    let next : take (k + 1) (whole ++ fraction) ≡ take (k + 1) whole = take-append-le (k + 1) whole fraction (omega arith) in
-    kept_len_is (whole ++ fraction) k (omega (arith, length-append whole fraction)) (rw at fits) (λ _. rw next big)
-
-pub front_of_two : (whole fraction : List ℕ) (n : ℕ) → digits_number (take (length whole + n) (whole ++ fraction)) ≡ fold add_digit (digits_number whole) (take n fraction)
-front_of_two whole fraction n = ap digits_number (take-append-add whole fraction n) ∙ fold-append add_digit 0 whole (take n fraction)
-
-pub kept_len_both : (whole fraction : List ℕ) (k : ℕ) → k ≤ length fraction → fold add_digit (digits_number whole) (take k fraction) < 2 ^ 64 → (k < length fraction → 2 ^ 64 ≤ fold add_digit (digits_number whole) (take (k + 1) fraction)) → kept_len (whole ++ fraction) ≡ length whole + k
-kept_len_both whole fraction k h fits big =
-    kept_len_is (whole ++ fraction) (length whole + k) (omega (arith, length-append whole fraction))
-    (omega (arith, front_of_two whole fraction k, fits))
-    (λ below. let n : k < length fraction = omega (arith, below, length-append whole fraction) in
-    let e : length whole + k + 1 ≡ length whole + (k + 1) = omega arith in
-    rw e (rw front_of_two (big n)))
-
-longest_up_to-suc-in : (ds : List ℕ) (n : ℕ) → digits_number (take (suc n) ds) < 2 ^ 64 → longest_up_to (suc n) ds ≡ suc n
-longest_up_to-suc-in ds n h = taken (digits_number (take (suc n) ds)) (2 ^ 64) (suc n) (longest_up_to n ds) h
-
-longest_up_to-suc-out : (ds : List ℕ) (n : ℕ) → 2 ^ 64 ≤ digits_number (take (suc n) ds) → longest_up_to (suc n) ds ≡ longest_up_to n ds
-longest_up_to-suc-out ds n h = left (digits_number (take (suc n) ds)) (2 ^ 64) (suc n) (longest_up_to n ds) h
+longest_up_to-large : (ds : List ℕ) (n : ℕ) → 2 ^ 64 ≤ digits_number (take (suc n) ds) → longest_up_to (suc n) ds ≡ longest_up_to n ds
+longest_up_to-large ds n large = if-ge (digits_number (take (suc n) ds)) (2 ^ 64) (suc n) (longest_up_to n ds) large
 
 -- k is the greatest count up to n of digits that spell a number below 2 ^ 64
-record IsGreatestUpTo (ds : List ℕ) (n k : ℕ) : Type 0 where
+record IsLongestUpTo (ds : List ℕ) (n k : ℕ) : Type 0 where
   within : k ≤ n
   fits : digits_number (take k ds) < 2 ^ 64
-  greatest : (j : ℕ) → k < j → j ≤ n → 2 ^ 64 ≤ digits_number (take j ds)
+  longest : (j : ℕ) → k < j → j ≤ n → 2 ^ 64 ≤ digits_number (take j ds)
 
--- a count above k is n + 1, or it is at most n
-greatest_at : (ds : List ℕ) (n j k : ℕ) → IsGreatestUpTo ds n k → k < j → j ≤ suc n → 2 ^ 64 ≤ digits_number (take (suc n) ds) → 2 ^ 64 ≤ digits_number (take j ds)
-greatest_at ds n j k before below within big =
-    elim (cases_lt n j) [
-      | inl lt ↦ (let e : suc n ≡ j = omega arith in subst (λ (i : ℕ). 2 ^ 64 ≤ digits_number (take i ds)) e big)
-      | inr ge ↦ before.greatest j below ge
-    ]
+-- one count more, which is too many
+longest_and_one_more : (ds : List ℕ) (n k : ℕ) → IsLongestUpTo ds n k → 2 ^ 64 ≤ digits_number (take (suc n) ds) → IsLongestUpTo ds (suc n) k
+longest_and_one_more ds n k before large = record {
+  within = omega (arith, before.within);
+  fits = before.fits;
+  longest = λ j above within. elim (cases_lt n j) [
+    | inl last ↦ (let e : suc n ≡ j = omega arith in subst (λ (i : ℕ). 2 ^ 64 ≤ digits_number (take i ds)) e large)
+    | inr earlier ↦ before.longest j above earlier
+  ];
+}
 
-longest_up_to_is_greatest : (ds : List ℕ) (n : ℕ) → IsGreatestUpTo ds n (longest_up_to n ds)
-longest_up_to_is_greatest ds zero = record { within = omega arith; fits = lit< tt; greatest = λ j below within. absurd (omega arith) }
-longest_up_to_is_greatest ds (suc n) =
+longest_up_to_is : (ds : List ℕ) (n : ℕ) → IsLongestUpTo ds n (longest_up_to n ds)
+longest_up_to_is ds zero = record { within = omega arith; fits = lit< tt; longest = λ j above within. absurd (omega arith) }
+longest_up_to_is ds (suc n) =
     elim (cases_lt (digits_number (take (suc n) ds)) (2 ^ 64)) [
       | inl fits ↦
-          (rw (longest_up_to-suc-in ds n fits) (record { within = omega arith; fits = fits; greatest = λ j below within. absurd (omega arith) }))
-      | inr big ↦
-          (let before : IsGreatestUpTo ds n (longest_up_to n ds) = longest_up_to_is_greatest ds n in
-          rw (longest_up_to-suc-out ds n big) (record {
-            within = omega (arith, before.within);
-            fits = before.fits;
-            greatest = λ j below within. greatest_at ds n j (longest_up_to n ds) before below within big;
-          }))
+          (rw (longest_up_to-fits ds n fits) (record { within = omega arith; fits = fits; longest = λ j above within. absurd (omega arith) }))
+      | inr large ↦
+          (rw (longest_up_to-large ds n large) (longest_and_one_more ds n (longest_up_to n ds) (longest_up_to_is ds n) large))
     ]
 
 pub kept_len_is_longest : (ds : List ℕ) → IsLongestFront ds (kept_len ds)
 unfolding kept_len
-kept_len_is_longest ds = let k = longest_up_to_is_greatest ds (length ds) in record { within = k.within; fits = k.fits; longest = k.greatest }
+kept_len_is_longest ds = let k = longest_up_to_is ds (length ds) in record { within = k.within; fits = k.fits; longest = k.longest }
+
+-- ---- a front that one digit more makes too large is the longest
+
+kept_len-at : (ds : List ℕ) (k : ℕ) → k ≤ length ds → digits_number (take k ds) < 2 ^ 64 → (k < length ds → 2 ^ 64 ≤ digits_number (take (k + 1) ds)) → kept_len ds ≡ k
+kept_len-at ds k within fits next =
+    let kept = kept_len_is_longest ds in
+    let at_least : k ≤ kept_len ds =
+    elim (cases_lt (kept_len ds) k) [ inl below ↦ absurd (omega (arith, kept.longest k below within)) | inr h ↦ h ] in
+    let at_most : kept_len ds ≤ k =
+    elim (cases_lt k (kept_len ds)) [
+      | inl above ↦ absurd (omega (arith, kept.fits, next (omega (arith, kept.within)), fold-take-le 0 ds (k + 1) (kept_len ds) (omega arith)))
+      | inr h ↦ h
+    ] in
+    omega arith
+
+pub kept_len-within_whole : (whole fraction : List ℕ) (k : ℕ) → k < length whole → digits_number (take k whole) < 2 ^ 64 → 2 ^ 64 ≤ digits_number (take (k + 1) whole) → kept_len (whole ++ fraction) ≡ k
+kept_len-within_whole whole fraction k h fits large =
+    let front : take k (whole ++ fraction) ≡ take k whole = take-append-le k whole fraction (omega arith) in
+    let next : take (k + 1) (whole ++ fraction) ≡ take (k + 1) whole = take-append-le (k + 1) whole fraction (omega arith) in
+    kept_len-at (whole ++ fraction) k (omega (arith, length-append whole fraction)) (rw front fits) (λ _. rw next large)
+
+pub digits_number-take-append : (whole fraction : List ℕ) (n : ℕ) → digits_number (take (length whole + n) (whole ++ fraction)) ≡ fold add_digit (digits_number whole) (take n fraction)
+digits_number-take-append whole fraction n = ap digits_number (take-append-add whole fraction n) ∙ fold-append add_digit 0 whole (take n fraction)
+
+pub kept_len-past_whole : (whole fraction : List ℕ) (k : ℕ) → k ≤ length fraction → fold add_digit (digits_number whole) (take k fraction) < 2 ^ 64 → (k < length fraction → 2 ^ 64 ≤ fold add_digit (digits_number whole) (take (k + 1) fraction)) → kept_len (whole ++ fraction) ≡ length whole + k
+kept_len-past_whole whole fraction k h fits next =
+    kept_len-at (whole ++ fraction) (length whole + k) (omega (arith, length-append whole fraction))
+    (omega (arith, digits_number-take-append whole fraction k, fits))
+    (λ below. let more : k < length fraction = omega (arith, below, length-append whole fraction) in
+    let e : length whole + k + 1 ≡ length whole + (k + 1) = omega arith in
+    rw e (rw digits_number-take-append (next more)))

@@ -62,7 +62,6 @@ impl Number {
 
     /// The number with this sign and decimal, where the mantissa's trailing zeros are stripped, one at a time, while the exponent is negative. So a mantissa 0 with
     /// a negative exponent ends at exponent 0.
-    #[tactic(auto, using(crate::proofs::Scaled::scaled_strip))]
     pub fn from_parts(positive: bool, mantissa: u64, exponent: i16) -> Number
         ensures { StripsTo positive mantissa exponent result }
     {
@@ -210,7 +209,7 @@ fn steps_between(low: i16, high: i16) -> u32
 }
 
 // `m * 10 ^ power`, where it fits. As m is not 0, at most 20 steps are made.
-pub(crate) fn times_power(m: u64, power: u32) -> Option<u64>
+fn times_power(m: u64, power: u32) -> Option<u64>
     requires { 0 < m }
     ensures { MatchOption result (2 ^ 64 ≤ m * 10 ^ power) (λ r. r ≡ m * 10 ^ power) }
 {
