@@ -1,1 +1,5 @@
 #![tactic(auto)]
+
+pub mod error;
+pub mod number;
+pub mod util;

@@ -1,0 +1,22 @@
+-- The words of each error (docs/RULES.md, "Errors").
+use Rattle.std.specs.Prelude.{◌≡◌, ℕ, List, ◌++◌, codes, decimal, encode_utf8, string_bytes}
+use Rattle.jzon_base.specs.declared.error.Error.{Error}
+use Rattle.jzon_base.specs.declared.error.Error.TheVariants.{UnexpectedCharacter, UnexpectedEndOfJson, ExceededDepthLimit, FailedUtf8Parsing, WrongType, OutOfMemory}
+
+-- a line and a column, both counted from 1
+abbrev pub place_text : ℕ → ℕ → List ℕ
+place_text line column = codes "(" ++ decimal line ++ codes ":" ++ decimal column ++ codes ")"
+
+-- what `Display` shows; the character stands as itself, with no escape
+abbrev pub error_text : Error → List ℕ
+error_text (UnexpectedCharacter ch line column) = codes "Unexpected character: " ++ encode_utf8 ch ++ codes " at " ++ place_text line column
+error_text UnexpectedEndOfJson = codes "Unexpected end of JSON"
+error_text ExceededDepthLimit = codes "Exceeded depth limit"
+error_text FailedUtf8Parsing = codes "Failed to parse UTF-8 bytes"
+error_text (WrongType expected) = codes "Wrong type, expected: " ++ string_bytes expected
+error_text OutOfMemory = codes "Out of memory"
+
+-- the error names the kind that these bytes spell
+abbrev pub IsWrongType : List ℕ → Error → Type 0
+IsWrongType kind (WrongType expected) = string_bytes expected ≡ kind
+IsWrongType kind _ = ⊥

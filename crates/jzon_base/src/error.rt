@@ -1,0 +1,88 @@
+//! Why a call is refused.
+
+ghost use Rattle.std.specs.Prelude.{Some, IfOk, IsOkUnless};
+ghost use Rattle.jzon_base.specs.ErrorText.{error_text, IsWrongType};
+
+use std::alloc::{AllocError, AllocFailed, Global};
+use std::fmt;
+
+/// Why a text is not read, or a call on a value is refused.
+#[derive(Debug, PartialEq, Eq, Drop)]
+pub enum Error {
+    /// The character `ch` cannot stand where it stands in the text. Lines and columns are counted from 1.
+    UnexpectedCharacter {
+        ch: char,
+        line: usize,
+        column: usize,
+    },
+    /// The text ends inside a value, or before one.
+    UnexpectedEndOfJson,
+    /// Too many containers are open, or a number has too many digits.
+    ExceededDepthLimit,
+    /// An escape names no character, or bytes are no UTF-8.
+    FailedUtf8Parsing,
+    /// The value is of another kind than the one that is named.
+    WrongType(String),
+    /// Memory was refused.
+    OutOfMemory,
+}
+
+/// The result of a call that is refused by an `Error`.
+pub type Result<T> = std::result::Result<T, Error>;
+
+/// `Result` under another name.
+pub type JsonResult<T> = Result<T>;
+
+/// `Error` under another name.
+pub type JsonError = Error;
+
+impl Error {
+    /// The refusal of a value that is not of the kind `expected`. Its words take memory, so it is itself refused by `OutOfMemory`.
+    pub fn wrong_type(alloc: Global, expected: &str) -> Result<Error>
+        ensures words { IfOk result (IsWrongType expected.now) }
+        ensures memory { IsOkUnless result Error.OutOfMemory }
+    {
+        Ok(Error::WrongType(String::from_str(alloc, expected)?))
+    }
+}
+
+impl fmt::Display for Error {
+    ghost output = { λ e. Some (error_text e) };
+
+    fn fmt<W: fmt::Write>(&self, f: &mut fmt::Formatter<W>) -> fmt::Result {
+        match self {
+            Error::UnexpectedCharacter { ch, line, column } => {
+                write!(f, "Unexpected character: {ch} at ({line}:{column})")
+            }
+            Error::UnexpectedEndOfJson => f.write_str("Unexpected end of JSON"),
+            Error::ExceededDepthLimit => f.write_str("Exceeded depth limit"),
+            Error::FailedUtf8Parsing => f.write_str("Failed to parse UTF-8 bytes"),
+            Error::WrongType(expected) => write!(f, "Wrong type, expected: {expected}"),
+            Error::OutOfMemory => f.write_str("Out of memory"),
+        }
+    }
+}
+
+impl std::error::Error for Error {}
+
+impl From<AllocError> for Error {
+    ghost use Rattle.std.specs.Prelude.{◌≡◌};
+    ghost use Rattle.jzon_base.specs.declared.error.Error.TheVariants.{OutOfMemory};
+
+    ghost from_gives = { λ _ e. e ≡ OutOfMemory };
+
+    fn from(_refused: AllocError) -> Error {
+        Error::OutOfMemory
+    }
+}
+
+impl<T: Drop> From<AllocFailed<T>> for Error {
+    ghost use Rattle.std.specs.Prelude.{◌≡◌};
+    ghost use Rattle.jzon_base.specs.declared.error.Error.TheVariants.{OutOfMemory};
+
+    ghost from_gives = { λ _ e. e ≡ OutOfMemory };
+
+    fn from(_refused: AllocFailed<T>) -> Error {
+        Error::OutOfMemory
+    }
+}

@@ -1,0 +1,28 @@
+//! What the other modules share: the write loop, and the text of a number.
+
+ghost use Rattle.std.specs.Prelude.{OnOk, OnErr};
+ghost use Rattle.std.specs.Io.KnownBytes.{Appends};
+ghost use Rattle.jzon_base.specs.Written.{AppendsBeginning};
+
+use std::io;
+use std::io::Write;
+
+pub mod print_dec;
+
+/// Writes the bytes, and hands back each fault of the writer: an interruption too, and a write of no byte as `WriteZero`. After a fault a beginning of the
+/// bytes is written.
+pub fn write_bytes<W: Write>(writer: &mut W, bytes: &[u8]) -> io::Result<()>
+    ensures ok { OnOk result (Appends (W.contents writer.old) (W.contents writer.new) bytes.now) }
+    ensures err { OnErr result
+        (AppendsBeginning (W.contents writer.old) (W.contents writer.new) bytes.now) }
+{
+    let mut written = 0;
+    while written < bytes.len() {
+        let count = writer.write(&bytes[written..])?;
+        if count == 0 {
+            return Err(io::Error::from(io::ErrorKind::WriteZero));
+        }
+        written += count;
+    }
+    Ok(())
+}

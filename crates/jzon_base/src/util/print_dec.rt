@@ -1,0 +1,157 @@
+//! The text of a number.
+
+ghost use Rattle.std.specs.Prelude.{◌≡◌, negsuc, ◌+◌, ◌-◌, ◌≤◌, ◌<◌, ◌++◌, length, replicate, IsAscii, OnOk, OnErr};
+ghost use Rattle.std.specs.Io.KnownBytes.{Appends};
+ghost use Rattle.arrayvec.specs.ArrayString.{array_string_len};
+ghost use Rattle.jzon_base.specs.NumberText.{point_after, point_after_first, fraction_text, small_exponent_text, magnitude_text, number_text};
+ghost use Rattle.jzon_base.specs.Written.{AppendsBeginning};
+
+use crate::util::write_bytes;
+use arrayvec::ArrayString;
+use itoa::Buffer;
+use std::io;
+use std::io::Write;
+
+// The most bytes that a number prints.
+const MAX_LEN: usize = 29;
+
+type NumberText = ArrayString<MAX_LEN>;
+
+/// Writes the text of the number `n * 10 ^ exponent` with its sign. A fault of the writer is handed back, and a beginning of the text is then written.
+pub fn write<W: Write>(wr: &mut W, positive: bool, n: u64, exponent: i16) -> io::Result<()>
+    ensures ok { OnOk result
+        (Appends (W.contents wr.old) (W.contents wr.new) (number_text positive n exponent)) }
+    ensures err { OnErr result
+        (AppendsBeginning (W.contents wr.old) (W.contents wr.new) (number_text positive n exponent)) }
+{
+    write_bytes(wr, number_text(positive, n, exponent).as_str().as_bytes())
+}
+
+// The whole text of a number.
+#[tactic(auto, using(std::proofs::lemmas::Fmt::decimal_nonempty))]
+pub(crate) fn number_text(positive: bool, mantissa: u64, exponent: i16) -> NumberText
+    ensures { result.bytes ≡ number_text positive mantissa exponent }
+{
+    let mut text = NumberText::new();
+    if !positive {
+        text.push('-');
+    }
+    if mantissa == 0 {
+        text.push('0');
+    } else {
+        let mut buffer = Buffer::new();
+        push_magnitude(&mut text, buffer.format(mantissa), exponent);
+    }
+    text
+}
+
+fn push_magnitude(text: &mut NumberText, digits: &str, exponent: i16)
+    requires ascii { IsAscii digits.now }
+    requires some { 0 < length digits.now }
+    requires digits { length digits.now ≤ 20 }
+    requires start { array_string_len text.old ≤ 1 }
+    ensures { text.new.bytes ≡ text.old.bytes ++ magnitude_text digits.now exponent }
+{
+    let size = exponent.unsigned_abs() as usize;
+    if exponent < 0 {
+        push_negative_power(text, digits, size);
+    } else if exponent == 0 {
+        text.push_str(digits);
+    } else if digits.len() + size <= 20 {
+        text.push_str(digits);
+        push_zeros(text, size);
+    } else {
+        push_point_after_first(text, digits);
+        text.push('e');
+        let mut buffer = Buffer::new();
+        text.push_str(buffer.format((size + digits.len() - 1) as u16));
+    }
+}
+
+// The digits over `10 ^ places`: up to 17 places are spelled, more are an exponent.
+fn push_negative_power(text: &mut NumberText, digits: &str, places: usize)
+    requires ascii { IsAscii digits.now }
+    requires some { 0 < length digits.now }
+    requires digits { length digits.now ≤ 20 }
+    requires start { array_string_len text.old ≤ 1 }
+    requires negative { 0 < places }
+    requires places { places ≤ 32768 }
+    ensures { text.new.bytes ≡ text.old.bytes ++ magnitude_text digits.now (negsuc (places - 1)) }
+{
+    if places <= 17 {
+        push_fraction(text, digits, places);
+    } else {
+        push_point_after_first(text, digits);
+        push_small_exponent(text, digits.len(), places);
+    }
+}
+
+// The digits over `10 ^ places`, with all places spelled.
+fn push_fraction(text: &mut NumberText, digits: &str, places: usize)
+    requires ascii { IsAscii digits.now }
+    requires places { places ≤ 17 }
+    requires start { array_string_len text.old ≤ 1 }
+    requires digits { length digits.now ≤ 20 }
+    ensures { text.new.bytes ≡ text.old.bytes ++ fraction_text digits.now places }
+{
+    let count = digits.len();
+    if count > places {
+        push_point_after(text, digits, count - places);
+    } else {
+        text.push_str("0.");
+        push_zeros(text, places - count);
+        text.push_str(digits);
+    }
+}
+
+// The exponent after the first of `count` digits, where the digits are over `10 ^ places`.
+fn push_small_exponent(text: &mut NumberText, count: usize, places: usize)
+    requires count { count ≤ 20 }
+    requires small { 18 ≤ places }
+    requires places { places ≤ 32768 }
+    requires room { array_string_len text.old + 7 ≤ 29 }
+    ensures { text.new.bytes ≡ text.old.bytes ++ small_exponent_text count places }
+{
+    if count == places + 1 {
+        return;
+    }
+    if count == places + 2 {
+        text.push_str("e+1");
+        return;
+    }
+    let mut buffer = Buffer::new();
+    text.push_str("e-");
+    text.push_str(buffer.format((places + 1 - count) as u16));
+}
+
+fn push_point_after_first(text: &mut NumberText, digits: &str)
+    requires ascii { IsAscii digits.now }
+    requires room { array_string_len text.old + length digits.now + 1 ≤ 29 }
+    ensures { text.new.bytes ≡ text.old.bytes ++ point_after_first digits.now }
+{
+    if digits.len() > 1 {
+        push_point_after(text, digits, 1);
+    } else {
+        text.push_str(digits);
+    }
+}
+
+fn push_point_after(text: &mut NumberText, digits: &str, whole: usize)
+    requires ascii { IsAscii digits.now }
+    requires within { whole ≤ length digits.now }
+    requires room { array_string_len text.old + length digits.now + 1 ≤ 29 }
+    ensures { text.new.bytes ≡ text.old.bytes ++ point_after whole digits.now }
+{
+    text.push_str(&digits[..whole]);
+    text.push('.');
+    text.push_str(&digits[whole..]);
+}
+
+fn push_zeros(text: &mut NumberText, count: usize)
+    requires { array_string_len text.old + count ≤ 29 }
+    ensures { text.new.bytes ≡ text.old.bytes ++ replicate count 48 }
+{
+    for _ in 0..count {
+        text.push('0');
+    }
+}
