@@ -3,3 +3,4 @@ pub mod Same
 pub mod Text
 pub mod Writing
 pub mod Lawful
+pub mod View
