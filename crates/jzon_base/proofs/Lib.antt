@@ -1,1 +1,4 @@
+pub mod Kept
+pub mod Powers
+pub mod Scaled
 pub mod Written
