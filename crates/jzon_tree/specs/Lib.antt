@@ -1,5 +1,6 @@
 pub mod Value
 pub mod Same
+pub mod SameLaws
 pub mod Text
 pub mod Writing
 pub mod Lawful
