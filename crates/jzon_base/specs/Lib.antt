@@ -5,5 +5,6 @@ pub mod ErrorText
 pub mod NumberFields
 pub mod NumberText
 pub mod PairList
+pub mod PlainBytes
 pub mod Same
 pub mod Written

@@ -7,6 +7,7 @@ ghost use Rattle.jzon_base.specs.Written.{AppendsBeginning};
 use std::io;
 use std::io::Write;
 
+pub mod plain;
 pub mod print_dec;
 
 /// Writes the bytes, and hands back each fault of the writer: an interruption too, and a write of no byte as `WriteZero`. After a fault a beginning of the
