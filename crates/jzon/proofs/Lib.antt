@@ -1,3 +1,4 @@
 pub mod TreeMachine
 pub mod Completion
 pub mod Classes
+pub mod Behind
