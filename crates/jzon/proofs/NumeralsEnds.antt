@@ -1,0 +1,1 @@
+-- Where a text may end inside a number, and one completion of each place in it.
