@@ -1,2 +1,3 @@
 pub mod TreeMachine
 pub mod Completion
+pub mod Ends
