@@ -1,1 +1,0 @@
--- Where a text may end inside a number, and one completion of each place in it.
