@@ -6,3 +6,6 @@ pub mod Ends
 pub mod NumeralsForward
 pub mod NumeralsBackward
 pub mod Numerals
+pub mod StringsForward
+pub mod StringsBackward
+pub mod StringsEnds

@@ -1,5 +1,5 @@
 -- From which fronts a text can go on, where a text has a fault, and the one error of a text (docs/RULES.md, "Errors").
-use Rattle.std.specs.Prelude.{◌≡◌, ℕ, suc, ◌+◌, ◌-◌, ◌<◌, ◌≤◌, List, ◌++◌, length, take, reverse, Bool, not, ◌==◌, count_by, take_while, slice_index}
+use Rattle.std.specs.Prelude.{◌≡◌, ℕ, suc, ◌+◌, ◌-◌, ◌<◌, ◌≤◌, List, ◌++◌, length, take, reverse, not, ◌==◌, count_by, take_while, slice_index}
 use Rattle.jzon_base.specs.declared.error.Error.{Error}
 use Rattle.jzon_base.specs.declared.error.Error.TheVariants.{UnexpectedCharacter, UnexpectedEndOfJson, ExceededDepthLimit, FailedUtf8Parsing, DuplicateKey}
 use Rattle.jzon.specs.Reading.{Reading}
