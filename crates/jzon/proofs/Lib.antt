@@ -9,3 +9,6 @@ pub mod Numerals
 pub mod StringsForward
 pub mod StringsBackward
 pub mod StringsEnds
+pub mod Containers
+pub mod Forward
+pub mod Backward
