@@ -1,5 +1,7 @@
 pub mod TreeMachine
 pub mod Completion
+pub mod Columns
+pub mod FaultPlaces
 pub mod Classes
 pub mod Behind
 pub mod Ends

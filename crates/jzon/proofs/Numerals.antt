@@ -1,10 +1,10 @@
 -- Where a text may end inside a number, and one completion of each place in it.
 pub use Rattle.jzon.proofs.NumeralsForward.{forward_numeral, forward_begin_numeral}
 pub use Rattle.jzon.proofs.NumeralsBackward.{backward_numeral, backward_begin_digits, backward_begin_dash}
-use Rattle.std.proofs.Common.{◌≡◌, ◌∙◌, ℕ, List, [], ◌∷◌, Bool, true, Option, Some, None, refl, sym, subst}
+use Rattle.std.proofs.Common.{◌≡◌, ◌∙◌, ℕ, List, [], ◌∷◌, Bool, true, Some, None, refl, sym, subst}
 use Rattle.jzon.specs.Reading.{Reading}
 use Rattle.jzon.specs.Grammar.{Sign, unsigned, plus, minus, Node, Document, IsDigits}
-use Rattle.jzon.specs.Spelling.{Cell, cell, plain, onto, sign_cells}
+use Rattle.jzon.specs.Spelling.{Cell, plain, onto, sign_cells}
 use Rattle.jzon.proofs.TreeMachine.{Context, NumberPlace, signed, zero_read, whole, pointed, fraction, lettered, signed_exponent, exponent, numeral_of, exponent_of, document_of, accept_numeral}
 use Rattle.jzon.proofs.Completion.{Behind, AfterWhole, AfterFraction, InNumeral}
 use Rattle.jzon.proofs.Ends.{finish_behind, finished_behind, some_behind}

@@ -3,10 +3,10 @@ use Rattle.std.proofs.Common.{◌≡◌, ◌∙◌, ℕ, List, [], ◌∷◌, Bo
 use Rattle.std.specs.Prelude.{IsTrue}
 use Rattle.std.specs.Char.{is_ascii_digit}
 use Rattle.jzon.specs.Reading.{Reading}
-use Rattle.jzon.specs.Grammar.{Sign, unsigned, plus, minus, Exponent, Numeral, Node, Document, AreDigits, IsDigits, IsWhole, IsExponent}
-use Rattle.jzon.specs.Spelling.{Breach, digit, breach_if, Cell, cell, plain, onto, digits_cells, drops_too_many, keeps_too_many, whole_cells, fraction_cells, exponent_cells, numeral_cells}
-use Rattle.jzon.proofs.TreeMachine.{Class, digits, dash, cross, point, letter_e, class_of, Context, NumberPlace, signed, zero_read, whole, pointed, fraction, lettered, signed_exponent, exponent, begun, value_mark, numeral_of, exponent_of, step_behind, step_after_whole, step_after_fraction, step_whole, step_pointed, step_fraction, step_signed, step_lettered, step_signed_exponent, step_exponent, step_numeral}
-use Rattle.jzon.proofs.Completion.{Behind, Begins, AfterWhole, AfterFraction, InNumeral, Steps}
+use Rattle.jzon.specs.Grammar.{Sign, unsigned, plus, minus, Document, IsWhole}
+use Rattle.jzon.specs.Spelling.{Breach, Cell, cell, onto, digits_cells, drops_too_many, whole_cells, fraction_cells}
+use Rattle.jzon.proofs.TreeMachine.{Class, digits, dash, cross, point, letter_e, class_of, Context, NumberPlace, signed, zero_read, whole, pointed, fraction, lettered, signed_exponent, exponent, begun, value_mark, numeral_of, exponent_of, step_after_whole, step_after_fraction, step_whole, step_pointed, step_fraction, step_signed, step_lettered, step_signed_exponent, step_exponent, step_numeral}
+use Rattle.jzon.proofs.Completion.{Begins, AfterWhole, AfterFraction, InNumeral, Steps}
 use Rattle.jzon.proofs.Classes.{class-digits, class-letter_e, class-cross, class-dash, class-point, front}
 use Rattle.jzon.proofs.Behind.{backward_behind}
 
@@ -128,7 +128,7 @@ backward_begin_digits r k b c m q d e f h =
       tt,
       (g.2, a.2, o.2),
       front c c m (value_mark r k) _ _ refl f
-        (g.3 ∙ ap (digits_cells drops_too_many (c ∷ []) g.0) (a.3 ∙ ap (fraction_cells (c ∷ g.0) a.0) o.3)),
+          (g.3 ∙ ap (digits_cells drops_too_many (c ∷ []) g.0) (a.3 ∙ ap (fraction_cells (c ∷ g.0) a.0) o.3)),
       o.4,
     )
 

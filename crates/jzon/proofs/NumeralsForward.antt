@@ -1,11 +1,11 @@
 -- Inside a number the next cell of a completion is what the machine steps on.
-use Rattle.std.proofs.Common.{◌≡◌, ℕ, List, [], ◌∷◌, Bool, true, false, not, ◌&&◌, ◌==◌, Option, Some, None, inl, inr, refl, sym, subst, eqb, eqb-true}
+use Rattle.std.proofs.Common.{◌≡◌, ℕ, List, [], ◌∷◌, Bool, true, false, not, ◌&&◌, ◌==◌, Option, Some, None, refl, sym, subst, eqb-true}
 use Rattle.std.specs.Prelude.{IsTrue}
 use Rattle.std.specs.Char.{is_ascii_digit}
 use Rattle.jzon.specs.Reading.{Reading}
-use Rattle.jzon.specs.Grammar.{Sign, unsigned, plus, minus, Exponent, Numeral, Node, Document, AreDigits, IsDigits, IsWhole, IsExponent, IsNumeral}
-use Rattle.jzon.specs.Spelling.{Breach, Cell, cell, plain, onto, digits_cells, drops_too_many, keeps_too_many, whole_cells, numeral_cells}
-use Rattle.jzon.proofs.TreeMachine.{Class, digits, dash, cross, point, letter_e, class_of, Context, NumberPlace, signed, zero_read, whole, pointed, fraction, lettered, signed_exponent, exponent, begun, value_mark, numeral_of, exponent_of, step_before, step_behind, step_after_whole, step_after_fraction, step_whole, step_pointed, step_fraction, step_signed, step_lettered, step_signed_exponent, step_exponent, step_numeral}
+use Rattle.jzon.specs.Grammar.{Sign, unsigned, plus, minus, Exponent, Numeral, Node, Document, AreDigits, IsWhole, IsExponent, IsNumeral}
+use Rattle.jzon.specs.Spelling.{Breach, Cell, cell, onto, digits_cells, drops_too_many, numeral_cells}
+use Rattle.jzon.proofs.TreeMachine.{Class, digits, point, letter_e, class_of, Context, NumberPlace, signed, zero_read, whole, pointed, fraction, lettered, signed_exponent, exponent, begun, value_mark, numeral_of, exponent_of, step_before, step_behind, step_after_whole, step_after_fraction, step_whole, step_pointed, step_fraction, step_signed, step_lettered, step_signed_exponent, step_exponent, step_numeral}
 use Rattle.jzon.proofs.Completion.{Behind, AfterWhole, AfterFraction, InNumeral, Steps}
 use Rattle.jzon.proofs.Classes.{digits-class, letter_e-class, class_43, class_45, class_46, at_cell}
 use Rattle.jzon.proofs.Behind.{forward_behind}

@@ -269,6 +269,11 @@ outcome r (c ∷ cs) p = outcome_on (move r p c) (λ p'. outcome r cs p') (c ∷
 unfoldable pub from : Reading → List ℕ → Place → ℕ → Outcome
 from r bytes p i = outcome r (chars (drop i bytes)) p
 
+-- what is left of a text where it can't go on
+abbrev pub stopped : List ℕ → Outcome
+stopped [] = refused Fault.end []
+stopped (c ∷ cs) = refused character (c ∷ cs)
+
 -- the error tells this outcome of a text
 abbrev pub Tells : List ℕ → Error → Outcome → Type 0
 Tells t e (meant v) = ⊥
