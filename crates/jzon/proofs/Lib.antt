@@ -14,3 +14,5 @@ pub mod StringsEnds
 pub mod Containers
 pub mod Forward
 pub mod Backward
+pub mod Scanning
+pub mod Words

@@ -1,3 +1,10 @@
 #![tactic(auto)]
 
+mod numeral;
+mod parser;
 mod place;
+
+pub use jzon_base::error::{Error, Error as JsonError, JsonResult, Result};
+pub use jzon_base::number;
+pub use jzon_tree::value::JsonValue;
+pub use parser::parse;

@@ -1,11 +1,19 @@
-//! Where a fault stands in a text, and the error that tells it.
+//! Places of a text: what stands there, and the error that tells a fault there.
 
-ghost use Rattle.std.specs.Prelude.{◌≡◌, ℕ, ◌<◌, ◌≤◌, ◌+◌, length, drop, chars, IsUtf8, List};
+ghost use Rattle.std.specs.Prelude.{◌≡◌, ℕ, ◌<◌, ◌≤◌, ◌+◌, length, drop, chars, IsTrue, slice_index, ◌↔◌};
 ghost use Rattle.std.specs.Str.{IsCharBoundary};
 ghost use Rattle.jzon.specs.Fault.{line, column};
 ghost use Rattle.jzon.specs.Machine.{Tells, stopped};
 
 use jzon_base::error::Error;
+
+/// Whether this byte stands at this place.
+pub(crate) fn has_byte(source: &str, index: usize, byte: u8) -> bool
+    ensures { IsTrue result ↔ ((index < length source.now) × (slice_index source.now index ≡ byte)) }
+{
+    let bytes = source.as_bytes();
+    index < bytes.len() && bytes[index] == byte
+}
 
 /// The line of the character after a front of a text, counted from 1.
 fn line_after(front: &str) -> usize
