@@ -6,3 +6,6 @@ pub mod Strings
 pub mod Forward
 pub mod Backward
 pub mod States
+pub mod Faults
+pub mod Answer
+pub mod Runs
