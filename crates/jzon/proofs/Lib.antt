@@ -9,3 +9,5 @@ pub mod States
 pub mod Faults
 pub mod Answer
 pub mod Runs
+pub mod Deep
+pub mod Verdict
