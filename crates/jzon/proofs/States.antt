@@ -5,9 +5,9 @@ use Rattle.jzon.specs.Grammar.{Numeral, IsWhole, IsNumeral, Item, Node, Document
 use Rattle.jzon.specs.Spelling.{Breach, Cell, cell, plain, whole_cells, numeral_cells, node_cells}
 use Rattle.jzon.proofs.TreeMachine.{nothing_done, done, Named, nothing_named, named, Context, top, in_array, in_object, State, before, before_key, word, numeral, string, after_key, behind, value_mark, key_mark, accept}
 use Rattle.jzon.proofs.Completion.{Begins, ClosesArray, BeginsKey, ClosesObject, AfterKey, Comp}
-use Rattle.jzon.proofs.Ends.{finish_behind, finished_behind, some_behind, some_begins, some_begins_key, some_after_key}
+use Rattle.jzon.proofs.Ends.{finish_behind, finished_behind, some_behind, some_begins, some_begins_key, some_after_key, some_after_string}
 use Rattle.jzon.proofs.Numerals.{finish_numeral, finished_numeral, some_numeral}
-use Rattle.jzon.proofs.Strings.{finish_string, some_string}
+use Rattle.jzon.proofs.StringsEnds.{finish_string, some_string}
 
 -- ---- something is to come
 
@@ -89,6 +89,6 @@ some r (before k b) = let h = some_begins r k b in (cell 110 (value_mark r k) �
 some r (before_key k a o b) = let h = some_begins_key r k a o b in (cell 34 (key_mark r k o) ∷ h.0, h.1, inl h.2)
 some r (word k b n l ls) = let h = some_behind r k b n [] in (plain (l ∷ ls) h.0, h.1, (h.0, refl, h.2))
 some r (numeral k b negative x) = some_numeral r x k b negative
-some r (string role is x) = some_string r x role is
+some r (string role is x) = some_string r (some_after_string r) x role is
 some r (after_key k a o b is z) = some_after_key r k a o b is z
 some r (behind k b n z) = some_behind r k b n z
