@@ -18,5 +18,6 @@ pub mod States
 pub mod Faults
 pub mod Answer
 pub mod Runs
+pub mod SameTree
 pub mod Deep
 pub mod Verdict
