@@ -16,7 +16,7 @@ pub mod Forward
 pub mod Backward
 pub mod States
 pub mod Faults
-pub mod Answer
+pub mod TreeAnswer
 pub mod Runs
 pub mod SameTree
 pub mod Deep

@@ -14,7 +14,7 @@ use Rattle.jzon.proofs.Backward.{backward}
 use Rattle.jzon.proofs.States.{finish, finished, some}
 use Rattle.jzon.proofs.Deep.{IsDeep, deep_of_go, deep_of_bad_deep, deep_not_bad, deep_some}
 use Rattle.jzon.proofs.Faults.{completes_take, no_fault_at, no_fault, has_one_fault}
-use Rattle.jzon.proofs.Answer.{Answer, tree, refused, last_answer, answer_on, answer}
+use Rattle.jzon.proofs.TreeAnswer.{Answer, tree, refused, last_answer, answer_on, answer}
 use Rattle.jzon.proofs.SameTree.{same_tree}
 use Rattle.jzon.proofs.Runs.{chars_of, marks_of, chars-plain, plain_unmarked, all_unmarked, mark_behind, Reaches, reaches_start, reaches_next, next}
 
