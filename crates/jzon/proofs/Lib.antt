@@ -5,3 +5,7 @@ pub mod Behind
 pub mod StringsForward
 pub mod StringsBackward
 pub mod StringsEnds
+pub mod Samples
+pub mod Rows
+pub mod MarkRows
+pub mod ErrorRows
