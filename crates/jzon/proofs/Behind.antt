@@ -2,9 +2,9 @@
 use Rattle.std.proofs.Common.{◌≡◌, ℕ, suc, List, [], ◌∷◌, Option, None, inl, inr, refl, sym, subst, ap, ◌∙◌}
 use Rattle.jzon.specs.Reading.{Reading}
 use Rattle.jzon.specs.Grammar.{Node, no_elements, element, no_members, member, Document}
-use Rattle.jzon.specs.Spelling.{Breach, Cell, cell, plain, onto, items_cells, duplicate_if, node_cells, elements_cells, members_cells}
+use Rattle.jzon.specs.Spelling.{Breach, Cell, cell, plain, onto, items_cells, duplicate_if, node_cells}
 use Rattle.jzon.specs.Meaning.{bytes_of}
-use Rattle.jzon.proofs.TreeMachine.{Class, white, digits, dash, cross, point, letter_e, quote, opens_array, closes_array, opens_object, closes_object, comma, colon, begins_null, begins_true, begins_false, other, class_of, Context, top, in_array, in_object, depth_of, seen_of, key_of, step_behind}
+use Rattle.jzon.proofs.TreeMachine.{Class, white, digits, point, letter_e, closes_array, closes_object, comma, class_of, Context, top, in_array, in_object, depth_of, seen_of, key_of, step_behind}
 use Rattle.jzon.proofs.Completion.{Outer, Behind, Steps}
 use Rattle.jzon.proofs.Classes.{white-class, class-white, class_44, class-comma, class_93, class-closes_array, class_125, class-closes_object, at_cell, no_cells, front}
 
@@ -119,16 +119,4 @@ backward_behind r white k b n z c m q d e (m_ok, (w, p, w_ok, e1, h)) =
 backward_behind r comma k b n z c m q d e h = backward_comma r k b n z c m q d e h
 backward_behind r closes_array k b n z c m q d e h = backward_close_array r k b n z c m q d e h
 backward_behind r closes_object k b n z c m q d e h = backward_close_object r k b n z c m q d e h
-backward_behind r digits k b n z c m q d e h = absurd h
-backward_behind r dash k b n z c m q d e h = absurd h
-backward_behind r cross k b n z c m q d e h = absurd h
-backward_behind r point k b n z c m q d e h = absurd h
-backward_behind r letter_e k b n z c m q d e h = absurd h
-backward_behind r quote k b n z c m q d e h = absurd h
-backward_behind r opens_array k b n z c m q d e h = absurd h
-backward_behind r opens_object k b n z c m q d e h = absurd h
-backward_behind r colon k b n z c m q d e h = absurd h
-backward_behind r begins_null k b n z c m q d e h = absurd h
-backward_behind r begins_true k b n z c m q d e h = absurd h
-backward_behind r begins_false k b n z c m q d e h = absurd h
-backward_behind r other k b n z c m q d e h = absurd h
+backward_behind r _ k b n z c m q d e h = absurd h

@@ -7,7 +7,7 @@ use Rattle.jzon_tree.specs.Writing.{is_space}
 use Rattle.jzon.specs.Reading.{Reading}
 use Rattle.jzon.specs.Grammar.{is_exponent_letter}
 use Rattle.jzon.specs.Spelling.{Breach, Cell, cell}
-use Rattle.jzon.proofs.TreeMachine.{Class, white, digits, dash, cross, point, letter_e, quote, opens_array, closes_array, opens_object, closes_object, comma, colon, begins_null, begins_true, begins_false, other, class_of}
+use Rattle.jzon.specs.Classes.{Class, white, digits, dash, cross, point, letter_e, quote, opens_array, closes_array, opens_object, closes_object, comma, colon, begins_null, begins_true, begins_false, other, class_of}
 
 -- ---- from a character to its class
 

@@ -4,3 +4,5 @@ pub mod Spelling
 pub mod Meaning
 pub mod Fault
 pub mod Laws
+pub mod Classes
+pub mod Machine
