@@ -21,3 +21,7 @@ pub mod Runs
 pub mod SameTree
 pub mod Deep
 pub mod Verdict
+pub mod Samples
+pub mod Rows
+pub mod MarkRows
+pub mod ErrorRows
