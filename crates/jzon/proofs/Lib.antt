@@ -16,3 +16,14 @@ pub mod Forward
 pub mod Backward
 pub mod Scanning
 pub mod Words
+pub mod States
+pub mod Faults
+pub mod TreeAnswer
+pub mod Runs
+pub mod SameTree
+pub mod Deep
+pub mod Verdict
+pub mod Samples
+pub mod Rows
+pub mod MarkRows
+pub mod ErrorRows

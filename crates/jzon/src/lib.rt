@@ -1,5 +1,6 @@
 #![tactic(auto)]
 
+pub mod laws;
 mod numeral;
 mod parser;
 mod place;
