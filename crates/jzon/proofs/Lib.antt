@@ -14,3 +14,6 @@ pub mod StringsEnds
 pub mod Containers
 pub mod Forward
 pub mod Backward
+pub mod NumberLimits
+pub mod DigitRuns
+pub mod TreeDigitRuns
