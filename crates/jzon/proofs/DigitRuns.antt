@@ -1,15 +1,15 @@
 -- The machine over values on runs of digits, and behind the digits of a number.
-use Rattle.std.proofs.Common.{◌≡◌, ◌∙◌, ℕ, zero, suc, ◌+◌, ◌<◌, ◌≤◌, List, [], ◌∷◌, ◌++◌, length, drop, Bool, true, false, ◌==◌, Some, None, refl, sym, ap, true≢false}
-use Rattle.std.specs.Prelude.{IsTrue, ⊤}
+use Rattle.std.proofs.Common.{◌≡◌, ◌∙◌, ℕ, zero, suc, ◌+◌, ◌<◌, ◌≤◌, List, [], ◌∷◌, ◌++◌, length, drop, Bool, true, false, refl, ap}
+use Rattle.std.specs.Prelude.{IsTrue}
 use Rattle.std.specs.Char.{is_ascii_digit}
 use Rattle.jzon_base.specs.Digits.{kept_len, dropped, kept_fraction}
 use Rattle.jzon.specs.Reading.{Reading}
-use Rattle.jzon.specs.Grammar.{Sign, unsigned, AreDigits, IsDigits, is_exponent_letter}
+use Rattle.jzon.specs.Grammar.{Sign, unsigned, AreDigits, IsDigits}
 use Rattle.jzon.specs.Spelling.{digit, breach_if, onto, drops_too_many, keeps_too_many}
 use Rattle.jzon.specs.Fault.{limit}
-use Rattle.jzon.specs.Classes.{Class, digits, point, letter_e, class_of, whole, zero_read, pointed, fraction, lettered, signed_exponent, exponent}
-use Rattle.jzon.specs.Machine.{Frames, Place, numeral, behind, Move, go, move, move_behind, move_after_whole, move_after_fraction, move_numeral, number_value, exponent_of, Outcome, refused, outcome_on, outcome}
-use Rattle.jzon.proofs.Classes.{digits-class, class-digits, class-point, class-letter_e}
+use Rattle.jzon.specs.Classes.{whole, pointed, fraction, lettered, signed_exponent, exponent}
+use Rattle.jzon.specs.Machine.{Frames, Place, numeral, go, move, refused, outcome_on, outcome}
+use Rattle.jzon.proofs.Classes.{digits-class}
 use Rattle.jzon.proofs.NumberLimits.{AreUnmarked, IsFirstMarked, whole_unmarked, whole_marked, fraction_unmarked, fraction_marked, never_marked}
 
 -- ---- digits at a place that collects them
@@ -82,7 +82,7 @@ read_fraction r fs negative ws [] rest ok few = absurd ok
 read_fraction r fs negative ws (e ∷ es) rest ok few =
     at_point r fs negative ws e (es ++ rest) ok.0
     ∙ collect_all r (λ ds. numeral fs negative (fraction ws ds)) (keeps_too_many ws) (fraction_collects r fs negative ws) [] (e ∷ es) rest ok
-        (fraction_unmarked ws [] (e ∷ es) few)
+    (fraction_unmarked ws [] (e ∷ es) few)
 
 -- The 32769th that is kept is refused.
 pub refuse_fraction : (r : Reading) (fs : Frames) (negative : Bool) (ws es rest : List ℕ) → IsDigits es → 32769 ≤ kept_fraction ws es
@@ -91,7 +91,7 @@ refuse_fraction r fs negative ws [] rest ok many = absurd ok
 refuse_fraction r fs negative ws (e ∷ es) rest ok many =
     at_point r fs negative ws e (es ++ rest) ok.0
     ∙ collect_up_to r (λ ds. numeral fs negative (fraction ws ds)) (keeps_too_many ws) (fraction_collects r fs negative ws) [] (e ∷ es) rest 32768 ok
-        (fraction_marked ws [] (e ∷ es) 32768 many refl)
+    (fraction_marked ws [] (e ∷ es) 32768 many refl)
 
 -- ---- exponent digits
 

@@ -1,12 +1,11 @@
 -- The digits at which a limit of a number is broken, and how many digits the whole number drops before the point and keeps after it.
-use Rattle.std.proofs.Common.{◌≡◌, ◌∙◌, ◌↔◌, ℕ, zero, suc, ◌+◌, ◌-◌, ◌<◌, ◌≤◌, min, List, [], ◌∷◌, ◌++◌, length, take, drop, Bool, true, false, ◌&&◌, ◌==◌, nat_le, refl, sym, ap, subst, inl, inr, arith, append_assoc, take-append-drop, append-nil, length-append, eq-eqb, ne_eqb, true≢false}
+use Rattle.std.proofs.Common.{◌≡◌, ◌∙◌, ◌↔◌, ℕ, zero, suc, ◌+◌, ◌-◌, ◌<◌, ◌≤◌, min, List, [], ◌∷◌, ◌++◌, length, take, drop, Bool, true, false, ◌&&◌, ◌==◌, nat_le, refl, sym, ap, inl, inr, arith, append_assoc, take-append-drop, append-nil, length-append, eq-eqb, ne_eqb, true≢false}
 use Rattle.std.specs.Prelude.{⊤}
 use Rattle.std.proofs.lemmas.Bool.{cases_lt}
 use Rattle.std.proofs.lemmas.Bool.Decides.{nat_tests}
 use Rattle.std.proofs.lemmas.List.{take-append-le, length-take-le}
 use Rattle.std.proofs.Math.Seq.{take-append_seam, take-append-add}
 use Rattle.jzon_base.specs.Digits.{digits_number, kept_len, dropped, kept_fraction}
-use Rattle.jzon_base.specs.DigitLimits.{IsLongestFront}
 use Rattle.jzon_base.proofs.Kept.{kept_len_is_longest, kept_len-within_whole}
 use Rattle.jzon.specs.Spelling.{onto, drops_too_many, keeps_too_many}
 
@@ -109,10 +108,10 @@ unless_more k limit h = elim (cases_lt k limit) [ inl less ↦ less | inr more �
 pub fronts_drop_few : (ds fs : List ℕ) → ((n : ℕ) → n ≤ length ds → drops_too_many (take n ds) ≡ false) ↔ (dropped ds fs < 32768)
 fronts_drop_few ds fs = (
   λ none. unless_more (dropped ds fs) 32768
-  (λ many. let at : kept_len (ds ++ fs) + 32768 ≤ length ds = omega arith in
-  let here : drops_too_many (take (kept_len (ds ++ fs) + 32768) ds) ≡ true =
-  drops_too_many-take ds fs (kept_len (ds ++ fs) + 32768) at ∙ eq-eqb (kept_len (ds ++ fs) + 32768) (kept_len (ds ++ fs) + 32768) refl in
-  true≢false (sym here ∙ none (kept_len (ds ++ fs) + 32768) at)),
+      (λ many. let at : kept_len (ds ++ fs) + 32768 ≤ length ds = omega arith in
+      let here : drops_too_many (take (kept_len (ds ++ fs) + 32768) ds) ≡ true =
+      drops_too_many-take ds fs (kept_len (ds ++ fs) + 32768) at ∙ eq-eqb (kept_len (ds ++ fs) + 32768) (kept_len (ds ++ fs) + 32768) refl in
+      true≢false (sym here ∙ none (kept_len (ds ++ fs) + 32768) at)),
   λ few n within. drops_too_many-take ds fs n within ∙ behind_all n (kept_len (ds ++ fs)) (length ds) 32768 few within,
 )
 
@@ -120,8 +119,8 @@ fronts_drop_few ds fs = (
 pub fronts_keep_few : (ws fs : List ℕ) → ((n : ℕ) → n ≤ length fs → keeps_too_many ws (take n fs) ≡ false) ↔ (kept_fraction ws fs < 32769)
 fronts_keep_few ws fs = (
   λ none. unless_more (kept_fraction ws fs) 32769
-  (λ many. let at : 32769 ≤ length fs = omega (arith, (kept_len_is_longest (ws ++ fs)).within, length-append ws fs) in
-  true≢false (sym (keeps_too_many-take ws fs 32769 at ∙ last_one (kept_fraction ws fs) 32769 many) ∙ none 32769 at)),
+      (λ many. let at : 32769 ≤ length fs = omega (arith, (kept_len_is_longest (ws ++ fs)).within, length-append ws fs) in
+      true≢false (sym (keeps_too_many-take ws fs 32769 at ∙ last_one (kept_fraction ws fs) 32769 many) ∙ none 32769 at)),
   λ few n within. keeps_too_many-take ws fs n within ∙ no_more n (kept_fraction ws fs) 32769 few,
 )
 

@@ -6,7 +6,7 @@ use Rattle.jzon_base.specs.Digits.{kept_len, dropped, kept_fraction}
 use Rattle.jzon.specs.Reading.{Reading}
 use Rattle.jzon.specs.Grammar.{Sign, unsigned, AreDigits, IsDigits}
 use Rattle.jzon.specs.Spelling.{digit, breach_if, onto, drops_too_many, keeps_too_many}
-use Rattle.jzon.specs.Classes.{class_of, whole, pointed, fraction, lettered, signed_exponent, exponent}
+use Rattle.jzon.specs.Classes.{whole, pointed, fraction, lettered, signed_exponent, exponent}
 use Rattle.jzon.proofs.TreeMachine.{Context, State, numeral, Step, go, bad, bad_deep, step}
 use Rattle.jzon.proofs.Classes.{digits-class}
 use Rattle.jzon.proofs.NumberLimits.{AreUnmarked, IsFirstMarked, whole_unmarked, whole_marked, fraction_unmarked, fraction_marked, never_marked}
