@@ -27,3 +27,6 @@ pub mod Samples
 pub mod Rows
 pub mod MarkRows
 pub mod ErrorRows
+pub mod NumberLimits
+pub mod DigitRuns
+pub mod TreeDigitRuns
