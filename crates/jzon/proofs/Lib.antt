@@ -30,3 +30,5 @@ pub mod ErrorRows
 pub mod NumberLimits
 pub mod DigitRuns
 pub mod TreeDigitRuns
+pub mod Steps
+pub mod NumeralSteps
