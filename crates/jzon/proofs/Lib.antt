@@ -2,3 +2,4 @@ pub mod TreeMachine
 pub mod Completion
 pub mod Columns
 pub mod FaultPlaces
+pub mod ImageContexts
