@@ -3,3 +3,4 @@ pub mod Completion
 pub mod Columns
 pub mod FaultPlaces
 pub mod ImageContexts
+pub mod ImageNumerals
