@@ -4,3 +4,5 @@ pub mod Columns
 pub mod FaultPlaces
 pub mod ImageContexts
 pub mod ImageNumerals
+pub mod ImageStrings
+pub mod Image
