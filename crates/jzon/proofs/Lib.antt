@@ -29,3 +29,4 @@ pub mod ImageContexts
 pub mod ImageNumerals
 pub mod ImageStrings
 pub mod Image
+pub mod Headline
