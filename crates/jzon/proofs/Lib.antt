@@ -32,3 +32,8 @@ pub mod DigitRuns
 pub mod TreeDigitRuns
 pub mod Steps
 pub mod NumeralSteps
+pub mod ImageContexts
+pub mod ImageNumerals
+pub mod ImageStrings
+pub mod Image
+pub mod Headline
