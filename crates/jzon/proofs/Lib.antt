@@ -24,3 +24,4 @@ pub mod Samples
 pub mod Rows
 pub mod MarkRows
 pub mod ErrorRows
+pub mod FaultRows
