@@ -24,4 +24,6 @@ pub mod Samples
 pub mod Rows
 pub mod MarkRows
 pub mod ErrorRows
+pub mod Judged
 pub mod FaultRows
+pub mod DigitRows
