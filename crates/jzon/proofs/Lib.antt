@@ -37,3 +37,6 @@ pub mod ImageNumerals
 pub mod ImageStrings
 pub mod Image
 pub mod Headline
+pub mod Judged
+pub mod FaultRows
+pub mod DigitRows
