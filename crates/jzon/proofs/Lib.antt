@@ -29,4 +29,3 @@ pub mod MarkRows
 pub mod ErrorRows
 pub mod NumberLimits
 pub mod DigitRuns
-pub mod TreeDigitRuns
