@@ -61,9 +61,9 @@ eight_dropped n h = let e = eight_kept n [] h in omega (arith, e, eight_length n
 eight_few : (n : ℕ) → n ≤ 32785 → drops_too_many (eight n) ≡ false
 unfolding drops_too_many
 eight_few n h = ne_eqb (dropped (eight n) []) 32768 (λ e. elim (cases_lt n 19) [
-    | inl few ↦ omega (arith, eight_length n)
-    | inr many ↦ omega (arith, eight_dropped n many)
-  ])
+  | inl few ↦ omega (arith, eight_length n)
+  | inr many ↦ omega (arith, eight_dropped n many)
+])
 
 eight_many : drops_too_many (eight 32786) ≡ true
 unfolding drops_too_many

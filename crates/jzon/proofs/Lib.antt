@@ -29,7 +29,6 @@ pub mod MarkRows
 pub mod ErrorRows
 pub mod NumberLimits
 pub mod DigitRuns
-pub mod TreeDigitRuns
 pub mod Steps
 pub mod NumeralSteps
 pub mod ImageContexts
@@ -40,3 +39,4 @@ pub mod Headline
 pub mod Judged
 pub mod FaultRows
 pub mod DigitRows
+pub mod Trailing
