@@ -20,13 +20,9 @@ use Rattle.jzon.proofs.TreeMachine.{State, top, numeral, start}
 use Rattle.jzon.proofs.Answer.{tree, refused, answer}
 use Rattle.jzon.proofs.Classes.{digits-class}
 use Rattle.jzon.proofs.Judged.{read_tree, too_many_digits}
-use Rattle.jzon.proofs.Samples.{alone, integer, decimal, power, int}
+use Rattle.jzon.proofs.Samples.{alone, integer, decimal, power, int, replicate-cons}
 
 -- ---- equal digits
-
-replicate-cons : (n x : ℕ) (cs : List ℕ) → replicate n x ++ (x ∷ cs) ≡ x ∷ (replicate n x ++ cs)
-replicate-cons zero x cs = refl
-replicate-cons (suc n) x cs = ap (λ l. x ∷ l) (replicate-cons n x cs)
 
 onto-replicate : (n x : ℕ) (cs : List ℕ) → onto (replicate n x) cs ≡ replicate n x ++ cs
 onto-replicate zero x cs = refl

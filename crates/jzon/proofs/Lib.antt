@@ -27,3 +27,4 @@ pub mod ErrorRows
 pub mod Judged
 pub mod FaultRows
 pub mod DigitRows
+pub mod DepthRows
