@@ -1,10 +1,10 @@
 -- Worked rows of docs/RULES.md, "Depth": as many containers as a reading allows, and one more.
-use Rattle.std.proofs.Common.{◌≡◌, ℕ, zero, suc, ◌+◌, ◌≤◌, ◌<◌, List, [], ◌∷◌, ◌++◌, replicate, Bool, true, false, Option, None, codes, refl, sym, ap, ◌∙◌, arith, lit≤}
+use Rattle.std.proofs.Common.{◌≡◌, ℕ, zero, suc, ◌+◌, ◌≤◌, ◌<◌, List, [], ◌∷◌, ◌++◌, replicate, false, None, codes, refl, sym, ap, ◌∙◌, arith, lit≤}
 use Rattle.std.proofs.lemmas.Bool.{lt-leb}
 use Rattle.std.specs.Prelude.{IsTrue, nat_le}
 use Rattle.jzon_base.specs.declared.error.Error.TheVariants.{UnexpectedCharacter, UnexpectedEndOfJson, ExceededDepthLimit}
 use Rattle.jzon.specs.Reading.{Reading, usual}
-use Rattle.jzon.specs.Grammar.{Item, plain, Node, reads_strings, reads_containers}
+use Rattle.jzon.specs.Grammar.{plain, Node, reads_strings, reads_containers}
 use Rattle.jzon.specs.Spelling.{deep}
 use Rattle.jzon.specs.Fault.{Fault, limit, character, Parses, IsErrorOf}
 use Rattle.jzon.specs.Classes.{class_of}

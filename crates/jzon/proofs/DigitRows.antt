@@ -1,7 +1,7 @@
 -- Worked rows of docs/RULES.md, "Digit limits": numbers with as many digits as are allowed, and with one more.
-use Rattle.std.proofs.Common.{◌≡◌, ℕ, zero, suc, ◌+◌, ◌-◌, ◌*◌, ◌^◌, ◌<◌, ◌≤◌, ℤ, pos, negsuc, ◌+ℤ◌, ◌-ℤ◌, List, [], ◌∷◌, ◌++◌, length, take, replicate, ◌⊎◌, Bool, true, false, not, ◌&&◌, ◌==◌, Option, None, codes, inl, inr, refl, sym, ap, ◌∙◌, subst, arith, lit<, lit≤, append-nil, length-append, ne_eqb}
+use Rattle.std.proofs.Common.{◌≡◌, ℕ, zero, suc, ◌+◌, ◌-◌, ◌<◌, ◌≤◌, pos, negsuc, ◌+ℤ◌, ◌-ℤ◌, List, [], ◌∷◌, ◌++◌, length, take, replicate, ◌⊎◌, true, false, not, ◌&&◌, ◌==◌, codes, inl, inr, refl, sym, ap, ◌∙◌, arith, lit<, lit≤, append-nil, length-append, ne_eqb}
 use Rattle.std.proofs.lemmas.List.{take-replicate, length-replicate}
-use Rattle.std.proofs.lemmas.Bool.{cases_lt, cases_eq}
+use Rattle.std.proofs.lemmas.Bool.{cases_lt}
 use Rattle.std.specs.Char.{is_ascii_digit}
 use Rattle.std.specs.Prelude.{IsTrue}
 use Rattle.jzon_base.specs.Decimal.{parts}
@@ -16,7 +16,7 @@ use Rattle.jzon.specs.Spelling.{onto, drops_too_many, keeps_too_many}
 use Rattle.jzon.specs.Spelling as spelling
 use Rattle.jzon.specs.Fault.{limit, Parses, IsErrorOf}
 use Rattle.jzon.specs.Classes.{class_of, whole, pointed, fraction}
-use Rattle.jzon.proofs.TreeMachine.{State, top, numeral, start}
+use Rattle.jzon.proofs.TreeMachine.{top, numeral, start}
 use Rattle.jzon.proofs.Answer.{tree, refused, answer}
 use Rattle.jzon.proofs.Classes.{digits-class}
 use Rattle.jzon.proofs.Judged.{read_tree, too_many_digits}
@@ -57,9 +57,9 @@ eight_dropped n h = let e = eight_kept n [] h in omega (arith, e, eight_length n
 eight_few : (n : ℕ) → n ≤ 32785 → drops_too_many (eight n) ≡ false
 unfolding drops_too_many
 eight_few n h = ne_eqb (dropped (eight n) []) 32768 (λ e. elim (cases_lt n 19) [
-    | inl few ↦ omega (arith, eight_length n)
-    | inr many ↦ omega (arith, eight_dropped n many)
-  ])
+  | inl few ↦ omega (arith, eight_length n)
+  | inr many ↦ omega (arith, eight_dropped n many)
+])
 
 eight_many : drops_too_many (eight 32786) ≡ true
 unfolding drops_too_many

@@ -23,8 +23,8 @@ pub mod Verdict
 pub mod Samples
 pub mod Rows
 pub mod MarkRows
-pub mod ErrorRows
 pub mod Judged
 pub mod FaultRows
 pub mod DigitRows
 pub mod DepthRows
+pub mod ReadRows
