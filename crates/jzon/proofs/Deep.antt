@@ -1,11 +1,10 @@
 -- Where a depth breach would stand at the next character.
-use Rattle.std.proofs.Common.{◌≡◌, ℕ, zero, suc, List, [], ◌∷◌, Bool, true, false, cond, not, ◌==◌, Option, Some, None, refl, subst, inl}
+use Rattle.std.proofs.Common.{◌≡◌, ℕ, zero, suc, List, [], ◌∷◌, Bool, true, false, cond, ◌==◌, Option, Some, None, refl, subst, inl}
 use Rattle.std.specs.Char.{is_ascii_hexdigit}
 use Rattle.jzon.specs.Reading.{Reading}
-use Rattle.jzon.specs.Grammar.{Item, code_unit, is_surrogate, is_plain, is_simple, reads_strings, reads_containers, Node, Document}
-use Rattle.jzon.specs.Spelling.{Breach, deep, pair, digit, duplicate, breach_if, onto, drops_too_many, keeps_too_many, duplicate_if, deep_if, Cell, cell}
-use Rattle.jzon.specs.Meaning.{is_pair}
-use Rattle.jzon.proofs.TreeMachine.{Class, white, digits, dash, cross, point, letter_e, quote, opens_array, closes_array, opens_object, closes_object, comma, colon, begins_null, begins_true, begins_false, other, class_of, nothing_done, done, Named, nothing_named, named, Context, top, in_array, in_object, Role, as_value, as_key, NumberPlace, signed, zero_read, whole, pointed, fraction, lettered, signed_exponent, exponent, StringPlace, between, slash, code, second, second_slash, second_code, State, before, before_key, word, numeral, string, after_key, behind, Step, go, bad, bad_deep, value_mark, key_mark, bad_at, go_if, step_empty_array, step_before, step_empty_object, step_before_key, step_after_key, step_behind, step_after_whole, step_after_fraction, step_numeral, numeral_of, exponent_of, coded, step_code, step_second_code, step_string, closed_string, past_letter, step}
+use Rattle.jzon.specs.Grammar.{Item, is_plain, is_simple, reads_strings, reads_containers, Node, Document}
+use Rattle.jzon.specs.Spelling.{Breach, deep, pair, digit, duplicate, breach_if, onto, Cell, cell}
+use Rattle.jzon.proofs.TreeMachine.{Class, white, digits, dash, cross, point, letter_e, quote, opens_array, closes_array, opens_object, closes_object, comma, colon, begins_null, begins_true, begins_false, class_of, nothing_done, done, Named, nothing_named, named, Context, top, in_array, in_object, Role, as_value, as_key, NumberPlace, signed, zero_read, whole, pointed, fraction, lettered, signed_exponent, exponent, StringPlace, between, slash, code, second, second_slash, second_code, State, before, before_key, word, numeral, string, after_key, behind, Step, go, bad, bad_deep, value_mark, key_mark, bad_at, go_if, step_empty_array, step_before, step_empty_object, step_before_key, step_after_key, step_behind, step_after_whole, step_after_fraction, step_numeral, numeral_of, exponent_of, coded, step_code, step_second_code, step_string, closed_string, step}
 use Rattle.jzon.proofs.Completion.{Comp}
 use Rattle.jzon.proofs.Ends.{some_begins, some_begins_key}
 

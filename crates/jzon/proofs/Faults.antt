@@ -1,5 +1,5 @@
 -- What the definitions of faults say by themselves, for any text.
-use Rattle.std.proofs.Common.{◌≡◌, ◌⊎◌, ℕ, suc, ◌<◌, ◌≤◌, List, [], ◌++◌, length, take, drop, Option, Some, inl, inr, refl, sym, subst, ap, ◌∙◌, arith, append_assoc, append-nil, take-append-drop}
+use Rattle.std.proofs.Common.{◌≡◌, ◌⊎◌, ℕ, suc, ◌<◌, List, [], ◌++◌, length, take, drop, Some, inl, inr, refl, sym, subst, ap, ◌∙◌, arith, append_assoc, append-nil, take-append-drop}
 use Rattle.jzon.specs.Reading.{Reading}
 use Rattle.jzon.specs.Grammar.{Document}
 use Rattle.jzon.specs.Spelling.{Breach, deep, pair, digit, duplicate, BreachAt}

@@ -16,8 +16,9 @@ pub mod Forward
 pub mod Backward
 pub mod States
 pub mod Faults
-pub mod Answer
+pub mod TreeAnswer
 pub mod Runs
+pub mod SameTree
 pub mod Deep
 pub mod Verdict
 pub mod Samples

@@ -1,10 +1,10 @@
 -- The fronts of a text and the states of the machine: a front's completions are those of the state that it leads to.
-use Rattle.std.proofs.Common.{◌≡◌, ℕ, zero, suc, ◌<◌, ◌≤◌, List, [], ◌∷◌, ◌++◌, length, take, drop, map, Option, Some, None, inl, inr, refl, sym, subst, ap, ◌∙◌, slice_get, arith, append_assoc, append-nil}
+use Rattle.std.proofs.Common.{◌≡◌, ℕ, zero, suc, ◌<◌, List, [], ◌∷◌, ◌++◌, length, map, Option, Some, None, inl, inr, refl, sym, subst, ap, ◌∙◌, slice_get, arith, append_assoc}
 use Rattle.jzon.specs.Reading.{Reading}
 use Rattle.jzon.specs.Grammar.{Document, IsDocument}
-use Rattle.jzon.specs.Spelling.{Breach, Cell, cell, plain, node_cells, cells, spell, BreachAt}
+use Rattle.jzon.specs.Spelling.{Breach, Cell, cell, plain, node_cells, cells}
 use Rattle.jzon.specs.Fault.{Completes}
-use Rattle.jzon.proofs.TreeMachine.{State, Step, go, bad, bad_deep, step, start}
+use Rattle.jzon.proofs.TreeMachine.{State, go, step, start}
 use Rattle.jzon.proofs.Completion.{Comp, Steps}
 use Rattle.jzon.proofs.Forward.{forward}
 use Rattle.jzon.proofs.Backward.{backward}
@@ -65,6 +65,7 @@ reaches_start r = record { onward = onward; back = back }
       text = h.2;
       completed = inl (d.before, d.node, plain d.after [], h.0.0, h.0.1, refl, (d.after, [], h.0.2, refl, (refl, refl)));
     }
+
     back : (q : List Cell) (d : Document) → Comp r start q d → IsDocument r d × (cells r d ≡ q)
     back q d (inr h) = absurd h
     back q d (inl (w, n, p, w_ok, n_ok, e, (z, p', z_ok, e', (e2, e3)))) =
@@ -112,6 +113,7 @@ reaches_next r front c s t reached e = record { onward = onward; back = back }
           text = n.text;
           completed = k.1;
         }
+
     back : (q : List Cell) (d : Document) → Comp r t q d → IsDocument r d × (cells r d ≡ plain (front ++ (c ∷ [])) q)
     back q d h =
         let k : Steps r (step r s c) None q d = subst (λ z. Steps r z None q d) (sym e) (refl, h) in

@@ -1,19 +1,21 @@
 -- What the machine makes of a text is the one tree of the text, or its one first fault.
-use Rattle.std.proofs.Common.{◌≡◌, ℕ, suc, ◌-◌, ◌<◌, ◌≤◌, List, [], ◌∷◌, ◌++◌, length, take, drop, Option, Some, None, refl, sym, subst, ap, ◌∙◌, slice_get, arith, append_assoc, append-nil, length-append, take-append-drop}
+use Rattle.std.proofs.Common.{◌≡◌, ◌⊎◌, ℕ, suc, ◌-◌, ◌<◌, ◌≤◌, List, [], ◌∷◌, ◌++◌, length, take, Option, Some, None, inl, inr, refl, sym, subst, ap, ◌∙◌, slice_get, arith, append_assoc, append-nil, length-append}
 use Rattle.std.proofs.lemmas.List.{take-append-le}
 use Rattle.std.proofs.Math.Seq.{take-append_seam}
 use Rattle.jzon.specs.Reading.{Reading}
 use Rattle.jzon.specs.Grammar.{Document}
-use Rattle.jzon.specs.Spelling.{Breach, deep, pair, digit, duplicate, Cell, cell, plain, cells, BreachAt}
+use Rattle.jzon.specs.Spelling.{Breach, deep, pair, digit, duplicate, Cell, cell, plain, cells}
 use Rattle.jzon.specs.Fault.{Spells, Completes, HasCompletion, AllBreakAt, Parses, Fault, limit, character, IsDepthFault, IsFault, IsFirstFault}
+use Rattle.jzon.specs.Laws.{HasOneTree, HasOneFault}
 use Rattle.jzon.proofs.TreeMachine.{State, Step, go, bad, bad_deep, step, accept, start}
 use Rattle.jzon.proofs.Completion.{Comp, Steps}
 use Rattle.jzon.proofs.Forward.{forward}
 use Rattle.jzon.proofs.Backward.{backward}
 use Rattle.jzon.proofs.States.{finish, finished, some}
 use Rattle.jzon.proofs.Deep.{IsDeep, deep_of_go, deep_of_bad_deep, deep_not_bad, deep_some}
-use Rattle.jzon.proofs.Faults.{completes_take, spells_completes, no_fault_at}
-use Rattle.jzon.proofs.Answer.{Answer, tree, refused, last_answer, answer_on, answer}
+use Rattle.jzon.proofs.Faults.{completes_take, no_fault_at, no_fault, has_one_fault}
+use Rattle.jzon.proofs.TreeAnswer.{Answer, tree, refused, last_answer, answer_on, answer}
+use Rattle.jzon.proofs.SameTree.{same_tree}
 use Rattle.jzon.proofs.Runs.{chars_of, marks_of, chars-plain, plain_unmarked, all_unmarked, mark_behind, Reaches, reaches_start, reaches_next, next}
 
 -- ---- fronts
@@ -167,9 +169,9 @@ end_fault r f s reached e =
 
 -- ---- the verdict
 
--- the tree spells the text and breaks no limit, and no other tree spells it; or this is the first fault
+-- The tree spells the text and breaks no limit; or this is the first fault.
 abbrev pub Verdict : Reading → List ℕ → Answer → Type 0
-Verdict r t (tree d) = Parses r t d × ((e : Document) → Spells r t e → e ≡ d)
+Verdict r t (tree d) = Parses r t d
 Verdict r t (refused f rest) = IsFirstFault r t (length t - length rest) f
 
 refused_at : (r : Reading) (f rest : List ℕ) (g : Fault) → IsFirstFault r (f ++ rest) (length f) g → Verdict r (f ++ rest) (refused g rest)
@@ -180,8 +182,8 @@ refused_at r f rest g h =
 accepted : (r : Reading) (f : List ℕ) (s : State) (d : Document) → Reaches r f s → accept s ≡ Some d → Verdict r f (tree d)
 accepted r f s d reached e =
     let g = reached.back [] d (finished r s d e) in (
-      ((g.0, ap chars_of g.1 ∙ chars-plain f [] ∙ append-nil f), λ i b k. all_unmarked f i b (subst (λ z. slice_get (marks_of z) i ≡ Some (Some b)) g.1 k)),
-      λ x h. let k : accept s ≡ Some x = spelled r f s x reached h in cc,
+      (g.0, ap chars_of g.1 ∙ chars-plain f [] ∙ append-nil f),
+      λ i b k. all_unmarked f i b (subst (λ z. slice_get (marks_of z) i ≡ Some (Some b)) g.1 k),
     )
 
 last_verdict : (r : Reading) (f : List ℕ) (s : State) (x : Option Document) → Reaches r f s → accept s ≡ x → Verdict r (f ++ []) (last_answer x)
@@ -204,3 +206,10 @@ verdict r (c ∷ u) f s reached =
 
 pub answers : (r : Reading) (t : List ℕ) → Verdict r t (answer r t start)
 answers r t = verdict r t [] start (reaches_start r)
+
+one_of : (r : Reading) (t : List ℕ) (x : Answer) → Verdict r t x → HasOneTree r t ⊎ HasOneFault r t
+one_of r t (tree d) h = inl (d, h, (λ e k. same_tree r t e d k h.0), (λ i f k. no_fault r t i f d h k))
+one_of r t (refused f rest) h = inr (has_one_fault r t (length t - length rest) f h)
+
+pub one_tree_or_one_fault : (r : Reading) (t : List ℕ) → HasOneTree r t ⊎ HasOneFault r t
+one_tree_or_one_fault r t = one_of r t (answer r t start) (answers r t)

@@ -6,3 +6,4 @@ pub mod Fault
 pub mod Laws
 pub mod Classes
 pub mod Machine
+pub mod Answer

@@ -1,11 +1,13 @@
 -- The machine over values: what is left of a text comes to a value or to a fault, one character at a time. It keeps no tree and no blank, only what the open
 -- containers hold so far. It is the reading of texts by a reading that is not strict.
-use Rattle.std.specs.Prelude.{◌≡◌, ℕ, zero, suc, ◌+◌, ◌-◌, ◌*◌, cond, List, [], ◌∷◌, ◌++◌, length, drop, Bool, true, false, ◌&&◌, ◌==◌, Option, Some, None, chars, encode_utf8}
+use Rattle.std.specs.Prelude.{◌≡◌, ℕ, zero, suc, ◌+◌, ◌-◌, ◌*◌, cond, List, [], ◌∷◌, ◌++◌, length, drop, Bool, true, false, ◌&&◌, ◌==◌, Option, Some, None, Result, Ok, Err, chars, encode_utf8}
 use Rattle.std.specs.Char.{is_ascii_hexdigit, digit_value}
 use Rattle.jzon_base.specs.PairList.{put_each}
 use Rattle.jzon_base.specs.declared.error.Error.{Error}
 use Rattle.jzon_tree.specs.Value.{Value, values_of, pairs_of, kind_of}
 use Rattle.jzon_tree.specs.Value as value
+use Rattle.jzon_tree.specs.View.{view}
+use Rattle.jzon_tree.specs.declared.value.JsonValue.{JsonValue}
 use Rattle.jzon.specs.Reading.{Reading}
 use Rattle.jzon.specs.Grammar.{Sign, unsigned, plus, minus, Exponent, is_surrogate, is_high, is_low, is_plain, is_simple, reads_strings, reads_containers}
 use Rattle.jzon.specs.Spelling.{Breach, deep, pair, digit, breach_if, onto, drops_too_many, keeps_too_many, deep_if}
@@ -278,3 +280,8 @@ stopped (c ∷ cs) = refused character (c ∷ cs)
 abbrev pub Tells : List ℕ → Error → Outcome → Type 0
 Tells t e (meant v) = ⊥
 Tells t e (refused f rest) = e ≡ error_at t (length t - length rest) f
+
+-- the result is what this outcome of a text says
+abbrev pub Reads : List ℕ → Result JsonValue Error → Outcome → Type 0
+Reads t (Ok v) o = o ≡ meant (view v)
+Reads t (Err e) o = Tells t e o
