@@ -9,7 +9,7 @@ use Rattle.jzon.specs.Spelling.{deep}
 use Rattle.jzon.specs.Fault.{Fault, limit, character, Parses, IsErrorOf}
 use Rattle.jzon.specs.Classes.{class_of}
 use Rattle.jzon.proofs.TreeMachine.{Context, top, in_array, in_object, nothing_done, nothing_named, key_of, State, before, behind, depth_of, value_mark, start}
-use Rattle.jzon.proofs.Answer.{refused, answer}
+use Rattle.jzon.proofs.TreeAnswer.{refused, answer}
 use Rattle.jzon.proofs.Judged.{read_tree, refused_error, too_deep}
 use Rattle.jzon.proofs.Classes.{class_91, class_93, white-class}
 use Rattle.jzon.proofs.Samples.{alone, key, array, object, nested, replicate-cons}

@@ -12,7 +12,7 @@ use Rattle.jzon.specs.Spelling.{drops_too_many, keeps_too_many}
 use Rattle.jzon.specs.Fault.{Fault, Parses, IsErrorOf}
 use Rattle.jzon.specs.Classes.{class_of}
 use Rattle.jzon.proofs.TreeMachine.{State, Step, go, bad, bad_deep, step, accept, start}
-use Rattle.jzon.proofs.Answer.{Answer, refused, last_answer, answer_on, answer}
+use Rattle.jzon.proofs.TreeAnswer.{Answer, refused, last_answer, answer_on, answer}
 use Rattle.jzon.proofs.Judged.{read_tree, refused_error}
 use Rattle.jzon.proofs.Samples.{alone, string, key, key_of, int, array, object}
 use Rattle.jzon.proofs.Rows.{spaced, mixed, mixed_text}
@@ -29,7 +29,7 @@ a = codes "a"
 abbrev one : Node
 one = int (codes "1")
 
--- where strings and containers are read, the text has this tree alone
+-- where strings and containers are read, the text is read as this tree
 abbrev Reads : Reading → List ℕ → Node → Type 0
 Reads r t n = IsTrue reads_strings → IsTrue reads_containers → Parses r t (alone n)
 
