@@ -1,7 +1,7 @@
 -- Worked rows of docs/RULES.md, "Digit limits": numbers with as many digits as are allowed, and with one more.
-use Rattle.std.proofs.Common.{◌≡◌, ℕ, zero, suc, ◌+◌, ◌-◌, ◌*◌, ◌^◌, ◌<◌, ◌≤◌, ℤ, pos, negsuc, ◌+ℤ◌, ◌-ℤ◌, List, [], ◌∷◌, ◌++◌, length, take, replicate, ◌⊎◌, Bool, true, false, not, ◌&&◌, ◌==◌, Option, None, codes, inl, inr, refl, sym, ap, ◌∙◌, subst, arith, lit<, lit≤, append-nil, length-append, ne_eqb}
+use Rattle.std.proofs.Common.{◌≡◌, ℕ, zero, suc, ◌+◌, ◌-◌, ◌<◌, ◌≤◌, pos, negsuc, ◌+ℤ◌, ◌-ℤ◌, List, [], ◌∷◌, ◌++◌, length, take, replicate, ◌⊎◌, true, false, not, ◌&&◌, ◌==◌, codes, inl, inr, refl, sym, ap, ◌∙◌, arith, lit<, lit≤, append-nil, length-append, ne_eqb}
 use Rattle.std.proofs.lemmas.List.{take-replicate, length-replicate}
-use Rattle.std.proofs.lemmas.Bool.{cases_lt, cases_eq}
+use Rattle.std.proofs.lemmas.Bool.{cases_lt}
 use Rattle.std.specs.Char.{is_ascii_digit}
 use Rattle.std.specs.Prelude.{IsTrue}
 use Rattle.jzon_base.specs.Decimal.{parts}
@@ -16,17 +16,13 @@ use Rattle.jzon.specs.Spelling.{onto, drops_too_many, keeps_too_many}
 use Rattle.jzon.specs.Spelling as spelling
 use Rattle.jzon.specs.Fault.{limit, Parses, IsErrorOf}
 use Rattle.jzon.specs.Classes.{class_of, whole, pointed, fraction}
-use Rattle.jzon.proofs.TreeMachine.{State, top, numeral, start}
-use Rattle.jzon.proofs.Answer.{tree, refused, answer}
+use Rattle.jzon.proofs.TreeMachine.{top, numeral, start}
+use Rattle.jzon.proofs.TreeAnswer.{tree, refused, answer}
 use Rattle.jzon.proofs.Classes.{digits-class}
 use Rattle.jzon.proofs.Judged.{read_tree, too_many_digits}
-use Rattle.jzon.proofs.Samples.{alone, integer, decimal, power, int}
+use Rattle.jzon.proofs.Samples.{alone, integer, decimal, power, int, replicate-cons}
 
 -- ---- equal digits
-
-replicate-cons : (n x : ℕ) (cs : List ℕ) → replicate n x ++ (x ∷ cs) ≡ x ∷ (replicate n x ++ cs)
-replicate-cons zero x cs = refl
-replicate-cons (suc n) x cs = ap (λ l. x ∷ l) (replicate-cons n x cs)
 
 onto-replicate : (n x : ℕ) (cs : List ℕ) → onto (replicate n x) cs ≡ replicate n x ++ cs
 onto-replicate zero x cs = refl
@@ -218,7 +214,8 @@ zeros_power = power (codes "0") (zeros 32768) unsigned (codes "32768")
 zeros_power_read : Parses usual (codes "0." ++ (zeros 32768 ++ codes "e32768")) (alone (Node.number zeros_power))
 unfolding class_of
 zeros_power_read =
-    let ends : answer usual (codes "e32768") (numeral top [] false (fraction (codes "0") (onto (zeros 32768) []))) ≡ tree (alone (Node.number (power (codes "0") (onto (onto (zeros 32768) []) []) unsigned (codes "32768")))) = refl in
+    let ends : answer usual (codes "e32768") (numeral top [] false (fraction (codes "0") (onto (zeros 32768) [])))
+    ≡ tree (alone (Node.number (power (codes "0") (onto (onto (zeros 32768) []) []) unsigned (codes "32768")))) = refl in
     let same : onto (onto (zeros 32768) []) [] ≡ zeros 32768 = onto-onto (zeros 32768) [] [] ∙ append-nil (zeros 32768) in
     read_tree usual (codes "0." ++ (zeros 32768 ++ codes "e32768")) (alone (Node.number zeros_power))
     (zeros_begin 32767 (codes "e32768") (lit< tt) ∙ ends ∙ ap (λ fs. tree (alone (Node.number (power (codes "0") fs unsigned (codes "32768"))))) same)
@@ -234,8 +231,10 @@ one_at_end = decimal (codes "0") (zeros 32767 ++ codes "1")
 one_at_end_read : Parses usual (codes "0." ++ (zeros 32767 ++ codes "1")) (alone (Node.number one_at_end))
 unfolding class_of
 one_at_end_read =
-    let one : answer usual (codes "1") (numeral top [] false (fraction (codes "0") (onto (zeros 32767) []))) ≡ answer usual [] (numeral top [] false (fraction (codes "0") (49 ∷ onto (zeros 32767) []))) =
-    fraction_digit (codes "0") (onto (zeros 32767) []) 49 [] refl (not_last (codes "0") (onto (zeros 32767) []) [] 49 (inl (omega (arith, length-onto (zeros 32767) [], length-replicate {A = ℕ} 32767 48)))) in
+    let few : Passes (onto (zeros 32767) []) (codes "1") = inl (omega (arith, length-onto (zeros 32767) [], length-replicate {A = ℕ} 32767 48)) in
+    let one : answer usual (codes "1") (numeral top [] false (fraction (codes "0") (onto (zeros 32767) [])))
+    ≡ answer usual [] (numeral top [] false (fraction (codes "0") (49 ∷ onto (zeros 32767) []))) =
+    fraction_digit (codes "0") (onto (zeros 32767) []) 49 [] refl (not_last (codes "0") (onto (zeros 32767) []) [] 49 few) in
     let same : onto (49 ∷ onto (zeros 32767) []) [] ≡ zeros 32767 ++ codes "1" = onto-onto (zeros 32767) [] (codes "1") in
     read_tree usual (codes "0." ++ (zeros 32767 ++ codes "1")) (alone (Node.number one_at_end))
     (zeros_begin 32766 (codes "1") (lit< tt) ∙ one ∙ ap (λ fs. tree (alone (Node.number (decimal (codes "0") fs)))) same)

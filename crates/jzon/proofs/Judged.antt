@@ -7,11 +7,11 @@ use Rattle.jzon.specs.Grammar.{Document}
 use Rattle.jzon.specs.Spelling.{deep, digit}
 use Rattle.jzon.specs.Fault.{Fault, limit, error_at, Parses, IsErrorOf}
 use Rattle.jzon.proofs.TreeMachine.{start}
-use Rattle.jzon.proofs.Answer.{tree, refused, answer}
+use Rattle.jzon.proofs.TreeAnswer.{tree, refused, answer}
 use Rattle.jzon.proofs.Verdict.{Verdict, answers}
 
 pub read_tree : (r : Reading) (t : List ℕ) (d : Document) → answer r t start ≡ tree d → Parses r t d
-read_tree r t d h = (subst (λ z. Verdict r t z) h (answers r t)).0
+read_tree r t d h = subst (λ z. Verdict r t z) h (answers r t)
 
 pub refused_error : (r : Reading) (t rest : List ℕ) (f : Fault) (e : Error)
     → answer r t start ≡ refused f rest → e ≡ error_at t (length t - length rest) f → IsErrorOf r t e

@@ -26,7 +26,6 @@ pub mod Verdict
 pub mod Samples
 pub mod Rows
 pub mod MarkRows
-pub mod ErrorRows
 pub mod NumberLimits
 pub mod DigitRuns
 pub mod Steps
@@ -40,3 +39,5 @@ pub mod Judged
 pub mod FaultRows
 pub mod DigitRows
 pub mod Trailing
+pub mod DepthRows
+pub mod ReadRows
