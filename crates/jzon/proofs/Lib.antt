@@ -29,3 +29,4 @@ pub mod MarkRows
 pub mod ErrorRows
 pub mod NumberLimits
 pub mod DigitRuns
+pub mod NumeralOutcomes
