@@ -30,3 +30,4 @@ pub mod ErrorRows
 pub mod NumberLimits
 pub mod DigitRuns
 pub mod NumeralOutcomes
+pub mod NumeralPlaces

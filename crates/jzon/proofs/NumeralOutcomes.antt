@@ -137,9 +137,11 @@ reads_digits r d es rest some ok stop = record {
   next = stop;
   reads = λ fs negative gs few. ap (λ t. outcome r (es ++ rest) (numeral fs negative (begun t d))) some
       ∙ read_whole r fs negative (d ∷ []) es rest gs ok few;
-  refuses = λ fs negative gs many. (drop (kept_len (d ∷ es ++ gs) + 32766) es ++ rest,
-      ap (λ t. outcome r (es ++ rest) (numeral fs negative (begun t d))) some
-      ∙ refuse_whole r fs negative (d ∷ []) es rest gs (kept_len (d ∷ es ++ gs) + 32766) ok many (omega arith));
+  refuses = λ fs negative gs many. (
+    drop (kept_len (d ∷ es ++ gs) + 32766) es ++ rest,
+    ap (λ t. outcome r (es ++ rest) (numeral fs negative (begun t d))) some
+        ∙ refuse_whole r fs negative (d ∷ []) es rest gs (kept_len (d ∷ es ++ gs) + 32766) ok many (omega arith),
+  );
 }
 
 behind_point : (fs : Frames) (negative : Bool) (ws : List ℕ) (k : Class) (c : ℕ) → k ≡ point
