@@ -31,3 +31,4 @@ pub mod NumberLimits
 pub mod DigitRuns
 pub mod NumeralOutcomes
 pub mod NumeralPlaces
+pub mod Magnitudes

@@ -105,6 +105,7 @@ whole_is_behind r fs negative d es = record {
 
 -- Behind the first digit d the whole digits are read: ws are all of them, cs is the text behind d, and rest is the text behind them.
 pub record ReadsWhole (r : Reading) (d : ℕ) (ws cs rest : List ℕ) : Type 0 where
+  pub some : 0 < length ws
   place : NumberPlace
   more : ℕ → Bool
   is_behind : (fs : Frames) (negative : Bool) → IsBehindWhole r fs negative place ws more
@@ -116,6 +117,7 @@ pub record ReadsWhole (r : Reading) (d : ℕ) (ws cs rest : List ℕ) : Type 0 w
 
 pub reads_zero : (r : Reading) (d : ℕ) (cs : List ℕ) → (d == 48) ≡ true → ReadsWhole r d (48 ∷ []) cs cs
 reads_zero r d cs zero = record {
+  some = omega arith;
   place = zero_read;
   more = λ c. false;
   is_behind = λ fs negative. zero_is_behind r fs negative;
@@ -131,6 +133,7 @@ reads_zero r d cs zero = record {
 pub reads_digits : (r : Reading) (d : ℕ) (es rest : List ℕ) → (d == 48) ≡ false → AreDigits es → NextFails is_ascii_digit rest
     → ReadsWhole r d (d ∷ es) (es ++ rest) rest
 reads_digits r d es rest some ok stop = record {
+  some = omega arith;
   place = whole (onto es (d ∷ []));
   more = is_ascii_digit;
   is_behind = λ fs negative. whole_is_behind r fs negative d es;

@@ -120,15 +120,15 @@ pub record ReadsExponent (bs : List ℕ) (i : ℕ) (positive : Bool) (xs : List 
   pub missing : length xs ≡ 0 → (fs : Frames) (negative : Bool) (ws ds : List ℕ) (l : ℕ)
       → from usual bs (numeral fs negative (lettered ws ds l)) i ≡ stopped (chars (drop e bs))
 
-some_digits : (ds : List ℕ) → AreDigits ds → 0 < length ds → IsDigits ds
+pub some_digits : (ds : List ℕ) → AreDigits ds → 0 < length ds → IsDigits ds
 some_digits [] ok some = absurd (omega arith)
 some_digits (d ∷ ds) ok some = ok
 
-no_digits : (ds cs : List ℕ) → length ds ≡ 0 → ds ++ cs ≡ cs
+pub no_digits : (ds cs : List ℕ) → length ds ≡ 0 → ds ++ cs ≡ cs
 no_digits [] cs none = refl
 no_digits (d ∷ ds) cs none = absurd (omega arith)
 
-byte_is_not : (c b : ℕ) → (c ≡ b → ⊥) → (c == b) ≡ false
+pub byte_is_not : (c b : ℕ) → (c ≡ b → ⊥) → (c == b) ≡ false
 byte_is_not c b h = grind (arith, nat_tests)
 
 pub reads_unsigned : (bs : List ℕ) (i : ℕ) (xs : List ℕ) → IsUtf8 bs → IsCharBoundary bs i → ((i < length bs) × (get_or bs i 0 ≡ 45) → ⊥)

@@ -116,20 +116,25 @@ fn magnitude_at(source: &str, start: usize) -> Spelling<'_>
         (from usual source.now (numeral fs negative (begun (slice_index source.now start == 48) (slice_index source.now start))) (start + 1)) }
 {
     let whole = whole_at(source, start);
-    let point = start + whole.len();
-    let has_point = has_byte(source, point, b'.');
-    let fraction: &[u8] = if has_point {
-        digits_at(source, point + 1)
-    } else {
-        &[]
-    };
+    let end = start + whole.len();
+    if !has_byte(source, end, b'.') {
+        return Spelling {
+            whole,
+            fraction: &[],
+            positive_exponent: true,
+            exponent: &[],
+            end,
+            is_missing: false,
+        };
+    }
+    let fraction = digits_at(source, end + 1);
     Spelling {
         whole,
         fraction,
         positive_exponent: true,
         exponent: &[],
-        end: point + usize::from(has_point) + fraction.len(),
-        is_missing: has_point && fraction.is_empty(),
+        end: end + 1 + fraction.len(),
+        is_missing: fraction.is_empty(),
     }
 }
 
