@@ -95,7 +95,7 @@ pub record ReadsMagnitude (bs : List ℕ) (i : ℕ) (ws ds : List ℕ) (e : ℕ)
 tells_digit : (t rest : List ℕ) (o : Outcome) → o ≡ refused (limit digit) rest → Tells t ExceededDepthLimit o
 tells_digit t rest o e = subst (Tells t ExceededDepthLimit) (sym e) refl
 
-letter_is_ascii : (c : ℕ) → is_exponent_letter c ≡ true → c < 128
+pub letter_is_ascii : (c : ℕ) → is_exponent_letter c ≡ true → c < 128
 letter_is_ascii c h = grind (arith, nat_tests)
 
 keeps_no_fraction : (ws : List ℕ) → kept_fraction ws [] ≡ 0
