@@ -41,3 +41,6 @@ pub mod DigitRows
 pub mod Trailing
 pub mod DepthRows
 pub mod ReadRows
+pub mod NumeralOutcomes
+pub mod NumeralPlaces
+pub mod Magnitudes
