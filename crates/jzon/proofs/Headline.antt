@@ -6,7 +6,9 @@ use Rattle.jzon_tree.specs.declared.value.JsonValue.{JsonValue}
 use Rattle.jzon.specs.Reading.{Reading}
 use Rattle.jzon.specs.Meaning.{meaning}
 use Rattle.jzon.specs.Machine.{no_frames, before, outcome, Reads}
-use Rattle.jzon.specs.Answer.{Answers}
+use Rattle.std.specs.Prelude.{IfOk, IfErr}
+use Rattle.jzon.specs.Fault.{IsErrorOf}
+use Rattle.jzon.specs.Answer.{Answers, IsMeaningOf}
 use Rattle.jzon.proofs.TreeMachine.{start}
 use Rattle.jzon.proofs.TreeAnswer.{Answer, tree, refused, answer}
 use Rattle.jzon.proofs.Verdict.{Verdict, answers}
@@ -22,3 +24,12 @@ pub answers_of : (r : Reading) → r.strict ≡ false → (t : List ℕ) (result
     → Reads t result (outcome r t (before no_frames)) → Answers r t result
 answers_of r e t result read =
     answers_by r t result (answer r t start) (answers r t) (subst (λ z. Reads t result z) (outcome_image r e t start) read)
+
+-- the same, clause by clause
+pub value_of : (r : Reading) (t : List ℕ) (result : Result JsonValue Error) → Answers r t result → IfOk result (IsMeaningOf r t)
+value_of r t (Ok v) h = h
+value_of r t (Err e) h = tt
+
+pub error_of : (r : Reading) (t : List ℕ) (result : Result JsonValue Error) → Answers r t result → IfErr result (IsErrorOf r t)
+error_of r t (Ok v) h = tt
+error_of r t (Err e) h = h

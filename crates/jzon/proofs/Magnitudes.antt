@@ -1,5 +1,5 @@
 -- The digits of a number before its exponent, by the bytes of a text.
-use Rattle.std.proofs.Common.{◌≡◌, ◌∙◌, ℕ, zero, suc, ◌+◌, ◌<◌, ◌≤◌, Bool, true, false, not, if◌then◌else◌, ◌==◌, List, [], ◌∷◌, ◌++◌, length, drop, get_or, pos, None, refl, sym, ap, subst, arith, eqb-true, eq-eqb, ne_eqb, true≢false, length-append}
+use Rattle.std.proofs.Common.{◌≡◌, ◌∙◌, ℕ, ◌+◌, ◌<◌, ◌≤◌, Bool, true, false, not, if◌then◌else◌, ◌==◌, List, [], ◌∷◌, ◌++◌, length, drop, get_or, pos, refl, sym, ap, subst, arith, eqb-true, true≢false, length-append}
 use Rattle.std.specs.Prelude.{chars, IsUtf8, IsTrue}
 use Rattle.std.specs.Char.{is_ascii_digit}
 use Rattle.std.specs.Str.{IsCharBoundary}
@@ -7,7 +7,7 @@ use Rattle.std.specs.List.{All, take_while}
 use Rattle.std.proofs.lemmas.Bool.Decides.{nat_tests}
 use Rattle.std.proofs.lemmas.List.Elements.{All-nil, All-cons}
 use Rattle.std.proofs.lemmas.Str.{IsCharBoundary-before_ascii, IsCharBoundary-after_ascii}
-use Rattle.jzon_base.specs.Digits.{IsDigit, kept_len, dropped, kept_fraction, read_number}
+use Rattle.jzon_base.specs.Digits.{IsDigit, dropped, kept_fraction, read_number}
 use Rattle.jzon_base.specs.DigitLimits.{AreFewEnough, IsFirstTooMany}
 use Rattle.jzon_base.specs.declared.digits.DigitFault.{DigitFault}
 use Rattle.jzon_base.specs.declared.digits.DigitFault.TheVariants.{Whole, Fraction}

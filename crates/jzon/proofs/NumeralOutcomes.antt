@@ -1,15 +1,14 @@
 -- What is left of a text comes to, behind each part of a number.
-use Rattle.std.proofs.Common.{◌≡◌, ◌∙◌, ℕ, ◌+◌, ◌<◌, ◌≤◌, List, [], ◌∷◌, ◌++◌, length, drop, Bool, true, false, ◌==◌, not, None, refl, sym, ap, arith, true≢false, append-nil, eqb-true, eq-eqb}
+use Rattle.std.proofs.Common.{◌≡◌, ◌∙◌, ℕ, ◌+◌, ◌<◌, ◌≤◌, List, [], ◌∷◌, ◌++◌, length, drop, Bool, true, false, ◌==◌, None, refl, sym, ap, arith, true≢false, append-nil, eq-eqb}
 use Rattle.std.specs.Prelude.{IsTrue, ⊤}
 use Rattle.std.specs.Char.{is_ascii_digit}
 use Rattle.jzon_base.specs.Digits.{kept_len, dropped, kept_fraction}
-use Rattle.jzon_tree.specs.Value.{Value}
 use Rattle.jzon.specs.Reading.{Reading}
 use Rattle.jzon.specs.Grammar.{Sign, unsigned, plus, minus, AreDigits, IsDigits, is_exponent_letter}
 use Rattle.jzon.specs.Spelling.{digit, onto}
 use Rattle.jzon.specs.Fault.{limit}
-use Rattle.jzon.specs.Classes.{Class, white, digits, dash, cross, point, letter_e, quote, opens_array, closes_array, opens_object, closes_object, comma, colon, begins_null, begins_true, begins_false, other, class_of, NumberPlace, zero_read, whole, pointed, fraction, lettered, signed_exponent, exponent, begun}
-use Rattle.jzon.specs.Machine.{Frames, Place, numeral, behind, Move, go, bad, move, move_behind, move_after_whole, move_after_fraction, move_numeral, number_value, exponent_of, last, meant_at, refused, outcome_on, outcome, stopped}
+use Rattle.jzon.specs.Classes.{Class, digits, dash, cross, point, letter_e, class_of, NumberPlace, zero_read, whole, pointed, fraction, lettered, signed_exponent, exponent, begun}
+use Rattle.jzon.specs.Machine.{Frames, Place, numeral, behind, go, bad, move, move_behind, move_after_whole, move_numeral, number_value, exponent_of, last, meant_at, refused, outcome_on, outcome, stopped}
 use Rattle.jzon.proofs.Classes.{letter_e-class, class_43, class_45, class_46, class-digits, class-dash, class-cross, class-point, class-letter_e}
 use Rattle.jzon.proofs.NumberLimits.{onto-onto}
 use Rattle.jzon.proofs.DigitRuns.{read_whole, refuse_whole, read_fraction, read_unsigned_exponent, read_signed_exponent}

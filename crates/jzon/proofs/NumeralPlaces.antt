@@ -1,6 +1,6 @@
 -- The digits of a number, by the bytes of a text.
-use Rattle.std.proofs.Common.{◌≡◌, ◌∙◌, ℕ, zero, suc, ◌+◌, ◌<◌, ◌≤◌, Bool, true, false, cond, if◌then◌else◌, ◌==◌, List, [], ◌∷◌, ◌++◌, length, take, drop, get_or, refl, sym, ap, subst, arith, drop-cons, add-one, eqb-true, not}
-use Rattle.std.specs.Prelude.{chars, IsUtf8, IsTrue}
+use Rattle.std.proofs.Common.{◌≡◌, ◌∙◌, ℕ, suc, ◌+◌, ◌<◌, ◌≤◌, Bool, true, false, cond, ◌==◌, List, [], ◌∷◌, ◌++◌, length, take, drop, get_or, refl, sym, ap, subst, arith, drop-cons, add-one, eqb-true, not}
+use Rattle.std.specs.Prelude.{chars, IsUtf8}
 use Rattle.std.specs.Char.{is_ascii_digit}
 use Rattle.std.specs.Str.{IsCharBoundary}
 use Rattle.std.specs.List.{All, take_while, prefix_len}
@@ -8,13 +8,13 @@ use Rattle.std.proofs.lemmas.Bool.Decides.{nat_tests}
 use Rattle.std.proofs.lemmas.List.{drop-drop, length-drop, get_or-drop}
 use Rattle.std.proofs.lemmas.List.Elements.{All-nil, All-cons}
 use Rattle.std.proofs.lemmas.List.Folds.{length-prefix_len}
-use Rattle.std.proofs.lemmas.List.Sums.{prefix_len-le-length, prefix_len_stops}
+use Rattle.std.proofs.lemmas.List.Sums.{prefix_len-le-length}
 use Rattle.std.proofs.lemmas.Str.{chars-nil, IsUtf8-drop, IsCharBoundary-from_drop, IsCharBoundary-after_ascii}
 use Rattle.jzon_base.specs.Decimal.{signed}
 use Rattle.jzon_base.specs.Digits.{IsDigit, digits_number, read_number}
 use Rattle.jzon_tree.specs.Value as value
 use Rattle.jzon.specs.Reading.{usual}
-use Rattle.jzon.specs.Grammar.{Sign, unsigned, plus, minus, AreDigits, IsDigits}
+use Rattle.jzon.specs.Grammar.{Sign, plus, minus, AreDigits, IsDigits}
 use Rattle.jzon.specs.Meaning as meaning
 use Rattle.jzon.specs.Classes.{lettered, signed_exponent}
 use Rattle.jzon.specs.Machine.{Frames, numeral, behind, outcome, from, stopped}

@@ -1,12 +1,11 @@
 -- The first digit behind a minus, by the byte that stands there.
-use Rattle.std.proofs.Common.{◌≡◌, ℕ, ◌+◌, ◌<◌, ◌≤◌, Bool, true, false, List, length, get_or, refl, ap, ◌∙◌, arith, None}
+use Rattle.std.proofs.Common.{◌≡◌, ℕ, ◌+◌, ◌<◌, true, List, length, get_or, refl, ap, ◌∙◌}
 use Rattle.std.specs.Prelude.{IsUtf8, IsTrue, ◌==◌}
 use Rattle.std.specs.Char.{is_ascii_digit}
 use Rattle.std.specs.Str.{IsCharBoundary}
-use Rattle.std.proofs.lemmas.Bool.Decides.{nat_tests}
 use Rattle.jzon.specs.Reading.{Reading}
 use Rattle.jzon.specs.Classes.{Class, white, digits, dash, cross, point, letter_e, quote, opens_array, closes_array, opens_object, closes_object, comma, colon, begins_null, begins_true, begins_false, other, class_of, signed, begun}
-use Rattle.jzon.specs.Machine.{Frames, numeral, go, bad, move, move_numeral, from}
+use Rattle.jzon.specs.Machine.{Frames, numeral, bad, move_numeral, from}
 use Rattle.jzon.proofs.Classes.{class-digits, digits-class}
 use Rattle.jzon.proofs.Steps.{StopsAt, from_step, digit_is_ascii}
 

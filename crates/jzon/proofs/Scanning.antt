@@ -1,17 +1,16 @@
 -- Runs of ASCII bytes of a text, and what they do to what is left of it.
-use Rattle.std.proofs.Common.{◌≡◌, ℕ, zero, suc, ◌+◌, ◌<◌, ◌≤◌, Bool, true, false, cond, List, [], ◌∷◌, ◌++◌, length, take, drop, get_or, refl, sym, ap, subst, ◌∙◌, arith, None, Some, slice_get}
-use Rattle.std.specs.Prelude.{chars, IsUtf8, ◌||◌, ◌==◌}
+use Rattle.std.proofs.Common.{◌≡◌, ℕ, suc, ◌+◌, ◌<◌, ◌≤◌, Bool, true, false, cond, List, [], ◌∷◌, ◌++◌, length, drop, get_or, refl, sym, ap, subst, ◌∙◌, arith, None}
+use Rattle.std.specs.Prelude.{chars, IsUtf8}
 use Rattle.std.specs.Str.{IsCharBoundary}
 use Rattle.std.specs.List.{prefix_len}
 use Rattle.std.proofs.lemmas.Bool.Decides.{nat_tests}
 use Rattle.std.proofs.lemmas.List.{drop-drop, length-drop, get_or-drop}
 use Rattle.std.proofs.lemmas.List.Sums.{prefix_len-le-length, prefix_len_stops}
-use Rattle.std.proofs.lemmas.Str.{chars_past_char, encode_ascii, IsUtf8-past_char, IsUtf8-drop, IsCharBoundary-from_drop, IsUtf8-nil}
+use Rattle.std.proofs.lemmas.Str.{chars_past_char, encode_ascii, IsUtf8-past_char, IsUtf8-drop, IsCharBoundary-from_drop}
 use Rattle.jzon_tree.specs.Value.{Value}
 use Rattle.jzon_tree.specs.Writing.{is_space}
 use Rattle.jzon.specs.Reading.{Reading}
 use Rattle.jzon.specs.Machine.{Place, Frames, before, behind, go, move, outcome, outcome_on, from}
-use Rattle.jzon.specs.Classes.{class_of, white}
 use Rattle.jzon.proofs.Classes.{white-class}
 
 -- an ASCII byte is a character, and what follows it is text

@@ -1,5 +1,5 @@
 -- One step of the machine over values, by the byte that stands at a place of a text.
-use Rattle.std.proofs.Common.{◌≡◌, ◌≢◌, ◌⊎◌, inl, inr, ℕ, suc, ◌+◌, ◌<◌, ◌≤◌, Bool, true, false, List, [], ◌∷◌, length, drop, get_or, refl, sym, ap, subst, ◌∙◌, arith, drop-cons, add-one, None, Result, Ok, Err, lit<}
+use Rattle.std.proofs.Common.{◌≡◌, ◌≢◌, ◌⊎◌, inl, inr, ℕ, suc, ◌+◌, ◌<◌, ◌≤◌, Bool, true, false, List, [], ◌∷◌, length, drop, get_or, refl, sym, ap, subst, ◌∙◌, arith, drop-cons, add-one, None, Result, lit<}
 use Rattle.std.specs.Prelude.{chars, IsUtf8, IsTrue, MatchResult, ◌==◌}
 use Rattle.std.specs.Char.{is_ascii_digit}
 use Rattle.std.specs.Str.{IsCharBoundary}
@@ -14,7 +14,7 @@ use Rattle.jzon.specs.Grammar.{reads_strings, reads_containers}
 use Rattle.jzon.specs.Classes.{Class, white, digits, dash, cross, point, letter_e, quote, opens_array, closes_array, opens_object, closes_object, comma, colon, begins_null, begins_true, begins_false, other, class_of, signed, begun}
 use Rattle.jzon.specs.Fault.{Fault}
 use Rattle.jzon_tree.specs.Value as value
-use Rattle.jzon.specs.Machine.{numeral, past_letter, Place, Frames, no_frames, before, go, bad, move, move_before, last, outcome, outcome_on, from, stopped, Outcome, refused, Tells}
+use Rattle.jzon.specs.Machine.{numeral, past_letter, Place, no_frames, before, go, bad, move, move_before, last, outcome, outcome_on, from, stopped, Outcome, refused, Tells}
 use Rattle.jzon.proofs.Classes.{class-white, class-digits, class-dash, class-begins_null, class-begins_true, class-begins_false, class_110, class_116, class_102, class_45, digits-class}
 use Rattle.jzon.proofs.Scanning.{chars-ascii}
 use Rattle.jzon.proofs.Words.{first_byte, some_byte}

@@ -1,5 +1,5 @@
 -- What may follow a whole text: a blank alone.
-use Rattle.std.proofs.Common.{◌≡◌, ℕ, ◌<◌, ◌≤◌, ◌⊎◌, inl, inr, Bool, true, false, List, [], ◌∷◌, length, drop, get_or, refl, sym, ap, ◌∙◌, arith}
+use Rattle.std.proofs.Common.{◌≡◌, ℕ, ◌<◌, ◌≤◌, ◌⊎◌, inl, inr, true, false, List, [], ◌∷◌, length, drop, get_or, refl, sym, ap, ◌∙◌, arith}
 use Rattle.std.specs.Prelude.{chars, IsUtf8, encode_utf8_all}
 use Rattle.std.specs.Str.{IsCharBoundary}
 use Rattle.std.proofs.lemmas.Bool.{cases_lt}
@@ -9,7 +9,7 @@ use Rattle.jzon_tree.specs.Value.{Value}
 use Rattle.jzon_tree.specs.Writing.{is_space}
 use Rattle.jzon.specs.Reading.{Reading}
 use Rattle.jzon.specs.Classes.{Class, white, digits, dash, cross, point, letter_e, quote, opens_array, closes_array, opens_object, closes_object, comma, colon, begins_null, begins_true, begins_false, other, class_of}
-use Rattle.jzon.specs.Machine.{Frames, no_frames, behind, bad, move, move_behind, outcome, outcome_on, from, stopped}
+use Rattle.jzon.specs.Machine.{no_frames, behind, bad, move_behind, outcome, outcome_on, from, stopped}
 use Rattle.jzon.proofs.Classes.{class-white}
 use Rattle.jzon.proofs.Steps.{byte_there, wide_begins_nothing}
 

@@ -7,7 +7,7 @@ use Rattle.std.proofs.lemmas.Str.{chars-nil, encodes-chars, byte_from_char, IsUt
 use Rattle.jzon_tree.specs.Value.{Value}
 use Rattle.jzon.specs.Reading.{Reading}
 use Rattle.jzon.specs.Machine.{Frames, word, go, bad, past_letter, outcome, outcome_on, from, stopped}
-use Rattle.jzon.proofs.Scanning.{chars-ascii, IsUtf8-past_ascii}
+use Rattle.jzon.proofs.Scanning.{chars-ascii}
 
 -- what a text is, by its first character
 pub text_of_first : (bs : List ℕ) (c : ℕ) (cs : List ℕ) → IsUtf8 bs → chars bs ≡ c ∷ cs → bs ≡ encode_utf8 c ++ encode_utf8_all cs

@@ -1,5 +1,5 @@
 -- What a parser answers for a text.
-use Rattle.std.specs.Prelude.{◌≡◌, List, ℕ, Result, Ok, Err}
+use Rattle.std.specs.Prelude.{◌≡◌, ℕ, List, Result, Ok, Err}
 use Rattle.jzon_base.specs.declared.error.Error.{Error}
 use Rattle.jzon_tree.specs.View.{view}
 use Rattle.jzon_tree.specs.declared.value.JsonValue.{JsonValue}
@@ -8,7 +8,11 @@ use Rattle.jzon.specs.Grammar.{Document}
 use Rattle.jzon.specs.Meaning.{meaning}
 use Rattle.jzon.specs.Fault.{Parses, IsErrorOf}
 
--- the value that the text's one tree within the limits means, part for part; or the error of the text's first fault
+-- a tree that breaks no limit spells the text, and the value is its meaning, part for part
+abbrev pub IsMeaningOf : Reading → List ℕ → JsonValue → Type 0
+IsMeaningOf r t v = (d : Document) × Parses r t d × (view v ≡ meaning d.node)
+
+-- a meaning of the text, or the error of its first fault
 abbrev pub Answers : Reading → List ℕ → Result JsonValue Error → Type 0
-Answers r t (Ok v) = (d : Document) × Parses r t d × (view v ≡ meaning d.node)
+Answers r t (Ok v) = IsMeaningOf r t v
 Answers r t (Err e) = IsErrorOf r t e

@@ -7,3 +7,7 @@ pub mod Laws
 pub mod Classes
 pub mod Machine
 pub mod Answer
+pub use Rattle.jzon_base.specs.ErrorText
+pub use Rattle.jzon_base.specs.Written
+pub use Rattle.jzon_base.specs.declared.error.Error
+pub use Rattle.jzon_tree.specs.Text

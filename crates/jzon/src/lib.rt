@@ -7,6 +7,7 @@ mod parser;
 mod place;
 #[cfg(test)]
 mod tests;
+pub mod util;
 
 pub use jzon_base::error::{Error, Error as JsonError, JsonResult, Result};
 pub use jzon_base::number;

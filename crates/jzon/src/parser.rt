@@ -1,6 +1,6 @@
 //! Reads texts.
 
-ghost use Rattle.std.specs.Prelude.{◌≡◌, ◌==◌, ℕ, ◌<◌, ◌≤◌, ◌+◌, List, length, drop, chars, IsTrue, IsFalse, IfOk, MatchResult, slice_index, None, true, false, IsAscii};
+ghost use Rattle.std.specs.Prelude.{◌≡◌, ◌==◌, ℕ, ◌<◌, ◌≤◌, ◌+◌, List, length, drop, chars, IsTrue, IsFalse, IfOk, IfErr, MatchResult, slice_index, None, true, false, IsAscii};
 ghost use Rattle.std.specs.Char.{is_ascii_digit};
 ghost use Rattle.std.specs.Str.{IsCharBoundary};
 ghost use Rattle.std.specs.List.{prefix_len};
@@ -10,7 +10,8 @@ ghost use Rattle.jzon_tree.specs.Writing.{is_space};
 ghost use Rattle.jzon.specs.Reading.{usual};
 ghost use Rattle.jzon.specs.Classes.{begun, signed};
 ghost use Rattle.jzon.specs.Machine.{numeral, Frames, no_frames, before, behind, past_letter, value_mark, from, Tells, Reads};
-ghost use Rattle.jzon.specs.Answer.{Answers};
+ghost use Rattle.jzon.specs.Answer.{IsMeaningOf};
+ghost use Rattle.jzon.specs.Fault.{IsErrorOf};
 
 use crate::numeral::read_number;
 use crate::place::{fault_at, has_byte, has_digit};
@@ -20,7 +21,8 @@ use std::alloc::Global;
 
 /// The value that a text means (RFC 8259; docs/RULES.md, "Texts"), or the error of its first fault.
 pub fn parse(_alloc: Global, source: &str) -> Result<JsonValue>
-    ensures { Answers usual (chars source.now) result }
+    ensures value { IfOk result (IsMeaningOf usual (chars source.now)) }
+    ensures error { IfErr result (IsErrorOf usual (chars source.now)) }
 {
     read(source)
 }

@@ -1,4 +1,4 @@
-use Rattle.std.proofs.Common.{◌≡◌, ◌∙◌, sym, true≢false}
+use Rattle.std.proofs.Common.{◌∙◌, sym, true≢false}
 use Rattle.jzon.proofs.NumeralPlaces.{ReadsExponent, reads_minus, reads_plus, reads_unsigned}
 use Rattle.jzon.proofs.numeral.exponent_behind.Goals as goal
 

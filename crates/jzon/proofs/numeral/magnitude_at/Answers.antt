@@ -1,4 +1,4 @@
-use Rattle.std.proofs.Common.{◌≡◌, ◌∙◌, sym, refl, [], ◌+◌, length, true, false, true≢false}
+use Rattle.std.proofs.Common.{◌∙◌, sym, refl, [], ◌+◌, length, false, true≢false}
 use Rattle.jzon.proofs.Magnitudes.{WholeStands, whole_stands, ReadsMagnitude, reads_whole_alone, reads_whole_and_fraction}
 use Rattle.jzon.proofs.numeral.magnitude_at.Goals as goal
 

@@ -1,10 +1,17 @@
-use Rattle.std.specs.Prelude.{chars}
 use Rattle.std.proofs.Common.{refl}
+use Rattle.std.specs.Prelude.{chars}
+use Rattle.jzon.specs.Answer.{Answers}
 use Rattle.jzon.specs.Machine.{from}
 use Rattle.jzon.specs.Reading.{usual}
-use Rattle.jzon.proofs.Headline.{answers_of}
+use Rattle.jzon.proofs.Headline.{answers_of, value_of, error_of}
 use Rattle.jzon.proofs.parser.parse.Goals as goal
 
-pub returns : goal.returns
+answer : (c : goal.After-read) → Answers usual (chars c.args.source.now) c.read.result
 unfolding from
-returns c = answers_of usual refl (chars c.args.source.now) c.read.result c.read.ensures
+answer c = answers_of usual refl (chars c.args.source.now) c.read.result c.read.ensures
+
+pub returns-clause-value : goal.returns-clause-value
+returns-clause-value c = value_of usual (chars c.args.source.now) c.read.result (answer c)
+
+pub returns-clause-error : goal.returns-clause-error
+returns-clause-error c = error_of usual (chars c.args.source.now) c.read.result (answer c)

@@ -1,9 +1,9 @@
-use Rattle.std.proofs.Common.{◌≡◌, ◌∙◌, sym, subst, arith}
+use Rattle.std.proofs.Common.{◌∙◌, sym, subst}
 use Rattle.std.specs.Prelude.{chars}
 use Rattle.std.proofs.lemmas.Str.{IsCharBoundary-start}
 use Rattle.jzon_tree.specs.View.{view}
 use Rattle.jzon.specs.Reading.{usual}
-use Rattle.jzon.specs.Machine.{no_frames, before, behind, from, Tells}
+use Rattle.jzon.specs.Machine.{no_frames, behind, Tells}
 use Rattle.jzon.proofs.Steps.{from_end}
 use Rattle.jzon.proofs.Trailing.{trailing_stops}
 use Rattle.jzon.proofs.parser.read.Goals as goal

@@ -1,10 +1,9 @@
-use Rattle.std.proofs.Common.{◌≡◌, ◌<◌, ◌+◌, sym, subst, true, false, refl, arith, get_or, length, None}
-use Rattle.std.specs.Prelude.{IsTrue, chars}
-use Rattle.std.specs.Char.{is_ascii_digit}
+use Rattle.std.proofs.Common.{◌≡◌, sym, subst, true, false}
+use Rattle.std.specs.Prelude.{chars}
 use Rattle.jzon.specs.Reading.{usual}
-use Rattle.jzon.specs.Machine.{numeral, from, Tells, move, go, bad}
-use Rattle.jzon.specs.Classes.{signed, begun, class_of, digits}
-use Rattle.jzon.proofs.Steps.{from_step, from_stop, same_outcome}
+use Rattle.jzon.specs.Machine.{numeral, Tells}
+use Rattle.jzon.specs.Classes.{signed}
+use Rattle.jzon.proofs.Steps.{from_stop, same_outcome}
 use Rattle.jzon.proofs.NumeralSteps.{no_digit_stops, digit_goes}
 use Rattle.jzon.proofs.parser.read_negative.Goals as goal
 

@@ -1,10 +1,10 @@
-use Rattle.std.proofs.Common.{◌≡◌, ◌≢◌, ℕ, ◌<◌, ◌≤◌, length, get_or, sym, ap, subst, ◌∙◌, refl, arith, true, false, Bool, List}
-use Rattle.std.specs.Prelude.{chars, IsTrue}
+use Rattle.std.proofs.Common.{◌≡◌, ℕ, get_or, sym, ap, subst, ◌∙◌, refl, arith, true, false, Bool, List}
+use Rattle.std.specs.Prelude.{chars}
 use Rattle.std.specs.Char.{is_ascii_digit}
 use Rattle.std.proofs.lemmas.Str.{IsCharBoundary-after_ascii}
 use Rattle.jzon.specs.Reading.{usual}
-use Rattle.jzon.specs.Machine.{no_frames, before, Tells, last}
-use Rattle.jzon.proofs.Steps.{from_stop, from_end, same_outcome, BeginsNothing, stops_before, begin_null, begin_true, begin_false, begin_minus, begin_digit}
+use Rattle.jzon.specs.Machine.{no_frames, before, Tells}
+use Rattle.jzon.proofs.Steps.{from_stop, same_outcome, stops_before, begin_null, begin_true, begin_false, begin_minus, begin_digit}
 use Rattle.jzon.proofs.parser.read_value.Goals as goal
 
 -- a byte of the bytes of a text is one of the text
