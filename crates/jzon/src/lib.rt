@@ -4,6 +4,7 @@ pub mod laws;
 mod numeral;
 mod parser;
 mod place;
+mod string;
 
 pub use jzon_base::error::{Error, Error as JsonError, JsonResult, Result};
 pub use jzon_base::number;
