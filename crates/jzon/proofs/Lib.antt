@@ -19,6 +19,7 @@ pub mod Words
 pub mod PlainRuns
 pub mod ByteSteps
 pub mod Quotes
+pub mod HexDigits
 pub mod States
 pub mod Faults
 pub mod TreeAnswer
