@@ -1,13 +1,14 @@
 -- One byte of a text: an ASCII character that is read, or the character at which the text stops.
-use Rattle.std.proofs.Common.{◌≡◌, ℕ, suc, ◌+◌, ◌<◌, List, [], ◌∷◌, length, drop, get_or, refl, ap, subst, sym, ◌∙◌, arith, drop-cons, add-one}
-use Rattle.std.specs.Prelude.{chars, IsUtf8, encode_utf8, encode_utf8_all, ◌++◌}
+use Rattle.std.proofs.Common.{◌≡◌, ℕ, suc, ◌+◌, ◌<◌, Bool, true, false, cond, List, [], ◌∷◌, length, drop, get_or, refl, ap, subst, sym, ◌∙◌, arith, drop-cons, add-one, None, eq-eqb, eqb-true}
+use Rattle.std.specs.Prelude.{chars, IsUtf8, encode_utf8, encode_utf8_all, ◌++◌, ◌==◌}
 use Rattle.std.specs.Str.{IsCharBoundary}
+use Rattle.std.proofs.lemmas.Bool.{false_from_ne_true}
 use Rattle.std.proofs.lemmas.List.{length-append, length-drop, get_or-drop}
 use Rattle.std.proofs.lemmas.Str.{byte_from_char, char_from_byte, IsUtf8-drop, length-encode, len_utf8_bounds}
 use Rattle.jzon.specs.Reading.{Reading}
 use Rattle.jzon.specs.Fault.{Fault}
 use Rattle.jzon.specs.Fault as fault
-use Rattle.jzon.specs.Machine.{Place, move, bad, last, refused, outcome, outcome_on, from, stopped}
+use Rattle.jzon.specs.Machine.{Place, go, move, bad, last, refused, outcome, outcome_on, from, stopped}
 use Rattle.jzon.proofs.Scanning.{chars-ascii}
 use Rattle.jzon.proofs.Words.{text_of_first}
 
@@ -53,3 +54,24 @@ pub byte_stops : (r : Reading) (p : Place) (bs : List ℕ) (i : ℕ) → IsUtf8 
     → ((c : ℕ) → Begins bs i c → move r p c ≡ bad) → from r bs p i ≡ stopped (chars (drop i bs))
 unfolding from
 byte_stops r p bs i u at end h = stops_on r p (chars (drop i bs)) end (λ c cs e. h c (begins bs i c cs u at e))
+
+-- a place that goes on with one ASCII character alone
+pub record Expects (r : Reading) (p : Place) (b : ℕ) (q : Place) : Type 0 where
+  pub ascii : b < 128
+  pub moves : (c : ℕ) → move r p c ≡ cond (c == b) (go None q) bad
+  pub unfinished : last p ≡ refused fault.end []
+
+-- that character stands there
+pub expected_byte : (r : Reading) (p q : Place) (bs : List ℕ) (i b : ℕ) → Expects r p b q → IsUtf8 bs → IsCharBoundary bs i → i < length bs → get_or bs i 0 ≡ b
+    → from r bs p i ≡ from r bs q (i + 1)
+expected_byte r p q bs i b h u at lt e =
+    byte_moves r p bs i b u at lt e h.ascii
+    ∙ ap (λ m. outcome_on m (λ z. from r bs z (i + 1)) (chars (drop i bs))) (h.moves b ∙ ap (λ t. cond t (go None q) bad) (eq-eqb b b refl))
+
+-- another one does, or none
+pub unexpected_byte : (r : Reading) (p q : Place) (bs : List ℕ) (i b : ℕ) → Expects r p b q → IsUtf8 bs → IsCharBoundary bs i
+    → ((i < length bs) × (get_or bs i 0 ≡ b) → ⊥) → from r bs p i ≡ stopped (chars (drop i bs))
+unexpected_byte r p q bs i b h u at none =
+    byte_stops r p bs i u at h.unfinished (λ c here. h.moves c ∙ ap (λ t. cond t (go None q) bad) (false_from_ne_true (c == b) (λ e.
+    let same : c ≡ b = eqb-true c b e in
+    none (here.within, here.byte (subst (λ z. z < 128) (sym same) h.ascii) ∙ same))))

@@ -4,6 +4,7 @@ use Rattle.std.specs.Prelude.{chars, IsUtf8}
 use Rattle.std.specs.Char.{is_ascii_hexdigit, digit_value}
 use Rattle.std.specs.Str.{IsCharBoundary}
 use Rattle.std.proofs.Math.Nat.{pow-le-pow_right}
+use Rattle.std.proofs.lemmas.Bool.{false_from_ne_true}
 use Rattle.std.proofs.lemmas.Bool.Decides.{nat_tests}
 use Rattle.std.proofs.lemmas.Grind.{pow_more}
 use Rattle.std.proofs.lemmas.Str.{IsCharBoundary-after_ascii}
@@ -63,11 +64,8 @@ hex_read r at done bs (suc n) u i h text here lt e =
 pub hex_missing : (r : Reading) (at : ℕ → ℕ → Place) (done : ℕ → Move) (bs : List ℕ) (n u i : ℕ) → ReadsHex r at done → IsUtf8 bs → IsCharBoundary bs i
     → ((i < length bs) × (is_ascii_hexdigit (get_or bs i 0) ≡ true) → ⊥) → hex_left r at done bs (suc n) u i ≡ stopped (chars (drop i bs))
 hex_missing r at done bs n u i h text here none =
-    byte_stops r (at n u) bs i text here (h.unfinished n u) (λ c b. h.stops n u c (no_digit c b (is_ascii_hexdigit c) refl))
-  where
-    no_digit : (c : ℕ) → Begins bs i c → (t : Bool) → is_ascii_hexdigit c ≡ t → is_ascii_hexdigit c ≡ false
-    no_digit c b false e = e
-    no_digit c b true e = absurd (none (b.within, ap is_ascii_hexdigit (b.byte (hex_is_ascii c e)) ∙ e))
+    byte_stops r (at n u) bs i text here (h.unfinished n u) (λ c b.
+    h.stops n u c (false_from_ne_true (is_ascii_hexdigit c) (λ e. none (b.within, ap is_ascii_hexdigit (b.byte (hex_is_ascii c e)) ∙ e))))
 
 -- ---- the number so far
 

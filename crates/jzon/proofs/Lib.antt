@@ -20,6 +20,7 @@ pub mod PlainRuns
 pub mod ByteSteps
 pub mod Quotes
 pub mod HexDigits
+pub mod Escapes
 pub mod States
 pub mod Faults
 pub mod TreeAnswer

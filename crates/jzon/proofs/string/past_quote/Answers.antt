@@ -1,5 +1,6 @@
 use Rattle.std.proofs.Common.{◌≡◌, refl, sym, subst, true, false, arith}
 use Rattle.std.specs.Prelude.{chars}
+use Rattle.std.proofs.lemmas.Bool.{iff_false}
 use Rattle.std.proofs.lemmas.Str.{IsCharBoundary-after_ascii}
 use Rattle.jzon.specs.Reading.{usual}
 use Rattle.jzon.specs.Machine.{Tells}
@@ -20,5 +21,5 @@ pub returns-else-has_byte-clause-same : goal.returns-else-has_byte-clause-same
 returns-else-has_byte-clause-same c role bs =
     subst (Tells (chars c.args.source.now) c.fault_at.result)
     (sym (string_stops usual role bs c.args.source.now c.args.index c.utf8.source c.requires.boundary c.requires.stop c.requires.no_escape
-    (λ h. let yes : c.has_byte.result ≡ true = c.has_byte.ensures.1 h in let no : c.has_byte.result ≡ false = c.if-has_byte.false in cc)))
+    (iff_false c.has_byte.ensures c.if-has_byte.false)))
     c.fault_at.ensures
