@@ -1,7 +1,6 @@
 -- Escapes of a string, by the bytes of a text.
 use Rattle.std.proofs.Common.{◌≡◌, ℕ, ◌+◌, ◌-◌, ◌*◌, ◌<◌, ◌≤◌, Bool, true, false, cond, List, ◌++◌, length, drop, get_or, refl, ap, sym, subst, ◌∙◌, arith, None}
 use Rattle.std.specs.Prelude.{chars, IsUtf8, encode_utf8, ◌==◌}
-use Rattle.std.specs.Char.{IsScalar}
 use Rattle.std.specs.Str.{IsCharBoundary}
 use Rattle.std.proofs.lemmas.Bool.{false_from_ne_true}
 use Rattle.std.proofs.lemmas.Bool.Decides.{nat_tests}
@@ -14,7 +13,7 @@ use Rattle.jzon.proofs.ByteSteps.{Begins, Expects, byte_moves, byte_stops, expec
 
 -- ---- behind a backslash
 
-simple_is_ascii : (c : ℕ) → is_simple c ≡ true → (c < 128) × ((c == 117) ≡ false)
+pub simple_is_ascii : (c : ℕ) → is_simple c ≡ true → (c < 128) × ((c == 117) ≡ false)
 simple_is_ascii c h = (grind (arith, nat_tests), grind (arith, nat_tests))
 
 either : (a t : Bool) (x y z : Move) → a ≡ false → cond a x (cond t y z) ≡ cond t y z
@@ -47,23 +46,13 @@ escape_stops r role xs bs i u at no_u no_simple =
     no_letter role xs c (λ e. no_u (b.within, b.byte (omega (arith, e)) ∙ e))
     (λ e. no_simple (b.within, ap is_simple (b.byte (simple_is_ascii c e).0) ∙ e)))
 
--- ---- behind a surrogate
+-- ---- the second escape of a pair
 
 pub expects_backslash : (r : Reading) (role : Role) (xs : List ℕ) (u : ℕ) → Expects r (string role xs (second u)) 92 (string role xs (second_slash u))
 expects_backslash r role xs u = record { ascii = omega arith; moves = λ c. refl; unfinished = refl }
 
 pub expects_u : (r : Reading) (role : Role) (xs : List ℕ) (u : ℕ) → Expects r (string role xs (second_slash u)) 117 (string role xs (second_code u 3 0))
 expects_u r role xs u = record { ascii = omega arith; moves = λ c. refl; unfinished = refl }
-
--- ---- code units
-
-pub no_surrogate : (u : ℕ) → IsScalar u → is_surrogate u ≡ false
-no_surrogate u h = grind (arith, nat_tests)
-
-pub surrogate : (u : ℕ) → u < 65536 → ¬ (IsScalar u) → is_surrogate u ≡ true
-surrogate u lt h = grind (arith, nat_tests)
-
--- ---- the second escape of a pair
 
 -- a backslash and a `u` begin it
 pub second_begins : (r : Reading) (role : Role) (xs bs : List ℕ) (u i : ℕ) → IsUtf8 bs → IsCharBoundary bs i → (i < length bs) × (get_or bs i 0 ≡ 92)
