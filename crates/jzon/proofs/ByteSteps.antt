@@ -1,5 +1,5 @@
 -- One byte of a text: an ASCII character that is read, or the character at which the text stops.
-use Rattle.std.proofs.Common.{◌≡◌, ℕ, suc, ◌+◌, ◌<◌, Bool, true, false, cond, List, [], ◌∷◌, length, drop, get_or, refl, ap, subst, sym, ◌∙◌, arith, drop-cons, add-one, None, eq-eqb, eqb-true}
+use Rattle.std.proofs.Common.{◌≡◌, ℕ, suc, ◌+◌, ◌<◌, cond, List, [], ◌∷◌, length, drop, get_or, refl, ap, subst, sym, ◌∙◌, arith, drop-cons, add-one, None, eq-eqb, eqb-true}
 use Rattle.std.specs.Prelude.{chars, IsUtf8, encode_utf8, encode_utf8_all, ◌++◌, ◌==◌}
 use Rattle.std.specs.Str.{IsCharBoundary}
 use Rattle.std.proofs.lemmas.Bool.{false_from_ne_true}

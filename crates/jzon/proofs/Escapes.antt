@@ -1,15 +1,15 @@
 -- Escapes of a string, by the bytes of a text.
-use Rattle.std.proofs.Common.{◌≡◌, ℕ, ◌+◌, ◌-◌, ◌*◌, ◌<◌, ◌≤◌, Bool, true, false, cond, List, ◌++◌, length, drop, get_or, refl, ap, sym, subst, ◌∙◌, arith, None}
+use Rattle.std.proofs.Common.{◌≡◌, ℕ, ◌+◌, ◌<◌, Bool, true, false, cond, List, ◌++◌, length, drop, get_or, refl, ap, subst, ◌∙◌, arith, None}
 use Rattle.std.specs.Prelude.{chars, IsUtf8, encode_utf8, ◌==◌}
 use Rattle.std.specs.Str.{IsCharBoundary}
 use Rattle.std.proofs.lemmas.Bool.{false_from_ne_true}
 use Rattle.std.proofs.lemmas.Bool.Decides.{nat_tests}
 use Rattle.std.proofs.lemmas.Str.{IsCharBoundary-after_ascii}
 use Rattle.jzon.specs.Reading.{Reading}
-use Rattle.jzon.specs.Grammar.{is_simple, is_surrogate}
+use Rattle.jzon.specs.Grammar.{is_simple}
 use Rattle.jzon.specs.Meaning.{unescaped}
 use Rattle.jzon.specs.Machine.{Role, Move, string, between, slash, code, second, second_slash, second_code, go, bad, move_slash, outcome_on, from, stopped}
-use Rattle.jzon.proofs.ByteSteps.{Begins, Expects, byte_moves, byte_stops, expected_byte, unexpected_byte}
+use Rattle.jzon.proofs.ByteSteps.{Expects, byte_moves, byte_stops, expected_byte, unexpected_byte}
 
 -- ---- behind a backslash
 

@@ -1,5 +1,5 @@
 -- Four hexadecimal digits of an escape, by the bytes of a text.
-use Rattle.std.proofs.Common.{◌≡◌, ℕ, zero, suc, ◌+◌, ◌-◌, ◌^◌, ◌<◌, ◌≤◌, Bool, true, false, cond, List, [], length, drop, get_or, refl, ap, ◌∙◌, arith, None, ◌&&◌}
+use Rattle.std.proofs.Common.{◌≡◌, ℕ, zero, suc, ◌+◌, ◌-◌, ◌^◌, ◌<◌, ◌≤◌, true, false, cond, List, [], length, drop, get_or, refl, ap, ◌∙◌, arith, None, ◌&&◌}
 use Rattle.std.specs.Prelude.{chars, IsUtf8}
 use Rattle.std.specs.Char.{is_ascii_hexdigit, digit_value}
 use Rattle.std.specs.Str.{IsCharBoundary}
@@ -12,7 +12,7 @@ use Rattle.jzon.specs.Reading.{Reading}
 use Rattle.jzon.specs.Grammar.{is_high, is_low, is_surrogate}
 use Rattle.jzon.specs.Fault as fault
 use Rattle.jzon.specs.Machine.{Role, Place, Move, string, code, second_code, go, bad, move, last, refused, add_hex, coded, paired, move_code, move_second_code, Outcome, outcome_on, from, stopped}
-use Rattle.jzon.proofs.ByteSteps.{Begins, byte_moves, byte_stops}
+use Rattle.jzon.proofs.ByteSteps.{byte_moves, byte_stops}
 
 -- A place that reads hexadecimal digits, by how many are missing behind the next one and the number so far; and the move behind the last digit.
 pub record ReadsHex (r : Reading) (at : ℕ → ℕ → Place) (done : ℕ → Move) : Type 0 where
@@ -28,7 +28,7 @@ code_reads r role xs = record {
   more = λ n u c h. ap (λ t. cond t (move_code role xs (suc n) u c) bad) h;
   last_one = λ u c h. ap (λ t. cond t (move_code role xs zero u c) bad) h;
   stops = λ n u c h. ap (λ t. cond t (move_code role xs n u c) bad) h;
-  unfinished = λ n u. refl
+  unfinished = λ n u. refl;
 }
 
 pub second_code_reads : (r : Reading) (role : Role) (xs : List ℕ) (first : ℕ)
@@ -37,7 +37,7 @@ second_code_reads r role xs first = record {
   more = λ n u c h. ap (λ t. cond t (move_second_code role xs first (suc n) u c) bad) h;
   last_one = λ u c h. ap (λ t. cond t (move_second_code role xs first zero u c) bad) h;
   stops = λ n u c h. ap (λ t. cond t (move_second_code role xs first n u c) bad) h;
-  unfinished = λ n u. refl
+  unfinished = λ n u. refl;
 }
 
 -- what the text comes to from byte i on with so many digits missing; with none, the last one stands before i
@@ -79,7 +79,7 @@ pub hex_begun : (r : Reading) (bs : List ℕ) (start : ℕ) → IsCharBoundary b
 hex_begun r bs start here = record {
   boundary = here;
   small = let e : start - start ≡ 0 = omega arith in rw e (omega arith);
-  same = λ at done h. ap (λ n. hex_left r at done bs n 0 start) (let e : 4 ≡ 4 - (start - start) = omega arith in e)
+  same = λ at done h. ap (λ n. hex_left r at done bs n 0 start) (let e : 4 ≡ 4 - (start - start) = omega arith in e);
 }
 
 pub hex_is_below_16 : (b : ℕ) → is_ascii_hexdigit b ≡ true → digit_value b < 16
@@ -95,7 +95,7 @@ hex_more r bs start i u k text low high lt e = record {
       rw (n, pow_more 16 (i - start)) (omega (arith, k.small, hex_is_below_16 (get_or bs i 0) e));
   same = λ at done h.
       k.same at done h ∙ ap (λ n. hex_left r at done bs n u i) (let n : 4 - (i - start) ≡ suc (4 - (i + 1 - start)) = omega arith in n)
-      ∙ hex_read r at done bs (4 - (i + 1 - start)) u i h text k.boundary lt e
+      ∙ hex_read r at done bs (4 - (i + 1 - start)) u i h text k.boundary lt e;
 }
 
 -- no digit more

@@ -1,10 +1,10 @@
-use Rattle.std.proofs.Common.{◌≡◌, ◌+◌, ◌++◌, ◌∙◌, ap, sym, subst, arith, inr}
+use Rattle.std.proofs.Common.{◌≡◌, ◌++◌, ◌∙◌, ap, sym, subst, arith, inr}
 use Rattle.std.specs.Prelude.{chars, encode_utf8, slice_range}
 use Rattle.std.specs.String.{string_bytes}
 use Rattle.std.proofs.lemmas.Result.{err_from_is_err_and, MatchResult-weaker}
 use Rattle.std.proofs.lemmas.Str.{IsCharBoundary-after_ascii}
 use Rattle.jzon.specs.Reading.{usual}
-use Rattle.jzon.specs.Machine.{Role, string, between, slash, from, Tells}
+use Rattle.jzon.specs.Machine.{string, between, from, Tells}
 use Rattle.jzon.proofs.Quotes.{backslash_begins}
 use Rattle.jzon.proofs.string.read_escapes.Goals as goal
 
@@ -39,7 +39,7 @@ loop-start-preserved c =
           c.loop-start.invariant.same role
           ∙ backslash_begins usual role read text c.loop-start.index c.utf8.source c.loop-start.invariant.boundary here.0 here.1
           ∙ c.in_ok-ch.ensures.same role read ∙ c.plain_end-index.ensures.same role (read ++ encode_utf8 c.in_ok-ch.ch)
-          ∙ ap (λ z. from usual text (string role z between) c.plain_end-index.result) (sym bytes)
+          ∙ ap (λ z. from usual text (string role z between) c.plain_end-index.result) (sym bytes);
     }
 
 pub returns-clause-same : goal.returns-clause-same

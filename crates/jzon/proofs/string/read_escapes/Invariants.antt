@@ -13,7 +13,7 @@ invariant-loop-start l = record {
   stop : l.index < length l.source → is_plain (slice_index l.source l.index) ≡ false;
   same :
       (role : Role) → from usual l.source (string role (string_bytes l.initial.buffer) between) l.start
-      ≡ from usual l.source (string role (string_bytes l.buffer) between) l.index
+      ≡ from usual l.source (string role (string_bytes l.buffer) between) l.index;
 }
 
 abbrev pub decreases-loop-start : goal.decreases-loop-start
