@@ -1,12 +1,12 @@
 -- Runs of bytes that stand in a string as they are, and what they do to what is left of a text.
 use Rattle.std.proofs.Common.{◌≡◌, ℕ, ◌+◌, ◌<◌, ◌≤◌, Bool, true, false, cond, List, [], ◌∷◌, ◌++◌, length, take, drop, get_or, refl, sym, ap, subst, ◌∙◌, inl, inr, arith, append_assoc, append-nil, take-append-drop, length-append, None}
-use Rattle.std.specs.Prelude.{chars, IsUtf8, encode_utf8, encode_utf8_all, slice_range, not, ◌&&◌, ◌||◌, ◌==◌, nat_le}
+use Rattle.std.specs.Prelude.{chars, IsUtf8, encode_utf8, encode_utf8_all, slice_range, Contains, not, ◌&&◌, ◌||◌, ◌==◌, nat_le}
 use lib.Utf8.{scalar, scalars}
 use Rattle.std.specs.Str.{IsCharBoundary}
 use Rattle.std.specs.List.{prefix_len}
 use Rattle.std.proofs.lemmas.Bool.{cases_lt}
 use Rattle.std.proofs.lemmas.Bool.Decides.{nat_tests}
-use Rattle.std.proofs.lemmas.List.{drop-drop, length-take-le, get_or-append-add, get_or-take}
+use Rattle.std.proofs.lemmas.List.{drop-drop, length-take-le, get_or-append-add, get_or-take, get_or_default}
 use Rattle.std.proofs.lemmas.List.Sums.{prefix_len-le-length, prefix_len_passes}
 use Rattle.std.proofs.lemmas.Str.{chars-append, encode_ascii, encodes-chars, scalars-chars, IsUtf8-between}
 use Rattle.jzon_base.specs.PlainBytes.{is_plain as is_plain_byte}
@@ -97,3 +97,12 @@ plain_run r role xs bs i n u at e =
     ∙ ap (λ z. outcome r z (string role xs between)) (chars-append run (drop (i + n) bs) text)
     ∙ read_plain r role xs (chars run) (chars (drop (i + n) bs)) (scalars-chars run text) plain
     ∙ ap (λ z. outcome r (chars (drop (i + n) bs)) (string role (xs ++ z) between)) (encodes-chars run text)
+
+-- no backslash stands in the run
+pub plain_no_escape : (bs : List ℕ) (i n : ℕ) → n ≡ prefix_len is_plain_byte (drop i bs) → Contains (slice_range bs i (i + n)) 92 → ⊥
+plain_no_escape bs i n e (k, lt, found) =
+    let same : slice_range bs i (i + n) ≡ take n (drop i bs) = ap (λ m. take m (drop i bs)) (omega arith) in
+    let plain : is_plain_byte (get_or (slice_range bs i (i + n)) k 0) ≡ true = subst ArePlain (sym same) (run_is_plain bs i n e) k lt in
+    let slash : get_or (slice_range bs i (i + n)) k 0 ≡ 92 = get_or_default (slice_range bs i (i + n)) k 0 92 lt ∙ found in
+    let no : is_plain_byte 92 ≡ true = subst (λ b. is_plain_byte b ≡ true) slash plain in
+    absurd (cc)

@@ -5,5 +5,6 @@ pub mod Meaning
 pub mod Fault
 pub mod Laws
 pub mod Classes
+pub mod Quote
 pub mod Machine
 pub mod Answer

@@ -1,6 +1,6 @@
 //! Reads strings.
 
-ghost use Rattle.std.specs.Prelude.{◌≡◌, ◌==◌, ◌<◌, ◌≤◌, ◌+◌, ◌-◌, ◌++◌, ◌&&◌, ◌⊎◌, ℕ, List, [], length, drop, chars, IsTrue, IfOk, SomeIff, MatchResult, OnOk, slice_index, slice_range, string_bytes, encode_utf8, if◌then◌else◌, false};
+ghost use Rattle.std.specs.Prelude.{◌≡◌, ◌==◌, ◌<◌, ◌≤◌, ◌+◌, ◌-◌, ◌++◌, ◌&&◌, ◌⊎◌, ◌↔◌, Contains, ℕ, List, [], length, drop, chars, IsTrue, IfOk, SomeIff, MatchResult, OnOk, slice_index, slice_range, string_bytes, encode_utf8, if◌then◌else◌, false};
 ghost use Rattle.std.specs.Char.{is_ascii_hexdigit, digit_value};
 ghost use Rattle.std.specs.Str.{IsCharBoundary};
 ghost use Rattle.jzon_base.specs.declared.error.Error.TheVariants.{OutOfMemory};
@@ -8,6 +8,7 @@ ghost use Rattle.jzon_base.specs.PlainBytes.{is_plain};
 ghost use Rattle.jzon.specs.Reading.{usual};
 ghost use Rattle.jzon.specs.Grammar.{is_simple, is_high, is_low, is_surrogate};
 ghost use Rattle.jzon.specs.Meaning.{unescaped, pair_char};
+ghost use Rattle.jzon.specs.Quote.{EndsAtQuote};
 ghost use Rattle.jzon.specs.Machine.{Role, string, between, slash, code, second, second_code, closed_string, coded, paired, outcome_on, from, Tells};
 
 use crate::place::{fault_at, has_byte};
@@ -27,7 +28,8 @@ pub(crate) struct Spelled {
 /// in the buffer has no meaning.
 pub(crate) fn read_string(source: &str, start: usize, buffer: &mut String) -> Result<Spelled>
     requires { IsCharBoundary source.now start }
-    ensures bounds { IfOk result (λ s. (start < s.end) × IsCharBoundary source.now (s.end - 1) × IsCharBoundary source.now s.end) }
+    ensures quote { IfOk result (λ s. EndsAtQuote source.now start s.end) }
+    ensures escaped { IfOk result (λ s. IsTrue s.is_escaped ↔ Contains (slice_range source.now start (s.end - 1)) 92) }
     ensures untouched { IfOk result (λ s. s.is_escaped ≡ false → string_bytes buffer.new ≡ string_bytes buffer.old) }
     ensures same { (role : Role) → MatchResult result
         (λ s. from usual source.now (string role [] between) start
@@ -57,6 +59,7 @@ fn plain_end(source: &str, start: usize) -> usize
     ensures within { start ≤ result }
     ensures boundary { IsCharBoundary source.now result }
     ensures stop { result < length source.now → is_plain (slice_index source.now result) ≡ false }
+    ensures no_escape { ¬ (Contains (slice_range source.now start result) 92) }
     ensures same { (role : Role) (bs : List ℕ) → from usual source.now (string role bs between) start
         ≡ from usual source.now (string role (bs ++ slice_range source.now start result) between) result }
 {
@@ -68,7 +71,7 @@ fn past_quote(source: &str, index: usize) -> Result<usize>
     requires boundary { IsCharBoundary source.now index }
     requires stop { index < length source.now → is_plain (slice_index source.now index) ≡ false }
     requires no_escape { index < length source.now → slice_index source.now index ≡ 92 → ⊥ }
-    ensures bounds { IfOk result (λ end. (end ≡ index + 1) × IsCharBoundary source.now end) }
+    ensures quote { IfOk result (λ end. (end ≡ index + 1) × EndsAtQuote source.now index end) }
     ensures same { (role : Role) (bs : List ℕ) → MatchResult result
         (λ end. from usual source.now (string role bs between) index ≡ from usual source.now (closed_string role bs) end)
         (λ e. Tells (chars source.now) e (from usual source.now (string role bs between) index)) }
@@ -84,7 +87,7 @@ fn past_quote(source: &str, index: usize) -> Result<usize>
 fn read_escapes(source: &str, start: usize, buffer: &mut String) -> Result<usize>
     requires boundary { IsCharBoundary source.now start }
     requires stop { start < length source.now → is_plain (slice_index source.now start) ≡ false }
-    ensures bounds { IfOk result (λ end. (start < end) × IsCharBoundary source.now (end - 1) × IsCharBoundary source.now end) }
+    ensures quote { IfOk result (λ end. EndsAtQuote source.now start end) }
     ensures same { (role : Role) → MatchResult result
         (λ end. from usual source.now (string role (string_bytes buffer.old) between) start
         ≡ from usual source.now (closed_string role (string_bytes buffer.new)) end)

@@ -1,16 +1,15 @@
-use Rattle.std.proofs.Common.{refl, sym, subst, arith}
+use Rattle.std.proofs.Common.{refl, sym, subst}
 use Rattle.std.specs.Prelude.{chars}
 use Rattle.std.proofs.lemmas.Bool.{iff_false}
-use Rattle.std.proofs.lemmas.Str.{IsCharBoundary-after_ascii}
 use Rattle.jzon.specs.Reading.{usual}
 use Rattle.jzon.specs.Machine.{Tells}
-use Rattle.jzon.proofs.Quotes.{quote_closes, string_stops}
+use Rattle.jzon.proofs.Quotes.{quote_closes, quote_ends, string_stops}
 use Rattle.jzon.proofs.string.past_quote.Goals as goal
 
-pub returns-then-has_byte-clause-bounds : goal.returns-then-has_byte-clause-bounds
-returns-then-has_byte-clause-bounds c =
+pub returns-then-has_byte-clause-quote : goal.returns-then-has_byte-clause-quote
+returns-then-has_byte-clause-quote c =
     let here = c.has_byte.ensures.0 c.if-has_byte.true in
-    (refl, IsCharBoundary-after_ascii c.args.source.now c.args.index c.utf8.source here.0 (omega (arith, here.1)))
+    (refl, quote_ends c.args.source.now c.args.index c.utf8.source c.requires.boundary here)
 
 pub returns-then-has_byte-clause-same : goal.returns-then-has_byte-clause-same
 returns-then-has_byte-clause-same c role bs =

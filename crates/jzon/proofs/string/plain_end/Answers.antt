@@ -4,7 +4,7 @@ use Rattle.std.specs.List.{prefix_len}
 use Rattle.jzon_base.specs.PlainBytes.{is_plain}
 use Rattle.jzon.specs.Reading.{usual}
 use Rattle.jzon.proofs.Scanning.{stops_run, within_run}
-use Rattle.jzon.proofs.PlainRuns.{plain_boundary, plain_run}
+use Rattle.jzon.proofs.PlainRuns.{plain_boundary, plain_no_escape, plain_run}
 use Rattle.jzon.proofs.string.plain_end.Goals as goal
 
 run : (c : goal.After-plain_len) → c.plain_len.result ≡ prefix_len is_plain (drop c.args.start c.args.source.now)
@@ -24,6 +24,9 @@ returns-clause-boundary c = plain_boundary c.args.source.now c.args.start c.plai
 
 pub returns-clause-stop : goal.returns-clause-stop
 returns-clause-stop c lt = stops_run is_plain c.args.source.now c.args.start c.plain_len.result (run c) lt
+
+pub returns-clause-no_escape : goal.returns-clause-no_escape
+returns-clause-no_escape c = plain_no_escape c.args.source.now c.args.start c.plain_len.result (run c)
 
 pub returns-clause-same : goal.returns-clause-same
 returns-clause-same c role bs =
