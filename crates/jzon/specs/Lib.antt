@@ -1,0 +1,9 @@
+pub mod Reading
+pub mod Grammar
+pub mod Spelling
+pub mod Meaning
+pub mod Fault
+pub mod Laws
+pub mod Classes
+pub mod Machine
+pub mod Answer

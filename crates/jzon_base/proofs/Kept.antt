@@ -69,7 +69,7 @@ kept_len_is_longest ds = let k = longest_up_to_is ds (length ds) in record { wit
 
 -- ---- a front that one digit more makes too large is the longest
 
-kept_len-at : (ds : List ℕ) (k : ℕ) → k ≤ length ds → digits_number (take k ds) < 2 ^ 64 → (k < length ds → 2 ^ 64 ≤ digits_number (take (k + 1) ds)) → kept_len ds ≡ k
+pub kept_len-at : (ds : List ℕ) (k : ℕ) → k ≤ length ds → digits_number (take k ds) < 2 ^ 64 → (k < length ds → 2 ^ 64 ≤ digits_number (take (k + 1) ds)) → kept_len ds ≡ k
 kept_len-at ds k within fits next =
     let kept = kept_len_is_longest ds in
     let at_least : k ≤ kept_len ds =

@@ -1,7 +1,7 @@
 -- The words of each error (docs/RULES.md, "Errors").
 use Rattle.std.specs.Prelude.{◌≡◌, ℕ, List, ◌++◌, codes, decimal, encode_utf8, string_bytes}
 use Rattle.jzon_base.specs.declared.error.Error.{Error}
-use Rattle.jzon_base.specs.declared.error.Error.TheVariants.{UnexpectedCharacter, UnexpectedEndOfJson, ExceededDepthLimit, FailedUtf8Parsing, WrongType, OutOfMemory}
+use Rattle.jzon_base.specs.declared.error.Error.TheVariants.{UnexpectedCharacter, UnexpectedEndOfJson, ExceededDepthLimit, FailedUtf8Parsing, WrongType, OutOfMemory, DuplicateKey}
 
 -- a line and a column, both counted from 1
 abbrev pub place_text : ℕ → ℕ → List ℕ
@@ -15,6 +15,7 @@ error_text ExceededDepthLimit = codes "Exceeded depth limit"
 error_text FailedUtf8Parsing = codes "Failed to parse UTF-8 bytes"
 error_text (WrongType expected) = codes "Wrong type, expected: " ++ string_bytes expected
 error_text OutOfMemory = codes "Out of memory"
+error_text (DuplicateKey line column) = codes "Duplicate key at " ++ place_text line column
 
 -- the error names the kind that these bytes spell
 abbrev pub IsWrongType : List ℕ → Error → Type 0

@@ -153,3 +153,6 @@ fn clamped(sum: i32) -> i16
 pub fn keeps_longest_front()
     ensures { KeepsLongestFront }
 {}
+
+#[cfg(test)]
+mod tests;

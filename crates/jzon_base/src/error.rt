@@ -25,6 +25,8 @@ pub enum Error {
     WrongType(String),
     /// Memory was refused.
     OutOfMemory,
+    /// An object of a text has a key twice, which a strict reading refuses: the place of the second one's opening quote.
+    DuplicateKey { line: usize, column: usize },
 }
 
 /// The result of a call that is refused by an `Error`.
@@ -59,6 +61,9 @@ impl fmt::Display for Error {
             Error::FailedUtf8Parsing => f.write_str("Failed to parse UTF-8 bytes"),
             Error::WrongType(expected) => write!(f, "Wrong type, expected: {expected}"),
             Error::OutOfMemory => f.write_str("Out of memory"),
+            Error::DuplicateKey { line, column } => {
+                write!(f, "Duplicate key at ({line}:{column})")
+            }
         }
     }
 }
@@ -84,5 +89,45 @@ impl<T: Drop> From<AllocFailed<T>> for Error {
 
     fn from(_refused: AllocFailed<T>) -> Error {
         Error::OutOfMemory
+    }
+}
+
+#[cfg(test)]
+mod tests {
+    use super::*;
+    use std::test::Fail;
+
+    #[test]
+    fn words(rt: HostRuntime) -> std::result::Result<(), Fail> {
+        let rows = [
+            (
+                Error::UnexpectedCharacter {
+                    ch: 'X',
+                    line: 3,
+                    column: 4,
+                },
+                "Unexpected character: X at (3:4)",
+            ),
+            (
+                Error::UnexpectedCharacter {
+                    ch: '\u{1F984}',
+                    line: 18446744073709551615,
+                    column: 10,
+                },
+                "Unexpected character: \u{1F984} at (18446744073709551615:10)",
+            ),
+            (Error::UnexpectedEndOfJson, "Unexpected end of JSON"),
+            (Error::ExceededDepthLimit, "Exceeded depth limit"),
+            (Error::FailedUtf8Parsing, "Failed to parse UTF-8 bytes"),
+            (Error::OutOfMemory, "Out of memory"),
+            (
+                Error::wrong_type(rt.alloc(), "Array")?,
+                "Wrong type, expected: Array",
+            ),
+        ];
+        for (error, words) in rows {
+            assert_eq!(rt; format!(in rt.alloc(); "{error}")?.as_str(), words);
+        }
+        Ok(())
     }
 }

@@ -1,0 +1,16 @@
+pub mod TreeMachine
+pub mod Completion
+pub mod Columns
+pub mod FaultPlaces
+pub mod Classes
+pub mod Behind
+pub mod Ends
+pub mod NumeralsForward
+pub mod NumeralsBackward
+pub mod Numerals
+pub mod StringsForward
+pub mod StringsBackward
+pub mod StringsEnds
+pub mod Containers
+pub mod Forward
+pub mod Backward

@@ -1,0 +1,87 @@
+-- From which fronts a text can go on, where a text has a fault, and the one error of a text (docs/RULES.md, "Errors").
+use Rattle.std.specs.Prelude.{◌≡◌, ℕ, suc, ◌+◌, ◌-◌, ◌<◌, ◌≤◌, List, ◌++◌, length, take, not, ◌==◌, count_by, slice_index}
+use Rattle.std.specs.List.{suffix_len}
+use Rattle.jzon_base.specs.declared.error.Error.{Error}
+use Rattle.jzon_base.specs.declared.error.Error.TheVariants.{UnexpectedCharacter, UnexpectedEndOfJson, ExceededDepthLimit, FailedUtf8Parsing, DuplicateKey}
+use Rattle.jzon.specs.Reading.{Reading}
+use Rattle.jzon.specs.Grammar.{Document, IsDocument}
+use Rattle.jzon.specs.Spelling.{Breach, deep, pair, digit, duplicate, spell, BreachAt, HasNoBreach}
+
+-- ---- completion
+
+-- the tree spells the text
+abbrev pub Spells : Reading → List ℕ → Document → Type 0
+Spells r t d = IsDocument r d × (spell r d ≡ t)
+
+-- the tree's text begins with the front
+abbrev pub Completes : Reading → List ℕ → Document → Type 0
+Completes r front d = IsDocument r d × (rest : List ℕ) × (spell r d ≡ front ++ rest)
+
+abbrev pub HasCompletion : Reading → List ℕ → Type 0
+HasCompletion r front = (d : Document) × Completes r front d
+
+-- each tree whose text begins with the front breaks this limit at place i
+abbrev pub AllBreakAt : Reading → List ℕ → Breach → ℕ → Type 0
+AllBreakAt r front b i = (d : Document) → Completes r front d → BreachAt r b d i
+
+-- the tree spells the text, and breaks no limit
+abbrev pub Parses : Reading → List ℕ → Document → Type 0
+Parses r t d = Spells r t d × HasNoBreach r d
+
+-- ---- faults
+
+pub data Fault : Type 0 where
+  -- a limit is broken
+  limit : Breach → Fault
+  -- no text of the grammar goes on with this character
+  character : Fault
+  -- the text ends too early
+  end : Fault
+
+-- Some text goes on from the characters before with a container too many, and each text that goes on with this character too has one; there may be none.
+abbrev pub IsDepthFault : Reading → List ℕ → ℕ → Type 0
+IsDepthFault r t i =
+    (i < length t)
+    × ((d : Document) × Completes r (take i t) d × BreachAt r deep d i)
+    × AllBreakAt r (take (suc i) t) deep i
+
+-- the fault stands at place i of the text
+abbrev pub IsFault : Reading → List ℕ → ℕ → Fault → Type 0
+IsFault r t i (limit deep) = IsDepthFault r t i
+IsFault r t i (limit b) = (i < length t) × HasCompletion r (take (suc i) t) × AllBreakAt r (take (suc i) t) b i
+IsFault r t i character =
+    (i < length t)
+    × HasCompletion r (take i t)
+    × (HasCompletion r (take (suc i) t) → ⊥)
+    × (IsDepthFault r t i → ⊥)
+IsFault r t i Fault.end =
+    (i ≡ length t)
+    × HasCompletion r t
+    × ((d : Document) → Spells r t d → ⊥)
+
+-- the fault stands at i, and none stands before it
+abbrev pub IsFirstFault : Reading → List ℕ → ℕ → Fault → Type 0
+IsFirstFault r t i f = IsFault r t i f × ((j : ℕ) (g : Fault) → IsFault r t j g → i ≤ j)
+
+-- ---- errors
+
+-- the line of the character after a front: 1 and the newlines of the front
+abbrev pub line : List ℕ → ℕ
+line front = count_by (λ c. c == 10) front + 1
+
+-- its column: 1 and the characters of the front after the last newline
+abbrev pub column : List ℕ → ℕ
+column front = suffix_len (λ c. not (c == 10)) front + 1
+
+-- the error that tells a fault at place i of a text
+abbrev pub error_at : List ℕ → ℕ → Fault → Error
+error_at t i (limit deep) = ExceededDepthLimit
+error_at t i (limit pair) = FailedUtf8Parsing
+error_at t i (limit digit) = ExceededDepthLimit
+error_at t i (limit (duplicate back)) = DuplicateKey (line (take (i - back) t)) (column (take (i - back) t))
+error_at t i character = UnexpectedCharacter (slice_index t i) (line (take i t)) (column (take i t))
+error_at t i Fault.end = UnexpectedEndOfJson
+
+-- the error of the first fault of a text
+abbrev pub IsErrorOf : Reading → List ℕ → Error → Type 0
+IsErrorOf r t e = (i : ℕ) × (f : Fault) × IsFirstFault r t i f × (e ≡ error_at t i f)

@@ -1,0 +1,185 @@
+-- The grammar of RFC 8259 as trees: a tree has each part of a text, the blanks too. A text is a list of characters.
+use Rattle.std.specs.Prelude.{◌≡◌, ℕ, zero, suc, ◌+◌, ◌*◌, List, [], ◌∷◌, Bool, false, not, ◌&&◌, ◌||◌, ◌==◌, nat_le, nat_lt, Option, Some, None, codes, IsTrue, ⊤}
+use Rattle.std.specs.Char.{is_ascii_digit, is_ascii_hexdigit, digit_value}
+use Rattle.std.specs.List.{list_any, fold}
+use lib.Utf8.{scalar}
+use Rattle.jzon_tree.specs.Writing.{is_space}
+use Rattle.jzon.specs.Reading.{Reading}
+
+-- ---- trees
+
+pub data Sign : Type 0 where
+  unsigned : Sign
+  plus : Sign
+  minus : Sign
+
+-- `e` or `E`, a sign and digits (section 6)
+pub record Exponent : Type 0 where
+  pub letter : ℕ
+  pub sign : Sign
+  pub digits : List ℕ
+
+-- A number (section 6). Digits are characters; there is a point where `fraction` isn't empty.
+pub record Numeral : Type 0 where
+  pub negative : Bool
+  pub whole : List ℕ
+  pub fraction : List ℕ
+  pub exponent : Option Exponent
+
+-- A part of a string (section 7): a character that stands for itself; a backslash and a letter; a `\u` escape with its four digits; two `\u` escapes, of
+-- which the first names a surrogate.
+pub data Item : Type 0 where
+  plain : ℕ → Item
+  simple : ℕ → Item
+  single : List ℕ → Item
+  double : List ℕ → List ℕ → Item
+
+-- a key with the blanks round it (section 4)
+pub record Key : Type 0 where
+  pub before : List ℕ
+  pub items : List Item
+  pub after : List ℕ
+
+-- Values (section 3), arrays (section 5) and objects (section 4). Each `List ℕ` is a blank: inside an empty container, before and after a value.
+mutual
+  pub data Node : Type 0 where
+    null : Node
+    boolean : Bool → Node
+    number : Numeral → Node
+    string : List Item → Node
+    empty_array : List ℕ → Node
+    empty_object : List ℕ → Node
+    -- a first value and the elements after it
+    array : List ℕ → Node → List ℕ → Elements → Node
+    -- a first key and its value, and the members after it
+    object : Key → List ℕ → Node → List ℕ → Members → Node
+
+  -- what follows a value of an array: its closing bracket, or a comma and one element more
+  pub data Elements : Type 0 where
+    no_elements : Elements
+    element : List ℕ → Node → List ℕ → Elements → Elements
+
+  pub data Members : Type 0 where
+    no_members : Members
+    member : Key → List ℕ → Node → List ℕ → Members → Members
+
+-- a text (section 2)
+pub record Document : Type 0 where
+  pub before : List ℕ
+  pub node : Node
+  pub after : List ℕ
+
+-- ---- which trees are in the grammar
+
+-- the test passes at each character
+abbrev pub Each : (ℕ → Bool) → List ℕ → Type 0
+Each test [] = ⊤
+Each test (c ∷ cs) = IsTrue (test c) × Each test cs
+
+abbrev pub IsBlank : Reading → List ℕ → Type 0
+IsBlank r = Each (is_space r.strict)
+
+abbrev pub AreDigits : List ℕ → Type 0
+AreDigits = Each is_ascii_digit
+
+-- one digit or more
+abbrev pub IsDigits : List ℕ → Type 0
+IsDigits [] = ⊥
+IsDigits (d ∷ ds) = IsTrue (is_ascii_digit d) × AreDigits ds
+
+-- `0`, or digits that begin with 1 to 9
+abbrev pub IsWhole : List ℕ → Type 0
+IsWhole [] = ⊥
+IsWhole (d ∷ []) = IsTrue (is_ascii_digit d)
+IsWhole (d ∷ e ∷ ds) = IsTrue (is_ascii_digit d && not (d == 48)) × AreDigits (e ∷ ds)
+
+abbrev pub is_exponent_letter : ℕ → Bool
+is_exponent_letter c = c == 101 || c == 69
+
+abbrev pub IsExponent : Option Exponent → Type 0
+IsExponent None = ⊤
+IsExponent (Some e) = IsTrue (is_exponent_letter e.letter) × IsDigits e.digits
+
+abbrev pub IsNumeral : Numeral → Type 0
+IsNumeral n = IsWhole n.whole × AreDigits n.fraction × IsExponent n.exponent
+
+-- so many hexadecimal digits, of either case
+abbrev pub AreHex : ℕ → List ℕ → Type 0
+AreHex zero [] = ⊤
+AreHex zero (c ∷ cs) = ⊥
+AreHex (suc n) [] = ⊥
+AreHex (suc n) (c ∷ cs) = IsTrue (is_ascii_hexdigit c) × AreHex n cs
+
+-- the number that hexadecimal digits spell
+unfoldable pub code_unit : List ℕ → ℕ
+code_unit cs = fold (λ n c. n * 16 + digit_value c) 0 cs
+
+-- the surrogates of UTF-16: the high ones begin a pair and the low ones end it
+abbrev pub is_high : ℕ → Bool
+is_high u = nat_le 0xD800 u && nat_lt u 0xDC00
+
+abbrev pub is_low : ℕ → Bool
+is_low u = nat_le 0xDC00 u && nat_lt u 0xE000
+
+abbrev pub is_surrogate : ℕ → Bool
+is_surrogate u = nat_le 0xD800 u && nat_lt u 0xE000
+
+-- the characters that stand for themselves: from U+0020 on, and neither a quote nor a backslash
+abbrev pub is_plain : ℕ → Bool
+is_plain c = (scalar c && nat_le 32 c) && not (c == 34 || c == 92)
+
+-- the letters of the simple escapes
+abbrev pub is_simple : ℕ → Bool
+is_simple c = list_any (λ l. l == c) (codes "\"\\/bfnrt")
+
+abbrev pub IsItem : Item → Type 0
+IsItem (plain c) = IsTrue (is_plain c)
+IsItem (simple c) = IsTrue (is_simple c)
+IsItem (single u) = AreHex 4 u × (is_surrogate (code_unit u) ≡ false)
+IsItem (double u v) = AreHex 4 u × IsTrue (is_surrogate (code_unit u)) × AreHex 4 v
+
+abbrev pub AreItems : List Item → Type 0
+AreItems [] = ⊤
+AreItems (i ∷ is) = IsItem i × AreItems is
+
+abbrev pub IsKey : Reading → Key → Type 0
+IsKey r k = IsBlank r k.before × AreItems k.items × IsBlank r k.after
+
+-- Which kinds of value are read so far: the literals and the numbers.
+unfoldable pub reads_strings : Bool
+reads_strings = false
+
+unfoldable pub reads_containers : Bool
+reads_containers = false
+
+abbrev pub IsReadSoFar : Node → Type 0
+IsReadSoFar Node.null = ⊤
+IsReadSoFar (Node.boolean b) = ⊤
+IsReadSoFar (Node.number n) = ⊤
+IsReadSoFar (Node.string is) = IsTrue reads_strings
+IsReadSoFar (Node.empty_array b) = IsTrue reads_containers
+IsReadSoFar (Node.empty_object b) = IsTrue reads_containers
+IsReadSoFar (Node.array b n c es) = IsTrue reads_containers
+IsReadSoFar (Node.object k b n c ms) = IsTrue reads_containers
+
+abbrev mutual
+  pub IsNode : Reading → Node → Type 0
+  IsNode r Node.null = ⊤
+  IsNode r (Node.boolean b) = ⊤
+  IsNode r (Node.number n) = IsNumeral n
+  IsNode r (Node.string is) = IsReadSoFar (Node.string is) × AreItems is
+  IsNode r (Node.empty_array b) = IsReadSoFar (Node.empty_array b) × IsBlank r b
+  IsNode r (Node.empty_object b) = IsReadSoFar (Node.empty_object b) × IsBlank r b
+  IsNode r (Node.array b n c es) = IsReadSoFar (Node.array b n c es) × IsBlank r b × IsNode r n × IsBlank r c × AreElements r es
+  IsNode r (Node.object k b n c ms) = IsReadSoFar (Node.object k b n c ms) × IsKey r k × IsBlank r b × IsNode r n × IsBlank r c × AreMembers r ms
+
+  pub AreElements : Reading → Elements → Type 0
+  AreElements r no_elements = ⊤
+  AreElements r (element b n c es) = IsBlank r b × IsNode r n × IsBlank r c × AreElements r es
+
+  pub AreMembers : Reading → Members → Type 0
+  AreMembers r no_members = ⊤
+  AreMembers r (member k b n c ms) = IsKey r k × IsBlank r b × IsNode r n × IsBlank r c × AreMembers r ms
+
+abbrev pub IsDocument : Reading → Document → Type 0
+IsDocument r d = IsBlank r d.before × IsNode r d.node × IsBlank r d.after

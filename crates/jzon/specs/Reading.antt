@@ -1,0 +1,11 @@
+-- How texts are read (docs/RULES.md, "Readings").
+use Rattle.std.specs.Prelude.{ℕ, Bool, false}
+
+-- strict: the whitespace of RFC 8259 alone, and no repeated key; depth: how many non-empty containers may be open
+pub record Reading : Type 0 where
+  pub strict : Bool
+  pub depth : ℕ
+
+-- the reading of `parse`
+abbrev pub usual : Reading
+usual = record { strict = false; depth = 512 }

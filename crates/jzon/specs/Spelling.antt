@@ -1,0 +1,163 @@
+-- The text of a tree, and where it breaks a limit.
+use Rattle.std.specs.Prelude.{◌≡◌, ℕ, suc, ◌+◌, List, [], ◌∷◌, length, map, Bool, true, false, not, ◌&&◌, ◌==◌, nat_le, if◌then◌else◌, Option, Some, None, codes, slice_get}
+use Rattle.jzon_base.specs.Digits.{dropped, kept_fraction}
+use Rattle.jzon_tree.specs.Same.{is_known}
+use Rattle.jzon.specs.Reading.{Reading}
+use Rattle.jzon.specs.Grammar.{Sign, unsigned, plus, minus, Exponent, Numeral, Item, simple, single, double, Key, Node, Elements, no_elements, element, Members, no_members, member, Document}
+use Rattle.jzon.specs.Grammar as grammar
+use Rattle.jzon.specs.Meaning.{is_pair, bytes_of}
+
+-- the limits that a tree can break
+pub data Breach : Type 0 where
+  -- a container too many is open
+  deep : Breach
+  -- two surrogates that are no high one and then a low one
+  pair : Breach
+  -- a digit too many
+  digit : Breach
+  -- a repeated key, and how many characters its closing quote is behind its opening quote
+  duplicate : ℕ → Breach
+
+-- A character of a text, and the breach that stands at it. There is at most one: a depth breach stands at the first character of a value or of a key, a
+-- digit breach never at the first digit of a number, a pair breach at the last digit of an escape, a duplicate breach at a closing quote.
+pub record Cell : Type 0 where
+  pub char : ℕ
+  pub mark : Option Breach
+
+abbrev pub cell : ℕ → Option Breach → Cell
+cell c m = record { char = c; mark = m }
+
+abbrev pub breach_if : Bool → Breach → Option Breach
+breach_if t b = if t then Some b else None
+
+-- The text of each part goes before `k`, which is what follows it.
+
+-- characters at which no breach stands
+abbrev pub plain : List ℕ → List Cell → List Cell
+plain [] k = k
+plain (c ∷ cs) k = cell c None ∷ plain cs k
+
+-- the same, with a mark at the last one
+abbrev pub marked_last : List ℕ → Option Breach → List Cell → List Cell
+marked_last [] m k = k
+marked_last (c ∷ []) m k = cell c m ∷ k
+marked_last (c ∷ d ∷ cs) m k = cell c None ∷ marked_last (d ∷ cs) m k
+
+-- the first list from its end to its beginning, and then the second
+abbrev pub onto : List ℕ → List ℕ → List ℕ
+onto [] cs = cs
+onto (b ∷ bs) cs = onto bs (b ∷ cs)
+
+-- ---- numbers
+
+-- the last of these whole digits is the 32768th that is dropped
+unfoldable pub drops_too_many : List ℕ → Bool
+drops_too_many whole = dropped whole [] == 32768
+
+-- the last of these fraction digits is the 32769th that is kept
+unfoldable pub keeps_too_many : List ℕ → List ℕ → Bool
+keeps_too_many whole fraction = length fraction == 32769 && kept_fraction whole fraction == 32769
+
+-- digits after others (`front`, the last one first), each with a breach where the digits up to it are too many
+abbrev pub digits_cells : (List ℕ → Bool) → List ℕ → List ℕ → List Cell → List Cell
+digits_cells too_many front [] k = k
+digits_cells too_many front (d ∷ ds) k =
+    cell d (breach_if (too_many (onto (d ∷ front) [])) digit) ∷ digits_cells too_many (d ∷ front) ds k
+
+-- with the mark at the first digit
+abbrev pub whole_cells : List ℕ → Option Breach → List Cell → List Cell
+whole_cells [] m k = k
+whole_cells (d ∷ ds) m k = cell d m ∷ digits_cells drops_too_many (d ∷ []) ds k
+
+abbrev pub fraction_cells : List ℕ → List ℕ → List Cell → List Cell
+fraction_cells whole [] k = k
+fraction_cells whole (d ∷ ds) k = cell 46 None ∷ digits_cells (keeps_too_many whole) [] (d ∷ ds) k
+
+abbrev pub sign_cells : Sign → List Cell → List Cell
+sign_cells unsigned k = k
+sign_cells plus k = cell 43 None ∷ k
+sign_cells minus k = cell 45 None ∷ k
+
+abbrev pub exponent_cells : Option Exponent → List Cell → List Cell
+exponent_cells None k = k
+exponent_cells (Some e) k = cell e.letter None ∷ sign_cells e.sign (plain e.digits k)
+
+abbrev pub magnitude_cells : Numeral → Option Breach → List Cell → List Cell
+magnitude_cells n m k = whole_cells n.whole m (fraction_cells n.whole n.fraction (exponent_cells n.exponent k))
+
+abbrev pub numeral_cells : Numeral → Option Breach → List Cell → List Cell
+numeral_cells n m k = if n.negative then cell 45 m ∷ magnitude_cells n None k else magnitude_cells n m k
+
+-- ---- strings
+
+abbrev pub escape_cells : List Cell → List Cell
+escape_cells k = cell 92 None ∷ cell 117 None ∷ k
+
+abbrev pub item_cells : Item → List Cell → List Cell
+item_cells (grammar.plain c) k = cell c None ∷ k
+item_cells (simple c) k = cell 92 None ∷ cell c None ∷ k
+item_cells (single u) k = escape_cells (plain u k)
+item_cells (double u v) k = escape_cells (plain u (escape_cells (marked_last v (breach_if (not (is_pair u v)) pair) k)))
+
+abbrev pub items_cells : List Item → List Cell → List Cell
+items_cells [] k = k
+items_cells (i ∷ is) k = item_cells i (items_cells is k)
+
+abbrev pub items_length : List Item → ℕ
+items_length is = length (items_cells is [])
+
+-- A key with its colon. An earlier key of its object, one of `seen`, may have its text, which a strict reading refuses.
+abbrev pub duplicate_if : Reading → List (List ℕ) → List Item → Option Breach
+duplicate_if r seen is = breach_if (r.strict && is_known seen (bytes_of is)) (duplicate (items_length is + 1))
+
+abbrev pub key_cells : Reading → List (List ℕ) → Key → Option Breach → List Cell → List Cell
+key_cells r seen key m k =
+    plain key.before (cell 34 m ∷ items_cells key.items (cell 34 (duplicate_if r seen key.items) ∷ plain key.after (cell 58 None ∷ k)))
+
+-- ---- values
+
+-- The first character after a bracket and its blank, where as many non-empty containers are open round it as the reading allows.
+abbrev pub deep_if : Reading → ℕ → Option Breach
+deep_if r depth = breach_if (nat_le r.depth depth) deep
+
+abbrev mutual
+  -- a value inside so many non-empty containers, with the mark at its first character
+  pub node_cells : Reading → Node → ℕ → Option Breach → List Cell → List Cell
+  node_cells r Node.null depth m k = cell 110 m ∷ plain (codes "ull") k
+  node_cells r (Node.boolean true) depth m k = cell 116 m ∷ plain (codes "rue") k
+  node_cells r (Node.boolean false) depth m k = cell 102 m ∷ plain (codes "alse") k
+  node_cells r (Node.number n) depth m k = numeral_cells n m k
+  node_cells r (Node.string is) depth m k = cell 34 m ∷ items_cells is (cell 34 None ∷ k)
+  node_cells r (Node.empty_array b) depth m k = cell 91 m ∷ plain b (cell 93 None ∷ k)
+  node_cells r (Node.empty_object b) depth m k = cell 123 m ∷ plain b (cell 125 None ∷ k)
+  node_cells r (Node.array b n c es) depth m k =
+      cell 91 m ∷ plain b (node_cells r n (suc depth) (deep_if r depth) (plain c (elements_cells r es (suc depth) k)))
+  node_cells r (Node.object key b n c ms) depth m k =
+      cell 123 m ∷ key_cells r [] key (deep_if r depth)
+      (plain b (node_cells r n (suc depth) None (plain c (members_cells r ms (bytes_of key.items ∷ []) (suc depth) k))))
+
+  pub elements_cells : Reading → Elements → ℕ → List Cell → List Cell
+  elements_cells r no_elements depth k = cell 93 None ∷ k
+  elements_cells r (element b n c es) depth k =
+      cell 44 None ∷ plain b (node_cells r n depth None (plain c (elements_cells r es depth k)))
+
+  -- `seen` are the texts of the keys before
+  pub members_cells : Reading → Members → List (List ℕ) → ℕ → List Cell → List Cell
+  members_cells r no_members seen depth k = cell 125 None ∷ k
+  members_cells r (member key b n c ms) seen depth k =
+      cell 44 None ∷ key_cells r seen key None
+      (plain b (node_cells r n depth None (plain c (members_cells r ms (bytes_of key.items ∷ seen) depth k))))
+
+abbrev pub cells : Reading → Document → List Cell
+cells r d = plain d.before (node_cells r d.node 0 None (plain d.after []))
+
+-- the text of a tree
+abbrev pub spell : Reading → Document → List ℕ
+spell r d = map (λ x. x.char) (cells r d)
+
+-- this breach stands at place i of the tree's text
+abbrev pub BreachAt : Reading → Breach → Document → ℕ → Type 0
+BreachAt r b d i = slice_get (map (λ x. x.mark) (cells r d)) i ≡ Some (Some b)
+
+abbrev pub HasNoBreach : Reading → Document → Type 0
+HasNoBreach r d = (i : ℕ) (b : Breach) → BreachAt r b d i → ⊥
