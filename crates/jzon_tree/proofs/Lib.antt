@@ -1,1 +1,2 @@
+pub mod Plain
 mod Rows

@@ -1,13 +1,16 @@
 //! The text of values. Each function takes the text that stands before, and gives it back with its own part at the end; where memory is refused, it is dropped.
 
-ghost use Rattle.std.specs.Prelude.{◌≡◌, ◌++◌, IfOk, IsOkUnless, string_bytes};
+ghost use Rattle.std.specs.Prelude.{◌≡◌, ◌<◌, ◌++◌, false, IfOk, IsOkUnless, string_bytes};
+ghost use Rattle.std.specs.Char.{digit_char};
 ghost use Rattle.jzon_base.specs.NumberText.{written_text};
-ghost use Rattle.jzon_tree.specs.Text.{compact};
+ghost use Rattle.jzon_base.specs.PlainBytes.{is_plain};
+ghost use Rattle.jzon_tree.specs.Text.{compact, quoted, escaped_byte};
 ghost use Rattle.jzon_tree.specs.View.{view};
 
 use crate::value::JsonValue;
 use jzon_base::error::{Error, Result};
 use jzon_base::number::Number;
+use jzon_base::util::plain::plain_len;
 
 /// Adds the compact text of the value.
 pub(crate) fn add_value(mut text: String, value: &JsonValue) -> Result<String>
@@ -17,6 +20,8 @@ pub(crate) fn add_value(mut text: String, value: &JsonValue) -> Result<String>
 {
     match value {
         JsonValue::Null => text.push_str("null")?,
+        JsonValue::Short(string) => return add_string(text, string.as_str()),
+        JsonValue::String(string) => return add_string(text, string.as_str()),
         JsonValue::Number(number) => return add_number(text, number),
         JsonValue::Boolean(true) => text.push_str("true")?,
         JsonValue::Boolean(false) => text.push_str("false")?,
@@ -36,4 +41,58 @@ fn add_number(mut text: String, number: &Number) -> Result<String>
         write!(text, "{number}")?;
     }
     Ok(text)
+}
+
+// Adds the text in quotes, escaped. Runs of bytes that need no escape are added whole.
+#[tactic(auto, using(crate::proofs::Plain::runs))]
+fn add_string(mut text: String, string: &str) -> Result<String>
+    ensures added { IfOk result
+        (λ added. string_bytes added ≡ string_bytes text ++ quoted string.now) }
+    ensures memory { IsOkUnless result Error.OutOfMemory }
+{
+    text.push('"')?;
+    let mut rest = string;
+    while !rest.is_empty() {
+        let plain = plain_len(rest.as_bytes());
+        if plain == 0 {
+            text = add_escape(text, rest.as_bytes()[0])?;
+            rest = &rest[1..];
+        } else {
+            text.push_str(&rest[..plain])?;
+            rest = &rest[plain..];
+        }
+    }
+    text.push('"')?;
+    Ok(text)
+}
+
+// Adds what stands in a string for a byte that needs an escape.
+fn add_escape(mut text: String, byte: u8) -> Result<String>
+    requires { is_plain byte ≡ false }
+    ensures added { IfOk result
+        (λ added. string_bytes added ≡ string_bytes text ++ escaped_byte byte) }
+    ensures memory { IsOkUnless result Error.OutOfMemory }
+{
+    match byte {
+        b'"' => text.push_str("\\\"")?,
+        b'\\' => text.push_str("\\\\")?,
+        8 => text.push_str("\\b")?,
+        b'\t' => text.push_str("\\t")?,
+        b'\n' => text.push_str("\\n")?,
+        12 => text.push_str("\\f")?,
+        b'\r' => text.push_str("\\r")?,
+        _ => {
+            text.push_str("\\u00")?;
+            text.push(hex_digit(byte / 16))?;
+            text.push(hex_digit(byte % 16))?;
+        }
+    }
+    Ok(text)
+}
+
+fn hex_digit(digit: u8) -> char
+    requires { digit < 16 }
+    ensures { result ≡ digit_char digit }
+{
+    char::from_digit(u32::from(digit), 16).unwrap_or('0')
 }

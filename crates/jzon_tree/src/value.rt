@@ -1,19 +1,27 @@
 //! JSON values.
 
 ghost use Rattle.std.specs.Prelude.{◌≡◌, IfOk, IsOkUnless, string_bytes};
+ghost use Rattle.jzon_tree.specs.Same.{same};
 ghost use Rattle.jzon_tree.specs.Text.{compact};
 ghost use Rattle.jzon_tree.specs.View.{view};
 
 use crate::codegen;
 use jzon_base::error::{Error, Result};
 use jzon_base::number::Number;
+use jzon_base::short::Short;
 use std::alloc::Global;
 
 /// A JSON value (RFC 8259, section 3).
+///
+/// Two values are equal where they mean the same: a `Short` and a `String` of the same text are, and so are numbers that are the same decimal. NaN equals NaN.
 #[derive(Debug, Drop)]
 pub enum JsonValue {
     /// `null`.
     Null,
+    /// A text of at most 30 bytes, kept in the value itself.
+    Short(Short),
+    /// A text, kept in memory of its own.
+    String(String),
     /// A number, with its parts as they were read or given. NaN, which no text means, is written as `null`.
     Number(Number),
     /// `true` or `false`.
@@ -30,33 +38,34 @@ impl JsonValue {
     }
 }
 
-#[cfg(test)]
-mod tests {
-    use super::*;
-    use jzon_base::number::NAN;
-    use std::test::Fail;
+impl PartialEq for JsonValue {
+    ghost use Rattle.std.specs.Cmp.{on_per, partial_equiv_from_equiv};
+    ghost use Rattle.jzon_tree.specs.SameLaws.{same_equiv};
 
-    fn number(positive: bool, mantissa: u64, exponent: i16) -> JsonValue {
-        JsonValue::Number(Number::from_parts_unchecked(positive, mantissa, exponent))
-    }
+    ghost eq = { λ v w. same (view v) (view w) };
 
-    #[test]
-    fn dumps(rt: HostRuntime) -> std::result::Result<(), Fail> {
-        let rows = [
-            (JsonValue::Null, "null"),
-            (JsonValue::Boolean(true), "true"),
-            (JsonValue::Boolean(false), "false"),
-            (JsonValue::Number(NAN), "null"),
-            (number(true, 0, 5), "0"),
-            (number(false, 0, 0), "-0"),
-            (number(false, 125, 2), "-12500"),
-            (number(true, 150, -2), "1.50"),
-            (number(true, 100, -2), "1.00"),
-            (number(true, 12, 32767), "1.2e32768"),
-        ];
-        for (value, text) in &rows {
-            assert_eq!(rt; value.dump(rt.alloc())?.as_str(), *text);
+    ghost laws = { on_per view (partial_equiv_from_equiv same_equiv) };
+
+    fn eq(&self, other: &JsonValue) -> bool {
+        match (self, other) {
+            (JsonValue::Null, JsonValue::Null) => true,
+            (JsonValue::Short(text), JsonValue::Short(other)) => text == other,
+            (JsonValue::Short(text), JsonValue::String(other)) => text.eq_str(other),
+            (JsonValue::String(text), JsonValue::Short(other)) => other.eq_str(text),
+            (JsonValue::String(text), JsonValue::String(other)) => text == other,
+            (JsonValue::Number(number), JsonValue::Number(other)) => number == other,
+            (JsonValue::Boolean(truth), JsonValue::Boolean(other)) => truth == other,
+            _ => false,
         }
-        Ok(())
     }
 }
+
+impl Eq for JsonValue {
+    ghost use Rattle.std.specs.Cmp.{on_equiv};
+    ghost use Rattle.jzon_tree.specs.SameLaws.{same_equiv};
+
+    ghost laws = { on_equiv view same_equiv };
+}
+
+#[cfg(test)]
+mod tests;
