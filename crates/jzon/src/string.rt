@@ -1,10 +1,12 @@
 //! Reads strings.
 
-ghost use Rattle.std.specs.Prelude.{◌≡◌, ◌==◌, ◌<◌, ◌≤◌, ◌+◌, ◌-◌, ◌++◌, ◌&&◌, ◌⊎◌, ◌↔◌, Contains, ℕ, List, [], length, drop, chars, IsTrue, IfOk, SomeIff, MatchResult, OnOk, slice_index, slice_range, string_bytes, encode_utf8, if◌then◌else◌, false};
+ghost use Rattle.std.specs.Prelude.{◌≡◌, ◌==◌, ◌<◌, ◌≤◌, ◌+◌, ◌-◌, ◌++◌, ◌&&◌, ◌⊎◌, ◌↔◌, Contains, ℕ, List, [], length, drop, chars, IsTrue, IfOk, IsOk, IsOkUnless, SomeIff, MatchResult, OnOk, slice_index, slice_range, string_bytes, encode_utf8, if◌then◌else◌, false};
 ghost use Rattle.std.specs.Char.{is_ascii_hexdigit, digit_value};
 ghost use Rattle.std.specs.Str.{IsCharBoundary};
 ghost use Rattle.jzon_base.specs.declared.error.Error.TheVariants.{OutOfMemory};
 ghost use Rattle.jzon_base.specs.PlainBytes.{is_plain};
+ghost use Rattle.jzon_tree.specs.Value.{text, kind_of};
+ghost use Rattle.jzon_tree.specs.View.{view};
 ghost use Rattle.jzon.specs.Reading.{usual};
 ghost use Rattle.jzon.specs.Grammar.{is_simple, is_high, is_low, is_surrogate};
 ghost use Rattle.jzon.specs.Meaning.{unescaped, pair_char};
@@ -13,7 +15,10 @@ ghost use Rattle.jzon.specs.Machine.{Role, string, between, slash, code, second,
 
 use crate::place::{fault_at, has_byte};
 use jzon_base::error::{Error, Result};
+use jzon_base::short::{MAX_LEN, Short};
 use jzon_base::util::plain::plain_len;
+use jzon_tree::value::JsonValue;
+use std::alloc::Global;
 
 /// How the text of a string stands, and where the string ends.
 #[derive(Clone, Copy)]
@@ -22,6 +27,34 @@ pub(crate) struct Spelled {
     pub(crate) end: usize,
     /// Whether the text stands in the buffer, with its escapes read. Else it stands in the source, up to the closing quote.
     pub(crate) is_escaped: bool,
+}
+
+impl Spelled {
+    /// The text of the string whose opening quote stands before `start`.
+    pub(crate) fn text<'a>(self, source: &'a str, start: usize, buffer: &'a String) -> &'a str
+        requires begin { IsCharBoundary source.now start }
+        requires end { EndsAtQuote source.now start self.end }
+        ensures { result.now ≡ (if self.is_escaped then string_bytes buffer.now else slice_range source.now start (self.end - 1)) }
+    {
+        if self.is_escaped {
+            buffer.as_str()
+        } else {
+            &source[start..self.end - 1]
+        }
+    }
+}
+
+/// The value of a text: kept in place up to 30 bytes, and else in memory of its own. Refused by `OutOfMemory` alone, and never in place.
+pub(crate) fn text_value(alloc: Global, content: &str) -> Result<JsonValue>
+    ensures value { IfOk result (λ v. view v ≡ text (kind_of content.now) content.now) }
+    ensures memory { IsOkUnless result OutOfMemory }
+    ensures in_place { length content.now ≤ 30 → IsOk result }
+{
+    if content.len() <= MAX_LEN {
+        Ok(JsonValue::Short(Short::from_slice(content)))
+    } else {
+        Ok(JsonValue::String(String::from_str(alloc, content)?))
+    }
 }
 
 /// Reads the string whose opening quote stands before `start`. A string without escapes is not copied, and leaves the buffer as it was. After an error what is
@@ -216,4 +249,108 @@ fn hex_digit(source: &str, index: usize) -> Option<u32>
 {
     let byte = source.as_bytes().get(index)?;
     char::from(*byte).to_digit(16)
+}
+
+#[cfg(test)]
+mod tests {
+    use super::*;
+    use std::test::Fail;
+
+    #[test]
+    fn reads_texts(rt: HostRuntime) -> std::result::Result<(), Fail> {
+        let rows = [
+            (r#""""#, "", false),
+            (r#""foo" "#, "foo", false),
+            ("\"\u{e9}\u{1d11e}/\x7f\",", "\u{e9}\u{1d11e}/\x7f", false),
+            (r#""\r\n\t\b\f\\\/\"""#, "\r\n\t\x08\x0c\\/\"", true),
+            (r#""\u2764\ufe0f""#, "\u{2764}\u{fe0f}", true),
+            (r#""\u0000""#, "\0", true),
+            (r#""\uD834\uDD1E""#, "\u{1d11e}", true),
+            (r#""\ud834\udd1e""#, "\u{1d11e}", true),
+            (r#""a\u00E9b\u00e9c""#, "a\u{e9}b\u{e9}c", true),
+            ("\"\u{e9}\\n\u{e9}\"", "\u{e9}\n\u{e9}", true),
+        ];
+        let mut buffer = String::new(rt.alloc());
+        for (source, text, is_escaped) in rows {
+            assert!(rt; source.is_char_boundary(1));
+            let spelled = read_string(source, 1, &mut buffer)?;
+            assert_eq!(rt; spelled.text(source, 1, &buffer), text);
+            assert_eq!(rt; spelled.is_escaped, is_escaped, "{source}");
+        }
+        Ok(())
+    }
+
+    #[test]
+    fn leaves_the_buffer(rt: HostRuntime) -> std::result::Result<(), Fail> {
+        let mut buffer = String::from_str(rt.alloc(), "kept")?;
+        let spelled = read_string("foo\", \"bar\"", 0, &mut buffer)?;
+        assert_eq!(rt; spelled.end, 4);
+        assert_eq!(rt; buffer.as_str(), "kept");
+        Ok(())
+    }
+
+    fn unexpected(ch: char, line: usize, column: usize) -> Error {
+        Error::UnexpectedCharacter { ch, line, column }
+    }
+
+    #[test]
+    fn tells_faults(rt: HostRuntime) {
+        let rows = [
+            ("\"", Error::UnexpectedEndOfJson),
+            (r#""ab"#, Error::UnexpectedEndOfJson),
+            (r#""\"#, Error::UnexpectedEndOfJson),
+            (r#""\u12"#, Error::UnexpectedEndOfJson),
+            (r#""\uD834"#, Error::UnexpectedEndOfJson),
+            (r#""\x""#, unexpected('x', 1, 3)),
+            ("\"a\n\"", unexpected('\n', 1, 3)),
+            ("\"\\n\u{e9}\n\"", unexpected('\n', 1, 5)),
+            (r#""\u00g0""#, unexpected('g', 1, 6)),
+            (r#""\uD834""#, unexpected('"', 1, 8)),
+            (r#""\uD834 \uDD1E""#, unexpected(' ', 1, 8)),
+            (r#""\uD834\n""#, unexpected('n', 1, 9)),
+            (r#""\uD834\u00""#, unexpected('"', 1, 12)),
+            (r#""\uDC00\uDC00""#, Error::FailedUtf8Parsing),
+            (r#""\uDD1E\uD834""#, Error::FailedUtf8Parsing),
+            (r#""\uD834\u0041""#, Error::FailedUtf8Parsing),
+        ];
+        let mut buffer = String::new(rt.alloc());
+        for (source, fault) in rows {
+            assert!(rt; source.is_char_boundary(1));
+            match read_string(source, 1, &mut buffer) {
+                Ok(_) => assert!(rt; false, "{source}"),
+                Err(e) => assert_eq!(rt; e, fault, "{source}"),
+            }
+        }
+    }
+
+    #[test]
+    fn keeps_short_texts_in_place(rt: HostRuntime) -> std::result::Result<(), Fail> {
+        let rows = [
+            ("", true),
+            ("abcdefghijklmnopqrstuvwxyz0123", true),
+            ("abcdefghijklmnopqrstuvwxyz01234", false),
+            (
+                "\u{e9}\u{e9}\u{e9}\u{e9}\u{e9}\u{e9}\u{e9}\u{e9}\u{e9}\u{e9}\u{e9}\u{e9}\u{e9}\u{e9}\u{e9}",
+                true,
+            ),
+            (
+                "\u{e9}\u{e9}\u{e9}\u{e9}\u{e9}\u{e9}\u{e9}\u{e9}\u{e9}\u{e9}\u{e9}\u{e9}\u{e9}\u{e9}\u{e9}\u{e9}",
+                false,
+            ),
+        ];
+        for (content, is_short) in rows {
+            match text_value(rt.alloc(), content)? {
+                JsonValue::Short(short) => {
+                    assert_eq!(rt; short.as_str(), content);
+                    assert!(rt; is_short);
+                }
+                JsonValue::String(string) => {
+                    assert_eq!(rt; string.as_str(), content);
+                    assert!(rt; !is_short);
+                }
+                _ => assert!(rt; false, "{content}"),
+            }
+        }
+        Ok(())
+    }
 }
