@@ -3,11 +3,13 @@ use Rattle.std.proofs.Common.{◌≡◌, pos, negsuc, List, [], ◌∷◌, ◌++
 use Rattle.std.specs.Fmt.{digits}
 use Rattle.std.specs.Char.{encode_utf8}
 use Rattle.std.specs.Prelude.{IsTrue}
-use Rattle.jzon_base.specs.Decimal.{Decimal, nan, parts}
+use Rattle.jzon_base.specs.Decimal.{Decimal, nan, parts, scaled}
+use Rattle.jzon_base.specs.PairList.{put, cut}
 use Rattle.jzon_base.specs.Digits.{kept_len}
 use Rattle.jzon_tree.specs.Value.{Value, short, long, values_of, pairs_of}
 use Rattle.jzon_tree.specs.Value as value
 use Rattle.jzon_tree.specs.Text.{compact, pretty}
+use Rattle.jzon_tree.specs.Same.{same}
 use Rattle.jzon.specs.Reading.{usual}
 use Rattle.jzon.specs.Grammar.{unsigned, plus, minus, Numeral, plain, simple, single, double, Node, no_members, member, Document, IsBlank, code_unit}
 use Rattle.jzon.specs.Meaning.{meaning, bytes_of}
@@ -105,7 +107,7 @@ null_read = (((tt, tt, tt), refl), no_marks usual (alone Node.null) refl)
 true_read : Parses usual (codes "true") (alone (Node.boolean true))
 true_read = (((tt, tt, tt), refl), no_marks usual (alone (Node.boolean true)) refl)
 
-abbrev between_blanks : Document
+abbrev pub between_blanks : Document
 between_blanks = record { before = 32 ∷ 10 ∷ 9 ∷ []; node = Node.boolean false; after = 13 ∷ 32 ∷ [] }
 
 false_between_blanks : Parses usual (codes " \n\tfalse\r ") between_blanks
@@ -231,7 +233,7 @@ abbrev b : List ℕ
 b = codes "b"
 
 -- with blanks, and a key that comes twice: the first one's place and the last one's value
-abbrev spaced : Node
+abbrev pub spaced : Node
 spaced =
     Node.object (record { before = codes " "; items = plains (codes "foo"); after = [] }) (codes " ") (int (codes "0")) []
     (member (record { before = codes " "; items = plains (codes "bar"); after = [] }) (codes " ") (int (codes "1")) []
@@ -275,7 +277,7 @@ unfolding encode_utf8 bytes_of
 world_in_list = (refl, refl, refl, refl)
 
 -- every kind of value
-abbrev mixed : Node
+abbrev pub mixed : Node
 mixed =
     object (key a)
     (array (int (codes "1"))
@@ -284,8 +286,11 @@ mixed =
     ∷ []))
     ((key b, Node.null) ∷ [])
 
+abbrev pub mixed_text : List ℕ
+mixed_text = codes "{\"a\":[1,-0.5e+2,\"x\\u00e9\\uD834\\uDD1E\"],\"b\":null}"
+
 mixed_row :
-    Row (codes "{\"a\":[1,-0.5e+2,\"x\\u00e9\\uD834\\uDD1E\"],\"b\":null}") mixed
+    Row mixed_text mixed
     (value.object (pairs_of ((a, value.array (values_of (one ∷ value.number (parts false 5 (pos 1)) ∷ value.text short (encode_utf8_all (codes "xé𝄞")) ∷ []))) ∷ (b, value.null) ∷ [])))
     (encode_utf8_all (codes "{\"a\":[1,-50,\"xé𝄞\"],\"b\":null}"))
 unfolding digits encode_utf8 bytes_of code_unit kept_len drops_too_many keeps_too_many
@@ -317,3 +322,39 @@ pretty_inside = refl
 no_spaces : pretty (meaning (array (int (codes "1")) [])) 0 0 ≡ codes "[\n1\n]"
 unfolding digits kept_len
 no_spaces = refl
+
+-- ---- values that are the same, and changed objects
+
+-- neither the order of the members counts nor how a number is written
+same_objects :
+    same (meaning (object (key a) (int (codes "1")) ((key b, int (codes "2")) ∷ [])))
+    (meaning (object (key b) (int (codes "2")) ((key a, Node.number (decimal (codes "1") (codes "0"))) ∷ []))) ≡ true
+unfolding encode_utf8 bytes_of kept_len scaled
+same_objects = refl
+
+other_value : same (meaning (object (key a) (int (codes "1")) [])) (meaning (object (key a) (int (codes "2")) [])) ≡ false
+unfolding encode_utf8 bytes_of kept_len scaled
+other_value = refl
+
+other_order : same (meaning (array (int (codes "1")) (int (codes "2") ∷ []))) (meaning (array (int (codes "2")) (int (codes "1") ∷ []))) ≡ false
+unfolding kept_len scaled
+other_order = refl
+
+-- nor how a text is kept
+same_texts : same (value.text short a) (value.text long a) ≡ true
+same_texts = refl
+
+abbrev three : List (List ℕ × Value)
+three = (a, one) ∷ (b, two) ∷ (codes "c", value.null) ∷ []
+
+cut_from_middle : compact (value.object (pairs_of (cut b three))) ≡ codes "{\"a\":1,\"c\":null}"
+unfolding digits
+cut_from_middle = refl
+
+put_after_cut : compact (value.object (pairs_of (put b one (cut b three)))) ≡ codes "{\"a\":1,\"c\":null,\"b\":1}"
+unfolding digits
+put_after_cut = refl
+
+put_in_place : compact (value.object (pairs_of (put b one three))) ≡ codes "{\"a\":1,\"b\":1,\"c\":null}"
+unfolding digits
+put_in_place = refl

@@ -1,5 +1,5 @@
 -- Trees for worked rows, the breaches of a tree as a list, and tests that tell numbers of the grammar.
-use Rattle.std.proofs.Common.{◌≡◌, ℕ, zero, suc, ◌+◌, List, [], ◌∷◌, map, Bool, true, false, not, ◌&&◌, ◌==◌, Option, Some, None, refl}
+use Rattle.std.proofs.Common.{◌≡◌, ℕ, zero, suc, ◌+◌, List, [], ◌∷◌, ◌++◌, map, replicate, Bool, true, false, not, ◌&&◌, ◌==◌, Option, Some, None, refl, ap}
 use Rattle.std.proofs.lemmas.Bool.{and_parts}
 use Rattle.std.specs.Prelude.{IsTrue, slice_get}
 use Rattle.std.specs.Char.{is_ascii_digit}
@@ -94,6 +94,11 @@ object k n ms = Node.object k [] n [] (members ms)
 abbrev pub nested : ℕ → Node → Node
 nested zero v = v
 nested (suc n) v = array (nested n v) []
+
+-- n equal characters and one more
+pub replicate-cons : (n x : ℕ) (cs : List ℕ) → replicate n x ++ (x ∷ cs) ≡ x ∷ (replicate n x ++ cs)
+replicate-cons zero x cs = refl
+replicate-cons (suc n) x cs = ap (λ l. x ∷ l) (replicate-cons n x cs)
 
 -- ---- numbers of the grammar
 

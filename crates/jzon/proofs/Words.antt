@@ -17,7 +17,7 @@ text_of_first bs c cs u e = sym (encodes-chars bs u) ∙ ap encode_utf8_all e
 pub first_byte : (bs : List ℕ) (c : ℕ) (cs : List ℕ) → IsUtf8 bs → chars bs ≡ c ∷ cs → c < 128 → get_or bs 0 0 ≡ c
 first_byte bs c cs u e lt = byte_from_char bs (encode_utf8_all cs) c (text_of_first bs c cs u e) lt
 
-some_byte : (bs : List ℕ) (c : ℕ) (cs : List ℕ) → chars bs ≡ c ∷ cs → 0 < length bs
+pub some_byte : (bs : List ℕ) (c : ℕ) (cs : List ℕ) → chars bs ≡ c ∷ cs → 0 < length bs
 some_byte [] c cs e = let none : [] ≡ c ∷ cs = sym chars-nil ∙ e in absurd (cc)
 some_byte (b ∷ bs) c cs e = omega arith
 

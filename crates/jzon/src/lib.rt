@@ -1,3 +1,4 @@
+//! Reads, holds, changes and prints JSON without typed structs: a port of the Rust crate `jzon`.
 #![tactic(auto)]
 
 pub mod laws;
@@ -5,6 +6,8 @@ mod numeral;
 mod parser;
 mod place;
 mod string;
+#[cfg(test)]
+mod tests;
 
 pub use jzon_base::error::{Error, Error as JsonError, JsonResult, Result};
 pub use jzon_base::number;

@@ -1,6 +1,7 @@
 //! Places of a text: what stands there, and the error that tells a fault there.
 
 ghost use Rattle.std.specs.Prelude.{◌≡◌, ℕ, ◌<◌, ◌≤◌, ◌+◌, length, drop, chars, IsTrue, slice_index, ◌↔◌};
+ghost use Rattle.std.specs.Char.{is_ascii_digit};
 ghost use Rattle.std.specs.Str.{IsCharBoundary};
 ghost use Rattle.jzon.specs.Fault.{line, column};
 ghost use Rattle.jzon.specs.Machine.{Tells, stopped};
@@ -13,6 +14,14 @@ pub(crate) fn has_byte(source: &str, index: usize, byte: u8) -> bool
 {
     let bytes = source.as_bytes();
     index < bytes.len() && bytes[index] == byte
+}
+
+/// Whether a digit stands at this place.
+pub(crate) fn has_digit(source: &str, index: usize) -> bool
+    ensures { IsTrue result ↔ ((index < length source.now) × IsTrue (is_ascii_digit (slice_index source.now index))) }
+{
+    let bytes = source.as_bytes();
+    index < bytes.len() && bytes[index].is_ascii_digit()
 }
 
 /// The line of the character after a front of a text, counted from 1.

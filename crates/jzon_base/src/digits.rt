@@ -1,4 +1,4 @@
-//! The digits of a number in a text, and the parts that they mean.
+//! The digits of a number in a text, and the parts that they mean (RFC 8259, section 6; docs/RULES.md, "What digits mean" and "Digit limits").
 
 ghost use Rattle.std.specs.Prelude.{◌≡◌, pos, ◌+◌, ◌<◌, ◌≤◌, ◌^◌, ◌-ℤ◌, ◌+ℤ◌, ◌++◌, length, take, min, IfErr, OkIff};
 ghost use Rattle.std.specs.List.{fold, All};
@@ -26,7 +26,8 @@ pub enum DigitFault {
     Fraction(usize),
 }
 
-/// The number that is written in these digits: those before the point, those after it, and those of the exponent, with the signs of both.
+/// The number that is written in these digits: those before the point, those after it, and those of the exponent, with the signs of both. A part that is
+/// missing is empty, and the exponent is then 0. A `DigitFault` is told where there are too many digits, whatever the exponent is.
 pub fn read_number(
     positive: bool,
     whole: &[u8],

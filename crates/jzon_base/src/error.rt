@@ -1,4 +1,4 @@
-//! Why a call is refused.
+//! Why a call is refused (docs/RULES.md, "Errors").
 
 ghost use Rattle.std.specs.Prelude.{Some, IfOk, IsOkUnless};
 ghost use Rattle.jzon_base.specs.ErrorText.{error_text, IsWrongType};

@@ -1,4 +1,4 @@
-//! Short texts, kept in place.
+//! Short texts, kept in place (docs/RULES.md, "Short and long texts").
 
 ghost use Rattle.std.specs.Prelude.{◌≡◌, ◌≤◌, length, IfOk, IsOkUnless, IsUtf8, string_bytes};
 ghost use Rattle.std.specs.Str.{bytes_eq};

@@ -1,4 +1,4 @@
-//! The text of a number.
+//! The text of a number (docs/RULES.md, "Printed numbers"; RFC 8259, section 6).
 
 ghost use Rattle.std.specs.Prelude.{◌≡◌, negsuc, ◌+◌, ◌-◌, ◌≤◌, ◌<◌, ◌++◌, length, replicate, IsAscii, OnOk, OnErr};
 ghost use Rattle.std.specs.Io.KnownBytes.{Appends};
