@@ -16,6 +16,11 @@ pub mod Forward
 pub mod Backward
 pub mod Scanning
 pub mod Words
+pub mod PlainRuns
+pub mod ByteSteps
+pub mod Quotes
+pub mod HexDigits
+pub mod Escapes
 pub mod States
 pub mod Faults
 pub mod TreeAnswer

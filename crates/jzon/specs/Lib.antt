@@ -5,6 +5,7 @@ pub mod Meaning
 pub mod Fault
 pub mod Laws
 pub mod Classes
+pub mod Quote
 pub mod Machine
 pub mod Answer
 pub use Rattle.jzon_base.specs.ErrorText

@@ -5,6 +5,7 @@ pub mod laws;
 mod numeral;
 mod parser;
 mod place;
+mod string;
 #[cfg(test)]
 mod tests;
 pub mod util;

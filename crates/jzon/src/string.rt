@@ -1,0 +1,356 @@
+//! Reads strings.
+
+ghost use Rattle.std.specs.Prelude.{◌≡◌, ◌==◌, ◌<◌, ◌≤◌, ◌+◌, ◌-◌, ◌++◌, ◌&&◌, ◌⊎◌, ◌↔◌, Contains, ℕ, List, [], length, drop, chars, IsTrue, IfOk, IsOk, IsOkUnless, SomeIff, MatchResult, OnOk, slice_index, slice_range, string_bytes, encode_utf8, if◌then◌else◌, false};
+ghost use Rattle.std.specs.Char.{is_ascii_hexdigit, digit_value};
+ghost use Rattle.std.specs.Str.{IsCharBoundary};
+ghost use Rattle.jzon_base.specs.declared.error.Error.TheVariants.{OutOfMemory};
+ghost use Rattle.jzon_base.specs.PlainBytes.{is_plain};
+ghost use Rattle.jzon_tree.specs.Value.{text, kind_of};
+ghost use Rattle.jzon_tree.specs.View.{view};
+ghost use Rattle.jzon.specs.Reading.{usual};
+ghost use Rattle.jzon.specs.Grammar.{is_simple, is_high, is_low, is_surrogate};
+ghost use Rattle.jzon.specs.Meaning.{unescaped, pair_char};
+ghost use Rattle.jzon.specs.Quote.{EndsAtQuote};
+ghost use Rattle.jzon.specs.Machine.{Role, string, between, slash, code, second, second_code, closed_string, coded, paired, outcome_on, from, Tells};
+
+use crate::place::{fault_at, has_byte};
+use jzon_base::error::{Error, Result};
+use jzon_base::short::{MAX_LEN, Short};
+use jzon_base::util::plain::plain_len;
+use jzon_tree::value::JsonValue;
+use std::alloc::Global;
+
+/// How the text of a string stands, and where the string ends.
+#[derive(Clone, Copy)]
+pub(crate) struct Spelled {
+    /// The place behind the closing quote.
+    pub(crate) end: usize,
+    /// Whether the text stands in the buffer, with its escapes read. Else it stands in the source, up to the closing quote.
+    pub(crate) is_escaped: bool,
+}
+
+impl Spelled {
+    /// The text of the string whose opening quote stands before `start`.
+    pub(crate) fn text<'a>(self, source: &'a str, start: usize, buffer: &'a String) -> &'a str
+        requires begin { IsCharBoundary source.now start }
+        requires end { EndsAtQuote source.now start self.end }
+        ensures { result.now ≡ (if self.is_escaped then string_bytes buffer.now else slice_range source.now start (self.end - 1)) }
+    {
+        if self.is_escaped {
+            buffer.as_str()
+        } else {
+            &source[start..self.end - 1]
+        }
+    }
+}
+
+/// The value of a text: kept in place up to 30 bytes, and else in memory of its own. Refused by `OutOfMemory` alone, and never in place.
+pub(crate) fn text_value(alloc: Global, content: &str) -> Result<JsonValue>
+    ensures value { IfOk result (λ v. view v ≡ text (kind_of content.now) content.now) }
+    ensures memory { IsOkUnless result OutOfMemory }
+    ensures in_place { length content.now ≤ 30 → IsOk result }
+{
+    if content.len() <= MAX_LEN {
+        Ok(JsonValue::Short(Short::from_slice(content)))
+    } else {
+        Ok(JsonValue::String(String::from_str(alloc, content)?))
+    }
+}
+
+/// Reads the string whose opening quote stands before `start`. A string without escapes is not copied, and leaves the buffer as it was. After an error what is
+/// in the buffer has no meaning.
+pub(crate) fn read_string(source: &str, start: usize, buffer: &mut String) -> Result<Spelled>
+    requires { IsCharBoundary source.now start }
+    ensures quote { IfOk result (λ s. EndsAtQuote source.now start s.end) }
+    ensures escaped { IfOk result (λ s. IsTrue s.is_escaped ↔ Contains (slice_range source.now start (s.end - 1)) 92) }
+    ensures untouched { IfOk result (λ s. s.is_escaped ≡ false → string_bytes buffer.new ≡ string_bytes buffer.old) }
+    ensures same { (role : Role) → MatchResult result
+        (λ s. from usual source.now (string role [] between) start
+        ≡ from usual source.now (closed_string role (if s.is_escaped then string_bytes buffer.new else slice_range source.now start (s.end - 1))) s.end)
+        (λ e. (e ≡ OutOfMemory) ⊎ Tells (chars source.now) e (from usual source.now (string role [] between) start)) }
+{
+    let stop = plain_end(source, start);
+    if !has_byte(source, stop, b'\\') {
+        let end = past_quote(source, stop)?;
+        return Ok(Spelled {
+            end,
+            is_escaped: false,
+        });
+    }
+    buffer.clear();
+    buffer.push_str(&source[start..stop])?;
+    let end = read_escapes(source, stop, buffer)?;
+    Ok(Spelled {
+        end,
+        is_escaped: true,
+    })
+}
+
+/// The place behind the characters that stand for themselves.
+fn plain_end(source: &str, start: usize) -> usize
+    requires { IsCharBoundary source.now start }
+    ensures within { start ≤ result }
+    ensures boundary { IsCharBoundary source.now result }
+    ensures stop { result < length source.now → is_plain (slice_index source.now result) ≡ false }
+    ensures no_escape { ¬ (Contains (slice_range source.now start result) 92) }
+    ensures same { (role : Role) (bs : List ℕ) → from usual source.now (string role bs between) start
+        ≡ from usual source.now (string role (bs ++ slice_range source.now start result) between) result }
+{
+    start + plain_len(&source.as_bytes()[start..])
+}
+
+/// The place behind the closing quote, where one stands.
+fn past_quote(source: &str, index: usize) -> Result<usize>
+    requires boundary { IsCharBoundary source.now index }
+    requires stop { index < length source.now → is_plain (slice_index source.now index) ≡ false }
+    requires no_escape { index < length source.now → slice_index source.now index ≡ 92 → ⊥ }
+    ensures quote { IfOk result (λ end. (end ≡ index + 1) × EndsAtQuote source.now index end) }
+    ensures same { (role : Role) (bs : List ℕ) → MatchResult result
+        (λ end. from usual source.now (string role bs between) index ≡ from usual source.now (closed_string role bs) end)
+        (λ e. Tells (chars source.now) e (from usual source.now (string role bs between) index)) }
+{
+    if has_byte(source, index, b'"') {
+        Ok(index + 1)
+    } else {
+        Err(fault_at(source, index))
+    }
+}
+
+/// Adds the rest of the text, with its escapes read; gives the place behind the closing quote.
+fn read_escapes(source: &str, start: usize, buffer: &mut String) -> Result<usize>
+    requires boundary { IsCharBoundary source.now start }
+    requires stop { start < length source.now → is_plain (slice_index source.now start) ≡ false }
+    ensures quote { IfOk result (λ end. EndsAtQuote source.now start end) }
+    ensures same { (role : Role) → MatchResult result
+        (λ end. from usual source.now (string role (string_bytes buffer.old) between) start
+        ≡ from usual source.now (closed_string role (string_bytes buffer.new)) end)
+        (λ e. (e ≡ OutOfMemory) ⊎ Tells (chars source.now) e (from usual source.now (string role (string_bytes buffer.old) between) start)) }
+{
+    let mut index = start;
+    while has_byte(source, index, b'\\') {
+        let (ch, end) = read_escape(source, index + 1)?;
+        buffer.push(ch)?;
+        index = plain_end(source, end);
+        buffer.push_str(&source[end..index])?;
+    }
+    past_quote(source, index)
+}
+
+/// The character that an escape means, and the place behind it. Its backslash stands before `start`.
+fn read_escape(source: &str, start: usize) -> Result<(char, usize)>
+    requires { IsCharBoundary source.now start }
+    ensures bounds { IfOk result (λ r. (start < r.1) × IsCharBoundary source.now r.1) }
+    ensures same { (role : Role) (bs : List ℕ) → MatchResult result
+        (λ r. from usual source.now (string role bs slash) start ≡ from usual source.now (string role (bs ++ encode_utf8 r.0) between) r.1)
+        (λ e. Tells (chars source.now) e (from usual source.now (string role bs slash) start)) }
+{
+    if has_byte(source, start, b'u') {
+        return read_unicode(source, start + 1);
+    }
+    match simple_escape(source, start) {
+        Some(ch) => Ok((ch, start + 1)),
+        None => Err(fault_at(source, start)),
+    }
+}
+
+/// The character that a backslash means before the letter at this place.
+fn simple_escape(source: &str, index: usize) -> Option<char>
+    requires { index ≤ length source.now }
+    ensures { SomeIff result
+        ((index < length source.now) × IsTrue (is_simple (slice_index source.now index)))
+        (unescaped (slice_index source.now index)) }
+{
+    match &source.as_bytes()[index..] {
+        [letter @ (b'"' | b'\\' | b'/'), ..] => Some(char::from(*letter)),
+        [b'b', ..] => Some('\u{8}'),
+        [b'f', ..] => Some('\u{c}'),
+        [b'n', ..] => Some('\n'),
+        [b'r', ..] => Some('\r'),
+        [b't', ..] => Some('\t'),
+        _ => None,
+    }
+}
+
+/// The character of a `\u` escape whose digits begin at `start`, or of two of them, and the place behind it.
+fn read_unicode(source: &str, start: usize) -> Result<(char, usize)>
+    requires { IsCharBoundary source.now start }
+    ensures bounds { IfOk result (λ r. (start < r.1) × IsCharBoundary source.now r.1) }
+    ensures same { (role : Role) (bs : List ℕ) → MatchResult result
+        (λ r. from usual source.now (string role bs (code 3 0)) start ≡ from usual source.now (string role (bs ++ encode_utf8 r.0) between) r.1)
+        (λ e. Tells (chars source.now) e (from usual source.now (string role bs (code 3 0)) start)) }
+{
+    let unit = read_hex(source, start)?;
+    match char::from_u32(unit) {
+        Some(ch) => Ok((ch, start + 4)),
+        None => read_second(source, start + 4, unit),
+    }
+}
+
+/// The character of a surrogate and of the one that must follow it at `start`, and the place behind both.
+fn read_second(source: &str, start: usize, first: u32) -> Result<(char, usize)>
+    requires { IsCharBoundary source.now start }
+    ensures bounds { IfOk result (λ r. (start < r.1) × IsCharBoundary source.now r.1) }
+    ensures same { (role : Role) (bs : List ℕ) → MatchResult result
+        (λ r. from usual source.now (string role bs (second first)) start ≡ from usual source.now (string role (bs ++ encode_utf8 r.0) between) r.1)
+        (λ e. Tells (chars source.now) e (from usual source.now (string role bs (second first)) start)) }
+{
+    if !has_byte(source, start, b'\\') {
+        return Err(fault_at(source, start));
+    }
+    if !has_byte(source, start + 1, b'u') {
+        return Err(fault_at(source, start + 1));
+    }
+    let unit = read_hex(source, start + 2)?;
+    match paired_char(first, unit) {
+        Some(ch) => Ok((ch, start + 6)),
+        None => Err(Error::FailedUtf8Parsing),
+    }
+}
+
+/// The character of a high surrogate and a low one.
+fn paired_char(high: u32, low: u32) -> Option<char>
+    ensures { SomeIff result (IsTrue (is_high high && is_low low)) (pair_char high low) }
+{
+    if matches!(high, 0xD800..0xDC00) && matches!(low, 0xDC00..0xE000) {
+        char::from_u32(0x10000 + (high - 0xD800) * 0x400 + (low - 0xDC00))
+    } else {
+        None
+    }
+}
+
+/// The number that four hexadecimal digits spell, of either case.
+fn read_hex(source: &str, start: usize) -> Result<u32>
+    requires { IsCharBoundary source.now start }
+    ensures unit { IfOk result (λ u. u < 0x10000) }
+    ensures boundary { OnOk result (IsCharBoundary source.now (start + 4)) }
+    ensures first { (role : Role) (bs : List ℕ) → MatchResult result
+        (λ u. from usual source.now (string role bs (code 3 0)) start ≡ from usual source.now (coded (is_surrogate u) role bs u) (start + 4))
+        (λ e. Tells (chars source.now) e (from usual source.now (string role bs (code 3 0)) start)) }
+    ensures second { (role : Role) (bs : List ℕ) (h : ℕ) → MatchResult result
+        (λ u. from usual source.now (string role bs (second_code h 3 0)) start
+        ≡ outcome_on (paired (is_high h && is_low u) role bs h u) (λ p. from usual source.now p (start + 4)) (chars (drop (start + 3) source.now)))
+        (λ e. Tells (chars source.now) e (from usual source.now (string role bs (second_code h 3 0)) start)) }
+{
+    let mut unit = 0;
+    for index in start..start + 4 {
+        match hex_digit(source, index) {
+            Some(digit) => unit = unit * 16 + digit,
+            None => return Err(fault_at(source, index)),
+        }
+    }
+    Ok(unit)
+}
+
+/// The value of the hexadecimal digit at this place.
+fn hex_digit(source: &str, index: usize) -> Option<u32>
+    ensures { SomeIff result
+        ((index < length source.now) × IsTrue (is_ascii_hexdigit (slice_index source.now index)))
+        (digit_value (slice_index source.now index)) }
+{
+    let byte = source.as_bytes().get(index)?;
+    char::from(*byte).to_digit(16)
+}
+
+#[cfg(test)]
+mod tests {
+    use super::*;
+    use std::test::Fail;
+
+    #[test]
+    fn reads_texts(rt: HostRuntime) -> std::result::Result<(), Fail> {
+        let rows = [
+            (r#""""#, "", false),
+            (r#""foo" "#, "foo", false),
+            ("\"\u{e9}\u{1d11e}/\x7f\",", "\u{e9}\u{1d11e}/\x7f", false),
+            (r#""\r\n\t\b\f\\\/\"""#, "\r\n\t\x08\x0c\\/\"", true),
+            (r#""\u2764\ufe0f""#, "\u{2764}\u{fe0f}", true),
+            (r#""\u0000""#, "\0", true),
+            (r#""\uD834\uDD1E""#, "\u{1d11e}", true),
+            (r#""\ud834\udd1e""#, "\u{1d11e}", true),
+            (r#""a\u00E9b\u00e9c""#, "a\u{e9}b\u{e9}c", true),
+            ("\"\u{e9}\\n\u{e9}\"", "\u{e9}\n\u{e9}", true),
+        ];
+        let mut buffer = String::new(rt.alloc());
+        for (source, text, is_escaped) in rows {
+            assert!(rt; source.is_char_boundary(1));
+            let spelled = read_string(source, 1, &mut buffer)?;
+            assert_eq!(rt; spelled.text(source, 1, &buffer), text);
+            assert_eq!(rt; spelled.is_escaped, is_escaped, "{source}");
+        }
+        Ok(())
+    }
+
+    #[test]
+    fn leaves_the_buffer(rt: HostRuntime) -> std::result::Result<(), Fail> {
+        let mut buffer = String::from_str(rt.alloc(), "kept")?;
+        let spelled = read_string("foo\", \"bar\"", 0, &mut buffer)?;
+        assert_eq!(rt; spelled.end, 4);
+        assert_eq!(rt; buffer.as_str(), "kept");
+        Ok(())
+    }
+
+    fn unexpected(ch: char, line: usize, column: usize) -> Error {
+        Error::UnexpectedCharacter { ch, line, column }
+    }
+
+    #[test]
+    fn tells_faults(rt: HostRuntime) {
+        let rows = [
+            ("\"", Error::UnexpectedEndOfJson),
+            (r#""ab"#, Error::UnexpectedEndOfJson),
+            (r#""\"#, Error::UnexpectedEndOfJson),
+            (r#""\u12"#, Error::UnexpectedEndOfJson),
+            (r#""\uD834"#, Error::UnexpectedEndOfJson),
+            (r#""\x""#, unexpected('x', 1, 3)),
+            ("\"a\n\"", unexpected('\n', 1, 3)),
+            ("\"\\n\u{e9}\n\"", unexpected('\n', 1, 5)),
+            (r#""\u00g0""#, unexpected('g', 1, 6)),
+            (r#""\uD834""#, unexpected('"', 1, 8)),
+            (r#""\uD834 \uDD1E""#, unexpected(' ', 1, 8)),
+            (r#""\uD834\n""#, unexpected('n', 1, 9)),
+            (r#""\uD834\u00""#, unexpected('"', 1, 12)),
+            (r#""\uDC00\uDC00""#, Error::FailedUtf8Parsing),
+            (r#""\uDD1E\uD834""#, Error::FailedUtf8Parsing),
+            (r#""\uD834\u0041""#, Error::FailedUtf8Parsing),
+        ];
+        let mut buffer = String::new(rt.alloc());
+        for (source, fault) in rows {
+            assert!(rt; source.is_char_boundary(1));
+            match read_string(source, 1, &mut buffer) {
+                Ok(_) => assert!(rt; false, "{source}"),
+                Err(e) => assert_eq!(rt; e, fault, "{source}"),
+            }
+        }
+    }
+
+    #[test]
+    fn keeps_short_texts_in_place(rt: HostRuntime) -> std::result::Result<(), Fail> {
+        let rows = [
+            ("", true),
+            ("abcdefghijklmnopqrstuvwxyz0123", true),
+            ("abcdefghijklmnopqrstuvwxyz01234", false),
+            (
+                "\u{e9}\u{e9}\u{e9}\u{e9}\u{e9}\u{e9}\u{e9}\u{e9}\u{e9}\u{e9}\u{e9}\u{e9}\u{e9}\u{e9}\u{e9}",
+                true,
+            ),
+            (
+                "\u{e9}\u{e9}\u{e9}\u{e9}\u{e9}\u{e9}\u{e9}\u{e9}\u{e9}\u{e9}\u{e9}\u{e9}\u{e9}\u{e9}\u{e9}\u{e9}",
+                false,
+            ),
+        ];
+        for (content, is_short) in rows {
+            match text_value(rt.alloc(), content)? {
+                JsonValue::Short(short) => {
+                    assert_eq!(rt; short.as_str(), content);
+                    assert!(rt; is_short);
+                }
+                JsonValue::String(string) => {
+                    assert_eq!(rt; string.as_str(), content);
+                    assert!(rt; !is_short);
+                }
+                _ => assert!(rt; false, "{content}"),
+            }
+        }
+        Ok(())
+    }
+}
