@@ -26,7 +26,10 @@ pub enum Error {
     /// Memory was refused.
     OutOfMemory,
     /// An object of a text has a key twice, which a strict reading refuses: the place of the second one's opening quote.
-    DuplicateKey { line: usize, column: usize },
+    DuplicateKey {
+        line: usize,
+        column: usize,
+    },
 }
 
 /// The result of a call that is refused by an `Error`.
