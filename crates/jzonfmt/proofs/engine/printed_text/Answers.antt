@@ -2,7 +2,7 @@ use Rattle.std.proofs.Common.{◌≡◌, rules, subst}
 use Rattle.std.specs.Prelude.{chars, IsUtf8}
 use Rattle.jzon.specs.Fault.{IsErrorOf}
 use Rattle.jzon.specs.Reading.{usual}
-use Rattle.jzonfmt.proofs.Refusals.{prints_refusal}
+use Rattle.jzonfmt.proofs.RefusedInputs.{prints_refusal}
 use Rattle.jzonfmt.proofs.engine.printed_text.Goals as goal
 
 pub returns-in_err-value : goal.returns-in_err-value

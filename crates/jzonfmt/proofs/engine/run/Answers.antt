@@ -2,7 +2,7 @@ use Rattle.std.proofs.Common.{subst, Err}
 use Rattle.std.specs.Io.KnownBytes.{Consumes, IsAtEnd}
 use Rattle.std.specs.declared.alloc.Global.{Global}
 use Rattle.jzonfmt.specs.Run.{Prints}
-use Rattle.jzonfmt.proofs.Refusals.{refuses}
+use Rattle.jzonfmt.proofs.RefusedInputs.{refuses}
 use Rattle.jzonfmt.proofs.engine.run.Goals as goal
 
 pub returns-in_err-text : goal.returns-in_err-text
