@@ -1,5 +1,5 @@
 -- Without a strict reading a result that the machine over values gives is the answer to the text.
-use Rattle.std.proofs.Common.{◌≡◌, ℕ, ◌-◌, List, length, false, Result, Ok, Err, subst}
+use Rattle.std.proofs.Common.{inl, inr, ◌≡◌, ℕ, ◌-◌, List, length, false, Result, Ok, Err, subst}
 use Rattle.jzon_base.specs.declared.error.Error.{Error}
 use Rattle.jzon_tree.specs.View.{view}
 use Rattle.jzon_tree.specs.declared.value.JsonValue.{JsonValue}
@@ -8,7 +8,7 @@ use Rattle.jzon.specs.Meaning.{meaning}
 use Rattle.jzon.specs.Machine.{no_frames, before, outcome, Reads}
 use Rattle.std.specs.Prelude.{IfOk, IfErr}
 use Rattle.jzon.specs.Fault.{IsErrorOf}
-use Rattle.jzon.specs.Answer.{Answers, IsMeaningOf}
+use Rattle.jzon.specs.Answer.{Answers, IsMeaningOf, IsErrorUnlessMemory}
 use Rattle.jzon.proofs.TreeMachine.{start}
 use Rattle.jzon.proofs.TreeAnswer.{Answer, tree, refused, answer}
 use Rattle.jzon.proofs.Verdict.{Verdict, answers}
@@ -17,8 +17,9 @@ use Rattle.jzon.proofs.Image.{image_answer, outcome_image}
 answers_by : (r : Reading) (t : List ℕ) (result : Result JsonValue Error) (a : Answer) → Verdict r t a → Reads t result (image_answer a) → Answers r t result
 answers_by r t (Ok v) (tree d) told read = let same : view v ≡ meaning d.node = cc in (d, told, same)
 answers_by r t (Ok v) (refused f rest) told read = absurd (cc)
-answers_by r t (Err e) (tree d) told read = absurd read
-answers_by r t (Err e) (refused f rest) told read = (length t - length rest, f, told, read)
+answers_by r t (Err e) a told (inl memory) = inl memory
+answers_by r t (Err e) (tree d) told (inr tells) = absurd tells
+answers_by r t (Err e) (refused f rest) told (inr tells) = inr (length t - length rest, f, told, tells)
 
 pub answers_of : (r : Reading) → r.strict ≡ false → (t : List ℕ) (result : Result JsonValue Error)
     → Reads t result (outcome r t (before no_frames)) → Answers r t result
@@ -30,6 +31,6 @@ pub value_of : (r : Reading) (t : List ℕ) (result : Result JsonValue Error) �
 value_of r t (Ok v) h = h
 value_of r t (Err e) h = tt
 
-pub error_of : (r : Reading) (t : List ℕ) (result : Result JsonValue Error) → Answers r t result → IfErr result (IsErrorOf r t)
+pub error_of : (r : Reading) (t : List ℕ) (result : Result JsonValue Error) → Answers r t result → IfErr result (IsErrorUnlessMemory r t)
 error_of r t (Ok v) h = tt
 error_of r t (Err e) h = h

@@ -1,21 +1,25 @@
 -- One step of the machine over values, by the byte that stands at a place of a text.
-use Rattle.std.proofs.Common.{◌≡◌, ◌≢◌, ◌⊎◌, inl, inr, ℕ, suc, ◌+◌, ◌<◌, ◌≤◌, Bool, true, false, List, [], ◌∷◌, length, drop, get_or, refl, sym, ap, subst, ◌∙◌, arith, drop-cons, add-one, None, Result, lit<}
-use Rattle.std.specs.Prelude.{chars, IsUtf8, IsTrue, MatchResult, ◌==◌}
+use Rattle.std.proofs.Common.{Ok, Err, ◌≡◌, ◌≢◌, ◌⊎◌, inl, inr, ℕ, suc, ◌+◌, ◌-◌, ◌<◌, ◌≤◌, Bool, true, false, List, [], ◌∷◌, ◌++◌, length, take, drop, get_or, refl, sym, ap, subst, ◌∙◌, arith, drop-cons, add-one, None, Result, lit<}
+use Rattle.std.specs.Prelude.{Contains, chars, IsUtf8, IsTrue, MatchResult, ◌==◌}
 use Rattle.std.specs.Char.{is_ascii_digit}
 use Rattle.std.specs.Str.{IsCharBoundary}
 use Rattle.std.proofs.lemmas.Bool.{cases_lt}
 use Rattle.std.proofs.lemmas.Bool.Decides.{nat_tests}
-use Rattle.std.proofs.lemmas.List.{length-drop, get_or-drop}
+use Rattle.std.proofs.lemmas.List.{length-drop, get_or-drop, length-append}
+use Rattle.std.proofs.Math.Seq.{get_or-append_seam}
+use Rattle.jzon.proofs.FaultPlaces.{chars_split}
 use Rattle.std.proofs.lemmas.Str.{IsUtf8-drop, chars-nil}
 use Rattle.jzon_tree.specs.Writing.{is_space}
 use Rattle.jzon_base.specs.declared.error.Error.{Error}
 use Rattle.jzon.specs.Reading.{Reading}
 use Rattle.jzon.specs.Grammar.{reads_strings, reads_containers}
 use Rattle.jzon.specs.Classes.{Class, white, digits, dash, cross, point, letter_e, quote, opens_array, closes_array, opens_object, closes_object, comma, colon, begins_null, begins_true, begins_false, other, class_of, signed, begun}
-use Rattle.jzon.specs.Fault.{Fault}
+use Rattle.jzon_base.specs.declared.error.Error.TheVariants.{OutOfMemory}
+use Rattle.jzon.specs.Spelling.{deep, pair, digit, duplicate}
+use Rattle.jzon.specs.Fault.{Fault, limit, character, error_at}
 use Rattle.jzon_tree.specs.Value as value
-use Rattle.jzon.specs.Machine.{numeral, past_letter, Place, no_frames, before, go, bad, move, move_before, last, outcome, outcome_on, from, stopped, Outcome, refused, Tells}
-use Rattle.jzon.proofs.Classes.{class-white, class-digits, class-dash, class-begins_null, class-begins_true, class-begins_false, class_110, class_116, class_102, class_45, digits-class}
+use Rattle.jzon.specs.Machine.{meant, TellsUnlessMemory, string, as_value, between, numeral, past_letter, Place, no_frames, before, go, bad, move, move_before, last, outcome, outcome_on, from, stopped, Outcome, refused, Tells}
+use Rattle.jzon.proofs.Classes.{class-white, class-digits, class-dash, class-begins_null, class-begins_true, class-begins_false, class-quote, class_34, class_110, class_116, class_102, class_45, digits-class}
 use Rattle.jzon.proofs.Scanning.{chars-ascii}
 use Rattle.jzon.proofs.Words.{first_byte, some_byte}
 
@@ -71,12 +75,61 @@ pub same_outcome : {T : Type 0} (o p : Outcome) (f : T → Outcome) (t : List �
     → MatchResult result (λ v. p ≡ f v) (λ e. Tells t e p) → MatchResult result (λ v. o ≡ f v) (λ e. Tells t e o)
 same_outcome o p f t result e h = subst (λ q. MatchResult result (λ v. q ≡ f v) (λ x. Tells t x q)) (sym e) h
 
+-- the same, where memory may be refused besides
+pub same_unless_memory : {T : Type 0} (o p : Outcome) (f : T → Outcome) (t : List ℕ) (result : Result T Error) → o ≡ p
+    → MatchResult result (λ v. p ≡ f v) (λ e. TellsUnlessMemory t e p) → MatchResult result (λ v. o ≡ f v) (λ e. TellsUnlessMemory t e o)
+same_unless_memory o p f t result e h = subst (λ q. MatchResult result (λ v. q ≡ f v) (λ x. TellsUnlessMemory t x q)) (sym e) h
+
+pub unless_memory : {T : Type 0} (p : Outcome) (f : T → Outcome) (t : List ℕ) (result : Result T Error)
+    → MatchResult result (λ v. p ≡ f v) (λ e. Tells t e p) → MatchResult result (λ v. p ≡ f v) (λ e. TellsUnlessMemory t e p)
+unless_memory p f t (Ok v) h = h
+unless_memory p f t (Err e) h = inr h
+
+pub same_or_memory : {T : Type 0} (o p : Outcome) (f : T → Outcome) (t : List ℕ) (result : Result T Error) → o ≡ p
+    → MatchResult result (λ v. p ≡ f v) (λ e. Tells t e p) → MatchResult result (λ v. o ≡ f v) (λ e. TellsUnlessMemory t e o)
+same_or_memory o p f t result e h = unless_memory o f t result (same_outcome o p f t result e h)
+
+-- the error of a text is never that of memory
+error_at_memory : (t : List ℕ) (i : ℕ) (f : Fault) → OutOfMemory ≡ error_at t i f → ⊥
+error_at_memory t i (limit deep) e = cc
+error_at_memory t i (limit pair) e = cc
+error_at_memory t i (limit digit) e = cc
+error_at_memory t i (limit (duplicate back)) e = cc
+error_at_memory t i character e = cc
+error_at_memory t i Fault.end e = cc
+
+pub tells_no_memory : (t : List ℕ) (o : Outcome) → Tells t OutOfMemory o → ⊥
+tells_no_memory t (meant v) h = h
+tells_no_memory t (refused f rest) h = error_at_memory t (length t - length rest) f h
+
+pub never_memory : {T : Type 0} (P : T → Type 0) (t : List ℕ) (o : Outcome) (result : Result T Error) → MatchResult result P (λ e. Tells t e o)
+    → result ≡ Err OutOfMemory → ⊥
+never_memory P t o (Ok v) h e = cc
+never_memory P t o (Err x) h e = let same : x ≡ OutOfMemory = cc in tells_no_memory t o (subst (λ z. Tells t z o) same h)
+
+pub fault_no_memory : (t : List ℕ) (o : Outcome) (e : Error) → Tells t e o → e ≡ OutOfMemory → ⊥
+fault_no_memory t o e h same = tells_no_memory t o (subst (λ z. Tells t z o) same h)
+
+-- a quote of a text is one of its characters
+pub has_quote : (bs : List ℕ) (i : ℕ) → IsUtf8 bs → IsCharBoundary bs i → i < length bs → get_or bs i 0 ≡ 34 → Contains (chars bs) 34
+has_quote bs i u at lt e =
+    let split : drop i bs ≡ 34 ∷ drop (suc i) bs = drop-cons bs i 0 lt ∙ ap (λ z. z ∷ drop (suc i) bs) e in
+    let whole : chars bs ≡ chars (take i bs) ++ (34 ∷ chars (drop (suc i) bs)) =
+        chars_split bs i u at ∙ ap (λ z. chars (take i bs) ++ z)
+        (ap chars split ∙ chars-ascii 34 (drop (suc i) bs) (subst IsUtf8 split (IsUtf8-drop bs i u at)) (lit< tt)) in
+    subst (λ z. Contains z 34) (sym whole) (
+      length (chars (take i bs)),
+      omega (arith, length-append (chars (take i bs)) (34 ∷ chars (drop (suc i) bs))),
+      get_or-append_seam (chars (take i bs)) 34 (chars (drop (suc i) bs)) 34,
+    )
+
 -- ---- what begins no value
 
 pub record BeginsNothing (strict : Bool) (c : ℕ) : Type 0 where
   pub no_space : is_space strict c ≡ false
   pub no_digit : is_ascii_digit c ≡ false
   pub no_minus : c ≢ 45
+  pub no_quote : c ≢ 34
   pub no_null : c ≢ 110
   pub no_true : c ≢ 116
   pub no_false : c ≢ 102
@@ -92,7 +145,7 @@ begins_nothing_on r c begins_false h e = absurd (h.no_false (class-begins_false 
 begins_nothing_on r c cross h e = refl
 begins_nothing_on r c point h e = refl
 begins_nothing_on r c letter_e h e = refl
-begins_nothing_on r c quote h e = refl
+begins_nothing_on r c quote h e = absurd (h.no_quote (class-quote r.strict c e))
 begins_nothing_on r c opens_array h e = refl
 begins_nothing_on r c closes_array h e = refl
 begins_nothing_on r c opens_object h e = refl
@@ -110,6 +163,7 @@ wide_begins_nothing strict c le = record {
   no_space = wide_is_no_space strict c le;
   no_digit = grind (arith, nat_tests);
   no_minus = λ e. absurd (omega (arith, e));
+  no_quote = λ e. absurd (omega (arith, e));
   no_null = λ e. absurd (omega (arith, e));
   no_true = λ e. absurd (omega (arith, e));
   no_false = λ e. absurd (omega (arith, e));
@@ -144,6 +198,11 @@ begin_false r bs i u at lt e = from_step r bs i (before no_frames) _ 102 u at lt
 pub begin_minus : (r : Reading) (bs : List ℕ) (i : ℕ) → IsUtf8 bs → IsCharBoundary bs i → i < length bs → get_or bs i 0 ≡ 45
     → from r bs (before no_frames) i ≡ from r bs (numeral no_frames true signed) (i + 1)
 begin_minus r bs i u at lt e = from_step r bs i (before no_frames) _ 45 u at lt e (lit< tt) (ap (λ k. move_before r k no_frames 45) (class_45 r.strict))
+
+pub begin_quote : (r : Reading) (bs : List ℕ) (i : ℕ) → IsUtf8 bs → IsCharBoundary bs i → i < length bs → get_or bs i 0 ≡ 34
+    → from r bs (before no_frames) i ≡ from r bs (string (as_value no_frames) [] between) (i + 1)
+unfolding reads_strings
+begin_quote r bs i u at lt e = from_step r bs i (before no_frames) _ 34 u at lt e (lit< tt) (ap (λ k. move_before r k no_frames 34) (class_34 r.strict))
 
 pub begin_digit : (r : Reading) (bs : List ℕ) (i : ℕ) → IsUtf8 bs → IsCharBoundary bs i → i < length bs → IsTrue (is_ascii_digit (get_or bs i 0))
     → from r bs (before no_frames) i ≡ from r bs (numeral no_frames false (begun (get_or bs i 0 == 48) (get_or bs i 0))) (i + 1)

@@ -1,6 +1,7 @@
 -- What a parser answers for a text.
-use Rattle.std.specs.Prelude.{◌≡◌, ℕ, List, Result, Ok, Err}
+use Rattle.std.specs.Prelude.{◌≡◌, ◌⊎◌, ℕ, List, Result, Ok, Err}
 use Rattle.jzon_base.specs.declared.error.Error.{Error}
+use Rattle.jzon_base.specs.declared.error.Error.TheVariants.{OutOfMemory}
 use Rattle.jzon_tree.specs.View.{view}
 use Rattle.jzon_tree.specs.declared.value.JsonValue.{JsonValue}
 use Rattle.jzon.specs.Reading.{Reading}
@@ -12,7 +13,11 @@ use Rattle.jzon.specs.Fault.{Parses, IsErrorOf}
 abbrev pub IsMeaningOf : Reading → List ℕ → JsonValue → Type 0
 IsMeaningOf r t v = (d : Document) × Parses r t d × (view v ≡ meaning d.node)
 
--- a meaning of the text, or the error of its first fault
+-- memory was refused, or the error is that of the text's first fault
+abbrev pub IsErrorUnlessMemory : Reading → List ℕ → Error → Type 0
+IsErrorUnlessMemory r t e = (e ≡ OutOfMemory) ⊎ IsErrorOf r t e
+
+-- a meaning of the text, or such an error
 abbrev pub Answers : Reading → List ℕ → Result JsonValue Error → Type 0
 Answers r t (Ok v) = IsMeaningOf r t v
-Answers r t (Err e) = IsErrorOf r t e
+Answers r t (Err e) = IsErrorUnlessMemory r t e

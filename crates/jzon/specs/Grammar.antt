@@ -1,5 +1,5 @@
 -- The grammar of RFC 8259 as trees: a tree has each part of a text, the blanks too. A text is a list of characters.
-use Rattle.std.specs.Prelude.{◌≡◌, ℕ, zero, suc, ◌+◌, ◌*◌, List, [], ◌∷◌, Bool, false, not, ◌&&◌, ◌||◌, ◌==◌, nat_le, nat_lt, Option, Some, None, codes, IsTrue, ⊤}
+use Rattle.std.specs.Prelude.{◌≡◌, ℕ, zero, suc, ◌+◌, ◌*◌, List, [], ◌∷◌, Bool, true, false, not, ◌&&◌, ◌||◌, ◌==◌, nat_le, nat_lt, Option, Some, None, codes, IsTrue, ⊤}
 use Rattle.std.specs.Char.{is_ascii_digit, is_ascii_hexdigit, digit_value}
 use Rattle.std.specs.List.{list_any, fold}
 use lib.Utf8.{scalar}
@@ -145,9 +145,9 @@ AreItems (i ∷ is) = IsItem i × AreItems is
 abbrev pub IsKey : Reading → Key → Type 0
 IsKey r k = IsBlank r k.before × AreItems k.items × IsBlank r k.after
 
--- Which kinds of value are read so far: the literals and the numbers.
+-- Which kinds of value are read so far: the literals, the numbers and the strings.
 unfoldable pub reads_strings : Bool
-reads_strings = false
+reads_strings = true
 
 unfoldable pub reads_containers : Bool
 reads_containers = false

@@ -1,9 +1,10 @@
 -- The machine over values: what is left of a text comes to a value or to a fault, one character at a time. It keeps no tree and no blank, only what the open
 -- containers hold so far. It is the reading of texts by a reading that is not strict.
-use Rattle.std.specs.Prelude.{◌≡◌, ℕ, zero, suc, ◌+◌, ◌-◌, ◌*◌, cond, List, [], ◌∷◌, ◌++◌, length, drop, Bool, true, false, ◌&&◌, ◌==◌, Option, Some, None, Result, Ok, Err, chars, encode_utf8}
+use Rattle.std.specs.Prelude.{◌≡◌, ◌⊎◌, ℕ, zero, suc, ◌+◌, ◌-◌, ◌*◌, cond, List, [], ◌∷◌, ◌++◌, length, drop, Bool, true, false, ◌&&◌, ◌==◌, Option, Some, None, Result, Ok, Err, chars, encode_utf8}
 use Rattle.std.specs.Char.{is_ascii_hexdigit, digit_value}
 use Rattle.jzon_base.specs.PairList.{put_each}
 use Rattle.jzon_base.specs.declared.error.Error.{Error}
+use Rattle.jzon_base.specs.declared.error.Error.TheVariants.{OutOfMemory}
 use Rattle.jzon_tree.specs.Value.{Value, values_of, pairs_of, kind_of}
 use Rattle.jzon_tree.specs.Value as value
 use Rattle.jzon_tree.specs.View.{view}
@@ -281,7 +282,11 @@ abbrev pub Tells : List ℕ → Error → Outcome → Type 0
 Tells t e (meant v) = ⊥
 Tells t e (refused f rest) = e ≡ error_at t (length t - length rest) f
 
--- the result is what this outcome of a text says
+-- the error tells this outcome of a text, or memory was refused
+abbrev pub TellsUnlessMemory : List ℕ → Error → Outcome → Type 0
+TellsUnlessMemory t e o = (e ≡ OutOfMemory) ⊎ Tells t e o
+
+-- the result is what this outcome of a text says, unless memory was refused
 abbrev pub Reads : List ℕ → Result JsonValue Error → Outcome → Type 0
 Reads t (Ok v) o = o ≡ meant (view v)
-Reads t (Err e) o = Tells t e o
+Reads t (Err e) o = TellsUnlessMemory t e o

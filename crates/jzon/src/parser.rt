@@ -1,6 +1,6 @@
 //! Reads texts.
 
-ghost use Rattle.std.specs.Prelude.{◌≡◌, ◌==◌, ℕ, ◌<◌, ◌≤◌, ◌+◌, List, length, drop, chars, IsTrue, IsFalse, IfOk, IfErr, MatchResult, slice_index, None, true, false, IsAscii};
+ghost use Rattle.std.specs.Prelude.{◌≡◌, ◌==◌, ℕ, ◌<◌, ◌≤◌, ◌+◌, List, length, drop, chars, IsTrue, IsFalse, IfOk, IfErr, MatchResult, slice_index, None, true, false, IsAscii, Err, Contains, []};
 ghost use Rattle.std.specs.Char.{is_ascii_digit};
 ghost use Rattle.std.specs.Str.{IsCharBoundary};
 ghost use Rattle.std.specs.List.{prefix_len};
@@ -9,30 +9,33 @@ ghost use Rattle.jzon_tree.specs.View.{view};
 ghost use Rattle.jzon_tree.specs.Writing.{is_space};
 ghost use Rattle.jzon.specs.Reading.{usual};
 ghost use Rattle.jzon.specs.Classes.{begun, signed};
-ghost use Rattle.jzon.specs.Machine.{numeral, Frames, no_frames, before, behind, past_letter, value_mark, from, Tells, Reads};
-ghost use Rattle.jzon.specs.Answer.{IsMeaningOf};
-ghost use Rattle.jzon.specs.Fault.{IsErrorOf};
+ghost use Rattle.jzon.specs.Machine.{TellsUnlessMemory, string, as_value, between, numeral, Frames, no_frames, before, behind, past_letter, value_mark, from, Tells, Reads};
+ghost use Rattle.jzon.specs.Answer.{IsMeaningOf, IsErrorUnlessMemory};
 
 use crate::numeral::read_number;
 use crate::place::{fault_at, has_byte, has_digit};
+use crate::string::{read_string, text_value};
 use jzon_base::error::{Error, Result};
 use jzon_tree::value::JsonValue;
 use std::alloc::Global;
 
 /// The value that a text means (RFC 8259; docs/RULES.md, "Texts"), or the error of its first fault.
-pub fn parse(_alloc: Global, source: &str) -> Result<JsonValue>
+pub fn parse(alloc: Global, source: &str) -> Result<JsonValue>
     ensures value { IfOk result (IsMeaningOf usual (chars source.now)) }
-    ensures error { IfErr result (IsErrorOf usual (chars source.now)) }
+    ensures error { IfErr result (IsErrorUnlessMemory usual (chars source.now)) }
+    ensures memory { result ≡ Err Error.OutOfMemory → Contains (chars source.now) 34 }
 {
-    read(source)
+    read(alloc, source)
 }
 
 /// The same, by the machine over values.
-fn read(source: &str) -> Result<JsonValue>
-    ensures { Reads (chars source.now) result (from usual source.now (before no_frames) 0) }
+fn read(alloc: Global, source: &str) -> Result<JsonValue>
+    ensures outcome { Reads (chars source.now) result (from usual source.now (before no_frames) 0) }
+    ensures memory { result ≡ Err Error.OutOfMemory → Contains (chars source.now) 34 }
 {
+    let mut buffer = String::new(alloc);
     let start = skip_blank(source, 0);
-    let (value, end) = read_value(source, start)?;
+    let (value, end) = read_value(alloc, source, start, &mut buffer)?;
     let end = skip_blank(source, end);
     if end < source.len() {
         return Err(fault_at(source, end));
@@ -65,14 +68,20 @@ fn blank_length(text: &str) -> usize
     text.bytes().take_while(|byte| is_whitespace(*byte)).count()
 }
 
-/// The literal or number that begins at `start`, and the place behind it.
-fn read_value(source: &str, start: usize) -> Result<(JsonValue, usize)>
+/// The literal, number or string that begins at `start`, and the place behind it. Escapes are read in the buffer.
+fn read_value(
+    alloc: Global,
+    source: &str,
+    start: usize,
+    buffer: &mut String,
+) -> Result<(JsonValue, usize)>
     requires boundary { IsCharBoundary source.now start }
     requires stop { start < length source.now → is_space usual.strict (slice_index source.now start) ≡ false }
     ensures boundary { IfOk result (λ r. IsCharBoundary source.now r.1) }
     ensures same { MatchResult result
         (λ r. from usual source.now (before no_frames) start ≡ from usual source.now (behind no_frames (view r.0)) r.1)
-        (λ e. Tells (chars source.now) e (from usual source.now (before no_frames) start)) }
+        (λ e. TellsUnlessMemory (chars source.now) e (from usual source.now (before no_frames) start)) }
+    ensures memory { result ≡ Err Error.OutOfMemory → Contains (chars source.now) 34 }
 {
     if start == source.len() {
         return Err(fault_at(source, start));
@@ -81,12 +90,31 @@ fn read_value(source: &str, start: usize) -> Result<(JsonValue, usize)>
         return read_magnitude(source, start, false);
     }
     match source.as_bytes()[start] {
+        b'"' => read_text(alloc, source, start + 1, buffer),
         b'-' => read_negative(source, start + 1),
         b'n' => read_word(source, start + 1, b"ull", JsonValue::Null),
         b't' => read_word(source, start + 1, b"rue", JsonValue::Boolean(true)),
         b'f' => read_word(source, start + 1, b"alse", JsonValue::Boolean(false)),
         _ => Err(fault_at(source, start)),
     }
+}
+
+/// The string whose opening quote stands before `start`, and the place behind it.
+fn read_text(
+    alloc: Global,
+    source: &str,
+    start: usize,
+    buffer: &mut String,
+) -> Result<(JsonValue, usize)>
+    requires { IsCharBoundary source.now start }
+    ensures boundary { IfOk result (λ r. IsCharBoundary source.now r.1) }
+    ensures same { (fs : Frames) → MatchResult result
+        (λ r. from usual source.now (string (as_value fs) [] between) start ≡ from usual source.now (behind fs (view r.0)) r.1)
+        (λ e. TellsUnlessMemory (chars source.now) e (from usual source.now (string (as_value fs) [] between) start)) }
+{
+    let spelled = read_string(source, start, buffer)?;
+    let value = text_value(alloc, spelled.text(source, start, buffer))?;
+    Ok((value, spelled.end))
 }
 
 /// The number whose minus stands before `start`, and the place behind it.
@@ -132,6 +160,19 @@ fn read_word(
         (λ r. from usual source.now (past_letter fs (view value) letters.now) start ≡ from usual source.now (behind fs (view r.0)) r.1)
         (λ e. Tells (chars source.now) e (from usual source.now (past_letter fs (view value) letters.now) start)) }
 {
+    let end = read_letters(source, start, letters)?;
+    Ok((value, end))
+}
+
+/// The place behind these letters, which are the rest of a word.
+fn read_letters(source: &str, start: usize, letters: &[u8]) -> Result<usize>
+    requires boundary { IsCharBoundary source.now start }
+    requires ascii { IsAscii letters.now }
+    ensures boundary { IfOk result (IsCharBoundary source.now) }
+    ensures same { (fs : Frames) (v : Value) → MatchResult result
+        (λ end. from usual source.now (past_letter fs v letters.now) start ≡ from usual source.now (behind fs v) end)
+        (λ e. Tells (chars source.now) e (from usual source.now (past_letter fs v letters.now) start)) }
+{
     let mut index = start;
     for letter in letters {
         if !has_byte(source, index, *letter) {
@@ -139,5 +180,5 @@ fn read_word(
         }
         index += 1;
     }
-    Ok((value, index))
+    Ok(index)
 }

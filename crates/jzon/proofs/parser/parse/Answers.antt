@@ -8,7 +8,7 @@ use Rattle.jzon.proofs.parser.parse.Goals as goal
 
 answer : (c : goal.After-read) → Answers usual (chars c.args.source.now) c.read.result
 unfolding from
-answer c = answers_of usual refl (chars c.args.source.now) c.read.result c.read.ensures
+answer c = answers_of usual refl (chars c.args.source.now) c.read.result c.read.ensures.outcome
 
 pub returns-clause-value : goal.returns-clause-value
 returns-clause-value c = value_of usual (chars c.args.source.now) c.read.result (answer c)
