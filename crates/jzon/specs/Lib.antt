@@ -4,3 +4,9 @@ pub mod Spelling
 pub mod Meaning
 pub mod Fault
 pub mod Laws
+
+-- what the contracts of the crates above cite
+pub use Rattle.jzon_base.specs.ErrorText
+pub use Rattle.jzon_base.specs.Written
+pub use Rattle.jzon_base.specs.declared.error.Error
+pub use Rattle.jzon_tree.specs.Text

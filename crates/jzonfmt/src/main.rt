@@ -1,5 +1,32 @@
+//! Reads one JSON document from standard input, and prints it on standard output.
 #![tactic(auto)]
 
-fn main(rt: HostRuntime) {
-    let _rt = rt;
+mod engine;
+#[cfg(test)]
+mod refusals;
+#[cfg(test)]
+mod tests;
+
+use engine::RunFault;
+use std::process::ExitCode;
+use std::{env, io};
+
+fn main(rt: HostRuntime) -> ExitCode {
+    let mut faults = rt.stderr();
+    let status = match words(&rt) {
+        Ok(words) => engine::drive(
+            rt.alloc(),
+            words.as_slice(),
+            &mut rt.stdin(),
+            &mut rt.stdout(),
+            &mut faults,
+        ),
+        Err(error) => engine::tell(&mut faults, &RunFault::Read(error)),
+    };
+    ExitCode::from(status)
+}
+
+// The arguments after the program's name.
+fn words(rt: &HostRuntime) -> io::Result<Vec<String>> {
+    Ok(env::args(rt)?.skip(1).collect(rt.alloc())?)
 }

@@ -1,0 +1,39 @@
+-- What the program does for its words (docs/RULES.md, "The program").
+use Rattle.std.specs.Prelude.{◌≡◌, ℕ, List, [], ◌∷◌, Result, Ok, Err, Option, None, Some, codes, MatchOption}
+use Rattle.std.specs.Io.KnownBytes.{Keeps}
+use Rattle.jzon.specs.ErrorText.{error_text}
+use Rattle.jzonfmt.specs.declared.engine.Layout.{Layout}
+use Rattle.jzonfmt.specs.declared.engine.Layout.TheVariants.{Compact}
+use Rattle.jzonfmt.specs.declared.engine.RunFault.{RunFault}
+use Rattle.jzonfmt.specs.declared.engine.RunFault.TheVariants.{Read, NotUtf8, Json, Write, Memory}
+use Rattle.jzonfmt.specs.Run.{Runs}
+
+-- what is told of a fault
+abbrev pub fault_text : RunFault → List ℕ
+fault_text (Read e) = codes "reading failed"
+fault_text NotUtf8 = codes "input is not UTF-8"
+fault_text (Json e) = error_text e
+fault_text (Write e) = codes "writing failed"
+fault_text Memory = codes "Out of memory"
+
+-- the status after a fault: 1 for a refused input, 3 for what failed round the program
+abbrev pub fault_status : RunFault → ℕ
+fault_status NotUtf8 = 1
+fault_status (Json e) = 1
+fault_status _ = 3
+
+abbrev pub status_of : {T : Type 0} → Result T RunFault → ℕ
+status_of (Ok _) = 0
+status_of (Err fault) = fault_status fault
+
+-- the layout that the words ask for, where they ask for one: no word asks for the compact one
+abbrev pub asked_layout : {A : Type 0} → List A → Option Layout
+asked_layout [] = Some Compact
+asked_layout (_ ∷ _) = None
+
+-- Words that ask for no layout are answered by 2, with nothing read or written; the others by a run and its status.
+abbrev pub Drives : {A : Type 0} → List A → ℕ → Option (List ℕ) → Option (List ℕ) → Option (List ℕ) → Option (List ℕ) → Type 0
+Drives words status r s w x =
+    MatchOption (asked_layout words)
+    ((status ≡ 2) × Keeps r s × Keeps w x)
+    (λ layout. (answer : Result (Unit {0}) RunFault) × Runs layout answer r s w x × (status ≡ status_of answer))

@@ -1,0 +1,68 @@
+-- What a run does (docs/RULES.md, "The program").
+use Rattle.std.specs.Prelude.{◌≡◌, ℕ, List, [], ◌∷◌, ◌++◌, Result, Ok, Err, Option, IsUtf8, chars, string_bytes, ⊤}
+use Rattle.std.specs.declared.string.String.{String}
+use Rattle.std.specs.Io.KnownBytes.{Appends, Keeps, Consumes, IsAtEnd}
+use Rattle.jzon.specs.Error.{Error}
+use Rattle.jzon.specs.Error.TheVariants.{OutOfMemory}
+use Rattle.jzon.specs.Written.{AppendsBeginning}
+use Rattle.jzon.specs.Text.{compact}
+use Rattle.jzon.specs.Reading.{usual}
+use Rattle.jzon.specs.Grammar.{Document}
+use Rattle.jzon.specs.Meaning.{meaning}
+use Rattle.jzon.specs.Fault.{Parses, IsErrorOf}
+use Rattle.jzonfmt.specs.declared.engine.Layout.{Layout}
+use Rattle.jzonfmt.specs.declared.engine.Layout.TheVariants.{Compact}
+use Rattle.jzonfmt.specs.declared.engine.RunFault.{RunFault}
+use Rattle.jzonfmt.specs.declared.engine.RunFault.TheVariants.{Read, NotUtf8, Json, Write, Memory}
+
+-- the fault that a refusal is
+abbrev pub fault_of : Error → RunFault
+fault_of OutOfMemory = Memory
+fault_of e = Json e
+
+-- ---- what is read
+
+-- these bytes are read: all that the reader has, but where it fails or memory is refused
+abbrev pub Reads : {T : Type 0} → Result T RunFault → Option (List ℕ) → Option (List ℕ) → List ℕ → Type 0
+Reads (Err (Read e)) old new input = Consumes old new input
+Reads (Err Memory) old new input = Consumes old new input
+Reads _ old new input = Consumes old new input × IsAtEnd new
+
+-- the reader failed, or memory was refused
+abbrev pub IsReadFault : RunFault → Type 0
+IsReadFault (Read e) = ⊤
+IsReadFault Memory = ⊤
+IsReadFault _ = ⊥
+
+-- ---- what is printed
+
+-- the bytes are the text of the document
+abbrev pub IsTextOf : List ℕ → Document → Type 0
+IsTextOf input d = IsUtf8 input × Parses usual (chars input) d
+
+-- the text of its meaning in the layout, and a newline
+abbrev pub printed : Layout → Document → List ℕ
+printed Compact d = compact (meaning d.node) ++ 10 ∷ []
+
+-- what is printed for the bytes, or why nothing is
+abbrev pub Prints : {A : Type 0} → Layout → List ℕ → Result (String A) RunFault → Type 0
+Prints layout input (Ok text) = (d : Document) × IsTextOf input d × (string_bytes text ≡ printed layout d)
+Prints layout input (Err NotUtf8) = ¬ (IsUtf8 input)
+Prints layout input (Err (Json e)) = IsUtf8 input × IsErrorOf usual (chars input) e
+Prints layout input (Err Memory) = ⊤
+Prints layout input (Err _) = ⊥
+
+-- ---- what is answered
+
+-- The answer to the bytes, and what the writer holds before and after it. A fault leaves nothing written, but for one of the writer, which leaves a
+-- beginning of what was to be printed.
+abbrev pub Answers : {T : Type 0} → Layout → List ℕ → Result T RunFault → Option (List ℕ) → Option (List ℕ) → Type 0
+Answers layout input (Ok _) old new = (d : Document) × IsTextOf input d × Appends old new (printed layout d)
+Answers layout input (Err (Write e)) old new = (d : Document) × IsTextOf input d × AppendsBeginning old new (printed layout d)
+Answers layout input (Err NotUtf8) old new = (¬ (IsUtf8 input)) × Keeps old new
+Answers layout input (Err (Json e)) old new = (IsUtf8 input × IsErrorOf usual (chars input) e) × Keeps old new
+Answers layout input (Err _) old new = Keeps old new
+
+-- Some bytes are read (the reader has `r` before and `s` after it) and answered (the writer holds `w` before and `x` after it).
+abbrev pub Runs : {T : Type 0} → Layout → Result T RunFault → Option (List ℕ) → Option (List ℕ) → Option (List ℕ) → Option (List ℕ) → Type 0
+Runs layout result r s w x = (input : List ℕ) × Reads result r s input × Answers layout input result w x

@@ -1,0 +1,204 @@
+//! What the program does, over any reader and any writers.
+
+ghost use Rattle.std.specs.Prelude.{◌≡◌, ℕ, List, IfOk, IfErr, vec_len};
+ghost use Rattle.std.specs.Io.KnownBytes.{Consumes, Keeps};
+ghost use Rattle.jzonfmt.specs.Run.{IsReadFault, Prints, Reads, Runs};
+ghost use Rattle.jzonfmt.specs.Drive.{Drives, asked_layout, fault_status};
+
+use jzon::{Error, util};
+use std::alloc::{AllocError, Global};
+use std::io::{Read, Write};
+use std::{fmt, io};
+
+/// How a document is printed.
+#[derive(Clone, Copy, Debug, PartialEq, Eq)]
+pub enum Layout {
+    /// Without whitespace.
+    Compact,
+}
+
+/// Why no document was printed, or not the whole of it.
+#[derive(Debug, Drop)]
+pub enum RunFault {
+    /// The reader failed, by this error; an interruption counts.
+    Read(io::Error),
+    /// The input is no UTF-8.
+    NotUtf8,
+    /// The text is refused.
+    Json(Error),
+    /// The writer failed, by this error.
+    Write(io::Error),
+    /// Memory was refused.
+    Memory,
+}
+
+impl RunFault {
+    /// The status that the program ends with: 1 where the input is refused, 3 where reading, writing or memory failed.
+    pub fn status(&self) -> u8
+        ensures { result ≡ fault_status self.now }
+    {
+        match self {
+            RunFault::NotUtf8 | RunFault::Json(_) => 1,
+            RunFault::Read(_) | RunFault::Write(_) | RunFault::Memory => 3,
+        }
+    }
+}
+
+impl fmt::Display for RunFault {
+    ghost use Rattle.std.specs.Prelude.{Some};
+    ghost use Rattle.jzonfmt.specs.Drive.{fault_text};
+
+    ghost output = { λ fault. Some (fault_text fault) };
+
+    fn fmt<W: fmt::Write>(&self, f: &mut fmt::Formatter<W>) -> fmt::Result {
+        match self {
+            RunFault::Read(_) => f.write_str("reading failed"),
+            RunFault::NotUtf8 => f.write_str("input is not UTF-8"),
+            RunFault::Json(error) => write!(f, "{error}"),
+            RunFault::Write(_) => f.write_str("writing failed"),
+            RunFault::Memory => f.write_str("Out of memory"),
+        }
+    }
+}
+
+impl From<AllocError> for RunFault {
+    ghost use Rattle.jzonfmt.specs.declared.engine.RunFault.TheVariants.{Memory};
+
+    ghost from_gives = { λ _ fault. fault ≡ Memory };
+
+    fn from(_refused: AllocError) -> RunFault {
+        RunFault::Memory
+    }
+}
+
+impl From<Error> for RunFault {
+    ghost use Rattle.std.specs.Prelude.{◌≡◌};
+    ghost use Rattle.jzonfmt.specs.Run.{fault_of};
+
+    ghost from_gives = { λ error fault. fault ≡ fault_of error };
+
+    fn from(error: Error) -> RunFault {
+        match error {
+            Error::OutOfMemory => RunFault::Memory,
+            error => RunFault::Json(error),
+        }
+    }
+}
+
+/// How many bytes are asked of the reader at once.
+const CHUNK: usize = 65536;
+
+/// Reads one document, and writes it in the layout and a newline. The reader is read to its end before anything is written, and each fault of it ends the
+/// run.
+pub fn run<R: Read, W: Write>(
+    alloc: Global,
+    reader: &mut R,
+    writer: &mut W,
+    layout: Layout,
+) -> Result<(), RunFault>
+    ensures { Runs layout result (R.remaining reader.old) (R.remaining reader.new)
+        (W.contents writer.old) (W.contents writer.new) }
+{
+    let input = read_input(alloc, reader)?;
+    let text = printed_text(alloc, input.as_slice(), layout)?;
+    match util::write_bytes(writer, text.as_bytes()) {
+        Ok(()) => Ok(()),
+        Err(error) => Err(RunFault::Write(error)),
+    }
+}
+
+// Reads to the end, in chunks.
+fn read_input<R: Read>(alloc: Global, reader: &mut R) -> Result<Vec<u8>, RunFault>
+    ensures all { IfOk result
+        (λ input. Reads result (R.remaining reader.old) (R.remaining reader.new) input.items) }
+    ensures fault { IfErr result IsReadFault }
+    ensures some { (input : List ℕ) × Consumes (R.remaining reader.old) (R.remaining reader.new) input }
+{
+    let mut input = Vec::new(alloc);
+    let mut chunk = zeros(alloc, CHUNK)?;
+    loop {
+        let count = reader.read(&mut chunk).map_err(RunFault::Read)?;
+        if count == 0 {
+            return Ok(input);
+        }
+        input.extend_from_slice(&chunk[..count])?;
+    }
+}
+
+// So many bytes 0.
+fn zeros(alloc: Global, count: usize) -> Result<Vec<u8>, AllocError>
+    ensures { IfOk result (λ bytes. vec_len bytes ≡ count) }
+{
+    vec![in alloc; 0u8; count]
+}
+
+// The text that is printed for the input.
+fn printed_text(alloc: Global, input: &[u8], layout: Layout) -> Result<String, RunFault>
+    ensures { Prints layout input.now result }
+{
+    let source = str::from_utf8(input).map_err(|_| RunFault::NotUtf8)?;
+    let value = jzon::parse(alloc, source)?;
+    let mut text = match layout {
+        Layout::Compact => value.dump(alloc)?,
+    };
+    text.push('\n')?;
+    Ok(text)
+}
+
+/// The program, but for where its words and streams come from: judges the words that follow its name, runs, flushes the writer, tells of a fault in one
+/// line on `faults`, and answers the status. A fault of that line is passed over.
+pub fn drive<R: Read, W: Write, F: Write>(
+    alloc: Global,
+    words: &[String],
+    reader: &mut R,
+    writer: &mut W,
+    faults: &mut F,
+) -> u8
+    ensures status { Drives words.now result (R.remaining reader.old) (R.remaining reader.new)
+        (W.contents writer.old) (W.contents writer.new) }
+    ensures silent { result ≡ 0 → Keeps (F.contents faults.old) (F.contents faults.new) }
+{
+    let Some(layout) = layout_of(words) else {
+        let _ = writeln!(faults, "jzonfmt: usage: jzonfmt");
+        return 2;
+    };
+    match run_and_flush(alloc, reader, writer, layout) {
+        Ok(()) => 0,
+        Err(fault) => tell(faults, &fault),
+    }
+}
+
+// The layout that the words ask for.
+fn layout_of(words: &[String]) -> Option<Layout>
+    ensures { result ≡ asked_layout words.now }
+{
+    match words {
+        [] => Some(Layout::Compact),
+        _ => None,
+    }
+}
+
+// Runs, and then flushes the writer.
+fn run_and_flush<R: Read, W: Write>(
+    alloc: Global,
+    reader: &mut R,
+    writer: &mut W,
+    layout: Layout,
+) -> Result<(), RunFault>
+    ensures { Runs layout result (R.remaining reader.old) (R.remaining reader.new)
+        (W.contents writer.old) (W.contents writer.new) }
+{
+    run(alloc, reader, writer, layout)?;
+    match writer.flush() {
+        Ok(()) => Ok(()),
+        Err(error) => Err(RunFault::Write(error)),
+    }
+}
+
+/// Tells of the fault in one line, and answers its status. A fault of the line itself is passed over.
+pub fn tell<F: Write>(faults: &mut F, fault: &RunFault) -> u8
+    ensures { result ≡ fault_status fault.now }
+{
+    let _ = writeln!(faults, "jzonfmt: {fault}");
+    fault.status()
+}

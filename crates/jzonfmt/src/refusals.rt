@@ -1,0 +1,112 @@
+// The program with each of its requests for memory refused in turn. That is the work of ci/refuse.c, beside which bin/test runs these tests once more.
+// Without it each test runs its call once, with memory enough.
+
+use crate::engine;
+use crate::engine::{Layout, RunFault};
+use std::alloc::Global;
+use std::process::Abort;
+use std::test::Fail;
+
+/// A request of this size or more is a sign to ci/refuse.c, and fails without it.
+const MARK: usize = 1 << 62;
+
+/// More runs than a test needs.
+const MOST: usize = 100;
+
+/// Runs of one call. In the first one its first request is refused, in the next one its second, and so on, until a run meets no refusal.
+#[derive(Drop)]
+struct Refusals {
+    alloc: Global,
+    count: usize,
+    is_able: bool,
+    is_done: bool,
+}
+
+impl Refusals {
+    fn new(alloc: Global) -> Refusals {
+        Refusals {
+            alloc,
+            count: 0,
+            is_able: false,
+            is_done: false,
+        }
+    }
+
+    // Stands right before the call.
+    fn begin(&mut self) {
+        let next = self.count.saturating_add(1);
+        self.is_able = is_granted(self.alloc, MARK.saturating_add(next));
+    }
+
+    // Stands right after the call: whether a request was refused in it.
+    fn was_refused(&mut self) -> bool {
+        let was_refused = self.is_able && !is_granted(self.alloc, MARK);
+        if was_refused {
+            self.count = self.count.saturating_add(1);
+        }
+        self.is_done = !was_refused;
+        was_refused
+    }
+
+    // Stands after the last run. bin/test reads the line.
+    fn tell(&self, rt: &(impl Eprint + Abort), test: &str, least: usize) {
+        let _ = eprintln!(rt; "{test}: {} refusals", self.count);
+        assert!(rt; self.is_done, "each run met a refusal");
+        assert!(rt;
+            !self.is_able || self.count >= least,
+            "at least {least} refusals"
+        );
+    }
+}
+
+fn is_granted(alloc: Global, size: usize) -> bool {
+    let block: Result<Vec<u8>, _> = Vec::with_capacity(alloc, size);
+    block.is_ok()
+}
+
+#[test]
+fn run_under_refusals(rt: HostRuntime) -> Result<(), Fail> {
+    let alloc = rt.alloc();
+    let mut refusals = Refusals::new(alloc);
+    for _ in 0..MOST {
+        let mut reader: &[u8] = b"-12.50e3";
+        let mut writer: Vec<u8> = Vec::with_capacity(alloc, 64)?;
+        refusals.begin();
+        let result = engine::run(alloc, &mut reader, &mut writer, Layout::Compact);
+        if refusals.was_refused() {
+            assert!(rt; matches!(result, Err(RunFault::Memory)));
+            assert!(rt; writer.is_empty());
+        } else {
+            assert!(rt; result.is_ok());
+            assert_eq!(rt; writer.as_slice(), b"-12500\n".as_slice());
+            break;
+        }
+    }
+    refusals.tell(&rt, "run_under_refusals", 3);
+    Ok(())
+}
+
+#[test]
+fn drive_under_refusals(rt: HostRuntime) -> Result<(), Fail> {
+    let alloc = rt.alloc();
+    let mut refusals = Refusals::new(alloc);
+    for _ in 0..MOST {
+        let mut reader: &[u8] = b"-12.50e3";
+        let mut writer: Vec<u8> = Vec::with_capacity(alloc, 64)?;
+        let mut faults: Vec<u8> = Vec::with_capacity(alloc, 64)?;
+        refusals.begin();
+        let status = engine::drive(alloc, &[], &mut reader, &mut writer, &mut faults);
+        if refusals.was_refused() {
+            assert_eq!(rt; status, 3);
+            assert_eq!(rt; faults.as_slice(), b"jzonfmt: Out of memory\n".as_slice());
+            assert!(rt; writer.is_empty());
+        } else {
+            assert_eq!(rt; status, 0);
+            assert!(rt; faults.is_empty());
+            assert_eq!(rt; writer.as_slice(), b"-12500\n".as_slice());
+            break;
+        }
+    }
+    refusals.tell(&rt, "drive_under_refusals", 3);
+    Ok(())
+}

@@ -1,0 +1,363 @@
+// The program's lines and statuses, and readers and writers that fail.
+ghost use Rattle.std.specs.Prelude.{Some};
+
+use crate::engine;
+use crate::engine::{Layout, RunFault};
+use std::alloc::Global;
+use std::io;
+use std::io::{ErrorKind, Read, Write};
+use std::test::Fail;
+
+const TEXT: &[u8] = b"-12.50e3";
+
+const PRINTED: &[u8] = b"-12500\n";
+
+/// Gives one byte a call, and fails at one call.
+#[derive(Drop)]
+struct FailingReader {
+    rest: &'static [u8],
+    calls: usize,
+    fails_at: usize,
+    kind: ErrorKind,
+}
+
+impl FailingReader {
+    fn new(rest: &'static [u8], fails_at: usize, kind: ErrorKind) -> FailingReader {
+        FailingReader {
+            rest,
+            calls: 0,
+            fails_at,
+            kind,
+        }
+    }
+}
+
+impl Read for FailingReader {
+    ghost remaining = { λ reader. Some reader.rest.now };
+
+    fn read(&mut self, buf: &mut [u8]) -> io::Result<usize> {
+        self.calls = self.calls.saturating_add(1);
+        if self.calls == self.fails_at {
+            return Err(io::Error::from(self.kind));
+        }
+        if buf.is_empty() {
+            return Ok(0);
+        }
+        self.rest.read(&mut buf[..1])
+    }
+}
+
+/// What a writer does at one call.
+#[derive(Clone, Copy, Debug, PartialEq, Eq)]
+enum Trouble {
+    TakesNothing,
+    Fails(ErrorKind),
+}
+
+/// Takes one byte a call, but for one call that meets trouble. At a flush it may fail.
+#[derive(Drop)]
+struct SlowWriter {
+    bytes: Vec<u8>,
+    calls: usize,
+    trouble_at: usize,
+    trouble: Trouble,
+    flushes: usize,
+    can_flush: bool,
+}
+
+impl SlowWriter {
+    fn new(alloc: Global, trouble_at: usize, trouble: Trouble) -> SlowWriter {
+        SlowWriter {
+            bytes: Vec::new(alloc),
+            calls: 0,
+            trouble_at,
+            trouble,
+            flushes: 0,
+            can_flush: true,
+        }
+    }
+}
+
+impl Write for SlowWriter {
+    ghost contents = { λ writer. Some writer.bytes.items };
+
+    fn write(&mut self, buf: &[u8]) -> io::Result<usize> {
+        self.calls = self.calls.saturating_add(1);
+        if self.calls == self.trouble_at {
+            return match self.trouble {
+                Trouble::TakesNothing => Ok(0),
+                Trouble::Fails(kind) => Err(io::Error::from(kind)),
+            };
+        }
+        let Some(first) = buf.first() else {
+            return Ok(0);
+        };
+        self.bytes.push(*first)?;
+        Ok(1)
+    }
+
+    fn flush(&mut self) -> io::Result<()> {
+        self.flushes = self.flushes.saturating_add(1);
+        if self.can_flush {
+            Ok(())
+        } else {
+            Err(io::Error::from(ErrorKind::StorageFull))
+        }
+    }
+}
+
+/// No call of a writer.
+const NEVER: usize = 0;
+
+/// The words that follow the program's name, with a comma between them, the input, the status, and what is written on both sides.
+#[derive(Drop)]
+struct Row {
+    words: Option<&'static str>,
+    input: &'static [u8],
+    status: u8,
+    output: &'static str,
+    faults: &'static str,
+}
+
+fn done(input: &'static [u8], output: &'static str) -> Row {
+    Row {
+        words: None,
+        input,
+        status: 0,
+        output,
+        faults: "",
+    }
+}
+
+fn refused(input: &'static [u8], faults: &'static str) -> Row {
+    Row {
+        words: None,
+        input,
+        status: 1,
+        output: "",
+        faults,
+    }
+}
+
+fn misused(words: &'static str) -> Row {
+    Row {
+        words: Some(words),
+        input: TEXT,
+        status: 2,
+        output: "",
+        faults: "jzonfmt: usage: jzonfmt\n",
+    }
+}
+
+fn words_of(alloc: Global, words: Option<&'static str>) -> Result<Vec<String>, Fail> {
+    let mut all = Vec::new(alloc);
+    if let Some(words) = words {
+        for word in words.split(',') {
+            all.push(String::from_str(alloc, word)?)?;
+        }
+    }
+    Ok(all)
+}
+
+#[test]
+fn lines_and_statuses(rt: HostRuntime) -> Result<(), Fail> {
+    let alloc = rt.alloc();
+    let rows = [
+        done(TEXT, "-12500\n"),
+        done(b" \t\r\n\x0b\x0cnull \n", "null\n"),
+        done(b"true", "true\n"),
+        done(b"false\n", "false\n"),
+        done(b"18446744073709551615.5", "18446744073709551615\n"),
+        refused(b"", "jzonfmt: Unexpected end of JSON\n"),
+        refused(b"  ", "jzonfmt: Unexpected end of JSON\n"),
+        refused(b"tru", "jzonfmt: Unexpected end of JSON\n"),
+        refused(b"01", "jzonfmt: Unexpected character: 1 at (1:2)\n"),
+        refused(b"\n\nnulX\n", "jzonfmt: Unexpected character: X at (3:4)\n"),
+        refused(b"\xff", "jzonfmt: input is not UTF-8\n"),
+        refused(b"x\xc3", "jzonfmt: input is not UTF-8\n"),
+        refused(b"null\xed\xa0\x80", "jzonfmt: input is not UTF-8\n"),
+        misused(""),
+        misused("-"),
+        misused("--pretty"),
+        misused("--pretty,2"),
+        misused("--strict"),
+    ];
+    for row in &rows {
+        let words = words_of(alloc, row.words)?;
+        let mut reader = row.input;
+        let mut writer: Vec<u8> = Vec::new(alloc);
+        let mut faults: Vec<u8> = Vec::new(alloc);
+        let status = engine::drive(alloc, &words, &mut reader, &mut writer, &mut faults);
+        assert_eq!(rt; str::from_utf8(&faults)?, row.faults);
+        assert_eq!(rt; status, row.status);
+        assert_eq!(rt; str::from_utf8(&writer)?, row.output);
+        // Words are judged before anything is read.
+        let left = if row.status == 2 { row.input.len() } else { 0 };
+        assert_eq!(rt; reader.len(), left);
+    }
+    Ok(())
+}
+
+fn repeated(alloc: Global, byte: u8, count: usize) -> Result<Vec<u8>, Fail> {
+    Ok(vec![in alloc; byte; count]?)
+}
+
+#[test]
+fn too_many_digits(rt: HostRuntime) -> Result<(), Fail> {
+    let alloc = rt.alloc();
+    let mut input = Vec::new(alloc);
+    input.push(b'8')?;
+    input.extend_from_slice(&repeated(alloc, b'0', 32786)?)?;
+    let mut reader = input.as_slice();
+    let mut writer: Vec<u8> = Vec::new(alloc);
+    let mut faults: Vec<u8> = Vec::new(alloc);
+    let status = engine::drive(alloc, &[], &mut reader, &mut writer, &mut faults);
+    assert_eq!(rt; status, 1);
+    assert_eq!(rt;
+        faults.as_slice(),
+        b"jzonfmt: Exceeded depth limit\n".as_slice()
+    );
+    assert!(rt; writer.is_empty());
+    Ok(())
+}
+
+// Inputs round the size of a chunk.
+#[test]
+fn long_inputs(rt: HostRuntime) -> Result<(), Fail> {
+    let alloc = rt.alloc();
+    for blanks in [65531, 65532, 65533, 131072, 200000] {
+        let mut input = repeated(alloc, b' ', blanks)?;
+        input.extend_from_slice(b"null")?;
+        let mut reader = input.as_slice();
+        let mut writer: Vec<u8> = Vec::new(alloc);
+        assert!(rt;
+            engine::run(alloc, &mut reader, &mut writer, Layout::Compact).is_ok(),
+            "{blanks} blanks"
+        );
+        assert_eq!(rt; writer.as_slice(), b"null\n".as_slice());
+        assert!(rt; reader.is_empty());
+    }
+    Ok(())
+}
+
+#[test]
+fn a_reader_fails_at_each_call(rt: HostRuntime) -> Result<(), Fail> {
+    let alloc = rt.alloc();
+    for kind in [ErrorKind::Interrupted, ErrorKind::UnexpectedEof] {
+        // One call more than there are bytes, since the last one finds the end.
+        for call in 1..=TEXT.len() + 1 {
+            let mut reader = FailingReader::new(TEXT, call, kind);
+            let mut writer: Vec<u8> = Vec::new(alloc);
+            match engine::run(alloc, &mut reader, &mut writer, Layout::Compact) {
+                Err(RunFault::Read(error)) => assert_eq!(rt; error.kind(), kind),
+                _ => assert!(rt; false, "no fault of the reader at call {call}"),
+            }
+            assert_eq!(rt; reader.calls, call);
+            assert!(rt; writer.is_empty());
+        }
+    }
+    let mut reader = FailingReader::new(TEXT, NEVER, ErrorKind::Other);
+    let mut writer: Vec<u8> = Vec::new(alloc);
+    assert!(rt; engine::run(alloc, &mut reader, &mut writer, Layout::Compact).is_ok());
+    assert_eq!(rt; writer.as_slice(), PRINTED);
+    Ok(())
+}
+
+#[test]
+fn a_writer_fails_at_each_call(rt: HostRuntime) -> Result<(), Fail> {
+    let alloc = rt.alloc();
+    let troubles = [
+        Trouble::TakesNothing,
+        Trouble::Fails(ErrorKind::Interrupted),
+        Trouble::Fails(ErrorKind::BrokenPipe),
+    ];
+    for trouble in troubles {
+        for call in 1..=PRINTED.len() {
+            let mut reader = TEXT;
+            let mut writer = SlowWriter::new(alloc, call, trouble);
+            match engine::run(alloc, &mut reader, &mut writer, Layout::Compact) {
+                Err(RunFault::Write(error)) => {
+                    if let Trouble::Fails(kind) = trouble {
+                        assert_eq!(rt; error.kind(), kind);
+                    }
+                }
+                _ => assert!(rt; false, "no fault of the writer at call {call}"),
+            }
+            assert_eq!(rt; writer.calls, call);
+            assert_eq!(rt; writer.bytes.as_slice(), &PRINTED[..call - 1]);
+        }
+    }
+    let mut reader = TEXT;
+    let mut writer = SlowWriter::new(alloc, NEVER, Trouble::TakesNothing);
+    assert!(rt; engine::run(alloc, &mut reader, &mut writer, Layout::Compact).is_ok());
+    assert_eq!(rt; writer.bytes.as_slice(), PRINTED);
+    Ok(())
+}
+
+#[test]
+fn drive_tells_of_a_reader_that_fails(rt: HostRuntime) -> Result<(), Fail> {
+    let alloc = rt.alloc();
+    let mut reader = FailingReader::new(TEXT, 3, ErrorKind::IsADirectory);
+    let mut writer = SlowWriter::new(alloc, NEVER, Trouble::TakesNothing);
+    let mut faults: Vec<u8> = Vec::new(alloc);
+    let status = engine::drive(alloc, &[], &mut reader, &mut writer, &mut faults);
+    assert_eq!(rt; status, 3);
+    assert_eq!(rt; str::from_utf8(&faults)?, "jzonfmt: reading failed\n");
+    assert_eq!(rt; (writer.calls, writer.flushes), (0, 0));
+    Ok(())
+}
+
+#[test]
+fn drive_tells_of_a_writer_that_fails(rt: HostRuntime) -> Result<(), Fail> {
+    let alloc = rt.alloc();
+    let mut reader = TEXT;
+    let mut writer = SlowWriter::new(alloc, 3, Trouble::Fails(ErrorKind::StorageFull));
+    let mut faults: Vec<u8> = Vec::new(alloc);
+    let status = engine::drive(alloc, &[], &mut reader, &mut writer, &mut faults);
+    assert_eq!(rt; status, 3);
+    assert_eq!(rt; str::from_utf8(&faults)?, "jzonfmt: writing failed\n");
+    assert_eq!(rt; writer.bytes.as_slice(), b"-1".as_slice());
+    assert_eq!(rt; (writer.calls, writer.flushes), (3, 0));
+    Ok(())
+}
+
+#[test]
+fn drive_flushes_what_it_wrote(rt: HostRuntime) -> Result<(), Fail> {
+    let alloc = rt.alloc();
+    for (can_flush, status, line) in [(true, 0, ""), (false, 3, "jzonfmt: writing failed\n")] {
+        let mut reader = TEXT;
+        let mut writer = SlowWriter::new(alloc, NEVER, Trouble::TakesNothing);
+        writer.can_flush = can_flush;
+        let mut faults: Vec<u8> = Vec::new(alloc);
+        assert_eq!(rt;
+            engine::drive(alloc, &[], &mut reader, &mut writer, &mut faults),
+            status
+        );
+        assert_eq!(rt; str::from_utf8(&faults)?, line);
+        assert_eq!(rt; writer.bytes.as_slice(), PRINTED);
+        assert_eq!(rt; writer.flushes, 1);
+    }
+    Ok(())
+}
+
+#[test]
+fn a_fault_of_the_line_is_passed_over(rt: HostRuntime) -> Result<(), Fail> {
+    let alloc = rt.alloc();
+    for (words, input, status) in [
+        (None, b"tru", 1),
+        (None, b"\xff\xff\xff", 1),
+        (Some("-"), b"1  ", 2),
+    ] {
+        let words = words_of(alloc, words)?;
+        let mut reader = input.as_slice();
+        let mut writer: Vec<u8> = Vec::new(alloc);
+        let mut faults = SlowWriter::new(alloc, 4, Trouble::Fails(ErrorKind::BrokenPipe));
+        assert_eq!(rt;
+            engine::drive(alloc, &words, &mut reader, &mut writer, &mut faults),
+            status
+        );
+        assert_eq!(rt; faults.bytes.as_slice(), b"jzo".as_slice());
+        assert!(rt; writer.is_empty());
+    }
+    Ok(())
+}
