@@ -1,11 +1,11 @@
 -- What completes a state of the machine: the cells that are still to come, and the tree that they make.
-use Rattle.std.proofs.Common.{◌≡◌, ◌⊎◌, ℕ, zero, suc, List, [], ◌∷◌, Bool, true, false, not, Option, Some, None}
-use Rattle.std.specs.Prelude.{IsTrue, ⊤}
+use Rattle.std.proofs.Common.{◌≡◌, ◌⊎◌, ℕ, suc, List, [], ◌∷◌, Bool, true, false, not, Option, None}
+use Rattle.std.specs.Prelude.{IsTrue}
 use Rattle.jzon.specs.Reading.{Reading}
-use Rattle.jzon.specs.Grammar.{Sign, Exponent, Item, simple, single, double, Key, Node, Elements, no_elements, Members, no_members, Document, IsBlank, AreDigits, IsDigits, IsWhole, IsExponent, AreHex, AreItems, is_simple, is_surrogate, code_unit, IsNode, IsKey, AreElements, AreMembers, reads_containers}
-use Rattle.jzon.specs.Spelling.{Breach, pair, Cell, cell, plain, marked_last, breach_if, onto, digits_cells, drops_too_many, keeps_too_many, whole_cells, fraction_cells, sign_cells, exponent_cells, items_cells, duplicate_if, node_cells, elements_cells, members_cells, deep_if}
+use Rattle.jzon.specs.Grammar.{Sign, Exponent, Item, simple, single, double, Node, Elements, Members, Document, IsBlank, AreDigits, IsDigits, IsWhole, IsExponent, AreHex, AreItems, is_simple, is_surrogate, code_unit, IsNode, AreElements, AreMembers}
+use Rattle.jzon.specs.Spelling.{Breach, pair, Cell, cell, plain, marked_last, breach_if, onto, digits_cells, drops_too_many, keeps_too_many, whole_cells, fraction_cells, sign_cells, exponent_cells, items_cells, duplicate_if, node_cells, elements_cells, members_cells}
 use Rattle.jzon.specs.Meaning.{is_pair, bytes_of}
-use Rattle.jzon.proofs.TreeMachine.{Done, nothing_done, done, Named, nothing_named, named, Context, top, in_array, in_object, Role, as_value, as_key, NumberPlace, signed, zero_read, whole, pointed, fraction, lettered, signed_exponent, exponent, StringPlace, between, slash, code, second, second_slash, second_code, State, before, before_key, word, numeral, string, after_key, behind, Step, go, bad, bad_deep, close_array, close_object, seen_of, depth_of, value_mark, key_mark, key_of, numeral_of, exponent_of, items_onto}
+use Rattle.jzon.proofs.TreeMachine.{nothing_done, done, Named, nothing_named, named, Context, top, in_array, in_object, Role, as_value, as_key, NumberPlace, signed, zero_read, whole, pointed, fraction, lettered, signed_exponent, exponent, StringPlace, between, slash, code, second, second_slash, second_code, State, before, before_key, word, numeral, string, after_key, behind, Step, go, bad, bad_deep, close_array, close_object, seen_of, depth_of, value_mark, key_mark, key_of, numeral_of, exponent_of, items_onto}
 
 -- The value is whole, with the blanks round it: what comes after it.
 abbrev pub Outer : Reading → Context → List ℕ → Node → List ℕ → List Cell → Document → Type 0

@@ -1,53 +1,12 @@
 -- The machine over the characters of a text. Its state is a partial tree and the place inside it; what is still being read is kept with its last part first.
-use Rattle.std.specs.Prelude.{ℕ, zero, suc, cond, List, [], ◌∷◌, Bool, true, false, not, ◌&&◌, ◌||◌, ◌==◌, nat_le, Option, Some, None}
-use Rattle.std.specs.Char.{is_ascii_digit, is_ascii_hexdigit}
-use Rattle.jzon_tree.specs.Writing.{is_space}
+use Rattle.std.specs.Prelude.{ℕ, zero, suc, cond, List, [], ◌∷◌, Bool, true, false, not, ◌==◌, Option, Some, None}
+use Rattle.std.specs.Char.{is_ascii_hexdigit}
 use Rattle.jzon.specs.Reading.{Reading}
 use Rattle.jzon.specs.Grammar.{Sign, unsigned, plus, minus, Exponent, Numeral, Item, simple, single, double, Key, Node, Elements, no_elements, element, Members, no_members, member, Document, code_unit, is_surrogate, is_plain, is_simple, is_exponent_letter, reads_strings, reads_containers}
 use Rattle.jzon.specs.Grammar as grammar
-use Rattle.jzon.specs.Spelling.{Breach, deep, pair, digit, breach_if, onto, drops_too_many, keeps_too_many, duplicate_if, deep_if}
+use Rattle.jzon.specs.Spelling.{Breach, pair, digit, breach_if, onto, drops_too_many, keeps_too_many, duplicate_if, deep_if}
 use Rattle.jzon.specs.Meaning.{is_pair, bytes_of}
-
--- ---- classes of characters
-
-pub data Class : Type 0 where
-  white : Class
-  digits : Class
-  dash : Class
-  cross : Class
-  point : Class
-  letter_e : Class
-  quote : Class
-  opens_array : Class
-  closes_array : Class
-  opens_object : Class
-  closes_object : Class
-  comma : Class
-  colon : Class
-  begins_null : Class
-  begins_true : Class
-  begins_false : Class
-  other : Class
-
--- the class of a character outside of strings and of the later letters of a word
-unfoldable pub class_of : Bool → ℕ → Class
-class_of strict c =
-    cond (is_space strict c) white
-    (cond (is_ascii_digit c) digits
-    (cond (c == 45) dash
-    (cond (c == 43) cross
-    (cond (c == 46) point
-    (cond (is_exponent_letter c) letter_e
-    (cond (c == 34) quote
-    (cond (c == 91) opens_array
-    (cond (c == 93) closes_array
-    (cond (c == 123) opens_object
-    (cond (c == 125) closes_object
-    (cond (c == 44) comma
-    (cond (c == 58) colon
-    (cond (c == 110) begins_null
-    (cond (c == 116) begins_true
-    (cond (c == 102) begins_false other)))))))))))))))
+pub use Rattle.jzon.specs.Classes.{Class, white, digits, dash, cross, point, letter_e, quote, opens_array, closes_array, opens_object, closes_object, comma, colon, begins_null, begins_true, begins_false, other, class_of, NumberPlace, signed, zero_read, whole, pointed, fraction, lettered, signed_exponent, exponent, begun}
 
 -- ---- states
 
@@ -71,21 +30,6 @@ pub data Context : Type 0 where
 pub data Role : Type 0 where
   as_value : Context → List ℕ → Role
   as_key : Context → List ℕ → Named → List ℕ → Role
-
--- the place inside a number; digits that are still being read have the last one first
-pub data NumberPlace : Type 0 where
-  -- behind a minus
-  signed : NumberPlace
-  -- behind a first digit 0
-  zero_read : NumberPlace
-  whole : List ℕ → NumberPlace
-  -- behind the point, with the whole digits
-  pointed : List ℕ → NumberPlace
-  fraction : List ℕ → List ℕ → NumberPlace
-  -- behind the letter of an exponent, with the digits before it
-  lettered : List ℕ → List ℕ → ℕ → NumberPlace
-  signed_exponent : List ℕ → List ℕ → ℕ → Sign → NumberPlace
-  exponent : List ℕ → List ℕ → ℕ → Sign → List ℕ → NumberPlace
 
 -- the place inside an item of a string; digits have the last one first
 pub data StringPlace : Type 0 where
@@ -165,10 +109,6 @@ bad_at (Some b) = bad_deep
 abbrev pub go_if : Bool → Option Breach → State → Step
 go_if true m s = go m s
 go_if false m s = bad_at m
-
-abbrev pub begun : Bool → ℕ → NumberPlace
-begun true c = zero_read
-begun false c = whole (c ∷ [])
 
 abbrev pub step_empty_array : Context → List ℕ → Step
 step_empty_array top b = bad

@@ -1,5 +1,6 @@
 -- From which fronts a text can go on, where a text has a fault, and the one error of a text (docs/RULES.md, "Errors").
-use Rattle.std.specs.Prelude.{◌≡◌, ℕ, suc, ◌+◌, ◌-◌, ◌<◌, ◌≤◌, List, ◌++◌, length, take, reverse, Bool, not, ◌==◌, count_by, take_while, slice_index}
+use Rattle.std.specs.Prelude.{◌≡◌, ℕ, suc, ◌+◌, ◌-◌, ◌<◌, ◌≤◌, List, ◌++◌, length, take, not, ◌==◌, count_by, slice_index}
+use Rattle.std.specs.List.{suffix_len}
 use Rattle.jzon_base.specs.declared.error.Error.{Error}
 use Rattle.jzon_base.specs.declared.error.Error.TheVariants.{UnexpectedCharacter, UnexpectedEndOfJson, ExceededDepthLimit, FailedUtf8Parsing, DuplicateKey}
 use Rattle.jzon.specs.Reading.{Reading}
@@ -70,7 +71,7 @@ line front = count_by (λ c. c == 10) front + 1
 
 -- its column: 1 and the characters of the front after the last newline
 abbrev pub column : List ℕ → ℕ
-column front = length (take_while (λ c. not (c == 10)) (reverse front)) + 1
+column front = suffix_len (λ c. not (c == 10)) front + 1
 
 -- the error that tells a fault at place i of a text
 abbrev pub error_at : List ℕ → ℕ → Fault → Error

@@ -4,6 +4,9 @@ pub mod Spelling
 pub mod Meaning
 pub mod Fault
 pub mod Laws
+pub mod Classes
+pub mod Machine
+pub mod Answer
 
 -- what the contracts of the crates above cite
 pub use Rattle.jzon_base.specs.ErrorText

@@ -2,7 +2,7 @@
 use Rattle.std.specs.Prelude.{ℕ, ◌+◌, ◌-◌, ◌*◌, List, [], ◌∷◌, ◌++◌, Bool, not, ◌&&◌, ◌==◌, if◌then◌else◌, Option, Some, None, ℤ, pos, neg_ℤ, encode_utf8_all}
 use Rattle.jzon_base.specs.Decimal.{Decimal}
 use Rattle.jzon_base.specs.Digits.{digits_number, read_number}
-use Rattle.jzon_base.specs.PairList.{put}
+use Rattle.jzon_base.specs.PairList.{put_each}
 use Rattle.jzon_tree.specs.Value.{Value, null, boolean, text, number, array, object, no_values, Values, value, no_pairs, pairs_of, kind_of}
 use Rattle.jzon.specs.Grammar.{Sign, unsigned, plus, minus, Exponent, Numeral, Item, plain, simple, single, double, code_unit, is_high, is_low, Node, Elements, no_elements, element, Members, no_members, member}
 
@@ -60,13 +60,13 @@ abbrev mutual
   meaning (Node.empty_array b) = array no_values
   meaning (Node.empty_object b) = object no_pairs
   meaning (Node.array b n c es) = array (value (meaning n) (elements_meaning es))
-  meaning (Node.object key b n c ms) = object (pairs_of (members_meaning ((bytes_of key.items, meaning n) ∷ []) ms))
+  meaning (Node.object key b n c ms) = object (pairs_of (put_each ((bytes_of key.items, meaning n) ∷ members_meaning ms)))
 
   pub elements_meaning : Elements → Values
   elements_meaning no_elements = no_values
   elements_meaning (element b n c es) = value (meaning n) (elements_meaning es)
 
-  -- After the pairs so far: a repeated key keeps the first one's place and takes the last value.
-  pub members_meaning : List (List ℕ × Value) → Members → List (List ℕ × Value)
-  members_meaning ps no_members = ps
-  members_meaning ps (member key b n c ms) = members_meaning (put (bytes_of key.items) (meaning n) ps) ms
+  -- the keys and values as they are written
+  pub members_meaning : Members → List (List ℕ × Value)
+  members_meaning no_members = []
+  members_meaning (member key b n c ms) = (bytes_of key.items, meaning n) ∷ members_meaning ms

@@ -1,5 +1,5 @@
 -- The text of a tree, and where it breaks a limit.
-use Rattle.std.specs.Prelude.{◌≡◌, ℕ, zero, suc, ◌+◌, List, [], ◌∷◌, length, map, Bool, true, false, not, ◌&&◌, ◌==◌, nat_le, if◌then◌else◌, Option, Some, None, codes, slice_get, encode_utf8_all}
+use Rattle.std.specs.Prelude.{◌≡◌, ℕ, suc, ◌+◌, List, [], ◌∷◌, length, map, Bool, true, false, not, ◌&&◌, ◌==◌, nat_le, if◌then◌else◌, Option, Some, None, codes, slice_get}
 use Rattle.jzon_base.specs.Digits.{dropped, kept_fraction}
 use Rattle.jzon_tree.specs.Same.{is_known}
 use Rattle.jzon.specs.Reading.{Reading}

@@ -1,1 +1,15 @@
+//! Reads, holds, changes and prints JSON without typed structs: a port of the Rust crate `jzon`.
 #![tactic(auto)]
+
+pub mod laws;
+mod numeral;
+mod parser;
+mod place;
+#[cfg(test)]
+mod tests;
+pub mod util;
+
+pub use jzon_base::error::{Error, Error as JsonError, JsonResult, Result};
+pub use jzon_base::number;
+pub use jzon_tree::value::JsonValue;
+pub use parser::parse;

@@ -1,8 +1,12 @@
 -- What the digits of a number in a text mean (RFC 8259, section 6; docs/RULES.md, "Numbers"). A digit is its character, 48 to 57.
-use Rattle.std.specs.Prelude.{ℕ, zero, suc, ℤ, pos, negsuc, ◌+ℤ◌, ◌-ℤ◌, ◌+◌, ◌*◌, ◌^◌, ◌-◌, Bool, nat_lt, if◌then◌else◌, List, ◌++◌, length, take}
+use Rattle.std.specs.Prelude.{ℕ, zero, suc, ℤ, pos, negsuc, ◌+ℤ◌, ◌-ℤ◌, ◌+◌, ◌*◌, ◌^◌, ◌-◌, ◌≤◌, Bool, nat_lt, if◌then◌else◌, List, ◌++◌, length, take}
 use Rattle.std.specs.List.{fold}
 use Rattle.std.specs.Int.{int_min, int_max}
 use Rattle.jzon_base.specs.Decimal.{Decimal, parts}
+
+-- the characters `0` to `9`
+abbrev pub IsDigit : ℕ → Type 0
+IsDigit c = (48 ≤ c) × (c ≤ 57)
 
 -- the number with one digit more
 abbrev pub add_digit : ℕ → ℕ → ℕ

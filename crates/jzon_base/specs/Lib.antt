@@ -1,7 +1,10 @@
 pub mod Decimal
+pub mod DigitLimits
 pub mod Digits
 pub mod ErrorText
 pub mod NumberFields
 pub mod NumberText
-pub mod Written
 pub mod PairList
+pub mod PlainBytes
+pub mod Same
+pub mod Written

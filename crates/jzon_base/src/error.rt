@@ -1,4 +1,4 @@
-//! Why a call is refused.
+//! Why a call is refused (docs/RULES.md, "Errors").
 
 ghost use Rattle.std.specs.Prelude.{Some, IfOk, IsOkUnless};
 ghost use Rattle.jzon_base.specs.ErrorText.{error_text, IsWrongType};
@@ -89,5 +89,45 @@ impl<T: Drop> From<AllocFailed<T>> for Error {
 
     fn from(_refused: AllocFailed<T>) -> Error {
         Error::OutOfMemory
+    }
+}
+
+#[cfg(test)]
+mod tests {
+    use super::*;
+    use std::test::Fail;
+
+    #[test]
+    fn words(rt: HostRuntime) -> std::result::Result<(), Fail> {
+        let rows = [
+            (
+                Error::UnexpectedCharacter {
+                    ch: 'X',
+                    line: 3,
+                    column: 4,
+                },
+                "Unexpected character: X at (3:4)",
+            ),
+            (
+                Error::UnexpectedCharacter {
+                    ch: '\u{1F984}',
+                    line: 18446744073709551615,
+                    column: 10,
+                },
+                "Unexpected character: \u{1F984} at (18446744073709551615:10)",
+            ),
+            (Error::UnexpectedEndOfJson, "Unexpected end of JSON"),
+            (Error::ExceededDepthLimit, "Exceeded depth limit"),
+            (Error::FailedUtf8Parsing, "Failed to parse UTF-8 bytes"),
+            (Error::OutOfMemory, "Out of memory"),
+            (
+                Error::wrong_type(rt.alloc(), "Array")?,
+                "Wrong type, expected: Array",
+            ),
+        ];
+        for (error, words) in rows {
+            assert_eq!(rt; format!(in rt.alloc(); "{error}")?.as_str(), words);
+        }
+        Ok(())
     }
 }

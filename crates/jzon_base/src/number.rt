@@ -1,7 +1,7 @@
-//! Numbers: exact decimals, and what is not a number.
+//! Numbers: exact decimals, and what is not a number (docs/RULES.md, "Numbers").
 
-ghost use Rattle.std.specs.Prelude.{◌≡◌};
-ghost use Rattle.jzon_base.specs.Decimal.{nan, parts, parts_of, is_nan};
+ghost use Rattle.std.specs.Prelude.{◌≡◌, ◌+◌, ◌*◌, ◌^◌, ◌<◌, ◌≤◌, ◌≤ℤ◌, ◌==◌, ◌||◌, MatchOption};
+ghost use Rattle.jzon_base.specs.Decimal.{nan, parts, parts_of, is_nan, is_zero, is_positive, negated, same, shifted, scaled, StripsTo};
 
 use crate::util::print_dec::number_text;
 use std::fmt;
@@ -60,6 +60,20 @@ impl Number {
         }
     }
 
+    /// The number with this sign and decimal, where the mantissa's trailing zeros are stripped, one at a time, while the exponent is negative. So a mantissa 0 with
+    /// a negative exponent ends at exponent 0.
+    pub fn from_parts(positive: bool, mantissa: u64, exponent: i16) -> Number
+        ensures { StripsTo positive mantissa exponent result }
+    {
+        let mut mantissa = mantissa;
+        let mut exponent = exponent;
+        while exponent < 0 && mantissa % 10 == 0 {
+            exponent += 1;
+            mantissa /= 10;
+        }
+        Number::from_parts_unchecked(positive, mantissa, exponent)
+    }
+
     /// Whether the sign is positive, the mantissa, and the exponent. NaN is told as `(false, 0, 0)`.
     pub fn as_parts(&self) -> (bool, u64, i16)
         ensures { result ≡ parts_of self.now }
@@ -77,6 +91,66 @@ impl Number {
     {
         matches!(self.category, Category::Nan)
     }
+
+    /// Whether the sign is positive. That of NaN is not.
+    pub fn is_sign_positive(&self) -> bool
+        ensures { result ≡ is_positive self.now }
+    {
+        matches!(self.category, Category::Positive)
+    }
+
+    /// Whether this is 0, of either sign. NaN is not.
+    pub fn is_zero(&self) -> bool
+        ensures { result ≡ is_zero self.now }
+    {
+        self.mantissa == 0 && !self.is_nan()
+    }
+
+    /// Whether this is 0 or NaN.
+    pub fn is_empty(&self) -> bool
+        ensures { result ≡ (is_zero self.now || is_nan self.now) }
+    {
+        self.mantissa == 0 || self.is_nan()
+    }
+}
+
+impl std::ops::Neg for Number {
+    type Output = Number;
+
+    ghost neg_gives = { λ n r. r ≡ negated n };
+
+    fn neg(self) -> Number {
+        let category = match self.category {
+            Category::Negative => Category::Positive,
+            Category::Positive => Category::Negative,
+            Category::Nan => Category::Nan,
+        };
+        Number { category, ..self }
+    }
+}
+
+impl PartialEq for Number {
+    ghost use Rattle.std.specs.Cmp.{partial_equiv_from_equiv};
+    ghost use Rattle.jzon_base.specs.Same.{same_equiv};
+
+    ghost eq = { same };
+
+    ghost laws = { partial_equiv_from_equiv same_equiv };
+
+    fn eq(&self, other: &Number) -> bool {
+        if self.is_nan() || other.is_nan() {
+            return self.is_nan() && other.is_nan();
+        }
+        let (p, m, e) = self.as_parts();
+        let (q, n, f) = other.as_parts();
+        same_parts(p, m, e, q, n, f)
+    }
+}
+
+impl Eq for Number {
+    ghost use Rattle.jzon_base.specs.Same.{same_equiv};
+
+    ghost laws = { same_equiv };
 }
 
 impl fmt::Display for Number {
@@ -91,5 +165,180 @@ impl fmt::Display for Number {
         }
         let (positive, mantissa, exponent) = self.as_parts();
         f.write_str(number_text(positive, mantissa, exponent).as_str())
+    }
+}
+
+// Whether two numbers with these parts are the same.
+#[tactic(auto, using(crate::specs::Same::zero_rules))]
+fn same_parts(p: bool, m: u64, e: i16, q: bool, n: u64, f: i16) -> bool
+    ensures { result ≡ same (parts p m e) (parts q n f) }
+{
+    if m == 0 || n == 0 {
+        return m == n;
+    }
+    p == q && same_magnitude(m, e, n, f)
+}
+
+fn same_magnitude(m: u64, e: i16, n: u64, f: i16) -> bool
+    requires left { 0 < m }
+    requires right { 0 < n }
+    ensures { result ≡ (scaled m e == scaled n f) }
+{
+    if e >= f {
+        is_scaled(m, e, n, f)
+    } else {
+        is_scaled(n, f, m, e)
+    }
+}
+
+// Whether `m`, times ten for each step from `f` up to `e`, is `n`.
+#[tactic(auto, using(crate::proofs::Scaled::same_rules))]
+fn is_scaled(m: u64, e: i16, n: u64, f: i16) -> bool
+    requires some { 0 < m }
+    requires order { f ≤ℤ e }
+    ensures { result ≡ (scaled m e == scaled n f) }
+{
+    times_power(m, steps_between(f, e)) == Some(n)
+}
+
+fn steps_between(low: i16, high: i16) -> u32
+    requires { low ≤ℤ high }
+    ensures { shifted high ≡ shifted low + result }
+{
+    (i32::from(high) - i32::from(low)) as u32
+}
+
+// `m * 10 ^ power`, where it fits. As m is not 0, at most 20 steps are made.
+fn times_power(m: u64, power: u32) -> Option<u64>
+    requires { 0 < m }
+    ensures { MatchOption result (2 ^ 64 ≤ m * 10 ^ power) (λ r. r ≡ m * 10 ^ power) }
+{
+    let mut value = m;
+    for i in 0..power {
+        match value.checked_mul(10) {
+            Some(more) => value = more,
+            None => return None,
+        }
+    }
+    Some(value)
+}
+
+#[cfg(test)]
+mod tests {
+    use super::*;
+    use std::test::Fail;
+
+    #[test]
+    fn strips_zeros(rt: HostRuntime) -> Result<(), Fail> {
+        let rows = [
+            ((true, 1000, -3), (true, 1, 0)),
+            ((true, 1000, -2), (true, 10, 0)),
+            ((true, 1000, -5), (true, 1, -2)),
+            ((true, 150, -2), (true, 15, -1)),
+            ((true, 0, -5), (true, 0, 0)),
+            ((false, 0, -32768), (false, 0, 0)),
+            ((true, 100, 0), (true, 100, 0)),
+            ((false, 100, 5), (false, 100, 5)),
+            ((true, 10, -32768), (true, 1, -32767)),
+            ((true, 10000000000000000000, -32768), (true, 1, -32749)),
+            (
+                (true, 18446744073709551615, -1),
+                (true, 18446744073709551615, -1),
+            ),
+        ];
+        for ((positive, mantissa, exponent), stripped) in rows {
+            let number = Number::from_parts(positive, mantissa, exponent);
+            assert_eq!(rt; number.as_parts(), stripped);
+            let kept = Number::from_parts_unchecked(positive, mantissa, exponent);
+            assert_eq!(rt; kept.as_parts(), (positive, mantissa, exponent));
+            assert!(rt; number == kept);
+        }
+        let number = Number::from_parts(true, 150, -2);
+        assert_eq!(rt; format!(in rt.alloc(); "{number}")?.as_str(), "1.5");
+        Ok(())
+    }
+
+    #[test]
+    fn compares(rt: HostRuntime) {
+        let rows = [
+            ((true, 10, 32767), (true, 100, 32766), true),
+            ((true, 10, 32767), (true, 1, 32767), false),
+            ((false, 0, 7), (true, 0, 0), true),
+            ((true, 0, -32768), (true, 0, 32767), true),
+            ((true, 1, 20), (true, 1, 0), false),
+            ((true, 1, 64), (true, 0, 0), false),
+            ((true, 5, 2), (true, 500, 0), true),
+            ((true, 1, 0), (true, 10, -1), true),
+            ((true, 1, 0), (false, 1, 0), false),
+            ((true, 5, 19), (true, 5000000000000000000, 1), true),
+            ((true, 10000000000000000000, -19), (true, 1, 0), true),
+            ((true, 1, -32768), (true, 1, 32767), false),
+            (
+                (true, 18446744073709551615, 0),
+                (true, 1844674407370955161, 1),
+                false,
+            ),
+        ];
+        for ((p, m, e), (q, n, f), same) in rows {
+            let left = Number::from_parts_unchecked(p, m, e);
+            let right = Number::from_parts_unchecked(q, n, f);
+            assert_eq!(rt; left == right, same, "{left} and {right}");
+            assert_eq!(rt; right == left, same, "{right} and {left}");
+            assert!(rt; left != NAN && NAN != left);
+        }
+        assert!(rt; NAN == NAN);
+    }
+
+    #[test]
+    fn negates(rt: HostRuntime) {
+        let rows = [
+            (true, 5, -2),
+            (false, 5, -2),
+            (true, 0, 7),
+            (false, 18446744073709551615, 32767),
+        ];
+        for (positive, mantissa, exponent) in rows {
+            let number = Number::from_parts_unchecked(positive, mantissa, exponent);
+            assert_eq!(rt; (-number).as_parts(), (!positive, mantissa, exponent));
+            assert_eq!(rt; (-(-number)).as_parts(), (positive, mantissa, exponent));
+        }
+        assert!(rt; (-NAN).is_nan());
+        assert!(rt; -NAN == NAN);
+    }
+
+    #[test]
+    fn tells_zero_and_nan(rt: HostRuntime) -> Result<(), Fail> {
+        // the number, whether its sign is positive, whether it is 0, whether it is NaN
+        let rows = [
+            (NAN, false, false, true),
+            (Number::from_parts_unchecked(true, 0, 5), true, true, false),
+            (
+                Number::from_parts_unchecked(false, 0, 0),
+                false,
+                true,
+                false,
+            ),
+            (
+                Number::from_parts_unchecked(true, 1, -32768),
+                true,
+                false,
+                false,
+            ),
+            (
+                Number::from_parts_unchecked(false, 7, 0),
+                false,
+                false,
+                false,
+            ),
+        ];
+        for (number, positive, zero, nan) in rows {
+            assert_eq!(rt; number.is_sign_positive(), positive, "{number}");
+            assert_eq!(rt; number.is_zero(), zero, "{number}");
+            assert_eq!(rt; number.is_nan(), nan, "{number}");
+            assert_eq!(rt; number.is_empty(), zero || nan, "{number}");
+        }
+        assert_eq!(rt; NAN.as_parts(), (false, 0, 0));
+        assert_eq!(rt; format!(in rt.alloc(); "{NAN}")?.as_str(), "nan");
+        Ok(())
     }
 }

@@ -1,1 +1,4 @@
 #![tactic(auto)]
+
+mod codegen;
+pub mod value;

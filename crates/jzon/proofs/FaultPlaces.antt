@@ -1,0 +1,32 @@
+-- The error of a text that stops at a place, by the bytes before and after it.
+use Rattle.std.proofs.Common.{◌≡◌, ℕ, ◌-◌, List, [], ◌∷◌, ◌++◌, length, take, drop, get_or, sym, ap, subst, ◌∙◌, arith, take-append-drop, slice_get, Some}
+use Rattle.std.specs.Prelude.{chars, IsUtf8}
+use Rattle.std.specs.Str.{IsCharBoundary}
+use Rattle.std.proofs.lemmas.List.{length-append}
+use Rattle.std.proofs.lemmas.Str.{chars-append, IsUtf8-take}
+use Rattle.std.proofs.Math.Seq.{get_or-append_seam, take-append_seam}
+use Rattle.jzon_base.specs.declared.error.Error.TheVariants.{UnexpectedCharacter}
+use Rattle.jzon.specs.Fault.{character, line, column, error_at}
+use Rattle.jzon.specs.Machine.{Tells, stopped}
+
+-- the characters of a text are those before a boundary and those after it
+pub chars_split : (bs : List ℕ) (i : ℕ) → IsUtf8 bs → IsCharBoundary bs i → chars bs ≡ chars (take i bs) ++ chars (drop i bs)
+chars_split bs i u at = ap chars (sym (take-append-drop i bs)) ∙ chars-append (take i bs) (drop i bs) (IsUtf8-take bs i u at)
+
+tells_behind : (f rest : List ℕ) (c : ℕ) → slice_get rest 0 ≡ Some c → Tells (f ++ rest) (UnexpectedCharacter c (line f) (column f)) (stopped rest)
+tells_behind f [] c e = absurd (cc)
+tells_behind f (x ∷ rest) c e =
+    let same : x ≡ c = cc in
+    let n : length (f ++ (x ∷ rest)) - length (x ∷ rest) ≡ length f = omega (arith, length-append f (x ∷ rest)) in
+    let here : get_or (f ++ (x ∷ rest)) (length f) 0 ≡ c = get_or-append_seam f x rest 0 ∙ same in
+    let front : take (length f) (f ++ (x ∷ rest)) ≡ f = take-append_seam f (x ∷ rest) in
+    subst (λ k. UnexpectedCharacter c (line f) (column f) ≡ error_at (f ++ (x ∷ rest)) k character) (sym n)
+    (ap (λ z. UnexpectedCharacter z (line f) (column f)) (sym here)
+    ∙ ap (λ z. UnexpectedCharacter (get_or (f ++ (x ∷ rest)) (length f) 0) (line z) (column z)) (sym front))
+
+pub tells_character : (bs : List ℕ) (i c l k : ℕ) → IsUtf8 bs → IsCharBoundary bs i → slice_get (chars (drop i bs)) 0 ≡ Some c
+    → l ≡ line (chars (take i bs)) → k ≡ column (chars (take i bs)) → Tells (chars bs) (UnexpectedCharacter c l k) (stopped (chars (drop i bs)))
+tells_character bs i c l k u at e el ek =
+    let split = chars_split bs i u at in
+    rw (el, ek) (subst (λ t. Tells t (UnexpectedCharacter c (line (chars (take i bs))) (column (chars (take i bs)))) (stopped (chars (drop i bs)))) (sym split)
+    (tells_behind (chars (take i bs)) (chars (drop i bs)) c e))

@@ -1,0 +1,24 @@
+-- Without a strict reading a result that the machine over values gives is the answer to the text.
+use Rattle.std.proofs.Common.{◌≡◌, ℕ, ◌-◌, List, length, false, Result, Ok, Err, subst}
+use Rattle.jzon_base.specs.declared.error.Error.{Error}
+use Rattle.jzon_tree.specs.View.{view}
+use Rattle.jzon_tree.specs.declared.value.JsonValue.{JsonValue}
+use Rattle.jzon.specs.Reading.{Reading}
+use Rattle.jzon.specs.Meaning.{meaning}
+use Rattle.jzon.specs.Machine.{no_frames, before, outcome, Reads}
+use Rattle.jzon.specs.Answer.{Answers}
+use Rattle.jzon.proofs.TreeMachine.{start}
+use Rattle.jzon.proofs.TreeAnswer.{Answer, tree, refused, answer}
+use Rattle.jzon.proofs.Verdict.{Verdict, answers}
+use Rattle.jzon.proofs.Image.{image_answer, outcome_image}
+
+answers_by : (r : Reading) (t : List ℕ) (result : Result JsonValue Error) (a : Answer) → Verdict r t a → Reads t result (image_answer a) → Answers r t result
+answers_by r t (Ok v) (tree d) told read = let same : view v ≡ meaning d.node = cc in (d, told, same)
+answers_by r t (Ok v) (refused f rest) told read = absurd (cc)
+answers_by r t (Err e) (tree d) told read = absurd read
+answers_by r t (Err e) (refused f rest) told read = (length t - length rest, f, told, read)
+
+pub answers_of : (r : Reading) → r.strict ≡ false → (t : List ℕ) (result : Result JsonValue Error)
+    → Reads t result (outcome r t (before no_frames)) → Answers r t result
+answers_of r e t result read =
+    answers_by r t result (answer r t start) (answers r t) (subst (λ z. Reads t result z) (outcome_image r e t start) read)

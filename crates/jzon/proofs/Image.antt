@@ -1,0 +1,79 @@
+-- Without a strict reading the machine over values does what the machine over trees does: each move is what a step means.
+use Rattle.std.proofs.Common.{◌≡◌, ℕ, List, [], ◌∷◌, Bool, true, false, cond, ◌==◌, Some, None, refl, ap, ◌∙◌}
+use Rattle.jzon.specs.Reading.{Reading}
+use Rattle.jzon.specs.Grammar.{Node}
+use Rattle.jzon.specs.Spelling.{onto}
+use Rattle.jzon.specs.Meaning.{meaning}
+use Rattle.jzon.specs.Classes.{class_of, NumberPlace, signed, zero_read, whole, pointed, fraction, lettered, signed_exponent, exponent}
+use Rattle.jzon.specs.Machine.{Place, go, bad, past_letter, move, Outcome, meant, refused, meant_at, last_numeral, last, outcome_on, outcome}
+use Rattle.jzon.proofs.TreeMachine as tree
+use Rattle.jzon.proofs.TreeMachine.{Context, State, Step, step, numeral_of, exponent_of, document_of, accept_numeral, accept}
+use Rattle.jzon.proofs.TreeAnswer as tree_answer
+use Rattle.jzon.proofs.TreeAnswer.{Answer, last_answer, answer_on, answer}
+use Rattle.jzon.proofs.ImageContexts.{frames_of, image, image_step, image_before, image_before_key, image_after_key, image_behind}
+use Rattle.jzon.proofs.ImageNumerals.{image_numeral}
+use Rattle.jzon.proofs.ImageStrings.{image_string}
+
+-- ---- moves
+
+image_past : (k : Context) (b : List ℕ) (n : Node) (ls : List ℕ) → past_letter (frames_of k) (meaning n) ls ≡ image (tree.past_letter k b n ls)
+image_past k b n [] = refl
+image_past k b n (l ∷ ls) = refl
+
+image_word : (same : Bool) (k : Context) (b : List ℕ) (n : Node) (ls : List ℕ)
+    → cond same (go None (past_letter (frames_of k) (meaning n) ls)) bad ≡ image_step (cond same (tree.go None (tree.past_letter k b n ls)) tree.bad)
+image_word true k b n ls = ap (go None) (image_past k b n ls)
+image_word false k b n ls = refl
+
+pub move_image : (r : Reading) → r.strict ≡ false → (s : State) (c : ℕ) → move r (image s) c ≡ image_step (step r s c)
+move_image r e (tree.before k b) c = image_before r (class_of r.strict c) k b c
+move_image r e (tree.before_key k a o b) c = image_before_key r (class_of r.strict c) k a o b c
+move_image r e (tree.word k b n l ls) c = image_word (c == l) k b n ls
+move_image r e (tree.numeral k b negative x) c = image_numeral x (class_of r.strict c) k b negative c
+move_image r e (tree.string role is x) c = image_string r e x role is c
+move_image r e (tree.after_key k a o b is z) c = image_after_key (class_of r.strict c) k a o b is z c
+move_image r e (tree.behind k b n z) c = image_behind (class_of r.strict c) k b n z c
+
+-- ---- texts
+
+abbrev pub image_answer : Answer → Outcome
+image_answer (tree_answer.tree d) = meant (meaning d.node)
+image_answer (tree_answer.refused f rest) = refused f rest
+
+image_meant : (k : Context) (b : List ℕ) (n : Node) (z : List ℕ) → meant_at (frames_of k) (meaning n) ≡ image_answer (last_answer (document_of k b n z))
+image_meant tree.top b n z = refl
+image_meant (tree.in_array k a o) b n z = refl
+image_meant (tree.in_object k a o key) b n z = refl
+
+image_last_numeral : (x : NumberPlace) (k : Context) (b : List ℕ) (negative : Bool)
+    → last_numeral x (frames_of k) negative ≡ image_answer (last_answer (accept_numeral x k b negative))
+image_last_numeral signed k b negative = refl
+image_last_numeral zero_read k b negative = image_meant k b (numeral_of negative (48 ∷ []) [] None) []
+image_last_numeral (whole ds) k b negative = image_meant k b (numeral_of negative (onto ds []) [] None) []
+image_last_numeral (pointed ws) k b negative = refl
+image_last_numeral (fraction ws ds) k b negative = image_meant k b (numeral_of negative ws (onto ds []) None) []
+image_last_numeral (lettered ws ds l) k b negative = refl
+image_last_numeral (signed_exponent ws ds l s) k b negative = refl
+image_last_numeral (exponent ws ds l s xs) k b negative = image_meant k b (numeral_of negative ws ds (exponent_of l s (onto xs []))) []
+
+image_last : (s : State) → last (image s) ≡ image_answer (last_answer (accept s))
+image_last (tree.before k b) = refl
+image_last (tree.before_key k a o b) = refl
+image_last (tree.word k b n l ls) = refl
+image_last (tree.numeral k b negative x) = image_last_numeral x k b negative
+image_last (tree.string role is x) = refl
+image_last (tree.after_key k a o b is z) = refl
+image_last (tree.behind k b n z) = image_meant k b n z
+
+image_on : (z : Step) (f : Place → Outcome) (g : State → Answer) (rest : List ℕ) → ((s : State) → f (image s) ≡ image_answer (g s))
+    → outcome_on (image_step z) f rest ≡ image_answer (answer_on z g rest)
+image_on (tree.go None s) f g rest same = same s
+image_on (tree.go (Some b) s) f g rest same = refl
+image_on tree.bad f g rest same = refl
+image_on tree.bad_deep f g rest same = refl
+
+pub outcome_image : (r : Reading) → r.strict ≡ false → (t : List ℕ) (s : State) → outcome r t (image s) ≡ image_answer (answer r t s)
+outcome_image r e [] s = image_last s
+outcome_image r e (c ∷ cs) s =
+    ap (λ z. outcome_on z (λ p. outcome r cs p) (c ∷ cs)) (move_image r e s c)
+    ∙ image_on (step r s c) (λ p. outcome r cs p) (λ s'. answer r cs s') (c ∷ cs) (λ s'. outcome_image r e cs s')

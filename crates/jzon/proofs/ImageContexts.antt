@@ -1,0 +1,197 @@
+-- The machine over values keeps what the finished parts of the machine over trees mean: before and behind values.
+use Rattle.std.proofs.Common.{◌≡◌, ℕ, suc, List, [], ◌∷◌, ◌++◌, Bool, true, false, ◌==◌, Option, Some, None, refl, sym, ap, ◌∙◌, append_assoc}
+use Rattle.jzon_base.specs.PairList.{put_each}
+use Rattle.jzon_tree.specs.Value.{Value, Values, pairs_of}
+use Rattle.jzon_tree.specs.Value as value
+use Rattle.jzon.specs.Reading.{Reading}
+use Rattle.jzon.specs.Grammar.{Item, Key, Node, Elements, no_elements, Members, no_members, element, member, reads_strings, reads_containers, code_unit}
+use Rattle.jzon.specs.Spelling.{Breach, onto, deep_if}
+use Rattle.jzon.specs.Meaning.{bytes_of, meaning, elements_meaning, members_meaning}
+use Rattle.jzon.specs.Classes.{Class, white, digits, dash, quote, opens_array, closes_array, opens_object, closes_object, comma, colon, begins_null, begins_true, begins_false, signed, begun}
+use Rattle.jzon.specs.Machine.{Entries, Frames, no_frames, array_frame, object_frame, Role, as_value, as_key, TextPlace, between, slash, code, second, second_slash, second_code, Place, before, before_key, word, numeral, string, after_key, behind, Move, go, bad, bad_deep, frames_depth, value_mark, key_mark, bad_at, go_if, move_empty_array, move_before, move_empty_object, move_before_key, move_after_key, move_behind}
+use Rattle.jzon.proofs.TreeMachine as tree
+use Rattle.jzon.proofs.TreeMachine.{Done, nothing_done, done, Named, nothing_named, named, Context, top, in_array, in_object, State, Step, close_array, close_object, depth_of, items_onto}
+
+-- ---- what a state means
+
+-- the values of the finished elements
+abbrev pub values_of : Done → List Value
+values_of nothing_done = []
+values_of (done o b n c) = values_of o ++ meaning n ∷ []
+
+-- the keys and values of the finished members, as they were read
+abbrev pub entries_of : Named → Entries
+entries_of nothing_named = []
+entries_of (named o key b n c) = entries_of o ++ (bytes_of key.items, meaning n) ∷ []
+
+abbrev pub frames_of : Context → Frames
+frames_of top = no_frames
+frames_of (in_array k b o) = array_frame (frames_of k) (values_of o)
+frames_of (in_object k b o key) = object_frame (frames_of k) (entries_of o) (bytes_of key.items)
+
+abbrev pub role_of : tree.Role → Role
+role_of (tree.as_value k b) = as_value (frames_of k)
+role_of (tree.as_key k a o b) = as_key (frames_of k) (entries_of o)
+
+abbrev pub text_place : tree.StringPlace → TextPlace
+text_place tree.between = between
+text_place tree.slash = slash
+text_place (tree.code n ds) = code n (code_unit (onto ds []))
+text_place (tree.second u) = second (code_unit u)
+text_place (tree.second_slash u) = second_slash (code_unit u)
+text_place (tree.second_code u n ds) = second_code (code_unit u) n (code_unit (onto ds []))
+
+abbrev pub image : State → Place
+image (tree.before k b) = before (frames_of k)
+image (tree.before_key k a o b) = before_key (frames_of k) (entries_of o)
+image (tree.word k b n l ls) = word (frames_of k) (meaning n) l ls
+image (tree.numeral k b negative x) = numeral (frames_of k) negative x
+image (tree.string role is x) = string (role_of role) (bytes_of (items_onto is [])) (text_place x)
+image (tree.after_key k a o b is z) = after_key (frames_of k) (entries_of o) (bytes_of is)
+image (tree.behind k b n z) = behind (frames_of k) (meaning n)
+
+abbrev pub image_step : Step → Move
+image_step (tree.go m s) = go m (image s)
+image_step tree.bad = bad
+image_step tree.bad_deep = bad_deep
+
+-- ---- closed containers
+
+-- values before others
+abbrev with_front : List Value → Values → Values
+with_front [] vs = vs
+with_front (u ∷ us) vs = value.value u (with_front us vs)
+
+with_front-append : (us : List Value) (v : Value) (vs : Values) → with_front (us ++ v ∷ []) vs ≡ with_front us (value.value v vs)
+with_front-append [] v vs = refl
+with_front-append (u ∷ us) v vs = ap (value.value u) (with_front-append us v vs)
+
+with_front-none : (us : List Value) → with_front us value.no_values ≡ value.values_of us
+with_front-none [] = refl
+with_front-none (u ∷ us) = ap (value.value u) (with_front-none us)
+
+meaning-close_array : (o : Done) (b : List ℕ) (n : Node) (z : List ℕ) (es : Elements)
+    → meaning (close_array o b n z es) ≡ value.array (with_front (values_of o) (value.value (meaning n) (elements_meaning es)))
+meaning-close_array nothing_done b n z es = refl
+meaning-close_array (done o a m y) b n z es =
+    meaning-close_array o a m y (element b n z es)
+    ∙ ap value.array (sym (with_front-append (values_of o) (meaning m) (value.value (meaning n) (elements_meaning es))))
+
+closed_array : (o : Done) (b : List ℕ) (n : Node) (z : List ℕ)
+    → value.array (value.values_of (values_of o ++ meaning n ∷ [])) ≡ meaning (close_array o b n z no_elements)
+closed_array o b n z =
+    ap value.array (sym (with_front-none (values_of o ++ meaning n ∷ [])) ∙ with_front-append (values_of o) (meaning n) value.no_values)
+    ∙ sym (meaning-close_array o b n z no_elements)
+
+-- the object of keys and values as they were read
+abbrev object_of : Entries → Value
+object_of es = value.object (pairs_of (put_each es))
+
+meaning-close_object : (o : Named) (key : Key) (b : List ℕ) (n : Node) (z : List ℕ) (ms : Members)
+    → meaning (close_object o key b n z ms) ≡ object_of (entries_of o ++ (bytes_of key.items, meaning n) ∷ members_meaning ms)
+meaning-close_object nothing_named key b n z ms = refl
+meaning-close_object (named o key' a m y) key b n z ms =
+    meaning-close_object o key' a m y (member key b n z ms)
+    ∙ ap object_of (sym (append_assoc (entries_of o) ((bytes_of key'.items, meaning m) ∷ []) ((bytes_of key.items, meaning n) ∷ members_meaning ms)))
+
+-- ---- marks
+
+depth-frames : (k : Context) → frames_depth (frames_of k) ≡ depth_of k
+depth-frames top = refl
+depth-frames (in_array k b o) = ap suc (depth-frames k)
+depth-frames (in_object k b o key) = ap suc (depth-frames k)
+
+not_first_value : (r : Reading) (fs : Frames) (us : List Value) (v : Value) → value_mark r (array_frame fs (us ++ v ∷ [])) ≡ None
+not_first_value r fs [] v = refl
+not_first_value r fs (u ∷ us) v = refl
+
+mark_before : (r : Reading) (k : Context) → value_mark r (frames_of k) ≡ tree.value_mark r k
+mark_before r top = refl
+mark_before r (in_array k b nothing_done) = ap (deep_if r) (depth-frames k)
+mark_before r (in_array k b (done o a m z)) = not_first_value r (frames_of k) (values_of o) (meaning m)
+mark_before r (in_object k b o key) = refl
+
+not_first_key : (r : Reading) (fs : Frames) (es : Entries) (e : List ℕ × Value) → key_mark r fs (es ++ e ∷ []) ≡ None
+not_first_key r fs [] e = refl
+not_first_key r fs (d ∷ es) e = refl
+
+mark_before_key : (r : Reading) (k : Context) (o : Named) → key_mark r (frames_of k) (entries_of o) ≡ tree.key_mark r k o
+mark_before_key r k nothing_named = ap (deep_if r) (depth-frames k)
+mark_before_key r k (named o key b n z) = not_first_key r (frames_of k) (entries_of o) (bytes_of key.items, meaning n)
+
+image_bad_at : (m m' : Option Breach) → m ≡ m' → bad_at m ≡ image_step (tree.bad_at m')
+image_bad_at m None e = rw e refl
+image_bad_at m (Some b) e = rw e refl
+
+image_go_if : (b : Bool) (m m' : Option Breach) (p : Place) (s : State) → m ≡ m' → p ≡ image s → go_if b m p ≡ image_step (tree.go_if b m' s)
+image_go_if true m m' p s e f = cc
+image_go_if false m m' p s e f = image_bad_at m m' e
+
+-- ---- before a value
+
+no_text : bytes_of [] ≡ []
+unfolding bytes_of
+no_text = refl
+
+not_empty_array : (fs : Frames) (us : List Value) (v : Value) → move_empty_array (array_frame fs (us ++ v ∷ [])) ≡ bad
+not_empty_array fs [] v = refl
+not_empty_array fs (u ∷ us) v = refl
+
+pub image_before : (r : Reading) (s : Class) (k : Context) (b : List ℕ) (c : ℕ) → move_before r s (frames_of k) c ≡ image_step (tree.step_before r s k b c)
+image_before r white k b c = refl
+image_before r digits k b c = ap (λ z. go z (image (tree.numeral k (onto b []) false (begun (c == 48) c)))) (mark_before r k)
+image_before r dash k b c = ap (λ z. go z (image (tree.numeral k (onto b []) true signed))) (mark_before r k)
+image_before r quote k b c =
+    image_go_if reads_strings _ _ (string (as_value (frames_of k)) [] between) (tree.string (tree.as_value k (onto b [])) [] tree.between)
+    (mark_before r k) (ap (λ z. string (as_value (frames_of k)) z between) (sym no_text))
+image_before r opens_array k b c =
+    image_go_if reads_containers _ _ (before (array_frame (frames_of k) [])) (tree.before (in_array k (onto b []) nothing_done) []) (mark_before r k) refl
+image_before r opens_object k b c =
+    image_go_if reads_containers _ _ (before_key (frames_of k) []) (tree.before_key k (onto b []) nothing_named []) (mark_before r k) refl
+image_before r closes_array top b c = refl
+image_before r closes_array (in_array k a nothing_done) b c = refl
+image_before r closes_array (in_array k a (done o x n y)) b c = not_empty_array (frames_of k) (values_of o) (meaning n)
+image_before r closes_array (in_object k a o key) b c = refl
+image_before r begins_null k b c = ap (λ z. go z (image (tree.word k (onto b []) Node.null 117 (108 ∷ 108 ∷ [])))) (mark_before r k)
+image_before r begins_true k b c = ap (λ z. go z (image (tree.word k (onto b []) (Node.boolean true) 114 (117 ∷ 101 ∷ [])))) (mark_before r k)
+image_before r begins_false k b c = ap (λ z. go z (image (tree.word k (onto b []) (Node.boolean false) 97 (108 ∷ 115 ∷ 101 ∷ [])))) (mark_before r k)
+image_before r _ k b c = image_bad_at _ _ (mark_before r k)
+
+-- ---- keys
+
+not_empty_object : (fs : Frames) (es : Entries) (e : List ℕ × Value) → move_empty_object fs (es ++ e ∷ []) ≡ bad
+not_empty_object fs [] e = refl
+not_empty_object fs (d ∷ es) e = refl
+
+pub image_before_key : (r : Reading) (s : Class) (k : Context) (a : List ℕ) (o : Named) (b : List ℕ) (c : ℕ)
+    → move_before_key r s (frames_of k) (entries_of o) ≡ image_step (tree.step_before_key r s k a o b c)
+image_before_key r white k a o b c = refl
+image_before_key r quote k a o b c =
+    ap (λ z. go z (string (as_key (frames_of k) (entries_of o)) [] between)) (mark_before_key r k o)
+    ∙ ap (λ z. go (tree.key_mark r k o) (string (as_key (frames_of k) (entries_of o)) z between)) (sym no_text)
+image_before_key r closes_object k a nothing_named b c = refl
+image_before_key r closes_object k a (named o key x n y) b c = not_empty_object (frames_of k) (entries_of o) (bytes_of key.items, meaning n)
+image_before_key r _ k a o b c = image_bad_at _ _ (mark_before_key r k o)
+
+pub image_after_key : (s : Class) (k : Context) (a : List ℕ) (o : Named) (b : List ℕ) (is : List Item) (z : List ℕ) (c : ℕ)
+    → move_after_key s (frames_of k) (entries_of o) (bytes_of is) ≡ image_step (tree.step_after_key s k a o b is z c)
+image_after_key white k a o b is z c = refl
+image_after_key colon k a o b is z c = refl
+image_after_key _ k a o b is z c = refl
+
+-- ---- behind a value
+
+pub image_behind : (s : Class) (k : Context) (b : List ℕ) (n : Node) (z : List ℕ) (c : ℕ)
+    → move_behind s (frames_of k) (meaning n) ≡ image_step (tree.step_behind s k b n z c)
+image_behind white k b n z c = refl
+image_behind comma top b n z c = refl
+image_behind comma (in_array k a o) b n z c = refl
+image_behind comma (in_object k a o key) b n z c = refl
+image_behind closes_array top b n z c = refl
+image_behind closes_array (in_array k a o) b n z c = ap (λ v. go None (behind (frames_of k) v)) (closed_array o b n (onto z []))
+image_behind closes_array (in_object k a o key) b n z c = refl
+image_behind closes_object top b n z c = refl
+image_behind closes_object (in_array k a o) b n z c = refl
+image_behind closes_object (in_object k a o key) b n z c =
+    ap (λ v. go None (behind (frames_of k) v)) (sym (meaning-close_object o key b n (onto z []) no_members))
+image_behind _ k b n z c = refl

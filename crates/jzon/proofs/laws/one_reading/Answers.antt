@@ -1,0 +1,5 @@
+use Rattle.jzon.proofs.laws.one_reading.Goals as goal
+use Rattle.jzon.proofs.SameTree.{same_tree}
+
+pub returns : goal.returns
+returns c = same_tree

@@ -1,0 +1,32 @@
+use Rattle.std.proofs.Common.{◌≡◌, ◌+◌, suc, ◌∷◌, ◌∙◌, sym, ap, subst, arith, drop, drop-cons, add-one, get_or, true, false}
+use Rattle.std.specs.Prelude.{chars}
+use Rattle.std.proofs.lemmas.Str.{IsCharBoundary-after_ascii}
+use Rattle.jzon_tree.specs.View.{view}
+use Rattle.jzon.specs.Reading.{usual}
+use Rattle.jzon.specs.Machine.{from, past_letter, Tells}
+use Rattle.jzon.proofs.Words.{letter_read, letter_missing}
+use Rattle.jzon.proofs.parser.read_word.Goals as goal
+
+pub returns-then-not-has_byte-clause-same : goal.returns-then-not-has_byte-clause-same
+returns-then-not-has_byte-clause-same c fs =
+    let k = c.loop-letter.letter-index in
+    let letters = c.args.letters.now in
+    let next : drop k letters ≡ get_or letters k 0 ∷ drop (suc k) letters = drop-cons letters k 0 c.loop-letter-test.true in
+    subst (Tells (chars c.args.source.now) c.fault_at.result)
+    (sym (c.loop-letter.invariant.1 fs ∙ ap (λ ls. from usual c.args.source.now (past_letter fs (view c.args.value) ls) c.loop-letter.index) next
+    ∙ letter_missing usual c.args.source.now c.loop-letter.index (get_or letters k 0) (drop (suc k) letters) fs (view c.args.value) c.utf8.source c.loop-letter.invariant.0
+    (c.requires.ascii k) (λ h. let no : c.has_byte.result ≡ true = c.has_byte.ensures.1 h in let yes : c.has_byte.result ≡ false = c.if-not-has_byte.true in cc)))
+    c.fault_at.ensures
+
+pub loop-letter-preserved : goal.loop-letter-preserved
+loop-letter-preserved c =
+    let k = c.loop-letter.letter-index in
+    let letters = c.args.letters.now in
+    let here = c.has_byte.ensures.0 c.if-not-has_byte.false in
+    let next : drop k letters ≡ get_or letters k 0 ∷ drop (k + 1) letters =
+    drop-cons letters k 0 c.loop-letter-test.true ∙ ap (λ n. get_or letters k 0 ∷ drop n letters) (sym (add-one k)) in (
+      IsCharBoundary-after_ascii c.args.source.now c.loop-letter.index c.utf8.source here.0 (let lt = c.requires.ascii k in omega (arith, here.1, lt)),
+      λ fs. c.loop-letter.invariant.1 fs ∙ ap (λ ls. from usual c.args.source.now (past_letter fs (view c.args.value) ls) c.loop-letter.index) next
+          ∙ letter_read usual c.args.source.now c.loop-letter.index (get_or letters k 0) (drop (k + 1) letters) fs (view c.args.value) c.utf8.source c.loop-letter.invariant.0
+          here.0 here.1 (c.requires.ascii k),
+    )

@@ -1,0 +1,64 @@
+-- What the machines over characters share: the classes of characters, and the places inside a number.
+use Rattle.std.specs.Prelude.{ℕ, cond, List, [], ◌∷◌, Bool, true, false, ◌==◌}
+use Rattle.std.specs.Char.{is_ascii_digit}
+use Rattle.jzon_tree.specs.Writing.{is_space}
+use Rattle.jzon.specs.Grammar.{Sign, is_exponent_letter}
+
+pub data Class : Type 0 where
+  white : Class
+  digits : Class
+  dash : Class
+  cross : Class
+  point : Class
+  letter_e : Class
+  quote : Class
+  opens_array : Class
+  closes_array : Class
+  opens_object : Class
+  closes_object : Class
+  comma : Class
+  colon : Class
+  begins_null : Class
+  begins_true : Class
+  begins_false : Class
+  other : Class
+
+-- the class of a character outside of strings and of the later letters of a word
+unfoldable pub class_of : Bool → ℕ → Class
+class_of strict c =
+    cond (is_space strict c) white
+    (cond (is_ascii_digit c) digits
+    (cond (c == 45) dash
+    (cond (c == 43) cross
+    (cond (c == 46) point
+    (cond (is_exponent_letter c) letter_e
+    (cond (c == 34) quote
+    (cond (c == 91) opens_array
+    (cond (c == 93) closes_array
+    (cond (c == 123) opens_object
+    (cond (c == 125) closes_object
+    (cond (c == 44) comma
+    (cond (c == 58) colon
+    (cond (c == 110) begins_null
+    (cond (c == 116) begins_true
+    (cond (c == 102) begins_false other)))))))))))))))
+
+-- the place inside a number; digits that are still being read have the last one first
+pub data NumberPlace : Type 0 where
+  -- behind a minus
+  signed : NumberPlace
+  -- behind a first digit 0
+  zero_read : NumberPlace
+  whole : List ℕ → NumberPlace
+  -- behind the point, with the whole digits
+  pointed : List ℕ → NumberPlace
+  fraction : List ℕ → List ℕ → NumberPlace
+  -- behind the letter of an exponent, with the digits before it
+  lettered : List ℕ → List ℕ → ℕ → NumberPlace
+  signed_exponent : List ℕ → List ℕ → ℕ → Sign → NumberPlace
+  exponent : List ℕ → List ℕ → ℕ → Sign → List ℕ → NumberPlace
+
+-- behind the first digit of a number
+abbrev pub begun : Bool → ℕ → NumberPlace
+begun true c = zero_read
+begun false c = whole (c ∷ [])

@@ -1,0 +1,287 @@
+-- The machine over values: what is left of a text comes to a value or to a fault, one character at a time. It keeps no tree and no blank, only what the open
+-- containers hold so far. It is the reading of texts by a reading that is not strict.
+use Rattle.std.specs.Prelude.{◌≡◌, ℕ, zero, suc, ◌+◌, ◌-◌, ◌*◌, cond, List, [], ◌∷◌, ◌++◌, length, drop, Bool, true, false, ◌&&◌, ◌==◌, Option, Some, None, Result, Ok, Err, chars, encode_utf8}
+use Rattle.std.specs.Char.{is_ascii_hexdigit, digit_value}
+use Rattle.jzon_base.specs.PairList.{put_each}
+use Rattle.jzon_base.specs.declared.error.Error.{Error}
+use Rattle.jzon_tree.specs.Value.{Value, values_of, pairs_of, kind_of}
+use Rattle.jzon_tree.specs.Value as value
+use Rattle.jzon_tree.specs.View.{view}
+use Rattle.jzon_tree.specs.declared.value.JsonValue.{JsonValue}
+use Rattle.jzon.specs.Reading.{Reading}
+use Rattle.jzon.specs.Grammar.{Sign, unsigned, plus, minus, Exponent, is_surrogate, is_high, is_low, is_plain, is_simple, reads_strings, reads_containers}
+use Rattle.jzon.specs.Spelling.{Breach, deep, pair, digit, breach_if, onto, drops_too_many, keeps_too_many, deep_if}
+use Rattle.jzon.specs.Meaning.{number_of, unescaped, pair_char}
+use Rattle.jzon.specs.Fault.{Fault, limit, character, error_at}
+use Rattle.jzon.specs.Classes.{Class, white, digits, dash, cross, point, letter_e, quote, opens_array, closes_array, opens_object, closes_object, comma, colon, begins_null, begins_true, begins_false, class_of, NumberPlace, signed, zero_read, whole, pointed, fraction, lettered, signed_exponent, exponent, begun}
+
+-- keys and values as they were read
+abbrev pub Entries : Type 0
+Entries = List (List ℕ × Value)
+
+-- the open containers, the inmost first: what each holds so far, and in an object the key of the present value
+pub data Frames : Type 0 where
+  no_frames : Frames
+  array_frame : Frames → List Value → Frames
+  object_frame : Frames → Entries → List ℕ → Frames
+
+-- a string is a value, or a key of an object
+pub data Role : Type 0 where
+  as_value : Frames → Role
+  as_key : Frames → Entries → Role
+
+-- the place inside an item of a string; a code unit that is being read is a number, with the count of digits missing behind the next one
+pub data TextPlace : Type 0 where
+  between : TextPlace
+  slash : TextPlace
+  code : ℕ → ℕ → TextPlace
+  second : ℕ → TextPlace
+  second_slash : ℕ → TextPlace
+  second_code : ℕ → ℕ → ℕ → TextPlace
+
+pub data Place : Type 0 where
+  before : Frames → Place
+  before_key : Frames → Entries → Place
+  word : Frames → Value → ℕ → List ℕ → Place
+  numeral : Frames → Bool → NumberPlace → Place
+  -- with the bytes of the text so far
+  string : Role → List ℕ → TextPlace → Place
+  after_key : Frames → Entries → List ℕ → Place
+  behind : Frames → Value → Place
+
+-- what reading one character comes to: a place, and the breach that stands at the character, if any; or no text can go on, where it may be that each text
+-- that goes on otherwise has a depth breach
+pub data Move : Type 0 where
+  go : Option Breach → Place → Move
+  bad : Move
+  bad_deep : Move
+
+abbrev pub frames_depth : Frames → ℕ
+frames_depth no_frames = zero
+frames_depth (array_frame fs vs) = suc (frames_depth fs)
+frames_depth (object_frame fs es k) = suc (frames_depth fs)
+
+abbrev pub value_mark : Reading → Frames → Option Breach
+value_mark r no_frames = None
+value_mark r (array_frame fs []) = deep_if r (frames_depth fs)
+value_mark r (array_frame fs (v ∷ vs)) = None
+value_mark r (object_frame fs es k) = None
+
+abbrev pub key_mark : Reading → Frames → Entries → Option Breach
+key_mark r fs [] = deep_if r (frames_depth fs)
+key_mark r fs (e ∷ es) = None
+
+abbrev pub bad_at : Option Breach → Move
+bad_at None = bad
+bad_at (Some b) = bad_deep
+
+abbrev pub go_if : Bool → Option Breach → Place → Move
+go_if true m p = go m p
+go_if false m p = bad_at m
+
+-- ---- before and behind values
+
+abbrev pub move_empty_array : Frames → Move
+move_empty_array (array_frame fs []) = go None (behind fs (value.array value.no_values))
+move_empty_array _ = bad
+
+abbrev pub move_before : Reading → Class → Frames → ℕ → Move
+move_before r white fs c = go None (before fs)
+move_before r digits fs c = go (value_mark r fs) (numeral fs false (begun (c == 48) c))
+move_before r dash fs c = go (value_mark r fs) (numeral fs true signed)
+move_before r quote fs c = go_if reads_strings (value_mark r fs) (string (as_value fs) [] between)
+move_before r opens_array fs c = go_if reads_containers (value_mark r fs) (before (array_frame fs []))
+move_before r opens_object fs c = go_if reads_containers (value_mark r fs) (before_key fs [])
+move_before r closes_array fs c = move_empty_array fs
+move_before r begins_null fs c = go (value_mark r fs) (word fs value.null 117 (108 ∷ 108 ∷ []))
+move_before r begins_true fs c = go (value_mark r fs) (word fs (value.boolean true) 114 (117 ∷ 101 ∷ []))
+move_before r begins_false fs c = go (value_mark r fs) (word fs (value.boolean false) 97 (108 ∷ 115 ∷ 101 ∷ []))
+move_before r _ fs c = bad_at (value_mark r fs)
+
+abbrev pub move_empty_object : Frames → Entries → Move
+move_empty_object fs [] = go None (behind fs (value.object value.no_pairs))
+move_empty_object fs (e ∷ es) = bad
+
+abbrev pub move_before_key : Reading → Class → Frames → Entries → Move
+move_before_key r white fs es = go None (before_key fs es)
+move_before_key r quote fs es = go (key_mark r fs es) (string (as_key fs es) [] between)
+move_before_key r closes_object fs es = move_empty_object fs es
+move_before_key r _ fs es = bad_at (key_mark r fs es)
+
+abbrev pub move_after_key : Class → Frames → Entries → List ℕ → Move
+move_after_key white fs es k = go None (after_key fs es k)
+move_after_key colon fs es k = go None (before (object_frame fs es k))
+move_after_key _ fs es k = bad
+
+abbrev pub move_comma : Frames → Value → Move
+move_comma no_frames v = bad
+move_comma (array_frame fs vs) v = go None (before (array_frame fs (vs ++ v ∷ [])))
+move_comma (object_frame fs es k) v = go None (before_key fs (es ++ (k, v) ∷ []))
+
+abbrev pub move_close_array : Frames → Value → Move
+move_close_array (array_frame fs vs) v = go None (behind fs (value.array (values_of (vs ++ v ∷ []))))
+move_close_array _ v = bad
+
+abbrev pub move_close_object : Frames → Value → Move
+move_close_object (object_frame fs es k) v = go None (behind fs (value.object (pairs_of (put_each (es ++ (k, v) ∷ [])))))
+move_close_object _ v = bad
+
+abbrev pub move_behind : Class → Frames → Value → Move
+move_behind white fs v = go None (behind fs v)
+move_behind comma fs v = move_comma fs v
+move_behind closes_array fs v = move_close_array fs v
+move_behind closes_object fs v = move_close_object fs v
+move_behind _ fs v = bad
+
+-- ---- numbers
+
+abbrev pub number_value : Bool → List ℕ → List ℕ → Option Exponent → Value
+number_value negative ws fs e =
+    value.number (number_of (record { negative = negative; whole = ws; fraction = fs; exponent = e }))
+
+abbrev pub exponent_of : ℕ → Sign → List ℕ → Option Exponent
+exponent_of l s ds = Some (record { letter = l; sign = s; digits = ds })
+
+abbrev pub move_after_whole : Class → Frames → Bool → List ℕ → ℕ → Move
+move_after_whole point fs negative ws c = go None (numeral fs negative (pointed ws))
+move_after_whole letter_e fs negative ws c = go None (numeral fs negative (lettered ws [] c))
+move_after_whole class fs negative ws c = move_behind class fs (number_value negative ws [] None)
+
+abbrev pub move_after_fraction : Class → Frames → Bool → List ℕ → List ℕ → ℕ → Move
+move_after_fraction letter_e fs negative ws ds c = go None (numeral fs negative (lettered ws ds c))
+move_after_fraction class fs negative ws ds c = move_behind class fs (number_value negative ws ds None)
+
+abbrev pub move_numeral : NumberPlace → Class → Frames → Bool → ℕ → Move
+move_numeral signed digits fs negative c = go None (numeral fs true (begun (c == 48) c))
+move_numeral signed _ fs negative c = bad
+move_numeral zero_read class fs negative c = move_after_whole class fs negative (48 ∷ []) c
+move_numeral (whole ds) digits fs negative c =
+    go (breach_if (drops_too_many (onto (c ∷ ds) [])) digit) (numeral fs negative (whole (c ∷ ds)))
+move_numeral (whole ds) class fs negative c = move_after_whole class fs negative (onto ds []) c
+move_numeral (pointed ws) digits fs negative c =
+    go (breach_if (keeps_too_many ws (onto (c ∷ []) [])) digit) (numeral fs negative (fraction ws (c ∷ [])))
+move_numeral (pointed ws) _ fs negative c = bad
+move_numeral (fraction ws ds) digits fs negative c =
+    go (breach_if (keeps_too_many ws (onto (c ∷ ds) [])) digit) (numeral fs negative (fraction ws (c ∷ ds)))
+move_numeral (fraction ws ds) class fs negative c = move_after_fraction class fs negative ws (onto ds []) c
+move_numeral (lettered ws ds l) digits fs negative c = go None (numeral fs negative (exponent ws ds l unsigned (c ∷ [])))
+move_numeral (lettered ws ds l) cross fs negative c = go None (numeral fs negative (signed_exponent ws ds l plus))
+move_numeral (lettered ws ds l) dash fs negative c = go None (numeral fs negative (signed_exponent ws ds l minus))
+move_numeral (lettered ws ds l) _ fs negative c = bad
+move_numeral (signed_exponent ws ds l s) digits fs negative c = go None (numeral fs negative (exponent ws ds l s (c ∷ [])))
+move_numeral (signed_exponent ws ds l s) _ fs negative c = bad
+move_numeral (exponent ws ds l s xs) digits fs negative c = go None (numeral fs negative (exponent ws ds l s (c ∷ xs)))
+move_numeral (exponent ws ds l s xs) class fs negative c = move_behind class fs (number_value negative ws ds (exponent_of l s (onto xs [])))
+
+-- ---- strings
+
+-- behind the closing quote
+abbrev pub closed_string : Role → List ℕ → Place
+closed_string (as_value fs) bs = behind fs (value.text (kind_of bs) bs)
+closed_string (as_key fs es) bs = after_key fs es bs
+
+abbrev pub move_between : Role → List ℕ → ℕ → Move
+move_between role bs c =
+    cond (c == 34) (go None (closed_string role bs))
+    (cond (c == 92) (go None (string role bs slash))
+    (cond (is_plain c) (go None (string role (bs ++ encode_utf8 c) between)) bad))
+
+abbrev pub move_slash : Role → List ℕ → ℕ → Move
+move_slash role bs c =
+    cond (c == 117) (go None (string role bs (code 3 0)))
+    (cond (is_simple c) (go None (string role (bs ++ encode_utf8 (unescaped c)) between)) bad)
+
+-- one hexadecimal digit more
+abbrev pub add_hex : ℕ → ℕ → ℕ
+add_hex u c = u * 16 + digit_value c
+
+abbrev pub coded : Bool → Role → List ℕ → ℕ → Place
+coded true role bs u = string role bs (second u)
+coded false role bs u = string role (bs ++ encode_utf8 u) between
+
+abbrev pub move_code : Role → List ℕ → ℕ → ℕ → ℕ → Move
+move_code role bs zero u c = go None (coded (is_surrogate (add_hex u c)) role bs (add_hex u c))
+move_code role bs (suc n) u c = go None (string role bs (code n (add_hex u c)))
+
+abbrev pub paired : Bool → Role → List ℕ → ℕ → ℕ → Move
+paired true role bs u v = go None (string role (bs ++ encode_utf8 (pair_char u v)) between)
+paired false role bs u v = go (Some pair) (string role bs between)
+
+abbrev pub move_second_code : Role → List ℕ → ℕ → ℕ → ℕ → ℕ → Move
+move_second_code role bs u zero v c = paired (is_high u && is_low (add_hex v c)) role bs u (add_hex v c)
+move_second_code role bs u (suc n) v c = go None (string role bs (second_code u n (add_hex v c)))
+
+abbrev pub move_string : TextPlace → Role → List ℕ → ℕ → Move
+move_string between role bs c = move_between role bs c
+move_string slash role bs c = move_slash role bs c
+move_string (code n u) role bs c = cond (is_ascii_hexdigit c) (move_code role bs n u c) bad
+move_string (second u) role bs c = cond (c == 92) (go None (string role bs (second_slash u))) bad
+move_string (second_slash u) role bs c = cond (c == 117) (go None (string role bs (second_code u 3 0))) bad
+move_string (second_code u n v) role bs c = cond (is_ascii_hexdigit c) (move_second_code role bs u n v c) bad
+
+-- ---- the machine
+
+abbrev pub past_letter : Frames → Value → List ℕ → Place
+past_letter fs v [] = behind fs v
+past_letter fs v (l ∷ ls) = word fs v l ls
+
+abbrev pub move : Reading → Place → ℕ → Move
+move r (before fs) c = move_before r (class_of r.strict c) fs c
+move r (before_key fs es) c = move_before_key r (class_of r.strict c) fs es
+move r (word fs v l ls) c = cond (c == l) (go None (past_letter fs v ls)) bad
+move r (numeral fs negative x) c = move_numeral x (class_of r.strict c) fs negative c
+move r (string role bs x) c = move_string x role bs c
+move r (after_key fs es k) c = move_after_key (class_of r.strict c) fs es k
+move r (behind fs v) c = move_behind (class_of r.strict c) fs v
+
+-- what a text comes to: a value, or a fault with the rest of the text from its character on
+pub data Outcome : Type 0 where
+  meant : Value → Outcome
+  refused : Fault → List ℕ → Outcome
+
+abbrev pub meant_at : Frames → Value → Outcome
+meant_at no_frames v = meant v
+meant_at _ v = refused Fault.end []
+
+abbrev pub last_numeral : NumberPlace → Frames → Bool → Outcome
+last_numeral zero_read fs negative = meant_at fs (number_value negative (48 ∷ []) [] None)
+last_numeral (whole ds) fs negative = meant_at fs (number_value negative (onto ds []) [] None)
+last_numeral (fraction ws ds) fs negative = meant_at fs (number_value negative ws (onto ds []) None)
+last_numeral (exponent ws ds l s xs) fs negative = meant_at fs (number_value negative ws ds (exponent_of l s (onto xs [])))
+last_numeral _ fs negative = refused Fault.end []
+
+-- what the end of the text comes to
+abbrev pub last : Place → Outcome
+last (numeral fs negative x) = last_numeral x fs negative
+last (behind fs v) = meant_at fs v
+last _ = refused Fault.end []
+
+abbrev pub outcome_on : Move → (Place → Outcome) → List ℕ → Outcome
+outcome_on (go None p) f rest = f p
+outcome_on (go (Some b) p) f rest = refused (limit b) rest
+outcome_on bad f rest = refused character rest
+outcome_on bad_deep f rest = refused (limit deep) rest
+
+-- what is left of a text comes to this, from this place
+abbrev pub outcome : Reading → List ℕ → Place → Outcome
+outcome r [] p = last p
+outcome r (c ∷ cs) p = outcome_on (move r p c) (λ p'. outcome r cs p') (c ∷ cs)
+
+-- the same for what a text has from its byte i on
+unfoldable pub from : Reading → List ℕ → Place → ℕ → Outcome
+from r bytes p i = outcome r (chars (drop i bytes)) p
+
+-- what is left of a text where it can't go on
+abbrev pub stopped : List ℕ → Outcome
+stopped [] = refused Fault.end []
+stopped (c ∷ cs) = refused character (c ∷ cs)
+
+-- the error tells this outcome of a text
+abbrev pub Tells : List ℕ → Error → Outcome → Type 0
+Tells t e (meant v) = ⊥
+Tells t e (refused f rest) = e ≡ error_at t (length t - length rest) f
+
+-- the result is what this outcome of a text says
+abbrev pub Reads : List ℕ → Result JsonValue Error → Outcome → Type 0
+Reads t (Ok v) o = o ≡ meant (view v)
+Reads t (Err e) o = Tells t e o

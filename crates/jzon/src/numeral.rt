@@ -1,0 +1,220 @@
+//! Reads numbers (RFC 8259, section 6; docs/RULES.md, "Numbers").
+
+ghost use Rattle.std.specs.Prelude.{◌≡◌, ℕ, pos, List, [], ◌∷◌, ◌<◌, ◌≤◌, ◌+◌, length, drop, chars, not, Bool, true, false, ◌==◌, ◌↔◌, IsTrue, IfOk, MatchResult, slice_index, if◌then◌else◌};
+ghost use Rattle.std.specs.Char.{is_ascii_digit};
+ghost use Rattle.std.specs.List.{All, take_while, prefix_len};
+ghost use Rattle.std.specs.Str.{IsCharBoundary};
+ghost use Rattle.jzon_base.specs.Decimal.{signed};
+ghost use Rattle.jzon_base.specs.Digits.{IsDigit, digits_number, read_number};
+ghost use Rattle.jzon_base.specs.DigitLimits.{AreFewEnough, IsFirstTooMany};
+ghost use Rattle.jzon_base.specs.declared.digits.DigitFault.{DigitFault};
+ghost use Rattle.jzon_base.specs.declared.error.Error.TheVariants.{ExceededDepthLimit};
+ghost use Rattle.jzon_tree.specs.Value.{number};
+ghost use Rattle.jzon.specs.Reading.{usual};
+ghost use Rattle.jzon.specs.Grammar.{is_exponent_letter};
+ghost use Rattle.jzon.specs.Classes.{begun, lettered};
+ghost use Rattle.jzon.specs.Machine.{Frames, numeral, behind, from, stopped, Tells};
+
+use crate::place::{fault_at, has_byte};
+use jzon_base::digits;
+use jzon_base::error::{Error, Result};
+use jzon_base::number::Number;
+
+/// The number whose first digit stands at `start`, and the place behind it.
+pub(crate) fn read_number(source: &str, start: usize, negative: bool) -> Result<(Number, usize)>
+    requires within { start < length source.now }
+    requires digit { IsTrue (is_ascii_digit (slice_index source.now start)) }
+    ensures bounds { IfOk result (λ r. (start < r.1) × (r.1 ≤ length source.now) × IsCharBoundary source.now r.1) }
+    ensures same { (fs : Frames) → MatchResult result
+        (λ r. from usual source.now (numeral fs negative (begun (slice_index source.now start == 48) (slice_index source.now start))) (start + 1)
+        ≡ from usual source.now (behind fs (number r.0)) r.1)
+        (λ e. Tells (chars source.now) e
+        (from usual source.now (numeral fs negative (begun (slice_index source.now start == 48) (slice_index source.now start))) (start + 1))) }
+{
+    let spelling = spelling_at(source, start);
+    let number = digits::read_number(
+        !negative,
+        spelling.whole,
+        spelling.fraction,
+        spelling.positive_exponent,
+        spelling.exponent,
+    );
+    match number {
+        Err(_) => Err(Error::ExceededDepthLimit),
+        Ok(_) if spelling.is_missing => Err(fault_at(source, spelling.end)),
+        Ok(number) => Ok((number, spelling.end)),
+    }
+}
+
+// The digits of a number in a text.
+#[derive(Clone, Copy)]
+struct Spelling<'a> {
+    whole: &'a [u8],
+    fraction: &'a [u8],
+    positive_exponent: bool,
+    exponent: &'a [u8],
+    // the place behind the number
+    end: usize,
+    // a digit must stand there and doesn't
+    is_missing: bool,
+}
+
+// How a number is spelled, whose first digit stands at `start`.
+fn spelling_at(source: &str, start: usize) -> Spelling<'_>
+    requires within { start < length source.now }
+    requires digit { IsTrue (is_ascii_digit (slice_index source.now start)) }
+    ensures bounds { (start < result.end) × (result.end ≤ length source.now) × IsCharBoundary source.now result.end }
+    ensures whole { All IsDigit result.whole.now }
+    ensures fraction { All IsDigit result.fraction.now }
+    ensures exponent { All IsDigit result.exponent.now }
+    ensures number { AreFewEnough result.whole.now result.fraction.now → result.is_missing ≡ false → (fs : Frames) (negative : Bool)
+        → from usual source.now (numeral fs negative (begun (slice_index source.now start == 48) (slice_index source.now start))) (start + 1)
+        ≡ from usual source.now (behind fs (number (read_number (not negative) result.whole.now result.fraction.now
+        (signed result.positive_exponent (digits_number result.exponent.now))))) result.end }
+    ensures missing { AreFewEnough result.whole.now result.fraction.now → result.is_missing ≡ true → (fs : Frames) (negative : Bool)
+        → from usual source.now (numeral fs negative (begun (slice_index source.now start == 48) (slice_index source.now start))) (start + 1)
+        ≡ stopped (chars (drop result.end source.now)) }
+    ensures too_many { (f : DigitFault) → IsFirstTooMany result.whole.now result.fraction.now f → (fs : Frames) (negative : Bool)
+        → Tells (chars source.now) ExceededDepthLimit
+        (from usual source.now (numeral fs negative (begun (slice_index source.now start == 48) (slice_index source.now start))) (start + 1)) }
+{
+    let magnitude = magnitude_at(source, start);
+    if magnitude.is_missing || !has_exponent_letter(source, magnitude.end) {
+        return magnitude;
+    }
+    let exponent = exponent_behind(source, magnitude.end + 1);
+    Spelling {
+        positive_exponent: exponent.is_positive,
+        exponent: exponent.digits,
+        end: exponent.end,
+        is_missing: exponent.digits.is_empty(),
+        ..magnitude
+    }
+}
+
+// The same without the exponent.
+fn magnitude_at(source: &str, start: usize) -> Spelling<'_>
+    requires within { start < length source.now }
+    requires digit { IsTrue (is_ascii_digit (slice_index source.now start)) }
+    ensures bounds { (start < result.end) × (result.end ≤ length source.now) × IsCharBoundary source.now result.end }
+    ensures whole { All IsDigit result.whole.now }
+    ensures fraction { All IsDigit result.fraction.now }
+    ensures exponent { (result.positive_exponent ≡ true) × (result.exponent.now ≡ []) }
+    ensures letter { AreFewEnough result.whole.now result.fraction.now → result.is_missing ≡ false → (fs : Frames) (negative : Bool)
+        → result.end < length source.now → IsTrue (is_exponent_letter (slice_index source.now result.end))
+        → from usual source.now (numeral fs negative (begun (slice_index source.now start == 48) (slice_index source.now start))) (start + 1)
+        ≡ from usual source.now (numeral fs negative (lettered result.whole.now result.fraction.now (slice_index source.now result.end))) (result.end + 1) }
+    ensures number { AreFewEnough result.whole.now result.fraction.now → result.is_missing ≡ false → (fs : Frames) (negative : Bool)
+        → (result.end < length source.now → is_exponent_letter (slice_index source.now result.end) ≡ false)
+        → from usual source.now (numeral fs negative (begun (slice_index source.now start == 48) (slice_index source.now start))) (start + 1)
+        ≡ from usual source.now (behind fs (number (read_number (not negative) result.whole.now result.fraction.now (pos 0)))) result.end }
+    ensures missing { AreFewEnough result.whole.now result.fraction.now → result.is_missing ≡ true → (fs : Frames) (negative : Bool)
+        → from usual source.now (numeral fs negative (begun (slice_index source.now start == 48) (slice_index source.now start))) (start + 1)
+        ≡ stopped (chars (drop result.end source.now)) }
+    ensures too_many { (f : DigitFault) → IsFirstTooMany result.whole.now result.fraction.now f → (fs : Frames) (negative : Bool)
+        → Tells (chars source.now) ExceededDepthLimit
+        (from usual source.now (numeral fs negative (begun (slice_index source.now start == 48) (slice_index source.now start))) (start + 1)) }
+{
+    let whole = whole_at(source, start);
+    let end = start + whole.len();
+    if !has_byte(source, end, b'.') {
+        return Spelling {
+            whole,
+            fraction: &[],
+            positive_exponent: true,
+            exponent: &[],
+            end,
+            is_missing: false,
+        };
+    }
+    let fraction = digits_at(source, end + 1);
+    Spelling {
+        whole,
+        fraction,
+        positive_exponent: true,
+        exponent: &[],
+        end: end + 1 + fraction.len(),
+        is_missing: fraction.is_empty(),
+    }
+}
+
+// The digits before the point: a `0` alone, or all that stand there.
+fn whole_at(source: &str, start: usize) -> &[u8]
+    requires { start < length source.now }
+    ensures { result.now ≡ (if slice_index source.now start == 48 then 48 ∷ [] else take_while is_ascii_digit (drop start source.now)) }
+{
+    if has_byte(source, start, b'0') {
+        &source.as_bytes()[start..start + 1]
+    } else {
+        digits_at(source, start)
+    }
+}
+
+// The digits that stand at a place.
+fn digits_at(source: &str, start: usize) -> &[u8]
+    requires { start ≤ length source.now }
+    ensures { result.now ≡ take_while is_ascii_digit (drop start source.now) }
+{
+    let rest = &source.as_bytes()[start..];
+    &rest[..digits_length(rest)]
+}
+
+// How many digits stand at the beginning.
+fn digits_length(bytes: &[u8]) -> usize
+    ensures { result ≡ prefix_len is_ascii_digit bytes.now }
+{
+    bytes
+        .iter()
+        .take_while(|byte| byte.is_ascii_digit())
+        .count()
+}
+
+// The digits of an exponent, which may be none, and the place behind them.
+#[derive(Clone, Copy)]
+struct Exponent<'a> {
+    is_positive: bool,
+    digits: &'a [u8],
+    end: usize,
+}
+
+// The exponent whose letter stands before `start`.
+fn exponent_behind(source: &str, start: usize) -> Exponent<'_>
+    requires { IsCharBoundary source.now start }
+    ensures bounds { (start ≤ result.end) × (result.end ≤ length source.now) × IsCharBoundary source.now result.end }
+    ensures digits { All IsDigit result.digits.now }
+    ensures number { 0 < length result.digits.now → (fs : Frames) (negative : Bool) (ws ds : List ℕ) (l : ℕ)
+        → from usual source.now (numeral fs negative (lettered ws ds l)) start
+        ≡ from usual source.now (behind fs (number (read_number (not negative) ws ds (signed result.is_positive (digits_number result.digits.now))))) result.end }
+    ensures missing { length result.digits.now ≡ 0 → (fs : Frames) (negative : Bool) (ws ds : List ℕ) (l : ℕ)
+        → from usual source.now (numeral fs negative (lettered ws ds l)) start ≡ stopped (chars (drop result.end source.now)) }
+{
+    if has_byte(source, start, b'-') {
+        return exponent_at(source, start + 1, false);
+    }
+    if has_byte(source, start, b'+') {
+        return exponent_at(source, start + 1, true);
+    }
+    exponent_at(source, start, true)
+}
+
+// The exponent whose first digit may stand at `start`.
+fn exponent_at(source: &str, start: usize, is_positive: bool) -> Exponent<'_>
+    requires { start ≤ length source.now }
+    ensures sign { result.is_positive ≡ is_positive }
+    ensures digits { result.digits.now ≡ take_while is_ascii_digit (drop start source.now) }
+    ensures end { result.end ≡ start + length result.digits.now }
+{
+    let digits = digits_at(source, start);
+    Exponent {
+        is_positive,
+        digits,
+        end: start + digits.len(),
+    }
+}
+
+// Whether an exponent begins at this place.
+fn has_exponent_letter(source: &str, index: usize) -> bool
+    ensures { IsTrue result ↔ ((index < length source.now) × IsTrue (is_exponent_letter (slice_index source.now index))) }
+{
+    has_byte(source, index, b'e') || has_byte(source, index, b'E')
+}

@@ -1,0 +1,67 @@
+//! Places of a text: what stands there, and the error that tells a fault there.
+
+ghost use Rattle.std.specs.Prelude.{◌≡◌, ℕ, ◌<◌, ◌≤◌, ◌+◌, length, drop, chars, IsTrue, slice_index, ◌↔◌};
+ghost use Rattle.std.specs.Char.{is_ascii_digit};
+ghost use Rattle.std.specs.Str.{IsCharBoundary};
+ghost use Rattle.jzon.specs.Fault.{line, column};
+ghost use Rattle.jzon.specs.Machine.{Tells, stopped};
+
+use jzon_base::error::Error;
+
+/// Whether this byte stands at this place.
+pub(crate) fn has_byte(source: &str, index: usize, byte: u8) -> bool
+    ensures { IsTrue result ↔ ((index < length source.now) × (slice_index source.now index ≡ byte)) }
+{
+    let bytes = source.as_bytes();
+    index < bytes.len() && bytes[index] == byte
+}
+
+/// Whether a digit stands at this place.
+pub(crate) fn has_digit(source: &str, index: usize) -> bool
+    ensures { IsTrue result ↔ ((index < length source.now) × IsTrue (is_ascii_digit (slice_index source.now index))) }
+{
+    let bytes = source.as_bytes();
+    index < bytes.len() && bytes[index].is_ascii_digit()
+}
+
+/// The line of the character after a front of a text, counted from 1.
+fn line_after(front: &str) -> usize
+    ensures { result ≡ line (chars front.now) }
+{
+    front.chars().filter(|c| *c == '\n').count() + 1
+}
+
+/// The column after these characters of a line, counted from 1.
+fn column_behind(line: &str) -> usize
+    ensures { result ≡ length (chars line.now) + 1 }
+{
+    line.chars().count() + 1
+}
+
+/// The column of the character after a front of a text.
+fn column_after(front: &str) -> usize
+    ensures { result ≡ column (chars front.now) }
+{
+    match front.rfind('\n') {
+        None => column_behind(front),
+        Some(newline) => column_behind(&front[newline + 1..]),
+    }
+}
+
+/// The error of a text that can't go on from this place: its end, or the character that stands there.
+pub(crate) fn fault_at(source: &str, index: usize) -> Error
+    requires { IsCharBoundary source.now index }
+    ensures { Tells (chars source.now) result (stopped (chars (drop index source.now))) }
+{
+    match source[index..].chars().next() {
+        None => Error::UnexpectedEndOfJson,
+        Some(ch) => {
+            let front = &source[..index];
+            Error::UnexpectedCharacter {
+                ch,
+                line: line_after(front),
+                column: column_after(front),
+            }
+        }
+    }
+}

@@ -1,0 +1,181 @@
+// Texts of literals and numbers: the parts and the compact text of what is read, and the kind and place of each error.
+use crate::{JsonValue, parse};
+use std::alloc::{AllocError, Global};
+use std::test::Fail;
+
+/// `front`, this many times `repeated`, and `back`.
+fn long_text(
+    alloc: Global,
+    front: &str,
+    repeated: char,
+    count: usize,
+    back: &str,
+) -> Result<String, AllocError> {
+    let mut text = String::from_str(alloc, front)?;
+    for _ in 0..count {
+        text.push(repeated)?;
+    }
+    text.push_str(back)?;
+    Ok(text)
+}
+
+fn parts_of(value: &JsonValue) -> Option<(bool, u64, i16)> {
+    match value {
+        JsonValue::Number(number) => Some(number.as_parts()),
+        _ => None,
+    }
+}
+
+#[test]
+fn reads_literals_and_numbers(rt: HostRuntime) -> Result<(), Fail> {
+    let rows: [(&str, Option<(bool, u64, i16)>, &str); 25] = [
+        ("null", None, "null"),
+        ("true", None, "true"),
+        ("false", None, "false"),
+        (" \t\r\n null \n", None, "null"),
+        ("\u{b}1", Some((true, 1, 0)), "1"),
+        ("\u{c}1\u{c}", Some((true, 1, 0)), "1"),
+        ("-12.50e3", Some((false, 1250, 1)), "-12500"),
+        (
+            "18446744073709551615",
+            Some((true, 18446744073709551615, 0)),
+            "18446744073709551615",
+        ),
+        (
+            "18446744073709551615.5",
+            Some((true, 18446744073709551615, 0)),
+            "18446744073709551615",
+        ),
+        (
+            "184467440737095516165",
+            Some((true, 1844674407370955161, 2)),
+            "1.844674407370955161e20",
+        ),
+        (
+            "2.22507385850720113605740979670913197593481954635164564e-308",
+            Some((true, 2225073858507201136, -326)),
+            "2.225073858507201136e-308",
+        ),
+        ("1.2e32768", Some((true, 12, 32767)), "1.2e32768"),
+        ("1e-32768", Some((true, 1, -32768)), "1e-32768"),
+        ("1e-32769", Some((true, 1, -32768)), "1e-32768"),
+        ("1e123456789012", Some((true, 1, 32767)), "1e32767"),
+        ("1e-123456789012", Some((true, 1, -32768)), "1e-32768"),
+        ("1.50", Some((true, 150, -2)), "1.50"),
+        ("100e-2", Some((true, 100, -2)), "1.00"),
+        ("0e5", Some((true, 0, 5)), "0"),
+        ("-0", Some((false, 0, 0)), "-0"),
+        ("0.0", Some((true, 0, -1)), "0"),
+        ("5E2", Some((true, 5, 2)), "500"),
+        ("5e+2", Some((true, 5, 2)), "500"),
+        ("7e70", Some((true, 7, 70)), "7e70"),
+        ("1e-18", Some((true, 1, -18)), "1e-18"),
+    ];
+    for (text, parts, dump) in &rows {
+        let value = parse(rt.alloc(), text)?;
+        assert_eq!(rt; parts_of(&value), *parts, "{text}");
+        assert_eq!(rt; value.dump(rt.alloc())?.as_str(), *dump, "{text}");
+    }
+    Ok(())
+}
+
+#[test]
+fn reads_long_numbers(rt: HostRuntime) -> Result<(), Fail> {
+    let rows: [(&str, char, usize, &str, (bool, u64, i16)); 9] = [
+        ("1e", '9', 60, "", (true, 1, 32767)),
+        ("1e", '9', 1000000, "", (true, 1, 32767)),
+        ("1e-", '9', 1000000, "", (true, 1, -32768)),
+        ("8", '0', 32785, "", (true, 8000000000000000000, 32767)),
+        ("8", '0', 32785, "e-32767", (true, 8000000000000000000, 0)),
+        ("8", '0', 32785, "e1", (true, 8000000000000000000, 32767)),
+        ("0.", '0', 32768, "", (true, 0, -32768)),
+        ("0.", '0', 32767, "1", (true, 1, -32768)),
+        ("9.", '9', 40000, "", (true, 9999999999999999999, -18)),
+    ];
+    for (front, repeated, count, back, parts) in &rows {
+        let text = long_text(rt.alloc(), front, *repeated, *count, back)?;
+        let value = parse(rt.alloc(), text.as_str())?;
+        assert_eq!(rt;
+            parts_of(&value),
+            Some(*parts),
+            "{front}, {count} times {repeated}, {back}"
+        );
+    }
+    let text = long_text(rt.alloc(), "0.", '0', 32768, "e32768")?;
+    assert_eq!(rt;
+        parts_of(&parse(rt.alloc(), text.as_str())?),
+        Some((true, 0, 0))
+    );
+    Ok(())
+}
+
+#[test]
+fn refuses_digits_past_the_limits(rt: HostRuntime) -> Result<(), Fail> {
+    let rows: [(&str, usize, &str); 6] = [
+        ("8", 32786, ""),
+        ("0.", 32769, ""),
+        ("0.", 40000, ""),
+        ("8", 32786, "."),
+        ("8", 32786, ".e"),
+        ("-0.", 32769, "ex"),
+    ];
+    for (front, count, back) in &rows {
+        let text = long_text(rt.alloc(), front, '0', *count, back)?;
+        let refused = parse(rt.alloc(), text.as_str());
+        assert!(rt;
+            matches!(refused, Err(crate::Error::ExceededDepthLimit)),
+            "{front}, {count} zeros, {back}"
+        );
+    }
+    Ok(())
+}
+
+#[test]
+fn tells_the_first_fault(rt: HostRuntime) -> Result<(), Fail> {
+    let rows: [(&str, &str); 34] = [
+        ("", "Unexpected end of JSON"),
+        ("  ", "Unexpected end of JSON"),
+        ("-", "Unexpected end of JSON"),
+        ("1.", "Unexpected end of JSON"),
+        ("1e", "Unexpected end of JSON"),
+        ("1E+", "Unexpected end of JSON"),
+        ("tru", "Unexpected end of JSON"),
+        ("n", "Unexpected end of JSON"),
+        ("fals", "Unexpected end of JSON"),
+        ("\u{feff}1", "Unexpected character: \u{feff} at (1:1)"),
+        ("\n\nnulX\n", "Unexpected character: X at (3:4)"),
+        ("\n\nnul🦄\n", "Unexpected character: 🦄 at (3:4)"),
+        ("01", "Unexpected character: 1 at (1:2)"),
+        ("-01", "Unexpected character: 1 at (1:3)"),
+        ("1.e", "Unexpected character: e at (1:3)"),
+        ("1e+-", "Unexpected character: - at (1:4)"),
+        ("1ee", "Unexpected character: e at (1:3)"),
+        ("1 2", "Unexpected character: 2 at (1:3)"),
+        ("1.5.2", "Unexpected character: . at (1:4)"),
+        ("-a", "Unexpected character: a at (1:2)"),
+        ("+1", "Unexpected character: + at (1:1)"),
+        (".5", "Unexpected character: . at (1:1)"),
+        ("0x14", "Unexpected character: x at (1:2)"),
+        ("NULL", "Unexpected character: N at (1:1)"),
+        ("nullé", "Unexpected character: é at (1:5)"),
+        ("é", "Unexpected character: é at (1:1)"),
+        ("true\u{a0}", "Unexpected character: \u{a0} at (1:5)"),
+        ("\r}", "Unexpected character: } at (1:2)"),
+        ("\r\n}", "Unexpected character: } at (2:1)"),
+        ("]", "Unexpected character: ] at (1:1)"),
+        ("1,", "Unexpected character: , at (1:2)"),
+        ("\"a\"", "Unexpected character: \" at (1:1)"),
+        ("[]", "Unexpected character: [ at (1:1)"),
+        ("{}", "Unexpected character: { at (1:1)"),
+    ];
+    for (text, words) in &rows {
+        match parse(rt.alloc(), text) {
+            Ok(_) => assert!(rt; false, "{text} is read"),
+            Err(e) => {
+                let told = e.to_string(rt.alloc())?;
+                assert_eq!(rt; told.as_str(), *words, "{text}");
+            }
+        }
+    }
+    Ok(())
+}

@@ -1,0 +1,159 @@
+//! The digits of a number in a text, and the parts that they mean (RFC 8259, section 6; docs/RULES.md, "What digits mean" and "Digit limits").
+
+ghost use Rattle.std.specs.Prelude.{◌≡◌, pos, ◌+◌, ◌<◌, ◌≤◌, ◌^◌, ◌-ℤ◌, ◌+ℤ◌, ◌++◌, length, take, min, IfErr, OkIff};
+ghost use Rattle.std.specs.List.{fold, All};
+ghost use Rattle.jzon_base.specs.Decimal.{signed};
+ghost use Rattle.jzon_base.specs.Digits.{IsDigit, add_digit, digits_number, kept, dropped, kept_fraction, clamp, read_exponent, read_number};
+ghost use Rattle.jzon_base.specs.DigitLimits.{AreFewEnough, IsFirstTooMany, KeepsLongestFront};
+
+use crate::number::Number;
+
+// At most so many digits before the point are dropped.
+const MAX_DROPPED: usize = 32767;
+
+// At most so many digits after the point are kept.
+const MAX_KEPT_FRACTION: usize = 32768;
+
+// A written exponent beyond this is clamped, whatever the digits are.
+const MAX_WRITTEN: u32 = 65536;
+
+/// The digit that is one too many, by its place among the digits before or after the point.
+#[derive(Clone, Copy, Debug, PartialEq, Eq)]
+pub enum DigitFault {
+    /// The 32768th digit before the point that is dropped.
+    Whole(usize),
+    /// The 32769th digit after the point that is kept.
+    Fraction(usize),
+}
+
+/// The number that is written in these digits: those before the point, those after it, and those of the exponent, with the signs of both. A part that is
+/// missing is empty, and the exponent is then 0. A `DigitFault` is told where there are too many digits, whatever the exponent is.
+pub fn read_number(
+    positive: bool,
+    whole: &[u8],
+    fraction: &[u8],
+    positive_exponent: bool,
+    exponent: &[u8],
+) -> Result<Number, DigitFault>
+    requires whole { All IsDigit whole.now }
+    requires fraction { All IsDigit fraction.now }
+    requires exponent { All IsDigit exponent.now }
+    ensures number { OkIff result (AreFewEnough whole.now fraction.now)
+        (read_number positive whole.now fraction.now (signed positive_exponent (digits_number exponent.now))) }
+    ensures fault { IfErr result (IsFirstTooMany whole.now fraction.now) }
+{
+    let front = kept_front(whole, fraction);
+    if front.dropped > MAX_DROPPED {
+        return Err(DigitFault::Whole(whole.len() - front.dropped + MAX_DROPPED));
+    }
+    if front.kept_fraction > MAX_KEPT_FRACTION {
+        return Err(DigitFault::Fraction(MAX_KEPT_FRACTION));
+    }
+    let exponent = clamped_exponent(
+        front.dropped,
+        front.kept_fraction,
+        positive_exponent,
+        exponent,
+    );
+    Ok(Number::from_parts_unchecked(positive, front.number, exponent))
+}
+
+// The longest front of the digits before and after a point that spells a number below 2^64.
+#[derive(Clone, Copy)]
+struct Front {
+    number: u64,
+    dropped: usize,
+    kept_fraction: usize,
+}
+
+fn kept_front(whole: &[u8], fraction: &[u8]) -> Front
+    requires whole { All IsDigit whole.now }
+    requires fraction { All IsDigit fraction.now }
+    ensures number { result.number ≡ digits_number (kept (whole.now ++ fraction.now)) }
+    ensures dropped { result.dropped ≡ dropped whole.now fraction.now }
+    ensures kept { result.kept_fraction ≡ kept_fraction whole.now fraction.now }
+{
+    let (number, count) = longest_front(0, whole);
+    if count < whole.len() {
+        return Front {
+            number,
+            dropped: whole.len() - count,
+            kept_fraction: 0,
+        };
+    }
+    let (number, kept_fraction) = longest_front(number, fraction);
+    Front {
+        number,
+        dropped: 0,
+        kept_fraction,
+    }
+}
+
+// The longest front of digits that goes on from `before` and stays below 2^64: its number and its length.
+fn longest_front(before: u64, digits: &[u8]) -> (u64, usize)
+    requires { All IsDigit digits.now }
+    ensures number { result.0 ≡ fold add_digit before (take result.1 digits.now) }
+    ensures fits { result.0 < 2 ^ 64 }
+    ensures within { result.1 ≤ length digits.now }
+    ensures longest { result.1 < length digits.now → 2 ^ 64 ≤ fold add_digit before (take (result.1 + 1) digits.now) }
+{
+    let mut number = before;
+    for (i, digit) in digits.iter().enumerate() {
+        let more = number
+            .checked_mul(10)
+            .and_then(|n| n.checked_add(u64::from(*digit - b'0')));
+        match more {
+            Some(n) => number = n,
+            None => return (number, i),
+        }
+    }
+    (number, digits.len())
+}
+
+// The digits' own power of ten and the written exponent, added exactly and clamped once.
+fn clamped_exponent(dropped: usize, kept_fraction: usize, positive: bool, written: &[u8]) -> i16
+    requires digits { All IsDigit written.now }
+    requires dropped { dropped ≤ 32767 }
+    requires kept { kept_fraction ≤ 32768 }
+    ensures { result ≡ clamp ((pos dropped -ℤ pos kept_fraction) +ℤ signed positive (digits_number written.now)) }
+{
+    let written = capped_number(written) as i32;
+    let power = dropped as i32 - kept_fraction as i32;
+    if positive {
+        clamped(power + written)
+    } else {
+        clamped(power - written)
+    }
+}
+
+// The number that digits spell, at most `MAX_WRITTEN`.
+fn capped_number(digits: &[u8]) -> u32
+    requires { All IsDigit digits.now }
+    ensures { result ≡ min (digits_number digits.now) MAX_WRITTEN }
+{
+    let mut number = 0;
+    for digit in digits {
+        number = (number * 10 + u32::from(*digit - b'0')).min(MAX_WRITTEN);
+    }
+    number
+}
+
+fn clamped(sum: i32) -> i16
+    ensures { result ≡ clamp sum }
+{
+    if sum < i32::from(i16::MIN) {
+        i16::MIN
+    } else if sum > i32::from(i16::MAX) {
+        i16::MAX
+    } else {
+        sum as i16
+    }
+}
+
+/// A law on the definitions alone: the kept digits are the longest front that spells a number below 2^64, and each longer front spells one of 2^64 or more.
+pub fn keeps_longest_front()
+    ensures { KeepsLongestFront }
+{}
+
+#[cfg(test)]
+mod tests;

@@ -1,0 +1,146 @@
+//! Short texts, kept in place (docs/RULES.md, "Short and long texts").
+
+ghost use Rattle.std.specs.Prelude.{◌≡◌, ◌≤◌, length, IfOk, IsOkUnless, IsUtf8, string_bytes};
+ghost use Rattle.std.specs.Str.{bytes_eq};
+ghost use Rattle.jzon_base.specs.declared.error.Error.TheVariants.{OutOfMemory};
+
+use crate::error::Result;
+use arrayvec::ArrayString;
+use std::alloc::Global;
+use std::fmt;
+use std::marker::Model;
+
+/// The most bytes that a `Short` holds.
+pub const MAX_LEN: usize = 30;
+
+/// A text of at most `MAX_LEN` bytes, which lie in the value itself, so that it takes no memory.
+#[derive(Drop)]
+pub struct Short {
+    text: ArrayString<MAX_LEN>,
+}
+
+impl Model for Short {
+    ghost use Rattle.std.specs.Prelude.{ℕ, List};
+
+    ghost Value = { List ℕ };
+
+    ghost view = { λ s. s.text.bytes };
+}
+
+impl Short {
+    /// A copy of the text, which must have at most `MAX_LEN` bytes.
+    pub fn from_slice(slice: &str) -> Short
+        requires { length slice.now ≤ MAX_LEN }
+        ensures { result ≡ slice.now }
+    {
+        let mut text = ArrayString::new();
+        text.push_str(slice);
+        Short { text }
+    }
+
+    /// The text.
+    pub fn as_str(&self) -> &str
+        ensures text { result.now ≡ self.now }
+        ensures short { length self.now ≤ MAX_LEN }
+        ensures utf8 { IsUtf8 self.now }
+    {
+        self.text.as_str()
+    }
+
+    /// Whether this is the text `other`.
+    pub fn eq_str(&self, other: &str) -> bool
+        ensures { result ≡ bytes_eq self.now other.now }
+    {
+        self.as_str() == other
+    }
+
+    /// The text as a `String`. It is refused by `OutOfMemory` alone.
+    pub fn into_string(self, alloc: Global) -> Result<String>
+        ensures text { IfOk result (λ s. string_bytes s ≡ self) }
+        ensures memory { IsOkUnless result OutOfMemory }
+    {
+        Ok(String::from_str(alloc, self.as_str())?)
+    }
+}
+
+impl PartialEq for Short {
+    ghost use Rattle.std.specs.Cmp.{partial_equiv_from_equiv};
+    ghost use Rattle.std.specs.Cmp.Lexicographic.{nat_list_eq_equiv};
+
+    ghost eq = { bytes_eq };
+
+    ghost laws = { partial_equiv_from_equiv nat_list_eq_equiv };
+
+    fn eq(&self, other: &Short) -> bool {
+        self.as_str() == other.as_str()
+    }
+}
+
+impl Eq for Short {
+    ghost use Rattle.std.specs.Cmp.Lexicographic.{nat_list_eq_equiv};
+
+    ghost laws = { nat_list_eq_equiv };
+}
+
+impl fmt::Debug for Short {
+    fn fmt<W: fmt::Write>(&self, f: &mut fmt::Formatter<W>) -> fmt::Result {
+        fmt::Debug::fmt(&self.as_str(), f)
+    }
+}
+
+impl fmt::Display for Short {
+    ghost use Rattle.std.specs.Prelude.{Some};
+
+    ghost output = { λ s. Some s };
+
+    fn fmt<W: fmt::Write>(&self, f: &mut fmt::Formatter<W>) -> fmt::Result {
+        f.write_str(self.as_str())
+    }
+}
+
+#[cfg(test)]
+mod tests {
+    use super::*;
+    use std::test::Fail;
+
+    #[test]
+    fn keeps_texts(rt: HostRuntime) -> std::result::Result<(), Fail> {
+        let texts = [
+            "",
+            "a\"b",
+            "\0",
+            "abcdefghijklmnopqrstuvwxyz0123",
+            "ééééééééééééééé",
+        ];
+        for text in texts {
+            assert!(rt; text.len() <= MAX_LEN);
+            let short = Short::from_slice(text);
+            assert_eq!(rt; short.as_str(), text);
+            assert!(rt; short == Short::from_slice(text));
+            assert!(rt; short.eq_str(text));
+            assert_eq!(rt; format!(in rt.alloc(); "{short}")?.as_str(), text);
+            assert_eq!(rt; short.into_string(rt.alloc())?.as_str(), text);
+        }
+        Ok(())
+    }
+
+    #[test]
+    fn tells_texts_apart(rt: HostRuntime) {
+        let short = Short::from_slice("abc");
+        for other in ["", "ab", "abd", "abcd", "Abc", "abc\0"] {
+            assert!(rt; other.len() <= MAX_LEN);
+            assert!(rt; short != Short::from_slice(other), "{other}");
+            assert!(rt; !short.eq_str(other), "{other}");
+        }
+    }
+
+    #[test]
+    fn debug_is_quoted(rt: HostRuntime) -> std::result::Result<(), Fail> {
+        let short = Short::from_slice("a\"b\n");
+        assert_eq!(rt;
+            format!(in rt.alloc(); "{short:?}")?.as_str(),
+            "\"a\\\"b\\n\""
+        );
+        Ok(())
+    }
+}
