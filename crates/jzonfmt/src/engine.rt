@@ -133,6 +133,7 @@ fn zeros(alloc: Global, count: usize) -> Result<Vec<u8>, AllocError>
 }
 
 // The text that is printed for the input.
+#[tactic(auto, unfolding(crate::specs::Run::IsTextOf))]
 fn printed_text(alloc: Global, input: &[u8], layout: Layout) -> Result<String, RunFault>
     ensures { Prints layout input.now result }
 {
