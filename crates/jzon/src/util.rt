@@ -1,3 +1,3 @@
-//! What programs share with the crate: the write loop, and the text of a number.
+//! The text of a number, and the loop that writes bytes.
 
 pub use jzon_base::util::{print_dec, write_bytes};
