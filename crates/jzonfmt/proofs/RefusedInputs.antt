@@ -1,5 +1,5 @@
 -- What an input that is refused leaves: the fault that tells it, and a writer that holds what it held.
-use Rattle.std.proofs.Common.{◌≡◌, ℕ, List, Option, None, Some, Result, Ok, Err, refl, sym, subst}
+use Rattle.std.proofs.Common.{inl, inr, ◌≡◌, ℕ, List, Option, None, Some, Result, Ok, Err, refl, sym, subst}
 use Rattle.std.specs.Prelude.{IsUtf8, chars}
 use Rattle.std.specs.Result.{IsErrAnd}
 use Rattle.std.specs.Io.KnownBytes.{Consumes, IsAtEnd, Keeps}
@@ -7,25 +7,31 @@ use Rattle.std.specs.declared.string.String.{String}
 use Rattle.jzon.specs.Error.{Error}
 use Rattle.jzon.specs.Error.TheVariants.{UnexpectedCharacter, UnexpectedEndOfJson, ExceededDepthLimit, FailedUtf8Parsing, WrongType, OutOfMemory, DuplicateKey}
 use Rattle.jzon.specs.Reading.{usual}
-use Rattle.jzon.specs.Fault.{IsErrorOf}
+use Rattle.jzon.specs.Answer.{IsErrorUnlessMemory}
 use Rattle.jzonfmt.specs.Run.{fault_of, Reads, Prints, Answers}
 use Rattle.jzonfmt.specs.declared.engine.Layout.{Layout}
 use Rattle.jzonfmt.specs.declared.engine.RunFault.{RunFault}
 use Rattle.jzonfmt.specs.declared.engine.RunFault.TheVariants.{Read, NotUtf8, Json, Write, Memory}
 
-prints_fault : (A : Type 0) (layout : Layout) (input : List ℕ) (e : Error) → IsUtf8 input → IsErrorOf usual (chars input) e
+prints_fault : (A : Type 0) (layout : Layout) (input : List ℕ) (e : Error) → IsUtf8 input → IsErrorUnlessMemory usual (chars input) e
     → Prints {A = A} layout input (Err (fault_of e))
 prints_fault A layout input OutOfMemory u h = tt
-prints_fault A layout input (UnexpectedCharacter c l k) u h = (u, h)
-prints_fault A layout input UnexpectedEndOfJson u h = (u, h)
-prints_fault A layout input ExceededDepthLimit u h = (u, h)
-prints_fault A layout input FailedUtf8Parsing u h = (u, h)
-prints_fault A layout input (WrongType s) u h = (u, h)
-prints_fault A layout input (DuplicateKey l k) u h = (u, h)
+prints_fault A layout input (UnexpectedCharacter c l k) u (inl e) = absurd (cc)
+prints_fault A layout input (UnexpectedCharacter c l k) u (inr h) = (u, h)
+prints_fault A layout input UnexpectedEndOfJson u (inl e) = absurd (cc)
+prints_fault A layout input UnexpectedEndOfJson u (inr h) = (u, h)
+prints_fault A layout input ExceededDepthLimit u (inl e) = absurd (cc)
+prints_fault A layout input ExceededDepthLimit u (inr h) = (u, h)
+prints_fault A layout input FailedUtf8Parsing u (inl e) = absurd (cc)
+prints_fault A layout input FailedUtf8Parsing u (inr h) = (u, h)
+prints_fault A layout input (WrongType s) u (inl e) = absurd (cc)
+prints_fault A layout input (WrongType s) u (inr h) = (u, h)
+prints_fault A layout input (DuplicateKey l k) u (inl e) = absurd (cc)
+prints_fault A layout input (DuplicateKey l k) u (inr h) = (u, h)
 
 -- the error of the text, told as a fault
 pub prints_refusal : {A : Type 0} (layout : Layout) (input : List ℕ) (e : Error) (result : Result (String A) RunFault) → IsUtf8 input
-    → IsErrorOf usual (chars input) e → IsErrAnd result (λ f. f ≡ fault_of e) → Prints layout input result
+    → IsErrorUnlessMemory usual (chars input) e → IsErrAnd result (λ f. f ≡ fault_of e) → Prints layout input result
 prints_refusal layout input e (Ok text) u h r = absurd r
 prints_refusal {A = A} layout input e (Err f) u h r = subst (λ g. Prints {A = A} layout input (Err g)) (sym r) (prints_fault A layout input e u h)
 

@@ -1,4 +1,4 @@
--- What the program does for its words (docs/RULES.md, "The program jzonfmt").
+-- What the program does for its words (docs/RULES.md, "The program").
 use Rattle.std.specs.Prelude.{◌≡◌, ℕ, List, [], ◌∷◌, Result, Ok, Err, Option, None, Some, codes, MatchOption}
 use Rattle.std.specs.Io.KnownBytes.{Keeps}
 use Rattle.jzon.specs.ErrorText.{error_text}

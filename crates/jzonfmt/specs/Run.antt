@@ -1,4 +1,4 @@
--- What a run does (docs/RULES.md, "The program jzonfmt").
+-- What a run does (docs/RULES.md, "The program").
 use Rattle.std.specs.Prelude.{◌≡◌, ℕ, List, [], ◌∷◌, ◌++◌, Result, Ok, Err, Option, IsUtf8, chars, string_bytes, ⊤}
 use Rattle.std.specs.declared.string.String.{String}
 use Rattle.std.specs.Io.KnownBytes.{Appends, Keeps, Consumes, IsAtEnd}
@@ -37,12 +37,8 @@ IsReadFault _ = ⊥
 -- ---- what is printed
 
 -- the bytes are the text of the document
-unfoldable pub IsTextOf : List ℕ → Document → Type 0
+abbrev pub IsTextOf : List ℕ → Document → Type 0
 IsTextOf input d = IsUtf8 input × Parses usual (chars input) d
-
--- the bytes are a text, and this is its error
-unfoldable pub IsRefused : List ℕ → Error → Type 0
-IsRefused input e = IsUtf8 input × IsErrorOf usual (chars input) e
 
 -- the text of its meaning in the layout, and a newline
 abbrev pub printed : Layout → Document → List ℕ
@@ -52,7 +48,7 @@ printed Compact d = compact (meaning d.node) ++ 10 ∷ []
 abbrev pub Prints : {A : Type 0} → Layout → List ℕ → Result (String A) RunFault → Type 0
 Prints layout input (Ok text) = (d : Document) × IsTextOf input d × (string_bytes text ≡ printed layout d)
 Prints layout input (Err NotUtf8) = ¬ (IsUtf8 input)
-Prints layout input (Err (Json e)) = IsRefused input e
+Prints layout input (Err (Json e)) = IsUtf8 input × IsErrorOf usual (chars input) e
 Prints layout input (Err Memory) = ⊤
 Prints layout input (Err _) = ⊥
 
@@ -64,7 +60,7 @@ abbrev pub Answers : {T : Type 0} → Layout → List ℕ → Result T RunFault 
 Answers layout input (Ok _) old new = (d : Document) × IsTextOf input d × Appends old new (printed layout d)
 Answers layout input (Err (Write e)) old new = (d : Document) × IsTextOf input d × AppendsBeginning old new (printed layout d)
 Answers layout input (Err NotUtf8) old new = (¬ (IsUtf8 input)) × Keeps old new
-Answers layout input (Err (Json e)) old new = IsRefused input e × Keeps old new
+Answers layout input (Err (Json e)) old new = (IsUtf8 input × IsErrorOf usual (chars input) e) × Keeps old new
 Answers layout input (Err _) old new = Keeps old new
 
 -- Some bytes are read (the reader has `r` before and `s` after it) and answered (the writer holds `w` before and `x` after it).

@@ -133,11 +133,12 @@ fn zeros(alloc: Global, count: usize) -> Result<Vec<u8>, AllocError>
 }
 
 // The text that is printed for the input.
-#[tactic(auto, unfolding(crate::specs::Run::IsTextOf))]
 fn printed_text(alloc: Global, input: &[u8], layout: Layout) -> Result<String, RunFault>
     ensures { Prints layout input.now result }
 {
-    let source = str::from_utf8(input).map_err(|_| RunFault::NotUtf8)?;
+    let Ok(source) = str::from_utf8(input) else {
+        return Err(RunFault::NotUtf8);
+    };
     let value = jzon::parse(alloc, source)?;
     let mut text = match layout {
         Layout::Compact => value.dump(alloc)?,
