@@ -115,8 +115,8 @@ pub has_quote : (bs : List ℕ) (i : ℕ) → IsUtf8 bs → IsCharBoundary bs i 
 has_quote bs i u at lt e =
     let split : drop i bs ≡ 34 ∷ drop (suc i) bs = drop-cons bs i 0 lt ∙ ap (λ z. z ∷ drop (suc i) bs) e in
     let whole : chars bs ≡ chars (take i bs) ++ (34 ∷ chars (drop (suc i) bs)) =
-        chars_split bs i u at ∙ ap (λ z. chars (take i bs) ++ z)
-        (ap chars split ∙ chars-ascii 34 (drop (suc i) bs) (subst IsUtf8 split (IsUtf8-drop bs i u at)) (lit< tt)) in
+    chars_split bs i u at ∙ ap (λ z. chars (take i bs) ++ z)
+    (ap chars split ∙ chars-ascii 34 (drop (suc i) bs) (subst IsUtf8 split (IsUtf8-drop bs i u at)) (lit< tt)) in
     subst (λ z. Contains z 34) (sym whole) (
       length (chars (take i bs)),
       omega (arith, length-append (chars (take i bs)) (34 ∷ chars (drop (suc i) bs))),

@@ -8,7 +8,6 @@ pub mod Classes
 pub mod Quote
 pub mod Machine
 pub mod Answer
-
 -- what the contracts of the crates above cite
 pub use Rattle.jzon_base.specs.ErrorText
 pub use Rattle.jzon_base.specs.Written

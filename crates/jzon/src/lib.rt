@@ -11,6 +11,6 @@ mod tests;
 pub mod util;
 
 pub use jzon_base::error::{Error, Error as JsonError, JsonResult, Result};
-pub use jzon_base::number;
+pub use jzon_base::{number, short};
 pub use jzon_tree::value::JsonValue;
 pub use parser::parse;

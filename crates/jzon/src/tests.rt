@@ -132,7 +132,7 @@ fn refuses_digits_past_the_limits(rt: HostRuntime) -> Result<(), Fail> {
 
 #[test]
 fn tells_the_first_fault(rt: HostRuntime) -> Result<(), Fail> {
-    let rows: [(&str, &str); 34] = [
+    let rows: [(&str, &str); 47] = [
         ("", "Unexpected end of JSON"),
         ("  ", "Unexpected end of JSON"),
         ("-", "Unexpected end of JSON"),
@@ -164,7 +164,20 @@ fn tells_the_first_fault(rt: HostRuntime) -> Result<(), Fail> {
         ("\r\n}", "Unexpected character: } at (2:1)"),
         ("]", "Unexpected character: ] at (1:1)"),
         ("1,", "Unexpected character: , at (1:2)"),
-        ("\"a\"", "Unexpected character: \" at (1:1)"),
+        ("\"", "Unexpected end of JSON"),
+        ("\"ab", "Unexpected end of JSON"),
+        ("\"a\\", "Unexpected end of JSON"),
+        ("\"\\uD834\\uDD1", "Unexpected end of JSON"),
+        ("\"\\x\"", "Unexpected character: x at (1:3)"),
+        ("\"a\n\"", "Unexpected character: \n at (1:3)"),
+        ("\"\\uD834\"", "Unexpected character: \" at (1:8)"),
+        ("\"\\uD834 \\uDD1E\"", "Unexpected character:   at (1:8)"),
+        ("\"\\uDC00\\uDC00\"", "Failed to parse UTF-8 bytes"),
+        ("\"\\uD834\\u00\"", "Unexpected character: \" at (1:12)"),
+        ("\"\\uD834\\n\"", "Unexpected character: n at (1:9)"),
+        ("\"\\uDC00\\uDC0G\"", "Unexpected character: G at (1:13)"),
+        ("\"\\u12G4\"", "Unexpected character: G at (1:6)"),
+        ("\"é\" x", "Unexpected character: x at (1:5)"),
         ("[]", "Unexpected character: [ at (1:1)"),
         ("{}", "Unexpected character: { at (1:1)"),
     ];
@@ -176,6 +189,84 @@ fn tells_the_first_fault(rt: HostRuntime) -> Result<(), Fail> {
                 assert_eq!(rt; told.as_str(), *words, "{text}");
             }
         }
+    }
+    Ok(())
+}
+
+#[test]
+fn reads_strings(rt: HostRuntime) -> Result<(), Fail> {
+    // a text, whether its value is kept in place, its bytes, and its dump
+    let rows: [(&str, bool, &str, &str); 15] = [
+        ("\"\"", true, "", "\"\""),
+        (
+            "\"\\r\\n\\t\\b\\f\\\\\\/\\\"\"",
+            true,
+            "\r\n\t\u{8}\u{c}\\/\"",
+            "\"\\r\\n\\t\\b\\f\\\\/\\\"\"",
+        ),
+        (
+            "\"\\u2764\\ufe0f\"",
+            true,
+            "\u{2764}\u{fe0f}",
+            "\"\u{2764}\u{fe0f}\"",
+        ),
+        ("\"\\u0000\"", true, "\u{0}", "\"\\u0000\""),
+        ("\"\\uD834\\uDD1E\"", true, "\u{1d11e}", "\"\u{1d11e}\""),
+        ("\"\\ud834\\udd1e\"", true, "\u{1d11e}", "\"\u{1d11e}\""),
+        ("\"\u{7f}/\"", true, "\u{7f}/", "\"\u{7f}/\""),
+        (
+            "\"foo\\u001fbar\\u0000baz\"",
+            true,
+            "foo\u{1f}bar\u{0}baz",
+            "\"foo\\u001fbar\\u0000baz\"",
+        ),
+        (" \"a\" ", true, "a", "\"a\""),
+        (
+            "\"abcdefghijklmnopqrstuvwxyz0123\"",
+            true,
+            "abcdefghijklmnopqrstuvwxyz0123",
+            "\"abcdefghijklmnopqrstuvwxyz0123\"",
+        ),
+        (
+            "\"abcdefghijklmnopqrstuvwxyz01234\"",
+            false,
+            "abcdefghijklmnopqrstuvwxyz01234",
+            "\"abcdefghijklmnopqrstuvwxyz01234\"",
+        ),
+        (
+            "\"abcdefghijklmnopqrstuvwxyz012\\n4\"",
+            false,
+            "abcdefghijklmnopqrstuvwxyz012\n4",
+            "\"abcdefghijklmnopqrstuvwxyz012\\n4\"",
+        ),
+        (
+            "\"ééééééééééééééé\"",
+            true,
+            "ééééééééééééééé",
+            "\"ééééééééééééééé\"",
+        ),
+        (
+            "\"éééééééééééééééé\"",
+            false,
+            "éééééééééééééééé",
+            "\"éééééééééééééééé\"",
+        ),
+        ("\"a\\u00e9\\\\b\"", true, "aé\\b", "\"aé\\\\b\""),
+    ];
+    for (text, in_place, content, dump) in &rows {
+        let value = parse(rt.alloc(), text)?;
+        match &value {
+            JsonValue::Short(short) => {
+                assert!(rt; *in_place, "{text}");
+                assert_eq!(rt; short.as_str(), *content, "{text}");
+            }
+            JsonValue::String(string) => {
+                assert!(rt; !*in_place, "{text}");
+                assert_eq!(rt; string.as_str(), *content, "{text}");
+            }
+            _ => assert!(rt; false, "{text} is no string"),
+        }
+        assert_eq!(rt; value.dump(rt.alloc())?.as_str(), *dump, "{text}");
     }
     Ok(())
 }

@@ -1,8 +1,10 @@
-// The program with each of its requests for memory refused in turn. That is the work of ci/refuse.c, beside which bin/test runs these tests once more.
+// The program, and the calls of the crate that take memory, with each of their requests for memory refused in turn. That is the work of ci/refuse.c, beside which bin/test runs these tests once more.
 // Without it each test runs its call once, with memory enough.
 
 use crate::engine;
 use crate::engine::{Layout, RunFault};
+use jzon::short::Short;
+use jzon::{Error, JsonValue};
 use std::alloc::Global;
 use std::process::Abort;
 use std::test::Fail;
@@ -108,5 +110,92 @@ fn drive_under_refusals(rt: HostRuntime) -> Result<(), Fail> {
         }
     }
     refusals.tell(&rt, "drive_under_refusals", 3);
+    Ok(())
+}
+
+// A long text with escapes: the buffer grows, and then the value's own memory is asked for.
+const ESCAPED: &str =
+    "\"\\u00e9 and then a text of more than thirty bytes\\n\\uD834\\uDD1E, with escapes\"";
+
+const UNESCAPED: &str = "é and then a text of more than thirty bytes\n\u{1d11e}, with escapes";
+
+#[test]
+fn parse_under_refusals(rt: HostRuntime) -> Result<(), Fail> {
+    let alloc = rt.alloc();
+    let mut refusals = Refusals::new(alloc);
+    for _ in 0..MOST {
+        refusals.begin();
+        let result = jzon::parse(alloc, ESCAPED);
+        if refusals.was_refused() {
+            assert!(rt; matches!(result, Err(Error::OutOfMemory)));
+        } else {
+            match result? {
+                JsonValue::String(text) => assert_eq!(rt; text.as_str(), UNESCAPED),
+                _ => assert!(rt; false, "it is no string of its own"),
+            }
+            break;
+        }
+    }
+    refusals.tell(&rt, "parse_under_refusals", 2);
+    Ok(())
+}
+
+#[test]
+fn dump_under_refusals(rt: HostRuntime) -> Result<(), Fail> {
+    let alloc = rt.alloc();
+    let mut refusals = Refusals::new(alloc);
+    let value = jzon::parse(alloc, ESCAPED)?;
+    for _ in 0..MOST {
+        refusals.begin();
+        let result = value.dump(alloc);
+        if refusals.was_refused() {
+            assert!(rt; matches!(result, Err(Error::OutOfMemory)));
+        } else {
+            assert_eq!(rt;
+                jzon::parse(alloc, result?.as_str())?,
+                jzon::parse(alloc, ESCAPED)?
+            );
+            break;
+        }
+    }
+    refusals.tell(&rt, "dump_under_refusals", 1);
+    Ok(())
+}
+
+#[test]
+fn into_string_under_refusals(rt: HostRuntime) -> Result<(), Fail> {
+    let alloc = rt.alloc();
+    let mut refusals = Refusals::new(alloc);
+    for _ in 0..MOST {
+        let short = Short::from_slice("in place");
+        refusals.begin();
+        let result = short.into_string(alloc);
+        if refusals.was_refused() {
+            assert!(rt; matches!(result, Err(Error::OutOfMemory)));
+        } else {
+            assert_eq!(rt; result?.as_str(), "in place");
+            break;
+        }
+    }
+    refusals.tell(&rt, "into_string_under_refusals", 1);
+    Ok(())
+}
+
+#[test]
+fn wrong_type_under_refusals(rt: HostRuntime) -> Result<(), Fail> {
+    let alloc = rt.alloc();
+    let mut refusals = Refusals::new(alloc);
+    for _ in 0..MOST {
+        refusals.begin();
+        let result = Error::wrong_type(alloc, "Array");
+        if refusals.was_refused() {
+            assert!(rt; matches!(result, Err(Error::OutOfMemory)));
+        } else {
+            let words = result?.to_string(alloc)?;
+            assert_eq!(rt; words.as_str(), "Wrong type, expected: Array");
+            break;
+        }
+    }
+    refusals.tell(&rt, "wrong_type_under_refusals", 1);
     Ok(())
 }

@@ -100,11 +100,11 @@ returns-in-34-clause-memory c e =
     has_quote c.args.source.now c.args.start c.utf8.source c.requires.boundary (omega arith) (here _ _ _ 34 c.as_bytes.ensures.value c.in-34.is)
 
 pub returns-then-start-source-clause-memory : goal.returns-then-start-source-clause-memory
-returns-then-start-source-clause-memory c e = 
+returns-then-start-source-clause-memory c e =
     let same : c.fault_at.result ≡ OutOfMemory = cc in absurd (fault_no_memory _ _ c.fault_at.result c.fault_at.ensures same)
 
 pub returns-in_default-clause-memory : goal.returns-in_default-clause-memory
-returns-in_default-clause-memory c e = 
+returns-in_default-clause-memory c e =
     let same : c.fault_at-in_default.result ≡ OutOfMemory = cc in absurd (fault_no_memory _ _ c.fault_at-in_default.result c.fault_at-in_default.ensures same)
 
 pub returns-in_default-clause-same : goal.returns-in_default-clause-same
