@@ -1,11 +1,10 @@
 -- Before a value, round a key and inside a word: the next cell of what completes the state is what the machine steps on, and the converse.
 use Rattle.std.proofs.Common.{◌≡◌, ◌⊎◌, ◌==◌, ℕ, suc, List, [], ◌∷◌, Bool, true, false, cond, Option, Some, None, inl, inr, refl, sym, ap, eq-eqb, eqb-true, ◌∙◌}
-use Rattle.std.specs.Prelude.{IsTrue}
 use Rattle.jzon.specs.Reading.{Reading}
-use Rattle.jzon.specs.Grammar.{Item, Node, Document, IsNode, reads_strings, reads_containers}
+use Rattle.jzon.specs.Grammar.{Item, Node, Document, IsNode}
 use Rattle.jzon.specs.Spelling.{Breach, Cell, cell, plain, onto, items_cells, duplicate_if, deep_if, node_cells, elements_cells, members_cells}
 use Rattle.jzon.specs.Meaning.{bytes_of}
-use Rattle.jzon.proofs.TreeMachine.{Class, white, digits, dash, quote, opens_array, closes_array, opens_object, closes_object, colon, begins_null, begins_true, begins_false, class_of, nothing_done, done, Named, nothing_named, named, Context, top, in_array, in_object, as_value, as_key, between, State, before, before_key, word, string, go, bad, depth_of, value_mark, key_mark, key_of, bad_at, go_if, step_before, step_before_key, step_after_key, past_letter}
+use Rattle.jzon.proofs.TreeMachine.{Class, white, digits, dash, quote, opens_array, closes_array, opens_object, closes_object, colon, begins_null, begins_true, begins_false, class_of, nothing_done, done, Named, nothing_named, named, Context, top, in_array, in_object, as_value, as_key, between, State, before, before_key, word, string, go, bad, depth_of, value_mark, key_mark, key_of, bad_at, step_before, step_before_key, step_after_key, past_letter}
 use Rattle.jzon.proofs.Completion.{Behind, ClosesArray, Begins, AfterKey, BeginsKey, ClosesObject, Comp, Steps}
 use Rattle.jzon.proofs.Classes.{white-class, class-white, class_34, class-quote, class_58, class-colon, class_91, class-opens_array, class_93, class-closes_array, class_123, class-opens_object, class_125, class-closes_object, class_110, class-begins_null, class_116, class-begins_true, class_102, class-begins_false, at_cell, front}
 use Rattle.jzon.proofs.NumeralsForward.{forward_begin_numeral}
@@ -25,12 +24,6 @@ forward_closes_array r (in_array k a nothing_done) b c m q d (x ∷ w, p, (x_ok,
     at_cell (λ x y v. Steps r (step_before r (class_of r.strict x) (in_array k a nothing_done) b x) y v d) c x m None q _ e
     (rw (white-class r x x_ok) (refl, inr (w, p, w_ok, refl, h)))
 
--- a kind of value that is read
-forward_if : (r : Reading) (t : Bool) (m : Option Breach) (s : State) (q : List Cell) (d : Document)
-    → IsTrue t → Comp r s q d → Steps r (go_if t m s) m q d
-forward_if r true m s q d e h = (refl, h)
-forward_if r false m s q d e h = cc
-
 -- the first character of a value
 forward_node : (r : Reading) (k : Context) (b : List ℕ) (n : Node) (c : ℕ) (m : Option Breach) (q p : List Cell) (d : Document)
     → IsNode r n → cell c m ∷ q ≡ node_cells r n (depth_of k) (value_mark r k) p → Behind r k (onto b []) n [] p d
@@ -47,35 +40,39 @@ forward_node r k b (Node.boolean false) c m q p d ok e h =
 forward_node r k b (Node.number n) c m q p d ok e h = forward_begin_numeral r k b c m q p d n ok e h
 forward_node r k b (Node.string is) c m q p d ok e h =
     at_cell (λ x y v. Steps r (step_before r (class_of r.strict x) k b x) y v d) c 34 m (value_mark r k) q _ e
-    (rw (class_34 r.strict) (forward_if r reads_strings (value_mark r k) (string (as_value k (onto b [])) [] between) _ d ok.0 (is, p, ok.1, refl, h)))
+    (rw (class_34 r.strict) (refl, (is, p, ok, refl, h)))
 forward_node r k b (Node.empty_array w) c m q p d ok e h =
     at_cell (λ x y v. Steps r (step_before r (class_of r.strict x) k b x) y v d) c 91 m (value_mark r k) q _ e
-    (rw (class_91 r.strict) (forward_if r reads_containers (value_mark r k) (before (in_array k (onto b []) nothing_done) []) _ d ok.0 (inr (w, p, ok.1, refl, h))))
+    (rw (class_91 r.strict) (refl, inr (w, p, ok, refl, h)))
 forward_node r k b (Node.empty_object w) c m q p d ok e h =
     at_cell (λ x y v. Steps r (step_before r (class_of r.strict x) k b x) y v d) c 123 m (value_mark r k) q _ e
-    (rw (class_123 r.strict) (forward_if r reads_containers (value_mark r k) (before_key k (onto b []) nothing_named []) _ d ok.0 (inr (w, p, ok.1, refl, h))))
-forward_node r k b (Node.array u v y es) c m q p d (ok, u_ok, v_ok, y_ok, es_ok) e (w, p1, w_ok, e1, h) =
+    (rw (class_123 r.strict) (refl, inr (w, p, ok, refl, h)))
+forward_node r k b (Node.array u v y es) c m q p d (u_ok, v_ok, y_ok, es_ok) e (w, p1, w_ok, e1, h) =
     at_cell (λ x y v. Steps r (step_before r (class_of r.strict x) k b x) y v d) c 91 m (value_mark r k) q _ e
-    (rw (class_91 r.strict) (forward_if r reads_containers (value_mark r k) (before (in_array k (onto b []) nothing_done) []) _ d ok
-    (inl (u, v, _, u_ok, v_ok, refl, (y, _, y_ok, refl, (es, w, p1, es_ok, w_ok, ap (elements_cells r es (suc (depth_of k))) e1, h))))))
-forward_node r k b (Node.object key u v y ms) c m q p d (ok, key_ok, u_ok, v_ok, y_ok, ms_ok) e (w, p1, w_ok, e1, h) =
-    at_cell (λ x y v. Steps r (step_before r (class_of r.strict x) k b x) y v d) c 123 m (value_mark r k) q _ e
-    (rw (class_123 r.strict) (forward_if r reads_containers (value_mark r k) (before_key k (onto b []) nothing_named []) _ d ok
-    (inl (
-      key.before,
-      key.items,
-      _,
-      key_ok.0,
-      key_ok.1,
+    (rw (class_91 r.strict) (
       refl,
-      (
-        key.after,
+      (inl (u, v, _, u_ok, v_ok, refl, (y, _, y_ok, refl, (es, w, p1, es_ok, w_ok, ap (elements_cells r es (suc (depth_of k))) e1, h)))),
+    ))
+forward_node r k b (Node.object key u v y ms) c m q p d (key_ok, u_ok, v_ok, y_ok, ms_ok) e (w, p1, w_ok, e1, h) =
+    at_cell (λ x y v. Steps r (step_before r (class_of r.strict x) k b x) y v d) c 123 m (value_mark r k) q _ e
+    (rw (class_123 r.strict) (
+      refl,
+      (inl (
+        key.before,
+        key.items,
         _,
-        key_ok.2,
+        key_ok.0,
+        key_ok.1,
         refl,
-        (u, v, _, u_ok, v_ok, refl, (y, _, y_ok, refl, (ms, w, p1, ms_ok, w_ok, ap (members_cells r ms (bytes_of key.items ∷ []) (suc (depth_of k))) e1, h))),
-      ),
-    ))))
+        (
+          key.after,
+          _,
+          key_ok.2,
+          refl,
+          (u, v, _, u_ok, v_ok, refl, (y, _, y_ok, refl, (ms, w, p1, ms_ok, w_ok, ap (members_cells r ms (bytes_of key.items ∷ []) (suc (depth_of k))) e1, h))),
+        ),
+      )),
+    ))
 
 forward_begins : (r : Reading) (k : Context) (b : List ℕ) (c : ℕ) (m : Option Breach) (q : List Cell) (d : Document)
     → Begins r k b (cell c m ∷ q) d → Steps r (step_before r (class_of r.strict c) k b c) m q d
@@ -143,52 +140,46 @@ not_bad : (r : Reading) (v m : Option Breach) (q : List Cell) (d : Document) →
 not_bad r None m q d h = h
 not_bad r (Some b) m q d h = h
 
--- only a kind of value that is read goes on
-backward_if : (r : Reading) (t : Bool) (v : Option Breach) (s : State) (m : Option Breach) (q : List Cell) (d : Document)
-    → Steps r (go_if t v s) m q d → IsTrue t × (m ≡ v) × Comp r s q d
-backward_if r true v s m q d (e, h) = (refl, e, h)
-backward_if r false v s m q d h = absurd (not_bad r v m q d h)
-
 backward_word_begins : (r : Reading) (k : Context) (b : List ℕ) (n : Node) (x : ℕ) (l : ℕ) (ls : List ℕ) (c : ℕ) (m : Option Breach) (q : List Cell) (d : Document)
     → IsNode r n → ((p : List Cell) → node_cells r n (depth_of k) (value_mark r k) p ≡ cell x (value_mark r k) ∷ plain (l ∷ ls) p)
     → c ≡ x → (m ≡ value_mark r k) × Comp r (word k (onto b []) n l ls) q d → Begins r k b (cell c m ∷ q) d
 backward_word_begins r k b n x l ls c m q d n_ok spelt e (m_ok, (p, e1, h)) = ([], n, p, tt, n_ok, front c x m (value_mark r k) _ _ e m_ok e1 ∙ sym (spelt p), h)
 
 backward_string_begins : (r : Reading) (k : Context) (b : List ℕ) (c : ℕ) (m : Option Breach) (q : List Cell) (d : Document)
-    → class_of r.strict c ≡ quote → IsTrue reads_strings × (m ≡ value_mark r k) × Comp r (string (as_value k (onto b [])) [] between) q d → Begins r k b (cell c m ∷ q) d
-backward_string_begins r k b c m q d e (read, m_ok, (is, p, is_ok, e1, h)) =
-    ([], Node.string is, p, tt, (read, is_ok), front c 34 m (value_mark r k) _ _ (class-quote r.strict c e) m_ok e1, h)
+    → class_of r.strict c ≡ quote → (m ≡ value_mark r k) × Comp r (string (as_value k (onto b [])) [] between) q d → Begins r k b (cell c m ∷ q) d
+backward_string_begins r k b c m q d e (m_ok, (is, p, is_ok, e1, h)) =
+    ([], Node.string is, p, tt, is_ok, front c 34 m (value_mark r k) _ _ (class-quote r.strict c e) m_ok e1, h)
 
 backward_array_begins : (r : Reading) (k : Context) (b : List ℕ) (c : ℕ) (m : Option Breach) (q : List Cell) (d : Document)
-    → class_of r.strict c ≡ opens_array → IsTrue reads_containers × (m ≡ value_mark r k) × Comp r (before (in_array k (onto b []) nothing_done) []) q d → Begins r k b (cell c m ∷ q) d
-backward_array_begins r k b c m q d e (read, m_ok, inl (u, v, p1, u_ok, v_ok, e1, (y, p2, y_ok, e2, (es, w, p, es_ok, w_ok, e3, h)))) = (
+    → class_of r.strict c ≡ opens_array → (m ≡ value_mark r k) × Comp r (before (in_array k (onto b []) nothing_done) []) q d → Begins r k b (cell c m ∷ q) d
+backward_array_begins r k b c m q d e (m_ok, inl (u, v, p1, u_ok, v_ok, e1, (y, p2, y_ok, e2, (es, w, p, es_ok, w_ok, e3, h)))) = (
   [],
   Node.array u v y es,
   plain w p,
   tt,
-  (read, u_ok, v_ok, y_ok, es_ok),
+  (u_ok, v_ok, y_ok, es_ok),
   front c 91 m (value_mark r k) _ _ (class-opens_array r.strict c e) m_ok
       (e1 ∙ ap (λ l. plain u (node_cells r v (suc (depth_of k)) (deep_if r (depth_of k)) l)) (e2 ∙ ap (plain y) e3)),
   (w, p, w_ok, refl, h),
 )
-backward_array_begins r k b c m q d e (read, m_ok, inr (w, p, w_ok, e1, h)) =
-    ([], Node.empty_array w, p, tt, (read, w_ok), front c 91 m (value_mark r k) _ _ (class-opens_array r.strict c e) m_ok e1, h)
+backward_array_begins r k b c m q d e (m_ok, inr (w, p, w_ok, e1, h)) =
+    ([], Node.empty_array w, p, tt, w_ok, front c 91 m (value_mark r k) _ _ (class-opens_array r.strict c e) m_ok e1, h)
 
 backward_object_begins : (r : Reading) (k : Context) (b : List ℕ) (c : ℕ) (m : Option Breach) (q : List Cell) (d : Document)
-    → class_of r.strict c ≡ opens_object → IsTrue reads_containers × (m ≡ value_mark r k) × Comp r (before_key k (onto b []) nothing_named []) q d → Begins r k b (cell c m ∷ q) d
-backward_object_begins r k b c m q d e (read, m_ok, inl (s, is, p1, s_ok, is_ok, e1, (t, p2, t_ok, e2, (u, v, p3, u_ok, v_ok, e3, (y, p4, y_ok, e4, (ms, w, p, ms_ok, w_ok, e5, h)))))) = (
+    → class_of r.strict c ≡ opens_object → (m ≡ value_mark r k) × Comp r (before_key k (onto b []) nothing_named []) q d → Begins r k b (cell c m ∷ q) d
+backward_object_begins r k b c m q d e (m_ok, inl (s, is, p1, s_ok, is_ok, e1, (t, p2, t_ok, e2, (u, v, p3, u_ok, v_ok, e3, (y, p4, y_ok, e4, (ms, w, p, ms_ok, w_ok, e5, h)))))) = (
   [],
   Node.object (key_of s is t) u v y ms,
   plain w p,
   tt,
-  (read, (s_ok, is_ok, t_ok), u_ok, v_ok, y_ok, ms_ok),
+  ((s_ok, is_ok, t_ok), u_ok, v_ok, y_ok, ms_ok),
   front c 123 m (value_mark r k) _ _ (class-opens_object r.strict c e) m_ok
       (e1 ∙ ap (λ l. plain s (cell 34 (deep_if r (depth_of k)) ∷ items_cells is (cell 34 (duplicate_if r [] is) ∷ l)))
       (e2 ∙ ap (λ l. plain t (cell 58 None ∷ l)) (e3 ∙ ap (λ l. plain u (node_cells r v (suc (depth_of k)) None l)) (e4 ∙ ap (plain y) e5)))),
   (w, p, w_ok, refl, h),
 )
-backward_object_begins r k b c m q d e (read, m_ok, inr (w, p, w_ok, e1, h)) =
-    ([], Node.empty_object w, p, tt, (read, w_ok), front c 123 m (value_mark r k) _ _ (class-opens_object r.strict c e) m_ok e1, h)
+backward_object_begins r k b c m q d e (m_ok, inr (w, p, w_ok, e1, h)) =
+    ([], Node.empty_object w, p, tt, w_ok, front c 123 m (value_mark r k) _ _ (class-opens_object r.strict c e) m_ok e1, h)
 
 backward_closes_array : (r : Reading) (k : Context) (b : List ℕ) (c : ℕ) (m : Option Breach) (q : List Cell) (d : Document)
     → class_of r.strict c ≡ closes_array → Steps r (step_before r closes_array k b c) m q d → ClosesArray r k b (cell c m ∷ q) d
@@ -215,11 +206,11 @@ backward_before r white k b c m q d e h = backward_white r k b c m q d e h
 backward_before r digits k b c m q d e h = inl (backward_begin_digits r k b c m q d e h.0 h.1)
 backward_before r dash k b c m q d e h = inl (backward_begin_dash r k b c m q d e h.0 h.1)
 backward_before r quote k b c m q d e h =
-    inl (backward_string_begins r k b c m q d e (backward_if r reads_strings (value_mark r k) (string (as_value k (onto b [])) [] between) m q d h))
+    inl (backward_string_begins r k b c m q d e h)
 backward_before r opens_array k b c m q d e h =
-    inl (backward_array_begins r k b c m q d e (backward_if r reads_containers (value_mark r k) (before (in_array k (onto b []) nothing_done) []) m q d h))
+    inl (backward_array_begins r k b c m q d e h)
 backward_before r opens_object k b c m q d e h =
-    inl (backward_object_begins r k b c m q d e (backward_if r reads_containers (value_mark r k) (before_key k (onto b []) nothing_named []) m q d h))
+    inl (backward_object_begins r k b c m q d e h)
 backward_before r closes_array k b c m q d e h = inr (backward_closes_array r k b c m q d e h)
 backward_before r begins_null k b c m q d e h =
     inl (backward_word_begins r k b Node.null 110 117 (108 ∷ 108 ∷ []) c m q d tt (λ p. refl) (class-begins_null r.strict c e) h)

@@ -2,9 +2,9 @@
 use Rattle.std.proofs.Common.{◌≡◌, ℕ, zero, suc, List, [], ◌∷◌, Bool, true, false, cond, ◌==◌, Option, Some, None, refl, subst, inl}
 use Rattle.std.specs.Char.{is_ascii_hexdigit}
 use Rattle.jzon.specs.Reading.{Reading}
-use Rattle.jzon.specs.Grammar.{Item, is_plain, is_simple, reads_strings, reads_containers, Node, Document}
+use Rattle.jzon.specs.Grammar.{Item, is_plain, is_simple, Node, Document}
 use Rattle.jzon.specs.Spelling.{Breach, deep, pair, digit, duplicate, breach_if, onto, Cell, cell}
-use Rattle.jzon.proofs.TreeMachine.{Class, white, digits, dash, cross, point, letter_e, quote, opens_array, closes_array, opens_object, closes_object, comma, colon, begins_null, begins_true, begins_false, class_of, nothing_done, done, Named, nothing_named, named, Context, top, in_array, in_object, Role, as_value, as_key, NumberPlace, signed, zero_read, whole, pointed, fraction, lettered, signed_exponent, exponent, StringPlace, between, slash, code, second, second_slash, second_code, State, before, before_key, word, numeral, string, after_key, behind, Step, go, bad, bad_deep, value_mark, key_mark, bad_at, go_if, step_empty_array, step_before, step_empty_object, step_before_key, step_after_key, step_behind, step_after_whole, step_after_fraction, step_numeral, numeral_of, exponent_of, coded, step_code, step_second_code, step_string, closed_string, step}
+use Rattle.jzon.proofs.TreeMachine.{Class, white, digits, dash, cross, point, letter_e, quote, opens_array, closes_array, opens_object, closes_object, comma, colon, begins_null, begins_true, begins_false, class_of, nothing_done, done, Named, nothing_named, named, Context, top, in_array, in_object, Role, as_value, as_key, NumberPlace, signed, zero_read, whole, pointed, fraction, lettered, signed_exponent, exponent, StringPlace, between, slash, code, second, second_slash, second_code, State, before, before_key, word, numeral, string, after_key, behind, Step, go, bad, bad_deep, value_mark, key_mark, bad_at, step_empty_array, step_before, step_empty_object, step_before_key, step_after_key, step_behind, step_after_whole, step_after_fraction, step_numeral, numeral_of, exponent_of, coded, step_code, step_second_code, step_string, closed_string, step}
 use Rattle.jzon.proofs.Completion.{Comp}
 use Rattle.jzon.proofs.Ends.{some_begins, some_begins_key}
 
@@ -68,10 +68,6 @@ bad_key_tells : (r : Reading) (k : Context) (o : Named) → Tells (key_mark r k 
 bad_key_tells r k nothing_named = bad_at_tells _
 bad_key_tells r k (named o key b n c) = refused
 
-go_if_tells : (v : Bool) (m : Option Breach) (s : State) → Tells m (bad_at m) → Tells m (go_if v m s)
-go_if_tells true m s h = λ e. e
-go_if_tells false m s h = h
-
 empty_array_tells : (r : Reading) (k : Context) (b : List ℕ) → Tells (value_mark r k) (step_empty_array k b)
 empty_array_tells r top b = refused
 empty_array_tells r (in_array k a nothing_done) b = unmarked _
@@ -82,9 +78,9 @@ before_tells : (r : Reading) (class : Class) (k : Context) (b : List ℕ) (c : �
 before_tells r white k b c = unmarked _
 before_tells r digits k b c = λ e. e
 before_tells r dash k b c = λ e. e
-before_tells r quote k b c = go_if_tells reads_strings _ _ (bad_value_tells r k)
-before_tells r opens_array k b c = go_if_tells reads_containers _ _ (bad_value_tells r k)
-before_tells r opens_object k b c = go_if_tells reads_containers _ _ (bad_value_tells r k)
+before_tells r quote k b c = λ e. e
+before_tells r opens_array k b c = λ e. e
+before_tells r opens_object k b c = λ e. e
 before_tells r closes_array k b c = empty_array_tells r k b
 before_tells r begins_null k b c = λ e. e
 before_tells r begins_true k b c = λ e. e

@@ -1,10 +1,10 @@
 -- Worked rows of docs/RULES.md, "Depth": as many containers as a reading allows, and one more.
 use Rattle.std.proofs.Common.{◌≡◌, ℕ, zero, suc, ◌+◌, ◌≤◌, ◌<◌, List, [], ◌∷◌, ◌++◌, replicate, false, None, codes, refl, sym, ap, ◌∙◌, arith, lit≤}
 use Rattle.std.proofs.lemmas.Bool.{lt-leb}
-use Rattle.std.specs.Prelude.{IsTrue, nat_le}
+use Rattle.std.specs.Prelude.{nat_le}
 use Rattle.jzon_base.specs.declared.error.Error.TheVariants.{UnexpectedCharacter, UnexpectedEndOfJson, ExceededDepthLimit}
 use Rattle.jzon.specs.Reading.{Reading, usual}
-use Rattle.jzon.specs.Grammar.{plain, Node, reads_strings, reads_containers}
+use Rattle.jzon.specs.Grammar.{plain, Node}
 use Rattle.jzon.specs.Spelling.{deep}
 use Rattle.jzon.specs.Fault.{Fault, limit, character, Parses, IsErrorOf}
 use Rattle.jzon.specs.Classes.{class_of}
@@ -26,47 +26,47 @@ inside n = before (in_array (opened n top) [] nothing_done) []
 not_deep : (r : Reading) (k : Context) → depth_of k < r.depth → nat_le r.depth (depth_of k) ≡ false
 not_deep r k h = lt-leb r.depth (depth_of k) h
 
-open_on : (r : Reading) (n : ℕ) (k : Context) (u : List ℕ) → IsTrue reads_containers → n + depth_of k ≤ r.depth
+open_on : (r : Reading) (n : ℕ) (k : Context) (u : List ℕ) → n + depth_of k ≤ r.depth
     → answer r (replicate n 91 ++ u) (before (in_array k [] nothing_done) []) ≡ answer r u (before (in_array (opened n k) [] nothing_done) [])
-open_on r zero k u h le = refl
-open_on r (suc n) k u h le =
+open_on r zero k u le = refl
+open_on r (suc n) k u le =
     let e : nat_le r.depth (depth_of k) ≡ false = not_deep r k (omega arith) in
-    rw (class_91 r.strict, h, e) (open_on r n (in_array k [] nothing_done) u h (omega arith))
+    rw (class_91 r.strict, e) (open_on r n (in_array k [] nothing_done) u (omega arith))
 
-brackets : (r : Reading) (n : ℕ) (u : List ℕ) → IsTrue reads_containers → n ≤ r.depth → answer r (replicate (suc n) 91 ++ u) start ≡ answer r u (inside n)
-brackets r n u h le = rw (class_91 r.strict, h) (open_on r n top u h (omega arith))
+brackets : (r : Reading) (n : ℕ) (u : List ℕ) → n ≤ r.depth → answer r (replicate (suc n) 91 ++ u) start ≡ answer r u (inside n)
+brackets r n u le = rw (class_91 r.strict) (open_on r n top u (omega arith))
 
 -- ---- what may follow as many brackets as are allowed, and one more
 
-brace_behind_513 : IsTrue reads_containers → IsErrorOf usual (replicate 513 91 ++ codes "}") ExceededDepthLimit
+brace_behind_513 : IsErrorOf usual (replicate 513 91 ++ codes "}") ExceededDepthLimit
 unfolding class_of
-brace_behind_513 h = too_deep usual (replicate 513 91 ++ codes "}") (codes "}") (brackets usual 512 (codes "}") h (lit≤ tt))
+brace_behind_513 = too_deep usual (replicate 513 91 ++ codes "}") (codes "}") (brackets usual 512 (codes "}") (lit≤ tt))
 
-letter_behind_513 : IsTrue reads_containers → IsErrorOf usual (replicate 513 91 ++ codes "x") ExceededDepthLimit
+letter_behind_513 : IsErrorOf usual (replicate 513 91 ++ codes "x") ExceededDepthLimit
 unfolding class_of
-letter_behind_513 h = too_deep usual (replicate 513 91 ++ codes "x") (codes "x") (brackets usual 512 (codes "x") h (lit≤ tt))
+letter_behind_513 = too_deep usual (replicate 513 91 ++ codes "x") (codes "x") (brackets usual 512 (codes "x") (lit≤ tt))
 
-end_behind_513 : IsTrue reads_containers → IsErrorOf usual (replicate 513 91 ++ []) UnexpectedEndOfJson
-end_behind_513 h = refused_error usual (replicate 513 91 ++ []) [] Fault.end UnexpectedEndOfJson (brackets usual 512 [] h (lit≤ tt)) refl
+end_behind_513 : IsErrorOf usual (replicate 513 91 ++ []) UnexpectedEndOfJson
+end_behind_513 = refused_error usual (replicate 513 91 ++ []) [] Fault.end UnexpectedEndOfJson (brackets usual 512 [] (lit≤ tt)) refl
 
-letter_behind_512 : IsTrue reads_containers → IsErrorOf usual (replicate 512 91 ++ codes "x") (UnexpectedCharacter 120 1 513)
+letter_behind_512 : IsErrorOf usual (replicate 512 91 ++ codes "x") (UnexpectedCharacter 120 1 513)
 unfolding class_of
-letter_behind_512 h =
-    refused_error usual (replicate 512 91 ++ codes "x") (codes "x") character (UnexpectedCharacter 120 1 513) (brackets usual 511 (codes "x") h (lit≤ tt)) refl
+letter_behind_512 =
+    refused_error usual (replicate 512 91 ++ codes "x") (codes "x") character (UnexpectedCharacter 120 1 513) (brackets usual 511 (codes "x") (lit≤ tt)) refl
 
 -- any number of brackets past the limit, whatever follows
-bracket_behind_513 : (u : List ℕ) → IsTrue reads_containers → IsErrorOf usual (replicate 513 91 ++ (91 ∷ u)) ExceededDepthLimit
+bracket_behind_513 : (u : List ℕ) → IsErrorOf usual (replicate 513 91 ++ (91 ∷ u)) ExceededDepthLimit
 unfolding class_of
-bracket_behind_513 u h =
-    let last : answer usual (91 ∷ u) (inside 512) ≡ refused (limit deep) (91 ∷ u) = rw h refl in
-    too_deep usual (replicate 513 91 ++ (91 ∷ u)) (91 ∷ u) (brackets usual 512 (91 ∷ u) h (lit≤ tt) ∙ last)
+bracket_behind_513 u =
+    let last : answer usual (91 ∷ u) (inside 512) ≡ refused (limit deep) (91 ∷ u) = refl in
+    too_deep usual (replicate 513 91 ++ (91 ∷ u)) (91 ∷ u) (brackets usual 512 (91 ∷ u) (lit≤ tt) ∙ last)
 
 -- an object as the 513th container
-number_for_key_behind_512 : IsTrue reads_containers → IsErrorOf usual (replicate 512 91 ++ codes "{1") ExceededDepthLimit
+number_for_key_behind_512 : IsErrorOf usual (replicate 512 91 ++ codes "{1") ExceededDepthLimit
 unfolding class_of
-number_for_key_behind_512 h =
-    let last : answer usual (codes "{1") (inside 511) ≡ refused (limit deep) (codes "1") = rw h refl in
-    too_deep usual (replicate 512 91 ++ codes "{1") (codes "1") (brackets usual 511 (codes "{1") h (lit≤ tt) ∙ last)
+number_for_key_behind_512 =
+    let last : answer usual (codes "{1") (inside 511) ≡ refused (limit deep) (codes "1") = refl in
+    too_deep usual (replicate 512 91 ++ codes "{1") (codes "1") (brackets usual 511 (codes "{1") (lit≤ tt) ∙ last)
 
 -- ---- an empty array inside as many arrays as are allowed
 
@@ -79,13 +79,12 @@ close_on r (suc n) k v u =
     ∙ (rw (class_93 r.strict) refl)
 
 -- by every reading
-empty_at_most : (r : Reading) → IsTrue reads_containers
-    → Parses r (replicate (suc r.depth) 91 ++ (32 ∷ 93 ∷ (replicate r.depth 93 ++ []))) (alone (nested r.depth (Node.empty_array (32 ∷ []))))
-empty_at_most r h =
+empty_at_most : (r : Reading) → Parses r (replicate (suc r.depth) 91 ++ (32 ∷ 93 ∷ (replicate r.depth 93 ++ []))) (alone (nested r.depth (Node.empty_array (32 ∷ []))))
+empty_at_most r =
     let closes : answer r (32 ∷ 93 ∷ (replicate r.depth 93 ++ [])) (inside r.depth) ≡ answer r (replicate r.depth 93 ++ []) (behind (opened r.depth top) [] (Node.empty_array (32 ∷ [])) []) =
     rw (white-class r 32 refl, class_93 r.strict) refl in
     read_tree r (replicate (suc r.depth) 91 ++ (32 ∷ 93 ∷ (replicate r.depth 93 ++ []))) (alone (nested r.depth (Node.empty_array (32 ∷ []))))
-    (brackets r r.depth (32 ∷ 93 ∷ (replicate r.depth 93 ++ [])) h (omega arith) ∙ closes ∙ close_on r r.depth top (Node.empty_array (32 ∷ [])) [])
+    (brackets r r.depth (32 ∷ 93 ∷ (replicate r.depth 93 ++ [])) (omega arith) ∙ closes ∙ close_on r r.depth top (Node.empty_array (32 ∷ [])) [])
 
 -- ---- arrays and objects in turn
 
@@ -104,26 +103,26 @@ abbrev pairs_text : ℕ → List ℕ → List ℕ
 pairs_text zero u = u
 pairs_text (suc n) u = pair_text ++ pairs_text n u
 
-pair_on : (k : Context) (u : List ℕ) → IsTrue reads_strings → IsTrue reads_containers → value_mark usual k ≡ None → suc (depth_of k) < 512
+pair_on : (k : Context) (u : List ℕ) → value_mark usual k ≡ None → suc (depth_of k) < 512
     → answer usual (pair_text ++ u) (before k []) ≡ answer usual u (before (in_pair k) [])
 unfolding class_of
-pair_on k u strings containers mark h =
+pair_on k u mark h =
     let e : nat_le 512 (depth_of k) ≡ false = lt-leb 512 (depth_of k) (omega arith) in
     let f : nat_le 512 (suc (depth_of k)) ≡ false = lt-leb 512 (suc (depth_of k)) (omega arith) in
-    simp (strings, containers, mark, e, f) refl
+    simp (mark, e, f) refl
 
-pairs_on : (n : ℕ) (k : Context) (u : List ℕ) → IsTrue reads_strings → IsTrue reads_containers → value_mark usual k ≡ None → n + n + depth_of k ≤ 512
+pairs_on : (n : ℕ) (k : Context) (u : List ℕ) → value_mark usual k ≡ None → n + n + depth_of k ≤ 512
     → answer usual (pairs_text n u) (before k []) ≡ answer usual u (before (pairs n k) [])
-pairs_on zero k u strings containers mark h = refl
-pairs_on (suc n) k u strings containers mark h =
-    pair_on k (pairs_text n u) strings containers mark (omega arith) ∙ pairs_on n (in_pair k) u strings containers refl (omega arith)
+pairs_on zero k u mark h = refl
+pairs_on (suc n) k u mark h =
+    pair_on k (pairs_text n u) mark (omega arith) ∙ pairs_on n (in_pair k) u refl (omega arith)
 
 -- the 257th array is the 513th container, whatever follows the brace in it
-pair_behind_256 : (u : List ℕ) → IsTrue reads_strings → IsTrue reads_containers → IsErrorOf usual (pairs_text 256 (codes "[{" ++ u)) ExceededDepthLimit
+pair_behind_256 : (u : List ℕ) → IsErrorOf usual (pairs_text 256 (codes "[{" ++ u)) ExceededDepthLimit
 unfolding class_of
-pair_behind_256 u strings containers =
-    let last : answer usual (codes "[{" ++ u) (before (pairs 256 top) []) ≡ refused (limit deep) (123 ∷ u) = simp containers refl in
-    too_deep usual (pairs_text 256 (codes "[{" ++ u)) (123 ∷ u) (pairs_on 256 top (codes "[{" ++ u) strings containers refl (lit≤ tt) ∙ last)
+pair_behind_256 u =
+    let last : answer usual (codes "[{" ++ u) (before (pairs 256 top) []) ≡ refused (limit deep) (123 ∷ u) = refl in
+    too_deep usual (pairs_text 256 (codes "[{" ++ u)) (123 ∷ u) (pairs_on 256 top (codes "[{" ++ u) refl (lit≤ tt) ∙ last)
 
 abbrev pair_node : Node → Node
 pair_node v = array (object (key (codes "a")) v []) []
@@ -153,9 +152,8 @@ pairs_mark : (n : ℕ) (k : Context) → value_mark usual k ≡ None → value_m
 pairs_mark zero k h = h
 pairs_mark (suc n) k h = pairs_mark n (in_pair k) refl
 
-turns_read : (n : ℕ) → n ≤ 256 → IsTrue reads_strings → IsTrue reads_containers
-    → Parses usual (pairs_text n (codes "null" ++ closes_text n [])) (alone (turns n Node.null))
-turns_read n h strings containers =
+turns_read : (n : ℕ) → n ≤ 256 → Parses usual (pairs_text n (codes "null" ++ closes_text n [])) (alone (turns n Node.null))
+turns_read n h =
     read_tree usual (pairs_text n (codes "null" ++ closes_text n [])) (alone (turns n Node.null))
-    (pairs_on n top (codes "null" ++ closes_text n []) strings containers refl (omega arith)
+    (pairs_on n top (codes "null" ++ closes_text n []) refl (omega arith)
     ∙ null_before (pairs n top) (closes_text n []) (pairs_mark n top refl) ∙ close_pairs n top Node.null [])

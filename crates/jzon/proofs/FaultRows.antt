@@ -1,6 +1,5 @@
 -- Worked rows of docs/RULES.md, "Errors": texts and the one error of each. The machine computes the fault, and its verdict is the definition's.
 use Rattle.std.proofs.Common.{◌≡◌, ℕ, List, [], ◌∷◌, ◌++◌, true, false, codes, encode_utf8_all, refl}
-use Rattle.std.specs.Prelude.{IsTrue}
 use Rattle.std.specs.Char.{encode_utf8}
 use Rattle.std.specs.Fmt.{digits}
 use Rattle.jzon_base.specs.Digits.{kept_len}
@@ -8,7 +7,7 @@ use Rattle.jzon_base.specs.ErrorText.{error_text}
 use Rattle.jzon_base.specs.declared.error.Error.{Error}
 use Rattle.jzon_base.specs.declared.error.Error.TheVariants.{UnexpectedCharacter, UnexpectedEndOfJson, ExceededDepthLimit, FailedUtf8Parsing, DuplicateKey}
 use Rattle.jzon.specs.Reading.{Reading, usual}
-use Rattle.jzon.specs.Grammar.{reads_strings, reads_containers, code_unit}
+use Rattle.jzon.specs.Grammar.{code_unit}
 use Rattle.jzon.specs.Meaning.{bytes_of}
 use Rattle.jzon.specs.Spelling.{deep, pair, duplicate, drops_too_many, keeps_too_many}
 use Rattle.jzon.specs.Fault.{Fault, limit, character, IsErrorOf}
@@ -20,10 +19,6 @@ shallow n = record { strict = false; depth = n }
 
 abbrev strict_to : ℕ → Reading
 strict_to n = record { strict = true; depth = n }
-
--- where strings and containers are read, this is the text's error
-abbrev Fails : Reading → List ℕ → Error → Type 0
-Fails r t e = IsTrue reads_strings → IsTrue reads_containers → IsErrorOf r t e
 
 -- ---- literals and numbers
 
@@ -114,221 +109,221 @@ letter_at_depth_0 = refused_error (shallow 0) (codes "x") (codes "x") character 
 
 -- ---- strings
 
-open_string : Fails usual (codes "\"ab") UnexpectedEndOfJson
+open_string : IsErrorOf usual (codes "\"ab") UnexpectedEndOfJson
 unfolding class_of code_unit bytes_of encode_utf8 kept_len drops_too_many keeps_too_many
-open_string strings containers = refused_error usual (codes "\"ab") [] Fault.end UnexpectedEndOfJson (simp (strings, containers) refl) refl
+open_string = refused_error usual (codes "\"ab") [] Fault.end UnexpectedEndOfJson refl refl
 
-open_escape : Fails usual (codes "\"\\") UnexpectedEndOfJson
+open_escape : IsErrorOf usual (codes "\"\\") UnexpectedEndOfJson
 unfolding class_of code_unit bytes_of encode_utf8 kept_len drops_too_many keeps_too_many
-open_escape strings containers = refused_error usual (codes "\"\\") [] Fault.end UnexpectedEndOfJson (simp (strings, containers) refl) refl
+open_escape = refused_error usual (codes "\"\\") [] Fault.end UnexpectedEndOfJson refl refl
 
-open_pair : Fails usual (codes "\"\\uD834\\uDD1") UnexpectedEndOfJson
+open_pair : IsErrorOf usual (codes "\"\\uD834\\uDD1") UnexpectedEndOfJson
 unfolding class_of code_unit bytes_of encode_utf8 kept_len drops_too_many keeps_too_many
-open_pair strings containers = refused_error usual (codes "\"\\uD834\\uDD1") [] Fault.end UnexpectedEndOfJson (simp (strings, containers) refl) refl
+open_pair = refused_error usual (codes "\"\\uD834\\uDD1") [] Fault.end UnexpectedEndOfJson refl refl
 
-no_escape : Fails usual (codes "\"\\x\"") (UnexpectedCharacter 120 1 3)
+no_escape : IsErrorOf usual (codes "\"\\x\"") (UnexpectedCharacter 120 1 3)
 unfolding class_of code_unit bytes_of encode_utf8 kept_len drops_too_many keeps_too_many
-no_escape strings containers = refused_error usual (codes "\"\\x\"") (codes "x\"") character (UnexpectedCharacter 120 1 3) (simp (strings, containers) refl) refl
+no_escape = refused_error usual (codes "\"\\x\"") (codes "x\"") character (UnexpectedCharacter 120 1 3) refl refl
 
-newline_in_string : Fails usual (codes "\"a\n\"") (UnexpectedCharacter 10 1 3)
+newline_in_string : IsErrorOf usual (codes "\"a\n\"") (UnexpectedCharacter 10 1 3)
 unfolding class_of code_unit bytes_of encode_utf8 kept_len drops_too_many keeps_too_many
-newline_in_string strings containers = refused_error usual (codes "\"a\n\"") (codes "\n\"") character (UnexpectedCharacter 10 1 3) (simp (strings, containers) refl) refl
+newline_in_string = refused_error usual (codes "\"a\n\"") (codes "\n\"") character (UnexpectedCharacter 10 1 3) refl refl
 
-no_hexadecimal_digit : Fails usual (codes "\"\\u12G4\"") (UnexpectedCharacter 71 1 6)
+no_hexadecimal_digit : IsErrorOf usual (codes "\"\\u12G4\"") (UnexpectedCharacter 71 1 6)
 unfolding class_of code_unit bytes_of encode_utf8 kept_len drops_too_many keeps_too_many
-no_hexadecimal_digit strings containers = refused_error usual (codes "\"\\u12G4\"") (codes "G4\"") character (UnexpectedCharacter 71 1 6) (simp (strings, containers) refl) refl
+no_hexadecimal_digit = refused_error usual (codes "\"\\u12G4\"") (codes "G4\"") character (UnexpectedCharacter 71 1 6) refl refl
 
-quote_for_second_escape : Fails usual (codes "\"\\uD834\"") (UnexpectedCharacter 34 1 8)
+quote_for_second_escape : IsErrorOf usual (codes "\"\\uD834\"") (UnexpectedCharacter 34 1 8)
 unfolding class_of code_unit bytes_of encode_utf8 kept_len drops_too_many keeps_too_many
-quote_for_second_escape strings containers = refused_error usual (codes "\"\\uD834\"") (codes "\"") character (UnexpectedCharacter 34 1 8) (simp (strings, containers) refl) refl
+quote_for_second_escape = refused_error usual (codes "\"\\uD834\"") (codes "\"") character (UnexpectedCharacter 34 1 8) refl refl
 
-blank_between_surrogates : Fails usual (codes "\"\\uD834 \\uDD1E\"") (UnexpectedCharacter 32 1 8)
+blank_between_surrogates : IsErrorOf usual (codes "\"\\uD834 \\uDD1E\"") (UnexpectedCharacter 32 1 8)
 unfolding class_of code_unit bytes_of encode_utf8 kept_len drops_too_many keeps_too_many
-blank_between_surrogates strings containers = refused_error usual (codes "\"\\uD834 \\uDD1E\"") (codes " \\uDD1E\"") character (UnexpectedCharacter 32 1 8) (simp (strings, containers) refl) refl
+blank_between_surrogates = refused_error usual (codes "\"\\uD834 \\uDD1E\"") (codes " \\uDD1E\"") character (UnexpectedCharacter 32 1 8) refl refl
 
-other_escape_behind_surrogate : Fails usual (codes "\"\\uD834\\n\"") (UnexpectedCharacter 110 1 9)
+other_escape_behind_surrogate : IsErrorOf usual (codes "\"\\uD834\\n\"") (UnexpectedCharacter 110 1 9)
 unfolding class_of code_unit bytes_of encode_utf8 kept_len drops_too_many keeps_too_many
-other_escape_behind_surrogate strings containers = refused_error usual (codes "\"\\uD834\\n\"") (codes "n\"") character (UnexpectedCharacter 110 1 9) (simp (strings, containers) refl) refl
+other_escape_behind_surrogate = refused_error usual (codes "\"\\uD834\\n\"") (codes "n\"") character (UnexpectedCharacter 110 1 9) refl refl
 
-low_one_waits_too : Fails usual (codes "\"\\uDC00x\"") (UnexpectedCharacter 120 1 8)
+low_one_waits_too : IsErrorOf usual (codes "\"\\uDC00x\"") (UnexpectedCharacter 120 1 8)
 unfolding class_of code_unit bytes_of encode_utf8 kept_len drops_too_many keeps_too_many
-low_one_waits_too strings containers = refused_error usual (codes "\"\\uDC00x\"") (codes "x\"") character (UnexpectedCharacter 120 1 8) (simp (strings, containers) refl) refl
+low_one_waits_too = refused_error usual (codes "\"\\uDC00x\"") (codes "x\"") character (UnexpectedCharacter 120 1 8) refl refl
 
-quote_in_second_escape : Fails usual (codes "\"\\uD834\\u00\"") (UnexpectedCharacter 34 1 12)
+quote_in_second_escape : IsErrorOf usual (codes "\"\\uD834\\u00\"") (UnexpectedCharacter 34 1 12)
 unfolding class_of code_unit bytes_of encode_utf8 kept_len drops_too_many keeps_too_many
-quote_in_second_escape strings containers = refused_error usual (codes "\"\\uD834\\u00\"") (codes "\"") character (UnexpectedCharacter 34 1 12) (simp (strings, containers) refl) refl
+quote_in_second_escape = refused_error usual (codes "\"\\uD834\\u00\"") (codes "\"") character (UnexpectedCharacter 34 1 12) refl refl
 
-no_digit_in_second_escape : Fails usual (codes "\"\\uDC00\\uDC0G\"") (UnexpectedCharacter 71 1 13)
+no_digit_in_second_escape : IsErrorOf usual (codes "\"\\uDC00\\uDC0G\"") (UnexpectedCharacter 71 1 13)
 unfolding class_of code_unit bytes_of encode_utf8 kept_len drops_too_many keeps_too_many
-no_digit_in_second_escape strings containers = refused_error usual (codes "\"\\uDC00\\uDC0G\"") (codes "G\"") character (UnexpectedCharacter 71 1 13) (simp (strings, containers) refl) refl
+no_digit_in_second_escape = refused_error usual (codes "\"\\uDC00\\uDC0G\"") (codes "G\"") character (UnexpectedCharacter 71 1 13) refl refl
 
-two_low : Fails usual (codes "\"\\uDC00\\uDC00\"") FailedUtf8Parsing
+two_low : IsErrorOf usual (codes "\"\\uDC00\\uDC00\"") FailedUtf8Parsing
 unfolding class_of code_unit bytes_of encode_utf8 kept_len drops_too_many keeps_too_many
-two_low strings containers = refused_error usual (codes "\"\\uDC00\\uDC00\"") (codes "0\"") (limit pair) FailedUtf8Parsing (simp (strings, containers) refl) refl
+two_low = refused_error usual (codes "\"\\uDC00\\uDC00\"") (codes "0\"") (limit pair) FailedUtf8Parsing refl refl
 
-two_high : Fails usual (codes "\"\\uD834\\uD834\"") FailedUtf8Parsing
+two_high : IsErrorOf usual (codes "\"\\uD834\\uD834\"") FailedUtf8Parsing
 unfolding class_of code_unit bytes_of encode_utf8 kept_len drops_too_many keeps_too_many
-two_high strings containers = refused_error usual (codes "\"\\uD834\\uD834\"") (codes "4\"") (limit pair) FailedUtf8Parsing (simp (strings, containers) refl) refl
+two_high = refused_error usual (codes "\"\\uD834\\uD834\"") (codes "4\"") (limit pair) FailedUtf8Parsing refl refl
 
-pair_before_bracket : Fails usual (codes "[\"\\uDC00\\uDC00\"}") FailedUtf8Parsing
+pair_before_bracket : IsErrorOf usual (codes "[\"\\uDC00\\uDC00\"}") FailedUtf8Parsing
 unfolding class_of code_unit bytes_of encode_utf8 kept_len drops_too_many keeps_too_many
-pair_before_bracket strings containers = refused_error usual (codes "[\"\\uDC00\\uDC00\"}") (codes "0\"}") (limit pair) FailedUtf8Parsing (simp (strings, containers) refl) refl
+pair_before_bracket = refused_error usual (codes "[\"\\uDC00\\uDC00\"}") (codes "0\"}") (limit pair) FailedUtf8Parsing refl refl
 
 -- ---- containers
 
-open_array : Fails usual (codes "[1") UnexpectedEndOfJson
+open_array : IsErrorOf usual (codes "[1") UnexpectedEndOfJson
 unfolding class_of code_unit bytes_of encode_utf8 kept_len drops_too_many keeps_too_many
-open_array strings containers = refused_error usual (codes "[1") [] Fault.end UnexpectedEndOfJson (simp (strings, containers) refl) refl
+open_array = refused_error usual (codes "[1") [] Fault.end UnexpectedEndOfJson refl refl
 
-open_object : Fails usual (codes "{\"a\"") UnexpectedEndOfJson
+open_object : IsErrorOf usual (codes "{\"a\"") UnexpectedEndOfJson
 unfolding class_of code_unit bytes_of encode_utf8 kept_len drops_too_many keeps_too_many
-open_object strings containers = refused_error usual (codes "{\"a\"") [] Fault.end UnexpectedEndOfJson (simp (strings, containers) refl) refl
+open_object = refused_error usual (codes "{\"a\"") [] Fault.end UnexpectedEndOfJson refl refl
 
-brace_on_second_line : Fails usual (codes "[\n}") (UnexpectedCharacter 125 2 1)
+brace_on_second_line : IsErrorOf usual (codes "[\n}") (UnexpectedCharacter 125 2 1)
 unfolding class_of code_unit bytes_of encode_utf8 kept_len drops_too_many keeps_too_many
-brace_on_second_line strings containers = refused_error usual (codes "[\n}") (codes "}") character (UnexpectedCharacter 125 2 1) (simp (strings, containers) refl) refl
+brace_on_second_line = refused_error usual (codes "[\n}") (codes "}") character (UnexpectedCharacter 125 2 1) refl refl
 
-bracket_on_fourth_line : Fails usual (codes "\n  [\n    null,\n  ]  \n") (UnexpectedCharacter 93 4 3)
+bracket_on_fourth_line : IsErrorOf usual (codes "\n  [\n    null,\n  ]  \n") (UnexpectedCharacter 93 4 3)
 unfolding class_of code_unit bytes_of encode_utf8 kept_len drops_too_many keeps_too_many
-bracket_on_fourth_line strings containers = refused_error usual (codes "\n  [\n    null,\n  ]  \n") (codes "]  \n") character (UnexpectedCharacter 93 4 3) (simp (strings, containers) refl) refl
+bracket_on_fourth_line = refused_error usual (codes "\n  [\n    null,\n  ]  \n") (codes "]  \n") character (UnexpectedCharacter 93 4 3) refl refl
 
-number_for_colon : Fails usual (codes "{\"a\" 1}") (UnexpectedCharacter 49 1 6)
+number_for_colon : IsErrorOf usual (codes "{\"a\" 1}") (UnexpectedCharacter 49 1 6)
 unfolding class_of code_unit bytes_of encode_utf8 kept_len drops_too_many keeps_too_many
-number_for_colon strings containers = refused_error usual (codes "{\"a\" 1}") (codes "1}") character (UnexpectedCharacter 49 1 6) (simp (strings, containers) refl) refl
+number_for_colon = refused_error usual (codes "{\"a\" 1}") (codes "1}") character (UnexpectedCharacter 49 1 6) refl refl
 
 -- a character of two bytes counts once
-character_behind_wide_text : Fails usual (codes "[\"é\" x]") (UnexpectedCharacter 120 1 6)
+character_behind_wide_text : IsErrorOf usual (codes "[\"é\" x]") (UnexpectedCharacter 120 1 6)
 unfolding class_of code_unit bytes_of encode_utf8 kept_len drops_too_many keeps_too_many
-character_behind_wide_text strings containers = refused_error usual (codes "[\"é\" x]") (codes "x]") character (UnexpectedCharacter 120 1 6) (simp (strings, containers) refl) refl
+character_behind_wide_text = refused_error usual (codes "[\"é\" x]") (codes "x]") character (UnexpectedCharacter 120 1 6) refl refl
 
-comma_before_bracket : Fails usual (codes "[1,]") (UnexpectedCharacter 93 1 4)
+comma_before_bracket : IsErrorOf usual (codes "[1,]") (UnexpectedCharacter 93 1 4)
 unfolding class_of code_unit bytes_of encode_utf8 kept_len drops_too_many keeps_too_many
-comma_before_bracket strings containers = refused_error usual (codes "[1,]") (codes "]") character (UnexpectedCharacter 93 1 4) (simp (strings, containers) refl) refl
+comma_before_bracket = refused_error usual (codes "[1,]") (codes "]") character (UnexpectedCharacter 93 1 4) refl refl
 
-comma_before_brace : Fails usual (codes "{\"a\":1,}") (UnexpectedCharacter 125 1 8)
+comma_before_brace : IsErrorOf usual (codes "{\"a\":1,}") (UnexpectedCharacter 125 1 8)
 unfolding class_of code_unit bytes_of encode_utf8 kept_len drops_too_many keeps_too_many
-comma_before_brace strings containers = refused_error usual (codes "{\"a\":1,}") (codes "}") character (UnexpectedCharacter 125 1 8) (simp (strings, containers) refl) refl
+comma_before_brace = refused_error usual (codes "{\"a\":1,}") (codes "}") character (UnexpectedCharacter 125 1 8) refl refl
 
-no_key : Fails usual (codes "{1") (UnexpectedCharacter 49 1 2)
+no_key : IsErrorOf usual (codes "{1") (UnexpectedCharacter 49 1 2)
 unfolding class_of code_unit bytes_of encode_utf8 kept_len drops_too_many keeps_too_many
-no_key strings containers = refused_error usual (codes "{1") (codes "1") character (UnexpectedCharacter 49 1 2) (simp (strings, containers) refl) refl
+no_key = refused_error usual (codes "{1") (codes "1") character (UnexpectedCharacter 49 1 2) refl refl
 
-bare_key : Fails usual (codes "{a:1}") (UnexpectedCharacter 97 1 2)
+bare_key : IsErrorOf usual (codes "{a:1}") (UnexpectedCharacter 97 1 2)
 unfolding class_of code_unit bytes_of encode_utf8 kept_len drops_too_many keeps_too_many
-bare_key strings containers = refused_error usual (codes "{a:1}") (codes "a:1}") character (UnexpectedCharacter 97 1 2) (simp (strings, containers) refl) refl
+bare_key = refused_error usual (codes "{a:1}") (codes "a:1}") character (UnexpectedCharacter 97 1 2) refl refl
 
-two_commas : Fails usual (codes "[1,,2]") (UnexpectedCharacter 44 1 4)
+two_commas : IsErrorOf usual (codes "[1,,2]") (UnexpectedCharacter 44 1 4)
 unfolding class_of code_unit bytes_of encode_utf8 kept_len drops_too_many keeps_too_many
-two_commas strings containers = refused_error usual (codes "[1,,2]") (codes ",2]") character (UnexpectedCharacter 44 1 4) (simp (strings, containers) refl) refl
+two_commas = refused_error usual (codes "[1,,2]") (codes ",2]") character (UnexpectedCharacter 44 1 4) refl refl
 
-bracket_too_many : Fails usual (codes "[1]]") (UnexpectedCharacter 93 1 4)
+bracket_too_many : IsErrorOf usual (codes "[1]]") (UnexpectedCharacter 93 1 4)
 unfolding class_of code_unit bytes_of encode_utf8 kept_len drops_too_many keeps_too_many
-bracket_too_many strings containers = refused_error usual (codes "[1]]") (codes "]") character (UnexpectedCharacter 93 1 4) (simp (strings, containers) refl) refl
+bracket_too_many = refused_error usual (codes "[1]]") (codes "]") character (UnexpectedCharacter 93 1 4) refl refl
 
-hexadecimal : Fails usual (codes "[0x14]") (UnexpectedCharacter 120 1 3)
+hexadecimal : IsErrorOf usual (codes "[0x14]") (UnexpectedCharacter 120 1 3)
 unfolding class_of code_unit bytes_of encode_utf8 kept_len drops_too_many keeps_too_many
-hexadecimal strings containers = refused_error usual (codes "[0x14]") (codes "x14]") character (UnexpectedCharacter 120 1 3) (simp (strings, containers) refl) refl
+hexadecimal = refused_error usual (codes "[0x14]") (codes "x14]") character (UnexpectedCharacter 120 1 3) refl refl
 
-single_quotes : Fails usual (codes "['a']") (UnexpectedCharacter 39 1 2)
+single_quotes : IsErrorOf usual (codes "['a']") (UnexpectedCharacter 39 1 2)
 unfolding class_of code_unit bytes_of encode_utf8 kept_len drops_too_many keeps_too_many
-single_quotes strings containers = refused_error usual (codes "['a']") (codes "'a']") character (UnexpectedCharacter 39 1 2) (simp (strings, containers) refl) refl
+single_quotes = refused_error usual (codes "['a']") (codes "'a']") character (UnexpectedCharacter 39 1 2) refl refl
 
-plus_in_array : Fails usual (codes "[+1]") (UnexpectedCharacter 43 1 2)
+plus_in_array : IsErrorOf usual (codes "[+1]") (UnexpectedCharacter 43 1 2)
 unfolding class_of code_unit bytes_of encode_utf8 kept_len drops_too_many keeps_too_many
-plus_in_array strings containers = refused_error usual (codes "[+1]") (codes "+1]") character (UnexpectedCharacter 43 1 2) (simp (strings, containers) refl) refl
+plus_in_array = refused_error usual (codes "[+1]") (codes "+1]") character (UnexpectedCharacter 43 1 2) refl refl
 
-brace_closes_array : Fails usual (codes "{\"a\":[1}") (UnexpectedCharacter 125 1 8)
+brace_closes_array : IsErrorOf usual (codes "{\"a\":[1}") (UnexpectedCharacter 125 1 8)
 unfolding class_of code_unit bytes_of encode_utf8 kept_len drops_too_many keeps_too_many
-brace_closes_array strings containers = refused_error usual (codes "{\"a\":[1}") (codes "}") character (UnexpectedCharacter 125 1 8) (simp (strings, containers) refl) refl
+brace_closes_array = refused_error usual (codes "{\"a\":[1}") (codes "}") character (UnexpectedCharacter 125 1 8) refl refl
 
 -- ---- depth
 
-array_at_0 : Fails (shallow 0) (codes "[1]") ExceededDepthLimit
+array_at_0 : IsErrorOf (shallow 0) (codes "[1]") ExceededDepthLimit
 unfolding class_of code_unit bytes_of encode_utf8 kept_len drops_too_many keeps_too_many
-array_at_0 strings containers = refused_error (shallow 0) (codes "[1]") (codes "1]") (limit deep) ExceededDepthLimit (simp (strings, containers) refl) refl
+array_at_0 = refused_error (shallow 0) (codes "[1]") (codes "1]") (limit deep) ExceededDepthLimit refl refl
 
-letter_in_array_at_0 : Fails (shallow 0) (codes "[x") ExceededDepthLimit
+letter_in_array_at_0 : IsErrorOf (shallow 0) (codes "[x") ExceededDepthLimit
 unfolding class_of code_unit bytes_of encode_utf8 kept_len drops_too_many keeps_too_many
-letter_in_array_at_0 strings containers = refused_error (shallow 0) (codes "[x") (codes "x") (limit deep) ExceededDepthLimit (simp (strings, containers) refl) refl
+letter_in_array_at_0 = refused_error (shallow 0) (codes "[x") (codes "x") (limit deep) ExceededDepthLimit refl refl
 
-number_for_key_at_0 : Fails (shallow 0) (codes "{1") ExceededDepthLimit
+number_for_key_at_0 : IsErrorOf (shallow 0) (codes "{1") ExceededDepthLimit
 unfolding class_of code_unit bytes_of encode_utf8 kept_len drops_too_many keeps_too_many
-number_for_key_at_0 strings containers = refused_error (shallow 0) (codes "{1") (codes "1") (limit deep) ExceededDepthLimit (simp (strings, containers) refl) refl
+number_for_key_at_0 = refused_error (shallow 0) (codes "{1") (codes "1") (limit deep) ExceededDepthLimit refl refl
 
-object_at_0 : Fails (shallow 0) (codes "{\"a\":1}") ExceededDepthLimit
+object_at_0 : IsErrorOf (shallow 0) (codes "{\"a\":1}") ExceededDepthLimit
 unfolding class_of code_unit bytes_of encode_utf8 kept_len drops_too_many keeps_too_many
-object_at_0 strings containers = refused_error (shallow 0) (codes "{\"a\":1}") (codes "\"a\":1}") (limit deep) ExceededDepthLimit (simp (strings, containers) refl) refl
+object_at_0 = refused_error (shallow 0) (codes "{\"a\":1}") (codes "\"a\":1}") (limit deep) ExceededDepthLimit refl refl
 
-open_array_at_0 : Fails (shallow 0) (codes "[") UnexpectedEndOfJson
+open_array_at_0 : IsErrorOf (shallow 0) (codes "[") UnexpectedEndOfJson
 unfolding class_of code_unit bytes_of encode_utf8 kept_len drops_too_many keeps_too_many
-open_array_at_0 strings containers = refused_error (shallow 0) (codes "[") [] Fault.end UnexpectedEndOfJson (simp (strings, containers) refl) refl
+open_array_at_0 = refused_error (shallow 0) (codes "[") [] Fault.end UnexpectedEndOfJson refl refl
 
-array_inside_at_1 : Fails (shallow 1) (codes "[[1]]") ExceededDepthLimit
+array_inside_at_1 : IsErrorOf (shallow 1) (codes "[[1]]") ExceededDepthLimit
 unfolding class_of code_unit bytes_of encode_utf8 kept_len drops_too_many keeps_too_many
-array_inside_at_1 strings containers = refused_error (shallow 1) (codes "[[1]]") (codes "1]]") (limit deep) ExceededDepthLimit (simp (strings, containers) refl) refl
+array_inside_at_1 = refused_error (shallow 1) (codes "[[1]]") (codes "1]]") (limit deep) ExceededDepthLimit refl refl
 
-object_inside_at_1 : Fails (shallow 1) (codes "[1,{\"a\":2}]") ExceededDepthLimit
+object_inside_at_1 : IsErrorOf (shallow 1) (codes "[1,{\"a\":2}]") ExceededDepthLimit
 unfolding class_of code_unit bytes_of encode_utf8 kept_len drops_too_many keeps_too_many
-object_inside_at_1 strings containers = refused_error (shallow 1) (codes "[1,{\"a\":2}]") (codes "\"a\":2}]") (limit deep) ExceededDepthLimit (simp (strings, containers) refl) refl
+object_inside_at_1 = refused_error (shallow 1) (codes "[1,{\"a\":2}]") (codes "\"a\":2}]") (limit deep) ExceededDepthLimit refl refl
 
 -- the depth is told before the character
-brace_at_2 : Fails (shallow 2) (codes "[[[}") ExceededDepthLimit
+brace_at_2 : IsErrorOf (shallow 2) (codes "[[[}") ExceededDepthLimit
 unfolding class_of code_unit bytes_of encode_utf8 kept_len drops_too_many keeps_too_many
-brace_at_2 strings containers = refused_error (shallow 2) (codes "[[[}") (codes "}") (limit deep) ExceededDepthLimit (simp (strings, containers) refl) refl
+brace_at_2 = refused_error (shallow 2) (codes "[[[}") (codes "}") (limit deep) ExceededDepthLimit refl refl
 
-bracket_at_2 : Fails (shallow 2) (codes "[[[[") ExceededDepthLimit
+bracket_at_2 : IsErrorOf (shallow 2) (codes "[[[[") ExceededDepthLimit
 unfolding class_of code_unit bytes_of encode_utf8 kept_len drops_too_many keeps_too_many
-bracket_at_2 strings containers = refused_error (shallow 2) (codes "[[[[") (codes "[") (limit deep) ExceededDepthLimit (simp (strings, containers) refl) refl
+bracket_at_2 = refused_error (shallow 2) (codes "[[[[") (codes "[") (limit deep) ExceededDepthLimit refl refl
 
-open_arrays_at_2 : Fails (shallow 2) (codes "[[[") UnexpectedEndOfJson
+open_arrays_at_2 : IsErrorOf (shallow 2) (codes "[[[") UnexpectedEndOfJson
 unfolding class_of code_unit bytes_of encode_utf8 kept_len drops_too_many keeps_too_many
-open_arrays_at_2 strings containers = refused_error (shallow 2) (codes "[[[") [] Fault.end UnexpectedEndOfJson (simp (strings, containers) refl) refl
+open_arrays_at_2 = refused_error (shallow 2) (codes "[[[") [] Fault.end UnexpectedEndOfJson refl refl
 
-letter_at_2 : Fails (shallow 2) (codes "[[x") (UnexpectedCharacter 120 1 3)
+letter_at_2 : IsErrorOf (shallow 2) (codes "[[x") (UnexpectedCharacter 120 1 3)
 unfolding class_of code_unit bytes_of encode_utf8 kept_len drops_too_many keeps_too_many
-letter_at_2 strings containers = refused_error (shallow 2) (codes "[[x") (codes "x") character (UnexpectedCharacter 120 1 3) (simp (strings, containers) refl) refl
+letter_at_2 = refused_error (shallow 2) (codes "[[x") (codes "x") character (UnexpectedCharacter 120 1 3) refl refl
 
-number_for_key_at_2 : Fails (shallow 2) (codes "[[{1") ExceededDepthLimit
+number_for_key_at_2 : IsErrorOf (shallow 2) (codes "[[{1") ExceededDepthLimit
 unfolding class_of code_unit bytes_of encode_utf8 kept_len drops_too_many keeps_too_many
-number_for_key_at_2 strings containers = refused_error (shallow 2) (codes "[[{1") (codes "1") (limit deep) ExceededDepthLimit (simp (strings, containers) refl) refl
+number_for_key_at_2 = refused_error (shallow 2) (codes "[[{1") (codes "1") (limit deep) ExceededDepthLimit refl refl
 
 -- ---- strict readings
 
-repeated_key : Fails (strict_to 512) (codes "{\"a\":1,\"a\":2}") (DuplicateKey 1 8)
+repeated_key : IsErrorOf (strict_to 512) (codes "{\"a\":1,\"a\":2}") (DuplicateKey 1 8)
 unfolding class_of code_unit bytes_of encode_utf8 kept_len drops_too_many keeps_too_many
-repeated_key strings containers = refused_error (strict_to 512) (codes "{\"a\":1,\"a\":2}") (codes "\":2}") (limit (duplicate 2)) (DuplicateKey 1 8) (simp (strings, containers) refl) refl
+repeated_key = refused_error (strict_to 512) (codes "{\"a\":1,\"a\":2}") (codes "\":2}") (limit (duplicate 2)) (DuplicateKey 1 8) refl refl
 
-repeated_as_escape : Fails (strict_to 512) (codes "{\"a\":1,\"\\u0061\":2}") (DuplicateKey 1 8)
+repeated_as_escape : IsErrorOf (strict_to 512) (codes "{\"a\":1,\"\\u0061\":2}") (DuplicateKey 1 8)
 unfolding class_of code_unit bytes_of encode_utf8 kept_len drops_too_many keeps_too_many
-repeated_as_escape strings containers = refused_error (strict_to 512) (codes "{\"a\":1,\"\\u0061\":2}") (codes "\":2}") (limit (duplicate 7)) (DuplicateKey 1 8) (simp (strings, containers) refl) refl
+repeated_as_escape = refused_error (strict_to 512) (codes "{\"a\":1,\"\\u0061\":2}") (codes "\":2}") (limit (duplicate 7)) (DuplicateKey 1 8) refl refl
 
-repeated_at_end : Fails (strict_to 512) (codes "{\"a\":1,\"a\"") (DuplicateKey 1 8)
+repeated_at_end : IsErrorOf (strict_to 512) (codes "{\"a\":1,\"a\"") (DuplicateKey 1 8)
 unfolding class_of code_unit bytes_of encode_utf8 kept_len drops_too_many keeps_too_many
-repeated_at_end strings containers = refused_error (strict_to 512) (codes "{\"a\":1,\"a\"") (codes "\"") (limit (duplicate 2)) (DuplicateKey 1 8) (simp (strings, containers) refl) refl
+repeated_at_end = refused_error (strict_to 512) (codes "{\"a\":1,\"a\"") (codes "\"") (limit (duplicate 2)) (DuplicateKey 1 8) refl refl
 
-repeated_before_letter : Fails (strict_to 512) (codes "{\"a\":1,\"a\"x") (DuplicateKey 1 8)
+repeated_before_letter : IsErrorOf (strict_to 512) (codes "{\"a\":1,\"a\"x") (DuplicateKey 1 8)
 unfolding class_of code_unit bytes_of encode_utf8 kept_len drops_too_many keeps_too_many
-repeated_before_letter strings containers = refused_error (strict_to 512) (codes "{\"a\":1,\"a\"x") (codes "\"x") (limit (duplicate 2)) (DuplicateKey 1 8) (simp (strings, containers) refl) refl
+repeated_before_letter = refused_error (strict_to 512) (codes "{\"a\":1,\"a\"x") (codes "\"x") (limit (duplicate 2)) (DuplicateKey 1 8) refl refl
 
-repeated_on_next_line : Fails (strict_to 512) (codes "{\"a\":1,\n\"a\":2}") (DuplicateKey 2 1)
+repeated_on_next_line : IsErrorOf (strict_to 512) (codes "{\"a\":1,\n\"a\":2}") (DuplicateKey 2 1)
 unfolding class_of code_unit bytes_of encode_utf8 kept_len drops_too_many keeps_too_many
-repeated_on_next_line strings containers = refused_error (strict_to 512) (codes "{\"a\":1,\n\"a\":2}") (codes "\":2}") (limit (duplicate 2)) (DuplicateKey 2 1) (simp (strings, containers) refl) refl
+repeated_on_next_line = refused_error (strict_to 512) (codes "{\"a\":1,\n\"a\":2}") (codes "\":2}") (limit (duplicate 2)) (DuplicateKey 2 1) refl refl
 
-repeated_inside : Fails (strict_to 512) (codes "[\"é\",{\"é\":1,\"é\":2}]") (DuplicateKey 1 13)
+repeated_inside : IsErrorOf (strict_to 512) (codes "[\"é\",{\"é\":1,\"é\":2}]") (DuplicateKey 1 13)
 unfolding class_of code_unit bytes_of encode_utf8 kept_len drops_too_many keeps_too_many
-repeated_inside strings containers = refused_error (strict_to 512) (codes "[\"é\",{\"é\":1,\"é\":2}]") (codes "\":2}]") (limit (duplicate 2)) (DuplicateKey 1 13) (simp (strings, containers) refl) refl
+repeated_inside = refused_error (strict_to 512) (codes "[\"é\",{\"é\":1,\"é\":2}]") (codes "\":2}]") (limit (duplicate 2)) (DuplicateKey 1 13) refl refl
 
-open_repeated_key : Fails (strict_to 512) (codes "{\"a\":1,\"a") UnexpectedEndOfJson
+open_repeated_key : IsErrorOf (strict_to 512) (codes "{\"a\":1,\"a") UnexpectedEndOfJson
 unfolding class_of code_unit bytes_of encode_utf8 kept_len drops_too_many keeps_too_many
-open_repeated_key strings containers = refused_error (strict_to 512) (codes "{\"a\":1,\"a") [] Fault.end UnexpectedEndOfJson (simp (strings, containers) refl) refl
+open_repeated_key = refused_error (strict_to 512) (codes "{\"a\":1,\"a") [] Fault.end UnexpectedEndOfJson refl refl
 
-strict_form_feed : Fails (strict_to 512) (codes "[" ++ 12 ∷ codes "1]") (UnexpectedCharacter 12 1 2)
+strict_form_feed : IsErrorOf (strict_to 512) (codes "[" ++ 12 ∷ codes "1]") (UnexpectedCharacter 12 1 2)
 unfolding class_of code_unit bytes_of encode_utf8 kept_len drops_too_many keeps_too_many
-strict_form_feed strings containers = refused_error (strict_to 512) (codes "[" ++ 12 ∷ codes "1]") (12 ∷ codes "1]") character (UnexpectedCharacter 12 1 2) (simp (strings, containers) refl) refl
+strict_form_feed = refused_error (strict_to 512) (codes "[" ++ 12 ∷ codes "1]") (12 ∷ codes "1]") character (UnexpectedCharacter 12 1 2) refl refl
 
-deep_before_repeated : Fails (strict_to 1) (codes "{\"a\":1,\"b\":[1],\"a\":2}") ExceededDepthLimit
+deep_before_repeated : IsErrorOf (strict_to 1) (codes "{\"a\":1,\"b\":[1],\"a\":2}") ExceededDepthLimit
 unfolding class_of code_unit bytes_of encode_utf8 kept_len drops_too_many keeps_too_many
-deep_before_repeated strings containers = refused_error (strict_to 1) (codes "{\"a\":1,\"b\":[1],\"a\":2}") (codes "1],\"a\":2}") (limit deep) ExceededDepthLimit (simp (strings, containers) refl) refl
+deep_before_repeated = refused_error (strict_to 1) (codes "{\"a\":1,\"b\":[1],\"a\":2}") (codes "1],\"a\":2}") (limit deep) ExceededDepthLimit refl refl
 
 -- ---- words
 

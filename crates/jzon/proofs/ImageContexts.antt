@@ -4,11 +4,11 @@ use Rattle.jzon_base.specs.PairList.{put_each}
 use Rattle.jzon_tree.specs.Value.{Value, Values, pairs_of}
 use Rattle.jzon_tree.specs.Value as value
 use Rattle.jzon.specs.Reading.{Reading}
-use Rattle.jzon.specs.Grammar.{Item, Key, Node, Elements, no_elements, Members, no_members, element, member, reads_strings, reads_containers, code_unit}
+use Rattle.jzon.specs.Grammar.{Item, Key, Node, Elements, no_elements, Members, no_members, element, member, code_unit}
 use Rattle.jzon.specs.Spelling.{Breach, onto, deep_if}
 use Rattle.jzon.specs.Meaning.{bytes_of, meaning, elements_meaning, members_meaning}
 use Rattle.jzon.specs.Classes.{Class, white, digits, dash, quote, opens_array, closes_array, opens_object, closes_object, comma, colon, begins_null, begins_true, begins_false, signed, begun}
-use Rattle.jzon.specs.Machine.{Entries, Frames, no_frames, array_frame, object_frame, Role, as_value, as_key, TextPlace, between, slash, code, second, second_slash, second_code, Place, before, before_key, word, numeral, string, after_key, behind, Move, go, bad, bad_deep, frames_depth, value_mark, key_mark, bad_at, go_if, move_empty_array, move_before, move_empty_object, move_before_key, move_after_key, move_behind}
+use Rattle.jzon.specs.Machine.{Entries, Frames, no_frames, array_frame, object_frame, Role, as_value, as_key, TextPlace, between, slash, code, second, second_slash, second_code, Place, before, before_key, word, numeral, string, after_key, behind, Move, go, bad, bad_deep, frames_depth, value_mark, key_mark, bad_at, move_empty_array, move_before, move_empty_object, move_before_key, move_after_key, move_behind}
 use Rattle.jzon.proofs.TreeMachine as tree
 use Rattle.jzon.proofs.TreeMachine.{Done, nothing_done, done, Named, nothing_named, named, Context, top, in_array, in_object, State, Step, close_array, close_object, depth_of, items_onto}
 
@@ -123,9 +123,8 @@ image_bad_at : (m m' : Option Breach) → m ≡ m' → bad_at m ≡ image_step (
 image_bad_at m None e = rw e refl
 image_bad_at m (Some b) e = rw e refl
 
-image_go_if : (b : Bool) (m m' : Option Breach) (p : Place) (s : State) → m ≡ m' → p ≡ image s → go_if b m p ≡ image_step (tree.go_if b m' s)
-image_go_if true m m' p s e f = cc
-image_go_if false m m' p s e f = image_bad_at m m' e
+image_go : (m m' : Option Breach) (p : Place) (s : State) → m ≡ m' → p ≡ image s → go m p ≡ image_step (tree.go m' s)
+image_go m m' p s e f = cc
 
 -- ---- before a value
 
@@ -142,12 +141,12 @@ image_before r white k b c = refl
 image_before r digits k b c = ap (λ z. go z (image (tree.numeral k (onto b []) false (begun (c == 48) c)))) (mark_before r k)
 image_before r dash k b c = ap (λ z. go z (image (tree.numeral k (onto b []) true signed))) (mark_before r k)
 image_before r quote k b c =
-    image_go_if reads_strings _ _ (string (as_value (frames_of k)) [] between) (tree.string (tree.as_value k (onto b [])) [] tree.between)
+    image_go _ _ (string (as_value (frames_of k)) [] between) (tree.string (tree.as_value k (onto b [])) [] tree.between)
     (mark_before r k) (ap (λ z. string (as_value (frames_of k)) z between) (sym no_text))
 image_before r opens_array k b c =
-    image_go_if reads_containers _ _ (before (array_frame (frames_of k) [])) (tree.before (in_array k (onto b []) nothing_done) []) (mark_before r k) refl
+    image_go _ _ (before (array_frame (frames_of k) [])) (tree.before (in_array k (onto b []) nothing_done) []) (mark_before r k) refl
 image_before r opens_object k b c =
-    image_go_if reads_containers _ _ (before_key (frames_of k) []) (tree.before_key k (onto b []) nothing_named []) (mark_before r k) refl
+    image_go _ _ (before_key (frames_of k) []) (tree.before_key k (onto b []) nothing_named []) (mark_before r k) refl
 image_before r closes_array top b c = refl
 image_before r closes_array (in_array k a nothing_done) b c = refl
 image_before r closes_array (in_array k a (done o x n y)) b c = not_empty_array (frames_of k) (values_of o) (meaning n)

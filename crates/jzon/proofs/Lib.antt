@@ -34,6 +34,10 @@ pub mod MarkRows
 pub mod NumberLimits
 pub mod DigitRuns
 pub mod Steps
+pub mod Beginnings
+pub mod ContainerSteps
+pub mod FrameViews
+pub mod Told
 pub mod NumeralSteps
 pub mod ImageContexts
 pub mod ImageNumerals

@@ -1,12 +1,11 @@
 -- Worked rows of docs/RULES.md, "Texts" and "Readings": texts and the one tree of each, and fronts of a text, which all end too early.
 use Rattle.std.proofs.Common.{◌≡◌, ℕ, zero, suc, ◌<◌, List, [], ◌∷◌, length, take, Bool, true, false, ◌&&◌, Option, Some, None, is_none, codes, refl, arith}
 use Rattle.std.proofs.lemmas.Bool.{and_parts}
-use Rattle.std.specs.Prelude.{IsTrue}
 use Rattle.std.specs.Char.{encode_utf8}
 use Rattle.jzon_base.specs.Digits.{kept_len}
 use Rattle.jzon_base.specs.declared.error.Error.TheVariants.{UnexpectedEndOfJson}
 use Rattle.jzon.specs.Reading.{Reading, usual}
-use Rattle.jzon.specs.Grammar.{plain, simple, single, double, Node, no_elements, element, Document, reads_strings, reads_containers, code_unit}
+use Rattle.jzon.specs.Grammar.{plain, simple, single, double, Node, no_elements, element, Document, code_unit}
 use Rattle.jzon.specs.Meaning.{bytes_of}
 use Rattle.jzon.specs.Spelling.{drops_too_many, keeps_too_many}
 use Rattle.jzon.specs.Fault.{Fault, Parses, IsErrorOf}
@@ -29,9 +28,9 @@ a = codes "a"
 abbrev one : Node
 one = int (codes "1")
 
--- where strings and containers are read, the text is read as this tree
+-- the text is read as this tree
 abbrev Reads : Reading → List ℕ → Node → Type 0
-Reads r t n = IsTrue reads_strings → IsTrue reads_containers → Parses r t (alone n)
+Reads r t n = Parses r t (alone n)
 
 vertical_tab : Parses usual (11 ∷ codes "1") (record { before = 11 ∷ []; node = one; after = [] })
 unfolding class_of
@@ -41,45 +40,45 @@ vertical_tab = read_tree usual (11 ∷ codes "1") (record { before = 11 ∷ []; 
 
 simple_escapes : Reads usual (codes "\"\\r\\n\\t\\b\\f\\\\\\/\\\"\"") (Node.string (simple 114 ∷ simple 110 ∷ simple 116 ∷ simple 98 ∷ simple 102 ∷ simple 92 ∷ simple 47 ∷ simple 34 ∷ []))
 unfolding class_of code_unit bytes_of encode_utf8 kept_len drops_too_many keeps_too_many
-simple_escapes strings containers = read_tree usual (codes "\"\\r\\n\\t\\b\\f\\\\\\/\\\"\"") (alone (Node.string (simple 114 ∷ simple 110 ∷ simple 116 ∷ simple 98 ∷ simple 102 ∷ simple 92 ∷ simple 47 ∷ simple 34 ∷ []))) (simp (strings, containers) refl)
+simple_escapes = read_tree usual (codes "\"\\r\\n\\t\\b\\f\\\\\\/\\\"\"") (alone (Node.string (simple 114 ∷ simple 110 ∷ simple 116 ∷ simple 98 ∷ simple 102 ∷ simple 92 ∷ simple 47 ∷ simple 34 ∷ []))) refl
 
 clef : Reads usual (codes "\"\\uD834\\uDD1E\"") (Node.string (double (codes "D834") (codes "DD1E") ∷ []))
 unfolding class_of code_unit bytes_of encode_utf8 kept_len drops_too_many keeps_too_many
-clef strings containers = read_tree usual (codes "\"\\uD834\\uDD1E\"") (alone (Node.string (double (codes "D834") (codes "DD1E") ∷ []))) (simp (strings, containers) refl)
+clef = read_tree usual (codes "\"\\uD834\\uDD1E\"") (alone (Node.string (double (codes "D834") (codes "DD1E") ∷ []))) refl
 
 heart : Reads usual (codes "\"\\u2764\\ufe0f\"") (Node.string (single (codes "2764") ∷ single (codes "fe0f") ∷ []))
 unfolding class_of code_unit bytes_of encode_utf8 kept_len drops_too_many keeps_too_many
-heart strings containers = read_tree usual (codes "\"\\u2764\\ufe0f\"") (alone (Node.string (single (codes "2764") ∷ single (codes "fe0f") ∷ []))) (simp (strings, containers) refl)
+heart = read_tree usual (codes "\"\\u2764\\ufe0f\"") (alone (Node.string (single (codes "2764") ∷ single (codes "fe0f") ∷ []))) refl
 
 e_acute : Reads usual (codes "\"é\\u00e9\\u00E9\"") (Node.string (plain 233 ∷ single (codes "00e9") ∷ single (codes "00E9") ∷ []))
 unfolding class_of code_unit bytes_of encode_utf8 kept_len drops_too_many keeps_too_many
-e_acute strings containers = read_tree usual (codes "\"é\\u00e9\\u00E9\"") (alone (Node.string (plain 233 ∷ single (codes "00e9") ∷ single (codes "00E9") ∷ []))) (simp (strings, containers) refl)
+e_acute = read_tree usual (codes "\"é\\u00e9\\u00E9\"") (alone (Node.string (plain 233 ∷ single (codes "00e9") ∷ single (codes "00E9") ∷ []))) refl
 
 empty_string : Reads usual (codes "\"\"") (string [])
 unfolding class_of code_unit bytes_of encode_utf8 kept_len drops_too_many keeps_too_many
-empty_string strings containers = read_tree usual (codes "\"\"") (alone (string [])) (simp (strings, containers) refl)
+empty_string = read_tree usual (codes "\"\"") (alone (string [])) refl
 
 greatest_character : Reads usual (34 ∷ 0x10FFFF ∷ 34 ∷ []) (string (0x10FFFF ∷ []))
 unfolding class_of code_unit bytes_of encode_utf8 kept_len drops_too_many keeps_too_many
-greatest_character strings containers = read_tree usual (34 ∷ 0x10FFFF ∷ 34 ∷ []) (alone (string (0x10FFFF ∷ []))) (simp (strings, containers) refl)
+greatest_character = read_tree usual (34 ∷ 0x10FFFF ∷ 34 ∷ []) (alone (string (0x10FFFF ∷ []))) refl
 
 -- ---- containers
 
 repeated_key : Reads usual (codes "{ \"foo\": 0, \"bar\": 1, \"foo\": 2 }") spaced
 unfolding class_of code_unit bytes_of encode_utf8 kept_len drops_too_many keeps_too_many
-repeated_key strings containers = read_tree usual (codes "{ \"foo\": 0, \"bar\": 1, \"foo\": 2 }") (alone spaced) (simp (strings, containers) refl)
+repeated_key = read_tree usual (codes "{ \"foo\": 0, \"bar\": 1, \"foo\": 2 }") (alone spaced) refl
 
 repeated_as_escape : Reads usual (codes "{\"a\":1,\"\\u0061\":1}") (object (key a) one ((key_of (single (codes "0061") ∷ []), one) ∷ []))
 unfolding class_of code_unit bytes_of encode_utf8 kept_len drops_too_many keeps_too_many
-repeated_as_escape strings containers = read_tree usual (codes "{\"a\":1,\"\\u0061\":1}") (alone (object (key a) one ((key_of (single (codes "0061") ∷ []), one) ∷ []))) (simp (strings, containers) refl)
+repeated_as_escape = read_tree usual (codes "{\"a\":1,\"\\u0061\":1}") (alone (object (key a) one ((key_of (single (codes "0061") ∷ []), one) ∷ []))) refl
 
 every_kind : Reads usual mixed_text mixed
 unfolding class_of code_unit bytes_of encode_utf8 kept_len drops_too_many keeps_too_many
-every_kind strings containers = read_tree usual mixed_text (alone mixed) (simp (strings, containers) refl)
+every_kind = read_tree usual mixed_text (alone mixed) refl
 
 blanks_inside : Reads usual (codes "[ \n1\t,\r null ]") (Node.array (32 ∷ 10 ∷ []) one (9 ∷ []) (element (13 ∷ 32 ∷ []) Node.null (32 ∷ []) no_elements))
 unfolding class_of code_unit bytes_of encode_utf8 kept_len drops_too_many keeps_too_many
-blanks_inside strings containers = read_tree usual (codes "[ \n1\t,\r null ]") (alone (Node.array (32 ∷ 10 ∷ []) one (9 ∷ []) (element (13 ∷ 32 ∷ []) Node.null (32 ∷ []) no_elements))) (simp (strings, containers) refl)
+blanks_inside = read_tree usual (codes "[ \n1\t,\r null ]") (alone (Node.array (32 ∷ 10 ∷ []) one (9 ∷ []) (element (13 ∷ 32 ∷ []) Node.null (32 ∷ []) no_elements))) refl
 
 -- ---- readings
 
@@ -89,27 +88,27 @@ scalar_at_0 = read_tree (shallow 0) (codes "1") (alone one) refl
 
 empty_array_at_0 : Reads (shallow 0) (codes "[ ]") (Node.empty_array (codes " "))
 unfolding class_of code_unit bytes_of encode_utf8 kept_len drops_too_many keeps_too_many
-empty_array_at_0 strings containers = read_tree (shallow 0) (codes "[ ]") (alone (Node.empty_array (codes " "))) (simp (strings, containers) refl)
+empty_array_at_0 = read_tree (shallow 0) (codes "[ ]") (alone (Node.empty_array (codes " "))) refl
 
 empty_object_at_0 : Reads (shallow 0) (codes "{}") (Node.empty_object [])
 unfolding class_of code_unit bytes_of encode_utf8 kept_len drops_too_many keeps_too_many
-empty_object_at_0 strings containers = read_tree (shallow 0) (codes "{}") (alone (Node.empty_object [])) (simp (strings, containers) refl)
+empty_object_at_0 = read_tree (shallow 0) (codes "{}") (alone (Node.empty_object [])) refl
 
 empty_inside_at_1 : Reads (shallow 1) (codes "[[]]") (array (Node.empty_array []) [])
 unfolding class_of code_unit bytes_of encode_utf8 kept_len drops_too_many keeps_too_many
-empty_inside_at_1 strings containers = read_tree (shallow 1) (codes "[[]]") (alone (array (Node.empty_array []) [])) (simp (strings, containers) refl)
+empty_inside_at_1 = read_tree (shallow 1) (codes "[[]]") (alone (array (Node.empty_array []) [])) refl
 
 empty_members_at_1 : Reads (shallow 1) (codes "{\"a\":[],\"b\":{}}") (object (key a) (Node.empty_array []) ((key (codes "b"), Node.empty_object []) ∷ []))
 unfolding class_of code_unit bytes_of encode_utf8 kept_len drops_too_many keeps_too_many
-empty_members_at_1 strings containers = read_tree (shallow 1) (codes "{\"a\":[],\"b\":{}}") (alone (object (key a) (Node.empty_array []) ((key (codes "b"), Node.empty_object []) ∷ []))) (simp (strings, containers) refl)
+empty_members_at_1 = read_tree (shallow 1) (codes "{\"a\":[],\"b\":{}}") (alone (object (key a) (Node.empty_array []) ((key (codes "b"), Node.empty_object []) ∷ []))) refl
 
 strict_keys_apart : Reads (strict_to 512) (codes "{\"a\":{\"a\":1},\"b\":{\"a\":1}}") (object (key a) (object (key a) one []) ((key (codes "b"), object (key a) one []) ∷ []))
 unfolding class_of code_unit bytes_of encode_utf8 kept_len drops_too_many keeps_too_many
-strict_keys_apart strings containers = read_tree (strict_to 512) (codes "{\"a\":{\"a\":1},\"b\":{\"a\":1}}") (alone (object (key a) (object (key a) one []) ((key (codes "b"), object (key a) one []) ∷ []))) (simp (strings, containers) refl)
+strict_keys_apart = read_tree (strict_to 512) (codes "{\"a\":{\"a\":1},\"b\":{\"a\":1}}") (alone (object (key a) (object (key a) one []) ((key (codes "b"), object (key a) one []) ∷ []))) refl
 
 strict_blanks : Reads (strict_to 1) (codes "[\t1\n]") (Node.array (9 ∷ []) one (10 ∷ []) no_elements)
 unfolding class_of code_unit bytes_of encode_utf8 kept_len drops_too_many keeps_too_many
-strict_blanks strings containers = read_tree (strict_to 1) (codes "[\t1\n]") (alone (Node.array (9 ∷ []) one (10 ∷ []) no_elements)) (simp (strings, containers) refl)
+strict_blanks = read_tree (strict_to 1) (codes "[\t1\n]") (alone (Node.array (9 ∷ []) one (10 ∷ []) no_elements)) refl
 
 -- ---- fronts
 
@@ -142,10 +141,10 @@ front_ends r (c ∷ cs) s (suc i) h lt =
     front_on (step r s c) (λ s'. quiet r cs s') (λ s'. answer r (take i cs) s') (c ∷ take i cs) (and_parts _ _ h).1
     (λ s' h'. front_ends r cs s' i h' (omega arith))
 
-mixed_quiet : IsTrue reads_strings → IsTrue reads_containers → quiet usual mixed_text start ≡ true
+mixed_quiet : quiet usual mixed_text start ≡ true
 unfolding class_of code_unit bytes_of encode_utf8 kept_len drops_too_many keeps_too_many
-mixed_quiet strings containers = simp (strings, containers) refl
+mixed_quiet = refl
 
-fronts_of_mixed : (i : ℕ) → i < 48 → IsTrue reads_strings → IsTrue reads_containers → IsErrorOf usual (take i mixed_text) UnexpectedEndOfJson
-fronts_of_mixed i h strings containers =
-    refused_error usual (take i mixed_text) [] Fault.end UnexpectedEndOfJson (front_ends usual mixed_text start i (mixed_quiet strings containers) h) refl
+fronts_of_mixed : (i : ℕ) → i < 48 → IsErrorOf usual (take i mixed_text) UnexpectedEndOfJson
+fronts_of_mixed i h =
+    refused_error usual (take i mixed_text) [] Fault.end UnexpectedEndOfJson (front_ends usual mixed_text start i mixed_quiet h) refl

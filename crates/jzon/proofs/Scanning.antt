@@ -46,9 +46,13 @@ skip_run r p test (b ∷ bs) h u = skip_one r p test b bs (test b) (prefix_len t
 
 -- ---- blanks
 
-space_is_ascii : (s : Bool) (c : ℕ) → is_space s c ≡ true → c < 128
+pub space_is_ascii : (s : Bool) (c : ℕ) → is_space s c ≡ true → c < 128
 space_is_ascii true c e = grind (arith, nat_tests)
 space_is_ascii false c e = grind (arith, nat_tests)
+
+pub wide_is_no_space : (s : Bool) (c : ℕ) → 128 ≤ c → is_space s c ≡ false
+wide_is_no_space true c le = grind (arith, nat_tests)
+wide_is_no_space false c le = grind (arith, nat_tests)
 
 pub before_skips : (r : Reading) (fs : Frames) → Skips r (before fs) (is_space r.strict)
 before_skips r fs = record { ascii = space_is_ascii r.strict; stays = λ c e. rw (white-class r c e) refl }
@@ -65,6 +69,14 @@ unfolding from
 from_skip r p test bs i n h u at e =
     (skip_run r p test (drop i bs) h (IsUtf8-drop bs i u at)).same
     ∙ ap (λ k. outcome r (chars (drop k (drop i bs))) p) (sym e) ∙ ap (λ z. outcome r (chars z) p) (drop-drop n i bs)
+
+-- no run begins with a byte that doesn't pass the test
+pub empty_run : (test : ℕ → Bool) (bs : List ℕ) (i : ℕ) → i ≤ length bs → test (get_or bs i 0) ≡ false → prefix_len test (drop i bs) ≡ 0
+empty_run test bs i le e = none (drop i bs) (ap test (get_or-drop i bs 0 0 ∙ ap (λ n. get_or bs n 0) (omega arith)) ∙ e)
+  where
+    none : (xs : List ℕ) → test (get_or xs 0 0) ≡ false → prefix_len test xs ≡ 0
+    none [] h = refl
+    none (x ∷ xs) h = ap (λ t. cond t (1 + prefix_len test xs) 0) h
 
 pub within_run : (test : ℕ → Bool) (bs : List ℕ) (i n : ℕ) → i ≤ length bs → n ≡ prefix_len test (drop i bs) → i + n ≤ length bs
 within_run test bs i n le e = omega (arith, e, prefix_len-le-length test (drop i bs), length-drop i bs)

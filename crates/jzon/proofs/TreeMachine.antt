@@ -2,7 +2,7 @@
 use Rattle.std.specs.Prelude.{ℕ, zero, suc, cond, List, [], ◌∷◌, Bool, true, false, not, ◌==◌, Option, Some, None}
 use Rattle.std.specs.Char.{is_ascii_hexdigit}
 use Rattle.jzon.specs.Reading.{Reading}
-use Rattle.jzon.specs.Grammar.{Sign, unsigned, plus, minus, Exponent, Numeral, Item, simple, single, double, Key, Node, Elements, no_elements, element, Members, no_members, member, Document, code_unit, is_surrogate, is_plain, is_simple, is_exponent_letter, reads_strings, reads_containers}
+use Rattle.jzon.specs.Grammar.{Sign, unsigned, plus, minus, Exponent, Numeral, Item, simple, single, double, Key, Node, Elements, no_elements, element, Members, no_members, member, Document, code_unit, is_surrogate, is_plain, is_simple, is_exponent_letter}
 use Rattle.jzon.specs.Grammar as grammar
 use Rattle.jzon.specs.Spelling.{Breach, pair, digit, breach_if, onto, drops_too_many, keeps_too_many, duplicate_if, deep_if}
 use Rattle.jzon.specs.Meaning.{is_pair, bytes_of}
@@ -106,10 +106,6 @@ abbrev pub bad_at : Option Breach → Step
 bad_at None = bad
 bad_at (Some b) = bad_deep
 
-abbrev pub go_if : Bool → Option Breach → State → Step
-go_if true m s = go m s
-go_if false m s = bad_at m
-
 abbrev pub step_empty_array : Context → List ℕ → Step
 step_empty_array top b = bad
 step_empty_array (in_array k a nothing_done) b = go None (behind k a (Node.empty_array (onto b [])) [])
@@ -120,9 +116,9 @@ abbrev pub step_before : Reading → Class → Context → List ℕ → ℕ → 
 step_before r white k b c = go None (before k (c ∷ b))
 step_before r digits k b c = go (value_mark r k) (numeral k (onto b []) false (begun (c == 48) c))
 step_before r dash k b c = go (value_mark r k) (numeral k (onto b []) true signed)
-step_before r quote k b c = go_if reads_strings (value_mark r k) (string (as_value k (onto b [])) [] between)
-step_before r opens_array k b c = go_if reads_containers (value_mark r k) (before (in_array k (onto b []) nothing_done) [])
-step_before r opens_object k b c = go_if reads_containers (value_mark r k) (before_key k (onto b []) nothing_named [])
+step_before r quote k b c = go (value_mark r k) (string (as_value k (onto b [])) [] between)
+step_before r opens_array k b c = go (value_mark r k) (before (in_array k (onto b []) nothing_done) [])
+step_before r opens_object k b c = go (value_mark r k) (before_key k (onto b []) nothing_named [])
 step_before r closes_array k b c = step_empty_array k b
 step_before r begins_null k b c = go (value_mark r k) (word k (onto b []) Node.null 117 (108 ∷ 108 ∷ []))
 step_before r begins_true k b c = go (value_mark r k) (word k (onto b []) (Node.boolean true) 114 (117 ∷ 101 ∷ []))

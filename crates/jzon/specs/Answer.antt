@@ -1,5 +1,5 @@
 -- What a parser answers for a text.
-use Rattle.std.specs.Prelude.{◌≡◌, ◌⊎◌, ℕ, List, Result, Ok, Err}
+use Rattle.std.specs.Prelude.{◌≡◌, ◌⊎◌, ℕ, List, Contains, Result, Ok, Err}
 use Rattle.jzon_base.specs.declared.error.Error.{Error}
 use Rattle.jzon_base.specs.declared.error.Error.TheVariants.{OutOfMemory}
 use Rattle.jzon_tree.specs.View.{view}
@@ -21,3 +21,7 @@ IsErrorUnlessMemory r t e = (e ≡ OutOfMemory) ⊎ IsErrorOf r t e
 abbrev pub Answers : Reading → List ℕ → Result JsonValue Error → Type 0
 Answers r t (Ok v) = IsMeaningOf r t v
 Answers r t (Err e) = IsErrorUnlessMemory r t e
+
+-- the text has a quote or an opening bracket of an array or an object; reading any other text takes no memory
+abbrev pub TakesMemory : List ℕ → Type 0
+TakesMemory t = Contains t 34 ⊎ (Contains t 91 ⊎ Contains t 123)

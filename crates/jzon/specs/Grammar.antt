@@ -1,5 +1,5 @@
 -- The grammar of RFC 8259 as trees: a tree has each part of a text, the blanks too. A text is a list of characters.
-use Rattle.std.specs.Prelude.{◌≡◌, ℕ, zero, suc, ◌+◌, ◌*◌, List, [], ◌∷◌, Bool, true, false, not, ◌&&◌, ◌||◌, ◌==◌, nat_le, nat_lt, Option, Some, None, codes, IsTrue, ⊤}
+use Rattle.std.specs.Prelude.{◌≡◌, ℕ, zero, suc, ◌+◌, ◌*◌, List, [], ◌∷◌, Bool, false, not, ◌&&◌, ◌||◌, ◌==◌, nat_le, nat_lt, Option, Some, None, codes, IsTrue, ⊤}
 use Rattle.std.specs.Char.{is_ascii_digit, is_ascii_hexdigit, digit_value}
 use Rattle.std.specs.List.{list_any, fold}
 use lib.Utf8.{scalar}
@@ -145,33 +145,16 @@ AreItems (i ∷ is) = IsItem i × AreItems is
 abbrev pub IsKey : Reading → Key → Type 0
 IsKey r k = IsBlank r k.before × AreItems k.items × IsBlank r k.after
 
--- Which kinds of value are read so far: the literals, the numbers and the strings.
-unfoldable pub reads_strings : Bool
-reads_strings = true
-
-unfoldable pub reads_containers : Bool
-reads_containers = false
-
-abbrev pub IsReadSoFar : Node → Type 0
-IsReadSoFar Node.null = ⊤
-IsReadSoFar (Node.boolean b) = ⊤
-IsReadSoFar (Node.number n) = ⊤
-IsReadSoFar (Node.string is) = IsTrue reads_strings
-IsReadSoFar (Node.empty_array b) = IsTrue reads_containers
-IsReadSoFar (Node.empty_object b) = IsTrue reads_containers
-IsReadSoFar (Node.array b n c es) = IsTrue reads_containers
-IsReadSoFar (Node.object k b n c ms) = IsTrue reads_containers
-
 abbrev mutual
   pub IsNode : Reading → Node → Type 0
   IsNode r Node.null = ⊤
   IsNode r (Node.boolean b) = ⊤
   IsNode r (Node.number n) = IsNumeral n
-  IsNode r (Node.string is) = IsReadSoFar (Node.string is) × AreItems is
-  IsNode r (Node.empty_array b) = IsReadSoFar (Node.empty_array b) × IsBlank r b
-  IsNode r (Node.empty_object b) = IsReadSoFar (Node.empty_object b) × IsBlank r b
-  IsNode r (Node.array b n c es) = IsReadSoFar (Node.array b n c es) × IsBlank r b × IsNode r n × IsBlank r c × AreElements r es
-  IsNode r (Node.object k b n c ms) = IsReadSoFar (Node.object k b n c ms) × IsKey r k × IsBlank r b × IsNode r n × IsBlank r c × AreMembers r ms
+  IsNode r (Node.string is) = AreItems is
+  IsNode r (Node.empty_array b) = IsBlank r b
+  IsNode r (Node.empty_object b) = IsBlank r b
+  IsNode r (Node.array b n c es) = IsBlank r b × IsNode r n × IsBlank r c × AreElements r es
+  IsNode r (Node.object k b n c ms) = IsKey r k × IsBlank r b × IsNode r n × IsBlank r c × AreMembers r ms
 
   pub AreElements : Reading → Elements → Type 0
   AreElements r no_elements = ⊤

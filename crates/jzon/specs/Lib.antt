@@ -7,6 +7,7 @@ pub mod Laws
 pub mod Classes
 pub mod Quote
 pub mod Machine
+pub mod Frames
 pub mod Answer
 -- what the contracts of the crates above cite
 pub use Rattle.jzon_base.specs.ErrorText

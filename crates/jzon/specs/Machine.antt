@@ -10,7 +10,7 @@ use Rattle.jzon_tree.specs.Value as value
 use Rattle.jzon_tree.specs.View.{view}
 use Rattle.jzon_tree.specs.declared.value.JsonValue.{JsonValue}
 use Rattle.jzon.specs.Reading.{Reading}
-use Rattle.jzon.specs.Grammar.{Sign, unsigned, plus, minus, Exponent, is_surrogate, is_high, is_low, is_plain, is_simple, reads_strings, reads_containers}
+use Rattle.jzon.specs.Grammar.{Sign, unsigned, plus, minus, Exponent, is_surrogate, is_high, is_low, is_plain, is_simple}
 use Rattle.jzon.specs.Spelling.{Breach, deep, pair, digit, breach_if, onto, drops_too_many, keeps_too_many, deep_if}
 use Rattle.jzon.specs.Meaning.{number_of, unescaped, pair_char}
 use Rattle.jzon.specs.Fault.{Fault, limit, character, error_at}
@@ -62,6 +62,13 @@ frames_depth no_frames = zero
 frames_depth (array_frame fs vs) = suc (frames_depth fs)
 frames_depth (object_frame fs es k) = suc (frames_depth fs)
 
+-- the inmost open container is an array without elements
+abbrev pub is_fresh : Frames → Bool
+is_fresh no_frames = false
+is_fresh (array_frame fs []) = true
+is_fresh (array_frame fs (v ∷ vs)) = false
+is_fresh (object_frame fs es k) = false
+
 abbrev pub value_mark : Reading → Frames → Option Breach
 value_mark r no_frames = None
 value_mark r (array_frame fs []) = deep_if r (frames_depth fs)
@@ -76,10 +83,6 @@ abbrev pub bad_at : Option Breach → Move
 bad_at None = bad
 bad_at (Some b) = bad_deep
 
-abbrev pub go_if : Bool → Option Breach → Place → Move
-go_if true m p = go m p
-go_if false m p = bad_at m
-
 -- ---- before and behind values
 
 abbrev pub move_empty_array : Frames → Move
@@ -90,9 +93,9 @@ abbrev pub move_before : Reading → Class → Frames → ℕ → Move
 move_before r white fs c = go None (before fs)
 move_before r digits fs c = go (value_mark r fs) (numeral fs false (begun (c == 48) c))
 move_before r dash fs c = go (value_mark r fs) (numeral fs true signed)
-move_before r quote fs c = go_if reads_strings (value_mark r fs) (string (as_value fs) [] between)
-move_before r opens_array fs c = go_if reads_containers (value_mark r fs) (before (array_frame fs []))
-move_before r opens_object fs c = go_if reads_containers (value_mark r fs) (before_key fs [])
+move_before r quote fs c = go (value_mark r fs) (string (as_value fs) [] between)
+move_before r opens_array fs c = go (value_mark r fs) (before (array_frame fs []))
+move_before r opens_object fs c = go (value_mark r fs) (before_key fs [])
 move_before r closes_array fs c = move_empty_array fs
 move_before r begins_null fs c = go (value_mark r fs) (word fs value.null 117 (108 ∷ 108 ∷ []))
 move_before r begins_true fs c = go (value_mark r fs) (word fs (value.boolean true) 114 (117 ∷ 101 ∷ []))

@@ -1,8 +1,11 @@
 //! Reads, holds, changes and prints JSON without typed structs: a port of the Rust crate `jzon`.
 #![tactic(auto)]
 
+mod blank;
+mod frames;
 pub mod laws;
 mod numeral;
+pub mod object;
 mod parser;
 mod place;
 mod string;

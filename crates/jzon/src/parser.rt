@@ -1,17 +1,19 @@
 //! Reads texts.
 
-ghost use Rattle.std.specs.Prelude.{◌≡◌, ◌==◌, ℕ, ◌<◌, ◌≤◌, ◌+◌, List, length, drop, chars, IsTrue, IsFalse, IfOk, IfErr, MatchResult, slice_index, None, true, false, IsAscii, Err, Contains, []};
+ghost use Rattle.std.specs.Prelude.{◌≡◌, ◌≢◌, ◌==◌, ℕ, ◌<◌, ◌≤◌, ◌+◌, List, [], length, chars, IsTrue, IfOk, IfErr, OnOk, Err, MatchResult, slice_index, None, true, false, IsAscii, vec_len};
 ghost use Rattle.std.specs.Char.{is_ascii_digit};
 ghost use Rattle.std.specs.Str.{IsCharBoundary};
-ghost use Rattle.std.specs.List.{prefix_len};
 ghost use Rattle.jzon_tree.specs.Value.{Value, null, boolean};
 ghost use Rattle.jzon_tree.specs.View.{view};
 ghost use Rattle.jzon_tree.specs.Writing.{is_space};
-ghost use Rattle.jzon.specs.Reading.{usual};
+ghost use Rattle.jzon.specs.Answer.{IsMeaningOf, IsErrorUnlessMemory, TakesMemory};
 ghost use Rattle.jzon.specs.Classes.{begun, signed};
-ghost use Rattle.jzon.specs.Machine.{TellsUnlessMemory, string, as_value, between, numeral, Frames, no_frames, before, behind, past_letter, value_mark, from, Tells, Reads};
-ghost use Rattle.jzon.specs.Answer.{IsMeaningOf, IsErrorUnlessMemory};
+ghost use Rattle.jzon.specs.Frames.{stack_view, place_of, IsAtElement, IsReady};
+ghost use Rattle.jzon.specs.Machine.{numeral, string, as_value, between, Frames, no_frames, is_fresh, before, behind, past_letter, value_mark, from, Tells, TellsUnlessMemory, Reads};
+ghost use Rattle.jzon.specs.Reading.{usual};
 
+use crate::blank::skip_blank;
+use crate::frames::{Frame, go_on, open_array, open_object};
 use crate::numeral::read_number;
 use crate::place::{fault_at, has_byte, has_digit};
 use crate::string::{read_string, text_value};
@@ -19,11 +21,12 @@ use jzon_base::error::{Error, Result};
 use jzon_tree::value::JsonValue;
 use std::alloc::Global;
 
-/// The value that a text means (RFC 8259; docs/RULES.md, "Texts"), or the error of its first fault.
+/// The value that a text means (RFC 8259; docs/RULES.md, "Texts"), or the error of its first fault, or `OutOfMemory` where memory was refused. A text with neither
+/// a string nor an array nor an object takes no memory.
 pub fn parse(alloc: Global, source: &str) -> Result<JsonValue>
     ensures value { IfOk result (IsMeaningOf usual (chars source.now)) }
     ensures error { IfErr result (IsErrorUnlessMemory usual (chars source.now)) }
-    ensures memory { result ≡ Err Error.OutOfMemory → Contains (chars source.now) 34 }
+    ensures memory { result ≡ Err Error.OutOfMemory → TakesMemory (chars source.now) }
 {
     read(alloc, source)
 }
@@ -31,45 +34,79 @@ pub fn parse(alloc: Global, source: &str) -> Result<JsonValue>
 /// The same, by the machine over values.
 fn read(alloc: Global, source: &str) -> Result<JsonValue>
     ensures outcome { Reads (chars source.now) result (from usual source.now (before no_frames) 0) }
-    ensures memory { result ≡ Err Error.OutOfMemory → Contains (chars source.now) 34 }
+    ensures memory { result ≡ Err Error.OutOfMemory → TakesMemory (chars source.now) }
 {
+    let mut stack = Vec::new(alloc);
     let mut buffer = String::new(alloc);
-    let start = skip_blank(source, 0);
-    let (value, end) = read_value(alloc, source, start, &mut buffer)?;
-    let end = skip_blank(source, end);
-    if end < source.len() {
-        return Err(fault_at(source, end));
+    let mut index = 0;
+    let mut value = None;
+    loop {
+        index = skip_blank(source, index);
+        match value {
+            None => {
+                let next = begin(alloc, source, index, &mut stack, &mut buffer)?;
+                value = next.0;
+                index = next.1;
+            }
+            Some(item) => match stack.pop() {
+                None => return finish(source, index, item),
+                Some(frame) => {
+                    let next = go_on(alloc, source, index, frame, item, &mut stack, &mut buffer)?;
+                    value = next.0;
+                    index = next.1;
+                }
+            },
+        }
+    }
+}
+
+/// The value of a text, of which the value is read and nothing may follow.
+fn finish(source: &str, index: usize, value: JsonValue) -> Result<JsonValue>
+    requires boundary { IsCharBoundary source.now index }
+    requires stop { index < length source.now → is_space usual.strict (slice_index source.now index) ≡ false }
+    ensures memory { result ≢ Err Error.OutOfMemory }
+    ensures same { Reads (chars source.now) result (from usual source.now (behind no_frames (view value)) index) }
+{
+    if index < source.len() {
+        return Err(fault_at(source, index));
     }
     Ok(value)
 }
 
-/// Whether the byte is whitespace: tab, newline, vertical tab, form feed, carriage return or blank.
-fn is_whitespace(byte: u8) -> bool
-    ensures { result ≡ is_space usual.strict byte }
+/// Reads the value that begins at this place, or opens the container that does. After an error what is on the stack has no meaning.
+fn begin(
+    alloc: Global,
+    source: &str,
+    index: usize,
+    stack: &mut Vec<Frame>,
+    buffer: &mut String,
+) -> Result<(Option<JsonValue>, usize)>
+    requires boundary { IsCharBoundary source.now index }
+    requires stop { index < length source.now → is_space usual.strict (slice_index source.now index) ≡ false }
+    requires room { vec_len stack.old ≤ usual.depth }
+    requires element { IsAtElement source.now index (stack_view stack.old.items) }
+    ensures bounds { IfOk result (λ r. (index < r.1) × IsCharBoundary source.now r.1) }
+    ensures room { OnOk result (vec_len stack.new ≤ usual.depth) }
+    ensures ready { IfOk result (λ r. IsReady source.now r.1 r.0 (stack_view stack.new.items)) }
+    ensures memory { result ≡ Err Error.OutOfMemory → TakesMemory (chars source.now) }
+    ensures opened { vec_len stack.old < vec_len stack.new → TakesMemory (chars source.now) }
+    ensures same { MatchResult result
+        (λ r. from usual source.now (before (stack_view stack.old.items)) index
+        ≡ from usual source.now (place_of r.0 (stack_view stack.new.items)) r.1)
+        (λ e. TellsUnlessMemory (chars source.now) e (from usual source.now (before (stack_view stack.old.items)) index)) }
 {
-    matches!(byte, 9..=13 | 32)
+    if has_byte(source, index, b'[') {
+        return open_array(alloc, source, index + 1, stack);
+    }
+    if has_byte(source, index, b'{') {
+        return open_object(alloc, source, index + 1, stack, buffer);
+    }
+    let (value, end) = read_scalar(alloc, source, index, buffer)?;
+    Ok((Some(value), end))
 }
 
-/// The place behind a blank.
-fn skip_blank(source: &str, start: usize) -> usize
-    requires { IsCharBoundary source.now start }
-    ensures boundary { IsCharBoundary source.now result }
-    ensures before { (fs : Frames) → from usual source.now (before fs) start ≡ from usual source.now (before fs) result }
-    ensures behind { (fs : Frames) (v : Value) → from usual source.now (behind fs v) start ≡ from usual source.now (behind fs v) result }
-    ensures stop { result < length source.now → is_space usual.strict (slice_index source.now result) ≡ false }
-{
-    start + blank_length(&source[start..])
-}
-
-/// How many whitespace bytes stand at the beginning.
-fn blank_length(text: &str) -> usize
-    ensures { result ≡ prefix_len (is_space usual.strict) text.now }
-{
-    text.bytes().take_while(|byte| is_whitespace(*byte)).count()
-}
-
-/// The literal, number or string that begins at `start`, and the place behind it. Escapes are read in the buffer.
-fn read_value(
+/// The value that begins at `start` and is no container, and the place behind it.
+fn read_scalar(
     alloc: Global,
     source: &str,
     start: usize,
@@ -77,11 +114,13 @@ fn read_value(
 ) -> Result<(JsonValue, usize)>
     requires boundary { IsCharBoundary source.now start }
     requires stop { start < length source.now → is_space usual.strict (slice_index source.now start) ≡ false }
-    ensures boundary { IfOk result (λ r. IsCharBoundary source.now r.1) }
-    ensures same { MatchResult result
-        (λ r. from usual source.now (before no_frames) start ≡ from usual source.now (behind no_frames (view r.0)) r.1)
-        (λ e. TellsUnlessMemory (chars source.now) e (from usual source.now (before no_frames) start)) }
-    ensures memory { result ≡ Err Error.OutOfMemory → Contains (chars source.now) 34 }
+    requires no_array { slice_index source.now start ≢ 91 }
+    requires no_object { slice_index source.now start ≢ 123 }
+    ensures bounds { IfOk result (λ r. (start < r.1) × IsCharBoundary source.now r.1) }
+    ensures memory { result ≡ Err Error.OutOfMemory → slice_index source.now start ≡ 34 }
+    ensures same { (fs : Frames) → value_mark usual fs ≡ None → (is_fresh fs ≡ true → slice_index source.now start ≢ 93) → MatchResult result
+        (λ r. from usual source.now (before fs) start ≡ from usual source.now (behind fs (view r.0)) r.1)
+        (λ e. TellsUnlessMemory (chars source.now) e (from usual source.now (before fs) start)) }
 {
     if start == source.len() {
         return Err(fault_at(source, start));
@@ -90,8 +129,8 @@ fn read_value(
         return read_magnitude(source, start, false);
     }
     match source.as_bytes()[start] {
-        b'"' => read_text(alloc, source, start + 1, buffer),
         b'-' => read_negative(source, start + 1),
+        b'"' => read_text(alloc, source, start + 1, buffer),
         b'n' => read_word(source, start + 1, b"ull", JsonValue::Null),
         b't' => read_word(source, start + 1, b"rue", JsonValue::Boolean(true)),
         b'f' => read_word(source, start + 1, b"alse", JsonValue::Boolean(false)),
@@ -99,7 +138,7 @@ fn read_value(
     }
 }
 
-/// The string whose opening quote stands before `start`, and the place behind it.
+/// The text that begins at `start`, behind its opening quote, as a value, and the place behind it.
 fn read_text(
     alloc: Global,
     source: &str,
@@ -107,7 +146,7 @@ fn read_text(
     buffer: &mut String,
 ) -> Result<(JsonValue, usize)>
     requires { IsCharBoundary source.now start }
-    ensures boundary { IfOk result (λ r. IsCharBoundary source.now r.1) }
+    ensures bounds { IfOk result (λ r. (start < r.1) × IsCharBoundary source.now r.1) }
     ensures same { (fs : Frames) → MatchResult result
         (λ r. from usual source.now (string (as_value fs) [] between) start ≡ from usual source.now (behind fs (view r.0)) r.1)
         (λ e. TellsUnlessMemory (chars source.now) e (from usual source.now (string (as_value fs) [] between) start)) }
@@ -120,7 +159,7 @@ fn read_text(
 /// The number whose minus stands before `start`, and the place behind it.
 fn read_negative(source: &str, start: usize) -> Result<(JsonValue, usize)>
     requires { IsCharBoundary source.now start }
-    ensures boundary { IfOk result (λ r. IsCharBoundary source.now r.1) }
+    ensures bounds { IfOk result (λ r. (start < r.1) × IsCharBoundary source.now r.1) }
     ensures same { (fs : Frames) → MatchResult result
         (λ r. from usual source.now (numeral fs true signed) start ≡ from usual source.now (behind fs (view r.0)) r.1)
         (λ e. Tells (chars source.now) e (from usual source.now (numeral fs true signed) start)) }
@@ -135,7 +174,7 @@ fn read_negative(source: &str, start: usize) -> Result<(JsonValue, usize)>
 fn read_magnitude(source: &str, start: usize, negative: bool) -> Result<(JsonValue, usize)>
     requires within { start < length source.now }
     requires digit { IsTrue (is_ascii_digit (slice_index source.now start)) }
-    ensures boundary { IfOk result (λ r. IsCharBoundary source.now r.1) }
+    ensures bounds { IfOk result (λ r. (start < r.1) × IsCharBoundary source.now r.1) }
     ensures same { (fs : Frames) → MatchResult result
         (λ r. from usual source.now (numeral fs negative (begun (slice_index source.now start == 48) (slice_index source.now start))) (start + 1)
         ≡ from usual source.now (behind fs (view r.0)) r.1)
@@ -155,7 +194,7 @@ fn read_word(
 ) -> Result<(JsonValue, usize)>
     requires boundary { IsCharBoundary source.now start }
     requires ascii { IsAscii letters.now }
-    ensures boundary { IfOk result (λ r. IsCharBoundary source.now r.1) }
+    ensures bounds { IfOk result (λ r. (start ≤ r.1) × IsCharBoundary source.now r.1) }
     ensures same { (fs : Frames) → MatchResult result
         (λ r. from usual source.now (past_letter fs (view value) letters.now) start ≡ from usual source.now (behind fs (view r.0)) r.1)
         (λ e. Tells (chars source.now) e (from usual source.now (past_letter fs (view value) letters.now) start)) }
@@ -168,7 +207,7 @@ fn read_word(
 fn read_letters(source: &str, start: usize, letters: &[u8]) -> Result<usize>
     requires boundary { IsCharBoundary source.now start }
     requires ascii { IsAscii letters.now }
-    ensures boundary { IfOk result (IsCharBoundary source.now) }
+    ensures bounds { IfOk result (λ end. (start ≤ end) × IsCharBoundary source.now end) }
     ensures same { (fs : Frames) (v : Value) → MatchResult result
         (λ end. from usual source.now (past_letter fs v letters.now) start ≡ from usual source.now (behind fs v) end)
         (λ e. Tells (chars source.now) e (from usual source.now (past_letter fs v letters.now) start)) }

@@ -1,6 +1,7 @@
-// Texts of literals and numbers: the parts and the compact text of what is read, and the kind and place of each error.
+// Texts of each kind: the parts and the compact text of what is read, and the kind and place of each error.
 use crate::{JsonValue, parse};
 use std::alloc::{AllocError, Global};
+use std::process::Abort;
 use std::test::Fail;
 
 /// `front`, this many times `repeated`, and `back`.
@@ -17,6 +18,29 @@ fn long_text(
     }
     text.push_str(back)?;
     Ok(text)
+}
+
+/// Texts one after the other, each so many times.
+fn joined_text(alloc: Global, parts: &[(&str, usize)]) -> Result<String, AllocError> {
+    let mut text = String::new(alloc);
+    for (part, count) in parts {
+        for _ in 0..*count {
+            text.push_str(part)?;
+        }
+    }
+    Ok(text)
+}
+
+/// The text is refused in these words.
+fn expect_refused(rt: &impl Abort, alloc: Global, text: &str, words: &str) -> Result<(), Fail> {
+    match parse(alloc, text) {
+        Ok(_) => assert!(rt; false, "{text} is read"),
+        Err(e) => {
+            let told = e.to_string(alloc)?;
+            assert_eq!(rt; told.as_str(), words, "{text}");
+        }
+    }
+    Ok(())
 }
 
 fn parts_of(value: &JsonValue) -> Option<(bool, u64, i16)> {
@@ -132,7 +156,7 @@ fn refuses_digits_past_the_limits(rt: HostRuntime) -> Result<(), Fail> {
 
 #[test]
 fn tells_where_a_text_ends_early_or_goes_wrong(rt: HostRuntime) -> Result<(), Fail> {
-    let rows: [(&str, &str); 16] = [
+    let rows: [(&str, &str); 15] = [
         ("", "Unexpected end of JSON"),
         ("  ", "Unexpected end of JSON"),
         ("-", "Unexpected end of JSON"),
@@ -148,23 +172,17 @@ fn tells_where_a_text_ends_early_or_goes_wrong(rt: HostRuntime) -> Result<(), Fa
         ("01", "Unexpected character: 1 at (1:2)"),
         ("-01", "Unexpected character: 1 at (1:3)"),
         ("1.e", "Unexpected character: e at (1:3)"),
-        ("1e+-", "Unexpected character: - at (1:4)"),
     ];
-    for (text, words) in &rows {
-        match parse(rt.alloc(), text) {
-            Ok(_) => assert!(rt; false, "{text} is read"),
-            Err(e) => {
-                let told = e.to_string(rt.alloc())?;
-                assert_eq!(rt; told.as_str(), *words, "{text}");
-            }
-        }
+    for (text, words) in rows {
+        expect_refused(&rt, rt.alloc(), text, words)?;
     }
     Ok(())
 }
 
 #[test]
 fn tells_the_first_wrong_character(rt: HostRuntime) -> Result<(), Fail> {
-    let rows: [(&str, &str); 17] = [
+    let rows: [(&str, &str); 16] = [
+        ("1e+-", "Unexpected character: - at (1:4)"),
         ("1ee", "Unexpected character: e at (1:3)"),
         ("1 2", "Unexpected character: 2 at (1:3)"),
         ("1.5.2", "Unexpected character: . at (1:4)"),
@@ -180,17 +198,9 @@ fn tells_the_first_wrong_character(rt: HostRuntime) -> Result<(), Fail> {
         ("\r\n}", "Unexpected character: } at (2:1)"),
         ("]", "Unexpected character: ] at (1:1)"),
         ("1,", "Unexpected character: , at (1:2)"),
-        ("[]", "Unexpected character: [ at (1:1)"),
-        ("{}", "Unexpected character: { at (1:1)"),
     ];
-    for (text, words) in &rows {
-        match parse(rt.alloc(), text) {
-            Ok(_) => assert!(rt; false, "{text} is read"),
-            Err(e) => {
-                let told = e.to_string(rt.alloc())?;
-                assert_eq!(rt; told.as_str(), *words, "{text}");
-            }
-        }
+    for (text, words) in rows {
+        expect_refused(&rt, rt.alloc(), text, words)?;
     }
     Ok(())
 }
@@ -213,14 +223,64 @@ fn tells_the_first_fault_of_a_string(rt: HostRuntime) -> Result<(), Fail> {
         ("\"\\u12G4\"", "Unexpected character: G at (1:6)"),
         ("\"é\" x", "Unexpected character: x at (1:5)"),
     ];
-    for (text, words) in &rows {
-        match parse(rt.alloc(), text) {
-            Ok(_) => assert!(rt; false, "{text} is read"),
-            Err(e) => {
-                let told = e.to_string(rt.alloc())?;
-                assert_eq!(rt; told.as_str(), *words, "{text}");
-            }
-        }
+    for (text, words) in rows {
+        expect_refused(&rt, rt.alloc(), text, words)?;
+    }
+    Ok(())
+}
+
+#[test]
+fn tells_the_first_fault_of_a_container(rt: HostRuntime) -> Result<(), Fail> {
+    let rows: [(&str, &str); 16] = [
+        ("[", "Unexpected end of JSON"),
+        ("{", "Unexpected end of JSON"),
+        ("[1", "Unexpected end of JSON"),
+        ("[1,", "Unexpected end of JSON"),
+        ("{\"a\"", "Unexpected end of JSON"),
+        ("{\"a\":", "Unexpected end of JSON"),
+        ("{\"a\":1", "Unexpected end of JSON"),
+        ("{\"a\":1,", "Unexpected end of JSON"),
+        ("[\n}", "Unexpected character: } at (2:1)"),
+        (
+            "\n  [\n    null,\n  ]  \n",
+            "Unexpected character: ] at (4:3)",
+        ),
+        ("[}", "Unexpected character: } at (1:2)"),
+        ("[,]", "Unexpected character: , at (1:2)"),
+        ("[1,]", "Unexpected character: ] at (1:4)"),
+        ("[1,,2]", "Unexpected character: , at (1:4)"),
+        ("[1 2]", "Unexpected character: 2 at (1:4)"),
+        ("[1]]", "Unexpected character: ] at (1:4)"),
+    ];
+    for (text, words) in rows {
+        expect_refused(&rt, rt.alloc(), text, words)?;
+    }
+    Ok(())
+}
+
+#[test]
+fn tells_the_first_fault_of_a_member(rt: HostRuntime) -> Result<(), Fail> {
+    let rows: [(&str, &str); 17] = [
+        ("[]1", "Unexpected character: 1 at (1:3)"),
+        ("[0x14]", "Unexpected character: x at (1:3)"),
+        ("['a']", "Unexpected character: ' at (1:2)"),
+        ("[+1]", "Unexpected character: + at (1:2)"),
+        ("[é]", "Unexpected character: é at (1:2)"),
+        ("[\"é\" x]", "Unexpected character: x at (1:6)"),
+        ("[\"\\uDC00\\uDC00\"}", "Failed to parse UTF-8 bytes"),
+        ("{]", "Unexpected character: ] at (1:2)"),
+        ("{,}", "Unexpected character: , at (1:2)"),
+        ("{1", "Unexpected character: 1 at (1:2)"),
+        ("{a:1}", "Unexpected character: a at (1:2)"),
+        ("{\"a\" 1}", "Unexpected character: 1 at (1:6)"),
+        ("{\"a\":}", "Unexpected character: } at (1:6)"),
+        ("{\"a\":1,}", "Unexpected character: } at (1:8)"),
+        ("{\"a\":1 \"b\"}", "Unexpected character: \" at (1:8)"),
+        ("{\"a\":[1}", "Unexpected character: } at (1:8)"),
+        ("{\"a\":1]", "Unexpected character: ] at (1:7)"),
+    ];
+    for (text, words) in rows {
+        expect_refused(&rt, rt.alloc(), text, words)?;
     }
     Ok(())
 }
@@ -299,6 +359,110 @@ fn reads_strings(rt: HostRuntime) -> Result<(), Fail> {
             _ => assert!(rt; false, "{text} is no string"),
         }
         assert_eq!(rt; value.dump(rt.alloc())?.as_str(), *dump, "{text}");
+    }
+    Ok(())
+}
+
+#[test]
+fn reads_arrays_and_objects(rt: HostRuntime) -> Result<(), Fail> {
+    let rows: [(&str, &str); 18] = [
+        ("[]", "[]"),
+        ("{}", "{}"),
+        (" [ \t] ", "[]"),
+        ("{\n}", "{}"),
+        ("[1,true,\"three\"]", "[1,true,\"three\"]"),
+        (" [ 1 , 2 ] ", "[1,2]"),
+        ("[[],[[]],{},[{}]]", "[[],[[]],{},[{}]]"),
+        ("[[1],2]", "[[1],2]"),
+        ("{ \"a\" : 1 , \"b\" : [ null ] }", "{\"a\":1,\"b\":[null]}"),
+        ("{\"a\":{\"b\":{\"c\":-0}}}", "{\"a\":{\"b\":{\"c\":-0}}}"),
+        ("{\"\":0}", "{\"\":0}"),
+        ("{\"\\n\":\"\\t\"}", "{\"\\n\":\"\\t\"}"),
+        (
+            "{ \"foo\": 0, \"bar\": 1, \"foo\": 2 }",
+            "{\"foo\":2,\"bar\":1}",
+        ),
+        ("{\"a\":{\"a\":1},\"a\":[]}", "{\"a\":[]}"),
+        ("{\"a\":1,\"\\u0061\":2}", "{\"a\":2}"),
+        (
+            "{\"b\":1,\"a\":2,\"b\":3,\"c\":4,\"b\":5}",
+            "{\"b\":5,\"a\":2,\"c\":4}",
+        ),
+        (
+            "{\"abcdefghijklmnopqrstuvwxyz0123456\":1,\"abcdefghijklmnopqrstuvwxyz0123456\":2}",
+            "{\"abcdefghijklmnopqrstuvwxyz0123456\":2}",
+        ),
+        (
+            "{\"x\\ty\":\"z\",\"w\":\"\\u0041\"}",
+            "{\"x\\ty\":\"z\",\"w\":\"A\"}",
+        ),
+    ];
+    for (text, dump) in &rows {
+        let value = parse(rt.alloc(), text)?;
+        assert_eq!(rt; value.dump(rt.alloc())?.as_str(), *dump, "{text}");
+    }
+    Ok(())
+}
+
+#[test]
+fn reads_512_open_containers(rt: HostRuntime) -> Result<(), Fail> {
+    // what opens and closes so many times, the value inside, and its dump
+    let rows: [(&str, &str, usize, &str, &str); 5] = [
+        ("[", "]", 512, "null", "null"),
+        ("[{\"a\":", "}]", 256, "null", "null"),
+        ("[", "]", 512, "[]", "[]"),
+        ("[", "]", 512, "[ ]", "[]"),
+        ("{\"a\":", "}", 512, "{ }", "{}"),
+    ];
+    for (open, close, count, inside, dump) in &rows {
+        let text = joined_text(
+            rt.alloc(),
+            &[(*open, *count), (*inside, 1), (*close, *count)],
+        )?;
+        let value = parse(rt.alloc(), text.as_str())?;
+        let expected = joined_text(rt.alloc(), &[(*open, *count), (*dump, 1), (*close, *count)])?;
+        assert_eq!(rt;
+            value.dump(rt.alloc())?.as_str(),
+            expected.as_str(),
+            "{open}, {inside}"
+        );
+    }
+    Ok(())
+}
+
+#[test]
+fn refuses_another_open_container(rt: HostRuntime) -> Result<(), Fail> {
+    let rows: [([(&str, usize); 3], &str); 11] = [
+        (
+            [("[", 513), ("null", 1), ("]", 513)],
+            "Exceeded depth limit",
+        ),
+        (
+            [("[{\"a\":", 5000), ("null", 1), ("}]", 5000)],
+            "Exceeded depth limit",
+        ),
+        (
+            [("[", 512), ("{\"a\":1}", 1), ("]", 512)],
+            "Exceeded depth limit",
+        ),
+        (
+            [("{\"a\":", 512), ("[1]", 1), ("}", 512)],
+            "Exceeded depth limit",
+        ),
+        ([("[", 513), ("}", 1), ("", 0)], "Exceeded depth limit"),
+        ([("[", 513), ("x", 1), ("", 0)], "Exceeded depth limit"),
+        ([("[", 100000), ("", 0), ("", 0)], "Exceeded depth limit"),
+        ([("[", 512), ("{1", 1), ("", 0)], "Exceeded depth limit"),
+        ([("[", 513), ("", 0), ("", 0)], "Unexpected end of JSON"),
+        ([("[", 512), ("{ ", 1), ("", 0)], "Unexpected end of JSON"),
+        (
+            [("[", 512), ("x", 1), ("", 0)],
+            "Unexpected character: x at (1:513)",
+        ),
+    ];
+    for (parts, words) in &rows {
+        let text = joined_text(rt.alloc(), parts)?;
+        expect_refused(&rt, rt.alloc(), text.as_str(), words)?;
     }
     Ok(())
 }

@@ -1,7 +1,15 @@
+pub mod Indexes
 pub mod Kept
+pub mod Lists
+pub mod PairPlaces
+pub mod Positions
 pub mod Powers
 pub mod PrintedRows
 pub mod ReadRows
 pub mod SameRows
 pub mod Scaled
 pub mod Written
+pub mod Walks
+pub mod Trees
+pub mod Search
+pub mod Zips

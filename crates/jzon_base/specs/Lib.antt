@@ -2,9 +2,15 @@ pub mod Decimal
 pub mod DigitLimits
 pub mod Digits
 pub mod ErrorText
+pub mod Hash
+pub mod IterMut
+pub mod Key
+pub mod Keys
 pub mod NumberFields
 pub mod NumberText
 pub mod PairList
 pub mod PlainBytes
 pub mod Same
 pub mod Written
+pub mod Places
+pub mod formers

@@ -1,2 +1,6 @@
+pub mod Compared
+pub mod Dumps
 pub mod Plain
+pub mod PairKeys
 mod Rows
+pub mod Views

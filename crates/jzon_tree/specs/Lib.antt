@@ -4,4 +4,6 @@ pub mod SameLaws
 pub mod Text
 pub mod Writing
 pub mod Lawful
+pub mod Entries
+pub mod IntoIter
 pub mod View

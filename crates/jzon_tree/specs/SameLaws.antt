@@ -15,7 +15,7 @@ use Rattle.jzon_tree.specs.Same.{same, same_items, same_under, has_keys_within, 
 -- ---- what a look-up finds
 
 -- the value at a key
-abbrev at : List ℕ → Pairs → Option Value
+abbrev pub at : List ℕ → Pairs → Option Value
 at k ps = find k (list_of_pairs ps)
 
 -- of each value of the pairs
@@ -101,12 +101,12 @@ under-intro seen (pair l w ps) qs h =
     h k v (at-past l k w ps apart.0 ∙ e) apart.1))
 
 -- ---- equal objects, by look-ups: at each key both have equal values, or neither has one
-abbrev same_at : Option Value → Option Value → Bool
+abbrev pub same_at : Option Value → Option Value → Bool
 same_at None None = true
 same_at None (Some w) = false
 same_at (Some v) p = passes (same v) p
 
-abbrev SameAtEach : Pairs → Pairs → Type 0
+abbrev pub SameAtEach : Pairs → Pairs → Type 0
 SameAtEach ps qs = (k : List ℕ) → same_at (at k ps) (at k qs) ≡ true
 
 same_at-from : (o p : Option Value) → ((v : Value) → o ≡ Some v → passes (same v) p ≡ true) → ((w : Value) → p ≡ Some w → is_some o ≡ true) → same_at o p ≡ true
@@ -123,12 +123,12 @@ same_at-there None None w h e = absurd (none-some w e)
 same_at-there None (Some x) w h e = h
 same_at-there (Some v) p w h e = refl
 
-object-elim : (ps qs : Pairs) → same (object ps) (object qs) ≡ true → SameAtEach ps qs
+pub object-elim : (ps qs : Pairs) → same (object ps) (object qs) ≡ true → SameAtEach ps qs
 object-elim ps qs h k =
     let both = and_parts (same_under [] ps qs) (has_keys_within qs ps) h in
     same_at-from (at k ps) (at k qs) (λ v e. under-elim [] ps qs both.0 k v e refl) (λ w e. within-elim qs ps both.1 k w e)
 
-object-intro : (ps qs : Pairs) → SameAtEach ps qs → same (object ps) (object qs) ≡ true
+pub object-intro : (ps qs : Pairs) → SameAtEach ps qs → same (object ps) (object qs) ≡ true
 object-intro ps qs h =
     and_from _ _ (under-intro [] ps qs (λ k v e unseen. same_at-passes (at k ps) (at k qs) v (h k) e))
     (within-intro qs ps (λ k w e. same_at-there (at k ps) (at k qs) w (h k) e))

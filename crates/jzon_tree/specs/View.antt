@@ -1,12 +1,37 @@
 -- The value that a `JsonValue` is.
-use Rattle.std.specs.Prelude.{string_bytes}
-use Rattle.jzon_tree.specs.Value.{Value, null, boolean, number, text, short, long}
-use Rattle.jzon_tree.specs.declared.value.JsonValue.{JsonValue}
-use Rattle.jzon_tree.specs.declared.value.JsonValue.TheVariants.{Null, Short, String, Number, Boolean}
+use Rattle.std.specs.Prelude.{ℕ, List, map, string_bytes}
+use Rattle.jzon_tree.specs.Value.{Value, Values, Pairs, null, boolean, number, text, array, object, short, long, values_of, pairs_of}
+use Rattle.jzon_tree.specs.Entries.{entries_of}
+use Rattle.jzon_tree.specs.declared.object.Object.{Object, fold-Object}
+use Rattle.jzon_tree.specs.declared.value.JsonValue.{JsonValue, fold-JsonValue}
+use Rattle.jzon_tree.specs.declared.value.JsonValue.TheOpen.{JsonValue-F, Object-F}
+
+-- one level, with each value inside already seen
+abbrev pub value_step : JsonValue-F Value Pairs → Value
+value_step JsonValue-F.Null = null
+value_step (JsonValue-F.Short s) = text short s
+value_step (JsonValue-F.String s) = text long (string_bytes s)
+value_step (JsonValue-F.Number n) = number n
+value_step (JsonValue-F.Boolean b) = boolean b
+value_step (JsonValue-F.Object ps) = object ps
+value_step (JsonValue-F.Array vs) = array (values_of vs.items)
+
+abbrev pub object_step : Object-F Value Pairs → Pairs
+object_step o = pairs_of o.pairs
 
 abbrev pub view : JsonValue → Value
-view Null = null
-view (Short s) = text short s
-view (String s) = text long (string_bytes s)
-view (Number n) = number n
-view (Boolean b) = boolean b
+view = fold-JsonValue Value Pairs value_step object_step
+
+-- values and pairs, each seen so
+abbrev pub view_values : List JsonValue → Values
+view_values vs = values_of (map view vs)
+
+abbrev pub viewed : List (List ℕ × JsonValue) → List (List ℕ × Value)
+viewed ps = map (λ p. (p.0, view p.1)) ps
+
+abbrev pub view_pairs : List (List ℕ × JsonValue) → Pairs
+view_pairs ps = pairs_of (viewed ps)
+
+-- the value that an `Object` is
+abbrev pub view_object : Object → Value
+view_object o = object (view_pairs (entries_of o))

@@ -1,18 +1,22 @@
 //! The text of values. Each function takes the text that stands before, and gives it back with its own part at the end; where memory is refused, it is dropped.
 
-ghost use Rattle.std.specs.Prelude.{◌≡◌, ◌<◌, ◌++◌, false, IfOk, IsOkUnless, string_bytes};
+ghost use Rattle.std.specs.Prelude.{◌≡◌, ◌<◌, ◌++◌, ◌∷◌, codes, false, IfOk, IsOkUnless, string_bytes};
 ghost use Rattle.std.specs.Char.{digit_char};
 ghost use Rattle.jzon_base.specs.NumberText.{written_text};
 ghost use Rattle.jzon_base.specs.PlainBytes.{is_plain};
 ghost use Rattle.jzon_tree.specs.Text.{compact, quoted, escaped_byte};
-ghost use Rattle.jzon_tree.specs.View.{view};
+ghost use Rattle.jzon_tree.specs.Value.{array};
+ghost use Rattle.jzon_tree.specs.View.{view, view_object, view_values};
 
+use crate::object::Object;
 use crate::value::JsonValue;
 use jzon_base::error::{Error, Result};
 use jzon_base::number::Number;
 use jzon_base::util::plain::plain_len;
 
 /// Adds the compact text of the value.
+#[cycle(add_value)]
+#[tactic(auto, using(crate::proofs::Views::views))]
 pub(crate) fn add_value(mut text: String, value: &JsonValue) -> Result<String>
     ensures added { IfOk result
         (λ added. string_bytes added ≡ string_bytes text ++ compact (view value.now)) }
@@ -25,7 +29,65 @@ pub(crate) fn add_value(mut text: String, value: &JsonValue) -> Result<String>
         JsonValue::Number(number) => return add_number(text, number),
         JsonValue::Boolean(true) => text.push_str("true")?,
         JsonValue::Boolean(false) => text.push_str("false")?,
+        JsonValue::Object(object) => return add_object(text, object),
+        JsonValue::Array(items) => return add_array(text, items),
     }
+    Ok(text)
+}
+
+// Adds the values in brackets.
+#[cycle(add_value)]
+fn add_array(mut text: String, items: &[JsonValue]) -> Result<String>
+    ensures added { IfOk result
+        (λ added. string_bytes added ≡ string_bytes text ++ compact (array (view_values items.now))) }
+    ensures memory { IsOkUnless result Error.OutOfMemory }
+{
+    let Some((first, others)) = items.split_first() else {
+        text.push_str("[]")?;
+        return Ok(text);
+    };
+    text.push('[')?;
+    text = add_value(text, first)?;
+    for item in others {
+        text.push(',')?;
+        text = add_value(text, item)?;
+    }
+    text.push(']')?;
+    Ok(text)
+}
+
+/// Adds the compact text of the object.
+#[cycle(add_value)]
+pub(crate) fn add_object(mut text: String, object: &Object) -> Result<String>
+    ensures added { IfOk result
+        (λ added. string_bytes added ≡ string_bytes text ++ compact (view_object object.now)) }
+    ensures memory { IsOkUnless result Error.OutOfMemory }
+{
+    let mut pairs = object.iter();
+    let Some((key, value)) = pairs.next() else {
+        text.push_str("{}")?;
+        return Ok(text);
+    };
+    text = add_key(text, '{', key)?;
+    text = add_value(text, value)?;
+    for (key, value) in pairs {
+        text = add_key(text, ',', key)?;
+        text = add_value(text, value)?;
+    }
+    text.push('}')?;
+    Ok(text)
+}
+
+// Adds what stands before a key, the key, and its colon.
+fn add_key(mut text: String, before: char, key: &str) -> Result<String>
+    requires { before < 128 }
+    ensures added { IfOk result
+        (λ added. string_bytes added ≡ string_bytes text ++ before ∷ (quoted key.now ++ codes ":")) }
+    ensures memory { IsOkUnless result Error.OutOfMemory }
+{
+    text.push(before)?;
+    text = add_string(text, key)?;
+    text.push(':')?;
     Ok(text)
 }
 

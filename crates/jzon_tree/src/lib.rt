@@ -1,4 +1,7 @@
 #![tactic(auto)]
 
+mod clone;
 mod codegen;
+mod equal;
+pub mod object;
 pub mod value;

@@ -1,11 +1,11 @@
 //! JSON values.
 
 ghost use Rattle.std.specs.Prelude.{◌≡◌, IfOk, IsOkUnless, string_bytes};
-ghost use Rattle.jzon_tree.specs.Same.{same};
 ghost use Rattle.jzon_tree.specs.Text.{compact};
 ghost use Rattle.jzon_tree.specs.View.{view};
 
 use crate::codegen;
+use crate::object::Object;
 use jzon_base::error::{Error, Result};
 use jzon_base::number::Number;
 use jzon_base::short::Short;
@@ -14,6 +14,7 @@ use std::alloc::Global;
 /// A JSON value (RFC 8259, section 3).
 ///
 /// Two values are equal where they mean the same: a `Short` and a `String` of the same text are, and so are numbers that are the same decimal. NaN equals NaN.
+#[cycle(json)]
 #[derive(Debug, Drop)]
 pub enum JsonValue {
     /// `null`.
@@ -26,6 +27,10 @@ pub enum JsonValue {
     Number(Number),
     /// `true` or `false`.
     Boolean(bool),
+    /// Pairs of a key and a value.
+    Object(Object),
+    /// Values in their order.
+    Array(Vec<JsonValue>),
 }
 
 impl JsonValue {
@@ -36,35 +41,6 @@ impl JsonValue {
     {
         codegen::add_value(String::new(alloc), self)
     }
-}
-
-impl PartialEq for JsonValue {
-    ghost use Rattle.std.specs.Cmp.{on_per, partial_equiv_from_equiv};
-    ghost use Rattle.jzon_tree.specs.SameLaws.{same_equiv};
-
-    ghost eq = { λ v w. same (view v) (view w) };
-
-    ghost laws = { on_per view (partial_equiv_from_equiv same_equiv) };
-
-    fn eq(&self, other: &JsonValue) -> bool {
-        match (self, other) {
-            (JsonValue::Null, JsonValue::Null) => true,
-            (JsonValue::Short(text), JsonValue::Short(other)) => text == other,
-            (JsonValue::Short(text), JsonValue::String(other)) => text.eq_str(other),
-            (JsonValue::String(text), JsonValue::Short(other)) => other.eq_str(text),
-            (JsonValue::String(text), JsonValue::String(other)) => text == other,
-            (JsonValue::Number(number), JsonValue::Number(other)) => number == other,
-            (JsonValue::Boolean(truth), JsonValue::Boolean(other)) => truth == other,
-            _ => false,
-        }
-    }
-}
-
-impl Eq for JsonValue {
-    ghost use Rattle.std.specs.Cmp.{on_equiv};
-    ghost use Rattle.jzon_tree.specs.SameLaws.{same_equiv};
-
-    ghost laws = { on_equiv view same_equiv };
 }
 
 #[cfg(test)]

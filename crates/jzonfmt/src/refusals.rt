@@ -3,6 +3,7 @@
 
 use crate::engine;
 use crate::engine::{Layout, RunFault};
+use jzon::object::Object;
 use jzon::short::Short;
 use jzon::{Error, JsonValue};
 use std::alloc::Global;
@@ -66,13 +67,22 @@ fn is_granted(alloc: Global, size: usize) -> bool {
     block.is_ok()
 }
 
+/// A document with something of each kind.
+const DOCUMENT: &str = "{\"a\":[1,-0.5e+2,\"x\\u00e9\\uD834\\uDD1E\"],\"b\":null}";
+
+const PRINTED: &str = "{\"a\":[1,-50,\"xé\u{1d11e}\"],\"b\":null}";
+
+/// One with a key and a text that are too long to lie in place.
+const LONG_DOCUMENT: &str =
+    "{\"0123456789abcdef0123456789abcdef!\":[{\"b\":\"a text of more than thirty bytes\"},[true,{}]]}";
+
 #[test]
 fn run_under_refusals(rt: HostRuntime) -> Result<(), Fail> {
     let alloc = rt.alloc();
     let mut refusals = Refusals::new(alloc);
     for _ in 0..MOST {
-        let mut reader: &[u8] = b"-12.50e3";
-        let mut writer: Vec<u8> = Vec::with_capacity(alloc, 64)?;
+        let mut reader = DOCUMENT.as_bytes();
+        let mut writer: Vec<u8> = Vec::with_capacity(alloc, 256)?;
         refusals.begin();
         let result = engine::run(alloc, &mut reader, &mut writer, Layout::Compact);
         if refusals.was_refused() {
@@ -80,11 +90,11 @@ fn run_under_refusals(rt: HostRuntime) -> Result<(), Fail> {
             assert!(rt; writer.is_empty());
         } else {
             assert!(rt; result.is_ok());
-            assert_eq!(rt; writer.as_slice(), b"-12500\n".as_slice());
+            assert_eq!(rt; str::from_utf8(&writer)?.strip_suffix('\n'), Some(PRINTED));
             break;
         }
     }
-    refusals.tell(&rt, "run_under_refusals", 3);
+    refusals.tell(&rt, "run_under_refusals", 9);
     Ok(())
 }
 
@@ -137,6 +147,92 @@ fn parse_under_refusals(rt: HostRuntime) -> Result<(), Fail> {
         }
     }
     refusals.tell(&rt, "parse_under_refusals", 2);
+    Ok(())
+}
+
+#[test]
+fn parse_of_containers_under_refusals(rt: HostRuntime) -> Result<(), Fail> {
+    let alloc = rt.alloc();
+    let mut refusals = Refusals::new(alloc);
+    for _ in 0..MOST {
+        refusals.begin();
+        let result = jzon::parse(alloc, DOCUMENT);
+        if refusals.was_refused() {
+            assert!(rt; matches!(result, Err(Error::OutOfMemory)));
+        } else {
+            assert_eq!(rt; result?.dump(alloc)?.as_str(), PRINTED);
+            break;
+        }
+    }
+    refusals.tell(&rt, "parse_of_containers_under_refusals", 6);
+    Ok(())
+}
+
+#[test]
+fn clone_under_refusals(rt: HostRuntime) -> Result<(), Fail> {
+    let alloc = rt.alloc();
+    let mut refusals = Refusals::new(alloc);
+    let value = jzon::parse(alloc, LONG_DOCUMENT)?;
+    for _ in 0..MOST {
+        refusals.begin();
+        let result = value.clone(alloc);
+        if refusals.was_refused() {
+            assert!(rt; matches!(result, Err(Error::OutOfMemory)));
+        } else {
+            assert_eq!(rt; result?.dump(alloc)?.as_str(), LONG_DOCUMENT);
+            break;
+        }
+        assert_eq!(rt; value, jzon::parse(alloc, LONG_DOCUMENT)?);
+    }
+    refusals.tell(&rt, "clone_under_refusals", 7);
+    Ok(())
+}
+
+#[test]
+fn with_capacity_under_refusals(rt: HostRuntime) -> Result<(), Fail> {
+    let alloc = rt.alloc();
+    let mut refusals = Refusals::new(alloc);
+    for _ in 0..MOST {
+        refusals.begin();
+        let result = Object::with_capacity(alloc, 3);
+        if refusals.was_refused() {
+            assert!(rt; matches!(result, Err(Error::OutOfMemory)));
+        } else {
+            assert!(rt; result?.is_empty());
+            break;
+        }
+    }
+    refusals.tell(&rt, "with_capacity_under_refusals", 2);
+    Ok(())
+}
+
+// The key has 40 bytes, so that it takes memory of its own.
+#[test]
+fn insert_under_refusals(rt: HostRuntime) -> Result<(), Fail> {
+    let alloc = rt.alloc();
+    let mut refusals = Refusals::new(alloc);
+    for _ in 0..MOST {
+        let mut object = Object::with_capacity(alloc, 1)?;
+        object.insert(alloc, "a", JsonValue::Null)?;
+        refusals.begin();
+        let result = object.insert(
+            alloc,
+            "0123456789abcdef0123456789abcdef01234567",
+            JsonValue::Boolean(true),
+        );
+        if refusals.was_refused() {
+            assert!(rt; matches!(result, Err(Error::OutOfMemory)));
+            assert_eq!(rt; object.dump(alloc)?.as_str(), "{\"a\":null}");
+        } else {
+            result?;
+            assert_eq!(rt;
+                object.dump(alloc)?.as_str(),
+                "{\"a\":null,\"0123456789abcdef0123456789abcdef01234567\":true}"
+            );
+            break;
+        }
+    }
+    refusals.tell(&rt, "insert_under_refusals", 3);
     Ok(())
 }
 

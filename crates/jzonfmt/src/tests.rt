@@ -3,14 +3,21 @@ ghost use Rattle.std.specs.Prelude.{Some};
 
 use crate::engine;
 use crate::engine::{Layout, RunFault};
+use jzon::Error;
 use std::alloc::Global;
 use std::io;
 use std::io::{ErrorKind, Read, Write};
+use std::process::Abort;
 use std::test::Fail;
 
 const TEXT: &[u8] = b"-12.50e3";
 
 const PRINTED: &[u8] = b"-12500\n";
+
+/// A document with something of each kind.
+const DOCUMENT: &[u8] = b"{\"a\":[1,-0.5e+2,\"x\\u00e9\\uD834\\uDD1E\"],\"b\":null}";
+
+const PRINTED_DOCUMENT: &str = "{\"a\":[1,-50,\"xé\u{1d11e}\"],\"b\":null}\n";
 
 /// Gives one byte a call, and fails at one call.
 #[derive(Drop)]
@@ -159,6 +166,22 @@ fn words_of(alloc: Global, words: Option<&'static str>) -> Result<Vec<String>, F
     Ok(all)
 }
 
+/// What the program answers to the row's words and input is the row's.
+fn expect_row(rt: &impl Abort, alloc: Global, row: &Row) -> Result<(), Fail> {
+    let words = words_of(alloc, row.words)?;
+    let mut reader = row.input;
+    let mut writer: Vec<u8> = Vec::new(alloc);
+    let mut faults: Vec<u8> = Vec::new(alloc);
+    let status = engine::drive(alloc, &words, &mut reader, &mut writer, &mut faults);
+    assert_eq!(rt; str::from_utf8(&faults)?, row.faults);
+    assert_eq!(rt; status, row.status);
+    assert_eq!(rt; str::from_utf8(&writer)?, row.output);
+    // Words are judged before anything is read.
+    let left = if row.status == 2 { row.input.len() } else { 0 };
+    assert_eq!(rt; reader.len(), left);
+    Ok(())
+}
+
 #[test]
 fn lines_and_statuses(rt: HostRuntime) -> Result<(), Fail> {
     let alloc = rt.alloc();
@@ -183,17 +206,160 @@ fn lines_and_statuses(rt: HostRuntime) -> Result<(), Fail> {
         misused("--strict"),
     ];
     for row in &rows {
-        let words = words_of(alloc, row.words)?;
-        let mut reader = row.input;
+        expect_row(&rt, alloc, row)?;
+    }
+    Ok(())
+}
+
+#[test]
+fn prints_documents(rt: HostRuntime) -> Result<(), Fail> {
+    let rows = [
+        done(b" [ ] ", "[]\n"),
+        done(b"{\n}\n", "{}\n"),
+        done(
+            b"[1,[2,{\"b\":[]}],\"three\"]",
+            "[1,[2,{\"b\":[]}],\"three\"]\n",
+        ),
+        done(
+            b"{ \"foo\": 0, \"bar\": 1, \"foo\": 2 }",
+            "{\"foo\":2,\"bar\":1}\n",
+        ),
+        done(b"{\"a\":{\"a\":1},\"a\":[]}", "{\"a\":[]}\n"),
+        done(DOCUMENT, PRINTED_DOCUMENT),
+    ];
+    for row in &rows {
+        expect_row(&rt, rt.alloc(), row)?;
+    }
+    Ok(())
+}
+
+#[test]
+fn tells_the_first_fault_of_a_document(rt: HostRuntime) -> Result<(), Fail> {
+    let rows = [
+        refused(b"{a:1}", "jzonfmt: Unexpected character: a at (1:2)\n"),
+        refused(b"[1,,2]", "jzonfmt: Unexpected character: , at (1:4)\n"),
+        refused(b"[1]]", "jzonfmt: Unexpected character: ] at (1:4)\n"),
+        refused(b"[0x14]", "jzonfmt: Unexpected character: x at (1:3)\n"),
+        refused(b"['a']", "jzonfmt: Unexpected character: ' at (1:2)\n"),
+        refused(b"[+1]", "jzonfmt: Unexpected character: + at (1:2)\n"),
+        refused(b"[1,]", "jzonfmt: Unexpected character: ] at (1:4)\n"),
+        refused(b"{\"a\":1,}", "jzonfmt: Unexpected character: } at (1:8)\n"),
+        refused(b"{1", "jzonfmt: Unexpected character: 1 at (1:2)\n"),
+        refused(b"{\"a\" 1}", "jzonfmt: Unexpected character: 1 at (1:6)\n"),
+        refused(
+            b"[\"\xc3\xa9\" x]",
+            "jzonfmt: Unexpected character: x at (1:6)\n",
+        ),
+        refused(b"[\n}", "jzonfmt: Unexpected character: } at (2:1)\n"),
+        refused(
+            b"\n\nnul\xf0\x9f\xa6\x84\n",
+            "jzonfmt: Unexpected character: 🦄 at (3:4)\n",
+        ),
+        refused(b"\r}", "jzonfmt: Unexpected character: } at (1:2)\n"),
+        refused(b"\r\n}", "jzonfmt: Unexpected character: } at (2:1)\n"),
+        refused(
+            b"\n  [\n    null,\n  ]  \n",
+            "jzonfmt: Unexpected character: ] at (4:3)\n",
+        ),
+        refused(
+            b"[\"\\uDC00\\uDC00\"}",
+            "jzonfmt: Failed to parse UTF-8 bytes\n",
+        ),
+    ];
+    for row in &rows {
+        expect_row(&rt, rt.alloc(), row)?;
+    }
+    Ok(())
+}
+
+#[test]
+fn every_front_of_a_document_ends_early(rt: HostRuntime) -> Result<(), Fail> {
+    assert_eq!(rt; DOCUMENT.len(), 48);
+    for length in 0..DOCUMENT.len() {
+        let mut reader = &DOCUMENT[..length];
+        let mut writer: Vec<u8> = Vec::new(rt.alloc());
+        let result = engine::run(rt.alloc(), &mut reader, &mut writer, Layout::Compact);
+        assert!(rt;
+            matches!(result, Err(RunFault::Json(Error::UnexpectedEndOfJson))),
+            "{length} bytes"
+        );
+        assert!(rt; writer.is_empty());
+    }
+    Ok(())
+}
+
+/// Texts one after the other, each so many times.
+fn joined(alloc: Global, parts: &[(&str, usize)]) -> Result<String, Fail> {
+    let mut text = String::new(alloc);
+    for (part, count) in parts {
+        for _ in 0..*count {
+            text.push_str(part)?;
+        }
+    }
+    Ok(text)
+}
+
+#[test]
+fn prints_512_open_containers(rt: HostRuntime) -> Result<(), Fail> {
+    let alloc = rt.alloc();
+    let rows: [([(&str, usize); 3], [(&str, usize); 3]); 3] = [
+        (
+            [("[{\"a\":", 256), ("null", 1), ("}]", 256)],
+            [("[{\"a\":", 256), ("null", 1), ("}]", 256)],
+        ),
+        (
+            [("[", 513), (" ", 1), ("]", 513)],
+            [("[", 513), ("", 0), ("]", 513)],
+        ),
+        (
+            [("[", 512), ("{}", 1), ("]", 512)],
+            [("[", 512), ("{}", 1), ("]", 512)],
+        ),
+    ];
+    for (text, printed) in &rows {
+        let text = joined(alloc, text)?;
+        let mut reader = text.as_bytes();
+        let mut writer: Vec<u8> = Vec::new(alloc);
+        assert!(rt; engine::run(alloc, &mut reader, &mut writer, Layout::Compact).is_ok());
+        let mut wanted = joined(alloc, printed)?;
+        wanted.push('\n')?;
+        assert_eq!(rt; str::from_utf8(&writer)?, wanted.as_str());
+    }
+    Ok(())
+}
+
+#[test]
+fn refuses_another_open_container(rt: HostRuntime) -> Result<(), Fail> {
+    let alloc = rt.alloc();
+    let rows: [([(&str, usize); 3], &str); 8] = [
+        (
+            [("[{\"a\":", 5000), ("null", 1), ("}]", 5000)],
+            "Exceeded depth limit",
+        ),
+        ([("[", 100000), ("", 0), ("", 0)], "Exceeded depth limit"),
+        ([("[", 513), ("}", 1), ("", 0)], "Exceeded depth limit"),
+        ([("[", 513), ("x", 1), ("", 0)], "Exceeded depth limit"),
+        ([("[", 512), ("{1", 1), ("", 0)], "Exceeded depth limit"),
+        (
+            [("[", 512), ("{\"a\":1}", 1), ("]", 512)],
+            "Exceeded depth limit",
+        ),
+        ([("[", 513), ("", 0), ("", 0)], "Unexpected end of JSON"),
+        (
+            [("[", 512), ("x", 1), ("", 0)],
+            "Unexpected character: x at (1:513)",
+        ),
+    ];
+    for (text, words) in &rows {
+        let text = joined(alloc, text)?;
+        let mut reader = text.as_bytes();
         let mut writer: Vec<u8> = Vec::new(alloc);
         let mut faults: Vec<u8> = Vec::new(alloc);
-        let status = engine::drive(alloc, &words, &mut reader, &mut writer, &mut faults);
-        assert_eq!(rt; str::from_utf8(&faults)?, row.faults);
-        assert_eq!(rt; status, row.status);
-        assert_eq!(rt; str::from_utf8(&writer)?, row.output);
-        // Words are judged before anything is read.
-        let left = if row.status == 2 { row.input.len() } else { 0 };
-        assert_eq!(rt; reader.len(), left);
+        let status = engine::drive(alloc, &[], &mut reader, &mut writer, &mut faults);
+        assert_eq!(rt; status, 1);
+        let line = format!(in alloc; "jzonfmt: {words}\n")?;
+        assert_eq!(rt; str::from_utf8(&faults)?, line.as_str());
+        assert!(rt; writer.is_empty());
     }
     Ok(())
 }

@@ -89,3 +89,37 @@ fn equals(rt: HostRuntime) -> std::result::Result<(), Fail> {
     }
     Ok(())
 }
+
+// `[[],{},[null,{"a":"b"}],true]`
+fn nested(alloc: Global) -> Result<JsonValue> {
+    let mut object = Object::new(alloc);
+    object.insert(alloc, "a", short("b"))?;
+    let mut inner = Vec::new(alloc);
+    inner.push(JsonValue::Null)?;
+    inner.push(JsonValue::Object(object))?;
+    let mut items = Vec::new(alloc);
+    items.push(JsonValue::Array(Vec::new(alloc)))?;
+    items.push(JsonValue::Object(Object::new(alloc)))?;
+    items.push(JsonValue::Array(inner))?;
+    items.push(JsonValue::Boolean(true))?;
+    Ok(JsonValue::Array(items))
+}
+
+#[test]
+fn dumps_containers(rt: HostRuntime) -> std::result::Result<(), Fail> {
+    let alloc = rt.alloc();
+    let value = nested(alloc)?;
+    assert_eq!(rt;
+        value.dump(alloc)?.as_str(),
+        "[[],{},[null,{\"a\":\"b\"}],true]"
+    );
+    let copy = value.clone(alloc)?;
+    assert!(rt; copy == value);
+    assert_eq!(rt;
+        copy.dump(alloc)?.as_str(),
+        "[[],{},[null,{\"a\":\"b\"}],true]"
+    );
+    assert!(rt; value != JsonValue::Array(Vec::new(alloc)));
+    assert!(rt; JsonValue::Array(Vec::new(alloc)) != JsonValue::Object(Object::new(alloc)));
+    Ok(())
+}

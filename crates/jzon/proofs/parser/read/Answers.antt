@@ -1,32 +1,17 @@
-use Rattle.std.proofs.Common.{◌≡◌, inr, ◌∙◌, sym, subst}
-use Rattle.std.specs.Prelude.{chars}
+use Rattle.std.proofs.Common.{◌≡◌, ◌∙◌, [], true, false, sym, ap, arith}
+use Rattle.std.proofs.lemmas.Bool.{true≢false}
 use Rattle.std.proofs.lemmas.Str.{IsCharBoundary-start}
-use Rattle.jzon_base.specs.declared.error.Error.TheVariants.{OutOfMemory}
-use Rattle.jzon_tree.specs.View.{view}
+use Rattle.jzon.specs.Frames.{stack_view}
+use Rattle.jzon.specs.Machine.{Frames, no_frames, is_fresh, before, from}
 use Rattle.jzon.specs.Reading.{usual}
-use Rattle.jzon.specs.Machine.{no_frames, behind, Tells}
-use Rattle.jzon.proofs.Steps.{from_end, fault_no_memory}
-use Rattle.jzon.proofs.Trailing.{trailing_stops}
 use Rattle.jzon.proofs.parser.read.Goals as goal
 
-pub skip_blank-start-requires : goal.skip_blank-start-requires
-skip_blank-start-requires c = IsCharBoundary-start c.args.source.now c.utf8.source
-
-pub returns-then-end-source-clause-memory : goal.returns-then-end-source-clause-memory
-returns-then-end-source-clause-memory c e =
-    let same : c.fault_at.result ≡ OutOfMemory = cc in absurd (fault_no_memory _ _ c.fault_at.result c.fault_at.ensures same)
-
-pub returns-then-end-source-clause-outcome : goal.returns-then-end-source-clause-outcome
-returns-then-end-source-clause-outcome c =
-    let v = view c.in_ok-value.value in
-    inr (subst (Tells (chars c.args.source.now) c.fault_at.result)
-    (sym (c.skip_blank-start.ensures.before no_frames ∙ c.in_ok-value.ensures.same ∙ c.skip_blank-end.ensures.behind no_frames v
-    ∙ trailing_stops usual c.args.source.now c.skip_blank-end.result v c.utf8.source c.skip_blank-end.ensures.boundary c.if-end-source.true
-    (c.skip_blank-end.ensures.stop c.if-end-source.true)))
-    c.fault_at.ensures)
-
-pub returns-clause-outcome : goal.returns-clause-outcome
-returns-clause-outcome c =
-    let v = view c.in_ok-value.value in
-    c.skip_blank-start.ensures.before no_frames ∙ c.in_ok-value.ensures.same ∙ c.skip_blank-end.ensures.behind no_frames v
-    ∙ from_end usual c.args.source.now c.skip_blank-end.result (behind no_frames v) c.if-end-source.false
+pub loop-value-init : goal.loop-value-init
+loop-value-init c =
+    let none : stack_view c.new-stack.result.items ≡ no_frames = ap stack_view c.new-stack.ensures.items in (
+      IsCharBoundary-start c.args.source.now c.utf8.source,
+      omega (arith, c.new-stack.ensures.len),
+      λ fresh. absurd (true≢false (sym fresh ∙ ap is_fresh none)),
+      λ some. absurd (omega (arith, c.new-stack.ensures.len)),
+      ap (λ fs. from usual c.args.source.now (before fs) 0) (sym none),
+    )

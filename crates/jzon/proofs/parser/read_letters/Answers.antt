@@ -12,8 +12,8 @@ returns-then-not-has_byte-clause-same c fs v =
     let letters = c.args.letters.now in
     let next : drop k letters ≡ get_or letters k 0 ∷ drop (suc k) letters = drop-cons letters k 0 c.loop-letter-test.true in
     subst (Tells (chars c.args.source.now) c.fault_at.result)
-    (sym (c.loop-letter.invariant.1 fs v ∙ ap (λ ls. from usual c.args.source.now (past_letter fs v ls) c.loop-letter.index) next
-    ∙ letter_missing usual c.args.source.now c.loop-letter.index (get_or letters k 0) (drop (suc k) letters) fs v c.utf8.source c.loop-letter.invariant.0
+    (sym (c.loop-letter.invariant.2 fs v ∙ ap (λ ls. from usual c.args.source.now (past_letter fs v ls) c.loop-letter.index) next
+    ∙ letter_missing usual c.args.source.now c.loop-letter.index (get_or letters k 0) (drop (suc k) letters) fs v c.utf8.source c.loop-letter.invariant.1
     (c.requires.ascii k) (λ h. let no : c.has_byte.result ≡ true = c.has_byte.ensures.1 h in let yes : c.has_byte.result ≡ false = c.if-not-has_byte.true in cc)))
     c.fault_at.ensures
 
@@ -24,8 +24,9 @@ loop-letter-preserved c =
     let here = c.has_byte.ensures.0 c.if-not-has_byte.false in
     let next : drop k letters ≡ get_or letters k 0 ∷ drop (k + 1) letters =
     drop-cons letters k 0 c.loop-letter-test.true ∙ ap (λ n. get_or letters k 0 ∷ drop n letters) (sym (add-one k)) in (
+      omega (arith, c.loop-letter.invariant.0),
       IsCharBoundary-after_ascii c.args.source.now c.loop-letter.index c.utf8.source here.0 (let lt = c.requires.ascii k in omega (arith, here.1, lt)),
-      λ fs v. c.loop-letter.invariant.1 fs v ∙ ap (λ ls. from usual c.args.source.now (past_letter fs v ls) c.loop-letter.index) next
-          ∙ letter_read usual c.args.source.now c.loop-letter.index (get_or letters k 0) (drop (k + 1) letters) fs v c.utf8.source c.loop-letter.invariant.0
+      λ fs v. c.loop-letter.invariant.2 fs v ∙ ap (λ ls. from usual c.args.source.now (past_letter fs v ls) c.loop-letter.index) next
+          ∙ letter_read usual c.args.source.now c.loop-letter.index (get_or letters k 0) (drop (k + 1) letters) fs v c.utf8.source c.loop-letter.invariant.1
           here.0 here.1 (c.requires.ascii k),
     )

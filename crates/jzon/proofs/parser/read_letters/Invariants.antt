@@ -1,4 +1,4 @@
-use Rattle.std.proofs.Common.{◌≡◌, drop}
+use Rattle.std.proofs.Common.{◌≡◌, ◌≤◌, drop}
 use Rattle.std.specs.Str.{IsCharBoundary}
 use Rattle.jzon_tree.specs.Value.{Value}
 use Rattle.jzon.specs.Reading.{usual}
@@ -7,5 +7,6 @@ use Rattle.jzon.proofs.parser.read_letters.Given as goal
 
 abbrev pub invariant-loop-letter : goal.invariant-loop-letter
 invariant-loop-letter l =
-    IsCharBoundary l.source l.index
+    (l.start ≤ l.index)
+    × IsCharBoundary l.source l.index
     × ((fs : Frames) (v : Value) → from usual l.source (past_letter fs v l.letters) l.start ≡ from usual l.source (past_letter fs v (drop l.letter-index l.letters)) l.index)

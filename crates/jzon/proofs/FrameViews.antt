@@ -1,0 +1,97 @@
+-- What the machine over values sees of the stack of open containers.
+use Rattle.std.proofs.Common.{◌≡◌, ◌≢◌, ◌⊎◌, inl, inr, get_or, ℕ, zero, suc, ◌+◌, ◌<◌, ◌≤◌, Bool, true, false, cond, List, [], ◌∷◌, ◌++◌, length, map, refl, sym, ap, subst, ◌∙◌, arith, Option, None, Vec, Global, add-one}
+use Rattle.std.specs.Prelude.{nat_le}
+use Rattle.std.specs.List.{fold}
+use Rattle.std.specs.Str.{bytes_eq}
+use Rattle.std.proofs.lemmas.Bool.{cases_lt}
+use Rattle.std.proofs.lemmas.Bool.Decides.{nat_tests}
+use Rattle.std.proofs.lemmas.List.{map-append, length-append}
+use Rattle.std.proofs.lemmas.List.Sums.{fold-append}
+use Rattle.std.proofs.Math.ListN.{get_or-eq_default}
+use Rattle.jzon_base.specs.PairList.{put, put_each}
+use Rattle.jzon_tree.specs.Value.{Value, object, pairs_of}
+use Rattle.jzon_tree.specs.View.{view, view_object}
+use Rattle.jzon_tree.specs.Entries.{entries_of}
+use Rattle.jzon_tree.specs.declared.object.Object.{Object}
+use Rattle.jzon_tree.specs.declared.value.JsonValue.{JsonValue}
+use Rattle.jzon.specs.Reading.{usual}
+use Rattle.jzon.specs.Spelling.{Breach, breach_if, deep}
+use Rattle.jzon.specs.Machine.{Entries, Frames, no_frames, array_frame, object_frame, frames_depth, is_fresh, value_mark, key_mark}
+use Rattle.jzon.specs.Frames.{entries_view, open_in, stack_view}
+use Rattle.jzon.specs.declared.frames.Frame.{Frame}
+use Rattle.jzon.specs.declared.frames.Frame.TheVariants.{Array, Object as in_object}
+
+-- ---- the stack
+
+pub stack_view-push : (s t : List Frame) (f : Frame) → t ≡ s ++ f ∷ [] → stack_view t ≡ open_in (stack_view s) f
+stack_view-push s t f e = ap stack_view e ∙ fold-append open_in no_frames s (f ∷ [])
+
+depth_one_more : (fs : Frames) (f : Frame) → frames_depth (open_in fs f) ≡ suc (frames_depth fs)
+depth_one_more fs (Array elements) = refl
+depth_one_more fs (in_object entries key) = refl
+
+depth_on : (fs : Frames) (s : List Frame) → frames_depth (fold open_in fs s) ≡ frames_depth fs + length s
+depth_on fs [] = omega arith
+depth_on fs (f ∷ s) = let more = depth_on (open_in fs f) s in let one = depth_one_more fs f in omega arith
+
+pub frames_depth-stack : (s : List Frame) → frames_depth (stack_view s) ≡ length s
+frames_depth-stack s = let d = depth_on no_frames s in omega arith
+
+-- ---- how deep
+
+pub not_too_deep : (n : ℕ) → n < 512 → breach_if (nat_le 512 n) deep ≡ None
+not_too_deep n lt = let no : nat_le 512 n ≡ false = grind (arith, nat_tests) in ap (λ t. breach_if t deep) no
+
+pub too_deep : (n : ℕ) → 512 ≤ n → nat_le 512 n ≡ true
+too_deep n le = grind (arith, nat_tests)
+
+pub value_mark-shallow : (fs : Frames) → frames_depth fs ≤ 512 → value_mark usual fs ≡ None
+value_mark-shallow no_frames le = refl
+value_mark-shallow (array_frame fs []) le = not_too_deep (frames_depth fs) (omega arith)
+value_mark-shallow (array_frame fs (v ∷ vs)) le = refl
+value_mark-shallow (object_frame fs es k) le = refl
+
+pub key_mark-shallow : (fs : Frames) (es : Entries) → frames_depth fs < 512 → key_mark usual fs es ≡ None
+key_mark-shallow fs [] lt = not_too_deep (frames_depth fs) lt
+key_mark-shallow fs (e ∷ es) lt = refl
+
+-- ---- elements and entries
+
+pub some_not_fresh : (fs : Frames) (xs : List JsonValue) → 0 < length xs → is_fresh (array_frame fs (map view xs)) ≡ false
+some_not_fresh fs [] lt = absurd (omega arith)
+some_not_fresh fs (x ∷ xs) lt = refl
+
+pub no_entries : (es : Entries) (e : List ℕ × Value) → es ++ e ∷ [] ≢ []
+no_entries [] e h = cc
+no_entries (x ∷ es) e h = cc
+
+put_on : (b : Bool) (k : List ℕ) (v : JsonValue) (p : List ℕ × JsonValue) (ps qs : List (List ℕ × JsonValue)) (rs : Entries) → entries_view qs ≡ rs
+    → entries_view (cond b ((p.0, v) ∷ ps) (p ∷ qs)) ≡ cond b ((p.0, view v) ∷ entries_view ps) ((p.0, view p.1) ∷ rs)
+put_on true k v p ps qs rs e = refl
+put_on false k v p ps qs rs e = ap (λ z. (p.0, view p.1) ∷ z) e
+
+entries_view-put : (k : List ℕ) (v : JsonValue) (ps : List (List ℕ × JsonValue)) → entries_view (put k v ps) ≡ put k (view v) (entries_view ps)
+entries_view-put k v [] = refl
+entries_view-put k v (p ∷ ps) = put_on (bytes_eq p.0 k) k v p ps (put k v ps) _ (entries_view-put k v ps)
+
+each_on : (qs ps : List (List ℕ × JsonValue)) → entries_view (fold (λ rs p. put p.0 p.1 rs) qs ps) ≡ fold (λ rs p. put p.0 p.1 rs) (entries_view qs) (entries_view ps)
+each_on qs [] = refl
+each_on qs (p ∷ ps) =
+    each_on (put p.0 p.1 qs) ps ∙ ap (λ z. fold (λ rs x. put x.0 x.1 rs) z (entries_view ps)) (entries_view-put p.0 p.1 qs)
+
+pub entries_view-put_each : (ps : List (List ℕ × JsonValue)) → entries_view (put_each ps) ≡ put_each (entries_view ps)
+entries_view-put_each ps = each_on [] ps
+
+-- the object of these entries
+pub view_object-entries : (o : Object) (ps : List (List ℕ × JsonValue)) → entries_of o ≡ put_each ps → view_object o ≡ object (pairs_of (put_each (entries_view ps)))
+view_object-entries o ps e = ap (λ es. object (pairs_of (entries_view es))) e ∙ ap (λ es. object (pairs_of es)) (entries_view-put_each ps)
+
+-- ---- bytes
+
+-- a byte other than 0 stands before the end of a text
+pub byte_within : (bs : List ℕ) (i b : ℕ) → get_or bs i 0 ≡ b → 0 < b → i < length bs
+byte_within bs i b e lt = within (cases_lt i (length bs))
+  where
+    within : (i < length bs) ⊎ (length bs ≤ i) → i < length bs
+    within (inl h) = h
+    within (inr h) = absurd (omega (arith, e, get_or-eq_default bs 0 h))

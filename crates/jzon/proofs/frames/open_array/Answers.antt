@@ -1,0 +1,45 @@
+use Rattle.std.proofs.Common.{◌≡◌, ◌∙◌, ◌<◌, ◌+◌, [], length, refl, sym, ap, arith, true}
+use Rattle.std.specs.Prelude.{chars, nat_le}
+use Rattle.std.proofs.lemmas.Bool.{iff_false}
+use Rattle.std.proofs.lemmas.Str.{IsCharBoundary-after_ascii}
+use Rattle.jzon_tree.specs.Value.{array}
+use Rattle.jzon_tree.specs.View.{view_values}
+use Rattle.jzon_tree.proofs.Views.{view-Array}
+use Rattle.jzon.specs.Reading.{usual}
+use Rattle.jzon.specs.Frames.{stack_view}
+use Rattle.jzon.specs.Machine.{array_frame, frames_depth, before, behind, from}
+use Rattle.jzon.proofs.ContainerSteps.{close_empty_array, deep_element}
+use Rattle.jzon.proofs.FrameViews.{frames_depth-stack, too_deep}
+use Rattle.jzon.proofs.Told.{told_end, told_deep}
+use Rattle.jzon.proofs.frames.open_array.Goals as goal
+
+pub returns-then-has_byte-clause-bounds : goal.returns-then-has_byte-clause-bounds
+returns-then-has_byte-clause-bounds c =
+    let here = c.has_byte.ensures.0 c.if-has_byte.true in
+    let within = c.skip_blank-index.ensures.within in
+    (omega arith, IsCharBoundary-after_ascii c.args.source.now c.skip_blank-index.result c.utf8.source here.0 (omega (arith, here.1)))
+
+pub returns-then-has_byte-clause-same : goal.returns-then-has_byte-clause-same
+returns-then-has_byte-clause-same c =
+    let here = c.has_byte.ensures.0 c.if-has_byte.true in
+    let fs = stack_view c.args.stack.now.items in
+    c.skip_blank-index.ensures.before (array_frame fs [])
+    ∙ close_empty_array usual c.args.source.now c.skip_blank-index.result fs c.utf8.source c.skip_blank-index.ensures.boundary here.0 here.1
+    ∙ ap (λ v. from usual c.args.source.now (behind fs v) (c.skip_blank-index.result + 1))
+    (sym (view-Array c.new.result ∙ ap (λ vs. array (view_values vs)) c.new.ensures.items))
+
+pub returns-then-index-source-clause-same : goal.returns-then-index-source-clause-same
+returns-then-index-source-clause-same c =
+    let fs = stack_view c.args.stack.now.items in
+    told_end usual c.args.source.now c.skip_blank-index.result (before (array_frame fs [])) _ (c.skip_blank-index.ensures.before (array_frame fs [])) (omega arith) refl
+
+pub returns-then-len-eq-DEPTH_LIMIT-clause-same : goal.returns-then-len-eq-DEPTH_LIMIT-clause-same
+returns-then-len-eq-DEPTH_LIMIT-clause-same c =
+    let fs = stack_view c.args.stack.now.items in
+    let lt : c.skip_blank-index.result < length c.args.source.now = omega (arith, c.skip_blank-index.ensures.boundary.0) in
+    let deep : nat_le 512 (frames_depth fs) ≡ true =
+    too_deep (frames_depth fs) (omega (arith, frames_depth-stack c.args.stack.now.items, c.args.stack.now.ok.0, c.len.ensures)) in
+    told_deep (chars c.args.source.now) _ _
+    (c.skip_blank-index.ensures.before (array_frame fs [])
+    ∙ deep_element usual c.args.source.now c.skip_blank-index.result fs c.utf8.source c.skip_blank-index.ensures.boundary lt (c.skip_blank-index.ensures.stop lt)
+    (λ e. iff_false c.has_byte.ensures c.if-has_byte.false (lt, e)) deep)

@@ -1,0 +1,39 @@
+//! Blanks (RFC 8259, section 2; docs/RULES.md, "Texts").
+
+ghost use Rattle.std.specs.Prelude.{◌≡◌, ℕ, ◌<◌, ◌≤◌, List, length, false, slice_index};
+ghost use Rattle.std.specs.List.{prefix_len};
+ghost use Rattle.std.specs.Str.{IsCharBoundary};
+ghost use Rattle.jzon_tree.specs.Value.{Value};
+ghost use Rattle.jzon_tree.specs.Writing.{is_space};
+ghost use Rattle.jzon.specs.Reading.{usual};
+ghost use Rattle.jzon.specs.Machine.{Entries, Frames, before, before_key, after_key, behind, from};
+
+/// The place behind a blank, wherever a blank may stand.
+pub(crate) fn skip_blank(source: &str, start: usize) -> usize
+    requires { IsCharBoundary source.now start }
+    ensures boundary { IsCharBoundary source.now result }
+    ensures before { (fs : Frames) → from usual source.now (before fs) start ≡ from usual source.now (before fs) result }
+    ensures behind { (fs : Frames) (v : Value) → from usual source.now (behind fs v) start ≡ from usual source.now (behind fs v) result }
+    ensures before_key { (fs : Frames) (es : Entries) → from usual source.now (before_key fs es) start ≡ from usual source.now (before_key fs es) result }
+    ensures after_key { (fs : Frames) (es : Entries) (k : List ℕ) → from usual source.now (after_key fs es k) start
+        ≡ from usual source.now (after_key fs es k) result }
+    ensures within { start ≤ result }
+    ensures stays { is_space usual.strict (slice_index source.now start) ≡ false → result ≡ start }
+    ensures stop { result < length source.now → is_space usual.strict (slice_index source.now result) ≡ false }
+{
+    start + blank_length(&source[start..])
+}
+
+/// How many whitespace bytes stand at the beginning.
+fn blank_length(text: &str) -> usize
+    ensures { result ≡ prefix_len (is_space usual.strict) text.now }
+{
+    text.bytes().take_while(|byte| is_whitespace(*byte)).count()
+}
+
+/// Whether the byte is whitespace: tab, newline, vertical tab, form feed, carriage return or blank.
+fn is_whitespace(byte: u8) -> bool
+    ensures { result ≡ is_space usual.strict byte }
+{
+    matches!(byte, 9..=13 | 32)
+}

@@ -1,0 +1,215 @@
+//! The open containers of a text (RFC 8259, sections 4 and 5; docs/RULES.md, "Texts" and "Depth").
+
+ghost use Rattle.std.specs.Prelude.{◌≡◌, ◌≢◌, ℕ, List, [], ◌∷◌, ◌++◌, ◌<◌, ◌≤◌, ◌+◌, length, chars, map, IfOk, OnOk, Err, None, MatchResult, slice_index, true, false, vec_len};
+ghost use Rattle.std.specs.Str.{IsCharBoundary};
+ghost use Rattle.jzon_base.specs.declared.error.Error.TheVariants.{OutOfMemory};
+ghost use Rattle.jzon_tree.specs.Value.{Value};
+ghost use Rattle.jzon_tree.specs.View.{view};
+ghost use Rattle.jzon_tree.specs.Writing.{is_space};
+ghost use Rattle.jzon.specs.Frames.{stack_view, open_in, entries_view, place_of, IsReady};
+ghost use Rattle.jzon.specs.Machine.{Entries, Frames, array_frame, object_frame, before, before_key, behind, key_mark, from, TellsUnlessMemory};
+ghost use Rattle.jzon.specs.Reading.{usual};
+
+use crate::blank::skip_blank;
+use crate::place::{fault_at, has_byte};
+use crate::string::read_string;
+use jzon_base::error::{Error, Result};
+use jzon_base::key::Key;
+use jzon_tree::object::{Object, from_entries};
+use jzon_tree::value::JsonValue;
+use std::alloc::Global;
+
+/// How many containers that aren't empty may be open.
+pub(crate) const DEPTH_LIMIT: usize = 512;
+
+/// An open container, with what it holds so far.
+#[derive(Drop)]
+pub(crate) enum Frame {
+    /// The elements.
+    Array(Vec<JsonValue>),
+    /// The entries as they were read, and the key of the value that is read next.
+    Object(Vec<(Key, JsonValue)>, Key),
+}
+
+/// Reads on behind the opening bracket of an array: an empty array is a value at once, and else the array is open, with its first element behind the place.
+/// After an error what is on the stack has no meaning.
+pub(crate) fn open_array(
+    alloc: Global,
+    source: &str,
+    start: usize,
+    stack: &mut Vec<Frame>,
+) -> Result<(Option<JsonValue>, usize)>
+    requires boundary { IsCharBoundary source.now start }
+    requires room { vec_len stack.old ≤ usual.depth }
+    ensures bounds { IfOk result (λ r. (start ≤ r.1) × IsCharBoundary source.now r.1) }
+    ensures room { OnOk result (vec_len stack.new ≤ usual.depth) }
+    ensures ready { IfOk result (λ r. IsReady source.now r.1 r.0 (stack_view stack.new.items)) }
+    ensures same { MatchResult result
+        (λ r. from usual source.now (before (array_frame (stack_view stack.old.items) [])) start
+        ≡ from usual source.now (place_of r.0 (stack_view stack.new.items)) r.1)
+        (λ e. TellsUnlessMemory (chars source.now) e (from usual source.now (before (array_frame (stack_view stack.old.items) [])) start)) }
+{
+    let index = skip_blank(source, start);
+    if has_byte(source, index, b']') {
+        return Ok((Some(JsonValue::Array(Vec::new(alloc))), index + 1));
+    }
+    if index == source.len() {
+        return Err(Error::UnexpectedEndOfJson);
+    }
+    if stack.len() == DEPTH_LIMIT {
+        return Err(Error::ExceededDepthLimit);
+    }
+    stack.push(Frame::Array(Vec::new(alloc)))?;
+    Ok((None, index))
+}
+
+/// Reads on behind the opening bracket of an object: an empty object is a value at once, and else the object is open, with the value of its first key behind
+/// the place. After an error what is on the stack has no meaning.
+pub(crate) fn open_object(
+    alloc: Global,
+    source: &str,
+    start: usize,
+    stack: &mut Vec<Frame>,
+    buffer: &mut String,
+) -> Result<(Option<JsonValue>, usize)>
+    requires boundary { IsCharBoundary source.now start }
+    requires room { vec_len stack.old ≤ usual.depth }
+    ensures bounds { IfOk result (λ r. (start ≤ r.1) × IsCharBoundary source.now r.1) }
+    ensures room { OnOk result (vec_len stack.new ≤ usual.depth) }
+    ensures ready { IfOk result (λ r. IsReady source.now r.1 r.0 (stack_view stack.new.items)) }
+    ensures same { MatchResult result
+        (λ r. from usual source.now (before_key (stack_view stack.old.items) []) start
+        ≡ from usual source.now (place_of r.0 (stack_view stack.new.items)) r.1)
+        (λ e. TellsUnlessMemory (chars source.now) e (from usual source.now (before_key (stack_view stack.old.items) []) start)) }
+{
+    let index = skip_blank(source, start);
+    if has_byte(source, index, b'}') {
+        return Ok((Some(JsonValue::Object(Object::new(alloc))), index + 1));
+    }
+    if index == source.len() {
+        return Err(Error::UnexpectedEndOfJson);
+    }
+    if stack.len() == DEPTH_LIMIT {
+        return Err(Error::ExceededDepthLimit);
+    }
+    let (key, end) = read_key(alloc, source, index, buffer)?;
+    stack.push(Frame::Object(Vec::new(alloc), key))?;
+    Ok((None, end))
+}
+
+/// The key that begins at `start`, and the place behind its colon.
+fn read_key(alloc: Global, source: &str, start: usize, buffer: &mut String) -> Result<(Key, usize)>
+    requires boundary { IsCharBoundary source.now start }
+    requires stop { start < length source.now → is_space usual.strict (slice_index source.now start) ≡ false }
+    ensures bounds { IfOk result (λ r. (start < r.1) × IsCharBoundary source.now r.1) }
+    ensures same { (fs : Frames) (es : Entries) → key_mark usual fs es ≡ None → (es ≡ [] → slice_index source.now start ≢ 125) → MatchResult result
+        (λ r. from usual source.now (before_key fs es) start ≡ from usual source.now (before (object_frame fs es r.0)) r.1)
+        (λ e. TellsUnlessMemory (chars source.now) e (from usual source.now (before_key fs es) start)) }
+{
+    if !has_byte(source, start, b'"') {
+        return Err(fault_at(source, start));
+    }
+    let spelled = read_string(source, start + 1, buffer)?;
+    let key = Key::new(alloc, spelled.text(source, start + 1, buffer))?;
+    let colon = skip_blank(source, spelled.end);
+    if !has_byte(source, colon, b':') {
+        return Err(fault_at(source, colon));
+    }
+    Ok((key, colon + 1))
+}
+
+/// Reads on behind the value `item` of an open container, which was the inmost: the container is whole, or goes on before its next value. After an error what
+/// is on the stack has no meaning.
+pub(crate) fn go_on(
+    alloc: Global,
+    source: &str,
+    index: usize,
+    frame: Frame,
+    item: JsonValue,
+    stack: &mut Vec<Frame>,
+    buffer: &mut String,
+) -> Result<(Option<JsonValue>, usize)>
+    requires boundary { IsCharBoundary source.now index }
+    requires stop { index < length source.now → is_space usual.strict (slice_index source.now index) ≡ false }
+    requires room { vec_len stack.old < usual.depth }
+    ensures bounds { IfOk result (λ r. (index < r.1) × IsCharBoundary source.now r.1) }
+    ensures room { OnOk result (vec_len stack.new ≤ usual.depth) }
+    ensures ready { IfOk result (λ r. IsReady source.now r.1 r.0 (stack_view stack.new.items)) }
+    ensures same { MatchResult result
+        (λ r. from usual source.now (behind (open_in (stack_view stack.old.items) frame) (view item)) index
+        ≡ from usual source.now (place_of r.0 (stack_view stack.new.items)) r.1)
+        (λ e. TellsUnlessMemory (chars source.now) e (from usual source.now (behind (open_in (stack_view stack.old.items) frame) (view item)) index)) }
+{
+    match frame {
+        Frame::Array(mut elements) => {
+            elements.push(item)?;
+            go_on_array(source, index, elements, stack)
+        }
+        Frame::Object(mut entries, key) => {
+            entries.push((key, item))?;
+            go_on_object(alloc, source, index, entries, stack, buffer)
+        }
+    }
+}
+
+/// The same for an array, whose elements so far these are.
+fn go_on_array(
+    source: &str,
+    index: usize,
+    elements: Vec<JsonValue>,
+    stack: &mut Vec<Frame>,
+) -> Result<(Option<JsonValue>, usize)>
+    requires boundary { IsCharBoundary source.now index }
+    requires stop { index < length source.now → is_space usual.strict (slice_index source.now index) ≡ false }
+    requires room { vec_len stack.old < usual.depth }
+    requires some { 0 < vec_len elements }
+    ensures bounds { IfOk result (λ r. (index < r.1) × IsCharBoundary source.now r.1) }
+    ensures room { OnOk result (vec_len stack.new ≤ usual.depth) }
+    ensures ready { IfOk result (λ r. IsReady source.now r.1 r.0 (stack_view stack.new.items)) }
+    ensures same { (vs : List Value) (v : Value) → map view elements.items ≡ vs ++ v ∷ [] → MatchResult result
+        (λ r. from usual source.now (behind (array_frame (stack_view stack.old.items) vs) v) index
+        ≡ from usual source.now (place_of r.0 (stack_view stack.new.items)) r.1)
+        (λ e. TellsUnlessMemory (chars source.now) e (from usual source.now (behind (array_frame (stack_view stack.old.items) vs) v) index)) }
+{
+    if has_byte(source, index, b']') {
+        return Ok((Some(JsonValue::Array(elements)), index + 1));
+    }
+    if !has_byte(source, index, b',') {
+        return Err(fault_at(source, index));
+    }
+    stack.push(Frame::Array(elements))?;
+    Ok((None, index + 1))
+}
+
+/// The same for an object, whose entries so far these are.
+fn go_on_object(
+    alloc: Global,
+    source: &str,
+    index: usize,
+    entries: Vec<(Key, JsonValue)>,
+    stack: &mut Vec<Frame>,
+    buffer: &mut String,
+) -> Result<(Option<JsonValue>, usize)>
+    requires boundary { IsCharBoundary source.now index }
+    requires stop { index < length source.now → is_space usual.strict (slice_index source.now index) ≡ false }
+    requires room { vec_len stack.old < usual.depth }
+    ensures bounds { IfOk result (λ r. (index < r.1) × IsCharBoundary source.now r.1) }
+    ensures room { OnOk result (vec_len stack.new ≤ usual.depth) }
+    ensures ready { IfOk result (λ r. IsReady source.now r.1 r.0 (stack_view stack.new.items)) }
+    ensures same { (es : Entries) (k : List ℕ) (v : Value) → entries_view entries.items ≡ es ++ (k, v) ∷ [] → MatchResult result
+        (λ r. from usual source.now (behind (object_frame (stack_view stack.old.items) es k) v) index
+        ≡ from usual source.now (place_of r.0 (stack_view stack.new.items)) r.1)
+        (λ e. TellsUnlessMemory (chars source.now) e (from usual source.now (behind (object_frame (stack_view stack.old.items) es k) v) index)) }
+{
+    if has_byte(source, index, b'}') {
+        let object = from_entries(alloc, entries)?;
+        return Ok((Some(JsonValue::Object(object)), index + 1));
+    }
+    if !has_byte(source, index, b',') {
+        return Err(fault_at(source, index));
+    }
+    let start = skip_blank(source, index + 1);
+    let (key, end) = read_key(alloc, source, start, buffer)?;
+    stack.push(Frame::Object(entries, key))?;
+    Ok((None, end))
+}

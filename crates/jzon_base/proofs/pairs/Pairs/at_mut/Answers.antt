@@ -1,0 +1,12 @@
+use Rattle.std.proofs.Common.{◌∙◌, sym, ap, inl}
+use Rattle.jzon_base.specs.PairList.{find}
+use Rattle.jzon_base.proofs.PairPlaces.{default_written, find_placed}
+use Rattle.jzon_base.proofs.pairs.Pairs.at_mut.Goals as goal
+
+pub returns : goal.returns
+returns g c =
+    let name = c.args.name.now in
+    let at = c.in_ok-index.index in (
+      λ j. inl (c.value_mut.result.ghost_name, λ w. default_written name c.args.value c.args.self.now c.place.new.self at c.in_ok-index.ensures.ok c.in_ok-index.ensures.place w j),
+      (sym (find_placed name c.place.new.self at c.value_mut.result.now c.in_ok-index.ensures.place c.value_mut.ensures.value) ∙ ap (find name) c.in_ok-index.ensures.ok, tt),
+    )

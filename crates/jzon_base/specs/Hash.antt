@@ -1,0 +1,9 @@
+-- The hash of a key: FNV-1a of 64 bits, by Fowler, Noll and Vo.
+use Rattle.std.specs.Prelude.{ℕ, ◌*◌, ◌%◌, ◌^◌, List, fold, bit_xor}
+
+-- the hash with one byte more
+abbrev pub hash_step : ℕ → ℕ → ℕ
+hash_step h byte = bit_xor h byte * 0x100_0000_01b3 % 2 ^ 64
+
+unfoldable pub hash_of : List ℕ → ℕ
+hash_of bytes = fold hash_step 0xcbf2_9ce4_8422_2325 bytes

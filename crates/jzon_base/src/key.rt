@@ -1,0 +1,121 @@
+//! A key of an object: text that is kept inline where it is short.
+ghost use Rattle.std.specs.Prelude.{◌≡◌, ◌<◌, ◌≤◌, length, string_bytes, IfOk, OnErr};
+ghost use Rattle.std.specs.Str.{bytes_eq};
+ghost use Rattle.std.specs.Cmp.{partial_equiv_from_equiv};
+ghost use Rattle.std.specs.Cmp.Lexicographic.{nat_list_eq_equiv};
+
+use arrayvec::ArrayString;
+use std::alloc::{AllocError, Global};
+use std::fmt;
+use std::marker::Model;
+
+/// A key of an object. A clause sees it as its bytes.
+///
+/// Text of up to 32 bytes lies in the key itself, longer text in a `String` of its own.
+#[derive(Drop)]
+pub struct Key {
+    text: Text,
+}
+
+#[derive(Drop)]
+enum Text {
+    Inline(ArrayString<32>),
+    Owned(String),
+}
+
+impl Model for Key {
+    ghost use Rattle.std.specs.Prelude.{List, ℕ};
+
+    ghost Value = { List ℕ };
+
+    ghost use Rattle.jzon_base.specs.Key.{text_of};
+
+    ghost view = { λ k. text_of k.text };
+}
+
+impl Key {
+    /// The key of a text. Text of up to 32 bytes takes no memory; for longer text the error is a refused growth.
+    pub fn new(alloc: Global, text: &str) -> Result<Key, AllocError>
+        ensures bytes { IfOk result (λ k. k ≡ text.now) }
+        ensures long { OnErr result (32 < length text.now) }
+    {
+        match ArrayString::from(text) {
+            Ok(inline) => Ok(Key {
+                text: Text::Inline(inline),
+            }),
+            Err(_) => Ok(Key {
+                text: Text::Owned(String::from_str(alloc, text)?),
+            }),
+        }
+    }
+
+    /// The text of the key.
+    pub fn as_str(&self) -> &str
+        ensures { result.now ≡ self.now }
+    {
+        match &self.text {
+            Text::Inline(inline) => inline.as_str(),
+            Text::Owned(owned) => owned.as_str(),
+        }
+    }
+
+    /// The text as a `String`. Only text of up to 32 bytes, which lies in the key, takes memory here; the error is a refused growth.
+    pub fn into_string(self, alloc: Global) -> Result<String, AllocError>
+        ensures bytes { IfOk result (λ s. string_bytes s ≡ self) }
+        ensures short { OnErr result (length self ≤ 32) }
+    {
+        match self.text {
+            Text::Inline(ref inline) => String::from_str(alloc, inline.as_str()),
+            Text::Owned(owned) => Ok(owned),
+        }
+    }
+}
+
+/// Keys are equal where their bytes are.
+impl PartialEq for Key {
+    ghost eq = { bytes_eq };
+
+    ghost laws = { partial_equiv_from_equiv nat_list_eq_equiv };
+
+    fn eq(&self, other: &Key) -> bool {
+        self.as_str() == other.as_str()
+    }
+}
+
+impl Eq for Key {
+    ghost laws = { nat_list_eq_equiv };
+}
+
+impl fmt::Debug for Key {
+    fn fmt<W: fmt::Write>(&self, f: &mut fmt::Formatter<W>) -> fmt::Result {
+        fmt::Debug::fmt(self.as_str(), f)
+    }
+}
+
+#[cfg(test)]
+mod tests {
+    use super::*;
+
+    #[test]
+    fn gives_its_text(rt: HostRuntime) -> Result<(), AllocError> {
+        let longest_inline = "0123456789abcdef0123456789abcdef";
+        let shortest_owned = "0123456789abcdef0123456789abcdef!";
+        assert_eq!(rt; longest_inline.len(), 32);
+        assert_eq!(rt; shortest_owned.len(), 33);
+        for text in ["", "a", "é", longest_inline, shortest_owned] {
+            let key = Key::new(rt.alloc(), text)?;
+            assert_eq!(rt; key.as_str(), text);
+            assert_eq!(rt; key, Key::new(rt.alloc(), text)?);
+            assert_ne!(rt; key, Key::new(rt.alloc(), "other")?);
+            assert_eq!(rt; key.into_string(rt.alloc())?.as_str(), text);
+        }
+        Ok(())
+    }
+
+    #[test]
+    fn shows_as_text(rt: HostRuntime) -> Result<(), AllocError> {
+        let key = Key::new(rt.alloc(), "a\"b")?;
+        assert_eq!(rt; format!(in rt.alloc(); "{key:?}")?.as_str(), "\"a\\\"b\"");
+        Ok(())
+    }
+}

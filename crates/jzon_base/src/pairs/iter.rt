@@ -1,0 +1,104 @@
+//! The iterator that lends pairs.
+ghost use Rattle.std.specs.Prelude.{◌≡◌, [], length};
+ghost use Rattle.std.specs.Iterator.{YieldsFirstBy, YieldsLastBy, item_count};
+
+use super::Pairs;
+use crate::keys;
+use std::iter::FusedIterator;
+use std::marker::Model;
+use std::slice;
+
+/// The pairs, each as its key's text and its value. A clause sees the list of those that are left.
+#[derive(Drop)]
+pub struct Iter<'a, V> {
+    keys: keys::Iter<'a>,
+    values: slice::Iter<'a, V>,
+}
+
+impl<'a, V> Model for Iter<'a, V> {
+    ghost use Rattle.std.specs.Prelude.{◌≡◌, List, ℕ, length};
+    ghost use Rattle.std.specs.List.{zip};
+    ghost use Rattle.std.specs.Coded.{coded_ℕ, coded_list, coded×};
+    ghost use Rattle.std.specs.Slice.Iter.{iter_rest};
+
+    ghost Value = { List (List ℕ × V) };
+
+    ghost coded = { coded_list (coded× (coded_list coded_ℕ) V.code) };
+
+    ghost view = { λ a. zip a.keys (iter_rest a.values) };
+
+    ghost invariant = { λ a. length (iter_rest a.values) ≡ length a.keys };
+}
+
+impl<'a, V> Iter<'a, V> {
+    /// No pair.
+    pub fn empty() -> Iter<'a, V>
+        ensures { result ≡ [] }
+    {
+        Iter {
+            keys: keys::Iter::empty(),
+            values: [].iter(),
+        }
+    }
+}
+
+impl<'a, V> Iterator for Iter<'a, V> {
+    type Item = (&'a str, &'a V);
+
+    ghost next_gives = { YieldsFirstBy (λ x. (x.0.now, x.1.now)) (λ s. s) };
+
+    ghost remaining = { item_count (λ s. s) };
+
+    fn next(&mut self) -> Option<(&'a str, &'a V)> {
+        let key = self.keys.next()?;
+        let value = self.values.next()?;
+        Some((key, value))
+    }
+
+    fn size_hint(&self) -> (usize, Option<usize>) {
+        let len = self.len();
+        (len, Some(len))
+    }
+}
+
+impl<'a, V> DoubleEndedIterator for Iter<'a, V> {
+    ghost next_back_gives = { YieldsLastBy (λ x. (x.0.now, x.1.now)) (λ s. s) };
+
+    fn next_back(&mut self) -> Option<(&'a str, &'a V)> {
+        let key = self.keys.next_back()?;
+        let value = self.values.next_back()?;
+        Some((key, value))
+    }
+}
+
+impl<'a, V> ExactSizeIterator for Iter<'a, V> {
+    fn len(&self) -> usize {
+        self.keys.len()
+    }
+}
+
+impl<'a, V> FusedIterator for Iter<'a, V> {}
+
+impl<V> Pairs<V> {
+    /// The pairs in their order, each as its key's text and its value.
+    pub fn iter(&self) -> Iter<'_, V>
+        ensures { result ≡ self.now }
+    {
+        Iter {
+            keys: self.keys.iter(),
+            values: self.values.iter(),
+        }
+    }
+}
+
+impl<'a, V> IntoIterator for &'a Pairs<V> {
+    type Item = (&'a str, &'a V);
+
+    type IntoIter = Iter<'a, V>;
+
+    ghost into_iter_gives = { λ p it. it ≡ p.now };
+
+    fn into_iter(self) -> Iter<'a, V> {
+        self.iter()
+    }
+}

@@ -1,0 +1,97 @@
+//! The iterator that lends the values of pairs to be written.
+ghost use Rattle.std.specs.Prelude.{◌≡◌, [], length};
+ghost use Rattle.std.specs.Iterator.{YieldsFirstBy, YieldsLastBy, item_count};
+ghost use Rattle.jzon_base.specs.IterMut.{iter_mut_rest, IsReady};
+
+use super::Pairs;
+use crate::keys;
+use std::iter::FusedIterator;
+use std::slice;
+
+/// The pairs, each as its key's text and its value, which may be written.
+///
+/// It has no model, so that a clause reads what it has left by `iter_mut_rest`.
+#[derive(Drop)]
+pub struct IterMut<'a, V> {
+    keys: keys::Iter<'a>,
+    values: slice::IterMut<'a, V>,
+}
+
+impl<'a, V> IterMut<'a, V> {
+    /// No pair.
+    pub fn empty() -> IterMut<'a, V>
+        ensures ready { IsReady result }
+        ensures rest { iter_mut_rest result ≡ [] }
+    {
+        IterMut {
+            keys: keys::Iter::empty(),
+            values: [].iter_mut(),
+        }
+    }
+}
+
+impl<'a, V> Iterator for IterMut<'a, V> {
+    type Item = (&'a str, &'a mut V);
+
+    ghost can_next = { IsReady };
+
+    ghost next_gives = { YieldsFirstBy (λ x. (x.0.now, x.1.now)) iter_mut_rest };
+
+    ghost remaining = { item_count iter_mut_rest };
+
+    fn next(&mut self) -> Option<(&'a str, &'a mut V)> {
+        let key = self.keys.next()?;
+        let value = self.values.next()?;
+        Some((key, value))
+    }
+
+    fn size_hint(&self) -> (usize, Option<usize>) {
+        let len = self.len();
+        (len, Some(len))
+    }
+}
+
+impl<'a, V> DoubleEndedIterator for IterMut<'a, V> {
+    ghost can_next_back = { IsReady };
+
+    ghost next_back_gives = { YieldsLastBy (λ x. (x.0.now, x.1.now)) iter_mut_rest };
+
+    fn next_back(&mut self) -> Option<(&'a str, &'a mut V)> {
+        let key = self.keys.next_back()?;
+        let value = self.values.next_back()?;
+        Some((key, value))
+    }
+}
+
+impl<'a, V> ExactSizeIterator for IterMut<'a, V> {
+    fn len(&self) -> usize {
+        self.keys.len().min(self.values.len())
+    }
+}
+
+impl<'a, V> FusedIterator for IterMut<'a, V> {}
+
+impl<V> Pairs<V> {
+    /// The pairs in their order, each as its key's text and its value, which may be written.
+    pub fn iter_mut(&mut self) -> IterMut<'_, V>
+        ensures ready { IsReady result }
+        ensures rest { iter_mut_rest result ≡ self.old }
+    {
+        IterMut {
+            keys: self.keys.iter(),
+            values: self.values.iter_mut(),
+        }
+    }
+}
+
+impl<'a, V> IntoIterator for &'a mut Pairs<V> {
+    type Item = (&'a str, &'a mut V);
+
+    type IntoIter = IterMut<'a, V>;
+
+    ghost into_iter_gives = { λ p it. IsReady it × (iter_mut_rest it ≡ p.now) };
+
+    fn into_iter(self) -> IterMut<'a, V> {
+        self.iter_mut()
+    }
+}

@@ -1,0 +1,187 @@
+use super::*;
+use crate::key::Key;
+
+fn of_pairs(alloc: Global, pairs: &[(&str, u32)]) -> Result<Pairs<u32>, AllocError> {
+    let mut made = Pairs::new(alloc);
+    for (name, value) in pairs {
+        made.insert(alloc, name, *value)?;
+    }
+    Ok(made)
+}
+
+/// The pairs as `a1 b2 `.
+fn shown(alloc: Global, pairs: &Pairs<u32>) -> Result<String, AllocError> {
+    let mut text = String::new(alloc);
+    for (name, value) in pairs {
+        write!(text, "{name}{value} ")?;
+    }
+    Ok(text)
+}
+
+/// The texts of 32 bytes and of 33, which a key keeps in itself and in a `String`.
+const LONGEST_INLINE: &str = "0123456789abcdef0123456789abcdef";
+
+const SHORTEST_OWNED: &str = "0123456789abcdef0123456789abcdef!";
+
+#[test]
+fn goes_from_both_ends(rt: HostRuntime) -> Result<(), AllocError> {
+    let mut pairs = of_pairs(rt.alloc(), &[("a", 1), ("b", 2), ("c", 3)])?;
+    let mut lent = pairs.iter();
+    assert_eq!(rt; lent.next(), Some(("a", &1)));
+    assert_eq!(rt; lent.next_back(), Some(("c", &3)));
+    assert_eq!(rt; lent.len(), 1);
+    assert_eq!(rt; lent.next(), Some(("b", &2)));
+    assert_eq!(rt; lent.next_back(), None);
+    assert_eq!(rt; Iter::<u32>::empty().next(), None);
+    assert_eq!(rt; Iter::<u32>::empty().len(), 0);
+    let mut written = pairs.iter_mut();
+    assert_eq!(rt; written.len(), 3);
+    assert_eq!(rt; written.next_back(), Some(("c", &mut 3)));
+    assert_eq!(rt; written.next(), Some(("a", &mut 1)));
+    assert_eq!(rt; written.len(), 1);
+    assert_eq!(rt; written.next_back(), Some(("b", &mut 2)));
+    assert_eq!(rt; written.next(), None);
+    assert_eq!(rt; IterMut::<u32>::empty().next(), None);
+    assert_eq!(rt; IterMut::<u32>::empty().len(), 0);
+    let mut owned = pairs.into_iter();
+    assert_eq!(rt; owned.len(), 3);
+    assert_eq!(rt; owned.next(), Some((Key::new(rt.alloc(), "a")?, 1)));
+    assert_eq!(rt; owned.next_back(), Some((Key::new(rt.alloc(), "c")?, 3)));
+    assert_eq!(rt; owned.len(), 1);
+    assert_eq!(rt; owned.next_back(), Some((Key::new(rt.alloc(), "b")?, 2)));
+    assert_eq!(rt; owned.next(), None);
+    Ok(())
+}
+
+#[test]
+fn writes_through_its_iterator(rt: HostRuntime) -> Result<(), AllocError> {
+    let mut pairs = of_pairs(rt.alloc(), &[("a", 1), ("b", 2), ("c", 3)])?;
+    for (name, value) in &mut pairs {
+        if name != "b" {
+            *value = 7;
+        }
+    }
+    assert_eq!(rt; shown(rt.alloc(), &pairs)?.as_str(), "a7 b2 c7 ");
+    Ok(())
+}
+
+#[test]
+fn overrides_the_last(rt: HostRuntime) -> Result<(), AllocError> {
+    let mut pairs = of_pairs(rt.alloc(), &[("a", 1), ("b", 2), ("c", 3)])?;
+    pairs.override_last(9);
+    assert_eq!(rt; shown(rt.alloc(), &pairs)?.as_str(), "a1 b2 c9 ");
+    pairs.clear();
+    assert!(rt; pairs.is_empty());
+    pairs.override_last(9);
+    assert_eq!(rt; shown(rt.alloc(), &pairs)?.as_str(), "");
+    Ok(())
+}
+
+#[test]
+fn removes_and_puts_again(rt: HostRuntime) -> Result<(), AllocError> {
+    let mut pairs = of_pairs(rt.alloc(), &[("a", 1), ("b", 2), ("c", 3)])?;
+    assert_eq!(rt; pairs.remove("x"), None);
+    assert_eq!(rt; shown(rt.alloc(), &pairs)?.as_str(), "a1 b2 c3 ");
+    assert_eq!(rt; pairs.remove("b"), Some(2));
+    assert_eq!(rt; shown(rt.alloc(), &pairs)?.as_str(), "a1 c3 ");
+    pairs.insert(rt.alloc(), "b", 4)?;
+    assert_eq!(rt; shown(rt.alloc(), &pairs)?.as_str(), "a1 c3 b4 ");
+    pairs.insert(rt.alloc(), "a", 5)?;
+    assert_eq!(rt; shown(rt.alloc(), &pairs)?.as_str(), "a5 c3 b4 ");
+    Ok(())
+}
+
+#[test]
+fn lends_values(rt: HostRuntime) -> Result<(), AllocError> {
+    let mut pairs = Pairs::with_capacity(rt.alloc(), 2)?;
+    pairs.reserve(4)?;
+    *pairs.at_mut(rt.alloc(), "a", 0)? += 1;
+    *pairs.at_mut(rt.alloc(), "b", 0)? += 2;
+    *pairs.at_mut(rt.alloc(), "a", 0)? += 4;
+    assert_eq!(rt; shown(rt.alloc(), &pairs)?.as_str(), "a5 b2 ");
+    if let Some(value) = pairs.get_mut("b") {
+        *value = 3;
+    }
+    assert_eq!(rt; pairs.get("b"), Some(&3));
+    assert_eq!(rt; pairs.get("c"), None);
+    assert!(rt; pairs.get_mut("c").is_none());
+    assert_eq!(rt; pairs.position("b"), Some(1));
+    assert_eq!(rt; pairs.len(), 2);
+    assert_eq!(rt; pairs.get_at(1), ("b", &3));
+    *pairs.value_mut(0) = 6;
+    assert_eq!(rt; pairs.values(), [6, 3].as_slice());
+    assert_eq!(rt; pairs.keys().position("b"), Some(1));
+    Ok(())
+}
+
+#[test]
+fn joins_keys_and_values(rt: HostRuntime) -> Result<(), AllocError> {
+    let pairs = of_pairs(rt.alloc(), &[("a", 1), ("b", 2)])?;
+    let keys = pairs.keys().clone(rt.alloc())?;
+    assert_eq!(rt; keys.len(), 2);
+    let joined = Pairs::from_parts(keys, vec![in rt.alloc(); 8, 9]?);
+    assert_eq!(rt; shown(rt.alloc(), &joined)?.as_str(), "a8 b9 ");
+    Ok(())
+}
+
+#[test]
+fn keeps_short_and_long_keys_whole(rt: HostRuntime) -> Result<(), AllocError> {
+    let pairs = of_pairs(rt.alloc(), &[(LONGEST_INLINE, 32), (SHORTEST_OWNED, 33)])?;
+    assert_eq!(rt; pairs.get(LONGEST_INLINE), Some(&32));
+    assert_eq!(rt; pairs.get(SHORTEST_OWNED), Some(&33));
+    for (key, length) in pairs {
+        let text = key.into_string(rt.alloc())?;
+        let want = if length == 32 {
+            LONGEST_INLINE
+        } else {
+            SHORTEST_OWNED
+        };
+        assert_eq!(rt; text.as_str(), want);
+    }
+    Ok(())
+}
+
+/// The pairs k0 0 to k999 999.
+fn numbered(alloc: Global) -> Result<Pairs<u32>, AllocError> {
+    let mut pairs = Pairs::new(alloc);
+    for number in 0..1000u32 {
+        let name = format!(in alloc; "k{number}")?;
+        pairs.insert(alloc, name.as_str(), number)?;
+    }
+    Ok(pairs)
+}
+
+/// Removes k0, k2 to k998, and tells whether each was there.
+fn remove_even(alloc: Global, pairs: &mut Pairs<u32>) -> Result<bool, AllocError> {
+    let mut were_there = true;
+    for number in 0..1000u32 {
+        if number % 2 == 0 {
+            let name = format!(in alloc; "k{number}")?;
+            were_there &= pairs.remove(name.as_str()) == Some(number);
+        }
+    }
+    Ok(were_there)
+}
+
+#[test]
+fn finds_a_thousand_keys(rt: HostRuntime) -> Result<(), AllocError> {
+    let mut pairs = numbered(rt.alloc())?;
+    assert!(rt; remove_even(rt.alloc(), &mut pairs)?);
+    assert_eq!(rt; pairs.len(), 500);
+    for number in 0..1000u32 {
+        let name = format!(in rt.alloc(); "k{number}")?;
+        let value = pairs.get(name.as_str()).copied();
+        assert_eq!(rt; value, (number % 2 == 1).then_some(number), "of k{number}");
+    }
+    pairs.insert(rt.alloc(), "k0", 0)?;
+    let mut left = pairs.iter();
+    assert_eq!(rt; left.next_back(), Some(("k0", &0)));
+    assert_eq!(rt; left.len(), 500);
+    for half in 0..500u32 {
+        let number = 2 * half + 1;
+        let name = format!(in rt.alloc(); "k{number}")?;
+        assert_eq!(rt; left.next(), Some((name.as_str(), &number)));
+    }
+    assert_eq!(rt; left.next(), None);
+    Ok(())
+}

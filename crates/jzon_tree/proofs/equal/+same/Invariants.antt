@@ -1,0 +1,14 @@
+use Rattle.std.proofs.Common.{◌≡◌, ◌≤◌, length}
+use denote.Param.Weighed.{most}
+use Rattle.std.specs.Iterator.Adapters.{zip_first, zip_second}
+use Rattle.std.specs.Slice.Iter.{iter_rest}
+use Rattle.jzon_tree.specs.declared.value.JsonValue.{size-JsonValue}
+use Rattle.jzon_tree.specs.Entries.{entries_of}
+use Rattle.jzon_tree.proofs.Compared.{ComparedItems, ComparedPairs}
+use Rattle.jzon_tree.proofs.equal.+same.Given as goal
+
+abbrev pub invariant-same_array-loop-item : goal.invariant-same_array-loop-item
+invariant-same_array-loop-item l = ComparedItems l.items l.others (iter_rest (zip_first l.item-iterator)) (iter_rest (zip_second l.item-iterator))
+
+abbrev pub invariant-same_object-loop-key : goal.invariant-same_object-loop-key
+invariant-same_object-loop-key l = ComparedPairs (entries_of l.object) (entries_of l.other) l.key-iterator

@@ -1,0 +1,72 @@
+//! Copies of values and of objects. They take memory, so that each is refused by `OutOfMemory` alone.
+
+ghost use Rattle.std.specs.Prelude.{◌≡◌, map, IfOk, IsOkUnless};
+ghost use Rattle.jzon_tree.specs.View.{view, view_object};
+
+use crate::object::Object;
+use crate::value::JsonValue;
+use jzon_base::error::{Error, Result};
+use jzon_base::pairs::Pairs;
+use jzon_base::short::Short;
+use std::alloc::Global;
+
+impl JsonValue {
+    /// A copy of the value, with the parts of its numbers and the order of its keys.
+    pub fn clone(&self, alloc: Global) -> Result<JsonValue>
+        ensures copy { IfOk result (λ copy. view copy ≡ view self.now) }
+        ensures memory { IsOkUnless result Error.OutOfMemory }
+    {
+        copy_value(alloc, self)
+    }
+}
+
+impl Object {
+    /// A copy of the object, with the parts of its numbers and the order of its keys.
+    pub fn clone(&self, alloc: Global) -> Result<Object>
+        ensures copy { IfOk result (λ copy. view_object copy ≡ view_object self.now) }
+        ensures memory { IsOkUnless result Error.OutOfMemory }
+    {
+        copy_object(alloc, self)
+    }
+}
+
+#[cycle(copy)]
+#[tactic(auto, using(crate::proofs::Views::views))]
+fn copy_value(alloc: Global, value: &JsonValue) -> Result<JsonValue>
+    ensures copy { IfOk result (λ copy. view copy ≡ view value.now) }
+    ensures memory { IsOkUnless result Error.OutOfMemory }
+{
+    match value {
+        JsonValue::Null => Ok(JsonValue::Null),
+        JsonValue::Short(text) => Ok(JsonValue::Short(Short::from_slice(text.as_str()))),
+        JsonValue::String(text) => Ok(JsonValue::String(text.clone()?)),
+        JsonValue::Number(number) => Ok(JsonValue::Number(*number)),
+        JsonValue::Boolean(truth) => Ok(JsonValue::Boolean(*truth)),
+        JsonValue::Object(object) => Ok(JsonValue::Object(copy_object(alloc, object)?)),
+        JsonValue::Array(items) => Ok(JsonValue::Array(copy_items(alloc, items)?)),
+    }
+}
+
+#[cycle(copy)]
+fn copy_object(alloc: Global, object: &Object) -> Result<Object>
+    ensures copy { IfOk result (λ copy. view_object copy ≡ view_object object.now) }
+    ensures memory { IsOkUnless result Error.OutOfMemory }
+{
+    let values = copy_items(alloc, object.pairs.values())?;
+    let keys = object.pairs.keys().clone(alloc)?;
+    Ok(Object {
+        pairs: Pairs::from_parts(keys, values),
+    })
+}
+
+#[cycle(copy)]
+fn copy_items(alloc: Global, items: &[JsonValue]) -> Result<Vec<JsonValue>>
+    ensures copy { IfOk result (λ copies. map view copies.items ≡ map view items.now) }
+    ensures memory { IsOkUnless result Error.OutOfMemory }
+{
+    let mut copies = Vec::with_capacity(alloc, items.len())?;
+    for item in items {
+        copies.push(copy_value(alloc, item)?)?;
+    }
+    Ok(copies)
+}

@@ -1,0 +1,99 @@
+//! Equality of values and of objects: what they mean is compared, so that the order of an object's keys, how a text is kept and how a decimal is written don't count.
+
+ghost use Rattle.std.specs.Prelude.{◌≡◌, option_map};
+ghost use Rattle.std.specs.Cmp.{on_equiv, on_per, partial_equiv_from_equiv};
+ghost use Rattle.jzon_tree.specs.Same.{same, same_items, passes};
+ghost use Rattle.jzon_tree.specs.SameLaws.{same_equiv};
+ghost use Rattle.jzon_tree.specs.View.{view, view_object, view_values};
+
+use crate::object::Object;
+use crate::value::JsonValue;
+
+impl PartialEq for JsonValue {
+    ghost eq = { λ v w. same (view v) (view w) };
+
+    ghost laws = { on_per view (partial_equiv_from_equiv same_equiv) };
+
+    fn eq(&self, other: &JsonValue) -> bool {
+        same_value(self, other)
+    }
+}
+
+impl Eq for JsonValue {
+    ghost laws = { on_equiv view same_equiv };
+}
+
+impl PartialEq for Object {
+    ghost eq = { λ v w. same (view_object v) (view_object w) };
+
+    ghost laws = { on_per view_object (partial_equiv_from_equiv same_equiv) };
+
+    fn eq(&self, other: &Object) -> bool {
+        same_object(self, other)
+    }
+}
+
+impl Eq for Object {
+    ghost laws = { on_equiv view_object same_equiv };
+}
+
+#[cycle(same)]
+#[tactic(auto, using(crate::proofs::Views::views))]
+fn same_value(value: &JsonValue, other: &JsonValue) -> bool
+    ensures { result ≡ same (view value.now) (view other.now) }
+{
+    match (value, other) {
+        (JsonValue::Null, JsonValue::Null) => true,
+        (JsonValue::Short(text), JsonValue::Short(other)) => text == other,
+        (JsonValue::Short(text), JsonValue::String(other)) => text.eq_str(other),
+        (JsonValue::String(text), JsonValue::Short(other)) => other.eq_str(text),
+        (JsonValue::String(text), JsonValue::String(other)) => text == other,
+        (JsonValue::Number(number), JsonValue::Number(other)) => number == other,
+        (JsonValue::Boolean(truth), JsonValue::Boolean(other)) => truth == other,
+        (JsonValue::Object(object), JsonValue::Object(other)) => same_object(object, other),
+        (JsonValue::Array(items), JsonValue::Array(others)) => same_array(items, others),
+        _ => false,
+    }
+}
+
+// Item by item.
+#[cycle(same)]
+fn same_array(items: &[JsonValue], others: &[JsonValue]) -> bool
+    ensures { result ≡ same_items (view_values items.now) (view_values others.now) }
+{
+    if items.len() != others.len() {
+        return false;
+    }
+    for (item, other) in items.iter().zip(others) {
+        if !same_value(item, other) {
+            return false;
+        }
+    }
+    true
+}
+
+// As many keys, and under each of the first the same value in both: so the second has no other key.
+#[cycle(same)]
+fn same_object(object: &Object, other: &Object) -> bool
+    ensures { result ≡ same (view_object object.now) (view_object other.now) }
+{
+    if object.len() != other.len() {
+        return false;
+    }
+    for (key, value) in object {
+        if !same_found(value, other.get(key)) {
+            return false;
+        }
+    }
+    true
+}
+
+#[cycle(same)]
+fn same_found(value: &JsonValue, found: Option<&JsonValue>) -> bool
+    ensures { result ≡ passes (same (view value.now)) (option_map (λ w. view w.now) found.entry) }
+{
+    match found {
+        Some(other) => same_value(value, other),
+        None => false,
+    }
+}

@@ -1,0 +1,245 @@
+//! Objects.
+
+ghost use Rattle.std.specs.Prelude.{◌≡◌, ◌-◌, ◌==◌, [], length, OnOk, OnErr, IfOk, IsOkUnless, None, string_bytes};
+ghost use Rattle.std.specs.Option.{option_copied, option_copied_mut};
+ghost use Rattle.std.specs.Iterator.{YieldsFirstBy, YieldsLastBy, item_count};
+ghost use Rattle.std.specs.List.{IsDistinct};
+ghost use Rattle.std.specs.Str.{bytes_eq};
+ghost use Rattle.jzon_base.specs.IterMut.{iter_mut_rest, IsReady};
+ghost use Rattle.jzon_base.specs.PairList.{find, put, put_each, cut, set_value, keys_of};
+ghost use Rattle.jzon_tree.specs.IntoIter.{entries_left};
+ghost use Rattle.jzon_tree.specs.Text.{compact};
+ghost use Rattle.jzon_tree.specs.View.{view_object};
+ghost use Rattle.jzon_tree.specs.Entries.{entries_of};
+
+use crate::codegen;
+use crate::value::JsonValue;
+use jzon_base::error::{Error, Result};
+pub use jzon_base::key::Key;
+use jzon_base::pairs::{self, Pairs};
+use std::alloc::Global;
+
+/// The pairs of an object that are left, each as its key's text and its value.
+pub type Iter<'a> = pairs::Iter<'a, JsonValue>;
+
+/// The pairs of an object that are left, each as its key's text and its value, which may be written.
+pub type IterMut<'a> = pairs::IterMut<'a, JsonValue>;
+
+/// The pairs of an object that are left, each as its key and its value.
+#[derive(Drop)]
+pub struct IntoIter {
+    pairs: pairs::IntoIter<JsonValue>,
+}
+
+/// The pairs of a JSON object (RFC 8259, section 4), in the order in which their keys were put. No key is there twice.
+///
+/// Keys are compared by their bytes. Two objects are equal where they have the same keys, and equal values under each, in whatever order.
+#[cycle(json)]
+#[derive(Debug, Drop)]
+pub struct Object {
+    pub(crate) pairs: Pairs<JsonValue>,
+}
+
+impl Object {
+    ghost use Rattle.std.specs.Borrow.{sem, LendsIf};
+    ghost use Rattle.jzon_tree.specs.contracts.object.Object.{the_row};
+    ghost use Rattle.jzon_tree.specs.contracts.value.JsonValue.{the_row as value_row};
+    ghost use Rattle.jzon_tree.specs.Entries.{entries_of, with_entries};
+
+    /// An object without pairs. It takes no memory.
+    pub fn new(alloc: Global) -> Object
+        ensures { entries_of result ≡ [] }
+    {
+        Object {
+            pairs: Pairs::new(alloc),
+        }
+    }
+
+    /// An object without pairs, with room for `capacity` of them. Refused by `OutOfMemory` alone.
+    pub fn with_capacity(alloc: Global, capacity: usize) -> Result<Object>
+        ensures empty { IfOk result (λ object. entries_of object ≡ []) }
+        ensures memory { IsOkUnless result Error.OutOfMemory }
+    {
+        Ok(Object {
+            pairs: Pairs::with_capacity(alloc, capacity)?,
+        })
+    }
+
+    /// How many pairs there are.
+    pub fn len(&self) -> usize
+        ensures len { result ≡ length (entries_of self.now) }
+        ensures distinct { IsDistinct bytes_eq (keys_of (entries_of self.now)) }
+    {
+        self.pairs.len()
+    }
+
+    /// Whether there is no pair.
+    pub fn is_empty(&self) -> bool
+        ensures { result ≡ (length (entries_of self.now) == 0) }
+    {
+        self.pairs.is_empty()
+    }
+
+    /// The value of the key.
+    pub fn get(&self, key: &str) -> Option<&JsonValue>
+        ensures { option_copied result ≡ find key.now (entries_of self.now) }
+    {
+        self.pairs.get(key)
+    }
+
+    /// The value of the key, to be written. Nothing else changes.
+    pub fn get_mut(&mut self, key: &str) -> Option<&mut JsonValue>
+        ensures* writes_back { sem 𝓛 (LendsIf the_row value_row self.entry result
+            (λ w. with_entries (put key.now w (entries_of self.old))) self.old) }
+        ensures value { option_copied_mut result ≡ find key.now (entries_of self.old) }
+    {
+        self.pairs.get_mut(key)
+    }
+
+    /// Puts the value under the key: in the place of the key where it is there, which takes no memory, else last. Refused by `OutOfMemory` alone, and then nothing
+    /// has changed.
+    pub fn insert(&mut self, alloc: Global, key: &str, value: JsonValue) -> Result<()>
+        ensures ok { OnOk result (entries_of self.new ≡ put key.now value (entries_of self.old)) }
+        ensures err { OnErr result (self.new ≡ self.old) }
+        ensures present { OnErr result (find key.now (entries_of self.old) ≡ None) }
+        ensures memory { IsOkUnless result Error.OutOfMemory }
+    {
+        self.pairs.insert(alloc, key, value)?;
+        Ok(())
+    }
+
+    /// Changes the value of the last pair alone, and nothing where there is no pair.
+    pub fn override_last(&mut self, value: JsonValue)
+        ensures { entries_of self.new ≡
+            set_value (entries_of self.old) (length (entries_of self.old) - 1) value }
+    {
+        self.pairs.override_last(value);
+    }
+
+    /// Removes the pair of the key, and gives its value. The others keep their order. It takes no memory.
+    pub fn remove(&mut self, key: &str) -> Option<JsonValue>
+        ensures value { result ≡ find key.now (entries_of self.old) }
+        ensures after { entries_of self.new ≡ cut key.now (entries_of self.old) }
+    {
+        self.pairs.remove(key)
+    }
+
+    /// Removes all pairs.
+    pub fn clear(&mut self)
+        ensures { entries_of self.new ≡ [] }
+    {
+        self.pairs.clear();
+    }
+
+    /// The compact text of the object, with no blank outside of its strings. Refused by `OutOfMemory` alone.
+    pub fn dump(&self, alloc: Global) -> Result<String>
+        ensures text { IfOk result (λ text. string_bytes text ≡ compact (view_object self.now)) }
+        ensures memory { IsOkUnless result Error.OutOfMemory }
+    {
+        codegen::add_object(String::new(alloc), self)
+    }
+
+    /// The pairs in their order, from both ends.
+    pub fn iter(&self) -> Iter<'_>
+        ensures { result ≡ entries_of self.now }
+    {
+        self.pairs.iter()
+    }
+
+    /// The pairs in their order, from both ends. Their values may be written.
+    pub fn iter_mut(&mut self) -> IterMut<'_>
+        ensures ready { IsReady result }
+        ensures rest { iter_mut_rest result ≡ entries_of self.old }
+    {
+        self.pairs.iter_mut()
+    }
+}
+
+/// The object in which these entries are put one after the other: the last value of a repeated key, in the place of the first. Refused by `OutOfMemory` alone.
+pub fn from_entries(alloc: Global, entries: Vec<(Key, JsonValue)>) -> Result<Object>
+    ensures pairs { IfOk result (λ object. entries_of object ≡ put_each entries.items) }
+    ensures memory { IsOkUnless result Error.OutOfMemory }
+{
+    let mut object = Object::with_capacity(alloc, entries.len())?;
+    for (key, value) in entries {
+        object.insert(alloc, key.as_str(), value)?;
+    }
+    Ok(object)
+}
+
+impl<'a> IntoIterator for &'a Object {
+    type Item = (&'a str, &'a JsonValue);
+
+    type IntoIter = Iter<'a>;
+
+    ghost use Rattle.jzon_tree.specs.Entries.{entries_of};
+
+    ghost into_iter_gives = { λ object it. it ≡ entries_of object.now };
+
+    fn into_iter(self) -> Iter<'a> {
+        self.iter()
+    }
+}
+
+impl<'a> IntoIterator for &'a mut Object {
+    type Item = (&'a str, &'a mut JsonValue);
+
+    type IntoIter = IterMut<'a>;
+
+    ghost use Rattle.jzon_tree.specs.Entries.{entries_of};
+
+    ghost into_iter_gives = { λ object it. IsReady it × (iter_mut_rest it ≡ entries_of object.now) };
+
+    fn into_iter(self) -> IterMut<'a> {
+        self.iter_mut()
+    }
+}
+
+impl Iterator for IntoIter {
+    type Item = (Key, JsonValue);
+
+    ghost next_gives = { YieldsFirstBy (λ x. x) entries_left };
+
+    ghost remaining = { item_count entries_left };
+
+    fn next(&mut self) -> Option<(Key, JsonValue)> {
+        self.pairs.next()
+    }
+
+    fn size_hint(&self) -> (usize, Option<usize>) {
+        self.pairs.size_hint()
+    }
+}
+
+impl DoubleEndedIterator for IntoIter {
+    ghost next_back_gives = { YieldsLastBy (λ x. x) entries_left };
+
+    fn next_back(&mut self) -> Option<(Key, JsonValue)> {
+        self.pairs.next_back()
+    }
+}
+
+impl ExactSizeIterator for IntoIter {
+    fn len(&self) -> usize {
+        self.pairs.len()
+    }
+}
+
+impl IntoIterator for Object {
+    type Item = (Key, JsonValue);
+
+    type IntoIter = IntoIter;
+
+    ghost use Rattle.jzon_tree.specs.Entries.{entries_of};
+
+    ghost into_iter_gives = { λ object it. entries_left it ≡ entries_of object };
+
+    fn into_iter(self) -> IntoIter {
+        IntoIter {
+            pairs: self.pairs.into_iter(),
+        }
+    }
+}
+
+#[cfg(test)]
+mod tests;
