@@ -1,5 +1,5 @@
 -- What begins a value, by the byte that stands before it, whatever containers are open.
-use Rattle.std.proofs.Common.{◌≡◌, ◌≢◌, ℕ, ◌+◌, ◌<◌, ◌≤◌, Bool, true, false, List, [], ◌∷◌, length, get_or, refl, ap, ◌∙◌, arith, Option, None, lit<}
+use Rattle.std.proofs.Common.{◌≡◌, ◌≢◌, ℕ, ◌+◌, ◌<◌, ◌≤◌, Bool, true, false, List, [], ◌∷◌, length, get_or, refl, ap, ◌∙◌, arith, None, lit<}
 use Rattle.std.specs.Prelude.{IsUtf8, IsTrue, ◌==◌}
 use Rattle.std.specs.Char.{is_ascii_digit}
 use Rattle.std.specs.Str.{IsCharBoundary}
@@ -7,9 +7,8 @@ use Rattle.std.proofs.lemmas.Bool.Decides.{nat_tests}
 use Rattle.jzon_tree.specs.Value as value
 use Rattle.jzon_tree.specs.Writing.{is_space}
 use Rattle.jzon.specs.Reading.{Reading}
-use Rattle.jzon.specs.Spelling.{Breach}
 use Rattle.jzon.specs.Classes.{Class, white, digits, dash, quote, opens_array, closes_array, opens_object, begins_null, begins_true, begins_false, class_of, signed, begun}
-use Rattle.jzon.specs.Machine.{Frames, no_frames, array_frame, object_frame, is_fresh, as_value, between, string, numeral, past_letter, Place, before, go, bad, bad_at, value_mark, move, move_before, move_empty_array, from}
+use Rattle.jzon.specs.Machine.{Frames, no_frames, array_frame, object_frame, is_fresh, as_value, between, string, numeral, past_letter, before, go, bad, bad_at, value_mark, move_before, move_empty_array, from}
 use Rattle.jzon.proofs.Classes.{class-white, class-digits, class-dash, class-quote, class-opens_array, class-closes_array, class-opens_object, class-begins_null, class-begins_true, class-begins_false, class_34, class_45, class_102, class_110, class_116, digits-class}
 use Rattle.jzon.proofs.Scanning.{wide_is_no_space}
 use Rattle.jzon.proofs.Steps.{StopsAt, from_step, stops_by, digit_is_ascii}

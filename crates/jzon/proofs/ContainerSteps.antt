@@ -1,5 +1,5 @@
 -- Steps of the machine over values at the tokens of arrays and objects, by the byte that stands at a place of a text.
-use Rattle.std.proofs.Common.{◌≡◌, ◌≢◌, ℕ, ◌+◌, ◌<◌, ◌≤◌, Bool, true, false, List, [], ◌∷◌, ◌++◌, length, drop, get_or, refl, sym, ap, ◌∙◌, arith, Option, Some, None, lit<}
+use Rattle.std.proofs.Common.{◌≡◌, ◌≢◌, ℕ, ◌+◌, ◌<◌, true, false, List, [], ◌∷◌, ◌++◌, length, drop, get_or, refl, ap, ◌∙◌, arith, Option, Some, None, lit<}
 use Rattle.std.specs.Prelude.{chars, IsUtf8, IsTrue, nat_le}
 use Rattle.std.specs.Str.{IsCharBoundary}
 use Rattle.jzon_base.specs.PairList.{put_each}
@@ -10,7 +10,7 @@ use Rattle.jzon.specs.Reading.{Reading}
 use Rattle.jzon.specs.Spelling.{Breach, deep, breach_if}
 use Rattle.jzon.specs.Fault.{limit}
 use Rattle.jzon.specs.Classes.{Class, white, digits, dash, quote, opens_array, closes_array, opens_object, closes_object, comma, colon, begins_null, begins_true, begins_false, class_of}
-use Rattle.jzon.specs.Machine.{Entries, Frames, frames_depth, array_frame, object_frame, as_key, between, Place, before, before_key, string, after_key, behind, Move, go, bad, bad_at, value_mark, key_mark, move, move_before, move_before_key, move_after_key, move_empty_object, move_behind, Outcome, refused, outcome_on, from}
+use Rattle.jzon.specs.Machine.{Entries, Frames, frames_depth, array_frame, object_frame, as_key, between, Place, before, before_key, string, after_key, behind, go, bad, bad_at, value_mark, key_mark, move_before, move_before_key, move_after_key, move_empty_object, move_behind, refused, outcome_on, from}
 use Rattle.jzon.proofs.Classes.{class-white, class-quote, class-closes_array, class-closes_object, class-comma, class-colon, class_34, class_44, class_58, class_91, class_93, class_123, class_125, white-class}
 use Rattle.jzon.proofs.Scanning.{Skips, space_is_ascii, wide_is_no_space}
 use Rattle.jzon.proofs.Steps.{StopsAt, from_step, stops_by, IsDeep, from_deep}

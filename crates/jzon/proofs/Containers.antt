@@ -4,7 +4,7 @@ use Rattle.jzon.specs.Reading.{Reading}
 use Rattle.jzon.specs.Grammar.{Item, Node, Document, IsNode}
 use Rattle.jzon.specs.Spelling.{Breach, Cell, cell, plain, onto, items_cells, duplicate_if, deep_if, node_cells, elements_cells, members_cells}
 use Rattle.jzon.specs.Meaning.{bytes_of}
-use Rattle.jzon.proofs.TreeMachine.{Class, white, digits, dash, quote, opens_array, closes_array, opens_object, closes_object, colon, begins_null, begins_true, begins_false, class_of, nothing_done, done, Named, nothing_named, named, Context, top, in_array, in_object, as_value, as_key, between, State, before, before_key, word, string, go, bad, depth_of, value_mark, key_mark, key_of, bad_at, step_before, step_before_key, step_after_key, past_letter}
+use Rattle.jzon.proofs.TreeMachine.{Class, white, digits, dash, quote, opens_array, closes_array, opens_object, closes_object, colon, begins_null, begins_true, begins_false, class_of, nothing_done, done, Named, nothing_named, named, Context, top, in_array, in_object, as_value, as_key, between, before, before_key, word, string, go, bad, depth_of, value_mark, key_mark, key_of, bad_at, step_before, step_before_key, step_after_key, past_letter}
 use Rattle.jzon.proofs.Completion.{Behind, ClosesArray, Begins, AfterKey, BeginsKey, ClosesObject, Comp, Steps}
 use Rattle.jzon.proofs.Classes.{white-class, class-white, class_34, class-quote, class_58, class-colon, class_91, class-opens_array, class_93, class-closes_array, class_123, class-opens_object, class_125, class-closes_object, class_110, class-begins_null, class_116, class-begins_true, class_102, class-begins_false, at_cell, front}
 use Rattle.jzon.proofs.NumeralsForward.{forward_begin_numeral}

@@ -1,10 +1,9 @@
 -- Worked rows of docs/RULES.md, "Errors": texts and the one error of each. The machine computes the fault, and its verdict is the definition's.
-use Rattle.std.proofs.Common.{◌≡◌, ℕ, List, [], ◌∷◌, ◌++◌, true, false, codes, encode_utf8_all, refl}
+use Rattle.std.proofs.Common.{◌≡◌, ℕ, [], ◌∷◌, ◌++◌, true, false, codes, encode_utf8_all, refl}
 use Rattle.std.specs.Char.{encode_utf8}
 use Rattle.std.specs.Fmt.{digits}
 use Rattle.jzon_base.specs.Digits.{kept_len}
 use Rattle.jzon_base.specs.ErrorText.{error_text}
-use Rattle.jzon_base.specs.declared.error.Error.{Error}
 use Rattle.jzon_base.specs.declared.error.Error.TheVariants.{UnexpectedCharacter, UnexpectedEndOfJson, ExceededDepthLimit, FailedUtf8Parsing, DuplicateKey}
 use Rattle.jzon.specs.Reading.{Reading, usual}
 use Rattle.jzon.specs.Grammar.{code_unit}

@@ -1,11 +1,10 @@
 -- What the machine over values sees of the stack of open containers.
-use Rattle.std.proofs.Common.{◌≡◌, ◌≢◌, ◌⊎◌, inl, inr, get_or, ℕ, zero, suc, ◌+◌, ◌<◌, ◌≤◌, Bool, true, false, cond, List, [], ◌∷◌, ◌++◌, length, map, refl, sym, ap, subst, ◌∙◌, arith, Option, None, Vec, Global, add-one}
+use Rattle.std.proofs.Common.{◌≡◌, ◌≢◌, ◌⊎◌, inl, inr, get_or, ℕ, suc, ◌+◌, ◌<◌, ◌≤◌, Bool, true, false, cond, List, [], ◌∷◌, ◌++◌, length, map, refl, ap, ◌∙◌, arith, None}
 use Rattle.std.specs.Prelude.{nat_le}
 use Rattle.std.specs.List.{fold}
 use Rattle.std.specs.Str.{bytes_eq}
 use Rattle.std.proofs.lemmas.Bool.{cases_lt}
 use Rattle.std.proofs.lemmas.Bool.Decides.{nat_tests}
-use Rattle.std.proofs.lemmas.List.{map-append, length-append}
 use Rattle.std.proofs.lemmas.List.Sums.{fold-append}
 use Rattle.std.proofs.Math.ListN.{get_or-eq_default}
 use Rattle.jzon_base.specs.PairList.{put, put_each}
@@ -15,7 +14,7 @@ use Rattle.jzon_tree.specs.Entries.{entries_of}
 use Rattle.jzon_tree.specs.declared.object.Object.{Object}
 use Rattle.jzon_tree.specs.declared.value.JsonValue.{JsonValue}
 use Rattle.jzon.specs.Reading.{usual}
-use Rattle.jzon.specs.Spelling.{Breach, breach_if, deep}
+use Rattle.jzon.specs.Spelling.{breach_if, deep}
 use Rattle.jzon.specs.Machine.{Entries, Frames, no_frames, array_frame, object_frame, frames_depth, is_fresh, value_mark, key_mark}
 use Rattle.jzon.specs.Frames.{entries_view, open_in, stack_view}
 use Rattle.jzon.specs.declared.frames.Frame.{Frame}

@@ -7,7 +7,6 @@ use Rattle.jzon.specs.Reading.{Reading}
 use Rattle.jzon.specs.Meaning.{meaning}
 use Rattle.jzon.specs.Machine.{no_frames, before, outcome, Reads}
 use Rattle.std.specs.Prelude.{IfOk, IfErr}
-use Rattle.jzon.specs.Fault.{IsErrorOf}
 use Rattle.jzon.specs.Answer.{Answers, IsMeaningOf, IsErrorUnlessMemory}
 use Rattle.jzon.proofs.TreeMachine.{start}
 use Rattle.jzon.proofs.TreeAnswer.{Answer, tree, refused, answer}

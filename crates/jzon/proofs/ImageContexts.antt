@@ -1,5 +1,5 @@
 -- The machine over values keeps what the finished parts of the machine over trees mean: before and behind values.
-use Rattle.std.proofs.Common.{◌≡◌, ℕ, suc, List, [], ◌∷◌, ◌++◌, Bool, true, false, ◌==◌, Option, Some, None, refl, sym, ap, ◌∙◌, append_assoc}
+use Rattle.std.proofs.Common.{◌≡◌, ℕ, suc, List, [], ◌∷◌, ◌++◌, true, false, ◌==◌, Option, Some, None, refl, sym, ap, ◌∙◌, append_assoc}
 use Rattle.jzon_base.specs.PairList.{put_each}
 use Rattle.jzon_tree.specs.Value.{Value, Values, pairs_of}
 use Rattle.jzon_tree.specs.Value as value

@@ -1,12 +1,12 @@
 -- What may follow a whole text: a blank alone.
-use Rattle.std.proofs.Common.{◌≡◌, ℕ, ◌<◌, ◌≤◌, Bool, true, false, List, [], ◌∷◌, length, drop, get_or, refl, ap, Option}
+use Rattle.std.proofs.Common.{◌≡◌, ℕ, ◌<◌, true, false, List, [], ◌∷◌, length, drop, get_or, refl, ap}
 use Rattle.std.specs.Prelude.{chars, IsUtf8}
 use Rattle.std.specs.Str.{IsCharBoundary}
 use Rattle.jzon_tree.specs.Value.{Value}
 use Rattle.jzon_tree.specs.Writing.{is_space}
 use Rattle.jzon.specs.Reading.{Reading}
 use Rattle.jzon.specs.Classes.{Class, white, class_of}
-use Rattle.jzon.specs.Machine.{no_frames, behind, Place, bad, move, move_behind, outcome, outcome_on, from, stopped}
+use Rattle.jzon.specs.Machine.{no_frames, behind, bad, move_behind, outcome, outcome_on, from, stopped}
 use Rattle.jzon.proofs.Classes.{class-white}
 use Rattle.jzon.proofs.Scanning.{wide_is_no_space}
 use Rattle.jzon.proofs.Steps.{byte_there, by_character, some_character}

@@ -1,7 +1,6 @@
 -- What the parser keeps of the open containers, as the machine over values sees it.
-use Rattle.std.specs.Prelude.{◌≡◌, ◌≢◌, ℕ, List, map, Option, Some, None, Bool, true, false, ⊤, slice_index}
+use Rattle.std.specs.Prelude.{◌≡◌, ◌≢◌, ℕ, List, map, Option, Some, None, true, false, ⊤, slice_index}
 use Rattle.std.specs.List.{fold}
-use Rattle.jzon_tree.specs.Value.{Value}
 use Rattle.jzon_tree.specs.View.{view}
 use Rattle.jzon_tree.specs.Writing.{is_space}
 use Rattle.jzon_tree.specs.declared.value.JsonValue.{JsonValue}

@@ -339,7 +339,8 @@ mod tests {
             ),
         ];
         for (content, is_short) in rows {
-            match text_value(rt.alloc(), content)? {
+            let value = text_value(rt.alloc(), content)?;
+            match &value {
                 JsonValue::Short(short) => {
                     assert_eq!(rt; short.as_str(), content);
                     assert!(rt; is_short);

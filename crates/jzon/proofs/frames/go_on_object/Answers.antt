@@ -1,4 +1,4 @@
-use Rattle.std.proofs.Common.{◌≡◌, ◌∙◌, ◌<◌, ◌+◌, [], ◌∷◌, ◌++◌, length, refl, sym, ap, arith, true, None}
+use Rattle.std.proofs.Common.{◌∙◌, ◌<◌, ◌+◌, [], ◌∷◌, ◌++◌, sym, ap, arith}
 use Rattle.std.specs.Prelude.{chars}
 use Rattle.std.proofs.lemmas.Bool.{iff_false}
 use Rattle.std.proofs.lemmas.Result.{err_from_is_err_and}
@@ -7,8 +7,8 @@ use Rattle.jzon_base.specs.PairList.{put_each}
 use Rattle.jzon_tree.specs.Value.{object, pairs_of}
 use Rattle.jzon_tree.proofs.Views.{view-Object}
 use Rattle.jzon.specs.Reading.{usual}
-use Rattle.jzon.specs.Frames.{stack_view, entries_view}
-use Rattle.jzon.specs.Machine.{object_frame, frames_depth, before, before_key, behind, key_mark, from}
+use Rattle.jzon.specs.Frames.{stack_view}
+use Rattle.jzon.specs.Machine.{object_frame, frames_depth, before, behind, from}
 use Rattle.jzon.proofs.ContainerSteps.{close_object, entry_comma, no_entry}
 use Rattle.jzon.proofs.FrameViews.{frames_depth-stack, key_mark-shallow, no_entries, stack_view-push, view_object-entries}
 use Rattle.jzon.proofs.Steps.{from_stop}

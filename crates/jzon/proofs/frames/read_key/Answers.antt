@@ -1,11 +1,10 @@
-use Rattle.std.proofs.Common.{◌≡◌, ◌∙◌, ◌<◌, ◌+◌, ◌-◌, [], length, refl, sym, ap, subst, arith, true, None, cond, string_bytes}
+use Rattle.std.proofs.Common.{◌∙◌, ◌+◌, ◌-◌, sym, ap, arith, cond, string_bytes}
 use Rattle.std.specs.Prelude.{chars, slice_range}
-use Rattle.std.specs.Str.{IsCharBoundary}
 use Rattle.std.proofs.lemmas.Bool.{iff_false}
 use Rattle.std.proofs.lemmas.Result.{err_from_is_err_and}
 use Rattle.std.proofs.lemmas.Str.{IsCharBoundary-after_ascii}
 use Rattle.jzon.specs.Reading.{usual}
-use Rattle.jzon.specs.Machine.{Frames, Entries, as_key, between, before, before_key, after_key, object_frame, string, key_mark, from}
+use Rattle.jzon.specs.Machine.{as_key, before, before_key, after_key, object_frame, from}
 use Rattle.jzon.proofs.ContainerSteps.{open_key, no_key, colon_goes, no_colon}
 use Rattle.jzon.proofs.Steps.{from_stop}
 use Rattle.jzon.proofs.Told.{told, told_again, told_err}

@@ -1,12 +1,11 @@
-use Rattle.std.proofs.Common.{◌≡◌, ◌∙◌, ◌<◌, ◌+◌, ◌≤◌, inl, inr, [], length, get_or, sym, subst, arith, None, Err, lit<}
+use Rattle.std.proofs.Common.{◌≡◌, inl, inr, arith, None, Err, lit<}
 use Rattle.std.specs.Prelude.{chars}
-use Rattle.std.proofs.lemmas.Bool.{iff_false}
 use Rattle.std.proofs.lemmas.Result.{err_from_is_err_and}
 use Rattle.std.proofs.lemmas.Str.{IsCharBoundary-after_ascii}
 use Rattle.jzon_base.specs.declared.error.Error.TheVariants.{OutOfMemory}
 use Rattle.jzon.specs.Reading.{usual}
 use Rattle.jzon.specs.Frames.{stack_view}
-use Rattle.jzon.specs.Machine.{frames_depth, value_mark}
+use Rattle.jzon.specs.Machine.{value_mark}
 use Rattle.jzon.proofs.ContainerSteps.{open_array, open_object}
 use Rattle.jzon.proofs.FrameViews.{frames_depth-stack, value_mark-shallow, byte_within}
 use Rattle.jzon.proofs.Told.{has_character, same_unless_memory, told_err}

@@ -1,8 +1,8 @@
-use Rattle.std.proofs.Common.{◌≡◌, ◌∙◌, [], true, false, sym, ap, arith}
+use Rattle.std.proofs.Common.{◌≡◌, ◌∙◌, sym, ap, arith}
 use Rattle.std.proofs.lemmas.Bool.{true≢false}
 use Rattle.std.proofs.lemmas.Str.{IsCharBoundary-start}
 use Rattle.jzon.specs.Frames.{stack_view}
-use Rattle.jzon.specs.Machine.{Frames, no_frames, is_fresh, before, from}
+use Rattle.jzon.specs.Machine.{no_frames, is_fresh, before, from}
 use Rattle.jzon.specs.Reading.{usual}
 use Rattle.jzon.proofs.parser.read.Goals as goal
 

@@ -1,12 +1,12 @@
-use Rattle.std.proofs.Common.{◌≡◌, ◌≢◌, ℕ, ◌<◌, ◌≤◌, ◌+◌, length, get_or, sym, ap, subst, ◌∙◌, refl, arith, true, false, Bool, List, [], ◌∷◌, None}
-use Rattle.std.specs.Prelude.{chars, IsTrue}
+use Rattle.std.proofs.Common.{◌≡◌, ℕ, ◌+◌, get_or, sym, ap, ◌∙◌, arith, true, false, List, [], ◌∷◌}
+use Rattle.std.specs.Prelude.{chars}
 use Rattle.std.specs.Char.{is_ascii_digit}
 use Rattle.std.proofs.lemmas.Bool.{false_from_ne_true, iff_false}
 use Rattle.std.proofs.lemmas.Str.{IsCharBoundary-after_ascii}
 use Rattle.jzon_tree.proofs.Views.{view-Null, view-Boolean}
 use Rattle.jzon.specs.Reading.{usual}
 use Rattle.jzon.specs.Machine.{no_frames, before, past_letter, from}
-use Rattle.jzon.proofs.Beginnings.{BeginsNothing, stops_before, begin_null, begin_true, begin_false, begin_minus, begin_digit, begin_string}
+use Rattle.jzon.proofs.Beginnings.{stops_before, begin_null, begin_true, begin_false, begin_minus, begin_digit, begin_string}
 use Rattle.jzon.proofs.Steps.{from_stop}
 use Rattle.jzon.proofs.Told.{told, same_or_memory, same_unless_memory, never_memory}
 use Rattle.jzon.proofs.parser.read_scalar.Goals as goal

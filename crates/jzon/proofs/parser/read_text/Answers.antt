@@ -1,4 +1,4 @@
-use Rattle.std.proofs.Common.{◌≡◌, ◌∙◌, sym, ap}
+use Rattle.std.proofs.Common.{◌∙◌, sym, ap}
 use Rattle.jzon_tree.specs.Value.{kind_of, text}
 use Rattle.jzon.specs.Reading.{usual}
 use Rattle.jzon.specs.Machine.{as_value, behind, from}
