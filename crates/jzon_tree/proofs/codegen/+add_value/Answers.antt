@@ -1,4 +1,4 @@
-use Rattle.std.proofs.Common.{◌≡◌, ◌∙◌, ◌∷◌, sym, ap, arith}
+use Rattle.std.proofs.Common.{◌∙◌, ◌∷◌, sym, ap, arith}
 use Rattle.jzon_tree.specs.Entries.{entries_of}
 use Rattle.jzon_tree.proofs.Dumps.{array_grown, array_whole, object_grown, object_whole}
 use Rattle.jzon_tree.proofs.Views.{most-rest}
