@@ -1,13 +1,12 @@
 -- A value seen level by level, and the pairs of an object as they are seen.
-use Rattle.std.proofs.Common.{◌≡◌, ℕ, suc, List, [], ◌∷◌, length, map, Option, Some, None, option_map, Vec, Global, cond, Bool, true, false, Bor, MutBor, refl, sym, ap, ◌∙◌, ◌≤◌, arith, rules}
+use Rattle.std.proofs.Common.{◌≡◌, ℕ, List, [], ◌∷◌, map, Option, Some, None, option_map, Vec, Global, cond, Bool, true, false, Bor, refl, sym, ap, ◌∙◌, ◌≤◌, arith, rules}
 use denote.Param.Weighed.{most}
-use Rattle.std.specs.Option.{option_copied, option_copied_mut}
+use Rattle.std.specs.Option.{option_copied}
 use Rattle.std.specs.List.{zip}
 use Rattle.std.specs.Str.{bytes_eq}
 use Rattle.jzon_base.specs.PairList.{find, put, cut, keys_of, values_of}
 use Rattle.jzon_tree.specs.Value.{Value, null, boolean, array, pairs_of, list_of_pairs}
 use Rattle.jzon_tree.specs.View.{view, view_object, viewed, view_pairs, view_values}
-use Rattle.jzon_tree.specs.Entries.{entries_of}
 use Rattle.jzon_tree.specs.declared.object.Object.{Object}
 use Rattle.jzon_tree.specs.declared.value.JsonValue.{JsonValue, size-JsonValue, Null, Boolean, Array, Object as in_object, the_lemmas}
 

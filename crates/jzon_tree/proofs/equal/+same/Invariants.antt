@@ -1,8 +1,5 @@
-use Rattle.std.proofs.Common.{◌≡◌, ◌≤◌, length}
-use denote.Param.Weighed.{most}
 use Rattle.std.specs.Iterator.Adapters.{zip_first, zip_second}
 use Rattle.std.specs.Slice.Iter.{iter_rest}
-use Rattle.jzon_tree.specs.declared.value.JsonValue.{size-JsonValue}
 use Rattle.jzon_tree.specs.Entries.{entries_of}
 use Rattle.jzon_tree.proofs.Compared.{ComparedItems, ComparedPairs}
 use Rattle.jzon_tree.proofs.equal.+same.Given as goal
