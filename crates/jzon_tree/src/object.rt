@@ -136,7 +136,9 @@ impl Object {
         ensures text { IfOk result (λ text. string_bytes text ≡ compact (view_object self.now)) }
         ensures memory { IsOkUnless result Error.OutOfMemory }
     {
-        codegen::add_object(String::new(alloc), self)
+        let mut text = String::new(alloc);
+        codegen::add_object(&mut text, self)?;
+        Ok(text)
     }
 
     /// The pairs in their order, from both ends.

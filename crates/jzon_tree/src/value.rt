@@ -39,7 +39,9 @@ impl JsonValue {
         ensures text { IfOk result (λ text. string_bytes text ≡ compact (view self.now)) }
         ensures memory { IsOkUnless result Error.OutOfMemory }
     {
-        codegen::add_value(String::new(alloc), self)
+        let mut text = String::new(alloc);
+        codegen::add_value(&mut text, self)?;
+        Ok(text)
     }
 }
 

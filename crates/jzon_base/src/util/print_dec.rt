@@ -1,6 +1,6 @@
 //! The text of a number (docs/RULES.md, "Printed numbers"; RFC 8259, section 6).
 
-ghost use Rattle.std.specs.Prelude.{◌≡◌, negsuc, ◌+◌, ◌-◌, ◌≤◌, ◌<◌, ◌++◌, length, replicate, IsAscii, OnOk, OnErr};
+ghost use Rattle.std.specs.Prelude.{◌≡◌, negsuc, ◌+◌, ◌-◌, ◌≤◌, ◌<◌, ◌++◌, length, replicate, string_bytes, IsAscii, OnOk, OnErr};
 ghost use Rattle.std.specs.Io.KnownBytes.{Appends};
 ghost use Rattle.arrayvec.specs.ArrayString.{array_string_len};
 ghost use Rattle.jzon_base.specs.NumberText.{point_after, point_after_first, fraction_text, small_exponent_text, magnitude_text, number_text};
@@ -9,6 +9,7 @@ ghost use Rattle.jzon_base.specs.Written.{AppendsBeginning};
 use crate::util::write_bytes;
 use arrayvec::ArrayString;
 use itoa::Buffer;
+use std::alloc::AllocError;
 use std::io;
 use std::io::Write;
 
@@ -25,6 +26,20 @@ pub fn write<W: Write>(wr: &mut W, positive: bool, n: u64, exponent: i16) -> io:
         (AppendsBeginning (W.contents wr.old) (W.contents wr.new) (number_text positive n exponent)) }
 {
     write_bytes(wr, number_text(positive, n, exponent).as_str().as_bytes())
+}
+
+/// Adds the text of the number `mantissa * 10 ^ exponent` with its sign. Where memory is refused, nothing is added.
+pub fn append(
+    text: &mut String,
+    positive: bool,
+    mantissa: u64,
+    exponent: i16,
+) -> Result<(), AllocError>
+    ensures ok { OnOk result
+        (string_bytes text.new ≡ string_bytes text.old ++ number_text positive mantissa exponent) }
+    ensures err { OnErr result (string_bytes text.new ≡ string_bytes text.old) }
+{
+    text.push_str(number_text(positive, mantissa, exponent).as_str())
 }
 
 // The whole text of a number.
@@ -206,6 +221,9 @@ mod tests {
         for (positive, mantissa, exponent, text) in rows {
             let number = Number::from_parts_unchecked(positive, mantissa, exponent);
             assert_eq!(rt; format!(in rt.alloc(); "{number}")?.as_str(), text);
+            let mut appended = String::from_str(rt.alloc(), "n = ")?;
+            append(&mut appended, positive, mantissa, exponent)?;
+            assert_eq!(rt; appended.strip_prefix("n = "), Some(text));
             let mut written = Vec::new(rt.alloc());
             write(&mut written, positive, mantissa, exponent)?;
             assert_eq!(rt; written.as_slice(), text.as_bytes());
