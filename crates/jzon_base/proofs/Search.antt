@@ -53,9 +53,6 @@ module _ (h : ℕ) (name : List ℕ) (es : List Entry) where
   pub IsAt-first : IsTree es (length es) → 0 < length es → IsAt h name es 0
   IsAt-first t l = record { within = l; reached = here; ahead = ahead_from_first t }
 
-  pub position-none_there : length es ≡ 0 → position (is_sought h name) (map hashed es) ≡ None
-  position-none_there l = position-none (is_sought h name) (map hashed es) (0, []) (λ j b. absurd (omega (arith, length-map es hashed)))
-
 -- the walk is at the entry e
 module _ (h : ℕ) (name : List ℕ) (es : List Entry) (t : IsTree es (length es)) (at : ℕ) (a : IsAt h name es at) (e : Entry) (read : e ≡ get_or es at e) where
   link_at-here : link_at h es at ≡ link h e

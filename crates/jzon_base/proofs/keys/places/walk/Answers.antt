@@ -1,6 +1,6 @@
 use Rattle.std.proofs.Common.{arith, ◌∙◌, sym}
 use Rattle.std.proofs.lemmas.Bool.Decides.{nat_tests}
-use Rattle.jzon_base.proofs.Search.{IsAt-first, IsAt-on, IsEnd-here, link-later, position-found, position-missing, position-none_there}
+use Rattle.jzon_base.proofs.Search.{IsAt-first, IsAt-on, IsEnd-here, link-later, position-found, position-missing}
 use Rattle.jzon_base.proofs.keys.places.walk.Goals as goal
 
 pub loop-entry-init : goal.loop-entry-init
