@@ -1,5 +1,5 @@
 -- Keys with their hashes, as keys come and go.
-use Rattle.std.proofs.Common.{◌≡◌, ◌≢◌, ℕ, ◌<◌, Bool, true, false, List, [], ◌∷◌, ◌++◌, length, get_or, None, take, drop, suc, eq-eqb, refl, ap, ◌∙◌, arith}
+use Rattle.std.proofs.Common.{◌≡◌, ◌≢◌, ℕ, ◌<◌, Bool, true, false, List, [], ◌∷◌, ◌++◌, length, get_or, Option, None, Some, Result, Ok, Err, IfOk, OnErr, MatchOption, take, drop, suc, eq-eqb, refl, sym, ap, ◌∙◌, arith}
 use Rattle.std.proofs.Math.ListN.{length-map}
 use Rattle.std.proofs.lemmas.List.{map-append}
 use Rattle.std.proofs.lemmas.List.Elements.{All-nil, All-push, All-append, All-take, All-drop, recursion_from_All}
@@ -11,6 +11,7 @@ use Rattle.std.proofs.Math.Bool.{and-false}
 use Rattle.std.specs.Cmp.Lexicographic.{nat_list_eq_equiv}
 use Rattle.std.specs.List.{position, remove, IsDistinct, list_any}
 use Rattle.std.specs.Str.{bytes_eq}
+use Rattle.std.specs.declared.alloc.AllocError.{AllocError}
 use Rattle.jzon_base.specs.Hash.{hash_of}
 use Rattle.jzon_base.specs.Places.{is_sought}
 use Rattle.jzon_base.specs.Keys.{HasOwnHash, names_of, IsIndex}
@@ -59,3 +60,17 @@ IsIndex-remove ps j l i = record {
   hashed = All-append HasOwnHash (take j ps) (drop (suc j) ps) (All-take HasOwnHash j ps i.hashed) (All-drop HasOwnHash (suc j) ps i.hashed);
   distinct = rw (map-remove (λ p. p.1) ps j) (IsDistinct-remove (names_of ps) j (omega (arith, length-map ps (λ p. p.1))) i.distinct);
 }
+
+-- a key that is looked for under its hash h, and put last where it is missing
+module _ (h : ℕ) (k : List ℕ) (ps : List (ℕ × List ℕ)) (own : h ≡ hash_of k) (i : IsIndex ps) where
+  position-own : position (is_sought h k) ps ≡ position (λ n. bytes_eq n k) (names_of ps)
+  position-own = rw own (position-sought k ps i)
+
+  pub place-own : (r : Result (Option ℕ) AllocError) → IfOk r (λ p. p ≡ position (is_sought h k) ps) → IfOk r (λ p. p ≡ position (λ n. bytes_eq n k) (names_of ps))
+  place-own (Ok p) e = e ∙ position-own
+  place-own (Err e) u = tt
+
+  pub IsIndex-place : (qs : List (ℕ × List ℕ)) (r : Result (Option ℕ) AllocError) → IfOk r (λ p. p ≡ position (is_sought h k) ps) → IfOk r (λ p. MatchOption p (qs ≡ ps ++ (h, k) ∷ []) (λ _. qs ≡ ps)) → OnErr r (qs ≡ ps) → IsIndex qs
+  IsIndex-place qs (Ok None) e q u = rw (q, own) (IsIndex-push ps k i (sym position-own ∙ sym e))
+  IsIndex-place qs (Ok (Some j)) e q u = rw q i
+  IsIndex-place qs (Err x) u v q = rw q i

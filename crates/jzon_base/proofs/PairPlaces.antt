@@ -1,14 +1,15 @@
 -- What the place of a key says of a list of pairs.
-use Rattle.std.proofs.Common.{◌≡◌, ℕ, zero, suc, ◌<◌, Bool, true, false, List, [], ◌∷◌, ◌++◌, length, get_or, None, Some, refl, sym, ap, ◌∙◌, arith}
+use Rattle.std.proofs.Common.{◌≡◌, ℕ, zero, suc, ◌<◌, Bool, true, false, List, [], ◌∷◌, ◌++◌, length, get_or, set, None, Some, refl, sym, ap, ◌∙◌, arith}
 use Rattle.std.proofs.Math.ListN.{length-map}
 use Rattle.std.proofs.lemmas.Slice.Eq.{bytes_eq-Decides}
 use Rattle.std.proofs.lemmas.List.Quantifiers.{position-Some}
 use Rattle.std.proofs.lemmas.Option.{slice_get-map}
 use Rattle.std.specs.Option.{option_map}
-use Rattle.std.specs.List.{position, remove, slice_get}
+use Rattle.std.specs.List.{position, remove, slice_get, zip}
 use Rattle.std.specs.Str.{bytes_eq}
 use Rattle.jzon_base.specs.PairList.{keys_of, values_of, find, put, cut, set_value, with_default}
 use Rattle.jzon_base.proofs.Positions.{position-first, position-None-before}
+use Rattle.jzon_base.proofs.Zips.{AreParts-zip, zip-push, zip-set}
 
 -- place i is the first of k among the keys
 record IsPlace (k : List ℕ) (ks : List (List ℕ)) (i : ℕ) : Type 0 where
@@ -125,5 +126,13 @@ module _ {V : Type 0} (k : List ℕ) (ps : List (List ℕ × V)) where
 -- a value that is written at the place where a default was put
 pub default_written : {V : Type 0} (k : List ℕ) (v : V) (ps qs : List (List ℕ × V)) (i : ℕ) → qs ≡ with_default k v ps → position (λ x. bytes_eq x k) (keys_of qs) ≡ Some i → (w : V) → set_value qs i w ≡ put k w ps
 default_written k v ps qs i e p w = sym (put_placed k qs i w p) ∙ ap (put k w) e ∙ put-with_default k v w ps
+
+-- a value that is put under a key, where keys and values stand side by side
+module _ {V : Type 0} (k : List ℕ) (v : V) (ks : List (List ℕ)) (vs : List V) (ps : List (List ℕ × V)) (seen : zip ks vs ≡ ps) (even : length vs ≡ length ks) where
+  pub zip-put_placed : (i : ℕ) → Some i ≡ position (λ x. bytes_eq x k) ks → zip ks (set vs i v) ≡ put k v ps
+  zip-put_placed i e = zip-set ks vs i v ∙ ap (λ qs. set_value qs i v) seen ∙ sym (put_placed k ps i v (rw (AreParts-zip ks vs ps seen even).keys at (sym e)))
+
+  pub zip-put_missing : None ≡ position (λ x. bytes_eq x k) ks → zip (ks ++ k ∷ []) (vs ++ v ∷ []) ≡ put k v ps
+  zip-put_missing e = zip-push ks vs k v even ∙ ap (λ qs. qs ++ (k, v) ∷ []) seen ∙ sym (put_missing k ps v (rw (AreParts-zip ks vs ps seen even).keys at (sym e)))
 
 pub ruleset places = (find_placed, find_pair, put_placed, cut_placed, default_placed, find_missing, put_missing, cut_missing, default_missing, last_placed)

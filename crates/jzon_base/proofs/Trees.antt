@@ -1,10 +1,13 @@
 -- The tree of entries as one more is put into it.
-use Rattle.std.proofs.Common.{◌≡◌, ◌⊎◌, ℕ, zero, suc, ◌+◌, ◌<◌, true, false, nat_lt, cond, List, [], ◌∷◌, ◌++◌, map, length, get_or, set, slice_index, Some, None, inl, inr, ⊎_elim, below_more, refl, sym, ap, ◌∙◌, arith}
+use Rattle.std.proofs.Common.{◌≡◌, ◌⊎◌, ℕ, zero, suc, ◌+◌, ◌<◌, true, false, nat_lt, cond, List, [], ◌∷◌, ◌++◌, map, length, get_or, set, slice_index, Some, None, inl, inr, ⊎_elim, below_more, refl, sym, ap, ◌∙◌, subst, arith}
 use Rattle.std.proofs.Math.Seq.{map-set_same}
+use Rattle.std.proofs.lemmas.List.{length_push, length-set, map-append}
 use Rattle.std.proofs.lemmas.Bool.Decides.{nat_tests}
 use Rattle.std.proofs.lemmas.Option.{none-some}
 use Rattle.jzon_base.specs.declared.keys.places.Entry.{Entry}
-use Rattle.jzon_base.specs.Places.{hashed, link, with_link, without_links, link_at, hash_at, Leads, here, IsTree}
+use Rattle.jzon_base.specs.declared.keys.places.WalkEnd.{WalkEnd}
+use Rattle.jzon_base.specs.declared.keys.places.WalkEnd.TheVariants.{Found, Behind, Nowhere}
+use Rattle.jzon_base.specs.Places.{hashed, link, with_link, without_links, link_at, hash_at, Leads, here, IsTree, IsEnd, HasRoom}
 use Rattle.jzon_base.proofs.Walks.{Leads-more, Leads-on}
 
 -- a link that is put leads to its place
@@ -60,12 +63,6 @@ module _ (h m : ℕ) (d : Entry) where
   link_at-cases g k (x ∷ es) zero (suc i) s = inl s
   link_at-cases g k (x ∷ es) (suc at) zero s = inl s
   link_at-cases g k (x ∷ es) (suc at) (suc i) s = ⊎_elim inl (λ e. inr (ap suc e.0, e.1)) (link_at-cases g k es at i s)
-
--- at is where the walk for h ends among the first n entries
-pub record IsEnd (h n : ℕ) (es : List Entry) (at : ℕ) : Type 0 where
-  pub within : at < n
-  pub ends : link_at h es at ≡ None
-  pub reached : Leads (link_at h es) 0 at
 
 module _ (h n : ℕ) (d : Entry) (es : List Entry) (at : ℕ) where
   hash_at-linked : (j : ℕ) → hash_at (linked h n d es at) j ≡ hash_at es j
@@ -149,3 +146,43 @@ IsTree-push es e n q t = record {
   later = λ h i m s. t.later h i m (sym (link_at-push h es e i) ∙ s);
   found = λ j l. rw (hash_at-push es (without_links e) j (omega arith)) (Leads-more (λ i m s. link_at-push (hash_at es j) es e i ∙ s) (t.found j l));
 }
+
+-- ---- one that is added at the end and linked where the walk for its hash ends
+
+IsEnd-push : (h : ℕ) (es : List Entry) (e : Entry) (at : ℕ) → IsEnd h (length es) es at → IsEnd h (length es) (es ++ without_links e ∷ []) at
+IsEnd-push h es e at w = record {
+  within = w.within;
+  ends = link_at-push h es e at ∙ w.ends;
+  reached = Leads-more (λ i m s. link_at-push h es e i ∙ s) w.reached;
+}
+
+hash_at-last : (es : List Entry) (e : Entry) → hash_at (es ++ e ∷ []) (length es) ≡ e.hash
+hash_at-last [] e = refl
+hash_at-last (x ∷ es) e = hash_at-last es e
+
+-- the entry d at the end of the walk is read and linked
+module _ (es xs : List Entry) (e d : Entry) (at n : ℕ) (added : xs ≡ es ++ without_links e ∷ []) (last : n ≡ length es) (read : d ≡ get_or xs at d) where
+  pub IsTree-put : IsTree es (length es) → IsEnd e.hash (length es) es at → IsTree (set xs at (with_link e.hash n d)) (length (set xs at (with_link e.hash n d)))
+  IsTree-put t w =
+      let tree : IsTree xs n = rw (added, last) (IsTree-push es e (length es) refl t) in
+      let hash : hash_at xs n ≡ e.hash = rw (added, last) (hash_at-last es (without_links e)) in
+      let end : IsEnd e.hash n xs at = rw (added, last) (IsEnd-push e.hash es e at w) in
+      let size : length xs ≡ n + 1 = omega (arith, ap length added, length_push es (without_links e), last) in
+      rw (length-set xs at (with_link e.hash n d), size)
+      (subst (λ (y : Entry). IsTree (set xs at (with_link e.hash n y)) (n + 1)) (sym read) (IsTree-linked e.hash n d xs at tree (omega arith) hash end))
+
+  pub hashed-put : map hashed (set xs at (with_link e.hash n d)) ≡ map hashed es ++ (e.hash, e.key) ∷ []
+  hashed-put = map-set_same hashed xs at (with_link e.hash n d) d (hashed-with_link e.hash n d ∙ ap hashed read) ∙ ap (map hashed) added ∙ map-append hashed es (without_links e ∷ [])
+
+-- where there was no entry, one is a tree
+pub IsTree-only : (es xs : List Entry) (e : Entry) → xs ≡ es ++ without_links e ∷ [] → length es ≡ 0 → IsTree es (length es) → IsTree xs (length xs)
+IsTree-only es xs e added none t =
+    let tree : IsTree xs 0 = rw added (IsTree-push es e 0 (sym none) (rw none at t)) in
+    let size : length xs ≡ 1 = omega (arith, ap length added, length_push es (without_links e), none) in
+    rw size (IsTree-one xs tree)
+
+-- a walk that ended at no entry
+pub nowhere : (h : ℕ) (es : List Entry) (end : WalkEnd) → ((i : ℕ) → end ≡ Found i → ⊥) → ((i : ℕ) → end ≡ Behind i → ⊥) → HasRoom h es end → length es ≡ 0
+nowhere h es (Found i) f b r = absurd (f i refl)
+nowhere h es (Behind i) f b r = absurd (b i refl)
+nowhere h es Nowhere f b r = r

@@ -1,7 +1,9 @@
 -- The tree in which the place of a key is found: a binary tree over hashes, in a list of entries in the order in which they were added.
-use Rattle.std.specs.Prelude.{◌≡◌, ℕ, zero, suc, ◌<◌, Bool, nat_lt, ◌==◌, ◌&&◌, if◌then◌else◌, Option, Some, None, List, [], ◌∷◌, map, slice_index}
+use Rattle.std.specs.Prelude.{◌≡◌, ℕ, zero, suc, ◌<◌, Bool, nat_lt, ◌==◌, ◌&&◌, if◌then◌else◌, Option, Some, None, List, [], ◌∷◌, map, length, slice_index}
 use Rattle.std.specs.Str.{bytes_eq}
 use Rattle.jzon_base.specs.declared.keys.places.Entry.{Entry}
+use Rattle.jzon_base.specs.declared.keys.places.WalkEnd.{WalkEnd}
+use Rattle.jzon_base.specs.declared.keys.places.WalkEnd.TheVariants.{Found, Behind, Nowhere}
 
 -- the hash and the key of an entry
 abbrev pub hashed : Entry → ℕ × List ℕ
@@ -41,3 +43,21 @@ pub data Leads (next : ℕ → Option ℕ) : ℕ → ℕ → Type 0 where
 pub record IsTree (es : List Entry) (n : ℕ) : Type 0 where
   pub later : (h i m : ℕ) → link_at h es i ≡ Some m → (i < m) × (m < n)
   pub found : (j : ℕ) → j < n → Leads (link_at (hash_at es j) es) 0 j
+
+-- at is where the walk for h ends among the first n entries
+pub record IsEnd (h n : ℕ) (es : List Entry) (at : ℕ) : Type 0 where
+  pub within : at < n
+  pub ends : link_at h es at ≡ None
+  pub reached : Leads (link_at h es) 0 at
+
+-- the place that a walk found
+abbrev pub place_of : WalkEnd → Option ℕ
+place_of (Found at) = Some at
+place_of (Behind at) = None
+place_of Nowhere = None
+
+-- where a walk for the hash h found no place, an entry of that hash can be linked at its end
+abbrev pub HasRoom : ℕ → List Entry → WalkEnd → Type 0
+HasRoom h es (Found at) = Unit {0}
+HasRoom h es (Behind at) = IsEnd h (length es) es at
+HasRoom h es Nowhere = length es ≡ 0

@@ -1,5 +1,5 @@
 //! The keys of an object in the order in which they were put, and the place of each.
-ghost use Rattle.std.specs.Prelude.{◌≡◌, ◌<◌, ◌++◌, ◌∷◌, ◌==◌, [], length, remove, slice_get, IfOk, OnOk, OnErr, None, Some};
+ghost use Rattle.std.specs.Prelude.{◌≡◌, ◌<◌, ◌++◌, ◌∷◌, ◌==◌, [], length, remove, slice_get, IfOk, OnOk, OnErr, MatchOption, None, Some};
 ghost use Rattle.std.specs.List.{position, IsDistinct};
 ghost use Rattle.std.specs.Str.{bytes_eq};
 
@@ -97,6 +97,17 @@ impl Keys {
         let key = Key::new(alloc, name)?;
         self.places.push_with(hash_of(name), key)?;
         Ok(())
+    }
+
+    /// The place of a key. Where the key is missing it is put last, and the answer is `None`. The error is a refused growth.
+    pub fn place(&mut self, key: Key) -> Result<Option<usize>, AllocError>
+        ensures place { IfOk result (λ place. place ≡ position (λ k. bytes_eq k key) self.old) }
+        ensures ok { IfOk result (λ place. MatchOption place
+            (self.new ≡ self.old ++ key ∷ []) (λ _. self.new ≡ self.old)) }
+        ensures err { OnErr result (self.new ≡ self.old) }
+    {
+        let hash = hash_of(key.as_str());
+        self.places.place_with(hash, key)
     }
 
     /// Removes the key at a place. The others keep their order. Takes no memory.
@@ -198,6 +209,9 @@ mod tests {
             assert_eq!(rt; keys.position("d"), None);
         }
         assert_eq!(rt; removed.position("a"), None);
+        assert_eq!(rt; removed.place(Key::new(rt.alloc(), "a")?)?, None);
+        assert_eq!(rt; removed.place(Key::new(rt.alloc(), "a")?)?, Some(3));
+        assert_eq!(rt; removed.len(), 4);
         Ok(())
     }
 

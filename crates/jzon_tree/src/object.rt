@@ -164,7 +164,7 @@ pub fn from_entries(alloc: Global, entries: Vec<(Key, JsonValue)>) -> Result<Obj
 {
     let mut object = Object::with_capacity(alloc, entries.len())?;
     for (key, value) in entries {
-        object.insert(alloc, key.as_str(), value)?;
+        object.pairs.put_entry(key, value)?;
     }
     Ok(object)
 }

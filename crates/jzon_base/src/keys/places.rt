@@ -1,7 +1,7 @@
 //! The tree in which the place of a key is found by its hash.
-ghost use Rattle.std.specs.Prelude.{◌≡◌, ◌+◌, ◌<◌, ◌++◌, ◌∷◌, [], map, length, remove, slice_get, Some, IfOk, OnOk, OnErr};
+ghost use Rattle.std.specs.Prelude.{◌≡◌, ◌+◌, ◌<◌, ◌++◌, ◌∷◌, [], map, length, remove, slice_get, Some, IfOk, OnOk, OnErr, MatchOption};
 ghost use Rattle.std.specs.List.{position};
-ghost use Rattle.jzon_base.specs.Places.{hashed, is_sought, link, with_link, without_links, IsTree};
+ghost use Rattle.jzon_base.specs.Places.{hashed, is_sought, link, with_link, without_links, place_of, HasRoom, IsTree};
 
 mod into_iter;
 mod iter;
@@ -61,6 +61,39 @@ impl Entry {
             left: self.left,
             right: self.right,
         })
+    }
+}
+
+/// Where the walk for a key ends.
+#[derive(Clone, Copy)]
+enum WalkEnd {
+    /// At the key.
+    Found(usize),
+    /// At the last entry on the way, from which the tree goes on to no other.
+    Behind(usize),
+    /// There is no entry.
+    Nowhere,
+}
+
+/// Walks down the tree for the key of a name under a hash.
+fn walk(entries: &[Entry], hash: u64, name: &str) -> WalkEnd
+    requires { IsTree entries.now (length entries.now) }
+    ensures place { place_of result ≡ position (is_sought hash name.now) (map hashed entries.now) }
+    ensures room { HasRoom hash entries.now result }
+{
+    if entries.is_empty() {
+        return WalkEnd::Nowhere;
+    }
+    let mut at = 0;
+    loop {
+        let entry = &entries[at];
+        if entry.is_sought(hash, name) {
+            return WalkEnd::Found(at);
+        }
+        match entry.link(hash) {
+            Some(next) => at = next,
+            None => return WalkEnd::Behind(at),
+        }
     }
 }
 
@@ -167,19 +200,34 @@ impl Places {
     pub fn position_with(&self, hash: u64, name: &str) -> Option<usize>
         ensures { result ≡ position (is_sought hash name.now) self.now }
     {
-        let mut next = if self.entries.is_empty() {
-            None
-        } else {
-            Some(0)
-        };
-        while let Some(at) = next {
-            let entry = &self.entries[at];
-            if entry.is_sought(hash, name) {
-                return Some(at);
-            }
-            next = entry.link(hash);
+        match walk(self.entries.as_slice(), hash, name) {
+            WalkEnd::Found(index) => Some(index),
+            WalkEnd::Behind(_) | WalkEnd::Nowhere => None,
         }
-        None
+    }
+
+    /// The first place of a key under a hash. Where the key is missing it is added last, and the answer is `None`. The error is a refused growth.
+    pub fn place_with(&mut self, hash: u64, key: Key) -> Result<Option<usize>, AllocError>
+        ensures place { IfOk result (λ place. place ≡ position (is_sought hash key) self.old) }
+        ensures ok { IfOk result (λ place. MatchOption place
+            (self.new ≡ self.old ++ (hash, key) ∷ []) (λ _. self.new ≡ self.old)) }
+        ensures err { OnErr result (self.new ≡ self.old) }
+    {
+        let end = walk(self.entries.as_slice(), hash, key.as_str());
+        if let WalkEnd::Found(index) = end {
+            return Ok(Some(index));
+        }
+        let added = self.entries.len();
+        self.entries.push(Entry {
+            key,
+            hash,
+            left: None,
+            right: None,
+        })?;
+        if let WalkEnd::Behind(index) = end {
+            self.entries[index].set_link(hash, added);
+        }
+        Ok(None)
     }
 
     /// Adds a key under a hash, last. The error is a refused growth.
@@ -277,6 +325,9 @@ mod tests {
         ] {
             assert_eq!(rt; places.position_with(7, name), want, "of {name}, without b");
         }
+        assert_eq!(rt; places.place_with(7, Key::new(rt.alloc(), "c")?)?, Some(2));
+        assert_eq!(rt; places.place_with(7, Key::new(rt.alloc(), "b")?)?, None);
+        assert_eq!(rt; places.position_with(7, "b"), Some(3));
         Ok(())
     }
 
@@ -302,6 +353,8 @@ mod tests {
             assert_eq!(rt; copy.position_with(*hash, name), Some(index), "of {name}");
             assert_eq!(rt; places.position_with(*hash, name), None, "of {name}");
         }
+        assert_eq!(rt; places.place_with(50, Key::new(rt.alloc(), "m")?)?, None);
+        assert_eq!(rt; places.position_with(50, "m"), Some(0));
         Ok(())
     }
 }

@@ -88,6 +88,9 @@ fn removes_and_puts_again(rt: HostRuntime) -> Result<(), AllocError> {
     assert_eq!(rt; shown(rt.alloc(), &pairs)?.as_str(), "a1 c3 b4 ");
     pairs.insert(rt.alloc(), "a", 5)?;
     assert_eq!(rt; shown(rt.alloc(), &pairs)?.as_str(), "a5 c3 b4 ");
+    pairs.put_entry(Key::new(rt.alloc(), "d")?, 6)?;
+    pairs.put_entry(Key::new(rt.alloc(), "c")?, 7)?;
+    assert_eq!(rt; shown(rt.alloc(), &pairs)?.as_str(), "a5 c7 b4 d6 ");
     Ok(())
 }
 
