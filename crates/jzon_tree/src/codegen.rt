@@ -1,7 +1,7 @@
 //! The text of values. Each function adds its own part at the end of the text that it is lent. Where memory is refused, a beginning of that part may stand there,
 //! and the caller drops the text.
 
-ghost use Rattle.std.specs.Prelude.{◌≡◌, ◌<◌, ◌++◌, ◌∷◌, codes, false, OnOk, IsOkUnless, string_bytes};
+ghost use Rattle.std.specs.Prelude.{◌≡◌, ◌<◌, ◌++◌, ◌∷◌, codes, false, OnOk, string_bytes};
 ghost use Rattle.std.specs.Char.{digit_char};
 ghost use Rattle.jzon_base.specs.NumberText.{written_text};
 ghost use Rattle.jzon_base.specs.PlainBytes.{is_plain};
@@ -11,38 +11,35 @@ ghost use Rattle.jzon_tree.specs.View.{view, view_object, view_values};
 
 use crate::object::Object;
 use crate::value::JsonValue;
-use jzon_base::error::{Error, Result};
 use jzon_base::number::Number;
 use jzon_base::util::plain::plain_len;
 use jzon_base::util::print_dec;
+use std::alloc::AllocError;
 
 /// Adds the compact text of the value.
 #[cycle(add_value)]
 #[tactic(auto, using(crate::proofs::Views::views))]
-pub(crate) fn add_value(text: &mut String, value: &JsonValue) -> Result<()>
-    ensures added { OnOk result
+pub(crate) fn add_value(text: &mut String, value: &JsonValue) -> Result<(), AllocError>
+    ensures { OnOk result
         (string_bytes text.new ≡ string_bytes text.old ++ compact (view value.now)) }
-    ensures memory { IsOkUnless result Error.OutOfMemory }
 {
     match value {
-        JsonValue::Null => text.push_str("null")?,
-        JsonValue::Short(string) => add_string(text, string.as_str())?,
-        JsonValue::String(string) => add_string(text, string.as_str())?,
-        JsonValue::Number(number) => add_number(text, number)?,
-        JsonValue::Boolean(true) => text.push_str("true")?,
-        JsonValue::Boolean(false) => text.push_str("false")?,
-        JsonValue::Object(object) => add_object(text, object)?,
-        JsonValue::Array(items) => add_array(text, items)?,
+        JsonValue::Null => text.push_str("null"),
+        JsonValue::Short(string) => add_string(text, string.as_str()),
+        JsonValue::String(string) => add_string(text, string.as_str()),
+        JsonValue::Number(number) => add_number(text, number),
+        JsonValue::Boolean(true) => text.push_str("true"),
+        JsonValue::Boolean(false) => text.push_str("false"),
+        JsonValue::Object(object) => add_object(text, object),
+        JsonValue::Array(items) => add_array(text, items),
     }
-    Ok(())
 }
 
 // Adds the values in brackets.
 #[cycle(add_value)]
-fn add_array(text: &mut String, items: &[JsonValue]) -> Result<()>
-    ensures added { OnOk result
+fn add_array(text: &mut String, items: &[JsonValue]) -> Result<(), AllocError>
+    ensures { OnOk result
         (string_bytes text.new ≡ string_bytes text.old ++ compact (array (view_values items.now))) }
-    ensures memory { IsOkUnless result Error.OutOfMemory }
 {
     let Some((first, others)) = items.split_first() else {
         text.push_str("[]")?;
@@ -60,10 +57,9 @@ fn add_array(text: &mut String, items: &[JsonValue]) -> Result<()>
 
 /// Adds the compact text of the object.
 #[cycle(add_value)]
-pub(crate) fn add_object(text: &mut String, object: &Object) -> Result<()>
-    ensures added { OnOk result
+pub(crate) fn add_object(text: &mut String, object: &Object) -> Result<(), AllocError>
+    ensures { OnOk result
         (string_bytes text.new ≡ string_bytes text.old ++ compact (view_object object.now)) }
-    ensures memory { IsOkUnless result Error.OutOfMemory }
 {
     let mut pairs = object.iter();
     let Some((key, value)) = pairs.next() else {
@@ -81,11 +77,10 @@ pub(crate) fn add_object(text: &mut String, object: &Object) -> Result<()>
 }
 
 // Adds what stands before a key, the key, and its colon.
-fn add_key(text: &mut String, before: char, key: &str) -> Result<()>
+fn add_key(text: &mut String, before: char, key: &str) -> Result<(), AllocError>
     requires { before < 128 }
-    ensures added { OnOk result
+    ensures { OnOk result
         (string_bytes text.new ≡ string_bytes text.old ++ before ∷ (quoted key.now ++ codes ":")) }
-    ensures memory { IsOkUnless result Error.OutOfMemory }
 {
     text.push(before)?;
     add_string(text, key)?;
@@ -94,26 +89,22 @@ fn add_key(text: &mut String, before: char, key: &str) -> Result<()>
 }
 
 // Adds the text of the number, or `null` for NaN.
-fn add_number(text: &mut String, number: &Number) -> Result<()>
-    ensures added { OnOk result
+fn add_number(text: &mut String, number: &Number) -> Result<(), AllocError>
+    ensures { OnOk result
         (string_bytes text.new ≡ string_bytes text.old ++ written_text number.now) }
-    ensures memory { IsOkUnless result Error.OutOfMemory }
 {
     if number.is_nan() {
-        text.push_str("null")?;
-    } else {
-        let (positive, mantissa, exponent) = number.as_parts();
-        print_dec::append(text, positive, mantissa, exponent)?;
+        return text.push_str("null");
     }
-    Ok(())
+    let (positive, mantissa, exponent) = number.as_parts();
+    print_dec::append(text, positive, mantissa, exponent)
 }
 
 // Adds the text in quotes, escaped. Runs of bytes that need no escape are added whole.
 #[tactic(auto, using(crate::proofs::Plain::runs))]
-fn add_string(text: &mut String, string: &str) -> Result<()>
-    ensures added { OnOk result
+fn add_string(text: &mut String, string: &str) -> Result<(), AllocError>
+    ensures { OnOk result
         (string_bytes text.new ≡ string_bytes text.old ++ quoted string.now) }
-    ensures memory { IsOkUnless result Error.OutOfMemory }
 {
     text.push('"')?;
     let mut rest = string;
@@ -130,27 +121,25 @@ fn add_string(text: &mut String, string: &str) -> Result<()>
 }
 
 // Adds what stands in a string for a byte that needs an escape.
-fn add_escape(text: &mut String, byte: u8) -> Result<()>
+fn add_escape(text: &mut String, byte: u8) -> Result<(), AllocError>
     requires { is_plain byte ≡ false }
-    ensures added { OnOk result
+    ensures { OnOk result
         (string_bytes text.new ≡ string_bytes text.old ++ escaped_byte byte) }
-    ensures memory { IsOkUnless result Error.OutOfMemory }
 {
     match byte {
-        b'"' => text.push_str("\\\"")?,
-        b'\\' => text.push_str("\\\\")?,
-        8 => text.push_str("\\b")?,
-        b'\t' => text.push_str("\\t")?,
-        b'\n' => text.push_str("\\n")?,
-        12 => text.push_str("\\f")?,
-        b'\r' => text.push_str("\\r")?,
+        b'"' => text.push_str("\\\""),
+        b'\\' => text.push_str("\\\\"),
+        8 => text.push_str("\\b"),
+        b'\t' => text.push_str("\\t"),
+        b'\n' => text.push_str("\\n"),
+        12 => text.push_str("\\f"),
+        b'\r' => text.push_str("\\r"),
         _ => {
             text.push_str("\\u00")?;
             text.push(hex_digit(byte / 16))?;
-            text.push(hex_digit(byte % 16))?;
+            text.push(hex_digit(byte % 16))
         }
     }
-    Ok(())
 }
 
 fn hex_digit(digit: u8) -> char
