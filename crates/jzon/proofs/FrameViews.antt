@@ -60,6 +60,10 @@ pub some_not_fresh : (fs : Frames) (xs : List JsonValue) → 0 < length xs → i
 some_not_fresh fs [] lt = absurd (omega arith)
 some_not_fresh fs (x ∷ xs) lt = refl
 
+pub some_entries : (es : List (List ℕ × JsonValue)) → 0 < length es → entries_view es ≢ []
+some_entries [] lt e = absurd (omega arith)
+some_entries (x ∷ es) lt e = cc
+
 pub no_entries : (es : Entries) (e : List ℕ × Value) → es ++ e ∷ [] ≢ []
 no_entries [] e h = cc
 no_entries (x ∷ es) e h = cc

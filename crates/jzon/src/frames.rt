@@ -1,17 +1,17 @@
 //! The open containers of a text (RFC 8259, sections 4 and 5; docs/RULES.md, "Texts" and "Depth").
 
-ghost use Rattle.std.specs.Prelude.{◌≡◌, ◌≢◌, ℕ, List, [], ◌∷◌, ◌++◌, ◌<◌, ◌≤◌, ◌+◌, length, chars, map, IfOk, OnOk, Err, None, MatchResult, slice_index, true, false, vec_len};
+ghost use Rattle.std.specs.Prelude.{◌≡◌, ◌≢◌, ◌⊎◌, ◌↔◌, IsTrue, ℕ, List, [], ◌∷◌, ◌++◌, ◌<◌, ◌≤◌, ◌+◌, length, chars, map, IfOk, OnOk, Err, None, MatchResult, slice_index, false, vec_len};
 ghost use Rattle.std.specs.Str.{IsCharBoundary};
-ghost use Rattle.jzon_base.specs.declared.error.Error.TheVariants.{OutOfMemory};
 ghost use Rattle.jzon_tree.specs.Value.{Value};
 ghost use Rattle.jzon_tree.specs.View.{view};
 ghost use Rattle.jzon_tree.specs.Writing.{is_space};
-ghost use Rattle.jzon.specs.Frames.{stack_view, open_in, entries_view, place_of, IsReady};
+ghost use Rattle.jzon.specs.Frames.{stack_view, open_in, entries_view, place_of, IsAtElement, IsReady};
 ghost use Rattle.jzon.specs.Machine.{Entries, Frames, array_frame, object_frame, before, before_key, behind, key_mark, from, TellsUnlessMemory};
 ghost use Rattle.jzon.specs.Reading.{usual};
 
 use crate::blank::skip_blank;
 use crate::place::{fault_at, has_byte};
+use crate::scalar::read_scalar;
 use crate::string::read_string;
 use jzon_base::error::{Error, Result};
 use jzon_base::key::Key;
@@ -31,13 +31,13 @@ pub(crate) enum Frame {
     Object(Vec<(Key, JsonValue)>, Key),
 }
 
-/// Reads on behind the opening bracket of an array: an empty array is a value at once, and else the array is open, with its first element behind the place.
-/// After an error what is on the stack has no meaning.
+/// Reads on behind the opening bracket of an array: to its end, or to an element that opens a container. After an error what is on the stack has no meaning.
 pub(crate) fn open_array(
     alloc: Global,
     source: &str,
     start: usize,
     stack: &mut Vec<Frame>,
+    buffer: &mut String,
 ) -> Result<(Option<JsonValue>, usize)>
     requires boundary { IsCharBoundary source.now start }
     requires room { vec_len stack.old ≤ usual.depth }
@@ -59,12 +59,11 @@ pub(crate) fn open_array(
     if stack.len() == DEPTH_LIMIT {
         return Err(Error::ExceededDepthLimit);
     }
-    stack.push(Frame::Array(Vec::new(alloc)))?;
-    Ok((None, index))
+    let elements = Vec::with_capacity(alloc, 2)?;
+    read_elements(alloc, source, index, elements, stack, buffer)
 }
 
-/// Reads on behind the opening bracket of an object: an empty object is a value at once, and else the object is open, with the value of its first key behind
-/// the place. After an error what is on the stack has no meaning.
+/// The same for an object.
 pub(crate) fn open_object(
     alloc: Global,
     source: &str,
@@ -92,9 +91,98 @@ pub(crate) fn open_object(
     if stack.len() == DEPTH_LIMIT {
         return Err(Error::ExceededDepthLimit);
     }
-    let (key, end) = read_key(alloc, source, index, buffer)?;
-    stack.push(Frame::Object(Vec::new(alloc), key))?;
-    Ok((None, end))
+    let entries = Vec::with_capacity(alloc, 3)?;
+    read_entries(alloc, source, index, entries, stack, buffer)
+}
+
+/// Whether an array or an object opens at this place.
+fn opens_container(source: &str, index: usize) -> bool
+    ensures { IsTrue result ↔ ((index < length source.now) × ((slice_index source.now index ≡ 91) ⊎ (slice_index source.now index ≡ 123))) }
+{
+    let bytes = source.as_bytes();
+    index < bytes.len() && (bytes[index] == b'[' || bytes[index] == b'{')
+}
+
+/// Reads on in an open array, whose elements so far these are and whose next element begins at `start`: to the end of the array, or to an element that opens a
+/// container. After an error what is on the stack has no meaning.
+fn read_elements(
+    alloc: Global,
+    source: &str,
+    start: usize,
+    elements: Vec<JsonValue>,
+    stack: &mut Vec<Frame>,
+    buffer: &mut String,
+) -> Result<(Option<JsonValue>, usize)>
+    requires boundary { IsCharBoundary source.now start }
+    requires stop { start < length source.now → is_space usual.strict (slice_index source.now start) ≡ false }
+    requires room { vec_len stack.old < usual.depth }
+    requires element { IsAtElement source.now start (array_frame (stack_view stack.old.items) (map view elements.items)) }
+    ensures bounds { IfOk result (λ r. (start ≤ r.1) × IsCharBoundary source.now r.1) }
+    ensures room { OnOk result (vec_len stack.new ≤ usual.depth) }
+    ensures ready { IfOk result (λ r. IsReady source.now r.1 r.0 (stack_view stack.new.items)) }
+    ensures same { let fs = array_frame (stack_view stack.old.items) (map view elements.items) in MatchResult result
+        (λ r. from usual source.now (before fs) start ≡ from usual source.now (place_of r.0 (stack_view stack.new.items)) r.1)
+        (λ e. TellsUnlessMemory (chars source.now) e (from usual source.now (before fs) start)) }
+{
+    let mut elements = elements;
+    let mut index = start;
+    while !opens_container(source, index) {
+        let (value, end) = read_scalar(alloc, source, index, buffer)?;
+        elements.push(value)?;
+        index = skip_blank(source, end);
+        if has_byte(source, index, b']') {
+            return Ok((Some(JsonValue::Array(elements)), index + 1));
+        }
+        if !has_byte(source, index, b',') {
+            return Err(fault_at(source, index));
+        }
+        index = skip_blank(source, index + 1);
+    }
+    stack.push(Frame::Array(elements))?;
+    Ok((None, index))
+}
+
+/// The same in an open object, whose entries so far these are and whose next key begins at `start`.
+fn read_entries(
+    alloc: Global,
+    source: &str,
+    start: usize,
+    entries: Vec<(Key, JsonValue)>,
+    stack: &mut Vec<Frame>,
+    buffer: &mut String,
+) -> Result<(Option<JsonValue>, usize)>
+    requires boundary { IsCharBoundary source.now start }
+    requires stop { start < length source.now → is_space usual.strict (slice_index source.now start) ≡ false }
+    requires room { vec_len stack.old < usual.depth }
+    requires key { entries_view entries.items ≡ [] → slice_index source.now start ≢ 125 }
+    ensures bounds { IfOk result (λ r. (start ≤ r.1) × IsCharBoundary source.now r.1) }
+    ensures room { OnOk result (vec_len stack.new ≤ usual.depth) }
+    ensures ready { IfOk result (λ r. IsReady source.now r.1 r.0 (stack_view stack.new.items)) }
+    ensures same { let here = before_key (stack_view stack.old.items) (entries_view entries.items) in MatchResult result
+        (λ r. from usual source.now here start ≡ from usual source.now (place_of r.0 (stack_view stack.new.items)) r.1)
+        (λ e. TellsUnlessMemory (chars source.now) e (from usual source.now here start)) }
+{
+    let mut entries = entries;
+    let mut index = start;
+    loop {
+        let (key, colon) = read_key(alloc, source, index, buffer)?;
+        index = skip_blank(source, colon);
+        if opens_container(source, index) {
+            stack.push(Frame::Object(entries, key))?;
+            return Ok((None, index));
+        }
+        let (value, end) = read_scalar(alloc, source, index, buffer)?;
+        entries.push((key, value))?;
+        index = skip_blank(source, end);
+        if has_byte(source, index, b'}') {
+            let object = from_entries(alloc, entries)?;
+            return Ok((Some(JsonValue::Object(object)), index + 1));
+        }
+        if !has_byte(source, index, b',') {
+            return Err(fault_at(source, index));
+        }
+        index = skip_blank(source, index + 1);
+    }
 }
 
 /// The key that begins at `start`, and the place behind its colon.
@@ -118,7 +206,7 @@ fn read_key(alloc: Global, source: &str, start: usize, buffer: &mut String) -> R
     Ok((key, colon + 1))
 }
 
-/// Reads on behind the value `item` of an open container, which was the inmost: the container is whole, or goes on before its next value. After an error what
+/// Reads on behind the value `item` of an open container, which was the inmost: to the container's end, or to its next value that opens one. After an error what
 /// is on the stack has no meaning.
 pub(crate) fn go_on(
     alloc: Global,
@@ -143,7 +231,7 @@ pub(crate) fn go_on(
     match frame {
         Frame::Array(mut elements) => {
             elements.push(item)?;
-            go_on_array(source, index, elements, stack)
+            go_on_array(alloc, source, index, elements, stack, buffer)
         }
         Frame::Object(mut entries, key) => {
             entries.push((key, item))?;
@@ -154,10 +242,12 @@ pub(crate) fn go_on(
 
 /// The same for an array, whose elements so far these are.
 fn go_on_array(
+    alloc: Global,
     source: &str,
     index: usize,
     elements: Vec<JsonValue>,
     stack: &mut Vec<Frame>,
+    buffer: &mut String,
 ) -> Result<(Option<JsonValue>, usize)>
     requires boundary { IsCharBoundary source.now index }
     requires stop { index < length source.now → is_space usual.strict (slice_index source.now index) ≡ false }
@@ -177,8 +267,8 @@ fn go_on_array(
     if !has_byte(source, index, b',') {
         return Err(fault_at(source, index));
     }
-    stack.push(Frame::Array(elements))?;
-    Ok((None, index + 1))
+    let start = skip_blank(source, index + 1);
+    read_elements(alloc, source, start, elements, stack, buffer)
 }
 
 /// The same for an object, whose entries so far these are.
@@ -193,6 +283,7 @@ fn go_on_object(
     requires boundary { IsCharBoundary source.now index }
     requires stop { index < length source.now → is_space usual.strict (slice_index source.now index) ≡ false }
     requires room { vec_len stack.old < usual.depth }
+    requires some { 0 < vec_len entries }
     ensures bounds { IfOk result (λ r. (index < r.1) × IsCharBoundary source.now r.1) }
     ensures room { OnOk result (vec_len stack.new ≤ usual.depth) }
     ensures ready { IfOk result (λ r. IsReady source.now r.1 r.0 (stack_view stack.new.items)) }
@@ -209,7 +300,5 @@ fn go_on_object(
         return Err(fault_at(source, index));
     }
     let start = skip_blank(source, index + 1);
-    let (key, end) = read_key(alloc, source, start, buffer)?;
-    stack.push(Frame::Object(entries, key))?;
-    Ok((None, end))
+    read_entries(alloc, source, start, entries, stack, buffer)
 }

@@ -8,6 +8,7 @@ mod numeral;
 pub mod object;
 mod parser;
 mod place;
+mod scalar;
 mod string;
 #[cfg(test)]
 mod tests;

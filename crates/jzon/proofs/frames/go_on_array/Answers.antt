@@ -1,16 +1,15 @@
-use Rattle.std.proofs.Common.{◌≡◌, ◌∙◌, ◌+◌, sym, ap, arith, false}
+use Rattle.std.proofs.Common.{◌∙◌, ◌+◌, [], ◌∷◌, ◌++◌, sym, ap, arith}
 use Rattle.std.specs.Prelude.{chars}
-use Rattle.std.proofs.lemmas.Bool.{iff_false, true≢false}
+use Rattle.std.proofs.lemmas.Bool.{iff_false}
 use Rattle.std.proofs.lemmas.Str.{IsCharBoundary-after_ascii}
 use Rattle.jzon_tree.specs.Value.{array, values_of}
 use Rattle.jzon_tree.proofs.Views.{view-Array}
 use Rattle.jzon.specs.Reading.{usual}
 use Rattle.jzon.specs.Frames.{stack_view}
-use Rattle.jzon.specs.Machine.{array_frame, is_fresh, before, behind, from}
+use Rattle.jzon.specs.Machine.{array_frame, before, behind, from}
 use Rattle.jzon.proofs.ContainerSteps.{close_array, element_comma, no_element}
-use Rattle.jzon.proofs.FrameViews.{some_not_fresh, stack_view-push}
 use Rattle.jzon.proofs.Steps.{from_stop}
-use Rattle.jzon.proofs.Told.{told}
+use Rattle.jzon.proofs.Told.{told, same_unless_memory}
 use Rattle.jzon.proofs.frames.go_on_array.Goals as goal
 
 pub returns-then-has_byte-clause-bounds : goal.returns-then-has_byte-clause-bounds
@@ -35,23 +34,17 @@ returns-then-not-has_byte-clause-same c vs v e =
     (iff_false c.has_byte-2.ensures c.if-not-has_byte.true) (iff_false c.has_byte.ensures c.if-has_byte.false)))
     c.fault_at.ensures
 
-pub returns-clause-bounds : goal.returns-clause-bounds
-returns-clause-bounds c =
+pub skip_blank-start-requires : goal.skip_blank-start-requires
+skip_blank-start-requires c =
     let here = c.has_byte-2.ensures.0 c.if-not-has_byte.false in
-    (omega arith, IsCharBoundary-after_ascii c.args.source.now c.args.index c.utf8.source here.0 (omega (arith, here.1)))
-
-pub returns-clause-ready : goal.returns-clause-ready
-returns-clause-ready c fresh =
-    let fs = stack_view c.args.stack.now.items in
-    let full : is_fresh (stack_view c.push.new.self.items) ≡ false =
-    ap is_fresh (stack_view-push c.args.stack.now.items c.push.new.self.items _ c.in_ok-push.ensures.items)
-    ∙ some_not_fresh fs c.args.elements.items (omega (arith, c.requires.some, c.args.elements.ok.0)) in
-    absurd (true≢false (sym fresh ∙ full))
+    IsCharBoundary-after_ascii c.args.source.now c.args.index c.utf8.source here.0 (omega (arith, here.1))
 
 pub returns-clause-same : goal.returns-clause-same
 returns-clause-same c vs v e =
     let here = c.has_byte-2.ensures.0 c.if-not-has_byte.false in
     let fs = stack_view c.args.stack.now.items in
-    element_comma usual c.args.source.now c.args.index fs vs v c.utf8.source c.requires.boundary here.0 here.1
-    ∙ ap (λ gs. from usual c.args.source.now (before gs) (c.args.index + 1))
-    (sym (stack_view-push c.args.stack.now.items c.push.new.self.items _ c.in_ok-push.ensures.items ∙ ap (λ xs. array_frame fs xs) e))
+    same_unless_memory _ _ _ (chars c.args.source.now) c.read_elements.result
+    (element_comma usual c.args.source.now c.args.index fs vs v c.utf8.source c.requires.boundary here.0 here.1
+    ∙ c.skip_blank-start.ensures.before (array_frame fs (vs ++ v ∷ []))
+    ∙ ap (λ xs. from usual c.args.source.now (before (array_frame fs xs)) c.skip_blank-start.result) (sym e))
+    c.read_elements.ensures.same

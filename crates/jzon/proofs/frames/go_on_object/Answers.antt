@@ -1,18 +1,17 @@
-use Rattle.std.proofs.Common.{◌∙◌, ◌<◌, ◌+◌, [], ◌∷◌, ◌++◌, sym, ap, arith}
+use Rattle.std.proofs.Common.{◌∙◌, ◌+◌, [], ◌∷◌, ◌++◌, sym, ap, arith}
 use Rattle.std.specs.Prelude.{chars}
 use Rattle.std.proofs.lemmas.Bool.{iff_false}
-use Rattle.std.proofs.lemmas.Result.{err_from_is_err_and}
 use Rattle.std.proofs.lemmas.Str.{IsCharBoundary-after_ascii}
 use Rattle.jzon_base.specs.PairList.{put_each}
 use Rattle.jzon_tree.specs.Value.{object, pairs_of}
 use Rattle.jzon_tree.proofs.Views.{view-Object}
 use Rattle.jzon.specs.Reading.{usual}
 use Rattle.jzon.specs.Frames.{stack_view}
-use Rattle.jzon.specs.Machine.{object_frame, frames_depth, before, behind, from}
+use Rattle.jzon.specs.Machine.{object_frame, before_key, behind, from}
 use Rattle.jzon.proofs.ContainerSteps.{close_object, entry_comma, no_entry}
-use Rattle.jzon.proofs.FrameViews.{frames_depth-stack, key_mark-shallow, no_entries, stack_view-push, view_object-entries}
+use Rattle.jzon.proofs.FrameViews.{some_entries, view_object-entries}
 use Rattle.jzon.proofs.Steps.{from_stop}
-use Rattle.jzon.proofs.Told.{told, told_again, told_err}
+use Rattle.jzon.proofs.Told.{told, same_unless_memory}
 use Rattle.jzon.proofs.frames.go_on_object.Goals as goal
 
 pub returns-then-has_byte-clause-bounds : goal.returns-then-has_byte-clause-bounds
@@ -43,27 +42,15 @@ skip_blank-start-requires c =
     let here = c.has_byte-2.ensures.0 c.if-not-has_byte.false in
     IsCharBoundary-after_ascii c.args.source.now c.args.index c.utf8.source here.0 (omega (arith, here.1))
 
-pub returns-in_err-key-clause-same : goal.returns-in_err-key-clause-same
-returns-in_err-key-clause-same c es k v e =
-    let here = c.has_byte-2.ensures.0 c.if-not-has_byte.false in
-    let fs = stack_view c.args.stack.now.items in
-    let shallow : frames_depth fs < 512 = omega (arith, frames_depth-stack c.args.stack.now.items, c.args.stack.now.ok.0, c.requires.room) in
-    let read = es ++ (k, v) ∷ [] in
-    let failed = err_from_is_err_and c.from_residual-in_err-key.result c.from_residual-in_err-key.ensures.1 in
-    told_err _ (chars c.args.source.now) c.from_residual-in_err-key.result failed.0 _ failed.1
-    (told_again (chars c.args.source.now) failed.0 _ _
-    (entry_comma usual c.args.source.now c.args.index fs es k v c.utf8.source c.requires.boundary here.0 here.1 ∙ c.skip_blank-start.ensures.before_key fs read)
-    (rw failed.2 (c.in_err-key.ensures.same fs read (key_mark-shallow fs read shallow) (λ none. absurd (no_entries es (k, v) none)))))
+pub read_entries-requires-clause-key : goal.read_entries-requires-clause-key
+read_entries-requires-clause-key c none = absurd (some_entries c.args.entries.items (omega (arith, c.requires.some, c.args.entries.ok.0)) none)
 
 pub returns-clause-same : goal.returns-clause-same
 returns-clause-same c es k v e =
     let here = c.has_byte-2.ensures.0 c.if-not-has_byte.false in
     let fs = stack_view c.args.stack.now.items in
-    let shallow : frames_depth fs < 512 = omega (arith, frames_depth-stack c.args.stack.now.items, c.args.stack.now.ok.0, c.requires.room) in
-    let read = es ++ (k, v) ∷ [] in
-    entry_comma usual c.args.source.now c.args.index fs es k v c.utf8.source c.requires.boundary here.0 here.1
-    ∙ c.skip_blank-start.ensures.before_key fs read
-    ∙ c.in_ok-key.ensures.same fs read (key_mark-shallow fs read shallow) (λ none. absurd (no_entries es (k, v) none))
-    ∙ ap (λ gs. from usual c.args.source.now (before gs) c.in_ok-key.end)
-    (sym (stack_view-push c.args.stack.now.items c.push.new.self.items _ c.in_ok-push.ensures.items
-    ∙ ap (λ xs. object_frame fs xs c.in_ok-key.key) e))
+    same_unless_memory _ _ _ (chars c.args.source.now) c.read_entries.result
+    (entry_comma usual c.args.source.now c.args.index fs es k v c.utf8.source c.requires.boundary here.0 here.1
+    ∙ c.skip_blank-start.ensures.before_key fs (es ++ (k, v) ∷ [])
+    ∙ ap (λ xs. from usual c.args.source.now (before_key fs xs) c.skip_blank-start.result) (sym e))
+    c.read_entries.ensures.same

@@ -9,7 +9,7 @@ use Rattle.jzon.specs.Machine.{no_frames, before, past_letter, from}
 use Rattle.jzon.proofs.Beginnings.{stops_before, begin_null, begin_true, begin_false, begin_minus, begin_digit, begin_string}
 use Rattle.jzon.proofs.Steps.{from_stop}
 use Rattle.jzon.proofs.Told.{told, same_or_memory, same_unless_memory, never_memory}
-use Rattle.jzon.proofs.parser.read_scalar.Goals as goal
+use Rattle.jzon.proofs.scalar.read_scalar.Goals as goal
 
 -- a byte of the bytes of a text is one of the text
 here : (bs cs : List ℕ) (i x : ℕ) → cs ≡ bs → get_or cs i 0 ≡ x → get_or bs i 0 ≡ x

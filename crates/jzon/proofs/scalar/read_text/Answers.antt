@@ -2,7 +2,7 @@ use Rattle.std.proofs.Common.{◌∙◌, sym, ap}
 use Rattle.jzon_tree.specs.Value.{kind_of, text}
 use Rattle.jzon.specs.Reading.{usual}
 use Rattle.jzon.specs.Machine.{as_value, behind, from}
-use Rattle.jzon.proofs.parser.read_text.Goals as goal
+use Rattle.jzon.proofs.scalar.read_text.Goals as goal
 
 pub returns-clause-same : goal.returns-clause-same
 returns-clause-same c fs =

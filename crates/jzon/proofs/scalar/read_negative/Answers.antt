@@ -5,7 +5,7 @@ use Rattle.jzon.specs.Machine.{numeral, Tells}
 use Rattle.jzon.specs.Classes.{signed}
 use Rattle.jzon.proofs.Steps.{from_stop, same_outcome}
 use Rattle.jzon.proofs.NumeralSteps.{no_digit_stops, digit_goes}
-use Rattle.jzon.proofs.parser.read_negative.Goals as goal
+use Rattle.jzon.proofs.scalar.read_negative.Goals as goal
 
 pub returns-then-not-has_digit-clause-same : goal.returns-then-not-has_digit-clause-same
 returns-then-not-has_digit-clause-same c fs =
