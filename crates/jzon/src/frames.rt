@@ -59,7 +59,7 @@ pub(crate) fn open_array(
     if stack.len() == DEPTH_LIMIT {
         return Err(Error::ExceededDepthLimit);
     }
-    let elements = Vec::with_capacity(alloc, 2)?;
+    let elements = Vec::with_capacity(alloc, 1)?;
     read_elements(alloc, source, index, elements, stack, buffer)
 }
 
@@ -91,7 +91,7 @@ pub(crate) fn open_object(
     if stack.len() == DEPTH_LIMIT {
         return Err(Error::ExceededDepthLimit);
     }
-    let entries = Vec::with_capacity(alloc, 3)?;
+    let entries = Vec::with_capacity(alloc, 4)?;
     read_entries(alloc, source, index, entries, stack, buffer)
 }
 

@@ -51,13 +51,6 @@ impl Keys {
         })
     }
 
-    /// Makes room for `additional` more keys. The error is a refused growth.
-    pub fn reserve(&mut self, additional: usize) -> Result<(), AllocError>
-        ensures { self.new ≡ self.old }
-    {
-        self.places.reserve(additional)
-    }
-
     /// How many keys there are.
     pub fn len(&self) -> usize
         ensures len { result ≡ length self.now }
@@ -189,8 +182,7 @@ mod tests {
         removed.remove(1);
         let mut cleared = whole.clone(rt.alloc())?;
         cleared.clear();
-        let mut roomy = Keys::with_capacity(rt.alloc(), 3)?;
-        roomy.reserve(5)?;
+        let roomy = Keys::with_capacity(rt.alloc(), 3)?;
         let none: [&str; 0] = [];
         let table = [
             (&whole, ["c", "a", "", "b"].as_slice()),

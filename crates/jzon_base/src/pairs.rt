@@ -71,14 +71,6 @@ impl<V> Pairs<V> {
         Pairs { keys, values }
     }
 
-    /// Makes room for `additional` more pairs. The error is a refused growth.
-    pub fn reserve(&mut self, additional: usize) -> Result<(), AllocError>
-        ensures { self.new ≡ self.old }
-    {
-        self.keys.reserve(additional)?;
-        self.values.reserve(additional)
-    }
-
     /// How many pairs there are.
     pub fn len(&self) -> usize
         ensures len { result ≡ length self.now }

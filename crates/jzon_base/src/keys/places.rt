@@ -175,13 +175,6 @@ impl Places {
         })
     }
 
-    /// Makes room for `additional` more keys. The error is a refused growth.
-    pub fn reserve(&mut self, additional: usize) -> Result<(), AllocError>
-        ensures { self.new ≡ self.old }
-    {
-        self.entries.reserve(additional)
-    }
-
     pub fn len(&self) -> usize
         ensures { result ≡ length self.now }
     {

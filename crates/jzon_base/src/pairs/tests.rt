@@ -97,7 +97,6 @@ fn removes_and_puts_again(rt: HostRuntime) -> Result<(), AllocError> {
 #[test]
 fn lends_values(rt: HostRuntime) -> Result<(), AllocError> {
     let mut pairs = Pairs::with_capacity(rt.alloc(), 2)?;
-    pairs.reserve(4)?;
     *pairs.at_mut(rt.alloc(), "a", 0)? += 1;
     *pairs.at_mut(rt.alloc(), "b", 0)? += 2;
     *pairs.at_mut(rt.alloc(), "a", 0)? += 4;
