@@ -88,7 +88,7 @@ impl Keys {
         ensures err { OnErr result (self.new ≡ self.old) }
     {
         let key = Key::new(alloc, name)?;
-        self.places.push_with(hash_of(name), key)?;
+        self.place(key)?;
         Ok(())
     }
 

@@ -223,22 +223,6 @@ impl Places {
         Ok(None)
     }
 
-    /// Adds a key under a hash, last. The error is a refused growth.
-    pub fn push_with(&mut self, hash: u64, key: Key) -> Result<(), AllocError>
-        ensures ok { OnOk result (self.new ≡ self.old ++ (hash, key) ∷ []) }
-        ensures err { OnErr result (self.new ≡ self.old) }
-    {
-        let added = self.entries.len();
-        self.entries.push(Entry {
-            key,
-            hash,
-            left: None,
-            right: None,
-        })?;
-        attach(self.entries.as_mut_slice(), added);
-        Ok(())
-    }
-
     /// Removes the key at a place. The others keep their order. Takes no memory.
     pub fn remove(&mut self, index: usize)
         requires { index < length self.old }
@@ -289,7 +273,7 @@ mod tests {
     fn of_one_hash(alloc: Global, names: &[&str]) -> Result<Places, AllocError> {
         let mut places = Places::new(alloc);
         for name in names {
-            places.push_with(7, Key::new(alloc, name)?)?;
+            places.place_with(7, Key::new(alloc, name)?)?;
         }
         Ok(places)
     }
@@ -336,7 +320,7 @@ mod tests {
         ];
         let mut places = Places::with_capacity(rt.alloc(), 2)?;
         for (hash, name) in entries {
-            places.push_with(hash, Key::new(rt.alloc(), name)?)?;
+            places.place_with(hash, Key::new(rt.alloc(), name)?)?;
         }
         let copy = places.clone(rt.alloc())?;
         places.clear();
