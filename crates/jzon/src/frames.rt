@@ -91,11 +91,12 @@ pub(crate) fn open_object(
     if stack.len() == DEPTH_LIMIT {
         return Err(Error::ExceededDepthLimit);
     }
-    let entries = Vec::with_capacity(alloc, 4)?;
+    let entries = Vec::with_capacity(alloc, 8)?;
     read_entries(alloc, source, index, entries, stack, buffer)
 }
 
 /// Whether an array or an object opens at this place.
+#[inline(always)]
 fn opens_container(source: &str, index: usize) -> bool
     ensures { IsTrue result ↔ ((index < length source.now) × ((slice_index source.now index ≡ 91) ⊎ (slice_index source.now index ≡ 123))) }
 {

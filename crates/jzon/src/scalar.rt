@@ -1,4 +1,4 @@
-//! Reads values that are no containers: numbers, texts and words.
+//! Reads values that are no containers: numbers, texts and words. What is called for each of them is inlined, so that no value is moved from call to call.
 
 ghost use Rattle.std.specs.Prelude.{◌≡◌, ◌≢◌, ◌==◌, ◌<◌, ◌≤◌, ◌+◌, [], length, chars, IsTrue, IfOk, Err, MatchResult, slice_index, None, true, false, IsAscii};
 ghost use Rattle.std.specs.Char.{is_ascii_digit};
@@ -18,6 +18,7 @@ use jzon_tree::value::JsonValue;
 use std::alloc::Global;
 
 /// The value that begins at `start` and is no container, and the place behind it.
+#[inline(always)]
 pub(crate) fn read_scalar(
     alloc: Global,
     source: &str,
@@ -51,6 +52,7 @@ pub(crate) fn read_scalar(
 }
 
 /// The text that begins at `start`, behind its opening quote, as a value, and the place behind it.
+#[inline(always)]
 fn read_text(
     alloc: Global,
     source: &str,
@@ -69,6 +71,7 @@ fn read_text(
 }
 
 /// The number whose minus stands before `start`, and the place behind it.
+#[inline(always)]
 fn read_negative(source: &str, start: usize) -> Result<(JsonValue, usize)>
     requires { IsCharBoundary source.now start }
     ensures bounds { IfOk result (λ r. (start < r.1) × IsCharBoundary source.now r.1) }
@@ -83,6 +86,7 @@ fn read_negative(source: &str, start: usize) -> Result<(JsonValue, usize)>
 }
 
 /// The number whose first digit stands at `start`, and the place behind it.
+#[inline(always)]
 fn read_magnitude(source: &str, start: usize, negative: bool) -> Result<(JsonValue, usize)>
     requires within { start < length source.now }
     requires digit { IsTrue (is_ascii_digit (slice_index source.now start)) }
@@ -98,6 +102,7 @@ fn read_magnitude(source: &str, start: usize, negative: bool) -> Result<(JsonVal
 }
 
 /// The value of a word, whose letters from `start` on are these, and the place behind it.
+#[inline(always)]
 fn read_word(
     source: &str,
     start: usize,
@@ -116,6 +121,7 @@ fn read_word(
 }
 
 /// The place behind these letters, which are the rest of a word.
+#[inline(always)]
 fn read_letters(source: &str, start: usize, letters: &[u8]) -> Result<usize>
     requires boundary { IsCharBoundary source.now start }
     requires ascii { IsAscii letters.now }

@@ -45,6 +45,7 @@ impl Spelled {
 }
 
 /// The value of a text: kept in place up to 30 bytes, and else in memory of its own. Refused by `OutOfMemory` alone, and never in place.
+#[inline(always)]
 pub(crate) fn text_value(alloc: Global, content: &str) -> Result<JsonValue>
     ensures value { IfOk result (λ v. view v ≡ text (kind_of content.now) content.now) }
     ensures memory { IsOkUnless result OutOfMemory }
