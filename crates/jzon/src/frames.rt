@@ -59,6 +59,7 @@ pub(crate) fn open_array(
     if stack.len() == DEPTH_LIMIT {
         return Err(Error::ExceededDepthLimit);
     }
+    // One element is certain to come.
     let elements = Vec::with_capacity(alloc, 1)?;
     read_elements(alloc, source, index, elements, stack, buffer)
 }
@@ -91,6 +92,7 @@ pub(crate) fn open_object(
     if stack.len() == DEPTH_LIMIT {
         return Err(Error::ExceededDepthLimit);
     }
+    // What isn't used of this room is given back at the closing bracket.
     let entries = Vec::with_capacity(alloc, 8)?;
     read_entries(alloc, source, index, entries, stack, buffer)
 }
