@@ -1,8 +1,9 @@
 //! Objects.
 
-ghost use Rattle.std.specs.Prelude.{◌≡◌, ◌-◌, ◌==◌, [], length, OnOk, OnErr, IfOk, IsOkUnless, None, string_bytes};
+ghost use Rattle.std.specs.Prelude.{◌≡◌, ◌-◌, ◌==◌, [], length, OnOk, OnErr, IfOk, IsOkUnless, None, string_bytes, IfSome, Some};
 ghost use Rattle.std.specs.Option.{option_copied, option_copied_mut};
-ghost use Rattle.std.specs.Iterator.{YieldsFirstBy, YieldsLastBy, item_count};
+ghost use Rattle.std.specs.Iterator.{YieldsFirstBy, YieldsLastBy, item_count, at_most, UpTo};
+ghost use Rattle.std.specs.Iterator.SizeHint.{IsWithinCount};
 ghost use Rattle.std.specs.List.{IsDistinct};
 ghost use Rattle.std.specs.Str.{bytes_eq};
 ghost use Rattle.jzon_base.specs.IterMut.{iter_mut_rest, IsReady};
@@ -208,7 +209,11 @@ impl Iterator for IntoIter {
         self.pairs.next()
     }
 
-    fn size_hint(&self) -> (usize, Option<usize>) {
+    fn size_hint(&self) -> (usize, Option<usize>)
+        ensures lower { IsWithinCount result.0 (at_most (length (entries_left self.now))) }
+        ensures upper { IfSome result.1 (UpTo (at_most (length (entries_left self.now)))) }
+        ensures exact { result ≡ (length (entries_left self.now), Some (length (entries_left self.now))) }
+    {
         self.pairs.size_hint()
     }
 }

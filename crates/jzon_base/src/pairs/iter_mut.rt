@@ -1,6 +1,7 @@
 //! The iterator that lends the values of pairs to be written.
-ghost use Rattle.std.specs.Prelude.{◌≡◌, [], length};
-ghost use Rattle.std.specs.Iterator.{YieldsFirstBy, YieldsLastBy, item_count};
+ghost use Rattle.std.specs.Prelude.{◌≡◌, [], length, IfSome, Some};
+ghost use Rattle.std.specs.Iterator.{YieldsFirstBy, YieldsLastBy, item_count, at_most, UpTo};
+ghost use Rattle.std.specs.Iterator.SizeHint.{IsWithinCount};
 ghost use Rattle.jzon_base.specs.IterMut.{iter_mut_rest, IsReady};
 
 use super::Pairs;
@@ -45,7 +46,11 @@ impl<'a, V> Iterator for IterMut<'a, V> {
         Some((key, value))
     }
 
-    fn size_hint(&self) -> (usize, Option<usize>) {
+    fn size_hint(&self) -> (usize, Option<usize>)
+        ensures lower { IsWithinCount result.0 (at_most (length (iter_mut_rest self.now))) }
+        ensures upper { IfSome result.1 (UpTo (at_most (length (iter_mut_rest self.now)))) }
+        ensures exact { result ≡ (length (iter_mut_rest self.now), Some (length (iter_mut_rest self.now))) }
+    {
         let len = self.len();
         (len, Some(len))
     }

@@ -1,6 +1,7 @@
 //! The iterator that lends keys.
-ghost use Rattle.std.specs.Prelude.{◌≡◌, [], length, map};
-ghost use Rattle.std.specs.Iterator.{YieldsFirstRef, YieldsLastRef, item_count};
+ghost use Rattle.std.specs.Prelude.{◌≡◌, [], length, map, IfSome, Some};
+ghost use Rattle.std.specs.Iterator.{YieldsFirstRef, YieldsLastRef, item_count, at_most, UpTo};
+ghost use Rattle.std.specs.Iterator.SizeHint.{IsWithinCount};
 
 use super::Entry;
 use std::iter::FusedIterator;
@@ -51,7 +52,11 @@ impl<'a> Iterator for Iter<'a> {
         Some(entry.key.as_str())
     }
 
-    fn size_hint(&self) -> (usize, Option<usize>) {
+    fn size_hint(&self) -> (usize, Option<usize>)
+        ensures lower { IsWithinCount result.0 (at_most (length self.now)) }
+        ensures upper { IfSome result.1 (UpTo (at_most (length self.now))) }
+        ensures exact { result ≡ (length self.now, Some (length self.now)) }
+    {
         let len = self.len();
         (len, Some(len))
     }
