@@ -3,4 +3,5 @@ pub mod Dumps
 pub mod Plain
 pub mod PairKeys
 mod Rows
+pub mod Seen
 pub mod Views

@@ -7,3 +7,6 @@ pub mod Lawful
 pub mod Entries
 pub mod IntoIter
 pub mod View
+pub mod Readers
+pub mod Changers
+pub mod Place

@@ -1,7 +1,11 @@
 #![tactic(auto)]
 
+mod changers;
 mod clone;
 mod codegen;
 mod equal;
+pub mod into_json;
 pub mod object;
+pub mod readers;
 pub mod value;
+pub mod view;

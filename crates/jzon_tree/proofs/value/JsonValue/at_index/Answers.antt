@@ -1,0 +1,11 @@
+use Rattle.std.proofs.Common.{◌∙◌, sym, ap}
+use Rattle.std.specs.List.{slice_get}
+use Rattle.jzon_tree.specs.Value.{Value}
+use Rattle.std.proofs.Common.{List}
+use Rattle.jzon_tree.proofs.Seen.{items-Array, item_lent}
+use Rattle.jzon_tree.proofs.value.JsonValue.at_index.Goals as goal
+
+pub returns-in-Array : goal.returns-in-Array
+returns-in-Array c =
+    rw (c.in-Array.is)
+    (item_lent c.in-Array.items.items c.args.index c.get.result (rw c.deref.ensures.value at c.get.ensures.lookup) ∙ ap (λ (vs : List Value). slice_get vs c.args.index) (sym (items-Array c.in-Array.items)))

@@ -1,0 +1,85 @@
+-- What each reader sees in a value (docs/RULES.md, "Readers").
+use Rattle.std.specs.Prelude.{ℕ, List, [], length, Bool, true, false, not, ◌||◌, ◌==◌, Option, None, Some}
+use Rattle.jzon_base.specs.Decimal.{Decimal, is_zero, is_nan}
+use Rattle.jzon_tree.specs.Value.{Value, null, boolean, text, number, array, object, list_of_values, list_of_pairs}
+
+-- ---- the kind of a value
+
+abbrev pub is_null : Value → Bool
+is_null null = true
+is_null _ = false
+
+abbrev pub is_boolean : Value → Bool
+is_boolean (boolean b) = true
+is_boolean _ = false
+
+abbrev pub is_number : Value → Bool
+is_number (number n) = true
+is_number _ = false
+
+-- a text of either kind
+abbrev pub is_text : Value → Bool
+is_text (text k s) = true
+is_text _ = false
+
+abbrev pub is_object : Value → Bool
+is_object (object ps) = true
+is_object _ = false
+
+abbrev pub is_array : Value → Bool
+is_array (array vs) = true
+is_array _ = false
+
+-- ---- what stands in it
+
+abbrev pub truth_in : Value → Option Bool
+truth_in (boolean b) = Some b
+truth_in _ = None
+
+abbrev pub number_in : Value → Option Decimal
+number_in (number n) = Some n
+number_in _ = None
+
+abbrev pub text_in : Value → Option (List ℕ)
+text_in (text k s) = Some s
+text_in _ = None
+
+-- the value, where it is an object
+abbrev pub object_of : Value → Option Value
+object_of (object ps) = Some (object ps)
+object_of _ = None
+
+-- the value, where it is an array
+abbrev pub array_of : Value → Option Value
+array_of (array vs) = Some (array vs)
+array_of _ = None
+
+-- the items of an array in their order, and none of another value
+abbrev pub items : Value → List Value
+items (array vs) = list_of_values vs
+items _ = []
+
+-- the pairs of an object in their order, and none of another value
+abbrev pub entries : Value → List (List ℕ × Value)
+entries (object ps) = list_of_pairs ps
+entries _ = []
+
+-- how many pairs or items there are
+abbrev pub count : Value → ℕ
+count (object ps) = length (list_of_pairs ps)
+count (array vs) = length (list_of_values vs)
+count _ = 0
+
+-- null, false, a zero, NaN, a text of no character, a container of nothing
+abbrev pub is_empty : Value → Bool
+is_empty null = true
+is_empty (boolean b) = not b
+is_empty (number n) = is_zero n || is_nan n
+is_empty (text k s) = length s == 0
+is_empty (object ps) = length (list_of_pairs ps) == 0
+is_empty (array vs) = length (list_of_values vs) == 0
+
+-- what is missing reads as null
+abbrev pub or_null : Option Value → Value
+or_null None = null
+or_null (Some v) = v

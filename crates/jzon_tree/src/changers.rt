@@ -1,0 +1,157 @@
+//! What is changed of a value (docs/RULES.md, "Changers"). After a refused call the value is as it was, and a value that was handed in is dropped.
+
+ghost use Rattle.std.specs.Prelude.{◌≡◌, ◌-◌, codes, true, string_bytes, option_map, slice_get, remove, IfOk, IfErr, OnOk, OnErr, IsOkUnless};
+ghost use Rattle.jzon_base.specs.PairList.{find};
+ghost use Rattle.jzon_tree.specs.Changers.{is_short, without_text, without_item, with_item, without_entry, with_entry, cleared, IsRefusal};
+ghost use Rattle.jzon_tree.specs.Readers.{is_array, is_object, text_in, items, entries, count, or_null};
+ghost use Rattle.jzon_tree.specs.Value.{Value, null, array, no_values, object, no_pairs};
+ghost use Rattle.jzon_tree.specs.View.{view};
+
+use crate::into_json::IntoJson;
+use crate::object::Object;
+use crate::value::JsonValue;
+use jzon_base::error::{Error, Result};
+use jzon_base::short::Short;
+use std::alloc::Global;
+use std::mem;
+
+impl JsonValue {
+    /// An object without pairs. It takes no memory.
+    #[tactic(auto, using(crate::proofs::Views::views, crate::proofs::Seen::seen))]
+    pub fn new_object(alloc: Global) -> JsonValue
+        ensures { view result ≡ object no_pairs }
+    {
+        JsonValue::Object(Object::new(alloc))
+    }
+
+    /// An array without items. It takes no memory.
+    #[tactic(auto, using(crate::proofs::Views::views, crate::proofs::Seen::seen))]
+    pub fn new_array(alloc: Global) -> JsonValue
+        ensures { view result ≡ array no_values }
+    {
+        JsonValue::Array(Vec::new(alloc))
+    }
+
+    /// The value itself, with null left in its place.
+    pub fn take(&mut self) -> JsonValue
+        ensures value { result ≡ self.old }
+        ensures after { view self.new ≡ null }
+    {
+        mem::replace(self, JsonValue::Null)
+    }
+
+    /// The text, with null left in its place. Another value stays as it is. A text that is kept in the value takes memory, and may be refused by `OutOfMemory`; no
+    /// other call is refused.
+    pub fn take_string(&mut self, alloc: Global) -> Result<Option<String>>
+        ensures value { IfOk result (λ s. option_map string_bytes s ≡ text_in (view self.old)) }
+        ensures after { OnOk result (view self.new ≡ without_text (view self.old)) }
+        ensures err { OnErr result (self.new ≡ self.old) }
+        ensures short { OnErr result (is_short (view self.old) ≡ true) }
+        ensures memory { IsOkUnless result Error.OutOfMemory }
+    {
+        if let JsonValue::Short(short) = self {
+            let text = String::from_str(alloc, short.as_str())?;
+            *self = JsonValue::Null;
+            return Ok(Some(text));
+        }
+        match self.take() {
+            JsonValue::String(text) => Ok(Some(text)),
+            other => {
+                *self = other;
+                Ok(None)
+            }
+        }
+    }
+
+    /// Puts an item behind the last one of an array. Refused by `WrongType` where the value is no array, and by `OutOfMemory`.
+    #[tactic(auto, using(crate::proofs::Views::views, crate::proofs::Seen::seen))]
+    pub fn push<T: IntoJson>(&mut self, alloc: Global, value: T) -> Result<()>
+        ensures ok { OnOk result ((v : Value) × T.means value v × (view self.new ≡ with_item v (view self.old))) }
+        ensures array { OnOk result (is_array (view self.old) ≡ true) }
+        ensures err { OnErr result (view self.new ≡ view self.old) }
+        ensures refusal { IfErr result (IsRefusal (is_array (view self.old)) (codes "Array")) }
+    {
+        match self {
+            JsonValue::Array(items) => {
+                items.push(value.into_json(alloc)?)?;
+                Ok(())
+            }
+            _ => Err(Error::wrong_type(alloc, "Array")?),
+        }
+    }
+
+    /// Takes the last item of an array. The answer is null where there is none.
+    #[tactic(auto, using(crate::proofs::Views::views, crate::proofs::Seen::seen))]
+    pub fn pop(&mut self) -> JsonValue
+        ensures value { view result ≡ or_null (slice_get (items (view self.old)) (count (view self.old) - 1)) }
+        ensures after { view self.new ≡ without_item (count (view self.old) - 1) (view self.old) }
+    {
+        let last = self.len().saturating_sub(1);
+        self.array_remove(last)
+    }
+
+    /// Puts a value under the key of an object: in its place where the key is there, else last. Refused by `WrongType` where the value is no object, and by
+    /// `OutOfMemory`.
+    #[tactic(auto, using(crate::proofs::Views::views, crate::proofs::Seen::seen))]
+    pub fn insert<T: IntoJson>(&mut self, alloc: Global, key: &str, value: T) -> Result<()>
+        ensures ok { OnOk result ((v : Value) × T.means value v × (view self.new ≡ with_entry key.now v (view self.old))) }
+        ensures object { OnOk result (is_object (view self.old) ≡ true) }
+        ensures err { OnErr result (view self.new ≡ view self.old) }
+        ensures refusal { IfErr result (IsRefusal (is_object (view self.old)) (codes "Object")) }
+    {
+        match self {
+            JsonValue::Object(object) => object.insert(alloc, key, value.into_json(alloc)?),
+            _ => Err(Error::wrong_type(alloc, "Object")?),
+        }
+    }
+
+    /// Takes the value of the key out of an object. The others keep their order. The answer is null where there is none.
+    #[tactic(auto, using(crate::proofs::Views::views, crate::proofs::Seen::seen))]
+    pub fn remove(&mut self, key: &str) -> JsonValue
+        ensures value { view result ≡ or_null (find key.now (entries (view self.old))) }
+        ensures after { view self.new ≡ without_entry key.now (view self.old) }
+    {
+        match self {
+            JsonValue::Object(object) => object.remove(key).unwrap_or(JsonValue::Null),
+            _ => JsonValue::Null,
+        }
+    }
+
+    /// Takes the item at a place out of an array. The others keep their order. The answer is null where there is none.
+    #[tactic(auto, using(crate::proofs::Views::views, crate::proofs::Seen::seen))]
+    pub fn array_remove(&mut self, index: usize) -> JsonValue
+        ensures value { view result ≡ or_null (slice_get (items (view self.old)) index) }
+        ensures after { view self.new ≡ without_item index (view self.old) }
+    {
+        match self {
+            JsonValue::Array(items) => remove_item(items, index).unwrap_or(JsonValue::Null),
+            _ => JsonValue::Null,
+        }
+    }
+
+    /// Leaves the empty text of a text, kept as it was, the empty container of a container, and null of another value.
+    #[tactic(auto, using(crate::proofs::Views::views, crate::proofs::Seen::seen))]
+    pub fn clear(&mut self)
+        ensures { view self.new ≡ cleared (view self.old) }
+    {
+        match self {
+            JsonValue::Short(text) => *text = Short::from_slice(""),
+            JsonValue::String(text) => text.clear(),
+            JsonValue::Object(object) => object.clear(),
+            JsonValue::Array(items) => items.clear(),
+            other => *other = JsonValue::Null,
+        }
+    }
+}
+
+// Takes the item at a place out of the list.
+fn remove_item(items: &mut Vec<JsonValue>, index: usize) -> Option<JsonValue>
+    ensures value { result ≡ slice_get items.old.items index }
+    ensures after { items.new.items ≡ remove items.old.items index }
+{
+    if index < items.len() {
+        Some(items.remove(index))
+    } else {
+        None
+    }
+}

@@ -1,0 +1,222 @@
+//! A place in a value, which may be missing.
+
+ghost use Rattle.std.specs.Prelude.{◌≡◌, map, is_some, option_map, slice_get};
+ghost use Rattle.std.specs.List.{list_any};
+ghost use Rattle.std.specs.Option.{option_copied};
+ghost use Rattle.std.specs.Slice.Iter.{iter_rest};
+ghost use Rattle.jzon_base.specs.PairList.{find};
+ghost use Rattle.jzon_tree.specs.Place.{shown, seen};
+ghost use Rattle.jzon_tree.specs.Readers.{is_null, is_boolean, is_number, is_text, is_object, is_array, is_empty, truth_in, number_in, text_in, object_of, array_of, items, entries, count};
+ghost use Rattle.jzon_tree.specs.Same.{same};
+ghost use Rattle.jzon_tree.specs.Value.{array, boolean, short, text};
+ghost use Rattle.jzon_tree.specs.View.{view, view_object, view_values, viewed};
+ghost use Rattle.jzon_tree.specs.Entries.{entries_of};
+
+use crate::object::Object;
+use crate::readers::{Entries, Members};
+use crate::value::JsonValue;
+use jzon_base::number::Number;
+
+/// A value, or missing. What is missing reads as null.
+#[derive(Clone, Copy)]
+pub struct View<'a> {
+    value: Option<&'a JsonValue>,
+}
+
+impl JsonValue {
+    /// The value of the key of an object, or missing.
+    pub fn at(&self, key: &str) -> View<'_>
+        ensures { shown result ≡ find key.now (entries (view self.now)) }
+    {
+        View {
+            value: self.get(key),
+        }
+    }
+
+    /// The item at a place of an array, or missing.
+    #[tactic(auto, using(crate::proofs::Views::views, crate::proofs::Seen::seen))]
+    pub fn at_index(&self, index: usize) -> View<'_>
+        ensures { shown result ≡ slice_get (items (view self.now)) index }
+    {
+        match self {
+            JsonValue::Array(items) => View {
+                value: items.get(index),
+            },
+            _ => View { value: None },
+        }
+    }
+}
+
+impl Object {
+    /// The value of the key, or missing.
+    #[tactic(auto, using(crate::proofs::Views::views, crate::proofs::Seen::seen))]
+    pub fn at(&self, key: &str) -> View<'_>
+        ensures { shown result ≡ find key.now (viewed (entries_of self.now)) }
+    {
+        View {
+            value: self.get(key),
+        }
+    }
+}
+
+impl<'a> View<'a> {
+    /// The value, where it is not missing.
+    pub fn value(self) -> Option<&'a JsonValue>
+        ensures { option_map (λ v. view v.now) result ≡ shown self.entry }
+    {
+        self.value
+    }
+
+    /// The value of the key of an object, or missing.
+    pub fn at(self, key: &str) -> View<'a>
+        ensures { shown result ≡ find key.now (entries (seen self.entry)) }
+    {
+        match self.value {
+            Some(value) => value.at(key),
+            None => self,
+        }
+    }
+
+    /// The item at a place of an array, or missing.
+    pub fn at_index(self, index: usize) -> View<'a>
+        ensures { shown result ≡ slice_get (items (seen self.entry)) index }
+    {
+        match self.value {
+            Some(value) => value.at_index(index),
+            None => self,
+        }
+    }
+
+    /// Whether it is null or missing.
+    pub fn is_null(self) -> bool
+        ensures { result ≡ is_null (seen self.entry) }
+    {
+        self.value.is_none_or(JsonValue::is_null)
+    }
+
+    /// Whether it is a truth value.
+    pub fn is_boolean(self) -> bool
+        ensures { result ≡ is_boolean (seen self.entry) }
+    {
+        self.value.is_some_and(JsonValue::is_boolean)
+    }
+
+    /// Whether it is a number. NaN is one.
+    pub fn is_number(self) -> bool
+        ensures { result ≡ is_number (seen self.entry) }
+    {
+        self.value.is_some_and(JsonValue::is_number)
+    }
+
+    /// Whether it is a text, however it is kept.
+    pub fn is_string(self) -> bool
+        ensures { result ≡ is_text (seen self.entry) }
+    {
+        self.value.is_some_and(JsonValue::is_string)
+    }
+
+    /// Whether it is an object.
+    pub fn is_object(self) -> bool
+        ensures { result ≡ is_object (seen self.entry) }
+    {
+        self.value.is_some_and(JsonValue::is_object)
+    }
+
+    /// Whether it is an array.
+    pub fn is_array(self) -> bool
+        ensures { result ≡ is_array (seen self.entry) }
+    {
+        self.value.is_some_and(JsonValue::is_array)
+    }
+
+    /// Whether it is missing, null, false, a zero, NaN, the empty text, or a container of nothing.
+    pub fn is_empty(self) -> bool
+        ensures { result ≡ is_empty (seen self.entry) }
+    {
+        self.value.is_none_or(JsonValue::is_empty)
+    }
+
+    /// How many pairs an object has, or how many items an array has, and 0 for all else.
+    pub fn len(self) -> usize
+        ensures { result ≡ count (seen self.entry) }
+    {
+        self.value.map_or(0, JsonValue::len)
+    }
+
+    /// The text, however it is kept.
+    pub fn as_str(self) -> Option<&'a str>
+        ensures { option_copied result ≡ text_in (seen self.entry) }
+    {
+        self.value?.as_str()
+    }
+
+    /// The number, with its parts as they were read or given.
+    pub fn as_number(self) -> Option<Number>
+        ensures { result ≡ number_in (seen self.entry) }
+    {
+        self.value?.as_number()
+    }
+
+    /// The truth value.
+    pub fn as_bool(self) -> Option<bool>
+        ensures { result ≡ truth_in (seen self.entry) }
+    {
+        self.value?.as_bool()
+    }
+
+    /// The object.
+    pub fn as_object(self) -> Option<&'a Object>
+        ensures { option_map (λ o. view_object o.now) result ≡ object_of (seen self.entry) }
+    {
+        self.value?.as_object()
+    }
+
+    /// The items of the array.
+    pub fn as_array(self) -> Option<&'a Vec<JsonValue>>
+        ensures { option_map (λ vs. array (view_values vs.now.items)) result ≡ array_of (seen self.entry) }
+    {
+        self.value?.as_array()
+    }
+
+    /// Whether it is an object with the key.
+    pub fn has_key(self, key: &str) -> bool
+        ensures { result ≡ is_some (find key.now (entries (seen self.entry))) }
+    {
+        self.at(key).value.is_some()
+    }
+
+    /// The items of an array in their order, from both ends, and none of all else.
+    pub fn members(self) -> Members<'a>
+        ensures { map view (iter_rest result) ≡ items (seen self.entry) }
+    {
+        self.value.map_or([].iter(), JsonValue::members)
+    }
+
+    /// The pairs of an object in their order, from both ends, and none of all else.
+    pub fn entries(self) -> Entries<'a>
+        ensures { viewed result ≡ entries (seen self.entry) }
+    {
+        self.value.map_or(Entries::empty(), JsonValue::entries)
+    }
+
+    /// Whether it is an array with an item that equals `value`.
+    pub fn contains(self, value: &JsonValue) -> bool
+        ensures { result ≡ list_any (λ v. same v (view value.now)) (items (seen self.entry)) }
+    {
+        self.value.is_some_and(|array| array.contains(value))
+    }
+
+    /// Whether it is this text, however it is kept.
+    pub fn eq_str(self, other: &str) -> bool
+        ensures { result ≡ same (seen self.entry) (text short other.now) }
+    {
+        self.as_str() == Some(other)
+    }
+
+    /// Whether it is this truth value.
+    pub fn eq_bool(self, other: bool) -> bool
+        ensures { result ≡ same (seen self.entry) (boolean other) }
+    {
+        self.as_bool() == Some(other)
+    }
+}
