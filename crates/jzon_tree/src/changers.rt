@@ -155,3 +155,6 @@ fn remove_item(items: &mut Vec<JsonValue>, index: usize) -> Option<JsonValue>
         None
     }
 }
+
+#[cfg(test)]
+mod tests;

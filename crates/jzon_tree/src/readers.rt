@@ -209,3 +209,6 @@ impl JsonValue {
         self.as_bool() == Some(other)
     }
 }
+
+#[cfg(test)]
+mod tests;

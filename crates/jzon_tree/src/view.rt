@@ -220,3 +220,6 @@ impl<'a> View<'a> {
         self.as_bool() == Some(other)
     }
 }
+
+#[cfg(test)]
+mod tests;

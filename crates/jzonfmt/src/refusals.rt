@@ -295,3 +295,97 @@ fn wrong_type_under_refusals(rt: HostRuntime) -> Result<(), Fail> {
     refusals.tell(&rt, "wrong_type_under_refusals", 1);
     Ok(())
 }
+
+#[test]
+fn push_under_refusals(rt: HostRuntime) -> Result<(), Fail> {
+    let alloc = rt.alloc();
+    let mut refusals = Refusals::new(alloc);
+    for _ in 0..MOST {
+        let mut value = JsonValue::new_array(alloc);
+        refusals.begin();
+        let result = value.push(alloc, JsonValue::Boolean(true));
+        if refusals.was_refused() {
+            assert!(rt; matches!(result, Err(Error::OutOfMemory)));
+            assert_eq!(rt; value.dump(alloc)?.as_str(), "[]");
+        } else {
+            result?;
+            assert_eq!(rt; value.dump(alloc)?.as_str(), "[true]");
+            break;
+        }
+    }
+    refusals.tell(&rt, "push_under_refusals", 1);
+    Ok(())
+}
+
+// The words of the refusal take memory.
+#[test]
+fn push_on_null_under_refusals(rt: HostRuntime) -> Result<(), Fail> {
+    let alloc = rt.alloc();
+    let mut refusals = Refusals::new(alloc);
+    let words = Error::wrong_type(alloc, "Array")?;
+    for _ in 0..MOST {
+        let mut value = JsonValue::Null;
+        refusals.begin();
+        let result = value.push(alloc, JsonValue::Boolean(true));
+        let was_refused = refusals.was_refused();
+        assert!(rt; value.is_null());
+        if was_refused {
+            assert!(rt; matches!(result, Err(Error::OutOfMemory)));
+        } else {
+            assert_eq!(rt; result, Err(words));
+            break;
+        }
+    }
+    refusals.tell(&rt, "push_on_null_under_refusals", 1);
+    Ok(())
+}
+
+// The key has 40 bytes, so that it takes memory of its own.
+#[test]
+fn value_insert_under_refusals(rt: HostRuntime) -> Result<(), Fail> {
+    let alloc = rt.alloc();
+    let mut refusals = Refusals::new(alloc);
+    for _ in 0..MOST {
+        let mut value = JsonValue::new_object(alloc);
+        refusals.begin();
+        let result = value.insert(
+            alloc,
+            "0123456789abcdef0123456789abcdef01234567",
+            JsonValue::Null,
+        );
+        if refusals.was_refused() {
+            assert!(rt; matches!(result, Err(Error::OutOfMemory)));
+            assert_eq!(rt; value.dump(alloc)?.as_str(), "{}");
+        } else {
+            result?;
+            assert!(rt; value.has_key("0123456789abcdef0123456789abcdef01234567"));
+            break;
+        }
+    }
+    refusals.tell(&rt, "value_insert_under_refusals", 3);
+    Ok(())
+}
+
+#[test]
+fn take_string_under_refusals(rt: HostRuntime) -> Result<(), Fail> {
+    let alloc = rt.alloc();
+    let mut refusals = Refusals::new(alloc);
+    for _ in 0..MOST {
+        let mut value = JsonValue::Short(Short::from_slice("in place"));
+        refusals.begin();
+        let result = value.take_string(alloc);
+        if refusals.was_refused() {
+            assert!(rt; matches!(result, Err(Error::OutOfMemory)));
+            assert!(rt; value.eq_str("in place"));
+        } else {
+            assert_eq!(rt;
+                result?.as_ref().map(|text| text.as_str()),
+                Some("in place")
+            );
+            assert!(rt; value.is_null());
+            break;
+        }
+    }
+    refusals.tell(&rt, "take_string_under_refusals", 1);
+    Ok(())
+}
