@@ -7,3 +7,5 @@ pub mod Lawful
 pub mod Entries
 pub mod IntoIter
 pub mod View
+pub mod Lent
+pub mod LentTypes
