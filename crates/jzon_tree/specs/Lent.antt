@@ -31,21 +31,22 @@ items_at _ = None
 abbrev pub items_in : JsonValue → Option (List JsonValue)
 items_in v = items_at (out-JsonValue v)
 
--- the items once a place is made for index i: those that are there, and one null more where i is past their end; of what has no items, one null for 0 and else two
+-- the items once there is a place for index i: the same where i is in range, and one null more past the end; one null at 0 and else two, of what has no items
 abbrev pub with_place : {V : Type 0} → V → Option (List V) → ℕ → List V
 with_place null (Some xs) i = if nat_lt i (length xs) then xs else xs ++ null ∷ []
 with_place null None i = if nat_eq i 0 then null ∷ [] else null ∷ null ∷ []
 
--- which of these items is lent: the one at i, or the last where i is past their end
-abbrev pub place_in : {V : Type 0} → List V → ℕ → ℕ
-place_in xs i = min i (length xs - 1)
+-- that place: the index in range, and the last one else
+abbrev pub place_in : {V : Type 0} → V → Option (List V) → ℕ → ℕ
+place_in null xs i = min i (length (with_place null xs i) - 1)
 
--- the items that `at_index_mut` leaves of a value, and which of them it lends
+-- what `at_index_mut` makes of a value's items
 abbrev pub items_with_place : JsonValue → ℕ → List JsonValue
 items_with_place v i = with_place Null (items_in v) i
 
+-- which of them it lends
 abbrev pub place_made : JsonValue → ℕ → ℕ
-place_made v i = place_in (items_with_place v i) i
+place_made v i = place_in Null (items_in v) i
 
 -- ---- what is put into an object or an array is what it has
 

@@ -1,3 +1,10 @@
+ghost use Rattle.std.specs.Prelude.{◌≡◌, slice_set, OnOk, OnErr, Some};
+ghost use Rattle.jzon_base.specs.PairList.{put};
+ghost use Rattle.jzon_tree.specs.Entries.{with_entries};
+ghost use Rattle.jzon_tree.specs.Lent.{entries_in, items_in, items_with_place, place_made};
+ghost use Rattle.jzon_tree.specs.View.{view};
+ghost use Rattle.jzon_tree.specs.declared.value.JsonValue.{Object as object_value};
+
 use super::*;
 use jzon_base::number::Number;
 use std::process::Abort;
@@ -99,8 +106,8 @@ fn lends_what_is_there(rt: HostRuntime) -> Tested {
     assert!(rt; value.as_array_mut().is_none());
     assert!(rt; number(1).get_mut("a").is_none());
     assert!(rt; number(1).as_object_mut().is_none());
-    let items = value.get_mut("a").and_then(JsonValue::as_array_mut);
-    items.ok_or("no array")?.push(number(2))?;
+    let place = value.get_mut("a").ok_or("no value")?;
+    place.as_array_mut().ok_or("no array")?.push(number(2))?;
     expect_dump(&rt, alloc, &value, "{\"a\":[1,2]}")?;
     value.as_object_mut().ok_or("no object")?.clear();
     expect_dump(&rt, alloc, &value, "{}")
@@ -119,8 +126,10 @@ fn lends_members_and_entries(rt: HostRuntime) -> Tested {
     }
     expect_dump(&rt, alloc, &array, "[null,null,3]")?;
     assert_eq!(rt; array.entries_mut().len(), 0);
+    expect_dump(&rt, alloc, &array, "[null,null,3]")?;
     let mut object = keyed(alloc, "a", number(1))?;
     assert_eq!(rt; object.members_mut().len(), 0);
+    expect_dump(&rt, alloc, &object, "{\"a\":1}")?;
     let mut entries = object.entries_mut();
     assert_eq!(rt; entries.len(), 1);
     let (key, place) = entries.next().ok_or("no entry")?;
@@ -136,11 +145,11 @@ fn writes(rt: HostRuntime) -> Tested {
     let alloc = rt.alloc();
     let mut value = JsonValue::Null;
     assert!(rt; !write_present(&mut value, "a", number(1)));
-    write_at(&mut value, alloc, "a", number(2))?;
+    put_value(&mut value, alloc, "a", number(2))?;
     expect_dump(&rt, alloc, &value, "{\"a\":2}")?;
     assert!(rt; write_present(&mut value, "a", number(3)));
     expect_dump(&rt, alloc, &value, "{\"a\":3}")?;
-    write_at_index(&mut value, alloc, 1, number(4))?;
+    put_item(&mut value, alloc, 1, number(4))?;
     expect_dump(&rt, alloc, &value, "[null,4]")
 }
 
@@ -153,4 +162,21 @@ fn objects_make_keys(rt: HostRuntime) -> Tested {
     assert!(rt; *object.at_mut(alloc, "b")? == number(1));
     *object.at_mut(alloc, "a")? = number(2);
     expect_dump(&rt, alloc, &JsonValue::Object(object), "{\"a\":2,\"b\":1}")
+}
+
+// What a caller's proof knows of a value that was written.
+fn put_value(value: &mut JsonValue, alloc: Global, key: &str, written: JsonValue) -> Result<()>
+    ensures ok { OnOk result (value.new ≡
+        object_value (with_entries (put key.now written (entries_in value.old)))) }
+    ensures err { OnErr result (value.new ≡ value.old) }
+{
+    write_at(value, alloc, key, written)
+}
+
+fn put_item(value: &mut JsonValue, alloc: Global, index: usize, written: JsonValue) -> Result<()>
+    ensures ok { OnOk result (items_in value.new ≡
+        Some (slice_set (items_with_place value.old index) (place_made value.old index) written)) }
+    ensures err { OnErr result (view value.new ≡ view value.old) }
+{
+    write_at_index(value, alloc, index, written)
 }

@@ -1,5 +1,5 @@
-//! What is lent out of a tree, where the tree's type and that of its nodes are two parameters. The checker proves what is written back through such a `&mut`;
-//! where the two types are the same, as they are of a `JsonValue`, it makes no proof (docs/DECISIONS.md, "What is written back through a lent value of the same type").
+//! What is lent out of a tree whose own type and whose nodes' type are two parameters. Of such a `&mut` the checker proves what is written back through it; of one
+//! from a type to itself it makes no proof (docs/DECISIONS.md, "What is written back through a lent value of the same type").
 
 ghost use Rattle.std.specs.Prelude.{◌≡◌, ◌≤◌, ◌<◌, List, ℕ, [], length, slice_get, slice_set, IfOk, IfSome, OnOk, OnErr, IsOkUnless, IsSome, MatchOption, Option, None, Some};
 ghost use Rattle.std.specs.Borrow.{sem, Lends, LendsIf, LendsIfOk, LendsSoOk};
@@ -20,7 +20,7 @@ use jzon_base::error::{Error, Result};
 use jzon_base::pairs::Pairs;
 use std::alloc::Global;
 
-/// A value that may be an object or an array of nodes.
+/// A value that may be an object or an array of nodes, as a `JsonValue` is of values. `get_in`, `at_in` and `at_index_in` lend its nodes to be written.
 pub trait Tree {
     type Node;
 
@@ -50,7 +50,8 @@ pub trait Tree {
         ensures value { MatchOption result (pairs self.old ≡ [])
             (λ lent. (lent.now ≡ pairs self.old) × (object (pairs self.old) ≡ self.old)) };
 
-    /// Makes an object with the key of what is none, and puts a missing key last, with null. The error is a refused growth, and then nothing has changed.
+    /// Makes the value an object that has the key: what is no object becomes one without pairs, and then a missing key is put last, with null. The error is a
+    /// refused growth, and then nothing has changed.
     fn make_key(&mut self, alloc: Global, key: &str) -> Result<()>
         ensures ok { OnOk result (self.new ≡ object (with_default key.now null (pairs self.old))) }
         ensures err { OnErr result (self.new ≡ self.old) }
@@ -63,7 +64,7 @@ pub trait Tree {
         ensures* writes_back { sem 𝓛 (Lends Self.row (pairs_row Self.Node.row) self.entry result object) }
         ensures value { result.now ≡ pairs self.old };
 
-    /// Makes an array with a place for the index. The error is a refused growth, and then the value means what it meant.
+    /// Makes the value an array that has a place for the index. The error is a refused growth, and then the value means what it meant.
     fn make_place(&mut self, alloc: Global, index: usize) -> Result<()>
         ensures ok { OnOk result (items self.new ≡ Some (with_place null (items self.old) index)) }
         ensures err { OnErr result (meaning self.new ≡ meaning self.old) }
@@ -104,10 +105,10 @@ pub trait Tree {
     final fn at_index_in(&mut self, alloc: Global, index: usize) -> Result<&mut Self::Node>
         ensures* writes_back { sem 𝓛 (LendsSoOk Self.row Self.Node.row self.entry result
             (λ n w. items n ≡ Some (slice_set (with_place null (items self.old) index)
-            (place_in (with_place null (items self.old) index) index) w))
+            (place_in null (items self.old) index) w))
             (λ n. meaning n ≡ meaning self.old)) }
         ensures value { IfOk result (λ place. slice_get (with_place null (items self.old) index)
-            (place_in (with_place null (items self.old) index) index) ≡ Some place.now) }
+            (place_in null (items self.old) index) ≡ Some place.now) }
         ensures present { OnErr result (IfSome (items self.old) (λ xs. length xs ≤ index)) }
         ensures memory { IsOkUnless result Error.OutOfMemory }
     {

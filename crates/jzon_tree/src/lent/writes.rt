@@ -48,7 +48,7 @@ pub fn write_at_index<T: Tree>(
 where
     T::Node: Drop,
     ensures ok { OnOk result (T.items tree.new ≡ Some (slice_set (with_place T.null (T.items tree.old) index)
-        (place_in (with_place T.null (T.items tree.old) index) index) value)) }
+        (place_in T.null (T.items tree.old) index) value)) }
     ensures err { OnErr result (T.meaning tree.new ≡ T.meaning tree.old) }
     ensures present { OnErr result (IfSome (T.items tree.old) (λ items. length items ≤ index)) }
     ensures memory { IsOkUnless result Error.OutOfMemory }

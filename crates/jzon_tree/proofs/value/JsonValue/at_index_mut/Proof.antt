@@ -1,45 +1,12 @@
--- `at_index_mut` hands on what the trait's `at_index_in` lends. The borrow checker's part leaves out a clause from a type to itself.
-use Rattle.std.proofs.Common.{[], ◌∷◌, refl}
-use Rattle.std.proofs.raw_atomic.Walks.{proved, leaves}
-use base.Fraction.{full_share}
-use base.Logic.{SProp, id⊢, emp}
-use base.Fml.{Lft, ftrue, flft}
-use contract.BorrowLft.{◌⊑◌}
-use mathlib.Core.List.{not-mem-nil}
-use contract.Monad.{fact, fact_i}
-use contract.Running.{tables}
-use types.Kit.{‵, raw, ◌⊛◌, some, later, ◌$◌, ◌∵◌, !, qed, by, move, keep, drop, use0, use1, use2, split, join, fjoin, pick, await}
-use types.Run.{enter, addr, stop, no_more, and_then, returns}
-use types.ByLocal.{alloc_all, pass_all, free_all, look_at, get, through, sets, lands_as}
-use denote.Builtin.{RefMutOf, usize}
-use denote.Exit.{yes, no}
-use denote.RattleType.{RattleType, owns}
-use denote.Ref.{MutRef, mut_vals, mut_Tells}
-use denote.Enum.Loose.{row_lawful}
-use denote.Struct.Loose.{loosen}
-use denote.Struct.Field.{mut_ref_field}
-use denote.Struct.Laws.{mut_ref_laws}
-use denote.Param.Laws.{row_loose}
+-- `at_index_mut` hands on what the trait's `at_index_in` lends. The borrow checker makes no proof of a clause from a type to itself.
+use Rattle.jzon_tree.proofs.LentSteps.{[], ◌∷◌, refl, proved, leaves, full_share, id⊢, emp, ftrue, flft, ◌⊑◌, fact, fact_i, tables, ‵, raw, ◌⊛◌, some, later, ◌$◌, ◌∵◌, !, qed, by, move, keep, drop, use0, use1, use2, split, join, fjoin, pick, await, enter, addr, stop, no_more, and_then, returns, alloc_all, pass_all, free_all, look_at, get, through, sets, lands_as, RefMutOf, usize, yes, no, RattleType, owns, MutRef, mut_vals, mut_Tells, row_lawful, loosen, mut_ref_field, mut_ref_laws, row_loose, uint_vals, uint_Tells, plain, type_at, types_at, nothing, peeks, Is, shows, calls_at, lasts, Lasts, at_exit, triple_of, framed, Stays, walk_of, stay_dropped, Goes-dropped, Goes-spent_ref, named, w64, Lfts, Shares, vals, tells, within_static}
 use Rattle.std.specs.contracts.result.Result as result
 use Rattle.jzon_base.specs.contracts.error.Error as error
 use Rattle.jzon_base.proofs.error.Error.TheLaws as error_laws
-use denote.Plain.{uint_vals, uint_Tells}
-use denote.Signature.{plain, type_at, types_at}
-use denote.Steps.{nothing, peeks}
-use denote.Laws.{Is, shows}
-use denote.Triple.Call.{calls_at}
-use denote.Triple.Clauses.{lasts, Lasts, at_exit}
-use denote.Triple.Spec.{triple_of}
-use denote.Triple.Table.{framed}
-use denote.Triple.Walked.{Stays, walk_of, stay_dropped, Goes-dropped, Goes-spent_ref}
-use mir.Syntax.{named, w64}
-use mir.Val.{Val}
-use contract.Lifetimes.{Lfts, Shares}
 use Rattle.jzon_tree.specs.contracts.value.JsonValue.{the_row as J}
 use Rattle.std.specs.contracts.alloc.Global as heap
 use Rattle.std.specs.contracts.alloc.Global.{the_row as Z}
 use Rattle.std.proofs.alloc.Global.TheLaws as heap_laws
-use denote.Struct.Laws.{vals, tells}
 use Rattle.jzon_tree.specs.contracts.value.JsonValue.at_index_mut as f
 use Rattle.jzon_tree.proofs.value.JsonValue.at_index_mut.Statement.{statement}
 use Rattle.jzon_tree.proofs.value.JsonValue.at_index_mut.Code as code
@@ -48,9 +15,6 @@ use Rattle.jzon_tree.specs.contracts.lent.tree.Tree.at_index_in as g
 use Rattle.jzon_tree.proofs.lent.tree.Tree.at_index_in.Met.{met}
 use Rattle.jzon_tree.specs.contracts.lent.tree.JsonValueTree.TheImpl as impl
 use Rattle.jzon_tree.proofs.lent.tree.JsonValueTree.TheImpl.Met as impl_met
-
-none : (κ : Lft) → κ ⊑ []
-none κ a m = absurd (not-mem-nil m)
 
 pub at_index_mut_spec : {M : Type 1} → statement M
 at_index_mut_spec {M} 𝓤 𝓛 𝓜 𝓡 wired =
@@ -65,20 +29,26 @@ at_index_mut_spec {M} 𝓤 𝓛 𝓜 𝓡 wired =
     let En = g.ended A B impl.ghosts impl.dict in let T = En.signature in
     let G = triple_of 𝓛 T (g.spec A B impl.ghosts impl.dict 𝓛 𝓜.mem 𝓡.returns) in
     let y : (walk_of 𝓛 f.ended hs c).Ghost = ((κs, qs, bounds, a, (mut_vals a.0, (vals heap.the_type heap_laws.the_laws a.1.0, (uint_vals w64 a.1.1.0, tt)))), tt) in let vss = y.0.4 in
-    let z : G.Ghost = ((three, shares, (none κ, (none κ, tt)), a, vss), tt) in
+    let z : G.Ghost = ((three, shares, (within_static κ, (within_static κ, tt)), a, vss), tt) in
     let toks = ‵ (flft κ q) ⊛ ‵ ftrue in
     let owned = ‵ (owns (types_at f.ended.signature.params κs) a vss) in
-    let Post : Val → SProp 𝓤 = (walk_of 𝓛 f.ended hs c).post y in
     qed 𝓛 ((toks ⊛ owned) ∷ ‵ ftrue ∷ []) ∵ split ! $ move ! (2 ∷ []) $ drop ! $ split ! $
     -- [the token; nothing; the arguments]
     use0 𝓛 (‵ (flft [] full_share)) (𝓛.lfts.lft-nil full_share) $ use0 𝓛 (‵ (flft [] full_share)) (𝓛.lfts.lft-nil full_share) $
     move ! (0 ∷ 3 ∷ []) $ join ! $ move ! (1 ∷ 0 ∷ []) $ join ! $ move ! (1 ∷ 0 ∷ []) $ join ! $ join ! $
-    nothing ! $ use0 𝓛 (raw (fact 𝓤 ([] ⊑ B.lives))) (fact_i 𝓤 ([] ⊑ B.lives) (emp 𝓤) (none [])) $ join ! $
-    use0 𝓛 (raw (fact 𝓤 ([] ⊑ A.lives))) (fact_i 𝓤 ([] ⊑ A.lives) (emp 𝓤) (none [])) $ join ! $
+    nothing ! $ use0 𝓛 (raw (fact 𝓤 ([] ⊑ B.lives))) (fact_i 𝓤 ([] ⊑ B.lives) (emp 𝓤) (within_static [])) $ join ! $
+    use0 𝓛 (raw (fact 𝓤 ([] ⊑ A.lives))) (fact_i 𝓤 ([] ⊑ A.lives) (emp 𝓤) (within_static [])) $ join ! $
     move ! (1 ∷ 0 ∷ []) $ use2 𝓛 (raw (G.pre z)) (id⊢ 𝓤 _) $
     enter ! _ _ _ _ _ $ alloc_all ! (λ l. pass_all ! refl ((tt, tt), ((tt, ((tt, tt), tt)), ((tt, record { fits = are.1.1.0.1 }), tt))) $
     sets ! (addr ! (through ! refl (stop !))) refl (tt, tt) $
-    calls_at ! (framed 𝓤 𝓛.H 𝓜 𝓣) G (met 𝓤 𝓛 𝓜 𝓡 (code.calls-jzon_tree::lent::tree::Tree::at_index_in 𝓡.env wired) A B (lts.laws-0-0 three) (lts.laws-0-1 three) impl.ghosts impl.dict (impl_met.passed 𝓡.env (code.calls-jzon_tree::lent::tree::JsonValueTree::pairs_mut 𝓡.env wired) (code.calls-jzon_tree::lent::tree::JsonValueTree::make_key 𝓡.env wired) (code.calls-jzon_tree::lent::tree::JsonValueTree::object_pairs 𝓡.env wired) (code.calls-jzon_tree::lent::tree::JsonValueTree::make_place 𝓡.env wired) (code.calls-jzon_tree::lent::tree::JsonValueTree::array_items 𝓡.env wired) M 𝓤 𝓛 𝓜 𝓡)) z
+    calls_at ! (framed 𝓤 𝓛.H 𝓜 𝓣) G (met 𝓤 𝓛 𝓜 𝓡 (code.calls-jzon_tree::lent::tree::Tree::at_index_in 𝓡.env wired) A B (lts.laws-0-0 three) (lts.laws-0-1 three) impl.ghosts impl.dict
+    (impl_met.passed 𝓡.env
+    (code.calls-jzon_tree::lent::tree::JsonValueTree::pairs_mut 𝓡.env wired)
+    (code.calls-jzon_tree::lent::tree::JsonValueTree::make_key 𝓡.env wired)
+    (code.calls-jzon_tree::lent::tree::JsonValueTree::object_pairs 𝓡.env wired)
+    (code.calls-jzon_tree::lent::tree::JsonValueTree::make_place 𝓡.env wired)
+    (code.calls-jzon_tree::lent::tree::JsonValueTree::array_items 𝓡.env wired)
+    M 𝓤 𝓛 𝓜 𝓡)) z
     (and_then ! (get ! refl) (and_then ! (get ! refl) (and_then ! (get ! refl) (no_more !)))) (λ v.
     let r-row : RattleType = type_at f.ended.signature.result κs in
     use1 𝓛 (later (some (λ (r : r-row.Denot). ((‵ (flft κ q) ⊛ ‵ (flft [] full_share) ⊛ ‵ (flft [] full_share) ⊛ ‵ ftrue) ⊛ ‵ (r-row.own_val r (v ∷ []))) ⊛
