@@ -1,5 +1,5 @@
 -- What the place of a key says of a list of pairs.
-use Rattle.std.proofs.Common.{◌≡◌, ℕ, zero, suc, ◌<◌, Bool, true, false, List, [], ◌∷◌, ◌++◌, length, get_or, set, None, Some, refl, sym, ap, ◌∙◌, arith}
+use Rattle.std.proofs.Common.{◌≡◌, ℕ, zero, suc, ◌<◌, Bool, true, false, List, [], ◌∷◌, ◌++◌, length, get_or, set, None, Some, IsSome, refl, sym, ap, ◌∙◌, arith}
 use Rattle.std.proofs.Math.ListN.{length-map}
 use Rattle.std.proofs.lemmas.Slice.Eq.{bytes_eq-Decides}
 use Rattle.std.proofs.lemmas.List.Quantifiers.{position-Some}
@@ -62,9 +62,17 @@ module _ {V : Type 0} where
   put-default-by true k v w x ps e h = rw (e, e)
   put-default-by false k v w x ps e h = rw (e, e, h)
 
-  put-with_default : (k : List ℕ) (v w : V) (ps : List (List ℕ × V)) → put k w (with_default k v ps) ≡ put k w ps
+  pub put-with_default : (k : List ℕ) (v w : V) (ps : List (List ℕ × V)) → put k w (with_default k v ps) ≡ put k w ps
   put-with_default k v w [] = rw (same k)
   put-with_default k v w (x ∷ ps) = put-default-by (bytes_eq x.0 k) k v w x ps refl (put-with_default k v w ps)
+
+  find-with_default-by : (b : Bool) (k : List ℕ) (v : V) (x : List ℕ × V) (ps : List (List ℕ × V)) → bytes_eq x.0 k ≡ b → IsSome (find k (with_default k v ps)) → IsSome (find k (with_default k v (x ∷ ps)))
+  find-with_default-by true k v x ps e h = rw (e, e) refl
+  find-with_default-by false k v x ps e h = rw (e, e) h
+
+  pub find-with_default : (k : List ℕ) (v : V) (ps : List (List ℕ × V)) → IsSome (find k (with_default k v ps))
+  find-with_default k v [] = rw (same k) refl
+  find-with_default k v (x ∷ ps) = find-with_default-by (bytes_eq x.0 k) k v x ps refl (find-with_default k v ps)
 
   find-absent : (k : List ℕ) (ps : List (List ℕ × V)) → IsAbsent k (keys_of ps) → find k ps ≡ None
   find-absent k [] h = refl

@@ -1,5 +1,6 @@
 pub mod Compared
 pub mod Dumps
+pub mod LentSteps
 pub mod Plain
 pub mod PairKeys
 mod Rows

@@ -10,3 +10,5 @@ pub mod View
 pub mod Readers
 pub mod Changers
 pub mod Place
+pub mod Lent
+pub mod LentTypes

@@ -5,6 +5,7 @@ mod clone;
 mod codegen;
 mod equal;
 pub mod into_json;
+pub mod lent;
 pub mod object;
 pub mod readers;
 pub mod value;

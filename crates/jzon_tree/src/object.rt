@@ -7,7 +7,7 @@ ghost use Rattle.std.specs.Iterator.SizeHint.{IsWithinCount};
 ghost use Rattle.std.specs.List.{IsDistinct};
 ghost use Rattle.std.specs.Str.{bytes_eq};
 ghost use Rattle.jzon_base.specs.IterMut.{iter_mut_rest, IsReady};
-ghost use Rattle.jzon_base.specs.PairList.{find, put, put_each, cut, set_value, keys_of};
+ghost use Rattle.jzon_base.specs.PairList.{find, put, put_each, cut, set_value, with_default, keys_of};
 ghost use Rattle.jzon_tree.specs.IntoIter.{entries_left};
 ghost use Rattle.jzon_tree.specs.Text.{compact};
 ghost use Rattle.jzon_tree.specs.View.{view_object};
@@ -42,7 +42,7 @@ pub struct Object {
 }
 
 impl Object {
-    ghost use Rattle.std.specs.Borrow.{sem, LendsIf};
+    ghost use Rattle.std.specs.Borrow.{sem, LendsIf, LendsIfOk};
     ghost use Rattle.jzon_tree.specs.contracts.object.Object.{the_row};
     ghost use Rattle.jzon_tree.specs.contracts.value.JsonValue.{the_row as value_row};
     ghost use Rattle.jzon_tree.specs.Entries.{entries_of, with_entries};
@@ -95,6 +95,19 @@ impl Object {
         ensures value { option_copied_mut result ≡ find key.now (entries_of self.old) }
     {
         self.pairs.get_mut(key)
+    }
+
+    /// The value of the key, to be written. A missing key is first put last, with null. Nothing else changes. Refused by `OutOfMemory` alone, and then nothing has
+    /// changed; a key that is there takes no memory.
+    pub fn at_mut(&mut self, alloc: Global, key: &str) -> Result<&mut JsonValue>
+        ensures* writes_back { sem 𝓛 (LendsIfOk the_row value_row self.entry result
+            (λ w. with_entries (put key.now w (entries_of self.old))) self.old) }
+        ensures value { IfOk result (λ place. Some place.now ≡
+            find key.now (with_default key.now JsonValue.Null (entries_of self.old))) }
+        ensures present { OnErr result (find key.now (entries_of self.old) ≡ None) }
+        ensures memory { IsOkUnless result Error.OutOfMemory }
+    {
+        Ok(self.pairs.at_mut(alloc, key, JsonValue::Null)?)
     }
 
     /// Puts the value under the key: in the place of the key where it is there, which takes no memory, else last. Refused by `OutOfMemory` alone, and then nothing

@@ -236,6 +236,118 @@ fn insert_under_refusals(rt: HostRuntime) -> Result<(), Fail> {
     Ok(())
 }
 
+// It has 33 bytes, so that it takes memory of its own.
+const LONG_KEY: &str = "0123456789abcdef0123456789abcdef!";
+
+// The calls that lend a value to be written, which isn't kept.
+fn make_key_of_object(object: &mut Object, alloc: Global, key: &str) -> Result<(), Error> {
+    object.at_mut(alloc, key)?;
+    Ok(())
+}
+
+fn make_key(value: &mut JsonValue, alloc: Global, key: &str) -> Result<(), Error> {
+    value.at_mut(alloc, key)?;
+    Ok(())
+}
+
+fn make_item(value: &mut JsonValue, alloc: Global, index: usize) -> Result<(), Error> {
+    value.at_index_mut(alloc, index)?;
+    Ok(())
+}
+
+#[test]
+fn at_mut_of_an_object_under_refusals(rt: HostRuntime) -> Result<(), Fail> {
+    let alloc = rt.alloc();
+    let mut refusals = Refusals::new(alloc);
+    for _ in 0..MOST {
+        let mut object = Object::new(alloc);
+        refusals.begin();
+        let result = make_key_of_object(&mut object, alloc, LONG_KEY);
+        if refusals.was_refused() {
+            assert!(rt; matches!(result, Err(Error::OutOfMemory)));
+            assert!(rt; object.is_empty());
+        } else {
+            result?;
+            assert_eq!(rt;
+                object.dump(alloc)?.as_str(),
+                "{\"0123456789abcdef0123456789abcdef!\":null}"
+            );
+            break;
+        }
+    }
+    refusals.tell(&rt, "at_mut_of_an_object_under_refusals", 3);
+    Ok(())
+}
+
+#[test]
+fn at_mut_under_refusals(rt: HostRuntime) -> Result<(), Fail> {
+    let alloc = rt.alloc();
+    let mut refusals = Refusals::new(alloc);
+    for _ in 0..MOST {
+        let mut value = JsonValue::Boolean(true);
+        refusals.begin();
+        let result = make_key(&mut value, alloc, LONG_KEY);
+        if refusals.was_refused() {
+            assert!(rt; matches!(result, Err(Error::OutOfMemory)));
+            assert_eq!(rt; value.dump(alloc)?.as_str(), "true");
+        } else {
+            result?;
+            assert_eq!(rt;
+                value.dump(alloc)?.as_str(),
+                "{\"0123456789abcdef0123456789abcdef!\":null}"
+            );
+            break;
+        }
+    }
+    refusals.tell(&rt, "at_mut_under_refusals", 3);
+    Ok(())
+}
+
+// The array has no room for another item.
+#[test]
+fn at_index_mut_under_refusals(rt: HostRuntime) -> Result<(), Fail> {
+    let alloc = rt.alloc();
+    let mut refusals = Refusals::new(alloc);
+    for _ in 0..MOST {
+        let mut items = Vec::with_capacity(alloc, 1)?;
+        items.push(JsonValue::Boolean(true))?;
+        let mut value = JsonValue::Array(items);
+        refusals.begin();
+        let result = make_item(&mut value, alloc, 9);
+        if refusals.was_refused() {
+            assert!(rt; matches!(result, Err(Error::OutOfMemory)));
+            assert_eq!(rt; value.dump(alloc)?.as_str(), "[true]");
+        } else {
+            result?;
+            assert_eq!(rt; value.dump(alloc)?.as_str(), "[true,null]");
+            break;
+        }
+    }
+    refusals.tell(&rt, "at_index_mut_under_refusals", 1);
+    Ok(())
+}
+
+#[test]
+fn at_index_mut_of_null_under_refusals(rt: HostRuntime) -> Result<(), Fail> {
+    let alloc = rt.alloc();
+    let mut refusals = Refusals::new(alloc);
+    for _ in 0..MOST {
+        let mut value = JsonValue::Null;
+        refusals.begin();
+        let result = make_item(&mut value, alloc, 0);
+        if refusals.was_refused() {
+            assert!(rt; matches!(result, Err(Error::OutOfMemory)));
+            assert_eq!(rt; value.dump(alloc)?.as_str(), "null");
+        } else {
+            result?;
+            assert_eq!(rt; value.dump(alloc)?.as_str(), "[null]");
+            break;
+        }
+    }
+    refusals.tell(&rt, "at_index_mut_of_null_under_refusals", 1);
+    Ok(())
+}
+
 #[test]
 fn dump_under_refusals(rt: HostRuntime) -> Result<(), Fail> {
     let alloc = rt.alloc();

@@ -1,0 +1,57 @@
+-- What a value lends to be written (docs/RULES.md, "Readers" and "Changers").
+use Rattle.std.specs.Prelude.{◌≡◌, ℕ, min, ◌-◌, List, [], ◌∷◌, ◌++◌, length, nat_lt, nat_eq, if◌then◌else◌, Option, None, Some}
+use Rattle.std.specs.Global.{Vec}
+use Rattle.std.proofs.Common.{rules}
+use Rattle.jzon_tree.specs.Entries.{entries_of, with_entries}
+use Rattle.jzon_tree.specs.declared.object.Object.{Object}
+use Rattle.jzon_tree.specs.declared.value.JsonValue.{JsonValue, out-JsonValue, Null, Object as object_value, Array as array_value, the_lemmas}
+use Rattle.jzon_tree.specs.declared.value.JsonValue.TheOpen.{JsonValue-F}
+
+abbrev object_at : JsonValue-F JsonValue Object → Option Object
+object_at (JsonValue-F.Object o) = Some o
+object_at _ = None
+
+-- the object that a value is, or none
+abbrev pub object_in : JsonValue → Option Object
+object_in v = object_at (out-JsonValue v)
+
+abbrev entries_at : JsonValue-F JsonValue Object → List (List ℕ × JsonValue)
+entries_at (JsonValue-F.Object o) = entries_of o
+entries_at _ = []
+
+-- the pairs of an object; no pair of another value
+abbrev pub entries_in : JsonValue → List (List ℕ × JsonValue)
+entries_in v = entries_at (out-JsonValue v)
+
+abbrev items_at : JsonValue-F JsonValue Object → Option (List JsonValue)
+items_at (JsonValue-F.Array vs) = Some vs.items
+items_at _ = None
+
+-- the items of an array, or none of another value
+abbrev pub items_in : JsonValue → Option (List JsonValue)
+items_in v = items_at (out-JsonValue v)
+
+-- the items once there is a place for index i: the same where i is in range, and one null more past the end; one null at 0 and else two, of what has no items
+abbrev pub with_place : {V : Type 0} → V → Option (List V) → ℕ → List V
+with_place null (Some xs) i = if nat_lt i (length xs) then xs else xs ++ null ∷ []
+with_place null None i = if nat_eq i 0 then null ∷ [] else null ∷ null ∷ []
+
+-- that place: the index in range, and the last one else
+abbrev pub place_in : {V : Type 0} → V → Option (List V) → ℕ → ℕ
+place_in null xs i = min i (length (with_place null xs i) - 1)
+
+-- what `at_index_mut` makes of a value's items
+abbrev pub items_with_place : JsonValue → ℕ → List JsonValue
+items_with_place v i = with_place Null (items_in v) i
+
+-- which of them it lends
+abbrev pub place_made : JsonValue → ℕ → ℕ
+place_made v i = place_in Null (items_in v) i
+
+-- ---- what is put into an object or an array is what it has
+
+pub entries_in-object : (ps : List (List ℕ × JsonValue)) → entries_in (object_value (with_entries ps)) ≡ ps
+entries_in-object ps = search (rules, the_lemmas)
+
+pub items_in-array : (vs : Vec JsonValue) → items_in (array_value vs) ≡ Some vs.items
+items_in-array vs = search (rules, the_lemmas)

@@ -1,0 +1,114 @@
+//! What a value lends to be written (docs/RULES.md, "Readers" and "Changers").
+
+ghost use Rattle.std.specs.Prelude.{◌≡◌, ◌≤◌, [], length, slice_get, slice_set, IfOk, OnErr, IfSome, IsOkUnless, None, Some, unwrap_or};
+ghost use Rattle.std.specs.Borrow.{sem, LendsIf, LendsIfOk, LendsSoOk};
+ghost use Rattle.std.specs.Option.{option_copied_mut, option_map};
+ghost use Rattle.std.specs.Slice.Iter.{iter_mut_rest as items_left};
+ghost use Rattle.jzon_base.specs.IterMut.{iter_mut_rest, IsReady};
+ghost use Rattle.jzon_base.specs.PairList.{find, put, with_default};
+ghost use Rattle.jzon_tree.specs.Entries.{with_entries};
+ghost use Rattle.jzon_tree.specs.Lent.{object_in, entries_in, items_in, items_with_place, place_made};
+ghost use Rattle.jzon_tree.specs.LentTypes.{vec_row};
+ghost use Rattle.jzon_tree.specs.View.{view};
+ghost use Rattle.jzon_tree.specs.declared.value.JsonValue.{Object as object_value, Array as array_value};
+ghost use Rattle.jzon_tree.specs.contracts.object.Object.{the_row as object_row};
+
+mod tree;
+mod writes;
+
+use crate::object::{self, Object};
+use crate::value::JsonValue;
+use jzon_base::error::{Error, Result};
+use std::alloc::Global;
+use std::slice;
+pub use tree::Tree;
+pub use writes::{write_at, write_at_index, write_present};
+
+impl JsonValue {
+    ghost use Rattle.jzon_tree.specs.contracts.value.JsonValue.{the_row};
+
+    /// The object that the value is, to be written.
+    pub fn as_object_mut(&mut self) -> Option<&mut Object>
+        ensures* writes_back { sem 𝓛 (LendsIf the_row object_row self.entry result object_value self.old) }
+        ensures value { option_copied_mut result ≡ object_in self.old }
+    {
+        if let JsonValue::Object(object) = self {
+            Some(object)
+        } else {
+            None
+        }
+    }
+
+    /// The items of the array that the value is, to be written.
+    pub fn as_array_mut(&mut self) -> Option<&mut Vec<JsonValue>>
+        ensures* writes_back { sem 𝓛 (LendsIf the_row (vec_row the_row) self.entry result array_value self.old) }
+        ensures value { option_map (λ items. items.now.items) result ≡ items_in self.old }
+    {
+        if let JsonValue::Array(items) = self {
+            Some(items)
+        } else {
+            None
+        }
+    }
+
+    /// The items of an array in their order, from both ends, which may be written. Another value has none.
+    pub fn members_mut(&mut self) -> slice::IterMut<'_, JsonValue>
+        ensures { items_left result ≡ unwrap_or (items_in self.old) [] }
+    {
+        match self {
+            JsonValue::Array(items) => items.iter_mut(),
+            _ => [].iter_mut(),
+        }
+    }
+
+    /// The pairs of an object in their order, from both ends. Their values may be written. Another value has none.
+    pub fn entries_mut(&mut self) -> object::IterMut<'_>
+        ensures ready { IsReady result }
+        ensures rest { iter_mut_rest result ≡ entries_in self.old }
+    {
+        if let JsonValue::Object(object) = self {
+            return object.iter_mut();
+        }
+        object::IterMut::empty()
+    }
+
+    /// The value of an object's key, to be written. Nothing else changes.
+    pub fn get_mut(&mut self, key: &str) -> Option<&mut JsonValue>
+        ensures* writes_back { sem 𝓛 (LendsIf the_row the_row self.entry result
+            (λ w. object_value (with_entries (put key.now w (entries_in self.old)))) self.old) }
+        ensures value { option_copied_mut result ≡ find key.now (entries_in self.old) }
+    {
+        self.get_in(key)
+    }
+
+    /// The value of an object's key, to be written. A missing key is first put last, with null, and a value that is no object first becomes one without pairs.
+    /// Nothing else changes. Refused by `OutOfMemory` alone, and then nothing has changed; a key that is there takes no memory.
+    pub fn at_mut(&mut self, alloc: Global, key: &str) -> Result<&mut JsonValue>
+        ensures* writes_back { sem 𝓛 (LendsIfOk the_row the_row self.entry result
+            (λ w. object_value (with_entries (put key.now w (entries_in self.old)))) self.old) }
+        ensures value { IfOk result (λ place. Some place.now ≡
+            find key.now (with_default key.now JsonValue.Null (entries_in self.old))) }
+        ensures present { OnErr result (find key.now (entries_in self.old) ≡ None) }
+        ensures memory { IsOkUnless result Error.OutOfMemory }
+    {
+        self.at_in(alloc, key)
+    }
+
+    /// The item of an array at an index, to be written. Past the end the array first gains one null, whatever the index, which is lent. A value that is no array
+    /// first becomes one of a null for index 0, and else of two, the last of which is lent. Refused by `OutOfMemory` alone, and then the value is as it was; an
+    /// index in range of an array takes no memory.
+    pub fn at_index_mut(&mut self, alloc: Global, index: usize) -> Result<&mut JsonValue>
+        ensures* writes_back { sem 𝓛 (LendsSoOk the_row the_row self.entry result
+            (λ n w. items_in n ≡ Some (slice_set (items_with_place self.old index) (place_made self.old index) w))
+            (λ n. view n ≡ view self.old)) }
+        ensures value { IfOk result (λ place.
+            slice_get (items_with_place self.old index) (place_made self.old index) ≡ Some place.now) }
+        ensures present { OnErr result (IfSome (items_in self.old) (λ items. length items ≤ index)) }
+        ensures memory { IsOkUnless result Error.OutOfMemory }
+    {
+        self.at_index_in(alloc, index)
+    }
+}
+
+#[cfg(test)]
+mod tests;

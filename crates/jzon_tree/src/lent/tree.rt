@@ -1,0 +1,205 @@
+//! What is lent out of a tree whose own type and whose nodes' type are two parameters. Of such a `&mut` the checker proves what is written back through it; of one
+//! from a type to itself it makes no proof (docs/DECISIONS.md, "What is written back through a lent value of the same type").
+
+ghost use Rattle.std.specs.Prelude.{◌≡◌, ◌≤◌, ◌<◌, List, ℕ, [], length, slice_get, slice_set, IfOk, IfSome, OnOk, OnErr, IsOkUnless, IsSome, MatchOption, Option, None, Some};
+ghost use Rattle.std.specs.Borrow.{sem, Lends, LendsIf, LendsIfOk, LendsSoOk};
+ghost use Rattle.std.specs.Global.{Vec};
+ghost use Rattle.std.specs.Option.{option_copied_mut};
+ghost use Rattle.jzon_base.specs.PairList.{find, put, with_default};
+ghost use Rattle.jzon_base.specs.contracts.pairs.Pairs.{the_row as pairs_row};
+ghost use Rattle.jzon_tree.specs.Entries.{with_entries};
+ghost use Rattle.jzon_tree.specs.Lent.{entries_in, items_in, with_place, place_in, entries_in-object, items_in-array};
+ghost use Rattle.jzon_tree.specs.LentTypes.{vec_row};
+ghost use Rattle.jzon_tree.specs.Value.{Value};
+ghost use Rattle.jzon_tree.specs.View.{view};
+ghost use Rattle.jzon_tree.specs.declared.value.JsonValue.{Object as object_value, Array as array_value, Null as null_value};
+
+use crate::object::Object;
+use crate::value::JsonValue;
+use jzon_base::error::{Error, Result};
+use jzon_base::pairs::Pairs;
+use std::alloc::Global;
+
+/// A value that may be an object or an array of nodes, as a `JsonValue` is of values. `get_in`, `at_in` and `at_index_in` lend its nodes to be written.
+pub trait Tree {
+    type Node;
+
+    // The null node.
+    ghost null: { Self.Node };
+
+    // The pairs of an object, no pair of another value; and the object of some pairs.
+    ghost pairs: { Self → List (List ℕ × Self.Node) };
+
+    ghost object: { List (List ℕ × Self.Node) → Self };
+
+    ghost pairs_of_object: { (ps : List (List ℕ × Self.Node)) → pairs (object ps) ≡ ps };
+
+    // The items of an array; and the array of some items.
+    ghost items: { Self → Option (List Self.Node) };
+
+    ghost array: { Vec Self.Node → Self };
+
+    ghost items_of_array: { (vs : Vec Self.Node) → items (array vs) ≡ Some vs.items };
+
+    // What the value means.
+    ghost meaning: { Self → Value };
+
+    /// The pairs of an object, to be written.
+    fn pairs_mut(&mut self) -> Option<&mut Pairs<Self::Node>>
+        ensures* writes_back { sem 𝓛 (LendsIf Self.row (pairs_row Self.Node.row) self.entry result object self.old) }
+        ensures value { MatchOption result (pairs self.old ≡ [])
+            (λ lent. (lent.now ≡ pairs self.old) × (object (pairs self.old) ≡ self.old)) };
+
+    /// Makes the value an object that has the key: what is no object becomes one without pairs, and then a missing key is put last, with null. The error is a
+    /// refused growth, and then nothing has changed.
+    fn make_key(&mut self, alloc: Global, key: &str) -> Result<()>
+        ensures ok { OnOk result (self.new ≡ object (with_default key.now null (pairs self.old))) }
+        ensures err { OnErr result (self.new ≡ self.old) }
+        ensures present { OnErr result (find key.now (pairs self.old) ≡ None) }
+        ensures memory { IsOkUnless result Error.OutOfMemory };
+
+    /// The pairs of a value that is an object, to be written.
+    fn object_pairs(&mut self) -> &mut Pairs<Self::Node>
+        requires { object (pairs self.old) ≡ self.old }
+        ensures* writes_back { sem 𝓛 (Lends Self.row (pairs_row Self.Node.row) self.entry result object) }
+        ensures value { result.now ≡ pairs self.old };
+
+    /// Makes the value an array that has a place for the index. The error is a refused growth, and then the value means what it meant.
+    fn make_place(&mut self, alloc: Global, index: usize) -> Result<()>
+        ensures ok { OnOk result (items self.new ≡ Some (with_place null (items self.old) index)) }
+        ensures err { OnErr result (meaning self.new ≡ meaning self.old) }
+        ensures present { OnErr result (IfSome (items self.old) (λ xs. length xs ≤ index)) }
+        ensures memory { IsOkUnless result Error.OutOfMemory };
+
+    /// The items of a value that is an array, to be written.
+    fn array_items(&mut self) -> &mut Vec<Self::Node>
+        requires { IsSome (items self.old) }
+        ensures* writes_back { sem 𝓛 (Lends Self.row (vec_row Self.Node.row) self.entry result array) }
+        ensures value { Some result.now.items ≡ items self.old };
+
+    /// The node of an object's key, to be written: nothing else changes.
+    final fn get_in(&mut self, key: &str) -> Option<&mut Self::Node>
+        ensures* writes_back { sem 𝓛 (LendsIf Self.row Self.Node.row self.entry result
+            (λ w. object (put key.now w (pairs self.old))) self.old) }
+        ensures value { option_copied_mut result ≡ find key.now (pairs self.old) }
+    {
+        let pairs = self.pairs_mut()?;
+        pairs.get_mut(key)
+    }
+
+    /// The node of an object's key, to be written, once the key is made: nothing else changes. The error is a refused growth, and then nothing has changed.
+    final fn at_in(&mut self, alloc: Global, key: &str) -> Result<&mut Self::Node>
+        ensures* writes_back { sem 𝓛 (LendsIfOk Self.row Self.Node.row self.entry result
+            (λ w. object (put key.now w (pairs self.old))) self.old) }
+        ensures value { IfOk result (λ place. Some place.now ≡
+            find key.now (with_default key.now null (pairs self.old))) }
+        ensures present { OnErr result (find key.now (pairs self.old) ≡ None) }
+        ensures memory { IsOkUnless result Error.OutOfMemory }
+    {
+        self.make_key(alloc, key)?;
+        let pairs = self.object_pairs();
+        Ok(pairs.member_mut(key))
+    }
+
+    /// The item of an array at an index, to be written, once its place is made. The error is a refused growth, and then the value means what it meant.
+    final fn at_index_in(&mut self, alloc: Global, index: usize) -> Result<&mut Self::Node>
+        ensures* writes_back { sem 𝓛 (LendsSoOk Self.row Self.Node.row self.entry result
+            (λ n w. items n ≡ Some (slice_set (with_place null (items self.old) index)
+            (place_in null (items self.old) index) w))
+            (λ n. meaning n ≡ meaning self.old)) }
+        ensures value { IfOk result (λ place. slice_get (with_place null (items self.old) index)
+            (place_in null (items self.old) index) ≡ Some place.now) }
+        ensures present { OnErr result (IfSome (items self.old) (λ xs. length xs ≤ index)) }
+        ensures memory { IsOkUnless result Error.OutOfMemory }
+    {
+        self.make_place(alloc, index)?;
+        let items = self.array_items();
+        let place = index.min(items.len() - 1);
+        Ok(&mut items[place])
+    }
+}
+
+impl Tree for JsonValue {
+    type Node = JsonValue;
+
+    ghost null = { null_value };
+
+    ghost pairs = { entries_in };
+
+    ghost object = { λ ps. object_value (with_entries ps) };
+
+    ghost pairs_of_object = { entries_in-object };
+
+    ghost items = { items_in };
+
+    ghost array = { array_value };
+
+    ghost items_of_array = { items_in-array };
+
+    ghost meaning = { view };
+
+    fn pairs_mut(&mut self) -> Option<&mut Pairs<JsonValue>> {
+        let object = self.as_object_mut()?;
+        Some(&mut object.pairs)
+    }
+
+    fn make_key(&mut self, alloc: Global, key: &str) -> Result<()> {
+        if let JsonValue::Object(object) = self {
+            object.pairs.place(alloc, key, JsonValue::Null)?;
+            return Ok(());
+        }
+        let mut object = Object::new(alloc);
+        object.insert(alloc, key, JsonValue::Null)?;
+        *self = JsonValue::Object(object);
+        Ok(())
+    }
+
+    fn object_pairs(&mut self) -> &mut Pairs<JsonValue> {
+        match self {
+            JsonValue::Object(object) => &mut object.pairs,
+            _ => unreachable!(),
+        }
+    }
+
+    fn make_place(&mut self, alloc: Global, index: usize) -> Result<()> {
+        if let JsonValue::Array(items) = self {
+            return add_place(items, index);
+        }
+        *self = JsonValue::Array(new_items(alloc, index)?);
+        Ok(())
+    }
+
+    fn array_items(&mut self) -> &mut Vec<JsonValue> {
+        match self {
+            JsonValue::Array(items) => items,
+            _ => unreachable!(),
+        }
+    }
+}
+
+/// Adds one null where the index is past the end. The error is a refused growth.
+fn add_place(items: &mut Vec<JsonValue>, index: usize) -> Result<()>
+    ensures ok { OnOk result (items.new.items ≡ with_place null_value (Some items.old.items) index) }
+    ensures err { OnErr result (items.new.items ≡ items.old.items) }
+    ensures present { OnErr result (length items.old.items ≤ index) }
+    ensures memory { IsOkUnless result Error.OutOfMemory }
+{
+    if items.len() <= index {
+        items.reserve(1)?;
+        items.push_reserved(JsonValue::Null);
+    }
+    Ok(())
+}
+
+/// One null for index 0, and else two. The error is a refused growth.
+fn new_items(alloc: Global, index: usize) -> Result<Vec<JsonValue>>
+    ensures items { IfOk result (λ items. items.items ≡ with_place null_value None index) }
+    ensures memory { IsOkUnless result Error.OutOfMemory }
+{
+    let mut items = Vec::with_capacity(alloc, 2)?;
+    items.push_reserved(JsonValue::Null);
+    if index != 0 {
+        items.push_reserved(JsonValue::Null);
+    }
+    Ok(items)
+}
