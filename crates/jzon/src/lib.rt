@@ -2,8 +2,11 @@
 #![tactic(auto)]
 
 mod blank;
+mod conversions;
 mod frames;
+pub mod iterators;
 pub mod laws;
+mod macros;
 mod numeral;
 pub mod object;
 mod parser;
@@ -14,9 +17,13 @@ mod string;
 mod tests;
 pub mod util;
 
+pub use conversions::{from, stringify};
 pub use jzon_base::error::{Error, Error as JsonError, JsonResult, Result};
 pub use jzon_base::{number, short};
 pub use jzon_tree::into_json::IntoJson;
 pub use jzon_tree::value::JsonValue;
 pub use jzon_tree::view::View;
 pub use parser::parse;
+
+/// The items of an array.
+pub type Array = Vec<JsonValue>;

@@ -1,0 +1,27 @@
+//! Values and texts made of whatever turns into a value (docs/RULES.md, "Conversions").
+
+ghost use Rattle.std.specs.Prelude.{◌≡◌, IfOk, IsOkUnless, string_bytes};
+ghost use Rattle.jzon_tree.specs.Text.{compact};
+ghost use Rattle.jzon_tree.specs.Value.{Value};
+ghost use Rattle.jzon_tree.specs.View.{view};
+
+use jzon_base::error::{Error, Result};
+use jzon_tree::into_json::IntoJson;
+use jzon_tree::value::JsonValue;
+use std::alloc::Global;
+
+/// The value that `value` turns into. Refused by `OutOfMemory` alone.
+pub fn from<T: IntoJson>(alloc: Global, value: T) -> Result<JsonValue>
+    ensures meant { IfOk result (λ v. T.means value (view v)) }
+    ensures memory { IsOkUnless result Error.OutOfMemory }
+{
+    value.into_json(alloc)
+}
+
+/// The compact text of the value that `root` turns into. Refused by `OutOfMemory` alone.
+pub fn stringify<T: IntoJson>(alloc: Global, root: T) -> Result<String>
+    ensures text { IfOk result (λ text. (v : Value) × T.means root v × (string_bytes text ≡ compact v)) }
+    ensures memory { IsOkUnless result Error.OutOfMemory }
+{
+    root.into_json(alloc)?.dump(alloc)
+}

@@ -1,0 +1,3 @@
+//! The iterators over the items of arrays and the pairs of objects (docs/RULES.md, "Public names").
+
+pub use jzon_tree::readers::{Entries, Members};
