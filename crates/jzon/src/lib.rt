@@ -21,6 +21,7 @@ pub use conversions::{from, stringify};
 pub use jzon_base::error::{Error, Error as JsonError, JsonResult, Result};
 pub use jzon_base::{number, short};
 pub use jzon_tree::into_json::IntoJson;
+pub use jzon_tree::lent;
 pub use jzon_tree::value::JsonValue;
 pub use jzon_tree::view::View;
 pub use parser::parse;

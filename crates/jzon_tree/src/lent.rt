@@ -24,6 +24,12 @@ use std::slice;
 pub use tree::Tree;
 pub use writes::{write_at, write_at_index, write_present};
 
+/// The items of an array that are left, which may be written.
+pub type MembersMut<'a> = slice::IterMut<'a, JsonValue>;
+
+/// The pairs of an object that are left, each as its key's text and its value, which may be written.
+pub type EntriesMut<'a> = object::IterMut<'a>;
+
 impl JsonValue {
     ghost use Rattle.jzon_tree.specs.contracts.value.JsonValue.{the_row};
 
@@ -52,7 +58,7 @@ impl JsonValue {
     }
 
     /// The items of an array in their order, from both ends, which may be written. Another value has none.
-    pub fn members_mut(&mut self) -> slice::IterMut<'_, JsonValue>
+    pub fn members_mut(&mut self) -> MembersMut<'_>
         ensures { items_left result ≡ unwrap_or (items_in self.old) [] }
     {
         match self {
@@ -62,14 +68,14 @@ impl JsonValue {
     }
 
     /// The pairs of an object in their order, from both ends. Their values may be written. Another value has none.
-    pub fn entries_mut(&mut self) -> object::IterMut<'_>
+    pub fn entries_mut(&mut self) -> EntriesMut<'_>
         ensures ready { IsReady result }
         ensures rest { iter_mut_rest result ≡ entries_in self.old }
     {
         if let JsonValue::Object(object) = self {
             return object.iter_mut();
         }
-        object::IterMut::empty()
+        EntriesMut::empty()
     }
 
     /// The value of an object's key, to be written. Nothing else changes.
