@@ -10,3 +10,4 @@ pub mod View
 pub mod Readers
 pub mod Changers
 pub mod Place
+pub mod IntoJson
