@@ -1,6 +1,7 @@
 -- Decimals scaled to whole numbers.
-use Rattle.std.proofs.Common.{◌≡◌, ℕ, zero, suc, ℤ, pos, negsuc, ◌+◌, ◌*◌, ◌/◌, ◌%◌, ◌^◌, ◌≤◌, ◌<◌, ◌==◌, ◌+ℤ◌, ◌<ℤ◌, false, refl, sym, arith, pow-add, FitsSigned}
+use Rattle.std.proofs.Common.{◌≡◌, ℕ, zero, suc, ℤ, pos, negsuc, ◌+◌, ◌*◌, ◌/◌, ◌%◌, ◌^◌, ◌≤◌, ◌<◌, ◌==◌, ◌+ℤ◌, ◌<ℤ◌, false, refl, sym, ap, ◌∙◌, ◌-◌, arith, pow-add, FitsSigned}
 use Rattle.std.specs.Int.{w16}
+use Rattle.std.proofs.Math.Nat.{div-div-eq-div-mul, zero-div}
 use Rattle.std.proofs.lemmas.Int.{ints}
 use Rattle.jzon_base.specs.Decimal.{scaled, shifted}
 use Rattle.jzon_base.proofs.Powers.{power_pos, eq-false, eq-times}
@@ -41,3 +42,18 @@ scaled-strip m e fits negative h =
     let up : shifted (e +ℤ pos 1) ≡ shifted e + 1 = shifted-up e fits negative in
     let whole : m / 10 * 10 ≡ m = omega arith in
     rw (up, pow-add 10 (shifted e) 1) (regroup (m / 10) m (10 ^ shifted e) whole)
+
+-- ---- divided by powers of ten, one digit at a time
+
+pub over-ten : (m i : ℕ) → m / 10 ^ i / 10 ≡ m / 10 ^ (i + 1)
+over-ten m i = rw (pow-add 10 i 1) (div-div-eq-div-mul m (10 ^ i) 10)
+
+-- what is 0 after some steps is 0 after all of them
+pub over-zero : (m i p : ℕ) → m / 10 ^ i ≡ 0 → i ≤ p → 0 ≡ m / 10 ^ p
+over-zero m i p e h =
+    let split : p ≡ i + (p - i) = omega arith in
+    let more : m / 10 ^ i / 10 ^ (p - i) ≡ m / 10 ^ p =
+    div-div-eq-div-mul m (10 ^ i) (10 ^ (p - i)) ∙ ap (λ t. m / t) (sym (pow-add 10 i (p - i)) ∙ ap (λ j. 10 ^ j) (sym split)) in
+    sym (zero-div (10 ^ (p - i))) ∙ ap (λ x. x / 10 ^ (p - i)) (sym e) ∙ more
+
+pub ruleset over_rules = (over-ten, over-zero)

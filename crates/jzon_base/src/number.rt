@@ -3,9 +3,14 @@
 ghost use Rattle.std.specs.Prelude.{◌≡◌, ◌+◌, ◌*◌, ◌^◌, ◌<◌, ◌≤◌, ◌≤ℤ◌, ◌==◌, ◌||◌, MatchOption};
 ghost use Rattle.jzon_base.specs.Decimal.{nan, parts, parts_of, is_nan, is_zero, is_positive, negated, same, shifted, scaled, StripsTo};
 
+mod fixed_point;
+mod from_integer;
+mod to_integer;
+
 use crate::util::print_dec::number_text;
 use std::fmt;
 use std::marker::Model;
+pub use to_integer::NumberOutOfScope;
 
 #[derive(Clone, Copy, Debug)]
 enum Category {

@@ -6,3 +6,5 @@ pub mod PairKeys
 mod Rows
 pub mod Seen
 pub mod Views
+pub mod Means
+pub mod PutPairs

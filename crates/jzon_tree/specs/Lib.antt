@@ -12,3 +12,4 @@ pub mod Changers
 pub mod Place
 pub mod Lent
 pub mod LentTypes
+pub mod IntoJson

@@ -1,6 +1,6 @@
 -- What each reader sees in a value (docs/RULES.md, "Readers").
-use Rattle.std.specs.Prelude.{ℕ, List, [], length, Bool, true, false, not, ◌||◌, ◌==◌, Option, None, Some}
-use Rattle.jzon_base.specs.Decimal.{Decimal, is_zero, is_nan}
+use Rattle.std.specs.Prelude.{ℕ, ℤ, List, [], length, Bool, true, false, not, ◌||◌, ◌==◌, Option, None, Some, option_and_then}
+use Rattle.jzon_base.specs.Decimal.{Decimal, is_zero, is_nan, integer_of, unsigned_of, fixed_point, unsigned_fixed_point}
 use Rattle.jzon_tree.specs.Value.{Value, null, boolean, text, number, array, object, list_of_values, list_of_pairs}
 
 -- ---- the kind of a value
@@ -39,6 +39,22 @@ truth_in _ = None
 abbrev pub number_in : Value → Option Decimal
 number_in (number n) = Some n
 number_in _ = None
+
+-- the number as an integer
+abbrev pub integer_in : Value → Option ℤ
+integer_in v = option_and_then integer_of (number_in v)
+
+-- the same, where its sign is positive too
+abbrev pub unsigned_in : Value → Option ℕ
+unsigned_in v = option_and_then unsigned_of (number_in v)
+
+-- the number with its point moved right by so many digits, cut to an integer
+abbrev pub fixed_point_in : Value → ℕ → Option ℤ
+fixed_point_in v point = option_and_then (λ n. fixed_point n point) (number_in v)
+
+-- the same, where its sign is positive
+abbrev pub unsigned_fixed_point_in : Value → ℕ → Option ℕ
+unsigned_fixed_point_in v point = option_and_then (λ n. unsigned_fixed_point n point) (number_in v)
 
 abbrev pub text_in : Value → Option (List ℕ)
 text_in (text k s) = Some s

@@ -4,6 +4,11 @@ ghost use Rattle.std.specs.Prelude.{◌≡◌, IfOk, IsOk, IsOkUnless};
 ghost use Rattle.jzon_tree.specs.Value.{Value};
 ghost use Rattle.jzon_tree.specs.View.{view};
 
+mod containers;
+mod integers;
+mod maps;
+mod scalars;
+
 use crate::value::JsonValue;
 use jzon_base::error::{Error, Result};
 use std::alloc::Global;
@@ -30,3 +35,6 @@ impl IntoJson for JsonValue {
         Ok(self)
     }
 }
+
+#[cfg(test)]
+mod tests;

@@ -1,24 +1,27 @@
 //! Objects.
 
-ghost use Rattle.std.specs.Prelude.{◌≡◌, ◌-◌, ◌==◌, [], length, OnOk, OnErr, IfOk, IsOkUnless, None, string_bytes, IfSome, Some};
+ghost use Rattle.std.specs.Prelude.{◌≡◌, ◌-◌, ◌==◌, List, [], length, OnOk, OnErr, IfOk, IsOkUnless, None, string_bytes, IfSome, Some};
 ghost use Rattle.std.specs.Option.{option_copied, option_copied_mut};
-ghost use Rattle.std.specs.Iterator.{YieldsFirstBy, YieldsLastBy, item_count, at_most, UpTo};
+ghost use Rattle.std.specs.Iterator.{Drains, IsFinite, YieldsFirstBy, YieldsLastBy, item_count, at_most, UpTo};
 ghost use Rattle.std.specs.Iterator.SizeHint.{IsWithinCount};
 ghost use Rattle.std.specs.List.{IsDistinct};
 ghost use Rattle.std.specs.Str.{bytes_eq};
 ghost use Rattle.jzon_base.specs.IterMut.{iter_mut_rest, IsReady};
 ghost use Rattle.jzon_base.specs.PairList.{find, put, put_each, cut, set_value, with_default, keys_of};
 ghost use Rattle.jzon_tree.specs.IntoIter.{entries_left};
+ghost use Rattle.jzon_tree.specs.IntoJson.{PutMeans};
 ghost use Rattle.jzon_tree.specs.Text.{compact};
 ghost use Rattle.jzon_tree.specs.View.{view_object};
 ghost use Rattle.jzon_tree.specs.Entries.{entries_of};
 
 use crate::codegen;
+use crate::into_json::IntoJson;
 use crate::value::JsonValue;
 use jzon_base::error::{Error, Result};
 pub use jzon_base::key::Key;
 use jzon_base::pairs::{self, Pairs};
 use std::alloc::Global;
+use std::convert::AsStr;
 
 /// The pairs of an object that are left, each as its key's text and its value.
 pub type Iter<'a> = pairs::Iter<'a, JsonValue>;
@@ -64,6 +67,24 @@ impl Object {
         Ok(Object {
             pairs: Pairs::with_capacity(alloc, capacity)?,
         })
+    }
+
+    /// The object in which the pairs are put one after the other: a later pair of a key changes that key's value in its place. Refused by `OutOfMemory` alone.
+    pub fn from_pairs<K: AsStr + Drop, V: IntoJson, I: Iterator<Item = (K, V)> + Drop>(
+        alloc: Global,
+        pairs: I,
+    ) -> Result<Object>
+        requires can { I.can_next pairs }
+        requires ends { IsFinite (I.remaining pairs) }
+        ensures pairs { IfOk result (λ object. (ps : List (K × V)) × Drains I.next_gives pairs ps
+            × PutMeans K.text V.means ps (view_object object)) }
+        ensures memory { IsOkUnless result Error.OutOfMemory }
+    {
+        let mut object = Object::new(alloc);
+        for (key, value) in pairs {
+            object.insert(alloc, key.as_str(), value.into_json(alloc)?)?;
+        }
+        Ok(object)
     }
 
     /// How many pairs there are.

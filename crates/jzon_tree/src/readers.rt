@@ -10,6 +10,8 @@ ghost use Rattle.jzon_tree.specs.Same.{same};
 ghost use Rattle.jzon_tree.specs.Value.{array, boolean, short, text};
 ghost use Rattle.jzon_tree.specs.View.{view, view_object, view_values, viewed};
 
+mod integers;
+
 use crate::object::{self, Object};
 use crate::value::JsonValue;
 use jzon_base::number::Number;

@@ -1,14 +1,16 @@
 //! A place in a value, which may be missing.
 
-ghost use Rattle.std.specs.Prelude.{◌≡◌, map, is_some, option_map, slice_get};
+ghost use Rattle.std.specs.Prelude.{◌≡◌, ◌<◌, ◌^◌, pos, map, is_some, option_map, slice_get, FitsSigned};
+ghost use Rattle.std.specs.Int.{w8, w16, w32, w64};
 ghost use Rattle.std.specs.List.{list_any};
 ghost use Rattle.std.specs.Option.{option_copied};
 ghost use Rattle.std.specs.Slice.Iter.{iter_rest};
+ghost use Rattle.jzon_base.specs.Decimal.{integer_parts, SomeWhere};
 ghost use Rattle.jzon_base.specs.PairList.{find};
 ghost use Rattle.jzon_tree.specs.Place.{shown, seen};
-ghost use Rattle.jzon_tree.specs.Readers.{is_null, is_boolean, is_number, is_text, is_object, is_array, is_empty, truth_in, number_in, text_in, object_of, array_of, items, entries, count};
+ghost use Rattle.jzon_tree.specs.Readers.{is_null, is_boolean, is_number, is_text, is_object, is_array, is_empty, truth_in, number_in, integer_in, unsigned_in, fixed_point_in, unsigned_fixed_point_in, text_in, object_of, array_of, items, entries, count};
 ghost use Rattle.jzon_tree.specs.Same.{same};
-ghost use Rattle.jzon_tree.specs.Value.{array, boolean, short, text};
+ghost use Rattle.jzon_tree.specs.Value.{array, boolean, number, short, text};
 ghost use Rattle.jzon_tree.specs.View.{view, view_object, view_values, viewed};
 ghost use Rattle.jzon_tree.specs.Entries.{entries_of};
 
@@ -218,6 +220,104 @@ impl<'a> View<'a> {
         ensures { result ≡ same (seen self.entry) (boolean other) }
     {
         self.as_bool() == Some(other)
+    }
+
+    /// The number as a `u64`, where its exponent is 0, its sign is positive, and it fits.
+    pub fn as_u64(self) -> Option<u64>
+        ensures { SomeWhere (unsigned_in (seen self.entry)) (λ n. n < 2 ^ 64) result }
+    {
+        self.value?.as_u64()
+    }
+
+    /// The number as a `u32`, where its exponent is 0, its sign is positive, and it fits.
+    pub fn as_u32(self) -> Option<u32>
+        ensures { SomeWhere (unsigned_in (seen self.entry)) (λ n. n < 2 ^ 32) result }
+    {
+        self.value?.as_u32()
+    }
+
+    /// The number as a `u16`, where its exponent is 0, its sign is positive, and it fits.
+    pub fn as_u16(self) -> Option<u16>
+        ensures { SomeWhere (unsigned_in (seen self.entry)) (λ n. n < 2 ^ 16) result }
+    {
+        self.value?.as_u16()
+    }
+
+    /// The number as a `u8`, where its exponent is 0, its sign is positive, and it fits.
+    pub fn as_u8(self) -> Option<u8>
+        ensures { SomeWhere (unsigned_in (seen self.entry)) (λ n. n < 2 ^ 8) result }
+    {
+        self.value?.as_u8()
+    }
+
+    /// The number as a `usize`, where its exponent is 0, its sign is positive, and it fits.
+    pub fn as_usize(self) -> Option<usize>
+        ensures { SomeWhere (unsigned_in (seen self.entry)) (λ n. n < 2 ^ 64) result }
+    {
+        self.value?.as_usize()
+    }
+
+    /// The number as an `i64`, where its exponent is 0, and it fits.
+    pub fn as_i64(self) -> Option<i64>
+        ensures { SomeWhere (integer_in (seen self.entry)) (FitsSigned w64) result }
+    {
+        self.value?.as_i64()
+    }
+
+    /// The number as an `i32`, where its exponent is 0, and it fits.
+    pub fn as_i32(self) -> Option<i32>
+        ensures { SomeWhere (integer_in (seen self.entry)) (FitsSigned w32) result }
+    {
+        self.value?.as_i32()
+    }
+
+    /// The number as an `i16`, where its exponent is 0, and it fits.
+    pub fn as_i16(self) -> Option<i16>
+        ensures { SomeWhere (integer_in (seen self.entry)) (FitsSigned w16) result }
+    {
+        self.value?.as_i16()
+    }
+
+    /// The number as an `i8`, where its exponent is 0, and it fits.
+    pub fn as_i8(self) -> Option<i8>
+        ensures { SomeWhere (integer_in (seen self.entry)) (FitsSigned w8) result }
+    {
+        self.value?.as_i8()
+    }
+
+    /// The number as an `isize`, where its exponent is 0, and it fits.
+    pub fn as_isize(self) -> Option<isize>
+        ensures { SomeWhere (integer_in (seen self.entry)) (FitsSigned w64) result }
+    {
+        self.value?.as_isize()
+    }
+
+    /// `mantissa * 10 ^ (exponent + point)` of the number, cut to a whole number, where its sign is positive and that fits.
+    pub fn as_fixed_point_u64(self, point: u16) -> Option<u64>
+        ensures { SomeWhere (unsigned_fixed_point_in (seen self.entry) point) (λ n. n < 2 ^ 64) result }
+    {
+        self.value?.as_fixed_point_u64(point)
+    }
+
+    /// `mantissa * 10 ^ (exponent + point)` of the number, cut to a whole number, with its sign, where that fits.
+    pub fn as_fixed_point_i64(self, point: u16) -> Option<i64>
+        ensures { SomeWhere (fixed_point_in (seen self.entry) point) (FitsSigned w64) result }
+    {
+        self.value?.as_fixed_point_i64(point)
+    }
+
+    /// Whether it is a number that equals this integer: `5e2` is 500.
+    pub fn eq_i64(self, other: i64) -> bool
+        ensures { result ≡ same (seen self.entry) (number (integer_parts other)) }
+    {
+        self.value.is_some_and(|value| value.eq_i64(other))
+    }
+
+    /// Whether it is a number that equals this integer: `5e2` is 500.
+    pub fn eq_u64(self, other: u64) -> bool
+        ensures { result ≡ same (seen self.entry) (number (integer_parts (pos other))) }
+    {
+        self.value.is_some_and(|value| value.eq_u64(other))
     }
 }
 

@@ -1,0 +1,225 @@
+//! Numbers as integers (docs/RULES.md, "Integer readings"). A power of ten is none here: `5e2` is no integer.
+
+ghost use Rattle.std.specs.Prelude.{◌≡◌, ◌<◌, ◌^◌, FitsSigned};
+ghost use Rattle.std.specs.Int.{w8, w16, w32, w64};
+ghost use Rattle.std.specs.Option.{SomeIff};
+ghost use Rattle.jzon_base.specs.Decimal.{integer_of, signed, unsigned_of, OkWhere, SomeWhere};
+
+use super::Number;
+
+/// The number is no integer of the type.
+#[derive(Clone, Copy, Debug, PartialEq)]
+pub struct NumberOutOfScope;
+
+impl Number {
+    // The mantissa, where the sign is positive and the exponent is 0.
+    fn unsigned(self) -> Option<u64>
+        ensures { result ≡ unsigned_of self }
+    {
+        match self.as_parts() {
+            (true, mantissa, 0) => Some(mantissa),
+            _ => None,
+        }
+    }
+
+    // The mantissa with its sign, where the exponent is 0.
+    fn signed(self) -> Option<i64>
+        ensures { SomeWhere (integer_of self) (FitsSigned w64) result }
+    {
+        if self.is_nan() {
+            return None;
+        }
+        match self.as_parts() {
+            (positive, mantissa, 0) => with_sign(positive, mantissa),
+            _ => None,
+        }
+    }
+}
+
+// The magnitude with a sign, where it fits.
+pub(super) fn with_sign(positive: bool, magnitude: u64) -> Option<i64>
+    ensures { SomeIff result (FitsSigned w64 (signed positive magnitude)) (signed positive magnitude) }
+{
+    if positive {
+        i64::try_from(magnitude).ok()
+    } else {
+        0i64.checked_sub_unsigned(magnitude)
+    }
+}
+
+impl TryFrom<Number> for u8 {
+    type Error = NumberOutOfScope;
+
+    ghost try_from_gives = { λ number r. OkWhere (unsigned_of number) (λ n. n < 2 ^ 8) r };
+
+    fn try_from(value: Number) -> Result<u8, NumberOutOfScope> {
+        let integer = value.unsigned().ok_or(NumberOutOfScope)?;
+        u8::try_from(integer).map_err(|_| NumberOutOfScope)
+    }
+}
+
+impl TryFrom<Number> for u16 {
+    type Error = NumberOutOfScope;
+
+    ghost try_from_gives = { λ number r. OkWhere (unsigned_of number) (λ n. n < 2 ^ 16) r };
+
+    fn try_from(value: Number) -> Result<u16, NumberOutOfScope> {
+        let integer = value.unsigned().ok_or(NumberOutOfScope)?;
+        u16::try_from(integer).map_err(|_| NumberOutOfScope)
+    }
+}
+
+impl TryFrom<Number> for u32 {
+    type Error = NumberOutOfScope;
+
+    ghost try_from_gives = { λ number r. OkWhere (unsigned_of number) (λ n. n < 2 ^ 32) r };
+
+    fn try_from(value: Number) -> Result<u32, NumberOutOfScope> {
+        let integer = value.unsigned().ok_or(NumberOutOfScope)?;
+        u32::try_from(integer).map_err(|_| NumberOutOfScope)
+    }
+}
+
+impl TryFrom<Number> for u64 {
+    type Error = NumberOutOfScope;
+
+    ghost try_from_gives = { λ number r. OkWhere (unsigned_of number) (λ n. n < 2 ^ 64) r };
+
+    fn try_from(value: Number) -> Result<u64, NumberOutOfScope> {
+        value.unsigned().ok_or(NumberOutOfScope)
+    }
+}
+
+impl TryFrom<Number> for usize {
+    type Error = NumberOutOfScope;
+
+    ghost try_from_gives = { λ number r. OkWhere (unsigned_of number) (λ n. n < 2 ^ 64) r };
+
+    fn try_from(value: Number) -> Result<usize, NumberOutOfScope> {
+        let integer = value.unsigned().ok_or(NumberOutOfScope)?;
+        usize::try_from(integer).map_err(|_| NumberOutOfScope)
+    }
+}
+
+impl TryFrom<Number> for i8 {
+    type Error = NumberOutOfScope;
+
+    ghost try_from_gives = { λ number r. OkWhere (integer_of number) (FitsSigned w8) r };
+
+    fn try_from(value: Number) -> Result<i8, NumberOutOfScope> {
+        let integer = value.signed().ok_or(NumberOutOfScope)?;
+        i8::try_from(integer).map_err(|_| NumberOutOfScope)
+    }
+}
+
+impl TryFrom<Number> for i16 {
+    type Error = NumberOutOfScope;
+
+    ghost try_from_gives = { λ number r. OkWhere (integer_of number) (FitsSigned w16) r };
+
+    fn try_from(value: Number) -> Result<i16, NumberOutOfScope> {
+        let integer = value.signed().ok_or(NumberOutOfScope)?;
+        i16::try_from(integer).map_err(|_| NumberOutOfScope)
+    }
+}
+
+impl TryFrom<Number> for i32 {
+    type Error = NumberOutOfScope;
+
+    ghost try_from_gives = { λ number r. OkWhere (integer_of number) (FitsSigned w32) r };
+
+    fn try_from(value: Number) -> Result<i32, NumberOutOfScope> {
+        let integer = value.signed().ok_or(NumberOutOfScope)?;
+        i32::try_from(integer).map_err(|_| NumberOutOfScope)
+    }
+}
+
+impl TryFrom<Number> for i64 {
+    type Error = NumberOutOfScope;
+
+    ghost try_from_gives = { λ number r. OkWhere (integer_of number) (FitsSigned w64) r };
+
+    fn try_from(value: Number) -> Result<i64, NumberOutOfScope> {
+        value.signed().ok_or(NumberOutOfScope)
+    }
+}
+
+impl TryFrom<Number> for isize {
+    type Error = NumberOutOfScope;
+
+    ghost try_from_gives = { λ number r. OkWhere (integer_of number) (FitsSigned w64) r };
+
+    fn try_from(value: Number) -> Result<isize, NumberOutOfScope> {
+        let integer = value.signed().ok_or(NumberOutOfScope)?;
+        isize::try_from(integer).map_err(|_| NumberOutOfScope)
+    }
+}
+
+#[cfg(test)]
+mod tests {
+    use super::super::NAN;
+    use super::*;
+
+    fn number(positive: bool, mantissa: u64, exponent: i16) -> Number {
+        Number::from_parts_unchecked(positive, mantissa, exponent)
+    }
+
+    #[test]
+    fn fits_unsigned(rt: HostRuntime) {
+        assert_eq!(rt; u8::try_from(number(true, 255, 0)), Ok(255));
+        assert_eq!(rt; u8::try_from(number(true, 256, 0)), Err(NumberOutOfScope));
+        assert_eq!(rt; u8::try_from(number(true, 0, 5)), Err(NumberOutOfScope));
+        assert_eq!(rt; u16::try_from(number(true, 65535, 0)), Ok(65535));
+        assert_eq!(rt;
+            u16::try_from(number(true, 65536, 0)),
+            Err(NumberOutOfScope)
+        );
+        assert_eq!(rt; u32::try_from(number(true, 4294967295, 0)), Ok(4294967295));
+        assert_eq!(rt;
+            u32::try_from(number(true, 4294967296, 0)),
+            Err(NumberOutOfScope)
+        );
+        let most = number(true, 18446744073709551615, 0);
+        assert_eq!(rt; u64::try_from(most), Ok(18446744073709551615));
+        assert_eq!(rt; usize::try_from(most), Ok(18446744073709551615));
+        assert_eq!(rt; u64::try_from(number(false, 0, 0)), Err(NumberOutOfScope));
+        assert_eq!(rt; usize::try_from(number(false, 1, 0)), Err(NumberOutOfScope));
+        assert_eq!(rt; u64::try_from(number(true, 5, 2)), Err(NumberOutOfScope));
+        assert_eq!(rt; u64::try_from(NAN), Err(NumberOutOfScope));
+    }
+
+    #[test]
+    fn fits_signed(rt: HostRuntime) {
+        assert_eq!(rt; i8::try_from(number(false, 128, 0)), Ok(-128));
+        assert_eq!(rt; i8::try_from(number(false, 129, 0)), Err(NumberOutOfScope));
+        assert_eq!(rt; i8::try_from(number(true, 128, 0)), Err(NumberOutOfScope));
+        assert_eq!(rt; i16::try_from(number(false, 32768, 0)), Ok(-32768));
+        assert_eq!(rt;
+            i16::try_from(number(true, 32768, 0)),
+            Err(NumberOutOfScope)
+        );
+        assert_eq!(rt;
+            i32::try_from(number(false, 2147483648, 0)),
+            Ok(-2147483648)
+        );
+        assert_eq!(rt;
+            i32::try_from(number(true, 2147483648, 0)),
+            Err(NumberOutOfScope)
+        );
+        let least = number(false, 9223372036854775808, 0);
+        assert_eq!(rt; i64::try_from(least), Ok(i64::MIN));
+        assert_eq!(rt; isize::try_from(least), Ok(isize::MIN));
+        assert_eq!(rt; i64::try_from(-least), Err(NumberOutOfScope));
+        assert_eq!(rt;
+            isize::try_from(number(false, 9223372036854775809, 0)),
+            Err(NumberOutOfScope)
+        );
+        assert_eq!(rt; i64::try_from(number(false, 0, 0)), Ok(0));
+        assert_eq!(rt; i64::try_from(number(true, 5, 2)), Err(NumberOutOfScope));
+        assert_eq!(rt;
+            i64::try_from(number(true, 18446744073709551615, 0)),
+            Err(NumberOutOfScope)
+        );
+        assert_eq!(rt; i64::try_from(NAN), Err(NumberOutOfScope));
+    }
+}

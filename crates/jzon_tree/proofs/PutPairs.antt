@@ -1,0 +1,77 @@
+-- Pairs that are put one after the other, and maps that are gone over.
+use Rattle.std.proofs.Common.{◌≡◌, ℕ, Bool, false, List, [], ◌∷◌, ◌++◌, map, refl, sym, ap, subst, ◌∙◌, append_assoc, append-nil}
+use Rattle.std.specs.Iterator.{Drains}
+use Rattle.std.specs.List.{AllByRecursion, IsDistinct, fold}
+use Rattle.std.specs.Map.Iter.{TakesFirst}
+use Rattle.std.specs.Str.{bytes_eq}
+use Rattle.std.proofs.lemmas.Grind.{fold-append}
+use Rattle.std.proofs.lemmas.Map.Keys.{IsDistinct-head, IsDistinct-tail}
+use Rattle.jzon_base.specs.PairList.{keys_of, put, put_each}
+use Rattle.jzon_tree.specs.IntoJson.{MapMeans, PairsMean, PutMeans}
+use Rattle.jzon_tree.specs.Value.{Value, object, pairs_of}
+use Rattle.jzon_tree.specs.View.{view, view_object, viewed}
+use Rattle.jzon_tree.specs.declared.object.Object.{Object}
+use Rattle.jzon_tree.specs.declared.value.JsonValue.{JsonValue, Object as in_object}
+use Rattle.jzon_tree.proofs.Views.{view-Object, viewed-put}
+
+module _ {V : Type 0} where
+  -- one pair more
+  put_each-push : (ps : List (List ℕ × V)) (k : List ℕ) (v : V) → put_each (ps ++ (k, v) ∷ []) ≡ put k v (put_each ps)
+  put_each-push ps k v = fold-append (λ qs p. put p.0 p.1 qs) [] ps ((k, v) ∷ [])
+
+  -- ---- pairs of distinct keys stay as they are
+  key_within : (P : List ℕ → Type 0) (qs ps : List (List ℕ × V)) (p : List ℕ × V) → AllByRecursion P (keys_of (qs ++ p ∷ ps)) → P p.0
+  key_within P [] ps p all = all.0
+  key_within P (q ∷ qs) ps p all = key_within P qs ps p all.1
+
+  put-distinct : (qs ps : List (List ℕ × V)) (p : List ℕ × V) → IsDistinct bytes_eq (keys_of (qs ++ p ∷ ps)) → put p.0 p.1 qs ≡ qs ++ p ∷ []
+  put-distinct [] ps p distinct = refl
+  put-distinct (q ∷ qs) ps p distinct =
+      let apart : bytes_eq q.0 p.0 ≡ false = key_within (λ k. bytes_eq q.0 k ≡ false) qs ps p (IsDistinct-head bytes_eq q.0 (keys_of (qs ++ p ∷ ps)) distinct) in
+      rw apart (ap (λ rs. q ∷ rs) (put-distinct qs ps p (IsDistinct-tail bytes_eq q.0 (keys_of (qs ++ p ∷ ps)) distinct)))
+
+  put_behind : (qs ps : List (List ℕ × V)) → IsDistinct bytes_eq (keys_of (qs ++ ps)) → fold (λ rs p. put p.0 p.1 rs) qs ps ≡ qs ++ ps
+  put_behind qs [] distinct = sym (append-nil qs)
+  put_behind qs (p ∷ ps) distinct =
+      let split = append_assoc qs (p ∷ []) ps in
+      ap (λ rs. fold (λ ts q. put q.0 q.1 ts) rs ps) (put-distinct qs ps p distinct) ∙ put_behind (qs ++ p ∷ []) ps (subst (λ rs. IsDistinct bytes_eq (keys_of rs)) (sym split) distinct) ∙ split
+
+  put_each-distinct : (ps : List (List ℕ × V)) → IsDistinct bytes_eq (keys_of ps) → put_each ps ≡ ps
+  put_each-distinct ps distinct = put_behind [] ps distinct
+
+-- an object with one pair more
+pub viewed-put_each : (ps qs : List (List ℕ × JsonValue)) (rs : List (List ℕ × Value)) (k l : List ℕ) (v : JsonValue) → viewed ps ≡ put_each rs → k ≡ l → qs ≡ put k v ps → viewed qs ≡ put_each (rs ++ (l, view v) ∷ [])
+viewed-put_each ps qs rs k l v before same is =
+    ap viewed (is ∙ ap (λ (key : List ℕ). put key v ps) same) ∙ viewed-put l v ps ∙ ap (put l (view v)) before ∙ sym (put_each-push rs l (view v))
+
+-- ---- what a map's iterator gives
+drained : {X : Type 0} (left xs : List X) → Drains (TakesFirst (λ (x : X). x)) left xs → xs ≡ left
+drained left [] (after, (end, same, step)) = sym (same ∙ step.0)
+drained left (x ∷ xs) (after, (end, (next, first, more), step)) = ap (λ ys. x ∷ ys) (drained next xs (after, (end, more, step))) ∙ sym first
+
+-- ---- keys are distinct by their texts where they are by a test that tells these apart
+module _ {K : Type 0} (text : K → List ℕ) (e : K → K → Bool) (by_text : (j k : K) → e j k ≡ bytes_eq (text j) (text k)) where
+  apart_texts : (k : K) (ks : List K) → AllByRecursion (λ j. e k j ≡ false) ks → AllByRecursion (λ s. bytes_eq (text k) s ≡ false) (map text ks)
+  apart_texts k [] all = tt
+  apart_texts k (j ∷ ks) all = (sym (by_text k j) ∙ all.0, apart_texts k ks all.1)
+
+  distinct_texts : (ks : List K) → IsDistinct e ks → IsDistinct bytes_eq (map text ks)
+  unfolding IsDistinct
+  distinct_texts [] distinct = tt
+  distinct_texts (k ∷ ks) distinct = (apart_texts k ks distinct.0, distinct_texts ks distinct.1)
+
+  module _ {X : Type 0} (means : X → Value → Type 0) where
+    meant_keys : (ps : List (K × X)) (qs : List (List ℕ × Value)) → PairsMean text means ps qs → keys_of qs ≡ map text (map (λ p. p.0) ps)
+    meant_keys [] [] each = refl
+    meant_keys [] (q ∷ qs) each = absurd each
+    meant_keys (p ∷ ps) [] each = absurd each
+    meant_keys (p ∷ ps) (q ∷ qs) each = ap (λ k. k ∷ keys_of qs) each.0.0 ∙ ap (λ ks. text p.0 ∷ ks) (meant_keys ps qs each.1)
+
+    -- an object in which a map's pairs were put one after the other
+    pub map_put : (ps left : List (K × X)) (o : Object) → left ≡ ps → IsDistinct e (map (λ p. p.0) ps)
+        → (xs : List (K × X)) × Drains (TakesFirst (λ (x : K × X). x)) left xs × PutMeans text means xs (view_object o) → MapMeans text means ps (view (in_object o))
+    map_put ps left o whole distinct (xs, drains, (qs, each, is)) =
+        let same : xs ≡ ps = drained left xs drains ∙ whole in
+        let meant : PairsMean text means ps qs = subst (λ ys. PairsMean text means ys qs) same each in
+        let keys : IsDistinct bytes_eq (keys_of qs) = subst (IsDistinct bytes_eq) (sym (meant_keys ps qs meant)) (distinct_texts (map (λ p. p.0) ps) distinct) in
+        (qs, meant, view-Object o ∙ is ∙ ap (λ rs. object (pairs_of rs)) (put_each-distinct qs keys))

@@ -1,0 +1,63 @@
+//! Objects, options and lists as values.
+
+ghost use Rattle.std.specs.Prelude.{◌≡◌, IfOk, IsOk, IsOkUnless};
+ghost use Rattle.jzon_tree.specs.IntoJson.{OptionMeans, ListMeans, CloneListMeans};
+ghost use Rattle.jzon_tree.specs.View.{view, view_object};
+
+use super::IntoJson;
+use crate::object::Object;
+use crate::value::JsonValue;
+use jzon_base::error::{Error, Result};
+use std::alloc::Global;
+
+/// It takes no memory.
+impl IntoJson for Object {
+    ghost means = { λ o v. v ≡ view_object o };
+
+    #[tactic(auto, using(crate::proofs::Views::views))]
+    fn into_json(self, _alloc: Global) -> Result<JsonValue>
+        ensures meant { IfOk result (λ v. view v ≡ view_object self) }
+        ensures memory { IsOkUnless result Error.OutOfMemory }
+        ensures free { IsOk result }
+    {
+        Ok(JsonValue::Object(self))
+    }
+}
+
+/// `None` is null, and `Some` what is in it.
+impl<T: IntoJson> IntoJson for Option<T> {
+    ghost means = { OptionMeans T.means };
+
+    fn into_json(self, alloc: Global) -> Result<JsonValue> {
+        match self {
+            Some(value) => value.into_json(alloc),
+            None => Ok(JsonValue::Null),
+        }
+    }
+}
+
+/// The array of what the items mean.
+impl<T: IntoJson> IntoJson for Vec<T> {
+    ghost means = { λ list v. ListMeans T.means list.items v };
+
+    fn into_json(self, alloc: Global) -> Result<JsonValue> {
+        let mut items = Vec::with_capacity(alloc, self.len())?;
+        for item in self {
+            items.push(item.into_json(alloc)?)?;
+        }
+        Ok(JsonValue::Array(items))
+    }
+}
+
+/// The array of what clones of the items mean.
+impl<T: IntoJson + Clone> IntoJson for &[T] {
+    ghost means = { λ list v. CloneListMeans T.is_clone T.means list.now v };
+
+    fn into_json(self, alloc: Global) -> Result<JsonValue> {
+        let mut items = Vec::with_capacity(alloc, self.len())?;
+        for item in self {
+            items.push(item.clone()?.into_json(alloc)?)?;
+        }
+        Ok(JsonValue::Array(items))
+    }
+}

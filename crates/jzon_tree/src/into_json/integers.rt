@@ -1,0 +1,132 @@
+//! Integers as values. They take no memory.
+
+ghost use Rattle.std.specs.Prelude.{◌≡◌, pos, IfOk, IsOk, IsOkUnless};
+ghost use Rattle.jzon_base.specs.Decimal.{integer_parts};
+ghost use Rattle.jzon_tree.specs.Value.{number};
+ghost use Rattle.jzon_tree.specs.View.{view};
+
+use super::IntoJson;
+use crate::value::JsonValue;
+use jzon_base::error::{Error, Result};
+use jzon_base::number::Number;
+use std::alloc::Global;
+
+impl IntoJson for u8 {
+    ghost means = { λ n v. v ≡ number (integer_parts (pos n)) };
+
+    fn into_json(self, _alloc: Global) -> Result<JsonValue>
+        ensures meant { IfOk result (λ v. view v ≡ number (integer_parts (pos self))) }
+        ensures memory { IsOkUnless result Error.OutOfMemory }
+        ensures free { IsOk result }
+    {
+        Ok(JsonValue::Number(Number::from(self)))
+    }
+}
+
+impl IntoJson for u16 {
+    ghost means = { λ n v. v ≡ number (integer_parts (pos n)) };
+
+    fn into_json(self, _alloc: Global) -> Result<JsonValue>
+        ensures meant { IfOk result (λ v. view v ≡ number (integer_parts (pos self))) }
+        ensures memory { IsOkUnless result Error.OutOfMemory }
+        ensures free { IsOk result }
+    {
+        Ok(JsonValue::Number(Number::from(self)))
+    }
+}
+
+impl IntoJson for u32 {
+    ghost means = { λ n v. v ≡ number (integer_parts (pos n)) };
+
+    fn into_json(self, _alloc: Global) -> Result<JsonValue>
+        ensures meant { IfOk result (λ v. view v ≡ number (integer_parts (pos self))) }
+        ensures memory { IsOkUnless result Error.OutOfMemory }
+        ensures free { IsOk result }
+    {
+        Ok(JsonValue::Number(Number::from(self)))
+    }
+}
+
+impl IntoJson for u64 {
+    ghost means = { λ n v. v ≡ number (integer_parts (pos n)) };
+
+    fn into_json(self, _alloc: Global) -> Result<JsonValue>
+        ensures meant { IfOk result (λ v. view v ≡ number (integer_parts (pos self))) }
+        ensures memory { IsOkUnless result Error.OutOfMemory }
+        ensures free { IsOk result }
+    {
+        Ok(JsonValue::Number(Number::from(self)))
+    }
+}
+
+impl IntoJson for usize {
+    ghost means = { λ n v. v ≡ number (integer_parts (pos n)) };
+
+    fn into_json(self, _alloc: Global) -> Result<JsonValue>
+        ensures meant { IfOk result (λ v. view v ≡ number (integer_parts (pos self))) }
+        ensures memory { IsOkUnless result Error.OutOfMemory }
+        ensures free { IsOk result }
+    {
+        Ok(JsonValue::Number(Number::from(self)))
+    }
+}
+
+impl IntoJson for i8 {
+    ghost means = { λ n v. v ≡ number (integer_parts n) };
+
+    fn into_json(self, _alloc: Global) -> Result<JsonValue>
+        ensures meant { IfOk result (λ v. view v ≡ number (integer_parts self)) }
+        ensures memory { IsOkUnless result Error.OutOfMemory }
+        ensures free { IsOk result }
+    {
+        Ok(JsonValue::Number(Number::from(self)))
+    }
+}
+
+impl IntoJson for i16 {
+    ghost means = { λ n v. v ≡ number (integer_parts n) };
+
+    fn into_json(self, _alloc: Global) -> Result<JsonValue>
+        ensures meant { IfOk result (λ v. view v ≡ number (integer_parts self)) }
+        ensures memory { IsOkUnless result Error.OutOfMemory }
+        ensures free { IsOk result }
+    {
+        Ok(JsonValue::Number(Number::from(self)))
+    }
+}
+
+impl IntoJson for i32 {
+    ghost means = { λ n v. v ≡ number (integer_parts n) };
+
+    fn into_json(self, _alloc: Global) -> Result<JsonValue>
+        ensures meant { IfOk result (λ v. view v ≡ number (integer_parts self)) }
+        ensures memory { IsOkUnless result Error.OutOfMemory }
+        ensures free { IsOk result }
+    {
+        Ok(JsonValue::Number(Number::from(self)))
+    }
+}
+
+impl IntoJson for i64 {
+    ghost means = { λ n v. v ≡ number (integer_parts n) };
+
+    fn into_json(self, _alloc: Global) -> Result<JsonValue>
+        ensures meant { IfOk result (λ v. view v ≡ number (integer_parts self)) }
+        ensures memory { IsOkUnless result Error.OutOfMemory }
+        ensures free { IsOk result }
+    {
+        Ok(JsonValue::Number(Number::from(self)))
+    }
+}
+
+impl IntoJson for isize {
+    ghost means = { λ n v. v ≡ number (integer_parts n) };
+
+    fn into_json(self, _alloc: Global) -> Result<JsonValue>
+        ensures meant { IfOk result (λ v. view v ≡ number (integer_parts self)) }
+        ensures memory { IsOkUnless result Error.OutOfMemory }
+        ensures free { IsOk result }
+    {
+        Ok(JsonValue::Number(Number::from(self)))
+    }
+}

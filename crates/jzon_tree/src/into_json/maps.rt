@@ -1,0 +1,47 @@
+//! Maps as values. A key's text is a key of the object.
+
+ghost use Rattle.std.specs.Prelude.{string_bytes};
+ghost use Rattle.jzon_tree.specs.IntoJson.{MapMeans, AnyOrderMeans};
+
+use super::IntoJson;
+use crate::object::Object;
+use crate::value::JsonValue;
+use jzon_base::error::Result;
+use std::alloc::Global;
+use std::collections::{BTreeMap, HashMap};
+
+/// The object of its pairs, in the map's order.
+impl<T: IntoJson> IntoJson for BTreeMap<String, T> {
+    ghost means = { λ pairs v. MapMeans string_bytes T.means pairs.entries v };
+
+    fn into_json(self, alloc: Global) -> Result<JsonValue> {
+        Ok(JsonValue::Object(Object::from_pairs(alloc, self.into_iter())?))
+    }
+}
+
+/// The object of its pairs, in the map's order.
+impl<T: IntoJson> IntoJson for BTreeMap<&str, T> {
+    ghost means = { λ pairs v. MapMeans (λ key. key.now) T.means pairs.entries v };
+
+    fn into_json(self, alloc: Global) -> Result<JsonValue> {
+        Ok(JsonValue::Object(Object::from_pairs(alloc, self.into_iter())?))
+    }
+}
+
+/// The object of its pairs, in any order.
+impl<T: IntoJson> IntoJson for HashMap<String, T> {
+    ghost means = { λ pairs v. AnyOrderMeans string_bytes T.means pairs.entries v };
+
+    fn into_json(self, alloc: Global) -> Result<JsonValue> {
+        Ok(JsonValue::Object(Object::from_pairs(alloc, self.into_iter())?))
+    }
+}
+
+/// The object of its pairs, in any order.
+impl<T: IntoJson> IntoJson for HashMap<&str, T> {
+    ghost means = { λ pairs v. AnyOrderMeans (λ key. key.now) T.means pairs.entries v };
+
+    fn into_json(self, alloc: Global) -> Result<JsonValue> {
+        Ok(JsonValue::Object(Object::from_pairs(alloc, self.into_iter())?))
+    }
+}

@@ -1,0 +1,68 @@
+//! Truth values, numbers and texts as values.
+
+ghost use Rattle.std.specs.Prelude.{◌≡◌, ◌≤◌, length, string_bytes, IfOk, IsOk, IsOkUnless};
+ghost use Rattle.jzon_tree.specs.Value.{boolean, number, text, kind_of, long};
+ghost use Rattle.jzon_tree.specs.View.{view};
+
+use super::IntoJson;
+use crate::value::JsonValue;
+use jzon_base::error::{Error, Result};
+use jzon_base::number::Number;
+use jzon_base::short::{MAX_LEN, Short};
+use std::alloc::Global;
+
+/// It takes no memory.
+impl IntoJson for bool {
+    ghost means = { λ b v. v ≡ boolean b };
+
+    fn into_json(self, _alloc: Global) -> Result<JsonValue>
+        ensures meant { IfOk result (λ v. view v ≡ boolean self) }
+        ensures memory { IsOkUnless result Error.OutOfMemory }
+        ensures free { IsOk result }
+    {
+        Ok(JsonValue::Boolean(self))
+    }
+}
+
+/// A number keeps its parts. It takes no memory.
+impl IntoJson for Number {
+    ghost means = { λ n v. v ≡ number n };
+
+    fn into_json(self, _alloc: Global) -> Result<JsonValue>
+        ensures meant { IfOk result (λ v. view v ≡ number self) }
+        ensures memory { IsOkUnless result Error.OutOfMemory }
+        ensures free { IsOk result }
+    {
+        Ok(JsonValue::Number(self))
+    }
+}
+
+/// A text of at most 30 bytes is kept in the value, and takes no memory.
+impl IntoJson for &str {
+    ghost means = { λ s v. v ≡ text (kind_of s.now) s.now };
+
+    fn into_json(self, alloc: Global) -> Result<JsonValue>
+        ensures meant { IfOk result (λ v. view v ≡ text (kind_of self.now) self.now) }
+        ensures memory { IsOkUnless result Error.OutOfMemory }
+        ensures free { length self.now ≤ 30 → IsOk result }
+    {
+        if self.len() <= MAX_LEN {
+            Ok(JsonValue::Short(Short::from_slice(self)))
+        } else {
+            Ok(JsonValue::String(String::from_str(alloc, self)?))
+        }
+    }
+}
+
+/// A `String` stays one, however short it is. It takes no memory.
+impl IntoJson for String {
+    ghost means = { λ s v. v ≡ text long (string_bytes s) };
+
+    fn into_json(self, _alloc: Global) -> Result<JsonValue>
+        ensures meant { IfOk result (λ v. view v ≡ text long (string_bytes self)) }
+        ensures memory { IsOkUnless result Error.OutOfMemory }
+        ensures free { IsOk result }
+    {
+        Ok(JsonValue::String(self))
+    }
+}

@@ -1,0 +1,116 @@
+use super::*;
+use crate::object::Object;
+use jzon_base::number::{NAN, Number};
+use std::collections::{BTreeMap, HashMap};
+use std::process::Abort;
+use std::test::Fail;
+
+type Tested = std::result::Result<(), Fail>;
+
+const THIRTY: &str = "abcdefghijklmnopqrstuvwxyz0123";
+
+const THIRTY_ONE: &str = "abcdefghijklmnopqrstuvwxyz01234";
+
+fn expect_dump<T: IntoJson>(rt: &impl Abort, alloc: Global, source: T, text: &str) -> Tested {
+    assert_eq!(rt; source.into_json(alloc)?.dump(alloc)?.as_str(), text);
+    Ok(())
+}
+
+#[test]
+fn turns_integers(rt: HostRuntime) -> Tested {
+    let alloc = rt.alloc();
+    expect_dump(&rt, alloc, 255u8, "255")?;
+    expect_dump(&rt, alloc, 65535u16, "65535")?;
+    expect_dump(&rt, alloc, 4294967295u32, "4294967295")?;
+    expect_dump(&rt, alloc, 18446744073709551615u64, "18446744073709551615")?;
+    expect_dump(
+        &rt,
+        alloc,
+        18446744073709551615usize,
+        "18446744073709551615",
+    )?;
+    expect_dump(&rt, alloc, -128i8, "-128")?;
+    expect_dump(&rt, alloc, -32768i16, "-32768")?;
+    expect_dump(&rt, alloc, -2147483648i32, "-2147483648")?;
+    expect_dump(&rt, alloc, i64::MIN, "-9223372036854775808")?;
+    expect_dump(&rt, alloc, isize::MAX, "9223372036854775807")
+}
+
+#[test]
+fn turns_what_takes_no_memory(rt: HostRuntime) -> Tested {
+    let alloc = rt.alloc();
+    expect_dump(&rt, alloc, true, "true")?;
+    expect_dump(
+        &rt,
+        alloc,
+        Number::from_parts_unchecked(true, 150, -2),
+        "1.50",
+    )?;
+    expect_dump(&rt, alloc, NAN, "null")?;
+    expect_dump(&rt, alloc, Object::new(alloc), "{}")?;
+    expect_dump(&rt, alloc, JsonValue::Boolean(false), "false")
+}
+
+#[test]
+fn keeps_short_texts_in_place(rt: HostRuntime) -> Tested {
+    let alloc = rt.alloc();
+    assert!(rt; matches!(THIRTY.into_json(alloc)?, JsonValue::Short(_)));
+    assert!(rt; matches!(THIRTY_ONE.into_json(alloc)?, JsonValue::String(_)));
+    assert_eq!(rt; THIRTY.into_json(alloc)?.as_str(), Some(THIRTY));
+    assert_eq!(rt; THIRTY_ONE.into_json(alloc)?.as_str(), Some(THIRTY_ONE));
+    let text = String::from_str(alloc, "a")?;
+    assert!(rt; matches!(text.into_json(alloc)?, JsonValue::String(_)));
+    Ok(())
+}
+
+#[test]
+fn turns_lists(rt: HostRuntime) -> Tested {
+    let alloc = rt.alloc();
+    expect_dump(&rt, alloc, None::<u8>, "null")?;
+    expect_dump(&rt, alloc, Some("a"), "\"a\"")?;
+    let list = vec![in alloc; Some(1i32), None, Some(2)]?;
+    expect_dump(&rt, alloc, list, "[1,null,2]")?;
+    expect_dump(&rt, alloc, Vec::<u8>::new(alloc), "[]")?;
+    let texts = vec![in alloc; THIRTY_ONE, "", THIRTY_ONE]?;
+    let text = "[\"abcdefghijklmnopqrstuvwxyz01234\",\"\",\"abcdefghijklmnopqrstuvwxyz01234\"]";
+    expect_dump(&rt, alloc, texts.as_slice(), text)?;
+    expect_dump(&rt, alloc, texts, text)
+}
+
+#[test]
+fn turns_maps(rt: HostRuntime) -> Tested {
+    let alloc = rt.alloc();
+    let mut map = BTreeMap::new(alloc);
+    map.insert("name", "Maciej".into_json(alloc)?)?;
+    map.insert("age", 30u8.into_json(alloc)?)?;
+    expect_dump(&rt, alloc, map, "{\"age\":30,\"name\":\"Maciej\"}")?;
+    let mut map = BTreeMap::new(alloc);
+    map.insert(String::from_str(alloc, "b")?, 2u8)?;
+    map.insert(String::from_str(alloc, "a")?, 1u8)?;
+    expect_dump(&rt, alloc, map, "{\"a\":1,\"b\":2}")?;
+    let mut map = HashMap::new(alloc);
+    map.insert("b", Some(2u8))?;
+    map.insert("a", None)?;
+    let value = map.into_json(alloc)?;
+    assert_eq!(rt; value.len(), 2);
+    assert!(rt; value.at("a").is_null() && value.at("b").eq_u64(2));
+    let mut map = HashMap::new(alloc);
+    map.insert(String::from_str(alloc, THIRTY_ONE)?, true)?;
+    expect_dump(
+        &rt,
+        alloc,
+        map,
+        "{\"abcdefghijklmnopqrstuvwxyz01234\":true}",
+    )
+}
+
+#[test]
+fn puts_pairs(rt: HostRuntime) -> Tested {
+    let alloc = rt.alloc();
+    let object = Object::from_pairs(alloc, [("a", 1u8), ("b", 2), ("a", 3)].into_iter())?;
+    assert_eq!(rt; object.dump(alloc)?.as_str(), "{\"a\":3,\"b\":2}");
+    let items = vec![in alloc; "x", "y"]?;
+    let object = Object::from_pairs(alloc, items.iter().copied().zip(0u64..))?;
+    assert_eq!(rt; object.dump(alloc)?.as_str(), "{\"x\":0,\"y\":1}");
+    Ok(())
+}
