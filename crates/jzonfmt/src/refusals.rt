@@ -67,6 +67,8 @@ fn is_granted(alloc: Global, size: usize) -> bool {
     block.is_ok()
 }
 
+mod built;
+
 /// A document with something of each kind.
 const DOCUMENT: &str = "{\"a\":[1,-0.5e+2,\"x\\u00e9\\uD834\\uDD1E\"],\"b\":null}";
 
