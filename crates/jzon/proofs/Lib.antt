@@ -53,3 +53,7 @@ pub mod ReadRows
 pub mod NumeralOutcomes
 pub mod NumeralPlaces
 pub mod Magnitudes
+pub mod NumeralTexts
+pub mod NumberTextLengths
+pub mod NumbersReadBack
+pub mod Unbroken

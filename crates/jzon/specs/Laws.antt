@@ -1,7 +1,12 @@
 -- Laws over the definitions alone.
-use Rattle.std.specs.Prelude.{◌≡◌, ◌⊎◌, ℕ, List}
+use Rattle.std.specs.Prelude.{◌≡◌, ◌⊎◌, ℕ, ℤ, ◌≤◌, ◌<◌, ◌^◌, List, [], length, Bool, IsTrue, chars, FitsSigned}
+use Rattle.std.specs.Int.{w16}
+use Rattle.jzon_base.specs.Decimal.{parts}
+use Rattle.jzon_base.specs.Decimal as decimal
+use Rattle.jzon_base.specs.NumberText.{number_text, decimal_text}
 use Rattle.jzon.specs.Reading.{Reading}
-use Rattle.jzon.specs.Grammar.{Document}
+use Rattle.jzon.specs.Grammar.{Numeral, Node, Document}
+use Rattle.jzon.specs.Meaning.{number_of}
 use Rattle.jzon.specs.Fault.{Spells, Parses, Fault, IsFault, IsFirstFault}
 
 -- two trees that spell one text are the same tree
@@ -21,3 +26,20 @@ HasOneFault r t =
 -- each text has one tree and no fault, or no tree within the limits and one first fault
 abbrev pub OneFault : Type 0
 OneFault = (r : Reading) (t : List ℕ) → HasOneTree r t ⊎ HasOneFault r t
+
+-- ---- what is written is read
+
+-- a text that is one value, with no blank round it
+abbrev pub alone : Node → Document
+alone n = record { before = []; node = n; after = [] }
+
+-- The printed text of a sign, a mantissa and an exponent is a number of the grammar with no digit too many. It means the same number, which prints this
+-- text again. The text has at most 29 bytes.
+abbrev pub NumberText : Type 0
+NumberText =
+    (positive : Bool) (m : ℕ) (e : ℤ) → m < 2 ^ 64 → FitsSigned w16 e
+    → ((n : Numeral)
+    × ((r : Reading) → Parses r (chars (number_text positive m e)) (alone (Node.number n)))
+    × IsTrue (decimal.same (number_of n) (parts positive m e))
+    × (decimal_text (number_of n) ≡ number_text positive m e))
+    × (length (number_text positive m e) ≤ 29)
