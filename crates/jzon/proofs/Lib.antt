@@ -57,3 +57,7 @@ pub mod NumeralTexts
 pub mod NumberTextLengths
 pub mod NumbersReadBack
 pub mod Unbroken
+pub mod WrittenStrings
+pub mod DistinctKeys
+pub mod WrittenTrees
+pub mod Redump

@@ -1,12 +1,15 @@
 -- Laws over the definitions alone.
-use Rattle.std.specs.Prelude.{◌≡◌, ◌⊎◌, ℕ, ℤ, ◌≤◌, ◌<◌, ◌^◌, List, [], length, Bool, IsTrue, chars, FitsSigned}
+use Rattle.std.specs.Prelude.{◌≡◌, ◌⊎◌, ℕ, ℤ, ◌≤◌, ◌<◌, ◌^◌, List, [], length, Bool, IsTrue, IsUtf8, chars, FitsSigned}
 use Rattle.std.specs.Int.{w16}
 use Rattle.jzon_base.specs.Decimal.{parts}
 use Rattle.jzon_base.specs.Decimal as decimal
 use Rattle.jzon_base.specs.NumberText.{number_text, decimal_text}
+use Rattle.jzon_tree.specs.Value.{Value, nest}
+use Rattle.jzon_tree.specs.Text.{compact}
+use Rattle.jzon_tree.specs.Lawful.{IsValue}
 use Rattle.jzon.specs.Reading.{Reading}
 use Rattle.jzon.specs.Grammar.{Numeral, Node, Document}
-use Rattle.jzon.specs.Meaning.{number_of}
+use Rattle.jzon.specs.Meaning.{number_of, meaning}
 use Rattle.jzon.specs.Fault.{Spells, Parses, Fault, IsFault, IsFirstFault}
 
 -- two trees that spell one text are the same tree
@@ -43,3 +46,11 @@ NumberText =
     × IsTrue (decimal.same (number_of n) (parts positive m e))
     × (decimal_text (number_of n) ≡ number_text positive m e))
     × (length (number_text positive m e) ≤ 29)
+
+-- the bytes are UTF-8, and a tree that breaks no limit spells their characters and means such a value
+abbrev pub IsReadAs : Reading → List ℕ → (Value → Type 0) → Type 0
+IsReadAs r bytes P = IsUtf8 bytes × (d : Document) × Parses r (chars bytes) d × P (meaning d.node)
+
+-- The compact text of a value, which may hold NaN, is read as a value that has the same compact text.
+abbrev pub Redump : Type 0
+Redump = (r : Reading) (v : Value) → IsValue v → nest v ≤ r.depth → IsReadAs r (compact v) (λ w. compact w ≡ compact v)

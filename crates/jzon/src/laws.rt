@@ -1,7 +1,7 @@
 //! Laws over texts and their trees, for every reading: RFC 8259 with the project's own rules (`docs/RULES.md`, "Texts", "Readings" and "Errors").
 //! Each of these functions does nothing, and stands for its contract.
 
-ghost use Rattle.jzon.specs.Laws.{OneReading, OneFault, NumberText};
+ghost use Rattle.jzon.specs.Laws.{OneReading, OneFault, NumberText, Redump};
 
 /// Two trees that spell one text are the same tree.
 pub fn one_reading()
@@ -16,4 +16,9 @@ pub fn one_fault()
 /// The printed text of a number is read as the same number, which prints it again, and has at most 29 bytes.
 pub fn number_text()
     ensures { NumberText }
+{}
+
+/// The compact text of a value is read as a value with the same compact text.
+pub fn redump()
+    ensures { Redump }
 {}
