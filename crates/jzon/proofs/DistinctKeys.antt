@@ -34,8 +34,11 @@ none_known : (ks : List (List ℕ)) → AreUnknown [] ks
 none_known [] = tt
 none_known (k ∷ ks) = (refl, none_known ks)
 
+pub AreNew-IsDistinct : (ks : List (List ℕ)) → IsDistinct bytes_eq ks → AreNew [] ks
+AreNew-IsDistinct ks h = new_keys [] ks h (none_known ks)
+
 pub AreNew-distinct : (ks : List (List ℕ)) → AllPairs (λ j k. j ≢ k) ks → AreNew [] ks
-AreNew-distinct ks h = new_keys [] ks (IsDistinct-from_AllPairs bytes_eq-Decides ks h) (none_known ks)
+AreNew-distinct ks h = AreNew-IsDistinct ks (IsDistinct-from_AllPairs bytes_eq-Decides ks h)
 
 -- ---- put one after the other
 

@@ -61,3 +61,6 @@ pub mod WrittenStrings
 pub mod DistinctKeys
 pub mod WrittenTrees
 pub mod Redump
+pub mod Orders
+pub mod WritingTrees
+pub mod ReadsBack

@@ -1,12 +1,14 @@
 -- Laws over the definitions alone.
-use Rattle.std.specs.Prelude.{◌≡◌, ◌⊎◌, ℕ, ℤ, ◌≤◌, ◌<◌, ◌^◌, List, [], length, Bool, IsTrue, IsUtf8, chars, FitsSigned}
+use Rattle.std.specs.Prelude.{◌≡◌, ◌⊎◌, ℕ, ℤ, ◌≤◌, ◌<◌, ◌^◌, List, [], length, Bool, true, IsTrue, IsUtf8, chars, FitsSigned}
 use Rattle.std.specs.Int.{w16}
 use Rattle.jzon_base.specs.Decimal.{parts}
 use Rattle.jzon_base.specs.Decimal as decimal
 use Rattle.jzon_base.specs.NumberText.{number_text, decimal_text}
 use Rattle.jzon_tree.specs.Value.{Value, nest}
 use Rattle.jzon_tree.specs.Text.{compact}
-use Rattle.jzon_tree.specs.Lawful.{IsValue}
+use Rattle.jzon_tree.specs.Same.{same}
+use Rattle.jzon_tree.specs.Lawful.{IsValue, HasNoNan}
+use Rattle.jzon_tree.specs.Writing.{Style, IsAllowedBlank, Writes, is_blank}
 use Rattle.jzon.specs.Reading.{Reading}
 use Rattle.jzon.specs.Grammar.{Numeral, Node, Document}
 use Rattle.jzon.specs.Meaning.{number_of, meaning}
@@ -54,3 +56,14 @@ IsReadAs r bytes P = IsUtf8 bytes × (d : Document) × Parses r (chars bytes) d 
 -- The compact text of a value, which may hold NaN, is read as a value that has the same compact text.
 abbrev pub Redump : Type 0
 Redump = (r : Reading) (v : Value) → IsValue v → nest v ≤ r.depth → IsReadAs r (compact v) (λ w. compact w ≡ compact v)
+
+-- each blank that the style allows is one of a strict reading
+abbrev pub AllowsStrictAlone : Style → Type 0
+AllowsStrictAlone s = (dent : ℕ) (w : List ℕ) → IsAllowedBlank s dent w → IsTrue (is_blank true w)
+
+-- Each writing of a value without NaN, in whatever style, is read as the same value. A strict reading asks for a style of strict blanks alone.
+abbrev pub ReadsBack : Type 0
+ReadsBack =
+    (r : Reading) (s : Style) (dent : ℕ) (v : Value) (b : List ℕ)
+    → (IsTrue r.strict → AllowsStrictAlone s) → IsValue v → HasNoNan v → nest v ≤ r.depth → Writes s dent v b
+    → IsReadAs r b (λ w. IsTrue (same w v))

@@ -1,7 +1,7 @@
 //! Laws over texts and their trees, for every reading: RFC 8259 with the project's own rules (`docs/RULES.md`, "Texts", "Readings" and "Errors").
 //! Each of these functions does nothing, and stands for its contract.
 
-ghost use Rattle.jzon.specs.Laws.{OneReading, OneFault, NumberText, Redump};
+ghost use Rattle.jzon.specs.Laws.{OneReading, OneFault, NumberText, Redump, ReadsBack};
 
 /// Two trees that spell one text are the same tree.
 pub fn one_reading()
@@ -21,4 +21,9 @@ pub fn number_text()
 /// The compact text of a value is read as a value with the same compact text.
 pub fn redump()
     ensures { Redump }
+{}
+
+/// Each writing of a value without NaN is read as the same value.
+pub fn reads_back()
+    ensures { ReadsBack }
 {}
