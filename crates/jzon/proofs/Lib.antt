@@ -55,6 +55,9 @@ pub mod NumeralPlaces
 pub mod Magnitudes
 pub mod NumeralTexts
 pub mod NumberTextLengths
+pub mod PrintedParts
+pub mod PrintedForms
+pub mod TrailingZeros
 pub mod NumbersReadBack
 pub mod Unbroken
 pub mod WrittenStrings
@@ -62,5 +65,6 @@ pub mod DistinctKeys
 pub mod WrittenTrees
 pub mod Redump
 pub mod Orders
-pub mod WritingTrees
+pub mod JoinedTrees
 pub mod ReadsBack
+pub mod WritingRows

@@ -20,12 +20,12 @@ use Rattle.jzon.specs.Grammar.{Node, Each, IsBlank}
 use Rattle.jzon.specs.Meaning.{bytes_of, meaning, members_meaning}
 use Rattle.jzon.specs.Laws.{alone, AllowsStrictAlone, ReadsBack}
 use Rattle.jzon.proofs.DistinctKeys.{AreNew, AreNew-IsDistinct, put_each-new}
-use Rattle.jzon.proofs.NumbersReadBack.{reads_back}
+use Rattle.jzon.proofs.NumbersReadBack.{printed_numeral}
 use Rattle.jzon.proofs.Orders.{picked, map-picked, each_picked, AreBelow, AreBelow-order, texts_picked, distinct_picked, find-picked}
 use Rattle.jzon.proofs.Redump.{text_utf8}
 use Rattle.jzon.proofs.WrittenStrings.{items_for, bytes_of-items_for}
 use Rattle.jzon.proofs.WrittenTrees.{NodeSpells, null_spells, true_spells, false_spells, number_spells, empty_array_spells, empty_object_spells, string_spells, key_for, array_spells, object_spells, node_parses}
-use Rattle.jzon.proofs.WritingTrees.{AllowsBlanksOf, node_raised, EachSpells, joined_elements, Entry, entry_text, entry_meaning, entry_keys, EntrySpells, joined_members}
+use Rattle.jzon.proofs.JoinedTrees.{AllowsBlanksOf, node_raised, EachSpells, joined_elements, Entry, entry_text, entry_meaning, entry_keys, EntrySpells, joined_members}
 
 -- The node spells the bytes, and means the same value.
 record ReadNode (r : Reading) (v : Value) (b : List ℕ) : Type 0 where
@@ -189,7 +189,7 @@ mutual
       }
   read_node r s dent (number nan) b fit h no_nan w = absurd no_nan
   read_node r s dent (number (parts p m x)) b fit h no_nan w =
-      let n = reads_back p m x h.0 h.1 in
+      let n = printed_numeral p m x h.0 h.1 in
       record {
         node = Node.number n.0;
         spells = subst (λ y. NodeSpells r 0 y (Node.number n.0)) (sym w) (number_spells r p m x n.0 h.0 h.1 n.1);

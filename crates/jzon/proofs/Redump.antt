@@ -11,7 +11,7 @@ use Rattle.jzon.specs.Grammar.{Node, Elements, no_elements, element, Members, no
 use Rattle.jzon.specs.Meaning.{bytes_of, meaning, elements_meaning, members_meaning}
 use Rattle.jzon.specs.Laws.{alone, Redump}
 use Rattle.jzon.proofs.DistinctKeys.{AreNew, AreNew-distinct, put_each-new}
-use Rattle.jzon.proofs.NumbersReadBack.{reads_back}
+use Rattle.jzon.proofs.NumbersReadBack.{printed_numeral}
 use Rattle.jzon.proofs.WrittenStrings.{items_for, bytes_of-items_for}
 use Rattle.jzon.proofs.WrittenTrees.{NodeSpells, ElementsSpell, MembersSpell, null_spells, true_spells, false_spells, number_spells, empty_array_spells, empty_object_spells, string_spells, key_for, pair_text, no_elements_spell, element_spells, array_spells, no_members_spell, member_spells, object_spells, node_parses}
 
@@ -50,7 +50,7 @@ mutual
       record { node = Node.string (items_for s); spells = string_spells r s u; again = λ e. ap quoted (bytes_of-items_for s u) }
   dumped r d (number nan) h = record { node = Node.null; spells = null_spells r; again = λ e. refl }
   dumped r d (number (parts p m x)) h =
-      let n = reads_back p m x h.0 h.1 in
+      let n = printed_numeral p m x h.0 h.1 in
       record { node = Node.number n.0; spells = number_spells r p m x n.0 h.0 h.1 n.1; again = λ e. n.1.prints }
   dumped r d (array no_values) h = record { node = Node.empty_array []; spells = empty_array_spells r; again = λ e. refl }
   dumped r d (array (value v vs)) h =

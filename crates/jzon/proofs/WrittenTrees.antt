@@ -16,7 +16,8 @@ use Rattle.jzon.specs.Meaning.{bytes_of}
 use Rattle.jzon.specs.Spelling.{Cell, cell, plain, breach_if, deep, duplicate, items_length, items_cells, key_cells, node_cells, elements_cells, members_cells}
 use Rattle.jzon.proofs.Runs.{plain-append}
 use Rattle.jzon.proofs.Unbroken.{AreSmall, parses_plain}
-use Rattle.jzon.proofs.NumbersReadBack.{IsPrintedAs, printed-plain, printed_small}
+use Rattle.jzon.proofs.PrintedParts.{IsPrintedAs}
+use Rattle.jzon.proofs.NumbersReadBack.{printed-plain, printed_small}
 use Rattle.jzon.proofs.DistinctKeys.{AreNew}
 use Rattle.jzon.proofs.WrittenStrings.{items_for, items_for_in_grammar, bytes_of-items_for, IsUtf8-small, chars-small, chars-small_append, IsUtf8-quoted, quoted-plain}
 

@@ -1,4 +1,4 @@
-//! Laws over texts and their trees, for every reading: RFC 8259 with the project's own rules (`docs/RULES.md`, "Texts", "Readings" and "Errors").
+//! Laws over texts, their trees and their values, for every reading: RFC 8259 with the project's own rules (`docs/RULES.md`, "Laws").
 //! Each of these functions does nothing, and stands for its contract.
 
 ghost use Rattle.jzon.specs.Laws.{OneReading, OneFault, NumberText, Redump, ReadsBack};
