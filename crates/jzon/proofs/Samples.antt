@@ -4,6 +4,7 @@ use Rattle.std.proofs.lemmas.Bool.{and_parts}
 use Rattle.std.specs.Prelude.{IsTrue, slice_get}
 use Rattle.std.specs.Char.{is_ascii_digit}
 use Rattle.std.specs.List.{list_all}
+pub use Rattle.jzon.specs.Laws.{alone}
 use Rattle.jzon.specs.Reading.{Reading}
 use Rattle.jzon.specs.Grammar.{Sign, Exponent, Numeral, Item, plain, Key, Node, Elements, no_elements, element, Members, no_members, member, Document, AreDigits, IsDigits, IsWhole, is_exponent_letter, IsExponent, IsNumeral}
 use Rattle.jzon.specs.Spelling.{Breach, Cell, cells, HasNoBreach}
@@ -39,10 +40,6 @@ pub no_marks : (r : Reading) (d : Document) → marks r d ≡ [] → HasNoBreach
 no_marks r d e i b h = no_marks_from 0 (cells r d) e i b h
 
 -- ---- trees
-
--- a value with no blank round it
-abbrev pub alone : Node → Document
-alone n = record { before = []; node = n; after = [] }
 
 abbrev pub plains : List ℕ → List Item
 plains [] = []

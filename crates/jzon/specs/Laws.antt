@@ -1,7 +1,17 @@
 -- Laws over the definitions alone.
-use Rattle.std.specs.Prelude.{◌≡◌, ◌⊎◌, ℕ, List}
+use Rattle.std.specs.Prelude.{◌≡◌, ◌⊎◌, ℕ, ℤ, ◌≤◌, ◌<◌, ◌^◌, List, [], length, Bool, true, IsTrue, IsUtf8, chars, FitsSigned}
+use Rattle.std.specs.Int.{w16}
+use Rattle.jzon_base.specs.Decimal.{parts}
+use Rattle.jzon_base.specs.Decimal as decimal
+use Rattle.jzon_base.specs.NumberText.{number_text, decimal_text}
+use Rattle.jzon_tree.specs.Value.{Value, nest}
+use Rattle.jzon_tree.specs.Text.{compact}
+use Rattle.jzon_tree.specs.Same.{same}
+use Rattle.jzon_tree.specs.Lawful.{IsValue, HasNoNan}
+use Rattle.jzon_tree.specs.Writing.{Style, IsAllowedBlank, Writes, is_blank}
 use Rattle.jzon.specs.Reading.{Reading}
-use Rattle.jzon.specs.Grammar.{Document}
+use Rattle.jzon.specs.Grammar.{Numeral, Node, Document}
+use Rattle.jzon.specs.Meaning.{number_of, meaning}
 use Rattle.jzon.specs.Fault.{Spells, Parses, Fault, IsFault, IsFirstFault}
 
 -- two trees that spell one text are the same tree
@@ -21,3 +31,39 @@ HasOneFault r t =
 -- each text has one tree and no fault, or no tree within the limits and one first fault
 abbrev pub OneFault : Type 0
 OneFault = (r : Reading) (t : List ℕ) → HasOneTree r t ⊎ HasOneFault r t
+
+-- ---- what is written is read
+
+-- a text that is one value, with no blank round it
+abbrev pub alone : Node → Document
+alone n = record { before = []; node = n; after = [] }
+
+-- The printed text of a sign, a mantissa and an exponent is a number of the grammar with no digit too many. It means the same number, which prints this
+-- text again. The text has at most 29 bytes.
+abbrev pub NumberText : Type 0
+NumberText =
+    (positive : Bool) (m : ℕ) (e : ℤ) → m < 2 ^ 64 → FitsSigned w16 e
+    → ((n : Numeral)
+    × ((r : Reading) → Parses r (chars (number_text positive m e)) (alone (Node.number n)))
+    × IsTrue (decimal.same (number_of n) (parts positive m e))
+    × (decimal_text (number_of n) ≡ number_text positive m e))
+    × (length (number_text positive m e) ≤ 29)
+
+-- the bytes are UTF-8, and a tree that breaks no limit spells their characters and means such a value
+abbrev pub IsReadAs : Reading → List ℕ → (Value → Type 0) → Type 0
+IsReadAs r bytes P = IsUtf8 bytes × (d : Document) × Parses r (chars bytes) d × P (meaning d.node)
+
+-- The compact text of a value, which may hold NaN, is read as a value that has the same compact text.
+abbrev pub Redump : Type 0
+Redump = (r : Reading) (v : Value) → IsValue v → nest v ≤ r.depth → IsReadAs r (compact v) (λ w. compact w ≡ compact v)
+
+-- each blank that the style allows is one of a strict reading
+abbrev pub AllowsStrictAlone : Style → Type 0
+AllowsStrictAlone s = (dent : ℕ) (w : List ℕ) → IsAllowedBlank s dent w → IsTrue (is_blank true w)
+
+-- Each writing of a value without NaN, in whatever style, is read as the same value. A strict reading asks for a style of strict blanks alone.
+abbrev pub ReadsBack : Type 0
+ReadsBack =
+    (r : Reading) (s : Style) (dent : ℕ) (v : Value) (b : List ℕ)
+    → (IsTrue r.strict → AllowsStrictAlone s) → IsValue v → HasNoNan v → nest v ≤ r.depth → Writes s dent v b
+    → IsReadAs r b (λ w. IsTrue (same w v))

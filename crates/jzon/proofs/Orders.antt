@@ -1,0 +1,197 @@
+-- Lists in another order, by their positions.
+use Rattle.std.proofs.Common.{◌≡◌, ◌∙◌, ◌≢◌, ℕ, zero, suc, ◌+◌, ◌<◌, ◌≤◌, ◌==◌, nat_lt, List, [], ◌∷◌, length, map, get_or, count_by, Bool, true, false, cond, Option, Some, None, refl, sym, ap, arith, inl, inr}
+use Rattle.std.specs.Prelude.{AllPairs}
+use Rattle.std.specs.List.{AllByRecursion, IsDistinct}
+use Rattle.std.specs.Str.{bytes_eq}
+use Rattle.std.proofs.Math.ListN.{get_or-map}
+use Rattle.std.proofs.lemmas.Bool.{cases_lt, cases_eq, false_from_ne_true}
+use Rattle.std.proofs.lemmas.Bool.Decides.{nat_tests}
+use Rattle.std.proofs.lemmas.List.{length-map}
+use Rattle.std.proofs.lemmas.List.Sums.{count_by-le-length, sum_by-cons}
+use Rattle.std.proofs.lemmas.Map.Keys.{IsDistinct-cons}
+use Rattle.std.proofs.lemmas.Option.{same_Some, none-some}
+use Rattle.std.proofs.lemmas.Slice.Eq.{bytes_eq-Decides}
+use Rattle.jzon_base.specs.PairList.{keys_of, find}
+use Rattle.jzon_tree.specs.Writing.{IsOrder, text_at}
+
+-- the elements at these positions, and d at one behind the list
+abbrev pub picked : {X : Type 0} → X → List X → List ℕ → List X
+picked d xs ps = map (λ i. get_or xs i d) ps
+
+pub map-picked : {X Y : Type 0} (f : X → Y) (d : X) (xs : List X) (ps : List ℕ) → map f (picked d xs ps) ≡ picked (f d) (map f xs) ps
+map-picked f d xs [] = refl
+map-picked f d xs (p ∷ ps) =
+    ap (λ y. y ∷ map f (picked d xs ps)) (sym (get_or-map f xs p d)) ∙ ap (λ ys. get_or (map f xs) p (f d) ∷ ys) (map-picked f d xs ps)
+
+at-each : {X : Type 0} (P : X → Type 0) (d : X) (xs : List X) (i : ℕ) → P d → AllByRecursion P xs → P (get_or xs i d)
+at-each P d [] i here all = here
+at-each P d (x ∷ xs) zero here all = all.0
+at-each P d (x ∷ xs) (suc i) here all = at-each P d xs i here all.1
+
+pub each_picked : {X : Type 0} (P : X → Type 0) (d : X) (xs : List X) (ps : List ℕ) → P d → AllByRecursion P xs → AllByRecursion P (picked d xs ps)
+each_picked P d xs [] here all = tt
+each_picked P d xs (p ∷ ps) here all = (at-each P d xs p here all, each_picked P d xs ps here all)
+
+-- ---- an order has each position below n, and no other
+
+abbrev pub AreBelow : ℕ → List ℕ → Type 0
+AreBelow n ps = AllByRecursion (λ i. i < n) ps
+
+abbrev count : ℕ → List ℕ → ℕ
+count i ps = count_by (λ j. j == i) ps
+
+-- what an element adds to a count
+abbrev tally : Bool → ℕ
+tally b = cond b 1 0
+
+count_by-cons : (test : ℕ → Bool) (p : ℕ) (ps : List ℕ) → count_by test (p ∷ ps) ≡ tally (test p) + count_by test ps
+count_by-cons test p ps = sum_by-cons (λ x. tally (test x)) p ps
+
+tally_below : (p n : ℕ) → p < n → tally (nat_lt p n) ≡ 1
+tally_below p n h = grind (arith, nat_tests)
+
+tally_above : (p n : ℕ) → n ≤ p → tally (nat_lt p n) ≡ 0
+tally_above p n h = grind (arith, nat_tests)
+
+tally_more : (p m : ℕ) → tally (nat_lt p (suc m)) ≡ tally (nat_lt p m) + tally (p == m)
+tally_more p m = grind (arith, nat_tests)
+
+tally_here : (p i : ℕ) → p ≡ i → tally (p == i) ≡ 1
+tally_here p i h = grind (arith, nat_tests)
+
+tally_elsewhere : (p i : ℕ) → (p ≡ i → ⊥) → tally (p == i) ≡ 0
+tally_elsewhere p i h = grind (arith, nat_tests)
+
+none_below : (ps : List ℕ) → count_by (λ j. nat_lt j 0) ps ≡ 0
+none_below [] = refl
+none_below (p ∷ ps) = omega (arith, count_by-cons (λ j. nat_lt j 0) p ps, tally_above p 0 (omega arith), none_below ps)
+
+one_more_below : (m : ℕ) (ps : List ℕ) → count_by (λ j. nat_lt j (suc m)) ps ≡ count_by (λ j. nat_lt j m) ps + count m ps
+one_more_below m [] = refl
+one_more_below m (p ∷ ps) = omega (
+  arith,
+  count_by-cons (λ j. nat_lt j (suc m)) p ps,
+  count_by-cons (λ j. nat_lt j m) p ps,
+  count_by-cons (λ j. j == m) p ps,
+  tally_more p m,
+  one_more_below m ps,
+)
+
+counted_below : (n m : ℕ) (ps : List ℕ) → IsOrder n ps → m ≤ n → count_by (λ j. nat_lt j m) ps ≡ m
+counted_below n zero ps o h = none_below ps
+counted_below n (suc m) ps o h = omega (arith, one_more_below m ps, counted_below n m ps o (omega arith), o.once m (omega arith))
+
+all_counted : (n : ℕ) (ps : List ℕ) → count_by (λ j. nat_lt j n) ps ≡ length ps → AreBelow n ps
+all_counted n [] e = tt
+all_counted n (p ∷ ps) e =
+    let cons = count_by-cons (λ j. nat_lt j n) p ps in
+    elim (cases_lt p n) [
+      | inl below ↦ (below, all_counted n ps (omega (arith, e, cons, tally_below p n below)))
+      | inr above ↦ absurd (omega (arith, e, cons, tally_above p n above, count_by-le-length (λ j. nat_lt j n) ps))
+    ]
+
+pub AreBelow-order : (n : ℕ) (ps : List ℕ) → IsOrder n ps → AreBelow n ps
+AreBelow-order n ps o = all_counted n ps (omega (arith, counted_below n n ps o (omega arith), o.as_many))
+
+text_at-get_or : (ts : List (List ℕ)) (i : ℕ) (d : List ℕ) → i < length ts → text_at ts i ≡ get_or ts i d
+text_at-get_or [] i d h = absurd (omega arith)
+text_at-get_or (t ∷ ts) zero d h = refl
+text_at-get_or (t ∷ ts) (suc i) d h = text_at-get_or ts i d (omega arith)
+
+pub texts_picked : (ts : List (List ℕ)) (ps : List ℕ) (d : List ℕ) → AreBelow (length ts) ps → map (text_at ts) ps ≡ picked d ts ps
+texts_picked ts [] d h = refl
+texts_picked ts (p ∷ ps) d h =
+    ap (λ y. y ∷ map (text_at ts) ps) (text_at-get_or ts p d h.0) ∙ ap (λ ys. get_or ts p d ∷ ys) (texts_picked ts ps d h.1)
+
+-- ---- distinct keys stay distinct
+
+apart_keys : (ks : List (List ℕ)) (d : List ℕ) (i j : ℕ) → AllPairs (λ x y. x ≢ y) ks → i < length ks → j < length ks → (i ≡ j → ⊥)
+    → get_or ks i d ≡ get_or ks j d → ⊥
+apart_keys ks d i j distinct h k ne e =
+    elim (cases_lt i j) [
+      | inl less ↦ distinct i j d less k e
+      | inr more ↦ distinct j i d (omega (arith, ne)) h (sym e)
+    ]
+
+different : (x y : List ℕ) → (x ≡ y → ⊥) → bytes_eq x y ≡ false
+different x y ne = false_from_ne_true (bytes_eq x y) (λ e. ne ((bytes_eq-Decides x y).0 e))
+
+apart_from : (ks : List (List ℕ)) (d : List ℕ) (i : ℕ) (ps : List ℕ) → AllPairs (λ x y. x ≢ y) ks → i < length ks → AreBelow (length ks) ps → count i ps ≡ 0
+    → AllByRecursion (λ y. bytes_eq (get_or ks i d) y ≡ false) (picked d ks ps)
+apart_from ks d i [] distinct h below none = tt
+apart_from ks d i (p ∷ ps) distinct h below none =
+    let cons = count_by-cons (λ j. j == i) p ps in
+    let ne : (i ≡ p → ⊥) = λ e. omega (arith, none, cons, tally_here p i (sym e)) in
+    (different _ _ (apart_keys ks d i p distinct h below.0 ne), apart_from ks d i ps distinct h below.1 (omega (arith, none)))
+
+pub distinct_picked : (ks : List (List ℕ)) (d : List ℕ) (ps : List ℕ) → AllPairs (λ x y. x ≢ y) ks → AreBelow (length ks) ps
+    → ((i : ℕ) → i < length ks → count i ps ≤ 1) → IsDistinct bytes_eq (picked d ks ps)
+unfolding IsDistinct
+distinct_picked ks d [] distinct below once = tt
+distinct_picked ks d (p ∷ ps) distinct below once =
+    IsDistinct-cons bytes_eq (get_or ks p d) (picked d ks ps)
+    (apart_from ks d p ps distinct below.0 below.1 (omega (arith, once p below.0, count_by-cons (λ j. j == p) p ps, tally_here p p refl)))
+    (distinct_picked ks d ps distinct below.1 (λ i h. omega (arith, once i h, count_by-cons (λ j. j == i) p ps)))
+
+-- ---- look-ups do not depend on the order
+
+module _ {V : Type 0} where
+  record IsFound (q : List ℕ) (d : List ℕ × V) (xs : List (List ℕ × V)) (v : V) (i : ℕ) : Type 0 where
+    within : i < length xs
+    key : (get_or xs i d).0 ≡ q
+    value : (get_or xs i d).1 ≡ v
+
+  found_at : (q : List ℕ) (d x : List ℕ × V) (xs : List (List ℕ × V)) (v : V) (b : Bool) → bytes_eq x.0 q ≡ b → (find q xs ≡ Some v → (i : ℕ) × IsFound q d xs v i)
+      → cond b (Some x.1) (find q xs) ≡ Some v → (i : ℕ) × IsFound q d (x ∷ xs) v i
+  found_at q d x xs v true t more f = (0, record { within = omega arith; key = (bytes_eq-Decides x.0 q).0 t; value = same_Some x.1 v f })
+  found_at q d x xs v false t more f =
+      let later = more f in
+      (suc later.0, record { within = omega (arith, later.1.within); key = later.1.key; value = later.1.value })
+
+  found_place : (q : List ℕ) (d : List ℕ × V) (xs : List (List ℕ × V)) (v : V) → find q xs ≡ Some v → (i : ℕ) × IsFound q d xs v i
+  found_place q d [] v e = absurd (none-some v e)
+  found_place q d (x ∷ xs) v e = found_at q d x xs v (bytes_eq x.0 q) refl (λ f. found_place q d xs v f) e
+
+  nowhere_at : (q : List ℕ) (x : List ℕ × V) (rest : Option V) (b : Bool) → bytes_eq x.0 q ≡ b → cond b (Some x.1) rest ≡ None
+      → (bytes_eq x.0 q ≡ false) × (rest ≡ None)
+  nowhere_at q x rest true t f = absurd (none-some x.1 (sym f))
+  nowhere_at q x rest false t f = (t, f)
+
+  nowhere : (q : List ℕ) (d : List ℕ × V) (xs : List (List ℕ × V)) (i : ℕ) → find q xs ≡ None → i < length xs → bytes_eq (get_or xs i d).0 q ≡ false
+  nowhere q d [] i e h = absurd (omega arith)
+  nowhere q d (x ∷ xs) zero e h = (nowhere_at q x (find q xs) (bytes_eq x.0 q) refl e).0
+  nowhere q d (x ∷ xs) (suc i) e h = nowhere q d xs i (nowhere_at q x (find q xs) (bytes_eq x.0 q) refl e).1 (omega arith)
+
+  picked_nowhere : (q : List ℕ) (d : List ℕ × V) (xs : List (List ℕ × V)) (ps : List ℕ) → find q xs ≡ None → AreBelow (length xs) ps → find q (picked d xs ps) ≡ None
+  picked_nowhere q d xs [] e below = refl
+  picked_nowhere q d xs (p ∷ ps) e below = rw (nowhere q d xs p e below.0) (picked_nowhere q d xs ps e below.1)
+
+  key_at : (d : List ℕ × V) (xs : List (List ℕ × V)) (i : ℕ) → get_or (keys_of xs) i d.0 ≡ (get_or xs i d).0
+  key_at d xs i = get_or-map (λ (p : List ℕ × V). p.0) xs i d
+
+  picked_found : (q : List ℕ) (d : List ℕ × V) (xs : List (List ℕ × V)) (v : V) (i : ℕ) (ps : List ℕ) → AllPairs (λ x y. x ≢ y) (keys_of xs)
+      → IsFound q d xs v i → AreBelow (length xs) ps → 1 ≤ count i ps → find q (picked d xs ps) ≡ Some v
+  picked_found q d xs v i [] distinct f below some = absurd (omega arith)
+  picked_found q d xs v i (p ∷ ps) distinct f below some =
+      elim (cases_eq p i) [
+        | inl e ↦
+            (let key : (get_or xs p d).0 ≡ q = ap (λ j. (get_or xs j d).0) e ∙ f.key in
+            let yes : bytes_eq (get_or xs p d).0 q ≡ true = (bytes_eq-Decides _ _).1 key in
+            rw yes (ap Some (ap (λ j. (get_or xs j d).1) e ∙ f.value)))
+        | inr ne ↦
+            (let size : length (keys_of xs) ≡ length xs = length-map xs (λ y. y.0) in
+            let no : bytes_eq (get_or xs p d).0 q ≡ false =
+            different _ _ (λ e. apart_keys (keys_of xs) d.0 p i distinct (omega (arith, below.0)) (omega (arith, f.within)) ne
+            (key_at d xs p ∙ e ∙ sym f.key ∙ sym (key_at d xs i))) in
+            rw no (picked_found q d xs v i ps distinct f below.1 (omega (arith, some, count_by-cons (λ j. j == i) p ps, tally_elsewhere p i ne))))
+      ]
+
+  pub find-picked : (q : List ℕ) (d : List ℕ × V) (xs : List (List ℕ × V)) (ps : List ℕ) → AllPairs (λ x y. x ≢ y) (keys_of xs) → IsOrder (length xs) ps
+      → find q (picked d xs ps) ≡ find q xs
+  find-picked q d xs ps distinct o = by_find (find q xs) refl
+    where
+      by_find : (f : Option V) → find q xs ≡ f → find q (picked d xs ps) ≡ find q xs
+      by_find None e = picked_nowhere q d xs ps e (AreBelow-order (length xs) ps o) ∙ sym e
+      by_find (Some v) e =
+          let at = found_place q d xs v e in
+          picked_found q d xs v at.0 ps distinct at.1 (AreBelow-order (length xs) ps o) (omega (arith, o.once at.0 at.1.within)) ∙ sym e

@@ -1,0 +1,5 @@
+use Rattle.jzon.proofs.ReadsBack.{read_back}
+use Rattle.jzon.proofs.laws.reads_back.Goals as goal
+
+pub returns : goal.returns
+returns c = read_back

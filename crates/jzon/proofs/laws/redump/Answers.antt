@@ -1,0 +1,5 @@
+use Rattle.jzon.proofs.Redump.{redumped}
+use Rattle.jzon.proofs.laws.redump.Goals as goal
+
+pub returns : goal.returns
+returns c = redumped
