@@ -38,7 +38,7 @@ impl Number {
 
 // The magnitude with a sign, where it fits.
 pub(super) fn with_sign(positive: bool, magnitude: u64) -> Option<i64>
-    ensures { SomeIff result (FitsSigned w64 (signed positive magnitude)) (signed positive magnitude) }
+    ensures { let z = signed positive magnitude in SomeIff result (FitsSigned w64 z) z }
 {
     if positive {
         i64::try_from(magnitude).ok()

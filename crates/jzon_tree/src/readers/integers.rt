@@ -83,7 +83,8 @@ impl JsonValue {
 
     /// `mantissa * 10 ^ (exponent + point)` of the number, cut to a whole number, where its sign is positive and that fits.
     pub fn as_fixed_point_u64(&self, point: u16) -> Option<u64>
-        ensures { SomeWhere (unsigned_fixed_point_in (view self.now) point) (λ n. n < 2 ^ 64) result }
+        ensures { SomeWhere (unsigned_fixed_point_in (view self.now) point)
+            (λ n. n < 2 ^ 64) result }
     {
         self.as_number()?.as_fixed_point_u64(point)
     }
