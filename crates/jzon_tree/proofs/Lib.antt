@@ -4,4 +4,6 @@ pub mod Plain
 pub mod PairKeys
 mod Rows
 pub mod Seen
+pub mod Sent
+pub mod SentStrings
 pub mod Views

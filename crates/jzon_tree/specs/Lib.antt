@@ -3,6 +3,9 @@ pub mod Same
 pub mod SameLaws
 pub mod Text
 pub mod Writing
+pub mod Generator
+pub mod Styles
+pub mod StyleLaws
 pub mod Lawful
 pub mod Entries
 pub mod IntoIter

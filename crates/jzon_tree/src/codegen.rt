@@ -9,8 +9,12 @@ ghost use Rattle.jzon_tree.specs.Text.{compact, quoted, escaped_byte};
 ghost use Rattle.jzon_tree.specs.Value.{array};
 ghost use Rattle.jzon_tree.specs.View.{view, view_object, view_values};
 
+mod generator;
+mod send;
+
 use crate::object::Object;
 use crate::value::JsonValue;
+pub use generator::Generator;
 use jzon_base::number::Number;
 use jzon_base::util::plain::plain_len;
 use jzon_base::util::print_dec;
