@@ -1,5 +1,10 @@
 pub mod Compared
 pub mod Dumps
+pub mod Emitting
+pub mod Exits
+pub mod Members
+pub mod Orders
+pub mod Ordered
 pub mod Plain
 pub mod PairKeys
 mod Rows
@@ -7,3 +12,4 @@ pub mod Seen
 pub mod Sent
 pub mod SentStrings
 pub mod Views
+pub mod Writings

@@ -6,6 +6,7 @@ pub mod Writing
 pub mod Generator
 pub mod Styles
 pub mod StyleLaws
+pub mod Printing
 pub mod Lawful
 pub mod Entries
 pub mod IntoIter

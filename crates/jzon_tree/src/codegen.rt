@@ -11,6 +11,8 @@ ghost use Rattle.jzon_tree.specs.View.{view, view_object, view_values};
 
 mod generator;
 mod send;
+mod visit;
+mod write;
 
 use crate::object::Object;
 use crate::value::JsonValue;
@@ -19,6 +21,7 @@ use jzon_base::number::Number;
 use jzon_base::util::plain::plain_len;
 use jzon_base::util::print_dec;
 use std::alloc::AllocError;
+pub use write::{write_json, write_object};
 
 /// Adds the compact text of the value.
 #[cycle(add_value)]
