@@ -140,3 +140,10 @@ module _ (opening closing : ℕ) (Q : Style → ℕ → List ℕ → Type 0) (R 
           style = k.style ∙ style_within;
           lender = k.lender ∙ lender_within;
         }) K r (PrintsIf-emits K _ _ _ r j)
+
+-- ---- bytes that a style allows, sent to the writer of old
+pub Added-sent : (P : List ℕ → Type 0) (bs : List ℕ) (old : Emitted) (o : Option (List ℕ)) → P bs → Adds (Just bs) old.out o → Added P old (record old { out = o })
+Added-sent P bs old o p h = record { bytes = adds_weaker (Just bs) P old.out o (λ x e. rw e p) h; dent = refl; faults = refl; style = refl; lender = refl }
+
+pub Failed-sent : (P : List ℕ → Type 0) (bs : List ℕ) (old new : Emitted) (o : Option (List ℕ)) → P bs → Adds (Begins (Just bs)) old.out o → new ≡ record old { out = o; faults = noted old.faults } → Failed P old new
+Failed-sent P bs old new o p h e = rw e (record { bytes = adds_weaker (Begins (Just bs)) (Begins P) old.out o (λ x (y, k). (y, rw k p)) h; dent = refl; faults = refl; style = refl; lender = refl })

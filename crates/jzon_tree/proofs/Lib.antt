@@ -10,6 +10,8 @@ pub mod PairKeys
 mod Rows
 pub mod Seen
 pub mod Sent
+pub mod SentBlanks
 pub mod SentStrings
+pub mod Unique
 pub mod Views
 pub mod Writings

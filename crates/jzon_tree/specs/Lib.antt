@@ -7,6 +7,7 @@ pub mod Generator
 pub mod Styles
 pub mod StyleLaws
 pub mod Printing
+pub mod Generators
 pub mod Lawful
 pub mod Entries
 pub mod IntoIter

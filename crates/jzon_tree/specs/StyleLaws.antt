@@ -12,7 +12,7 @@ use Rattle.std.proofs.Math.Numerals.{suc-eq-add-one}
 use Rattle.jzon_tree.specs.Generator.{insertion}
 use Rattle.jzon_tree.specs.Styles.{same_form, only, compact_style, pretty_style}
 use Rattle.jzon_tree.specs.Text.{pretty_layout}
-use Rattle.jzon_tree.specs.Writing.{IsStyle, IsOrder, is_blank, any_style}
+use Rattle.jzon_tree.specs.Writing.{IsStyle, IsOrder, IsAllowedBlank, is_blank, any_style}
 
 bytes_eq-refl : (bs : List ℕ) → bytes_eq bs bs ≡ true
 bytes_eq-refl bs = (bytes_eq-Decides bs bs).1 refl
@@ -68,6 +68,9 @@ IsStyle-compact = IsStyle-only (λ dent. []) false (λ dent. refl)
 blanks : (n : ℕ) → is_blank false (replicate n 32) ≡ true
 blanks zero = refl
 blanks (suc n) = blanks n
+
+pub pretty_blank : (spaces dent : ℕ) → IsAllowedBlank (pretty_style spaces) dent ((pretty_layout spaces).line dent)
+pretty_blank spaces dent = (blanks (dent * spaces), bytes_eq-refl ((pretty_layout spaces).line dent))
 
 pub IsStyle-pretty : (spaces : ℕ) → IsStyle (pretty_style spaces)
 IsStyle-pretty spaces = IsStyle-only (pretty_layout spaces).line true (λ dent. blanks (dent * spaces))

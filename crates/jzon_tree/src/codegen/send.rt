@@ -1,6 +1,6 @@
 //! What is sent to a writer. Each function hands back each fault of the writer, after which a beginning of its bytes is sent.
 
-ghost use Rattle.std.specs.Prelude.{◌≡◌, ◌<◌, ◌≤◌, ◌++◌, ◌∷◌, [], false, length, take, drop};
+ghost use Rattle.std.specs.Prelude.{◌≡◌, ◌<◌, ◌≤◌, ◌++◌, ◌∷◌, [], false, length, take, drop, replicate};
 ghost use Rattle.std.specs.Char.{digit_char};
 ghost use Rattle.jzon_base.specs.NumberText.{number_text, written_text};
 ghost use Rattle.jzon_base.specs.PlainBytes.{is_plain};
@@ -12,6 +12,9 @@ use jzon_base::util::plain::plain_len;
 use jzon_base::util::{print_dec, write_bytes};
 use std::io;
 use std::io::Write;
+
+// What is sent at once.
+const BLANKS: [u8; 64] = [b' '; 64];
 
 /// Sends the bytes.
 #[tactic(auto, using(crate::proofs::Sent::sent))]
@@ -73,6 +76,20 @@ pub(crate) fn send_string<W: Write>(writer: &mut W, front: &[u8], text: &[u8]) -
         rest = others;
     }
     send(writer, b"\"")
+}
+
+/// Sends a newline and so many blanks.
+pub(crate) fn send_line<W: Write>(writer: &mut W, blanks: u128) -> io::Result<()>
+    ensures { Sends (Just (10 ∷ replicate blanks 32)) (W.contents writer.old) (W.contents writer.new) result }
+{
+    send(writer, b"\n")?;
+    let mut left = blanks;
+    while left > 0 {
+        let count = left.min(64);
+        send(writer, &BLANKS[..count as usize])?;
+        left -= count;
+    }
+    Ok(())
 }
 
 // Sends what stands in a string for a byte that needs an escape.
