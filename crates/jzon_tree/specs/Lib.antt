@@ -3,6 +3,11 @@ pub mod Same
 pub mod SameLaws
 pub mod Text
 pub mod Writing
+pub mod Generator
+pub mod Styles
+pub mod StyleLaws
+pub mod Printing
+pub mod Generators
 pub mod Lawful
 pub mod Entries
 pub mod IntoIter

@@ -9,12 +9,28 @@ ghost use Rattle.jzon_tree.specs.Text.{compact, quoted, escaped_byte};
 ghost use Rattle.jzon_tree.specs.Value.{array};
 ghost use Rattle.jzon_tree.specs.View.{view, view_object, view_values};
 
+mod dump;
+mod generator;
+mod pretty;
+mod pretty_writer;
+mod print;
+mod send;
+mod visit;
+mod write;
+mod writer;
+
 use crate::object::Object;
 use crate::value::JsonValue;
+pub use dump::DumpGenerator;
+pub use generator::Generator;
 use jzon_base::number::Number;
 use jzon_base::util::plain::plain_len;
 use jzon_base::util::print_dec;
+pub use pretty::PrettyGenerator;
+pub use pretty_writer::PrettyWriterGenerator;
 use std::alloc::AllocError;
+pub use write::{write_json, write_object};
+pub use writer::WriterGenerator;
 
 /// Adds the compact text of the value.
 #[cycle(add_value)]

@@ -2,7 +2,7 @@
 
 mod changers;
 mod clone;
-mod codegen;
+pub mod codegen;
 mod equal;
 pub mod into_json;
 pub mod lent;

@@ -1,0 +1,138 @@
+-- A style with one choice of each has one writing of each value: the text in its layout.
+use Rattle.std.proofs.Common.{◌≡◌, ℕ, zero, suc, ◌+◌, ◌<◌, ◌≤◌, Bool, true, false, List, [], ◌∷◌, ◌++◌, refl, sym, ap, ◌∙◌, length, append-nil, append_assoc, length-append, length-take, take-append-drop, arith, map, add-one, take, Option, Some, None, subst, Result, Ok, Err}
+use Rattle.std.specs.Prelude.{IsTrue, OnOk, OnErr}
+use Rattle.std.specs.List.{range_with_len}
+use Rattle.std.specs.Str.{bytes_eq}
+use Rattle.std.specs.Borrow.{GName}
+use Rattle.std.specs.Io.KnownBytes.{Appends}
+use Rattle.std.proofs.lemmas.Slice.Eq.{bytes_eq-Decides}
+use Rattle.jzon_base.specs.Written.{AppendsBeginning}
+use Rattle.jzon_base.specs.PairList.{keys_of}
+use Rattle.jzon_tree.specs.Generator.{Adds, Begins, Emitted, Added, Stopped, Prints, insertion}
+use Rattle.jzon_tree.specs.Styles.{only, same_form}
+use Rattle.jzon_tree.specs.Text.{Layout, layout_text, more_values_text, more_pairs_text, quoted}
+use Rattle.jzon_tree.specs.Value.{Value, null, boolean, text, number, array, object, Values, no_values, value, Pairs, no_pairs, pair, list_of_pairs}
+use Rattle.jzon_tree.specs.Writing.{Style, IsAllowedBlank, text_at, Joins, Encloses, Writes, WritesEach, WritesPairs, colon_text}
+
+same_list : (xs ys : List ℕ) → bytes_eq xs ys ≡ true → xs ≡ ys
+same_list xs ys e = (bytes_eq-Decides xs ys).0 e
+
+form_is : (form wide : Bool) → IsTrue (same_form form wide) → form ≡ wide
+form_is true true h = refl
+form_is true false h = absurd (cc h)
+form_is false true h = absurd (cc h)
+form_is false false h = refl
+
+-- ---- the order of insertion
+seam : (front ts : List (List ℕ)) (t : List ℕ) → text_at (front ++ t ∷ ts) (length front) ≡ t
+seam [] ts t = refl
+seam (u ∷ us) ts t = seam us ts t
+
+in_order : (ts front : List (List ℕ)) → map (text_at (front ++ ts)) (range_with_len (length front) (length ts)) ≡ ts
+in_order [] front = refl
+in_order (t ∷ ts) front =
+    let e : map (text_at (front ++ t ∷ ts)) (range_with_len (length front + 1) (length ts)) ≡ ts = rw (length-append front (t ∷ []), append_assoc front (t ∷ []) ts) at (in_order ts (front ++ t ∷ [])) in
+    rw (seam front ts t, e) refl
+
+after_comma : (l t m rest : List ℕ) → (l ++ (t ++ 44 ∷ m)) ++ rest ≡ (l ++ t) ++ 44 ∷ (m ++ rest)
+after_comma l t m rest = ap (λ x. x ++ rest) (sym (append_assoc l t (44 ∷ m))) ∙ append_assoc (l ++ t) (44 ∷ m) rest
+
+-- ---- the texts of the values and pairs
+module _ (line : ℕ → List ℕ) (wide : Bool) where
+  abbrev layout : Layout
+  layout = record { line = line; colon = colon_text wide }
+
+  abbrev style : Style
+  style = only line wide
+
+  blank_is : (d : ℕ) (w : List ℕ) → IsAllowedBlank style d w → w ≡ line d
+  blank_is d w h = same_list w (line d) h.1
+
+  abbrev value_texts : ℕ → Values → List (List ℕ)
+  value_texts d no_values = []
+  value_texts d (value v vs) = layout_text layout d v ∷ value_texts d vs
+
+  abbrev pair_texts : ℕ → Pairs → List (List ℕ)
+  pair_texts d no_pairs = []
+  pair_texts d (pair k v ps) = (quoted k ++ (colon_text wide ++ layout_text layout d v)) ∷ pair_texts d ps
+
+  -- the texts with their blanks and commas, and the closing bracket
+  values_inside : (d : ℕ) (v : Value) (vs : Values) (b w : List ℕ) → Joins style (suc d) (value_texts (suc d) (value v vs)) b → w ≡ line d → b ++ (w ++ 93 ∷ []) ≡ (line (suc d) ++ layout_text layout (suc d) v) ++ more_values_text layout d vs
+  values_inside d v no_values b w (u, h, e) f = rw (e, blank_is (suc d) u h, f) refl
+  values_inside d v (value x vs) b w (u, m, h, j, e) f =
+      rw (e, blank_is (suc d) u h) (after_comma (line (suc d)) (layout_text layout (suc d) v) m (w ++ 93 ∷ []) ∙ ap (λ y. (line (suc d) ++ layout_text layout (suc d) v) ++ 44 ∷ y) (values_inside d x vs m w j f))
+
+  abbrev named : ℕ → List ℕ → Value → List ℕ
+  named d k v = quoted k ++ (colon_text wide ++ layout_text layout d v)
+
+  abbrev start : ℕ → List ℕ → Value → List ℕ
+  start d k v = line d ++ quoted k ++ colon_text wide ++ layout_text layout d v
+
+  started : (d : ℕ) (k : List ℕ) (v : Value) (rest : List ℕ) → (line d ++ named d k v) ++ rest ≡ start d k v ++ rest
+  started d k v rest =
+      ap (λ x. x ++ rest) (sym (append_assoc (line d) (quoted k) (colon_text wide ++ layout_text layout d v)) ∙ sym (append_assoc (line d ++ quoted k) (colon_text wide) (layout_text layout d v)))
+
+  pairs_inside : (d : ℕ) (k : List ℕ) (v : Value) (ps : Pairs) (b w : List ℕ) → Joins style (suc d) (pair_texts (suc d) (pair k v ps)) b → w ≡ line d → b ++ (w ++ 125 ∷ []) ≡ start (suc d) k v ++ more_pairs_text layout d ps
+  pairs_inside d k v no_pairs b w (u, h, e) f = rw (e, blank_is (suc d) u h, f) (started (suc d) k v (line d ++ 125 ∷ []))
+  pairs_inside d k v (pair l x ps) b w (u, m, h, j, e) f =
+      rw (e, blank_is (suc d) u h) (after_comma (line (suc d)) (named (suc d) k v) m (w ++ 125 ∷ []) ∙ started (suc d) k v (44 ∷ (m ++ (w ++ 125 ∷ []))) ∙ ap (λ y. start (suc d) k v ++ 44 ∷ y) (pairs_inside d l x ps m w j f))
+
+  length-texts : (d : ℕ) (ps : Pairs) → length (pair_texts d ps) ≡ length (keys_of (list_of_pairs ps))
+  length-texts d no_pairs = refl
+  length-texts d (pair k v ps) = ap suc (length-texts d ps)
+
+  mutual
+    pub written : (d : ℕ) (v : Value) (b : List ℕ) → Writes style d v b → b ≡ layout_text layout d v
+    written d null b e = e
+    written d (boolean t) b e = e
+    written d (text k t) b e = e
+    written d (number n) b e = e
+    written d (array no_values) b e = e
+    written d (array (value v vs)) b (ts, each, (inside, w, j, h, e)) =
+        e ∙ ap (λ x. 91 ∷ x) (values_inside d v vs inside w (subst (λ xs. Joins style (suc d) xs inside) (written_values (suc d) (value v vs) ts each) j) (blank_is d w h))
+    written d (object no_pairs) b e = e
+    written d (object (pair k v ps)) b (ts, positions, each, order, allowed, (inside, w, j, h, e)) =
+        let same : ts ≡ pair_texts (suc d) (pair k v ps) = written_pairs (suc d) (pair k v ps) ts each in
+        let as_many : length (keys_of (list_of_pairs (pair k v ps))) ≡ length ts = sym (length-texts (suc d) (pair k v ps)) ∙ ap length (sym same) in
+        let ordered : map (text_at ts) positions ≡ pair_texts (suc d) (pair k v ps) =
+        ap (map (text_at ts)) (same_list positions _ allowed ∙ ap insertion as_many) ∙ in_order ts [] ∙ same in
+        e ∙ ap (λ x. 123 ∷ x) (pairs_inside d k v ps inside w (subst (λ xs. Joins style (suc d) xs inside) ordered j) (blank_is d w h))
+
+    written_values : (d : ℕ) (vs : Values) (ts : List (List ℕ)) → WritesEach style d vs ts → ts ≡ value_texts d vs
+    written_values d no_values [] h = refl
+    written_values d no_values (t ∷ ts) h = absurd h
+    written_values d (value v vs) [] h = absurd h
+    written_values d (value v vs) (t ∷ ts) h = rw (written d v t h.0, written_values d vs ts h.1) refl
+
+    written_pairs : (d : ℕ) (ps : Pairs) (ts : List (List ℕ)) → WritesPairs style d ps ts → ts ≡ pair_texts d ps
+    written_pairs d no_pairs [] h = refl
+    written_pairs d no_pairs (t ∷ ts) h = absurd h
+    written_pairs d (pair k v ps) [] h = absurd h
+    written_pairs d (pair k v ps) (t ∷ ts) ((form, x, c, i, e), h) = rw (e, form_is form wide c, written d v x i, written_pairs d ps ts h) refl
+
+-- ---- a writer that is lent to a generator, in the end
+adds-appended : (P : List ℕ → Type 0) (bs : List ℕ) (a b : Option (List ℕ)) → ((x : List ℕ) → P x → x ≡ bs) → Adds P a b → Appends a b bs
+adds-appended P bs None b f h = tt
+adds-appended P bs (Some xs) None f h = absurd h
+adds-appended P bs (Some xs) (Some ys) f (x, e, p) = e ∙ ap (λ w. xs ++ w) (f x p)
+
+take-front : (x y : List ℕ) → take (length x) (x ++ y) ≡ x
+take-front [] y = refl
+take-front (c ∷ x) y = ap (λ w. c ∷ w) (take-front x y)
+
+adds-beginning : (P : List ℕ → Type 0) (bs : List ℕ) (a b : Option (List ℕ)) → ((x : List ℕ) → P x → x ≡ bs) → Adds (Begins P) a b → AppendsBeginning a b bs
+adds-beginning P bs None b f h = (0, omega arith, tt)
+adds-beginning P bs (Some xs) None f h = absurd h
+adds-beginning P bs (Some xs) (Some ys) f (x, e, (y, p)) =
+    let whole : x ++ y ≡ bs = f (x ++ y) p in
+    (length x, omega (arith, length-append x y, ap (λ (w : List ℕ). length w) whole), e ∙ ap (λ w. xs ++ w) (rw whole at (sym (take-front x y))))
+
+pub lent_ok : (P : List ℕ → Type 0) (bs : List ℕ) → ((x : List ℕ) → P x → x ≡ bs) → {W E : Type 0} (contents : W → Option (List ℕ)) (old new : Emitted) (r : Result (Unit {0}) E) (n m : GName) (x now : W)
+    → Prints P old new r → old.lender ≡ Some n → new.lender ≡ Some m → (n ≡ m → x ≡ now) → new.out ≡ contents now → OnOk r (Appends old.out (contents x) bs)
+lent_ok P bs unique contents old new (Ok u) n m x now h e f same out = let s : n ≡ m = cc (e, f, h.lender) in rw (same s, sym out) (adds-appended P bs old.out new.out unique h.bytes)
+lent_ok P bs unique contents old new (Err u) n m x now h e f same out = tt
+
+pub lent_err : (P : List ℕ → Type 0) (bs : List ℕ) → ((x : List ℕ) → P x → x ≡ bs) → {W E : Type 0} (contents : W → Option (List ℕ)) (old new : Emitted) (r : Result (Unit {0}) E) (n m : GName) (x now : W)
+    → Prints P old new r → old.lender ≡ Some n → new.lender ≡ Some m → (n ≡ m → x ≡ now) → new.out ≡ contents now → OnErr r (AppendsBeginning old.out (contents x) bs)
+lent_err P bs unique contents old new (Ok u) n m x now h e f same out = tt
+lent_err P bs unique contents old new (Err u) n m x now h e f same out = let s : n ≡ m = cc (e, f, h.lender) in rw (same s, sym out) (adds-beginning P bs old.out new.out unique h.bytes)

@@ -1,0 +1,87 @@
+-- What stands behind a generator, and what its hooks do to it (docs/RULES.md, "Generators").
+use Rattle.std.specs.Prelude.{◌≡◌, ℕ, ◌+◌, ◌-◌, ◌^◌, ◌≤◌, min, true, false, IsTrue, List, [], ◌∷◌, ◌++◌, ◌⊎◌, ⊤, length, MatchResult, Option, Result, Some, None}
+use Rattle.std.specs.Borrow.{GName}
+use Rattle.std.specs.List.{range_with_len}
+use Rattle.std.specs.declared.vec.Vec.{Vec}
+use Rattle.std.specs.declared.alloc.Global.{Global}
+use Rattle.jzon_tree.specs.Writing.{Style, IsOrder}
+
+-- known bytes grow by some that P allows
+abbrev pub Adds : (List ℕ → Type 0) → Option (List ℕ) → Option (List ℕ) → Type 0
+Adds P None new = ⊤
+Adds P (Some xs) None = ⊥
+Adds P (Some xs) (Some ys) = (b : List ℕ) × (ys ≡ xs ++ b) × P b
+
+-- b begins some bytes that P allows
+abbrev pub Begins : (List ℕ → Type 0) → List ℕ → Type 0
+Begins P b = (rest : List ℕ) × P (b ++ rest)
+
+-- these bytes, and no others
+abbrev pub Just : List ℕ → List ℕ → Type 0
+Just bs b = b ≡ bs
+
+-- a writer is given bytes that P allows at `Ok`, and a beginning of such bytes at `Err`
+abbrev pub Sends : {E : Type 0} → (List ℕ → Type 0) → Option (List ℕ) → Option (List ℕ) → Result (Unit {0}) E → Type 0
+Sends P old new r = MatchResult r (λ _. Adds P old new) (λ _. Adds (Begins P) old new)
+
+-- The bytes written so far, where the writer tells them; the open indents; the faults so far; the style; and the reference that is written through, if one is.
+pub record Emitted : Type 0 where
+  pub out : Option (List ℕ)
+  pub dent : ℕ
+  pub faults : ℕ
+  pub style : Style
+  pub lender : Option GName
+
+-- one fault more, or the greatest u64 stays
+abbrev pub noted : ℕ → ℕ
+noted n = min (n + 1) (2 ^ 64 - 1)
+
+-- The bytes grow by some that P allows, and nothing else changes.
+pub record Added (P : List ℕ → Type 0) (old new : Emitted) : Type 0 where
+  pub bytes : Adds P old.out new.out
+  pub dent : new.dent ≡ old.dent
+  pub faults : new.faults ≡ old.faults
+  pub style : new.style ≡ old.style
+  pub lender : new.lender ≡ old.lender
+
+-- The bytes grow by a beginning of some that P allows, and a fault is noted.
+pub record Failed (P : List ℕ → Type 0) (old new : Emitted) : Type 0 where
+  pub bytes : Adds (Begins P) old.out new.out
+  pub dent : new.dent ≡ old.dent
+  pub faults : new.faults ≡ noted old.faults
+  pub style : new.style ≡ old.style
+  pub lender : new.lender ≡ old.lender
+
+-- The same of a call that may leave more indents open.
+pub record Stopped (P : List ℕ → Type 0) (old new : Emitted) : Type 0 where
+  pub bytes : Adds (Begins P) old.out new.out
+  pub dent : old.dent ≤ new.dent
+  pub faults : new.faults ≡ noted old.faults
+  pub style : new.style ≡ old.style
+  pub lender : new.lender ≡ old.lender
+
+-- what a hook that adds bytes does
+abbrev pub Emits : {E : Type 0} → (List ℕ → Type 0) → Emitted → Emitted → Result (Unit {0}) E → Type 0
+Emits P old new r = MatchResult r (λ _. Added P old new) (λ _. Failed P old new)
+
+-- what writing a value does
+abbrev pub Prints : {E : Type 0} → (List ℕ → Type 0) → Emitted → Emitted → Result (Unit {0}) E → Type 0
+Prints P old new r = MatchResult r (λ _. Added P old new) (λ _. Stopped P old new)
+
+-- `slice` where a blank may follow a colon, or `min` where none need
+abbrev pub IsForm : Style → List ℕ → ℕ → List ℕ → Type 0
+IsForm s slice min b = ((b ≡ slice) × IsTrue (s.colon true)) ⊎ ((b ≡ min ∷ []) × IsTrue (s.colon false))
+
+-- the positions from 0
+abbrev pub insertion : ℕ → List ℕ
+insertion n = range_with_len 0 n
+
+-- the positions of n pairs that an answer names: `None` is the order of insertion
+abbrev pub positions : ℕ → Option (Vec ℕ Global) → List ℕ
+positions n None = insertion n
+positions n (Some answer) = answer.items
+
+-- an answer names each position once, in an order that the style allows of these keys
+abbrev pub IsAnswer : Style → List (List ℕ) → Option (Vec ℕ Global) → Type 0
+IsAnswer s ks None = IsTrue (s.order ks (insertion (length ks)))
+IsAnswer s ks (Some answer) = IsOrder (length ks) answer.items × IsTrue (s.order ks answer.items)

@@ -1,0 +1,83 @@
+-- Each style of a generator allows something. (These are proofs; they stand here since the generators' laws cite them.)
+use Rattle.std.specs.Prelude.{◌≡◌, ◌≢◌, ℕ, zero, suc, ◌+◌, ◌*◌, ◌<◌, ◌==◌, Bool, true, false, List, [], length, replicate, count_by, cond, refl}
+use Rattle.std.specs.List.{range_with_len}
+use Rattle.std.specs.Str.{bytes_eq}
+use Rattle.std.proofs.Common.{sym, ap, ◌∙◌, subst}
+use Rattle.std.proofs.lemmas.Bool.{eq-eqb, eqb-true, false_from_ne_true}
+use Rattle.std.proofs.lemmas.List.FromFn.{length-range_with_len}
+use Rattle.std.proofs.lemmas.List.Sums.{sum_by-cons}
+use Rattle.std.proofs.lemmas.Slice.Eq.{bytes_eq-Decides}
+use Rattle.std.proofs.Math.Nat.{ne_of_lt, add-suc, suc-add, add-zero, zero-add, lt-suc_self, lt_trans, not-suc-le-zero, le-add_right, suc-le-suc_iff, le_of_suc-le-suc}
+use Rattle.std.proofs.Math.Numerals.{suc-eq-add-one}
+use Rattle.jzon_tree.specs.Generator.{insertion}
+use Rattle.jzon_tree.specs.Styles.{same_form, only, compact_style, pretty_style}
+use Rattle.jzon_tree.specs.Text.{pretty_layout}
+use Rattle.jzon_tree.specs.Writing.{IsStyle, IsOrder, IsAllowedBlank, is_blank, any_style}
+
+bytes_eq-refl : (bs : List ℕ) → bytes_eq bs bs ≡ true
+bytes_eq-refl bs = (bytes_eq-Decides bs bs).1 refl
+
+same_form-refl : (b : Bool) → same_form b b ≡ true
+same_form-refl true = refl
+same_form-refl false = refl
+
+-- ---- each position stands once in the order of insertion
+
+-- how often i stands in the n numbers from a on
+abbrev count : ℕ → ℕ → ℕ → ℕ
+count i a n = count_by (λ j. j == i) (range_with_len a n)
+
+differ : (a i : ℕ) → a ≢ i → (a == i) ≡ false
+differ a i h = false_from_ne_true (a == i) (λ e. h (eqb-true a i e))
+
+count-step : (i a n : ℕ) → count i a (suc n) ≡ cond (a == i) 1 0 + count i (suc a) n
+count-step i a n =
+    sum_by-cons (λ j. cond (j == i) 1 0) a (range_with_len (a + 1) n) ∙ ap (λ b. cond (a == i) 1 0 + count i b n) (sym (suc-eq-add-one a))
+
+count-past : (i a n : ℕ) → i < a → count i a n ≡ 0
+count-past i a zero h = refl
+count-past i a (suc n) h =
+    count-step i a n ∙ ap (λ t. cond t 1 0 + count i (suc a) n) (differ a i (λ e. ne_of_lt h (sym e))) ∙ zero-add (count i (suc a) n) ∙ count-past i (suc a) n (lt_trans h (lt-suc_self a))
+
+count-one : (a k n : ℕ) → k < n → count (a + k) a n ≡ 1
+count-one a k zero h = absurd (not-suc-le-zero h)
+count-one a zero (suc n) h =
+    count-step (a + zero) a n ∙ ap (λ t. cond t 1 0 + count (a + zero) (suc a) n) (eq-eqb a (a + zero) (sym (add-zero a)))
+    ∙ ap (λ c. 1 + c) (count-past (a + zero) (suc a) n (subst (λ x. x < suc a) (sym (add-zero a)) (lt-suc_self a)))
+count-one a (suc k) (suc n) h =
+    count-step (a + suc k) a n ∙ ap (λ t. cond t 1 0 + count (a + suc k) (suc a) n) (differ a (a + suc k) (ne_of_lt (subst (λ x. a < x) (sym (add-suc a k)) (suc-le-suc_iff.1 (le-add_right a k)))))
+    ∙ zero-add (count (a + suc k) (suc a) n) ∙ ap (λ i. count i (suc a) n) (add-suc a k ∙ sym (suc-add a k)) ∙ count-one (suc a) k n (le_of_suc-le-suc h)
+
+pub IsOrder-insertion : (n : ℕ) → IsOrder n (insertion n)
+IsOrder-insertion n = record {
+  as_many = length-range_with_len 0 n;
+  once = λ i h. subst (λ x. count x 0 n ≡ 1) (zero-add i) (count-one 0 i n h);
+}
+
+-- ---- the styles
+pub IsStyle-only : (line : ℕ → List ℕ) (wide : Bool) → ((dent : ℕ) → is_blank false (line dent) ≡ true) → IsStyle (only line wide)
+IsStyle-only line wide h = record {
+  blank = λ dent. (line dent, (h dent, bytes_eq-refl (line dent)));
+  colon = (wide, same_form-refl wide);
+  order = λ ks distinct. (insertion (length ks), IsOrder-insertion (length ks), bytes_eq-refl (insertion (length ks)));
+}
+
+pub IsStyle-compact : IsStyle compact_style
+IsStyle-compact = IsStyle-only (λ dent. []) false (λ dent. refl)
+
+blanks : (n : ℕ) → is_blank false (replicate n 32) ≡ true
+blanks zero = refl
+blanks (suc n) = blanks n
+
+pub pretty_blank : (spaces dent : ℕ) → IsAllowedBlank (pretty_style spaces) dent ((pretty_layout spaces).line dent)
+pretty_blank spaces dent = (blanks (dent * spaces), bytes_eq-refl ((pretty_layout spaces).line dent))
+
+pub IsStyle-pretty : (spaces : ℕ) → IsStyle (pretty_style spaces)
+IsStyle-pretty spaces = IsStyle-only (pretty_layout spaces).line true (λ dent. blanks (dent * spaces))
+
+pub IsStyle-any : IsStyle any_style
+IsStyle-any = record {
+  blank = λ dent. ([], (refl, refl));
+  colon = (false, refl);
+  order = λ ks distinct. (insertion (length ks), IsOrder-insertion (length ks), refl);
+}

@@ -1,0 +1,165 @@
+//! The trait of the generators.
+
+ghost use Rattle.std.specs.Prelude.{◌≡◌, ◌+◌, ◌-◌, ◌<◌, ◌≤◌, ◌^◌, ◌∷◌, ◌++◌, [], length, take, drop, MatchResult};
+ghost use Rattle.std.specs.Borrow.{sem, Lends};
+ghost use Rattle.jzon_base.specs.NumberText.{written_text};
+ghost use Rattle.jzon_base.specs.PairList.{keys_of};
+ghost use Rattle.jzon_tree.specs.Entries.{entries_of};
+ghost use Rattle.jzon_tree.specs.Generator.{Emitted, Added, Failed, Emits, Just, IsForm, IsAnswer, noted};
+ghost use Rattle.jzon_tree.specs.Text.{escaped, quoted};
+ghost use Rattle.jzon_tree.specs.Writing.{IsAllowedBlank, IsStyle};
+
+use crate::codegen::send::{send, send_number, send_string, send_string_from};
+use crate::object::Object;
+use jzon_base::number::Number;
+use std::io;
+use std::io::{ErrorKind, Write};
+
+/// What writes values, piece by piece, into a writer.
+///
+/// Behind it stand the bytes written so far, the count of open indents, the count of faults so far, and a style, which no hook changes. An `Ok` of a hook adds
+/// exactly the hook's bytes. An `Err` adds a beginning of them, notes one fault (the greatest u64 stays), and leaves the open indents. Where the writer doesn't
+/// tell its bytes, nothing is said of bytes.
+pub trait Generator {
+    /// The writer.
+    type T: Write;
+
+    // The bytes written so far, the open indents, the faults so far, and the style.
+    ghost meaning: { Self → Emitted };
+
+    // The generator with this writer in the place of its own.
+    ghost with_writer: { Self → Self.T → Self };
+
+    /// Lends the writer. Its bytes are the bytes written, when lent and after.
+    fn get_writer(&mut self) -> &mut Self::T
+        ensures* writes_back { sem 𝓛 (Lends Self.row Self.T.row self.entry result (with_writer self.old)) }
+        ensures bytes { Self.T.contents result.now ≡ (meaning self.old).out };
+
+    /// Adds `slice`, which stands for a colon and a blank, or the one byte `min`, which stands for a colon, as the style allows.
+    fn write_min(&mut self, slice: &[u8], min: u8) -> io::Result<()>
+        ensures { Emits (IsForm (meaning self.old).style slice.now min) (meaning self.old) (meaning self.new) result };
+
+    /// How many faults there were.
+    fn faults(&self) -> u64
+        ensures { result ≡ (meaning self.now).faults };
+
+    /// How many indents are open.
+    fn dent(&self) -> u64
+        ensures { result ≡ (meaning self.now).dent };
+
+    /// One fault more, or the greatest u64 stays.
+    fn note_fault(&mut self)
+        ensures { meaning self.new ≡ record (meaning self.old) { faults = noted (meaning self.old).faults } };
+
+    /// Opens or closes indents, so that `dent` of them are open.
+    fn set_dent(&mut self, dent: u64)
+        ensures { meaning self.new ≡ record (meaning self.old) { dent = dent } };
+
+    /// Adds the bytes.
+    fn write(&mut self, slice: &[u8]) -> io::Result<()>
+        ensures { Emits (Just slice.now) (meaning self.old) (meaning self.new) result }
+    {
+        match send(self.get_writer(), slice) {
+            Ok(()) => Ok(()),
+            Err(error) => {
+                self.note_fault();
+                Err(error)
+            }
+        }
+    }
+
+    /// Adds the byte.
+    fn write_char(&mut self, ch: u8) -> io::Result<()>
+        ensures { Emits (Just (ch ∷ [])) (meaning self.old) (meaning self.new) result }
+    {
+        match send(self.get_writer(), &[ch]) {
+            Ok(()) => Ok(()),
+            Err(error) => {
+                self.note_fault();
+                Err(error)
+            }
+        }
+    }
+
+    /// Adds whitespace alone, a blank that the style allows at the open indents.
+    fn new_line(&mut self) -> io::Result<()>
+        ensures { Emits (IsAllowedBlank (meaning self.old).style (meaning self.old).dent) (meaning self.old) (meaning self.new) result };
+
+    /// Opens an indent. It is refused only where the greatest u64 of them are open, and then notes a fault.
+    fn indent(&mut self) -> io::Result<()>
+        ensures { MatchResult result
+            (λ _. meaning self.new ≡ record (meaning self.old) { dent = (meaning self.old).dent + 1 })
+            (λ _. ((meaning self.old).dent ≡ 2 ^ 64 - 1) × (meaning self.new ≡ record (meaning self.old) { faults = noted (meaning self.old).faults })) }
+    {
+        let dent = self.dent();
+        if dent == u64::MAX {
+            self.note_fault();
+            return Err(io::Error::from(ErrorKind::Other));
+        }
+        self.set_dent(dent + 1);
+        Ok(())
+    }
+
+    /// Closes an indent.
+    fn dedent(&mut self)
+        requires { 0 < (meaning self.old).dent }
+        ensures { meaning self.new ≡ record (meaning self.old) { dent = (meaning self.old).dent - 1 } }
+    {
+        let dent = self.dent();
+        self.set_dent(dent - 1);
+    }
+
+    /// Adds the text in quotes, escaped.
+    fn write_string(&mut self, string: &str) -> io::Result<()>
+        ensures { Emits (Just (quoted string.now)) (meaning self.old) (meaning self.new) result }
+    {
+        match send_string(self.get_writer(), b"\"", string.as_bytes()) {
+            Ok(()) => Ok(()),
+            Err(error) => {
+                self.note_fault();
+                Err(error)
+            }
+        }
+    }
+
+    /// Adds the bytes before `start` as they are, those from `start` on escaped, and the closing quote.
+    fn write_string_complex(&mut self, string: &str, start: usize) -> io::Result<()>
+        requires { start ≤ length string.now }
+        ensures { Emits (Just (take start string.now ++ (escaped (drop start string.now) ++ 34 ∷ []))) (meaning self.old) (meaning self.new) result }
+    {
+        match send_string_from(self.get_writer(), string, start) {
+            Ok(()) => Ok(()),
+            Err(error) => {
+                self.note_fault();
+                Err(error)
+            }
+        }
+    }
+
+    /// Adds the text of the number, or `null` for NaN.
+    fn write_number(&mut self, num: &Number) -> io::Result<()>
+        ensures { Emits (Just (written_text num.now)) (meaning self.old) (meaning self.new) result }
+    {
+        match send_number(self.get_writer(), num) {
+            Ok(()) => Ok(()),
+            Err(error) => {
+                self.note_fault();
+                Err(error)
+            }
+        }
+    }
+
+    /// The order in which the pairs of the object are to be written, as their positions, each exactly once; `None` is the order of insertion. It is an order
+    /// that the style allows of the keys. No byte is added.
+    fn order(&mut self, object: &Object) -> io::Result<Option<Vec<usize>>>
+        ensures { MatchResult result
+            (λ answer. Added (Just []) (meaning self.old) (meaning self.new)
+            × IsAnswer (meaning self.old).style (keys_of (entries_of object.now)) answer)
+            (λ _. Failed (Just []) (meaning self.old) (meaning self.new)) };
+
+    // Another writer changes the bytes alone.
+    ghost writer_law: { (g : Self) (w : Self.T) → meaning (with_writer g w) ≡ record (meaning g) { out = Self.T.contents w } };
+
+    // The style allows at least one blank, one form of the colon, and one order of distinct keys.
+    ghost style_law: { (g : Self) → IsStyle (meaning g).style };
+}
