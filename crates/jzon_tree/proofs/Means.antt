@@ -2,25 +2,25 @@
 use Rattle.std.proofs.Common.{◌≡◌, ℕ, suc, ◌+◌, ◌<◌, List, [], ◌∷◌, ◌++◌, length, take, map, ap, subst, sym, ◌∙◌, arith, append-nil, append_assoc, slice_index_or}
 use Rattle.std.proofs.Math.Seq.{take-suc}
 use Rattle.std.proofs.lemmas.List.{map-append}
-use Rattle.jzon_tree.specs.IntoJson.{Each}
+use Rattle.std.specs.List.{AllZip}
 
-pub Each-push : {X Y : Type 0} (R : X → Y → Type 0) (xs : List X) (ys : List Y) (x : X) (y : Y) → Each R xs ys → R x y → Each R (xs ++ x ∷ []) (ys ++ y ∷ [])
-Each-push R [] [] x y each here = (here, tt)
-Each-push R [] (z ∷ ys) x y each here = absurd each
-Each-push R (w ∷ xs) [] x y each here = absurd each
-Each-push R (w ∷ xs) (z ∷ ys) x y each here = (each.0, Each-push R xs ys x y each.1 here)
+pub AllZip-push : {X Y : Type 0} (R : X → Y → Type 0) (xs : List X) (ys : List Y) (x : X) (y : Y) → AllZip R xs ys → R x y → AllZip R (xs ++ x ∷ []) (ys ++ y ∷ [])
+AllZip-push R [] [] x y each here = (here, tt)
+AllZip-push R [] (z ∷ ys) x y each here = absurd each
+AllZip-push R (w ∷ xs) [] x y each here = absurd each
+AllZip-push R (w ∷ xs) (z ∷ ys) x y each here = (each.0, AllZip-push R xs ys x y each.1 here)
 
 -- the same beside a list of which a function is taken
-pub Each-push_map : {X Y Z : Type 0} (R : X → Y → Type 0) (f : Z → Y) (xs : List X) (zs ws : List Z) (x : X) (z : Z) → Each R xs (map f zs) → R x (f z) → ws ≡ zs ++ z ∷ [] → Each R (xs ++ x ∷ []) (map f ws)
-Each-push_map {Y = Y} R f xs zs ws x z each here e =
+pub AllZip-push_map : {X Y Z : Type 0} (R : X → Y → Type 0) (f : Z → Y) (xs : List X) (zs ws : List Z) (x : X) (z : Z) → AllZip R xs (map f zs) → R x (f z) → ws ≡ zs ++ z ∷ [] → AllZip R (xs ++ x ∷ []) (map f ws)
+AllZip-push_map {Y = Y} R f xs zs ws x z each here e =
     let grown : map f zs ++ f z ∷ [] ≡ map f ws = sym (map-append f zs (z ∷ [])) ∙ ap (map f) (sym e) in
-    subst (λ (ys : List Y). Each R (xs ++ x ∷ []) ys) grown (Each-push R xs (map f zs) x (f z) each here)
+    subst (λ (ys : List Y). AllZip R (xs ++ x ∷ []) ys) grown (AllZip-push R xs (map f zs) x (f z) each here)
 
 -- the first i items of a list, and the next one
-pub Each-take_next : {X Y : Type 0} (R : X → Y → Type 0) (xs : List X) (i : ℕ) (ys : List Y) (x : X) (y : Y) → i < length xs → slice_index_or xs i x ≡ x → Each R (take i xs) ys → R x y → Each R (take (i + 1) xs) (ys ++ y ∷ [])
-Each-take_next R xs i ys x y within at each here =
+pub AllZip-take_next : {X Y : Type 0} (R : X → Y → Type 0) (xs : List X) (i : ℕ) (ys : List Y) (x : X) (y : Y) → i < length xs → slice_index_or xs i x ≡ x → AllZip R (take i xs) ys → R x y → AllZip R (take (i + 1) xs) (ys ++ y ∷ [])
+AllZip-take_next R xs i ys x y within at each here =
     let next : suc i ≡ i + 1 = omega arith in
-    subst (λ zs. Each R zs (ys ++ y ∷ [])) (ap (λ z. take i xs ++ z ∷ []) (sym at) ∙ sym (take-suc xs i x within) ∙ ap (λ n. take n xs) next) (Each-push R (take i xs) ys x y each here)
+    subst (λ zs. AllZip R zs (ys ++ y ∷ [])) (ap (λ z. take i xs ++ z ∷ []) (sym at) ∙ sym (take-suc xs i x within) ∙ ap (λ n. take n xs) next) (AllZip-push R (take i xs) ys x y each here)
 
 -- a list with nothing left behind it is whole
 pub nothing_left : {A : Type 0} (whole xs rest : List A) → xs ++ rest ≡ whole → length rest ≡ 0 → xs ≡ whole

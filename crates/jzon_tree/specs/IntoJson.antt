@@ -1,14 +1,8 @@
 -- What a source means as a value (docs/RULES.md, "Conversions").
-use Rattle.std.specs.Prelude.{◌≡◌, ℕ, List, [], ◌∷◌, Option, None, Some, IsPermutation}
+use Rattle.std.specs.Prelude.{◌≡◌, ℕ, List, Option, None, Some, IsPermutation}
+use Rattle.std.specs.List.{AllZip}
 use Rattle.jzon_base.specs.PairList.{put_each}
 use Rattle.jzon_tree.specs.Value.{Value, null, array, object, values_of, pairs_of}
-
--- the lists are of one length, and the relation holds at each place
-abbrev pub Each : {X Y : Type 0} → (X → Y → Type 0) → List X → List Y → Type 0
-Each R [] [] = Unit {0}
-Each R [] (y ∷ ys) = ⊥
-Each R (x ∷ xs) [] = ⊥
-Each R (x ∷ xs) (y ∷ ys) = R x y × Each R xs ys
 
 -- `None` means null, and `Some` what is in it means
 abbrev pub OptionMeans : {X : Type 0} → (X → Value → Type 0) → Option X → Value → Type 0
@@ -17,15 +11,15 @@ OptionMeans means (Some x) v = means x v
 
 -- a list means an array of what its items mean, one by one
 abbrev pub ListMeans : {X : Type 0} → (X → Value → Type 0) → List X → Value → Type 0
-ListMeans means xs v = (vs : List Value) × (v ≡ array (values_of vs)) × Each means xs vs
+ListMeans means xs v = (vs : List Value) × (v ≡ array (values_of vs)) × AllZip means xs vs
 
 -- a lent list means what a list of clones of its items means
 abbrev pub CloneListMeans : {X : Type 0} → (X → X → Type 0) → (X → Value → Type 0) → List X → Value → Type 0
-CloneListMeans {X} is_clone means xs v = (ys : List X) × Each is_clone xs ys × ListMeans means ys v
+CloneListMeans {X} is_clone means xs v = (ys : List X) × AllZip is_clone xs ys × ListMeans means ys v
 
 -- pairs mean pairs of their keys' texts and of what their values mean, one by one
 abbrev pub PairsMean : {K X : Type 0} → (K → List ℕ) → (X → Value → Type 0) → List (K × X) → List (List ℕ × Value) → Type 0
-PairsMean text means = Each (λ p q. (q.0 ≡ text p.0) × means p.1 q.1)
+PairsMean text means = AllZip (λ p q. (q.0 ≡ text p.0) × means p.1 q.1)
 
 -- pairs that are put one after the other: a repeated key keeps the first one's place and takes the last value
 abbrev pub PutMeans : {K X : Type 0} → (K → List ℕ) → (X → Value → Type 0) → List (K × X) → Value → Type 0

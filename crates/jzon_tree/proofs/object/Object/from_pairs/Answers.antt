@@ -1,7 +1,7 @@
 use Rattle.std.proofs.Common.{[], ◌∷◌, ◌++◌, refl}
 use Rattle.jzon_tree.specs.Entries.{entries_of}
 use Rattle.jzon_tree.specs.View.{view}
-use Rattle.jzon_tree.proofs.Means.{Each-push}
+use Rattle.jzon_tree.proofs.Means.{AllZip-push}
 use Rattle.jzon_tree.proofs.PutPairs.{viewed-put_each}
 use Rattle.jzon_tree.proofs.object.Object.from_pairs.Goals as goal
 
@@ -11,6 +11,6 @@ loop-key-preserved g c =
     let key = g.K.AsStr.text c.in-Some.key in
     let value = c.in_ok-into_json.field-0 in (
       pairs ++ (key, view value) ∷ [],
-      Each-push _ c.loop-key.yielded pairs (c.in-Some.key, c.in-Some.value) (key, view value) each (refl, c.in_ok-into_json.ensures.meant),
+      AllZip-push _ c.loop-key.yielded pairs (c.in-Some.key, c.in-Some.value) (key, view value) each (refl, c.in_ok-into_json.ensures.meant),
       viewed-put_each (entries_of c.loop-key.object) (entries_of c.insert.new.self) pairs _ key value before c.as_str.ensures c.in_ok-insert.ensures.ok,
     )

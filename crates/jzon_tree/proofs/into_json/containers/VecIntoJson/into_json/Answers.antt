@@ -1,22 +1,22 @@
 use Rattle.std.proofs.Common.{arith, map, subst}
 use Rattle.std.specs.Vec.Iter.{into_iter_items}
-use Rattle.jzon_tree.specs.IntoJson.{Each}
+use Rattle.std.specs.List.{AllZip}
 use Rattle.jzon_tree.specs.View.{view}
-use Rattle.jzon_tree.proofs.Means.{Each-push_map, one_more, nothing_left}
+use Rattle.jzon_tree.proofs.Means.{AllZip-push_map, one_more, nothing_left}
 use Rattle.jzon_tree.proofs.Views.{view-Array}
 use Rattle.jzon_tree.proofs.into_json.containers.VecIntoJson.into_json.Goals as goal
 
 pub loop-item-preserved : goal.loop-item-preserved
 loop-item-preserved g c = (
   one_more c.args.self.items c.loop-item.yielded (into_iter_items c.loop-item.item-iterator) _ c.in-Some.item c.loop-item.invariant.0 c.in-Some.ensures.steps.0,
-  Each-push_map g.T.IntoJson.means view c.loop-item.yielded c.loop-item.items.items c.push.new.self.items c.in-Some.item c.in_ok-into_json.field-0 c.loop-item.invariant.1 c.in_ok-into_json.ensures.meant c.in_ok-push.ensures.items,
+  AllZip-push_map g.T.IntoJson.means view c.loop-item.yielded c.loop-item.items.items c.push.new.self.items c.in-Some.item c.in_ok-into_json.field-0 c.loop-item.invariant.1 c.in_ok-into_json.ensures.meant c.in_ok-push.ensures.items,
 )
 
 pub returns-clause-meant : goal.returns-clause-meant
 returns-clause-meant g c = (
   map view c.loop-item.items.items,
   view-Array c.loop-item.items,
-  subst (λ xs. Each g.T.IntoJson.means xs (map view c.loop-item.items.items))
+  subst (λ xs. AllZip g.T.IntoJson.means xs (map view c.loop-item.items.items))
       (nothing_left c.args.self.items c.loop-item.yielded (into_iter_items c.loop-item.item-iterator) c.loop-item.invariant.0 (omega (arith, c.in-None.ensures.steps.0, c.loop-item.item-iterator.rest.ok)))
       c.loop-item.invariant.1,
 )

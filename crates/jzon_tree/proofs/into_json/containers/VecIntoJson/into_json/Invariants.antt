@@ -1,9 +1,9 @@
 use Rattle.std.proofs.Common.{◌≡◌, ◌++◌, map}
 use Rattle.std.specs.Vec.Iter.{into_iter_items}
-use Rattle.jzon_tree.specs.IntoJson.{Each}
+use Rattle.std.specs.List.{AllZip}
 use Rattle.jzon_tree.specs.View.{view}
 use Rattle.jzon_tree.proofs.into_json.containers.VecIntoJson.into_json.Given as goal
 
 abbrev pub invariant-loop-item : goal.invariant-loop-item
 invariant-loop-item g l =
-    (l.yielded ++ into_iter_items l.item-iterator ≡ l.fn.self.items) × Each g.T.IntoJson.means l.yielded (map view l.items.items)
+    (l.yielded ++ into_iter_items l.item-iterator ≡ l.fn.self.items) × AllZip g.T.IntoJson.means l.yielded (map view l.items.items)
