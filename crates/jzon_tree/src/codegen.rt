@@ -164,3 +164,6 @@ fn hex_digit(digit: u8) -> char
 {
     char::from_digit(u32::from(digit), 16).unwrap_or('0')
 }
+
+#[cfg(test)]
+mod tests;
