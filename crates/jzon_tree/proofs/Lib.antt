@@ -2,6 +2,7 @@ pub mod Compared
 pub mod Dumps
 pub mod Emitting
 pub mod Exits
+pub mod Lines
 pub mod Members
 pub mod Orders
 pub mod Ordered

@@ -11,6 +11,7 @@ ghost use Rattle.jzon_tree.specs.View.{view, view_object, view_values};
 
 mod dump;
 mod generator;
+mod lines;
 mod pretty;
 mod pretty_writer;
 mod print;

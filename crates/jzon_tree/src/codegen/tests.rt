@@ -182,6 +182,45 @@ fn writes_to_a_writer(rt: HostRuntime) -> Tested {
     Ok(())
 }
 
+#[test]
+fn prettifies(rt: HostRuntime) -> Tested {
+    let mut items = Vec::new(rt.alloc());
+    items.push(number(1))?;
+    items.push(JsonValue::Boolean(true))?;
+    items.push(JsonValue::String(String::from_str(rt.alloc(), "three")?))?;
+    let rows = [
+        (
+            empty_containers(rt.alloc())?,
+            2,
+            "{\n  \"a\": [],\n  \"b\": {}\n}",
+        ),
+        (array(rt.alloc(), &[1])?, 0, "[\n1\n]"),
+        (
+            JsonValue::Array(items),
+            4,
+            "[\n    1,\n    true,\n    \"three\"\n]",
+        ),
+    ];
+    for (value, spaces, text) in &rows {
+        assert_eq!(rt; value.pretty(rt.alloc(), *spaces)?.as_str(), *text);
+        let mut bytes = Vec::new(rt.alloc());
+        value.write_pretty(&mut bytes, *spaces)?;
+        assert_eq!(rt; bytes.as_slice(), text.as_bytes());
+    }
+    assert_eq!(rt;
+        array(rt.alloc(), &[1])?.pretty(rt.alloc(), 65535)?.len(),
+        65540
+    );
+    let mut object = Object::new(rt.alloc());
+    object.insert(rt.alloc(), "a", number(1))?;
+    object.insert(rt.alloc(), "b", array(rt.alloc(), &[2])?)?;
+    assert_eq!(rt;
+        object.pretty(rt.alloc(), 1)?.as_str(),
+        "{\n \"a\": 1,\n \"b\": [\n  2\n ]\n}"
+    );
+    Ok(())
+}
+
 fn write_complex<G: Generator>(generator: &mut G) -> io::Result<()> {
     generator.write_string_complex("ab\"c", 2)?;
     generator.write_string_complex("ab\"c", 3)
