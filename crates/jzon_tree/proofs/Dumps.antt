@@ -51,7 +51,7 @@ more_values-past (v ∷ vs) zero h = absurd (omega arith)
 more_values-past (v ∷ vs) (suc i) h = more_values-past vs i (omega arith)
 
 -- ---- a text that grows: where p and q of what is left are added, the whole stays
-grown : (before one two p q left after whole : List ℕ) → one ≡ before ++ p → two ≡ one ++ q → left ≡ p ++ (q ++ after) → before ++ left ≡ whole → two ++ after ≡ whole
+pub grown : (before one two p q left after whole : List ℕ) → one ≡ before ++ p → two ≡ one ++ q → left ≡ p ++ (q ++ after) → before ++ left ≡ whole → two ++ after ≡ whole
 grown before one two p q left after whole e f l h =
     rw (f, e, append_assoc (before ++ p) q after, append_assoc before p (q ++ after)) (ap (λ (x : List ℕ). before ++ x) (sym l) ∙ h)
 
@@ -72,7 +72,7 @@ compact-object k v ps =
     rw (compact-at 1 0 (view v)) (ap (λ (x : List ℕ). 123 ∷ x) (append_assoc (quoted k ++ codes ":") (compact (view v)) (more_pairs ps)))
 
 -- p and q are what is added first, and the text ends as what was left then
-whole : (old one two p q left out : List ℕ) → one ≡ old ++ p → two ≡ one ++ q → out ≡ two ++ left → out ≡ old ++ (p ++ (q ++ left))
+pub whole : (old one two p q left out : List ℕ) → one ≡ old ++ p → two ≡ one ++ q → out ≡ two ++ left → out ≡ old ++ (p ++ (q ++ left))
 whole old one two p q left out e f h = h ∙ rw (f, e, append_assoc (old ++ p) q left, append_assoc old p (q ++ left)) refl
 
 pub array_whole : (old one two before out opening closing : List ℕ) (items vs : List JsonValue) (i : ℕ) (v : JsonValue) → items ≡ v ∷ vs → opening ≡ 91 ∷ [] → one ≡ old ++ opening → two ≡ one ++ compact (view v)

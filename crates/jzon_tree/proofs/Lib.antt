@@ -3,6 +3,7 @@ pub mod Dumps
 pub mod LentSteps
 pub mod Emitting
 pub mod Exits
+pub mod Lines
 pub mod Members
 pub mod Orders
 pub mod Ordered

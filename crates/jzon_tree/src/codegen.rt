@@ -11,6 +11,7 @@ ghost use Rattle.jzon_tree.specs.View.{view, view_object, view_values};
 
 mod dump;
 mod generator;
+mod lines;
 mod pretty;
 mod pretty_writer;
 mod print;
@@ -164,3 +165,6 @@ fn hex_digit(digit: u8) -> char
 {
     char::from_digit(u32::from(digit), 16).unwrap_or('0')
 }
+
+#[cfg(test)]
+mod tests;
