@@ -13,3 +13,4 @@ pub mod Walks
 pub mod Trees
 pub mod Search
 pub mod Zips
+pub mod PlainBlocks
