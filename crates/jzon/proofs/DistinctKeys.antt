@@ -1,5 +1,5 @@
 -- Keys that are new each, and pairs of such keys that are put one after the other.
-use Rattle.std.proofs.Common.{◌≡◌, ◌∙◌, ℕ, List, [], ◌∷◌, ◌++◌, Bool, false, ◌||◌, refl, sym, ap, append_assoc, append-nil}
+use Rattle.std.proofs.Common.{◌≡◌, ◌∙◌, ℕ, List, [], ◌∷◌, ◌++◌, Bool, true, false, cond, ◌||◌, refl, sym, ap, append_assoc, append-nil}
 use Rattle.std.specs.Prelude.{⊤, ◌≢◌, AllPairs}
 use Rattle.std.specs.List.{fold, AllByRecursion, IsDistinct}
 use Rattle.std.specs.Str.{bytes_eq}
@@ -68,3 +68,35 @@ module _ {V : Type 0} where
 
   pub put_each-new : (ps : List (List ℕ × V)) → AreNew [] (keys_of ps) → put_each ps ≡ ps
   put_each-new ps new = put_onto [] [] ps new (λ k h. refl)
+
+  -- ---- whatever is put, the keys are distinct
+
+  apart_put : (l k : List ℕ) (v : V) (ps : List (List ℕ × V)) → bytes_eq l k ≡ false → AllByRecursion (λ y. bytes_eq l y ≡ false) (keys_of ps)
+      → AllByRecursion (λ y. bytes_eq l y ≡ false) (keys_of (put k v ps))
+  apart_put l k v [] e all = (e, tt)
+  apart_put l k v (p ∷ ps) e all =
+      apart_by (bytes_eq p.0 k) (apart_put l k v ps e all.1)
+    where
+      apart_by : (b : Bool) → AllByRecursion (λ y. bytes_eq l y ≡ false) (keys_of (put k v ps))
+          → AllByRecursion (λ y. bytes_eq l y ≡ false) (keys_of (cond b ((p.0, v) ∷ ps) (p ∷ put k v ps)))
+      apart_by true rest = all
+      apart_by false rest = (all.0, rest)
+
+  IsDistinct-put_by : (b : Bool) (k : List ℕ) (v : V) (p : List ℕ × V) (ps : List (List ℕ × V)) → bytes_eq p.0 k ≡ b → IsDistinct bytes_eq (keys_of (p ∷ ps))
+      → IsDistinct bytes_eq (keys_of (put k v ps)) → IsDistinct bytes_eq (keys_of (cond b ((p.0, v) ∷ ps) (p ∷ put k v ps)))
+  unfolding IsDistinct
+  IsDistinct-put_by true k v p ps e d rest = d
+  IsDistinct-put_by false k v p ps e d rest = (apart_put p.0 k v ps e d.0, rest)
+
+  IsDistinct-put : (k : List ℕ) (v : V) (ps : List (List ℕ × V)) → IsDistinct bytes_eq (keys_of ps) → IsDistinct bytes_eq (keys_of (put k v ps))
+  unfolding IsDistinct
+  IsDistinct-put k v [] d = (tt, tt)
+  IsDistinct-put k v (p ∷ ps) d = IsDistinct-put_by (bytes_eq p.0 k) k v p ps refl d (IsDistinct-put k v ps (IsDistinct-tail bytes_eq p.0 (keys_of ps) d))
+
+  IsDistinct-put_onto : (qs ps : List (List ℕ × V)) → IsDistinct bytes_eq (keys_of qs) → IsDistinct bytes_eq (keys_of (fold (λ xs p. put p.0 p.1 xs) qs ps))
+  IsDistinct-put_onto qs [] d = d
+  IsDistinct-put_onto qs (p ∷ ps) d = IsDistinct-put_onto (put p.0 p.1 qs) ps (IsDistinct-put p.0 p.1 qs d)
+
+  pub IsDistinct-put_each : (ps : List (List ℕ × V)) → IsDistinct bytes_eq (keys_of (put_each ps))
+  unfolding IsDistinct
+  IsDistinct-put_each ps = IsDistinct-put_onto [] ps tt

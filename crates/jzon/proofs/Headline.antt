@@ -1,5 +1,5 @@
 -- Without a strict reading a result that the machine over values gives is the answer to the text.
-use Rattle.std.proofs.Common.{inl, inr, ◌≡◌, ℕ, ◌-◌, List, length, false, Result, Ok, Err, subst}
+use Rattle.std.proofs.Common.{inl, inr, ◌≡◌, ℕ, ◌-◌, List, length, false, Result, Ok, Err, subst, sym}
 use Rattle.jzon_base.specs.declared.error.Error.{Error}
 use Rattle.jzon_tree.specs.View.{view}
 use Rattle.jzon_tree.specs.declared.value.JsonValue.{JsonValue}
@@ -7,11 +7,12 @@ use Rattle.jzon.specs.Reading.{Reading}
 use Rattle.jzon.specs.Meaning.{meaning}
 use Rattle.jzon.specs.Machine.{no_frames, before, outcome, Reads}
 use Rattle.std.specs.Prelude.{IfOk, IfErr}
-use Rattle.jzon.specs.Answer.{Answers, IsMeaningOf, IsErrorUnlessMemory}
+use Rattle.jzon.specs.Answer.{Answers, IsMeaningOf, IsReadable, IsErrorUnlessMemory}
 use Rattle.jzon.proofs.TreeMachine.{start}
 use Rattle.jzon.proofs.TreeAnswer.{Answer, tree, refused, answer}
 use Rattle.jzon.proofs.Verdict.{Verdict, answers}
 use Rattle.jzon.proofs.Image.{image_answer, outcome_image}
+use Rattle.jzon.proofs.MeaningHeld.{meaning_held}
 
 answers_by : (r : Reading) (t : List ℕ) (result : Result JsonValue Error) (a : Answer) → Verdict r t a → Reads t result (image_answer a) → Answers r t result
 answers_by r t (Ok v) (tree d) told read = let same : view v ≡ meaning d.node = cc in (d, told, same)
@@ -29,6 +30,10 @@ answers_of r e t result read =
 pub value_of : (r : Reading) (t : List ℕ) (result : Result JsonValue Error) → Answers r t result → IfOk result (IsMeaningOf r t)
 value_of r t (Ok v) h = h
 value_of r t (Err e) h = tt
+
+pub readable_of : (r : Reading) (t : List ℕ) (result : Result JsonValue Error) → Answers r t result → IfOk result (λ v. IsReadable r (view v))
+readable_of r t (Ok v) h = subst (λ w. IsReadable r w) (sym h.2) (meaning_held r t h.0 h.1)
+readable_of r t (Err e) h = tt
 
 pub error_of : (r : Reading) (t : List ℕ) (result : Result JsonValue Error) → Answers r t result → IfErr result (IsErrorUnlessMemory r t)
 error_of r t (Ok v) h = tt

@@ -68,3 +68,5 @@ pub mod Orders
 pub mod JoinedTrees
 pub mod ReadsBack
 pub mod WritingRows
+pub mod UnmarkedCells
+pub mod MeaningHeld

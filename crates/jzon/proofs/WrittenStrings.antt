@@ -212,10 +212,10 @@ pub bytes_of-items_for : (s : List ℕ) → IsUtf8 s → bytes_of (items_for s) 
 unfolding bytes_of
 bytes_of-items_for s u = ap encode_utf8_all (items_mean (chars s) (scalars-chars s u)) ∙ encodes-chars s u
 
-IsUtf8-scalars : (cs : List ℕ) → scalars cs ≡ true → IsUtf8 (encode_utf8_all cs)
+pub IsUtf8-scalars : (cs : List ℕ) → scalars cs ≡ true → IsUtf8 (encode_utf8_all cs)
 IsUtf8-scalars cs h = (cs, (h, refl))
 
-scalars-append : (xs ys : List ℕ) → scalars xs ≡ true → scalars ys ≡ true → scalars (xs ++ ys) ≡ true
+pub scalars-append : (xs ys : List ℕ) → scalars xs ≡ true → scalars ys ≡ true → scalars (xs ++ ys) ≡ true
 scalars-append [] ys h k = k
 scalars-append (x ∷ xs) ys h k = let t = and_parts (scalar x) (scalars xs) h in rw t.0 (scalars-append xs ys t.1 k)
 

@@ -1,7 +1,9 @@
 -- What a parser answers for a text.
-use Rattle.std.specs.Prelude.{◌≡◌, ◌⊎◌, ℕ, List, Contains, Result, Ok, Err}
+use Rattle.std.specs.Prelude.{◌≡◌, ◌⊎◌, ℕ, ◌≤◌, List, Contains, Result, Ok, Err}
 use Rattle.jzon_base.specs.declared.error.Error.{Error}
 use Rattle.jzon_base.specs.declared.error.Error.TheVariants.{OutOfMemory}
+use Rattle.jzon_tree.specs.Value.{Value, nest}
+use Rattle.jzon_tree.specs.Lawful.{IsValue, HasNoNan}
 use Rattle.jzon_tree.specs.View.{view}
 use Rattle.jzon_tree.specs.declared.value.JsonValue.{JsonValue}
 use Rattle.jzon.specs.Reading.{Reading}
@@ -12,6 +14,10 @@ use Rattle.jzon.specs.Fault.{Parses, IsErrorOf}
 -- a tree that breaks no limit spells the text, and the value is its meaning, part for part
 abbrev pub IsMeaningOf : Reading → List ℕ → JsonValue → Type 0
 IsMeaningOf r t v = (d : Document) × Parses r t d × (view v ≡ meaning d.node)
+
+-- The laws `redump` and `reads_back` speak of it: numbers in range and no NaN, texts of UTF-8, distinct keys, and non-empty containers no deeper than allowed.
+abbrev pub IsReadable : Reading → Value → Type 0
+IsReadable r v = IsValue v × HasNoNan v × (nest v ≤ r.depth)
 
 -- memory was refused, or the error is that of the text's first fault
 abbrev pub IsErrorUnlessMemory : Reading → List ℕ → Error → Type 0

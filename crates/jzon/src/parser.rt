@@ -4,7 +4,7 @@ ghost use Rattle.std.specs.Prelude.{◌≡◌, ◌≢◌, ◌<◌, ◌≤◌, le
 ghost use Rattle.std.specs.Str.{IsCharBoundary};
 ghost use Rattle.jzon_tree.specs.View.{view};
 ghost use Rattle.jzon_tree.specs.Writing.{is_space};
-ghost use Rattle.jzon.specs.Answer.{IsMeaningOf, IsErrorUnlessMemory, TakesMemory};
+ghost use Rattle.jzon.specs.Answer.{IsMeaningOf, IsReadable, IsErrorUnlessMemory, TakesMemory};
 ghost use Rattle.jzon.specs.Frames.{stack_view, place_of, IsAtElement, IsReady};
 ghost use Rattle.jzon.specs.Machine.{no_frames, before, behind, from, TellsUnlessMemory, Reads};
 ghost use Rattle.jzon.specs.Reading.{usual};
@@ -21,6 +21,7 @@ use std::alloc::Global;
 /// a string nor an array nor an object takes no memory.
 pub fn parse(alloc: Global, source: &str) -> Result<JsonValue>
     ensures value { IfOk result (IsMeaningOf usual (chars source.now)) }
+    ensures readable { IfOk result (λ v. IsReadable usual (view v)) }
     ensures error { IfErr result (IsErrorUnlessMemory usual (chars source.now)) }
     ensures memory { result ≡ Err Error.OutOfMemory → TakesMemory (chars source.now) }
 {

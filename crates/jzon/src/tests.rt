@@ -1,5 +1,10 @@
 // Texts of each kind: the parts and the compact text of what is read, and the kind and place of each error.
-use crate::{JsonValue, parse};
+ghost use Rattle.std.specs.Prelude.{◌≡◌, IfOk, string_bytes};
+ghost use Rattle.jzon_tree.specs.Text.{compact};
+ghost use Rattle.jzon.specs.Laws.{IsReadAs};
+ghost use Rattle.jzon.specs.Reading.{usual};
+
+use crate::{JsonValue, laws, parse};
 use std::alloc::{AllocError, Global};
 use std::process::Abort;
 use std::test::Fail;
@@ -464,5 +469,24 @@ fn refuses_another_open_container(rt: HostRuntime) -> Result<(), Fail> {
         let text = joined_text(rt.alloc(), parts)?;
         expect_refused(&rt, rt.alloc(), text.as_str(), words)?;
     }
+    Ok(())
+}
+
+// What a caller's proof knows of what is read and printed: the printed text is read again, as a value that prints this text.
+fn printed_again(alloc: Global, text: &str) -> crate::Result<String>
+    ensures { IfOk result (λ printed. IsReadAs usual (string_bytes printed) (λ v. compact v ≡ string_bytes printed)) }
+{
+    let value = parse(alloc, text)?;
+    laws::redump();
+    let printed = value.dump(alloc)?;
+    Ok(printed)
+}
+
+#[test]
+fn prints_what_is_read(rt: HostRuntime) -> Result<(), Fail> {
+    let printed = printed_again(rt.alloc(), " { \"a\" : [ 1.50 ] } ")?;
+    assert_eq!(rt; printed.as_str(), "{\"a\":[1.50]}");
+    let again = printed_again(rt.alloc(), printed.as_str())?;
+    assert_eq!(rt; again.as_str(), printed.as_str());
     Ok(())
 }

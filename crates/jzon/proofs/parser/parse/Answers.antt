@@ -3,7 +3,7 @@ use Rattle.std.specs.Prelude.{chars}
 use Rattle.jzon.specs.Answer.{Answers}
 use Rattle.jzon.specs.Machine.{from}
 use Rattle.jzon.specs.Reading.{usual}
-use Rattle.jzon.proofs.Headline.{answers_of, value_of, error_of}
+use Rattle.jzon.proofs.Headline.{answers_of, value_of, readable_of, error_of}
 use Rattle.jzon.proofs.parser.parse.Goals as goal
 
 answer : (c : goal.After-read) → Answers usual (chars c.args.source.now) c.read.result
@@ -12,6 +12,9 @@ answer c = answers_of usual refl (chars c.args.source.now) c.read.result c.read.
 
 pub returns-clause-value : goal.returns-clause-value
 returns-clause-value c = value_of usual (chars c.args.source.now) c.read.result (answer c)
+
+pub returns-clause-readable : goal.returns-clause-readable
+returns-clause-readable c = readable_of usual (chars c.args.source.now) c.read.result (answer c)
 
 pub returns-clause-error : goal.returns-clause-error
 returns-clause-error c = error_of usual (chars c.args.source.now) c.read.result (answer c)
