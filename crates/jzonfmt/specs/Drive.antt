@@ -1,9 +1,13 @@
 -- What the program does for its words (docs/RULES.md, "The program").
-use Rattle.std.specs.Prelude.{◌≡◌, ℕ, List, [], ◌∷◌, Result, Ok, Err, Option, None, Some, codes, MatchOption}
+use Rattle.std.specs.Prelude.{◌≡◌, ℕ, ◌^◌, List, [], ◌∷◌, length, nat_le, nat_lt, ◌&&◌, if◌then◌else◌, Result, Ok, Err, Option, None, Some, option_map, codes, MatchOption}
+use Rattle.std.specs.Char.{is_digit}
+use Rattle.std.specs.List.{list_all}
+use Rattle.std.specs.Str.{bytes_eq}
+use Rattle.std.specs.Str.Parse.{digits_value}
 use Rattle.std.specs.Io.KnownBytes.{Keeps}
 use Rattle.jzon.specs.ErrorText.{error_text}
 use Rattle.jzonfmt.specs.declared.engine.Layout.{Layout}
-use Rattle.jzonfmt.specs.declared.engine.Layout.TheVariants.{Compact}
+use Rattle.jzonfmt.specs.declared.engine.Layout.TheVariants.{Compact, Pretty}
 use Rattle.jzonfmt.specs.declared.engine.RunFault.{RunFault}
 use Rattle.jzonfmt.specs.declared.engine.RunFault.TheVariants.{Read, NotUtf8, Json, Write, Memory}
 use Rattle.jzonfmt.specs.Run.{Runs}
@@ -26,13 +30,19 @@ abbrev pub status_of : {T : Type 0} → Result T RunFault → ℕ
 status_of (Ok _) = 0
 status_of (Err fault) = fault_status fault
 
--- the layout that the words ask for, where they ask for one: no word asks for the compact one
-abbrev pub asked_layout : {A : Type 0} → List A → Option Layout
+-- so many blanks as a word of one to five decimal digits names, of which there are at most 65535
+abbrev pub asked_spaces : List ℕ → Option ℕ
+asked_spaces n =
+    if nat_lt 0 (length n) && nat_le (length n) 5 && list_all (λ c. is_digit c 10) n && nat_lt (digits_value 10 n) (2 ^ 16) then Some (digits_value 10 n) else None
+
+-- the layout that the words ask for, where they ask for one: no word asks for the compact one, and `--pretty N` for the pretty one with N blanks
+abbrev pub asked_layout : List (List ℕ) → Option Layout
 asked_layout [] = Some Compact
-asked_layout (_ ∷ _) = None
+asked_layout (option ∷ spaces ∷ []) = if bytes_eq option (codes "--pretty") then option_map Pretty (asked_spaces spaces) else None
+asked_layout _ = None
 
 -- Words that ask for no layout are answered by 2, with nothing read or written; the others by a run and its status.
-abbrev pub Drives : {A : Type 0} → List A → ℕ → Option (List ℕ) → Option (List ℕ) → Option (List ℕ) → Option (List ℕ) → Type 0
+abbrev pub Drives : List (List ℕ) → ℕ → Option (List ℕ) → Option (List ℕ) → Option (List ℕ) → Option (List ℕ) → Type 0
 Drives words status r s w x =
     MatchOption (asked_layout words)
     ((status ≡ 2) × Keeps r s × Keeps w x)

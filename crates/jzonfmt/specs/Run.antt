@@ -5,13 +5,13 @@ use Rattle.std.specs.Io.KnownBytes.{Appends, Keeps, Consumes, IsAtEnd}
 use Rattle.jzon.specs.Error.{Error}
 use Rattle.jzon.specs.Error.TheVariants.{OutOfMemory}
 use Rattle.jzon.specs.Written.{AppendsBeginning}
-use Rattle.jzon.specs.Text.{compact}
+use Rattle.jzon.specs.Text.{compact, pretty}
 use Rattle.jzon.specs.Reading.{usual}
 use Rattle.jzon.specs.Grammar.{Document}
 use Rattle.jzon.specs.Meaning.{meaning}
 use Rattle.jzon.specs.Fault.{Parses, IsErrorOf}
 use Rattle.jzonfmt.specs.declared.engine.Layout.{Layout}
-use Rattle.jzonfmt.specs.declared.engine.Layout.TheVariants.{Compact}
+use Rattle.jzonfmt.specs.declared.engine.Layout.TheVariants.{Compact, Pretty}
 use Rattle.jzonfmt.specs.declared.engine.RunFault.{RunFault}
 use Rattle.jzonfmt.specs.declared.engine.RunFault.TheVariants.{Read, NotUtf8, Json, Write, Memory}
 
@@ -43,6 +43,7 @@ IsTextOf input d = IsUtf8 input × Parses usual (chars input) d
 -- the text of its meaning in the layout, and a newline
 abbrev pub printed : Layout → Document → List ℕ
 printed Compact d = compact (meaning d.node) ++ 10 ∷ []
+printed (Pretty spaces) d = pretty (meaning d.node) spaces 0 ++ 10 ∷ []
 
 -- what is printed for the bytes, or why nothing is
 abbrev pub Prints : {A : Type 0} → Layout → List ℕ → Result (String A) RunFault → Type 0

@@ -1,9 +1,9 @@
 //! What the program does, over any reader and any writers.
 
-ghost use Rattle.std.specs.Prelude.{◌≡◌, ℕ, List, IfOk, IfErr, vec_len};
+ghost use Rattle.std.specs.Prelude.{◌≡◌, ℕ, List, IfOk, IfErr, map, string_bytes, vec_len};
 ghost use Rattle.std.specs.Io.KnownBytes.{Consumes, Keeps};
 ghost use Rattle.jzonfmt.specs.Run.{IsReadFault, Prints, Reads, Runs};
-ghost use Rattle.jzonfmt.specs.Drive.{Drives, asked_layout, fault_status};
+ghost use Rattle.jzonfmt.specs.Drive.{Drives, asked_layout, asked_spaces, fault_status};
 
 use jzon::{Error, util};
 use std::alloc::{AllocError, Global};
@@ -15,6 +15,8 @@ use std::{fmt, io};
 pub enum Layout {
     /// Without whitespace.
     Compact,
+    /// With each item, each key and each closing bracket on a line of its own, behind so many blanks for each open container.
+    Pretty(u16),
 }
 
 /// Why no document was printed, or not the whole of it.
@@ -142,6 +144,7 @@ fn printed_text(alloc: Global, input: &[u8], layout: Layout) -> Result<String, R
     let value = jzon::parse(alloc, source)?;
     let mut text = match layout {
         Layout::Compact => value.dump(alloc)?,
+        Layout::Pretty(spaces) => value.pretty(alloc, spaces)?,
     };
     text.push('\n')?;
     Ok(text)
@@ -156,12 +159,12 @@ pub fn drive<R: Read, W: Write, F: Write>(
     writer: &mut W,
     faults: &mut F,
 ) -> u8
-    ensures status { Drives words.now result (R.remaining reader.old) (R.remaining reader.new)
+    ensures status { Drives (map string_bytes words.now) result (R.remaining reader.old) (R.remaining reader.new)
         (W.contents writer.old) (W.contents writer.new) }
     ensures silent { result ≡ 0 → Keeps (F.contents faults.old) (F.contents faults.new) }
 {
     let Some(layout) = layout_of(words) else {
-        let _ = writeln!(faults, "jzonfmt: usage: jzonfmt");
+        let _ = writeln!(faults, "jzonfmt: usage: jzonfmt [--pretty N]");
         return 2;
     };
     match run_and_flush(alloc, reader, writer, layout) {
@@ -172,12 +175,25 @@ pub fn drive<R: Read, W: Write, F: Write>(
 
 // The layout that the words ask for.
 fn layout_of(words: &[String]) -> Option<Layout>
-    ensures { result ≡ asked_layout words.now }
+    ensures { result ≡ asked_layout (map string_bytes words.now) }
 {
     match words {
         [] => Some(Layout::Compact),
+        [option, spaces] if option.as_str() == "--pretty" => {
+            Some(Layout::Pretty(spaces_of(spaces.as_str())?))
+        }
         _ => None,
     }
+}
+
+// The count of blanks that a word of one to five decimal digits names.
+fn spaces_of(word: &str) -> Option<u16>
+    ensures { result ≡ asked_spaces word.now }
+{
+    if word.len() > 5 || word.as_bytes().first().copied() == Some(b'+') {
+        return None;
+    }
+    word.parse().ok()
 }
 
 // Runs, and then flushes the writer.

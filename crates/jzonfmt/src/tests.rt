@@ -146,13 +146,23 @@ fn refused(input: &'static [u8], faults: &'static str) -> Row {
     }
 }
 
+fn pretty(words: &'static str, input: &'static [u8], output: &'static str) -> Row {
+    Row {
+        words: Some(words),
+        input,
+        status: 0,
+        output,
+        faults: "",
+    }
+}
+
 fn misused(words: &'static str) -> Row {
     Row {
         words: Some(words),
         input: TEXT,
         status: 2,
         output: "",
-        faults: "jzonfmt: usage: jzonfmt\n",
+        faults: "jzonfmt: usage: jzonfmt [--pretty N]\n",
     }
 }
 
@@ -201,12 +211,41 @@ fn lines_and_statuses(rt: HostRuntime) -> Result<(), Fail> {
         refused(b"null\xed\xa0\x80", "jzonfmt: input is not UTF-8\n"),
         misused(""),
         misused("-"),
-        misused("--pretty"),
-        misused("--pretty,2"),
+        misused("--compact"),
         misused("--strict"),
     ];
     for row in &rows {
         expect_row(&rt, alloc, row)?;
+    }
+    Ok(())
+}
+
+#[test]
+fn prints_on_lines(rt: HostRuntime) -> Result<(), Fail> {
+    let rows = [
+        pretty(
+            "--pretty,2",
+            b"{\"a\":[1,{}]}",
+            "{\n  \"a\": [\n    1,\n    {}\n  ]\n}\n",
+        ),
+        pretty("--pretty,007", b"[1]", "[\n       1\n]\n"),
+        pretty("--pretty,0", b"[1]", "[\n1\n]\n"),
+        pretty("--pretty,00001", b"[[],1]", "[\n [],\n 1\n]\n"),
+        pretty("--pretty,65535", TEXT, "-12500\n"),
+        misused("--pretty"),
+        misused("--pretty,65536"),
+        misused("--pretty,000001"),
+        misused("--pretty,"),
+        misused("--pretty,+2"),
+        misused("--pretty,-2"),
+        misused("--pretty,2x"),
+        misused("--pretty,2,2"),
+        misused("--pretty,2,--pretty,2"),
+        misused("2,--pretty"),
+        misused("-pretty,2"),
+    ];
+    for row in &rows {
+        expect_row(&rt, rt.alloc(), row)?;
     }
     Ok(())
 }
