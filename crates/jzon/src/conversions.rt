@@ -1,7 +1,7 @@
 //! Values and texts made of whatever turns into a value (docs/RULES.md, "Conversions").
 
 ghost use Rattle.std.specs.Prelude.{◌≡◌, IfOk, IsOkUnless, string_bytes};
-ghost use Rattle.jzon_tree.specs.Text.{compact};
+ghost use Rattle.jzon_tree.specs.Text.{compact, pretty};
 ghost use Rattle.jzon_tree.specs.Value.{Value};
 ghost use Rattle.jzon_tree.specs.View.{view};
 
@@ -24,4 +24,13 @@ pub fn stringify<T: IntoJson>(alloc: Global, root: T) -> Result<String>
     ensures memory { IsOkUnless result Error.OutOfMemory }
 {
     root.into_json(alloc)?.dump(alloc)
+}
+
+/// The text of the value that `root` turns into, with a line for each item and `spaces` blanks for each container around it. Refused by `OutOfMemory` alone.
+pub fn stringify_pretty<T: IntoJson>(alloc: Global, root: T, spaces: u16) -> Result<String>
+    ensures text { IfOk result
+        (λ text. (v : Value) × T.means root v × (string_bytes text ≡ pretty v spaces 0)) }
+    ensures memory { IsOkUnless result Error.OutOfMemory }
+{
+    root.into_json(alloc)?.pretty(alloc, spaces)
 }

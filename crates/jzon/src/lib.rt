@@ -17,13 +17,13 @@ mod string;
 mod tests;
 pub mod util;
 
-pub use conversions::{from, stringify};
+pub use conversions::{from, stringify, stringify_pretty};
 pub use jzon_base::error::{Error, Error as JsonError, JsonResult, Result};
 pub use jzon_base::{number, short};
 pub use jzon_tree::into_json::IntoJson;
-pub use jzon_tree::lent;
 pub use jzon_tree::value::JsonValue;
 pub use jzon_tree::view::View;
+pub use jzon_tree::{codegen, lent};
 pub use parser::parse;
 
 /// The items of an array.
