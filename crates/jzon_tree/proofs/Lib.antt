@@ -13,6 +13,7 @@ pub mod Seen
 pub mod Sent
 pub mod SentBlanks
 pub mod SentStrings
+pub mod Sorted
 pub mod Unique
 pub mod Views
 pub mod Writings
