@@ -1,18 +1,16 @@
 -- The parts of a container, and what is left of it after a change, as they are seen.
-use Rattle.std.proofs.Common.{◌≡◌, ℕ, List, [], ◌∷◌, ◌++◌, map, length, take, drop, zero, suc, ◌-◌, ◌≤◌, ◌==◌, Bool, ◌||◌, remove, slice_get, length-append, arith, unwrap_or, Option, Some, None, option_map, Vec, Global, Bor, refl, sym, ap, ◌∙◌}
+use Rattle.std.proofs.Common.{◌≡◌, ℕ, List, [], ◌∷◌, ◌++◌, map, length, zero, suc, ◌≤◌, ◌==◌, Bool, ◌||◌, remove, slice_get, arith, unwrap_or, Option, Some, None, option_map, Vec, Global, Bor, refl, sym, ap, ◌∙◌}
 use Rattle.std.specs.List.{list_any}
-use Rattle.std.specs.Option.{option_to_list, option_copied}
 use Rattle.std.proofs.lemmas.List.{length-map}
-use Rattle.std.proofs.lemmas.List.{drop_all}
 use Rattle.std.proofs.lemmas.Option.{slice_get-map, slice_get_past, slice_get-get_or}
 use Rattle.std.specs.Slice.{IsItemAt}
 use Rattle.jzon_base.proofs.Lists.{map-remove}
-use Rattle.jzon_base.specs.PairList.{find, put, cut}
+use Rattle.jzon_base.specs.PairList.{put, cut}
 use Rattle.jzon_tree.specs.Changers.{without_item, with_item, without_entry, with_entry}
-use Rattle.jzon_tree.specs.Entries.{entries_of, with_entries}
+use Rattle.jzon_tree.specs.Entries.{entries_of}
 use Rattle.jzon_tree.specs.Readers.{items, entries, count, is_empty, or_null}
-use Rattle.jzon_tree.specs.Value.{Value, array, object, values_of, pairs_of, list_of_values, list_of_pairs}
-use Rattle.jzon_tree.specs.View.{view, view_object, viewed, view_pairs, view_values}
+use Rattle.jzon_tree.specs.Value.{Value, array, object, values_of, pairs_of, list_of_values}
+use Rattle.jzon_tree.specs.View.{view, viewed, view_pairs, view_values}
 use Rattle.jzon_tree.specs.declared.object.Object.{Object}
 use Rattle.jzon_tree.specs.declared.value.JsonValue.{JsonValue, Null, Array, Object as in_object}
 use Rattle.jzon_tree.proofs.Views.{view-Null, view-Array, view-Object, list_of_pairs-pairs_of, find-viewed, viewed-put, viewed-cut}

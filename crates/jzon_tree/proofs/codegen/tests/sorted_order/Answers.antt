@@ -1,7 +1,6 @@
-use Rattle.std.proofs.Common.{◌∙◌, ap, sym}
+use Rattle.std.proofs.Common.{sym}
 use Rattle.std.proofs.lemmas.List.{length-map}
 use Rattle.jzon_tree.specs.Entries.{entries_of}
-use Rattle.jzon_tree.specs.Generator.{insertion}
 use Rattle.jzon_tree.proofs.Sorted.{IsOrder_permuted}
 use Rattle.jzon_tree.proofs.codegen.tests.sorted_order.Goals as goal
 
