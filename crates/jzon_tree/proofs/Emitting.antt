@@ -1,5 +1,5 @@
 -- What hooks do, one after another.
-use Rattle.std.proofs.Common.{◌≡◌, ℕ, suc, ◌+◌, ◌-◌, ◌≤◌, List, [], ◌∷◌, ◌++◌, refl, sym, ap, subst, ◌∙◌, length, append_assoc, append-nil, add-one, Result, Ok, Err, arith, Option, Some}
+use Rattle.std.proofs.Common.{◌≡◌, ℕ, suc, ◌+◌, ◌-◌, List, [], ◌∷◌, ◌++◌, refl, sym, ap, subst, ◌∙◌, append_assoc, append-nil, add-one, Result, Ok, Err, arith, Option}
 use Rattle.std.specs.Result.{IsErr}
 use Rattle.jzon_tree.proofs.Sent.{adds_same, adds_then, adds_weaker}
 use Rattle.jzon_tree.specs.Generator.{Adds, Begins, Just, Emitted, Added, Failed, Stopped, Emits, noted}

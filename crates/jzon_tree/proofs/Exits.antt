@@ -1,21 +1,15 @@
 -- What was written where the functions that write values return.
-use Rattle.std.proofs.Common.{◌≡◌, ℕ, zero, suc, ◌+◌, ◌-◌, ◌<◌, List, [], ◌∷◌, ◌++◌, length, Result, Option, Some, None, option_map, map, ◌∙◌, ap, subst, get_or, take, drop, append_assoc, append-nil, sym, refl, true, false, Bool, inl, inr, add-one, arith, length-append, length-take}
+use Rattle.std.proofs.Common.{◌≡◌, ℕ, zero, suc, ◌+◌, ◌-◌, ◌<◌, List, [], ◌∷◌, ◌++◌, length, Result, ◌∙◌, ap, subst, get_or, take, append_assoc, append-nil, sym, refl, true, false, Bool, inl, inr, add-one, arith, length-append}
 use Rattle.std.specs.Result.{IsErr}
-use Rattle.std.specs.Prelude.{nat_lt, IsTrue, ◌==◌, slice_get}
-use Rattle.std.proofs.lemmas.Bool.{lt-ltb, eqb-true}
-use Rattle.std.proofs.lemmas.List.{length-map}
-use Rattle.std.specs.declared.vec.Vec.{Vec}
-use Rattle.std.specs.declared.alloc.Global.{Global}
+use Rattle.std.specs.Prelude.{nat_lt, IsTrue}
+use Rattle.std.proofs.lemmas.Bool.{lt-ltb}
 use Rattle.jzon_base.specs.PairList.{keys_of}
-use Rattle.jzon_tree.specs.declared.value.JsonValue.{JsonValue}
-use Rattle.jzon_tree.specs.Generator.{Begins, Just, Emitted, Added, Failed, Stopped, Emits, noted, IsForm, IsAnswer, positions}
+use Rattle.jzon_tree.specs.Generator.{Begins, Just, Emitted, Added, Failed, Stopped, Emits, noted, IsForm}
 use Rattle.jzon_tree.specs.Printing.{IsBetween, IsClosing, AreItems, IsEntry, pair_at, AreMembers, IsKeyed, AreKeyed, AreUnderKeyed, PrintsIf}
-use Rattle.jzon_tree.specs.StyleLaws.{IsOrder-insertion}
 use Rattle.jzon_tree.specs.Text.{quoted}
 use Rattle.jzon_tree.specs.Value.{Value, array, object, values_of, pairs_of}
-use Rattle.jzon_tree.specs.View.{view, viewed}
 use Rattle.jzon_tree.specs.Writing.{Style, IsStyle, IsOrder, Writes, colon_text}
-use Rattle.jzon_tree.proofs.Emitting.{Added-after, Failed-after, Stopped-after, PrintsIf-after, Failed-begins, Stopped-begins, Stopped-failed, PrintsIf-at_err, PrintsIf-just, stopped_at_opening, stopped_at_indent, stopped_inside, printed_at_close}
+use Rattle.jzon_tree.proofs.Emitting.{Added-after, Failed-after, Stopped-after, Failed-begins, Stopped-begins, Stopped-failed, PrintsIf-at_err, stopped_at_opening, stopped_at_indent, stopped_inside, printed_at_close}
 use Rattle.jzon_tree.proofs.Members.{members_push, members_begin, some_members, some_entry, object_closed}
 use Rattle.jzon_tree.proofs.Orders.{order_within}
 use Rattle.jzon_tree.proofs.Writings.{some_writing, some_more, some_closing, MoreItems, MoreItems-cons, AreItems-append, array_closed}

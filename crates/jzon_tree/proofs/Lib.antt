@@ -14,6 +14,7 @@ pub mod Seen
 pub mod Sent
 pub mod SentBlanks
 pub mod SentStrings
+pub mod Sorted
 pub mod Unique
 pub mod Views
 pub mod Means

@@ -1,14 +1,14 @@
 -- The pairs of an object, in any order.
-use Rattle.std.proofs.Common.{◌≡◌, ◌≢◌, ℕ, zero, suc, ◌+◌, ◌-◌, ◌<◌, ◌≤◌, Bool, true, false, List, [], ◌∷◌, ◌++◌, refl, sym, ap, subst, ◌∙◌, length, append_assoc, append-nil, arith, map, get_or, take, set, replicate, inl, inr, length-take, length-set}
+use Rattle.std.proofs.Common.{◌≡◌, ◌≢◌, ℕ, zero, suc, ◌+◌, ◌-◌, ◌<◌, ◌≤◌, false, List, [], ◌∷◌, ◌++◌, refl, sym, ap, subst, ◌∙◌, length, append_assoc, append-nil, arith, map, get_or, take, set, replicate, inl, inr, length-take, length-set}
 use Rattle.std.proofs.lemmas.Bool.{cases_lt}
 use Rattle.std.proofs.lemmas.List.{get_or-set_other, get_or-set_same, get_or-take, length-take-le, take_all, length-map, length-replicate}
 use Rattle.std.specs.Prelude.{nat_lt, IsTrue}
 use Rattle.jzon_base.specs.PairList.{keys_of}
 use Rattle.jzon_tree.specs.Generator.{Begins}
 use Rattle.jzon_tree.specs.Text.{quoted}
-use Rattle.jzon_tree.specs.Value.{Value, object, pairs_of, list_of_pairs}
+use Rattle.jzon_tree.specs.Value.{Value, object, pairs_of}
 use Rattle.jzon_tree.specs.Writing.{Style, IsStyle, IsOrder, text_at, Writes, WritesPairs, colon_text}
-use Rattle.jzon_tree.specs.Printing.{IsBetween, IsClosing, Items, IsEntry, pair_at, AreMembers, AreUnderKeyed}
+use Rattle.jzon_tree.specs.Printing.{IsBetween, IsClosing, IsEntry, pair_at, AreMembers, AreUnderKeyed}
 use Rattle.jzon_tree.proofs.Orders.{order_occurs, order_within, order_differs}
 use Rattle.jzon_tree.proofs.Views.{list_of_pairs-pairs_of}
 use Rattle.jzon_tree.proofs.Writings.{some_between, some_writing, encloses, Items-append, needs_comma, needs_comma-after}

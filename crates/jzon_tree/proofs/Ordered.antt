@@ -1,10 +1,10 @@
 -- The pairs of an object in the order that was answered.
-use Rattle.std.proofs.Common.{◌≡◌, ◌≢◌, ℕ, zero, suc, ◌+◌, ◌<◌, ◌≤◌, List, [], ◌∷◌, ◌++◌, length, length-take, drop, Option, Some, None, map, refl, sym, ap, subst, ◌∙◌, get_or, take, true, false, Bool, add-one, arith}
+use Rattle.std.proofs.Common.{◌≡◌, ℕ, zero, suc, ◌+◌, ◌<◌, ◌≤◌, List, [], ◌∷◌, ◌++◌, length, length-take, drop, Option, Some, None, map, refl, sym, ap, ◌∙◌, get_or, take, true, false, Bool, add-one, arith}
 use denote.Param.Weighed.{most}
-use Rattle.std.specs.Prelude.{IsTrue, AllPairs, ◌==◌, slice_get, Result}
+use Rattle.std.specs.Prelude.{IsTrue, ◌==◌, slice_get, Result}
 use Rattle.std.specs.List.{IsDistinct}
 use Rattle.std.specs.Str.{bytes_eq}
-use Rattle.std.proofs.lemmas.Bool.{eqb-true, eqb-false}
+use Rattle.std.proofs.lemmas.Bool.{eqb-true}
 use Rattle.std.proofs.lemmas.List.{length-map}
 use Rattle.std.proofs.lemmas.Map.Made.{AllPairs-from_IsDistinct}
 use Rattle.std.proofs.lemmas.Slice.Eq.{bytes_eq-Decides}
@@ -15,7 +15,7 @@ use Rattle.jzon_tree.specs.declared.value.JsonValue.{JsonValue, size-JsonValue}
 use Rattle.jzon_tree.specs.Generator.{Emitted, Added, Just, Emits, IsAnswer, positions}
 use Rattle.jzon_tree.specs.Printing.{pair_at, IsKeyed, AreKeyed, AreUnderKeyed, PrintsIf}
 use Rattle.jzon_tree.specs.StyleLaws.{IsOrder-insertion}
-use Rattle.jzon_tree.specs.Value.{Value, object, values_of as list, list_of_pairs, pairs_of}
+use Rattle.jzon_tree.specs.Value.{Value, object}
 use Rattle.jzon_tree.specs.View.{view, viewed, view_values, view_pairs}
 use Rattle.jzon_tree.specs.Writing.{Style, IsOrder, Writes}
 use Rattle.jzon_tree.proofs.Emitting.{PrintsIf-after, PrintsIf-just}

@@ -1,5 +1,5 @@
 -- Blanks that are sent run by run.
-use Rattle.std.proofs.Common.{◌≡◌, ℕ, zero, suc, ◌+◌, ◌-◌, ◌≤◌, List, [], ◌∷◌, ◌++◌, take, replicate, Option, refl, sym, ap, ◌∙◌, append_assoc, arith}
+use Rattle.std.proofs.Common.{◌≡◌, ℕ, zero, suc, ◌+◌, ◌-◌, ◌≤◌, List, [], ◌∷◌, ◌++◌, take, replicate, Option, refl, ap, ◌∙◌, arith}
 use Rattle.std.proofs.lemmas.List.{replicate-append-replicate}
 use Rattle.jzon_tree.specs.Generator.{Adds, Begins, Just}
 use Rattle.jzon_tree.proofs.Sent.{adds_then, Begins-after, Begins-early}

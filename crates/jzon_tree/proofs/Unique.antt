@@ -1,5 +1,5 @@
 -- A style with one choice of each has one writing of each value: the text in its layout.
-use Rattle.std.proofs.Common.{◌≡◌, ℕ, zero, suc, ◌+◌, ◌<◌, ◌≤◌, Bool, true, false, List, [], ◌∷◌, ◌++◌, refl, sym, ap, ◌∙◌, length, append-nil, append_assoc, length-append, length-take, take-append-drop, arith, map, add-one, take, Option, Some, None, subst, Result, Ok, Err}
+use Rattle.std.proofs.Common.{◌≡◌, ℕ, suc, ◌+◌, Bool, true, false, List, [], ◌∷◌, ◌++◌, refl, sym, ap, ◌∙◌, length, append_assoc, length-append, arith, map, take, Option, Some, None, subst, Result, Ok, Err}
 use Rattle.std.specs.Prelude.{IsTrue, OnOk, OnErr}
 use Rattle.std.specs.List.{range_with_len}
 use Rattle.std.specs.Str.{bytes_eq}
@@ -8,11 +8,11 @@ use Rattle.std.specs.Io.KnownBytes.{Appends}
 use Rattle.std.proofs.lemmas.Slice.Eq.{bytes_eq-Decides}
 use Rattle.jzon_base.specs.Written.{AppendsBeginning}
 use Rattle.jzon_base.specs.PairList.{keys_of}
-use Rattle.jzon_tree.specs.Generator.{Adds, Begins, Emitted, Added, Stopped, Prints, insertion}
+use Rattle.jzon_tree.specs.Generator.{Adds, Begins, Emitted, Prints, insertion}
 use Rattle.jzon_tree.specs.Styles.{only, same_form}
 use Rattle.jzon_tree.specs.Text.{Layout, layout_text, more_values_text, more_pairs_text, quoted}
 use Rattle.jzon_tree.specs.Value.{Value, null, boolean, text, number, array, object, Values, no_values, value, Pairs, no_pairs, pair, list_of_pairs}
-use Rattle.jzon_tree.specs.Writing.{Style, IsAllowedBlank, text_at, Joins, Encloses, Writes, WritesEach, WritesPairs, colon_text}
+use Rattle.jzon_tree.specs.Writing.{Style, IsAllowedBlank, text_at, Joins, Writes, WritesEach, WritesPairs, colon_text}
 
 same_list : (xs ys : List ℕ) → bytes_eq xs ys ≡ true → xs ≡ ys
 same_list xs ys e = (bytes_eq-Decides xs ys).0 e

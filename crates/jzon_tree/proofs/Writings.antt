@@ -1,13 +1,13 @@
 -- A value has a writing in every style, and how writings are put together.
-use Rattle.std.proofs.Common.{◌≡◌, ℕ, suc, ◌+◌, ◌<◌, Bool, true, false, List, [], ◌∷◌, ◌++◌, refl, sym, ap, ◌∙◌, length, append_assoc, append-nil, arith, map}
+use Rattle.std.proofs.Common.{◌≡◌, ℕ, suc, ◌<◌, Bool, true, false, List, [], ◌∷◌, ◌++◌, refl, sym, ap, ◌∙◌, length, append_assoc, append-nil, arith, map}
 use Rattle.std.proofs.lemmas.Bool.{lt-ltb}
 use Rattle.std.specs.Prelude.{codes, if◌then◌else◌, nat_lt}
 use Rattle.jzon_base.specs.NumberText.{written_text}
 use Rattle.jzon_base.specs.PairList.{keys_of}
 use Rattle.jzon_tree.specs.Text.{quoted, boolean_text}
-use Rattle.jzon_tree.specs.Value.{Value, null, boolean, text, number, array, object, Values, no_values, value, values_of, Pairs, no_pairs, pair, pairs_of, list_of_pairs}
-use Rattle.jzon_tree.specs.Writing.{Style, IsStyle, IsAllowedBlank, IsOrder, text_at, Joins, Encloses, Writes, WritesEach, WritesPairs, colon_text}
-use Rattle.jzon_tree.specs.Printing.{IsBetween, IsClosing, Items, AreItems, IsEntry, IsKeyed, AreKeyed, AreUnderKeyed}
+use Rattle.jzon_tree.specs.Value.{Value, null, boolean, text, number, array, object, Values, no_values, value, values_of, Pairs, no_pairs, pair, list_of_pairs}
+use Rattle.jzon_tree.specs.Writing.{Style, IsStyle, text_at, Joins, Encloses, Writes, WritesEach, WritesPairs, colon_text}
+use Rattle.jzon_tree.specs.Printing.{IsBetween, IsClosing, Items, AreItems, IsKeyed, AreKeyed, AreUnderKeyed}
 
 -- ---- texts with blanks and commas
 pub some_between : (s : Style) → IsStyle s → (d : ℕ) (comma : Bool) → (b : List ℕ) × IsBetween s d comma b

@@ -1,8 +1,6 @@
 -- What stands behind each of the four generators.
-use Rattle.std.specs.Prelude.{◌≡◌, ℕ, List, Option, Some, None}
+use Rattle.std.specs.Prelude.{ℕ, List, Option, Some, None}
 use Rattle.std.specs.Borrow.{GName}
-use Rattle.std.specs.declared.vec.Vec.{Vec}
-use Rattle.std.specs.declared.alloc.Global.{Global}
 use Rattle.jzon_tree.specs.Generator.{Emitted}
 use Rattle.jzon_tree.specs.Styles.{compact_style, pretty_style}
 use Rattle.jzon_tree.specs.Writing.{Style}

@@ -1,11 +1,14 @@
-ghost use Rattle.std.specs.Prelude.{Some, None, refl};
+ghost use Rattle.std.specs.Prelude.{◌≡◌, length, IfOk, Some, None, refl};
+ghost use Rattle.jzon_base.specs.PairList.{keys_of};
+ghost use Rattle.jzon_tree.specs.Entries.{entries_of};
+ghost use Rattle.jzon_tree.specs.Generator.{insertion};
 ghost use Rattle.jzon_tree.specs.StyleLaws.{IsStyle-any};
-ghost use Rattle.jzon_tree.specs.Writing.{any_style};
+ghost use Rattle.jzon_tree.specs.Writing.{any_style, IsOrder};
 
 use super::*;
 use jzon_base::error::Error;
 use jzon_base::number::NAN;
-use std::alloc::Global;
+use std::alloc::{AllocError, Global};
 use std::io;
 use std::io::Write;
 use std::test::Fail;
@@ -122,6 +125,110 @@ impl Generator for TabGenerator {
     ghost writer_law = { λ _ _. refl };
 
     ghost style_law = { λ _. IsStyle-any };
+}
+
+/// A user's generator: the pairs of each object stand in the order of their keys.
+#[derive(Drop)]
+struct SortingGenerator {
+    alloc: Global,
+    code: Vec<u8>,
+    dent: u64,
+    faults: u64,
+}
+
+fn key_at(object: &Object, position: usize) -> Option<&str> {
+    if position < object.len() {
+        return Some(object.pairs.get_at(position).0);
+    }
+    None
+}
+
+fn insertion_order(alloc: Global, count: usize) -> std::result::Result<Vec<usize>, AllocError>
+    ensures { IfOk result (λ positions. positions.items ≡ insertion count) }
+{
+    let mut positions = Vec::new(alloc);
+    for position in 0..count {
+        positions.push(position)?;
+    }
+    Ok(positions)
+}
+
+fn sorted_order(alloc: Global, object: &Object) -> std::result::Result<Vec<usize>, AllocError>
+    ensures { IfOk result (λ positions. IsOrder (length (keys_of (entries_of object.now))) positions.items) }
+{
+    let mut positions = insertion_order(alloc, object.len())?;
+    positions.sort_by_key(|position| key_at(object, *position))?;
+    Ok(positions)
+}
+
+impl Generator for SortingGenerator {
+    type T = Vec<u8>;
+
+    ghost meaning = { λ g. record { out = Some g.code.items; dent = g.dent; faults = g.faults; style = any_style; lender = None } };
+
+    ghost with_writer = { λ g code. record g { code = code } };
+
+    fn get_writer(&mut self) -> &mut Vec<u8> {
+        &mut self.code
+    }
+
+    fn write_min(&mut self, _slice: &[u8], min: u8) -> io::Result<()> {
+        self.write_char(min)
+    }
+
+    fn faults(&self) -> u64 {
+        self.faults
+    }
+
+    fn dent(&self) -> u64 {
+        self.dent
+    }
+
+    fn note_fault(&mut self) {
+        self.faults = self.faults.saturating_add(1);
+    }
+
+    fn set_dent(&mut self, dent: u64) {
+        self.dent = dent;
+    }
+
+    fn new_line(&mut self) -> io::Result<()> {
+        Ok(())
+    }
+
+    fn order(&mut self, object: &Object) -> io::Result<Option<Vec<usize>>> {
+        match sorted_order(self.alloc, object) {
+            Ok(positions) => Ok(Some(positions)),
+            Err(_) => {
+                self.note_fault();
+                Err(io::Error::from(io::ErrorKind::OutOfMemory))
+            }
+        }
+    }
+
+    ghost writer_law = { λ _ _. refl };
+
+    ghost style_law = { λ _. IsStyle-any };
+}
+
+#[test]
+fn sorts_the_keys(rt: HostRuntime) -> Tested {
+    let mut object = Object::new(rt.alloc());
+    for key in ["c", "b", "a"] {
+        object.insert(rt.alloc(), key, JsonValue::Null)?;
+    }
+    let mut generator = SortingGenerator {
+        alloc: rt.alloc(),
+        code: Vec::new(rt.alloc()),
+        dent: 0,
+        faults: 0,
+    };
+    write_object(&mut generator, &object)?;
+    assert_eq!(rt;
+        generator.code.as_slice(),
+        b"{\"a\":null,\"b\":null,\"c\":null}".as_slice()
+    );
+    Ok(())
 }
 
 #[test]

@@ -1,4 +1,4 @@
-use Rattle.std.proofs.Common.{ℕ, ◌≤◌, arith}
+use Rattle.std.proofs.Common.{arith}
 use Rattle.jzon_tree.proofs.Sent.{Sends-at_err}
 use Rattle.jzon_tree.proofs.SentBlanks.{take-replicate, newline_stopped, blanks_stopped, blanks_sent}
 use Rattle.jzon_tree.proofs.codegen.send.send_line.Goals as goal

@@ -5,8 +5,8 @@ use Rattle.jzon_tree.specs.Entries.{entries_of}
 use Rattle.jzon_tree.specs.Generator.{Just, IsForm, positions}
 use Rattle.jzon_tree.specs.Printing.{IsEntry, pair_at}
 use Rattle.jzon_tree.specs.Text.{quoted}
-use Rattle.jzon_tree.specs.Value.{Value, object, pairs_of}
-use Rattle.jzon_tree.specs.View.{view, view_object, viewed, view_pairs}
+use Rattle.jzon_tree.specs.Value.{Value}
+use Rattle.jzon_tree.specs.View.{view, view_object, viewed}
 use Rattle.jzon_tree.specs.Writing.{Writes}
 use Rattle.jzon_tree.proofs.Emitting.{Added-nothing, Added-after, Failed-after, PrintsIf-after, Failed-begins, Stopped-failed, PrintsIf-at_err}
 use Rattle.jzon_tree.proofs.Exits.{array_at_opening, array_at_indent, array_at_items, array_at_close, items_at_begin, items_at_item, items_more, members_at_begin, members_at_entry, members_more, object_at_opening, object_at_indent, object_at_members, object_at_close, AfterColon, pair_colon, pair_value, after_colon, after_key}

@@ -1,5 +1,4 @@
 use Rattle.std.proofs.Common.{refl, false}
-use Rattle.jzon_tree.specs.Generator.{insertion}
 use Rattle.jzon_tree.specs.Text.{compact, compact_layout}
 use Rattle.jzon_tree.specs.View.{view}
 use Rattle.jzon_tree.specs.Styles.{compact_style}

@@ -1,5 +1,4 @@
 use Rattle.std.proofs.Common.{refl, true}
-use Rattle.jzon_tree.specs.Generator.{insertion}
 use Rattle.jzon_tree.specs.Text.{pretty, pretty_layout}
 use Rattle.jzon_tree.specs.View.{view}
 use Rattle.jzon_tree.specs.Styles.{pretty_style}
