@@ -373,6 +373,28 @@ fn dump_under_refusals(rt: HostRuntime) -> Result<(), Fail> {
 }
 
 #[test]
+fn pretty_under_refusals(rt: HostRuntime) -> Result<(), Fail> {
+    let alloc = rt.alloc();
+    let mut refusals = Refusals::new(alloc);
+    let value = jzon::parse(alloc, DOCUMENT)?;
+    for _ in 0..MOST {
+        refusals.begin();
+        let result = value.pretty(alloc, 2);
+        if refusals.was_refused() {
+            assert!(rt; matches!(result, Err(Error::OutOfMemory)));
+        } else {
+            assert_eq!(rt;
+                result?.as_str(),
+                "{\n  \"a\": [\n    1,\n    -50,\n    \"xé\u{1d11e}\"\n  ],\n  \"b\": null\n}"
+            );
+            break;
+        }
+    }
+    refusals.tell(&rt, "pretty_under_refusals", 1);
+    Ok(())
+}
+
+#[test]
 fn into_string_under_refusals(rt: HostRuntime) -> Result<(), Fail> {
     let alloc = rt.alloc();
     let mut refusals = Refusals::new(alloc);
