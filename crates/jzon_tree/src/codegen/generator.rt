@@ -37,7 +37,8 @@ pub trait Generator {
 
     /// Adds `slice`, which stands for a colon and a blank, or the one byte `min`, which stands for a colon, as the style allows.
     fn write_min(&mut self, slice: &[u8], min: u8) -> io::Result<()>
-        ensures { Emits (IsForm (meaning self.old).style slice.now min) (meaning self.old) (meaning self.new) result };
+        ensures { Emits (IsForm (meaning self.old).style slice.now min)
+            (meaning self.old) (meaning self.new) result };
 
     /// How many faults there were.
     fn faults(&self) -> u64
@@ -83,7 +84,8 @@ pub trait Generator {
 
     /// Adds whitespace alone, a blank that the style allows at the open indents.
     fn new_line(&mut self) -> io::Result<()>
-        ensures { Emits (IsAllowedBlank (meaning self.old).style (meaning self.old).dent) (meaning self.old) (meaning self.new) result };
+        ensures { Emits (IsAllowedBlank (meaning self.old).style (meaning self.old).dent)
+            (meaning self.old) (meaning self.new) result };
 
     /// Opens an indent. It is refused only where the greatest u64 of them are open, and then notes a fault.
     fn indent(&mut self) -> io::Result<()>
@@ -125,7 +127,8 @@ pub trait Generator {
     /// Adds the bytes before `start` as they are, those from `start` on escaped, and the closing quote.
     fn write_string_complex(&mut self, string: &str, start: usize) -> io::Result<()>
         requires { start ≤ length string.now }
-        ensures { Emits (Just (take start string.now ++ (escaped (drop start string.now) ++ 34 ∷ []))) (meaning self.old) (meaning self.new) result }
+        ensures { Emits (Just (take start string.now ++ (escaped (drop start string.now) ++ 34 ∷ [])))
+            (meaning self.old) (meaning self.new) result }
     {
         match send_string_from(self.get_writer(), string, start) {
             Ok(()) => Ok(()),

@@ -42,7 +42,8 @@ fn send_parts<W: Write>(
     mantissa: u64,
     exponent: i16,
 ) -> io::Result<()>
-    ensures { Sends (Just (number_text positive mantissa exponent)) (W.contents writer.old) (W.contents writer.new) result }
+    ensures { Sends (Just (number_text positive mantissa exponent))
+        (W.contents writer.old) (W.contents writer.new) result }
 {
     print_dec::write(writer, positive, mantissa, exponent)
 }
@@ -54,7 +55,8 @@ pub(crate) fn send_string_from<W: Write>(
     start: usize,
 ) -> io::Result<()>
     requires { start ≤ length string.now }
-    ensures { Sends (Just (take start string.now ++ (escaped (drop start string.now) ++ 34 ∷ []))) (W.contents writer.old) (W.contents writer.new) result }
+    ensures { Sends (Just (take start string.now ++ (escaped (drop start string.now) ++ 34 ∷ [])))
+        (W.contents writer.old) (W.contents writer.new) result }
 {
     let (front, text) = string.as_bytes().split_at(start);
     send_string(writer, front, text)
@@ -62,7 +64,8 @@ pub(crate) fn send_string_from<W: Write>(
 
 /// Sends the front as it is, the text as it stands in a string, and the closing quote. Runs of bytes that need no escape are sent whole.
 pub(crate) fn send_string<W: Write>(writer: &mut W, front: &[u8], text: &[u8]) -> io::Result<()>
-    ensures { Sends (Just (front.now ++ (escaped text.now ++ 34 ∷ []))) (W.contents writer.old) (W.contents writer.new) result }
+    ensures { Sends (Just (front.now ++ (escaped text.now ++ 34 ∷ [])))
+        (W.contents writer.old) (W.contents writer.new) result }
 {
     send(writer, front)?;
     let mut rest = text;

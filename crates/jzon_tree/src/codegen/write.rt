@@ -20,7 +20,8 @@ use std::io;
 /// An `Err` is that of a hook. Nothing is written after it: the bytes added are a beginning of a writing of the value, and the indents that were open then stay
 /// open.
 pub fn write_json<G: Generator>(g: &mut G, json: &JsonValue) -> io::Result<()>
-    ensures { Prints (Writes (G.meaning g.old).style (G.meaning g.old).dent (view json.now)) (G.meaning g.old) (G.meaning g.new) result }
+    ensures { Prints (Writes (G.meaning g.old).style (G.meaning g.old).dent (view json.now))
+        (G.meaning g.old) (G.meaning g.new) result }
 {
     let written = write_value(g, json);
     if written.is_err() {
@@ -31,7 +32,8 @@ pub fn write_json<G: Generator>(g: &mut G, json: &JsonValue) -> io::Result<()>
 
 /// Writes the object in the generator's style, as `write_json` writes a value.
 pub fn write_object<G: Generator>(g: &mut G, object: &Object) -> io::Result<()>
-    ensures { Prints (Writes (G.meaning g.old).style (G.meaning g.old).dent (view_object object.now)) (G.meaning g.old) (G.meaning g.new) result }
+    ensures { Prints (Writes (G.meaning g.old).style (G.meaning g.old).dent (view_object object.now))
+        (G.meaning g.old) (G.meaning g.new) result }
 {
     let written = write_pairs(g, object);
     if written.is_err() {
@@ -43,7 +45,8 @@ pub fn write_object<G: Generator>(g: &mut G, object: &Object) -> io::Result<()>
 #[cycle(write_value)]
 #[tactic(auto, using(crate::proofs::Views::views))]
 fn write_value<G: Generator>(g: &mut G, json: &JsonValue) -> io::Result<()>
-    ensures { PrintsIf (IsKeyed (view json.now)) (Writes (G.meaning g.old).style (G.meaning g.old).dent (view json.now)) (G.meaning g.old) (G.meaning g.new) result }
+    ensures { PrintsIf (IsKeyed (view json.now)) (Writes (G.meaning g.old).style (G.meaning g.old).dent (view json.now))
+        (G.meaning g.old) (G.meaning g.new) result }
 {
     match json {
         JsonValue::Null => g.write(b"null"),
@@ -59,7 +62,8 @@ fn write_value<G: Generator>(g: &mut G, json: &JsonValue) -> io::Result<()>
 
 #[cycle(write_value)]
 fn write_array<G: Generator>(g: &mut G, items: &[JsonValue]) -> io::Result<()>
-    ensures { PrintsIf (AreKeyed (view_values items.now)) (Writes (G.meaning g.old).style (G.meaning g.old).dent (array (view_values items.now))) (G.meaning g.old) (G.meaning g.new) result }
+    ensures { PrintsIf (AreKeyed (view_values items.now)) (Writes (G.meaning g.old).style (G.meaning g.old).dent (array (view_values items.now)))
+        (G.meaning g.old) (G.meaning g.new) result }
 {
     if items.is_empty() {
         return g.write(b"[]");
@@ -73,7 +77,8 @@ fn write_array<G: Generator>(g: &mut G, items: &[JsonValue]) -> io::Result<()>
 // Each item after a blank, and a comma before each but the first.
 #[cycle(write_value)]
 fn write_items<G: Generator>(g: &mut G, items: &[JsonValue]) -> io::Result<()>
-    ensures { PrintsIf (AreKeyed (view_values items.now)) (AreItems (G.meaning g.old).style (G.meaning g.old).dent (map view items.now)) (G.meaning g.old) (G.meaning g.new) result }
+    ensures { PrintsIf (AreKeyed (view_values items.now)) (AreItems (G.meaning g.old).style (G.meaning g.old).dent (map view items.now))
+        (G.meaning g.old) (G.meaning g.new) result }
 {
     for (index, item) in items.iter().enumerate() {
         begin_item(g, index > 0)?;
@@ -84,7 +89,8 @@ fn write_items<G: Generator>(g: &mut G, items: &[JsonValue]) -> io::Result<()>
 
 #[cycle(write_value)]
 fn write_pairs<G: Generator>(g: &mut G, object: &Object) -> io::Result<()>
-    ensures { PrintsIf (IsKeyed (view_object object.now)) (Writes (G.meaning g.old).style (G.meaning g.old).dent (view_object object.now)) (G.meaning g.old) (G.meaning g.new) result }
+    ensures { PrintsIf (IsKeyed (view_object object.now)) (Writes (G.meaning g.old).style (G.meaning g.old).dent (view_object object.now))
+        (G.meaning g.old) (G.meaning g.new) result }
 {
     let order = g.order(object)?;
     if object.is_empty() {
@@ -104,7 +110,8 @@ fn write_members<G: Generator>(
     order: &Option<Vec<usize>>,
 ) -> io::Result<()>
     requires { IsAnswer (G.meaning g.old).style (keys_of (entries_of object.now)) order.now }
-    ensures { PrintsIf (AreUnderKeyed (view_pairs (entries_of object.now))) (AreMembers (G.meaning g.old).style (G.meaning g.old).dent (viewed (entries_of object.now)) (positions (length (entries_of object.now)) order.now)) (G.meaning g.old) (G.meaning g.new) result }
+    ensures { PrintsIf (AreUnderKeyed (view_pairs (entries_of object.now))) (AreMembers (G.meaning g.old).style (G.meaning g.old).dent (viewed (entries_of object.now)) (positions (length (entries_of object.now)) order.now))
+        (G.meaning g.old) (G.meaning g.new) result }
 {
     for index in 0..object.len() {
         let position = position_of(order, index, object.len());
@@ -128,7 +135,8 @@ fn position_of(order: &Option<Vec<usize>>, index: usize, count: usize) -> usize
 
 #[cycle(write_value)]
 fn write_pair<G: Generator>(g: &mut G, key: &str, value: &JsonValue) -> io::Result<()>
-    ensures { PrintsIf (IsKeyed (view value.now)) (IsEntry (G.meaning g.old).style (G.meaning g.old).dent (key.now, view value.now)) (G.meaning g.old) (G.meaning g.new) result }
+    ensures { PrintsIf (IsKeyed (view value.now)) (IsEntry (G.meaning g.old).style (G.meaning g.old).dent (key.now, view value.now))
+        (G.meaning g.old) (G.meaning g.new) result }
 {
     g.write_string(key)?;
     g.write_min(b": ", b':')?;
@@ -137,7 +145,8 @@ fn write_pair<G: Generator>(g: &mut G, key: &str, value: &JsonValue) -> io::Resu
 
 // What stands before an item: a comma, unless it is the first, and a blank.
 fn begin_item<G: Generator>(g: &mut G, comma: bool) -> io::Result<()>
-    ensures { Emits (IsBetween (G.meaning g.old).style (G.meaning g.old).dent comma) (G.meaning g.old) (G.meaning g.new) result }
+    ensures { Emits (IsBetween (G.meaning g.old).style (G.meaning g.old).dent comma)
+        (G.meaning g.old) (G.meaning g.new) result }
 {
     if comma {
         g.write_char(b',')?;
