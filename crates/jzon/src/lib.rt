@@ -22,6 +22,7 @@ pub use jzon_base::error::{Error, Error as JsonError, JsonResult, Result};
 pub use jzon_base::{number, short};
 pub use jzon_tree::into_json::IntoJson;
 pub use jzon_tree::value::JsonValue;
+pub use jzon_tree::value::JsonValue::Null;
 pub use jzon_tree::view::View;
 pub use jzon_tree::{codegen, lent};
 pub use parser::parse;

@@ -115,14 +115,14 @@ mod tests {
     }
 
     fn nothing(alloc: Global) -> Result<JsonValue> {
-        Ok(crate::array![alloc; {}, crate::array![alloc;], crate::value!(alloc; null)])
+        Ok(crate::array![alloc; {}, crate::array![alloc;], crate::value!(alloc; null), crate::Null])
     }
 
     #[test]
     fn builds_empty_containers(rt: HostRuntime) -> Result<()> {
         assert_eq!(rt;
             nothing(rt.alloc())?.dump(rt.alloc())?.as_str(),
-            "[{},[],null]"
+            "[{},[],null,null]"
         );
         Ok(())
     }
