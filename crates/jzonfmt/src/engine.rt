@@ -8,7 +8,7 @@ ghost use Rattle.jzonfmt.specs.Drive.{Drives, asked_layout, asked_spaces, fault_
 use jzon::{Error, util};
 use std::alloc::{AllocError, Global};
 use std::io::{Read, Write};
-use std::{fmt, io};
+use std::{fmt, io, mem};
 
 /// How a document is printed.
 #[derive(Clone, Copy, Debug, PartialEq, Eq)]
@@ -147,6 +147,8 @@ fn printed_text(alloc: Global, input: &[u8], layout: Layout) -> Result<String, R
         Layout::Pretty(spaces) => value.pretty(alloc, spaces)?,
     };
     text.push('\n')?;
+    // The program ends once the text is written, so the value is not taken apart first.
+    mem::forget(value);
     Ok(text)
 }
 
