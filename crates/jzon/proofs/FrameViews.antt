@@ -13,7 +13,7 @@ use Rattle.jzon_tree.specs.View.{view, view_object}
 use Rattle.jzon_tree.specs.Entries.{entries_of}
 use Rattle.jzon_tree.specs.declared.object.Object.{Object}
 use Rattle.jzon_tree.specs.declared.value.JsonValue.{JsonValue}
-use Rattle.jzon.specs.Reading.{usual}
+use Rattle.jzon.specs.Reading.{Reading}
 use Rattle.jzon.specs.Spelling.{breach_if, deep}
 use Rattle.jzon.specs.Machine.{Entries, Frames, no_frames, array_frame, object_frame, frames_depth, is_fresh, value_mark, key_mark}
 use Rattle.jzon.specs.Frames.{entries_view, open_in, stack_view}
@@ -38,21 +38,21 @@ frames_depth-stack s = let d = depth_on no_frames s in omega arith
 
 -- ---- how deep
 
-pub not_too_deep : (n : ℕ) → n < 512 → breach_if (nat_le 512 n) deep ≡ None
-not_too_deep n lt = let no : nat_le 512 n ≡ false = grind (arith, nat_tests) in ap (λ t. breach_if t deep) no
+pub not_too_deep : (m n : ℕ) → n < m → breach_if (nat_le m n) deep ≡ None
+not_too_deep m n lt = let no : nat_le m n ≡ false = grind (arith, nat_tests) in ap (λ t. breach_if t deep) no
 
-pub too_deep : (n : ℕ) → 512 ≤ n → nat_le 512 n ≡ true
-too_deep n le = grind (arith, nat_tests)
+pub too_deep : (m n : ℕ) → m ≤ n → nat_le m n ≡ true
+too_deep m n le = grind (arith, nat_tests)
 
-pub value_mark-shallow : (fs : Frames) → frames_depth fs ≤ 512 → value_mark usual fs ≡ None
-value_mark-shallow no_frames le = refl
-value_mark-shallow (array_frame fs []) le = not_too_deep (frames_depth fs) (omega arith)
-value_mark-shallow (array_frame fs (v ∷ vs)) le = refl
-value_mark-shallow (object_frame fs es k) le = refl
+pub value_mark-shallow : (r : Reading) (fs : Frames) → frames_depth fs ≤ r.depth → value_mark r fs ≡ None
+value_mark-shallow r no_frames le = refl
+value_mark-shallow r (array_frame fs []) le = not_too_deep r.depth (frames_depth fs) (omega arith)
+value_mark-shallow r (array_frame fs (v ∷ vs)) le = refl
+value_mark-shallow r (object_frame fs es k) le = refl
 
-pub key_mark-shallow : (fs : Frames) (es : Entries) → frames_depth fs < 512 → key_mark usual fs es ≡ None
-key_mark-shallow fs [] lt = not_too_deep (frames_depth fs) lt
-key_mark-shallow fs (e ∷ es) lt = refl
+pub key_mark-shallow : (r : Reading) (fs : Frames) (es : Entries) → frames_depth fs < r.depth → key_mark r fs es ≡ None
+key_mark-shallow r fs [] lt = not_too_deep r.depth (frames_depth fs) lt
+key_mark-shallow r fs (e ∷ es) lt = refl
 
 -- ---- elements and entries
 

@@ -70,51 +70,51 @@ hex_missing r at done bs n u i h text here none =
 -- ---- the number so far
 
 -- What is read from the first of four digits on, up to byte i, at each place that reads them.
-pub record HexRead (r : Reading) (bs : List ℕ) (start i u : ℕ) : Type 0 where
+pub record HexRead (bs : List ℕ) (start i u : ℕ) : Type 0 where
   pub boundary : IsCharBoundary bs i
   pub small : u < 16 ^ (i - start)
-  pub same : (at : ℕ → ℕ → Place) (done : ℕ → Move) → ReadsHex r at done → from r bs (at 3 0) start ≡ hex_left r at done bs (4 - (i - start)) u i
+  pub same : (r : Reading) (at : ℕ → ℕ → Place) (done : ℕ → Move) → ReadsHex r at done → from r bs (at 3 0) start ≡ hex_left r at done bs (4 - (i - start)) u i
 
-pub hex_begun : (r : Reading) (bs : List ℕ) (start : ℕ) → IsCharBoundary bs start → HexRead r bs start start 0
-hex_begun r bs start here = record {
+pub hex_begun : (bs : List ℕ) (start : ℕ) → IsCharBoundary bs start → HexRead bs start start 0
+hex_begun bs start here = record {
   boundary = here;
   small = let e : start - start ≡ 0 = omega arith in rw e (omega arith);
-  same = λ at done h. ap (λ n. hex_left r at done bs n 0 start) (let e : 4 ≡ 4 - (start - start) = omega arith in e);
+  same = λ r at done h. ap (λ n. hex_left r at done bs n 0 start) (let e : 4 ≡ 4 - (start - start) = omega arith in e);
 }
 
 pub hex_is_below_16 : (b : ℕ) → is_ascii_hexdigit b ≡ true → digit_value b < 16
 hex_is_below_16 b h = grind (arith, nat_tests)
 
 -- one digit more
-pub hex_more : (r : Reading) (bs : List ℕ) (start i u : ℕ) → HexRead r bs start i u → IsUtf8 bs → start ≤ i → i < start + 4
-    → i < length bs → is_ascii_hexdigit (get_or bs i 0) ≡ true → HexRead r bs start (i + 1) (add_hex u (get_or bs i 0))
-hex_more r bs start i u k text low high lt e = record {
+pub hex_more : (bs : List ℕ) (start i u : ℕ) → HexRead bs start i u → IsUtf8 bs → start ≤ i → i < start + 4
+    → i < length bs → is_ascii_hexdigit (get_or bs i 0) ≡ true → HexRead bs start (i + 1) (add_hex u (get_or bs i 0))
+hex_more bs start i u k text low high lt e = record {
   boundary = IsCharBoundary-after_ascii bs i text lt (hex_is_ascii _ e);
   small =
       let n : i + 1 - start ≡ (i - start) + 1 = omega arith in
       rw (n, pow_more 16 (i - start)) (omega (arith, k.small, hex_is_below_16 (get_or bs i 0) e));
-  same = λ at done h.
-      k.same at done h ∙ ap (λ n. hex_left r at done bs n u i) (let n : 4 - (i - start) ≡ suc (4 - (i + 1 - start)) = omega arith in n)
+  same = λ r at done h.
+      k.same r at done h ∙ ap (λ n. hex_left r at done bs n u i) (let n : 4 - (i - start) ≡ suc (4 - (i + 1 - start)) = omega arith in n)
       ∙ hex_read r at done bs (4 - (i + 1 - start)) u i h text k.boundary lt e;
 }
 
 -- no digit more
-pub hex_stops : (r : Reading) (bs : List ℕ) (start i u : ℕ) (at : ℕ → ℕ → Place) (done : ℕ → Move) → HexRead r bs start i u → ReadsHex r at done → IsUtf8 bs
+pub hex_stops : (r : Reading) (bs : List ℕ) (start i u : ℕ) (at : ℕ → ℕ → Place) (done : ℕ → Move) → HexRead bs start i u → ReadsHex r at done → IsUtf8 bs
     → start ≤ i → i < start + 4 → ((i < length bs) × (is_ascii_hexdigit (get_or bs i 0) ≡ true) → ⊥)
     → from r bs (at 3 0) start ≡ stopped (chars (drop i bs))
 hex_stops r bs start i u at done k h text low high none =
-    k.same at done h ∙ ap (λ n. hex_left r at done bs n u i) (let n : 4 - (i - start) ≡ suc (3 - (i - start)) = omega arith in n)
+    k.same r at done h ∙ ap (λ n. hex_left r at done bs n u i) (let n : 4 - (i - start) ≡ suc (3 - (i - start)) = omega arith in n)
     ∙ hex_missing r at done bs (3 - (i - start)) u i h text k.boundary none
 
 -- all four digits
-pub hex_end : (r : Reading) (bs : List ℕ) (start i u : ℕ) (at : ℕ → ℕ → Place) (done : ℕ → Move) → HexRead r bs start i u → ReadsHex r at done → i ≡ start + 4
+pub hex_end : (r : Reading) (bs : List ℕ) (start i u : ℕ) (at : ℕ → ℕ → Place) (done : ℕ → Move) → HexRead bs start i u → ReadsHex r at done → i ≡ start + 4
     → from r bs (at 3 0) start ≡ outcome_on (done u) (λ p. from r bs p (start + 4)) (chars (drop (start + 3) bs))
 hex_end r bs start i u at done k h e =
-    k.same at done h ∙ ap (λ n. hex_left r at done bs n u i) (let n : 4 - (i - start) ≡ 0 = omega arith in n)
+    k.same r at done h ∙ ap (λ n. hex_left r at done bs n u i) (let n : 4 - (i - start) ≡ 0 = omega arith in n)
     ∙ ap (λ n. outcome_on (done u) (λ p. from r bs p n) (chars (drop (n - 1) bs))) e
     ∙ ap (λ n. outcome_on (done u) (λ p. from r bs p (start + 4)) (chars (drop n bs))) (let n : start + 4 - 1 ≡ start + 3 = omega arith in n)
 
-pub hex_small : (r : Reading) (bs : List ℕ) (start i u : ℕ) → HexRead r bs start i u → i ≤ start + 4 → u < 65536
-hex_small r bs start i u k h =
+pub hex_small : (bs : List ℕ) (start i u : ℕ) → HexRead bs start i u → i ≤ start + 4 → u < 65536
+hex_small bs start i u k h =
     let most : 16 ^ (i - start) ≤ 16 ^ 4 = pow-le-pow_right {n = 16} (omega arith) {i = i - start} {j = 4} (omega arith) in
     omega (arith, k.small, most)

@@ -13,7 +13,7 @@ use Rattle.std.proofs.lemmas.Str.{chars-nil, IsUtf8-drop, IsCharBoundary-from_dr
 use Rattle.jzon_base.specs.Decimal.{signed}
 use Rattle.jzon_base.specs.Digits.{IsDigit, digits_number, read_number}
 use Rattle.jzon_tree.specs.Value as value
-use Rattle.jzon.specs.Reading.{usual}
+use Rattle.jzon.specs.Reading.{Reading}
 use Rattle.jzon.specs.Grammar.{Sign, plus, minus, AreDigits, IsDigits}
 use Rattle.jzon.specs.Meaning as meaning
 use Rattle.jzon.specs.Classes.{lettered, signed_exponent}
@@ -115,10 +115,10 @@ pub record ReadsExponent (bs : List ℕ) (i : ℕ) (positive : Bool) (xs : List 
   pub after : i ≤ e
   pub boundary : IsCharBoundary bs e
   pub all : All IsDigit xs
-  pub number : 0 < length xs → (fs : Frames) (negative : Bool) (ws ds : List ℕ) (l : ℕ) → from usual bs (numeral fs negative (lettered ws ds l)) i
-      ≡ from usual bs (behind fs (value.number (read_number (not negative) ws ds (signed positive (digits_number xs))))) e
-  pub missing : length xs ≡ 0 → (fs : Frames) (negative : Bool) (ws ds : List ℕ) (l : ℕ)
-      → from usual bs (numeral fs negative (lettered ws ds l)) i ≡ stopped (chars (drop e bs))
+  pub number : 0 < length xs → (r : Reading) (fs : Frames) (negative : Bool) (ws ds : List ℕ) (l : ℕ) → from r bs (numeral fs negative (lettered ws ds l)) i
+      ≡ from r bs (behind fs (value.number (read_number (not negative) ws ds (signed positive (digits_number xs))))) e
+  pub missing : length xs ≡ 0 → (r : Reading) (fs : Frames) (negative : Bool) (ws ds : List ℕ) (l : ℕ)
+      → from r bs (numeral fs negative (lettered ws ds l)) i ≡ stopped (chars (drop e bs))
 
 pub some_digits : (ds : List ℕ) → AreDigits ds → 0 < length ds → IsDigits ds
 some_digits [] ok some = absurd (omega arith)
@@ -140,11 +140,11 @@ reads_unsigned bs i xs u at no_minus no_plus e =
       after = omega arith;
       boundary = k.boundary;
       all = k.all;
-      number = λ some fs negative ws ds l. ap (λ cs. outcome usual cs (numeral fs negative (lettered ws ds l))) k.split
-          ∙ unsigned_to_end usual ws ds l xs (chars (drop (i + length xs) bs)) fs negative (some_digits xs k.digits some) k.next;
-      missing = λ none fs negative ws ds l.
+      number = λ some r fs negative ws ds l. ap (λ cs. outcome r cs (numeral fs negative (lettered ws ds l))) k.split
+          ∙ unsigned_to_end r ws ds l xs (chars (drop (i + length xs) bs)) fs negative (some_digits xs k.digits some) k.next;
+      missing = λ none r fs negative ws ds l.
           let here : chars (drop i bs) ≡ chars (drop (i + length xs) bs) = k.split ∙ no_digits xs (chars (drop (i + length xs) bs)) none in
-          stop_lettered usual fs negative ws ds l (chars (drop i bs)) (subst (NextFails is_ascii_digit) (sym here) k.next)
+          stop_lettered r fs negative ws ds l (chars (drop i bs)) (subst (NextFails is_ascii_digit) (sym here) k.next)
           (next_fails (λ c. c == 43) bs i (λ c e. omega (arith, eqb-true c 43 e)) u at (λ lt. byte_is_not (get_or bs i 0) 43 (λ same. no_plus (lt, same))))
           (next_fails (λ c. c == 45) bs i (λ c e. omega (arith, eqb-true c 45 e)) u at (λ lt. byte_is_not (get_or bs i 0) 45 (λ same. no_minus (lt, same))))
           ∙ ap stopped here;
@@ -152,8 +152,8 @@ reads_unsigned bs i xs u at no_minus no_plus e =
 
 -- behind a sign that stands at place i
 reads_signed : (bs : List ℕ) (i : ℕ) (xs : List ℕ) (s : Sign) (b : ℕ) (positive : Bool) → IsUtf8 bs → IsCharBoundary bs i → i < length bs
-    → get_or bs i 0 ≡ b → b < 128 → ((ws ds : List ℕ) (l : ℕ) (cs : List ℕ) (fs : Frames) (negative : Bool)
-    → outcome usual (b ∷ cs) (numeral fs negative (lettered ws ds l)) ≡ outcome usual cs (numeral fs negative (signed_exponent ws ds l s)))
+    → get_or bs i 0 ≡ b → b < 128 → ((ws ds : List ℕ) (l : ℕ) (cs : List ℕ) (r : Reading) (fs : Frames) (negative : Bool)
+    → outcome r (b ∷ cs) (numeral fs negative (lettered ws ds l)) ≡ outcome r cs (numeral fs negative (signed_exponent ws ds l s)))
     → ((n : ℕ) → signed positive n ≡ meaning.signed_exponent s n)
     → xs ≡ take_while is_ascii_digit (drop (i + 1) bs) → ReadsExponent bs i positive xs (i + 1 + length xs)
 unfolding from
@@ -161,28 +161,28 @@ reads_signed bs i xs s b positive u at lt here ascii step sign e =
     let next_at = IsCharBoundary-after_ascii bs i u lt (omega arith) in
     let k = digits_stand bs (i + 1) xs u next_at e in
     let rest = chars (drop (i + 1 + length xs) bs) in
-    let to_sign : (fs : Frames) (negative : Bool) (ws ds : List ℕ) (l : ℕ) → outcome usual (chars (drop i bs)) (numeral fs negative (lettered ws ds l))
-    ≡ outcome usual (xs ++ rest) (numeral fs negative (signed_exponent ws ds l s)) =
-    λ fs negative ws ds l. ap (λ cs. outcome usual cs (numeral fs negative (lettered ws ds l))) (next_is bs i b u at lt here ascii ∙ ap (λ cs. b ∷ cs) k.split)
-    ∙ step ws ds l (xs ++ rest) fs negative in
+    let to_sign : (r : Reading) (fs : Frames) (negative : Bool) (ws ds : List ℕ) (l : ℕ) → outcome r (chars (drop i bs)) (numeral fs negative (lettered ws ds l))
+    ≡ outcome r (xs ++ rest) (numeral fs negative (signed_exponent ws ds l s)) =
+    λ r fs negative ws ds l. ap (λ cs. outcome r cs (numeral fs negative (lettered ws ds l))) (next_is bs i b u at lt here ascii ∙ ap (λ cs. b ∷ cs) k.split)
+    ∙ step ws ds l (xs ++ rest) r fs negative in
     record {
       after = omega arith;
       boundary = k.boundary;
       all = k.all;
-      number = λ some fs negative ws ds l. to_sign fs negative ws ds l
-          ∙ signed_to_end usual ws ds l s xs rest fs negative (some_digits xs k.digits some) k.next
-          ∙ ap (λ z. outcome usual rest (behind fs (value.number (read_number (not negative) ws ds z)))) (sym (sign (digits_number xs)));
-      missing = λ none fs negative ws ds l. to_sign fs negative ws ds l
-          ∙ ap (λ cs. outcome usual cs (numeral fs negative (signed_exponent ws ds l s))) (no_digits xs rest none)
-          ∙ stop_signed usual fs negative ws ds l s rest k.next;
+      number = λ some r fs negative ws ds l. to_sign r fs negative ws ds l
+          ∙ signed_to_end r ws ds l s xs rest fs negative (some_digits xs k.digits some) k.next
+          ∙ ap (λ z. outcome r rest (behind fs (value.number (read_number (not negative) ws ds z)))) (sym (sign (digits_number xs)));
+      missing = λ none r fs negative ws ds l. to_sign r fs negative ws ds l
+          ∙ ap (λ cs. outcome r cs (numeral fs negative (signed_exponent ws ds l s))) (no_digits xs rest none)
+          ∙ stop_signed r fs negative ws ds l s rest k.next;
     }
 
 pub reads_minus : (bs : List ℕ) (i : ℕ) (xs : List ℕ) → IsUtf8 bs → IsCharBoundary bs i → i < length bs → get_or bs i 0 ≡ 45
     → xs ≡ take_while is_ascii_digit (drop (i + 1) bs) → ReadsExponent bs i false xs (i + 1 + length xs)
 reads_minus bs i xs u at lt here e =
-    reads_signed bs i xs minus 45 false u at lt here (omega arith) (letter_to_minus usual) (λ n. refl) e
+    reads_signed bs i xs minus 45 false u at lt here (omega arith) (λ ws ds l cs r. letter_to_minus r ws ds l cs) (λ n. refl) e
 
 pub reads_plus : (bs : List ℕ) (i : ℕ) (xs : List ℕ) → IsUtf8 bs → IsCharBoundary bs i → i < length bs → get_or bs i 0 ≡ 43
     → xs ≡ take_while is_ascii_digit (drop (i + 1) bs) → ReadsExponent bs i true xs (i + 1 + length xs)
 reads_plus bs i xs u at lt here e =
-    reads_signed bs i xs plus 43 true u at lt here (omega arith) (letter_to_plus usual) (λ n. refl) e
+    reads_signed bs i xs plus 43 true u at lt here (omega arith) (λ ws ds l cs r. letter_to_plus r ws ds l cs) (λ n. refl) e

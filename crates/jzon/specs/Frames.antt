@@ -4,7 +4,7 @@ use Rattle.std.specs.List.{fold}
 use Rattle.jzon_tree.specs.View.{view}
 use Rattle.jzon_tree.specs.Writing.{is_space}
 use Rattle.jzon_tree.specs.declared.value.JsonValue.{JsonValue}
-use Rattle.jzon.specs.Reading.{usual}
+use Rattle.jzon.specs.Reading.{Reading}
 use Rattle.jzon.specs.Machine.{Entries, Frames, no_frames, array_frame, object_frame, is_fresh, Place, before, behind}
 use Rattle.jzon.specs.declared.frames.Frame.{Frame}
 use Rattle.jzon.specs.declared.frames.Frame.TheVariants.{Array, Object}
@@ -28,10 +28,10 @@ place_of None fs = before fs
 place_of (Some v) fs = behind fs (view v)
 
 -- an element, and not a blank or a closing bracket, stands at place i, if an array without elements is the inmost open container
-abbrev pub IsAtElement : List ℕ → ℕ → Frames → Type 0
-IsAtElement source i fs = is_fresh fs ≡ true → (is_space usual.strict (slice_index source i) ≡ false) × (slice_index source i ≢ 93)
+abbrev pub IsAtElement : Reading → List ℕ → ℕ → Frames → Type 0
+IsAtElement r source i fs = is_fresh fs ≡ true → (is_space r.strict (slice_index source i) ≡ false) × (slice_index source i ≢ 93)
 
 -- the same where a value is expected
-abbrev pub IsReady : List ℕ → ℕ → Option JsonValue → Frames → Type 0
-IsReady source i None fs = IsAtElement source i fs
-IsReady source i (Some v) fs = ⊤
+abbrev pub IsReady : Reading → List ℕ → ℕ → Option JsonValue → Frames → Type 0
+IsReady r source i None fs = IsAtElement r source i fs
+IsReady r source i (Some v) fs = ⊤

@@ -1,4 +1,5 @@
 pub mod Reading
+pub mod ReadingFields
 pub mod Grammar
 pub mod Spelling
 pub mod Meaning

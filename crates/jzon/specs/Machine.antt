@@ -50,6 +50,10 @@ pub data Place : Type 0 where
   after_key : Frames → Entries → List ℕ → Place
   behind : Frames → Value → Place
 
+-- behind the first digit of a number
+abbrev pub numeral_begun : Frames → Bool → ℕ → Place
+numeral_begun fs negative c = numeral fs negative (begun (c == 48) c)
+
 -- what reading one character comes to: a place, and the breach that stands at the character, if any; or no text can go on, where it may be that each text
 -- that goes on otherwise has a depth breach
 pub data Move : Type 0 where

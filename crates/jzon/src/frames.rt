@@ -7,10 +7,10 @@ ghost use Rattle.jzon_tree.specs.View.{view};
 ghost use Rattle.jzon_tree.specs.Writing.{is_space};
 ghost use Rattle.jzon.specs.Frames.{stack_view, open_in, entries_view, place_of, IsAtElement, IsReady};
 ghost use Rattle.jzon.specs.Machine.{Entries, Frames, array_frame, object_frame, before, before_key, behind, key_mark, from, TellsUnlessMemory};
-ghost use Rattle.jzon.specs.Reading.{usual};
 
 use crate::blank::skip_blank;
 use crate::place::{fault_at, has_byte};
+use crate::reading::Reading;
 use crate::scalar::read_scalar;
 use crate::string::read_string;
 use jzon_base::error::{Error, Result};
@@ -18,9 +18,6 @@ use jzon_base::key::Key;
 use jzon_tree::object::{Object, from_entries};
 use jzon_tree::value::JsonValue;
 use std::alloc::Global;
-
-/// How many containers that aren't empty may be open.
-pub(crate) const DEPTH_LIMIT: usize = 512;
 
 /// An open container, with what it holds so far.
 #[derive(Drop)]
@@ -35,66 +32,68 @@ pub(crate) enum Frame {
 pub(crate) fn open_array(
     alloc: Global,
     source: &str,
+    reading: Reading,
     start: usize,
     stack: &mut Vec<Frame>,
     buffer: &mut String,
 ) -> Result<(Option<JsonValue>, usize)>
     requires boundary { IsCharBoundary source.now start }
-    requires room { vec_len stack.old ≤ usual.depth }
+    requires room { vec_len stack.old ≤ reading.depth }
     ensures bounds { IfOk result (λ r. (start ≤ r.1) × IsCharBoundary source.now r.1) }
-    ensures room { OnOk result (vec_len stack.new ≤ usual.depth) }
-    ensures ready { IfOk result (λ r. IsReady source.now r.1 r.0 (stack_view stack.new.items)) }
+    ensures room { OnOk result (vec_len stack.new ≤ reading.depth) }
+    ensures ready { IfOk result (λ r. IsReady reading source.now r.1 r.0 (stack_view stack.new.items)) }
     ensures same { MatchResult result
-        (λ r. from usual source.now (before (array_frame (stack_view stack.old.items) [])) start
-        ≡ from usual source.now (place_of r.0 (stack_view stack.new.items)) r.1)
-        (λ e. TellsUnlessMemory (chars source.now) e (from usual source.now (before (array_frame (stack_view stack.old.items) [])) start)) }
+        (λ r. from reading source.now (before (array_frame (stack_view stack.old.items) [])) start
+        ≡ from reading source.now (place_of r.0 (stack_view stack.new.items)) r.1)
+        (λ e. TellsUnlessMemory (chars source.now) e (from reading source.now (before (array_frame (stack_view stack.old.items) [])) start)) }
 {
-    let index = skip_blank(source, start);
+    let index = skip_blank(source, reading, start);
     if has_byte(source, index, b']') {
         return Ok((Some(JsonValue::Array(Vec::new(alloc))), index + 1));
     }
     if index == source.len() {
         return Err(Error::UnexpectedEndOfJson);
     }
-    if stack.len() == DEPTH_LIMIT {
+    if stack.len() == usize::from(reading.depth()) {
         return Err(Error::ExceededDepthLimit);
     }
     // One element is certain to come.
     let elements = Vec::with_capacity(alloc, 1)?;
-    read_elements(alloc, source, index, elements, stack, buffer)
+    read_elements(alloc, source, reading, index, elements, stack, buffer)
 }
 
 /// The same for an object.
 pub(crate) fn open_object(
     alloc: Global,
     source: &str,
+    reading: Reading,
     start: usize,
     stack: &mut Vec<Frame>,
     buffer: &mut String,
 ) -> Result<(Option<JsonValue>, usize)>
     requires boundary { IsCharBoundary source.now start }
-    requires room { vec_len stack.old ≤ usual.depth }
+    requires room { vec_len stack.old ≤ reading.depth }
     ensures bounds { IfOk result (λ r. (start ≤ r.1) × IsCharBoundary source.now r.1) }
-    ensures room { OnOk result (vec_len stack.new ≤ usual.depth) }
-    ensures ready { IfOk result (λ r. IsReady source.now r.1 r.0 (stack_view stack.new.items)) }
+    ensures room { OnOk result (vec_len stack.new ≤ reading.depth) }
+    ensures ready { IfOk result (λ r. IsReady reading source.now r.1 r.0 (stack_view stack.new.items)) }
     ensures same { MatchResult result
-        (λ r. from usual source.now (before_key (stack_view stack.old.items) []) start
-        ≡ from usual source.now (place_of r.0 (stack_view stack.new.items)) r.1)
-        (λ e. TellsUnlessMemory (chars source.now) e (from usual source.now (before_key (stack_view stack.old.items) []) start)) }
+        (λ r. from reading source.now (before_key (stack_view stack.old.items) []) start
+        ≡ from reading source.now (place_of r.0 (stack_view stack.new.items)) r.1)
+        (λ e. TellsUnlessMemory (chars source.now) e (from reading source.now (before_key (stack_view stack.old.items) []) start)) }
 {
-    let index = skip_blank(source, start);
+    let index = skip_blank(source, reading, start);
     if has_byte(source, index, b'}') {
         return Ok((Some(JsonValue::Object(Object::new(alloc))), index + 1));
     }
     if index == source.len() {
         return Err(Error::UnexpectedEndOfJson);
     }
-    if stack.len() == DEPTH_LIMIT {
+    if stack.len() == usize::from(reading.depth()) {
         return Err(Error::ExceededDepthLimit);
     }
     // What isn't used of this room is given back at the closing bracket.
     let entries = Vec::with_capacity(alloc, 8)?;
-    read_entries(alloc, source, index, entries, stack, buffer)
+    read_entries(alloc, source, reading, index, entries, stack, buffer)
 }
 
 /// Whether an array or an object opens at this place.
@@ -111,35 +110,36 @@ fn opens_container(source: &str, index: usize) -> bool
 fn read_elements(
     alloc: Global,
     source: &str,
+    reading: Reading,
     start: usize,
     elements: Vec<JsonValue>,
     stack: &mut Vec<Frame>,
     buffer: &mut String,
 ) -> Result<(Option<JsonValue>, usize)>
     requires boundary { IsCharBoundary source.now start }
-    requires stop { start < length source.now → is_space usual.strict (slice_index source.now start) ≡ false }
-    requires room { vec_len stack.old < usual.depth }
-    requires element { IsAtElement source.now start (array_frame (stack_view stack.old.items) (map view elements.items)) }
+    requires stop { start < length source.now → is_space reading.strict (slice_index source.now start) ≡ false }
+    requires room { vec_len stack.old < reading.depth }
+    requires element { IsAtElement reading source.now start (array_frame (stack_view stack.old.items) (map view elements.items)) }
     ensures bounds { IfOk result (λ r. (start ≤ r.1) × IsCharBoundary source.now r.1) }
-    ensures room { OnOk result (vec_len stack.new ≤ usual.depth) }
-    ensures ready { IfOk result (λ r. IsReady source.now r.1 r.0 (stack_view stack.new.items)) }
+    ensures room { OnOk result (vec_len stack.new ≤ reading.depth) }
+    ensures ready { IfOk result (λ r. IsReady reading source.now r.1 r.0 (stack_view stack.new.items)) }
     ensures same { let fs = array_frame (stack_view stack.old.items) (map view elements.items) in MatchResult result
-        (λ r. from usual source.now (before fs) start ≡ from usual source.now (place_of r.0 (stack_view stack.new.items)) r.1)
-        (λ e. TellsUnlessMemory (chars source.now) e (from usual source.now (before fs) start)) }
+        (λ r. from reading source.now (before fs) start ≡ from reading source.now (place_of r.0 (stack_view stack.new.items)) r.1)
+        (λ e. TellsUnlessMemory (chars source.now) e (from reading source.now (before fs) start)) }
 {
     let mut elements = elements;
     let mut index = start;
     while !opens_container(source, index) {
         let (value, end) = read_scalar(alloc, source, index, buffer)?;
         elements.push(value)?;
-        index = skip_blank(source, end);
+        index = skip_blank(source, reading, end);
         if has_byte(source, index, b']') {
             return Ok((Some(JsonValue::Array(elements)), index + 1));
         }
         if !has_byte(source, index, b',') {
             return Err(fault_at(source, index));
         }
-        index = skip_blank(source, index + 1);
+        index = skip_blank(source, reading, index + 1);
     }
     stack.push(Frame::Array(elements))?;
     Ok((None, index))
@@ -149,34 +149,35 @@ fn read_elements(
 fn read_entries(
     alloc: Global,
     source: &str,
+    reading: Reading,
     start: usize,
     entries: Vec<(Key, JsonValue)>,
     stack: &mut Vec<Frame>,
     buffer: &mut String,
 ) -> Result<(Option<JsonValue>, usize)>
     requires boundary { IsCharBoundary source.now start }
-    requires stop { start < length source.now → is_space usual.strict (slice_index source.now start) ≡ false }
-    requires room { vec_len stack.old < usual.depth }
+    requires stop { start < length source.now → is_space reading.strict (slice_index source.now start) ≡ false }
+    requires room { vec_len stack.old < reading.depth }
     requires key { entries_view entries.items ≡ [] → slice_index source.now start ≢ 125 }
     ensures bounds { IfOk result (λ r. (start ≤ r.1) × IsCharBoundary source.now r.1) }
-    ensures room { OnOk result (vec_len stack.new ≤ usual.depth) }
-    ensures ready { IfOk result (λ r. IsReady source.now r.1 r.0 (stack_view stack.new.items)) }
+    ensures room { OnOk result (vec_len stack.new ≤ reading.depth) }
+    ensures ready { IfOk result (λ r. IsReady reading source.now r.1 r.0 (stack_view stack.new.items)) }
     ensures same { let here = before_key (stack_view stack.old.items) (entries_view entries.items) in MatchResult result
-        (λ r. from usual source.now here start ≡ from usual source.now (place_of r.0 (stack_view stack.new.items)) r.1)
-        (λ e. TellsUnlessMemory (chars source.now) e (from usual source.now here start)) }
+        (λ r. from reading source.now here start ≡ from reading source.now (place_of r.0 (stack_view stack.new.items)) r.1)
+        (λ e. TellsUnlessMemory (chars source.now) e (from reading source.now here start)) }
 {
     let mut entries = entries;
     let mut index = start;
     loop {
-        let (key, colon) = read_key(alloc, source, index, buffer)?;
-        index = skip_blank(source, colon);
+        let (key, colon) = read_key(alloc, source, reading, index, buffer)?;
+        index = skip_blank(source, reading, colon);
         if opens_container(source, index) {
             stack.push(Frame::Object(entries, key))?;
             return Ok((None, index));
         }
         let (value, end) = read_scalar(alloc, source, index, buffer)?;
         entries.push((key, value))?;
-        index = skip_blank(source, end);
+        index = skip_blank(source, reading, end);
         if has_byte(source, index, b'}') {
             let object = from_entries(alloc, entries)?;
             return Ok((Some(JsonValue::Object(object)), index + 1));
@@ -184,25 +185,31 @@ fn read_entries(
         if !has_byte(source, index, b',') {
             return Err(fault_at(source, index));
         }
-        index = skip_blank(source, index + 1);
+        index = skip_blank(source, reading, index + 1);
     }
 }
 
 /// The key that begins at `start`, and the place behind its colon.
-fn read_key(alloc: Global, source: &str, start: usize, buffer: &mut String) -> Result<(Key, usize)>
+fn read_key(
+    alloc: Global,
+    source: &str,
+    reading: Reading,
+    start: usize,
+    buffer: &mut String,
+) -> Result<(Key, usize)>
     requires boundary { IsCharBoundary source.now start }
-    requires stop { start < length source.now → is_space usual.strict (slice_index source.now start) ≡ false }
+    requires stop { start < length source.now → is_space reading.strict (slice_index source.now start) ≡ false }
     ensures bounds { IfOk result (λ r. (start < r.1) × IsCharBoundary source.now r.1) }
-    ensures same { (fs : Frames) (es : Entries) → key_mark usual fs es ≡ None → (es ≡ [] → slice_index source.now start ≢ 125) → MatchResult result
-        (λ r. from usual source.now (before_key fs es) start ≡ from usual source.now (before (object_frame fs es r.0)) r.1)
-        (λ e. TellsUnlessMemory (chars source.now) e (from usual source.now (before_key fs es) start)) }
+    ensures same { (fs : Frames) (es : Entries) → key_mark reading fs es ≡ None → (es ≡ [] → slice_index source.now start ≢ 125) → MatchResult result
+        (λ r. from reading source.now (before_key fs es) start ≡ from reading source.now (before (object_frame fs es r.0)) r.1)
+        (λ e. TellsUnlessMemory (chars source.now) e (from reading source.now (before_key fs es) start)) }
 {
     if !has_byte(source, start, b'"') {
         return Err(fault_at(source, start));
     }
     let spelled = read_string(source, start + 1, buffer)?;
     let key = Key::new(alloc, spelled.text(source, start + 1, buffer))?;
-    let colon = skip_blank(source, spelled.end);
+    let colon = skip_blank(source, reading, spelled.end);
     if !has_byte(source, colon, b':') {
         return Err(fault_at(source, colon));
     }
@@ -214,6 +221,7 @@ fn read_key(alloc: Global, source: &str, start: usize, buffer: &mut String) -> R
 pub(crate) fn go_on(
     alloc: Global,
     source: &str,
+    reading: Reading,
     index: usize,
     frame: Frame,
     item: JsonValue,
@@ -221,24 +229,24 @@ pub(crate) fn go_on(
     buffer: &mut String,
 ) -> Result<(Option<JsonValue>, usize)>
     requires boundary { IsCharBoundary source.now index }
-    requires stop { index < length source.now → is_space usual.strict (slice_index source.now index) ≡ false }
-    requires room { vec_len stack.old < usual.depth }
+    requires stop { index < length source.now → is_space reading.strict (slice_index source.now index) ≡ false }
+    requires room { vec_len stack.old < reading.depth }
     ensures bounds { IfOk result (λ r. (index < r.1) × IsCharBoundary source.now r.1) }
-    ensures room { OnOk result (vec_len stack.new ≤ usual.depth) }
-    ensures ready { IfOk result (λ r. IsReady source.now r.1 r.0 (stack_view stack.new.items)) }
+    ensures room { OnOk result (vec_len stack.new ≤ reading.depth) }
+    ensures ready { IfOk result (λ r. IsReady reading source.now r.1 r.0 (stack_view stack.new.items)) }
     ensures same { MatchResult result
-        (λ r. from usual source.now (behind (open_in (stack_view stack.old.items) frame) (view item)) index
-        ≡ from usual source.now (place_of r.0 (stack_view stack.new.items)) r.1)
-        (λ e. TellsUnlessMemory (chars source.now) e (from usual source.now (behind (open_in (stack_view stack.old.items) frame) (view item)) index)) }
+        (λ r. from reading source.now (behind (open_in (stack_view stack.old.items) frame) (view item)) index
+        ≡ from reading source.now (place_of r.0 (stack_view stack.new.items)) r.1)
+        (λ e. TellsUnlessMemory (chars source.now) e (from reading source.now (behind (open_in (stack_view stack.old.items) frame) (view item)) index)) }
 {
     match frame {
         Frame::Array(mut elements) => {
             elements.push(item)?;
-            go_on_array(alloc, source, index, elements, stack, buffer)
+            go_on_array(alloc, source, reading, index, elements, stack, buffer)
         }
         Frame::Object(mut entries, key) => {
             entries.push((key, item))?;
-            go_on_object(alloc, source, index, entries, stack, buffer)
+            go_on_object(alloc, source, reading, index, entries, stack, buffer)
         }
     }
 }
@@ -247,22 +255,23 @@ pub(crate) fn go_on(
 fn go_on_array(
     alloc: Global,
     source: &str,
+    reading: Reading,
     index: usize,
     elements: Vec<JsonValue>,
     stack: &mut Vec<Frame>,
     buffer: &mut String,
 ) -> Result<(Option<JsonValue>, usize)>
     requires boundary { IsCharBoundary source.now index }
-    requires stop { index < length source.now → is_space usual.strict (slice_index source.now index) ≡ false }
-    requires room { vec_len stack.old < usual.depth }
+    requires stop { index < length source.now → is_space reading.strict (slice_index source.now index) ≡ false }
+    requires room { vec_len stack.old < reading.depth }
     requires some { 0 < vec_len elements }
     ensures bounds { IfOk result (λ r. (index < r.1) × IsCharBoundary source.now r.1) }
-    ensures room { OnOk result (vec_len stack.new ≤ usual.depth) }
-    ensures ready { IfOk result (λ r. IsReady source.now r.1 r.0 (stack_view stack.new.items)) }
+    ensures room { OnOk result (vec_len stack.new ≤ reading.depth) }
+    ensures ready { IfOk result (λ r. IsReady reading source.now r.1 r.0 (stack_view stack.new.items)) }
     ensures same { (vs : List Value) (v : Value) → map view elements.items ≡ vs ++ v ∷ [] → MatchResult result
-        (λ r. from usual source.now (behind (array_frame (stack_view stack.old.items) vs) v) index
-        ≡ from usual source.now (place_of r.0 (stack_view stack.new.items)) r.1)
-        (λ e. TellsUnlessMemory (chars source.now) e (from usual source.now (behind (array_frame (stack_view stack.old.items) vs) v) index)) }
+        (λ r. from reading source.now (behind (array_frame (stack_view stack.old.items) vs) v) index
+        ≡ from reading source.now (place_of r.0 (stack_view stack.new.items)) r.1)
+        (λ e. TellsUnlessMemory (chars source.now) e (from reading source.now (behind (array_frame (stack_view stack.old.items) vs) v) index)) }
 {
     if has_byte(source, index, b']') {
         return Ok((Some(JsonValue::Array(elements)), index + 1));
@@ -270,30 +279,31 @@ fn go_on_array(
     if !has_byte(source, index, b',') {
         return Err(fault_at(source, index));
     }
-    let start = skip_blank(source, index + 1);
-    read_elements(alloc, source, start, elements, stack, buffer)
+    let start = skip_blank(source, reading, index + 1);
+    read_elements(alloc, source, reading, start, elements, stack, buffer)
 }
 
 /// The same for an object, whose entries so far these are.
 fn go_on_object(
     alloc: Global,
     source: &str,
+    reading: Reading,
     index: usize,
     entries: Vec<(Key, JsonValue)>,
     stack: &mut Vec<Frame>,
     buffer: &mut String,
 ) -> Result<(Option<JsonValue>, usize)>
     requires boundary { IsCharBoundary source.now index }
-    requires stop { index < length source.now → is_space usual.strict (slice_index source.now index) ≡ false }
-    requires room { vec_len stack.old < usual.depth }
+    requires stop { index < length source.now → is_space reading.strict (slice_index source.now index) ≡ false }
+    requires room { vec_len stack.old < reading.depth }
     requires some { 0 < vec_len entries }
     ensures bounds { IfOk result (λ r. (index < r.1) × IsCharBoundary source.now r.1) }
-    ensures room { OnOk result (vec_len stack.new ≤ usual.depth) }
-    ensures ready { IfOk result (λ r. IsReady source.now r.1 r.0 (stack_view stack.new.items)) }
+    ensures room { OnOk result (vec_len stack.new ≤ reading.depth) }
+    ensures ready { IfOk result (λ r. IsReady reading source.now r.1 r.0 (stack_view stack.new.items)) }
     ensures same { (es : Entries) (k : List ℕ) (v : Value) → entries_view entries.items ≡ es ++ (k, v) ∷ [] → MatchResult result
-        (λ r. from usual source.now (behind (object_frame (stack_view stack.old.items) es k) v) index
-        ≡ from usual source.now (place_of r.0 (stack_view stack.new.items)) r.1)
-        (λ e. TellsUnlessMemory (chars source.now) e (from usual source.now (behind (object_frame (stack_view stack.old.items) es k) v) index)) }
+        (λ r. from reading source.now (behind (object_frame (stack_view stack.old.items) es k) v) index
+        ≡ from reading source.now (place_of r.0 (stack_view stack.new.items)) r.1)
+        (λ e. TellsUnlessMemory (chars source.now) e (from reading source.now (behind (object_frame (stack_view stack.old.items) es k) v) index)) }
 {
     if has_byte(source, index, b'}') {
         let object = from_entries(alloc, entries)?;
@@ -302,6 +312,6 @@ fn go_on_object(
     if !has_byte(source, index, b',') {
         return Err(fault_at(source, index));
     }
-    let start = skip_blank(source, index + 1);
-    read_entries(alloc, source, start, entries, stack, buffer)
+    let start = skip_blank(source, reading, index + 1);
+    read_entries(alloc, source, reading, start, entries, stack, buffer)
 }

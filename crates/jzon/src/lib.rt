@@ -11,6 +11,7 @@ mod numeral;
 pub mod object;
 mod parser;
 mod place;
+mod reading;
 mod scalar;
 mod string;
 #[cfg(test)]
@@ -26,6 +27,7 @@ pub use jzon_tree::value::JsonValue::Null;
 pub use jzon_tree::view::View;
 pub use jzon_tree::{codegen, lent};
 pub use parser::parse;
+pub use reading::Reading;
 
 /// The items of an array.
 pub type Array = Vec<JsonValue>;

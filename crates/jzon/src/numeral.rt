@@ -10,10 +10,10 @@ ghost use Rattle.jzon_base.specs.DigitLimits.{AreFewEnough, IsFirstTooMany};
 ghost use Rattle.jzon_base.specs.declared.digits.DigitFault.{DigitFault};
 ghost use Rattle.jzon_base.specs.declared.error.Error.TheVariants.{ExceededDepthLimit};
 ghost use Rattle.jzon_tree.specs.Value.{number};
-ghost use Rattle.jzon.specs.Reading.{usual};
+ghost use Rattle.jzon.specs.Reading.{Reading};
 ghost use Rattle.jzon.specs.Grammar.{is_exponent_letter};
-ghost use Rattle.jzon.specs.Classes.{begun, lettered};
-ghost use Rattle.jzon.specs.Machine.{Frames, numeral, behind, from, stopped, Tells};
+ghost use Rattle.jzon.specs.Classes.{lettered};
+ghost use Rattle.jzon.specs.Machine.{Frames, numeral, numeral_begun, behind, from, stopped, Tells};
 
 use crate::place::{fault_at, has_byte};
 use jzon_base::digits;
@@ -26,11 +26,11 @@ pub(crate) fn read_number(source: &str, start: usize, negative: bool) -> Result<
     requires within { start < length source.now }
     requires digit { IsTrue (is_ascii_digit (slice_index source.now start)) }
     ensures bounds { IfOk result (λ r. (start < r.1) × (r.1 ≤ length source.now) × IsCharBoundary source.now r.1) }
-    ensures same { (fs : Frames) → MatchResult result
-        (λ r. from usual source.now (numeral fs negative (begun (slice_index source.now start == 48) (slice_index source.now start))) (start + 1)
-        ≡ from usual source.now (behind fs (number r.0)) r.1)
+    ensures same { (r : Reading) (fs : Frames) → MatchResult result
+        (λ x. from r source.now (numeral_begun fs negative (slice_index source.now start)) (start + 1)
+        ≡ from r source.now (behind fs (number x.0)) x.1)
         (λ e. Tells (chars source.now) e
-        (from usual source.now (numeral fs negative (begun (slice_index source.now start == 48) (slice_index source.now start))) (start + 1))) }
+        (from r source.now (numeral_begun fs negative (slice_index source.now start)) (start + 1))) }
 {
     let spelling = spelling_at(source, start);
     let number = digits::read_number(
@@ -68,16 +68,16 @@ fn spelling_at(source: &str, start: usize) -> Spelling<'_>
     ensures whole { All IsDigit result.whole.now }
     ensures fraction { All IsDigit result.fraction.now }
     ensures exponent { All IsDigit result.exponent.now }
-    ensures number { AreFewEnough result.whole.now result.fraction.now → result.is_missing ≡ false → (fs : Frames) (negative : Bool)
-        → from usual source.now (numeral fs negative (begun (slice_index source.now start == 48) (slice_index source.now start))) (start + 1)
-        ≡ from usual source.now (behind fs (number (read_number (not negative) result.whole.now result.fraction.now
+    ensures number { AreFewEnough result.whole.now result.fraction.now → result.is_missing ≡ false → (r : Reading) (fs : Frames) (negative : Bool)
+        → from r source.now (numeral_begun fs negative (slice_index source.now start)) (start + 1)
+        ≡ from r source.now (behind fs (number (read_number (not negative) result.whole.now result.fraction.now
         (signed result.positive_exponent (digits_number result.exponent.now))))) result.end }
-    ensures missing { AreFewEnough result.whole.now result.fraction.now → result.is_missing ≡ true → (fs : Frames) (negative : Bool)
-        → from usual source.now (numeral fs negative (begun (slice_index source.now start == 48) (slice_index source.now start))) (start + 1)
+    ensures missing { AreFewEnough result.whole.now result.fraction.now → result.is_missing ≡ true → (r : Reading) (fs : Frames) (negative : Bool)
+        → from r source.now (numeral_begun fs negative (slice_index source.now start)) (start + 1)
         ≡ stopped (chars (drop result.end source.now)) }
-    ensures too_many { (f : DigitFault) → IsFirstTooMany result.whole.now result.fraction.now f → (fs : Frames) (negative : Bool)
+    ensures too_many { (f : DigitFault) → IsFirstTooMany result.whole.now result.fraction.now f → (r : Reading) (fs : Frames) (negative : Bool)
         → Tells (chars source.now) ExceededDepthLimit
-        (from usual source.now (numeral fs negative (begun (slice_index source.now start == 48) (slice_index source.now start))) (start + 1)) }
+        (from r source.now (numeral_begun fs negative (slice_index source.now start)) (start + 1)) }
 {
     let magnitude = magnitude_at(source, start);
     if magnitude.is_missing || !has_exponent_letter(source, magnitude.end) {
@@ -101,20 +101,20 @@ fn magnitude_at(source: &str, start: usize) -> Spelling<'_>
     ensures whole { All IsDigit result.whole.now }
     ensures fraction { All IsDigit result.fraction.now }
     ensures exponent { (result.positive_exponent ≡ true) × (result.exponent.now ≡ []) }
-    ensures letter { AreFewEnough result.whole.now result.fraction.now → result.is_missing ≡ false → (fs : Frames) (negative : Bool)
+    ensures letter { AreFewEnough result.whole.now result.fraction.now → result.is_missing ≡ false → (r : Reading) (fs : Frames) (negative : Bool)
         → result.end < length source.now → IsTrue (is_exponent_letter (slice_index source.now result.end))
-        → from usual source.now (numeral fs negative (begun (slice_index source.now start == 48) (slice_index source.now start))) (start + 1)
-        ≡ from usual source.now (numeral fs negative (lettered result.whole.now result.fraction.now (slice_index source.now result.end))) (result.end + 1) }
-    ensures number { AreFewEnough result.whole.now result.fraction.now → result.is_missing ≡ false → (fs : Frames) (negative : Bool)
+        → from r source.now (numeral_begun fs negative (slice_index source.now start)) (start + 1)
+        ≡ from r source.now (numeral fs negative (lettered result.whole.now result.fraction.now (slice_index source.now result.end))) (result.end + 1) }
+    ensures number { AreFewEnough result.whole.now result.fraction.now → result.is_missing ≡ false → (r : Reading) (fs : Frames) (negative : Bool)
         → (result.end < length source.now → is_exponent_letter (slice_index source.now result.end) ≡ false)
-        → from usual source.now (numeral fs negative (begun (slice_index source.now start == 48) (slice_index source.now start))) (start + 1)
-        ≡ from usual source.now (behind fs (number (read_number (not negative) result.whole.now result.fraction.now (pos 0)))) result.end }
-    ensures missing { AreFewEnough result.whole.now result.fraction.now → result.is_missing ≡ true → (fs : Frames) (negative : Bool)
-        → from usual source.now (numeral fs negative (begun (slice_index source.now start == 48) (slice_index source.now start))) (start + 1)
+        → from r source.now (numeral_begun fs negative (slice_index source.now start)) (start + 1)
+        ≡ from r source.now (behind fs (number (read_number (not negative) result.whole.now result.fraction.now (pos 0)))) result.end }
+    ensures missing { AreFewEnough result.whole.now result.fraction.now → result.is_missing ≡ true → (r : Reading) (fs : Frames) (negative : Bool)
+        → from r source.now (numeral_begun fs negative (slice_index source.now start)) (start + 1)
         ≡ stopped (chars (drop result.end source.now)) }
-    ensures too_many { (f : DigitFault) → IsFirstTooMany result.whole.now result.fraction.now f → (fs : Frames) (negative : Bool)
+    ensures too_many { (f : DigitFault) → IsFirstTooMany result.whole.now result.fraction.now f → (r : Reading) (fs : Frames) (negative : Bool)
         → Tells (chars source.now) ExceededDepthLimit
-        (from usual source.now (numeral fs negative (begun (slice_index source.now start == 48) (slice_index source.now start))) (start + 1)) }
+        (from r source.now (numeral_begun fs negative (slice_index source.now start)) (start + 1)) }
 {
     let whole = whole_at(source, start);
     let end = start + whole.len();
@@ -183,11 +183,11 @@ fn exponent_behind(source: &str, start: usize) -> Exponent<'_>
     requires { IsCharBoundary source.now start }
     ensures bounds { (start ≤ result.end) × (result.end ≤ length source.now) × IsCharBoundary source.now result.end }
     ensures digits { All IsDigit result.digits.now }
-    ensures number { 0 < length result.digits.now → (fs : Frames) (negative : Bool) (ws ds : List ℕ) (l : ℕ)
-        → from usual source.now (numeral fs negative (lettered ws ds l)) start
-        ≡ from usual source.now (behind fs (number (read_number (not negative) ws ds (signed result.is_positive (digits_number result.digits.now))))) result.end }
-    ensures missing { length result.digits.now ≡ 0 → (fs : Frames) (negative : Bool) (ws ds : List ℕ) (l : ℕ)
-        → from usual source.now (numeral fs negative (lettered ws ds l)) start ≡ stopped (chars (drop result.end source.now)) }
+    ensures number { 0 < length result.digits.now → (r : Reading) (fs : Frames) (negative : Bool) (ws ds : List ℕ) (l : ℕ)
+        → from r source.now (numeral fs negative (lettered ws ds l)) start
+        ≡ from r source.now (behind fs (number (read_number (not negative) ws ds (signed result.is_positive (digits_number result.digits.now))))) result.end }
+    ensures missing { length result.digits.now ≡ 0 → (r : Reading) (fs : Frames) (negative : Bool) (ws ds : List ℕ) (l : ℕ)
+        → from r source.now (numeral fs negative (lettered ws ds l)) start ≡ stopped (chars (drop result.end source.now)) }
 {
     if has_byte(source, start, b'-') {
         return exponent_at(source, start + 1, false);

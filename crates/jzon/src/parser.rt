@@ -12,6 +12,7 @@ ghost use Rattle.jzon.specs.Reading.{usual};
 use crate::blank::skip_blank;
 use crate::frames::{Frame, go_on, open_array, open_object};
 use crate::place::{fault_at, has_byte};
+use crate::reading::{Reading, USUAL};
 use crate::scalar::read_scalar;
 use jzon_base::error::{Error, Result};
 use jzon_tree::value::JsonValue;
@@ -25,12 +26,12 @@ pub fn parse(alloc: Global, source: &str) -> Result<JsonValue>
     ensures error { IfErr result (IsErrorUnlessMemory usual (chars source.now)) }
     ensures memory { result ≡ Err Error.OutOfMemory → TakesMemory (chars source.now) }
 {
-    read(alloc, source)
+    read(alloc, source, USUAL)
 }
 
 /// The same, by the machine over values.
-fn read(alloc: Global, source: &str) -> Result<JsonValue>
-    ensures outcome { Reads (chars source.now) result (from usual source.now (before no_frames) 0) }
+fn read(alloc: Global, source: &str, reading: Reading) -> Result<JsonValue>
+    ensures outcome { Reads (chars source.now) result (from reading source.now (before no_frames) 0) }
     ensures memory { result ≡ Err Error.OutOfMemory → TakesMemory (chars source.now) }
 {
     let mut stack = Vec::new(alloc);
@@ -38,17 +39,17 @@ fn read(alloc: Global, source: &str) -> Result<JsonValue>
     let mut index = 0;
     let mut value = None;
     loop {
-        index = skip_blank(source, index);
+        index = skip_blank(source, reading, index);
         match value {
             None => {
-                let next = begin(alloc, source, index, &mut stack, &mut buffer)?;
+                let next = begin(alloc, source, reading, index, &mut stack, &mut buffer)?;
                 value = next.0;
                 index = next.1;
             }
             Some(item) => match stack.pop() {
-                None => return finish(source, index, item),
+                None => return finish(source, reading, index, item),
                 Some(frame) => {
-                    let next = go_on(alloc, source, index, frame, item, &mut stack, &mut buffer)?;
+                    let next = go_on(alloc, source, reading, index, frame, item, &mut stack, &mut buffer)?;
                     value = next.0;
                     index = next.1;
                 }
@@ -58,11 +59,11 @@ fn read(alloc: Global, source: &str) -> Result<JsonValue>
 }
 
 /// The value of a text, of which the value is read and nothing may follow.
-fn finish(source: &str, index: usize, value: JsonValue) -> Result<JsonValue>
+fn finish(source: &str, reading: Reading, index: usize, value: JsonValue) -> Result<JsonValue>
     requires boundary { IsCharBoundary source.now index }
-    requires stop { index < length source.now → is_space usual.strict (slice_index source.now index) ≡ false }
+    requires stop { index < length source.now → is_space reading.strict (slice_index source.now index) ≡ false }
     ensures memory { result ≢ Err Error.OutOfMemory }
-    ensures same { Reads (chars source.now) result (from usual source.now (behind no_frames (view value)) index) }
+    ensures same { Reads (chars source.now) result (from reading source.now (behind no_frames (view value)) index) }
 {
     if index < source.len() {
         return Err(fault_at(source, index));
@@ -74,29 +75,30 @@ fn finish(source: &str, index: usize, value: JsonValue) -> Result<JsonValue>
 fn begin(
     alloc: Global,
     source: &str,
+    reading: Reading,
     index: usize,
     stack: &mut Vec<Frame>,
     buffer: &mut String,
 ) -> Result<(Option<JsonValue>, usize)>
     requires boundary { IsCharBoundary source.now index }
-    requires stop { index < length source.now → is_space usual.strict (slice_index source.now index) ≡ false }
-    requires room { vec_len stack.old ≤ usual.depth }
-    requires element { IsAtElement source.now index (stack_view stack.old.items) }
+    requires stop { index < length source.now → is_space reading.strict (slice_index source.now index) ≡ false }
+    requires room { vec_len stack.old ≤ reading.depth }
+    requires element { IsAtElement reading source.now index (stack_view stack.old.items) }
     ensures bounds { IfOk result (λ r. (index < r.1) × IsCharBoundary source.now r.1) }
-    ensures room { OnOk result (vec_len stack.new ≤ usual.depth) }
-    ensures ready { IfOk result (λ r. IsReady source.now r.1 r.0 (stack_view stack.new.items)) }
+    ensures room { OnOk result (vec_len stack.new ≤ reading.depth) }
+    ensures ready { IfOk result (λ r. IsReady reading source.now r.1 r.0 (stack_view stack.new.items)) }
     ensures memory { result ≡ Err Error.OutOfMemory → TakesMemory (chars source.now) }
     ensures opened { vec_len stack.old < vec_len stack.new → TakesMemory (chars source.now) }
     ensures same { MatchResult result
-        (λ r. from usual source.now (before (stack_view stack.old.items)) index
-        ≡ from usual source.now (place_of r.0 (stack_view stack.new.items)) r.1)
-        (λ e. TellsUnlessMemory (chars source.now) e (from usual source.now (before (stack_view stack.old.items)) index)) }
+        (λ r. from reading source.now (before (stack_view stack.old.items)) index
+        ≡ from reading source.now (place_of r.0 (stack_view stack.new.items)) r.1)
+        (λ e. TellsUnlessMemory (chars source.now) e (from reading source.now (before (stack_view stack.old.items)) index)) }
 {
     if has_byte(source, index, b'[') {
-        return open_array(alloc, source, index + 1, stack, buffer);
+        return open_array(alloc, source, reading, index + 1, stack, buffer);
     }
     if has_byte(source, index, b'{') {
-        return open_object(alloc, source, index + 1, stack, buffer);
+        return open_object(alloc, source, reading, index + 1, stack, buffer);
     }
     let (value, end) = read_scalar(alloc, source, index, buffer)?;
     Ok((Some(value), end))

@@ -6,9 +6,9 @@ ghost use Rattle.std.specs.Str.{IsCharBoundary};
 ghost use Rattle.jzon_tree.specs.Value.{Value};
 ghost use Rattle.jzon_tree.specs.View.{view};
 ghost use Rattle.jzon_tree.specs.Writing.{is_space};
-ghost use Rattle.jzon.specs.Classes.{begun, signed};
-ghost use Rattle.jzon.specs.Machine.{numeral, string, as_value, between, Frames, is_fresh, before, behind, past_letter, value_mark, from, Tells, TellsUnlessMemory};
-ghost use Rattle.jzon.specs.Reading.{usual};
+ghost use Rattle.jzon.specs.Classes.{signed};
+ghost use Rattle.jzon.specs.Machine.{numeral, numeral_begun, string, as_value, between, Frames, is_fresh, before, behind, past_letter, value_mark, from, Tells, TellsUnlessMemory};
+ghost use Rattle.jzon.specs.Reading.{Reading};
 
 use crate::numeral::read_number;
 use crate::place::{fault_at, has_byte, has_digit};
@@ -26,14 +26,15 @@ pub(crate) fn read_scalar(
     buffer: &mut String,
 ) -> Result<(JsonValue, usize)>
     requires boundary { IsCharBoundary source.now start }
-    requires stop { start < length source.now → is_space usual.strict (slice_index source.now start) ≡ false }
     requires no_array { slice_index source.now start ≢ 91 }
     requires no_object { slice_index source.now start ≢ 123 }
     ensures bounds { IfOk result (λ r. (start < r.1) × IsCharBoundary source.now r.1) }
     ensures memory { result ≡ Err Error.OutOfMemory → slice_index source.now start ≡ 34 }
-    ensures same { (fs : Frames) → value_mark usual fs ≡ None → (is_fresh fs ≡ true → slice_index source.now start ≢ 93) → MatchResult result
-        (λ r. from usual source.now (before fs) start ≡ from usual source.now (behind fs (view r.0)) r.1)
-        (λ e. TellsUnlessMemory (chars source.now) e (from usual source.now (before fs) start)) }
+    ensures same { (r : Reading) (fs : Frames) → value_mark r fs ≡ None
+        → (start < length source.now → is_space r.strict (slice_index source.now start) ≡ false)
+        → (is_fresh fs ≡ true → slice_index source.now start ≢ 93) → MatchResult result
+        (λ x. from r source.now (before fs) start ≡ from r source.now (behind fs (view x.0)) x.1)
+        (λ e. TellsUnlessMemory (chars source.now) e (from r source.now (before fs) start)) }
 {
     if start == source.len() {
         return Err(fault_at(source, start));
@@ -61,9 +62,9 @@ fn read_text(
 ) -> Result<(JsonValue, usize)>
     requires { IsCharBoundary source.now start }
     ensures bounds { IfOk result (λ r. (start < r.1) × IsCharBoundary source.now r.1) }
-    ensures same { (fs : Frames) → MatchResult result
-        (λ r. from usual source.now (string (as_value fs) [] between) start ≡ from usual source.now (behind fs (view r.0)) r.1)
-        (λ e. TellsUnlessMemory (chars source.now) e (from usual source.now (string (as_value fs) [] between) start)) }
+    ensures same { (r : Reading) (fs : Frames) → MatchResult result
+        (λ x. from r source.now (string (as_value fs) [] between) start ≡ from r source.now (behind fs (view x.0)) x.1)
+        (λ e. TellsUnlessMemory (chars source.now) e (from r source.now (string (as_value fs) [] between) start)) }
 {
     let spelled = read_string(source, start, buffer)?;
     let value = text_value(alloc, spelled.text(source, start, buffer))?;
@@ -75,9 +76,9 @@ fn read_text(
 fn read_negative(source: &str, start: usize) -> Result<(JsonValue, usize)>
     requires { IsCharBoundary source.now start }
     ensures bounds { IfOk result (λ r. (start < r.1) × IsCharBoundary source.now r.1) }
-    ensures same { (fs : Frames) → MatchResult result
-        (λ r. from usual source.now (numeral fs true signed) start ≡ from usual source.now (behind fs (view r.0)) r.1)
-        (λ e. Tells (chars source.now) e (from usual source.now (numeral fs true signed) start)) }
+    ensures same { (r : Reading) (fs : Frames) → MatchResult result
+        (λ x. from r source.now (numeral fs true signed) start ≡ from r source.now (behind fs (view x.0)) x.1)
+        (λ e. Tells (chars source.now) e (from r source.now (numeral fs true signed) start)) }
 {
     if !has_digit(source, start) {
         return Err(fault_at(source, start));
@@ -91,11 +92,11 @@ fn read_magnitude(source: &str, start: usize, negative: bool) -> Result<(JsonVal
     requires within { start < length source.now }
     requires digit { IsTrue (is_ascii_digit (slice_index source.now start)) }
     ensures bounds { IfOk result (λ r. (start < r.1) × IsCharBoundary source.now r.1) }
-    ensures same { (fs : Frames) → MatchResult result
-        (λ r. from usual source.now (numeral fs negative (begun (slice_index source.now start == 48) (slice_index source.now start))) (start + 1)
-        ≡ from usual source.now (behind fs (view r.0)) r.1)
+    ensures same { (r : Reading) (fs : Frames) → MatchResult result
+        (λ x. from r source.now (numeral_begun fs negative (slice_index source.now start)) (start + 1)
+        ≡ from r source.now (behind fs (view x.0)) x.1)
         (λ e. Tells (chars source.now) e
-        (from usual source.now (numeral fs negative (begun (slice_index source.now start == 48) (slice_index source.now start))) (start + 1))) }
+        (from r source.now (numeral_begun fs negative (slice_index source.now start)) (start + 1))) }
 {
     let (number, end) = read_number(source, start, negative)?;
     Ok((JsonValue::Number(number), end))
@@ -112,9 +113,9 @@ fn read_word(
     requires boundary { IsCharBoundary source.now start }
     requires ascii { IsAscii letters.now }
     ensures bounds { IfOk result (λ r. (start ≤ r.1) × IsCharBoundary source.now r.1) }
-    ensures same { (fs : Frames) → MatchResult result
-        (λ r. from usual source.now (past_letter fs (view value) letters.now) start ≡ from usual source.now (behind fs (view r.0)) r.1)
-        (λ e. Tells (chars source.now) e (from usual source.now (past_letter fs (view value) letters.now) start)) }
+    ensures same { (r : Reading) (fs : Frames) → MatchResult result
+        (λ x. from r source.now (past_letter fs (view value) letters.now) start ≡ from r source.now (behind fs (view x.0)) x.1)
+        (λ e. Tells (chars source.now) e (from r source.now (past_letter fs (view value) letters.now) start)) }
 {
     let end = read_letters(source, start, letters)?;
     Ok((value, end))
@@ -126,9 +127,9 @@ fn read_letters(source: &str, start: usize, letters: &[u8]) -> Result<usize>
     requires boundary { IsCharBoundary source.now start }
     requires ascii { IsAscii letters.now }
     ensures bounds { IfOk result (λ end. (start ≤ end) × IsCharBoundary source.now end) }
-    ensures same { (fs : Frames) (v : Value) → MatchResult result
-        (λ end. from usual source.now (past_letter fs v letters.now) start ≡ from usual source.now (behind fs v) end)
-        (λ e. Tells (chars source.now) e (from usual source.now (past_letter fs v letters.now) start)) }
+    ensures same { (r : Reading) (fs : Frames) (v : Value) → MatchResult result
+        (λ end. from r source.now (past_letter fs v letters.now) start ≡ from r source.now (behind fs v) end)
+        (λ e. Tells (chars source.now) e (from r source.now (past_letter fs v letters.now) start)) }
 {
     let mut index = start;
     for letter in letters {

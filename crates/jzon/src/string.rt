@@ -7,7 +7,7 @@ ghost use Rattle.jzon_base.specs.declared.error.Error.TheVariants.{OutOfMemory};
 ghost use Rattle.jzon_base.specs.PlainBytes.{is_plain};
 ghost use Rattle.jzon_tree.specs.Value.{text, kind_of};
 ghost use Rattle.jzon_tree.specs.View.{view};
-ghost use Rattle.jzon.specs.Reading.{usual};
+ghost use Rattle.jzon.specs.Reading.{Reading};
 ghost use Rattle.jzon.specs.Grammar.{is_simple, is_high, is_low, is_surrogate};
 ghost use Rattle.jzon.specs.Meaning.{unescaped, pair_char};
 ghost use Rattle.jzon.specs.Quote.{EndsAtQuote};
@@ -65,10 +65,10 @@ pub(crate) fn read_string(source: &str, start: usize, buffer: &mut String) -> Re
     ensures quote { IfOk result (λ s. EndsAtQuote source.now start s.end) }
     ensures escaped { IfOk result (λ s. IsTrue s.is_escaped ↔ Contains (slice_range source.now start (s.end - 1)) 92) }
     ensures untouched { IfOk result (λ s. s.is_escaped ≡ false → string_bytes buffer.new ≡ string_bytes buffer.old) }
-    ensures same { (role : Role) → MatchResult result
-        (λ s. from usual source.now (string role [] between) start
-        ≡ from usual source.now (closed_string role (if s.is_escaped then string_bytes buffer.new else slice_range source.now start (s.end - 1))) s.end)
-        (λ e. (e ≡ OutOfMemory) ⊎ Tells (chars source.now) e (from usual source.now (string role [] between) start)) }
+    ensures same { (r : Reading) (role : Role) → MatchResult result
+        (λ s. from r source.now (string role [] between) start
+        ≡ from r source.now (closed_string role (if s.is_escaped then string_bytes buffer.new else slice_range source.now start (s.end - 1))) s.end)
+        (λ e. (e ≡ OutOfMemory) ⊎ Tells (chars source.now) e (from r source.now (string role [] between) start)) }
 {
     let stop = plain_end(source, start);
     if !has_byte(source, stop, b'\\') {
@@ -94,8 +94,8 @@ fn plain_end(source: &str, start: usize) -> usize
     ensures boundary { IsCharBoundary source.now result }
     ensures stop { result < length source.now → is_plain (slice_index source.now result) ≡ false }
     ensures no_escape { ¬ (Contains (slice_range source.now start result) 92) }
-    ensures same { (role : Role) (bs : List ℕ) → from usual source.now (string role bs between) start
-        ≡ from usual source.now (string role (bs ++ slice_range source.now start result) between) result }
+    ensures same { (r : Reading) (role : Role) (bs : List ℕ) → from r source.now (string role bs between) start
+        ≡ from r source.now (string role (bs ++ slice_range source.now start result) between) result }
 {
     start + plain_len(&source.as_bytes()[start..])
 }
@@ -106,9 +106,9 @@ fn past_quote(source: &str, index: usize) -> Result<usize>
     requires stop { index < length source.now → is_plain (slice_index source.now index) ≡ false }
     requires no_escape { index < length source.now → slice_index source.now index ≡ 92 → ⊥ }
     ensures quote { IfOk result (λ end. (end ≡ index + 1) × EndsAtQuote source.now index end) }
-    ensures same { (role : Role) (bs : List ℕ) → MatchResult result
-        (λ end. from usual source.now (string role bs between) index ≡ from usual source.now (closed_string role bs) end)
-        (λ e. Tells (chars source.now) e (from usual source.now (string role bs between) index)) }
+    ensures same { (r : Reading) (role : Role) (bs : List ℕ) → MatchResult result
+        (λ end. from r source.now (string role bs between) index ≡ from r source.now (closed_string role bs) end)
+        (λ e. Tells (chars source.now) e (from r source.now (string role bs between) index)) }
 {
     if has_byte(source, index, b'"') {
         Ok(index + 1)
@@ -122,10 +122,10 @@ fn read_escapes(source: &str, start: usize, buffer: &mut String) -> Result<usize
     requires boundary { IsCharBoundary source.now start }
     requires stop { start < length source.now → is_plain (slice_index source.now start) ≡ false }
     ensures quote { IfOk result (λ end. EndsAtQuote source.now start end) }
-    ensures same { (role : Role) → MatchResult result
-        (λ end. from usual source.now (string role (string_bytes buffer.old) between) start
-        ≡ from usual source.now (closed_string role (string_bytes buffer.new)) end)
-        (λ e. (e ≡ OutOfMemory) ⊎ Tells (chars source.now) e (from usual source.now (string role (string_bytes buffer.old) between) start)) }
+    ensures same { (r : Reading) (role : Role) → MatchResult result
+        (λ end. from r source.now (string role (string_bytes buffer.old) between) start
+        ≡ from r source.now (closed_string role (string_bytes buffer.new)) end)
+        (λ e. (e ≡ OutOfMemory) ⊎ Tells (chars source.now) e (from r source.now (string role (string_bytes buffer.old) between) start)) }
 {
     let mut index = start;
     while has_byte(source, index, b'\\') {
@@ -141,9 +141,9 @@ fn read_escapes(source: &str, start: usize, buffer: &mut String) -> Result<usize
 fn read_escape(source: &str, start: usize) -> Result<(char, usize)>
     requires { IsCharBoundary source.now start }
     ensures bounds { IfOk result (λ r. (start < r.1) × IsCharBoundary source.now r.1) }
-    ensures same { (role : Role) (bs : List ℕ) → MatchResult result
-        (λ r. from usual source.now (string role bs slash) start ≡ from usual source.now (string role (bs ++ encode_utf8 r.0) between) r.1)
-        (λ e. Tells (chars source.now) e (from usual source.now (string role bs slash) start)) }
+    ensures same { (r : Reading) (role : Role) (bs : List ℕ) → MatchResult result
+        (λ x. from r source.now (string role bs slash) start ≡ from r source.now (string role (bs ++ encode_utf8 x.0) between) x.1)
+        (λ e. Tells (chars source.now) e (from r source.now (string role bs slash) start)) }
 {
     if has_byte(source, start, b'u') {
         return read_unicode(source, start + 1);
@@ -176,9 +176,9 @@ fn simple_escape(source: &str, index: usize) -> Option<char>
 fn read_unicode(source: &str, start: usize) -> Result<(char, usize)>
     requires { IsCharBoundary source.now start }
     ensures bounds { IfOk result (λ r. (start < r.1) × IsCharBoundary source.now r.1) }
-    ensures same { (role : Role) (bs : List ℕ) → MatchResult result
-        (λ r. from usual source.now (string role bs (code 3 0)) start ≡ from usual source.now (string role (bs ++ encode_utf8 r.0) between) r.1)
-        (λ e. Tells (chars source.now) e (from usual source.now (string role bs (code 3 0)) start)) }
+    ensures same { (r : Reading) (role : Role) (bs : List ℕ) → MatchResult result
+        (λ x. from r source.now (string role bs (code 3 0)) start ≡ from r source.now (string role (bs ++ encode_utf8 x.0) between) x.1)
+        (λ e. Tells (chars source.now) e (from r source.now (string role bs (code 3 0)) start)) }
 {
     let unit = read_hex(source, start)?;
     match char::from_u32(unit) {
@@ -191,9 +191,9 @@ fn read_unicode(source: &str, start: usize) -> Result<(char, usize)>
 fn read_second(source: &str, start: usize, first: u32) -> Result<(char, usize)>
     requires { IsCharBoundary source.now start }
     ensures bounds { IfOk result (λ r. (start < r.1) × IsCharBoundary source.now r.1) }
-    ensures same { (role : Role) (bs : List ℕ) → MatchResult result
-        (λ r. from usual source.now (string role bs (second first)) start ≡ from usual source.now (string role (bs ++ encode_utf8 r.0) between) r.1)
-        (λ e. Tells (chars source.now) e (from usual source.now (string role bs (second first)) start)) }
+    ensures same { (r : Reading) (role : Role) (bs : List ℕ) → MatchResult result
+        (λ x. from r source.now (string role bs (second first)) start ≡ from r source.now (string role (bs ++ encode_utf8 x.0) between) x.1)
+        (λ e. Tells (chars source.now) e (from r source.now (string role bs (second first)) start)) }
 {
     if !has_byte(source, start, b'\\') {
         return Err(fault_at(source, start));
@@ -224,13 +224,13 @@ fn read_hex(source: &str, start: usize) -> Result<u32>
     requires { IsCharBoundary source.now start }
     ensures unit { IfOk result (λ u. u < 0x10000) }
     ensures boundary { OnOk result (IsCharBoundary source.now (start + 4)) }
-    ensures first { (role : Role) (bs : List ℕ) → MatchResult result
-        (λ u. from usual source.now (string role bs (code 3 0)) start ≡ from usual source.now (coded (is_surrogate u) role bs u) (start + 4))
-        (λ e. Tells (chars source.now) e (from usual source.now (string role bs (code 3 0)) start)) }
-    ensures second { (role : Role) (bs : List ℕ) (h : ℕ) → MatchResult result
-        (λ u. from usual source.now (string role bs (second_code h 3 0)) start
-        ≡ outcome_on (paired (is_high h && is_low u) role bs h u) (λ p. from usual source.now p (start + 4)) (chars (drop (start + 3) source.now)))
-        (λ e. Tells (chars source.now) e (from usual source.now (string role bs (second_code h 3 0)) start)) }
+    ensures first { (r : Reading) (role : Role) (bs : List ℕ) → MatchResult result
+        (λ u. from r source.now (string role bs (code 3 0)) start ≡ from r source.now (coded (is_surrogate u) role bs u) (start + 4))
+        (λ e. Tells (chars source.now) e (from r source.now (string role bs (code 3 0)) start)) }
+    ensures second { (r : Reading) (role : Role) (bs : List ℕ) (h : ℕ) → MatchResult result
+        (λ u. from r source.now (string role bs (second_code h 3 0)) start
+        ≡ outcome_on (paired (is_high h && is_low u) role bs h u) (λ p. from r source.now p (start + 4)) (chars (drop (start + 3) source.now)))
+        (λ e. Tells (chars source.now) e (from r source.now (string role bs (second_code h 3 0)) start)) }
 {
     let mut unit = 0;
     for index in start..start + 4 {

@@ -2,7 +2,6 @@ use Rattle.std.proofs.Common.{[], ◌∷◌, ap, ◌∙◌, map}
 use Rattle.std.specs.Prelude.{chars}
 use Rattle.std.proofs.lemmas.List.{map-append}
 use Rattle.jzon_tree.specs.View.{view}
-use Rattle.jzon.specs.Reading.{usual}
 use Rattle.jzon.specs.Frames.{entries_view, open_in, stack_view}
 use Rattle.jzon.specs.Machine.{behind, from}
 use Rattle.jzon.proofs.Told.{same_unless_memory}
@@ -11,13 +10,13 @@ use Rattle.jzon.proofs.frames.go_on.Goals as goal
 pub returns-in_ok-push-in-Array-clause-same : goal.returns-in_ok-push-in-Array-clause-same
 returns-in_ok-push-in-Array-clause-same c =
     same_unless_memory _ _ _ (chars c.args.source.now) c.go_on_array.result
-    (ap (λ frame. from usual c.args.source.now (behind (open_in (stack_view c.args.stack.now.items) frame) (view c.args.item)) c.args.index) c.in-Array.is)
+    (ap (λ frame. from c.args.reading c.args.source.now (behind (open_in (stack_view c.args.stack.now.items) frame) (view c.args.item)) c.args.index) c.in-Array.is)
     (c.go_on_array.ensures.same (map view c.in-Array.elements.items) (view c.args.item)
     (ap (map view) c.in_ok-push-in-Array.ensures.items ∙ map-append view c.in-Array.elements.items (c.args.item ∷ [])))
 
 pub returns-in_ok-push-in-Object-clause-same : goal.returns-in_ok-push-in-Object-clause-same
 returns-in_ok-push-in-Object-clause-same c =
     same_unless_memory _ _ _ (chars c.args.source.now) c.go_on_object.result
-    (ap (λ frame. from usual c.args.source.now (behind (open_in (stack_view c.args.stack.now.items) frame) (view c.args.item)) c.args.index) c.in-Object.is)
+    (ap (λ frame. from c.args.reading c.args.source.now (behind (open_in (stack_view c.args.stack.now.items) frame) (view c.args.item)) c.args.index) c.in-Object.is)
     (c.go_on_object.ensures.same (entries_view c.in-Object.entries.items) c.in-Object.key (view c.args.item)
     (ap entries_view c.in_ok-push-in-Object.ensures.items ∙ map-append (λ p. (p.0, view p.1)) c.in-Object.entries.items ((c.in-Object.key, c.args.item) ∷ [])))

@@ -4,7 +4,6 @@ use Rattle.std.proofs.lemmas.Bool.{iff_false}
 use Rattle.std.proofs.lemmas.Str.{IsCharBoundary-after_ascii}
 use Rattle.jzon_tree.specs.Value.{array, values_of}
 use Rattle.jzon_tree.proofs.Views.{view-Array}
-use Rattle.jzon.specs.Reading.{usual}
 use Rattle.jzon.specs.Frames.{stack_view}
 use Rattle.jzon.specs.Machine.{array_frame, before, behind, from}
 use Rattle.jzon.proofs.ContainerSteps.{close_array, element_comma, no_element}
@@ -21,16 +20,16 @@ pub returns-then-has_byte-clause-same : goal.returns-then-has_byte-clause-same
 returns-then-has_byte-clause-same c vs v e =
     let here = c.has_byte.ensures.0 c.if-has_byte.true in
     let fs = stack_view c.args.stack.now.items in
-    close_array usual c.args.source.now c.args.index fs vs v c.utf8.source c.requires.boundary here.0 here.1
-    ∙ ap (λ x. from usual c.args.source.now (behind fs x) (c.args.index + 1))
+    close_array c.args.reading c.args.source.now c.args.index fs vs v c.utf8.source c.requires.boundary here.0 here.1
+    ∙ ap (λ x. from c.args.reading c.args.source.now (behind fs x) (c.args.index + 1))
     (sym (view-Array c.args.elements ∙ ap (λ xs. array (values_of xs)) e))
 
 pub returns-then-not-has_byte-clause-same : goal.returns-then-not-has_byte-clause-same
 returns-then-not-has_byte-clause-same c vs v e =
     let fs = stack_view c.args.stack.now.items in
     told (chars c.args.source.now) c.fault_at.result _ _
-    (from_stop usual c.args.source.now c.args.index (behind (array_frame fs vs) v) c.utf8.source c.requires.boundary
-    (no_element usual c.args.source.now c.args.index fs vs v c.requires.stop
+    (from_stop c.args.reading c.args.source.now c.args.index (behind (array_frame fs vs) v) c.utf8.source c.requires.boundary
+    (no_element c.args.reading c.args.source.now c.args.index fs vs v c.requires.stop
     (iff_false c.has_byte-2.ensures c.if-not-has_byte.true) (iff_false c.has_byte.ensures c.if-has_byte.false)))
     c.fault_at.ensures
 
@@ -44,7 +43,7 @@ returns-clause-same c vs v e =
     let here = c.has_byte-2.ensures.0 c.if-not-has_byte.false in
     let fs = stack_view c.args.stack.now.items in
     same_unless_memory _ _ _ (chars c.args.source.now) c.read_elements.result
-    (element_comma usual c.args.source.now c.args.index fs vs v c.utf8.source c.requires.boundary here.0 here.1
+    (element_comma c.args.reading c.args.source.now c.args.index fs vs v c.utf8.source c.requires.boundary here.0 here.1
     ∙ c.skip_blank-start.ensures.before (array_frame fs (vs ++ v ∷ []))
-    ∙ ap (λ xs. from usual c.args.source.now (before (array_frame fs xs)) c.skip_blank-start.result) (sym e))
+    ∙ ap (λ xs. from c.args.reading c.args.source.now (before (array_frame fs xs)) c.skip_blank-start.result) (sym e))
     c.read_elements.ensures.same

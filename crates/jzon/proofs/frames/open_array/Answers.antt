@@ -5,7 +5,6 @@ use Rattle.std.proofs.lemmas.Str.{IsCharBoundary-after_ascii}
 use Rattle.jzon_tree.specs.Value.{array}
 use Rattle.jzon_tree.specs.View.{view_values}
 use Rattle.jzon_tree.proofs.Views.{view-Array}
-use Rattle.jzon.specs.Reading.{usual}
 use Rattle.jzon.specs.Frames.{stack_view}
 use Rattle.jzon.specs.Machine.{array_frame, frames_depth, before, behind, from}
 use Rattle.jzon.proofs.ContainerSteps.{close_empty_array, deep_element}
@@ -24,22 +23,22 @@ returns-then-has_byte-clause-same c =
     let here = c.has_byte.ensures.0 c.if-has_byte.true in
     let fs = stack_view c.args.stack.now.items in
     c.skip_blank-index.ensures.before (array_frame fs [])
-    ∙ close_empty_array usual c.args.source.now c.skip_blank-index.result fs c.utf8.source c.skip_blank-index.ensures.boundary here.0 here.1
-    ∙ ap (λ v. from usual c.args.source.now (behind fs v) (c.skip_blank-index.result + 1))
+    ∙ close_empty_array c.args.reading c.args.source.now c.skip_blank-index.result fs c.utf8.source c.skip_blank-index.ensures.boundary here.0 here.1
+    ∙ ap (λ v. from c.args.reading c.args.source.now (behind fs v) (c.skip_blank-index.result + 1))
     (sym (view-Array c.new.result ∙ ap (λ vs. array (view_values vs)) c.new.ensures.items))
 
 pub returns-then-index-source-clause-same : goal.returns-then-index-source-clause-same
 returns-then-index-source-clause-same c =
     let fs = stack_view c.args.stack.now.items in
-    told_end usual c.args.source.now c.skip_blank-index.result (before (array_frame fs [])) _ (c.skip_blank-index.ensures.before (array_frame fs [])) (omega arith) refl
+    told_end c.args.reading c.args.source.now c.skip_blank-index.result (before (array_frame fs [])) _ (c.skip_blank-index.ensures.before (array_frame fs [])) (omega arith) refl
 
-pub returns-then-len-eq-DEPTH_LIMIT-clause-same : goal.returns-then-len-eq-DEPTH_LIMIT-clause-same
-returns-then-len-eq-DEPTH_LIMIT-clause-same c =
+pub returns-then-len-from-clause-same : goal.returns-then-len-from-clause-same
+returns-then-len-from-clause-same c =
     let fs = stack_view c.args.stack.now.items in
     let lt : c.skip_blank-index.result < length c.args.source.now = omega (arith, c.skip_blank-index.ensures.boundary.0) in
-    let deep : nat_le 512 (frames_depth fs) ≡ true =
-    too_deep (frames_depth fs) (omega (arith, frames_depth-stack c.args.stack.now.items, c.args.stack.now.ok.0, c.len.ensures)) in
+    let deep : nat_le c.args.reading.depth (frames_depth fs) ≡ true =
+    too_deep c.args.reading.depth (frames_depth fs) (omega (arith, frames_depth-stack c.args.stack.now.items, c.args.stack.now.ok.0, c.len.ensures)) in
     told_deep (chars c.args.source.now) _ _
     (c.skip_blank-index.ensures.before (array_frame fs [])
-    ∙ deep_element usual c.args.source.now c.skip_blank-index.result fs c.utf8.source c.skip_blank-index.ensures.boundary lt (c.skip_blank-index.ensures.stop lt)
+    ∙ deep_element c.args.reading c.args.source.now c.skip_blank-index.result fs c.utf8.source c.skip_blank-index.ensures.boundary lt (c.skip_blank-index.ensures.stop lt)
     (λ e. iff_false c.has_byte.ensures c.if-has_byte.false (lt, e)) deep)

@@ -8,7 +8,6 @@ use Rattle.jzon_base.specs.PairList.{put_each}
 use Rattle.jzon_tree.specs.Value.{object, pairs_of}
 use Rattle.jzon_tree.specs.View.{view}
 use Rattle.jzon_tree.proofs.Views.{view-Object}
-use Rattle.jzon.specs.Reading.{usual}
 use Rattle.jzon.specs.Frames.{entries_view, stack_view}
 use Rattle.jzon.specs.Machine.{object_frame, frames_depth, before, before_key, behind, from}
 use Rattle.jzon.proofs.ContainerSteps.{close_object, entry_comma, no_entry}
@@ -36,12 +35,12 @@ read_key-requires-clause-stop c = c.loop-entries.invariant.stop
 
 -- the loop leaves the stack as it was
 unmoved : (c : After-read_key) →
-    from usual c.args.source.now (before_key (stack_view c.args.stack.now.items) (entries_view c.args.entries.items)) c.args.start
-    ≡ from usual c.args.source.now (before_key (stack_view c.loop-entries.stack.items) (entries_view c.args.entries.items)) c.args.start
+    from c.args.reading c.args.source.now (before_key (stack_view c.args.stack.now.items) (entries_view c.args.entries.items)) c.args.start
+    ≡ from c.args.reading c.args.source.now (before_key (stack_view c.loop-entries.stack.items) (entries_view c.args.entries.items)) c.args.start
 unmoved c =
-    ap (λ s. from usual c.args.source.now (before_key (stack_view s.items) (entries_view c.args.entries.items)) c.args.start) (sym c.loop-entries.invariant.stack)
+    ap (λ s. from c.args.reading c.args.source.now (before_key (stack_view s.items) (entries_view c.args.entries.items)) c.args.start) (sym c.loop-entries.invariant.stack)
 
-shallow : (c : After-read_key) → frames_depth (stack_view c.loop-entries.stack.items) < 512
+shallow : (c : After-read_key) → frames_depth (stack_view c.loop-entries.stack.items) < c.args.reading.depth
 shallow c =
     let same = ap (λ s. frames_depth (stack_view s.items)) c.loop-entries.invariant.stack in
     omega (arith, same, frames_depth-stack c.args.stack.now.items, c.args.stack.now.ok.0, c.requires.room)
@@ -54,17 +53,17 @@ returns-in_err-key-clause-same c =
     let failed = err_from_is_err_and c.from_residual.result c.from_residual.ensures.1 in
     told_err _ (chars c.args.source.now) c.from_residual.result failed.0 _ failed.1
     (told_again (chars c.args.source.now) failed.0 _ _ (unmoved at ∙ c.loop-entries.invariant.same)
-    (rw failed.2 (c.in_err-key.ensures.same fs es (key_mark-shallow fs es (shallow at)) c.loop-entries.invariant.key)))
+    (rw failed.2 (c.in_err-key.ensures.same fs es (key_mark-shallow c.args.reading fs es (shallow at)) c.loop-entries.invariant.key)))
 
 -- the key was read, its colon, and a blank behind it
-began : (c : After-skip_blank-index) → frames_depth (stack_view c.loop-entries.stack.items) < 512
-    → from usual c.args.source.now (before_key (stack_view c.loop-entries.stack.items) (entries_view c.args.entries.items)) c.args.start
-    ≡ from usual c.args.source.now (before (object_frame (stack_view c.loop-entries.stack.items) (entries_view c.loop-entries.entries.items) c.in_ok-key.key))
+began : (c : After-skip_blank-index) → frames_depth (stack_view c.loop-entries.stack.items) < c.args.reading.depth
+    → from c.args.reading c.args.source.now (before_key (stack_view c.loop-entries.stack.items) (entries_view c.args.entries.items)) c.args.start
+    ≡ from c.args.reading c.args.source.now (before (object_frame (stack_view c.loop-entries.stack.items) (entries_view c.loop-entries.entries.items) c.in_ok-key.key))
     c.skip_blank-index.result
 began c lt =
     let fs = stack_view c.loop-entries.stack.items in
     let es = entries_view c.loop-entries.entries.items in
-    c.loop-entries.invariant.same ∙ c.in_ok-key.ensures.same fs es (key_mark-shallow fs es lt) c.loop-entries.invariant.key
+    c.loop-entries.invariant.same ∙ c.in_ok-key.ensures.same fs es (key_mark-shallow c.args.reading fs es lt) c.loop-entries.invariant.key
     ∙ c.skip_blank-index.ensures.before (object_frame fs es c.in_ok-key.key)
 
 pub returns-then-opens_container-clause-bounds : goal.returns-then-opens_container-clause-bounds
@@ -79,7 +78,7 @@ pub returns-then-opens_container-clause-same : goal.returns-then-opens_container
 returns-then-opens_container-clause-same c =
     let at = goal.at.returns-then-opens_container-clause-same c in
     unmoved at.After-read_key ∙ began at.After-skip_blank-index (shallow at.After-read_key)
-    ∙ ap (λ gs. from usual c.args.source.now (before gs) c.skip_blank-index.result)
+    ∙ ap (λ gs. from c.args.reading c.args.source.now (before gs) c.skip_blank-index.result)
     (sym (stack_view-push c.loop-entries.stack.items c.push.new.self.items _ c.in_ok-push.ensures.items))
 
 pub returns-in_err-value-clause-same : goal.returns-in_err-value-clause-same
@@ -89,18 +88,18 @@ returns-in_err-value-clause-same c =
     let failed = err_from_is_err_and c.from_residual-in_err-value.result c.from_residual-in_err-value.ensures.1 in
     told_err _ (chars c.args.source.now) c.from_residual-in_err-value.result failed.0 _ failed.1
     (told_again (chars c.args.source.now) failed.0 _ _ (unmoved at.After-read_key ∙ began at.After-skip_blank-index (shallow at.After-read_key))
-    (rw failed.2 (c.in_err-value.ensures.same fs refl (λ f. absurd (true≢false (sym f))))))
+    (rw failed.2 (c.in_err-value.ensures.same c.args.reading fs refl c.skip_blank-index.ensures.stop (λ f. absurd (true≢false (sym f))))))
 
 -- the value was read, and a blank behind it
 came : (c : After-skip_blank-index-in-loop-entries) →
-    from usual c.args.source.now (before (object_frame (stack_view c.loop-entries.stack.items) (entries_view c.loop-entries.entries.items) c.in_ok-key.key))
+    from c.args.reading c.args.source.now (before (object_frame (stack_view c.loop-entries.stack.items) (entries_view c.loop-entries.entries.items) c.in_ok-key.key))
     c.skip_blank-index.result
-    ≡ from usual c.args.source.now
+    ≡ from c.args.reading c.args.source.now
     (behind (object_frame (stack_view c.loop-entries.stack.items) (entries_view c.loop-entries.entries.items) c.in_ok-key.key) (view c.in_ok-value.value))
     c.skip_blank-index-in-loop-entries.result
 came c =
     let fs = object_frame (stack_view c.loop-entries.stack.items) (entries_view c.loop-entries.entries.items) c.in_ok-key.key in
-    c.in_ok-value.ensures.same fs refl (λ f. absurd (true≢false (sym f))) ∙ c.skip_blank-index-in-loop-entries.ensures.behind fs (view c.in_ok-value.value)
+    c.in_ok-value.ensures.same c.args.reading fs refl c.skip_blank-index.ensures.stop (λ f. absurd (true≢false (sym f))) ∙ c.skip_blank-index-in-loop-entries.ensures.behind fs (view c.in_ok-value.value)
 
 pushed : (c : After-skip_blank-index-in-loop-entries) →
     entries_view c.push-in-loop-entries.new.self.items ≡ entries_view c.loop-entries.entries.items ++ (c.in_ok-key.key, view c.in_ok-value.value) ∷ []
@@ -126,9 +125,9 @@ returns-then-has_byte-clause-same c =
     let here = c.has_byte.ensures.0 c.if-has_byte.true in
     let fs = stack_view c.loop-entries.stack.items in
     unmoved at.After-read_key ∙ began at.After-skip_blank-index (shallow at.After-read_key) ∙ came at.After-skip_blank-index-in-loop-entries
-    ∙ close_object usual c.args.source.now c.skip_blank-index-in-loop-entries.result fs (entries_view c.loop-entries.entries.items) c.in_ok-key.key
+    ∙ close_object c.args.reading c.args.source.now c.skip_blank-index-in-loop-entries.result fs (entries_view c.loop-entries.entries.items) c.in_ok-key.key
     (view c.in_ok-value.value) c.utf8.source c.skip_blank-index-in-loop-entries.ensures.boundary here.0 here.1
-    ∙ ap (λ x. from usual c.args.source.now (behind fs x) (c.skip_blank-index-in-loop-entries.result + 1))
+    ∙ ap (λ x. from c.args.reading c.args.source.now (behind fs x) (c.skip_blank-index-in-loop-entries.result + 1))
     (sym (view-Object c.in_ok-object.object
     ∙ view_object-entries c.in_ok-object.object c.push-in-loop-entries.new.self.items c.in_ok-object.ensures.pairs
     ∙ ap (λ xs. object (pairs_of (put_each xs))) (pushed at.After-skip_blank-index-in-loop-entries)))
@@ -141,9 +140,9 @@ returns-then-not-has_byte-clause-same c =
     let v = view c.in_ok-value.value in
     told (chars c.args.source.now) c.fault_at.result _ _
     (unmoved at.After-read_key ∙ began at.After-skip_blank-index (shallow at.After-read_key) ∙ came at.After-skip_blank-index-in-loop-entries
-    ∙ from_stop usual c.args.source.now c.skip_blank-index-in-loop-entries.result (behind (object_frame fs es c.in_ok-key.key) v) c.utf8.source
+    ∙ from_stop c.args.reading c.args.source.now c.skip_blank-index-in-loop-entries.result (behind (object_frame fs es c.in_ok-key.key) v) c.utf8.source
     c.skip_blank-index-in-loop-entries.ensures.boundary
-    (no_entry usual c.args.source.now c.skip_blank-index-in-loop-entries.result fs es c.in_ok-key.key v c.skip_blank-index-in-loop-entries.ensures.stop
+    (no_entry c.args.reading c.args.source.now c.skip_blank-index-in-loop-entries.result fs es c.in_ok-key.key v c.skip_blank-index-in-loop-entries.ensures.stop
     (iff_false c.has_byte-in-loop-entries.ensures c.if-not-has_byte.true) (iff_false c.has_byte.ensures c.if-has_byte.false)))
     c.fault_at.ensures
 
@@ -180,8 +179,8 @@ loop-entries-preserved c =
       stop = c.skip_blank-index-in-loop-entries-2.ensures.stop;
       key = λ none. absurd (no_entries es (k, v) (sym more ∙ none));
       same = began at.After-skip_blank-index (shallow at.After-read_key) ∙ came at.After-skip_blank-index-in-loop-entries
-          ∙ entry_comma usual c.args.source.now c.skip_blank-index-in-loop-entries.result fs es k v c.utf8.source
+          ∙ entry_comma c.args.reading c.args.source.now c.skip_blank-index-in-loop-entries.result fs es k v c.utf8.source
           c.skip_blank-index-in-loop-entries.ensures.boundary here.0 here.1
           ∙ c.skip_blank-index-in-loop-entries-2.ensures.before_key fs (es ++ (k, v) ∷ [])
-          ∙ ap (λ xs. from usual c.args.source.now (before_key fs xs) c.skip_blank-index-in-loop-entries-2.result) (sym more);
+          ∙ ap (λ xs. from c.args.reading c.args.source.now (before_key fs xs) c.skip_blank-index-in-loop-entries-2.result) (sym more);
     }

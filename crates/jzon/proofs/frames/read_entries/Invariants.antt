@@ -3,7 +3,6 @@ use Rattle.std.specs.Str.{IsCharBoundary}
 use Rattle.jzon_tree.specs.Writing.{is_space}
 use Rattle.jzon.specs.Frames.{stack_view, entries_view}
 use Rattle.jzon.specs.Machine.{before_key, from}
-use Rattle.jzon.specs.Reading.{usual}
 use Rattle.jzon.proofs.frames.read_entries.Given as goal
 
 abbrev pub invariant-loop-entries : goal.invariant-loop-entries
@@ -11,10 +10,10 @@ invariant-loop-entries l = record {
   stack : l.stack ≡ l.initial.stack;
   within : l.start ≤ l.index;
   boundary : IsCharBoundary l.source l.index;
-  stop : l.index < length l.source → is_space usual.strict (slice_index l.source l.index) ≡ false;
+  stop : l.index < length l.source → is_space l.reading.strict (slice_index l.source l.index) ≡ false;
   key : entries_view l.entries.items ≡ [] → slice_index l.source l.index ≢ 125;
-  same : from usual l.source (before_key (stack_view l.stack.items) (entries_view l.fn.entries.items)) l.start
-      ≡ from usual l.source (before_key (stack_view l.stack.items) (entries_view l.entries.items)) l.index;
+  same : from l.reading l.source (before_key (stack_view l.stack.items) (entries_view l.fn.entries.items)) l.start
+      ≡ from l.reading l.source (before_key (stack_view l.stack.items) (entries_view l.entries.items)) l.index;
 }
 
 abbrev pub decreases-loop-entries : goal.decreases-loop-entries

@@ -3,7 +3,6 @@ use Rattle.std.specs.Prelude.{chars, slice_range}
 use Rattle.std.proofs.lemmas.Bool.{iff_false}
 use Rattle.std.proofs.lemmas.Result.{err_from_is_err_and}
 use Rattle.std.proofs.lemmas.Str.{IsCharBoundary-after_ascii}
-use Rattle.jzon.specs.Reading.{usual}
 use Rattle.jzon.specs.Machine.{as_key, before, before_key, after_key, object_frame, from}
 use Rattle.jzon.proofs.ContainerSteps.{open_key, no_key, colon_goes, no_colon}
 use Rattle.jzon.proofs.Steps.{from_stop}
@@ -13,8 +12,8 @@ use Rattle.jzon.proofs.frames.read_key.Goals as goal
 pub returns-then-not-has_byte-clause-same : goal.returns-then-not-has_byte-clause-same
 returns-then-not-has_byte-clause-same c fs es h n =
     told (chars c.args.source.now) c.fault_at.result _ _
-    (from_stop usual c.args.source.now c.args.start (before_key fs es) c.utf8.source c.requires.boundary
-    (no_key usual c.args.source.now c.args.start fs es h c.requires.stop (iff_false c.has_byte.ensures c.if-not-has_byte.true) n))
+    (from_stop c.args.reading c.args.source.now c.args.start (before_key fs es) c.utf8.source c.requires.boundary
+    (no_key c.args.reading c.args.source.now c.args.start fs es h c.requires.stop (iff_false c.has_byte.ensures c.if-not-has_byte.true) n))
     c.fault_at.ensures
 
 pub read_string-requires : goal.read_string-requires
@@ -28,8 +27,8 @@ returns-in_err-spelled-clause-same c fs es h n =
     let failed = err_from_is_err_and c.from_residual.result c.from_residual.ensures.1 in
     told_err _ (chars c.args.source.now) c.from_residual.result failed.0 _ failed.1
     (told_again (chars c.args.source.now) failed.0 _ _
-    (open_key usual c.args.source.now c.args.start fs es c.utf8.source c.requires.boundary here.0 here.1 h)
-    (rw failed.2 (c.in_err-spelled.ensures.same (as_key fs es))))
+    (open_key c.args.reading c.args.source.now c.args.start fs es c.utf8.source c.requires.boundary here.0 here.1 h)
+    (rw failed.2 (c.in_err-spelled.ensures.same c.args.reading (as_key fs es))))
 
 pub text-requires-clause-begin : goal.text-requires-clause-begin
 text-requires-clause-begin c =
@@ -41,10 +40,10 @@ returns-then-not-has_byte-2-clause-same c fs es h n =
     let here = c.has_byte.ensures.0 c.if-not-has_byte.false in
     let text = cond c.in_ok-spelled.spelled.is_escaped (string_bytes c.read_string.new.buffer) (slice_range c.args.source.now (c.args.start + 1) (c.in_ok-spelled.spelled.end - 1)) in
     told (chars c.args.source.now) c.fault_at-then-not-has_byte-2.result _ _
-    (open_key usual c.args.source.now c.args.start fs es c.utf8.source c.requires.boundary here.0 here.1 h
-    ∙ c.in_ok-spelled.ensures.same (as_key fs es) ∙ c.skip_blank-colon.ensures.after_key fs es text
-    ∙ from_stop usual c.args.source.now c.skip_blank-colon.result (after_key fs es text) c.utf8.source c.skip_blank-colon.ensures.boundary
-    (no_colon usual c.args.source.now c.skip_blank-colon.result fs es text c.skip_blank-colon.ensures.stop
+    (open_key c.args.reading c.args.source.now c.args.start fs es c.utf8.source c.requires.boundary here.0 here.1 h
+    ∙ c.in_ok-spelled.ensures.same c.args.reading (as_key fs es) ∙ c.skip_blank-colon.ensures.after_key fs es text
+    ∙ from_stop c.args.reading c.args.source.now c.skip_blank-colon.result (after_key fs es text) c.utf8.source c.skip_blank-colon.ensures.boundary
+    (no_colon c.args.reading c.args.source.now c.skip_blank-colon.result fs es text c.skip_blank-colon.ensures.stop
     (iff_false c.has_byte-2.ensures c.if-not-has_byte-2.true)))
     c.fault_at-then-not-has_byte-2.ensures
 
@@ -60,7 +59,7 @@ returns-clause-same c fs es h n =
     let here = c.has_byte.ensures.0 c.if-not-has_byte.false in
     let colon = c.has_byte-2.ensures.0 c.if-not-has_byte-2.false in
     let text = cond c.in_ok-spelled.spelled.is_escaped (string_bytes c.read_string.new.buffer) (slice_range c.args.source.now (c.args.start + 1) (c.in_ok-spelled.spelled.end - 1)) in
-    open_key usual c.args.source.now c.args.start fs es c.utf8.source c.requires.boundary here.0 here.1 h
-    ∙ c.in_ok-spelled.ensures.same (as_key fs es) ∙ c.skip_blank-colon.ensures.after_key fs es text
-    ∙ colon_goes usual c.args.source.now c.skip_blank-colon.result fs es text c.utf8.source c.skip_blank-colon.ensures.boundary colon.0 colon.1
-    ∙ ap (λ k. from usual c.args.source.now (before (object_frame fs es k)) (c.skip_blank-colon.result + 1)) (sym (c.in_ok-key.ensures.bytes ∙ c.text.ensures))
+    open_key c.args.reading c.args.source.now c.args.start fs es c.utf8.source c.requires.boundary here.0 here.1 h
+    ∙ c.in_ok-spelled.ensures.same c.args.reading (as_key fs es) ∙ c.skip_blank-colon.ensures.after_key fs es text
+    ∙ colon_goes c.args.reading c.args.source.now c.skip_blank-colon.result fs es text c.utf8.source c.skip_blank-colon.ensures.boundary colon.0 colon.1
+    ∙ ap (λ k. from c.args.reading c.args.source.now (before (object_frame fs es k)) (c.skip_blank-colon.result + 1)) (sym (c.in_ok-key.ensures.bytes ∙ c.text.ensures))

@@ -3,7 +3,6 @@ use Rattle.std.specs.Prelude.{chars}
 use Rattle.std.proofs.lemmas.Result.{err_from_is_err_and}
 use Rattle.std.proofs.lemmas.Str.{IsCharBoundary-after_ascii}
 use Rattle.jzon_base.specs.declared.error.Error.TheVariants.{OutOfMemory}
-use Rattle.jzon.specs.Reading.{usual}
 use Rattle.jzon.specs.Frames.{stack_view}
 use Rattle.jzon.specs.Machine.{value_mark}
 use Rattle.jzon.proofs.ContainerSteps.{open_array, open_object}
@@ -20,10 +19,10 @@ pub returns-then-has_byte-clause-same : goal.returns-then-has_byte-clause-same
 returns-then-has_byte-clause-same c =
     let here = c.has_byte.ensures.0 c.if-has_byte.true in
     let fs = stack_view c.args.stack.now.items in
-    let shallow : value_mark usual fs ≡ None =
-    value_mark-shallow fs (omega (arith, frames_depth-stack c.args.stack.now.items, c.args.stack.now.ok.0, c.requires.room)) in
+    let shallow : value_mark c.args.reading fs ≡ None =
+    value_mark-shallow c.args.reading fs (omega (arith, frames_depth-stack c.args.stack.now.items, c.args.stack.now.ok.0, c.requires.room)) in
     same_unless_memory _ _ _ (chars c.args.source.now) c.open_array.result
-    (open_array usual c.args.source.now c.args.index fs c.utf8.source c.requires.boundary here.0 here.1 shallow) c.open_array.ensures.same
+    (open_array c.args.reading c.args.source.now c.args.index fs c.utf8.source c.requires.boundary here.0 here.1 shallow) c.open_array.ensures.same
 
 pub returns-then-has_byte-clause-memory : goal.returns-then-has_byte-clause-memory
 returns-then-has_byte-clause-memory c e =
@@ -44,10 +43,10 @@ pub returns-then-has_byte-2-clause-same : goal.returns-then-has_byte-2-clause-sa
 returns-then-has_byte-2-clause-same c =
     let here = c.has_byte-2.ensures.0 c.if-has_byte-2.true in
     let fs = stack_view c.args.stack.now.items in
-    let shallow : value_mark usual fs ≡ None =
-    value_mark-shallow fs (omega (arith, frames_depth-stack c.args.stack.now.items, c.args.stack.now.ok.0, c.requires.room)) in
+    let shallow : value_mark c.args.reading fs ≡ None =
+    value_mark-shallow c.args.reading fs (omega (arith, frames_depth-stack c.args.stack.now.items, c.args.stack.now.ok.0, c.requires.room)) in
     same_unless_memory _ _ _ (chars c.args.source.now) c.open_object.result
-    (open_object usual c.args.source.now c.args.index fs c.utf8.source c.requires.boundary here.0 here.1 shallow) c.open_object.ensures.same
+    (open_object c.args.reading c.args.source.now c.args.index fs c.utf8.source c.requires.boundary here.0 here.1 shallow) c.open_object.ensures.same
 
 pub returns-then-has_byte-2-clause-memory : goal.returns-then-has_byte-2-clause-memory
 returns-then-has_byte-2-clause-memory c e =
@@ -69,15 +68,15 @@ returns-in_err-value-clause-memory c e =
 pub returns-in_err-value-clause-same : goal.returns-in_err-value-clause-same
 returns-in_err-value-clause-same c =
     let fs = stack_view c.args.stack.now.items in
-    let shallow : value_mark usual fs ≡ None =
-    value_mark-shallow fs (omega (arith, frames_depth-stack c.args.stack.now.items, c.args.stack.now.ok.0, c.requires.room)) in
+    let shallow : value_mark c.args.reading fs ≡ None =
+    value_mark-shallow c.args.reading fs (omega (arith, frames_depth-stack c.args.stack.now.items, c.args.stack.now.ok.0, c.requires.room)) in
     let failed = err_from_is_err_and c.from_residual.result c.from_residual.ensures.1 in
     told_err _ (chars c.args.source.now) c.from_residual.result failed.0 _ failed.1
-    (rw failed.2 (c.in_err-value.ensures.same fs shallow (λ f. (c.requires.element f).1)))
+    (rw failed.2 (c.in_err-value.ensures.same c.args.reading fs shallow c.requires.stop (λ f. (c.requires.element f).1)))
 
 pub returns-clause-same : goal.returns-clause-same
 returns-clause-same c =
     let fs = stack_view c.args.stack.now.items in
-    let shallow : value_mark usual fs ≡ None =
-    value_mark-shallow fs (omega (arith, frames_depth-stack c.args.stack.now.items, c.args.stack.now.ok.0, c.requires.room)) in
-    c.in_ok-value.ensures.same fs shallow (λ f. (c.requires.element f).1)
+    let shallow : value_mark c.args.reading fs ≡ None =
+    value_mark-shallow c.args.reading fs (omega (arith, frames_depth-stack c.args.stack.now.items, c.args.stack.now.ok.0, c.requires.room)) in
+    c.in_ok-value.ensures.same c.args.reading fs shallow c.requires.stop (λ f. (c.requires.element f).1)

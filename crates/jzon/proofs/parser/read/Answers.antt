@@ -3,7 +3,6 @@ use Rattle.std.proofs.lemmas.Bool.{true≢false}
 use Rattle.std.proofs.lemmas.Str.{IsCharBoundary-start}
 use Rattle.jzon.specs.Frames.{stack_view}
 use Rattle.jzon.specs.Machine.{no_frames, is_fresh, before, from}
-use Rattle.jzon.specs.Reading.{usual}
 use Rattle.jzon.proofs.parser.read.Goals as goal
 
 pub loop-value-init : goal.loop-value-init
@@ -13,5 +12,5 @@ loop-value-init c =
       omega (arith, c.new-stack.ensures.len),
       λ fresh. absurd (true≢false (sym fresh ∙ ap is_fresh none)),
       λ some. absurd (omega (arith, c.new-stack.ensures.len)),
-      ap (λ fs. from usual c.args.source.now (before fs) 0) (sym none),
+      ap (λ fs. from c.args.reading c.args.source.now (before fs) 0) (sym none),
     )

@@ -1,7 +1,7 @@
 use Rattle.std.proofs.Common.{◌≡◌, ◌≤◌, drop}
 use Rattle.std.specs.Str.{IsCharBoundary}
 use Rattle.jzon_tree.specs.Value.{Value}
-use Rattle.jzon.specs.Reading.{usual}
+use Rattle.jzon.specs.Reading.{Reading}
 use Rattle.jzon.specs.Machine.{Frames, past_letter, from}
 use Rattle.jzon.proofs.scalar.read_letters.Given as goal
 
@@ -9,4 +9,4 @@ abbrev pub invariant-loop-letter : goal.invariant-loop-letter
 invariant-loop-letter l =
     (l.start ≤ l.index)
     × IsCharBoundary l.source l.index
-    × ((fs : Frames) (v : Value) → from usual l.source (past_letter fs v l.letters) l.start ≡ from usual l.source (past_letter fs v (drop l.letter-index l.letters)) l.index)
+    × ((r : Reading) (fs : Frames) (v : Value) → from r l.source (past_letter fs v l.letters) l.start ≡ from r l.source (past_letter fs v (drop l.letter-index l.letters)) l.index)

@@ -1,6 +1,5 @@
 use Rattle.std.proofs.Common.{◌≡◌, sym, subst, true, false}
 use Rattle.std.specs.Prelude.{chars}
-use Rattle.jzon.specs.Reading.{usual}
 use Rattle.jzon.specs.Machine.{numeral, Tells}
 use Rattle.jzon.specs.Classes.{signed}
 use Rattle.jzon.proofs.Steps.{from_stop, same_outcome}
@@ -8,15 +7,15 @@ use Rattle.jzon.proofs.NumeralSteps.{no_digit_stops, digit_goes}
 use Rattle.jzon.proofs.scalar.read_negative.Goals as goal
 
 pub returns-then-not-has_digit-clause-same : goal.returns-then-not-has_digit-clause-same
-returns-then-not-has_digit-clause-same c fs =
+returns-then-not-has_digit-clause-same c r fs =
     subst (Tells (chars c.args.source.now) c.fault_at.result)
-    (sym (from_stop usual c.args.source.now c.args.start (numeral fs true signed) c.utf8.source c.requires
-    (no_digit_stops usual c.args.source.now c.args.start fs (λ h. let no : c.has_digit.result ≡ true = c.has_digit.ensures.1 h in let yes : c.has_digit.result ≡ false = c.if-not-has_digit.true in cc))))
+    (sym (from_stop r c.args.source.now c.args.start (numeral fs true signed) c.utf8.source c.requires
+    (no_digit_stops r c.args.source.now c.args.start fs (λ h. let no : c.has_digit.result ≡ true = c.has_digit.ensures.1 h in let yes : c.has_digit.result ≡ false = c.if-not-has_digit.true in cc))))
     c.fault_at.ensures
 
 pub returns-clause-same : goal.returns-clause-same
-returns-clause-same c fs =
+returns-clause-same c r fs =
     let here = c.has_digit.ensures.0 c.if-not-has_digit.false in
     same_outcome _ _ _ (chars c.args.source.now) c.read_magnitude.result
-    (digit_goes usual c.args.source.now c.args.start fs c.utf8.source c.requires here)
-    (c.read_magnitude.ensures.same fs)
+    (digit_goes r c.args.source.now c.args.start fs c.utf8.source c.requires here)
+    (c.read_magnitude.ensures.same r fs)

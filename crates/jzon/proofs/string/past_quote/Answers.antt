@@ -1,7 +1,6 @@
 use Rattle.std.proofs.Common.{refl, sym, subst}
 use Rattle.std.specs.Prelude.{chars}
 use Rattle.std.proofs.lemmas.Bool.{iff_false}
-use Rattle.jzon.specs.Reading.{usual}
 use Rattle.jzon.specs.Machine.{Tells}
 use Rattle.jzon.proofs.Quotes.{quote_closes, quote_ends, string_stops}
 use Rattle.jzon.proofs.string.past_quote.Goals as goal
@@ -12,13 +11,13 @@ returns-then-has_byte-clause-quote c =
     (refl, quote_ends c.args.source.now c.args.index c.utf8.source c.requires.boundary here)
 
 pub returns-then-has_byte-clause-same : goal.returns-then-has_byte-clause-same
-returns-then-has_byte-clause-same c role bs =
+returns-then-has_byte-clause-same c r role bs =
     let here = c.has_byte.ensures.0 c.if-has_byte.true in
-    quote_closes usual role bs c.args.source.now c.args.index c.utf8.source c.requires.boundary here.0 here.1
+    quote_closes r role bs c.args.source.now c.args.index c.utf8.source c.requires.boundary here.0 here.1
 
 pub returns-else-has_byte-clause-same : goal.returns-else-has_byte-clause-same
-returns-else-has_byte-clause-same c role bs =
+returns-else-has_byte-clause-same c r role bs =
     subst (Tells (chars c.args.source.now) c.fault_at.result)
-    (sym (string_stops usual role bs c.args.source.now c.args.index c.utf8.source c.requires.boundary c.requires.stop c.requires.no_escape
+    (sym (string_stops r role bs c.args.source.now c.args.index c.utf8.source c.requires.boundary c.requires.stop c.requires.no_escape
     (iff_false c.has_byte.ensures c.if-has_byte.false)))
     c.fault_at.ensures

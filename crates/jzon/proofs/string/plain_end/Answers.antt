@@ -2,7 +2,6 @@ use Rattle.std.proofs.Common.{◌≡◌, ◌≤◌, ◌+◌, ◌-◌, ◌∙◌,
 use Rattle.std.proofs.lemmas.List.{take_rest}
 use Rattle.std.specs.List.{prefix_len}
 use Rattle.jzon_base.specs.PlainBytes.{is_plain}
-use Rattle.jzon.specs.Reading.{usual}
 use Rattle.jzon.proofs.Scanning.{stops_run, within_run}
 use Rattle.jzon.proofs.PlainRuns.{plain_boundary, plain_no_escape, plain_run}
 use Rattle.jzon.proofs.string.plain_end.Goals as goal
@@ -29,5 +28,5 @@ pub returns-clause-no_escape : goal.returns-clause-no_escape
 returns-clause-no_escape c = plain_no_escape c.args.source.now c.args.start c.plain_len.result (run c)
 
 pub returns-clause-same : goal.returns-clause-same
-returns-clause-same c role bs =
-    plain_run usual role bs c.args.source.now c.args.start c.plain_len.result c.utf8.source c.requires (run c)
+returns-clause-same c r role bs =
+    plain_run r role bs c.args.source.now c.args.start c.plain_len.result c.utf8.source c.requires (run c)

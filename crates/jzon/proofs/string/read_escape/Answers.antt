@@ -2,7 +2,6 @@ use Rattle.std.proofs.Common.{◌≡◌, ◌+◌, ◌++◌, ◌∙◌, ap, sym, 
 use Rattle.std.specs.Prelude.{chars, encode_utf8, MatchResult}
 use Rattle.std.proofs.lemmas.Bool.{iff_false}
 use Rattle.std.proofs.lemmas.Str.{IsCharBoundary-after_ascii}
-use Rattle.jzon.specs.Reading.{usual}
 use Rattle.jzon.specs.Machine.{string, between, from, Tells}
 use Rattle.jzon.proofs.Escapes.{simple_is_ascii, simple_read, digits_begin, escape_stops}
 use Rattle.jzon.proofs.string.read_escape.Goals as goal
@@ -13,11 +12,11 @@ read_unicode-requires c =
     IsCharBoundary-after_ascii c.args.source.now c.args.start c.utf8.source here.0 (omega (arith, here.1))
 
 pub returns-then-has_byte-clause-same : goal.returns-then-has_byte-clause-same
-returns-then-has_byte-clause-same c role bs =
+returns-then-has_byte-clause-same c r role bs =
     let text = c.args.source.now in
     let here = c.has_byte.ensures.0 c.if-has_byte.true in
-    subst (λ o. MatchResult c.read_unicode.result (λ r. o ≡ from usual text (string role (bs ++ encode_utf8 r.0) between) r.1) (λ e. Tells (chars text) e o))
-    (sym (digits_begin usual role bs text c.args.start c.utf8.source c.requires here.0 here.1)) (c.read_unicode.ensures.same role bs)
+    subst (λ o. MatchResult c.read_unicode.result (λ x. o ≡ from r text (string role (bs ++ encode_utf8 x.0) between) x.1) (λ e. Tells (chars text) e o))
+    (sym (digits_begin r role bs text c.args.start c.utf8.source c.requires here.0 here.1)) (c.read_unicode.ensures.same r role bs)
 
 pub returns-in-Some-clause-bounds : goal.returns-in-Some-clause-bounds
 returns-in-Some-clause-bounds c =
@@ -25,14 +24,14 @@ returns-in-Some-clause-bounds c =
     (omega arith, IsCharBoundary-after_ascii c.args.source.now c.args.start c.utf8.source here.0.0 (simple_is_ascii _ here.0.1).0)
 
 pub returns-in-Some-clause-same : goal.returns-in-Some-clause-same
-returns-in-Some-clause-same c role bs =
+returns-in-Some-clause-same c r role bs =
     let text = c.args.source.now in
     let here = c.in-Some.ensures in
-    simple_read usual role bs text c.args.start c.utf8.source c.requires here.0.0 here.0.1
-    ∙ ap (λ ch. from usual text (string role (bs ++ encode_utf8 ch) between) (c.args.start + 1)) (sym here.1)
+    simple_read r role bs text c.args.start c.utf8.source c.requires here.0.0 here.0.1
+    ∙ ap (λ ch. from r text (string role (bs ++ encode_utf8 ch) between) (c.args.start + 1)) (sym here.1)
 
 pub returns-in-None-clause-same : goal.returns-in-None-clause-same
-returns-in-None-clause-same c role bs =
+returns-in-None-clause-same c r role bs =
     subst (Tells (chars c.args.source.now) c.fault_at.result)
-    (sym (escape_stops usual role bs c.args.source.now c.args.start c.utf8.source c.requires (iff_false c.has_byte.ensures c.if-has_byte.false) c.in-None.ensures))
+    (sym (escape_stops r role bs c.args.source.now c.args.start c.utf8.source c.requires (iff_false c.has_byte.ensures c.if-has_byte.false) c.in-None.ensures))
     c.fault_at.ensures

@@ -3,7 +3,6 @@ use Rattle.std.specs.Prelude.{chars, encode_utf8, slice_range}
 use Rattle.std.specs.String.{string_bytes}
 use Rattle.std.proofs.lemmas.Result.{err_from_is_err_and, MatchResult-weaker}
 use Rattle.std.proofs.lemmas.Str.{IsCharBoundary-after_ascii}
-use Rattle.jzon.specs.Reading.{usual}
 use Rattle.jzon.specs.Machine.{string, between, from, Tells}
 use Rattle.jzon.proofs.Quotes.{backslash_begins}
 use Rattle.jzon.proofs.string.read_escapes.Goals as goal
@@ -14,14 +13,14 @@ read_escape-requires c =
     IsCharBoundary-after_ascii c.args.source.now c.loop-start.index c.utf8.source here.0 (omega (arith, here.1))
 
 pub returns-in_err-ch-clause-same : goal.returns-in_err-ch-clause-same
-returns-in_err-ch-clause-same c role =
+returns-in_err-ch-clause-same c r role =
     let text = c.args.source.now in
     let here = c.has_byte.ensures.0 c.loop-start-test.true in
     let read = string_bytes c.loop-start.buffer in
     let told = err_from_is_err_and c.from_residual.result c.from_residual.ensures.1 in
-    let escape = c.loop-start.invariant.same role
-    ∙ backslash_begins usual role read text c.loop-start.index c.utf8.source c.loop-start.invariant.boundary here.0 here.1 in
-    rw (told.1, told.2) (inr (subst (Tells (chars text) _) (sym escape) (c.in_err-ch.ensures.same role read)))
+    let escape = c.loop-start.invariant.same r role
+    ∙ backslash_begins r role read text c.loop-start.index c.utf8.source c.loop-start.invariant.boundary here.0 here.1 in
+    rw (told.1, told.2) (inr (subst (Tells (chars text) _) (sym escape) (c.in_err-ch.ensures.same r role read)))
 
 pub loop-start-preserved : goal.loop-start-preserved
 loop-start-preserved c =
@@ -35,15 +34,15 @@ loop-start-preserved c =
       within = omega (arith, c.in_ok-ch.ensures.bounds.0);
       boundary = c.plain_end-index.ensures.boundary;
       stop = c.plain_end-index.ensures.stop;
-      same = λ role.
-          c.loop-start.invariant.same role
-          ∙ backslash_begins usual role read text c.loop-start.index c.utf8.source c.loop-start.invariant.boundary here.0 here.1
-          ∙ c.in_ok-ch.ensures.same role read ∙ c.plain_end-index.ensures.same role (read ++ encode_utf8 c.in_ok-ch.ch)
-          ∙ ap (λ z. from usual text (string role z between) c.plain_end-index.result) (sym bytes);
+      same = λ r role.
+          c.loop-start.invariant.same r role
+          ∙ backslash_begins r role read text c.loop-start.index c.utf8.source c.loop-start.invariant.boundary here.0 here.1
+          ∙ c.in_ok-ch.ensures.same r role read ∙ c.plain_end-index.ensures.same r role (read ++ encode_utf8 c.in_ok-ch.ch)
+          ∙ ap (λ z. from r text (string role z between) c.plain_end-index.result) (sym bytes);
     }
 
 pub returns-clause-same : goal.returns-clause-same
-returns-clause-same c role =
-    let so_far = c.loop-start.invariant.same role in
-    MatchResult-weaker c.past_quote.result (c.past_quote.ensures.same role (string_bytes c.loop-start.buffer)) (λ end h. so_far ∙ h)
+returns-clause-same c r role =
+    let so_far = c.loop-start.invariant.same r role in
+    MatchResult-weaker c.past_quote.result (c.past_quote.ensures.same r role (string_bytes c.loop-start.buffer)) (λ end h. so_far ∙ h)
     (λ e h. inr (subst (Tells (chars c.args.source.now) e) (sym so_far) h))

@@ -2,7 +2,7 @@ use Rattle.std.proofs.Common.{◌≡◌, ◌-◌, ◌<◌, ◌≤◌, length, fa
 use Rattle.std.specs.Str.{IsCharBoundary}
 use Rattle.std.specs.String.{string_bytes}
 use Rattle.jzon_base.specs.PlainBytes.{is_plain}
-use Rattle.jzon.specs.Reading.{usual}
+use Rattle.jzon.specs.Reading.{Reading}
 use Rattle.jzon.specs.Machine.{Role, string, between, from}
 use Rattle.jzon.proofs.string.read_escapes.Given as goal
 
@@ -12,8 +12,8 @@ invariant-loop-start l = record {
   boundary : IsCharBoundary l.source l.index;
   stop : l.index < length l.source → is_plain (slice_index l.source l.index) ≡ false;
   same :
-      (role : Role) → from usual l.source (string role (string_bytes l.initial.buffer) between) l.start
-      ≡ from usual l.source (string role (string_bytes l.buffer) between) l.index;
+      (r : Reading) (role : Role) → from r l.source (string role (string_bytes l.initial.buffer) between) l.start
+      ≡ from r l.source (string role (string_bytes l.buffer) between) l.index;
 }
 
 abbrev pub decreases-loop-start : goal.decreases-loop-start

@@ -1,6 +1,5 @@
-use Rattle.jzon.specs.Reading.{usual}
 use Rattle.jzon.proofs.HexDigits.{HexRead}
 use Rattle.jzon.proofs.string.read_hex.Given as goal
 
 abbrev pub invariant-loop-index : goal.invariant-loop-index
-invariant-loop-index l = HexRead usual l.source l.start l.index l.unit
+invariant-loop-index l = HexRead l.source l.start l.index l.unit

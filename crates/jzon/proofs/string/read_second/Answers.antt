@@ -4,7 +4,6 @@ use Rattle.std.proofs.lemmas.Bool.{false_from_ne_true, iff_false}
 use Rattle.std.proofs.lemmas.Result.{err_from_is_err_and}
 use Rattle.std.proofs.lemmas.Str.{IsCharBoundary-after_ascii}
 use Rattle.jzon_base.specs.declared.error.Error.TheVariants.{FailedUtf8Parsing}
-use Rattle.jzon.specs.Reading.{usual}
 use Rattle.jzon.specs.Grammar.{is_high, is_low}
 use Rattle.jzon.specs.Meaning.{pair_char}
 use Rattle.jzon.specs.Machine.{string, between, paired, outcome_on, from, Tells}
@@ -12,9 +11,9 @@ use Rattle.jzon.proofs.Escapes.{second_begins, second_digits_boundary, second_st
 use Rattle.jzon.proofs.string.read_second.Goals as goal
 
 pub returns-then-not-has_byte-clause-same : goal.returns-then-not-has_byte-clause-same
-returns-then-not-has_byte-clause-same c role bs =
+returns-then-not-has_byte-clause-same c r role bs =
     subst (Tells (chars c.args.source.now) c.fault_at.result)
-    (sym (second_stops usual role bs c.args.source.now c.args.first c.args.start c.utf8.source c.requires
+    (sym (second_stops r role bs c.args.source.now c.args.first c.args.start c.utf8.source c.requires
     (iff_false c.has_byte.ensures c.if-not-has_byte.true)))
     c.fault_at.ensures
 
@@ -24,9 +23,9 @@ fault_at-requires-then-not-has_byte-2 c =
     IsCharBoundary-after_ascii c.args.source.now c.args.start c.utf8.source one.0 (omega (arith, one.1))
 
 pub returns-then-not-has_byte-2-clause-same : goal.returns-then-not-has_byte-2-clause-same
-returns-then-not-has_byte-2-clause-same c role bs =
+returns-then-not-has_byte-2-clause-same c r role bs =
     subst (Tells (chars c.args.source.now) c.fault_at-then-not-has_byte-2.result)
-    (sym (second_u_stops usual role bs c.args.source.now c.args.first c.args.start c.utf8.source c.requires (c.has_byte.ensures.0 c.if-not-has_byte.false)
+    (sym (second_u_stops r role bs c.args.source.now c.args.first c.args.start c.utf8.source c.requires (c.has_byte.ensures.0 c.if-not-has_byte.false)
     (iff_false c.has_byte-2.ensures c.if-not-has_byte-2.true)))
     c.fault_at-then-not-has_byte-2.ensures
 
@@ -35,32 +34,32 @@ read_hex-requires c =
     second_digits_boundary c.args.source.now c.args.start c.utf8.source (c.has_byte-2.ensures.0 c.if-not-has_byte-2.false)
 
 pub returns-in_err-unit-clause-same : goal.returns-in_err-unit-clause-same
-returns-in_err-unit-clause-same c role bs =
+returns-in_err-unit-clause-same c r role bs =
     let told = err_from_is_err_and c.from_residual.result c.from_residual.ensures.1 in
-    let digits = second_begins usual role bs c.args.source.now c.args.first c.args.start c.utf8.source c.requires
+    let digits = second_begins r role bs c.args.source.now c.args.first c.args.start c.utf8.source c.requires
     (c.has_byte.ensures.0 c.if-not-has_byte.false) (c.has_byte-2.ensures.0 c.if-not-has_byte-2.false) in
-    rw (told.1, told.2) (subst (Tells (chars c.args.source.now) _) (sym digits) (c.in_err-unit.ensures.second role bs c.args.first))
+    rw (told.1, told.2) (subst (Tells (chars c.args.source.now) _) (sym digits) (c.in_err-unit.ensures.second r role bs c.args.first))
 
 pub returns-in-Some-clause-same : goal.returns-in-Some-clause-same
-returns-in-Some-clause-same c role bs =
+returns-in-Some-clause-same c r role bs =
     let pair = c.in-Some.ensures in
     let text = c.args.source.now in
     let rest = chars (drop (c.args.start + 2 + 3) text) in
-    let digits = second_begins usual role bs text c.args.first c.args.start c.utf8.source c.requires (c.has_byte.ensures.0 c.if-not-has_byte.false)
+    let digits = second_begins r role bs text c.args.first c.args.start c.utf8.source c.requires (c.has_byte.ensures.0 c.if-not-has_byte.false)
     (c.has_byte-2.ensures.0 c.if-not-has_byte-2.false) in
-    digits ∙ c.in_ok-unit.ensures.second role bs c.args.first
-    ∙ ap (λ t. outcome_on (paired t role bs c.args.first c.in_ok-unit.unit) (λ p. from usual text p (c.args.start + 2 + 4)) rest) pair.0
-    ∙ ap (λ n. from usual text (string role (bs ++ encode_utf8 (pair_char c.args.first c.in_ok-unit.unit)) between) n) (let e : c.args.start + 2 + 4 ≡ c.args.start + 6 = omega arith in e)
-    ∙ ap (λ ch. from usual text (string role (bs ++ encode_utf8 ch) between) (c.args.start + 6)) (sym pair.1)
+    digits ∙ c.in_ok-unit.ensures.second r role bs c.args.first
+    ∙ ap (λ t. outcome_on (paired t role bs c.args.first c.in_ok-unit.unit) (λ p. from r text p (c.args.start + 2 + 4)) rest) pair.0
+    ∙ ap (λ n. from r text (string role (bs ++ encode_utf8 (pair_char c.args.first c.in_ok-unit.unit)) between) n) (let e : c.args.start + 2 + 4 ≡ c.args.start + 6 = omega arith in e)
+    ∙ ap (λ ch. from r text (string role (bs ++ encode_utf8 ch) between) (c.args.start + 6)) (sym pair.1)
 
 pub returns-in-None-clause-same : goal.returns-in-None-clause-same
-returns-in-None-clause-same c role bs =
+returns-in-None-clause-same c r role bs =
     let text = c.args.source.now in
     let rest = chars (drop (c.args.start + 2 + 3) text) in
     let no_pair : (is_high c.args.first && is_low c.in_ok-unit.unit) ≡ false = false_from_ne_true _ c.in-None.ensures in
-    let digits = second_begins usual role bs text c.args.first c.args.start c.utf8.source c.requires (c.has_byte.ensures.0 c.if-not-has_byte.false)
+    let digits = second_begins r role bs text c.args.first c.args.start c.utf8.source c.requires (c.has_byte.ensures.0 c.if-not-has_byte.false)
     (c.has_byte-2.ensures.0 c.if-not-has_byte-2.false) in
     subst (Tells (chars text) FailedUtf8Parsing)
-    (sym (digits ∙ c.in_ok-unit.ensures.second role bs c.args.first
-    ∙ ap (λ t. outcome_on (paired t role bs c.args.first c.in_ok-unit.unit) (λ p. from usual text p (c.args.start + 2 + 4)) rest) no_pair))
+    (sym (digits ∙ c.in_ok-unit.ensures.second r role bs c.args.first
+    ∙ ap (λ t. outcome_on (paired t role bs c.args.first c.in_ok-unit.unit) (λ p. from r text p (c.args.start + 2 + 4)) rest) no_pair))
     refl

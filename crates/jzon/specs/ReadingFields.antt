@@ -1,0 +1,6 @@
+-- How the fields of a `Reading` stand for it.
+use Rattle.jzon.specs.Reading.{Reading}
+use Rattle.jzon.specs.declared.reading.Reading.TheInside.{Inside}
+
+abbrev pub fields_of : Reading → Inside
+fields_of r = record { strict = r.strict; depth = r.depth }

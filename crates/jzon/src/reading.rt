@@ -1,0 +1,60 @@
+//! How texts are read (docs/RULES.md, "Readings").
+
+ghost use Rattle.std.specs.Prelude.{◌≡◌, ◌≤◌, SomeIff};
+
+use std::marker::Model;
+
+/// How a text is read: strictly or not, and with how many containers open that aren't empty. A strict reading has the whitespace of RFC 8259 alone, and
+/// refuses a repeated key.
+#[derive(Clone, Copy, Debug)]
+pub struct Reading {
+    strict: bool,
+    depth: u16,
+}
+
+impl Model for Reading {
+    ghost use Rattle.std.specs.Prelude.{◌≤◌};
+    ghost use Rattle.jzon.specs.Reading.{Reading as Limits};
+    ghost use Rattle.jzon.specs.ReadingFields.{fields_of};
+
+    ghost Value = { Limits };
+
+    ghost view = { λ r. record { strict = r.strict; depth = r.depth } };
+
+    ghost invariant = { λ r. r.depth ≤ 512 };
+
+    ghost inverse = { fields_of };
+}
+
+/// The reading of `parse`.
+pub(crate) const USUAL: Reading = Reading {
+    strict: false,
+    depth: 512,
+};
+
+impl Reading {
+    /// The reading of these arguments; none where `depth` is above 512.
+    pub fn new(strict: bool, depth: u16) -> Option<Reading>
+        ensures { SomeIff result (depth ≤ 512) (record { strict = strict; depth = depth }) }
+    {
+        if depth > 512 {
+            return None;
+        }
+        Some(Reading { strict, depth })
+    }
+
+    /// Whether it is strict.
+    pub fn strict(&self) -> bool
+        ensures { result ≡ self.now.strict }
+    {
+        self.strict
+    }
+
+    /// How many containers that aren't empty may be open.
+    pub fn depth(&self) -> u16
+        ensures depth { result ≡ self.now.depth }
+        ensures most { result ≤ 512 }
+    {
+        self.depth
+    }
+}
