@@ -10,7 +10,7 @@ use Rattle.jzon.specs.Reading.{Reading}
 use Rattle.jzon.specs.Spelling.{Breach, deep, breach_if}
 use Rattle.jzon.specs.Fault.{limit}
 use Rattle.jzon.specs.Classes.{Class, white, digits, dash, quote, opens_array, closes_array, opens_object, closes_object, comma, colon, begins_null, begins_true, begins_false, class_of}
-use Rattle.jzon.specs.Machine.{Entries, Frames, frames_depth, array_frame, object_frame, as_key, between, Place, before, before_key, string, after_key, behind, go, bad, bad_at, value_mark, key_mark, move_before, move_before_key, move_after_key, move_empty_object, move_behind, refused, outcome_on, from}
+use Rattle.jzon.specs.Machine.{Entries, Frames, frames_depth, array_frame, object_frame, as_key, between, Place, before, before_key, string, after_key, behind, go, bad, bad_at, value_mark, key_mark, move_before, move_before_key, move_after_key, move_empty_object, move_behind, refused, outcome_on, from, left_at}
 use Rattle.jzon.proofs.Classes.{class-white, class-quote, class-closes_array, class-closes_object, class-comma, class-colon, class_34, class_44, class_58, class_91, class_93, class_123, class_125, white-class}
 use Rattle.jzon.proofs.Scanning.{Skips, space_is_ascii, wide_is_no_space}
 use Rattle.jzon.proofs.Steps.{StopsAt, from_step, stops_by, IsDeep, from_deep}
@@ -39,7 +39,7 @@ close_empty_array r bs i fs u at lt e =
 pub close_empty_object : (r : Reading) (bs : List ℕ) (i : ℕ) (fs : Frames) → IsUtf8 bs → IsCharBoundary bs i → i < length bs → get_or bs i 0 ≡ 125
     → from r bs (before_key fs []) i ≡ from r bs (behind fs (value.object value.no_pairs)) (i + 1)
 close_empty_object r bs i fs u at lt e =
-    from_step r bs i (before_key fs []) _ 125 u at lt e (lit< tt) (ap (λ k. move_before_key r k fs []) (class_125 r.strict))
+    from_step r bs i (before_key fs []) _ 125 u at lt e (lit< tt) (ap (λ k. move_before_key r k fs [] (left_at bs i)) (class_125 r.strict))
 
 -- ---- a container too many
 
@@ -73,12 +73,12 @@ deep_element r bs i fs u at lt s n h =
     (deep_element_on r (array_frame fs []) (get_or bs i 0) (class_of r.strict (get_or bs i 0)) mark s n refl)
     (λ c wide. deep_element_on r (array_frame fs []) c (class_of r.strict c) mark (wide_is_no_space r.strict c wide) (λ e. absurd (omega (arith, e))) refl)
 
-deep_key_on : (r : Reading) (fs : Frames) (c : ℕ) (k : Class) → key_mark r fs [] ≡ Some deep → is_space r.strict c ≡ false → c ≢ 125 → class_of r.strict c ≡ k
-    → IsDeep (move_before_key r k fs [])
-deep_key_on r fs c white h s n e = let yes : is_space r.strict c ≡ true = class-white r c e in absurd (cc)
-deep_key_on r fs c closes_object h s n e = absurd (n (class-closes_object r.strict c e))
-deep_key_on r fs c quote h s n e = deep_go (key_mark r fs []) _ h
-deep_key_on r fs c _ h s n e = deep_bad (key_mark r fs []) h
+deep_key_on : (r : Reading) (fs : Frames) (c n : ℕ) (k : Class) → key_mark r fs [] ≡ Some deep → is_space r.strict c ≡ false → c ≢ 125 → class_of r.strict c ≡ k
+    → IsDeep (move_before_key r k fs [] n)
+deep_key_on r fs c left white h s n e = let yes : is_space r.strict c ≡ true = class-white r c e in absurd (cc)
+deep_key_on r fs c left closes_object h s n e = absurd (n (class-closes_object r.strict c e))
+deep_key_on r fs c left quote h s n e = deep_go (key_mark r fs []) _ h
+deep_key_on r fs c left _ h s n e = deep_bad (key_mark r fs []) h
 
 -- a first key where too many containers are open
 pub deep_key : (r : Reading) (bs : List ℕ) (i : ℕ) (fs : Frames) → IsUtf8 bs → IsCharBoundary bs i → i < length bs
@@ -87,27 +87,27 @@ pub deep_key : (r : Reading) (bs : List ℕ) (i : ℕ) (fs : Frames) → IsUtf8 
 deep_key r bs i fs u at lt s n h =
     let mark : key_mark r fs [] ≡ Some deep = ap (λ t. breach_if t deep) h in
     from_deep r bs i (before_key fs []) u at lt
-    (deep_key_on r fs (get_or bs i 0) (class_of r.strict (get_or bs i 0)) mark s n refl)
-    (λ c wide. deep_key_on r fs c (class_of r.strict c) mark (wide_is_no_space r.strict c wide) (λ e. absurd (omega (arith, e))) refl)
+    (deep_key_on r fs (get_or bs i 0) (left_at bs i) (class_of r.strict (get_or bs i 0)) mark s n refl)
+    (λ c wide. deep_key_on r fs c (left_at bs i) (class_of r.strict c) mark (wide_is_no_space r.strict c wide) (λ e. absurd (omega (arith, e))) refl)
 
 -- ---- keys and colons
 
 pub open_key : (r : Reading) (bs : List ℕ) (i : ℕ) (fs : Frames) (es : Entries) → IsUtf8 bs → IsCharBoundary bs i → i < length bs → get_or bs i 0 ≡ 34
-    → key_mark r fs es ≡ None → from r bs (before_key fs es) i ≡ from r bs (string (as_key fs es) [] between) (i + 1)
+    → key_mark r fs es ≡ None → from r bs (before_key fs es) i ≡ from r bs (string (as_key fs es (left_at bs i)) [] between) (i + 1)
 open_key r bs i fs es u at lt e h =
     from_step r bs i (before_key fs es) _ 34 u at lt e (lit< tt)
-    (ap (λ k. move_before_key r k fs es) (class_34 r.strict) ∙ ap (λ m. go m (string (as_key fs es) [] between)) h)
+    (ap (λ k. move_before_key r k fs es (left_at bs i)) (class_34 r.strict) ∙ ap (λ m. go m (string (as_key fs es (left_at bs i)) [] between)) h)
 
 no_pairs_on : (fs : Frames) (es : Entries) → (es ≡ [] → ⊥) → move_empty_object fs es ≡ bad
 no_pairs_on fs [] h = absurd (h refl)
 no_pairs_on fs (e ∷ es) h = refl
 
-no_key_on : (r : Reading) (fs : Frames) (es : Entries) (c : ℕ) (k : Class) → key_mark r fs es ≡ None → is_space r.strict c ≡ false → c ≢ 34
-    → (es ≡ [] → c ≢ 125) → class_of r.strict c ≡ k → move_before_key r k fs es ≡ bad
-no_key_on r fs es c white h s q n e = let yes : is_space r.strict c ≡ true = class-white r c e in absurd (cc)
-no_key_on r fs es c quote h s q n e = absurd (q (class-quote r.strict c e))
-no_key_on r fs es c closes_object h s q n e = no_pairs_on fs es (λ f. n f (class-closes_object r.strict c e))
-no_key_on r fs es c _ h s q n e = ap bad_at h
+no_key_on : (r : Reading) (fs : Frames) (es : Entries) (c left : ℕ) (k : Class) → key_mark r fs es ≡ None → is_space r.strict c ≡ false → c ≢ 34
+    → (es ≡ [] → c ≢ 125) → class_of r.strict c ≡ k → move_before_key r k fs es left ≡ bad
+no_key_on r fs es c left white h s q n e = let yes : is_space r.strict c ≡ true = class-white r c e in absurd (cc)
+no_key_on r fs es c left quote h s q n e = absurd (q (class-quote r.strict c e))
+no_key_on r fs es c left closes_object h s q n e = no_pairs_on fs es (λ f. n f (class-closes_object r.strict c e))
+no_key_on r fs es c left _ h s q n e = ap bad_at h
 
 -- no key begins here
 pub no_key : (r : Reading) (bs : List ℕ) (i : ℕ) (fs : Frames) (es : Entries) → key_mark r fs es ≡ None
@@ -115,14 +115,14 @@ pub no_key : (r : Reading) (bs : List ℕ) (i : ℕ) (fs : Frames) (es : Entries
     → StopsAt r (before_key fs es) bs i
 no_key r bs i fs es h s q n =
     stops_by r (before_key fs es) bs i refl
-    (λ lt. no_key_on r fs es (get_or bs i 0) (class_of r.strict (get_or bs i 0)) h (s lt) (λ e. q (lt, e)) n refl)
-    (λ c wide. no_key_on r fs es c (class_of r.strict c) h (wide_is_no_space r.strict c wide) (λ e. absurd (omega (arith, e))) (λ f e. absurd (omega (arith, e))) refl)
+    (λ lt. no_key_on r fs es (get_or bs i 0) (left_at bs i) (class_of r.strict (get_or bs i 0)) h (s lt) (λ e. q (lt, e)) n refl)
+    (λ c wide. no_key_on r fs es c (left_at bs i) (class_of r.strict c) h (wide_is_no_space r.strict c wide) (λ e. absurd (omega (arith, e))) (λ f e. absurd (omega (arith, e))) refl)
 
 pub before_key_skips : (r : Reading) (fs : Frames) (es : Entries) → Skips r (before_key fs es) (is_space r.strict)
-before_key_skips r fs es = record { ascii = space_is_ascii r.strict; stays = λ c e. ap (λ x. move_before_key r x fs es) (white-class r c e) }
+before_key_skips r fs es = record { ascii = space_is_ascii r.strict; stays = λ c n e. ap (λ x. move_before_key r x fs es n) (white-class r c e) }
 
 pub after_key_skips : (r : Reading) (fs : Frames) (es : Entries) (k : List ℕ) → Skips r (after_key fs es k) (is_space r.strict)
-after_key_skips r fs es k = record { ascii = space_is_ascii r.strict; stays = λ c e. ap (λ x. move_after_key x fs es k) (white-class r c e) }
+after_key_skips r fs es k = record { ascii = space_is_ascii r.strict; stays = λ c n e. ap (λ x. move_after_key x fs es k) (white-class r c e) }
 
 pub colon_goes : (r : Reading) (bs : List ℕ) (i : ℕ) (fs : Frames) (es : Entries) (k : List ℕ) → IsUtf8 bs → IsCharBoundary bs i → i < length bs
     → get_or bs i 0 ≡ 58 → from r bs (after_key fs es k) i ≡ from r bs (before (object_frame fs es k)) (i + 1)

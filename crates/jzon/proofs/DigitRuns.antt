@@ -17,14 +17,14 @@ use Rattle.jzon.proofs.NumberLimits.{AreUnmarked, IsFirstMarked, whole_unmarked,
 -- Each digit is put before those that the place has, and has a breach where the digits up to it are too many.
 Collects : Reading → (List ℕ → Place) → (List ℕ → Bool) → Type 0
 Collects r at too_many =
-    (ds : List ℕ) (c : ℕ) → IsTrue (is_ascii_digit c) → move r (at ds) c ≡ go (breach_if (too_many (onto (c ∷ ds) [])) digit) (at (c ∷ ds))
+    (ds : List ℕ) (c left : ℕ) → IsTrue (is_ascii_digit c) → move r (at ds) c left ≡ go (breach_if (too_many (onto (c ∷ ds) [])) digit) (at (c ∷ ds))
 
 collect_one : (r : Reading) (at : List ℕ → Place) (too_many : List ℕ → Bool) (v : Bool) → Collects r at too_many → (ds : List ℕ) (c : ℕ) (rest : List ℕ)
     → IsTrue (is_ascii_digit c) → too_many (onto (c ∷ ds) []) ≡ v
     → outcome r (c ∷ rest) (at ds) ≡ outcome_on (go (breach_if v digit) (at (c ∷ ds))) (λ p. outcome r rest p) (c ∷ rest)
 unfolding Collects
 collect_one r at too_many v collects ds c rest ok e =
-    ap (λ m. outcome_on m (λ p. outcome r rest p) (c ∷ rest)) (collects ds c ok ∙ ap (λ t. go (breach_if t digit) (at (c ∷ ds))) e)
+    ap (λ m. outcome_on m (λ p. outcome r rest p) (c ∷ rest)) (collects ds c (length (c ∷ rest)) ok ∙ ap (λ t. go (breach_if t digit) (at (c ∷ ds))) e)
 
 collect_all : (r : Reading) (at : List ℕ → Place) (too_many : List ℕ → Bool) → Collects r at too_many → (ds es rest : List ℕ)
     → AreDigits es → AreUnmarked too_many ds es → outcome r (es ++ rest) (at ds) ≡ outcome r rest (at (onto es ds))
@@ -41,17 +41,17 @@ collect_up_to r at too_many collects ds (e ∷ es) rest (suc i) ok h =
 
 whole_collects : (r : Reading) (fs : Frames) (negative : Bool) → Collects r (λ ds. numeral fs negative (whole ds)) drops_too_many
 unfolding Collects
-whole_collects r fs negative ds c h = rw (digits-class r.strict c h) refl
+whole_collects r fs negative ds c left h = rw (digits-class r.strict c h) refl
 
 fraction_collects : (r : Reading) (fs : Frames) (negative : Bool) (ws : List ℕ)
     → Collects r (λ ds. numeral fs negative (fraction ws ds)) (keeps_too_many ws)
 unfolding Collects
-fraction_collects r fs negative ws ds c h = rw (digits-class r.strict c h) refl
+fraction_collects r fs negative ws ds c left h = rw (digits-class r.strict c h) refl
 
 exponent_collects : (r : Reading) (fs : Frames) (negative : Bool) (ws gs : List ℕ) (l : ℕ) (s : Sign)
     → Collects r (λ ds. numeral fs negative (exponent ws gs l s ds)) (λ ds. false)
 unfolding Collects
-exponent_collects r fs negative ws gs l s ds c h = rw (digits-class r.strict c h) refl
+exponent_collects r fs negative ws gs l s ds c left h = rw (digits-class r.strict c h) refl
 
 -- ---- whole digits
 

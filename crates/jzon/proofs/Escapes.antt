@@ -49,10 +49,10 @@ escape_stops r role xs bs i u at no_u no_simple =
 -- ---- the second escape of a pair
 
 pub expects_backslash : (r : Reading) (role : Role) (xs : List ℕ) (u : ℕ) → Expects r (string role xs (second u)) 92 (string role xs (second_slash u))
-expects_backslash r role xs u = record { ascii = omega arith; moves = λ c. refl; unfinished = refl }
+expects_backslash r role xs u = record { ascii = omega arith; moves = λ c n. refl; unfinished = refl }
 
 pub expects_u : (r : Reading) (role : Role) (xs : List ℕ) (u : ℕ) → Expects r (string role xs (second_slash u)) 117 (string role xs (second_code u 3 0))
-expects_u r role xs u = record { ascii = omega arith; moves = λ c. refl; unfinished = refl }
+expects_u r role xs u = record { ascii = omega arith; moves = λ c n. refl; unfinished = refl }
 
 -- a backslash and a `u` begin it
 pub second_begins : (r : Reading) (role : Role) (xs bs : List ℕ) (u i : ℕ) → IsUtf8 bs → IsCharBoundary bs i → (i < length bs) × (get_or bs i 0 ≡ 92)

@@ -1,4 +1,4 @@
--- Without a strict reading a result that the machine over values gives is the answer to the text.
+-- A result that the machine over values gives is the answer to the text.
 use Rattle.std.proofs.Common.{inl, inr, ◌≡◌, ℕ, ◌-◌, List, length, false, Result, Ok, Err, subst, sym}
 use Rattle.jzon_base.specs.declared.error.Error.{Error}
 use Rattle.jzon_tree.specs.View.{view}
@@ -21,10 +21,9 @@ answers_by r t (Err e) a told (inl memory) = inl memory
 answers_by r t (Err e) (tree d) told (inr tells) = absurd tells
 answers_by r t (Err e) (refused f rest) told (inr tells) = inr (length t - length rest, f, told, tells)
 
-pub answers_of : (r : Reading) → r.strict ≡ false → (t : List ℕ) (result : Result JsonValue Error)
-    → Reads t result (outcome r t (before no_frames)) → Answers r t result
-answers_of r e t result read =
-    answers_by r t result (answer r t start) (answers r t) (subst (λ z. Reads t result z) (outcome_image r e t start) read)
+pub answers_of : (r : Reading) (t : List ℕ) (result : Result JsonValue Error) → Reads t result (outcome r t (before no_frames)) → Answers r t result
+answers_of r t result read =
+    answers_by r t result (answer r t start) (answers r t) (subst (λ z. Reads t result z) (outcome_image r t start) read)
 
 -- the same, clause by clause
 pub value_of : (r : Reading) (t : List ℕ) (result : Result JsonValue Error) → Answers r t result → IfOk result (IsMeaningOf r t)

@@ -11,32 +11,32 @@ use Rattle.std.proofs.lemmas.Str.{IsCharBoundary-after_ascii}
 use Rattle.jzon.specs.Reading.{Reading}
 use Rattle.jzon.specs.Grammar.{is_high, is_low, is_surrogate}
 use Rattle.jzon.specs.Fault as fault
-use Rattle.jzon.specs.Machine.{Role, Place, Move, string, code, second_code, go, bad, move, last, refused, add_hex, coded, paired, move_code, move_second_code, Outcome, outcome_on, from, stopped}
+use Rattle.jzon.specs.Machine.{Role, Place, Move, string, code, second_code, go, bad, move, last, refused, add_hex, coded, paired, move_code, move_second_code, Outcome, outcome_on, from, left_at, stopped}
 use Rattle.jzon.proofs.ByteSteps.{byte_moves, byte_stops}
 
 -- A place that reads hexadecimal digits, by how many are missing behind the next one and the number so far; and the move behind the last digit.
 pub record ReadsHex (r : Reading) (at : ℕ → ℕ → Place) (done : ℕ → Move) : Type 0 where
-  pub more : (n u c : ℕ) → is_ascii_hexdigit c ≡ true → move r (at (suc n) u) c ≡ go None (at n (add_hex u c))
-  pub last_one : (u c : ℕ) → is_ascii_hexdigit c ≡ true → move r (at zero u) c ≡ done (add_hex u c)
-  pub stops : (n u c : ℕ) → is_ascii_hexdigit c ≡ false → move r (at n u) c ≡ bad
+  pub more : (n u c left : ℕ) → is_ascii_hexdigit c ≡ true → move r (at (suc n) u) c left ≡ go None (at n (add_hex u c))
+  pub last_one : (u c left : ℕ) → is_ascii_hexdigit c ≡ true → move r (at zero u) c left ≡ done (add_hex u c)
+  pub stops : (n u c left : ℕ) → is_ascii_hexdigit c ≡ false → move r (at n u) c left ≡ bad
   pub unfinished : (n u : ℕ) → last (at n u) ≡ refused fault.end []
 
 -- the digits of an escape, and those of the second one of a pair
 pub code_reads : (r : Reading) (role : Role) (xs : List ℕ)
     → ReadsHex r (λ n u. string role xs (code n u)) (λ u. go None (coded (is_surrogate u) role xs u))
 code_reads r role xs = record {
-  more = λ n u c h. ap (λ t. cond t (move_code role xs (suc n) u c) bad) h;
-  last_one = λ u c h. ap (λ t. cond t (move_code role xs zero u c) bad) h;
-  stops = λ n u c h. ap (λ t. cond t (move_code role xs n u c) bad) h;
+  more = λ n u c left h. ap (λ t. cond t (move_code role xs (suc n) u c) bad) h;
+  last_one = λ u c left h. ap (λ t. cond t (move_code role xs zero u c) bad) h;
+  stops = λ n u c left h. ap (λ t. cond t (move_code role xs n u c) bad) h;
   unfinished = λ n u. refl;
 }
 
 pub second_code_reads : (r : Reading) (role : Role) (xs : List ℕ) (first : ℕ)
     → ReadsHex r (λ n u. string role xs (second_code first n u)) (λ u. paired (is_high first && is_low u) role xs first u)
 second_code_reads r role xs first = record {
-  more = λ n u c h. ap (λ t. cond t (move_second_code role xs first (suc n) u c) bad) h;
-  last_one = λ u c h. ap (λ t. cond t (move_second_code role xs first zero u c) bad) h;
-  stops = λ n u c h. ap (λ t. cond t (move_second_code role xs first n u c) bad) h;
+  more = λ n u c left h. ap (λ t. cond t (move_second_code role xs first (suc n) u c) bad) h;
+  last_one = λ u c left h. ap (λ t. cond t (move_second_code role xs first zero u c) bad) h;
+  stops = λ n u c left h. ap (λ t. cond t (move_second_code role xs first n u c) bad) h;
   unfinished = λ n u. refl;
 }
 
@@ -54,18 +54,18 @@ pub hex_read : (r : Reading) (at : ℕ → ℕ → Place) (done : ℕ → Move) 
     → hex_left r at done bs (suc n) u i ≡ hex_left r at done bs n (add_hex u (get_or bs i 0)) (i + 1)
 hex_read r at done bs zero u i h text here lt e =
     byte_moves r (at zero u) bs i (get_or bs i 0) text here lt refl (hex_is_ascii _ e)
-    ∙ ap (λ m. outcome_on m (λ p. from r bs p (i + 1)) (chars (drop i bs))) (h.last_one u (get_or bs i 0) e)
+    ∙ ap (λ m. outcome_on m (λ p. from r bs p (i + 1)) (chars (drop i bs))) (h.last_one u (get_or bs i 0) (left_at bs i) e)
     ∙ ap (λ k. outcome_on (done (add_hex u (get_or bs i 0))) (λ p. from r bs p (i + 1)) (chars (drop k bs))) (omega arith)
 hex_read r at done bs (suc n) u i h text here lt e =
     byte_moves r (at (suc n) u) bs i (get_or bs i 0) text here lt refl (hex_is_ascii _ e)
-    ∙ ap (λ m. outcome_on m (λ p. from r bs p (i + 1)) (chars (drop i bs))) (h.more n u (get_or bs i 0) e)
+    ∙ ap (λ m. outcome_on m (λ p. from r bs p (i + 1)) (chars (drop i bs))) (h.more n u (get_or bs i 0) (left_at bs i) e)
 
 -- none stands there
 pub hex_missing : (r : Reading) (at : ℕ → ℕ → Place) (done : ℕ → Move) (bs : List ℕ) (n u i : ℕ) → ReadsHex r at done → IsUtf8 bs → IsCharBoundary bs i
     → ((i < length bs) × (is_ascii_hexdigit (get_or bs i 0) ≡ true) → ⊥) → hex_left r at done bs (suc n) u i ≡ stopped (chars (drop i bs))
 hex_missing r at done bs n u i h text here none =
     byte_stops r (at n u) bs i text here (h.unfinished n u) (λ c b.
-    h.stops n u c (false_from_ne_true (is_ascii_hexdigit c) (λ e. none (b.within, ap is_ascii_hexdigit (b.byte (hex_is_ascii c e)) ∙ e))))
+    h.stops n u c (left_at bs i) (false_from_ne_true (is_ascii_hexdigit c) (λ e. none (b.within, ap is_ascii_hexdigit (b.byte (hex_is_ascii c e)) ∙ e))))
 
 -- ---- the number so far
 

@@ -1,5 +1,5 @@
--- Without a strict reading the machine over values does what the machine over trees does: each move is what a step means.
-use Rattle.std.proofs.Common.{◌≡◌, ℕ, List, [], ◌∷◌, Bool, true, false, cond, ◌==◌, Some, None, refl, ap, ◌∙◌}
+-- The machine over values does what the machine over trees does: each move is what a step means.
+use Rattle.std.proofs.Common.{◌≡◌, ℕ, suc, length, List, [], ◌∷◌, Bool, true, false, cond, ◌==◌, Some, None, refl, ap, ◌∙◌}
 use Rattle.jzon.specs.Reading.{Reading}
 use Rattle.jzon.specs.Grammar.{Node}
 use Rattle.jzon.specs.Spelling.{onto}
@@ -16,23 +16,23 @@ use Rattle.jzon.proofs.ImageStrings.{image_string}
 
 -- ---- moves
 
-image_past : (k : Context) (b : List ℕ) (n : Node) (ls : List ℕ) → past_letter (frames_of k) (meaning n) ls ≡ image (tree.past_letter k b n ls)
-image_past k b n [] = refl
-image_past k b n (l ∷ ls) = refl
+image_past : (left : ℕ) (k : Context) (b : List ℕ) (n : Node) (ls : List ℕ) → past_letter (frames_of k) (meaning n) ls ≡ image left (tree.past_letter k b n ls)
+image_past left k b n [] = refl
+image_past left k b n (l ∷ ls) = refl
 
-image_word : (same : Bool) (k : Context) (b : List ℕ) (n : Node) (ls : List ℕ)
-    → cond same (go None (past_letter (frames_of k) (meaning n) ls)) bad ≡ image_step (cond same (tree.go None (tree.past_letter k b n ls)) tree.bad)
-image_word true k b n ls = ap (go None) (image_past k b n ls)
-image_word false k b n ls = refl
+image_word : (left : ℕ) (same : Bool) (k : Context) (b : List ℕ) (n : Node) (ls : List ℕ)
+    → cond same (go None (past_letter (frames_of k) (meaning n) ls)) bad ≡ image_step left (cond same (tree.go None (tree.past_letter k b n ls)) tree.bad)
+image_word left true k b n ls = ap (go None) (image_past left k b n ls)
+image_word left false k b n ls = refl
 
-pub move_image : (r : Reading) → r.strict ≡ false → (s : State) (c : ℕ) → move r (image s) c ≡ image_step (step r s c)
-move_image r e (tree.before k b) c = image_before r (class_of r.strict c) k b c
-move_image r e (tree.before_key k a o b) c = image_before_key r (class_of r.strict c) k a o b c
-move_image r e (tree.word k b n l ls) c = image_word (c == l) k b n ls
-move_image r e (tree.numeral k b negative x) c = image_numeral x (class_of r.strict c) k b negative c
-move_image r e (tree.string role is x) c = image_string r e x role is c
-move_image r e (tree.after_key k a o b is z) c = image_after_key (class_of r.strict c) k a o b is z c
-move_image r e (tree.behind k b n z) c = image_behind (class_of r.strict c) k b n z c
+pub move_image : (r : Reading) (s : State) (c left : ℕ) → move r (image (suc left) s) c (suc left) ≡ image_step left (step r s c)
+move_image r (tree.before k b) c left = image_before r (class_of r.strict c) k b c left
+move_image r (tree.before_key k a o b) c left = image_before_key r (class_of r.strict c) k a o b c left
+move_image r (tree.word k b n l ls) c left = image_word left (c == l) k b n ls
+move_image r (tree.numeral k b negative x) c left = image_numeral x (class_of r.strict c) k b negative c left
+move_image r (tree.string role is x) c left = image_string r x role is c left
+move_image r (tree.after_key k a o b is z) c left = image_after_key (class_of r.strict c) k a o b is z c left
+move_image r (tree.behind k b n z) c left = image_behind (class_of r.strict c) k b n z c left
 
 -- ---- texts
 
@@ -56,7 +56,7 @@ image_last_numeral (lettered ws ds l) k b negative = refl
 image_last_numeral (signed_exponent ws ds l s) k b negative = refl
 image_last_numeral (exponent ws ds l s xs) k b negative = image_meant k b (numeral_of negative ws ds (exponent_of l s (onto xs []))) []
 
-image_last : (s : State) → last (image s) ≡ image_answer (last_answer (accept s))
+image_last : (s : State) → last (image 0 s) ≡ image_answer (last_answer (accept s))
 image_last (tree.before k b) = refl
 image_last (tree.before_key k a o b) = refl
 image_last (tree.word k b n l ls) = refl
@@ -65,15 +65,15 @@ image_last (tree.string role is x) = refl
 image_last (tree.after_key k a o b is z) = refl
 image_last (tree.behind k b n z) = image_meant k b n z
 
-image_on : (z : Step) (f : Place → Outcome) (g : State → Answer) (rest : List ℕ) → ((s : State) → f (image s) ≡ image_answer (g s))
-    → outcome_on (image_step z) f rest ≡ image_answer (answer_on z g rest)
-image_on (tree.go None s) f g rest same = same s
-image_on (tree.go (Some b) s) f g rest same = refl
-image_on tree.bad f g rest same = refl
-image_on tree.bad_deep f g rest same = refl
+image_on : (left : ℕ) (z : Step) (f : Place → Outcome) (g : State → Answer) (rest : List ℕ) → ((s : State) → f (image left s) ≡ image_answer (g s))
+    → outcome_on (image_step left z) f rest ≡ image_answer (answer_on z g rest)
+image_on left (tree.go None s) f g rest same = same s
+image_on left (tree.go (Some b) s) f g rest same = refl
+image_on left tree.bad f g rest same = refl
+image_on left tree.bad_deep f g rest same = refl
 
-pub outcome_image : (r : Reading) → r.strict ≡ false → (t : List ℕ) (s : State) → outcome r t (image s) ≡ image_answer (answer r t s)
-outcome_image r e [] s = image_last s
-outcome_image r e (c ∷ cs) s =
-    ap (λ z. outcome_on z (λ p. outcome r cs p) (c ∷ cs)) (move_image r e s c)
-    ∙ image_on (step r s c) (λ p. outcome r cs p) (λ s'. answer r cs s') (c ∷ cs) (λ s'. outcome_image r e cs s')
+pub outcome_image : (r : Reading) (t : List ℕ) (s : State) → outcome r t (image (length t) s) ≡ image_answer (answer r t s)
+outcome_image r [] s = image_last s
+outcome_image r (c ∷ cs) s =
+    ap (λ z. outcome_on z (λ p. outcome r cs p) (c ∷ cs)) (move_image r s c (length cs))
+    ∙ image_on (length cs) (step r s c) (λ p. outcome r cs p) (λ s'. answer r cs s') (c ∷ cs) (λ s'. outcome_image r cs s')

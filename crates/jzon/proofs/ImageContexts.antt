@@ -1,10 +1,10 @@
 -- The machine over values keeps what the finished parts of the machine over trees mean: before and behind values.
-use Rattle.std.proofs.Common.{◌≡◌, ℕ, suc, List, [], ◌∷◌, ◌++◌, true, false, ◌==◌, Option, Some, None, refl, sym, ap, ◌∙◌, append_assoc}
+use Rattle.std.proofs.Common.{◌≡◌, ℕ, suc, ◌+◌, List, [], ◌∷◌, ◌++◌, length, arith, true, false, ◌==◌, Option, Some, None, refl, sym, ap, ◌∙◌, append_assoc}
 use Rattle.jzon_base.specs.PairList.{put_each}
 use Rattle.jzon_tree.specs.Value.{Value, Values, pairs_of}
 use Rattle.jzon_tree.specs.Value as value
 use Rattle.jzon.specs.Reading.{Reading}
-use Rattle.jzon.specs.Grammar.{Item, Key, Node, Elements, no_elements, Members, no_members, element, member, code_unit}
+use Rattle.jzon.specs.Grammar.{Item, plain, simple, single, double, Key, Node, Elements, no_elements, Members, no_members, element, member, code_unit}
 use Rattle.jzon.specs.Spelling.{Breach, onto, deep_if}
 use Rattle.jzon.specs.Meaning.{bytes_of, meaning, elements_meaning, members_meaning}
 use Rattle.jzon.specs.Classes.{Class, white, digits, dash, quote, opens_array, closes_array, opens_object, closes_object, comma, colon, begins_null, begins_true, begins_false, signed, begun}
@@ -29,9 +29,29 @@ frames_of top = no_frames
 frames_of (in_array k b o) = array_frame (frames_of k) (values_of o)
 frames_of (in_object k b o key) = object_frame (frames_of k) (entries_of o) (bytes_of key.items)
 
-abbrev pub role_of : tree.Role → Role
-role_of (tree.as_value k b) = as_value (frames_of k)
-role_of (tree.as_key k a o b) = as_key (frames_of k) (entries_of o)
+-- of a key, with how many characters were left at its opening quote
+abbrev pub role_of : tree.Role → ℕ → Role
+role_of (tree.as_value k b) opened = as_value (frames_of k)
+role_of (tree.as_key k a o b) opened = as_key (frames_of k) (entries_of o) opened
+
+-- how many characters of a string are read, its opening quote among them
+abbrev pub item_read : Item → ℕ
+item_read (plain c) = 1
+item_read (simple c) = 2
+item_read (single u) = 2 + length u
+item_read (double u v) = 4 + length u + length v
+
+abbrev pub items_read : List Item → ℕ
+items_read [] = 1
+items_read (i ∷ is) = item_read i + items_read is
+
+abbrev pub place_read : tree.StringPlace → ℕ
+place_read tree.between = 0
+place_read tree.slash = 1
+place_read (tree.code n ds) = 2 + length ds
+place_read (tree.second u) = 2 + length u
+place_read (tree.second_slash u) = 3 + length u
+place_read (tree.second_code u n ds) = 4 + length u + length ds
 
 abbrev pub text_place : tree.StringPlace → TextPlace
 text_place tree.between = between
@@ -41,19 +61,20 @@ text_place (tree.second u) = second (code_unit u)
 text_place (tree.second_slash u) = second_slash (code_unit u)
 text_place (tree.second_code u n ds) = second_code (code_unit u) n (code_unit (onto ds []))
 
-abbrev pub image : State → Place
-image (tree.before k b) = before (frames_of k)
-image (tree.before_key k a o b) = before_key (frames_of k) (entries_of o)
-image (tree.word k b n l ls) = word (frames_of k) (meaning n) l ls
-image (tree.numeral k b negative x) = numeral (frames_of k) negative x
-image (tree.string role is x) = string (role_of role) (bytes_of (items_onto is [])) (text_place x)
-image (tree.after_key k a o b is z) = after_key (frames_of k) (entries_of o) (bytes_of is)
-image (tree.behind k b n z) = behind (frames_of k) (meaning n)
+-- what a state means where so many characters are left
+abbrev pub image : ℕ → State → Place
+image left (tree.before k b) = before (frames_of k)
+image left (tree.before_key k a o b) = before_key (frames_of k) (entries_of o)
+image left (tree.word k b n l ls) = word (frames_of k) (meaning n) l ls
+image left (tree.numeral k b negative x) = numeral (frames_of k) negative x
+image left (tree.string role is x) = string (role_of role (left + (items_read is + place_read x))) (bytes_of (items_onto is [])) (text_place x)
+image left (tree.after_key k a o b is z) = after_key (frames_of k) (entries_of o) (bytes_of is)
+image left (tree.behind k b n z) = behind (frames_of k) (meaning n)
 
-abbrev pub image_step : Step → Move
-image_step (tree.go m s) = go m (image s)
-image_step tree.bad = bad
-image_step tree.bad_deep = bad_deep
+abbrev pub image_step : ℕ → Step → Move
+image_step left (tree.go m s) = go m (image left s)
+image_step left tree.bad = bad
+image_step left tree.bad_deep = bad_deep
 
 -- ---- closed containers
 
@@ -119,12 +140,12 @@ mark_before_key : (r : Reading) (k : Context) (o : Named) → key_mark r (frames
 mark_before_key r k nothing_named = ap (deep_if r) (depth-frames k)
 mark_before_key r k (named o key b n z) = not_first_key r (frames_of k) (entries_of o) (bytes_of key.items, meaning n)
 
-image_bad_at : (m m' : Option Breach) → m ≡ m' → bad_at m ≡ image_step (tree.bad_at m')
-image_bad_at m None e = rw e refl
-image_bad_at m (Some b) e = rw e refl
+image_bad_at : (left : ℕ) (m m' : Option Breach) → m ≡ m' → bad_at m ≡ image_step left (tree.bad_at m')
+image_bad_at left m None e = rw e refl
+image_bad_at left m (Some b) e = rw e refl
 
-image_go : (m m' : Option Breach) (p : Place) (s : State) → m ≡ m' → p ≡ image s → go m p ≡ image_step (tree.go m' s)
-image_go m m' p s e f = cc
+image_go : (left : ℕ) (m m' : Option Breach) (p : Place) (s : State) → m ≡ m' → p ≡ image left s → go m p ≡ image_step left (tree.go m' s)
+image_go left m m' p s e f = cc
 
 -- ---- before a value
 
@@ -136,25 +157,25 @@ not_empty_array : (fs : Frames) (us : List Value) (v : Value) → move_empty_arr
 not_empty_array fs [] v = refl
 not_empty_array fs (u ∷ us) v = refl
 
-pub image_before : (r : Reading) (s : Class) (k : Context) (b : List ℕ) (c : ℕ) → move_before r s (frames_of k) c ≡ image_step (tree.step_before r s k b c)
-image_before r white k b c = refl
-image_before r digits k b c = ap (λ z. go z (image (tree.numeral k (onto b []) false (begun (c == 48) c)))) (mark_before r k)
-image_before r dash k b c = ap (λ z. go z (image (tree.numeral k (onto b []) true signed))) (mark_before r k)
-image_before r quote k b c =
-    image_go _ _ (string (as_value (frames_of k)) [] between) (tree.string (tree.as_value k (onto b [])) [] tree.between)
+pub image_before : (r : Reading) (s : Class) (k : Context) (b : List ℕ) (c left : ℕ) → move_before r s (frames_of k) c ≡ image_step left (tree.step_before r s k b c)
+image_before r white k b c left = refl
+image_before r digits k b c left = ap (λ z. go z (image left (tree.numeral k (onto b []) false (begun (c == 48) c)))) (mark_before r k)
+image_before r dash k b c left = ap (λ z. go z (image left (tree.numeral k (onto b []) true signed))) (mark_before r k)
+image_before r quote k b c left =
+    image_go left _ _ (string (as_value (frames_of k)) [] between) (tree.string (tree.as_value k (onto b [])) [] tree.between)
     (mark_before r k) (ap (λ z. string (as_value (frames_of k)) z between) (sym no_text))
-image_before r opens_array k b c =
-    image_go _ _ (before (array_frame (frames_of k) [])) (tree.before (in_array k (onto b []) nothing_done) []) (mark_before r k) refl
-image_before r opens_object k b c =
-    image_go _ _ (before_key (frames_of k) []) (tree.before_key k (onto b []) nothing_named []) (mark_before r k) refl
-image_before r closes_array top b c = refl
-image_before r closes_array (in_array k a nothing_done) b c = refl
-image_before r closes_array (in_array k a (done o x n y)) b c = not_empty_array (frames_of k) (values_of o) (meaning n)
-image_before r closes_array (in_object k a o key) b c = refl
-image_before r begins_null k b c = ap (λ z. go z (image (tree.word k (onto b []) Node.null 117 (108 ∷ 108 ∷ [])))) (mark_before r k)
-image_before r begins_true k b c = ap (λ z. go z (image (tree.word k (onto b []) (Node.boolean true) 114 (117 ∷ 101 ∷ [])))) (mark_before r k)
-image_before r begins_false k b c = ap (λ z. go z (image (tree.word k (onto b []) (Node.boolean false) 97 (108 ∷ 115 ∷ 101 ∷ [])))) (mark_before r k)
-image_before r _ k b c = image_bad_at _ _ (mark_before r k)
+image_before r opens_array k b c left =
+    image_go left _ _ (before (array_frame (frames_of k) [])) (tree.before (in_array k (onto b []) nothing_done) []) (mark_before r k) refl
+image_before r opens_object k b c left =
+    image_go left _ _ (before_key (frames_of k) []) (tree.before_key k (onto b []) nothing_named []) (mark_before r k) refl
+image_before r closes_array top b c left = refl
+image_before r closes_array (in_array k a nothing_done) b c left = refl
+image_before r closes_array (in_array k a (done o x n y)) b c left = not_empty_array (frames_of k) (values_of o) (meaning n)
+image_before r closes_array (in_object k a o key) b c left = refl
+image_before r begins_null k b c left = ap (λ z. go z (image left (tree.word k (onto b []) Node.null 117 (108 ∷ 108 ∷ [])))) (mark_before r k)
+image_before r begins_true k b c left = ap (λ z. go z (image left (tree.word k (onto b []) (Node.boolean true) 114 (117 ∷ 101 ∷ [])))) (mark_before r k)
+image_before r begins_false k b c left = ap (λ z. go z (image left (tree.word k (onto b []) (Node.boolean false) 97 (108 ∷ 115 ∷ 101 ∷ [])))) (mark_before r k)
+image_before r _ k b c left = image_bad_at left _ _ (mark_before r k)
 
 -- ---- keys
 
@@ -162,35 +183,37 @@ not_empty_object : (fs : Frames) (es : Entries) (e : List ℕ × Value) → move
 not_empty_object fs [] e = refl
 not_empty_object fs (d ∷ es) e = refl
 
-pub image_before_key : (r : Reading) (s : Class) (k : Context) (a : List ℕ) (o : Named) (b : List ℕ) (c : ℕ)
-    → move_before_key r s (frames_of k) (entries_of o) ≡ image_step (tree.step_before_key r s k a o b c)
-image_before_key r white k a o b c = refl
-image_before_key r quote k a o b c =
-    ap (λ z. go z (string (as_key (frames_of k) (entries_of o)) [] between)) (mark_before_key r k o)
-    ∙ ap (λ z. go (tree.key_mark r k o) (string (as_key (frames_of k) (entries_of o)) z between)) (sym no_text)
-image_before_key r closes_object k a nothing_named b c = refl
-image_before_key r closes_object k a (named o key x n y) b c = not_empty_object (frames_of k) (entries_of o) (bytes_of key.items, meaning n)
-image_before_key r _ k a o b c = image_bad_at _ _ (mark_before_key r k o)
+pub image_before_key : (r : Reading) (s : Class) (k : Context) (a : List ℕ) (o : Named) (b : List ℕ) (c left : ℕ)
+    → move_before_key r s (frames_of k) (entries_of o) (suc left) ≡ image_step left (tree.step_before_key r s k a o b c)
+image_before_key r white k a o b c left = refl
+image_before_key r quote k a o b c left =
+    ap (λ z. go z (string (as_key (frames_of k) (entries_of o) (suc left)) [] between)) (mark_before_key r k o)
+    ∙ ap (λ z. go (tree.key_mark r k o) (string (as_key (frames_of k) (entries_of o) (suc left)) z between)) (sym no_text)
+    ∙ ap (λ n. go (tree.key_mark r k o) (string (as_key (frames_of k) (entries_of o) n) (bytes_of []) between))
+    (let one : suc left ≡ left + (1 + 0) = omega arith in one)
+image_before_key r closes_object k a nothing_named b c left = refl
+image_before_key r closes_object k a (named o key x n y) b c left = not_empty_object (frames_of k) (entries_of o) (bytes_of key.items, meaning n)
+image_before_key r _ k a o b c left = image_bad_at left _ _ (mark_before_key r k o)
 
-pub image_after_key : (s : Class) (k : Context) (a : List ℕ) (o : Named) (b : List ℕ) (is : List Item) (z : List ℕ) (c : ℕ)
-    → move_after_key s (frames_of k) (entries_of o) (bytes_of is) ≡ image_step (tree.step_after_key s k a o b is z c)
-image_after_key white k a o b is z c = refl
-image_after_key colon k a o b is z c = refl
-image_after_key _ k a o b is z c = refl
+pub image_after_key : (s : Class) (k : Context) (a : List ℕ) (o : Named) (b : List ℕ) (is : List Item) (z : List ℕ) (c left : ℕ)
+    → move_after_key s (frames_of k) (entries_of o) (bytes_of is) ≡ image_step left (tree.step_after_key s k a o b is z c)
+image_after_key white k a o b is z c left = refl
+image_after_key colon k a o b is z c left = refl
+image_after_key _ k a o b is z c left = refl
 
 -- ---- behind a value
 
-pub image_behind : (s : Class) (k : Context) (b : List ℕ) (n : Node) (z : List ℕ) (c : ℕ)
-    → move_behind s (frames_of k) (meaning n) ≡ image_step (tree.step_behind s k b n z c)
-image_behind white k b n z c = refl
-image_behind comma top b n z c = refl
-image_behind comma (in_array k a o) b n z c = refl
-image_behind comma (in_object k a o key) b n z c = refl
-image_behind closes_array top b n z c = refl
-image_behind closes_array (in_array k a o) b n z c = ap (λ v. go None (behind (frames_of k) v)) (closed_array o b n (onto z []))
-image_behind closes_array (in_object k a o key) b n z c = refl
-image_behind closes_object top b n z c = refl
-image_behind closes_object (in_array k a o) b n z c = refl
-image_behind closes_object (in_object k a o key) b n z c =
+pub image_behind : (s : Class) (k : Context) (b : List ℕ) (n : Node) (z : List ℕ) (c left : ℕ)
+    → move_behind s (frames_of k) (meaning n) ≡ image_step left (tree.step_behind s k b n z c)
+image_behind white k b n z c left = refl
+image_behind comma top b n z c left = refl
+image_behind comma (in_array k a o) b n z c left = refl
+image_behind comma (in_object k a o key) b n z c left = refl
+image_behind closes_array top b n z c left = refl
+image_behind closes_array (in_array k a o) b n z c left = ap (λ v. go None (behind (frames_of k) v)) (closed_array o b n (onto z []))
+image_behind closes_array (in_object k a o key) b n z c left = refl
+image_behind closes_object top b n z c left = refl
+image_behind closes_object (in_array k a o) b n z c left = refl
+image_behind closes_object (in_object k a o key) b n z c left =
     ap (λ v. go None (behind (frames_of k) v)) (sym (meaning-close_object o key b n (onto z []) no_members))
-image_behind _ k b n z c = refl
+image_behind _ k b n z c left = refl

@@ -18,7 +18,7 @@ abbrev pub NextFails : (ℕ → Bool) → List ℕ → Type 0
 NextFails test [] = ⊤
 NextFails test (c ∷ cs) = test c ≡ false
 
-read_one : (r : Reading) (p q : Place) (c : ℕ) (cs : List ℕ) → move r p c ≡ go None q → outcome r (c ∷ cs) p ≡ outcome r cs q
+read_one : (r : Reading) (p q : Place) (c : ℕ) (cs : List ℕ) → move r p c (length (c ∷ cs)) ≡ go None q → outcome r (c ∷ cs) p ≡ outcome r cs q
 read_one r p q c cs e = ap (λ m. outcome_on m (λ x. outcome r cs x) (c ∷ cs)) e
 
 -- ---- characters that aren't in a class
@@ -79,7 +79,7 @@ stop_signed r fs negative ws ds l s (c ∷ cs) h =
 
 -- At this place the whole digits ws are read; a character that passes the test would be one more.
 record IsBehindWhole (r : Reading) (fs : Frames) (negative : Bool) (x : NumberPlace) (ws : List ℕ) (more : ℕ → Bool) : Type 0 where
-  moves : (c : ℕ) → more c ≡ false → move r (numeral fs negative x) c ≡ move_after_whole (class_of r.strict c) fs negative ws c
+  moves : (c : ℕ) → more c ≡ false → move r (numeral fs negative x) c 0 ≡ move_after_whole (class_of r.strict c) fs negative ws c
   ends : last (numeral fs negative x) ≡ meant_at fs (number_value negative ws [] None)
 
 zero_is_behind : (r : Reading) (fs : Frames) (negative : Bool) → IsBehindWhole r fs negative zero_read (48 ∷ []) (λ c. false)

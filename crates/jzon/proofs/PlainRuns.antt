@@ -49,8 +49,8 @@ plain_rest xs ys h = λ k lt. subst (λ z. is_plain_byte z ≡ true) (get_or-app
 third : (a b t : Bool) (x y z w : Move) → a ≡ false → b ≡ false → t ≡ true → cond a x (cond b y (cond t z w)) ≡ z
 third a b t x y z w ea eb et = rw (ea, eb, et) refl
 
-plain_move : (role : Role) (bs : List ℕ) (c : ℕ) → is_plain c ≡ true → move_between role bs c ≡ go None (string role (bs ++ encode_utf8 c) between)
-plain_move role bs c h =
+plain_move : (r : Reading) (role : Role) (bs : List ℕ) (c left : ℕ) → is_plain c ≡ true → move_between r role bs c left ≡ go None (string role (bs ++ encode_utf8 c) between)
+plain_move r role bs c left h =
     let parts = both_true (scalar c && nat_le 32 c) (not (c == 34 || c == 92)) h in
     third (c == 34) (c == 92) (is_plain c) _ _ _ _ (grind (arith, nat_tests)) (grind (arith, nat_tests)) h
 
@@ -60,7 +60,7 @@ read_plain : (r : Reading) (role : Role) (bs cs rest : List ℕ) → scalars cs 
 read_plain r role bs [] rest s h = ap (λ z. outcome r rest (string role z between)) (sym (append-nil bs))
 read_plain r role bs (c ∷ cs) rest s h =
     let parts = both_true (scalar c) (scalars cs) s in
-    ap (λ m. outcome_on m (λ p. outcome r (cs ++ rest) p) (c ∷ (cs ++ rest))) (plain_move role bs c (plain_first c (encode_utf8_all cs) parts.0 h))
+    ap (λ m. outcome_on m (λ p. outcome r (cs ++ rest) p) (c ∷ (cs ++ rest))) (plain_move r role bs c (length (c ∷ (cs ++ rest))) (plain_first c (encode_utf8_all cs) parts.0 h))
     ∙ read_plain r role (bs ++ encode_utf8 c) cs rest parts.1 (plain_rest (encode_utf8 c) (encode_utf8_all cs) h)
     ∙ ap (λ z. outcome r rest (string role z between)) (append_assoc bs (encode_utf8 c) (encode_utf8_all cs))
 

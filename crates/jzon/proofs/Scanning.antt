@@ -23,7 +23,7 @@ IsUtf8-past_ascii b bs u lt = IsUtf8-past_char (b ∷ bs) bs b u (ap (λ z. z ++
 -- at this place the characters that pass the test, all ASCII, are passed over
 pub record Skips (r : Reading) (p : Place) (test : ℕ → Bool) : Type 0 where
   pub ascii : (c : ℕ) → test c ≡ true → c < 128
-  pub stays : (c : ℕ) → test c ≡ true → move r p c ≡ go None p
+  pub stays : (c n : ℕ) → test c ≡ true → move r p c n ≡ go None p
 
 pub record Skipped (r : Reading) (p : Place) (bs rest : List ℕ) : Type 0 where
   pub same : outcome r (chars bs) p ≡ outcome r (chars rest) p
@@ -37,7 +37,7 @@ skip_one r p test b bs true n h u e ih =
     let k = ih (IsUtf8-past_ascii b bs u lt) in
     let m : 1 + n ≡ suc n = omega arith in
     let step : outcome r (chars (b ∷ bs)) p ≡ outcome r (chars bs) p =
-    ap (λ cs. outcome r cs p) (chars-ascii b bs u lt) ∙ ap (λ x. outcome_on x (λ q. outcome r (chars bs) q) (b ∷ chars bs)) (h.stays b e) in
+    ap (λ cs. outcome r cs p) (chars-ascii b bs u lt) ∙ ap (λ x. outcome_on x (λ q. outcome r (chars bs) q) (b ∷ chars bs)) (h.stays b (length (b ∷ chars bs)) e) in
     subst (λ j. Skipped r p (b ∷ bs) (drop j (b ∷ bs))) (sym m) (record { same = step ∙ k.same; utf8 = k.utf8 })
 
 pub skip_run : (r : Reading) (p : Place) (test : ℕ → Bool) (bs : List ℕ) → Skips r p test → IsUtf8 bs → Skipped r p bs (drop (prefix_len test bs) bs)
@@ -55,10 +55,10 @@ wide_is_no_space true c le = grind (arith, nat_tests)
 wide_is_no_space false c le = grind (arith, nat_tests)
 
 pub before_skips : (r : Reading) (fs : Frames) → Skips r (before fs) (is_space r.strict)
-before_skips r fs = record { ascii = space_is_ascii r.strict; stays = λ c e. rw (white-class r c e) refl }
+before_skips r fs = record { ascii = space_is_ascii r.strict; stays = λ c n e. rw (white-class r c e) refl }
 
 pub behind_skips : (r : Reading) (fs : Frames) (v : Value) → Skips r (behind fs v) (is_space r.strict)
-behind_skips r fs v = record { ascii = space_is_ascii r.strict; stays = λ c e. rw (white-class r c e) refl }
+behind_skips r fs v = record { ascii = space_is_ascii r.strict; stays = λ c n e. rw (white-class r c e) refl }
 
 -- ---- by the index of a byte
 

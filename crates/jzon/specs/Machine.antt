@@ -1,17 +1,18 @@
 -- The machine over values: what is left of a text comes to a value or to a fault, one character at a time. It keeps no tree and no blank, only what the open
--- containers hold so far. It is the reading of texts by a reading that is not strict.
+-- containers hold so far.
 use Rattle.std.specs.Prelude.{◌≡◌, ◌⊎◌, ℕ, zero, suc, ◌+◌, ◌-◌, ◌*◌, cond, List, [], ◌∷◌, ◌++◌, length, drop, Bool, true, false, ◌&&◌, ◌==◌, Option, Some, None, Result, Ok, Err, chars, encode_utf8}
 use Rattle.std.specs.Char.{is_ascii_hexdigit, digit_value}
-use Rattle.jzon_base.specs.PairList.{put_each}
+use Rattle.jzon_base.specs.PairList.{keys_of, put_each}
 use Rattle.jzon_base.specs.declared.error.Error.{Error}
 use Rattle.jzon_base.specs.declared.error.Error.TheVariants.{OutOfMemory}
 use Rattle.jzon_tree.specs.Value.{Value, values_of, pairs_of, kind_of}
 use Rattle.jzon_tree.specs.Value as value
+use Rattle.jzon_tree.specs.Same.{is_known}
 use Rattle.jzon_tree.specs.View.{view}
 use Rattle.jzon_tree.specs.declared.value.JsonValue.{JsonValue}
 use Rattle.jzon.specs.Reading.{Reading}
 use Rattle.jzon.specs.Grammar.{Sign, unsigned, plus, minus, Exponent, is_surrogate, is_high, is_low, is_plain, is_simple}
-use Rattle.jzon.specs.Spelling.{Breach, deep, pair, digit, breach_if, onto, drops_too_many, keeps_too_many, deep_if}
+use Rattle.jzon.specs.Spelling.{Breach, deep, pair, digit, duplicate, breach_if, onto, drops_too_many, keeps_too_many, deep_if}
 use Rattle.jzon.specs.Meaning.{number_of, unescaped, pair_char}
 use Rattle.jzon.specs.Fault.{Fault, limit, character, error_at}
 use Rattle.jzon.specs.Classes.{Class, white, digits, dash, cross, point, letter_e, quote, opens_array, closes_array, opens_object, closes_object, comma, colon, begins_null, begins_true, begins_false, class_of, NumberPlace, signed, zero_read, whole, pointed, fraction, lettered, signed_exponent, exponent, begun}
@@ -26,10 +27,10 @@ pub data Frames : Type 0 where
   array_frame : Frames → List Value → Frames
   object_frame : Frames → Entries → List ℕ → Frames
 
--- a string is a value, or a key of an object
+-- a string is a value, or a key of an object; of a key, how many characters were left at its opening quote
 pub data Role : Type 0 where
   as_value : Frames → Role
-  as_key : Frames → Entries → Role
+  as_key : Frames → Entries → ℕ → Role
 
 -- the place inside an item of a string; a code unit that is being read is a number, with the count of digits missing behind the next one
 pub data TextPlace : Type 0 where
@@ -110,11 +111,11 @@ abbrev pub move_empty_object : Frames → Entries → Move
 move_empty_object fs [] = go None (behind fs (value.object value.no_pairs))
 move_empty_object fs (e ∷ es) = bad
 
-abbrev pub move_before_key : Reading → Class → Frames → Entries → Move
-move_before_key r white fs es = go None (before_key fs es)
-move_before_key r quote fs es = go (key_mark r fs es) (string (as_key fs es) [] between)
-move_before_key r closes_object fs es = move_empty_object fs es
-move_before_key r _ fs es = bad_at (key_mark r fs es)
+abbrev pub move_before_key : Reading → Class → Frames → Entries → ℕ → Move
+move_before_key r white fs es left = go None (before_key fs es)
+move_before_key r quote fs es left = go (key_mark r fs es) (string (as_key fs es left) [] between)
+move_before_key r closes_object fs es left = move_empty_object fs es
+move_before_key r _ fs es left = bad_at (key_mark r fs es)
 
 abbrev pub move_after_key : Class → Frames → Entries → List ℕ → Move
 move_after_key white fs es k = go None (after_key fs es k)
@@ -183,14 +184,18 @@ move_numeral (exponent ws ds l s xs) class fs negative c = move_behind class fs 
 
 -- ---- strings
 
--- behind the closing quote
-abbrev pub closed_string : Role → List ℕ → Place
-closed_string (as_value fs) bs = behind fs (value.text (kind_of bs) bs)
-closed_string (as_key fs es) bs = after_key fs es bs
+-- an earlier key of the object has this text, which a strict reading refuses
+abbrev pub repeated_if : Reading → Entries → List ℕ → ℕ → Option Breach
+repeated_if r es k back = breach_if (r.strict && is_known (keys_of es) k) (duplicate back)
 
-abbrev pub move_between : Role → List ℕ → ℕ → Move
-move_between role bs c =
-    cond (c == 34) (go None (closed_string role bs))
+-- behind the closing quote
+abbrev pub closed_string : Reading → Role → List ℕ → ℕ → Move
+closed_string r (as_value fs) bs left = go None (behind fs (value.text (kind_of bs) bs))
+closed_string r (as_key fs es opened) bs left = go (repeated_if r es bs (opened - left)) (after_key fs es bs)
+
+abbrev pub move_between : Reading → Role → List ℕ → ℕ → ℕ → Move
+move_between r role bs c left =
+    cond (c == 34) (closed_string r role bs left)
     (cond (c == 92) (go None (string role bs slash))
     (cond (is_plain c) (go None (string role (bs ++ encode_utf8 c) between)) bad))
 
@@ -219,13 +224,13 @@ abbrev pub move_second_code : Role → List ℕ → ℕ → ℕ → ℕ → ℕ 
 move_second_code role bs u zero v c = paired (is_high u && is_low (add_hex v c)) role bs u (add_hex v c)
 move_second_code role bs u (suc n) v c = go None (string role bs (second_code u n (add_hex v c)))
 
-abbrev pub move_string : TextPlace → Role → List ℕ → ℕ → Move
-move_string between role bs c = move_between role bs c
-move_string slash role bs c = move_slash role bs c
-move_string (code n u) role bs c = cond (is_ascii_hexdigit c) (move_code role bs n u c) bad
-move_string (second u) role bs c = cond (c == 92) (go None (string role bs (second_slash u))) bad
-move_string (second_slash u) role bs c = cond (c == 117) (go None (string role bs (second_code u 3 0))) bad
-move_string (second_code u n v) role bs c = cond (is_ascii_hexdigit c) (move_second_code role bs u n v c) bad
+abbrev pub move_string : Reading → TextPlace → Role → List ℕ → ℕ → ℕ → Move
+move_string r between role bs c left = move_between r role bs c left
+move_string r slash role bs c left = move_slash role bs c
+move_string r (code n u) role bs c left = cond (is_ascii_hexdigit c) (move_code role bs n u c) bad
+move_string r (second u) role bs c left = cond (c == 92) (go None (string role bs (second_slash u))) bad
+move_string r (second_slash u) role bs c left = cond (c == 117) (go None (string role bs (second_code u 3 0))) bad
+move_string r (second_code u n v) role bs c left = cond (is_ascii_hexdigit c) (move_second_code role bs u n v c) bad
 
 -- ---- the machine
 
@@ -233,14 +238,15 @@ abbrev pub past_letter : Frames → Value → List ℕ → Place
 past_letter fs v [] = behind fs v
 past_letter fs v (l ∷ ls) = word fs v l ls
 
-abbrev pub move : Reading → Place → ℕ → Move
-move r (before fs) c = move_before r (class_of r.strict c) fs c
-move r (before_key fs es) c = move_before_key r (class_of r.strict c) fs es
-move r (word fs v l ls) c = cond (c == l) (go None (past_letter fs v ls)) bad
-move r (numeral fs negative x) c = move_numeral x (class_of r.strict c) fs negative c
-move r (string role bs x) c = move_string x role bs c
-move r (after_key fs es k) c = move_after_key (class_of r.strict c) fs es k
-move r (behind fs v) c = move_behind (class_of r.strict c) fs v
+-- the character c is read, where so many are left, c among them
+abbrev pub move : Reading → Place → ℕ → ℕ → Move
+move r (before fs) c left = move_before r (class_of r.strict c) fs c
+move r (before_key fs es) c left = move_before_key r (class_of r.strict c) fs es left
+move r (word fs v l ls) c left = cond (c == l) (go None (past_letter fs v ls)) bad
+move r (numeral fs negative x) c left = move_numeral x (class_of r.strict c) fs negative c
+move r (string role bs x) c left = move_string r x role bs c left
+move r (after_key fs es k) c left = move_after_key (class_of r.strict c) fs es k
+move r (behind fs v) c left = move_behind (class_of r.strict c) fs v
 
 -- what a text comes to: a value, or a fault with the rest of the text from its character on
 pub data Outcome : Type 0 where
@@ -273,11 +279,20 @@ outcome_on bad_deep f rest = refused (limit deep) rest
 -- what is left of a text comes to this, from this place
 abbrev pub outcome : Reading → List ℕ → Place → Outcome
 outcome r [] p = last p
-outcome r (c ∷ cs) p = outcome_on (move r p c) (λ p'. outcome r cs p') (c ∷ cs)
+outcome r (c ∷ cs) p = outcome_on (move r p c (length (c ∷ cs))) (λ p'. outcome r cs p') (c ∷ cs)
 
 -- the same for what a text has from its byte i on
 unfoldable pub from : Reading → List ℕ → Place → ℕ → Outcome
 from r bytes p i = outcome r (chars (drop i bytes)) p
+
+-- how many characters are left from a byte on
+abbrev pub left_at : List ℕ → ℕ → ℕ
+left_at bytes i = length (chars (drop i bytes))
+
+-- what a text comes to behind a string with this text, whose closing quote stands before byte i
+abbrev pub from_closed : Reading → List ℕ → Role → List ℕ → ℕ → Outcome
+from_closed r bytes role text i =
+    outcome_on (closed_string r role text (left_at bytes (i - 1))) (λ p. from r bytes p i) (chars (drop (i - 1) bytes))
 
 -- what is left of a text where it can't go on
 abbrev pub stopped : List ℕ → Outcome

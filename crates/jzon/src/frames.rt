@@ -1,15 +1,17 @@
 //! The open containers of a text (RFC 8259, sections 4 and 5; docs/RULES.md, "Texts" and "Depth").
 
-ghost use Rattle.std.specs.Prelude.{◌≡◌, ◌≢◌, ◌⊎◌, ◌↔◌, IsTrue, ℕ, List, [], ◌∷◌, ◌++◌, ◌<◌, ◌≤◌, ◌+◌, length, chars, map, IfOk, OnOk, Err, None, MatchResult, slice_index, false, vec_len};
+ghost use Rattle.std.specs.Prelude.{◌≡◌, ◌≢◌, ◌⊎◌, ◌&&◌, ◌↔◌, IsTrue, ℕ, List, [], ◌∷◌, ◌++◌, ◌<◌, ◌≤◌, ◌+◌, length, chars, map, IfOk, OnOk, Err, None, MatchResult, slice_index, false, vec_len};
 ghost use Rattle.std.specs.Str.{IsCharBoundary};
+ghost use Rattle.jzon_base.specs.PairList.{keys_of};
 ghost use Rattle.jzon_tree.specs.Value.{Value};
+ghost use Rattle.jzon_tree.specs.Same.{is_known};
 ghost use Rattle.jzon_tree.specs.View.{view};
 ghost use Rattle.jzon_tree.specs.Writing.{is_space};
 ghost use Rattle.jzon.specs.Frames.{stack_view, open_in, entries_view, place_of, IsAtElement, IsReady};
 ghost use Rattle.jzon.specs.Machine.{Entries, Frames, array_frame, object_frame, before, before_key, behind, key_mark, from, TellsUnlessMemory};
 
 use crate::blank::skip_blank;
-use crate::place::{fault_at, has_byte};
+use crate::place::{duplicate_at, fault_at, has_byte};
 use crate::reading::Reading;
 use crate::scalar::read_scalar;
 use crate::string::read_string;
@@ -169,7 +171,7 @@ fn read_entries(
     let mut entries = entries;
     let mut index = start;
     loop {
-        let (key, colon) = read_key(alloc, source, reading, index, buffer)?;
+        let (key, colon) = read_key(alloc, source, reading, index, &entries, buffer)?;
         index = skip_blank(source, reading, colon);
         if opens_container(source, index) {
             stack.push(Frame::Object(entries, key))?;
@@ -189,18 +191,19 @@ fn read_entries(
     }
 }
 
-/// The key that begins at `start`, and the place behind its colon.
+/// The key that begins at `start`, in an object whose entries so far these are, and the place behind its colon.
 fn read_key(
     alloc: Global,
     source: &str,
     reading: Reading,
     start: usize,
+    entries: &Vec<(Key, JsonValue)>,
     buffer: &mut String,
 ) -> Result<(Key, usize)>
     requires boundary { IsCharBoundary source.now start }
     requires stop { start < length source.now → is_space reading.strict (slice_index source.now start) ≡ false }
     ensures bounds { IfOk result (λ r. (start < r.1) × IsCharBoundary source.now r.1) }
-    ensures same { (fs : Frames) (es : Entries) → key_mark reading fs es ≡ None → (es ≡ [] → slice_index source.now start ≢ 125) → MatchResult result
+    ensures same { (fs : Frames) → let es = entries_view entries.now.items in key_mark reading fs es ≡ None → (es ≡ [] → slice_index source.now start ≢ 125) → MatchResult result
         (λ r. from reading source.now (before_key fs es) start ≡ from reading source.now (before (object_frame fs es r.0)) r.1)
         (λ e. TellsUnlessMemory (chars source.now) e (from reading source.now (before_key fs es) start)) }
 {
@@ -208,12 +211,35 @@ fn read_key(
         return Err(fault_at(source, start));
     }
     let spelled = read_string(source, start + 1, buffer)?;
-    let key = Key::new(alloc, spelled.text(source, start + 1, buffer))?;
+    let name = spelled.text(source, start + 1, buffer);
+    if is_refused(reading, entries, name) {
+        return Err(duplicate_at(source, start));
+    }
+    let key = Key::new(alloc, name)?;
     let colon = skip_blank(source, reading, spelled.end);
     if !has_byte(source, colon, b':') {
         return Err(fault_at(source, colon));
     }
     Ok((key, colon + 1))
+}
+
+/// Whether the reading refuses this key behind these entries.
+fn is_refused(reading: Reading, entries: &Vec<(Key, JsonValue)>, name: &str) -> bool
+    ensures { result ≡ (reading.strict && is_known (keys_of (entries_view entries.now.items)) name.now) }
+{
+    reading.strict() && has_key(entries.as_slice(), name)
+}
+
+/// Whether one of the entries has this key.
+fn has_key(entries: &[(Key, JsonValue)], name: &str) -> bool
+    ensures { result ≡ is_known (keys_of (entries_view entries.now)) name.now }
+{
+    for entry in entries {
+        if entry.0.as_str() == name {
+            return true;
+        }
+    }
+    false
 }
 
 /// Reads on behind the value `item` of an open container, which was the inmost: to the container's end, or to its next value that opens one. After an error what

@@ -26,7 +26,7 @@ pub use jzon_tree::value::JsonValue;
 pub use jzon_tree::value::JsonValue::Null;
 pub use jzon_tree::view::View;
 pub use jzon_tree::{codegen, lent};
-pub use parser::parse;
+pub use parser::{parse, parse_as};
 pub use reading::Reading;
 
 /// The items of an array.

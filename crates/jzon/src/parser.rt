@@ -26,7 +26,17 @@ pub fn parse(alloc: Global, source: &str) -> Result<JsonValue>
     ensures error { IfErr result (IsErrorUnlessMemory usual (chars source.now)) }
     ensures memory { result ≡ Err Error.OutOfMemory → TakesMemory (chars source.now) }
 {
-    read(alloc, source, USUAL)
+    parse_as(alloc, source, &USUAL)
+}
+
+/// The same by this reading (docs/RULES.md, "Readings"): its depth and its whitespace hold, and where it is strict a repeated key is refused by `DuplicateKey`.
+pub fn parse_as(alloc: Global, source: &str, reading: &Reading) -> Result<JsonValue>
+    ensures value { IfOk result (IsMeaningOf reading.now (chars source.now)) }
+    ensures readable { IfOk result (λ v. IsReadable reading.now (view v)) }
+    ensures error { IfErr result (IsErrorUnlessMemory reading.now (chars source.now)) }
+    ensures memory { result ≡ Err Error.OutOfMemory → TakesMemory (chars source.now) }
+{
+    read(alloc, source, *reading)
 }
 
 /// The same, by the machine over values.
@@ -49,7 +59,16 @@ fn read(alloc: Global, source: &str, reading: Reading) -> Result<JsonValue>
             Some(item) => match stack.pop() {
                 None => return finish(source, reading, index, item),
                 Some(frame) => {
-                    let next = go_on(alloc, source, reading, index, frame, item, &mut stack, &mut buffer)?;
+                    let next = go_on(
+                        alloc,
+                        source,
+                        reading,
+                        index,
+                        frame,
+                        item,
+                        &mut stack,
+                        &mut buffer,
+                    )?;
                     value = next.0;
                     index = next.1;
                 }

@@ -1,8 +1,9 @@
 //! Places of a text: what stands there, and the error that tells a fault there.
 
-ghost use Rattle.std.specs.Prelude.{◌≡◌, ℕ, ◌<◌, ◌≤◌, ◌+◌, length, drop, chars, IsTrue, slice_index, ◌↔◌};
+ghost use Rattle.std.specs.Prelude.{◌≡◌, ℕ, ◌<◌, ◌≤◌, ◌+◌, length, take, drop, chars, IsTrue, slice_index, ◌↔◌};
 ghost use Rattle.std.specs.Char.{is_ascii_digit};
 ghost use Rattle.std.specs.Str.{IsCharBoundary};
+ghost use Rattle.jzon_base.specs.declared.error.Error.TheVariants.{DuplicateKey};
 ghost use Rattle.jzon.specs.Fault.{line, column};
 ghost use Rattle.jzon.specs.Machine.{Tells, stopped};
 
@@ -45,6 +46,18 @@ fn column_after(front: &str) -> usize
     match front.rfind('\n') {
         None => column_behind(front),
         Some(newline) => column_behind(&front[newline + 1..]),
+    }
+}
+
+/// The error that tells a repeated key, whose opening quote stands at this place.
+pub(crate) fn duplicate_at(source: &str, start: usize) -> Error
+    requires { IsCharBoundary source.now start }
+    ensures { result ≡ DuplicateKey (line (chars (take start source.now))) (column (chars (take start source.now))) }
+{
+    let front = &source[..start];
+    Error::DuplicateKey {
+        line: line_after(front),
+        column: column_after(front),
     }
 }
 

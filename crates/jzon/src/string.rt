@@ -11,7 +11,7 @@ ghost use Rattle.jzon.specs.Reading.{Reading};
 ghost use Rattle.jzon.specs.Grammar.{is_simple, is_high, is_low, is_surrogate};
 ghost use Rattle.jzon.specs.Meaning.{unescaped, pair_char};
 ghost use Rattle.jzon.specs.Quote.{EndsAtQuote};
-ghost use Rattle.jzon.specs.Machine.{Role, string, between, slash, code, second, second_code, closed_string, coded, paired, outcome_on, from, Tells};
+ghost use Rattle.jzon.specs.Machine.{Role, string, between, slash, code, second, second_code, coded, paired, outcome_on, from, from_closed, Tells};
 
 use crate::place::{fault_at, has_byte};
 use jzon_base::error::{Error, Result};
@@ -67,7 +67,7 @@ pub(crate) fn read_string(source: &str, start: usize, buffer: &mut String) -> Re
     ensures untouched { IfOk result (λ s. s.is_escaped ≡ false → string_bytes buffer.new ≡ string_bytes buffer.old) }
     ensures same { (r : Reading) (role : Role) → MatchResult result
         (λ s. from r source.now (string role [] between) start
-        ≡ from r source.now (closed_string role (if s.is_escaped then string_bytes buffer.new else slice_range source.now start (s.end - 1))) s.end)
+        ≡ from_closed r source.now role (if s.is_escaped then string_bytes buffer.new else slice_range source.now start (s.end - 1)) s.end)
         (λ e. (e ≡ OutOfMemory) ⊎ Tells (chars source.now) e (from r source.now (string role [] between) start)) }
 {
     let stop = plain_end(source, start);
@@ -107,7 +107,7 @@ fn past_quote(source: &str, index: usize) -> Result<usize>
     requires no_escape { index < length source.now → slice_index source.now index ≡ 92 → ⊥ }
     ensures quote { IfOk result (λ end. (end ≡ index + 1) × EndsAtQuote source.now index end) }
     ensures same { (r : Reading) (role : Role) (bs : List ℕ) → MatchResult result
-        (λ end. from r source.now (string role bs between) index ≡ from r source.now (closed_string role bs) end)
+        (λ end. from r source.now (string role bs between) index ≡ from_closed r source.now role bs end)
         (λ e. Tells (chars source.now) e (from r source.now (string role bs between) index)) }
 {
     if has_byte(source, index, b'"') {
@@ -124,7 +124,7 @@ fn read_escapes(source: &str, start: usize, buffer: &mut String) -> Result<usize
     ensures quote { IfOk result (λ end. EndsAtQuote source.now start end) }
     ensures same { (r : Reading) (role : Role) → MatchResult result
         (λ end. from r source.now (string role (string_bytes buffer.old) between) start
-        ≡ from r source.now (closed_string role (string_bytes buffer.new)) end)
+        ≡ from_closed r source.now role (string_bytes buffer.new) end)
         (λ e. (e ≡ OutOfMemory) ⊎ Tells (chars source.now) e (from r source.now (string role (string_bytes buffer.old) between) start)) }
 {
     let mut index = start;

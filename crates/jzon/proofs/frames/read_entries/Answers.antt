@@ -53,7 +53,7 @@ returns-in_err-key-clause-same c =
     let failed = err_from_is_err_and c.from_residual.result c.from_residual.ensures.1 in
     told_err _ (chars c.args.source.now) c.from_residual.result failed.0 _ failed.1
     (told_again (chars c.args.source.now) failed.0 _ _ (unmoved at ∙ c.loop-entries.invariant.same)
-    (rw failed.2 (c.in_err-key.ensures.same fs es (key_mark-shallow c.args.reading fs es (shallow at)) c.loop-entries.invariant.key)))
+    (rw failed.2 (c.in_err-key.ensures.same fs (key_mark-shallow c.args.reading fs es (shallow at)) c.loop-entries.invariant.key)))
 
 -- the key was read, its colon, and a blank behind it
 began : (c : After-skip_blank-index) → frames_depth (stack_view c.loop-entries.stack.items) < c.args.reading.depth
@@ -63,7 +63,7 @@ began : (c : After-skip_blank-index) → frames_depth (stack_view c.loop-entries
 began c lt =
     let fs = stack_view c.loop-entries.stack.items in
     let es = entries_view c.loop-entries.entries.items in
-    c.loop-entries.invariant.same ∙ c.in_ok-key.ensures.same fs es (key_mark-shallow c.args.reading fs es lt) c.loop-entries.invariant.key
+    c.loop-entries.invariant.same ∙ c.in_ok-key.ensures.same fs (key_mark-shallow c.args.reading fs es lt) c.loop-entries.invariant.key
     ∙ c.skip_blank-index.ensures.before (object_frame fs es c.in_ok-key.key)
 
 pub returns-then-opens_container-clause-bounds : goal.returns-then-opens_container-clause-bounds
