@@ -25,7 +25,7 @@ use Rattle.jzon.specs.Meaning.{written_exponent, number_of, unescaped, pair_char
 use Rattle.jzon.specs.Fault.{Parses}
 use Rattle.jzon.specs.Laws.{IsReadAs, Redump}
 use Rattle.jzon.specs.Answer.{IsReadable}
-use Rattle.jzon.proofs.DistinctKeys.{IsDistinct-put_each}
+use Rattle.jzon_base.proofs.PutEach.{IsDistinct-put_each}
 use Rattle.jzon.proofs.HexDigits.{hex_is_below_16}
 use Rattle.jzon.proofs.UnmarkedCells.{HaveNoMarks, unmarked, plain_rest, numeral_first, items_rest, key_first}
 use Rattle.jzon.proofs.WrittenStrings.{IsUtf8-scalars, scalars-append}

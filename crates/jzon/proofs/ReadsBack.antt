@@ -1,13 +1,14 @@
 -- Each writing of a value without NaN is read as the same value.
 use Rattle.std.proofs.Common.{◌≡◌, ◌∙◌, ◌≢◌, ℕ, suc, ◌≤◌, max, List, [], ◌∷◌, ◌++◌, length, map, Bool, true, false, cond, Option, Some, refl, sym, ap, subst, arith}
 use Rattle.std.specs.Prelude.{IsUtf8, IsTrue, AllPairs}
-use Rattle.std.specs.List.{AllByRecursion}
+use Rattle.std.specs.List.{AllByRecursion, IsDistinct}
 use Rattle.std.specs.Str.{bytes_eq}
 use Rattle.std.proofs.lemmas.Bool.{and_parts, and_from}
 use Rattle.std.proofs.lemmas.List.{length-map}
 use Rattle.std.proofs.lemmas.Slice.Eq.{bytes_eq-Decides}
 use Rattle.jzon_base.specs.Decimal.{nan, parts}
 use Rattle.jzon_base.specs.PairList.{keys_of, find, put_each}
+use Rattle.jzon_base.proofs.PutEach.{put_each-distinct}
 use Rattle.jzon_tree.specs.Value.{Value, null, boolean, text, number, array, object, Values, no_values, value, values_of, Pairs, no_pairs, pair, pairs_of, list_of_pairs, nest, most_nest, most_nest_under}
 use Rattle.jzon_tree.specs.Text.{quoted}
 use Rattle.jzon_tree.specs.Lawful.{IsValue, AreValues, ArePairs, HasNoNan, HaveNoNan, PairsHaveNoNan}
@@ -19,7 +20,7 @@ use Rattle.jzon.specs.Reading.{Reading}
 use Rattle.jzon.specs.Grammar.{Node, Each, IsBlank}
 use Rattle.jzon.specs.Meaning.{bytes_of, meaning, members_meaning}
 use Rattle.jzon.specs.Laws.{alone, AllowsStrictAlone, ReadsBack}
-use Rattle.jzon.proofs.DistinctKeys.{AreNew, AreNew-IsDistinct, put_each-new}
+use Rattle.jzon.proofs.DistinctKeys.{AreNew-IsDistinct}
 use Rattle.jzon.proofs.NumbersReadBack.{printed_numeral}
 use Rattle.jzon.proofs.Orders.{picked, map-picked, each_picked, AreBelow, AreBelow-order, texts_picked, distinct_picked, find-picked}
 use Rattle.jzon.proofs.Redump.{text_utf8}
@@ -94,25 +95,25 @@ array_from r s dent v vs b (t ∷ ts) (n ∷ ns) fit each alike w =
 
 -- the entries in the order in which they are written
 object_from : (r : Reading) (s : Style) (dent : ℕ) (k : List ℕ) (v : Value) (ps : Pairs) (b : List ℕ) (es : List Entry) → AllowsBlanksOf r s
-    → AllByRecursion (EntrySpells r (most_nest_under (pair k v ps))) es → AreNew [] (entry_keys es)
+    → AllByRecursion (EntrySpells r (most_nest_under (pair k v ps))) es → IsDistinct bytes_eq (entry_keys es)
     → ((q : List ℕ) → same_at (find q (map entry_meaning es)) (find q (list_of_pairs (pair k v ps))) ≡ true)
     → Encloses s dent 123 (map entry_text es) 125 b → ReadNode r (object (pair k v ps)) b
-object_from r s dent k v ps b [] fit each new alike w = absurd w.2
-object_from r s dent k v ps b (e ∷ es) fit each new alike w =
+object_from r s dent k v ps b [] fit each distinct alike w = absurd w.2
+object_from r s dent k v ps b (e ∷ es) fit each distinct alike w =
     let high : ℕ = most_nest_under (pair k v ps) in
     let j = joined_members r s (suc dent) high e es w.0 w.1 fit each w.2 (fit dent w.1 w.3) in
     let node : Node = Node.object (key_for j.before e.key) e.gap e.node j.after j.members in
     let bytes : bytes_of (items_for e.key) ≡ e.key = bytes_of-items_for e.key each.0.utf8 in
     let means : put_each ((bytes_of (items_for e.key), meaning e.node) ∷ members_meaning j.members) ≡ map entry_meaning (e ∷ es) =
     ap (λ y. put_each ((y, meaning e.node) ∷ members_meaning j.members)) bytes ∙ ap (λ qs. put_each (entry_meaning e ∷ qs)) j.means
-    ∙ put_each-new (map entry_meaning (e ∷ es)) new in
+    ∙ put_each-distinct (map entry_meaning (e ∷ es)) distinct in
     record {
       node = node;
       spells =
           subst (λ x. NodeSpells r (suc high) x node) (sym (w.4 ∙ ap (λ x. 123 ∷ x) j.text))
           (node_raised r (suc (max high high)) (suc high) _ node (above_max high)
           (object_spells r high high (entry_keys es) j.before e.key e.gap e.text j.after j.rest e.node j.members j.white each.0.utf8 each.0.white j.space each.0.spells
-          j.spell new));
+          j.spell (AreNew-IsDistinct (entry_keys (e ∷ es)) distinct)));
       alike =
           ap (λ qs. same (object (pairs_of qs)) (object (pair k v ps))) means
           ∙ object-intro (pairs_of (map entry_meaning (e ∷ es))) (pair k v ps)
@@ -139,9 +140,9 @@ object_read r s dent k v ps b ts positions (e ∷ es) fit distinct texts each ke
     let meant : map entry_meaning (picked e all positions) ≡ picked (entry_meaning e) stored positions = map-picked entry_meaning e all positions in
     let named : entry_keys (picked e all positions) ≡ picked e.key (keys_of stored) positions =
     ap keys_of meant ∙ map-picked (λ (p : List ℕ × Value). p.0) (entry_meaning e) stored positions in
-    let new : AreNew [] (entry_keys (picked e all positions)) =
-    subst (λ ks. AreNew [] ks) (sym named)
-    (AreNew-IsDistinct _ (distinct_picked (keys_of stored) e.key positions apart below (λ i h. omega (arith, order.once i (omega (arith, counted)))))) in
+    let new : IsDistinct bytes_eq (entry_keys (picked e all positions)) =
+    subst (λ ks. IsDistinct bytes_eq ks) (sym named)
+    (distinct_picked (keys_of stored) e.key positions apart below (λ i h. omega (arith, order.once i (omega (arith, counted))))) in
     object_from r s dent k v ps b (picked e all positions) fit
     (each_picked (EntrySpells r (most_nest_under (pair k v ps))) e all positions each.0 each) new
     (λ q. ap (λ xs. same_at (find q xs) (find q (list_of_pairs (pair k v ps)))) meant

@@ -1,8 +1,13 @@
 -- The compact text of a value is read as a value with the same compact text.
 use Rattle.std.proofs.Common.{◌≡◌, ◌∙◌, ℕ, suc, List, [], ◌∷◌, ◌++◌, true, false, codes, refl, sym, ap, subst, append_assoc}
 use Rattle.std.specs.Prelude.{IsUtf8}
+use Rattle.std.specs.List.{IsDistinct}
+use Rattle.std.specs.Str.{bytes_eq}
+use Rattle.std.proofs.lemmas.Map.Made.{IsDistinct-from_AllPairs}
+use Rattle.std.proofs.lemmas.Slice.Eq.{bytes_eq-Decides}
 use Rattle.jzon_base.specs.Decimal.{nan, parts}
 use Rattle.jzon_base.specs.PairList.{keys_of, put_each}
+use Rattle.jzon_base.proofs.PutEach.{put_each-distinct}
 use Rattle.jzon_tree.specs.Value.{Value, null, boolean, text, number, array, object, Values, no_values, value, Pairs, no_pairs, pair, pairs_of, list_of_pairs, Kind, short, long, nest, most_nest, most_nest_under}
 use Rattle.jzon_tree.specs.Text.{compact_layout, layout_text, more_values_text, more_pairs_text, quoted}
 use Rattle.jzon_tree.specs.Lawful.{IsText, IsValue, AreValues, ArePairs}
@@ -10,7 +15,7 @@ use Rattle.jzon.specs.Reading.{Reading}
 use Rattle.jzon.specs.Grammar.{Node, Elements, no_elements, element, Members, no_members, member}
 use Rattle.jzon.specs.Meaning.{bytes_of, meaning, elements_meaning, members_meaning}
 use Rattle.jzon.specs.Laws.{alone, Redump}
-use Rattle.jzon.proofs.DistinctKeys.{AreNew, AreNew-distinct, put_each-new}
+use Rattle.jzon.proofs.DistinctKeys.{AreNew, AreNew-IsDistinct}
 use Rattle.jzon.proofs.NumbersReadBack.{printed_numeral}
 use Rattle.jzon.proofs.WrittenStrings.{items_for, bytes_of-items_for}
 use Rattle.jzon.proofs.WrittenTrees.{NodeSpells, ElementsSpell, MembersSpell, null_spells, true_spells, false_spells, number_spells, empty_array_spells, empty_object_spells, string_spells, key_for, pair_text, no_elements_spell, element_spells, array_spells, no_members_spell, member_spells, object_spells, node_parses}
@@ -65,7 +70,8 @@ mutual
   dumped r d (object (pair k v ps)) h =
       let one = dumped r (suc d) v h.0.1 in
       let more = dumped_pairs r d ps h.0.2 in
-      let new : AreNew [] (k ∷ keys_of (list_of_pairs ps)) = AreNew-distinct (k ∷ keys_of (list_of_pairs ps)) h.1 in
+      let distinct : IsDistinct bytes_eq (k ∷ keys_of (list_of_pairs ps)) = IsDistinct-from_AllPairs bytes_eq-Decides _ h.1 in
+      let new : AreNew [] (k ∷ keys_of (list_of_pairs ps)) = AreNew-IsDistinct _ distinct in
       record {
         node = Node.object (key_for [] k) [] one.node [] more.members;
         spells =
@@ -76,7 +82,8 @@ mutual
             let bytes : bytes_of (items_for k) ≡ k = bytes_of-items_for k h.0.0 in
             let kept : put_each ((bytes_of (items_for k), meaning one.node) ∷ members_meaning more.members) ≡ (k, meaning one.node) ∷ members_meaning more.members =
             ap (λ y. put_each ((y, meaning one.node) ∷ members_meaning more.members)) bytes
-            ∙ put_each-new ((k, meaning one.node) ∷ members_meaning more.members) (subst (λ ks. AreNew [] (k ∷ ks)) (sym more.keys) new) in
+            ∙ put_each-distinct ((k, meaning one.node) ∷ members_meaning more.members)
+            (subst (λ ks. IsDistinct bytes_eq (k ∷ ks)) (sym more.keys) distinct) in
             ap (λ ps. layout_text compact_layout e (object (pairs_of ps))) kept ∙ rw (one.again (suc e), more.again e) refl;
       }
 

@@ -1,4 +1,3 @@
-pub mod Indexes
 pub mod Kept
 pub mod Lists
 pub mod PairPlaces
@@ -9,8 +8,11 @@ pub mod ReadRows
 pub mod SameRows
 pub mod Scaled
 pub mod Written
-pub mod Walks
-pub mod Trees
-pub mod Search
 pub mod Zips
 pub mod PlainBlocks
+pub mod Indexes
+pub mod Permutations
+pub mod Repeats
+pub mod Merged
+pub mod PutEach
+pub mod KnownKeys

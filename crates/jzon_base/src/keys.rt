@@ -1,15 +1,20 @@
 //! The keys of an object in the order in which they were put, and the place of each.
 ghost use Rattle.std.specs.Prelude.{◌≡◌, ◌<◌, ◌++◌, ◌∷◌, ◌==◌, [], length, remove, slice_get, IfOk, OnOk, OnErr, MatchOption, None, Some};
-ghost use Rattle.std.specs.List.{position, IsDistinct};
+ghost use Rattle.std.specs.List.{position, zip, IsDistinct};
 ghost use Rattle.std.specs.Str.{bytes_eq};
+ghost use Rattle.jzon_base.specs.Keys.{IsIndex};
+ghost use Rattle.jzon_base.specs.PairList.{put_each};
 
 mod hash;
-mod places;
+mod index;
+mod into_iter;
+mod iter;
+mod repeats;
 
 use crate::key::Key;
 use hash::hash_of;
-use places::Places;
-pub use places::{IntoIter, Iter};
+pub use into_iter::IntoIter;
+pub use iter::Iter;
 use std::alloc::{AllocError, Global};
 use std::marker::Model;
 
@@ -18,18 +23,19 @@ use std::marker::Model;
 /// The place of a key is found by its hash; how it is found is this type's own matter.
 #[derive(Drop)]
 pub struct Keys {
-    places: Places,
+    keys: Vec<Key>,
+    index: Vec<(u64, usize)>,
 }
 
 impl Model for Keys {
     ghost use Rattle.std.specs.Prelude.{List, ℕ};
-    ghost use Rattle.jzon_base.specs.Keys.{names_of, IsIndex};
+    ghost use Rattle.jzon_base.specs.Keys.{AreKeys};
 
     ghost Value = { List (List ℕ) };
 
-    ghost view = { λ k. names_of k.places };
+    ghost view = { λ k. k.keys.items };
 
-    ghost invariant = { λ k. IsIndex k.places };
+    ghost invariant = { λ k. AreKeys k.keys.items k.index.items };
 }
 
 impl Keys {
@@ -38,7 +44,8 @@ impl Keys {
         ensures { result ≡ [] }
     {
         Keys {
-            places: Places::new(alloc),
+            keys: Vec::new(alloc),
+            index: Vec::new(alloc),
         }
     }
 
@@ -47,8 +54,47 @@ impl Keys {
         ensures { IfOk result (λ k. k ≡ []) }
     {
         Ok(Keys {
-            places: Places::with_capacity(alloc, capacity)?,
+            keys: Vec::with_capacity(alloc, capacity)?,
+            index: Vec::with_capacity(alloc, capacity)?,
         })
+    }
+
+    /// The keys of entries of which some may repeat, and their index: the entries of equal keys become one, with the last value in the place of the first. The error
+    /// is a refused growth.
+    fn from_repeats<V: Drop>(
+        alloc: Global,
+        mut keys: Vec<Key>,
+        values: &mut Vec<V>,
+        mut index: Vec<(u64, usize)>,
+    ) -> Result<Keys, AllocError>
+        requires even { length values.old.items ≡ length keys.items }
+        requires index { IsIndex keys.items index.items }
+        ensures even { IfOk result (λ k. length values.new.items ≡ length k) }
+        ensures merged { IfOk result (λ k. zip k values.new.items ≡ put_each (zip keys.items values.old.items)) }
+    {
+        let firsts = repeats::firsts(alloc, keys.as_slice(), index.as_mut_slice())?;
+        drop(index);
+        repeats::merge(&mut keys, values, firsts);
+        let index = index::of(alloc, keys.as_slice())?;
+        Ok(Keys { keys, index })
+    }
+
+    /// The keys of entries: those of equal keys become one, with the last value in the place of the first. Where no key repeats, the keys are taken over as they are.
+    /// The error is a refused growth.
+    pub fn from_entries<V: Drop>(
+        alloc: Global,
+        keys: Vec<Key>,
+        values: &mut Vec<V>,
+    ) -> Result<Keys, AllocError>
+        requires { length values.old.items ≡ length keys.items }
+        ensures even { IfOk result (λ k. length values.new.items ≡ length k) }
+        ensures merged { IfOk result (λ k. zip k values.new.items ≡ put_each (zip keys.items values.old.items)) }
+    {
+        let index = index::of(alloc, keys.as_slice())?;
+        if index::has_tie(index.as_slice()) {
+            return Keys::from_repeats(alloc, keys, values, index);
+        }
+        Ok(Keys { keys, index })
     }
 
     /// How many keys there are.
@@ -56,21 +102,26 @@ impl Keys {
         ensures len { result ≡ length self.now }
         ensures distinct { IsDistinct bytes_eq self.now }
     {
-        self.places.len()
+        self.keys.len()
     }
 
     /// Whether there is no key.
     pub fn is_empty(&self) -> bool
         ensures { result ≡ (length self.now == 0) }
     {
-        self.places.len() == 0
+        self.keys.len() == 0
     }
 
     /// The place of a key.
     pub fn position(&self, name: &str) -> Option<usize>
         ensures { result ≡ position (λ k. bytes_eq k name.now) self.now }
     {
-        self.places.position_with(hash_of(name), name)
+        index::find(
+            self.keys.as_slice(),
+            self.index.as_slice(),
+            hash_of(name),
+            name,
+        )
     }
 
     /// The key at a place.
@@ -78,7 +129,7 @@ impl Keys {
         requires { index < length self.now }
         ensures { slice_get self.now index ≡ Some result.now }
     {
-        self.places.get(index)
+        self.keys[index].as_str()
     }
 
     /// Puts a key that is not there, last. The error is a refused growth.
@@ -100,7 +151,20 @@ impl Keys {
         ensures err { OnErr result (self.new ≡ self.old) }
     {
         let hash = hash_of(key.as_str());
-        self.places.place_with(hash, key)
+        let found = index::find(
+            self.keys.as_slice(),
+            self.index.as_slice(),
+            hash,
+            key.as_str(),
+        );
+        if found.is_some() {
+            return Ok(found);
+        }
+        let last = self.keys.len();
+        self.keys.reserve(1)?;
+        index::add(&mut self.index, hash, last)?;
+        self.keys.push_reserved(key);
+        Ok(None)
     }
 
     /// Removes the key at a place. The others keep their order. Takes no memory.
@@ -108,31 +172,54 @@ impl Keys {
         requires { index < length self.old }
         ensures { self.new ≡ remove self.old index }
     {
-        self.places.remove(index);
+        drop(self.keys.remove(index));
+        index::cut(&mut self.index, index);
     }
 
     /// Removes all keys.
     pub fn clear(&mut self)
         ensures { self.new ≡ [] }
     {
-        self.places.clear();
+        self.keys.clear();
+        self.index.clear();
     }
 
     /// A copy. Its error is a refused growth.
     pub fn clone(&self, alloc: Global) -> Result<Keys, AllocError>
         ensures { IfOk result (λ k. k ≡ self.now) }
     {
-        Ok(Keys {
-            places: self.places.clone(alloc)?,
-        })
+        let mut keys = Vec::with_capacity(alloc, self.keys.len())?;
+        for key in &self.keys {
+            keys.push(Key::new(alloc, key.as_str())?)?;
+        }
+        let index = Vec::from_slice(alloc, self.index.as_slice())?;
+        Ok(Keys { keys, index })
     }
 
     /// The keys in their order, each by its text.
     pub fn iter(&self) -> Iter<'_>
         ensures { result ≡ self.now }
     {
-        self.places.iter()
+        Iter::new(self.keys.as_slice())
     }
+}
+
+/// Makes the entries of equal keys one, with the last value in the place of the first. The error is a refused growth, and then nothing has changed.
+pub fn merge<V: Drop>(
+    alloc: Global,
+    keys: &mut Vec<Key>,
+    values: &mut Vec<V>,
+) -> Result<(), AllocError>
+    requires { length values.old.items ≡ length keys.old.items }
+    ensures even { length values.new.items ≡ length keys.new.items }
+    ensures same { put_each (zip keys.new.items values.new.items) ≡ put_each (zip keys.old.items values.old.items) }
+{
+    let mut index = index::of(alloc, keys.as_slice())?;
+    if index::has_tie(index.as_slice()) {
+        let firsts = repeats::firsts(alloc, keys.as_slice(), index.as_mut_slice())?;
+        repeats::merge(keys, values, firsts);
+    }
+    Ok(())
 }
 
 impl<'a> IntoIterator for &'a Keys {
@@ -155,7 +242,7 @@ impl IntoIterator for Keys {
     ghost into_iter_gives = { λ k it. it ≡ k };
 
     fn into_iter(self) -> IntoIter {
-        self.places.into_keys()
+        IntoIter::new(self.keys)
     }
 }
 
@@ -204,6 +291,36 @@ mod tests {
         assert_eq!(rt; removed.place(Key::new(rt.alloc(), "a")?)?, None);
         assert_eq!(rt; removed.place(Key::new(rt.alloc(), "a")?)?, Some(3));
         assert_eq!(rt; removed.len(), 4);
+        Ok(())
+    }
+
+    #[test]
+    fn tells_keys_of_one_hash_apart(rt: HostRuntime) -> Result<(), AllocError> {
+        let one = "8yn0iYCKYHlIj4-BwPqk";
+        let other = "GReLUrM4wMqfg9yzV3KQ";
+        assert_eq!(rt; hash_of(one), hash_of(other));
+        let mut keys = of_names(rt.alloc(), &["a", other, one, "b"])?;
+        for (name, want) in [
+            ("a", Some(0usize)),
+            (other, Some(1)),
+            (one, Some(2)),
+            ("b", Some(3)),
+            ("c", None),
+        ] {
+            assert_eq!(rt; keys.position(name), want, "of {name}");
+        }
+        keys.remove(1);
+        for (name, want) in [
+            ("a", Some(0usize)),
+            (other, None),
+            (one, Some(1)),
+            ("b", Some(2)),
+        ] {
+            assert_eq!(rt; keys.position(name), want, "of {name}, without one");
+        }
+        assert_eq!(rt; keys.place(Key::new(rt.alloc(), one)?)?, Some(1));
+        assert_eq!(rt; keys.place(Key::new(rt.alloc(), other)?)?, None);
+        assert_eq!(rt; keys.position(other), Some(3));
         Ok(())
     }
 

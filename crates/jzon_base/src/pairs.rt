@@ -4,12 +4,14 @@ ghost use Rattle.std.specs.List.{position, zip, IsDistinct};
 ghost use Rattle.std.specs.Str.{bytes_eq};
 ghost use Rattle.std.specs.Option.{option_copied, option_copied_mut};
 
+mod builder;
 mod into_iter;
 mod iter;
 mod iter_mut;
 
 use crate::key::Key;
 use crate::keys::Keys;
+pub use builder::Builder;
 pub use into_iter::IntoIter;
 pub use iter::Iter;
 pub use iter_mut::IterMut;
@@ -190,21 +192,6 @@ impl<V> Pairs<V> {
             }
             None => self.push(alloc, name, value),
         }
-    }
-
-    /// Puts a value under a key: in its place where the key is there, else last, by the key itself and no copy. The error is a refused growth.
-    pub fn put_entry(&mut self, key: Key, value: V) -> Result<(), AllocError>
-    where
-        V: Drop,
-        ensures ok { OnOk result (self.new ≡ put key value self.old) }
-        ensures err { OnErr result (self.new ≡ self.old) }
-    {
-        self.values.reserve(1)?;
-        match self.keys.place(key)? {
-            Some(index) => self.values[index] = value,
-            None => self.values.push_reserved(value),
-        }
-        Ok(())
     }
 
     /// The place of a key. Where the key is missing it is put last with `value`, and the error is a refused growth.

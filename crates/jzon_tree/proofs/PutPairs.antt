@@ -1,43 +1,17 @@
 -- Pairs that are put one after the other, and maps that are gone over.
-use Rattle.std.proofs.Common.{◌≡◌, ℕ, Bool, false, List, [], ◌∷◌, ◌++◌, map, refl, sym, ap, subst, ◌∙◌, append_assoc, append-nil}
+use Rattle.std.proofs.Common.{◌≡◌, ℕ, Bool, false, List, [], ◌∷◌, ◌++◌, map, refl, sym, ap, subst, ◌∙◌}
 use Rattle.std.specs.Iterator.{Drains}
-use Rattle.std.specs.List.{AllByRecursion, IsDistinct, fold}
+use Rattle.std.specs.List.{AllByRecursion, IsDistinct}
 use Rattle.std.specs.Map.Iter.{TakesFirst}
 use Rattle.std.specs.Str.{bytes_eq}
-use Rattle.std.proofs.lemmas.Grind.{fold-append}
-use Rattle.std.proofs.lemmas.Map.Keys.{IsDistinct-head, IsDistinct-tail}
 use Rattle.jzon_base.specs.PairList.{keys_of, put, put_each}
+use Rattle.jzon_base.proofs.PutEach.{put_each-distinct, put_each-push}
 use Rattle.jzon_tree.specs.IntoJson.{MapMeans, PairsMean, PutMeans}
 use Rattle.jzon_tree.specs.Value.{Value, object, pairs_of}
 use Rattle.jzon_tree.specs.View.{view, view_object, viewed}
 use Rattle.jzon_tree.specs.declared.object.Object.{Object}
 use Rattle.jzon_tree.specs.declared.value.JsonValue.{JsonValue, Object as in_object}
 use Rattle.jzon_tree.proofs.Views.{view-Object, viewed-put}
-
-module _ {V : Type 0} where
-  -- one pair more
-  put_each-push : (ps : List (List ℕ × V)) (k : List ℕ) (v : V) → put_each (ps ++ (k, v) ∷ []) ≡ put k v (put_each ps)
-  put_each-push ps k v = fold-append (λ qs p. put p.0 p.1 qs) [] ps ((k, v) ∷ [])
-
-  -- ---- pairs of distinct keys stay as they are
-  key_within : (P : List ℕ → Type 0) (qs ps : List (List ℕ × V)) (p : List ℕ × V) → AllByRecursion P (keys_of (qs ++ p ∷ ps)) → P p.0
-  key_within P [] ps p all = all.0
-  key_within P (q ∷ qs) ps p all = key_within P qs ps p all.1
-
-  put-distinct : (qs ps : List (List ℕ × V)) (p : List ℕ × V) → IsDistinct bytes_eq (keys_of (qs ++ p ∷ ps)) → put p.0 p.1 qs ≡ qs ++ p ∷ []
-  put-distinct [] ps p distinct = refl
-  put-distinct (q ∷ qs) ps p distinct =
-      let apart : bytes_eq q.0 p.0 ≡ false = key_within (λ k. bytes_eq q.0 k ≡ false) qs ps p (IsDistinct-head bytes_eq q.0 (keys_of (qs ++ p ∷ ps)) distinct) in
-      rw apart (ap (λ rs. q ∷ rs) (put-distinct qs ps p (IsDistinct-tail bytes_eq q.0 (keys_of (qs ++ p ∷ ps)) distinct)))
-
-  put_behind : (qs ps : List (List ℕ × V)) → IsDistinct bytes_eq (keys_of (qs ++ ps)) → fold (λ rs p. put p.0 p.1 rs) qs ps ≡ qs ++ ps
-  put_behind qs [] distinct = sym (append-nil qs)
-  put_behind qs (p ∷ ps) distinct =
-      let split = append_assoc qs (p ∷ []) ps in
-      ap (λ rs. fold (λ ts q. put q.0 q.1 ts) rs ps) (put-distinct qs ps p distinct) ∙ put_behind (qs ++ p ∷ []) ps (subst (λ rs. IsDistinct bytes_eq (keys_of rs)) (sym split) distinct) ∙ split
-
-  put_each-distinct : (ps : List (List ℕ × V)) → IsDistinct bytes_eq (keys_of ps) → put_each ps ≡ ps
-  put_each-distinct ps distinct = put_behind [] ps distinct
 
 -- an object with one pair more
 pub viewed-put_each : (ps qs : List (List ℕ × JsonValue)) (rs : List (List ℕ × Value)) (k l : List ℕ) (v : JsonValue) → viewed ps ≡ put_each rs → k ≡ l → qs ≡ put k v ps → viewed qs ≡ put_each (rs ++ (l, view v) ∷ [])

@@ -35,6 +35,9 @@ pub struct IntoIter {
     pairs: pairs::IntoIter<JsonValue>,
 }
 
+/// The entries of an object that is being made. A clause sees the pairs of the object so far: a later entry of a key changes that key's value in its place.
+pub type Builder = pairs::Builder<JsonValue>;
+
 /// The pairs of a JSON object (RFC 8259, section 4), in the order in which their keys were put. No key is there twice.
 ///
 /// Keys are compared by their bytes. Two objects are equal where they have the same keys, and equal values under each, in whatever order.
@@ -80,11 +83,22 @@ impl Object {
             × PutMeans K.text V.means ps (view_object object)) }
         ensures memory { IsOkUnless result Error.OutOfMemory }
     {
-        let mut object = Object::new(alloc);
+        let mut builder = Builder::new(alloc);
         for (key, value) in pairs {
-            object.insert(alloc, key.as_str(), value.into_json(alloc)?)?;
+            let key = Key::new(alloc, key.as_str())?;
+            builder.push(alloc, key, value.into_json(alloc)?)?;
         }
-        Ok(object)
+        Object::from_builder(alloc, builder)
+    }
+
+    /// The object of the builder's pairs. Refused by `OutOfMemory` alone.
+    pub fn from_builder(alloc: Global, builder: Builder) -> Result<Object>
+        ensures pairs { IfOk result (λ object. entries_of object ≡ builder) }
+        ensures memory { IsOkUnless result Error.OutOfMemory }
+    {
+        Ok(Object {
+            pairs: builder.finish(alloc)?,
+        })
     }
 
     /// How many pairs there are.
@@ -133,6 +147,8 @@ impl Object {
 
     /// Puts the value under the key: in the place of the key where it is there, which takes no memory, else last. Refused by `OutOfMemory` alone, and then nothing
     /// has changed.
+    ///
+    /// A new key moves memory that grows with the count of pairs, so a loop of `insert` takes a time that grows with its square: use `from_pairs` for many.
     pub fn insert(&mut self, alloc: Global, key: &str, value: JsonValue) -> Result<()>
         ensures ok { OnOk result (entries_of self.new ≡ put key.now value (entries_of self.old)) }
         ensures err { OnErr result (self.new ≡ self.old) }
@@ -197,11 +213,11 @@ pub fn from_entries(alloc: Global, entries: Vec<(Key, JsonValue)>) -> Result<Obj
     ensures pairs { IfOk result (λ object. entries_of object ≡ put_each entries.items) }
     ensures memory { IsOkUnless result Error.OutOfMemory }
 {
-    let mut object = Object::with_capacity(alloc, entries.len())?;
+    let mut builder = Builder::new(alloc);
     for (key, value) in entries {
-        object.pairs.put_entry(key, value)?;
+        builder.push(alloc, key, value)?;
     }
-    Ok(object)
+    Object::from_builder(alloc, builder)
 }
 
 impl<'a> IntoIterator for &'a Object {

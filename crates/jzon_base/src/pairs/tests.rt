@@ -88,9 +88,6 @@ fn removes_and_puts_again(rt: HostRuntime) -> Result<(), AllocError> {
     assert_eq!(rt; shown(rt.alloc(), &pairs)?.as_str(), "a1 c3 b4 ");
     pairs.insert(rt.alloc(), "a", 5)?;
     assert_eq!(rt; shown(rt.alloc(), &pairs)?.as_str(), "a5 c3 b4 ");
-    pairs.put_entry(Key::new(rt.alloc(), "d")?, 6)?;
-    pairs.put_entry(Key::new(rt.alloc(), "c")?, 7)?;
-    assert_eq!(rt; shown(rt.alloc(), &pairs)?.as_str(), "a5 c7 b4 d6 ");
     Ok(())
 }
 
@@ -185,5 +182,41 @@ fn finds_a_thousand_keys(rt: HostRuntime) -> Result<(), AllocError> {
         assert_eq!(rt; left.next(), Some((name.as_str(), &number)));
     }
     assert_eq!(rt; left.next(), None);
+    Ok(())
+}
+
+/// Two texts of one hash.
+const ONE: &str = "8yn0iYCKYHlIj4-BwPqk";
+
+const OTHER: &str = "GReLUrM4wMqfg9yzV3KQ";
+
+#[test]
+fn builds_pairs_of_entries(rt: HostRuntime) -> Result<(), AllocError> {
+    let mut built = Builder::new(rt.alloc());
+    for (value, name) in [OTHER, ONE, "a", ONE, "b", "a", OTHER].iter().enumerate() {
+        built.push(rt.alloc(), Key::new(rt.alloc(), name)?, value)?;
+    }
+    let pairs = built.finish(rt.alloc())?;
+    assert_eq!(rt; pairs.len(), 4);
+    for (at, (name, value)) in [(OTHER, 6usize), (ONE, 3), ("a", 5), ("b", 4)]
+        .iter()
+        .enumerate()
+    {
+        assert_eq!(rt; pairs.position(name), Some(at), "of {name}");
+        assert_eq!(rt; pairs.get(name), Some(value), "of {name}");
+    }
+    Ok(())
+}
+
+#[test]
+fn builds_pairs_of_few_keys(rt: HostRuntime) -> Result<(), AllocError> {
+    let mut built = Builder::new(rt.alloc());
+    for round in 0u32..1000 {
+        for name in ["c", "a", "b"] {
+            built.push(rt.alloc(), Key::new(rt.alloc(), name)?, round)?;
+        }
+    }
+    let pairs = built.finish(rt.alloc())?;
+    assert_eq!(rt; shown(rt.alloc(), &pairs)?.as_str(), "c999 a999 b999 ");
     Ok(())
 }

@@ -1,5 +1,4 @@
-use Rattle.std.proofs.Common.{[], ◌∷◌, ◌++◌, refl}
-use Rattle.jzon_tree.specs.Entries.{entries_of}
+use Rattle.std.proofs.Common.{[], ◌∷◌, ◌++◌, ◌∙◌, refl}
 use Rattle.jzon_tree.specs.View.{view}
 use Rattle.jzon_tree.proofs.Means.{AllZip-push}
 use Rattle.jzon_tree.proofs.PutPairs.{viewed-put_each}
@@ -12,5 +11,5 @@ loop-key-preserved g c =
     let value = c.in_ok-into_json.field-0 in (
       pairs ++ (key, view value) ∷ [],
       AllZip-push _ c.loop-key.yielded pairs (c.in-Some.key, c.in-Some.value) (key, view value) each (refl, c.in_ok-into_json.ensures.meant),
-      viewed-put_each (entries_of c.loop-key.object) (entries_of c.insert.new.self) pairs _ key value before c.as_str.ensures c.in_ok-insert.ensures.ok,
+      viewed-put_each c.loop-key.builder c.push.new.self pairs _ key value before (c.in_ok-key.ensures.bytes ∙ c.as_str.ensures) c.in_ok-push.ensures.ok,
     )

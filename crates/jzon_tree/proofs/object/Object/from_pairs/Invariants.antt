@@ -1,6 +1,5 @@
 use Rattle.std.proofs.Common.{◌≡◌, ℕ, List}
 use Rattle.jzon_base.specs.PairList.{put_each}
-use Rattle.jzon_tree.specs.Entries.{entries_of}
 use Rattle.jzon_tree.specs.IntoJson.{PairsMean}
 use Rattle.jzon_tree.specs.Value.{Value}
 use Rattle.jzon_tree.specs.View.{viewed}
@@ -8,4 +7,4 @@ use Rattle.jzon_tree.proofs.object.Object.from_pairs.Given as goal
 
 abbrev pub invariant-loop-key : goal.invariant-loop-key
 invariant-loop-key g l =
-    (qs : List (List ℕ × Value)) × PairsMean g.K.AsStr.text g.V.IntoJson.means l.yielded qs × (viewed (entries_of l.object) ≡ put_each qs)
+    (qs : List (List ℕ × Value)) × PairsMean g.K.AsStr.text g.V.IntoJson.means l.yielded qs × (viewed l.builder ≡ put_each qs)
