@@ -1,16 +1,18 @@
 -- What the program does for its words (docs/RULES.md, "The program").
-use Rattle.std.specs.Prelude.{◌≡◌, ℕ, ◌^◌, List, [], ◌∷◌, length, nat_le, nat_lt, ◌&&◌, if◌then◌else◌, Result, Ok, Err, Option, None, Some, option_map, codes, MatchOption}
+use Rattle.std.specs.Prelude.{◌≡◌, ℕ, ◌^◌, Bool, true, false, List, [], ◌∷◌, length, nat_le, nat_lt, ◌&&◌, if◌then◌else◌, Result, Ok, Err, Option, None, Some, option_map, codes, MatchOption}
 use Rattle.std.specs.Char.{is_digit}
 use Rattle.std.specs.List.{list_all}
 use Rattle.std.specs.Str.{bytes_eq}
 use Rattle.std.specs.Str.Parse.{digits_value}
 use Rattle.std.specs.Io.KnownBytes.{Keeps}
 use Rattle.jzon.specs.ErrorText.{error_text}
+use Rattle.jzon.specs.Reading.{Reading}
 use Rattle.jzonfmt.specs.declared.engine.Layout.{Layout}
 use Rattle.jzonfmt.specs.declared.engine.Layout.TheVariants.{Compact, Pretty}
+use Rattle.jzonfmt.specs.declared.engine.Options.{Options}
 use Rattle.jzonfmt.specs.declared.engine.RunFault.{RunFault}
 use Rattle.jzonfmt.specs.declared.engine.RunFault.TheVariants.{Read, NotUtf8, Json, Write, Memory}
-use Rattle.jzonfmt.specs.Run.{Runs}
+use Rattle.jzonfmt.specs.Run.{Streams, Runs}
 
 -- what is told of a fault
 abbrev pub fault_text : RunFault → List ℕ
@@ -41,9 +43,26 @@ asked_layout [] = Some Compact
 asked_layout (option ∷ spaces ∷ []) = if bytes_eq option (codes "--pretty") then option_map Pretty (asked_spaces spaces) else None
 asked_layout _ = None
 
--- Words that ask for no layout are answered by 2, with nothing read or written; the others by a run and its status.
-abbrev pub Drives : List (List ℕ) → ℕ → Option (List ℕ) → Option (List ℕ) → Option (List ℕ) → Option (List ℕ) → Type 0
-Drives words status r s w x =
-    MatchOption (asked_layout words)
-    ((status ≡ 2) × Keeps r s × Keeps w x)
-    (λ layout. (answer : Result (Unit {0}) RunFault) × Runs layout answer r s w x × (status ≡ status_of answer))
+abbrev pub reading_of : Bool → Reading
+reading_of strict = record { strict = strict; depth = 512 }
+
+abbrev pub asking : Bool → Layout → Options
+asking strict layout = record { reading = reading_of strict; layout = layout }
+
+-- `--strict` behind the words of a layout; or those words alone
+abbrev pub asked_behind : List (List ℕ) → Option Options
+asked_behind (a ∷ b ∷ option ∷ []) = if bytes_eq option (codes "--strict") then option_map (asking true) (asked_layout (a ∷ b ∷ [])) else None
+asked_behind words = option_map (asking false) (asked_layout words)
+
+-- What the words ask for: a layout; with `--strict` before its words or behind them by a strict reading, else by that of `parse`.
+abbrev pub asked_options : List (List ℕ) → Option Options
+asked_options (option ∷ words) =
+    if bytes_eq option (codes "--strict") then option_map (asking true) (asked_layout words) else asked_behind (option ∷ words)
+asked_options [] = asked_behind []
+
+-- Words that ask for nothing that the program does are answered by 2, with nothing read or written; the others by a run and its status.
+abbrev pub Drives : List (List ℕ) → ℕ → Streams → Streams → Type 0
+Drives words status before after =
+    MatchOption (asked_options words)
+    ((status ≡ 2) × Keeps before.unread after.unread × Keeps before.written after.written)
+    (λ options. (answer : Result (Unit {0}) RunFault) × Runs options.reading options.layout answer before after × (status ≡ status_of answer))

@@ -6,7 +6,7 @@ use Rattle.jzon.specs.Error.{Error}
 use Rattle.jzon.specs.Error.TheVariants.{OutOfMemory}
 use Rattle.jzon.specs.Written.{AppendsBeginning}
 use Rattle.jzon.specs.Text.{compact, pretty}
-use Rattle.jzon.specs.Reading.{usual}
+use Rattle.jzon.specs.Reading.{Reading}
 use Rattle.jzon.specs.Grammar.{Document}
 use Rattle.jzon.specs.Meaning.{meaning}
 use Rattle.jzon.specs.Fault.{Parses, IsErrorOf}
@@ -36,9 +36,9 @@ IsReadFault _ = ⊥
 
 -- ---- what is printed
 
--- the bytes are the text of the document
-abbrev pub IsTextOf : List ℕ → Document → Type 0
-IsTextOf input d = IsUtf8 input × Parses usual (chars input) d
+-- the bytes are the text of the document, by this reading
+abbrev pub IsTextOf : Reading → List ℕ → Document → Type 0
+IsTextOf reading input d = IsUtf8 input × Parses reading (chars input) d
 
 -- the text of its meaning in the layout, and a newline
 abbrev pub printed : Layout → Document → List ℕ
@@ -46,24 +46,30 @@ printed Compact d = compact (meaning d.node) ++ 10 ∷ []
 printed (Pretty spaces) d = pretty (meaning d.node) spaces 0 ++ 10 ∷ []
 
 -- what is printed for the bytes, or why nothing is
-abbrev pub Prints : {A : Type 0} → Layout → List ℕ → Result (String A) RunFault → Type 0
-Prints layout input (Ok text) = (d : Document) × IsTextOf input d × (string_bytes text ≡ printed layout d)
-Prints layout input (Err NotUtf8) = ¬ (IsUtf8 input)
-Prints layout input (Err (Json e)) = IsUtf8 input × IsErrorOf usual (chars input) e
-Prints layout input (Err Memory) = ⊤
-Prints layout input (Err _) = ⊥
+abbrev pub Prints : {A : Type 0} → Reading → Layout → List ℕ → Result (String A) RunFault → Type 0
+Prints reading layout input (Ok text) = (d : Document) × IsTextOf reading input d × (string_bytes text ≡ printed layout d)
+Prints reading layout input (Err NotUtf8) = ¬ (IsUtf8 input)
+Prints reading layout input (Err (Json e)) = IsUtf8 input × IsErrorOf reading (chars input) e
+Prints reading layout input (Err Memory) = ⊤
+Prints reading layout input (Err _) = ⊥
 
 -- ---- what is answered
 
 -- The answer to the bytes, and what the writer holds before and after it. A fault leaves nothing written, but for one of the writer, which leaves a
 -- beginning of what was to be printed.
-abbrev pub Answers : {T : Type 0} → Layout → List ℕ → Result T RunFault → Option (List ℕ) → Option (List ℕ) → Type 0
-Answers layout input (Ok _) old new = (d : Document) × IsTextOf input d × Appends old new (printed layout d)
-Answers layout input (Err (Write e)) old new = (d : Document) × IsTextOf input d × AppendsBeginning old new (printed layout d)
-Answers layout input (Err NotUtf8) old new = (¬ (IsUtf8 input)) × Keeps old new
-Answers layout input (Err (Json e)) old new = (IsUtf8 input × IsErrorOf usual (chars input) e) × Keeps old new
-Answers layout input (Err _) old new = Keeps old new
+abbrev pub Answers : {T : Type 0} → Reading → Layout → List ℕ → Result T RunFault → Option (List ℕ) → Option (List ℕ) → Type 0
+Answers reading layout input (Ok _) old new = (d : Document) × IsTextOf reading input d × Appends old new (printed layout d)
+Answers reading layout input (Err (Write e)) old new = (d : Document) × IsTextOf reading input d × AppendsBeginning old new (printed layout d)
+Answers reading layout input (Err NotUtf8) old new = (¬ (IsUtf8 input)) × Keeps old new
+Answers reading layout input (Err (Json e)) old new = (IsUtf8 input × IsErrorOf reading (chars input) e) × Keeps old new
+Answers reading layout input (Err _) old new = Keeps old new
 
--- Some bytes are read (the reader has `r` before and `s` after it) and answered (the writer holds `w` before and `x` after it).
-abbrev pub Runs : {T : Type 0} → Layout → Result T RunFault → Option (List ℕ) → Option (List ℕ) → Option (List ℕ) → Option (List ℕ) → Type 0
-Runs layout result r s w x = (input : List ℕ) × Reads result r s input × Answers layout input result w x
+-- what the reader still has and what the writer holds, where they tell it
+pub record Streams : Type 0 where
+  pub unread : Option (List ℕ)
+  pub written : Option (List ℕ)
+
+-- some bytes are read and answered
+abbrev pub Runs : {T : Type 0} → Reading → Layout → Result T RunFault → Streams → Streams → Type 0
+Runs reading layout result before after =
+    (input : List ℕ) × Reads result before.unread after.unread input × Answers reading layout input result before.written after.written

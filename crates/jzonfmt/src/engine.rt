@@ -1,11 +1,11 @@
 //! What the program does, over any reader and any writers.
 
-ghost use Rattle.std.specs.Prelude.{◌≡◌, ℕ, List, IfOk, IfErr, map, string_bytes, vec_len};
+ghost use Rattle.std.specs.Prelude.{◌≡◌, ℕ, List, IfOk, IfErr, map, option_map, string_bytes, vec_len};
 ghost use Rattle.std.specs.Io.KnownBytes.{Consumes, Keeps};
 ghost use Rattle.jzonfmt.specs.Run.{IsReadFault, Prints, Reads, Runs};
-ghost use Rattle.jzonfmt.specs.Drive.{Drives, asked_layout, asked_spaces, fault_status};
+ghost use Rattle.jzonfmt.specs.Drive.{Drives, asking, asked_behind, asked_layout, asked_options, asked_spaces, fault_status};
 
-use jzon::{Error, util};
+use jzon::{Error, Reading, util};
 use std::alloc::{AllocError, Global};
 use std::io::{Read, Write};
 use std::{fmt, io, mem};
@@ -17,6 +17,15 @@ pub enum Layout {
     Compact,
     /// With each item, each key and each closing bracket on a line of its own, behind so many blanks for each open container.
     Pretty(u16),
+}
+
+/// How a document is read and printed.
+#[derive(Clone, Copy, Debug)]
+pub struct Options {
+    /// How it is read.
+    pub reading: Reading,
+    /// How it is printed.
+    pub layout: Layout,
 }
 
 /// Why no document was printed, or not the whole of it.
@@ -90,19 +99,21 @@ impl From<Error> for RunFault {
 /// How many bytes are asked of the reader at once.
 const CHUNK: usize = 65536;
 
-/// Reads one document, and writes it in the layout and a newline. The reader is read to its end before anything is written, and each fault of it ends the
+/// Reads one document by the reading, and writes it in the layout and a newline. The reader is read to its end before anything is written, and each fault of it ends the
 /// run.
 pub fn run<R: Read, W: Write>(
     alloc: Global,
     reader: &mut R,
     writer: &mut W,
+    reading: &Reading,
     layout: Layout,
 ) -> Result<(), RunFault>
-    ensures { Runs layout result (R.remaining reader.old) (R.remaining reader.new)
-        (W.contents writer.old) (W.contents writer.new) }
+    ensures { Runs reading.now layout result
+        (record { unread = R.remaining reader.old; written = W.contents writer.old })
+        (record { unread = R.remaining reader.new; written = W.contents writer.new }) }
 {
     let input = read_input(alloc, reader)?;
-    let text = printed_text(alloc, input.as_slice(), layout)?;
+    let text = printed_text(alloc, input.as_slice(), reading, layout)?;
     match util::write_bytes(writer, text.as_bytes()) {
         Ok(()) => Ok(()),
         Err(error) => Err(RunFault::Write(error)),
@@ -135,13 +146,18 @@ fn zeros(alloc: Global, count: usize) -> Result<Vec<u8>, AllocError>
 }
 
 // The text that is printed for the input.
-fn printed_text(alloc: Global, input: &[u8], layout: Layout) -> Result<String, RunFault>
-    ensures { Prints layout input.now result }
+fn printed_text(
+    alloc: Global,
+    input: &[u8],
+    reading: &Reading,
+    layout: Layout,
+) -> Result<String, RunFault>
+    ensures { Prints reading.now layout input.now result }
 {
     let Ok(source) = str::from_utf8(input) else {
         return Err(RunFault::NotUtf8);
     };
-    let value = jzon::parse(alloc, source)?;
+    let value = jzon::parse_as(alloc, source, reading)?;
     let mut text = match layout {
         Layout::Compact => value.dump(alloc)?,
         Layout::Pretty(spaces) => value.pretty(alloc, spaces)?,
@@ -161,18 +177,60 @@ pub fn drive<R: Read, W: Write, F: Write>(
     writer: &mut W,
     faults: &mut F,
 ) -> u8
-    ensures status { Drives (map string_bytes words.now) result (R.remaining reader.old) (R.remaining reader.new)
-        (W.contents writer.old) (W.contents writer.new) }
+    ensures status { Drives (map string_bytes words.now) result
+        (record { unread = R.remaining reader.old; written = W.contents writer.old })
+        (record { unread = R.remaining reader.new; written = W.contents writer.new }) }
     ensures silent { result ≡ 0 → Keeps (F.contents faults.old) (F.contents faults.new) }
 {
-    let Some(layout) = layout_of(words) else {
-        let _ = writeln!(faults, "jzonfmt: usage: jzonfmt [--pretty N]");
+    let Some(options) = options_of(words) else {
+        let _ = writeln!(faults, "jzonfmt: usage: jzonfmt [--strict] [--pretty N]");
         return 2;
     };
-    match run_and_flush(alloc, reader, writer, layout) {
+    match run_and_flush(alloc, reader, writer, options) {
         Ok(()) => 0,
         Err(fault) => tell(faults, &fault),
     }
+}
+
+// What the words ask for: `--strict` may be the first one.
+fn options_of(words: &[String]) -> Option<Options>
+    ensures { result ≡ asked_options (map string_bytes words.now) }
+{
+    match words {
+        [] => options_behind(words),
+        [option, rest @ ..] => {
+            if option.as_str() == "--strict" {
+                with_layout(true, rest)
+            } else {
+                options_behind(words)
+            }
+        }
+    }
+}
+
+// The same where it may be the last one, behind the words of a layout.
+fn options_behind(words: &[String]) -> Option<Options>
+    ensures { result ≡ asked_behind (map string_bytes words.now) }
+{
+    match words {
+        [_, _, option] => {
+            if option.as_str() == "--strict" {
+                with_layout(true, &words[..2])
+            } else {
+                None
+            }
+        }
+        _ => with_layout(false, words),
+    }
+}
+
+// The layout that the words ask for, with a strict reading or that of `parse`.
+fn with_layout(strict: bool, words: &[String]) -> Option<Options>
+    ensures { result ≡ option_map (asking strict) (asked_layout (map string_bytes words.now)) }
+{
+    let layout = layout_of(words)?;
+    let reading = Reading::new(strict, 512)?;
+    Some(Options { reading, layout })
 }
 
 // The layout that the words ask for.
@@ -203,12 +261,13 @@ fn run_and_flush<R: Read, W: Write>(
     alloc: Global,
     reader: &mut R,
     writer: &mut W,
-    layout: Layout,
+    options: Options,
 ) -> Result<(), RunFault>
-    ensures { Runs layout result (R.remaining reader.old) (R.remaining reader.new)
-        (W.contents writer.old) (W.contents writer.new) }
+    ensures { Runs options.reading options.layout result
+        (record { unread = R.remaining reader.old; written = W.contents writer.old })
+        (record { unread = R.remaining reader.new; written = W.contents writer.new }) }
 {
-    run(alloc, reader, writer, layout)?;
+    run(alloc, reader, writer, &options.reading, options.layout)?;
     match writer.flush() {
         Ok(()) => Ok(()),
         Err(error) => Err(RunFault::Write(error)),

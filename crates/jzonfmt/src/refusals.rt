@@ -3,6 +3,7 @@
 
 use crate::engine;
 use crate::engine::{Layout, RunFault};
+use crate::tests::usual;
 use jzon::object::Object;
 use jzon::short::Short;
 use jzon::{Error, JsonValue};
@@ -86,7 +87,7 @@ fn run_under_refusals(rt: HostRuntime) -> Result<(), Fail> {
         let mut reader = DOCUMENT.as_bytes();
         let mut writer: Vec<u8> = Vec::with_capacity(alloc, 256)?;
         refusals.begin();
-        let result = engine::run(alloc, &mut reader, &mut writer, Layout::Compact);
+        let result = engine::run(alloc, &mut reader, &mut writer, &usual(), Layout::Compact);
         if refusals.was_refused() {
             assert!(rt; matches!(result, Err(RunFault::Memory)));
             assert!(rt; writer.is_empty());

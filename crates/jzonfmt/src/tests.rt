@@ -3,7 +3,7 @@ ghost use Rattle.std.specs.Prelude.{Some};
 
 use crate::engine;
 use crate::engine::{Layout, RunFault};
-use jzon::Error;
+use jzon::{Error, Reading};
 use std::alloc::Global;
 use std::io;
 use std::io::{ErrorKind, Read, Write};
@@ -162,7 +162,7 @@ fn misused(words: &'static str) -> Row {
         input: TEXT,
         status: 2,
         output: "",
-        faults: "jzonfmt: usage: jzonfmt [--pretty N]\n",
+        faults: "jzonfmt: usage: jzonfmt [--strict] [--pretty N]\n",
     }
 }
 
@@ -174,6 +174,11 @@ fn words_of(alloc: Global, words: Option<&'static str>) -> Result<Vec<String>, F
         }
     }
     Ok(all)
+}
+
+/// The reading of `parse`.
+pub(crate) fn usual() -> Reading {
+    Reading::new(false, 512).unwrap()
 }
 
 /// What the program answers to the row's words and input is the row's.
@@ -212,7 +217,7 @@ fn lines_and_statuses(rt: HostRuntime) -> Result<(), Fail> {
         misused(""),
         misused("-"),
         misused("--compact"),
-        misused("--strict"),
+        misused("--strict=1"),
     ];
     for row in &rows {
         expect_row(&rt, alloc, row)?;
@@ -243,6 +248,34 @@ fn prints_on_lines(rt: HostRuntime) -> Result<(), Fail> {
         misused("--pretty,2,--pretty,2"),
         misused("2,--pretty"),
         misused("-pretty,2"),
+    ];
+    for row in &rows {
+        expect_row(&rt, rt.alloc(), row)?;
+    }
+    Ok(())
+}
+
+#[test]
+fn reads_strictly(rt: HostRuntime) -> Result<(), Fail> {
+    let twice = b"{\"a\":1,\"a\":2}";
+    let rows = [
+        Row {
+            words: Some("--strict"),
+            input: twice,
+            status: 1,
+            output: "",
+            faults: "jzonfmt: Duplicate key at (1:8)\n",
+        },
+        done(twice, "{\"a\":2}\n"),
+        pretty("--strict", b"{\"a\": 1,\"b\":1}", "{\"a\":1,\"b\":1}\n"),
+        pretty("--pretty,2,--strict", b"[1]", "[\n  1\n]\n"),
+        pretty("--strict,--pretty,2", b"[1]", "[\n  1\n]\n"),
+        misused("--strict,--strict"),
+        misused("--strict,--pretty"),
+        misused("--pretty,--strict"),
+        misused("--strict,--pretty,2,--strict"),
+        misused("--pretty,--strict,2"),
+        misused("--strict,--strict,--strict"),
     ];
     for row in &rows {
         expect_row(&rt, rt.alloc(), row)?;
@@ -317,7 +350,13 @@ fn every_front_of_a_document_ends_early(rt: HostRuntime) -> Result<(), Fail> {
     for length in 0..DOCUMENT.len() {
         let mut reader = &DOCUMENT[..length];
         let mut writer: Vec<u8> = Vec::new(rt.alloc());
-        let result = engine::run(rt.alloc(), &mut reader, &mut writer, Layout::Compact);
+        let result = engine::run(
+            rt.alloc(),
+            &mut reader,
+            &mut writer,
+            &usual(),
+            Layout::Compact,
+        );
         assert!(rt;
             matches!(result, Err(RunFault::Json(Error::UnexpectedEndOfJson))),
             "{length} bytes"
@@ -359,7 +398,9 @@ fn prints_512_open_containers(rt: HostRuntime) -> Result<(), Fail> {
         let text = joined(alloc, text)?;
         let mut reader = text.as_bytes();
         let mut writer: Vec<u8> = Vec::new(alloc);
-        assert!(rt; engine::run(alloc, &mut reader, &mut writer, Layout::Compact).is_ok());
+        assert!(rt;
+            engine::run(alloc, &mut reader, &mut writer, &usual(), Layout::Compact).is_ok()
+        );
         let mut wanted = joined(alloc, printed)?;
         wanted.push('\n')?;
         assert_eq!(rt; str::from_utf8(&writer)?, wanted.as_str());
@@ -436,7 +477,7 @@ fn long_inputs(rt: HostRuntime) -> Result<(), Fail> {
         let mut reader = input.as_slice();
         let mut writer: Vec<u8> = Vec::new(alloc);
         assert!(rt;
-            engine::run(alloc, &mut reader, &mut writer, Layout::Compact).is_ok(),
+            engine::run(alloc, &mut reader, &mut writer, &usual(), Layout::Compact).is_ok(),
             "{blanks} blanks"
         );
         assert_eq!(rt; writer.as_slice(), b"null\n".as_slice());
@@ -453,7 +494,7 @@ fn a_reader_fails_at_each_call(rt: HostRuntime) -> Result<(), Fail> {
         for call in 1..=TEXT.len() + 1 {
             let mut reader = FailingReader::new(TEXT, call, kind);
             let mut writer: Vec<u8> = Vec::new(alloc);
-            match engine::run(alloc, &mut reader, &mut writer, Layout::Compact) {
+            match engine::run(alloc, &mut reader, &mut writer, &usual(), Layout::Compact) {
                 Err(RunFault::Read(error)) => assert_eq!(rt; error.kind(), kind),
                 _ => assert!(rt; false, "no fault of the reader at call {call}"),
             }
@@ -463,7 +504,7 @@ fn a_reader_fails_at_each_call(rt: HostRuntime) -> Result<(), Fail> {
     }
     let mut reader = FailingReader::new(TEXT, NEVER, ErrorKind::Other);
     let mut writer: Vec<u8> = Vec::new(alloc);
-    assert!(rt; engine::run(alloc, &mut reader, &mut writer, Layout::Compact).is_ok());
+    assert!(rt; engine::run(alloc, &mut reader, &mut writer, &usual(), Layout::Compact).is_ok());
     assert_eq!(rt; writer.as_slice(), PRINTED);
     Ok(())
 }
@@ -480,7 +521,7 @@ fn a_writer_fails_at_each_call(rt: HostRuntime) -> Result<(), Fail> {
         for call in 1..=PRINTED.len() {
             let mut reader = TEXT;
             let mut writer = SlowWriter::new(alloc, call, trouble);
-            match engine::run(alloc, &mut reader, &mut writer, Layout::Compact) {
+            match engine::run(alloc, &mut reader, &mut writer, &usual(), Layout::Compact) {
                 Err(RunFault::Write(error)) => {
                     if let Trouble::Fails(kind) = trouble {
                         assert_eq!(rt; error.kind(), kind);
@@ -494,7 +535,7 @@ fn a_writer_fails_at_each_call(rt: HostRuntime) -> Result<(), Fail> {
     }
     let mut reader = TEXT;
     let mut writer = SlowWriter::new(alloc, NEVER, Trouble::TakesNothing);
-    assert!(rt; engine::run(alloc, &mut reader, &mut writer, Layout::Compact).is_ok());
+    assert!(rt; engine::run(alloc, &mut reader, &mut writer, &usual(), Layout::Compact).is_ok());
     assert_eq!(rt; writer.bytes.as_slice(), PRINTED);
     Ok(())
 }
