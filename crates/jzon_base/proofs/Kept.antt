@@ -1,13 +1,15 @@
 -- The longest front of digits that spells a number below 2 ^ 64.
-use Rattle.std.proofs.Common.{◌≡◌, ℕ, zero, suc, ◌+◌, ◌-◌, ◌^◌, ◌≤◌, ◌<◌, List, [], ◌∷◌, ◌++◌, length, take, drop, ap, ◌∙◌, subst, arith, inl, inr, length-append, nat_lt, if◌then◌else◌, lit<}
-use Rattle.std.specs.List.{fold}
+use Rattle.std.proofs.Common.{◌≡◌, ℕ, zero, suc, ◌+◌, ◌-◌, ◌^◌, ◌≤◌, ◌<◌, List, [], ◌∷◌, ◌++◌, length, take, drop, ap, ◌∙◌, subst, arith, inl, inr, length-append, add-zero, zero-add, add-suc, suc-add, pow-suc, nat_lt, if◌then◌else◌, lit<}
+use Rattle.std.specs.List.{fold, All}
 use Rattle.std.proofs.lemmas.List.Sums.{fold-append}
-use Rattle.std.proofs.lemmas.List.{take-append-le}
+use Rattle.std.proofs.lemmas.List.{take-append-le, take_all}
+use Rattle.std.proofs.lemmas.List.Elements.{All-head, All-tail}
+use Rattle.std.proofs.Math.Nat.{pow-le-pow_right}
 use Rattle.std.proofs.Math.Seq.{take-add, take-append-add}
 use Rattle.std.proofs.lemmas.Bool.{cases_lt}
 use Rattle.std.proofs.lemmas.Bool.Decides.{nat_tests}
 use Rattle.jzon_base.specs.DigitLimits.{IsLongestFront}
-use Rattle.jzon_base.specs.Digits.{add_digit, digits_number, longest_up_to, kept_len}
+use Rattle.jzon_base.specs.Digits.{IsDigit, add_digit, digits_number, longest_up_to, kept_len}
 
 -- ---- a longer front spells no smaller number
 
@@ -97,3 +99,21 @@ kept_len-past_whole whole fraction k h fits next =
     (λ below. let more : k < length fraction = omega (arith, below, length-append whole fraction) in
     let e : length whole + k + 1 ≡ length whole + (k + 1) = omega arith in
     rw e (rw digits_number-take-append (next more)))
+
+-- ---- up to 19 digits are all kept
+
+below_power : (v k : ℕ) (ds : List ℕ) → All IsDigit ds → v < 10 ^ k → fold add_digit v ds < 10 ^ (k + length ds)
+below_power v k [] all h = rw add-zero h
+below_power v k (d ∷ ds) all h =
+    let digit : IsDigit d = All-head IsDigit d ds all in
+    let next : add_digit v d < 10 ^ suc k = omega (arith, pow-suc 10 k, digit) in
+    rw (add-suc, ← suc-add k (length ds)) (below_power (add_digit v d) (suc k) ds (All-tail IsDigit d ds all) next)
+
+pub few_fit : (ds : List ℕ) → All IsDigit ds → length ds ≤ 19 → digits_number ds < 2 ^ 64
+few_fit ds all few =
+    let most : 10 ^ length ds ≤ 10 ^ 19 = pow-le-pow_right (omega arith) few in
+    let below : fold add_digit 0 ds < 10 ^ length ds = rw zero-add at (below_power 0 0 ds all (omega arith)) in
+    omega (arith, below, most)
+
+pub few_kept : (ds : List ℕ) → All IsDigit ds → length ds ≤ 19 → kept_len ds ≡ length ds
+few_kept ds all few = kept_len-at ds (length ds) (omega arith) (rw (take_all (length ds) ds (omega arith)) (few_fit ds all few)) (λ below. absurd (omega (arith, below)))

@@ -7,6 +7,7 @@ pub mod PrintedRows
 pub mod ReadRows
 pub mod SameRows
 pub mod Scaled
+pub mod Scanned
 pub mod Written
 pub mod Zips
 pub mod PlainBlocks

@@ -1,12 +1,17 @@
 //! The digits of a number in a text, and the parts that they mean (RFC 8259, section 6; docs/RULES.md, "What digits mean" and "Digit limits").
 
-ghost use Rattle.std.specs.Prelude.{◌≡◌, pos, ◌+◌, ◌<◌, ◌≤◌, ◌^◌, ◌-ℤ◌, ◌+ℤ◌, ◌++◌, length, take, min, IfErr, OkIff};
-ghost use Rattle.std.specs.List.{fold, All};
+ghost use Rattle.std.specs.Prelude.{◌≡◌, ℕ, pos, ◌+◌, ◌%◌, ◌<◌, ◌≤◌, ◌^◌, ◌-ℤ◌, ◌+ℤ◌, ◌++◌, length, take, min, IfErr, OkIff};
+ghost use Rattle.std.specs.Char.{is_ascii_digit};
+ghost use Rattle.std.specs.List.{fold, prefix_len, All};
 ghost use Rattle.jzon_base.specs.Decimal.{signed};
 ghost use Rattle.jzon_base.specs.Digits.{IsDigit, add_digit, digits_number, kept, dropped, kept_fraction, clamp, read_exponent, read_number};
 ghost use Rattle.jzon_base.specs.DigitLimits.{AreFewEnough, IsFirstTooMany, KeepsLongestFront};
 
 use crate::number::Number;
+use core::dec2flt::read_digits;
+
+// So many digits spell a number below 2^64, whichever they are.
+const ALWAYS_KEPT: usize = 19;
 
 // At most so many digits before the point are dropped.
 const MAX_DROPPED: usize = 32767;
@@ -42,7 +47,35 @@ pub fn read_number(
         (read_number positive whole.now fraction.now (signed positive_exponent (digits_number exponent.now))) }
     ensures fault { IfErr result (IsFirstTooMany whole.now fraction.now) }
 {
-    let front = kept_front(whole, fraction);
+    let number = number_modulo(whole, fraction);
+    read_scanned(
+        positive,
+        whole,
+        fraction,
+        number,
+        positive_exponent,
+        exponent,
+    )
+}
+
+/// The same, where `scan` has added up the digits before and after the point to this number, modulo 2^64.
+pub fn read_scanned(
+    positive: bool,
+    whole: &[u8],
+    fraction: &[u8],
+    number: u64,
+    positive_exponent: bool,
+    exponent: &[u8],
+) -> Result<Number, DigitFault>
+    requires whole { All IsDigit whole.now }
+    requires fraction { All IsDigit fraction.now }
+    requires number { number ≡ digits_number (whole.now ++ fraction.now) % 2 ^ 64 }
+    requires exponent { All IsDigit exponent.now }
+    ensures number { OkIff result (AreFewEnough whole.now fraction.now)
+        (read_number positive whole.now fraction.now (signed positive_exponent (digits_number exponent.now))) }
+    ensures fault { IfErr result (IsFirstTooMany whole.now fraction.now) }
+{
+    let front = kept_front(whole, fraction, number);
     if front.dropped > MAX_DROPPED {
         return Err(DigitFault::Whole(whole.len() - front.dropped + MAX_DROPPED));
     }
@@ -58,6 +91,26 @@ pub fn read_number(
     Ok(Number::from_parts_unchecked(positive, front.number, exponent))
 }
 
+/// How many digits stand at the beginning, and the number that they spell behind the digits of a number before, modulo 2^64. That number is given modulo 2^64.
+#[inline]
+pub fn scan(bytes: &[u8], before: u64) -> (usize, u64)
+    ensures count { result.0 ≡ prefix_len is_ascii_digit bytes.now }
+    ensures number { (n : ℕ) → before ≡ n % 2 ^ 64 → result.1 ≡ fold add_digit n (take result.0 bytes.now) % 2 ^ 64 }
+{
+    read_digits(bytes, 0, before)
+}
+
+// The number that the digits before and after a point spell, modulo 2^64.
+fn number_modulo(whole: &[u8], fraction: &[u8]) -> u64
+    requires whole { All IsDigit whole.now }
+    requires fraction { All IsDigit fraction.now }
+    ensures { result ≡ digits_number (whole.now ++ fraction.now) % 2 ^ 64 }
+{
+    let (_, before) = scan(whole, 0);
+    let (_, number) = scan(fraction, before);
+    number
+}
+
 // The longest front of the digits before and after a point that spells a number below 2^64.
 #[derive(Clone, Copy)]
 struct Front {
@@ -66,7 +119,26 @@ struct Front {
     kept_fraction: usize,
 }
 
-fn kept_front(whole: &[u8], fraction: &[u8]) -> Front
+fn kept_front(whole: &[u8], fraction: &[u8], number: u64) -> Front
+    requires whole { All IsDigit whole.now }
+    requires fraction { All IsDigit fraction.now }
+    requires number { number ≡ digits_number (whole.now ++ fraction.now) % 2 ^ 64 }
+    ensures number { result.number ≡ digits_number (kept (whole.now ++ fraction.now)) }
+    ensures dropped { result.dropped ≡ dropped whole.now fraction.now }
+    ensures kept { result.kept_fraction ≡ kept_fraction whole.now fraction.now }
+{
+    if whole.len() + fraction.len() <= ALWAYS_KEPT {
+        return Front {
+            number,
+            dropped: 0,
+            kept_fraction: fraction.len(),
+        };
+    }
+    searched_front(whole, fraction)
+}
+
+// The same front, found digit by digit.
+fn searched_front(whole: &[u8], fraction: &[u8]) -> Front
     requires whole { All IsDigit whole.now }
     requires fraction { All IsDigit fraction.now }
     ensures number { result.number ≡ digits_number (kept (whole.now ++ fraction.now)) }
