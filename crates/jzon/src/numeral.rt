@@ -1,11 +1,11 @@
 //! Reads numbers (RFC 8259, section 6; docs/RULES.md, "Numbers").
 
-ghost use Rattle.std.specs.Prelude.{◌≡◌, ℕ, pos, List, [], ◌∷◌, ◌<◌, ◌≤◌, ◌+◌, length, drop, chars, not, Bool, true, false, ◌==◌, ◌↔◌, IsTrue, IfOk, MatchResult, slice_index, if◌then◌else◌};
+ghost use Rattle.std.specs.Prelude.{◌≡◌, ℕ, pos, List, [], ◌∷◌, ◌<◌, ◌≤◌, ◌+◌, ◌%◌, ◌^◌, ◌++◌, length, drop, chars, not, Bool, true, false, ◌==◌, ◌↔◌, IsTrue, IfOk, MatchResult, slice_index, if◌then◌else◌};
 ghost use Rattle.std.specs.Char.{is_ascii_digit};
-ghost use Rattle.std.specs.List.{All, take_while, prefix_len};
+ghost use Rattle.std.specs.List.{All, fold, take_while};
 ghost use Rattle.std.specs.Str.{IsCharBoundary};
 ghost use Rattle.jzon_base.specs.Decimal.{signed};
-ghost use Rattle.jzon_base.specs.Digits.{IsDigit, digits_number, read_number};
+ghost use Rattle.jzon_base.specs.Digits.{IsDigit, add_digit, digits_number, read_number};
 ghost use Rattle.jzon_base.specs.DigitLimits.{AreFewEnough, IsFirstTooMany};
 ghost use Rattle.jzon_base.specs.declared.digits.DigitFault.{DigitFault};
 ghost use Rattle.jzon_base.specs.declared.error.Error.TheVariants.{ExceededDepthLimit};
@@ -16,7 +16,7 @@ ghost use Rattle.jzon.specs.Classes.{lettered};
 ghost use Rattle.jzon.specs.Machine.{Frames, numeral, numeral_begun, behind, from, stopped, Tells};
 
 use crate::place::{fault_at, has_byte};
-use jzon_base::digits;
+use jzon_base::digits::{read_scanned, scan};
 use jzon_base::error::{Error, Result};
 use jzon_base::number::Number;
 
@@ -33,10 +33,11 @@ pub(crate) fn read_number(source: &str, start: usize, negative: bool) -> Result<
         (from r source.now (numeral_begun fs negative (slice_index source.now start)) (start + 1))) }
 {
     let spelling = spelling_at(source, start);
-    let number = digits::read_number(
+    let number = read_scanned(
         !negative,
         spelling.whole,
         spelling.fraction,
+        spelling.number,
         spelling.positive_exponent,
         spelling.exponent,
     );
@@ -52,6 +53,8 @@ pub(crate) fn read_number(source: &str, start: usize, negative: bool) -> Result<
 struct Spelling<'a> {
     whole: &'a [u8],
     fraction: &'a [u8],
+    // the number that they spell, modulo 2^64
+    number: u64,
     positive_exponent: bool,
     exponent: &'a [u8],
     // the place behind the number
@@ -67,6 +70,7 @@ fn spelling_at(source: &str, start: usize) -> Spelling<'_>
     ensures bounds { (start < result.end) × (result.end ≤ length source.now) × IsCharBoundary source.now result.end }
     ensures whole { All IsDigit result.whole.now }
     ensures fraction { All IsDigit result.fraction.now }
+    ensures added_up { result.number ≡ digits_number (result.whole.now ++ result.fraction.now) % 2 ^ 64 }
     ensures exponent { All IsDigit result.exponent.now }
     ensures number { AreFewEnough result.whole.now result.fraction.now → result.is_missing ≡ false → (r : Reading) (fs : Frames) (negative : Bool)
         → from r source.now (numeral_begun fs negative (slice_index source.now start)) (start + 1)
@@ -100,6 +104,7 @@ fn magnitude_at(source: &str, start: usize) -> Spelling<'_>
     ensures bounds { (start < result.end) × (result.end ≤ length source.now) × IsCharBoundary source.now result.end }
     ensures whole { All IsDigit result.whole.now }
     ensures fraction { All IsDigit result.fraction.now }
+    ensures added_up { result.number ≡ digits_number (result.whole.now ++ result.fraction.now) % 2 ^ 64 }
     ensures exponent { (result.positive_exponent ≡ true) × (result.exponent.now ≡ []) }
     ensures letter { AreFewEnough result.whole.now result.fraction.now → result.is_missing ≡ false → (r : Reading) (fs : Frames) (negative : Bool)
         → result.end < length source.now → IsTrue (is_exponent_letter (slice_index source.now result.end))
@@ -116,22 +121,24 @@ fn magnitude_at(source: &str, start: usize) -> Spelling<'_>
         → Tells (chars source.now) ExceededDepthLimit
         (from r source.now (numeral_begun fs negative (slice_index source.now start)) (start + 1)) }
 {
-    let whole = whole_at(source, start);
+    let (whole, before) = whole_at(source, start);
     let end = start + whole.len();
     if !has_byte(source, end, b'.') {
         return Spelling {
             whole,
             fraction: &[],
+            number: before,
             positive_exponent: true,
             exponent: &[],
             end,
             is_missing: false,
         };
     }
-    let fraction = digits_at(source, end + 1);
+    let (fraction, number) = digits_at(source, end + 1, before);
     Spelling {
         whole,
         fraction,
+        number,
         positive_exponent: true,
         exponent: &[],
         end: end + 1 + fraction.len(),
@@ -139,35 +146,30 @@ fn magnitude_at(source: &str, start: usize) -> Spelling<'_>
     }
 }
 
-// The digits before the point: a `0` alone, or all that stand there.
-fn whole_at(source: &str, start: usize) -> &[u8]
+// The digits before the point, a `0` alone or all that stand there, and their number modulo 2^64.
+#[inline(always)]
+fn whole_at(source: &str, start: usize) -> (&[u8], u64)
     requires { start < length source.now }
-    ensures { result.now ≡ (if slice_index source.now start == 48 then 48 ∷ [] else take_while is_ascii_digit (drop start source.now)) }
+    ensures digits { result.0.now ≡ (if slice_index source.now start == 48 then 48 ∷ [] else take_while is_ascii_digit (drop start source.now)) }
+    ensures number { result.1 ≡ digits_number result.0.now % 2 ^ 64 }
 {
     if has_byte(source, start, b'0') {
-        &source.as_bytes()[start..start + 1]
+        (&source.as_bytes()[start..start + 1], 0)
     } else {
-        digits_at(source, start)
+        digits_at(source, start, 0)
     }
 }
 
-// The digits that stand at a place.
-fn digits_at(source: &str, start: usize) -> &[u8]
+// The digits that stand at a place, and the number that they spell behind the digits of a number before, both modulo 2^64.
+#[inline(always)]
+fn digits_at(source: &str, start: usize, before: u64) -> (&[u8], u64)
     requires { start ≤ length source.now }
-    ensures { result.now ≡ take_while is_ascii_digit (drop start source.now) }
+    ensures digits { result.0.now ≡ take_while is_ascii_digit (drop start source.now) }
+    ensures number { (n : ℕ) → before ≡ n % 2 ^ 64 → result.1 ≡ fold add_digit n result.0.now % 2 ^ 64 }
 {
     let rest = &source.as_bytes()[start..];
-    &rest[..digits_length(rest)]
-}
-
-// How many digits stand at the beginning.
-fn digits_length(bytes: &[u8]) -> usize
-    ensures { result ≡ prefix_len is_ascii_digit bytes.now }
-{
-    bytes
-        .iter()
-        .take_while(|byte| byte.is_ascii_digit())
-        .count()
+    let (count, number) = scan(rest, before);
+    (&rest[..count], number)
 }
 
 // The digits of an exponent, which may be none, and the place behind them.
@@ -205,7 +207,7 @@ fn exponent_at(source: &str, start: usize, is_positive: bool) -> Exponent<'_>
     ensures digits { result.digits.now ≡ take_while is_ascii_digit (drop start source.now) }
     ensures end { result.end ≡ start + length result.digits.now }
 {
-    let digits = digits_at(source, start);
+    let (digits, _) = digits_at(source, start, 0);
     Exponent {
         is_positive,
         digits,
