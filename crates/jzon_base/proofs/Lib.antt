@@ -1,4 +1,5 @@
 pub mod Kept
+pub mod Laid
 pub mod Lists
 pub mod PairPlaces
 pub mod Positions

@@ -1,14 +1,14 @@
 //! The text of a number (docs/RULES.md, "Printed numbers"; RFC 8259, section 6).
 
-ghost use Rattle.std.specs.Prelude.{◌≡◌, negsuc, ◌+◌, ◌-◌, ◌≤◌, ◌<◌, ◌++◌, length, replicate, string_bytes, IsAscii, OnOk, OnErr};
+ghost use Rattle.std.specs.Prelude.{◌≡◌, negsuc, ◌+◌, ◌-◌, ◌≤◌, ◌<◌, ◌++◌, length, drop, replicate, string_bytes, IsAscii, IfSome, OnOk, OnErr};
 ghost use Rattle.std.specs.Io.KnownBytes.{Appends};
 ghost use Rattle.arrayvec.specs.ArrayString.{array_string_len};
-ghost use Rattle.jzon_base.specs.NumberText.{point_after, point_after_first, fraction_text, small_exponent_text, magnitude_text, number_text};
+ghost use Rattle.jzon_base.specs.NumberText.{sign_text, point_after, point_after_first, fraction_text, small_exponent_text, magnitude_text, number_text};
 ghost use Rattle.jzon_base.specs.Written.{AppendsBeginning};
 
 use crate::util::write_bytes;
 use arrayvec::ArrayString;
-use itoa::Buffer;
+use itoa::{Buffer, write_digits};
 use std::alloc::AllocError;
 use std::io;
 use std::io::Write;
@@ -25,7 +25,61 @@ pub fn write<W: Write>(wr: &mut W, positive: bool, n: u64, exponent: i16) -> io:
     ensures err { OnErr result
         (AppendsBeginning (W.contents wr.old) (W.contents wr.new) (number_text positive n exponent)) }
 {
-    write_bytes(wr, number_text(positive, n, exponent).as_str().as_bytes())
+    let mut room = [0; MAX_LEN];
+    match put_whole(&mut room, positive, n, exponent) {
+        Some(start) => write_bytes(wr, &room[start..]),
+        None => write_bytes(wr, number_text(positive, n, exponent).as_str().as_bytes()),
+    }
+}
+
+// Puts the text at the end of the room and tells where it begins, if all digits are spelled and one stands before the point. Most numbers are such.
+fn put_whole(
+    room: &mut [u8; MAX_LEN],
+    positive: bool,
+    mantissa: u64,
+    exponent: i16,
+) -> Option<usize>
+    ensures { IfSome result
+        (λ start. (start ≤ MAX_LEN) × (drop start room.new ≡ number_text positive mantissa exponent)) }
+{
+    if mantissa == 0 || exponent > 0 || exponent < -17 {
+        return None;
+    }
+    let start = write_digits(mantissa, room, MAX_LEN);
+    if exponent == 0 {
+        return Some(put_sign(room, start, positive));
+    }
+    let places = exponent.unsigned_abs() as usize;
+    if MAX_LEN - start <= places {
+        return None;
+    }
+    put_point(room, start, MAX_LEN - places);
+    Some(put_sign(room, start - 1, positive))
+}
+
+// Moves the bytes between `start` and `point` one place to the left, and puts a point behind them.
+fn put_point(room: &mut [u8; MAX_LEN], start: usize, point: usize)
+    requires some { 0 < start }
+    requires order { start < point }
+    requires within { point ≤ MAX_LEN }
+    ensures { drop (start - 1) room.new ≡ point_after (point - start) (drop start room.old) }
+{
+    room.copy_within(start..point, start - 1);
+    room[point - 1] = b'.';
+}
+
+// Puts the sign before the bytes from `start` on, and tells where they begin then.
+fn put_sign(room: &mut [u8; MAX_LEN], start: usize, positive: bool) -> usize
+    requires some { 0 < start }
+    requires within { start ≤ MAX_LEN }
+    ensures start { result ≤ MAX_LEN }
+    ensures text { drop result room.new ≡ sign_text positive ++ drop start room.old }
+{
+    if positive {
+        return start;
+    }
+    room[start - 1] = b'-';
+    start - 1
 }
 
 /// Adds the text of the number `mantissa * 10 ^ exponent` with its sign. Where memory is refused, nothing is added.
@@ -217,6 +271,9 @@ mod tests {
             (true, 0, 5, "0"),
             (false, 1250, 1, "-12500"),
             (true, 5000000000000000000, 1, "50000000000000000000"),
+            (true, 18446744073709551615, 0, "18446744073709551615"),
+            (false, 7, 0, "-7"),
+            (false, 18446744073709551615, -17, "-184.46744073709551615"),
         ];
         for (positive, mantissa, exponent, text) in rows {
             let number = Number::from_parts_unchecked(positive, mantissa, exponent);
