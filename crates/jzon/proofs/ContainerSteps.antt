@@ -2,7 +2,7 @@
 use Rattle.std.proofs.Common.{◌≡◌, ◌≢◌, ℕ, ◌+◌, ◌<◌, true, false, List, [], ◌∷◌, ◌++◌, length, drop, get_or, refl, ap, ◌∙◌, arith, Option, Some, None, lit<}
 use Rattle.std.specs.Prelude.{chars, IsUtf8, IsTrue, nat_le}
 use Rattle.std.specs.Str.{IsCharBoundary}
-use Rattle.jzon_base.specs.PairList.{put_each}
+use Rattle.jzon_base.specs.PairList.{put}
 use Rattle.jzon_tree.specs.Value.{Value, values_of, pairs_of}
 use Rattle.jzon_tree.specs.Value as value
 use Rattle.jzon_tree.specs.Writing.{is_space}
@@ -173,12 +173,12 @@ no_element r bs i fs vs v s m n =
 -- ---- behind the value of a key
 
 pub entry_comma : (r : Reading) (bs : List ℕ) (i : ℕ) (fs : Frames) (es : Entries) (k : List ℕ) (v : Value) → IsUtf8 bs → IsCharBoundary bs i → i < length bs
-    → get_or bs i 0 ≡ 44 → from r bs (behind (object_frame fs es k) v) i ≡ from r bs (before_key fs (es ++ (k, v) ∷ [])) (i + 1)
+    → get_or bs i 0 ≡ 44 → from r bs (behind (object_frame fs es k) v) i ≡ from r bs (before_key fs (put k v es)) (i + 1)
 entry_comma r bs i fs es k v u at lt e =
     from_step r bs i (behind (object_frame fs es k) v) _ 44 u at lt e (lit< tt) (ap (λ x. move_behind x (object_frame fs es k) v) (class_44 r.strict))
 
 pub close_object : (r : Reading) (bs : List ℕ) (i : ℕ) (fs : Frames) (es : Entries) (k : List ℕ) (v : Value) → IsUtf8 bs → IsCharBoundary bs i → i < length bs
-    → get_or bs i 0 ≡ 125 → from r bs (behind (object_frame fs es k) v) i ≡ from r bs (behind fs (value.object (pairs_of (put_each (es ++ (k, v) ∷ []))))) (i + 1)
+    → get_or bs i 0 ≡ 125 → from r bs (behind (object_frame fs es k) v) i ≡ from r bs (behind fs (value.object (pairs_of (put k v es)))) (i + 1)
 close_object r bs i fs es k v u at lt e =
     from_step r bs i (behind (object_frame fs es k) v) _ 125 u at lt e (lit< tt) (ap (λ x. move_behind x (object_frame fs es k) v) (class_125 r.strict))
 

@@ -1,13 +1,14 @@
 -- What the machine over values sees of the stack of open containers.
-use Rattle.std.proofs.Common.{◌≡◌, ◌≢◌, ◌⊎◌, inl, inr, get_or, ℕ, suc, ◌+◌, ◌<◌, ◌≤◌, Bool, true, false, cond, List, [], ◌∷◌, ◌++◌, length, map, refl, ap, ◌∙◌, arith, None}
+use Rattle.std.proofs.Common.{◌≡◌, ◌≢◌, ◌⊎◌, inl, inr, get_or, ℕ, suc, ◌+◌, ◌<◌, ◌≤◌, Bool, true, false, cond, List, [], ◌∷◌, ◌++◌, length, map, refl, ap, ◌∙◌, arith, Option, Some, None}
 use Rattle.std.specs.Prelude.{nat_le}
 use Rattle.std.specs.List.{fold}
+use Rattle.std.specs.Option.{is_some}
 use Rattle.std.specs.Str.{bytes_eq}
 use Rattle.std.proofs.lemmas.Bool.{cases_lt}
 use Rattle.std.proofs.lemmas.Bool.Decides.{nat_tests}
 use Rattle.std.proofs.lemmas.List.Sums.{fold-append}
 use Rattle.std.proofs.Math.ListN.{get_or-eq_default}
-use Rattle.jzon_base.specs.PairList.{put, put_each}
+use Rattle.jzon_base.specs.PairList.{find, put}
 use Rattle.jzon_tree.specs.Value.{Value, object, pairs_of}
 use Rattle.jzon_tree.specs.View.{view, view_object}
 use Rattle.jzon_tree.specs.Entries.{entries_of}
@@ -60,34 +61,36 @@ pub some_not_fresh : (fs : Frames) (xs : List JsonValue) → 0 < length xs → i
 some_not_fresh fs [] lt = absurd (omega arith)
 some_not_fresh fs (x ∷ xs) lt = refl
 
-pub some_entries : (es : List (List ℕ × JsonValue)) → 0 < length es → entries_view es ≢ []
-some_entries [] lt e = absurd (omega arith)
-some_entries (x ∷ es) lt e = cc
+some_by : (t : Bool) (p q : List ℕ × Value) (ps qs : Entries) → cond t (p ∷ ps) (q ∷ qs) ≢ []
+some_by true p q ps qs h = cc
+some_by false p q ps qs h = cc
 
-pub no_entries : (es : Entries) (e : List ℕ × Value) → es ++ e ∷ [] ≢ []
-no_entries [] e h = cc
-no_entries (x ∷ es) e h = cc
+pub some_put : (k : List ℕ) (v : Value) (es : Entries) → put k v es ≢ []
+some_put k v [] h = cc
+some_put k v (e ∷ es) h = some_by (bytes_eq e.0 k) _ _ _ _ h
 
 put_on : (b : Bool) (k : List ℕ) (v : JsonValue) (p : List ℕ × JsonValue) (ps qs : List (List ℕ × JsonValue)) (rs : Entries) → entries_view qs ≡ rs
     → entries_view (cond b ((p.0, v) ∷ ps) (p ∷ qs)) ≡ cond b ((p.0, view v) ∷ entries_view ps) ((p.0, view p.1) ∷ rs)
 put_on true k v p ps qs rs e = refl
 put_on false k v p ps qs rs e = ap (λ z. (p.0, view p.1) ∷ z) e
 
-entries_view-put : (k : List ℕ) (v : JsonValue) (ps : List (List ℕ × JsonValue)) → entries_view (put k v ps) ≡ put k (view v) (entries_view ps)
+pub entries_view-put : (k : List ℕ) (v : JsonValue) (ps : List (List ℕ × JsonValue)) → entries_view (put k v ps) ≡ put k (view v) (entries_view ps)
 entries_view-put k v [] = refl
 entries_view-put k v (p ∷ ps) = put_on (bytes_eq p.0 k) k v p ps (put k v ps) _ (entries_view-put k v ps)
 
-each_on : (qs ps : List (List ℕ × JsonValue)) → entries_view (fold (λ rs p. put p.0 p.1 rs) qs ps) ≡ fold (λ rs p. put p.0 p.1 rs) (entries_view qs) (entries_view ps)
-each_on qs [] = refl
-each_on qs (p ∷ ps) =
-    each_on (put p.0 p.1 qs) ps ∙ ap (λ z. fold (λ rs x. put x.0 x.1 rs) z (entries_view ps)) (entries_view-put p.0 p.1 qs)
+find_on : (t : Bool) (v : JsonValue) (o : Option JsonValue) (p : Option Value) → is_some o ≡ is_some p
+    → is_some (cond t (Some v) o) ≡ is_some (cond t (Some (view v)) p)
+find_on true v o p e = refl
+find_on false v o p e = e
 
-pub entries_view-put_each : (ps : List (List ℕ × JsonValue)) → entries_view (put_each ps) ≡ put_each (entries_view ps)
-entries_view-put_each ps = each_on [] ps
+-- the same keys are known
+pub known_view : (k : List ℕ) (ps : List (List ℕ × JsonValue)) → is_some (find k ps) ≡ is_some (find k (entries_view ps))
+known_view k [] = refl
+known_view k (p ∷ ps) = find_on (bytes_eq p.0 k) p.1 (find k ps) (find k (entries_view ps)) (known_view k ps)
 
 -- the object of these entries
-pub view_object-entries : (o : Object) (ps : List (List ℕ × JsonValue)) → entries_of o ≡ put_each ps → view_object o ≡ object (pairs_of (put_each (entries_view ps)))
-view_object-entries o ps e = ap (λ es. object (pairs_of (entries_view es))) e ∙ ap (λ es. object (pairs_of es)) (entries_view-put_each ps)
+pub view_object-entries : (o : Object) (ps : List (List ℕ × JsonValue)) → entries_of o ≡ ps → view_object o ≡ object (pairs_of (entries_view ps))
+view_object-entries o ps e = ap (λ es. object (pairs_of (entries_view es))) e
 
 -- ---- bytes
 

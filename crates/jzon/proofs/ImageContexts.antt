@@ -1,6 +1,8 @@
 -- The machine over values keeps what the finished parts of the machine over trees mean: before and behind values.
-use Rattle.std.proofs.Common.{◌≡◌, ℕ, suc, ◌+◌, List, [], ◌∷◌, ◌++◌, length, arith, true, false, ◌==◌, Option, Some, None, refl, sym, ap, ◌∙◌, append_assoc}
-use Rattle.jzon_base.specs.PairList.{put_each}
+use Rattle.std.proofs.Common.{◌≡◌, ℕ, suc, ◌+◌, List, [], ◌∷◌, ◌++◌, length, arith, Bool, cond, true, false, ◌==◌, Option, Some, None, refl, sym, ap, ◌∙◌, append_assoc}
+use Rattle.std.specs.Str.{bytes_eq}
+use Rattle.jzon_base.specs.PairList.{put, put_each}
+use Rattle.jzon_base.proofs.PutEach.{put_each-push}
 use Rattle.jzon_tree.specs.Value.{Value, Values, pairs_of}
 use Rattle.jzon_tree.specs.Value as value
 use Rattle.jzon.specs.Reading.{Reading}
@@ -19,10 +21,10 @@ abbrev pub values_of : Done → List Value
 values_of nothing_done = []
 values_of (done o b n c) = values_of o ++ meaning n ∷ []
 
--- the keys and values of the finished members, as they were read
+-- the object of the finished members
 abbrev pub entries_of : Named → Entries
 entries_of nothing_named = []
-entries_of (named o key b n c) = entries_of o ++ (bytes_of key.items, meaning n) ∷ []
+entries_of (named o key b n c) = put (bytes_of key.items) (meaning n) (entries_of o)
 
 abbrev pub frames_of : Context → Frames
 frames_of top = no_frames
@@ -104,16 +106,33 @@ closed_array o b n z =
     ap value.array (sym (with_front-none (values_of o ++ meaning n ∷ [])) ∙ with_front-append (values_of o) (meaning n) value.no_values)
     ∙ sym (meaning-close_array o b n z no_elements)
 
--- the object of keys and values as they were read
+-- the keys and values of the finished members, as they are written
+abbrev written_of : Named → Entries
+written_of nothing_named = []
+written_of (named o key b n c) = written_of o ++ (bytes_of key.items, meaning n) ∷ []
+
+put_each-written : (o : Named) → put_each (written_of o) ≡ entries_of o
+put_each-written nothing_named = refl
+put_each-written (named o key b n c) =
+    put_each-push (written_of o) (bytes_of key.items) (meaning n) ∙ ap (put (bytes_of key.items) (meaning n)) (put_each-written o)
+
+-- the object of keys and values as they are written
 abbrev object_of : Entries → Value
 object_of es = value.object (pairs_of (put_each es))
 
 meaning-close_object : (o : Named) (key : Key) (b : List ℕ) (n : Node) (z : List ℕ) (ms : Members)
-    → meaning (close_object o key b n z ms) ≡ object_of (entries_of o ++ (bytes_of key.items, meaning n) ∷ members_meaning ms)
+    → meaning (close_object o key b n z ms) ≡ object_of (written_of o ++ (bytes_of key.items, meaning n) ∷ members_meaning ms)
 meaning-close_object nothing_named key b n z ms = refl
 meaning-close_object (named o key' a m y) key b n z ms =
     meaning-close_object o key' a m y (member key b n z ms)
-    ∙ ap object_of (sym (append_assoc (entries_of o) ((bytes_of key'.items, meaning m) ∷ []) ((bytes_of key.items, meaning n) ∷ members_meaning ms)))
+    ∙ ap object_of (sym (append_assoc (written_of o) ((bytes_of key'.items, meaning m) ∷ []) ((bytes_of key.items, meaning n) ∷ members_meaning ms)))
+
+closed_object : (o : Named) (key : Key) (b : List ℕ) (n : Node) (z : List ℕ)
+    → value.object (pairs_of (put (bytes_of key.items) (meaning n) (entries_of o))) ≡ meaning (close_object o key b n z no_members)
+closed_object o key b n z =
+    ap (λ es. value.object (pairs_of es))
+    (ap (put (bytes_of key.items) (meaning n)) (sym (put_each-written o)) ∙ sym (put_each-push (written_of o) (bytes_of key.items) (meaning n)))
+    ∙ sym (meaning-close_object o key b n z no_members)
 
 -- ---- marks
 
@@ -132,13 +151,17 @@ mark_before r (in_array k b nothing_done) = ap (deep_if r) (depth-frames k)
 mark_before r (in_array k b (done o a m z)) = not_first_value r (frames_of k) (values_of o) (meaning m)
 mark_before r (in_object k b o key) = refl
 
-not_first_key : (r : Reading) (fs : Frames) (es : Entries) (e : List ℕ × Value) → key_mark r fs (es ++ e ∷ []) ≡ None
-not_first_key r fs [] e = refl
-not_first_key r fs (d ∷ es) e = refl
+not_first_by : (r : Reading) (fs : Frames) (t : Bool) (p q : List ℕ × Value) (ps qs : Entries) → key_mark r fs (cond t (p ∷ ps) (q ∷ qs)) ≡ None
+not_first_by r fs true p q ps qs = refl
+not_first_by r fs false p q ps qs = refl
+
+not_first_key : (r : Reading) (fs : Frames) (k : List ℕ) (v : Value) (es : Entries) → key_mark r fs (put k v es) ≡ None
+not_first_key r fs k v [] = refl
+not_first_key r fs k v (e ∷ es) = not_first_by r fs (bytes_eq e.0 k) _ _ _ _
 
 mark_before_key : (r : Reading) (k : Context) (o : Named) → key_mark r (frames_of k) (entries_of o) ≡ tree.key_mark r k o
 mark_before_key r k nothing_named = ap (deep_if r) (depth-frames k)
-mark_before_key r k (named o key b n z) = not_first_key r (frames_of k) (entries_of o) (bytes_of key.items, meaning n)
+mark_before_key r k (named o key b n z) = not_first_key r (frames_of k) (bytes_of key.items) (meaning n) (entries_of o)
 
 image_bad_at : (left : ℕ) (m m' : Option Breach) → m ≡ m' → bad_at m ≡ image_step left (tree.bad_at m')
 image_bad_at left m None e = rw e refl
@@ -179,9 +202,13 @@ image_before r _ k b c left = image_bad_at left _ _ (mark_before r k)
 
 -- ---- keys
 
-not_empty_object : (fs : Frames) (es : Entries) (e : List ℕ × Value) → move_empty_object fs (es ++ e ∷ []) ≡ bad
-not_empty_object fs [] e = refl
-not_empty_object fs (d ∷ es) e = refl
+not_empty_by : (fs : Frames) (t : Bool) (p q : List ℕ × Value) (ps qs : Entries) → move_empty_object fs (cond t (p ∷ ps) (q ∷ qs)) ≡ bad
+not_empty_by fs true p q ps qs = refl
+not_empty_by fs false p q ps qs = refl
+
+not_empty_object : (fs : Frames) (k : List ℕ) (v : Value) (es : Entries) → move_empty_object fs (put k v es) ≡ bad
+not_empty_object fs k v [] = refl
+not_empty_object fs k v (e ∷ es) = not_empty_by fs (bytes_eq e.0 k) _ _ _ _
 
 pub image_before_key : (r : Reading) (s : Class) (k : Context) (a : List ℕ) (o : Named) (b : List ℕ) (c left : ℕ)
     → move_before_key r s (frames_of k) (entries_of o) (suc left) ≡ image_step left (tree.step_before_key r s k a o b c)
@@ -192,7 +219,7 @@ image_before_key r quote k a o b c left =
     ∙ ap (λ n. go (tree.key_mark r k o) (string (as_key (frames_of k) (entries_of o) n) (bytes_of []) between))
     (let one : suc left ≡ left + (1 + 0) = omega arith in one)
 image_before_key r closes_object k a nothing_named b c left = refl
-image_before_key r closes_object k a (named o key x n y) b c left = not_empty_object (frames_of k) (entries_of o) (bytes_of key.items, meaning n)
+image_before_key r closes_object k a (named o key x n y) b c left = not_empty_object (frames_of k) (bytes_of key.items) (meaning n) (entries_of o)
 image_before_key r _ k a o b c left = image_bad_at left _ _ (mark_before_key r k o)
 
 pub image_after_key : (s : Class) (k : Context) (a : List ℕ) (o : Named) (b : List ℕ) (is : List Item) (z : List ℕ) (c left : ℕ)
@@ -215,5 +242,5 @@ image_behind closes_array (in_object k a o key) b n z c left = refl
 image_behind closes_object top b n z c left = refl
 image_behind closes_object (in_array k a o) b n z c left = refl
 image_behind closes_object (in_object k a o key) b n z c left =
-    ap (λ v. go None (behind (frames_of k) v)) (sym (meaning-close_object o key b n (onto z []) no_members))
+    ap (λ v. go None (behind (frames_of k) v)) (closed_object o key b n (onto z []))
 image_behind _ k b n z c left = refl

@@ -3,16 +3,17 @@ use Rattle.std.proofs.Common.{◌≡◌, ℕ, zero, suc, ◌+◌, ◌-◌, lengt
 use Rattle.std.proofs.lemmas.Str.{encodes-append}
 use Rattle.std.specs.Char.{is_ascii_hexdigit}
 use Rattle.std.specs.List.{fold}
+use Rattle.std.specs.Option.{is_some}
 use Rattle.std.specs.Str.{bytes_eq}
-use Rattle.jzon_base.specs.PairList.{keys_of}
-use Rattle.jzon_tree.specs.Value.{Value}
+use Rattle.jzon_base.specs.PairList.{find}
+use Rattle.jzon_base.proofs.KnownKeys.{known-put}
 use Rattle.jzon_tree.specs.Same.{is_known}
 use Rattle.jzon.specs.Reading.{Reading}
 use Rattle.jzon.specs.Grammar.{Item, plain, simple, single, double, code_unit, is_surrogate, is_high, is_low, is_plain, is_simple}
 use Rattle.jzon.specs.Spelling.{Breach, pair, duplicate, Cell, breach_if, onto, marked_last, escape_cells, item_cells, items_cells, items_length}
 use Rattle.jzon.specs.Spelling.{plain as spelled_plain}
 use Rattle.jzon.specs.Meaning.{meaning, item_text, text_of, bytes_of, is_pair, pair_char, unescaped}
-use Rattle.jzon.specs.Machine.{Entries, Role, TextPlace, string, after_key, between, slash, code, second, second_slash, second_code, Move, go, bad, closed_string, move_between, move_slash, add_hex, coded, move_code, paired, move_second_code, move_string}
+use Rattle.jzon.specs.Machine.{Role, TextPlace, string, after_key, between, slash, code, second, second_slash, second_code, Move, go, bad, closed_string, move_between, move_slash, add_hex, coded, move_code, paired, move_second_code, move_string}
 use Rattle.jzon.proofs.TreeMachine as tree
 use Rattle.jzon.proofs.TreeMachine.{items_onto, StringPlace, Step, Named, nothing_named, named, seen_of}
 use Rattle.jzon.proofs.ImageContexts.{entries_of, frames_of, role_of, item_read, items_read, place_read, text_place, image_step}
@@ -93,20 +94,11 @@ digit_more ds c = sym (ap code_unit (onto-append ds (c ∷ [])) ∙ fold-append 
 
 -- ---- between items
 
--- whether a key is known doesn't depend on the order of the earlier ones
-either_first : (a b c : Bool) → (a || (b || c)) ≡ (b || (a || c))
-either_first true true c = refl
-either_first true false c = refl
-either_first false b c = refl
-
-known_last : (es : Entries) (k : List ℕ) (v : Value) (q : List ℕ) → is_known (keys_of (es ++ (k, v) ∷ [])) q ≡ (bytes_eq k q || is_known (keys_of es) q)
-known_last [] k v q = refl
-known_last (e ∷ es) k v q = ap (λ t. bytes_eq e.0 q || t) (known_last es k v q) ∙ either_first (bytes_eq e.0 q) (bytes_eq k q) (is_known (keys_of es) q)
-
-known_of : (o : Named) (q : List ℕ) → is_known (keys_of (entries_of o)) q ≡ is_known (seen_of o) q
+-- a key of the object so far is one of the keys that were seen
+known_of : (o : Named) (q : List ℕ) → is_some (find q (entries_of o)) ≡ is_known (seen_of o) q
 known_of nothing_named q = refl
 known_of (named o key b n c) q =
-    known_last (entries_of o) (bytes_of key.items) (meaning n) q ∙ ap (λ t. bytes_eq (bytes_of key.items) q || t) (known_of o q)
+    known-put q (bytes_of key.items) (meaning n) (entries_of o) ∙ ap (λ t. bytes_eq (bytes_of key.items) q || t) (known_of o q)
 
 image_closed : (r : Reading) (role : tree.Role) (is : List Item) (left : ℕ)
     → closed_string r (role_of role (suc left + (items_read is + 0))) (bytes_of (items_onto is [])) (suc left)

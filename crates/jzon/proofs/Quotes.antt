@@ -1,12 +1,12 @@
 -- Where a run of plain characters of a string ends: a quote, a backslash, or a fault.
 use Rattle.std.proofs.Common.{◌≡◌, ℕ, ◌+◌, ◌-◌, ◌<◌, Bool, true, false, ◌&&◌, cond, List, length, drop, get_or, refl, ap, sym, subst, ◌∙◌, arith}
 use Rattle.std.specs.Prelude.{chars, IsUtf8, ◌==◌}
+use Rattle.std.specs.Option.{is_some}
 use Rattle.std.specs.Str.{IsCharBoundary}
 use Rattle.std.proofs.lemmas.Bool.Decides.{nat_tests}
 use Rattle.std.proofs.lemmas.Str.{IsCharBoundary-after_ascii}
 use Rattle.jzon_base.specs.PlainBytes.{is_plain as is_plain_byte}
-use Rattle.jzon_base.specs.PairList.{keys_of}
-use Rattle.jzon_tree.specs.Same.{is_known}
+use Rattle.jzon_base.specs.PairList.{find}
 use Rattle.jzon.specs.Reading.{Reading}
 use Rattle.jzon.specs.Grammar.{is_plain}
 use Rattle.jzon.specs.Spelling.{duplicate, breach_if}
@@ -55,12 +55,12 @@ string_stops r role xs bs i u at no_plain no_escape no_end =
     no_quote r role xs c (left_at bs i) (ap is_plain_byte same ∙ plain) (λ e. no_end (b.within, sym same ∙ e)) (λ e. no_escape b.within (sym same ∙ e)))
 
 -- behind the closing quote of a key that is not refused, and of one that is
-pub key_goes : (r : Reading) (bs : List ℕ) (fs : Frames) (es : Entries) (opened : ℕ) (k : List ℕ) (i : ℕ) → (r.strict && is_known (keys_of es) k) ≡ false
+pub key_goes : (r : Reading) (bs : List ℕ) (fs : Frames) (es : Entries) (opened : ℕ) (k : List ℕ) (i : ℕ) → (r.strict && is_some (find k es)) ≡ false
     → from_closed r bs (as_key fs es opened) k i ≡ from r bs (after_key fs es k) i
 key_goes r bs fs es opened k i e =
     ap (λ t. outcome_on (go (breach_if t (duplicate (opened - left_at bs (i - 1)))) (after_key fs es k)) (λ p. from r bs p i) (chars (drop (i - 1) bs))) e
 
-pub key_refused : (r : Reading) (bs : List ℕ) (fs : Frames) (es : Entries) (opened : ℕ) (k : List ℕ) (i : ℕ) → (r.strict && is_known (keys_of es) k) ≡ true
+pub key_refused : (r : Reading) (bs : List ℕ) (fs : Frames) (es : Entries) (opened : ℕ) (k : List ℕ) (i : ℕ) → (r.strict && is_some (find k es)) ≡ true
     → from_closed r bs (as_key fs es opened) k i ≡ refused (limit (duplicate (opened - left_at bs (i - 1)))) (chars (drop (i - 1) bs))
 key_refused r bs fs es opened k i e =
     ap (λ t. outcome_on (go (breach_if t (duplicate (opened - left_at bs (i - 1)))) (after_key fs es k)) (λ p. from r bs p i) (chars (drop (i - 1) bs))) e

@@ -9,14 +9,14 @@ use Rattle.jzon.specs.Machine.{Entries, Frames, no_frames, array_frame, object_f
 use Rattle.jzon.specs.declared.frames.Frame.{Frame}
 use Rattle.jzon.specs.declared.frames.Frame.TheVariants.{Array, Object}
 
--- entries as they were read
+-- an object so far, with its values as they are seen
 abbrev pub entries_view : List (List ℕ × JsonValue) → Entries
 entries_view es = map (λ p. (p.0, view p.1)) es
 
 -- the containers fs with one more inside
 abbrev pub open_in : Frames → Frame → Frames
 open_in fs (Array elements) = array_frame fs (map view elements.items)
-open_in fs (Object entries key) = object_frame fs (entries_view entries.items) key
+open_in fs (Object entries key) = object_frame fs (entries_view entries) key
 
 -- the open containers, of which the stack has the inmost last
 abbrev pub stack_view : List Frame → Frames

@@ -2,12 +2,12 @@
 -- containers hold so far.
 use Rattle.std.specs.Prelude.{◌≡◌, ◌⊎◌, ℕ, zero, suc, ◌+◌, ◌-◌, ◌*◌, cond, List, [], ◌∷◌, ◌++◌, length, drop, Bool, true, false, ◌&&◌, ◌==◌, Option, Some, None, Result, Ok, Err, chars, encode_utf8}
 use Rattle.std.specs.Char.{is_ascii_hexdigit, digit_value}
-use Rattle.jzon_base.specs.PairList.{keys_of, put_each}
+use Rattle.std.specs.Option.{is_some}
+use Rattle.jzon_base.specs.PairList.{find, put}
 use Rattle.jzon_base.specs.declared.error.Error.{Error}
 use Rattle.jzon_base.specs.declared.error.Error.TheVariants.{OutOfMemory}
 use Rattle.jzon_tree.specs.Value.{Value, values_of, pairs_of, kind_of}
 use Rattle.jzon_tree.specs.Value as value
-use Rattle.jzon_tree.specs.Same.{is_known}
 use Rattle.jzon_tree.specs.View.{view}
 use Rattle.jzon_tree.specs.declared.value.JsonValue.{JsonValue}
 use Rattle.jzon.specs.Reading.{Reading}
@@ -17,7 +17,7 @@ use Rattle.jzon.specs.Meaning.{number_of, unescaped, pair_char}
 use Rattle.jzon.specs.Fault.{Fault, limit, character, error_at}
 use Rattle.jzon.specs.Classes.{Class, white, digits, dash, cross, point, letter_e, quote, opens_array, closes_array, opens_object, closes_object, comma, colon, begins_null, begins_true, begins_false, class_of, NumberPlace, signed, zero_read, whole, pointed, fraction, lettered, signed_exponent, exponent, begun}
 
--- keys and values as they were read
+-- an object so far
 abbrev pub Entries : Type 0
 Entries = List (List ℕ × Value)
 
@@ -125,14 +125,14 @@ move_after_key _ fs es k = bad
 abbrev pub move_comma : Frames → Value → Move
 move_comma no_frames v = bad
 move_comma (array_frame fs vs) v = go None (before (array_frame fs (vs ++ v ∷ [])))
-move_comma (object_frame fs es k) v = go None (before_key fs (es ++ (k, v) ∷ []))
+move_comma (object_frame fs es k) v = go None (before_key fs (put k v es))
 
 abbrev pub move_close_array : Frames → Value → Move
 move_close_array (array_frame fs vs) v = go None (behind fs (value.array (values_of (vs ++ v ∷ []))))
 move_close_array _ v = bad
 
 abbrev pub move_close_object : Frames → Value → Move
-move_close_object (object_frame fs es k) v = go None (behind fs (value.object (pairs_of (put_each (es ++ (k, v) ∷ [])))))
+move_close_object (object_frame fs es k) v = go None (behind fs (value.object (pairs_of (put k v es))))
 move_close_object _ v = bad
 
 abbrev pub move_behind : Class → Frames → Value → Move
@@ -184,9 +184,9 @@ move_numeral (exponent ws ds l s xs) class fs negative c = move_behind class fs 
 
 -- ---- strings
 
--- an earlier key of the object has this text, which a strict reading refuses
+-- an earlier key of the object has this text, which a strict reading refuses, so many characters behind its opening quote
 abbrev pub repeated_if : Reading → Entries → List ℕ → ℕ → Option Breach
-repeated_if r es k back = breach_if (r.strict && is_known (keys_of es) k) (duplicate back)
+repeated_if r es k back = breach_if (r.strict && is_some (find k es)) (duplicate back)
 
 -- behind the closing quote
 abbrev pub closed_string : Reading → Role → List ℕ → ℕ → Move

@@ -1,10 +1,10 @@
 //! The open containers of a text (RFC 8259, sections 4 and 5; docs/RULES.md, "Texts" and "Depth").
 
-ghost use Rattle.std.specs.Prelude.{◌≡◌, ◌≢◌, ◌⊎◌, ◌&&◌, ◌↔◌, IsTrue, ℕ, List, [], ◌∷◌, ◌++◌, ◌<◌, ◌≤◌, ◌+◌, length, chars, map, IfOk, OnOk, Err, None, MatchResult, slice_index, false, vec_len};
+ghost use Rattle.std.specs.Prelude.{◌≡◌, ◌≢◌, ◌⊎◌, ◌&&◌, ◌↔◌, IsTrue, ℕ, List, [], ◌∷◌, ◌++◌, ◌<◌, ◌≤◌, ◌+◌, length, chars, map, IfOk, OnOk, Err, None, IsOkUnless, MatchResult, slice_index, false, vec_len};
 ghost use Rattle.std.specs.Str.{IsCharBoundary};
-ghost use Rattle.jzon_base.specs.PairList.{keys_of};
+ghost use Rattle.std.specs.Option.{is_some};
+ghost use Rattle.jzon_base.specs.PairList.{find, put};
 ghost use Rattle.jzon_tree.specs.Value.{Value};
-ghost use Rattle.jzon_tree.specs.Same.{is_known};
 ghost use Rattle.jzon_tree.specs.View.{view};
 ghost use Rattle.jzon_tree.specs.Writing.{is_space};
 ghost use Rattle.jzon.specs.Frames.{stack_view, open_in, entries_view, place_of, IsAtElement, IsReady};
@@ -17,7 +17,7 @@ use crate::scalar::read_scalar;
 use crate::string::read_string;
 use jzon_base::error::{Error, Result};
 use jzon_base::key::Key;
-use jzon_tree::object::{Object, from_entries};
+use jzon_tree::object::{Builder, Object};
 use jzon_tree::value::JsonValue;
 use std::alloc::Global;
 
@@ -26,8 +26,8 @@ use std::alloc::Global;
 pub(crate) enum Frame {
     /// The elements.
     Array(Vec<JsonValue>),
-    /// The entries as they were read, and the key of the value that is read next.
-    Object(Vec<(Key, JsonValue)>, Key),
+    /// The object so far, and the key of the value that is read next.
+    Object(Builder, Key),
 }
 
 /// Reads on behind the opening bracket of an array: to its end, or to an element that opens a container. After an error what is on the stack has no meaning.
@@ -93,8 +93,7 @@ pub(crate) fn open_object(
     if stack.len() == usize::from(reading.depth()) {
         return Err(Error::ExceededDepthLimit);
     }
-    // What isn't used of this room is given back at the closing bracket.
-    let entries = Vec::with_capacity(alloc, 8)?;
+    let entries = Builder::new(alloc);
     read_entries(alloc, source, reading, index, entries, stack, buffer)
 }
 
@@ -147,41 +146,41 @@ fn read_elements(
     Ok((None, index))
 }
 
-/// The same in an open object, whose entries so far these are and whose next key begins at `start`.
+/// The same in an open object, with its entries so far, whose next key begins at `start`.
 fn read_entries(
     alloc: Global,
     source: &str,
     reading: Reading,
     start: usize,
-    entries: Vec<(Key, JsonValue)>,
+    entries: Builder,
     stack: &mut Vec<Frame>,
     buffer: &mut String,
 ) -> Result<(Option<JsonValue>, usize)>
     requires boundary { IsCharBoundary source.now start }
     requires stop { start < length source.now → is_space reading.strict (slice_index source.now start) ≡ false }
     requires room { vec_len stack.old < reading.depth }
-    requires key { entries_view entries.items ≡ [] → slice_index source.now start ≢ 125 }
+    requires key { entries_view entries ≡ [] → slice_index source.now start ≢ 125 }
     ensures bounds { IfOk result (λ r. (start ≤ r.1) × IsCharBoundary source.now r.1) }
     ensures room { OnOk result (vec_len stack.new ≤ reading.depth) }
     ensures ready { IfOk result (λ r. IsReady reading source.now r.1 r.0 (stack_view stack.new.items)) }
-    ensures same { let here = before_key (stack_view stack.old.items) (entries_view entries.items) in MatchResult result
+    ensures same { let here = before_key (stack_view stack.old.items) (entries_view entries) in MatchResult result
         (λ r. from reading source.now here start ≡ from reading source.now (place_of r.0 (stack_view stack.new.items)) r.1)
         (λ e. TellsUnlessMemory (chars source.now) e (from reading source.now here start)) }
 {
     let mut entries = entries;
     let mut index = start;
     loop {
-        let (key, colon) = read_key(alloc, source, reading, index, &entries, buffer)?;
+        let (key, colon) = read_key(alloc, source, reading, index, &mut entries, buffer)?;
         index = skip_blank(source, reading, colon);
         if opens_container(source, index) {
             stack.push(Frame::Object(entries, key))?;
             return Ok((None, index));
         }
         let (value, end) = read_scalar(alloc, source, index, buffer)?;
-        entries.push((key, value))?;
+        entries.push(alloc, key, value)?;
         index = skip_blank(source, reading, end);
         if has_byte(source, index, b'}') {
-            let object = from_entries(alloc, entries)?;
+            let object = Object::from_builder(alloc, entries)?;
             return Ok((Some(JsonValue::Object(object)), index + 1));
         }
         if !has_byte(source, index, b',') {
@@ -197,13 +196,14 @@ fn read_key(
     source: &str,
     reading: Reading,
     start: usize,
-    entries: &Vec<(Key, JsonValue)>,
+    entries: &mut Builder,
     buffer: &mut String,
 ) -> Result<(Key, usize)>
     requires boundary { IsCharBoundary source.now start }
     requires stop { start < length source.now → is_space reading.strict (slice_index source.now start) ≡ false }
     ensures bounds { IfOk result (λ r. (start < r.1) × IsCharBoundary source.now r.1) }
-    ensures same { (fs : Frames) → let es = entries_view entries.now.items in key_mark reading fs es ≡ None → (es ≡ [] → slice_index source.now start ≢ 125) → MatchResult result
+    ensures kept { OnOk result (entries.new ≡ entries.old) }
+    ensures same { (fs : Frames) → let es = entries_view entries.old in key_mark reading fs es ≡ None → (es ≡ [] → slice_index source.now start ≢ 125) → MatchResult result
         (λ r. from reading source.now (before_key fs es) start ≡ from reading source.now (before (object_frame fs es r.0)) r.1)
         (λ e. TellsUnlessMemory (chars source.now) e (from reading source.now (before_key fs es) start)) }
 {
@@ -212,7 +212,8 @@ fn read_key(
     }
     let spelled = read_string(source, start + 1, buffer)?;
     let name = spelled.text(source, start + 1, buffer);
-    if is_refused(reading, entries, name) {
+    let refused = is_refused(alloc, reading, entries, name)?;
+    if refused {
         return Err(duplicate_at(source, start));
     }
     let key = Key::new(alloc, name)?;
@@ -223,23 +224,17 @@ fn read_key(
     Ok((key, colon + 1))
 }
 
-/// Whether the reading refuses this key behind these entries.
-fn is_refused(reading: Reading, entries: &Vec<(Key, JsonValue)>, name: &str) -> bool
-    ensures { result ≡ (reading.strict && is_known (keys_of (entries_view entries.now.items)) name.now) }
+/// Whether the reading refuses this key behind these entries. Refused by `OutOfMemory` alone.
+#[tactic(auto, using(crate::proofs::FrameViews::known_view))]
+fn is_refused(alloc: Global, reading: Reading, entries: &mut Builder, name: &str) -> Result<bool>
+    ensures same { entries.new ≡ entries.old }
+    ensures refused { IfOk result (λ refused. refused ≡ (reading.strict && is_some (find name.now (entries_view entries.old)))) }
+    ensures memory { IsOkUnless result Error.OutOfMemory }
 {
-    reading.strict() && has_key(entries.as_slice(), name)
-}
-
-/// Whether one of the entries has this key.
-fn has_key(entries: &[(Key, JsonValue)], name: &str) -> bool
-    ensures { result ≡ is_known (keys_of (entries_view entries.now)) name.now }
-{
-    for entry in entries {
-        if entry.0.as_str() == name {
-            return true;
-        }
+    if !reading.strict() {
+        return Ok(false);
     }
-    false
+    Ok(entries.has_key(alloc, name)?)
 }
 
 /// Reads on behind the value `item` of an open container, which was the inmost: to the container's end, or to its next value that opens one. After an error what
@@ -271,7 +266,7 @@ pub(crate) fn go_on(
             go_on_array(alloc, source, reading, index, elements, stack, buffer)
         }
         Frame::Object(mut entries, key) => {
-            entries.push((key, item))?;
+            entries.push(alloc, key, item)?;
             go_on_object(alloc, source, reading, index, entries, stack, buffer)
         }
     }
@@ -315,24 +310,24 @@ fn go_on_object(
     source: &str,
     reading: Reading,
     index: usize,
-    entries: Vec<(Key, JsonValue)>,
+    entries: Builder,
     stack: &mut Vec<Frame>,
     buffer: &mut String,
 ) -> Result<(Option<JsonValue>, usize)>
     requires boundary { IsCharBoundary source.now index }
     requires stop { index < length source.now → is_space reading.strict (slice_index source.now index) ≡ false }
     requires room { vec_len stack.old < reading.depth }
-    requires some { 0 < vec_len entries }
+    requires some { entries_view entries ≢ [] }
     ensures bounds { IfOk result (λ r. (index < r.1) × IsCharBoundary source.now r.1) }
     ensures room { OnOk result (vec_len stack.new ≤ reading.depth) }
     ensures ready { IfOk result (λ r. IsReady reading source.now r.1 r.0 (stack_view stack.new.items)) }
-    ensures same { (es : Entries) (k : List ℕ) (v : Value) → entries_view entries.items ≡ es ++ (k, v) ∷ [] → MatchResult result
+    ensures same { (es : Entries) (k : List ℕ) (v : Value) → entries_view entries ≡ put k v es → MatchResult result
         (λ r. from reading source.now (behind (object_frame (stack_view stack.old.items) es k) v) index
         ≡ from reading source.now (place_of r.0 (stack_view stack.new.items)) r.1)
         (λ e. TellsUnlessMemory (chars source.now) e (from reading source.now (behind (object_frame (stack_view stack.old.items) es k) v) index)) }
 {
     if has_byte(source, index, b'}') {
-        let object = from_entries(alloc, entries)?;
+        let object = Object::from_builder(alloc, entries)?;
         return Ok((Some(JsonValue::Object(object)), index + 1));
     }
     if !has_byte(source, index, b',') {

@@ -42,7 +42,8 @@ module _ {V : Type 0} (k : List ℕ) where
       ∙ or_swap (bytes_eq p.0 k) (bytes_eq l k) (is_some (find k ps))
       ∙ ap (λ (b : Bool). bytes_eq l k || b) (sym (is_some-cond (bytes_eq p.0 k) p.1 (find k ps)))
 
-  known-put : (l : List ℕ) (v : V) (ps : List (List ℕ × V)) → is_some (find k (put l v ps)) ≡ (bytes_eq l k || is_some (find k ps))
+  -- a key is known where it is put, or was known before
+  pub known-put : (l : List ℕ) (v : V) (ps : List (List ℕ × V)) → is_some (find k (put l v ps)) ≡ (bytes_eq l k || is_some (find k ps))
   known-put l v [] = is_some-cond (bytes_eq l k) v None
   known-put l v (p ∷ ps) = known_by (bytes_eq p.0 l) l v p ps refl (known-put l v ps)
 

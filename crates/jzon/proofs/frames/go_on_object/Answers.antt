@@ -2,13 +2,13 @@ use Rattle.std.proofs.Common.{◌∙◌, ◌+◌, [], ◌∷◌, ◌++◌, sym, 
 use Rattle.std.specs.Prelude.{chars}
 use Rattle.std.proofs.lemmas.Bool.{iff_false}
 use Rattle.std.proofs.lemmas.Str.{IsCharBoundary-after_ascii}
-use Rattle.jzon_base.specs.PairList.{put_each}
+use Rattle.jzon_base.specs.PairList.{put}
 use Rattle.jzon_tree.specs.Value.{object, pairs_of}
 use Rattle.jzon_tree.proofs.Views.{view-Object}
 use Rattle.jzon.specs.Frames.{stack_view}
 use Rattle.jzon.specs.Machine.{object_frame, before_key, behind, from}
 use Rattle.jzon.proofs.ContainerSteps.{close_object, entry_comma, no_entry}
-use Rattle.jzon.proofs.FrameViews.{some_entries, view_object-entries}
+use Rattle.jzon.proofs.FrameViews.{view_object-entries}
 use Rattle.jzon.proofs.Steps.{from_stop}
 use Rattle.jzon.proofs.Told.{told, same_unless_memory}
 use Rattle.jzon.proofs.frames.go_on_object.Goals as goal
@@ -24,8 +24,8 @@ returns-then-has_byte-clause-same c es k v e =
     let fs = stack_view c.args.stack.now.items in
     close_object c.args.reading c.args.source.now c.args.index fs es k v c.utf8.source c.requires.boundary here.0 here.1
     ∙ ap (λ x. from c.args.reading c.args.source.now (behind fs x) (c.args.index + 1))
-    (sym (view-Object c.in_ok-object.object ∙ view_object-entries c.in_ok-object.object c.args.entries.items c.in_ok-object.ensures.pairs
-    ∙ ap (λ xs. object (pairs_of (put_each xs))) e))
+    (sym (view-Object c.in_ok-object.object ∙ view_object-entries c.in_ok-object.object c.args.entries c.in_ok-object.ensures.pairs
+    ∙ ap (λ xs. object (pairs_of xs)) e))
 
 pub returns-then-not-has_byte-clause-same : goal.returns-then-not-has_byte-clause-same
 returns-then-not-has_byte-clause-same c es k v e =
@@ -42,7 +42,7 @@ skip_blank-start-requires c =
     IsCharBoundary-after_ascii c.args.source.now c.args.index c.utf8.source here.0 (omega (arith, here.1))
 
 pub read_entries-requires-clause-key : goal.read_entries-requires-clause-key
-read_entries-requires-clause-key c none = absurd (some_entries c.args.entries.items (omega (arith, c.requires.some, c.args.entries.ok.0)) none)
+read_entries-requires-clause-key c none = absurd (c.requires.some none)
 
 pub returns-clause-same : goal.returns-clause-same
 returns-clause-same c es k v e =
@@ -50,6 +50,6 @@ returns-clause-same c es k v e =
     let fs = stack_view c.args.stack.now.items in
     same_unless_memory _ _ _ (chars c.args.source.now) c.read_entries.result
     (entry_comma c.args.reading c.args.source.now c.args.index fs es k v c.utf8.source c.requires.boundary here.0 here.1
-    ∙ c.skip_blank-start.ensures.before_key fs (es ++ (k, v) ∷ [])
+    ∙ c.skip_blank-start.ensures.before_key fs (put k v es)
     ∙ ap (λ xs. from c.args.reading c.args.source.now (before_key fs xs) c.skip_blank-start.result) (sym e))
     c.read_entries.ensures.same

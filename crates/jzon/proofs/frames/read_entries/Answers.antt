@@ -4,14 +4,14 @@ use Rattle.std.proofs.lemmas.Bool.{iff_false, true≢false}
 use Rattle.std.proofs.lemmas.List.{map-append}
 use Rattle.std.proofs.lemmas.Result.{err_from_is_err_and}
 use Rattle.std.proofs.lemmas.Str.{IsCharBoundary-after_ascii}
-use Rattle.jzon_base.specs.PairList.{put_each}
+use Rattle.jzon_base.specs.PairList.{put}
 use Rattle.jzon_tree.specs.Value.{object, pairs_of}
 use Rattle.jzon_tree.specs.View.{view}
 use Rattle.jzon_tree.proofs.Views.{view-Object}
 use Rattle.jzon.specs.Frames.{entries_view, stack_view}
 use Rattle.jzon.specs.Machine.{object_frame, frames_depth, before, before_key, behind, from}
 use Rattle.jzon.proofs.ContainerSteps.{close_object, entry_comma, no_entry}
-use Rattle.jzon.proofs.FrameViews.{frames_depth-stack, key_mark-shallow, no_entries, stack_view-push, view_object-entries}
+use Rattle.jzon.proofs.FrameViews.{frames_depth-stack, entries_view-put, key_mark-shallow, some_put, stack_view-push, view_object-entries}
 use Rattle.jzon.proofs.Steps.{from_stop}
 use Rattle.jzon.proofs.Told.{told, told_again, told_err}
 use Rattle.jzon.proofs.frames.read_entries.Goals.{After-read_key, After-skip_blank-index, After-skip_blank-index-in-loop-entries}
@@ -35,10 +35,10 @@ read_key-requires-clause-stop c = c.loop-entries.invariant.stop
 
 -- the loop leaves the stack as it was
 unmoved : (c : After-read_key) →
-    from c.args.reading c.args.source.now (before_key (stack_view c.args.stack.now.items) (entries_view c.args.entries.items)) c.args.start
-    ≡ from c.args.reading c.args.source.now (before_key (stack_view c.loop-entries.stack.items) (entries_view c.args.entries.items)) c.args.start
+    from c.args.reading c.args.source.now (before_key (stack_view c.args.stack.now.items) (entries_view c.args.entries)) c.args.start
+    ≡ from c.args.reading c.args.source.now (before_key (stack_view c.loop-entries.stack.items) (entries_view c.args.entries)) c.args.start
 unmoved c =
-    ap (λ s. from c.args.reading c.args.source.now (before_key (stack_view s.items) (entries_view c.args.entries.items)) c.args.start) (sym c.loop-entries.invariant.stack)
+    ap (λ s. from c.args.reading c.args.source.now (before_key (stack_view s.items) (entries_view c.args.entries)) c.args.start) (sym c.loop-entries.invariant.stack)
 
 shallow : (c : After-read_key) → frames_depth (stack_view c.loop-entries.stack.items) < c.args.reading.depth
 shallow c =
@@ -49,7 +49,7 @@ pub returns-in_err-key-clause-same : goal.returns-in_err-key-clause-same
 returns-in_err-key-clause-same c =
     let at = (goal.at.returns-in_err-key-clause-same c).After-read_key in
     let fs = stack_view c.loop-entries.stack.items in
-    let es = entries_view c.loop-entries.entries.items in
+    let es = entries_view c.loop-entries.entries in
     let failed = err_from_is_err_and c.from_residual.result c.from_residual.ensures.1 in
     told_err _ (chars c.args.source.now) c.from_residual.result failed.0 _ failed.1
     (told_again (chars c.args.source.now) failed.0 _ _ (unmoved at ∙ c.loop-entries.invariant.same)
@@ -57,12 +57,12 @@ returns-in_err-key-clause-same c =
 
 -- the key was read, its colon, and a blank behind it
 began : (c : After-skip_blank-index) → frames_depth (stack_view c.loop-entries.stack.items) < c.args.reading.depth
-    → from c.args.reading c.args.source.now (before_key (stack_view c.loop-entries.stack.items) (entries_view c.args.entries.items)) c.args.start
-    ≡ from c.args.reading c.args.source.now (before (object_frame (stack_view c.loop-entries.stack.items) (entries_view c.loop-entries.entries.items) c.in_ok-key.key))
+    → from c.args.reading c.args.source.now (before_key (stack_view c.loop-entries.stack.items) (entries_view c.args.entries)) c.args.start
+    ≡ from c.args.reading c.args.source.now (before (object_frame (stack_view c.loop-entries.stack.items) (entries_view c.loop-entries.entries) c.in_ok-key.key))
     c.skip_blank-index.result
 began c lt =
     let fs = stack_view c.loop-entries.stack.items in
-    let es = entries_view c.loop-entries.entries.items in
+    let es = entries_view c.loop-entries.entries in
     c.loop-entries.invariant.same ∙ c.in_ok-key.ensures.same fs (key_mark-shallow c.args.reading fs es lt) c.loop-entries.invariant.key
     ∙ c.skip_blank-index.ensures.before (object_frame fs es c.in_ok-key.key)
 
@@ -79,12 +79,13 @@ returns-then-opens_container-clause-same c =
     let at = goal.at.returns-then-opens_container-clause-same c in
     unmoved at.After-read_key ∙ began at.After-skip_blank-index (shallow at.After-read_key)
     ∙ ap (λ gs. from c.args.reading c.args.source.now (before gs) c.skip_blank-index.result)
-    (sym (stack_view-push c.loop-entries.stack.items c.push.new.self.items _ c.in_ok-push.ensures.items))
+    (ap (λ es. object_frame (stack_view c.loop-entries.stack.items) (entries_view es) c.in_ok-key.key) (sym c.in_ok-key.ensures.kept)
+    ∙ sym (stack_view-push c.loop-entries.stack.items c.push.new.self.items _ c.in_ok-push.ensures.items))
 
 pub returns-in_err-value-clause-same : goal.returns-in_err-value-clause-same
 returns-in_err-value-clause-same c =
     let at = goal.at.returns-in_err-value-clause-same c in
-    let fs = object_frame (stack_view c.loop-entries.stack.items) (entries_view c.loop-entries.entries.items) c.in_ok-key.key in
+    let fs = object_frame (stack_view c.loop-entries.stack.items) (entries_view c.loop-entries.entries) c.in_ok-key.key in
     let failed = err_from_is_err_and c.from_residual-in_err-value.result c.from_residual-in_err-value.ensures.1 in
     told_err _ (chars c.args.source.now) c.from_residual-in_err-value.result failed.0 _ failed.1
     (told_again (chars c.args.source.now) failed.0 _ _ (unmoved at.After-read_key ∙ began at.After-skip_blank-index (shallow at.After-read_key))
@@ -92,20 +93,20 @@ returns-in_err-value-clause-same c =
 
 -- the value was read, and a blank behind it
 came : (c : After-skip_blank-index-in-loop-entries) →
-    from c.args.reading c.args.source.now (before (object_frame (stack_view c.loop-entries.stack.items) (entries_view c.loop-entries.entries.items) c.in_ok-key.key))
+    from c.args.reading c.args.source.now (before (object_frame (stack_view c.loop-entries.stack.items) (entries_view c.loop-entries.entries) c.in_ok-key.key))
     c.skip_blank-index.result
     ≡ from c.args.reading c.args.source.now
-    (behind (object_frame (stack_view c.loop-entries.stack.items) (entries_view c.loop-entries.entries.items) c.in_ok-key.key) (view c.in_ok-value.value))
+    (behind (object_frame (stack_view c.loop-entries.stack.items) (entries_view c.loop-entries.entries) c.in_ok-key.key) (view c.in_ok-value.value))
     c.skip_blank-index-in-loop-entries.result
 came c =
-    let fs = object_frame (stack_view c.loop-entries.stack.items) (entries_view c.loop-entries.entries.items) c.in_ok-key.key in
+    let fs = object_frame (stack_view c.loop-entries.stack.items) (entries_view c.loop-entries.entries) c.in_ok-key.key in
     c.in_ok-value.ensures.same c.args.reading fs refl c.skip_blank-index.ensures.stop (λ f. absurd (true≢false (sym f))) ∙ c.skip_blank-index-in-loop-entries.ensures.behind fs (view c.in_ok-value.value)
 
 pushed : (c : After-skip_blank-index-in-loop-entries) →
-    entries_view c.push-in-loop-entries.new.self.items ≡ entries_view c.loop-entries.entries.items ++ (c.in_ok-key.key, view c.in_ok-value.value) ∷ []
+    entries_view c.push-in-loop-entries.new.self ≡ put c.in_ok-key.key (view c.in_ok-value.value) (entries_view c.loop-entries.entries)
 pushed c =
-    ap entries_view c.in_ok-push-2.ensures.items
-    ∙ map-append (λ p. (p.0, view p.1)) c.loop-entries.entries.items ((c.in_ok-key.key, c.in_ok-value.value) ∷ [])
+    ap entries_view c.in_ok-push-2.ensures.ok ∙ entries_view-put c.in_ok-key.key c.in_ok-value.value c.read_key.new.entries
+    ∙ ap (λ es. put c.in_ok-key.key (view c.in_ok-value.value) (entries_view es)) c.in_ok-key.ensures.kept
 
 pub returns-then-has_byte-clause-bounds : goal.returns-then-has_byte-clause-bounds
 returns-then-has_byte-clause-bounds c =
@@ -125,18 +126,18 @@ returns-then-has_byte-clause-same c =
     let here = c.has_byte.ensures.0 c.if-has_byte.true in
     let fs = stack_view c.loop-entries.stack.items in
     unmoved at.After-read_key ∙ began at.After-skip_blank-index (shallow at.After-read_key) ∙ came at.After-skip_blank-index-in-loop-entries
-    ∙ close_object c.args.reading c.args.source.now c.skip_blank-index-in-loop-entries.result fs (entries_view c.loop-entries.entries.items) c.in_ok-key.key
+    ∙ close_object c.args.reading c.args.source.now c.skip_blank-index-in-loop-entries.result fs (entries_view c.loop-entries.entries) c.in_ok-key.key
     (view c.in_ok-value.value) c.utf8.source c.skip_blank-index-in-loop-entries.ensures.boundary here.0 here.1
     ∙ ap (λ x. from c.args.reading c.args.source.now (behind fs x) (c.skip_blank-index-in-loop-entries.result + 1))
     (sym (view-Object c.in_ok-object.object
-    ∙ view_object-entries c.in_ok-object.object c.push-in-loop-entries.new.self.items c.in_ok-object.ensures.pairs
-    ∙ ap (λ xs. object (pairs_of (put_each xs))) (pushed at.After-skip_blank-index-in-loop-entries)))
+    ∙ view_object-entries c.in_ok-object.object c.push-in-loop-entries.new.self c.in_ok-object.ensures.pairs
+    ∙ ap (λ xs. object (pairs_of xs)) (pushed at.After-skip_blank-index-in-loop-entries)))
 
 pub returns-then-not-has_byte-clause-same : goal.returns-then-not-has_byte-clause-same
 returns-then-not-has_byte-clause-same c =
     let at = goal.at.returns-then-not-has_byte-clause-same c in
     let fs = stack_view c.loop-entries.stack.items in
-    let es = entries_view c.loop-entries.entries.items in
+    let es = entries_view c.loop-entries.entries in
     let v = view c.in_ok-value.value in
     told (chars c.args.source.now) c.fault_at.result _ _
     (unmoved at.After-read_key ∙ began at.After-skip_blank-index (shallow at.After-read_key) ∙ came at.After-skip_blank-index-in-loop-entries
@@ -166,7 +167,7 @@ loop-entries-preserved c =
     let at = goal.at.loop-entries-preserved c in
     let here = c.has_byte-in-loop-entries.ensures.0 c.if-not-has_byte.false in
     let fs = stack_view c.loop-entries.stack.items in
-    let es = entries_view c.loop-entries.entries.items in
+    let es = entries_view c.loop-entries.entries in
     let k = c.in_ok-key.key in
     let v = view c.in_ok-value.value in
     let key = c.in_ok-key.ensures.bounds.0 in
@@ -177,10 +178,10 @@ loop-entries-preserved c =
       within = omega (arith, c.loop-entries.invariant.within, c.skip_blank-index.ensures.within, c.skip_blank-index-in-loop-entries.ensures.within, c.skip_blank-index-in-loop-entries-2.ensures.within);
       boundary = c.skip_blank-index-in-loop-entries-2.ensures.boundary;
       stop = c.skip_blank-index-in-loop-entries-2.ensures.stop;
-      key = λ none. absurd (no_entries es (k, v) (sym more ∙ none));
+      key = λ none. absurd (some_put k v es (sym more ∙ none));
       same = began at.After-skip_blank-index (shallow at.After-read_key) ∙ came at.After-skip_blank-index-in-loop-entries
           ∙ entry_comma c.args.reading c.args.source.now c.skip_blank-index-in-loop-entries.result fs es k v c.utf8.source
           c.skip_blank-index-in-loop-entries.ensures.boundary here.0 here.1
-          ∙ c.skip_blank-index-in-loop-entries-2.ensures.before_key fs (es ++ (k, v) ∷ [])
+          ∙ c.skip_blank-index-in-loop-entries-2.ensures.before_key fs (put k v es)
           ∙ ap (λ xs. from c.args.reading c.args.source.now (before_key fs xs) c.skip_blank-index-in-loop-entries-2.result) (sym more);
     }

@@ -11,9 +11,9 @@ invariant-loop-entries l = record {
   within : l.start ≤ l.index;
   boundary : IsCharBoundary l.source l.index;
   stop : l.index < length l.source → is_space l.reading.strict (slice_index l.source l.index) ≡ false;
-  key : entries_view l.entries.items ≡ [] → slice_index l.source l.index ≢ 125;
-  same : from l.reading l.source (before_key (stack_view l.stack.items) (entries_view l.fn.entries.items)) l.start
-      ≡ from l.reading l.source (before_key (stack_view l.stack.items) (entries_view l.entries.items)) l.index;
+  key : entries_view l.entries ≡ [] → slice_index l.source l.index ≢ 125;
+  same : from l.reading l.source (before_key (stack_view l.stack.items) (entries_view l.fn.entries)) l.start
+      ≡ from l.reading l.source (before_key (stack_view l.stack.items) (entries_view l.entries)) l.index;
 }
 
 abbrev pub decreases-loop-entries : goal.decreases-loop-entries

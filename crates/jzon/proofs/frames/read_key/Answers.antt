@@ -3,8 +3,8 @@ use Rattle.std.specs.Prelude.{chars, slice_range}
 use Rattle.std.proofs.lemmas.Bool.{iff_false}
 use Rattle.std.proofs.lemmas.Result.{err_from_is_err_and}
 use Rattle.std.proofs.lemmas.Str.{IsCharBoundary-after_ascii}
-use Rattle.jzon_base.specs.PairList.{keys_of}
-use Rattle.jzon_tree.specs.Same.{is_known}
+use Rattle.std.specs.Option.{is_some}
+use Rattle.jzon_base.specs.PairList.{find}
 use Rattle.jzon.specs.Spelling.{breach_if, duplicate}
 use Rattle.jzon.specs.Frames.{entries_view}
 use Rattle.jzon.specs.Machine.{as_key, left_at, before, before_key, after_key, object_frame, go, outcome_on, from, from_closed, refused}
@@ -18,7 +18,7 @@ use Rattle.jzon.proofs.frames.read_key.Goals as goal
 
 pub returns-then-not-has_byte-clause-same : goal.returns-then-not-has_byte-clause-same
 returns-then-not-has_byte-clause-same c fs h n =
-    let es = entries_view c.args.entries.now.items in
+    let es = entries_view c.args.entries.now in
     told (chars c.args.source.now) c.fault_at.result _ _
     (from_stop c.args.reading c.args.source.now c.args.start (before_key fs es) c.utf8.source c.requires.boundary
     (no_key c.args.reading c.args.source.now c.args.start fs es h c.requires.stop (iff_false c.has_byte.ensures c.if-not-has_byte.true) n))
@@ -31,7 +31,7 @@ read_string-requires c =
 
 pub returns-in_err-spelled-clause-same : goal.returns-in_err-spelled-clause-same
 returns-in_err-spelled-clause-same c fs h n =
-    let es = entries_view c.args.entries.now.items in
+    let es = entries_view c.args.entries.now in
     let here = c.has_byte.ensures.0 c.if-not-has_byte.false in
     let failed = err_from_is_err_and c.from_residual.result c.from_residual.ensures.1 in
     told_err _ (chars c.args.source.now) c.from_residual.result failed.0 _ failed.1
@@ -44,14 +44,14 @@ text-name-requires-clause-begin c =
     let here = c.has_byte.ensures.0 c.if-not-has_byte.false in
     IsCharBoundary-after_ascii c.args.source.now c.args.start c.utf8.source here.0 (omega (arith, here.1))
 
-pub returns-then-is_refused-clause-same : goal.returns-then-is_refused-clause-same
-returns-then-is_refused-clause-same c fs h n =
-    let es = entries_view c.args.entries.now.items in
+pub returns-then-refused-clause-same : goal.returns-then-refused-clause-same
+returns-then-refused-clause-same c fs h n =
+    let es = entries_view c.args.entries.now in
     let here = c.has_byte.ensures.0 c.if-not-has_byte.false in
     let opened = left_at c.args.source.now c.args.start in
     let text = cond c.in_ok-spelled.spelled.is_escaped (string_bytes c.read_string.new.buffer) (slice_range c.args.source.now (c.args.start + 1) (c.in_ok-spelled.spelled.end - 1)) in
-    let known : (c.args.reading.strict && is_known (keys_of es) text) ≡ true =
-    ap (λ k. c.args.reading.strict && is_known (keys_of es) k) (sym c.text-name.ensures) ∙ sym c.is_refused.ensures ∙ c.if-is_refused.true in
+    let known : (c.args.reading.strict && is_some (find text es)) ≡ true =
+    ap (λ k. c.args.reading.strict && is_some (find k es)) (sym c.text-name.ensures) ∙ sym c.in_ok-refused.ensures.refused ∙ c.if-refused.true in
     told (chars c.args.source.now) c.duplicate_at.result _ _
     (open_key c.args.reading c.args.source.now c.args.start fs es c.utf8.source c.requires.boundary here.0 here.1 h
     ∙ c.in_ok-spelled.ensures.same c.args.reading (as_key fs es opened)
@@ -62,12 +62,12 @@ returns-then-is_refused-clause-same c fs h n =
 
 pub returns-then-not-has_byte-2-clause-same : goal.returns-then-not-has_byte-2-clause-same
 returns-then-not-has_byte-2-clause-same c fs h n =
-    let es = entries_view c.args.entries.now.items in
+    let es = entries_view c.args.entries.now in
     let here = c.has_byte.ensures.0 c.if-not-has_byte.false in
     let opened = left_at c.args.source.now c.args.start in
     let text = cond c.in_ok-spelled.spelled.is_escaped (string_bytes c.read_string.new.buffer) (slice_range c.args.source.now (c.args.start + 1) (c.in_ok-spelled.spelled.end - 1)) in
-    let new : (c.args.reading.strict && is_known (keys_of es) text) ≡ false =
-    ap (λ k. c.args.reading.strict && is_known (keys_of es) k) (sym c.text-name.ensures) ∙ sym c.is_refused.ensures ∙ c.if-is_refused.false in
+    let new : (c.args.reading.strict && is_some (find text es)) ≡ false =
+    ap (λ k. c.args.reading.strict && is_some (find k es)) (sym c.text-name.ensures) ∙ sym c.in_ok-refused.ensures.refused ∙ c.if-refused.false in
     told (chars c.args.source.now) c.fault_at-then-not-has_byte-2.result _ _
     (open_key c.args.reading c.args.source.now c.args.start fs es c.utf8.source c.requires.boundary here.0 here.1 h
     ∙ c.in_ok-spelled.ensures.same c.args.reading (as_key fs es opened)
@@ -87,13 +87,13 @@ returns-clause-bounds c =
 
 pub returns-clause-same : goal.returns-clause-same
 returns-clause-same c fs h n =
-    let es = entries_view c.args.entries.now.items in
+    let es = entries_view c.args.entries.now in
     let here = c.has_byte.ensures.0 c.if-not-has_byte.false in
     let colon = c.has_byte-2.ensures.0 c.if-not-has_byte-2.false in
     let opened = left_at c.args.source.now c.args.start in
     let text = cond c.in_ok-spelled.spelled.is_escaped (string_bytes c.read_string.new.buffer) (slice_range c.args.source.now (c.args.start + 1) (c.in_ok-spelled.spelled.end - 1)) in
-    let new : (c.args.reading.strict && is_known (keys_of es) text) ≡ false =
-    ap (λ k. c.args.reading.strict && is_known (keys_of es) k) (sym c.text-name.ensures) ∙ sym c.is_refused.ensures ∙ c.if-is_refused.false in
+    let new : (c.args.reading.strict && is_some (find text es)) ≡ false =
+    ap (λ k. c.args.reading.strict && is_some (find k es)) (sym c.text-name.ensures) ∙ sym c.in_ok-refused.ensures.refused ∙ c.if-refused.false in
     open_key c.args.reading c.args.source.now c.args.start fs es c.utf8.source c.requires.boundary here.0 here.1 h
     ∙ c.in_ok-spelled.ensures.same c.args.reading (as_key fs es opened)
     ∙ key_goes c.args.reading c.args.source.now fs es opened text c.in_ok-spelled.spelled.end new
