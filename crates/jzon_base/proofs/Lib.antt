@@ -1,6 +1,7 @@
 pub mod Kept
 pub mod Laid
 pub mod Lists
+pub mod PairLaws
 pub mod PairPlaces
 pub mod Positions
 pub mod Powers

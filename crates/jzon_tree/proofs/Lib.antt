@@ -20,3 +20,6 @@ pub mod Views
 pub mod Means
 pub mod PutPairs
 pub mod Writings
+pub mod ValueLaws
+pub mod KeptByChanges
+pub mod KeptByConversions

@@ -7,6 +7,7 @@ use Rattle.std.proofs.lemmas.Bool.{false≢true}
 use Rattle.std.proofs.lemmas.Map.Keys.{IsDistinct-head, IsDistinct-tail, IsDistinct-cons}
 use Rattle.std.proofs.lemmas.Option.{none-some}
 use Rattle.std.proofs.lemmas.Slice.Eq.{bytes_eq-Decides}
+use Rattle.jzon_base.proofs.PairLaws.{find-cut_other}
 use Rattle.jzon_base.specs.PairList.{find, cut, keys_of}
 
 flip : (k l : List ℕ) → bytes_eq k l ≡ false → bytes_eq l k ≡ false
@@ -42,15 +43,8 @@ module _ {V : Type 0} where
   found_apart k l (p ∷ ps) apart h = found_apart-at k l p.0 (bytes_eq p.0 l) p.1 (find l ps) refl apart.0 (found_apart k l ps apart.1) h
 
   -- ---- a list without one of its keys
-  find-cut-at : (k l m : List ℕ) (b : Bool) (p : List ℕ × V) (ps : List (List ℕ × V)) → p.0 ≡ m → bytes_eq m k ≡ b → bytes_eq k l ≡ false → find l (cut k ps) ≡ find l ps → find l (cond b ps (p ∷ cut k ps)) ≡ find l (p ∷ ps)
-  find-cut-at k l m true p ps s e apart later =
-      let q : bytes_eq p.0 l ≡ false = rw (s, (bytes_eq-Decides m k).0 e) apart in
-      rw q refl
-  find-cut-at k l m false p ps s e apart later = ap (cond (bytes_eq p.0 l) (Some p.1)) later
-
   find-cut : (k l : List ℕ) (ps : List (List ℕ × V)) → bytes_eq k l ≡ false → find l (cut k ps) ≡ find l ps
-  find-cut k l [] apart = refl
-  find-cut k l (p ∷ ps) apart = find-cut-at k l p.0 (bytes_eq p.0 k) p ps refl refl apart (find-cut k l ps apart)
+  find-cut k l ps apart = find-cut_other l k ps (λ same. false≢true (sym apart ∙ (bytes_eq-Decides k l).1 (sym same)))
 
   length-cut-at : (b : Bool) (k : List ℕ) (p : List ℕ × V) (ps : List (List ℕ × V)) → (is_some (find k ps) ≡ true → suc (length (cut k ps)) ≡ length ps) → is_some (cond b (Some p.1) (find k ps)) ≡ true → suc (length (cond b ps (p ∷ cut k ps))) ≡ suc (length ps)
   length-cut-at true k p ps later h = refl

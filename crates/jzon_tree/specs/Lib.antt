@@ -9,6 +9,7 @@ pub mod StyleLaws
 pub mod Printing
 pub mod Generators
 pub mod Lawful
+pub mod Measure
 pub mod Entries
 pub mod IntoIter
 pub mod View

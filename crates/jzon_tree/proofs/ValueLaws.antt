@@ -1,0 +1,135 @@
+-- The laws of values: what each kind of `JsonValue` is seen as, what its items and pairs are, and what is found after a
+-- change.
+pub use Rattle.jzon_tree.proofs.Views.{view-Null, view-Boolean, view-Array, view-Object}
+pub use Rattle.jzon_tree.proofs.Views.{list_of_pairs-pairs_of, find-viewed, viewed-put, viewed-cut}
+pub use Rattle.jzon_tree.proofs.Seen.{list_of_values-values_of, items-Array, entries-Object, count-Array, count-Object}
+use Rattle.std.proofs.Common.{◌≡◌, ◌≢◌, ℕ, zero, suc, List, [], ◌∷◌, ◌++◌, map, remove, true}
+use Rattle.std.proofs.Common.{Some, None, option_map, unwrap_or}
+use Rattle.std.proofs.Common.{refl, sym, ap, ◌∙◌, subst, rules, string_bytes, String, Global}
+use Rattle.std.specs.Prelude.{AllPairs}
+use Rattle.jzon_base.specs.Decimal.{Decimal}
+use Rattle.jzon_base.specs.PairList.{find, put, cut, keys_of}
+use Rattle.jzon_base.proofs.PairLaws.{find-put_same, find-put_other, find-cut_same, find-cut_other}
+use Rattle.jzon_tree.specs.Changers.{with_item, without_item, with_entry, without_entry}
+use Rattle.jzon_tree.specs.Lent.{entries_in, items_in}
+use Rattle.jzon_tree.specs.Readers.{items, entries, is_array, is_object}
+use Rattle.jzon_tree.specs.Value.{Value, null, boolean, text, number, array, object, short, long, list_of_values}
+use Rattle.jzon_tree.specs.Value.{list_of_pairs}
+use Rattle.jzon_tree.specs.View.{view, viewed}
+use Rattle.jzon_tree.specs.declared.object.Object.{Object}
+use Rattle.jzon_tree.specs.declared.value.JsonValue.{JsonValue, out-JsonValue, roll-JsonValue, the_lemmas}
+use Rattle.jzon_tree.specs.declared.value.JsonValue.{Short, String as in_memory, Number}
+use Rattle.jzon_tree.specs.declared.value.JsonValue.TheOpen.{JsonValue-F}
+
+-- ---- each kind
+
+pub view-Short : (s : List ℕ) → view (Short s) ≡ text short s
+view-Short s = search (rules, the_lemmas)
+
+pub view-String : (s : String Global) → view (in_memory s) ≡ text long (string_bytes s)
+view-String s = search (rules, the_lemmas)
+
+pub view-Number : (n : Decimal) → view (Number n) ≡ number n
+view-Number n = search (rules, the_lemmas)
+
+-- ---- the pairs and the items of any value
+
+rolled_entries : (l : JsonValue-F JsonValue Object)
+    → entries (view (roll-JsonValue l)) ≡ viewed (entries_in (roll-JsonValue l))
+rolled_entries JsonValue-F.Null = search (rules, the_lemmas)
+rolled_entries (JsonValue-F.Short s) = search (rules, the_lemmas)
+rolled_entries (JsonValue-F.String s) = search (rules, the_lemmas)
+rolled_entries (JsonValue-F.Number n) = search (rules, the_lemmas)
+rolled_entries (JsonValue-F.Boolean b) = search (rules, the_lemmas)
+rolled_entries (JsonValue-F.Object o) = search (rules, the_lemmas, entries-Object)
+rolled_entries (JsonValue-F.Array vs) = search (rules, the_lemmas)
+
+pub entries-view : (v : JsonValue) → entries (view v) ≡ viewed (entries_in v)
+entries-view v =
+    let same : roll-JsonValue (out-JsonValue v) ≡ v = search (rules, the_lemmas) in
+    subst (λ w. entries (view w) ≡ viewed (entries_in w)) same (rolled_entries (out-JsonValue v))
+
+pub find-view : (k : List ℕ) (v : JsonValue) → find k (entries (view v)) ≡ option_map view (find k (entries_in v))
+find-view k v = ap (find k) (entries-view v) ∙ sym (find-viewed k (entries_in v))
+
+rolled_items : (l : JsonValue-F JsonValue Object)
+    → items (view (roll-JsonValue l)) ≡ map view (unwrap_or (items_in (roll-JsonValue l)) [])
+rolled_items JsonValue-F.Null = search (rules, the_lemmas)
+rolled_items (JsonValue-F.Short s) = search (rules, the_lemmas)
+rolled_items (JsonValue-F.String s) = search (rules, the_lemmas)
+rolled_items (JsonValue-F.Number n) = search (rules, the_lemmas)
+rolled_items (JsonValue-F.Boolean b) = search (rules, the_lemmas)
+rolled_items (JsonValue-F.Object o) = search (rules, the_lemmas)
+rolled_items (JsonValue-F.Array vs) = search (rules, the_lemmas, items-Array)
+
+pub items-view : (v : JsonValue) → items (view v) ≡ map view (unwrap_or (items_in v) [])
+items-view v =
+    let same : roll-JsonValue (out-JsonValue v) ≡ v = search (rules, the_lemmas) in
+    subst (λ w. items (view w) ≡ map view (unwrap_or (items_in w) [])) same (rolled_items (out-JsonValue v))
+
+-- ---- the pairs and the items after a change
+
+pub entries-with_entry : (k : List ℕ) (v w : Value) → is_object w ≡ true
+    → entries (with_entry k v w) ≡ put k v (entries w)
+entries-with_entry k v null h = absurd (cc)
+entries-with_entry k v (boolean b) h = absurd (cc)
+entries-with_entry k v (text j s) h = absurd (cc)
+entries-with_entry k v (number n) h = absurd (cc)
+entries-with_entry k v (array vs) h = absurd (cc)
+entries-with_entry k v (object ps) h = list_of_pairs-pairs_of (put k v (list_of_pairs ps))
+
+pub entries-without_entry : (k : List ℕ) (w : Value) → entries (without_entry k w) ≡ cut k (entries w)
+entries-without_entry k null = refl
+entries-without_entry k (boolean b) = refl
+entries-without_entry k (text j s) = refl
+entries-without_entry k (number n) = refl
+entries-without_entry k (array vs) = refl
+entries-without_entry k (object ps) = list_of_pairs-pairs_of (cut k (list_of_pairs ps))
+
+pub items-with_item : (v w : Value) → is_array w ≡ true → items (with_item v w) ≡ items w ++ v ∷ []
+items-with_item v null h = absurd (cc)
+items-with_item v (boolean b) h = absurd (cc)
+items-with_item v (text j s) h = absurd (cc)
+items-with_item v (number n) h = absurd (cc)
+items-with_item v (array vs) h = list_of_values-values_of (list_of_values vs ++ v ∷ [])
+items-with_item v (object ps) h = absurd (cc)
+
+nothing_removed : (i : ℕ) → ◌≡◌ {A = List Value} [] (remove [] i)
+nothing_removed zero = refl
+nothing_removed (suc i) = refl
+
+pub items-without_item : (i : ℕ) (w : Value) → items (without_item i w) ≡ remove (items w) i
+items-without_item i null = nothing_removed i
+items-without_item i (boolean b) = nothing_removed i
+items-without_item i (text j s) = nothing_removed i
+items-without_item i (number n) = nothing_removed i
+items-without_item i (array vs) = list_of_values-values_of (remove (list_of_values vs) i)
+items-without_item i (object ps) = nothing_removed i
+
+-- ---- what is found after a change
+
+pub find-with_entry_same : (k : List ℕ) (v w : Value) → is_object w ≡ true
+    → find k (entries (with_entry k v w)) ≡ Some v
+find-with_entry_same k v w h = ap (find k) (entries-with_entry k v w h) ∙ find-put_same k v (entries w)
+
+pub find-with_entry_other : (j k : List ℕ) (v w : Value) → j ≢ k
+    → find j (entries (with_entry k v w)) ≡ find j (entries w)
+find-with_entry_other j k v null apart = refl
+find-with_entry_other j k v (boolean b) apart = refl
+find-with_entry_other j k v (text l s) apart = refl
+find-with_entry_other j k v (number n) apart = refl
+find-with_entry_other j k v (array vs) apart = refl
+find-with_entry_other j k v (object ps) apart =
+    ap (find j) (entries-with_entry k v (object ps) refl) ∙ find-put_other j k v (list_of_pairs ps) apart
+
+pub find-without_entry_same : (k : List ℕ) (w : Value) → AllPairs (λ i j. i ≢ j) (keys_of (entries w))
+    → find k (entries (without_entry k w)) ≡ None
+find-without_entry_same k w distinct = ap (find k) (entries-without_entry k w) ∙ find-cut_same k (entries w) distinct
+
+pub find-without_entry_other : (j k : List ℕ) (w : Value) → j ≢ k
+    → find j (entries (without_entry k w)) ≡ find j (entries w)
+find-without_entry_other j k w apart = ap (find j) (entries-without_entry k w) ∙ find-cut_other j k (entries w) apart
+
+pub ruleset changed_parts = (entries-with_entry, entries-without_entry, items-with_item, items-without_item)
+pub ruleset found_after =
+    (find-with_entry_same, find-with_entry_other, find-without_entry_same, find-without_entry_other)

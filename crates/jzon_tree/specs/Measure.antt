@@ -1,0 +1,16 @@
+-- Sizes of values, for the measure of a function that calls itself on what is inside one.
+use Rattle.std.specs.Prelude.{ℕ, List}
+use denote.Param.Weighed.{most}
+use Rattle.jzon_base.specs.PairList.{values_of}
+use Rattle.jzon_tree.specs.declared.value.JsonValue.{JsonValue, size-JsonValue}
+
+-- a value is larger than each value inside it
+abbrev pub size : JsonValue → ℕ
+size v = size-JsonValue v
+
+-- the size of the largest of these values, and of the values of these pairs
+abbrev pub largest : List JsonValue → ℕ
+largest vs = most size-JsonValue vs
+
+abbrev pub largest_under : List (List ℕ × JsonValue) → ℕ
+largest_under ps = most size-JsonValue (values_of ps)
