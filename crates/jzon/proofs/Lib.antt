@@ -70,3 +70,10 @@ pub mod ReadsBack
 pub mod WritingRows
 pub mod UnmarkedCells
 pub mod MeaningHeld
+pub mod AnswerLaws
+-- the lower crates' laws, for callers (docs/CALLERS.md)
+pub use Rattle.jzon_base.proofs.PairLaws
+pub use Rattle.jzon_tree.proofs.ValueLaws
+pub use Rattle.jzon_tree.proofs.KeptByChanges
+pub use Rattle.jzon_tree.proofs.KeptByConversions
+pub use Rattle.jzon_tree.proofs.PlainWritings

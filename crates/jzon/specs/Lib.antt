@@ -10,8 +10,36 @@ pub mod Quote
 pub mod Machine
 pub mod Frames
 pub mod Answer
--- what the contracts of the crates above cite
+-- what the contracts of this crate cite, and those of what it shows
+pub use Rattle.jzon_base.specs.Decimal
+pub use Rattle.jzon_base.specs.DigitLimits
+pub use Rattle.jzon_base.specs.Digits
 pub use Rattle.jzon_base.specs.ErrorText
+pub use Rattle.jzon_base.specs.IterMut
+pub use Rattle.jzon_base.specs.Key
+pub use Rattle.jzon_base.specs.NumberText
+pub use Rattle.jzon_base.specs.PairList
 pub use Rattle.jzon_base.specs.Written
 pub use Rattle.jzon_base.specs.declared.error.Error
+pub use Rattle.jzon_tree.specs.Changers
+pub use Rattle.jzon_tree.specs.Entries
+pub use Rattle.jzon_tree.specs.Generator
+pub use Rattle.jzon_tree.specs.Generators
+pub use Rattle.jzon_tree.specs.IntoIter
+pub use Rattle.jzon_tree.specs.IntoJson
+pub use Rattle.jzon_tree.specs.Lawful
+pub use Rattle.jzon_tree.specs.Lent
+pub use Rattle.jzon_tree.specs.LentTypes
+pub use Rattle.jzon_tree.specs.Measure
+pub use Rattle.jzon_tree.specs.Place
+pub use Rattle.jzon_tree.specs.Readers
+pub use Rattle.jzon_tree.specs.Same
+pub use Rattle.jzon_tree.specs.SameLaws
+pub use Rattle.jzon_tree.specs.StyleLaws
+pub use Rattle.jzon_tree.specs.Styles
 pub use Rattle.jzon_tree.specs.Text
+pub use Rattle.jzon_tree.specs.Value
+pub use Rattle.jzon_tree.specs.View
+pub use Rattle.jzon_tree.specs.Writing
+pub use Rattle.jzon_tree.specs.declared.object.Object
+pub use Rattle.jzon_tree.specs.declared.value.JsonValue

@@ -23,3 +23,4 @@ pub mod Writings
 pub mod ValueLaws
 pub mod KeptByChanges
 pub mod KeptByConversions
+pub mod PlainWritings

@@ -1,0 +1,122 @@
+-- Laws about answers, for callers: what a result is that meets the clauses of `parse` or of `parse_as`, where it is
+-- known
+-- what the text is read as, or which error it has. They hold for every reading.
+use Rattle.std.proofs.Common.{◌≡◌, ◌⊎◌, inl, inr, ℕ, ◌≤◌, true, List, [], ◌∷◌, Result, Ok, Err, IsTrue, IfOk, IfErr}
+use Rattle.std.proofs.Common.{MatchResult, IsOkUnless, refl, sym, ap, ◌∙◌, subst, chars, zero, suc, ◌*◌, replicate}
+use Rattle.std.specs.Str.{bytes_eq}
+use Rattle.std.proofs.lemmas.Slice.Eq.{bytes_eq-Decides}
+use Rattle.jzon_base.specs.declared.error.Error.{Error}
+use Rattle.jzon_base.specs.declared.error.Error.TheVariants.{OutOfMemory}
+use Rattle.jzon_tree.specs.Lawful.{IsValue}
+use Rattle.jzon_tree.specs.Same.{same}
+use Rattle.jzon_tree.specs.Styles.{compact_style, pretty_style}
+use Rattle.jzon_tree.specs.Text.{compact, pretty, pretty_layout}
+use Rattle.jzon_tree.specs.Value.{Value, nest}
+use Rattle.jzon_tree.specs.View.{view}
+use Rattle.jzon_tree.specs.Writing.{Style, Writes, is_blank}
+use Rattle.jzon_tree.specs.declared.value.JsonValue.{JsonValue}
+use Rattle.jzon_tree.proofs.PlainWritings.{Writes-compact, Writes-pretty}
+use Rattle.jzon.specs.Answer.{IsMeaningOf, IsReadable, IsErrorUnlessMemory}
+use Rattle.jzon.specs.Fault.{Parses, IsErrorOf, error_at}
+use Rattle.jzon.specs.Grammar.{Document}
+use Rattle.jzon.specs.Laws.{AllowsStrictAlone, IsReadAs}
+use Rattle.jzon.specs.Meaning.{meaning}
+use Rattle.jzon.specs.Reading.{Reading}
+use Rattle.jzon.proofs.ReadsBack.{read_back}
+use Rattle.jzon.proofs.Redump.{redumped}
+use Rattle.jzon.proofs.SameTree.{same_tree}
+use Rattle.jzon.proofs.Verdict.{one_tree_or_one_fault}
+-- the answer to one concrete text, by computation: `Parses` from a tree, and `IsErrorOf` from an error
+pub use Rattle.jzon.proofs.Judged.{read_tree, refused_error}
+
+module _ (r : Reading) where
+  -- ---- a text that is read as some value
+
+  module _ (P : Value → Type 0) (bytes : List ℕ) where
+    -- each value that is answered is such a value
+    pub answer-value : (answer : Result JsonValue Error) → IsReadAs r bytes P
+        → IfOk answer (IsMeaningOf r (chars bytes))
+        → IfOk answer (λ v. P (view v))
+    answer-value (Ok v) read means =
+        let one = same_tree r (chars bytes) read.1 means.0 read.2.0 means.1.0 in
+        subst P (ap (λ d. meaning d.node) one ∙ sym means.2) read.3
+    answer-value (Err e) read means = tt
+
+    -- and the only error is `OutOfMemory`
+    pub answer-memory : (answer : Result JsonValue Error) → IsReadAs r bytes P
+        → IfErr answer (IsErrorUnlessMemory r (chars bytes)) → IsOkUnless answer OutOfMemory
+    answer-memory (Ok v) read tells = tt
+    answer-memory (Err e) read (inl memory) = memory
+    answer-memory (Err e) read (inr (i, f, first, told)) =
+        elim (one_tree_or_one_fault r (chars bytes)) [
+          | inl tree ↦ absurd (tree.3 i f first.0)
+          | inr fault ↦ absurd (fault.0 read.1 read.2)
+        ]
+
+  -- ---- a text with an error
+
+  -- it has no tree within the limits
+  pub error-no_tree : (t : List ℕ) (e : Error) (d : Document) → IsErrorOf r t e → Parses r t d → ⊥
+  error-no_tree t e d (i, f, first, told) parses =
+      elim (one_tree_or_one_fault r t) [ inl tree ↦ tree.3 i f first.0 | inr fault ↦ fault.0 d parses ]
+
+  -- and this error alone
+  pub error-one : (t : List ℕ) (e f : Error) → IsErrorOf r t e → IsErrorOf r t f → f ≡ e
+  error-one t e f (i, x, first, told) (j, y, other, also) =
+      elim (one_tree_or_one_fault r t) [
+        | inl tree ↦ absurd (tree.3 i x first.0)
+        | inr fault ↦
+            let one = fault.1.3 i x first in
+            let two = fault.1.3 j y other in
+            also ∙ ap (λ n. error_at t n y) (two.0 ∙ sym one.0) ∙ ap (λ g. error_at t i g)
+                (two.1 ∙ sym one.1) ∙ sym told
+      ]
+
+  -- so it is what is answered, but where memory is refused
+  pub answer-error : (t : List ℕ) (e : Error) (answer : Result JsonValue Error) → IsErrorOf r t e
+      → IfOk answer (IsMeaningOf r t) → IfErr answer (IsErrorUnlessMemory r t)
+      → MatchResult answer (λ v. ⊥) (λ f. (f ≡ OutOfMemory) ⊎ (f ≡ e))
+  answer-error t e (Ok v) is means tells = error-no_tree t e means.0 is means.1
+  answer-error t e (Err f) is means (inl memory) = inl memory
+  answer-error t e (Err f) is means (inr other) = inr (error-one t e f is other)
+
+  -- ---- a text that was printed
+
+  -- any writing of a value, in any style; a strict reading asks for a style of strict blanks alone
+  pub reads-writing : (s : Style) (dent : ℕ) (v : Value) (b : List ℕ) → (IsTrue r.strict → AllowsStrictAlone s)
+      → IsReadable r v → Writes s dent v b → IsReadAs r b (λ w. IsTrue (same w v))
+  reads-writing s dent v b strict readable = read_back r s dent v b strict readable.0 readable.1 readable.2
+
+  same_list : (xs ys : List ℕ) → IsTrue (bytes_eq xs ys) → xs ≡ ys
+  same_list xs ys e = (bytes_eq-Decides xs ys).0 e
+
+  strict_compact : AllowsStrictAlone compact_style
+  strict_compact dent w allowed = subst (λ (b : List ℕ). IsTrue (is_blank true b)) (sym (same_list w [] allowed.1)) refl
+
+  strict_blanks : (n : ℕ) → is_blank true (replicate n 32) ≡ true
+  strict_blanks zero = refl
+  strict_blanks (suc n) = strict_blanks n
+
+  strict_pretty : (spaces : ℕ) → AllowsStrictAlone (pretty_style spaces)
+  strict_pretty spaces dent w allowed =
+      subst (λ (b : List ℕ). IsTrue (is_blank true b)) (sym (same_list w ((pretty_layout spaces).line dent) allowed.1))
+      (strict_blanks (dent * spaces))
+
+  -- the compact text, and the text with a line for each item, are read as an equal value
+  pub reads-compact : (v : Value) (b : List ℕ) → IsReadable r v → b ≡ compact v → IsReadAs r b (λ w. IsTrue (same w v))
+  reads-compact v b readable is =
+      subst (λ (x : List ℕ). IsReadAs r x (λ w. IsTrue (same w v))) (sym is)
+      (reads-writing compact_style 0 v (compact v) (λ strict. strict_compact) readable (Writes-compact v readable.0))
+
+  pub reads-pretty : (spaces : ℕ) (v : Value) (b : List ℕ) → IsReadable r v → b ≡ pretty v spaces 0
+      → IsReadAs r b (λ w. IsTrue (same w v))
+  reads-pretty spaces v b readable is =
+      subst (λ (x : List ℕ). IsReadAs r x (λ w. IsTrue (same w v))) (sym is)
+      (reads-writing (pretty_style spaces) 0 v (pretty v spaces 0) (λ strict. strict_pretty spaces) readable
+      (Writes-pretty spaces v readable.0))
+
+  -- the compact text of any value, NaN or not, is read as a value with the same compact text
+  pub reads-redump : (v : Value) (b : List ℕ) → IsValue v → nest v ≤ r.depth → b ≡ compact v
+      → IsReadAs r b (λ w. compact w ≡ compact v)
+  reads-redump v b held room is =
+      subst (λ (x : List ℕ). IsReadAs r x (λ w. compact w ≡ compact v)) (sym is) (redumped r v held room)
