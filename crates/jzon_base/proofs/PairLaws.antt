@@ -2,15 +2,18 @@
 -- and what holds of each pair.
 use Rattle.std.proofs.Common.{◌≡◌, ◌≢◌, ℕ, List, [], ◌∷◌, Bool, true, false, cond, Option, Some, None, refl, sym, ap}
 use Rattle.std.proofs.Common.{subst, ◌∙◌}
+use Rattle.std.specs.Option.{option_or}
 use Rattle.std.specs.Prelude.{AllPairs}
 use Rattle.std.specs.Cmp.Lexicographic.{nat_list_eq_equiv}
 use Rattle.std.specs.List.{fold, AllByRecursion, IsDistinct}
 use Rattle.std.specs.Str.{bytes_eq}
 use Rattle.std.proofs.lemmas.Map.Keys.{IsDistinct-head, IsDistinct-tail}
 use Rattle.std.proofs.lemmas.Map.Made.{IsDistinct-from_AllPairs, AllPairs-from_IsDistinct}
+use Rattle.std.proofs.lemmas.Bool.{false≢true}
 use Rattle.std.proofs.lemmas.Option.{none-some, same_Some}
 use Rattle.std.proofs.lemmas.Slice.Eq.{bytes_eq-Decides}
 use Rattle.jzon_base.specs.PairList.{find, put, put_each, cut, keys_of}
+use Rattle.jzon_base.proofs.PutEach.{IsDistinct-put, IsDistinct-put_each}
 
 equal : (k : List ℕ) → bytes_eq k k ≡ true
 equal k = (bytes_eq-Decides k k).1 refl
@@ -82,6 +85,31 @@ module _ {V : Type 0} where
   find-cut_other j k (p ∷ ps) apart =
       find-cut_other-by (bytes_eq p.0 k) j k p ps apart refl (find-cut_other j k ps apart)
 
+  -- ---- pairs that are put one after the other onto others: what is found is the last of all, the other's first
+
+  option_or-put : (b : Bool) (k : List ℕ) (p : List ℕ × V) (qs ps : List (List ℕ × V)) → bytes_eq p.0 k ≡ b
+      → AllByRecursion (λ j. bytes_eq p.0 j ≡ false) (keys_of ps)
+      → option_or (find k ps) (find k (put p.0 p.1 qs)) ≡ option_or (cond b (Some p.1) (find k ps)) (find k qs)
+  option_or-put true k p qs ps e apart =
+      let same : p.0 ≡ k = (bytes_eq-Decides p.0 k).0 e in
+      let none = subst (λ (j : List ℕ). find j ps ≡ None) same (find-apart p.0 ps apart) in
+      let some = subst (λ (j : List ℕ). find j (put p.0 p.1 qs) ≡ Some p.1) same (find-put_same p.0 p.1 qs) in
+      rw (none, some) refl
+  option_or-put false k p qs ps e apart =
+      ap (λ (found : Option V). option_or (find k ps) found)
+      (find-put_other k p.0 p.1 qs (λ same. false≢true (sym e ∙ (bytes_eq-Decides p.0 k).1 (sym same))))
+
+  found_onto : (k : List ℕ) (qs ps : List (List ℕ × V)) → IsDistinct bytes_eq (keys_of ps)
+      → find k (fold (λ xs p. put p.0 p.1 xs) qs ps) ≡ option_or (find k ps) (find k qs)
+  found_onto k qs [] distinct = refl
+  found_onto k qs (p ∷ ps) distinct =
+      found_onto k (put p.0 p.1 qs) ps (IsDistinct-tail bytes_eq p.0 (keys_of ps) distinct)
+      ∙ option_or-put (bytes_eq p.0 k) k p qs ps refl (IsDistinct-head bytes_eq p.0 (keys_of ps) distinct)
+
+  pub find-put_onto : (k : List ℕ) (qs ps : List (List ℕ × V)) → AllPairs (λ i j. i ≢ j) (keys_of ps)
+      → find k (fold (λ xs p. put p.0 p.1 xs) qs ps) ≡ option_or (find k ps) (find k qs)
+  find-put_onto k qs ps distinct = found_onto k qs ps (IsDistinct-from_AllPairs bytes_eq-Decides (keys_of ps) distinct)
+
   -- ---- what holds of each pair
 
   All-put-by : (P : List ℕ × V → Type 0) (b : Bool) (k : List ℕ) (v : V) (p : List ℕ × V) (ps : List (List ℕ × V))
@@ -136,38 +164,9 @@ module _ {V : Type 0} where
   abbrev IsApart : List ℕ → List (List ℕ × V) → Type 0
   IsApart l ps = AllByRecursion (λ y. bytes_eq l y ≡ false) (keys_of ps)
 
-  apart_put : (l k : List ℕ) (v : V) (ps : List (List ℕ × V)) → bytes_eq l k ≡ false → IsApart l ps
-      → IsApart l (put k v ps)
-  apart_put l k v ps e all = keys_all (λ y. bytes_eq l y ≡ false) (put k v ps)
-      (All-put (λ p. bytes_eq l p.0 ≡ false) k v ps e (all_keys (λ y. bytes_eq l y ≡ false) ps all))
-
   apart_cut : (l k : List ℕ) (ps : List (List ℕ × V)) → IsApart l ps → IsApart l (cut k ps)
   apart_cut l k ps all = keys_all (λ y. bytes_eq l y ≡ false) (cut k ps)
       (All-cut (λ p. bytes_eq l p.0 ≡ false) k ps (all_keys (λ y. bytes_eq l y ≡ false) ps all))
-
-  IsDistinct-put-by : (b : Bool) (k : List ℕ) (v : V) (p : List ℕ × V) (ps : List (List ℕ × V)) → bytes_eq p.0 k ≡ b
-      → IsDistinct bytes_eq (keys_of (p ∷ ps)) → IsDistinct bytes_eq (keys_of (put k v ps))
-      → IsDistinct bytes_eq (keys_of (cond b ((p.0, v) ∷ ps) (p ∷ put k v ps)))
-  unfolding IsDistinct
-  IsDistinct-put-by true k v p ps e d rest = d
-  IsDistinct-put-by false k v p ps e d rest = (apart_put p.0 k v ps e d.0, rest)
-
-  pub IsDistinct-put : (k : List ℕ) (v : V) (ps : List (List ℕ × V))
-      → IsDistinct bytes_eq (keys_of ps) → IsDistinct bytes_eq (keys_of (put k v ps))
-  unfolding IsDistinct
-  IsDistinct-put k v [] d = (tt, tt)
-  IsDistinct-put k v (p ∷ ps) d =
-      IsDistinct-put-by (bytes_eq p.0 k) k v p ps refl d
-          (IsDistinct-put k v ps (IsDistinct-tail bytes_eq p.0 (keys_of ps) d))
-
-  IsDistinct-put_onto : (qs ps : List (List ℕ × V)) → IsDistinct bytes_eq (keys_of qs)
-      → IsDistinct bytes_eq (keys_of (fold (λ xs p. put p.0 p.1 xs) qs ps))
-  IsDistinct-put_onto qs [] d = d
-  IsDistinct-put_onto qs (p ∷ ps) d = IsDistinct-put_onto (put p.0 p.1 qs) ps (IsDistinct-put p.0 p.1 qs d)
-
-  pub IsDistinct-put_each : (ps : List (List ℕ × V)) → IsDistinct bytes_eq (keys_of (put_each ps))
-  unfolding IsDistinct
-  IsDistinct-put_each ps = IsDistinct-put_onto [] ps tt
 
   IsDistinct-cut-by : (b : Bool) (k : List ℕ) (p : List ℕ × V) (ps : List (List ℕ × V))
       → IsDistinct bytes_eq (keys_of (p ∷ ps)) → IsDistinct bytes_eq (keys_of (cut k ps))

@@ -47,7 +47,7 @@ module _ {V : Type 0} where
   IsDistinct-put_by true k v p ps e d rest = d
   IsDistinct-put_by false k v p ps e d rest = (apart_put p.0 k v ps e d.0, rest)
 
-  IsDistinct-put : (k : List ℕ) (v : V) (ps : List (List ℕ × V)) → IsDistinct bytes_eq (keys_of ps) → IsDistinct bytes_eq (keys_of (put k v ps))
+  pub IsDistinct-put : (k : List ℕ) (v : V) (ps : List (List ℕ × V)) → IsDistinct bytes_eq (keys_of ps) → IsDistinct bytes_eq (keys_of (put k v ps))
   unfolding IsDistinct
   IsDistinct-put k v [] d = (tt, tt)
   IsDistinct-put k v (p ∷ ps) d = IsDistinct-put_by (bytes_eq p.0 k) k v p ps refl d (IsDistinct-put k v ps (IsDistinct-tail bytes_eq p.0 (keys_of ps) d))
