@@ -2,7 +2,6 @@
 ghost use Rattle.std.specs.Prelude.{◌≡◌, ◌<◌, ◌++◌, ◌∷◌, ◌==◌, [], length, remove, slice_get, IfOk, OnOk, OnErr, MatchOption, None, Some};
 ghost use Rattle.std.specs.List.{position, zip, IsDistinct};
 ghost use Rattle.std.specs.Str.{bytes_eq};
-ghost use Rattle.jzon_base.specs.Keys.{IsIndex};
 ghost use Rattle.jzon_base.specs.PairList.{put_each};
 
 mod hash;
@@ -10,32 +9,31 @@ mod index;
 mod into_iter;
 mod iter;
 mod repeats;
+mod table;
 
 use crate::key::Key;
-use hash::hash_of;
 pub use into_iter::IntoIter;
 pub use iter::Iter;
 use std::alloc::{AllocError, Global};
 use std::marker::Model;
+use table::Table;
 
 /// Distinct keys in the order in which they were put. A clause sees the list of their bytes.
 ///
-/// The place of a key is found by its hash; how it is found is this type's own matter.
+/// They lie in a box, and there is none where no key was put. How the place of a key is found is this type's own matter.
 #[derive(Drop)]
 pub struct Keys {
-    keys: Vec<Key>,
-    index: Vec<(u64, usize)>,
+    alloc: Global,
+    table: Option<Box<Table>>,
 }
 
 impl Model for Keys {
     ghost use Rattle.std.specs.Prelude.{List, ℕ};
-    ghost use Rattle.jzon_base.specs.Keys.{AreKeys};
+    ghost use Rattle.jzon_base.specs.Keys.{keys_in};
 
     ghost Value = { List (List ℕ) };
 
-    ghost view = { λ k. k.keys.items };
-
-    ghost invariant = { λ k. AreKeys k.keys.items k.index.items };
+    ghost view = { λ k. keys_in k.table };
 }
 
 impl Keys {
@@ -43,40 +41,27 @@ impl Keys {
     pub fn new(alloc: Global) -> Keys
         ensures { result ≡ [] }
     {
-        Keys {
-            keys: Vec::new(alloc),
-            index: Vec::new(alloc),
-        }
+        Keys { alloc, table: None }
+    }
+
+    /// The keys of a table. The error is a refused growth.
+    fn boxed(alloc: Global, table: Table) -> Result<Keys, AllocError>
+        ensures { IfOk result (λ k. k ≡ table) }
+    {
+        Ok(Keys {
+            alloc,
+            table: Some(Box::new(alloc, table)?),
+        })
     }
 
     /// No key, with room for `capacity` of them. The error is a refused growth.
     pub fn with_capacity(alloc: Global, capacity: usize) -> Result<Keys, AllocError>
         ensures { IfOk result (λ k. k ≡ []) }
     {
-        Ok(Keys {
-            keys: Vec::with_capacity(alloc, capacity)?,
-            index: Vec::with_capacity(alloc, capacity)?,
-        })
-    }
-
-    /// The keys of entries of which some may repeat, and their index: the entries of equal keys become one, with the last value in the place of the first. The error
-    /// is a refused growth.
-    fn from_repeats<V: Drop>(
-        alloc: Global,
-        mut keys: Vec<Key>,
-        values: &mut Vec<V>,
-        mut index: Vec<(u64, usize)>,
-    ) -> Result<Keys, AllocError>
-        requires even { length values.old.items ≡ length keys.items }
-        requires index { IsIndex keys.items index.items }
-        ensures even { IfOk result (λ k. length values.new.items ≡ length k) }
-        ensures merged { IfOk result (λ k. zip k values.new.items ≡ put_each (zip keys.items values.old.items)) }
-    {
-        let firsts = repeats::firsts(alloc, keys.as_slice(), index.as_mut_slice())?;
-        drop(index);
-        repeats::merge(&mut keys, values, firsts);
-        let index = index::of(alloc, keys.as_slice())?;
-        Ok(Keys { keys, index })
+        if capacity == 0 {
+            return Ok(Keys::new(alloc));
+        }
+        Keys::boxed(alloc, Table::with_capacity(alloc, capacity)?)
     }
 
     /// The keys of entries: those of equal keys become one, with the last value in the place of the first. Where no key repeats, the keys are taken over as they are.
@@ -90,11 +75,11 @@ impl Keys {
         ensures even { IfOk result (λ k. length values.new.items ≡ length k) }
         ensures merged { IfOk result (λ k. zip k values.new.items ≡ put_each (zip keys.items values.old.items)) }
     {
-        let index = index::of(alloc, keys.as_slice())?;
-        if index::has_tie(index.as_slice()) {
-            return Keys::from_repeats(alloc, keys, values, index);
+        if keys.is_empty() {
+            return Ok(Keys::new(alloc));
         }
-        Ok(Keys { keys, index })
+        let table = Table::from_entries(alloc, keys, values)?;
+        Keys::boxed(alloc, table)
     }
 
     /// How many keys there are.
@@ -102,26 +87,27 @@ impl Keys {
         ensures len { result ≡ length self.now }
         ensures distinct { IsDistinct bytes_eq self.now }
     {
-        self.keys.len()
+        match &self.table {
+            Some(table) => table.len(),
+            None => 0,
+        }
     }
 
     /// Whether there is no key.
     pub fn is_empty(&self) -> bool
         ensures { result ≡ (length self.now == 0) }
     {
-        self.keys.len() == 0
+        self.len() == 0
     }
 
     /// The place of a key.
     pub fn position(&self, name: &str) -> Option<usize>
         ensures { result ≡ position (λ k. bytes_eq k name.now) self.now }
     {
-        index::find(
-            self.keys.as_slice(),
-            self.index.as_slice(),
-            hash_of(name),
-            name,
-        )
+        match &self.table {
+            Some(table) => table.position(name),
+            None => None,
+        }
     }
 
     /// The key at a place.
@@ -129,7 +115,10 @@ impl Keys {
         requires { index < length self.now }
         ensures { slice_get self.now index ≡ Some result.now }
     {
-        self.keys[index].as_str()
+        match &self.table {
+            Some(table) => table.get(index),
+            None => unreachable!(),
+        }
     }
 
     /// Puts a key that is not there, last. The error is a refused growth.
@@ -150,21 +139,13 @@ impl Keys {
             (self.new ≡ self.old ++ key ∷ []) (λ _. self.new ≡ self.old)) }
         ensures err { OnErr result (self.new ≡ self.old) }
     {
-        let hash = hash_of(key.as_str());
-        let found = index::find(
-            self.keys.as_slice(),
-            self.index.as_slice(),
-            hash,
-            key.as_str(),
-        );
-        if found.is_some() {
-            return Ok(found);
+        if let Some(table) = &mut self.table {
+            return table.place(key);
         }
-        let last = self.keys.len();
-        self.keys.reserve(1)?;
-        index::add(&mut self.index, hash, last)?;
-        self.keys.push_reserved(key);
-        Ok(None)
+        let mut table = Table::new(self.alloc);
+        let place = table.place(key)?;
+        self.table = Some(Box::new(self.alloc, table)?);
+        Ok(place)
     }
 
     /// Removes the key at a place. The others keep their order. Takes no memory.
@@ -172,35 +153,39 @@ impl Keys {
         requires { index < length self.old }
         ensures { self.new ≡ remove self.old index }
     {
-        drop(self.keys.remove(index));
-        index::cut(&mut self.index, index);
+        match &mut self.table {
+            Some(table) => table.remove(index),
+            None => unreachable!(),
+        }
     }
 
     /// Removes all keys.
     pub fn clear(&mut self)
         ensures { self.new ≡ [] }
     {
-        self.keys.clear();
-        self.index.clear();
+        if let Some(table) = &mut self.table {
+            table.clear();
+        }
     }
 
     /// A copy. Its error is a refused growth.
     pub fn clone(&self, alloc: Global) -> Result<Keys, AllocError>
         ensures { IfOk result (λ k. k ≡ self.now) }
     {
-        let mut keys = Vec::with_capacity(alloc, self.keys.len())?;
-        for key in &self.keys {
-            keys.push(Key::new(alloc, key.as_str())?)?;
+        match &self.table {
+            Some(table) => Keys::boxed(alloc, table.as_ref().clone(alloc)?),
+            None => Ok(Keys::new(alloc)),
         }
-        let index = Vec::from_slice(alloc, self.index.as_slice())?;
-        Ok(Keys { keys, index })
     }
 
     /// The keys in their order, each by its text.
     pub fn iter(&self) -> Iter<'_>
         ensures { result ≡ self.now }
     {
-        Iter::new(self.keys.as_slice())
+        if let Some(table) = &self.table {
+            return table.iter();
+        }
+        Iter::empty()
     }
 }
 
@@ -242,12 +227,16 @@ impl IntoIterator for Keys {
     ghost into_iter_gives = { λ k it. it ≡ k };
 
     fn into_iter(self) -> IntoIter {
-        IntoIter::new(self.keys)
+        match self.table {
+            Some(table) => Box::into_inner(table).into_iter(),
+            None => Table::new(self.alloc).into_iter(),
+        }
     }
 }
 
 #[cfg(test)]
 mod tests {
+    use super::hash::hash_of;
     use super::*;
 
     /// The keys of these names, each put once.

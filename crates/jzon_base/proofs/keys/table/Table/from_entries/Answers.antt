@@ -1,7 +1,7 @@
 use Rattle.std.proofs.Common.{sym}
 use Rattle.jzon_base.proofs.Indexes.{distinct-apart}
 use Rattle.jzon_base.proofs.PutEach.{put_each-zip}
-use Rattle.jzon_base.proofs.keys.Keys.from_entries.Goals as goal
+use Rattle.jzon_base.proofs.keys.table.Table.from_entries.Goals as goal
 
 pub invariant_of-result : goal.invariant_of-result
 invariant_of-result g c =

@@ -1,6 +1,6 @@
 use Rattle.std.specs.List.{zip}
 use Rattle.jzon_base.proofs.PutEach.{IsDistinct-merged}
-use Rattle.jzon_base.proofs.keys.Keys.from_repeats.Goals as goal
+use Rattle.jzon_base.proofs.keys.table.Table.from_repeats.Goals as goal
 
 pub invariant_of-result : goal.invariant_of-result
 invariant_of-result g c =
