@@ -19,3 +19,4 @@ pub mod Repeats
 pub mod Merged
 pub mod PutEach
 pub mod KnownKeys
+pub mod Runs

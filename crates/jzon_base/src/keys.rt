@@ -1,5 +1,5 @@
 //! The keys of an object in the order in which they were put, and the place of each.
-ghost use Rattle.std.specs.Prelude.{◌≡◌, ◌<◌, ◌++◌, ◌∷◌, ◌==◌, [], length, remove, slice_get, IfOk, OnOk, OnErr, MatchOption, None, Some};
+ghost use Rattle.std.specs.Prelude.{◌≡◌, ◌<◌, ◌++◌, ◌∷◌, ◌==◌, [], length, remove, slice_get, IfOk, OnOk, OnErr, MatchOption, None, Some, false};
 ghost use Rattle.std.specs.List.{position, zip, IsDistinct};
 ghost use Rattle.std.specs.Str.{bytes_eq};
 ghost use Rattle.jzon_base.specs.PairList.{put_each};
@@ -8,12 +8,14 @@ mod hash;
 mod index;
 mod into_iter;
 mod iter;
+mod known;
 mod repeats;
 mod table;
 
 use crate::key::Key;
 pub use into_iter::IntoIter;
 pub use iter::Iter;
+pub(crate) use known::Known;
 use std::alloc::{AllocError, Global};
 use std::marker::Model;
 use table::Table;
@@ -189,22 +191,26 @@ impl Keys {
     }
 }
 
-/// Makes the entries of equal keys one, with the last value in the place of the first. The error is a refused growth, and then nothing has changed.
+/// Makes the entries of equal keys one, with the last value in the place of the first, and tells whether there were any. The error is a refused growth, and then
+/// nothing has changed.
 pub fn merge<V: Drop>(
     alloc: Global,
     keys: &mut Vec<Key>,
     values: &mut Vec<V>,
-) -> Result<(), AllocError>
+) -> Result<bool, AllocError>
     requires { length values.old.items ≡ length keys.old.items }
     ensures even { length values.new.items ≡ length keys.new.items }
     ensures same { put_each (zip keys.new.items values.new.items) ≡ put_each (zip keys.old.items values.old.items) }
+    ensures kept { IfOk result (λ merged. merged ≡ false → keys.new.items ≡ keys.old.items) }
+    ensures err { OnErr result (keys.new.items ≡ keys.old.items) }
 {
     let mut index = index::of(alloc, keys.as_slice())?;
-    if index::has_tie(index.as_slice()) {
-        let firsts = repeats::firsts(alloc, keys.as_slice(), index.as_mut_slice())?;
-        repeats::merge(keys, values, firsts);
+    if !index::has_tie(index.as_slice()) {
+        return Ok(false);
     }
-    Ok(())
+    let firsts = repeats::firsts(alloc, keys.as_slice(), index.as_mut_slice())?;
+    repeats::merge(keys, values, firsts);
+    Ok(true)
 }
 
 impl<'a> IntoIterator for &'a Keys {

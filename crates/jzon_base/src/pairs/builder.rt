@@ -1,30 +1,16 @@
 //! Pairs that are put one after the other, and merged now and then.
 ghost use Rattle.std.specs.Prelude.{◌≡◌, [], IfOk, OnOk, OnErr};
-ghost use Rattle.std.specs.List.{list_any};
 ghost use Rattle.std.specs.Option.{is_some};
-ghost use Rattle.std.specs.Str.{bytes_eq};
 ghost use Rattle.jzon_base.specs.PairList.{find, put};
 
 use super::Pairs;
 use crate::key::Key;
-use crate::keys::{self, Keys};
+use crate::keys::{self, Keys, Known};
 use std::alloc::{AllocError, Global};
 use std::marker::Model;
 
 /// How many entries there may be before they are merged for the first time.
 const FIRST_LIMIT: usize = 64;
-
-/// Whether a key is of this name.
-fn has_name(keys: &[Key], name: &str) -> bool
-    ensures { result ≡ list_any (λ k. bytes_eq k name.now) keys.now }
-{
-    for key in keys {
-        if key.as_str() == name {
-            return true;
-        }
-    }
-    false
-}
 
 /// Entries that are put one after the other, of which some may repeat a key. A clause sees the list of pairs that they make.
 ///
@@ -33,12 +19,14 @@ fn has_name(keys: &[Key], name: &str) -> bool
 pub struct Builder<V> {
     keys: Vec<Key>,
     values: Vec<V>,
+    known: Known,
     limit: usize,
 }
 
 impl<V> Model for Builder<V> {
-    ghost use Rattle.std.specs.Prelude.{◌≡◌, List, ℕ, length};
+    ghost use Rattle.std.specs.Prelude.{List, ℕ};
     ghost use Rattle.std.specs.List.{zip};
+    ghost use Rattle.jzon_base.specs.Keys.{IsBuilt};
     ghost use Rattle.std.specs.Coded.{coded_ℕ, coded_list, coded×};
     ghost use Rattle.jzon_base.specs.PairList.{put_each};
 
@@ -48,7 +36,7 @@ impl<V> Model for Builder<V> {
 
     ghost view = { λ b. put_each (zip b.keys.items b.values.items) };
 
-    ghost invariant = { λ b. length b.values.items ≡ length b.keys.items };
+    ghost invariant = { λ b. IsBuilt b.keys.items b.values.items b.known.runs.items b.known.count };
 }
 
 impl<V: Drop> Builder<V> {
@@ -59,6 +47,7 @@ impl<V: Drop> Builder<V> {
         Builder {
             keys: Vec::new(alloc),
             values: Vec::new(alloc),
+            known: Known::new(alloc),
             limit: FIRST_LIMIT,
         }
     }
@@ -67,7 +56,9 @@ impl<V: Drop> Builder<V> {
     fn merge(&mut self, alloc: Global) -> Result<(), AllocError>
         ensures { self.new ≡ self.old }
     {
-        keys::merge(alloc, &mut self.keys, &mut self.values)?;
+        if keys::merge(alloc, &mut self.keys, &mut self.values)? {
+            self.known.clear();
+        }
         self.limit = self.keys.len().saturating_mul(2).max(FIRST_LIMIT);
         Ok(())
     }
@@ -87,12 +78,12 @@ impl<V: Drop> Builder<V> {
         Ok(())
     }
 
-    /// Whether an entry has this key. The error is a refused growth.
-    pub fn has_key(&mut self, _alloc: Global, key: &str) -> Result<bool, AllocError>
+    /// Whether an entry has this key. Calls before each of n entries take a time of n log n in all, whatever the keys are. The error is a refused growth.
+    pub fn has_key(&mut self, alloc: Global, key: &str) -> Result<bool, AllocError>
         ensures same { self.new ≡ self.old }
         ensures known { IfOk result (λ known. known ≡ is_some (find key.now self.old)) }
     {
-        Ok(has_name(self.keys.as_slice(), key))
+        self.known.has(alloc, self.keys.as_slice(), key)
     }
 
     /// The pairs. The error is a refused growth.

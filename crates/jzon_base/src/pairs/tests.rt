@@ -220,3 +220,26 @@ fn builds_pairs_of_few_keys(rt: HostRuntime) -> Result<(), AllocError> {
     assert_eq!(rt; shown(rt.alloc(), &pairs)?.as_str(), "c999 a999 b999 ");
     Ok(())
 }
+
+#[test]
+fn knows_the_keys_so_far(rt: HostRuntime) -> Result<(), AllocError> {
+    let mut built = Builder::new(rt.alloc());
+    for name in [ONE, OTHER, "", "a"] {
+        assert!(rt; !built.has_key(rt.alloc(), name)?, "of {name}");
+        built.push(rt.alloc(), Key::new(rt.alloc(), name)?, 0)?;
+        assert!(rt; built.has_key(rt.alloc(), name)?, "of {name}");
+    }
+    for number in 0..1000u32 {
+        let name = format!(in rt.alloc(); "k{number}")?;
+        assert!(rt; !built.has_key(rt.alloc(), name.as_str())?, "of k{number}");
+        built.push(rt.alloc(), Key::new(rt.alloc(), name.as_str())?, number)?;
+    }
+    for number in 0..1000u32 {
+        let name = format!(in rt.alloc(); "k{number}")?;
+        assert!(rt; built.has_key(rt.alloc(), name.as_str())?, "of k{number}");
+    }
+    assert!(rt; built.has_key(rt.alloc(), ONE)? && built.has_key(rt.alloc(), OTHER)?);
+    assert!(rt; !built.has_key(rt.alloc(), "k1000")?);
+    assert_eq!(rt; built.finish(rt.alloc())?.len(), 1004);
+    Ok(())
+}
