@@ -7,6 +7,7 @@ ghost use Rattle.jzon_base.specs.Written.{AppendsBeginning};
 use std::io;
 use std::io::Write;
 
+pub mod hex;
 pub mod plain;
 pub mod print_dec;
 
