@@ -16,6 +16,7 @@ ghost use Rattle.jzon.specs.Machine.{Role, string, between, slash, code, second,
 use crate::place::{fault_at, has_byte};
 use jzon_base::error::{Error, Result};
 use jzon_base::short::{MAX_LEN, Short};
+use jzon_base::util::hex::hex_value;
 use jzon_base::util::plain::plain_len;
 use jzon_tree::value::JsonValue;
 use std::alloc::Global;
@@ -249,7 +250,7 @@ fn hex_digit(source: &str, index: usize) -> Option<u32>
         (digit_value (slice_index source.now index)) }
 {
     let byte = source.as_bytes().get(index)?;
-    char::from(*byte).to_digit(16)
+    hex_value(*byte)
 }
 
 #[cfg(test)]
