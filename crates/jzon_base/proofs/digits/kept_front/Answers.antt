@@ -1,9 +1,9 @@
-use Rattle.std.proofs.Common.{◌≡◌, ◌≤◌, ◌∙◌, ◌++◌, ap, sym, length, length-append, arith}
+use Rattle.std.proofs.Common.{◌≡◌, ◌≤◌, ◌∙◌, ◌++◌, length, length-append, arith}
 use Rattle.std.proofs.Math.Nat.{mod-eq_of_lt}
 use Rattle.std.proofs.lemmas.List.{take_all}
 use Rattle.std.specs.List.{All}
 use Rattle.std.proofs.lemmas.List.Elements.{All-append}
-use Rattle.jzon_base.specs.Digits.{IsDigit, digits_number, kept_len}
+use Rattle.jzon_base.specs.Digits.{IsDigit, kept_len}
 use Rattle.jzon_base.proofs.Kept.{few_fit, few_kept}
 use Rattle.jzon_base.proofs.digits.kept_front.Goals as goal
 

@@ -1,5 +1,4 @@
-use Rattle.std.proofs.Common.{◌≡◌, ◌∙◌, ◌++◌, ◌%◌, ◌^◌, ap, refl, sym}
-use Rattle.std.specs.List.{fold}
+use Rattle.std.proofs.Common.{◌∙◌, ◌%◌, ◌^◌, ap, refl, sym}
 use Rattle.std.proofs.lemmas.List.Sums.{fold-append}
 use Rattle.jzon_base.specs.Digits.{add_digit, digits_number}
 use Rattle.jzon_base.proofs.Scanned.{all_scanned}
