@@ -116,4 +116,6 @@ few_fit ds all few =
     omega (arith, below, most)
 
 pub few_kept : (ds : List ℕ) → All IsDigit ds → length ds ≤ 19 → kept_len ds ≡ length ds
-few_kept ds all few = kept_len-at ds (length ds) (omega arith) (rw (take_all (length ds) ds (omega arith)) (few_fit ds all few)) (λ below. absurd (omega (arith, below)))
+few_kept ds all few =
+    kept_len-at ds (length ds) (omega arith) (rw (take_all (length ds) ds (omega arith)) (few_fit ds all few))
+    (λ below. absurd (omega (arith, below)))

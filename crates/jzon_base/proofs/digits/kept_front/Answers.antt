@@ -11,11 +11,13 @@ pub returns-then-whole-fraction-le-ALWAYS_KEPT : goal.returns-then-whole-fractio
 returns-then-whole-fraction-le-ALWAYS_KEPT c =
     let whole = c.args.whole.now in
     let fraction = c.args.fraction.now in
-    let all : All IsDigit (whole ++ fraction) = All-append IsDigit whole fraction c.requires.whole c.requires.fraction in
+    let all : All IsDigit (whole ++ fraction) =
+    All-append IsDigit whole fraction c.requires.whole c.requires.fraction in
     let few : length (whole ++ fraction) ≤ 19 = omega (arith, length-append whole fraction) in
     let e : kept_len (whole ++ fraction) ≡ length (whole ++ fraction) = few_kept (whole ++ fraction) all few in
     record {
-      number = rw (e, take_all (length (whole ++ fraction)) (whole ++ fraction) (omega arith)) (c.requires.number ∙ mod-eq_of_lt (few_fit (whole ++ fraction) all few));
+      number = rw (e, take_all (length (whole ++ fraction)) (whole ++ fraction) (omega arith))
+          (c.requires.number ∙ mod-eq_of_lt (few_fit (whole ++ fraction) all few));
       dropped = omega (arith, e, length-append whole fraction);
       kept = omega (arith, e, length-append whole fraction);
     }

@@ -30,10 +30,12 @@ some false d h = absurd (h refl)
 pub returns-then-value : goal.returns-then-value
 returns-then-value c =
     let e = read c.args.byte (omega arith) in
-    none (is_ascii_hexdigit c.args.byte) (digit_value c.args.byte) (sym e ∙ c.if-value.true) (below_sixteen c.args.byte)
+    none (is_ascii_hexdigit c.args.byte) (digit_value c.args.byte)
+    (sym e ∙ c.if-value.true) (below_sixteen c.args.byte)
 
 pub returns-else-value : goal.returns-else-value
 returns-else-value c =
     let e = read c.args.byte (omega arith) in
-    let told = some (is_ascii_hexdigit c.args.byte) (digit_value c.args.byte) (λ same. c.if-value.false (e ∙ same)) in
+    let told =
+    some (is_ascii_hexdigit c.args.byte) (digit_value c.args.byte) (λ same. c.if-value.false (e ∙ same)) in
     (told.0, c.from.ensures ∙ e ∙ told.1)

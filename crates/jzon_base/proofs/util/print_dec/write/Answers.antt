@@ -6,11 +6,13 @@ use Rattle.jzon_base.proofs.util.print_dec.write.Goals as goal
 pub returns-in-Some-clause-ok : goal.returns-in-Some-clause-ok
 returns-in-Some-clause-ok g c =
     let rest = take_rest c.put_whole.new.room c.in-Some.start in
-    let text = rw (c.put_whole.array_long, to_z-of_z w16 c.args.exponent c.ranges.exponent) at (rest ∙ c.in-Some.ensures.1) in
+    let same = to_z-of_z w16 c.args.exponent c.ranges.exponent in
+    let text = rw (c.put_whole.array_long, same) at (rest ∙ c.in-Some.ensures.1) in
     rw text at c.write_bytes.ensures.ok
 
 pub returns-in-Some-clause-err : goal.returns-in-Some-clause-err
 returns-in-Some-clause-err g c =
     let rest = take_rest c.put_whole.new.room c.in-Some.start in
-    let text = rw (c.put_whole.array_long, to_z-of_z w16 c.args.exponent c.ranges.exponent) at (rest ∙ c.in-Some.ensures.1) in
+    let same = to_z-of_z w16 c.args.exponent c.ranges.exponent in
+    let text = rw (c.put_whole.array_long, same) at (rest ∙ c.in-Some.ensures.1) in
     rw text at c.write_bytes.ensures.err
