@@ -26,6 +26,8 @@ pub mod Faults
 pub mod TreeAnswer
 pub mod Runs
 pub mod SameTree
+pub mod TreeTexts
+pub mod StrictStyles
 pub mod Deep
 pub mod Verdict
 pub mod Samples

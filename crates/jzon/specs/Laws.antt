@@ -8,15 +8,25 @@ use Rattle.jzon_tree.specs.Value.{Value, nest}
 use Rattle.jzon_tree.specs.Text.{compact}
 use Rattle.jzon_tree.specs.Same.{same}
 use Rattle.jzon_tree.specs.Lawful.{IsValue, HasNoNan}
+use Rattle.jzon_tree.specs.Styles.{compact_style, pretty_style}
 use Rattle.jzon_tree.specs.Writing.{Style, IsAllowedBlank, Writes, is_blank}
 use Rattle.jzon.specs.Reading.{Reading}
 use Rattle.jzon.specs.Grammar.{Numeral, Node, Document}
+use Rattle.jzon.specs.Spelling.{Breach, spell, BreachAt}
 use Rattle.jzon.specs.Meaning.{number_of, meaning}
 use Rattle.jzon.specs.Fault.{Spells, Parses, Fault, IsFault, IsFirstFault}
 
 -- two trees that spell one text are the same tree
 abbrev pub OneReading : Type 0
 OneReading = (r : Reading) (t : List ℕ) (d e : Document) → Spells r t d → Spells r t e → d ≡ e
+
+-- the text of a tree is the same by each reading
+abbrev pub OneText : Type 0
+OneText = (r s : Reading) (d : Document) → spell r d ≡ spell s d
+
+-- at most one breach stands at a character
+abbrev pub OneBreach : Type 0
+OneBreach = (r : Reading) (d : Document) (i : ℕ) (b c : Breach) → BreachAt r b d i → BreachAt r c d i → b ≡ c
 
 -- one tree spells the text, it breaks no limit, and the text has no fault
 abbrev pub HasOneTree : Reading → List ℕ → Type 0
@@ -60,6 +70,10 @@ Redump = (r : Reading) (v : Value) → IsValue v → nest v ≤ r.depth → IsRe
 -- each blank that the style allows is one of a strict reading
 abbrev pub AllowsStrictAlone : Style → Type 0
 AllowsStrictAlone s = (dent : ℕ) (w : List ℕ) → IsAllowedBlank s dent w → IsTrue (is_blank true w)
+
+-- the two styles of the four generators, the compact one and the one with a line for each item, are such
+abbrev pub StrictStyles : Type 0
+StrictStyles = AllowsStrictAlone compact_style × ((spaces : ℕ) → AllowsStrictAlone (pretty_style spaces))
 
 -- Each writing of a value without NaN, in whatever style, is read as the same value. A strict reading asks for a style of strict blanks alone.
 abbrev pub ReadsBack : Type 0

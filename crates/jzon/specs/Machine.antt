@@ -1,6 +1,6 @@
 -- The machine over values: what is left of a text comes to a value or to a fault, one character at a time. It keeps no tree and no blank, only what the open
 -- containers hold so far.
-use Rattle.std.specs.Prelude.{◌≡◌, ◌⊎◌, ℕ, zero, suc, ◌+◌, ◌-◌, ◌*◌, cond, List, [], ◌∷◌, ◌++◌, length, drop, Bool, true, false, ◌&&◌, ◌==◌, Option, Some, None, Result, Ok, Err, chars, encode_utf8}
+use Rattle.std.specs.Prelude.{◌≡◌, ◌⊎◌, ℕ, zero, suc, ◌+◌, ◌-◌, ◌*◌, cond, List, [], ◌∷◌, ◌++◌, length, drop, Bool, true, false, ◌&&◌, ◌==◌, Option, Some, None, Result, Ok, Err, MatchResult, chars, encode_utf8}
 use Rattle.std.specs.Char.{is_ascii_hexdigit, digit_value}
 use Rattle.std.specs.Option.{is_some}
 use Rattle.jzon_base.specs.PairList.{find, put}
@@ -307,6 +307,16 @@ Tells t e (refused f rest) = e ≡ error_at t (length t - length rest) f
 -- the error tells this outcome of a text, or memory was refused
 abbrev pub TellsUnlessMemory : List ℕ → Error → Outcome → Type 0
 TellsUnlessMemory t e o = (e ≡ OutOfMemory) ⊎ Tells t e o
+
+-- What a text comes to from its byte i on, at this place, is what it comes to behind what was read, or the error tells it.
+abbrev pub Leads : {A : Type 0} → Reading → List ℕ → Place → ℕ → Result (A × ℕ) Error → (A → Place) → Type 0
+Leads r bytes p i result next =
+    MatchResult result (λ x. from r bytes p i ≡ from r bytes (next x.0) x.1) (λ e. Tells (chars bytes) e (from r bytes p i))
+
+-- the same, or memory was refused
+abbrev pub LeadsUnlessMemory : {A : Type 0} → Reading → List ℕ → Place → ℕ → Result (A × ℕ) Error → (A → Place) → Type 0
+LeadsUnlessMemory r bytes p i result next =
+    MatchResult result (λ x. from r bytes p i ≡ from r bytes (next x.0) x.1) (λ e. TellsUnlessMemory (chars bytes) e (from r bytes p i))
 
 -- the result is what this outcome of a text says, unless memory was refused
 abbrev pub Reads : List ℕ → Result JsonValue Error → Outcome → Type 0

@@ -1,6 +1,6 @@
 //! The open containers of a text (RFC 8259, sections 4 and 5; docs/RULES.md, "Texts" and "Depth").
 
-ghost use Rattle.std.specs.Prelude.{◌≡◌, ◌≢◌, ◌⊎◌, ◌&&◌, ◌↔◌, IsTrue, ℕ, List, [], ◌∷◌, ◌++◌, ◌<◌, ◌≤◌, ◌+◌, length, chars, map, IfOk, OnOk, Err, None, IsOkUnless, MatchResult, slice_index, false, vec_len};
+ghost use Rattle.std.specs.Prelude.{◌≡◌, ◌≢◌, ◌⊎◌, ◌&&◌, ◌↔◌, IsTrue, ℕ, List, [], ◌∷◌, ◌++◌, ◌<◌, ◌≤◌, ◌+◌, length, chars, map, IfOk, OnOk, Err, None, IsOkUnless, slice_index, false, vec_len};
 ghost use Rattle.std.specs.Str.{IsCharBoundary};
 ghost use Rattle.std.specs.Option.{is_some};
 ghost use Rattle.jzon_base.specs.PairList.{find, put};
@@ -8,7 +8,7 @@ ghost use Rattle.jzon_tree.specs.Value.{Value};
 ghost use Rattle.jzon_tree.specs.View.{view};
 ghost use Rattle.jzon_tree.specs.Writing.{is_space};
 ghost use Rattle.jzon.specs.Frames.{stack_view, open_in, entries_view, place_of, IsAtElement, IsReady};
-ghost use Rattle.jzon.specs.Machine.{Entries, Frames, array_frame, object_frame, before, before_key, behind, key_mark, from, TellsUnlessMemory};
+ghost use Rattle.jzon.specs.Machine.{Entries, Frames, array_frame, object_frame, before, before_key, behind, key_mark, from, LeadsUnlessMemory};
 
 use crate::blank::skip_blank;
 use crate::place::{duplicate_at, fault_at, has_byte};
@@ -44,10 +44,8 @@ pub(crate) fn open_array(
     ensures bounds { IfOk result (λ r. (start ≤ r.1) × IsCharBoundary source.now r.1) }
     ensures room { OnOk result (vec_len stack.new ≤ reading.depth) }
     ensures ready { IfOk result (λ r. IsReady reading source.now r.1 r.0 (stack_view stack.new.items)) }
-    ensures same { MatchResult result
-        (λ r. from reading source.now (before (array_frame (stack_view stack.old.items) [])) start
-        ≡ from reading source.now (place_of r.0 (stack_view stack.new.items)) r.1)
-        (λ e. TellsUnlessMemory (chars source.now) e (from reading source.now (before (array_frame (stack_view stack.old.items) [])) start)) }
+    ensures same { LeadsUnlessMemory reading source.now (before (array_frame (stack_view stack.old.items) [])) start result
+        (λ v. place_of v (stack_view stack.new.items)) }
 {
     let index = skip_blank(source, reading, start);
     if has_byte(source, index, b']') {
@@ -56,7 +54,7 @@ pub(crate) fn open_array(
     if index == source.len() {
         return Err(Error::UnexpectedEndOfJson);
     }
-    if stack.len() == usize::from(reading.depth()) {
+    if is_full(stack, reading) {
         return Err(Error::ExceededDepthLimit);
     }
     // One element is certain to come.
@@ -78,10 +76,8 @@ pub(crate) fn open_object(
     ensures bounds { IfOk result (λ r. (start ≤ r.1) × IsCharBoundary source.now r.1) }
     ensures room { OnOk result (vec_len stack.new ≤ reading.depth) }
     ensures ready { IfOk result (λ r. IsReady reading source.now r.1 r.0 (stack_view stack.new.items)) }
-    ensures same { MatchResult result
-        (λ r. from reading source.now (before_key (stack_view stack.old.items) []) start
-        ≡ from reading source.now (place_of r.0 (stack_view stack.new.items)) r.1)
-        (λ e. TellsUnlessMemory (chars source.now) e (from reading source.now (before_key (stack_view stack.old.items) []) start)) }
+    ensures same { LeadsUnlessMemory reading source.now (before_key (stack_view stack.old.items) []) start result
+        (λ v. place_of v (stack_view stack.new.items)) }
 {
     let index = skip_blank(source, reading, start);
     if has_byte(source, index, b'}') {
@@ -90,11 +86,18 @@ pub(crate) fn open_object(
     if index == source.len() {
         return Err(Error::UnexpectedEndOfJson);
     }
-    if stack.len() == usize::from(reading.depth()) {
+    if is_full(stack, reading) {
         return Err(Error::ExceededDepthLimit);
     }
     let entries = Builder::new(alloc);
     read_entries(alloc, source, reading, index, entries, stack, buffer)
+}
+
+/// Whether as many containers are open as the reading allows.
+fn is_full(stack: &Vec<Frame>, reading: Reading) -> bool
+    ensures { IsTrue result ↔ (vec_len stack.now ≡ reading.depth) }
+{
+    stack.len() == usize::from(reading.depth())
 }
 
 /// Whether an array or an object opens at this place.
@@ -124,9 +127,9 @@ fn read_elements(
     ensures bounds { IfOk result (λ r. (start ≤ r.1) × IsCharBoundary source.now r.1) }
     ensures room { OnOk result (vec_len stack.new ≤ reading.depth) }
     ensures ready { IfOk result (λ r. IsReady reading source.now r.1 r.0 (stack_view stack.new.items)) }
-    ensures same { let fs = array_frame (stack_view stack.old.items) (map view elements.items) in MatchResult result
-        (λ r. from reading source.now (before fs) start ≡ from reading source.now (place_of r.0 (stack_view stack.new.items)) r.1)
-        (λ e. TellsUnlessMemory (chars source.now) e (from reading source.now (before fs) start)) }
+    ensures same { let fs = array_frame (stack_view stack.old.items) (map view elements.items) in
+        LeadsUnlessMemory reading source.now (before fs) start result
+        (λ v. place_of v (stack_view stack.new.items)) }
 {
     let mut elements = elements;
     let mut index = start;
@@ -163,9 +166,8 @@ fn read_entries(
     ensures bounds { IfOk result (λ r. (start ≤ r.1) × IsCharBoundary source.now r.1) }
     ensures room { OnOk result (vec_len stack.new ≤ reading.depth) }
     ensures ready { IfOk result (λ r. IsReady reading source.now r.1 r.0 (stack_view stack.new.items)) }
-    ensures same { let here = before_key (stack_view stack.old.items) (entries_view entries) in MatchResult result
-        (λ r. from reading source.now here start ≡ from reading source.now (place_of r.0 (stack_view stack.new.items)) r.1)
-        (λ e. TellsUnlessMemory (chars source.now) e (from reading source.now here start)) }
+    ensures same { let here = before_key (stack_view stack.old.items) (entries_view entries) in
+        LeadsUnlessMemory reading source.now here start result (λ v. place_of v (stack_view stack.new.items)) }
 {
     let mut entries = entries;
     let mut index = start;
@@ -203,9 +205,8 @@ fn read_key(
     requires stop { start < length source.now → is_space reading.strict (slice_index source.now start) ≡ false }
     ensures bounds { IfOk result (λ r. (start < r.1) × IsCharBoundary source.now r.1) }
     ensures kept { OnOk result (entries.new ≡ entries.old) }
-    ensures same { (fs : Frames) → let es = entries_view entries.old in key_mark reading fs es ≡ None → (es ≡ [] → slice_index source.now start ≢ 125) → MatchResult result
-        (λ r. from reading source.now (before_key fs es) start ≡ from reading source.now (before (object_frame fs es r.0)) r.1)
-        (λ e. TellsUnlessMemory (chars source.now) e (from reading source.now (before_key fs es) start)) }
+    ensures same { (fs : Frames) → let es = entries_view entries.old in key_mark reading fs es ≡ None → (es ≡ [] → slice_index source.now start ≢ 125) →
+        LeadsUnlessMemory reading source.now (before_key fs es) start result (λ v. before (object_frame fs es v)) }
 {
     if !has_byte(source, start, b'"') {
         return Err(fault_at(source, start));
@@ -255,10 +256,8 @@ pub(crate) fn go_on(
     ensures bounds { IfOk result (λ r. (index < r.1) × IsCharBoundary source.now r.1) }
     ensures room { OnOk result (vec_len stack.new ≤ reading.depth) }
     ensures ready { IfOk result (λ r. IsReady reading source.now r.1 r.0 (stack_view stack.new.items)) }
-    ensures same { MatchResult result
-        (λ r. from reading source.now (behind (open_in (stack_view stack.old.items) frame) (view item)) index
-        ≡ from reading source.now (place_of r.0 (stack_view stack.new.items)) r.1)
-        (λ e. TellsUnlessMemory (chars source.now) e (from reading source.now (behind (open_in (stack_view stack.old.items) frame) (view item)) index)) }
+    ensures same { LeadsUnlessMemory reading source.now (behind (open_in (stack_view stack.old.items) frame) (view item)) index result
+        (λ v. place_of v (stack_view stack.new.items)) }
 {
     match frame {
         Frame::Array(mut elements) => {
@@ -289,10 +288,9 @@ fn go_on_array(
     ensures bounds { IfOk result (λ r. (index < r.1) × IsCharBoundary source.now r.1) }
     ensures room { OnOk result (vec_len stack.new ≤ reading.depth) }
     ensures ready { IfOk result (λ r. IsReady reading source.now r.1 r.0 (stack_view stack.new.items)) }
-    ensures same { (vs : List Value) (v : Value) → map view elements.items ≡ vs ++ v ∷ [] → MatchResult result
-        (λ r. from reading source.now (behind (array_frame (stack_view stack.old.items) vs) v) index
-        ≡ from reading source.now (place_of r.0 (stack_view stack.new.items)) r.1)
-        (λ e. TellsUnlessMemory (chars source.now) e (from reading source.now (behind (array_frame (stack_view stack.old.items) vs) v) index)) }
+    ensures same { (vs : List Value) (v : Value) → map view elements.items ≡ vs ++ v ∷ [] →
+        LeadsUnlessMemory reading source.now (behind (array_frame (stack_view stack.old.items) vs) v) index result
+        (λ v. place_of v (stack_view stack.new.items)) }
 {
     if has_byte(source, index, b']') {
         return Ok((Some(JsonValue::Array(elements)), index + 1));
@@ -321,10 +319,9 @@ fn go_on_object(
     ensures bounds { IfOk result (λ r. (index < r.1) × IsCharBoundary source.now r.1) }
     ensures room { OnOk result (vec_len stack.new ≤ reading.depth) }
     ensures ready { IfOk result (λ r. IsReady reading source.now r.1 r.0 (stack_view stack.new.items)) }
-    ensures same { (es : Entries) (k : List ℕ) (v : Value) → entries_view entries ≡ put k v es → MatchResult result
-        (λ r. from reading source.now (behind (object_frame (stack_view stack.old.items) es k) v) index
-        ≡ from reading source.now (place_of r.0 (stack_view stack.new.items)) r.1)
-        (λ e. TellsUnlessMemory (chars source.now) e (from reading source.now (behind (object_frame (stack_view stack.old.items) es k) v) index)) }
+    ensures same { (es : Entries) (k : List ℕ) (v : Value) → entries_view entries ≡ put k v es →
+        LeadsUnlessMemory reading source.now (behind (object_frame (stack_view stack.old.items) es k) v) index result
+        (λ v. place_of v (stack_view stack.new.items)) }
 {
     if has_byte(source, index, b'}') {
         let object = Object::from_builder(alloc, entries)?;

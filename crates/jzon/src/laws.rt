@@ -1,11 +1,17 @@
 //! Laws over texts, their trees and their values, for every reading: RFC 8259 with the project's own rules (`docs/RULES.md`, "Laws").
 //! Each of these functions does nothing, and stands for its contract.
 
-ghost use Rattle.jzon.specs.Laws.{OneReading, OneFault, NumberText, Redump, ReadsBack};
+ghost use Rattle.jzon.specs.Laws.{OneReading, OneText, OneBreach, OneFault, NumberText, Redump, StrictStyles, ReadsBack};
 
 /// Two trees that spell one text are the same tree.
 pub fn one_reading()
     ensures { OneReading }
+{}
+
+/// The text of a tree is the same by each reading, and at most one breach stands at each of its characters.
+pub fn one_spelling()
+    ensures text { OneText }
+    ensures breach { OneBreach }
 {}
 
 /// Each text has one tree, which breaks no limit, and no fault; or it has no tree that breaks no limit, and one fault alone is its first.
@@ -21,6 +27,11 @@ pub fn number_text()
 /// The compact text of a value is read as a value with the same compact text.
 pub fn redump()
     ensures { Redump }
+{}
+
+/// The styles of the four generators allow the whitespace of a strict reading alone, so that `reads_back` speaks of them for each reading.
+pub fn strict_styles()
+    ensures { StrictStyles }
 {}
 
 /// Each writing of a value without NaN is read as the same value.

@@ -1,6 +1,6 @@
 //! Reads numbers (RFC 8259, section 6; docs/RULES.md, "Numbers").
 
-ghost use Rattle.std.specs.Prelude.{◌≡◌, ℕ, pos, List, [], ◌∷◌, ◌<◌, ◌≤◌, ◌+◌, ◌%◌, ◌^◌, ◌++◌, length, drop, chars, not, Bool, true, false, ◌==◌, ◌↔◌, IsTrue, IfOk, MatchResult, slice_index, if◌then◌else◌};
+ghost use Rattle.std.specs.Prelude.{◌≡◌, ℕ, pos, List, [], ◌∷◌, ◌<◌, ◌≤◌, ◌+◌, ◌%◌, ◌^◌, ◌++◌, length, drop, chars, not, Bool, true, false, ◌==◌, ◌↔◌, IsTrue, IfOk, slice_index, if◌then◌else◌};
 ghost use Rattle.std.specs.Char.{is_ascii_digit};
 ghost use Rattle.std.specs.List.{All, fold, take_while};
 ghost use Rattle.std.specs.Str.{IsCharBoundary};
@@ -13,7 +13,7 @@ ghost use Rattle.jzon_tree.specs.Value.{number};
 ghost use Rattle.jzon.specs.Reading.{Reading};
 ghost use Rattle.jzon.specs.Grammar.{is_exponent_letter};
 ghost use Rattle.jzon.specs.Classes.{lettered};
-ghost use Rattle.jzon.specs.Machine.{Frames, numeral, numeral_begun, behind, from, stopped, Tells};
+ghost use Rattle.jzon.specs.Machine.{Frames, numeral, numeral_begun, behind, from, stopped, Tells, Leads};
 
 use crate::place::{fault_at, has_byte};
 use jzon_base::digits::{read_scanned, scan};
@@ -26,11 +26,9 @@ pub(crate) fn read_number(source: &str, start: usize, negative: bool) -> Result<
     requires within { start < length source.now }
     requires digit { IsTrue (is_ascii_digit (slice_index source.now start)) }
     ensures bounds { IfOk result (λ r. (start < r.1) × (r.1 ≤ length source.now) × IsCharBoundary source.now r.1) }
-    ensures same { (r : Reading) (fs : Frames) → MatchResult result
-        (λ x. from r source.now (numeral_begun fs negative (slice_index source.now start)) (start + 1)
-        ≡ from r source.now (behind fs (number x.0)) x.1)
-        (λ e. Tells (chars source.now) e
-        (from r source.now (numeral_begun fs negative (slice_index source.now start)) (start + 1))) }
+    ensures same { (r : Reading) (fs : Frames) →
+        Leads r source.now (numeral_begun fs negative (slice_index source.now start)) (start + 1) result
+        (λ v. behind fs (number v)) }
 {
     let spelling = spelling_at(source, start);
     let number = read_scanned(

@@ -1,12 +1,12 @@
 //! Reads texts.
 
-ghost use Rattle.std.specs.Prelude.{◌≡◌, ◌≢◌, ◌<◌, ◌≤◌, length, chars, IfOk, IfErr, OnOk, Err, MatchResult, slice_index, false, vec_len};
+ghost use Rattle.std.specs.Prelude.{◌≡◌, ◌≢◌, ◌<◌, ◌≤◌, length, chars, IfOk, IfErr, OnOk, Err, slice_index, false, vec_len};
 ghost use Rattle.std.specs.Str.{IsCharBoundary};
 ghost use Rattle.jzon_tree.specs.View.{view};
 ghost use Rattle.jzon_tree.specs.Writing.{is_space};
 ghost use Rattle.jzon.specs.Answer.{IsMeaningOf, IsReadable, IsErrorUnlessMemory, TakesMemory};
 ghost use Rattle.jzon.specs.Frames.{stack_view, place_of, IsAtElement, IsReady};
-ghost use Rattle.jzon.specs.Machine.{no_frames, before, behind, from, TellsUnlessMemory, Reads};
+ghost use Rattle.jzon.specs.Machine.{no_frames, before, behind, from, Reads, LeadsUnlessMemory};
 ghost use Rattle.jzon.specs.Reading.{usual};
 
 use crate::blank::skip_blank;
@@ -108,10 +108,8 @@ fn begin(
     ensures ready { IfOk result (λ r. IsReady reading source.now r.1 r.0 (stack_view stack.new.items)) }
     ensures memory { result ≡ Err Error.OutOfMemory → TakesMemory (chars source.now) }
     ensures opened { vec_len stack.old < vec_len stack.new → TakesMemory (chars source.now) }
-    ensures same { MatchResult result
-        (λ r. from reading source.now (before (stack_view stack.old.items)) index
-        ≡ from reading source.now (place_of r.0 (stack_view stack.new.items)) r.1)
-        (λ e. TellsUnlessMemory (chars source.now) e (from reading source.now (before (stack_view stack.old.items)) index)) }
+    ensures same { LeadsUnlessMemory reading source.now (before (stack_view stack.old.items)) index result
+        (λ v. place_of v (stack_view stack.new.items)) }
 {
     if has_byte(source, index, b'[') {
         return open_array(alloc, source, reading, index + 1, stack, buffer);

@@ -7,7 +7,7 @@ ghost use Rattle.jzon_tree.specs.Value.{Value};
 ghost use Rattle.jzon_tree.specs.View.{view};
 ghost use Rattle.jzon_tree.specs.Writing.{is_space};
 ghost use Rattle.jzon.specs.Classes.{signed};
-ghost use Rattle.jzon.specs.Machine.{numeral, numeral_begun, string, as_value, between, Frames, is_fresh, before, behind, past_letter, value_mark, from, Tells, TellsUnlessMemory};
+ghost use Rattle.jzon.specs.Machine.{numeral, numeral_begun, string, as_value, between, Frames, is_fresh, before, behind, past_letter, value_mark, from, Tells, Leads, LeadsUnlessMemory};
 ghost use Rattle.jzon.specs.Reading.{Reading};
 
 use crate::numeral::read_number;
@@ -32,9 +32,8 @@ pub(crate) fn read_scalar(
     ensures memory { result ≡ Err Error.OutOfMemory → slice_index source.now start ≡ 34 }
     ensures same { (r : Reading) (fs : Frames) → value_mark r fs ≡ None
         → (start < length source.now → is_space r.strict (slice_index source.now start) ≡ false)
-        → (is_fresh fs ≡ true → slice_index source.now start ≢ 93) → MatchResult result
-        (λ x. from r source.now (before fs) start ≡ from r source.now (behind fs (view x.0)) x.1)
-        (λ e. TellsUnlessMemory (chars source.now) e (from r source.now (before fs) start)) }
+        → (is_fresh fs ≡ true → slice_index source.now start ≢ 93) →
+        LeadsUnlessMemory r source.now (before fs) start result (λ v. behind fs (view v)) }
 {
     if start == source.len() {
         return Err(fault_at(source, start));
@@ -62,9 +61,8 @@ fn read_text(
 ) -> Result<(JsonValue, usize)>
     requires { IsCharBoundary source.now start }
     ensures bounds { IfOk result (λ r. (start < r.1) × IsCharBoundary source.now r.1) }
-    ensures same { (r : Reading) (fs : Frames) → MatchResult result
-        (λ x. from r source.now (string (as_value fs) [] between) start ≡ from r source.now (behind fs (view x.0)) x.1)
-        (λ e. TellsUnlessMemory (chars source.now) e (from r source.now (string (as_value fs) [] between) start)) }
+    ensures same { (r : Reading) (fs : Frames) →
+        LeadsUnlessMemory r source.now (string (as_value fs) [] between) start result (λ v. behind fs (view v)) }
 {
     let spelled = read_string(source, start, buffer)?;
     let value = text_value(alloc, spelled.text(source, start, buffer))?;
@@ -76,9 +74,8 @@ fn read_text(
 fn read_negative(source: &str, start: usize) -> Result<(JsonValue, usize)>
     requires { IsCharBoundary source.now start }
     ensures bounds { IfOk result (λ r. (start < r.1) × IsCharBoundary source.now r.1) }
-    ensures same { (r : Reading) (fs : Frames) → MatchResult result
-        (λ x. from r source.now (numeral fs true signed) start ≡ from r source.now (behind fs (view x.0)) x.1)
-        (λ e. Tells (chars source.now) e (from r source.now (numeral fs true signed) start)) }
+    ensures same { (r : Reading) (fs : Frames) →
+        Leads r source.now (numeral fs true signed) start result (λ v. behind fs (view v)) }
 {
     if !has_digit(source, start) {
         return Err(fault_at(source, start));
@@ -92,11 +89,9 @@ fn read_magnitude(source: &str, start: usize, negative: bool) -> Result<(JsonVal
     requires within { start < length source.now }
     requires digit { IsTrue (is_ascii_digit (slice_index source.now start)) }
     ensures bounds { IfOk result (λ r. (start < r.1) × IsCharBoundary source.now r.1) }
-    ensures same { (r : Reading) (fs : Frames) → MatchResult result
-        (λ x. from r source.now (numeral_begun fs negative (slice_index source.now start)) (start + 1)
-        ≡ from r source.now (behind fs (view x.0)) x.1)
-        (λ e. Tells (chars source.now) e
-        (from r source.now (numeral_begun fs negative (slice_index source.now start)) (start + 1))) }
+    ensures same { (r : Reading) (fs : Frames) →
+        Leads r source.now (numeral_begun fs negative (slice_index source.now start)) (start + 1) result
+        (λ v. behind fs (view v)) }
 {
     let (number, end) = read_number(source, start, negative)?;
     Ok((JsonValue::Number(number), end))
@@ -113,9 +108,8 @@ fn read_word(
     requires boundary { IsCharBoundary source.now start }
     requires ascii { IsAscii letters.now }
     ensures bounds { IfOk result (λ r. (start ≤ r.1) × IsCharBoundary source.now r.1) }
-    ensures same { (r : Reading) (fs : Frames) → MatchResult result
-        (λ x. from r source.now (past_letter fs (view value) letters.now) start ≡ from r source.now (behind fs (view x.0)) x.1)
-        (λ e. Tells (chars source.now) e (from r source.now (past_letter fs (view value) letters.now) start)) }
+    ensures same { (r : Reading) (fs : Frames) →
+        Leads r source.now (past_letter fs (view value) letters.now) start result (λ v. behind fs (view v)) }
 {
     let end = read_letters(source, start, letters)?;
     Ok((value, end))

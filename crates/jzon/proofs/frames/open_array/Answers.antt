@@ -32,12 +32,12 @@ returns-then-index-source-clause-same c =
     let fs = stack_view c.args.stack.now.items in
     told_end c.args.reading c.args.source.now c.skip_blank-index.result (before (array_frame fs [])) _ (c.skip_blank-index.ensures.before (array_frame fs [])) (omega arith) refl
 
-pub returns-then-len-from-clause-same : goal.returns-then-len-from-clause-same
-returns-then-len-from-clause-same c =
+pub returns-then-is_full-clause-same : goal.returns-then-is_full-clause-same
+returns-then-is_full-clause-same c =
     let fs = stack_view c.args.stack.now.items in
     let lt : c.skip_blank-index.result < length c.args.source.now = omega (arith, c.skip_blank-index.ensures.boundary.0) in
     let deep : nat_le c.args.reading.depth (frames_depth fs) ≡ true =
-    too_deep c.args.reading.depth (frames_depth fs) (omega (arith, frames_depth-stack c.args.stack.now.items, c.args.stack.now.ok.0, c.len.ensures)) in
+    too_deep c.args.reading.depth (frames_depth fs) (omega (arith, frames_depth-stack c.args.stack.now.items, c.args.stack.now.ok.0, c.is_full.ensures.0 c.if-is_full.true)) in
     told_deep (chars c.args.source.now) _ _
     (c.skip_blank-index.ensures.before (array_frame fs [])
     ∙ deep_element c.args.reading c.args.source.now c.skip_blank-index.result fs c.utf8.source c.skip_blank-index.ensures.boundary lt (c.skip_blank-index.ensures.stop lt)
