@@ -10,7 +10,7 @@ use std::alloc::{AllocError, Global};
 use std::marker::Model;
 
 /// How many entries there may be before they are merged for the first time.
-const FIRST_LIMIT: usize = 64;
+const FIRST_LIMIT: usize = 1024;
 
 /// Entries that are put one after the other, of which some may repeat a key. A clause sees the list of pairs that they make.
 ///
