@@ -73,7 +73,7 @@ module _ {P Q : Value → Type 0} {K : List ℕ → Type 0} {D : List (List ℕ)
     pub keeps_put : (ps : List (N × X)) (v : Value) → PutMeans name means ps v → P v
     keeps_put ps v (qs, all, is) =
         subst P (sym is)
-            (inside.object-from (put_each qs) (put_all [] qs tt (each_pair ps qs all)) (put_keys [] qs inside.none))
+        (inside.object-from (put_each qs) (put_all [] qs tt (each_pair ps qs all)) (put_keys [] qs inside.none))
 
     pub keeps_map : (ps : List (N × X)) → ((qs : List (List ℕ × Value)) → PairsMean name means ps qs → D (keys_of qs))
         → (v : Value) → MapMeans name means ps v → P v

@@ -7,7 +7,7 @@ ghost use Rattle.std.specs.Iterator.SizeHint.{IsWithinCount};
 ghost use Rattle.std.specs.List.{IsDistinct};
 ghost use Rattle.std.specs.Str.{bytes_eq};
 ghost use Rattle.jzon_base.specs.IterMut.{iter_mut_rest, IsReady};
-ghost use Rattle.jzon_base.specs.PairList.{find, put, put_each, cut, set_value, with_default, keys_of};
+ghost use Rattle.jzon_base.specs.PairList.{find, put, cut, set_value, with_default, keys_of};
 ghost use Rattle.jzon_tree.specs.IntoIter.{entries_left};
 ghost use Rattle.jzon_tree.specs.IntoJson.{PutMeans};
 ghost use Rattle.jzon_tree.specs.Text.{compact};
@@ -206,18 +206,6 @@ impl Object {
     {
         self.pairs.iter_mut()
     }
-}
-
-/// The object in which these entries are put one after the other: the last value of a repeated key, in the place of the first. Refused by `OutOfMemory` alone.
-pub fn from_entries(alloc: Global, entries: Vec<(Key, JsonValue)>) -> Result<Object>
-    ensures pairs { IfOk result (λ object. entries_of object ≡ put_each entries.items) }
-    ensures memory { IsOkUnless result Error.OutOfMemory }
-{
-    let mut builder = Builder::new(alloc);
-    for (key, value) in entries {
-        builder.push(alloc, key, value)?;
-    }
-    Object::from_builder(alloc, builder)
 }
 
 impl<'a> IntoIterator for &'a Object {

@@ -107,8 +107,9 @@ fn turns_maps(rt: HostRuntime) -> Tested {
 #[test]
 fn puts_pairs(rt: HostRuntime) -> Tested {
     let alloc = rt.alloc();
-    let object = Object::from_pairs(alloc, [("a", 1u8), ("b", 2), ("a", 3)].into_iter())?;
-    assert_eq!(rt; object.dump(alloc)?.as_str(), "{\"a\":3,\"b\":2}");
+    let pairs = [("a", 1u8), ("b", 2), ("a", 3), ("c", 4), ("b", 5)];
+    let object = Object::from_pairs(alloc, pairs.into_iter())?;
+    assert_eq!(rt; object.dump(alloc)?.as_str(), "{\"a\":3,\"b\":5,\"c\":4}");
     let items = vec![in alloc; "x", "y"]?;
     let object = Object::from_pairs(alloc, items.iter().copied().zip(0u64..))?;
     assert_eq!(rt; object.dump(alloc)?.as_str(), "{\"x\":0,\"y\":1}");
