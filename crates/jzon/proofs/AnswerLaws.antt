@@ -69,7 +69,7 @@ module _ (r : Reading) where
             let one = fault.1.3 i x first in
             let two = fault.1.3 j y other in
             also ∙ ap (λ n. error_at t n y) (two.0 ∙ sym one.0) ∙ ap (λ g. error_at t i g)
-                (two.1 ∙ sym one.1) ∙ sym told
+            (two.1 ∙ sym one.1) ∙ sym told
       ]
 
   -- so it is what is answered, but where memory is refused

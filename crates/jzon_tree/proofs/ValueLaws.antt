@@ -131,5 +131,6 @@ pub find-without_entry_other : (j k : List ℕ) (w : Value) → j ≢ k
 find-without_entry_other j k w apart = ap (find j) (entries-without_entry k w) ∙ find-cut_other j k (entries w) apart
 
 pub ruleset changed_parts = (entries-with_entry, entries-without_entry, items-with_item, items-without_item)
+
 pub ruleset found_after =
     (find-with_entry_same, find-with_entry_other, find-without_entry_same, find-without_entry_other)
