@@ -78,7 +78,7 @@ impl<V: Drop> Builder<V> {
         Ok(())
     }
 
-    /// Whether an entry has this key. Calls before each of n entries take a time of n log n in all, whatever the keys are. The error is a refused growth.
+    /// Whether an entry has this key. Calls before each of n entries take about n (log n)^2 comparisons in all, whatever the keys are. The error is a refused growth.
     pub fn has_key(&mut self, alloc: Global, key: &str) -> Result<bool, AllocError>
         ensures same { self.new ≡ self.old }
         ensures known { IfOk result (λ known. known ≡ is_some (find key.now self.old)) }
