@@ -5,7 +5,8 @@ use Rattle.std.specs.Prelude.{nat_lt, IsTrue}
 use Rattle.std.proofs.lemmas.Bool.{lt-ltb}
 use Rattle.jzon_base.specs.PairList.{keys_of}
 use Rattle.jzon_tree.specs.Generator.{Begins, Just, Emitted, Added, Failed, Stopped, Emits, noted, IsForm}
-use Rattle.jzon_tree.specs.Printing.{IsBetween, IsClosing, AreItems, IsEntry, pair_at, AreMembers, IsKeyed, AreKeyed, AreUnderKeyed, PrintsIf}
+use Rattle.jzon_tree.specs.Lawful.{IsValue, AreValues, ArePairs}
+use Rattle.jzon_tree.specs.Printing.{IsBetween, IsClosing, AreItems, IsEntry, pair_at, AreMembers, PrintsIf}
 use Rattle.jzon_tree.specs.Text.{quoted}
 use Rattle.jzon_tree.specs.Value.{Value, array, object, values_of, pairs_of}
 use Rattle.jzon_tree.specs.Writing.{Style, IsStyle, IsOrder, Writes, colon_text}
@@ -19,25 +20,25 @@ module _ (a : Emitted) (lawful : IsStyle a.style) (vs : List Value) (n : 0 < len
   abbrev this_array : List ℕ → Type 0
   this_array = Writes a.style a.dent (array (values_of vs))
 
-  pub array_at_opening : (b : Emitted) → IsErr r → Failed (Just (91 ∷ [])) a b → PrintsIf (AreKeyed (values_of vs)) this_array a b r
+  pub array_at_opening : (b : Emitted) → IsErr r → Failed (Just (91 ∷ [])) a b → PrintsIf (AreValues (values_of vs)) this_array a b r
   array_at_opening b k h = PrintsIf-at_err _ this_array a b r k
       (λ keyed. stopped_at_opening 91 93 (λ s d. AreItems s d vs) this_array a (array_closed a.style a.dent vs n) (some_more a.style lawful (suc a.dent) false vs keyed) (some_closing a.style lawful a.dent 93) b h)
 
   module _ (b c : Emitted) (h : Added (Just (91 ∷ [])) a b) where
-    pub array_at_indent : IsErr r → c ≡ record b { faults = noted b.faults } → PrintsIf (AreKeyed (values_of vs)) this_array a c r
+    pub array_at_indent : IsErr r → c ≡ record b { faults = noted b.faults } → PrintsIf (AreValues (values_of vs)) this_array a c r
     array_at_indent k e = PrintsIf-at_err _ this_array a c r k
         (λ keyed. stopped_at_indent 91 93 (λ s d. AreItems s d vs) this_array a (array_closed a.style a.dent vs n) (some_more a.style lawful (suc a.dent) false vs keyed) (some_closing a.style lawful a.dent 93) b c h e)
 
     module _ (d : Emitted) (e : c ≡ record b { dent = b.dent + 1 }) where
-      pub array_at_items : IsErr r → (AreKeyed (values_of vs) → Stopped (AreItems c.style c.dent vs) c d) → PrintsIf (AreKeyed (values_of vs)) this_array a d r
+      pub array_at_items : IsErr r → (AreValues (values_of vs) → Stopped (AreItems c.style c.dent vs) c d) → PrintsIf (AreValues (values_of vs)) this_array a d r
       array_at_items k f = PrintsIf-at_err _ this_array a d r k
           (λ keyed. stopped_inside 91 93 (λ s d. AreItems s d vs) this_array a (array_closed a.style a.dent vs n) b c d h e (some_closing a.style lawful a.dent 93) (f keyed))
 
-      pub array_at_close : (f : Emitted) → Added (AreItems c.style c.dent vs) c d → Emits (IsClosing d.style (d.dent - 1) 93) (record d { dent = d.dent - 1 }) f r → PrintsIf (AreKeyed (values_of vs)) this_array a f r
-      array_at_close f = printed_at_close 91 93 (λ s d. AreItems s d vs) this_array a (array_closed a.style a.dent vs n) b c d h e (AreKeyed (values_of vs)) f r
+      pub array_at_close : (f : Emitted) → Added (AreItems c.style c.dent vs) c d → Emits (IsClosing d.style (d.dent - 1) 93) (record d { dent = d.dent - 1 }) f r → PrintsIf (AreValues (values_of vs)) this_array a f r
+      array_at_close f = printed_at_close 91 93 (λ s d. AreItems s d vs) this_array a (array_closed a.style a.dent vs n) b c d h e (AreValues (values_of vs)) f r
 
 -- ---- the loop over an array's items: us are written, v is next, and rest follow
-keyed_next : (us : List Value) (v : Value) (rest : List Value) → AreKeyed (values_of (us ++ v ∷ rest)) → IsKeyed v × AreKeyed (values_of rest)
+keyed_next : (us : List Value) (v : Value) (rest : List Value) → AreValues (values_of (us ++ v ∷ rest)) → IsValue v × AreValues (values_of rest)
 keyed_next [] v rest h = h
 keyed_next (u ∷ us) v rest h = keyed_next us v rest h.1
 
@@ -60,7 +61,7 @@ module _ (a : Emitted) (lawful : IsStyle a.style) (us : List Value) (v : Value) 
       rw (e, append_assoc (u ++ w) y z, append_assoc u w (y ++ z))
       (AreItems-append a.style a.dent us (v ∷ vs) u (w ++ (y ++ z)) hu (MoreItems-cons a.style a.dent (nat_lt 0 (length us)) v vs w y z hw hy hz))
 
-  module _ (keyed : AreKeyed (values_of all)) where
+  module _ (keyed : AreValues (values_of all)) where
     begun_early : (x : List ℕ) → begun x → Begins (AreItems a.style a.dent all) x
     begun_early x k =
         let y : (b : List ℕ) × Writes a.style a.dent v b = some_writing a.style lawful a.dent v (keyed_next us v rest keyed).0 in
@@ -72,7 +73,7 @@ module _ (a : Emitted) (lawful : IsStyle a.style) (us : List Value) (v : Value) 
         let z : (b : List ℕ) × MoreItems a.style a.dent true rest b = some_more a.style lawful a.dent true rest (keyed_next us v rest keyed).1 in
         (z.0, rw (append_assoc us (v ∷ []) rest) at (AreItems-append a.style a.dent (us ++ v ∷ []) rest x z.0 p (rw (lt-ltb 0 (length (us ++ v ∷ [])) (omega (arith, length-append us (v ∷ [])))) z.1)))
 
-  pub items_at_begin : {E : Type 0} (r : Result (Unit {0}) E) → IsErr r → Failed (IsBetween b.style b.dent (nat_lt 0 (length us))) b c → PrintsIf (AreKeyed (values_of all)) (AreItems a.style a.dent all) a c r
+  pub items_at_begin : {E : Type 0} (r : Result (Unit {0}) E) → IsErr r → Failed (IsBetween b.style b.dent (nat_lt 0 (length us))) b c → PrintsIf (AreValues (values_of all)) (AreItems a.style a.dent all) a c r
   items_at_begin r k f = PrintsIf-at_err _ _ a c r k (λ keyed. Stopped-failed _ a c
       (Failed-begins begun (AreItems a.style a.dent all) a c (begun_early keyed) (Failed-after (AreItems a.style a.dent us) (λ s d. IsBetween s d (nat_lt 0 (length us))) begun a b c begun_then h f)))
 
@@ -83,7 +84,7 @@ module _ (a : Emitted) (lawful : IsStyle a.style) (us : List Value) (v : Value) 
     one_more : (x y : List ℕ) → begun x → Writes a.style a.dent v y → AreItems a.style a.dent (us ++ v ∷ []) (x ++ y)
     one_more x y p q = rw (append-nil (x ++ y)) at (begun_ends [] x y [] p q ([], tt, refl))
 
-    pub items_at_item : {E : Type 0} (r : Result (Unit {0}) E) → IsErr r → (IsKeyed v → Stopped (Writes c.style c.dent v) c d) → PrintsIf (AreKeyed (values_of all)) (AreItems a.style a.dent all) a d r
+    pub items_at_item : {E : Type 0} (r : Result (Unit {0}) E) → IsErr r → (IsValue v → Stopped (Writes c.style c.dent v) c d) → PrintsIf (AreValues (values_of all)) (AreItems a.style a.dent all) a d r
     items_at_item r e f = PrintsIf-at_err _ _ a d r e (λ keyed.
         Stopped-begins (AreItems a.style a.dent (us ++ v ∷ [])) (AreItems a.style a.dent all) a d (more_early keyed)
         (Stopped-after begun (λ s d. Writes s d v) (AreItems a.style a.dent (us ++ v ∷ [])) a c d one_more has_begun (f (keyed_next us v rest keyed).0)))
@@ -92,10 +93,10 @@ module _ (a : Emitted) (lawful : IsStyle a.style) (us : List Value) (v : Value) 
     items_more f = Added-after begun (λ s d. Writes s d v) (AreItems a.style a.dent (us ++ v ∷ [])) a c d one_more has_begun f
 
 -- ---- the loop over an object's pairs: those at the first i positions are written, and e is next
-keyed_at : (es : List (List ℕ × Value)) (p : ℕ) → AreUnderKeyed (pairs_of es) → p < length es → IsKeyed (pair_at es p).1
+keyed_at : (es : List (List ℕ × Value)) (p : ℕ) → ArePairs (pairs_of es) → p < length es → IsValue (pair_at es p).1
 keyed_at [] p k h = absurd (omega arith)
-keyed_at (e ∷ es) zero k h = k.0
-keyed_at (e ∷ es) (suc p) k h = keyed_at es p k.1 (omega arith)
+keyed_at (e ∷ es) zero k h = k.1
+keyed_at (e ∷ es) (suc p) k h = keyed_at es p k.2 (omega arith)
 
 module _ (a : Emitted) (lawful : IsStyle a.style) (es : List (List ℕ × Value)) (ps : List ℕ) (o : IsOrder (length es) ps) (i : ℕ) (e : List ℕ × Value) (hi : i < length ps) (he : pair_at es (get_or ps i 0) ≡ e)
     (b c : Emitted) (h : Added (AreMembers a.style a.dent es (take i ps)) a b) where
@@ -111,16 +112,16 @@ module _ (a : Emitted) (lawful : IsStyle a.style) (es : List (List ℕ × Value)
   entry_then x y (u, w, hu, hw, k) q =
       rw (k, append_assoc u w y, add-one i) (members_push a.style a.dent es ps o i u w y hi hu hw (subst (λ f. IsEntry a.style a.dent f y) (sym he) q))
 
-  early : AreUnderKeyed (pairs_of es) → (x : List ℕ) → AreMembers a.style a.dent es (take (i + 1) ps) x → Begins (AreMembers a.style a.dent es ps) x
+  early : ArePairs (pairs_of es) → (x : List ℕ) → AreMembers a.style a.dent es (take (i + 1) ps) x → Begins (AreMembers a.style a.dent es ps) x
   early keyed x m = members_begin a.style a.dent es ps o lawful keyed (suc i) x (omega (arith, hi)) (rw (add-one i) at m)
 
-  ready_early : AreUnderKeyed (pairs_of es) → (x : List ℕ) → ready x → Begins (AreMembers a.style a.dent es ps) x
+  ready_early : ArePairs (pairs_of es) → (x : List ℕ) → ready x → Begins (AreMembers a.style a.dent es ps) x
   ready_early keyed x k =
       let y : (b : List ℕ) × IsEntry a.style a.dent (pair_at es (get_or ps i 0)) b = some_entry a.style a.dent es ps o lawful keyed es (get_or ps i 0) keyed (order_within (length es) ps o i hi) in
       let z : Begins (AreMembers a.style a.dent es ps) (x ++ y.0) = early keyed (x ++ y.0) (entry_then x y.0 k (subst (λ f. IsEntry a.style a.dent f y.0) he y.1)) in
       (y.0 ++ z.0, rw (sym (append_assoc x y.0 z.0)) z.1)
 
-  pub members_at_begin : {E : Type 0} (r : Result (Unit {0}) E) → IsErr r → Failed (IsBetween b.style b.dent (nat_lt 0 i)) b c → PrintsIf (AreUnderKeyed (pairs_of es)) (AreMembers a.style a.dent es ps) a c r
+  pub members_at_begin : {E : Type 0} (r : Result (Unit {0}) E) → IsErr r → Failed (IsBetween b.style b.dent (nat_lt 0 i)) b c → PrintsIf (ArePairs (pairs_of es)) (AreMembers a.style a.dent es ps) a c r
   members_at_begin r k f = PrintsIf-at_err _ _ a c r k (λ keyed. Stopped-failed _ a c
       (Failed-begins ready (AreMembers a.style a.dent es ps) a c (ready_early keyed) (Failed-after (AreMembers a.style a.dent es (take i ps)) (λ s d. IsBetween s d (nat_lt 0 i)) ready a b c ready_then h f)))
 
@@ -128,11 +129,11 @@ module _ (a : Emitted) (lawful : IsStyle a.style) (es : List (List ℕ × Value)
     is_ready : Added ready a c
     is_ready = Added-after (AreMembers a.style a.dent es (take i ps)) (λ s d. IsBetween s d (nat_lt 0 i)) ready a b c ready_then h k
 
-    pub members_at_entry : {E : Type 0} (r : Result (Unit {0}) E) → IsErr r → (IsKeyed e.1 → Stopped (IsEntry c.style c.dent e) c d) → PrintsIf (AreUnderKeyed (pairs_of es)) (AreMembers a.style a.dent es ps) a d r
+    pub members_at_entry : {E : Type 0} (r : Result (Unit {0}) E) → IsErr r → (IsValue e.1 → Stopped (IsEntry c.style c.dent e) c d) → PrintsIf (ArePairs (pairs_of es)) (AreMembers a.style a.dent es ps) a d r
     members_at_entry r j f = PrintsIf-at_err _ _ a d r j (λ keyed.
         Stopped-begins (AreMembers a.style a.dent es (take (i + 1) ps)) (AreMembers a.style a.dent es ps) a d (early keyed)
         (Stopped-after ready (λ s d. IsEntry s d e) (AreMembers a.style a.dent es (take (i + 1) ps)) a c d entry_then is_ready
-        (f (subst (λ f. IsKeyed f.1) he (keyed_at es (get_or ps i 0) keyed (order_within (length es) ps o i hi))))))
+        (f (subst (λ f. IsValue f.1) he (keyed_at es (get_or ps i 0) keyed (order_within (length es) ps o i hi))))))
 
     pub members_more : Added (IsEntry c.style c.dent e) c d → Added (AreMembers a.style a.dent es (take (i + 1) ps)) a d
     members_more f = Added-after ready (λ s d. IsEntry s d e) (AreMembers a.style a.dent es (take (i + 1) ps)) a c d entry_then is_ready f
@@ -142,22 +143,22 @@ module _ (a : Emitted) (lawful : IsStyle a.style) (es : List (List ℕ × Value)
   abbrev this_object : List ℕ → Type 0
   this_object = Writes a.style a.dent (object (pairs_of es))
 
-  pub object_at_opening : (b : Emitted) → IsErr r → Failed (Just (123 ∷ [])) a b → PrintsIf (IsKeyed (object (pairs_of es))) this_object a b r
+  pub object_at_opening : (b : Emitted) → IsErr r → Failed (Just (123 ∷ [])) a b → PrintsIf (IsValue (object (pairs_of es))) this_object a b r
   object_at_opening b k h = PrintsIf-at_err _ this_object a b r k
       (λ keyed. stopped_at_opening 123 125 (λ s d. AreMembers s d es ps) this_object a (object_closed a.style a.dent es ps o t n) (some_members a.style (suc a.dent) es ps o lawful keyed.0) (some_closing a.style lawful a.dent 125) b h)
 
   module _ (b c : Emitted) (h : Added (Just (123 ∷ [])) a b) where
-    pub object_at_indent : IsErr r → c ≡ record b { faults = noted b.faults } → PrintsIf (IsKeyed (object (pairs_of es))) this_object a c r
+    pub object_at_indent : IsErr r → c ≡ record b { faults = noted b.faults } → PrintsIf (IsValue (object (pairs_of es))) this_object a c r
     object_at_indent k e = PrintsIf-at_err _ this_object a c r k
         (λ keyed. stopped_at_indent 123 125 (λ s d. AreMembers s d es ps) this_object a (object_closed a.style a.dent es ps o t n) (some_members a.style (suc a.dent) es ps o lawful keyed.0) (some_closing a.style lawful a.dent 125) b c h e)
 
     module _ (d : Emitted) (e : c ≡ record b { dent = b.dent + 1 }) where
-      pub object_at_members : IsErr r → (AreUnderKeyed (pairs_of es) → Stopped (AreMembers c.style c.dent es ps) c d) → PrintsIf (IsKeyed (object (pairs_of es))) this_object a d r
+      pub object_at_members : IsErr r → (ArePairs (pairs_of es) → Stopped (AreMembers c.style c.dent es ps) c d) → PrintsIf (IsValue (object (pairs_of es))) this_object a d r
       object_at_members k f = PrintsIf-at_err _ this_object a d r k
           (λ keyed. stopped_inside 123 125 (λ s d. AreMembers s d es ps) this_object a (object_closed a.style a.dent es ps o t n) b c d h e (some_closing a.style lawful a.dent 125) (f keyed.0))
 
-      pub object_at_close : (f : Emitted) → Added (AreMembers c.style c.dent es ps) c d → Emits (IsClosing d.style (d.dent - 1) 125) (record d { dent = d.dent - 1 }) f r → PrintsIf (IsKeyed (object (pairs_of es))) this_object a f r
-      object_at_close f = printed_at_close 123 125 (λ s d. AreMembers s d es ps) this_object a (object_closed a.style a.dent es ps o t n) b c d h e (IsKeyed (object (pairs_of es))) f r
+      pub object_at_close : (f : Emitted) → Added (AreMembers c.style c.dent es ps) c d → Emits (IsClosing d.style (d.dent - 1) 125) (record d { dent = d.dent - 1 }) f r → PrintsIf (IsValue (object (pairs_of es))) this_object a f r
+      object_at_close f = printed_at_close 123 125 (λ s d. AreMembers s d es ps) this_object a (object_closed a.style a.dent es ps o t n) b c d h e (IsValue (object (pairs_of es))) f r
 
 -- ---- a pair in three steps
 module _ (s : Style) (d : ℕ) (e : List ℕ × Value) where
@@ -173,7 +174,7 @@ module _ (s : Style) (d : ℕ) (e : List ℕ × Value) where
   unfolding AfterColon
   pair_value x y (wide, t, p) q = (wide, y, t, q, ap (λ w. w ++ y) p ∙ append_assoc (quoted e.0) (colon_text wide) y)
 
-  module _ (lawful : IsStyle s) (keyed : IsKeyed e.1) where
+  module _ (lawful : IsStyle s) (keyed : IsValue e.1) where
     pub after_colon : (x : List ℕ) → AfterColon x → Begins (IsEntry s d e) x
     after_colon x p =
         let y : (b : List ℕ) × Writes s d e.1 b = some_writing s lawful d e.1 keyed in

@@ -8,7 +8,8 @@ use Rattle.jzon_tree.specs.Generator.{Begins}
 use Rattle.jzon_tree.specs.Text.{quoted}
 use Rattle.jzon_tree.specs.Value.{Value, object, pairs_of}
 use Rattle.jzon_tree.specs.Writing.{Style, IsStyle, IsOrder, text_at, Writes, WritesPairs, colon_text}
-use Rattle.jzon_tree.specs.Printing.{IsBetween, IsClosing, IsEntry, pair_at, AreMembers, AreUnderKeyed}
+use Rattle.jzon_tree.specs.Lawful.{ArePairs}
+use Rattle.jzon_tree.specs.Printing.{IsBetween, IsClosing, IsEntry, pair_at, AreMembers}
 use Rattle.jzon_tree.proofs.Orders.{order_occurs, order_within, order_differs}
 use Rattle.jzon_tree.proofs.Views.{list_of_pairs-pairs_of}
 use Rattle.jzon_tree.proofs.Writings.{some_between, some_writing, encloses, Items-append, needs_comma, needs_comma-after}
@@ -66,13 +67,13 @@ module _ (s : Style) (d : ℕ) (es : List (List ℕ × Value)) (ps : List ℕ) (
       (set ts p x, length-set ts p x ∙ l, push_each i ts x h l hx each, rw all (rw (append-nil x) at (Items-append s d false (map (text_at ts) (take i ps)) (x ∷ []) u (w ++ (x ++ [])) items (w, [], rw comma hw, refl, refl))))
 
   -- ---- what begins a writing of all pairs
-  module _ (lawful : IsStyle s) (keyed : AreUnderKeyed (pairs_of es)) where
-    pub some_entry : (fs : List (List ℕ × Value)) (p : ℕ) → AreUnderKeyed (pairs_of fs) → p < length fs → (x : List ℕ) × IsEntry s d (pair_at fs p) x
+  module _ (lawful : IsStyle s) (keyed : ArePairs (pairs_of es)) where
+    pub some_entry : (fs : List (List ℕ × Value)) (p : ℕ) → ArePairs (pairs_of fs) → p < length fs → (x : List ℕ) × IsEntry s d (pair_at fs p) x
     some_entry [] p k h = absurd (omega arith)
     some_entry (f ∷ fs) zero k h =
-        let x : (b : List ℕ) × Writes s d f.1 b = some_writing s lawful d f.1 k.0 in
+        let x : (b : List ℕ) × Writes s d f.1 b = some_writing s lawful d f.1 k.1 in
         (quoted f.0 ++ (colon_text lawful.colon.0 ++ x.0), (lawful.colon.0, x.0, lawful.colon.1, x.1, refl))
-    some_entry (f ∷ fs) (suc p) k h = some_entry fs p k.1 (omega arith)
+    some_entry (f ∷ fs) (suc p) k h = some_entry fs p k.2 (omega arith)
 
     fill : (m i : ℕ) (u : List ℕ) → i + m ≡ length ps → AreMembers s d es (take i ps) u → Begins (AreMembers s d es ps) u
     fill zero i u e h = ([], rw (append-nil u) (rw (take_all i ps (omega arith)) at h))

@@ -1,10 +1,10 @@
 -- The pairs of an object in the order that was answered.
-use Rattle.std.proofs.Common.{◌≡◌, ℕ, zero, suc, ◌+◌, ◌<◌, ◌≤◌, List, [], ◌∷◌, ◌++◌, length, length-take, drop, Option, Some, None, map, refl, sym, ap, ◌∙◌, get_or, take, true, false, Bool, add-one, arith}
+use Rattle.std.proofs.Common.{◌≡◌, ℕ, zero, suc, ◌+◌, ◌<◌, ◌≤◌, List, [], ◌∷◌, ◌++◌, length, length-take, drop, Option, Some, None, map, refl, sym, ap, ◌∙◌, get_or, take, true, false, Bool, add-one, arith, subst, inl, inr}
 use denote.Param.Weighed.{most}
-use Rattle.std.specs.Prelude.{IsTrue, ◌==◌, slice_get, Result}
+use Rattle.std.specs.Prelude.{IsTrue, IsUtf8, ◌==◌, slice_get, Result}
 use Rattle.std.specs.List.{IsDistinct}
 use Rattle.std.specs.Str.{bytes_eq}
-use Rattle.std.proofs.lemmas.Bool.{eqb-true}
+use Rattle.std.proofs.lemmas.Bool.{eqb-true, cases_lt}
 use Rattle.std.proofs.lemmas.List.{length-map}
 use Rattle.std.proofs.lemmas.Map.Made.{AllPairs-from_IsDistinct}
 use Rattle.std.proofs.lemmas.Slice.Eq.{bytes_eq-Decides}
@@ -13,12 +13,14 @@ use Rattle.std.specs.declared.alloc.Global.{Global}
 use Rattle.jzon_base.specs.PairList.{keys_of, values_of}
 use Rattle.jzon_tree.specs.declared.value.JsonValue.{JsonValue, size-JsonValue}
 use Rattle.jzon_tree.specs.Generator.{Emitted, Added, Just, Emits, IsAnswer, positions}
-use Rattle.jzon_tree.specs.Printing.{pair_at, IsKeyed, AreKeyed, AreUnderKeyed, PrintsIf}
+use Rattle.jzon_tree.specs.Lawful.{IsValue, AreValues, ArePairs, IsPair}
+use Rattle.jzon_tree.specs.Printing.{pair_at, PrintsIf}
 use Rattle.jzon_tree.specs.StyleLaws.{IsOrder-insertion}
-use Rattle.jzon_tree.specs.Value.{Value, object}
+use Rattle.jzon_tree.specs.Value.{Value, object, pairs_of}
 use Rattle.jzon_tree.specs.View.{view, viewed, view_values, view_pairs}
 use Rattle.jzon_tree.specs.Writing.{Style, IsOrder, Writes}
 use Rattle.jzon_tree.proofs.Emitting.{PrintsIf-after, PrintsIf-just}
+use Rattle.jzon_tree.proofs.Orders.{order_occurs}
 use Rattle.jzon_tree.proofs.Views.{list_of_pairs-pairs_of}
 
 pub entry_at : (ps : List (List ℕ × JsonValue)) (p : ℕ) (k : List ℕ) (v : JsonValue) → slice_get ps p ≡ Some (k, v) → pair_at (viewed ps) p ≡ (k, view v)
@@ -64,15 +66,36 @@ pub after_order : (a b c : Emitted) (v : Value) {E : Type 0} (K : Type 0) (r : R
 after_order a b c v K r h k = PrintsIf-after (Just []) (λ s d. Writes s d v) (Writes a.style a.dent v) a b c (λ x y e q. rw e q) h K r k
 
 -- ---- a visited object
-under_keyed : (ps : List (List ℕ × JsonValue)) → AreKeyed (view_values (values_of ps)) → AreUnderKeyed (view_pairs ps)
-under_keyed [] h = tt
-under_keyed (p ∷ ps) h = (h.0, under_keyed ps h.1)
+-- its keys are distinct
+pub whole_object : (ps : List (List ℕ × JsonValue)) → IsDistinct bytes_eq (keys_of ps) → ArePairs (view_pairs ps) → IsValue (object (view_pairs ps))
+whole_object ps h k = (k, rw (list_of_pairs-pairs_of (viewed ps), keys-viewed ps) (AllPairs-from_IsDistinct bytes_eq-Decides (keys_of ps) h))
 
-pub visited : (ps : List (List ℕ × JsonValue)) → IsDistinct bytes_eq (keys_of ps) → AreKeyed (view_values (values_of ps)) → IsKeyed (object (view_pairs ps))
-visited ps h k = (under_keyed ps k, rw (list_of_pairs-pairs_of (viewed ps), keys-viewed ps) (AllPairs-from_IsDistinct bytes_eq-Decides (keys_of ps) h))
+-- one pair more of those that were visited
+pub pairs_more : (ps : List (List ℕ × JsonValue)) (i : ℕ) (k : List ℕ) (v : JsonValue) → slice_get ps i ≡ Some (k, v) → IsUtf8 k → IsValue (view v) → ArePairs (view_pairs (take i ps))
+    → ArePairs (view_pairs (take (i + 1) ps))
+pairs_more [] i k v e u q h = absurd (cc e)
+pairs_more (p ∷ ps) zero k v e u q h = let same : p ≡ (k, v) = cc e in rw same (u, q, tt)
+pairs_more (p ∷ ps) (suc i) k v e u q h = rw (add-one (suc i)) (h.0, h.1, rw (add-one i) at (pairs_more ps i k v e u q h.2))
+
+-- the pairs that an order names
+pairs_at : (es : List (List ℕ × Value)) → ((p : ℕ) → p < length es → IsPair (pair_at es p)) → ArePairs (pairs_of es)
+pairs_at [] h = tt
+pairs_at (e ∷ es) h = ((h 0 (omega arith)).0, (h 0 (omega arith)).1, pairs_at es (λ p g. h (suc p) (omega arith)))
+
+pub pairs_named : (es : List (List ℕ × Value)) (ps : List ℕ) → IsOrder (length es) ps → ((k : ℕ) → k < length ps → IsPair (pair_at es (get_or ps k 0))) → ArePairs (pairs_of es)
+pairs_named es ps o each = pairs_at es (λ p h.
+    let k : (k : ℕ) × (k < length ps) × (get_or ps k 0 ≡ p) = order_occurs (length es) ps o p h in
+    subst (λ q. IsPair (pair_at es q)) k.2 (each k.0 k.1))
+
+pub named_more : (es : List (List ℕ × Value)) (ps : List ℕ) (i : ℕ) → IsPair (pair_at es (get_or ps i 0)) → ((k : ℕ) → k < i → IsPair (pair_at es (get_or ps k 0)))
+    → (k : ℕ) → k < i + 1 → IsPair (pair_at es (get_or ps k 0))
+named_more es ps i e each k h = elim (cases_lt k i) [
+  | inl f ↦ each k f
+  | inr f ↦ let same : k ≡ i = omega arith in rw same e
+]
 
 -- one item more of those that were visited
-pub keyed_more : (vs : List JsonValue) (i : ℕ) (v : JsonValue) → i < length vs → v ≡ get_or vs i v → AreKeyed (view_values (take i vs)) → IsKeyed (view v) → AreKeyed (view_values (take (i + 1) vs))
+pub keyed_more : (vs : List JsonValue) (i : ℕ) (v : JsonValue) → i < length vs → v ≡ get_or vs i v → AreValues (view_values (take i vs)) → IsValue (view v) → AreValues (view_values (take (i + 1) vs))
 keyed_more [] i v h e k q = absurd (omega arith)
 keyed_more (w ∷ vs) zero v h e k q = (rw e at q, tt)
 keyed_more (w ∷ vs) (suc i) v h e k q = rw (add-one (suc i)) (k.0, rw (add-one i) at (keyed_more vs i v (omega arith) e k.1 q))

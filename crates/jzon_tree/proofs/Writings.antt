@@ -7,7 +7,8 @@ use Rattle.jzon_base.specs.PairList.{keys_of}
 use Rattle.jzon_tree.specs.Text.{quoted, boolean_text}
 use Rattle.jzon_tree.specs.Value.{Value, null, boolean, text, number, array, object, Values, no_values, value, values_of, Pairs, no_pairs, pair, list_of_pairs}
 use Rattle.jzon_tree.specs.Writing.{Style, IsStyle, text_at, Joins, Encloses, Writes, WritesEach, WritesPairs, colon_text}
-use Rattle.jzon_tree.specs.Printing.{IsBetween, IsClosing, Items, AreItems, IsKeyed, AreKeyed, AreUnderKeyed}
+use Rattle.jzon_tree.specs.Lawful.{IsValue, AreValues, ArePairs}
+use Rattle.jzon_tree.specs.Printing.{IsBetween, IsClosing, Items, AreItems}
 
 -- ---- texts with blanks and commas
 pub some_between : (s : Style) → IsStyle s → (d : ℕ) (comma : Bool) → (b : List ℕ) × IsBetween s d comma b
@@ -57,7 +58,7 @@ enclosed_order s lawful d opening closing n ts [] e = absurd (omega (arith, e))
 enclosed_order s lawful d opening closing n ts (p ∷ ps) e = some_enclosed s lawful d opening closing (text_at ts p) (map (text_at ts) ps)
 
 mutual
-  pub some_writing : (s : Style) → IsStyle s → (d : ℕ) (v : Value) → IsKeyed v → (b : List ℕ) × Writes s d v b
+  pub some_writing : (s : Style) → IsStyle s → (d : ℕ) (v : Value) → IsValue v → (b : List ℕ) × Writes s d v b
   some_writing s lawful d null h = (codes "null", refl)
   some_writing s lawful d (boolean t) h = (boolean_text t, refl)
   some_writing s lawful d (text k t) h = (quoted t, refl)
@@ -75,18 +76,18 @@ mutual
       let w : (b : List ℕ) × Encloses s d 123 (map (text_at xs.0) o.0) 125 b = enclosed_order s lawful d 123 125 (length (keys_of (list_of_pairs ps))) xs.0 o.0 o.1.as_many in
       (w.0, (xs.0, o.0, xs.1, rw (length-texts s (suc d) (pair k v ps) xs.0 xs.1) o.1, o.2, w.1))
 
-  pub some_writings : (s : Style) → IsStyle s → (d : ℕ) (vs : Values) → AreKeyed vs → (ts : List (List ℕ)) × WritesEach s d vs ts
+  pub some_writings : (s : Style) → IsStyle s → (d : ℕ) (vs : Values) → AreValues vs → (ts : List (List ℕ)) × WritesEach s d vs ts
   some_writings s lawful d no_values h = ([], tt)
   some_writings s lawful d (value v vs) h =
       let x : (b : List ℕ) × Writes s d v b = some_writing s lawful d v h.0 in
       let xs : (ts : List (List ℕ)) × WritesEach s d vs ts = some_writings s lawful d vs h.1 in
       (x.0 ∷ xs.0, (x.1, xs.1))
 
-  some_pairs : (s : Style) → IsStyle s → (d : ℕ) (ps : Pairs) → AreUnderKeyed ps → (ts : List (List ℕ)) × WritesPairs s d ps ts
+  some_pairs : (s : Style) → IsStyle s → (d : ℕ) (ps : Pairs) → ArePairs ps → (ts : List (List ℕ)) × WritesPairs s d ps ts
   some_pairs s lawful d no_pairs h = ([], tt)
   some_pairs s lawful d (pair k v ps) h =
-      let x : (b : List ℕ) × Writes s d v b = some_writing s lawful d v h.0 in
-      let xs : (ts : List (List ℕ)) × WritesPairs s d ps ts = some_pairs s lawful d ps h.1 in
+      let x : (b : List ℕ) × Writes s d v b = some_writing s lawful d v h.1 in
+      let xs : (ts : List (List ℕ)) × WritesPairs s d ps ts = some_pairs s lawful d ps h.2 in
       ((quoted k ++ (colon_text lawful.colon.0 ++ x.0)) ∷ xs.0, ((lawful.colon.0, x.0, lawful.colon.1, x.1, refl), xs.1))
 
 -- ---- items after items: whether a comma stands before the next
@@ -122,7 +123,7 @@ WritesEach-length s d (u ∷ us) (x ∷ xs) h = ap suc (WritesEach-length s d us
 abbrev pub MoreItems : Style → ℕ → Bool → List Value → List ℕ → Type 0
 MoreItems s d comma vs b = (ts : List (List ℕ)) × WritesEach s d (values_of vs) ts × Items s d comma ts b
 
-pub some_more : (s : Style) → IsStyle s → (d : ℕ) (comma : Bool) (vs : List Value) → AreKeyed (values_of vs) → (b : List ℕ) × MoreItems s d comma vs b
+pub some_more : (s : Style) → IsStyle s → (d : ℕ) (comma : Bool) (vs : List Value) → AreValues (values_of vs) → (b : List ℕ) × MoreItems s d comma vs b
 some_more s lawful d comma vs h =
     let xs : (ts : List (List ℕ)) × WritesEach s d (values_of vs) ts = some_writings s lawful d (values_of vs) h in
     let w : (b : List ℕ) × Items s d comma xs.0 b = some_items s lawful d comma xs.0 in

@@ -32,6 +32,10 @@ abbrev mutual
   ArePairs no_pairs = ⊤
   ArePairs (pair k v ps) = IsUtf8 k × IsValue v × ArePairs ps
 
+-- a pair of such a key and such a value
+abbrev pub IsPair : List ℕ × Value → Type 0
+IsPair e = IsUtf8 e.0 × IsValue e.1
+
 -- a number and not NaN
 abbrev pub IsNumber : Decimal → Type 0
 IsNumber nan = ⊥

@@ -36,24 +36,6 @@ AreMembers s dent es ps b =
     (ts : List (List ℕ)) × (length ts ≡ length es) × ((k : ℕ) → k < length ps → IsEntry s dent (pair_at es (slice_index_or ps k 0)) (text_at ts (slice_index_or ps k 0)))
     × Items s dent false (map (text_at ts) ps) b
 
-abbrev mutual
-  -- no object inside repeats a key
-  pub IsKeyed : Value → Type 0
-  IsKeyed null = ⊤
-  IsKeyed (boolean b) = ⊤
-  IsKeyed (text k t) = ⊤
-  IsKeyed (number n) = ⊤
-  IsKeyed (array vs) = AreKeyed vs
-  IsKeyed (object ps) = AreUnderKeyed ps × AllPairs (λ j k. j ≢ k) (keys_of (list_of_pairs ps))
-
-  pub AreKeyed : Values → Type 0
-  AreKeyed no_values = ⊤
-  AreKeyed (value v vs) = IsKeyed v × AreKeyed vs
-
-  pub AreUnderKeyed : Pairs → Type 0
-  AreUnderKeyed no_pairs = ⊤
-  AreUnderKeyed (pair k v ps) = IsKeyed v × AreUnderKeyed ps
-
 -- what writing a value does, where the beginning is promised of such values alone
 abbrev pub PrintsIf : {E : Type 0} → Type 0 → (List ℕ → Type 0) → Emitted → Emitted → Result (Unit {0}) E → Type 0
 PrintsIf K P old new r = MatchResult r (λ _. Added P old new) (λ _. K → Stopped P old new)

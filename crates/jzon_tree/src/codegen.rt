@@ -16,6 +16,7 @@ mod pretty;
 mod pretty_writer;
 mod print;
 mod send;
+mod step;
 mod visit;
 mod write;
 mod writer;

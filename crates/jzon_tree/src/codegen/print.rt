@@ -3,6 +3,7 @@
 ghost use Rattle.std.specs.Prelude.{◌≡◌, OnOk, OnErr, IfOk, IsOkUnless, string_bytes};
 ghost use Rattle.std.specs.Io.KnownBytes.{Appends};
 ghost use Rattle.jzon_base.specs.Written.{AppendsBeginning};
+ghost use Rattle.jzon_tree.specs.Lawful.{IsValue};
 ghost use Rattle.jzon_tree.specs.Text.{compact, pretty};
 ghost use Rattle.jzon_tree.specs.View.{view, view_object};
 
@@ -35,6 +36,7 @@ impl JsonValue {
         ensures ok { OnOk result (Appends (W.contents writer.old) (W.contents writer.new) (compact (view self.now))) }
         ensures err { OnErr result
             (AppendsBeginning (W.contents writer.old) (W.contents writer.new) (compact (view self.now))) }
+        ensures value { IsValue (view self.now) }
     {
         let mut generator = WriterGenerator::new(writer);
         write_json(&mut generator, self)
@@ -47,6 +49,7 @@ impl JsonValue {
             (Appends (W.contents writer.old) (W.contents writer.new) (pretty (view self.now) spaces 0)) }
         ensures err { OnErr result
             (AppendsBeginning (W.contents writer.old) (W.contents writer.new) (pretty (view self.now) spaces 0)) }
+        ensures value { IsValue (view self.now) }
     {
         let mut generator = PrettyWriterGenerator::new(writer, spaces);
         write_json(&mut generator, self)

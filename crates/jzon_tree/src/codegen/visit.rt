@@ -1,42 +1,56 @@
-//! Visits to all objects of a value. An object's keys are distinct by its type, and a visit makes that known of the objects inside too.
+//! Visits to all parts of a value. What a part is by its type (numbers within range, texts of UTF-8, distinct keys) is known where the part is read; a visit
+//! makes it known of all of them.
 
-ghost use Rattle.jzon_tree.specs.Printing.{IsKeyed, AreKeyed};
+ghost use Rattle.jzon_tree.specs.Lawful.{IsValue, AreValues, InRange};
 ghost use Rattle.jzon_tree.specs.View.{view, view_object, view_values};
 
 use crate::object::Object;
 use crate::value::JsonValue;
+use jzon_base::number::Number;
 
-/// Visits all objects of the value.
+/// Visits all parts of the value.
 #[cycle(visit)]
 #[tactic(auto, using(crate::proofs::Views::views))]
 pub(crate) fn visit_value(value: &JsonValue)
-    ensures { IsKeyed (view value.now) }
+    ensures { IsValue (view value.now) }
 {
     match value {
-        JsonValue::Null
-        | JsonValue::Short(_)
-        | JsonValue::String(_)
-        | JsonValue::Number(_)
-        | JsonValue::Boolean(_) => {}
+        JsonValue::Null | JsonValue::Boolean(_) => {}
+        JsonValue::Short(text) => {
+            let _text = text.as_str();
+        }
+        JsonValue::String(text) => {
+            let _text = text.as_str();
+        }
+        JsonValue::Number(number) => see_number(number),
         JsonValue::Object(object) => visit_object(object),
         JsonValue::Array(items) => visit_items(items),
     }
 }
 
-/// Visits the object and all objects of its values.
+/// Visits the pairs of the object and all parts of their values.
 #[cycle(visit)]
 pub(crate) fn visit_object(object: &Object)
-    ensures { IsKeyed (view_object object.now) }
+    ensures { IsValue (view_object object.now) }
 {
-    let _len = object.len();
-    visit_items(object.pairs.values());
+    for index in 0..object.len() {
+        let (_key, value) = object.pairs.get_at(index);
+        visit_value(value);
+    }
 }
 
 #[cycle(visit)]
 fn visit_items(items: &[JsonValue])
-    ensures { AreKeyed (view_values items.now) }
+    ensures { AreValues (view_values items.now) }
 {
     for item in items {
         visit_value(item);
     }
+}
+
+/// A number is within range by its type.
+pub(crate) fn see_number(number: &Number)
+    ensures { InRange number.now }
+{
+    let _parts = number.as_parts();
 }

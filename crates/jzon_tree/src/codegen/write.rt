@@ -1,105 +1,124 @@
 //! Values and objects, written by a generator.
 
-ghost use Rattle.std.specs.Prelude.{◌≡◌, ◌-◌, ◌<◌, length, map, slice_index_or};
+ghost use Rattle.std.specs.Prelude.{◌≡◌, ◌-◌, ◌<◌, length, map, slice_index_or, OnOk};
 ghost use Rattle.jzon_base.specs.PairList.{keys_of};
 ghost use Rattle.jzon_tree.specs.Entries.{entries_of};
 ghost use Rattle.jzon_tree.specs.Generator.{Emits, Prints, IsAnswer, positions};
-ghost use Rattle.jzon_tree.specs.Printing.{IsBetween, IsClosing, AreItems, IsEntry, AreMembers, IsKeyed, AreKeyed, AreUnderKeyed, PrintsIf};
+ghost use Rattle.jzon_tree.specs.Lawful.{IsValue, AreValues, ArePairs, IsPair};
+ghost use Rattle.jzon_tree.specs.Printing.{IsBetween, IsClosing, AreItems, IsEntry, AreMembers, PrintsIf};
 ghost use Rattle.jzon_tree.specs.Value.{array};
 ghost use Rattle.jzon_tree.specs.View.{view, view_object, view_values, view_pairs, viewed};
 ghost use Rattle.jzon_tree.specs.Writing.{Writes};
 
 use crate::codegen::generator::Generator;
-use crate::codegen::visit::{visit_object, visit_value};
+use crate::codegen::step;
+use crate::codegen::step::{Step, Stopped};
+use crate::codegen::visit::{see_number, visit_object, visit_value};
 use crate::object::Object;
 use crate::value::JsonValue;
 use std::io;
+use std::io::ErrorKind;
 
 /// Writes the value in the generator's style, counted from the indents that are open. The pairs of each object stand in the order that `order` answered for it.
 ///
 /// An `Err` is that of a hook. Nothing is written after it: the bytes added are a beginning of a writing of the value, and the indents that were open then stay
 /// open.
 pub fn write_json<G: Generator>(g: &mut G, json: &JsonValue) -> io::Result<()>
-    ensures { Prints (Writes (G.meaning g.old).style (G.meaning g.old).dent (view json.now))
+    ensures written { Prints (Writes (G.meaning g.old).style (G.meaning g.old).dent (view json.now))
         (G.meaning g.old) (G.meaning g.new) result }
+    ensures value { IsValue (view json.now) }
 {
-    let written = write_value(g, json);
-    if written.is_err() {
-        visit_value(json);
+    let mut fault = io::Error::from(ErrorKind::Other);
+    match write_value(g, json, &mut fault) {
+        Ok(()) => Ok(()),
+        Err(Stopped) => {
+            visit_value(json);
+            Err(fault)
+        }
     }
-    written
 }
 
 /// Writes the object in the generator's style, as `write_json` writes a value.
 pub fn write_object<G: Generator>(g: &mut G, object: &Object) -> io::Result<()>
-    ensures { Prints (Writes (G.meaning g.old).style (G.meaning g.old).dent (view_object object.now))
+    ensures written { Prints (Writes (G.meaning g.old).style (G.meaning g.old).dent (view_object object.now))
         (G.meaning g.old) (G.meaning g.new) result }
+    ensures value { IsValue (view_object object.now) }
 {
-    let written = write_pairs(g, object);
-    if written.is_err() {
-        visit_object(object);
+    let mut fault = io::Error::from(ErrorKind::Other);
+    match write_pairs(g, object, &mut fault) {
+        Ok(()) => Ok(()),
+        Err(Stopped) => {
+            visit_object(object);
+            Err(fault)
+        }
     }
-    written
 }
 
 #[cycle(write_value)]
 #[tactic(auto, using(crate::proofs::Views::views))]
-fn write_value<G: Generator>(g: &mut G, json: &JsonValue) -> io::Result<()>
-    ensures { PrintsIf (IsKeyed (view json.now)) (Writes (G.meaning g.old).style (G.meaning g.old).dent (view json.now))
+fn write_value<G: Generator>(g: &mut G, json: &JsonValue, fault: &mut io::Error) -> Step<()>
+    ensures written { PrintsIf (IsValue (view json.now)) (Writes (G.meaning g.old).style (G.meaning g.old).dent (view json.now))
         (G.meaning g.old) (G.meaning g.new) result }
+    ensures value { OnOk result (IsValue (view json.now)) }
 {
     match json {
-        JsonValue::Null => g.write(b"null"),
-        JsonValue::Short(text) => g.write_string(text.as_str()),
-        JsonValue::String(text) => g.write_string(text.as_str()),
-        JsonValue::Number(number) => g.write_number(number),
-        JsonValue::Boolean(true) => g.write(b"true"),
-        JsonValue::Boolean(false) => g.write(b"false"),
-        JsonValue::Object(object) => write_pairs(g, object),
-        JsonValue::Array(items) => write_array(g, items),
+        JsonValue::Null => step::write(g, b"null", fault),
+        JsonValue::Short(text) => step::write_string(g, text.as_str(), fault),
+        JsonValue::String(text) => step::write_string(g, text.as_str(), fault),
+        JsonValue::Number(number) => {
+            see_number(number);
+            step::write_number(g, number, fault)
+        }
+        JsonValue::Boolean(true) => step::write(g, b"true", fault),
+        JsonValue::Boolean(false) => step::write(g, b"false", fault),
+        JsonValue::Object(object) => write_pairs(g, object, fault),
+        JsonValue::Array(items) => write_array(g, items, fault),
     }
 }
 
 #[cycle(write_value)]
-fn write_array<G: Generator>(g: &mut G, items: &[JsonValue]) -> io::Result<()>
-    ensures { PrintsIf (AreKeyed (view_values items.now)) (Writes (G.meaning g.old).style (G.meaning g.old).dent (array (view_values items.now)))
+fn write_array<G: Generator>(g: &mut G, items: &[JsonValue], fault: &mut io::Error) -> Step<()>
+    ensures written { PrintsIf (AreValues (view_values items.now)) (Writes (G.meaning g.old).style (G.meaning g.old).dent (array (view_values items.now)))
         (G.meaning g.old) (G.meaning g.new) result }
+    ensures value { OnOk result (AreValues (view_values items.now)) }
 {
     if items.is_empty() {
-        return g.write(b"[]");
+        return step::write(g, b"[]", fault);
     }
-    g.write_char(b'[')?;
-    g.indent()?;
-    write_items(g, items)?;
-    close(g, b']')
+    step::write_char(g, b'[', fault)?;
+    step::indent(g, fault)?;
+    write_items(g, items, fault)?;
+    close(g, b']', fault)
 }
 
 // Each item after a blank, and a comma before each but the first.
 #[cycle(write_value)]
-fn write_items<G: Generator>(g: &mut G, items: &[JsonValue]) -> io::Result<()>
-    ensures { PrintsIf (AreKeyed (view_values items.now)) (AreItems (G.meaning g.old).style (G.meaning g.old).dent (map view items.now))
+fn write_items<G: Generator>(g: &mut G, items: &[JsonValue], fault: &mut io::Error) -> Step<()>
+    ensures written { PrintsIf (AreValues (view_values items.now)) (AreItems (G.meaning g.old).style (G.meaning g.old).dent (map view items.now))
         (G.meaning g.old) (G.meaning g.new) result }
+    ensures value { OnOk result (AreValues (view_values items.now)) }
 {
     for (index, item) in items.iter().enumerate() {
-        begin_item(g, index > 0)?;
-        write_value(g, item)?;
+        begin_item(g, index > 0, fault)?;
+        write_value(g, item, fault)?;
     }
     Ok(())
 }
 
 #[cycle(write_value)]
-fn write_pairs<G: Generator>(g: &mut G, object: &Object) -> io::Result<()>
-    ensures { PrintsIf (IsKeyed (view_object object.now)) (Writes (G.meaning g.old).style (G.meaning g.old).dent (view_object object.now))
+fn write_pairs<G: Generator>(g: &mut G, object: &Object, fault: &mut io::Error) -> Step<()>
+    ensures written { PrintsIf (IsValue (view_object object.now)) (Writes (G.meaning g.old).style (G.meaning g.old).dent (view_object object.now))
         (G.meaning g.old) (G.meaning g.new) result }
+    ensures value { OnOk result (IsValue (view_object object.now)) }
 {
-    let order = g.order(object)?;
+    let order = step::order(g, object, fault)?;
     if object.is_empty() {
-        return g.write(b"{}");
+        return step::write(g, b"{}", fault);
     }
-    g.write_char(b'{')?;
-    g.indent()?;
-    write_members(g, object, &order)?;
-    close(g, b'}')
+    step::write_char(g, b'{', fault)?;
+    step::indent(g, fault)?;
+    write_members(g, object, &order, fault)?;
+    close(g, b'}', fault)
 }
 
 // Each pair after a blank, and a comma before each but the first.
@@ -108,16 +127,18 @@ fn write_members<G: Generator>(
     g: &mut G,
     object: &Object,
     order: &Option<Vec<usize>>,
-) -> io::Result<()>
+    fault: &mut io::Error,
+) -> Step<()>
     requires { IsAnswer (G.meaning g.old).style (keys_of (entries_of object.now)) order.now }
-    ensures { PrintsIf (AreUnderKeyed (view_pairs (entries_of object.now))) (AreMembers (G.meaning g.old).style (G.meaning g.old).dent (viewed (entries_of object.now)) (positions (length (entries_of object.now)) order.now))
+    ensures written { PrintsIf (ArePairs (view_pairs (entries_of object.now))) (AreMembers (G.meaning g.old).style (G.meaning g.old).dent (viewed (entries_of object.now)) (positions (length (entries_of object.now)) order.now))
         (G.meaning g.old) (G.meaning g.new) result }
+    ensures value { OnOk result (IsValue (view_object object.now)) }
 {
     for index in 0..object.len() {
         let position = position_of(order, index, object.len());
         let (key, value) = object.pairs.get_at(position);
-        begin_item(g, index > 0)?;
-        write_pair(g, key, value)?;
+        begin_item(g, index > 0, fault)?;
+        write_pair(g, key, value, fault)?;
     }
     Ok(())
 }
@@ -134,32 +155,38 @@ fn position_of(order: &Option<Vec<usize>>, index: usize, count: usize) -> usize
 }
 
 #[cycle(write_value)]
-fn write_pair<G: Generator>(g: &mut G, key: &str, value: &JsonValue) -> io::Result<()>
-    ensures { PrintsIf (IsKeyed (view value.now)) (IsEntry (G.meaning g.old).style (G.meaning g.old).dent (key.now, view value.now))
+fn write_pair<G: Generator>(
+    g: &mut G,
+    key: &str,
+    value: &JsonValue,
+    fault: &mut io::Error,
+) -> Step<()>
+    ensures written { PrintsIf (IsValue (view value.now)) (IsEntry (G.meaning g.old).style (G.meaning g.old).dent (key.now, view value.now))
         (G.meaning g.old) (G.meaning g.new) result }
+    ensures value { OnOk result (IsPair (key.now, view value.now)) }
 {
-    g.write_string(key)?;
-    g.write_min(b": ", b':')?;
-    write_value(g, value)
+    step::write_string(g, key, fault)?;
+    step::write_min(g, b": ", b':', fault)?;
+    write_value(g, value, fault)
 }
 
 // What stands before an item: a comma, unless it is the first, and a blank.
-fn begin_item<G: Generator>(g: &mut G, comma: bool) -> io::Result<()>
+fn begin_item<G: Generator>(g: &mut G, comma: bool, fault: &mut io::Error) -> Step<()>
     ensures { Emits (IsBetween (G.meaning g.old).style (G.meaning g.old).dent comma)
         (G.meaning g.old) (G.meaning g.new) result }
 {
     if comma {
-        g.write_char(b',')?;
+        step::write_char(g, b',', fault)?;
     }
-    g.new_line()
+    step::new_line(g, fault)
 }
 
 // Closes an indent, and adds a blank and the bracket.
-fn close<G: Generator>(g: &mut G, bracket: u8) -> io::Result<()>
+fn close<G: Generator>(g: &mut G, bracket: u8, fault: &mut io::Error) -> Step<()>
     requires { 0 < (G.meaning g.old).dent }
     ensures { Emits (IsClosing (G.meaning g.old).style ((G.meaning g.old).dent - 1) bracket) (record (G.meaning g.old) { dent = (G.meaning g.old).dent - 1 }) (G.meaning g.new) result }
 {
     g.dedent();
-    g.new_line()?;
-    g.write_char(bracket)
+    step::new_line(g, fault)?;
+    step::write_char(g, bracket, fault)
 }

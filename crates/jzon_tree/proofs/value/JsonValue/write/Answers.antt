@@ -8,10 +8,10 @@ use Rattle.jzon_tree.proofs.value.JsonValue.write.Goals as goal
 
 pub returns-clause-ok : goal.returns-clause-ok
 returns-clause-ok g c =
-    let h = rw (c.new-generator.ensures.dent, c.new-generator.ensures.writer, c.new-generator.ensures.same_reference) at c.write_json.ensures in
+    let h = rw (c.new-generator.ensures.dent, c.new-generator.ensures.writer, c.new-generator.ensures.same_reference) at c.write_json.ensures.written in
     lent_ok (Writes compact_style 0 (view c.args.self.now)) (compact (view c.args.self.now)) (written compact_layout.line false 0 (view c.args.self.now)) g.W.Write.contents _ _ c.write_json.result _ _ _ _ h refl refl (search rules) refl
 
 pub returns-clause-err : goal.returns-clause-err
 returns-clause-err g c =
-    let h = rw (c.new-generator.ensures.dent, c.new-generator.ensures.writer, c.new-generator.ensures.same_reference) at c.write_json.ensures in
+    let h = rw (c.new-generator.ensures.dent, c.new-generator.ensures.writer, c.new-generator.ensures.same_reference) at c.write_json.ensures.written in
     lent_err (Writes compact_style 0 (view c.args.self.now)) (compact (view c.args.self.now)) (written compact_layout.line false 0 (view c.args.self.now)) g.W.Write.contents _ _ c.write_json.result _ _ _ _ h refl refl (search rules) refl

@@ -1,0 +1,106 @@
+//! The hooks as `write_json` calls them. An `io::Error` is large, so the error of a hook that failed is laid aside in `fault`, and `Stopped` is handed back.
+
+ghost use Rattle.std.specs.Prelude.{◌≡◌, ◌+◌, ◌-◌, ◌^◌, ◌∷◌, [], Ok, IsErr, MatchResult};
+ghost use Rattle.jzon_base.specs.NumberText.{written_text};
+ghost use Rattle.jzon_base.specs.PairList.{keys_of};
+ghost use Rattle.jzon_tree.specs.Entries.{entries_of};
+ghost use Rattle.jzon_tree.specs.Generator.{Added, Failed, Emits, Just, IsForm, IsAnswer, noted};
+ghost use Rattle.jzon_tree.specs.Text.{quoted};
+ghost use Rattle.jzon_tree.specs.Writing.{IsAllowedBlank};
+
+use crate::codegen::generator::Generator;
+use crate::object::Object;
+use jzon_base::number::Number;
+use std::io;
+
+/// A hook failed.
+#[derive(Drop)]
+pub(super) struct Stopped;
+
+/// What a step hands back.
+pub(super) type Step<T> = Result<T, Stopped>;
+
+pub(super) fn write<G: Generator>(g: &mut G, slice: &[u8], fault: &mut io::Error) -> Step<()>
+    ensures { Emits (Just slice.now) (G.meaning g.old) (G.meaning g.new) result }
+{
+    lay_aside(g.write(slice), fault)
+}
+
+pub(super) fn write_char<G: Generator>(g: &mut G, ch: u8, fault: &mut io::Error) -> Step<()>
+    ensures { Emits (Just (ch ∷ [])) (G.meaning g.old) (G.meaning g.new) result }
+{
+    lay_aside(g.write_char(ch), fault)
+}
+
+pub(super) fn write_min<G: Generator>(
+    g: &mut G,
+    slice: &[u8],
+    min: u8,
+    fault: &mut io::Error,
+) -> Step<()>
+    ensures { Emits (IsForm (G.meaning g.old).style slice.now min) (G.meaning g.old) (G.meaning g.new) result }
+{
+    lay_aside(g.write_min(slice, min), fault)
+}
+
+pub(super) fn write_string<G: Generator>(
+    g: &mut G,
+    string: &str,
+    fault: &mut io::Error,
+) -> Step<()>
+    ensures { Emits (Just (quoted string.now)) (G.meaning g.old) (G.meaning g.new) result }
+{
+    lay_aside(g.write_string(string), fault)
+}
+
+pub(super) fn write_number<G: Generator>(
+    g: &mut G,
+    number: &Number,
+    fault: &mut io::Error,
+) -> Step<()>
+    ensures { Emits (Just (written_text number.now)) (G.meaning g.old) (G.meaning g.new) result }
+{
+    lay_aside(g.write_number(number), fault)
+}
+
+pub(super) fn new_line<G: Generator>(g: &mut G, fault: &mut io::Error) -> Step<()>
+    ensures { Emits (IsAllowedBlank (G.meaning g.old).style (G.meaning g.old).dent)
+        (G.meaning g.old) (G.meaning g.new) result }
+{
+    lay_aside(g.new_line(), fault)
+}
+
+pub(super) fn indent<G: Generator>(g: &mut G, fault: &mut io::Error) -> Step<()>
+    ensures { MatchResult result
+        (λ _. G.meaning g.new ≡ record (G.meaning g.old) { dent = (G.meaning g.old).dent + 1 })
+        (λ _. ((G.meaning g.old).dent ≡ 2 ^ 64 - 1)
+        × (G.meaning g.new ≡ record (G.meaning g.old) { faults = noted (G.meaning g.old).faults })) }
+{
+    lay_aside(g.indent(), fault)
+}
+
+pub(super) fn order<G: Generator>(
+    g: &mut G,
+    object: &Object,
+    fault: &mut io::Error,
+) -> Step<Option<Vec<usize>>>
+    ensures { MatchResult result
+        (λ answer. Added (Just []) (G.meaning g.old) (G.meaning g.new)
+        × IsAnswer (G.meaning g.old).style (keys_of (entries_of object.now)) answer)
+        (λ _. Failed (Just []) (G.meaning g.old) (G.meaning g.new)) }
+{
+    lay_aside(g.order(object), fault)
+}
+
+// Lays an error aside.
+fn lay_aside<T>(answer: io::Result<T>, fault: &mut io::Error) -> Step<T>
+    ensures { MatchResult answer (λ x. result ≡ Ok x) (λ _. IsErr result) }
+{
+    match answer {
+        Ok(value) => Ok(value),
+        Err(error) => {
+            *fault = error;
+            Err(Stopped)
+        }
+    }
+}
