@@ -1,13 +1,14 @@
 pub mod Compared
-pub mod Dumps
 pub mod LentSteps
 pub mod Emitting
 pub mod Exits
-pub mod Lines
 pub mod Members
 pub mod Orders
 pub mod Ordered
 pub mod Plain
+pub mod PrintedUtf8
+pub mod Consumed
+pub mod Nesting
 pub mod PairKeys
 mod Rows
 pub mod Seen

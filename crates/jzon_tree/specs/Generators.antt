@@ -1,6 +1,10 @@
 -- What stands behind each of the four generators.
-use Rattle.std.specs.Prelude.{ℕ, List, Option, Some, None}
+use Rattle.std.specs.Prelude.{◌≡◌, ℕ, List, Option, Some, None, Result, MatchResult, IsUtf8, string_bytes}
 use Rattle.std.specs.Borrow.{GName}
+use Rattle.std.specs.declared.string.String.{String}
+use Rattle.std.specs.declared.alloc.Global.{Global}
+use Rattle.jzon_base.specs.declared.error.Error.{Error}
+use Rattle.jzon_base.specs.declared.error.Error.TheVariants.{FailedUtf8Parsing}
 use Rattle.jzon_tree.specs.Generator.{Emitted}
 use Rattle.jzon_tree.specs.Styles.{compact_style, pretty_style}
 use Rattle.jzon_tree.specs.Writing.{Style}
@@ -16,3 +20,12 @@ dump_meaning g = record { out = Some g.code.items; dent = g.dent; faults = g.fau
 
 abbrev pub pretty_meaning : PrettyGenerator → Emitted
 pretty_meaning g = record { out = Some g.code.items; dent = g.dent; faults = g.faults; style = pretty_style g.spaces; lender = None }
+
+-- bytes that are known, and are no UTF-8
+abbrev pub IsNoUtf8 : Option (List ℕ) → Type 0
+IsNoUtf8 None = ⊥
+IsNoUtf8 (Some bytes) = IsUtf8 bytes → ⊥
+
+-- what `consume` answers: the bytes written as a text, or where they are no UTF-8 the error that says so
+abbrev pub IsConsumed : Option (List ℕ) → Result (String Global) Error → Type 0
+IsConsumed out r = MatchResult r (λ text. out ≡ Some (string_bytes text)) (λ e. (e ≡ FailedUtf8Parsing) × IsNoUtf8 out)

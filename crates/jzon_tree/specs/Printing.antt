@@ -1,9 +1,8 @@
 -- The parts of a writing, as the functions that write values add them.
 use Rattle.std.specs.Prelude.{◌≡◌, ◌≢◌, ℕ, ◌<◌, Bool, true, false, IsTrue, List, [], ◌∷◌, ◌++◌, ⊤, length, map, AllPairs, MatchResult, Result, slice_index_or, if◌then◌else◌}
-use Rattle.jzon_base.specs.PairList.{keys_of}
 use Rattle.jzon_tree.specs.Generator.{Emitted, Added, Stopped}
 use Rattle.jzon_tree.specs.Text.{quoted}
-use Rattle.jzon_tree.specs.Value.{Value, null, boolean, text, number, array, object, Values, no_values, value, values_of, Pairs, no_pairs, pair, list_of_pairs}
+use Rattle.jzon_tree.specs.Value.{Value, null, values_of}
 use Rattle.jzon_tree.specs.Writing.{Style, IsAllowedBlank, Writes, WritesEach, text_at, colon_text}
 
 -- a comma, unless it is the first item, and a blank

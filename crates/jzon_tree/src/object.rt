@@ -1,6 +1,6 @@
 //! Objects.
 
-ghost use Rattle.std.specs.Prelude.{◌≡◌, ◌-◌, ◌==◌, List, [], length, OnOk, OnErr, IfOk, IsOkUnless, None, string_bytes, IfSome, Some};
+ghost use Rattle.std.specs.Prelude.{◌≡◌, ◌-◌, ◌==◌, List, [], length, OnOk, OnErr, IfOk, IsOkUnless, None, IfSome, Some};
 ghost use Rattle.std.specs.Option.{option_copied, option_copied_mut};
 ghost use Rattle.std.specs.Iterator.{Drains, IsFinite, YieldsFirstBy, YieldsLastBy, item_count, at_most, UpTo};
 ghost use Rattle.std.specs.Iterator.SizeHint.{IsWithinCount};
@@ -10,11 +10,9 @@ ghost use Rattle.jzon_base.specs.IterMut.{iter_mut_rest, IsReady};
 ghost use Rattle.jzon_base.specs.PairList.{find, put, cut, set_value, with_default, keys_of};
 ghost use Rattle.jzon_tree.specs.IntoIter.{entries_left};
 ghost use Rattle.jzon_tree.specs.IntoJson.{PutMeans};
-ghost use Rattle.jzon_tree.specs.Text.{compact};
-ghost use Rattle.jzon_tree.specs.View.{view_object};
 ghost use Rattle.jzon_tree.specs.Entries.{entries_of};
+ghost use Rattle.jzon_tree.specs.View.{view_object};
 
-use crate::codegen;
 use crate::into_json::IntoJson;
 use crate::value::JsonValue;
 use jzon_base::error::{Error, Result};
@@ -180,16 +178,6 @@ impl Object {
         ensures { entries_of self.new ≡ [] }
     {
         self.pairs.clear();
-    }
-
-    /// The compact text of the object, with no blank outside of its strings. Refused by `OutOfMemory` alone.
-    pub fn dump(&self, alloc: Global) -> Result<String>
-        ensures text { IfOk result (λ text. string_bytes text ≡ compact (view_object self.now)) }
-        ensures memory { IsOkUnless result Error.OutOfMemory }
-    {
-        let mut text = String::new(alloc);
-        codegen::add_object(&mut text, self)?;
-        Ok(text)
     }
 
     /// The pairs in their order, from both ends.

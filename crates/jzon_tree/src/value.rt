@@ -1,15 +1,8 @@
 //! JSON values.
 
-ghost use Rattle.std.specs.Prelude.{◌≡◌, IfOk, IsOkUnless, string_bytes};
-ghost use Rattle.jzon_tree.specs.Text.{compact};
-ghost use Rattle.jzon_tree.specs.View.{view};
-
-use crate::codegen;
 use crate::object::Object;
-use jzon_base::error::{Error, Result};
 use jzon_base::number::Number;
 use jzon_base::short::Short;
-use std::alloc::Global;
 
 /// A JSON value (RFC 8259, section 3).
 ///
@@ -31,18 +24,6 @@ pub enum JsonValue {
     Object(Object),
     /// Values in their order.
     Array(Vec<JsonValue>),
-}
-
-impl JsonValue {
-    /// The compact text of the value, with no blank outside of its strings. Refused by `OutOfMemory` alone.
-    pub fn dump(&self, alloc: Global) -> Result<String>
-        ensures text { IfOk result (λ text. string_bytes text ≡ compact (view self.now)) }
-        ensures memory { IsOkUnless result Error.OutOfMemory }
-    {
-        let mut text = String::new(alloc);
-        codegen::add_value(&mut text, self)?;
-        Ok(text)
-    }
 }
 
 #[cfg(test)]

@@ -1,7 +1,7 @@
 //! Text with a line for each item, in memory.
 
-ghost use Rattle.std.specs.Prelude.{◌≡◌, [], None, Some, MatchResult, IsUtf8, string_bytes, refl};
-ghost use Rattle.jzon_tree.specs.Generators.{pretty_meaning, fresh};
+ghost use Rattle.std.specs.Prelude.{◌≡◌, [], None, Some, refl};
+ghost use Rattle.jzon_tree.specs.Generators.{pretty_meaning, fresh, IsConsumed};
 ghost use Rattle.jzon_tree.specs.StyleLaws.{IsStyle-pretty};
 ghost use Rattle.jzon_tree.specs.Styles.{pretty_style};
 
@@ -37,9 +37,7 @@ impl PrettyGenerator {
 
     /// The bytes that were written, as a text. It takes no memory, and is `FailedUtf8Parsing` exactly if they are no UTF-8.
     pub fn consume(self) -> Result<String>
-        ensures { MatchResult result
-            (λ text. (pretty_meaning self).out ≡ Some (string_bytes text))
-            (λ error. (error ≡ Error.FailedUtf8Parsing) × (IsUtf8 self.code.items → ⊥)) }
+        ensures { IsConsumed (pretty_meaning self).out result }
     {
         String::from_utf8(self.code).map_err(|_| Error::FailedUtf8Parsing)
     }

@@ -1,15 +1,20 @@
 //! The texts of values and objects.
 
-ghost use Rattle.std.specs.Prelude.{◌≡◌, OnOk, OnErr, IfOk, IsOkUnless, string_bytes};
+ghost use Rattle.std.specs.Prelude.{◌≡◌, ◌<◌, ◌≤◌, ◌^◌, OnOk, OnErr, IfOk, IsOkUnless, string_bytes};
 ghost use Rattle.std.specs.Io.KnownBytes.{Appends};
 ghost use Rattle.jzon_base.specs.Written.{AppendsBeginning};
 ghost use Rattle.jzon_tree.specs.Lawful.{IsValue};
+ghost use Rattle.jzon_tree.specs.Styles.{compact_style, pretty_style};
 ghost use Rattle.jzon_tree.specs.Text.{compact, pretty};
+ghost use Rattle.jzon_tree.specs.Value.{nest};
 ghost use Rattle.jzon_tree.specs.View.{view, view_object};
+ghost use Rattle.jzon_tree.specs.Writing.{Writes};
 
-use crate::codegen::lines::{add_lines, add_object_lines};
+use crate::codegen::dump::DumpGenerator;
+use crate::codegen::nesting::{refusal, refusal_of_object};
+use crate::codegen::pretty::PrettyGenerator;
 use crate::codegen::pretty_writer::PrettyWriterGenerator;
-use crate::codegen::write::write_json;
+use crate::codegen::write::{write_json, write_object};
 use crate::codegen::writer::WriterGenerator;
 use crate::object::Object;
 use crate::value::JsonValue;
@@ -19,15 +24,36 @@ use std::io;
 use std::io::Write;
 
 impl JsonValue {
+    /// The compact text of the value, with no blank outside of its strings. Refused by `OutOfMemory` where a request for memory was, and by `ExceededDepthLimit`
+    /// where non-empty containers nest 2^64 deep or deeper.
+    pub fn dump(&self, alloc: Global) -> Result<String>
+        ensures text { IfOk result (λ text. string_bytes text ≡ compact (view self.now)) }
+        ensures writing { IfOk result (λ text. Writes compact_style 0 (view self.now) (string_bytes text)) }
+        ensures value { IsValue (view self.now) }
+        ensures memory { nest (view self.now) < 2 ^ 64 → IsOkUnless result Error.OutOfMemory }
+        ensures depth { 2 ^ 64 ≤ nest (view self.now) → IsOkUnless result Error.ExceededDepthLimit }
+    {
+        let mut generator = DumpGenerator::new(alloc);
+        match write_json(&mut generator, self) {
+            Ok(()) => generator.consume(),
+            Err(_) => Err(refusal(self)),
+        }
+    }
+
     /// The text of the value with a line for each item: a newline, and `spaces` blanks for each container around it, before each item, each key and each closing
-    /// bracket of a container that is not empty. Refused by `OutOfMemory` alone, also where 2^64 containers are open.
+    /// bracket of a container that is not empty. Refused as `dump`.
     pub fn pretty(&self, alloc: Global, spaces: u16) -> Result<String>
         ensures text { IfOk result (λ text. string_bytes text ≡ pretty (view self.now) spaces 0) }
-        ensures memory { IsOkUnless result Error.OutOfMemory }
+        ensures writing { IfOk result (λ text. Writes (pretty_style spaces) 0 (view self.now) (string_bytes text)) }
+        ensures value { IsValue (view self.now) }
+        ensures memory { nest (view self.now) < 2 ^ 64 → IsOkUnless result Error.OutOfMemory }
+        ensures depth { 2 ^ 64 ≤ nest (view self.now) → IsOkUnless result Error.ExceededDepthLimit }
     {
-        let mut text = String::new(alloc);
-        add_lines(&mut text, self, spaces, 0)?;
-        Ok(text)
+        let mut generator = PrettyGenerator::new(alloc, spaces);
+        match write_json(&mut generator, self) {
+            Ok(()) => generator.consume(),
+            Err(_) => Err(refusal(self)),
+        }
     }
 
     /// Writes the compact text of the value, with no blank outside of its strings. It takes no memory of its own. After a fault of the writer, which is handed
@@ -57,13 +83,34 @@ impl JsonValue {
 }
 
 impl Object {
-    /// The text of the object with a line for each pair, as that of a value. Refused by `OutOfMemory` alone.
+    /// The compact text of the object, with no blank outside of its strings. Refused as that of a value.
+    pub fn dump(&self, alloc: Global) -> Result<String>
+        ensures text { IfOk result (λ text. string_bytes text ≡ compact (view_object self.now)) }
+        ensures writing { IfOk result (λ text. Writes compact_style 0 (view_object self.now) (string_bytes text)) }
+        ensures value { IsValue (view_object self.now) }
+        ensures memory { nest (view_object self.now) < 2 ^ 64 → IsOkUnless result Error.OutOfMemory }
+        ensures depth { 2 ^ 64 ≤ nest (view_object self.now) → IsOkUnless result Error.ExceededDepthLimit }
+    {
+        let mut generator = DumpGenerator::new(alloc);
+        match write_object(&mut generator, self) {
+            Ok(()) => generator.consume(),
+            Err(_) => Err(refusal_of_object(self)),
+        }
+    }
+
+    /// The text of the object with a line for each pair, as that of a value. Refused as `dump`.
     pub fn pretty(&self, alloc: Global, spaces: u16) -> Result<String>
         ensures text { IfOk result (λ text. string_bytes text ≡ pretty (view_object self.now) spaces 0) }
-        ensures memory { IsOkUnless result Error.OutOfMemory }
+        ensures writing { IfOk result
+            (λ text. Writes (pretty_style spaces) 0 (view_object self.now) (string_bytes text)) }
+        ensures value { IsValue (view_object self.now) }
+        ensures memory { nest (view_object self.now) < 2 ^ 64 → IsOkUnless result Error.OutOfMemory }
+        ensures depth { 2 ^ 64 ≤ nest (view_object self.now) → IsOkUnless result Error.ExceededDepthLimit }
     {
-        let mut text = String::new(alloc);
-        add_object_lines(&mut text, self, spaces, 0)?;
-        Ok(text)
+        let mut generator = PrettyGenerator::new(alloc, spaces);
+        match write_object(&mut generator, self) {
+            Ok(()) => generator.consume(),
+            Err(_) => Err(refusal_of_object(self)),
+        }
     }
 }
