@@ -1,6 +1,7 @@
 //! Values and texts made of whatever turns into a value (docs/RULES.md, "Conversions").
 
-ghost use Rattle.std.specs.Prelude.{◌≡◌, IfOk, IsOkUnless, string_bytes};
+ghost use Rattle.std.specs.Prelude.{◌≡◌, IfOk, IfErr, IsOkUnless, string_bytes};
+ghost use Rattle.jzon_tree.specs.IntoJson.{IsTextRefusal};
 ghost use Rattle.jzon_tree.specs.Text.{compact, pretty};
 ghost use Rattle.jzon_tree.specs.Value.{Value};
 ghost use Rattle.jzon_tree.specs.View.{view};
@@ -18,19 +19,20 @@ pub fn from<T: IntoJson>(alloc: Global, value: T) -> Result<JsonValue>
     value.into_json(alloc)
 }
 
-/// The compact text of the value that `root` turns into. Refused by `OutOfMemory` alone.
+/// The compact text of the value that `root` turns into. Refused as `dump` is.
 pub fn stringify<T: IntoJson>(alloc: Global, root: T) -> Result<String>
     ensures text { IfOk result (λ text. (v : Value) × T.means root v × (string_bytes text ≡ compact v)) }
-    ensures memory { IsOkUnless result Error.OutOfMemory }
+    ensures refusal { IfErr result (IsTextRefusal (T.means root)) }
 {
     root.into_json(alloc)?.dump(alloc)
 }
 
-/// The text of the value that `root` turns into, with a line for each item and `spaces` blanks for each container around it. Refused by `OutOfMemory` alone.
+/// The text of the value that `root` turns into, with a line for each item and `spaces` blanks for each container around it. Refused as
+/// `dump` is.
 pub fn stringify_pretty<T: IntoJson>(alloc: Global, root: T, spaces: u16) -> Result<String>
     ensures text { IfOk result
         (λ text. (v : Value) × T.means root v × (string_bytes text ≡ pretty v spaces 0)) }
-    ensures memory { IsOkUnless result Error.OutOfMemory }
+    ensures refusal { IfErr result (IsTextRefusal (T.means root)) }
 {
     root.into_json(alloc)?.pretty(alloc, spaces)
 }

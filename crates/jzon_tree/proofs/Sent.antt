@@ -1,7 +1,7 @@
 -- What several calls add to known bytes, one after the other.
 use Rattle.std.proofs.Common.{ℕ, List, [], ◌++◌, take, drop, Option, None, Some, refl, sym, ap, ◌∙◌, append_assoc, append-nil, take-append-drop, Result, Ok, Err}
 use Rattle.std.specs.Result.{IsErr}
-use Rattle.std.specs.Prelude.{OnOk, OnErr}
+use Rattle.std.specs.Prelude.{◌≡◌, OnOk, OnErr, MatchResult}
 use Rattle.std.specs.Io.KnownBytes.{Appends}
 use Rattle.jzon_base.specs.Written.{AppendsBeginning}
 use Rattle.jzon_tree.specs.Generator.{Adds, Begins, Just, Sends}
@@ -37,6 +37,12 @@ Sends-appended a b bs (Err e) h k = adds-begins a b bs k
 pub Sends-at_err : {E : Type 0} (P : List ℕ → Type 0) (a b : Option (List ℕ)) (r : Result (Unit {0}) E) → IsErr r → Adds (Begins P) a b → Sends P a b r
 Sends-at_err P a b (Ok u) h k = absurd (cc h)
 Sends-at_err P a b (Err e) h k = k
+
+-- the same of an answer whose error was laid aside
+pub Sends-laid : {E F : Type 0} (P : List ℕ → Type 0) (a b : Option (List ℕ)) (r : Result (Unit {0}) E) (s : Result (Unit {0}) F) → MatchResult r (λ u. s ≡ Ok u) (λ e. IsErr s) → Sends P a b r → Sends P a b s
+Sends-laid P a b (Ok u) s k h = rw k h
+Sends-laid P a b (Err e) (Ok u) k h = absurd (cc k)
+Sends-laid P a b (Err e) (Err f) k h = h
 
 -- ---- two calls in turn
 module _ (P Q R : List ℕ → Type 0) (a b c : Option (List ℕ)) (join : (x y : List ℕ) → P x → Q y → R (x ++ y)) (h : Adds P a b) where

@@ -1,8 +1,10 @@
 -- What a source means as a value (docs/RULES.md, "Conversions").
-use Rattle.std.specs.Prelude.{◌≡◌, ℕ, List, Option, None, Some, IsPermutation}
+use Rattle.std.specs.Prelude.{◌≡◌, ◌⊎◌, ℕ, ◌≤◌, ◌^◌, List, Option, None, Some, IsPermutation}
 use Rattle.std.specs.List.{AllZip}
 use Rattle.jzon_base.specs.PairList.{put_each}
-use Rattle.jzon_tree.specs.Value.{Value, null, array, object, values_of, pairs_of}
+use Rattle.jzon_base.specs.declared.error.Error.{Error}
+use Rattle.jzon_base.specs.declared.error.Error.TheVariants.{OutOfMemory, ExceededDepthLimit}
+use Rattle.jzon_tree.specs.Value.{Value, null, array, object, values_of, pairs_of, nest}
 
 -- `None` means null, and `Some` what is in it means
 abbrev pub OptionMeans : {X : Type 0} → (X → Value → Type 0) → Option X → Value → Type 0
@@ -32,3 +34,7 @@ MapMeans text means ps v = (qs : List (List ℕ × Value)) × PairsMean text mea
 -- a map without an order means the same, in any order
 abbrev pub AnyOrderMeans : {K X : Type 0} → (K → List ℕ) → (X → Value → Type 0) → List (K × X) → Value → Type 0
 AnyOrderMeans {K} {X} text means ps v = (qs : List (K × X)) × IsPermutation ps qs × MapMeans text means qs v
+
+-- why a text of what a source means is refused: memory was, or non-empty containers nest 2 ^ 64 deep or deeper
+abbrev pub IsTextRefusal : (Value → Type 0) → Error → Type 0
+IsTextRefusal means e = (e ≡ OutOfMemory) ⊎ ((e ≡ ExceededDepthLimit) × (v : Value) × means v × (2 ^ 64 ≤ nest v))

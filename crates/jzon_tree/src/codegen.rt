@@ -1,6 +1,7 @@
 //! Printing: generators, and what is written by them (docs/RULES.md, "Generators").
 
 mod dump;
+mod fault;
 mod generator;
 mod nesting;
 mod pretty;

@@ -9,6 +9,7 @@ ghost use Rattle.jzon_tree.specs.Generator.{Emitted, Added, Failed, Emits, Just,
 ghost use Rattle.jzon_tree.specs.Text.{escaped, quoted};
 ghost use Rattle.jzon_tree.specs.Writing.{IsAllowedBlank, IsStyle};
 
+use crate::codegen::fault::{Stopped, laid_aside};
 use crate::codegen::send::{send, send_number, send_string, send_string_from};
 use crate::object::Object;
 use jzon_base::number::Number;
@@ -60,11 +61,12 @@ pub trait Generator {
     fn write(&mut self, slice: &[u8]) -> io::Result<()>
         ensures { Emits (Just slice.now) (meaning self.old) (meaning self.new) result }
     {
-        match send(self.get_writer(), slice) {
+        let mut fault = None;
+        match send(self.get_writer(), slice, &mut fault) {
             Ok(()) => Ok(()),
-            Err(error) => {
+            Err(Stopped) => {
                 self.note_fault();
-                Err(error)
+                Err(laid_aside(fault))
             }
         }
     }
@@ -73,11 +75,12 @@ pub trait Generator {
     fn write_char(&mut self, ch: u8) -> io::Result<()>
         ensures { Emits (Just (ch ∷ [])) (meaning self.old) (meaning self.new) result }
     {
-        match send(self.get_writer(), &[ch]) {
+        let mut fault = None;
+        match send(self.get_writer(), &[ch], &mut fault) {
             Ok(()) => Ok(()),
-            Err(error) => {
+            Err(Stopped) => {
                 self.note_fault();
-                Err(error)
+                Err(laid_aside(fault))
             }
         }
     }
@@ -115,11 +118,12 @@ pub trait Generator {
     fn write_string(&mut self, string: &str) -> io::Result<()>
         ensures { Emits (Just (quoted string.now)) (meaning self.old) (meaning self.new) result }
     {
-        match send_string(self.get_writer(), b"\"", string.as_bytes()) {
+        let mut fault = None;
+        match send_string(self.get_writer(), b"\"", string.as_bytes(), &mut fault) {
             Ok(()) => Ok(()),
-            Err(error) => {
+            Err(Stopped) => {
                 self.note_fault();
-                Err(error)
+                Err(laid_aside(fault))
             }
         }
     }
@@ -130,11 +134,12 @@ pub trait Generator {
         ensures { Emits (Just (take start string.now ++ (escaped (drop start string.now) ++ 34 ∷ [])))
             (meaning self.old) (meaning self.new) result }
     {
-        match send_string_from(self.get_writer(), string, start) {
+        let mut fault = None;
+        match send_string_from(self.get_writer(), string, start, &mut fault) {
             Ok(()) => Ok(()),
-            Err(error) => {
+            Err(Stopped) => {
                 self.note_fault();
-                Err(error)
+                Err(laid_aside(fault))
             }
         }
     }
@@ -143,11 +148,12 @@ pub trait Generator {
     fn write_number(&mut self, num: &Number) -> io::Result<()>
         ensures { Emits (Just (written_text num.now)) (meaning self.old) (meaning self.new) result }
     {
-        match send_number(self.get_writer(), num) {
+        let mut fault = None;
+        match send_number(self.get_writer(), num, &mut fault) {
             Ok(()) => Ok(()),
-            Err(error) => {
+            Err(Stopped) => {
                 self.note_fault();
-                Err(error)
+                Err(laid_aside(fault))
             }
         }
     }

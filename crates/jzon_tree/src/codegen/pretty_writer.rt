@@ -4,6 +4,7 @@ ghost use Rattle.std.specs.Prelude.{◌≡◌, Some, refl};
 ghost use Rattle.jzon_tree.specs.StyleLaws.{IsStyle-pretty};
 ghost use Rattle.jzon_tree.specs.Styles.{pretty_style};
 
+use crate::codegen::fault::{Stopped, laid_aside};
 use crate::codegen::generator::Generator;
 use crate::codegen::send::send_line;
 use crate::object::Object;
@@ -71,11 +72,12 @@ impl<'a, W: Write> Generator for PrettyWriterGenerator<'a, W> {
 
     fn new_line(&mut self) -> io::Result<()> {
         let blanks = self.dent as u128 * self.spaces as u128;
-        match send_line(self.get_writer(), blanks) {
+        let mut fault = None;
+        match send_line(self.get_writer(), blanks, &mut fault) {
             Ok(()) => Ok(()),
-            Err(error) => {
+            Err(Stopped) => {
                 self.note_fault();
-                Err(error)
+                Err(laid_aside(fault))
             }
         }
     }

@@ -1,6 +1,6 @@
-//! The hooks as `write_json` calls them. An `io::Error` is large, so the error of a hook that failed is laid aside in `fault`, and `Stopped` is handed back.
+//! The hooks as `write_json` calls them: the error of a hook that failed is laid aside.
 
-ghost use Rattle.std.specs.Prelude.{◌≡◌, ◌+◌, ◌-◌, ◌^◌, ◌∷◌, [], Ok, IsErr, MatchResult};
+ghost use Rattle.std.specs.Prelude.{◌≡◌, ◌+◌, ◌-◌, ◌^◌, ◌∷◌, [], MatchResult};
 ghost use Rattle.jzon_base.specs.NumberText.{written_text};
 ghost use Rattle.jzon_base.specs.PairList.{keys_of};
 ghost use Rattle.jzon_tree.specs.Entries.{entries_of};
@@ -8,25 +8,18 @@ ghost use Rattle.jzon_tree.specs.Generator.{Added, Failed, Emits, Just, IsForm, 
 ghost use Rattle.jzon_tree.specs.Text.{quoted};
 ghost use Rattle.jzon_tree.specs.Writing.{IsAllowedBlank};
 
+use crate::codegen::fault::{Fault, Step, lay_aside};
 use crate::codegen::generator::Generator;
 use crate::object::Object;
 use jzon_base::number::Number;
-use std::io;
 
-/// A hook failed.
-#[derive(Drop)]
-pub(super) struct Stopped;
-
-/// What a step hands back.
-pub(super) type Step<T> = Result<T, Stopped>;
-
-pub(super) fn write<G: Generator>(g: &mut G, slice: &[u8], fault: &mut io::Error) -> Step<()>
+pub(super) fn write<G: Generator>(g: &mut G, slice: &[u8], fault: &mut Fault) -> Step<()>
     ensures { Emits (Just slice.now) (G.meaning g.old) (G.meaning g.new) result }
 {
     lay_aside(g.write(slice), fault)
 }
 
-pub(super) fn write_char<G: Generator>(g: &mut G, ch: u8, fault: &mut io::Error) -> Step<()>
+pub(super) fn write_char<G: Generator>(g: &mut G, ch: u8, fault: &mut Fault) -> Step<()>
     ensures { Emits (Just (ch ∷ [])) (G.meaning g.old) (G.meaning g.new) result }
 {
     lay_aside(g.write_char(ch), fault)
@@ -36,7 +29,7 @@ pub(super) fn write_min<G: Generator>(
     g: &mut G,
     slice: &[u8],
     min: u8,
-    fault: &mut io::Error,
+    fault: &mut Fault,
 ) -> Step<()>
     ensures { Emits (IsForm (G.meaning g.old).style slice.now min) (G.meaning g.old) (G.meaning g.new) result }
 {
@@ -46,7 +39,7 @@ pub(super) fn write_min<G: Generator>(
 pub(super) fn write_string<G: Generator>(
     g: &mut G,
     string: &str,
-    fault: &mut io::Error,
+    fault: &mut Fault,
 ) -> Step<()>
     ensures { Emits (Just (quoted string.now)) (G.meaning g.old) (G.meaning g.new) result }
 {
@@ -56,21 +49,21 @@ pub(super) fn write_string<G: Generator>(
 pub(super) fn write_number<G: Generator>(
     g: &mut G,
     number: &Number,
-    fault: &mut io::Error,
+    fault: &mut Fault,
 ) -> Step<()>
     ensures { Emits (Just (written_text number.now)) (G.meaning g.old) (G.meaning g.new) result }
 {
     lay_aside(g.write_number(number), fault)
 }
 
-pub(super) fn new_line<G: Generator>(g: &mut G, fault: &mut io::Error) -> Step<()>
+pub(super) fn new_line<G: Generator>(g: &mut G, fault: &mut Fault) -> Step<()>
     ensures { Emits (IsAllowedBlank (G.meaning g.old).style (G.meaning g.old).dent)
         (G.meaning g.old) (G.meaning g.new) result }
 {
     lay_aside(g.new_line(), fault)
 }
 
-pub(super) fn indent<G: Generator>(g: &mut G, fault: &mut io::Error) -> Step<()>
+pub(super) fn indent<G: Generator>(g: &mut G, fault: &mut Fault) -> Step<()>
     ensures { MatchResult result
         (λ _. G.meaning g.new ≡ record (G.meaning g.old) { dent = (G.meaning g.old).dent + 1 })
         (λ _. ((G.meaning g.old).dent ≡ 2 ^ 64 - 1)
@@ -82,7 +75,7 @@ pub(super) fn indent<G: Generator>(g: &mut G, fault: &mut io::Error) -> Step<()>
 pub(super) fn order<G: Generator>(
     g: &mut G,
     object: &Object,
-    fault: &mut io::Error,
+    fault: &mut Fault,
 ) -> Step<Option<Vec<usize>>>
     ensures { MatchResult result
         (λ answer. Added (Just []) (G.meaning g.old) (G.meaning g.new)
@@ -90,17 +83,4 @@ pub(super) fn order<G: Generator>(
         (λ _. Failed (Just []) (G.meaning g.old) (G.meaning g.new)) }
 {
     lay_aside(g.order(object), fault)
-}
-
-// Lays an error aside.
-fn lay_aside<T>(answer: io::Result<T>, fault: &mut io::Error) -> Step<T>
-    ensures { MatchResult answer (λ x. result ≡ Ok x) (λ _. IsErr result) }
-{
-    match answer {
-        Ok(value) => Ok(value),
-        Err(error) => {
-            *fault = error;
-            Err(Stopped)
-        }
-    }
 }

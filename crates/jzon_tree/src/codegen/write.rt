@@ -10,14 +10,13 @@ ghost use Rattle.jzon_tree.specs.Value.{array};
 ghost use Rattle.jzon_tree.specs.View.{view, view_object, view_values, view_pairs, viewed};
 ghost use Rattle.jzon_tree.specs.Writing.{Writes};
 
+use crate::codegen::fault::{Fault, Step, Stopped, laid_aside};
 use crate::codegen::generator::Generator;
 use crate::codegen::step;
-use crate::codegen::step::{Step, Stopped};
 use crate::codegen::visit::{see_number, visit_object, visit_value};
 use crate::object::Object;
 use crate::value::JsonValue;
 use std::io;
-use std::io::ErrorKind;
 
 /// Writes the value in the generator's style, counted from the indents that are open. The pairs of each object stand in the order that `order` answered for it.
 ///
@@ -28,12 +27,12 @@ pub fn write_json<G: Generator>(g: &mut G, json: &JsonValue) -> io::Result<()>
         (G.meaning g.old) (G.meaning g.new) result }
     ensures value { IsValue (view json.now) }
 {
-    let mut fault = io::Error::from(ErrorKind::Other);
+    let mut fault = None;
     match write_value(g, json, &mut fault) {
         Ok(()) => Ok(()),
         Err(Stopped) => {
             visit_value(json);
-            Err(fault)
+            Err(laid_aside(fault))
         }
     }
 }
@@ -44,19 +43,19 @@ pub fn write_object<G: Generator>(g: &mut G, object: &Object) -> io::Result<()>
         (G.meaning g.old) (G.meaning g.new) result }
     ensures value { IsValue (view_object object.now) }
 {
-    let mut fault = io::Error::from(ErrorKind::Other);
+    let mut fault = None;
     match write_pairs(g, object, &mut fault) {
         Ok(()) => Ok(()),
         Err(Stopped) => {
             visit_object(object);
-            Err(fault)
+            Err(laid_aside(fault))
         }
     }
 }
 
 #[cycle(write_value)]
 #[tactic(auto, using(crate::proofs::Views::views))]
-fn write_value<G: Generator>(g: &mut G, json: &JsonValue, fault: &mut io::Error) -> Step<()>
+fn write_value<G: Generator>(g: &mut G, json: &JsonValue, fault: &mut Fault) -> Step<()>
     ensures written { PrintsIf (IsValue (view json.now)) (Writes (G.meaning g.old).style (G.meaning g.old).dent (view json.now))
         (G.meaning g.old) (G.meaning g.new) result }
     ensures value { OnOk result (IsValue (view json.now)) }
@@ -77,7 +76,7 @@ fn write_value<G: Generator>(g: &mut G, json: &JsonValue, fault: &mut io::Error)
 }
 
 #[cycle(write_value)]
-fn write_array<G: Generator>(g: &mut G, items: &[JsonValue], fault: &mut io::Error) -> Step<()>
+fn write_array<G: Generator>(g: &mut G, items: &[JsonValue], fault: &mut Fault) -> Step<()>
     ensures written { PrintsIf (AreValues (view_values items.now)) (Writes (G.meaning g.old).style (G.meaning g.old).dent (array (view_values items.now)))
         (G.meaning g.old) (G.meaning g.new) result }
     ensures value { OnOk result (AreValues (view_values items.now)) }
@@ -93,7 +92,7 @@ fn write_array<G: Generator>(g: &mut G, items: &[JsonValue], fault: &mut io::Err
 
 // Each item after a blank, and a comma before each but the first.
 #[cycle(write_value)]
-fn write_items<G: Generator>(g: &mut G, items: &[JsonValue], fault: &mut io::Error) -> Step<()>
+fn write_items<G: Generator>(g: &mut G, items: &[JsonValue], fault: &mut Fault) -> Step<()>
     ensures written { PrintsIf (AreValues (view_values items.now)) (AreItems (G.meaning g.old).style (G.meaning g.old).dent (map view items.now))
         (G.meaning g.old) (G.meaning g.new) result }
     ensures value { OnOk result (AreValues (view_values items.now)) }
@@ -106,7 +105,7 @@ fn write_items<G: Generator>(g: &mut G, items: &[JsonValue], fault: &mut io::Err
 }
 
 #[cycle(write_value)]
-fn write_pairs<G: Generator>(g: &mut G, object: &Object, fault: &mut io::Error) -> Step<()>
+fn write_pairs<G: Generator>(g: &mut G, object: &Object, fault: &mut Fault) -> Step<()>
     ensures written { PrintsIf (IsValue (view_object object.now)) (Writes (G.meaning g.old).style (G.meaning g.old).dent (view_object object.now))
         (G.meaning g.old) (G.meaning g.new) result }
     ensures value { OnOk result (IsValue (view_object object.now)) }
@@ -127,7 +126,7 @@ fn write_members<G: Generator>(
     g: &mut G,
     object: &Object,
     order: &Option<Vec<usize>>,
-    fault: &mut io::Error,
+    fault: &mut Fault,
 ) -> Step<()>
     requires { IsAnswer (G.meaning g.old).style (keys_of (entries_of object.now)) order.now }
     ensures written { PrintsIf (ArePairs (view_pairs (entries_of object.now))) (AreMembers (G.meaning g.old).style (G.meaning g.old).dent (viewed (entries_of object.now)) (positions (length (entries_of object.now)) order.now))
@@ -159,7 +158,7 @@ fn write_pair<G: Generator>(
     g: &mut G,
     key: &str,
     value: &JsonValue,
-    fault: &mut io::Error,
+    fault: &mut Fault,
 ) -> Step<()>
     ensures written { PrintsIf (IsValue (view value.now)) (IsEntry (G.meaning g.old).style (G.meaning g.old).dent (key.now, view value.now))
         (G.meaning g.old) (G.meaning g.new) result }
@@ -171,7 +170,7 @@ fn write_pair<G: Generator>(
 }
 
 // What stands before an item: a comma, unless it is the first, and a blank.
-fn begin_item<G: Generator>(g: &mut G, comma: bool, fault: &mut io::Error) -> Step<()>
+fn begin_item<G: Generator>(g: &mut G, comma: bool, fault: &mut Fault) -> Step<()>
     ensures { Emits (IsBetween (G.meaning g.old).style (G.meaning g.old).dent comma)
         (G.meaning g.old) (G.meaning g.new) result }
 {
@@ -182,7 +181,7 @@ fn begin_item<G: Generator>(g: &mut G, comma: bool, fault: &mut io::Error) -> St
 }
 
 // Closes an indent, and adds a blank and the bracket.
-fn close<G: Generator>(g: &mut G, bracket: u8, fault: &mut io::Error) -> Step<()>
+fn close<G: Generator>(g: &mut G, bracket: u8, fault: &mut Fault) -> Step<()>
     requires { 0 < (G.meaning g.old).dent }
     ensures { Emits (IsClosing (G.meaning g.old).style ((G.meaning g.old).dent - 1) bracket) (record (G.meaning g.old) { dent = (G.meaning g.old).dent - 1 }) (G.meaning g.new) result }
 {
