@@ -7,6 +7,7 @@ mod nesting;
 mod pretty;
 mod pretty_writer;
 mod print;
+mod print_object;
 mod send;
 mod step;
 mod visit;

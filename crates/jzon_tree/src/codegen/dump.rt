@@ -1,6 +1,6 @@
 //! Compact text, in memory.
 
-ghost use Rattle.std.specs.Prelude.{◌≡◌, [], None, Some, refl};
+ghost use Rattle.std.specs.Prelude.{◌≡◌, [], None, Some, IsUtf8, string_bytes, refl};
 ghost use Rattle.jzon_tree.specs.Generators.{dump_meaning, fresh, IsConsumed};
 ghost use Rattle.jzon_tree.specs.StyleLaws.{IsStyle-compact};
 ghost use Rattle.jzon_tree.specs.Styles.{compact_style};
@@ -36,6 +36,14 @@ impl DumpGenerator {
         ensures { IsConsumed (dump_meaning self).out result }
     {
         String::from_utf8(self.code).map_err(|_| Error::FailedUtf8Parsing)
+    }
+
+    // The same of bytes that are UTF-8, without a test.
+    pub(super) fn into_text(self) -> String
+        requires { IsUtf8 self.code.items }
+        ensures { string_bytes result ≡ self.code.items }
+    {
+        unsafe { String::from_utf8_unchecked(self.code) }
     }
 }
 

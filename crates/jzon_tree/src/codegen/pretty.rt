@@ -1,6 +1,6 @@
 //! Text with a line for each item, in memory.
 
-ghost use Rattle.std.specs.Prelude.{◌≡◌, [], None, Some, refl};
+ghost use Rattle.std.specs.Prelude.{◌≡◌, [], None, Some, IsUtf8, string_bytes, refl};
 ghost use Rattle.jzon_tree.specs.Generators.{pretty_meaning, fresh, IsConsumed};
 ghost use Rattle.jzon_tree.specs.StyleLaws.{IsStyle-pretty};
 ghost use Rattle.jzon_tree.specs.Styles.{pretty_style};
@@ -41,6 +41,14 @@ impl PrettyGenerator {
         ensures { IsConsumed (pretty_meaning self).out result }
     {
         String::from_utf8(self.code).map_err(|_| Error::FailedUtf8Parsing)
+    }
+
+    // The same of bytes that are UTF-8, without a test.
+    pub(super) fn into_text(self) -> String
+        requires { IsUtf8 self.code.items }
+        ensures { string_bytes result ≡ self.code.items }
+    {
+        unsafe { String::from_utf8_unchecked(self.code) }
     }
 }
 
