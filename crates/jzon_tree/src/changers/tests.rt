@@ -147,3 +147,29 @@ fn refuses_another_kind(rt: HostRuntime) -> Tested {
     }
     Ok(())
 }
+
+/// A source that is always refused.
+#[derive(Drop)]
+struct Refused;
+
+impl IntoJson for Refused {
+    ghost use Rattle.std.specs.Prelude.{⊤};
+
+    ghost means = { λ _ _. ⊤ };
+
+    fn into_json(self, _alloc: Global) -> Result<JsonValue> {
+        Err(Error::OutOfMemory)
+    }
+}
+
+#[test]
+fn tests_the_kind_first(rt: HostRuntime) -> Tested {
+    let alloc = rt.alloc();
+    let mut value = number(1);
+    assert!(rt; matches!(value.push(alloc, Refused), Err(Error::WrongType(_))));
+    assert!(rt; matches!(value.insert(alloc, "a", Refused), Err(Error::WrongType(_))));
+    expect_dump(&rt, alloc, &value, "1")?;
+    let mut value = array(alloc)?;
+    assert!(rt; matches!(value.push(alloc, Refused), Err(Error::OutOfMemory)));
+    expect_dump(&rt, alloc, &value, "[1,2,3]")
+}

@@ -25,11 +25,7 @@ pub(crate) fn send<W: Write>(writer: &mut W, bytes: &[u8], fault: &mut Fault) ->
 }
 
 /// Sends the text of the number, or `null` for NaN.
-pub(crate) fn send_number<W: Write>(
-    writer: &mut W,
-    number: &Number,
-    fault: &mut Fault,
-) -> Step<()>
+pub(crate) fn send_number<W: Write>(writer: &mut W, number: &Number, fault: &mut Fault) -> Step<()>
     ensures { Sends (Just (written_text number.now)) (W.contents writer.old) (W.contents writer.new) result }
 {
     if number.is_nan() {
@@ -124,7 +120,11 @@ fn send_escape<W: Write>(writer: &mut W, byte: u8, fault: &mut Fault) -> Step<()
         b'\r' => send(writer, b"\\r", fault),
         _ => {
             let digits = [hex_digit(byte / 16), hex_digit(byte % 16)];
-            send(writer, &[b'\\', b'u', b'0', b'0', digits[0], digits[1]], fault)
+            send(
+                writer,
+                &[b'\\', b'u', b'0', b'0', digits[0], digits[1]],
+                fault,
+            )
         }
     }
 }

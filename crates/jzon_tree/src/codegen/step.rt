@@ -36,21 +36,13 @@ pub(super) fn write_min<G: Generator>(
     lay_aside(g.write_min(slice, min), fault)
 }
 
-pub(super) fn write_string<G: Generator>(
-    g: &mut G,
-    string: &str,
-    fault: &mut Fault,
-) -> Step<()>
+pub(super) fn write_string<G: Generator>(g: &mut G, string: &str, fault: &mut Fault) -> Step<()>
     ensures { Emits (Just (quoted string.now)) (G.meaning g.old) (G.meaning g.new) result }
 {
     lay_aside(g.write_string(string), fault)
 }
 
-pub(super) fn write_number<G: Generator>(
-    g: &mut G,
-    number: &Number,
-    fault: &mut Fault,
-) -> Step<()>
+pub(super) fn write_number<G: Generator>(g: &mut G, number: &Number, fault: &mut Fault) -> Step<()>
     ensures { Emits (Just (written_text number.now)) (G.meaning g.old) (G.meaning g.new) result }
 {
     lay_aside(g.write_number(number), fault)

@@ -6,8 +6,10 @@ ghost use Rattle.jzon_tree.specs.StyleLaws.{IsStyle-any};
 ghost use Rattle.jzon_tree.specs.Writing.{any_style, IsOrder};
 
 use super::*;
+use crate::object::Object;
+use crate::value::JsonValue;
 use jzon_base::error::Error;
-use jzon_base::number::NAN;
+use jzon_base::number::{NAN, Number};
 use std::alloc::{AllocError, Global};
 use std::io;
 use std::io::Write;
@@ -352,16 +354,22 @@ fn writes_the_rest_escaped(rt: HostRuntime) -> Tested {
 }
 
 #[test]
-fn stops_at_a_fault(rt: HostRuntime) -> Tested {
+fn stops_at_a_fault_and_hands_it_back(rt: HostRuntime) -> Tested {
     let mut writer = FaultyWriter::new(rt.alloc(), 4);
     let result = array(rt.alloc(), &[1, 2, 3])?.write(&mut writer);
-    assert!(rt; result.is_err());
+    assert_eq!(rt;
+        result.err().map(|error| error.kind()),
+        Some(io::ErrorKind::BrokenPipe)
+    );
     assert_eq!(rt; writer.bytes.as_slice(), b"[1,".as_slice());
     assert_eq!(rt; writer.calls, 4);
     let mut writer = FaultyWriter::new(rt.alloc(), 4);
     let mut generator = PrettyWriterGenerator::new(&mut writer, 2);
     let result = write_json(&mut generator, &array(rt.alloc(), &[1])?);
-    assert!(rt; result.is_err());
+    assert_eq!(rt;
+        result.err().map(|error| error.kind()),
+        Some(io::ErrorKind::BrokenPipe)
+    );
     assert_eq!(rt; generator.dent(), 1);
     assert_eq!(rt; generator.faults(), 1);
     assert_eq!(rt; writer.bytes.as_slice(), b"[\n ".as_slice());

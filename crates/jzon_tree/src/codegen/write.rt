@@ -154,12 +154,7 @@ fn position_of(order: &Option<Vec<usize>>, index: usize, count: usize) -> usize
 }
 
 #[cycle(write_value)]
-fn write_pair<G: Generator>(
-    g: &mut G,
-    key: &str,
-    value: &JsonValue,
-    fault: &mut Fault,
-) -> Step<()>
+fn write_pair<G: Generator>(g: &mut G, key: &str, value: &JsonValue, fault: &mut Fault) -> Step<()>
     ensures written { PrintsIf (IsValue (view value.now)) (IsEntry (G.meaning g.old).style (G.meaning g.old).dent (key.now, view value.now))
         (G.meaning g.old) (G.meaning g.new) result }
     ensures value { OnOk result (IsPair (key.now, view value.now)) }

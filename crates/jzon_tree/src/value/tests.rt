@@ -1,7 +1,9 @@
 ghost use Rattle.std.specs.Prelude.{◌≤◌, length};
 
 use super::*;
+use jzon_base::error::Result;
 use jzon_base::number::NAN;
+use std::alloc::Global;
 use std::test::Fail;
 
 fn number(positive: bool, mantissa: u64, exponent: i16) -> JsonValue {

@@ -55,12 +55,11 @@ pub write_items-loop-index-preserved : goal.write_items-loop-index-preserved
 write_items-loop-index-preserved g t c =
     let items = c.args.items.now in
     let i = c.loop-index.index in
-    let x = c.index-items-index.result in
-    (
+    let x = c.index-items-index.result in (
       rw (map-take_more view items i x (omega arith) c.index-items-index.is)
-      (items_more _ (g.met.G.Generator.style_law c.args.g.now) (map view (take i items)) (view x) (map view (drop (i + 1) items)) _ _ c.loop-index.invariant.0 _
-      (rw (length-map-take view items i (omega arith)) c.in_ok-begin_item.ensures) c.in_ok-write_value.ensures.written),
-      keyed_more items i x (omega arith) c.index-items-index.is c.loop-index.invariant.1 c.in_ok-write_value.ensures.value
+          (items_more _ (g.met.G.Generator.style_law c.args.g.now) (map view (take i items)) (view x) (map view (drop (i + 1) items)) _ _ c.loop-index.invariant.0 _
+          (rw (length-map-take view items i (omega arith)) c.in_ok-begin_item.ensures) c.in_ok-write_value.ensures.written),
+      keyed_more items i x (omega arith) c.index-items-index.is c.loop-index.invariant.1 c.in_ok-write_value.ensures.value,
     )
 
 pub write_pair-returns-in_err-write_string-clause-written : goal.write_pair-returns-in_err-write_string-clause-written
@@ -133,14 +132,13 @@ write_members-loop-index-preserved g t c =
     let a = g.G.Generator.meaning c.args.g.now in
     let entries = entries_of c.args.object.now in
     let length_is = answer_length a.style entries c.args.order.now c.requires in
-    let here = sym (ap (pair_at (viewed entries)) (rw c.len.ensures.len at c.position_of-position.ensures)) ∙ entry_at entries c.position_of-position.result c.get_at.result.0.now c.get_at.result.1.now c.get_at.ensures in
-    (
+    let here = sym (ap (pair_at (viewed entries)) (rw c.len.ensures.len at c.position_of-position.ensures)) ∙ entry_at entries c.position_of-position.result c.get_at.result.0.now c.get_at.result.1.now c.get_at.ensures in (
       members_more a (g.met.G.Generator.style_law c.args.g.now) (viewed entries) (positions (length entries) c.args.order.now) (answer_order a.style entries c.args.order.now c.requires)
-      c.loop-index.index _ (rw length_is (rw c.len-index-end.ensures.len at c.loop-index-test.true))
-      (sym (ap (pair_at (viewed entries)) (rw c.len.ensures.len at c.position_of-position.ensures)) ∙ entry_at entries c.position_of-position.result c.get_at.result.0.now c.get_at.result.1.now c.get_at.ensures)
-      _ _ c.loop-index.invariant.0 _ c.in_ok-begin_item.ensures c.in_ok-write_pair.ensures.written,
+          c.loop-index.index _ (rw length_is (rw c.len-index-end.ensures.len at c.loop-index-test.true))
+          (sym (ap (pair_at (viewed entries)) (rw c.len.ensures.len at c.position_of-position.ensures)) ∙ entry_at entries c.position_of-position.result c.get_at.result.0.now c.get_at.result.1.now c.get_at.ensures)
+          _ _ c.loop-index.invariant.0 _ c.in_ok-begin_item.ensures c.in_ok-write_pair.ensures.written,
       named_more (viewed entries) (positions (length entries) c.args.order.now) c.loop-index.index
-      (subst IsPair (sym here) c.in_ok-write_pair.ensures.value) c.loop-index.invariant.1
+          (subst IsPair (sym here) c.in_ok-write_pair.ensures.value) c.loop-index.invariant.1,
     )
 
 pub write_members-returns-clause-written : goal.write_members-returns-clause-written
