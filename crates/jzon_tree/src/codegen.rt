@@ -20,6 +20,3 @@ pub use pretty::PrettyGenerator;
 pub use pretty_writer::PrettyWriterGenerator;
 pub use write::{write_json, write_object};
 pub use writer::WriterGenerator;
-
-#[cfg(test)]
-mod tests;

@@ -35,6 +35,3 @@ impl IntoJson for JsonValue {
         Ok(self)
     }
 }
-
-#[cfg(test)]
-mod tests;

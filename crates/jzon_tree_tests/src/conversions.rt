@@ -1,11 +1,13 @@
-use super::*;
-use crate::object::Object;
+//! What turns into a value.
+
+use crate::common::Tested;
 use jzon_base::number::{NAN, Number};
+use jzon_tree::into_json::IntoJson;
+use jzon_tree::object::Object;
+use jzon_tree::value::JsonValue;
+use std::alloc::Global;
 use std::collections::{BTreeMap, HashMap};
 use std::process::Abort;
-use std::test::Fail;
-
-type Tested = std::result::Result<(), Fail>;
 
 const THIRTY: &str = "abcdefghijklmnopqrstuvwxyz0123";
 
@@ -51,15 +53,19 @@ fn turns_what_takes_no_memory(rt: HostRuntime) -> Tested {
     expect_dump(&rt, alloc, JsonValue::Boolean(false), "false")
 }
 
+// It is a text that is kept so.
+fn expect_kept(rt: &impl Abort, value: &JsonValue, is_short: bool, text: &str) {
+    assert_eq!(rt; matches!(value, JsonValue::Short(_)), is_short);
+    assert_eq!(rt; value.as_str(), Some(text));
+}
+
 #[test]
 fn keeps_short_texts_in_place(rt: HostRuntime) -> Tested {
     let alloc = rt.alloc();
-    assert!(rt; matches!(THIRTY.into_json(alloc)?, JsonValue::Short(_)));
-    assert!(rt; matches!(THIRTY_ONE.into_json(alloc)?, JsonValue::String(_)));
-    assert_eq!(rt; THIRTY.into_json(alloc)?.as_str(), Some(THIRTY));
-    assert_eq!(rt; THIRTY_ONE.into_json(alloc)?.as_str(), Some(THIRTY_ONE));
+    expect_kept(&rt, &THIRTY.into_json(alloc)?, true, THIRTY);
+    expect_kept(&rt, &THIRTY_ONE.into_json(alloc)?, false, THIRTY_ONE);
     let text = String::from_str(alloc, "a")?;
-    assert!(rt; matches!(text.into_json(alloc)?, JsonValue::String(_)));
+    expect_kept(&rt, &text.into_json(alloc)?, false, "a");
     Ok(())
 }
 
@@ -81,27 +87,34 @@ fn turns_lists(rt: HostRuntime) -> Tested {
 fn turns_maps(rt: HostRuntime) -> Tested {
     let alloc = rt.alloc();
     let mut map = BTreeMap::new(alloc);
-    map.insert("name", "Maciej".into_json(alloc)?)?;
-    map.insert("age", 30u8.into_json(alloc)?)?;
-    expect_dump(&rt, alloc, map, "{\"age\":30,\"name\":\"Maciej\"}")?;
+    map.insert("name", "Maciej")?;
+    map.insert("age", "30")?;
+    expect_dump(&rt, alloc, map, "{\"age\":\"30\",\"name\":\"Maciej\"}")?;
     let mut map = BTreeMap::new(alloc);
     map.insert(String::from_str(alloc, "b")?, 2u8)?;
     map.insert(String::from_str(alloc, "a")?, 1u8)?;
-    expect_dump(&rt, alloc, map, "{\"a\":1,\"b\":2}")?;
+    expect_dump(&rt, alloc, map, "{\"a\":1,\"b\":2}")
+}
+
+#[test]
+fn turns_hash_maps(rt: HostRuntime) -> Tested {
+    let alloc = rt.alloc();
     let mut map = HashMap::new(alloc);
     map.insert("b", Some(2u8))?;
     map.insert("a", None)?;
     let value = map.into_json(alloc)?;
     assert_eq!(rt; value.len(), 2);
     assert!(rt; value.at("a").is_null() && value.at("b").eq_u64(2));
+    Ok(())
+}
+
+#[test]
+fn turns_hash_maps_of_texts(rt: HostRuntime) -> Tested {
+    let alloc = rt.alloc();
     let mut map = HashMap::new(alloc);
     map.insert(String::from_str(alloc, THIRTY_ONE)?, true)?;
-    expect_dump(
-        &rt,
-        alloc,
-        map,
-        "{\"abcdefghijklmnopqrstuvwxyz01234\":true}",
-    )
+    let text = "{\"abcdefghijklmnopqrstuvwxyz01234\":true}";
+    expect_dump(&rt, alloc, map, text)
 }
 
 #[test]

@@ -1,0 +1,13 @@
+//! Tests of `jzon_tree` by its public items alone.
+#![tactic(auto)]
+
+#[cfg(test)]
+mod common;
+#[cfg(test)]
+mod conversions;
+#[cfg(test)]
+mod generators;
+#[cfg(test)]
+mod printing;
+#[cfg(test)]
+mod writers;

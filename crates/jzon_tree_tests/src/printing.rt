@@ -1,0 +1,154 @@
+//! What is printed, by each of the calls that print.
+
+use crate::common::{Tested, empty_containers, expect_bytes, numbers};
+use jzon_base::error::Error;
+use jzon_base::number::NAN;
+use jzon_tree::codegen::{
+    DumpGenerator, Generator, PrettyGenerator, PrettyWriterGenerator, WriterGenerator, write_json,
+};
+use jzon_tree::object::Object;
+use jzon_tree::value::JsonValue;
+use std::alloc::Global;
+use std::io;
+use std::process::Abort;
+use std::test::Fail;
+
+fn dumped(alloc: Global, value: &JsonValue) -> Result<String, Fail> {
+    let mut generator = DumpGenerator::new(alloc);
+    write_json(&mut generator, value)?;
+    Ok(generator.consume()?)
+}
+
+fn prettified(alloc: Global, value: &JsonValue, spaces: u16) -> Result<String, Fail> {
+    let mut generator = PrettyGenerator::new(alloc, spaces);
+    write_json(&mut generator, value)?;
+    Ok(generator.consume()?)
+}
+
+// Each call prints this compact text of the value.
+fn expect_compact(rt: &impl Abort, alloc: Global, value: &JsonValue, text: &str) -> Tested {
+    assert_eq!(rt; value.dump(alloc)?.as_str(), text);
+    assert_eq!(rt; dumped(alloc, value)?.as_str(), text);
+    let mut bytes = Vec::new(alloc);
+    value.write(&mut bytes)?;
+    expect_bytes(rt, &bytes, text);
+    Ok(())
+}
+
+// Each call prints this text of the value, with so many blanks for each open container.
+fn expect_pretty(
+    rt: &impl Abort,
+    alloc: Global,
+    value: &JsonValue,
+    spaces: u16,
+    text: &str,
+) -> Tested {
+    assert_eq!(rt; value.pretty(alloc, spaces)?.as_str(), text);
+    assert_eq!(rt; prettified(alloc, value, spaces)?.as_str(), text);
+    let mut bytes = Vec::new(alloc);
+    value.write_pretty(&mut bytes, spaces)?;
+    expect_bytes(rt, &bytes, text);
+    Ok(())
+}
+
+#[test]
+fn prints_containers(rt: HostRuntime) -> Tested {
+    let value = empty_containers(rt.alloc())?;
+    expect_compact(&rt, rt.alloc(), &value, "{\"a\":[],\"b\":{}}")?;
+    expect_pretty(
+        &rt,
+        rt.alloc(),
+        &value,
+        2,
+        "{\n  \"a\": [],\n  \"b\": {}\n}",
+    )
+}
+
+#[test]
+fn prints_numbers(rt: HostRuntime) -> Tested {
+    let value = numbers(rt.alloc(), &[1, 2])?;
+    expect_compact(&rt, rt.alloc(), &value, "[1,2]")?;
+    expect_pretty(&rt, rt.alloc(), &value, 4, "[\n    1,\n    2\n]")?;
+    expect_pretty(&rt, rt.alloc(), &value, 0, "[\n1,\n2\n]")?;
+    expect_compact(&rt, rt.alloc(), &JsonValue::Number(NAN), "null")
+}
+
+#[test]
+fn prints_the_most_blanks(rt: HostRuntime) -> Tested {
+    let value = numbers(rt.alloc(), &[1])?;
+    assert_eq!(rt; value.pretty(rt.alloc(), 65535)?.len(), 65540);
+    assert_eq!(rt; prettified(rt.alloc(), &value, 65535)?.len(), 65540);
+    Ok(())
+}
+
+#[test]
+fn prettifies_an_object(rt: HostRuntime) -> Tested {
+    let mut object = Object::new(rt.alloc());
+    object.insert(rt.alloc(), "a", JsonValue::Null)?;
+    object.insert(rt.alloc(), "b", numbers(rt.alloc(), &[2])?)?;
+    let text = object.pretty(rt.alloc(), 1)?;
+    assert_eq!(rt; text.as_str(), "{\n \"a\": null,\n \"b\": [\n  2\n ]\n}");
+    Ok(())
+}
+
+// A string of which the first bytes are known to be plain, twice.
+fn write_complex<G: Generator>(generator: &mut G) -> io::Result<()> {
+    generator.write_string_complex("ab\"c", 2)?;
+    generator.write_string_complex("ab\"c", 3)
+}
+
+const COMPLEX: &str = "ab\\\"c\"ab\"c\"";
+
+#[test]
+fn writes_the_rest_escaped(rt: HostRuntime) -> Tested {
+    let mut generator = DumpGenerator::new(rt.alloc());
+    write_complex(&mut generator)?;
+    assert_eq!(rt; generator.consume()?.as_str(), COMPLEX);
+    let mut generator = PrettyGenerator::new(rt.alloc(), 2);
+    write_complex(&mut generator)?;
+    assert_eq!(rt; generator.consume()?.as_str(), COMPLEX);
+    Ok(())
+}
+
+#[test]
+fn writes_the_rest_escaped_to_a_writer(rt: HostRuntime) -> Tested {
+    let mut bytes = Vec::new(rt.alloc());
+    write_complex(&mut WriterGenerator::new(&mut bytes))?;
+    write_complex(&mut PrettyWriterGenerator::new(&mut bytes, 2))?;
+    expect_bytes(&rt, &bytes, "ab\\\"c\"ab\"c\"ab\\\"c\"ab\"c\"");
+    Ok(())
+}
+
+#[test]
+fn refuses_an_indent(rt: HostRuntime) {
+    let mut generator = DumpGenerator::new(rt.alloc());
+    generator.set_dent(u64::MAX);
+    assert!(rt; generator.indent().is_err());
+    assert_eq!(rt; generator.dent(), u64::MAX);
+    assert_eq!(rt; generator.faults(), 1);
+}
+
+fn dump_of_bytes(alloc: Global, bytes: &[u8]) -> Result<Result<String, Error>, Fail> {
+    let mut generator = DumpGenerator::new(alloc);
+    generator.write(bytes)?;
+    Ok(generator.consume())
+}
+
+fn pretty_of_bytes(alloc: Global, bytes: &[u8]) -> Result<Result<String, Error>, Fail> {
+    let mut generator = PrettyGenerator::new(alloc, 2);
+    generator.write(bytes)?;
+    Ok(generator.consume())
+}
+
+#[test]
+fn consumes_no_foreign_bytes(rt: HostRuntime) -> Tested {
+    for bytes in [b"\xff".as_slice(), b"\xc3", b"\xed\xa0\x80"] {
+        let dump = dump_of_bytes(rt.alloc(), bytes)?;
+        assert!(rt; matches!(dump, Err(Error::FailedUtf8Parsing)));
+        let pretty = pretty_of_bytes(rt.alloc(), bytes)?;
+        assert!(rt; matches!(pretty, Err(Error::FailedUtf8Parsing)));
+    }
+    assert_eq!(rt; dump_of_bytes(rt.alloc(), b"\xc3\xa9")??.as_str(), "é");
+    assert_eq!(rt; pretty_of_bytes(rt.alloc(), b"\xc3\xa9")??.as_str(), "é");
+    Ok(())
+}

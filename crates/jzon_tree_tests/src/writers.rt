@@ -1,0 +1,73 @@
+//! Writers that fail.
+
+ghost use Rattle.std.specs.Prelude.{Some};
+
+use crate::common::{Tested, expect_bytes, numbers};
+use jzon_tree::codegen::{Generator, PrettyWriterGenerator, write_json};
+use std::alloc::Global;
+use std::io;
+use std::io::Write;
+
+/// A writer that takes one byte a call, and fails at one call alone.
+#[derive(Drop)]
+struct FaultyWriter {
+    bytes: Vec<u8>,
+    calls: usize,
+    faulty_call: usize,
+}
+
+impl FaultyWriter {
+    fn new(alloc: Global, faulty_call: usize) -> FaultyWriter {
+        FaultyWriter {
+            bytes: Vec::new(alloc),
+            calls: 0,
+            faulty_call,
+        }
+    }
+}
+
+impl Write for FaultyWriter {
+    ghost contents = { λ w. Some w.bytes.items };
+
+    fn write(&mut self, buf: &[u8]) -> io::Result<usize> {
+        self.calls = self.calls.saturating_add(1);
+        if self.calls == self.faulty_call {
+            return Err(io::Error::from(io::ErrorKind::BrokenPipe));
+        }
+        match buf.first() {
+            Some(byte) => {
+                self.bytes.push(*byte)?;
+                Ok(1)
+            }
+            None => Ok(0),
+        }
+    }
+
+    fn flush(&mut self) -> io::Result<()> {
+        Ok(())
+    }
+}
+
+#[test]
+fn stops_at_a_fault_and_hands_it_back(rt: HostRuntime) -> Tested {
+    let value = numbers(rt.alloc(), &[1, 2, 3])?;
+    let mut writer = FaultyWriter::new(rt.alloc(), 4);
+    let fault = value.write(&mut writer).err();
+    assert_eq!(rt; fault.map(|error| error.kind()), Some(io::ErrorKind::BrokenPipe));
+    expect_bytes(&rt, &writer.bytes, "[1,");
+    assert_eq!(rt; writer.calls, 4);
+    Ok(())
+}
+
+#[test]
+fn notes_one_fault(rt: HostRuntime) -> Tested {
+    let value = numbers(rt.alloc(), &[1])?;
+    let mut writer = FaultyWriter::new(rt.alloc(), 4);
+    let mut generator = PrettyWriterGenerator::new(&mut writer, 2);
+    let fault = write_json(&mut generator, &value).err();
+    assert_eq!(rt; fault.map(|error| error.kind()), Some(io::ErrorKind::BrokenPipe));
+    assert_eq!(rt; generator.dent(), 1);
+    assert_eq!(rt; generator.faults(), 1);
+    expect_bytes(&rt, &writer.bytes, "[\n ");
+    Ok(())
+}
