@@ -53,7 +53,10 @@ fn stops_at_a_fault_and_hands_it_back(rt: HostRuntime) -> Tested {
     let value = numbers(rt.alloc(), &[1, 2, 3])?;
     let mut writer = FaultyWriter::new(rt.alloc(), 4);
     let fault = value.write(&mut writer).err();
-    assert_eq!(rt; fault.map(|error| error.kind()), Some(io::ErrorKind::BrokenPipe));
+    assert_eq!(rt;
+        fault.map(|error| error.kind()),
+        Some(io::ErrorKind::BrokenPipe)
+    );
     expect_bytes(&rt, &writer.bytes, "[1,");
     assert_eq!(rt; writer.calls, 4);
     Ok(())
@@ -65,7 +68,10 @@ fn notes_one_fault(rt: HostRuntime) -> Tested {
     let mut writer = FaultyWriter::new(rt.alloc(), 4);
     let mut generator = PrettyWriterGenerator::new(&mut writer, 2);
     let fault = write_json(&mut generator, &value).err();
-    assert_eq!(rt; fault.map(|error| error.kind()), Some(io::ErrorKind::BrokenPipe));
+    assert_eq!(rt;
+        fault.map(|error| error.kind()),
+        Some(io::ErrorKind::BrokenPipe)
+    );
     assert_eq!(rt; generator.dent(), 1);
     assert_eq!(rt; generator.faults(), 1);
     expect_bytes(&rt, &writer.bytes, "[\n ");
