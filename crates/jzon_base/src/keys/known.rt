@@ -86,7 +86,7 @@ fn is_in(runs: &[Run], keys: &[Key], hash: u64, name: &str) -> bool
     false
 }
 
-/// The first keys of a list, as runs of which each is at least twice as long as the next.
+/// The first keys of a list, as runs of which each is at least eight times as long as the next.
 #[derive(Drop)]
 pub struct Known {
     runs: Vec<Run>,
@@ -114,12 +114,12 @@ impl Known {
         self.count = 0;
     }
 
-    /// Whether the last run is longer than half of the one before it.
+    /// Whether the last run is longer than an eighth of the one before it.
     fn is_uneven(&self) -> bool
         ensures { OnTrue result (1 < length self.now.runs.items) }
     {
         let count = self.runs.len();
-        1 < count && self.runs[count - 2].len() / 2 < self.runs[count - 1].len()
+        1 < count && self.runs[count - 2].len() / 8 < self.runs[count - 1].len()
     }
 
     /// Makes the last two runs one. The error is a refused growth.
