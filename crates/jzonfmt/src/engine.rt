@@ -158,6 +158,8 @@ fn printed_text(
         return Err(RunFault::NotUtf8);
     };
     let value = jzon::parse_as(alloc, source, reading)?;
+    // No reading goes deeper than 512, so what was read can be printed.
+    let _depth = reading.depth();
     let mut text = match layout {
         Layout::Compact => value.dump(alloc)?,
         Layout::Pretty(spaces) => value.pretty(alloc, spaces)?,
