@@ -1,0 +1,31 @@
+-- What is seen of an object while it is patched.
+use Rattle.std.proofs.Common.{◌≡◌, ℕ, List, false, option_map, refl, sym, ap, ◌∙◌}
+use Rattle.jzon.specs.Entries.{entries_of}
+use Rattle.jzon.specs.JsonValue.{JsonValue}
+use Rattle.jzon.specs.Object.{Object}
+use Rattle.jzon.specs.PairList.{find}
+use Rattle.jzon.specs.Readers.{entries, is_object}
+use Rattle.jzon.specs.Value.{Value, null, boolean, text, number, array, object}
+use Rattle.jzon.specs.View.{view, viewed, view_object}
+use Rattle.jzon.proofs.ValueLaws.{view-Object, view-Null, entries-Object, list_of_pairs-pairs_of, viewed-put}
+use Rattle.jzon.proofs.ValueLaws.{viewed-cut, find-viewed}
+use Rattle.jzon_examples.specs.Merge.{patched}
+
+-- objects that are seen as the same have the same pairs
+pub same_pairs : (o p : Object) → view_object o ≡ view_object p → viewed (entries_of o) ≡ viewed (entries_of p)
+same_pairs o p e =
+    sym (list_of_pairs-pairs_of (viewed (entries_of o))) ∙ ap entries e ∙ list_of_pairs-pairs_of (viewed (entries_of p))
+
+pub patched-other : (t v : Value) → is_object v ≡ false → v ≡ patched t v
+patched-other t null h = refl
+patched-other t (boolean b) h = refl
+patched-other t (text k s) h = refl
+patched-other t (number n) h = refl
+patched-other t (array vs) h = refl
+patched-other t (object ps) h = absurd (cc)
+
+-- what is found among the pairs as they are seen
+pub found-viewed : (k : List ℕ) (ps : List (List ℕ × JsonValue)) → find k (viewed ps) ≡ option_map view (find k ps)
+found-viewed k ps = sym (find-viewed k ps)
+
+pub ruleset merges = (view-Object, view-Null, entries-Object, same_pairs, viewed-put, viewed-cut, found-viewed)

@@ -1,0 +1,24 @@
+-- What a configuration holds, and what an error tells.
+use Rattle.std.specs.Prelude.{◌≡◌, ◌⊎◌, ℕ, List, Option, Some, None, Result, MatchResult, codes}
+use Rattle.jzon.specs.Error.{Error}
+use Rattle.jzon.specs.Error.TheVariants.{OutOfMemory, UnexpectedCharacter, DuplicateKey}
+use Rattle.jzon.specs.PairList.{find}
+use Rattle.jzon.specs.Readers.{entries, or_null}
+use Rattle.jzon.specs.Value.{Value}
+
+-- the member of this name, or null
+abbrev pub member : List ℕ → Value → Value
+member k v = or_null (find k (entries v))
+
+abbrev pub port_value : Value → Value
+port_value v = member (codes "port") (member (codes "server") v)
+
+-- the line and the column
+abbrev pub place_told : Error → Option (ℕ × ℕ)
+place_told (UnexpectedCharacter c line column) = Some (line, column)
+place_told (DuplicateKey line column) = Some (line, column)
+place_told _ = None
+
+-- memory was refused, or it is this error
+abbrev pub Refuses : {T : Type 0} → Error → Result T Error → Type 0
+Refuses e r = MatchResult r (λ _. ⊥) (λ f. (f ≡ OutOfMemory) ⊎ (f ≡ e))

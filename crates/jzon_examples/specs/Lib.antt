@@ -1,0 +1,4 @@
+pub mod Config
+pub mod Merge
+pub mod Pointer
+pub mod Server

@@ -1,0 +1,35 @@
+//! Builds a value by the macros, changes it, and knows what it is.
+//!
+//! A macro hands a refusal on with `?`, so it stands in a function that answers a `Result`.
+
+ghost use Rattle.std.specs.Prelude.{◌≡◌, IfOk};
+ghost use Rattle.jzon.specs.View.{view};
+ghost use Rattle.jzon_examples.specs.Server.{server_value};
+
+use jzon::{JsonValue, Result};
+use std::alloc::Global;
+
+/// A server's record: its host, its port, and an empty list of tags.
+pub fn server(alloc: Global, host: &str, port: u16) -> Result<JsonValue>
+    ensures { IfOk result (λ v. view v ≡ server_value host.now port) }
+{
+    let mut value = jzon::object! {alloc; host: host, "port": port};
+    value.insert(alloc, "tags", JsonValue::new_array(alloc))?;
+    Ok(value)
+}
+
+#[cfg(test)]
+mod tests {
+    use super::*;
+    use std::test::Fail;
+
+    #[test]
+    fn builds(rt: HostRuntime) -> std::result::Result<(), Fail> {
+        let alloc = rt.alloc();
+        assert_eq!(rt;
+            server(alloc, "a", 80)?.dump(alloc)?.as_str(),
+            "{\"host\":\"a\",\"port\":80,\"tags\":[]}"
+        );
+        Ok(())
+    }
+}

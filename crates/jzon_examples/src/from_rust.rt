@@ -1,0 +1,79 @@
+//! What a user of the Rust crate writes, in the form that it has here (docs/FROM_RUST.md quotes these lines).
+
+use jzon::{JsonValue, Result};
+use std::alloc::Global;
+
+/// Reads a document, prints it, looks into it, and builds another.
+pub fn first_look(alloc: Global) -> Result<bool> {
+    let value = jzon::parse(alloc, "[1, -12.50e3, {\"a\": null}]")?;
+    let text = value.dump(alloc)?;
+    let first = value.at_index(0).as_u64();
+    let built = jzon::object! {alloc; a: [1, null], "b": true};
+    Ok(text.as_str() == "[1,-12500,{\"a\":null}]" && first == Some(1) && built.len() == 2)
+}
+
+/// Reads a document, looks into it, changes it, and prints it.
+pub fn tour(alloc: Global, text: &str) -> Result<String> {
+    let mut data = jzon::parse(alloc, text)?;
+    let first = data.at("list").at_index(0).as_u64();
+    let is_named = data.at("name").eq_str("x");
+    *data.at_mut(alloc, "count")? = jzon::from(alloc, 1u8)?;
+    data.insert(alloc, "first", first)?;
+    data.insert(alloc, "is_named", is_named)?;
+    data.at_mut(alloc, "list")?.push(alloc, "last")?;
+    data.insert(alloc, "built", built(alloc)?)?;
+    data.dump(alloc)
+}
+
+/// Values written as their texts would be.
+fn built(alloc: Global) -> Result<JsonValue> {
+    let list = jzon::array![alloc; 1u8, "two", null];
+    let built = jzon::object! {alloc; a: 5u8, "b": [true, null], c: list};
+    Ok(built)
+}
+
+/// Goes over the pairs of an object, and over the items of an array.
+pub fn longest(value: &JsonValue) -> usize {
+    let mut most = 0;
+    for (key, item) in value.entries() {
+        most = most.max(key.len()).max(item.len());
+    }
+    for item in value.members() {
+        most = most.max(item.len());
+    }
+    most
+}
+
+/// A copy with the text in both layouts.
+pub fn printed(alloc: Global, value: &JsonValue) -> Result<JsonValue> {
+    let copy = value.clone(alloc)?;
+    let compact = copy.dump(alloc)?;
+    let lines = copy.pretty(alloc, 4)?;
+    let text = jzon::stringify(alloc, "text")?;
+    let texts = jzon::array![alloc; compact, lines, text];
+    Ok(texts)
+}
+
+#[cfg(test)]
+mod tests {
+    use super::*;
+    use std::test::Fail;
+
+    #[test]
+    fn tours(rt: HostRuntime) -> std::result::Result<(), Fail> {
+        let alloc = rt.alloc();
+        assert!(rt; first_look(alloc)?);
+        let text = tour(alloc, "{\"list\": [7], \"name\": \"x\"}")?;
+        assert_eq!(rt;
+            text.as_str(),
+            "{\"list\":[7,\"last\"],\"name\":\"x\",\"count\":1,\"first\":7,\"is_named\":true,\"built\":{\"a\":5,\"b\":[true,null],\"c\":[1,\"two\",null]}}"
+        );
+        let value = jzon::parse(alloc, "{\"abc\": [1, 2]}")?;
+        assert_eq!(rt; longest(&value), 3);
+        assert_eq!(rt;
+            printed(alloc, &value)?.at_index(2).as_str(),
+            Some("\"text\"")
+        );
+        Ok(())
+    }
+}

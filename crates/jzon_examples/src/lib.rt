@@ -1,0 +1,10 @@
+//! Proved callers of `jzon`, each a page (docs/CALLERS.md): they name no word but those of `jzon`.
+#![tactic(auto)]
+
+pub mod building;
+pub mod faults;
+pub mod from_rust;
+pub mod merge_patch;
+pub mod pointer;
+pub mod round_trip;
+pub mod writing;
