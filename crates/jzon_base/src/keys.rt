@@ -304,6 +304,7 @@ mod tests {
         ] {
             assert_eq!(rt; keys.position(name), want, "of {name}");
         }
+        assert_eq!(rt; keys.len(), 4);
         keys.remove(1);
         for (name, want) in [
             ("a", Some(0usize)),
