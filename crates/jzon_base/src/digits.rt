@@ -31,34 +31,9 @@ pub enum DigitFault {
     Fraction(usize),
 }
 
-/// The number that is written in these digits: those before the point, those after it, and those of the exponent, with the signs of both. A part that is
-/// missing is empty, and the exponent is then 0. A `DigitFault` is told where there are too many digits, whatever the exponent is.
-pub fn read_number(
-    positive: bool,
-    whole: &[u8],
-    fraction: &[u8],
-    positive_exponent: bool,
-    exponent: &[u8],
-) -> Result<Number, DigitFault>
-    requires whole { All IsDigit whole.now }
-    requires fraction { All IsDigit fraction.now }
-    requires exponent { All IsDigit exponent.now }
-    ensures number { OkIff result (AreFewEnough whole.now fraction.now)
-        (read_number positive whole.now fraction.now (signed positive_exponent (digits_number exponent.now))) }
-    ensures fault { IfErr result (IsFirstTooMany whole.now fraction.now) }
-{
-    let number = number_modulo(whole, fraction);
-    read_scanned(
-        positive,
-        whole,
-        fraction,
-        number,
-        positive_exponent,
-        exponent,
-    )
-}
-
-/// The same, where `scan` has added up the digits before and after the point to this number, modulo 2^64.
+/// The number that is written in these digits: those before the point, those after it, and those of the exponent, with the signs of both; `number` is what `scan`
+/// says of the digits before and after the point, one after the other. A part that is missing is empty, and the exponent is then 0. A `DigitFault` is told where
+/// there are too many digits, whatever the exponent is.
 pub fn read_scanned(
     positive: bool,
     whole: &[u8],
@@ -98,17 +73,6 @@ pub fn scan(bytes: &[u8], before: u64) -> (usize, u64)
     ensures number { (n : ℕ) → before ≡ n % 2 ^ 64 → result.1 ≡ fold add_digit n (take result.0 bytes.now) % 2 ^ 64 }
 {
     read_digits(bytes, 0, before)
-}
-
-// The number that the digits before and after a point spell, modulo 2^64.
-fn number_modulo(whole: &[u8], fraction: &[u8]) -> u64
-    requires whole { All IsDigit whole.now }
-    requires fraction { All IsDigit fraction.now }
-    ensures { result ≡ digits_number (whole.now ++ fraction.now) % 2 ^ 64 }
-{
-    let (_, before) = scan(whole, 0);
-    let (_, number) = scan(fraction, before);
-    number
 }
 
 // The longest front of the digits before and after a point that spells a number below 2^64.
@@ -226,6 +190,3 @@ fn clamped(sum: i32) -> i16
 pub fn keeps_longest_front()
     ensures { KeepsLongestFront }
 {}
-
-#[cfg(test)]
-mod tests;

@@ -278,6 +278,3 @@ impl<V: fmt::Debug> fmt::Debug for Pairs<V> {
         f.debug_map().entries(self.iter()).finish()
     }
 }
-
-#[cfg(test)]
-mod tests;

@@ -9,7 +9,6 @@ ghost use Rattle.jzon_base.specs.Written.{AppendsBeginning};
 use crate::util::write_bytes;
 use arrayvec::ArrayString;
 use itoa::{Buffer, write_digits};
-use std::alloc::AllocError;
 use std::io;
 use std::io::Write;
 
@@ -80,20 +79,6 @@ fn put_sign(room: &mut [u8; MAX_LEN], start: usize, positive: bool) -> usize
     }
     room[start - 1] = b'-';
     start - 1
-}
-
-/// Adds the text of the number `mantissa * 10 ^ exponent` with its sign. Where memory is refused, nothing is added.
-pub fn append(
-    text: &mut String,
-    positive: bool,
-    mantissa: u64,
-    exponent: i16,
-) -> Result<(), AllocError>
-    ensures ok { OnOk result
-        (string_bytes text.new ≡ string_bytes text.old ++ number_text positive mantissa exponent) }
-    ensures err { OnErr result (string_bytes text.new ≡ string_bytes text.old) }
-{
-    text.push_str(number_text(positive, mantissa, exponent).as_str())
 }
 
 // The whole text of a number.
@@ -222,69 +207,5 @@ fn push_zeros(text: &mut NumberText, count: usize)
 {
     for _ in 0..count {
         text.push('0');
-    }
-}
-
-#[cfg(test)]
-mod tests {
-    use super::*;
-    use crate::number::Number;
-    use std::test::Fail;
-
-    #[test]
-    fn prints(rt: HostRuntime) -> Result<(), Fail> {
-        let rows = [
-            (true, 0, 100, "0"),
-            (false, 0, -100, "-0"),
-            (true, 5, -2, "0.05"),
-            (true, 100, -1, "10.0"),
-            (true, 3141592653589793, -15, "3.141592653589793"),
-            (true, 1, -17, "0.00000000000000001"),
-            (true, 1, -18, "1e-18"),
-            (true, 4750000000000001, -18, "4.750000000000001e-3"),
-            (true, 3141592653589793, -31, "3.141592653589793e-16"),
-            (true, 1, -32768, "1e-32768"),
-            (true, 1, 19, "10000000000000000000"),
-            (true, 1, 20, "1e20"),
-            (true, 5, 19, "50000000000000000000"),
-            (true, 7, 70, "7e70"),
-            (true, 3141592653589793, 35, "3.141592653589793e50"),
-            (
-                true,
-                18446744073709551615,
-                32767,
-                "1.8446744073709551615e32786",
-            ),
-            (true, 10000000000000000001, -18, "1.0000000000000000001e+1"),
-            (true, 10000000000000000001, -19, "1.0000000000000000001"),
-            (
-                false,
-                18446744073709551615,
-                -32768,
-                "-1.8446744073709551615e-32749",
-            ),
-            (true, 1844674407370955161, 2, "1.844674407370955161e20"),
-            (true, 12, 32767, "1.2e32768"),
-            (true, 150, -2, "1.50"),
-            (true, 15, -1, "1.5"),
-            (true, 100, -2, "1.00"),
-            (true, 0, 5, "0"),
-            (false, 1250, 1, "-12500"),
-            (true, 5000000000000000000, 1, "50000000000000000000"),
-            (true, 18446744073709551615, 0, "18446744073709551615"),
-            (false, 7, 0, "-7"),
-            (false, 18446744073709551615, -17, "-184.46744073709551615"),
-        ];
-        for (positive, mantissa, exponent, text) in rows {
-            let number = Number::from_parts_unchecked(positive, mantissa, exponent);
-            assert_eq!(rt; format!(in rt.alloc(); "{number}")?.as_str(), text);
-            let mut appended = String::from_str(rt.alloc(), "n = ")?;
-            append(&mut appended, positive, mantissa, exponent)?;
-            assert_eq!(rt; appended.strip_prefix("n = "), Some(text));
-            let mut written = Vec::new(rt.alloc());
-            write(&mut written, positive, mantissa, exponent)?;
-            assert_eq!(rt; written.as_slice(), text.as_bytes());
-        }
-        Ok(())
     }
 }

@@ -1,10 +1,10 @@
 //! Digits that are read into parts.
 
-ghost use Rattle.std.specs.Prelude.{IsTrue, ◌↔◌};
+ghost use Rattle.std.specs.Prelude.{◌≡◌, ◌↔◌, ◌++◌, ◌%◌, ◌^◌, IsTrue};
 ghost use Rattle.std.specs.List.{All};
-ghost use Rattle.jzon_base.specs.Digits.{IsDigit};
+ghost use Rattle.jzon_base.specs.Digits.{IsDigit, digits_number};
 
-use super::*;
+use jzon_base::digits::{DigitFault, read_scanned, scan};
 use std::alloc::{AllocError, Global};
 use std::test::Fail;
 
@@ -39,8 +39,20 @@ fn parts_read(
     if !are_digits(whole) || !are_digits(fraction) || !are_digits(exponent) {
         return None;
     }
-    let read = read_number(true, whole, fraction, positive_exponent, exponent);
+    let number = number_modulo(whole, fraction);
+    let read = read_scanned(true, whole, fraction, number, positive_exponent, exponent);
     Some(read.map(|number| number.as_parts()))
+}
+
+// The number that the digits before and after a point spell, modulo 2^64.
+fn number_modulo(whole: &[u8], fraction: &[u8]) -> u64
+    requires whole { All IsDigit whole.now }
+    requires fraction { All IsDigit fraction.now }
+    ensures { result ≡ digits_number (whole.now ++ fraction.now) % 2 ^ 64 }
+{
+    let (_, before) = scan(whole, 0);
+    let (_, number) = scan(fraction, before);
+    number
 }
 
 #[test]

@@ -1,5 +1,8 @@
-use super::*;
-use crate::key::Key;
+//! Pairs, and pairs that are built of entries.
+
+use jzon_base::key::Key;
+use jzon_base::pairs::{Builder, Iter, IterMut, Pairs};
+use std::alloc::{AllocError, Global};
 
 fn of_pairs(alloc: Global, pairs: &[(&str, u32)]) -> Result<Pairs<u32>, AllocError> {
     let mut made = Pairs::new(alloc);

@@ -1,0 +1,38 @@
+//! What errors say.
+
+use jzon_base::error::Error;
+use std::test::Fail;
+
+#[test]
+fn words(rt: HostRuntime) -> std::result::Result<(), Fail> {
+    let rows = [
+        (
+            Error::UnexpectedCharacter {
+                ch: 'X',
+                line: 3,
+                column: 4,
+            },
+            "Unexpected character: X at (3:4)",
+        ),
+        (
+            Error::UnexpectedCharacter {
+                ch: '\u{1F984}',
+                line: 18446744073709551615,
+                column: 10,
+            },
+            "Unexpected character: \u{1F984} at (18446744073709551615:10)",
+        ),
+        (Error::UnexpectedEndOfJson, "Unexpected end of JSON"),
+        (Error::ExceededDepthLimit, "Exceeded depth limit"),
+        (Error::FailedUtf8Parsing, "Failed to parse UTF-8 bytes"),
+        (Error::OutOfMemory, "Out of memory"),
+        (
+            Error::wrong_type(rt.alloc(), "Array")?,
+            "Wrong type, expected: Array",
+        ),
+    ];
+    for (error, words) in rows {
+        assert_eq!(rt; format!(in rt.alloc(); "{error}")?.as_str(), words);
+    }
+    Ok(())
+}

@@ -1,0 +1,40 @@
+//! Runs of plain bytes.
+
+use jzon_base::util::plain::plain_len;
+use std::process::Abort;
+
+#[test]
+fn short_runs(rt: HostRuntime) {
+    let rows: [(&[u8], usize); 6] = [
+        (b"", 0),
+        (b"\"", 0),
+        (b"\x1f", 0),
+        (b"\x7f", 1),
+        (b"\xff\xff\x1f", 2),
+        (b"  /a", 4),
+    ];
+    for (bytes, len) in rows {
+        assert_eq!(rt; plain_len(bytes), len);
+    }
+}
+
+// A run of `byte` up to `stop` at each place: as far as the stop, also where nothing stands behind it, and where it doesn't stand there itself.
+fn expect_runs(rt: &impl Abort, byte: u8, stop: u8) {
+    for place in 0..70 {
+        let mut bytes = [byte; 70];
+        bytes[place] = stop;
+        assert_eq!(rt; plain_len(&bytes), place);
+        assert_eq!(rt;
+            bytes.get(..place + 1).map(|run| plain_len(run)),
+            Some(place)
+        );
+        assert_eq!(rt; bytes.get(..place).map(|run| plain_len(run)), Some(place));
+    }
+}
+
+#[test]
+fn runs_to_each_place(rt: HostRuntime) {
+    expect_runs(&rt, b'a', b'\\');
+    expect_runs(&rt, b' ', b'"');
+    expect_runs(&rt, 255, 31);
+}

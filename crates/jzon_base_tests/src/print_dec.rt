@@ -1,0 +1,59 @@
+//! Printed numbers.
+
+use jzon_base::number::Number;
+use jzon_base::util::print_dec::write;
+use std::test::Fail;
+
+#[test]
+fn prints(rt: HostRuntime) -> Result<(), Fail> {
+    let rows = [
+        (true, 0, 100, "0"),
+        (false, 0, -100, "-0"),
+        (true, 5, -2, "0.05"),
+        (true, 100, -1, "10.0"),
+        (true, 3141592653589793, -15, "3.141592653589793"),
+        (true, 1, -17, "0.00000000000000001"),
+        (true, 1, -18, "1e-18"),
+        (true, 4750000000000001, -18, "4.750000000000001e-3"),
+        (true, 3141592653589793, -31, "3.141592653589793e-16"),
+        (true, 1, -32768, "1e-32768"),
+        (true, 1, 19, "10000000000000000000"),
+        (true, 1, 20, "1e20"),
+        (true, 5, 19, "50000000000000000000"),
+        (true, 7, 70, "7e70"),
+        (true, 3141592653589793, 35, "3.141592653589793e50"),
+        (
+            true,
+            18446744073709551615,
+            32767,
+            "1.8446744073709551615e32786",
+        ),
+        (true, 10000000000000000001, -18, "1.0000000000000000001e+1"),
+        (true, 10000000000000000001, -19, "1.0000000000000000001"),
+        (
+            false,
+            18446744073709551615,
+            -32768,
+            "-1.8446744073709551615e-32749",
+        ),
+        (true, 1844674407370955161, 2, "1.844674407370955161e20"),
+        (true, 12, 32767, "1.2e32768"),
+        (true, 150, -2, "1.50"),
+        (true, 15, -1, "1.5"),
+        (true, 100, -2, "1.00"),
+        (true, 0, 5, "0"),
+        (false, 1250, 1, "-12500"),
+        (true, 5000000000000000000, 1, "50000000000000000000"),
+        (true, 18446744073709551615, 0, "18446744073709551615"),
+        (false, 7, 0, "-7"),
+        (false, 18446744073709551615, -17, "-184.46744073709551615"),
+    ];
+    for (positive, mantissa, exponent, text) in rows {
+        let number = Number::from_parts_unchecked(positive, mantissa, exponent);
+        assert_eq!(rt; format!(in rt.alloc(); "{number}")?.as_str(), text);
+        let mut written = Vec::new(rt.alloc());
+        write(&mut written, positive, mantissa, exponent)?;
+        assert_eq!(rt; written.as_slice(), text.as_bytes());
+    }
+    Ok(())
+}
