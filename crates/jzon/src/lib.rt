@@ -14,8 +14,6 @@ mod place;
 mod reading;
 mod scalar;
 mod string;
-#[cfg(test)]
-mod tests;
 pub mod util;
 
 pub use conversions::{from, stringify, stringify_pretty};

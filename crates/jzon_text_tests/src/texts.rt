@@ -1,10 +1,10 @@
-// Texts of each kind: the parts and the compact text of what is read, and the kind and place of each error.
+//! Texts of each kind: the parts and the compact text of what is read, and the kind and place of each error.
 ghost use Rattle.std.specs.Prelude.{◌≡◌, IfOk, string_bytes};
 ghost use Rattle.jzon_tree.specs.Text.{compact};
 ghost use Rattle.jzon.specs.Laws.{IsReadAs};
 ghost use Rattle.jzon.specs.Reading.{usual};
 
-use crate::{JsonValue, laws, parse};
+use jzon::{Error, JsonValue, laws, parse};
 use std::alloc::{AllocError, Global};
 use std::process::Abort;
 use std::test::Fail;
@@ -152,7 +152,7 @@ fn refuses_digits_past_the_limits(rt: HostRuntime) -> Result<(), Fail> {
         let text = long_text(rt.alloc(), front, '0', *count, back)?;
         let refused = parse(rt.alloc(), text.as_str());
         assert!(rt;
-            matches!(refused, Err(crate::Error::ExceededDepthLimit)),
+            matches!(refused, Err(Error::ExceededDepthLimit)),
             "{front}, {count} zeros, {back}"
         );
     }
@@ -212,7 +212,7 @@ fn tells_the_first_wrong_character(rt: HostRuntime) -> Result<(), Fail> {
 
 #[test]
 fn tells_the_first_fault_of_a_string(rt: HostRuntime) -> Result<(), Fail> {
-    let rows: [(&str, &str); 14] = [
+    let rows: [(&str, &str); 19] = [
         ("\"", "Unexpected end of JSON"),
         ("\"ab", "Unexpected end of JSON"),
         ("\"a\\", "Unexpected end of JSON"),
@@ -227,6 +227,11 @@ fn tells_the_first_fault_of_a_string(rt: HostRuntime) -> Result<(), Fail> {
         ("\"\\uDC00\\uDC0G\"", "Unexpected character: G at (1:13)"),
         ("\"\\u12G4\"", "Unexpected character: G at (1:6)"),
         ("\"é\" x", "Unexpected character: x at (1:5)"),
+        ("\"\\u12", "Unexpected end of JSON"),
+        ("\"\\uD834", "Unexpected end of JSON"),
+        ("\"\\né\n\"", "Unexpected character: \n at (1:5)"),
+        ("\"\\uDD1E\\uD834\"", "Failed to parse UTF-8 bytes"),
+        ("\"\\uD834\\u0041\"", "Failed to parse UTF-8 bytes"),
     ];
     for (text, words) in rows {
         expect_refused(&rt, rt.alloc(), text, words)?;
@@ -293,7 +298,7 @@ fn tells_the_first_fault_of_a_member(rt: HostRuntime) -> Result<(), Fail> {
 #[test]
 fn reads_strings(rt: HostRuntime) -> Result<(), Fail> {
     // a text, whether its value is kept in place, its bytes, and its dump
-    let rows: [(&str, bool, &str, &str); 15] = [
+    let rows: [(&str, bool, &str, &str); 17] = [
         ("\"\"", true, "", "\"\""),
         (
             "\"\\r\\n\\t\\b\\f\\\\\\/\\\"\"",
@@ -349,6 +354,8 @@ fn reads_strings(rt: HostRuntime) -> Result<(), Fail> {
             "\"éééééééééééééééé\"",
         ),
         ("\"a\\u00e9\\\\b\"", true, "aé\\b", "\"aé\\\\b\""),
+        ("\"é\\né\"", true, "é\né", "\"é\\né\""),
+        ("\"a\\u00E9b\\u00e9c\"", true, "aébéc", "\"aébéc\""),
     ];
     for (text, in_place, content, dump) in &rows {
         let value = parse(rt.alloc(), text)?;
@@ -473,7 +480,7 @@ fn refuses_another_open_container(rt: HostRuntime) -> Result<(), Fail> {
 }
 
 // What a caller's proof knows of what is read and printed: the printed text is read again, as a value that prints this text.
-fn printed_again(alloc: Global, text: &str) -> crate::Result<String>
+fn printed_again(alloc: Global, text: &str) -> jzon::Result<String>
     ensures { IfOk result (λ printed. IsReadAs usual (string_bytes printed) (λ v. compact v ≡ string_bytes printed)) }
 {
     let value = parse(alloc, text)?;

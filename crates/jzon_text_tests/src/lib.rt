@@ -1,0 +1,9 @@
+//! Tests of `parse`, `parse_as` and the macros, by public items alone.
+#![tactic(auto)]
+
+#[cfg(test)]
+mod macros;
+#[cfg(test)]
+mod readings;
+#[cfg(test)]
+mod texts;
