@@ -259,6 +259,15 @@ nests h = record {
 
 -- ---- what each change keeps
 
+-- the keys of a value that a program can hold
+pub distinct-entries : (v : Value) → IsValue v → AllPairs (λ j k. j ≢ k) (keys_of (entries v))
+distinct-entries null h = held.none
+distinct-entries (boolean b) h = held.none
+distinct-entries (text k s) h = held.none
+distinct-entries (number n) h = held.none
+distinct-entries (array vs) h = held.none
+distinct-entries (object ps) h = h.1
+
 pub IsValue-with_item : (v w : Value) → IsValue v → IsValue w → IsValue (with_item v w)
 IsValue-with_item = keeps_with_item held
 

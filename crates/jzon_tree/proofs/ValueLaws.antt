@@ -3,7 +3,7 @@
 pub use Rattle.jzon_tree.proofs.Views.{view-Null, view-Boolean, view-Array, view-Object}
 pub use Rattle.jzon_tree.proofs.Views.{list_of_pairs-pairs_of, find-viewed, viewed-put, viewed-cut}
 pub use Rattle.jzon_tree.proofs.Seen.{list_of_values-values_of, items-Array, entries-Object, count-Array, count-Object}
-use Rattle.std.proofs.Common.{◌≡◌, ◌≢◌, ℕ, zero, suc, List, [], ◌∷◌, ◌++◌, map, remove, true}
+use Rattle.std.proofs.Common.{◌≡◌, ◌≢◌, ℕ, zero, suc, List, [], ◌∷◌, ◌++◌, map, remove, true, false}
 use Rattle.std.proofs.Common.{Some, None, option_map, unwrap_or}
 use Rattle.std.proofs.Common.{refl, sym, ap, ◌∙◌, subst, rules, string_bytes, String, Global}
 use Rattle.std.specs.Prelude.{AllPairs}
@@ -67,6 +67,22 @@ items-view v =
     let same : roll-JsonValue (out-JsonValue v) ≡ v = search (rules, the_lemmas) in
     subst (λ w. items (view w) ≡ map view (unwrap_or (items_in w) [])) same (rolled_items (out-JsonValue v))
 
+pub entries-other : (v : Value) → is_object v ≡ false → entries v ≡ []
+entries-other null h = refl
+entries-other (boolean b) h = refl
+entries-other (text k s) h = refl
+entries-other (number n) h = refl
+entries-other (array vs) h = refl
+entries-other (object ps) h = absurd (cc)
+
+pub items-other : (v : Value) → is_array v ≡ false → items v ≡ []
+items-other null h = refl
+items-other (boolean b) h = refl
+items-other (text k s) h = refl
+items-other (number n) h = refl
+items-other (array vs) h = absurd (cc)
+items-other (object ps) h = refl
+
 -- ---- the pairs and the items after a change
 
 pub entries-with_entry : (k : List ℕ) (v w : Value) → is_object w ≡ true
@@ -77,6 +93,14 @@ entries-with_entry k v (text j s) h = absurd (cc)
 entries-with_entry k v (number n) h = absurd (cc)
 entries-with_entry k v (array vs) h = absurd (cc)
 entries-with_entry k v (object ps) h = list_of_pairs-pairs_of (put k v (list_of_pairs ps))
+
+pub is_object-with_entry : (k : List ℕ) (v w : Value) → is_object (with_entry k v w) ≡ is_object w
+is_object-with_entry k v null = refl
+is_object-with_entry k v (boolean b) = refl
+is_object-with_entry k v (text j s) = refl
+is_object-with_entry k v (number n) = refl
+is_object-with_entry k v (array vs) = refl
+is_object-with_entry k v (object ps) = refl
 
 pub entries-without_entry : (k : List ℕ) (w : Value) → entries (without_entry k w) ≡ cut k (entries w)
 entries-without_entry k null = refl
