@@ -1,6 +1,6 @@
 //! Values and texts made of whatever turns into a value (docs/RULES.md, "Conversions").
 
-ghost use Rattle.std.specs.Prelude.{◌≡◌, IfOk, IfErr, IsOkUnless, string_bytes};
+ghost use Rattle.std.specs.Prelude.{◌≡◌, IfOk, IfErr, IsOk, IsOkUnless, string_bytes};
 ghost use Rattle.jzon_tree.specs.IntoJson.{IsTextRefusal};
 ghost use Rattle.jzon_tree.specs.Text.{compact, pretty};
 ghost use Rattle.jzon_tree.specs.Value.{Value};
@@ -11,10 +11,11 @@ use jzon_tree::into_json::IntoJson;
 use jzon_tree::value::JsonValue;
 use std::alloc::Global;
 
-/// The value that `value` turns into. Refused by `OutOfMemory` alone.
+/// The value that `value` turns into. Refused by `OutOfMemory` alone, and never where the source is free, as integers and truth values are.
 pub fn from<T: IntoJson>(alloc: Global, value: T) -> Result<JsonValue>
     ensures meant { IfOk result (λ v. T.means value (view v)) }
     ensures memory { IsOkUnless result Error.OutOfMemory }
+    ensures free { T.is_free value → IsOk result }
 {
     value.into_json(alloc)
 }

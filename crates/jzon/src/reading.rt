@@ -1,7 +1,11 @@
 //! How texts are read (docs/RULES.md, "Readings").
 
-ghost use Rattle.std.specs.Prelude.{◌≡◌, ◌≤◌, SomeIff};
+ghost use Rattle.std.specs.Prelude.{◌≡◌, ◌≤◌, ◌↔◌, IsTrue, SomeIff};
+ghost use Rattle.jzon_tree.specs.View.{view};
+ghost use Rattle.jzon.specs.Answer.{IsReadable};
 
+use jzon_tree::codegen::is_readable;
+use jzon_tree::value::JsonValue;
 use std::marker::Model;
 
 /// How a text is read: strictly or not, and with how many containers open that aren't empty. A strict reading has the whitespace of RFC 8259 alone, and
@@ -56,5 +60,13 @@ impl Reading {
         ensures most { result ≤ 512 }
     {
         self.depth
+    }
+
+    /// Whether the value holds no NaN and nests no deeper than this reading allows. If so, and only then, what is dumped of it reads back by this reading as an equal
+    /// value (`laws::reads_back`). Takes no memory.
+    pub fn admits(&self, value: &JsonValue) -> bool
+        ensures { IsTrue result ↔ IsReadable self.now (view value.now) }
+    {
+        is_readable(value, self.depth)
     }
 }

@@ -9,6 +9,7 @@ pub mod Plain
 pub mod PrintedUtf8
 pub mod Consumed
 pub mod Nesting
+pub mod NoNan
 pub mod PairKeys
 mod Rows
 pub mod Seen

@@ -8,6 +8,7 @@ mod pretty;
 mod pretty_writer;
 mod print;
 mod print_object;
+mod readable;
 mod send;
 mod step;
 mod visit;
@@ -18,5 +19,7 @@ pub use dump::DumpGenerator;
 pub use generator::Generator;
 pub use pretty::PrettyGenerator;
 pub use pretty_writer::PrettyWriterGenerator;
+#[doc(hidden)]
+pub use readable::is_readable;
 pub use write::{write_json, write_object};
 pub use writer::WriterGenerator;

@@ -1,6 +1,6 @@
 //! A place in a value, which may be missing.
 
-ghost use Rattle.std.specs.Prelude.{◌≡◌, ◌<◌, ◌^◌, pos, map, is_some, option_map, slice_get, FitsSigned};
+ghost use Rattle.std.specs.Prelude.{◌≡◌, ◌<◌, ◌^◌, pos, map, is_some, option_map, slice_get, FitsSigned, Some};
 ghost use Rattle.std.specs.Int.{w8, w16, w32, w64};
 ghost use Rattle.std.specs.List.{list_any};
 ghost use Rattle.std.specs.Option.{option_copied};
@@ -26,6 +26,13 @@ pub struct View<'a> {
 }
 
 impl JsonValue {
+    /// The place of the value itself, as a start for a walk by `at` and `at_index`.
+    pub fn as_view(&self) -> View<'_>
+        ensures { shown result ≡ Some (view self.now) }
+    {
+        View { value: Some(self) }
+    }
+
     /// The value of the key of an object, or missing.
     pub fn at(&self, key: &str) -> View<'_>
         ensures { shown result ≡ find key.now (entries (view self.now)) }

@@ -35,7 +35,7 @@ pub(super) fn refusal_of_object(object: &Object) -> Error
 // Whether at most `room` containers that are not empty nest.
 #[cycle(is_within)]
 #[tactic(auto, using(crate::proofs::Views::views))]
-fn is_within(value: &JsonValue, room: u64) -> bool
+pub(super) fn is_within(value: &JsonValue, room: u64) -> bool
     ensures within { result ≡ true → nest (view value.now) ≤ room }
     ensures beyond { result ≡ false → room < nest (view value.now) }
 {

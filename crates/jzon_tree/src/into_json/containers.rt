@@ -1,6 +1,6 @@
 //! Objects, options and lists as values.
 
-ghost use Rattle.std.specs.Prelude.{◌≡◌, IfOk, IsOk, IsOkUnless};
+ghost use Rattle.std.specs.Prelude.{◌≡◌, ⊤, IfOk, IsOk, IsOkUnless, MatchOption};
 ghost use Rattle.jzon_tree.specs.IntoJson.{OptionMeans, ListMeans, CloneListMeans};
 ghost use Rattle.jzon_tree.specs.View.{view, view_object};
 
@@ -13,6 +13,8 @@ use std::alloc::Global;
 /// It takes no memory.
 impl IntoJson for Object {
     ghost means = { λ o v. v ≡ view_object o };
+
+    ghost is_free = { λ _. ⊤ };
 
     #[tactic(auto, using(crate::proofs::Views::views))]
     fn into_json(self, _alloc: Global) -> Result<JsonValue>
@@ -28,6 +30,8 @@ impl IntoJson for Object {
 impl<T: IntoJson> IntoJson for Option<T> {
     ghost means = { OptionMeans T.means };
 
+    ghost is_free = { λ o. MatchOption o ⊤ T.is_free };
+
     fn into_json(self, alloc: Global) -> Result<JsonValue> {
         match self {
             Some(value) => value.into_json(alloc),
@@ -39,6 +43,8 @@ impl<T: IntoJson> IntoJson for Option<T> {
 /// The array of what the items mean.
 impl<T: IntoJson> IntoJson for Vec<T> {
     ghost means = { λ list v. ListMeans T.means list.items v };
+
+    ghost is_free = { λ _. ⊥ };
 
     fn into_json(self, alloc: Global) -> Result<JsonValue> {
         let mut items = Vec::with_capacity(alloc, self.len())?;
@@ -52,6 +58,8 @@ impl<T: IntoJson> IntoJson for Vec<T> {
 /// The array of what clones of the items mean.
 impl<T: IntoJson + Clone> IntoJson for &[T] {
     ghost means = { λ list v. CloneListMeans T.is_clone T.means list.now v };
+
+    ghost is_free = { λ _. ⊥ };
 
     fn into_json(self, alloc: Global) -> Result<JsonValue> {
         let mut items = Vec::with_capacity(alloc, self.len())?;

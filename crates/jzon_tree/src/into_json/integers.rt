@@ -1,6 +1,6 @@
 //! Integers as values. They take no memory.
 
-ghost use Rattle.std.specs.Prelude.{◌≡◌, pos, IfOk, IsOk, IsOkUnless};
+ghost use Rattle.std.specs.Prelude.{◌≡◌, ⊤, pos, IfOk, IsOk, IsOkUnless};
 ghost use Rattle.jzon_base.specs.Decimal.{integer_parts};
 ghost use Rattle.jzon_tree.specs.Value.{number};
 ghost use Rattle.jzon_tree.specs.View.{view};
@@ -14,6 +14,8 @@ use std::alloc::Global;
 impl IntoJson for u8 {
     ghost means = { λ n v. v ≡ number (integer_parts (pos n)) };
 
+    ghost is_free = { λ _. ⊤ };
+
     fn into_json(self, _alloc: Global) -> Result<JsonValue>
         ensures meant { IfOk result (λ v. view v ≡ number (integer_parts (pos self))) }
         ensures memory { IsOkUnless result Error.OutOfMemory }
@@ -25,6 +27,8 @@ impl IntoJson for u8 {
 
 impl IntoJson for u16 {
     ghost means = { λ n v. v ≡ number (integer_parts (pos n)) };
+
+    ghost is_free = { λ _. ⊤ };
 
     fn into_json(self, _alloc: Global) -> Result<JsonValue>
         ensures meant { IfOk result (λ v. view v ≡ number (integer_parts (pos self))) }
@@ -38,6 +42,8 @@ impl IntoJson for u16 {
 impl IntoJson for u32 {
     ghost means = { λ n v. v ≡ number (integer_parts (pos n)) };
 
+    ghost is_free = { λ _. ⊤ };
+
     fn into_json(self, _alloc: Global) -> Result<JsonValue>
         ensures meant { IfOk result (λ v. view v ≡ number (integer_parts (pos self))) }
         ensures memory { IsOkUnless result Error.OutOfMemory }
@@ -49,6 +55,8 @@ impl IntoJson for u32 {
 
 impl IntoJson for u64 {
     ghost means = { λ n v. v ≡ number (integer_parts (pos n)) };
+
+    ghost is_free = { λ _. ⊤ };
 
     fn into_json(self, _alloc: Global) -> Result<JsonValue>
         ensures meant { IfOk result (λ v. view v ≡ number (integer_parts (pos self))) }
@@ -62,6 +70,8 @@ impl IntoJson for u64 {
 impl IntoJson for usize {
     ghost means = { λ n v. v ≡ number (integer_parts (pos n)) };
 
+    ghost is_free = { λ _. ⊤ };
+
     fn into_json(self, _alloc: Global) -> Result<JsonValue>
         ensures meant { IfOk result (λ v. view v ≡ number (integer_parts (pos self))) }
         ensures memory { IsOkUnless result Error.OutOfMemory }
@@ -73,6 +83,8 @@ impl IntoJson for usize {
 
 impl IntoJson for i8 {
     ghost means = { λ n v. v ≡ number (integer_parts n) };
+
+    ghost is_free = { λ _. ⊤ };
 
     fn into_json(self, _alloc: Global) -> Result<JsonValue>
         ensures meant { IfOk result (λ v. view v ≡ number (integer_parts self)) }
@@ -86,6 +98,8 @@ impl IntoJson for i8 {
 impl IntoJson for i16 {
     ghost means = { λ n v. v ≡ number (integer_parts n) };
 
+    ghost is_free = { λ _. ⊤ };
+
     fn into_json(self, _alloc: Global) -> Result<JsonValue>
         ensures meant { IfOk result (λ v. view v ≡ number (integer_parts self)) }
         ensures memory { IsOkUnless result Error.OutOfMemory }
@@ -97,6 +111,8 @@ impl IntoJson for i16 {
 
 impl IntoJson for i32 {
     ghost means = { λ n v. v ≡ number (integer_parts n) };
+
+    ghost is_free = { λ _. ⊤ };
 
     fn into_json(self, _alloc: Global) -> Result<JsonValue>
         ensures meant { IfOk result (λ v. view v ≡ number (integer_parts self)) }
@@ -110,6 +126,8 @@ impl IntoJson for i32 {
 impl IntoJson for i64 {
     ghost means = { λ n v. v ≡ number (integer_parts n) };
 
+    ghost is_free = { λ _. ⊤ };
+
     fn into_json(self, _alloc: Global) -> Result<JsonValue>
         ensures meant { IfOk result (λ v. view v ≡ number (integer_parts self)) }
         ensures memory { IsOkUnless result Error.OutOfMemory }
@@ -121,6 +139,8 @@ impl IntoJson for i64 {
 
 impl IntoJson for isize {
     ghost means = { λ n v. v ≡ number (integer_parts n) };
+
+    ghost is_free = { λ _. ⊤ };
 
     fn into_json(self, _alloc: Global) -> Result<JsonValue>
         ensures meant { IfOk result (λ v. view v ≡ number (integer_parts self)) }

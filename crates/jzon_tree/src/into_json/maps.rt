@@ -14,6 +14,8 @@ use std::collections::{BTreeMap, HashMap};
 impl<T: IntoJson> IntoJson for BTreeMap<String, T> {
     ghost means = { λ pairs v. MapMeans string_bytes T.means pairs.entries v };
 
+    ghost is_free = { λ _. ⊥ };
+
     fn into_json(self, alloc: Global) -> Result<JsonValue> {
         Ok(JsonValue::Object(Object::from_pairs(alloc, self.into_iter())?))
     }
@@ -22,6 +24,8 @@ impl<T: IntoJson> IntoJson for BTreeMap<String, T> {
 /// The object of its pairs, in the map's order.
 impl<T: IntoJson> IntoJson for BTreeMap<&str, T> {
     ghost means = { λ pairs v. MapMeans (λ key. key.now) T.means pairs.entries v };
+
+    ghost is_free = { λ _. ⊥ };
 
     fn into_json(self, alloc: Global) -> Result<JsonValue> {
         Ok(JsonValue::Object(Object::from_pairs(alloc, self.into_iter())?))
@@ -32,6 +36,8 @@ impl<T: IntoJson> IntoJson for BTreeMap<&str, T> {
 impl<T: IntoJson> IntoJson for HashMap<String, T> {
     ghost means = { λ pairs v. AnyOrderMeans string_bytes T.means pairs.entries v };
 
+    ghost is_free = { λ _. ⊥ };
+
     fn into_json(self, alloc: Global) -> Result<JsonValue> {
         Ok(JsonValue::Object(Object::from_pairs(alloc, self.into_iter())?))
     }
@@ -40,6 +46,8 @@ impl<T: IntoJson> IntoJson for HashMap<String, T> {
 /// The object of its pairs, in any order.
 impl<T: IntoJson> IntoJson for HashMap<&str, T> {
     ghost means = { λ pairs v. AnyOrderMeans (λ key. key.now) T.means pairs.entries v };
+
+    ghost is_free = { λ _. ⊥ };
 
     fn into_json(self, alloc: Global) -> Result<JsonValue> {
         Ok(JsonValue::Object(Object::from_pairs(alloc, self.into_iter())?))

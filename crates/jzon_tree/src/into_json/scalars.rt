@@ -1,6 +1,6 @@
 //! Truth values, numbers and texts as values.
 
-ghost use Rattle.std.specs.Prelude.{◌≡◌, ◌≤◌, length, string_bytes, IfOk, IsOk, IsOkUnless};
+ghost use Rattle.std.specs.Prelude.{◌≡◌, ⊤, ◌≤◌, length, string_bytes, IfOk, IsOk, IsOkUnless};
 ghost use Rattle.jzon_tree.specs.Value.{boolean, number, text, kind_of, long};
 ghost use Rattle.jzon_tree.specs.View.{view};
 
@@ -15,6 +15,8 @@ use std::alloc::Global;
 impl IntoJson for bool {
     ghost means = { λ b v. v ≡ boolean b };
 
+    ghost is_free = { λ _. ⊤ };
+
     fn into_json(self, _alloc: Global) -> Result<JsonValue>
         ensures meant { IfOk result (λ v. view v ≡ boolean self) }
         ensures memory { IsOkUnless result Error.OutOfMemory }
@@ -28,6 +30,8 @@ impl IntoJson for bool {
 impl IntoJson for Number {
     ghost means = { λ n v. v ≡ number n };
 
+    ghost is_free = { λ _. ⊤ };
+
     fn into_json(self, _alloc: Global) -> Result<JsonValue>
         ensures meant { IfOk result (λ v. view v ≡ number self) }
         ensures memory { IsOkUnless result Error.OutOfMemory }
@@ -40,6 +44,8 @@ impl IntoJson for Number {
 /// A text of at most 30 bytes is kept in the value, and takes no memory.
 impl IntoJson for &str {
     ghost means = { λ s v. v ≡ text (kind_of s.now) s.now };
+
+    ghost is_free = { λ s. length s.now ≤ 30 };
 
     fn into_json(self, alloc: Global) -> Result<JsonValue>
         ensures meant { IfOk result (λ v. view v ≡ text (kind_of self.now) self.now) }
@@ -57,6 +63,8 @@ impl IntoJson for &str {
 /// A `String` stays one, however short it is. It takes no memory.
 impl IntoJson for String {
     ghost means = { λ s v. v ≡ text long (string_bytes s) };
+
+    ghost is_free = { λ _. ⊤ };
 
     fn into_json(self, _alloc: Global) -> Result<JsonValue>
         ensures meant { IfOk result (λ v. view v ≡ text long (string_bytes self)) }
