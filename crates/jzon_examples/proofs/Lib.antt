@@ -1,2 +1,3 @@
+pub mod LayerSteps
 pub mod Merges
 pub mod PointerSteps

@@ -4,6 +4,7 @@
 pub mod building;
 pub mod faults;
 pub mod from_rust;
+pub mod layers;
 pub mod merge_patch;
 pub mod pointer;
 pub mod round_trip;

@@ -1,0 +1,62 @@
+//! Layered configuration: of two documents the later one wins, member by member.
+
+ghost use Rattle.std.specs.Prelude.{◌≡◌, ℕ, List, IfOk, true};
+ghost use Rattle.std.specs.Option.{option_or};
+ghost use Rattle.jzon.specs.Answer.{IsReadable};
+ghost use Rattle.jzon.specs.PairList.{find};
+ghost use Rattle.jzon.specs.Reading.{usual};
+ghost use Rattle.jzon.specs.Readers.{entries, is_object};
+ghost use Rattle.jzon.specs.View.{view};
+
+use jzon::{Error, JsonValue, Result};
+use std::alloc::Global;
+
+/// The members of both: a name that `later` has stands for what it has there. A value that is no object has no members.
+pub fn layered(alloc: Global, base: &JsonValue, later: &JsonValue) -> Result<JsonValue>
+    requires { IsReadable usual (view later.now) }
+    ensures object { IfOk result (λ both. is_object (view both) ≡ true) }
+    ensures later { IfOk result (λ both. (k : List ℕ) → find k (entries (view both))
+        ≡ option_or (find k (entries (view later.now))) (find k (entries (view base.now)))) }
+{
+    let mut both = copied(alloc, base)?;
+    for (key, value) in later.entries() {
+        both.insert(alloc, key, value.clone(alloc)?)?;
+    }
+    Ok(both)
+}
+
+// A copy of an object, and an empty one of another value.
+fn copied(alloc: Global, value: &JsonValue) -> Result<JsonValue>
+    ensures object { IfOk result (λ copy. is_object (view copy) ≡ true) }
+    ensures members { IfOk result (λ copy. entries (view copy) ≡ entries (view value.now)) }
+{
+    if value.is_object() {
+        value.clone(alloc)
+    } else {
+        Ok(JsonValue::new_object(alloc))
+    }
+}
+
+#[cfg(test)]
+mod tests {
+    use super::*;
+    use std::test::Fail;
+
+    #[test]
+    fn layers(rt: HostRuntime) -> std::result::Result<(), Fail> {
+        let alloc = rt.alloc();
+        let base = jzon::parse(alloc, "{\"host\": \"a\", \"port\": 80}")?;
+        let later = jzon::parse(alloc, "{\"port\": 81, \"log\": null}")?;
+        assert_eq!(rt;
+            layered(alloc, &base, &later)?.dump(alloc)?.as_str(),
+            "{\"host\":\"a\",\"port\":81,\"log\":null}"
+        );
+        assert_eq!(rt;
+            layered(alloc, &later, &JsonValue::Null)?
+                .dump(alloc)?
+                .as_str(),
+            "{\"port\":81,\"log\":null}"
+        );
+        Ok(())
+    }
+}
