@@ -1,5 +1,5 @@
 -- What the iterator that lends the values of pairs has left.
-use Rattle.std.specs.Prelude.{◌≡◌, ℕ, List, length}
+use Rattle.std.specs.Prelude.{ℕ, List}
 use Rattle.std.specs.List.{zip}
 use Rattle.std.specs.Slice.Iter as slice
 use Rattle.jzon_base.specs.declared.pairs.iter_mut.IterMut.{IterMut}
@@ -7,7 +7,3 @@ use Rattle.jzon_base.specs.declared.pairs.iter_mut.IterMut.{IterMut}
 -- the pairs
 abbrev pub iter_mut_rest : {V : Type 0} → IterMut V → List (List ℕ × V)
 iter_mut_rest s = zip s.keys (slice.iter_mut_rest s.values)
-
--- as many values as keys
-abbrev pub IsReady : {V : Type 0} → IterMut V → Type 0
-IsReady s = length (slice.iter_mut_rest s.values) ≡ length s.keys

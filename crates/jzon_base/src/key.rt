@@ -1,9 +1,10 @@
 //! A key of an object: text that is kept inline where it is short.
-ghost use Rattle.std.specs.Prelude.{◌≡◌, ◌<◌, ◌≤◌, length, string_bytes, IfOk, OnErr};
+ghost use Rattle.std.specs.Prelude.{◌≡◌, ◌<◌, ◌≤◌, length, string_bytes, IfOk, IsOkUnless, OnErr};
 ghost use Rattle.std.specs.Str.{bytes_eq};
 ghost use Rattle.std.specs.Cmp.{partial_equiv_from_equiv};
 ghost use Rattle.std.specs.Cmp.Lexicographic.{nat_list_eq_equiv};
 
+use crate::error::{self, Error};
 use arrayvec::ArrayString;
 use std::alloc::{AllocError, Global};
 use std::fmt;
@@ -59,13 +60,14 @@ impl Key {
         }
     }
 
-    /// The text as a `String`. Only text of up to 32 bytes, which lies in the key, takes memory here; the error is a refused growth.
-    pub fn into_string(self, alloc: Global) -> Result<String, AllocError>
+    /// The text as a `String`. Only text of up to 32 bytes, which lies in the key, takes memory here. Refused by `OutOfMemory` alone.
+    pub fn into_string(self, alloc: Global) -> error::Result<String>
         ensures bytes { IfOk result (λ s. string_bytes s ≡ self) }
         ensures short { OnErr result (length self ≤ 32) }
+        ensures memory { IsOkUnless result Error.OutOfMemory }
     {
         match self.text {
-            Text::Inline(ref inline) => String::from_str(alloc, inline.as_str()),
+            Text::Inline(ref inline) => Ok(String::from_str(alloc, inline.as_str())?),
             Text::Owned(owned) => Ok(owned),
         }
     }

@@ -2,9 +2,10 @@
 
 use jzon_base::key::Key;
 use std::alloc::AllocError;
+use std::test::Fail;
 
 #[test]
-fn gives_its_text(rt: HostRuntime) -> Result<(), AllocError> {
+fn gives_its_text(rt: HostRuntime) -> Result<(), Fail> {
     let longest_inline = "0123456789abcdef0123456789abcdef";
     let shortest_owned = "0123456789abcdef0123456789abcdef!";
     assert_eq!(rt; longest_inline.len(), 32);

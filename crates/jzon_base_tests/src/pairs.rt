@@ -3,6 +3,7 @@
 use jzon_base::key::Key;
 use jzon_base::pairs::{Builder, Iter, IterMut, Pairs};
 use std::alloc::{AllocError, Global};
+use std::test::Fail;
 
 fn of_pairs(alloc: Global, pairs: &[(&str, u32)]) -> Result<Pairs<u32>, AllocError> {
     let mut made = Pairs::new(alloc);
@@ -53,6 +54,24 @@ fn goes_from_both_ends(rt: HostRuntime) -> Result<(), AllocError> {
     assert_eq!(rt; owned.len(), 1);
     assert_eq!(rt; owned.next_back(), Some((Key::new(rt.alloc(), "b")?, 2)));
     assert_eq!(rt; owned.next(), None);
+    Ok(())
+}
+
+// Sets the first and the last value to 0: `next` and `next_back` ask nothing of who is lent the iterator.
+fn clear_ends(lent: &mut IterMut<'_, u32>) {
+    if let Some((_, first)) = lent.next() {
+        *first = 0;
+    }
+    if let Some((_, last)) = lent.next_back() {
+        *last = 0;
+    }
+}
+
+#[test]
+fn lends_its_iterator(rt: HostRuntime) -> Result<(), AllocError> {
+    let mut pairs = of_pairs(rt.alloc(), &[("a", 1), ("b", 2), ("c", 3)])?;
+    clear_ends(&mut pairs.iter_mut());
+    assert_eq!(rt; shown(rt.alloc(), &pairs)?.as_str(), "a0 b2 c0 ");
     Ok(())
 }
 
@@ -127,7 +146,7 @@ fn joins_keys_and_values(rt: HostRuntime) -> Result<(), AllocError> {
 }
 
 #[test]
-fn keeps_short_and_long_keys_whole(rt: HostRuntime) -> Result<(), AllocError> {
+fn keeps_short_and_long_keys_whole(rt: HostRuntime) -> Result<(), Fail> {
     let pairs = of_pairs(rt.alloc(), &[(LONGEST_INLINE, 32), (SHORTEST_OWNED, 33)])?;
     assert_eq!(rt; pairs.get(LONGEST_INLINE), Some(&32));
     assert_eq!(rt; pairs.get(SHORTEST_OWNED), Some(&33));

@@ -4,7 +4,7 @@ ghost use Rattle.std.specs.Prelude.{◌≡◌, ◌≤◌, [], length, slice_get,
 ghost use Rattle.std.specs.Borrow.{sem, LendsIf, LendsIfOk, LendsSoOk};
 ghost use Rattle.std.specs.Option.{option_copied_mut, option_map};
 ghost use Rattle.std.specs.Slice.Iter.{iter_mut_rest as items_left};
-ghost use Rattle.jzon_base.specs.IterMut.{iter_mut_rest, IsReady};
+ghost use Rattle.jzon_base.specs.IterMut.{iter_mut_rest};
 ghost use Rattle.jzon_base.specs.PairList.{find, put, with_default};
 ghost use Rattle.jzon_tree.specs.Entries.{with_entries};
 ghost use Rattle.jzon_tree.specs.Lent.{object_in, entries_in, items_in, items_with_place, place_made};
@@ -69,8 +69,7 @@ impl JsonValue {
 
     /// The pairs of an object in their order, from both ends. Their values may be written. Another value has none.
     pub fn entries_mut(&mut self) -> EntriesMut<'_>
-        ensures ready { IsReady result }
-        ensures rest { iter_mut_rest result ≡ entries_in self.old }
+        ensures { iter_mut_rest result ≡ entries_in self.old }
     {
         if let JsonValue::Object(object) = self {
             return object.iter_mut();

@@ -6,7 +6,7 @@ ghost use Rattle.std.specs.Iterator.{Drains, IsFinite, YieldsFirstBy, YieldsLast
 ghost use Rattle.std.specs.Iterator.SizeHint.{IsWithinCount};
 ghost use Rattle.std.specs.List.{IsDistinct};
 ghost use Rattle.std.specs.Str.{bytes_eq};
-ghost use Rattle.jzon_base.specs.IterMut.{iter_mut_rest, IsReady};
+ghost use Rattle.jzon_base.specs.IterMut.{iter_mut_rest};
 ghost use Rattle.jzon_base.specs.PairList.{find, put, cut, set_value, with_default, keys_of};
 ghost use Rattle.jzon_tree.specs.IntoIter.{entries_left};
 ghost use Rattle.jzon_tree.specs.IntoJson.{PutMeans};
@@ -20,6 +20,7 @@ pub use jzon_base::key::Key;
 use jzon_base::pairs::{self, Pairs};
 use std::alloc::Global;
 use std::convert::AsStr;
+use std::iter::FusedIterator;
 
 /// The pairs of an object that are left, each as its key's text and its value.
 pub type Iter<'a> = pairs::Iter<'a, JsonValue>;
@@ -189,8 +190,7 @@ impl Object {
 
     /// The pairs in their order, from both ends. Their values may be written.
     pub fn iter_mut(&mut self) -> IterMut<'_>
-        ensures ready { IsReady result }
-        ensures rest { iter_mut_rest result ≡ entries_of self.old }
+        ensures { iter_mut_rest result ≡ entries_of self.old }
     {
         self.pairs.iter_mut()
     }
@@ -217,7 +217,7 @@ impl<'a> IntoIterator for &'a mut Object {
 
     ghost use Rattle.jzon_tree.specs.Entries.{entries_of};
 
-    ghost into_iter_gives = { λ object it. IsReady it × (iter_mut_rest it ≡ entries_of object.now) };
+    ghost into_iter_gives = { λ object it. iter_mut_rest it ≡ entries_of object.now };
 
     fn into_iter(self) -> IterMut<'a> {
         self.iter_mut()
@@ -257,6 +257,8 @@ impl ExactSizeIterator for IntoIter {
         self.pairs.len()
     }
 }
+
+impl FusedIterator for IntoIter {}
 
 impl IntoIterator for Object {
     type Item = (Key, JsonValue);

@@ -2,7 +2,7 @@
 ghost use Rattle.std.specs.Prelude.{◌≡◌, [], length, IfSome, Some};
 ghost use Rattle.std.specs.Iterator.{YieldsFirstBy, YieldsLastBy, item_count, at_most, UpTo};
 ghost use Rattle.std.specs.Iterator.SizeHint.{IsWithinCount};
-ghost use Rattle.jzon_base.specs.IterMut.{iter_mut_rest, IsReady};
+ghost use Rattle.std.specs.Slice.Iter as slice_iter;
 
 use super::Pairs;
 use crate::keys;
@@ -16,12 +16,15 @@ use std::slice;
 pub struct IterMut<'a, V> {
     keys: keys::Iter<'a>,
     values: slice::IterMut<'a, V>,
+    // As many values are left as keys, so that `next` asks nothing of its caller.
+    ghost as_many: { length (slice_iter.iter_mut_rest values) ≡ length keys },
 }
 
 impl<'a, V> IterMut<'a, V> {
+    ghost use Rattle.jzon_base.specs.IterMut.{iter_mut_rest};
+
     /// No pair.
     pub fn empty() -> IterMut<'a, V>
-        ensures ready { IsReady result }
         ensures rest { iter_mut_rest result ≡ [] }
     {
         IterMut {
@@ -32,9 +35,9 @@ impl<'a, V> IterMut<'a, V> {
 }
 
 impl<'a, V> Iterator for IterMut<'a, V> {
-    type Item = (&'a str, &'a mut V);
+    ghost use Rattle.jzon_base.specs.IterMut.{iter_mut_rest};
 
-    ghost can_next = { IsReady };
+    type Item = (&'a str, &'a mut V);
 
     ghost next_gives = { YieldsFirstBy (λ x. (x.0.now, x.1.now)) iter_mut_rest };
 
@@ -57,7 +60,7 @@ impl<'a, V> Iterator for IterMut<'a, V> {
 }
 
 impl<'a, V> DoubleEndedIterator for IterMut<'a, V> {
-    ghost can_next_back = { IsReady };
+    ghost use Rattle.jzon_base.specs.IterMut.{iter_mut_rest};
 
     ghost next_back_gives = { YieldsLastBy (λ x. (x.0.now, x.1.now)) iter_mut_rest };
 
@@ -70,16 +73,17 @@ impl<'a, V> DoubleEndedIterator for IterMut<'a, V> {
 
 impl<'a, V> ExactSizeIterator for IterMut<'a, V> {
     fn len(&self) -> usize {
-        self.keys.len().min(self.values.len())
+        self.keys.len()
     }
 }
 
 impl<'a, V> FusedIterator for IterMut<'a, V> {}
 
 impl<V> Pairs<V> {
+    ghost use Rattle.jzon_base.specs.IterMut.{iter_mut_rest};
+
     /// The pairs in their order, each as its key's text and its value, which may be written.
     pub fn iter_mut(&mut self) -> IterMut<'_, V>
-        ensures ready { IsReady result }
         ensures rest { iter_mut_rest result ≡ self.old }
     {
         IterMut {
@@ -90,11 +94,13 @@ impl<V> Pairs<V> {
 }
 
 impl<'a, V> IntoIterator for &'a mut Pairs<V> {
+    ghost use Rattle.jzon_base.specs.IterMut.{iter_mut_rest};
+
     type Item = (&'a str, &'a mut V);
 
     type IntoIter = IterMut<'a, V>;
 
-    ghost into_iter_gives = { λ p it. IsReady it × (iter_mut_rest it ≡ p.now) };
+    ghost into_iter_gives = { λ p it. iter_mut_rest it ≡ p.now };
 
     fn into_iter(self) -> IterMut<'a, V> {
         self.iter_mut()
