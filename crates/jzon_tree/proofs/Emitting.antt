@@ -1,8 +1,9 @@
 -- What hooks do, one after another.
 use Rattle.std.proofs.Common.{◌≡◌, ℕ, suc, ◌+◌, ◌-◌, List, [], ◌∷◌, ◌++◌, refl, sym, ap, subst, ◌∙◌, append_assoc, append-nil, add-one, Result, Ok, Err, arith, Option}
+use Rattle.std.specs.Prelude.{MatchResult}
 use Rattle.std.specs.Result.{IsErr}
 use Rattle.jzon_tree.proofs.Sent.{adds_same, adds_then, adds_weaker}
-use Rattle.jzon_tree.specs.Generator.{Adds, Begins, Just, Emitted, Added, Failed, Stopped, Emits, noted}
+use Rattle.jzon_tree.specs.Generator.{Adds, Begins, Just, Sends, Emitted, Added, Failed, Stopped, Emits, Counts, noted}
 use Rattle.jzon_tree.specs.Printing.{IsClosing, PrintsIf}
 use Rattle.jzon_tree.specs.Writing.{Style}
 
@@ -147,3 +148,11 @@ Added-sent P bs old o p h = record { bytes = adds_weaker (Just bs) P old.out o (
 
 pub Failed-sent : (P : List ℕ → Type 0) (bs : List ℕ) (old new : Emitted) (o : Option (List ℕ)) → P bs → Adds (Begins (Just bs)) old.out o → new ≡ record old { out = o; faults = noted old.faults } → Failed P old new
 Failed-sent P bs old new o p h e = rw e (record { bytes = adds_weaker (Begins (Just bs)) (Begins P) old.out o (λ x (y, k). (y, rw k p)) h; dent = refl; faults = refl; style = refl; lender = refl })
+
+-- ---- the answer of a call of the writer, handed on
+pub Emits-handed : {E F : Type 0} (P : List ℕ → Type 0) (bs : List ℕ) (old mid new : Emitted) (lent o : Option (List ℕ)) (step : Result (Unit {0}) F) (answer r : Result (Unit {0}) E)
+    → P bs → lent ≡ old.out → Sends (Just bs) lent o step → MatchResult step (λ u. answer ≡ Ok u) (λ _. IsErr answer) → mid ≡ record old { out = o } → r ≡ answer → Counts answer mid new → Emits P old new r
+Emits-handed P bs old mid new lent o (Ok u) (Ok v) r p l h s m e k = rw (e, k, m) (Added-sent P bs old o p (subst (λ x. Adds (Just bs) x o) l h))
+Emits-handed P bs old mid new lent o (Ok u) (Err v) r p l h s m e k = absurd (cc s)
+Emits-handed P bs old mid new lent o (Err u) (Ok v) r p l h s m e k = absurd (cc s)
+Emits-handed P bs old mid new lent o (Err u) (Err v) r p l h s m e k = rw e (Failed-sent P bs old new o p (subst (λ x. Adds (Begins (Just bs)) x o) l h) (rw m at k))

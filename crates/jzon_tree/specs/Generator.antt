@@ -36,6 +36,10 @@ pub record Emitted : Type 0 where
 abbrev pub noted : ℕ → ℕ
 noted n = min (n + 1) (2 ^ 64 - 1)
 
+-- an error is counted as a fault, and nothing else changes
+abbrev pub Counts : {E : Type 0} → Result (Unit {0}) E → Emitted → Emitted → Type 0
+Counts r old new = MatchResult r (λ _. new ≡ old) (λ _. new ≡ record old { faults = noted old.faults })
+
 -- The bytes grow by some that P allows, and nothing else changes.
 pub record Added (P : List ℕ → Type 0) (old new : Emitted) : Type 0 where
   pub bytes : Adds P old.out new.out

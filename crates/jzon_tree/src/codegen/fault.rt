@@ -30,6 +30,17 @@ pub(super) fn lay_aside<T>(answer: io::Result<T>, fault: &mut Fault) -> Step<T>
     }
 }
 
+/// The answer of a step, with the error that was laid aside.
+#[inline]
+pub(super) fn taken_up(step: Step<()>, fault: Fault) -> io::Result<()>
+    ensures { MatchResult step (λ x. result ≡ Ok x) (λ _. IsErr result) }
+{
+    match step {
+        Ok(()) => Ok(()),
+        Err(Stopped) => Err(laid_aside(fault)),
+    }
+}
+
 /// The error that was laid aside. There is one wherever a step failed.
 #[cold]
 pub(super) fn laid_aside(fault: Fault) -> io::Error {

@@ -5,11 +5,11 @@ ghost use Rattle.std.specs.Borrow.{sem, Lends};
 ghost use Rattle.jzon_base.specs.NumberText.{written_text};
 ghost use Rattle.jzon_base.specs.PairList.{keys_of};
 ghost use Rattle.jzon_tree.specs.Entries.{entries_of};
-ghost use Rattle.jzon_tree.specs.Generator.{Emitted, Added, Failed, Emits, Just, IsForm, IsAnswer, noted};
+ghost use Rattle.jzon_tree.specs.Generator.{Emitted, Added, Failed, Emits, Counts, Just, IsForm, IsAnswer, noted};
 ghost use Rattle.jzon_tree.specs.Text.{escaped, quoted};
 ghost use Rattle.jzon_tree.specs.Writing.{IsAllowedBlank, IsStyle};
 
-use crate::codegen::fault::{Stopped, laid_aside};
+use crate::codegen::fault::taken_up;
 use crate::codegen::send::{send, send_number, send_string, send_string_from};
 use crate::object::Object;
 use jzon_base::number::Number;
@@ -57,18 +57,25 @@ pub trait Generator {
     fn set_dent(&mut self, dent: u64)
         ensures { meaning self.new ≡ record (meaning self.old) { dent = dent } };
 
+    /// Hands the answer of a call of the writer on, and notes a fault where it is an error.
+    #[inline]
+    fn hand_on(&mut self, answer: io::Result<()>) -> io::Result<()>
+        ensures same { result ≡ answer }
+        ensures faults { Counts answer (meaning self.old) (meaning self.new) }
+    {
+        if answer.is_err() {
+            self.note_fault();
+        }
+        answer
+    }
+
     /// Adds the bytes.
     fn write(&mut self, slice: &[u8]) -> io::Result<()>
         ensures { Emits (Just slice.now) (meaning self.old) (meaning self.new) result }
     {
         let mut fault = None;
-        match send(self.get_writer(), slice, &mut fault) {
-            Ok(()) => Ok(()),
-            Err(Stopped) => {
-                self.note_fault();
-                Err(laid_aside(fault))
-            }
-        }
+        let step = send(self.get_writer(), slice, &mut fault);
+        self.hand_on(taken_up(step, fault))
     }
 
     /// Adds the byte.
@@ -76,13 +83,8 @@ pub trait Generator {
         ensures { Emits (Just (ch ∷ [])) (meaning self.old) (meaning self.new) result }
     {
         let mut fault = None;
-        match send(self.get_writer(), &[ch], &mut fault) {
-            Ok(()) => Ok(()),
-            Err(Stopped) => {
-                self.note_fault();
-                Err(laid_aside(fault))
-            }
-        }
+        let step = send(self.get_writer(), &[ch], &mut fault);
+        self.hand_on(taken_up(step, fault))
     }
 
     /// Adds whitespace alone, a blank that the style allows at the open indents.
@@ -119,13 +121,8 @@ pub trait Generator {
         ensures { Emits (Just (quoted string.now)) (meaning self.old) (meaning self.new) result }
     {
         let mut fault = None;
-        match send_string(self.get_writer(), b"\"", string.as_bytes(), &mut fault) {
-            Ok(()) => Ok(()),
-            Err(Stopped) => {
-                self.note_fault();
-                Err(laid_aside(fault))
-            }
-        }
+        let step = send_string(self.get_writer(), b"\"", string.as_bytes(), &mut fault);
+        self.hand_on(taken_up(step, fault))
     }
 
     /// Adds the bytes before `start` as they are, those from `start` on escaped, and the closing quote.
@@ -135,13 +132,8 @@ pub trait Generator {
             (meaning self.old) (meaning self.new) result }
     {
         let mut fault = None;
-        match send_string_from(self.get_writer(), string, start, &mut fault) {
-            Ok(()) => Ok(()),
-            Err(Stopped) => {
-                self.note_fault();
-                Err(laid_aside(fault))
-            }
-        }
+        let step = send_string_from(self.get_writer(), string, start, &mut fault);
+        self.hand_on(taken_up(step, fault))
     }
 
     /// Adds the text of the number, or `null` for NaN.
@@ -149,13 +141,8 @@ pub trait Generator {
         ensures { Emits (Just (written_text num.now)) (meaning self.old) (meaning self.new) result }
     {
         let mut fault = None;
-        match send_number(self.get_writer(), num, &mut fault) {
-            Ok(()) => Ok(()),
-            Err(Stopped) => {
-                self.note_fault();
-                Err(laid_aside(fault))
-            }
-        }
+        let step = send_number(self.get_writer(), num, &mut fault);
+        self.hand_on(taken_up(step, fault))
     }
 
     /// The order in which the pairs of the object are to be written, as their positions, each exactly once; `None` is the order of insertion. It is an order

@@ -5,7 +5,7 @@ ghost use Rattle.jzon_tree.specs.Generators.{pretty_meaning, fresh, IsConsumed};
 ghost use Rattle.jzon_tree.specs.StyleLaws.{IsStyle-pretty};
 ghost use Rattle.jzon_tree.specs.Styles.{pretty_style};
 
-use crate::codegen::fault::{Stopped, laid_aside};
+use crate::codegen::fault::taken_up;
 use crate::codegen::generator::Generator;
 use crate::codegen::send::send_line;
 use crate::object::Object;
@@ -86,13 +86,8 @@ impl Generator for PrettyGenerator {
     fn new_line(&mut self) -> io::Result<()> {
         let blanks = self.dent as u128 * self.spaces as u128;
         let mut fault = None;
-        match send_line(self.get_writer(), blanks, &mut fault) {
-            Ok(()) => Ok(()),
-            Err(Stopped) => {
-                self.note_fault();
-                Err(laid_aside(fault))
-            }
-        }
+        let step = send_line(self.get_writer(), blanks, &mut fault);
+        self.hand_on(taken_up(step, fault))
     }
 
     fn order(&mut self, _object: &Object) -> io::Result<Option<Vec<usize>>> {

@@ -4,7 +4,7 @@ ghost use Rattle.std.specs.Prelude.{◌≡◌, Some, refl};
 ghost use Rattle.jzon_tree.specs.StyleLaws.{IsStyle-pretty};
 ghost use Rattle.jzon_tree.specs.Styles.{pretty_style};
 
-use crate::codegen::fault::{Stopped, laid_aside};
+use crate::codegen::fault::taken_up;
 use crate::codegen::generator::Generator;
 use crate::codegen::send::send_line;
 use crate::object::Object;
@@ -73,13 +73,8 @@ impl<'a, W: Write> Generator for PrettyWriterGenerator<'a, W> {
     fn new_line(&mut self) -> io::Result<()> {
         let blanks = self.dent as u128 * self.spaces as u128;
         let mut fault = None;
-        match send_line(self.get_writer(), blanks, &mut fault) {
-            Ok(()) => Ok(()),
-            Err(Stopped) => {
-                self.note_fault();
-                Err(laid_aside(fault))
-            }
-        }
+        let step = send_line(self.get_writer(), blanks, &mut fault);
+        self.hand_on(taken_up(step, fault))
     }
 
     fn order(&mut self, _object: &Object) -> io::Result<Option<Vec<usize>>> {
