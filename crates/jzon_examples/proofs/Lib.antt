@@ -1,3 +1,4 @@
+pub mod FilterSteps
 pub mod LayerSteps
 pub mod Merges
 pub mod PointerSteps

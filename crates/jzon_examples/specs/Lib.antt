@@ -1,4 +1,5 @@
 pub mod Config
+pub mod Filter
 pub mod Merge
 pub mod Pointer
 pub mod Server

@@ -5,6 +5,7 @@ pub mod building;
 pub mod faults;
 pub mod from_rust;
 pub mod layers;
+pub mod line_filter;
 pub mod merge_patch;
 pub mod pointer;
 pub mod round_trip;

@@ -1,0 +1,43 @@
+//! A filter of lines: one document a line in, its compact text a line out.
+
+ghost use Rattle.std.specs.Prelude.{◌≡◌, ◌++◌, ℕ, List, IfOk, OnOk, string_bytes};
+ghost use Rattle.std.specs.Str.Lines.{lines};
+ghost use Rattle.jzon_examples.specs.Filter.{IsPrinted, ArePrinted};
+
+use jzon::Result;
+use std::alloc::Global;
+
+/// The documents on the lines of the text, each printed compactly on a line of its own. A line without a document is refused by the error of its first fault.
+pub fn compacted(alloc: Global, text: &str) -> Result<String>
+    ensures { IfOk result (λ printed. ArePrinted (lines text.now) (string_bytes printed)) }
+{
+    let mut printed = String::new(alloc);
+    for line in text.lines() {
+        add_line(alloc, line, &mut printed)?;
+    }
+    Ok(printed)
+}
+
+// Adds the text of one line.
+fn add_line(alloc: Global, line: &str, printed: &mut String) -> Result<()>
+    ensures { OnOk result ((bytes : List ℕ) × IsPrinted line.now bytes × (string_bytes printed.new ≡ string_bytes printed.old ++ bytes)) }
+{
+    let text = jzon::parse(alloc, line)?.dump(alloc)?;
+    printed.push_str(text.as_str())?;
+    printed.push('\n')?;
+    Ok(())
+}
+
+#[cfg(test)]
+mod tests {
+    use super::*;
+    use std::test::Fail;
+
+    #[test]
+    fn prints_each_line(rt: HostRuntime) -> std::result::Result<(), Fail> {
+        let printed = compacted(rt.alloc(), " {\"a\": 1}\n[ ]\r\n\"x\"")?;
+        assert_eq!(rt; printed.as_str(), "{\"a\":1}\n[]\n\"x\"\n");
+        assert!(rt; compacted(rt.alloc(), "1\n\n2").is_err());
+        Ok(())
+    }
+}
