@@ -20,3 +20,4 @@ pub mod Merged
 pub mod PutEach
 pub mod KnownKeys
 pub mod Runs
+pub mod Few

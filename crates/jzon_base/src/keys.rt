@@ -1,9 +1,10 @@
 //! The keys of an object in the order in which they were put, and the place of each.
-ghost use Rattle.std.specs.Prelude.{◌≡◌, ◌<◌, ◌++◌, ◌∷◌, ◌==◌, [], length, remove, slice_get, IfOk, OnOk, OnErr, MatchOption, None, Some, false};
+ghost use Rattle.std.specs.Prelude.{◌≡◌, ◌<◌, ◌++◌, ◌∷◌, ◌==◌, [], length, remove, slice_get, IfOk, OnOk, OnErr, MatchOption, None, Some, false, true};
 ghost use Rattle.std.specs.List.{position, zip, IsDistinct};
 ghost use Rattle.std.specs.Str.{bytes_eq};
 ghost use Rattle.jzon_base.specs.PairList.{put_each};
 
+mod few;
 pub mod hash;
 mod index;
 mod into_iter;
@@ -13,6 +14,7 @@ mod repeats;
 mod table;
 
 use crate::key::Key;
+pub(crate) use few::Few;
 pub use into_iter::IntoIter;
 pub use iter::Iter;
 pub(crate) use known::Known;
@@ -202,6 +204,7 @@ pub fn merge<V: Drop>(
     ensures even { length values.new.items ≡ length keys.new.items }
     ensures same { put_each (zip keys.new.items values.new.items) ≡ put_each (zip keys.old.items values.old.items) }
     ensures kept { IfOk result (λ merged. merged ≡ false → keys.new.items ≡ keys.old.items) }
+    ensures distinct { IfOk result (λ merged. merged ≡ true → IsDistinct bytes_eq keys.new.items) }
     ensures err { OnErr result (keys.new.items ≡ keys.old.items) }
 {
     let mut index = index::of(alloc, keys.as_slice())?;

@@ -238,8 +238,11 @@ fn builds_pairs_of_few_keys(rt: HostRuntime) -> Result<(), AllocError> {
             built.push(rt.alloc(), Key::new(rt.alloc(), name)?, round)?;
         }
     }
+    for name in ["d", "a", "d"] {
+        built.push(rt.alloc(), Key::new(rt.alloc(), name)?, 7)?;
+    }
     let pairs = built.finish(rt.alloc())?;
-    assert_eq!(rt; shown(rt.alloc(), &pairs)?.as_str(), "c999 a999 b999 ");
+    assert_eq!(rt; shown(rt.alloc(), &pairs)?.as_str(), "c999 a7 b999 d7 ");
     Ok(())
 }
 

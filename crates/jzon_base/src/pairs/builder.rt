@@ -5,21 +5,23 @@ ghost use Rattle.jzon_base.specs.PairList.{find, put};
 
 use super::Pairs;
 use crate::key::Key;
-use crate::keys::{self, Keys, Known};
+use crate::keys::{self, Few, Keys, Known};
 use std::alloc::{AllocError, Global};
 use std::marker::Model;
 
 /// How many entries there may be before they are merged for the first time.
-const FIRST_LIMIT: usize = 1024;
+const FIRST_LIMIT: usize = 256;
 
 /// Entries that are put one after the other, of which some may repeat a key. A clause sees the list of pairs that they make.
 ///
-/// Entries of equal keys are merged whenever their count has doubled since the last time, so that few distinct keys take little memory.
+/// Entries of equal keys are merged whenever their count has doubled since the last time, so that few distinct keys take little memory. Where few keys are left
+/// by that, each later entry of such a key is put in its place at once, until another key comes.
 #[derive(Drop)]
 pub struct Builder<V> {
     keys: Vec<Key>,
     values: Vec<V>,
     known: Known,
+    few: Few,
     limit: usize,
 }
 
@@ -36,7 +38,7 @@ impl<V> Model for Builder<V> {
 
     ghost view = { λ b. put_each (zip b.keys.items b.values.items) };
 
-    ghost invariant = { λ b. IsBuilt b.keys.items b.values.items b.known.runs.items b.known.count };
+    ghost invariant = { λ b. IsBuilt b.keys.items b.values.items b.known.runs.items b.known.count b.few.index.items };
 }
 
 impl<V: Drop> Builder<V> {
@@ -48,6 +50,7 @@ impl<V: Drop> Builder<V> {
             keys: Vec::new(alloc),
             values: Vec::new(alloc),
             known: Known::new(alloc),
+            few: Few::new(alloc),
             limit: FIRST_LIMIT,
         }
     }
@@ -56,8 +59,10 @@ impl<V: Drop> Builder<V> {
     fn merge(&mut self, alloc: Global) -> Result<(), AllocError>
         ensures { self.new ≡ self.old }
     {
+        self.few.clear();
         if keys::merge(alloc, &mut self.keys, &mut self.values)? {
             self.known.clear();
+            self.few = Few::of(alloc, self.keys.as_slice())?;
         }
         self.limit = self.keys.len().saturating_mul(2).max(FIRST_LIMIT);
         Ok(())
@@ -71,6 +76,19 @@ impl<V: Drop> Builder<V> {
         if self.limit <= self.keys.len() {
             self.merge(alloc)?;
         }
+        if let Some(place) = self.few.find(self.keys.as_slice(), key.as_str()) {
+            self.values[place] = value;
+            return Ok(());
+        }
+        self.add(key, value)
+    }
+
+    /// The same behind all others.
+    fn add(&mut self, key: Key, value: V) -> Result<(), AllocError>
+        ensures ok { OnOk result (self.new ≡ put key value self.old) }
+        ensures err { OnErr result (self.new ≡ self.old) }
+    {
+        self.few.clear();
         self.keys.reserve(1)?;
         self.values.reserve(1)?;
         self.keys.push_reserved(key);
