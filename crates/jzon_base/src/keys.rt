@@ -143,12 +143,13 @@ impl Keys {
             (self.new ≡ self.old ++ key ∷ []) (λ _. self.new ≡ self.old)) }
         ensures err { OnErr result (self.new ≡ self.old) }
     {
+        let alloc = self.alloc;
         if let Some(table) = &mut self.table {
-            return table.place(key);
+            return table.place(alloc, key);
         }
-        let mut table = Table::new(self.alloc);
-        let place = table.place(key)?;
-        self.table = Some(Box::new(self.alloc, table)?);
+        let mut table = Table::new(alloc);
+        let place = table.place(alloc, key)?;
+        self.table = Some(Box::new(alloc, table)?);
         Ok(place)
     }
 

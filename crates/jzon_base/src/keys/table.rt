@@ -12,6 +12,8 @@ use std::alloc::{AllocError, Global};
 use std::marker::Model;
 
 /// Distinct keys in the order in which they were put, and the index in which the place of each is found. A clause sees the list of their bytes.
+///
+/// Few keys need no index: a look-up goes through the keys themselves.
 #[derive(Drop)]
 pub struct Table {
     keys: Vec<Key>,
@@ -20,13 +22,13 @@ pub struct Table {
 
 impl Model for Table {
     ghost use Rattle.std.specs.Prelude.{List, ℕ};
-    ghost use Rattle.jzon_base.specs.Keys.{AreKeys};
+    ghost use Rattle.jzon_base.specs.Keys.{IsTable};
 
     ghost Value = { List (List ℕ) };
 
     ghost view = { λ k. k.keys.items };
 
-    ghost invariant = { λ k. AreKeys k.keys.items k.index.items };
+    ghost invariant = { λ k. IsTable k.keys.items k.index.items };
 }
 
 impl Table {
@@ -81,6 +83,12 @@ impl Table {
         ensures even { IfOk result (λ k. length values.new.items ≡ length k) }
         ensures merged { IfOk result (λ k. zip k values.new.items ≡ put_each (zip keys.items values.old.items)) }
     {
+        if keys.len() <= index::FEW && index::are_distinct(keys.as_slice()) {
+            return Ok(Table {
+                keys,
+                index: Vec::new(alloc),
+            });
+        }
         let index = index::of(alloc, keys.as_slice())?;
         if index::has_tie(index.as_slice()) {
             return Table::from_repeats(alloc, keys, values, index);
@@ -100,6 +108,9 @@ impl Table {
     pub fn position(&self, name: &str) -> Option<usize>
         ensures { result ≡ position (λ k. bytes_eq k name.now) self.now }
     {
+        if self.index.is_empty() {
+            return self.keys.iter().position(|key| key.as_str() == name);
+        }
         index::find(
             self.keys.as_slice(),
             self.index.as_slice(),
@@ -117,25 +128,18 @@ impl Table {
     }
 
     /// The place of a key. Where the key is missing it is put last, and the answer is `None`. The error is a refused growth.
-    pub fn place(&mut self, key: Key) -> Result<Option<usize>, AllocError>
+    pub fn place(&mut self, alloc: Global, key: Key) -> Result<Option<usize>, AllocError>
         ensures place { IfOk result (λ place. place ≡ position (λ k. bytes_eq k key) self.old) }
         ensures ok { IfOk result (λ place. MatchOption place
             (self.new ≡ self.old ++ key ∷ []) (λ _. self.new ≡ self.old)) }
         ensures err { OnErr result (self.new ≡ self.old) }
     {
-        let hash = hash_of(key.as_str());
-        let found = index::find(
-            self.keys.as_slice(),
-            self.index.as_slice(),
-            hash,
-            key.as_str(),
-        );
+        let found = self.position(key.as_str());
         if found.is_some() {
             return Ok(found);
         }
-        let last = self.keys.len();
         self.keys.reserve(1)?;
-        index::add(&mut self.index, hash, last)?;
+        index::add_key(alloc, self.keys.as_slice(), &mut self.index, key.as_str())?;
         self.keys.push_reserved(key);
         Ok(None)
     }
