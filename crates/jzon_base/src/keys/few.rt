@@ -2,7 +2,7 @@
 ghost use Rattle.std.specs.Prelude.{◌≡◌, [], IfOk, IfSome, IsSome, Some};
 ghost use Rattle.std.specs.List.{position, IsDistinct};
 ghost use Rattle.std.specs.Str.{bytes_eq};
-ghost use Rattle.jzon_base.specs.Keys.{AreFew};
+ghost use Rattle.jzon_base.specs.Keys.{AreFew, AreKeys};
 
 use super::hash::hash_of;
 use super::index;
@@ -51,6 +51,7 @@ impl Few {
     }
 
     /// The place of the key of this name, where the index has it.
+    #[inline(always)]
     pub fn find(&self, keys: &[Key], name: &str) -> Option<usize>
         requires { AreFew keys.now self.now.index.items }
         ensures place { IfSome result (λ place. position (λ k. bytes_eq k name.now) keys.now ≡ Some place) }
@@ -59,6 +60,15 @@ impl Few {
         if self.index.is_empty() {
             return None;
         }
-        index::find(keys, self.index.as_slice(), hash_of(name), name)
+        look_up(keys, self.index.as_slice(), name)
     }
+}
+
+/// The place of the key of this name.
+#[inline(never)]
+fn look_up(keys: &[Key], index: &[(u64, usize)], name: &str) -> Option<usize>
+    requires { AreKeys keys.now index.now }
+    ensures { result ≡ position (λ k. bytes_eq k name.now) keys.now }
+{
+    index::find(keys, index, hash_of(name), name)
 }

@@ -56,6 +56,8 @@ impl<V: Drop> Builder<V> {
     }
 
     /// Merges the entries of equal keys. The error is a refused growth.
+    #[cold]
+    #[inline(never)]
     fn merge(&mut self, alloc: Global) -> Result<(), AllocError>
         ensures { self.new ≡ self.old }
     {
@@ -69,6 +71,7 @@ impl<V: Drop> Builder<V> {
     }
 
     /// Puts an entry. The error is a refused growth.
+    #[inline(always)]
     pub fn push(&mut self, alloc: Global, key: Key, value: V) -> Result<(), AllocError>
         ensures ok { OnOk result (self.new ≡ put key value self.old) }
         ensures err { OnErr result (self.new ≡ self.old) }
@@ -84,6 +87,7 @@ impl<V: Drop> Builder<V> {
     }
 
     /// The same behind all others.
+    #[inline(always)]
     fn add(&mut self, key: Key, value: V) -> Result<(), AllocError>
         ensures ok { OnOk result (self.new ≡ put key value self.old) }
         ensures err { OnErr result (self.new ≡ self.old) }
