@@ -3,13 +3,13 @@ use Rattle.std.proofs.Common.{◌≡◌, ◌≢◌, ◌∙◌, ℕ, ◌<◌, Lis
 use Rattle.std.proofs.lemmas.List.{length-set}
 use Rattle.std.specs.List.{position, zip, IsDistinct}
 use Rattle.std.specs.Str.{bytes_eq}
-use Rattle.jzon_base.specs.Keys.{AreFew}
+use Rattle.jzon_base.specs.Keys.{IsSlotted}
 use Rattle.jzon_base.specs.PairList.{put, put_each}
 use Rattle.jzon_base.proofs.PairPlaces.{zip-put_placed}
 use Rattle.jzon_base.proofs.PutEach.{put_each-zip}
 
-pub AreFew-none : (ks : List (List ℕ)) → AreFew ks []
-AreFew-none ks = record { keys = λ e. absurd (e refl) }
+pub IsSlotted-none : (ks : List (List ℕ)) → IsSlotted ks []
+IsSlotted-none ks = record { distinct = λ e. absurd (e refl) }
 
 -- a value that is put in the place of a distinct key
 pub put_each-placed : {V : Type 0} (ks : List (List ℕ)) (vs : List V) (k : List ℕ) (v : V) (i : ℕ) → length vs ≡ length ks → IsDistinct bytes_eq ks

@@ -1,74 +1,113 @@
 //! Few keys, of which a repeated one is found at once.
-ghost use Rattle.std.specs.Prelude.{◌≡◌, [], IfOk, IfSome, IsSome, Some};
+ghost use Rattle.std.specs.Prelude.{◌≡◌, ◌<◌, [], IfOk, IfSome, IsSome, Some};
 ghost use Rattle.std.specs.List.{position, IsDistinct};
 ghost use Rattle.std.specs.Str.{bytes_eq};
-ghost use Rattle.jzon_base.specs.Keys.{AreFew, AreKeys};
+ghost use Rattle.jzon_base.specs.Keys.{IsSlotted};
 
 use super::hash::hash_of;
-use super::index;
 use crate::key::Key;
 use std::alloc::{AllocError, Global};
 
 /// How many keys are few.
 const FEW: usize = 64;
 
-/// The index of distinct keys that are few, or none. In the index no two keys have one hash, so that a look-up compares at most one text.
+/// How many slots a look-up goes through at most.
+const STEPS: usize = 8;
+
+/// How many slots there are. A look-up begins at one of the first 256.
+const SLOTS: usize = 256 + STEPS;
+
+/// Stands in an empty slot, and is no place of few keys.
+const EMPTY: u8 = 255;
+
+/// The places of distinct keys that are few, in a table that begins by their hashes, or none. A look-up goes through a few slots at most.
 #[derive(Drop)]
 pub struct Few {
-    index: Vec<(u64, usize)>,
+    slots: Vec<u8>,
 }
 
 impl Few {
-    /// No index. Takes no memory.
+    /// No table. Takes no memory.
     pub fn new(alloc: Global) -> Few
-        ensures { result.index.items ≡ [] }
+        ensures { result.slots.items ≡ [] }
     {
         Few {
-            index: Vec::new(alloc),
+            slots: Vec::new(alloc),
         }
     }
 
-    /// The index of these keys, or none where they are not few or where two have one hash. The error is a refused growth.
+    /// The table of these keys, or none where they are not few or where one finds no slot. The error is a refused growth.
     pub fn of(alloc: Global, keys: &[Key]) -> Result<Few, AllocError>
         requires { IsDistinct bytes_eq keys.now }
-        ensures { IfOk result (λ few. AreFew keys.now few.index.items) }
+        ensures { IfOk result (λ few. IsSlotted keys.now few.slots.items) }
     {
         if FEW < keys.len() {
             return Ok(Few::new(alloc));
         }
-        let index = index::of(alloc, keys)?;
-        if index::has_tie(index.as_slice()) {
-            return Ok(Few::new(alloc));
+        let mut slots = vec![in alloc; EMPTY; SLOTS]?;
+        for (place, key) in keys.iter().enumerate() {
+            if !fill(slots.as_mut_slice(), place as u8, key.as_str()) {
+                return Ok(Few::new(alloc));
+            }
         }
-        Ok(Few { index })
+        Ok(Few { slots })
     }
 
-    /// Gives up the index.
+    /// Gives up the table.
     pub fn clear(&mut self)
-        ensures { self.new.index.items ≡ [] }
+        ensures { self.new.slots.items ≡ [] }
     {
-        self.index.clear();
+        self.slots.clear();
     }
 
-    /// The place of the key of this name, where the index has it.
+    /// The place of the key of this name, where the table has it.
     #[inline(always)]
     pub fn find(&self, keys: &[Key], name: &str) -> Option<usize>
-        requires { AreFew keys.now self.now.index.items }
+        requires { IsSlotted keys.now self.now.slots.items }
         ensures place { IfSome result (λ place. position (λ k. bytes_eq k name.now) keys.now ≡ Some place) }
         ensures distinct { IsSome result → IsDistinct bytes_eq keys.now }
     {
-        if self.index.is_empty() {
+        if self.slots.is_empty() {
             return None;
         }
-        look_up(keys, self.index.as_slice(), name)
+        look_up(keys, self.slots.as_slice(), name)
     }
 }
 
-/// The place of the key of this name.
-#[inline(never)]
-fn look_up(keys: &[Key], index: &[(u64, usize)], name: &str) -> Option<usize>
-    requires { AreKeys keys.now index.now }
-    ensures { result ≡ position (λ k. bytes_eq k name.now) keys.now }
+/// The slot at which the look-up of a name begins.
+fn first_slot(name: &str) -> usize
+    ensures { result < 256 }
 {
-    index::find(keys, index, hash_of(name), name)
+    (hash_of(name) & 0xff) as usize
+}
+
+/// Puts a place into an empty slot of its key, and tells whether there was one.
+fn fill(slots: &mut [u8], place: u8, name: &str) -> bool {
+    let start = first_slot(name);
+    for at in start..start + STEPS {
+        if slots.get(at) == Some(&EMPTY) {
+            slots[at] = place;
+            return true;
+        }
+    }
+    false
+}
+
+/// The place of the key of this name, where it has a slot.
+#[inline(never)]
+fn look_up(keys: &[Key], slots: &[u8], name: &str) -> Option<usize>
+    requires { IsDistinct bytes_eq keys.now }
+    ensures { IfSome result (λ place. position (λ k. bytes_eq k name.now) keys.now ≡ Some place) }
+{
+    let start = first_slot(name);
+    for at in start..start + STEPS {
+        let place = usize::from(*slots.get(at)?);
+        if keys.len() <= place {
+            return None;
+        }
+        if keys[place].as_str() == name {
+            return Some(place);
+        }
+    }
+    None
 }

@@ -38,7 +38,7 @@ impl<V> Model for Builder<V> {
 
     ghost view = { λ b. put_each (zip b.keys.items b.values.items) };
 
-    ghost invariant = { λ b. IsBuilt b.keys.items b.values.items b.known.runs.items b.known.count b.few.index.items };
+    ghost invariant = { λ b. IsBuilt b.keys.items b.values.items b.known.runs.items b.known.count b.few.slots.items };
 }
 
 impl<V: Drop> Builder<V> {

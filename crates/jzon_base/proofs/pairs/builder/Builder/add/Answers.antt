@@ -3,7 +3,7 @@ use Rattle.std.specs.List.{zip}
 use Rattle.jzon_base.specs.PairList.{put, put_each}
 use Rattle.jzon_base.proofs.PutEach.{put_each-push}
 use Rattle.std.proofs.lemmas.List.{length_push}
-use Rattle.jzon_base.proofs.Few.{AreFew-none}
+use Rattle.jzon_base.proofs.Few.{IsSlotted-none}
 use Rattle.jzon_base.proofs.Runs.{AreRuns-push}
 use Rattle.jzon_base.proofs.Zips.{zip-push}
 use Rattle.jzon_base.proofs.pairs.builder.Builder.add.Goals as goal
@@ -26,5 +26,5 @@ invariant_of-self-2 g c =
     (record {
       even = omega (arith, length_push inside.keys.items c.args.key, length_push inside.values.items c.args.value, built.even);
       known = AreRuns-push inside.keys.items c.args.key inside.known.runs.items inside.known.count built.known;
-      few = AreFew-none (inside.keys.items ++ c.args.key ∷ []);
+      few = IsSlotted-none (inside.keys.items ++ c.args.key ∷ []);
     })
