@@ -1,5 +1,5 @@
--- The index of few keys.
-use Rattle.std.proofs.Common.{◌≡◌, ◌≢◌, ◌∙◌, ℕ, ◌<◌, List, [], length, set, Some, refl, sym, arith}
+-- Few keys, of which each has its place.
+use Rattle.std.proofs.Common.{◌≡◌, ◌∙◌, ℕ, List, [], length, set, Some, refl, sym}
 use Rattle.std.proofs.lemmas.List.{length-set}
 use Rattle.std.specs.List.{position, zip, IsDistinct}
 use Rattle.std.specs.Str.{bytes_eq}

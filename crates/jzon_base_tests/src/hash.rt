@@ -3,9 +3,11 @@
 use jzon_base::keys::hash::hash_of;
 
 #[test]
-fn hashes_published_texts(rt: HostRuntime) {
+fn hashes_texts(rt: HostRuntime) {
     for (text, want) in [
-        ("", 0xcbf2_9ce4_8422_2325u64),
+        ("77kepQFQ8Kl", 0u64),
+        ("77kepQFQ8Kl\0\0GhL ,\u{8}\u{1b}s\u{5}\u{18}\0", 0),
+        ("", 0xcbf2_9ce4_8422_2325),
         ("a", 0xaf63_dc4c_8601_ec8c),
         ("foobar", 0x8594_4171_f739_67e8),
     ] {

@@ -246,6 +246,80 @@ fn builds_pairs_of_few_keys(rt: HostRuntime) -> Result<(), AllocError> {
     Ok(())
 }
 
+/// A text of the hash 0. What stands behind it keeps the hash: zero bytes, and `BLOCK` among them.
+const ZERO: &str = "77kepQFQ8Kl";
+
+const BLOCK: &str = "GhL ,\u{8}\u{1b}s\u{5}\u{18}";
+
+fn push_zeros(name: &mut String, count: usize) -> Result<(), AllocError> {
+    for _ in 0..count {
+        name.push('\0')?;
+    }
+    Ok(())
+}
+
+/// One of 20,000 texts of one hash.
+fn name_of(alloc: Global, number: usize) -> Result<String, AllocError> {
+    let mut name = String::from_str(alloc, ZERO)?;
+    push_zeros(&mut name, number / 150)?;
+    name.push_str(BLOCK)?;
+    push_zeros(&mut name, number % 150)?;
+    Ok(name)
+}
+
+/// The pairs of so many keys of one hash, and their numbers.
+fn of_one_hash(alloc: Global, count: usize) -> Result<Pairs<usize>, AllocError> {
+    let mut built = Builder::new(alloc);
+    for number in 0..count {
+        let name = name_of(alloc, number)?;
+        built.push(alloc, Key::new(alloc, name.as_str())?, number)?;
+    }
+    built.finish(alloc)
+}
+
+/// Where this one of the keys is found.
+fn place_of(
+    alloc: Global,
+    pairs: &Pairs<usize>,
+    number: usize,
+) -> Result<Option<usize>, AllocError> {
+    let name = name_of(alloc, number)?;
+    Ok(pairs.position(name.as_str()))
+}
+
+#[test]
+fn finds_many_keys_of_one_hash(rt: HostRuntime) -> Result<(), AllocError> {
+    let pairs = of_one_hash(rt.alloc(), 20_000)?;
+    assert_eq!(rt; pairs.len(), 20_000);
+    for (place, number) in pairs.values().iter().enumerate() {
+        assert_eq!(rt; *number, place);
+    }
+    for hundred in 0..200 {
+        let number = 100 * hundred + 99;
+        assert_eq!(rt; place_of(rt.alloc(), &pairs, number)?, Some(number));
+    }
+    assert_eq!(rt; place_of(rt.alloc(), &pairs, 20_000)?, None);
+    Ok(())
+}
+
+#[test]
+fn lowers_places_of_one_hash(rt: HostRuntime) -> Result<(), AllocError> {
+    let mut pairs = of_one_hash(rt.alloc(), 10)?;
+    let name = name_of(rt.alloc(), 3)?;
+    assert_eq!(rt; pairs.remove(name.as_str()), Some(3));
+    for (number, want) in [
+        (0, Some(0usize)),
+        (2, Some(2)),
+        (3, None),
+        (4, Some(3)),
+        (9, Some(8)),
+        (10, None),
+    ] {
+        assert_eq!(rt; place_of(rt.alloc(), &pairs, number)?, want, "of {number}");
+    }
+    Ok(())
+}
+
 #[test]
 fn knows_the_keys_so_far(rt: HostRuntime) -> Result<(), AllocError> {
     let mut built = Builder::new(rt.alloc());

@@ -1,4 +1,4 @@
-use Rattle.std.proofs.Common.{◌≡◌, ◌∙◌, [], length, ap, sym, refl, arith, rules}
+use Rattle.std.proofs.Common.{◌∙◌, length, ap, sym, refl}
 use Rattle.std.proofs.lemmas.Result.{on_ok_weaker, on_err_weaker}
 use Rattle.std.proofs.lemmas.Bool.{eqb-false}
 use Rattle.jzon_base.specs.Keys.{IsIndex}
