@@ -1,5 +1,5 @@
 -- The bytes that a generator over memory wrote of a value, from nothing on: its text in the generator's layout.
-use Rattle.std.proofs.Common.{◌≡◌, ◌∙◌, ℕ, Bool, List, [], ◌++◌, ◌*◌, refl, Option, Some, None, sym, subst, true, false, arith}
+use Rattle.std.proofs.Common.{◌≡◌, ◌∙◌, ℕ, Bool, List, [], ◌*◌, Some, None, sym, subst, true, false, arith}
 use Rattle.std.specs.Prelude.{IsUtf8}
 use Rattle.jzon_tree.specs.Generator.{Adds, Emitted, Added}
 use Rattle.jzon_tree.specs.Generators.{fresh}

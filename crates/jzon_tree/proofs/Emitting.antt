@@ -1,6 +1,7 @@
 -- What hooks do, one after another.
-use Rattle.std.proofs.Common.{◌≡◌, ℕ, suc, ◌+◌, ◌-◌, List, [], ◌∷◌, ◌++◌, refl, sym, ap, subst, ◌∙◌, append_assoc, append-nil, add-one, Result, Ok, Err, arith, Option}
-use Rattle.std.specs.Prelude.{MatchResult}
+use Rattle.std.proofs.Common.{◌≡◌, ℕ, suc, ◌+◌, ◌-◌, List, [], ◌∷◌, ◌++◌, refl, sym, ap, subst, ◌∙◌, append_assoc, append-nil, add-one, Result, Ok, Err, arith, Option, None, true}
+use Rattle.std.proofs.lemmas.Bool.{eqb-true, false_from_ne_true}
+use Rattle.std.specs.Prelude.{MatchResult, not, ◌==◌}
 use Rattle.std.specs.Result.{IsErr}
 use Rattle.jzon_tree.proofs.Sent.{adds_same, adds_then, adds_weaker}
 use Rattle.jzon_tree.specs.Generator.{Adds, Begins, Just, Sends, Emitted, Added, Failed, Stopped, Emits, Counts, noted}
@@ -156,3 +157,12 @@ Emits-handed P bs old mid new lent o (Ok u) (Ok v) r p l h s m e k = rw (e, k, m
 Emits-handed P bs old mid new lent o (Ok u) (Err v) r p l h s m e k = absurd (cc s)
 Emits-handed P bs old mid new lent o (Err u) (Ok v) r p l h s m e k = absurd (cc s)
 Emits-handed P bs old mid new lent o (Err u) (Err v) r p l h s m e k = rw e (Failed-sent P bs old new o p (subst (λ x. Adds (Begins (Just bs)) x o) l h) (rw m at k))
+
+-- the answer `None` of a generator that stays as it is
+pub insertion_answered : {E A : Type 0} (K : Option A → Type 0) (old new : Emitted) (r : Result (Option A) E) → r ≡ Ok None → new ≡ old → K None
+    → MatchResult r (λ answer. Added (Just []) old new × K answer) (λ _. Failed (Just []) old new)
+insertion_answered K old new r e same k = rw (e, same) (Added-nothing (Just []) old refl, k)
+
+-- a truth value as the program keeps it
+pub has_lines : (n : ℕ) → (n ≡ 0 → ⊥) → not (n == 0) ≡ true
+has_lines n h = ap not (false_from_ne_true (n == 0) (λ e. h (eqb-true n 0 e)))

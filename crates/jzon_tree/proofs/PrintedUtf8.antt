@@ -1,5 +1,5 @@
 -- The text of a value is UTF-8: its strings are, and all else in it is below 128.
-use Rattle.std.proofs.Common.{◌≡◌, ◌∙◌, ℕ, zero, suc, ℤ, pos, negsuc, ◌+◌, ◌-◌, ◌*◌, ◌^◌, ◌<◌, ◌≤◌, List, [], ◌∷◌, ◌++◌, length, take, drop, replicate, get_or, Bool, true, false, ◌&&◌, ◌||◌, ◌==◌, nat_le, nat_lt, if◌then◌else◌, decimal, FitsSigned, codes, refl, sym, ap, subst, append-nil, inl, inr, arith, rules}
+use Rattle.std.proofs.Common.{◌≡◌, ◌∙◌, ℕ, zero, suc, ℤ, pos, negsuc, ◌+◌, ◌-◌, ◌^◌, ◌<◌, ◌≤◌, List, [], ◌∷◌, ◌++◌, length, take, drop, replicate, get_or, Bool, true, false, ◌&&◌, ◌==◌, nat_le, nat_lt, if◌then◌else◌, decimal, FitsSigned, codes, refl, sym, ap, subst, append-nil, inl, inr, arith, rules}
 use Rattle.std.specs.Int.{w16}
 use Rattle.std.specs.List.{AllByRecursion}
 use Rattle.std.specs.Prelude.{IsUtf8, encode_utf8, encode_utf8_all}
@@ -12,9 +12,9 @@ use Rattle.std.proofs.lemmas.Fmt.{IsAscii-decimal, length-decimal-le}
 use Rattle.std.proofs.lemmas.List.Concat.{flat_map-append}
 use Rattle.std.proofs.lemmas.Str.{encode_ascii, inside_one, IsUtf8-append, IsUtf8-from_ascii, IsUtf8-nil}
 use Rattle.jzon_base.specs.Decimal.{Decimal, nan, parts}
-use Rattle.jzon_base.specs.NumberText.{sign_text, point_after, point_after_first, fraction_text, small_exponent_text, magnitude_text, number_text, written_text}
+use Rattle.jzon_base.specs.NumberText.{sign_text, point_after, point_after_first, fraction_text, small_exponent_text, magnitude_text, written_text}
 use Rattle.jzon_tree.specs.Lawful.{InRange, IsText, IsValue, AreValues, ArePairs}
-use Rattle.jzon_tree.specs.Text.{escaped_byte, escaped, quoted, boolean_text, Layout, layout_text, more_values_text, more_pairs_text}
+use Rattle.jzon_tree.specs.Text.{escaped_byte, escaped, quoted, Layout, layout_text, more_values_text, more_pairs_text}
 use Rattle.jzon_tree.specs.Value.{Value, null, boolean, text, number, array, object, Values, no_values, value, Pairs, no_pairs, pair, Kind, short, long}
 
 -- ---- bytes below 128

@@ -9,6 +9,7 @@ use Rattle.std.proofs.lemmas.Slice.Eq.{bytes_eq-Decides}
 use Rattle.jzon_base.specs.Written.{AppendsBeginning}
 use Rattle.jzon_base.specs.PairList.{keys_of}
 use Rattle.jzon_tree.specs.Generator.{Adds, Begins, Emitted, Prints, insertion}
+use Rattle.jzon_tree.specs.Generators.{fresh}
 use Rattle.jzon_tree.specs.Styles.{only, same_form}
 use Rattle.jzon_tree.specs.Text.{Layout, layout_text, more_values_text, more_pairs_text, quoted}
 use Rattle.jzon_tree.specs.Value.{Value, null, boolean, text, number, array, object, Values, no_values, value, Pairs, no_pairs, pair, list_of_pairs}
@@ -127,12 +128,24 @@ adds-beginning P bs (Some xs) (Some ys) f (x, e, (y, p)) =
     let whole : x ++ y ≡ bs = f (x ++ y) p in
     (length x, omega (arith, length-append x y, ap (λ (w : List ℕ). length w) whole), e ∙ ap (λ w. xs ++ w) (rw whole at (sym (take-front x y))))
 
-pub lent_ok : (P : List ℕ → Type 0) (bs : List ℕ) → ((x : List ℕ) → P x → x ≡ bs) → {W E : Type 0} (contents : W → Option (List ℕ)) (old new : Emitted) (r : Result (Unit {0}) E) (n m : GName) (x now : W)
+lent_ok : (P : List ℕ → Type 0) (bs : List ℕ) → ((x : List ℕ) → P x → x ≡ bs) → {W E : Type 0} (contents : W → Option (List ℕ)) (old new : Emitted) (r : Result (Unit {0}) E) (n m : GName) (x now : W)
     → Prints P old new r → old.lender ≡ Some n → new.lender ≡ Some m → (n ≡ m → x ≡ now) → new.out ≡ contents now → OnOk r (Appends old.out (contents x) bs)
 lent_ok P bs unique contents old new (Ok u) n m x now h e f same out = let s : n ≡ m = cc (e, f, h.lender) in rw (same s, sym out) (adds-appended P bs old.out new.out unique h.bytes)
 lent_ok P bs unique contents old new (Err u) n m x now h e f same out = tt
 
-pub lent_err : (P : List ℕ → Type 0) (bs : List ℕ) → ((x : List ℕ) → P x → x ≡ bs) → {W E : Type 0} (contents : W → Option (List ℕ)) (old new : Emitted) (r : Result (Unit {0}) E) (n m : GName) (x now : W)
+lent_err : (P : List ℕ → Type 0) (bs : List ℕ) → ((x : List ℕ) → P x → x ≡ bs) → {W E : Type 0} (contents : W → Option (List ℕ)) (old new : Emitted) (r : Result (Unit {0}) E) (n m : GName) (x now : W)
     → Prints P old new r → old.lender ≡ Some n → new.lender ≡ Some m → (n ≡ m → x ≡ now) → new.out ≡ contents now → OnErr r (AppendsBeginning old.out (contents x) bs)
 lent_err P bs unique contents old new (Ok u) n m x now h e f same out = tt
 lent_err P bs unique contents old new (Err u) n m x now h e f same out = let s : n ≡ m = cc (e, f, h.lender) in rw (same s, sym out) (adds-beginning P bs old.out new.out unique h.bytes)
+
+-- the same of a generator that began without an indent
+module _ (line : ℕ → List ℕ) (wide : Bool) (v : Value) {W E : Type 0} (contents : W → Option (List ℕ)) (old new : Emitted) (o : Option (List ℕ)) (l : Option GName) (r : Result (Unit {0}) E) (n m : GName) (x now : W)
+    (begun : old ≡ fresh o (only line wide) l) (printed : Prints (Writes old.style old.dent v) old new r) (e : old.lender ≡ Some n) (f : new.lender ≡ Some m) (same : n ≡ m → x ≡ now) (out : new.out ≡ contents now) where
+  outmost : Prints (Writes (only line wide) 0 v) old new r
+  outmost = subst (λ z. Prints (Writes z.style z.dent v) old new r) begun printed
+
+  pub given_back_ok : OnOk r (Appends o (contents x) (layout_text (layout line wide) 0 v))
+  given_back_ok = subst (λ z. OnOk r (Appends z (contents x) (layout_text (layout line wide) 0 v))) (ap (λ z. z.out) begun) (lent_ok (Writes (only line wide) 0 v) (layout_text (layout line wide) 0 v) (written line wide 0 v) contents old new r n m x now outmost e f same out)
+
+  pub given_back_err : OnErr r (AppendsBeginning o (contents x) (layout_text (layout line wide) 0 v))
+  given_back_err = subst (λ z. OnErr r (AppendsBeginning z (contents x) (layout_text (layout line wide) 0 v))) (ap (λ z. z.out) begun) (lent_err (Writes (only line wide) 0 v) (layout_text (layout line wide) 0 v) (written line wide 0 v) contents old new r n m x now outmost e f same out)

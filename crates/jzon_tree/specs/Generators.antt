@@ -3,23 +3,15 @@ use Rattle.std.specs.Prelude.{◌≡◌, ℕ, List, Option, Some, None, Result, 
 use Rattle.std.specs.Borrow.{GName}
 use Rattle.std.specs.declared.string.String.{String}
 use Rattle.std.specs.declared.alloc.Global.{Global}
+use Rattle.std.proofs.Common.{ap, ◌∙◌}
 use Rattle.jzon_base.specs.declared.error.Error.{Error}
 use Rattle.jzon_base.specs.declared.error.Error.TheVariants.{FailedUtf8Parsing}
 use Rattle.jzon_tree.specs.Generator.{Emitted}
-use Rattle.jzon_tree.specs.Styles.{compact_style, pretty_style}
 use Rattle.jzon_tree.specs.Writing.{Style}
-use Rattle.jzon_tree.specs.declared.codegen.dump.DumpGenerator.{DumpGenerator}
-use Rattle.jzon_tree.specs.declared.codegen.pretty.PrettyGenerator.{PrettyGenerator}
 
 -- these bytes, no open indent and no fault
 abbrev pub fresh : Option (List ℕ) → Style → Option GName → Emitted
 fresh out style lender = record { out = out; dent = 0; faults = 0; style = style; lender = lender }
-
-abbrev pub dump_meaning : DumpGenerator → Emitted
-dump_meaning g = record { out = Some g.code.items; dent = g.dent; faults = g.faults; style = compact_style; lender = None }
-
-abbrev pub pretty_meaning : PrettyGenerator → Emitted
-pretty_meaning g = record { out = Some g.code.items; dent = g.dent; faults = g.faults; style = pretty_style g.spaces; lender = None }
 
 -- bytes that are known, and are no UTF-8
 abbrev pub IsNoUtf8 : Option (List ℕ) → Type 0
@@ -29,3 +21,10 @@ IsNoUtf8 (Some bytes) = IsUtf8 bytes → ⊥
 -- what `consume` answers: the bytes written as a text, or where they are no UTF-8 the error that says so
 abbrev pub IsConsumed : Option (List ℕ) → Result (String Global) Error → Type 0
 IsConsumed out r = MatchResult r (λ text. out ≡ Some (string_bytes text)) (λ e. (e ≡ FailedUtf8Parsing) × IsNoUtf8 out)
+
+-- The same bytes and the same reference make the same generator. (This is a proof; it stands here since a law of the generators cites it.)
+pub same_emitted : {o p : Option (List ℕ)} {l m : Option GName} {d f : ℕ} {s : Style} → o ≡ p → l ≡ m
+    → let e : Emitted = record { out = o; dent = d; faults = f; style = s; lender = l } in e ≡ record { out = p; dent = d; faults = f; style = s; lender = m }
+same_emitted {o} {p} {l} {m} {d} {f} {s} h k =
+    ap (λ x. let e : Emitted = record { out = x; dent = d; faults = f; style = s; lender = l } in e) h
+    ∙ ap (λ x. let e : Emitted = record { out = p; dent = d; faults = f; style = s; lender = x } in e) k

@@ -1,5 +1,5 @@
 -- The parts of a writing, as the functions that write values add them.
-use Rattle.std.specs.Prelude.{◌≡◌, ◌≢◌, ℕ, ◌<◌, Bool, true, false, IsTrue, List, [], ◌∷◌, ◌++◌, ⊤, length, map, AllPairs, MatchResult, Result, slice_index_or, if◌then◌else◌}
+use Rattle.std.specs.Prelude.{◌≡◌, ℕ, ◌<◌, Bool, true, false, IsTrue, List, [], ◌∷◌, ◌++◌, length, map, MatchResult, Result, slice_index_or, if◌then◌else◌}
 use Rattle.jzon_tree.specs.Generator.{Emitted, Added, Stopped}
 use Rattle.jzon_tree.specs.Text.{quoted}
 use Rattle.jzon_tree.specs.Value.{Value, null, values_of}

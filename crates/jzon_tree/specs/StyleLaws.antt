@@ -10,7 +10,7 @@ use Rattle.std.proofs.lemmas.Slice.Eq.{bytes_eq-Decides}
 use Rattle.std.proofs.Math.Nat.{ne_of_lt, add-suc, suc-add, add-zero, zero-add, lt-suc_self, lt_trans, not-suc-le-zero, le-add_right, suc-le-suc_iff, le_of_suc-le-suc}
 use Rattle.std.proofs.Math.Numerals.{suc-eq-add-one}
 use Rattle.jzon_tree.specs.Generator.{insertion}
-use Rattle.jzon_tree.specs.Styles.{same_form, only, compact_style, pretty_style}
+use Rattle.jzon_tree.specs.Styles.{same_form, only, compact_style, pretty_style, layout_style}
 use Rattle.jzon_tree.specs.Text.{pretty_layout}
 use Rattle.jzon_tree.specs.Writing.{IsStyle, IsOrder, IsAllowedBlank, is_blank, any_style}
 
@@ -74,6 +74,14 @@ pretty_blank spaces dent = (blanks (dent * spaces), bytes_eq-refl ((pretty_layou
 
 pub IsStyle-pretty : (spaces : ℕ) → IsStyle (pretty_style spaces)
 IsStyle-pretty spaces = IsStyle-only (pretty_layout spaces).line true (λ dent. blanks (dent * spaces))
+
+pub IsStyle-layout : (lines : Bool) (spaces : ℕ) → IsStyle (layout_style lines spaces)
+IsStyle-layout true spaces = IsStyle-pretty spaces
+IsStyle-layout false spaces = IsStyle-compact
+
+-- the order of insertion
+pub insertion_allowed : (ks : List (List ℕ)) → bytes_eq (insertion (length ks)) (insertion (length ks)) ≡ true
+insertion_allowed ks = bytes_eq-refl (insertion (length ks))
 
 pub IsStyle-any : IsStyle any_style
 IsStyle-any = record {

@@ -24,3 +24,11 @@ compact_style = only compact_layout.line false
 -- a newline and `spaces` blanks for each open indent, and a blank after each colon
 abbrev pub pretty_style : ℕ → Style
 pretty_style spaces = only (pretty_layout spaces).line true
+
+-- a layout with lines or without, and its style
+abbrev pub layout_line : Bool → ℕ → ℕ → List ℕ
+layout_line true spaces = (pretty_layout spaces).line
+layout_line false spaces = compact_layout.line
+
+abbrev pub layout_style : Bool → ℕ → Style
+layout_style lines spaces = only (layout_line lines spaces) lines

@@ -1,25 +1,23 @@
 //! Printing: generators, and what is written by them (docs/RULES.md, "Generators").
 
-mod dump;
 mod fault;
 mod generator;
+mod memory;
 mod nesting;
-mod pretty;
-mod pretty_writer;
+mod outlet;
 mod print;
 mod print_object;
 mod readable;
 mod send;
 mod step;
+mod text;
 mod visit;
 mod write;
 mod writer;
 
-pub use dump::DumpGenerator;
 pub use generator::Generator;
-pub use pretty::PrettyGenerator;
-pub use pretty_writer::PrettyWriterGenerator;
+pub use memory::{DumpGenerator, PrettyGenerator};
 #[doc(hidden)]
 pub use readable::is_readable;
 pub use write::{write_json, write_object};
-pub use writer::WriterGenerator;
+pub use writer::{PrettyWriterGenerator, WriterGenerator};

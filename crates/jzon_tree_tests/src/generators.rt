@@ -1,6 +1,6 @@
 //! Generators of a user's own.
 
-ghost use Rattle.std.specs.Prelude.{◌≡◌, length, IfOk, Some, None, refl};
+ghost use Rattle.std.specs.Prelude.{◌≡◌, length, true, IfOk, Some, None, refl};
 ghost use Rattle.jzon_base.specs.PairList.{keys_of};
 ghost use Rattle.jzon_tree.specs.Entries.{entries_of};
 ghost use Rattle.jzon_tree.specs.Generator.{insertion};
@@ -9,7 +9,10 @@ ghost use Rattle.jzon_tree.specs.Writing.{any_style, IsOrder};
 
 use crate::common::{Tested, expect_bytes, numbers};
 use jzon_refusals::{MOST, Refusals};
-use jzon_tree::codegen::{Generator, write_json, write_object};
+use jzon_tree::codegen::{
+    DumpGenerator, Generator, PrettyGenerator, PrettyWriterGenerator, WriterGenerator, write_json,
+    write_object,
+};
 use jzon_tree::object::Object;
 use jzon_tree::value::JsonValue;
 use std::alloc::{AllocError, Global};
@@ -211,5 +214,27 @@ fn writes_tabs(rt: HostRuntime) -> Tested {
     write_json(&mut generator, &numbers(rt.alloc(), &[1, 2])?)?;
     expect_bytes(&rt, &generator.code, "[\x0b1,\x0b2\x0b]");
     assert_eq!(rt; generator.dent, 0);
+    Ok(())
+}
+
+// A caller knows the answer before it looks at it.
+fn dump_keeps_the_order(alloc: Global, object: &Object) -> bool
+    ensures { result ≡ true }
+{
+    matches!(DumpGenerator::new(alloc).order(object), Ok(None))
+}
+
+fn keeps_the_order<G: Generator>(generator: &mut G, object: &Object) -> bool {
+    matches!(generator.order(object), Ok(None))
+}
+
+#[test]
+fn keep_the_order_of_insertion(rt: HostRuntime) -> Tested {
+    let object = unsorted(rt.alloc())?;
+    let mut bytes: Vec<u8> = Vec::new(rt.alloc());
+    assert!(rt; dump_keeps_the_order(rt.alloc(), &object));
+    assert!(rt; keeps_the_order(&mut PrettyGenerator::new(rt.alloc(), 2), &object));
+    assert!(rt; keeps_the_order(&mut WriterGenerator::new(&mut bytes), &object));
+    assert!(rt; keeps_the_order(&mut PrettyWriterGenerator::new(&mut bytes, 2), &object));
     Ok(())
 }

@@ -3,7 +3,11 @@
 ghost use Rattle.std.specs.Prelude.{Some};
 
 use crate::common::{Tested, expect_bytes, numbers};
-use jzon_tree::codegen::{Generator, PrettyWriterGenerator, write_json};
+use jzon_tree::codegen::{
+    Generator, PrettyWriterGenerator, WriterGenerator, write_json, write_object,
+};
+use jzon_tree::object::Object;
+use jzon_tree::value::JsonValue;
 use std::alloc::Global;
 use std::io;
 use std::io::Write;
@@ -48,17 +52,29 @@ impl Write for FaultyWriter {
     }
 }
 
+// The answer is the fault of the writer.
+fn is_broken(answer: io::Result<()>) -> bool {
+    answer.is_err_and(|error| error.kind() == io::ErrorKind::BrokenPipe)
+}
+
 #[test]
 fn stops_at_a_fault_and_hands_it_back(rt: HostRuntime) -> Tested {
     let value = numbers(rt.alloc(), &[1, 2, 3])?;
     let mut writer = FaultyWriter::new(rt.alloc(), 4);
-    let fault = value.write(&mut writer).err();
-    assert_eq!(rt;
-        fault.map(|error| error.kind()),
-        Some(io::ErrorKind::BrokenPipe)
-    );
+    assert!(rt; is_broken(value.write(&mut writer)));
     expect_bytes(&rt, &writer.bytes, "[1,");
     assert_eq!(rt; writer.calls, 4);
+    Ok(())
+}
+
+#[test]
+fn hands_the_fault_of_an_object_back(rt: HostRuntime) -> Tested {
+    let mut object = Object::new(rt.alloc());
+    object.insert(rt.alloc(), "a", JsonValue::Null)?;
+    let mut writer = FaultyWriter::new(rt.alloc(), 3);
+    let answer = write_object(&mut WriterGenerator::new(&mut writer), &object);
+    assert!(rt; is_broken(answer));
+    expect_bytes(&rt, &writer.bytes, "{\"");
     Ok(())
 }
 
@@ -67,11 +83,7 @@ fn notes_one_fault(rt: HostRuntime) -> Tested {
     let value = numbers(rt.alloc(), &[1])?;
     let mut writer = FaultyWriter::new(rt.alloc(), 4);
     let mut generator = PrettyWriterGenerator::new(&mut writer, 2);
-    let fault = write_json(&mut generator, &value).err();
-    assert_eq!(rt;
-        fault.map(|error| error.kind()),
-        Some(io::ErrorKind::BrokenPipe)
-    );
+    assert!(rt; is_broken(write_json(&mut generator, &value)));
     assert_eq!(rt; generator.dent(), 1);
     assert_eq!(rt; generator.faults(), 1);
     expect_bytes(&rt, &writer.bytes, "[\n ");

@@ -10,12 +10,10 @@ ghost use Rattle.jzon_tree.specs.Value.{nest};
 ghost use Rattle.jzon_tree.specs.View.{view};
 ghost use Rattle.jzon_tree.specs.Writing.{Writes};
 
-use crate::codegen::dump::DumpGenerator;
+use crate::codegen::memory::{DumpGenerator, PrettyGenerator};
 use crate::codegen::nesting::refusal;
-use crate::codegen::pretty::PrettyGenerator;
-use crate::codegen::pretty_writer::PrettyWriterGenerator;
 use crate::codegen::write::write_json;
-use crate::codegen::writer::WriterGenerator;
+use crate::codegen::writer::{PrettyWriterGenerator, WriterGenerator};
 use crate::value::JsonValue;
 use jzon_base::error::{Error, Result};
 use std::alloc::Global;

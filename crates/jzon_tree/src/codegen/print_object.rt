@@ -8,9 +8,8 @@ ghost use Rattle.jzon_tree.specs.Value.{nest};
 ghost use Rattle.jzon_tree.specs.View.{view_object};
 ghost use Rattle.jzon_tree.specs.Writing.{Writes};
 
-use crate::codegen::dump::DumpGenerator;
+use crate::codegen::memory::{DumpGenerator, PrettyGenerator};
 use crate::codegen::nesting::refusal_of_object;
-use crate::codegen::pretty::PrettyGenerator;
 use crate::codegen::write::write_object;
 use crate::object::Object;
 use jzon_base::error::{Error, Result};

@@ -1,78 +1,36 @@
-//! Compact text, to a writer.
+//! Generators over a writer that was lent to them.
 
-ghost use Rattle.std.specs.Prelude.{◌≡◌, Some, refl};
-ghost use Rattle.jzon_tree.specs.StyleLaws.{IsStyle-compact};
-ghost use Rattle.jzon_tree.specs.Styles.{compact_style};
+ghost use Rattle.std.specs.Prelude.{◌≡◌, Some};
+ghost use Rattle.jzon_tree.specs.Generators.{fresh};
+ghost use Rattle.jzon_tree.specs.Styles.{compact_style, pretty_style};
 
 use crate::codegen::generator::Generator;
-use crate::object::Object;
-use std::io;
+use crate::codegen::text::TextGenerator;
 use std::io::Write;
 
 /// Writes compact text to a writer: no blank, and a colon alone after a key. An object's pairs stand in the order of insertion.
-#[derive(Drop)]
-pub struct WriterGenerator<'a, W: Write> {
-    writer: &'a mut W,
-    dent: u64,
-    faults: u64,
-}
+pub type WriterGenerator<'a, W> = TextGenerator<&'a mut W, false>;
+
+/// Writes text with a line for each item to a writer: a newline and `spaces` blanks for each open indent, and a blank after each colon. An object's pairs stand
+/// in the order of insertion.
+pub type PrettyWriterGenerator<'a, W> = TextGenerator<&'a mut W, true>;
 
 impl<'a, W: Write> WriterGenerator<'a, W> {
     /// A generator that goes on behind what the writer holds.
     pub fn new(writer: &'a mut W) -> WriterGenerator<'a, W>
-        ensures same_reference { result.writer.ghost_name ≡ writer.entry.ghost_name }
-        ensures writer { result.writer.now ≡ writer.old }
-        ensures dent { result.dent ≡ 0 }
-        ensures faults { result.faults ≡ 0 }
+        ensures { ⟦<WriterGenerator<'a, W> as Generator>⟧.meaning result
+            ≡ fresh (W.contents writer.old) compact_style (Some writer.entry.ghost_name) }
     {
-        WriterGenerator {
-            writer,
-            dent: 0,
-            faults: 0,
-        }
+        TextGenerator::over(writer, 0)
     }
 }
 
-impl<'a, W: Write> Generator for WriterGenerator<'a, W> {
-    type T = W;
-
-    ghost meaning = { λ g. record { out = W.contents g.writer.now; dent = g.dent; faults = g.faults; style = compact_style; lender = Some g.writer.ghost_name } };
-
-    ghost with_writer = { λ g w. record g { writer = record g.writer { now = w } } };
-
-    fn get_writer(&mut self) -> &mut W {
-        &mut *self.writer
+impl<'a, W: Write> PrettyWriterGenerator<'a, W> {
+    /// A generator that goes on behind what the writer holds.
+    pub fn new(writer: &'a mut W, spaces: u16) -> PrettyWriterGenerator<'a, W>
+        ensures { ⟦<PrettyWriterGenerator<'a, W> as Generator>⟧.meaning result
+            ≡ fresh (W.contents writer.old) (pretty_style spaces) (Some writer.entry.ghost_name) }
+    {
+        TextGenerator::over(writer, spaces)
     }
-
-    fn write_min(&mut self, _slice: &[u8], min: u8) -> io::Result<()> {
-        self.write_char(min)
-    }
-
-    fn faults(&self) -> u64 {
-        self.faults
-    }
-
-    fn dent(&self) -> u64 {
-        self.dent
-    }
-
-    fn note_fault(&mut self) {
-        self.faults = self.faults.saturating_add(1);
-    }
-
-    fn set_dent(&mut self, dent: u64) {
-        self.dent = dent;
-    }
-
-    fn new_line(&mut self) -> io::Result<()> {
-        Ok(())
-    }
-
-    fn order(&mut self, _object: &Object) -> io::Result<Option<Vec<usize>>> {
-        Ok(None)
-    }
-
-    ghost writer_law = { λ _ _. refl };
-
-    ghost style_law = { λ _. IsStyle-compact };
 }

@@ -1,9 +1,6 @@
-use Rattle.std.proofs.Common.{ℕ, ◌-◌, ◌<◌, ◌≤◌, refl, arith, rules, take}
-use Rattle.std.proofs.lemmas.List.{take_all}
+use Rattle.std.proofs.Common.{arith, rules}
 use Rattle.jzon_tree.specs.declared.value.JsonValue.{the_lemmas}
 use Rattle.jzon_tree.specs.Entries.{entries_of}
-use Rattle.jzon_tree.specs.Value.{nest}
-use Rattle.jzon_tree.specs.View.{view}
 use Rattle.jzon_tree.proofs.Nesting.{array_more, array_beyond, object_more, object_beyond}
 use Rattle.jzon_tree.proofs.Ordered.{most-at}
 use Rattle.jzon_tree.proofs.codegen.nesting.+is_within.Goals.{is_array_within-then-room-eq0-via-then-room-eq0, is_array_within-then-room-eq0-via-else-room-eq0+then-not-is_within, is_object_within-then-room-eq0-via-then-room-eq0, is_object_within-then-room-eq0-via-else-room-eq0+then-not-is_within}

@@ -1,9 +1,7 @@
-use Rattle.std.proofs.Common.{arith, rules, take}
+use Rattle.std.proofs.Common.{arith, rules}
 use Rattle.std.proofs.lemmas.List.{take_all}
 use Rattle.jzon_tree.specs.declared.value.JsonValue.{the_lemmas}
 use Rattle.jzon_tree.specs.Entries.{entries_of}
-use Rattle.jzon_tree.specs.Lawful.{ArePairs}
-use Rattle.jzon_tree.specs.View.{view_pairs}
 use Rattle.jzon_tree.proofs.Ordered.{whole_object, pairs_more, keyed_more, most-at}
 use Rattle.jzon_tree.proofs.codegen.visit.+visit.Goals as goal
 

@@ -1,4 +1,4 @@
-use Rattle.std.proofs.Common.{ℕ, List, [], ◌∷◌, ◌+◌, sym, ap, ◌∙◌, map, length, take, drop, arith, rules, subst, ◌<◌}
+use Rattle.std.proofs.Common.{ℕ, List, [], ◌∷◌, ◌+◌, sym, ap, ◌∙◌, map, length, take, drop, arith, rules, subst}
 use Rattle.std.proofs.lemmas.List.{take_all}
 use Rattle.jzon_tree.specs.declared.value.JsonValue.{the_lemmas}
 use Rattle.jzon_tree.specs.Entries.{entries_of}
