@@ -16,6 +16,7 @@ pub mod Seen
 pub mod Sent
 pub mod SentBlanks
 pub mod SentStrings
+pub mod Shown
 pub mod Sorted
 pub mod Unique
 pub mod Views

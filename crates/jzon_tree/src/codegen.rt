@@ -1,5 +1,6 @@
 //! Printing: generators, and what is written by them (docs/RULES.md, "Generators").
 
+mod display;
 mod fault;
 mod generator;
 mod memory;

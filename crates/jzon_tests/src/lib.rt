@@ -1,0 +1,5 @@
+//! Tests of `jzon` by its public items alone.
+#![tactic(auto)]
+
+#[cfg(test)]
+mod display;

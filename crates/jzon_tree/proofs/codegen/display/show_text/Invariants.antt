@@ -1,0 +1,12 @@
+use Rattle.std.proofs.Common.{List, ℕ, length}
+use Rattle.std.specs.Fmt.{HasWritten, IsPlainFormatter}
+use Rattle.jzon_tree.proofs.Shown.{TextLeft}
+use Rattle.jzon_tree.proofs.codegen.display.show_text.Given as goal
+
+-- what is shown already and what is left make the text
+abbrev pub invariant-loop-byte : goal.invariant-loop-byte
+invariant-loop-byte g l =
+    IsPlainFormatter l.fn.f → (x : List ℕ) × HasWritten g.W.Write.write_str_gives l.fn.f x l.f × TextLeft l.fn.text l.rest x
+
+abbrev pub decreases-loop-byte : goal.decreases-loop-byte
+decreases-loop-byte g l = length l.rest

@@ -1,0 +1,19 @@
+-- What `{}` shows of a value (docs/RULES.md, "Layouts").
+use Rattle.std.specs.Prelude.{ℕ, List, [], ◌∷◌, ◌++◌, Bool, if◌then◌else◌}
+use Rattle.jzon_base.specs.NumberText.{decimal_text}
+use Rattle.jzon_tree.specs.Text.{compact, quoted}
+use Rattle.jzon_tree.specs.Value.{Value, text, number}
+
+-- a text bare, a number as a number shows itself, all else in the compact layout
+abbrev pub displayed : Value → List ℕ
+displayed (text k s) = s
+displayed (number n) = decimal_text n
+displayed v = compact v
+
+-- what stands before an item: a comma, but before the first nothing
+abbrev pub comma_text : Bool → List ℕ
+comma_text comma = if comma then 44 ∷ [] else []
+
+-- a pair in the compact layout
+abbrev pub member_text : List ℕ × Value → List ℕ
+member_text p = quoted p.0 ++ 58 ∷ compact p.1

@@ -1,0 +1,184 @@
+//! What `{}` shows of a value (docs/RULES.md, "Layouts"). Its pieces are written into the formatter, and it takes no memory.
+
+ghost use Rattle.std.specs.Prelude.{◌≤◌, length, Some};
+ghost use Rattle.std.specs.Fmt.{WritesOnOk};
+ghost use Rattle.jzon_base.specs.NumberText.{written_text};
+ghost use Rattle.jzon_tree.specs.Displayed.{comma_text, member_text};
+ghost use Rattle.jzon_tree.specs.Text.{compact, escaped_byte, quoted};
+ghost use Rattle.jzon_tree.specs.Value.{array};
+ghost use Rattle.jzon_tree.specs.View.{view, view_object, view_values};
+
+use crate::codegen::fault::Stopped;
+use crate::codegen::send::send_string;
+use crate::object::Object;
+use crate::value::JsonValue;
+use jzon_base::number::Number;
+use jzon_base::util::plain::plain_len;
+use std::io::Write;
+use std::{fmt, io, str};
+
+/// A text bare, a number as `Number` shows it, and all else as in the compact layout. An error is the formatter's.
+impl fmt::Display for JsonValue {
+    ghost use Rattle.std.specs.Prelude.{Some};
+    ghost use Rattle.jzon_tree.specs.Displayed.{displayed};
+    ghost use Rattle.jzon_tree.specs.View.{view};
+
+    ghost output = { λ value. Some (displayed (view value)) };
+
+    fn fmt<W: fmt::Write>(&self, f: &mut fmt::Formatter<W>) -> fmt::Result {
+        match self {
+            JsonValue::Short(text) => f.write_str(text.as_str()),
+            JsonValue::String(text) => f.write_str(text.as_str()),
+            JsonValue::Number(number) => fmt::Display::fmt(number, f),
+            _ => show(self, f),
+        }
+    }
+}
+
+// Shows the value in the compact layout.
+#[cycle(show)]
+fn show<W: fmt::Write>(value: &JsonValue, f: &mut fmt::Formatter<W>) -> fmt::Result
+    ensures { WritesOnOk W.write_str_gives f.old result (compact (view value.now)) f.new }
+{
+    match value {
+        JsonValue::Null => f.write_str("null"),
+        JsonValue::Short(text) => show_text(text.as_str(), f),
+        JsonValue::String(text) => show_text(text.as_str(), f),
+        JsonValue::Number(number) => show_number(number, f),
+        JsonValue::Boolean(true) => f.write_str("true"),
+        JsonValue::Boolean(false) => f.write_str("false"),
+        JsonValue::Object(object) => show_object(object, f),
+        JsonValue::Array(items) => show_array(items, f),
+    }
+}
+
+#[cycle(show)]
+fn show_array<W: fmt::Write>(items: &[JsonValue], f: &mut fmt::Formatter<W>) -> fmt::Result
+    ensures { WritesOnOk W.write_str_gives f.old result (compact (array (view_values items.now))) f.new }
+{
+    f.write_str("[")?;
+    for (index, item) in items.iter().enumerate() {
+        show_comma(index > 0, f)?;
+        show(item, f)?;
+    }
+    f.write_str("]")
+}
+
+#[cycle(show)]
+fn show_object<W: fmt::Write>(object: &Object, f: &mut fmt::Formatter<W>) -> fmt::Result
+    ensures { WritesOnOk W.write_str_gives f.old result (compact (view_object object.now)) f.new }
+{
+    f.write_str("{")?;
+    for index in 0..object.len() {
+        let (key, value) = object.pairs.get_at(index);
+        show_comma(index > 0, f)?;
+        show_member(key, value, f)?;
+    }
+    f.write_str("}")
+}
+
+#[cycle(show)]
+fn show_member<W: fmt::Write>(
+    key: &str,
+    value: &JsonValue,
+    f: &mut fmt::Formatter<W>,
+) -> fmt::Result
+    ensures { WritesOnOk W.write_str_gives f.old result (member_text (key.now, view value.now)) f.new }
+{
+    show_text(key, f)?;
+    f.write_str(":")?;
+    show(value, f)
+}
+
+// Shows a comma, unless it is the first item that follows.
+fn show_comma<W: fmt::Write>(comma: bool, f: &mut fmt::Formatter<W>) -> fmt::Result
+    ensures { WritesOnOk W.write_str_gives f.old result (comma_text comma) f.new }
+{
+    if comma {
+        return f.write_str(",");
+    }
+    Ok(())
+}
+
+fn show_number<W: fmt::Write>(number: &Number, f: &mut fmt::Formatter<W>) -> fmt::Result
+    ensures { WritesOnOk W.write_str_gives f.old result (written_text number.now) f.new }
+{
+    if number.is_nan() {
+        return f.write_str("null");
+    }
+    fmt::Display::fmt(number, f)
+}
+
+// Shows the text in quotes, escaped. Runs of bytes that need no escape are shown whole.
+fn show_text<W: fmt::Write>(text: &str, f: &mut fmt::Formatter<W>) -> fmt::Result
+    ensures { WritesOnOk W.write_str_gives f.old result (quoted text.now) f.new }
+{
+    f.write_str("\"")?;
+    let mut rest = text.as_bytes();
+    loop {
+        let (run, others) = rest.split_at(plain_len(rest));
+        show_bytes(run, f)?;
+        let Some((byte, others)) = others.split_first() else {
+            break;
+        };
+        show_escape(*byte, f)?;
+        rest = others;
+    }
+    f.write_str("\"")
+}
+
+// Shows bytes that are UTF-8: each run ends where the text does, or before a byte below 128.
+fn show_bytes<W: fmt::Write>(bytes: &[u8], f: &mut fmt::Formatter<W>) -> fmt::Result
+    ensures { WritesOnOk W.write_str_gives f.old result bytes.now f.new }
+{
+    match str::from_utf8(bytes) {
+        Ok(text) => f.write_str(text),
+        Err(_) => Err(fmt::Error),
+    }
+}
+
+// Shows what stands in a string for the byte.
+fn show_escape<W: fmt::Write>(byte: u8, f: &mut fmt::Formatter<W>) -> fmt::Result
+    ensures { WritesOnOk W.write_str_gives f.old result (escaped_byte byte) f.new }
+{
+    let mut room = Room {
+        bytes: [0; ROOM],
+        len: 0,
+    };
+    match send_string(&mut room, b"", &[byte], &mut None) {
+        Ok(()) => show_bytes(&room.bytes[..room.len - 1], f),
+        Err(Stopped) => Err(fmt::Error),
+    }
+}
+
+// The longest escape, and the quote that is sent behind it.
+const ROOM: usize = 7;
+
+// Takes what is sent, as long as there is room.
+#[derive(Drop)]
+struct Room {
+    bytes: [u8; ROOM],
+    len: usize,
+    ghost within: { len ≤ length bytes },
+}
+
+impl Write for Room {
+    ghost use Rattle.std.specs.Prelude.{Some, take};
+
+    ghost contents = { λ room. Some (take room.len room.bytes) };
+
+    fn write(&mut self, buf: &[u8]) -> io::Result<usize> {
+        match buf.first() {
+            Some(byte) if self.len < self.bytes.len() => {
+                self.bytes[self.len] = *byte;
+                self.len += 1;
+                Ok(1)
+            }
+            _ => Ok(0),
+        }
+    }
+
+    fn flush(&mut self) -> io::Result<()> {
+        Ok(())
+    }
+}
