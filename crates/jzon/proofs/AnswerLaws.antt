@@ -1,7 +1,7 @@
 -- Laws about answers, for callers: what a result is that meets the clauses of `parse` or of `parse_as`, where it is
 -- known
 -- what the text is read as, or which error it has. They hold for every reading.
-use Rattle.std.proofs.Common.{◌≡◌, ◌⊎◌, inl, inr, ℕ, ◌≤◌, true, List, [], ◌∷◌, Result, Ok, Err, IsTrue, IfOk, IfErr}
+use Rattle.std.proofs.Common.{◌≡◌, ◌⊎◌, inl, inr, ℕ, ◌≤◌, true, List, [], Result, Ok, Err, IsTrue, IfOk, IfErr}
 use Rattle.std.proofs.Common.{MatchResult, IsOkUnless, refl, sym, ap, ◌∙◌, subst, chars, zero, suc, ◌*◌, replicate}
 use Rattle.std.specs.Str.{bytes_eq}
 use Rattle.std.proofs.lemmas.Slice.Eq.{bytes_eq-Decides}

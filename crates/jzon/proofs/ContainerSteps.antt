@@ -10,9 +10,9 @@ use Rattle.jzon.specs.Reading.{Reading}
 use Rattle.jzon.specs.Spelling.{Breach, deep, breach_if}
 use Rattle.jzon.specs.Fault.{limit}
 use Rattle.jzon.specs.Classes.{Class, white, digits, dash, quote, opens_array, closes_array, opens_object, closes_object, comma, colon, begins_null, begins_true, begins_false, class_of}
-use Rattle.jzon.specs.Machine.{Entries, Frames, frames_depth, array_frame, object_frame, as_key, between, Place, before, before_key, string, after_key, behind, go, bad, bad_at, value_mark, key_mark, move_before, move_before_key, move_after_key, move_empty_object, move_behind, refused, outcome_on, from, left_at}
+use Rattle.jzon.specs.Machine.{Entries, Frames, frames_depth, array_frame, object_frame, as_key, between, Place, before, before_key, word, numeral, string, after_key, behind, allows_whitespace, go, bad, bad_at, value_mark, key_mark, move_before, move_before_key, move_after_key, move_empty_object, move_behind, refused, outcome_on, from, left_at}
 use Rattle.jzon.proofs.Classes.{class-white, class-quote, class-closes_array, class-closes_object, class-comma, class-colon, class_34, class_44, class_58, class_91, class_93, class_123, class_125, white-class}
-use Rattle.jzon.proofs.Scanning.{Skips, space_is_ascii, wide_is_no_space}
+use Rattle.jzon.proofs.Scanning.{Skips, before_skips, behind_skips, space_is_ascii, wide_is_no_space}
 use Rattle.jzon.proofs.Steps.{StopsAt, from_step, stops_by, IsDeep, from_deep}
 
 -- ---- opening brackets
@@ -128,6 +128,16 @@ pub colon_goes : (r : Reading) (bs : List ℕ) (i : ℕ) (fs : Frames) (es : Ent
     → get_or bs i 0 ≡ 58 → from r bs (after_key fs es k) i ≡ from r bs (before (object_frame fs es k)) (i + 1)
 colon_goes r bs i fs es k u at lt e =
     from_step r bs i (after_key fs es k) _ 58 u at lt e (lit< tt) (ap (λ x. move_after_key x fs es k) (class_58 r.strict))
+
+-- where whitespace may stand, it is passed over
+pub whitespace_skips : (r : Reading) (p : Place) → allows_whitespace p ≡ true → Skips r p (is_space r.strict)
+whitespace_skips r (before fs) e = before_skips r fs
+whitespace_skips r (before_key fs es) e = before_key_skips r fs es
+whitespace_skips r (after_key fs es k) e = after_key_skips r fs es k
+whitespace_skips r (behind fs v) e = behind_skips r fs v
+whitespace_skips r (word fs v l ls) e = absurd (cc)
+whitespace_skips r (numeral fs negative x) e = absurd (cc)
+whitespace_skips r (string role bs x) e = absurd (cc)
 
 no_colon_on : (r : Reading) (fs : Frames) (es : Entries) (k : List ℕ) (c : ℕ) (x : Class) → is_space r.strict c ≡ false → c ≢ 58 → class_of r.strict c ≡ x
     → move_after_key x fs es k ≡ bad

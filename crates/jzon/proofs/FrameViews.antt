@@ -1,5 +1,5 @@
 -- What the machine over values sees of the stack of open containers.
-use Rattle.std.proofs.Common.{◌≡◌, ◌≢◌, ◌⊎◌, inl, inr, get_or, ℕ, suc, ◌+◌, ◌<◌, ◌≤◌, Bool, true, false, cond, List, [], ◌∷◌, ◌++◌, length, map, refl, ap, ◌∙◌, arith, Option, Some, None}
+use Rattle.std.proofs.Common.{◌≡◌, ◌≢◌, ◌⊎◌, inl, inr, get_or, ℕ, suc, ◌+◌, ◌<◌, ◌≤◌, Bool, true, false, cond, List, [], ◌∷◌, ◌++◌, length, refl, ap, ◌∙◌, arith, Option, Some, None}
 use Rattle.std.specs.Prelude.{nat_le}
 use Rattle.std.specs.List.{fold}
 use Rattle.std.specs.Option.{is_some}
@@ -17,7 +17,9 @@ use Rattle.jzon_tree.specs.declared.value.JsonValue.{JsonValue}
 use Rattle.jzon.specs.Reading.{Reading}
 use Rattle.jzon.specs.Spelling.{breach_if, deep}
 use Rattle.jzon.specs.Machine.{Entries, Frames, no_frames, array_frame, object_frame, frames_depth, is_fresh, value_mark, key_mark}
-use Rattle.jzon.specs.Frames.{entries_view, open_in, stack_view}
+use Rattle.jzon.specs.Frames.{entries_view, open_in, stack_view, is_open}
+use Rattle.jzon.specs.declared.frames.Begun.{Begun}
+use Rattle.jzon.specs.declared.frames.Begun.TheVariants.{Value as begun_value, Array as begun_array, Object as begun_object}
 use Rattle.jzon.specs.declared.frames.Frame.{Frame}
 use Rattle.jzon.specs.declared.frames.Frame.TheVariants.{Array, Object as in_object}
 
@@ -57,9 +59,13 @@ key_mark-shallow r fs (e ∷ es) lt = refl
 
 -- ---- elements and entries
 
-pub some_not_fresh : (fs : Frames) (xs : List JsonValue) → 0 < length xs → is_fresh (array_frame fs (map view xs)) ≡ false
-some_not_fresh fs [] lt = absurd (omega arith)
-some_not_fresh fs (x ∷ xs) lt = refl
+pub fresh_is_empty : (fs : Frames) (vs : List Value) → is_fresh (array_frame fs vs) ≡ true → vs ≡ []
+fresh_is_empty fs [] e = refl
+fresh_is_empty fs (v ∷ vs) e = absurd (cc)
+
+pub some_more : (vs : List Value) (v : Value) → vs ++ v ∷ [] ≢ []
+some_more [] v e = cc
+some_more (w ∷ vs) v e = cc
 
 some_by : (t : Bool) (p q : List ℕ × Value) (ps qs : Entries) → cond t (p ∷ ps) (q ∷ qs) ≢ []
 some_by true p q ps qs h = cc
@@ -87,6 +93,13 @@ find_on false v o p e = e
 pub known_view : (k : List ℕ) (ps : List (List ℕ × JsonValue)) → is_some (find k ps) ≡ is_some (find k (entries_view ps))
 known_view k [] = refl
 known_view k (p ∷ ps) = find_on (bytes_eq p.0 k) p.1 (find k ps) (find k (entries_view ps)) (known_view k ps)
+
+-- ---- what was read where a value begins
+
+pub open_unless_value : (b : Begun) → ((v : JsonValue) → b ≡ begun_value v → ⊥) → is_open b ≡ true
+open_unless_value (begun_value v) h = absurd (h v refl)
+open_unless_value begun_array h = refl
+open_unless_value begun_object h = refl
 
 -- the object of these entries
 pub view_object-entries : (o : Object) (ps : List (List ℕ × JsonValue)) → entries_of o ≡ ps → view_object o ≡ object (pairs_of (entries_view ps))

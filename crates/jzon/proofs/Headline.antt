@@ -1,5 +1,5 @@
 -- A result that the machine over values gives is the answer to the text.
-use Rattle.std.proofs.Common.{inl, inr, ◌≡◌, ℕ, ◌-◌, List, length, false, Result, Ok, Err, subst, sym}
+use Rattle.std.proofs.Common.{inl, inr, ◌≡◌, ℕ, ◌-◌, List, length, Result, Ok, Err, subst, sym}
 use Rattle.jzon_base.specs.declared.error.Error.{Error}
 use Rattle.jzon_tree.specs.View.{view}
 use Rattle.jzon_tree.specs.declared.value.JsonValue.{JsonValue}

@@ -40,6 +40,8 @@ pub mod Beginnings
 pub mod ContainerSteps
 pub mod FrameViews
 pub mod Told
+pub mod Cursors
+pub mod ContainerTokens
 pub mod NumeralSteps
 pub mod ImageContexts
 pub mod ImageNumerals

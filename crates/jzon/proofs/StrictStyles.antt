@@ -3,10 +3,9 @@ use Rattle.std.proofs.Common.{◌≡◌, ℕ, zero, suc, ◌*◌, List, [], true
 use Rattle.std.specs.Prelude.{IsTrue, replicate}
 use Rattle.std.specs.Str.{bytes_eq}
 use Rattle.std.proofs.lemmas.Slice.Eq.{bytes_eq-Decides}
-use Rattle.jzon_tree.specs.Styles.{only, compact_style, pretty_style}
 use Rattle.jzon_tree.specs.Text.{pretty_layout}
-use Rattle.jzon_tree.specs.Writing.{is_blank, IsAllowedBlank}
-use Rattle.jzon.specs.Laws.{AllowsStrictAlone, StrictStyles}
+use Rattle.jzon_tree.specs.Writing.{is_blank}
+use Rattle.jzon.specs.Laws.{StrictStyles}
 
 -- a style of one line at each indent, which is strict whitespace
 one_line : (line w : List ℕ) → IsTrue (is_blank true line) → bytes_eq w line ≡ true → IsTrue (is_blank true w)

@@ -5,7 +5,7 @@ use Rattle.jzon.specs.Reading.{Reading}
 use Rattle.jzon.specs.Grammar.{Sign, unsigned, plus, minus, Exponent, Numeral, Item, simple, single, double, Key, Node, Elements, no_elements, element, Members, no_members, member, Document}
 use Rattle.jzon.specs.Grammar as grammar
 use Rattle.jzon.specs.Meaning.{bytes_of}
-use Rattle.jzon.specs.Spelling.{Breach, drops_too_many, keeps_too_many, Cell, cell, plain, marked_last, digits_cells, whole_cells, fraction_cells, sign_cells, exponent_cells, magnitude_cells, numeral_cells, item_cells, items_cells, key_cells, node_cells, elements_cells, members_cells, spell, BreachAt}
+use Rattle.jzon.specs.Spelling.{Breach, drops_too_many, keeps_too_many, Cell, cell, plain, marked_last, digits_cells, whole_cells, fraction_cells, sign_cells, exponent_cells, magnitude_cells, item_cells, items_cells, key_cells, node_cells, elements_cells, members_cells, spell, BreachAt}
 
 -- the characters of cells
 abbrev text : List Cell → List ℕ

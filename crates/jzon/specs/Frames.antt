@@ -1,11 +1,14 @@
 -- What the parser keeps of the open containers, as the machine over values sees it.
-use Rattle.std.specs.Prelude.{◌≡◌, ◌≢◌, ℕ, List, map, Option, Some, None, true, false, ⊤, slice_index}
+use Rattle.std.specs.Prelude.{◌≢◌, ℕ, ◌<◌, ◌≤◌, [], List, map, Bool, true, false}
 use Rattle.std.specs.List.{fold}
 use Rattle.jzon_tree.specs.View.{view}
-use Rattle.jzon_tree.specs.Writing.{is_space}
 use Rattle.jzon_tree.specs.declared.value.JsonValue.{JsonValue}
-use Rattle.jzon.specs.Reading.{Reading}
-use Rattle.jzon.specs.Machine.{Entries, Frames, no_frames, array_frame, object_frame, is_fresh, Place, before, behind}
+use Rattle.jzon.specs.Cursor.{next_byte}
+use Rattle.jzon.specs.Machine.{Entries, Frames, no_frames, array_frame, object_frame, Place, before, before_key, behind}
+use Rattle.jzon.specs.Tokens.{end_array, end_object}
+use Rattle.jzon.specs.declared.cursor.Cursor.{Cursor}
+use Rattle.jzon.specs.declared.frames.Begun.{Begun}
+use Rattle.jzon.specs.declared.frames.Begun.TheVariants.{Value, Array as begun_array, Object as begun_object}
 use Rattle.jzon.specs.declared.frames.Frame.{Frame}
 use Rattle.jzon.specs.declared.frames.Frame.TheVariants.{Array, Object}
 
@@ -22,16 +25,20 @@ open_in fs (Object entries key) = object_frame fs (entries_view entries) key
 abbrev pub stack_view : List Frame → Frames
 stack_view stack = fold open_in no_frames stack
 
--- before a value, or behind one
-abbrev pub place_of : Option JsonValue → Frames → Place
-place_of None fs = before fs
-place_of (Some v) fs = behind fs (view v)
+-- the place behind what was read, inside of the containers fs
+abbrev pub place_of : Begun → Frames → Place
+place_of (Value v) fs = behind fs (view v)
+place_of begun_array fs = before (array_frame fs [])
+place_of begun_object fs = before_key fs []
 
--- an element, and not a blank or a closing bracket, stands at place i, if an array without elements is the inmost open container
-abbrev pub IsAtElement : Reading → List ℕ → ℕ → Frames → Type 0
-IsAtElement r source i fs = is_fresh fs ≡ true → (is_space r.strict (slice_index source i) ≡ false) × (slice_index source i ≢ 93)
+-- a container was opened
+abbrev pub is_open : Begun → Bool
+is_open (Value v) = false
+is_open begun_array = true
+is_open begun_object = true
 
--- the same where a value is expected
-abbrev pub IsReady : Reading → List ℕ → ℕ → Option JsonValue → Frames → Type 0
-IsReady r source i None fs = IsAtElement r source i fs
-IsReady r source i (Some v) fs = ⊤
+-- Where so many containers are open already, the reading allows them and the one that was opened, and an item stands in it next.
+abbrev pub IsReady : Cursor → ℕ → Begun → Type 0
+IsReady t depth (Value v) = depth ≤ t.reading.depth
+IsReady t depth begun_array = (depth < t.reading.depth) × (next_byte t ≢ end_array)
+IsReady t depth begun_object = (depth < t.reading.depth) × (next_byte t ≢ end_object)

@@ -5,9 +5,11 @@ pub mod Spelling
 pub mod Meaning
 pub mod Fault
 pub mod Laws
+pub mod Tokens
 pub mod Classes
 pub mod Quote
 pub mod Machine
+pub mod Cursor
 pub mod Frames
 pub mod Answer
 -- what the contracts of this crate cite, and those of what it shows

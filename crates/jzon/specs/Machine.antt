@@ -51,6 +51,14 @@ pub data Place : Type 0 where
   after_key : Frames → Entries → List ℕ → Place
   behind : Frames → Value → Place
 
+-- whitespace may stand there
+abbrev pub allows_whitespace : Place → Bool
+allows_whitespace (before fs) = true
+allows_whitespace (before_key fs es) = true
+allows_whitespace (after_key fs es k) = true
+allows_whitespace (behind fs v) = true
+allows_whitespace _ = false
+
 -- behind the first digit of a number
 abbrev pub numeral_begun : Frames → Bool → ℕ → Place
 numeral_begun fs negative c = numeral fs negative (begun (c == 48) c)

@@ -1,8 +1,8 @@
 //! Reads, holds, changes and prints JSON without typed structs: a port of the Rust crate `jzon`.
 #![tactic(auto)]
 
-mod blank;
 mod conversions;
+mod cursor;
 mod frames;
 pub mod iterators;
 pub mod laws;
@@ -15,6 +15,7 @@ mod reading;
 mod scalar;
 mod string;
 pub mod util;
+mod whitespace;
 
 pub use conversions::{from, stringify, stringify_pretty};
 pub use jzon_base::error::{Error, Error as JsonError, JsonResult, Result};

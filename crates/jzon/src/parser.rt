@@ -1,20 +1,26 @@
 //! Reads texts.
 
-ghost use Rattle.std.specs.Prelude.{◌≡◌, ◌≢◌, ◌<◌, ◌≤◌, length, chars, IfOk, IfErr, OnOk, Err, slice_index, false, vec_len};
-ghost use Rattle.std.specs.Str.{IsCharBoundary};
+ghost use Rattle.std.specs.Prelude.{◌≡◌, ◌≢◌, ◌&&◌, ℕ, List, [], ◌<◌, ◌≤◌, length, map, chars, true, IfOk, IfErr, OnOk, Err, None, IsOkUnless, vec_len};
+ghost use Rattle.std.specs.Option.{is_some};
+ghost use Rattle.jzon_base.specs.PairList.{find, put};
+ghost use Rattle.jzon_tree.specs.Value.{Value};
 ghost use Rattle.jzon_tree.specs.View.{view};
-ghost use Rattle.jzon_tree.specs.Writing.{is_space};
 ghost use Rattle.jzon.specs.Answer.{IsMeaningOf, IsReadable, IsErrorUnlessMemory, TakesMemory};
-ghost use Rattle.jzon.specs.Frames.{stack_view, place_of, IsAtElement, IsReady};
-ghost use Rattle.jzon.specs.Machine.{no_frames, before, behind, from, Reads, LeadsUnlessMemory};
+ghost use Rattle.jzon.specs.Cursor.{left, next_byte, GoesOn, IsPast};
+ghost use Rattle.jzon.specs.Frames.{entries_view, open_in, stack_view, place_of, is_open, IsReady};
+ghost use Rattle.jzon.specs.Machine.{Frames, no_frames, array_frame, object_frame, frames_depth, is_fresh, before, before_key, behind, key_mark, from, Reads};
 ghost use Rattle.jzon.specs.Reading.{usual};
+ghost use Rattle.jzon.specs.Tokens.{end_array, end_object};
 
-use crate::blank::skip_blank;
-use crate::frames::{Frame, go_on, open_array, open_object};
-use crate::place::{fault_at, has_byte};
+use crate::cursor::Cursor;
+use crate::frames::{Begun, Frame};
+use crate::place::duplicate_at;
 use crate::reading::{Reading, USUAL};
 use crate::scalar::read_scalar;
+use crate::string::read_string;
 use jzon_base::error::{Error, Result};
+use jzon_base::key::Key;
+use jzon_tree::object::{Builder, Object};
 use jzon_tree::value::JsonValue;
 use std::alloc::Global;
 
@@ -44,79 +50,222 @@ fn read(alloc: Global, source: &str, reading: Reading) -> Result<JsonValue>
     ensures outcome { Reads (chars source.now) result (from reading source.now (before no_frames) 0) }
     ensures memory { result ≡ Err Error.OutOfMemory → TakesMemory (chars source.now) }
 {
-    let mut stack = Vec::new(alloc);
-    let mut buffer = String::new(alloc);
-    let mut index = 0;
-    let mut value = None;
-    loop {
-        index = skip_blank(source, reading, index);
-        match value {
-            None => {
-                let next = begin(alloc, source, reading, index, &mut stack, &mut buffer)?;
-                value = next.0;
-                index = next.1;
-            }
-            Some(item) => match stack.pop() {
-                None => return finish(source, reading, index, item),
-                Some(frame) => {
-                    let next = go_on(
-                        alloc,
-                        source,
-                        reading,
-                        index,
-                        frame,
-                        item,
-                        &mut stack,
-                        &mut buffer,
-                    )?;
-                    value = next.0;
-                    index = next.1;
-                }
-            },
+    let mut parser = Parser::new(alloc, source, reading);
+    match parser.begin(0)? {
+        Begun::Value(value) => parser.finish(value),
+        begun => parser.read_containers(begun),
+    }
+}
+
+/// A text that is being read. After an error what it holds has no meaning.
+#[derive(Drop)]
+struct Parser<'a> {
+    alloc: Global,
+    cursor: Cursor<'a>,
+    /// The open containers but for the inmost.
+    stack: Vec<Frame>,
+    /// The text of the last string with escapes.
+    buffer: String,
+}
+
+impl<'a> Parser<'a> {
+    fn new(alloc: Global, source: &'a str, reading: Reading) -> Parser<'a>
+        ensures cursor { IsPast reading source.now 0 result.cursor }
+        ensures stack { result.stack.items ≡ [] }
+    {
+        Parser {
+            alloc,
+            cursor: Cursor::new(source, reading),
+            stack: Vec::new(alloc),
+            buffer: String::new(alloc),
         }
     }
+
+    /// Reads the value that begins here, where so many containers are open; a container that isn't empty only up to its first item.
+    #[inline(always)]
+    fn begin(&mut self, depth: usize) -> Result<Begun>
+        requires room { depth ≤ self.old.cursor.reading.depth }
+        ensures stack { OnOk result (self.new.stack ≡ self.old.stack) }
+        ensures ready { IfOk result (IsReady self.new.cursor depth) }
+        ensures memory { result ≡ Err Error.OutOfMemory → TakesMemory (chars self.old.cursor.source.now) }
+        ensures opened { IfOk result (λ b. is_open b ≡ true → TakesMemory (chars self.old.cursor.source.now)) }
+        ensures same { (fs : Frames) → frames_depth fs ≡ depth → (is_fresh fs ≡ true → next_byte self.old.cursor ≢ end_array) →
+            GoesOn self.old.cursor (before fs) result self.new.cursor (λ b. place_of b fs) }
+    {
+        match self.cursor.peek() {
+            b'[' => {
+                if self.cursor.open_container(b']', depth)? {
+                    return Ok(Begun::Value(JsonValue::Array(Vec::new(self.alloc))));
+                }
+                Ok(Begun::Array)
+            }
+            b'{' => {
+                if self.cursor.open_container(b'}', depth)? {
+                    return Ok(Begun::Value(JsonValue::Object(Object::new(self.alloc))));
+                }
+                Ok(Begun::Object)
+            }
+            _ => {
+                let (value, end) = read_scalar(
+                    self.alloc,
+                    self.cursor.source,
+                    self.cursor.index,
+                    &mut self.buffer,
+                )?;
+                self.cursor.go_to(end);
+                Ok(Begun::Value(value))
+            }
+        }
+    }
+
+    /// The value of a text, of which the value is read and nothing may follow.
+    fn finish(&self, value: JsonValue) -> Result<JsonValue>
+        ensures memory { result ≢ Err Error.OutOfMemory }
+        ensures same { Reads (chars self.now.cursor.source.now) result (left self.now.cursor (behind no_frames (view value))) }
+    {
+        if self.cursor.index < self.cursor.source.len() {
+            return Err(self.cursor.fault());
+        }
+        Ok(value)
+    }
+
+    /// The value of a text that began in this way, with all that it contains.
+    fn read_containers(&mut self, begun: Begun) -> Result<JsonValue>
+        requires outmost { self.old.stack.items ≡ [] }
+        requires ready { IsReady self.old.cursor 0 begun }
+        ensures { Reads (chars self.old.cursor.source.now) result (left self.old.cursor (place_of begun no_frames)) }
+    {
+        let mut begun = begun;
+        loop {
+            match begun {
+                Begun::Array => {
+                    // One element is certain to come.
+                    let elements = Vec::with_capacity(self.alloc, 1)?;
+                    begun = self.read_elements(elements)?;
+                }
+                Begun::Object => begun = self.read_entries(Builder::new(self.alloc))?,
+                Begun::Value(value) => match self.stack.pop() {
+                    None => return self.finish(value),
+                    Some(frame) => begun = self.go_on(frame, value)?,
+                },
+            }
+        }
+    }
+
+    /// Reads on behind the value `item` of an open container: to the container's end, or to its next item that is a container with something in it.
+    fn go_on(&mut self, frame: Frame, item: JsonValue) -> Result<Begun>
+        requires room { vec_len self.old.stack < self.old.cursor.reading.depth }
+        ensures ready { IfOk result (IsReady self.new.cursor (vec_len self.new.stack)) }
+        ensures same { GoesOn self.old.cursor (behind (open_in (stack_view self.old.stack.items) frame) (view item)) result self.new.cursor
+            (λ b. place_of b (stack_view self.new.stack.items)) }
+    {
+        match frame {
+            Frame::Array(mut elements) => {
+                elements.push(item)?;
+                if self.cursor.array_ends()? {
+                    return Ok(Begun::Value(JsonValue::Array(elements)));
+                }
+                self.read_elements(elements)
+            }
+            Frame::Object(mut entries, key) => {
+                entries.push(self.alloc, key, item)?;
+                if self.cursor.object_ends()? {
+                    let object = Object::from_builder(self.alloc, entries)?;
+                    return Ok(Begun::Value(JsonValue::Object(object)));
+                }
+                self.read_entries(entries)
+            }
+        }
+    }
+
+    /// Reads on in an open array, whose elements so far these are: to the end of the array, or to an element that is a container with something in it.
+    fn read_elements(&mut self, elements: Vec<JsonValue>) -> Result<Begun>
+        requires room { vec_len self.old.stack < self.old.cursor.reading.depth }
+        requires element { map view elements.items ≡ [] → next_byte self.old.cursor ≢ end_array }
+        ensures ready { IfOk result (IsReady self.new.cursor (vec_len self.new.stack)) }
+        ensures same { GoesOn self.old.cursor (before (array_frame (stack_view self.old.stack.items) (map view elements.items))) result self.new.cursor
+            (λ b. place_of b (stack_view self.new.stack.items)) }
+    {
+        let mut elements = elements;
+        loop {
+            let depth = self.stack.len() + 1;
+            match self.begin(depth)? {
+                Begun::Value(value) => elements.push(value)?,
+                begun => {
+                    self.stack.push(Frame::Array(elements))?;
+                    return Ok(begun);
+                }
+            }
+            if self.cursor.array_ends()? {
+                return Ok(Begun::Value(JsonValue::Array(elements)));
+            }
+        }
+    }
+
+    /// The same in an open object, whose entries so far these are.
+    fn read_entries(&mut self, entries: Builder) -> Result<Begun>
+        requires room { vec_len self.old.stack < self.old.cursor.reading.depth }
+        requires key { entries_view entries ≡ [] → next_byte self.old.cursor ≢ end_object }
+        ensures ready { IfOk result (IsReady self.new.cursor (vec_len self.new.stack)) }
+        ensures same { GoesOn self.old.cursor (before_key (stack_view self.old.stack.items) (entries_view entries)) result self.new.cursor
+            (λ b. place_of b (stack_view self.new.stack.items)) }
+    {
+        let mut entries = entries;
+        loop {
+            let key = self.read_key(&mut entries)?;
+            let depth = self.stack.len() + 1;
+            match self.begin(depth)? {
+                Begun::Value(value) => entries.push(self.alloc, key, value)?,
+                begun => {
+                    self.stack.push(Frame::Object(entries, key))?;
+                    return Ok(begun);
+                }
+            }
+            if self.cursor.object_ends()? {
+                let object = Object::from_builder(self.alloc, entries)?;
+                return Ok(Begun::Value(JsonValue::Object(object)));
+            }
+        }
+    }
+
+    /// The key that stands here, in an object whose entries so far these are, and its colon.
+    fn read_key(&mut self, entries: &mut Builder) -> Result<Key>
+        ensures kept { OnOk result (entries.new ≡ entries.old) }
+        ensures stack { OnOk result (self.new.stack ≡ self.old.stack) }
+        ensures same { (fs : Frames) → let es = entries_view entries.old in key_mark self.old.cursor.reading fs es ≡ None →
+            (es ≡ [] → next_byte self.old.cursor ≢ end_object) →
+            GoesOn self.old.cursor (before_key fs es) result self.new.cursor (λ k. before (object_frame fs es k)) }
+    {
+        if self.cursor.peek() != b'"' {
+            return Err(self.cursor.fault());
+        }
+        let source = self.cursor.source;
+        let start = self.cursor.index;
+        let spelled = read_string(source, start + 1, &mut self.buffer)?;
+        let name = spelled.text(source, start + 1, &self.buffer);
+        let refused = is_refused(self.alloc, self.cursor.reading, entries, name)?;
+        if refused {
+            return Err(duplicate_at(source, start));
+        }
+        let key = Key::new(self.alloc, name)?;
+        self.cursor.go_to(spelled.end);
+        if self.cursor.peek() != b':' {
+            return Err(self.cursor.fault());
+        }
+        self.cursor.bump();
+        Ok(key)
+    }
 }
 
-/// The value of a text, of which the value is read and nothing may follow.
-fn finish(source: &str, reading: Reading, index: usize, value: JsonValue) -> Result<JsonValue>
-    requires boundary { IsCharBoundary source.now index }
-    requires stop { index < length source.now → is_space reading.strict (slice_index source.now index) ≡ false }
-    ensures memory { result ≢ Err Error.OutOfMemory }
-    ensures same { Reads (chars source.now) result (from reading source.now (behind no_frames (view value)) index) }
+/// Whether the reading refuses this key behind these entries. Refused by `OutOfMemory` alone.
+#[tactic(auto, using(crate::proofs::FrameViews::known_view))]
+fn is_refused(alloc: Global, reading: Reading, entries: &mut Builder, name: &str) -> Result<bool>
+    ensures same { entries.new ≡ entries.old }
+    ensures refused { IfOk result (λ refused. refused ≡ (reading.strict && is_some (find name.now (entries_view entries.old)))) }
+    ensures memory { IsOkUnless result Error.OutOfMemory }
 {
-    if index < source.len() {
-        return Err(fault_at(source, index));
+    if !reading.strict() {
+        return Ok(false);
     }
-    Ok(value)
-}
-
-/// Reads the value that begins at this place; a container up to its end, or to the first one inside. After an error what is on the stack has no meaning.
-fn begin(
-    alloc: Global,
-    source: &str,
-    reading: Reading,
-    index: usize,
-    stack: &mut Vec<Frame>,
-    buffer: &mut String,
-) -> Result<(Option<JsonValue>, usize)>
-    requires boundary { IsCharBoundary source.now index }
-    requires stop { index < length source.now → is_space reading.strict (slice_index source.now index) ≡ false }
-    requires room { vec_len stack.old ≤ reading.depth }
-    requires element { IsAtElement reading source.now index (stack_view stack.old.items) }
-    ensures bounds { IfOk result (λ r. (index < r.1) × IsCharBoundary source.now r.1) }
-    ensures room { OnOk result (vec_len stack.new ≤ reading.depth) }
-    ensures ready { IfOk result (λ r. IsReady reading source.now r.1 r.0 (stack_view stack.new.items)) }
-    ensures memory { result ≡ Err Error.OutOfMemory → TakesMemory (chars source.now) }
-    ensures opened { vec_len stack.old < vec_len stack.new → TakesMemory (chars source.now) }
-    ensures same { LeadsUnlessMemory reading source.now (before (stack_view stack.old.items)) index result
-        (λ v. place_of v (stack_view stack.new.items)) }
-{
-    if has_byte(source, index, b'[') {
-        return open_array(alloc, source, reading, index + 1, stack, buffer);
-    }
-    if has_byte(source, index, b'{') {
-        return open_object(alloc, source, reading, index + 1, stack, buffer);
-    }
-    let (value, end) = read_scalar(alloc, source, index, buffer)?;
-    Ok((Some(value), end))
+    Ok(entries.has_key(alloc, name)?)
 }

@@ -1,4 +1,3 @@
-use Rattle.std.proofs.Common.{refl}
 use Rattle.std.specs.Prelude.{chars}
 use Rattle.jzon.specs.Answer.{Answers}
 use Rattle.jzon.specs.Machine.{from}

@@ -1,16 +1,22 @@
-use Rattle.std.proofs.Common.{◌≡◌, ◌∙◌, sym, ap, arith}
+use Rattle.std.proofs.Common.{◌∙◌, refl, sym, subst}
+use Rattle.std.specs.Prelude.{chars}
 use Rattle.std.proofs.lemmas.Bool.{true≢false}
-use Rattle.std.proofs.lemmas.Str.{IsCharBoundary-start}
-use Rattle.jzon.specs.Frames.{stack_view}
-use Rattle.jzon.specs.Machine.{no_frames, is_fresh, before, from}
+use Rattle.jzon.specs.Answer.{TakesMemory}
+use Rattle.jzon.specs.Frames.{place_of}
+use Rattle.jzon.specs.Machine.{no_frames, before}
+use Rattle.jzon.proofs.Cursors.{reads_from}
+use Rattle.jzon.proofs.FrameViews.{open_unless_value}
 use Rattle.jzon.proofs.parser.read.Goals as goal
 
-pub loop-value-init : goal.loop-value-init
-loop-value-init c =
-    let none : stack_view c.new-stack.result.items ≡ no_frames = ap stack_view c.new-stack.ensures.items in (
-      IsCharBoundary-start c.args.source.now c.utf8.source,
-      omega (arith, c.new-stack.ensures.len),
-      λ fresh. absurd (true≢false (sym fresh ∙ ap is_fresh none)),
-      λ some. absurd (omega (arith, c.new-stack.ensures.len)),
-      ap (λ fs. from c.args.reading c.args.source.now (before fs) 0) (sym none),
-    )
+pub returns-clause-outcome : goal.returns-clause-outcome
+returns-clause-outcome c =
+    let t = c.new-parser.result.cursor in
+    let u = c.begin.new.self.cursor in
+    let read = c.in_ok-begun.ensures.same no_frames refl (λ f. absurd (true≢false (sym f))) in
+    reads_from _ _ u (place_of c.in_ok-begun.begun no_frames) c.read_containers.result (read.0.text ∙ c.new-parser.ensures.cursor.text)
+    (c.new-parser.ensures.cursor.same (before no_frames) refl ∙ read.1) c.read_containers.ensures
+
+pub returns-clause-memory : goal.returns-clause-memory
+returns-clause-memory c e =
+    subst (λ bs. TakesMemory (chars bs)) c.new-parser.ensures.cursor.text
+    (c.in_ok-begun.ensures.opened (open_unless_value c.in_ok-begun.begun c.in_default.not-Value))

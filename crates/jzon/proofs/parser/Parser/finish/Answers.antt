@@ -1,0 +1,20 @@
+use Rattle.std.specs.Prelude.{chars}
+use Rattle.jzon_tree.specs.View.{view}
+use Rattle.jzon.specs.Machine.{no_frames, behind}
+use Rattle.jzon.proofs.Cursors.{utf8_of}
+use Rattle.jzon.proofs.Steps.{from_end}
+use Rattle.jzon.proofs.Told.{told}
+use Rattle.jzon.proofs.Trailing.{trailing_stops}
+use Rattle.jzon.proofs.parser.Parser.finish.Goals as goal
+
+pub returns-then-self-clause-same : goal.returns-then-self-clause-same
+returns-then-self-clause-same c =
+    let t = c.args.self.now.cursor in
+    told (chars t.source.now) c.fault.result _ _
+    (trailing_stops t.reading t.source.now t.index (view c.args.value) (utf8_of t) t.boundary c.if-self.true (t.past_whitespace c.if-self.true))
+    c.fault.ensures
+
+pub returns-clause-same : goal.returns-clause-same
+returns-clause-same c =
+    let t = c.args.self.now.cursor in
+    from_end t.reading t.source.now t.index (behind no_frames (view c.args.value)) c.if-self.false

@@ -1,0 +1,20 @@
+use Rattle.std.proofs.Common.{◌≡◌, ◌≢◌, ◌-◌, [], length, map}
+use Rattle.jzon_tree.specs.View.{view}
+use Rattle.jzon.specs.Cursor.{next_byte}
+use Rattle.jzon.specs.Frames.{stack_view}
+use Rattle.jzon.specs.Machine.{array_frame, before}
+use Rattle.jzon.specs.Tokens.{end_array}
+use Rattle.jzon.proofs.Cursors.{Reached}
+use Rattle.jzon.proofs.parser.Parser.read_elements.Given as goal
+
+abbrev pub invariant-loop-elements : goal.invariant-loop-elements
+invariant-loop-elements l = record {
+  stack : l.self.stack ≡ l.initial.self.stack;
+  element : map view l.elements.items ≡ [] → next_byte l.self.cursor ≢ end_array;
+  came :
+      Reached l.initial.self.cursor (before (array_frame (stack_view l.initial.self.stack.items) (map view l.fn.elements.items))) l.self.cursor
+      (before (array_frame (stack_view l.initial.self.stack.items) (map view l.elements.items)));
+}
+
+abbrev pub decreases-loop-elements : goal.decreases-loop-elements
+decreases-loop-elements l = length l.self.cursor.source.now - l.self.cursor.index

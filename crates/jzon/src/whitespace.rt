@@ -1,0 +1,38 @@
+//! Whitespace (RFC 8259, section 2; docs/RULES.md, "Texts").
+
+ghost use Rattle.std.specs.Prelude.{◌≡◌, ℕ, ◌<◌, ◌≤◌, length, true, false, slice_index};
+ghost use Rattle.std.specs.List.{prefix_len};
+ghost use Rattle.std.specs.Str.{IsCharBoundary};
+ghost use Rattle.jzon_tree.specs.Writing.{is_space};
+ghost use Rattle.jzon.specs.Machine.{Place, allows_whitespace, from};
+
+use crate::reading::Reading;
+
+/// The offset behind the whitespace that stands at `start`.
+#[inline(always)]
+pub(crate) fn skip_whitespace(source: &str, reading: Reading, start: usize) -> usize
+    requires { IsCharBoundary source.now start }
+    ensures boundary { IsCharBoundary source.now result }
+    ensures same { (p : Place) → allows_whitespace p ≡ true →
+        from reading source.now p start ≡ from reading source.now p result }
+    ensures within { start ≤ result }
+    ensures stop { result < length source.now → is_space reading.strict (slice_index source.now result) ≡ false }
+{
+    start + whitespace_length(&source[start..], reading.strict())
+}
+
+/// How many whitespace bytes stand at the beginning.
+fn whitespace_length(text: &str, strict: bool) -> usize
+    ensures { result ≡ prefix_len (is_space strict) text.now }
+{
+    text.bytes()
+        .take_while(|byte| is_whitespace(*byte, strict))
+        .count()
+}
+
+/// Whether the byte is whitespace: tab, newline, carriage return or blank, or where the reading isn't strict vertical tab or form feed.
+fn is_whitespace(byte: u8, strict: bool) -> bool
+    ensures { result ≡ is_space strict byte }
+{
+    matches!(byte, 9 | 10 | 13 | 32) || (!strict && matches!(byte, 11 | 12))
+}
