@@ -2,4 +2,30 @@
 #![tactic(auto)]
 
 #[cfg(test)]
+mod changers;
+#[cfg(test)]
+mod common;
+#[cfg(test)]
 mod display;
+#[cfg(test)]
+mod integers;
+#[cfg(test)]
+mod keys;
+#[cfg(test)]
+mod lent;
+#[cfg(test)]
+mod objects;
+#[cfg(test)]
+mod printed;
+#[cfg(test)]
+mod readers;
+#[cfg(test)]
+mod refusals;
+#[cfg(test)]
+mod texts;
+#[cfg(test)]
+mod values;
+#[cfg(test)]
+mod view;
+#[cfg(test)]
+mod writers;

@@ -155,6 +155,3 @@ fn remove_item(items: &mut Vec<JsonValue>, index: usize) -> Option<JsonValue>
         None
     }
 }
-
-#[cfg(test)]
-mod tests;

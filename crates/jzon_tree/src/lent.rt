@@ -114,6 +114,3 @@ impl JsonValue {
         self.at_index_in(alloc, index)
     }
 }
-
-#[cfg(test)]
-mod tests;

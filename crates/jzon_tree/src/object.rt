@@ -275,6 +275,3 @@ impl IntoIterator for Object {
         }
     }
 }
-
-#[cfg(test)]
-mod tests;

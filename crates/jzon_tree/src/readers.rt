@@ -211,6 +211,3 @@ impl JsonValue {
         self.as_bool() == Some(other)
     }
 }
-
-#[cfg(test)]
-mod tests;

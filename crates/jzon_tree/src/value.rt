@@ -25,6 +25,3 @@ pub enum JsonValue {
     /// Values in their order.
     Array(Vec<JsonValue>),
 }
-
-#[cfg(test)]
-mod tests;

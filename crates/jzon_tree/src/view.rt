@@ -328,6 +328,3 @@ impl<'a> View<'a> {
         self.value.is_some_and(|value| value.eq_u64(other))
     }
 }
-
-#[cfg(test)]
-mod tests;

@@ -1,4 +1,4 @@
-//! Tests of `jzon_tree` by its public items alone.
+//! Tests of `jzon_tree` by its public items alone, but for those of `jzon_tests`, which read what they take from texts.
 #![tactic(auto)]
 
 #[cfg(test)]

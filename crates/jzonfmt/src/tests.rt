@@ -409,9 +409,40 @@ fn prints_512_open_containers(rt: HostRuntime) -> Result<(), Fail> {
 }
 
 #[test]
+fn prints_long_numbers(rt: HostRuntime) -> Result<(), Fail> {
+    let alloc = rt.alloc();
+    let rows: [([(&str, usize); 3], &str); 7] = [
+        ([("1e", 1), ("9", 1000000), ("", 0)], "1e32767\n"),
+        ([("1e-", 1), ("9", 1000000), ("", 0)], "1e-32768\n"),
+        (
+            [("8", 1), ("0", 32785), ("e-32767", 1)],
+            "8000000000000000000\n",
+        ),
+        (
+            [("8", 1), ("0", 32785), ("e1", 1)],
+            "8.000000000000000000e32785\n",
+        ),
+        ([("0.", 1), ("0", 32767), ("1", 1)], "1e-32768\n"),
+        ([("0.", 1), ("0", 32768), ("e32768", 1)], "0\n"),
+        ([("9.", 1), ("9", 40000), ("", 0)], "9.999999999999999999\n"),
+    ];
+    for (text, printed) in &rows {
+        let text = joined(alloc, text)?;
+        let mut reader = text.as_bytes();
+        let mut writer: Vec<u8> = Vec::new(alloc);
+        assert!(rt;
+            engine::run(alloc, &mut reader, &mut writer, &usual(), Layout::Compact).is_ok()
+        );
+        assert_eq!(rt; str::from_utf8(&writer)?, *printed);
+    }
+    Ok(())
+}
+
+#[test]
 fn refuses_another_open_container(rt: HostRuntime) -> Result<(), Fail> {
     let alloc = rt.alloc();
-    let rows: [([(&str, usize); 3], &str); 8] = [
+    let rows: [([(&str, usize); 3], &str); 9] = [
+        ([("0.", 1), ("0", 40000), ("", 0)], "Exceeded depth limit"),
         (
             [("[{\"a\":", 5000), ("null", 1), ("}]", 5000)],
             "Exceeded depth limit",

@@ -1,0 +1,35 @@
+//! What the tests share.
+
+use jzon::number::Number;
+use jzon::{JsonValue, parse};
+use std::alloc::Global;
+use std::process::Abort;
+use std::test::Fail;
+
+pub type Tested = std::result::Result<(), Fail>;
+
+/// A number of these parts.
+pub fn parts(positive: bool, mantissa: u64, exponent: i16) -> JsonValue {
+    JsonValue::Number(Number::from_parts_unchecked(positive, mantissa, exponent))
+}
+
+/// A whole number.
+pub fn number(mantissa: u64) -> JsonValue {
+    parts(true, mantissa, 0)
+}
+
+/// A text in memory of its own, however short.
+pub fn long(alloc: Global, text: &str) -> jzon::Result<JsonValue> {
+    Ok(JsonValue::String(String::from_str(alloc, text)?))
+}
+
+/// The value dumps this text.
+pub fn expect_dump(rt: &impl Abort, alloc: Global, value: &JsonValue, text: &str) -> Tested {
+    assert_eq!(rt; value.dump(alloc)?.as_str(), text);
+    Ok(())
+}
+
+/// What `text` means dumps `dump`.
+pub fn expect_read(rt: &impl Abort, alloc: Global, text: &str, dump: &str) -> Tested {
+    expect_dump(rt, alloc, &parse(alloc, text)?, dump)
+}

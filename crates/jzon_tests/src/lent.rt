@@ -1,0 +1,204 @@
+//! What a value lends to be written.
+
+ghost use Rattle.std.specs.Prelude.{◌≡◌, slice_set, OnOk, OnErr, Some};
+ghost use Rattle.jzon_base.specs.PairList.{put};
+ghost use Rattle.jzon_tree.specs.Entries.{with_entries};
+ghost use Rattle.jzon_tree.specs.Lent.{entries_in, items_in, items_with_place, place_made};
+ghost use Rattle.jzon_tree.specs.View.{view};
+ghost use Rattle.jzon_tree.specs.declared.value.JsonValue.{Object as object_value};
+
+use crate::common::{Tested, expect_dump, number};
+use jzon::lent::{write_at, write_at_index, write_present};
+use jzon::object::Object;
+use jzon::{JsonValue, Result, parse};
+use std::alloc::Global;
+use std::process::Abort;
+
+// The value under `a` is `lent`. It is written, and then the whole is `after`.
+fn expect_key(
+    rt: &impl Abort,
+    alloc: Global,
+    mut value: JsonValue,
+    lent: &str,
+    after: &str,
+) -> Tested {
+    let place = value.at_mut(alloc, "a")?;
+    expect_dump(rt, alloc, place, lent)?;
+    *place = number(7);
+    expect_dump(rt, alloc, &value, after)
+}
+
+#[test]
+fn makes_keys(rt: HostRuntime) -> Tested {
+    let rows = [
+        ("{\"a\":1}", "1", "{\"a\":7}"),
+        ("{\"b\":1}", "null", "{\"b\":1,\"a\":7}"),
+        ("{}", "null", "{\"a\":7}"),
+        ("null", "null", "{\"a\":7}"),
+        ("5", "null", "{\"a\":7}"),
+        ("[1,2]", "null", "{\"a\":7}"),
+    ];
+    for (before, lent, after) in rows {
+        expect_key(&rt, rt.alloc(), parse(rt.alloc(), before)?, lent, after)?;
+    }
+    Ok(())
+}
+
+#[test]
+fn makes_keys_of_keys(rt: HostRuntime) -> Tested {
+    let mut value = JsonValue::Null;
+    *value.at_mut(rt.alloc(), "foo")?.at_mut(rt.alloc(), "bar")? = number(100);
+    expect_dump(&rt, rt.alloc(), &value, "{\"foo\":{\"bar\":100}}")
+}
+
+// The item at this index is `lent`, and the whole is then `made`. It is written, and then the whole is `written`.
+fn expect_item(
+    rt: &impl Abort,
+    alloc: Global,
+    value: &mut JsonValue,
+    index: usize,
+    lent: &str,
+) -> Tested {
+    expect_dump(rt, alloc, value.at_index_mut(alloc, index)?, lent)
+}
+
+#[test]
+fn makes_places(rt: HostRuntime) -> Tested {
+    let rows = [
+        ("5", 7, "null", "[null,null]", "[null,7]"),
+        ("5", 0, "null", "[null]", "[7]"),
+        ("{\"a\":1}", 1, "null", "[null,null]", "[null,7]"),
+        ("[1]", 9, "null", "[1,null]", "[1,7]"),
+        ("[1]", 1, "null", "[1,null]", "[1,7]"),
+        ("[]", 0, "null", "[null]", "[7]"),
+        ("[1,2,3]", 1, "2", "[1,2,3]", "[1,7,3]"),
+        ("[1,2,3]", 2, "3", "[1,2,3]", "[1,2,7]"),
+    ];
+    for (before, index, lent, made, written) in rows {
+        let mut value = parse(rt.alloc(), before)?;
+        expect_item(&rt, rt.alloc(), &mut value, index, lent)?;
+        expect_dump(&rt, rt.alloc(), &value, made)?;
+        let mut value = parse(rt.alloc(), before)?;
+        *value.at_index_mut(rt.alloc(), index)? = number(7);
+        expect_dump(&rt, rt.alloc(), &value, written)?;
+    }
+    Ok(())
+}
+
+#[test]
+fn lends_nothing_of_another_kind(rt: HostRuntime) {
+    assert!(rt; number(1).get_mut("a").is_none());
+    assert!(rt; number(1).as_object_mut().is_none());
+    assert!(rt; number(1).as_array_mut().is_none());
+    assert_eq!(rt; number(1).members_mut().len(), 0);
+    assert_eq!(rt; number(1).entries_mut().len(), 0);
+}
+
+#[test]
+fn lends_what_is_there(rt: HostRuntime) -> Tested {
+    let mut value = parse(rt.alloc(), "{\"a\":[1]}")?;
+    assert!(rt; value.get_mut("b").is_none());
+    assert!(rt; value.as_array_mut().is_none());
+    if let Some(place) = value.get_mut("a") {
+        *place = number(2);
+    }
+    expect_dump(&rt, rt.alloc(), &value, "{\"a\":2}")?;
+    if let Some(object) = value.as_object_mut() {
+        object.clear();
+    }
+    expect_dump(&rt, rt.alloc(), &value, "{}")?;
+    let mut value = parse(rt.alloc(), "[1]")?;
+    if let Some(items) = value.as_array_mut() {
+        items.clear();
+    }
+    expect_dump(&rt, rt.alloc(), &value, "[]")
+}
+
+// From the back, each member becomes the one that was taken before it, and the last null.
+fn move_members(value: &mut JsonValue) {
+    let mut before = JsonValue::Null;
+    for member in value.members_mut().rev() {
+        let taken = member.take();
+        *member = before;
+        before = taken;
+    }
+}
+
+fn move_entries(value: &mut JsonValue) {
+    let mut before = JsonValue::Null;
+    for (key, place) in value.entries_mut().rev() {
+        let taken = place.take();
+        if key != "b" {
+            *place = before;
+        }
+        before = taken;
+    }
+}
+
+#[test]
+fn lends_members_and_entries(rt: HostRuntime) -> Tested {
+    let rows = [
+        ("[1,2,3]", "[2,3,null]", "[1,2,3]"),
+        ("[]", "[]", "[]"),
+        (
+            "{\"a\":1,\"b\":2,\"c\":3}",
+            "{\"a\":1,\"b\":2,\"c\":3}",
+            "{\"a\":2,\"b\":null,\"c\":null}",
+        ),
+        ("7", "7", "7"),
+    ];
+    for (before, members, entries) in rows {
+        let mut value = parse(rt.alloc(), before)?;
+        move_members(&mut value);
+        expect_dump(&rt, rt.alloc(), &value, members)?;
+        let mut value = parse(rt.alloc(), before)?;
+        move_entries(&mut value);
+        expect_dump(&rt, rt.alloc(), &value, entries)?;
+    }
+    Ok(())
+}
+
+#[test]
+fn writes(rt: HostRuntime) -> Tested {
+    let alloc = rt.alloc();
+    let mut value = JsonValue::Null;
+    assert!(rt; !write_present(&mut value, "a", number(1)));
+    put_value(&mut value, alloc, "a", number(2))?;
+    expect_dump(&rt, alloc, &value, "{\"a\":2}")?;
+    assert!(rt; write_present(&mut value, "a", number(3)));
+    expect_dump(&rt, alloc, &value, "{\"a\":3}")?;
+    put_item(&mut value, alloc, 1, number(4))?;
+    expect_dump(&rt, alloc, &value, "[null,4]")
+}
+
+#[test]
+fn objects_make_keys(rt: HostRuntime) -> Tested {
+    let mut object = Object::new(rt.alloc());
+    expect_dump(&rt, rt.alloc(), object.at_mut(rt.alloc(), "a")?, "null")?;
+    *object.at_mut(rt.alloc(), "b")? = number(1);
+    expect_dump(&rt, rt.alloc(), object.at_mut(rt.alloc(), "b")?, "1")?;
+    *object.at_mut(rt.alloc(), "a")? = number(2);
+    expect_dump(
+        &rt,
+        rt.alloc(),
+        &JsonValue::Object(object),
+        "{\"a\":2,\"b\":1}",
+    )
+}
+
+// What a caller's proof knows of a value that was written.
+fn put_value(value: &mut JsonValue, alloc: Global, key: &str, written: JsonValue) -> Result<()>
+    ensures ok { OnOk result (value.new ≡
+        object_value (with_entries (put key.now written (entries_in value.old)))) }
+    ensures err { OnErr result (value.new ≡ value.old) }
+{
+    write_at(value, alloc, key, written)
+}
+
+fn put_item(value: &mut JsonValue, alloc: Global, index: usize, written: JsonValue) -> Result<()>
+    ensures ok { OnOk result (items_in value.new ≡
+        Some (slice_set (items_with_place value.old index) (place_made value.old index) written)) }
+    ensures err { OnErr result (view value.new ≡ view value.old) }
+{
+    write_at_index(value, alloc, index, written)
+}

@@ -1,0 +1,190 @@
+//! Objects.
+
+use crate::common::{Tested, expect_dump, number, parts};
+use jzon::object::{Iter, IterMut, Object};
+use jzon::{JsonValue, Result, parse};
+use std::alloc::Global;
+use std::process::Abort;
+
+// The object that a text means; of another text the empty one.
+fn object_of(alloc: Global, text: &str) -> Result<Object> {
+    match parse(alloc, text)? {
+        JsonValue::Object(object) => Ok(object),
+        _ => Ok(Object::new(alloc)),
+    }
+}
+
+fn expect_text(rt: &impl Abort, alloc: Global, object: &Object, text: &str) -> Tested {
+    assert_eq!(rt; object.dump(alloc)?.as_str(), text);
+    assert_eq!(rt; object.is_empty(), text == "{}");
+    Ok(())
+}
+
+#[test]
+fn inserts(rt: HostRuntime) -> Tested {
+    let rows = [
+        ("{}", "{\"a\":9}"),
+        ("{\"a\":1,\"b\":2}", "{\"a\":9,\"b\":2}"),
+        ("{\"b\":1,\"c\":2}", "{\"b\":1,\"c\":2,\"a\":9}"),
+    ];
+    for (before, after) in rows {
+        let mut object = object_of(rt.alloc(), before)?;
+        object.insert(rt.alloc(), "a", number(9))?;
+        expect_text(&rt, rt.alloc(), &object, after)?;
+    }
+    Ok(())
+}
+
+// What is removed under `a`, null for nothing, and what is left.
+fn expect_removed(
+    rt: &impl Abort,
+    alloc: Global,
+    mut object: Object,
+    removed: &str,
+    left: &str,
+) -> Tested {
+    match object.remove("a") {
+        Some(value) => expect_dump(rt, alloc, &value, removed)?,
+        None => assert_eq!(rt; removed, "null"),
+    }
+    expect_text(rt, alloc, &object, left)
+}
+
+#[test]
+fn removes(rt: HostRuntime) -> Tested {
+    let rows = [
+        ("{\"a\":1}", "1", "{}"),
+        ("{\"a\":1,\"b\":2,\"c\":3}", "1", "{\"b\":2,\"c\":3}"),
+        ("{\"b\":1,\"a\":2,\"c\":3}", "2", "{\"b\":1,\"c\":3}"),
+        ("{\"b\":1}", "null", "{\"b\":1}"),
+        ("{}", "null", "{}"),
+    ];
+    for (before, removed, left) in rows {
+        expect_removed(
+            &rt,
+            rt.alloc(),
+            object_of(rt.alloc(), before)?,
+            removed,
+            left,
+        )?;
+    }
+    Ok(())
+}
+
+#[test]
+fn overrides_the_last(rt: HostRuntime) -> Tested {
+    for (before, after) in [("{\"a\":1,\"b\":2}", "{\"a\":1,\"b\":9}"), ("{}", "{}")] {
+        let mut object = object_of(rt.alloc(), before)?;
+        object.override_last(number(9));
+        expect_text(&rt, rt.alloc(), &object, after)?;
+    }
+    Ok(())
+}
+
+#[test]
+fn clears(rt: HostRuntime) -> Tested {
+    let mut object = object_of(rt.alloc(), "{\"a\":1,\"b\":2}")?;
+    assert_eq!(rt; object.len(), 2);
+    object.clear();
+    assert_eq!(rt; object.len(), 0);
+    expect_text(&rt, rt.alloc(), &object, "{}")
+}
+
+#[test]
+fn lends_its_values(rt: HostRuntime) -> Tested {
+    let mut object = object_of(rt.alloc(), "{\"a\":1,\"b\":2,\"c\":3}")?;
+    assert!(rt; object.get_mut("x").is_none());
+    if let Some(value) = object.get_mut("b") {
+        *value = JsonValue::Null;
+    }
+    expect_text(&rt, rt.alloc(), &object, "{\"a\":1,\"b\":null,\"c\":3}")?;
+    for (_, value) in object.iter_mut() {
+        *value = JsonValue::Boolean(true);
+    }
+    expect_text(
+        &rt,
+        rt.alloc(),
+        &object,
+        "{\"a\":true,\"b\":true,\"c\":true}",
+    )
+}
+
+// Whether it is there, with this key and this number.
+fn is_pair(pair: Option<(&str, &JsonValue)>, key: &str, number: u64) -> bool {
+    match pair {
+        Some((name, value)) => name == key && value.eq_u64(number),
+        None => false,
+    }
+}
+
+#[test]
+fn goes_over_its_pairs_from_both_ends(rt: HostRuntime) -> Tested {
+    let object = object_of(rt.alloc(), "{\"a\":1,\"b\":2,\"c\":3}")?;
+    let mut pairs = object.iter();
+    assert!(rt; is_pair(pairs.next(), "a", 1));
+    assert!(rt; is_pair(pairs.next_back(), "c", 3));
+    assert_eq!(rt; pairs.len(), 1);
+    assert!(rt; is_pair(pairs.next(), "b", 2));
+    assert!(rt; pairs.next_back().is_none());
+    Ok(())
+}
+
+#[test]
+fn has_empty_iterators(rt: HostRuntime) {
+    assert!(rt; Iter::empty().next().is_none());
+    assert!(rt; IterMut::empty().next().is_none());
+}
+
+// The longest key that lies in place, and the shortest one that doesn't.
+const IN_PLACE: &str = "0123456789abcdef0123456789abcdef";
+
+const IN_MEMORY: &str = "0123456789abcdef0123456789abcdef!";
+
+// The keys from the back, with a comma behind each.
+fn keys_from_the_back(alloc: Global, object: Object) -> Result<String> {
+    let mut keys = String::new(alloc);
+    for (key, _) in object.into_iter().rev() {
+        keys.push_str(key.into_string(alloc)?.as_str())?;
+        keys.push(',')?;
+    }
+    Ok(keys)
+}
+
+#[test]
+fn gives_its_keys_whole(rt: HostRuntime) -> Tested {
+    let mut object = Object::with_capacity(rt.alloc(), 2)?;
+    object.insert(rt.alloc(), IN_PLACE, number(1))?;
+    object.insert(rt.alloc(), IN_MEMORY, number(2))?;
+    assert!(rt; object.get(IN_PLACE).is_some_and(|value| value.eq_u64(1)));
+    assert!(rt; object.get(IN_MEMORY).is_some_and(|value| value.eq_u64(2)));
+    let keys = keys_from_the_back(rt.alloc(), object)?;
+    assert_eq!(rt;
+        keys.as_str(),
+        "0123456789abcdef0123456789abcdef!,0123456789abcdef0123456789abcdef,"
+    );
+    Ok(())
+}
+
+#[test]
+fn equals_in_any_order(rt: HostRuntime) -> Tested {
+    let object = object_of(rt.alloc(), "{\"a\":1,\"b\":2}")?;
+    let mut other = Object::with_capacity(rt.alloc(), 2)?;
+    other.insert(rt.alloc(), "b", number(2))?;
+    assert!(rt; object != other);
+    other.insert(rt.alloc(), "a", parts(true, 10, -1))?;
+    assert!(rt; object == other);
+    let copy = other.clone(rt.alloc())?;
+    assert!(rt; object == copy);
+    expect_text(&rt, rt.alloc(), &copy, "{\"b\":2,\"a\":1.0}")
+}
+
+#[test]
+fn shows_its_pairs(rt: HostRuntime) -> Tested {
+    let object = object_of(rt.alloc(), "{\"a\\n\":1}")?;
+    let text = format!(in rt.alloc(); "{object:?}")?;
+    assert!(rt;
+        text.as_str()
+            .starts_with("Object { pairs: {\"a\\n\": Number(")
+    );
+    Ok(())
+}

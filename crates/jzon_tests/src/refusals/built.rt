@@ -1,0 +1,155 @@
+//! Values that are built of other things.
+
+use super::*;
+use jzon::IntoJson;
+use jzon::short::Short;
+use std::collections::{BTreeMap, HashMap};
+
+#[derive(Clone, Copy)]
+enum Built {
+    From,
+    Texts,
+    Slice,
+    Map,
+    HashMap,
+    Value,
+    Array,
+    Object,
+    Stringify,
+    StringifyPretty,
+    WrongType,
+    Short,
+}
+
+fn texts(alloc: Global) -> Result<JsonValue> {
+    vec![in alloc; LONG_TEXT, "", LONG_TEXT]?.into_json(alloc)
+}
+
+fn map(alloc: Global) -> Result<JsonValue> {
+    let mut map = BTreeMap::new(alloc);
+    map.insert("a", LONG_TEXT)?;
+    map.into_json(alloc)
+}
+
+fn hash_map(alloc: Global) -> Result<JsonValue> {
+    let mut map = HashMap::new(alloc);
+    map.insert("a", LONG_TEXT)?;
+    map.into_json(alloc)
+}
+
+fn value(alloc: Global) -> Result<JsonValue> {
+    Ok(jzon::value!(alloc; [LONG_TEXT, null]))
+}
+
+fn array(alloc: Global) -> Result<JsonValue> {
+    Ok(jzon::array![alloc; 1, LONG_TEXT, {}])
+}
+
+fn object(alloc: Global) -> Result<JsonValue> {
+    Ok(jzon::object! {alloc; a: [1], LONG_KEY => true})
+}
+
+fn wrong_type(alloc: Global) -> Result<JsonValue> {
+    match Error::wrong_type(alloc, "Array")? {
+        Error::WrongType(words) => Ok(JsonValue::String(words)),
+        error => Err(error),
+    }
+}
+
+impl Call for Built {
+    fn call(self, lent: &mut JsonValue, alloc: Global) -> Result<()> {
+        *lent = match self {
+            Built::From => jzon::from(alloc, LONG_TEXT)?,
+            Built::Texts => texts(alloc)?,
+            Built::Slice => [LONG_TEXT, ""].as_slice().into_json(alloc)?,
+            Built::Map => map(alloc)?,
+            Built::HashMap => hash_map(alloc)?,
+            Built::Value => value(alloc)?,
+            Built::Array => array(alloc)?,
+            Built::Object => object(alloc)?,
+            Built::Stringify => JsonValue::String(jzon::stringify(
+                alloc,
+                [Some(1u8), None].as_slice(),
+            )?),
+            Built::StringifyPretty => JsonValue::String(jzon::stringify_pretty(
+                alloc,
+                [1u8].as_slice(),
+                2,
+            )?),
+            Built::WrongType => wrong_type(alloc)?,
+            Built::Short => JsonValue::String(Short::from_slice("in place").into_string(alloc)?),
+        };
+        Ok(())
+    }
+}
+
+#[test]
+fn built_under_refusals(rt: HostRuntime) -> Tested {
+    let mapped = "{\"a\":\"abcdefghijklmnopqrstuvwxyz01234\"}";
+    let rows = [
+        case(
+            Built::From,
+            "from",
+            "null",
+            "\"abcdefghijklmnopqrstuvwxyz01234\"",
+            1,
+        ),
+        case(
+            Built::Texts,
+            "into_json of texts",
+            "null",
+            "[\"abcdefghijklmnopqrstuvwxyz01234\",\"\",\"abcdefghijklmnopqrstuvwxyz01234\"]",
+            4,
+        ),
+        case(
+            Built::Slice,
+            "into_json of a slice",
+            "null",
+            "[\"abcdefghijklmnopqrstuvwxyz01234\",\"\"]",
+            2,
+        ),
+        case(Built::Map, "into_json of a map", "null", mapped, 4),
+        case(Built::HashMap, "into_json of a hash map", "null", mapped, 4),
+        case(
+            Built::Value,
+            "value!",
+            "null",
+            "[\"abcdefghijklmnopqrstuvwxyz01234\",null]",
+            2,
+        ),
+        case(
+            Built::Array,
+            "array!",
+            "null",
+            "[1,\"abcdefghijklmnopqrstuvwxyz01234\",{}]",
+            2,
+        ),
+        case(
+            Built::Object,
+            "object!",
+            "null",
+            "{\"a\":[1],\"0123456789abcdef0123456789abcdef01234567\":true}",
+            4,
+        ),
+        case(Built::Stringify, "stringify", "null", "\"[1,null]\"", 2),
+        case(
+            Built::StringifyPretty,
+            "stringify_pretty",
+            "null",
+            "\"[\\n  1\\n]\"",
+            2,
+        ),
+        case(Built::WrongType, "wrong_type", "null", "\"Array\"", 1),
+        case(
+            Built::Short,
+            "Short::into_string",
+            "null",
+            "\"in place\"",
+            1,
+        ),
+    ];
+    for row in &rows {
+        refuse(&rt, rt.alloc(), row)?;
+    }
+    Ok(())
+}

@@ -1,0 +1,148 @@
+//! What is read, copied and changed.
+
+use super::*;
+
+#[derive(Clone, Copy)]
+enum Changed {
+    Parse(&'static str),
+    Clone,
+    Push,
+    PushLongText,
+    PushOnNull,
+    Insert,
+    InsertOnArray,
+    AtMut,
+    AtIndexMut(usize),
+    TakeString,
+}
+
+// That the kind was wrong is no refusal of memory.
+fn passed_over(answer: Result<()>) -> Result<()> {
+    match answer {
+        Err(Error::WrongType(_)) => Ok(()),
+        Err(error) => Err(error),
+        Ok(()) => Err(Error::UnexpectedEndOfJson),
+    }
+}
+
+fn take_string(value: &mut JsonValue, alloc: Global) -> Result<()> {
+    if let Some(text) = value.take_string(alloc)? {
+        *value = JsonValue::String(text);
+    }
+    Ok(())
+}
+
+// What is lent isn't kept.
+fn at_mut(value: &mut JsonValue, alloc: Global) -> Result<()> {
+    value.at_mut(alloc, LONG_KEY)?;
+    Ok(())
+}
+
+fn at_index_mut(value: &mut JsonValue, alloc: Global, index: usize) -> Result<()> {
+    value.at_index_mut(alloc, index)?;
+    Ok(())
+}
+
+impl Call for Changed {
+    fn call(self, value: &mut JsonValue, alloc: Global) -> Result<()> {
+        match self {
+            Changed::Parse(text) => *value = parse(alloc, text)?,
+            Changed::Clone => *value = value.clone(alloc)?,
+            Changed::Push => value.push(alloc, true)?,
+            Changed::PushLongText => value.push(alloc, LONG_TEXT)?,
+            Changed::PushOnNull => passed_over(value.push(alloc, LONG_TEXT))?,
+            Changed::Insert => value.insert(alloc, LONG_KEY, true)?,
+            Changed::InsertOnArray => passed_over(value.insert(alloc, "a", LONG_TEXT))?,
+            Changed::AtMut => at_mut(value, alloc)?,
+            Changed::AtIndexMut(index) => at_index_mut(value, alloc, index)?,
+            Changed::TakeString => take_string(value, alloc)?,
+        }
+        Ok(())
+    }
+}
+
+/// The buffer of the escapes grows, and then the value's own memory is asked for.
+const ESCAPED: &str = "\"\\u00e9 and a text of more than thirty bytes\\n\\uD834\\uDD1E\"";
+
+const UNESCAPED: &str = "\"é and a text of more than thirty bytes\\n\u{1d11e}\"";
+
+const KEYED: &str = "{\"0123456789abcdef0123456789abcdef01234567\":null}";
+
+#[test]
+fn changed_under_refusals(rt: HostRuntime) -> Tested {
+    let rows = [
+        case(Changed::Parse(DOCUMENT), "parse", "null", PRINTED, 6),
+        case(
+            Changed::Parse(ESCAPED),
+            "parse of a long text",
+            "null",
+            UNESCAPED,
+            2,
+        ),
+        case(
+            Changed::Parse(LONG_DOCUMENT),
+            "parse of a long key",
+            "null",
+            LONG_DOCUMENT,
+            9,
+        ),
+        case(Changed::Clone, "clone", DOCUMENT, PRINTED, 3),
+        case(
+            Changed::Clone,
+            "clone of a long key",
+            LONG_DOCUMENT,
+            LONG_DOCUMENT,
+            7,
+        ),
+        case(Changed::Push, "push", "[]", "[true]", 1),
+        case(
+            Changed::PushLongText,
+            "push of a long text",
+            "[]",
+            "[\"abcdefghijklmnopqrstuvwxyz01234\"]",
+            2,
+        ),
+        case(Changed::PushOnNull, "push on null", "null", "null", 1),
+        case(
+            Changed::Insert,
+            "insert",
+            "{\"a\":null}",
+            "{\"a\":null,\"0123456789abcdef0123456789abcdef01234567\":true}",
+            3,
+        ),
+        case(
+            Changed::InsertOnArray,
+            "insert on an array",
+            "[1]",
+            "[1]",
+            1,
+        ),
+        case(Changed::AtMut, "at_mut of a number", "5", KEYED, 3),
+        case(Changed::AtMut, "at_mut", "{}", KEYED, 3),
+        case(
+            Changed::AtIndexMut(0),
+            "at_index_mut of a number",
+            "5",
+            "[null]",
+            1,
+        ),
+        case(
+            Changed::AtIndexMut(9),
+            "at_index_mut",
+            "[true]",
+            "[true,null]",
+            1,
+        ),
+        case(
+            Changed::TakeString,
+            "take_string",
+            "\"in place\"",
+            "\"in place\"",
+            1,
+        ),
+    ];
+    for row in &rows {
+        refuse(&rt, rt.alloc(), row)?;
+    }
+    Ok(())
+}

@@ -1,0 +1,132 @@
+//! What is printed into memory.
+
+use super::*;
+use jzon::codegen::{DumpGenerator, PrettyGenerator, write_json};
+use std::io;
+use std::io::ErrorKind;
+
+#[derive(Clone, Copy)]
+enum Writing {
+    Dump,
+    Pretty,
+    ObjectDump,
+    ObjectPretty,
+    DumpGenerator,
+    PrettyGenerator,
+    Write,
+    WritePretty,
+}
+
+// What a writer in memory answers: its one error is that memory was refused.
+fn of_memory(answer: io::Result<()>) -> Result<()> {
+    match answer {
+        Ok(()) => Ok(()),
+        Err(error) if error.kind() == ErrorKind::OutOfMemory => Err(Error::OutOfMemory),
+        Err(_) => Err(Error::FailedUtf8Parsing),
+    }
+}
+
+fn dump_of(value: &JsonValue, alloc: Global) -> Result<String> {
+    match value {
+        JsonValue::Object(object) => object.dump(alloc),
+        _ => Ok(String::new(alloc)),
+    }
+}
+
+fn pretty_of(value: &JsonValue, alloc: Global) -> Result<String> {
+    match value {
+        JsonValue::Object(object) => object.pretty(alloc, 1),
+        _ => Ok(String::new(alloc)),
+    }
+}
+
+fn dumped(value: &JsonValue, alloc: Global) -> Result<String> {
+    let mut generator = DumpGenerator::new(alloc);
+    of_memory(write_json(&mut generator, value))?;
+    generator.consume()
+}
+
+fn prettified(value: &JsonValue, alloc: Global) -> Result<String> {
+    let mut generator = PrettyGenerator::new(alloc, 1);
+    of_memory(write_json(&mut generator, value))?;
+    generator.consume()
+}
+
+fn text_of(bytes: Vec<u8>) -> Result<String> {
+    match String::from_utf8(bytes) {
+        Ok(text) => Ok(text),
+        Err(_) => Err(Error::FailedUtf8Parsing),
+    }
+}
+
+fn written(value: &JsonValue, alloc: Global) -> Result<String> {
+    let mut bytes = Vec::new(alloc);
+    of_memory(value.write(&mut bytes))?;
+    text_of(bytes)
+}
+
+fn pretty_written(value: &JsonValue, alloc: Global) -> Result<String> {
+    let mut bytes = Vec::new(alloc);
+    of_memory(value.write_pretty(&mut bytes, 1))?;
+    text_of(bytes)
+}
+
+impl Call for Writing {
+    fn call(self, value: &mut JsonValue, alloc: Global) -> Result<()> {
+        let text = match self {
+            Writing::Dump => value.dump(alloc)?,
+            Writing::Pretty => value.pretty(alloc, 1)?,
+            Writing::ObjectDump => dump_of(value, alloc)?,
+            Writing::ObjectPretty => pretty_of(value, alloc)?,
+            Writing::DumpGenerator => dumped(value, alloc)?,
+            Writing::PrettyGenerator => prettified(value, alloc)?,
+            Writing::Write => written(value, alloc)?,
+            Writing::WritePretty => pretty_written(value, alloc)?,
+        };
+        *value = JsonValue::String(text);
+        Ok(())
+    }
+}
+
+const NUMBERS: &str = "{\"a\":[1]}";
+
+/// What dumps the text on one line, and that on lines, with a blank for each open container.
+const ON_ONE_LINE: &str = "\"{\\\"a\\\":[1]}\"";
+
+const ON_LINES: &str = "\"{\\n \\\"a\\\": [\\n  1\\n ]\\n}\"";
+
+#[test]
+fn written_under_refusals(rt: HostRuntime) -> Tested {
+    let rows = [
+        case(Writing::Dump, "dump", NUMBERS, ON_ONE_LINE, 1),
+        case(Writing::Pretty, "pretty", NUMBERS, ON_LINES, 1),
+        case(Writing::ObjectDump, "Object::dump", NUMBERS, ON_ONE_LINE, 1),
+        case(
+            Writing::ObjectPretty,
+            "Object::pretty",
+            NUMBERS,
+            ON_LINES,
+            1,
+        ),
+        case(
+            Writing::DumpGenerator,
+            "DumpGenerator",
+            NUMBERS,
+            ON_ONE_LINE,
+            1,
+        ),
+        case(
+            Writing::PrettyGenerator,
+            "PrettyGenerator",
+            NUMBERS,
+            ON_LINES,
+            1,
+        ),
+        case(Writing::Write, "write", NUMBERS, ON_ONE_LINE, 1),
+        case(Writing::WritePretty, "write_pretty", NUMBERS, ON_LINES, 1),
+    ];
+    for row in &rows {
+        refuse(&rt, rt.alloc(), row)?;
+    }
+    Ok(())
+}

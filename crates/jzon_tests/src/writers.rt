@@ -1,0 +1,170 @@
+//! Writers that take one byte a call, and have trouble at one.
+
+ghost use Rattle.std.specs.Prelude.{Some};
+
+use crate::common::Tested;
+use jzon::codegen::{
+    DumpGenerator, Generator, PrettyGenerator, PrettyWriterGenerator, WriterGenerator, write_json,
+};
+use jzon::object::Object;
+use jzon::{JsonValue, parse};
+use std::alloc::Global;
+use std::io;
+use std::io::{ErrorKind, Write};
+use std::process::Abort;
+
+const DOCUMENT: &str = "{\"a\":[1,-0.5e+2,\"x\\u00e9\\uD834\\uDD1E\"],\"b\":null}";
+
+const COMPACT: &str = "{\"a\":[1,-50,\"xé\u{1d11e}\"],\"b\":null}";
+
+const PRETTY: &str = "{\n  \"a\": [\n    1,\n    -50,\n    \"xé\u{1d11e}\"\n  ],\n  \"b\": null\n}";
+
+/// What a writer does at one call.
+#[derive(Clone, Copy)]
+enum Trouble {
+    TakesNothing,
+    Fails(ErrorKind),
+}
+
+/// Takes one byte a call, but for one call that meets trouble. 0 is no call.
+#[derive(Drop)]
+struct SlowWriter {
+    bytes: Vec<u8>,
+    calls: usize,
+    trouble_at: usize,
+    trouble: Trouble,
+}
+
+impl SlowWriter {
+    fn new(alloc: Global, trouble_at: usize, trouble: Trouble) -> SlowWriter {
+        SlowWriter {
+            bytes: Vec::new(alloc),
+            calls: 0,
+            trouble_at,
+            trouble,
+        }
+    }
+}
+
+impl Write for SlowWriter {
+    ghost contents = { λ writer. Some writer.bytes.items };
+
+    fn write(&mut self, buf: &[u8]) -> io::Result<usize> {
+        self.calls = self.calls.saturating_add(1);
+        if self.calls == self.trouble_at {
+            return match self.trouble {
+                Trouble::TakesNothing => Ok(0),
+                Trouble::Fails(kind) => Err(io::Error::from(kind)),
+            };
+        }
+        let Some(first) = buf.first() else {
+            return Ok(0);
+        };
+        self.bytes.push(*first)?;
+        Ok(1)
+    }
+
+    fn flush(&mut self) -> io::Result<()> {
+        Ok(())
+    }
+}
+
+// How a value is written.
+#[derive(Clone, Copy)]
+enum How {
+    Compact,
+    Pretty,
+    Generator,
+    PrettyGenerator,
+}
+
+impl How {
+    fn text(self) -> &'static str {
+        match self {
+            How::Compact | How::Generator => COMPACT,
+            How::Pretty | How::PrettyGenerator => PRETTY,
+        }
+    }
+
+    fn write(self, value: &JsonValue, writer: &mut SlowWriter) -> io::Result<()> {
+        match self {
+            How::Compact => value.write(writer),
+            How::Pretty => value.write_pretty(writer, 2),
+            How::Generator => write_json(&mut WriterGenerator::new(writer), value),
+            How::PrettyGenerator => write_json(&mut PrettyWriterGenerator::new(writer, 2), value),
+        }
+    }
+}
+
+// The writer holds the first bytes of the text, and this was its last call.
+fn expect_front(rt: &impl Abort, writer: &SlowWriter, text: &str, call: usize) {
+    assert_eq!(rt; writer.calls, call);
+    assert_eq!(rt; writer.bytes.len(), call.saturating_sub(1));
+    assert!(rt; text.as_bytes().starts_with(&writer.bytes));
+}
+
+// At each call there is trouble once: the error has the writer's own kind, and nothing is written after it.
+fn expect_stops(rt: &impl Abort, alloc: Global, value: &JsonValue, how: How, trouble: Trouble) {
+    let text = how.text();
+    for call in 1..=text.len() {
+        let mut writer = SlowWriter::new(alloc, call, trouble);
+        match (how.write(value, &mut writer), trouble) {
+            (Err(error), Trouble::Fails(kind)) => assert_eq!(rt; error.kind(), kind),
+            (Err(_), Trouble::TakesNothing) => {}
+            (Ok(()), _) => assert!(rt; false, "no fault at call {call}"),
+        }
+        expect_front(rt, &writer, text, call);
+    }
+}
+
+#[test]
+fn stops_at_the_trouble_of_each_call(rt: HostRuntime) -> Tested {
+    let value = parse(rt.alloc(), DOCUMENT)?;
+    let troubles = [
+        Trouble::TakesNothing,
+        Trouble::Fails(ErrorKind::BrokenPipe),
+        Trouble::Fails(ErrorKind::Interrupted),
+    ];
+    for how in [
+        How::Compact,
+        How::Pretty,
+        How::Generator,
+        How::PrettyGenerator,
+    ] {
+        for trouble in troubles {
+            expect_stops(&rt, rt.alloc(), &value, how, trouble);
+        }
+    }
+    Ok(())
+}
+
+#[test]
+fn writes_whole_texts(rt: HostRuntime) -> Tested {
+    let value = parse(rt.alloc(), DOCUMENT)?;
+    for how in [
+        How::Compact,
+        How::Pretty,
+        How::Generator,
+        How::PrettyGenerator,
+    ] {
+        let mut writer = SlowWriter::new(rt.alloc(), 0, Trouble::TakesNothing);
+        how.write(&value, &mut writer)?;
+        assert_eq!(rt; writer.bytes.as_slice(), how.text().as_bytes());
+    }
+    Ok(())
+}
+
+// It leaves the pairs in the order in which they were put.
+fn has_no_order<G: Generator>(generator: &mut G, object: &Object) -> bool {
+    matches!(generator.order(object), Ok(None))
+}
+
+#[test]
+fn the_four_generators_have_no_order(rt: HostRuntime) {
+    let object = Object::new(rt.alloc());
+    let mut bytes = Vec::new(rt.alloc());
+    assert!(rt; has_no_order(&mut DumpGenerator::new(rt.alloc()), &object));
+    assert!(rt; has_no_order(&mut PrettyGenerator::new(rt.alloc(), 2), &object));
+    assert!(rt; has_no_order(&mut WriterGenerator::new(&mut bytes), &object));
+    assert!(rt; has_no_order(&mut PrettyWriterGenerator::new(&mut bytes, 2), &object));
+}
