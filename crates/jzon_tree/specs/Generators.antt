@@ -1,17 +1,43 @@
 -- What stands behind each of the four generators.
-use Rattle.std.specs.Prelude.{◌≡◌, ℕ, List, Option, Some, None, Result, MatchResult, IsUtf8, string_bytes}
+use Rattle.std.specs.Prelude.{◌≡◌, ℕ, Bool, List, Option, Some, None, Result, MatchResult, IsUtf8, string_bytes}
 use Rattle.std.specs.Borrow.{GName}
 use Rattle.std.specs.declared.string.String.{String}
 use Rattle.std.specs.declared.alloc.Global.{Global}
+use Rattle.std.specs.declared.vec.Vec.{Vec}
 use Rattle.std.proofs.Common.{ap, ◌∙◌}
 use Rattle.jzon_base.specs.declared.error.Error.{Error}
 use Rattle.jzon_base.specs.declared.error.Error.TheVariants.{FailedUtf8Parsing}
 use Rattle.jzon_tree.specs.Generator.{Emitted}
+use Rattle.jzon_tree.specs.Styles.{layout_style}
 use Rattle.jzon_tree.specs.Writing.{Style}
+use Rattle.jzon_tree.specs.declared.codegen.outlet.Memory.{Memory}
+use Rattle.jzon_tree.specs.declared.codegen.text.TextGenerator.{TextGenerator}
 
 -- these bytes, no open indent and no fault
 abbrev pub fresh : Option (List ℕ) → Style → Option GName → Emitted
 fresh out style lender = record { out = out; dent = 0; faults = 0; style = style; lender = lender }
+
+-- what stands behind a generator over an outlet, of which the bytes and the reference are known
+abbrev pub text_meaning : {O T : Type 0} {n : ℕ} → (O → Option (List ℕ)) → (O → Option GName) → Bool
+    → TextGenerator O n T → Emitted
+text_meaning out lender lines g = record {
+  out = out g.outlet;
+  dent = g.dent;
+  faults = g.faults;
+  style = layout_style lines g.spaces;
+  lender = lender g.outlet;
+}
+
+-- the generator with this writer in its outlet
+abbrev pub with_writer_in : {O T : Type 0} {n : ℕ} → (O → T → O) → TextGenerator O n T → T → TextGenerator O n T
+with_writer_in with_writer g w = record g { outlet = with_writer g.outlet w }
+
+-- memory of a generator's own: its bytes, and itself with others
+abbrev pub bytes_in : Memory → Option (List ℕ)
+bytes_in m = Some m.bytes.items
+
+abbrev pub with_bytes : Memory → Vec ℕ Global → Memory
+with_bytes m bytes = record m { bytes = bytes }
 
 -- bytes that are known, and are no UTF-8
 abbrev pub IsNoUtf8 : Option (List ℕ) → Type 0
@@ -22,9 +48,11 @@ IsNoUtf8 (Some bytes) = IsUtf8 bytes → ⊥
 abbrev pub IsConsumed : Option (List ℕ) → Result (String Global) Error → Type 0
 IsConsumed out r = MatchResult r (λ text. out ≡ Some (string_bytes text)) (λ e. (e ≡ FailedUtf8Parsing) × IsNoUtf8 out)
 
--- The same bytes and the same reference make the same generator. (This is a proof; it stands here since a law of the generators cites it.)
+-- Equal bytes and equal references make equals of what stands behind a generator.
+-- (This is a proof; it stands here since a law of the generators cites it.)
 pub same_emitted : {o p : Option (List ℕ)} {l m : Option GName} {d f : ℕ} {s : Style} → o ≡ p → l ≡ m
-    → let e : Emitted = record { out = o; dent = d; faults = f; style = s; lender = l } in e ≡ record { out = p; dent = d; faults = f; style = s; lender = m }
+    → let e : Emitted = record { out = o; dent = d; faults = f; style = s; lender = l } in
+    e ≡ record { out = p; dent = d; faults = f; style = s; lender = m }
 same_emitted {o} {p} {l} {m} {d} {f} {s} h k =
     ap (λ x. let e : Emitted = record { out = x; dent = d; faults = f; style = s; lender = l } in e) h
     ∙ ap (λ x. let e : Emitted = record { out = p; dent = d; faults = f; style = s; lender = x } in e) k

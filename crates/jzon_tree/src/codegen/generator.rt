@@ -96,7 +96,8 @@ pub trait Generator {
     fn indent(&mut self) -> io::Result<()>
         ensures { MatchResult result
             (λ _. meaning self.new ≡ record (meaning self.old) { dent = (meaning self.old).dent + 1 })
-            (λ _. ((meaning self.old).dent ≡ 2 ^ 64 - 1) × (meaning self.new ≡ record (meaning self.old) { faults = noted (meaning self.old).faults })) }
+            (λ _. ((meaning self.old).dent ≡ 2 ^ 64 - 1)
+            × (meaning self.new ≡ record (meaning self.old) { faults = noted (meaning self.old).faults })) }
     {
         let dent = self.dent();
         if dent == u64::MAX {
@@ -154,7 +155,8 @@ pub trait Generator {
             (λ _. Failed (Just []) (meaning self.old) (meaning self.new)) };
 
     // Another writer changes the bytes alone.
-    ghost writer_law: { (g : Self) (w : Self.T) → meaning (with_writer g w) ≡ record (meaning g) { out = Self.T.contents w } };
+    ghost writer_law: { (g : Self) (w : Self.T)
+        → meaning (with_writer g w) ≡ record (meaning g) { out = Self.T.contents w } };
 
     // The style allows at least one blank, one form of the colon, and one order of distinct keys.
     ghost style_law: { (g : Self) → IsStyle (meaning g).style };

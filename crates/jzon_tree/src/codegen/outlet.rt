@@ -2,10 +2,11 @@
 
 ghost use Rattle.std.specs.Prelude.{◌≡◌, ℕ, List, Option, Some, None, refl};
 ghost use Rattle.std.specs.Borrow.{GName, sem, Lends};
+ghost use Rattle.jzon_tree.specs.Generators.{bytes_in, with_bytes};
 
 use std::io::Write;
 
-/// Holds a writer, or what it was lent of one.
+/// Memory of a generator's own, or a reference to a writer that was lent to it.
 pub trait Outlet {
     /// The writer.
     type T: Write;
@@ -38,11 +39,11 @@ pub struct Memory {
 impl Outlet for Memory {
     type T = Vec<u8>;
 
-    ghost out = { λ o. Some o.bytes.items };
+    ghost out = { bytes_in };
 
     ghost lender = { λ _. None };
 
-    ghost with_writer = { λ o bytes. record o { bytes = bytes } };
+    ghost with_writer = { with_bytes };
 
     fn writer(&mut self) -> &mut Vec<u8> {
         &mut self.bytes

@@ -1,9 +1,8 @@
 //! The one generator behind the four that print: into memory or to a writer, compact or with lines.
 
 ghost use Rattle.std.specs.Prelude.{◌≡◌, Ok, None};
-ghost use Rattle.jzon_tree.specs.Generators.{same_emitted};
+ghost use Rattle.jzon_tree.specs.Generators.{text_meaning, with_writer_in, same_emitted};
 ghost use Rattle.jzon_tree.specs.StyleLaws.{IsStyle-layout};
-ghost use Rattle.jzon_tree.specs.Styles.{layout_style};
 
 use crate::codegen::fault::taken_up;
 use crate::codegen::generator::Generator;
@@ -38,9 +37,9 @@ impl<O: Outlet, const LINES: bool> TextGenerator<O, LINES> {
 impl<O: Outlet, const LINES: bool> Generator for TextGenerator<O, LINES> {
     type T = O::T;
 
-    ghost meaning = { λ g. record { out = O.out g.outlet; dent = g.dent; faults = g.faults; style = layout_style LINES g.spaces; lender = O.lender g.outlet } };
+    ghost meaning = { text_meaning O.out O.lender LINES };
 
-    ghost with_writer = { λ g w. record g { outlet = O.with_writer g.outlet w } };
+    ghost with_writer = { with_writer_in O.with_writer };
 
     fn get_writer(&mut self) -> &mut O::T {
         self.outlet.writer()

@@ -56,7 +56,8 @@ pub fn write_object<G: Generator>(g: &mut G, object: &Object) -> io::Result<()>
 #[cycle(write_value)]
 #[tactic(auto, using(crate::proofs::Views::views))]
 fn write_value<G: Generator>(g: &mut G, json: &JsonValue, fault: &mut Fault) -> Step<()>
-    ensures written { PrintsIf (IsValue (view json.now)) (Writes (G.meaning g.old).style (G.meaning g.old).dent (view json.now))
+    ensures written { PrintsIf (IsValue (view json.now))
+        (Writes (G.meaning g.old).style (G.meaning g.old).dent (view json.now))
         (G.meaning g.old) (G.meaning g.new) result }
     ensures value { OnOk result (IsValue (view json.now)) }
 {
@@ -77,7 +78,8 @@ fn write_value<G: Generator>(g: &mut G, json: &JsonValue, fault: &mut Fault) -> 
 
 #[cycle(write_value)]
 fn write_array<G: Generator>(g: &mut G, items: &[JsonValue], fault: &mut Fault) -> Step<()>
-    ensures written { PrintsIf (AreValues (view_values items.now)) (Writes (G.meaning g.old).style (G.meaning g.old).dent (array (view_values items.now)))
+    ensures written { PrintsIf (AreValues (view_values items.now))
+        (Writes (G.meaning g.old).style (G.meaning g.old).dent (array (view_values items.now)))
         (G.meaning g.old) (G.meaning g.new) result }
     ensures value { OnOk result (AreValues (view_values items.now)) }
 {
@@ -93,7 +95,8 @@ fn write_array<G: Generator>(g: &mut G, items: &[JsonValue], fault: &mut Fault) 
 // Each item after a blank, and a comma before each but the first.
 #[cycle(write_value)]
 fn write_items<G: Generator>(g: &mut G, items: &[JsonValue], fault: &mut Fault) -> Step<()>
-    ensures written { PrintsIf (AreValues (view_values items.now)) (AreItems (G.meaning g.old).style (G.meaning g.old).dent (map view items.now))
+    ensures written { PrintsIf (AreValues (view_values items.now))
+        (AreItems (G.meaning g.old).style (G.meaning g.old).dent (map view items.now))
         (G.meaning g.old) (G.meaning g.new) result }
     ensures value { OnOk result (AreValues (view_values items.now)) }
 {
@@ -106,7 +109,8 @@ fn write_items<G: Generator>(g: &mut G, items: &[JsonValue], fault: &mut Fault) 
 
 #[cycle(write_value)]
 fn write_pairs<G: Generator>(g: &mut G, object: &Object, fault: &mut Fault) -> Step<()>
-    ensures written { PrintsIf (IsValue (view_object object.now)) (Writes (G.meaning g.old).style (G.meaning g.old).dent (view_object object.now))
+    ensures written { PrintsIf (IsValue (view_object object.now))
+        (Writes (G.meaning g.old).style (G.meaning g.old).dent (view_object object.now))
         (G.meaning g.old) (G.meaning g.new) result }
     ensures value { OnOk result (IsValue (view_object object.now)) }
 {
@@ -129,7 +133,9 @@ fn write_members<G: Generator>(
     fault: &mut Fault,
 ) -> Step<()>
     requires { IsAnswer (G.meaning g.old).style (keys_of (entries_of object.now)) order.now }
-    ensures written { PrintsIf (ArePairs (view_pairs (entries_of object.now))) (AreMembers (G.meaning g.old).style (G.meaning g.old).dent (viewed (entries_of object.now)) (positions (length (entries_of object.now)) order.now))
+    ensures written { PrintsIf (ArePairs (view_pairs (entries_of object.now)))
+        (AreMembers (G.meaning g.old).style (G.meaning g.old).dent
+        (viewed (entries_of object.now)) (positions (length (entries_of object.now)) order.now))
         (G.meaning g.old) (G.meaning g.new) result }
     ensures value { OnOk result (IsValue (view_object object.now)) }
 {
@@ -155,7 +161,8 @@ fn position_of(order: &Option<Vec<usize>>, index: usize, count: usize) -> usize
 
 #[cycle(write_value)]
 fn write_pair<G: Generator>(g: &mut G, key: &str, value: &JsonValue, fault: &mut Fault) -> Step<()>
-    ensures written { PrintsIf (IsValue (view value.now)) (IsEntry (G.meaning g.old).style (G.meaning g.old).dent (key.now, view value.now))
+    ensures written { PrintsIf (IsValue (view value.now))
+        (IsEntry (G.meaning g.old).style (G.meaning g.old).dent (key.now, view value.now))
         (G.meaning g.old) (G.meaning g.new) result }
     ensures value { OnOk result (IsPair (key.now, view value.now)) }
 {
@@ -178,7 +185,8 @@ fn begin_item<G: Generator>(g: &mut G, comma: bool, fault: &mut Fault) -> Step<(
 // Closes an indent, and adds a blank and the bracket.
 fn close<G: Generator>(g: &mut G, bracket: u8, fault: &mut Fault) -> Step<()>
     requires { 0 < (G.meaning g.old).dent }
-    ensures { Emits (IsClosing (G.meaning g.old).style ((G.meaning g.old).dent - 1) bracket) (record (G.meaning g.old) { dent = (G.meaning g.old).dent - 1 }) (G.meaning g.new) result }
+    ensures { Emits (IsClosing (G.meaning g.old).style ((G.meaning g.old).dent - 1) bracket)
+        (record (G.meaning g.old) { dent = (G.meaning g.old).dent - 1 }) (G.meaning g.new) result }
 {
     g.dedent();
     step::new_line(g, fault)?;
