@@ -20,14 +20,14 @@ const SLOTS: usize = 256 + STEPS;
 /// Stands in an empty slot, and is no place of few keys.
 const EMPTY: u8 = 255;
 
-/// The places of distinct keys that are few, in a table that begins by their hashes, or none. A look-up goes through a few slots at most.
+/// Slots in which the places of few distinct keys lie, each near the one that its hash names; or no slots. A look-up goes through eight at most.
 #[derive(Drop)]
 pub struct Few {
     slots: Vec<u8>,
 }
 
 impl Few {
-    /// No table. Takes no memory.
+    /// No slots. Takes no memory.
     pub fn new(alloc: Global) -> Few
         ensures { result.slots.items ≡ [] }
     {
@@ -36,7 +36,7 @@ impl Few {
         }
     }
 
-    /// The table of these keys, or none where they are not few or where one finds no slot. The error is a refused growth.
+    /// The slots of these keys, or none where they are not few or where one of them finds no slot. The error is a refused growth.
     pub fn of(alloc: Global, keys: &[Key]) -> Result<Few, AllocError>
         requires { IsDistinct bytes_eq keys.now }
         ensures { IfOk result (λ few. IsSlotted keys.now few.slots.items) }
@@ -53,14 +53,14 @@ impl Few {
         Ok(Few { slots })
     }
 
-    /// Gives up the table.
+    /// Gives up the slots.
     pub fn clear(&mut self)
         ensures { self.new.slots.items ≡ [] }
     {
         self.slots.clear();
     }
 
-    /// The place of the key of this name, where the table has it.
+    /// The place of the key of this name, where it has a slot.
     #[inline(always)]
     pub fn find(&self, keys: &[Key], name: &str) -> Option<usize>
         requires { IsSlotted keys.now self.now.slots.items }
