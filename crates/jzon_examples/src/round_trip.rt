@@ -1,11 +1,15 @@
 //! Round trip: what is printed is read again.
 //!
-//! `IsReadable usual v` says that `parse` can read what is printed of `v`: it holds no NaN and nests at most 512 deep. Each value that `parse` answers is so.
+//! `IsReadable usual v` says that `parse` can read what is printed of `v`: it holds no NaN and nests at most 512 deep. Each value that `parse` answers is so. Of
+//! a value that calls built, no more has to be known than these two: that it is one of which the laws speak is told by the call that prints it.
 
-ghost use Rattle.std.specs.Prelude.{IfOk, IsOkUnless, IsTrue};
+ghost use Rattle.std.specs.Prelude.{◌≡◌, ◌≤◌, IfOk, IsOkUnless, IsTrue, string_bytes};
 ghost use Rattle.jzon.specs.Answer.{IsReadable};
+ghost use Rattle.jzon.specs.Lawful.{HasNoNan};
 ghost use Rattle.jzon.specs.Reading.{usual};
 ghost use Rattle.jzon.specs.Same.{same};
+ghost use Rattle.jzon.specs.Text.{compact};
+ghost use Rattle.jzon.specs.Value.{nest};
 ghost use Rattle.jzon.specs.View.{view};
 
 use jzon::{Error, JsonValue, Result};
@@ -21,6 +25,28 @@ pub fn reread(alloc: Global, value: &JsonValue) -> Result<JsonValue>
     jzon::parse(alloc, text.as_str())
 }
 
+/// Prints any value that was built, with `spaces` blanks for each open container, and reads the text: an equal value, or `OutOfMemory`.
+pub fn reread_lines(alloc: Global, value: &JsonValue, spaces: u16) -> Result<JsonValue>
+    requires nan { HasNoNan (view value.now) }
+    requires depth { nest (view value.now) ≤ 512 }
+    ensures same { IfOk result (λ again. IsTrue (same (view again) (view value.now))) }
+    ensures memory { IsOkUnless result Error.OutOfMemory }
+{
+    let text = value.pretty(alloc, spaces)?;
+    jzon::parse(alloc, text.as_str())
+}
+
+/// Dumps what is read of the dump of any value that was built, NaN or not: the same bytes, or `OutOfMemory`.
+pub fn redump(alloc: Global, value: &JsonValue) -> Result<String>
+    requires depth { nest (view value.now) ≤ 512 }
+    ensures same { IfOk result (λ text. string_bytes text ≡ compact (view value.now)) }
+    ensures memory { IsOkUnless result Error.OutOfMemory }
+{
+    let text = value.dump(alloc)?;
+    let again = jzon::parse(alloc, text.as_str())?;
+    again.dump(alloc)
+}
+
 #[cfg(test)]
 mod tests {
     use super::*;
@@ -31,6 +57,11 @@ mod tests {
         let alloc = rt.alloc();
         let value = jzon::parse(alloc, " {\"b\": [1.50, null], \"a\": \"x\\n\"} ")?;
         assert!(rt; reread(alloc, &value)? == value);
+        assert!(rt; reread_lines(alloc, &value, 65535)? == value);
+        assert_eq!(rt;
+            redump(alloc, &value)?.as_str(),
+            "{\"b\":[1.50,null],\"a\":\"x\\n\"}"
+        );
         Ok(())
     }
 }
