@@ -24,6 +24,7 @@ pub use Rattle.jzon_base.specs.PairList
 pub use Rattle.jzon_base.specs.Written
 pub use Rattle.jzon_base.specs.declared.error.Error
 pub use Rattle.jzon_tree.specs.Changers
+pub use Rattle.jzon_tree.specs.Displayed
 pub use Rattle.jzon_tree.specs.Entries
 pub use Rattle.jzon_tree.specs.Generator
 pub use Rattle.jzon_tree.specs.Generators
@@ -37,6 +38,8 @@ pub use Rattle.jzon_tree.specs.Place
 pub use Rattle.jzon_tree.specs.Readers
 pub use Rattle.jzon_tree.specs.Same
 pub use Rattle.jzon_tree.specs.SameLaws
+pub use Rattle.jzon_tree.specs.SortedStyle
+pub use Rattle.jzon_tree.specs.SortedStyleLaws
 pub use Rattle.jzon_tree.specs.StyleLaws
 pub use Rattle.jzon_tree.specs.Styles
 pub use Rattle.jzon_tree.specs.Text

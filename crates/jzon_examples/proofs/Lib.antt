@@ -1,4 +1,5 @@
 pub mod FilterSteps
+pub mod KeyOrder
 pub mod LayerSteps
 pub mod Merges
 pub mod PointerSteps

@@ -2,6 +2,7 @@
 #![tactic(auto)]
 
 pub mod building;
+pub mod canonical;
 pub mod faults;
 pub mod from_rust;
 pub mod layers;

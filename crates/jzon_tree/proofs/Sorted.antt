@@ -1,12 +1,14 @@
 -- Positions that are sorted stay an order.
-use Rattle.std.proofs.Common.{◌≡◌, ℕ, zero, suc, ◌+◌, List, [], ◌∷◌, ◌++◌, cond, ap, ◌∙◌, sym, add-one, add-zero, zero-add, arith}
+use Rattle.std.proofs.Common.{◌≡◌, ℕ, zero, suc, ◌+◌, ◌<◌, false, IsTrue, List, [], ◌∷◌, ◌++◌, cond, length, get_or, map, refl, ap, ◌∙◌, sym, add-one, add-zero, zero-add, arith}
 use Rattle.std.specs.List.{range_with_len}
 use Rattle.std.specs.Prelude.{◌==◌}
 use Rattle.std.specs.List.Sorted.{IsPermutation}
 use Rattle.std.proofs.lemmas.List.Sorted.{sum_by-IsPermutation, length_permutation}
 use Rattle.jzon_tree.specs.Generator.{insertion}
+use Rattle.jzon_tree.specs.SortedStyle.{is_before, ascend}
 use Rattle.jzon_tree.specs.StyleLaws.{IsOrder-insertion}
-use Rattle.jzon_tree.specs.Writing.{IsOrder}
+use Rattle.jzon_tree.specs.Writing.{IsOrder, text_at}
+use Rattle.jzon_tree.proofs.Orders.{order_within}
 
 pub IsOrder_permuted : (n : ℕ) (ps qs : List ℕ) → ps ≡ insertion n → IsPermutation ps qs → IsOrder n qs
 IsOrder_permuted n ps qs e same =
@@ -20,3 +22,23 @@ range_more a (suc n) =
 
 pub insertion_more : (n : ℕ) → insertion (n + 1) ≡ insertion n ++ n ∷ []
 insertion_more n = rw (add-one n) (range_more 0 n ∙ ap (λ (x : ℕ). insertion n ++ x ∷ []) (zero-add n))
+
+-- keys ascend at positions where none stands before the one that it follows
+ascend_from : (keys : List (List ℕ)) (ps : List ℕ)
+    → ((k : ℕ) → suc k < length ps → is_before (text_at keys (get_or ps (suc k) 0)) (text_at keys (get_or ps k 0)) ≡ false)
+    → IsTrue (ascend (map (text_at keys) ps))
+ascend_from keys [] h = refl
+ascend_from keys (p ∷ []) h = refl
+ascend_from keys (p ∷ q ∷ ps) h =
+    let first : is_before (text_at keys q) (text_at keys p) ≡ false = h 0 (omega arith) in
+    rw first (ascend_from keys (q ∷ ps) (λ k l. h (suc k) (omega arith)))
+
+-- the same of positions that are an order, which are all within range
+pub ascend_in_order : (keys : List (List ℕ)) (ps : List ℕ) → IsOrder (length keys) ps
+    → ((p q : ℕ) (k : ℕ) → k + 1 < length ps → get_or ps k 0 ≡ p → get_or ps (k + 1) 0 ≡ q → p < length keys → q < length keys
+    → is_before (text_at keys q) (text_at keys p) ≡ false)
+    → IsTrue (ascend (map (text_at keys) ps))
+ascend_in_order keys ps order h =
+    let within = order_within (length keys) ps order in
+    ascend_from keys ps
+    (λ k l. h (get_or ps k 0) (get_or ps (suc k) 0) k (omega arith) refl (ap (λ (j : ℕ). get_or ps j 0) (add-one k)) (within k (omega arith)) (within (suc k) l))

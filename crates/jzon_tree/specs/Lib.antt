@@ -7,6 +7,8 @@ pub mod Writing
 pub mod Generator
 pub mod Styles
 pub mod StyleLaws
+pub mod SortedStyle
+pub mod SortedStyleLaws
 pub mod Printing
 pub mod Generators
 pub mod Lawful
