@@ -1,0 +1,89 @@
+//! A generator of a user's own, whose blanks are vertical tabs.
+
+ghost use Rattle.std.specs.Prelude.{◌∷◌, [], false, Some, None, refl};
+ghost use Rattle.jzon.specs.StyleLaws.{IsStyle-only};
+ghost use Rattle.jzon.specs.Styles.{only};
+
+use jzon::codegen::{Generator, write_json};
+use jzon::object::Object;
+use jzon::parse;
+use std::alloc::Global;
+use std::io;
+use std::test::Fail;
+
+// Writes a vertical tab before each item and each closing bracket, in a style that allows this blank alone.
+#[derive(Drop)]
+struct TabGenerator {
+    code: Vec<u8>,
+    dent: u64,
+    faults: u64,
+}
+
+impl Generator for TabGenerator {
+    type T = Vec<u8>;
+
+    ghost meaning = { λ g. record { out = Some g.code.items; dent = g.dent; faults = g.faults; style = only (λ dent. 11 ∷ []) false; lender = None } };
+
+    ghost with_writer = { λ g code. record g { code = code } };
+
+    fn get_writer(&mut self) -> &mut Vec<u8> {
+        &mut self.code
+    }
+
+    fn write_min(&mut self, _slice: &[u8], min: u8) -> io::Result<()> {
+        self.write_char(min)
+    }
+
+    fn faults(&self) -> u64 {
+        self.faults
+    }
+
+    fn dent(&self) -> u64 {
+        self.dent
+    }
+
+    fn note_fault(&mut self) {
+        self.faults = self.faults.saturating_add(1);
+    }
+
+    fn set_dent(&mut self, dent: u64) {
+        self.dent = dent;
+    }
+
+    fn new_line(&mut self) -> io::Result<()> {
+        self.write_char(11)
+    }
+
+    fn order(&mut self, _object: &Object) -> io::Result<Option<Vec<usize>>> {
+        Ok(None)
+    }
+
+    ghost writer_law = { λ _ _. refl };
+
+    ghost style_law = { λ _. IsStyle-only (λ dent. 11 ∷ []) false (λ dent. refl) };
+}
+
+// What the generator writes for the value of a text, and whether it is read as that value.
+fn goes_round(alloc: Global, source: &str) -> Result<(Vec<u8>, bool), Fail> {
+    let value = parse(alloc, source)?;
+    let mut generator = TabGenerator {
+        code: Vec::new(alloc),
+        dent: 0,
+        faults: 0,
+    };
+    write_json(&mut generator, &value)?;
+    let text = String::from_utf8(generator.code)?;
+    let is_equal = parse(alloc, text.as_str())? == value;
+    Ok((text.into_bytes(), is_equal))
+}
+
+#[test]
+fn reads_vertical_tabs(rt: HostRuntime) -> Result<(), Fail> {
+    let (bytes, is_equal) = goes_round(rt.alloc(), "[1,2]")?;
+    assert_eq!(rt;
+        bytes.as_slice(),
+        [0x5b, 0x0b, 0x31, 0x2c, 0x0b, 0x32, 0x0b, 0x5d].as_slice()
+    );
+    assert!(rt; is_equal);
+    Ok(())
+}
