@@ -1,6 +1,6 @@
 //! A text and the offset up to which it is read.
 
-ghost use Rattle.std.specs.Prelude.{◌≡◌, ◌≢◌, ◌<◌, ◌≤◌, ◌+◌, ◌++◌, ◌∷◌, [], List, ℕ, length, chars, drop, true, false, slice_index, Err, IfOk, OnOk, if◌then◌else◌};
+ghost use Rattle.std.specs.Prelude.{◌≡◌, ◌≢◌, ◌⊎◌, ◌↔◌, IsTrue, ◌<◌, ◌≤◌, ◌+◌, ◌++◌, ◌∷◌, [], List, ℕ, length, chars, drop, true, false, slice_index, Err, IfOk, OnOk, if◌then◌else◌};
 ghost use Rattle.std.specs.Str.{IsCharBoundary, IsUtf8};
 ghost use Rattle.jzon_base.specs.PairList.{put};
 ghost use Rattle.jzon_tree.specs.Value.{Value, array, no_values, values_of, object, no_pairs, pairs_of};
@@ -47,6 +47,15 @@ impl<'a> Cursor<'a> {
             Some(byte) => *byte,
             None => 0,
         }
+    }
+
+    /// Whether an array or an object opens here.
+    #[inline(always)]
+    pub(crate) fn opens_container(&self) -> bool
+        ensures { IsTrue result ↔ ((next_byte self.now ≡ begin_array) ⊎ (next_byte self.now ≡ begin_object)) }
+    {
+        let next = self.peek();
+        next == b'[' || next == b'{'
     }
 
     /// Goes past the token that ends at this offset, and the whitespace behind it.

@@ -106,12 +106,9 @@ impl<'a> Parser<'a> {
                 Ok(Begun::Object)
             }
             _ => {
-                let (value, end) = read_scalar(
-                    self.alloc,
-                    self.cursor.source,
-                    self.cursor.index,
-                    &mut self.buffer,
-                )?;
+                let source = self.cursor.source;
+                let start = self.cursor.index;
+                let (value, end) = read_scalar(self.alloc, source, start, &mut self.buffer)?;
                 self.cursor.go_to(end);
                 Ok(Begun::Value(value))
             }
@@ -188,13 +185,22 @@ impl<'a> Parser<'a> {
     {
         let mut elements = elements;
         loop {
-            let depth = self.stack.len() + 1;
-            match self.begin(depth)? {
-                Begun::Value(value) => elements.push(value)?,
-                begun => {
-                    self.stack.push(Frame::Array(elements))?;
-                    return Ok(begun);
+            if self.cursor.opens_container() {
+                let depth = self.stack.len() + 1;
+                match self.begin(depth)? {
+                    Begun::Value(value) => elements.push(value)?,
+                    begun => {
+                        self.stack.push(Frame::Array(elements))?;
+                        return Ok(begun);
+                    }
                 }
+            } else {
+                // Not by `begin`: a value that is handed on from call to call is moved each time.
+                let source = self.cursor.source;
+                let start = self.cursor.index;
+                let (value, end) = read_scalar(self.alloc, source, start, &mut self.buffer)?;
+                self.cursor.go_to(end);
+                elements.push(value)?;
             }
             if self.cursor.array_ends()? {
                 return Ok(Begun::Value(JsonValue::Array(elements)));

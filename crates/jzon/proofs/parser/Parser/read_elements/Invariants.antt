@@ -7,8 +7,8 @@ use Rattle.jzon.specs.Tokens.{end_array}
 use Rattle.jzon.proofs.Cursors.{Reached}
 use Rattle.jzon.proofs.parser.Parser.read_elements.Given as goal
 
-abbrev pub invariant-loop-elements : goal.invariant-loop-elements
-invariant-loop-elements l = record {
+abbrev pub invariant-loop-self : goal.invariant-loop-self
+invariant-loop-self l = record {
   stack : l.self.stack ≡ l.initial.self.stack;
   element : map view l.elements.items ≡ [] → next_byte l.self.cursor ≢ end_array;
   came :
@@ -16,5 +16,5 @@ invariant-loop-elements l = record {
       (before (array_frame (stack_view l.initial.self.stack.items) (map view l.elements.items)));
 }
 
-abbrev pub decreases-loop-elements : goal.decreases-loop-elements
-decreases-loop-elements l = length l.self.cursor.source.now - l.self.cursor.index
+abbrev pub decreases-loop-self : goal.decreases-loop-self
+decreases-loop-self l = length l.self.cursor.source.now - l.self.cursor.index
