@@ -13,6 +13,7 @@ ghost use Rattle.jzon_tree.specs.Value.{number};
 ghost use Rattle.jzon.specs.Reading.{Reading};
 ghost use Rattle.jzon.specs.Grammar.{is_exponent_letter};
 ghost use Rattle.jzon.specs.Classes.{lettered};
+ghost use Rattle.jzon.specs.Tokens.{zero_digit};
 ghost use Rattle.jzon.specs.Machine.{Frames, numeral, numeral_begun, behind, from, stopped, Tells, Leads};
 
 use crate::place::{fault_at, has_byte};
@@ -148,7 +149,8 @@ fn magnitude_at(source: &str, start: usize) -> Spelling<'_>
 #[inline(always)]
 fn whole_at(source: &str, start: usize) -> (&[u8], u64)
     requires { start < length source.now }
-    ensures digits { result.0.now ≡ (if slice_index source.now start == 48 then 48 ∷ [] else take_while is_ascii_digit (drop start source.now)) }
+    ensures digits { result.0.now ≡ (if slice_index source.now start == zero_digit then zero_digit ∷ []
+        else take_while is_ascii_digit (drop start source.now)) }
     ensures number { result.1 ≡ digits_number result.0.now % 2 ^ 64 }
 {
     if has_byte(source, start, b'0') {

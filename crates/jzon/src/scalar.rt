@@ -9,6 +9,7 @@ ghost use Rattle.jzon_tree.specs.Writing.{is_space};
 ghost use Rattle.jzon.specs.Classes.{signed};
 ghost use Rattle.jzon.specs.Machine.{numeral, numeral_begun, string, as_value, between, Frames, is_fresh, before, behind, past_letter, value_mark, from, Tells, Leads, LeadsUnlessMemory};
 ghost use Rattle.jzon.specs.Reading.{Reading};
+ghost use Rattle.jzon.specs.Tokens.{begin_array, begin_object, end_array, quotation_mark};
 
 use crate::numeral::read_number;
 use crate::place::{fault_at, has_byte, has_digit};
@@ -26,13 +27,13 @@ pub(crate) fn read_scalar(
     buffer: &mut String,
 ) -> Result<(JsonValue, usize)>
     requires boundary { IsCharBoundary source.now start }
-    requires no_array { slice_index source.now start ≢ 91 }
-    requires no_object { slice_index source.now start ≢ 123 }
+    requires no_array { slice_index source.now start ≢ begin_array }
+    requires no_object { slice_index source.now start ≢ begin_object }
     ensures bounds { IfOk result (λ r. (start < r.1) × IsCharBoundary source.now r.1) }
-    ensures memory { result ≡ Err Error.OutOfMemory → slice_index source.now start ≡ 34 }
+    ensures memory { result ≡ Err Error.OutOfMemory → slice_index source.now start ≡ quotation_mark }
     ensures same { (r : Reading) (fs : Frames) → value_mark r fs ≡ None
         → (start < length source.now → is_space r.strict (slice_index source.now start) ≡ false)
-        → (is_fresh fs ≡ true → slice_index source.now start ≢ 93) →
+        → (is_fresh fs ≡ true → slice_index source.now start ≢ end_array) →
         LeadsUnlessMemory r source.now (before fs) start result (λ v. behind fs (view v)) }
 {
     if start == source.len() {
