@@ -10,7 +10,8 @@ use Rattle.jzon.proofs.NumeralsBackward.{backward_numeral}
 use Rattle.jzon.proofs.StringsBackward.{backward_string}
 use Rattle.jzon.proofs.Containers.{backward_before, backward_before_key, backward_after_key, backward_word}
 
-pub backward : (r : Reading) (s : State) (c : ℕ) (m : Option Breach) (q : List Cell) (d : Document) → Steps r (step r s c) m q d → Comp r s (cell c m ∷ q) d
+pub backward : (r : Reading) (s : State) (c : ℕ) (m : Option Breach) (q : List Cell) (d : Document)
+    → Steps r (step r s c) m q d → Comp r s (cell c m ∷ q) d
 backward r (before k b) c m q d h = backward_before r (class_of r.strict c) k b c m q d refl h
 backward r (before_key k a o b) c m q d h = backward_before_key r (class_of r.strict c) k a o b c m q d refl h
 backward r (word k b n l ls) c m q d h = backward_word r k b n l ls c m q d h

@@ -1,5 +1,6 @@
 -- What begins a value, by the byte that stands before it, whatever containers are open.
-use Rattle.std.proofs.Common.{◌≡◌, ◌≢◌, ℕ, ◌+◌, ◌<◌, ◌≤◌, Bool, true, false, List, [], ◌∷◌, length, get_or, refl, ap, ◌∙◌, arith, None, lit<}
+use Rattle.std.proofs.Common.{◌≡◌, ◌≢◌, ℕ, ◌+◌, ◌<◌, ◌≤◌, Bool, true, false, List, [], ◌∷◌, length, get_or, refl, ap}
+use Rattle.std.proofs.Common.{◌∙◌, arith, None, lit<}
 use Rattle.std.specs.Prelude.{IsUtf8, IsTrue, ◌==◌}
 use Rattle.std.specs.Char.{is_ascii_digit}
 use Rattle.std.specs.Str.{IsCharBoundary}
@@ -7,9 +8,14 @@ use Rattle.std.proofs.lemmas.Bool.Decides.{nat_tests}
 use Rattle.jzon_tree.specs.Value as value
 use Rattle.jzon_tree.specs.Writing.{is_space}
 use Rattle.jzon.specs.Reading.{Reading}
-use Rattle.jzon.specs.Classes.{Class, white, digits, dash, quote, opens_array, closes_array, opens_object, begins_null, begins_true, begins_false, class_of, signed, begun}
-use Rattle.jzon.specs.Machine.{Frames, no_frames, array_frame, object_frame, is_fresh, as_value, between, string, numeral, past_letter, before, go, bad, bad_at, value_mark, move_before, move_empty_array, from}
-use Rattle.jzon.proofs.Classes.{class-white, class-digits, class-dash, class-quote, class-opens_array, class-closes_array, class-opens_object, class-begins_null, class-begins_true, class-begins_false, class_34, class_45, class_102, class_110, class_116, digits-class}
+use Rattle.jzon.specs.Classes.{Class, white, digits, dash, quote, opens_array, closes_array, opens_object, begins_null}
+use Rattle.jzon.specs.Classes.{begins_true, begins_false, class_of, signed, begun}
+use Rattle.jzon.specs.Machine.{Frames, no_frames, array_frame, object_frame, is_fresh, as_value, between, string}
+use Rattle.jzon.specs.Machine.{numeral, past_letter, before, go, bad, bad_at, value_mark, move_before, move_empty_array}
+use Rattle.jzon.specs.Machine.{from}
+use Rattle.jzon.proofs.Classes.{class-white, class-digits, class-dash, class-quote, class-opens_array}
+use Rattle.jzon.proofs.Classes.{class-closes_array, class-opens_object, class-begins_null, class-begins_true}
+use Rattle.jzon.proofs.Classes.{class-begins_false, class_34, class_45, class_102, class_110, class_116, digits-class}
 use Rattle.jzon.proofs.Scanning.{wide_is_no_space}
 use Rattle.jzon.proofs.Steps.{StopsAt, from_step, stops_by, digit_is_ascii}
 
@@ -32,10 +38,13 @@ full_array_on (array_frame fs []) h = absurd (h refl)
 full_array_on (array_frame fs (v ∷ vs)) h = refl
 full_array_on (object_frame fs es k) h = refl
 
-begins_nothing_on : (r : Reading) (fs : Frames) (c : ℕ) (k : Class) → value_mark r fs ≡ None → BeginsNothing r.strict fs c → class_of r.strict c ≡ k
+begins_nothing_on : (r : Reading) (fs : Frames) (c : ℕ) (k : Class) → value_mark r fs ≡ None
+    → BeginsNothing r.strict fs c → class_of r.strict c ≡ k
     → move_before r k fs c ≡ bad
-begins_nothing_on r fs c white m h e = let y : is_space r.strict c ≡ true = class-white r c e in let n = h.no_space in absurd (cc)
-begins_nothing_on r fs c digits m h e = let y : is_ascii_digit c ≡ true = class-digits r.strict c e in let n = h.no_digit in absurd (cc)
+begins_nothing_on r fs c white m h e = let y : is_space r.strict c
+    ≡ true = class-white r c e in let n = h.no_space in absurd (cc)
+begins_nothing_on r fs c digits m h e = let y : is_ascii_digit c
+    ≡ true = class-digits r.strict c e in let n = h.no_digit in absurd (cc)
 begins_nothing_on r fs c dash m h e = absurd (h.no_minus (class-dash r.strict c e))
 begins_nothing_on r fs c quote m h e = absurd (h.no_quote (class-quote r.strict c e))
 begins_nothing_on r fs c opens_array m h e = absurd (h.no_array (class-opens_array r.strict c e))
@@ -61,7 +70,8 @@ wide_begins_nothing strict fs c le = record {
   no_end = λ f e. absurd (omega (arith, e));
 }
 
-pub stops_before : (r : Reading) (bs : List ℕ) (i : ℕ) (fs : Frames) → value_mark r fs ≡ None → (i < length bs → BeginsNothing r.strict fs (get_or bs i 0))
+pub stops_before : (r : Reading) (bs : List ℕ) (i : ℕ) (fs : Frames) → value_mark r fs ≡ None
+    → (i < length bs → BeginsNothing r.strict fs (get_or bs i 0))
     → StopsAt r (before fs) bs i
 stops_before r bs i fs m h =
     stops_by r (before fs) bs i refl
@@ -70,38 +80,51 @@ stops_before r bs i fs m h =
 
 -- ---- the first byte of a value
 
-pub begin_null : (r : Reading) (bs : List ℕ) (i : ℕ) (fs : Frames) → IsUtf8 bs → IsCharBoundary bs i → i < length bs → get_or bs i 0 ≡ 110
-    → value_mark r fs ≡ None → from r bs (before fs) i ≡ from r bs (past_letter fs value.null (117 ∷ 108 ∷ 108 ∷ [])) (i + 1)
+pub begin_null : (r : Reading) (bs : List ℕ) (i : ℕ) (fs : Frames) → IsUtf8 bs → IsCharBoundary bs i → i < length bs
+    → get_or bs i 0 ≡ 110
+    → value_mark r fs ≡ None → from r bs (before fs) i ≡ from r bs (past_letter fs value.null (117 ∷ 108 ∷ 108 ∷ []))
+    (i + 1)
 begin_null r bs i fs u at lt e m =
     from_step r bs i (before fs) _ 110 u at lt e (lit< tt)
-    (ap (λ k. move_before r k fs 110) (class_110 r.strict) ∙ ap (λ b. go b (past_letter fs value.null (117 ∷ 108 ∷ 108 ∷ []))) m)
+    (ap (λ k. move_before r k fs 110) (class_110 r.strict) ∙ ap
+    (λ b. go b (past_letter fs value.null (117 ∷ 108 ∷ 108 ∷ []))) m)
 
-pub begin_true : (r : Reading) (bs : List ℕ) (i : ℕ) (fs : Frames) → IsUtf8 bs → IsCharBoundary bs i → i < length bs → get_or bs i 0 ≡ 116
-    → value_mark r fs ≡ None → from r bs (before fs) i ≡ from r bs (past_letter fs (value.boolean true) (114 ∷ 117 ∷ 101 ∷ [])) (i + 1)
+pub begin_true : (r : Reading) (bs : List ℕ) (i : ℕ) (fs : Frames) → IsUtf8 bs → IsCharBoundary bs i → i < length bs
+    → get_or bs i 0 ≡ 116
+    → value_mark r fs ≡ None → from r bs (before fs) i ≡ from r bs
+    (past_letter fs (value.boolean true) (114 ∷ 117 ∷ 101 ∷ [])) (i + 1)
 begin_true r bs i fs u at lt e m =
     from_step r bs i (before fs) _ 116 u at lt e (lit< tt)
-    (ap (λ k. move_before r k fs 116) (class_116 r.strict) ∙ ap (λ b. go b (past_letter fs (value.boolean true) (114 ∷ 117 ∷ 101 ∷ []))) m)
+    (ap (λ k. move_before r k fs 116) (class_116 r.strict) ∙ ap
+    (λ b. go b (past_letter fs (value.boolean true) (114 ∷ 117 ∷ 101 ∷ []))) m)
 
-pub begin_false : (r : Reading) (bs : List ℕ) (i : ℕ) (fs : Frames) → IsUtf8 bs → IsCharBoundary bs i → i < length bs → get_or bs i 0 ≡ 102
-    → value_mark r fs ≡ None → from r bs (before fs) i ≡ from r bs (past_letter fs (value.boolean false) (97 ∷ 108 ∷ 115 ∷ 101 ∷ [])) (i + 1)
+pub begin_false : (r : Reading) (bs : List ℕ) (i : ℕ) (fs : Frames) → IsUtf8 bs → IsCharBoundary bs i → i < length bs
+    → get_or bs i 0 ≡ 102
+    → value_mark r fs ≡ None → from r bs (before fs) i ≡ from r bs
+    (past_letter fs (value.boolean false) (97 ∷ 108 ∷ 115 ∷ 101 ∷ [])) (i + 1)
 begin_false r bs i fs u at lt e m =
     from_step r bs i (before fs) _ 102 u at lt e (lit< tt)
-    (ap (λ k. move_before r k fs 102) (class_102 r.strict) ∙ ap (λ b. go b (past_letter fs (value.boolean false) (97 ∷ 108 ∷ 115 ∷ 101 ∷ []))) m)
+    (ap (λ k. move_before r k fs 102) (class_102 r.strict) ∙ ap
+    (λ b. go b (past_letter fs (value.boolean false) (97 ∷ 108 ∷ 115 ∷ 101 ∷ []))) m)
 
-pub begin_minus : (r : Reading) (bs : List ℕ) (i : ℕ) (fs : Frames) → IsUtf8 bs → IsCharBoundary bs i → i < length bs → get_or bs i 0 ≡ 45
+pub begin_minus : (r : Reading) (bs : List ℕ) (i : ℕ) (fs : Frames) → IsUtf8 bs → IsCharBoundary bs i → i < length bs
+    → get_or bs i 0 ≡ 45
     → value_mark r fs ≡ None → from r bs (before fs) i ≡ from r bs (numeral fs true signed) (i + 1)
 begin_minus r bs i fs u at lt e m =
     from_step r bs i (before fs) _ 45 u at lt e (lit< tt)
     (ap (λ k. move_before r k fs 45) (class_45 r.strict) ∙ ap (λ b. go b (numeral fs true signed)) m)
 
-pub begin_digit : (r : Reading) (bs : List ℕ) (i : ℕ) (fs : Frames) → IsUtf8 bs → IsCharBoundary bs i → i < length bs → IsTrue (is_ascii_digit (get_or bs i 0))
-    → value_mark r fs ≡ None → from r bs (before fs) i ≡ from r bs (numeral fs false (begun (get_or bs i 0 == 48) (get_or bs i 0))) (i + 1)
+pub begin_digit : (r : Reading) (bs : List ℕ) (i : ℕ) (fs : Frames) → IsUtf8 bs → IsCharBoundary bs i → i < length bs
+    → IsTrue (is_ascii_digit (get_or bs i 0))
+    → value_mark r fs ≡ None → from r bs (before fs) i ≡ from r bs
+    (numeral fs false (begun (get_or bs i 0 == 48) (get_or bs i 0))) (i + 1)
 begin_digit r bs i fs u at lt d m =
     from_step r bs i (before fs) _ (get_or bs i 0) u at lt refl (digit_is_ascii (get_or bs i 0) d)
     (ap (λ k. move_before r k fs (get_or bs i 0)) (digits-class r.strict (get_or bs i 0) d)
     ∙ ap (λ b. go b (numeral fs false (begun (get_or bs i 0 == 48) (get_or bs i 0)))) m)
 
-pub begin_string : (r : Reading) (bs : List ℕ) (i : ℕ) (fs : Frames) → IsUtf8 bs → IsCharBoundary bs i → i < length bs → get_or bs i 0 ≡ 34
+pub begin_string : (r : Reading) (bs : List ℕ) (i : ℕ) (fs : Frames) → IsUtf8 bs → IsCharBoundary bs i → i < length bs
+    → get_or bs i 0 ≡ 34
     → value_mark r fs ≡ None → from r bs (before fs) i ≡ from r bs (string (as_value fs) [] between) (i + 1)
 begin_string r bs i fs u at lt e m =
     from_step r bs i (before fs) _ 34 u at lt e (lit< tt)

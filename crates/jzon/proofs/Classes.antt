@@ -1,13 +1,16 @@
 -- The characters of each class, and equal cells.
 use Rattle.std.proofs.lemmas.Bool.Decides.{nat_tests}
-use Rattle.std.proofs.Common.{◌≡◌, ℕ, List, [], ◌∷◌, Bool, true, false, cond, ◌==◌, Option, None, arith, eqb-true, refl, sym, subst, ap}
+use Rattle.std.proofs.Common.{◌≡◌, ℕ, List, [], ◌∷◌, Bool, true, false, cond, ◌==◌, Option, None, arith, eqb-true, refl}
+use Rattle.std.proofs.Common.{sym, subst, ap}
 use Rattle.std.specs.Prelude.{IsTrue, ⊤}
 use Rattle.std.specs.Char.{is_ascii_digit}
 use Rattle.jzon_tree.specs.Writing.{is_space}
 use Rattle.jzon.specs.Reading.{Reading}
 use Rattle.jzon.specs.Grammar.{is_exponent_letter}
 use Rattle.jzon.specs.Spelling.{Breach, Cell, cell}
-use Rattle.jzon.specs.Classes.{Class, white, digits, dash, cross, point, letter_e, quote, opens_array, closes_array, opens_object, closes_object, comma, colon, begins_null, begins_true, begins_false, other, class_of}
+use Rattle.jzon.specs.Classes.{Class, white, digits, dash, cross, point, letter_e, quote, opens_array, closes_array}
+use Rattle.jzon.specs.Classes.{opens_object, closes_object, comma, colon, begins_null, begins_true, begins_false, other}
+use Rattle.jzon.specs.Classes.{class_of}
 
 -- ---- from a character to its class
 
@@ -215,7 +218,8 @@ pub at_cell : (P : ℕ → Option Breach → List Cell → Type 0) (c x : ℕ) (
     → cell c m ∷ q ≡ cell x v ∷ p → P x v p → P c m q
 unfolding first_of_cells rest_of_cells
 at_cell P c x m v q p e h =
-    let Q : List Cell → Type 0 = λ l. P (first_of_cells l (cell c m)).char (first_of_cells l (cell c m)).mark (rest_of_cells l) in
+    let Q : List Cell → Type 0 = λ l. P (first_of_cells l (cell c m)).char (first_of_cells l (cell c m)).mark
+    (rest_of_cells l) in
     subst Q (sym e) h
 
 pub no_cells : (x : Cell) (q : List Cell) → x ∷ q ≡ [] → ⊥

@@ -2,10 +2,19 @@
 use Rattle.std.proofs.Common.{◌≡◌, ◌⊎◌, ℕ, suc, List, [], ◌∷◌, Bool, true, false, not, Option, None}
 use Rattle.std.specs.Prelude.{IsTrue}
 use Rattle.jzon.specs.Reading.{Reading}
-use Rattle.jzon.specs.Grammar.{Sign, Exponent, Item, simple, single, double, Node, Elements, Members, Document, IsBlank, AreDigits, IsDigits, IsWhole, IsExponent, AreHex, AreItems, is_simple, is_surrogate, code_unit, IsNode, AreElements, AreMembers}
-use Rattle.jzon.specs.Spelling.{Breach, pair, Cell, cell, plain, marked_last, breach_if, onto, digits_cells, drops_too_many, keeps_too_many, whole_cells, fraction_cells, sign_cells, exponent_cells, items_cells, duplicate_if, node_cells, elements_cells, members_cells}
+use Rattle.jzon.specs.Grammar.{Sign, Exponent, Item, simple, single, double, Node, Elements, Members, Document, IsBlank}
+use Rattle.jzon.specs.Grammar.{AreDigits, IsDigits, IsWhole, IsExponent, AreHex, AreItems, is_simple, is_surrogate}
+use Rattle.jzon.specs.Grammar.{code_unit, IsNode, AreElements, AreMembers}
+use Rattle.jzon.specs.Spelling.{Breach, pair, Cell, cell, plain, marked_last, breach_if, onto, digits_cells}
+use Rattle.jzon.specs.Spelling.{drops_too_many, keeps_too_many, whole_cells, fraction_cells, sign_cells, exponent_cells}
+use Rattle.jzon.specs.Spelling.{items_cells, duplicate_if, node_cells, elements_cells, members_cells}
 use Rattle.jzon.specs.Meaning.{is_pair, bytes_of}
-use Rattle.jzon.proofs.TreeMachine.{nothing_done, done, Named, nothing_named, named, Context, top, in_array, in_object, Role, as_value, as_key, NumberPlace, signed, zero_read, whole, pointed, fraction, lettered, signed_exponent, exponent, StringPlace, between, slash, code, second, second_slash, second_code, State, before, before_key, word, numeral, string, after_key, behind, Step, go, bad, bad_deep, close_array, close_object, seen_of, depth_of, value_mark, key_mark, key_of, numeral_of, exponent_of, items_onto}
+use Rattle.jzon.proofs.TreeMachine.{nothing_done, done, Named, nothing_named, named, Context, top, in_array, in_object}
+use Rattle.jzon.proofs.TreeMachine.{Role, as_value, as_key, NumberPlace, signed, zero_read, whole, pointed, fraction}
+use Rattle.jzon.proofs.TreeMachine.{lettered, signed_exponent, exponent, StringPlace, between, slash, code, second}
+use Rattle.jzon.proofs.TreeMachine.{second_slash, second_code, State, before, before_key, word, numeral, string}
+use Rattle.jzon.proofs.TreeMachine.{after_key, behind, Step, go, bad, bad_deep, close_array, close_object, seen_of}
+use Rattle.jzon.proofs.TreeMachine.{depth_of, value_mark, key_mark, key_of, numeral_of, exponent_of, items_onto}
 
 -- The value is whole, with the blanks round it: what comes after it.
 abbrev pub Outer : Reading → Context → List ℕ → Node → List ℕ → List Cell → Document → Type 0
@@ -15,7 +24,8 @@ Outer r (in_array k a o) b n z q d =
     × (q ≡ elements_cells r es (suc (depth_of k)) (plain w p)) × Outer r k a (close_array o b n z es) w p d
 Outer r (in_object k a o key) b n z q d =
     (ms : Members) × (w : List ℕ) × (p : List Cell) × AreMembers r ms × IsBlank r w
-    × (q ≡ members_cells r ms (bytes_of key.items ∷ seen_of o) (suc (depth_of k)) (plain w p)) × Outer r k a (close_object o key b n z ms) w p d
+    × (q ≡ members_cells r ms (bytes_of key.items ∷ seen_of o) (suc (depth_of k)) (plain w p))
+    × Outer r k a (close_object o key b n z ms) w p d
 
 -- The value is whole; a blank may follow it, of which z is read.
 abbrev pub Behind : Reading → Context → List ℕ → Node → List ℕ → List Cell → Document → Type 0
@@ -25,7 +35,8 @@ Behind r k b n z q d = (w : List ℕ) × (p : List Cell) × IsBlank r w × (q �
 abbrev pub ClosesArray : Reading → Context → List ℕ → List Cell → Document → Type 0
 ClosesArray r top b q d = ⊥
 ClosesArray r (in_array k a nothing_done) b q d =
-    (w : List ℕ) × (p : List Cell) × IsBlank r w × (q ≡ plain w (cell 93 None ∷ p)) × Behind r k a (Node.empty_array (onto b w)) [] p d
+    (w : List ℕ) × (p : List Cell) × IsBlank r w × (q ≡ plain w (cell 93 None ∷ p))
+    × Behind r k a (Node.empty_array (onto b w)) [] p d
 ClosesArray r (in_array k a (done o x n y)) b q d = ⊥
 ClosesArray r (in_object k a o key) b q d = ⊥
 
@@ -40,7 +51,8 @@ Begins r k b q d =
 -- behind a key's closing quote: the rest of the blank, the colon and the value
 abbrev pub AfterKey : Reading → Context → List ℕ → Named → List ℕ → List Item → List ℕ → List Cell → Document → Type 0
 AfterKey r k a o b is z q d =
-    (w : List ℕ) × (p : List Cell) × IsBlank r w × (q ≡ plain w (cell 58 None ∷ p)) × Begins r (in_object k a o (key_of b is (onto z w))) [] p d
+    (w : List ℕ) × (p : List Cell) × IsBlank r w × (q ≡ plain w (cell 58 None ∷ p))
+    × Begins r (in_object k a o (key_of b is (onto z w))) [] p d
 
 abbrev pub BeginsKey : Reading → Context → List ℕ → Named → List ℕ → List Cell → Document → Type 0
 BeginsKey r k a o b q d =
@@ -50,7 +62,8 @@ BeginsKey r k a o b q d =
 
 abbrev pub ClosesObject : Reading → Context → List ℕ → Named → List ℕ → List Cell → Document → Type 0
 ClosesObject r k a nothing_named b q d =
-    (w : List ℕ) × (p : List Cell) × IsBlank r w × (q ≡ plain w (cell 125 None ∷ p)) × Behind r k a (Node.empty_object (onto b w)) [] p d
+    (w : List ℕ) × (p : List Cell) × IsBlank r w × (q ≡ plain w (cell 125 None ∷ p))
+    × Behind r k a (Node.empty_object (onto b w)) [] p d
 ClosesObject r k a (named o key x n y) b q d = ⊥
 
 -- ---- strings
@@ -67,13 +80,15 @@ closing_mark r (as_key k a o b) is = duplicate_if r (seen_of o) is
 -- the string goes on between two items
 abbrev pub Items : Reading → Role → List Item → List Cell → Document → Type 0
 Items r role is q d =
-    (js : List Item) × (p : List Cell) × AreItems js × (q ≡ items_cells js (cell 34 (closing_mark r role (items_onto is js)) ∷ p))
+    (js : List Item) × (p : List Cell) × AreItems js × (q ≡ items_cells js
+    (cell 34 (closing_mark r role (items_onto is js)) ∷ p))
     × AfterString r role (items_onto is js) p d
 
 -- in the digits of a second escape
 abbrev pub SecondCode : Reading → Role → List Item → List ℕ → ℕ → List ℕ → List Cell → Document → Type 0
 SecondCode r role is u n ds q d =
-    (es : List ℕ) × (p : List Cell) × AreHex n es × (q ≡ marked_last es (breach_if (not (is_pair u (onto ds es))) pair) p)
+    (es : List ℕ) × (p : List Cell) × AreHex n es × (q ≡ marked_last es (breach_if (not (is_pair u (onto ds es))) pair)
+    p)
     × Items r role (double u (onto ds es) ∷ is) p d
 
 abbrev pub SecondSlash : Reading → Role → List Item → List ℕ → List Cell → Document → Type 0
@@ -89,7 +104,8 @@ Coded r role is u q d =
     ⊎ (IsTrue (is_surrogate (code_unit u)) × Second r role is u q d)
 
 abbrev pub Code : Reading → Role → List Item → ℕ → List ℕ → List Cell → Document → Type 0
-Code r role is n ds q d = (es : List ℕ) × (p : List Cell) × AreHex n es × (q ≡ plain es p) × Coded r role is (onto ds es) p d
+Code r role is n ds q d = (es : List ℕ) × (p : List Cell) × AreHex n es × (q ≡ plain es p)
+    × Coded r role is (onto ds es) p d
 
 abbrev pub Slash : Reading → Role → List Item → List Cell → Document → Type 0
 Slash r role is q d =
@@ -109,30 +125,37 @@ InString r (second_code u n ds) role is q d = SecondCode r role is u (suc n) ds 
 -- behind the fraction
 abbrev pub AfterFraction : Reading → Context → List ℕ → Bool → List ℕ → List ℕ → List Cell → Document → Type 0
 AfterFraction r k b negative ws fs q d =
-    (e : Option Exponent) × (p : List Cell) × IsExponent e × (q ≡ exponent_cells e p) × Behind r k b (numeral_of negative ws fs e) [] p d
+    (e : Option Exponent) × (p : List Cell) × IsExponent e × (q ≡ exponent_cells e p)
+    × Behind r k b (numeral_of negative ws fs e) [] p d
 
 -- behind the whole digits
 abbrev pub AfterWhole : Reading → Context → List ℕ → Bool → List ℕ → List Cell → Document → Type 0
 AfterWhole r k b negative ws q d =
-    (fs : List ℕ) × (p : List Cell) × AreDigits fs × (q ≡ fraction_cells ws fs p) × AfterFraction r k b negative ws fs p d
+    (fs : List ℕ) × (p : List Cell) × AreDigits fs × (q ≡ fraction_cells ws fs p)
+    × AfterFraction r k b negative ws fs p d
 
 abbrev pub InNumeral : Reading → NumberPlace → Context → List ℕ → Bool → List Cell → Document → Type 0
 InNumeral r signed k b negative q d =
     (ws : List ℕ) × (p : List Cell) × IsWhole ws × (q ≡ whole_cells ws None p) × AfterWhole r k b true ws p d
 InNumeral r zero_read k b negative q d = AfterWhole r k b negative (48 ∷ []) q d
 InNumeral r (whole ds) k b negative q d =
-    (es : List ℕ) × (p : List Cell) × AreDigits es × (q ≡ digits_cells drops_too_many ds es p) × AfterWhole r k b negative (onto ds es) p d
+    (es : List ℕ) × (p : List Cell) × AreDigits es × (q ≡ digits_cells drops_too_many ds es p)
+    × AfterWhole r k b negative (onto ds es) p d
 InNumeral r (pointed ws) k b negative q d =
-    (es : List ℕ) × (p : List Cell) × IsDigits es × (q ≡ digits_cells (keeps_too_many ws) [] es p) × AfterFraction r k b negative ws es p d
+    (es : List ℕ) × (p : List Cell) × IsDigits es × (q ≡ digits_cells (keeps_too_many ws) [] es p)
+    × AfterFraction r k b negative ws es p d
 InNumeral r (fraction ws ds) k b negative q d =
-    (es : List ℕ) × (p : List Cell) × AreDigits es × (q ≡ digits_cells (keeps_too_many ws) ds es p) × AfterFraction r k b negative ws (onto ds es) p d
+    (es : List ℕ) × (p : List Cell) × AreDigits es × (q ≡ digits_cells (keeps_too_many ws) ds es p)
+    × AfterFraction r k b negative ws (onto ds es) p d
 InNumeral r (lettered ws fs l) k b negative q d =
     (s : Sign) × (es : List ℕ) × (p : List Cell) × IsDigits es × (q ≡ sign_cells s (plain es p))
     × Behind r k b (numeral_of negative ws fs (exponent_of l s es)) [] p d
 InNumeral r (signed_exponent ws fs l s) k b negative q d =
-    (es : List ℕ) × (p : List Cell) × IsDigits es × (q ≡ plain es p) × Behind r k b (numeral_of negative ws fs (exponent_of l s es)) [] p d
+    (es : List ℕ) × (p : List Cell) × IsDigits es × (q ≡ plain es p)
+    × Behind r k b (numeral_of negative ws fs (exponent_of l s es)) [] p d
 InNumeral r (exponent ws fs l s ds) k b negative q d =
-    (es : List ℕ) × (p : List Cell) × AreDigits es × (q ≡ plain es p) × Behind r k b (numeral_of negative ws fs (exponent_of l s (onto ds es))) [] p d
+    (es : List ℕ) × (p : List Cell) × AreDigits es × (q ≡ plain es p)
+    × Behind r k b (numeral_of negative ws fs (exponent_of l s (onto ds es))) [] p d
 
 -- ---- states
 

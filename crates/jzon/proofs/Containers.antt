@@ -1,31 +1,46 @@
--- Before a value, round a key and inside a word: the next cell of what completes the state is what the machine steps on, and the converse.
-use Rattle.std.proofs.Common.{◌≡◌, ◌⊎◌, ◌==◌, ℕ, suc, List, [], ◌∷◌, Bool, true, false, cond, Option, Some, None, inl, inr, refl, sym, ap, eq-eqb, eqb-true, ◌∙◌}
+-- Before a value, round a key and inside a word: the next cell of what completes the state is what the machine steps
+-- on, and the converse.
+use Rattle.std.proofs.Common.{◌≡◌, ◌⊎◌, ◌==◌, ℕ, suc, List, [], ◌∷◌, Bool, true, false, cond, Option, Some, None, inl}
+use Rattle.std.proofs.Common.{inr, refl, sym, ap, eq-eqb, eqb-true, ◌∙◌}
 use Rattle.jzon.specs.Reading.{Reading}
 use Rattle.jzon.specs.Grammar.{Item, Node, Document, IsNode}
-use Rattle.jzon.specs.Spelling.{Breach, Cell, cell, plain, onto, items_cells, duplicate_if, deep_if, node_cells, elements_cells, members_cells}
+use Rattle.jzon.specs.Spelling.{Breach, Cell, cell, plain, onto, items_cells, duplicate_if, deep_if, node_cells}
+use Rattle.jzon.specs.Spelling.{elements_cells, members_cells}
 use Rattle.jzon.specs.Meaning.{bytes_of}
-use Rattle.jzon.proofs.TreeMachine.{Class, white, digits, dash, quote, opens_array, closes_array, opens_object, closes_object, colon, begins_null, begins_true, begins_false, class_of, nothing_done, done, Named, nothing_named, named, Context, top, in_array, in_object, as_value, as_key, between, before, before_key, word, string, go, bad, depth_of, value_mark, key_mark, key_of, bad_at, step_before, step_before_key, step_after_key, past_letter}
+use Rattle.jzon.proofs.TreeMachine.{Class, white, digits, dash, quote, opens_array, closes_array, opens_object}
+use Rattle.jzon.proofs.TreeMachine.{closes_object, colon, begins_null, begins_true, begins_false, class_of}
+use Rattle.jzon.proofs.TreeMachine.{nothing_done, done, Named, nothing_named, named, Context, top, in_array, in_object}
+use Rattle.jzon.proofs.TreeMachine.{as_value, as_key, between, before, before_key, word, string, go, bad, depth_of}
+use Rattle.jzon.proofs.TreeMachine.{value_mark, key_mark, key_of, bad_at, step_before, step_before_key, step_after_key}
+use Rattle.jzon.proofs.TreeMachine.{past_letter}
 use Rattle.jzon.proofs.Completion.{Behind, ClosesArray, Begins, AfterKey, BeginsKey, ClosesObject, Comp, Steps}
-use Rattle.jzon.proofs.Classes.{white-class, class-white, class_34, class-quote, class_58, class-colon, class_91, class-opens_array, class_93, class-closes_array, class_123, class-opens_object, class_125, class-closes_object, class_110, class-begins_null, class_116, class-begins_true, class_102, class-begins_false, at_cell, front}
+use Rattle.jzon.proofs.Classes.{white-class, class-white, class_34, class-quote, class_58, class-colon, class_91}
+use Rattle.jzon.proofs.Classes.{class-opens_array, class_93, class-closes_array, class_123, class-opens_object}
+use Rattle.jzon.proofs.Classes.{class_125, class-closes_object, class_110, class-begins_null, class_116}
+use Rattle.jzon.proofs.Classes.{class-begins_true, class_102, class-begins_false, at_cell, front}
 use Rattle.jzon.proofs.NumeralsForward.{forward_begin_numeral}
 use Rattle.jzon.proofs.NumeralsBackward.{backward_begin_digits, backward_begin_dash}
 
 -- ---- forward: before a value
 
-forward_closes_array : (r : Reading) (k : Context) (b : List ℕ) (c : ℕ) (m : Option Breach) (q : List Cell) (d : Document)
+forward_closes_array : (r : Reading) (k : Context) (b : List ℕ) (c : ℕ) (m : Option Breach) (q : List Cell)
+    (d : Document)
     → ClosesArray r k b (cell c m ∷ q) d → Steps r (step_before r (class_of r.strict c) k b c) m q d
 forward_closes_array r top b c m q d h = absurd h
 forward_closes_array r (in_object k a o key) b c m q d h = absurd h
 forward_closes_array r (in_array k a (done o x n y)) b c m q d h = absurd h
 forward_closes_array r (in_array k a nothing_done) b c m q d ([], p, w_ok, e, h) =
-    at_cell (λ x y v. Steps r (step_before r (class_of r.strict x) (in_array k a nothing_done) b x) y v d) c 93 m None q p e
+    at_cell (λ x y v. Steps r (step_before r (class_of r.strict x) (in_array k a nothing_done) b x) y v d) c 93 m None q
+    p e
     (rw (class_93 r.strict) (refl, h))
 forward_closes_array r (in_array k a nothing_done) b c m q d (x ∷ w, p, (x_ok, w_ok), e, h) =
-    at_cell (λ x y v. Steps r (step_before r (class_of r.strict x) (in_array k a nothing_done) b x) y v d) c x m None q _ e
+    at_cell (λ x y v. Steps r (step_before r (class_of r.strict x) (in_array k a nothing_done) b x) y v d) c x m None q
+    _ e
     (rw (white-class r x x_ok) (refl, inr (w, p, w_ok, refl, h)))
 
 -- the first character of a value
-forward_node : (r : Reading) (k : Context) (b : List ℕ) (n : Node) (c : ℕ) (m : Option Breach) (q p : List Cell) (d : Document)
+forward_node : (r : Reading) (k : Context) (b : List ℕ) (n : Node) (c : ℕ) (m : Option Breach) (q p : List Cell)
+    (d : Document)
     → IsNode r n → cell c m ∷ q ≡ node_cells r n (depth_of k) (value_mark r k) p → Behind r k (onto b []) n [] p d
     → Steps r (step_before r (class_of r.strict c) k b c) m q d
 forward_node r k b Node.null c m q p d ok e h =
@@ -51,7 +66,30 @@ forward_node r k b (Node.array u v y es) c m q p d (u_ok, v_ok, y_ok, es_ok) e (
     at_cell (λ x y v. Steps r (step_before r (class_of r.strict x) k b x) y v d) c 91 m (value_mark r k) q _ e
     (rw (class_91 r.strict) (
       refl,
-      (inl (u, v, _, u_ok, v_ok, refl, (y, _, y_ok, refl, (es, w, p1, es_ok, w_ok, ap (elements_cells r es (suc (depth_of k))) e1, h)))),
+      (inl (
+        u,
+        v,
+        _,
+        u_ok,
+        v_ok,
+        refl,
+        (
+          y,
+          _,
+          y_ok,
+          refl,
+          (
+            es,
+            w,
+            p1,
+            es_ok,
+            w_ok,
+            ap
+                (elements_cells r es (suc (depth_of k))) e1,
+            h,
+          ),
+        ),
+      )),
     ))
 forward_node r k b (Node.object key u v y ms) c m q p d (key_ok, u_ok, v_ok, y_ok, ms_ok) e (w, p1, w_ok, e1, h) =
     at_cell (λ x y v. Steps r (step_before r (class_of r.strict x) k b x) y v d) c 123 m (value_mark r k) q _ e
@@ -69,7 +107,30 @@ forward_node r k b (Node.object key u v y ms) c m q p d (key_ok, u_ok, v_ok, y_o
           _,
           key_ok.2,
           refl,
-          (u, v, _, u_ok, v_ok, refl, (y, _, y_ok, refl, (ms, w, p1, ms_ok, w_ok, ap (members_cells r ms (bytes_of key.items ∷ []) (suc (depth_of k))) e1, h))),
+          (
+            u,
+            v,
+            _,
+            u_ok,
+            v_ok,
+            refl,
+            (
+              y,
+              _,
+              y_ok,
+              refl,
+              (
+                ms,
+                w,
+                p1,
+                ms_ok,
+                w_ok,
+                ap
+                    (members_cells r ms (bytes_of key.items ∷ []) (suc (depth_of k))) e1,
+                h,
+              ),
+            ),
+          ),
         ),
       )),
     ))
@@ -82,13 +143,15 @@ forward_begins r k b c m q d (x ∷ w, n, p, (x_ok, w_ok), n_ok, e, h) =
     (rw (white-class r x x_ok) (refl, inl (w, n, p, w_ok, n_ok, refl, h)))
 
 pub forward_before : (r : Reading) (k : Context) (b : List ℕ) (c : ℕ) (m : Option Breach) (q : List Cell) (d : Document)
-    → Begins r k b (cell c m ∷ q) d ⊎ ClosesArray r k b (cell c m ∷ q) d → Steps r (step_before r (class_of r.strict c) k b c) m q d
+    → Begins r k b (cell c m ∷ q) d ⊎ ClosesArray r k b (cell c m ∷ q) d
+    → Steps r (step_before r (class_of r.strict c) k b c) m q d
 forward_before r k b c m q d (inl h) = forward_begins r k b c m q d h
 forward_before r k b c m q d (inr h) = forward_closes_array r k b c m q d h
 
 -- ---- forward: keys
 
-forward_begins_key : (r : Reading) (k : Context) (a : List ℕ) (o : Named) (b : List ℕ) (c : ℕ) (m : Option Breach) (q : List Cell) (d : Document)
+forward_begins_key : (r : Reading) (k : Context) (a : List ℕ) (o : Named) (b : List ℕ) (c : ℕ) (m : Option Breach)
+    (q : List Cell) (d : Document)
     → BeginsKey r k a o b (cell c m ∷ q) d → Steps r (step_before_key r (class_of r.strict c) k a o b c) m q d
 forward_begins_key r k a o b c m q d ([], is, p, w_ok, is_ok, e, h) =
     at_cell (λ x y v. Steps r (step_before_key r (class_of r.strict x) k a o b x) y v d) c 34 m (key_mark r k o) q _ e
@@ -97,7 +160,8 @@ forward_begins_key r k a o b c m q d (x ∷ w, is, p, (x_ok, w_ok), is_ok, e, h)
     at_cell (λ x y v. Steps r (step_before_key r (class_of r.strict x) k a o b x) y v d) c x m None q _ e
     (rw (white-class r x x_ok) (refl, inl (w, is, p, w_ok, is_ok, refl, h)))
 
-forward_closes_object : (r : Reading) (k : Context) (a : List ℕ) (o : Named) (b : List ℕ) (c : ℕ) (m : Option Breach) (q : List Cell) (d : Document)
+forward_closes_object : (r : Reading) (k : Context) (a : List ℕ) (o : Named) (b : List ℕ) (c : ℕ) (m : Option Breach)
+    (q : List Cell) (d : Document)
     → ClosesObject r k a o b (cell c m ∷ q) d → Steps r (step_before_key r (class_of r.strict c) k a o b c) m q d
 forward_closes_object r k a (named o key x n y) b c m q d h = absurd h
 forward_closes_object r k a nothing_named b c m q d ([], p, w_ok, e, h) =
@@ -107,12 +171,15 @@ forward_closes_object r k a nothing_named b c m q d (x ∷ w, p, (x_ok, w_ok), e
     at_cell (λ x y v. Steps r (step_before_key r (class_of r.strict x) k a nothing_named b x) y v d) c x m None q _ e
     (rw (white-class r x x_ok) (refl, inr (w, p, w_ok, refl, h)))
 
-pub forward_before_key : (r : Reading) (k : Context) (a : List ℕ) (o : Named) (b : List ℕ) (c : ℕ) (m : Option Breach) (q : List Cell) (d : Document)
-    → BeginsKey r k a o b (cell c m ∷ q) d ⊎ ClosesObject r k a o b (cell c m ∷ q) d → Steps r (step_before_key r (class_of r.strict c) k a o b c) m q d
+pub forward_before_key : (r : Reading) (k : Context) (a : List ℕ) (o : Named) (b : List ℕ) (c : ℕ) (m : Option Breach)
+    (q : List Cell) (d : Document)
+    → BeginsKey r k a o b (cell c m ∷ q) d ⊎ ClosesObject r k a o b (cell c m ∷ q) d
+    → Steps r (step_before_key r (class_of r.strict c) k a o b c) m q d
 forward_before_key r k a o b c m q d (inl h) = forward_begins_key r k a o b c m q d h
 forward_before_key r k a o b c m q d (inr h) = forward_closes_object r k a o b c m q d h
 
-pub forward_after_key : (r : Reading) (k : Context) (a : List ℕ) (o : Named) (b : List ℕ) (is : List Item) (z : List ℕ) (c : ℕ) (m : Option Breach) (q : List Cell) (d : Document)
+pub forward_after_key : (r : Reading) (k : Context) (a : List ℕ) (o : Named) (b : List ℕ) (is : List Item) (z : List ℕ)
+    (c : ℕ) (m : Option Breach) (q : List Cell) (d : Document)
     → AfterKey r k a o b is z (cell c m ∷ q) d → Steps r (step_after_key (class_of r.strict c) k a o b is z c) m q d
 forward_after_key r k a o b is z c m q d ([], p, w_ok, e, h) =
     at_cell (λ x y v. Steps r (step_after_key (class_of r.strict x) k a o b is z x) y v d) c 58 m None q p e
@@ -128,7 +195,8 @@ past : (r : Reading) (k : Context) (b : List ℕ) (n : Node) (ls : List ℕ) (p 
 past r k b n [] p d h = h
 past r k b n (l ∷ ls) p d h = (p, refl, h)
 
-pub forward_word : (r : Reading) (k : Context) (b : List ℕ) (n : Node) (l : ℕ) (ls : List ℕ) (c : ℕ) (m : Option Breach) (q : List Cell) (d : Document)
+pub forward_word : (r : Reading) (k : Context) (b : List ℕ) (n : Node) (l : ℕ) (ls : List ℕ) (c : ℕ) (m : Option Breach)
+    (q : List Cell) (d : Document)
     → Comp r (word k b n l ls) (cell c m ∷ q) d → Steps r (cond (c == l) (go None (past_letter k b n ls)) bad) m q d
 forward_word r k b n l ls c m q d (p, e, h) =
     at_cell (λ x y v. Steps r (cond (x == l) (go None (past_letter k b n ls)) bad) y v d) c l m None q (plain ls p) e
@@ -140,19 +208,37 @@ not_bad : (r : Reading) (v m : Option Breach) (q : List Cell) (d : Document) →
 not_bad r None m q d h = h
 not_bad r (Some b) m q d h = h
 
-backward_word_begins : (r : Reading) (k : Context) (b : List ℕ) (n : Node) (x : ℕ) (l : ℕ) (ls : List ℕ) (c : ℕ) (m : Option Breach) (q : List Cell) (d : Document)
-    → IsNode r n → ((p : List Cell) → node_cells r n (depth_of k) (value_mark r k) p ≡ cell x (value_mark r k) ∷ plain (l ∷ ls) p)
+backward_word_begins : (r : Reading) (k : Context) (b : List ℕ) (n : Node) (x : ℕ) (l : ℕ) (ls : List ℕ) (c : ℕ)
+    (m : Option Breach) (q : List Cell) (d : Document)
+    → IsNode r n → ((p : List Cell) → node_cells r n (depth_of k) (value_mark r k) p
+    ≡ cell x (value_mark r k) ∷ plain (l ∷ ls) p)
     → c ≡ x → (m ≡ value_mark r k) × Comp r (word k (onto b []) n l ls) q d → Begins r k b (cell c m ∷ q) d
-backward_word_begins r k b n x l ls c m q d n_ok spelt e (m_ok, (p, e1, h)) = ([], n, p, tt, n_ok, front c x m (value_mark r k) _ _ e m_ok e1 ∙ sym (spelt p), h)
+backward_word_begins r k b n x l ls c m q d n_ok spelt e (m_ok, (p, e1, h)) =
+    ([], n, p, tt, n_ok, front c x m (value_mark r k) _ _ e m_ok e1 ∙ sym (spelt p), h)
 
-backward_string_begins : (r : Reading) (k : Context) (b : List ℕ) (c : ℕ) (m : Option Breach) (q : List Cell) (d : Document)
-    → class_of r.strict c ≡ quote → (m ≡ value_mark r k) × Comp r (string (as_value k (onto b [])) [] between) q d → Begins r k b (cell c m ∷ q) d
+backward_string_begins : (r : Reading) (k : Context) (b : List ℕ) (c : ℕ) (m : Option Breach) (q : List Cell)
+    (d : Document)
+    → class_of r.strict c ≡ quote → (m ≡ value_mark r k) × Comp r (string (as_value k (onto b [])) [] between) q d
+    → Begins r k b (cell c m ∷ q) d
 backward_string_begins r k b c m q d e (m_ok, (is, p, is_ok, e1, h)) =
     ([], Node.string is, p, tt, is_ok, front c 34 m (value_mark r k) _ _ (class-quote r.strict c e) m_ok e1, h)
 
-backward_array_begins : (r : Reading) (k : Context) (b : List ℕ) (c : ℕ) (m : Option Breach) (q : List Cell) (d : Document)
-    → class_of r.strict c ≡ opens_array → (m ≡ value_mark r k) × Comp r (before (in_array k (onto b []) nothing_done) []) q d → Begins r k b (cell c m ∷ q) d
-backward_array_begins r k b c m q d e (m_ok, inl (u, v, p1, u_ok, v_ok, e1, (y, p2, y_ok, e2, (es, w, p, es_ok, w_ok, e3, h)))) = (
+backward_array_begins : (r : Reading) (k : Context) (b : List ℕ) (c : ℕ) (m : Option Breach) (q : List Cell)
+    (d : Document)
+    → class_of r.strict c ≡ opens_array → (m ≡ value_mark r k)
+    × Comp r (before (in_array k (onto b []) nothing_done) []) q d → Begins r k b (cell c m ∷ q) d
+backward_array_begins r k b c m q d e (
+  m_ok,
+  inl (
+    u,
+    v,
+    p1,
+    u_ok,
+    v_ok,
+    e1,
+    (y, p2, y_ok, e2, (es, w, p, es_ok, w_ok, e3, h)),
+  ),
+) = (
   [],
   Node.array u v y es,
   plain w p,
@@ -165,9 +251,22 @@ backward_array_begins r k b c m q d e (m_ok, inl (u, v, p1, u_ok, v_ok, e1, (y, 
 backward_array_begins r k b c m q d e (m_ok, inr (w, p, w_ok, e1, h)) =
     ([], Node.empty_array w, p, tt, w_ok, front c 91 m (value_mark r k) _ _ (class-opens_array r.strict c e) m_ok e1, h)
 
-backward_object_begins : (r : Reading) (k : Context) (b : List ℕ) (c : ℕ) (m : Option Breach) (q : List Cell) (d : Document)
-    → class_of r.strict c ≡ opens_object → (m ≡ value_mark r k) × Comp r (before_key k (onto b []) nothing_named []) q d → Begins r k b (cell c m ∷ q) d
-backward_object_begins r k b c m q d e (m_ok, inl (s, is, p1, s_ok, is_ok, e1, (t, p2, t_ok, e2, (u, v, p3, u_ok, v_ok, e3, (y, p4, y_ok, e4, (ms, w, p, ms_ok, w_ok, e5, h)))))) = (
+backward_object_begins : (r : Reading) (k : Context) (b : List ℕ) (c : ℕ) (m : Option Breach) (q : List Cell)
+    (d : Document)
+    → class_of r.strict c ≡ opens_object → (m ≡ value_mark r k) × Comp r (before_key k (onto b []) nothing_named []) q d
+    → Begins r k b (cell c m ∷ q) d
+backward_object_begins r k b c m q d e (
+  m_ok,
+  inl (
+    s,
+    is,
+    p1,
+    s_ok,
+    is_ok,
+    e1,
+    (t, p2, t_ok, e2, (u, v, p3, u_ok, v_ok, e3, (y, p4, y_ok, e4, (ms, w, p, ms_ok, w_ok, e5, h)))),
+  ),
+) = (
   [],
   Node.object (key_of s is t) u v y ms,
   plain w p,
@@ -175,14 +274,24 @@ backward_object_begins r k b c m q d e (m_ok, inl (s, is, p1, s_ok, is_ok, e1, (
   ((s_ok, is_ok, t_ok), u_ok, v_ok, y_ok, ms_ok),
   front c 123 m (value_mark r k) _ _ (class-opens_object r.strict c e) m_ok
       (e1 ∙ ap (λ l. plain s (cell 34 (deep_if r (depth_of k)) ∷ items_cells is (cell 34 (duplicate_if r [] is) ∷ l)))
-      (e2 ∙ ap (λ l. plain t (cell 58 None ∷ l)) (e3 ∙ ap (λ l. plain u (node_cells r v (suc (depth_of k)) None l)) (e4 ∙ ap (plain y) e5)))),
+      (e2 ∙ ap (λ l. plain t (cell 58 None ∷ l)) (e3 ∙ ap (λ l. plain u (node_cells r v (suc (depth_of k)) None l))
+      (e4 ∙ ap (plain y) e5)))),
   (w, p, w_ok, refl, h),
 )
-backward_object_begins r k b c m q d e (m_ok, inr (w, p, w_ok, e1, h)) =
-    ([], Node.empty_object w, p, tt, w_ok, front c 123 m (value_mark r k) _ _ (class-opens_object r.strict c e) m_ok e1, h)
+backward_object_begins r k b c m q d e (m_ok, inr (w, p, w_ok, e1, h)) = (
+  [],
+  Node.empty_object w,
+  p,
+  tt,
+  w_ok,
+  front c 123 m (value_mark r k) _ _ (class-opens_object r.strict c e) m_ok e1,
+  h,
+)
 
-backward_closes_array : (r : Reading) (k : Context) (b : List ℕ) (c : ℕ) (m : Option Breach) (q : List Cell) (d : Document)
-    → class_of r.strict c ≡ closes_array → Steps r (step_before r closes_array k b c) m q d → ClosesArray r k b (cell c m ∷ q) d
+backward_closes_array : (r : Reading) (k : Context) (b : List ℕ) (c : ℕ) (m : Option Breach) (q : List Cell)
+    (d : Document)
+    → class_of r.strict c ≡ closes_array → Steps r (step_before r closes_array k b c) m q d
+    → ClosesArray r k b (cell c m ∷ q) d
 backward_closes_array r top b c m q d e h = absurd h
 backward_closes_array r (in_object k a o key) b c m q d e h = absurd h
 backward_closes_array r (in_array k a (done o x n y)) b c m q d e h = absurd h
@@ -191,7 +300,8 @@ backward_closes_array r (in_array k a nothing_done) b c m q d e (m_ok, h) =
 
 -- a blank goes on
 backward_white : (r : Reading) (k : Context) (b : List ℕ) (c : ℕ) (m : Option Breach) (q : List Cell) (d : Document)
-    → class_of r.strict c ≡ white → (m ≡ None) × Comp r (before k (c ∷ b)) q d → Begins r k b (cell c m ∷ q) d ⊎ ClosesArray r k b (cell c m ∷ q) d
+    → class_of r.strict c ≡ white → (m ≡ None) × Comp r (before k (c ∷ b)) q d → Begins r k b (cell c m ∷ q) d
+    ⊎ ClosesArray r k b (cell c m ∷ q) d
 backward_white r k b c m q d e (m_ok, inl (w, n, p, w_ok, n_ok, e1, h)) =
     inl (c ∷ w, n, p, (class-white r c e, w_ok), n_ok, front c c m None _ _ refl m_ok e1, h)
 backward_white r top b c m q d e (m_ok, inr h) = absurd h
@@ -200,8 +310,10 @@ backward_white r (in_array k a (done o x n y)) b c m q d e (m_ok, inr h) = absur
 backward_white r (in_array k a nothing_done) b c m q d e (m_ok, inr (w, p, w_ok, e1, h)) =
     inr (c ∷ w, p, (class-white r c e, w_ok), front c c m None _ _ refl m_ok e1, h)
 
-pub backward_before : (r : Reading) (s : Class) (k : Context) (b : List ℕ) (c : ℕ) (m : Option Breach) (q : List Cell) (d : Document)
-    → class_of r.strict c ≡ s → Steps r (step_before r s k b c) m q d → Begins r k b (cell c m ∷ q) d ⊎ ClosesArray r k b (cell c m ∷ q) d
+pub backward_before : (r : Reading) (s : Class) (k : Context) (b : List ℕ) (c : ℕ) (m : Option Breach) (q : List Cell)
+    (d : Document)
+    → class_of r.strict c ≡ s → Steps r (step_before r s k b c) m q d → Begins r k b (cell c m ∷ q) d
+    ⊎ ClosesArray r k b (cell c m ∷ q) d
 backward_before r white k b c m q d e h = backward_white r k b c m q d e h
 backward_before r digits k b c m q d e h = inl (backward_begin_digits r k b c m q d e h.0 h.1)
 backward_before r dash k b c m q d e h = inl (backward_begin_dash r k b c m q d e h.0 h.1)
@@ -213,22 +325,28 @@ backward_before r opens_object k b c m q d e h =
     inl (backward_object_begins r k b c m q d e h)
 backward_before r closes_array k b c m q d e h = inr (backward_closes_array r k b c m q d e h)
 backward_before r begins_null k b c m q d e h =
-    inl (backward_word_begins r k b Node.null 110 117 (108 ∷ 108 ∷ []) c m q d tt (λ p. refl) (class-begins_null r.strict c e) h)
+    inl (backward_word_begins r k b Node.null 110 117 (108 ∷ 108 ∷ []) c m q d tt (λ p. refl)
+    (class-begins_null r.strict c e) h)
 backward_before r begins_true k b c m q d e h =
-    inl (backward_word_begins r k b (Node.boolean true) 116 114 (117 ∷ 101 ∷ []) c m q d tt (λ p. refl) (class-begins_true r.strict c e) h)
+    inl (backward_word_begins r k b (Node.boolean true) 116 114 (117 ∷ 101 ∷ []) c m q d tt (λ p. refl)
+    (class-begins_true r.strict c e) h)
 backward_before r begins_false k b c m q d e h =
-    inl (backward_word_begins r k b (Node.boolean false) 102 97 (108 ∷ 115 ∷ 101 ∷ []) c m q d tt (λ p. refl) (class-begins_false r.strict c e) h)
+    inl (backward_word_begins r k b (Node.boolean false) 102 97 (108 ∷ 115 ∷ 101 ∷ []) c m q d tt (λ p. refl)
+    (class-begins_false r.strict c e) h)
 backward_before r _ k b c m q d e h = absurd (not_bad r (value_mark r k) m q d h)
 
 -- ---- backward: keys
 
-backward_closes_object : (r : Reading) (k : Context) (a : List ℕ) (o : Named) (b : List ℕ) (c : ℕ) (m : Option Breach) (q : List Cell) (d : Document)
-    → class_of r.strict c ≡ closes_object → Steps r (step_before_key r closes_object k a o b c) m q d → ClosesObject r k a o b (cell c m ∷ q) d
+backward_closes_object : (r : Reading) (k : Context) (a : List ℕ) (o : Named) (b : List ℕ) (c : ℕ) (m : Option Breach)
+    (q : List Cell) (d : Document)
+    → class_of r.strict c ≡ closes_object → Steps r (step_before_key r closes_object k a o b c) m q d
+    → ClosesObject r k a o b (cell c m ∷ q) d
 backward_closes_object r k a (named o key x n y) b c m q d e h = absurd h
 backward_closes_object r k a nothing_named b c m q d e (m_ok, h) =
     ([], q, tt, front c 125 m None _ _ (class-closes_object r.strict c e) m_ok refl, h)
 
-backward_white_key : (r : Reading) (k : Context) (a : List ℕ) (o : Named) (b : List ℕ) (c : ℕ) (m : Option Breach) (q : List Cell) (d : Document)
+backward_white_key : (r : Reading) (k : Context) (a : List ℕ) (o : Named) (b : List ℕ) (c : ℕ) (m : Option Breach)
+    (q : List Cell) (d : Document)
     → class_of r.strict c ≡ white → (m ≡ None) × Comp r (before_key k a o (c ∷ b)) q d
     → BeginsKey r k a o b (cell c m ∷ q) d ⊎ ClosesObject r k a o b (cell c m ∷ q) d
 backward_white_key r k a o b c m q d e (m_ok, inl (w, is, p, w_ok, is_ok, e1, h)) =
@@ -237,12 +355,15 @@ backward_white_key r k a (named o key x n y) b c m q d e (m_ok, inr h) = absurd 
 backward_white_key r k a nothing_named b c m q d e (m_ok, inr (w, p, w_ok, e1, h)) =
     inr (c ∷ w, p, (class-white r c e, w_ok), front c c m None _ _ refl m_ok e1, h)
 
-backward_quote_key : (r : Reading) (k : Context) (a : List ℕ) (o : Named) (b : List ℕ) (c : ℕ) (m : Option Breach) (q : List Cell) (d : Document)
-    → class_of r.strict c ≡ quote → (m ≡ key_mark r k o) × Comp r (string (as_key k a o (onto b [])) [] between) q d → BeginsKey r k a o b (cell c m ∷ q) d
+backward_quote_key : (r : Reading) (k : Context) (a : List ℕ) (o : Named) (b : List ℕ) (c : ℕ) (m : Option Breach)
+    (q : List Cell) (d : Document)
+    → class_of r.strict c ≡ quote → (m ≡ key_mark r k o) × Comp r (string (as_key k a o (onto b [])) [] between) q d
+    → BeginsKey r k a o b (cell c m ∷ q) d
 backward_quote_key r k a o b c m q d e (m_ok, (is, p, is_ok, e1, h)) =
     ([], is, p, tt, is_ok, front c 34 m (key_mark r k o) _ _ (class-quote r.strict c e) m_ok e1, h)
 
-pub backward_before_key : (r : Reading) (s : Class) (k : Context) (a : List ℕ) (o : Named) (b : List ℕ) (c : ℕ) (m : Option Breach) (q : List Cell) (d : Document)
+pub backward_before_key : (r : Reading) (s : Class) (k : Context) (a : List ℕ) (o : Named) (b : List ℕ) (c : ℕ)
+    (m : Option Breach) (q : List Cell) (d : Document)
     → class_of r.strict c ≡ s → Steps r (step_before_key r s k a o b c) m q d
     → BeginsKey r k a o b (cell c m ∷ q) d ⊎ ClosesObject r k a o b (cell c m ∷ q) d
 backward_before_key r white k a o b c m q d e h = backward_white_key r k a o b c m q d e h
@@ -250,13 +371,24 @@ backward_before_key r quote k a o b c m q d e h = inl (backward_quote_key r k a 
 backward_before_key r closes_object k a o b c m q d e h = inr (backward_closes_object r k a o b c m q d e h)
 backward_before_key r _ k a o b c m q d e h = absurd (not_bad r (key_mark r k o) m q d h)
 
-backward_colon : (r : Reading) (k : Context) (a : List ℕ) (o : Named) (b : List ℕ) (is : List Item) (z : List ℕ) (c : ℕ) (m : Option Breach) (q : List Cell) (d : Document)
-    → class_of r.strict c ≡ colon → (m ≡ None) × Comp r (before (in_object k a o (key_of b is (onto z []))) []) q d → AfterKey r k a o b is z (cell c m ∷ q) d
-backward_colon r k a o b is z c m q d e (m_ok, inl h) = ([], q, tt, front c 58 m None _ _ (class-colon r.strict c e) m_ok refl, h)
+backward_colon : (r : Reading) (k : Context) (a : List ℕ) (o : Named) (b : List ℕ) (is : List Item) (z : List ℕ) (c : ℕ)
+    (m : Option Breach) (q : List Cell) (d : Document)
+    → class_of r.strict c ≡ colon → (m ≡ None) × Comp r (before (in_object k a o (key_of b is (onto z []))) []) q d
+    → AfterKey r k a o b is z (cell c m ∷ q) d
+backward_colon r k a o b is z c m q d e (m_ok, inl h) = (
+  [],
+  q,
+  tt,
+  front c 58 m None _ _ (class-colon r.strict c e)
+      m_ok refl,
+  h,
+)
 backward_colon r k a o b is z c m q d e (m_ok, inr h) = absurd h
 
-pub backward_after_key : (r : Reading) (s : Class) (k : Context) (a : List ℕ) (o : Named) (b : List ℕ) (is : List Item) (z : List ℕ) (c : ℕ) (m : Option Breach) (q : List Cell) (d : Document)
-    → class_of r.strict c ≡ s → Steps r (step_after_key s k a o b is z c) m q d → AfterKey r k a o b is z (cell c m ∷ q) d
+pub backward_after_key : (r : Reading) (s : Class) (k : Context) (a : List ℕ) (o : Named) (b : List ℕ) (is : List Item)
+    (z : List ℕ) (c : ℕ) (m : Option Breach) (q : List Cell) (d : Document)
+    → class_of r.strict c ≡ s → Steps r (step_after_key s k a o b is z c) m q d
+    → AfterKey r k a o b is z (cell c m ∷ q) d
 backward_after_key r white k a o b is z c m q d e (m_ok, (w, p, w_ok, e1, h)) =
     (c ∷ w, p, (class-white r c e, w_ok), front c c m None _ _ refl m_ok e1, h)
 backward_after_key r colon k a o b is z c m q d e h = backward_colon r k a o b is z c m q d e h
@@ -264,12 +396,16 @@ backward_after_key r _ k a o b is z c m q d e h = absurd h
 
 -- ---- backward: words
 
-backward_letter : (r : Reading) (v : Bool) (k : Context) (b : List ℕ) (n : Node) (l : ℕ) (ls : List ℕ) (c : ℕ) (m : Option Breach) (q : List Cell) (d : Document)
-    → (c == l) ≡ v → Steps r (cond v (go None (past_letter k b n ls)) bad) m q d → Comp r (word k b n l ls) (cell c m ∷ q) d
+backward_letter : (r : Reading) (v : Bool) (k : Context) (b : List ℕ) (n : Node) (l : ℕ) (ls : List ℕ) (c : ℕ)
+    (m : Option Breach) (q : List Cell) (d : Document)
+    → (c == l) ≡ v → Steps r (cond v (go None (past_letter k b n ls)) bad) m q d
+    → Comp r (word k b n l ls) (cell c m ∷ q) d
 backward_letter r false k b n l ls c m q d e h = absurd h
 backward_letter r true k b n l [] c m q d e (m_ok, h) = (q, front c l m None _ _ (eqb-true c l e) m_ok refl, h)
-backward_letter r true k b n l (x ∷ xs) c m q d e (m_ok, (p, e1, h)) = (p, front c l m None _ _ (eqb-true c l e) m_ok e1, h)
+backward_letter r true k b n l (x ∷ xs) c m q d e (m_ok, (p, e1, h)) =
+    (p, front c l m None _ _ (eqb-true c l e) m_ok e1, h)
 
-pub backward_word : (r : Reading) (k : Context) (b : List ℕ) (n : Node) (l : ℕ) (ls : List ℕ) (c : ℕ) (m : Option Breach) (q : List Cell) (d : Document)
+pub backward_word : (r : Reading) (k : Context) (b : List ℕ) (n : Node) (l : ℕ) (ls : List ℕ) (c : ℕ)
+    (m : Option Breach) (q : List Cell) (d : Document)
     → Steps r (cond (c == l) (go None (past_letter k b n ls)) bad) m q d → Comp r (word k b n l ls) (cell c m ∷ q) d
 backward_word r k b n l ls c m q d h = backward_letter r (c == l) k b n l ls c m q d refl h

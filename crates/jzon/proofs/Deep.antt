@@ -1,10 +1,21 @@
 -- Where a depth breach would stand at the next character.
-use Rattle.std.proofs.Common.{◌≡◌, ℕ, zero, suc, List, [], ◌∷◌, Bool, true, false, cond, ◌==◌, Option, Some, None, refl, subst, inl}
+use Rattle.std.proofs.Common.{◌≡◌, ℕ, zero, suc, List, [], ◌∷◌, Bool, true, false, cond, ◌==◌, Option, Some, None, refl}
+use Rattle.std.proofs.Common.{subst, inl}
 use Rattle.std.specs.Char.{is_ascii_hexdigit}
 use Rattle.jzon.specs.Reading.{Reading}
 use Rattle.jzon.specs.Grammar.{Item, is_plain, is_simple, Node, Document}
 use Rattle.jzon.specs.Spelling.{Breach, deep, pair, digit, duplicate, breach_if, onto, Cell, cell}
-use Rattle.jzon.proofs.TreeMachine.{Class, white, digits, dash, cross, point, letter_e, quote, opens_array, closes_array, opens_object, closes_object, comma, colon, begins_null, begins_true, begins_false, class_of, nothing_done, done, Named, nothing_named, named, Context, top, in_array, in_object, Role, as_value, as_key, NumberPlace, signed, zero_read, whole, pointed, fraction, lettered, signed_exponent, exponent, StringPlace, between, slash, code, second, second_slash, second_code, State, before, before_key, word, numeral, string, after_key, behind, Step, go, bad, bad_deep, value_mark, key_mark, bad_at, step_empty_array, step_before, step_empty_object, step_before_key, step_after_key, step_behind, step_after_whole, step_after_fraction, step_numeral, numeral_of, exponent_of, coded, step_code, step_second_code, step_string, closed_string, step}
+use Rattle.jzon.proofs.TreeMachine.{Class, white, digits, dash, cross, point, letter_e, quote, opens_array}
+use Rattle.jzon.proofs.TreeMachine.{closes_array, opens_object, closes_object, comma, colon, begins_null, begins_true}
+use Rattle.jzon.proofs.TreeMachine.{begins_false, class_of, nothing_done, done, Named, nothing_named, named, Context}
+use Rattle.jzon.proofs.TreeMachine.{top, in_array, in_object, Role, as_value, as_key, NumberPlace, signed, zero_read}
+use Rattle.jzon.proofs.TreeMachine.{whole, pointed, fraction, lettered, signed_exponent, exponent, StringPlace, between}
+use Rattle.jzon.proofs.TreeMachine.{slash, code, second, second_slash, second_code, State, before, before_key, word}
+use Rattle.jzon.proofs.TreeMachine.{numeral, string, after_key, behind, Step, go, bad, bad_deep, value_mark, key_mark}
+use Rattle.jzon.proofs.TreeMachine.{bad_at, step_empty_array, step_before, step_empty_object, step_before_key}
+use Rattle.jzon.proofs.TreeMachine.{step_after_key, step_behind, step_after_whole, step_after_fraction, step_numeral}
+use Rattle.jzon.proofs.TreeMachine.{numeral_of, exponent_of, coded, step_code, step_second_code, step_string}
+use Rattle.jzon.proofs.TreeMachine.{closed_string, step}
 use Rattle.jzon.proofs.Completion.{Comp}
 use Rattle.jzon.proofs.Ends.{some_begins, some_begins_key}
 
@@ -21,7 +32,8 @@ next_mark r (behind k b n z) = None
 abbrev pub IsDeep : Reading → State → Type 0
 IsDeep r s = next_mark r s ≡ Some deep
 
--- where this is the state's mark, a step has a depth breach or is refused for depth only if the mark is one, and is refused as a character only if it is none
+-- where this is the state's mark, a step has a depth breach or is refused for depth only if the mark is one, and is
+-- refused as a character only if it is none
 abbrev Tells : Option Breach → Step → Type 0
 Tells m (go m' s) = m' ≡ Some deep → m ≡ Some deep
 Tells m bad = m ≡ Some deep → ⊥
@@ -74,7 +86,8 @@ empty_array_tells r (in_array k a nothing_done) b = unmarked _
 empty_array_tells r (in_array k a (done o x n y)) b = refused
 empty_array_tells r (in_object k a o key) b = refused
 
-before_tells : (r : Reading) (class : Class) (k : Context) (b : List ℕ) (c : ℕ) → Tells (value_mark r k) (step_before r class k b c)
+before_tells : (r : Reading) (class : Class) (k : Context) (b : List ℕ) (c : ℕ)
+    → Tells (value_mark r k) (step_before r class k b c)
 before_tells r white k b c = unmarked _
 before_tells r digits k b c = λ e. e
 before_tells r dash k b c = λ e. e
@@ -87,7 +100,8 @@ before_tells r begins_true k b c = λ e. e
 before_tells r begins_false k b c = λ e. e
 before_tells r _ k b c = bad_value_tells r k
 
-empty_object_tells : (r : Reading) (k : Context) (a : List ℕ) (o : Named) (b : List ℕ) → Tells (key_mark r k o) (step_empty_object k a o b)
+empty_object_tells : (r : Reading) (k : Context) (a : List ℕ) (o : Named) (b : List ℕ)
+    → Tells (key_mark r k o) (step_empty_object k a o b)
 empty_object_tells r k a nothing_named b = unmarked _
 empty_object_tells r k a (named o key x n y) b = refused
 
@@ -98,7 +112,8 @@ before_key_tells r quote k a o b c = λ e. e
 before_key_tells r closes_object k a o b c = empty_object_tells r k a o b
 before_key_tells r _ k a o b c = bad_key_tells r k o
 
-after_key_tells : (class : Class) (k : Context) (a : List ℕ) (o : Named) (b : List ℕ) (is : List Item) (z : List ℕ) (c : ℕ)
+after_key_tells : (class : Class) (k : Context) (a : List ℕ) (o : Named) (b : List ℕ) (is : List Item) (z : List ℕ)
+    (c : ℕ)
     → Tells None (step_after_key class k a o b is z c)
 after_key_tells white k a o b is z c = unmarked _
 after_key_tells colon k a o b is z c = unmarked _
@@ -106,7 +121,8 @@ after_key_tells _ k a o b is z c = refused
 
 -- ---- behind values
 
-behind_tells : (class : Class) (k : Context) (b : List ℕ) (n : Node) (z : List ℕ) (c : ℕ) → Tells None (step_behind class k b n z c)
+behind_tells : (class : Class) (k : Context) (b : List ℕ) (n : Node) (z : List ℕ) (c : ℕ)
+    → Tells None (step_behind class k b n z c)
 behind_tells white k b n z c = unmarked _
 behind_tells comma top b n z c = refused
 behind_tells comma (in_array k a o) b n z c = unmarked _
@@ -150,7 +166,8 @@ numeral_tells (lettered ws fs l) _ k b negative c = refused
 numeral_tells (signed_exponent ws fs l s) digits k b negative c = unmarked _
 numeral_tells (signed_exponent ws fs l s) _ k b negative c = refused
 numeral_tells (exponent ws fs l s ds) digits k b negative c = unmarked _
-numeral_tells (exponent ws fs l s ds) class k b negative c = behind_tells class k b (numeral_of negative ws fs (exponent_of l s (onto ds []))) [] c
+numeral_tells (exponent ws fs l s ds) class k b negative c = behind_tells class k b
+    (numeral_of negative ws fs (exponent_of l s (onto ds []))) [] c
 
 -- ---- strings
 
@@ -166,18 +183,22 @@ code_tells : (role : Role) (is : List Item) (n : ℕ) (ds : List ℕ) (c : ℕ) 
 code_tells role is zero ds c = coded_tells _ role is _
 code_tells role is (suc n) ds c = unmarked _
 
-second_code_tells : (role : Role) (is : List Item) (u : List ℕ) (n : ℕ) (ds : List ℕ) (c : ℕ) → Tells None (step_second_code role is u n ds c)
+second_code_tells : (role : Role) (is : List Item) (u : List ℕ) (n : ℕ) (ds : List ℕ) (c : ℕ)
+    → Tells None (step_second_code role is u n ds c)
 second_code_tells role is u zero ds c = pair_tells _
 second_code_tells role is u (suc n) ds c = unmarked _
 
-string_tells : (r : Reading) (x : StringPlace) (role : Role) (is : List Item) (c : ℕ) → Tells None (step_string r x role is c)
+string_tells : (r : Reading) (x : StringPlace) (role : Role) (is : List Item) (c : ℕ)
+    → Tells None (step_string r x role is c)
 string_tells r between role is c =
-    if_tells (c == 34) _ _ (closed_tells r role _) (if_tells (c == 92) _ _ (unmarked _) (if_tells (is_plain c) _ _ (unmarked _) refused))
+    if_tells (c == 34) _ _ (closed_tells r role _) (if_tells (c == 92) _ _ (unmarked _)
+    (if_tells (is_plain c) _ _ (unmarked _) refused))
 string_tells r slash role is c = if_tells (c == 117) _ _ (unmarked _) (if_tells (is_simple c) _ _ (unmarked _) refused)
 string_tells r (code n ds) role is c = if_tells (is_ascii_hexdigit c) _ _ (code_tells role is n ds c) refused
 string_tells r (second u) role is c = if_tells (c == 92) _ _ (unmarked _) refused
 string_tells r (second_slash u) role is c = if_tells (c == 117) _ _ (unmarked _) refused
-string_tells r (second_code u n ds) role is c = if_tells (is_ascii_hexdigit c) _ _ (second_code_tells role is u n ds c) refused
+string_tells r (second_code u n ds) role is c = if_tells (is_ascii_hexdigit c) _ _ (second_code_tells role is u n ds c)
+    refused
 
 -- ---- all states
 
@@ -200,7 +221,8 @@ pub deep_not_bad : (r : Reading) (s : State) (c : ℕ) → IsDeep r s → step r
 deep_not_bad r s c h e = (subst (λ z. Tells (next_mark r s) z) e (tells r s c)) h
 
 -- some text goes on with a container too many
-pub deep_some : (r : Reading) (s : State) → IsDeep r s → (c : ℕ) × (q : List Cell) × (d : Document) × Comp r s (cell c (Some deep) ∷ q) d
+pub deep_some : (r : Reading) (s : State) → IsDeep r s → (c : ℕ) × (q : List Cell) × (d : Document)
+    × Comp r s (cell c (Some deep) ∷ q) d
 deep_some r (before k b) e =
     let h = some_begins r k b in
     (110, h.0, h.1, subst (λ m. Comp r (before k b) (cell 110 m ∷ h.0) h.1) e (inl h.2))

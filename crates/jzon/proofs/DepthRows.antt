@@ -1,14 +1,17 @@
 -- Worked rows of docs/RULES.md, "Depth": as many containers as a reading allows, and one more.
-use Rattle.std.proofs.Common.{◌≡◌, ℕ, zero, suc, ◌+◌, ◌≤◌, ◌<◌, List, [], ◌∷◌, ◌++◌, replicate, false, None, codes, refl, sym, ap, ◌∙◌, arith, lit≤}
+use Rattle.std.proofs.Common.{◌≡◌, ℕ, zero, suc, ◌+◌, ◌≤◌, ◌<◌, List, [], ◌∷◌, ◌++◌, replicate, false, None, codes}
+use Rattle.std.proofs.Common.{refl, sym, ap, ◌∙◌, arith, lit≤}
 use Rattle.std.proofs.lemmas.Bool.{lt-leb}
 use Rattle.std.specs.Prelude.{nat_le}
-use Rattle.jzon_base.specs.declared.error.Error.TheVariants.{UnexpectedCharacter, UnexpectedEndOfJson, ExceededDepthLimit}
+use Rattle.jzon_base.specs.declared.error.Error.TheVariants.{UnexpectedCharacter, UnexpectedEndOfJson}
+use Rattle.jzon_base.specs.declared.error.Error.TheVariants.{ExceededDepthLimit}
 use Rattle.jzon.specs.Reading.{Reading, usual}
 use Rattle.jzon.specs.Grammar.{plain, Node}
 use Rattle.jzon.specs.Spelling.{deep}
 use Rattle.jzon.specs.Fault.{Fault, limit, character, Parses, IsErrorOf}
 use Rattle.jzon.specs.Classes.{class_of}
-use Rattle.jzon.proofs.TreeMachine.{Context, top, in_array, in_object, nothing_done, nothing_named, key_of, State, before, behind, depth_of, value_mark, start}
+use Rattle.jzon.proofs.TreeMachine.{Context, top, in_array, in_object, nothing_done, nothing_named, key_of, State}
+use Rattle.jzon.proofs.TreeMachine.{before, behind, depth_of, value_mark, start}
 use Rattle.jzon.proofs.TreeAnswer.{refused, answer}
 use Rattle.jzon.proofs.Judged.{read_tree, refused_error, too_deep}
 use Rattle.jzon.proofs.Classes.{class_91, class_93, white-class}
@@ -27,13 +30,15 @@ not_deep : (r : Reading) (k : Context) → depth_of k < r.depth → nat_le r.dep
 not_deep r k h = lt-leb r.depth (depth_of k) h
 
 open_on : (r : Reading) (n : ℕ) (k : Context) (u : List ℕ) → n + depth_of k ≤ r.depth
-    → answer r (replicate n 91 ++ u) (before (in_array k [] nothing_done) []) ≡ answer r u (before (in_array (opened n k) [] nothing_done) [])
+    → answer r (replicate n 91 ++ u) (before (in_array k [] nothing_done) [])
+    ≡ answer r u (before (in_array (opened n k) [] nothing_done) [])
 open_on r zero k u le = refl
 open_on r (suc n) k u le =
     let e : nat_le r.depth (depth_of k) ≡ false = not_deep r k (omega arith) in
     rw (class_91 r.strict, e) (open_on r n (in_array k [] nothing_done) u (omega arith))
 
-brackets : (r : Reading) (n : ℕ) (u : List ℕ) → n ≤ r.depth → answer r (replicate (suc n) 91 ++ u) start ≡ answer r u (inside n)
+brackets : (r : Reading) (n : ℕ) (u : List ℕ) → n ≤ r.depth → answer r (replicate (suc n) 91 ++ u) start
+    ≡ answer r u (inside n)
 brackets r n u le = rw (class_91 r.strict) (open_on r n top u (omega arith))
 
 -- ---- what may follow as many brackets as are allowed, and one more
@@ -44,15 +49,18 @@ brace_behind_513 = too_deep usual (replicate 513 91 ++ codes "}") (codes "}") (b
 
 letter_behind_513 : IsErrorOf usual (replicate 513 91 ++ codes "x") ExceededDepthLimit
 unfolding class_of
-letter_behind_513 = too_deep usual (replicate 513 91 ++ codes "x") (codes "x") (brackets usual 512 (codes "x") (lit≤ tt))
+letter_behind_513 = too_deep usual (replicate 513 91 ++ codes "x") (codes "x")
+    (brackets usual 512 (codes "x") (lit≤ tt))
 
 end_behind_513 : IsErrorOf usual (replicate 513 91 ++ []) UnexpectedEndOfJson
-end_behind_513 = refused_error usual (replicate 513 91 ++ []) [] Fault.end UnexpectedEndOfJson (brackets usual 512 [] (lit≤ tt)) refl
+end_behind_513 = refused_error usual (replicate 513 91 ++ []) [] Fault.end UnexpectedEndOfJson
+    (brackets usual 512 [] (lit≤ tt)) refl
 
 letter_behind_512 : IsErrorOf usual (replicate 512 91 ++ codes "x") (UnexpectedCharacter 120 1 513)
 unfolding class_of
 letter_behind_512 =
-    refused_error usual (replicate 512 91 ++ codes "x") (codes "x") character (UnexpectedCharacter 120 1 513) (brackets usual 511 (codes "x") (lit≤ tt)) refl
+    refused_error usual (replicate 512 91 ++ codes "x") (codes "x") character (UnexpectedCharacter 120 1 513)
+    (brackets usual 511 (codes "x") (lit≤ tt)) refl
 
 -- any number of brackets past the limit, whatever follows
 bracket_behind_513 : (u : List ℕ) → IsErrorOf usual (replicate 513 91 ++ (91 ∷ u)) ExceededDepthLimit
@@ -79,12 +87,16 @@ close_on r (suc n) k v u =
     ∙ (rw (class_93 r.strict) refl)
 
 -- by every reading
-empty_at_most : (r : Reading) → Parses r (replicate (suc r.depth) 91 ++ (32 ∷ 93 ∷ (replicate r.depth 93 ++ []))) (alone (nested r.depth (Node.empty_array (32 ∷ []))))
+empty_at_most : (r : Reading) → Parses r (replicate (suc r.depth) 91 ++ (32 ∷ 93 ∷ (replicate r.depth 93 ++ [])))
+    (alone (nested r.depth (Node.empty_array (32 ∷ []))))
 empty_at_most r =
-    let closes : answer r (32 ∷ 93 ∷ (replicate r.depth 93 ++ [])) (inside r.depth) ≡ answer r (replicate r.depth 93 ++ []) (behind (opened r.depth top) [] (Node.empty_array (32 ∷ [])) []) =
+    let closes : answer r (32 ∷ 93 ∷ (replicate r.depth 93 ++ [])) (inside r.depth)
+    ≡ answer r (replicate r.depth 93 ++ []) (behind (opened r.depth top) [] (Node.empty_array (32 ∷ [])) []) =
     rw (white-class r 32 refl, class_93 r.strict) refl in
-    read_tree r (replicate (suc r.depth) 91 ++ (32 ∷ 93 ∷ (replicate r.depth 93 ++ []))) (alone (nested r.depth (Node.empty_array (32 ∷ []))))
-    (brackets r r.depth (32 ∷ 93 ∷ (replicate r.depth 93 ++ [])) (omega arith) ∙ closes ∙ close_on r r.depth top (Node.empty_array (32 ∷ [])) [])
+    read_tree r (replicate (suc r.depth) 91 ++ (32 ∷ 93 ∷ (replicate r.depth 93 ++ [])))
+    (alone (nested r.depth (Node.empty_array (32 ∷ []))))
+    (brackets r r.depth (32 ∷ 93 ∷ (replicate r.depth 93 ++ [])) (omega arith) ∙ closes
+    ∙ close_on r r.depth top (Node.empty_array (32 ∷ [])) [])
 
 -- ---- arrays and objects in turn
 
@@ -122,7 +134,8 @@ pair_behind_256 : (u : List ℕ) → IsErrorOf usual (pairs_text 256 (codes "[{"
 unfolding class_of
 pair_behind_256 u =
     let last : answer usual (codes "[{" ++ u) (before (pairs 256 top) []) ≡ refused (limit deep) (123 ∷ u) = refl in
-    too_deep usual (pairs_text 256 (codes "[{" ++ u)) (123 ∷ u) (pairs_on 256 top (codes "[{" ++ u) refl (lit≤ tt) ∙ last)
+    too_deep usual (pairs_text 256 (codes "[{" ++ u)) (123 ∷ u)
+    (pairs_on 256 top (codes "[{" ++ u) refl (lit≤ tt) ∙ last)
 
 abbrev pair_node : Node → Node
 pair_node v = array (object (key (codes "a")) v []) []
@@ -135,7 +148,8 @@ abbrev closes_text : ℕ → List ℕ → List ℕ
 closes_text zero u = u
 closes_text (suc n) u = closes_text n (codes "}]" ++ u)
 
-close_pair : (k : Context) (v : Node) (u : List ℕ) → answer usual (codes "}]" ++ u) (behind (in_pair k) [] v []) ≡ answer usual u (behind k [] (pair_node v) [])
+close_pair : (k : Context) (v : Node) (u : List ℕ) → answer usual (codes "}]" ++ u) (behind (in_pair k) [] v [])
+    ≡ answer usual u (behind k [] (pair_node v) [])
 unfolding class_of
 close_pair k v u = refl
 
@@ -144,7 +158,8 @@ close_pairs : (n : ℕ) (k : Context) (v : Node) (u : List ℕ)
 close_pairs zero k v u = refl
 close_pairs (suc n) k v u = close_pairs n (in_pair k) v (codes "}]" ++ u) ∙ close_pair k (turns n v) u
 
-null_before : (k : Context) (u : List ℕ) → value_mark usual k ≡ None → answer usual (codes "null" ++ u) (before k []) ≡ answer usual u (behind k [] Node.null [])
+null_before : (k : Context) (u : List ℕ) → value_mark usual k ≡ None
+    → answer usual (codes "null" ++ u) (before k []) ≡ answer usual u (behind k [] Node.null [])
 unfolding class_of
 null_before k u h = rw h refl
 
@@ -152,7 +167,8 @@ pairs_mark : (n : ℕ) (k : Context) → value_mark usual k ≡ None → value_m
 pairs_mark zero k h = h
 pairs_mark (suc n) k h = pairs_mark n (in_pair k) refl
 
-turns_read : (n : ℕ) → n ≤ 256 → Parses usual (pairs_text n (codes "null" ++ closes_text n [])) (alone (turns n Node.null))
+turns_read : (n : ℕ) → n ≤ 256 → Parses usual (pairs_text n (codes "null" ++ closes_text n []))
+    (alone (turns n Node.null))
 turns_read n h =
     read_tree usual (pairs_text n (codes "null" ++ closes_text n [])) (alone (turns n Node.null))
     (pairs_on n top (codes "null" ++ closes_text n []) refl (omega arith)

@@ -17,7 +17,8 @@ AreUnknown seen ks = AllByRecursion (λ k. is_known seen k ≡ false) ks
 neither : (a b : Bool) → a ≡ false → b ≡ false → (a || b) ≡ false
 neither a b h k = rw (h, k) refl
 
-unknown_more : (k : List ℕ) (seen ks : List (List ℕ)) → AllByRecursion (λ y. bytes_eq k y ≡ false) ks → AreUnknown seen ks
+unknown_more : (k : List ℕ) (seen ks : List (List ℕ)) → AllByRecursion (λ y. bytes_eq k y ≡ false) ks
+    → AreUnknown seen ks
     → AreUnknown (k ∷ seen) ks
 unknown_more k seen [] apart h = tt
 unknown_more k seen (y ∷ ys) apart h = (neither _ _ apart.0 h.0, unknown_more k seen ys apart.1 h.1)

@@ -10,7 +10,8 @@ use Rattle.jzon.proofs.NumeralsForward.{forward_numeral}
 use Rattle.jzon.proofs.StringsForward.{forward_string}
 use Rattle.jzon.proofs.Containers.{forward_before, forward_before_key, forward_after_key, forward_word}
 
-pub forward : (r : Reading) (s : State) (c : ℕ) (m : Option Breach) (q : List Cell) (d : Document) → Comp r s (cell c m ∷ q) d → Steps r (step r s c) m q d
+pub forward : (r : Reading) (s : State) (c : ℕ) (m : Option Breach) (q : List Cell) (d : Document)
+    → Comp r s (cell c m ∷ q) d → Steps r (step r s c) m q d
 forward r (before k b) c m q d h = forward_before r k b c m q d h
 forward r (before_key k a o b) c m q d h = forward_before_key r k a o b c m q d h
 forward r (word k b n l ls) c m q d h = forward_word r k b n l ls c m q d h

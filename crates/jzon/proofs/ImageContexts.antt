@@ -1,18 +1,26 @@
 -- The machine over values keeps what the finished parts of the machine over trees mean: before and behind values.
-use Rattle.std.proofs.Common.{◌≡◌, ℕ, suc, ◌+◌, List, [], ◌∷◌, ◌++◌, length, arith, Bool, cond, true, false, ◌==◌, Option, Some, None, refl, sym, ap, ◌∙◌, append_assoc}
+use Rattle.std.proofs.Common.{◌≡◌, ℕ, suc, ◌+◌, List, [], ◌∷◌, ◌++◌, length, arith, Bool, cond, true, false, ◌==◌}
+use Rattle.std.proofs.Common.{Option, Some, None, refl, sym, ap, ◌∙◌, append_assoc}
 use Rattle.std.specs.Str.{bytes_eq}
 use Rattle.jzon_base.specs.PairList.{put, put_each}
 use Rattle.jzon_base.proofs.PutEach.{put_each-push}
 use Rattle.jzon_tree.specs.Value.{Value, Values, pairs_of}
 use Rattle.jzon_tree.specs.Value as value
 use Rattle.jzon.specs.Reading.{Reading}
-use Rattle.jzon.specs.Grammar.{Item, plain, simple, single, double, Key, Node, Elements, no_elements, Members, no_members, element, member, code_unit}
+use Rattle.jzon.specs.Grammar.{Item, plain, simple, single, double, Key, Node, Elements, no_elements, Members}
+use Rattle.jzon.specs.Grammar.{no_members, element, member, code_unit}
 use Rattle.jzon.specs.Spelling.{Breach, onto, deep_if}
 use Rattle.jzon.specs.Meaning.{bytes_of, meaning, elements_meaning, members_meaning}
-use Rattle.jzon.specs.Classes.{Class, white, digits, dash, quote, opens_array, closes_array, opens_object, closes_object, comma, colon, begins_null, begins_true, begins_false, signed, begun}
-use Rattle.jzon.specs.Machine.{Entries, Frames, no_frames, array_frame, object_frame, Role, as_value, as_key, TextPlace, between, slash, code, second, second_slash, second_code, Place, before, before_key, word, numeral, string, after_key, behind, Move, go, bad, bad_deep, frames_depth, value_mark, key_mark, bad_at, move_empty_array, move_before, move_empty_object, move_before_key, move_after_key, move_behind}
+use Rattle.jzon.specs.Classes.{Class, white, digits, dash, quote, opens_array, closes_array, opens_object}
+use Rattle.jzon.specs.Classes.{closes_object, comma, colon, begins_null, begins_true, begins_false, signed, begun}
+use Rattle.jzon.specs.Machine.{Entries, Frames, no_frames, array_frame, object_frame, Role, as_value, as_key, TextPlace}
+use Rattle.jzon.specs.Machine.{between, slash, code, second, second_slash, second_code, Place, before, before_key, word}
+use Rattle.jzon.specs.Machine.{numeral, string, after_key, behind, Move, go, bad, bad_deep, frames_depth, value_mark}
+use Rattle.jzon.specs.Machine.{key_mark, bad_at, move_empty_array, move_before, move_empty_object, move_before_key}
+use Rattle.jzon.specs.Machine.{move_after_key, move_behind}
 use Rattle.jzon.proofs.TreeMachine as tree
-use Rattle.jzon.proofs.TreeMachine.{Done, nothing_done, done, Named, nothing_named, named, Context, top, in_array, in_object, State, Step, close_array, close_object, depth_of, items_onto}
+use Rattle.jzon.proofs.TreeMachine.{Done, nothing_done, done, Named, nothing_named, named, Context, top, in_array}
+use Rattle.jzon.proofs.TreeMachine.{in_object, State, Step, close_array, close_object, depth_of, items_onto}
 
 -- ---- what a state means
 
@@ -69,7 +77,8 @@ image left (tree.before k b) = before (frames_of k)
 image left (tree.before_key k a o b) = before_key (frames_of k) (entries_of o)
 image left (tree.word k b n l ls) = word (frames_of k) (meaning n) l ls
 image left (tree.numeral k b negative x) = numeral (frames_of k) negative x
-image left (tree.string role is x) = string (role_of role (left + (items_read is + place_read x))) (bytes_of (items_onto is [])) (text_place x)
+image left (tree.string role is x) = string (role_of role (left + (items_read is + place_read x)))
+    (bytes_of (items_onto is [])) (text_place x)
 image left (tree.after_key k a o b is z) = after_key (frames_of k) (entries_of o) (bytes_of is)
 image left (tree.behind k b n z) = behind (frames_of k) (meaning n)
 
@@ -85,7 +94,8 @@ abbrev with_front : List Value → Values → Values
 with_front [] vs = vs
 with_front (u ∷ us) vs = value.value u (with_front us vs)
 
-with_front-append : (us : List Value) (v : Value) (vs : Values) → with_front (us ++ v ∷ []) vs ≡ with_front us (value.value v vs)
+with_front-append : (us : List Value) (v : Value) (vs : Values)
+    → with_front (us ++ v ∷ []) vs ≡ with_front us (value.value v vs)
 with_front-append [] v vs = refl
 with_front-append (u ∷ us) v vs = ap (value.value u) (with_front-append us v vs)
 
@@ -94,7 +104,8 @@ with_front-none [] = refl
 with_front-none (u ∷ us) = ap (value.value u) (with_front-none us)
 
 meaning-close_array : (o : Done) (b : List ℕ) (n : Node) (z : List ℕ) (es : Elements)
-    → meaning (close_array o b n z es) ≡ value.array (with_front (values_of o) (value.value (meaning n) (elements_meaning es)))
+    → meaning (close_array o b n z es) ≡ value.array (with_front (values_of o)
+    (value.value (meaning n) (elements_meaning es)))
 meaning-close_array nothing_done b n z es = refl
 meaning-close_array (done o a m y) b n z es =
     meaning-close_array o a m y (element b n z es)
@@ -103,7 +114,8 @@ meaning-close_array (done o a m y) b n z es =
 closed_array : (o : Done) (b : List ℕ) (n : Node) (z : List ℕ)
     → value.array (value.values_of (values_of o ++ meaning n ∷ [])) ≡ meaning (close_array o b n z no_elements)
 closed_array o b n z =
-    ap value.array (sym (with_front-none (values_of o ++ meaning n ∷ [])) ∙ with_front-append (values_of o) (meaning n) value.no_values)
+    ap value.array (sym (with_front-none (values_of o ++ meaning n ∷ []))
+    ∙ with_front-append (values_of o) (meaning n) value.no_values)
     ∙ sym (meaning-close_array o b n z no_elements)
 
 -- the keys and values of the finished members, as they are written
@@ -114,24 +126,29 @@ written_of (named o key b n c) = written_of o ++ (bytes_of key.items, meaning n)
 put_each-written : (o : Named) → put_each (written_of o) ≡ entries_of o
 put_each-written nothing_named = refl
 put_each-written (named o key b n c) =
-    put_each-push (written_of o) (bytes_of key.items) (meaning n) ∙ ap (put (bytes_of key.items) (meaning n)) (put_each-written o)
+    put_each-push (written_of o) (bytes_of key.items) (meaning n)
+    ∙ ap (put (bytes_of key.items) (meaning n)) (put_each-written o)
 
 -- the object of keys and values as they are written
 abbrev object_of : Entries → Value
 object_of es = value.object (pairs_of (put_each es))
 
 meaning-close_object : (o : Named) (key : Key) (b : List ℕ) (n : Node) (z : List ℕ) (ms : Members)
-    → meaning (close_object o key b n z ms) ≡ object_of (written_of o ++ (bytes_of key.items, meaning n) ∷ members_meaning ms)
+    → meaning (close_object o key b n z ms) ≡ object_of (written_of o ++ (bytes_of key.items, meaning n) ∷
+    members_meaning ms)
 meaning-close_object nothing_named key b n z ms = refl
 meaning-close_object (named o key' a m y) key b n z ms =
     meaning-close_object o key' a m y (member key b n z ms)
-    ∙ ap object_of (sym (append_assoc (written_of o) ((bytes_of key'.items, meaning m) ∷ []) ((bytes_of key.items, meaning n) ∷ members_meaning ms)))
+    ∙ ap object_of (sym (append_assoc (written_of o) ((bytes_of key'.items, meaning m) ∷ [])
+    ((bytes_of key.items, meaning n) ∷ members_meaning ms)))
 
 closed_object : (o : Named) (key : Key) (b : List ℕ) (n : Node) (z : List ℕ)
-    → value.object (pairs_of (put (bytes_of key.items) (meaning n) (entries_of o))) ≡ meaning (close_object o key b n z no_members)
+    → value.object (pairs_of (put (bytes_of key.items) (meaning n) (entries_of o)))
+    ≡ meaning (close_object o key b n z no_members)
 closed_object o key b n z =
     ap (λ es. value.object (pairs_of es))
-    (ap (put (bytes_of key.items) (meaning n)) (sym (put_each-written o)) ∙ sym (put_each-push (written_of o) (bytes_of key.items) (meaning n)))
+    (ap (put (bytes_of key.items) (meaning n)) (sym (put_each-written o))
+    ∙ sym (put_each-push (written_of o) (bytes_of key.items) (meaning n)))
     ∙ sym (meaning-close_object o key b n z no_members)
 
 -- ---- marks
@@ -141,7 +158,8 @@ depth-frames top = refl
 depth-frames (in_array k b o) = ap suc (depth-frames k)
 depth-frames (in_object k b o key) = ap suc (depth-frames k)
 
-not_first_value : (r : Reading) (fs : Frames) (us : List Value) (v : Value) → value_mark r (array_frame fs (us ++ v ∷ [])) ≡ None
+not_first_value : (r : Reading) (fs : Frames) (us : List Value) (v : Value)
+    → value_mark r (array_frame fs (us ++ v ∷ [])) ≡ None
 not_first_value r fs [] v = refl
 not_first_value r fs (u ∷ us) v = refl
 
@@ -151,7 +169,8 @@ mark_before r (in_array k b nothing_done) = ap (deep_if r) (depth-frames k)
 mark_before r (in_array k b (done o a m z)) = not_first_value r (frames_of k) (values_of o) (meaning m)
 mark_before r (in_object k b o key) = refl
 
-not_first_by : (r : Reading) (fs : Frames) (t : Bool) (p q : List ℕ × Value) (ps qs : Entries) → key_mark r fs (cond t (p ∷ ps) (q ∷ qs)) ≡ None
+not_first_by : (r : Reading) (fs : Frames) (t : Bool) (p q : List ℕ × Value) (ps qs : Entries)
+    → key_mark r fs (cond t (p ∷ ps) (q ∷ qs)) ≡ None
 not_first_by r fs true p q ps qs = refl
 not_first_by r fs false p q ps qs = refl
 
@@ -159,7 +178,8 @@ not_first_key : (r : Reading) (fs : Frames) (k : List ℕ) (v : Value) (es : Ent
 not_first_key r fs k v [] = refl
 not_first_key r fs k v (e ∷ es) = not_first_by r fs (bytes_eq e.0 k) _ _ _ _
 
-mark_before_key : (r : Reading) (k : Context) (o : Named) → key_mark r (frames_of k) (entries_of o) ≡ tree.key_mark r k o
+mark_before_key : (r : Reading) (k : Context) (o : Named) → key_mark r (frames_of k) (entries_of o)
+    ≡ tree.key_mark r k o
 mark_before_key r k nothing_named = ap (deep_if r) (depth-frames k)
 mark_before_key r k (named o key b n z) = not_first_key r (frames_of k) (bytes_of key.items) (meaning n) (entries_of o)
 
@@ -167,7 +187,8 @@ image_bad_at : (left : ℕ) (m m' : Option Breach) → m ≡ m' → bad_at m ≡
 image_bad_at left m None e = rw e refl
 image_bad_at left m (Some b) e = rw e refl
 
-image_go : (left : ℕ) (m m' : Option Breach) (p : Place) (s : State) → m ≡ m' → p ≡ image left s → go m p ≡ image_step left (tree.go m' s)
+image_go : (left : ℕ) (m m' : Option Breach) (p : Place) (s : State) → m ≡ m' → p ≡ image left s
+    → go m p ≡ image_step left (tree.go m' s)
 image_go left m m' p s e f = cc
 
 -- ---- before a value
@@ -180,29 +201,39 @@ not_empty_array : (fs : Frames) (us : List Value) (v : Value) → move_empty_arr
 not_empty_array fs [] v = refl
 not_empty_array fs (u ∷ us) v = refl
 
-pub image_before : (r : Reading) (s : Class) (k : Context) (b : List ℕ) (c left : ℕ) → move_before r s (frames_of k) c ≡ image_step left (tree.step_before r s k b c)
+pub image_before : (r : Reading) (s : Class) (k : Context) (b : List ℕ) (c left : ℕ)
+    → move_before r s (frames_of k) c ≡ image_step left (tree.step_before r s k b c)
 image_before r white k b c left = refl
-image_before r digits k b c left = ap (λ z. go z (image left (tree.numeral k (onto b []) false (begun (c == 48) c)))) (mark_before r k)
+image_before r digits k b c left = ap (λ z. go z (image left (tree.numeral k (onto b []) false (begun (c == 48) c))))
+    (mark_before r k)
 image_before r dash k b c left = ap (λ z. go z (image left (tree.numeral k (onto b []) true signed))) (mark_before r k)
 image_before r quote k b c left =
-    image_go left _ _ (string (as_value (frames_of k)) [] between) (tree.string (tree.as_value k (onto b [])) [] tree.between)
+    image_go left _ _ (string (as_value (frames_of k)) [] between)
+    (tree.string (tree.as_value k (onto b [])) [] tree.between)
     (mark_before r k) (ap (λ z. string (as_value (frames_of k)) z between) (sym no_text))
 image_before r opens_array k b c left =
-    image_go left _ _ (before (array_frame (frames_of k) [])) (tree.before (in_array k (onto b []) nothing_done) []) (mark_before r k) refl
+    image_go left _ _ (before (array_frame (frames_of k) [])) (tree.before (in_array k (onto b []) nothing_done) [])
+    (mark_before r k) refl
 image_before r opens_object k b c left =
-    image_go left _ _ (before_key (frames_of k) []) (tree.before_key k (onto b []) nothing_named []) (mark_before r k) refl
+    image_go left _ _ (before_key (frames_of k) []) (tree.before_key k (onto b []) nothing_named []) (mark_before r k)
+    refl
 image_before r closes_array top b c left = refl
 image_before r closes_array (in_array k a nothing_done) b c left = refl
-image_before r closes_array (in_array k a (done o x n y)) b c left = not_empty_array (frames_of k) (values_of o) (meaning n)
+image_before r closes_array (in_array k a (done o x n y)) b c left = not_empty_array (frames_of k) (values_of o)
+    (meaning n)
 image_before r closes_array (in_object k a o key) b c left = refl
-image_before r begins_null k b c left = ap (λ z. go z (image left (tree.word k (onto b []) Node.null 117 (108 ∷ 108 ∷ [])))) (mark_before r k)
-image_before r begins_true k b c left = ap (λ z. go z (image left (tree.word k (onto b []) (Node.boolean true) 114 (117 ∷ 101 ∷ [])))) (mark_before r k)
-image_before r begins_false k b c left = ap (λ z. go z (image left (tree.word k (onto b []) (Node.boolean false) 97 (108 ∷ 115 ∷ 101 ∷ [])))) (mark_before r k)
+image_before r begins_null k b c left = ap (λ z. go z (image left
+    (tree.word k (onto b []) Node.null 117 (108 ∷ 108 ∷ [])))) (mark_before r k)
+image_before r begins_true k b c left = ap (λ z. go z (image left
+    (tree.word k (onto b []) (Node.boolean true) 114 (117 ∷ 101 ∷ [])))) (mark_before r k)
+image_before r begins_false k b c left = ap (λ z. go z (image left
+    (tree.word k (onto b []) (Node.boolean false) 97 (108 ∷ 115 ∷ 101 ∷ [])))) (mark_before r k)
 image_before r _ k b c left = image_bad_at left _ _ (mark_before r k)
 
 -- ---- keys
 
-not_empty_by : (fs : Frames) (t : Bool) (p q : List ℕ × Value) (ps qs : Entries) → move_empty_object fs (cond t (p ∷ ps) (q ∷ qs)) ≡ bad
+not_empty_by : (fs : Frames) (t : Bool) (p q : List ℕ × Value) (ps qs : Entries)
+    → move_empty_object fs (cond t (p ∷ ps) (q ∷ qs)) ≡ bad
 not_empty_by fs true p q ps qs = refl
 not_empty_by fs false p q ps qs = refl
 
@@ -215,15 +246,19 @@ pub image_before_key : (r : Reading) (s : Class) (k : Context) (a : List ℕ) (o
 image_before_key r white k a o b c left = refl
 image_before_key r quote k a o b c left =
     ap (λ z. go z (string (as_key (frames_of k) (entries_of o) (suc left)) [] between)) (mark_before_key r k o)
-    ∙ ap (λ z. go (tree.key_mark r k o) (string (as_key (frames_of k) (entries_of o) (suc left)) z between)) (sym no_text)
+    ∙ ap (λ z. go (tree.key_mark r k o) (string (as_key (frames_of k) (entries_of o) (suc left)) z between))
+    (sym no_text)
     ∙ ap (λ n. go (tree.key_mark r k o) (string (as_key (frames_of k) (entries_of o) n) (bytes_of []) between))
     (let one : suc left ≡ left + (1 + 0) = omega arith in one)
 image_before_key r closes_object k a nothing_named b c left = refl
-image_before_key r closes_object k a (named o key x n y) b c left = not_empty_object (frames_of k) (bytes_of key.items) (meaning n) (entries_of o)
+image_before_key r closes_object k a (named o key x n y) b c left = not_empty_object (frames_of k) (bytes_of key.items)
+    (meaning n) (entries_of o)
 image_before_key r _ k a o b c left = image_bad_at left _ _ (mark_before_key r k o)
 
-pub image_after_key : (s : Class) (k : Context) (a : List ℕ) (o : Named) (b : List ℕ) (is : List Item) (z : List ℕ) (c left : ℕ)
-    → move_after_key s (frames_of k) (entries_of o) (bytes_of is) ≡ image_step left (tree.step_after_key s k a o b is z c)
+pub image_after_key : (s : Class) (k : Context) (a : List ℕ) (o : Named) (b : List ℕ) (is : List Item) (z : List ℕ)
+    (c left : ℕ)
+    → move_after_key s (frames_of k) (entries_of o) (bytes_of is)
+    ≡ image_step left (tree.step_after_key s k a o b is z c)
 image_after_key white k a o b is z c left = refl
 image_after_key colon k a o b is z c left = refl
 image_after_key _ k a o b is z c left = refl
@@ -237,7 +272,8 @@ image_behind comma top b n z c left = refl
 image_behind comma (in_array k a o) b n z c left = refl
 image_behind comma (in_object k a o key) b n z c left = refl
 image_behind closes_array top b n z c left = refl
-image_behind closes_array (in_array k a o) b n z c left = ap (λ v. go None (behind (frames_of k) v)) (closed_array o b n (onto z []))
+image_behind closes_array (in_array k a o) b n z c left = ap (λ v. go None (behind (frames_of k) v))
+    (closed_array o b n (onto z []))
 image_behind closes_array (in_object k a o key) b n z c left = refl
 image_behind closes_object top b n z c left = refl
 image_behind closes_object (in_array k a o) b n z c left = refl

@@ -1,7 +1,8 @@
 -- Inside a number the machine over values does the same as the machine over trees.
 use Rattle.std.proofs.Common.{◌≡◌, ℕ, List, [], ◌∷◌, Bool, None, refl}
 use Rattle.jzon.specs.Spelling.{onto}
-use Rattle.jzon.specs.Classes.{Class, digits, dash, cross, point, letter_e, NumberPlace, signed, zero_read, whole, pointed, fraction, lettered, signed_exponent, exponent}
+use Rattle.jzon.specs.Classes.{Class, digits, dash, cross, point, letter_e, NumberPlace, signed, zero_read, whole}
+use Rattle.jzon.specs.Classes.{pointed, fraction, lettered, signed_exponent, exponent}
 use Rattle.jzon.specs.Machine.{move_after_whole, move_after_fraction, move_numeral}
 use Rattle.jzon.proofs.TreeMachine as tree
 use Rattle.jzon.proofs.TreeMachine.{Context, numeral_of, exponent_of}
@@ -14,7 +15,8 @@ image_after_whole letter_e k b negative ws c left = refl
 image_after_whole s k b negative ws c left = image_behind s k b (numeral_of negative ws [] None) [] c left
 
 image_after_fraction : (s : Class) (k : Context) (b : List ℕ) (negative : Bool) (ws ds : List ℕ) (c left : ℕ)
-    → move_after_fraction s (frames_of k) negative ws ds c ≡ image_step left (tree.step_after_fraction s k b negative ws ds c)
+    → move_after_fraction s (frames_of k) negative ws ds c ≡ image_step left
+    (tree.step_after_fraction s k b negative ws ds c)
 image_after_fraction letter_e k b negative ws ds c left = refl
 image_after_fraction s k b negative ws ds c left = image_behind s k b (numeral_of negative ws ds None) [] c left
 
@@ -36,4 +38,5 @@ image_numeral (lettered ws ds l) _ k b negative c left = refl
 image_numeral (signed_exponent ws ds l e) digits k b negative c left = refl
 image_numeral (signed_exponent ws ds l e) _ k b negative c left = refl
 image_numeral (exponent ws ds l e xs) digits k b negative c left = refl
-image_numeral (exponent ws ds l e xs) s k b negative c left = image_behind s k b (numeral_of negative ws ds (exponent_of l e (onto xs []))) [] c left
+image_numeral (exponent ws ds l e xs) s k b negative c left = image_behind s k b
+    (numeral_of negative ws ds (exponent_of l e (onto xs []))) [] c left

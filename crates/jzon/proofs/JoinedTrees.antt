@@ -10,7 +10,8 @@ use Rattle.jzon.specs.Reading.{Reading}
 use Rattle.jzon.specs.Grammar.{Node, Elements, no_elements, element, Members, no_members, member, IsBlank}
 use Rattle.jzon.specs.Meaning.{bytes_of, meaning, elements_meaning, members_meaning}
 use Rattle.jzon.proofs.WrittenStrings.{items_for, bytes_of-items_for}
-use Rattle.jzon.proofs.WrittenTrees.{NodeSpells, ElementsSpell, MembersSpell, run_text, key_for, pair_text, no_elements_spell, element_spells, no_members_spell, member_spells}
+use Rattle.jzon.proofs.WrittenTrees.{NodeSpells, ElementsSpell, MembersSpell, run_text, key_for, pair_text}
+use Rattle.jzon.proofs.WrittenTrees.{no_elements_spell, element_spells, no_members_spell, member_spells}
 
 -- each blank that the style allows is one of the reading
 abbrev pub AllowsBlanksOf : Reading → Style → Type 0
@@ -19,14 +20,31 @@ AllowsBlanksOf r s = (dent : ℕ) (w : List ℕ) → IsAllowedBlank s dent w →
 -- ---- higher bounds
 
 pub node_raised : (r : Reading) (h g : ℕ) (b : List ℕ) (n : Node) → h ≤ g → NodeSpells r h b n → NodeSpells r g b n
-node_raised r h g b n le e = record { utf8 = e.utf8; in_grammar = e.in_grammar; unbroken = λ depth k few. e.unbroken depth k (omega arith) }
+node_raised r h g b n le e = record {
+  utf8 = e.utf8;
+  in_grammar = e.in_grammar;
+  unbroken = λ depth k few. e.unbroken
+      depth k (omega arith);
+}
 
-elements_raised : (r : Reading) (h g : ℕ) (b : List ℕ) (es : Elements) → h ≤ g → ElementsSpell r h b es → ElementsSpell r g b es
-elements_raised r h g b es le e = record { utf8 = e.utf8; in_grammar = e.in_grammar; unbroken = λ depth k few. e.unbroken depth k (omega arith) }
+elements_raised : (r : Reading) (h g : ℕ) (b : List ℕ) (es : Elements) → h ≤ g → ElementsSpell r h b es
+    → ElementsSpell r g b es
+elements_raised r h g b es le e = record {
+  utf8 = e.utf8;
+  in_grammar = e.in_grammar;
+  unbroken = λ depth k few.
+      e.unbroken depth k (omega arith);
+}
 
-members_raised : (r : Reading) (h g : ℕ) (keys : List (List ℕ)) (b : List ℕ) (ms : Members) → h ≤ g → MembersSpell r h keys b ms → MembersSpell r g keys b ms
+members_raised : (r : Reading) (h g : ℕ) (keys : List (List ℕ)) (b : List ℕ) (ms : Members) → h ≤ g
+    → MembersSpell r h keys b ms → MembersSpell r g keys b ms
 members_raised r h g keys b ms le e =
-    record { utf8 = e.utf8; in_grammar = e.in_grammar; unbroken = λ seen depth k new few. e.unbroken seen depth k new (omega arith) }
+    record {
+      utf8 = e.utf8;
+      in_grammar = e.in_grammar;
+      unbroken = λ seen depth k new few. e.unbroken seen depth k new
+          (omega arith);
+    }
 
 -- ---- values
 
@@ -37,7 +55,8 @@ EachSpells r high (t ∷ ts) (n ∷ ns) = NodeSpells r high t n × EachSpells r 
 EachSpells r high [] (n ∷ ns) = ⊥
 EachSpells r high (t ∷ ts) [] = ⊥
 
--- The text `inside` of the values, with the blank w and the bracket behind it, is a blank, the first value, a blank and the elements after it.
+-- The text `inside` of the values, with the blank w and the bracket behind it, is a blank, the first value, a blank and
+-- the elements after it.
 pub record JoinedElements (r : Reading) (high : ℕ) (t : List ℕ) (ns : List Node) (inside w : List ℕ) : Type 0 where
   pub before : List ℕ
   pub after : List ℕ
@@ -56,8 +75,10 @@ behind w t x y = append_assoc w (t ++ x) y ∙ ap (λ z. w ++ z) (append_assoc t
 no_higher : (n : ℕ) → max n n ≤ n
 no_higher n = omega arith
 
-pub joined_elements : (r : Reading) (s : Style) (dent high : ℕ) (t : List ℕ) (ts : List (List ℕ)) (n : Node) (ns : List Node) (inside w : List ℕ)
-    → AllowsBlanksOf r s → EachSpells r high (t ∷ ts) (n ∷ ns) → Joins s dent (t ∷ ts) inside → IsBlank r w → JoinedElements r high t ns inside w
+pub joined_elements : (r : Reading) (s : Style) (dent high : ℕ) (t : List ℕ) (ts : List (List ℕ)) (n : Node)
+    (ns : List Node) (inside w : List ℕ)
+    → AllowsBlanksOf r s → EachSpells r high (t ∷ ts) (n ∷ ns) → Joins s dent (t ∷ ts) inside → IsBlank r w
+    → JoinedElements r high t ns inside w
 joined_elements r s dent high t [] n [] inside w fit each join space = record {
   before = join.0;
   after = w;
@@ -82,7 +103,8 @@ joined_elements r s dent high t (u ∷ ts) n (m ∷ ns) inside w fit each join s
       space = tt;
       spell =
           elements_raised r (max high high) high _ _ (no_higher high)
-          (element_spells r high high more.before u more.after more.rest m more.elements more.white more.space each.1.0 more.spell);
+          (element_spells r high high more.before u more.after more.rest m more.elements more.white more.space each.1.0
+          more.spell);
       text =
           ap (λ x. x ++ (w ++ 93 ∷ [])) join.4 ∙ behind join.0 t (44 ∷ join.1) (w ++ 93 ∷ [])
           ∙ ap (λ x. join.0 ++ (t ++ 44 ∷ x)) more.text;
@@ -113,9 +135,11 @@ pub record EntrySpells (r : Reading) (high : ℕ) (e : Entry) : Type 0 where
   pub spells : NodeSpells r high e.text e.node
 
 -- what follows the text of an entry
-entry_behind : (e : Entry) (w x : List ℕ) → w ++ (entry_text e ++ x) ≡ w ++ (quoted e.key ++ (58 ∷ (e.gap ++ (e.text ++ x))))
+entry_behind : (e : Entry) (w x : List ℕ) → w ++ (entry_text e ++ x)
+    ≡ w ++ (quoted e.key ++ (58 ∷ (e.gap ++ (e.text ++ x))))
 entry_behind e w x =
-    ap (λ z. w ++ z) (append_assoc (quoted e.key) (58 ∷ (e.gap ++ e.text)) x ∙ ap (λ z. quoted e.key ++ 58 ∷ z) (append_assoc e.gap e.text x))
+    ap (λ z. w ++ z) (append_assoc (quoted e.key) (58 ∷ (e.gap ++ e.text)) x
+    ∙ ap (λ z. quoted e.key ++ 58 ∷ z) (append_assoc e.gap e.text x))
 
 pub record JoinedMembers (r : Reading) (high : ℕ) (e : Entry) (es : List Entry) (inside w : List ℕ) : Type 0 where
   pub before : List ℕ
@@ -128,8 +152,10 @@ pub record JoinedMembers (r : Reading) (high : ℕ) (e : Entry) (es : List Entry
   pub text : inside ++ (w ++ 125 ∷ []) ≡ pair_text before e.key e.gap e.text after rest
   pub means : members_meaning members ≡ map entry_meaning es
 
-pub joined_members : (r : Reading) (s : Style) (dent high : ℕ) (e : Entry) (es : List Entry) (inside w : List ℕ) → AllowsBlanksOf r s
-    → AllByRecursion (EntrySpells r high) (e ∷ es) → Joins s dent (map entry_text (e ∷ es)) inside → IsBlank r w → JoinedMembers r high e es inside w
+pub joined_members : (r : Reading) (s : Style) (dent high : ℕ) (e : Entry) (es : List Entry) (inside w : List ℕ)
+    → AllowsBlanksOf r s
+    → AllByRecursion (EntrySpells r high) (e ∷ es) → Joins s dent (map entry_text (e ∷ es)) inside → IsBlank r w
+    → JoinedMembers r high e es inside w
 joined_members r s dent high e [] inside w fit each join space = record {
   before = join.0;
   after = w;
@@ -138,7 +164,8 @@ joined_members r s dent high e [] inside w fit each join space = record {
   white = fit dent join.0 join.1;
   space = space;
   spell = members_raised r 0 high [] (125 ∷ []) no_members (omega arith) (no_members_spell r);
-  text = ap (λ x. x ++ (w ++ 125 ∷ [])) join.2 ∙ append_assoc join.0 (entry_text e) (w ++ 125 ∷ []) ∙ entry_behind e join.0 (w ++ 125 ∷ []);
+  text = ap (λ x. x ++ (w ++ 125 ∷ [])) join.2 ∙ append_assoc join.0 (entry_text e) (w ++ 125 ∷ [])
+      ∙ entry_behind e join.0 (w ++ 125 ∷ []);
   means = refl;
 }
 joined_members r s dent high e (f ∷ es) inside w fit each join space =
@@ -153,10 +180,13 @@ joined_members r s dent high e (f ∷ es) inside w fit each join space =
       space = tt;
       spell =
           members_raised r (max high high) high _ _ _ (no_higher high)
-          (member_spells r high high (entry_keys es) more.before f.key f.gap f.text more.after more.rest f.node more.members more.white each.1.0.utf8 each.1.0.white
+          (member_spells r high high (entry_keys es) more.before f.key f.gap f.text more.after more.rest f.node
+          more.members more.white each.1.0.utf8 each.1.0.white
           more.space each.1.0.spells more.spell);
       text =
           ap (λ x. x ++ (w ++ 125 ∷ [])) join.4 ∙ behind join.0 (entry_text e) (44 ∷ join.1) (w ++ 125 ∷ [])
-          ∙ entry_behind e join.0 (44 ∷ (join.1 ++ (w ++ 125 ∷ []))) ∙ ap (λ x. pair_text join.0 e.key e.gap e.text [] (44 ∷ x)) more.text;
-      means = ap (λ y. (y, meaning f.node) ∷ members_meaning more.members) bytes ∙ ap (λ ps. entry_meaning f ∷ ps) more.means;
+          ∙ entry_behind e join.0 (44 ∷ (join.1 ++ (w ++ 125 ∷ [])))
+          ∙ ap (λ x. pair_text join.0 e.key e.gap e.text [] (44 ∷ x)) more.text;
+      means = ap (λ y. (y, meaning f.node) ∷ members_meaning more.members) bytes
+          ∙ ap (λ ps. entry_meaning f ∷ ps) more.means;
     }

@@ -17,8 +17,10 @@ pub refused_error : (r : Reading) (t rest : List ℕ) (f : Fault) (e : Error)
     → answer r t start ≡ refused f rest → e ≡ error_at t (length t - length rest) f → IsErrorOf r t e
 refused_error r t rest f e h g = (length t - length rest, f, subst (λ z. Verdict r t z) h (answers r t), g)
 
-pub too_deep : (r : Reading) (t rest : List ℕ) → answer r t start ≡ refused (limit deep) rest → IsErrorOf r t ExceededDepthLimit
+pub too_deep : (r : Reading) (t rest : List ℕ) → answer r t start ≡ refused (limit deep) rest
+    → IsErrorOf r t ExceededDepthLimit
 too_deep r t rest h = refused_error r t rest (limit deep) ExceededDepthLimit h refl
 
-pub too_many_digits : (r : Reading) (t rest : List ℕ) → answer r t start ≡ refused (limit digit) rest → IsErrorOf r t ExceededDepthLimit
+pub too_many_digits : (r : Reading) (t rest : List ℕ) → answer r t start ≡ refused (limit digit) rest
+    → IsErrorOf r t ExceededDepthLimit
 too_many_digits r t rest h = refused_error r t rest (limit digit) ExceededDepthLimit h refl

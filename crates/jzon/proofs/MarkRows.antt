@@ -1,4 +1,5 @@
--- Worked rows of docs/RULES.md, "Depth", "Strings" and "Readings": where trees break a limit, computed from the definitions, with the text as it is spelled.
+-- Worked rows of docs/RULES.md, "Depth", "Strings" and "Readings": where trees break a limit, computed from the
+-- definitions, with the text as it is spelled.
 use Rattle.std.proofs.Common.{◌≡◌, ℕ, zero, suc, List, [], ◌∷◌, ◌++◌, replicate, true, false, codes, refl}
 use Rattle.std.specs.Char.{encode_utf8}
 use Rattle.std.specs.List.{repeat}
@@ -45,13 +46,15 @@ empty_inside_at_1 : MarkRow (shallow 1) (codes "[[]]") (array (Node.empty_array 
 empty_inside_at_1 = (refl, refl)
 
 empty_members_at_1 :
-    MarkRow (shallow 1) (codes "{\"a\":[],\"b\":{}}") (object (key a) (Node.empty_array []) ((key (codes "b"), Node.empty_object []) ∷ [])) []
+    MarkRow (shallow 1) (codes "{\"a\":[],\"b\":{}}") (object (key a) (Node.empty_array [])
+    ((key (codes "b"), Node.empty_object []) ∷ [])) []
 empty_members_at_1 = (refl, refl)
 
 array_inside_at_1 : MarkRow (shallow 1) (codes "[[1]]") (array (array one []) []) ((2, deep) ∷ [])
 array_inside_at_1 = (refl, refl)
 
-object_inside_at_1 : MarkRow (shallow 1) (codes "[1,{\"a\":2}]") (array one (object (key a) two [] ∷ [])) ((4, deep) ∷ [])
+object_inside_at_1 : MarkRow (shallow 1) (codes "[1,{\"a\":2}]") (array one (object (key a) two [] ∷ []))
+    ((4, deep) ∷ [])
 object_inside_at_1 = (refl, refl)
 
 array_inside_at_2 : MarkRow (shallow 2) (codes "[[1]]") (array (array one []) []) []
@@ -62,16 +65,20 @@ blank_before_deep : MarkRow (shallow 0) (codes "[ \n1]") (Node.array (32 ∷ 10 
 blank_before_deep = (refl, refl)
 
 -- each first value too deep, and no other
-elements_too_deep : MarkRow (shallow 1) (codes "[[1,2],[2]]") (array (array one (two ∷ [])) (array two [] ∷ [])) ((2, deep) ∷ (8, deep) ∷ [])
+elements_too_deep : MarkRow (shallow 1) (codes "[[1,2],[2]]") (array (array one (two ∷ [])) (array two [] ∷ []))
+    ((2, deep) ∷ (8, deep) ∷ [])
 elements_too_deep = (refl, refl)
 
-empty_at_most : MarkRow usual (replicate 513 91 ++ codes " " ++ replicate 513 93) (nested 512 (Node.empty_array (codes " "))) []
+empty_at_most : MarkRow usual (replicate 513 91 ++ codes " " ++ replicate 513 93)
+    (nested 512 (Node.empty_array (codes " "))) []
 empty_at_most = (refl, refl)
 
-null_too_deep : MarkRow usual (replicate 513 91 ++ codes "null" ++ replicate 513 93) (nested 513 Node.null) ((513, deep) ∷ [])
+null_too_deep : MarkRow usual (replicate 513 91 ++ codes "null" ++ replicate 513 93) (nested 513 Node.null)
+    ((513, deep) ∷ [])
 null_too_deep = (refl, refl)
 
-member_too_deep : MarkRow usual (replicate 512 91 ++ codes "{\"a\":1}" ++ replicate 512 93) (nested 512 (object (key a) one [])) ((513, deep) ∷ [])
+member_too_deep : MarkRow usual (replicate 512 91 ++ codes "{\"a\":1}" ++ replicate 512 93)
+    (nested 512 (object (key a) one [])) ((513, deep) ∷ [])
 member_too_deep = (refl, refl)
 
 -- arrays and objects in turn
@@ -79,11 +86,13 @@ abbrev in_turn : ℕ → Node → Node
 in_turn zero n = n
 in_turn (suc m) n = array (object (key a) (in_turn m n) []) []
 
-in_turn_at_most : MarkRow usual (repeat 256 (codes "[{\"a\":") ++ codes "null" ++ repeat 256 (codes "}]")) (in_turn 256 Node.null) []
+in_turn_at_most : MarkRow usual (repeat 256 (codes "[{\"a\":") ++ codes "null" ++ repeat 256 (codes "}]"))
+    (in_turn 256 Node.null) []
 in_turn_at_most = (refl, refl)
 
 in_turn_too_deep :
-    MarkRow usual (repeat 257 (codes "[{\"a\":") ++ codes "null" ++ repeat 257 (codes "}]")) (in_turn 257 Node.null) ((1537, deep) ∷ (1538, deep) ∷ [])
+    MarkRow usual (repeat 257 (codes "[{\"a\":") ++ codes "null" ++ repeat 257 (codes "}]")) (in_turn 257 Node.null)
+    ((1537, deep) ∷ (1538, deep) ∷ [])
 in_turn_too_deep = (refl, refl)
 
 -- ---- pairs
@@ -102,15 +111,18 @@ low_and_low : MarkRow usual (codes "\"\\uDC00\\uDC00\"") two_low ((12, pair) ∷
 unfolding code_unit
 low_and_low = (refl, refl)
 
-high_and_high : MarkRow usual (codes "\"\\uD834\\ud834\"") (Node.string (double (codes "D834") (codes "d834") ∷ [])) ((12, pair) ∷ [])
+high_and_high : MarkRow usual (codes "\"\\uD834\\ud834\"") (Node.string (double (codes "D834") (codes "d834") ∷ []))
+    ((12, pair) ∷ [])
 unfolding code_unit
 high_and_high = (refl, refl)
 
-low_and_high : MarkRow usual (codes "\"\\uDD1E\\uD834\"") (Node.string (double (codes "DD1E") (codes "D834") ∷ [])) ((12, pair) ∷ [])
+low_and_high : MarkRow usual (codes "\"\\uDD1E\\uD834\"") (Node.string (double (codes "DD1E") (codes "D834") ∷ []))
+    ((12, pair) ∷ [])
 unfolding code_unit
 low_and_high = (refl, refl)
 
-high_and_letter : MarkRow usual (codes "\"\\uD834\\u0061\"") (Node.string (double (codes "D834") (codes "0061") ∷ [])) ((12, pair) ∷ [])
+high_and_letter : MarkRow usual (codes "\"\\uD834\\u0061\"") (Node.string (double (codes "D834") (codes "0061") ∷ []))
+    ((12, pair) ∷ [])
 unfolding code_unit
 high_and_letter = (refl, refl)
 
@@ -141,19 +153,22 @@ repeated_key_usual = (refl, refl)
 
 -- keys are compared after their escapes are read
 repeated_as_escape :
-    MarkRow (strict_to 512) (codes "{\"a\":1,\"\\u0061\":2}") (object (key a) one ((key_of (single (codes "0061") ∷ []), two) ∷ [])) ((14, duplicate 7) ∷ [])
+    MarkRow (strict_to 512) (codes "{\"a\":1,\"\\u0061\":2}")
+    (object (key a) one ((key_of (single (codes "0061") ∷ []), two) ∷ [])) ((14, duplicate 7) ∷ [])
 unfolding encode_utf8 bytes_of code_unit
 repeated_as_escape = (refl, refl)
 
 repeated_on_next_line :
     MarkRow (strict_to 512) (codes "{\"a\":1,\n\"a\":2}")
-    (object (key a) one ((record { before = 10 ∷ []; items = plains a; after = [] }, two) ∷ [])) ((10, duplicate 2) ∷ [])
+    (object (key a) one ((record { before = 10 ∷ []; items = plains a; after = [] }, two) ∷ []))
+    ((10, duplicate 2) ∷ [])
 unfolding encode_utf8 bytes_of
 repeated_on_next_line = (refl, refl)
 
 repeated_inside :
     MarkRow (strict_to 512) (codes "[\"é\",{\"é\":1,\"é\":2}]")
-    (array (string (codes "é")) (object (key (codes "é")) one ((key (codes "é"), two) ∷ []) ∷ [])) ((14, duplicate 2) ∷ [])
+    (array (string (codes "é")) (object (key (codes "é")) one ((key (codes "é"), two) ∷ []) ∷ []))
+    ((14, duplicate 2) ∷ [])
 unfolding encode_utf8 bytes_of
 repeated_inside = (refl, refl)
 
@@ -163,7 +178,8 @@ one_key_in_three_objects :
 unfolding encode_utf8 bytes_of
 one_key_in_three_objects = (refl, refl)
 
-repeated_empty_key : MarkRow (strict_to 512) (codes "{\"\":1,\"\":2}") (object (key []) one ((key [], two) ∷ [])) ((7, duplicate 1) ∷ [])
+repeated_empty_key : MarkRow (strict_to 512) (codes "{\"\":1,\"\":2}") (object (key []) one ((key [], two) ∷ []))
+    ((7, duplicate 1) ∷ [])
 unfolding encode_utf8 bytes_of
 repeated_empty_key = (refl, refl)
 
@@ -185,9 +201,11 @@ deep_before_repeated = (refl, refl)
 -- with blanks round the keys
 spaced :
     MarkRow (strict_to 512) (codes "{ \"foo\": 0, \"bar\": 1, \"foo\": 2 }")
-    (Node.object (record { before = codes " "; items = plains (codes "foo"); after = [] }) (codes " ") (int (codes "0")) []
+    (Node.object (record { before = codes " "; items = plains (codes "foo"); after = [] }) (codes " ") (int (codes "0"))
+    []
     (member (record { before = codes " "; items = plains (codes "bar"); after = [] }) (codes " ") one []
-    (member (record { before = codes " "; items = plains (codes "foo"); after = [] }) (codes " ") two (codes " ") no_members)))
+    (member (record { before = codes " "; items = plains (codes "foo"); after = [] }) (codes " ") two (codes " ")
+    no_members)))
     ((26, duplicate 4) ∷ [])
 unfolding encode_utf8 bytes_of
 spaced = (refl, refl)

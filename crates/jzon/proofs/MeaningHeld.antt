@@ -1,5 +1,7 @@
 -- The meaning of a tree that breaks no limit is a value of which the laws `redump` and `reads_back` speak.
-use Rattle.std.proofs.Common.{◌≡◌, ℕ, suc, ◌-◌, ◌<◌, ◌≤◌, max, ℤ, pos, ◌+ℤ◌, ◌-ℤ◌, List, [], ◌∷◌, ◌++◌, length, Bool, true, false, cond, ◌&&◌, nat_le, if◌then◌else◌, Option, None, codes, refl, sym, subst, arith, FitsSigned}
+use Rattle.std.proofs.Common.{◌≡◌, ℕ, suc, ◌-◌, ◌<◌, ◌≤◌, max, ℤ, pos, ◌+ℤ◌, ◌-ℤ◌, List, [], ◌∷◌, ◌++◌, length, Bool}
+use Rattle.std.proofs.Common.{true, false, cond, ◌&&◌, nat_le, if◌then◌else◌, Option, None, codes, refl, sym, subst}
+use Rattle.std.proofs.Common.{arith, FitsSigned}
 use Rattle.std.specs.Prelude.{IsUtf8}
 use Rattle.std.specs.Int.{w16}
 use Rattle.std.specs.List.{fold, AllByRecursion, IsDistinct}
@@ -18,10 +20,14 @@ use Rattle.jzon_tree.specs.Text.{compact}
 use Rattle.jzon_tree.specs.Lawful.{InRange, IsText, IsValue, AreValues, ArePairs, HasNoNan, HaveNoNan, PairsHaveNoNan}
 use Rattle.jzon_tree.proofs.Views.{list_of_pairs-pairs_of}
 use Rattle.jzon.specs.Reading.{Reading}
-use Rattle.jzon.specs.Grammar.{Numeral, Item, simple, single, double, Node, Elements, no_elements, element, Members, no_members, member, Document, AreHex, IsItem, AreItems, is_simple, is_high, is_low, is_surrogate, code_unit, IsNode, AreElements, AreMembers}
+use Rattle.jzon.specs.Grammar.{Numeral, Item, simple, single, double, Node, Elements, no_elements, element, Members}
+use Rattle.jzon.specs.Grammar.{no_members, member, Document, AreHex, IsItem, AreItems, is_simple, is_high, is_low}
+use Rattle.jzon.specs.Grammar.{is_surrogate, code_unit, IsNode, AreElements, AreMembers}
 use Rattle.jzon.specs.Grammar as grammar
-use Rattle.jzon.specs.Spelling.{Breach, Cell, cell, plain, deep_if, deep, breach_if, node_cells, elements_cells, members_cells, cells}
-use Rattle.jzon.specs.Meaning.{written_exponent, number_of, unescaped, pair_char, item_text, text_of, bytes_of, meaning, elements_meaning, members_meaning}
+use Rattle.jzon.specs.Spelling.{Breach, Cell, cell, plain, deep_if, deep, breach_if, node_cells, elements_cells}
+use Rattle.jzon.specs.Spelling.{members_cells, cells}
+use Rattle.jzon.specs.Meaning.{written_exponent, number_of, unescaped, pair_char, item_text, text_of, bytes_of, meaning}
+use Rattle.jzon.specs.Meaning.{elements_meaning, members_meaning}
 use Rattle.jzon.specs.Fault.{Parses}
 use Rattle.jzon.specs.Laws.{IsReadAs, Redump}
 use Rattle.jzon.specs.Answer.{IsReadable}
@@ -38,7 +44,8 @@ clamped_fits z = omega (arith, ints, clamps)
 number_in_range : (n : Numeral) → InRange (number_of n)
 number_in_range n = (
   (kept_len_is_longest (n.whole ++ n.fraction)).fits,
-  clamped_fits ((pos (dropped n.whole n.fraction) -ℤ pos (kept_fraction n.whole n.fraction)) +ℤ written_exponent n.exponent),
+  clamped_fits ((pos (dropped n.whole n.fraction) -ℤ pos (kept_fraction n.whole n.fraction)) +ℤ written_exponent
+      n.exponent),
 )
 
 -- ---- strings
@@ -56,7 +63,14 @@ code_unit_small (a ∷ []) h = absurd h.1
 code_unit_small (a ∷ b ∷ []) h = absurd h.1.1
 code_unit_small (a ∷ b ∷ c ∷ []) h = absurd h.1.1.1
 code_unit_small (a ∷ b ∷ c ∷ d ∷ []) h =
-    omega (arith, hex_is_below_16 a h.0, hex_is_below_16 b h.1.0, hex_is_below_16 c h.1.1.0, hex_is_below_16 d h.1.1.1.0)
+    omega (
+      arith,
+      hex_is_below_16 a h.0,
+      hex_is_below_16 b h.1.0,
+      hex_is_below_16 c h.1.1.0,
+      hex_is_below_16 d
+          h.1.1.1.0,
+    )
 code_unit_small (a ∷ b ∷ c ∷ d ∷ e ∷ cs) h = absurd h.1.1.1.1
 
 unit_scalar : (u : ℕ) → u < 65536 → is_surrogate u ≡ false → scalar u ≡ true
@@ -102,21 +116,31 @@ record IsHeldPair (h : ℕ) (p : List ℕ × Value) : Type 0 where
 abbrev AreHeldPairs : ℕ → List (List ℕ × Value) → Type 0
 AreHeldPairs h = AllByRecursion (IsHeldPair h)
 
-cond_held : (b : Bool) (h : ℕ) (ps qs : List (List ℕ × Value)) → AreHeldPairs h ps → AreHeldPairs h qs → AreHeldPairs h (cond b ps qs)
+cond_held : (b : Bool) (h : ℕ) (ps qs : List (List ℕ × Value)) → AreHeldPairs h ps → AreHeldPairs h qs
+    → AreHeldPairs h (cond b ps qs)
 cond_held true h ps qs x y = x
 cond_held false h ps qs x y = y
 
-put_held : (h : ℕ) (k : List ℕ) (v : Value) (ps : List (List ℕ × Value)) → IsHeldPair h (k, v) → AreHeldPairs h ps → AreHeldPairs h (put k v ps)
+put_held : (h : ℕ) (k : List ℕ) (v : Value) (ps : List (List ℕ × Value)) → IsHeldPair h (k, v) → AreHeldPairs h ps
+    → AreHeldPairs h (put k v ps)
 put_held h k v [] one all = (one, tt)
 put_held h k v (p ∷ ps) one all =
-    let new : IsHeldPair h (p.0, v) = record { utf8 = all.0.utf8; lawful = one.lawful; no_nan = one.no_nan; few = one.few } in
+    let new : IsHeldPair h (p.0, v) = record {
+      utf8 = all.0.utf8;
+      lawful = one.lawful;
+      no_nan = one.no_nan;
+      few =
+          one.few;
+    } in
     cond_held (bytes_eq p.0 k) h ((p.0, v) ∷ ps) (p ∷ put k v ps) (new, all.1) (all.0, put_held h k v ps one all.1)
 
-each_held : (h : ℕ) (qs ps : List (List ℕ × Value)) → AreHeldPairs h qs → AreHeldPairs h ps → AreHeldPairs h (fold (λ xs p. put p.0 p.1 xs) qs ps)
+each_held : (h : ℕ) (qs ps : List (List ℕ × Value)) → AreHeldPairs h qs → AreHeldPairs h ps
+    → AreHeldPairs h (fold (λ xs p. put p.0 p.1 xs) qs ps)
 each_held h qs [] done all = done
 each_held h qs (p ∷ ps) done all =
     each_held h (put p.0 p.1 qs) ps
-    (put_held h p.0 p.1 qs (record { utf8 = all.0.utf8; lawful = all.0.lawful; no_nan = all.0.no_nan; few = all.0.few }) done) all.1
+    (put_held h p.0 p.1 qs (record { utf8 = all.0.utf8; lawful = all.0.lawful; no_nan = all.0.no_nan; few = all.0.few })
+    done) all.1
 
 pairs_lawful : (h : ℕ) (ps : List (List ℕ × Value)) → AreHeldPairs h ps → ArePairs (pairs_of ps)
 pairs_lawful h [] all = tt
@@ -134,13 +158,18 @@ object_few : (h : ℕ) (ps : List (List ℕ × Value)) → AreHeldPairs h ps →
 object_few h [] all = omega arith
 object_few h (p ∷ ps) all = omega (arith, all.0.few, pairs_few h ps all.1)
 
-object_lawful : (h : ℕ) (ps : List (List ℕ × Value)) → AreHeldPairs h ps → IsDistinct bytes_eq (keys_of ps) → IsValue (object (pairs_of ps))
-object_lawful h ps all distinct =
-    (pairs_lawful h ps all, rw (list_of_pairs-pairs_of ps) (AllPairs-from_IsDistinct bytes_eq-Decides (keys_of ps) distinct))
+object_lawful : (h : ℕ) (ps : List (List ℕ × Value)) → AreHeldPairs h ps → IsDistinct bytes_eq (keys_of ps)
+    → IsValue (object (pairs_of ps))
+object_lawful h ps all distinct = (
+  pairs_lawful h ps all,
+  rw (list_of_pairs-pairs_of ps) (AllPairs-from_IsDistinct bytes_eq-Decides (keys_of ps)
+      distinct),
+)
 
 -- ---- values
 
--- What holds of a value that is read inside so many non-empty containers, with the mark at its first character and the cells behind it.
+-- What holds of a value that is read inside so many non-empty containers, with the mark at its first character and the
+-- cells behind it.
 record NodeHeld (r : Reading) (depth : ℕ) (m : Option Breach) (k : List Cell) (v : Value) : Type 0 where
   lawful : IsValue v
   no_nan : HasNoNan v
@@ -169,16 +198,25 @@ room_inside r depth e = above r.depth depth (not_deep (nat_le r.depth depth) e)
     above : (a b : ℕ) → nat_le a b ≡ false → b < a
     above a b e = grind (arith, nat_tests)
 
-one_deeper : (a b depth room : ℕ) → a ≤ room - suc depth → b ≤ room - suc depth → depth < room → suc (max a b) ≤ room - depth
+one_deeper : (a b depth room : ℕ) → a ≤ room - suc depth → b ≤ room - suc depth → depth < room
+    → suc (max a b) ≤ room - depth
 one_deeper a b depth room h k l = omega arith
 
 deeper : (a depth room : ℕ) → a ≤ suc (room - suc depth) → depth < room → a ≤ room - depth
 deeper a depth room h l = omega arith
 
 mutual
-  node_held : (r : Reading) (n : Node) (depth : ℕ) (m : Option Breach) (k : List Cell) → IsNode r n → HaveNoMarks (node_cells r n depth m k)
+  node_held : (r : Reading) (n : Node) (depth : ℕ) (m : Option Breach) (k : List Cell) → IsNode r n
+      → HaveNoMarks (node_cells r n depth m k)
       → NodeHeld r depth m k (meaning n)
-  node_held r Node.null depth m k ok h = record { lawful = tt; no_nan = tt; few = omega arith; mark = h.0; rest = plain_rest (codes "ull") k h.1 }
+  node_held r Node.null depth m k ok h = record {
+    lawful = tt;
+    no_nan = tt;
+    few = omega arith;
+    mark = h.0;
+    rest =
+        plain_rest (codes "ull") k h.1;
+  }
   node_held r (Node.boolean true) depth m k ok h =
       record { lawful = tt; no_nan = tt; few = omega arith; mark = h.0; rest = plain_rest (codes "rue") k h.1 }
   node_held r (Node.boolean false) depth m k ok h =
@@ -197,26 +235,36 @@ mutual
   node_held r (Node.empty_array b) depth m k ok h =
       record { lawful = tt; no_nan = tt; few = omega arith; mark = h.0; rest = (plain_rest b (cell 93 None ∷ k) h.1).1 }
   node_held r (Node.empty_object b) depth m k ok h =
-      record { lawful = object_lawful 0 [] tt (IsDistinct-put_each {V = Value} []); no_nan = tt; few = omega arith; mark = h.0; rest = (plain_rest b (cell 125 None ∷ k) h.1).1 }
+      record {
+        lawful = object_lawful 0 [] tt (IsDistinct-put_each {V = Value} []);
+        no_nan = tt;
+        few = omega arith;
+        mark = h.0;
+        rest = (plain_rest b (cell 125 None ∷ k) h.1).1;
+      }
   node_held r (Node.array b n c es) depth m k ok h =
-      let one = node_held r n (suc depth) (deep_if r depth) (plain c (elements_cells r es (suc depth) k)) ok.1 (plain_rest b _ h.1) in
+      let one = node_held r n (suc depth) (deep_if r depth) (plain c (elements_cells r es (suc depth) k)) ok.1
+      (plain_rest b _ h.1) in
       let more = elements_held r es (suc depth) k ok.3 (plain_rest c _ one.rest) in
       record {
         lawful = (one.lawful, more.lawful);
         no_nan = (one.no_nan, more.no_nan);
         few =
-            one_deeper (nest (meaning n)) (most_nest (elements_meaning es)) depth r.depth one.few more.few (room_inside r depth one.mark);
+            one_deeper (nest (meaning n)) (most_nest (elements_meaning es)) depth r.depth one.few more.few
+            (room_inside r depth one.mark);
         mark = h.0;
         rest = more.rest;
       }
   node_held r (Node.object key b n c ms) depth m k ok h =
       let named = key_first r [] key (deep_if r depth) _ h.1 in
-      let one = node_held r n (suc depth) None (plain c (members_cells r ms (bytes_of key.items ∷ []) (suc depth) k)) ok.2 (plain_rest b _ named.1) in
+      let one = node_held r n (suc depth) None (plain c (members_cells r ms (bytes_of key.items ∷ []) (suc depth) k))
+      ok.2 (plain_rest b _ named.1) in
       let more = members_held r ms (bytes_of key.items ∷ []) (suc depth) k ok.4 (plain_rest c _ one.rest) in
       let ps : List (List ℕ × Value) = (bytes_of key.items, meaning n) ∷ members_meaning ms in
       let first : IsHeldPair (r.depth - suc depth) (bytes_of key.items, meaning n) =
       record { utf8 = bytes_utf8 key.items ok.0.1; lawful = one.lawful; no_nan = one.no_nan; few = one.few } in
-      let all : AreHeldPairs (r.depth - suc depth) (put_each ps) = each_held (r.depth - suc depth) [] ps tt (first, more.pairs) in
+      let all : AreHeldPairs (r.depth - suc depth) (put_each ps) = each_held (r.depth - suc depth) [] ps tt
+      (first, more.pairs) in
       record {
         lawful = object_lawful (r.depth - suc depth) (put_each ps) all (IsDistinct-put_each ps);
         no_nan = pairs_no_nan (r.depth - suc depth) (put_each ps) all;
@@ -225,7 +273,8 @@ mutual
         rest = more.rest;
       }
 
-  elements_held : (r : Reading) (es : Elements) (depth : ℕ) (k : List Cell) → AreElements r es → HaveNoMarks (elements_cells r es depth k)
+  elements_held : (r : Reading) (es : Elements) (depth : ℕ) (k : List Cell) → AreElements r es
+      → HaveNoMarks (elements_cells r es depth k)
       → ElementsHeld r depth k (elements_meaning es)
   elements_held r no_elements depth k ok h = record { lawful = tt; no_nan = tt; few = omega arith; rest = h.1 }
   elements_held r (element b n c es) depth k ok h =
@@ -243,10 +292,14 @@ mutual
   members_held r no_members seen depth k ok h = record { pairs = tt; rest = h.1 }
   members_held r (member key b n c ms) seen depth k ok h =
       let named = key_first r seen key None _ h.1 in
-      let one = node_held r n depth None (plain c (members_cells r ms (bytes_of key.items ∷ seen) depth k)) ok.2 (plain_rest b _ named.1) in
+      let one = node_held r n depth None (plain c (members_cells r ms (bytes_of key.items ∷ seen) depth k)) ok.2
+      (plain_rest b _ named.1) in
       let more = members_held r ms (bytes_of key.items ∷ seen) depth k ok.4 (plain_rest c _ one.rest) in
       record {
-        pairs = (record { utf8 = bytes_utf8 key.items ok.0.1; lawful = one.lawful; no_nan = one.no_nan; few = one.few }, more.pairs);
+        pairs = (
+          record { utf8 = bytes_utf8 key.items ok.0.1; lawful = one.lawful; no_nan = one.no_nan; few = one.few },
+          more.pairs,
+        );
         rest = more.rest;
       }
 
@@ -256,5 +309,6 @@ meaning_held r t d h =
     (one.lawful, one.no_nan, omega (arith, one.few))
 
 -- the compact text of such a value is read as a value with the same compact text
-pub dumped_reads : (r : Reading) (v : Value) (b : List ℕ) → Redump → IsReadable r v → b ≡ compact v → IsReadAs r b (λ w. compact w ≡ b)
+pub dumped_reads : (r : Reading) (v : Value) (b : List ℕ) → Redump → IsReadable r v → b ≡ compact v
+    → IsReadAs r b (λ w. compact w ≡ b)
 dumped_reads r v b law h e = subst (λ x. IsReadAs r x (λ w. compact w ≡ x)) (sym e) (law r v h.0 h.2)

@@ -1,5 +1,6 @@
 -- The text of a number is read as the same number.
-use Rattle.std.proofs.Common.{◌≡◌, ◌∙◌, ℕ, suc, zero, ℤ, pos, negsuc, ◌+◌, ◌*◌, ◌^◌, ◌≤◌, ◌<◌, None, List, [], length, Bool, sym, ap, subst, arith, decimal, FitsSigned, inl, inr, chars}
+use Rattle.std.proofs.Common.{◌≡◌, ◌∙◌, ℕ, suc, zero, ℤ, pos, negsuc, ◌+◌, ◌*◌, ◌^◌, ◌≤◌, ◌<◌, None, List, [], length}
+use Rattle.std.proofs.Common.{Bool, sym, ap, subst, arith, decimal, FitsSigned, inl, inr, chars}
 use Rattle.std.specs.Int.{w16}
 use Rattle.std.proofs.lemmas.Bool.{cases_lt}
 use Rattle.std.proofs.lemmas.Str.{chars-IsAscii}
@@ -40,11 +41,13 @@ printed_numeral s (suc m) (negsuc k) fits small =
 
 -- ---- the text
 
-spelled_short : (s : Bool) (m : ℕ) (e : ℤ) (n : Numeral) → m < 2 ^ 64 → FitsSigned w16 e → IsPrintedAs s m e n → length (numeral_spelled n) ≤ 29
+spelled_short : (s : Bool) (m : ℕ) (e : ℤ) (n : Numeral) → m < 2 ^ 64 → FitsSigned w16 e → IsPrintedAs s m e n
+    → length (numeral_spelled n) ≤ 29
 spelled_short s m e n fits small h = omega (arith, ap length h.spelled, length-number s m e fits small)
 
 -- no breach stands in it
-pub printed-plain : (s : Bool) (m : ℕ) (e : ℤ) (n : Numeral) (k : List Cell) → m < 2 ^ 64 → FitsSigned w16 e → IsPrintedAs s m e n
+pub printed-plain : (s : Bool) (m : ℕ) (e : ℤ) (n : Numeral) (k : List Cell) → m < 2 ^ 64 → FitsSigned w16 e
+    → IsPrintedAs s m e n
     → numeral_cells n None k ≡ plain (number_text s m e) k
 printed-plain s m e n k fits small h =
     numeral-plain n k (omega (arith, spelled_short s m e n fits small h)) ∙ ap (λ t. plain t k) h.spelled
@@ -55,9 +58,11 @@ printed_small s m e n h = subst AreSmall h.spelled (numeral_small n h.in_grammar
 printed_parses : (s : Bool) (m : ℕ) (e : ℤ) (n : Numeral) → m < 2 ^ 64 → FitsSigned w16 e → IsPrintedAs s m e n
     → (r : Reading) → Parses r (chars (number_text s m e)) (alone (Node.number n))
 printed_parses s m e n fits small h r =
-    let text : chars (number_text s m e) ≡ number_text s m e = chars-IsAscii _ (IsAscii-small _ (printed_small s m e n h)) in
+    let text : chars (number_text s m e) ≡ number_text s m e = chars-IsAscii _
+    (IsAscii-small _ (printed_small s m e n h)) in
     subst (λ t. Parses r t (alone (Node.number n))) (sym text)
-    (parses_plain r (number_text s m e) (alone (Node.number n)) (tt, h.in_grammar, tt) (printed-plain s m e n [] fits small h))
+    (parses_plain r (number_text s m e) (alone (Node.number n)) (tt, h.in_grammar, tt)
+    (printed-plain s m e n [] fits small h))
 
 pub number_read_back : NumberText
 number_read_back s m e fits small =

@@ -1,11 +1,14 @@
 -- The text of a number of the grammar, where it has few digits.
-use Rattle.std.proofs.Common.{◌≡◌, ◌∙◌, ℕ, ◌+◌, ◌<◌, ◌≤◌, List, [], ◌∷◌, ◌++◌, length, Bool, true, false, ◌==◌, codes, Option, Some, None, refl, ap, arith, length-append, ◌&&◌, not}
+use Rattle.std.proofs.Common.{◌≡◌, ◌∙◌, ℕ, ◌+◌, ◌<◌, ◌≤◌, List, [], ◌∷◌, ◌++◌, length, Bool, true, false, ◌==◌, codes}
+use Rattle.std.proofs.Common.{Option, Some, None, refl, ap, arith, length-append, ◌&&◌, not}
 use Rattle.std.specs.Char.{is_ascii_digit}
 use Rattle.std.proofs.ByRecursion.{All-append}
 use Rattle.std.proofs.lemmas.Bool.Decides.{nat_tests}
 use Rattle.jzon_base.proofs.Kept.{kept_len_is_longest}
-use Rattle.jzon.specs.Grammar.{Sign, unsigned, plus, minus, Exponent, Numeral, AreDigits, IsDigits, IsWhole, IsExponent, IsNumeral, is_exponent_letter}
-use Rattle.jzon.specs.Spelling.{Cell, cell, plain, digits_cells, drops_too_many, keeps_too_many, fraction_cells, exponent_cells, sign_cells, whole_cells, magnitude_cells, numeral_cells}
+use Rattle.jzon.specs.Grammar.{Sign, unsigned, plus, minus, Exponent, Numeral, AreDigits, IsDigits, IsWhole, IsExponent}
+use Rattle.jzon.specs.Grammar.{IsNumeral, is_exponent_letter}
+use Rattle.jzon.specs.Spelling.{Cell, cell, plain, digits_cells, drops_too_many, keeps_too_many, fraction_cells}
+use Rattle.jzon.specs.Spelling.{exponent_cells, sign_cells, whole_cells, magnitude_cells, numeral_cells}
 use Rattle.jzon.proofs.NumberLimits.{AreUnmarked, whole_unmarked, fraction_unmarked}
 use Rattle.jzon.proofs.Runs.{plain-append}
 use Rattle.jzon.proofs.Unbroken.{AreSmall}
@@ -36,20 +39,25 @@ numeral_spelled n = minus_spelled n.negative ++ magnitude_spelled n.whole n.frac
 
 -- ---- no breach stands in it
 
-digits-plain : (too_many : List ℕ → Bool) (front ds : List ℕ) (k : List Cell) → AreUnmarked too_many front ds → digits_cells too_many front ds k ≡ plain ds k
+digits-plain : (too_many : List ℕ → Bool) (front ds : List ℕ) (k : List Cell) → AreUnmarked too_many front ds
+    → digits_cells too_many front ds k ≡ plain ds k
 digits-plain too_many front [] k h = refl
-digits-plain too_many front (d ∷ ds) k h = rw h.0 (ap (λ q. cell d None ∷ q) (digits-plain too_many (d ∷ front) ds k h.1))
+digits-plain too_many front (d ∷ ds) k h = rw h.0 (ap (λ q. cell d None ∷ q)
+    (digits-plain too_many (d ∷ front) ds k h.1))
 
 whole-plain : (ws : List ℕ) (k : List Cell) → length ws < 32768 → whole_cells ws None k ≡ plain ws k
 whole-plain [] k h = refl
-whole-plain (d ∷ ds) k h = ap (λ q. cell d None ∷ q) (digits-plain drops_too_many (d ∷ []) ds k (whole_unmarked (d ∷ []) ds [] (omega arith)))
+whole-plain (d ∷ ds) k h = ap (λ q. cell d None ∷ q) (digits-plain drops_too_many (d ∷ []) ds k
+    (whole_unmarked (d ∷ []) ds [] (omega arith)))
 
-fraction-plain : (ws fs : List ℕ) (k : List Cell) → length fs < 32769 → fraction_cells ws fs k ≡ plain (fraction_spelled fs) k
+fraction-plain : (ws fs : List ℕ) (k : List Cell) → length fs < 32769
+    → fraction_cells ws fs k ≡ plain (fraction_spelled fs) k
 fraction-plain ws [] k h = refl
 fraction-plain ws (d ∷ ds) k h =
     let within = (kept_len_is_longest (ws ++ d ∷ ds)).within in
     ap (λ q. cell 46 None ∷ q)
-    (digits-plain (keeps_too_many ws) [] (d ∷ ds) k (fraction_unmarked ws [] (d ∷ ds) (omega (arith, within, length-append ws (d ∷ ds)))))
+    (digits-plain (keeps_too_many ws) [] (d ∷ ds) k (fraction_unmarked ws [] (d ∷ ds)
+    (omega (arith, within, length-append ws (d ∷ ds)))))
 
 sign-plain : (s : Sign) (k : List Cell) → sign_cells s k ≡ plain (sign_spelled s) k
 sign-plain unsigned k = refl
@@ -59,7 +67,8 @@ sign-plain minus k = refl
 exponent-plain : (e : Option Exponent) (k : List Cell) → exponent_cells e k ≡ plain (exponent_spelled e) k
 exponent-plain None k = refl
 exponent-plain (Some e) k =
-    ap (λ q. cell e.letter None ∷ q) (sign-plain e.sign (plain e.digits k) ∙ plain-joined (sign_spelled e.sign) e.digits k)
+    ap (λ q. cell e.letter None ∷ q) (sign-plain e.sign (plain e.digits k)
+    ∙ plain-joined (sign_spelled e.sign) e.digits k)
   where
     plain-joined : (f g : List ℕ) (q : List Cell) → plain f (plain g q) ≡ plain (f ++ g) q
     plain-joined [] g q = refl
@@ -69,17 +78,24 @@ magnitude-plain : (n : Numeral) (k : List Cell) → length n.whole < 32768 → l
     → magnitude_cells n None k ≡ plain (magnitude_spelled n.whole n.fraction n.exponent) k
 magnitude-plain n k few fewer =
     whole-plain n.whole _ few
-    ∙ ap (λ q. plain n.whole q) (fraction-plain n.whole n.fraction _ fewer ∙ ap (λ q. plain (fraction_spelled n.fraction) q) (exponent-plain n.exponent k))
-    ∙ rw (plain-append n.whole (fraction_spelled n.fraction ++ exponent_spelled n.exponent) k, plain-append (fraction_spelled n.fraction) (exponent_spelled n.exponent) k) refl
+    ∙ ap (λ q. plain n.whole q) (fraction-plain n.whole n.fraction _ fewer
+    ∙ ap (λ q. plain (fraction_spelled n.fraction) q) (exponent-plain n.exponent k))
+    ∙ rw (
+      plain-append n.whole (fraction_spelled n.fraction ++ exponent_spelled n.exponent) k,
+      plain-append
+          (fraction_spelled n.fraction) (exponent_spelled n.exponent) k,
+    ) refl
 
 length-fraction_spelled : (fs : List ℕ) → length fs ≤ length (fraction_spelled fs)
 length-fraction_spelled [] = omega arith
 length-fraction_spelled (d ∷ ds) = omega arith
 
-pub numeral-plain : (n : Numeral) (k : List Cell) → length (numeral_spelled n) < 32768 → numeral_cells n None k ≡ plain (numeral_spelled n) k
+pub numeral-plain : (n : Numeral) (k : List Cell) → length (numeral_spelled n) < 32768
+    → numeral_cells n None k ≡ plain (numeral_spelled n) k
 numeral-plain n k h = by_sign n.negative refl
   where
-    size : length (minus_spelled n.negative) + (length n.whole + (length (fraction_spelled n.fraction) + length (exponent_spelled n.exponent))) < 32768
+    size : length (minus_spelled n.negative) + (length n.whole +
+        (length (fraction_spelled n.fraction) + length (exponent_spelled n.exponent))) < 32768
     size = simp length-append at h
 
     magnitude : magnitude_cells n None k ≡ plain (magnitude_spelled n.whole n.fraction n.exponent) k
@@ -118,7 +134,11 @@ fraction_small (d ∷ ds) h = (omega arith, digits_small (d ∷ ds) h)
 
 exponent_small : (e : Option Exponent) → IsExponent e → AreSmall (exponent_spelled e)
 exponent_small None h = tt
-exponent_small (Some e) h = (letter_small e.letter h.0, AreSmall-append (sign_spelled e.sign) e.digits (signs e.sign) (exponent_digits e.digits h.1))
+exponent_small (Some e) h = (
+  letter_small e.letter h.0,
+  AreSmall-append (sign_spelled e.sign) e.digits (signs e.sign)
+      (exponent_digits e.digits h.1),
+)
   where
     signs : (s : Sign) → AreSmall (sign_spelled s)
     signs unsigned = tt

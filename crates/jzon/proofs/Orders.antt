@@ -1,5 +1,7 @@
 -- Lists in another order, by their positions.
-use Rattle.std.proofs.Common.{◌≡◌, ◌∙◌, ◌≢◌, ℕ, zero, suc, ◌+◌, ◌<◌, ◌≤◌, ◌==◌, nat_lt, List, [], ◌∷◌, length, map, get_or, count_by, Bool, true, false, cond, Option, Some, None, refl, sym, ap, arith, inl, inr}
+use Rattle.std.proofs.Common.{◌≡◌, ◌∙◌, ◌≢◌, ℕ, zero, suc, ◌+◌, ◌<◌, ◌≤◌, ◌==◌, nat_lt, List, [], ◌∷◌, length, map}
+use Rattle.std.proofs.Common.{get_or, count_by, Bool, true, false, cond, Option, Some, None, refl, sym, ap, arith, inl}
+use Rattle.std.proofs.Common.{inr}
 use Rattle.std.specs.Prelude.{AllPairs}
 use Rattle.std.specs.List.{AllByRecursion, IsDistinct}
 use Rattle.std.specs.Str.{bytes_eq}
@@ -18,17 +20,20 @@ use Rattle.jzon_tree.specs.Writing.{IsOrder, text_at}
 abbrev pub picked : {X : Type 0} → X → List X → List ℕ → List X
 picked d xs ps = map (λ i. get_or xs i d) ps
 
-pub map-picked : {X Y : Type 0} (f : X → Y) (d : X) (xs : List X) (ps : List ℕ) → map f (picked d xs ps) ≡ picked (f d) (map f xs) ps
+pub map-picked : {X Y : Type 0} (f : X → Y) (d : X) (xs : List X) (ps : List ℕ)
+    → map f (picked d xs ps) ≡ picked (f d) (map f xs) ps
 map-picked f d xs [] = refl
 map-picked f d xs (p ∷ ps) =
-    ap (λ y. y ∷ map f (picked d xs ps)) (sym (get_or-map f xs p d)) ∙ ap (λ ys. get_or (map f xs) p (f d) ∷ ys) (map-picked f d xs ps)
+    ap (λ y. y ∷ map f (picked d xs ps)) (sym (get_or-map f xs p d))
+    ∙ ap (λ ys. get_or (map f xs) p (f d) ∷ ys) (map-picked f d xs ps)
 
 at-each : {X : Type 0} (P : X → Type 0) (d : X) (xs : List X) (i : ℕ) → P d → AllByRecursion P xs → P (get_or xs i d)
 at-each P d [] i here all = here
 at-each P d (x ∷ xs) zero here all = all.0
 at-each P d (x ∷ xs) (suc i) here all = at-each P d xs i here all.1
 
-pub each_picked : {X : Type 0} (P : X → Type 0) (d : X) (xs : List X) (ps : List ℕ) → P d → AllByRecursion P xs → AllByRecursion P (picked d xs ps)
+pub each_picked : {X : Type 0} (P : X → Type 0) (d : X) (xs : List X) (ps : List ℕ) → P d → AllByRecursion P xs
+    → AllByRecursion P (picked d xs ps)
 each_picked P d xs [] here all = tt
 each_picked P d xs (p ∷ ps) here all = (at-each P d xs p here all, each_picked P d xs ps here all)
 
@@ -66,7 +71,8 @@ none_below : (ps : List ℕ) → count_by (λ j. nat_lt j 0) ps ≡ 0
 none_below [] = refl
 none_below (p ∷ ps) = omega (arith, count_by-cons (λ j. nat_lt j 0) p ps, tally_above p 0 (omega arith), none_below ps)
 
-one_more_below : (m : ℕ) (ps : List ℕ) → count_by (λ j. nat_lt j (suc m)) ps ≡ count_by (λ j. nat_lt j m) ps + count m ps
+one_more_below : (m : ℕ) (ps : List ℕ) → count_by (λ j. nat_lt j (suc m)) ps
+    ≡ count_by (λ j. nat_lt j m) ps + count m ps
 one_more_below m [] = refl
 one_more_below m (p ∷ ps) = omega (
   arith,
@@ -79,7 +85,13 @@ one_more_below m (p ∷ ps) = omega (
 
 counted_below : (n m : ℕ) (ps : List ℕ) → IsOrder n ps → m ≤ n → count_by (λ j. nat_lt j m) ps ≡ m
 counted_below n zero ps o h = none_below ps
-counted_below n (suc m) ps o h = omega (arith, one_more_below m ps, counted_below n m ps o (omega arith), o.once m (omega arith))
+counted_below n (suc m) ps o h = omega (
+  arith,
+  one_more_below m ps,
+  counted_below n m ps o (omega arith),
+  o.once m
+      (omega arith),
+)
 
 all_counted : (n : ℕ) (ps : List ℕ) → count_by (λ j. nat_lt j n) ps ≡ length ps → AreBelow n ps
 all_counted n [] e = tt
@@ -98,14 +110,17 @@ text_at-get_or [] i d h = absurd (omega arith)
 text_at-get_or (t ∷ ts) zero d h = refl
 text_at-get_or (t ∷ ts) (suc i) d h = text_at-get_or ts i d (omega arith)
 
-pub texts_picked : (ts : List (List ℕ)) (ps : List ℕ) (d : List ℕ) → AreBelow (length ts) ps → map (text_at ts) ps ≡ picked d ts ps
+pub texts_picked : (ts : List (List ℕ)) (ps : List ℕ) (d : List ℕ) → AreBelow (length ts) ps
+    → map (text_at ts) ps ≡ picked d ts ps
 texts_picked ts [] d h = refl
 texts_picked ts (p ∷ ps) d h =
-    ap (λ y. y ∷ map (text_at ts) ps) (text_at-get_or ts p d h.0) ∙ ap (λ ys. get_or ts p d ∷ ys) (texts_picked ts ps d h.1)
+    ap (λ y. y ∷ map (text_at ts) ps) (text_at-get_or ts p d h.0)
+    ∙ ap (λ ys. get_or ts p d ∷ ys) (texts_picked ts ps d h.1)
 
 -- ---- distinct keys stay distinct
 
-apart_keys : (ks : List (List ℕ)) (d : List ℕ) (i j : ℕ) → AllPairs (λ x y. x ≢ y) ks → i < length ks → j < length ks → (i ≡ j → ⊥)
+apart_keys : (ks : List (List ℕ)) (d : List ℕ) (i j : ℕ) → AllPairs (λ x y. x ≢ y) ks → i < length ks → j < length ks
+    → (i ≡ j → ⊥)
     → get_or ks i d ≡ get_or ks j d → ⊥
 apart_keys ks d i j distinct h k ne e =
     elim (cases_lt i j) [
@@ -116,21 +131,31 @@ apart_keys ks d i j distinct h k ne e =
 different : (x y : List ℕ) → (x ≡ y → ⊥) → bytes_eq x y ≡ false
 different x y ne = false_from_ne_true (bytes_eq x y) (λ e. ne ((bytes_eq-Decides x y).0 e))
 
-apart_from : (ks : List (List ℕ)) (d : List ℕ) (i : ℕ) (ps : List ℕ) → AllPairs (λ x y. x ≢ y) ks → i < length ks → AreBelow (length ks) ps → count i ps ≡ 0
+apart_from : (ks : List (List ℕ)) (d : List ℕ) (i : ℕ) (ps : List ℕ) → AllPairs (λ x y. x ≢ y) ks → i < length ks
+    → AreBelow (length ks) ps → count i ps ≡ 0
     → AllByRecursion (λ y. bytes_eq (get_or ks i d) y ≡ false) (picked d ks ps)
 apart_from ks d i [] distinct h below none = tt
 apart_from ks d i (p ∷ ps) distinct h below none =
     let cons = count_by-cons (λ j. j == i) p ps in
-    let ne : (i ≡ p → ⊥) = λ e. omega (arith, none, cons, tally_here p i (sym e)) in
-    (different _ _ (apart_keys ks d i p distinct h below.0 ne), apart_from ks d i ps distinct h below.1 (omega (arith, none)))
+    let ne : (i ≡ p → ⊥) = λ e. omega (arith, none, cons, tally_here p i (sym e)) in (
+      different _ _ (apart_keys ks d i p distinct h below.0 ne),
+      apart_from ks d i ps distinct h below.1
+          (omega (arith, none)),
+    )
 
-pub distinct_picked : (ks : List (List ℕ)) (d : List ℕ) (ps : List ℕ) → AllPairs (λ x y. x ≢ y) ks → AreBelow (length ks) ps
+pub distinct_picked : (ks : List (List ℕ)) (d : List ℕ) (ps : List ℕ) → AllPairs (λ x y. x ≢ y) ks
+    → AreBelow (length ks) ps
     → ((i : ℕ) → i < length ks → count i ps ≤ 1) → IsDistinct bytes_eq (picked d ks ps)
 unfolding IsDistinct
 distinct_picked ks d [] distinct below once = tt
 distinct_picked ks d (p ∷ ps) distinct below once =
     IsDistinct-cons bytes_eq (get_or ks p d) (picked d ks ps)
-    (apart_from ks d p ps distinct below.0 below.1 (omega (arith, once p below.0, count_by-cons (λ j. j == p) p ps, tally_here p p refl)))
+    (apart_from ks d p ps distinct below.0 below.1 (omega (
+      arith,
+      once p below.0,
+      count_by-cons (λ j. j == p) p ps,
+      tally_here p p refl,
+    )))
     (distinct_picked ks d ps distinct below.1 (λ i h. omega (arith, once i h, count_by-cons (λ j. j == i) p ps)))
 
 -- ---- look-ups do not depend on the order
@@ -141,35 +166,50 @@ module _ {V : Type 0} where
     key : (get_or xs i d).0 ≡ q
     value : (get_or xs i d).1 ≡ v
 
-  found_at : (q : List ℕ) (d x : List ℕ × V) (xs : List (List ℕ × V)) (v : V) (b : Bool) → bytes_eq x.0 q ≡ b → (find q xs ≡ Some v → (i : ℕ) × IsFound q d xs v i)
+  found_at : (q : List ℕ) (d x : List ℕ × V) (xs : List (List ℕ × V)) (v : V) (b : Bool) → bytes_eq x.0 q ≡ b
+      → (find q xs ≡ Some v → (i : ℕ) × IsFound q d xs v i)
       → cond b (Some x.1) (find q xs) ≡ Some v → (i : ℕ) × IsFound q d (x ∷ xs) v i
-  found_at q d x xs v true t more f = (0, record { within = omega arith; key = (bytes_eq-Decides x.0 q).0 t; value = same_Some x.1 v f })
+  found_at q d x xs v true t more f = (
+    0,
+    record {
+      within = omega arith;
+      key = (bytes_eq-Decides x.0 q).0 t;
+      value =
+          same_Some x.1 v f;
+    },
+  )
   found_at q d x xs v false t more f =
       let later = more f in
       (suc later.0, record { within = omega (arith, later.1.within); key = later.1.key; value = later.1.value })
 
-  found_place : (q : List ℕ) (d : List ℕ × V) (xs : List (List ℕ × V)) (v : V) → find q xs ≡ Some v → (i : ℕ) × IsFound q d xs v i
+  found_place : (q : List ℕ) (d : List ℕ × V) (xs : List (List ℕ × V)) (v : V) → find q xs ≡ Some v → (i : ℕ)
+      × IsFound q d xs v i
   found_place q d [] v e = absurd (none-some v e)
   found_place q d (x ∷ xs) v e = found_at q d x xs v (bytes_eq x.0 q) refl (λ f. found_place q d xs v f) e
 
-  nowhere_at : (q : List ℕ) (x : List ℕ × V) (rest : Option V) (b : Bool) → bytes_eq x.0 q ≡ b → cond b (Some x.1) rest ≡ None
+  nowhere_at : (q : List ℕ) (x : List ℕ × V) (rest : Option V) (b : Bool) → bytes_eq x.0 q ≡ b
+      → cond b (Some x.1) rest ≡ None
       → (bytes_eq x.0 q ≡ false) × (rest ≡ None)
   nowhere_at q x rest true t f = absurd (none-some x.1 (sym f))
   nowhere_at q x rest false t f = (t, f)
 
-  nowhere : (q : List ℕ) (d : List ℕ × V) (xs : List (List ℕ × V)) (i : ℕ) → find q xs ≡ None → i < length xs → bytes_eq (get_or xs i d).0 q ≡ false
+  nowhere : (q : List ℕ) (d : List ℕ × V) (xs : List (List ℕ × V)) (i : ℕ) → find q xs ≡ None → i < length xs
+      → bytes_eq (get_or xs i d).0 q ≡ false
   nowhere q d [] i e h = absurd (omega arith)
   nowhere q d (x ∷ xs) zero e h = (nowhere_at q x (find q xs) (bytes_eq x.0 q) refl e).0
-  nowhere q d (x ∷ xs) (suc i) e h = nowhere q d xs i (nowhere_at q x (find q xs) (bytes_eq x.0 q) refl e).1 (omega arith)
+  nowhere q d (x ∷ xs) (suc i) e h = nowhere q d xs i (nowhere_at q x (find q xs) (bytes_eq x.0 q) refl e).1
+      (omega arith)
 
-  picked_nowhere : (q : List ℕ) (d : List ℕ × V) (xs : List (List ℕ × V)) (ps : List ℕ) → find q xs ≡ None → AreBelow (length xs) ps → find q (picked d xs ps) ≡ None
+  picked_nowhere : (q : List ℕ) (d : List ℕ × V) (xs : List (List ℕ × V)) (ps : List ℕ) → find q xs ≡ None
+      → AreBelow (length xs) ps → find q (picked d xs ps) ≡ None
   picked_nowhere q d xs [] e below = refl
   picked_nowhere q d xs (p ∷ ps) e below = rw (nowhere q d xs p e below.0) (picked_nowhere q d xs ps e below.1)
 
   key_at : (d : List ℕ × V) (xs : List (List ℕ × V)) (i : ℕ) → get_or (keys_of xs) i d.0 ≡ (get_or xs i d).0
   key_at d xs i = get_or-map (λ (p : List ℕ × V). p.0) xs i d
 
-  picked_found : (q : List ℕ) (d : List ℕ × V) (xs : List (List ℕ × V)) (v : V) (i : ℕ) (ps : List ℕ) → AllPairs (λ x y. x ≢ y) (keys_of xs)
+  picked_found : (q : List ℕ) (d : List ℕ × V) (xs : List (List ℕ × V)) (v : V) (i : ℕ) (ps : List ℕ)
+      → AllPairs (λ x y. x ≢ y) (keys_of xs)
       → IsFound q d xs v i → AreBelow (length xs) ps → 1 ≤ count i ps → find q (picked d xs ps) ≡ Some v
   picked_found q d xs v i [] distinct f below some = absurd (omega arith)
   picked_found q d xs v i (p ∷ ps) distinct f below some =
@@ -181,12 +221,15 @@ module _ {V : Type 0} where
         | inr ne ↦
             (let size : length (keys_of xs) ≡ length xs = length-map xs (λ y. y.0) in
             let no : bytes_eq (get_or xs p d).0 q ≡ false =
-            different _ _ (λ e. apart_keys (keys_of xs) d.0 p i distinct (omega (arith, below.0)) (omega (arith, f.within)) ne
+            different _ _ (λ e. apart_keys (keys_of xs) d.0 p i distinct (omega (arith, below.0))
+            (omega (arith, f.within)) ne
             (key_at d xs p ∙ e ∙ sym f.key ∙ sym (key_at d xs i))) in
-            rw no (picked_found q d xs v i ps distinct f below.1 (omega (arith, some, count_by-cons (λ j. j == i) p ps, tally_elsewhere p i ne))))
+            rw no (picked_found q d xs v i ps distinct f below.1
+            (omega (arith, some, count_by-cons (λ j. j == i) p ps, tally_elsewhere p i ne))))
       ]
 
-  pub find-picked : (q : List ℕ) (d : List ℕ × V) (xs : List (List ℕ × V)) (ps : List ℕ) → AllPairs (λ x y. x ≢ y) (keys_of xs) → IsOrder (length xs) ps
+  pub find-picked : (q : List ℕ) (d : List ℕ × V) (xs : List (List ℕ × V)) (ps : List ℕ)
+      → AllPairs (λ x y. x ≢ y) (keys_of xs) → IsOrder (length xs) ps
       → find q (picked d xs ps) ≡ find q xs
   find-picked q d xs ps distinct o = by_find (find q xs) refl
     where
@@ -194,4 +237,5 @@ module _ {V : Type 0} where
       by_find None e = picked_nowhere q d xs ps e (AreBelow-order (length xs) ps o) ∙ sym e
       by_find (Some v) e =
           let at = found_place q d xs v e in
-          picked_found q d xs v at.0 ps distinct at.1 (AreBelow-order (length xs) ps o) (omega (arith, o.once at.0 at.1.within)) ∙ sym e
+          picked_found q d xs v at.0 ps distinct at.1 (AreBelow-order (length xs) ps o)
+          (omega (arith, o.once at.0 at.1.within)) ∙ sym e

@@ -1,14 +1,19 @@
 -- Numbers of the grammar that have the text of given parts, and mean the same parts.
-use Rattle.std.proofs.Common.{◌≡◌, ℕ, suc, ℤ, pos, ◌+ℤ◌, ◌-ℤ◌, ◌^◌, ◌&&◌, ◌≤◌, ◌<◌, ◌==◌, Option, Some, List, [], ◌∷◌, ◌++◌, length, replicate, Bool, true, false, not, refl, sym, ap, ◌∙◌, arith, decimal, rules, codes, nat_le, nat_lt, if◌then◌else◌, FitsSigned, get_or, length-append, append_assoc, zero}
+use Rattle.std.proofs.Common.{◌≡◌, ℕ, suc, ℤ, pos, ◌+ℤ◌, ◌-ℤ◌, ◌^◌, ◌&&◌, ◌≤◌, ◌<◌, ◌==◌, Option, Some, List, [], ◌∷◌}
+use Rattle.std.proofs.Common.{◌++◌, length, replicate, Bool, true, false, not, refl, sym, ap, ◌∙◌, arith, decimal}
+use Rattle.std.proofs.Common.{rules, codes, nat_le, nat_lt, if◌then◌else◌, FitsSigned, get_or, length-append}
+use Rattle.std.proofs.Common.{append_assoc, zero}
 use Rattle.std.specs.Int.{w16}
 use Rattle.std.specs.Char.{is_ascii_digit}
 use Rattle.std.specs.List.{fold, AllByRecursion}
 use Rattle.std.proofs.lemmas.Int.{ints, clamps}
 use Rattle.std.proofs.lemmas.Str.Parse.{IsNumeralModel, numerals_by_fold}
-use Rattle.std.proofs.lemmas.Fmt.{length-decimal-le, decimal_nonempty, digits_decimal, first_decimal, digits_value-decimal}
+use Rattle.std.proofs.lemmas.Fmt.{length-decimal-le, decimal_nonempty, digits_decimal, first_decimal}
+use Rattle.std.proofs.lemmas.Fmt.{digits_value-decimal}
 use Rattle.std.proofs.lemmas.Bool.Decides.{nat_tests}
 use Rattle.std.proofs.lemmas.List.{take_all}
-use Rattle.jzon_base.specs.Digits.{IsDigit, add_digit, digits_number, kept_len, kept, dropped, kept_fraction, read_exponent, clamp}
+use Rattle.jzon_base.specs.Digits.{IsDigit, add_digit, digits_number, kept_len, kept, dropped, kept_fraction}
+use Rattle.jzon_base.specs.Digits.{read_exponent, clamp}
 use Rattle.jzon_base.specs.Decimal.{Decimal, parts, same}
 use Rattle.jzon_base.specs.NumberText.{sign_text, magnitude_text, number_text, decimal_text}
 use Rattle.jzon_base.specs.Same.{same_equiv}
@@ -118,8 +123,10 @@ if-eq a b xs ys h = grind (arith, nat_tests)
 pub if-ne : (a b : ℕ) (xs ys : List ℕ) → (a ≡ b → ⊥) → (if a == b then xs else ys) ≡ ys
 if-ne a b xs ys h = grind (arith, nat_tests)
 
-pub number_text-above : (s : Bool) (m : ℕ) (e : ℤ) → 0 < m → number_text s m e ≡ sign_text s ++ magnitude_text (decimal m) e
-number_text-above s m e above = ap (λ t. sign_text s ++ t) (if-ne m 0 (codes "0") (magnitude_text (decimal m) e) (λ z. omega arith))
+pub number_text-above : (s : Bool) (m : ℕ) (e : ℤ) → 0 < m → number_text s m e
+    ≡ sign_text s ++ magnitude_text (decimal m) e
+number_text-above s m e above = ap (λ t. sign_text s ++ t) (if-ne m 0 (codes "0") (magnitude_text (decimal m) e)
+    (λ z. omega arith))
 
 -- ---- what a number means
 
@@ -128,29 +135,44 @@ not_not true = refl
 not_not false = refl
 
 -- a number that means d
-pub means_as : (s : Bool) (m : ℕ) (e : ℤ) (n : Numeral) (d : Decimal) → grammar.IsNumeral n → numeral_spelled n ≡ number_text s m e → number_of n ≡ d
+pub means_as : (s : Bool) (m : ℕ) (e : ℤ) (n : Numeral) (d : Decimal) → grammar.IsNumeral n
+    → numeral_spelled n ≡ number_text s m e → number_of n ≡ d
     → same d (parts s m e) ≡ true → decimal_text d ≡ number_text s m e → HasNumeral s m e
-means_as s m e n d ok spelled means alike prints =
-    (n, record { in_grammar = ok; spelled = spelled; alike = ap (λ x. same x (parts s m e)) means ∙ alike; prints = ap decimal_text means ∙ prints })
+means_as s m e n d ok spelled means alike prints = (
+  n,
+  record {
+    in_grammar = ok;
+    spelled = spelled;
+    alike = ap (λ x. same x (parts s m e)) means
+        ∙ alike;
+    prints = ap decimal_text means ∙ prints;
+  },
+)
 
 kept_all : (ds : List ℕ) → digits_number ds < 2 ^ 64 → kept_len ds ≡ length ds
-kept_all ds h = kept_len-at ds (length ds) (omega arith) (rw (take_all (length ds) ds (omega arith)) h) (λ below. absurd (omega arith))
+kept_all ds h = kept_len-at ds (length ds) (omega arith) (rw (take_all (length ds) ds (omega arith)) h)
+    (λ below. absurd (omega arith))
 
 clamp_small : (e : ℤ) → FitsSigned w16 e → clamp e ≡ e
 clamp_small e fits = omega (arith, ints, clamps)
 
 -- the parts, where all digits fit and the powers of ten add up
-pub exact_parts : (s : Bool) (whole fraction : List ℕ) (x : Option Exponent) (m : ℕ) (e : ℤ) → digits_number (whole ++ fraction) ≡ m → m < 2 ^ 64
-    → (pos 0 -ℤ pos (length fraction)) +ℤ written_exponent x ≡ e → FitsSigned w16 e → number_of (numeral s whole fraction x) ≡ parts s m e
+pub exact_parts : (s : Bool) (whole fraction : List ℕ) (x : Option Exponent) (m : ℕ) (e : ℤ)
+    → digits_number (whole ++ fraction) ≡ m → m < 2 ^ 64
+    → (pos 0 -ℤ pos (length fraction)) +ℤ written_exponent x ≡ e → FitsSigned w16 e
+    → number_of (numeral s whole fraction x) ≡ parts s m e
 exact_parts s whole fraction x m e is fits sum small =
-    let all : kept_len (whole ++ fraction) ≡ length (whole ++ fraction) = kept_all (whole ++ fraction) (omega (arith, is)) in
+    let all : kept_len (whole ++ fraction) ≡ length (whole ++ fraction) = kept_all (whole ++ fraction)
+    (omega (arith, is)) in
     let value : digits_number (kept (whole ++ fraction)) ≡ m =
     ap digits_number (take_all (kept_len (whole ++ fraction)) (whole ++ fraction) (omega (arith, all))) ∙ is in
     let none : dropped whole fraction ≡ 0 = omega (arith, all, length-append whole fraction) in
     let some : kept_fraction whole fraction ≡ length fraction = omega (arith, all, length-append whole fraction) in
-    let inner : (pos (dropped whole fraction) -ℤ pos (kept_fraction whole fraction)) +ℤ written_exponent x ≡ e = rw (none, some) sum in
+    let inner : (pos (dropped whole fraction) -ℤ pos (kept_fraction whole fraction)) +ℤ written_exponent x
+    ≡ e = rw (none, some) sum in
     let power : read_exponent whole fraction (written_exponent x) ≡ e = ap clamp inner ∙ clamp_small e small in
-    ap (λ b. parts b (digits_number (kept (whole ++ fraction))) (read_exponent whole fraction (written_exponent x))) (not_not s)
+    ap (λ b. parts b (digits_number (kept (whole ++ fraction))) (read_exponent whole fraction (written_exponent x)))
+    (not_not s)
     ∙ ap (λ v. parts s v (read_exponent whole fraction (written_exponent x))) value ∙ ap (parts s m) power
 
 pub minus-is : (s : Bool) → minus_spelled (not s) ≡ sign_text s
@@ -158,8 +180,10 @@ minus-is true = refl
 minus-is false = refl
 
 -- a number with the text of a mantissa above 0, which means exactly its parts
-pub means_exactly : (s : Bool) (m : ℕ) (e : ℤ) (w f : List ℕ) (x : Option Exponent) → 0 < m → m < 2 ^ 64 → FitsSigned w16 e → IsWholePart w → AllDigits f
-    → grammar.IsExponent x → w ++ fraction_spelled f ++ exponent_spelled x ≡ magnitude_text (decimal m) e → digits_number (w ++ f) ≡ m
+pub means_exactly : (s : Bool) (m : ℕ) (e : ℤ) (w f : List ℕ) (x : Option Exponent) → 0 < m → m < 2 ^ 64
+    → FitsSigned w16 e → IsWholePart w → AllDigits f
+    → grammar.IsExponent x → w ++ fraction_spelled f ++ exponent_spelled x ≡ magnitude_text (decimal m) e
+    → digits_number (w ++ f) ≡ m
     → (pos 0 -ℤ pos (length f)) +ℤ written_exponent x ≡ e → HasNumeral s m e
 means_exactly s m e w f x above fits small whole digits power spelled value sum =
     let text : number_text s m e ≡ minus_spelled (not s) ++ (w ++ fraction_spelled f ++ exponent_spelled x) =

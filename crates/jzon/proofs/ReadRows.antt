@@ -1,5 +1,7 @@
--- Worked rows of docs/RULES.md, "Texts" and "Readings": texts and the one tree of each, and fronts of a text, which all end too early.
-use Rattle.std.proofs.Common.{◌≡◌, ℕ, zero, suc, ◌<◌, List, [], ◌∷◌, length, take, Bool, true, false, ◌&&◌, Option, Some, None, is_none, codes, refl, arith}
+-- Worked rows of docs/RULES.md, "Texts" and "Readings": texts and the one tree of each, and fronts of a text, which all
+-- end too early.
+use Rattle.std.proofs.Common.{◌≡◌, ℕ, zero, suc, ◌<◌, List, [], ◌∷◌, length, take, Bool, true, false, ◌&&◌, Option}
+use Rattle.std.proofs.Common.{Some, None, is_none, codes, refl, arith}
 use Rattle.std.proofs.lemmas.Bool.{and_parts}
 use Rattle.std.specs.Char.{encode_utf8}
 use Rattle.jzon_base.specs.Digits.{kept_len}
@@ -38,21 +40,31 @@ vertical_tab = read_tree usual (11 ∷ codes "1") (record { before = 11 ∷ []; 
 
 -- ---- strings
 
-simple_escapes : Reads usual (codes "\"\\r\\n\\t\\b\\f\\\\\\/\\\"\"") (Node.string (simple 114 ∷ simple 110 ∷ simple 116 ∷ simple 98 ∷ simple 102 ∷ simple 92 ∷ simple 47 ∷ simple 34 ∷ []))
+simple_escapes : Reads usual
+    (codes "\"\\r\\n\\t\\b\\f\\\\\\/\\\"\"")
+    (Node.string (simple 114 ∷ simple 110 ∷ simple 116 ∷ simple 98 ∷ simple 102 ∷ simple 92 ∷ simple 47
+    ∷ simple 34 ∷ []))
 unfolding class_of code_unit bytes_of encode_utf8 kept_len drops_too_many keeps_too_many
-simple_escapes = read_tree usual (codes "\"\\r\\n\\t\\b\\f\\\\\\/\\\"\"") (alone (Node.string (simple 114 ∷ simple 110 ∷ simple 116 ∷ simple 98 ∷ simple 102 ∷ simple 92 ∷ simple 47 ∷ simple 34 ∷ []))) refl
+simple_escapes = read_tree usual
+    (codes "\"\\r\\n\\t\\b\\f\\\\\\/\\\"\"")
+    (alone (Node.string (simple 114 ∷ simple 110 ∷ simple 116 ∷ simple 98 ∷ simple 102 ∷ simple 92 ∷ simple 47
+    ∷ simple 34 ∷ []))) refl
 
 clef : Reads usual (codes "\"\\uD834\\uDD1E\"") (Node.string (double (codes "D834") (codes "DD1E") ∷ []))
 unfolding class_of code_unit bytes_of encode_utf8 kept_len drops_too_many keeps_too_many
-clef = read_tree usual (codes "\"\\uD834\\uDD1E\"") (alone (Node.string (double (codes "D834") (codes "DD1E") ∷ []))) refl
+clef = read_tree usual (codes "\"\\uD834\\uDD1E\"") (alone (Node.string (double (codes "D834") (codes "DD1E") ∷ [])))
+    refl
 
 heart : Reads usual (codes "\"\\u2764\\ufe0f\"") (Node.string (single (codes "2764") ∷ single (codes "fe0f") ∷ []))
 unfolding class_of code_unit bytes_of encode_utf8 kept_len drops_too_many keeps_too_many
-heart = read_tree usual (codes "\"\\u2764\\ufe0f\"") (alone (Node.string (single (codes "2764") ∷ single (codes "fe0f") ∷ []))) refl
+heart = read_tree usual (codes "\"\\u2764\\ufe0f\"") (alone (Node.string
+    (single (codes "2764") ∷ single (codes "fe0f") ∷ []))) refl
 
-e_acute : Reads usual (codes "\"é\\u00e9\\u00E9\"") (Node.string (plain 233 ∷ single (codes "00e9") ∷ single (codes "00E9") ∷ []))
+e_acute : Reads usual (codes "\"é\\u00e9\\u00E9\"") (Node.string
+    (plain 233 ∷ single (codes "00e9") ∷ single (codes "00E9") ∷ []))
 unfolding class_of code_unit bytes_of encode_utf8 kept_len drops_too_many keeps_too_many
-e_acute = read_tree usual (codes "\"é\\u00e9\\u00E9\"") (alone (Node.string (plain 233 ∷ single (codes "00e9") ∷ single (codes "00E9") ∷ []))) refl
+e_acute = read_tree usual (codes "\"é\\u00e9\\u00E9\"") (alone
+    (Node.string (plain 233 ∷ single (codes "00e9") ∷ single (codes "00E9") ∷ []))) refl
 
 empty_string : Reads usual (codes "\"\"") (string [])
 unfolding class_of code_unit bytes_of encode_utf8 kept_len drops_too_many keeps_too_many
@@ -68,17 +80,21 @@ repeated_key : Reads usual (codes "{ \"foo\": 0, \"bar\": 1, \"foo\": 2 }") spac
 unfolding class_of code_unit bytes_of encode_utf8 kept_len drops_too_many keeps_too_many
 repeated_key = read_tree usual (codes "{ \"foo\": 0, \"bar\": 1, \"foo\": 2 }") (alone spaced) refl
 
-repeated_as_escape : Reads usual (codes "{\"a\":1,\"\\u0061\":1}") (object (key a) one ((key_of (single (codes "0061") ∷ []), one) ∷ []))
+repeated_as_escape : Reads usual (codes "{\"a\":1,\"\\u0061\":1}")
+    (object (key a) one ((key_of (single (codes "0061") ∷ []), one) ∷ []))
 unfolding class_of code_unit bytes_of encode_utf8 kept_len drops_too_many keeps_too_many
-repeated_as_escape = read_tree usual (codes "{\"a\":1,\"\\u0061\":1}") (alone (object (key a) one ((key_of (single (codes "0061") ∷ []), one) ∷ []))) refl
+repeated_as_escape = read_tree usual (codes "{\"a\":1,\"\\u0061\":1}")
+    (alone (object (key a) one ((key_of (single (codes "0061") ∷ []), one) ∷ []))) refl
 
 every_kind : Reads usual mixed_text mixed
 unfolding class_of code_unit bytes_of encode_utf8 kept_len drops_too_many keeps_too_many
 every_kind = read_tree usual mixed_text (alone mixed) refl
 
-blanks_inside : Reads usual (codes "[ \n1\t,\r null ]") (Node.array (32 ∷ 10 ∷ []) one (9 ∷ []) (element (13 ∷ 32 ∷ []) Node.null (32 ∷ []) no_elements))
+blanks_inside : Reads usual (codes "[ \n1\t,\r null ]") (Node.array (32 ∷ 10 ∷ []) one (9 ∷ [])
+    (element (13 ∷ 32 ∷ []) Node.null (32 ∷ []) no_elements))
 unfolding class_of code_unit bytes_of encode_utf8 kept_len drops_too_many keeps_too_many
-blanks_inside = read_tree usual (codes "[ \n1\t,\r null ]") (alone (Node.array (32 ∷ 10 ∷ []) one (9 ∷ []) (element (13 ∷ 32 ∷ []) Node.null (32 ∷ []) no_elements))) refl
+blanks_inside = read_tree usual (codes "[ \n1\t,\r null ]") (alone
+    (Node.array (32 ∷ 10 ∷ []) one (9 ∷ []) (element (13 ∷ 32 ∷ []) Node.null (32 ∷ []) no_elements))) refl
 
 -- ---- readings
 
@@ -98,13 +114,17 @@ empty_inside_at_1 : Reads (shallow 1) (codes "[[]]") (array (Node.empty_array []
 unfolding class_of code_unit bytes_of encode_utf8 kept_len drops_too_many keeps_too_many
 empty_inside_at_1 = read_tree (shallow 1) (codes "[[]]") (alone (array (Node.empty_array []) [])) refl
 
-empty_members_at_1 : Reads (shallow 1) (codes "{\"a\":[],\"b\":{}}") (object (key a) (Node.empty_array []) ((key (codes "b"), Node.empty_object []) ∷ []))
+empty_members_at_1 : Reads (shallow 1) (codes "{\"a\":[],\"b\":{}}")
+    (object (key a) (Node.empty_array []) ((key (codes "b"), Node.empty_object []) ∷ []))
 unfolding class_of code_unit bytes_of encode_utf8 kept_len drops_too_many keeps_too_many
-empty_members_at_1 = read_tree (shallow 1) (codes "{\"a\":[],\"b\":{}}") (alone (object (key a) (Node.empty_array []) ((key (codes "b"), Node.empty_object []) ∷ []))) refl
+empty_members_at_1 = read_tree (shallow 1) (codes "{\"a\":[],\"b\":{}}")
+    (alone (object (key a) (Node.empty_array []) ((key (codes "b"), Node.empty_object []) ∷ []))) refl
 
-strict_keys_apart : Reads (strict_to 512) (codes "{\"a\":{\"a\":1},\"b\":{\"a\":1}}") (object (key a) (object (key a) one []) ((key (codes "b"), object (key a) one []) ∷ []))
+strict_keys_apart : Reads (strict_to 512) (codes "{\"a\":{\"a\":1},\"b\":{\"a\":1}}")
+    (object (key a) (object (key a) one []) ((key (codes "b"), object (key a) one []) ∷ []))
 unfolding class_of code_unit bytes_of encode_utf8 kept_len drops_too_many keeps_too_many
-strict_keys_apart = read_tree (strict_to 512) (codes "{\"a\":{\"a\":1},\"b\":{\"a\":1}}") (alone (object (key a) (object (key a) one []) ((key (codes "b"), object (key a) one []) ∷ []))) refl
+strict_keys_apart = read_tree (strict_to 512) (codes "{\"a\":{\"a\":1},\"b\":{\"a\":1}}")
+    (alone (object (key a) (object (key a) one []) ((key (codes "b"), object (key a) one []) ∷ []))) refl
 
 strict_blanks : Reads (strict_to 1) (codes "[\t1\n]") (Node.array (9 ∷ []) one (10 ∷ []) no_elements)
 unfolding class_of code_unit bytes_of encode_utf8 kept_len drops_too_many keeps_too_many
@@ -134,7 +154,8 @@ front_on (go (Some b) s) f g rest h ih = absurd (cc)
 front_on bad f g rest h ih = absurd (cc)
 front_on bad_deep f g rest h ih = absurd (cc)
 
-front_ends : (r : Reading) (t : List ℕ) (s : State) (i : ℕ) → quiet r t s ≡ true → i < length t → answer r (take i t) s ≡ refused Fault.end []
+front_ends : (r : Reading) (t : List ℕ) (s : State) (i : ℕ) → quiet r t s ≡ true → i < length t
+    → answer r (take i t) s ≡ refused Fault.end []
 front_ends r [] s i h lt = absurd (omega arith)
 front_ends r (c ∷ cs) s zero h lt = no_tree (accept s) (and_parts _ _ h).0
 front_ends r (c ∷ cs) s (suc i) h lt =
@@ -147,4 +168,5 @@ mixed_quiet = refl
 
 fronts_of_mixed : (i : ℕ) → i < 48 → IsErrorOf usual (take i mixed_text) UnexpectedEndOfJson
 fronts_of_mixed i h =
-    refused_error usual (take i mixed_text) [] Fault.end UnexpectedEndOfJson (front_ends usual mixed_text start i mixed_quiet h) refl
+    refused_error usual (take i mixed_text) [] Fault.end UnexpectedEndOfJson
+    (front_ends usual mixed_text start i mixed_quiet h) refl

@@ -1,5 +1,7 @@
--- Worked rows of docs/RULES.md, "Texts" and "Numbers": a tree, the text that it spells, what it means and how that is printed, computed from the definitions.
-use Rattle.std.proofs.Common.{◌≡◌, pos, negsuc, List, [], ◌∷◌, ◌++◌, replicate, true, false, codes, encode_utf8_all, refl, ℕ}
+-- Worked rows of docs/RULES.md, "Texts" and "Numbers": a tree, the text that it spells, what it means and how that is
+-- printed, computed from the definitions.
+use Rattle.std.proofs.Common.{◌≡◌, pos, negsuc, List, [], ◌∷◌, ◌++◌, replicate, true, false, codes, encode_utf8_all}
+use Rattle.std.proofs.Common.{refl, ℕ}
 use Rattle.std.specs.Fmt.{digits}
 use Rattle.std.specs.Char.{encode_utf8}
 use Rattle.std.specs.Prelude.{IsTrue}
@@ -11,11 +13,13 @@ use Rattle.jzon_tree.specs.Value as value
 use Rattle.jzon_tree.specs.Text.{compact, pretty}
 use Rattle.jzon_tree.specs.Same.{same}
 use Rattle.jzon.specs.Reading.{usual}
-use Rattle.jzon.specs.Grammar.{unsigned, plus, minus, Numeral, plain, simple, single, double, Node, no_members, member, Document, IsBlank, code_unit}
+use Rattle.jzon.specs.Grammar.{unsigned, plus, minus, Numeral, plain, simple, single, double, Node, no_members, member}
+use Rattle.jzon.specs.Grammar.{Document, IsBlank, code_unit}
 use Rattle.jzon.specs.Meaning.{meaning, bytes_of}
 use Rattle.jzon.specs.Spelling.{spell, drops_too_many, keeps_too_many}
 use Rattle.jzon.specs.Fault.{Parses, Completes}
-use Rattle.jzon.proofs.Samples.{marks, no_marks, alone, plains, string, key, key_of, integer, decimal, power, negated, int, array, object, is_numeral, is_numeral-true}
+use Rattle.jzon.proofs.Samples.{marks, no_marks, alone, plains, string, key, key_of, integer, decimal, power, negated}
+use Rattle.jzon.proofs.Samples.{int, array, object, is_numeral, is_numeral-true}
 
 -- ---- numbers
 
@@ -29,14 +33,17 @@ NumberRow t n v printed =
     × (compact (value.number v) ≡ printed)
 
 -- so the number alone is what the text is read as
-pub number_parses : (t : List ℕ) (n : Numeral) (v : Decimal) (printed : List ℕ) → NumberRow t n v printed → Parses usual t (alone (Node.number n))
+pub number_parses : (t : List ℕ) (n : Numeral) (v : Decimal) (printed : List ℕ) → NumberRow t n v printed
+    → Parses usual t (alone (Node.number n))
 number_parses t n v printed h = (((tt, is_numeral-true n h.0, tt), h.1), no_marks usual (alone (Node.number n)) h.2)
 
-negative_with_all_parts : NumberRow (codes "-12.50e3") (negated (power (codes "12") (codes "50") unsigned (codes "3"))) (parts false 1250 (pos 1)) (codes "-12500")
+negative_with_all_parts : NumberRow (codes "-12.50e3") (negated (power (codes "12") (codes "50") unsigned (codes "3")))
+    (parts false 1250 (pos 1)) (codes "-12500")
 unfolding digits kept_len drops_too_many keeps_too_many
 negative_with_all_parts = (refl, refl, refl, refl, refl)
 
-greatest_mantissa : NumberRow (codes "18446744073709551615.5") (decimal (codes "18446744073709551615") (codes "5")) (parts true 18446744073709551615 (pos 0)) (codes "18446744073709551615")
+greatest_mantissa : NumberRow (codes "18446744073709551615.5") (decimal (codes "18446744073709551615") (codes "5"))
+    (parts true 18446744073709551615 (pos 0)) (codes "18446744073709551615")
 unfolding digits kept_len drops_too_many keeps_too_many
 greatest_mantissa = (refl, refl, refl, refl, refl)
 
@@ -47,23 +54,28 @@ fraction_digits_dropped :
 unfolding digits kept_len drops_too_many keeps_too_many
 fraction_digits_dropped = (refl, refl, refl, refl, refl)
 
-small_digit_dropped : NumberRow (codes "184467440737095516165") (integer (codes "184467440737095516165")) (parts true 1844674407370955161 (pos 2)) (codes "1.844674407370955161e20")
+small_digit_dropped : NumberRow (codes "184467440737095516165") (integer (codes "184467440737095516165"))
+    (parts true 1844674407370955161 (pos 2)) (codes "1.844674407370955161e20")
 unfolding digits kept_len drops_too_many keeps_too_many
 small_digit_dropped = (refl, refl, refl, refl, refl)
 
-clamped_once : NumberRow (codes "1.2e32768") (power (codes "1") (codes "2") unsigned (codes "32768")) (parts true 12 (pos 32767)) (codes "1.2e32768")
+clamped_once : NumberRow (codes "1.2e32768") (power (codes "1") (codes "2") unsigned (codes "32768"))
+    (parts true 12 (pos 32767)) (codes "1.2e32768")
 unfolding digits kept_len drops_too_many keeps_too_many
 clamped_once = (refl, refl, refl, refl, refl)
 
-sixty_nines : NumberRow (codes "1e" ++ replicate 60 57) (power (codes "1") [] unsigned (replicate 60 57)) (parts true 1 (pos 32767)) (codes "1e32767")
+sixty_nines : NumberRow (codes "1e" ++ replicate 60 57) (power (codes "1") [] unsigned (replicate 60 57))
+    (parts true 1 (pos 32767)) (codes "1e32767")
 unfolding digits kept_len drops_too_many keeps_too_many
 sixty_nines = (refl, refl, refl, refl, refl)
 
-least_exponent : NumberRow (codes "1e-32768") (power (codes "1") [] minus (codes "32768")) (parts true 1 (negsuc 32767)) (codes "1e-32768")
+least_exponent : NumberRow (codes "1e-32768") (power (codes "1") [] minus (codes "32768")) (parts true 1 (negsuc 32767))
+    (codes "1e-32768")
 unfolding digits kept_len drops_too_many keeps_too_many
 least_exponent = (refl, refl, refl, refl, refl)
 
-below_least_exponent : NumberRow (codes "1e-32769") (power (codes "1") [] minus (codes "32769")) (parts true 1 (negsuc 32767)) (codes "1e-32768")
+below_least_exponent : NumberRow (codes "1e-32769") (power (codes "1") [] minus (codes "32769"))
+    (parts true 1 (negsuc 32767)) (codes "1e-32768")
 unfolding digits kept_len drops_too_many keeps_too_many
 below_least_exponent = (refl, refl, refl, refl, refl)
 
@@ -71,11 +83,13 @@ zeros_kept : NumberRow (codes "1.50") (decimal (codes "1") (codes "50")) (parts 
 unfolding digits kept_len drops_too_many keeps_too_many
 zeros_kept = (refl, refl, refl, refl, refl)
 
-hundredths : NumberRow (codes "100e-2") (power (codes "100") [] minus (codes "2")) (parts true 100 (negsuc 1)) (codes "1.00")
+hundredths : NumberRow (codes "100e-2") (power (codes "100") [] minus (codes "2")) (parts true 100 (negsuc 1))
+    (codes "1.00")
 unfolding digits kept_len drops_too_many keeps_too_many
 hundredths = (refl, refl, refl, refl, refl)
 
-zero_keeps_exponent : NumberRow (codes "0e5") (power (codes "0") [] unsigned (codes "5")) (parts true 0 (pos 5)) (codes "0")
+zero_keeps_exponent : NumberRow (codes "0e5") (power (codes "0") [] unsigned (codes "5")) (parts true 0 (pos 5))
+    (codes "0")
 unfolding digits kept_len drops_too_many keeps_too_many
 zero_keeps_exponent = (refl, refl, refl, refl, refl)
 
@@ -87,11 +101,13 @@ five_hundred : NumberRow (codes "5e2") (power (codes "5") [] unsigned (codes "2"
 unfolding digits kept_len drops_too_many keeps_too_many
 five_hundred = (refl, refl, refl, refl, refl)
 
-last_zero_dropped : NumberRow (codes "50000000000000000000") (integer (codes "50000000000000000000")) (parts true 5000000000000000000 (pos 1)) (codes "50000000000000000000")
+last_zero_dropped : NumberRow (codes "50000000000000000000") (integer (codes "50000000000000000000"))
+    (parts true 5000000000000000000 (pos 1)) (codes "50000000000000000000")
 unfolding digits kept_len drops_too_many keeps_too_many
 last_zero_dropped = (refl, refl, refl, refl, refl)
 
-leading_zeros_kept : NumberRow (codes "0.05e+1") (power (codes "0") (codes "05") plus (codes "1")) (parts true 5 (negsuc 0)) (codes "0.5")
+leading_zeros_kept : NumberRow (codes "0.05e+1") (power (codes "0") (codes "05") plus (codes "1"))
+    (parts true 5 (negsuc 0)) (codes "0.5")
 unfolding digits kept_len drops_too_many keeps_too_many
 leading_zeros_kept = (refl, refl, refl, refl, refl)
 
@@ -111,7 +127,11 @@ abbrev pub between_blanks : Document
 between_blanks = record { before = 32 ∷ 10 ∷ 9 ∷ []; node = Node.boolean false; after = 13 ∷ 32 ∷ [] }
 
 false_between_blanks : Parses usual (codes " \n\tfalse\r ") between_blanks
-false_between_blanks = ((((refl, (refl, (refl, tt))), tt, (refl, (refl, tt))), refl), no_marks usual between_blanks refl)
+false_between_blanks = (
+  (((refl, (refl, (refl, tt))), tt, (refl, (refl, tt))), refl),
+  no_marks usual between_blanks
+      refl,
+)
 
 -- a vertical tab and a form feed are blanks of a usual reading alone
 wide_blanks : IsBlank usual (11 ∷ 12 ∷ [])
@@ -154,18 +174,21 @@ Row t n v printed =
 
 simple_escapes :
     Row (codes "\"\\r\\n\\t\\b\\f\\\\\\/\\\"\"")
-    (Node.string (simple 114 ∷ simple 110 ∷ simple 116 ∷ simple 98 ∷ simple 102 ∷ simple 92 ∷ simple 47 ∷ simple 34 ∷ []))
+    (Node.string (simple 114 ∷ simple 110 ∷ simple 116 ∷ simple 98 ∷ simple 102 ∷ simple 92 ∷ simple 47 ∷ simple 34 ∷
+    []))
     (value.text short (13 ∷ 10 ∷ 9 ∷ 8 ∷ 12 ∷ 92 ∷ 47 ∷ 34 ∷ [])) (codes "\"\\r\\n\\t\\b\\f\\\\/\\\"\"")
 unfolding encode_utf8 bytes_of
 simple_escapes = (refl, refl, refl, refl)
 
 heart :
     Row (codes "\"\\u2764\\ufe0f\"") (Node.string (single (codes "2764") ∷ single (codes "fe0f") ∷ []))
-    (value.text short (0xE2 ∷ 0x9D ∷ 0xA4 ∷ 0xEF ∷ 0xB8 ∷ 0x8F ∷ [])) (34 ∷ 0xE2 ∷ 0x9D ∷ 0xA4 ∷ 0xEF ∷ 0xB8 ∷ 0x8F ∷ 34 ∷ [])
+    (value.text short (0xE2 ∷ 0x9D ∷ 0xA4 ∷ 0xEF ∷ 0xB8 ∷ 0x8F ∷ []))
+    (34 ∷ 0xE2 ∷ 0x9D ∷ 0xA4 ∷ 0xEF ∷ 0xB8 ∷ 0x8F ∷ 34 ∷ [])
 unfolding encode_utf8 bytes_of code_unit
 heart = (refl, refl, refl, refl)
 
-null_character : Row (codes "\"\\u0000\"") (Node.string (single (codes "0000") ∷ [])) (value.text short (0 ∷ [])) (codes "\"\\u0000\"")
+null_character : Row (codes "\"\\u0000\"") (Node.string (single (codes "0000") ∷ [])) (value.text short (0 ∷ []))
+    (codes "\"\\u0000\"")
 unfolding encode_utf8 bytes_of code_unit
 null_character = (refl, refl, refl, refl)
 
@@ -178,19 +201,22 @@ clef = (refl, refl, refl, refl)
 -- one character, written in three ways
 e_acute :
     Row (codes "\"é\\u00e9\\u00E9\"") (Node.string (plain 233 ∷ single (codes "00e9") ∷ single (codes "00E9") ∷ []))
-    (value.text short (0xC3 ∷ 0xA9 ∷ 0xC3 ∷ 0xA9 ∷ 0xC3 ∷ 0xA9 ∷ [])) (34 ∷ 0xC3 ∷ 0xA9 ∷ 0xC3 ∷ 0xA9 ∷ 0xC3 ∷ 0xA9 ∷ 34 ∷ [])
+    (value.text short (0xC3 ∷ 0xA9 ∷ 0xC3 ∷ 0xA9 ∷ 0xC3 ∷ 0xA9 ∷ []))
+    (34 ∷ 0xC3 ∷ 0xA9 ∷ 0xC3 ∷ 0xA9 ∷ 0xC3 ∷ 0xA9 ∷ 34 ∷ [])
 unfolding encode_utf8 bytes_of code_unit
 e_acute = (refl, refl, refl, refl)
 
 controls :
     Row (codes "\"foo\\u001fbar\\u0000baz\"")
-    (Node.string (plains (codes "foo") ++ single (codes "001f") ∷ plains (codes "bar") ++ single (codes "0000") ∷ plains (codes "baz")))
+    (Node.string (plains (codes "foo") ++ single (codes "001f") ∷ plains (codes "bar") ++ single (codes "0000") ∷ plains
+    (codes "baz")))
     (value.text short (codes "foo" ++ 31 ∷ codes "bar" ++ 0 ∷ codes "baz")) (codes "\"foo\\u001fbar\\u0000baz\"")
 unfolding encode_utf8 bytes_of code_unit
 controls = (refl, refl, refl, refl)
 
 -- a solidus and the character 127 are printed as they are
-raw_characters : Row (34 ∷ 47 ∷ 127 ∷ 34 ∷ []) (string (47 ∷ 127 ∷ [])) (value.text short (47 ∷ 127 ∷ [])) (34 ∷ 47 ∷ 127 ∷ 34 ∷ [])
+raw_characters : Row (34 ∷ 47 ∷ 127 ∷ 34 ∷ []) (string (47 ∷ 127 ∷ [])) (value.text short (47 ∷ 127 ∷ []))
+    (34 ∷ 47 ∷ 127 ∷ 34 ∷ [])
 unfolding encode_utf8 bytes_of
 raw_characters = (refl, refl, refl, refl)
 
@@ -235,9 +261,11 @@ b = codes "b"
 -- with blanks, and a key that comes twice: the first one's place and the last one's value
 abbrev pub spaced : Node
 spaced =
-    Node.object (record { before = codes " "; items = plains (codes "foo"); after = [] }) (codes " ") (int (codes "0")) []
+    Node.object (record { before = codes " "; items = plains (codes "foo"); after = [] }) (codes " ") (int (codes "0"))
+    []
     (member (record { before = codes " "; items = plains (codes "bar"); after = [] }) (codes " ") (int (codes "1")) []
-    (member (record { before = codes " "; items = plains (codes "foo"); after = [] }) (codes " ") (int (codes "2")) (codes " ") no_members))
+    (member (record { before = codes " "; items = plains (codes "foo"); after = [] }) (codes " ") (int (codes "2"))
+    (codes " ") no_members))
 
 last_value_at_first_place :
     Row (codes "{ \"foo\": 0, \"bar\": 1, \"foo\": 2 }") spaced
@@ -246,19 +274,22 @@ unfolding digits encode_utf8 bytes_of kept_len drops_too_many
 last_value_at_first_place = (refl, refl, refl, refl)
 
 repeated_key_as_escape :
-    Row (codes "{\"a\":1,\"\\u0061\":2}") (object (key a) (int (codes "1")) ((key_of (single (codes "0061") ∷ []), int (codes "2")) ∷ []))
+    Row (codes "{\"a\":1,\"\\u0061\":2}") (object (key a) (int (codes "1"))
+    ((key_of (single (codes "0061") ∷ []), int (codes "2")) ∷ []))
     (value.object (pairs_of ((a, two) ∷ []))) (codes "{\"a\":2}")
 unfolding digits encode_utf8 bytes_of code_unit kept_len drops_too_many
 repeated_key_as_escape = (refl, refl, refl, refl)
 
 repeated_key_of_containers :
-    Row (codes "{\"a\":{\"a\":1},\"a\":[]}") (object (key a) (object (key a) (int (codes "1")) []) ((key a, Node.empty_array []) ∷ []))
+    Row (codes "{\"a\":{\"a\":1},\"a\":[]}") (object (key a) (object (key a) (int (codes "1")) [])
+    ((key a, Node.empty_array []) ∷ []))
     (value.object (pairs_of ((a, value.array value.no_values) ∷ []))) (codes "{\"a\":[]}")
 unfolding digits encode_utf8 bytes_of kept_len drops_too_many
 repeated_key_of_containers = (refl, refl, refl, refl)
 
 three_members :
-    Row (codes "{\"a\":1,\"b\":2,\"a\":2}") (object (key a) (int (codes "1")) ((key b, int (codes "2")) ∷ (key a, int (codes "2")) ∷ []))
+    Row (codes "{\"a\":1,\"b\":2,\"a\":2}") (object (key a) (int (codes "1"))
+    ((key b, int (codes "2")) ∷ (key a, int (codes "2")) ∷ []))
     (value.object (pairs_of ((a, two) ∷ (b, two) ∷ []))) (codes "{\"a\":2,\"b\":2}")
 unfolding digits encode_utf8 bytes_of kept_len drops_too_many
 three_members = (refl, refl, refl, refl)
@@ -270,8 +301,13 @@ empty_object_with_blank : Row (codes "{\n}") (Node.empty_object (10 ∷ [])) (va
 empty_object_with_blank = (refl, refl, refl, refl)
 
 world_in_list :
-    Row (codes "{\"list\":[null,\"world\"]}") (object (key (codes "list")) (array Node.null (string (codes "world") ∷ [])) [])
-    (value.object (pairs_of ((codes "list", value.array (values_of (value.null ∷ value.text short (codes "world") ∷ []))) ∷ [])))
+    Row (codes "{\"list\":[null,\"world\"]}") (object (key (codes "list"))
+    (array Node.null (string (codes "world") ∷ [])) [])
+    (value.object (pairs_of ((
+      codes "list",
+      value.array (values_of
+          (value.null ∷ value.text short (codes "world") ∷ [])),
+    ) ∷ [])))
     (codes "{\"list\":[null,\"world\"]}")
 unfolding encode_utf8 bytes_of
 world_in_list = (refl, refl, refl, refl)
@@ -291,7 +327,11 @@ mixed_text = codes "{\"a\":[1,-0.5e+2,\"x\\u00e9\\uD834\\uDD1E\"],\"b\":null}"
 
 mixed_row :
     Row mixed_text mixed
-    (value.object (pairs_of ((a, value.array (values_of (one ∷ value.number (parts false 5 (pos 1)) ∷ value.text short (encode_utf8_all (codes "xé𝄞")) ∷ []))) ∷ (b, value.null) ∷ [])))
+    (value.object (pairs_of ((
+      a,
+      value.array (values_of (one ∷ value.number (parts false 5 (pos 1)) ∷ value.text short
+          (encode_utf8_all (codes "xé𝄞")) ∷ [])),
+    ) ∷ (b, value.null) ∷ [])))
     (encode_utf8_all (codes "{\"a\":[1,-50,\"xé𝄞\"],\"b\":null}"))
 unfolding digits encode_utf8 bytes_of code_unit kept_len drops_too_many keeps_too_many
 mixed_row = (refl, refl, refl, refl)
@@ -332,11 +372,13 @@ same_objects :
 unfolding encode_utf8 bytes_of kept_len scaled
 same_objects = refl
 
-other_value : same (meaning (object (key a) (int (codes "1")) [])) (meaning (object (key a) (int (codes "2")) [])) ≡ false
+other_value : same (meaning (object (key a) (int (codes "1")) [])) (meaning (object (key a) (int (codes "2")) []))
+    ≡ false
 unfolding encode_utf8 bytes_of kept_len scaled
 other_value = refl
 
-other_order : same (meaning (array (int (codes "1")) (int (codes "2") ∷ []))) (meaning (array (int (codes "2")) (int (codes "1") ∷ []))) ≡ false
+other_order : same (meaning (array (int (codes "1")) (int (codes "2") ∷ [])))
+    (meaning (array (int (codes "2")) (int (codes "1") ∷ []))) ≡ false
 unfolding kept_len scaled
 other_order = refl
 

@@ -1,5 +1,6 @@
 -- The fronts of a text and the states of the machine: a front's completions are those of the state that it leads to.
-use Rattle.std.proofs.Common.{◌≡◌, ℕ, zero, suc, ◌<◌, List, [], ◌∷◌, ◌++◌, length, map, Option, Some, None, inl, inr, refl, sym, subst, ap, ◌∙◌, slice_get, arith, append_assoc}
+use Rattle.std.proofs.Common.{◌≡◌, ℕ, zero, suc, ◌<◌, List, [], ◌∷◌, ◌++◌, length, map, Option, Some, None, inl, inr}
+use Rattle.std.proofs.Common.{refl, sym, subst, ap, ◌∙◌, slice_get, arith, append_assoc}
 use Rattle.jzon.specs.Reading.{Reading}
 use Rattle.jzon.specs.Grammar.{Document, IsDocument}
 use Rattle.jzon.specs.Spelling.{Breach, Cell, cell, plain, node_cells, cells}
@@ -26,7 +27,8 @@ plain-append [] g q = refl
 plain-append (c ∷ f) g q = ap (λ z. cell c None ∷ z) (plain-append f g q)
 
 -- no breach stands in characters without marks
-pub plain_unmarked : (f : List ℕ) (q : List Cell) (i : ℕ) (b : Breach) → i < length f → slice_get (marks_of (plain f q)) i ≡ Some (Some b) → ⊥
+pub plain_unmarked : (f : List ℕ) (q : List Cell) (i : ℕ) (b : Breach) → i < length f
+    → slice_get (marks_of (plain f q)) i ≡ Some (Some b) → ⊥
 plain_unmarked [] q i b h e = omega arith
 plain_unmarked (c ∷ f) q zero b h e = cc
 plain_unmarked (c ∷ f) q (suc i) b h e = plain_unmarked f q i b (omega arith) e
@@ -63,14 +65,26 @@ reaches_start r = record { onward = onward; back = back }
       cells_left = cells r d;
       split = refl;
       text = h.2;
-      completed = inl (d.before, d.node, plain d.after [], h.0.0, h.0.1, refl, (d.after, [], h.0.2, refl, (refl, refl)));
+      completed = inl (
+        d.before,
+        d.node,
+        plain d.after [],
+        h.0.0,
+        h.0.1,
+        refl,
+        (d.after, [], h.0.2, refl, (refl, refl)),
+      );
     }
 
     back : (q : List Cell) (d : Document) → Comp r start q d → IsDocument r d × (cells r d ≡ q)
     back q d (inr h) = absurd h
     back q d (inl (w, n, p, w_ok, n_ok, e, (z, p', z_ok, e', (e2, e3)))) =
         let P : Document → Type 0 = λ x. IsDocument r x × (cells r x ≡ q) in
-        subst P (sym e3) ((w_ok, n_ok, z_ok), sym (e ∙ ap (λ y. plain w (node_cells r n 0 None y)) (e' ∙ ap (plain z) e2)))
+        subst P (sym e3) (
+          (w_ok, n_ok, z_ok),
+          sym (e ∙ ap (λ y. plain w (node_cells r n 0 None y))
+              (e' ∙ ap (plain z) e2)),
+        )
 
 -- the next cell of a tree that goes on with this character
 pub record Next (r : Reading) (front : List ℕ) (c : ℕ) (rest : List ℕ) (s : State) (d : Document) : Type 0 where
@@ -93,14 +107,16 @@ next_of r front c rest s d (y ∷ q) e x h =
       stepped = forward r s c y.mark q d (subst (λ z. Comp r s (cell z y.mark ∷ q) d) ec h);
     }
 
-pub next : (r : Reading) (front : List ℕ) (c : ℕ) (s : State) (d : Document) → Reaches r front s → (h : Completes r (front ++ (c ∷ [])) d)
+pub next : (r : Reading) (front : List ℕ) (c : ℕ) (s : State) (d : Document) → Reaches r front s
+    → (h : Completes r (front ++ (c ∷ [])) d)
     → Next r front c h.1 s d
 next r front c s d reached h =
     let g = reached.onward d (h.0, c ∷ h.1, h.2 ∙ append_assoc front (c ∷ []) h.1) in
     next_of r front c h.1 s d g.cells_left g.split g.text g.completed
 
 -- one character more, at which no breach stands
-pub reaches_next : (r : Reading) (front : List ℕ) (c : ℕ) (s t : State) → Reaches r front s → step r s c ≡ go None t → Reaches r (front ++ (c ∷ [])) t
+pub reaches_next : (r : Reading) (front : List ℕ) (c : ℕ) (s t : State) → Reaches r front s → step r s c ≡ go None t
+    → Reaches r (front ++ (c ∷ [])) t
 reaches_next r front c s t reached e = record { onward = onward; back = back }
   where
     onward : (d : Document) (h : Completes r (front ++ (c ∷ [])) d) → Followed r (front ++ (c ∷ [])) h.1 t d
@@ -109,7 +125,8 @@ reaches_next r front c s t reached e = record { onward = onward; back = back }
         let k : (n.mark ≡ None) × Comp r t n.cells_left d = subst (λ z. Steps r z n.mark n.cells_left d) e n.stepped in
         record {
           cells_left = n.cells_left;
-          split = n.split ∙ ap (λ z. plain front (cell c z ∷ n.cells_left)) k.0 ∙ sym (plain-append front (c ∷ []) n.cells_left);
+          split = n.split ∙ ap (λ z. plain front (cell c z ∷ n.cells_left)) k.0
+              ∙ sym (plain-append front (c ∷ []) n.cells_left);
           text = n.text;
           completed = k.1;
         }

@@ -17,7 +17,8 @@ same_on r q p d e m v bad ih h k = absurd h
 same_on r q p d e m v bad_deep ih h k = absurd h
 
 -- cells with the same characters, from one state
-same : (r : Reading) (q p : List Cell) (s : State) (d e : Document) → Comp r s q d → Comp r s p e → chars_of q ≡ chars_of p → d ≡ e
+same : (r : Reading) (q p : List Cell) (s : State) (d e : Document) → Comp r s q d → Comp r s p e
+    → chars_of q ≡ chars_of p → d ≡ e
 same r [] [] s d e h k x =
     let f : accept s ≡ Some d = finish r s d h in
     let g : accept s ≡ Some e = finish r s e k in
@@ -27,7 +28,8 @@ same r (y ∷ q) [] s d e h k x = absurd (cc)
 same r (y ∷ q) (z ∷ p) s d e h k x =
     let same_char : z.char ≡ y.char = cc in
     let same_rest : chars_of q ≡ chars_of p = cc in
-    same_on r q p d e y.mark z.mark (step r s y.char) (λ t a b. same r q p t d e a b same_rest) (forward r s y.char y.mark q d h)
+    same_on r q p d e y.mark z.mark (step r s y.char) (λ t a b. same r q p t d e a b same_rest)
+    (forward r s y.char y.mark q d h)
     (forward r s y.char z.mark p e (subst (λ c. Comp r s (cell c z.mark ∷ p) e) same_char k))
 
 pub same_tree : (r : Reading) (t : List ℕ) (d e : Document) → Spells r t d → Spells r t e → d ≡ e

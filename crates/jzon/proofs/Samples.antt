@@ -1,12 +1,15 @@
 -- Trees for worked rows, the breaches of a tree as a list, and tests that tell numbers of the grammar.
-use Rattle.std.proofs.Common.{◌≡◌, ℕ, zero, suc, ◌+◌, List, [], ◌∷◌, ◌++◌, map, replicate, Bool, true, false, not, ◌&&◌, ◌==◌, Option, Some, None, refl, ap}
+use Rattle.std.proofs.Common.{◌≡◌, ℕ, zero, suc, ◌+◌, List, [], ◌∷◌, ◌++◌, map, replicate, Bool, true, false, not, ◌&&◌}
+use Rattle.std.proofs.Common.{◌==◌, Option, Some, None, refl, ap}
 use Rattle.std.proofs.lemmas.Bool.{and_parts}
 use Rattle.std.specs.Prelude.{IsTrue, slice_get}
 use Rattle.std.specs.Char.{is_ascii_digit}
 use Rattle.std.specs.List.{list_all}
 pub use Rattle.jzon.specs.Laws.{alone}
 use Rattle.jzon.specs.Reading.{Reading}
-use Rattle.jzon.specs.Grammar.{Sign, Exponent, Numeral, Item, plain, Key, Node, Elements, no_elements, element, Members, no_members, member, Document, AreDigits, IsDigits, IsWhole, is_exponent_letter, IsExponent, IsNumeral}
+use Rattle.jzon.specs.Grammar.{Sign, Exponent, Numeral, Item, plain, Key, Node, Elements, no_elements, element, Members}
+use Rattle.jzon.specs.Grammar.{no_members, member, Document, AreDigits, IsDigits, IsWhole, is_exponent_letter}
+use Rattle.jzon.specs.Grammar.{IsExponent, IsNumeral}
 use Rattle.jzon.specs.Spelling.{Breach, Cell, cells, HasNoBreach}
 
 -- ---- the breaches of a tree, as a list
@@ -31,7 +34,8 @@ no_put : (i : ℕ) (m : Option Breach) (ms : Marks) → put_mark i m ms ≡ [] �
 no_put i None ms e = (refl, e)
 no_put i (Some b) ms e = absurd (cc)
 
-no_marks_from : (i : ℕ) (q : List Cell) → marks_from i q ≡ [] → (j : ℕ) (b : Breach) → slice_get (map (λ x. x.mark) q) j ≡ Some (Some b) → ⊥
+no_marks_from : (i : ℕ) (q : List Cell) → marks_from i q ≡ [] → (j : ℕ) (b : Breach)
+    → slice_get (map (λ x. x.mark) q) j ≡ Some (Some b) → ⊥
 no_marks_from i [] e j b h = cc
 no_marks_from i (x ∷ q) e zero b h = let t = no_put i x.mark (marks_from (i + 1) q) e in cc
 no_marks_from i (x ∷ q) e (suc j) b h = no_marks_from (i + 1) q (no_put i x.mark (marks_from (i + 1) q) e).1 j b h
@@ -63,7 +67,13 @@ abbrev pub decimal : List ℕ → List ℕ → Numeral
 decimal ws fs = record { negative = false; whole = ws; fraction = fs; exponent = None }
 
 abbrev pub power : List ℕ → List ℕ → Sign → List ℕ → Numeral
-power ws fs s ds = record { negative = false; whole = ws; fraction = fs; exponent = Some (record { letter = 101; sign = s; digits = ds }) }
+power ws fs s ds = record {
+  negative = false;
+  whole = ws;
+  fraction = fs;
+  exponent = Some
+      (record { letter = 101; sign = s; digits = ds });
+}
 
 -- the same number with a minus
 abbrev pub negated : Numeral → Numeral

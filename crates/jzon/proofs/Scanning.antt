@@ -1,12 +1,14 @@
 -- Runs of ASCII bytes of a text, and what they do to what is left of it.
-use Rattle.std.proofs.Common.{◌≡◌, ℕ, suc, ◌+◌, ◌<◌, ◌≤◌, Bool, true, false, cond, List, [], ◌∷◌, ◌++◌, length, drop, get_or, refl, sym, ap, subst, ◌∙◌, arith, None}
+use Rattle.std.proofs.Common.{◌≡◌, ℕ, suc, ◌+◌, ◌<◌, ◌≤◌, Bool, true, false, cond, List, [], ◌∷◌, ◌++◌, length, drop}
+use Rattle.std.proofs.Common.{get_or, refl, sym, ap, subst, ◌∙◌, arith, None}
 use Rattle.std.specs.Prelude.{chars, IsUtf8}
 use Rattle.std.specs.Str.{IsCharBoundary}
 use Rattle.std.specs.List.{prefix_len}
 use Rattle.std.proofs.lemmas.Bool.Decides.{nat_tests}
 use Rattle.std.proofs.lemmas.List.{drop-drop, length-drop, get_or-drop}
 use Rattle.std.proofs.lemmas.List.Sums.{prefix_len-le-length, prefix_len_stops}
-use Rattle.std.proofs.lemmas.Str.{chars_past_char, encode_ascii, IsUtf8-past_char, IsUtf8-drop, IsCharBoundary-from_drop}
+use Rattle.std.proofs.lemmas.Str.{chars_past_char, encode_ascii, IsUtf8-past_char, IsUtf8-drop}
+use Rattle.std.proofs.lemmas.Str.{IsCharBoundary-from_drop}
 use Rattle.jzon_tree.specs.Value.{Value}
 use Rattle.jzon_tree.specs.Writing.{is_space}
 use Rattle.jzon.specs.Reading.{Reading}
@@ -29,7 +31,8 @@ pub record Skipped (r : Reading) (p : Place) (bs rest : List ℕ) : Type 0 where
   pub same : outcome r (chars bs) p ≡ outcome r (chars rest) p
   pub utf8 : IsUtf8 rest
 
-skip_one : (r : Reading) (p : Place) (test : ℕ → Bool) (b : ℕ) (bs : List ℕ) (v : Bool) (n : ℕ) → Skips r p test → IsUtf8 (b ∷ bs) → test b ≡ v
+skip_one : (r : Reading) (p : Place) (test : ℕ → Bool) (b : ℕ) (bs : List ℕ) (v : Bool) (n : ℕ) → Skips r p test
+    → IsUtf8 (b ∷ bs) → test b ≡ v
     → (IsUtf8 bs → Skipped r p bs (drop n bs)) → Skipped r p (b ∷ bs) (drop (cond v (1 + n) 0) (b ∷ bs))
 skip_one r p test b bs false n h u e ih = record { same = refl; utf8 = u }
 skip_one r p test b bs true n h u e ih =
@@ -37,12 +40,15 @@ skip_one r p test b bs true n h u e ih =
     let k = ih (IsUtf8-past_ascii b bs u lt) in
     let m : 1 + n ≡ suc n = omega arith in
     let step : outcome r (chars (b ∷ bs)) p ≡ outcome r (chars bs) p =
-    ap (λ cs. outcome r cs p) (chars-ascii b bs u lt) ∙ ap (λ x. outcome_on x (λ q. outcome r (chars bs) q) (b ∷ chars bs)) (h.stays b (length (b ∷ chars bs)) e) in
+    ap (λ cs. outcome r cs p) (chars-ascii b bs u lt) ∙ ap (λ x. outcome_on x (λ q. outcome r (chars bs) q)
+    (b ∷ chars bs)) (h.stays b (length (b ∷ chars bs)) e) in
     subst (λ j. Skipped r p (b ∷ bs) (drop j (b ∷ bs))) (sym m) (record { same = step ∙ k.same; utf8 = k.utf8 })
 
-pub skip_run : (r : Reading) (p : Place) (test : ℕ → Bool) (bs : List ℕ) → Skips r p test → IsUtf8 bs → Skipped r p bs (drop (prefix_len test bs) bs)
+pub skip_run : (r : Reading) (p : Place) (test : ℕ → Bool) (bs : List ℕ) → Skips r p test → IsUtf8 bs
+    → Skipped r p bs (drop (prefix_len test bs) bs)
 skip_run r p test [] h u = record { same = refl; utf8 = u }
-skip_run r p test (b ∷ bs) h u = skip_one r p test b bs (test b) (prefix_len test bs) h u refl (λ g. skip_run r p test bs h g)
+skip_run r p test (b ∷ bs) h u = skip_one r p test b bs (test b) (prefix_len test bs) h u refl
+    (λ g. skip_run r p test bs h g)
 
 -- ---- blanks
 
@@ -63,7 +69,8 @@ behind_skips r fs v = record { ascii = space_is_ascii r.strict; stays = λ c n e
 -- ---- by the index of a byte
 
 -- what is left is the same behind a run of bytes that are passed over
-pub from_skip : (r : Reading) (p : Place) (test : ℕ → Bool) (bs : List ℕ) (i n : ℕ) → Skips r p test → IsUtf8 bs → IsCharBoundary bs i
+pub from_skip : (r : Reading) (p : Place) (test : ℕ → Bool) (bs : List ℕ) (i n : ℕ) → Skips r p test → IsUtf8 bs
+    → IsCharBoundary bs i
     → n ≡ prefix_len test (drop i bs) → from r bs p i ≡ from r bs p (i + n)
 unfolding from
 from_skip r p test bs i n h u at e =
@@ -71,25 +78,31 @@ from_skip r p test bs i n h u at e =
     ∙ ap (λ k. outcome r (chars (drop k (drop i bs))) p) (sym e) ∙ ap (λ z. outcome r (chars z) p) (drop-drop n i bs)
 
 -- no run begins with a byte that doesn't pass the test
-pub empty_run : (test : ℕ → Bool) (bs : List ℕ) (i : ℕ) → i ≤ length bs → test (get_or bs i 0) ≡ false → prefix_len test (drop i bs) ≡ 0
+pub empty_run : (test : ℕ → Bool) (bs : List ℕ) (i : ℕ) → i ≤ length bs → test (get_or bs i 0) ≡ false
+    → prefix_len test (drop i bs) ≡ 0
 empty_run test bs i le e = none (drop i bs) (ap test (get_or-drop i bs 0 0 ∙ ap (λ n. get_or bs n 0) (omega arith)) ∙ e)
   where
     none : (xs : List ℕ) → test (get_or xs 0 0) ≡ false → prefix_len test xs ≡ 0
     none [] h = refl
     none (x ∷ xs) h = ap (λ t. cond t (1 + prefix_len test xs) 0) h
 
-pub within_run : (test : ℕ → Bool) (bs : List ℕ) (i n : ℕ) → i ≤ length bs → n ≡ prefix_len test (drop i bs) → i + n ≤ length bs
+pub within_run : (test : ℕ → Bool) (bs : List ℕ) (i n : ℕ) → i ≤ length bs → n ≡ prefix_len test (drop i bs)
+    → i + n ≤ length bs
 within_run test bs i n le e = omega (arith, e, prefix_len-le-length test (drop i bs), length-drop i bs)
 
-pub boundary_skip : (r : Reading) (p : Place) (test : ℕ → Bool) (bs : List ℕ) (i n : ℕ) → Skips r p test → IsUtf8 bs → IsCharBoundary bs i
+pub boundary_skip : (r : Reading) (p : Place) (test : ℕ → Bool) (bs : List ℕ) (i n : ℕ) → Skips r p test → IsUtf8 bs
+    → IsCharBoundary bs i
     → n ≡ prefix_len test (drop i bs) → IsCharBoundary bs (i + n)
 boundary_skip r p test bs i n h u at e =
-    let k : IsUtf8 (drop (prefix_len test (drop i bs)) (drop i bs)) = (skip_run r p test (drop i bs) h (IsUtf8-drop bs i u at)).utf8 in
+    let k : IsUtf8 (drop (prefix_len test (drop i bs)) (drop i bs)) =
+    (skip_run r p test (drop i bs) h (IsUtf8-drop bs i u at)).utf8 in
     IsCharBoundary-from_drop bs (i + n) (within_run test bs i n at.0 e)
     (subst IsUtf8 (ap (λ m. drop m (drop i bs)) (sym e) ∙ drop-drop n i bs) k)
 
 -- the byte behind a run doesn't pass the test
-pub stops_run : (test : ℕ → Bool) (bs : List ℕ) (i n : ℕ) → n ≡ prefix_len test (drop i bs) → i + n < length bs → test (get_or bs (i + n) 0) ≡ false
+pub stops_run : (test : ℕ → Bool) (bs : List ℕ) (i n : ℕ) → n ≡ prefix_len test (drop i bs) → i + n < length bs
+    → test (get_or bs (i + n) 0) ≡ false
 stops_run test bs i n e lt =
     let k : prefix_len test (drop i bs) < length (drop i bs) = omega (arith, e, length-drop i bs) in
-    subst (λ c. test c ≡ false) (ap (λ m. get_or (drop i bs) m 0) (sym e) ∙ get_or-drop i bs n 0) (prefix_len_stops test (drop i bs) 0 k)
+    subst (λ c. test c ≡ false) (ap (λ m. get_or (drop i bs) m 0) (sym e) ∙ get_or-drop i bs n 0)
+    (prefix_len_stops test (drop i bs) 0 k)

@@ -3,9 +3,12 @@ use Rattle.std.proofs.Common.{◌≡◌, ℕ, List, [], ◌∷◌, Bool, true, f
 use Rattle.jzon.specs.Reading.{Reading}
 use Rattle.jzon.specs.Grammar.{Numeral, IsWhole, IsNumeral, Item, Node, Document, IsNode}
 use Rattle.jzon.specs.Spelling.{Breach, Cell, cell, plain, whole_cells, numeral_cells, node_cells}
-use Rattle.jzon.proofs.TreeMachine.{nothing_done, done, Named, nothing_named, named, Context, top, in_array, in_object, State, before, before_key, word, numeral, string, after_key, behind, value_mark, key_mark, accept}
+use Rattle.jzon.proofs.TreeMachine.{nothing_done, done, Named, nothing_named, named, Context, top, in_array, in_object}
+use Rattle.jzon.proofs.TreeMachine.{State, before, before_key, word, numeral, string, after_key, behind, value_mark}
+use Rattle.jzon.proofs.TreeMachine.{key_mark, accept}
 use Rattle.jzon.proofs.Completion.{Begins, ClosesArray, BeginsKey, ClosesObject, AfterKey, Comp}
-use Rattle.jzon.proofs.Ends.{finish_behind, finished_behind, some_behind, some_begins, some_begins_key, some_after_key, some_after_string}
+use Rattle.jzon.proofs.Ends.{finish_behind, finished_behind, some_behind, some_begins, some_begins_key, some_after_key}
+use Rattle.jzon.proofs.Ends.{some_after_string}
 use Rattle.jzon.proofs.Numerals.{finish_numeral, finished_numeral, some_numeral}
 use Rattle.jzon.proofs.StringsEnds.{finish_string, some_string}
 
@@ -18,14 +21,16 @@ whole_nonempty : (ws : List ℕ) (m : Option Breach) (p : List Cell) → IsWhole
 whole_nonempty [] m p ok e = ok
 whole_nonempty (c ∷ ws) m p ok e = nonempty _ _ e
 
-signed_nonempty : (negative : Bool) (x : Cell) (p q : List Cell) → ([] ≡ q → ⊥) → [] ≡ (if negative then x ∷ p else q) → ⊥
+signed_nonempty : (negative : Bool) (x : Cell) (p q : List Cell) → ([] ≡ q → ⊥) → [] ≡ (if negative then x ∷ p else q)
+    → ⊥
 signed_nonempty true x p q h e = nonempty x p e
 signed_nonempty false x p q h e = h e
 
 numeral_nonempty : (n : Numeral) (m : Option Breach) (p : List Cell) → IsNumeral n → [] ≡ numeral_cells n m p → ⊥
 numeral_nonempty n m p ok e = signed_nonempty n.negative _ _ _ (λ f. whole_nonempty n.whole m _ ok.0 f) e
 
-node_nonempty : (r : Reading) (n : Node) (i : ℕ) (m : Option Breach) (p : List Cell) → IsNode r n → [] ≡ node_cells r n i m p → ⊥
+node_nonempty : (r : Reading) (n : Node) (i : ℕ) (m : Option Breach) (p : List Cell) → IsNode r n
+    → [] ≡ node_cells r n i m p → ⊥
 node_nonempty r Node.null i m p ok e = nonempty _ _ e
 node_nonempty r (Node.boolean true) i m p ok e = nonempty _ _ e
 node_nonempty r (Node.boolean false) i m p ok e = nonempty _ _ e
@@ -47,16 +52,19 @@ closes_array_nonempty r (in_array k a nothing_done) b d (x ∷ w, p, w_ok, e, h)
 closes_array_nonempty r (in_array k a (done o x n y)) b d h = h
 closes_array_nonempty r (in_object k a o key) b d h = h
 
-begins_key_nonempty : (r : Reading) (k : Context) (a : List ℕ) (o : Named) (b : List ℕ) (d : Document) → BeginsKey r k a o b [] d → ⊥
+begins_key_nonempty : (r : Reading) (k : Context) (a : List ℕ) (o : Named) (b : List ℕ) (d : Document)
+    → BeginsKey r k a o b [] d → ⊥
 begins_key_nonempty r k a o b d ([], is, p, w_ok, is_ok, e, h) = nonempty _ _ e
 begins_key_nonempty r k a o b d (x ∷ w, is, p, w_ok, is_ok, e, h) = nonempty _ _ e
 
-closes_object_nonempty : (r : Reading) (k : Context) (a : List ℕ) (o : Named) (b : List ℕ) (d : Document) → ClosesObject r k a o b [] d → ⊥
+closes_object_nonempty : (r : Reading) (k : Context) (a : List ℕ) (o : Named) (b : List ℕ) (d : Document)
+    → ClosesObject r k a o b [] d → ⊥
 closes_object_nonempty r k a nothing_named b d ([], p, w_ok, e, h) = nonempty _ _ e
 closes_object_nonempty r k a nothing_named b d (x ∷ w, p, w_ok, e, h) = nonempty _ _ e
 closes_object_nonempty r k a (named o key x n y) b d h = h
 
-after_key_nonempty : (r : Reading) (k : Context) (a : List ℕ) (o : Named) (b : List ℕ) (is : List Item) (z : List ℕ) (d : Document) → AfterKey r k a o b is z [] d → ⊥
+after_key_nonempty : (r : Reading) (k : Context) (a : List ℕ) (o : Named) (b : List ℕ) (is : List Item) (z : List ℕ)
+    (d : Document) → AfterKey r k a o b is z [] d → ⊥
 after_key_nonempty r k a o b is z d ([], p, w_ok, e, h) = nonempty _ _ e
 after_key_nonempty r k a o b is z d (x ∷ w, p, w_ok, e, h) = nonempty _ _ e
 

@@ -1,5 +1,6 @@
 -- From what an outcome is to the error that tells it, and when it may be that of memory.
-use Rattle.std.proofs.Common.{◌≡◌, ◌≢◌, inr, ℕ, suc, ◌-◌, ◌<◌, ◌≤◌, List, [], ◌∷◌, ◌++◌, length, take, drop, drop-cons, get_or, refl, sym, ap, subst, ◌∙◌, arith, Result, Ok, Err}
+use Rattle.std.proofs.Common.{◌≡◌, ◌≢◌, inr, ℕ, suc, ◌-◌, ◌<◌, ◌≤◌, List, [], ◌∷◌, ◌++◌, length, take, drop, drop-cons}
+use Rattle.std.proofs.Common.{get_or, refl, sym, ap, subst, ◌∙◌, arith, Result, Ok, Err}
 use Rattle.std.specs.Prelude.{Contains, chars, IsUtf8, MatchResult}
 use Rattle.std.specs.Str.{IsCharBoundary}
 use Rattle.std.proofs.Math.Seq.{get_or-append_seam}
@@ -23,15 +24,19 @@ pub told_again : (t : List ℕ) (e : Error) (o p : Outcome) → o ≡ p → Tell
 told_again t e o p q h = subst (TellsUnlessMemory t e) (sym q) h
 
 -- the end of a text, where it may not end
-pub told_end : (r : Reading) (bs : List ℕ) (i : ℕ) (p : Place) (o : Outcome) → o ≡ from r bs p i → length bs ≤ i → last p ≡ refused Fault.end []
+pub told_end : (r : Reading) (bs : List ℕ) (i : ℕ) (p : Place) (o : Outcome) → o ≡ from r bs p i → length bs ≤ i
+    → last p ≡ refused Fault.end []
     → TellsUnlessMemory (chars bs) UnexpectedEndOfJson o
-told_end r bs i p o q le h = told (chars bs) UnexpectedEndOfJson o (refused Fault.end []) (q ∙ from_end r bs i p le ∙ h) refl
+told_end r bs i p o q le h = told (chars bs) UnexpectedEndOfJson o (refused Fault.end []) (q ∙ from_end r bs i p le ∙ h)
+    refl
 
-pub told_deep : (t rest : List ℕ) (o : Outcome) → o ≡ refused (limit deep) rest → TellsUnlessMemory t ExceededDepthLimit o
+pub told_deep : (t rest : List ℕ) (o : Outcome) → o ≡ refused (limit deep) rest
+    → TellsUnlessMemory t ExceededDepthLimit o
 told_deep t rest o q = told t ExceededDepthLimit o (refused (limit deep) rest) q refl
 
 -- a refusal that a function hands on
-pub told_err : {T : Type 0} (Q : T → Type 0) (t : List ℕ) (result : Result T Error) (e : Error) (o : Outcome) → result ≡ Err e → TellsUnlessMemory t e o
+pub told_err : {T : Type 0} (Q : T → Type 0) (t : List ℕ) (result : Result T Error) (e : Error) (o : Outcome)
+    → result ≡ Err e → TellsUnlessMemory t e o
     → MatchResult result Q (λ x. TellsUnlessMemory t x o)
 told_err Q t result e o q h = subst (λ r. MatchResult r Q (λ x. TellsUnlessMemory t x o)) (sym q) h
 
@@ -39,11 +44,14 @@ told_err Q t result e o q h = subst (λ r. MatchResult r Q (λ x. TellsUnlessMem
 
 -- a result that says what an outcome is says what the same outcome is
 pub same_unless_memory : {T : Type 0} (o p : Outcome) (f : T → Outcome) (t : List ℕ) (result : Result T Error) → o ≡ p
-    → MatchResult result (λ v. p ≡ f v) (λ e. TellsUnlessMemory t e p) → MatchResult result (λ v. o ≡ f v) (λ e. TellsUnlessMemory t e o)
-same_unless_memory o p f t result e h = subst (λ q. MatchResult result (λ v. q ≡ f v) (λ x. TellsUnlessMemory t x q)) (sym e) h
+    → MatchResult result (λ v. p ≡ f v) (λ e. TellsUnlessMemory t e p)
+    → MatchResult result (λ v. o ≡ f v) (λ e. TellsUnlessMemory t e o)
+same_unless_memory o p f t result e h = subst (λ q. MatchResult result (λ v. q ≡ f v) (λ x. TellsUnlessMemory t x q))
+    (sym e) h
 
 pub same_or_memory : {T : Type 0} (o p : Outcome) (f : T → Outcome) (t : List ℕ) (result : Result T Error) → o ≡ p
-    → MatchResult result (λ v. p ≡ f v) (λ e. Tells t e p) → MatchResult result (λ v. o ≡ f v) (λ e. TellsUnlessMemory t e o)
+    → MatchResult result (λ v. p ≡ f v) (λ e. Tells t e p) → MatchResult result (λ v. o ≡ f v)
+    (λ e. TellsUnlessMemory t e o)
 same_or_memory o p f t (Ok v) q h = q ∙ h
 same_or_memory o p f t (Err e) q h = told t e o p q h
 
@@ -62,16 +70,19 @@ tells_no_memory : (t : List ℕ) (o : Outcome) → Tells t OutOfMemory o → ⊥
 tells_no_memory t (meant v) h = h
 tells_no_memory t (refused f rest) h = error_at_memory t (length t - length rest) f h
 
-pub never_memory : {T : Type 0} (P : T → Type 0) (t : List ℕ) (o : Outcome) (result : Result T Error) → MatchResult result P (λ e. Tells t e o)
+pub never_memory : {T : Type 0} (P : T → Type 0) (t : List ℕ) (o : Outcome) (result : Result T Error)
+    → MatchResult result P (λ e. Tells t e o)
     → result ≢ Err OutOfMemory
 never_memory P t o (Ok v) h e = cc
-never_memory P t o (Err x) h e = let same : x ≡ OutOfMemory = cc in tells_no_memory t o (subst (λ z. Tells t z o) same h)
+never_memory P t o (Err x) h e = let same : x ≡ OutOfMemory = cc in tells_no_memory t o
+    (subst (λ z. Tells t z o) same h)
 
 pub fault_no_memory : (t : List ℕ) (o : Outcome) (e : Error) → Tells t e o → e ≢ OutOfMemory
 fault_no_memory t o e h same = tells_no_memory t o (subst (λ z. Tells t z o) same h)
 
 -- an ASCII byte of a text is one of its characters
-pub has_character : (bs : List ℕ) (i b : ℕ) → IsUtf8 bs → i < length bs → get_or bs i 0 ≡ b → b < 128 → Contains (chars bs) b
+pub has_character : (bs : List ℕ) (i b : ℕ) → IsUtf8 bs → i < length bs → get_or bs i 0 ≡ b → b < 128
+    → Contains (chars bs) b
 has_character bs i b u lt e ascii =
     let at : IsCharBoundary bs i = IsCharBoundary-before_ascii bs i lt (omega (arith, e)) in
     let split : drop i bs ≡ b ∷ drop (suc i) bs = drop-cons bs i 0 lt ∙ ap (λ z. z ∷ drop (suc i) bs) e in

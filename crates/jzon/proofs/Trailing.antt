@@ -11,11 +11,13 @@ use Rattle.jzon.proofs.Classes.{class-white}
 use Rattle.jzon.proofs.Scanning.{wide_is_no_space}
 use Rattle.jzon.proofs.Steps.{byte_there, by_character, some_character}
 
-trailing_on : (r : Reading) (v : Value) (c : ℕ) (k : Class) → is_space r.strict c ≡ false → class_of r.strict c ≡ k → move_behind k no_frames v ≡ bad
+trailing_on : (r : Reading) (v : Value) (c : ℕ) (k : Class) → is_space r.strict c ≡ false → class_of r.strict c ≡ k
+    → move_behind k no_frames v ≡ bad
 trailing_on r v c white h e = let yes : is_space r.strict c ≡ true = class-white r c e in absurd (cc)
 trailing_on r v c _ h e = refl
 
-stopped_on : (r : Reading) (cs : List ℕ) (v : Value) → (cs ≡ [] → ⊥) → ((c : ℕ) (ds : List ℕ) → cs ≡ c ∷ ds → is_space r.strict c ≡ false)
+stopped_on : (r : Reading) (cs : List ℕ) (v : Value) → (cs ≡ [] → ⊥)
+    → ((c : ℕ) (ds : List ℕ) → cs ≡ c ∷ ds → is_space r.strict c ≡ false)
     → outcome r cs (behind no_frames v) ≡ stopped cs
 stopped_on r [] v some h = absurd (some refl)
 stopped_on r (c ∷ cs) v some h =
@@ -27,4 +29,5 @@ pub trailing_stops : (r : Reading) (bs : List ℕ) (i : ℕ) (v : Value) → IsU
 unfolding from
 trailing_stops r bs i v u at lt h =
     stopped_on r (chars (drop i bs)) v (some_character bs i u at lt)
-    (λ c cs e. by_character (λ x. is_space r.strict x ≡ false) bs i c (λ _. h) (wide_is_no_space r.strict) (byte_there bs i c cs u at e))
+    (λ c cs e. by_character (λ x. is_space r.strict x ≡ false) bs i c (λ _. h) (wide_is_no_space r.strict)
+    (byte_there bs i c cs u at e))

@@ -1,12 +1,19 @@
--- The machine over the characters of a text. Its state is a partial tree and the place inside it; what is still being read is kept with its last part first.
+-- The machine over the characters of a text. Its state is a partial tree and the place inside it; what is still being
+-- read is kept with its last part first.
 use Rattle.std.specs.Prelude.{ℕ, zero, suc, cond, List, [], ◌∷◌, Bool, true, false, not, ◌==◌, Option, Some, None}
 use Rattle.std.specs.Char.{is_ascii_hexdigit}
 use Rattle.jzon.specs.Reading.{Reading}
-use Rattle.jzon.specs.Grammar.{Sign, unsigned, plus, minus, Exponent, Numeral, Item, simple, single, double, Key, Node, Elements, no_elements, element, Members, no_members, member, Document, code_unit, is_surrogate, is_plain, is_simple, is_exponent_letter}
+use Rattle.jzon.specs.Grammar.{Sign, unsigned, plus, minus, Exponent, Numeral, Item, simple, single, double, Key, Node}
+use Rattle.jzon.specs.Grammar.{Elements, no_elements, element, Members, no_members, member, Document, code_unit}
+use Rattle.jzon.specs.Grammar.{is_surrogate, is_plain, is_simple, is_exponent_letter}
 use Rattle.jzon.specs.Grammar as grammar
-use Rattle.jzon.specs.Spelling.{Breach, pair, digit, breach_if, onto, drops_too_many, keeps_too_many, duplicate_if, deep_if}
+use Rattle.jzon.specs.Spelling.{Breach, pair, digit, breach_if, onto, drops_too_many, keeps_too_many, duplicate_if}
+use Rattle.jzon.specs.Spelling.{deep_if}
 use Rattle.jzon.specs.Meaning.{is_pair, bytes_of}
-pub use Rattle.jzon.specs.Classes.{Class, white, digits, dash, cross, point, letter_e, quote, opens_array, closes_array, opens_object, closes_object, comma, colon, begins_null, begins_true, begins_false, other, class_of, NumberPlace, signed, zero_read, whole, pointed, fraction, lettered, signed_exponent, exponent, begun}
+pub use Rattle.jzon.specs.Classes.{Class, white, digits, dash, cross, point, letter_e, quote, opens_array, closes_array}
+pub use Rattle.jzon.specs.Classes.{opens_object, closes_object, comma, colon, begins_null, begins_true, begins_false}
+pub use Rattle.jzon.specs.Classes.{other, class_of, NumberPlace, signed, zero_read, whole, pointed, fraction, lettered}
+pub use Rattle.jzon.specs.Classes.{signed_exponent, exponent, begun}
 
 -- ---- states
 
@@ -20,7 +27,8 @@ pub data Named : Type 0 where
   nothing_named : Named
   named : Named → Key → List ℕ → Node → List ℕ → Named
 
--- the open containers, the inmost first: each with the blank before it and what is finished in it; in an object also the key of the present value
+-- the open containers, the inmost first: each with the blank before it and what is finished in it; in an object also
+-- the key of the present value
 pub data Context : Type 0 where
   top : Context
   in_array : Context → List ℕ → Done → Context
@@ -122,7 +130,8 @@ step_before r opens_object k b c = go (value_mark r k) (before_key k (onto b [])
 step_before r closes_array k b c = step_empty_array k b
 step_before r begins_null k b c = go (value_mark r k) (word k (onto b []) Node.null 117 (108 ∷ 108 ∷ []))
 step_before r begins_true k b c = go (value_mark r k) (word k (onto b []) (Node.boolean true) 114 (117 ∷ 101 ∷ []))
-step_before r begins_false k b c = go (value_mark r k) (word k (onto b []) (Node.boolean false) 97 (108 ∷ 115 ∷ 101 ∷ []))
+step_before r begins_false k b c = go (value_mark r k) (word k (onto b []) (Node.boolean false) 97
+    (108 ∷ 115 ∷ 101 ∷ []))
 step_before r _ k b c = bad_at (value_mark r k)
 
 abbrev pub step_empty_object : Context → List ℕ → Named → List ℕ → Step
@@ -214,7 +223,8 @@ step_signed_exponent _ k b negative ws fs l s c = bad
 
 abbrev pub step_exponent : Class → Context → List ℕ → Bool → List ℕ → List ℕ → ℕ → Sign → List ℕ → ℕ → Step
 step_exponent digits k b negative ws fs l s ds c = go None (numeral k b negative (exponent ws fs l s (c ∷ ds)))
-step_exponent class k b negative ws fs l s ds c = step_behind class k b (numeral_of negative ws fs (exponent_of l s (onto ds []))) [] c
+step_exponent class k b negative ws fs l s ds c = step_behind class k b
+    (numeral_of negative ws fs (exponent_of l s (onto ds []))) [] c
 
 -- behind a minus alone the number is negative
 abbrev pub step_numeral : NumberPlace → Class → Context → List ℕ → Bool → ℕ → Step
@@ -299,7 +309,8 @@ accept_numeral (pointed ws) k b negative = None
 accept_numeral (fraction ws ds) k b negative = document_of k b (numeral_of negative ws (onto ds []) None) []
 accept_numeral (lettered ws fs l) k b negative = None
 accept_numeral (signed_exponent ws fs l s) k b negative = None
-accept_numeral (exponent ws fs l s ds) k b negative = document_of k b (numeral_of negative ws fs (exponent_of l s (onto ds []))) []
+accept_numeral (exponent ws fs l s ds) k b negative = document_of k b
+    (numeral_of negative ws fs (exponent_of l s (onto ds []))) []
 
 -- the tree, if the text may end here
 abbrev pub accept : State → Option Document

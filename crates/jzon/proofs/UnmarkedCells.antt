@@ -1,10 +1,14 @@
--- Cells without marks: behind each part of a tree they go on without marks, and the mark at the first character of a value is none.
+-- Cells without marks: behind each part of a tree they go on without marks, and the mark at the first character of a
+-- value is none.
 use Rattle.std.proofs.Common.{◌≡◌, ℕ, List, [], ◌∷◌, suc, Bool, true, false, if◌then◌else◌, Option, Some, None, ap}
 use Rattle.std.specs.Prelude.{⊤, slice_get}
 use Rattle.jzon.specs.Reading.{Reading}
-use Rattle.jzon.specs.Grammar.{Sign, unsigned, plus, minus, Exponent, Numeral, Item, simple, single, double, Key, IsWhole}
+use Rattle.jzon.specs.Grammar.{Sign, unsigned, plus, minus, Exponent, Numeral, Item, simple, single, double, Key}
+use Rattle.jzon.specs.Grammar.{IsWhole}
 use Rattle.jzon.specs.Grammar as grammar
-use Rattle.jzon.specs.Spelling.{Breach, Cell, cell, plain, marked_last, drops_too_many, keeps_too_many, digits_cells, whole_cells, fraction_cells, sign_cells, exponent_cells, magnitude_cells, numeral_cells, item_cells, items_cells, key_cells}
+use Rattle.jzon.specs.Spelling.{Breach, Cell, cell, plain, marked_last, drops_too_many, keeps_too_many, digits_cells}
+use Rattle.jzon.specs.Spelling.{whole_cells, fraction_cells, sign_cells, exponent_cells, magnitude_cells, numeral_cells}
+use Rattle.jzon.specs.Spelling.{item_cells, items_cells, key_cells}
 use Rattle.jzon.proofs.Runs.{marks_of}
 
 abbrev pub HaveNoMarks : List Cell → Type 0
@@ -32,7 +36,8 @@ marked_last_rest (c ∷ d ∷ cs) m k h = marked_last_rest (d ∷ cs) m k h.1
 
 -- ---- numbers
 
-digits_rest : (too_many : List ℕ → Bool) (front ds : List ℕ) (k : List Cell) → HaveNoMarks (digits_cells too_many front ds k) → HaveNoMarks k
+digits_rest : (too_many : List ℕ → Bool) (front ds : List ℕ) (k : List Cell)
+    → HaveNoMarks (digits_cells too_many front ds k) → HaveNoMarks k
 digits_rest too_many front [] k h = h
 digits_rest too_many front (d ∷ ds) k h = digits_rest too_many (d ∷ front) ds k h.1
 
@@ -49,21 +54,25 @@ exponent_rest : (e : Option Exponent) (k : List Cell) → HaveNoMarks (exponent_
 exponent_rest None k h = h
 exponent_rest (Some e) k h = plain_rest e.digits k (sign_rest e.sign (plain e.digits k) h.1)
 
-whole_first : (ds : List ℕ) (m : Option Breach) (k : List Cell) → IsWhole ds → HaveNoMarks (whole_cells ds m k) → (m ≡ None) × HaveNoMarks k
+whole_first : (ds : List ℕ) (m : Option Breach) (k : List Cell) → IsWhole ds → HaveNoMarks (whole_cells ds m k)
+    → (m ≡ None) × HaveNoMarks k
 whole_first [] m k ok h = absurd ok
 whole_first (d ∷ ds) m k ok h = (h.0, digits_rest drops_too_many (d ∷ []) ds k h.1)
 
-magnitude_first : (n : Numeral) (m : Option Breach) (k : List Cell) → IsWhole n.whole → HaveNoMarks (magnitude_cells n m k) → (m ≡ None) × HaveNoMarks k
+magnitude_first : (n : Numeral) (m : Option Breach) (k : List Cell) → IsWhole n.whole
+    → HaveNoMarks (magnitude_cells n m k) → (m ≡ None) × HaveNoMarks k
 magnitude_first n m k ok h =
     let w = whole_first n.whole m (fraction_cells n.whole n.fraction (exponent_cells n.exponent k)) ok h in
     (w.0, exponent_rest n.exponent k (fraction_rest n.whole n.fraction (exponent_cells n.exponent k) w.1))
 
 signed_first : (negative : Bool) (n : Numeral) (m : Option Breach) (k : List Cell) → IsWhole n.whole
-    → HaveNoMarks (if negative then cell 45 m ∷ magnitude_cells n None k else magnitude_cells n m k) → (m ≡ None) × HaveNoMarks k
+    → HaveNoMarks (if negative then cell 45 m ∷ magnitude_cells n None k else magnitude_cells n m k) → (m ≡ None)
+    × HaveNoMarks k
 signed_first true n m k ok h = (h.0, (magnitude_first n None k ok h.1).1)
 signed_first false n m k ok h = magnitude_first n m k ok h
 
-pub numeral_first : (n : Numeral) (m : Option Breach) (k : List Cell) → IsWhole n.whole → HaveNoMarks (numeral_cells n m k) → (m ≡ None) × HaveNoMarks k
+pub numeral_first : (n : Numeral) (m : Option Breach) (k : List Cell) → IsWhole n.whole
+    → HaveNoMarks (numeral_cells n m k) → (m ≡ None) × HaveNoMarks k
 numeral_first n m k ok h = signed_first n.negative n m k ok h
 
 -- ---- strings
@@ -78,7 +87,8 @@ pub items_rest : (is : List Item) (k : List Cell) → HaveNoMarks (items_cells i
 items_rest [] k h = h
 items_rest (i ∷ is) k h = items_rest is k (item_rest i (items_cells is k) h)
 
-pub key_first : (r : Reading) (seen : List (List ℕ)) (key : Key) (m : Option Breach) (k : List Cell) → HaveNoMarks (key_cells r seen key m k)
+pub key_first : (r : Reading) (seen : List (List ℕ)) (key : Key) (m : Option Breach) (k : List Cell)
+    → HaveNoMarks (key_cells r seen key m k)
     → (m ≡ None) × HaveNoMarks k
 key_first r seen key m k h =
     let first = plain_rest key.before _ h in

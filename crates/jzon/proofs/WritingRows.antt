@@ -1,5 +1,7 @@
--- One writing, in a loose style, of an object whose pairs it puts in another order: it is a writing, and what it is read as is computed from the definitions.
-use Rattle.std.proofs.Common.{◌≡◌, ◌≢◌, ℕ, zero, suc, ◌<◌, List, [], ◌∷◌, count_by, ◌==◌, true, false, codes, negsuc, refl, arith}
+-- One writing, in a loose style, of an object whose pairs it puts in another order: it is a writing, and what it is
+-- read as is computed from the definitions.
+use Rattle.std.proofs.Common.{◌≡◌, ◌≢◌, ℕ, zero, suc, ◌<◌, List, [], ◌∷◌, count_by, ◌==◌, true, false, codes, negsuc}
+use Rattle.std.proofs.Common.{refl, arith}
 use Rattle.std.specs.Prelude.{IsTrue, AllPairs}
 use Rattle.std.specs.Char.{encode_utf8}
 use Rattle.std.specs.Fmt.{digits}
@@ -23,7 +25,8 @@ use Rattle.jzon.proofs.Samples.{no_marks, key, decimal}
 
 -- `{"a":1.5,"b":["x\n"]}`
 abbrev written : Value
-written = object (pair (codes "a") (number (parts true 15 (negsuc 0))) (pair (codes "b") (array (value (text short (codes "x\n")) no_values)) no_pairs))
+written = object (pair (codes "a") (number (parts true 15 (negsuc 0)))
+    (pair (codes "b") (array (value (text short (codes "x\n")) no_values)) no_pairs))
 
 abbrev bytes : List ℕ
 bytes = codes "{ \"b\": [\"x\\n\"\t],\"a\":1.5}"
@@ -36,8 +39,14 @@ distinct_keys = AllPairs-from_IsDistinct bytes_eq-Decides (codes "a" ∷ codes "
 
 is_value : IsValue written
 unfolding encode_utf8
-is_value =
-    (((codes "a", (refl, refl)), (omega arith, omega (arith, ints)), ((codes "b", (refl, refl)), (((codes "x\n", (refl, refl)), omega arith), tt), tt)), distinct_keys)
+is_value = (
+  (
+    (codes "a", (refl, refl)),
+    (omega arith, omega (arith, ints)),
+    ((codes "b", (refl, refl)), (((codes "x\n", (refl, refl)), omega arith), tt), tt),
+  ),
+  distinct_keys,
+)
 
 has_no_nan : HasNoNan written
 has_no_nan = (tt, ((tt, tt), tt))
@@ -57,7 +66,20 @@ writes = (
   1 ∷ 0 ∷ [],
   (
     (false, codes "1.5", refl, refl, refl),
-    ((true, codes "[\"x\\n\"\t]", refl, (codes "\"x\\n\"" ∷ [], (refl, tt), (codes "\"x\\n\"", 9 ∷ [], ([], (refl, refl), refl), (refl, refl), refl)), refl), tt),
+    (
+      (
+        true,
+        codes "[\"x\\n\"\t]",
+        refl,
+        (
+          codes "\"x\\n\"" ∷ [],
+          (refl, tt),
+          (codes "\"x\\n\"", 9 ∷ [], ([], (refl, refl), refl), (refl, refl), refl),
+        ),
+        refl,
+      ),
+      tt,
+    ),
   ),
   swapped,
   refl,
@@ -84,7 +106,20 @@ read = (
   (bytes, (refl, refl)),
   alone node,
   (
-    ((tt, (((refl, tt), (refl, tt), tt), (refl, tt), (tt, (refl, (refl, tt)), (refl, tt), tt), tt, ((tt, (refl, tt), tt), tt, (refl, (refl, tt), tt), tt, tt)), tt), refl),
+    (
+      (
+        tt,
+        (
+          ((refl, tt), (refl, tt), tt),
+          (refl, tt),
+          (tt, (refl, (refl, tt)), (refl, tt), tt),
+          tt,
+          ((tt, (refl, tt), tt), tt, (refl, (refl, tt), tt), tt, tt),
+        ),
+        tt,
+      ),
+      refl,
+    ),
     no_marks usual (alone node) refl,
   ),
   refl,

@@ -1,5 +1,7 @@
 -- A written string is a string of the grammar, which means the text that was written.
-use Rattle.std.proofs.Common.{◌≡◌, ◌∙◌, ℕ, zero, suc, ◌/◌, ◌%◌, ◌<◌, ◌≤◌, List, [], ◌∷◌, ◌++◌, length, map, get_or, Bool, true, false, not, ◌&&◌, ◌||◌, ◌==◌, nat_le, nat_lt, if◌then◌else◌, refl, sym, ap, subst, arith, inl, inr, append-nil, chars, None}
+use Rattle.std.proofs.Common.{◌≡◌, ◌∙◌, ℕ, zero, suc, ◌/◌, ◌%◌, ◌<◌, ◌≤◌, List, [], ◌∷◌, ◌++◌, length, map, get_or}
+use Rattle.std.proofs.Common.{Bool, true, false, not, ◌&&◌, ◌||◌, ◌==◌, nat_le, nat_lt, if◌then◌else◌, refl, sym, ap}
+use Rattle.std.proofs.Common.{subst, arith, inl, inr, append-nil, chars, None}
 use Rattle.std.specs.Prelude.{IsUtf8, encode_utf8, encode_utf8_all}
 use Rattle.std.specs.Char.{digit_char, is_ascii_hexdigit}
 use Rattle.std.specs.Str.{bytes_eq}
@@ -8,9 +10,12 @@ use Rattle.std.proofs.lemmas.Bool.{cases_lt, and_parts}
 use Rattle.std.proofs.lemmas.Bool.Decides.{nat_tests}
 use Rattle.std.proofs.lemmas.List.Concat.{flat_map-append}
 use Rattle.std.proofs.lemmas.Slice.Eq.{bytes_eq-Decides}
-use Rattle.std.proofs.lemmas.Str.{chars_from_encodes, chars-append, encodes-append, encodes-chars, scalars-chars, encode_ascii, inside_one, IsUtf8-append, IsUtf8-from_ascii, encodes-IsAscii, chars-IsAscii}
+use Rattle.std.proofs.lemmas.Str.{chars_from_encodes, chars-append, encodes-append, encodes-chars, scalars-chars}
+use Rattle.std.proofs.lemmas.Str.{encode_ascii, inside_one, IsUtf8-append, IsUtf8-from_ascii, encodes-IsAscii}
+use Rattle.std.proofs.lemmas.Str.{chars-IsAscii}
 use Rattle.jzon_tree.specs.Text.{escaped_byte, escaped, quoted}
-use Rattle.jzon.specs.Grammar.{Item, simple, single, double, AreHex, IsItem, AreItems, is_plain, is_simple, is_surrogate, code_unit}
+use Rattle.jzon.specs.Grammar.{Item, simple, single, double, AreHex, IsItem, AreItems, is_plain, is_simple}
+use Rattle.jzon.specs.Grammar.{is_surrogate, code_unit}
 use Rattle.jzon.specs.Grammar as grammar
 use Rattle.jzon.specs.Spelling.{Cell, cell, plain, item_cells, items_cells}
 use Rattle.jzon.specs.Meaning.{item_text, text_of, bytes_of}
@@ -19,7 +24,8 @@ use Rattle.jzon.proofs.Unbroken.{AreSmall, IsAscii-small}
 
 -- ---- what is written for a character
 
--- as an item: a short escape where there is one, `\u` and four digits for the other characters below 32, else the character
+-- as an item: a short escape where there is one, `\u` and four digits for the other characters below 32, else the
+-- character
 abbrev pub item_of : ℕ → Item
 item_of c =
     if c == 34 || c == 92 then simple c
@@ -28,7 +34,8 @@ item_of c =
     else (if c == 10 then simple 110
     else (if c == 12 then simple 102
     else (if c == 13 then simple 114
-    else (if nat_lt c 32 then single (48 ∷ 48 ∷ digit_char (c / 16) ∷ digit_char (c % 16) ∷ []) else grammar.plain c))))))
+    else (if nat_lt c 32 then single (48 ∷ 48 ∷ digit_char (c / 16) ∷ digit_char (c % 16) ∷ []) else grammar.plain
+    c))))))
 
 abbrev pub items_of : List ℕ → List Item
 items_of cs = map item_of cs
@@ -96,7 +103,8 @@ are_small-true (c ∷ cs) h = let t = and_parts _ _ h in (below c t.0, are_small
 -- the item is in the grammar, is spelled as the character is written, and means it
 abbrev is_written : ℕ → Bool
 is_written c =
-    (is_item (item_of c) && bytes_eq (item_spelled (item_of c)) (escaped_byte c)) && (bytes_eq (item_text (item_of c)) (c ∷ []) && are_small (escaped_byte c))
+    (is_item (item_of c) && bytes_eq (item_spelled (item_of c)) (escaped_byte c)) &&
+    (bytes_eq (item_text (item_of c)) (c ∷ []) && are_small (escaped_byte c))
 
 abbrev all_below : (ℕ → Bool) → ℕ → Bool
 all_below test zero = true
@@ -152,13 +160,15 @@ written c ok =
 -- what is written for the bytes of a character is what is written for the character
 escaped_large : (bs : List ℕ) → ((i : ℕ) → i < length bs → 128 ≤ get_or bs i 0) → escaped bs ≡ bs
 escaped_large [] h = refl
-escaped_large (b ∷ bs) h = ap (λ t. t ++ escaped bs) (large_escaped b (h 0 (omega arith))) ∙ ap (λ t. b ∷ t) (escaped_large bs (λ i lt. h (suc i) (omega arith)))
+escaped_large (b ∷ bs) h = ap (λ t. t ++ escaped bs) (large_escaped b (h 0 (omega arith)))
+    ∙ ap (λ t. b ∷ t) (escaped_large bs (λ i lt. h (suc i) (omega arith)))
 
 encode_large : (c : ℕ) → 128 ≤ c → (i : ℕ) → i < length (encode_utf8 c) → 128 ≤ get_or (encode_utf8 c) i 0
 encode_large c h i lt =
     elim (cases_lt (get_or (encode_utf8 c) i 0) 128) [
       | inl small ↦
-          (let e : c ≡ get_or (encode_utf8 c) i 0 = inside_one c [] (encode_utf8 c) i (sym (append-nil (encode_utf8 c))) lt small in
+          (let e : c ≡ get_or (encode_utf8 c) i 0 = inside_one c [] (encode_utf8 c) i (sym (append-nil (encode_utf8 c)))
+          lt small in
           absurd (omega (arith, e, small, h)))
       | inr large ↦ large
     ]
@@ -172,7 +182,8 @@ escaped_encoded c =
           let d = and_parts (bytes_eq (item_text (item_of c)) (c ∷ [])) _ a.1 in
           encodes-IsAscii (escaped_byte c) (IsAscii-small _ (are_small-true _ d.1))
           ∙ sym (append-nil (escaped_byte c)) ∙ ap escaped (sym (encode_ascii c small)))
-      | inr large ↦ ap encode_utf8_all (large_escaped c large) ∙ append-nil (encode_utf8 c) ∙ sym (escaped_large (encode_utf8 c) (encode_large c large))
+      | inr large ↦ ap encode_utf8_all (large_escaped c large) ∙ append-nil (encode_utf8 c)
+          ∙ sym (escaped_large (encode_utf8 c) (encode_large c large))
     ]
 
 -- ---- whole texts
@@ -181,11 +192,13 @@ escaped-encodes : (cs : List ℕ) → encode_utf8_all (escaped cs) ≡ escaped (
 escaped-encodes [] = refl
 escaped-encodes (c ∷ cs) =
     encodes-append (escaped_byte c) (escaped cs) ∙ ap (λ t. t ++ encode_utf8_all (escaped cs)) (escaped_encoded c)
-    ∙ ap (λ t. escaped (encode_utf8 c) ++ t) (escaped-encodes cs) ∙ sym (flat_map-append escaped_byte (encode_utf8 c) (encode_utf8_all cs))
+    ∙ ap (λ t. escaped (encode_utf8 c) ++ t) (escaped-encodes cs)
+    ∙ sym (flat_map-append escaped_byte (encode_utf8 c) (encode_utf8_all cs))
 
 items_in_grammar : (cs : List ℕ) → scalars cs ≡ true → AreItems (items_of cs)
 items_in_grammar [] h = tt
-items_in_grammar (c ∷ cs) h = let t = and_parts (scalar c) (scalars cs) h in ((written c t.0).in_grammar, items_in_grammar cs t.1)
+items_in_grammar (c ∷ cs) h = let t = and_parts (scalar c) (scalars cs) h in
+    ((written c t.0).in_grammar, items_in_grammar cs t.1)
 
 items-plain : (cs : List ℕ) (k : List Cell) → scalars cs ≡ true → items_cells (items_of cs) k ≡ plain (escaped cs) k
 items-plain [] k h = refl
@@ -249,7 +262,8 @@ escaped_text : (s : List ℕ) → IsUtf8 s → encode_utf8_all (escaped (chars s
 escaped_text s u = escaped-encodes (chars s) ∙ ap escaped (encodes-chars s u)
 
 IsUtf8-escaped : (s : List ℕ) → IsUtf8 s → IsUtf8 (escaped s)
-IsUtf8-escaped s u = subst IsUtf8 (escaped_text s u) (IsUtf8-scalars (escaped (chars s)) (escaped_scalars (chars s) (scalars-chars s u)))
+IsUtf8-escaped s u = subst IsUtf8 (escaped_text s u) (IsUtf8-scalars (escaped (chars s))
+    (escaped_scalars (chars s) (scalars-chars s u)))
 
 pub IsUtf8-small : (bs : List ℕ) → AreSmall bs → IsUtf8 bs
 IsUtf8-small bs h = IsUtf8-from_ascii bs (IsAscii-small bs h)
@@ -265,17 +279,21 @@ quote : AreSmall (34 ∷ [])
 quote = (omega arith, tt)
 
 pub IsUtf8-quoted : (s : List ℕ) → IsUtf8 s → IsUtf8 (quoted s)
-IsUtf8-quoted s u = IsUtf8-append (34 ∷ []) _ (IsUtf8-small _ quote) (IsUtf8-append (escaped s) (34 ∷ []) (IsUtf8-escaped s u) (IsUtf8-small _ quote))
+IsUtf8-quoted s u = IsUtf8-append (34 ∷ []) _ (IsUtf8-small _ quote)
+    (IsUtf8-append (escaped s) (34 ∷ []) (IsUtf8-escaped s u) (IsUtf8-small _ quote))
 
 chars-quoted : (s : List ℕ) → IsUtf8 s → chars (quoted s) ≡ quoted (chars s)
 chars-quoted s u =
     chars-small_append (34 ∷ []) (escaped s ++ 34 ∷ []) quote
     ∙ ap (λ t. 34 ∷ t) (chars-append (escaped s) (34 ∷ []) (IsUtf8-escaped s u)
-    ∙ ap (λ t. t ++ chars (34 ∷ [])) (sym (chars_from_encodes (escaped (chars s)) (escaped s) (IsUtf8-escaped s u) (escaped_text s u)))
+    ∙ ap (λ t. t ++ chars (34 ∷ [])) (sym (chars_from_encodes (escaped (chars s)) (escaped s) (IsUtf8-escaped s u)
+    (escaped_text s u)))
     ∙ ap (λ t. escaped (chars s) ++ t) (chars-small (34 ∷ []) quote))
 
 -- the cells of a string and its quotes
-pub quoted-plain : (s : List ℕ) (k : List Cell) → IsUtf8 s → cell 34 None ∷ items_cells (items_for s) (cell 34 None ∷ k) ≡ plain (chars (quoted s)) k
+pub quoted-plain : (s : List ℕ) (k : List Cell) → IsUtf8 s → cell 34 None ∷ items_cells (items_for s) (cell 34 None ∷ k)
+    ≡ plain (chars (quoted s)) k
 quoted-plain s k u =
-    ap (λ q. cell 34 None ∷ q) (items-plain (chars s) (cell 34 None ∷ k) (scalars-chars s u) ∙ sym (plain-append (escaped (chars s)) (34 ∷ []) k))
+    ap (λ q. cell 34 None ∷ q) (items-plain (chars s) (cell 34 None ∷ k) (scalars-chars s u)
+    ∙ sym (plain-append (escaped (chars s)) (34 ∷ []) k))
     ∙ ap (λ t. plain t k) (sym (chars-quoted s u))

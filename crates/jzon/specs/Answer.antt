@@ -15,7 +15,8 @@ use Rattle.jzon.specs.Fault.{Parses, IsErrorOf}
 abbrev pub IsMeaningOf : Reading → List ℕ → JsonValue → Type 0
 IsMeaningOf r t v = (d : Document) × Parses r t d × (view v ≡ meaning d.node)
 
--- The laws `redump` and `reads_back` speak of it: numbers in range and no NaN, texts of UTF-8, distinct keys, and non-empty containers no deeper than allowed.
+-- The laws `redump` and `reads_back` speak of it: numbers in range and no NaN, texts of UTF-8, distinct keys, and
+-- non-empty containers no deeper than allowed.
 abbrev pub IsReadable : Reading → Value → Type 0
 IsReadable r v = IsValue v × HasNoNan v × (nest v ≤ r.depth)
 

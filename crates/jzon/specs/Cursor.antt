@@ -26,8 +26,9 @@ pub record IsBehind (t u : Cursor) : Type 0 where
   pub reading : u.reading ≡ t.reading
   pub index : t.index < u.index
 
--- What was left of the text in the old state t, from place p, comes to the same as what is left of it in the new state u, from the place that the result
--- says; or the error tells it, or memory was refused.
+-- What was left of the text in the old state t, from place p, comes to the same as what is left of it in the new state
+-- u, from the place that the result says; or the error tells it, or memory was refused.
 abbrev pub GoesOn : {A : Type 0} → Cursor → Place → Result A Error → Cursor → (A → Place) → Type 0
 GoesOn t p result u next =
-    MatchResult result (λ x. IsBehind t u × (left t p ≡ left u (next x))) (λ e. TellsUnlessMemory (chars t.source.now) e (left t p))
+    MatchResult result (λ x. IsBehind t u × (left t p ≡ left u (next x)))
+    (λ e. TellsUnlessMemory (chars t.source.now) e (left t p))

@@ -1,8 +1,10 @@
 -- From which fronts a text can go on, where a text has a fault, and the one error of a text (docs/RULES.md, "Errors").
-use Rattle.std.specs.Prelude.{◌≡◌, ℕ, suc, ◌+◌, ◌-◌, ◌<◌, ◌≤◌, List, ◌++◌, length, take, not, ◌==◌, count_by, slice_index}
+use Rattle.std.specs.Prelude.{◌≡◌, ℕ, suc, ◌+◌, ◌-◌, ◌<◌, ◌≤◌, List, ◌++◌, length, take, not, ◌==◌, count_by}
+use Rattle.std.specs.Prelude.{slice_index}
 use Rattle.std.specs.List.{suffix_len}
 use Rattle.jzon_base.specs.declared.error.Error.{Error}
-use Rattle.jzon_base.specs.declared.error.Error.TheVariants.{UnexpectedCharacter, UnexpectedEndOfJson, ExceededDepthLimit, FailedUtf8Parsing, DuplicateKey}
+use Rattle.jzon_base.specs.declared.error.Error.TheVariants.{UnexpectedCharacter, UnexpectedEndOfJson}
+use Rattle.jzon_base.specs.declared.error.Error.TheVariants.{ExceededDepthLimit, FailedUtf8Parsing, DuplicateKey}
 use Rattle.jzon.specs.Reading.{Reading}
 use Rattle.jzon.specs.Grammar.{Document, IsDocument}
 use Rattle.jzon.specs.Spelling.{Breach, deep, pair, digit, duplicate, spell, BreachAt, HasNoBreach}
@@ -38,7 +40,8 @@ pub data Fault : Type 0 where
   -- the text ends too early
   end : Fault
 
--- Some text goes on from the characters before with a container too many, and each text that goes on with this character too has one; there may be none.
+-- Some text goes on from the characters before with a container too many, and each text that goes on with this
+-- character too has one; there may be none.
 abbrev pub IsDepthFault : Reading → List ℕ → ℕ → Type 0
 IsDepthFault r t i =
     (i < length t)

@@ -37,7 +37,8 @@ is_open (Value v) = false
 is_open begun_array = true
 is_open begun_object = true
 
--- Where so many containers are open already, the reading allows them and the one that was opened, and an item stands in it next.
+-- Where so many containers are open already, the reading allows them and the one that was opened, and an item stands in
+-- it next.
 abbrev pub IsReady : Cursor → ℕ → Begun → Type 0
 IsReady t depth (Value v) = depth ≤ t.reading.depth
 IsReady t depth begun_array = (depth < t.reading.depth) × (next_byte t ≢ end_array)

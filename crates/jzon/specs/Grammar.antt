@@ -1,5 +1,6 @@
 -- The grammar of RFC 8259 as trees: a tree has each part of a text, the blanks too. A text is a list of characters.
-use Rattle.std.specs.Prelude.{◌≡◌, ℕ, zero, suc, ◌+◌, ◌*◌, List, [], ◌∷◌, Bool, false, not, ◌&&◌, ◌||◌, ◌==◌, nat_le, nat_lt, Option, Some, None, codes, IsTrue, ⊤}
+use Rattle.std.specs.Prelude.{◌≡◌, ℕ, zero, suc, ◌+◌, ◌*◌, List, [], ◌∷◌, Bool, false, not, ◌&&◌, ◌||◌, ◌==◌, nat_le}
+use Rattle.std.specs.Prelude.{nat_lt, Option, Some, None, codes, IsTrue, ⊤}
 use Rattle.std.specs.Char.{is_ascii_digit, is_ascii_hexdigit, digit_value}
 use Rattle.std.specs.List.{list_any, fold}
 use lib.Utf8.{scalar}
@@ -26,8 +27,8 @@ pub record Numeral : Type 0 where
   pub fraction : List ℕ
   pub exponent : Option Exponent
 
--- A part of a string (section 7): a character that stands for itself; a backslash and a letter; a `\u` escape with its four digits; two `\u` escapes, of
--- which the first names a surrogate.
+-- A part of a string (section 7): a character that stands for itself; a backslash and a letter; a `\u` escape with its
+-- four digits; two `\u` escapes, of which the first names a surrogate.
 pub data Item : Type 0 where
   plain : ℕ → Item
   simple : ℕ → Item
@@ -40,7 +41,8 @@ pub record Key : Type 0 where
   pub items : List Item
   pub after : List ℕ
 
--- Values (section 3), arrays (section 5) and objects (section 4). Each `List ℕ` is a blank: inside an empty container, before and after a value.
+-- Values (section 3), arrays (section 5) and objects (section 4). Each `List ℕ` is a blank: inside an empty container,
+-- before and after a value.
 mutual
   pub data Node : Type 0 where
     null : Node

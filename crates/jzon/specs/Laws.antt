@@ -1,5 +1,6 @@
 -- Laws over the definitions alone.
-use Rattle.std.specs.Prelude.{◌≡◌, ◌⊎◌, ℕ, ℤ, ◌≤◌, ◌<◌, ◌^◌, List, [], length, Bool, true, IsTrue, IsUtf8, chars, FitsSigned}
+use Rattle.std.specs.Prelude.{◌≡◌, ◌⊎◌, ℕ, ℤ, ◌≤◌, ◌<◌, ◌^◌, List, [], length, Bool, true, IsTrue, IsUtf8, chars}
+use Rattle.std.specs.Prelude.{FitsSigned}
 use Rattle.std.specs.Int.{w16}
 use Rattle.jzon_base.specs.Decimal.{parts}
 use Rattle.jzon_base.specs.Decimal as decimal
@@ -30,7 +31,8 @@ OneBreach = (r : Reading) (d : Document) (i : ℕ) (b c : Breach) → BreachAt r
 
 -- one tree spells the text, it breaks no limit, and the text has no fault
 abbrev pub HasOneTree : Reading → List ℕ → Type 0
-HasOneTree r t = (d : Document) × Parses r t d × ((e : Document) → Spells r t e → e ≡ d) × ((i : ℕ) (f : Fault) → IsFault r t i f → ⊥)
+HasOneTree r t = (d : Document) × Parses r t d × ((e : Document) → Spells r t e → e ≡ d)
+    × ((i : ℕ) (f : Fault) → IsFault r t i f → ⊥)
 
 -- no tree that breaks no limit spells the text, and one fault alone is its first
 abbrev pub HasOneFault : Reading → List ℕ → Type 0
@@ -48,8 +50,8 @@ OneFault = (r : Reading) (t : List ℕ) → HasOneTree r t ⊎ HasOneFault r t
 abbrev pub alone : Node → Document
 alone n = record { before = []; node = n; after = [] }
 
--- The printed text of a sign, a mantissa and an exponent is a number of the grammar with no digit too many. It means the same number, which prints this
--- text again. The text has at most 29 bytes.
+-- The printed text of a sign, a mantissa and an exponent is a number of the grammar with no digit too many. It means
+-- the same number, which prints this text again. The text has at most 29 bytes.
 abbrev pub NumberText : Type 0
 NumberText =
     (positive : Bool) (m : ℕ) (e : ℤ) → m < 2 ^ 64 → FitsSigned w16 e
@@ -75,7 +77,8 @@ AllowsStrictAlone s = (dent : ℕ) (w : List ℕ) → IsAllowedBlank s dent w �
 abbrev pub StrictStyles : Type 0
 StrictStyles = AllowsStrictAlone compact_style × ((spaces : ℕ) → AllowsStrictAlone (pretty_style spaces))
 
--- Each writing of a value without NaN, in whatever style, is read as the same value. A strict reading asks for a style of strict blanks alone.
+-- Each writing of a value without NaN, in whatever style, is read as the same value. A strict reading asks for a style
+-- of strict blanks alone.
 abbrev pub ReadsBack : Type 0
 ReadsBack =
     (r : Reading) (s : Style) (dent : ℕ) (v : Value) (b : List ℕ)

@@ -1,6 +1,8 @@
--- The machine over values: what is left of a text comes to a value or to a fault, one character at a time. It keeps no tree and no blank, only what the open
--- containers hold so far.
-use Rattle.std.specs.Prelude.{◌≡◌, ◌⊎◌, ℕ, zero, suc, ◌+◌, ◌-◌, ◌*◌, cond, List, [], ◌∷◌, ◌++◌, length, drop, Bool, true, false, ◌&&◌, ◌==◌, Option, Some, None, Result, Ok, Err, MatchResult, chars, encode_utf8}
+-- The machine over values: what is left of a text comes to a value or to a fault, one character at a time. It keeps no
+-- tree and no blank, only what the open containers hold so far.
+use Rattle.std.specs.Prelude.{◌≡◌, ◌⊎◌, ℕ, zero, suc, ◌+◌, ◌-◌, ◌*◌, cond, List, [], ◌∷◌, ◌++◌, length, drop, Bool}
+use Rattle.std.specs.Prelude.{true, false, ◌&&◌, ◌==◌, Option, Some, None, Result, Ok, Err, MatchResult, chars}
+use Rattle.std.specs.Prelude.{encode_utf8}
 use Rattle.std.specs.Char.{is_ascii_hexdigit, digit_value}
 use Rattle.std.specs.Option.{is_some}
 use Rattle.jzon_base.specs.PairList.{find, put}
@@ -11,11 +13,16 @@ use Rattle.jzon_tree.specs.Value as value
 use Rattle.jzon_tree.specs.View.{view}
 use Rattle.jzon_tree.specs.declared.value.JsonValue.{JsonValue}
 use Rattle.jzon.specs.Reading.{Reading}
-use Rattle.jzon.specs.Grammar.{Sign, unsigned, plus, minus, Exponent, is_surrogate, is_high, is_low, is_plain, is_simple}
-use Rattle.jzon.specs.Spelling.{Breach, deep, pair, digit, duplicate, breach_if, onto, drops_too_many, keeps_too_many, deep_if}
+use Rattle.jzon.specs.Grammar.{Sign, unsigned, plus, minus, Exponent, is_surrogate, is_high, is_low, is_plain}
+use Rattle.jzon.specs.Grammar.{is_simple}
+use Rattle.jzon.specs.Spelling.{Breach, deep, pair, digit, duplicate, breach_if, onto, drops_too_many, keeps_too_many}
+use Rattle.jzon.specs.Spelling.{deep_if}
 use Rattle.jzon.specs.Meaning.{number_of, unescaped, pair_char}
 use Rattle.jzon.specs.Fault.{Fault, limit, character, error_at}
-use Rattle.jzon.specs.Classes.{Class, white, digits, dash, cross, point, letter_e, quote, opens_array, closes_array, opens_object, closes_object, comma, colon, begins_null, begins_true, begins_false, class_of, NumberPlace, signed, zero_read, whole, pointed, fraction, lettered, signed_exponent, exponent, begun}
+use Rattle.jzon.specs.Classes.{Class, white, digits, dash, cross, point, letter_e, quote, opens_array, closes_array}
+use Rattle.jzon.specs.Classes.{opens_object, closes_object, comma, colon, begins_null, begins_true, begins_false}
+use Rattle.jzon.specs.Classes.{class_of, NumberPlace, signed, zero_read, whole, pointed, fraction, lettered}
+use Rattle.jzon.specs.Classes.{signed_exponent, exponent, begun}
 
 -- an object so far
 abbrev pub Entries : Type 0
@@ -32,7 +39,8 @@ pub data Role : Type 0 where
   as_value : Frames → Role
   as_key : Frames → Entries → ℕ → Role
 
--- the place inside an item of a string; a code unit that is being read is a number, with the count of digits missing behind the next one
+-- the place inside an item of a string; a code unit that is being read is a number, with the count of digits missing
+-- behind the next one
 pub data TextPlace : Type 0 where
   between : TextPlace
   slash : TextPlace
@@ -63,8 +71,8 @@ allows_whitespace _ = false
 abbrev pub numeral_begun : Frames → Bool → ℕ → Place
 numeral_begun fs negative c = numeral fs negative (begun (c == 48) c)
 
--- what reading one character comes to: a place, and the breach that stands at the character, if any; or no text can go on, where it may be that each text
--- that goes on otherwise has a depth breach
+-- what reading one character comes to: a place, and the breach that stands at the character, if any; or no text can go
+-- on, where it may be that each text that goes on otherwise has a depth breach
 pub data Move : Type 0 where
   go : Option Breach → Place → Move
   bad : Move
@@ -181,18 +189,22 @@ move_numeral (pointed ws) _ fs negative c = bad
 move_numeral (fraction ws ds) digits fs negative c =
     go (breach_if (keeps_too_many ws (onto (c ∷ ds) [])) digit) (numeral fs negative (fraction ws (c ∷ ds)))
 move_numeral (fraction ws ds) class fs negative c = move_after_fraction class fs negative ws (onto ds []) c
-move_numeral (lettered ws ds l) digits fs negative c = go None (numeral fs negative (exponent ws ds l unsigned (c ∷ [])))
+move_numeral (lettered ws ds l) digits fs negative c = go None
+    (numeral fs negative (exponent ws ds l unsigned (c ∷ [])))
 move_numeral (lettered ws ds l) cross fs negative c = go None (numeral fs negative (signed_exponent ws ds l plus))
 move_numeral (lettered ws ds l) dash fs negative c = go None (numeral fs negative (signed_exponent ws ds l minus))
 move_numeral (lettered ws ds l) _ fs negative c = bad
-move_numeral (signed_exponent ws ds l s) digits fs negative c = go None (numeral fs negative (exponent ws ds l s (c ∷ [])))
+move_numeral (signed_exponent ws ds l s) digits fs negative c = go None
+    (numeral fs negative (exponent ws ds l s (c ∷ [])))
 move_numeral (signed_exponent ws ds l s) _ fs negative c = bad
 move_numeral (exponent ws ds l s xs) digits fs negative c = go None (numeral fs negative (exponent ws ds l s (c ∷ xs)))
-move_numeral (exponent ws ds l s xs) class fs negative c = move_behind class fs (number_value negative ws ds (exponent_of l s (onto xs [])))
+move_numeral (exponent ws ds l s xs) class fs negative c = move_behind class fs
+    (number_value negative ws ds (exponent_of l s (onto xs [])))
 
 -- ---- strings
 
--- an earlier key of the object has this text, which a strict reading refuses, so many characters behind its opening quote
+-- an earlier key of the object has this text, which a strict reading refuses, so many characters behind its opening
+-- quote
 abbrev pub repeated_if : Reading → Entries → List ℕ → ℕ → Option Breach
 repeated_if r es k back = breach_if (r.strict && is_some (find k es)) (duplicate back)
 
@@ -269,7 +281,8 @@ abbrev pub last_numeral : NumberPlace → Frames → Bool → Outcome
 last_numeral zero_read fs negative = meant_at fs (number_value negative (48 ∷ []) [] None)
 last_numeral (whole ds) fs negative = meant_at fs (number_value negative (onto ds []) [] None)
 last_numeral (fraction ws ds) fs negative = meant_at fs (number_value negative ws (onto ds []) None)
-last_numeral (exponent ws ds l s xs) fs negative = meant_at fs (number_value negative ws ds (exponent_of l s (onto xs [])))
+last_numeral (exponent ws ds l s xs) fs negative = meant_at fs
+    (number_value negative ws ds (exponent_of l s (onto xs [])))
 last_numeral _ fs negative = refused Fault.end []
 
 -- what the end of the text comes to
@@ -316,15 +329,18 @@ Tells t e (refused f rest) = e ≡ error_at t (length t - length rest) f
 abbrev pub TellsUnlessMemory : List ℕ → Error → Outcome → Type 0
 TellsUnlessMemory t e o = (e ≡ OutOfMemory) ⊎ Tells t e o
 
--- What a text comes to from its byte i on, at this place, is what it comes to behind what was read, or the error tells it.
+-- What a text comes to from its byte i on, at this place, is what it comes to behind what was read, or the error tells
+-- it.
 abbrev pub Leads : {A : Type 0} → Reading → List ℕ → Place → ℕ → Result (A × ℕ) Error → (A → Place) → Type 0
 Leads r bytes p i result next =
-    MatchResult result (λ x. from r bytes p i ≡ from r bytes (next x.0) x.1) (λ e. Tells (chars bytes) e (from r bytes p i))
+    MatchResult result (λ x. from r bytes p i ≡ from r bytes (next x.0) x.1)
+    (λ e. Tells (chars bytes) e (from r bytes p i))
 
 -- the same, or memory was refused
 abbrev pub LeadsUnlessMemory : {A : Type 0} → Reading → List ℕ → Place → ℕ → Result (A × ℕ) Error → (A → Place) → Type 0
 LeadsUnlessMemory r bytes p i result next =
-    MatchResult result (λ x. from r bytes p i ≡ from r bytes (next x.0) x.1) (λ e. TellsUnlessMemory (chars bytes) e (from r bytes p i))
+    MatchResult result (λ x. from r bytes p i ≡ from r bytes (next x.0) x.1)
+    (λ e. TellsUnlessMemory (chars bytes) e (from r bytes p i))
 
 -- the result is what this outcome of a text says, unless memory was refused
 abbrev pub Reads : List ℕ → Result JsonValue Error → Outcome → Type 0

@@ -1,10 +1,14 @@
 -- What a tree means: a value (docs/RULES.md, "Texts").
-use Rattle.std.specs.Prelude.{ℕ, ◌+◌, ◌-◌, ◌*◌, List, [], ◌∷◌, ◌++◌, Bool, not, ◌&&◌, ◌==◌, if◌then◌else◌, Option, Some, None, ℤ, pos, neg_ℤ, encode_utf8_all}
+use Rattle.std.specs.Prelude.{ℕ, ◌+◌, ◌-◌, ◌*◌, List, [], ◌∷◌, ◌++◌, Bool, not, ◌&&◌, ◌==◌, if◌then◌else◌, Option, Some}
+use Rattle.std.specs.Prelude.{None, ℤ, pos, neg_ℤ, encode_utf8_all}
 use Rattle.jzon_base.specs.Decimal.{Decimal}
 use Rattle.jzon_base.specs.Digits.{digits_number, read_number}
 use Rattle.jzon_base.specs.PairList.{put_each}
-use Rattle.jzon_tree.specs.Value.{Value, null, boolean, text, number, array, object, no_values, Values, value, no_pairs, pairs_of, kind_of}
-use Rattle.jzon.specs.Grammar.{Sign, unsigned, plus, minus, Exponent, Numeral, Item, plain, simple, single, double, code_unit, is_high, is_low, Node, Elements, no_elements, element, Members, no_members, member}
+use Rattle.jzon_tree.specs.Value.{Value, null, boolean, text, number, array, object, no_values, Values, value, no_pairs}
+use Rattle.jzon_tree.specs.Value.{pairs_of, kind_of}
+use Rattle.jzon.specs.Grammar.{Sign, unsigned, plus, minus, Exponent, Numeral, Item, plain, simple, single, double}
+use Rattle.jzon.specs.Grammar.{code_unit, is_high, is_low, Node, Elements, no_elements, element, Members, no_members}
+use Rattle.jzon.specs.Grammar.{member}
 
 -- ---- numbers
 
@@ -24,7 +28,8 @@ number_of n = read_number (not n.negative) n.whole n.fraction (written_exponent 
 
 -- the character that a backslash and this letter mean (RFC 8259, section 7)
 abbrev pub unescaped : ℕ → ℕ
-unescaped l = if l == 98 then 8 else (if l == 102 then 12 else (if l == 110 then 10 else (if l == 114 then 13 else (if l == 116 then 9 else l))))
+unescaped l = if l == 98 then 8 else (if l == 102 then 12 else
+    (if l == 110 then 10 else (if l == 114 then 13 else (if l == 116 then 9 else l))))
 
 -- the character of a high surrogate and a low one
 abbrev pub pair_char : ℕ → ℕ → ℕ
@@ -60,7 +65,8 @@ abbrev mutual
   meaning (Node.empty_array b) = array no_values
   meaning (Node.empty_object b) = object no_pairs
   meaning (Node.array b n c es) = array (value (meaning n) (elements_meaning es))
-  meaning (Node.object key b n c ms) = object (pairs_of (put_each ((bytes_of key.items, meaning n) ∷ members_meaning ms)))
+  meaning (Node.object key b n c ms) = object (pairs_of (put_each
+      ((bytes_of key.items, meaning n) ∷ members_meaning ms)))
 
   pub elements_meaning : Elements → Values
   elements_meaning no_elements = no_values

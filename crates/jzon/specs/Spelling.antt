@@ -1,9 +1,11 @@
 -- The text of a tree, and where it breaks a limit.
-use Rattle.std.specs.Prelude.{◌≡◌, ℕ, suc, ◌+◌, List, [], ◌∷◌, length, map, Bool, true, false, not, ◌&&◌, ◌==◌, nat_le, if◌then◌else◌, Option, Some, None, codes, slice_get}
+use Rattle.std.specs.Prelude.{◌≡◌, ℕ, suc, ◌+◌, List, [], ◌∷◌, length, map, Bool, true, false, not, ◌&&◌, ◌==◌, nat_le}
+use Rattle.std.specs.Prelude.{if◌then◌else◌, Option, Some, None, codes, slice_get}
 use Rattle.jzon_base.specs.Digits.{dropped, kept_fraction}
 use Rattle.jzon_tree.specs.Same.{is_known}
 use Rattle.jzon.specs.Reading.{Reading}
-use Rattle.jzon.specs.Grammar.{Sign, unsigned, plus, minus, Exponent, Numeral, Item, simple, single, double, Key, Node, Elements, no_elements, element, Members, no_members, member, Document}
+use Rattle.jzon.specs.Grammar.{Sign, unsigned, plus, minus, Exponent, Numeral, Item, simple, single, double, Key, Node}
+use Rattle.jzon.specs.Grammar.{Elements, no_elements, element, Members, no_members, member, Document}
 use Rattle.jzon.specs.Grammar as grammar
 use Rattle.jzon.specs.Meaning.{is_pair, bytes_of}
 
@@ -18,8 +20,9 @@ pub data Breach : Type 0 where
   -- a repeated key, and how many characters its closing quote is behind its opening quote
   duplicate : ℕ → Breach
 
--- A character of a text, and the breach that stands at it. There is at most one: a depth breach stands at the first character of a value or of a key, a
--- digit breach never at the first digit of a number, a pair breach at the last digit of an escape, a duplicate breach at a closing quote.
+-- A character of a text, and the breach that stands at it. There is at most one: a depth breach stands at the first
+-- character of a value or of a key, a digit breach never at the first digit of a number, a pair breach at the last
+-- digit of an escape, a duplicate breach at a closing quote.
 pub record Cell : Type 0 where
   pub char : ℕ
   pub mark : Option Breach
@@ -112,11 +115,13 @@ duplicate_if r seen is = breach_if (r.strict && is_known seen (bytes_of is)) (du
 
 abbrev pub key_cells : Reading → List (List ℕ) → Key → Option Breach → List Cell → List Cell
 key_cells r seen key m k =
-    plain key.before (cell 34 m ∷ items_cells key.items (cell 34 (duplicate_if r seen key.items) ∷ plain key.after (cell 58 None ∷ k)))
+    plain key.before (cell 34 m ∷ items_cells key.items (cell 34 (duplicate_if r seen key.items) ∷ plain key.after
+    (cell 58 None ∷ k)))
 
 -- ---- values
 
--- The first character after a bracket and its blank, where as many non-empty containers are open round it as the reading allows.
+-- The first character after a bracket and its blank, where as many non-empty containers are open round it as the
+-- reading allows.
 abbrev pub deep_if : Reading → ℕ → Option Breach
 deep_if r depth = breach_if (nat_le r.depth depth) deep
 

@@ -1,11 +1,13 @@
 //! A text and the offset up to which it is read.
 
-ghost use Rattle.std.specs.Prelude.{◌≡◌, ◌≢◌, ◌⊎◌, ◌↔◌, IsTrue, ◌<◌, ◌≤◌, ◌+◌, ◌++◌, ◌∷◌, [], List, ℕ, length, chars, drop, true, false, slice_index, Err, IfOk, OnOk, if◌then◌else◌};
+ghost use Rattle.std.specs.Prelude.{◌≡◌, ◌≢◌, ◌⊎◌, ◌↔◌, IsTrue, ◌<◌, ◌≤◌, ◌+◌, ◌++◌, ◌∷◌, [], List, ℕ, length, chars};
+ghost use Rattle.std.specs.Prelude.{drop, true, false, slice_index, Err, IfOk, OnOk, if◌then◌else◌};
 ghost use Rattle.std.specs.Str.{IsCharBoundary, IsUtf8};
 ghost use Rattle.jzon_base.specs.PairList.{put};
 ghost use Rattle.jzon_tree.specs.Value.{Value, array, no_values, values_of, object, no_pairs, pairs_of};
 ghost use Rattle.jzon_tree.specs.Writing.{is_space};
-ghost use Rattle.jzon.specs.Machine.{Entries, Frames, frames_depth, array_frame, object_frame, is_fresh, value_mark, before, before_key, behind, stopped, Tells};
+ghost use Rattle.jzon.specs.Machine.{Entries, Frames, frames_depth, array_frame, object_frame, is_fresh, value_mark};
+ghost use Rattle.jzon.specs.Machine.{before, before_key, behind, stopped, Tells};
 ghost use Rattle.jzon.specs.Tokens.{begin_array, end_array, begin_object, end_object};
 
 use crate::place::fault_at;
@@ -21,7 +23,8 @@ pub(crate) struct Cursor<'a> {
     pub(crate) reading: Reading,
     ghost utf8: { ∥ IsUtf8 source.now ∥₁ },
     ghost boundary: { IsCharBoundary source.now index },
-    ghost past_whitespace: { index < length source.now → is_space reading.strict (slice_index source.now index) ≡ false },
+    ghost past_whitespace: { index < length source.now → is_space reading.strict (slice_index source.now index)
+        ≡ false },
 }
 
 impl<'a> Cursor<'a> {
@@ -94,7 +97,8 @@ impl<'a> Cursor<'a> {
         requires opening { begin_array ≤ next_byte self.old × next_byte self.old < 128 }
         ensures reading { self.new.reading ≡ self.old.reading }
         ensures memory { result ≢ Err Error.OutOfMemory }
-        ensures filled { IfOk result (λ is_empty. is_empty ≡ false → (depth < self.old.reading.depth) × (next_byte self.new ≢ closer)) }
+        ensures filled { IfOk result (λ is_empty. is_empty ≡ false → (depth < self.old.reading.depth)
+            × (next_byte self.new ≢ closer)) }
         ensures array { next_byte self.old ≡ begin_array → closer ≡ end_array →
             (fs : Frames) → value_mark self.old.reading fs ≡ None → frames_depth fs ≡ depth →
             GoesOn self.old (before fs) result self.new
@@ -122,8 +126,10 @@ impl<'a> Cursor<'a> {
     /// Behind an element of an array: whether the array ends. Goes past its closing bracket or the comma.
     #[inline(always)]
     pub(crate) fn array_ends(&mut self) -> Result<bool>
-        ensures { (fs : Frames) (vs : List Value) (v : Value) → GoesOn self.old (behind (array_frame fs vs) v) result self.new
-            (λ ends. if ends then behind fs (array (values_of (vs ++ v ∷ []))) else before (array_frame fs (vs ++ v ∷ []))) }
+        ensures { (fs : Frames) (vs : List Value) (v : Value)
+            → GoesOn self.old (behind (array_frame fs vs) v) result self.new
+            (λ ends. if ends then behind fs (array (values_of (vs ++ v ∷ []))) else before
+            (array_frame fs (vs ++ v ∷ []))) }
     {
         match self.peek() {
             b']' => {
@@ -141,7 +147,8 @@ impl<'a> Cursor<'a> {
     /// The same behind the value of a key in an object.
     #[inline(always)]
     pub(crate) fn object_ends(&mut self) -> Result<bool>
-        ensures { (fs : Frames) (es : Entries) (k : List ℕ) (v : Value) → GoesOn self.old (behind (object_frame fs es k) v) result self.new
+        ensures { (fs : Frames) (es : Entries) (k : List ℕ) (v : Value)
+            → GoesOn self.old (behind (object_frame fs es k) v) result self.new
             (λ ends. if ends then behind fs (object (pairs_of (put k v es))) else before_key fs (put k v es)) }
     {
         match self.peek() {

@@ -1,7 +1,8 @@
 //! Laws over texts, their trees and their values, for every reading: RFC 8259 with the project's own rules (`docs/RULES.md`, "Laws").
 //! Each of these functions does nothing, and stands for its contract.
 
-ghost use Rattle.jzon.specs.Laws.{OneReading, OneText, OneBreach, OneFault, NumberText, Redump, StrictStyles, ReadsBack};
+ghost use Rattle.jzon.specs.Laws.{OneReading, OneText, OneBreach, OneFault, NumberText, Redump, StrictStyles};
+ghost use Rattle.jzon.specs.Laws.{ReadsBack};
 
 /// Two trees that spell one text are the same tree.
 pub fn one_reading()

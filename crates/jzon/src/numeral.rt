@@ -1,6 +1,7 @@
 //! Reads numbers (RFC 8259, section 6; docs/RULES.md, "Numbers").
 
-ghost use Rattle.std.specs.Prelude.{◌≡◌, ℕ, pos, List, [], ◌∷◌, ◌<◌, ◌≤◌, ◌+◌, ◌%◌, ◌^◌, ◌++◌, length, drop, chars, not, Bool, true, false, ◌==◌, ◌↔◌, IsTrue, IfOk, slice_index, if◌then◌else◌};
+ghost use Rattle.std.specs.Prelude.{◌≡◌, ℕ, pos, List, [], ◌∷◌, ◌<◌, ◌≤◌, ◌+◌, ◌%◌, ◌^◌, ◌++◌, length, drop, chars};
+ghost use Rattle.std.specs.Prelude.{not, Bool, true, false, ◌==◌, ◌↔◌, IsTrue, IfOk, slice_index, if◌then◌else◌};
 ghost use Rattle.std.specs.Char.{is_ascii_digit};
 ghost use Rattle.std.specs.List.{All, fold, take_while};
 ghost use Rattle.std.specs.Str.{IsCharBoundary};
@@ -71,14 +72,17 @@ fn spelling_at(source: &str, start: usize) -> Spelling<'_>
     ensures fraction { All IsDigit result.fraction.now }
     ensures added_up { result.number ≡ digits_number (result.whole.now ++ result.fraction.now) % 2 ^ 64 }
     ensures exponent { All IsDigit result.exponent.now }
-    ensures number { AreFewEnough result.whole.now result.fraction.now → result.is_missing ≡ false → (r : Reading) (fs : Frames) (negative : Bool)
+    ensures number { AreFewEnough result.whole.now result.fraction.now → result.is_missing ≡ false
+        → (r : Reading) (fs : Frames) (negative : Bool)
         → from r source.now (numeral_begun fs negative (slice_index source.now start)) (start + 1)
         ≡ from r source.now (behind fs (number (read_number (not negative) result.whole.now result.fraction.now
         (signed result.positive_exponent (digits_number result.exponent.now))))) result.end }
-    ensures missing { AreFewEnough result.whole.now result.fraction.now → result.is_missing ≡ true → (r : Reading) (fs : Frames) (negative : Bool)
+    ensures missing { AreFewEnough result.whole.now result.fraction.now → result.is_missing ≡ true
+        → (r : Reading) (fs : Frames) (negative : Bool)
         → from r source.now (numeral_begun fs negative (slice_index source.now start)) (start + 1)
         ≡ stopped (chars (drop result.end source.now)) }
-    ensures too_many { (f : DigitFault) → IsFirstTooMany result.whole.now result.fraction.now f → (r : Reading) (fs : Frames) (negative : Bool)
+    ensures too_many { (f : DigitFault) → IsFirstTooMany result.whole.now result.fraction.now f
+        → (r : Reading) (fs : Frames) (negative : Bool)
         → Tells (chars source.now) ExceededDepthLimit
         (from r source.now (numeral_begun fs negative (slice_index source.now start)) (start + 1)) }
 {
@@ -105,18 +109,24 @@ fn magnitude_at(source: &str, start: usize) -> Spelling<'_>
     ensures fraction { All IsDigit result.fraction.now }
     ensures added_up { result.number ≡ digits_number (result.whole.now ++ result.fraction.now) % 2 ^ 64 }
     ensures exponent { (result.positive_exponent ≡ true) × (result.exponent.now ≡ []) }
-    ensures letter { AreFewEnough result.whole.now result.fraction.now → result.is_missing ≡ false → (r : Reading) (fs : Frames) (negative : Bool)
+    ensures letter { AreFewEnough result.whole.now result.fraction.now → result.is_missing ≡ false
+        → (r : Reading) (fs : Frames) (negative : Bool)
         → result.end < length source.now → IsTrue (is_exponent_letter (slice_index source.now result.end))
         → from r source.now (numeral_begun fs negative (slice_index source.now start)) (start + 1)
-        ≡ from r source.now (numeral fs negative (lettered result.whole.now result.fraction.now (slice_index source.now result.end))) (result.end + 1) }
-    ensures number { AreFewEnough result.whole.now result.fraction.now → result.is_missing ≡ false → (r : Reading) (fs : Frames) (negative : Bool)
+        ≡ from r source.now (numeral fs negative (lettered result.whole.now result.fraction.now
+        (slice_index source.now result.end))) (result.end + 1) }
+    ensures number { AreFewEnough result.whole.now result.fraction.now → result.is_missing ≡ false
+        → (r : Reading) (fs : Frames) (negative : Bool)
         → (result.end < length source.now → is_exponent_letter (slice_index source.now result.end) ≡ false)
         → from r source.now (numeral_begun fs negative (slice_index source.now start)) (start + 1)
-        ≡ from r source.now (behind fs (number (read_number (not negative) result.whole.now result.fraction.now (pos 0)))) result.end }
-    ensures missing { AreFewEnough result.whole.now result.fraction.now → result.is_missing ≡ true → (r : Reading) (fs : Frames) (negative : Bool)
+        ≡ from r source.now (behind fs (number (read_number (not negative) result.whole.now result.fraction.now
+        (pos 0)))) result.end }
+    ensures missing { AreFewEnough result.whole.now result.fraction.now → result.is_missing ≡ true
+        → (r : Reading) (fs : Frames) (negative : Bool)
         → from r source.now (numeral_begun fs negative (slice_index source.now start)) (start + 1)
         ≡ stopped (chars (drop result.end source.now)) }
-    ensures too_many { (f : DigitFault) → IsFirstTooMany result.whole.now result.fraction.now f → (r : Reading) (fs : Frames) (negative : Bool)
+    ensures too_many { (f : DigitFault) → IsFirstTooMany result.whole.now result.fraction.now f
+        → (r : Reading) (fs : Frames) (negative : Bool)
         → Tells (chars source.now) ExceededDepthLimit
         (from r source.now (numeral_begun fs negative (slice_index source.now start)) (start + 1)) }
 {
@@ -185,11 +195,15 @@ fn exponent_behind(source: &str, start: usize) -> Exponent<'_>
     requires { IsCharBoundary source.now start }
     ensures bounds { (start ≤ result.end) × (result.end ≤ length source.now) × IsCharBoundary source.now result.end }
     ensures digits { All IsDigit result.digits.now }
-    ensures number { 0 < length result.digits.now → (r : Reading) (fs : Frames) (negative : Bool) (ws ds : List ℕ) (l : ℕ)
+    ensures number { 0 < length result.digits.now → (r : Reading) (fs : Frames) (negative : Bool) (ws ds : List ℕ)
+        (l : ℕ)
         → from r source.now (numeral fs negative (lettered ws ds l)) start
-        ≡ from r source.now (behind fs (number (read_number (not negative) ws ds (signed result.is_positive (digits_number result.digits.now))))) result.end }
-    ensures missing { length result.digits.now ≡ 0 → (r : Reading) (fs : Frames) (negative : Bool) (ws ds : List ℕ) (l : ℕ)
-        → from r source.now (numeral fs negative (lettered ws ds l)) start ≡ stopped (chars (drop result.end source.now)) }
+        ≡ from r source.now (behind fs (number (read_number (not negative) ws ds
+        (signed result.is_positive (digits_number result.digits.now))))) result.end }
+    ensures missing { length result.digits.now ≡ 0 → (r : Reading) (fs : Frames) (negative : Bool) (ws ds : List ℕ)
+        (l : ℕ)
+        → from r source.now (numeral fs negative (lettered ws ds l)) start
+        ≡ stopped (chars (drop result.end source.now)) }
 {
     if has_byte(source, start, b'-') {
         return exponent_at(source, start + 1, false);

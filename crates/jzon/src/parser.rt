@@ -1,6 +1,7 @@
 //! Reads texts.
 
-ghost use Rattle.std.specs.Prelude.{◌≡◌, ◌≢◌, ◌&&◌, ℕ, List, [], ◌<◌, ◌≤◌, length, map, chars, true, IfOk, IfErr, OnOk, Err, None, IsOkUnless, vec_len};
+ghost use Rattle.std.specs.Prelude.{◌≡◌, ◌≢◌, ◌&&◌, ℕ, List, [], ◌<◌, ◌≤◌, length, map, chars, true, IfOk, IfErr, OnOk};
+ghost use Rattle.std.specs.Prelude.{Err, None, IsOkUnless, vec_len};
 ghost use Rattle.std.specs.Option.{is_some};
 ghost use Rattle.jzon_base.specs.PairList.{find, put};
 ghost use Rattle.jzon_tree.specs.Value.{Value};
@@ -8,7 +9,8 @@ ghost use Rattle.jzon_tree.specs.View.{view};
 ghost use Rattle.jzon.specs.Answer.{IsMeaningOf, IsReadable, IsErrorUnlessMemory, TakesMemory};
 ghost use Rattle.jzon.specs.Cursor.{left, next_byte, GoesOn, IsPast};
 ghost use Rattle.jzon.specs.Frames.{entries_view, open_in, stack_view, place_of, is_open, IsReady};
-ghost use Rattle.jzon.specs.Machine.{Frames, no_frames, array_frame, object_frame, frames_depth, is_fresh, before, before_key, behind, key_mark, from, Reads};
+ghost use Rattle.jzon.specs.Machine.{Frames, no_frames, array_frame, object_frame, frames_depth, is_fresh, before};
+ghost use Rattle.jzon.specs.Machine.{before_key, behind, key_mark, from, Reads};
 ghost use Rattle.jzon.specs.Reading.{usual};
 ghost use Rattle.jzon.specs.Tokens.{end_array, end_object};
 
@@ -89,7 +91,8 @@ impl<'a> Parser<'a> {
         ensures ready { IfOk result (IsReady self.new.cursor depth) }
         ensures memory { result ≡ Err Error.OutOfMemory → TakesMemory (chars self.old.cursor.source.now) }
         ensures opened { IfOk result (λ b. is_open b ≡ true → TakesMemory (chars self.old.cursor.source.now)) }
-        ensures same { (fs : Frames) → frames_depth fs ≡ depth → (is_fresh fs ≡ true → next_byte self.old.cursor ≢ end_array) →
+        ensures same { (fs : Frames) → frames_depth fs ≡ depth
+            → (is_fresh fs ≡ true → next_byte self.old.cursor ≢ end_array) →
             GoesOn self.old.cursor (before fs) result self.new.cursor (λ b. place_of b fs) }
     {
         match self.cursor.peek() {
@@ -118,7 +121,8 @@ impl<'a> Parser<'a> {
     /// The value of a text, of which the value is read and nothing may follow.
     fn finish(&self, value: JsonValue) -> Result<JsonValue>
         ensures memory { result ≢ Err Error.OutOfMemory }
-        ensures same { Reads (chars self.now.cursor.source.now) result (left self.now.cursor (behind no_frames (view value))) }
+        ensures same { Reads (chars self.now.cursor.source.now) result
+            (left self.now.cursor (behind no_frames (view value))) }
     {
         if self.cursor.index < self.cursor.source.len() {
             return Err(self.cursor.fault());
@@ -153,7 +157,8 @@ impl<'a> Parser<'a> {
     fn go_on(&mut self, frame: Frame, item: JsonValue) -> Result<Begun>
         requires room { vec_len self.old.stack < self.old.cursor.reading.depth }
         ensures ready { IfOk result (IsReady self.new.cursor (vec_len self.new.stack)) }
-        ensures same { GoesOn self.old.cursor (behind (open_in (stack_view self.old.stack.items) frame) (view item)) result self.new.cursor
+        ensures same { GoesOn self.old.cursor (behind (open_in (stack_view self.old.stack.items) frame) (view item))
+            result self.new.cursor
             (λ b. place_of b (stack_view self.new.stack.items)) }
     {
         match frame {
@@ -180,7 +185,8 @@ impl<'a> Parser<'a> {
         requires room { vec_len self.old.stack < self.old.cursor.reading.depth }
         requires element { map view elements.items ≡ [] → next_byte self.old.cursor ≢ end_array }
         ensures ready { IfOk result (IsReady self.new.cursor (vec_len self.new.stack)) }
-        ensures same { GoesOn self.old.cursor (before (array_frame (stack_view self.old.stack.items) (map view elements.items))) result self.new.cursor
+        ensures same { GoesOn self.old.cursor (before (array_frame (stack_view self.old.stack.items)
+            (map view elements.items))) result self.new.cursor
             (λ b. place_of b (stack_view self.new.stack.items)) }
     {
         let mut elements = elements;
@@ -213,7 +219,8 @@ impl<'a> Parser<'a> {
         requires room { vec_len self.old.stack < self.old.cursor.reading.depth }
         requires key { entries_view entries ≡ [] → next_byte self.old.cursor ≢ end_object }
         ensures ready { IfOk result (IsReady self.new.cursor (vec_len self.new.stack)) }
-        ensures same { GoesOn self.old.cursor (before_key (stack_view self.old.stack.items) (entries_view entries)) result self.new.cursor
+        ensures same { GoesOn self.old.cursor (before_key (stack_view self.old.stack.items) (entries_view entries))
+            result self.new.cursor
             (λ b. place_of b (stack_view self.new.stack.items)) }
     {
         let mut entries = entries;
@@ -238,7 +245,8 @@ impl<'a> Parser<'a> {
     fn read_key(&mut self, entries: &mut Builder) -> Result<Key>
         ensures kept { OnOk result (entries.new ≡ entries.old) }
         ensures stack { OnOk result (self.new.stack ≡ self.old.stack) }
-        ensures same { (fs : Frames) → let es = entries_view entries.old in key_mark self.old.cursor.reading fs es ≡ None →
+        ensures same { (fs : Frames) → let es = entries_view entries.old in key_mark self.old.cursor.reading fs es
+            ≡ None →
             (es ≡ [] → next_byte self.old.cursor ≢ end_object) →
             GoesOn self.old.cursor (before_key fs es) result self.new.cursor (λ k. before (object_frame fs es k)) }
     {
@@ -267,7 +275,8 @@ impl<'a> Parser<'a> {
 #[tactic(auto, using(crate::proofs::FrameViews::known_view))]
 fn is_refused(alloc: Global, reading: Reading, entries: &mut Builder, name: &str) -> Result<bool>
     ensures same { entries.new ≡ entries.old }
-    ensures refused { IfOk result (λ refused. refused ≡ (reading.strict && is_some (find name.now (entries_view entries.old)))) }
+    ensures refused { IfOk result (λ refused. refused ≡ (reading.strict && is_some
+        (find name.now (entries_view entries.old)))) }
     ensures memory { IsOkUnless result Error.OutOfMemory }
 {
     if !reading.strict() {

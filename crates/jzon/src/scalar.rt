@@ -1,13 +1,15 @@
 //! Reads values that are no containers: numbers, texts and words. What is called for each of them is inlined, so that no value is moved from call to call.
 
-ghost use Rattle.std.specs.Prelude.{◌≡◌, ◌≢◌, ◌==◌, ◌<◌, ◌≤◌, ◌+◌, [], length, chars, IsTrue, IfOk, Err, MatchResult, slice_index, None, true, false, IsAscii};
+ghost use Rattle.std.specs.Prelude.{◌≡◌, ◌≢◌, ◌==◌, ◌<◌, ◌≤◌, ◌+◌, [], length, chars, IsTrue, IfOk, Err, MatchResult};
+ghost use Rattle.std.specs.Prelude.{slice_index, None, true, false, IsAscii};
 ghost use Rattle.std.specs.Char.{is_ascii_digit};
 ghost use Rattle.std.specs.Str.{IsCharBoundary};
 ghost use Rattle.jzon_tree.specs.Value.{Value};
 ghost use Rattle.jzon_tree.specs.View.{view};
 ghost use Rattle.jzon_tree.specs.Writing.{is_space};
 ghost use Rattle.jzon.specs.Classes.{signed};
-ghost use Rattle.jzon.specs.Machine.{numeral, numeral_begun, string, as_value, between, Frames, is_fresh, before, behind, past_letter, value_mark, from, Tells, Leads, LeadsUnlessMemory};
+ghost use Rattle.jzon.specs.Machine.{numeral, numeral_begun, string, as_value, between, Frames, is_fresh, before};
+ghost use Rattle.jzon.specs.Machine.{behind, past_letter, value_mark, from, Tells, Leads, LeadsUnlessMemory};
 ghost use Rattle.jzon.specs.Reading.{Reading};
 ghost use Rattle.jzon.specs.Tokens.{begin_array, begin_object, end_array, quotation_mark};
 

@@ -1,6 +1,8 @@
 //! Reads strings.
 
-ghost use Rattle.std.specs.Prelude.{◌≡◌, ◌==◌, ◌<◌, ◌≤◌, ◌+◌, ◌-◌, ◌++◌, ◌&&◌, ◌⊎◌, ◌↔◌, Contains, ℕ, List, [], length, drop, chars, IsTrue, IfOk, IsOk, IsOkUnless, SomeIff, MatchResult, OnOk, slice_index, slice_range, string_bytes, encode_utf8, if◌then◌else◌, false};
+ghost use Rattle.std.specs.Prelude.{◌≡◌, ◌==◌, ◌<◌, ◌≤◌, ◌+◌, ◌-◌, ◌++◌, ◌&&◌, ◌⊎◌, ◌↔◌, Contains, ℕ, List, [], length};
+ghost use Rattle.std.specs.Prelude.{drop, chars, IsTrue, IfOk, IsOk, IsOkUnless, SomeIff, MatchResult, OnOk};
+ghost use Rattle.std.specs.Prelude.{slice_index, slice_range, string_bytes, encode_utf8, if◌then◌else◌, false};
 ghost use Rattle.std.specs.Char.{is_ascii_hexdigit, digit_value};
 ghost use Rattle.std.specs.Str.{IsCharBoundary};
 ghost use Rattle.jzon_base.specs.declared.error.Error.TheVariants.{OutOfMemory};
@@ -11,7 +13,8 @@ ghost use Rattle.jzon.specs.Reading.{Reading};
 ghost use Rattle.jzon.specs.Grammar.{is_simple, is_high, is_low, is_surrogate};
 ghost use Rattle.jzon.specs.Meaning.{unescaped, pair_char};
 ghost use Rattle.jzon.specs.Quote.{EndsAtQuote};
-ghost use Rattle.jzon.specs.Machine.{Role, string, between, slash, code, second, second_code, coded, paired, outcome_on, from, from_closed, Tells};
+ghost use Rattle.jzon.specs.Machine.{Role, string, between, slash, code, second, second_code, coded, paired};
+ghost use Rattle.jzon.specs.Machine.{outcome_on, from, from_closed, Tells};
 
 use crate::place::{fault_at, has_byte};
 use jzon_base::error::{Error, Result};
@@ -35,7 +38,8 @@ impl Spelled {
     pub(crate) fn text<'a>(self, source: &'a str, start: usize, buffer: &'a String) -> &'a str
         requires begin { IsCharBoundary source.now start }
         requires end { EndsAtQuote source.now start self.end }
-        ensures { result.now ≡ (if self.is_escaped then string_bytes buffer.now else slice_range source.now start (self.end - 1)) }
+        ensures { result.now ≡ (if self.is_escaped then string_bytes buffer.now else slice_range source.now start
+            (self.end - 1)) }
     {
         if self.is_escaped {
             buffer.as_str()
@@ -68,7 +72,8 @@ pub(crate) fn read_string(source: &str, start: usize, buffer: &mut String) -> Re
     ensures untouched { IfOk result (λ s. s.is_escaped ≡ false → string_bytes buffer.new ≡ string_bytes buffer.old) }
     ensures same { (r : Reading) (role : Role) → MatchResult result
         (λ s. from r source.now (string role [] between) start
-        ≡ from_closed r source.now role (if s.is_escaped then string_bytes buffer.new else slice_range source.now start (s.end - 1)) s.end)
+        ≡ from_closed r source.now role (if s.is_escaped then string_bytes buffer.new else slice_range source.now start
+        (s.end - 1)) s.end)
         (λ e. (e ≡ OutOfMemory) ⊎ Tells (chars source.now) e (from r source.now (string role [] between) start)) }
 {
     let stop = plain_end(source, start);
@@ -126,7 +131,8 @@ fn read_escapes(source: &str, start: usize, buffer: &mut String) -> Result<usize
     ensures same { (r : Reading) (role : Role) → MatchResult result
         (λ end. from r source.now (string role (string_bytes buffer.old) between) start
         ≡ from_closed r source.now role (string_bytes buffer.new) end)
-        (λ e. (e ≡ OutOfMemory) ⊎ Tells (chars source.now) e (from r source.now (string role (string_bytes buffer.old) between) start)) }
+        (λ e. (e ≡ OutOfMemory) ⊎ Tells (chars source.now) e
+        (from r source.now (string role (string_bytes buffer.old) between) start)) }
 {
     let mut index = start;
     while has_byte(source, index, b'\\') {
@@ -143,7 +149,8 @@ fn read_escape(source: &str, start: usize) -> Result<(char, usize)>
     requires { IsCharBoundary source.now start }
     ensures bounds { IfOk result (λ r. (start < r.1) × IsCharBoundary source.now r.1) }
     ensures same { (r : Reading) (role : Role) (bs : List ℕ) → MatchResult result
-        (λ x. from r source.now (string role bs slash) start ≡ from r source.now (string role (bs ++ encode_utf8 x.0) between) x.1)
+        (λ x. from r source.now (string role bs slash) start
+        ≡ from r source.now (string role (bs ++ encode_utf8 x.0) between) x.1)
         (λ e. Tells (chars source.now) e (from r source.now (string role bs slash) start)) }
 {
     if has_byte(source, start, b'u') {
@@ -178,7 +185,8 @@ fn read_unicode(source: &str, start: usize) -> Result<(char, usize)>
     requires { IsCharBoundary source.now start }
     ensures bounds { IfOk result (λ r. (start < r.1) × IsCharBoundary source.now r.1) }
     ensures same { (r : Reading) (role : Role) (bs : List ℕ) → MatchResult result
-        (λ x. from r source.now (string role bs (code 3 0)) start ≡ from r source.now (string role (bs ++ encode_utf8 x.0) between) x.1)
+        (λ x. from r source.now (string role bs (code 3 0)) start
+        ≡ from r source.now (string role (bs ++ encode_utf8 x.0) between) x.1)
         (λ e. Tells (chars source.now) e (from r source.now (string role bs (code 3 0)) start)) }
 {
     let unit = read_hex(source, start)?;
@@ -193,7 +201,8 @@ fn read_second(source: &str, start: usize, first: u32) -> Result<(char, usize)>
     requires { IsCharBoundary source.now start }
     ensures bounds { IfOk result (λ r. (start < r.1) × IsCharBoundary source.now r.1) }
     ensures same { (r : Reading) (role : Role) (bs : List ℕ) → MatchResult result
-        (λ x. from r source.now (string role bs (second first)) start ≡ from r source.now (string role (bs ++ encode_utf8 x.0) between) x.1)
+        (λ x. from r source.now (string role bs (second first)) start
+        ≡ from r source.now (string role (bs ++ encode_utf8 x.0) between) x.1)
         (λ e. Tells (chars source.now) e (from r source.now (string role bs (second first)) start)) }
 {
     if !has_byte(source, start, b'\\') {
@@ -226,11 +235,13 @@ fn read_hex(source: &str, start: usize) -> Result<u32>
     ensures unit { IfOk result (λ u. u < 0x10000) }
     ensures boundary { OnOk result (IsCharBoundary source.now (start + 4)) }
     ensures first { (r : Reading) (role : Role) (bs : List ℕ) → MatchResult result
-        (λ u. from r source.now (string role bs (code 3 0)) start ≡ from r source.now (coded (is_surrogate u) role bs u) (start + 4))
+        (λ u. from r source.now (string role bs (code 3 0)) start
+        ≡ from r source.now (coded (is_surrogate u) role bs u) (start + 4))
         (λ e. Tells (chars source.now) e (from r source.now (string role bs (code 3 0)) start)) }
     ensures second { (r : Reading) (role : Role) (bs : List ℕ) (h : ℕ) → MatchResult result
         (λ u. from r source.now (string role bs (second_code h 3 0)) start
-        ≡ outcome_on (paired (is_high h && is_low u) role bs h u) (λ p. from r source.now p (start + 4)) (chars (drop (start + 3) source.now)))
+        ≡ outcome_on (paired (is_high h && is_low u) role bs h u) (λ p. from r source.now p (start + 4))
+        (chars (drop (start + 3) source.now)))
         (λ e. Tells (chars source.now) e (from r source.now (string role bs (second_code h 3 0)) start)) }
 {
     let mut unit = 0;

@@ -1,5 +1,6 @@
 -- Whether a key is known, once entries are put one after the other.
-use Rattle.std.proofs.Common.{◌≡◌, ◌∙◌, ℕ, ◌<◌, Bool, true, false, cond, ◌||◌, List, [], ◌∷◌, length, get_or, Option, Some, None, refl, sym, ap, arith}
+use Rattle.std.proofs.Common.{◌≡◌, ◌∙◌, ℕ, ◌<◌, Bool, true, false, cond, ◌||◌, List, [], ◌∷◌, length, get_or, Option}
+use Rattle.std.proofs.Common.{Some, None, refl, sym, ap, arith}
 use Rattle.std.specs.Option.{is_some}
 use Rattle.std.specs.List.{fold, zip, list_any}
 use Rattle.std.specs.Str.{bytes_eq}
@@ -43,12 +44,14 @@ module _ {V : Type 0} (k : List ℕ) where
       ∙ ap (λ (b : Bool). bytes_eq l k || b) (sym (is_some-cond (bytes_eq p.0 k) p.1 (find k ps)))
 
   -- a key is known where it is put, or was known before
-  pub known-put : (l : List ℕ) (v : V) (ps : List (List ℕ × V)) → is_some (find k (put l v ps)) ≡ (bytes_eq l k || is_some (find k ps))
+  pub known-put : (l : List ℕ) (v : V) (ps : List (List ℕ × V))
+      → is_some (find k (put l v ps)) ≡ (bytes_eq l k || is_some (find k ps))
   known-put l v [] = is_some-cond (bytes_eq l k) v None
   known-put l v (p ∷ ps) = known_by (bytes_eq p.0 l) l v p ps refl (known-put l v ps)
 
   known_onto : (qs ps : List (List ℕ × V))
-      → is_some (find k (fold (λ rs p. put p.0 p.1 rs) qs ps)) ≡ (is_some (find k qs) || list_any (λ p. bytes_eq p.0 k) ps)
+      → is_some (find k (fold (λ rs p. put p.0 p.1 rs) qs ps))
+      ≡ (is_some (find k qs) || list_any (λ p. bytes_eq p.0 k) ps)
   known_onto qs [] = or_none (is_some (find k qs))
   known_onto qs (p ∷ ps) =
       known_onto (put p.0 p.1 qs) ps ∙ ap (λ (b : Bool). b || list_any (λ q. bytes_eq q.0 k) ps) (known-put p.0 p.1 qs)

@@ -1,5 +1,6 @@
 -- The bytes of a number, laid at the end of a room.
-use Rattle.std.proofs.Common.{◌≡◌, ℕ, suc, ◌+◌, ◌-◌, ◌≤◌, ◌<◌, List, [], ◌∷◌, ◌++◌, length, take, drop, set, get_or, arith, refl, ap, sym, ◌∙◌, length-drop, length-append}
+use Rattle.std.proofs.Common.{◌≡◌, ℕ, suc, ◌+◌, ◌-◌, ◌≤◌, ◌<◌, List, [], ◌∷◌, ◌++◌, length, take, drop, set, get_or}
+use Rattle.std.proofs.Common.{arith, refl, ap, sym, ◌∙◌, length-drop, length-append}
 use Rattle.std.specs.List.{copy_within}
 use Rattle.std.proofs.lemmas.List.{drop-drop, length-take-le, append_assoc}
 use Rattle.std.proofs.Math.Seq.{append_snoc, drop-append_seam, drop-cons}

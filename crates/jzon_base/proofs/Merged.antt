@@ -1,6 +1,9 @@
 -- Entries of repeated keys that are put into one, in place.
-use Rattle.std.proofs.Common.{◌≡◌, ℕ, zero, suc, ◌+◌, ◌<◌, ◌≤◌, Bool, true, false, eqb, List, [], ◌∷◌, ◌++◌, length, get_or, set, take, drop, None, Some, cond, length-append, refl, sym, ap, ◌∙◌, inl, inr, arith, add-one}
-use Rattle.std.proofs.lemmas.List.{get_or_default, get_or_append_left, get_or-set_same, get_or-set_other, length-set, take_more, drop_more, length-take-le}
+use Rattle.std.proofs.Common.{◌≡◌, ℕ, zero, suc, ◌+◌, ◌<◌, ◌≤◌, Bool, true, false, eqb, List, [], ◌∷◌, ◌++◌, length}
+use Rattle.std.proofs.Common.{get_or, set, take, drop, None, Some, cond, length-append, refl, sym, ap, ◌∙◌, inl, inr}
+use Rattle.std.proofs.Common.{arith, add-one}
+use Rattle.std.proofs.lemmas.List.{get_or_default, get_or_append_left, get_or-set_same, get_or-set_other, length-set}
+use Rattle.std.proofs.lemmas.List.{take_more, drop_more, length-take-le}
 use Rattle.std.proofs.Math.Seq.{get_or-append_seam}
 use Rattle.std.proofs.lemmas.List.Edits.{swap_is, length-swap}
 use Rattle.std.proofs.lemmas.List.Sums.{fold-append}
@@ -20,12 +23,14 @@ use Rattle.jzon_base.proofs.Positions.{position-first, position-none, position-N
 -- ---- an element that is moved to the front part
 
 module _ {X : Type 0} where
-  front : (xs : List X) (k n : ℕ) (a b : X) → k ≤ n → (k ≡ n → a ≡ b) → n < length xs → take (suc k) (set (set xs k a) n b) ≡ take k xs ++ a ∷ []
+  front : (xs : List X) (k n : ℕ) (a b : X) → k ≤ n → (k ≡ n → a ≡ b) → n < length xs
+      → take (suc k) (set (set xs k a) n b) ≡ take k xs ++ a ∷ []
   front [] k n a b le e l = absurd (omega arith)
   front (x ∷ xs) zero zero a b le e l = ap (λ y. y ∷ []) (sym (e refl))
   front (x ∷ xs) zero (suc n) a b le e l = refl
   front (x ∷ xs) (suc k) zero a b le e l = absurd (omega arith)
-  front (x ∷ xs) (suc k) (suc n) a b le e l = ap (λ ys. x ∷ ys) (front xs k n a b (omega arith) (λ f. e (ap suc f)) (omega arith))
+  front (x ∷ xs) (suc k) (suc n) a b le e l = ap (λ ys. x ∷ ys)
+      (front xs k n a b (omega arith) (λ f. e (ap suc f)) (omega arith))
 
   back : (xs : List X) (k n : ℕ) (a b : X) → k ≤ n → drop (suc n) (set (set xs k a) n b) ≡ drop (suc n) xs
   back [] k n a b le = refl
@@ -59,50 +64,65 @@ module _ {X : Type 0} where
   item (x ∷ xs) (suc i) l = item xs i (omega arith)
 
   -- lists that agree from place n on
-  same_read : (xs ys : List X) (n : ℕ) (d : X) → n < length xs → n < length ys → drop n xs ≡ drop n ys → (get_or xs n d ≡ get_or ys n d) × (drop (n + 1) xs ≡ drop (n + 1) ys)
+  same_read : (xs ys : List X) (n : ℕ) (d : X) → n < length xs → n < length ys → drop n xs ≡ drop n ys
+      → (get_or xs n d ≡ get_or ys n d) × (drop (n + 1) xs ≡ drop (n + 1) ys)
   same_read xs ys n d l m e =
-      let f : get_or xs n d ∷ drop (n + 1) xs ≡ get_or ys n d ∷ drop (n + 1) ys = sym (drop_more xs n d l) ∙ e ∙ drop_more ys n d m in
+      let f : get_or xs n d ∷ drop (n + 1) xs ≡ get_or ys n d ∷ drop (n + 1) ys = sym (drop_more xs n d l) ∙ e
+      ∙ drop_more ys n d m in
       (cc, cc)
 
-  swap_front : (xs : List X) (k n : ℕ) (d : X) → k ≤ n → n < length xs → take (k + 1) (swap xs k n) ≡ take k xs ++ get_or xs n d ∷ []
+  swap_front : (xs : List X) (k n : ℕ) (d : X) → k ≤ n → n < length xs
+      → take (k + 1) (swap xs k n) ≡ take k xs ++ get_or xs n d ∷ []
   swap_front xs k n d le l =
-      ap (take (k + 1)) (sym (swap_is xs k n d (omega arith) l)) ∙ ap (λ (m : ℕ). take m (set (set xs k (get_or xs n d)) n (get_or xs k d))) (add-one k)
+      ap (take (k + 1)) (sym (swap_is xs k n d (omega arith) l))
+      ∙ ap (λ (m : ℕ). take m (set (set xs k (get_or xs n d)) n (get_or xs k d))) (add-one k)
       ∙ front xs k n (get_or xs n d) (get_or xs k d) le (λ f. ap (λ (m : ℕ). get_or xs m d) (sym f)) l
 
   swap_back : (xs : List X) (k n : ℕ) (d : X) → k ≤ n → n < length xs → drop (n + 1) (swap xs k n) ≡ drop (n + 1) xs
   swap_back xs k n d le l =
-      ap (drop (n + 1)) (sym (swap_is xs k n d (omega arith) l)) ∙ ap (λ (m : ℕ). drop m (set (set xs k (get_or xs n d)) n (get_or xs k d))) (add-one n)
+      ap (drop (n + 1)) (sym (swap_is xs k n d (omega arith) l))
+      ∙ ap (λ (m : ℕ). drop m (set (set xs k (get_or xs n d)) n (get_or xs k d))) (add-one n)
       ∙ back xs k n (get_or xs n d) (get_or xs k d) le ∙ ap (λ (m : ℕ). drop m xs) (sym (add-one n))
 
-  swap_within : (xs : List X) (m k n : ℕ) (d : X) → m ≤ n → k < m → n < length xs → take m (swap xs k n) ≡ set (take m xs) k (get_or xs n d)
-  swap_within xs m k n d le l h = ap (take m) (sym (swap_is xs k n d (omega arith) h)) ∙ within xs m k n (get_or xs n d) (get_or xs k d) le l
+  swap_within : (xs : List X) (m k n : ℕ) (d : X) → m ≤ n → k < m → n < length xs
+      → take m (swap xs k n) ≡ set (take m xs) k (get_or xs n d)
+  swap_within xs m k n d le l h = ap (take m) (sym (swap_is xs k n d (omega arith) h))
+      ∙ within xs m k n (get_or xs n d) (get_or xs k d) le l
 
-  position-append : (test : X → Bool) (xs ys : List X) (i : ℕ) (d : X) → position test xs ≡ Some i → position test (xs ++ ys) ≡ Some i
+  position-append : (test : X → Bool) (xs ys : List X) (i : ℕ) (d : X) → position test xs ≡ Some i
+      → position test (xs ++ ys) ≡ Some i
   position-append test xs ys i d e =
       let h = position-Some test xs i d e in
-      let read : (j : ℕ) → j < length xs → get_or (xs ++ ys) j d ≡ get_or xs j d = λ j l. get_or_append_left xs ys d j l in
-      position-first test (xs ++ ys) i d (omega (arith, length-append xs ys, h.0)) (ap test (read i h.0) ∙ h.1) (λ j l. ap test (read j (omega (arith, h.0))) ∙ h.2 j l)
+      let read : (j : ℕ) → j < length xs → get_or (xs ++ ys) j d
+      ≡ get_or xs j d = λ j l. get_or_append_left xs ys d j l in
+      position-first test (xs ++ ys) i d (omega (arith, length-append xs ys, h.0)) (ap test (read i h.0) ∙ h.1)
+      (λ j l. ap test (read j (omega (arith, h.0))) ∙ h.2 j l)
 
-  position-last : (test : X → Bool) (xs : List X) (y : X) → position test xs ≡ None → test y ≡ true → position test (xs ++ y ∷ []) ≡ Some (length xs)
+  position-last : (test : X → Bool) (xs : List X) (y : X) → position test xs ≡ None → test y ≡ true
+      → position test (xs ++ y ∷ []) ≡ Some (length xs)
   position-last test xs y e t =
-      position-first test (xs ++ y ∷ []) (length xs) y (omega (arith, length-append xs (y ∷ []))) (ap test (get_or-append_seam xs y [] y) ∙ t)
+      position-first test (xs ++ y ∷ []) (length xs) y (omega (arith, length-append xs (y ∷ [])))
+      (ap test (get_or-append_seam xs y [] y) ∙ t)
       (λ j l. ap test (get_or_append_left xs (y ∷ []) y j l) ∙ position-None-before test xs j y e l)
 
 -- ---- pairs that are put one after the other
 
 module _ {V : Type 0} where
-  get_or-zip : (ks : List (List ℕ)) (vs : List V) (i : ℕ) (k : List ℕ) (v : V) → i < length ks → length vs ≡ length ks → get_or (zip ks vs) i (k, v) ≡ (get_or ks i k, get_or vs i v)
+  get_or-zip : (ks : List (List ℕ)) (vs : List V) (i : ℕ) (k : List ℕ) (v : V) → i < length ks → length vs ≡ length ks
+      → get_or (zip ks vs) i (k, v) ≡ (get_or ks i k, get_or vs i v)
   get_or-zip [] vs i k v l e = absurd (omega arith)
   get_or-zip (x ∷ ks) [] i k v l e = absurd (omega arith)
   get_or-zip (x ∷ ks) (y ∷ vs) zero k v l e = refl
   get_or-zip (x ∷ ks) (y ∷ vs) (suc i) k v l e = get_or-zip ks vs i k v (omega arith) (omega arith)
 
   -- one entry more
-  put_each-more : (ks : List (List ℕ)) (vs : List V) (i : ℕ) (v : V) → i < length ks → length vs ≡ length ks → v ≡ get_or vs i v → put_each (take (i + 1) (zip ks vs)) ≡ put (get_or ks i []) v (put_each (take i (zip ks vs)))
+  put_each-more : (ks : List (List ℕ)) (vs : List V) (i : ℕ) (v : V) → i < length ks → length vs ≡ length ks
+      → v ≡ get_or vs i v → put_each (take (i + 1) (zip ks vs)) ≡ put (get_or ks i []) v (put_each (take i (zip ks vs)))
   put_each-more ks vs i v l e is =
       let k = get_or ks i [] in
       let long : i < length (zip ks vs) = omega (arith, length-zip ks vs) in
-      let read : get_or (zip ks vs) i (k, v) ≡ (k, v) = get_or-zip ks vs i k v l e ∙ (λ j. (get_or_default ks i k [] l j, sym is j)) in
+      let read : get_or (zip ks vs) i (k, v) ≡ (k, v) = get_or-zip ks vs i k v l e
+      ∙ (λ j. (get_or_default ks i k [] l j, sym is j)) in
       ap put_each (take_more (zip ks vs) i (k, v) long ∙ ap (λ p. take i (zip ks vs) ++ p ∷ []) read)
       ∙ fold-append (λ qs p. put p.0 p.1 qs) [] (take i (zip ks vs)) ((k, v) ∷ [])
 
@@ -111,36 +131,47 @@ module _ {V : Type 0} where
     abbrev AreOther : List (List ℕ × V) → Type 0
     AreOther ps = AllByRecursion (λ p. bytes_eq p.0 k ≡ false) ps
 
-    other_take : (ks : List (List ℕ)) (vs : List V) (n : ℕ) → n ≤ length ks → ((j : ℕ) → j < n → bytes_eq (get_or ks j []) k ≡ false) → AreOther (take n (zip ks vs))
+    other_take : (ks : List (List ℕ)) (vs : List V) (n : ℕ) → n ≤ length ks
+        → ((j : ℕ) → j < n → bytes_eq (get_or ks j []) k ≡ false) → AreOther (take n (zip ks vs))
     other_take ks vs zero l h = tt
     other_take [] vs (suc n) l h = absurd (omega arith)
     other_take (x ∷ ks) [] (suc n) l h = tt
-    other_take (x ∷ ks) (y ∷ vs) (suc n) l h = (h 0 (omega arith), other_take ks vs n (omega arith) (λ j m. h (suc j) (omega arith)))
+    other_take (x ∷ ks) (y ∷ vs) (suc n) l h = (
+      h 0 (omega arith),
+      other_take ks vs n (omega arith)
+          (λ j m. h (suc j) (omega arith)),
+    )
 
-    other_put_by : (b : Bool) (l : List ℕ) (v : V) (p : List ℕ × V) (ps : List (List ℕ × V)) → AreOther (p ∷ ps) → AreOther (put l v ps) → AreOther (cond b ((p.0, v) ∷ ps) (p ∷ put l v ps))
+    other_put_by : (b : Bool) (l : List ℕ) (v : V) (p : List ℕ × V) (ps : List (List ℕ × V)) → AreOther (p ∷ ps)
+        → AreOther (put l v ps) → AreOther (cond b ((p.0, v) ∷ ps) (p ∷ put l v ps))
     other_put_by true l v p ps h r = h
     other_put_by false l v p ps h r = (h.0, r)
 
-    other_put : (l : List ℕ) (v : V) (ps : List (List ℕ × V)) → bytes_eq l k ≡ false → AreOther ps → AreOther (put l v ps)
+    other_put : (l : List ℕ) (v : V) (ps : List (List ℕ × V)) → bytes_eq l k ≡ false → AreOther ps
+        → AreOther (put l v ps)
     other_put l v [] e h = (e, tt)
     other_put l v (p ∷ ps) e h = other_put_by (bytes_eq p.0 l) l v p ps h (other_put l v ps e h.1)
 
-    other_each : (qs ps : List (List ℕ × V)) → AreOther qs → AreOther ps → AreOther (fold (λ xs p. put p.0 p.1 xs) qs ps)
+    other_each : (qs ps : List (List ℕ × V)) → AreOther qs → AreOther ps
+        → AreOther (fold (λ xs p. put p.0 p.1 xs) qs ps)
     other_each qs [] h g = h
     other_each qs (p ∷ ps) h g = other_each (put p.0 p.1 qs) ps (other_put p.0 p.1 qs g.0 h) g.1
 
-    other_at : (ps : List (List ℕ × V)) → AreOther ps → (j : ℕ) → j < length (keys_of ps) → bytes_eq (get_or (keys_of ps) j []) k ≡ false
+    other_at : (ps : List (List ℕ × V)) → AreOther ps → (j : ℕ) → j < length (keys_of ps)
+        → bytes_eq (get_or (keys_of ps) j []) k ≡ false
     other_at [] h j l = absurd (omega arith)
     other_at (p ∷ ps) h zero l = h.0
     other_at (p ∷ ps) h (suc j) l = other_at ps h.1 j (omega arith)
 
     missing_each : (ps : List (List ℕ × V)) → AreOther ps → position (λ x. bytes_eq x k) (keys_of (put_each ps)) ≡ None
-    missing_each ps h = position-none (λ x. bytes_eq x k) (keys_of (put_each ps)) [] (other_at (put_each ps) (other_each [] ps tt h))
+    missing_each ps h = position-none (λ x. bytes_eq x k) (keys_of (put_each ps)) []
+        (other_at (put_each ps) (other_each [] ps tt h))
 
 -- ---- the walk
 
 module _ {V : Type 0} (ks0 : List (List ℕ)) (vs0 : List V) (fs0 : List ℕ) where
-  -- The first entries up to `at` are merged into the first `kept` places, and the others are as they were. fs has the new places of first keys, and behind them first places.
+  -- The first entries up to `at` are merged into the first `kept` places, and the others are as they were. fs has the
+  -- new places of first keys, and behind them first places.
   pub record IsMerged (ks : List (List ℕ)) (vs : List V) (fs : List ℕ) (kept at : ℕ) : Type 0 where
     pub keys_even : length ks ≡ length ks0
     pub values_even : length vs ≡ length vs0
@@ -149,7 +180,8 @@ module _ {V : Type 0} (ks0 : List (List ℕ)) (vs0 : List V) (fs0 : List ℕ) wh
     pub keys_left : drop at ks ≡ drop at ks0
     pub values_left : drop at vs ≡ drop at vs0
     pub merged : zip (take kept ks) (take kept vs) ≡ put_each (take at (zip ks0 vs0))
-    pub slots : (j : ℕ) → j < at → get_or fs0 j 0 ≡ j → position (λ k. bytes_eq k (get_or ks0 j [])) (take kept ks) ≡ Some (get_or fs j 0)
+    pub slots : (j : ℕ) → j < at → get_or fs0 j 0 ≡ j → position (λ k. bytes_eq k (get_or ks0 j [])) (take kept ks)
+        ≡ Some (get_or fs j 0)
     pub later : (j : ℕ) → at ≤ j → get_or fs j 0 ≡ get_or fs0 j 0
 
   pub IsMerged-none : IsMerged ks0 vs0 fs0 0 0
@@ -165,7 +197,8 @@ module _ {V : Type 0} (ks0 : List (List ℕ)) (vs0 : List V) (fs0 : List ℕ) wh
     later = λ j l. refl;
   }
 
-  module _ (even : length vs0 ≡ length ks0) (firsts : AreFirsts ks0 fs0) (ks : List (List ℕ)) (vs : List V) (fs : List ℕ) (kept at : ℕ) (m : IsMerged ks vs fs kept at) (l : at < length ks0) where
+  module _ (even : length vs0 ≡ length ks0) (firsts : AreFirsts ks0 fs0) (ks : List (List ℕ)) (vs : List V)
+      (fs : List ℕ) (kept at : ℕ) (m : IsMerged ks vs fs kept at) (l : at < length ks0) where
     abbrev key : List ℕ
     key = get_or ks0 at []
 
@@ -177,7 +210,8 @@ module _ {V : Type 0} (ks0 : List (List ℕ)) (vs0 : List V) (fs0 : List ℕ) wh
     key_read = (same_read ks ks0 at [] (omega (arith, m.keys_even)) l m.keys_left).0
 
     value_read : get_or vs at value.0 ≡ value.0
-    value_read = (same_read vs vs0 at value.0 (omega (arith, m.values_even)) (omega arith) m.values_left).0 ∙ sym value.1
+    value_read = (same_read vs vs0 at value.0 (omega (arith, m.values_even)) (omega arith) m.values_left).0
+        ∙ sym value.1
 
     front_keys : length (take kept ks) ≡ kept
     front_keys = length-take-le kept ks (omega (arith, m.keys_even, m.behind))
@@ -197,26 +231,34 @@ module _ {V : Type 0} (ks0 : List (List ℕ)) (vs0 : List V) (fs0 : List ℕ) wh
       missing : position (λ k. bytes_eq k key) (take kept ks) ≡ None
       missing =
           let before = (position-Some (λ k. bytes_eq k key) ks0 at [] first_here).2 in
-          let none : position (λ k. bytes_eq k key) (keys_of (put_each (take at (zip ks0 vs0)))) ≡ None = missing_each key (take at (zip ks0 vs0)) (other_take key ks0 vs0 at (omega arith) before) in
-          ap (position (λ k. bytes_eq k key)) (AreParts-zip (take kept ks) (take kept vs) (put_each (take at (zip ks0 vs0))) m.merged front_values).keys ∙ none
+          let none : position (λ k. bytes_eq k key) (keys_of (put_each (take at (zip ks0 vs0))))
+          ≡ None = missing_each key (take at (zip ks0 vs0)) (other_take key ks0 vs0 at (omega arith) before) in
+          ap (position (λ k. bytes_eq k key)) (AreParts-zip (take kept ks) (take kept vs)
+          (put_each (take at (zip ks0 vs0))) m.merged front_values).keys ∙ none
 
       keys_front : take (kept + 1) (swap ks kept at) ≡ take kept ks ++ key ∷ []
-      keys_front = swap_front ks kept at [] m.behind (omega (arith, m.keys_even)) ∙ ap (λ k. take kept ks ++ k ∷ []) key_read
+      keys_front = swap_front ks kept at [] m.behind (omega (arith, m.keys_even))
+          ∙ ap (λ k. take kept ks ++ k ∷ []) key_read
 
       values_front : take (kept + 1) (swap vs kept at) ≡ take kept vs ++ value.0 ∷ []
-      values_front = swap_front vs kept at value.0 m.behind (omega (arith, m.values_even)) ∙ ap (λ v. take kept vs ++ v ∷ []) value_read
+      values_front = swap_front vs kept at value.0 m.behind (omega (arith, m.values_even))
+          ∙ ap (λ v. take kept vs ++ v ∷ []) value_read
 
-      slot_of : (j : ℕ) → j < at + 1 → get_or fs0 j 0 ≡ j → position (λ k. bytes_eq k (get_or ks0 j [])) (take kept ks ++ key ∷ []) ≡ Some (get_or (set fs at kept) j 0)
+      slot_of : (j : ℕ) → j < at + 1 → get_or fs0 j 0 ≡ j → position (λ k. bytes_eq k (get_or ks0 j []))
+          (take kept ks ++ key ∷ []) ≡ Some (get_or (set fs at kept) j 0)
       slot_of j h own =
           elim (cases_Bool (eqb j at)) [
             | inl t ↦
                 (let e : j ≡ at = eqb-true j at t in
-                let place : get_or (set fs at kept) j 0 ≡ kept = ap (λ (n : ℕ). get_or (set fs at kept) n 0) e ∙ get_or-set_same fs at kept 0 (omega (arith, m.places_even, firsts.even)) in
+                let place : get_or (set fs at kept) j 0 ≡ kept = ap (λ (n : ℕ). get_or (set fs at kept) n 0) e
+                ∙ get_or-set_same fs at kept 0 (omega (arith, m.places_even, firsts.even)) in
                 ap (λ (n : ℕ). position (λ k. bytes_eq k (get_or ks0 n [])) (take kept ks ++ key ∷ [])) e
-                ∙ position-last (λ k. bytes_eq k key) (take kept ks) key missing ((bytes_eq-Decides key key).1 refl) ∙ ap Some (front_keys ∙ sym place))
+                ∙ position-last (λ k. bytes_eq k key) (take kept ks) key missing ((bytes_eq-Decides key key).1 refl)
+                ∙ ap Some (front_keys ∙ sym place))
             | inr t ↦
                 (let ne : j ≡ at → ⊥ = eqb-false j at t in
-                position-append (λ k. bytes_eq k (get_or ks0 j [])) (take kept ks) (key ∷ []) (get_or fs j 0) [] (m.slots j (omega arith) own) ∙ ap Some (sym (get_or-set_other fs at j kept 0 ne)))
+                position-append (λ k. bytes_eq k (get_or ks0 j [])) (take kept ks) (key ∷ []) (get_or fs j 0) []
+                (m.slots j (omega arith) own) ∙ ap Some (sym (get_or-set_other fs at j kept 0 ne)))
           ]
 
       pub IsMerged-new : IsMerged (swap ks kept at) (swap vs kept at) (set fs at kept) (kept + 1) (at + 1)
@@ -225,9 +267,12 @@ module _ {V : Type 0} (ks0 : List (List ℕ)) (vs0 : List V) (fs0 : List ℕ) wh
         values_even = length-swap vs kept at ∙ m.values_even;
         places_even = length-set fs at kept ∙ m.places_even;
         behind = omega (arith, m.behind);
-        keys_left = swap_back ks kept at [] m.behind (omega (arith, m.keys_even)) ∙ (same_read ks ks0 at [] (omega (arith, m.keys_even)) l m.keys_left).1;
-        values_left = swap_back vs kept at value.0 m.behind (omega (arith, m.values_even)) ∙ (same_read vs vs0 at value.0 (omega (arith, m.values_even)) (omega arith) m.values_left).1;
-        merged = (λ i. zip (keys_front i) (values_front i)) ∙ zip-put_missing key value.0 (take kept ks) (take kept vs) (put_each (take at (zip ks0 vs0))) m.merged front_values (sym missing) ∙ sym entry_more;
+        keys_left = swap_back ks kept at [] m.behind (omega (arith, m.keys_even))
+            ∙ (same_read ks ks0 at [] (omega (arith, m.keys_even)) l m.keys_left).1;
+        values_left = swap_back vs kept at value.0 m.behind (omega (arith, m.values_even))
+            ∙ (same_read vs vs0 at value.0 (omega (arith, m.values_even)) (omega arith) m.values_left).1;
+        merged = (λ i. zip (keys_front i) (values_front i)) ∙ zip-put_missing key value.0 (take kept ks) (take kept vs)
+            (put_each (take at (zip ks0 vs0))) m.merged front_values (sym missing) ∙ sym entry_more;
         slots = λ j h own. ap (position (λ k. bytes_eq k (get_or ks0 j []))) keys_front ∙ slot_of j h own;
         later = λ j h. get_or-set_other fs at j kept 0 (λ e. absurd (omega arith)) ∙ m.later j (omega arith);
       }
@@ -250,23 +295,27 @@ module _ {V : Type 0} (ks0 : List (List ℕ)) (vs0 : List V) (fs0 : List ℕ) wh
           ]
 
       same_key : get_or ks0 first [] ≡ key
-      same_key = (bytes_eq-Decides (get_or ks0 first []) key).0 (position-Some (λ k. bytes_eq k key) ks0 first [] placed).1
+      same_key = (bytes_eq-Decides (get_or ks0 first []) key).0
+          (position-Some (λ k. bytes_eq k key) ks0 first [] placed).1
 
       first_of_first : get_or fs0 first 0 ≡ first
       first_of_first =
-          same_Some (get_or fs0 first 0) first (sym (firsts.first first (omega (arith, first_before))) ∙ ap (λ (x : List ℕ). position (λ k. bytes_eq k x) ks0) same_key ∙ placed)
+          same_Some (get_or fs0 first 0) first (sym (firsts.first first (omega (arith, first_before)))
+          ∙ ap (λ (x : List ℕ). position (λ k. bytes_eq k x) ks0) same_key ∙ placed)
 
       abbrev slot : ℕ
       slot = get_or fs first 0
 
       slot_is : position (λ k. bytes_eq k key) (take kept ks) ≡ Some slot
-      slot_is = ap (λ (x : List ℕ). position (λ k. bytes_eq k x) (take kept ks)) (sym same_key) ∙ m.slots first first_before first_of_first
+      slot_is = ap (λ (x : List ℕ). position (λ k. bytes_eq k x) (take kept ks)) (sym same_key)
+          ∙ m.slots first first_before first_of_first
 
       pub slot_within : slot < kept
       slot_within = omega (arith, (position-Some (λ k. bytes_eq k key) (take kept ks) slot [] slot_is).0, front_keys)
 
       values_there : take kept (swap vs slot at) ≡ set (take kept vs) slot value.0
-      values_there = swap_within vs kept slot at value.0 m.behind slot_within (omega (arith, m.values_even)) ∙ ap (set (take kept vs) slot) value_read
+      values_there = swap_within vs kept slot at value.0 m.behind slot_within (omega (arith, m.values_even))
+          ∙ ap (set (take kept vs) slot) value_read
 
       pub IsMerged-old : IsMerged ks (swap vs slot at) fs kept (at + 1)
       IsMerged-old = record {
@@ -275,10 +324,13 @@ module _ {V : Type 0} (ks0 : List (List ℕ)) (vs0 : List V) (fs0 : List ℕ) wh
         places_even = m.places_even;
         behind = omega (arith, m.behind);
         keys_left = (same_read ks ks0 at [] (omega (arith, m.keys_even)) l m.keys_left).1;
-        values_left = swap_back vs slot at value.0 (omega (arith, slot_within, m.behind)) (omega (arith, m.values_even)) ∙ (same_read vs vs0 at value.0 (omega (arith, m.values_even)) (omega arith) m.values_left).1;
-        merged = ap (zip (take kept ks)) values_there ∙ zip-put_placed key value.0 (take kept ks) (take kept vs) (put_each (take at (zip ks0 vs0))) m.merged front_values slot (sym slot_is) ∙ sym entry_more;
+        values_left = swap_back vs slot at value.0 (omega (arith, slot_within, m.behind)) (omega (arith, m.values_even))
+            ∙ (same_read vs vs0 at value.0 (omega (arith, m.values_even)) (omega arith) m.values_left).1;
+        merged = ap (zip (take kept ks)) values_there ∙ zip-put_placed key value.0 (take kept ks) (take kept vs)
+            (put_each (take at (zip ks0 vs0))) m.merged front_values slot (sym slot_is) ∙ sym entry_more;
         slots = λ j h own.
-            let ne : j ≡ at → ⊥ = λ e. old (m.later at (omega arith) ∙ ap (λ (n : ℕ). get_or fs0 n 0) (sym e) ∙ own ∙ e) in
+            let ne : j ≡ at → ⊥ = λ e. old (m.later at (omega arith) ∙ ap (λ (n : ℕ). get_or fs0 n 0) (sym e) ∙ own ∙ e)
+            in
             m.slots j (omega arith) own;
         later = λ j h. m.later j (omega arith);
       }

@@ -1,5 +1,6 @@
 -- The first place in a list where a test passes.
-use Rattle.std.proofs.Common.{◌≡◌, ℕ, ◌<◌, Bool, true, false, cond, nat_lt, List, [], ◌∷◌, length, map, get_or, Option, Some, None, refl, arith}
+use Rattle.std.proofs.Common.{◌≡◌, ℕ, ◌<◌, Bool, true, false, cond, nat_lt, List, [], ◌∷◌, length, map, get_or, Option}
+use Rattle.std.proofs.Common.{Some, None, refl, arith}
 use Rattle.std.proofs.Math.ListN.{length-map}
 use Rattle.std.proofs.lemmas.Bool.Decides.{nat_tests}
 use Rattle.std.proofs.lemmas.List.Sums.{position_or_len_is, fails_before_first}
@@ -12,23 +13,30 @@ past : (p n : ℕ) → p ≡ n → ◌≡◌ {A = Option ℕ} (cond (nat_lt p n)
 past p n e = grind (arith, nat_tests)
 
 module _ {X : Type 0} (test : X → Bool) (xs : List X) where
-  pub position-first : (i : ℕ) (d : X) → i < length xs → test (get_or xs i d) ≡ true → ((j : ℕ) → j < i → test (get_or xs j d) ≡ false) → position test xs ≡ Some i
-  position-first i d h at before = within (position_or_len test xs) (length xs) i (position_or_len_is test xs i d (omega arith) before (λ _. at)) h
+  pub position-first : (i : ℕ) (d : X) → i < length xs → test (get_or xs i d) ≡ true
+      → ((j : ℕ) → j < i → test (get_or xs j d) ≡ false) → position test xs ≡ Some i
+  position-first i d h at before = within (position_or_len test xs) (length xs) i
+      (position_or_len_is test xs i d (omega arith) before (λ _. at)) h
 
   pub position-none : (d : X) → ((j : ℕ) → j < length xs → test (get_or xs j d) ≡ false) → position test xs ≡ None
-  position-none d fails = past (position_or_len test xs) (length xs) (position_or_len_is test xs (length xs) d (omega arith) fails (λ l. absurd (omega arith)))
+  position-none d fails = past (position_or_len test xs) (length xs)
+      (position_or_len_is test xs (length xs) d (omega arith) fails (λ l. absurd (omega arith)))
 
 past-none : (p n j : ℕ) → ◌≡◌ {A = Option ℕ} (cond (nat_lt p n) (Some p) None) None → j < n → j < p
 past-none p n j e h = grind (arith, nat_tests)
 
-pub position-None-before : {X : Type 0} (test : X → Bool) (xs : List X) (j : ℕ) (d : X) → position test xs ≡ None → j < length xs → test (get_or xs j d) ≡ false
-position-None-before test xs j d e l = fails_before_first test xs j d (past-none (position_or_len test xs) (length xs) j e l)
+pub position-None-before : {X : Type 0} (test : X → Bool) (xs : List X) (j : ℕ) (d : X) → position test xs ≡ None
+    → j < length xs → test (get_or xs j d) ≡ false
+position-None-before test xs j d e l = fails_before_first test xs j d
+    (past-none (position_or_len test xs) (length xs) j e l)
 
 -- where another test of f of each element answers the same
 module _ {X Y : Type 0} (test : X → Bool) (other : Y → Bool) (f : X → Y) where
-  position_or_len-map : (xs : List X) → AllByRecursion (λ x. test x ≡ other (f x)) xs → position_or_len test xs ≡ position_or_len other (map f xs)
+  position_or_len-map : (xs : List X) → AllByRecursion (λ x. test x ≡ other (f x)) xs
+      → position_or_len test xs ≡ position_or_len other (map f xs)
   position_or_len-map [] a = refl
   position_or_len-map (x ∷ xs) a = rw (a.0, position_or_len-map xs a.1)
 
-  pub position-map : (xs : List X) → AllByRecursion (λ x. test x ≡ other (f x)) xs → position test xs ≡ position other (map f xs)
+  pub position-map : (xs : List X) → AllByRecursion (λ x. test x ≡ other (f x)) xs
+      → position test xs ≡ position other (map f xs)
   position-map xs a = rw (position_or_len-map xs a, ← length-map xs f)

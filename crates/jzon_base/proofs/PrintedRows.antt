@@ -67,7 +67,8 @@ greatest_exponent : number_text true 18446744073709551615 (pos 32767) ≡ codes 
 unfolding digits
 greatest_exponent = refl
 
-twenty_digits_over_eighteen_places : number_text true 10000000000000000001 (negsuc 17) ≡ codes "1.0000000000000000001e+1"
+twenty_digits_over_eighteen_places : number_text true 10000000000000000001 (negsuc 17)
+    ≡ codes "1.0000000000000000001e+1"
 unfolding digits
 twenty_digits_over_eighteen_places = refl
 

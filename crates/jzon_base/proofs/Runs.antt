@@ -1,5 +1,7 @@
 -- Keys that are looked for in sorted runs.
-use Rattle.std.proofs.Common.{◌≡◌, ◌∙◌, ◌≢◌, ℕ, zero, suc, ◌+◌, ◌-◌, ◌<◌, ◌≤◌, Bool, true, false, List, [], ◌∷◌, ◌++◌, length, get_or, take, drop, ◌||◌, Result, Ok, Err, take_all, add-zero, zero-add, append_assoc, append-nil, refl, sym, ap, subst, inl, inr, arith}
+use Rattle.std.proofs.Common.{◌≡◌, ◌∙◌, ◌≢◌, ℕ, zero, suc, ◌+◌, ◌-◌, ◌<◌, ◌≤◌, Bool, true, false, List, [], ◌∷◌, ◌++◌}
+use Rattle.std.proofs.Common.{length, get_or, take, drop, ◌||◌, Result, Ok, Err, take_all, add-zero, zero-add}
+use Rattle.std.proofs.Common.{append_assoc, append-nil, refl, sym, ap, subst, inl, inr, arith}
 use Rattle.std.specs.Cmp.{IsTotalOrder}
 use Rattle.std.specs.Cmp.Lexicographic.{slice_cmp}
 use Rattle.std.specs.List.{All, flat_map, list_any}
@@ -12,11 +14,13 @@ use Rattle.std.specs.declared.cmp.Ordering.TheVariants.{Less, Equal, Greater}
 use Rattle.std.proofs.lemmas.Bool.{cases_Bool, cases_lt}
 use Rattle.std.proofs.lemmas.Cmp.{nat_cmp_total, nat_list_cmp_total, on_total, then_total, tied_itself}
 use Rattle.std.proofs.Math.Seq.{take-append_seam, drop-append_seam}
-use Rattle.std.proofs.lemmas.List.{get_or_append_left, get_or-take, take-append-le, take_rest, length-take-le, length_push, take-append-drop}
+use Rattle.std.proofs.lemmas.List.{get_or_append_left, get_or-take, take-append-le, take_rest, length-take-le}
+use Rattle.std.proofs.lemmas.List.{length_push, take-append-drop}
 use Rattle.std.proofs.lemmas.List.Folds.{list_any_at, list_any_none, list_any-append}
 use Rattle.std.proofs.lemmas.List.Concat.{flat_map-append}
 use Rattle.std.proofs.lemmas.List.Elements.{All-nil, All-cons, All-push, All-same, All-take, All-drop, All-weaker}
-use Rattle.std.proofs.lemmas.List.Sorted.{searchable_from_sorted, All-permutation, IsPermutation-append, IsPermutation-refl, IsPermutation-trans, list_any-IsPermutation}
+use Rattle.std.proofs.lemmas.List.Sorted.{searchable_from_sorted, All-permutation, IsPermutation-append}
+use Rattle.std.proofs.lemmas.List.Sorted.{IsPermutation-refl, IsPermutation-trans, list_any-IsPermutation}
 use Rattle.std.proofs.lemmas.Map.Text.{is_eq-slice_cmp}
 use Rattle.std.proofs.lemmas.Slice.Eq.{bytes_eq-Decides}
 use Rattle.jzon_base.specs.Hash.{hash_of}
@@ -37,7 +41,8 @@ abbrev name_cmp : ℕ × List ℕ → ℕ × List ℕ → Ordering
 name_cmp a b = ordering_then (nat_cmp a.0 b.0) (slice_cmp nat_cmp a.1 b.1)
 
 name_total : IsTotalOrder name_cmp
-name_total = then_total (on_total (λ (a : ℕ × List ℕ). a.0) nat_cmp_total) (on_total (λ (a : ℕ × List ℕ). a.1) nat_list_cmp_total)
+name_total = then_total (on_total (λ (a : ℕ × List ℕ). a.0) nat_cmp_total)
+    (on_total (λ (a : ℕ × List ℕ). a.1) nat_list_cmp_total)
 
 module _ (ks : List (List ℕ)) (h : ℕ) (name : List ℕ) where
   abbrev named : ℕ × ℕ → ℕ × List ℕ
@@ -46,12 +51,14 @@ module _ (ks : List (List ℕ)) (h : ℕ) (name : List ℕ) where
   rises : (r : List (ℕ × ℕ)) → IsSorted (pair_cmp ks) r → IsNonDecreasingBy (λ p. ordering_index (beside ks h name p)) r
   rises r up =
       searchable_from_sorted name_total named r (h, name)
-      (λ k d low l. not_less (beside ks (get_or r k d).0 (get_or ks (get_or r k d).1 []) (get_or r (k + 1) d)) (nat_cmp (get_or r (k + 1) d).1 (get_or r k d).1) (up k d low l))
+      (λ k d low l. not_less (beside ks (get_or r k d).0 (get_or ks (get_or r k d).1 []) (get_or r (k + 1) d))
+      (nat_cmp (get_or r (k + 1) d).1 (get_or r k d).1) (up k d low l))
 
   abbrev is_it : ℕ × ℕ → Bool
   is_it p = is_eq (beside ks h name p)
 
-  pub searched : (r : List (ℕ × ℕ)) (found : Result ℕ ℕ) → IsSorted (pair_cmp ks) r → IsSearchInRange found (length r) → IsBinarySearchResult (beside ks h name) r found
+  pub searched : (r : List (ℕ × ℕ)) (found : Result ℕ ℕ) → IsSorted (pair_cmp ks) r → IsSearchInRange found (length r)
+      → IsBinarySearchResult (beside ks h name) r found
       → is_ok found ≡ list_any is_it r
   searched r (Ok i) up bound at = sym (list_any_at is_it r i (0, 0) bound (ap is_eq (at (0, 0))))
   searched r (Err i) up bound at =
@@ -64,7 +71,8 @@ module _ (ks : List (List ℕ)) (h : ℕ) (name : List ℕ) where
   -- some run has it where the runs one after the other do
   pub any_run : (rs : List (List (ℕ × ℕ))) → list_any (λ r. list_any is_it r) rs ≡ list_any is_it (flat_map (λ r. r) rs)
   any_run [] = refl
-  any_run (r ∷ rs) = ap (λ (b : Bool). list_any is_it r || b) (any_run rs) ∙ sym (list_any-append is_it r (flat_map (λ r. r) rs))
+  any_run (r ∷ rs) = ap (λ (b : Bool). list_any is_it r || b) (any_run rs)
+      ∙ sym (list_any-append is_it r (flat_map (λ r. r) rs))
 
 -- ---- what the runs know
 
@@ -73,22 +81,27 @@ unequal_then Less r e = refl
 unequal_then Equal r e = e
 unequal_then Greater r e = refl
 
-same_test : (k name : List ℕ) → is_eq (ordering_then (nat_cmp (hash_of k) (hash_of name)) (slice_cmp nat_cmp k name)) ≡ bytes_eq k name
+same_test : (k name : List ℕ) → is_eq (ordering_then (nat_cmp (hash_of k) (hash_of name)) (slice_cmp nat_cmp k name))
+    ≡ bytes_eq k name
 same_test k name = elim (cases_Bool (bytes_eq k name)) [
   | inl e ↦
       (let same : k ≡ name = (bytes_eq-Decides k name).0 e in
-      let tie : nat_cmp (hash_of k) (hash_of name) ≡ Equal = ap (λ (x : List ℕ). nat_cmp (hash_of x) (hash_of name)) same ∙ tied_itself nat_cmp_total (hash_of name) in
+      let tie : nat_cmp (hash_of k) (hash_of name) ≡ Equal = ap (λ (x : List ℕ). nat_cmp (hash_of x) (hash_of name))
+      same ∙ tied_itself nat_cmp_total (hash_of name) in
       rw tie (is_eq-slice_cmp k name))
-  | inr e ↦ unequal_then (nat_cmp (hash_of k) (hash_of name)) (slice_cmp nat_cmp k name) (is_eq-slice_cmp k name ∙ e) ∙ sym e
+  | inr e ↦ unequal_then (nat_cmp (hash_of k) (hash_of name)) (slice_cmp nat_cmp k name) (is_eq-slice_cmp k name ∙ e)
+      ∙ sym e
 ]
 
-any_hashed : (ks : List (List ℕ)) (name : List ℕ) (n : ℕ) (xs : List (List ℕ)) → ((i : ℕ) → i < length xs → get_or ks (n + i) [] ≡ get_or xs i [])
+any_hashed : (ks : List (List ℕ)) (name : List ℕ) (n : ℕ) (xs : List (List ℕ))
+    → ((i : ℕ) → i < length xs → get_or ks (n + i) [] ≡ get_or xs i [])
     → list_any (is_it ks (hash_of name) name) (hashed_from n xs) ≡ list_any (λ k. bytes_eq k name) xs
 unfolding hashed_from
 any_hashed ks name n [] read = refl
 any_hashed ks name n (x ∷ xs) read =
     let here : get_or ks n [] ≡ x = ap (λ (m : ℕ). get_or ks m []) (sym (add-zero n)) ∙ read 0 (omega arith) in
-    let more = any_hashed ks name (n + 1) xs (λ i l. let e : n + 1 + i ≡ n + suc i = omega arith in ap (λ (m : ℕ). get_or ks m []) e ∙ read (suc i) (omega arith)) in
+    let more = any_hashed ks name (n + 1) xs (λ i l. let e : n + 1 + i
+    ≡ n + suc i = omega arith in ap (λ (m : ℕ). get_or ks m []) e ∙ read (suc i) (omega arith)) in
     (λ j. is_eq (ordering_then (nat_cmp (hash_of x) (hash_of name)) (slice_cmp nat_cmp (here j) name)) || more j)
     ∙ ap (λ (b : Bool). b || list_any (λ k. bytes_eq k name) xs) (same_test x name)
 
@@ -96,15 +109,19 @@ pub known_in_runs : (ks : List (List ℕ)) (rs : List (List (ℕ × ℕ))) (n : 
     → list_any (λ r. list_any (is_it ks (hash_of name) name) r) rs ≡ list_any (λ k. bytes_eq k name) (take n ks)
 known_in_runs ks rs n name runs =
     any_run ks (hash_of name) name rs
-    ∙ sym (list_any-IsPermutation (is_it ks (hash_of name) name) (hashed_from 0 (take n ks)) (flat_map (λ r. r) rs) runs.whole)
-    ∙ any_hashed ks name 0 (take n ks) (λ i l. ap (λ (m : ℕ). get_or ks m []) (zero-add i) ∙ sym (get_or-take n ks i [] (omega (arith, length-take-le n ks runs.within))))
+    ∙ sym (list_any-IsPermutation (is_it ks (hash_of name) name) (hashed_from 0 (take n ks)) (flat_map (λ r. r) rs)
+    runs.whole)
+    ∙ any_hashed ks name 0 (take n ks) (λ i l. ap (λ (m : ℕ). get_or ks m []) (zero-add i)
+    ∙ sym (get_or-take n ks i [] (omega (arith, length-take-le n ks runs.within))))
 
-module _ (ks : List (List ℕ)) (rs ss : List (List (ℕ × ℕ))) (n h : ℕ) (name : List ℕ) (runs : AreRuns ks rs n) (own : h ≡ hash_of name) (same : ss ≡ rs) where
+module _ (ks : List (List ℕ)) (rs ss : List (List (ℕ × ℕ))) (n h : ℕ) (name : List ℕ) (runs : AreRuns ks rs n)
+    (own : h ≡ hash_of name) (same : ss ≡ rs) where
   abbrev is_known : List ℕ → Bool
   is_known k = bytes_eq k name
 
   known_first : list_any (λ r. list_any (λ p. is_eq (beside ks h name p)) r) ss ≡ list_any is_known (take n ks)
-  known_first = (λ i. list_any (λ r. list_any (λ p. is_eq (beside ks (own i) name p)) r) (same i)) ∙ known_in_runs ks rs n name runs
+  known_first = (λ i. list_any (λ r. list_any (λ p. is_eq (beside ks (own i) name p)) r) (same i))
+      ∙ known_in_runs ks rs n name runs
 
   known_parts : list_any is_known ks ≡ (list_any is_known (take n ks) || list_any is_known (drop n ks))
   known_parts = ap (list_any is_known) (sym (take-append-drop n ks)) ∙ list_any-append is_known (take n ks) (drop n ks)
@@ -115,43 +132,60 @@ module _ (ks : List (List ℕ)) (rs ss : List (List (ℕ × ℕ))) (n h : ℕ) (
   pub known_rest : (b : Bool) → false ≡ list_any (λ r. list_any (λ p. is_eq (beside ks h name p)) r) ss
       → b ≡ list_any is_known (take (length ks - n) (drop n ks)) → b ≡ list_any is_known ks
   known_rest b e f =
-      f ∙ ap (list_any is_known) (take_rest ks n) ∙ sym (known_parts ∙ ap (λ (b : Bool). b || list_any is_known (drop n ks)) (sym (e ∙ known_first)))
+      f ∙ ap (list_any is_known) (take_rest ks n) ∙ sym (known_parts
+      ∙ ap (λ (b : Bool). b || list_any is_known (drop n ks)) (sym (e ∙ known_first)))
 
 -- ---- runs come and go
 
 pub AreRuns-none : (ks : List (List ℕ)) → AreRuns ks [] 0
 unfolding hashed_from
-AreRuns-none ks = record { within = omega arith; whole = IsPermutation-refl []; sorted = All-nil (IsSorted (pair_cmp ks)) }
+AreRuns-none ks = record {
+  within = omega arith;
+  whole = IsPermutation-refl [];
+  sorted = All-nil
+      (IsSorted (pair_cmp ks));
+}
 
-flat_map-last : (rs : List (List (ℕ × ℕ))) (r : List (ℕ × ℕ)) → flat_map (λ r. r) (rs ++ r ∷ []) ≡ flat_map (λ r. r) rs ++ r
-flat_map-last rs r = flat_map-append (λ (r : List (ℕ × ℕ)). r) rs (r ∷ []) ∙ ap (λ x. flat_map (λ r. r) rs ++ x) (append-nil r)
+flat_map-last : (rs : List (List (ℕ × ℕ))) (r : List (ℕ × ℕ))
+    → flat_map (λ r. r) (rs ++ r ∷ []) ≡ flat_map (λ r. r) rs ++ r
+flat_map-last rs r = flat_map-append (λ (r : List (ℕ × ℕ)). r) rs (r ∷ [])
+    ∙ ap (λ x. flat_map (λ r. r) rs ++ x) (append-nil r)
 
-pub AreRuns-more : (ks : List (List ℕ)) (rs : List (List (ℕ × ℕ))) (n : ℕ) (r : List (ℕ × ℕ)) → AreRuns ks rs n → IsPermutation (hashed_from n (drop n ks)) r
+pub AreRuns-more : (ks : List (List ℕ)) (rs : List (List (ℕ × ℕ))) (n : ℕ) (r : List (ℕ × ℕ)) → AreRuns ks rs n
+    → IsPermutation (hashed_from n (drop n ks)) r
     → IsSorted (pair_cmp ks) r → AreRuns ks (rs ++ r ∷ []) (length ks)
 AreRuns-more ks rs n r runs moved up = record {
   within = omega arith;
   whole =
       (let long : length (take n ks) ≡ n = length-take-le n ks runs.within in
       let split : hashed_from 0 (take (length ks) ks) ≡ hashed_from 0 (take n ks) ++ hashed_from n (drop n ks) =
-      ap (hashed_from 0) (take_all (length ks) ks (omega arith) ∙ sym (take-append-drop n ks)) ∙ hashed_from-append 0 (take n ks) (drop n ks)
+      ap (hashed_from 0) (take_all (length ks) ks (omega arith) ∙ sym (take-append-drop n ks))
+      ∙ hashed_from-append 0 (take n ks) (drop n ks)
       ∙ ap (λ (m : ℕ). hashed_from 0 (take n ks) ++ hashed_from m (drop n ks)) (zero-add (length (take n ks)) ∙ long) in
-      rw (split, flat_map-last rs r) (IsPermutation-append (hashed_from 0 (take n ks)) (flat_map (λ r. r) rs) (hashed_from n (drop n ks)) r runs.whole moved));
+      rw (split, flat_map-last rs r) (IsPermutation-append (hashed_from 0 (take n ks)) (flat_map (λ r. r) rs)
+      (hashed_from n (drop n ks)) r runs.whole moved));
   sorted = All-push (IsSorted (pair_cmp ks)) rs r runs.sorted up;
 }
 
-pub AreRuns-join : (ks : List (List ℕ)) (us : List (List (ℕ × ℕ))) (a b c : List (ℕ × ℕ)) (n : ℕ) → AreRuns ks ((us ++ a ∷ []) ++ b ∷ []) n → IsPermutation (a ++ b) c
+pub AreRuns-join : (ks : List (List ℕ)) (us : List (List (ℕ × ℕ))) (a b c : List (ℕ × ℕ)) (n : ℕ)
+    → AreRuns ks ((us ++ a ∷ []) ++ b ∷ []) n → IsPermutation (a ++ b) c
     → IsSorted (pair_cmp ks) c → AreRuns ks (us ++ c ∷ []) n
 AreRuns-join ks us a b c n runs moved up = record {
   within = runs.within;
   whole =
       (let split : flat_map (λ r. r) ((us ++ a ∷ []) ++ b ∷ []) ≡ flat_map (λ r. r) us ++ (a ++ b) =
-      flat_map-last (us ++ a ∷ []) b ∙ ap (λ x. x ++ b) (flat_map-last us a) ∙ append_assoc (flat_map (λ r. r) us) a b in
-      IsPermutation-trans (hashed_from 0 (take n ks)) (flat_map (λ r. r) us ++ (a ++ b)) (flat_map (λ r. r) (us ++ c ∷ [])) (subst (λ x. IsPermutation (hashed_from 0 (take n ks)) x) split runs.whole)
+      flat_map-last (us ++ a ∷ []) b ∙ ap (λ x. x ++ b) (flat_map-last us a)
+      ∙ append_assoc (flat_map (λ r. r) us) a b in
+      IsPermutation-trans (hashed_from 0 (take n ks)) (flat_map (λ r. r) us ++ (a ++ b))
+      (flat_map (λ r. r) (us ++ c ∷ [])) (subst (λ x. IsPermutation (hashed_from 0 (take n ks)) x) split runs.whole)
       (subst (λ x. IsPermutation (flat_map (λ r. r) us ++ (a ++ b)) x) (sym (flat_map-last us c))
-      (IsPermutation-append (flat_map (λ r. r) us) (flat_map (λ r. r) us) (a ++ b) c (IsPermutation-refl (flat_map (λ r. r) us)) moved)));
+      (IsPermutation-append (flat_map (λ r. r) us) (flat_map (λ r. r) us) (a ++ b) c
+      (IsPermutation-refl (flat_map (λ r. r) us)) moved)));
   sorted =
       (let all = All-take (IsSorted (pair_cmp ks)) (length us) ((us ++ a ∷ []) ++ b ∷ []) runs.sorted in
-      All-push (IsSorted (pair_cmp ks)) us c (All-same (IsSorted (pair_cmp ks)) us (take (length us) ((us ++ a ∷ []) ++ b ∷ [])) (sym (front us (a ∷ b ∷ []) ((us ++ a ∷ []) ++ b ∷ []) (append_assoc us (a ∷ []) (b ∷ [])))) all) up);
+      All-push (IsSorted (pair_cmp ks)) us c (All-same (IsSorted (pair_cmp ks)) us
+      (take (length us) ((us ++ a ∷ []) ++ b ∷ [])) (sym
+      (front us (a ∷ b ∷ []) ((us ++ a ∷ []) ++ b ∷ []) (append_assoc us (a ∷ []) (b ∷ [])))) all) up);
 }
 
 -- ---- a key more
@@ -161,32 +195,43 @@ unfolding hashed_from
 All-places n [] = All-nil (λ (p : ℕ × ℕ). p.1 < n + 0)
 All-places n (k ∷ ks) =
     All-cons (λ (p : ℕ × ℕ). p.1 < n + suc (length ks)) (hash_of k, n) (hashed_from (n + 1) ks) (omega arith)
-    (All-weaker (λ (p : ℕ × ℕ). p.1 < n + 1 + length ks) (λ (p : ℕ × ℕ). p.1 < n + suc (length ks)) (λ p l. omega arith) (hashed_from (n + 1) ks) (All-places (n + 1) ks))
+    (All-weaker (λ (p : ℕ × ℕ). p.1 < n + 1 + length ks) (λ (p : ℕ × ℕ). p.1 < n + suc (length ks)) (λ p l. omega arith)
+    (hashed_from (n + 1) ks) (All-places (n + 1) ks))
 
 each_run : (P : ℕ × ℕ → Type 0) (rs : List (List (ℕ × ℕ))) → All P (flat_map (λ r. r) rs) → All (λ r. All P r) rs
 each_run P [] all = All-nil (λ r. All P r)
 each_run P (r ∷ rs) all =
     All-cons (λ r. All P r) r rs
-    (All-same P r (take (length r) (r ++ flat_map (λ r. r) rs)) (sym (front r (flat_map (λ r. r) rs) _ refl)) (All-take P (length r) (r ++ flat_map (λ r. r) rs) all))
-    (each_run P rs (All-same P (flat_map (λ r. r) rs) (drop (length r) (r ++ flat_map (λ r. r) rs)) (sym (drop-append_seam r (flat_map (λ r. r) rs))) (All-drop P (length r) (r ++ flat_map (λ r. r) rs) all)))
+    (All-same P r (take (length r) (r ++ flat_map (λ r. r) rs)) (sym (front r (flat_map (λ r. r) rs) _ refl))
+    (All-take P (length r) (r ++ flat_map (λ r. r) rs) all))
+    (each_run P rs (All-same P (flat_map (λ r. r) rs) (drop (length r) (r ++ flat_map (λ r. r) rs))
+    (sym (drop-append_seam r (flat_map (λ r. r) rs))) (All-drop P (length r) (r ++ flat_map (λ r. r) rs) all)))
 
-same_order : (ks ls : List (List ℕ)) (p q : ℕ × ℕ) → get_or ks p.1 [] ≡ get_or ls p.1 [] → get_or ks q.1 [] ≡ get_or ls q.1 [] → is_lt (pair_cmp ks p q) ≡ is_lt (pair_cmp ls p q)
-same_order ks ls p q e f = λ i. is_lt (ordering_then (ordering_then (nat_cmp p.0 q.0) (slice_cmp nat_cmp (e i) (f i))) (nat_cmp p.1 q.1))
+same_order : (ks ls : List (List ℕ)) (p q : ℕ × ℕ) → get_or ks p.1 [] ≡ get_or ls p.1 []
+    → get_or ks q.1 [] ≡ get_or ls q.1 [] → is_lt (pair_cmp ks p q) ≡ is_lt (pair_cmp ls p q)
+same_order ks ls p q e f = λ i. is_lt (ordering_then (ordering_then (nat_cmp p.0 q.0) (slice_cmp nat_cmp (e i) (f i)))
+    (nat_cmp p.1 q.1))
 
-pub AreRuns-push : (ks : List (List ℕ)) (k : List ℕ) (rs : List (List (ℕ × ℕ))) (n : ℕ) → AreRuns ks rs n → AreRuns (ks ++ k ∷ []) rs n
+pub AreRuns-push : (ks : List (List ℕ)) (k : List ℕ) (rs : List (List (ℕ × ℕ))) (n : ℕ) → AreRuns ks rs n
+    → AreRuns (ks ++ k ∷ []) rs n
 AreRuns-push ks k rs n runs =
     let long : length (take n ks) ≡ n = length-take-le n ks runs.within in
     let places : All (λ p. p.1 < 0 + length (take n ks)) (flat_map (λ r. r) rs) =
-    All-permutation (λ p. p.1 < 0 + length (take n ks)) (hashed_from 0 (take n ks)) (flat_map (λ r. r) rs) runs.whole (All-places 0 (take n ks)) in
-    let each : All (λ r. All (λ p. p.1 < 0 + length (take n ks)) r) rs = each_run (λ p. p.1 < 0 + length (take n ks)) rs places in
-    let read : (i : ℕ) → i < n → get_or ks i [] ≡ get_or (ks ++ k ∷ []) i [] = λ i l. sym (get_or_append_left ks (k ∷ []) [] i (omega (arith, runs.within))) in
+    All-permutation (λ p. p.1 < 0 + length (take n ks)) (hashed_from 0 (take n ks)) (flat_map (λ r. r) rs) runs.whole
+    (All-places 0 (take n ks)) in
+    let each : All (λ r. All (λ p. p.1 < 0 + length (take n ks)) r) rs = each_run (λ p. p.1 < 0 + length (take n ks)) rs
+    places in
+    let read : (i : ℕ) → i < n → get_or ks i [] ≡ get_or (ks ++ k ∷ []) i [] = λ i l. sym
+    (get_or_append_left ks (k ∷ []) [] i (omega (arith, runs.within))) in
     record {
       within = omega (arith, runs.within, length_push ks k);
-      whole = subst (λ x. IsPermutation (hashed_from 0 x) (flat_map (λ r. r) rs)) (sym (take-append-le n ks (k ∷ []) runs.within)) runs.whole;
+      whole = subst (λ x. IsPermutation (hashed_from 0 x) (flat_map (λ r. r) rs))
+          (sym (take-append-le n ks (k ∷ []) runs.within)) runs.whole;
       sorted = λ i d l j e low m.
           let r = get_or rs i d in
           let p = get_or r (j + 1) e in
           let q = get_or r j e in
-          sym (same_order ks (ks ++ k ∷ []) p q (read p.1 (omega (arith, each i d l (j + 1) e (omega arith), long))) (read q.1 (omega (arith, each i d l j e (omega arith), long))))
+          sym (same_order ks (ks ++ k ∷ []) p q (read p.1 (omega (arith, each i d l (j + 1) e (omega arith), long)))
+          (read q.1 (omega (arith, each i d l j e (omega arith), long))))
           ∙ runs.sorted i d l j e low m;
     }

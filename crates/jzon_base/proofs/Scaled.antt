@@ -1,5 +1,6 @@
 -- Decimals scaled to whole numbers.
-use Rattle.std.proofs.Common.{◌≡◌, ℕ, zero, suc, ℤ, pos, negsuc, ◌+◌, ◌*◌, ◌/◌, ◌%◌, ◌^◌, ◌≤◌, ◌<◌, ◌==◌, ◌+ℤ◌, ◌<ℤ◌, false, refl, sym, ap, ◌∙◌, ◌-◌, arith, pow-add, FitsSigned}
+use Rattle.std.proofs.Common.{◌≡◌, ℕ, zero, suc, ℤ, pos, negsuc, ◌+◌, ◌*◌, ◌/◌, ◌%◌, ◌^◌, ◌≤◌, ◌<◌, ◌==◌, ◌+ℤ◌, ◌<ℤ◌}
+use Rattle.std.proofs.Common.{false, refl, sym, ap, ◌∙◌, ◌-◌, arith, pow-add, FitsSigned}
 use Rattle.std.specs.Int.{w16}
 use Rattle.std.proofs.Math.Nat.{div-div-eq-div-mul, zero-div}
 use Rattle.std.proofs.lemmas.Int.{ints}
@@ -12,15 +13,19 @@ scaled-down : (m : ℕ) (e f : ℤ) (k : ℕ) → shifted e ≡ shifted f + k �
 unfolding scaled
 scaled-down m e f k h = rw (h, pow-add) (omega arith)
 
-scaled-eq : (m : ℕ) (e : ℤ) (n : ℕ) (f : ℤ) (k : ℕ) → shifted e ≡ shifted f + k → (scaled m e == scaled n f) ≡ (m * 10 ^ k == n)
+scaled-eq : (m : ℕ) (e : ℤ) (n : ℕ) (f : ℤ) (k : ℕ) → shifted e ≡ shifted f + k
+    → (scaled m e == scaled n f) ≡ (m * 10 ^ k == n)
 unfolding scaled
 scaled-eq m e n f k h = rw (scaled-down m e f k h) (eq-times (m * 10 ^ k) n (10 ^ shifted f) (power_pos (shifted f)))
 
-pub scaled-eq-fits : (m : ℕ) (e : ℤ) (n : ℕ) (f : ℤ) (k r : ℕ) → shifted e ≡ shifted f + k → r ≡ m * 10 ^ k → (r == n) ≡ (scaled m e == scaled n f)
+pub scaled-eq-fits : (m : ℕ) (e : ℤ) (n : ℕ) (f : ℤ) (k r : ℕ) → shifted e ≡ shifted f + k → r ≡ m * 10 ^ k
+    → (r == n) ≡ (scaled m e == scaled n f)
 scaled-eq-fits m e n f k r h p = rw (scaled-eq m e n f k h, p) refl
 
-pub scaled-eq-too_large : (m : ℕ) (e : ℤ) (n : ℕ) (f : ℤ) (k : ℕ) → shifted e ≡ shifted f + k → 2 ^ 64 ≤ m * 10 ^ k → n < 2 ^ 64 → false ≡ (scaled m e == scaled n f)
-scaled-eq-too_large m e n f k h large fits = rw (scaled-eq m e n f k h) (sym (eq-false (m * 10 ^ k) n (λ e. omega arith)))
+pub scaled-eq-too_large : (m : ℕ) (e : ℤ) (n : ℕ) (f : ℤ) (k : ℕ) → shifted e ≡ shifted f + k → 2 ^ 64 ≤ m * 10 ^ k
+    → n < 2 ^ 64 → false ≡ (scaled m e == scaled n f)
+scaled-eq-too_large m e n f k h large fits = rw (scaled-eq m e n f k h)
+    (sym (eq-false (m * 10 ^ k) n (λ e. omega arith)))
 
 pub ruleset same_rules = (scaled-eq-fits, scaled-eq-too_large)
 
@@ -36,7 +41,8 @@ shifted-up (negsuc (suc n)) fits negative =
 regroup : (q m t : ℕ) → q * 10 ≡ m → q * (t * 10) ≡ m * t
 regroup q m t e = rw (← e) (omega arith)
 
-pub scaled-strip : (m : ℕ) (e : ℤ) → FitsSigned w16 e → e <ℤ pos 0 → m % 10 ≡ 0 → scaled (m / 10) (e +ℤ pos 1) ≡ scaled m e
+pub scaled-strip : (m : ℕ) (e : ℤ) → FitsSigned w16 e → e <ℤ pos 0 → m % 10 ≡ 0
+    → scaled (m / 10) (e +ℤ pos 1) ≡ scaled m e
 unfolding scaled
 scaled-strip m e fits negative h =
     let up : shifted (e +ℤ pos 1) ≡ shifted e + 1 = shifted-up e fits negative in
@@ -53,7 +59,8 @@ pub over-zero : (m i p : ℕ) → m / 10 ^ i ≡ 0 → i ≤ p → 0 ≡ m / 10 
 over-zero m i p e h =
     let split : p ≡ i + (p - i) = omega arith in
     let more : m / 10 ^ i / 10 ^ (p - i) ≡ m / 10 ^ p =
-    div-div-eq-div-mul m (10 ^ i) (10 ^ (p - i)) ∙ ap (λ t. m / t) (sym (pow-add 10 i (p - i)) ∙ ap (λ j. 10 ^ j) (sym split)) in
+    div-div-eq-div-mul m (10 ^ i) (10 ^ (p - i)) ∙ ap (λ t. m / t)
+    (sym (pow-add 10 i (p - i)) ∙ ap (λ j. 10 ^ j) (sym split)) in
     sym (zero-div (10 ^ (p - i))) ∙ ap (λ x. x / 10 ^ (p - i)) (sym e) ∙ more
 
 pub ruleset over_rules = (over-ten, over-zero)

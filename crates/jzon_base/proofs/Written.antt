@@ -6,7 +6,8 @@ use Rattle.std.proofs.Math.Seq.{take-add}
 use Rattle.std.proofs.lemmas.List.{take_all, length-drop}
 
 -- a write of n of the bytes after the first i, where those stand already
-pub Appends-more : (a b c : Option (List ℕ)) (bs : List ℕ) (i n : ℕ) → Appends a b (take i bs) → Appends b c (take n (take (length bs - i) (drop i bs))) → Appends a c (take (i + n) bs)
+pub Appends-more : (a b c : Option (List ℕ)) (bs : List ℕ) (i n : ℕ) → Appends a b (take i bs)
+    → Appends b c (take n (take (length bs - i) (drop i bs))) → Appends a c (take (i + n) bs)
 Appends-more a b c bs i n p q =
     let rest : take (length bs - i) (drop i bs) ≡ drop i bs = take_all _ _ (omega (arith, length-drop i bs)) in
     rw take-add (Appends-trans a b c _ _ p (rw rest at q))

@@ -9,7 +9,8 @@ none_at : {A : Type 0} {x : A} (i : ℕ) → slice_get [] i ≡ Some x → ⊥
 none_at i e = cc
 
 module _ {V : Type 0} where
-  pub slice_get-zip : (ks : List (List ℕ)) (vs : List V) (i : ℕ) (k : List ℕ) (v : V) → slice_get ks i ≡ Some k → slice_get vs i ≡ Some v → slice_get (zip ks vs) i ≡ Some (k, v)
+  pub slice_get-zip : (ks : List (List ℕ)) (vs : List V) (i : ℕ) (k : List ℕ) (v : V) → slice_get ks i ≡ Some k
+      → slice_get vs i ≡ Some v → slice_get (zip ks vs) i ≡ Some (k, v)
   slice_get-zip [] vs i k v a b = absurd (none_at i a)
   slice_get-zip (x ∷ ks) [] i k v a b = absurd (none_at i b)
   slice_get-zip (x ∷ ks) (y ∷ vs) zero k v a b = cc
@@ -26,17 +27,20 @@ module _ {V : Type 0} where
   values_of-zip (k ∷ ks) [] e = absurd (omega arith)
   values_of-zip (k ∷ ks) (v ∷ vs) e = ap (λ l. v ∷ l) (values_of-zip ks vs (omega arith))
 
-  pub zip-push : (ks : List (List ℕ)) (vs : List V) (k : List ℕ) (v : V) → length vs ≡ length ks → zip (ks ++ k ∷ []) (vs ++ v ∷ []) ≡ zip ks vs ++ (k, v) ∷ []
+  pub zip-push : (ks : List (List ℕ)) (vs : List V) (k : List ℕ) (v : V) → length vs ≡ length ks
+      → zip (ks ++ k ∷ []) (vs ++ v ∷ []) ≡ zip ks vs ++ (k, v) ∷ []
   zip-push [] [] k v e = refl
   zip-push [] (w ∷ vs) k v e = absurd (omega arith)
   zip-push (l ∷ ks) [] k v e = absurd (omega arith)
   zip-push (l ∷ ks) (w ∷ vs) k v e = ap (λ r. (l, w) ∷ r) (zip-push ks vs k v (omega arith))
 
   -- the ends of keys and of as many values
-  pub length-last : (ks ls : List (List ℕ)) (vs ws : List V) (k : List ℕ) (v : V) → ks ≡ ls ++ k ∷ [] → vs ≡ ws ++ v ∷ [] → length vs ≡ length ks → length ws ≡ length ls
+  pub length-last : (ks ls : List (List ℕ)) (vs ws : List V) (k : List ℕ) (v : V) → ks ≡ ls ++ k ∷ []
+      → vs ≡ ws ++ v ∷ [] → length vs ≡ length ks → length ws ≡ length ls
   length-last ks ls vs ws k v e f n = omega (arith, ap length e, ap length f, length_push ls k, length_push ws v)
 
-  pub zip-last : (ks ls : List (List ℕ)) (vs ws : List V) (k : List ℕ) (v : V) → ks ≡ ls ++ k ∷ [] → vs ≡ ws ++ v ∷ [] → length vs ≡ length ks → zip ks vs ≡ zip ls ws ++ (k, v) ∷ []
+  pub zip-last : (ks ls : List (List ℕ)) (vs ws : List V) (k : List ℕ) (v : V) → ks ≡ ls ++ k ∷ [] → vs ≡ ws ++ v ∷ []
+      → length vs ≡ length ks → zip ks vs ≡ zip ls ws ++ (k, v) ∷ []
   zip-last ks ls vs ws k v e f n = (λ i. zip (e i) (f i)) ∙ zip-push ls ws k v (length-last ks ls vs ws k v e f n)
 
   pub zip-set : (ks : List (List ℕ)) (vs : List V) (i : ℕ) (v : V) → zip ks (set vs i v) ≡ set_value (zip ks vs) i v
@@ -45,7 +49,8 @@ module _ {V : Type 0} where
   zip-set (k ∷ ks) (w ∷ vs) zero v = refl
   zip-set (k ∷ ks) (w ∷ vs) (suc i) v = ap (λ r. (k, w) ∷ r) (zip-set ks vs i v)
 
-  pub zip-remove : (ks : List (List ℕ)) (vs : List V) (i : ℕ) → length vs ≡ length ks → zip (remove ks i) (remove vs i) ≡ remove (zip ks vs) i
+  pub zip-remove : (ks : List (List ℕ)) (vs : List V) (i : ℕ) → length vs ≡ length ks
+      → zip (remove ks i) (remove vs i) ≡ remove (zip ks vs) i
   zip-remove [] [] zero e = refl
   zip-remove [] [] (suc i) e = refl
   zip-remove [] (v ∷ vs) i e = absurd (omega arith)
@@ -64,7 +69,14 @@ module _ {V : Type 0} where
     pub keys_length : length ks ≡ length ps
     pub values_length : length vs ≡ length ps
 
-  pub AreParts-zip : (ks : List (List ℕ)) (vs : List V) (ps : List (List ℕ × V)) → zip ks vs ≡ ps → length vs ≡ length ks → AreParts ks vs ps
+  pub AreParts-zip : (ks : List (List ℕ)) (vs : List V) (ps : List (List ℕ × V)) → zip ks vs ≡ ps
+      → length vs ≡ length ks → AreParts ks vs ps
   AreParts-zip ks vs ps e n =
       let l : length ks ≡ length ps = omega (arith, length-zip ks vs, ap length e) in
-      record { keys = sym (keys_of-zip ks vs n) ∙ ap keys_of e; values = sym (values_of-zip ks vs n) ∙ ap values_of e; keys_length = l; values_length = n ∙ l }
+      record {
+        keys = sym (keys_of-zip ks vs n) ∙ ap keys_of e;
+        values = sym (values_of-zip ks vs n)
+            ∙ ap values_of e;
+        keys_length = l;
+        values_length = n ∙ l;
+      }

@@ -1,5 +1,8 @@
--- What a number is: an exact decimal, or not a number (RFC 8259, section 6, leaves range and precision open; docs/RULES.md, "Numbers").
-use Rattle.std.specs.Prelude.{◌≡◌, ◌≢◌, ℕ, ℤ, pos, negsuc, neg_ℤ, suc, ◌+◌, ◌*◌, ◌^◌, ◌-◌, ◌/◌, ◌%◌, ◌≤ℤ◌, ◌<ℤ◌, ◌+ℤ◌, ◌⊎◌, Bool, true, false, not, ◌&&◌, ◌||◌, ◌==◌, if◌then◌else◌, Option, Some, None, Result, IsErr, OkIff, IsNone, SomeIff}
+-- What a number is: an exact decimal, or not a number (RFC 8259, section 6, leaves range and precision open;
+-- docs/RULES.md, "Numbers").
+use Rattle.std.specs.Prelude.{◌≡◌, ◌≢◌, ℕ, ℤ, pos, negsuc, neg_ℤ, suc, ◌+◌, ◌*◌, ◌^◌, ◌-◌, ◌/◌, ◌%◌, ◌≤ℤ◌, ◌<ℤ◌, ◌+ℤ◌}
+use Rattle.std.specs.Prelude.{◌⊎◌, Bool, true, false, not, ◌&&◌, ◌||◌, ◌==◌, if◌then◌else◌, Option, Some, None, Result}
+use Rattle.std.specs.Prelude.{IsErr, OkIff, IsNone, SomeIff}
 use Rattle.std.specs.Ordering.{int_eq}
 use Rattle.std.specs.Bool.{beq}
 
@@ -41,7 +44,8 @@ shifted (negsuc n) = 32767 - n
 unfoldable pub scaled : ℕ → ℤ → ℕ
 scaled m e = m * 10 ^ shifted e
 
--- The same number: NaN is the same as NaN alone, zeros are the same whatever their sign and exponent, and else the signs agree and the exact decimals are equal.
+-- The same number: NaN is the same as NaN alone, zeros are the same whatever their sign and exponent, and else the
+-- signs agree and the exact decimals are equal.
 abbrev pub same : Decimal → Decimal → Bool
 same nan nan = true
 same nan (parts q n f) = false

@@ -1,5 +1,7 @@
--- What the digits of a number in a text mean (RFC 8259, section 6; docs/RULES.md, "Numbers"). A digit is its character, 48 to 57.
-use Rattle.std.specs.Prelude.{ℕ, zero, suc, ℤ, pos, negsuc, ◌+ℤ◌, ◌-ℤ◌, ◌+◌, ◌*◌, ◌^◌, ◌-◌, ◌≤◌, Bool, nat_lt, if◌then◌else◌, List, ◌++◌, length, take}
+-- What the digits of a number in a text mean (RFC 8259, section 6; docs/RULES.md, "Numbers"). A digit is its character,
+-- 48 to 57.
+use Rattle.std.specs.Prelude.{ℕ, zero, suc, ℤ, pos, negsuc, ◌+ℤ◌, ◌-ℤ◌, ◌+◌, ◌*◌, ◌^◌, ◌-◌, ◌≤◌, Bool, nat_lt}
+use Rattle.std.specs.Prelude.{if◌then◌else◌, List, ◌++◌, length, take}
 use Rattle.std.specs.List.{fold}
 use Rattle.std.specs.Int.{int_min, int_max}
 use Rattle.jzon_base.specs.Decimal.{Decimal, parts}
@@ -40,9 +42,11 @@ kept_fraction whole fraction = kept_len (whole ++ fraction) - length whole
 abbrev pub clamp : ℤ → ℤ
 clamp z = int_max (negsuc 32767) (int_min (pos 32767) z)
 
--- The exponent: the dropped digits before the point, less the kept ones after it, and the written exponent, added exactly and clamped once.
+-- The exponent: the dropped digits before the point, less the kept ones after it, and the written exponent, added
+-- exactly and clamped once.
 abbrev pub read_exponent : List ℕ → List ℕ → ℤ → ℤ
-read_exponent whole fraction written = clamp ((pos (dropped whole fraction) -ℤ pos (kept_fraction whole fraction)) +ℤ written)
+read_exponent whole fraction written = clamp ((pos (dropped whole fraction) -ℤ pos (kept_fraction whole fraction)) +ℤ
+    written)
 
 -- the parts of a number in a text: its sign, its digits before and after the point, and its written exponent
 abbrev pub read_number : Bool → List ℕ → List ℕ → ℤ → Decimal

@@ -1,7 +1,9 @@
 -- The words of each error (docs/RULES.md, "Errors").
 use Rattle.std.specs.Prelude.{◌≡◌, ℕ, List, ◌++◌, codes, decimal, encode_utf8, string_bytes}
 use Rattle.jzon_base.specs.declared.error.Error.{Error}
-use Rattle.jzon_base.specs.declared.error.Error.TheVariants.{UnexpectedCharacter, UnexpectedEndOfJson, ExceededDepthLimit, FailedUtf8Parsing, WrongType, OutOfMemory, DuplicateKey}
+use Rattle.jzon_base.specs.declared.error.Error.TheVariants.{UnexpectedCharacter, UnexpectedEndOfJson}
+use Rattle.jzon_base.specs.declared.error.Error.TheVariants.{ExceededDepthLimit, FailedUtf8Parsing, WrongType}
+use Rattle.jzon_base.specs.declared.error.Error.TheVariants.{OutOfMemory, DuplicateKey}
 
 -- a line and a column, both counted from 1
 abbrev pub place_text : ℕ → ℕ → List ℕ
@@ -9,7 +11,8 @@ place_text line column = codes "(" ++ decimal line ++ codes ":" ++ decimal colum
 
 -- what `Display` shows; the character stands as itself, with no escape
 abbrev pub error_text : Error → List ℕ
-error_text (UnexpectedCharacter ch line column) = codes "Unexpected character: " ++ encode_utf8 ch ++ codes " at " ++ place_text line column
+error_text (UnexpectedCharacter ch line column) = codes "Unexpected character: " ++ encode_utf8 ch ++ codes " at " ++
+    place_text line column
 error_text UnexpectedEndOfJson = codes "Unexpected end of JSON"
 error_text ExceededDepthLimit = codes "Exceeded depth limit"
 error_text FailedUtf8Parsing = codes "Failed to parse UTF-8 bytes"

@@ -1,5 +1,6 @@
 -- The text of a number: the table of docs/RULES.md, "Printed numbers". It decides, whatever another printer does.
-use Rattle.std.specs.Prelude.{ℕ, ℤ, pos, negsuc, ◌+◌, ◌-◌, Bool, nat_le, nat_lt, ◌==◌, if◌then◌else◌, List, [], ◌++◌, length, take, drop, replicate, codes, decimal}
+use Rattle.std.specs.Prelude.{ℕ, ℤ, pos, negsuc, ◌+◌, ◌-◌, Bool, nat_le, nat_lt, ◌==◌, if◌then◌else◌, List, [], ◌++◌}
+use Rattle.std.specs.Prelude.{length, take, drop, replicate, codes, decimal}
 use Rattle.jzon_base.specs.Decimal.{Decimal, nan, parts}
 
 -- `-` for a negative sign

@@ -1,4 +1,5 @@
--- A list of pairs of a key and a value, in the order in which they were put (docs/RULES.md, "Objects"). A key is its bytes.
+-- A list of pairs of a key and a value, in the order in which they were put (docs/RULES.md, "Objects"). A key is its
+-- bytes.
 use Rattle.std.specs.Prelude.{ℕ, zero, suc, cond, List, [], ◌∷◌, Option, None, Some, map}
 use Rattle.std.specs.List.{fold}
 use Rattle.std.specs.Str.{bytes_eq}
@@ -19,7 +20,8 @@ abbrev pub put : {V : Type 0} → List ℕ → V → List (List ℕ × V) → Li
 put k v [] = (k, v) ∷ []
 put k v (p ∷ ps) = cond (bytes_eq p.0 k) ((p.0, v) ∷ ps) (p ∷ put k v ps)
 
--- the pairs put one after the other, into an empty list: a repeated key keeps the first one's place and takes the last value
+-- the pairs put one after the other, into an empty list: a repeated key keeps the first one's place and takes the last
+-- value
 abbrev pub put_each : {V : Type 0} → List (List ℕ × V) → List (List ℕ × V)
 put_each ps = fold (λ qs p. put p.0 p.1 qs) [] ps
 

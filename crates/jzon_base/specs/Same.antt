@@ -1,4 +1,5 @@
--- `same` is an equivalence: two decimals are the same just where their keys are equal. (These are proofs; they stand here since the laws of `PartialEq` and `Eq` cite them.)
+-- `same` is an equivalence: two decimals are the same just where their keys are equal. (These are proofs; they stand
+-- here since the laws of `PartialEq` and `Eq` cite them.)
 use Rattle.std.specs.Prelude.{◌≡◌, ℕ, ℤ, ◌+◌, ◌*◌, ◌<◌, true, false, ◌==◌, ◌&&◌, ◌||◌, if◌then◌else◌, refl}
 use Rattle.std.specs.Cmp.{IsEquivalence, nat_eq_equiv, on_equiv}
 use Rattle.std.proofs.Common.{sym, subst, arith}
@@ -30,16 +31,20 @@ record IsZeroWith (m a : ℕ) : Type 0 where
 scaled_is_zero : (m : ℕ) (e : ℤ) → IsZeroWith m (scaled m e)
 scaled_is_zero m e = record { zero = scaled-zero m e; above = scaled-pos m e }
 
-same-plus-plus : (m n a b : ℕ) → IsZeroWith m a → IsZeroWith n b → (((m == 0) && (n == 0)) || (true && (a == b))) ≡ (1 + 2 * a == 1 + 2 * b)
+same-plus-plus : (m n a b : ℕ) → IsZeroWith m a → IsZeroWith n b
+    → (((m == 0) && (n == 0)) || (true && (a == b))) ≡ (1 + 2 * a == 1 + 2 * b)
 same-plus-plus m n a b p q = grind (arith, nat_tests)
 
-same-plus-minus : (m n a b : ℕ) → IsZeroWith m a → IsZeroWith n b → (((m == 0) && (n == 0)) || (false && (a == b))) ≡ (1 + 2 * a == (if n == 0 then 1 else 2 * b))
+same-plus-minus : (m n a b : ℕ) → IsZeroWith m a → IsZeroWith n b
+    → (((m == 0) && (n == 0)) || (false && (a == b))) ≡ (1 + 2 * a == (if n == 0 then 1 else 2 * b))
 same-plus-minus m n a b p q = grind (arith, nat_tests)
 
-same-minus-plus : (m n a b : ℕ) → IsZeroWith m a → IsZeroWith n b → (((m == 0) && (n == 0)) || (false && (a == b))) ≡ ((if m == 0 then 1 else 2 * a) == 1 + 2 * b)
+same-minus-plus : (m n a b : ℕ) → IsZeroWith m a → IsZeroWith n b
+    → (((m == 0) && (n == 0)) || (false && (a == b))) ≡ ((if m == 0 then 1 else 2 * a) == 1 + 2 * b)
 same-minus-plus m n a b p q = grind (arith, nat_tests)
 
-same-minus-minus : (m n a b : ℕ) → IsZeroWith m a → IsZeroWith n b → (((m == 0) && (n == 0)) || (true && (a == b))) ≡ ((if m == 0 then 1 else 2 * a) == (if n == 0 then 1 else 2 * b))
+same-minus-minus : (m n a b : ℕ) → IsZeroWith m a → IsZeroWith n b
+    → (((m == 0) && (n == 0)) || (true && (a == b))) ≡ ((if m == 0 then 1 else 2 * a) == (if n == 0 then 1 else 2 * b))
 same-minus-minus m n a b p q = grind (arith, nat_tests)
 
 same-nan-minus : (m a : ℕ) → IsZeroWith m a → false ≡ (0 == (if m == 0 then 1 else 2 * a))
@@ -54,10 +59,14 @@ same-key nan (parts true n f) = grind (arith, nat_tests)
 same-key nan (parts false n f) = same-nan-minus n (scaled n f) (scaled_is_zero n f)
 same-key (parts true m e) nan = grind (arith, nat_tests)
 same-key (parts false m e) nan = same-minus-nan m (scaled m e) (scaled_is_zero m e)
-same-key (parts true m e) (parts true n f) = same-plus-plus m n (scaled m e) (scaled n f) (scaled_is_zero m e) (scaled_is_zero n f)
-same-key (parts true m e) (parts false n f) = same-plus-minus m n (scaled m e) (scaled n f) (scaled_is_zero m e) (scaled_is_zero n f)
-same-key (parts false m e) (parts true n f) = same-minus-plus m n (scaled m e) (scaled n f) (scaled_is_zero m e) (scaled_is_zero n f)
-same-key (parts false m e) (parts false n f) = same-minus-minus m n (scaled m e) (scaled n f) (scaled_is_zero m e) (scaled_is_zero n f)
+same-key (parts true m e) (parts true n f) = same-plus-plus m n (scaled m e) (scaled n f) (scaled_is_zero m e)
+    (scaled_is_zero n f)
+same-key (parts true m e) (parts false n f) = same-plus-minus m n (scaled m e) (scaled n f) (scaled_is_zero m e)
+    (scaled_is_zero n f)
+same-key (parts false m e) (parts true n f) = same-minus-plus m n (scaled m e) (scaled n f) (scaled_is_zero m e)
+    (scaled_is_zero n f)
+same-key (parts false m e) (parts false n f) = same-minus-minus m n (scaled m e) (scaled n f) (scaled_is_zero m e)
+    (scaled_is_zero n f)
 
 pub same_equiv : IsEquivalence same
 same_equiv = subst IsEquivalence (λ i x y. sym (same-key x y) i) (on_equiv key nat_eq_equiv)

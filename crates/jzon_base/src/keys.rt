@@ -1,5 +1,6 @@
 //! The keys of an object in the order in which they were put, and the place of each.
-ghost use Rattle.std.specs.Prelude.{◌≡◌, ◌<◌, ◌++◌, ◌∷◌, ◌==◌, [], length, remove, slice_get, IfOk, OnOk, OnErr, MatchOption, None, Some, false, true};
+ghost use Rattle.std.specs.Prelude.{◌≡◌, ◌<◌, ◌++◌, ◌∷◌, ◌==◌, [], length, remove, slice_get, IfOk, OnOk, OnErr};
+ghost use Rattle.std.specs.Prelude.{MatchOption, None, Some, false, true};
 ghost use Rattle.std.specs.List.{position, zip, IsDistinct};
 ghost use Rattle.std.specs.Str.{bytes_eq};
 ghost use Rattle.jzon_base.specs.PairList.{put_each};

@@ -1,7 +1,8 @@
 //! Numbers: exact decimals, and what is not a number (docs/RULES.md, "Numbers").
 
 ghost use Rattle.std.specs.Prelude.{◌≡◌, ◌+◌, ◌*◌, ◌^◌, ◌<◌, ◌≤◌, ◌≤ℤ◌, ◌==◌, ◌||◌, MatchOption};
-ghost use Rattle.jzon_base.specs.Decimal.{nan, parts, parts_of, is_nan, is_zero, is_positive, negated, same, shifted, scaled, StripsTo};
+ghost use Rattle.jzon_base.specs.Decimal.{nan, parts, parts_of, is_nan, is_zero, is_positive, negated, same, shifted};
+ghost use Rattle.jzon_base.specs.Decimal.{scaled, StripsTo};
 
 mod fixed_point;
 mod from_integer;

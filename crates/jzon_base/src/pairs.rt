@@ -1,5 +1,6 @@
 //! Keys and values side by side.
-ghost use Rattle.std.specs.Prelude.{◌≡◌, ◌<◌, ◌-◌, ◌++◌, ◌∷◌, ◌==◌, [], length, remove, slice_get, OnOk, OnErr, IfOk, IsSome, Some, None};
+ghost use Rattle.std.specs.Prelude.{◌≡◌, ◌<◌, ◌-◌, ◌++◌, ◌∷◌, ◌==◌, [], length, remove, slice_get, OnOk, OnErr, IfOk};
+ghost use Rattle.std.specs.Prelude.{IsSome, Some, None};
 ghost use Rattle.std.specs.List.{position, zip, IsDistinct};
 ghost use Rattle.std.specs.Str.{bytes_eq};
 ghost use Rattle.std.specs.Option.{option_copied, option_copied_mut};
@@ -140,7 +141,8 @@ impl<V> Pairs<V> {
     /// The value of a key, to be written: nothing else changes.
     #[tactic(auto, using(crate::proofs::PairPlaces::places))]
     pub fn get_mut(&mut self, name: &str) -> Option<&mut V>
-        ensures* writes_back { sem 𝓛 (LendsIf (the_row V.row) V.row self.entry result (λ w. put name.now w self.old) self.old) }
+        ensures* writes_back { sem 𝓛 (LendsIf (the_row V.row) V.row self.entry result (λ w. put name.now w self.old)
+            self.old) }
         ensures value { option_copied_mut result ≡ find name.now self.old }
     {
         match self.position(name) {
@@ -219,7 +221,8 @@ impl<V> Pairs<V> {
     pub fn at_mut(&mut self, alloc: Global, name: &str, value: V) -> Result<&mut V, AllocError>
     where
         V: Drop,
-        ensures* writes_back { sem 𝓛 (LendsIfOk (the_row V.row) V.row self.entry result (λ w. put name.now w self.old) self.old) }
+        ensures* writes_back { sem 𝓛 (LendsIfOk (the_row V.row) V.row self.entry result (λ w. put name.now w self.old)
+            self.old) }
         ensures value { IfOk result (λ x. Some x.now ≡ find name.now (with_default name.now value self.old)) }
         ensures present { OnErr result (find name.now self.old ≡ None) }
     {

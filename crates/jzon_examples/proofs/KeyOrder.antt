@@ -1,5 +1,6 @@
 -- Positions that were sorted by the keys at them.
-use Rattle.std.proofs.Common.{Ordering, ◌≡◌, ℕ, zero, suc, ◌+◌, ◌<◌, false, IsTrue, List, [], ◌∷◌, ◌++◌, append-nil, length, get_or, map, Bor, Some, refl, sym, ap, ◌∙◌, subst, arith}
+use Rattle.std.proofs.Common.{Ordering, ◌≡◌, ℕ, zero, suc, ◌+◌, ◌<◌, false, IsTrue, List, [], ◌∷◌, ◌++◌, append-nil}
+use Rattle.std.proofs.Common.{length, get_or, map, Bor, Some, refl, sym, ap, ◌∙◌, subst, arith}
 use Rattle.std.proofs.lemmas.List.{length-map}
 use Rattle.std.proofs.lemmas.Option.{slice_get-get_or}
 use Rattle.std.specs.Prelude.{slice_get}
@@ -16,7 +17,8 @@ use Rattle.jzon.proofs.Sorted.{ascend_in_order}
 abbrev pub texts_of : List (Bor (List ℕ)) → List (List ℕ)
 texts_of = map (λ key. key.now)
 
-text_of : (keys : List (Bor (List ℕ))) (p : ℕ) (d : Bor (List ℕ)) → p < length keys → (get_or keys p d).now ≡ text_at (texts_of keys) p
+text_of : (keys : List (Bor (List ℕ))) (p : ℕ) (d : Bor (List ℕ)) → p < length keys
+    → (get_or keys p d).now ≡ text_at (texts_of keys) p
 text_of [] p d h = absurd (omega arith)
 text_of (k ∷ ks) zero d h = refl
 text_of (k ∷ ks) (suc p) d h = text_of ks p d (omega arith)
@@ -29,15 +31,18 @@ key_at (k ∷ ks) p h = (get_or (k ∷ ks) p k, slice_get-get_or (k ∷ ks) p k 
 abbrev by_text : Bor (List ℕ) → Bor (List ℕ) → Ordering
 by_text a b = slice_cmp nat_cmp a.now b.now
 
-module _ (keys : List (Bor (List ℕ))) (ps : List ℕ) (order : IsOrder (length keys) ps) (sorted : IsSortedByKey (slice_get keys) (option_cmp by_text) ps) where
-  step : (p q : ℕ) (k : ℕ) → k + 1 < length ps → get_or ps k 0 ≡ p → get_or ps (k + 1) 0 ≡ q → p < length (texts_of keys)
+module _ (keys : List (Bor (List ℕ))) (ps : List ℕ) (order : IsOrder (length keys) ps)
+    (sorted : IsSortedByKey (slice_get keys) (option_cmp by_text) ps) where
+  step : (p q : ℕ) (k : ℕ) → k + 1 < length ps → get_or ps k 0 ≡ p → get_or ps (k + 1) 0 ≡ q
+      → p < length (texts_of keys)
       → q < length (texts_of keys) → is_before (text_at (texts_of keys) q) (text_at (texts_of keys) p) ≡ false
   step p q k h e f l m =
       let a = key_at keys p (omega (arith, l, length-map keys (λ key. key.now))) in
       let b = key_at keys q (omega (arith, m, length-map keys (λ key. key.now))) in
       let here : is_lt (option_cmp by_text (slice_get keys q) (slice_get keys p)) ≡ false =
       subst (λ (x : ℕ). is_lt (option_cmp by_text (slice_get keys x) (slice_get keys p)) ≡ false) f
-      (subst (λ (x : ℕ). is_lt (option_cmp by_text (slice_get keys (get_or ps (k + 1) 0)) (slice_get keys x)) ≡ false) e (sorted k 0 (omega arith) h))
+      (subst (λ (x : ℕ). is_lt (option_cmp by_text (slice_get keys (get_or ps (k + 1) 0)) (slice_get keys x)) ≡ false) e
+      (sorted k 0 (omega arith) h))
       in
       (λ i. is_before (sym b.2 i) (sym a.2 i)) ∙ (λ i. is_lt (option_cmp by_text (sym b.1 i) (sym a.1 i))) ∙ here
 
@@ -50,8 +55,10 @@ texts_append : (keys : List (Bor (List ℕ))) (key : Bor (List ℕ)) (more : Lis
 texts_append [] key more = refl
 texts_append (k ∷ ks) key more = ap (λ (ts : List (List ℕ)). k.now ∷ ts) (texts_append ks key more)
 
-module _ {V : Type 0} (keys : List (Bor (List ℕ))) (rest : List (List ℕ × V)) (all : List (List ℕ)) (h : texts_of keys ++ keys_of rest ≡ all) where
-  pub key_taken : (more : List (Bor (List ℕ))) (key : Bor (List ℕ)) (next : List (List ℕ × V)) (v : V) → more ≡ keys ++ key ∷ []
+module _ {V : Type 0} (keys : List (Bor (List ℕ))) (rest : List (List ℕ × V)) (all : List (List ℕ))
+    (h : texts_of keys ++ keys_of rest ≡ all) where
+  pub key_taken : (more : List (Bor (List ℕ))) (key : Bor (List ℕ)) (next : List (List ℕ × V)) (v : V)
+      → more ≡ keys ++ key ∷ []
       → rest ≡ (key.now, v) ∷ next → texts_of more ++ keys_of next ≡ all
   key_taken more key next v e f =
       ap (λ (ks : List (Bor (List ℕ))). texts_of ks ++ keys_of next) e ∙ texts_append keys key (keys_of next)

@@ -60,7 +60,13 @@ impl Generator for CanonicalGenerator {
 
     type T = Vec<u8>;
 
-    ghost meaning = { λ g. record { out = Some g.code.items; dent = g.dent; faults = g.faults; style = sorted_style; lender = None } };
+    ghost meaning = { λ g. record {
+      out = Some g.code.items;
+      dent = g.dent;
+      faults = g.faults;
+      style = sorted_style;
+      lender = None;
+    } };
 
     ghost with_writer = { λ g code. record g { code = code } };
 

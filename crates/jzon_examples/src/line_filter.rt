@@ -20,7 +20,8 @@ pub fn compacted(alloc: Global, text: &str) -> Result<String>
 
 // Adds the text of one line.
 fn add_line(alloc: Global, line: &str, printed: &mut String) -> Result<()>
-    ensures { OnOk result ((bytes : List ℕ) × IsPrinted line.now bytes × (string_bytes printed.new ≡ string_bytes printed.old ++ bytes)) }
+    ensures { OnOk result ((bytes : List ℕ) × IsPrinted line.now bytes
+        × (string_bytes printed.new ≡ string_bytes printed.old ++ bytes)) }
 {
     let text = jzon::parse(alloc, line)?.dump(alloc)?;
     printed.push_str(text.as_str())?;

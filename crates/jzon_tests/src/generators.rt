@@ -22,7 +22,14 @@ struct TabGenerator {
 impl Generator for TabGenerator {
     type T = Vec<u8>;
 
-    ghost meaning = { λ g. record { out = Some g.code.items; dent = g.dent; faults = g.faults; style = only (λ dent. 11 ∷ []) false; lender = None } };
+    ghost meaning = { λ g. record {
+      out = Some g.code.items;
+      dent = g.dent;
+      faults = g.faults;
+      style = only
+          (λ dent. 11 ∷ []) false;
+      lender = None;
+    } };
 
     ghost with_writer = { λ g code. record g { code = code } };
 

@@ -1,5 +1,6 @@
 -- The loops that compare two arrays and two objects.
-use Rattle.std.proofs.Common.{◌≡◌, ◌⊎◌, ℕ, suc, ◌≤◌, Bool, true, false, List, [], ◌∷◌, length, cond, Option, Some, None, option_map, is_some, refl, sym, ap, ◌∙◌, subst, inl, inr, arith}
+use Rattle.std.proofs.Common.{◌≡◌, ◌⊎◌, ℕ, suc, ◌≤◌, Bool, true, false, List, [], ◌∷◌, length, cond, Option, Some, None}
+use Rattle.std.proofs.Common.{option_map, is_some, refl, sym, ap, ◌∙◌, subst, inl, inr, arith}
 use denote.Param.Weighed.{most}
 use Rattle.std.specs.List.{IsDistinct}
 use Rattle.std.specs.Str.{bytes_eq}
@@ -24,7 +25,8 @@ pub record ComparedItems (items others vs ws : List JsonValue) : Type 0 where
   pub as_many : length vs ≡ length ws
   pub no_larger : most size-JsonValue vs ≤ most size-JsonValue items
 
-pub lengths_differ : (vs ws : List JsonValue) → (length vs ≡ length ws → ⊥) → same_items (view_values vs) (view_values ws) ≡ false
+pub lengths_differ : (vs ws : List JsonValue) → (length vs ≡ length ws → ⊥)
+    → same_items (view_values vs) (view_values ws) ≡ false
 lengths_differ [] [] h = absurd (h refl)
 lengths_differ [] (w ∷ ws) h = refl
 lengths_differ (v ∷ vs) [] h = refl
@@ -35,7 +37,8 @@ lengths_differ (v ∷ vs) (w ∷ ws) h = and_right _ _ (lengths_differ vs ws (λ
 -- The pairs rest of an object are left, and all before them are in the other.
 pub record ComparedPairs (ps qs rest : List (List ℕ × JsonValue)) : Type 0 where
   pub inside : (k : List ℕ) (v : JsonValue) → find k rest ≡ Some v → find k ps ≡ Some v
-  pub agreed : (k : List ℕ) (v : JsonValue) → find k ps ≡ Some v → (find k rest ≡ Some v) ⊎ (passes (same (view v)) (option_map view (find k qs)) ≡ true)
+  pub agreed : (k : List ℕ) (v : JsonValue) → find k ps ≡ Some v → (find k rest ≡ Some v)
+      ⊎ (passes (same (view v)) (option_map view (find k qs)) ≡ true)
   pub distinct : IsDistinct bytes_eq (keys_of rest)
   pub no_larger : most size-JsonValue (values_of rest) ≤ most size-JsonValue (values_of ps)
 
@@ -45,11 +48,13 @@ same_pairs ps qs = same (object (view_pairs ps)) (object (view_pairs qs))
 find-here : (k : List ℕ) (v : JsonValue) (ps : List (List ℕ × JsonValue)) → find k ((k, v) ∷ ps) ≡ Some v
 find-here k v ps = rw ((bytes_eq-Decides k k).1 refl) refl
 
-find-past : (k l : List ℕ) (v : JsonValue) (ps : List (List ℕ × JsonValue)) → bytes_eq k l ≡ false → find l ((k, v) ∷ ps) ≡ find l ps
+find-past : (k l : List ℕ) (v : JsonValue) (ps : List (List ℕ × JsonValue)) → bytes_eq k l ≡ false
+    → find l ((k, v) ∷ ps) ≡ find l ps
 find-past k l v ps e = rw e refl
 
 -- the two look-ups of a key, in two objects that are the same
-looked_up : (ps qs : List (List ℕ × JsonValue)) → same_pairs ps qs ≡ true → (k : List ℕ) → same_at (option_map view (find k ps)) (option_map view (find k qs)) ≡ true
+looked_up : (ps qs : List (List ℕ × JsonValue)) → same_pairs ps qs ≡ true → (k : List ℕ)
+    → same_at (option_map view (find k ps)) (option_map view (find k qs)) ≡ true
 looked_up ps qs h k = rw (view-find k ps, view-find k qs) (object-elim (view_pairs ps) (view_pairs qs) h k)
 
 same_at-some : (o p : Option JsonValue) → same_at (option_map view o) (option_map view p) ≡ true → is_some o ≡ is_some p
@@ -58,62 +63,81 @@ same_at-some None (Some w) h = absurd (false≢true h)
 same_at-some (Some v) None h = absurd (false≢true h)
 same_at-some (Some v) (Some w) h = refl
 
-same_keys : (ps qs : List (List ℕ × JsonValue)) → same_pairs ps qs ≡ true → (k : List ℕ) → is_some (find k ps) ≡ is_some (find k qs)
+same_keys : (ps qs : List (List ℕ × JsonValue)) → same_pairs ps qs ≡ true → (k : List ℕ)
+    → is_some (find k ps) ≡ is_some (find k qs)
 same_keys ps qs h k = same_at-some (find k ps) (find k qs) (looked_up ps qs h k)
 
-pub counts_differ : (ps qs : List (List ℕ × JsonValue)) → IsDistinct bytes_eq (keys_of ps) → IsDistinct bytes_eq (keys_of qs) → (length ps ≡ length qs → ⊥) → same_pairs ps qs ≡ false
+pub counts_differ : (ps qs : List (List ℕ × JsonValue)) → IsDistinct bytes_eq (keys_of ps)
+    → IsDistinct bytes_eq (keys_of qs) → (length ps ≡ length qs → ⊥) → same_pairs ps qs ≡ false
 counts_differ ps qs d e h = false_from_ne_true (same_pairs ps qs) (λ s. h (omega (
   arith,
   length-within ps qs d (λ k there. sym (same_keys ps qs s k) ∙ there),
   length-within qs ps e (λ k there. same_keys ps qs s k ∙ there),
 )))
 
-pub value_differs : (ps qs rest left : List (List ℕ × JsonValue)) (k : List ℕ) (v : JsonValue) → ComparedPairs ps qs rest → rest ≡ (k, v) ∷ left → passes (same (view v)) (option_map view (find k qs)) ≡ false → same_pairs ps qs ≡ false
+pub value_differs : (ps qs rest left : List (List ℕ × JsonValue)) (k : List ℕ) (v : JsonValue)
+    → ComparedPairs ps qs rest → rest ≡ (k, v) ∷ left → passes (same (view v)) (option_map view (find k qs)) ≡ false
+    → same_pairs ps qs ≡ false
 value_differs ps qs rest left k v c e h =
     let here : find k ps ≡ Some v = c.inside k v (ap (find k) e ∙ find-here k v left) in
     false_from_ne_true (same_pairs ps qs) (λ s. false≢true (sym h ∙ (rw here at (looked_up ps qs s k))))
 
-passed_at : (k l : List ℕ) (b : Bool) (v w : JsonValue) (qs : List (List ℕ × JsonValue)) (found : Option JsonValue) → bytes_eq k l ≡ b → passes (same (view v)) (option_map view (find k qs)) ≡ true
+passed_at : (k l : List ℕ) (b : Bool) (v w : JsonValue) (qs : List (List ℕ × JsonValue)) (found : Option JsonValue)
+    → bytes_eq k l ≡ b → passes (same (view v)) (option_map view (find k qs)) ≡ true
     → cond b (Some v) found ≡ Some w → (found ≡ Some w) ⊎ (passes (same (view w)) (option_map view (find l qs)) ≡ true)
 passed_at k l true v w qs found e h f =
-    let there = subst (λ (q : List ℕ). passes (same (view v)) (option_map view (find q qs)) ≡ true) ((bytes_eq-Decides k l).0 e) h in
+    let there = subst (λ (q : List ℕ). passes (same (view v)) (option_map view (find q qs)) ≡ true)
+    ((bytes_eq-Decides k l).0 e) h in
     inr (subst (λ (x : JsonValue). passes (same (view x)) (option_map view (find l qs)) ≡ true) (same_Some v w f) there)
 passed_at k l false v w qs found e h f = inl f
 
 -- one pair further
-pub compared_next : (ps qs rest left : List (List ℕ × JsonValue)) (k : List ℕ) (v : JsonValue) → ComparedPairs ps qs rest → rest ≡ (k, v) ∷ left → passes (same (view v)) (option_map view (find k qs)) ≡ true → ComparedPairs ps qs left
+pub compared_next : (ps qs rest left : List (List ℕ × JsonValue)) (k : List ℕ) (v : JsonValue)
+    → ComparedPairs ps qs rest → rest ≡ (k, v) ∷ left → passes (same (view v)) (option_map view (find k qs)) ≡ true
+    → ComparedPairs ps qs left
 compared_next ps qs rest left k v c e h =
-    let keys : IsDistinct bytes_eq (keys_of ((k, v) ∷ left)) = subst (λ (xs : List (List ℕ × JsonValue)). IsDistinct bytes_eq (keys_of xs)) e c.distinct in
+    let keys : IsDistinct bytes_eq (keys_of ((k, v) ∷ left)) = subst
+    (λ (xs : List (List ℕ × JsonValue)). IsDistinct bytes_eq (keys_of xs)) e c.distinct in
     record {
       inside = λ l w f.
           let apart = found_apart k l left (IsDistinct-head bytes_eq k (keys_of left) keys) (ap is_some f) in
           c.inside l w (ap (find l) e ∙ find-past k l v left apart ∙ f);
-      agreed = λ l w f. elim (c.agreed l w f) [ inl g ↦ passed_at k l (bytes_eq k l) v w qs (find l left) refl h (sym (ap (find l) e) ∙ g) | inr g ↦ inr g ];
+      agreed = λ l w f. elim (c.agreed l w f) [
+        | inl g ↦ passed_at k l (bytes_eq k l) v w qs (find l left) refl h
+            (sym (ap (find l) e) ∙ g)
+        | inr g ↦ inr g
+      ];
       distinct = IsDistinct-tail bytes_eq k (keys_of left) keys;
       no_larger = omega (arith, c.no_larger, most-rest rest left (k, v) e);
     }
 
 -- ---- all pairs compared
-none_more_at : (k : List ℕ) (ps qs : List (List ℕ × JsonValue)) (o p : Option JsonValue) → find k ps ≡ o → find k qs ≡ p → (o ≡ None → (w : JsonValue) → p ≡ Some w → ⊥) → ((v : JsonValue) → o ≡ Some v → passes (same (view v)) (option_map view p) ≡ true)
+none_more_at : (k : List ℕ) (ps qs : List (List ℕ × JsonValue)) (o p : Option JsonValue) → find k ps ≡ o → find k qs ≡ p
+    → (o ≡ None → (w : JsonValue) → p ≡ Some w → ⊥) → ((v : JsonValue) → o ≡ Some v
+    → passes (same (view v)) (option_map view p) ≡ true)
     → same_at (option_map view o) (option_map view p) ≡ true
 none_more_at k ps qs None None e f none some = refl
 none_more_at k ps qs None (Some w) e f none some = absurd (none refl w refl)
 none_more_at k ps qs (Some v) p e f none some = some v refl
 
-found_passed : (ps qs : List (List ℕ × JsonValue)) → ComparedPairs ps qs [] → (k : List ℕ) (v : JsonValue) → find k ps ≡ Some v → passes (same (view v)) (option_map view (find k qs)) ≡ true
+found_passed : (ps qs : List (List ℕ × JsonValue)) → ComparedPairs ps qs [] → (k : List ℕ) (v : JsonValue)
+    → find k ps ≡ Some v → passes (same (view v)) (option_map view (find k qs)) ≡ true
 found_passed ps qs c k v e = elim (c.agreed k v e) [ inl g ↦ absurd (none-some v g) | inr g ↦ g ]
 
 passes_some : (test : Value → Bool) (o : Option JsonValue) → passes test (option_map view o) ≡ true → is_some o ≡ true
 passes_some test None h = absurd (false≢true h)
 passes_some test (Some v) h = refl
 
-within_at : (ps qs : List (List ℕ × JsonValue)) → ComparedPairs ps qs [] → (k : List ℕ) (o : Option JsonValue) → find k ps ≡ o → is_some o ≡ true → is_some (find k qs) ≡ true
+within_at : (ps qs : List (List ℕ × JsonValue)) → ComparedPairs ps qs [] → (k : List ℕ) (o : Option JsonValue)
+    → find k ps ≡ o → is_some o ≡ true → is_some (find k qs) ≡ true
 within_at ps qs c k None e h = absurd (false≢true h)
 within_at ps qs c k (Some v) e h = passes_some (same (view v)) (find k qs) (found_passed ps qs c k v e)
 
-pub all_compared : (ps qs rest : List (List ℕ × JsonValue)) → IsDistinct bytes_eq (keys_of ps) → length ps ≡ length qs → ComparedPairs ps qs rest → rest ≡ [] → same_pairs ps qs ≡ true
+pub all_compared : (ps qs rest : List (List ℕ × JsonValue)) → IsDistinct bytes_eq (keys_of ps) → length ps ≡ length qs
+    → ComparedPairs ps qs rest → rest ≡ [] → same_pairs ps qs ≡ true
 all_compared ps qs rest d e compared none =
     let c : ComparedPairs ps qs [] = subst (ComparedPairs ps qs) none compared in
     let within : IsWithin ps qs = λ k h. within_at ps qs c k (find k ps) refl h in
     object-intro (view_pairs ps) (view_pairs qs) (λ k. rw (← view-find k ps, ← view-find k qs)
-    (none_more_at k ps qs (find k ps) (find k qs) refl refl (λ n w f. none_more k w ps qs d within e n f) (λ v f. found_passed ps qs c k v f)))
+    (none_more_at k ps qs (find k ps) (find k qs) refl refl (λ n w f. none_more k w ps qs d within e n f)
+    (λ v f. found_passed ps qs c k v f)))

@@ -23,12 +23,19 @@ module _ (line : ℕ → List ℕ) (wide : Bool) (lines : (depth : ℕ) → AreS
   abbrev layout : Layout
   layout = record { line = line; colon = colon_text wide }
 
-  pub printed : (v : Value) (old new : Emitted) (bytes : List ℕ) → old ≡ fresh (Some []) (only line wide) None → IsValue v → Added (Writes old.style old.dent v) old new → new.out ≡ Some bytes
+  pub printed : (v : Value) (old new : Emitted) (bytes : List ℕ) → old ≡ fresh (Some []) (only line wide) None
+      → IsValue v → Added (Writes old.style old.dent v) old new → new.out ≡ Some bytes
       → IsPrinted (layout_text layout 0 v) (only line wide) v bytes
   printed v old new bytes e h a k =
-      let added : Adds (Writes (only line wide) 0 v) (Some []) (Some bytes) = subst (Adds (Writes (only line wide) 0 v) (Some [])) k (subst (λ o. Adds (Writes o.style o.dent v) o.out new.out) e a.bytes) in
-      let is : bytes ≡ layout_text layout 0 v = added.1 ∙ written line wide 0 v added.0 added.2 in
-      (subst IsUtf8 (sym is) (IsUtf8-text layout lines (colon_small wide) 0 v h), is, subst (Writes (only line wide) 0 v) (sym added.1) added.2)
+      let added : Adds (Writes (only line wide) 0 v) (Some []) (Some bytes) = subst
+      (Adds (Writes (only line wide) 0 v) (Some [])) k (subst (λ o. Adds (Writes o.style o.dent v) o.out new.out) e
+      a.bytes) in
+      let is : bytes ≡ layout_text layout 0 v = added.1 ∙ written line wide 0 v added.0 added.2 in (
+        subst IsUtf8 (sym is) (IsUtf8-text layout lines (colon_small wide) 0 v h),
+        is,
+        subst
+            (Writes (only line wide) 0 v) (sym added.1) added.2,
+      )
 
 -- the compact and the pretty text
 compact_lines : (depth : ℕ) → AreSmall (compact_layout.line depth)
@@ -37,10 +44,13 @@ compact_lines depth = tt
 pretty_lines : (spaces depth : ℕ) → AreSmall ((pretty_layout spaces).line depth)
 pretty_lines spaces depth = (omega arith, small-replicate (depth * spaces) 32 (omega arith))
 
-pub compact_printed : (v : Value) (old new : Emitted) (bytes : List ℕ) → old ≡ fresh (Some []) compact_style None → IsValue v → Added (Writes old.style old.dent v) old new → new.out ≡ Some bytes
+pub compact_printed : (v : Value) (old new : Emitted) (bytes : List ℕ) → old ≡ fresh (Some []) compact_style None
+    → IsValue v → Added (Writes old.style old.dent v) old new → new.out ≡ Some bytes
     → IsPrinted (compact v) compact_style v bytes
 compact_printed = printed compact_layout.line false compact_lines
 
-pub pretty_printed : (spaces : ℕ) (v : Value) (old new : Emitted) (bytes : List ℕ) → old ≡ fresh (Some []) (pretty_style spaces) None → IsValue v → Added (Writes old.style old.dent v) old new → new.out ≡ Some bytes
+pub pretty_printed : (spaces : ℕ) (v : Value) (old new : Emitted) (bytes : List ℕ)
+    → old ≡ fresh (Some []) (pretty_style spaces) None → IsValue v → Added (Writes old.style old.dent v) old new
+    → new.out ≡ Some bytes
     → IsPrinted (pretty v spaces 0) (pretty_style spaces) v bytes
 pretty_printed spaces = printed (pretty_layout spaces).line true (pretty_lines spaces)

@@ -1,5 +1,6 @@
 -- What hooks do, one after another.
-use Rattle.std.proofs.Common.{◌≡◌, ℕ, suc, ◌+◌, ◌-◌, List, [], ◌∷◌, ◌++◌, refl, sym, ap, subst, ◌∙◌, append_assoc, append-nil, add-one, Result, Ok, Err, arith, Option, None, true}
+use Rattle.std.proofs.Common.{◌≡◌, ℕ, suc, ◌+◌, ◌-◌, List, [], ◌∷◌, ◌++◌, refl, sym, ap, subst, ◌∙◌, append_assoc}
+use Rattle.std.proofs.Common.{append-nil, add-one, Result, Ok, Err, arith, Option, None, true}
 use Rattle.std.proofs.lemmas.Bool.{eqb-true, false_from_ne_true}
 use Rattle.std.specs.Prelude.{MatchResult, not, ◌==◌}
 use Rattle.std.specs.Result.{IsErr}
@@ -15,13 +16,15 @@ at_style : (Q : Style → ℕ → List ℕ → Type 0) {s t : Style} {m n : ℕ}
 at_style Q {s} {t} {m} {n} es en x q = subst (λ k. Q t k x) en (subst (λ k. Q k m x) es q)
 
 -- two calls in turn, of which the second writes by the style and the indents that it finds
-module _ (P : List ℕ → Type 0) (Q : Style → ℕ → List ℕ → Type 0) (R : List ℕ → Type 0) (a b c : Emitted) (join : (x y : List ℕ) → P x → Q a.style a.dent y → R (x ++ y)) (h : Added P a b) where
+module _ (P : List ℕ → Type 0) (Q : Style → ℕ → List ℕ → Type 0) (R : List ℕ → Type 0) (a b c : Emitted)
+    (join : (x y : List ℕ) → P x → Q a.style a.dent y → R (x ++ y)) (h : Added P a b) where
   join_begins : (x y : List ℕ) → P x → Begins (Q b.style b.dent) y → Begins R (x ++ y)
   join_begins x y p (z, q) = (z, rw append_assoc (join x (y ++ z) p (at_style Q h.style h.dent (y ++ z) q)))
 
   pub Added-after : Added (Q b.style b.dent) b c → Added R a c
   Added-after k = record {
-    bytes = adds_then P (Q b.style b.dent) R a.out b.out c.out (λ x y p q. join x y p (at_style Q h.style h.dent y q)) h.bytes k.bytes;
+    bytes = adds_then P (Q b.style b.dent) R a.out b.out c.out (λ x y p q. join x y p (at_style Q h.style h.dent y q))
+        h.bytes k.bytes;
     dent = k.dent ∙ h.dent;
     faults = k.faults ∙ h.faults;
     style = k.style ∙ h.style;
@@ -50,7 +53,8 @@ module _ (P : List ℕ → Type 0) (Q : Style → ℕ → List ℕ → Type 0) (
   Emits-after (Ok u) k = Added-after k
   Emits-after (Err e) k = Failed-after k
 
-  pub PrintsIf-after : {E : Type 0} (K : Type 0) (r : Result (Unit {0}) E) → PrintsIf K (Q b.style b.dent) b c r → PrintsIf K R a c r
+  pub PrintsIf-after : {E : Type 0} (K : Type 0) (r : Result (Unit {0}) E) → PrintsIf K (Q b.style b.dent) b c r
+      → PrintsIf K R a c r
   PrintsIf-after K (Ok u) k = Added-after k
   PrintsIf-after K (Err e) k = λ keyed. Stopped-after (k keyed)
 
@@ -60,106 +64,179 @@ module _ (P R : List ℕ → Type 0) (a b : Emitted) (more : (x : List ℕ) → 
   more_begins x (y, p) = (y ++ (more (x ++ y) p).0, rw (sym (append_assoc x y (more (x ++ y) p).0)) (more (x ++ y) p).1)
 
   pub Failed-begins : Failed P a b → Failed R a b
-  Failed-begins h = record { bytes = adds_weaker (Begins P) (Begins R) a.out b.out more_begins h.bytes; dent = h.dent; faults = h.faults; style = h.style; lender = h.lender }
+  Failed-begins h = record {
+    bytes = adds_weaker (Begins P) (Begins R) a.out b.out more_begins h.bytes;
+    dent = h.dent;
+    faults = h.faults;
+    style = h.style;
+    lender = h.lender;
+  }
 
   pub Stopped-begins : Stopped P a b → Stopped R a b
-  Stopped-begins h = record { bytes = adds_weaker (Begins P) (Begins R) a.out b.out more_begins h.bytes; dent = h.dent; faults = h.faults; style = h.style; lender = h.lender }
+  Stopped-begins h = record {
+    bytes = adds_weaker (Begins P) (Begins R) a.out b.out more_begins h.bytes;
+    dent = h.dent;
+    faults = h.faults;
+    style = h.style;
+    lender = h.lender;
+  }
 
 pub Stopped-failed : (P : List ℕ → Type 0) (a b : Emitted) → Failed P a b → Stopped P a b
-Stopped-failed P a b h = record { bytes = h.bytes; dent = rw h.dent (omega arith); faults = h.faults; style = h.style; lender = h.lender }
+Stopped-failed P a b h = record {
+  bytes = h.bytes;
+  dent = rw h.dent (omega arith);
+  faults = h.faults;
+  style = h.style;
+  lender = h.lender;
+}
 
-pub Emits-at_err : {E : Type 0} (P : List ℕ → Type 0) (a b : Emitted) (r : Result (Unit {0}) E) → IsErr r → Failed P a b → Emits P a b r
+pub Emits-at_err : {E : Type 0} (P : List ℕ → Type 0) (a b : Emitted) (r : Result (Unit {0}) E) → IsErr r → Failed P a b
+    → Emits P a b r
 Emits-at_err P a b (Ok u) h k = absurd (cc h)
 Emits-at_err P a b (Err e) h k = k
 
-pub PrintsIf-at_err : {E : Type 0} (K : Type 0) (P : List ℕ → Type 0) (a b : Emitted) (r : Result (Unit {0}) E) → IsErr r → (K → Stopped P a b) → PrintsIf K P a b r
+pub PrintsIf-at_err : {E : Type 0} (K : Type 0) (P : List ℕ → Type 0) (a b : Emitted) (r : Result (Unit {0}) E)
+    → IsErr r → (K → Stopped P a b) → PrintsIf K P a b r
 PrintsIf-at_err K P a b (Ok u) h k = absurd (cc h)
 PrintsIf-at_err K P a b (Err e) h k = k
 
-pub PrintsIf-just : {E : Type 0} (K : Type 0) (P : List ℕ → Type 0) (bs : List ℕ) (a b : Emitted) (r : Result (Unit {0}) E) → P bs → Emits (Just bs) a b r → PrintsIf K P a b r
-PrintsIf-just K P bs a b (Ok u) p h = record { bytes = adds_weaker (Just bs) P a.out b.out (λ x e. rw e p) h.bytes; dent = h.dent; faults = h.faults; style = h.style; lender = h.lender }
-PrintsIf-just K P bs a b (Err u) p h = λ keyed. Stopped-failed P a b (Failed-begins (Just bs) P a b (λ x e. ([], rw (append-nil x, e) p)) h)
+pub PrintsIf-just : {E : Type 0} (K : Type 0) (P : List ℕ → Type 0) (bs : List ℕ) (a b : Emitted)
+    (r : Result (Unit {0}) E) → P bs → Emits (Just bs) a b r → PrintsIf K P a b r
+PrintsIf-just K P bs a b (Ok u) p h = record {
+  bytes = adds_weaker (Just bs) P a.out b.out (λ x e. rw e p) h.bytes;
+  dent = h.dent;
+  faults = h.faults;
+  style = h.style;
+  lender = h.lender;
+}
+PrintsIf-just K P bs a b (Err u) p h = λ keyed. Stopped-failed P a b
+    (Failed-begins (Just bs) P a b (λ x e. ([], rw (append-nil x, e) p)) h)
 
-PrintsIf-emits : {E : Type 0} (K : Type 0) (P : List ℕ → Type 0) (a b : Emitted) (r : Result (Unit {0}) E) → Emits P a b r → PrintsIf K P a b r
+PrintsIf-emits : {E : Type 0} (K : Type 0) (P : List ℕ → Type 0) (a b : Emitted) (r : Result (Unit {0}) E)
+    → Emits P a b r → PrintsIf K P a b r
 PrintsIf-emits K P a b (Ok u) h = h
 PrintsIf-emits K P a b (Err e) h = λ keyed. Stopped-failed P a b h
 
 -- ---- an opening bracket, an indent, what Q allows there, and the close
-module _ (opening closing : ℕ) (Q : Style → ℕ → List ℕ → Type 0) (R : List ℕ → Type 0) (a : Emitted) (close : (y z : List ℕ) → Q a.style (suc a.dent) y → IsClosing a.style a.dent closing z → R (opening ∷ (y ++ z))) where
-  -- while what is inside has not begun or not ended, some of it must be known to exist
-  module _ (inner : (y : List ℕ) × Q a.style (suc a.dent) y) (end : (z : List ℕ) × IsClosing a.style a.dent closing z) where
-    closed_after : (x : List ℕ) → Just (opening ∷ []) x → Begins R x
-    closed_after x e = (inner.0 ++ end.0, rw e (close inner.0 end.0 inner.1 end.1))
+module _ (opening closing : ℕ) (Q : Style → ℕ → List ℕ → Type 0) (R : List ℕ → Type 0) (a : Emitted)
+    (close : (y z : List ℕ) → Q a.style (suc a.dent) y → IsClosing a.style a.dent closing z → R (opening ∷ (y ++ z)))
+  where
+    -- while what is inside has not begun or not ended, some of it must be known to exist
+    module _ (inner : (y : List ℕ) × Q a.style (suc a.dent) y) (end : (z : List ℕ) × IsClosing a.style a.dent closing z)
+      where
+        closed_after : (x : List ℕ) → Just (opening ∷ []) x → Begins R x
+        closed_after x e = (inner.0 ++ end.0, rw e (close inner.0 end.0 inner.1 end.1))
 
-    pub stopped_at_opening : (b : Emitted) → Failed (Just (opening ∷ [])) a b → Stopped R a b
-    stopped_at_opening b h = Stopped-failed R a b (Failed-begins (Just (opening ∷ [])) R a b closed_after h)
+        pub stopped_at_opening : (b : Emitted) → Failed (Just (opening ∷ [])) a b → Stopped R a b
+        stopped_at_opening b h = Stopped-failed R a b (Failed-begins (Just (opening ∷ [])) R a b closed_after h)
 
-    pub stopped_at_indent : (b c : Emitted) → Added (Just (opening ∷ [])) a b → c ≡ record b { faults = noted b.faults } → Stopped R a c
-    stopped_at_indent b c h e = rw e (record { bytes = adds_weaker (Just (opening ∷ [])) (Begins R) a.out b.out closed_after h.bytes; dent = rw h.dent (omega arith); faults = ap noted h.faults; style = h.style; lender = h.lender })
+        pub stopped_at_indent : (b c : Emitted) → Added (Just (opening ∷ [])) a b
+            → c ≡ record b { faults = noted b.faults }
+            → Stopped R a c
+        stopped_at_indent b c h e = rw e (record {
+          bytes = adds_weaker (Just (opening ∷ [])) (Begins R) a.out b.out
+              closed_after h.bytes;
+          dent = rw h.dent (omega arith);
+          faults = ap noted h.faults;
+          style = h.style;
+          lender =
+              h.lender;
+        })
 
-  module _ (b c d : Emitted) (h : Added (Just (opening ∷ [])) a b) (e : c ≡ record b { dent = b.dent + 1 }) where
-    style_within : c.style ≡ a.style
-    style_within = ap (λ s. s.style) e ∙ h.style
+    module _ (b c d : Emitted) (h : Added (Just (opening ∷ [])) a b) (e : c ≡ record b { dent = b.dent + 1 }) where
+      style_within : c.style ≡ a.style
+      style_within = ap (λ s. s.style) e ∙ h.style
 
-    lender_within : c.lender ≡ a.lender
-    lender_within = ap (λ s. s.lender) e ∙ h.lender
+      lender_within : c.lender ≡ a.lender
+      lender_within = ap (λ s. s.lender) e ∙ h.lender
 
-    dent_within : c.dent ≡ suc a.dent
-    dent_within = ap (λ s. s.dent) e ∙ ap (λ n. n + 1) h.dent ∙ add-one a.dent
+      dent_within : c.dent ≡ suc a.dent
+      dent_within = ap (λ s. s.dent) e ∙ ap (λ n. n + 1) h.dent ∙ add-one a.dent
 
-    faults_within : c.faults ≡ a.faults
-    faults_within = ap (λ s. s.faults) e ∙ h.faults
+      faults_within : c.faults ≡ a.faults
+      faults_within = ap (λ s. s.faults) e ∙ h.faults
 
-    pub stopped_inside : ((z : List ℕ) × IsClosing a.style a.dent closing z) → Stopped (Q c.style c.dent) c d → Stopped R a d
-    stopped_inside end k = record {
-      bytes = adds_then (Just (opening ∷ [])) (Begins (Q c.style c.dent)) (Begins R) a.out b.out d.out
-          (λ x y p (z, q). (z ++ end.0, rw (p, sym (append_assoc y z end.0)) (close (y ++ z) end.0 (at_style Q style_within dent_within (y ++ z) q) end.1)))
-          h.bytes (rw (ap (λ s. s.out) e) at k.bytes);
-      dent = let w : c.dent ≡ suc a.dent = dent_within in omega (arith, k.dent);
-      faults = k.faults ∙ ap noted faults_within;
-      style = k.style ∙ style_within;
-      lender = k.lender ∙ lender_within;
-    }
+      pub stopped_inside : ((z : List ℕ) × IsClosing a.style a.dent closing z) → Stopped (Q c.style c.dent) c d
+          → Stopped R a d
+      stopped_inside end k = record {
+        bytes = adds_then (Just (opening ∷ [])) (Begins (Q c.style c.dent)) (Begins R) a.out b.out d.out
+            (λ x y p (z, q). (
+              z ++ end.0,
+              rw (p, sym (append_assoc y z end.0))
+                  (close (y ++ z) end.0 (at_style Q style_within dent_within (y ++ z) q) end.1),
+            ))
+            h.bytes (rw (ap (λ s. s.out) e) at k.bytes);
+        dent = let w : c.dent ≡ suc a.dent = dent_within in omega (arith, k.dent);
+        faults = k.faults ∙ ap noted faults_within;
+        style = k.style ∙ style_within;
+        lender = k.lender ∙ lender_within;
+      }
 
-    -- the bracket, and what Q allows within
-    opened : List ℕ → Type 0
-    opened w = (y : List ℕ) × Q a.style (suc a.dent) y × (w ≡ opening ∷ y)
+      -- the bracket, and what Q allows within
+      opened : List ℕ → Type 0
+      opened w = (y : List ℕ) × Q a.style (suc a.dent) y × (w ≡ opening ∷ y)
 
-    opened_then : (x y : List ℕ) → Just (opening ∷ []) x → Q c.style c.dent y → opened (x ++ y)
-    unfolding opened
-    opened_then x y p q = (y, at_style Q style_within dent_within y q, ap (λ w. w ++ y) p)
+      opened_then : (x y : List ℕ) → Just (opening ∷ []) x → Q c.style c.dent y → opened (x ++ y)
+      unfolding opened
+      opened_then x y p q = (y, at_style Q style_within dent_within y q, ap (λ w. w ++ y) p)
 
-    opened_ends : (x z : List ℕ) → opened x → IsClosing a.style a.dent closing z → R (x ++ z)
-    unfolding opened
-    opened_ends x z (y, q, e') j = rw e' (close y z q j)
+      opened_ends : (x z : List ℕ) → opened x → IsClosing a.style a.dent closing z → R (x ++ z)
+      unfolding opened
+      opened_ends x z (y, q, e') j = rw e' (close y z q j)
 
-    pub printed_at_close : {E : Type 0} (K : Type 0) (f : Emitted) (r : Result (Unit {0}) E) → Added (Q c.style c.dent) c d → Emits (IsClosing d.style (d.dent - 1) closing) (record d { dent = d.dent - 1 }) f r → PrintsIf K R a f r
-    printed_at_close K f r k j = PrintsIf-after opened (λ st n. IsClosing st n closing) R a (record d { dent = d.dent - 1 }) f opened_ends
-        (record {
-          bytes = adds_then (Just (opening ∷ [])) (Q c.style c.dent) opened a.out b.out d.out opened_then h.bytes (rw (ap (λ s. s.out) e) at k.bytes);
-          dent = let w : c.dent ≡ suc a.dent = dent_within in let v : d.dent ≡ c.dent = k.dent in omega arith;
-          faults = k.faults ∙ faults_within;
-          style = k.style ∙ style_within;
-          lender = k.lender ∙ lender_within;
-        }) K r (PrintsIf-emits K _ _ _ r j)
+      pub printed_at_close : {E : Type 0} (K : Type 0) (f : Emitted) (r : Result (Unit {0}) E)
+          → Added (Q c.style c.dent) c d → Emits (IsClosing d.style (d.dent - 1) closing)
+          (record d { dent = d.dent - 1 })
+          f r → PrintsIf K R a f r
+      printed_at_close K f r k j = PrintsIf-after opened (λ st n. IsClosing st n closing) R a
+          (record d { dent = d.dent - 1 }) f opened_ends
+          (record {
+            bytes = adds_then (Just (opening ∷ [])) (Q c.style c.dent) opened a.out b.out d.out opened_then h.bytes
+                (rw (ap (λ s. s.out) e) at k.bytes);
+            dent = let w : c.dent ≡ suc a.dent = dent_within in let v : d.dent ≡ c.dent = k.dent in omega arith;
+            faults = k.faults ∙ faults_within;
+            style = k.style ∙ style_within;
+            lender = k.lender ∙ lender_within;
+          }) K r (PrintsIf-emits K _ _ _ r j)
 
 -- ---- bytes that a style allows, sent to the writer of old
-pub Added-sent : (P : List ℕ → Type 0) (bs : List ℕ) (old : Emitted) (o : Option (List ℕ)) → P bs → Adds (Just bs) old.out o → Added P old (record old { out = o })
-Added-sent P bs old o p h = record { bytes = adds_weaker (Just bs) P old.out o (λ x e. rw e p) h; dent = refl; faults = refl; style = refl; lender = refl }
+pub Added-sent : (P : List ℕ → Type 0) (bs : List ℕ) (old : Emitted) (o : Option (List ℕ)) → P bs
+    → Adds (Just bs) old.out o → Added P old (record old { out = o })
+Added-sent P bs old o p h = record {
+  bytes = adds_weaker (Just bs) P old.out o (λ x e. rw e p) h;
+  dent = refl;
+  faults =
+      refl;
+  style = refl;
+  lender = refl;
+}
 
-pub Failed-sent : (P : List ℕ → Type 0) (bs : List ℕ) (old new : Emitted) (o : Option (List ℕ)) → P bs → Adds (Begins (Just bs)) old.out o → new ≡ record old { out = o; faults = noted old.faults } → Failed P old new
-Failed-sent P bs old new o p h e = rw e (record { bytes = adds_weaker (Begins (Just bs)) (Begins P) old.out o (λ x (y, k). (y, rw k p)) h; dent = refl; faults = refl; style = refl; lender = refl })
+pub Failed-sent : (P : List ℕ → Type 0) (bs : List ℕ) (old new : Emitted) (o : Option (List ℕ)) → P bs
+    → Adds (Begins (Just bs)) old.out o → new ≡ record old { out = o; faults = noted old.faults } → Failed P old new
+Failed-sent P bs old new o p h e = rw e (record {
+  bytes = adds_weaker (Begins (Just bs)) (Begins P) old.out o
+      (λ x (y, k). (y, rw k p)) h;
+  dent = refl;
+  faults = refl;
+  style = refl;
+  lender = refl;
+})
 
 -- ---- the answer of a call of the writer, handed on
-pub Emits-handed : {E F : Type 0} (P : List ℕ → Type 0) (bs : List ℕ) (old mid new : Emitted) (lent o : Option (List ℕ)) (step : Result (Unit {0}) F) (answer r : Result (Unit {0}) E)
-    → P bs → lent ≡ old.out → Sends (Just bs) lent o step → MatchResult step (λ u. answer ≡ Ok u) (λ _. IsErr answer) → mid ≡ record old { out = o } → r ≡ answer → Counts answer mid new → Emits P old new r
-Emits-handed P bs old mid new lent o (Ok u) (Ok v) r p l h s m e k = rw (e, k, m) (Added-sent P bs old o p (subst (λ x. Adds (Just bs) x o) l h))
+pub Emits-handed : {E F : Type 0} (P : List ℕ → Type 0) (bs : List ℕ) (old mid new : Emitted) (lent o : Option (List ℕ))
+    (step : Result (Unit {0}) F) (answer r : Result (Unit {0}) E)
+    → P bs → lent ≡ old.out → Sends (Just bs) lent o step → MatchResult step (λ u. answer ≡ Ok u) (λ _. IsErr answer)
+    → mid ≡ record old { out = o } → r ≡ answer → Counts answer mid new → Emits P old new r
+Emits-handed P bs old mid new lent o (Ok u) (Ok v) r p l h s m e k = rw (e, k, m)
+    (Added-sent P bs old o p (subst (λ x. Adds (Just bs) x o) l h))
 Emits-handed P bs old mid new lent o (Ok u) (Err v) r p l h s m e k = absurd (cc s)
 Emits-handed P bs old mid new lent o (Err u) (Ok v) r p l h s m e k = absurd (cc s)
-Emits-handed P bs old mid new lent o (Err u) (Err v) r p l h s m e k = rw e (Failed-sent P bs old new o p (subst (λ x. Adds (Begins (Just bs)) x o) l h) (rw m at k))
+Emits-handed P bs old mid new lent o (Err u) (Err v) r p l h s m e k = rw e
+    (Failed-sent P bs old new o p (subst (λ x. Adds (Begins (Just bs)) x o) l h) (rw m at k))
 
 -- the answer `None` of a generator that stays as it is
-pub insertion_answered : {E A : Type 0} (K : Option A → Type 0) (old new : Emitted) (r : Result (Option A) E) → r ≡ Ok None → new ≡ old → K None
+pub insertion_answered : {E A : Type 0} (K : Option A → Type 0) (old new : Emitted) (r : Result (Option A) E)
+    → r ≡ Ok None → new ≡ old → K None
     → MatchResult r (λ answer. Added (Just []) old new × K answer) (λ _. Failed (Just []) old new)
 insertion_answered K old new r e same k = rw (e, same) (Added-nothing (Just []) old refl, k)
 

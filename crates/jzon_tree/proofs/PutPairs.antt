@@ -14,38 +14,48 @@ use Rattle.jzon_tree.specs.declared.value.JsonValue.{JsonValue, Object as in_obj
 use Rattle.jzon_tree.proofs.Views.{view-Object, viewed-put}
 
 -- an object with one pair more
-pub viewed-put_each : (ps qs : List (List ℕ × JsonValue)) (rs : List (List ℕ × Value)) (k l : List ℕ) (v : JsonValue) → viewed ps ≡ put_each rs → k ≡ l → qs ≡ put k v ps → viewed qs ≡ put_each (rs ++ (l, view v) ∷ [])
+pub viewed-put_each : (ps qs : List (List ℕ × JsonValue)) (rs : List (List ℕ × Value)) (k l : List ℕ) (v : JsonValue)
+    → viewed ps ≡ put_each rs → k ≡ l → qs ≡ put k v ps → viewed qs ≡ put_each (rs ++ (l, view v) ∷ [])
 viewed-put_each ps qs rs k l v before same is =
-    ap viewed (is ∙ ap (λ (key : List ℕ). put key v ps) same) ∙ viewed-put l v ps ∙ ap (put l (view v)) before ∙ sym (put_each-push rs l (view v))
+    ap viewed (is ∙ ap (λ (key : List ℕ). put key v ps) same) ∙ viewed-put l v ps ∙ ap (put l (view v)) before
+    ∙ sym (put_each-push rs l (view v))
 
 -- ---- what a map's iterator gives
 drained : {X : Type 0} (left xs : List X) → Drains (TakesFirst (λ (x : X). x)) left xs → xs ≡ left
 drained left [] (after, (end, same, step)) = sym (same ∙ step.0)
-drained left (x ∷ xs) (after, (end, (next, first, more), step)) = ap (λ ys. x ∷ ys) (drained next xs (after, (end, more, step))) ∙ sym first
+drained left (x ∷ xs) (after, (end, (next, first, more), step)) = ap (λ ys. x ∷ ys)
+    (drained next xs (after, (end, more, step))) ∙ sym first
 
 -- ---- keys are distinct by their texts where they are by a test that tells these apart
-module _ {K : Type 0} (text : K → List ℕ) (e : K → K → Bool) (by_text : (j k : K) → e j k ≡ bytes_eq (text j) (text k)) where
-  apart_texts : (k : K) (ks : List K) → AllByRecursion (λ j. e k j ≡ false) ks → AllByRecursion (λ s. bytes_eq (text k) s ≡ false) (map text ks)
-  apart_texts k [] all = tt
-  apart_texts k (j ∷ ks) all = (sym (by_text k j) ∙ all.0, apart_texts k ks all.1)
+module _ {K : Type 0} (text : K → List ℕ) (e : K → K → Bool) (by_text : (j k : K) → e j k ≡ bytes_eq (text j) (text k))
+  where
+    apart_texts : (k : K) (ks : List K) → AllByRecursion (λ j. e k j ≡ false) ks
+        → AllByRecursion (λ s. bytes_eq (text k) s ≡ false) (map text ks)
+    apart_texts k [] all = tt
+    apart_texts k (j ∷ ks) all = (sym (by_text k j) ∙ all.0, apart_texts k ks all.1)
 
-  distinct_texts : (ks : List K) → IsDistinct e ks → IsDistinct bytes_eq (map text ks)
-  unfolding IsDistinct
-  distinct_texts [] distinct = tt
-  distinct_texts (k ∷ ks) distinct = (apart_texts k ks distinct.0, distinct_texts ks distinct.1)
+    distinct_texts : (ks : List K) → IsDistinct e ks → IsDistinct bytes_eq (map text ks)
+    unfolding IsDistinct
+    distinct_texts [] distinct = tt
+    distinct_texts (k ∷ ks) distinct = (apart_texts k ks distinct.0, distinct_texts ks distinct.1)
 
-  module _ {X : Type 0} (means : X → Value → Type 0) where
-    meant_keys : (ps : List (K × X)) (qs : List (List ℕ × Value)) → PairsMean text means ps qs → keys_of qs ≡ map text (map (λ p. p.0) ps)
-    meant_keys [] [] each = refl
-    meant_keys [] (q ∷ qs) each = absurd each
-    meant_keys (p ∷ ps) [] each = absurd each
-    meant_keys (p ∷ ps) (q ∷ qs) each = ap (λ k. k ∷ keys_of qs) each.0.0 ∙ ap (λ ks. text p.0 ∷ ks) (meant_keys ps qs each.1)
+    module _ {X : Type 0} (means : X → Value → Type 0) where
+      meant_keys : (ps : List (K × X)) (qs : List (List ℕ × Value)) → PairsMean text means ps qs
+          → keys_of qs ≡ map text (map (λ p. p.0) ps)
+      meant_keys [] [] each = refl
+      meant_keys [] (q ∷ qs) each = absurd each
+      meant_keys (p ∷ ps) [] each = absurd each
+      meant_keys (p ∷ ps) (q ∷ qs) each = ap (λ k. k ∷ keys_of qs) each.0.0
+          ∙ ap (λ ks. text p.0 ∷ ks) (meant_keys ps qs each.1)
 
-    -- an object in which a map's pairs were put one after the other
-    pub map_put : (ps left : List (K × X)) (o : Object) → left ≡ ps → IsDistinct e (map (λ p. p.0) ps)
-        → (xs : List (K × X)) × Drains (TakesFirst (λ (x : K × X). x)) left xs × PutMeans text means xs (view_object o) → MapMeans text means ps (view (in_object o))
-    map_put ps left o whole distinct (xs, drains, (qs, each, is)) =
-        let same : xs ≡ ps = drained left xs drains ∙ whole in
-        let meant : PairsMean text means ps qs = subst (λ ys. PairsMean text means ys qs) same each in
-        let keys : IsDistinct bytes_eq (keys_of qs) = subst (IsDistinct bytes_eq) (sym (meant_keys ps qs meant)) (distinct_texts (map (λ p. p.0) ps) distinct) in
-        (qs, meant, view-Object o ∙ is ∙ ap (λ rs. object (pairs_of rs)) (put_each-distinct qs keys))
+      -- an object in which a map's pairs were put one after the other
+      pub map_put : (ps left : List (K × X)) (o : Object) → left ≡ ps → IsDistinct e (map (λ p. p.0) ps)
+          → (xs : List (K × X)) × Drains (TakesFirst (λ (x : K × X). x)) left xs
+          × PutMeans text means xs (view_object o)
+          → MapMeans text means ps (view (in_object o))
+      map_put ps left o whole distinct (xs, drains, (qs, each, is)) =
+          let same : xs ≡ ps = drained left xs drains ∙ whole in
+          let meant : PairsMean text means ps qs = subst (λ ys. PairsMean text means ys qs) same each in
+          let keys : IsDistinct bytes_eq (keys_of qs) = subst (IsDistinct bytes_eq) (sym (meant_keys ps qs meant))
+          (distinct_texts (map (λ p. p.0) ps) distinct) in
+          (qs, meant, view-Object o ∙ is ∙ ap (λ rs. object (pairs_of rs)) (put_each-distinct qs keys))

@@ -3,7 +3,8 @@ use Rattle.std.specs.Prelude.{◌≡◌, ℕ, zero, suc, pos, negsuc, List, [], 
 use Rattle.std.specs.Fmt.{digits}
 use Rattle.jzon_base.specs.Decimal.{nan, parts, scaled}
 use Rattle.jzon_base.specs.PairList.{put, cut}
-use Rattle.jzon_tree.specs.Value.{Value, null, boolean, text, number, array, object, values_of, pairs_of, kind_of, short, long, nest}
+use Rattle.jzon_tree.specs.Value.{Value, null, boolean, text, number, array, object, values_of, pairs_of, kind_of}
+use Rattle.jzon_tree.specs.Value.{short, long, nest}
 use Rattle.jzon_tree.specs.Same.{same}
 use Rattle.jzon_tree.specs.Text.{compact, pretty, quoted}
 
@@ -22,7 +23,8 @@ members ps = object (pairs_of ps)
 
 -- ---- compact texts
 
-compact-put_again : compact (members (put (codes "foo") (int 2) (put (codes "bar") (int 1) (put (codes "foo") (int 0) [])))) ≡ codes "{\"foo\":2,\"bar\":1}"
+compact-put_again : compact (members (put (codes "foo") (int 2)
+    (put (codes "bar") (int 1) (put (codes "foo") (int 0) [])))) ≡ codes "{\"foo\":2,\"bar\":1}"
 unfolding digits
 compact-put_again = refl
 
@@ -38,37 +40,45 @@ compact-cut : compact (members (cut (codes "b") letters)) ≡ codes "{\"a\":1,\"
 unfolding digits
 compact-cut = refl
 
-compact-put_last : compact (members (put (codes "b") (int 4) (cut (codes "b") letters))) ≡ codes "{\"a\":1,\"c\":3,\"b\":4}"
+compact-put_last : compact (members (put (codes "b") (int 4) (cut (codes "b") letters)))
+    ≡ codes "{\"a\":1,\"c\":3,\"b\":4}"
 unfolding digits
 compact-put_last = refl
 
-compact-controls : compact (word (codes "foo" ++ 31 ∷ codes "bar" ++ 0 ∷ codes "baz")) ≡ codes "\"foo\\u001fbar\\u0000baz\""
+compact-controls : compact (word (codes "foo" ++ 31 ∷ codes "bar" ++ 0 ∷ codes "baz"))
+    ≡ codes "\"foo\\u001fbar\\u0000baz\""
 compact-controls = refl
 
 compact-array_of_nan : compact (list (number nan ∷ [])) ≡ codes "[null]"
 compact-array_of_nan = refl
 
-compact-empty : compact (list (list [] ∷ members [] ∷ null ∷ boolean true ∷ boolean false ∷ [])) ≡ codes "[[],{},null,true,false]"
+compact-empty : compact (list (list [] ∷ members [] ∷ null ∷ boolean true ∷ boolean false ∷ []))
+    ≡ codes "[[],{},null,true,false]"
 compact-empty = refl
 
-compact-parts_as_given : compact (list (number (parts true 150 (negsuc 1)) ∷ number (parts true 100 (negsuc 1)) ∷ number (parts false 0 (pos 0)) ∷ number (parts true 0 (pos 5)) ∷ [])) ≡ codes "[1.50,1.00,-0,0]"
+compact-parts_as_given : compact (list (number (parts true 150 (negsuc 1)) ∷ number (parts true 100 (negsuc 1)) ∷ number
+    (parts false 0 (pos 0)) ∷ number (parts true 0 (pos 5)) ∷ [])) ≡ codes "[1.50,1.00,-0,0]"
 unfolding digits
 compact-parts_as_given = refl
 
-compact-nested : compact (members ((codes "foo", members ((codes "bar", int 100) ∷ [])) ∷ [])) ≡ codes "{\"foo\":{\"bar\":100}}"
+compact-nested : compact (members ((codes "foo", members ((codes "bar", int 100) ∷ [])) ∷ []))
+    ≡ codes "{\"foo\":{\"bar\":100}}"
 unfolding digits
 compact-nested = refl
 
 -- ---- pretty texts
 
-pretty-array : pretty (list (int 1 ∷ boolean true ∷ word (codes "three") ∷ [])) 4 0 ≡ codes "[\n    1,\n    true,\n    \"three\"\n]"
+pretty-array : pretty (list (int 1 ∷ boolean true ∷ word (codes "three") ∷ [])) 4 0
+    ≡ codes "[\n    1,\n    true,\n    \"three\"\n]"
 unfolding digits
 pretty-array = refl
 
-pretty-empty_inside : pretty (members ((codes "a", list []) ∷ (codes "b", members []) ∷ [])) 2 0 ≡ codes "{\n  \"a\": [],\n  \"b\": {}\n}"
+pretty-empty_inside : pretty (members ((codes "a", list []) ∷ (codes "b", members []) ∷ [])) 2 0
+    ≡ codes "{\n  \"a\": [],\n  \"b\": {}\n}"
 pretty-empty_inside = refl
 
-pretty-nested : pretty (members ((codes "a", list (int 1 ∷ members [] ∷ [])) ∷ [])) 2 0 ≡ codes "{\n  \"a\": [\n    1,\n    {}\n  ]\n}"
+pretty-nested : pretty (members ((codes "a", list (int 1 ∷ members [] ∷ [])) ∷ [])) 2 0
+    ≡ codes "{\n  \"a\": [\n    1,\n    {}\n  ]\n}"
 unfolding digits
 pretty-nested = refl
 
@@ -90,20 +100,24 @@ quoted-short_escapes = refl
 quoted-raw : quoted (127 ∷ 47 ∷ 195 ∷ 169 ∷ []) ≡ 34 ∷ 127 ∷ 47 ∷ 195 ∷ 169 ∷ 34 ∷ []
 quoted-raw = refl
 
-quoted-other_controls : quoted (0 ∷ 7 ∷ 11 ∷ 14 ∷ 26 ∷ 31 ∷ 32 ∷ []) ≡ codes "\"\\u0000\\u0007\\u000b\\u000e\\u001a\\u001f \""
+quoted-other_controls : quoted (0 ∷ 7 ∷ 11 ∷ 14 ∷ 26 ∷ 31 ∷ 32 ∷ [])
+    ≡ codes "\"\\u0000\\u0007\\u000b\\u000e\\u001a\\u001f \""
 quoted-other_controls = refl
 
 -- ---- equal values
 
-same-reordered : same (members ((codes "a", int 1) ∷ (codes "b", int 2) ∷ [])) (members ((codes "b", int 2) ∷ (codes "a", number (parts true 10 (negsuc 0))) ∷ [])) ≡ true
+same-reordered : same (members ((codes "a", int 1) ∷ (codes "b", int 2) ∷ []))
+    (members ((codes "b", int 2) ∷ (codes "a", number (parts true 10 (negsuc 0))) ∷ [])) ≡ true
 unfolding scaled
 same-reordered = refl
 
-same-key_missing : same (members ((codes "a", int 1) ∷ [])) (members ((codes "a", int 1) ∷ (codes "b", null) ∷ [])) ≡ false
+same-key_missing : same (members ((codes "a", int 1) ∷ [])) (members ((codes "a", int 1) ∷ (codes "b", null) ∷ []))
+    ≡ false
 unfolding scaled
 same-key_missing = refl
 
-same-key_added : same (members ((codes "a", int 1) ∷ (codes "b", null) ∷ [])) (members ((codes "a", int 1) ∷ [])) ≡ false
+same-key_added : same (members ((codes "a", int 1) ∷ (codes "b", null) ∷ [])) (members ((codes "a", int 1) ∷ []))
+    ≡ false
 unfolding scaled
 same-key_added = refl
 
@@ -150,7 +164,8 @@ nest-empty = refl
 nest-of_empty : nest (list (list [] ∷ members [] ∷ [])) ≡ 1
 nest-of_empty = refl
 
-nest-deepest : nest (list (null ∷ members ((codes "a", list (null ∷ [])) ∷ (codes "b", null) ∷ []) ∷ list (null ∷ []) ∷ [])) ≡ 3
+nest-deepest : nest (list (null ∷ members ((codes "a", list (null ∷ [])) ∷ (codes "b", null) ∷ []) ∷ list (null ∷ []) ∷
+    [])) ≡ 3
 nest-deepest = refl
 
 -- so many brackets round an empty array

@@ -1,5 +1,7 @@
 -- The parts of a container, and what is left of it after a change, as they are seen.
-use Rattle.std.proofs.Common.{◌≡◌, ℕ, List, [], ◌∷◌, ◌++◌, map, length, zero, suc, ◌≤◌, ◌==◌, Bool, ◌||◌, remove, slice_get, arith, unwrap_or, Option, Some, None, option_map, Vec, Global, Bor, refl, sym, ap, ◌∙◌}
+use Rattle.std.proofs.Common.{◌≡◌, ℕ, List, [], ◌∷◌, ◌++◌, map, length, zero, suc, ◌≤◌, ◌==◌, Bool, ◌||◌, remove}
+use Rattle.std.proofs.Common.{slice_get, arith, unwrap_or, Option, Some, None, option_map, Vec, Global, Bor, refl, sym}
+use Rattle.std.proofs.Common.{ap, ◌∙◌}
 use Rattle.std.specs.List.{list_any}
 use Rattle.std.proofs.lemmas.List.{length-map}
 use Rattle.std.proofs.lemmas.Option.{slice_get-map, slice_get_past, slice_get-get_or}
@@ -13,7 +15,8 @@ use Rattle.jzon_tree.specs.Value.{Value, array, object, values_of, pairs_of, lis
 use Rattle.jzon_tree.specs.View.{view, viewed, view_pairs, view_values}
 use Rattle.jzon_tree.specs.declared.object.Object.{Object}
 use Rattle.jzon_tree.specs.declared.value.JsonValue.{JsonValue, Null, Array, Object as in_object}
-use Rattle.jzon_tree.proofs.Views.{view-Null, view-Array, view-Object, list_of_pairs-pairs_of, find-viewed, viewed-put, viewed-cut}
+use Rattle.jzon_tree.proofs.Views.{view-Null, view-Array, view-Object, list_of_pairs-pairs_of, find-viewed, viewed-put}
+use Rattle.jzon_tree.proofs.Views.{viewed-cut}
 
 pub list_of_values-values_of : (vs : List Value) → list_of_values (values_of vs) ≡ vs
 list_of_values-values_of [] = refl
@@ -31,29 +34,36 @@ pub entries-Object : (o : Object) → entries (view (in_object o)) ≡ viewed (e
 entries-Object o = ap entries (view-Object o) ∙ list_of_pairs-pairs_of (viewed (entries_of o))
 
 pub count-Array : (v : Vec JsonValue Global) → count (view (Array v)) ≡ length v.items
-count-Array v = ap count (view-Array v) ∙ ap length (list_of_values-values_of (map view v.items)) ∙ length-map v.items view
+count-Array v = ap count (view-Array v) ∙ ap length (list_of_values-values_of (map view v.items))
+    ∙ length-map v.items view
 
 pub count-Object : (o : Object) → count (view (in_object o)) ≡ length (entries_of o)
-count-Object o = ap count (view-Object o) ∙ ap length (list_of_pairs-pairs_of (viewed (entries_of o))) ∙ length-map (entries_of o) _
+count-Object o = ap count (view-Object o) ∙ ap length (list_of_pairs-pairs_of (viewed (entries_of o)))
+    ∙ length-map (entries_of o) _
 
 pub is_empty-Array : (v : Vec JsonValue Global) → is_empty (view (Array v)) ≡ (length v.items == 0)
-is_empty-Array v = ap is_empty (view-Array v) ∙ ap (λ (n : ℕ). n == 0) (ap length (list_of_values-values_of (map view v.items)) ∙ length-map v.items view)
+is_empty-Array v = ap is_empty (view-Array v) ∙ ap (λ (n : ℕ). n == 0)
+    (ap length (list_of_values-values_of (map view v.items)) ∙ length-map v.items view)
 
 pub is_empty-Object : (o : Object) → is_empty (view (in_object o)) ≡ (length (entries_of o) == 0)
-is_empty-Object o = ap is_empty (view-Object o) ∙ ap (λ (n : ℕ). n == 0) (ap length (list_of_pairs-pairs_of (viewed (entries_of o))) ∙ length-map (entries_of o) _)
+is_empty-Object o = ap is_empty (view-Object o) ∙ ap (λ (n : ℕ). n == 0)
+    (ap length (list_of_pairs-pairs_of (viewed (entries_of o))) ∙ length-map (entries_of o) _)
 
 pub item-viewed : (vs : List JsonValue) (i : ℕ) → slice_get (map view vs) i ≡ option_map view (slice_get vs i)
 item-viewed vs i = slice_get-map view vs i
 
-pub any-viewed : (test : Value → Bool) (vs : List JsonValue) → list_any test (map view vs) ≡ list_any (λ v. test (view v)) vs
+pub any-viewed : (test : Value → Bool) (vs : List JsonValue)
+    → list_any test (map view vs) ≡ list_any (λ v. test (view v)) vs
 any-viewed test [] = refl
 any-viewed test (v ∷ vs) = ap (λ (b : Bool). test (view v) || b) (any-viewed test vs)
 
 -- what `get` of a list lends
-pub item_lent : (vs : List JsonValue) (i : ℕ) (r : Option (Bor JsonValue)) → IsItemAt vs i r → option_map (λ w. view w.now) r ≡ slice_get (map view vs) i
+pub item_lent : (vs : List JsonValue) (i : ℕ) (r : Option (Bor JsonValue)) → IsItemAt vs i r
+    → option_map (λ w. view w.now) r ≡ slice_get (map view vs) i
 item_lent vs i None h = sym (item-viewed vs i ∙ ap (option_map view) (slice_get_past vs i h.3))
 item_lent vs i (Some x) h =
-    sym (item-viewed vs i ∙ ap (option_map view) (slice_get-get_or vs i x.now h.3.0 ∙ ap (λ (v : JsonValue). Some v) (sym h.1)))
+    sym (item-viewed vs i ∙ ap (option_map view) (slice_get-get_or vs i x.now h.3.0
+    ∙ ap (λ (v : JsonValue). Some v) (sym h.1)))
 
 -- ---- what is taken out of a list
 pub remove-past : {A : Type 0} (xs : List A) (i : ℕ) → length xs ≤ i → remove xs i ≡ xs
@@ -67,28 +77,48 @@ view-unwrap_or None = view-Null
 view-unwrap_or (Some v) = refl
 
 -- ---- what is left of it
-pub without_item-Array : (v : Vec JsonValue Global) (i : ℕ) → without_item i (view (Array v)) ≡ array (view_values (remove v.items i))
+pub without_item-Array : (v : Vec JsonValue Global) (i : ℕ) → without_item i (view (Array v))
+    ≡ array (view_values (remove v.items i))
 without_item-Array v i =
     ap (without_item i) (view-Array v)
     ∙ ap (λ (ws : List Value). array (values_of (remove ws i))) (list_of_values-values_of (map view v.items))
     ∙ ap (λ (ws : List Value). array (values_of ws)) (sym (map-remove view v.items i))
 
-pub with_item-Array : (v : Vec JsonValue Global) (w : JsonValue) → with_item (view w) (view (Array v)) ≡ array (view_values (v.items ++ w ∷ []))
+pub with_item-Array : (v : Vec JsonValue Global) (w : JsonValue)
+    → with_item (view w) (view (Array v)) ≡ array (view_values (v.items ++ w ∷ []))
 with_item-Array v w =
     ap (with_item (view w)) (view-Array v)
     ∙ ap (λ (ws : List Value). array (values_of (ws ++ view w ∷ []))) (list_of_values-values_of (map view v.items))
     ∙ ap (λ (ws : List Value). array (values_of ws)) (sym (map-append view v.items (w ∷ [])))
 
-pub without_entry-Object : (k : List ℕ) (o : Object) → without_entry k (view (in_object o)) ≡ object (view_pairs (cut k (entries_of o)))
+pub without_entry-Object : (k : List ℕ) (o : Object) → without_entry k (view (in_object o))
+    ≡ object (view_pairs (cut k (entries_of o)))
 without_entry-Object k o =
     ap (without_entry k) (view-Object o)
     ∙ ap (λ (ps : List (List ℕ × Value)). object (pairs_of (cut k ps))) (list_of_pairs-pairs_of (viewed (entries_of o)))
     ∙ ap (λ (ps : List (List ℕ × Value)). object (pairs_of ps)) (sym (viewed-cut k (entries_of o)))
 
-pub with_entry-Object : (k : List ℕ) (w : JsonValue) (o : Object) → with_entry k (view w) (view (in_object o)) ≡ object (view_pairs (put k w (entries_of o)))
+pub with_entry-Object : (k : List ℕ) (w : JsonValue) (o : Object)
+    → with_entry k (view w) (view (in_object o)) ≡ object (view_pairs (put k w (entries_of o)))
 with_entry-Object k w o =
     ap (with_entry k (view w)) (view-Object o)
-    ∙ ap (λ (ps : List (List ℕ × Value)). object (pairs_of (put k (view w) ps))) (list_of_pairs-pairs_of (viewed (entries_of o)))
+    ∙ ap (λ (ps : List (List ℕ × Value)). object (pairs_of (put k (view w) ps)))
+    (list_of_pairs-pairs_of (viewed (entries_of o)))
     ∙ ap (λ (ps : List (List ℕ × Value)). object (pairs_of ps)) (sym (viewed-put k w (entries_of o)))
 
-pub ruleset seen = (items-Array, entries-Object, count-Array, count-Object, is_empty-Array, is_empty-Object, item-viewed, any-viewed, find-viewed, view-unwrap_or, without_item-Array, with_item-Array, without_entry-Object, with_entry-Object)
+pub ruleset seen = (
+  items-Array,
+  entries-Object,
+  count-Array,
+  count-Object,
+  is_empty-Array,
+  is_empty-Object,
+  item-viewed,
+  any-viewed,
+  find-viewed,
+  view-unwrap_or,
+  without_item-Array,
+  with_item-Array,
+  without_entry-Object,
+  with_entry-Object,
+)

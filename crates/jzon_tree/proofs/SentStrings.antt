@@ -1,5 +1,6 @@
 -- A string that is sent run by run.
-use Rattle.std.proofs.Common.{◌≡◌, ℕ, zero, suc, ◌<◌, false, List, [], ◌∷◌, ◌++◌, length, get_or, take, drop, Option, refl, sym, ap, ◌∙◌, append_assoc, append-nil, arith, Result}
+use Rattle.std.proofs.Common.{◌≡◌, ℕ, zero, suc, ◌<◌, false, List, [], ◌∷◌, ◌++◌, length, get_or, take, drop, Option}
+use Rattle.std.proofs.Common.{refl, sym, ap, ◌∙◌, append_assoc, append-nil, arith, Result}
 use Rattle.std.specs.List.{prefix_len}
 use Rattle.std.proofs.lemmas.List.{length-drop}
 use Rattle.jzon_base.specs.PlainBytes.{is_plain}
@@ -16,7 +17,8 @@ abbrev pub whole : List ℕ → List ℕ → List ℕ
 whole front text = front ++ (escaped text ++ 34 ∷ [])
 
 left_closed : (front text rest x : List ℕ) → Left front text rest x → x ++ (escaped rest ++ 34 ∷ []) ≡ whole front text
-left_closed front text rest x h = sym (append_assoc x (escaped rest) (34 ∷ [])) ∙ ap (λ (w : List ℕ). w ++ 34 ∷ []) h ∙ append_assoc front (escaped text) (34 ∷ [])
+left_closed front text rest x h = sym (append_assoc x (escaped rest) (34 ∷ [])) ∙ ap (λ (w : List ℕ). w ++ 34 ∷ []) h
+    ∙ append_assoc front (escaped text) (34 ∷ [])
 
 drop-head : (bs : List ℕ) (n c : ℕ) (rest : List ℕ) → drop n bs ≡ c ∷ rest → get_or bs n 0 ≡ c
 drop-head [] zero c rest q = absurd (cc q)
@@ -25,57 +27,73 @@ drop-head (b ∷ bs) zero c rest q = cc q
 drop-head (b ∷ bs) (suc n) c rest q = drop-head bs n c rest q
 
 -- ---- a run of plain bytes, and the byte after it, which needs an escape
-module _ (front text bs run rest : List ℕ) (n c : ℕ) (p : run ≡ take n bs) (e : n ≡ prefix_len is_plain bs) (q : drop n bs ≡ c ∷ rest) (a b : Option (List ℕ)) (h : Adds (Left front text bs) a b) where
+module _ (front text bs run rest : List ℕ) (n c : ℕ) (p : run ≡ take n bs) (e : n ≡ prefix_len is_plain bs)
+    (q : drop n bs ≡ c ∷ rest) (a b : Option (List ℕ)) (h : Adds (Left front text bs) a b) where
   after_run : List ℕ → Type 0
   after_run x = x ++ (escaped_byte c ++ escaped rest) ≡ front ++ escaped text
 
   run_joins : (x y : List ℕ) → Left front text bs x → Just run y → after_run (x ++ y)
   unfolding after_run
   run_joins x y k j =
-      let all : escaped bs ≡ run ++ (escaped_byte c ++ escaped rest) = escaped-run bs n (omega (arith, e)) ∙ rw (sym p, q) refl in
+      let all : escaped bs ≡ run ++ (escaped_byte c ++ escaped rest) = escaped-run bs n (omega (arith, e))
+      ∙ rw (sym p, q) refl in
       rw (j, append_assoc x run (escaped_byte c ++ escaped rest), sym all) k
 
   run_closed : (x : List ℕ) → after_run x → Just (whole front text) (x ++ ((escaped_byte c ++ escaped rest) ++ 34 ∷ []))
   unfolding after_run
-  run_closed x k = sym (append_assoc x (escaped_byte c ++ escaped rest) (34 ∷ [])) ∙ ap (λ (w : List ℕ). w ++ 34 ∷ []) k ∙ append_assoc front (escaped text) (34 ∷ [])
+  run_closed x k = sym (append_assoc x (escaped_byte c ++ escaped rest) (34 ∷ [])) ∙ ap (λ (w : List ℕ). w ++ 34 ∷ []) k
+      ∙ append_assoc front (escaped text) (34 ∷ [])
 
   escape_joins : (x y : List ℕ) → after_run x → Just (escaped_byte c) y → Left front text rest (x ++ y)
   unfolding after_run
   escape_joins x y k j = rw (j, append_assoc x (escaped_byte c) (escaped rest)) k
 
   pub run_stopped : (d : Option (List ℕ)) → Adds (Begins (Just run)) b d → Adds (Begins (Just (whole front text))) a d
-  run_stopped d k = Begins-early after_run (Just (whole front text)) a d _ run_closed (Begins-after (Left front text bs) (Just run) after_run a b d run_joins h k)
+  run_stopped d k = Begins-early after_run (Just (whole front text)) a d _ run_closed
+      (Begins-after (Left front text bs) (Just run) after_run a b d run_joins h k)
 
   module _ (d : Option (List ℕ)) (k : Adds (Just run) b d) where
     ran : Adds after_run a d
     ran = adds_then (Left front text bs) (Just run) after_run a b d run_joins h k
 
-    pub escape_stopped : (f : Option (List ℕ)) → Adds (Begins (Just (escaped_byte c))) d f → Adds (Begins (Just (whole front text))) a f
-    escape_stopped f j = Begins-early (Left front text rest) (Just (whole front text)) a f _ (left_closed front text rest) (Begins-after after_run (Just (escaped_byte c)) (Left front text rest) a d f escape_joins ran j)
+    pub escape_stopped : (f : Option (List ℕ)) → Adds (Begins (Just (escaped_byte c))) d f
+        → Adds (Begins (Just (whole front text))) a f
+    escape_stopped f j = Begins-early (Left front text rest) (Just (whole front text)) a f _
+        (left_closed front text rest) (Begins-after after_run (Just (escaped_byte c)) (Left front text rest) a d f
+        escape_joins ran j)
 
     pub escape_sent : (f : Option (List ℕ)) → Adds (Just (escaped_byte c)) d f → Adds (Left front text rest) a f
     escape_sent f j = adds_then after_run (Just (escaped_byte c)) (Left front text rest) a d f escape_joins ran j
 
 -- ---- the last run, and the quote
-module _ (front text bs run : List ℕ) (n : ℕ) (p : run ≡ take n bs) (e : n ≡ prefix_len is_plain bs) (a b : Option (List ℕ)) (h : Adds (Left front text bs) a b) where
+module _ (front text bs run : List ℕ) (n : ℕ) (p : run ≡ take n bs) (e : n ≡ prefix_len is_plain bs)
+    (a b : Option (List ℕ)) (h : Adds (Left front text bs) a b) where
   split : escaped bs ≡ run ++ escaped (drop n bs)
   split = escaped-run bs n (omega (arith, e)) ∙ rw (sym p) refl
 
-  last_joins : (x y : List ℕ) → Left front text bs x → Just run y → (x ++ y) ++ escaped (drop n bs) ≡ front ++ escaped text
+  last_joins : (x y : List ℕ) → Left front text bs x → Just run y
+      → (x ++ y) ++ escaped (drop n bs) ≡ front ++ escaped text
   last_joins x y k j = rw (j, append_assoc x run (escaped (drop n bs)), sym split) k
 
   -- a run that stopped, whatever follows it
-  pub any_run_stopped : (d : Option (List ℕ)) → Adds (Begins (Just run)) b d → Adds (Begins (Just (whole front text))) a d
+  pub any_run_stopped : (d : Option (List ℕ)) → Adds (Begins (Just run)) b d
+      → Adds (Begins (Just (whole front text))) a d
   any_run_stopped d k =
-      Begins-early (λ x. x ++ escaped (drop n bs) ≡ front ++ escaped text) (Just (whole front text)) a d (escaped (drop n bs) ++ 34 ∷ []) (λ x. left_closed front text (drop n bs) x) (Begins-after (Left front text bs) (Just run) (λ x. x ++ escaped (drop n bs) ≡ front ++ escaped text) a b d last_joins h k)
+      Begins-early (λ x. x ++ escaped (drop n bs) ≡ front ++ escaped text) (Just (whole front text)) a d
+      (escaped (drop n bs) ++ 34 ∷ []) (λ x. left_closed front text (drop n bs) x)
+      (Begins-after (Left front text bs) (Just run) (λ x. x ++ escaped (drop n bs) ≡ front ++ escaped text) a b d
+      last_joins h k)
 
   pub last_sent : drop n bs ≡ [] → (d : Option (List ℕ)) → Adds (Just run) b d → Adds (Just (front ++ escaped text)) a d
-  last_sent q d k = adds_then (Left front text bs) (Just run) (Just (front ++ escaped text)) a b d (λ x y l j. sym (append-nil (x ++ y)) ∙ (rw q at (last_joins x y l j))) h k
+  last_sent q d k = adds_then (Left front text bs) (Just run) (Just (front ++ escaped text)) a b d
+      (λ x y l j. sym (append-nil (x ++ y)) ∙ (rw q at (last_joins x y l j))) h k
 
 pub needs_escape : (bs rest : List ℕ) (n c : ℕ) → n ≡ prefix_len is_plain bs → drop n bs ≡ c ∷ rest → is_plain c ≡ false
 needs_escape bs rest n c e q =
     let l : n < length bs = omega (arith, ap (λ (xs : List ℕ). length xs) q, length-drop n bs) in
     rw (sym (drop-head bs n c rest q)) (escape_stands bs n e l)
 
-pub closes : {E : Type 0} (front text : List ℕ) (a b c : Option (List ℕ)) (r : Result (Unit {0}) E) → Adds (Just (front ++ escaped text)) a b → Sends (Just (34 ∷ [])) b c r → Sends (Just (whole front text)) a c r
-closes front text a b c r h k = Sends-after (Just (front ++ escaped text)) (Just (34 ∷ [])) (Just (whole front text)) a b c (λ x y p q. rw (p, q) (append_assoc front (escaped text) (34 ∷ []))) h r k
+pub closes : {E : Type 0} (front text : List ℕ) (a b c : Option (List ℕ)) (r : Result (Unit {0}) E)
+    → Adds (Just (front ++ escaped text)) a b → Sends (Just (34 ∷ [])) b c r → Sends (Just (whole front text)) a c r
+closes front text a b c r h k = Sends-after (Just (front ++ escaped text)) (Just (34 ∷ [])) (Just (whole front text)) a
+    b c (λ x y p q. rw (p, q) (append_assoc front (escaped text) (34 ∷ []))) h r k

@@ -1,5 +1,7 @@
 -- The pieces that a formatter shows of a value, joined.
-use Rattle.std.proofs.Common.{◌≡◌, ℕ, suc, ◌+◌, ◌-◌, ◌<◌, ◌≤◌, Bool, true, false, List, [], ◌∷◌, ◌++◌, length, take, drop, get_or, map, refl, sym, ap, ◌∙◌, append_assoc, append-nil, add-one, arith, length-append, length-drop}
+use Rattle.std.proofs.Common.{◌≡◌, ℕ, suc, ◌+◌, ◌-◌, ◌<◌, ◌≤◌, Bool, true, false, List, [], ◌∷◌, ◌++◌, length, take}
+use Rattle.std.proofs.Common.{drop, get_or, map, refl, sym, ap, ◌∙◌, append_assoc, append-nil, add-one, arith}
+use Rattle.std.proofs.Common.{length-append, length-drop}
 use Rattle.std.specs.Prelude.{nat_lt}
 use Rattle.std.specs.List.{prefix_len}
 use Rattle.std.proofs.Math.Seq.{drop-cons, take-append_seam}
@@ -7,8 +9,10 @@ use Rattle.std.proofs.lemmas.Bool.{lt-ltb}
 use Rattle.std.proofs.lemmas.List.{length-take-le, nil_from_length, take-take}
 use Rattle.jzon_base.specs.PlainBytes.{is_plain}
 use Rattle.jzon_tree.specs.Displayed.{comma_text, member_text}
-use Rattle.jzon_tree.specs.Text.{escaped, escaped_byte, quoted, compact, compact_layout, layout_text, more_values_text, more_pairs_text}
-use Rattle.jzon_tree.specs.Value.{Value, null, boolean, text, number, array, object, Values, no_values, value, Pairs, no_pairs, pair}
+use Rattle.jzon_tree.specs.Text.{escaped, escaped_byte, quoted, compact, compact_layout, layout_text, more_values_text}
+use Rattle.jzon_tree.specs.Text.{more_pairs_text}
+use Rattle.jzon_tree.specs.Value.{Value, null, boolean, text, number, array, object, Values, no_values, value, Pairs}
+use Rattle.jzon_tree.specs.Value.{no_pairs, pair}
 use Rattle.jzon_tree.specs.View.{view, view_values, view_pairs}
 use Rattle.jzon_tree.specs.declared.value.JsonValue.{JsonValue}
 use Rattle.jzon_tree.proofs.Plain.{escaped-run}
@@ -23,7 +27,8 @@ module _ (whole bs run : List ℕ) (n : ℕ) (p : run ≡ take n bs) (e : n ≡ 
   pub escape_shown : (c : ℕ) (rest : List ℕ) → drop n bs ≡ c ∷ rest → (x : List ℕ) → TextLeft whole bs x
       → TextLeft whole rest ((x ++ run) ++ escaped_byte c)
   escape_shown c rest q x h =
-      let all : escaped bs ≡ run ++ (escaped_byte c ++ escaped rest) = escaped-run bs n (omega (arith, e)) ∙ rw (sym p, q) refl in
+      let all : escaped bs ≡ run ++ (escaped_byte c ++ escaped rest) = escaped-run bs n (omega (arith, e))
+      ∙ rw (sym p, q) refl in
       append_assoc (x ++ run) (escaped_byte c) (escaped rest) ∙ append_assoc x run (escaped_byte c ++ escaped rest)
       ∙ ap (λ (w : List ℕ). x ++ w) (sym all) ∙ h
 
@@ -35,7 +40,13 @@ module _ (whole bs run : List ℕ) (n : ℕ) (p : run ≡ take n bs) (e : n ≡ 
 -- ---- an escape, of which the quote behind it is cut off
 pub without_last : (n : ℕ) (bs xs : List ℕ) (c : ℕ) → n ≤ length bs → take n bs ≡ xs ++ c ∷ [] → take (n - 1) bs ≡ xs
 without_last n bs xs c h e =
-    let all : n ≡ length xs + 1 = omega (arith, ap (λ (l : List ℕ). length l) e, length-take-le n bs h, length-append xs (c ∷ [])) in
+    let all : n ≡ length xs + 1 = omega (
+      arith,
+      ap (λ (l : List ℕ). length l) e,
+      length-take-le n bs h,
+      length-append xs
+          (c ∷ []),
+    ) in
     let less : n - 1 ≡ length xs = omega arith in
     sym (take-take (n - 1) n bs (omega arith)) ∙ ap (λ (l : List ℕ). take (n - 1) l) e
     ∙ ap (λ (k : ℕ). take k (xs ++ c ∷ [])) less ∙ take-append_seam xs (c ∷ [])
@@ -86,12 +97,14 @@ module _ {A : Type 0} (shown : A → List ℕ) (opening close : ℕ) (items : Li
   item_shown i a h is x left =
       let comma = comma_text (nat_lt 0 i) in
       let rest = texts_left close true (map shown (drop (suc i) items)) in
-      let here : drop i items ≡ a ∷ drop (suc i) items = drop-cons items i a h ∙ ap (λ (b : A). b ∷ drop (suc i) items) (sym is) in
+      let here : drop i items ≡ a ∷ drop (suc i) items = drop-cons items i a h
+      ∙ ap (λ (b : A). b ∷ drop (suc i) items) (sym is) in
       let more : x ++ (comma ++ (shown a ++ rest)) ≡ all_shown =
       ap (λ (others : List A). x ++ texts_left close (nat_lt 0 i) (map shown others)) (sym here) ∙ left
       in
       ap (λ (n : ℕ). ((x ++ comma) ++ shown a) ++ texts_left close (nat_lt 0 n) (map shown (drop n items))) (add-one i)
-      ∙ ap (λ (b : Bool). ((x ++ comma) ++ shown a) ++ texts_left close b (map shown (drop (suc i) items))) (lt-ltb 0 (suc i) (omega arith))
+      ∙ ap (λ (b : Bool). ((x ++ comma) ++ shown a) ++ texts_left close b (map shown (drop (suc i) items)))
+      (lt-ltb 0 (suc i) (omega arith))
       ∙ append_assoc (x ++ comma) (shown a) rest ∙ append_assoc x comma (shown a ++ rest) ∙ more
 
   pub items_shown : (i : ℕ) → i ≡ length items → (x : List ℕ) → ItemsLeft i x → x ++ close ∷ [] ≡ all_shown
@@ -103,7 +116,8 @@ module _ {A : Type 0} (shown : A → List ℕ) (opening close : ℕ) (items : Li
 abbrev pub item_text : JsonValue → List ℕ
 item_text v = compact (view v)
 
-values_left : (vs : List JsonValue) → texts_left 93 true (map item_text vs) ≡ more_values_text compact_layout 0 (view_values vs)
+values_left : (vs : List JsonValue) → texts_left 93 true (map item_text vs)
+    ≡ more_values_text compact_layout 0 (view_values vs)
 values_left [] = refl
 values_left (v ∷ vs) = λ i. 44 ∷ (same_depth 0 1 (view v) i ++ values_left vs i)
 
@@ -122,7 +136,8 @@ entry_then k v rest more e =
     ap (λ (w : List ℕ). w ++ rest) (sym (append_assoc (quoted k) (58 ∷ []) (compact (view v))))
     ∙ (λ i. ((quoted k ++ 58 ∷ []) ++ same_depth 0 1 (view v) i) ++ e i)
 
-pairs_left : (ps : List (List ℕ × JsonValue)) → texts_left 125 true (map entry_text ps) ≡ more_pairs_text compact_layout 0 (view_pairs ps)
+pairs_left : (ps : List (List ℕ × JsonValue)) → texts_left 125 true (map entry_text ps)
+    ≡ more_pairs_text compact_layout 0 (view_pairs ps)
 pairs_left [] = refl
 pairs_left (p ∷ ps) = ap (λ (w : List ℕ). 44 ∷ w) (entry_then p.0 p.1 _ _ (pairs_left ps))
 

@@ -1,5 +1,6 @@
 -- Positions that are sorted stay an order.
-use Rattle.std.proofs.Common.{◌≡◌, ℕ, zero, suc, ◌+◌, ◌<◌, false, IsTrue, List, [], ◌∷◌, ◌++◌, cond, length, get_or, map, refl, ap, ◌∙◌, sym, add-one, add-zero, zero-add, arith}
+use Rattle.std.proofs.Common.{◌≡◌, ℕ, zero, suc, ◌+◌, ◌<◌, false, IsTrue, List, [], ◌∷◌, ◌++◌, cond, length, get_or}
+use Rattle.std.proofs.Common.{map, refl, ap, ◌∙◌, sym, add-one, add-zero, zero-add, arith}
 use Rattle.std.specs.List.{range_with_len}
 use Rattle.std.specs.Prelude.{◌==◌}
 use Rattle.std.specs.List.Sorted.{IsPermutation}
@@ -13,19 +14,25 @@ use Rattle.jzon_tree.proofs.Orders.{order_within}
 pub IsOrder_permuted : (n : ℕ) (ps qs : List ℕ) → ps ≡ insertion n → IsPermutation ps qs → IsOrder n qs
 IsOrder_permuted n ps qs e same =
     let o : IsOrder n ps = rw e (IsOrder-insertion n) in
-    record { as_many = length_permutation ps qs same ∙ o.as_many; once = λ i h. sum_by-IsPermutation (λ j. cond (j == i) 1 0) ps qs same ∙ o.once i h }
+    record {
+      as_many = length_permutation ps qs same ∙ o.as_many;
+      once = λ i h. sum_by-IsPermutation
+          (λ j. cond (j == i) 1 0) ps qs same ∙ o.once i h;
+    }
 
 range_more : (a n : ℕ) → range_with_len a (suc n) ≡ range_with_len a n ++ (a + n) ∷ []
 range_more a zero = ap (λ (x : ℕ). x ∷ []) (sym (add-zero a))
 range_more a (suc n) =
-    ap (λ (xs : List ℕ). a ∷ xs) (range_more (a + 1) n ∙ ap (λ (x : ℕ). range_with_len (a + 1) n ++ x ∷ []) (omega arith))
+    ap (λ (xs : List ℕ). a ∷ xs) (range_more (a + 1) n ∙ ap (λ (x : ℕ). range_with_len (a + 1) n ++ x ∷ [])
+    (omega arith))
 
 pub insertion_more : (n : ℕ) → insertion (n + 1) ≡ insertion n ++ n ∷ []
 insertion_more n = rw (add-one n) (range_more 0 n ∙ ap (λ (x : ℕ). insertion n ++ x ∷ []) (zero-add n))
 
 -- keys ascend at positions where none stands before the one that it follows
 ascend_from : (keys : List (List ℕ)) (ps : List ℕ)
-    → ((k : ℕ) → suc k < length ps → is_before (text_at keys (get_or ps (suc k) 0)) (text_at keys (get_or ps k 0)) ≡ false)
+    → ((k : ℕ) → suc k < length ps → is_before (text_at keys (get_or ps (suc k) 0)) (text_at keys (get_or ps k 0))
+    ≡ false)
     → IsTrue (ascend (map (text_at keys) ps))
 ascend_from keys [] h = refl
 ascend_from keys (p ∷ []) h = refl
@@ -35,10 +42,12 @@ ascend_from keys (p ∷ q ∷ ps) h =
 
 -- the same of positions that are an order, which are all within range
 pub ascend_in_order : (keys : List (List ℕ)) (ps : List ℕ) → IsOrder (length keys) ps
-    → ((p q : ℕ) (k : ℕ) → k + 1 < length ps → get_or ps k 0 ≡ p → get_or ps (k + 1) 0 ≡ q → p < length keys → q < length keys
+    → ((p q : ℕ) (k : ℕ) → k + 1 < length ps → get_or ps k 0 ≡ p → get_or ps (k + 1) 0 ≡ q → p < length keys
+    → q < length keys
     → is_before (text_at keys q) (text_at keys p) ≡ false)
     → IsTrue (ascend (map (text_at keys) ps))
 ascend_in_order keys ps order h =
     let within = order_within (length keys) ps order in
     ascend_from keys ps
-    (λ k l. h (get_or ps k 0) (get_or ps (suc k) 0) k (omega arith) refl (ap (λ (j : ℕ). get_or ps j 0) (add-one k)) (within k (omega arith)) (within (suc k) l))
+    (λ k l. h (get_or ps k 0) (get_or ps (suc k) 0) k (omega arith) refl (ap (λ (j : ℕ). get_or ps j 0) (add-one k))
+    (within k (omega arith)) (within (suc k) l))

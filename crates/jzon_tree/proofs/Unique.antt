@@ -1,5 +1,6 @@
 -- A style with one choice of each has one writing of each value: the text in its layout.
-use Rattle.std.proofs.Common.{◌≡◌, ℕ, suc, ◌+◌, Bool, true, false, List, [], ◌∷◌, ◌++◌, refl, sym, ap, ◌∙◌, length, append_assoc, length-append, arith, map, take, Option, Some, None, subst, Result, Ok, Err}
+use Rattle.std.proofs.Common.{◌≡◌, ℕ, suc, ◌+◌, Bool, true, false, List, [], ◌∷◌, ◌++◌, refl, sym, ap, ◌∙◌, length}
+use Rattle.std.proofs.Common.{append_assoc, length-append, arith, map, take, Option, Some, None, subst, Result, Ok, Err}
 use Rattle.std.specs.Prelude.{IsTrue, OnOk, OnErr}
 use Rattle.std.specs.List.{range_with_len}
 use Rattle.std.specs.Str.{bytes_eq}
@@ -12,7 +13,8 @@ use Rattle.jzon_tree.specs.Generator.{Adds, Begins, Emitted, Prints, insertion}
 use Rattle.jzon_tree.specs.Generators.{fresh}
 use Rattle.jzon_tree.specs.Styles.{only, same_form}
 use Rattle.jzon_tree.specs.Text.{Layout, layout_text, more_values_text, more_pairs_text, quoted}
-use Rattle.jzon_tree.specs.Value.{Value, null, boolean, text, number, array, object, Values, no_values, value, Pairs, no_pairs, pair, list_of_pairs}
+use Rattle.jzon_tree.specs.Value.{Value, null, boolean, text, number, array, object, Values, no_values, value, Pairs}
+use Rattle.jzon_tree.specs.Value.{no_pairs, pair, list_of_pairs}
 use Rattle.jzon_tree.specs.Writing.{Style, IsAllowedBlank, text_at, Joins, Writes, WritesEach, WritesPairs, colon_text}
 
 same_list : (xs ys : List ℕ) → bytes_eq xs ys ≡ true → xs ≡ ys
@@ -32,7 +34,8 @@ seam (u ∷ us) ts t = seam us ts t
 in_order : (ts front : List (List ℕ)) → map (text_at (front ++ ts)) (range_with_len (length front) (length ts)) ≡ ts
 in_order [] front = refl
 in_order (t ∷ ts) front =
-    let e : map (text_at (front ++ t ∷ ts)) (range_with_len (length front + 1) (length ts)) ≡ ts = rw (length-append front (t ∷ []), append_assoc front (t ∷ []) ts) at (in_order ts (front ++ t ∷ [])) in
+    let e : map (text_at (front ++ t ∷ ts)) (range_with_len (length front + 1) (length ts))
+    ≡ ts = rw (length-append front (t ∷ []), append_assoc front (t ∷ []) ts) at (in_order ts (front ++ t ∷ [])) in
     rw (seam front ts t, e) refl
 
 after_comma : (l t m rest : List ℕ) → (l ++ (t ++ 44 ∷ m)) ++ rest ≡ (l ++ t) ++ 44 ∷ (m ++ rest)
@@ -58,10 +61,13 @@ module _ (line : ℕ → List ℕ) (wide : Bool) where
   pair_texts d (pair k v ps) = (quoted k ++ (colon_text wide ++ layout_text layout d v)) ∷ pair_texts d ps
 
   -- the texts with their blanks and commas, and the closing bracket
-  values_inside : (d : ℕ) (v : Value) (vs : Values) (b w : List ℕ) → Joins style (suc d) (value_texts (suc d) (value v vs)) b → w ≡ line d → b ++ (w ++ 93 ∷ []) ≡ (line (suc d) ++ layout_text layout (suc d) v) ++ more_values_text layout d vs
+  values_inside : (d : ℕ) (v : Value) (vs : Values) (b w : List ℕ)
+      → Joins style (suc d) (value_texts (suc d) (value v vs)) b → w ≡ line d
+      → b ++ (w ++ 93 ∷ []) ≡ (line (suc d) ++ layout_text layout (suc d) v) ++ more_values_text layout d vs
   values_inside d v no_values b w (u, h, e) f = rw (e, blank_is (suc d) u h, f) refl
   values_inside d v (value x vs) b w (u, m, h, j, e) f =
-      rw (e, blank_is (suc d) u h) (after_comma (line (suc d)) (layout_text layout (suc d) v) m (w ++ 93 ∷ []) ∙ ap (λ y. (line (suc d) ++ layout_text layout (suc d) v) ++ 44 ∷ y) (values_inside d x vs m w j f))
+      rw (e, blank_is (suc d) u h) (after_comma (line (suc d)) (layout_text layout (suc d) v) m (w ++ 93 ∷ [])
+      ∙ ap (λ y. (line (suc d) ++ layout_text layout (suc d) v) ++ 44 ∷ y) (values_inside d x vs m w j f))
 
   abbrev named : ℕ → List ℕ → Value → List ℕ
   named d k v = quoted k ++ (colon_text wide ++ layout_text layout d v)
@@ -71,12 +77,18 @@ module _ (line : ℕ → List ℕ) (wide : Bool) where
 
   started : (d : ℕ) (k : List ℕ) (v : Value) (rest : List ℕ) → (line d ++ named d k v) ++ rest ≡ start d k v ++ rest
   started d k v rest =
-      ap (λ x. x ++ rest) (sym (append_assoc (line d) (quoted k) (colon_text wide ++ layout_text layout d v)) ∙ sym (append_assoc (line d ++ quoted k) (colon_text wide) (layout_text layout d v)))
+      ap (λ x. x ++ rest) (sym (append_assoc (line d) (quoted k) (colon_text wide ++ layout_text layout d v))
+      ∙ sym (append_assoc (line d ++ quoted k) (colon_text wide) (layout_text layout d v)))
 
-  pairs_inside : (d : ℕ) (k : List ℕ) (v : Value) (ps : Pairs) (b w : List ℕ) → Joins style (suc d) (pair_texts (suc d) (pair k v ps)) b → w ≡ line d → b ++ (w ++ 125 ∷ []) ≡ start (suc d) k v ++ more_pairs_text layout d ps
-  pairs_inside d k v no_pairs b w (u, h, e) f = rw (e, blank_is (suc d) u h, f) (started (suc d) k v (line d ++ 125 ∷ []))
+  pairs_inside : (d : ℕ) (k : List ℕ) (v : Value) (ps : Pairs) (b w : List ℕ)
+      → Joins style (suc d) (pair_texts (suc d) (pair k v ps)) b → w ≡ line d
+      → b ++ (w ++ 125 ∷ []) ≡ start (suc d) k v ++ more_pairs_text layout d ps
+  pairs_inside d k v no_pairs b w (u, h, e) f = rw (e, blank_is (suc d) u h, f)
+      (started (suc d) k v (line d ++ 125 ∷ []))
   pairs_inside d k v (pair l x ps) b w (u, m, h, j, e) f =
-      rw (e, blank_is (suc d) u h) (after_comma (line (suc d)) (named (suc d) k v) m (w ++ 125 ∷ []) ∙ started (suc d) k v (44 ∷ (m ++ (w ++ 125 ∷ []))) ∙ ap (λ y. start (suc d) k v ++ 44 ∷ y) (pairs_inside d l x ps m w j f))
+      rw (e, blank_is (suc d) u h) (after_comma (line (suc d)) (named (suc d) k v) m (w ++ 125 ∷ [])
+      ∙ started (suc d) k v (44 ∷ (m ++ (w ++ 125 ∷ [])))
+      ∙ ap (λ y. start (suc d) k v ++ 44 ∷ y) (pairs_inside d l x ps m w j f))
 
   length-texts : (d : ℕ) (ps : Pairs) → length (pair_texts d ps) ≡ length (keys_of (list_of_pairs ps))
   length-texts d no_pairs = refl
@@ -90,14 +102,17 @@ module _ (line : ℕ → List ℕ) (wide : Bool) where
     written d (number n) b e = e
     written d (array no_values) b e = e
     written d (array (value v vs)) b (ts, each, (inside, w, j, h, e)) =
-        e ∙ ap (λ x. 91 ∷ x) (values_inside d v vs inside w (subst (λ xs. Joins style (suc d) xs inside) (written_values (suc d) (value v vs) ts each) j) (blank_is d w h))
+        e ∙ ap (λ x. 91 ∷ x) (values_inside d v vs inside w (subst (λ xs. Joins style (suc d) xs inside)
+        (written_values (suc d) (value v vs) ts each) j) (blank_is d w h))
     written d (object no_pairs) b e = e
     written d (object (pair k v ps)) b (ts, positions, each, order, allowed, (inside, w, j, h, e)) =
         let same : ts ≡ pair_texts (suc d) (pair k v ps) = written_pairs (suc d) (pair k v ps) ts each in
-        let as_many : length (keys_of (list_of_pairs (pair k v ps))) ≡ length ts = sym (length-texts (suc d) (pair k v ps)) ∙ ap length (sym same) in
+        let as_many : length (keys_of (list_of_pairs (pair k v ps)))
+        ≡ length ts = sym (length-texts (suc d) (pair k v ps)) ∙ ap length (sym same) in
         let ordered : map (text_at ts) positions ≡ pair_texts (suc d) (pair k v ps) =
         ap (map (text_at ts)) (same_list positions _ allowed ∙ ap insertion as_many) ∙ in_order ts [] ∙ same in
-        e ∙ ap (λ x. 123 ∷ x) (pairs_inside d k v ps inside w (subst (λ xs. Joins style (suc d) xs inside) ordered j) (blank_is d w h))
+        e ∙ ap (λ x. 123 ∷ x) (pairs_inside d k v ps inside w (subst (λ xs. Joins style (suc d) xs inside) ordered j)
+        (blank_is d w h))
 
     written_values : (d : ℕ) (vs : Values) (ts : List (List ℕ)) → WritesEach style d vs ts → ts ≡ value_texts d vs
     written_values d no_values [] h = refl
@@ -109,10 +124,12 @@ module _ (line : ℕ → List ℕ) (wide : Bool) where
     written_pairs d no_pairs [] h = refl
     written_pairs d no_pairs (t ∷ ts) h = absurd h
     written_pairs d (pair k v ps) [] h = absurd h
-    written_pairs d (pair k v ps) (t ∷ ts) ((form, x, c, i, e), h) = rw (e, form_is form wide c, written d v x i, written_pairs d ps ts h) refl
+    written_pairs d (pair k v ps) (t ∷ ts) ((form, x, c, i, e), h) = rw
+        (e, form_is form wide c, written d v x i, written_pairs d ps ts h) refl
 
 -- ---- a writer that is lent to a generator, in the end
-adds-appended : (P : List ℕ → Type 0) (bs : List ℕ) (a b : Option (List ℕ)) → ((x : List ℕ) → P x → x ≡ bs) → Adds P a b → Appends a b bs
+adds-appended : (P : List ℕ → Type 0) (bs : List ℕ) (a b : Option (List ℕ)) → ((x : List ℕ) → P x → x ≡ bs) → Adds P a b
+    → Appends a b bs
 adds-appended P bs None b f h = tt
 adds-appended P bs (Some xs) None f h = absurd h
 adds-appended P bs (Some xs) (Some ys) f (x, e, p) = e ∙ ap (λ w. xs ++ w) (f x p)
@@ -121,31 +138,51 @@ take-front : (x y : List ℕ) → take (length x) (x ++ y) ≡ x
 take-front [] y = refl
 take-front (c ∷ x) y = ap (λ w. c ∷ w) (take-front x y)
 
-adds-beginning : (P : List ℕ → Type 0) (bs : List ℕ) (a b : Option (List ℕ)) → ((x : List ℕ) → P x → x ≡ bs) → Adds (Begins P) a b → AppendsBeginning a b bs
+adds-beginning : (P : List ℕ → Type 0) (bs : List ℕ) (a b : Option (List ℕ)) → ((x : List ℕ) → P x → x ≡ bs)
+    → Adds (Begins P) a b → AppendsBeginning a b bs
 adds-beginning P bs None b f h = (0, omega arith, tt)
 adds-beginning P bs (Some xs) None f h = absurd h
 adds-beginning P bs (Some xs) (Some ys) f (x, e, (y, p)) =
-    let whole : x ++ y ≡ bs = f (x ++ y) p in
-    (length x, omega (arith, length-append x y, ap (λ (w : List ℕ). length w) whole), e ∙ ap (λ w. xs ++ w) (rw whole at (sym (take-front x y))))
+    let whole : x ++ y ≡ bs = f (x ++ y) p in (
+      length x,
+      omega (arith, length-append x y, ap (λ (w : List ℕ). length w) whole),
+      e
+          ∙ ap (λ w. xs ++ w) (rw whole at (sym (take-front x y))),
+    )
 
-lent_ok : (P : List ℕ → Type 0) (bs : List ℕ) → ((x : List ℕ) → P x → x ≡ bs) → {W E : Type 0} (contents : W → Option (List ℕ)) (old new : Emitted) (r : Result (Unit {0}) E) (n m : GName) (x now : W)
-    → Prints P old new r → old.lender ≡ Some n → new.lender ≡ Some m → (n ≡ m → x ≡ now) → new.out ≡ contents now → OnOk r (Appends old.out (contents x) bs)
-lent_ok P bs unique contents old new (Ok u) n m x now h e f same out = let s : n ≡ m = cc (e, f, h.lender) in rw (same s, sym out) (adds-appended P bs old.out new.out unique h.bytes)
+lent_ok : (P : List ℕ → Type 0) (bs : List ℕ) → ((x : List ℕ) → P x → x ≡ bs)
+    → {W E : Type 0} (contents : W → Option (List ℕ)) (old new : Emitted) (r : Result (Unit {0}) E) (n m : GName)
+    (x now : W)
+    → Prints P old new r → old.lender ≡ Some n → new.lender ≡ Some m → (n ≡ m → x ≡ now) → new.out ≡ contents now
+    → OnOk r (Appends old.out (contents x) bs)
+lent_ok P bs unique contents old new (Ok u) n m x now h e f same out = let s : n
+    ≡ m = cc (e, f, h.lender) in rw (same s, sym out) (adds-appended P bs old.out new.out unique h.bytes)
 lent_ok P bs unique contents old new (Err u) n m x now h e f same out = tt
 
-lent_err : (P : List ℕ → Type 0) (bs : List ℕ) → ((x : List ℕ) → P x → x ≡ bs) → {W E : Type 0} (contents : W → Option (List ℕ)) (old new : Emitted) (r : Result (Unit {0}) E) (n m : GName) (x now : W)
-    → Prints P old new r → old.lender ≡ Some n → new.lender ≡ Some m → (n ≡ m → x ≡ now) → new.out ≡ contents now → OnErr r (AppendsBeginning old.out (contents x) bs)
+lent_err : (P : List ℕ → Type 0) (bs : List ℕ) → ((x : List ℕ) → P x → x ≡ bs)
+    → {W E : Type 0} (contents : W → Option (List ℕ)) (old new : Emitted) (r : Result (Unit {0}) E) (n m : GName)
+    (x now : W)
+    → Prints P old new r → old.lender ≡ Some n → new.lender ≡ Some m → (n ≡ m → x ≡ now) → new.out ≡ contents now
+    → OnErr r (AppendsBeginning old.out (contents x) bs)
 lent_err P bs unique contents old new (Ok u) n m x now h e f same out = tt
-lent_err P bs unique contents old new (Err u) n m x now h e f same out = let s : n ≡ m = cc (e, f, h.lender) in rw (same s, sym out) (adds-beginning P bs old.out new.out unique h.bytes)
+lent_err P bs unique contents old new (Err u) n m x now h e f same out = let s : n
+    ≡ m = cc (e, f, h.lender) in rw (same s, sym out) (adds-beginning P bs old.out new.out unique h.bytes)
 
 -- the same of a generator that began without an indent
-module _ (line : ℕ → List ℕ) (wide : Bool) (v : Value) {W E : Type 0} (contents : W → Option (List ℕ)) (old new : Emitted) (o : Option (List ℕ)) (l : Option GName) (r : Result (Unit {0}) E) (n m : GName) (x now : W)
-    (begun : old ≡ fresh o (only line wide) l) (printed : Prints (Writes old.style old.dent v) old new r) (e : old.lender ≡ Some n) (f : new.lender ≡ Some m) (same : n ≡ m → x ≡ now) (out : new.out ≡ contents now) where
-  outmost : Prints (Writes (only line wide) 0 v) old new r
-  outmost = subst (λ z. Prints (Writes z.style z.dent v) old new r) begun printed
+module _ (line : ℕ → List ℕ) (wide : Bool) (v : Value) {W E : Type 0} (contents : W → Option (List ℕ))
+    (old new : Emitted) (o : Option (List ℕ)) (l : Option GName) (r : Result (Unit {0}) E) (n m : GName) (x now : W)
+    (begun : old ≡ fresh o (only line wide) l) (printed : Prints (Writes old.style old.dent v) old new r)
+    (e : old.lender ≡ Some n) (f : new.lender ≡ Some m) (same : n ≡ m → x ≡ now) (out : new.out ≡ contents now)
+  where
+    outmost : Prints (Writes (only line wide) 0 v) old new r
+    outmost = subst (λ z. Prints (Writes z.style z.dent v) old new r) begun printed
 
-  pub given_back_ok : OnOk r (Appends o (contents x) (layout_text (layout line wide) 0 v))
-  given_back_ok = subst (λ z. OnOk r (Appends z (contents x) (layout_text (layout line wide) 0 v))) (ap (λ z. z.out) begun) (lent_ok (Writes (only line wide) 0 v) (layout_text (layout line wide) 0 v) (written line wide 0 v) contents old new r n m x now outmost e f same out)
+    pub given_back_ok : OnOk r (Appends o (contents x) (layout_text (layout line wide) 0 v))
+    given_back_ok = subst (λ z. OnOk r (Appends z (contents x) (layout_text (layout line wide) 0 v)))
+        (ap (λ z. z.out) begun) (lent_ok (Writes (only line wide) 0 v) (layout_text (layout line wide) 0 v)
+        (written line wide 0 v) contents old new r n m x now outmost e f same out)
 
-  pub given_back_err : OnErr r (AppendsBeginning o (contents x) (layout_text (layout line wide) 0 v))
-  given_back_err = subst (λ z. OnErr r (AppendsBeginning z (contents x) (layout_text (layout line wide) 0 v))) (ap (λ z. z.out) begun) (lent_err (Writes (only line wide) 0 v) (layout_text (layout line wide) 0 v) (written line wide 0 v) contents old new r n m x now outmost e f same out)
+    pub given_back_err : OnErr r (AppendsBeginning o (contents x) (layout_text (layout line wide) 0 v))
+    given_back_err = subst (λ z. OnErr r (AppendsBeginning z (contents x) (layout_text (layout line wide) 0 v)))
+        (ap (λ z. z.out) begun) (lent_err (Writes (only line wide) 0 v) (layout_text (layout line wide) 0 v)
+        (written line wide 0 v) contents old new r n m x now outmost e f same out)

@@ -1,5 +1,6 @@
 -- A value seen level by level, and the pairs of an object as they are seen.
-use Rattle.std.proofs.Common.{◌≡◌, ℕ, List, [], ◌∷◌, map, Option, Some, None, option_map, Vec, Global, cond, Bool, true, false, Bor, refl, sym, ap, ◌∙◌, ◌≤◌, arith, rules}
+use Rattle.std.proofs.Common.{◌≡◌, ℕ, List, [], ◌∷◌, map, Option, Some, None, option_map, Vec, Global, cond, Bool, true}
+use Rattle.std.proofs.Common.{false, Bor, refl, sym, ap, ◌∙◌, ◌≤◌, arith, rules}
 use denote.Param.Weighed.{most}
 use Rattle.std.specs.Option.{option_copied}
 use Rattle.std.specs.List.{zip}
@@ -8,7 +9,8 @@ use Rattle.jzon_base.specs.PairList.{find, put, cut, keys_of, values_of}
 use Rattle.jzon_tree.specs.Value.{Value, null, boolean, array, pairs_of, list_of_pairs}
 use Rattle.jzon_tree.specs.View.{view, view_object, viewed, view_pairs, view_values}
 use Rattle.jzon_tree.specs.declared.object.Object.{Object}
-use Rattle.jzon_tree.specs.declared.value.JsonValue.{JsonValue, size-JsonValue, Null, Boolean, Array, Object as in_object, the_lemmas}
+use Rattle.jzon_tree.specs.declared.value.JsonValue.{JsonValue, size-JsonValue, Null, Boolean, Array}
+use Rattle.jzon_tree.specs.declared.value.JsonValue.{Object as in_object, the_lemmas}
 
 pub view-Null : view Null ≡ null
 view-Null = search (rules, the_lemmas)
@@ -27,7 +29,8 @@ pub list_of_pairs-pairs_of : (ps : List (List ℕ × Value)) → list_of_pairs (
 list_of_pairs-pairs_of [] = refl
 list_of_pairs-pairs_of (p ∷ ps) = ap (λ (qs : List (List ℕ × Value)). p ∷ qs) (list_of_pairs-pairs_of ps)
 
-find-viewed-at : (b : Bool) (v : JsonValue) (rest : Option JsonValue) (found : Option Value) → option_map view rest ≡ found → option_map view (cond b (Some v) rest) ≡ cond b (Some (view v)) found
+find-viewed-at : (b : Bool) (v : JsonValue) (rest : Option JsonValue) (found : Option Value)
+    → option_map view rest ≡ found → option_map view (cond b (Some v) rest) ≡ cond b (Some (view v)) found
 find-viewed-at true v rest found e = refl
 find-viewed-at false v rest found e = e
 
@@ -39,17 +42,22 @@ viewed-cond : (b : Bool) (ps qs : List (List ℕ × JsonValue)) → viewed (cond
 viewed-cond true ps qs = refl
 viewed-cond false ps qs = refl
 
-pub viewed-put : (k : List ℕ) (v : JsonValue) (ps : List (List ℕ × JsonValue)) → viewed (put k v ps) ≡ put k (view v) (viewed ps)
+pub viewed-put : (k : List ℕ) (v : JsonValue) (ps : List (List ℕ × JsonValue))
+    → viewed (put k v ps) ≡ put k (view v) (viewed ps)
 viewed-put k v [] = refl
 viewed-put k v (p ∷ ps) =
-    viewed-cond (bytes_eq p.0 k) ((p.0, v) ∷ ps) (p ∷ put k v ps) ∙ ap (λ (qs : List (List ℕ × Value)). cond (bytes_eq p.0 k) ((p.0, view v) ∷ viewed ps) ((p.0, view p.1) ∷ qs)) (viewed-put k v ps)
+    viewed-cond (bytes_eq p.0 k) ((p.0, v) ∷ ps) (p ∷ put k v ps)
+    ∙ ap (λ (qs : List (List ℕ × Value)). cond (bytes_eq p.0 k) ((p.0, view v) ∷ viewed ps) ((p.0, view p.1) ∷ qs))
+    (viewed-put k v ps)
 
 pub viewed-cut : (k : List ℕ) (ps : List (List ℕ × JsonValue)) → viewed (cut k ps) ≡ cut k (viewed ps)
 viewed-cut k [] = refl
 viewed-cut k (p ∷ ps) =
-    viewed-cond (bytes_eq p.0 k) ps (p ∷ cut k ps) ∙ ap (λ (qs : List (List ℕ × Value)). cond (bytes_eq p.0 k) (viewed ps) ((p.0, view p.1) ∷ qs)) (viewed-cut k ps)
+    viewed-cond (bytes_eq p.0 k) ps (p ∷ cut k ps) ∙ ap (λ (qs : List (List ℕ × Value)). cond (bytes_eq p.0 k)
+    (viewed ps) ((p.0, view p.1) ∷ qs)) (viewed-cut k ps)
 
-pub view-find : (k : List ℕ) (ps : List (List ℕ × JsonValue)) → option_map view (find k ps) ≡ find k (list_of_pairs (view_pairs ps))
+pub view-find : (k : List ℕ) (ps : List (List ℕ × JsonValue))
+    → option_map view (find k ps) ≡ find k (list_of_pairs (view_pairs ps))
 view-find k ps = find-viewed k ps ∙ ap (find k) (sym (list_of_pairs-pairs_of (viewed ps)))
 
 -- ---- what a call lends
@@ -57,7 +65,8 @@ pub view_of_ref : (r : Option (Bor JsonValue)) → option_map (λ x. view x.now)
 view_of_ref None = refl
 view_of_ref (Some x) = refl
 
-pub view_found : (r : Option (Bor JsonValue)) (o : Option JsonValue) → option_copied r ≡ o → option_map (λ x. view x.now) r ≡ option_map view o
+pub view_found : (r : Option (Bor JsonValue)) (o : Option JsonValue) → option_copied r ≡ o
+    → option_map (λ x. view x.now) r ≡ option_map view o
 view_found r o e = view_of_ref r ∙ ap (option_map view) e
 
 cons_parts : {A : Type 0} (x y : A) (xs ys : List A) → x ∷ xs ≡ y ∷ ys → (x ≡ y) × (xs ≡ ys)
@@ -67,7 +76,8 @@ nil_cons : {A : Type 0} (x : A) (xs : List A) → ◌≡◌ {A = List A} [] (x �
 nil_cons x xs e = cc
 
 -- the keys of an object beside values that are seen as its values are
-pub view_pairs-zip : (ps : List (List ℕ × JsonValue)) (vs : List JsonValue) → map view vs ≡ map view (values_of ps) → view_pairs (zip (keys_of ps) vs) ≡ view_pairs ps
+pub view_pairs-zip : (ps : List (List ℕ × JsonValue)) (vs : List JsonValue) → map view vs ≡ map view (values_of ps)
+    → view_pairs (zip (keys_of ps) vs) ≡ view_pairs ps
 view_pairs-zip [] vs e = refl
 view_pairs-zip (p ∷ ps) [] e = absurd (nil_cons (view p.1) (map view (values_of ps)) e)
 view_pairs-zip (p ∷ ps) (v ∷ vs) e =
@@ -75,7 +85,8 @@ view_pairs-zip (p ∷ ps) (v ∷ vs) e =
     rw (parts.0, view_pairs-zip ps vs parts.1) refl
 
 -- no value of the pairs that are left is larger than all of them
-pub most-rest : (ps rest : List (List ℕ × JsonValue)) (p : List ℕ × JsonValue) → ps ≡ p ∷ rest → most size-JsonValue (values_of rest) ≤ most size-JsonValue (values_of ps)
+pub most-rest : (ps rest : List (List ℕ × JsonValue)) (p : List ℕ × JsonValue) → ps ≡ p ∷ rest
+    → most size-JsonValue (values_of rest) ≤ most size-JsonValue (values_of ps)
 most-rest ps rest p e = omega (arith, ap (λ (xs : List (List ℕ × JsonValue)). most size-JsonValue (values_of xs)) e)
 
 pub ruleset views = (view-Array, view-Object, view-find, view_of_ref, viewed-put, viewed-cut)

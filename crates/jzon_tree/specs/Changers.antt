@@ -4,7 +4,8 @@ use Rattle.jzon_base.specs.ErrorText.{IsWrongType}
 use Rattle.jzon_base.specs.PairList.{put, cut}
 use Rattle.jzon_base.specs.declared.error.Error.{Error}
 use Rattle.jzon_base.specs.declared.error.Error.TheVariants.{OutOfMemory}
-use Rattle.jzon_tree.specs.Value.{Value, null, text, short, array, no_values, object, no_pairs, values_of, pairs_of, list_of_values, list_of_pairs}
+use Rattle.jzon_tree.specs.Value.{Value, null, text, short, array, no_values, object, no_pairs, values_of, pairs_of}
+use Rattle.jzon_tree.specs.Value.{list_of_values, list_of_pairs}
 
 -- whether the text of the value is kept in place
 abbrev pub is_short : Value → Bool
@@ -43,7 +44,8 @@ cleared (object ps) = object no_pairs
 cleared (array vs) = array no_values
 cleared v = null
 
--- The refusal of a call that asks for a kind of value, by whether the value is of that kind: memory was refused, or the kind is not the one that is named.
+-- The refusal of a call that asks for a kind of value, by whether the value is of that kind: memory was refused, or the
+-- kind is not the one that is named.
 abbrev pub IsRefusal : Bool → List ℕ → Error → Type 0
 IsRefusal true kind e = e ≡ OutOfMemory
 IsRefusal false kind e = (e ≡ OutOfMemory) ⊎ IsWrongType kind e

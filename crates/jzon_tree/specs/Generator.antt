@@ -1,5 +1,6 @@
 -- What stands behind a generator, and what its hooks do to it (docs/RULES.md, "Generators").
-use Rattle.std.specs.Prelude.{◌≡◌, ℕ, ◌+◌, ◌-◌, ◌^◌, ◌≤◌, min, true, false, IsTrue, List, [], ◌∷◌, ◌++◌, ◌⊎◌, ⊤, length, MatchResult, Option, Result, Some, None}
+use Rattle.std.specs.Prelude.{◌≡◌, ℕ, ◌+◌, ◌-◌, ◌^◌, ◌≤◌, min, true, false, IsTrue, List, [], ◌∷◌, ◌++◌, ◌⊎◌, ⊤, length}
+use Rattle.std.specs.Prelude.{MatchResult, Option, Result, Some, None}
 use Rattle.std.specs.Borrow.{GName}
 use Rattle.std.specs.List.{range_with_len}
 use Rattle.std.specs.declared.vec.Vec.{Vec}
@@ -24,7 +25,8 @@ Just bs b = b ≡ bs
 abbrev pub Sends : {E : Type 0} → (List ℕ → Type 0) → Option (List ℕ) → Option (List ℕ) → Result (Unit {0}) E → Type 0
 Sends P old new r = MatchResult r (λ _. Adds P old new) (λ _. Adds (Begins P) old new)
 
--- The bytes written so far, where the writer tells them; the open indents; the faults so far; the style; and the reference that is written through, if one is.
+-- The bytes written so far, where the writer tells them; the open indents; the faults so far; the style; and the
+-- reference that is written through, if one is.
 pub record Emitted : Type 0 where
   pub out : Option (List ℕ)
   pub dent : ℕ

@@ -20,12 +20,14 @@ abbrev pub CloneListMeans : {X : Type 0} → (X → X → Type 0) → (X → Val
 CloneListMeans {X} is_clone means xs v = (ys : List X) × AllZip is_clone xs ys × ListMeans means ys v
 
 -- pairs mean pairs of their keys' texts and of what their values mean, one by one
-abbrev pub PairsMean : {K X : Type 0} → (K → List ℕ) → (X → Value → Type 0) → List (K × X) → List (List ℕ × Value) → Type 0
+abbrev pub PairsMean : {K X : Type 0} → (K → List ℕ) → (X → Value → Type 0) → List (K × X) → List (List ℕ × Value)
+    → Type 0
 PairsMean text means = AllZip (λ p q. (q.0 ≡ text p.0) × means p.1 q.1)
 
 -- pairs that are put one after the other: a repeated key keeps the first one's place and takes the last value
 abbrev pub PutMeans : {K X : Type 0} → (K → List ℕ) → (X → Value → Type 0) → List (K × X) → Value → Type 0
-PutMeans text means ps v = (qs : List (List ℕ × Value)) × PairsMean text means ps qs × (v ≡ object (pairs_of (put_each qs)))
+PutMeans text means ps v = (qs : List (List ℕ × Value)) × PairsMean text means ps qs
+    × (v ≡ object (pairs_of (put_each qs)))
 
 -- a map in order means the object of its pairs, in that order
 abbrev pub MapMeans : {K X : Type 0} → (K → List ℕ) → (X → Value → Type 0) → List (K × X) → Value → Type 0

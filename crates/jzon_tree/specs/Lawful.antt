@@ -3,7 +3,8 @@ use Rattle.std.specs.Prelude.{◌≢◌, ℕ, ◌≤◌, ◌<◌, ◌^◌, List,
 use Rattle.std.specs.Int.{w16}
 use Rattle.jzon_base.specs.Decimal.{Decimal, nan, parts}
 use Rattle.jzon_base.specs.PairList.{keys_of}
-use Rattle.jzon_tree.specs.Value.{Value, null, boolean, text, number, array, object, Values, no_values, value, Pairs, no_pairs, pair, list_of_pairs, Kind, short, long}
+use Rattle.jzon_tree.specs.Value.{Value, null, boolean, text, number, array, object, Values, no_values, value, Pairs}
+use Rattle.jzon_tree.specs.Value.{no_pairs, pair, list_of_pairs, Kind, short, long}
 
 -- a mantissa of 64 bits and an exponent of 16
 abbrev pub InRange : Decimal → Type 0

@@ -1,10 +1,12 @@
 -- What a value lends to be written (docs/RULES.md, "Readers" and "Changers").
-use Rattle.std.specs.Prelude.{◌≡◌, ℕ, min, ◌-◌, List, [], ◌∷◌, ◌++◌, length, nat_lt, nat_eq, if◌then◌else◌, Option, None, Some}
+use Rattle.std.specs.Prelude.{◌≡◌, ℕ, min, ◌-◌, List, [], ◌∷◌, ◌++◌, length, nat_lt, nat_eq, if◌then◌else◌, Option}
+use Rattle.std.specs.Prelude.{None, Some}
 use Rattle.std.specs.Global.{Vec}
 use Rattle.std.proofs.Common.{rules}
 use Rattle.jzon_tree.specs.Entries.{entries_of, with_entries}
 use Rattle.jzon_tree.specs.declared.object.Object.{Object}
-use Rattle.jzon_tree.specs.declared.value.JsonValue.{JsonValue, out-JsonValue, Null, Object as object_value, Array as array_value, the_lemmas}
+use Rattle.jzon_tree.specs.declared.value.JsonValue.{JsonValue, out-JsonValue, Null, Object as object_value}
+use Rattle.jzon_tree.specs.declared.value.JsonValue.{Array as array_value, the_lemmas}
 use Rattle.jzon_tree.specs.declared.value.JsonValue.TheOpen.{JsonValue-F}
 
 abbrev object_at : JsonValue-F JsonValue Object → Option Object
@@ -31,7 +33,8 @@ items_at _ = None
 abbrev pub items_in : JsonValue → Option (List JsonValue)
 items_in v = items_at (out-JsonValue v)
 
--- the items once there is a place for index i: the same where i is in range, and one null more past the end; one null at 0 and else two, of what has no items
+-- the items once there is a place for index i: the same where i is in range, and one null more past the end; one null
+-- at 0 and else two, of what has no items
 abbrev pub with_place : {V : Type 0} → V → Option (List V) → ℕ → List V
 with_place null (Some xs) i = if nat_lt i (length xs) then xs else xs ++ null ∷ []
 with_place null None i = if nat_eq i 0 then null ∷ [] else null ∷ null ∷ []

@@ -1,5 +1,6 @@
 -- The parts of a writing, as the functions that write values add them.
-use Rattle.std.specs.Prelude.{◌≡◌, ℕ, ◌<◌, Bool, true, false, IsTrue, List, [], ◌∷◌, ◌++◌, length, map, MatchResult, Result, slice_index_or, if◌then◌else◌}
+use Rattle.std.specs.Prelude.{◌≡◌, ℕ, ◌<◌, Bool, true, false, IsTrue, List, [], ◌∷◌, ◌++◌, length, map, MatchResult}
+use Rattle.std.specs.Prelude.{Result, slice_index_or, if◌then◌else◌}
 use Rattle.jzon_tree.specs.Generator.{Emitted, Added, Stopped}
 use Rattle.jzon_tree.specs.Text.{quoted}
 use Rattle.jzon_tree.specs.Value.{Value, null, values_of}
@@ -16,7 +17,8 @@ IsClosing s dent bracket b = (w : List ℕ) × IsAllowedBlank s dent w × (b ≡
 -- these texts in turn, each after a blank, and a comma before each but the first
 abbrev pub Items : Style → ℕ → Bool → List (List ℕ) → List ℕ → Type 0
 Items s dent comma [] b = b ≡ []
-Items s dent comma (t ∷ ts) b = (w rest : List ℕ) × IsBetween s dent comma w × Items s dent true ts rest × (b ≡ w ++ (t ++ rest))
+Items s dent comma (t ∷ ts) b = (w rest : List ℕ) × IsBetween s dent comma w × Items s dent true ts rest
+    × (b ≡ w ++ (t ++ rest))
 
 -- the values in turn, without the brackets
 abbrev pub AreItems : Style → ℕ → List Value → List ℕ → Type 0
@@ -24,7 +26,8 @@ AreItems s dent vs b = (ts : List (List ℕ)) × WritesEach s dent (values_of vs
 
 -- a pair: its key, a colon and its value
 abbrev pub IsEntry : Style → ℕ → List ℕ × Value → List ℕ → Type 0
-IsEntry s dent e t = (wide : Bool) × (x : List ℕ) × IsTrue (s.colon wide) × Writes s dent e.1 x × (t ≡ quoted e.0 ++ (colon_text wide ++ x))
+IsEntry s dent e t = (wide : Bool) × (x : List ℕ) × IsTrue (s.colon wide) × Writes s dent e.1 x
+    × (t ≡ quoted e.0 ++ (colon_text wide ++ x))
 
 abbrev pub pair_at : List (List ℕ × Value) → ℕ → List ℕ × Value
 pair_at es p = slice_index_or es p ([], null)
@@ -32,7 +35,8 @@ pair_at es p = slice_index_or es p ([], null)
 -- the pairs at these positions in turn, without the brackets
 abbrev pub AreMembers : Style → ℕ → List (List ℕ × Value) → List ℕ → List ℕ → Type 0
 AreMembers s dent es ps b =
-    (ts : List (List ℕ)) × (length ts ≡ length es) × ((k : ℕ) → k < length ps → IsEntry s dent (pair_at es (slice_index_or ps k 0)) (text_at ts (slice_index_or ps k 0)))
+    (ts : List (List ℕ)) × (length ts ≡ length es) × ((k : ℕ) → k < length ps
+    → IsEntry s dent (pair_at es (slice_index_or ps k 0)) (text_at ts (slice_index_or ps k 0)))
     × Items s dent false (map (text_at ts) ps) b
 
 -- what writing a value does, where the beginning is promised of such values alone

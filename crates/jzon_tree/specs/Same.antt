@@ -1,10 +1,12 @@
--- Equality of values (docs/RULES.md, "Equality"): the order of an object's keys doesn't count (RFC 8259, section 4), nor how a text is kept, nor how a decimal is written.
+-- Equality of values (docs/RULES.md, "Equality"): the order of an object's keys doesn't count (RFC 8259, section 4),
+-- nor how a text is kept, nor how a decimal is written.
 use Rattle.std.specs.Prelude.{ℕ, Bool, true, false, ◌&&◌, ◌||◌, List, [], ◌∷◌, Option, None, Some, is_some}
 use Rattle.std.specs.Bool.{beq}
 use Rattle.std.specs.Str.{bytes_eq}
 use Rattle.jzon_base.specs.Decimal as decimal
 use Rattle.jzon_base.specs.PairList.{find}
-use Rattle.jzon_tree.specs.Value.{Value, null, boolean, text, number, array, object, Values, no_values, value, Pairs, no_pairs, pair, list_of_pairs}
+use Rattle.jzon_tree.specs.Value.{Value, null, boolean, text, number, array, object, Values, no_values, value, Pairs}
+use Rattle.jzon_tree.specs.Value.{no_pairs, pair, list_of_pairs}
 
 -- the key is one of these
 abbrev pub is_known : List (List ℕ) → List ℕ → Bool
@@ -37,7 +39,9 @@ abbrev mutual
   same_items (value v vs) (value w ws) = same v w && same_items vs ws
   same_items _ _ = false
 
-  -- Each key has in qs the value that it has in ps, its first one where a key is repeated; `seen` are the keys that came earlier.
+  -- Each key has in qs the value that it has in ps, its first one where a key is repeated; `seen` are the keys that
+  -- came earlier.
   pub same_under : List (List ℕ) → Pairs → Pairs → Bool
   same_under seen no_pairs qs = true
-  same_under seen (pair k v ps) qs = (is_known seen k || passes (same v) (find k (list_of_pairs qs))) && same_under (k ∷ seen) ps qs
+  same_under seen (pair k v ps) qs = (is_known seen k || passes (same v) (find k (list_of_pairs qs))) && same_under
+      (k ∷ seen) ps qs

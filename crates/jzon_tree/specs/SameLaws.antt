@@ -9,7 +9,8 @@ use Rattle.std.proofs.lemmas.Option.{none-some, same_Some}
 use Rattle.std.proofs.lemmas.Slice.Eq.{bytes_eq-Decides}
 use Rattle.jzon_base.specs.PairList.{find}
 use Rattle.jzon_base.specs.Same.{same_equiv as decimal_equiv}
-use Rattle.jzon_tree.specs.Value.{Value, null, boolean, text, number, array, object, Values, no_values, value, Pairs, no_pairs, pair, list_of_pairs}
+use Rattle.jzon_tree.specs.Value.{Value, null, boolean, text, number, array, object, Values, no_values, value, Pairs}
+use Rattle.jzon_tree.specs.Value.{no_pairs, pair, list_of_pairs}
 use Rattle.jzon_tree.specs.Same.{same, same_items, same_under, has_keys_within, is_known, passes}
 
 -- ---- what a look-up finds
@@ -23,7 +24,8 @@ abbrev Each : (Value → Type 0) → Pairs → Type 0
 Each P no_pairs = Unit {0}
 Each P (pair k v ps) = P v × Each P ps
 
-each_cond : (P : Value → Type 0) (b : Bool) (v w : Value) (rest : Option Value) → P w → (rest ≡ Some v → P v) → cond b (Some w) rest ≡ Some v → P v
+each_cond : (P : Value → Type 0) (b : Bool) (v w : Value) (rest : Option Value) → P w → (rest ≡ Some v → P v)
+    → cond b (Some w) rest ≡ Some v → P v
 each_cond P true v w rest here later e = subst P (same_Some w v e) here
 each_cond P false v w rest here later e = later e
 
@@ -47,8 +49,10 @@ abbrev KeysWithin : Pairs → Pairs → Type 0
 KeysWithin ps qs = (k : List ℕ) (v : Value) → at k ps ≡ Some v → is_some (at k qs) ≡ true
 
 within-elim-head : (l : List ℕ) (w : Value) (ps qs : Pairs) → is_some (at l qs) ≡ true → KeysWithin ps qs
-    → (k : List ℕ) (v : Value) (b : Bool) → bytes_eq l k ≡ b → cond b (Some w) (at k ps) ≡ Some v → is_some (at k qs) ≡ true
-within-elim-head l w ps qs here later k v true e f = subst (λ (q : List ℕ). is_some (at q qs) ≡ true) ((bytes_eq-Decides l k).0 e) here
+    → (k : List ℕ) (v : Value) (b : Bool) → bytes_eq l k ≡ b → cond b (Some w) (at k ps) ≡ Some v
+    → is_some (at k qs) ≡ true
+within-elim-head l w ps qs here later k v true e f = subst (λ (q : List ℕ). is_some (at q qs) ≡ true)
+    ((bytes_eq-Decides l k).0 e) here
 within-elim-head l w ps qs here later k v false e f = later k v f
 
 within-elim : (ps qs : Pairs) → has_keys_within ps qs ≡ true → KeysWithin ps qs
@@ -65,11 +69,13 @@ within-intro-tail l w ps qs h k v false e f = h k v (at-past l k w ps e ∙ f)
 within-intro : (ps qs : Pairs) → KeysWithin ps qs → has_keys_within ps qs ≡ true
 within-intro no_pairs qs h = refl
 within-intro (pair l w ps) qs h =
-    and_from _ _ (h l w (at-head l w ps)) (within-intro ps qs (λ k v e. within-intro-tail l w ps qs h k v (bytes_eq l k) refl e))
+    and_from _ _ (h l w (at-head l w ps)) (within-intro ps qs
+    (λ k v e. within-intro-tail l w ps qs h k v (bytes_eq l k) refl e))
 
 -- ---- `same_under`, by look-ups: what came earlier is not asked again
 abbrev Agrees : List (List ℕ) → Pairs → Pairs → Type 0
-Agrees seen ps qs = (k : List ℕ) (v : Value) → at k ps ≡ Some v → is_known seen k ≡ false → passes (same v) (at k qs) ≡ true
+Agrees seen ps qs = (k : List ℕ) (v : Value) → at k ps ≡ Some v → is_known seen k ≡ false
+    → passes (same v) (at k qs) ≡ true
 
 known_or : (b c : Bool) → b ≡ false → (b || c) ≡ true → c ≡ true
 known_or true c e h = absurd (false≢true (sym e))
@@ -79,10 +85,13 @@ or_known : (b c : Bool) → (b ≡ false → c ≡ true) → (b || c) ≡ true
 or_known true c h = refl
 or_known false c h = h refl
 
-under-elim-head : (seen : List (List ℕ)) (l : List ℕ) (w : Value) (ps qs : Pairs) → (is_known seen l || passes (same w) (at l qs)) ≡ true → Agrees (l ∷ seen) ps qs
-    → (k : List ℕ) (v : Value) (b : Bool) → bytes_eq l k ≡ b → cond b (Some w) (at k ps) ≡ Some v → is_known seen k ≡ false → passes (same v) (at k qs) ≡ true
+under-elim-head : (seen : List (List ℕ)) (l : List ℕ) (w : Value) (ps qs : Pairs)
+    → (is_known seen l || passes (same w) (at l qs)) ≡ true → Agrees (l ∷ seen) ps qs
+    → (k : List ℕ) (v : Value) (b : Bool) → bytes_eq l k ≡ b → cond b (Some w) (at k ps) ≡ Some v
+    → is_known seen k ≡ false → passes (same v) (at k qs) ≡ true
 under-elim-head seen l w ps qs here later k v true e f unseen =
-    let there = subst (λ (q : List ℕ). (is_known seen q || passes (same w) (at q qs)) ≡ true) ((bytes_eq-Decides l k).0 e) here in
+    let there = subst (λ (q : List ℕ). (is_known seen q || passes (same w) (at q qs)) ≡ true)
+    ((bytes_eq-Decides l k).0 e) here in
     subst (λ (x : Value). passes (same x) (at k qs) ≡ true) (same_Some w v f) (known_or _ _ unseen there)
 under-elim-head seen l w ps qs here later k v false e f unseen = later k v f (rw (e, unseen) refl)
 
@@ -109,7 +118,8 @@ same_at (Some v) p = passes (same v) p
 abbrev pub SameAtEach : Pairs → Pairs → Type 0
 SameAtEach ps qs = (k : List ℕ) → same_at (at k ps) (at k qs) ≡ true
 
-same_at-from : (o p : Option Value) → ((v : Value) → o ≡ Some v → passes (same v) p ≡ true) → ((w : Value) → p ≡ Some w → is_some o ≡ true) → same_at o p ≡ true
+same_at-from : (o p : Option Value) → ((v : Value) → o ≡ Some v → passes (same v) p ≡ true)
+    → ((w : Value) → p ≡ Some w → is_some o ≡ true) → same_at o p ≡ true
 same_at-from None None f g = refl
 same_at-from None (Some w) f g = g w refl
 same_at-from (Some v) p f g = f v refl
@@ -126,7 +136,8 @@ same_at-there (Some v) p w h e = refl
 pub object-elim : (ps qs : Pairs) → same (object ps) (object qs) ≡ true → SameAtEach ps qs
 object-elim ps qs h k =
     let both = and_parts (same_under [] ps qs) (has_keys_within qs ps) h in
-    same_at-from (at k ps) (at k qs) (λ v e. under-elim [] ps qs both.0 k v e refl) (λ w e. within-elim qs ps both.1 k w e)
+    same_at-from (at k ps) (at k qs) (λ v e. under-elim [] ps qs both.0 k v e refl)
+    (λ w e. within-elim qs ps both.1 k w e)
 
 pub object-intro : (ps qs : Pairs) → SameAtEach ps qs → same (object ps) (object qs) ≡ true
 object-intro ps qs h =
@@ -143,7 +154,8 @@ same_at-refl None h = refl
 same_at-refl (Some v) h = h v refl
 
 object-refl : (ps : Pairs) → Each (λ v. same v v ≡ true) ps → same (object ps) (object ps) ≡ true
-object-refl ps each = object-intro ps ps (λ k. same_at-refl (at k ps) (λ v e. each_found (λ x. same x x ≡ true) ps k v each e))
+object-refl ps each = object-intro ps ps (λ k. same_at-refl (at k ps)
+    (λ v e. each_found (λ x. same x x ≡ true) ps k v each e))
 
 mutual
   same-refl : (v : Value) → same v v ≡ true
@@ -177,16 +189,19 @@ beq-same true false h = absurd (false≢true h)
 beq-same false true h = absurd (false≢true h)
 beq-same false false h = refl
 
-same_at-alike : (o p r : Option Value) → ((v : Value) → o ≡ Some v → IsAlike v) → same_at o p ≡ true → same_at o r ≡ same_at p r
+same_at-alike : (o p r : Option Value) → ((v : Value) → o ≡ Some v → IsAlike v) → same_at o p ≡ true
+    → same_at o r ≡ same_at p r
 same_at-alike None None r alike h = refl
 same_at-alike None (Some w) r alike h = absurd (false≢true h)
 same_at-alike (Some v) None r alike h = absurd (false≢true h)
 same_at-alike (Some v) (Some w) None alike h = refl
 same_at-alike (Some v) (Some w) (Some x) alike h = alike v refl w h x
 
-object-alike : (ps qs xs : Pairs) → Each IsAlike ps → same (object ps) (object qs) ≡ true → same (object ps) (object xs) ≡ same (object qs) (object xs)
+object-alike : (ps qs xs : Pairs) → Each IsAlike ps → same (object ps) (object qs) ≡ true
+    → same (object ps) (object xs) ≡ same (object qs) (object xs)
 object-alike ps qs xs each h =
-    let along : (k : List ℕ) → same_at (at k ps) (at k xs) ≡ same_at (at k qs) (at k xs) = λ k. same_at-alike (at k ps) (at k qs) (at k xs) (λ v e. each_found IsAlike ps k v each e) (object-elim ps qs h k) in
+    let along : (k : List ℕ) → same_at (at k ps) (at k xs) ≡ same_at (at k qs) (at k xs) = λ k. same_at-alike (at k ps)
+    (at k qs) (at k xs) (λ v e. each_found IsAlike ps k v each e) (object-elim ps qs h k) in
     same_by (same (object ps) (object xs)) (same (object qs) (object xs))
     (λ e. object-intro qs xs (λ k. sym (along k) ∙ object-elim ps xs e k))
     (λ e. object-intro ps xs (λ k. along k ∙ object-elim qs xs e k))

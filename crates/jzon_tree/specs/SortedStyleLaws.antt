@@ -1,6 +1,7 @@
 -- The style of sorted keys allows an order of each list of keys. (These are proofs; they stand here since the laws of
 -- generators cite them.)
-use Rattle.std.specs.Prelude.{◌≡◌, ◌≢◌, ℕ, zero, suc, ◌+◌, ◌<◌, ◌==◌, Bool, true, false, not, ◌&&◌, if◌then◌else◌, List, [], ◌∷◌, length, map, count_by, cond, refl}
+use Rattle.std.specs.Prelude.{◌≡◌, ◌≢◌, ℕ, zero, suc, ◌+◌, ◌<◌, ◌==◌, Bool, true, false, not, ◌&&◌, if◌then◌else◌, List}
+use Rattle.std.specs.Prelude.{[], ◌∷◌, length, map, count_by, cond, refl}
 use Rattle.std.specs.Cmp.Lexicographic.{slice_cmp}
 use Rattle.std.specs.Ordering.{nat_cmp}
 use Rattle.std.proofs.Common.{sym, ap, ◌∙◌, arith}
@@ -74,7 +75,8 @@ module _ (keys : List (List ℕ)) where
 
   length-put : (p : ℕ) (qs : List ℕ) → length (put p qs) ≡ suc (length qs)
   length-put p [] = refl
-  length-put p (q ∷ qs) = length-put_if (is_before (text_at keys q) (text_at keys p)) p q (put p qs) qs (length-put p qs)
+  length-put p (q ∷ qs) = length-put_if (is_before (text_at keys q) (text_at keys p)) p q (put p qs) qs
+      (length-put p qs)
 
   length-sorted : (ps : List ℕ) → length (sorted ps) ≡ length ps
   length-sorted [] = refl
@@ -95,10 +97,12 @@ module _ (keys : List (List ℕ)) where
   follows-put j p (q ∷ qs) h f = follows-put_if (is_before (text_at keys q) (text_at keys p)) j p q (put p qs) qs h f
 
   ascend-put_if : (b : Bool) (p q : ℕ) (qs : List ℕ) → is_before (text_at keys q) (text_at keys p) ≡ b
-      → ascend (texts (q ∷ qs)) ≡ true → ascend (texts (put p qs)) ≡ true → ascend (texts (put_if b p q (put p qs) qs)) ≡ true
+      → ascend (texts (q ∷ qs)) ≡ true → ascend (texts (put p qs)) ≡ true
+      → ascend (texts (put_if b p q (put p qs) qs)) ≡ true
   ascend-put_if true p q qs e h more =
       ascend-cons (text_at keys q) (texts (put p qs))
-      (follows-put (text_at keys q) p qs (is_before-one_way (text_at keys q) (text_at keys p) e) (ascend-parts (text_at keys q) (texts qs) h).0)
+      (follows-put (text_at keys q) p qs (is_before-one_way (text_at keys q) (text_at keys p) e)
+      (ascend-parts (text_at keys q) (texts qs) h).0)
       more
   ascend-put_if false p q qs e h more = ascend-cons (text_at keys p) (texts (q ∷ qs)) (rw e refl) h
 

@@ -1,5 +1,6 @@
 -- Each style of a generator allows something. (These are proofs; they stand here since the generators' laws cite them.)
-use Rattle.std.specs.Prelude.{◌≡◌, ◌≢◌, ℕ, zero, suc, ◌+◌, ◌*◌, ◌<◌, ◌==◌, Bool, true, false, List, [], length, replicate, count_by, cond, refl}
+use Rattle.std.specs.Prelude.{◌≡◌, ◌≢◌, ℕ, zero, suc, ◌+◌, ◌*◌, ◌<◌, ◌==◌, Bool, true, false, List, [], length}
+use Rattle.std.specs.Prelude.{replicate, count_by, cond, refl}
 use Rattle.std.specs.List.{range_with_len}
 use Rattle.std.specs.Str.{bytes_eq}
 use Rattle.std.proofs.Common.{sym, ap, ◌∙◌, subst}
@@ -7,7 +8,8 @@ use Rattle.std.proofs.lemmas.Bool.{eq-eqb, eqb-true, false_from_ne_true}
 use Rattle.std.proofs.lemmas.List.FromFn.{length-range_with_len}
 use Rattle.std.proofs.lemmas.List.Sums.{sum_by-cons}
 use Rattle.std.proofs.lemmas.Slice.Eq.{bytes_eq-Decides}
-use Rattle.std.proofs.Math.Nat.{ne_of_lt, add-suc, suc-add, add-zero, zero-add, lt-suc_self, lt_trans, not-suc-le-zero, le-add_right, suc-le-suc_iff, le_of_suc-le-suc}
+use Rattle.std.proofs.Math.Nat.{ne_of_lt, add-suc, suc-add, add-zero, zero-add, lt-suc_self, lt_trans, not-suc-le-zero}
+use Rattle.std.proofs.Math.Nat.{le-add_right, suc-le-suc_iff, le_of_suc-le-suc}
 use Rattle.std.proofs.Math.Numerals.{suc-eq-add-one}
 use Rattle.jzon_tree.specs.Generator.{insertion}
 use Rattle.jzon_tree.specs.Styles.{same_form, only, compact_style, pretty_style, layout_style}
@@ -32,21 +34,26 @@ differ a i h = false_from_ne_true (a == i) (λ e. h (eqb-true a i e))
 
 count-step : (i a n : ℕ) → count i a (suc n) ≡ cond (a == i) 1 0 + count i (suc a) n
 count-step i a n =
-    sum_by-cons (λ j. cond (j == i) 1 0) a (range_with_len (a + 1) n) ∙ ap (λ b. cond (a == i) 1 0 + count i b n) (sym (suc-eq-add-one a))
+    sum_by-cons (λ j. cond (j == i) 1 0) a (range_with_len (a + 1) n)
+    ∙ ap (λ b. cond (a == i) 1 0 + count i b n) (sym (suc-eq-add-one a))
 
 count-past : (i a n : ℕ) → i < a → count i a n ≡ 0
 count-past i a zero h = refl
 count-past i a (suc n) h =
-    count-step i a n ∙ ap (λ t. cond t 1 0 + count i (suc a) n) (differ a i (λ e. ne_of_lt h (sym e))) ∙ zero-add (count i (suc a) n) ∙ count-past i (suc a) n (lt_trans h (lt-suc_self a))
+    count-step i a n ∙ ap (λ t. cond t 1 0 + count i (suc a) n) (differ a i (λ e. ne_of_lt h (sym e)))
+    ∙ zero-add (count i (suc a) n) ∙ count-past i (suc a) n (lt_trans h (lt-suc_self a))
 
 count-one : (a k n : ℕ) → k < n → count (a + k) a n ≡ 1
 count-one a k zero h = absurd (not-suc-le-zero h)
 count-one a zero (suc n) h =
-    count-step (a + zero) a n ∙ ap (λ t. cond t 1 0 + count (a + zero) (suc a) n) (eq-eqb a (a + zero) (sym (add-zero a)))
+    count-step (a + zero) a n ∙ ap (λ t. cond t 1 0 + count (a + zero) (suc a) n)
+    (eq-eqb a (a + zero) (sym (add-zero a)))
     ∙ ap (λ c. 1 + c) (count-past (a + zero) (suc a) n (subst (λ x. x < suc a) (sym (add-zero a)) (lt-suc_self a)))
 count-one a (suc k) (suc n) h =
-    count-step (a + suc k) a n ∙ ap (λ t. cond t 1 0 + count (a + suc k) (suc a) n) (differ a (a + suc k) (ne_of_lt (subst (λ x. a < x) (sym (add-suc a k)) (suc-le-suc_iff.1 (le-add_right a k)))))
-    ∙ zero-add (count (a + suc k) (suc a) n) ∙ ap (λ i. count i (suc a) n) (add-suc a k ∙ sym (suc-add a k)) ∙ count-one (suc a) k n (le_of_suc-le-suc h)
+    count-step (a + suc k) a n ∙ ap (λ t. cond t 1 0 + count (a + suc k) (suc a) n)
+    (differ a (a + suc k) (ne_of_lt (subst (λ x. a < x) (sym (add-suc a k)) (suc-le-suc_iff.1 (le-add_right a k)))))
+    ∙ zero-add (count (a + suc k) (suc a) n) ∙ ap (λ i. count i (suc a) n) (add-suc a k ∙ sym (suc-add a k))
+    ∙ count-one (suc a) k n (le_of_suc-le-suc h)
 
 pub IsOrder-insertion : (n : ℕ) → IsOrder n (insertion n)
 IsOrder-insertion n = record {
@@ -55,7 +62,8 @@ IsOrder-insertion n = record {
 }
 
 -- ---- the styles
-pub IsStyle-only : (line : ℕ → List ℕ) (wide : Bool) → ((dent : ℕ) → is_blank false (line dent) ≡ true) → IsStyle (only line wide)
+pub IsStyle-only : (line : ℕ → List ℕ) (wide : Bool) → ((dent : ℕ) → is_blank false (line dent) ≡ true)
+    → IsStyle (only line wide)
 IsStyle-only line wide h = record {
   blank = λ dent. (line dent, (h dent, bytes_eq-refl (line dent)));
   colon = (wide, same_form-refl wide);

@@ -1,10 +1,13 @@
 -- The bytes that values are written as (RFC 8259, sections 2 and 7; docs/RULES.md, "Printed values").
-use Rattle.std.specs.Prelude.{ℕ, suc, ◌*◌, ◌/◌, ◌%◌, List, [], ◌∷◌, ◌++◌, replicate, Bool, ◌||◌, ◌==◌, nat_lt, if◌then◌else◌, flat_map, codes}
+use Rattle.std.specs.Prelude.{ℕ, suc, ◌*◌, ◌/◌, ◌%◌, List, [], ◌∷◌, ◌++◌, replicate, Bool, ◌||◌, ◌==◌, nat_lt}
+use Rattle.std.specs.Prelude.{if◌then◌else◌, flat_map, codes}
 use Rattle.std.specs.Char.{digit_char}
 use Rattle.jzon_base.specs.NumberText.{written_text}
-use Rattle.jzon_tree.specs.Value.{Value, null, boolean, text, number, array, object, Values, no_values, value, Pairs, no_pairs, pair}
+use Rattle.jzon_tree.specs.Value.{Value, null, boolean, text, number, array, object, Values, no_values, value, Pairs}
+use Rattle.jzon_tree.specs.Value.{no_pairs, pair}
 
--- what stands in a string for the byte c: a short escape where there is one, `\u00` and two lower-case digits for the other bytes below 32, else the byte
+-- what stands in a string for the byte c: a short escape where there is one, `\u00` and two lower-case digits for the
+-- other bytes below 32, else the byte
 abbrev pub escaped_byte : ℕ → List ℕ
 escaped_byte c =
     if c == 34 || c == 92 then 92 ∷ c ∷ []
@@ -25,7 +28,8 @@ quoted s = 34 ∷ (escaped s ++ 34 ∷ [])
 abbrev pub boolean_text : Bool → List ℕ
 boolean_text b = if b then codes "true" else codes "false"
 
--- what stands before each item, each key and each closing bracket of a non-empty container, by the count of open containers, and between a key and its value
+-- what stands before each item, each key and each closing bracket of a non-empty container, by the count of open
+-- containers, and between a key and its value
 pub record Layout : Type 0 where
   pub line : ℕ → List ℕ
   pub colon : List ℕ
@@ -38,7 +42,8 @@ abbrev mutual
   layout_text l depth (text k s) = quoted s
   layout_text l depth (number n) = written_text n
   layout_text l depth (array no_values) = codes "[]"
-  layout_text l depth (array (value v vs)) = 91 ∷ (l.line (suc depth) ++ layout_text l (suc depth) v ++ more_values_text l depth vs)
+  layout_text l depth (array (value v vs)) = 91 ∷ (l.line (suc depth) ++ layout_text l (suc depth) v ++ more_values_text
+      l depth vs)
   layout_text l depth (object no_pairs) = codes "{}"
   layout_text l depth (object (pair k v ps)) =
       123 ∷ (l.line (suc depth) ++ quoted k ++ l.colon ++ layout_text l (suc depth) v ++ more_pairs_text l depth ps)
@@ -46,7 +51,8 @@ abbrev mutual
   -- the other items, and the closing bracket
   pub more_values_text : Layout → ℕ → Values → List ℕ
   more_values_text l depth no_values = l.line depth ++ 93 ∷ []
-  more_values_text l depth (value v vs) = 44 ∷ (l.line (suc depth) ++ layout_text l (suc depth) v ++ more_values_text l depth vs)
+  more_values_text l depth (value v vs) = 44 ∷ (l.line (suc depth) ++ layout_text l (suc depth) v ++ more_values_text l
+      depth vs)
 
   pub more_pairs_text : Layout → ℕ → Pairs → List ℕ
   more_pairs_text l depth no_pairs = l.line depth ++ 125 ∷ []

@@ -1,6 +1,7 @@
 -- The value that a `JsonValue` is.
 use Rattle.std.specs.Prelude.{ℕ, List, map, string_bytes}
-use Rattle.jzon_tree.specs.Value.{Value, Values, Pairs, null, boolean, number, text, array, object, short, long, values_of, pairs_of}
+use Rattle.jzon_tree.specs.Value.{Value, Values, Pairs, null, boolean, number, text, array, object, short, long}
+use Rattle.jzon_tree.specs.Value.{values_of, pairs_of}
 use Rattle.jzon_tree.specs.Entries.{entries_of}
 use Rattle.jzon_tree.specs.declared.object.Object.{Object}
 use Rattle.jzon_tree.specs.declared.value.JsonValue.{JsonValue, fold-JsonValue}

@@ -1,19 +1,24 @@
--- What a generator may write for a value, in its style: the compact text but for its blanks, the blank after a colon and the order of an object's pairs.
-use Rattle.std.specs.Prelude.{◌≡◌, ℕ, zero, suc, ◌<◌, List, [], ◌∷◌, ◌++◌, length, map, Bool, true, false, not, ◌&&◌, ◌||◌, ◌==◌, IsTrue, ⊤, codes, count_by, if◌then◌else◌, ◌≢◌, AllPairs}
+-- What a generator may write for a value, in its style: the compact text but for its blanks, the blank after a colon
+-- and the order of an object's pairs.
+use Rattle.std.specs.Prelude.{◌≡◌, ℕ, zero, suc, ◌<◌, List, [], ◌∷◌, ◌++◌, length, map, Bool, true, false, not, ◌&&◌}
+use Rattle.std.specs.Prelude.{◌||◌, ◌==◌, IsTrue, ⊤, codes, count_by, if◌then◌else◌, ◌≢◌, AllPairs}
 use Rattle.std.specs.List.{list_all}
 use Rattle.jzon_base.specs.NumberText.{written_text}
 use Rattle.jzon_base.specs.PairList.{keys_of}
-use Rattle.jzon_tree.specs.Value.{Value, null, boolean, text, number, array, object, Values, no_values, value, Pairs, no_pairs, pair, list_of_pairs}
+use Rattle.jzon_tree.specs.Value.{Value, null, boolean, text, number, array, object, Values, no_values, value, Pairs}
+use Rattle.jzon_tree.specs.Value.{no_pairs, pair, list_of_pairs}
 use Rattle.jzon_tree.specs.Text.{quoted, boolean_text}
 
--- Whitespace: tab, newline, carriage return and blank (RFC 8259, section 2), and unless strict also vertical tab and form feed.
+-- Whitespace: tab, newline, carriage return and blank (RFC 8259, section 2), and unless strict also vertical tab and
+-- form feed.
 abbrev pub is_space : Bool → ℕ → Bool
 is_space strict c = (c == 9 || c == 10 || c == 13 || c == 32) || (not strict && (c == 11 || c == 12))
 
 abbrev pub is_blank : Bool → List ℕ → Bool
 is_blank strict = list_all (is_space strict)
 
--- What is allowed: this blank where so many containers are open, a colon with a blank after it (true) or without (false), these positions as the order of these keys.
+-- What is allowed: this blank where so many containers are open, a colon with a blank after it (true) or without
+-- (false), these positions as the order of these keys.
 pub record Style : Type 0 where
   pub blank : ℕ → List ℕ → Bool
   pub colon : Bool → Bool
@@ -40,12 +45,14 @@ text_at (t ∷ ts) (suc i) = text_at ts i
 abbrev pub Joins : Style → ℕ → List (List ℕ) → List ℕ → Type 0
 Joins s dent [] b = ⊥
 Joins s dent (t ∷ []) b = (w : List ℕ) × IsAllowedBlank s dent w × (b ≡ w ++ t)
-Joins s dent (t ∷ u ∷ ts) b = (w : List ℕ) × (more : List ℕ) × IsAllowedBlank s dent w × Joins s dent (u ∷ ts) more × (b ≡ w ++ (t ++ 44 ∷ more))
+Joins s dent (t ∷ u ∷ ts) b = (w : List ℕ) × (more : List ℕ) × IsAllowedBlank s dent w × Joins s dent (u ∷ ts) more
+    × (b ≡ w ++ (t ++ 44 ∷ more))
 
 -- b is a non-empty container of these texts, with an allowed blank before its closing bracket
 abbrev pub Encloses : Style → ℕ → ℕ → List (List ℕ) → ℕ → List ℕ → Type 0
 Encloses s dent opening ts closing b =
-    (inside : List ℕ) × (w : List ℕ) × Joins s (suc dent) ts inside × IsAllowedBlank s dent w × (b ≡ opening ∷ (inside ++ (w ++ closing ∷ [])))
+    (inside : List ℕ) × (w : List ℕ) × Joins s (suc dent) ts inside × IsAllowedBlank s dent w
+    × (b ≡ opening ∷ (inside ++ (w ++ closing ∷ [])))
 
 abbrev mutual
   -- b is a writing of the value where `dent` containers are open
@@ -55,7 +62,8 @@ abbrev mutual
   Writes s dent (text k t) b = b ≡ quoted t
   Writes s dent (number n) b = b ≡ written_text n
   Writes s dent (array no_values) b = b ≡ codes "[]"
-  Writes s dent (array (value v vs)) b = (ts : List (List ℕ)) × WritesEach s (suc dent) (value v vs) ts × Encloses s dent 91 ts 93 b
+  Writes s dent (array (value v vs)) b = (ts : List (List ℕ)) × WritesEach s (suc dent) (value v vs) ts
+      × Encloses s dent 91 ts 93 b
   Writes s dent (object no_pairs) b = b ≡ codes "{}"
   Writes s dent (object (pair k v ps)) b =
       (ts : List (List ℕ)) × (positions : List ℕ) × WritesPairs s (suc dent) (pair k v ps) ts
@@ -72,7 +80,8 @@ abbrev mutual
   pub WritesPairs : Style → ℕ → Pairs → List (List ℕ) → Type 0
   WritesPairs s dent no_pairs [] = ⊤
   WritesPairs s dent (pair k v ps) (t ∷ ts) =
-      ((wide : Bool) × (x : List ℕ) × IsTrue (s.colon wide) × Writes s dent v x × (t ≡ quoted k ++ (colon_text wide ++ x))) × WritesPairs s dent ps ts
+      ((wide : Bool) × (x : List ℕ) × IsTrue (s.colon wide) × Writes s dent v x
+      × (t ≡ quoted k ++ (colon_text wide ++ x))) × WritesPairs s dent ps ts
   WritesPairs s dent _ _ = ⊥
 
 -- the loosest style: all that may be written
@@ -83,4 +92,5 @@ any_style = record { blank = λ dent w. true; colon = λ wide. true; order = λ 
 pub record IsStyle (s : Style) : Type 0 where
   pub blank : (dent : ℕ) → (w : List ℕ) × IsAllowedBlank s dent w
   pub colon : (wide : Bool) × IsTrue (s.colon wide)
-  pub order : (ks : List (List ℕ)) → AllPairs (λ j k. j ≢ k) ks → (positions : List ℕ) × IsOrder (length ks) positions × IsTrue (s.order ks positions)
+  pub order : (ks : List (List ℕ)) → AllPairs (λ j k. j ≢ k) ks → (positions : List ℕ) × IsOrder (length ks) positions
+      × IsTrue (s.order ks positions)

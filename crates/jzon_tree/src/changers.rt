@@ -1,8 +1,10 @@
 //! What is changed of a value (docs/RULES.md, "Changers"). After a refused call the value is as it was, and a value that was handed in is dropped.
 
-ghost use Rattle.std.specs.Prelude.{◌≡◌, ◌-◌, codes, true, string_bytes, option_map, slice_get, remove, IfOk, IfErr, OnOk, OnErr, IsOkUnless};
+ghost use Rattle.std.specs.Prelude.{◌≡◌, ◌-◌, codes, true, string_bytes, option_map, slice_get, remove, IfOk, IfErr};
+ghost use Rattle.std.specs.Prelude.{OnOk, OnErr, IsOkUnless};
 ghost use Rattle.jzon_base.specs.PairList.{find};
-ghost use Rattle.jzon_tree.specs.Changers.{is_short, without_text, without_item, with_item, without_entry, with_entry, cleared, IsRefusal};
+ghost use Rattle.jzon_tree.specs.Changers.{is_short, without_text, without_item, with_item, without_entry, with_entry};
+ghost use Rattle.jzon_tree.specs.Changers.{cleared, IsRefusal};
 ghost use Rattle.jzon_tree.specs.Readers.{is_array, is_object, text_in, items, entries, count, or_null};
 ghost use Rattle.jzon_tree.specs.Value.{Value, null, array, no_values, object, no_pairs};
 ghost use Rattle.jzon_tree.specs.View.{view};
@@ -94,7 +96,8 @@ impl JsonValue {
     /// `OutOfMemory`.
     #[tactic(auto, using(crate::proofs::Views::views, crate::proofs::Seen::seen))]
     pub fn insert<T: IntoJson>(&mut self, alloc: Global, key: &str, value: T) -> Result<()>
-        ensures ok { OnOk result ((v : Value) × T.means value v × (view self.new ≡ with_entry key.now v (view self.old))) }
+        ensures ok { OnOk result ((v : Value) × T.means value v
+            × (view self.new ≡ with_entry key.now v (view self.old))) }
         ensures object { OnOk result (is_object (view self.old) ≡ true) }
         ensures err { OnErr result (view self.new ≡ view self.old) }
         ensures refusal { IfErr result (IsRefusal (is_object (view self.old)) (codes "Object")) }

@@ -29,7 +29,13 @@ struct TabGenerator {
 impl Generator for TabGenerator {
     type T = Vec<u8>;
 
-    ghost meaning = { λ g. record { out = Some g.code.items; dent = g.dent; faults = g.faults; style = any_style; lender = None } };
+    ghost meaning = { λ g. record {
+      out = Some g.code.items;
+      dent = g.dent;
+      faults = g.faults;
+      style = any_style;
+      lender = None;
+    } };
 
     ghost with_writer = { λ g code. record g { code = code } };
 
@@ -104,7 +110,13 @@ fn sorted_order(alloc: Global, object: &Object) -> Result<Vec<usize>, AllocError
 impl Generator for SortingGenerator {
     type T = Vec<u8>;
 
-    ghost meaning = { λ g. record { out = Some g.code.items; dent = g.dent; faults = g.faults; style = any_style; lender = None } };
+    ghost meaning = { λ g. record {
+      out = Some g.code.items;
+      dent = g.dent;
+      faults = g.faults;
+      style = any_style;
+      lender = None;
+    } };
 
     ghost with_writer = { λ g code. record g { code = code } };
 

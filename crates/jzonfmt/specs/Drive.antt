@@ -1,5 +1,6 @@
 -- What the program does for its words (docs/RULES.md, "The program").
-use Rattle.std.specs.Prelude.{◌≡◌, ℕ, ◌^◌, Bool, true, false, List, [], ◌∷◌, length, nat_le, nat_lt, ◌&&◌, if◌then◌else◌, Result, Ok, Err, Option, None, Some, option_map, codes, MatchOption}
+use Rattle.std.specs.Prelude.{◌≡◌, ℕ, ◌^◌, Bool, true, false, List, [], ◌∷◌, length, nat_le, nat_lt, ◌&&◌}
+use Rattle.std.specs.Prelude.{if◌then◌else◌, Result, Ok, Err, Option, None, Some, option_map, codes, MatchOption}
 use Rattle.std.specs.Char.{is_digit}
 use Rattle.std.specs.List.{list_all}
 use Rattle.std.specs.Str.{bytes_eq}
@@ -35,12 +36,15 @@ status_of (Err fault) = fault_status fault
 -- so many blanks as a word of one to five decimal digits names, of which there are at most 65535
 abbrev pub asked_spaces : List ℕ → Option ℕ
 asked_spaces n =
-    if nat_lt 0 (length n) && nat_le (length n) 5 && list_all (λ c. is_digit c 10) n && nat_lt (digits_value 10 n) (2 ^ 16) then Some (digits_value 10 n) else None
+    if nat_lt 0 (length n) && nat_le (length n) 5 && list_all (λ c. is_digit c 10) n
+    && nat_lt (digits_value 10 n) (2 ^ 16) then Some (digits_value 10 n) else None
 
--- the layout that the words ask for, where they ask for one: no word asks for the compact one, and `--pretty N` for the pretty one with N blanks
+-- the layout that the words ask for, where they ask for one: no word asks for the compact one, and `--pretty N` for the
+-- pretty one with N blanks
 abbrev pub asked_layout : List (List ℕ) → Option Layout
 asked_layout [] = Some Compact
-asked_layout (option ∷ spaces ∷ []) = if bytes_eq option (codes "--pretty") then option_map Pretty (asked_spaces spaces) else None
+asked_layout (option ∷ spaces ∷ []) =
+    if bytes_eq option (codes "--pretty") then option_map Pretty (asked_spaces spaces) else None
 asked_layout _ = None
 
 abbrev pub reading_of : Bool → Reading
@@ -51,18 +55,23 @@ asking strict layout = record { reading = reading_of strict; layout = layout }
 
 -- `--strict` behind the words of a layout; or those words alone
 abbrev pub asked_behind : List (List ℕ) → Option Options
-asked_behind (a ∷ b ∷ option ∷ []) = if bytes_eq option (codes "--strict") then option_map (asking true) (asked_layout (a ∷ b ∷ [])) else None
+asked_behind (a ∷ b ∷ option ∷ []) =
+    if bytes_eq option (codes "--strict") then option_map (asking true) (asked_layout (a ∷ b ∷ [])) else None
 asked_behind words = option_map (asking false) (asked_layout words)
 
--- What the words ask for: a layout; with `--strict` before its words or behind them by a strict reading, else by that of `parse`.
+-- What the words ask for: a layout; with `--strict` before its words or behind them by a strict reading, else by that
+-- of `parse`.
 abbrev pub asked_options : List (List ℕ) → Option Options
 asked_options (option ∷ words) =
-    if bytes_eq option (codes "--strict") then option_map (asking true) (asked_layout words) else asked_behind (option ∷ words)
+    if bytes_eq option (codes "--strict") then option_map (asking true) (asked_layout words)
+    else asked_behind (option ∷ words)
 asked_options [] = asked_behind []
 
--- Words that ask for nothing that the program does are answered by 2, with nothing read or written; the others by a run and its status.
+-- Words that ask for nothing that the program does are answered by 2, with nothing read or written; the others by a run
+-- and its status.
 abbrev pub Drives : List (List ℕ) → ℕ → Streams → Streams → Type 0
 Drives words status before after =
     MatchOption (asked_options words)
     ((status ≡ 2) × Keeps before.unread after.unread × Keeps before.written after.written)
-    (λ options. (answer : Result (Unit {0}) RunFault) × Runs options.reading options.layout answer before after × (status ≡ status_of answer))
+    (λ options. (answer : Result (Unit {0}) RunFault) × Runs options.reading options.layout answer before after
+    × (status ≡ status_of answer))

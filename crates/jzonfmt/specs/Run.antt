@@ -47,7 +47,8 @@ printed (Pretty spaces) d = pretty (meaning d.node) spaces 0 ++ 10 ∷ []
 
 -- what is printed for the bytes, or why nothing is
 abbrev pub Prints : {A : Type 0} → Reading → Layout → List ℕ → Result (String A) RunFault → Type 0
-Prints reading layout input (Ok text) = (d : Document) × IsTextOf reading input d × (string_bytes text ≡ printed layout d)
+Prints reading layout input (Ok text) = (d : Document) × IsTextOf reading input d
+    × (string_bytes text ≡ printed layout d)
 Prints reading layout input (Err NotUtf8) = ¬ (IsUtf8 input)
 Prints reading layout input (Err (Json e)) = IsUtf8 input × IsErrorOf reading (chars input) e
 Prints reading layout input (Err Memory) = ⊤
@@ -55,11 +56,14 @@ Prints reading layout input (Err _) = ⊥
 
 -- ---- what is answered
 
--- The answer to the bytes, and what the writer holds before and after it. A fault leaves nothing written, but for one of the writer, which leaves a
--- beginning of what was to be printed.
-abbrev pub Answers : {T : Type 0} → Reading → Layout → List ℕ → Result T RunFault → Option (List ℕ) → Option (List ℕ) → Type 0
-Answers reading layout input (Ok _) old new = (d : Document) × IsTextOf reading input d × Appends old new (printed layout d)
-Answers reading layout input (Err (Write e)) old new = (d : Document) × IsTextOf reading input d × AppendsBeginning old new (printed layout d)
+-- The answer to the bytes, and what the writer holds before and after it. A fault leaves nothing written, but for one
+-- of the writer, which leaves a beginning of what was to be printed.
+abbrev pub Answers : {T : Type 0} → Reading → Layout → List ℕ → Result T RunFault → Option (List ℕ) → Option (List ℕ)
+    → Type 0
+Answers reading layout input (Ok _) old new = (d : Document) × IsTextOf reading input d
+    × Appends old new (printed layout d)
+Answers reading layout input (Err (Write e)) old new = (d : Document) × IsTextOf reading input d
+    × AppendsBeginning old new (printed layout d)
 Answers reading layout input (Err NotUtf8) old new = (¬ (IsUtf8 input)) × Keeps old new
 Answers reading layout input (Err (Json e)) old new = (IsUtf8 input × IsErrorOf reading (chars input) e) × Keeps old new
 Answers reading layout input (Err _) old new = Keeps old new
@@ -72,4 +76,5 @@ pub record Streams : Type 0 where
 -- some bytes are read and answered
 abbrev pub Runs : {T : Type 0} → Reading → Layout → Result T RunFault → Streams → Streams → Type 0
 Runs reading layout result before after =
-    (input : List ℕ) × Reads result before.unread after.unread input × Answers reading layout input result before.written after.written
+    (input : List ℕ) × Reads result before.unread after.unread input
+    × Answers reading layout input result before.written after.written

@@ -3,7 +3,8 @@
 ghost use Rattle.std.specs.Prelude.{◌≡◌, ℕ, List, IfOk, IfErr, map, option_map, string_bytes, vec_len};
 ghost use Rattle.std.specs.Io.KnownBytes.{Consumes, Keeps};
 ghost use Rattle.jzonfmt.specs.Run.{IsReadFault, Prints, Reads, Runs};
-ghost use Rattle.jzonfmt.specs.Drive.{Drives, asking, asked_behind, asked_layout, asked_options, asked_spaces, fault_status};
+ghost use Rattle.jzonfmt.specs.Drive.{Drives, asking, asked_behind, asked_layout, asked_options, asked_spaces};
+ghost use Rattle.jzonfmt.specs.Drive.{fault_status};
 
 use jzon::{Error, Reading, util};
 use std::alloc::{AllocError, Global};

@@ -1,7 +1,8 @@
 //! What is lent out of a tree whose own type and whose nodes' type are two parameters. Of such a `&mut` the checker proves what is written back through it; of one
 //! from a type to itself it makes no proof (docs/DECISIONS.md, "What is written back through a lent value of the same type").
 
-ghost use Rattle.std.specs.Prelude.{◌≡◌, ◌≤◌, ◌<◌, List, ℕ, [], length, slice_get, slice_set, IfOk, IfSome, OnOk, OnErr, IsOkUnless, IsSome, MatchOption, Option, None, Some};
+ghost use Rattle.std.specs.Prelude.{◌≡◌, ◌≤◌, ◌<◌, List, ℕ, [], length, slice_get, slice_set, IfOk, IfSome, OnOk};
+ghost use Rattle.std.specs.Prelude.{OnErr, IsOkUnless, IsSome, MatchOption, Option, None, Some};
 ghost use Rattle.std.specs.Borrow.{sem, Lends, LendsIf, LendsIfOk, LendsSoOk};
 ghost use Rattle.std.specs.Global.{Vec};
 ghost use Rattle.std.specs.Option.{option_copied_mut};
@@ -12,7 +13,8 @@ ghost use Rattle.jzon_tree.specs.Lent.{entries_in, items_in, with_place, place_i
 ghost use Rattle.jzon_tree.specs.LentTypes.{vec_row};
 ghost use Rattle.jzon_tree.specs.Value.{Value};
 ghost use Rattle.jzon_tree.specs.View.{view};
-ghost use Rattle.jzon_tree.specs.declared.value.JsonValue.{Object as object_value, Array as array_value, Null as null_value};
+ghost use Rattle.jzon_tree.specs.declared.value.JsonValue.{Object as object_value, Array as array_value};
+ghost use Rattle.jzon_tree.specs.declared.value.JsonValue.{Null as null_value};
 
 use crate::object::Object;
 use crate::value::JsonValue;

@@ -1,6 +1,7 @@
 //! Writes into a tree, by calls whose contracts say what the tree is afterwards.
 
-ghost use Rattle.std.specs.Prelude.{◌≡◌, ◌≤◌, length, slice_set, IfSome, OnOk, OnErr, IsOkUnless, MatchOption, is_some, None, Some};
+ghost use Rattle.std.specs.Prelude.{◌≡◌, ◌≤◌, length, slice_set, IfSome, OnOk, OnErr, IsOkUnless, MatchOption, is_some};
+ghost use Rattle.std.specs.Prelude.{None, Some};
 ghost use Rattle.jzon_base.specs.PairList.{find, put};
 ghost use Rattle.jzon_tree.specs.Lent.{with_place, place_in};
 

@@ -5,9 +5,11 @@ use Rattle.jzon.proofs.numeral.exponent_behind.Goals as goal
 pub returns-then-has_byte : goal.returns-then-has_byte
 returns-then-has_byte c =
     let here = c.has_byte.ensures.0 c.if-has_byte.true in
-    let k : ReadsExponent c.args.source.now c.args.start c.exponent_at.result.is_positive c.exponent_at.result.digits.now c.exponent_at.result.end =
+    let k : ReadsExponent c.args.source.now c.args.start c.exponent_at.result.is_positive
+    c.exponent_at.result.digits.now c.exponent_at.result.end =
     rw (c.exponent_at.ensures.sign, c.exponent_at.ensures.end)
-    (reads_minus c.args.source.now c.args.start c.exponent_at.result.digits.now c.utf8.source c.requires here.0 here.1 c.exponent_at.ensures.digits) in
+    (reads_minus c.args.source.now c.args.start c.exponent_at.result.digits.now c.utf8.source c.requires here.0 here.1
+    c.exponent_at.ensures.digits) in
     record { bounds = (k.after, k.boundary.0, k.boundary); digits = k.all; number = k.number; missing = k.missing }
 
 pub returns-then-has_byte-2 : goal.returns-then-has_byte-2
@@ -16,7 +18,8 @@ returns-then-has_byte-2 c =
     let r = c.exponent_at-then-has_byte-2 in
     let k : ReadsExponent c.args.source.now c.args.start r.result.is_positive r.result.digits.now r.result.end =
     rw (r.ensures.sign, r.ensures.end)
-    (reads_plus c.args.source.now c.args.start r.result.digits.now c.utf8.source c.requires here.0 here.1 r.ensures.digits) in
+    (reads_plus c.args.source.now c.args.start r.result.digits.now c.utf8.source c.requires here.0 here.1
+    r.ensures.digits) in
     record { bounds = (k.after, k.boundary.0, k.boundary); digits = k.all; number = k.number; missing = k.missing }
 
 pub returns : goal.returns

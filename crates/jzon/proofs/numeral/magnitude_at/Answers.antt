@@ -2,14 +2,16 @@ use Rattle.std.proofs.Common.{◌∙◌, sym, refl, ap, [], ◌+◌, ◌%◌, �
 use Rattle.std.proofs.lemmas.List.{append-nil}
 use Rattle.std.proofs.lemmas.List.Sums.{fold-append}
 use Rattle.jzon_base.specs.Digits.{add_digit, digits_number}
-use Rattle.jzon.proofs.Magnitudes.{WholeStands, whole_stands, ReadsMagnitude, reads_whole_alone, reads_whole_and_fraction}
+use Rattle.jzon.proofs.Magnitudes.{WholeStands, whole_stands, ReadsMagnitude, reads_whole_alone}
+use Rattle.jzon.proofs.Magnitudes.{reads_whole_and_fraction}
 use Rattle.jzon.proofs.numeral.magnitude_at.Goals as goal
 
 pub returns-then-not-has_byte : goal.returns-then-not-has_byte
 returns-then-not-has_byte c =
     let end = c.args.start + length c.whole_at-before.result.0.now in
     let whole : WholeStands c.args.source.now c.args.start c.whole_at-before.result.0.now =
-    whole_stands c.args.source.now c.args.start c.whole_at-before.result.0.now c.utf8.source c.requires.within c.requires.digit c.whole_at-before.ensures.digits in
+    whole_stands c.args.source.now c.args.start c.whole_at-before.result.0.now c.utf8.source c.requires.within
+    c.requires.digit c.whole_at-before.ensures.digits in
     let k : ReadsMagnitude c.args.source.now c.args.start c.whole_at-before.result.0.now [] end false =
     reads_whole_alone c.args.source.now c.args.start c.whole_at-before.result.0.now c.utf8.source whole
     (λ h. true≢false (sym (c.has_byte.ensures.1 h) ∙ c.if-not-has_byte.true)) in
@@ -29,17 +31,22 @@ pub returns : goal.returns
 returns c =
     let end = c.args.start + length c.whole_at-before.result.0.now in
     let whole : WholeStands c.args.source.now c.args.start c.whole_at-before.result.0.now =
-    whole_stands c.args.source.now c.args.start c.whole_at-before.result.0.now c.utf8.source c.requires.within c.requires.digit c.whole_at-before.ensures.digits in
+    whole_stands c.args.source.now c.args.start c.whole_at-before.result.0.now c.utf8.source c.requires.within
+    c.requires.digit c.whole_at-before.ensures.digits in
     let fraction = c.digits_at-number.result.0.now in
     let here = c.has_byte.ensures.0 c.if-not-has_byte.false in
-    let k : ReadsMagnitude c.args.source.now c.args.start c.whole_at-before.result.0.now fraction (end + 1 + length fraction) c.is_empty.result =
+    let k : ReadsMagnitude c.args.source.now c.args.start c.whole_at-before.result.0.now fraction
+    (end + 1 + length fraction) c.is_empty.result =
     rw c.is_empty.ensures
-    (reads_whole_and_fraction c.args.source.now c.args.start end c.whole_at-before.result.0.now fraction c.utf8.source whole refl here.0 here.1 c.digits_at-number.ensures.digits) in
+    (reads_whole_and_fraction c.args.source.now c.args.start end c.whole_at-before.result.0.now fraction c.utf8.source
+    whole refl here.0 here.1 c.digits_at-number.ensures.digits) in
     record {
       bounds = (k.after, k.boundary.0, k.boundary);
       whole = k.all_whole;
       fraction = k.all_fraction;
-      added_up = c.digits_at-number.ensures.number (digits_number c.whole_at-before.result.0.now) c.whole_at-before.ensures.number ∙ ap (λ n. n % 2 ^ 64) (sym (fold-append add_digit 0 c.whole_at-before.result.0.now fraction));
+      added_up = c.digits_at-number.ensures.number (digits_number c.whole_at-before.result.0.now)
+          c.whole_at-before.ensures.number ∙ ap (λ n. n % 2 ^ 64)
+          (sym (fold-append add_digit 0 c.whole_at-before.result.0.now fraction));
       exponent = (refl, refl);
       letter = k.to_letter;
       number = k.to_end;

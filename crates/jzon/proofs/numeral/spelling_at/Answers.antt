@@ -7,4 +7,5 @@ pub exponent_behind-exponent-requires : goal.exponent_behind-exponent-requires
 exponent_behind-exponent-requires c =
     let end = c.magnitude_at-magnitude.result.end in
     let letter = c.has_exponent_letter.ensures.0 c.if-not-has_exponent_letter.false in
-    IsCharBoundary-after_ascii c.args.source.now end c.utf8.source letter.0 (letter_is_ascii (get_or c.args.source.now end 0) letter.1)
+    IsCharBoundary-after_ascii c.args.source.now end c.utf8.source letter.0
+    (letter_is_ascii (get_or c.args.source.now end 0) letter.1)

@@ -13,7 +13,8 @@ returns-clause-outcome c =
     let t = c.new-parser.result.cursor in
     let u = c.begin.new.self.cursor in
     let read = c.in_ok-begun.ensures.same no_frames refl (λ f. absurd (true≢false (sym f))) in
-    reads_from _ _ u (place_of c.in_ok-begun.begun no_frames) c.read_containers.result (read.0.text ∙ c.new-parser.ensures.cursor.text)
+    reads_from _ _ u (place_of c.in_ok-begun.begun no_frames) c.read_containers.result
+    (read.0.text ∙ c.new-parser.ensures.cursor.text)
     (c.new-parser.ensures.cursor.same (before no_frames) refl ∙ read.1) c.read_containers.ensures
 
 pub returns-clause-memory : goal.returns-clause-memory

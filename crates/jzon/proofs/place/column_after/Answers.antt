@@ -4,7 +4,8 @@ use Rattle.jzon.proofs.Columns.{column_of_one_line, column_of_last_line}
 use Rattle.jzon.proofs.place.column_after.Goals as goal
 
 pub returns-in-None : goal.returns-in-None
-returns-in-None c = c.column_behind.ensures ∙ sym (column_of_one_line c.args.front.now c.utf8.front c.in-None.ensures.cases)
+returns-in-None c = c.column_behind.ensures ∙ sym (column_of_one_line c.args.front.now c.utf8.front
+    c.in-None.ensures.cases)
 
 pub returns-in-Some : goal.returns-in-Some
 returns-in-Some c =

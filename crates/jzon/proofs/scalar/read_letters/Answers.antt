@@ -1,4 +1,5 @@
-use Rattle.std.proofs.Common.{◌≡◌, ◌+◌, suc, ◌∷◌, ◌∙◌, sym, ap, subst, arith, drop, drop-cons, add-one, get_or, true, false}
+use Rattle.std.proofs.Common.{◌≡◌, ◌+◌, suc, ◌∷◌, ◌∙◌, sym, ap, subst, arith, drop, drop-cons, add-one, get_or, true}
+use Rattle.std.proofs.Common.{false}
 use Rattle.std.specs.Prelude.{chars}
 use Rattle.std.proofs.lemmas.Str.{IsCharBoundary-after_ascii}
 use Rattle.jzon.specs.Machine.{from, past_letter, Tells}
@@ -9,11 +10,15 @@ pub returns-then-not-has_byte-clause-same : goal.returns-then-not-has_byte-claus
 returns-then-not-has_byte-clause-same c r fs v =
     let k = c.loop-letter.letter-index in
     let letters = c.args.letters.now in
-    let next : drop k letters ≡ get_or letters k 0 ∷ drop (suc k) letters = drop-cons letters k 0 c.loop-letter-test.true in
+    let next : drop k letters ≡ get_or letters k 0 ∷ drop (suc k) letters = drop-cons letters k 0
+    c.loop-letter-test.true in
     subst (Tells (chars c.args.source.now) c.fault_at.result)
-    (sym (c.loop-letter.invariant.2 r fs v ∙ ap (λ ls. from r c.args.source.now (past_letter fs v ls) c.loop-letter.index) next
-    ∙ letter_missing r c.args.source.now c.loop-letter.index (get_or letters k 0) (drop (suc k) letters) fs v c.utf8.source c.loop-letter.invariant.1
-    (c.requires.ascii k) (λ h. let no : c.has_byte.result ≡ true = c.has_byte.ensures.1 h in let yes : c.has_byte.result ≡ false = c.if-not-has_byte.true in cc)))
+    (sym (c.loop-letter.invariant.2 r fs v ∙ ap (λ ls. from r c.args.source.now (past_letter fs v ls)
+    c.loop-letter.index) next
+    ∙ letter_missing r c.args.source.now c.loop-letter.index (get_or letters k 0) (drop (suc k) letters) fs v
+    c.utf8.source c.loop-letter.invariant.1
+    (c.requires.ascii k) (λ h. let no : c.has_byte.result ≡ true = c.has_byte.ensures.1 h in let yes : c.has_byte.result
+    ≡ false = c.if-not-has_byte.true in cc)))
     c.fault_at.ensures
 
 pub loop-letter-preserved : goal.loop-letter-preserved
@@ -24,8 +29,11 @@ loop-letter-preserved c =
     let next : drop k letters ≡ get_or letters k 0 ∷ drop (k + 1) letters =
     drop-cons letters k 0 c.loop-letter-test.true ∙ ap (λ n. get_or letters k 0 ∷ drop n letters) (sym (add-one k)) in (
       omega (arith, c.loop-letter.invariant.0),
-      IsCharBoundary-after_ascii c.args.source.now c.loop-letter.index c.utf8.source here.0 (let lt = c.requires.ascii k in omega (arith, here.1, lt)),
-      λ r fs v. c.loop-letter.invariant.2 r fs v ∙ ap (λ ls. from r c.args.source.now (past_letter fs v ls) c.loop-letter.index) next
-          ∙ letter_read r c.args.source.now c.loop-letter.index (get_or letters k 0) (drop (k + 1) letters) fs v c.utf8.source c.loop-letter.invariant.1
+      IsCharBoundary-after_ascii c.args.source.now c.loop-letter.index c.utf8.source here.0
+          (let lt = c.requires.ascii k in omega (arith, here.1, lt)),
+      λ r fs v. c.loop-letter.invariant.2 r fs v ∙ ap (λ ls. from r c.args.source.now (past_letter fs v ls)
+          c.loop-letter.index) next
+          ∙ letter_read r c.args.source.now c.loop-letter.index (get_or letters k 0) (drop (k + 1) letters) fs v
+          c.utf8.source c.loop-letter.invariant.1
           here.0 here.1 (c.requires.ascii k),
     )

@@ -9,4 +9,5 @@ abbrev pub invariant-loop-letter : goal.invariant-loop-letter
 invariant-loop-letter l =
     (l.start ≤ l.index)
     × IsCharBoundary l.source l.index
-    × ((r : Reading) (fs : Frames) (v : Value) → from r l.source (past_letter fs v l.letters) l.start ≡ from r l.source (past_letter fs v (drop l.letter-index l.letters)) l.index)
+    × ((r : Reading) (fs : Frames) (v : Value) → from r l.source (past_letter fs v l.letters) l.start
+    ≡ from r l.source (past_letter fs v (drop l.letter-index l.letters)) l.index)

@@ -10,7 +10,8 @@ pub returns-then-not-has_digit-clause-same : goal.returns-then-not-has_digit-cla
 returns-then-not-has_digit-clause-same c r fs =
     subst (Tells (chars c.args.source.now) c.fault_at.result)
     (sym (from_stop r c.args.source.now c.args.start (numeral fs true signed) c.utf8.source c.requires
-    (no_digit_stops r c.args.source.now c.args.start fs (λ h. let no : c.has_digit.result ≡ true = c.has_digit.ensures.1 h in let yes : c.has_digit.result ≡ false = c.if-not-has_digit.true in cc))))
+    (no_digit_stops r c.args.source.now c.args.start fs (λ h. let no : c.has_digit.result
+    ≡ true = c.has_digit.ensures.1 h in let yes : c.has_digit.result ≡ false = c.if-not-has_digit.true in cc))))
     c.fault_at.ensures
 
 pub returns-clause-same : goal.returns-clause-same

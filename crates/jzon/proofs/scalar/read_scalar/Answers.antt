@@ -6,7 +6,8 @@ use Rattle.std.proofs.lemmas.Str.{IsCharBoundary-after_ascii}
 use Rattle.jzon_tree.proofs.Views.{view-Null, view-Boolean}
 use Rattle.jzon.specs.Reading.{usual}
 use Rattle.jzon.specs.Machine.{no_frames, before, past_letter, from}
-use Rattle.jzon.proofs.Beginnings.{stops_before, begin_null, begin_true, begin_false, begin_minus, begin_digit, begin_string}
+use Rattle.jzon.proofs.Beginnings.{stops_before, begin_null, begin_true, begin_false, begin_minus, begin_digit}
+use Rattle.jzon.proofs.Beginnings.{begin_string}
 use Rattle.jzon.proofs.Steps.{from_stop}
 use Rattle.jzon.proofs.Told.{told, same_or_memory, same_unless_memory, never_memory}
 use Rattle.jzon.proofs.scalar.read_scalar.Goals as goal
@@ -23,13 +24,15 @@ returns-then-start-source-clause-same c r fs shallow stop ends =
     c.fault_at.ensures
 
 pub returns-then-has_digit-clause-memory : goal.returns-then-has_digit-clause-memory
-returns-then-has_digit-clause-memory c e = absurd (never_memory _ (chars c.args.source.now) _ c.read_magnitude.result (c.read_magnitude.ensures.same usual no_frames) e)
+returns-then-has_digit-clause-memory c e = absurd (never_memory _ (chars c.args.source.now) _ c.read_magnitude.result
+    (c.read_magnitude.ensures.same usual no_frames) e)
 
 pub returns-then-has_digit-clause-same : goal.returns-then-has_digit-clause-same
 returns-then-has_digit-clause-same c r fs shallow stop ends =
     let digit = c.has_digit.ensures.0 c.if-has_digit.true in
     same_or_memory _ _ _ (chars c.args.source.now) c.read_magnitude.result
-    (begin_digit r c.args.source.now c.args.start fs c.utf8.source c.requires.boundary digit.0 digit.1 shallow) (c.read_magnitude.ensures.same r fs)
+    (begin_digit r c.args.source.now c.args.start fs c.utf8.source c.requires.boundary digit.0 digit.1 shallow)
+    (c.read_magnitude.ensures.same r fs)
 
 pub read_negative-requires : goal.read_negative-requires
 read_negative-requires c =
@@ -57,48 +60,59 @@ read_word-requires-in-102-clause-boundary c =
     IsCharBoundary-after_ascii c.args.source.now c.args.start c.utf8.source (omega arith) (omega (arith, e))
 
 pub returns-in-45-clause-memory : goal.returns-in-45-clause-memory
-returns-in-45-clause-memory c e = absurd (never_memory _ (chars c.args.source.now) _ c.read_negative.result (c.read_negative.ensures.same usual no_frames) e)
+returns-in-45-clause-memory c e = absurd (never_memory _ (chars c.args.source.now) _ c.read_negative.result
+    (c.read_negative.ensures.same usual no_frames) e)
 
 pub returns-in-45-clause-same : goal.returns-in-45-clause-same
 returns-in-45-clause-same c r fs shallow stop ends =
     same_or_memory _ _ _ (chars c.args.source.now) c.read_negative.result
-    (begin_minus r c.args.source.now c.args.start fs c.utf8.source c.requires.boundary (omega arith) (here _ _ _ 45 c.as_bytes.ensures.value c.in-45.is) shallow)
+    (begin_minus r c.args.source.now c.args.start fs c.utf8.source c.requires.boundary (omega arith)
+    (here _ _ _ 45 c.as_bytes.ensures.value c.in-45.is) shallow)
     (c.read_negative.ensures.same r fs)
 
 pub returns-in-34-clause-same : goal.returns-in-34-clause-same
 returns-in-34-clause-same c r fs shallow stop ends =
     same_unless_memory _ _ _ (chars c.args.source.now) c.read_text.result
-    (begin_string r c.args.source.now c.args.start fs c.utf8.source c.requires.boundary (omega arith) (here _ _ _ 34 c.as_bytes.ensures.value c.in-34.is) shallow)
+    (begin_string r c.args.source.now c.args.start fs c.utf8.source c.requires.boundary (omega arith)
+    (here _ _ _ 34 c.as_bytes.ensures.value c.in-34.is) shallow)
     (c.read_text.ensures.same r fs)
 
 pub returns-in-110-clause-memory : goal.returns-in-110-clause-memory
-returns-in-110-clause-memory c e = absurd (never_memory _ (chars c.args.source.now) _ c.read_word.result (c.read_word.ensures.same usual no_frames) e)
+returns-in-110-clause-memory c e = absurd (never_memory _ (chars c.args.source.now) _ c.read_word.result
+    (c.read_word.ensures.same usual no_frames) e)
 
 pub returns-in-110-clause-same : goal.returns-in-110-clause-same
 returns-in-110-clause-same c r fs shallow stop ends =
     same_or_memory _ _ _ (chars c.args.source.now) c.read_word.result
-    (begin_null r c.args.source.now c.args.start fs c.utf8.source c.requires.boundary (omega arith) (here _ _ _ 110 c.as_bytes.ensures.value c.in-110.is) shallow
+    (begin_null r c.args.source.now c.args.start fs c.utf8.source c.requires.boundary (omega arith)
+    (here _ _ _ 110 c.as_bytes.ensures.value c.in-110.is) shallow
     ∙ ap (λ v. from r c.args.source.now (past_letter fs v (117 ∷ 108 ∷ 108 ∷ [])) (c.args.start + 1)) (sym view-Null))
     (c.read_word.ensures.same r fs)
 
 pub returns-in-116-clause-memory : goal.returns-in-116-clause-memory
-returns-in-116-clause-memory c e = absurd (never_memory _ (chars c.args.source.now) _ c.read_word-in-116.result (c.read_word-in-116.ensures.same usual no_frames) e)
+returns-in-116-clause-memory c e = absurd (never_memory _ (chars c.args.source.now) _ c.read_word-in-116.result
+    (c.read_word-in-116.ensures.same usual no_frames) e)
 
 pub returns-in-116-clause-same : goal.returns-in-116-clause-same
 returns-in-116-clause-same c r fs shallow stop ends =
     same_or_memory _ _ _ (chars c.args.source.now) c.read_word-in-116.result
-    (begin_true r c.args.source.now c.args.start fs c.utf8.source c.requires.boundary (omega arith) (here _ _ _ 116 c.as_bytes.ensures.value c.in-116.is) shallow
-    ∙ ap (λ v. from r c.args.source.now (past_letter fs v (114 ∷ 117 ∷ 101 ∷ [])) (c.args.start + 1)) (sym (view-Boolean true)))
+    (begin_true r c.args.source.now c.args.start fs c.utf8.source c.requires.boundary (omega arith)
+    (here _ _ _ 116 c.as_bytes.ensures.value c.in-116.is) shallow
+    ∙ ap (λ v. from r c.args.source.now (past_letter fs v (114 ∷ 117 ∷ 101 ∷ [])) (c.args.start + 1))
+    (sym (view-Boolean true)))
     (c.read_word-in-116.ensures.same r fs)
 
 pub returns-in-102-clause-memory : goal.returns-in-102-clause-memory
-returns-in-102-clause-memory c e = absurd (never_memory _ (chars c.args.source.now) _ c.read_word-in-102.result (c.read_word-in-102.ensures.same usual no_frames) e)
+returns-in-102-clause-memory c e = absurd (never_memory _ (chars c.args.source.now) _ c.read_word-in-102.result
+    (c.read_word-in-102.ensures.same usual no_frames) e)
 
 pub returns-in-102-clause-same : goal.returns-in-102-clause-same
 returns-in-102-clause-same c r fs shallow stop ends =
     same_or_memory _ _ _ (chars c.args.source.now) c.read_word-in-102.result
-    (begin_false r c.args.source.now c.args.start fs c.utf8.source c.requires.boundary (omega arith) (here _ _ _ 102 c.as_bytes.ensures.value c.in-102.is) shallow
-    ∙ ap (λ v. from r c.args.source.now (past_letter fs v (97 ∷ 108 ∷ 115 ∷ 101 ∷ [])) (c.args.start + 1)) (sym (view-Boolean false)))
+    (begin_false r c.args.source.now c.args.start fs c.utf8.source c.requires.boundary (omega arith)
+    (here _ _ _ 102 c.as_bytes.ensures.value c.in-102.is) shallow
+    ∙ ap (λ v. from r c.args.source.now (past_letter fs v (97 ∷ 108 ∷ 115 ∷ 101 ∷ [])) (c.args.start + 1))
+    (sym (view-Boolean false)))
     (c.read_word-in-102.ensures.same r fs)
 
 pub returns-in_default-clause-same : goal.returns-in_default-clause-same
@@ -109,7 +123,8 @@ returns-in_default-clause-same c r fs shallow stop ends =
     (from_stop r c.args.source.now c.args.start (before fs) c.utf8.source c.requires.boundary
     (stops_before r c.args.source.now c.args.start fs shallow (λ lt. record {
       no_space = stop lt;
-      no_digit = false_from_ne_true (is_ascii_digit (get_or c.args.source.now c.args.start 0)) (λ d. iff_false c.has_digit.ensures c.if-has_digit.false (lt, d));
+      no_digit = false_from_ne_true (is_ascii_digit (get_or c.args.source.now c.args.start 0))
+          (λ d. iff_false c.has_digit.ensures c.if-has_digit.false (lt, d));
       no_minus = λ e. absurd (omega (arith, e, same));
       no_quote = λ e. absurd (omega (arith, e, same));
       no_array = c.requires.no_array;

@@ -18,6 +18,7 @@ returns-then-has_byte-clause-same c r role bs =
 pub returns-else-has_byte-clause-same : goal.returns-else-has_byte-clause-same
 returns-else-has_byte-clause-same c r role bs =
     subst (Tells (chars c.args.source.now) c.fault_at.result)
-    (sym (string_stops r role bs c.args.source.now c.args.index c.utf8.source c.requires.boundary c.requires.stop c.requires.no_escape
+    (sym (string_stops r role bs c.args.source.now c.args.index c.utf8.source c.requires.boundary c.requires.stop
+    c.requires.no_escape
     (iff_false c.has_byte.ensures c.if-has_byte.false)))
     c.fault_at.ensures

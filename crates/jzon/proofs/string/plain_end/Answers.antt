@@ -10,7 +10,8 @@ run : (c : goal.After-plain_len) → c.plain_len.result ≡ prefix_len is_plain 
 run c =
     c.plain_len.ensures
     ∙ ap (prefix_len is_plain)
-    (ap (λ bs. take (length bs - c.args.start) (drop c.args.start bs)) c.as_bytes.ensures.value ∙ take_rest c.args.source.now c.args.start)
+    (ap (λ bs. take (length bs - c.args.start) (drop c.args.start bs)) c.as_bytes.ensures.value
+    ∙ take_rest c.args.source.now c.args.start)
 
 pub overflow_add-result : goal.overflow_add-result
 overflow_add-result c =

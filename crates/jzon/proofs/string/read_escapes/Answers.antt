@@ -19,7 +19,8 @@ returns-in_err-ch-clause-same c r role =
     let read = string_bytes c.loop-start.buffer in
     let told = err_from_is_err_and c.from_residual.result c.from_residual.ensures.1 in
     let escape = c.loop-start.invariant.same r role
-    ∙ backslash_begins r role read text c.loop-start.index c.utf8.source c.loop-start.invariant.boundary here.0 here.1 in
+    ∙ backslash_begins r role read text c.loop-start.index c.utf8.source c.loop-start.invariant.boundary here.0 here.1
+    in
     rw (told.1, told.2) (inr (subst (Tells (chars text) _) (sym escape) (c.in_err-ch.ensures.same r role read)))
 
 pub loop-start-preserved : goal.loop-start-preserved
@@ -29,20 +30,24 @@ loop-start-preserved c =
     let read = string_bytes c.loop-start.buffer in
     let run = slice_range text c.in_ok-ch.end c.plain_end-index.result in
     let bytes : string_bytes c.push_str.new.self ≡ read ++ encode_utf8 c.in_ok-ch.ch ++ run =
-    c.in_ok-push_str.ensures.bytes ∙ ap (λ z. string_bytes c.push.new.self ++ z) c.range.ensures.value ∙ ap (λ z. z ++ run) c.in_ok-push.ensures.bytes in
+    c.in_ok-push_str.ensures.bytes ∙ ap (λ z. string_bytes c.push.new.self ++ z) c.range.ensures.value
+    ∙ ap (λ z. z ++ run) c.in_ok-push.ensures.bytes in
     record {
       within = omega (arith, c.in_ok-ch.ensures.bounds.0);
       boundary = c.plain_end-index.ensures.boundary;
       stop = c.plain_end-index.ensures.stop;
       same = λ r role.
           c.loop-start.invariant.same r role
-          ∙ backslash_begins r role read text c.loop-start.index c.utf8.source c.loop-start.invariant.boundary here.0 here.1
-          ∙ c.in_ok-ch.ensures.same r role read ∙ c.plain_end-index.ensures.same r role (read ++ encode_utf8 c.in_ok-ch.ch)
+          ∙ backslash_begins r role read text c.loop-start.index c.utf8.source c.loop-start.invariant.boundary here.0
+          here.1
+          ∙ c.in_ok-ch.ensures.same r role read ∙ c.plain_end-index.ensures.same r role
+          (read ++ encode_utf8 c.in_ok-ch.ch)
           ∙ ap (λ z. from r text (string role z between) c.plain_end-index.result) (sym bytes);
     }
 
 pub returns-clause-same : goal.returns-clause-same
 returns-clause-same c r role =
     let so_far = c.loop-start.invariant.same r role in
-    MatchResult-weaker c.past_quote.result (c.past_quote.ensures.same r role (string_bytes c.loop-start.buffer)) (λ end h. so_far ∙ h)
+    MatchResult-weaker c.past_quote.result (c.past_quote.ensures.same r role (string_bytes c.loop-start.buffer))
+    (λ end h. so_far ∙ h)
     (λ e h. inr (subst (Tells (chars c.args.source.now) e) (sym so_far) h))

@@ -1,7 +1,8 @@
 use Rattle.std.proofs.Common.{get_or, ◌+◌, ◌*◌, ap, sym, subst, arith}
 use Rattle.std.specs.Prelude.{chars}
 use Rattle.jzon.specs.Machine.{Tells}
-use Rattle.jzon.proofs.HexDigits.{HexRead, hex_is_below_16, code_reads, second_code_reads, hex_begun, hex_more, hex_stops, hex_end, hex_small}
+use Rattle.jzon.proofs.HexDigits.{HexRead, hex_is_below_16, code_reads, second_code_reads, hex_begun, hex_more}
+use Rattle.jzon.proofs.HexDigits.{hex_stops, hex_end, hex_small}
 use Rattle.jzon.proofs.string.read_hex.Goals as goal
 
 pub loop-index-init : goal.loop-index-init
@@ -9,43 +10,52 @@ loop-index-init c = hex_begun c.args.source.now c.args.start c.requires
 
 pub overflow_mul-unit : goal.overflow_mul-unit
 overflow_mul-unit c =
-    let small = hex_small c.args.source.now c.args.start c.loop-index.index c.loop-index.unit c.loop-index.invariant (omega arith) in
+    let small = hex_small c.args.source.now c.args.start c.loop-index.index c.loop-index.unit c.loop-index.invariant
+    (omega arith) in
     omega arith
 
 pub overflow_add-unit : goal.overflow_add-unit
 overflow_add-unit c =
-    let small = hex_small c.args.source.now c.args.start c.loop-index.index c.loop-index.unit c.loop-index.invariant (omega arith) in
+    let small = hex_small c.args.source.now c.args.start c.loop-index.index c.loop-index.unit c.loop-index.invariant
+    (omega arith) in
     let digit = c.in-Some.ensures in
     omega (arith, small, digit.1, hex_is_below_16 (get_or c.args.source.now c.loop-index.index 0) digit.0.1)
 
 pub loop-index-preserved : goal.loop-index-preserved
 loop-index-preserved c =
     let digit = c.in-Some.ensures in
-    subst (HexRead c.args.source.now c.args.start (c.loop-index.index + 1)) (ap (λ d. c.loop-index.unit * 16 + d) (sym digit.1))
-    (hex_more c.args.source.now c.args.start c.loop-index.index c.loop-index.unit c.loop-index.invariant c.utf8.source c.loop-index.auto.index
+    subst (HexRead c.args.source.now c.args.start (c.loop-index.index + 1))
+    (ap (λ d. c.loop-index.unit * 16 + d) (sym digit.1))
+    (hex_more c.args.source.now c.args.start c.loop-index.index c.loop-index.unit c.loop-index.invariant c.utf8.source
+    c.loop-index.auto.index
     c.loop-index-test.true digit.0.0 digit.0.1)
 
 pub returns-in-None-clause-first : goal.returns-in-None-clause-first
 returns-in-None-clause-first c r role bs =
     subst (Tells (chars c.args.source.now) c.fault_at.result)
-    (sym (hex_stops r c.args.source.now c.args.start c.loop-index.index c.loop-index.unit _ _ c.loop-index.invariant (code_reads r role bs)
+    (sym (hex_stops r c.args.source.now c.args.start c.loop-index.index c.loop-index.unit _ _ c.loop-index.invariant
+    (code_reads r role bs)
     c.utf8.source c.loop-index.auto.index c.loop-index-test.true c.in-None.ensures))
     c.fault_at.ensures
 
 pub returns-in-None-clause-second : goal.returns-in-None-clause-second
 returns-in-None-clause-second c r role bs h =
     subst (Tells (chars c.args.source.now) c.fault_at.result)
-    (sym (hex_stops r c.args.source.now c.args.start c.loop-index.index c.loop-index.unit _ _ c.loop-index.invariant (second_code_reads r role bs h)
+    (sym (hex_stops r c.args.source.now c.args.start c.loop-index.index c.loop-index.unit _ _ c.loop-index.invariant
+    (second_code_reads r role bs h)
     c.utf8.source c.loop-index.auto.index c.loop-index-test.true c.in-None.ensures))
     c.fault_at.ensures
 
 pub returns-clause-unit : goal.returns-clause-unit
-returns-clause-unit c = hex_small c.args.source.now c.args.start c.loop-index.index c.loop-index.unit c.loop-index.invariant (omega arith)
+returns-clause-unit c = hex_small c.args.source.now c.args.start c.loop-index.index c.loop-index.unit
+    c.loop-index.invariant (omega arith)
 
 pub returns-clause-first : goal.returns-clause-first
 returns-clause-first c r role bs =
-    hex_end r c.args.source.now c.args.start c.loop-index.index c.loop-index.unit _ _ c.loop-index.invariant (code_reads r role bs) (omega arith)
+    hex_end r c.args.source.now c.args.start c.loop-index.index c.loop-index.unit _ _ c.loop-index.invariant
+    (code_reads r role bs) (omega arith)
 
 pub returns-clause-second : goal.returns-clause-second
 returns-clause-second c r role bs h =
-    hex_end r c.args.source.now c.args.start c.loop-index.index c.loop-index.unit _ _ c.loop-index.invariant (second_code_reads r role bs h) (omega arith)
+    hex_end r c.args.source.now c.args.start c.loop-index.index c.loop-index.unit _ _ c.loop-index.invariant
+    (second_code_reads r role bs h) (omega arith)

@@ -25,31 +25,37 @@ fault_at-requires-then-not-has_byte-2 c =
 pub returns-then-not-has_byte-2-clause-same : goal.returns-then-not-has_byte-2-clause-same
 returns-then-not-has_byte-2-clause-same c r role bs =
     subst (Tells (chars c.args.source.now) c.fault_at-then-not-has_byte-2.result)
-    (sym (second_u_stops r role bs c.args.source.now c.args.first c.args.start c.utf8.source c.requires (c.has_byte.ensures.0 c.if-not-has_byte.false)
+    (sym (second_u_stops r role bs c.args.source.now c.args.first c.args.start c.utf8.source c.requires
+    (c.has_byte.ensures.0 c.if-not-has_byte.false)
     (iff_false c.has_byte-2.ensures c.if-not-has_byte-2.true)))
     c.fault_at-then-not-has_byte-2.ensures
 
 pub read_hex-requires : goal.read_hex-requires
 read_hex-requires c =
-    second_digits_boundary c.args.source.now c.args.start c.utf8.source (c.has_byte-2.ensures.0 c.if-not-has_byte-2.false)
+    second_digits_boundary c.args.source.now c.args.start c.utf8.source
+    (c.has_byte-2.ensures.0 c.if-not-has_byte-2.false)
 
 pub returns-in_err-unit-clause-same : goal.returns-in_err-unit-clause-same
 returns-in_err-unit-clause-same c r role bs =
     let told = err_from_is_err_and c.from_residual.result c.from_residual.ensures.1 in
     let digits = second_begins r role bs c.args.source.now c.args.first c.args.start c.utf8.source c.requires
     (c.has_byte.ensures.0 c.if-not-has_byte.false) (c.has_byte-2.ensures.0 c.if-not-has_byte-2.false) in
-    rw (told.1, told.2) (subst (Tells (chars c.args.source.now) _) (sym digits) (c.in_err-unit.ensures.second r role bs c.args.first))
+    rw (told.1, told.2) (subst (Tells (chars c.args.source.now) _) (sym digits)
+    (c.in_err-unit.ensures.second r role bs c.args.first))
 
 pub returns-in-Some-clause-same : goal.returns-in-Some-clause-same
 returns-in-Some-clause-same c r role bs =
     let pair = c.in-Some.ensures in
     let text = c.args.source.now in
     let rest = chars (drop (c.args.start + 2 + 3) text) in
-    let digits = second_begins r role bs text c.args.first c.args.start c.utf8.source c.requires (c.has_byte.ensures.0 c.if-not-has_byte.false)
+    let digits = second_begins r role bs text c.args.first c.args.start c.utf8.source c.requires
+    (c.has_byte.ensures.0 c.if-not-has_byte.false)
     (c.has_byte-2.ensures.0 c.if-not-has_byte-2.false) in
     digits ∙ c.in_ok-unit.ensures.second r role bs c.args.first
-    ∙ ap (λ t. outcome_on (paired t role bs c.args.first c.in_ok-unit.unit) (λ p. from r text p (c.args.start + 2 + 4)) rest) pair.0
-    ∙ ap (λ n. from r text (string role (bs ++ encode_utf8 (pair_char c.args.first c.in_ok-unit.unit)) between) n) (let e : c.args.start + 2 + 4 ≡ c.args.start + 6 = omega arith in e)
+    ∙ ap (λ t. outcome_on (paired t role bs c.args.first c.in_ok-unit.unit) (λ p. from r text p (c.args.start + 2 + 4))
+    rest) pair.0
+    ∙ ap (λ n. from r text (string role (bs ++ encode_utf8 (pair_char c.args.first c.in_ok-unit.unit)) between) n)
+    (let e : c.args.start + 2 + 4 ≡ c.args.start + 6 = omega arith in e)
     ∙ ap (λ ch. from r text (string role (bs ++ encode_utf8 ch) between) (c.args.start + 6)) (sym pair.1)
 
 pub returns-in-None-clause-same : goal.returns-in-None-clause-same
@@ -57,9 +63,11 @@ returns-in-None-clause-same c r role bs =
     let text = c.args.source.now in
     let rest = chars (drop (c.args.start + 2 + 3) text) in
     let no_pair : (is_high c.args.first && is_low c.in_ok-unit.unit) ≡ false = false_from_ne_true _ c.in-None.ensures in
-    let digits = second_begins r role bs text c.args.first c.args.start c.utf8.source c.requires (c.has_byte.ensures.0 c.if-not-has_byte.false)
+    let digits = second_begins r role bs text c.args.first c.args.start c.utf8.source c.requires
+    (c.has_byte.ensures.0 c.if-not-has_byte.false)
     (c.has_byte-2.ensures.0 c.if-not-has_byte-2.false) in
     subst (Tells (chars text) FailedUtf8Parsing)
     (sym (digits ∙ c.in_ok-unit.ensures.second r role bs c.args.first
-    ∙ ap (λ t. outcome_on (paired t role bs c.args.first c.in_ok-unit.unit) (λ p. from r text p (c.args.start + 2 + 4)) rest) no_pair))
+    ∙ ap (λ t. outcome_on (paired t role bs c.args.first c.in_ok-unit.unit) (λ p. from r text p (c.args.start + 2 + 4))
+    rest) no_pair))
     refl

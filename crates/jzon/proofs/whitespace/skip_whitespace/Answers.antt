@@ -6,23 +6,29 @@ use Rattle.jzon.proofs.ContainerSteps.{whitespace_skips}
 use Rattle.jzon.proofs.Scanning.{before_skips, from_skip, boundary_skip, stops_run, within_run}
 use Rattle.jzon.proofs.whitespace.skip_whitespace.Goals as goal
 
-run : (c : goal.After-whitespace_length) → c.whitespace_length.result ≡ prefix_len (is_space c.args.reading.strict) (drop c.args.start c.args.source.now)
+run : (c : goal.After-whitespace_length) → c.whitespace_length.result
+    ≡ prefix_len (is_space c.args.reading.strict) (drop c.args.start c.args.source.now)
 run c =
-    c.whitespace_length.ensures ∙ ap (λ t. prefix_len (is_space t) c.range_from.result.now) c.strict.ensures ∙ ap (prefix_len (is_space c.args.reading.strict)) c.range_from.ensures.value
+    c.whitespace_length.ensures ∙ ap (λ t. prefix_len (is_space t) c.range_from.result.now) c.strict.ensures
+    ∙ ap (prefix_len (is_space c.args.reading.strict)) c.range_from.ensures.value
 
 pub overflow_add-result : goal.overflow_add-result
 overflow_add-result c =
     let le : c.args.start + c.whitespace_length.result ≤ length c.args.source.now =
-    within_run (is_space c.args.reading.strict) c.args.source.now c.args.start c.whitespace_length.result c.requires.0 (run c) in
+    within_run (is_space c.args.reading.strict) c.args.source.now c.args.start c.whitespace_length.result c.requires.0
+    (run c) in
     omega arith
 
 pub returns-clause-boundary : goal.returns-clause-boundary
 returns-clause-boundary c =
-    boundary_skip c.args.reading _ (is_space c.args.reading.strict) c.args.source.now c.args.start c.whitespace_length.result (before_skips c.args.reading no_frames) c.utf8.source c.requires (run c)
+    boundary_skip c.args.reading _ (is_space c.args.reading.strict) c.args.source.now c.args.start
+    c.whitespace_length.result (before_skips c.args.reading no_frames) c.utf8.source c.requires (run c)
 
 pub returns-clause-same : goal.returns-clause-same
 returns-clause-same c p allows =
-    from_skip c.args.reading _ (is_space c.args.reading.strict) c.args.source.now c.args.start c.whitespace_length.result (whitespace_skips c.args.reading p allows) c.utf8.source c.requires (run c)
+    from_skip c.args.reading _ (is_space c.args.reading.strict) c.args.source.now c.args.start
+    c.whitespace_length.result (whitespace_skips c.args.reading p allows) c.utf8.source c.requires (run c)
 
 pub returns-clause-stop : goal.returns-clause-stop
-returns-clause-stop c lt = stops_run (is_space c.args.reading.strict) c.args.source.now c.args.start c.whitespace_length.result (run c) lt
+returns-clause-stop c lt = stops_run (is_space c.args.reading.strict) c.args.source.now c.args.start
+    c.whitespace_length.result (run c) lt

@@ -11,7 +11,8 @@ returns-then-count-whole c =
     let e : kept_len (c.args.whole.now ++ c.args.fraction.now) ≡ c.longest_front-number.result.1 =
     kept_len-within_whole _ _ _ few (omega (arith, front.number, front.fits)) (front.longest few) in
     record {
-      number = rw e (front.number ∙ ap digits_number (sym (take-append-le _ c.args.whole.now c.args.fraction.now (omega (arith, few)))));
+      number = rw e (front.number ∙ ap digits_number (sym (take-append-le _ c.args.whole.now c.args.fraction.now
+          (omega (arith, few)))));
       dropped = omega (arith, e);
       kept = omega (arith, e);
     }
@@ -20,10 +21,14 @@ pub returns : goal.returns
 returns c =
     let first = c.longest_front-number.ensures in
     let second = c.longest_front-number-2.ensures in
-    let all : take c.longest_front-number.result.1 c.args.whole.now ≡ c.args.whole.now = take_all _ _ (c.if-count-whole.false) in
-    let value : c.longest_front-number.result.0 ≡ digits_number c.args.whole.now = first.number ∙ ap digits_number all in
-    let e : kept_len (c.args.whole.now ++ c.args.fraction.now) ≡ length c.args.whole.now + c.longest_front-number-2.result.1 =
-    kept_len-past_whole _ _ _ second.within (omega (arith, rw value at second.number, second.fits)) (λ few. rw value at (second.longest few)) in
+    let all : take c.longest_front-number.result.1 c.args.whole.now
+    ≡ c.args.whole.now = take_all _ _ (c.if-count-whole.false) in
+    let value : c.longest_front-number.result.0 ≡ digits_number c.args.whole.now = first.number
+    ∙ ap digits_number all in
+    let e : kept_len (c.args.whole.now ++ c.args.fraction.now)
+    ≡ length c.args.whole.now + c.longest_front-number-2.result.1 =
+    kept_len-past_whole _ _ _ second.within (omega (arith, rw value at second.number, second.fits))
+    (λ few. rw value at (second.longest few)) in
     record {
       number = rw (e, digits_number-take-append) (rw value at second.number);
       dropped = omega (arith, e);

@@ -7,4 +7,5 @@ decreases-loop-written g l = length l.bytes - l.written
 
 abbrev pub invariant-loop-written : goal.invariant-loop-written
 invariant-loop-written g l =
-    (l.written ≤ length l.bytes) × Appends (g.W.Write.contents l.initial.writer) (g.W.Write.contents l.writer) (take l.written l.bytes)
+    (l.written ≤ length l.bytes) × Appends (g.W.Write.contents l.initial.writer) (g.W.Write.contents l.writer)
+    (take l.written l.bytes)

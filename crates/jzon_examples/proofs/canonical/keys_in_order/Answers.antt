@@ -5,10 +5,12 @@ use Rattle.jzon_examples.proofs.canonical.keys_in_order.Goals as goal
 
 pub loop-key-preserved : goal.loop-key-preserved
 loop-key-preserved c =
-    key_taken c.loop-key.keys.items c.loop-key.key-iterator (keys_of (entries_of c.args.object.now)) c.loop-key.invariant
+    key_taken c.loop-key.keys.items c.loop-key.key-iterator (keys_of (entries_of c.args.object.now))
+    c.loop-key.invariant
     c.push.new.self.items c.in-Some.key c.next.new.self _ c.in_ok-push.ensures.items c.in-Some.ensures.steps
 
 pub returns : goal.returns
 returns c =
-    keys_taken c.loop-key.keys.items c.loop-key.key-iterator (keys_of (entries_of c.args.object.now)) c.loop-key.invariant
+    keys_taken c.loop-key.keys.items c.loop-key.key-iterator (keys_of (entries_of c.args.object.now))
+    c.loop-key.invariant
     c.in-None.ensures.steps.0

@@ -17,10 +17,13 @@ pub returns : goal.returns
 returns c =
     let keys = c.in_ok-keys.keys.items in
     let ps = c.sort_by_key.new.self.items in
-    let count : c.loop-position.position ≡ length keys = omega (arith, c.len-position-end.ensures, c.in_ok-keys.keys.ok.0) in
+    let count : c.loop-position.position ≡ length keys = omega
+    (arith, c.len-position-end.ensures, c.in_ok-keys.keys.ok.0) in
     let order : IsOrder (length keys) ps =
     subst (λ (n : ℕ). IsOrder n ps) count
-    (IsOrder_permuted c.loop-position.position c.loop-position.positions.items ps c.loop-position.invariant c.in_ok-sort_by_key.ensures.permutation) in
-    let sorted = c.in_ok-sort_by_key.ensures.sorted (slice_get keys) (always_returns_same _ _ _ (λ a r f called. search rules)) in
+    (IsOrder_permuted c.loop-position.position c.loop-position.positions.items ps c.loop-position.invariant
+    c.in_ok-sort_by_key.ensures.permutation) in
+    let sorted = c.in_ok-sort_by_key.ensures.sorted (slice_get keys)
+    (always_returns_same _ _ _ (λ a r f called. search rules)) in
     subst (λ (ts : List (List ℕ)). IsOrder (length ts) ps × IsTrue (ascend (map (text_at ts) ps))) c.in_ok-keys.ensures
     (rw (length-map keys (λ key. key.now)) order, in_key_order keys ps order sorted)

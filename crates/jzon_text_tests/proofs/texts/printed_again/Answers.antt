@@ -6,5 +6,6 @@ use Rattle.jzon_text_tests.proofs.texts.printed_again.Goals as goal
 
 pub returns : goal.returns
 returns c =
-    dumped_reads usual (view c.in_ok-value.value) (string_bytes c.in_ok-printed.printed) c.redump.ensures c.in_ok-value.ensures.readable
+    dumped_reads usual (view c.in_ok-value.value) (string_bytes c.in_ok-printed.printed) c.redump.ensures
+    c.in_ok-value.ensures.readable
     c.in_ok-printed.ensures.text

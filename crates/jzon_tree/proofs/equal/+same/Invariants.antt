@@ -5,7 +5,8 @@ use Rattle.jzon_tree.proofs.Compared.{ComparedItems, ComparedPairs}
 use Rattle.jzon_tree.proofs.equal.+same.Given as goal
 
 abbrev pub invariant-same_array-loop-item : goal.invariant-same_array-loop-item
-invariant-same_array-loop-item l = ComparedItems l.items l.others (iter_rest (zip_first l.item-iterator)) (iter_rest (zip_second l.item-iterator))
+invariant-same_array-loop-item l = ComparedItems l.items l.others (iter_rest (zip_first l.item-iterator))
+    (iter_rest (zip_second l.item-iterator))
 
 abbrev pub invariant-same_object-loop-key : goal.invariant-same_object-loop-key
 invariant-same_object-loop-key l = ComparedPairs (entries_of l.object) (entries_of l.other) l.key-iterator

@@ -6,4 +6,5 @@ use Rattle.jzon_tree_tests.proofs.generators.sorted_order.Goals as goal
 
 pub returns : goal.returns
 returns c =
-    rw (length-map (entries_of c.args.object.now) (λ p. p.0), sym c.len.ensures.len) (IsOrder_permuted c.len.result _ _ c.in_ok-positions.ensures c.in_ok-sort_by_key.ensures.permutation)
+    rw (length-map (entries_of c.args.object.now) (λ p. p.0), sym c.len.ensures.len)
+    (IsOrder_permuted c.len.result _ _ c.in_ok-positions.ensures c.in_ok-sort_by_key.ensures.permutation)

@@ -3,7 +3,8 @@ use Rattle.std.specs.Io.KnownBytes.{Consumes}
 use Rattle.jzonfmt.proofs.engine.read_input.Given as goal
 
 abbrev pub invariant-loop-chunk : goal.invariant-loop-chunk
-invariant-loop-chunk g l = Consumes (g.R.Read.remaining l.fn.reader) (g.R.Read.remaining l.reader) l.input.items × (0 < vec_len l.chunk)
+invariant-loop-chunk g l = Consumes (g.R.Read.remaining l.fn.reader) (g.R.Read.remaining l.reader) l.input.items
+    × (0 < vec_len l.chunk)
 
 abbrev pub decreases-loop-chunk : goal.decreases-loop-chunk
 decreases-loop-chunk g l = 2 ^ 64 - vec_len l.input

@@ -13,4 +13,5 @@ overflow_add-self c =
 pub go_to-requires : goal.go_to-requires
 go_to-requires c =
     let t = c.args.self.now in
-    IsCharBoundary-after_ascii t.source.now t.index (utf8_of t) (byte_within t.source.now t.index _ refl c.requires.some) c.requires.ascii
+    IsCharBoundary-after_ascii t.source.now t.index (utf8_of t)
+    (byte_within t.source.now t.index _ refl c.requires.some) c.requires.ascii

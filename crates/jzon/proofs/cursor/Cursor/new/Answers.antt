@@ -7,7 +7,12 @@ skip_whitespace-requires c = IsCharBoundary-start c.args.source.now c.utf8.sourc
 
 pub invariant_of-result : goal.invariant_of-result
 invariant_of-result c =
-    record { utf8 = ∣ c.utf8.source ∣₁; boundary = c.skip_whitespace.ensures.boundary; past_whitespace = c.skip_whitespace.ensures.stop }
+    record {
+      utf8 = ∣ c.utf8.source ∣₁;
+      boundary = c.skip_whitespace.ensures.boundary;
+      past_whitespace =
+          c.skip_whitespace.ensures.stop;
+    }
 
 pub returns : goal.returns
 returns c = record { text = refl; reading = refl; within = omega arith; same = c.skip_whitespace.ensures.same }

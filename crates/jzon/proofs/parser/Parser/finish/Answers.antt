@@ -11,7 +11,8 @@ pub returns-then-self-clause-same : goal.returns-then-self-clause-same
 returns-then-self-clause-same c =
     let t = c.args.self.now.cursor in
     told (chars t.source.now) c.fault.result _ _
-    (trailing_stops t.reading t.source.now t.index (view c.args.value) (utf8_of t) t.boundary c.if-self.true (t.past_whitespace c.if-self.true))
+    (trailing_stops t.reading t.source.now t.index (view c.args.value) (utf8_of t) t.boundary c.if-self.true
+    (t.past_whitespace c.if-self.true))
     c.fault.ensures
 
 pub returns-clause-same : goal.returns-clause-same

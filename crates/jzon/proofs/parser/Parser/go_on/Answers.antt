@@ -15,21 +15,27 @@ use Rattle.jzon.proofs.parser.Parser.go_on.Goals as goal
 -- ---- in an array
 
 in_array : (c : After-array_ends) →
-    Reached c.args.self.now.cursor (behind (open_in (stack_view c.args.self.now.stack.items) c.args.frame) (view c.args.item)) c.args.self.now.cursor
-    (behind (array_frame (stack_view c.args.self.now.stack.items) (map view c.in-Array.elements.items)) (view c.args.item))
+    Reached c.args.self.now.cursor (behind (open_in (stack_view c.args.self.now.stack.items) c.args.frame)
+    (view c.args.item)) c.args.self.now.cursor
+    (behind (array_frame (stack_view c.args.self.now.stack.items) (map view c.in-Array.elements.items))
+    (view c.args.item))
 in_array c = record {
   text = refl;
   reading = refl;
   within = omega arith;
-  same = ap (λ f. left c.args.self.now.cursor (behind (open_in (stack_view c.args.self.now.stack.items) f) (view c.args.item))) c.in-Array.is;
+  same = ap (λ f. left c.args.self.now.cursor (behind (open_in (stack_view c.args.self.now.stack.items) f)
+      (view c.args.item))) c.in-Array.is;
 }
 
-elements_pushed : (c : After-array_ends) → map view c.push.new.self.items ≡ map view c.in-Array.elements.items ++ view c.args.item ∷ []
-elements_pushed c = ap (map view) c.in_ok-push-in-Array.ensures.items ∙ map-append view c.in-Array.elements.items (c.args.item ∷ [])
+elements_pushed : (c : After-array_ends) → map view c.push.new.self.items
+    ≡ map view c.in-Array.elements.items ++ view c.args.item ∷ []
+elements_pushed c = ap (map view) c.in_ok-push-in-Array.ensures.items
+    ∙ map-append view c.in-Array.elements.items (c.args.item ∷ [])
 
 pub returns-then-branch-clause-ready : goal.returns-then-branch-clause-ready
 returns-then-branch-clause-ready c =
-    let ends = c.in_ok-array_ends-in-Array.ensures (stack_view c.args.self.now.stack.items) (map view c.in-Array.elements.items) (view c.args.item) in
+    let ends = c.in_ok-array_ends-in-Array.ensures (stack_view c.args.self.now.stack.items)
+    (map view c.in-Array.elements.items) (view c.args.item) in
     omega (arith, c.requires.room, ap (λ r. r.depth) ends.0.reading)
 
 pub returns-then-branch-clause-same : goal.returns-then-branch-clause-same
@@ -40,20 +46,25 @@ returns-then-branch-clause-same c =
     let vs = map view c.in-Array.elements.items in
     let v = view c.args.item in
     let at = (goal.at.returns-then-branch-clause-same c).After-array_ends in
-    let read = goes_behind t t u _ (behind (array_frame fs vs) v) _ (in_array at) (c.in_ok-array_ends-in-Array.ensures fs vs v) in (
+    let read = goes_behind t t u _ (behind (array_frame fs vs) v) _ (in_array at)
+    (c.in_ok-array_ends-in-Array.ensures fs vs v) in (
       read.0,
-      read.1 ∙ ap (λ b. left u (cond b (behind fs (array (values_of (vs ++ v ∷ [])))) (before (array_frame fs (vs ++ v ∷ []))))) c.if-branch.true
-          ∙ ap (λ x. left u (behind fs x)) (sym (view-Array c.push.new.self ∙ ap (λ xs. array (values_of xs)) (elements_pushed at))),
+      read.1 ∙ ap (λ b. left u (cond b (behind fs (array (values_of (vs ++ v ∷ []))))
+          (before (array_frame fs (vs ++ v ∷ []))))) c.if-branch.true
+          ∙ ap (λ x. left u (behind fs x)) (sym (view-Array c.push.new.self
+          ∙ ap (λ xs. array (values_of xs)) (elements_pushed at))),
     )
 
 pub read_elements-requires-clause-room : goal.read_elements-requires-clause-room
 read_elements-requires-clause-room c =
-    let ends = c.in_ok-array_ends-in-Array.ensures (stack_view c.args.self.now.stack.items) (map view c.in-Array.elements.items) (view c.args.item) in
+    let ends = c.in_ok-array_ends-in-Array.ensures (stack_view c.args.self.now.stack.items)
+    (map view c.in-Array.elements.items) (view c.args.item) in
     omega (arith, c.requires.room, ap (λ r. r.depth) ends.0.reading)
 
 pub read_elements-requires-clause-element : goal.read_elements-requires-clause-element
 read_elements-requires-clause-element c none =
-    absurd (some_more (map view c.in-Array.elements.items) (view c.args.item) (sym (elements_pushed (goal.at.read_elements-requires-clause-element c).After-array_ends) ∙ none))
+    absurd (some_more (map view c.in-Array.elements.items) (view c.args.item)
+    (sym (elements_pushed (goal.at.read_elements-requires-clause-element c).After-array_ends) ∙ none))
 
 pub returns-else-branch-clause-same : goal.returns-else-branch-clause-same
 returns-else-branch-clause-same c =
@@ -63,11 +74,13 @@ returns-else-branch-clause-same c =
     let vs = map view c.in-Array.elements.items in
     let v = view c.args.item in
     let at = (goal.at.returns-else-branch-clause-same c).After-array_ends in
-    let read = goes_behind t t u _ (behind (array_frame fs vs) v) _ (in_array at) (c.in_ok-array_ends-in-Array.ensures fs vs v) in
+    let read = goes_behind t t u _ (behind (array_frame fs vs) v) _ (in_array at)
+    (c.in_ok-array_ends-in-Array.ensures fs vs v) in
     goes_on t u _ _ (before (array_frame fs (map view c.push.new.self.items))) c.read_elements.result _
     (reached t u _ (before (array_frame fs (map view c.push.new.self.items))) (
       read.0,
-      read.1 ∙ ap (λ b. left u (cond b (behind fs (array (values_of (vs ++ v ∷ [])))) (before (array_frame fs (vs ++ v ∷ []))))) c.if-branch.false
+      read.1 ∙ ap (λ b. left u (cond b (behind fs (array (values_of (vs ++ v ∷ []))))
+          (before (array_frame fs (vs ++ v ∷ []))))) c.if-branch.false
           ∙ ap (λ xs. left u (before (array_frame fs xs))) (sym (elements_pushed at)),
     ))
     c.read_elements.ensures.same
@@ -75,22 +88,27 @@ returns-else-branch-clause-same c =
 -- ---- in an object
 
 in_object : (c : After-object_ends) →
-    Reached c.args.self.now.cursor (behind (open_in (stack_view c.args.self.now.stack.items) c.args.frame) (view c.args.item)) c.args.self.now.cursor
-    (behind (object_frame (stack_view c.args.self.now.stack.items) (entries_view c.in-Object.entries) c.in-Object.key) (view c.args.item))
+    Reached c.args.self.now.cursor (behind (open_in (stack_view c.args.self.now.stack.items) c.args.frame)
+    (view c.args.item)) c.args.self.now.cursor
+    (behind (object_frame (stack_view c.args.self.now.stack.items) (entries_view c.in-Object.entries) c.in-Object.key)
+    (view c.args.item))
 in_object c = record {
   text = refl;
   reading = refl;
   within = omega arith;
-  same = ap (λ f. left c.args.self.now.cursor (behind (open_in (stack_view c.args.self.now.stack.items) f) (view c.args.item))) c.in-Object.is;
+  same = ap (λ f. left c.args.self.now.cursor (behind (open_in (stack_view c.args.self.now.stack.items) f)
+      (view c.args.item))) c.in-Object.is;
 }
 
 entry_pushed : (c : After-object_ends) →
     entries_view c.push-in-Object.new.self ≡ put c.in-Object.key (view c.args.item) (entries_view c.in-Object.entries)
-entry_pushed c = ap entries_view c.in_ok-push-in-Object.ensures.ok ∙ entries_view-put c.in-Object.key c.args.item c.in-Object.entries
+entry_pushed c = ap entries_view c.in_ok-push-in-Object.ensures.ok
+    ∙ entries_view-put c.in-Object.key c.args.item c.in-Object.entries
 
 pub returns-then-branch-2-clause-ready : goal.returns-then-branch-2-clause-ready
 returns-then-branch-2-clause-ready c =
-    let ends = c.in_ok-object_ends-in-Object.ensures (stack_view c.args.self.now.stack.items) (entries_view c.in-Object.entries) c.in-Object.key (view c.args.item) in
+    let ends = c.in_ok-object_ends-in-Object.ensures (stack_view c.args.self.now.stack.items)
+    (entries_view c.in-Object.entries) c.in-Object.key (view c.args.item) in
     omega (arith, c.requires.room, ap (λ r. r.depth) ends.0.reading)
 
 pub returns-then-branch-2-clause-same : goal.returns-then-branch-2-clause-same
@@ -102,18 +120,22 @@ returns-then-branch-2-clause-same c =
     let k = c.in-Object.key in
     let v = view c.args.item in
     let at = (goal.at.returns-then-branch-2-clause-same c).After-object_ends in
-    let read = goes_behind t t u _ (behind (object_frame fs es k) v) _ (in_object at) (c.in_ok-object_ends-in-Object.ensures fs es k v) in (
+    let read = goes_behind t t u _ (behind (object_frame fs es k) v) _ (in_object at)
+    (c.in_ok-object_ends-in-Object.ensures fs es k v) in (
       read.0,
-      read.1 ∙ ap (λ b. left u (cond b (behind fs (object (pairs_of (put k v es)))) (before_key fs (put k v es)))) c.if-branch-2.true
+      read.1 ∙ ap (λ b. left u (cond b (behind fs (object (pairs_of (put k v es)))) (before_key fs (put k v es))))
+          c.if-branch-2.true
           ∙ ap (λ x. left u (behind fs x))
           (sym (view-Object c.in_ok-object-in-Object.object
-          ∙ view_object-entries c.in_ok-object-in-Object.object c.push-in-Object.new.self c.in_ok-object-in-Object.ensures.pairs
+          ∙ view_object-entries c.in_ok-object-in-Object.object c.push-in-Object.new.self
+          c.in_ok-object-in-Object.ensures.pairs
           ∙ ap (λ xs. object (pairs_of xs)) (entry_pushed at))),
     )
 
 pub read_entries-requires-clause-room : goal.read_entries-requires-clause-room
 read_entries-requires-clause-room c =
-    let ends = c.in_ok-object_ends-in-Object.ensures (stack_view c.args.self.now.stack.items) (entries_view c.in-Object.entries) c.in-Object.key (view c.args.item) in
+    let ends = c.in_ok-object_ends-in-Object.ensures (stack_view c.args.self.now.stack.items)
+    (entries_view c.in-Object.entries) c.in-Object.key (view c.args.item) in
     omega (arith, c.requires.room, ap (λ r. r.depth) ends.0.reading)
 
 pub read_entries-requires-clause-key : goal.read_entries-requires-clause-key
@@ -130,11 +152,13 @@ returns-else-branch-2-clause-same c =
     let k = c.in-Object.key in
     let v = view c.args.item in
     let at = (goal.at.returns-else-branch-2-clause-same c).After-object_ends in
-    let read = goes_behind t t u _ (behind (object_frame fs es k) v) _ (in_object at) (c.in_ok-object_ends-in-Object.ensures fs es k v) in
+    let read = goes_behind t t u _ (behind (object_frame fs es k) v) _ (in_object at)
+    (c.in_ok-object_ends-in-Object.ensures fs es k v) in
     goes_on t u _ _ (before_key fs (entries_view c.push-in-Object.new.self)) c.read_entries.result _
     (reached t u _ (before_key fs (entries_view c.push-in-Object.new.self)) (
       read.0,
-      read.1 ∙ ap (λ b. left u (cond b (behind fs (object (pairs_of (put k v es)))) (before_key fs (put k v es)))) c.if-branch-2.false
+      read.1 ∙ ap (λ b. left u (cond b (behind fs (object (pairs_of (put k v es)))) (before_key fs (put k v es))))
+          c.if-branch-2.false
           ∙ ap (λ xs. left u (before_key fs xs)) (sym (entry_pushed at)),
     ))
     c.read_entries.ensures.same

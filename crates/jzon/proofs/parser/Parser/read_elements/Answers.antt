@@ -1,4 +1,5 @@
-use Rattle.std.proofs.Common.{◌≡◌, ◌∙◌, ◌+◌, ◌++◌, refl, cond, [], ◌∷◌, List, length, map, sym, ap, subst, arith, vec_len}
+use Rattle.std.proofs.Common.{◌≡◌, ◌∙◌, ◌+◌, ◌++◌, refl, cond, [], ◌∷◌, List, length, map, sym, ap, subst, arith}
+use Rattle.std.proofs.Common.{vec_len}
 use Rattle.std.proofs.lemmas.List.{map-append}
 use Rattle.std.proofs.lemmas.Result.{err_from_is_err_and}
 use Rattle.jzon_tree.specs.Value.{Value, array, values_of}
@@ -10,21 +11,32 @@ use Rattle.jzon.specs.Machine.{Frames, array_frame, frames_depth, before, behind
 use Rattle.jzon.specs.declared.cursor.Cursor.{Cursor}
 use Rattle.jzon.proofs.Cursors.{Reached, reached_start, reached, token_goes, goes_behind, fails_on}
 use Rattle.jzon.proofs.FrameViews.{frames_depth-stack, fresh_is_empty, some_more, stack_view-push, value_mark-shallow}
-use Rattle.jzon.proofs.parser.Parser.read_elements.Goals.{After-len-depth, After-array_ends, then-opens_container+in_ok-begun+in-Value+in_ok-push-in-Value, else-opens_container+in_ok-value+in_ok-push}
+use Rattle.jzon.proofs.parser.Parser.read_elements.Goals.{After-len-depth, After-array_ends}
+use Rattle.jzon.proofs.parser.Parser.read_elements.Goals.{then-opens_container+in_ok-begun+in-Value+in_ok-push-in-Value}
+use Rattle.jzon.proofs.parser.Parser.read_elements.Goals.{else-opens_container+in_ok-value+in_ok-push}
 use Rattle.jzon.proofs.parser.Parser.read_elements.Goals as goal
 
 pub loop-self-init : goal.loop-self-init
 loop-self-init c = record {
   stack = refl;
   element = c.requires.element;
-  came = reached_start c.args.self.now.cursor (before (array_frame (stack_view c.args.self.now.stack.items) (map view c.args.elements.items)));
+  came = reached_start c.args.self.now.cursor (before (array_frame (stack_view c.args.self.now.stack.items)
+      (map view c.args.elements.items)));
 }
 
 -- so many containers are open around the next element
 depth_here : (c : After-len-depth) →
-    frames_depth (array_frame (stack_view c.args.self.now.stack.items) (map view c.loop-self.elements.items)) ≡ c.len-depth.result + 1
+    frames_depth (array_frame (stack_view c.args.self.now.stack.items) (map view c.loop-self.elements.items))
+    ≡ c.len-depth.result + 1
 depth_here c =
-    omega (arith, frames_depth-stack c.args.self.now.stack.items, c.args.self.now.stack.ok.0, c.len-depth.ensures, ap (λ s. vec_len s) c.loop-self.invariant.stack)
+    omega (
+      arith,
+      frames_depth-stack c.args.self.now.stack.items,
+      c.args.self.now.stack.ok.0,
+      c.len-depth.ensures,
+      ap
+          (λ s. vec_len s) c.loop-self.invariant.stack,
+    )
 
 pub returns-in_err-begun-clause-same : goal.returns-in_err-begun-clause-same
 returns-in_err-begun-clause-same c =
@@ -32,13 +44,21 @@ returns-in_err-begun-clause-same c =
     let vs = map view c.loop-self.elements.items in
     let at = goal.at.returns-in_err-begun-clause-same c in
     let failed = err_from_is_err_and c.from_residual.result c.from_residual.ensures.1 in
-    fails_on c.args.self.now.cursor c.loop-self.self.cursor _ _ (before (array_frame fs vs)) c.from_residual.result _ failed.0 failed.1 c.loop-self.invariant.came
-    (rw failed.2 (c.in_err-begun.ensures.same (array_frame fs vs) (depth_here at.After-len-depth) (λ f. c.loop-self.invariant.element (fresh_is_empty fs vs f))))
+    fails_on c.args.self.now.cursor c.loop-self.self.cursor _ _ (before (array_frame fs vs)) c.from_residual.result _
+    failed.0 failed.1 c.loop-self.invariant.came
+    (rw failed.2 (c.in_err-begun.ensures.same (array_frame fs vs) (depth_here at.After-len-depth)
+    (λ f. c.loop-self.invariant.element (fresh_is_empty fs vs f))))
 
 pub returns-in_default-clause-ready : goal.returns-in_default-clause-ready
 returns-in_default-clause-ready c =
     subst (λ k. IsReady c.begin.new.self.cursor k c.in_ok-begun.begun)
-    (omega (arith, c.in_ok-push-in_default.ensures.len, c.len-depth.ensures, ap (λ s. vec_len s) c.in_ok-begun.ensures.stack)) c.in_ok-begun.ensures.ready
+    (omega (
+      arith,
+      c.in_ok-push-in_default.ensures.len,
+      c.len-depth.ensures,
+      ap (λ s. vec_len s)
+          c.in_ok-begun.ensures.stack,
+    )) c.in_ok-begun.ensures.ready
 
 pub returns-in_default-clause-same : goal.returns-in_default-clause-same
 returns-in_default-clause-same c =
@@ -46,10 +66,13 @@ returns-in_default-clause-same c =
     let fs = stack_view c.args.self.now.stack.items in
     let vs = map view c.loop-self.elements.items in
     let at = goal.at.returns-in_default-clause-same c in
-    let read = c.in_ok-begun.ensures.same (array_frame fs vs) (depth_here at.After-len-depth) (λ f. c.loop-self.invariant.element (fresh_is_empty fs vs f)) in
-    let stack = stack_view-push c.begin.new.self.stack.items c.push-in_default.new.self.items _ c.in_ok-push-in_default.ensures.items
+    let read = c.in_ok-begun.ensures.same (array_frame fs vs) (depth_here at.After-len-depth)
+    (λ f. c.loop-self.invariant.element (fresh_is_empty fs vs f)) in
+    let stack = stack_view-push c.begin.new.self.stack.items c.push-in_default.new.self.items _
+    c.in_ok-push-in_default.ensures.items
     ∙ ap (λ s. array_frame (stack_view s.items) vs) (c.in_ok-begun.ensures.stack ∙ c.loop-self.invariant.stack) in
-    goes_behind c.args.self.now.cursor c.loop-self.self.cursor n _ (before (array_frame fs vs)) _ c.loop-self.invariant.came
+    goes_behind c.args.self.now.cursor c.loop-self.self.cursor n _ (before (array_frame fs vs)) _
+    c.loop-self.invariant.came
     (read.0, read.1 ∙ ap (λ gs. left n (place_of c.in_ok-begun.begun gs)) (sym stack))
 
 pub returns-in_err-value-clause-same : goal.returns-in_err-value-clause-same
@@ -58,10 +81,19 @@ returns-in_err-value-clause-same c =
     let fs = stack_view c.args.self.now.stack.items in
     let vs = map view c.loop-self.elements.items in
     let shallow = value_mark-shallow m.reading (array_frame fs vs)
-    (omega (arith, frames_depth-stack c.args.self.now.stack.items, c.args.self.now.stack.ok.0, c.requires.room, ap (λ r. r.depth) c.loop-self.invariant.came.reading)) in
+    (omega (
+      arith,
+      frames_depth-stack c.args.self.now.stack.items,
+      c.args.self.now.stack.ok.0,
+      c.requires.room,
+      ap
+          (λ r. r.depth) c.loop-self.invariant.came.reading,
+    )) in
     let failed = err_from_is_err_and c.from_residual-in_err-value.result c.from_residual-in_err-value.ensures.1 in
-    fails_on c.args.self.now.cursor m _ _ (before (array_frame fs vs)) c.from_residual-in_err-value.result _ failed.0 failed.1 c.loop-self.invariant.came
-    (rw failed.2 (c.in_err-value.ensures.same m.reading (array_frame fs vs) shallow m.past_whitespace (λ f. c.loop-self.invariant.element (fresh_is_empty fs vs f))))
+    fails_on c.args.self.now.cursor m _ _ (before (array_frame fs vs)) c.from_residual-in_err-value.result _ failed.0
+    failed.1 c.loop-self.invariant.came
+    (rw failed.2 (c.in_err-value.ensures.same m.reading (array_frame fs vs) shallow m.past_whitespace
+    (λ f. c.loop-self.invariant.element (fresh_is_empty fs vs f))))
 
 -- ---- behind an element
 
@@ -72,57 +104,85 @@ record More (m n : Cursor) (fs : Frames) (vs ws : List Value) : Type 0 where
   read : IsBehind m n × (left m (before (array_frame fs vs)) ≡ left n (behind (array_frame fs vs) value))
 
 more : (c : After-array_ends) →
-    More c.loop-self.self.cursor c.if-opens_container.self.cursor (stack_view c.args.self.now.stack.items) (map view c.loop-self.elements.items)
+    More c.loop-self.self.cursor c.if-opens_container.self.cursor (stack_view c.args.self.now.stack.items)
+    (map view c.loop-self.elements.items)
     (map view c.if-opens_container.elements.items)
 more c =
     let m = c.loop-self.self.cursor in
     let fs = stack_view c.args.self.now.stack.items in
     let vs = map view c.loop-self.elements.items in
     let shallow = value_mark-shallow m.reading (array_frame fs vs)
-    (omega (arith, frames_depth-stack c.args.self.now.stack.items, c.args.self.now.stack.ok.0, c.requires.room, ap (λ r. r.depth) c.loop-self.invariant.came.reading)) in
+    (omega (
+      arith,
+      frames_depth-stack c.args.self.now.stack.items,
+      c.args.self.now.stack.ok.0,
+      c.requires.room,
+      ap
+          (λ r. r.depth) c.loop-self.invariant.came.reading,
+    )) in
     elim c.if-opens_container.branch [
       | then-opens_container+in_ok-begun+in-Value+in_ok-push-in-Value w ↦
           let depth : frames_depth (array_frame fs vs) ≡ w.len-depth.result + 1 =
-          omega (arith, frames_depth-stack c.args.self.now.stack.items, c.args.self.now.stack.ok.0, w.len-depth.ensures, ap (λ s. vec_len s) c.loop-self.invariant.stack) in
-          let read = w.in_ok-begun.ensures.same (array_frame fs vs) depth (λ f. c.loop-self.invariant.element (fresh_is_empty fs vs f)) in
+          omega (
+            arith,
+            frames_depth-stack c.args.self.now.stack.items,
+            c.args.self.now.stack.ok.0,
+            w.len-depth.ensures,
+            ap (λ s. vec_len s) c.loop-self.invariant.stack,
+          ) in
+          let read = w.in_ok-begun.ensures.same (array_frame fs vs) depth
+          (λ f. c.loop-self.invariant.element (fresh_is_empty fs vs f)) in
           rw (w.self-is, w.elements-is) (record {
             value = view w.in-Value.value;
-            grown = ap (map view) w.in_ok-push-in-Value.ensures.items ∙ map-append view c.loop-self.elements.items (w.in-Value.value ∷ []);
-            read = (read.0, read.1 ∙ ap (λ b. left w.begin.new.self.cursor (place_of b (array_frame fs vs))) w.in-Value.is);
+            grown = ap (map view) w.in_ok-push-in-Value.ensures.items
+                ∙ map-append view c.loop-self.elements.items (w.in-Value.value ∷ []);
+            read = (
+              read.0,
+              read.1 ∙ ap (λ b. left w.begin.new.self.cursor (place_of b (array_frame fs vs)))
+                  w.in-Value.is,
+            );
           })
       | else-opens_container+in_ok-value+in_ok-push w ↦
           rw (w.self-is, w.elements-is) (record {
             value = view w.in_ok-value.value;
-            grown = ap (map view) w.in_ok-push.ensures.items ∙ map-append view c.loop-self.elements.items (w.in_ok-value.value ∷ []);
-            read = token_goes m w.go_to.new.self (before (array_frame fs vs)) (behind (array_frame fs vs) (view w.in_ok-value.value)) w.in_ok-value.end w.go_to.ensures
+            grown = ap (map view) w.in_ok-push.ensures.items
+                ∙ map-append view c.loop-self.elements.items (w.in_ok-value.value ∷ []);
+            read = token_goes m w.go_to.new.self (before (array_frame fs vs))
+                (behind (array_frame fs vs) (view w.in_ok-value.value)) w.in_ok-value.end w.go_to.ensures
                 w.in_ok-value.ensures.bounds.0 refl
-                (w.in_ok-value.ensures.same m.reading (array_frame fs vs) shallow m.past_whitespace (λ f. c.loop-self.invariant.element (fresh_is_empty fs vs f)));
+                (w.in_ok-value.ensures.same m.reading (array_frame fs vs) shallow m.past_whitespace
+                (λ f. c.loop-self.invariant.element (fresh_is_empty fs vs f)));
           })
     ]
 
 stack_kept : (c : After-array_ends) → c.if-opens_container.self.stack ≡ c.args.self.now.stack
 stack_kept c =
     elim c.if-opens_container.branch [
-      | then-opens_container+in_ok-begun+in-Value+in_ok-push-in-Value w ↦ ap (λ s. s.stack) w.self-is ∙ w.in_ok-begun.ensures.stack ∙ c.loop-self.invariant.stack
+      | then-opens_container+in_ok-begun+in-Value+in_ok-push-in-Value w ↦ ap (λ s. s.stack) w.self-is
+          ∙ w.in_ok-begun.ensures.stack ∙ c.loop-self.invariant.stack
       | else-opens_container+in_ok-value+in_ok-push w ↦ ap (λ s. s.stack) w.self-is ∙ c.loop-self.invariant.stack
     ]
 
 came : (c : After-array_ends) →
-    Reached c.args.self.now.cursor (before (array_frame (stack_view c.args.self.now.stack.items) (map view c.args.elements.items))) c.if-opens_container.self.cursor
+    Reached c.args.self.now.cursor (before (array_frame (stack_view c.args.self.now.stack.items)
+    (map view c.args.elements.items))) c.if-opens_container.self.cursor
     (behind (array_frame (stack_view c.args.self.now.stack.items) (map view c.loop-self.elements.items)) (more c).value)
 came c =
     let fs = stack_view c.args.self.now.stack.items in
     let vs = map view c.loop-self.elements.items in
     reached c.args.self.now.cursor c.if-opens_container.self.cursor _ (behind (array_frame fs vs) (more c).value)
-    (goes_behind c.args.self.now.cursor c.loop-self.self.cursor c.if-opens_container.self.cursor _ (before (array_frame fs vs)) _ c.loop-self.invariant.came (more c).read)
+    (goes_behind c.args.self.now.cursor c.loop-self.self.cursor c.if-opens_container.self.cursor _
+    (before (array_frame fs vs)) _ c.loop-self.invariant.came (more c).read)
 
 pub returns-in_err-array_ends-clause-same : goal.returns-in_err-array_ends-clause-same
 returns-in_err-array_ends-clause-same c =
     let fs = stack_view c.args.self.now.stack.items in
     let vs = map view c.loop-self.elements.items in
     let at = (goal.at.returns-in_err-array_ends-clause-same c).After-array_ends in
-    let failed = err_from_is_err_and c.from_residual-in_err-array_ends.result c.from_residual-in_err-array_ends.ensures.1 in
-    fails_on c.args.self.now.cursor c.if-opens_container.self.cursor _ _ (behind (array_frame fs vs) (more at).value) c.from_residual-in_err-array_ends.result _
+    let failed = err_from_is_err_and c.from_residual-in_err-array_ends.result
+    c.from_residual-in_err-array_ends.ensures.1 in
+    fails_on c.args.self.now.cursor c.if-opens_container.self.cursor _ _ (behind (array_frame fs vs) (more at).value)
+    c.from_residual-in_err-array_ends.result _
     failed.0 failed.1 (came at) (rw failed.2 (c.in_err-array_ends.ensures fs vs (more at).value))
 
 pub returns-then-branch-clause-ready : goal.returns-then-branch-clause-ready
@@ -141,9 +201,11 @@ returns-then-branch-clause-same c =
     let vs = map view c.loop-self.elements.items in
     let at = (goal.at.returns-then-branch-clause-same c).After-array_ends in
     let v = (more at).value in
-    let read = goes_behind t c.if-opens_container.self.cursor u _ (behind (array_frame fs vs) v) _ (came at) (c.in_ok-array_ends.ensures fs vs v) in (
+    let read = goes_behind t c.if-opens_container.self.cursor u _ (behind (array_frame fs vs) v) _ (came at)
+    (c.in_ok-array_ends.ensures fs vs v) in (
       read.0,
-      read.1 ∙ ap (λ b. left u (cond b (behind fs (array (values_of (vs ++ v ∷ [])))) (before (array_frame fs (vs ++ v ∷ []))))) c.if-branch.true
+      read.1 ∙ ap (λ b. left u (cond b (behind fs (array (values_of (vs ++ v ∷ []))))
+          (before (array_frame fs (vs ++ v ∷ []))))) c.if-branch.true
           ∙ ap (λ s. left u (behind (stack_view s.items) (array (values_of (vs ++ v ∷ []))))) (sym (stack_kept at))
           ∙ ap (λ x. left u (behind (stack_view c.if-opens_container.self.stack.items) x))
           (sym (view-Array c.if-opens_container.elements ∙ ap (λ xs. array (values_of xs)) (more at).grown)),
@@ -166,13 +228,15 @@ loop-self-preserved c =
     let vs = map view c.loop-self.elements.items in
     let at = (goal.at.loop-self-preserved c).After-array_ends in
     let v = (more at).value in
-    let read = goes_behind t c.if-opens_container.self.cursor u _ (behind (array_frame fs vs) v) _ (came at) (c.in_ok-array_ends.ensures fs vs v) in
+    let read = goes_behind t c.if-opens_container.self.cursor u _ (behind (array_frame fs vs) v) _ (came at)
+    (c.in_ok-array_ends.ensures fs vs v) in
     record {
       stack = stack_kept at;
       element = λ none. absurd (some_more vs v (sym (more at).grown ∙ none));
       came = reached t u _ (before (array_frame fs (map view c.if-opens_container.elements.items))) (
         read.0,
-        read.1 ∙ ap (λ b. left u (cond b (behind fs (array (values_of (vs ++ v ∷ [])))) (before (array_frame fs (vs ++ v ∷ []))))) c.if-branch.false
+        read.1 ∙ ap (λ b. left u (cond b (behind fs (array (values_of (vs ++ v ∷ []))))
+            (before (array_frame fs (vs ++ v ∷ []))))) c.if-branch.false
             ∙ ap (λ xs. left u (before (array_frame fs xs))) (sym (more at).grown),
       );
     }

@@ -12,7 +12,8 @@ invariant-loop-self l = record {
   stack : l.self.stack ≡ l.initial.self.stack;
   element : map view l.elements.items ≡ [] → next_byte l.self.cursor ≢ end_array;
   came :
-      Reached l.initial.self.cursor (before (array_frame (stack_view l.initial.self.stack.items) (map view l.fn.elements.items))) l.self.cursor
+      Reached l.initial.self.cursor (before (array_frame (stack_view l.initial.self.stack.items)
+      (map view l.fn.elements.items))) l.self.cursor
       (before (array_frame (stack_view l.initial.self.stack.items) (map view l.elements.items)));
 }
 

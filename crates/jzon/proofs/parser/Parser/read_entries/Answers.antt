@@ -9,7 +9,8 @@ use Rattle.jzon.specs.Cursor.{left}
 use Rattle.jzon.specs.Frames.{IsReady, entries_view, place_of, stack_view}
 use Rattle.jzon.specs.Machine.{object_frame, frames_depth, before, before_key, behind, key_mark}
 use Rattle.jzon.proofs.Cursors.{Reached, reached_start, reached, goes_behind, fails_on}
-use Rattle.jzon.proofs.FrameViews.{entries_view-put, frames_depth-stack, key_mark-shallow, some_put, stack_view-push, view_object-entries}
+use Rattle.jzon.proofs.FrameViews.{entries_view-put, frames_depth-stack, key_mark-shallow, some_put, stack_view-push}
+use Rattle.jzon.proofs.FrameViews.{view_object-entries}
 use Rattle.jzon.proofs.parser.Parser.read_entries.Goals.{After-read_key, In_ok-key, After-len-depth, After-object_ends}
 use Rattle.jzon.proofs.parser.Parser.read_entries.Goals as goal
 
@@ -17,15 +18,25 @@ pub loop-entries-init : goal.loop-entries-init
 loop-entries-init c = record {
   stack = refl;
   key = c.requires.key;
-  came = reached_start c.args.self.now.cursor (before_key (stack_view c.args.self.now.stack.items) (entries_view c.args.entries));
+  came = reached_start c.args.self.now.cursor (before_key (stack_view c.args.self.now.stack.items)
+      (entries_view c.args.entries));
 }
 
 -- one more may be open
 mark_here : (c : After-read_key) →
-    key_mark c.loop-entries.self.cursor.reading (stack_view c.args.self.now.stack.items) (entries_view c.loop-entries.entries) ≡ None
+    key_mark c.loop-entries.self.cursor.reading (stack_view c.args.self.now.stack.items)
+    (entries_view c.loop-entries.entries) ≡ None
 mark_here c =
-    key_mark-shallow c.loop-entries.self.cursor.reading (stack_view c.args.self.now.stack.items) (entries_view c.loop-entries.entries)
-    (omega (arith, frames_depth-stack c.args.self.now.stack.items, c.args.self.now.stack.ok.0, c.requires.room, ap (λ r. r.depth) c.loop-entries.invariant.came.reading))
+    key_mark-shallow c.loop-entries.self.cursor.reading (stack_view c.args.self.now.stack.items)
+    (entries_view c.loop-entries.entries)
+    (omega (
+      arith,
+      frames_depth-stack c.args.self.now.stack.items,
+      c.args.self.now.stack.ok.0,
+      c.requires.room,
+      ap
+          (λ r. r.depth) c.loop-entries.invariant.came.reading,
+    ))
 
 pub returns-in_err-key-clause-same : goal.returns-in_err-key-clause-same
 returns-in_err-key-clause-same c =
@@ -33,21 +44,32 @@ returns-in_err-key-clause-same c =
     let es = entries_view c.loop-entries.entries in
     let at = goal.at.returns-in_err-key-clause-same c in
     let failed = err_from_is_err_and c.from_residual.result c.from_residual.ensures.1 in
-    fails_on c.args.self.now.cursor c.loop-entries.self.cursor _ _ (before_key fs es) c.from_residual.result _ failed.0 failed.1 c.loop-entries.invariant.came
+    fails_on c.args.self.now.cursor c.loop-entries.self.cursor _ _ (before_key fs es) c.from_residual.result _ failed.0
+    failed.1 c.loop-entries.invariant.came
     (rw failed.2 (c.in_err-key.ensures.same fs (mark_here at.After-read_key) c.loop-entries.invariant.key))
 
 -- the key was read
 keyed : (c : In_ok-key) →
-    Reached c.args.self.now.cursor (before_key (stack_view c.args.self.now.stack.items) (entries_view c.args.entries)) c.read_key.new.self.cursor
-    (before (object_frame (stack_view c.args.self.now.stack.items) (entries_view c.loop-entries.entries) c.in_ok-key.key))
+    Reached c.args.self.now.cursor (before_key (stack_view c.args.self.now.stack.items) (entries_view c.args.entries))
+    c.read_key.new.self.cursor
+    (before (object_frame (stack_view c.args.self.now.stack.items) (entries_view c.loop-entries.entries)
+    c.in_ok-key.key))
 keyed c =
     let fs = stack_view c.args.self.now.stack.items in
     let es = entries_view c.loop-entries.entries in
     let mark : key_mark c.loop-entries.self.cursor.reading fs es ≡ None =
     key_mark-shallow c.loop-entries.self.cursor.reading fs es
-    (omega (arith, frames_depth-stack c.args.self.now.stack.items, c.args.self.now.stack.ok.0, c.requires.room, ap (λ r. r.depth) c.loop-entries.invariant.came.reading)) in
+    (omega (
+      arith,
+      frames_depth-stack c.args.self.now.stack.items,
+      c.args.self.now.stack.ok.0,
+      c.requires.room,
+      ap
+          (λ r. r.depth) c.loop-entries.invariant.came.reading,
+    )) in
     reached c.args.self.now.cursor c.read_key.new.self.cursor _ (before (object_frame fs es c.in_ok-key.key))
-    (goes_behind c.args.self.now.cursor c.loop-entries.self.cursor c.read_key.new.self.cursor _ (before_key fs es) _ c.loop-entries.invariant.came
+    (goes_behind c.args.self.now.cursor c.loop-entries.self.cursor c.read_key.new.self.cursor _ (before_key fs es) _
+    c.loop-entries.invariant.came
     (c.in_ok-key.ensures.same fs mark c.loop-entries.invariant.key))
 
 pub begin-requires : goal.begin-requires
@@ -63,7 +85,8 @@ begin-requires c = record {
 
 -- so many containers are open around the value of the key
 depth_here : (c : After-len-depth) →
-    frames_depth (object_frame (stack_view c.args.self.now.stack.items) (entries_view c.loop-entries.entries) c.in_ok-key.key) ≡ c.len-depth.result + 1
+    frames_depth (object_frame (stack_view c.args.self.now.stack.items) (entries_view c.loop-entries.entries)
+    c.in_ok-key.key) ≡ c.len-depth.result + 1
 depth_here c =
     omega (
       arith,
@@ -75,16 +98,24 @@ depth_here c =
 
 pub returns-in_err-begun-clause-same : goal.returns-in_err-begun-clause-same
 returns-in_err-begun-clause-same c =
-    let here = object_frame (stack_view c.args.self.now.stack.items) (entries_view c.loop-entries.entries) c.in_ok-key.key in
+    let here = object_frame (stack_view c.args.self.now.stack.items) (entries_view c.loop-entries.entries)
+    c.in_ok-key.key in
     let at = goal.at.returns-in_err-begun-clause-same c in
     let failed = err_from_is_err_and c.from_residual-in_err-begun.result c.from_residual-in_err-begun.ensures.1 in
-    fails_on c.args.self.now.cursor c.read_key.new.self.cursor _ _ (before here) c.from_residual-in_err-begun.result _ failed.0 failed.1 (keyed at.In_ok-key)
+    fails_on c.args.self.now.cursor c.read_key.new.self.cursor _ _ (before here) c.from_residual-in_err-begun.result _
+    failed.0 failed.1 (keyed at.In_ok-key)
     (rw failed.2 (c.in_err-begun.ensures.same here (depth_here at.After-len-depth) (λ f. absurd (true≢false (sym f)))))
 
 pub returns-in_default-clause-ready : goal.returns-in_default-clause-ready
 returns-in_default-clause-ready c =
     subst (λ k. IsReady c.begin.new.self.cursor k c.in_ok-begun.begun)
-    (omega (arith, c.in_ok-push-in_default.ensures.len, c.len-depth.ensures, ap (λ s. vec_len s) c.in_ok-begun.ensures.stack)) c.in_ok-begun.ensures.ready
+    (omega (
+      arith,
+      c.in_ok-push-in_default.ensures.len,
+      c.len-depth.ensures,
+      ap (λ s. vec_len s)
+          c.in_ok-begun.ensures.stack,
+    )) c.in_ok-begun.ensures.ready
 
 pub returns-in_default-clause-same : goal.returns-in_default-clause-same
 returns-in_default-clause-same c =
@@ -94,7 +125,8 @@ returns-in_default-clause-same c =
     let here = object_frame fs es c.in_ok-key.key in
     let at = goal.at.returns-in_default-clause-same c in
     let read = c.in_ok-begun.ensures.same here (depth_here at.After-len-depth) (λ f. absurd (true≢false (sym f))) in
-    let stack = stack_view-push c.begin.new.self.stack.items c.push-in_default.new.self.items _ c.in_ok-push-in_default.ensures.items
+    let stack = stack_view-push c.begin.new.self.stack.items c.push-in_default.new.self.items _
+    c.in_ok-push-in_default.ensures.items
     ∙ ap (λ s. object_frame (stack_view s.items) (entries_view c.read_key.new.entries) c.in_ok-key.key)
     (c.in_ok-begun.ensures.stack ∙ c.in_ok-key.ensures.stack ∙ c.loop-entries.invariant.stack)
     ∙ ap (λ xs. object_frame fs (entries_view xs) c.in_ok-key.key) c.in_ok-key.ensures.kept in
@@ -103,13 +135,18 @@ returns-in_default-clause-same c =
 
 -- the value of the key was read
 came : (c : After-object_ends)
-    → Reached c.args.self.now.cursor (before_key (stack_view c.args.self.now.stack.items) (entries_view c.args.entries)) c.read_key.new.self.cursor
-    (before (object_frame (stack_view c.args.self.now.stack.items) (entries_view c.loop-entries.entries) c.in_ok-key.key))
-    → Reached c.args.self.now.cursor (before_key (stack_view c.args.self.now.stack.items) (entries_view c.args.entries)) c.begin.new.self.cursor
-    (behind (object_frame (stack_view c.args.self.now.stack.items) (entries_view c.loop-entries.entries) c.in_ok-key.key) (view c.in-Value.value))
+    → Reached c.args.self.now.cursor (before_key (stack_view c.args.self.now.stack.items) (entries_view c.args.entries))
+    c.read_key.new.self.cursor
+    (before (object_frame (stack_view c.args.self.now.stack.items) (entries_view c.loop-entries.entries)
+    c.in_ok-key.key))
+    → Reached c.args.self.now.cursor (before_key (stack_view c.args.self.now.stack.items) (entries_view c.args.entries))
+    c.begin.new.self.cursor
+    (behind (object_frame (stack_view c.args.self.now.stack.items) (entries_view c.loop-entries.entries)
+    c.in_ok-key.key) (view c.in-Value.value))
 came c key =
     let n = c.begin.new.self.cursor in
-    let here = object_frame (stack_view c.args.self.now.stack.items) (entries_view c.loop-entries.entries) c.in_ok-key.key in
+    let here = object_frame (stack_view c.args.self.now.stack.items) (entries_view c.loop-entries.entries)
+    c.in_ok-key.key in
     let depth : frames_depth here ≡ c.len-depth.result + 1 =
     omega (
       arith,
@@ -120,12 +157,14 @@ came c key =
     ) in
     let read = c.in_ok-begun.ensures.same here depth (λ f. absurd (true≢false (sym f))) in
     reached c.args.self.now.cursor n _ (behind here (view c.in-Value.value))
-    (goes_behind c.args.self.now.cursor c.read_key.new.self.cursor n _ (before here) _ key (read.0, read.1 ∙ ap (λ b. left n (place_of b here)) c.in-Value.is))
+    (goes_behind c.args.self.now.cursor c.read_key.new.self.cursor n _ (before here) _ key
+    (read.0, read.1 ∙ ap (λ b. left n (place_of b here)) c.in-Value.is))
 
 pushed : (c : After-object_ends) →
     entries_view c.push.new.self ≡ put c.in_ok-key.key (view c.in-Value.value) (entries_view c.loop-entries.entries)
 pushed c =
-    ap entries_view c.in_ok-push-in-Value.ensures.ok ∙ entries_view-put c.in_ok-key.key c.in-Value.value c.read_key.new.entries
+    ap entries_view c.in_ok-push-in-Value.ensures.ok ∙ entries_view-put c.in_ok-key.key c.in-Value.value
+    c.read_key.new.entries
     ∙ ap (λ es. put c.in_ok-key.key (view c.in-Value.value) (entries_view es)) c.in_ok-key.ensures.kept
 
 pub returns-in_err-object_ends-clause-same : goal.returns-in_err-object_ends-clause-same
@@ -133,8 +172,10 @@ returns-in_err-object_ends-clause-same c =
     let fs = stack_view c.args.self.now.stack.items in
     let es = entries_view c.loop-entries.entries in
     let at = goal.at.returns-in_err-object_ends-clause-same c in
-    let failed = err_from_is_err_and c.from_residual-in_err-object_ends.result c.from_residual-in_err-object_ends.ensures.1 in
-    fails_on c.args.self.now.cursor c.begin.new.self.cursor _ _ (behind (object_frame fs es c.in_ok-key.key) (view c.in-Value.value))
+    let failed = err_from_is_err_and c.from_residual-in_err-object_ends.result
+    c.from_residual-in_err-object_ends.ensures.1 in
+    fails_on c.args.self.now.cursor c.begin.new.self.cursor _ _
+    (behind (object_frame fs es c.in_ok-key.key) (view c.in-Value.value))
     c.from_residual-in_err-object_ends.result _ failed.0 failed.1 (came at.After-object_ends (keyed at.In_ok-key))
     (rw failed.2 (c.in_err-object_ends.ensures fs es c.in_ok-key.key (view c.in-Value.value)))
 
@@ -143,7 +184,8 @@ returns-then-branch-clause-ready c =
     let fs = stack_view c.args.self.now.stack.items in
     let es = entries_view c.loop-entries.entries in
     let at = goal.at.returns-then-branch-clause-ready c in
-    let reading = (c.in_ok-object_ends.ensures fs es c.in_ok-key.key (view c.in-Value.value)).0.reading ∙ (came at.After-object_ends (keyed at.In_ok-key)).reading in
+    let reading = (c.in_ok-object_ends.ensures fs es c.in_ok-key.key (view c.in-Value.value)).0.reading
+    ∙ (came at.After-object_ends (keyed at.In_ok-key)).reading in
     omega (
       arith,
       c.requires.room,
@@ -160,14 +202,17 @@ returns-then-branch-clause-same c =
     let k = c.in_ok-key.key in
     let v = view c.in-Value.value in
     let at = goal.at.returns-then-branch-clause-same c in
-    let read = goes_behind t c.begin.new.self.cursor u _ (behind (object_frame fs es k) v) _ (came at.After-object_ends (keyed at.In_ok-key))
+    let read = goes_behind t c.begin.new.self.cursor u _ (behind (object_frame fs es k) v) _
+    (came at.After-object_ends (keyed at.In_ok-key))
     (c.in_ok-object_ends.ensures fs es k v) in (
       read.0,
-      read.1 ∙ ap (λ b. left u (cond b (behind fs (object (pairs_of (put k v es)))) (before_key fs (put k v es)))) c.if-branch.true
+      read.1 ∙ ap (λ b. left u (cond b (behind fs (object (pairs_of (put k v es)))) (before_key fs (put k v es))))
+          c.if-branch.true
           ∙ ap (λ s. left u (behind (stack_view s.items) (object (pairs_of (put k v es)))))
           (sym (c.in_ok-begun.ensures.stack ∙ c.in_ok-key.ensures.stack ∙ c.loop-entries.invariant.stack))
           ∙ ap (λ x. left u (behind (stack_view c.begin.new.self.stack.items) x))
-          (sym (view-Object c.in_ok-object.object ∙ view_object-entries c.in_ok-object.object c.push.new.self c.in_ok-object.ensures.pairs
+          (sym (view-Object c.in_ok-object.object ∙ view_object-entries c.in_ok-object.object c.push.new.self
+          c.in_ok-object.ensures.pairs
           ∙ ap (λ xs. object (pairs_of xs)) (pushed at.After-object_ends))),
     )
 
@@ -180,7 +225,14 @@ loop-entries-smaller c =
     let key = c.in_ok-key.ensures.same fs (mark_here at.After-read_key) c.loop-entries.invariant.key in
     let read = c.in_ok-begun.ensures.same here (depth_here at.After-len-depth) (λ f. absurd (true≢false (sym f))) in
     let ends = c.in_ok-object_ends.ensures fs es c.in_ok-key.key (view c.in-Value.value) in
-    omega (arith, key.0.index, read.0.index, ends.0.index, ap length (ends.0.text ∙ read.0.text ∙ key.0.text), c.object_ends.new.self.boundary.0)
+    omega (
+      arith,
+      key.0.index,
+      read.0.index,
+      ends.0.index,
+      ap length (ends.0.text ∙ read.0.text ∙ key.0.text),
+      c.object_ends.new.self.boundary.0,
+    )
 
 pub loop-entries-preserved : goal.loop-entries-preserved
 loop-entries-preserved c =
@@ -192,14 +244,16 @@ loop-entries-preserved c =
     let v = view c.in-Value.value in
     let at = goal.at.loop-entries-preserved c in
     let more = pushed at.After-object_ends in
-    let read = goes_behind t c.begin.new.self.cursor u _ (behind (object_frame fs es k) v) _ (came at.After-object_ends (keyed at.In_ok-key))
+    let read = goes_behind t c.begin.new.self.cursor u _ (behind (object_frame fs es k) v) _
+    (came at.After-object_ends (keyed at.In_ok-key))
     (c.in_ok-object_ends.ensures fs es k v) in
     record {
       stack = c.in_ok-begun.ensures.stack ∙ c.in_ok-key.ensures.stack ∙ c.loop-entries.invariant.stack;
       key = λ none. absurd (some_put k v es (sym more ∙ none));
       came = reached t u _ (before_key fs (entries_view c.push.new.self)) (
         read.0,
-        read.1 ∙ ap (λ b. left u (cond b (behind fs (object (pairs_of (put k v es)))) (before_key fs (put k v es)))) c.if-branch.false
+        read.1 ∙ ap (λ b. left u (cond b (behind fs (object (pairs_of (put k v es)))) (before_key fs (put k v es))))
+            c.if-branch.false
             ∙ ap (λ xs. left u (before_key fs xs)) (sym more),
       );
     }

@@ -11,7 +11,8 @@ invariant-loop-entries l = record {
   stack : l.self.stack ≡ l.initial.self.stack;
   key : entries_view l.entries ≡ [] → next_byte l.self.cursor ≢ end_object;
   came :
-      Reached l.initial.self.cursor (before_key (stack_view l.initial.self.stack.items) (entries_view l.fn.entries)) l.self.cursor
+      Reached l.initial.self.cursor (before_key (stack_view l.initial.self.stack.items) (entries_view l.fn.entries))
+      l.self.cursor
       (before_key (stack_view l.initial.self.stack.items) (entries_view l.entries));
 }
 

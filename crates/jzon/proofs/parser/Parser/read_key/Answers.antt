@@ -20,13 +20,15 @@ pub returns-then-peek-ne34-clause-same : goal.returns-then-peek-ne34-clause-same
 returns-then-peek-ne34-clause-same c fs h n =
     let t = c.args.self.now.cursor in
     told (chars t.source.now) c.fault.result _ _
-    (key_missing t fs (entries_view c.args.entries.now) h (λ e. c.if-peek-ne34.true (c.peek.ensures ∙ e)) n) c.fault.ensures
+    (key_missing t fs (entries_view c.args.entries.now) h (λ e. c.if-peek-ne34.true (c.peek.ensures ∙ e)) n)
+    c.fault.ensures
 
 pub read_string-requires : goal.read_string-requires
 read_string-requires c =
     let t = c.args.self.now.cursor in
     let quote : next_byte t ≡ 34 = sym c.peek.ensures ∙ c.if-peek-ne34.false in
-    IsCharBoundary-after_ascii t.source.now t.index (utf8_of t) (byte_within t.source.now t.index 34 quote (lit< tt)) (omega (arith, quote))
+    IsCharBoundary-after_ascii t.source.now t.index (utf8_of t) (byte_within t.source.now t.index 34 quote (lit< tt))
+    (omega (arith, quote))
 
 pub returns-in_err-spelled-clause-same : goal.returns-in_err-spelled-clause-same
 returns-in_err-spelled-clause-same c fs h n =
@@ -34,30 +36,37 @@ returns-in_err-spelled-clause-same c fs h n =
     let es = entries_view c.args.entries.now in
     let quote : next_byte t ≡ 34 = sym c.peek.ensures ∙ c.if-peek-ne34.false in
     let failed = err_from_is_err_and c.from_residual.result c.from_residual.ensures.1 in
-    fails_on t t _ (before_key fs es) (before_key fs es) c.from_residual.result (λ k. before (object_frame fs es k)) failed.0 failed.1 (reached_start t (before_key fs es))
+    fails_on t t _ (before_key fs es) (before_key fs es) c.from_residual.result (λ k. before (object_frame fs es k))
+    failed.0 failed.1 (reached_start t (before_key fs es))
     (told_again (chars t.source.now) failed.0 _ _
-    (open_key t.reading t.source.now t.index fs es (utf8_of t) t.boundary (byte_within t.source.now t.index 34 quote (lit< tt)) quote h)
+    (open_key t.reading t.source.now t.index fs es (utf8_of t) t.boundary
+    (byte_within t.source.now t.index 34 quote (lit< tt)) quote h)
     (rw failed.2 (c.in_err-spelled.ensures.same t.reading (as_key fs es (left_at t.source.now t.index)))))
 
 pub text-name-requires-clause-begin : goal.text-name-requires-clause-begin
 text-name-requires-clause-begin c =
     let t = c.args.self.now.cursor in
     let quote : next_byte t ≡ 34 = sym c.peek.ensures ∙ c.if-peek-ne34.false in
-    IsCharBoundary-after_ascii t.source.now t.index (utf8_of t) (byte_within t.source.now t.index 34 quote (lit< tt)) (omega (arith, quote))
+    IsCharBoundary-after_ascii t.source.now t.index (utf8_of t) (byte_within t.source.now t.index 34 quote (lit< tt))
+    (omega (arith, quote))
 
 pub returns-then-refused-clause-same : goal.returns-then-refused-clause-same
 returns-then-refused-clause-same c fs h n =
     let t = c.args.self.now.cursor in
     let es = entries_view c.args.entries.now in
     let end = c.in_ok-spelled.spelled.end in
-    let text = if c.in_ok-spelled.spelled.is_escaped then string_bytes c.read_string.new.buffer else slice_range t.source.now (t.index + 1) (end - 1) in
+    let text = if c.in_ok-spelled.spelled.is_escaped then string_bytes c.read_string.new.buffer else slice_range
+    t.source.now (t.index + 1) (end - 1) in
     let known : (t.reading.strict && is_some (find text es)) ≡ true =
-    ap (λ k. t.reading.strict && is_some (find k es)) (sym c.text-name.ensures) ∙ sym c.in_ok-refused.ensures.refused ∙ c.if-refused.true in
+    ap (λ k. t.reading.strict && is_some (find k es)) (sym c.text-name.ensures) ∙ sym c.in_ok-refused.ensures.refused
+    ∙ c.if-refused.true in
     told (chars t.source.now) c.duplicate_at.result _ _
-    (key_closes t fs es text end (sym c.peek.ensures ∙ c.if-peek-ne34.false) h (c.in_ok-spelled.ensures.same t.reading (as_key fs es (left_at t.source.now t.index)))
+    (key_closes t fs es text end (sym c.peek.ensures ∙ c.if-peek-ne34.false) h
+    (c.in_ok-spelled.ensures.same t.reading (as_key fs es (left_at t.source.now t.index)))
     ∙ key_refused t.reading t.source.now fs es (left_at t.source.now t.index) text end known)
     (c.duplicate_at.ensures
-    ∙ tells_duplicate t.source.now t.index (end - 1) (utf8_of t) t.boundary c.in_ok-spelled.ensures.quote.1 (omega (arith, c.in_ok-spelled.ensures.quote.0)))
+    ∙ tells_duplicate t.source.now t.index (end - 1) (utf8_of t) t.boundary c.in_ok-spelled.ensures.quote.1
+    (omega (arith, c.in_ok-spelled.ensures.quote.0)))
 
 pub returns-then-peek-ne58-clause-same : goal.returns-then-peek-ne58-clause-same
 returns-then-peek-ne58-clause-same c fs h n =
@@ -65,14 +74,18 @@ returns-then-peek-ne58-clause-same c fs h n =
     let u = c.go_to.new.self in
     let es = entries_view c.args.entries.now in
     let end = c.in_ok-spelled.spelled.end in
-    let text = if c.in_ok-spelled.spelled.is_escaped then string_bytes c.read_string.new.buffer else slice_range t.source.now (t.index + 1) (end - 1) in
+    let text = if c.in_ok-spelled.spelled.is_escaped then string_bytes c.read_string.new.buffer else slice_range
+    t.source.now (t.index + 1) (end - 1) in
     let new : (t.reading.strict && is_some (find text es)) ≡ false =
-    ap (λ k. t.reading.strict && is_some (find k es)) (sym c.text-name.ensures) ∙ sym c.in_ok-refused.ensures.refused ∙ c.if-refused.false in
+    ap (λ k. t.reading.strict && is_some (find k es)) (sym c.text-name.ensures) ∙ sym c.in_ok-refused.ensures.refused
+    ∙ c.if-refused.false in
     told_on t u (before_key fs es) (after_key fs es text) c.fault-then-peek-ne58.result
     (key_stands t u fs es text end
-    (key_closes t fs es text end (sym c.peek.ensures ∙ c.if-peek-ne34.false) h (c.in_ok-spelled.ensures.same t.reading (as_key fs es (left_at t.source.now t.index))))
+    (key_closes t fs es text end (sym c.peek.ensures ∙ c.if-peek-ne34.false) h
+    (c.in_ok-spelled.ensures.same t.reading (as_key fs es (left_at t.source.now t.index))))
     new (omega (arith, c.in_ok-spelled.ensures.quote.0)) c.go_to.ensures)
-    (told (chars u.source.now) c.fault-then-peek-ne58.result _ _ (colon_missing u fs es text (λ e. c.if-peek-ne58.true (c.peek-2.ensures ∙ e)))
+    (told (chars u.source.now) c.fault-then-peek-ne58.result _ _
+    (colon_missing u fs es text (λ e. c.if-peek-ne58.true (c.peek-2.ensures ∙ e)))
     c.fault-then-peek-ne58.ensures)
 
 pub returns-clause-same : goal.returns-clause-same
@@ -81,12 +94,19 @@ returns-clause-same c fs h n =
     let u = c.go_to.new.self in
     let es = entries_view c.args.entries.now in
     let end = c.in_ok-spelled.spelled.end in
-    let text = if c.in_ok-spelled.spelled.is_escaped then string_bytes c.read_string.new.buffer else slice_range t.source.now (t.index + 1) (end - 1) in
+    let text = if c.in_ok-spelled.spelled.is_escaped then string_bytes c.read_string.new.buffer else slice_range
+    t.source.now (t.index + 1) (end - 1) in
     let new : (t.reading.strict && is_some (find text es)) ≡ false =
-    ap (λ k. t.reading.strict && is_some (find k es)) (sym c.text-name.ensures) ∙ sym c.in_ok-refused.ensures.refused ∙ c.if-refused.false in
-    let read = goes_behind t u c.bump.new.self (before_key fs es) (after_key fs es text) (before (object_frame fs es text))
+    ap (λ k. t.reading.strict && is_some (find k es)) (sym c.text-name.ensures) ∙ sym c.in_ok-refused.ensures.refused
+    ∙ c.if-refused.false in
+    let read = goes_behind t u c.bump.new.self (before_key fs es) (after_key fs es text)
+    (before (object_frame fs es text))
     (key_stands t u fs es text end
-    (key_closes t fs es text end (sym c.peek.ensures ∙ c.if-peek-ne34.false) h (c.in_ok-spelled.ensures.same t.reading (as_key fs es (left_at t.source.now t.index))))
+    (key_closes t fs es text end (sym c.peek.ensures ∙ c.if-peek-ne34.false) h
+    (c.in_ok-spelled.ensures.same t.reading (as_key fs es (left_at t.source.now t.index))))
     new (omega (arith, c.in_ok-spelled.ensures.quote.0)) c.go_to.ensures)
-    (colon_read u c.bump.new.self fs es text c.bump.ensures (sym c.peek-2.ensures ∙ c.if-peek-ne58.false)) in
-    (read.0, read.1 ∙ ap (λ k. left c.bump.new.self (before (object_frame fs es k))) (sym (c.in_ok-key.ensures.bytes ∙ c.text-name.ensures)))
+    (colon_read u c.bump.new.self fs es text c.bump.ensures (sym c.peek-2.ensures ∙ c.if-peek-ne58.false)) in (
+      read.0,
+      read.1 ∙ ap (λ k. left c.bump.new.self (before (object_frame fs es k)))
+          (sym (c.in_ok-key.ensures.bytes ∙ c.text-name.ensures)),
+    )

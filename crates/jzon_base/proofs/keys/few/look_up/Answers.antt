@@ -6,4 +6,5 @@ pub returns-then-eq : goal.returns-then-eq
 returns-then-eq c =
     let ks = c.args.keys.now in
     let within : c.from-place.result < length ks = omega arith in
-    only_place c.args.name.now ks _ c.requires within (read_equal ks _ _ _ c.args.name.now _ within c.index-keys-place.is c.as_str.ensures c.if-eq.ensures)
+    only_place c.args.name.now ks _ c.requires within (read_equal ks _ _ _ c.args.name.now _ within
+    c.index-keys-place.is c.as_str.ensures c.if-eq.ensures)

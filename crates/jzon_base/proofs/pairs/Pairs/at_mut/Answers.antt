@@ -7,6 +7,14 @@ pub returns : goal.returns
 returns g c =
     let name = c.args.name.now in
     let at = c.in_ok-index.index in (
-      λ j. inl (c.value_mut.result.ghost_name, λ w. default_written name c.args.value c.args.self.now c.place.new.self at c.in_ok-index.ensures.ok c.in_ok-index.ensures.place w j),
-      (sym (find_placed name c.place.new.self at c.value_mut.result.now c.in_ok-index.ensures.place c.value_mut.ensures.value) ∙ ap (find name) c.in_ok-index.ensures.ok, tt),
+      λ j. inl (
+        c.value_mut.result.ghost_name,
+        λ w. default_written name c.args.value c.args.self.now c.place.new.self
+            at c.in_ok-index.ensures.ok c.in_ok-index.ensures.place w j,
+      ),
+      (
+        sym (find_placed name c.place.new.self at c.value_mut.result.now c.in_ok-index.ensures.place
+            c.value_mut.ensures.value) ∙ ap (find name) c.in_ok-index.ensures.ok,
+        tt,
+      ),
     )

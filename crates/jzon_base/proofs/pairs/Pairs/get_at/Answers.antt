@@ -6,18 +6,23 @@ use Rattle.jzon_base.proofs.pairs.Pairs.get_at.Goals as goal
 
 pub get-requires : goal.get-requires
 get-requires g c =
-    let parts = AreParts-zip c.self.inside.keys c.self.inside.values.items c.args.self.now c.self.view_is c.self.invariant in
+    let parts = AreParts-zip c.self.inside.keys c.self.inside.values.items c.args.self.now c.self.view_is
+    c.self.invariant in
     omega (arith, parts.keys_length)
 
 pub index-requires : goal.index-requires
 index-requires g c =
-    let parts = AreParts-zip c.self.inside.keys c.self.inside.values.items c.args.self.now c.self.view_is c.self.invariant in
+    let parts = AreParts-zip c.self.inside.keys c.self.inside.values.items c.args.self.now c.self.view_is
+    c.self.invariant in
     omega (arith, c.self.inside.values.ok.0, parts.values_length)
 
 pub returns : goal.returns
 returns g c =
-    let parts = AreParts-zip c.self.inside.keys c.self.inside.values.items c.args.self.now c.self.view_is c.self.invariant in
+    let parts = AreParts-zip c.self.inside.keys c.self.inside.values.items c.args.self.now c.self.view_is
+    c.self.invariant in
     let keys = c.self.inside.keys in
     let values = c.self.inside.values in
     ap (λ ps. slice_get ps c.args.index) (sym c.self.view_is)
-    ∙ slice_get-zip keys values.items c.args.index _ _ c.get.ensures (slice_get_read values.items _ c.args.index _ values.ok.0 (omega (arith, values.ok.0, parts.values_length)) c.index.ensures)
+    ∙ slice_get-zip keys values.items c.args.index _ _ c.get.ensures
+    (slice_get_read values.items _ c.args.index _ values.ok.0 (omega (arith, values.ok.0, parts.values_length))
+    c.index.ensures)

@@ -4,4 +4,5 @@ use Rattle.jzon_base.proofs.pairs.Pairs.place.Goals as goal
 
 pub returns-in_ok-push-in-None-clause-place : goal.returns-in_ok-push-in-None-clause-place
 returns-in_ok-push-in-None-clause-place g c =
-    rw (c.in_ok-push-in-None.ensures.ok, c.len-index.ensures.len) (last_placed c.args.name.now c.args.self.now c.args.value (sym c.in-None.ensures))
+    rw (c.in_ok-push-in-None.ensures.ok, c.len-index.ensures.len)
+    (last_placed c.args.name.now c.args.self.now c.args.value (sym c.in-None.ensures))

@@ -6,5 +6,6 @@ use Rattle.jzon_base.proofs.pairs.Pairs.position.Goals as goal
 
 pub returns : goal.returns
 returns g c =
-    let parts = AreParts-zip c.self.inside.keys c.self.inside.values.items c.args.self.now c.self.view_is c.self.invariant in
+    let parts = AreParts-zip c.self.inside.keys c.self.inside.values.items c.args.self.now c.self.view_is
+    c.self.invariant in
     c.position.ensures ∙ ap (position (λ k. bytes_eq k c.args.name.now)) parts.keys

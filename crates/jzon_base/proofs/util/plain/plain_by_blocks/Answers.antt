@@ -8,12 +8,14 @@ use Rattle.jzon_base.proofs.util.plain.plain_by_blocks.Goals as goal
 
 pub returns-then-plain-lt-BLOCK : goal.returns-then-plain-lt-BLOCK
 returns-then-plain-lt-BLOCK c =
-    ends_in_block c.args.bytes.now c.loop-len.len 32 c.plain_in_block-plain.result (omega arith) c.plain_in_block-plain.ensures (omega arith) c.loop-len.invariant.1
+    ends_in_block c.args.bytes.now c.loop-len.len 32 c.plain_in_block-plain.result (omega arith)
+    c.plain_in_block-plain.ensures (omega arith) c.loop-len.invariant.1
 
 pub loop-len-preserved : goal.loop-len-preserved
 loop-len-preserved c = (
   omega arith,
-  passes_block c.args.bytes.now c.loop-len.len 32 c.plain_in_block-plain.result (omega arith) c.plain_in_block-plain.ensures (omega arith) c.loop-len.invariant.1,
+  passes_block c.args.bytes.now c.loop-len.len 32 c.plain_in_block-plain.result (omega arith)
+      c.plain_in_block-plain.ensures (omega arith) c.loop-len.invariant.1,
 )
 
 pub overflow_add-result-2 : goal.overflow_add-result-2

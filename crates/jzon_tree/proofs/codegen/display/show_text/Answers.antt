@@ -11,8 +11,12 @@ pub split_at-requires : goal.split_at-requires
 split_at-requires g c = rw c.plain_len.ensures (prefix_len-le-length is_plain c.loop-byte.rest.now)
 
 pub loop-byte-init : goal.loop-byte-init
-loop-byte-init g c = λ plain.
-    (34 ∷ [], c.in_ok-write_str.ensures.writes plain refl, ap (λ (bs : List ℕ). 34 ∷ escaped bs) c.as_bytes-rest.ensures.value)
+loop-byte-init g c = λ plain. (
+  34 ∷ [],
+  c.in_ok-write_str.ensures.writes plain refl,
+  ap (λ (bs : List ℕ). 34 ∷ escaped bs)
+      c.as_bytes-rest.ensures.value,
+)
 
 pub loop-byte-preserved : goal.loop-byte-preserved
 loop-byte-preserved g c = λ plain.
@@ -22,7 +26,8 @@ loop-byte-preserved g c = λ plain.
     let took = g.W.Write.write_str_gives in (
       _,
       has_written_append took _ _ _ _ _ (has_written_append took _ _ _ _ _ so_far.1 run) escape,
-      escape_shown c.args.text.now c.loop-byte.rest.now _ _ c.split_at.ensures.front c.plain_len.ensures _ c.in-Some.others.now
+      escape_shown c.args.text.now c.loop-byte.rest.now _ _ c.split_at.ensures.front c.plain_len.ensures _
+          c.in-Some.others.now
           (sym c.split_at.ensures.back ∙ c.in-Some.ensures.cases.0) so_far.0 so_far.2,
     )
 

@@ -6,7 +6,8 @@ use Rattle.jzon_tree.proofs.codegen.display.show_text.Given as goal
 -- what is shown already and what is left make the text
 abbrev pub invariant-loop-byte : goal.invariant-loop-byte
 invariant-loop-byte g l =
-    IsPlainFormatter l.fn.f → (x : List ℕ) × HasWritten g.W.Write.write_str_gives l.fn.f x l.f × TextLeft l.fn.text l.rest x
+    IsPlainFormatter l.fn.f → (x : List ℕ) × HasWritten g.W.Write.write_str_gives l.fn.f x l.f
+    × TextLeft l.fn.text l.rest x
 
 abbrev pub decreases-loop-byte : goal.decreases-loop-byte
 decreases-loop-byte g l = length l.rest

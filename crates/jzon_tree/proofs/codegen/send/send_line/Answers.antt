@@ -4,15 +4,20 @@ use Rattle.jzon_tree.proofs.SentBlanks.{take-replicate, newline_stopped, blanks_
 use Rattle.jzon_tree.proofs.codegen.send.send_line.Goals as goal
 
 pub returns-in_err-send : goal.returns-in_err-send
-returns-in_err-send g c = Sends-at_err _ _ _ _ c.from_residual.ensures.0 (newline_stopped c.args.blanks _ _ c.in_err-send.ensures)
+returns-in_err-send g c = Sends-at_err _ _ _ _ c.from_residual.ensures.0
+    (newline_stopped c.args.blanks _ _ c.in_err-send.ensures)
 
 pub returns-in_err-send-2 : goal.returns-in_err-send-2
 returns-in_err-send-2 g c =
     Sends-at_err _ _ _ _ c.from_residual-in_err-send-2.ensures.0
-    (blanks_stopped c.args.blanks c.loop-left.left c.min-count.result _ (take-replicate 64 c.min-count.result (omega (arith, c.min-count.ensures))) (omega (arith, c.min-count.ensures)) c.loop-left.invariant.0 _ _ _ c.loop-left.invariant.1 c.in_err-send-2.ensures)
+    (blanks_stopped c.args.blanks c.loop-left.left c.min-count.result _
+    (take-replicate 64 c.min-count.result (omega (arith, c.min-count.ensures))) (omega (arith, c.min-count.ensures))
+    c.loop-left.invariant.0 _ _ _ c.loop-left.invariant.1 c.in_err-send-2.ensures)
 
 pub loop-left-preserved : goal.loop-left-preserved
 loop-left-preserved g c = (
   omega (arith, c.min-count.ensures),
-  blanks_sent c.args.blanks c.loop-left.left c.min-count.result _ (take-replicate 64 c.min-count.result (omega (arith, c.min-count.ensures))) (omega (arith, c.min-count.ensures)) c.loop-left.invariant.0 _ _ _ c.loop-left.invariant.1 c.in_ok-send-2.ensures,
+  blanks_sent c.args.blanks c.loop-left.left c.min-count.result _
+      (take-replicate 64 c.min-count.result (omega (arith, c.min-count.ensures))) (omega (arith, c.min-count.ensures))
+      c.loop-left.invariant.0 _ _ _ c.loop-left.invariant.1 c.in_ok-send-2.ensures,
 )

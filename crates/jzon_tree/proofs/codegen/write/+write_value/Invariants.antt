@@ -10,7 +10,8 @@ use Rattle.jzon_tree.proofs.codegen.write.+write_value.Given as goal
 abbrev pub invariant-write_items-loop-index : goal.invariant-write_items-loop-index
 invariant-write_items-loop-index g l =
     let a = g.G.Generator.meaning l.initial.g in
-    Added (AreItems a.style a.dent (map view (take l.index l.items))) a (g.G.Generator.meaning l.g) × AreValues (view_values (take l.index l.items))
+    Added (AreItems a.style a.dent (map view (take l.index l.items))) a (g.G.Generator.meaning l.g)
+    × AreValues (view_values (take l.index l.items))
 
 -- the pairs at the positions before this one are written
 abbrev pub invariant-write_members-loop-index : goal.invariant-write_members-loop-index

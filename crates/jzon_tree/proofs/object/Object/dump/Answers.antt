@@ -7,13 +7,20 @@ use Rattle.jzon_tree.proofs.Consumed.{IsPrinted, compact_printed}
 use Rattle.jzon_tree.proofs.object.Object.dump.Goals as goal
 
 pub into_text-requires : goal.into_text-requires
-into_text-requires c = (lit< tt, (compact_printed (view_object c.args.self.now) _ _ _ c.new-generator.ensures c.in-Ok.ensures.value c.in-Ok.ensures.written refl).0)
+into_text-requires c = (
+  lit< tt,
+  (compact_printed (view_object c.args.self.now) _ _ _ c.new-generator.ensures
+      c.in-Ok.ensures.value c.in-Ok.ensures.written refl).0,
+)
 
-printed : (c : goal.After-into_text) → IsPrinted (compact (view_object c.args.self.now)) compact_style (view_object c.args.self.now) c.write_object.new.g.outlet.bytes.items
-printed c = compact_printed (view_object c.args.self.now) _ _ _ c.new-generator.ensures c.in-Ok.ensures.value c.in-Ok.ensures.written refl
+printed : (c : goal.After-into_text) → IsPrinted (compact (view_object c.args.self.now)) compact_style
+    (view_object c.args.self.now) c.write_object.new.g.outlet.bytes.items
+printed c = compact_printed (view_object c.args.self.now) _ _ _ c.new-generator.ensures c.in-Ok.ensures.value
+    c.in-Ok.ensures.written refl
 
 pub returns-in-Ok-clause-text : goal.returns-in-Ok-clause-text
 returns-in-Ok-clause-text c = c.into_text.ensures ∙ (printed c).1
 
 pub returns-in-Ok-clause-writing : goal.returns-in-Ok-clause-writing
-returns-in-Ok-clause-writing c = subst (Writes compact_style 0 (view_object c.args.self.now)) (sym c.into_text.ensures) (printed c).2
+returns-in-Ok-clause-writing c = subst (Writes compact_style 0 (view_object c.args.self.now)) (sym c.into_text.ensures)
+    (printed c).2

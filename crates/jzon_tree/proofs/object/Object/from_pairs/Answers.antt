@@ -10,6 +10,8 @@ loop-key-preserved g c =
     let key = g.K.AsStr.text c.in-Some.key in
     let value = c.in_ok-into_json.field-0 in (
       pairs ++ (key, view value) ∷ [],
-      AllZip-push _ c.loop-key.yielded pairs (c.in-Some.key, c.in-Some.value) (key, view value) each (refl, c.in_ok-into_json.ensures.meant),
-      viewed-put_each c.loop-key.builder c.push.new.self pairs _ key value before (c.in_ok-key.ensures.bytes ∙ c.as_str.ensures) c.in_ok-push.ensures.ok,
+      AllZip-push _ c.loop-key.yielded pairs (c.in-Some.key, c.in-Some.value) (key, view value) each
+          (refl, c.in_ok-into_json.ensures.meant),
+      viewed-put_each c.loop-key.builder c.push.new.self pairs _ key value before
+          (c.in_ok-key.ensures.bytes ∙ c.as_str.ensures) c.in_ok-push.ensures.ok,
     )

@@ -7,4 +7,5 @@ use Rattle.jzon_tree.proofs.object.Object.from_pairs.Given as goal
 
 abbrev pub invariant-loop-key : goal.invariant-loop-key
 invariant-loop-key g l =
-    (qs : List (List ℕ × Value)) × PairsMean g.K.AsStr.text g.V.IntoJson.means l.yielded qs × (viewed l.builder ≡ put_each qs)
+    (qs : List (List ℕ × Value)) × PairsMean g.K.AsStr.text g.V.IntoJson.means l.yielded qs
+    × (viewed l.builder ≡ put_each qs)

@@ -1,5 +1,14 @@
--- `at_index_mut` hands on what the trait's `at_index_in` lends. The borrow checker makes no proof of a clause from a type to itself.
-use Rattle.jzon_tree.proofs.LentSteps.{[], ◌∷◌, refl, proved, leaves, full_share, id⊢, emp, ftrue, flft, ◌⊑◌, fact, fact_i, tables, ‵, raw, ◌⊛◌, some, later, ◌$◌, ◌∵◌, !, qed, by, move, keep, drop, use0, use1, use2, split, join, fjoin, pick, await, enter, addr, stop, no_more, and_then, returns, alloc_all, pass_all, free_all, look_at, get, through, sets, lands_as, RefMutOf, usize, yes, no, RattleType, owns, MutRef, mut_vals, mut_Tells, row_lawful, loosen, mut_ref_field, mut_ref_laws, row_loose, uint_vals, uint_Tells, plain, type_at, types_at, nothing, peeks, Is, shows, calls_at, lasts, Lasts, at_exit, triple_of, framed, Stays, walk_of, stay_dropped, Goes-dropped, Goes-spent_ref, named, w64, Lfts, Shares, vals, tells, within_static}
+-- `at_index_mut` hands on what the trait's `at_index_in` lends. The borrow checker makes no proof of a clause from a
+-- type to itself.
+use Rattle.jzon_tree.proofs.LentSteps.{[], ◌∷◌, refl, proved, leaves, full_share, id⊢, emp, ftrue, flft, ◌⊑◌, fact}
+use Rattle.jzon_tree.proofs.LentSteps.{fact_i, tables, ‵, raw, ◌⊛◌, some, later, ◌$◌, ◌∵◌, !, qed, by, move, keep, drop}
+use Rattle.jzon_tree.proofs.LentSteps.{use0, use1, use2, split, join, fjoin, pick, await, enter, addr, stop, no_more}
+use Rattle.jzon_tree.proofs.LentSteps.{and_then, returns, alloc_all, pass_all, free_all, look_at, get, through, sets}
+use Rattle.jzon_tree.proofs.LentSteps.{lands_as, RefMutOf, usize, yes, no, RattleType, owns, MutRef, mut_vals}
+use Rattle.jzon_tree.proofs.LentSteps.{mut_Tells, row_lawful, loosen, mut_ref_field, mut_ref_laws, row_loose, uint_vals}
+use Rattle.jzon_tree.proofs.LentSteps.{uint_Tells, plain, type_at, types_at, nothing, peeks, Is, shows, calls_at, lasts}
+use Rattle.jzon_tree.proofs.LentSteps.{Lasts, at_exit, triple_of, framed, Stays, walk_of, stay_dropped, Goes-dropped}
+use Rattle.jzon_tree.proofs.LentSteps.{Goes-spent_ref, named, w64, Lfts, Shares, vals, tells, within_static}
 use Rattle.std.specs.contracts.result.Result as result
 use Rattle.jzon_base.specs.contracts.error.Error as error
 use Rattle.jzon_base.proofs.error.Error.TheLaws as error_laws
@@ -19,29 +28,56 @@ use Rattle.jzon_tree.proofs.lent.tree.JsonValueTree.TheImpl.Met as impl_met
 pub at_index_mut_spec : {M : Type 1} → statement M
 at_index_mut_spec {M} 𝓤 𝓛 𝓜 𝓡 wired =
     let c = f.clauses 𝓛 𝓜.mem 𝓡.returns in let 𝓣 = tables 𝓤 𝓛.H 𝓜 𝓡 𝓡.env in
-    let hs : Stays f.ended.signature.params f.ended.kept = (stay_dropped (RefMutOf (0 ∷ []) tt (plain (λ _. J)) (λ _. tt)) no, (stay_dropped (plain (λ _. Z)) yes, (stay_dropped (plain (λ _. usize)) yes, tt))) in
-    proved 𝓛 f.ended hs c 𝓜 𝓡 (Goes-spent_ref 𝓛 1 (0 ∷ []) tt (plain (λ _. J)), (Goes-dropped 𝓛 1 (plain (λ _. Z)) yes (λ κs x w. refl), (Goes-dropped 𝓛 1 (plain (λ _. usize)) yes (λ κs x w. refl), tt)))
+    let hs : Stays f.ended.signature.params f.ended.kept = (
+      stay_dropped
+          (RefMutOf (0 ∷ []) tt (plain (λ _. J)) (λ _. tt)) no,
+      (stay_dropped (plain (λ _. Z)) yes, (stay_dropped (plain (λ _. usize)) yes, tt)),
+    ) in
+    proved 𝓛 f.ended hs c 𝓜 𝓡 (
+      Goes-spent_ref 𝓛 1 (0 ∷ []) tt (plain (λ _. J)),
+      (
+        Goes-dropped 𝓛 1 (plain (λ _. Z)) yes (λ κs x w. refl),
+        (Goes-dropped 𝓛 1 (plain (λ _. usize)) yes (λ κs x w. refl), tt),
+      ),
+    )
     f.Key.name code.function (code.unfolded 𝓤 𝓛.H 𝓜 𝓡 wired)
-    (λ κs. (mut_vals, (vals heap.the_type heap_laws.the_laws, (uint_vals w64, tt)))) (λ κs. (mut_Tells (named 0) κs.0 J, (tells heap.the_type heap_laws.the_laws, (uint_Tells w64, tt)))) (λ κs qs bounds a _ are.
+    (λ κs. (mut_vals, (vals heap.the_type heap_laws.the_laws, (uint_vals w64, tt))))
+    (λ κs. (mut_Tells (named 0) κs.0 J, (tells heap.the_type heap_laws.the_laws, (uint_Tells w64, tt))))
+    (λ κs qs bounds a _ are.
     let κ = κs.0 in let q = qs.0 in
     let three : Lfts 3 = (κ, ([], ([], tt))) in let shares : Shares 3 = (q, (full_share, (full_share, tt))) in
     let A = lts.arg-0-0 three in let B = lts.arg-0-1 three in
     let En = g.ended A B impl.ghosts impl.dict in let T = En.signature in
     let G = triple_of 𝓛 T (g.spec A B impl.ghosts impl.dict 𝓛 𝓜.mem 𝓡.returns) in
-    let y : (walk_of 𝓛 f.ended hs c).Ghost = ((κs, qs, bounds, a, (mut_vals a.0, (vals heap.the_type heap_laws.the_laws a.1.0, (uint_vals w64 a.1.1.0, tt)))), tt) in let vss = y.0.4 in
+    let y : (walk_of 𝓛 f.ended hs c).Ghost = (
+      (
+        κs,
+        qs,
+        bounds,
+        a,
+        (mut_vals a.0, (vals heap.the_type heap_laws.the_laws a.1.0, (uint_vals w64 a.1.1.0, tt))),
+      ),
+      tt,
+    ) in let vss =
+    y.0.4 in
     let z : G.Ghost = ((three, shares, (within_static κ, (within_static κ, tt)), a, vss), tt) in
     let toks = ‵ (flft κ q) ⊛ ‵ ftrue in
     let owned = ‵ (owns (types_at f.ended.signature.params κs) a vss) in
     qed 𝓛 ((toks ⊛ owned) ∷ ‵ ftrue ∷ []) ∵ split ! $ move ! (2 ∷ []) $ drop ! $ split ! $
     -- [the token; nothing; the arguments]
-    use0 𝓛 (‵ (flft [] full_share)) (𝓛.lfts.lft-nil full_share) $ use0 𝓛 (‵ (flft [] full_share)) (𝓛.lfts.lft-nil full_share) $
+    use0 𝓛 (‵ (flft [] full_share)) (𝓛.lfts.lft-nil full_share) $ use0 𝓛 (‵ (flft [] full_share))
+    (𝓛.lfts.lft-nil full_share) $
     move ! (0 ∷ 3 ∷ []) $ join ! $ move ! (1 ∷ 0 ∷ []) $ join ! $ move ! (1 ∷ 0 ∷ []) $ join ! $ join ! $
     nothing ! $ use0 𝓛 (raw (fact 𝓤 ([] ⊑ B.lives))) (fact_i 𝓤 ([] ⊑ B.lives) (emp 𝓤) (within_static [])) $ join ! $
     use0 𝓛 (raw (fact 𝓤 ([] ⊑ A.lives))) (fact_i 𝓤 ([] ⊑ A.lives) (emp 𝓤) (within_static [])) $ join ! $
     move ! (1 ∷ 0 ∷ []) $ use2 𝓛 (raw (G.pre z)) (id⊢ 𝓤 _) $
-    enter ! _ _ _ _ _ $ alloc_all ! (λ l. pass_all ! refl ((tt, tt), ((tt, ((tt, tt), tt)), ((tt, record { fits = are.1.1.0.1 }), tt))) $
+    enter ! _ _ _ _ _ $ alloc_all ! (λ l. pass_all ! refl (
+      (tt, tt),
+      ((tt, ((tt, tt), tt)), ((tt, record { fits = are.1.1.0.1 }), tt)),
+    ) $
     sets ! (addr ! (through ! refl (stop !))) refl (tt, tt) $
-    calls_at ! (framed 𝓤 𝓛.H 𝓜 𝓣) G (met 𝓤 𝓛 𝓜 𝓡 (code.calls-jzon_tree::lent::tree::Tree::at_index_in 𝓡.env wired) A B (lts.laws-0-0 three) (lts.laws-0-1 three) impl.ghosts impl.dict
+    calls_at ! (framed 𝓤 𝓛.H 𝓜 𝓣) G (met 𝓤 𝓛 𝓜 𝓡 (code.calls-jzon_tree::lent::tree::Tree::at_index_in 𝓡.env wired) A B
+    (lts.laws-0-0 three) (lts.laws-0-1 three) impl.ghosts impl.dict
     (impl_met.passed 𝓡.env
     (code.calls-jzon_tree::lent::tree::JsonValueTree::pairs_mut 𝓡.env wired)
     (code.calls-jzon_tree::lent::tree::JsonValueTree::make_key 𝓡.env wired)
@@ -51,12 +87,25 @@ at_index_mut_spec {M} 𝓤 𝓛 𝓜 𝓡 wired =
     M 𝓤 𝓛 𝓜 𝓡)) z
     (and_then ! (get ! refl) (and_then ! (get ! refl) (and_then ! (get ! refl) (no_more !)))) (λ v.
     let r-row : RattleType = type_at f.ended.signature.result κs in
-    use1 𝓛 (later (some (λ (r : r-row.Denot). ((‵ (flft κ q) ⊛ ‵ (flft [] full_share) ⊛ ‵ (flft [] full_share) ⊛ ‵ ftrue) ⊛ ‵ (r-row.own_val r (v ∷ []))) ⊛
-    some (λ (ws : Lasts En three a). ‵ (lasts En three a ws) ⊛ raw ((g.clauses A B impl.ghosts impl.dict 𝓛 𝓜.mem 𝓡.returns three a).ensures tt r (at_exit En three a ws)))))) (id⊢ 𝓤 (G.post z v)) $
-    await ! tt $ pick ! (λ r. split ! $ move ! (1 ∷ []) $ pick ! (λ ws. split ! $ drop ! $ move ! (1 ∷ []) $ split ! $ move ! (1 ∷ []) $
+    use1 𝓛 (later (some (λ (r : r-row.Denot). ((‵ (flft κ q) ⊛ ‵ (flft [] full_share) ⊛ ‵ (flft [] full_share) ⊛ ‵
+    ftrue) ⊛ ‵ (r-row.own_val r (v ∷ []))) ⊛
+    some (λ (ws : Lasts En three a). ‵ (lasts En three a ws) ⊛ raw
+    ((g.clauses A B impl.ghosts impl.dict 𝓛 𝓜.mem 𝓡.returns three a).ensures tt r (at_exit En three a ws))))))
+    (id⊢ 𝓤 (G.post z v)) $
+    await ! tt $ pick ! (λ r. split ! $ move ! (1 ∷ []) $ pick !
+    (λ ws. split ! $ drop ! $ move ! (1 ∷ []) $ split ! $ move ! (1 ∷ []) $
     -- [the result; the tokens; what the callee ensures]
-    peeks ! r-row (Is r-row) (shows 𝓛 r-row) r (v ∷ []) (λ is. lands_as ! refl refl ((row_lawful 𝓛 (result.the_type (MutRef (named 0) κ J) error.the_row) ((loosen (mut_ref_field (record { mir = named 0; lft = κ }) J tt) (mut_ref_laws (record { mir = named 0; lft = κ }) J tt), tt), ((row_loose error.the_row error_laws.the_row_laws, tt), tt)) tt).typed r (v ∷ []) is).0 $
+    peeks ! r-row (Is r-row) (shows 𝓛 r-row) r (v ∷ []) (λ is. lands_as ! refl refl
+    ((row_lawful 𝓛 (result.the_type (MutRef (named 0) κ J) error.the_row) (
+      (
+        loosen (mut_ref_field (record { mir = named 0; lft = κ }) J tt)
+            (mut_ref_laws (record { mir = named 0; lft = κ }) J tt),
+        tt,
+      ),
+      ((row_loose error.the_row error_laws.the_row_laws, tt), tt),
+    ) tt).typed r (v ∷ []) is).0 $
     move ! (1 ∷ []) $ split ! $ move ! (1 ∷ []) $ drop ! $ nothing ! $ move ! (1 ∷ 0 ∷ []) $ join ! $
     nothing ! $ nothing ! $ fjoin ! $ nothing ! $ fjoin ! $ nothing ! $ fjoin ! $
     -- [nothing of the parameters; the tokens; the result; what the callee ensures]
-    returns ! (look_at ! 0 refl) $ free_all ! refl $ keep ! (1 ∷ 0 ∷ 2 ∷ 3 ∷ []) $ by ! (leaves 𝓛 f.ended hs c y v r (tt, (tt, (tt, tt))) (tt, (tt, (tt, tt))))))))))
+    returns ! (look_at ! 0 refl) $ free_all ! refl $ keep ! (1 ∷ 0 ∷ 2 ∷ 3 ∷ []) $ by !
+    (leaves 𝓛 f.ended hs c y v r (tt, (tt, (tt, tt))) (tt, (tt, (tt, tt))))))))))

@@ -9,4 +9,5 @@ use Rattle.jzon_tree.proofs.value.JsonValue.contains.Goals as goal
 pub returns-in-Array : goal.returns-in-Array
 returns-in-Array c =
     let test : Value → Bool = λ v. same v (view c.args.value.now) in
-    rw (c.in-Array.is) (rw c.deref.ensures.value at c.contains.ensures.value ∙ sym (ap (list_any test) (items-Array c.in-Array.items) ∙ any-viewed test c.in-Array.items.items))
+    rw (c.in-Array.is) (rw c.deref.ensures.value at c.contains.ensures.value
+    ∙ sym (ap (list_any test) (items-Array c.in-Array.items) ∙ any-viewed test c.in-Array.items.items))

@@ -10,6 +10,8 @@ returns c =
     let order = beside c.args.keys.now c.args.hash c.args.name.now in
     let found = c.binary_search_by.result in
     let same = c.deref.ensures.value ∙ c.self.view_is in
-    let at = subst (λ r. IsBinarySearchResult order r found) same (c.binary_search_by.ensures.position order (always_returns_same _ _ _ (λ a r q k. search rules))) in
+    let at = subst (λ r. IsBinarySearchResult order r found) same
+    (c.binary_search_by.ensures.position order (always_returns_same _ _ _ (λ a r q k. search rules))) in
     let bound = subst (λ r. IsSearchInRange found (length r)) same c.binary_search_by.ensures.bound in
-    c.is_ok.ensures.value ∙ searched c.args.keys.now c.args.hash c.args.name.now c.args.self.now found c.requires bound at
+    c.is_ok.ensures.value ∙ searched c.args.keys.now c.args.hash c.args.name.now c.args.self.now found c.requires bound
+    at

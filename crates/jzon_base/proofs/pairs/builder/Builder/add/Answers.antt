@@ -15,16 +15,29 @@ returns-clause-ok g c =
     let inside = c.self.inside in
     let ks = inside.keys.items in
     let vs = inside.values.items in
-    (λ i. put_each (zip ((c.push_reserved.ensures.items ∙ ap (λ xs. xs ++ k ∷ []) c.reserve.ensures.items) i) ((c.push_reserved-2.ensures.items ∙ ap (λ xs. xs ++ v ∷ []) c.reserve-2.ensures.items) i)))
-    ∙ ap put_each (zip-push ks vs k v c.self.invariant.even) ∙ put_each-push (zip ks vs) k v ∙ ap (put k v) c.self.view_is
+    (λ i. put_each (zip ((c.push_reserved.ensures.items ∙ ap (λ xs. xs ++ k ∷ []) c.reserve.ensures.items) i)
+    ((c.push_reserved-2.ensures.items ∙ ap (λ xs. xs ++ v ∷ []) c.reserve-2.ensures.items) i)))
+    ∙ ap put_each (zip-push ks vs k v c.self.invariant.even) ∙ put_each-push (zip ks vs) k v
+    ∙ ap (put k v) c.self.view_is
 
 pub invariant_of-self-2 : goal.invariant_of-self-2
 invariant_of-self-2 g c =
     let inside = c.self.inside in
     let built = c.self.invariant in
-    rw (c.push_reserved.ensures.items, c.reserve.ensures.items, c.push_reserved-2.ensures.items, c.reserve-2.ensures.items, c.clear.ensures)
+    rw (
+      c.push_reserved.ensures.items,
+      c.reserve.ensures.items,
+      c.push_reserved-2.ensures.items,
+      c.reserve-2.ensures.items,
+      c.clear.ensures,
+    )
     (record {
-      even = omega (arith, length_push inside.keys.items c.args.key, length_push inside.values.items c.args.value, built.even);
+      even = omega (
+        arith,
+        length_push inside.keys.items c.args.key,
+        length_push inside.values.items c.args.value,
+        built.even,
+      );
       known = AreRuns-push inside.keys.items c.args.key inside.known.runs.items inside.known.count built.known;
       few = IsSlotted-none (inside.keys.items ++ c.args.key ∷ []);
     })

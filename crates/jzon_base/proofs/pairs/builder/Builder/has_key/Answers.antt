@@ -13,5 +13,6 @@ returns-clause-known g c =
     let name = c.args.key.now in
     let same : list_any (λ x. bytes_eq x name) c.as_slice.result.now ≡ is_some (find name c.args.self.now) =
     ap (λ (xs : List (List ℕ)). list_any (λ x. bytes_eq x name) xs) c.as_slice.ensures.value
-    ∙ sym (known-put_each name inside.keys.items inside.values.items c.self.invariant.even) ∙ ap (λ ps. is_some (find name ps)) c.self.view_is in
+    ∙ sym (known-put_each name inside.keys.items inside.values.items c.self.invariant.even)
+    ∙ ap (λ ps. is_some (find name ps)) c.self.view_is in
     subst (λ (b : Bool). IfOk c.has.result (λ (known : Bool). known ≡ b)) same c.has.ensures.known

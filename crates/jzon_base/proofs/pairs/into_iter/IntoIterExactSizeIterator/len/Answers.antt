@@ -4,4 +4,11 @@ use Rattle.std.specs.Vec.Iter.{into_iter_items}
 use Rattle.jzon_base.proofs.pairs.into_iter.IntoIterExactSizeIterator.len.Goals as goal
 
 pub returns-clause-value : goal.returns-clause-value
-returns-clause-value g c = omega (arith, c.len.ensures.value, c.self.invariant, length-zip c.self.inside.keys (into_iter_items c.self.inside.values), ap length c.self.view_is)
+returns-clause-value g c = omega (
+  arith,
+  c.len.ensures.value,
+  c.self.invariant,
+  length-zip c.self.inside.keys
+      (into_iter_items c.self.inside.values),
+  ap length c.self.view_is,
+)

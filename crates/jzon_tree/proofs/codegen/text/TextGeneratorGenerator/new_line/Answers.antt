@@ -14,8 +14,17 @@ returns-then-not-this g c = rw c.if-not-this.true (Added-nothing _ _ (refl, refl
 pub returns : goal.returns
 returns g c =
     let s = c.args.self.now in
-    let a : Emitted = record { out = g.O.Outlet.out s.outlet; dent = s.dent; faults = s.faults; style = layout_style true s.spaces; lender = g.O.Outlet.lender s.outlet } in
+    let a : Emitted = record {
+      out = g.O.Outlet.out s.outlet;
+      dent = s.dent;
+      faults = s.faults;
+      style = layout_style
+          true s.spaces;
+      lender = g.O.Outlet.lender s.outlet;
+    } in
     let w = c.send_line-step.new.writer in
     rw (has_lines _ c.if-not-this.false)
-    (Emits-handed (IsAllowedBlank (pretty_style s.spaces) s.dent) ((pretty_layout s.spaces).line s.dent) a _ _ _ _ _ _ _ (pretty_blank s.spaces s.dent) c.get_writer.ensures.bytes c.send_line-step.ensures c.taken_up.ensures
-    (same_emitted (g.met.O.Outlet.out_law s.outlet w) (g.met.O.Outlet.lender_law s.outlet w)) c.hand_on.ensures.same (rw (has_lines _ c.if-not-this.false) at c.hand_on.ensures.faults))
+    (Emits-handed (IsAllowedBlank (pretty_style s.spaces) s.dent) ((pretty_layout s.spaces).line s.dent) a _ _ _ _ _ _ _
+    (pretty_blank s.spaces s.dent) c.get_writer.ensures.bytes c.send_line-step.ensures c.taken_up.ensures
+    (same_emitted (g.met.O.Outlet.out_law s.outlet w) (g.met.O.Outlet.lender_law s.outlet w)) c.hand_on.ensures.same
+    (rw (has_lines _ c.if-not-this.false) at c.hand_on.ensures.faults))

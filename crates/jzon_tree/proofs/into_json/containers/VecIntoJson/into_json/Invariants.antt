@@ -6,4 +6,5 @@ use Rattle.jzon_tree.proofs.into_json.containers.VecIntoJson.into_json.Given as 
 
 abbrev pub invariant-loop-item : goal.invariant-loop-item
 invariant-loop-item g l =
-    (l.yielded ++ into_iter_items l.item-iterator ≡ l.fn.self.items) × AllZip g.T.IntoJson.means l.yielded (map view l.items.items)
+    (l.yielded ++ into_iter_items l.item-iterator ≡ l.fn.self.items)
+    × AllZip g.T.IntoJson.means l.yielded (map view l.items.items)

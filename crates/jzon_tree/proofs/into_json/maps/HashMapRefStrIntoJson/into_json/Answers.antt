@@ -8,5 +8,7 @@ pub returns-clause-meant : goal.returns-clause-meant
 returns-clause-meant g c = (
   c.args.self.entries,
   IsPermutation-refl c.args.self.entries,
-  map_put (λ (key : Bor (List ℕ)). key.now) (λ (x y : Bor (List ℕ)). pointwise nat_eq x.now y.now) (λ j k. refl) g.T.IntoJson.means c.args.self.entries c.into_iter.result c.in_ok-from_pairs.field-0 c.into_iter.ensures.into_iter_gives.0 c.into_iter.ensures.into_iter_gives.4 c.in_ok-from_pairs.ensures.pairs,
+  map_put (λ (key : Bor (List ℕ)). key.now) (λ (x y : Bor (List ℕ)). pointwise nat_eq x.now y.now) (λ j k. refl)
+      g.T.IntoJson.means c.args.self.entries c.into_iter.result c.in_ok-from_pairs.field-0
+      c.into_iter.ensures.into_iter_gives.0 c.into_iter.ensures.into_iter_gives.4 c.in_ok-from_pairs.ensures.pairs,
 )
