@@ -1,5 +1,5 @@
 -- Keys that are looked for in sorted runs.
-use Rattle.std.proofs.Common.{◌≡◌, ◌∙◌, ◌≢◌, ℕ, zero, suc, ◌+◌, ◌-◌, ◌<◌, ◌≤◌, Bool, true, false, List, [], ◌∷◌, ◌++◌}
+use Rattle.std.proofs.Common.{◌≡◌, ◌∙◌, ℕ, suc, ◌+◌, ◌-◌, ◌<◌, Bool, true, false, List, [], ◌∷◌, ◌++◌}
 use Rattle.std.proofs.Common.{length, get_or, take, drop, ◌||◌, Result, Ok, Err, take_all, add-zero, zero-add}
 use Rattle.std.proofs.Common.{append_assoc, append-nil, refl, sym, ap, subst, inl, inr, arith}
 use Rattle.std.specs.Cmp.{IsTotalOrder}
@@ -25,7 +25,7 @@ use Rattle.std.proofs.lemmas.Map.Text.{is_eq-slice_cmp}
 use Rattle.std.proofs.lemmas.Slice.Eq.{bytes_eq-Decides}
 use Rattle.jzon_base.specs.Hash.{hash_of}
 use Rattle.jzon_base.specs.Keys.{beside, hashed_from, pair_cmp, AreRuns}
-use Rattle.jzon_base.proofs.Indexes.{hashed_from-append, hashed_from-none}
+use Rattle.jzon_base.proofs.Indexes.{hashed_from-append}
 
 front : {X : Type 0} (xs ys zs : List X) → zs ≡ xs ++ ys → take (length xs) zs ≡ xs
 front xs ys zs e = rw e (take-append_seam xs ys)

@@ -1,6 +1,6 @@
 -- No NaN among the values of a container, one after the other.
 use Rattle.std.proofs.Common.{◌≡◌, ℕ, zero, suc, ◌+◌, ◌<◌, List, [], ◌∷◌, length, get_or, take, Some, add-one, arith}
-use Rattle.std.proofs.Common.{ap, subst}
+use Rattle.std.proofs.Common.{subst}
 use Rattle.std.specs.Prelude.{slice_get}
 use Rattle.jzon_tree.specs.Lawful.{HasNoNan, HaveNoNan, PairsHaveNoNan}
 use Rattle.jzon_tree.specs.View.{view, view_values, view_pairs}

@@ -1,10 +1,8 @@
 -- The style of sorted keys allows an order of each list of keys. (These are proofs; they stand here since the laws of
 -- generators cite them.)
-use Rattle.std.specs.Prelude.{◌≡◌, ◌≢◌, ℕ, zero, suc, ◌+◌, ◌<◌, ◌==◌, Bool, true, false, not, ◌&&◌, if◌then◌else◌, List}
+use Rattle.std.specs.Prelude.{◌≡◌, ℕ, suc, ◌+◌, ◌==◌, Bool, true, false, not, if◌then◌else◌, List}
 use Rattle.std.specs.Prelude.{[], ◌∷◌, length, map, count_by, cond, refl}
-use Rattle.std.specs.Cmp.Lexicographic.{slice_cmp}
-use Rattle.std.specs.Ordering.{nat_cmp}
-use Rattle.std.proofs.Common.{sym, ap, ◌∙◌, arith}
+use Rattle.std.proofs.Common.{ap, ◌∙◌, arith}
 use Rattle.std.proofs.lemmas.Bool.{and_parts}
 use Rattle.std.proofs.lemmas.Cmp.{nat_list_cmp_total}
 use Rattle.std.proofs.lemmas.List.Sorted.{ranks_by}
@@ -12,7 +10,7 @@ use Rattle.std.proofs.lemmas.List.Sums.{sum_by-cons}
 use Rattle.jzon_tree.specs.Generator.{insertion}
 use Rattle.jzon_tree.specs.SortedStyle.{is_before, ascend, sorted_style}
 use Rattle.jzon_tree.specs.StyleLaws.{IsOrder-insertion, IsStyle-compact}
-use Rattle.jzon_tree.specs.Writing.{IsStyle, IsOrder, text_at}
+use Rattle.jzon_tree.specs.Writing.{IsStyle, text_at}
 
 -- of two texts, one at most stands before the other
 pub is_before-one_way : (j k : List ℕ) → is_before j k ≡ true → is_before k j ≡ false
