@@ -62,8 +62,8 @@ impl Reading {
         self.depth
     }
 
-    /// Whether the value holds no NaN and nests no deeper than this reading allows. If so, and only then, what is dumped of it reads back by this reading as an equal
-    /// value (`laws::reads_back`). Takes no memory.
+    /// Whether the value holds no NaN and nests no deeper than this reading allows. If so, what is dumped of it reads back by this reading as an equal value
+    /// (`laws::reads_back`). Takes no memory.
     pub fn admits(&self, value: &JsonValue) -> bool
         ensures { IsTrue result ↔ IsReadable self.now (view value.now) }
     {
