@@ -1,6 +1,7 @@
 //! Texts by each reading.
 
-use jzon::{Error, Reading, parse_as};
+use jzon::number::NAN;
+use jzon::{Error, JsonValue, Reading, parse, parse_as};
 use std::test::Fail;
 
 #[test]
@@ -104,5 +105,34 @@ fn tells_the_first_fault(rt: HostRuntime) {
             },
             None => assert!(rt; false, "{depth}"),
         }
+    }
+}
+
+#[test]
+fn admits_what_reads_back(rt: HostRuntime) -> Result<(), Fail> {
+    let rows = [
+        (0, "1", true),
+        (0, "[]", true),
+        (0, "[1]", false),
+        (1, "[[]]", true),
+        (1, "[[1]]", false),
+        (1, "{\"a\":[],\"b\":{\"c\":1}}", false),
+        (2, "[1,{\"a\":2}]", true),
+    ];
+    for (depth, text, admitted) in rows {
+        let value = parse(rt.alloc(), text)?;
+        match Reading::new(true, depth) {
+            Some(reading) => assert_eq!(rt; reading.admits(&value), admitted, "{text}"),
+            None => assert!(rt; false, "{depth}"),
+        }
+    }
+    Ok(())
+}
+
+#[test]
+fn admits_no_nan(rt: HostRuntime) {
+    match Reading::new(false, 512) {
+        Some(reading) => assert!(rt; !reading.admits(&JsonValue::Number(NAN))),
+        None => assert!(rt; false),
     }
 }
