@@ -1,5 +1,6 @@
-# Prints each code line that a page quotes and that doesn't stand in the examples. The examples come first on the command line, then the pages.
-# A quoted line is one between "```rust" and "```", without its comment, or in the right column of the table "What one writes".
+# Prints each code line that a page quotes and that doesn't stand in the examples. The examples come first on the command line, then the pages, and the other
+# sources, of which the lines of "///" are a page. A quoted line is one between "```rust" and "```", without its comment, or in the right column of the table
+# "What one writes".
 # Blanks at both ends don't count. The status is 0 only if something is quoted and all of it stands there.
 function trimmed(text) {
     gsub(/^[ \t]+|[ \t]+$/, "", text)
@@ -15,12 +16,15 @@ function look_for(text, is_part) {
     }
 }
 
-FILENAME ~ /\.rt$/ {
+FILENAME ~ /jzon_examples.*\.rt$/ {
     stands[trimmed($0)] = 1
     code = code "\n" $0
     next
 }
 FNR == 1 { fence = ""; is_table = 0 }
+FILENAME ~ /\.rt$/ {
+    if (!sub(/^ *\/\/\/ ?/, "")) next
+}
 /^```/ { fence = fence == "" ? $0 : ""; next }
 fence == "```rust" {
     line = $0

@@ -18,6 +18,10 @@ macro_rules! value {
 }
 
 /// An array of items with commas between them; a last comma is allowed. An item is all that `value!` takes.
+///
+/// ```rust
+/// let list = jzon::array![alloc; 1u8, "two", null];
+/// ```
 #[macro_export]
 macro_rules! array {
     ($alloc:expr; $($items:tt)*) => {{
@@ -30,6 +34,10 @@ macro_rules! array {
 
 /// An object of pairs with commas between them; a last comma is allowed. A pair is a key, `:` and all that `value!` takes, where a key is an identifier, a text
 /// literal or `[expression]`; or it is `key => value`, where the key is an expression. The expressions of keys are of type `&str`.
+///
+/// ```rust
+/// let built = jzon::object! {alloc; a: 5u8, "b": [true, null], c: list};
+/// ```
 #[macro_export]
 macro_rules! object {
     ($alloc:expr; $($pairs:tt)*) => {{

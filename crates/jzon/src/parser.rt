@@ -28,6 +28,12 @@ use std::alloc::Global;
 
 /// The value that a text means (RFC 8259; docs/RULES.md, "Texts"), or the error of its first fault, or `OutOfMemory` where memory was refused. A text with neither
 /// a string nor an array nor an object takes no memory.
+///
+/// ```rust
+/// let value = jzon::parse(alloc, "[1, -12.50e3, {\"a\": null}]")?;
+/// let text = value.dump(alloc)?;   // [1,-12500,{"a":null}]
+/// let first = value.at_index(0).as_u64();   // Some(1)
+/// ```
 pub fn parse(alloc: Global, source: &str) -> Result<JsonValue>
     ensures value { IfOk result (IsMeaningOf usual (chars source.now)) }
     ensures readable { IfOk result (λ v. IsReadable usual (view v)) }

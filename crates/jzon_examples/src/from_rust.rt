@@ -25,6 +25,13 @@ pub fn tour(alloc: Global, text: &str) -> Result<String> {
     data.dump(alloc)
 }
 
+/// Gives a document another name, where it has one.
+pub fn rename(data: &mut JsonValue, name: JsonValue) {
+    if let Some(found) = data.get_mut("name") {
+        *found = name;
+    }
+}
+
 /// Values written as their texts would be.
 fn built(alloc: Global) -> Result<JsonValue> {
     let list = jzon::array![alloc; 1u8, "two", null];
@@ -68,6 +75,9 @@ mod tests {
             text.as_str(),
             "{\"list\":[7,\"last\"],\"name\":\"x\",\"count\":1,\"first\":7,\"is_named\":true,\"built\":{\"a\":5,\"b\":[true,null],\"c\":[1,\"two\",null]}}"
         );
+        let mut named = jzon::parse(alloc, "{\"name\": \"x\"}")?;
+        rename(&mut named, JsonValue::Boolean(true));
+        assert_eq!(rt; named.dump(alloc)?.as_str(), "{\"name\":true}");
         let value = jzon::parse(alloc, "{\"abc\": [1, 2]}")?;
         assert_eq!(rt; longest(&value), 3);
         assert_eq!(rt;

@@ -94,6 +94,10 @@ impl JsonValue {
 
     /// Puts a value under the key of an object: in its place where the key is there, else last. Refused by `WrongType` where the value is no object, and by
     /// `OutOfMemory`.
+    ///
+    /// ```rust
+    /// data.insert(alloc, "first", first)?;
+    /// ```
     #[tactic(auto, using(crate::proofs::Views::views, crate::proofs::Seen::seen))]
     pub fn insert<T: IntoJson>(&mut self, alloc: Global, key: &str, value: T) -> Result<()>
         ensures ok { OnOk result ((v : Value) × T.means value v

@@ -78,7 +78,14 @@ impl JsonValue {
         EntriesMut::empty()
     }
 
-    /// The value of an object's key, to be written. Nothing else changes.
+    /// The value of an object's key, to be written. Nothing else changes. A caller's proof learns of the write by `as_object_mut`, or calls
+    /// `lent::write_present` instead.
+    ///
+    /// ```rust
+    /// if let Some(found) = data.get_mut("name") {
+    ///     *found = name;
+    /// }
+    /// ```
     pub fn get_mut(&mut self, key: &str) -> Option<&mut JsonValue>
         ensures* writes_back { sem 𝓛 (LendsIf the_row the_row self.entry result
             (λ w. object_value (with_entries (put key.now w (entries_in self.old)))) self.old) }
@@ -88,7 +95,13 @@ impl JsonValue {
     }
 
     /// The value of an object's key, to be written. A missing key is first put last, with null, and a value that is no object first becomes one without pairs.
-    /// Nothing else changes. Refused by `OutOfMemory` alone, and then nothing has changed; a key that is there takes no memory.
+    /// Nothing else changes. Refused by `OutOfMemory` alone, and then nothing has changed; a key that is there takes no memory. A caller's proof that needs the write
+    /// calls `lent::write_at` instead.
+    ///
+    /// ```rust
+    /// *data.at_mut(alloc, "count")? = jzon::from(alloc, 1u8)?;
+    /// data.at_mut(alloc, "list")?.push(alloc, "last")?;
+    /// ```
     pub fn at_mut(&mut self, alloc: Global, key: &str) -> Result<&mut JsonValue>
         ensures* writes_back { sem 𝓛 (LendsIfOk the_row the_row self.entry result
             (λ w. object_value (with_entries (put key.now w (entries_in self.old)))) self.old) }
@@ -102,7 +115,7 @@ impl JsonValue {
 
     /// The item of an array at an index, to be written. Past the end the array first gains one null, whatever the index, which is lent. A value that is no array
     /// first becomes one of a null for index 0, and else of two, the last of which is lent. Refused by `OutOfMemory` alone, and then the value is as it was; an
-    /// index in range of an array takes no memory.
+    /// index in range of an array takes no memory. A caller's proof that needs the write calls `lent::write_at_index` instead.
     pub fn at_index_mut(&mut self, alloc: Global, index: usize) -> Result<&mut JsonValue>
         ensures* writes_back { sem 𝓛 (LendsSoOk the_row the_row self.entry result
             (λ n w. items_in n ≡ Some (slice_set (items_with_place self.old index) (place_made self.old index) w))

@@ -36,6 +36,11 @@ impl JsonValue {
     }
 
     /// The value of the key of an object, or missing.
+    ///
+    /// ```rust
+    /// let is_named = data.at("name").eq_str("x");
+    /// let first = data.at("list").at_index(0).as_u64();
+    /// ```
     pub fn at(&self, key: &str) -> View<'_>
         ensures { shown result ≡ find key.now (entries (view self.now)) }
     {

@@ -21,6 +21,20 @@ use std::io::{ErrorKind, Write};
 /// Behind it stand the bytes written so far, the count of open indents, the count of faults so far, and a style, which no hook changes. An `Ok` of a hook adds
 /// exactly the hook's bytes. An `Err` adds a beginning of them, notes one fault (the greatest u64 stays), and leaves the open indents. Where the writer doesn't
 /// tell its bytes, nothing is said of bytes.
+///
+/// A generator of one's own keeps its bytes, its open indents and its faults, and says which order an object's pairs have:
+///
+/// ```rust
+/// fn order(&mut self, object: &Object) -> io::Result<Option<Vec<usize>>> {
+///     match sorted_positions(self.alloc, object) {
+///         Ok(positions) => Ok(Some(positions)),
+///         Err(_) => {
+///             self.note_fault();
+///             Err(io::Error::from(io::ErrorKind::OutOfMemory))
+///         }
+///     }
+/// }
+/// ```
 pub trait Generator {
     /// The writer.
     type T: Write;

@@ -23,6 +23,11 @@ use std::io::Write;
 impl JsonValue {
     /// The compact text of the value, with no blank outside of its strings. Refused by `OutOfMemory` where a request for memory was, and by `ExceededDepthLimit`
     /// where non-empty containers nest 2^64 deep or deeper.
+    ///
+    /// ```rust
+    /// let value = jzon::parse(alloc, "[1, -12.50e3, {\"a\": null}]")?;
+    /// let text = value.dump(alloc)?;   // [1,-12500,{"a":null}]
+    /// ```
     pub fn dump(&self, alloc: Global) -> Result<String>
         ensures text { IfOk result (λ text. string_bytes text ≡ compact (view self.now)) }
         ensures writing { IfOk result (λ text. Writes compact_style 0 (view self.now) (string_bytes text)) }
