@@ -1,11 +1,11 @@
 //! What a value lends to be written.
 
-ghost use Rattle.std.specs.Prelude.{◌≡◌, slice_set, OnOk, OnErr, Some};
+ghost use Rattle.std.specs.Prelude.{◌≡◌, slice_set, OnOk, OnErr};
 ghost use Rattle.jzon_base.specs.PairList.{put};
-ghost use Rattle.jzon_tree.specs.Entries.{with_entries};
-ghost use Rattle.jzon_tree.specs.Lent.{entries_in, items_in, items_with_place, place_made};
+ghost use Rattle.jzon_tree.specs.Lent.{with_place, place_in, items_of};
+ghost use Rattle.jzon_tree.specs.Readers.{entries};
+ghost use Rattle.jzon_tree.specs.Value.{null, array, object, values_of, pairs_of};
 ghost use Rattle.jzon_tree.specs.View.{view};
-ghost use Rattle.jzon_tree.specs.declared.value.JsonValue.{Object as object_value};
 
 use crate::common::{Tested, expect_dump, number};
 use jzon::lent::{write_at, write_at_index, write_present};
@@ -188,16 +188,17 @@ fn objects_make_keys(rt: HostRuntime) -> Tested {
 
 // What a caller's proof knows of a value that was written.
 fn put_value(value: &mut JsonValue, alloc: Global, key: &str, written: JsonValue) -> Result<()>
-    ensures ok { OnOk result (value.new ≡
-        object_value (with_entries (put key.now written (entries_in value.old)))) }
+    ensures ok { OnOk result (view value.new ≡
+        object (pairs_of (put key.now (view written) (entries (view value.old))))) }
     ensures err { OnErr result (value.new ≡ value.old) }
 {
     write_at(value, alloc, key, written)
 }
 
 fn put_item(value: &mut JsonValue, alloc: Global, index: usize, written: JsonValue) -> Result<()>
-    ensures ok { OnOk result (items_in value.new ≡
-        Some (slice_set (items_with_place value.old index) (place_made value.old index) written)) }
+    ensures ok { OnOk result (view value.new ≡
+        array (values_of (slice_set (with_place null (items_of (view value.old)) index)
+        (place_in null (items_of (view value.old)) index) (view written)))) }
     ensures err { OnErr result (view value.new ≡ view value.old) }
 {
     write_at_index(value, alloc, index, written)

@@ -23,6 +23,7 @@ pub mod Views
 pub mod Means
 pub mod PutPairs
 pub mod Writings
+pub mod WrittenViews
 pub mod ValueLaws
 pub mod KeptByChanges
 pub mod KeptByConversions

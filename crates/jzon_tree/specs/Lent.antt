@@ -4,6 +4,7 @@ use Rattle.std.specs.Prelude.{None, Some}
 use Rattle.std.specs.Global.{Vec}
 use Rattle.std.proofs.Common.{rules}
 use Rattle.jzon_tree.specs.Entries.{entries_of, with_entries}
+use Rattle.jzon_tree.specs.Value.{Value, array, list_of_values}
 use Rattle.jzon_tree.specs.declared.object.Object.{Object}
 use Rattle.jzon_tree.specs.declared.value.JsonValue.{JsonValue, out-JsonValue, Null, Object as object_value}
 use Rattle.jzon_tree.specs.declared.value.JsonValue.{Array as array_value, the_lemmas}
@@ -32,6 +33,11 @@ items_at _ = None
 -- the items of an array, or none of another value
 abbrev pub items_in : JsonValue → Option (List JsonValue)
 items_in v = items_at (out-JsonValue v)
+
+-- the same of a value as it is seen
+abbrev pub items_of : Value → Option (List Value)
+items_of (array vs) = Some (list_of_values vs)
+items_of _ = None
 
 -- the items once there is a place for index i: the same where i is in range, and one null more past the end; one null
 -- at 0 and else two, of what has no items

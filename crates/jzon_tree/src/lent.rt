@@ -22,7 +22,7 @@ use crate::value::JsonValue;
 use jzon_base::error::{Error, Result};
 use std::alloc::Global;
 use std::slice;
-pub use tree::Tree;
+use tree::Tree;
 pub use writes::{write_at, write_at_index, write_present};
 
 /// The items of an array that are left, which may be written.

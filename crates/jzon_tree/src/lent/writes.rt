@@ -1,16 +1,62 @@
-//! Writes into a tree, by calls whose contracts say what the tree is afterwards.
+//! Writes into a value, by calls whose contracts say what the value is afterwards.
 
 ghost use Rattle.std.specs.Prelude.{◌≡◌, ◌≤◌, length, slice_set, IfSome, OnOk, OnErr, IsOkUnless, MatchOption, is_some};
-ghost use Rattle.std.specs.Prelude.{None, Some};
+ghost use Rattle.std.specs.Prelude.{None, Some, true, false};
 ghost use Rattle.jzon_base.specs.PairList.{find, put};
-ghost use Rattle.jzon_tree.specs.Lent.{with_place, place_in};
+ghost use Rattle.jzon_tree.specs.Lent.{with_place, place_in, items_of};
+ghost use Rattle.jzon_tree.specs.Readers.{entries};
+ghost use Rattle.jzon_tree.specs.Value.{null, array, object, values_of, pairs_of};
+ghost use Rattle.jzon_tree.specs.View.{view};
 
-use super::Tree;
+use super::tree::Tree;
+use crate::value::JsonValue;
 use jzon_base::error::{Error, Result};
 use std::alloc::Global;
 
 /// Writes the value of an object's key, and tells whether the key is there. Without it nothing changes.
-pub fn write_present<T: Tree>(tree: &mut T, key: &str, value: T::Node) -> bool
+#[tactic(auto, using(crate::proofs::WrittenViews::written))]
+pub fn write_present(value: &mut JsonValue, key: &str, item: JsonValue) -> bool
+    ensures found { result ≡ is_some (find key.now (entries (view value.old))) }
+    ensures written { result ≡ true → view value.new ≡
+        object (pairs_of (put key.now (view item) (entries (view value.old)))) }
+    ensures kept { result ≡ false → value.new ≡ value.old }
+{
+    write_present_in(value, key, item)
+}
+
+/// Writes the value of an object's key, as `at_mut` lends it. Refused by `OutOfMemory` alone, and then nothing has changed; a key that is there takes no memory.
+#[tactic(auto, using(crate::proofs::WrittenViews::written))]
+pub fn write_at(value: &mut JsonValue, alloc: Global, key: &str, item: JsonValue) -> Result<()>
+    ensures ok { OnOk result (view value.new ≡
+        object (pairs_of (put key.now (view item) (entries (view value.old))))) }
+    ensures err { OnErr result (value.new ≡ value.old) }
+    ensures present { OnErr result (find key.now (entries (view value.old)) ≡ None) }
+    ensures memory { IsOkUnless result Error.OutOfMemory }
+{
+    write_at_in(value, alloc, key, item)
+}
+
+/// Writes the item of an array at an index, as `at_index_mut` lends it. Refused by `OutOfMemory` alone, and then the value means what it meant; an index in range
+/// of an array takes no memory.
+#[tactic(auto, using(crate::proofs::WrittenViews::written))]
+pub fn write_at_index(
+    value: &mut JsonValue,
+    alloc: Global,
+    index: usize,
+    item: JsonValue,
+) -> Result<()>
+    ensures ok { OnOk result (view value.new ≡
+        array (values_of (slice_set (with_place null (items_of (view value.old)) index)
+        (place_in null (items_of (view value.old)) index) (view item)))) }
+    ensures err { OnErr result (view value.new ≡ view value.old) }
+    ensures present { OnErr result (IfSome (items_of (view value.old)) (λ items. length items ≤ index)) }
+    ensures memory { IsOkUnless result Error.OutOfMemory }
+{
+    write_at_index_in(value, alloc, index, item)
+}
+
+/// `write_present` of any tree.
+fn write_present_in<T: Tree>(tree: &mut T, key: &str, value: T::Node) -> bool
 where
     T::Node: Drop,
     ensures found { result ≡ is_some (find key.now (T.pairs tree.old)) }
@@ -26,8 +72,8 @@ where
     }
 }
 
-/// Writes the value of an object's key, as `at_mut` lends it. Refused by `OutOfMemory` alone, and then nothing has changed.
-pub fn write_at<T: Tree>(tree: &mut T, alloc: Global, key: &str, value: T::Node) -> Result<()>
+/// `write_at` of any tree.
+fn write_at_in<T: Tree>(tree: &mut T, alloc: Global, key: &str, value: T::Node) -> Result<()>
 where
     T::Node: Drop,
     ensures ok { OnOk result (tree.new ≡ T.object (put key.now value (T.pairs tree.old))) }
@@ -39,8 +85,8 @@ where
     Ok(())
 }
 
-/// Writes the item of an array at an index, as `at_index_mut` lends it. Refused by `OutOfMemory` alone, and then the value means what it meant.
-pub fn write_at_index<T: Tree>(
+/// `write_at_index` of any tree.
+fn write_at_index_in<T: Tree>(
     tree: &mut T,
     alloc: Global,
     index: usize,
