@@ -21,3 +21,5 @@ pub mod PutEach
 pub mod KnownKeys
 pub mod Runs
 pub mod Few
+pub mod Marks
+pub mod Notes

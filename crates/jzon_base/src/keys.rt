@@ -11,14 +11,14 @@ mod index;
 mod into_iter;
 mod iter;
 mod known;
+mod marks;
+pub(crate) mod notes;
 mod repeats;
 mod table;
 
 use crate::key::Key;
-pub(crate) use few::Few;
 pub use into_iter::IntoIter;
 pub use iter::Iter;
-pub(crate) use known::Known;
 use std::alloc::{AllocError, Global};
 use std::marker::Model;
 use table::Table;

@@ -5,7 +5,8 @@ ghost use Rattle.jzon_base.specs.PairList.{find, put};
 
 use super::Pairs;
 use crate::key::Key;
-use crate::keys::{self, Few, Keys, Known};
+use crate::keys::notes::{self, Notes};
+use crate::keys::{self, Keys};
 use std::alloc::{AllocError, Global};
 use std::marker::Model;
 
@@ -20,15 +21,14 @@ const FIRST_LIMIT: usize = 256;
 pub struct Builder<V> {
     keys: Vec<Key>,
     values: Vec<V>,
-    known: Known,
-    few: Few,
+    notes: Option<Box<Notes>>,
     limit: usize,
 }
 
 impl<V> Model for Builder<V> {
     ghost use Rattle.std.specs.Prelude.{List, ℕ};
     ghost use Rattle.std.specs.List.{zip};
-    ghost use Rattle.jzon_base.specs.Keys.{IsBuilt};
+    ghost use Rattle.jzon_base.specs.Notes.{IsBuilt};
     ghost use Rattle.std.specs.Coded.{coded_ℕ, coded_list, coded×};
     ghost use Rattle.jzon_base.specs.PairList.{put_each};
 
@@ -38,7 +38,7 @@ impl<V> Model for Builder<V> {
 
     ghost view = { λ b. put_each (zip b.keys.items b.values.items) };
 
-    ghost invariant = { λ b. IsBuilt b.keys.items b.values.items b.known.runs.items b.known.count b.few.slots.items };
+    ghost invariant = { λ b. IsBuilt b.keys.items b.values.items b.notes };
 }
 
 impl<V: Drop> Builder<V> {
@@ -49,8 +49,7 @@ impl<V: Drop> Builder<V> {
         Builder {
             keys: Vec::new(alloc),
             values: Vec::new(alloc),
-            known: Known::new(alloc),
-            few: Few::new(alloc),
+            notes: None,
             limit: FIRST_LIMIT,
         }
     }
@@ -61,10 +60,10 @@ impl<V: Drop> Builder<V> {
     fn merge(&mut self, alloc: Global) -> Result<(), AllocError>
         ensures { self.new ≡ self.old }
     {
-        self.few.clear();
         if keys::merge(alloc, &mut self.keys, &mut self.values)? {
-            self.known.clear();
-            self.few = Few::of(alloc, self.keys.as_slice())?;
+            self.notes = None;
+            let notes = Notes::of(alloc, self.keys.as_slice())?;
+            self.notes = Some(Box::new(alloc, notes)?);
         }
         self.limit = self.keys.len().saturating_mul(2).max(FIRST_LIMIT);
         Ok(())
@@ -79,9 +78,11 @@ impl<V: Drop> Builder<V> {
         if self.limit <= self.keys.len() {
             self.merge(alloc)?;
         }
-        if let Some(place) = self.few.find(self.keys.as_slice(), key.as_str()) {
-            self.values[place] = value;
-            return Ok(());
+        if let Some(notes) = &mut self.notes {
+            if let Some(place) = notes.find(self.keys.as_slice(), key.as_str()) {
+                self.values[place] = value;
+                return Ok(());
+            }
         }
         self.add(key, value)
     }
@@ -92,20 +93,23 @@ impl<V: Drop> Builder<V> {
         ensures ok { OnOk result (self.new ≡ put key value self.old) }
         ensures err { OnErr result (self.new ≡ self.old) }
     {
-        self.few.clear();
         self.keys.reserve(1)?;
         self.values.reserve(1)?;
+        if let Some(notes) = &mut self.notes {
+            notes.go_on();
+        }
         self.keys.push_reserved(key);
         self.values.push_reserved(value);
         Ok(())
     }
 
-    /// Whether an entry has this key. Calls before each of n entries take about n (log n)^2 comparisons in all, whatever the keys are. The error is a refused growth.
+    /// Whether an entry has this key. Calls before each of n entries take about n comparisons in all for most keys, and about n (log n)^2 whatever the keys are.
+    /// The error is a refused growth.
     pub fn has_key(&mut self, alloc: Global, key: &str) -> Result<bool, AllocError>
         ensures same { self.new ≡ self.old }
         ensures known { IfOk result (λ known. known ≡ is_some (find key.now self.old)) }
     {
-        self.known.has(alloc, self.keys.as_slice(), key)
+        notes::has_key(&mut self.notes, alloc, self.keys.as_slice(), key)
     }
 
     /// The pairs. The error is a refused growth.

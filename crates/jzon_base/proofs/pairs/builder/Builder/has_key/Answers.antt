@@ -15,4 +15,4 @@ returns-clause-known g c =
     ap (λ (xs : List (List ℕ)). list_any (λ x. bytes_eq x name) xs) c.as_slice.ensures.value
     ∙ sym (known-put_each name inside.keys.items inside.values.items c.self.invariant.even)
     ∙ ap (λ ps. is_some (find name ps)) c.self.view_is in
-    subst (λ (b : Bool). IfOk c.has.result (λ (known : Bool). known ≡ b)) same c.has.ensures.known
+    subst (λ (b : Bool). IfOk c.has_key.result (λ (known : Bool). known ≡ b)) same c.has_key.ensures.known
