@@ -15,6 +15,7 @@ pub mod Containers
 pub mod Forward
 pub mod Backward
 pub mod Scanning
+pub mod WholeWords
 pub mod Words
 pub mod PlainRuns
 pub mod ByteSteps

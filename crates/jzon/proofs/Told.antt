@@ -42,6 +42,18 @@ told_err Q t result e o q h = subst (λ r. MatchResult r Q (λ x. TellsUnlessMem
 
 -- ---- whole results
 
+-- a text that can't go on is refused
+pub stopped_leads : {T : Type 0} (t : List ℕ) (o p : Outcome) (f : T → Outcome) (result : Result T Error) → o ≡ p
+    → MatchResult result (λ v. ⊥) (λ e. Tells t e p) → MatchResult result (λ v. o ≡ f v) (λ e. Tells t e o)
+stopped_leads t o p f (Ok v) q h = absurd h
+stopped_leads t o p f (Err e) q h = subst (Tells t e) (sym q) h
+
+pub stopped_told : {T : Type 0} (t : List ℕ) (o p : Outcome) (f : T → Outcome) (result : Result T Error) → o ≡ p
+    → MatchResult result (λ v. ⊥) (λ e. Tells t e p)
+    → MatchResult result (λ v. o ≡ f v) (λ e. TellsUnlessMemory t e o)
+stopped_told t o p f (Ok v) q h = absurd h
+stopped_told t o p f (Err e) q h = told t e o p q h
+
 -- a result that says what an outcome is says what the same outcome is
 pub same_unless_memory : {T : Type 0} (o p : Outcome) (f : T → Outcome) (t : List ℕ) (result : Result T Error) → o ≡ p
     → MatchResult result (λ v. p ≡ f v) (λ e. TellsUnlessMemory t e p)

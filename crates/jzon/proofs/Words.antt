@@ -1,13 +1,13 @@
 -- The letters of a word, by the bytes of a text.
-use Rattle.std.proofs.Common.{◌≡◌, ℕ, suc, ◌+◌, ◌<◌, Bool, true, false, cond, List, [], ◌∷◌, ◌++◌, length, drop, get_or}
+use Rattle.std.proofs.Common.{◌≡◌, ℕ, suc, ◌+◌, ◌<◌, ◌≤◌, Bool, true, false, cond, List, [], ◌∷◌, ◌++◌, length, drop, get_or}
 use Rattle.std.proofs.Common.{refl, sym, ap, subst, ◌∙◌, arith, drop-cons, add-one, eq-eqb, eqb-true, None}
 use Rattle.std.specs.Prelude.{chars, IsUtf8, encode_utf8, encode_utf8_all, ◌==◌}
 use Rattle.std.specs.Str.{IsCharBoundary}
 use Rattle.std.proofs.lemmas.List.{length-drop, get_or-drop}
-use Rattle.std.proofs.lemmas.Str.{chars-nil, encodes-chars, byte_from_char, IsUtf8-drop}
+use Rattle.std.proofs.lemmas.Str.{chars-nil, encodes-chars, byte_from_char, IsUtf8-drop, IsCharBoundary-after_ascii}
 use Rattle.jzon_tree.specs.Value.{Value}
 use Rattle.jzon.specs.Reading.{Reading}
-use Rattle.jzon.specs.Machine.{Frames, word, go, bad, past_letter, outcome, outcome_on, from, stopped}
+use Rattle.jzon.specs.Machine.{Frames, word, go, bad, past_letter, behind, outcome, outcome_on, from, stopped}
 use Rattle.jzon.proofs.Scanning.{chars-ascii}
 
 -- what a text is, by its first character
@@ -68,3 +68,29 @@ letter_missing r bs i l ls fs v u at ascii none =
       ap (λ n. get_or bs n 0) (omega arith) ∙ sym (get_or-drop i bs 0 0)
           ∙ first_byte (drop i bs) c cs w e lt ∙ same,
     ))
+
+-- three letters stand there, the last of a word
+pub three_read : (r : Reading) (bs : List ℕ) (i a b c : ℕ) (fs : Frames) (v : Value) → IsUtf8 bs → IsCharBoundary bs i
+    → i + 3 ≤ length bs → get_or bs i 0 ≡ a → get_or bs (i + 1) 0 ≡ b → get_or bs (i + 2) 0 ≡ c
+    → a < 128 → b < 128 → c < 128
+    → from r bs (past_letter fs v (a ∷ b ∷ c ∷ [])) i ≡ from r bs (behind fs v) (i + 3)
+three_read r bs i a b c fs v u at le ea eb ec la lb lc =
+    let next = IsCharBoundary-after_ascii bs i u (omega arith) (omega (arith, ea, la)) in
+    let last : IsCharBoundary bs (i + 2) = subst (IsCharBoundary bs) (omega arith)
+    (IsCharBoundary-after_ascii bs (i + 1) u (omega arith) (omega (arith, eb, lb))) in
+    letter_read r bs i a (b ∷ c ∷ []) fs v u at (omega arith) ea la
+    ∙ letter_read r bs (i + 1) b (c ∷ []) fs v u next (omega arith) eb lb
+    ∙ ap (λ n. from r bs (past_letter fs v (c ∷ [])) n) (omega arith)
+    ∙ letter_read r bs (i + 2) c [] fs v u last (omega arith) ec lc
+    ∙ ap (λ n. from r bs (behind fs v) n) (omega arith)
+
+-- and four
+pub four_read : (r : Reading) (bs : List ℕ) (i a b c d : ℕ) (fs : Frames) (v : Value) → IsUtf8 bs
+    → IsCharBoundary bs i → i + 4 ≤ length bs → get_or bs i 0 ≡ a → get_or bs (i + 1) 0 ≡ b → get_or bs (i + 2) 0 ≡ c
+    → get_or bs (i + 3) 0 ≡ d → a < 128 → b < 128 → c < 128 → d < 128
+    → from r bs (past_letter fs v (a ∷ b ∷ c ∷ d ∷ [])) i ≡ from r bs (behind fs v) (i + 4)
+four_read r bs i a b c d fs v u at le ea eb ec ed la lb lc ld =
+    letter_read r bs i a (b ∷ c ∷ d ∷ []) fs v u at (omega arith) ea la
+    ∙ three_read r bs (i + 1) b c d fs v u (IsCharBoundary-after_ascii bs i u (omega arith) (omega (arith, ea, la)))
+    (omega arith) eb (ap (λ n. get_or bs n 0) (omega arith) ∙ ec) (ap (λ n. get_or bs n 0) (omega arith) ∙ ed) lb lc ld
+    ∙ ap (λ n. from r bs (behind fs v) n) (omega arith)

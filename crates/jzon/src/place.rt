@@ -17,6 +17,22 @@ pub(crate) fn has_byte(source: &str, index: usize, byte: u8) -> bool
     index < bytes.len() && bytes[index] == byte
 }
 
+/// Whether these four bytes stand at this place. They are compared at once.
+#[inline(always)]
+pub(crate) fn has_four(source: &str, index: usize, four: [u8; 4]) -> bool
+    requires { index ≤ length source.now }
+    ensures within { IsTrue result → index + 4 ≤ length source.now }
+    ensures first { IsTrue result → slice_index source.now index ≡ slice_index four 0 }
+    ensures second { IsTrue result → slice_index source.now (index + 1) ≡ slice_index four 1 }
+    ensures third { IsTrue result → slice_index source.now (index + 2) ≡ slice_index four 2 }
+    ensures fourth { IsTrue result → slice_index source.now (index + 3) ≡ slice_index four 3 }
+{
+    match &source.as_bytes()[index..] {
+        [a, b, c, d, ..] => u32::from_le_bytes([*a, *b, *c, *d]) == u32::from_le_bytes(four),
+        _ => false,
+    }
+}
+
 /// Whether a digit stands at this place.
 pub(crate) fn has_digit(source: &str, index: usize) -> bool
     ensures { IsTrue result ↔ ((index < length source.now) × IsTrue (is_ascii_digit (slice_index source.now index))) }

@@ -1,20 +1,20 @@
 //! Reads values that are no containers: numbers, texts and words. What is called for each of them is inlined, so that no value is moved from call to call.
 
-ghost use Rattle.std.specs.Prelude.{◌≡◌, ◌≢◌, ◌==◌, ◌<◌, ◌≤◌, ◌+◌, [], length, chars, IsTrue, IfOk, Err, MatchResult};
+ghost use Rattle.std.specs.Prelude.{◌≡◌, ◌≢◌, ◌⊎◌, ◌==◌, ◌<◌, ◌≤◌, ◌+◌, [], length, chars, IsTrue, IfOk, Err, MatchResult, ◌∷◌, ◌^◌, drop};
 ghost use Rattle.std.specs.Prelude.{slice_index, None, true, false, IsAscii};
 ghost use Rattle.std.specs.Char.{is_ascii_digit};
 ghost use Rattle.std.specs.Str.{IsCharBoundary};
-ghost use Rattle.jzon_tree.specs.Value.{Value};
+ghost use Rattle.jzon_tree.specs.Value.{Value, null, boolean};
 ghost use Rattle.jzon_tree.specs.View.{view};
 ghost use Rattle.jzon_tree.specs.Writing.{is_space};
 ghost use Rattle.jzon.specs.Classes.{signed};
 ghost use Rattle.jzon.specs.Machine.{numeral, numeral_begun, string, as_value, between, Frames, is_fresh, before};
-ghost use Rattle.jzon.specs.Machine.{behind, past_letter, value_mark, from, Tells, Leads, LeadsUnlessMemory};
+ghost use Rattle.jzon.specs.Machine.{behind, past_letter, value_mark, from, Tells, Leads, LeadsUnlessMemory, stopped};
 ghost use Rattle.jzon.specs.Reading.{Reading};
 ghost use Rattle.jzon.specs.Tokens.{begin_array, begin_object, end_array, quotation_mark};
 
 use crate::numeral::read_number;
-use crate::place::{fault_at, has_byte, has_digit};
+use crate::place::{fault_at, has_byte, has_digit, has_four};
 use crate::string::{read_string, text_value};
 use jzon_base::error::{Error, Result};
 use jzon_tree::value::JsonValue;
@@ -39,7 +39,7 @@ pub(crate) fn read_scalar(
         LeadsUnlessMemory r source.now (before fs) start result (λ v. behind fs (view v)) }
 {
     if start == source.len() {
-        return Err(fault_at(source, start));
+        return stopped_at(source, start);
     }
     if has_digit(source, start) {
         return read_magnitude(source, start, false);
@@ -47,11 +47,19 @@ pub(crate) fn read_scalar(
     match source.as_bytes()[start] {
         b'-' => read_negative(source, start + 1),
         b'"' => read_text(alloc, source, start + 1, buffer),
-        b'n' => read_word(source, start + 1, b"ull", JsonValue::Null),
-        b't' => read_word(source, start + 1, b"rue", JsonValue::Boolean(true)),
-        b'f' => read_word(source, start + 1, b"alse", JsonValue::Boolean(false)),
-        _ => Err(fault_at(source, start)),
+        b'n' | b't' | b'f' => read_word(source, start),
+        _ => stopped_at(source, start),
     }
+}
+
+/// The refusal of a text that can't go on from here. Inlined, so that room for an error is cleared only where one is told.
+#[inline(always)]
+fn stopped_at(source: &str, index: usize) -> Result<(JsonValue, usize)>
+    requires { IsCharBoundary source.now index }
+    ensures { MatchResult result (λ r. ⊥)
+        (λ e. Tells (chars source.now) e (stopped (chars (drop index source.now)))) }
+{
+    Err(fault_at(source, index))
 }
 
 /// The text that begins at `start`, behind its opening quote, as a value, and the place behind it.
@@ -81,7 +89,7 @@ fn read_negative(source: &str, start: usize) -> Result<(JsonValue, usize)>
         Leads r source.now (numeral fs true signed) start result (λ v. behind fs (view v)) }
 {
     if !has_digit(source, start) {
-        return Err(fault_at(source, start));
+        return stopped_at(source, start);
     }
     read_magnitude(source, start, true)
 }
@@ -100,9 +108,81 @@ fn read_magnitude(source: &str, start: usize, negative: bool) -> Result<(JsonVal
     Ok((JsonValue::Number(number), end))
 }
 
+/// The value of the word whose first letter stands at `start`, and the place behind it. Its last four letters are compared at once, and nothing branches by the
+/// word: which of the three comes next can't be foreseen.
+#[inline(always)]
+fn read_word(source: &str, start: usize) -> Result<(JsonValue, usize)>
+    requires within { start < length source.now }
+    requires word { (slice_index source.now start ≡ 110) ⊎ (slice_index source.now start ≡ 116)
+        ⊎ (slice_index source.now start ≡ 102) }
+    ensures bounds { IfOk result (λ r. (start < r.1) × IsCharBoundary source.now r.1) }
+    ensures same { (r : Reading) (fs : Frames) → value_mark r fs ≡ None →
+        Leads r source.now (before fs) start result (λ v. behind fs (view v)) }
+{
+    let first = source.as_bytes()[start];
+    let front = last_four_at(start, first);
+    let value = word_value(first);
+    if has_four(source, front, last_four(first)) {
+        return Ok((value, front + 4));
+    }
+    read_rest(source, start + 1, letters_behind(first), value)
+}
+
+/// The value of the word that begins with this letter.
+#[inline(always)]
+fn word_value(first: u8) -> JsonValue
+    ensures null { first ≡ 110 → view result ≡ null }
+    ensures yes { first ≡ 116 → view result ≡ boolean true }
+    ensures no { first ≡ 102 → view result ≡ boolean false }
+{
+    if first == b'n' {
+        JsonValue::Null
+    } else {
+        JsonValue::Boolean(first == b't')
+    }
+}
+
+/// Where the last four letters begin of the word that begins with this letter at `start`.
+#[inline(always)]
+fn last_four_at(start: usize, first: u8) -> usize
+    requires { start < 2 ^ 63 }
+    ensures short { first ≢ 102 → result ≡ start }
+    ensures long { first ≡ 102 → result ≡ start + 1 }
+{
+    start + usize::from(first == b'f')
+}
+
+/// The last four letters of the word that begins with this letter.
+#[inline(always)]
+fn last_four(first: u8) -> [u8; 4]
+    ensures null { first ≡ 110 → result ≡ 110 ∷ 117 ∷ 108 ∷ 108 ∷ [] }
+    ensures yes { first ≡ 116 → result ≡ 116 ∷ 114 ∷ 117 ∷ 101 ∷ [] }
+    ensures no { first ≡ 102 → result ≡ 97 ∷ 108 ∷ 115 ∷ 101 ∷ [] }
+{
+    match first {
+        b'n' => *b"null",
+        b't' => *b"true",
+        _ => *b"alse",
+    }
+}
+
+/// The letters behind the first of the word that begins with this letter.
+fn letters_behind(first: u8) -> &'static [u8]
+    ensures ascii { IsAscii result.now }
+    ensures null { first ≡ 110 → result.now ≡ 117 ∷ 108 ∷ 108 ∷ [] }
+    ensures yes { first ≡ 116 → result.now ≡ 114 ∷ 117 ∷ 101 ∷ [] }
+    ensures no { first ≡ 102 → result.now ≡ 97 ∷ 108 ∷ 115 ∷ 101 ∷ [] }
+{
+    match first {
+        b'n' => b"ull",
+        b't' => b"rue",
+        _ => b"alse",
+    }
+}
+
 /// The value of a word, whose letters from `start` on are these, and the place behind it.
 #[inline(always)]
-fn read_word(
+fn read_rest(
     source: &str,
     start: usize,
     letters: &[u8],
@@ -118,8 +198,9 @@ fn read_word(
     Ok((value, end))
 }
 
-/// The place behind these letters, which are the rest of a word.
-#[inline(always)]
+/// The place behind these letters, which are the rest of a word, one by one: where one is missing, its place is told.
+#[cold]
+#[inline(never)]
 fn read_letters(source: &str, start: usize, letters: &[u8]) -> Result<usize>
     requires boundary { IsCharBoundary source.now start }
     requires ascii { IsAscii letters.now }

@@ -6,6 +6,7 @@ ghost use Rattle.std.specs.Str.{IsCharBoundary};
 ghost use Rattle.jzon_tree.specs.Writing.{is_space};
 ghost use Rattle.jzon.specs.Machine.{Place, allows_whitespace, from};
 
+use crate::place::{has_byte, has_four};
 use crate::reading::Reading;
 
 /// The offset behind the whitespace that stands at `start`.
@@ -18,15 +19,33 @@ pub(crate) fn skip_whitespace(source: &str, reading: Reading, start: usize) -> u
     ensures within { start ≤ result }
     ensures stop { result < length source.now → is_space reading.strict (slice_index source.now result) ≡ false }
 {
+    let bytes = source.as_bytes();
+    if start < bytes.len() && bytes[start] > b' ' {
+        return start;
+    }
     start + whitespace_length(&source[start..], reading.strict())
 }
 
-/// How many whitespace bytes stand at the beginning.
+/// How many whitespace bytes stand at the beginning. A newline and the blanks behind it come first: they are most of the whitespace of a text with lines.
+#[inline(never)]
 fn whitespace_length(text: &str, strict: bool) -> usize
     ensures { result ≡ prefix_len (is_space strict) text.now }
 {
-    text.bytes()
-        .take_while(|byte| is_whitespace(*byte, strict))
+    let mut len = usize::from(has_byte(text, 0, b'\n'));
+    while has_four(text, len, *b"    ") {
+        len += 4;
+    }
+    len + whitespace_by_bytes(&text.as_bytes()[len..], strict)
+}
+
+/// The same of bytes, found one by one.
+#[inline(always)]
+fn whitespace_by_bytes(bytes: &[u8], strict: bool) -> usize
+    ensures { result ≡ prefix_len (is_space strict) bytes.now }
+{
+    bytes
+        .iter()
+        .take_while(|byte| is_whitespace(**byte, strict))
         .count()
 }
 

@@ -1,18 +1,19 @@
-use Rattle.std.proofs.Common.{◌≡◌, sym, subst, true, false}
+use Rattle.std.proofs.Common.{◌≡◌, true, false}
 use Rattle.std.specs.Prelude.{chars}
-use Rattle.jzon.specs.Machine.{numeral, Tells}
+use Rattle.jzon.specs.Machine.{numeral}
 use Rattle.jzon.specs.Classes.{signed}
 use Rattle.jzon.proofs.Steps.{from_stop, same_outcome}
+use Rattle.jzon.proofs.Told.{stopped_leads}
 use Rattle.jzon.proofs.NumeralSteps.{no_digit_stops, digit_goes}
 use Rattle.jzon.proofs.scalar.read_negative.Goals as goal
 
 pub returns-then-not-has_digit-clause-same : goal.returns-then-not-has_digit-clause-same
 returns-then-not-has_digit-clause-same c r fs =
-    subst (Tells (chars c.args.source.now) c.fault_at.result)
-    (sym (from_stop r c.args.source.now c.args.start (numeral fs true signed) c.utf8.source c.requires
+    stopped_leads (chars c.args.source.now) _ _ _ c.stopped_at.result
+    (from_stop r c.args.source.now c.args.start (numeral fs true signed) c.utf8.source c.requires
     (no_digit_stops r c.args.source.now c.args.start fs (λ h. let no : c.has_digit.result
-    ≡ true = c.has_digit.ensures.1 h in let yes : c.has_digit.result ≡ false = c.if-not-has_digit.true in cc))))
-    c.fault_at.ensures
+    ≡ true = c.has_digit.ensures.1 h in let yes : c.has_digit.result ≡ false = c.if-not-has_digit.true in cc)))
+    c.stopped_at.ensures
 
 pub returns-clause-same : goal.returns-clause-same
 returns-clause-same c r fs =

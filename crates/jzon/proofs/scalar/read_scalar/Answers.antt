@@ -1,15 +1,14 @@
-use Rattle.std.proofs.Common.{◌≡◌, ℕ, ◌+◌, get_or, sym, ap, ◌∙◌, arith, true, false, List, [], ◌∷◌}
+use Rattle.std.proofs.Common.{◌≡◌, ℕ, get_or, refl, sym, ap, ◌∙◌, arith, List}
 use Rattle.std.specs.Prelude.{chars}
 use Rattle.std.specs.Char.{is_ascii_digit}
 use Rattle.std.proofs.lemmas.Bool.{false_from_ne_true, iff_false}
 use Rattle.std.proofs.lemmas.Str.{IsCharBoundary-after_ascii}
-use Rattle.jzon_tree.proofs.Views.{view-Null, view-Boolean}
 use Rattle.jzon.specs.Reading.{usual}
-use Rattle.jzon.specs.Machine.{no_frames, before, past_letter, from}
-use Rattle.jzon.proofs.Beginnings.{stops_before, begin_null, begin_true, begin_false, begin_minus, begin_digit}
+use Rattle.jzon.specs.Machine.{no_frames, before}
+use Rattle.jzon.proofs.Beginnings.{stops_before, begin_minus, begin_digit}
 use Rattle.jzon.proofs.Beginnings.{begin_string}
 use Rattle.jzon.proofs.Steps.{from_stop}
-use Rattle.jzon.proofs.Told.{told, same_or_memory, same_unless_memory, never_memory}
+use Rattle.jzon.proofs.Told.{stopped_told, same_or_memory, same_unless_memory, never_memory}
 use Rattle.jzon.proofs.scalar.read_scalar.Goals as goal
 
 -- a byte of the bytes of a text is one of the text
@@ -18,10 +17,10 @@ here bs cs i x e f = ap (λ s. get_or s i 0) (sym e) ∙ f
 
 pub returns-then-start-source-clause-same : goal.returns-then-start-source-clause-same
 returns-then-start-source-clause-same c r fs shallow stop ends =
-    told (chars c.args.source.now) c.fault_at.result _ _
+    stopped_told (chars c.args.source.now) _ _ _ c.stopped_at.result
     (from_stop r c.args.source.now c.args.start (before fs) c.utf8.source c.requires.boundary
     (stops_before r c.args.source.now c.args.start fs shallow (λ lt. absurd (omega arith))))
-    c.fault_at.ensures
+    c.stopped_at.ensures
 
 pub returns-then-has_digit-clause-memory : goal.returns-then-has_digit-clause-memory
 returns-then-has_digit-clause-memory c e = absurd (never_memory _ (chars c.args.source.now) _ c.read_magnitude.result
@@ -44,21 +43,6 @@ read_text-requires c =
     let e : get_or c.args.source.now c.args.start 0 ≡ 34 = here _ _ _ 34 c.as_bytes.ensures.value c.in-34.is in
     IsCharBoundary-after_ascii c.args.source.now c.args.start c.utf8.source (omega arith) (omega (arith, e))
 
-pub read_word-requires-clause-boundary : goal.read_word-requires-clause-boundary
-read_word-requires-clause-boundary c =
-    let e : get_or c.args.source.now c.args.start 0 ≡ 110 = here _ _ _ 110 c.as_bytes.ensures.value c.in-110.is in
-    IsCharBoundary-after_ascii c.args.source.now c.args.start c.utf8.source (omega arith) (omega (arith, e))
-
-pub read_word-requires-in-116-clause-boundary : goal.read_word-requires-in-116-clause-boundary
-read_word-requires-in-116-clause-boundary c =
-    let e : get_or c.args.source.now c.args.start 0 ≡ 116 = here _ _ _ 116 c.as_bytes.ensures.value c.in-116.is in
-    IsCharBoundary-after_ascii c.args.source.now c.args.start c.utf8.source (omega arith) (omega (arith, e))
-
-pub read_word-requires-in-102-clause-boundary : goal.read_word-requires-in-102-clause-boundary
-read_word-requires-in-102-clause-boundary c =
-    let e : get_or c.args.source.now c.args.start 0 ≡ 102 = here _ _ _ 102 c.as_bytes.ensures.value c.in-102.is in
-    IsCharBoundary-after_ascii c.args.source.now c.args.start c.utf8.source (omega arith) (omega (arith, e))
-
 pub returns-in-45-clause-memory : goal.returns-in-45-clause-memory
 returns-in-45-clause-memory c e = absurd (never_memory _ (chars c.args.source.now) _ c.read_negative.result
     (c.read_negative.ensures.same usual no_frames) e)
@@ -79,47 +63,13 @@ returns-in-34-clause-same c r fs shallow stop ends =
 
 pub returns-in-110-clause-memory : goal.returns-in-110-clause-memory
 returns-in-110-clause-memory c e = absurd (never_memory _ (chars c.args.source.now) _ c.read_word.result
-    (c.read_word.ensures.same usual no_frames) e)
-
-pub returns-in-110-clause-same : goal.returns-in-110-clause-same
-returns-in-110-clause-same c r fs shallow stop ends =
-    same_or_memory _ _ _ (chars c.args.source.now) c.read_word.result
-    (begin_null r c.args.source.now c.args.start fs c.utf8.source c.requires.boundary (omega arith)
-    (here _ _ _ 110 c.as_bytes.ensures.value c.in-110.is) shallow
-    ∙ ap (λ v. from r c.args.source.now (past_letter fs v (117 ∷ 108 ∷ 108 ∷ [])) (c.args.start + 1)) (sym view-Null))
-    (c.read_word.ensures.same r fs)
-
-pub returns-in-116-clause-memory : goal.returns-in-116-clause-memory
-returns-in-116-clause-memory c e = absurd (never_memory _ (chars c.args.source.now) _ c.read_word-in-116.result
-    (c.read_word-in-116.ensures.same usual no_frames) e)
-
-pub returns-in-116-clause-same : goal.returns-in-116-clause-same
-returns-in-116-clause-same c r fs shallow stop ends =
-    same_or_memory _ _ _ (chars c.args.source.now) c.read_word-in-116.result
-    (begin_true r c.args.source.now c.args.start fs c.utf8.source c.requires.boundary (omega arith)
-    (here _ _ _ 116 c.as_bytes.ensures.value c.in-116.is) shallow
-    ∙ ap (λ v. from r c.args.source.now (past_letter fs v (114 ∷ 117 ∷ 101 ∷ [])) (c.args.start + 1))
-    (sym (view-Boolean true)))
-    (c.read_word-in-116.ensures.same r fs)
-
-pub returns-in-102-clause-memory : goal.returns-in-102-clause-memory
-returns-in-102-clause-memory c e = absurd (never_memory _ (chars c.args.source.now) _ c.read_word-in-102.result
-    (c.read_word-in-102.ensures.same usual no_frames) e)
-
-pub returns-in-102-clause-same : goal.returns-in-102-clause-same
-returns-in-102-clause-same c r fs shallow stop ends =
-    same_or_memory _ _ _ (chars c.args.source.now) c.read_word-in-102.result
-    (begin_false r c.args.source.now c.args.start fs c.utf8.source c.requires.boundary (omega arith)
-    (here _ _ _ 102 c.as_bytes.ensures.value c.in-102.is) shallow
-    ∙ ap (λ v. from r c.args.source.now (past_letter fs v (97 ∷ 108 ∷ 115 ∷ 101 ∷ [])) (c.args.start + 1))
-    (sym (view-Boolean false)))
-    (c.read_word-in-102.ensures.same r fs)
+    (c.read_word.ensures.same usual no_frames refl) e)
 
 pub returns-in_default-clause-same : goal.returns-in_default-clause-same
 returns-in_default-clause-same c r fs shallow stop ends =
     let same : get_or c.as_bytes.result.now c.args.start 0 ≡ get_or c.args.source.now c.args.start 0 =
     ap (λ s. get_or s c.args.start 0) c.as_bytes.ensures.value in
-    told (chars c.args.source.now) c.fault_at-in_default.result _ _
+    stopped_told (chars c.args.source.now) _ _ _ c.stopped_at-in_default.result
     (from_stop r c.args.source.now c.args.start (before fs) c.utf8.source c.requires.boundary
     (stops_before r c.args.source.now c.args.start fs shallow (λ lt. record {
       no_space = stop lt;
@@ -129,9 +79,9 @@ returns-in_default-clause-same c r fs shallow stop ends =
       no_quote = λ e. absurd (omega (arith, e, same));
       no_array = c.requires.no_array;
       no_object = c.requires.no_object;
-      no_null = λ e. absurd (omega (arith, e, same));
-      no_true = λ e. absurd (omega (arith, e, same));
-      no_false = λ e. absurd (omega (arith, e, same));
+      no_null = λ e. absurd (grind (arith, e, same, c.in_default));
+      no_true = λ e. absurd (grind (arith, e, same, c.in_default));
+      no_false = λ e. absurd (grind (arith, e, same, c.in_default));
       no_end = ends;
     })))
-    c.fault_at-in_default.ensures
+    c.stopped_at-in_default.ensures

@@ -1,0 +1,90 @@
+use Rattle.std.proofs.Common.{◌≡◌, inl, inr, get_or, refl, sym, ap, subst, arith}
+use Rattle.std.specs.Prelude.{chars}
+use Rattle.std.proofs.lemmas.Str.{IsCharBoundary-after_ascii}
+use Rattle.jzon.specs.Reading.{usual}
+use Rattle.jzon.specs.Machine.{no_frames}
+use Rattle.jzon.proofs.Steps.{same_outcome}
+use Rattle.jzon.proofs.WholeWords.{IsFirst, word_begins, word_ends}
+use Rattle.jzon.proofs.scalar.read_word.Goals as goal
+
+pub returns-then-has_four-clause-bounds : goal.returns-then-has_four-clause-bounds
+returns-then-has_four-clause-bounds c =
+    let first : get_or c.as_bytes.result.now c.args.start 0 ≡ get_or c.args.source.now c.args.start 0 =
+    ap (λ s. get_or s c.args.start 0) c.as_bytes.ensures.value in
+    let four = c.has_four.ensures in
+    let all = c.if-has_four.true in
+    let ends = word_ends usual c.args.source.now c.args.start (get_or c.as_bytes.result.now c.args.start 0)
+    c.last_four_at-front.result no_frames _ c.last_four.result c.utf8.source c.requires.within (sym first) refl
+    (subst IsFirst (sym first) c.requires.word)
+    (record {
+      null = c.word_value-value.ensures.null;
+      yes = c.word_value-value.ensures.yes;
+      no = c.word_value-value.ensures.no;
+    })
+    (record { null = c.last_four.ensures.null; yes = c.last_four.ensures.yes; no = c.last_four.ensures.no })
+    c.last_four_at-front.ensures.short c.last_four_at-front.ensures.long
+    (record {
+      within = four.within all;
+      first = four.first all;
+      second = four.second all;
+      third = four.third all;
+      fourth = four.fourth all;
+    }) in
+    (ends.past, ends.boundary)
+
+pub returns-then-has_four-clause-same : goal.returns-then-has_four-clause-same
+returns-then-has_four-clause-same c r fs m =
+    let first : get_or c.as_bytes.result.now c.args.start 0 ≡ get_or c.args.source.now c.args.start 0 =
+    ap (λ s. get_or s c.args.start 0) c.as_bytes.ensures.value in
+    let four = c.has_four.ensures in
+    let all = c.if-has_four.true in
+    let ends = word_ends r c.args.source.now c.args.start (get_or c.as_bytes.result.now c.args.start 0)
+    c.last_four_at-front.result fs _ c.last_four.result c.utf8.source c.requires.within (sym first) m
+    (subst IsFirst (sym first) c.requires.word)
+    (record {
+      null = c.word_value-value.ensures.null;
+      yes = c.word_value-value.ensures.yes;
+      no = c.word_value-value.ensures.no;
+    })
+    (record { null = c.last_four.ensures.null; yes = c.last_four.ensures.yes; no = c.last_four.ensures.no })
+    c.last_four_at-front.ensures.short c.last_four_at-front.ensures.long
+    (record {
+      within = four.within all;
+      first = four.first all;
+      second = four.second all;
+      third = four.third all;
+      fourth = four.fourth all;
+    }) in
+    ends.same
+
+pub read_rest-requires-clause-boundary : goal.read_rest-requires-clause-boundary
+read_rest-requires-clause-boundary c =
+    IsCharBoundary-after_ascii c.args.source.now c.args.start c.utf8.source c.requires.within
+    (elim c.requires.word [
+      | inl e ↦ omega (arith, e)
+      | inr w ↦ elim w [
+        | inl e ↦ omega (arith, e)
+        | inr e ↦ omega
+            (arith, e)
+      ]
+    ])
+
+pub returns-clause-same : goal.returns-clause-same
+returns-clause-same c r fs m =
+    let first : get_or c.as_bytes.result.now c.args.start 0 ≡ get_or c.args.source.now c.args.start 0 =
+    ap (λ s. get_or s c.args.start 0) c.as_bytes.ensures.value in
+    same_outcome _ _ _ (chars c.args.source.now) c.read_rest.result
+    (word_begins r c.args.source.now c.args.start (get_or c.as_bytes.result.now c.args.start 0) fs _
+    c.letters_behind.result.now c.utf8.source c.requires.within (sym first) m
+    (subst IsFirst (sym first) c.requires.word)
+    (record {
+      null = c.word_value-value.ensures.null;
+      yes = c.word_value-value.ensures.yes;
+      no = c.word_value-value.ensures.no;
+    })
+    (record {
+      null = c.letters_behind.ensures.null;
+      yes = c.letters_behind.ensures.yes;
+      no = c.letters_behind.ensures.no;
+    }))
+    (c.read_rest.ensures.same r fs)
