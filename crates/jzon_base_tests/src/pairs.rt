@@ -320,6 +320,49 @@ fn lowers_places_of_one_hash(rt: HostRuntime) -> Result<(), AllocError> {
     Ok(())
 }
 
+/// Keys of one hash in the order d, b, a, c, and behind them so many others that there is an index.
+const LETTERS: [usize; 9] = [3, 1, 0, 2, 10, 11, 12, 13, 14];
+
+#[test]
+fn finds_letters_of_one_hash(rt: HostRuntime) -> Result<(), AllocError> {
+    let mut pairs = Pairs::new(rt.alloc());
+    for number in LETTERS {
+        let name = name_of(rt.alloc(), number)?;
+        pairs.insert(rt.alloc(), name.as_str(), number)?;
+    }
+    for (place, number) in LETTERS.iter().enumerate() {
+        assert_eq!(rt; place_of(rt.alloc(), &pairs, *number)?, Some(place));
+    }
+    assert_eq!(rt; place_of(rt.alloc(), &pairs, 4)?, None);
+    let letter = name_of(rt.alloc(), 1)?;
+    assert_eq!(rt; pairs.remove(letter.as_str()), Some(1));
+    for (number, want) in [
+        (3, Some(0usize)),
+        (0, Some(1)),
+        (2, Some(2)),
+        (1, None),
+        (4, None),
+    ] {
+        assert_eq!(rt; place_of(rt.alloc(), &pairs, number)?, want, "of {number}");
+    }
+    Ok(())
+}
+
+#[test]
+fn knows_the_keys_of_one_hash(rt: HostRuntime) -> Result<(), AllocError> {
+    let mut built = Builder::new(rt.alloc());
+    for number in 0..300 {
+        let name = name_of(rt.alloc(), number)?;
+        assert!(rt; !built.has_key(rt.alloc(), name.as_str())?, "of {number}");
+        built.push(rt.alloc(), Key::new(rt.alloc(), name.as_str())?, number)?;
+        assert!(rt; built.has_key(rt.alloc(), name.as_str())?, "of {number}");
+    }
+    let last = name_of(rt.alloc(), 300)?;
+    assert!(rt; !built.has_key(rt.alloc(), last.as_str())?);
+    assert_eq!(rt; built.finish(rt.alloc())?.len(), 300);
+    Ok(())
+}
+
 #[test]
 fn knows_the_keys_so_far(rt: HostRuntime) -> Result<(), AllocError> {
     let mut built = Builder::new(rt.alloc());
