@@ -83,3 +83,4 @@ pub use Rattle.jzon_tree.proofs.KeptByChanges
 pub use Rattle.jzon_tree.proofs.KeptByConversions
 pub use Rattle.jzon_tree.proofs.PlainWritings
 pub use Rattle.jzon_tree.proofs.Sorted
+pub use Rattle.jzon_tree.proofs.KeyOrder

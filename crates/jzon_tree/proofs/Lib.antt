@@ -18,6 +18,7 @@ pub mod SentBlanks
 pub mod SentStrings
 pub mod Shown
 pub mod Sorted
+pub mod KeyOrder
 pub mod Unique
 pub mod Views
 pub mod Means

@@ -1,6 +1,6 @@
 use Rattle.jzon.specs.Entries.{entries_of}
 use Rattle.jzon.specs.PairList.{keys_of}
-use Rattle.jzon_examples.proofs.KeyOrder.{key_taken, keys_taken}
+use Rattle.jzon.proofs.KeyOrder.{key_taken, keys_taken}
 use Rattle.jzon_examples.proofs.canonical.keys_in_order.Goals as goal
 
 pub loop-key-preserved : goal.loop-key-preserved

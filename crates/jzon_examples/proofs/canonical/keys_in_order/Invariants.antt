@@ -1,7 +1,7 @@
 use Rattle.std.proofs.Common.{◌≡◌, ◌++◌}
 use Rattle.jzon.specs.Entries.{entries_of}
 use Rattle.jzon.specs.PairList.{keys_of}
-use Rattle.jzon_examples.proofs.KeyOrder.{texts_of}
+use Rattle.jzon.proofs.KeyOrder.{texts_of}
 use Rattle.jzon_examples.proofs.canonical.keys_in_order.Given as goal
 
 -- the keys so far, and those that are left

@@ -1,4 +1,4 @@
--- Positions that were sorted by the keys at them.
+-- Positions that were sorted by the keys at them, for generators that sort.
 use Rattle.std.proofs.Common.{Ordering, ◌≡◌, ℕ, zero, suc, ◌+◌, ◌<◌, false, IsTrue, List, [], ◌∷◌, ◌++◌, append-nil}
 use Rattle.std.proofs.Common.{length, get_or, map, Bor, Some, refl, sym, ap, ◌∙◌, subst, arith}
 use Rattle.std.proofs.lemmas.List.{length-map}
@@ -8,10 +8,10 @@ use Rattle.std.specs.Cmp.Lexicographic.{slice_cmp}
 use Rattle.std.specs.List.Sorted.{IsSortedByKey}
 use Rattle.std.specs.Option.{option_cmp}
 use Rattle.std.specs.Ordering.{nat_cmp, is_lt}
-use Rattle.jzon.specs.PairList.{keys_of}
-use Rattle.jzon.specs.SortedStyle.{is_before, ascend}
-use Rattle.jzon.specs.Writing.{IsOrder, text_at}
-use Rattle.jzon.proofs.Sorted.{ascend_in_order}
+use Rattle.jzon_base.specs.PairList.{keys_of}
+use Rattle.jzon_tree.specs.SortedStyle.{is_before, ascend}
+use Rattle.jzon_tree.specs.Writing.{IsOrder, text_at}
+use Rattle.jzon_tree.proofs.Sorted.{ascend_in_order}
 
 -- the texts behind references
 abbrev pub texts_of : List (Bor (List ℕ)) → List (List ℕ)
