@@ -1,10 +1,12 @@
 //! What is read, copied and changed.
 
 use super::*;
+use jzon::{Reading, parse_as};
 
 #[derive(Clone, Copy)]
 enum Changed {
     Parse(&'static str),
+    ParseStrictly(&'static str),
     Clone,
     Push,
     PushLongText,
@@ -22,6 +24,13 @@ fn passed_over(answer: Result<()>) -> Result<()> {
         Err(Error::WrongType(_)) => Ok(()),
         Err(error) => Err(error),
         Ok(()) => Err(Error::UnexpectedEndOfJson),
+    }
+}
+
+fn parse_strictly(alloc: Global, text: &str) -> Result<JsonValue> {
+    match Reading::new(true, 512) {
+        Some(reading) => parse_as(alloc, text, &reading),
+        None => Ok(JsonValue::Null),
     }
 }
 
@@ -47,6 +56,7 @@ impl Call for Changed {
     fn call(self, value: &mut JsonValue, alloc: Global) -> Result<()> {
         match self {
             Changed::Parse(text) => *value = parse(alloc, text)?,
+            Changed::ParseStrictly(text) => *value = parse_strictly(alloc, text)?,
             Changed::Clone => *value = value.clone(alloc)?,
             Changed::Push => value.push(alloc, true)?,
             Changed::PushLongText => value.push(alloc, LONG_TEXT)?,
@@ -65,6 +75,10 @@ impl Call for Changed {
 const ESCAPED: &str = "\"\\u00e9 and a text of more than thirty bytes\\n\\uD834\\uDD1E\"";
 
 const UNESCAPED: &str = "\"é and a text of more than thirty bytes\\n\u{1d11e}\"";
+
+/// More keys than are compared one by one.
+const TEN_KEYS: &str =
+    "{\"a\":0,\"b\":1,\"c\":2,\"d\":3,\"e\":4,\"f\":5,\"g\":6,\"h\":7,\"i\":8,\"j\":9}";
 
 const KEYED: &str = "{\"0123456789abcdef0123456789abcdef01234567\":null}";
 
@@ -85,6 +99,20 @@ fn changed_under_refusals(rt: HostRuntime) -> Tested {
             "null",
             LONG_DOCUMENT,
             9,
+        ),
+        case(
+            Changed::ParseStrictly(DOCUMENT),
+            "strict parse_as",
+            "null",
+            PRINTED,
+            6,
+        ),
+        case(
+            Changed::ParseStrictly(TEN_KEYS),
+            "strict parse_as of ten keys",
+            "null",
+            TEN_KEYS,
+            6,
         ),
         case(Changed::Clone, "clone", DOCUMENT, PRINTED, 3),
         case(
