@@ -1,2 +1,4 @@
+pub mod Added
 pub mod Blanks
+pub mod Held
 pub mod RefusedInputs

@@ -2,64 +2,50 @@
 use Rattle.std.proofs.Common.{inl, inr, ◌≡◌, ℕ, List, Option, None, Some, Result, Ok, Err, refl, sym, subst}
 use Rattle.std.specs.Prelude.{IsUtf8, chars}
 use Rattle.std.specs.Result.{IsErrAnd}
-use Rattle.std.specs.Io.KnownBytes.{Consumes, IsAtEnd, Keeps}
-use Rattle.std.specs.declared.string.String.{String}
+use Rattle.std.specs.Io.KnownBytes.{Consumes, IsAtEnd}
+use Rattle.std.proofs.KnownBytes.{Keeps-refl}
 use Rattle.jzon.specs.Error.{Error}
 use Rattle.jzon.specs.Error.TheVariants.{UnexpectedCharacter, UnexpectedEndOfJson, ExceededDepthLimit}
 use Rattle.jzon.specs.Error.TheVariants.{FailedUtf8Parsing, WrongType, OutOfMemory, DuplicateKey}
 use Rattle.jzon.specs.Reading.{Reading}
 use Rattle.jzon.specs.Answer.{IsErrorUnlessMemory}
-use Rattle.jzonfmt.specs.Run.{fault_of, Reads, Prints, Answers}
+use Rattle.jzonfmt.specs.Run.{fault_of, Reads, Answers}
 use Rattle.jzonfmt.specs.declared.engine.Layout.{Layout}
 use Rattle.jzonfmt.specs.declared.engine.RunFault.{RunFault}
 use Rattle.jzonfmt.specs.declared.engine.RunFault.TheVariants.{Read, NotUtf8, Json, Write, Memory}
 
-prints_fault : (A : Type 0) (reading : Reading) (layout : Layout) (input : List ℕ) (e : Error) → IsUtf8 input
-    → IsErrorUnlessMemory reading (chars input) e
-    → Prints {A = A} reading layout input (Err (fault_of e))
-prints_fault A reading layout input OutOfMemory u h = tt
-prints_fault A reading layout input (UnexpectedCharacter c l k) u (inl e) = absurd (cc)
-prints_fault A reading layout input (UnexpectedCharacter c l k) u (inr h) = (u, h)
-prints_fault A reading layout input UnexpectedEndOfJson u (inl e) = absurd (cc)
-prints_fault A reading layout input UnexpectedEndOfJson u (inr h) = (u, h)
-prints_fault A reading layout input ExceededDepthLimit u (inl e) = absurd (cc)
-prints_fault A reading layout input ExceededDepthLimit u (inr h) = (u, h)
-prints_fault A reading layout input FailedUtf8Parsing u (inl e) = absurd (cc)
-prints_fault A reading layout input FailedUtf8Parsing u (inr h) = (u, h)
-prints_fault A reading layout input (WrongType s) u (inl e) = absurd (cc)
-prints_fault A reading layout input (WrongType s) u (inr h) = (u, h)
-prints_fault A reading layout input (DuplicateKey l k) u (inl e) = absurd (cc)
-prints_fault A reading layout input (DuplicateKey l k) u (inr h) = (u, h)
+answers_fault : (T : Type 0) (reading : Reading) (layout : Layout) (input : List ℕ) (e : Error) (w : Option (List ℕ))
+    → IsUtf8 input → IsErrorUnlessMemory reading (chars input) e
+    → Answers {T = T} reading layout input (Err (fault_of e)) w w
+answers_fault T reading layout input OutOfMemory w u h = Keeps-refl w
+answers_fault T reading layout input (UnexpectedCharacter c l k) w u (inl e) = absurd (cc)
+answers_fault T reading layout input (UnexpectedCharacter c l k) w u (inr h) = ((u, h), Keeps-refl w)
+answers_fault T reading layout input UnexpectedEndOfJson w u (inl e) = absurd (cc)
+answers_fault T reading layout input UnexpectedEndOfJson w u (inr h) = ((u, h), Keeps-refl w)
+answers_fault T reading layout input ExceededDepthLimit w u (inl e) = absurd (cc)
+answers_fault T reading layout input ExceededDepthLimit w u (inr h) = ((u, h), Keeps-refl w)
+answers_fault T reading layout input FailedUtf8Parsing w u (inl e) = absurd (cc)
+answers_fault T reading layout input FailedUtf8Parsing w u (inr h) = ((u, h), Keeps-refl w)
+answers_fault T reading layout input (WrongType s) w u (inl e) = absurd (cc)
+answers_fault T reading layout input (WrongType s) w u (inr h) = ((u, h), Keeps-refl w)
+answers_fault T reading layout input (DuplicateKey l k) w u (inl e) = absurd (cc)
+answers_fault T reading layout input (DuplicateKey l k) w u (inr h) = ((u, h), Keeps-refl w)
 
 -- the error of the text, told as a fault
-pub prints_refusal : {A : Type 0} (reading : Reading) (layout : Layout) (input : List ℕ) (e : Error)
-    (result : Result (String A) RunFault) → IsUtf8 input
+pub answers_refusal : {T : Type 0} (reading : Reading) (layout : Layout) (input : List ℕ) (e : Error)
+    (result : Result T RunFault) (w : Option (List ℕ)) → IsUtf8 input
     → IsErrorUnlessMemory reading (chars input) e → IsErrAnd result (λ f. f ≡ fault_of e)
-    → Prints reading layout input result
-prints_refusal reading layout input e (Ok text) u h r = absurd r
-prints_refusal {A = A} reading layout input e (Err f) u h r = subst (λ g. Prints {A = A} reading layout input (Err g))
-    (sym r) (prints_fault A reading layout input e u h)
+    → Answers reading layout input result w w
+answers_refusal reading layout input e (Ok v) w u h r = absurd r
+answers_refusal {T = T} reading layout input e (Err f) w u h r = subst
+    (λ g. Answers {T = T} reading layout input (Err g) w w) (sym r) (answers_fault T reading layout input e w u h)
 
-pub Keeps-refl : (w : Option (List ℕ)) → Keeps w w
-Keeps-refl None = tt
-Keeps-refl (Some bs) = refl
-
-refuses_fault : (T A : Type 0) (reading : Reading) (layout : Layout) (input : List ℕ) (f : RunFault)
-    (r s w : Option (List ℕ)) → Consumes r s input × IsAtEnd s
-    → Prints {A = A} reading layout input (Err f) → Reads {T = T} (Err f) r s input
-    × Answers {T = T} reading layout input (Err f) w w
-refuses_fault T A reading layout input NotUtf8 r s w read h = (read, (h, Keeps-refl w))
-refuses_fault T A reading layout input (Json e) r s w read h = (read, (h, Keeps-refl w))
-refuses_fault T A reading layout input Memory r s w read h = (read.0, Keeps-refl w)
-refuses_fault T A reading layout input (Read e) r s w read h = absurd h
-refuses_fault T A reading layout input (Write e) r s w read h = absurd h
-
--- a run whose input is read and refused
-pub refuses : {T : Type 0} (A : Type 0) (reading : Reading) (layout : Layout) (input : List ℕ) (f : RunFault)
-    (result : Result T RunFault) (r s w : Option (List ℕ)) → Consumes r s input × IsAtEnd s
-    → Prints {A = A} reading layout input (Err f) → IsErrAnd result (λ g. g ≡ f) → Reads result r s input
-    × Answers reading layout input result w w
-refuses A reading layout input f (Ok v) r s w read h told = absurd told
-refuses {T = T} A reading layout input f (Err g) r s w read h told =
-    subst (λ x. Reads {T = T} (Err x) r s input × Answers {T = T} reading layout input (Err x) w w) (sym told)
-    (refuses_fault T A reading layout input f r s w read h)
+-- an input that was read to its end is all that was read, whatever is answered
+pub reads_all : {T : Type 0} (r : Result T RunFault) (old new : Option (List ℕ)) (input : List ℕ)
+    → Consumes old new input × IsAtEnd new → Reads r old new input
+reads_all (Ok v) old new input h = h
+reads_all (Err (Read e)) old new input h = h.0
+reads_all (Err NotUtf8) old new input h = h
+reads_all (Err (Json e)) old new input h = h
+reads_all (Err (Write e)) old new input h = h
+reads_all (Err Memory) old new input h = h.0

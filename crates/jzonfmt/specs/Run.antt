@@ -1,11 +1,11 @@
 -- What a run does (docs/RULES.md, "The program").
-use Rattle.std.specs.Prelude.{◌≡◌, ℕ, List, [], ◌∷◌, ◌++◌, Result, Ok, Err, Option, IsUtf8, chars, string_bytes, ⊤}
-use Rattle.std.specs.declared.string.String.{String}
+use Rattle.std.specs.Prelude.{ℕ, List, [], ◌∷◌, ◌++◌, Result, Ok, Err, Option, IsUtf8, chars, ⊤}
 use Rattle.std.specs.Io.KnownBytes.{Appends, Keeps, Consumes, IsAtEnd}
 use Rattle.jzon.specs.Error.{Error}
 use Rattle.jzon.specs.Error.TheVariants.{OutOfMemory}
 use Rattle.jzon.specs.Written.{AppendsBeginning}
 use Rattle.jzon.specs.Text.{compact, pretty}
+use Rattle.jzon.specs.Value.{Value}
 use Rattle.jzon.specs.Reading.{Reading}
 use Rattle.jzon.specs.Grammar.{Document}
 use Rattle.jzon.specs.Meaning.{meaning}
@@ -40,19 +40,18 @@ IsReadFault _ = ⊥
 abbrev pub IsTextOf : Reading → List ℕ → Document → Type 0
 IsTextOf reading input d = IsUtf8 input × Parses reading (chars input) d
 
--- the text of its meaning in the layout, and a newline
-abbrev pub printed : Layout → Document → List ℕ
-printed Compact d = compact (meaning d.node) ++ 10 ∷ []
-printed (Pretty spaces) d = pretty (meaning d.node) spaces 0 ++ 10 ∷ []
+-- the text of a value in the layout
+abbrev pub text : Layout → Value → List ℕ
+text Compact v = compact v
+text (Pretty spaces) v = pretty v spaces 0
 
--- what is printed for the bytes, or why nothing is
-abbrev pub Prints : {A : Type 0} → Reading → Layout → List ℕ → Result (String A) RunFault → Type 0
-Prints reading layout input (Ok text) = (d : Document) × IsTextOf reading input d
-    × (string_bytes text ≡ printed layout d)
-Prints reading layout input (Err NotUtf8) = ¬ (IsUtf8 input)
-Prints reading layout input (Err (Json e)) = IsUtf8 input × IsErrorOf reading (chars input) e
-Prints reading layout input (Err Memory) = ⊤
-Prints reading layout input (Err _) = ⊥
+-- the same and a newline
+abbrev pub line : Layout → Value → List ℕ
+line layout v = text layout v ++ 10 ∷ []
+
+-- that of its meaning
+abbrev pub printed : Layout → Document → List ℕ
+printed layout d = line layout (meaning d.node)
 
 -- ---- what is answered
 

@@ -1,12 +1,16 @@
 //! What the program does, over any reader and any writers.
 
-ghost use Rattle.std.specs.Prelude.{◌≡◌, ℕ, List, IfOk, IfErr, map, option_map, string_bytes, vec_len};
-ghost use Rattle.std.specs.Io.KnownBytes.{Consumes, Keeps};
-ghost use Rattle.jzonfmt.specs.Run.{IsReadFault, Prints, Reads, Runs};
+ghost use Rattle.std.specs.Prelude.{◌≡◌, ℕ, List, [], IfOk, IfErr, OnOk, OnErr, map, option_map, string_bytes, vec_len};
+ghost use Rattle.std.specs.Io.KnownBytes.{Appends, Consumes, Keeps};
+ghost use Rattle.jzon.specs.View.{view};
+ghost use Rattle.jzon.specs.Written.{AppendsBeginning};
+ghost use Rattle.jzonfmt.specs.Buffered.{held, left};
+ghost use Rattle.jzonfmt.specs.Run.{Answers, IsReadFault, Reads, Runs, line, text};
 ghost use Rattle.jzonfmt.specs.Drive.{Drives, asking, asked_behind, asked_layout, asked_options, asked_spaces};
 ghost use Rattle.jzonfmt.specs.Drive.{fault_status};
 
-use jzon::{Error, Reading, util};
+use crate::buffered::Buffered;
+use jzon::{Error, JsonValue, Reading, util};
 use std::alloc::{AllocError, Global};
 use std::io::{Read, Write};
 use std::{fmt, io, mem};
@@ -100,6 +104,9 @@ impl From<Error> for RunFault {
 /// How many bytes are asked of the reader at once.
 const CHUNK: usize = 65536;
 
+/// How many bytes of the printed text are held before they are written.
+const HELD: usize = 65536;
+
 /// Reads one document by the reading, and writes it in the layout and a newline. The reader is read to its end before anything is written, and each fault of it ends the
 /// run.
 pub fn run<R: Read, W: Write>(
@@ -114,11 +121,7 @@ pub fn run<R: Read, W: Write>(
         (record { unread = R.remaining reader.new; written = W.contents writer.new }) }
 {
     let input = read_input(alloc, reader)?;
-    let text = printed_text(alloc, input.as_slice(), reading, layout)?;
-    match util::write_bytes(writer, text.as_bytes()) {
-        Ok(()) => Ok(()),
-        Err(error) => Err(RunFault::Write(error)),
-    }
+    print_input(alloc, input.as_slice(), writer, reading, layout)
 }
 
 // Reads to the end, in chunks.
@@ -146,29 +149,77 @@ fn zeros(alloc: Global, count: usize) -> Result<Vec<u8>, AllocError>
     vec![in alloc; 0u8; count]
 }
 
-// The text that is printed for the input.
-fn printed_text(
+// Prints the document that the input is. All memory is asked for before the first byte is written.
+fn print_input<W: Write>(
     alloc: Global,
     input: &[u8],
+    writer: &mut W,
     reading: &Reading,
     layout: Layout,
-) -> Result<String, RunFault>
-    ensures { Prints reading.now layout input.now result }
+) -> Result<(), RunFault>
+    ensures { Answers reading.now layout input.now result (W.contents writer.old) (W.contents writer.new) }
 {
     let Ok(source) = str::from_utf8(input) else {
         return Err(RunFault::NotUtf8);
     };
     let value = jzon::parse_as(alloc, source, reading)?;
-    // No reading goes deeper than 512, so what was read can be printed.
-    let _depth = reading.depth();
-    let mut text = match layout {
-        Layout::Compact => value.dump(alloc)?,
-        Layout::Pretty(spaces) => value.pretty(alloc, spaces)?,
-    };
-    text.push('\n')?;
+    let memory = Vec::with_capacity(alloc, HELD)?;
+    let answer = write_line(writer, memory, &value, layout);
     // The program ends once the text is written, so the value is not taken apart first.
     mem::forget(value);
-    Ok(text)
+    answer.map_err(RunFault::Write)
+}
+
+// Writes the text of the value in the layout and a newline, by way of the memory. After a fault a beginning of them is written.
+fn write_line<W: Write>(
+    writer: &mut W,
+    memory: Vec<u8>,
+    value: &JsonValue,
+    layout: Layout,
+) -> io::Result<()>
+    requires { memory.items ≡ [] }
+    ensures ok { OnOk result
+        (Appends (W.contents writer.old) (W.contents writer.new) (line layout (view value.now))) }
+    ensures err { OnErr result
+        (AppendsBeginning (W.contents writer.old) (W.contents writer.new) (line layout (view value.now))) }
+{
+    let mut buffered = Buffered::new(writer, memory);
+    let answer = write_held(&mut buffered, value, layout);
+    let inner = buffered.into_writer();
+    // No effect when it runs. The proof reads what the writer holds from this use of it.
+    let _ = &*inner;
+    answer
+}
+
+// Writes them behind what is held, and hands all on.
+fn write_held<W: Write>(
+    buffered: &mut Buffered<'_, W>,
+    value: &JsonValue,
+    layout: Layout,
+) -> io::Result<()>
+    ensures ok { OnOk result
+        (Appends (held W.contents buffered.old) (held W.contents buffered.new) (line layout (view value.now))) }
+    ensures err { OnErr result
+        (AppendsBeginning (held W.contents buffered.old) (held W.contents buffered.new)
+        (line layout (view value.now))) }
+    ensures all { OnOk result (left buffered.new ≡ []) }
+{
+    write_text(buffered, value, layout)?;
+    util::write_bytes(buffered, b"\n")?;
+    buffered.hand_on()
+}
+
+// Writes the text of the value in the layout.
+fn write_text<W: Write>(writer: &mut W, value: &JsonValue, layout: Layout) -> io::Result<()>
+    ensures ok { OnOk result
+        (Appends (W.contents writer.old) (W.contents writer.new) (text layout (view value.now))) }
+    ensures err { OnErr result
+        (AppendsBeginning (W.contents writer.old) (W.contents writer.new) (text layout (view value.now))) }
+{
+    match layout {
+        Layout::Compact => value.write(writer),
+        Layout::Pretty(spaces) => value.write_pretty(writer, spaces),
+    }
 }
 
 /// The program, but for where its words and streams come from: judges the words that follow its name, runs, flushes the writer, tells of a fault in one

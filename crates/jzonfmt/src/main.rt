@@ -1,6 +1,7 @@
 //! Reads one JSON document from standard input, and prints it on standard output.
 #![tactic(auto)]
 
+mod buffered;
 mod engine;
 #[cfg(test)]
 mod refusals;

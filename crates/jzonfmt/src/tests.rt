@@ -571,6 +571,37 @@ fn a_writer_fails_at_each_call(rt: HostRuntime) -> Result<(), Fail> {
     Ok(())
 }
 
+// Texts that are longer than what is held of them, and a writer that fails behind that.
+#[test]
+fn long_texts(rt: HostRuntime) -> Result<(), Fail> {
+    let alloc = rt.alloc();
+    // With 8191 items the newline is the byte 65536.
+    for items in [8190, 8191, 8192, 20000] {
+        let text = joined(alloc, &[("[", 1), ("1234567,", items), ("76543]", 1)])?;
+        let mut reader = text.as_bytes();
+        let mut writer: Vec<u8> = Vec::new(alloc);
+        assert!(rt;
+            engine::run(alloc, &mut reader, &mut writer, &usual(), Layout::Compact).is_ok(),
+            "{items} items"
+        );
+        assert_eq!(rt;
+            str::from_utf8(&writer)?.strip_suffix('\n'),
+            Some(text.as_str())
+        );
+        let whole = text.len() + 1;
+        for call in [1, 65536.min(whole), 65537.min(whole), whole] {
+            let mut reader = text.as_bytes();
+            let mut slow = SlowWriter::new(alloc, call, Trouble::TakesNothing);
+            let result = engine::run(alloc, &mut reader, &mut slow, &usual(), Layout::Compact);
+            assert!(rt; matches!(result, Err(RunFault::Write(_))), "call {call}");
+            assert!(rt; writer.starts_with(&slow.bytes));
+            assert_eq!(rt; slow.bytes.len() + 1, call);
+            assert_eq!(rt; slow.calls, call);
+        }
+    }
+    Ok(())
+}
+
 #[test]
 fn drive_tells_of_a_reader_that_fails(rt: HostRuntime) -> Result<(), Fail> {
     let alloc = rt.alloc();

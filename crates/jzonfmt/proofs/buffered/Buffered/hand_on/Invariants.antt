@@ -1,0 +1,11 @@
+use Rattle.std.proofs.Common.{◌-◌, length}
+use Rattle.std.specs.Io.KnownBytes.{Keeps}
+use Rattle.jzonfmt.specs.Buffered.{held}
+use Rattle.jzonfmt.proofs.buffered.Buffered.hand_on.Given as goal
+
+-- what is held stays
+abbrev pub invariant-loop-self : goal.invariant-loop-self
+invariant-loop-self g l = Keeps (held g.W.Write.contents l.initial.self) (held g.W.Write.contents l.self)
+
+abbrev pub decreases-loop-self : goal.decreases-loop-self
+decreases-loop-self g l = length l.self.bytes.items - l.self.taken
