@@ -1,6 +1,6 @@
 -- Runs of ASCII bytes of a text, and what they do to what is left of it.
 use Rattle.std.proofs.Common.{◌≡◌, ℕ, suc, ◌+◌, ◌<◌, ◌≤◌, Bool, true, false, cond, List, [], ◌∷◌, ◌++◌, length, drop}
-use Rattle.std.proofs.Common.{get_or, refl, sym, ap, subst, ◌∙◌, arith, None}
+use Rattle.std.proofs.Common.{add-one, drop-cons, get_or, refl, sym, ap, subst, ◌∙◌, arith, None}
 use Rattle.std.specs.Prelude.{chars, IsUtf8}
 use Rattle.std.specs.Str.{IsCharBoundary}
 use Rattle.std.specs.List.{prefix_len}
@@ -106,3 +106,24 @@ stops_run test bs i n e lt =
     let k : prefix_len test (drop i bs) < length (drop i bs) = omega (arith, e, length-drop i bs) in
     subst (λ c. test c ≡ false) (ap (λ m. get_or (drop i bs) m 0) (sym e) ∙ get_or-drop i bs n 0)
     (prefix_len_stops test (drop i bs) 0 k)
+
+-- ---- a blank alone
+
+above_is_no_space : (s : Bool) (c : ℕ) → 32 < c → is_space s c ≡ false
+above_is_no_space true c lt = grind (arith, nat_tests)
+above_is_no_space false c lt = grind (arith, nat_tests)
+
+blank_is_space : (s : Bool) → is_space s 32 ≡ true
+blank_is_space true = refl
+blank_is_space false = refl
+
+pub blank_alone : (s : Bool) (bs : List ℕ) (i : ℕ) → i + 1 < length bs → get_or bs i 0 ≡ 32 → 32 < get_or bs (i + 1) 0
+    → 1 ≡ prefix_len (is_space s) (drop i bs)
+blank_alone s bs i lt blank above =
+    let passes : prefix_len (is_space s) (drop i bs) ≡ 1 + prefix_len (is_space s) (drop (suc i) bs) =
+    ap (prefix_len (is_space s)) (drop-cons bs i 0 (omega arith))
+    ∙ ap (λ t. cond t (1 + prefix_len (is_space s) (drop (suc i) bs)) 0) (ap (is_space s) blank ∙ blank_is_space s) in
+    let next : prefix_len (is_space s) (drop (suc i) bs) ≡ prefix_len (is_space s) (drop (i + 1) bs) =
+    ap (λ n. prefix_len (is_space s) (drop n bs)) (sym (add-one i)) in
+    let none = empty_run (is_space s) bs (i + 1) (omega arith) (above_is_no_space s (get_or bs (i + 1) 0) above) in
+    omega (arith, passes, next, none)

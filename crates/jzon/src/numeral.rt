@@ -23,7 +23,7 @@ use jzon_base::error::{Error, Result};
 use jzon_base::number::Number;
 
 /// The number whose first digit stands at `start`, and the place behind it.
-#[inline(never)]
+#[inline(always)]
 pub(crate) fn read_number(source: &str, start: usize, negative: bool) -> Result<(Number, usize)>
     requires within { start < length source.now }
     requires digit { IsTrue (is_ascii_digit (slice_index source.now start)) }

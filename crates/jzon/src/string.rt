@@ -65,6 +65,7 @@ pub(crate) fn text_value(alloc: Global, content: &str) -> Result<JsonValue>
 
 /// Reads the string whose opening quote stands before `start`. A string without escapes is not copied, and leaves the buffer as it was. After an error what is
 /// in the buffer has no meaning.
+#[inline(always)]
 pub(crate) fn read_string(source: &str, start: usize, buffer: &mut String) -> Result<Spelled>
     requires { IsCharBoundary source.now start }
     ensures quote { IfOk result (λ s. EndsAtQuote source.now start s.end) }
@@ -124,6 +125,7 @@ fn past_quote(source: &str, index: usize) -> Result<usize>
 }
 
 /// Adds the rest of the text, with its escapes read; gives the place behind the closing quote.
+#[inline(never)]
 fn read_escapes(source: &str, start: usize, buffer: &mut String) -> Result<usize>
     requires boundary { IsCharBoundary source.now start }
     requires stop { start < length source.now → is_plain (slice_index source.now start) ≡ false }

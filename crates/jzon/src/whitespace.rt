@@ -1,6 +1,6 @@
 //! Whitespace (RFC 8259, section 2; docs/RULES.md, "Texts").
 
-ghost use Rattle.std.specs.Prelude.{◌≡◌, ℕ, ◌<◌, ◌≤◌, length, true, false, slice_index};
+ghost use Rattle.std.specs.Prelude.{◌≡◌, ℕ, IsTrue, ◌<◌, ◌≤◌, length, true, false, slice_index};
 ghost use Rattle.std.specs.List.{prefix_len};
 ghost use Rattle.std.specs.Str.{IsCharBoundary};
 ghost use Rattle.jzon_tree.specs.Writing.{is_space};
@@ -19,11 +19,23 @@ pub(crate) fn skip_whitespace(source: &str, reading: Reading, start: usize) -> u
     ensures within { start ≤ result }
     ensures stop { result < length source.now → is_space reading.strict (slice_index source.now result) ≡ false }
 {
-    let bytes = source.as_bytes();
-    if start < bytes.len() && bytes[start] > b' ' {
+    if is_above_blank(source, start) {
         return start;
     }
+    if has_byte(source, start, b' ') && is_above_blank(source, start + 1) {
+        return start + 1;
+    }
     start + whitespace_length(&source[start..], reading.strict())
+}
+
+/// Whether a byte above the blank stands at this place. None of them is whitespace.
+#[inline(always)]
+fn is_above_blank(source: &str, index: usize) -> bool
+    ensures within { IsTrue result → index < length source.now }
+    ensures above { IsTrue result → 32 < slice_index source.now index }
+{
+    let bytes = source.as_bytes();
+    index < bytes.len() && bytes[index] > b' '
 }
 
 /// How many whitespace bytes stand at the beginning. A newline and the blanks behind it come first: they are most of the whitespace of a text with lines.
