@@ -140,10 +140,30 @@ fn read_escapes(source: &str, start: usize, buffer: &mut String) -> Result<usize
     while has_byte(source, index, b'\\') {
         let (ch, end) = read_escape(source, index + 1)?;
         buffer.push(ch)?;
-        index = plain_end(source, end);
-        buffer.push_str(&source[end..index])?;
+        index = push_run(source, end, buffer)?;
     }
     past_quote(source, index)
+}
+
+/// Adds the characters that stand for themselves; gives the place behind them. Refused by `OutOfMemory` alone. Where an escape comes at once nothing is looked
+/// for.
+#[inline(always)]
+fn push_run(source: &str, start: usize, buffer: &mut String) -> Result<usize>
+    requires { IsCharBoundary source.now start }
+    ensures within { IfOk result (λ end. start ≤ end) }
+    ensures boundary { IfOk result (λ end. IsCharBoundary source.now end) }
+    ensures stop { IfOk result (λ end. end < length source.now → is_plain (slice_index source.now end) ≡ false) }
+    ensures same { (r : Reading) (role : Role) → IfOk result (λ end.
+        from r source.now (string role (string_bytes buffer.old) between) start
+        ≡ from r source.now (string role (string_bytes buffer.new) between) end) }
+    ensures memory { IsOkUnless result OutOfMemory }
+{
+    if has_byte(source, start, b'\\') {
+        return Ok(start);
+    }
+    let end = plain_end(source, start);
+    buffer.push_str(&source[start..end])?;
+    Ok(end)
 }
 
 /// The character that an escape means, and the place behind it. Its backslash stands before `start`.

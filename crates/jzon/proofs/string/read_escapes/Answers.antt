@@ -1,5 +1,5 @@
-use Rattle.std.proofs.Common.{◌≡◌, ◌++◌, ◌∙◌, ap, sym, subst, arith, inr}
-use Rattle.std.specs.Prelude.{chars, encode_utf8, slice_range}
+use Rattle.std.proofs.Common.{◌∙◌, ap, sym, subst, arith, inr}
+use Rattle.std.specs.Prelude.{chars}
 use Rattle.std.specs.String.{string_bytes}
 use Rattle.std.proofs.lemmas.Result.{err_from_is_err_and, MatchResult-weaker}
 use Rattle.std.proofs.lemmas.Str.{IsCharBoundary-after_ascii}
@@ -28,21 +28,17 @@ loop-start-preserved c =
     let text = c.args.source.now in
     let here = c.has_byte.ensures.0 c.loop-start-test.true in
     let read = string_bytes c.loop-start.buffer in
-    let run = slice_range text c.in_ok-ch.end c.plain_end-index.result in
-    let bytes : string_bytes c.push_str.new.self ≡ read ++ encode_utf8 c.in_ok-ch.ch ++ run =
-    c.in_ok-push_str.ensures.bytes ∙ ap (λ z. string_bytes c.push.new.self ++ z) c.range.ensures.value
-    ∙ ap (λ z. z ++ run) c.in_ok-push.ensures.bytes in
     record {
-      within = omega (arith, c.in_ok-ch.ensures.bounds.0);
-      boundary = c.plain_end-index.ensures.boundary;
-      stop = c.plain_end-index.ensures.stop;
+      within = omega (arith, c.in_ok-ch.ensures.bounds.0, c.in_ok-index.ensures.within);
+      boundary = c.in_ok-index.ensures.boundary;
+      stop = c.in_ok-index.ensures.stop;
       same = λ r role.
           c.loop-start.invariant.same r role
           ∙ backslash_begins r role read text c.loop-start.index c.utf8.source c.loop-start.invariant.boundary here.0
           here.1
-          ∙ c.in_ok-ch.ensures.same r role read ∙ c.plain_end-index.ensures.same r role
-          (read ++ encode_utf8 c.in_ok-ch.ch)
-          ∙ ap (λ z. from r text (string role z between) c.plain_end-index.result) (sym bytes);
+          ∙ c.in_ok-ch.ensures.same r role read
+          ∙ ap (λ z. from r text (string role z between) c.in_ok-ch.end) (sym c.in_ok-push.ensures.bytes)
+          ∙ c.in_ok-index.ensures.same r role;
     }
 
 pub returns-clause-same : goal.returns-clause-same

@@ -1,0 +1,10 @@
+use Rattle.std.proofs.Common.{◌∙◌, ◌++◌, ap, sym}
+use Rattle.std.specs.String.{string_bytes}
+use Rattle.jzon.specs.Machine.{string, between, from}
+use Rattle.jzon.proofs.string.push_run.Goals as goal
+
+pub returns-clause-same : goal.returns-clause-same
+returns-clause-same c r role =
+    c.plain_end-end.ensures.same r role (string_bytes c.args.buffer.now)
+    ∙ ap (λ z. from r c.args.source.now (string role z between) c.plain_end-end.result)
+    (sym (c.in_ok-push_str.ensures.bytes ∙ ap (λ z. string_bytes c.args.buffer.now ++ z) c.range.ensures.value))
