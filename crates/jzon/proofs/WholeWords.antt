@@ -1,5 +1,6 @@
 -- Words, of which four letters are compared at once.
-use Rattle.std.proofs.Common.{◌≡◌, ◌≢◌, ◌⊎◌, inl, inr, ℕ, ◌+◌, ◌<◌, ◌≤◌, true, false, List, [], ◌∷◌, length, get_or, refl, sym}
+use Rattle.std.proofs.Common.{◌≡◌, ◌≢◌, ◌⊎◌, inl, inr, ℕ, ◌+◌, ◌<◌, ◌≤◌, true, false, List}
+use Rattle.std.proofs.Common.{[], ◌∷◌, length, get_or, refl, sym}
 use Rattle.std.proofs.Common.{ap, subst, ◌∙◌, arith, None, lit<}
 use Rattle.std.specs.Prelude.{IsUtf8}
 use Rattle.std.specs.Str.{IsCharBoundary}
@@ -62,6 +63,25 @@ past_four bs i four u stand lt =
     subst (IsCharBoundary bs) (omega arith)
     (IsCharBoundary-after_ascii bs (i + 3) u (omega (arith, stand.within)) (omega (arith, e, lt)))
 
+-- a word of four letters stands there, of which the first was read
+short_ends : (r : Reading) (bs : List ℕ) (i front l a b c : ℕ) (fs : Frames) (v : Value) (four : List ℕ) → IsUtf8 bs
+    → i < length bs → get_or bs i 0 < 128 → front ≡ i → four ≡ l ∷ a ∷ b ∷ c ∷ [] → a < 128 → b < 128 → c < 128
+    → from r bs (before fs) i ≡ from r bs (past_letter fs v (a ∷ b ∷ c ∷ [])) (i + 1) → Stand bs front four
+    → WordEnds r bs i (front + 4) fs v
+short_ends r bs i front l a b c fs v four u lt ascii here is la lb lc begun stand =
+    record {
+      past = omega (arith, here);
+      boundary = past_four bs front four u stand (omega (arith, ap (λ l. get_or l 3 0) is, lc));
+      same =
+          begun
+          ∙ three_read r bs (i + 1) a b c fs v u (IsCharBoundary-after_ascii bs i u lt ascii)
+          (omega (arith, here, stand.within))
+          (ap (λ n. get_or bs n 0) (omega (arith, here)) ∙ stand.second ∙ ap (λ l. get_or l 1 0) is)
+          (ap (λ n. get_or bs n 0) (omega (arith, here)) ∙ stand.third ∙ ap (λ l. get_or l 2 0) is)
+          (ap (λ n. get_or bs n 0) (omega (arith, here)) ∙ stand.fourth ∙ ap (λ l. get_or l 3 0) is) la lb lc
+          ∙ ap (λ n. from r bs (behind fs v) n) (omega (arith, here));
+    }
+
 -- the last four letters of a word stand there
 pub word_ends : (r : Reading) (bs : List ℕ) (i b front : ℕ) (fs : Frames) (v : Value) (four : List ℕ) → IsUtf8 bs
     → i < length bs → get_or bs i 0 ≡ b → value_mark r fs ≡ None → IsFirst b → Means b v
@@ -69,37 +89,17 @@ pub word_ends : (r : Reading) (bs : List ℕ) (i b front : ℕ) (fs : Frames) (v
     → (b ≢ 102 → front ≡ i) → (b ≡ 102 → front ≡ i + 1) → Stand bs front four
     → WordEnds r bs i (front + 4) fs v
 word_ends r bs i b front fs v four u lt h m (inl e) means spells short long stand =
-    let here : front ≡ i = short (λ f. absurd (omega (arith, e, f))) in
-    let is = spells.null e in
-    let after = IsCharBoundary-after_ascii bs i u lt (omega (arith, h, e)) in record {
-      past = omega (arith, here);
-      boundary = past_four bs front four u stand (omega (arith, ap (λ l. get_or l 3 0) is));
-      same =
-          word_begins r bs i b fs v (117 ∷ 108 ∷ 108 ∷ []) u lt h m (inl e) means
-          (record { null = λ _. refl; yes = λ f. absurd (omega (arith, e, f)); no = λ f. absurd (omega (arith, e, f)) })
-          ∙ three_read r bs (i + 1) 117 108 108 fs v u after (omega (arith, here, stand.within))
-          (ap (λ n. get_or bs n 0) (omega (arith, here)) ∙ stand.second ∙ ap (λ l. get_or l 1 0) is)
-          (ap (λ n. get_or bs n 0) (omega (arith, here)) ∙ stand.third ∙ ap (λ l. get_or l 2 0) is)
-          (ap (λ n. get_or bs n 0) (omega (arith, here)) ∙ stand.fourth ∙ ap (λ l. get_or l 3 0) is)
-          (lit< tt) (lit< tt) (lit< tt)
-          ∙ ap (λ n. from r bs (behind fs v) n) (omega (arith, here));
-    }
+    short_ends r bs i front 110 117 108 108 fs v four u lt (omega (arith, h, e))
+    (short (λ f. absurd (omega (arith, e, f)))) (spells.null e) (lit< tt) (lit< tt) (lit< tt)
+    (word_begins r bs i b fs v (117 ∷ 108 ∷ 108 ∷ []) u lt h m (inl e) means
+    (record { null = λ _. refl; yes = λ f. absurd (omega (arith, e, f)); no = λ f. absurd (omega (arith, e, f)) }))
+    stand
 word_ends r bs i b front fs v four u lt h m (inr (inl e)) means spells short long stand =
-    let here : front ≡ i = short (λ f. absurd (omega (arith, e, f))) in
-    let is = spells.yes e in
-    let after = IsCharBoundary-after_ascii bs i u lt (omega (arith, h, e)) in record {
-      past = omega (arith, here);
-      boundary = past_four bs front four u stand (omega (arith, ap (λ l. get_or l 3 0) is));
-      same =
-          word_begins r bs i b fs v (114 ∷ 117 ∷ 101 ∷ []) u lt h m (inr (inl e)) means
-          (record { null = λ f. absurd (omega (arith, e, f)); yes = λ _. refl; no = λ f. absurd (omega (arith, e, f)) })
-          ∙ three_read r bs (i + 1) 114 117 101 fs v u after (omega (arith, here, stand.within))
-          (ap (λ n. get_or bs n 0) (omega (arith, here)) ∙ stand.second ∙ ap (λ l. get_or l 1 0) is)
-          (ap (λ n. get_or bs n 0) (omega (arith, here)) ∙ stand.third ∙ ap (λ l. get_or l 2 0) is)
-          (ap (λ n. get_or bs n 0) (omega (arith, here)) ∙ stand.fourth ∙ ap (λ l. get_or l 3 0) is)
-          (lit< tt) (lit< tt) (lit< tt)
-          ∙ ap (λ n. from r bs (behind fs v) n) (omega (arith, here));
-    }
+    short_ends r bs i front 116 114 117 101 fs v four u lt (omega (arith, h, e))
+    (short (λ f. absurd (omega (arith, e, f)))) (spells.yes e) (lit< tt) (lit< tt) (lit< tt)
+    (word_begins r bs i b fs v (114 ∷ 117 ∷ 101 ∷ []) u lt h m (inr (inl e)) means
+    (record { null = λ f. absurd (omega (arith, e, f)); yes = λ _. refl; no = λ f. absurd (omega (arith, e, f)) }))
+    stand
 word_ends r bs i b front fs v four u lt h m (inr (inr e)) means spells short long stand =
     let here : front ≡ i + 1 = long e in
     let is = spells.no e in

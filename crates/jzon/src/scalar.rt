@@ -1,6 +1,7 @@
 //! Reads values that are no containers: numbers, texts and words. What is called for each of them is inlined, so that no value is moved from call to call.
 
-ghost use Rattle.std.specs.Prelude.{◌≡◌, ◌≢◌, ◌⊎◌, ◌==◌, ◌<◌, ◌≤◌, ◌+◌, [], length, chars, IsTrue, IfOk, Err, MatchResult, ◌∷◌, ◌^◌, drop};
+ghost use Rattle.std.specs.Prelude.{◌≡◌, ◌≢◌, ◌⊎◌, ◌==◌, ◌<◌, ◌≤◌, ◌+◌, [], length, chars, IsTrue};
+ghost use Rattle.std.specs.Prelude.{IfOk, Err, MatchResult, ◌∷◌, ◌^◌, drop};
 ghost use Rattle.std.specs.Prelude.{slice_index, None, true, false, IsAscii};
 ghost use Rattle.std.specs.Char.{is_ascii_digit};
 ghost use Rattle.std.specs.Str.{IsCharBoundary};
