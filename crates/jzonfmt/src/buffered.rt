@@ -1,8 +1,7 @@
 //! A writer behind a buffer.
 
-ghost use Rattle.std.specs.Prelude.{◌≡◌, ◌≤◌, [], length, OnOk};
-ghost use Rattle.std.specs.Io.{WritesAtMost};
-ghost use Rattle.std.specs.Io.KnownBytes.{Keeps, WriteAppends};
+ghost use Rattle.std.specs.Prelude.{◌≡◌, ◌+◌, ◌≤◌, [], length, take, vec_len, vec_capacity, MatchOption, OnOk};
+ghost use Rattle.std.specs.Io.KnownBytes.{Appends, Keeps};
 
 use std::io;
 use std::io::{ErrorKind, Write};
@@ -16,6 +15,8 @@ pub struct Buffered<'a, W> {
     // How many of these bytes the writer took already, and how many before them.
     taken: usize,
     before: u64,
+    // The error of a call that failed, until that call hands it back.
+    fault: Option<io::Error>,
     ghost within: { taken ≤ length bytes.items },
 }
 
@@ -35,6 +36,7 @@ impl<'a, W: Write> Buffered<'a, W> {
             bytes: memory,
             taken: 0,
             before: 0,
+            fault: None,
         }
     }
 
@@ -69,17 +71,44 @@ impl<'a, W: Write> Buffered<'a, W> {
         Ok(())
     }
 
-    // Hands all bytes on, and then takes as many as there is room for.
+    // Hands all bytes on, and then takes as many as there is room for. An error is laid aside: an `io::Error` takes 88 bytes, which the caller would set aside
+    // and clear also where there is room for all.
     #[cold]
     #[inline(never)]
-    fn write_behind(&mut self, buf: &[u8]) -> io::Result<usize>
-        ensures bound { WritesAtMost result buf.now }
-        ensures bytes { WriteAppends (held W.contents self.old) (held W.contents self.new) result buf.now }
+    fn write_behind(&mut self, buf: &[u8]) -> Option<usize>
+        ensures { MatchOption result (Keeps (held W.contents self.old) (held W.contents self.new))
+            (λ count. (count ≤ length buf.now)
+            × Appends (held W.contents self.old) (held W.contents self.new) (take count buf.now)) }
     {
-        self.hand_on()?;
-        let count = buf.len().min(self.bytes.capacity());
-        self.bytes.extend_from_slice(&buf[..count])?;
-        Ok(count)
+        if let Err(error) = self.hand_on() {
+            self.fault = Some(error);
+            return None;
+        }
+        let count = buf.len().min(self.bytes.capacity() - self.bytes.len());
+        self.hold(&buf[..count]);
+        Some(count)
+    }
+
+    // Takes bytes for which there is room.
+    #[inline(always)]
+    fn hold(&mut self, bytes: &[u8])
+        requires { vec_len self.old.bytes + length bytes.now ≤ vec_capacity self.old.bytes }
+        ensures { Appends (held W.contents self.old) (held W.contents self.new) bytes.now }
+    {
+        let Ok(()) = self.bytes.extend_from_slice(bytes) else {
+            unreachable!()
+        };
+    }
+
+    // The error that was laid aside. There is one wherever a call failed.
+    #[inline(always)]
+    fn taken_fault(&mut self) -> io::Error
+        ensures { Keeps (held W.contents self.old) (held W.contents self.new) }
+    {
+        match self.fault.take() {
+            Some(error) => error,
+            None => io::Error::from(ErrorKind::Other),
+        }
     }
 }
 
@@ -88,13 +117,16 @@ impl<W: Write> Write for Buffered<'_, W> {
 
     ghost contents = { held W.contents };
 
-    #[inline]
+    #[inline(always)]
     fn write(&mut self, buf: &[u8]) -> io::Result<usize> {
         if buf.len() <= self.bytes.capacity() - self.bytes.len() {
-            self.bytes.extend_from_slice(buf)?;
+            self.hold(buf);
             return Ok(buf.len());
         }
-        self.write_behind(buf)
+        match self.write_behind(buf) {
+            Some(count) => Ok(count),
+            None => Err(self.taken_fault()),
+        }
     }
 
     fn flush(&mut self) -> io::Result<()> {
