@@ -1,7 +1,7 @@
 # Prints each code line that a page quotes and that doesn't stand in the examples. The examples come first on the command line, then the pages, and the other
 # sources, of which the lines of "///" are a page. A quoted line is one between "```rust" and "```", without its comment, or in the right column of the table
 # "What one writes".
-# Blanks at both ends don't count. The status is 0 only if something is quoted and all of it stands there.
+# Spaces at both ends don't count. The status is 0 only if something is quoted and all of it stands there.
 function trimmed(text) {
     gsub(/^[ \t]+|[ \t]+$/, "", text)
     return text

@@ -13,7 +13,7 @@ use Rattle.jzon_tree.specs.Styles.{compact_style, pretty_style}
 use Rattle.jzon_tree.specs.Text.{compact, pretty, pretty_layout}
 use Rattle.jzon_tree.specs.Value.{Value, nest}
 use Rattle.jzon_tree.specs.View.{view}
-use Rattle.jzon_tree.specs.Writing.{Style, Writes, is_blank}
+use Rattle.jzon_tree.specs.Writing.{Style, Writes, is_all_whitespace}
 use Rattle.jzon_tree.specs.declared.value.JsonValue.{JsonValue}
 use Rattle.jzon_tree.proofs.PlainWritings.{Writes-compact, Writes-pretty}
 use Rattle.jzon.specs.Answer.{IsMeaningOf, IsReadable, IsErrorUnlessMemory}
@@ -22,12 +22,12 @@ use Rattle.jzon.specs.Grammar.{Document}
 use Rattle.jzon.specs.Laws.{AllowsStrictAlone, IsReadAs}
 use Rattle.jzon.specs.Meaning.{meaning}
 use Rattle.jzon.specs.Reading.{Reading}
-use Rattle.jzon.proofs.ReadsBack.{read_back}
-use Rattle.jzon.proofs.Redump.{redumped}
-use Rattle.jzon.proofs.SameTree.{same_tree}
-use Rattle.jzon.proofs.Verdict.{one_tree_or_one_fault}
+use Rattle.jzon.proofs.ReadBack.ReadsBack.{read_back}
+use Rattle.jzon.proofs.ReadBack.Redump.{redumped}
+use Rattle.jzon.proofs.Trees.SameTree.{same_tree}
+use Rattle.jzon.proofs.Trees.Verdict.{one_tree_or_one_fault}
 -- the answer to one concrete text, by computation: `Parses` from a tree, and `IsErrorOf` from an error
-pub use Rattle.jzon.proofs.Judged.{read_tree, refused_error}
+pub use Rattle.jzon.proofs.Values.TreeOrError.{read_tree, refused_error}
 
 module _ (r : Reading) where
   -- ---- a text that is read as some value
@@ -82,7 +82,7 @@ module _ (r : Reading) where
 
   -- ---- a text that was printed
 
-  -- any writing of a value, in any style; a strict reading asks for a style of strict blanks alone
+  -- any writing of a value, in any style; a strict reading asks for a style of strict whitespace alone
   pub reads-writing : (s : Style) (dent : ℕ) (v : Value) (b : List ℕ) → (IsTrue r.strict → AllowsStrictAlone s)
       → IsReadable r v → Writes s dent v b → IsReadAs r b (λ w. IsTrue (same w v))
   reads-writing s dent v b strict readable = read_back r s dent v b strict readable.0 readable.1 readable.2
@@ -91,16 +91,18 @@ module _ (r : Reading) where
   same_list xs ys e = (bytes_eq-Decides xs ys).0 e
 
   strict_compact : AllowsStrictAlone compact_style
-  strict_compact dent w allowed = subst (λ (b : List ℕ). IsTrue (is_blank true b)) (sym (same_list w [] allowed.1)) refl
+  strict_compact dent w allowed = subst (λ (b : List ℕ). IsTrue (is_all_whitespace true b))
+      (sym (same_list w [] allowed.1)) refl
 
-  strict_blanks : (n : ℕ) → is_blank true (replicate n 32) ≡ true
-  strict_blanks zero = refl
-  strict_blanks (suc n) = strict_blanks n
+  strict_whitespace : (n : ℕ) → is_all_whitespace true (replicate n 32) ≡ true
+  strict_whitespace zero = refl
+  strict_whitespace (suc n) = strict_whitespace n
 
   strict_pretty : (spaces : ℕ) → AllowsStrictAlone (pretty_style spaces)
   strict_pretty spaces dent w allowed =
-      subst (λ (b : List ℕ). IsTrue (is_blank true b)) (sym (same_list w ((pretty_layout spaces).line dent) allowed.1))
-      (strict_blanks (dent * spaces))
+      subst (λ (b : List ℕ). IsTrue (is_all_whitespace true b))
+      (sym (same_list w ((pretty_layout spaces).line dent) allowed.1))
+      (strict_whitespace (dent * spaces))
 
   -- the compact text, and the text with a line for each item, are read as an equal value
   pub reads-compact : (v : Value) (b : List ℕ) → IsReadable r v → b ≡ compact v → IsReadAs r b (λ w. IsTrue (same w v))

@@ -2,6 +2,7 @@
 use Rattle.std.specs.Prelude.{◌≡◌, ◌⊎◌, ℕ, ◌≤◌, List, Contains, Result, Ok, Err}
 use Rattle.jzon_base.specs.declared.error.Error.{Error}
 use Rattle.jzon_base.specs.declared.error.Error.TheVariants.{OutOfMemory}
+use Rattle.jzon_base.specs.Tokens.{begin_array, begin_object, quotation_mark}
 use Rattle.jzon_tree.specs.Value.{Value, nest}
 use Rattle.jzon_tree.specs.Lawful.{IsValue, HasNoNan}
 use Rattle.jzon_tree.specs.View.{view}
@@ -31,4 +32,4 @@ Answers r t (Err e) = IsErrorUnlessMemory r t e
 
 -- the text has a quote or an opening bracket of an array or an object; reading any other text takes no memory
 abbrev pub TakesMemory : List ℕ → Type 0
-TakesMemory t = Contains t 34 ⊎ (Contains t 91 ⊎ Contains t 123)
+TakesMemory t = Contains t quotation_mark ⊎ (Contains t begin_array ⊎ Contains t begin_object)

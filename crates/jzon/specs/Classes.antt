@@ -1,11 +1,13 @@
 -- What the machines over characters share: the classes of characters, and the places inside a number.
 use Rattle.std.specs.Prelude.{ℕ, cond, List, [], ◌∷◌, Bool, true, false, ◌==◌}
 use Rattle.std.specs.Char.{is_ascii_digit}
-use Rattle.jzon_tree.specs.Writing.{is_space}
+use Rattle.jzon_base.specs.Tokens.{begin_array, begin_object, decimal_point, end_array, end_object, minus_sign}
+use Rattle.jzon_base.specs.Tokens.{name_separator, plus_sign, quotation_mark, value_separator}
+use Rattle.jzon_tree.specs.Writing.{is_whitespace}
 use Rattle.jzon.specs.Grammar.{Sign, is_exponent_letter}
 
 pub data Class : Type 0 where
-  white : Class
+  whitespace : Class
   digits : Class
   dash : Class
   cross : Class
@@ -26,19 +28,19 @@ pub data Class : Type 0 where
 -- the class of a character outside of strings and of the later letters of a word
 unfoldable pub class_of : Bool → ℕ → Class
 class_of strict c =
-    cond (is_space strict c) white
+    cond (is_whitespace strict c) whitespace
     (cond (is_ascii_digit c) digits
-    (cond (c == 45) dash
-    (cond (c == 43) cross
-    (cond (c == 46) point
+    (cond (c == minus_sign) dash
+    (cond (c == plus_sign) cross
+    (cond (c == decimal_point) point
     (cond (is_exponent_letter c) letter_e
-    (cond (c == 34) quote
-    (cond (c == 91) opens_array
-    (cond (c == 93) closes_array
-    (cond (c == 123) opens_object
-    (cond (c == 125) closes_object
-    (cond (c == 44) comma
-    (cond (c == 58) colon
+    (cond (c == quotation_mark) quote
+    (cond (c == begin_array) opens_array
+    (cond (c == end_array) closes_array
+    (cond (c == begin_object) opens_object
+    (cond (c == end_object) closes_object
+    (cond (c == value_separator) comma
+    (cond (c == name_separator) colon
     (cond (c == 110) begins_null
     (cond (c == 116) begins_true
     (cond (c == 102) begins_false other)))))))))))))))

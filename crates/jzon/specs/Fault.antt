@@ -1,4 +1,5 @@
--- From which fronts a text can go on, where a text has a fault, and the one error of a text (docs/RULES.md, "Errors").
+-- From which prefixes a text can go on, where a text has a fault, and the one error of a text (docs/RULES.md,
+-- "Errors").
 use Rattle.std.specs.Prelude.{◌≡◌, ℕ, suc, ◌+◌, ◌-◌, ◌<◌, ◌≤◌, List, ◌++◌, length, take, not, ◌==◌, count_by}
 use Rattle.std.specs.Prelude.{slice_index}
 use Rattle.std.specs.List.{suffix_len}
@@ -15,16 +16,16 @@ use Rattle.jzon.specs.Spelling.{Breach, deep, pair, digit, duplicate, spell, Bre
 abbrev pub Spells : Reading → List ℕ → Document → Type 0
 Spells r t d = IsDocument r d × (spell r d ≡ t)
 
--- the tree's text begins with the front
+-- the tree's text begins with the prefix
 abbrev pub Completes : Reading → List ℕ → Document → Type 0
-Completes r front d = IsDocument r d × (rest : List ℕ) × (spell r d ≡ front ++ rest)
+Completes r prefix d = IsDocument r d × (rest : List ℕ) × (spell r d ≡ prefix ++ rest)
 
 abbrev pub HasCompletion : Reading → List ℕ → Type 0
-HasCompletion r front = (d : Document) × Completes r front d
+HasCompletion r prefix = (d : Document) × Completes r prefix d
 
--- each tree whose text begins with the front breaks this limit at place i
+-- each tree whose text begins with the prefix breaks this limit at offset i
 abbrev pub AllBreakAt : Reading → List ℕ → Breach → ℕ → Type 0
-AllBreakAt r front b i = (d : Document) → Completes r front d → BreachAt r b d i
+AllBreakAt r prefix b i = (d : Document) → Completes r prefix d → BreachAt r b d i
 
 -- the tree spells the text, and breaks no limit
 abbrev pub Parses : Reading → List ℕ → Document → Type 0
@@ -48,7 +49,7 @@ IsDepthFault r t i =
     × ((d : Document) × Completes r (take i t) d × BreachAt r deep d i)
     × AllBreakAt r (take (suc i) t) deep i
 
--- the fault stands at place i of the text
+-- the fault stands at offset i of the text
 abbrev pub IsFault : Reading → List ℕ → ℕ → Fault → Type 0
 IsFault r t i (limit deep) = IsDepthFault r t i
 IsFault r t i (limit b) = (i < length t) × HasCompletion r (take (suc i) t) × AllBreakAt r (take (suc i) t) b i
@@ -68,15 +69,15 @@ IsFirstFault r t i f = IsFault r t i f × ((j : ℕ) (g : Fault) → IsFault r t
 
 -- ---- errors
 
--- the line of the character after a front: 1 and the newlines of the front
+-- the line of the character after a prefix: 1 and the newlines of the prefix
 abbrev pub line : List ℕ → ℕ
-line front = count_by (λ c. c == 10) front + 1
+line prefix = count_by (λ c. c == 10) prefix + 1
 
--- its column: 1 and the characters of the front after the last newline
+-- its column: 1 and the characters of the prefix after the last newline
 abbrev pub column : List ℕ → ℕ
-column front = suffix_len (λ c. not (c == 10)) front + 1
+column prefix = suffix_len (λ c. not (c == 10)) prefix + 1
 
--- the error that tells a fault at place i of a text
+-- the error that tells a fault at offset i of a text
 abbrev pub error_at : List ℕ → ℕ → Fault → Error
 error_at t i (limit deep) = ExceededDepthLimit
 error_at t i (limit pair) = FailedUtf8Parsing

@@ -5,7 +5,7 @@ use Rattle.jzon_tree.specs.View.{view}
 use Rattle.jzon_tree.specs.declared.value.JsonValue.{JsonValue}
 use Rattle.jzon.specs.Cursor.{next_byte}
 use Rattle.jzon.specs.Machine.{Entries, Frames, no_frames, array_frame, object_frame, Place, before, before_key, behind}
-use Rattle.jzon.specs.Tokens.{end_array, end_object}
+use Rattle.jzon_base.specs.Tokens.{end_array, end_object}
 use Rattle.jzon.specs.declared.cursor.Cursor.{Cursor}
 use Rattle.jzon.specs.declared.frames.Begun.{Begun}
 use Rattle.jzon.specs.declared.frames.Begun.TheVariants.{Value, Array as begun_array, Object as begun_object}

@@ -1,10 +1,11 @@
--- The grammar of RFC 8259 as trees: a tree has each part of a text, the blanks too. A text is a list of characters.
+-- The grammar of RFC 8259 as trees: a tree has each part of a text, the whitespace too. A text is a list of characters.
 use Rattle.std.specs.Prelude.{◌≡◌, ℕ, zero, suc, ◌+◌, ◌*◌, List, [], ◌∷◌, Bool, false, not, ◌&&◌, ◌||◌, ◌==◌, nat_le}
 use Rattle.std.specs.Prelude.{nat_lt, Option, Some, None, codes, IsTrue, ⊤}
 use Rattle.std.specs.Char.{is_ascii_digit, is_ascii_hexdigit, digit_value}
 use Rattle.std.specs.List.{list_any, fold}
+use Rattle.jzon_base.specs.Tokens.{escape, quotation_mark, zero_digit}
 use lib.Utf8.{scalar}
-use Rattle.jzon_tree.specs.Writing.{is_space}
+use Rattle.jzon_tree.specs.Writing.{is_whitespace}
 use Rattle.jzon.specs.Reading.{Reading}
 
 -- ---- trees
@@ -35,14 +36,14 @@ pub data Item : Type 0 where
   single : List ℕ → Item
   double : List ℕ → List ℕ → Item
 
--- a key with the blanks round it (section 4)
+-- a key with the whitespace round it (section 4)
 pub record Key : Type 0 where
   pub before : List ℕ
   pub items : List Item
   pub after : List ℕ
 
--- Values (section 3), arrays (section 5) and objects (section 4). Each `List ℕ` is a blank: inside an empty container,
--- before and after a value.
+-- Values (section 3), arrays (section 5) and objects (section 4). Each `List ℕ` is whitespace: inside an empty
+-- container, before and after a value.
 mutual
   pub data Node : Type 0 where
     null : Node
@@ -78,8 +79,8 @@ abbrev pub Each : (ℕ → Bool) → List ℕ → Type 0
 Each test [] = ⊤
 Each test (c ∷ cs) = IsTrue (test c) × Each test cs
 
-abbrev pub IsBlank : Reading → List ℕ → Type 0
-IsBlank r = Each (is_space r.strict)
+abbrev pub IsWhitespace : Reading → List ℕ → Type 0
+IsWhitespace r = Each (is_whitespace r.strict)
 
 abbrev pub AreDigits : List ℕ → Type 0
 AreDigits = Each is_ascii_digit
@@ -93,7 +94,7 @@ IsDigits (d ∷ ds) = IsTrue (is_ascii_digit d) × AreDigits ds
 abbrev pub IsWhole : List ℕ → Type 0
 IsWhole [] = ⊥
 IsWhole (d ∷ []) = IsTrue (is_ascii_digit d)
-IsWhole (d ∷ e ∷ ds) = IsTrue (is_ascii_digit d && not (d == 48)) × AreDigits (e ∷ ds)
+IsWhole (d ∷ e ∷ ds) = IsTrue (is_ascii_digit d && not (d == zero_digit)) × AreDigits (e ∷ ds)
 
 abbrev pub is_exponent_letter : ℕ → Bool
 is_exponent_letter c = c == 101 || c == 69
@@ -127,15 +128,15 @@ abbrev pub is_surrogate : ℕ → Bool
 is_surrogate u = nat_le 0xD800 u && nat_lt u 0xE000
 
 -- the characters that stand for themselves: from U+0020 on, and neither a quote nor a backslash
-abbrev pub is_plain : ℕ → Bool
-is_plain c = (scalar c && nat_le 32 c) && not (c == 34 || c == 92)
+abbrev pub is_unescaped : ℕ → Bool
+is_unescaped c = (scalar c && nat_le 32 c) && not (c == quotation_mark || c == escape)
 
 -- the letters of the simple escapes
 abbrev pub is_simple : ℕ → Bool
 is_simple c = list_any (λ l. l == c) (codes "\"\\/bfnrt")
 
 abbrev pub IsItem : Item → Type 0
-IsItem (plain c) = IsTrue (is_plain c)
+IsItem (plain c) = IsTrue (is_unescaped c)
 IsItem (simple c) = IsTrue (is_simple c)
 IsItem (single u) = AreHex 4 u × (is_surrogate (code_unit u) ≡ false)
 IsItem (double u v) = AreHex 4 u × IsTrue (is_surrogate (code_unit u)) × AreHex 4 v
@@ -145,7 +146,7 @@ AreItems [] = ⊤
 AreItems (i ∷ is) = IsItem i × AreItems is
 
 abbrev pub IsKey : Reading → Key → Type 0
-IsKey r k = IsBlank r k.before × AreItems k.items × IsBlank r k.after
+IsKey r k = IsWhitespace r k.before × AreItems k.items × IsWhitespace r k.after
 
 abbrev mutual
   pub IsNode : Reading → Node → Type 0
@@ -153,18 +154,18 @@ abbrev mutual
   IsNode r (Node.boolean b) = ⊤
   IsNode r (Node.number n) = IsNumeral n
   IsNode r (Node.string is) = AreItems is
-  IsNode r (Node.empty_array b) = IsBlank r b
-  IsNode r (Node.empty_object b) = IsBlank r b
-  IsNode r (Node.array b n c es) = IsBlank r b × IsNode r n × IsBlank r c × AreElements r es
-  IsNode r (Node.object k b n c ms) = IsKey r k × IsBlank r b × IsNode r n × IsBlank r c × AreMembers r ms
+  IsNode r (Node.empty_array b) = IsWhitespace r b
+  IsNode r (Node.empty_object b) = IsWhitespace r b
+  IsNode r (Node.array b n c es) = IsWhitespace r b × IsNode r n × IsWhitespace r c × AreElements r es
+  IsNode r (Node.object k b n c ms) = IsKey r k × IsWhitespace r b × IsNode r n × IsWhitespace r c × AreMembers r ms
 
   pub AreElements : Reading → Elements → Type 0
   AreElements r no_elements = ⊤
-  AreElements r (element b n c es) = IsBlank r b × IsNode r n × IsBlank r c × AreElements r es
+  AreElements r (element b n c es) = IsWhitespace r b × IsNode r n × IsWhitespace r c × AreElements r es
 
   pub AreMembers : Reading → Members → Type 0
   AreMembers r no_members = ⊤
-  AreMembers r (member k b n c ms) = IsKey r k × IsBlank r b × IsNode r n × IsBlank r c × AreMembers r ms
+  AreMembers r (member k b n c ms) = IsKey r k × IsWhitespace r b × IsNode r n × IsWhitespace r c × AreMembers r ms
 
 abbrev pub IsDocument : Reading → Document → Type 0
-IsDocument r d = IsBlank r d.before × IsNode r d.node × IsBlank r d.after
+IsDocument r d = IsWhitespace r d.before × IsNode r d.node × IsWhitespace r d.after

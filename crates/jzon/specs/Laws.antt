@@ -10,7 +10,7 @@ use Rattle.jzon_tree.specs.Text.{compact}
 use Rattle.jzon_tree.specs.Same.{same}
 use Rattle.jzon_tree.specs.Lawful.{IsValue, HasNoNan}
 use Rattle.jzon_tree.specs.Styles.{compact_style, pretty_style}
-use Rattle.jzon_tree.specs.Writing.{Style, IsAllowedBlank, Writes, is_blank}
+use Rattle.jzon_tree.specs.Writing.{Style, IsAllowedWhitespace, Writes, is_all_whitespace}
 use Rattle.jzon.specs.Reading.{Reading}
 use Rattle.jzon.specs.Grammar.{Numeral, Node, Document}
 use Rattle.jzon.specs.Spelling.{Breach, spell, BreachAt}
@@ -46,7 +46,7 @@ OneFault = (r : Reading) (t : List ℕ) → HasOneTree r t ⊎ HasOneFault r t
 
 -- ---- what is written is read
 
--- a text that is one value, with no blank round it
+-- a text that is one value, with no whitespace round it
 abbrev pub alone : Node → Document
 alone n = record { before = []; node = n; after = [] }
 
@@ -69,16 +69,16 @@ IsReadAs r bytes P = IsUtf8 bytes × (d : Document) × Parses r (chars bytes) d 
 abbrev pub Redump : Type 0
 Redump = (r : Reading) (v : Value) → IsValue v → nest v ≤ r.depth → IsReadAs r (compact v) (λ w. compact w ≡ compact v)
 
--- each blank that the style allows is one of a strict reading
+-- all whitespace that the style allows is one of a strict reading
 abbrev pub AllowsStrictAlone : Style → Type 0
-AllowsStrictAlone s = (dent : ℕ) (w : List ℕ) → IsAllowedBlank s dent w → IsTrue (is_blank true w)
+AllowsStrictAlone s = (dent : ℕ) (w : List ℕ) → IsAllowedWhitespace s dent w → IsTrue (is_all_whitespace true w)
 
 -- the two styles of the four generators, the compact one and the one with a line for each item, are such
 abbrev pub StrictStyles : Type 0
 StrictStyles = AllowsStrictAlone compact_style × ((spaces : ℕ) → AllowsStrictAlone (pretty_style spaces))
 
 -- Each writing of a value without NaN, in whatever style, is read as the same value. A strict reading asks for a style
--- of strict blanks alone.
+-- of strict whitespace alone.
 abbrev pub ReadsBack : Type 0
 ReadsBack =
     (r : Reading) (s : Style) (dent : ℕ) (v : Value) (b : List ℕ)

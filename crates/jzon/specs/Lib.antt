@@ -5,7 +5,6 @@ pub mod Spelling
 pub mod Meaning
 pub mod Fault
 pub mod Laws
-pub mod Tokens
 pub mod Classes
 pub mod Quote
 pub mod Machine
@@ -21,6 +20,7 @@ pub use Rattle.jzon_base.specs.IterMut
 pub use Rattle.jzon_base.specs.Key
 pub use Rattle.jzon_base.specs.NumberText
 pub use Rattle.jzon_base.specs.PairList
+pub use Rattle.jzon_base.specs.Tokens
 pub use Rattle.jzon_base.specs.Written
 pub use Rattle.jzon_base.specs.declared.error.Error
 pub use Rattle.jzon_tree.specs.Changers

@@ -1,5 +1,5 @@
 -- The machine over values: what is left of a text comes to a value or to a fault, one character at a time. It keeps no
--- tree and no blank, only what the open containers hold so far.
+-- tree and no whitespace, only what the open containers hold so far.
 use Rattle.std.specs.Prelude.{◌≡◌, ◌⊎◌, ℕ, zero, suc, ◌+◌, ◌-◌, ◌*◌, cond, List, [], ◌∷◌, ◌++◌, length, drop, Bool}
 use Rattle.std.specs.Prelude.{true, false, ◌&&◌, ◌==◌, Option, Some, None, Result, Ok, Err, MatchResult, chars}
 use Rattle.std.specs.Prelude.{encode_utf8}
@@ -8,18 +8,20 @@ use Rattle.std.specs.Option.{is_some}
 use Rattle.jzon_base.specs.PairList.{find, put}
 use Rattle.jzon_base.specs.declared.error.Error.{Error}
 use Rattle.jzon_base.specs.declared.error.Error.TheVariants.{OutOfMemory}
+use Rattle.jzon_base.specs.Tokens.{escape, quotation_mark, zero_digit}
 use Rattle.jzon_tree.specs.Value.{Value, values_of, pairs_of, kind_of}
 use Rattle.jzon_tree.specs.Value as value
 use Rattle.jzon_tree.specs.View.{view}
 use Rattle.jzon_tree.specs.declared.value.JsonValue.{JsonValue}
 use Rattle.jzon.specs.Reading.{Reading}
-use Rattle.jzon.specs.Grammar.{Sign, unsigned, plus, minus, Exponent, is_surrogate, is_high, is_low, is_plain}
+use Rattle.jzon.specs.Grammar.{Sign, unsigned, plus, minus, Exponent, is_surrogate, is_high, is_low, is_unescaped}
 use Rattle.jzon.specs.Grammar.{is_simple}
 use Rattle.jzon.specs.Spelling.{Breach, deep, pair, digit, duplicate, breach_if, onto, drops_too_many, keeps_too_many}
 use Rattle.jzon.specs.Spelling.{deep_if}
 use Rattle.jzon.specs.Meaning.{number_of, unescaped, pair_char}
 use Rattle.jzon.specs.Fault.{Fault, limit, character, error_at}
-use Rattle.jzon.specs.Classes.{Class, white, digits, dash, cross, point, letter_e, quote, opens_array, closes_array}
+use Rattle.jzon.specs.Classes.{Class, whitespace, digits, dash, cross, point, letter_e, quote, opens_array}
+use Rattle.jzon.specs.Classes.{closes_array}
 use Rattle.jzon.specs.Classes.{opens_object, closes_object, comma, colon, begins_null, begins_true, begins_false}
 use Rattle.jzon.specs.Classes.{class_of, NumberPlace, signed, zero_read, whole, pointed, fraction, lettered}
 use Rattle.jzon.specs.Classes.{signed_exponent, exponent, begun}
@@ -69,7 +71,7 @@ allows_whitespace _ = false
 
 -- behind the first digit of a number
 abbrev pub numeral_begun : Frames → Bool → ℕ → Place
-numeral_begun fs negative c = numeral fs negative (begun (c == 48) c)
+numeral_begun fs negative c = numeral fs negative (begun (c == zero_digit) c)
 
 -- what reading one character comes to: a place, and the breach that stands at the character, if any; or no text can go
 -- on, where it may be that each text that goes on otherwise has a depth breach
@@ -111,8 +113,8 @@ move_empty_array (array_frame fs []) = go None (behind fs (value.array value.no_
 move_empty_array _ = bad
 
 abbrev pub move_before : Reading → Class → Frames → ℕ → Move
-move_before r white fs c = go None (before fs)
-move_before r digits fs c = go (value_mark r fs) (numeral fs false (begun (c == 48) c))
+move_before r whitespace fs c = go None (before fs)
+move_before r digits fs c = go (value_mark r fs) (numeral fs false (begun (c == zero_digit) c))
 move_before r dash fs c = go (value_mark r fs) (numeral fs true signed)
 move_before r quote fs c = go (value_mark r fs) (string (as_value fs) [] between)
 move_before r opens_array fs c = go (value_mark r fs) (before (array_frame fs []))
@@ -128,13 +130,13 @@ move_empty_object fs [] = go None (behind fs (value.object value.no_pairs))
 move_empty_object fs (e ∷ es) = bad
 
 abbrev pub move_before_key : Reading → Class → Frames → Entries → ℕ → Move
-move_before_key r white fs es left = go None (before_key fs es)
+move_before_key r whitespace fs es left = go None (before_key fs es)
 move_before_key r quote fs es left = go (key_mark r fs es) (string (as_key fs es left) [] between)
 move_before_key r closes_object fs es left = move_empty_object fs es
 move_before_key r _ fs es left = bad_at (key_mark r fs es)
 
 abbrev pub move_after_key : Class → Frames → Entries → List ℕ → Move
-move_after_key white fs es k = go None (after_key fs es k)
+move_after_key whitespace fs es k = go None (after_key fs es k)
 move_after_key colon fs es k = go None (before (object_frame fs es k))
 move_after_key _ fs es k = bad
 
@@ -152,7 +154,7 @@ move_close_object (object_frame fs es k) v = go None (behind fs (value.object (p
 move_close_object _ v = bad
 
 abbrev pub move_behind : Class → Frames → Value → Move
-move_behind white fs v = go None (behind fs v)
+move_behind whitespace fs v = go None (behind fs v)
 move_behind comma fs v = move_comma fs v
 move_behind closes_array fs v = move_close_array fs v
 move_behind closes_object fs v = move_close_object fs v
@@ -177,9 +179,9 @@ move_after_fraction letter_e fs negative ws ds c = go None (numeral fs negative 
 move_after_fraction class fs negative ws ds c = move_behind class fs (number_value negative ws ds None)
 
 abbrev pub move_numeral : NumberPlace → Class → Frames → Bool → ℕ → Move
-move_numeral signed digits fs negative c = go None (numeral fs true (begun (c == 48) c))
+move_numeral signed digits fs negative c = go None (numeral fs true (begun (c == zero_digit) c))
 move_numeral signed _ fs negative c = bad
-move_numeral zero_read class fs negative c = move_after_whole class fs negative (48 ∷ []) c
+move_numeral zero_read class fs negative c = move_after_whole class fs negative (zero_digit ∷ []) c
 move_numeral (whole ds) digits fs negative c =
     go (breach_if (drops_too_many (onto (c ∷ ds) [])) digit) (numeral fs negative (whole (c ∷ ds)))
 move_numeral (whole ds) class fs negative c = move_after_whole class fs negative (onto ds []) c
@@ -215,9 +217,9 @@ closed_string r (as_key fs es opened) bs left = go (repeated_if r es bs (opened 
 
 abbrev pub move_between : Reading → Role → List ℕ → ℕ → ℕ → Move
 move_between r role bs c left =
-    cond (c == 34) (closed_string r role bs left)
-    (cond (c == 92) (go None (string role bs slash))
-    (cond (is_plain c) (go None (string role (bs ++ encode_utf8 c) between)) bad))
+    cond (c == quotation_mark) (closed_string r role bs left)
+    (cond (c == escape) (go None (string role bs slash))
+    (cond (is_unescaped c) (go None (string role (bs ++ encode_utf8 c) between)) bad))
 
 abbrev pub move_slash : Role → List ℕ → ℕ → Move
 move_slash role bs c =
@@ -248,7 +250,7 @@ abbrev pub move_string : Reading → TextPlace → Role → List ℕ → ℕ →
 move_string r between role bs c left = move_between r role bs c left
 move_string r slash role bs c left = move_slash role bs c
 move_string r (code n u) role bs c left = cond (is_ascii_hexdigit c) (move_code role bs n u c) bad
-move_string r (second u) role bs c left = cond (c == 92) (go None (string role bs (second_slash u))) bad
+move_string r (second u) role bs c left = cond (c == escape) (go None (string role bs (second_slash u))) bad
 move_string r (second_slash u) role bs c left = cond (c == 117) (go None (string role bs (second_code u 3 0))) bad
 move_string r (second_code u n v) role bs c left = cond (is_ascii_hexdigit c) (move_second_code role bs u n v c) bad
 
@@ -278,7 +280,7 @@ meant_at no_frames v = meant v
 meant_at _ v = refused Fault.end []
 
 abbrev pub last_numeral : NumberPlace → Frames → Bool → Outcome
-last_numeral zero_read fs negative = meant_at fs (number_value negative (48 ∷ []) [] None)
+last_numeral zero_read fs negative = meant_at fs (number_value negative (zero_digit ∷ []) [] None)
 last_numeral (whole ds) fs negative = meant_at fs (number_value negative (onto ds []) [] None)
 last_numeral (fraction ws ds) fs negative = meant_at fs (number_value negative ws (onto ds []) None)
 last_numeral (exponent ws ds l s xs) fs negative = meant_at fs

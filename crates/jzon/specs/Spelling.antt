@@ -2,6 +2,8 @@
 use Rattle.std.specs.Prelude.{◌≡◌, ℕ, suc, ◌+◌, List, [], ◌∷◌, length, map, Bool, true, false, not, ◌&&◌, ◌==◌, nat_le}
 use Rattle.std.specs.Prelude.{if◌then◌else◌, Option, Some, None, codes, slice_get}
 use Rattle.jzon_base.specs.Digits.{dropped, kept_fraction}
+use Rattle.jzon_base.specs.Tokens.{begin_array, begin_object, decimal_point, end_array, end_object, escape, minus_sign}
+use Rattle.jzon_base.specs.Tokens.{name_separator, plus_sign, quotation_mark, value_separator}
 use Rattle.jzon_tree.specs.Same.{is_known}
 use Rattle.jzon.specs.Reading.{Reading}
 use Rattle.jzon.specs.Grammar.{Sign, unsigned, plus, minus, Exponent, Numeral, Item, simple, single, double, Key, Node}
@@ -61,11 +63,11 @@ drops_too_many whole = dropped whole [] == 32768
 unfoldable pub keeps_too_many : List ℕ → List ℕ → Bool
 keeps_too_many whole fraction = length fraction == 32769 && kept_fraction whole fraction == 32769
 
--- digits after others (`front`, the last one first), each with a breach where the digits up to it are too many
+-- digits after others (`prefix`, the last one first), each with a breach where the digits up to it are too many
 abbrev pub digits_cells : (List ℕ → Bool) → List ℕ → List ℕ → List Cell → List Cell
-digits_cells too_many front [] k = k
-digits_cells too_many front (d ∷ ds) k =
-    cell d (breach_if (too_many (onto (d ∷ front) [])) digit) ∷ digits_cells too_many (d ∷ front) ds k
+digits_cells too_many prefix [] k = k
+digits_cells too_many prefix (d ∷ ds) k =
+    cell d (breach_if (too_many (onto (d ∷ prefix) [])) digit) ∷ digits_cells too_many (d ∷ prefix) ds k
 
 -- with the mark at the first digit
 abbrev pub whole_cells : List ℕ → Option Breach → List Cell → List Cell
@@ -74,12 +76,12 @@ whole_cells (d ∷ ds) m k = cell d m ∷ digits_cells drops_too_many (d ∷ [])
 
 abbrev pub fraction_cells : List ℕ → List ℕ → List Cell → List Cell
 fraction_cells whole [] k = k
-fraction_cells whole (d ∷ ds) k = cell 46 None ∷ digits_cells (keeps_too_many whole) [] (d ∷ ds) k
+fraction_cells whole (d ∷ ds) k = cell decimal_point None ∷ digits_cells (keeps_too_many whole) [] (d ∷ ds) k
 
 abbrev pub sign_cells : Sign → List Cell → List Cell
 sign_cells unsigned k = k
-sign_cells plus k = cell 43 None ∷ k
-sign_cells minus k = cell 45 None ∷ k
+sign_cells plus k = cell plus_sign None ∷ k
+sign_cells minus k = cell minus_sign None ∷ k
 
 abbrev pub exponent_cells : Option Exponent → List Cell → List Cell
 exponent_cells None k = k
@@ -89,16 +91,16 @@ abbrev pub magnitude_cells : Numeral → Option Breach → List Cell → List Ce
 magnitude_cells n m k = whole_cells n.whole m (fraction_cells n.whole n.fraction (exponent_cells n.exponent k))
 
 abbrev pub numeral_cells : Numeral → Option Breach → List Cell → List Cell
-numeral_cells n m k = if n.negative then cell 45 m ∷ magnitude_cells n None k else magnitude_cells n m k
+numeral_cells n m k = if n.negative then cell minus_sign m ∷ magnitude_cells n None k else magnitude_cells n m k
 
 -- ---- strings
 
 abbrev pub escape_cells : List Cell → List Cell
-escape_cells k = cell 92 None ∷ cell 117 None ∷ k
+escape_cells k = cell escape None ∷ cell 117 None ∷ k
 
 abbrev pub item_cells : Item → List Cell → List Cell
 item_cells (grammar.plain c) k = cell c None ∷ k
-item_cells (simple c) k = cell 92 None ∷ cell c None ∷ k
+item_cells (simple c) k = cell escape None ∷ cell c None ∷ k
 item_cells (single u) k = escape_cells (plain u k)
 item_cells (double u v) k = escape_cells (plain u (escape_cells (marked_last v (breach_if (not (is_pair u v)) pair) k)))
 
@@ -115,12 +117,13 @@ duplicate_if r seen is = breach_if (r.strict && is_known seen (bytes_of is)) (du
 
 abbrev pub key_cells : Reading → List (List ℕ) → Key → Option Breach → List Cell → List Cell
 key_cells r seen key m k =
-    plain key.before (cell 34 m ∷ items_cells key.items (cell 34 (duplicate_if r seen key.items) ∷ plain key.after
-    (cell 58 None ∷ k)))
+    plain key.before (cell quotation_mark m ∷ items_cells key.items
+    (cell quotation_mark (duplicate_if r seen key.items) ∷ plain key.after
+    (cell name_separator None ∷ k)))
 
 -- ---- values
 
--- The first character after a bracket and its blank, where as many non-empty containers are open round it as the
+-- The first character after a bracket and its whitespace, where as many non-empty containers are open round it as the
 -- reading allows.
 abbrev pub deep_if : Reading → ℕ → Option Breach
 deep_if r depth = breach_if (nat_le r.depth depth) deep
@@ -132,25 +135,26 @@ abbrev mutual
   node_cells r (Node.boolean true) depth m k = cell 116 m ∷ plain (codes "rue") k
   node_cells r (Node.boolean false) depth m k = cell 102 m ∷ plain (codes "alse") k
   node_cells r (Node.number n) depth m k = numeral_cells n m k
-  node_cells r (Node.string is) depth m k = cell 34 m ∷ items_cells is (cell 34 None ∷ k)
-  node_cells r (Node.empty_array b) depth m k = cell 91 m ∷ plain b (cell 93 None ∷ k)
-  node_cells r (Node.empty_object b) depth m k = cell 123 m ∷ plain b (cell 125 None ∷ k)
+  node_cells r (Node.string is) depth m k = cell quotation_mark m ∷ items_cells is (cell quotation_mark None ∷ k)
+  node_cells r (Node.empty_array b) depth m k = cell begin_array m ∷ plain b (cell end_array None ∷ k)
+  node_cells r (Node.empty_object b) depth m k = cell begin_object m ∷ plain b (cell end_object None ∷ k)
   node_cells r (Node.array b n c es) depth m k =
-      cell 91 m ∷ plain b (node_cells r n (suc depth) (deep_if r depth) (plain c (elements_cells r es (suc depth) k)))
+      cell begin_array m ∷ plain b (node_cells r n (suc depth) (deep_if r depth)
+      (plain c (elements_cells r es (suc depth) k)))
   node_cells r (Node.object key b n c ms) depth m k =
-      cell 123 m ∷ key_cells r [] key (deep_if r depth)
+      cell begin_object m ∷ key_cells r [] key (deep_if r depth)
       (plain b (node_cells r n (suc depth) None (plain c (members_cells r ms (bytes_of key.items ∷ []) (suc depth) k))))
 
   pub elements_cells : Reading → Elements → ℕ → List Cell → List Cell
-  elements_cells r no_elements depth k = cell 93 None ∷ k
+  elements_cells r no_elements depth k = cell end_array None ∷ k
   elements_cells r (element b n c es) depth k =
-      cell 44 None ∷ plain b (node_cells r n depth None (plain c (elements_cells r es depth k)))
+      cell value_separator None ∷ plain b (node_cells r n depth None (plain c (elements_cells r es depth k)))
 
   -- `seen` are the texts of the keys before
   pub members_cells : Reading → Members → List (List ℕ) → ℕ → List Cell → List Cell
-  members_cells r no_members seen depth k = cell 125 None ∷ k
+  members_cells r no_members seen depth k = cell end_object None ∷ k
   members_cells r (member key b n c ms) seen depth k =
-      cell 44 None ∷ key_cells r seen key None
+      cell value_separator None ∷ key_cells r seen key None
       (plain b (node_cells r n depth None (plain c (members_cells r ms (bytes_of key.items ∷ seen) depth k))))
 
 abbrev pub cells : Reading → Document → List Cell
@@ -160,7 +164,7 @@ cells r d = plain d.before (node_cells r d.node 0 None (plain d.after []))
 abbrev pub spell : Reading → Document → List ℕ
 spell r d = map (λ x. x.char) (cells r d)
 
--- this breach stands at place i of the tree's text
+-- this breach stands at offset i of the tree's text
 abbrev pub BreachAt : Reading → Breach → Document → ℕ → Type 0
 BreachAt r b d i = slice_get (map (λ x. x.mark) (cells r d)) i ≡ Some (Some b)
 

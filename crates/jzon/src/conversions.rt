@@ -28,7 +28,7 @@ pub fn stringify<T: IntoJson>(alloc: Global, root: T) -> Result<String>
     root.into_json(alloc)?.dump(alloc)
 }
 
-/// The text of the value that `root` turns into, with a line for each item and `spaces` blanks for each container around it. Refused as
+/// The text of the value that `root` turns into, with a line for each item and `spaces` spaces for each container around it. Refused as
 /// `dump` is.
 pub fn stringify_pretty<T: IntoJson>(alloc: Global, root: T, spaces: u16) -> Result<String>
     ensures text { IfOk result

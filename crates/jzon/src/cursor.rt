@@ -5,12 +5,12 @@ ghost use Rattle.std.specs.Prelude.{drop, true, false, slice_index, Err, IfOk, O
 ghost use Rattle.std.specs.Str.{IsCharBoundary, IsUtf8};
 ghost use Rattle.jzon_base.specs.PairList.{put};
 ghost use Rattle.jzon_tree.specs.Value.{Value, array, no_values, values_of, object, no_pairs, pairs_of};
-ghost use Rattle.jzon_tree.specs.Writing.{is_space};
+ghost use Rattle.jzon_tree.specs.Writing.{is_whitespace};
 ghost use Rattle.jzon.specs.Machine.{Entries, Frames, frames_depth, array_frame, object_frame, is_fresh, value_mark};
 ghost use Rattle.jzon.specs.Machine.{before, before_key, behind, stopped, Tells};
-ghost use Rattle.jzon.specs.Tokens.{begin_array, end_array, begin_object, end_object};
+ghost use Rattle.jzon_base.specs.Tokens.{begin_array, end_array, begin_object, end_object};
 
-use crate::place::fault_at;
+use crate::fault::fault_at;
 use crate::reading::Reading;
 use crate::whitespace::skip_whitespace;
 use jzon_base::error::{Error, Result};
@@ -23,7 +23,7 @@ pub(crate) struct Cursor<'a> {
     pub(crate) reading: Reading,
     ghost utf8: { ∥ IsUtf8 source.now ∥₁ },
     ghost boundary: { IsCharBoundary source.now index },
-    ghost past_whitespace: { index < length source.now → is_space reading.strict (slice_index source.now index)
+    ghost past_whitespace: { index < length source.now → is_whitespace reading.strict (slice_index source.now index)
         ≡ false },
 }
 

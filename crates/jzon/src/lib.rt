@@ -3,6 +3,7 @@
 
 mod conversions;
 mod cursor;
+mod fault;
 mod frames;
 pub mod iterators;
 pub mod laws;
@@ -10,7 +11,6 @@ mod macros;
 mod numeral;
 pub mod object;
 mod parser;
-mod place;
 mod reading;
 mod scalar;
 mod string;

@@ -14,15 +14,15 @@ ghost use Rattle.jzon_tree.specs.Value.{number};
 ghost use Rattle.jzon.specs.Reading.{Reading};
 ghost use Rattle.jzon.specs.Grammar.{is_exponent_letter};
 ghost use Rattle.jzon.specs.Classes.{lettered};
-ghost use Rattle.jzon.specs.Tokens.{zero_digit};
+ghost use Rattle.jzon_base.specs.Tokens.{zero_digit};
 ghost use Rattle.jzon.specs.Machine.{Frames, numeral, numeral_begun, behind, from, stopped, Tells, Leads};
 
-use crate::place::{fault_at, has_byte};
+use crate::fault::{fault_at, has_byte};
 use jzon_base::digits::{read_scanned, scan};
 use jzon_base::error::{Error, Result};
 use jzon_base::number::Number;
 
-/// The number whose first digit stands at `start`, and the place behind it.
+/// The number whose first digit stands at `start`, and the offset behind it.
 #[inline(always)]
 pub(crate) fn read_number(source: &str, start: usize, negative: bool) -> Result<(Number, usize)>
     requires within { start < length source.now }
@@ -57,7 +57,7 @@ struct Spelling<'a> {
     number: u64,
     positive_exponent: bool,
     exponent: &'a [u8],
-    // the place behind the number
+    // the offset behind the number
     end: usize,
     // a digit must stand there and doesn't
     is_missing: bool,
@@ -170,7 +170,7 @@ fn whole_at(source: &str, start: usize) -> (&[u8], u64)
     }
 }
 
-// The digits that stand at a place, and the number that they spell behind the digits of a number before, both modulo 2^64.
+// The digits that stand at an offset, and the number that they spell behind the digits of a number before, both modulo 2^64.
 #[inline(always)]
 fn digits_at(source: &str, start: usize, before: u64) -> (&[u8], u64)
     requires { start ≤ length source.now }
@@ -182,7 +182,7 @@ fn digits_at(source: &str, start: usize, before: u64) -> (&[u8], u64)
     (&rest[..count], number)
 }
 
-// The digits of an exponent, which may be none, and the place behind them.
+// The digits of an exponent, which may be none, and the offset behind them.
 #[derive(Clone, Copy)]
 struct Exponent<'a> {
     is_positive: bool,
@@ -229,9 +229,10 @@ fn exponent_at(source: &str, start: usize, is_positive: bool) -> Exponent<'_>
     }
 }
 
-// Whether an exponent begins at this place.
+// Whether an exponent begins at this offset.
 fn has_exponent_letter(source: &str, index: usize) -> bool
-    ensures { IsTrue result ↔ ((index < length source.now) × IsTrue (is_exponent_letter (slice_index source.now index))) }
+    ensures { IsTrue result ↔ ((index < length source.now)
+        × IsTrue (is_exponent_letter (slice_index source.now index))) }
 {
     has_byte(source, index, b'e') || has_byte(source, index, b'E')
 }

@@ -12,11 +12,11 @@ ghost use Rattle.jzon.specs.Frames.{entries_view, open_in, stack_view, place_of,
 ghost use Rattle.jzon.specs.Machine.{Frames, no_frames, array_frame, object_frame, frames_depth, is_fresh, before};
 ghost use Rattle.jzon.specs.Machine.{before_key, behind, key_mark, from, Reads};
 ghost use Rattle.jzon.specs.Reading.{usual};
-ghost use Rattle.jzon.specs.Tokens.{end_array, end_object};
+ghost use Rattle.jzon_base.specs.Tokens.{end_array, end_object};
 
 use crate::cursor::Cursor;
+use crate::fault::duplicate_at;
 use crate::frames::{Begun, Frame};
-use crate::place::duplicate_at;
 use crate::reading::{Reading, USUAL};
 use crate::scalar::read_scalar;
 use crate::string::read_string;
@@ -278,7 +278,7 @@ impl<'a> Parser<'a> {
 }
 
 /// Whether the reading refuses this key behind these entries. Refused by `OutOfMemory` alone.
-#[tactic(auto, using(crate::proofs::FrameViews::known_view))]
+#[tactic(auto, using(crate::proofs::Bytes::FrameViews::known_view))]
 fn is_refused(alloc: Global, reading: Reading, entries: &mut Builder, name: &str) -> Result<bool>
     ensures same { entries.new ≡ entries.old }
     ensures refused { IfOk result (λ refused. refused ≡ (reading.strict && is_some

@@ -7,21 +7,21 @@ ghost use Rattle.std.specs.Char.{is_ascii_digit};
 ghost use Rattle.std.specs.Str.{IsCharBoundary};
 ghost use Rattle.jzon_tree.specs.Value.{Value, null, boolean};
 ghost use Rattle.jzon_tree.specs.View.{view};
-ghost use Rattle.jzon_tree.specs.Writing.{is_space};
+ghost use Rattle.jzon_tree.specs.Writing.{is_whitespace};
 ghost use Rattle.jzon.specs.Classes.{signed};
 ghost use Rattle.jzon.specs.Machine.{numeral, numeral_begun, string, as_value, between, Frames, is_fresh, before};
 ghost use Rattle.jzon.specs.Machine.{behind, past_letter, value_mark, from, Tells, Leads, LeadsUnlessMemory, stopped};
 ghost use Rattle.jzon.specs.Reading.{Reading};
-ghost use Rattle.jzon.specs.Tokens.{begin_array, begin_object, end_array, quotation_mark};
+ghost use Rattle.jzon_base.specs.Tokens.{begin_array, begin_object, end_array, quotation_mark};
 
+use crate::fault::{fault_at, has_byte, has_digit, has_four};
 use crate::numeral::read_number;
-use crate::place::{fault_at, has_byte, has_digit, has_four};
 use crate::string::{read_string, text_value};
 use jzon_base::error::{Error, Result};
 use jzon_tree::value::JsonValue;
 use std::alloc::Global;
 
-/// The value that begins at `start` and is no container, and the place behind it.
+/// The value that begins at `start` and is no container, and the offset behind it.
 #[inline(always)]
 pub(crate) fn read_scalar(
     alloc: Global,
@@ -35,7 +35,7 @@ pub(crate) fn read_scalar(
     ensures bounds { IfOk result (λ r. (start < r.1) × IsCharBoundary source.now r.1) }
     ensures memory { result ≡ Err Error.OutOfMemory → slice_index source.now start ≡ quotation_mark }
     ensures same { (r : Reading) (fs : Frames) → value_mark r fs ≡ None
-        → (start < length source.now → is_space r.strict (slice_index source.now start) ≡ false)
+        → (start < length source.now → is_whitespace r.strict (slice_index source.now start) ≡ false)
         → (is_fresh fs ≡ true → slice_index source.now start ≢ end_array) →
         LeadsUnlessMemory r source.now (before fs) start result (λ v. behind fs (view v)) }
 {
@@ -63,7 +63,7 @@ fn stopped_at(source: &str, index: usize) -> Result<(JsonValue, usize)>
     Err(fault_at(source, index))
 }
 
-/// The text that begins at `start`, behind its opening quote, as a value, and the place behind it.
+/// The text that begins at `start`, behind its opening quote, as a value, and the offset behind it.
 #[inline(always)]
 fn read_text(
     alloc: Global,
@@ -81,7 +81,7 @@ fn read_text(
     Ok((value, spelled.end))
 }
 
-/// The number whose minus stands before `start`, and the place behind it.
+/// The number whose minus stands before `start`, and the offset behind it.
 #[inline(always)]
 fn read_negative(source: &str, start: usize) -> Result<(JsonValue, usize)>
     requires { IsCharBoundary source.now start }
@@ -95,7 +95,7 @@ fn read_negative(source: &str, start: usize) -> Result<(JsonValue, usize)>
     read_magnitude(source, start, true)
 }
 
-/// The number whose first digit stands at `start`, and the place behind it.
+/// The number whose first digit stands at `start`, and the offset behind it.
 #[inline(always)]
 fn read_magnitude(source: &str, start: usize, negative: bool) -> Result<(JsonValue, usize)>
     requires within { start < length source.now }
@@ -109,7 +109,7 @@ fn read_magnitude(source: &str, start: usize, negative: bool) -> Result<(JsonVal
     Ok((JsonValue::Number(number), end))
 }
 
-/// The value of the word whose first letter stands at `start`, and the place behind it. Its last four letters are compared at once, and nothing branches by the
+/// The value of the word whose first letter stands at `start`, and the offset behind it. Its last four letters are compared at once, and nothing branches by the
 /// word: which of the three comes next can't be foreseen.
 #[inline(always)]
 fn read_word(source: &str, start: usize) -> Result<(JsonValue, usize)>
@@ -121,10 +121,10 @@ fn read_word(source: &str, start: usize) -> Result<(JsonValue, usize)>
         Leads r source.now (before fs) start result (λ v. behind fs (view v)) }
 {
     let first = source.as_bytes()[start];
-    let front = last_four_at(start, first);
+    let prefix = last_four_at(start, first);
     let value = word_value(first);
-    if has_four(source, front, last_four(first)) {
-        return Ok((value, front + 4));
+    if has_four(source, prefix, last_four(first)) {
+        return Ok((value, prefix + 4));
     }
     read_rest(source, start + 1, letters_behind(first), value)
 }
@@ -181,7 +181,7 @@ fn letters_behind(first: u8) -> &'static [u8]
     }
 }
 
-/// The value of a word, whose letters from `start` on are these, and the place behind it.
+/// The value of a word, whose letters from `start` on are these, and the offset behind it.
 #[inline(always)]
 fn read_rest(
     source: &str,
@@ -199,7 +199,7 @@ fn read_rest(
     Ok((value, end))
 }
 
-/// The place behind these letters, which are the rest of a word, one by one: where one is missing, its place is told.
+/// The offset behind these letters, which are the rest of a word, one by one: where one is missing, its place is told.
 #[cold]
 #[inline(never)]
 fn read_letters(source: &str, start: usize, letters: &[u8]) -> Result<usize>

@@ -16,7 +16,7 @@ ghost use Rattle.jzon.specs.Quote.{EndsAtQuote};
 ghost use Rattle.jzon.specs.Machine.{Role, string, between, slash, code, second, second_code, coded, paired};
 ghost use Rattle.jzon.specs.Machine.{outcome_on, from, from_closed, Tells};
 
-use crate::place::{fault_at, has_byte};
+use crate::fault::{fault_at, has_byte};
 use jzon_base::error::{Error, Result};
 use jzon_base::short::{MAX_LEN, Short};
 use jzon_base::util::hex::hex_value;
@@ -27,7 +27,7 @@ use std::alloc::Global;
 /// How the text of a string stands, and where the string ends.
 #[derive(Clone, Copy)]
 pub(crate) struct Spelled {
-    /// The place behind the closing quote.
+    /// The offset behind the closing quote.
     pub(crate) end: usize,
     /// Whether the text stands in the buffer, with its escapes read. Else it stands in the source, up to the closing quote.
     pub(crate) is_escaped: bool,
@@ -94,7 +94,7 @@ pub(crate) fn read_string(source: &str, start: usize, buffer: &mut String) -> Re
     })
 }
 
-/// The place behind the characters that stand for themselves.
+/// The offset behind the characters that stand for themselves.
 fn plain_end(source: &str, start: usize) -> usize
     requires { IsCharBoundary source.now start }
     ensures within { start ≤ result }
@@ -107,7 +107,7 @@ fn plain_end(source: &str, start: usize) -> usize
     start + plain_len(&source.as_bytes()[start..])
 }
 
-/// The place behind the closing quote, where one stands.
+/// The offset behind the closing quote, where one stands.
 fn past_quote(source: &str, index: usize) -> Result<usize>
     requires boundary { IsCharBoundary source.now index }
     requires stop { index < length source.now → is_plain (slice_index source.now index) ≡ false }
@@ -124,7 +124,7 @@ fn past_quote(source: &str, index: usize) -> Result<usize>
     }
 }
 
-/// Adds the rest of the text, with its escapes read; gives the place behind the closing quote.
+/// Adds the rest of the text, with its escapes read; gives the offset behind the closing quote.
 #[inline(never)]
 fn read_escapes(source: &str, start: usize, buffer: &mut String) -> Result<usize>
     requires boundary { IsCharBoundary source.now start }
@@ -145,7 +145,7 @@ fn read_escapes(source: &str, start: usize, buffer: &mut String) -> Result<usize
     past_quote(source, index)
 }
 
-/// Adds the characters that stand for themselves; gives the place behind them. Refused by `OutOfMemory` alone. Where an escape comes at once nothing is looked
+/// Adds the characters that stand for themselves; gives the offset behind them. Refused by `OutOfMemory` alone. Where an escape comes at once nothing is looked
 /// for.
 #[inline(always)]
 fn push_run(source: &str, start: usize, buffer: &mut String) -> Result<usize>
@@ -166,7 +166,7 @@ fn push_run(source: &str, start: usize, buffer: &mut String) -> Result<usize>
     Ok(end)
 }
 
-/// The character that an escape means, and the place behind it. Its backslash stands before `start`.
+/// The character that an escape means, and the offset behind it. Its backslash stands before `start`.
 fn read_escape(source: &str, start: usize) -> Result<(char, usize)>
     requires { IsCharBoundary source.now start }
     ensures bounds { IfOk result (λ r. (start < r.1) × IsCharBoundary source.now r.1) }
@@ -184,7 +184,7 @@ fn read_escape(source: &str, start: usize) -> Result<(char, usize)>
     }
 }
 
-/// The character that a backslash means before the letter at this place.
+/// The character that a backslash means before the letter at this offset.
 fn simple_escape(source: &str, index: usize) -> Option<char>
     requires { index ≤ length source.now }
     ensures { SomeIff result
@@ -202,7 +202,7 @@ fn simple_escape(source: &str, index: usize) -> Option<char>
     }
 }
 
-/// The character of a `\u` escape whose digits begin at `start`, or of two of them, and the place behind it.
+/// The character of a `\u` escape whose digits begin at `start`, or of two of them, and the offset behind it.
 fn read_unicode(source: &str, start: usize) -> Result<(char, usize)>
     requires { IsCharBoundary source.now start }
     ensures bounds { IfOk result (λ r. (start < r.1) × IsCharBoundary source.now r.1) }
@@ -218,7 +218,7 @@ fn read_unicode(source: &str, start: usize) -> Result<(char, usize)>
     }
 }
 
-/// The character of a surrogate and of the one that must follow it at `start`, and the place behind both.
+/// The character of a surrogate and of the one that must follow it at `start`, and the offset behind both.
 fn read_second(source: &str, start: usize, first: u32) -> Result<(char, usize)>
     requires { IsCharBoundary source.now start }
     ensures bounds { IfOk result (λ r. (start < r.1) × IsCharBoundary source.now r.1) }
@@ -276,7 +276,7 @@ fn read_hex(source: &str, start: usize) -> Result<u32>
     Ok(unit)
 }
 
-/// The value of the hexadecimal digit at this place.
+/// The value of the hexadecimal digit at this offset.
 fn hex_digit(source: &str, index: usize) -> Option<u32>
     ensures { SomeIff result
         ((index < length source.now) × IsTrue (is_ascii_hexdigit (slice_index source.now index)))

@@ -3,10 +3,10 @@
 ghost use Rattle.std.specs.Prelude.{◌≡◌, ℕ, IsTrue, ◌<◌, ◌≤◌, length, true, false, slice_index};
 ghost use Rattle.std.specs.List.{prefix_len};
 ghost use Rattle.std.specs.Str.{IsCharBoundary};
-ghost use Rattle.jzon_tree.specs.Writing.{is_space};
+ghost use Rattle.jzon_tree.specs.Writing.{is_whitespace};
 ghost use Rattle.jzon.specs.Machine.{Place, allows_whitespace, from};
 
-use crate::place::{has_byte, has_four};
+use crate::fault::{has_byte, has_four};
 use crate::reading::Reading;
 
 /// The offset behind the whitespace that stands at `start`.
@@ -17,7 +17,7 @@ pub(crate) fn skip_whitespace(source: &str, reading: Reading, start: usize) -> u
     ensures same { (p : Place) → allows_whitespace p ≡ true →
         from reading source.now p start ≡ from reading source.now p result }
     ensures within { start ≤ result }
-    ensures stop { result < length source.now → is_space reading.strict (slice_index source.now result) ≡ false }
+    ensures stop { result < length source.now → is_whitespace reading.strict (slice_index source.now result) ≡ false }
 {
     if is_above_blank(source, start) {
         return start;
@@ -28,7 +28,7 @@ pub(crate) fn skip_whitespace(source: &str, reading: Reading, start: usize) -> u
     start + whitespace_length(&source[start..], reading.strict())
 }
 
-/// Whether a byte above the blank stands at this place. None of them is whitespace.
+/// Whether a byte above the whitespace stands at this offset. None of them is whitespace.
 #[inline(always)]
 fn is_above_blank(source: &str, index: usize) -> bool
     ensures within { IsTrue result → index < length source.now }
@@ -38,10 +38,10 @@ fn is_above_blank(source: &str, index: usize) -> bool
     index < bytes.len() && bytes[index] > b' '
 }
 
-/// How many whitespace bytes stand at the beginning. A newline and the blanks behind it come first: they are most of the whitespace of a text with lines.
+/// How many whitespace bytes stand at the beginning. A newline and the spaces behind it come first: they are most of the whitespace of a text with lines.
 #[inline(never)]
 fn whitespace_length(text: &str, strict: bool) -> usize
-    ensures { result ≡ prefix_len (is_space strict) text.now }
+    ensures { result ≡ prefix_len (is_whitespace strict) text.now }
 {
     let mut len = usize::from(has_byte(text, 0, b'\n'));
     while has_four(text, len, *b"    ") {
@@ -53,7 +53,7 @@ fn whitespace_length(text: &str, strict: bool) -> usize
 /// The same of bytes, found one by one.
 #[inline(always)]
 fn whitespace_by_bytes(bytes: &[u8], strict: bool) -> usize
-    ensures { result ≡ prefix_len (is_space strict) bytes.now }
+    ensures { result ≡ prefix_len (is_whitespace strict) bytes.now }
 {
     bytes
         .iter()
@@ -61,9 +61,9 @@ fn whitespace_by_bytes(bytes: &[u8], strict: bool) -> usize
         .count()
 }
 
-/// Whether the byte is whitespace: tab, newline, carriage return or blank, or where the reading isn't strict vertical tab or form feed.
+/// Whether the byte is whitespace: tab, newline, carriage return or space, or where the reading isn't strict vertical tab or form feed.
 fn is_whitespace(byte: u8, strict: bool) -> bool
-    ensures { result ≡ is_space strict byte }
+    ensures { result ≡ is_whitespace strict byte }
 {
     matches!(byte, 9 | 10 | 13 | 32) || (!strict && matches!(byte, 11 | 12))
 }

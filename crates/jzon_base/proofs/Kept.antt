@@ -1,4 +1,4 @@
--- The longest front of digits that spells a number below 2 ^ 64.
+-- The longest prefix of digits that spells a number below 2 ^ 64.
 use Rattle.std.proofs.Common.{◌≡◌, ℕ, zero, suc, ◌+◌, ◌-◌, ◌^◌, ◌≤◌, ◌<◌, List, [], ◌∷◌, ◌++◌, length, take, drop, ap}
 use Rattle.std.proofs.Common.{◌∙◌, subst, arith, inl, inr, length-append, add-zero, zero-add, add-suc, suc-add, pow-suc}
 use Rattle.std.proofs.Common.{nat_lt, if◌then◌else◌, lit<}
@@ -10,10 +10,10 @@ use Rattle.std.proofs.Math.Nat.{pow-le-pow_right}
 use Rattle.std.proofs.Math.Seq.{take-add, take-append-add}
 use Rattle.std.proofs.lemmas.Bool.{cases_lt}
 use Rattle.std.proofs.lemmas.Bool.Decides.{nat_tests}
-use Rattle.jzon_base.specs.DigitLimits.{IsLongestFront}
+use Rattle.jzon_base.specs.DigitLimits.{IsLongestPrefix}
 use Rattle.jzon_base.specs.Digits.{IsDigit, add_digit, digits_number, longest_up_to, kept_len}
 
--- ---- a longer front spells no smaller number
+-- ---- a longer prefix spells no smaller number
 
 fold-ge : (v : ℕ) (ds : List ℕ) → v ≤ fold add_digit v ds
 fold-ge v [] = omega arith
@@ -28,7 +28,7 @@ fold-take-le v ds i n h =
     ∙ fold-append add_digit v (take i ds) (take (n - i) (drop i ds)) in
     omega (arith, e, fold-ge (fold add_digit v (take i ds)) (take (n - i) (drop i ds)))
 
--- ---- the kept digits are the longest front
+-- ---- the kept digits are the longest prefix
 
 if-lt : (a b x y : ℕ) → a < b → (if nat_lt a b then x else y) ≡ x
 if-lt a b x y h = grind (arith, nat_tests)
@@ -82,12 +82,12 @@ longest_up_to_is ds (suc n) =
           large))
     ]
 
-pub kept_len_is_longest : (ds : List ℕ) → IsLongestFront ds (kept_len ds)
+pub kept_len_is_longest : (ds : List ℕ) → IsLongestPrefix ds (kept_len ds)
 unfolding kept_len
 kept_len_is_longest ds = let k = longest_up_to_is ds (length ds) in record
     { within = k.within; fits = k.fits; longest = k.longest }
 
--- ---- a front that one digit more makes too large is the longest
+-- ---- a prefix that one digit more makes too large is the longest
 
 pub kept_len-at : (ds : List ℕ) (k : ℕ) → k ≤ length ds → digits_number (take k ds) < 2 ^ 64
     → (k < length ds → 2 ^ 64 ≤ digits_number (take (k + 1) ds)) → kept_len ds ≡ k
@@ -111,10 +111,11 @@ kept_len-at ds k within fits next =
 pub kept_len-within_whole : (whole fraction : List ℕ) (k : ℕ) → k < length whole → digits_number (take k whole) < 2 ^ 64
     → 2 ^ 64 ≤ digits_number (take (k + 1) whole) → kept_len (whole ++ fraction) ≡ k
 kept_len-within_whole whole fraction k h fits large =
-    let front : take k (whole ++ fraction) ≡ take k whole = take-append-le k whole fraction (omega arith) in
+    let prefix : take k (whole ++ fraction) ≡ take k whole = take-append-le k whole fraction (omega arith) in
     let next : take (k + 1) (whole ++ fraction) ≡ take (k + 1) whole = take-append-le (k + 1) whole fraction
     (omega arith) in
-    kept_len-at (whole ++ fraction) k (omega (arith, length-append whole fraction)) (rw front fits) (λ _. rw next large)
+    kept_len-at (whole ++ fraction) k (omega (arith, length-append whole fraction)) (rw prefix fits)
+    (λ _. rw next large)
 
 pub digits_number-take-append : (whole fraction : List ℕ) (n : ℕ)
     → digits_number (take (length whole + n) (whole ++ fraction))

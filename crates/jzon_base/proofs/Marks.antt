@@ -2,7 +2,8 @@
 use Rattle.std.proofs.Common.{◌≡◌, ◌≢◌, ◌∙◌, ℕ, zero, suc, ◌+◌, ◌<◌, ◌≤◌, ◌%◌, true, false, List, [], ◌∷◌, ◌++◌}
 use Rattle.std.proofs.Common.{length, set, get_or, bit_and, refl, sym, ap, subst, inl, inr, arith}
 use Rattle.std.proofs.lemmas.Bool.{cases_eq, cases_lt, cases_Bool, eq-eqb, ne_eqb, false≢true}
-use Rattle.std.proofs.lemmas.List.{get_or-set_same, get_or-set_other, get_or_past, get_or_append_left, get_or_default, length_push}
+use Rattle.std.proofs.lemmas.List.{get_or-set_same, get_or-set_other, get_or_past, get_or_append_left, get_or_default}
+use Rattle.std.proofs.lemmas.List.{length_push}
 use Rattle.std.proofs.lemmas.List.Folds.{list_any_none}
 use Rattle.std.proofs.lemmas.Slice.Eq.{bytes_eq-Decides}
 use Rattle.std.specs.List.{list_any}
@@ -32,7 +33,8 @@ full_marked ss m i (suc n) full =
     let ne = full i (omega arith) (omega arith) in
     elim (cases_eq (get_or ss i 1) m) [
       | inl e ↦ marked_here ss m i n ne e
-      | inr other ↦ marked_on ss m i n ne other ∙ full_marked ss m (i + 1) n (λ k l h. full k (omega arith) (omega arith))
+      | inr other ↦ marked_on ss m i n ne other
+          ∙ full_marked ss m (i + 1) n (λ k l h. full k (omega arith) (omega arith))
     ]
 
 -- a mark in the first empty slot
@@ -111,7 +113,8 @@ pub unmarked : (ks : List (List ℕ)) (ss : List ℕ) (mask n : ℕ) (name : Lis
 unmarked ks ss mask n name known all new =
     sym (list_any_none (λ k. bytes_eq k name) ks (λ j d l. elim (cases_Bool (bytes_eq (get_or ks j d) name)) [
       | inl e ↦
-          (let same : get_or ks j [] ≡ name = get_or_default ks j [] d l ∙ (bytes_eq-Decides (get_or ks j d) name).0 e in
+          (let same : get_or ks j [] ≡ name = get_or_default ks j [] d l
+          ∙ (bytes_eq-Decides (get_or ks j d) name).0 e in
           absurd (false≢true (sym new ∙ ap (λ (x : List ℕ). may_have ss mask x) (sym same)
           ∙ known.marked j (omega arith))))
       | inr e ↦ e

@@ -20,17 +20,17 @@ use Rattle.jzon_base.proofs.Zips.{AreParts-zip}
 use Rattle.std.proofs.lemmas.Option.{same_Some}
 use Rattle.jzon_base.proofs.Positions.{position-first, position-none, position-None-before}
 
--- ---- an element that is moved to the front part
+-- ---- an element that is moved to the prefix part
 
 module _ {X : Type 0} where
-  front : (xs : List X) (k n : ℕ) (a b : X) → k ≤ n → (k ≡ n → a ≡ b) → n < length xs
+  prefix : (xs : List X) (k n : ℕ) (a b : X) → k ≤ n → (k ≡ n → a ≡ b) → n < length xs
       → take (suc k) (set (set xs k a) n b) ≡ take k xs ++ a ∷ []
-  front [] k n a b le e l = absurd (omega arith)
-  front (x ∷ xs) zero zero a b le e l = ap (λ y. y ∷ []) (sym (e refl))
-  front (x ∷ xs) zero (suc n) a b le e l = refl
-  front (x ∷ xs) (suc k) zero a b le e l = absurd (omega arith)
-  front (x ∷ xs) (suc k) (suc n) a b le e l = ap (λ ys. x ∷ ys)
-      (front xs k n a b (omega arith) (λ f. e (ap suc f)) (omega arith))
+  prefix [] k n a b le e l = absurd (omega arith)
+  prefix (x ∷ xs) zero zero a b le e l = ap (λ y. y ∷ []) (sym (e refl))
+  prefix (x ∷ xs) zero (suc n) a b le e l = refl
+  prefix (x ∷ xs) (suc k) zero a b le e l = absurd (omega arith)
+  prefix (x ∷ xs) (suc k) (suc n) a b le e l = ap (λ ys. x ∷ ys)
+      (prefix xs k n a b (omega arith) (λ f. e (ap suc f)) (omega arith))
 
   back : (xs : List X) (k n : ℕ) (a b : X) → k ≤ n → drop (suc n) (set (set xs k a) n b) ≡ drop (suc n) xs
   back [] k n a b le = refl
@@ -44,7 +44,7 @@ module _ {X : Type 0} where
   back (x ∷ xs) (suc k) zero a b le = absurd (omega arith)
   back (x ∷ xs) (suc k) (suc n) a b le = back xs k n a b (omega arith)
 
-  -- a place before the front part's end is written over, and one at or behind it
+  -- a place before the prefix part's end is written over, and one at or behind it
   within : (xs : List X) (m k n : ℕ) (a b : X) → m ≤ n → k < m → take m (set (set xs k a) n b) ≡ set (take m xs) k a
   within xs zero k n a b le l = absurd (omega arith)
   within [] (suc m) k n a b le l = refl
@@ -71,12 +71,12 @@ module _ {X : Type 0} where
       ∙ drop_more ys n d m in
       (cc, cc)
 
-  swap_front : (xs : List X) (k n : ℕ) (d : X) → k ≤ n → n < length xs
+  swap_prefix : (xs : List X) (k n : ℕ) (d : X) → k ≤ n → n < length xs
       → take (k + 1) (swap xs k n) ≡ take k xs ++ get_or xs n d ∷ []
-  swap_front xs k n d le l =
+  swap_prefix xs k n d le l =
       ap (take (k + 1)) (sym (swap_is xs k n d (omega arith) l))
       ∙ ap (λ (m : ℕ). take m (set (set xs k (get_or xs n d)) n (get_or xs k d))) (add-one k)
-      ∙ front xs k n (get_or xs n d) (get_or xs k d) le (λ f. ap (λ (m : ℕ). get_or xs m d) (sym f)) l
+      ∙ prefix xs k n (get_or xs n d) (get_or xs k d) le (λ f. ap (λ (m : ℕ). get_or xs m d) (sym f)) l
 
   swap_back : (xs : List X) (k n : ℕ) (d : X) → k ≤ n → n < length xs → drop (n + 1) (swap xs k n) ≡ drop (n + 1) xs
   swap_back xs k n d le l =
@@ -213,11 +213,11 @@ module _ {V : Type 0} (ks0 : List (List ℕ)) (vs0 : List V) (fs0 : List ℕ) wh
     value_read = (same_read vs vs0 at value.0 (omega (arith, m.values_even)) (omega arith) m.values_left).0
         ∙ sym value.1
 
-    front_keys : length (take kept ks) ≡ kept
-    front_keys = length-take-le kept ks (omega (arith, m.keys_even, m.behind))
+    prefix_keys : length (take kept ks) ≡ kept
+    prefix_keys = length-take-le kept ks (omega (arith, m.keys_even, m.behind))
 
-    front_values : length (take kept vs) ≡ length (take kept ks)
-    front_values = length-take-le kept vs (omega (arith, m.values_even, m.behind)) ∙ sym front_keys
+    prefix_values : length (take kept vs) ≡ length (take kept ks)
+    prefix_values = length-take-le kept vs (omega (arith, m.values_even, m.behind)) ∙ sym prefix_keys
 
     entry_more : put_each (take (at + 1) (zip ks0 vs0)) ≡ put key value.0 (put_each (take at (zip ks0 vs0)))
     entry_more = put_each-more ks0 vs0 at value.0 l even value.1
@@ -234,14 +234,14 @@ module _ {V : Type 0} (ks0 : List (List ℕ)) (vs0 : List V) (fs0 : List ℕ) wh
           let none : position (λ k. bytes_eq k key) (keys_of (put_each (take at (zip ks0 vs0))))
           ≡ None = missing_each key (take at (zip ks0 vs0)) (other_take key ks0 vs0 at (omega arith) before) in
           ap (position (λ k. bytes_eq k key)) (AreParts-zip (take kept ks) (take kept vs)
-          (put_each (take at (zip ks0 vs0))) m.merged front_values).keys ∙ none
+          (put_each (take at (zip ks0 vs0))) m.merged prefix_values).keys ∙ none
 
-      keys_front : take (kept + 1) (swap ks kept at) ≡ take kept ks ++ key ∷ []
-      keys_front = swap_front ks kept at [] m.behind (omega (arith, m.keys_even))
+      keys_prefix : take (kept + 1) (swap ks kept at) ≡ take kept ks ++ key ∷ []
+      keys_prefix = swap_prefix ks kept at [] m.behind (omega (arith, m.keys_even))
           ∙ ap (λ k. take kept ks ++ k ∷ []) key_read
 
-      values_front : take (kept + 1) (swap vs kept at) ≡ take kept vs ++ value.0 ∷ []
-      values_front = swap_front vs kept at value.0 m.behind (omega (arith, m.values_even))
+      values_prefix : take (kept + 1) (swap vs kept at) ≡ take kept vs ++ value.0 ∷ []
+      values_prefix = swap_prefix vs kept at value.0 m.behind (omega (arith, m.values_even))
           ∙ ap (λ v. take kept vs ++ v ∷ []) value_read
 
       slot_of : (j : ℕ) → j < at + 1 → get_or fs0 j 0 ≡ j → position (λ k. bytes_eq k (get_or ks0 j []))
@@ -254,7 +254,7 @@ module _ {V : Type 0} (ks0 : List (List ℕ)) (vs0 : List V) (fs0 : List ℕ) wh
                 ∙ get_or-set_same fs at kept 0 (omega (arith, m.places_even, firsts.even)) in
                 ap (λ (n : ℕ). position (λ k. bytes_eq k (get_or ks0 n [])) (take kept ks ++ key ∷ [])) e
                 ∙ position-last (λ k. bytes_eq k key) (take kept ks) key missing ((bytes_eq-Decides key key).1 refl)
-                ∙ ap Some (front_keys ∙ sym place))
+                ∙ ap Some (prefix_keys ∙ sym place))
             | inr t ↦
                 (let ne : j ≡ at → ⊥ = eqb-false j at t in
                 position-append (λ k. bytes_eq k (get_or ks0 j [])) (take kept ks) (key ∷ []) (get_or fs j 0) []
@@ -271,9 +271,10 @@ module _ {V : Type 0} (ks0 : List (List ℕ)) (vs0 : List V) (fs0 : List ℕ) wh
             ∙ (same_read ks ks0 at [] (omega (arith, m.keys_even)) l m.keys_left).1;
         values_left = swap_back vs kept at value.0 m.behind (omega (arith, m.values_even))
             ∙ (same_read vs vs0 at value.0 (omega (arith, m.values_even)) (omega arith) m.values_left).1;
-        merged = (λ i. zip (keys_front i) (values_front i)) ∙ zip-put_missing key value.0 (take kept ks) (take kept vs)
-            (put_each (take at (zip ks0 vs0))) m.merged front_values (sym missing) ∙ sym entry_more;
-        slots = λ j h own. ap (position (λ k. bytes_eq k (get_or ks0 j []))) keys_front ∙ slot_of j h own;
+        merged = (λ i. zip (keys_prefix i) (values_prefix i))
+            ∙ zip-put_missing key value.0 (take kept ks) (take kept vs)
+            (put_each (take at (zip ks0 vs0))) m.merged prefix_values (sym missing) ∙ sym entry_more;
+        slots = λ j h own. ap (position (λ k. bytes_eq k (get_or ks0 j []))) keys_prefix ∙ slot_of j h own;
         later = λ j h. get_or-set_other fs at j kept 0 (λ e. absurd (omega arith)) ∙ m.later j (omega arith);
       }
 
@@ -311,7 +312,7 @@ module _ {V : Type 0} (ks0 : List (List ℕ)) (vs0 : List V) (fs0 : List ℕ) wh
           ∙ m.slots first first_before first_of_first
 
       pub slot_within : slot < kept
-      slot_within = omega (arith, (position-Some (λ k. bytes_eq k key) (take kept ks) slot [] slot_is).0, front_keys)
+      slot_within = omega (arith, (position-Some (λ k. bytes_eq k key) (take kept ks) slot [] slot_is).0, prefix_keys)
 
       values_there : take kept (swap vs slot at) ≡ set (take kept vs) slot value.0
       values_there = swap_within vs kept slot at value.0 m.behind slot_within (omega (arith, m.values_even))
@@ -327,7 +328,7 @@ module _ {V : Type 0} (ks0 : List (List ℕ)) (vs0 : List V) (fs0 : List ℕ) wh
         values_left = swap_back vs slot at value.0 (omega (arith, slot_within, m.behind)) (omega (arith, m.values_even))
             ∙ (same_read vs vs0 at value.0 (omega (arith, m.values_even)) (omega arith) m.values_left).1;
         merged = ap (zip (take kept ks)) values_there ∙ zip-put_placed key value.0 (take kept ks) (take kept vs)
-            (put_each (take at (zip ks0 vs0))) m.merged front_values slot (sym slot_is) ∙ sym entry_more;
+            (put_each (take at (zip ks0 vs0))) m.merged prefix_values slot (sym slot_is) ∙ sym entry_more;
         slots = λ j h own.
             let ne : j ≡ at → ⊥ = λ e. old (m.later at (omega arith) ∙ ap (λ (n : ℕ). get_or fs0 n 0) (sym e) ∙ own ∙ e)
             in

@@ -77,35 +77,35 @@ split : (d : List ℕ) (n : ℕ) → prefix_len is_plain d
     (length (take n d) + prefix_len is_plain (drop n d)) (prefix_len is_plain (take n d))
 split d n = ap (prefix_len is_plain) (sym (take-append-drop n d)) ∙ prefix_len-append is_plain (take n d) (drop n d)
 
--- a run that ends in a block at the front
-pub front_ends : (d : List ℕ) (n r : ℕ) → n ≤ length d → r ≡ prefix_len is_plain (take n d) → r < n
+-- a run that ends in a first block
+pub prefix_ends : (d : List ℕ) (n r : ℕ) → n ≤ length d → r ≡ prefix_len is_plain (take n d) → r < n
     → r ≡ prefix_len is_plain d
-front_ends d n r room counted short =
+prefix_ends d n r room counted short =
     let other = ne_eqb (prefix_len is_plain (take n d)) (length (take n d))
     (λ same. absurd (omega (arith, length-chunk 0 n d (omega arith)))) in
     counted ∙ sym (split d n ∙ cond-false _ _ _ other)
 
--- a run that goes on past a block at the front
-pub front_passes : (d : List ℕ) (n r : ℕ) → n ≤ length d → r ≡ prefix_len is_plain (take n d) → n ≤ r
+-- a run that goes on past a first block
+pub prefix_passes : (d : List ℕ) (n r : ℕ) → n ≤ length d → r ≡ prefix_len is_plain (take n d) → n ≤ r
     → n + prefix_len is_plain (drop n d) ≡ prefix_len is_plain d
-front_passes d n r room counted whole =
+prefix_passes d n r room counted whole =
     let long = length-chunk 0 n d (omega arith) in
     let same : prefix_len is_plain (take n d) ≡ length (take n d) = omega
     (arith, long, prefix_len-le-length is_plain (take n d)) in
     ap (λ (m : ℕ). m + prefix_len is_plain (drop n d)) (sym long) ∙ sym (split d n ∙ cond-true _ _ _ (eq-eqb _ _ same))
 
 -- the same, with the rest of the bytes as the code lends it, and what was counted in it
-pub front_and_rest : (d : List ℕ) (n r s : ℕ) → n ≤ length d → r ≡ prefix_len is_plain (take n d) → n ≤ r
+pub prefix_and_rest : (d : List ℕ) (n r s : ℕ) → n ≤ length d → r ≡ prefix_len is_plain (take n d) → n ≤ r
     → s ≡ prefix_len is_plain (take (length d - n) (drop n d)) → n + s ≡ prefix_len is_plain d
-front_and_rest d n r s room counted whole rest =
-    ap (λ (m : ℕ). n + m) (rest ∙ ap (prefix_len is_plain) (take_rest d n)) ∙ front_passes d n r room counted whole
+prefix_and_rest d n r s room counted whole rest =
+    ap (λ (m : ℕ). n + m) (rest ∙ ap (prefix_len is_plain) (take_rest d n)) ∙ prefix_passes d n r room counted whole
 
 -- the run from a place on, past a block there
 pub passes_block : (d : List ℕ) (i n r : ℕ) → i + n ≤ length d → r ≡ prefix_len is_plain (chunk i n d) → n ≤ r
     → prefix_len is_plain d ≡ i + prefix_len is_plain (drop i d)
     → prefix_len is_plain d ≡ (i + n) + prefix_len is_plain (drop (i + n) d)
 passes_block d i n r room counted whole before =
-    let rest = front_passes (drop i d) n r (omega (arith, length-drop i d)) counted whole in
+    let rest = prefix_passes (drop i d) n r (omega (arith, length-drop i d)) counted whole in
     let joined = ap (prefix_len is_plain) (drop-drop n i d) in
     omega (arith, rest, joined)
 
@@ -113,5 +113,5 @@ passes_block d i n r room counted whole before =
 pub ends_in_block : (d : List ℕ) (i n r : ℕ) → i + n ≤ length d → r ≡ prefix_len is_plain (chunk i n d) → r < n
     → prefix_len is_plain d ≡ i + prefix_len is_plain (drop i d) → i + r ≡ prefix_len is_plain d
 ends_in_block d i n r room counted short before =
-    let rest = front_ends (drop i d) n r (omega (arith, length-drop i d)) counted short in
+    let rest = prefix_ends (drop i d) n r (omega (arith, length-drop i d)) counted short in
     omega (arith, rest)

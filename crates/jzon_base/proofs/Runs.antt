@@ -27,8 +27,8 @@ use Rattle.jzon_base.specs.Hash.{hash_of}
 use Rattle.jzon_base.specs.Keys.{beside, hashed_from, pair_cmp, AreRuns}
 use Rattle.jzon_base.proofs.Indexes.{hashed_from-append}
 
-front : {X : Type 0} (xs ys zs : List X) → zs ≡ xs ++ ys → take (length xs) zs ≡ xs
-front xs ys zs e = rw e (take-append_seam xs ys)
+prefix : {X : Type 0} (xs ys zs : List X) → zs ≡ xs ++ ys → take (length xs) zs ≡ xs
+prefix xs ys zs e = rw e (take-append_seam xs ys)
 
 -- ---- a search in one run
 
@@ -185,7 +185,7 @@ AreRuns-join ks us a b c n runs moved up = record {
       (let all = All-take (IsSorted (pair_cmp ks)) (length us) ((us ++ a ∷ []) ++ b ∷ []) runs.sorted in
       All-push (IsSorted (pair_cmp ks)) us c (All-same (IsSorted (pair_cmp ks)) us
       (take (length us) ((us ++ a ∷ []) ++ b ∷ [])) (sym
-      (front us (a ∷ b ∷ []) ((us ++ a ∷ []) ++ b ∷ []) (append_assoc us (a ∷ []) (b ∷ [])))) all) up);
+      (prefix us (a ∷ b ∷ []) ((us ++ a ∷ []) ++ b ∷ []) (append_assoc us (a ∷ []) (b ∷ [])))) all) up);
 }
 
 -- ---- a key more
@@ -202,7 +202,7 @@ each_run : (P : ℕ × ℕ → Type 0) (rs : List (List (ℕ × ℕ))) → All P
 each_run P [] all = All-nil (λ r. All P r)
 each_run P (r ∷ rs) all =
     All-cons (λ r. All P r) r rs
-    (All-same P r (take (length r) (r ++ flat_map (λ r. r) rs)) (sym (front r (flat_map (λ r. r) rs) _ refl))
+    (All-same P r (take (length r) (r ++ flat_map (λ r. r) rs)) (sym (prefix r (flat_map (λ r. r) rs) _ refl))
     (All-take P (length r) (r ++ flat_map (λ r. r) rs) all))
     (each_run P rs (All-same P (flat_map (λ r. r) rs) (drop (length r) (r ++ flat_map (λ r. r) rs))
     (sym (drop-append_seam r (flat_map (λ r. r) rs))) (All-drop P (length r) (r ++ flat_map (λ r. r) rs) all)))

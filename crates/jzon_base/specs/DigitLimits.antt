@@ -13,11 +13,11 @@ abbrev pub IsFirstTooMany : List ℕ → List ℕ → DigitFault → Type 0
 IsFirstTooMany whole fraction (Whole i) = (32768 ≤ dropped whole fraction) × (i ≡ kept_len (whole ++ fraction) + 32767)
 IsFirstTooMany whole fraction (Fraction i) = (32769 ≤ kept_fraction whole fraction) × (i ≡ 32768)
 
--- k is the length of the longest front of ds that spells a number below 2 ^ 64
-pub record IsLongestFront (ds : List ℕ) (k : ℕ) : Type 0 where
+-- k is the length of the longest prefix of ds that spells a number below 2 ^ 64
+pub record IsLongestPrefix (ds : List ℕ) (k : ℕ) : Type 0 where
   pub within : k ≤ length ds
   pub fits : digits_number (take k ds) < 2 ^ 64
   pub longest : (n : ℕ) → k < n → n ≤ length ds → 2 ^ 64 ≤ digits_number (take n ds)
 
-abbrev pub KeepsLongestFront : Type 0
-KeepsLongestFront = (ds : List ℕ) → IsLongestFront ds (kept_len ds)
+abbrev pub KeepsLongestPrefix : Type 0
+KeepsLongestPrefix = (ds : List ℕ) → IsLongestPrefix ds (kept_len ds)

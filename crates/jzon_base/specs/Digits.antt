@@ -23,11 +23,11 @@ abbrev pub longest_up_to : ℕ → List ℕ → ℕ
 longest_up_to zero ds = 0
 longest_up_to (suc n) ds = if nat_lt (digits_number (take (suc n) ds)) (2 ^ 64) then suc n else longest_up_to n ds
 
--- the length of the longest front that spells a number below 2 ^ 64
+-- the length of the longest prefix that spells a number below 2 ^ 64
 unfoldable pub kept_len : List ℕ → ℕ
 kept_len ds = longest_up_to (length ds) ds
 
--- the longest front that spells a number below 2 ^ 64: the digits after it are dropped
+-- the longest prefix that spells a number below 2 ^ 64: the digits after it are dropped
 abbrev pub kept : List ℕ → List ℕ
 kept ds = take (kept_len ds) ds
 

@@ -1,5 +1,6 @@
 -- Marks of keys in slots.
-use Rattle.std.specs.Prelude.{◌≡◌, ◌==◌, ◌&&◌, ◌||◌, ◌+◌, ◌<◌, ◌≤◌, ◌%◌, ◌/◌, ℕ, zero, suc, Bool, true, not, max, List, []}
+use Rattle.std.specs.Prelude.{◌≡◌, ◌==◌, ◌&&◌, ◌||◌, ◌+◌, ◌<◌, ◌≤◌, ◌%◌, ◌/◌, ℕ, zero, suc, Bool, true, not, max, List}
+use Rattle.std.specs.Prelude.{[]}
 use Rattle.std.specs.Prelude.{length, bit_and, slice_index_or}
 use Rattle.jzon_base.specs.Hash.{hash_of}
 

@@ -7,7 +7,7 @@ ghost use Rattle.std.specs.List.{fold, prefix_len, All};
 ghost use Rattle.jzon_base.specs.Decimal.{signed};
 ghost use Rattle.jzon_base.specs.Digits.{IsDigit, add_digit, digits_number, kept, dropped, kept_fraction, clamp};
 ghost use Rattle.jzon_base.specs.Digits.{read_exponent, read_number};
-ghost use Rattle.jzon_base.specs.DigitLimits.{AreFewEnough, IsFirstTooMany, KeepsLongestFront};
+ghost use Rattle.jzon_base.specs.DigitLimits.{AreFewEnough, IsFirstTooMany, KeepsLongestPrefix};
 
 use crate::number::Number;
 use core::dec2flt::read_digits;
@@ -52,20 +52,20 @@ pub fn read_scanned(
         (read_number positive whole.now fraction.now (signed positive_exponent (digits_number exponent.now))) }
     ensures fault { IfErr result (IsFirstTooMany whole.now fraction.now) }
 {
-    let front = kept_front(whole, fraction, number);
-    if front.dropped > MAX_DROPPED {
-        return Err(DigitFault::Whole(whole.len() - front.dropped + MAX_DROPPED));
+    let prefix = kept_prefix(whole, fraction, number);
+    if prefix.dropped > MAX_DROPPED {
+        return Err(DigitFault::Whole(whole.len() - prefix.dropped + MAX_DROPPED));
     }
-    if front.kept_fraction > MAX_KEPT_FRACTION {
+    if prefix.kept_fraction > MAX_KEPT_FRACTION {
         return Err(DigitFault::Fraction(MAX_KEPT_FRACTION));
     }
     let exponent = clamped_exponent(
-        front.dropped,
-        front.kept_fraction,
+        prefix.dropped,
+        prefix.kept_fraction,
         positive_exponent,
         exponent,
     );
-    Ok(Number::from_parts_unchecked(positive, front.number, exponent))
+    Ok(Number::from_parts_unchecked(positive, prefix.number, exponent))
 }
 
 /// How many digits stand at the beginning, and the number that they spell behind the digits of a number before, modulo 2^64. That number is given modulo 2^64.
@@ -77,15 +77,15 @@ pub fn scan(bytes: &[u8], before: u64) -> (usize, u64)
     read_digits(bytes, 0, before)
 }
 
-// The longest front of the digits before and after a point that spells a number below 2^64.
+// The longest prefix of the digits before and after a point that spells a number below 2^64.
 #[derive(Clone, Copy)]
-struct Front {
+struct Prefix {
     number: u64,
     dropped: usize,
     kept_fraction: usize,
 }
 
-fn kept_front(whole: &[u8], fraction: &[u8], number: u64) -> Front
+fn kept_prefix(whole: &[u8], fraction: &[u8], number: u64) -> Prefix
     requires whole { All IsDigit whole.now }
     requires fraction { All IsDigit fraction.now }
     requires number { number ≡ digits_number (whole.now ++ fraction.now) % 2 ^ 64 }
@@ -94,41 +94,41 @@ fn kept_front(whole: &[u8], fraction: &[u8], number: u64) -> Front
     ensures kept { result.kept_fraction ≡ kept_fraction whole.now fraction.now }
 {
     if whole.len() + fraction.len() <= ALWAYS_KEPT {
-        return Front {
+        return Prefix {
             number,
             dropped: 0,
             kept_fraction: fraction.len(),
         };
     }
-    searched_front(whole, fraction)
+    searched_prefix(whole, fraction)
 }
 
-// The same front, found digit by digit.
-fn searched_front(whole: &[u8], fraction: &[u8]) -> Front
+// The same prefix, found digit by digit.
+fn searched_prefix(whole: &[u8], fraction: &[u8]) -> Prefix
     requires whole { All IsDigit whole.now }
     requires fraction { All IsDigit fraction.now }
     ensures number { result.number ≡ digits_number (kept (whole.now ++ fraction.now)) }
     ensures dropped { result.dropped ≡ dropped whole.now fraction.now }
     ensures kept { result.kept_fraction ≡ kept_fraction whole.now fraction.now }
 {
-    let (number, count) = longest_front(0, whole);
+    let (number, count) = longest_prefix(0, whole);
     if count < whole.len() {
-        return Front {
+        return Prefix {
             number,
             dropped: whole.len() - count,
             kept_fraction: 0,
         };
     }
-    let (number, kept_fraction) = longest_front(number, fraction);
-    Front {
+    let (number, kept_fraction) = longest_prefix(number, fraction);
+    Prefix {
         number,
         dropped: 0,
         kept_fraction,
     }
 }
 
-// The longest front of digits that goes on from `before` and stays below 2^64: its number and its length.
-fn longest_front(before: u64, digits: &[u8]) -> (u64, usize)
+// The longest prefix of digits that goes on from `before` and stays below 2^64: its number and its length.
+fn longest_prefix(before: u64, digits: &[u8]) -> (u64, usize)
     requires { All IsDigit digits.now }
     ensures number { result.0 ≡ fold add_digit before (take result.1 digits.now) }
     ensures fits { result.0 < 2 ^ 64 }
@@ -188,7 +188,7 @@ fn clamped(sum: i32) -> i16
     }
 }
 
-/// A law on the definitions alone: the kept digits are the longest front that spells a number below 2^64, and each longer front spells one of 2^64 or more.
-pub fn keeps_longest_front()
-    ensures { KeepsLongestFront }
+/// A law on the definitions alone: the kept digits are the longest prefix that spells a number below 2^64, and each longer prefix spells one of 2^64 or more.
+pub fn keeps_longest_prefix()
+    ensures { KeepsLongestPrefix }
 {}

@@ -21,7 +21,7 @@ use jzon::{Error, JsonValue, Result};
 use std::alloc::{AllocError, Global};
 use std::io;
 
-/// The canonical text of a value that was built: no blank, and the pairs of each object in the order of their keys.
+/// The canonical text of a value that was built: no whitespace, and the pairs of each object in the order of their keys.
 pub fn canonical(alloc: Global, value: &JsonValue) -> Result<String>
     requires nan { HasNoNan (view value.now) }
     requires depth { nest (view value.now) ≤ 512 }

@@ -25,7 +25,7 @@ pub fn reread(alloc: Global, value: &JsonValue) -> Result<JsonValue>
     jzon::parse(alloc, text.as_str())
 }
 
-/// Prints any value that was built, with `spaces` blanks for each open container, and reads the text: an equal value, or `OutOfMemory`.
+/// Prints any value that was built, with `spaces` spaces for each open container, and reads the text: an equal value, or `OutOfMemory`.
 pub fn reread_lines(alloc: Global, value: &JsonValue, spaces: u16) -> Result<JsonValue>
     requires nan { HasNoNan (view value.now) }
     requires depth { nest (view value.now) ≤ 512 }

@@ -1,4 +1,4 @@
-//! A generator of a user's own, whose blanks are vertical tabs.
+//! A generator of a user's own, whose whitespace is vertical tabs.
 
 ghost use Rattle.std.specs.Prelude.{◌∷◌, [], false, Some, None, refl};
 ghost use Rattle.jzon.specs.StyleLaws.{IsStyle-only};
@@ -11,7 +11,7 @@ use std::alloc::Global;
 use std::io;
 use std::test::Fail;
 
-// Writes a vertical tab before each item and each closing bracket, in a style that allows this blank alone.
+// Writes a vertical tab before each item and each closing bracket, in a style that allows this whitespace alone.
 #[derive(Drop)]
 struct TabGenerator {
     code: Vec<u8>,

@@ -86,15 +86,15 @@ fn repeated(alloc: Global, text: &str, count: usize) -> Result<String, Fail> {
     Ok(whole)
 }
 
-// `front`, so many times `middle`, and `back`.
+// `prefix`, so many times `middle`, and `back`.
 fn around(
     alloc: Global,
-    front: &str,
+    prefix: &str,
     middle: &str,
     count: usize,
     back: &str,
 ) -> Result<String, Fail> {
-    let mut whole = String::from_str(alloc, front)?;
+    let mut whole = String::from_str(alloc, prefix)?;
     whole.push_str(repeated(alloc, middle, count)?.as_str())?;
     whole.push_str(back)?;
     Ok(whole)
@@ -111,8 +111,8 @@ fn dumps_long_numbers(rt: HostRuntime) -> Tested {
         ("0.", "0", 32768, "e32768", "0"),
         ("9.", "9", 40000, "", "9.999999999999999999"),
     ];
-    for (front, middle, count, back, dump) in rows {
-        let text = around(rt.alloc(), front, middle, count, back)?;
+    for (prefix, middle, count, back, dump) in rows {
+        let text = around(rt.alloc(), prefix, middle, count, back)?;
         expect_read(&rt, rt.alloc(), text.as_str(), dump)?;
     }
     Ok(())
@@ -129,8 +129,8 @@ fn refuses_texts_without_end(rt: HostRuntime) -> Tested {
         ("[", "1,", 100000, "", "Unexpected end of JSON"),
         ("", " ", 100000, "", "Unexpected end of JSON"),
     ];
-    for (front, middle, count, back, words) in rows {
-        let text = around(rt.alloc(), front, middle, count, back)?;
+    for (prefix, middle, count, back, words) in rows {
+        let text = around(rt.alloc(), prefix, middle, count, back)?;
         expect_refused(&rt, rt.alloc(), text.as_str(), words)?;
     }
     Ok(())
@@ -177,12 +177,12 @@ fn refuses_a_control_at_each_position(rt: HostRuntime) -> Tested {
 }
 
 #[test]
-fn every_front_ends_early(rt: HostRuntime) -> Tested {
+fn every_prefix_ends_early(rt: HostRuntime) -> Tested {
     let text = "{\"a\":[1,-0.5e+2,\"x\\u00e9\\uD834\\uDD1E\"],\"b\":null}";
     assert_eq!(rt; text.len(), 48);
     for length in 0..text.len() {
         match text.get(..length) {
-            Some(front) => expect_refused(&rt, rt.alloc(), front, "Unexpected end of JSON")?,
+            Some(prefix) => expect_refused(&rt, rt.alloc(), prefix, "Unexpected end of JSON")?,
             None => assert!(rt; false, "{length} bytes"),
         }
     }

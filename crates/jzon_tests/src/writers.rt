@@ -97,7 +97,7 @@ impl How {
 }
 
 // The writer holds the first bytes of the text, and this was its last call.
-fn expect_front(rt: &impl Abort, writer: &SlowWriter, text: &str, call: usize) {
+fn expect_prefix(rt: &impl Abort, writer: &SlowWriter, text: &str, call: usize) {
     assert_eq!(rt; writer.calls, call);
     assert_eq!(rt; writer.bytes.len(), call.saturating_sub(1));
     assert!(rt; text.as_bytes().starts_with(&writer.bytes));
@@ -113,7 +113,7 @@ fn expect_stops(rt: &impl Abort, alloc: Global, value: &JsonValue, how: How, tro
             (Err(_), Trouble::TakesNothing) => {}
             (Ok(()), _) => assert!(rt; false, "no fault at call {call}"),
         }
-        expect_front(rt, &writer, text, call);
+        expect_prefix(rt, &writer, text, call);
     }
 }
 

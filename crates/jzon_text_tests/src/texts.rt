@@ -9,15 +9,15 @@ use std::alloc::{AllocError, Global};
 use std::process::Abort;
 use std::test::Fail;
 
-/// `front`, this many times `repeated`, and `back`.
+/// `prefix`, this many times `repeated`, and `back`.
 fn long_text(
     alloc: Global,
-    front: &str,
+    prefix: &str,
     repeated: char,
     count: usize,
     back: &str,
 ) -> Result<String, AllocError> {
-    let mut text = String::from_str(alloc, front)?;
+    let mut text = String::from_str(alloc, prefix)?;
     for _ in 0..count {
         text.push(repeated)?;
     }
@@ -121,13 +121,13 @@ fn reads_long_numbers(rt: HostRuntime) -> Result<(), Fail> {
         ("0.", '0', 32767, "1", (true, 1, -32768)),
         ("9.", '9', 40000, "", (true, 9999999999999999999, -18)),
     ];
-    for (front, repeated, count, back, parts) in &rows {
-        let text = long_text(rt.alloc(), front, *repeated, *count, back)?;
+    for (prefix, repeated, count, back, parts) in &rows {
+        let text = long_text(rt.alloc(), prefix, *repeated, *count, back)?;
         let value = parse(rt.alloc(), text.as_str())?;
         assert_eq!(rt;
             parts_of(&value),
             Some(*parts),
-            "{front}, {count} times {repeated}, {back}"
+            "{prefix}, {count} times {repeated}, {back}"
         );
     }
     let text = long_text(rt.alloc(), "0.", '0', 32768, "e32768")?;
@@ -148,12 +148,12 @@ fn refuses_digits_past_the_limits(rt: HostRuntime) -> Result<(), Fail> {
         ("8", 32786, ".e"),
         ("-0.", 32769, "ex"),
     ];
-    for (front, count, back) in &rows {
-        let text = long_text(rt.alloc(), front, '0', *count, back)?;
+    for (prefix, count, back) in &rows {
+        let text = long_text(rt.alloc(), prefix, '0', *count, back)?;
         let refused = parse(rt.alloc(), text.as_str());
         assert!(rt;
             matches!(refused, Err(Error::ExceededDepthLimit)),
-            "{front}, {count} zeros, {back}"
+            "{prefix}, {count} zeros, {back}"
         );
     }
     Ok(())

@@ -14,7 +14,7 @@ pub mod PairKeys
 mod Rows
 pub mod Seen
 pub mod Sent
-pub mod SentBlanks
+pub mod SentSpaces
 pub mod SentStrings
 pub mod Shown
 pub mod Sorted

@@ -47,12 +47,12 @@ pub escaped-after_run : (x y z run rest bs : List ℕ) (n c : ℕ) → run ≡ s
     → rest ≡ drop (n + 1) bs → n ≡ prefix_len is_plain bs → n < length bs
     → y ≡ x ++ run → z ≡ y ++ escaped_byte c → z ++ escaped rest ≡ x ++ escaped bs
 escaped-after_run x y z run rest bs n c p g q e l f h =
-    let front : slice_range bs 0 n ≡ take n bs = grind arith in
+    let prefix : slice_range bs 0 n ≡ take n bs = grind arith in
     rw (
       h,
       f,
       p,
-      front,
+      prefix,
       q,
       g,
       append_assoc (x ++ take n bs) (escaped_byte (get_or bs n 0)) (escaped (drop (n + 1) bs)),

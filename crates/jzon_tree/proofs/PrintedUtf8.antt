@@ -70,8 +70,8 @@ small-true : (cs : List ℕ) → are_small cs ≡ true → AreSmall cs
 small-true [] h = tt
 small-true (c ∷ cs) h = let t = and_parts (nat_lt c 128) (are_small cs) h in (below c t.0, small-true cs t.1)
 
-small-after : (front bs : List ℕ) → are_small front ≡ true → AreSmall bs → AreSmall (front ++ bs)
-small-after front bs e h = small-append front bs (small-true front e) h
+small-after : (prefix bs : List ℕ) → are_small prefix ≡ true → AreSmall bs → AreSmall (prefix ++ bs)
+small-after prefix bs e h = small-append prefix bs (small-true prefix e) h
 
 -- ---- numbers
 small-decimal : (n : ℕ) → n < 2 ^ 64 → AreSmall (decimal n)

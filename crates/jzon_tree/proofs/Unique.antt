@@ -15,7 +15,8 @@ use Rattle.jzon_tree.specs.Styles.{only, same_form}
 use Rattle.jzon_tree.specs.Text.{Layout, layout_text, more_values_text, more_pairs_text, quoted}
 use Rattle.jzon_tree.specs.Value.{Value, null, boolean, text, number, array, object, Values, no_values, value, Pairs}
 use Rattle.jzon_tree.specs.Value.{no_pairs, pair, list_of_pairs}
-use Rattle.jzon_tree.specs.Writing.{Style, IsAllowedBlank, text_at, Joins, Writes, WritesEach, WritesPairs, colon_text}
+use Rattle.jzon_tree.specs.Writing.{Style, IsAllowedWhitespace, text_at, Joins, Writes, WritesEach, WritesPairs}
+use Rattle.jzon_tree.specs.Writing.{colon_text}
 
 same_list : (xs ys : List ℕ) → bytes_eq xs ys ≡ true → xs ≡ ys
 same_list xs ys e = (bytes_eq-Decides xs ys).0 e
@@ -27,16 +28,16 @@ form_is false true h = absurd (cc h)
 form_is false false h = refl
 
 -- ---- the order of insertion
-seam : (front ts : List (List ℕ)) (t : List ℕ) → text_at (front ++ t ∷ ts) (length front) ≡ t
+seam : (prefix ts : List (List ℕ)) (t : List ℕ) → text_at (prefix ++ t ∷ ts) (length prefix) ≡ t
 seam [] ts t = refl
 seam (u ∷ us) ts t = seam us ts t
 
-in_order : (ts front : List (List ℕ)) → map (text_at (front ++ ts)) (range_with_len (length front) (length ts)) ≡ ts
-in_order [] front = refl
-in_order (t ∷ ts) front =
-    let e : map (text_at (front ++ t ∷ ts)) (range_with_len (length front + 1) (length ts))
-    ≡ ts = rw (length-append front (t ∷ []), append_assoc front (t ∷ []) ts) at (in_order ts (front ++ t ∷ [])) in
-    rw (seam front ts t, e) refl
+in_order : (ts prefix : List (List ℕ)) → map (text_at (prefix ++ ts)) (range_with_len (length prefix) (length ts)) ≡ ts
+in_order [] prefix = refl
+in_order (t ∷ ts) prefix =
+    let e : map (text_at (prefix ++ t ∷ ts)) (range_with_len (length prefix + 1) (length ts))
+    ≡ ts = rw (length-append prefix (t ∷ []), append_assoc prefix (t ∷ []) ts) at (in_order ts (prefix ++ t ∷ [])) in
+    rw (seam prefix ts t, e) refl
 
 after_comma : (l t m rest : List ℕ) → (l ++ (t ++ 44 ∷ m)) ++ rest ≡ (l ++ t) ++ 44 ∷ (m ++ rest)
 after_comma l t m rest = ap (λ x. x ++ rest) (sym (append_assoc l t (44 ∷ m))) ∙ append_assoc (l ++ t) (44 ∷ m) rest
@@ -49,8 +50,8 @@ module _ (line : ℕ → List ℕ) (wide : Bool) where
   abbrev style : Style
   style = only line wide
 
-  blank_is : (d : ℕ) (w : List ℕ) → IsAllowedBlank style d w → w ≡ line d
-  blank_is d w h = same_list w (line d) h.1
+  whitespace_is : (d : ℕ) (w : List ℕ) → IsAllowedWhitespace style d w → w ≡ line d
+  whitespace_is d w h = same_list w (line d) h.1
 
   abbrev value_texts : ℕ → Values → List (List ℕ)
   value_texts d no_values = []
@@ -60,13 +61,13 @@ module _ (line : ℕ → List ℕ) (wide : Bool) where
   pair_texts d no_pairs = []
   pair_texts d (pair k v ps) = (quoted k ++ (colon_text wide ++ layout_text layout d v)) ∷ pair_texts d ps
 
-  -- the texts with their blanks and commas, and the closing bracket
+  -- the texts with their whitespace and commas, and the closing bracket
   values_inside : (d : ℕ) (v : Value) (vs : Values) (b w : List ℕ)
       → Joins style (suc d) (value_texts (suc d) (value v vs)) b → w ≡ line d
       → b ++ (w ++ 93 ∷ []) ≡ (line (suc d) ++ layout_text layout (suc d) v) ++ more_values_text layout d vs
-  values_inside d v no_values b w (u, h, e) f = rw (e, blank_is (suc d) u h, f) refl
+  values_inside d v no_values b w (u, h, e) f = rw (e, whitespace_is (suc d) u h, f) refl
   values_inside d v (value x vs) b w (u, m, h, j, e) f =
-      rw (e, blank_is (suc d) u h) (after_comma (line (suc d)) (layout_text layout (suc d) v) m (w ++ 93 ∷ [])
+      rw (e, whitespace_is (suc d) u h) (after_comma (line (suc d)) (layout_text layout (suc d) v) m (w ++ 93 ∷ [])
       ∙ ap (λ y. (line (suc d) ++ layout_text layout (suc d) v) ++ 44 ∷ y) (values_inside d x vs m w j f))
 
   abbrev named : ℕ → List ℕ → Value → List ℕ
@@ -83,10 +84,10 @@ module _ (line : ℕ → List ℕ) (wide : Bool) where
   pairs_inside : (d : ℕ) (k : List ℕ) (v : Value) (ps : Pairs) (b w : List ℕ)
       → Joins style (suc d) (pair_texts (suc d) (pair k v ps)) b → w ≡ line d
       → b ++ (w ++ 125 ∷ []) ≡ start (suc d) k v ++ more_pairs_text layout d ps
-  pairs_inside d k v no_pairs b w (u, h, e) f = rw (e, blank_is (suc d) u h, f)
+  pairs_inside d k v no_pairs b w (u, h, e) f = rw (e, whitespace_is (suc d) u h, f)
       (started (suc d) k v (line d ++ 125 ∷ []))
   pairs_inside d k v (pair l x ps) b w (u, m, h, j, e) f =
-      rw (e, blank_is (suc d) u h) (after_comma (line (suc d)) (named (suc d) k v) m (w ++ 125 ∷ [])
+      rw (e, whitespace_is (suc d) u h) (after_comma (line (suc d)) (named (suc d) k v) m (w ++ 125 ∷ [])
       ∙ started (suc d) k v (44 ∷ (m ++ (w ++ 125 ∷ [])))
       ∙ ap (λ y. start (suc d) k v ++ 44 ∷ y) (pairs_inside d l x ps m w j f))
 
@@ -103,7 +104,7 @@ module _ (line : ℕ → List ℕ) (wide : Bool) where
     written d (array no_values) b e = e
     written d (array (value v vs)) b (ts, each, (inside, w, j, h, e)) =
         e ∙ ap (λ x. 91 ∷ x) (values_inside d v vs inside w (subst (λ xs. Joins style (suc d) xs inside)
-        (written_values (suc d) (value v vs) ts each) j) (blank_is d w h))
+        (written_values (suc d) (value v vs) ts each) j) (whitespace_is d w h))
     written d (object no_pairs) b e = e
     written d (object (pair k v ps)) b (ts, positions, each, order, allowed, (inside, w, j, h, e)) =
         let same : ts ≡ pair_texts (suc d) (pair k v ps) = written_pairs (suc d) (pair k v ps) ts each in
@@ -112,7 +113,7 @@ module _ (line : ℕ → List ℕ) (wide : Bool) where
         let ordered : map (text_at ts) positions ≡ pair_texts (suc d) (pair k v ps) =
         ap (map (text_at ts)) (same_list positions _ allowed ∙ ap insertion as_many) ∙ in_order ts [] ∙ same in
         e ∙ ap (λ x. 123 ∷ x) (pairs_inside d k v ps inside w (subst (λ xs. Joins style (suc d) xs inside) ordered j)
-        (blank_is d w h))
+        (whitespace_is d w h))
 
     written_values : (d : ℕ) (vs : Values) (ts : List (List ℕ)) → WritesEach style d vs ts → ts ≡ value_texts d vs
     written_values d no_values [] h = refl
@@ -134,9 +135,9 @@ adds-appended P bs None b f h = tt
 adds-appended P bs (Some xs) None f h = absurd h
 adds-appended P bs (Some xs) (Some ys) f (x, e, p) = e ∙ ap (λ w. xs ++ w) (f x p)
 
-take-front : (x y : List ℕ) → take (length x) (x ++ y) ≡ x
-take-front [] y = refl
-take-front (c ∷ x) y = ap (λ w. c ∷ w) (take-front x y)
+take-prefix : (x y : List ℕ) → take (length x) (x ++ y) ≡ x
+take-prefix [] y = refl
+take-prefix (c ∷ x) y = ap (λ w. c ∷ w) (take-prefix x y)
 
 adds-beginning : (P : List ℕ → Type 0) (bs : List ℕ) (a b : Option (List ℕ)) → ((x : List ℕ) → P x → x ≡ bs)
     → Adds (Begins P) a b → AppendsBeginning a b bs
@@ -147,7 +148,7 @@ adds-beginning P bs (Some xs) (Some ys) f (x, e, (y, p)) =
       length x,
       omega (arith, length-append x y, ap (λ (w : List ℕ). length w) whole),
       e
-          ∙ ap (λ w. xs ++ w) (rw whole at (sym (take-front x y))),
+          ∙ ap (λ w. xs ++ w) (rw whole at (sym (take-prefix x y))),
     )
 
 lent_ok : (P : List ℕ → Type 0) (bs : List ℕ) → ((x : List ℕ) → P x → x ≡ bs)

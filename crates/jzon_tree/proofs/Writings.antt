@@ -13,15 +13,19 @@ use Rattle.jzon_tree.specs.Writing.{colon_text}
 use Rattle.jzon_tree.specs.Lawful.{IsValue, AreValues, ArePairs}
 use Rattle.jzon_tree.specs.Printing.{IsBetween, IsClosing, Items, AreItems}
 
--- ---- texts with blanks and commas
+-- ---- texts with whitespace and commas
 pub some_between : (s : Style) → IsStyle s → (d : ℕ) (comma : Bool) → (b : List ℕ) × IsBetween s d comma b
 some_between s lawful d comma = (
-  (if comma then 44 ∷ [] else []) ++ (lawful.blank d).0,
-  ((lawful.blank d).0, (lawful.blank d).1, refl),
+  (if comma then 44 ∷ [] else []) ++ (lawful.whitespace d).0,
+  ((lawful.whitespace d).0, (lawful.whitespace d).1, refl),
 )
 
 pub some_closing : (s : Style) → IsStyle s → (d bracket : ℕ) → (b : List ℕ) × IsClosing s d bracket b
-some_closing s lawful d bracket = ((lawful.blank d).0 ++ bracket ∷ [], ((lawful.blank d).0, (lawful.blank d).1, refl))
+some_closing s lawful d bracket = (
+  (lawful.whitespace d).0 ++ bracket
+      ∷ [],
+  ((lawful.whitespace d).0, (lawful.whitespace d).1, refl),
+)
 
 pub some_items : (s : Style) → IsStyle s → (d : ℕ) (comma : Bool) (ts : List (List ℕ)) → (b : List ℕ)
     × Items s d comma ts b

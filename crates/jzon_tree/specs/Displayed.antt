@@ -1,6 +1,7 @@
 -- What `{}` shows of a value (docs/RULES.md, "Layouts").
 use Rattle.std.specs.Prelude.{ℕ, List, [], ◌∷◌, ◌++◌, Bool, if◌then◌else◌}
 use Rattle.jzon_base.specs.NumberText.{decimal_text}
+use Rattle.jzon_base.specs.Tokens.{name_separator, value_separator}
 use Rattle.jzon_tree.specs.Text.{compact, quoted}
 use Rattle.jzon_tree.specs.Value.{Value, text, number}
 
@@ -12,8 +13,8 @@ displayed v = compact v
 
 -- what stands before an item: a comma, but before the first nothing
 abbrev pub comma_text : Bool → List ℕ
-comma_text comma = if comma then 44 ∷ [] else []
+comma_text comma = if comma then value_separator ∷ [] else []
 
 -- a pair in the compact layout
 abbrev pub member_text : List ℕ × Value → List ℕ
-member_text p = quoted p.0 ++ 58 ∷ compact p.1
+member_text p = quoted p.0 ++ name_separator ∷ compact p.1

@@ -74,7 +74,7 @@ Emits P old new r = MatchResult r (λ _. Added P old new) (λ _. Failed P old ne
 abbrev pub Prints : {E : Type 0} → (List ℕ → Type 0) → Emitted → Emitted → Result (Unit {0}) E → Type 0
 Prints P old new r = MatchResult r (λ _. Added P old new) (λ _. Stopped P old new)
 
--- `slice` where a blank may follow a colon, or `min` where none need
+-- `slice` where a space may follow a colon, or `min` where none need
 abbrev pub IsForm : Style → List ℕ → ℕ → List ℕ → Type 0
 IsForm s slice min b = ((b ≡ slice) × IsTrue (s.colon true)) ⊎ ((b ≡ min ∷ []) × IsTrue (s.colon false))
 

@@ -1,20 +1,22 @@
 -- The parts of a writing, as the functions that write values add them.
 use Rattle.std.specs.Prelude.{◌≡◌, ℕ, ◌<◌, Bool, true, false, IsTrue, List, [], ◌∷◌, ◌++◌, length, map, MatchResult}
 use Rattle.std.specs.Prelude.{Result, slice_index_or, if◌then◌else◌}
+use Rattle.jzon_base.specs.Tokens.{value_separator}
 use Rattle.jzon_tree.specs.Generator.{Emitted, Added, Stopped}
 use Rattle.jzon_tree.specs.Text.{quoted}
 use Rattle.jzon_tree.specs.Value.{Value, null, values_of}
-use Rattle.jzon_tree.specs.Writing.{Style, IsAllowedBlank, Writes, WritesEach, text_at, colon_text}
+use Rattle.jzon_tree.specs.Writing.{Style, IsAllowedWhitespace, Writes, WritesEach, text_at, colon_text}
 
--- a comma, unless it is the first item, and a blank
+-- a comma, unless it is the first item, and whitespace
 abbrev pub IsBetween : Style → ℕ → Bool → List ℕ → Type 0
-IsBetween s dent comma b = (w : List ℕ) × IsAllowedBlank s dent w × (b ≡ (if comma then 44 ∷ [] else []) ++ w)
+IsBetween s dent comma b = (w : List ℕ) × IsAllowedWhitespace s dent w
+    × (b ≡ (if comma then value_separator ∷ [] else []) ++ w)
 
--- a blank and the bracket
+-- whitespace and the bracket
 abbrev pub IsClosing : Style → ℕ → ℕ → List ℕ → Type 0
-IsClosing s dent bracket b = (w : List ℕ) × IsAllowedBlank s dent w × (b ≡ w ++ bracket ∷ [])
+IsClosing s dent bracket b = (w : List ℕ) × IsAllowedWhitespace s dent w × (b ≡ w ++ bracket ∷ [])
 
--- these texts in turn, each after a blank, and a comma before each but the first
+-- these texts in turn, each after whitespace, and a comma before each but the first
 abbrev pub Items : Style → ℕ → Bool → List (List ℕ) → List ℕ → Type 0
 Items s dent comma [] b = b ≡ []
 Items s dent comma (t ∷ ts) b = (w rest : List ℕ) × IsBetween s dent comma w × Items s dent true ts rest

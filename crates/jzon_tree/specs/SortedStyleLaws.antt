@@ -116,7 +116,7 @@ module _ (keys : List (List ℕ)) where
 
 pub IsStyle-sorted : IsStyle sorted_style
 IsStyle-sorted = record {
-  blank = IsStyle-compact.blank;
+  whitespace = IsStyle-compact.whitespace;
   colon = IsStyle-compact.colon;
   order = λ ks distinct.
       let start = IsOrder-insertion (length ks) in

@@ -14,7 +14,7 @@ use Rattle.std.proofs.Math.Numerals.{suc-eq-add-one}
 use Rattle.jzon_tree.specs.Generator.{insertion}
 use Rattle.jzon_tree.specs.Styles.{same_form, only, compact_style, pretty_style, layout_style}
 use Rattle.jzon_tree.specs.Text.{pretty_layout}
-use Rattle.jzon_tree.specs.Writing.{IsStyle, IsOrder, IsAllowedBlank, is_blank, any_style}
+use Rattle.jzon_tree.specs.Writing.{IsStyle, IsOrder, IsAllowedWhitespace, is_all_whitespace, any_style}
 
 bytes_eq-refl : (bs : List ℕ) → bytes_eq bs bs ≡ true
 bytes_eq-refl bs = (bytes_eq-Decides bs bs).1 refl
@@ -62,10 +62,10 @@ IsOrder-insertion n = record {
 }
 
 -- ---- the styles
-pub IsStyle-only : (line : ℕ → List ℕ) (wide : Bool) → ((dent : ℕ) → is_blank false (line dent) ≡ true)
+pub IsStyle-only : (line : ℕ → List ℕ) (wide : Bool) → ((dent : ℕ) → is_all_whitespace false (line dent) ≡ true)
     → IsStyle (only line wide)
 IsStyle-only line wide h = record {
-  blank = λ dent. (line dent, (h dent, bytes_eq-refl (line dent)));
+  whitespace = λ dent. (line dent, (h dent, bytes_eq-refl (line dent)));
   colon = (wide, same_form-refl wide);
   order = λ ks distinct. (insertion (length ks), IsOrder-insertion (length ks), bytes_eq-refl (insertion (length ks)));
 }
@@ -73,15 +73,20 @@ IsStyle-only line wide h = record {
 pub IsStyle-compact : IsStyle compact_style
 IsStyle-compact = IsStyle-only (λ dent. []) false (λ dent. refl)
 
-blanks : (n : ℕ) → is_blank false (replicate n 32) ≡ true
-blanks zero = refl
-blanks (suc n) = blanks n
+spaces_are_whitespace : (n : ℕ) → is_all_whitespace false (replicate n 32) ≡ true
+spaces_are_whitespace zero = refl
+spaces_are_whitespace (suc n) = spaces_are_whitespace n
 
-pub pretty_blank : (spaces dent : ℕ) → IsAllowedBlank (pretty_style spaces) dent ((pretty_layout spaces).line dent)
-pretty_blank spaces dent = (blanks (dent * spaces), bytes_eq-refl ((pretty_layout spaces).line dent))
+pub pretty_whitespace : (spaces dent : ℕ)
+    → IsAllowedWhitespace (pretty_style spaces) dent ((pretty_layout spaces).line dent)
+pretty_whitespace spaces dent = (
+  spaces_are_whitespace (dent * spaces),
+  bytes_eq-refl
+      ((pretty_layout spaces).line dent),
+)
 
 pub IsStyle-pretty : (spaces : ℕ) → IsStyle (pretty_style spaces)
-IsStyle-pretty spaces = IsStyle-only (pretty_layout spaces).line true (λ dent. blanks (dent * spaces))
+IsStyle-pretty spaces = IsStyle-only (pretty_layout spaces).line true (λ dent. spaces_are_whitespace (dent * spaces))
 
 pub IsStyle-layout : (lines : Bool) (spaces : ℕ) → IsStyle (layout_style lines spaces)
 IsStyle-layout true spaces = IsStyle-pretty spaces
@@ -93,7 +98,7 @@ insertion_allowed ks = bytes_eq-refl (insertion (length ks))
 
 pub IsStyle-any : IsStyle any_style
 IsStyle-any = record {
-  blank = λ dent. ([], (refl, refl));
+  whitespace = λ dent. ([], (refl, refl));
   colon = (false, refl);
   order = λ ks distinct. (insertion (length ks), IsOrder-insertion (length ks), refl);
 }

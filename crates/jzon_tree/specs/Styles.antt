@@ -9,19 +9,19 @@ abbrev pub same_form : Bool → Bool → Bool
 same_form true b = b
 same_form false b = not b
 
--- one blank at each count of indents, one form of the colon, and the order of insertion, alone
+-- one whitespace at each count of indents, one form of the colon, and the order of insertion, alone
 abbrev pub only : (ℕ → List ℕ) → Bool → Style
 only line wide = record {
-  blank = λ dent w. bytes_eq w (line dent);
+  whitespace = λ dent w. bytes_eq w (line dent);
   colon = λ form. same_form form wide;
   order = λ ks positions. bytes_eq positions (insertion (length ks));
 }
 
--- no blank at all
+-- no whitespace at all
 abbrev pub compact_style : Style
 compact_style = only compact_layout.line false
 
--- a newline and `spaces` blanks for each open indent, and a blank after each colon
+-- a newline and `spaces` spaces for each open indent, and a space after each colon
 abbrev pub pretty_style : ℕ → Style
 pretty_style spaces = only (pretty_layout spaces).line true
 

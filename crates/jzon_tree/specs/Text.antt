@@ -3,6 +3,8 @@ use Rattle.std.specs.Prelude.{ℕ, suc, ◌*◌, ◌/◌, ◌%◌, List, [], ◌
 use Rattle.std.specs.Prelude.{if◌then◌else◌, flat_map, codes}
 use Rattle.std.specs.Char.{digit_char}
 use Rattle.jzon_base.specs.NumberText.{written_text}
+use Rattle.jzon_base.specs.Tokens.{begin_array, begin_object, end_array, end_object, escape, quotation_mark}
+use Rattle.jzon_base.specs.Tokens.{value_separator}
 use Rattle.jzon_tree.specs.Value.{Value, null, boolean, text, number, array, object, Values, no_values, value, Pairs}
 use Rattle.jzon_tree.specs.Value.{no_pairs, pair}
 
@@ -10,7 +12,7 @@ use Rattle.jzon_tree.specs.Value.{no_pairs, pair}
 -- other bytes below 32, else the byte
 abbrev pub escaped_byte : ℕ → List ℕ
 escaped_byte c =
-    if c == 34 || c == 92 then 92 ∷ c ∷ []
+    if c == quotation_mark || c == escape then escape ∷ c ∷ []
     else (if c == 8 then codes "\\b"
     else (if c == 9 then codes "\\t"
     else (if c == 10 then codes "\\n"
@@ -23,7 +25,7 @@ escaped = flat_map escaped_byte
 
 -- a string with its quotes
 abbrev pub quoted : List ℕ → List ℕ
-quoted s = 34 ∷ (escaped s ++ 34 ∷ [])
+quoted s = quotation_mark ∷ (escaped s ++ quotation_mark ∷ [])
 
 abbrev pub boolean_text : Bool → List ℕ
 boolean_text b = if b then codes "true" else codes "false"
@@ -42,28 +44,32 @@ abbrev mutual
   layout_text l depth (text k s) = quoted s
   layout_text l depth (number n) = written_text n
   layout_text l depth (array no_values) = codes "[]"
-  layout_text l depth (array (value v vs)) = 91 ∷ (l.line (suc depth) ++ layout_text l (suc depth) v ++ more_values_text
+  layout_text l depth (array (value v vs)) = begin_array
+      ∷ (l.line (suc depth) ++ layout_text l (suc depth) v ++ more_values_text
       l depth vs)
   layout_text l depth (object no_pairs) = codes "{}"
   layout_text l depth (object (pair k v ps)) =
-      123 ∷ (l.line (suc depth) ++ quoted k ++ l.colon ++ layout_text l (suc depth) v ++ more_pairs_text l depth ps)
+      begin_object ∷ (l.line (suc depth) ++ quoted k ++ l.colon ++ layout_text l (suc depth) v
+      ++ more_pairs_text l depth ps)
 
   -- the other items, and the closing bracket
   pub more_values_text : Layout → ℕ → Values → List ℕ
-  more_values_text l depth no_values = l.line depth ++ 93 ∷ []
-  more_values_text l depth (value v vs) = 44 ∷ (l.line (suc depth) ++ layout_text l (suc depth) v ++ more_values_text l
+  more_values_text l depth no_values = l.line depth ++ end_array ∷ []
+  more_values_text l depth (value v vs) = value_separator
+      ∷ (l.line (suc depth) ++ layout_text l (suc depth) v ++ more_values_text l
       depth vs)
 
   pub more_pairs_text : Layout → ℕ → Pairs → List ℕ
-  more_pairs_text l depth no_pairs = l.line depth ++ 125 ∷ []
+  more_pairs_text l depth no_pairs = l.line depth ++ end_object ∷ []
   more_pairs_text l depth (pair k v ps) =
-      44 ∷ (l.line (suc depth) ++ quoted k ++ l.colon ++ layout_text l (suc depth) v ++ more_pairs_text l depth ps)
+      value_separator ∷ (l.line (suc depth) ++ quoted k ++ l.colon ++ layout_text l (suc depth) v
+      ++ more_pairs_text l depth ps)
 
 -- no whitespace at all
 abbrev pub compact_layout : Layout
 compact_layout = record { line = λ depth. []; colon = codes ":" }
 
--- a newline and `spaces` blanks for each open container, and a blank after each colon
+-- a newline and `spaces` spaces for each open container, and a space after each colon
 abbrev pub pretty_layout : ℕ → Layout
 pretty_layout spaces = record { line = λ depth. 10 ∷ replicate (depth * spaces) 32; colon = codes ": " }
 

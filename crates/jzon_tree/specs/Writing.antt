@@ -1,35 +1,36 @@
--- What a generator may write for a value, in its style: the compact text but for its blanks, the blank after a colon
--- and the order of an object's pairs.
+-- What a generator may write for a value, in its style: the compact text but for its whitespace, the space after a
+-- colon and the order of an object's pairs.
 use Rattle.std.specs.Prelude.{◌≡◌, ℕ, zero, suc, ◌<◌, List, [], ◌∷◌, ◌++◌, length, map, Bool, true, false, not, ◌&&◌}
 use Rattle.std.specs.Prelude.{◌||◌, ◌==◌, IsTrue, ⊤, codes, count_by, if◌then◌else◌, ◌≢◌, AllPairs}
 use Rattle.std.specs.List.{list_all}
 use Rattle.jzon_base.specs.NumberText.{written_text}
 use Rattle.jzon_base.specs.PairList.{keys_of}
+use Rattle.jzon_base.specs.Tokens.{begin_array, begin_object, end_array, end_object, value_separator}
 use Rattle.jzon_tree.specs.Value.{Value, null, boolean, text, number, array, object, Values, no_values, value, Pairs}
 use Rattle.jzon_tree.specs.Value.{no_pairs, pair, list_of_pairs}
 use Rattle.jzon_tree.specs.Text.{quoted, boolean_text}
 
--- Whitespace: tab, newline, carriage return and blank (RFC 8259, section 2), and unless strict also vertical tab and
+-- Whitespace: tab, newline, carriage return and space (RFC 8259, section 2), and unless strict also vertical tab and
 -- form feed.
-abbrev pub is_space : Bool → ℕ → Bool
-is_space strict c = (c == 9 || c == 10 || c == 13 || c == 32) || (not strict && (c == 11 || c == 12))
+abbrev pub is_whitespace : Bool → ℕ → Bool
+is_whitespace strict c = (c == 9 || c == 10 || c == 13 || c == 32) || (not strict && (c == 11 || c == 12))
 
-abbrev pub is_blank : Bool → List ℕ → Bool
-is_blank strict = list_all (is_space strict)
+abbrev pub is_all_whitespace : Bool → List ℕ → Bool
+is_all_whitespace strict = list_all (is_whitespace strict)
 
--- What is allowed: this blank where so many containers are open, a colon with a blank after it (true) or without
+-- What is allowed: this whitespace where so many containers are open, a colon with a space after it (true) or without
 -- (false), these positions as the order of these keys.
 pub record Style : Type 0 where
-  pub blank : ℕ → List ℕ → Bool
+  pub whitespace : ℕ → List ℕ → Bool
   pub colon : Bool → Bool
   pub order : List (List ℕ) → List ℕ → Bool
 
 abbrev pub colon_text : Bool → List ℕ
 colon_text wide = if wide then codes ": " else codes ":"
 
--- the blank is whitespace of the widest reading, and allowed
-abbrev pub IsAllowedBlank : Style → ℕ → List ℕ → Type 0
-IsAllowedBlank s dent w = IsTrue (is_blank false w) × IsTrue (s.blank dent w)
+-- it is whitespace of the widest reading, and allowed
+abbrev pub IsAllowedWhitespace : Style → ℕ → List ℕ → Type 0
+IsAllowedWhitespace s dent w = IsTrue (is_all_whitespace false w) × IsTrue (s.whitespace dent w)
 
 -- the positions below n, each once
 pub record IsOrder (n : ℕ) (positions : List ℕ) : Type 0 where
@@ -41,17 +42,17 @@ text_at [] i = []
 text_at (t ∷ ts) zero = t
 text_at (t ∷ ts) (suc i) = text_at ts i
 
--- b is these texts with an allowed blank before each and a comma between them
+-- b is these texts with allowed whitespace before each and a comma between them
 abbrev pub Joins : Style → ℕ → List (List ℕ) → List ℕ → Type 0
 Joins s dent [] b = ⊥
-Joins s dent (t ∷ []) b = (w : List ℕ) × IsAllowedBlank s dent w × (b ≡ w ++ t)
-Joins s dent (t ∷ u ∷ ts) b = (w : List ℕ) × (more : List ℕ) × IsAllowedBlank s dent w × Joins s dent (u ∷ ts) more
-    × (b ≡ w ++ (t ++ 44 ∷ more))
+Joins s dent (t ∷ []) b = (w : List ℕ) × IsAllowedWhitespace s dent w × (b ≡ w ++ t)
+Joins s dent (t ∷ u ∷ ts) b = (w : List ℕ) × (more : List ℕ) × IsAllowedWhitespace s dent w × Joins s dent (u ∷ ts) more
+    × (b ≡ w ++ (t ++ value_separator ∷ more))
 
--- b is a non-empty container of these texts, with an allowed blank before its closing bracket
+-- b is a non-empty container of these texts, with allowed whitespace before its closing bracket
 abbrev pub Encloses : Style → ℕ → ℕ → List (List ℕ) → ℕ → List ℕ → Type 0
 Encloses s dent opening ts closing b =
-    (inside : List ℕ) × (w : List ℕ) × Joins s (suc dent) ts inside × IsAllowedBlank s dent w
+    (inside : List ℕ) × (w : List ℕ) × Joins s (suc dent) ts inside × IsAllowedWhitespace s dent w
     × (b ≡ opening ∷ (inside ++ (w ++ closing ∷ [])))
 
 abbrev mutual
@@ -63,12 +64,12 @@ abbrev mutual
   Writes s dent (number n) b = b ≡ written_text n
   Writes s dent (array no_values) b = b ≡ codes "[]"
   Writes s dent (array (value v vs)) b = (ts : List (List ℕ)) × WritesEach s (suc dent) (value v vs) ts
-      × Encloses s dent 91 ts 93 b
+      × Encloses s dent begin_array ts end_array b
   Writes s dent (object no_pairs) b = b ≡ codes "{}"
   Writes s dent (object (pair k v ps)) b =
       (ts : List (List ℕ)) × (positions : List ℕ) × WritesPairs s (suc dent) (pair k v ps) ts
       × IsOrder (length ts) positions × IsTrue (s.order (keys_of (list_of_pairs (pair k v ps))) positions)
-      × Encloses s dent 123 (map (text_at ts) positions) 125 b
+      × Encloses s dent begin_object (map (text_at ts) positions) end_object b
 
   -- these texts are writings of the values
   pub WritesEach : Style → ℕ → Values → List (List ℕ) → Type 0
@@ -86,11 +87,11 @@ abbrev mutual
 
 -- the loosest style: all that may be written
 abbrev pub any_style : Style
-any_style = record { blank = λ dent w. true; colon = λ wide. true; order = λ ks positions. true }
+any_style = record { whitespace = λ dent w. true; colon = λ wide. true; order = λ ks positions. true }
 
--- A style allows at least one blank at each count, one form of the colon, and one order of each list of distinct keys.
+-- A style allows some whitespace at each count, one form of the colon, and one order of each list of distinct keys.
 pub record IsStyle (s : Style) : Type 0 where
-  pub blank : (dent : ℕ) → (w : List ℕ) × IsAllowedBlank s dent w
+  pub whitespace : (dent : ℕ) → (w : List ℕ) × IsAllowedWhitespace s dent w
   pub colon : (wide : Bool) × IsTrue (s.colon wide)
   pub order : (ks : List (List ℕ)) → AllPairs (λ j k. j ≢ k) ks → (positions : List ℕ) × IsOrder (length ks) positions
       × IsTrue (s.order ks positions)

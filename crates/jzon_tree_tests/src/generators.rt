@@ -18,7 +18,7 @@ use jzon_tree::value::JsonValue;
 use std::alloc::{AllocError, Global};
 use std::io;
 
-/// A user's generator: each blank is a vertical tab.
+/// A user's generator: its whitespace is vertical tabs.
 #[derive(Drop)]
 struct TabGenerator {
     code: Vec<u8>,

@@ -35,7 +35,7 @@ fn expect_compact(rt: &impl Abort, alloc: Global, value: &JsonValue, text: &str)
     Ok(())
 }
 
-// Each call prints this text of the value, with so many blanks for each open container.
+// Each call prints this text of the value, with so many spaces for each open container.
 fn expect_pretty(
     rt: &impl Abort,
     alloc: Global,
@@ -74,7 +74,7 @@ fn prints_numbers(rt: HostRuntime) -> Tested {
 }
 
 #[test]
-fn prints_the_most_blanks(rt: HostRuntime) -> Tested {
+fn prints_the_most_spaces(rt: HostRuntime) -> Tested {
     let value = numbers(rt.alloc(), &[1])?;
     assert_eq!(rt; value.pretty(rt.alloc(), 65535)?.len(), 65540);
     assert_eq!(rt; prettified(rt.alloc(), &value, 65535)?.len(), 65540);

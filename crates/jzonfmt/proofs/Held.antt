@@ -1,5 +1,6 @@
 -- What a writer behind a buffer holds, call by call.
-use Rattle.std.proofs.Common.{◌≡◌, ℕ, ◌+◌, ◌-◌, ◌≤◌, List, [], ◌∷◌, ◌++◌, length, take, drop, Option, None, Some, refl, sym}
+use Rattle.std.proofs.Common.{◌≡◌, ℕ, ◌+◌, ◌-◌, ◌≤◌, List, [], ◌∷◌, ◌++◌, length, take, drop, Option, None, Some, refl}
+use Rattle.std.proofs.Common.{sym}
 use Rattle.std.proofs.Common.{Result, Ok, Err, OnOk, OnErr}
 use Rattle.std.proofs.Common.{ap, ◌∙◌, append_assoc, append-nil, take-append-drop, arith, get_or}
 use Rattle.std.specs.Prelude.{option_map}
@@ -37,7 +38,8 @@ shown_moved name before taken n items seen a b same h p =
     )) in
     let left : drop n (drop taken items) ≡ drop (taken + n) items = drop-drop n taken items in
     let sent : (before + taken) + n ≡ before + (taken + n) = omega arith in
-    rw (left, sent) at (took name (before + taken) n (drop taken items) a b (rw (same, rest) at h) (rw (same, rest) at p))
+    rw (left, sent) at (took name (before + taken) n (drop taken items) a b (rw (same, rest) at h)
+    (rw (same, rest) at p))
 
 -- ---- all calls together: what the writer behind an empty buffer got of the bytes that were added
 
@@ -53,9 +55,9 @@ grew name name' none sent x y empty rest bs e h p =
     let k = length y - length x in
     let counts : length y + length rest ≡ length x + length bs = sym (length-append y rest)
     ∙ ap (λ (l : List ℕ). length l) all ∙ length-append x bs in
-    let front : y ≡ x ++ take k bs = sym (take-append_seam y rest) ∙ ap (λ (l : List ℕ). take (length y) l) all
+    let prefix : y ≡ x ++ take k bs = sym (take-append_seam y rest) ∙ ap (λ (l : List ℕ). take (length y) l) all
     ∙ ap (λ (n : ℕ). take n (x ++ bs)) (omega (arith, second, e)) ∙ take-append-add x bs k in
-    (sym first, k, omega (arith, second, e, counts), front)
+    (sym first, k, omega (arith, second, e, counts), prefix)
 
 module _ (name name' none sent : ℕ) (empty rest : List ℕ) (e : none ≡ 0) (h : empty ≡ []) where
   handed_all : (bs : List ℕ) (a b f : Option (List ℕ)) → (name ≡ name' → f ≡ b) → rest ≡ []
@@ -85,7 +87,8 @@ module _ (name name' none sent : ℕ) (empty rest : List ℕ) (e : none ≡ 0) (
 
   -- the same of the answer of all calls
   pub told_all : {E : Type 0} (r : Result (Unit {0}) E) (bs : List ℕ) (a b f : Option (List ℕ))
-      → (name ≡ name' → f ≡ b) → OnOk r (rest ≡ []) → OnOk r (Appends (shown name none empty a) (shown name' sent rest b) bs)
+      → (name ≡ name' → f ≡ b) → OnOk r (rest ≡ [])
+      → OnOk r (Appends (shown name none empty a) (shown name' sent rest b) bs)
       → OnOk r (Appends a f bs)
   told_all (Ok u) bs a b f same l p = handed_all bs a b f same l p
   told_all (Err x) bs a b f same l p = tt

@@ -1,4 +1,4 @@
 pub mod Added
-pub mod Blanks
+pub mod CountsOfSpaces
 pub mod Held
 pub mod RefusedInputs

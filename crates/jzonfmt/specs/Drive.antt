@@ -33,14 +33,14 @@ abbrev pub status_of : {T : Type 0} → Result T RunFault → ℕ
 status_of (Ok _) = 0
 status_of (Err fault) = fault_status fault
 
--- so many blanks as a word of one to five decimal digits names, of which there are at most 65535
+-- so many spaces as a word of one to five decimal digits names, of which there are at most 65535
 abbrev pub asked_spaces : List ℕ → Option ℕ
 asked_spaces n =
     if nat_lt 0 (length n) && nat_le (length n) 5 && list_all (λ c. is_digit c 10) n
     && nat_lt (digits_value 10 n) (2 ^ 16) then Some (digits_value 10 n) else None
 
 -- the layout that the words ask for, where they ask for one: no word asks for the compact one, and `--pretty N` for the
--- pretty one with N blanks
+-- pretty one with N spaces
 abbrev pub asked_layout : List (List ℕ) → Option Layout
 asked_layout [] = Some Compact
 asked_layout (option ∷ spaces ∷ []) =

@@ -20,7 +20,7 @@ use std::{fmt, io, mem};
 pub enum Layout {
     /// Without whitespace.
     Compact,
-    /// With each item, each key and each closing bracket on a line of its own, behind so many blanks for each open container.
+    /// With each item, each key and each closing bracket on a line of its own, behind so many spaces for each open container.
     Pretty(u16),
 }
 
@@ -300,7 +300,7 @@ fn layout_of(words: &[String]) -> Option<Layout>
     }
 }
 
-// The count of blanks that a word of one to five decimal digits names.
+// The count of spaces that a word of one to five decimal digits names.
 fn spaces_of(word: &str) -> Option<u16>
     ensures { result ≡ asked_spaces word.now }
 {

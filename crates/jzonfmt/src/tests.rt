@@ -345,7 +345,7 @@ fn tells_the_first_fault_of_a_document(rt: HostRuntime) -> Result<(), Fail> {
 }
 
 #[test]
-fn every_front_of_a_document_ends_early(rt: HostRuntime) -> Result<(), Fail> {
+fn every_prefix_of_a_document_ends_early(rt: HostRuntime) -> Result<(), Fail> {
     assert_eq!(rt; DOCUMENT.len(), 48);
     for length in 0..DOCUMENT.len() {
         let mut reader = &DOCUMENT[..length];
@@ -502,14 +502,14 @@ fn too_many_digits(rt: HostRuntime) -> Result<(), Fail> {
 #[test]
 fn long_inputs(rt: HostRuntime) -> Result<(), Fail> {
     let alloc = rt.alloc();
-    for blanks in [65531, 65532, 65533, 131072, 200000] {
-        let mut input = repeated(alloc, b' ', blanks)?;
+    for spaces in [65531, 65532, 65533, 131072, 200000] {
+        let mut input = repeated(alloc, b' ', spaces)?;
         input.extend_from_slice(b"null")?;
         let mut reader = input.as_slice();
         let mut writer: Vec<u8> = Vec::new(alloc);
         assert!(rt;
             engine::run(alloc, &mut reader, &mut writer, &usual(), Layout::Compact).is_ok(),
-            "{blanks} blanks"
+            "{spaces} spaces"
         );
         assert_eq!(rt; writer.as_slice(), b"null\n".as_slice());
         assert!(rt; reader.is_empty());

@@ -12,7 +12,7 @@ const BLOCK: usize = 32;
 /// The bytes of half a block. Most strings end within as many.
 const HALF: usize = 16;
 
-/// The length of the longest front of bytes that stand in a string of a text as they are: from 32 on, and neither a quote nor a backslash.
+/// The length of the longest prefix of bytes that stand in a string of a text as they are: from 32 on, and neither a quote nor a backslash.
 pub fn plain_len(bytes: &[u8]) -> usize
     ensures { result ≡ prefix_len is_plain bytes.now }
 {
@@ -85,7 +85,7 @@ fn plain_in_block(bytes: &[u8], start: usize) -> usize
     }
 }
 
-/// The same count, for the half of a block at the front.
+/// The same count, for the first half of a block.
 #[inline(always)]
 fn plain_in_half(bytes: &[u8]) -> usize
     requires { HALF ≤ length bytes.now }

@@ -90,7 +90,7 @@ impl Call for Writing {
 
 const NUMBERS: &str = "{\"a\":[1]}";
 
-/// What dumps the text on one line, and that on lines, with a blank for each open container.
+/// What dumps the text on one line, and that on lines, with a space for each open container.
 const ON_ONE_LINE: &str = "\"{\\\"a\\\":[1]}\"";
 
 const ON_LINES: &str = "\"{\\n \\\"a\\\": [\\n  1\\n ]\\n}\"";

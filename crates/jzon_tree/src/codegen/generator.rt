@@ -7,7 +7,7 @@ ghost use Rattle.jzon_base.specs.PairList.{keys_of};
 ghost use Rattle.jzon_tree.specs.Entries.{entries_of};
 ghost use Rattle.jzon_tree.specs.Generator.{Emitted, Added, Failed, Emits, Counts, Just, IsForm, IsAnswer, noted};
 ghost use Rattle.jzon_tree.specs.Text.{escaped, quoted};
-ghost use Rattle.jzon_tree.specs.Writing.{IsAllowedBlank, IsStyle};
+ghost use Rattle.jzon_tree.specs.Writing.{IsAllowedWhitespace, IsStyle};
 
 use crate::codegen::fault::taken_up;
 use crate::codegen::send::{send, send_number, send_string, send_string_from};
@@ -50,7 +50,7 @@ pub trait Generator {
         ensures* writes_back { sem 𝓛 (Lends Self.row Self.T.row self.entry result (with_writer self.old)) }
         ensures bytes { Self.T.contents result.now ≡ (meaning self.old).out };
 
-    /// Adds `slice`, which stands for a colon and a blank, or the one byte `min`, which stands for a colon, as the style allows.
+    /// Adds `slice`, which stands for a colon and a space, or the one byte `min`, which stands for a colon, as the style allows.
     fn write_min(&mut self, slice: &[u8], min: u8) -> io::Result<()>
         ensures { Emits (IsForm (meaning self.old).style slice.now min)
             (meaning self.old) (meaning self.new) result };
@@ -101,9 +101,9 @@ pub trait Generator {
         self.hand_on(taken_up(step, fault))
     }
 
-    /// Adds whitespace alone, a blank that the style allows at the open indents.
+    /// Adds whitespace alone, as the style allows at the open indents.
     fn new_line(&mut self) -> io::Result<()>
-        ensures { Emits (IsAllowedBlank (meaning self.old).style (meaning self.old).dent)
+        ensures { Emits (IsAllowedWhitespace (meaning self.old).style (meaning self.old).dent)
             (meaning self.old) (meaning self.new) result };
 
     /// Opens an indent. It is refused only where the greatest u64 of them are open, and then notes a fault.
@@ -172,6 +172,6 @@ pub trait Generator {
     ghost writer_law: { (g : Self) (w : Self.T)
         → meaning (with_writer g w) ≡ record (meaning g) { out = Self.T.contents w } };
 
-    // The style allows at least one blank, one form of the colon, and one order of distinct keys.
+    // The style allows some whitespace, one form of the colon, and one order of distinct keys.
     ghost style_law: { (g : Self) → IsStyle (meaning g).style };
 }

@@ -10,10 +10,10 @@ use crate::codegen::text::TextGenerator;
 use jzon_base::error::{Error, Result};
 use std::alloc::Global;
 
-/// Writes compact text into memory: no blank, and a colon alone after a key. An object's pairs stand in the order of insertion.
+/// Writes compact text into memory: no whitespace, and a colon alone after a key. An object's pairs stand in the order of insertion.
 pub type DumpGenerator = TextGenerator<Memory, false>;
 
-/// Writes text with a line for each item into memory: a newline and `spaces` blanks for each open indent, and a blank after each colon. An object's pairs stand
+/// Writes text with a line for each item into memory: a newline and `spaces` spaces for each open indent, and a space after each colon. An object's pairs stand
 /// in the order of insertion.
 pub type PrettyGenerator = TextGenerator<Memory, true>;
 

@@ -21,7 +21,7 @@ use std::io;
 use std::io::Write;
 
 impl JsonValue {
-    /// The compact text of the value, with no blank outside of its strings. Refused by `OutOfMemory` where a request for memory was, and by `ExceededDepthLimit`
+    /// The compact text of the value, with no whitespace outside of its strings. Refused by `OutOfMemory` where a request for memory was, and by `ExceededDepthLimit`
     /// where non-empty containers nest 2^64 deep or deeper.
     ///
     /// ```rust
@@ -42,7 +42,7 @@ impl JsonValue {
         }
     }
 
-    /// The text of the value with a line for each item: a newline, and `spaces` blanks for each container around it, before each item, each key and each closing
+    /// The text of the value with a line for each item: a newline, and `spaces` spaces for each container around it, before each item, each key and each closing
     /// bracket of a container that is not empty. Refused as `dump`.
     pub fn pretty(&self, alloc: Global, spaces: u16) -> Result<String>
         ensures text { IfOk result (λ text. string_bytes text ≡ pretty (view self.now) spaces 0) }
@@ -58,7 +58,7 @@ impl JsonValue {
         }
     }
 
-    /// Writes the compact text of the value, with no blank outside of its strings. It takes no memory of its own. After a fault of the writer, which is handed
+    /// Writes the compact text of the value, with no whitespace outside of its strings. It takes no memory of its own. After a fault of the writer, which is handed
     /// back, a beginning of the text is written.
     pub fn write<W: Write>(&self, writer: &mut W) -> io::Result<()>
         ensures ok { OnOk result (Appends (W.contents writer.old) (W.contents writer.new) (compact (view self.now))) }
@@ -70,7 +70,7 @@ impl JsonValue {
         write_json(&mut generator, self)
     }
 
-    /// Writes the text of the value with a line for each item: a newline, and `spaces` blanks for each container around it. It takes no memory of its own. After
+    /// Writes the text of the value with a line for each item: a newline, and `spaces` spaces for each container around it. It takes no memory of its own. After
     /// a fault of the writer, which is handed back, a beginning of the text is written.
     pub fn write_pretty<W: Write>(&self, writer: &mut W, spaces: u16) -> io::Result<()>
         ensures ok { OnOk result

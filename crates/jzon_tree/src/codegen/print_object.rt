@@ -16,7 +16,7 @@ use jzon_base::error::{Error, Result};
 use std::alloc::Global;
 
 impl Object {
-    /// The compact text of the object, with no blank outside of its strings. Refused as that of a value.
+    /// The compact text of the object, with no whitespace outside of its strings. Refused as that of a value.
     pub fn dump(&self, alloc: Global) -> Result<String>
         ensures text { IfOk result (λ text. string_bytes text ≡ compact (view_object self.now)) }
         ensures writing { IfOk result (λ text. Writes compact_style 0 (view_object self.now) (string_bytes text)) }

@@ -63,21 +63,21 @@ pub(crate) fn send_string_from<W: Write>(
     ensures { Sends (Just (take start string.now ++ (escaped (drop start string.now) ++ 34 ∷ [])))
         (W.contents writer.old) (W.contents writer.new) result }
 {
-    let (front, text) = string.as_bytes().split_at(start);
-    send_string(writer, front, text, fault)
+    let (prefix, text) = string.as_bytes().split_at(start);
+    send_string(writer, prefix, text, fault)
 }
 
-/// Sends the front as it is, the text as it stands in a string, and the closing quote. Runs of bytes that need no escape are sent whole.
+/// Sends the prefix as it is, the text as it stands in a string, and the closing quote. Runs of bytes that need no escape are sent whole.
 pub(crate) fn send_string<W: Write>(
     writer: &mut W,
-    front: &[u8],
+    prefix: &[u8],
     text: &[u8],
     fault: &mut Fault,
 ) -> Step<()>
-    ensures { Sends (Just (front.now ++ (escaped text.now ++ 34 ∷ [])))
+    ensures { Sends (Just (prefix.now ++ (escaped text.now ++ 34 ∷ [])))
         (W.contents writer.old) (W.contents writer.new) result }
 {
-    send(writer, front, fault)?;
+    send(writer, prefix, fault)?;
     let mut rest = text;
     loop {
         let (run, others) = rest.split_at(plain_len(rest));
@@ -91,12 +91,12 @@ pub(crate) fn send_string<W: Write>(
     send(writer, b"\"", fault)
 }
 
-/// Sends a newline and so many blanks.
-pub(crate) fn send_line<W: Write>(writer: &mut W, blanks: u128, fault: &mut Fault) -> Step<()>
-    ensures { Sends (Just (10 ∷ replicate blanks 32)) (W.contents writer.old) (W.contents writer.new) result }
+/// Sends a newline and so many spaces.
+pub(crate) fn send_line<W: Write>(writer: &mut W, spaces: u128, fault: &mut Fault) -> Step<()>
+    ensures { Sends (Just (10 ∷ replicate spaces 32)) (W.contents writer.old) (W.contents writer.new) result }
 {
     send(writer, b"\n", fault)?;
-    let mut left = blanks;
+    let mut left = spaces;
     while left > 0 {
         let count = left.min(64);
         send(writer, &BLANKS[..count as usize], fault)?;

@@ -6,7 +6,7 @@ ghost use Rattle.jzon_base.specs.PairList.{keys_of};
 ghost use Rattle.jzon_tree.specs.Entries.{entries_of};
 ghost use Rattle.jzon_tree.specs.Generator.{Added, Failed, Emits, Just, IsForm, IsAnswer, noted};
 ghost use Rattle.jzon_tree.specs.Text.{quoted};
-ghost use Rattle.jzon_tree.specs.Writing.{IsAllowedBlank};
+ghost use Rattle.jzon_tree.specs.Writing.{IsAllowedWhitespace};
 
 use crate::codegen::fault::{Fault, Step, lay_aside};
 use crate::codegen::generator::Generator;
@@ -49,7 +49,7 @@ pub(super) fn write_number<G: Generator>(g: &mut G, number: &Number, fault: &mut
 }
 
 pub(super) fn new_line<G: Generator>(g: &mut G, fault: &mut Fault) -> Step<()>
-    ensures { Emits (IsAllowedBlank (G.meaning g.old).style (G.meaning g.old).dent)
+    ensures { Emits (IsAllowedWhitespace (G.meaning g.old).style (G.meaning g.old).dent)
         (G.meaning g.old) (G.meaning g.new) result }
 {
     lay_aside(g.new_line(), fault)

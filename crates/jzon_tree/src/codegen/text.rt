@@ -11,7 +11,7 @@ use crate::codegen::send::send_line;
 use crate::object::Object;
 use std::io;
 
-/// Writes text to its outlet: compact, or with lines of `spaces` blanks for each open indent. An object's pairs stand in the order of insertion.
+/// Writes text to its outlet: compact, or with lines of `spaces` spaces for each open indent. An object's pairs stand in the order of insertion.
 #[derive(Debug, Drop)]
 pub struct TextGenerator<O: Outlet, const LINES: bool> {
     pub(super) outlet: O,
@@ -73,9 +73,9 @@ impl<O: Outlet, const LINES: bool> Generator for TextGenerator<O, LINES> {
         if !LINES {
             return Ok(());
         }
-        let blanks = self.dent as u128 * self.spaces as u128;
+        let spaces = self.dent as u128 * self.spaces as u128;
         let mut fault = None;
-        let step = send_line(self.get_writer(), blanks, &mut fault);
+        let step = send_line(self.get_writer(), spaces, &mut fault);
         self.hand_on(taken_up(step, fault))
     }
 

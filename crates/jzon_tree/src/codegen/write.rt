@@ -92,7 +92,7 @@ fn write_array<G: Generator>(g: &mut G, items: &[JsonValue], fault: &mut Fault) 
     close(g, b']', fault)
 }
 
-// Each item after a blank, and a comma before each but the first.
+// Each item after whitespace, and a comma before each but the first.
 #[cycle(write_value)]
 fn write_items<G: Generator>(g: &mut G, items: &[JsonValue], fault: &mut Fault) -> Step<()>
     ensures written { PrintsIf (AreValues (view_values items.now))
@@ -124,7 +124,7 @@ fn write_pairs<G: Generator>(g: &mut G, object: &Object, fault: &mut Fault) -> S
     close(g, b'}', fault)
 }
 
-// Each pair after a blank, and a comma before each but the first.
+// Each pair after whitespace, and a comma before each but the first.
 #[cycle(write_value)]
 fn write_members<G: Generator>(
     g: &mut G,
@@ -171,7 +171,7 @@ fn write_pair<G: Generator>(g: &mut G, key: &str, value: &JsonValue, fault: &mut
     write_value(g, value, fault)
 }
 
-// What stands before an item: a comma, unless it is the first, and a blank.
+// What stands before an item: a comma, unless it is the first, and whitespace.
 fn begin_item<G: Generator>(g: &mut G, comma: bool, fault: &mut Fault) -> Step<()>
     ensures { Emits (IsBetween (G.meaning g.old).style (G.meaning g.old).dent comma)
         (G.meaning g.old) (G.meaning g.new) result }
@@ -182,7 +182,7 @@ fn begin_item<G: Generator>(g: &mut G, comma: bool, fault: &mut Fault) -> Step<(
     step::new_line(g, fault)
 }
 
-// Closes an indent, and adds a blank and the bracket.
+// Closes an indent, and adds whitespace and the bracket.
 fn close<G: Generator>(g: &mut G, bracket: u8, fault: &mut Fault) -> Step<()>
     requires { 0 < (G.meaning g.old).dent }
     ensures { Emits (IsClosing (G.meaning g.old).style ((G.meaning g.old).dent - 1) bracket)

@@ -8,10 +8,10 @@ use crate::codegen::generator::Generator;
 use crate::codegen::text::TextGenerator;
 use std::io::Write;
 
-/// Writes compact text to a writer: no blank, and a colon alone after a key. An object's pairs stand in the order of insertion.
+/// Writes compact text to a writer: no whitespace, and a colon alone after a key. An object's pairs stand in the order of insertion.
 pub type WriterGenerator<'a, W> = TextGenerator<&'a mut W, false>;
 
-/// Writes text with a line for each item to a writer: a newline and `spaces` blanks for each open indent, and a blank after each colon. An object's pairs stand
+/// Writes text with a line for each item to a writer: a newline and `spaces` spaces for each open indent, and a space after each colon. An object's pairs stand
 /// in the order of insertion.
 pub type PrettyWriterGenerator<'a, W> = TextGenerator<&'a mut W, true>;
 

@@ -1,4 +1,4 @@
-use Rattle.jzon.proofs.NumbersReadBack.{number_read_back}
+use Rattle.jzon.proofs.ReadBack.NumbersReadBack.{number_read_back}
 use Rattle.jzon.proofs.laws.number_text.Goals as goal
 
 pub returns : goal.returns

@@ -3,8 +3,8 @@ use Rattle.std.specs.Prelude.{chars}
 use Rattle.std.proofs.lemmas.Str.{IsCharBoundary-after_ascii}
 use Rattle.jzon.specs.Reading.{usual}
 use Rattle.jzon.specs.Machine.{no_frames}
-use Rattle.jzon.proofs.Steps.{same_outcome}
-use Rattle.jzon.proofs.WholeWords.{IsFirst, word_begins, word_ends}
+use Rattle.jzon.proofs.Bytes.StepsByByte.{same_outcome}
+use Rattle.jzon.proofs.Bytes.WholeWords.{IsFirst, word_begins, word_ends}
 use Rattle.jzon.proofs.scalar.read_word.Goals as goal
 
 pub returns-then-has_four-clause-bounds : goal.returns-then-has_four-clause-bounds
@@ -14,7 +14,7 @@ returns-then-has_four-clause-bounds c =
     let four = c.has_four.ensures in
     let all = c.if-has_four.true in
     let ends = word_ends usual c.args.source.now c.args.start (get_or c.as_bytes.result.now c.args.start 0)
-    c.last_four_at-front.result no_frames _ c.last_four.result c.utf8.source c.requires.within (sym first) refl
+    c.last_four_at-prefix.result no_frames _ c.last_four.result c.utf8.source c.requires.within (sym first) refl
     (subst IsFirst (sym first) c.requires.word)
     (record {
       null = c.word_value-value.ensures.null;
@@ -22,7 +22,7 @@ returns-then-has_four-clause-bounds c =
       no = c.word_value-value.ensures.no;
     })
     (record { null = c.last_four.ensures.null; yes = c.last_four.ensures.yes; no = c.last_four.ensures.no })
-    c.last_four_at-front.ensures.short c.last_four_at-front.ensures.long
+    c.last_four_at-prefix.ensures.short c.last_four_at-prefix.ensures.long
     (record {
       within = four.within all;
       first = four.first all;
@@ -39,7 +39,7 @@ returns-then-has_four-clause-same c r fs m =
     let four = c.has_four.ensures in
     let all = c.if-has_four.true in
     let ends = word_ends r c.args.source.now c.args.start (get_or c.as_bytes.result.now c.args.start 0)
-    c.last_four_at-front.result fs _ c.last_four.result c.utf8.source c.requires.within (sym first) m
+    c.last_four_at-prefix.result fs _ c.last_four.result c.utf8.source c.requires.within (sym first) m
     (subst IsFirst (sym first) c.requires.word)
     (record {
       null = c.word_value-value.ensures.null;
@@ -47,7 +47,7 @@ returns-then-has_four-clause-same c r fs m =
       no = c.word_value-value.ensures.no;
     })
     (record { null = c.last_four.ensures.null; yes = c.last_four.ensures.yes; no = c.last_four.ensures.no })
-    c.last_four_at-front.ensures.short c.last_four_at-front.ensures.long
+    c.last_four_at-prefix.ensures.short c.last_four_at-prefix.ensures.long
     (record {
       within = four.within all;
       first = four.first all;

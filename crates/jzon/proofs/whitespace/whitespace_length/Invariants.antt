@@ -1,11 +1,11 @@
 use Rattle.std.proofs.Common.{◌≡◌, ◌≤◌, ◌+◌, ◌-◌, drop, length}
 use Rattle.std.specs.List.{prefix_len}
-use Rattle.jzon_tree.specs.Writing.{is_space}
+use Rattle.jzon_tree.specs.Writing.{is_whitespace}
 use Rattle.jzon.proofs.whitespace.whitespace_length.Given as goal
 
 abbrev pub invariant-loop-len : goal.invariant-loop-len
 invariant-loop-len l = (l.len ≤ length l.text)
-    × (prefix_len (is_space l.strict) l.text ≡ l.len + prefix_len (is_space l.strict) (drop l.len l.text))
+    × (prefix_len (is_whitespace l.strict) l.text ≡ l.len + prefix_len (is_whitespace l.strict) (drop l.len l.text))
 
 abbrev pub decreases-loop-len : goal.decreases-loop-len
 decreases-loop-len l = length l.text - l.len

@@ -14,6 +14,6 @@ returns-in-Ok-from_utf8-clause-read c =
     let code = ap (λ (vec : Vec ℕ Global). vec.items) c.in-Ok-from_utf8.ensures.ok in
     let writes : Writes sorted_style 0 v bytes =
     subst (λ (b : List ℕ). Writes sorted_style 0 v b)
-    (sym (code ∙ added.1 ∙ ap (λ (front : List ℕ). front ++ added.0) c.new.ensures.items)) added.2 in
+    (sym (code ∙ added.1 ∙ ap (λ (prefix : List ℕ). prefix ++ added.0) c.new.ensures.items)) added.2 in
     reads-writing usual sorted_style 0 v bytes (λ strict. absurd (cc))
     (c.in-Ok.ensures.value, c.requires.nan, c.requires.depth) writes

@@ -1,6 +1,6 @@
 use Rattle.std.proofs.Common.{◌≤◌, ◌∙◌, ℕ, List, sym, ap, length, arith}
 use Rattle.std.specs.List.{slice_get}
-use Rattle.jzonfmt.proofs.Blanks.{spaces_read}
+use Rattle.jzonfmt.proofs.CountsOfSpaces.{spaces_read}
 use Rattle.jzonfmt.proofs.engine.spaces_of.Goals as goal
 
 pub returns : goal.returns

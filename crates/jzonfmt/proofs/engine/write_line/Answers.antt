@@ -12,8 +12,10 @@ returns-clause-ok g c =
     let empty : drop b.taken b.bytes.items ≡ [] = ap (λ (k : ℕ). drop k b.bytes.items) c.new-buffered.ensures.taken
     ∙ ap (λ v. v.items) c.new-buffered.ensures.bytes ∙ c.requires in
     rw (sym c.new-buffered.ensures.same)
-    (told_all b.inner.ghost_name n.inner.ghost_name (b.before + b.taken) (n.before + n.taken) (drop b.taken b.bytes.items)
-    (drop n.taken n.bytes.items) none empty c.write_held-answer.result (line c.args.layout (view c.args.value.now)) _ (g.W.Write.contents n.inner.now) _
+    (told_all b.inner.ghost_name n.inner.ghost_name (b.before + b.taken) (n.before + n.taken)
+    (drop b.taken b.bytes.items)
+    (drop n.taken n.bytes.items) none empty c.write_held-answer.result (line c.args.layout (view c.args.value.now)) _
+    (g.W.Write.contents n.inner.now) _
     (λ name. search rules) c.write_held-answer.ensures.all c.write_held-answer.ensures.ok)
 
 pub returns-clause-err : goal.returns-clause-err
@@ -24,6 +26,8 @@ returns-clause-err g c =
     let empty : drop b.taken b.bytes.items ≡ [] = ap (λ (k : ℕ). drop k b.bytes.items) c.new-buffered.ensures.taken
     ∙ ap (λ v. v.items) c.new-buffered.ensures.bytes ∙ c.requires in
     rw (sym c.new-buffered.ensures.same)
-    (told_part b.inner.ghost_name n.inner.ghost_name (b.before + b.taken) (n.before + n.taken) (drop b.taken b.bytes.items)
-    (drop n.taken n.bytes.items) none empty c.write_held-answer.result (line c.args.layout (view c.args.value.now)) _ (g.W.Write.contents n.inner.now) _
+    (told_part b.inner.ghost_name n.inner.ghost_name (b.before + b.taken) (n.before + n.taken)
+    (drop b.taken b.bytes.items)
+    (drop n.taken n.bytes.items) none empty c.write_held-answer.result (line c.args.layout (view c.args.value.now)) _
+    (g.W.Write.contents n.inner.now) _
     (λ name. search rules) c.write_held-answer.ensures.err)

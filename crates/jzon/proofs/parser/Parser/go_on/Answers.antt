@@ -7,8 +7,8 @@ use Rattle.jzon_tree.proofs.Views.{view-Array, view-Object}
 use Rattle.jzon.specs.Cursor.{left}
 use Rattle.jzon.specs.Frames.{entries_view, open_in, stack_view}
 use Rattle.jzon.specs.Machine.{array_frame, object_frame, before, before_key, behind}
-use Rattle.jzon.proofs.Cursors.{Reached, reached, goes_behind, goes_on}
-use Rattle.jzon.proofs.FrameViews.{entries_view-put, some_more, some_put, view_object-entries}
+use Rattle.jzon.proofs.Bytes.Cursors.{Reached, reached, goes_behind, goes_on}
+use Rattle.jzon.proofs.Bytes.FrameViews.{entries_view-put, some_more, some_put, view_object-entries}
 use Rattle.jzon.proofs.parser.Parser.go_on.Goals.{After-array_ends, After-object_ends}
 use Rattle.jzon.proofs.parser.Parser.go_on.Goals as goal
 

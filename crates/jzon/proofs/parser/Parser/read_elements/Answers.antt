@@ -9,8 +9,9 @@ use Rattle.jzon.specs.Cursor.{left, IsBehind}
 use Rattle.jzon.specs.Frames.{IsReady, place_of, stack_view}
 use Rattle.jzon.specs.Machine.{Frames, array_frame, frames_depth, before, behind}
 use Rattle.jzon.specs.declared.cursor.Cursor.{Cursor}
-use Rattle.jzon.proofs.Cursors.{Reached, reached_start, reached, token_goes, goes_behind, fails_on}
-use Rattle.jzon.proofs.FrameViews.{frames_depth-stack, fresh_is_empty, some_more, stack_view-push, value_mark-shallow}
+use Rattle.jzon.proofs.Bytes.Cursors.{Reached, reached_start, reached, token_goes, goes_behind, fails_on}
+use Rattle.jzon.proofs.Bytes.FrameViews.{frames_depth-stack, fresh_is_empty, some_more, stack_view-push}
+use Rattle.jzon.proofs.Bytes.FrameViews.{value_mark-shallow}
 use Rattle.jzon.proofs.parser.Parser.read_elements.Goals.{After-len-depth, After-array_ends}
 use Rattle.jzon.proofs.parser.Parser.read_elements.Goals.{then-opens_container+in_ok-begun+in-Value+in_ok-push-in-Value}
 use Rattle.jzon.proofs.parser.Parser.read_elements.Goals.{else-opens_container+in_ok-value+in_ok-push}

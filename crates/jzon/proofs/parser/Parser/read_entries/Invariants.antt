@@ -2,8 +2,8 @@ use Rattle.std.proofs.Common.{◌≡◌, ◌≢◌, ◌-◌, [], length}
 use Rattle.jzon.specs.Cursor.{next_byte}
 use Rattle.jzon.specs.Frames.{entries_view, stack_view}
 use Rattle.jzon.specs.Machine.{before_key}
-use Rattle.jzon.specs.Tokens.{end_object}
-use Rattle.jzon.proofs.Cursors.{Reached}
+use Rattle.jzon_base.specs.Tokens.{end_object}
+use Rattle.jzon.proofs.Bytes.Cursors.{Reached}
 use Rattle.jzon.proofs.parser.Parser.read_entries.Given as goal
 
 abbrev pub invariant-loop-entries : goal.invariant-loop-entries

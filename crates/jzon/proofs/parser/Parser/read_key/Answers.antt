@@ -7,13 +7,13 @@ use Rattle.jzon_base.specs.PairList.{find}
 use Rattle.jzon.specs.Cursor.{left, next_byte}
 use Rattle.jzon.specs.Frames.{entries_view}
 use Rattle.jzon.specs.Machine.{as_key, left_at, before, before_key, after_key, object_frame}
-use Rattle.jzon.proofs.ContainerSteps.{open_key}
-use Rattle.jzon.proofs.ContainerTokens.{key_closes, key_stands, key_missing, colon_read, colon_missing}
-use Rattle.jzon.proofs.Cursors.{utf8_of, reached_start, goes_behind, told_on, fails_on}
-use Rattle.jzon.proofs.FaultPlaces.{tells_duplicate}
-use Rattle.jzon.proofs.FrameViews.{byte_within}
-use Rattle.jzon.proofs.Quotes.{key_refused}
-use Rattle.jzon.proofs.Told.{told, told_again}
+use Rattle.jzon.proofs.Bytes.ContainerSteps.{open_key}
+use Rattle.jzon.proofs.Bytes.ContainerTokens.{key_closes, key_stands, key_missing, colon_read, colon_missing}
+use Rattle.jzon.proofs.Bytes.Cursors.{utf8_of, reached_start, goes_behind, told_on, fails_on}
+use Rattle.jzon.proofs.Bytes.FaultOffsets.{tells_duplicate}
+use Rattle.jzon.proofs.Bytes.FrameViews.{byte_within}
+use Rattle.jzon.proofs.Bytes.Quotes.{key_refused}
+use Rattle.jzon.proofs.Bytes.ToldErrors.{told, told_again}
 use Rattle.jzon.proofs.parser.Parser.read_key.Goals as goal
 
 pub returns-then-peek-ne34-clause-same : goal.returns-then-peek-ne34-clause-same

@@ -22,7 +22,8 @@ pub loop-at-preserved : goal.loop-at-preserved
 loop-at-preserved c =
     λ n e. c.loop-at.invariant (suc n) (omega arith)
     ∙ marked_on c.args.slots.now c.args.mark c.loop-at.at n
-    (λ e. c.if-slot-eq-EMPTY.false (c.slot_at-slot.ensures ∙ e)) (λ e. c.if-slot-mark.false (c.slot_at-slot.ensures ∙ e))
+    (λ e. c.if-slot-eq-EMPTY.false (c.slot_at-slot.ensures ∙ e))
+    (λ e. c.if-slot-mark.false (c.slot_at-slot.ensures ∙ e))
 
 pub returns : goal.returns
 unfolding is_marked

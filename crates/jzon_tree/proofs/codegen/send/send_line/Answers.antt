@@ -1,23 +1,23 @@
 use Rattle.std.proofs.Common.{arith}
 use Rattle.jzon_tree.proofs.Sent.{Sends-at_err}
-use Rattle.jzon_tree.proofs.SentBlanks.{take-replicate, newline_stopped, blanks_stopped, blanks_sent}
+use Rattle.jzon_tree.proofs.SentSpaces.{take-replicate, newline_stopped, spaces_stopped, spaces_sent}
 use Rattle.jzon_tree.proofs.codegen.send.send_line.Goals as goal
 
 pub returns-in_err-send : goal.returns-in_err-send
 returns-in_err-send g c = Sends-at_err _ _ _ _ c.from_residual.ensures.0
-    (newline_stopped c.args.blanks _ _ c.in_err-send.ensures)
+    (newline_stopped c.args.spaces _ _ c.in_err-send.ensures)
 
 pub returns-in_err-send-2 : goal.returns-in_err-send-2
 returns-in_err-send-2 g c =
     Sends-at_err _ _ _ _ c.from_residual-in_err-send-2.ensures.0
-    (blanks_stopped c.args.blanks c.loop-left.left c.min-count.result _
+    (spaces_stopped c.args.spaces c.loop-left.left c.min-count.result _
     (take-replicate 64 c.min-count.result (omega (arith, c.min-count.ensures))) (omega (arith, c.min-count.ensures))
     c.loop-left.invariant.0 _ _ _ c.loop-left.invariant.1 c.in_err-send-2.ensures)
 
 pub loop-left-preserved : goal.loop-left-preserved
 loop-left-preserved g c = (
   omega (arith, c.min-count.ensures),
-  blanks_sent c.args.blanks c.loop-left.left c.min-count.result _
+  spaces_sent c.args.spaces c.loop-left.left c.min-count.result _
       (take-replicate 64 c.min-count.result (omega (arith, c.min-count.ensures))) (omega (arith, c.min-count.ensures))
       c.loop-left.invariant.0 _ _ _ c.loop-left.invariant.1 c.in_ok-send-2.ensures,
 )

@@ -4,7 +4,7 @@ use Rattle.jzon_tree.proofs.codegen.send.send_line.Given as goal
 
 abbrev pub invariant-loop-left : goal.invariant-loop-left
 invariant-loop-left g l =
-    (l.left ≤ l.fn.blanks) × Adds (Just (10 ∷ replicate (l.fn.blanks - l.left) 32)) (g.W.Write.contents l.fn.writer)
+    (l.left ≤ l.fn.spaces) × Adds (Just (10 ∷ replicate (l.fn.spaces - l.left) 32)) (g.W.Write.contents l.fn.writer)
     (g.W.Write.contents l.writer)
 
 abbrev pub decreases-loop-left : goal.decreases-loop-left

@@ -5,7 +5,7 @@ use Rattle.jzon_tree.proofs.codegen.send.send_string.Given as goal
 
 -- what is sent already and what is left make the whole
 abbrev pub invariant-loop-byte : goal.invariant-loop-byte
-invariant-loop-byte g l = Adds (Left l.fn.front l.fn.text l.rest) (g.W.Write.contents l.fn.writer)
+invariant-loop-byte g l = Adds (Left l.fn.prefix l.fn.text l.rest) (g.W.Write.contents l.fn.writer)
     (g.W.Write.contents l.writer)
 
 abbrev pub decreases-loop-byte : goal.decreases-loop-byte

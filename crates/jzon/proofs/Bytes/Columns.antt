@@ -1,0 +1,66 @@
+-- The column behind a prefix of a text, by its last newline.
+use Rattle.std.proofs.Common.{◌≡◌, ℕ, zero, suc, ◌+◌, ◌-◌, ◌<◌, ◌≤◌, Bool, true, List, [], ◌∷◌, ◌++◌, length, take}
+use Rattle.std.proofs.Common.{drop, get_or, refl, sym, ap, subst, ◌∙◌, arith, take-append-drop}
+use Rattle.std.specs.Prelude.{not, ◌==◌, chars, IsUtf8}
+use Rattle.std.specs.Str.{NonePass, NoCharPasses, IsCharBoundary}
+use Rattle.std.specs.Str.Pattern.{HasCharAt}
+use Rattle.std.specs.List.{suffix_len}
+use Rattle.std.proofs.lemmas.List.{get_or-append-add, length-append}
+use Rattle.std.proofs.lemmas.List.Sums.{suffix_len_is}
+use Rattle.std.proofs.lemmas.Str.{chars-append, chars_past_char, chars_from_encodes, IsUtf8-take, IsUtf8-drop}
+use Rattle.std.proofs.Math.Seq.{get_or-append_seam}
+use Rattle.jzon.specs.Fault.{column}
+
+abbrev is_newline : ℕ → Bool
+is_newline c = c == 10
+
+abbrev is_in_line : ℕ → Bool
+is_in_line c = not (c == 10)
+
+none_at : (cs : List ℕ) (k : ℕ) → NonePass is_newline cs → k < length cs → is_in_line (get_or cs k 0) ≡ true
+none_at [] k h lt = absurd (omega arith)
+none_at (c ∷ cs) zero h lt = rw h.0 refl
+none_at (c ∷ cs) (suc k) h lt = none_at cs k h.1 (omega arith)
+
+on_one_line : (cs : List ℕ) → NonePass is_newline cs → suffix_len is_in_line cs ≡ length cs
+on_one_line cs h =
+    let e : suffix_len is_in_line cs ≡ length cs - 0 = suffix_len_is is_in_line cs 0 0 (omega arith)
+    (λ k _ lt. none_at cs k h lt) (λ lt. absurd (omega arith)) in
+    omega (arith, e)
+
+behind_newline : (xs ys : List ℕ) (k : ℕ) → length xs + 1 ≤ k
+    → get_or (xs ++ (10 ∷ ys)) k 0 ≡ get_or ys (k - (length xs + 1)) 0
+behind_newline xs ys k le =
+    let e : k ≡ length xs + suc (k - (length xs + 1)) = omega arith in
+    ap (λ n. get_or (xs ++ (10 ∷ ys)) n 0) e ∙ get_or-append-add xs (10 ∷ ys) (suc (k - (length xs + 1))) 0
+
+on_last_line : (xs ys : List ℕ) → NonePass is_newline ys → suffix_len is_in_line (xs ++ (10 ∷ ys)) ≡ length ys
+on_last_line xs ys h =
+    let n : length (xs ++ (10 ∷ ys)) ≡ length xs + suc (length ys) = length-append xs (10 ∷ ys) in
+    let e : suffix_len is_in_line (xs ++ (10 ∷ ys)) ≡ length (xs ++ (10 ∷ ys)) - (length xs + 1) =
+    suffix_len_is is_in_line (xs ++ (10 ∷ ys)) (length xs + 1) 0 (omega arith)
+    (λ k le lt. subst (λ c. is_in_line c ≡ true) (sym (behind_newline xs ys k le))
+    (none_at ys (k - (length xs + 1)) h (omega arith)))
+    (λ lt. let s : get_or (xs ++ (10 ∷ ys)) (length xs + 1 - 1) 0
+    ≡ 10 = ap (λ m. get_or (xs ++ (10 ∷ ys)) m 0) (omega arith) ∙ get_or-append_seam xs 10 ys 0 in rw s refl) in
+    omega (arith, e, n)
+
+characters_of : (bs : List ℕ) → IsUtf8 bs → NoCharPasses is_newline bs → NonePass is_newline (chars bs)
+characters_of bs u (cs, e, h) = subst (NonePass is_newline) (chars_from_encodes cs bs u e) h
+
+pub column_of_one_line : (bs : List ℕ) → IsUtf8 bs → NoCharPasses is_newline bs
+    → column (chars bs) ≡ length (chars bs) + 1
+column_of_one_line bs u h = ap (λ n. n + 1) (on_one_line (chars bs) (characters_of bs u h))
+
+pub column_of_last_line : (bs : List ℕ) (i j : ℕ) → IsUtf8 bs → NoCharPasses is_newline (drop j bs)
+    → HasCharAt 10 bs i j → IsCharBoundary bs i
+    → IsCharBoundary bs j → column (chars bs) ≡ length (chars (drop (i + 1) bs)) + 1
+column_of_last_line bs i j u none at from to =
+    let same : j ≡ i + 1 = at.ends in
+    let split : chars bs ≡ chars (take i bs) ++ (10 ∷ chars (drop j bs)) =
+    ap chars (sym (take-append-drop i bs)) ∙ chars-append (take i bs) (drop i bs) (IsUtf8-take bs i u from)
+    ∙ ap (λ z. chars (take i bs) ++ z) (chars_past_char (drop i bs) (drop j bs) 10 (IsUtf8-drop bs i u from) at.split)
+    in
+    ap column split ∙ ap (λ n. n + 1) (on_last_line (chars (take i bs)) (chars (drop j bs))
+    (characters_of (drop j bs) (IsUtf8-drop bs j u to) none))
+    ∙ ap (λ n. length (chars (drop n bs)) + 1) same

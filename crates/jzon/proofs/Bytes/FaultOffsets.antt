@@ -1,0 +1,77 @@
+-- The error of a text that stops at an offset, by the bytes before and after it.
+use Rattle.std.proofs.Common.{◌≡◌, ℕ, ◌+◌, ◌-◌, ◌≤◌, refl, List, [], ◌∷◌, ◌++◌, length, take, drop, get_or, sym, ap}
+use Rattle.std.proofs.Common.{subst, ◌∙◌, arith, take-append-drop, slice_get, Some}
+use Rattle.std.specs.Prelude.{chars, IsUtf8, slice_range}
+use Rattle.std.specs.Str.{IsCharBoundary}
+use Rattle.std.proofs.lemmas.List.{drop-drop, length-append}
+use Rattle.std.proofs.lemmas.Str.{chars-append, IsUtf8-take, IsUtf8-between}
+use Rattle.std.proofs.Math.Seq.{get_or-append_seam, take-append_seam}
+use Rattle.jzon_base.specs.declared.error.Error.TheVariants.{UnexpectedCharacter, DuplicateKey}
+use Rattle.jzon.specs.Spelling.{duplicate}
+use Rattle.jzon.specs.Fault.{character, limit, line, column, error_at}
+use Rattle.jzon.specs.Machine.{Tells, refused, left_at, stopped}
+
+-- the characters of a text are those before a boundary and those after it
+pub chars_split : (bs : List ℕ) (i : ℕ) → IsUtf8 bs → IsCharBoundary bs i
+    → chars bs ≡ chars (take i bs) ++ chars (drop i bs)
+chars_split bs i u at = ap chars (sym (take-append-drop i bs))
+    ∙ chars-append (take i bs) (drop i bs) (IsUtf8-take bs i u at)
+
+tells_behind : (f rest : List ℕ) (c : ℕ) → slice_get rest 0 ≡ Some c
+    → Tells (f ++ rest) (UnexpectedCharacter c (line f) (column f)) (stopped rest)
+tells_behind f [] c e = absurd (cc)
+tells_behind f (x ∷ rest) c e =
+    let same : x ≡ c = cc in
+    let n : length (f ++ (x ∷ rest)) - length (x ∷ rest) ≡ length f = omega (arith, length-append f (x ∷ rest)) in
+    let here : get_or (f ++ (x ∷ rest)) (length f) 0 ≡ c = get_or-append_seam f x rest 0 ∙ same in
+    let prefix : take (length f) (f ++ (x ∷ rest)) ≡ f = take-append_seam f (x ∷ rest) in
+    subst (λ k. UnexpectedCharacter c (line f) (column f) ≡ error_at (f ++ (x ∷ rest)) k character) (sym n)
+    (ap (λ z. UnexpectedCharacter z (line f) (column f)) (sym here)
+    ∙ ap (λ z. UnexpectedCharacter (get_or (f ++ (x ∷ rest)) (length f) 0) (line z) (column z)) (sym prefix))
+
+pub tells_character : (bs : List ℕ) (i c l k : ℕ) → IsUtf8 bs → IsCharBoundary bs i
+    → slice_get (chars (drop i bs)) 0 ≡ Some c
+    → l ≡ line (chars (take i bs)) → k ≡ column (chars (take i bs))
+    → Tells (chars bs) (UnexpectedCharacter c l k) (stopped (chars (drop i bs)))
+tells_character bs i c l k u at e el ek =
+    let split = chars_split bs i u at in
+    rw (el, ek) (subst (λ t. Tells t (UnexpectedCharacter c (line (chars (take i bs))) (column (chars (take i bs))))
+    (stopped (chars (drop i bs)))) (sym split)
+    (tells_behind (chars (take i bs)) (chars (drop i bs)) c e))
+
+-- what is left from an offset on is what is left behind it and the characters between
+left_behind : (bs : List ℕ) (i j : ℕ) → IsUtf8 bs → IsCharBoundary bs i → IsCharBoundary bs j → i ≤ j
+    → left_at bs j ≤ left_at bs i
+left_behind bs i j u from to le =
+    let run : List ℕ = slice_range bs i j in
+    let n : i + (j - i) ≡ j = omega arith in
+    let same : run ≡ take (j - i) (drop i bs) = refl in
+    let split : drop i bs ≡ run ++ drop j bs =
+    sym (take-append-drop (j - i) (drop i bs)) ∙ ap (λ z. run ++ z) (drop-drop (j - i) i bs ∙ ap (λ k. drop k bs) n) in
+    let text : IsUtf8 run = IsUtf8-between bs i j u le from to in
+    omega (
+      arith,
+      ap (λ z. length (chars z)) split,
+      ap length (chars-append run (drop j bs) text),
+      length-append
+          (chars run) (chars (drop j bs)),
+    )
+
+prefix_of : (f rest : List ℕ) (i : ℕ) → i ≡ length f → take i (f ++ rest) ≡ f
+prefix_of f rest i e = ap (λ k. take k (f ++ rest)) e ∙ take-append_seam f rest
+
+-- a repeated key is told at its opening quote, which stands at offset i
+pub tells_duplicate : (bs : List ℕ) (i j : ℕ) → IsUtf8 bs → IsCharBoundary bs i → IsCharBoundary bs j → i ≤ j
+    → Tells (chars bs) (DuplicateKey (line (chars (take i bs))) (column (chars (take i bs))))
+    (refused (limit (duplicate (left_at bs i - left_at bs j))) (chars (drop j bs)))
+tells_duplicate bs i j u from to le =
+    let split = chars_split bs i u from in
+    let whole : length (chars bs) ≡ length (chars (take i bs)) + left_at bs i = ap length split
+    ∙ length-append (chars (take i bs)) (chars (drop i bs)) in
+    let at : length (chars bs) - left_at bs j - (left_at bs i - left_at bs j)
+    ≡ length (chars (take i bs)) = omega (arith, whole, left_behind bs i j u from to le) in
+    let prefix : take (length (chars bs) - left_at bs j - (left_at bs i - left_at bs j)) (chars bs)
+    ≡ chars (take i bs) =
+    ap (take (length (chars bs) - left_at bs j - (left_at bs i - left_at bs j))) split
+    ∙ prefix_of (chars (take i bs)) (chars (drop i bs)) _ at in
+    ap (λ f. DuplicateKey (line f) (column f)) (sym prefix)

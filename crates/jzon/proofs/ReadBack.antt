@@ -1,0 +1,22 @@
+-- What is printed reads back. The main statements:
+-- `read_back` (ReadsBack): each writing of a value without NaN is read as the same value
+-- `redumped` (Redump): the compact text of a value is read as a value with the same compact text
+-- `meaning_held` (MeaningHeld): what is read is a value of which both speak
+-- `number_read_back` (NumbersReadBack): the text of a number is read as the same number
+pub mod NumeralTexts
+pub mod NumberTextLengths
+pub mod PrintedParts
+pub mod PrintedForms
+pub mod TrailingZeros
+pub mod NumbersReadBack
+pub mod Unbroken
+pub mod WrittenStrings
+pub mod DistinctKeys
+pub mod WrittenTrees
+pub mod Redump
+pub mod Orders
+pub mod JoinedTrees
+pub mod ReadsBack
+pub mod UnmarkedCells
+pub mod MeaningHeld
+pub mod StrictStyles

@@ -1,0 +1,314 @@
+-- The meaning of a tree that breaks no limit is a value of which the laws `redump` and `reads_back` speak.
+use Rattle.std.proofs.Common.{◌≡◌, ℕ, suc, ◌-◌, ◌<◌, ◌≤◌, max, ℤ, pos, ◌+ℤ◌, ◌-ℤ◌, List, [], ◌∷◌, ◌++◌, length, Bool}
+use Rattle.std.proofs.Common.{true, false, cond, ◌&&◌, nat_le, if◌then◌else◌, Option, None, codes, refl, sym, subst}
+use Rattle.std.proofs.Common.{arith, FitsSigned}
+use Rattle.std.specs.Prelude.{IsUtf8}
+use Rattle.std.specs.Int.{w16}
+use Rattle.std.specs.List.{fold, AllByRecursion, IsDistinct}
+use Rattle.std.specs.Str.{bytes_eq}
+use Rattle.std.proofs.Math.Utf8.{scalar, scalars}
+use Rattle.std.proofs.lemmas.Bool.{and_parts}
+use Rattle.std.proofs.lemmas.Bool.Decides.{nat_tests}
+use Rattle.std.proofs.lemmas.Int.{ints, clamps}
+use Rattle.std.proofs.lemmas.Map.Made.{AllPairs-from_IsDistinct}
+use Rattle.std.proofs.lemmas.Slice.Eq.{bytes_eq-Decides}
+use Rattle.jzon_base.specs.Digits.{dropped, kept_fraction, clamp}
+use Rattle.jzon_base.specs.PairList.{keys_of, put, put_each}
+use Rattle.jzon_base.proofs.Kept.{kept_len_is_longest}
+use Rattle.jzon_tree.specs.Value.{Value, object, Values, pairs_of, short, long, nest, most_nest, most_nest_under}
+use Rattle.jzon_tree.specs.Text.{compact}
+use Rattle.jzon_tree.specs.Lawful.{InRange, IsText, IsValue, AreValues, ArePairs, HasNoNan, HaveNoNan, PairsHaveNoNan}
+use Rattle.jzon_tree.proofs.Views.{list_of_pairs-pairs_of}
+use Rattle.jzon.specs.Reading.{Reading}
+use Rattle.jzon.specs.Grammar.{Numeral, Item, simple, single, double, Node, Elements, no_elements, element, Members}
+use Rattle.jzon.specs.Grammar.{no_members, member, Document, AreHex, IsItem, AreItems, is_simple, is_high, is_low}
+use Rattle.jzon.specs.Grammar.{is_surrogate, code_unit, IsNode, AreElements, AreMembers}
+use Rattle.jzon.specs.Grammar as grammar
+use Rattle.jzon.specs.Spelling.{Breach, Cell, cell, plain, deep_if, deep, breach_if, node_cells, elements_cells}
+use Rattle.jzon.specs.Spelling.{members_cells, cells}
+use Rattle.jzon.specs.Meaning.{written_exponent, number_of, unescaped, pair_char, item_text, text_of, bytes_of, meaning}
+use Rattle.jzon.specs.Meaning.{elements_meaning, members_meaning}
+use Rattle.jzon.specs.Fault.{Parses}
+use Rattle.jzon.specs.Laws.{IsReadAs, Redump}
+use Rattle.jzon.specs.Answer.{IsReadable}
+use Rattle.jzon_base.proofs.PutEach.{IsDistinct-put_each}
+use Rattle.jzon.proofs.Bytes.HexDigits.{hex_is_below_16}
+use Rattle.jzon.proofs.ReadBack.UnmarkedCells.{HaveNoMarks, unmarked, plain_rest, numeral_first, items_rest, key_first}
+use Rattle.jzon.proofs.ReadBack.WrittenStrings.{IsUtf8-scalars, scalars-append}
+
+-- ---- numbers
+
+clamped_fits : (z : ℤ) → FitsSigned w16 (clamp z)
+clamped_fits z = omega (arith, ints, clamps)
+
+number_in_range : (n : Numeral) → InRange (number_of n)
+number_in_range n = (
+  (kept_len_is_longest (n.whole ++ n.fraction)).fits,
+  clamped_fits ((pos (dropped n.whole n.fraction) -ℤ pos (kept_fraction n.whole n.fraction)) +ℤ written_exponent
+      n.exponent),
+)
+
+-- ---- strings
+
+one_scalar : (c : ℕ) → scalar c ≡ true → scalars (c ∷ []) ≡ true
+one_scalar c h = rw h refl
+
+unescaped_scalar : (l : ℕ) → is_simple l ≡ true → scalar (unescaped l) ≡ true
+unescaped_scalar l h = grind (arith, nat_tests)
+
+code_unit_small : (u : List ℕ) → AreHex 4 u → code_unit u < 65536
+unfolding code_unit
+code_unit_small [] h = absurd h
+code_unit_small (a ∷ []) h = absurd h.1
+code_unit_small (a ∷ b ∷ []) h = absurd h.1.1
+code_unit_small (a ∷ b ∷ c ∷ []) h = absurd h.1.1.1
+code_unit_small (a ∷ b ∷ c ∷ d ∷ []) h =
+    omega (
+      arith,
+      hex_is_below_16 a h.0,
+      hex_is_below_16 b h.1.0,
+      hex_is_below_16 c h.1.1.0,
+      hex_is_below_16 d
+          h.1.1.1.0,
+    )
+code_unit_small (a ∷ b ∷ c ∷ d ∷ e ∷ cs) h = absurd h.1.1.1.1
+
+unit_scalar : (u : ℕ) → u < 65536 → is_surrogate u ≡ false → scalar u ≡ true
+unit_scalar u small h = grind (arith, nat_tests)
+
+pair_scalar : (u v : ℕ) → (is_high u && is_low v) ≡ true → scalar (pair_char u v) ≡ true
+pair_scalar u v h = grind (arith, nat_tests)
+
+pair_scalars : (b : Bool) (c : ℕ) → (b ≡ true → scalar c ≡ true) → scalars (if b then c ∷ [] else []) ≡ true
+pair_scalars true c h = one_scalar c (h refl)
+pair_scalars false c h = refl
+
+item_scalars : (i : Item) → IsItem i → scalars (item_text i) ≡ true
+item_scalars (grammar.plain c) h = one_scalar c (and_parts (scalar c) _ (and_parts (scalar c && nat_le 32 c) _ h).0).0
+item_scalars (simple l) h = one_scalar (unescaped l) (unescaped_scalar l h)
+item_scalars (single u) h = one_scalar (code_unit u) (unit_scalar (code_unit u) (code_unit_small u h.0) h.1)
+item_scalars (double u v) h = pair_scalars _ _ (pair_scalar (code_unit u) (code_unit v))
+
+text_scalars : (is : List Item) → AreItems is → scalars (text_of is) ≡ true
+text_scalars [] h = refl
+text_scalars (i ∷ is) h = scalars-append (item_text i) (text_of is) (item_scalars i h.0) (text_scalars is h.1)
+
+bytes_utf8 : (is : List Item) → AreItems is → IsUtf8 (bytes_of is)
+unfolding bytes_of
+bytes_utf8 is h = IsUtf8-scalars (text_of is) (text_scalars is h)
+
+kind_fits : (b : Bool) (s : List ℕ) → nat_le (length s) 30 ≡ b → IsUtf8 s → IsText (if b then short else long) s
+kind_fits true s e u = (u, below (length s) e)
+  where
+    below : (n : ℕ) → nat_le n 30 ≡ true → n ≤ 30
+    below n e = grind (arith, nat_tests)
+kind_fits false s e u = u
+
+-- ---- objects
+
+-- a pair whose value nests no deeper than h
+record IsHeldPair (h : ℕ) (p : List ℕ × Value) : Type 0 where
+  utf8 : IsUtf8 p.0
+  lawful : IsValue p.1
+  no_nan : HasNoNan p.1
+  few : nest p.1 ≤ h
+
+abbrev AreHeldPairs : ℕ → List (List ℕ × Value) → Type 0
+AreHeldPairs h = AllByRecursion (IsHeldPair h)
+
+cond_held : (b : Bool) (h : ℕ) (ps qs : List (List ℕ × Value)) → AreHeldPairs h ps → AreHeldPairs h qs
+    → AreHeldPairs h (cond b ps qs)
+cond_held true h ps qs x y = x
+cond_held false h ps qs x y = y
+
+put_held : (h : ℕ) (k : List ℕ) (v : Value) (ps : List (List ℕ × Value)) → IsHeldPair h (k, v) → AreHeldPairs h ps
+    → AreHeldPairs h (put k v ps)
+put_held h k v [] one all = (one, tt)
+put_held h k v (p ∷ ps) one all =
+    let new : IsHeldPair h (p.0, v) = record {
+      utf8 = all.0.utf8;
+      lawful = one.lawful;
+      no_nan = one.no_nan;
+      few =
+          one.few;
+    } in
+    cond_held (bytes_eq p.0 k) h ((p.0, v) ∷ ps) (p ∷ put k v ps) (new, all.1) (all.0, put_held h k v ps one all.1)
+
+each_held : (h : ℕ) (qs ps : List (List ℕ × Value)) → AreHeldPairs h qs → AreHeldPairs h ps
+    → AreHeldPairs h (fold (λ xs p. put p.0 p.1 xs) qs ps)
+each_held h qs [] done all = done
+each_held h qs (p ∷ ps) done all =
+    each_held h (put p.0 p.1 qs) ps
+    (put_held h p.0 p.1 qs (record { utf8 = all.0.utf8; lawful = all.0.lawful; no_nan = all.0.no_nan; few = all.0.few })
+    done) all.1
+
+pairs_lawful : (h : ℕ) (ps : List (List ℕ × Value)) → AreHeldPairs h ps → ArePairs (pairs_of ps)
+pairs_lawful h [] all = tt
+pairs_lawful h (p ∷ ps) all = (all.0.utf8, all.0.lawful, pairs_lawful h ps all.1)
+
+pairs_no_nan : (h : ℕ) (ps : List (List ℕ × Value)) → AreHeldPairs h ps → PairsHaveNoNan (pairs_of ps)
+pairs_no_nan h [] all = tt
+pairs_no_nan h (p ∷ ps) all = (all.0.no_nan, pairs_no_nan h ps all.1)
+
+pairs_few : (h : ℕ) (ps : List (List ℕ × Value)) → AreHeldPairs h ps → most_nest_under (pairs_of ps) ≤ h
+pairs_few h [] all = omega arith
+pairs_few h (p ∷ ps) all = omega (arith, all.0.few, pairs_few h ps all.1)
+
+object_few : (h : ℕ) (ps : List (List ℕ × Value)) → AreHeldPairs h ps → nest (object (pairs_of ps)) ≤ suc h
+object_few h [] all = omega arith
+object_few h (p ∷ ps) all = omega (arith, all.0.few, pairs_few h ps all.1)
+
+object_lawful : (h : ℕ) (ps : List (List ℕ × Value)) → AreHeldPairs h ps → IsDistinct bytes_eq (keys_of ps)
+    → IsValue (object (pairs_of ps))
+object_lawful h ps all distinct = (
+  pairs_lawful h ps all,
+  rw (list_of_pairs-pairs_of ps) (AllPairs-from_IsDistinct bytes_eq-Decides (keys_of ps)
+      distinct),
+)
+
+-- ---- values
+
+-- What holds of a value that is read inside so many non-empty containers, with the mark at its first character and the
+-- cells behind it.
+record NodeHeld (r : Reading) (depth : ℕ) (m : Option Breach) (k : List Cell) (v : Value) : Type 0 where
+  lawful : IsValue v
+  no_nan : HasNoNan v
+  few : nest v ≤ r.depth - depth
+  mark : m ≡ None
+  rest : HaveNoMarks k
+
+record ElementsHeld (r : Reading) (depth : ℕ) (k : List Cell) (vs : Values) : Type 0 where
+  lawful : AreValues vs
+  no_nan : HaveNoNan vs
+  few : most_nest vs ≤ r.depth - depth
+  rest : HaveNoMarks k
+
+record MembersHeld (r : Reading) (depth : ℕ) (k : List Cell) (ps : List (List ℕ × Value)) : Type 0 where
+  pairs : AreHeldPairs (r.depth - depth) ps
+  rest : HaveNoMarks k
+
+not_deep : (b : Bool) → breach_if b deep ≡ None → b ≡ false
+not_deep true e = absurd (cc)
+not_deep false e = refl
+
+-- a value that follows an opening bracket is read only where one container more may be open
+room_inside : (r : Reading) (depth : ℕ) → deep_if r depth ≡ None → depth < r.depth
+room_inside r depth e = above r.depth depth (not_deep (nat_le r.depth depth) e)
+  where
+    above : (a b : ℕ) → nat_le a b ≡ false → b < a
+    above a b e = grind (arith, nat_tests)
+
+one_deeper : (a b depth room : ℕ) → a ≤ room - suc depth → b ≤ room - suc depth → depth < room
+    → suc (max a b) ≤ room - depth
+one_deeper a b depth room h k l = omega arith
+
+deeper : (a depth room : ℕ) → a ≤ suc (room - suc depth) → depth < room → a ≤ room - depth
+deeper a depth room h l = omega arith
+
+mutual
+  node_held : (r : Reading) (n : Node) (depth : ℕ) (m : Option Breach) (k : List Cell) → IsNode r n
+      → HaveNoMarks (node_cells r n depth m k)
+      → NodeHeld r depth m k (meaning n)
+  node_held r Node.null depth m k ok h = record {
+    lawful = tt;
+    no_nan = tt;
+    few = omega arith;
+    mark = h.0;
+    rest =
+        plain_rest (codes "ull") k h.1;
+  }
+  node_held r (Node.boolean true) depth m k ok h =
+      record { lawful = tt; no_nan = tt; few = omega arith; mark = h.0; rest = plain_rest (codes "rue") k h.1 }
+  node_held r (Node.boolean false) depth m k ok h =
+      record { lawful = tt; no_nan = tt; few = omega arith; mark = h.0; rest = plain_rest (codes "alse") k h.1 }
+  node_held r (Node.number n) depth m k ok h =
+      let first = numeral_first n m k ok.0 h in
+      record { lawful = number_in_range n; no_nan = tt; few = omega arith; mark = first.0; rest = first.1 }
+  node_held r (Node.string is) depth m k ok h =
+      record {
+        lawful = kind_fits (nat_le (length (bytes_of is)) 30) (bytes_of is) refl (bytes_utf8 is ok);
+        no_nan = tt;
+        few = omega arith;
+        mark = h.0;
+        rest = (items_rest is (cell 34 None ∷ k) h.1).1;
+      }
+  node_held r (Node.empty_array b) depth m k ok h =
+      record { lawful = tt; no_nan = tt; few = omega arith; mark = h.0; rest = (plain_rest b (cell 93 None ∷ k) h.1).1 }
+  node_held r (Node.empty_object b) depth m k ok h =
+      record {
+        lawful = object_lawful 0 [] tt (IsDistinct-put_each {V = Value} []);
+        no_nan = tt;
+        few = omega arith;
+        mark = h.0;
+        rest = (plain_rest b (cell 125 None ∷ k) h.1).1;
+      }
+  node_held r (Node.array b n c es) depth m k ok h =
+      let one = node_held r n (suc depth) (deep_if r depth) (plain c (elements_cells r es (suc depth) k)) ok.1
+      (plain_rest b _ h.1) in
+      let more = elements_held r es (suc depth) k ok.3 (plain_rest c _ one.rest) in
+      record {
+        lawful = (one.lawful, more.lawful);
+        no_nan = (one.no_nan, more.no_nan);
+        few =
+            one_deeper (nest (meaning n)) (most_nest (elements_meaning es)) depth r.depth one.few more.few
+            (room_inside r depth one.mark);
+        mark = h.0;
+        rest = more.rest;
+      }
+  node_held r (Node.object key b n c ms) depth m k ok h =
+      let named = key_first r [] key (deep_if r depth) _ h.1 in
+      let one = node_held r n (suc depth) None (plain c (members_cells r ms (bytes_of key.items ∷ []) (suc depth) k))
+      ok.2 (plain_rest b _ named.1) in
+      let more = members_held r ms (bytes_of key.items ∷ []) (suc depth) k ok.4 (plain_rest c _ one.rest) in
+      let ps : List (List ℕ × Value) = (bytes_of key.items, meaning n) ∷ members_meaning ms in
+      let first : IsHeldPair (r.depth - suc depth) (bytes_of key.items, meaning n) =
+      record { utf8 = bytes_utf8 key.items ok.0.1; lawful = one.lawful; no_nan = one.no_nan; few = one.few } in
+      let all : AreHeldPairs (r.depth - suc depth) (put_each ps) = each_held (r.depth - suc depth) [] ps tt
+      (first, more.pairs) in
+      record {
+        lawful = object_lawful (r.depth - suc depth) (put_each ps) all (IsDistinct-put_each ps);
+        no_nan = pairs_no_nan (r.depth - suc depth) (put_each ps) all;
+        few = deeper _ depth r.depth (object_few (r.depth - suc depth) (put_each ps) all) (room_inside r depth named.0);
+        mark = h.0;
+        rest = more.rest;
+      }
+
+  elements_held : (r : Reading) (es : Elements) (depth : ℕ) (k : List Cell) → AreElements r es
+      → HaveNoMarks (elements_cells r es depth k)
+      → ElementsHeld r depth k (elements_meaning es)
+  elements_held r no_elements depth k ok h = record { lawful = tt; no_nan = tt; few = omega arith; rest = h.1 }
+  elements_held r (element b n c es) depth k ok h =
+      let one = node_held r n depth None (plain c (elements_cells r es depth k)) ok.1 (plain_rest b _ h.1) in
+      let more = elements_held r es depth k ok.3 (plain_rest c _ one.rest) in
+      record {
+        lawful = (one.lawful, more.lawful);
+        no_nan = (one.no_nan, more.no_nan);
+        few = omega (arith, one.few, more.few);
+        rest = more.rest;
+      }
+
+  members_held : (r : Reading) (ms : Members) (seen : List (List ℕ)) (depth : ℕ) (k : List Cell) → AreMembers r ms
+      → HaveNoMarks (members_cells r ms seen depth k) → MembersHeld r depth k (members_meaning ms)
+  members_held r no_members seen depth k ok h = record { pairs = tt; rest = h.1 }
+  members_held r (member key b n c ms) seen depth k ok h =
+      let named = key_first r seen key None _ h.1 in
+      let one = node_held r n depth None (plain c (members_cells r ms (bytes_of key.items ∷ seen) depth k)) ok.2
+      (plain_rest b _ named.1) in
+      let more = members_held r ms (bytes_of key.items ∷ seen) depth k ok.4 (plain_rest c _ one.rest) in
+      record {
+        pairs = (
+          record { utf8 = bytes_utf8 key.items ok.0.1; lawful = one.lawful; no_nan = one.no_nan; few = one.few },
+          more.pairs,
+        );
+        rest = more.rest;
+      }
+
+pub meaning_held : (r : Reading) (t : List ℕ) (d : Document) → Parses r t d → IsReadable r (meaning d.node)
+meaning_held r t d h =
+    let one = node_held r d.node 0 None (plain d.after []) h.0.0.1 (plain_rest d.before _ (unmarked (cells r d) h.1)) in
+    (one.lawful, one.no_nan, omega (arith, one.few))
+
+-- the compact text of such a value is read as a value with the same compact text
+pub dumped_reads : (r : Reading) (v : Value) (b : List ℕ) → Redump → IsReadable r v → b ≡ compact v
+    → IsReadAs r b (λ w. compact w ≡ b)
+dumped_reads r v b law h e = subst (λ x. IsReadAs r x (λ w. compact w ≡ x)) (sym e) (law r v h.0 h.2)

@@ -1,0 +1,70 @@
+-- The text of a number is read as the same number.
+use Rattle.std.proofs.Common.{◌≡◌, ◌∙◌, ℕ, suc, zero, ℤ, pos, negsuc, ◌+◌, ◌*◌, ◌^◌, ◌≤◌, ◌<◌, None, List, [], length}
+use Rattle.std.proofs.Common.{Bool, sym, ap, subst, arith, decimal, FitsSigned, inl, inr, chars}
+use Rattle.std.specs.Int.{w16}
+use Rattle.std.proofs.lemmas.Bool.{cases_lt}
+use Rattle.std.proofs.lemmas.Str.{chars-IsAscii}
+use Rattle.jzon_base.specs.NumberText.{number_text}
+use Rattle.jzon.specs.Reading.{Reading}
+use Rattle.jzon.specs.Grammar.{Numeral, Node}
+use Rattle.jzon.specs.Spelling.{Cell, plain, numeral_cells}
+use Rattle.jzon.specs.Fault.{Parses}
+use Rattle.jzon.specs.Laws.{NumberText, alone}
+use Rattle.jzon.proofs.ReadBack.NumeralTexts.{numeral_spelled, numeral-plain, numeral_small}
+use Rattle.jzon.proofs.ReadBack.NumberTextLengths.{length-number}
+use Rattle.jzon.proofs.ReadBack.PrintedParts.{IsPrintedAs, HasNumeral}
+use Rattle.jzon.proofs.ReadBack.PrintedForms.{digits_alone, zero_alone, pointed, behind_zeros, small_power, large_power}
+use Rattle.jzon.proofs.ReadBack.TrailingZeros.{zeros_kept, zero_dropped}
+use Rattle.jzon.proofs.ReadBack.Unbroken.{AreSmall, IsAscii-small, parses_plain}
+
+-- ---- all cases
+
+pub printed_numeral : (s : Bool) (m : ℕ) (e : ℤ) → m < 2 ^ 64 → FitsSigned w16 e → HasNumeral s m e
+printed_numeral s zero e fits small = zero_alone s e
+printed_numeral s (suc m) (pos zero) fits small = digits_alone s (suc m) (omega arith) fits
+printed_numeral s (suc m) (pos (suc k)) fits small =
+    elim (cases_lt 20 (length (decimal (suc m)) + suc k)) [
+      | inl far ↦ large_power s (suc m) (suc k) (omega arith) fits small (omega arith) far
+      | inr room ↦ elim (cases_lt (suc m * 10 ^ suc k) (2 ^ 64)) [
+        | inl all ↦ zeros_kept s (suc m) (suc k) (omega arith) fits room all
+        | inr over ↦ zero_dropped s (suc m) k (omega arith) fits room over
+      ]
+    ]
+printed_numeral s (suc m) (negsuc k) fits small =
+    elim (cases_lt 17 (k + 1)) [
+      | inl far ↦ small_power s (suc m) k (omega arith) fits small far
+      | inr near ↦ elim (cases_lt (k + 1) (length (decimal (suc m)))) [
+        | inl inside ↦ pointed s (suc m) k (omega arith) fits small near inside
+        | inr out ↦ behind_zeros s (suc m) k (omega arith) fits small near out
+      ]
+    ]
+
+-- ---- the text
+
+spelled_short : (s : Bool) (m : ℕ) (e : ℤ) (n : Numeral) → m < 2 ^ 64 → FitsSigned w16 e → IsPrintedAs s m e n
+    → length (numeral_spelled n) ≤ 29
+spelled_short s m e n fits small h = omega (arith, ap length h.spelled, length-number s m e fits small)
+
+-- no breach stands in it
+pub printed-plain : (s : Bool) (m : ℕ) (e : ℤ) (n : Numeral) (k : List Cell) → m < 2 ^ 64 → FitsSigned w16 e
+    → IsPrintedAs s m e n
+    → numeral_cells n None k ≡ plain (number_text s m e) k
+printed-plain s m e n k fits small h =
+    numeral-plain n k (omega (arith, spelled_short s m e n fits small h)) ∙ ap (λ t. plain t k) h.spelled
+
+pub printed_small : (s : Bool) (m : ℕ) (e : ℤ) (n : Numeral) → IsPrintedAs s m e n → AreSmall (number_text s m e)
+printed_small s m e n h = subst AreSmall h.spelled (numeral_small n h.in_grammar)
+
+printed_parses : (s : Bool) (m : ℕ) (e : ℤ) (n : Numeral) → m < 2 ^ 64 → FitsSigned w16 e → IsPrintedAs s m e n
+    → (r : Reading) → Parses r (chars (number_text s m e)) (alone (Node.number n))
+printed_parses s m e n fits small h r =
+    let text : chars (number_text s m e) ≡ number_text s m e = chars-IsAscii _
+    (IsAscii-small _ (printed_small s m e n h)) in
+    subst (λ t. Parses r t (alone (Node.number n))) (sym text)
+    (parses_plain r (number_text s m e) (alone (Node.number n)) (tt, h.in_grammar, tt)
+    (printed-plain s m e n [] fits small h))
+
+pub number_read_back : NumberText
+number_read_back s m e fits small =
+    let n = printed_numeral s m e fits small in
+    ((n.0, printed_parses s m e n.0 fits small n.1, n.1.alike, n.1.prints), length-number s m e fits small)

@@ -1,0 +1,160 @@
+-- The text of a number of the grammar, where it has few digits.
+use Rattle.std.proofs.Common.{◌≡◌, ◌∙◌, ℕ, ◌+◌, ◌<◌, ◌≤◌, List, [], ◌∷◌, ◌++◌, length, Bool, true, false, ◌==◌, codes}
+use Rattle.std.proofs.Common.{Option, Some, None, refl, ap, arith, length-append, ◌&&◌, not}
+use Rattle.std.specs.Char.{is_ascii_digit}
+use Rattle.std.proofs.ByRecursion.{All-append}
+use Rattle.std.proofs.lemmas.Bool.Decides.{nat_tests}
+use Rattle.jzon_base.proofs.Kept.{kept_len_is_longest}
+use Rattle.jzon.specs.Grammar.{Sign, unsigned, plus, minus, Exponent, Numeral, AreDigits, IsDigits, IsWhole, IsExponent}
+use Rattle.jzon.specs.Grammar.{IsNumeral, is_exponent_letter}
+use Rattle.jzon.specs.Spelling.{Cell, cell, plain, digits_cells, drops_too_many, keeps_too_many, fraction_cells}
+use Rattle.jzon.specs.Spelling.{exponent_cells, sign_cells, whole_cells, magnitude_cells, numeral_cells}
+use Rattle.jzon.proofs.Trees.NumberLimits.{AreUnmarked, whole_unmarked, fraction_unmarked}
+use Rattle.jzon.proofs.Trees.PrefixStates.{plain-append}
+use Rattle.jzon.proofs.ReadBack.Unbroken.{AreSmall}
+
+-- ---- the text
+
+abbrev pub minus_spelled : Bool → List ℕ
+minus_spelled negative = elim negative [ true ↦ codes "-" | false ↦ [] ]
+
+abbrev pub fraction_spelled : List ℕ → List ℕ
+fraction_spelled [] = []
+fraction_spelled (d ∷ ds) = 46 ∷ d ∷ ds
+
+abbrev pub sign_spelled : Sign → List ℕ
+sign_spelled unsigned = []
+sign_spelled plus = codes "+"
+sign_spelled minus = codes "-"
+
+abbrev pub exponent_spelled : Option Exponent → List ℕ
+exponent_spelled None = []
+exponent_spelled (Some e) = e.letter ∷ (sign_spelled e.sign ++ e.digits)
+
+abbrev pub magnitude_spelled : List ℕ → List ℕ → Option Exponent → List ℕ
+magnitude_spelled whole fraction e = whole ++ (fraction_spelled fraction ++ exponent_spelled e)
+
+abbrev pub numeral_spelled : Numeral → List ℕ
+numeral_spelled n = minus_spelled n.negative ++ magnitude_spelled n.whole n.fraction n.exponent
+
+-- ---- no breach stands in it
+
+digits-plain : (too_many : List ℕ → Bool) (prefix ds : List ℕ) (k : List Cell) → AreUnmarked too_many prefix ds
+    → digits_cells too_many prefix ds k ≡ plain ds k
+digits-plain too_many prefix [] k h = refl
+digits-plain too_many prefix (d ∷ ds) k h = rw h.0 (ap (λ q. cell d None ∷ q)
+    (digits-plain too_many (d ∷ prefix) ds k h.1))
+
+whole-plain : (ws : List ℕ) (k : List Cell) → length ws < 32768 → whole_cells ws None k ≡ plain ws k
+whole-plain [] k h = refl
+whole-plain (d ∷ ds) k h = ap (λ q. cell d None ∷ q) (digits-plain drops_too_many (d ∷ []) ds k
+    (whole_unmarked (d ∷ []) ds [] (omega arith)))
+
+fraction-plain : (ws fs : List ℕ) (k : List Cell) → length fs < 32769
+    → fraction_cells ws fs k ≡ plain (fraction_spelled fs) k
+fraction-plain ws [] k h = refl
+fraction-plain ws (d ∷ ds) k h =
+    let within = (kept_len_is_longest (ws ++ d ∷ ds)).within in
+    ap (λ q. cell 46 None ∷ q)
+    (digits-plain (keeps_too_many ws) [] (d ∷ ds) k (fraction_unmarked ws [] (d ∷ ds)
+    (omega (arith, within, length-append ws (d ∷ ds)))))
+
+sign-plain : (s : Sign) (k : List Cell) → sign_cells s k ≡ plain (sign_spelled s) k
+sign-plain unsigned k = refl
+sign-plain plus k = refl
+sign-plain minus k = refl
+
+exponent-plain : (e : Option Exponent) (k : List Cell) → exponent_cells e k ≡ plain (exponent_spelled e) k
+exponent-plain None k = refl
+exponent-plain (Some e) k =
+    ap (λ q. cell e.letter None ∷ q) (sign-plain e.sign (plain e.digits k)
+    ∙ plain-joined (sign_spelled e.sign) e.digits k)
+  where
+    plain-joined : (f g : List ℕ) (q : List Cell) → plain f (plain g q) ≡ plain (f ++ g) q
+    plain-joined [] g q = refl
+    plain-joined (c ∷ f) g q = ap (λ z. cell c None ∷ z) (plain-joined f g q)
+
+magnitude-plain : (n : Numeral) (k : List Cell) → length n.whole < 32768 → length n.fraction < 32769
+    → magnitude_cells n None k ≡ plain (magnitude_spelled n.whole n.fraction n.exponent) k
+magnitude-plain n k few fewer =
+    whole-plain n.whole _ few
+    ∙ ap (λ q. plain n.whole q) (fraction-plain n.whole n.fraction _ fewer
+    ∙ ap (λ q. plain (fraction_spelled n.fraction) q) (exponent-plain n.exponent k))
+    ∙ rw (
+      plain-append n.whole (fraction_spelled n.fraction ++ exponent_spelled n.exponent) k,
+      plain-append
+          (fraction_spelled n.fraction) (exponent_spelled n.exponent) k,
+    ) refl
+
+length-fraction_spelled : (fs : List ℕ) → length fs ≤ length (fraction_spelled fs)
+length-fraction_spelled [] = omega arith
+length-fraction_spelled (d ∷ ds) = omega arith
+
+pub numeral-plain : (n : Numeral) (k : List Cell) → length (numeral_spelled n) < 32768
+    → numeral_cells n None k ≡ plain (numeral_spelled n) k
+numeral-plain n k h = by_sign n.negative refl
+  where
+    size : length (minus_spelled n.negative) + (length n.whole +
+        (length (fraction_spelled n.fraction) + length (exponent_spelled n.exponent))) < 32768
+    size = simp length-append at h
+
+    magnitude : magnitude_cells n None k ≡ plain (magnitude_spelled n.whole n.fraction n.exponent) k
+    magnitude = magnitude-plain n k (omega (arith, size)) (omega (arith, size, length-fraction_spelled n.fraction))
+
+    by_sign : (b : Bool) → n.negative ≡ b → numeral_cells n None k ≡ plain (numeral_spelled n) k
+    by_sign true e = rw e (ap (λ q. cell 45 None ∷ q) magnitude)
+    by_sign false e = rw e magnitude
+
+-- ---- its characters are below 128
+
+pub AreSmall-append : (xs ys : List ℕ) → AreSmall xs → AreSmall ys → AreSmall (xs ++ ys)
+AreSmall-append xs ys h k = All-append (λ c. c < 128) xs ys h k
+
+digit_small : (d : ℕ) → is_ascii_digit d ≡ true → d < 128
+digit_small d h = grind (arith, nat_tests)
+
+letter_small : (c : ℕ) → is_exponent_letter c ≡ true → c < 128
+letter_small c h = grind (arith, nat_tests)
+
+digits_small : (ds : List ℕ) → AreDigits ds → AreSmall ds
+digits_small [] h = tt
+digits_small (d ∷ ds) h = (digit_small d h.0, digits_small ds h.1)
+
+whole_small : (ds : List ℕ) → IsWhole ds → AreSmall ds
+whole_small [] h = tt
+whole_small (d ∷ []) h = (digit_small d h, tt)
+whole_small (d ∷ e ∷ ds) h = (first d h.0, digits_small (e ∷ ds) h.1)
+  where
+    first : (d : ℕ) → (is_ascii_digit d && not (d == 48)) ≡ true → d < 128
+    first d h = grind (arith, nat_tests)
+
+fraction_small : (ds : List ℕ) → AreDigits ds → AreSmall (fraction_spelled ds)
+fraction_small [] h = tt
+fraction_small (d ∷ ds) h = (omega arith, digits_small (d ∷ ds) h)
+
+exponent_small : (e : Option Exponent) → IsExponent e → AreSmall (exponent_spelled e)
+exponent_small None h = tt
+exponent_small (Some e) h = (
+  letter_small e.letter h.0,
+  AreSmall-append (sign_spelled e.sign) e.digits (signs e.sign)
+      (exponent_digits e.digits h.1),
+)
+  where
+    signs : (s : Sign) → AreSmall (sign_spelled s)
+    signs unsigned = tt
+    signs plus = (omega arith, tt)
+    signs minus = (omega arith, tt)
+
+    exponent_digits : (ds : List ℕ) → IsDigits ds → AreSmall ds
+    exponent_digits [] h = tt
+    exponent_digits (d ∷ ds) h = (digit_small d h.0, digits_small ds h.1)
+
+pub numeral_small : (n : Numeral) → IsNumeral n → AreSmall (numeral_spelled n)
+numeral_small n h =
+    AreSmall-append (minus_spelled n.negative) _ (minus_small n.negative)
+    (AreSmall-append n.whole _ (whole_small n.whole h.0)
+    (AreSmall-append (fraction_spelled n.fraction) _ (fraction_small n.fraction h.1) (exponent_small n.exponent h.2)))
+  where
+    minus_small : (b : Bool) → AreSmall (minus_spelled b)
+    minus_small true = (omega arith, tt)
+    minus_small false = tt

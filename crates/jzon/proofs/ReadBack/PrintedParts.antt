@@ -1,0 +1,194 @@
+-- Numbers of the grammar that have the text of given parts, and mean the same parts.
+use Rattle.std.proofs.Common.{◌≡◌, ℕ, suc, ℤ, pos, ◌+ℤ◌, ◌-ℤ◌, ◌^◌, ◌&&◌, ◌≤◌, ◌<◌, ◌==◌, Option, Some, List, [], ◌∷◌}
+use Rattle.std.proofs.Common.{◌++◌, length, replicate, Bool, true, false, not, refl, sym, ap, ◌∙◌, arith, decimal}
+use Rattle.std.proofs.Common.{rules, codes, nat_le, nat_lt, if◌then◌else◌, FitsSigned, get_or, length-append}
+use Rattle.std.proofs.Common.{append_assoc, zero}
+use Rattle.std.specs.Int.{w16}
+use Rattle.std.specs.Char.{is_ascii_digit}
+use Rattle.std.specs.List.{fold, AllByRecursion}
+use Rattle.std.proofs.lemmas.Int.{ints, clamps}
+use Rattle.std.proofs.lemmas.Str.Parse.{IsNumeralModel, numerals_by_fold}
+use Rattle.std.proofs.lemmas.Fmt.{length-decimal-le, decimal_nonempty, digits_decimal, first_decimal}
+use Rattle.std.proofs.lemmas.Fmt.{digits_value-decimal}
+use Rattle.std.proofs.lemmas.Bool.Decides.{nat_tests}
+use Rattle.std.proofs.lemmas.List.{take_all}
+use Rattle.jzon_base.specs.Digits.{IsDigit, add_digit, digits_number, kept_len, kept, dropped, kept_fraction}
+use Rattle.jzon_base.specs.Digits.{read_exponent, clamp}
+use Rattle.jzon_base.specs.Decimal.{Decimal, parts, same}
+use Rattle.jzon_base.specs.NumberText.{sign_text, magnitude_text, number_text, decimal_text}
+use Rattle.jzon_base.specs.Same.{same_equiv}
+use Rattle.jzon_base.proofs.Kept.{kept_len-at}
+use Rattle.jzon.specs.Grammar.{Sign, Exponent, Numeral, AreDigits}
+use Rattle.jzon.specs.Grammar as grammar
+use Rattle.jzon.specs.Meaning.{written_exponent, number_of}
+use Rattle.jzon.proofs.ReadBack.NumeralTexts.{numeral_spelled, minus_spelled, fraction_spelled, exponent_spelled}
+
+-- The number has the text of these parts. It means the same parts, and what it means is printed so again.
+pub record IsPrintedAs (s : Bool) (m : ℕ) (e : ℤ) (n : Numeral) : Type 0 where
+  pub in_grammar : grammar.IsNumeral n
+  pub spelled : numeral_spelled n ≡ number_text s m e
+  pub alike : same (number_of n) (parts s m e) ≡ true
+  pub prints : decimal_text (number_of n) ≡ number_text s m e
+
+abbrev pub HasNumeral : Bool → ℕ → ℤ → Type 0
+HasNumeral s m e = (n : Numeral) × IsPrintedAs s m e n
+
+abbrev pub exponent : Sign → List ℕ → Exponent
+exponent s ds = record { letter = 101; sign = s; digits = ds }
+
+abbrev pub numeral : Bool → List ℕ → List ℕ → Option Exponent → Numeral
+numeral s whole fraction x = record { negative = not s; whole = whole; fraction = fraction; exponent = x }
+
+-- ---- digits
+
+abbrev pub AllDigits : List ℕ → Type 0
+AllDigits = AllByRecursion IsDigit
+
+-- digits, with no zero before others
+abbrev pub IsWholePart : List ℕ → Type 0
+IsWholePart ds = AllDigits ds × (0 < length ds) × (get_or ds 0 0 ≡ 48 → length ds ≡ 1)
+
+digit_test : (d : ℕ) → IsDigit d → is_ascii_digit d ≡ true
+digit_test d h = grind (arith, nat_tests)
+
+digits_test : (ds : List ℕ) → AllDigits ds → AreDigits ds
+digits_test [] h = tt
+digits_test (d ∷ ds) h = (digit_test d h.0, digits_test ds h.1)
+
+pub whole_test : (ds : List ℕ) → IsWholePart ds → grammar.IsWhole ds
+whole_test [] h = absurd (omega (arith, h.1))
+whole_test (d ∷ []) h = digit_test d h.0.0
+whole_test (d ∷ e ∷ ds) h =
+    (first d h.0.0 (λ z. let one : suc (suc (length ds)) ≡ 1 = h.2 z in omega (arith, one)), digits_test (e ∷ ds) h.0.1)
+  where
+    first : (d : ℕ) → IsDigit d → (d ≡ 48 → ⊥) → (is_ascii_digit d && not (d == 48)) ≡ true
+    first d h apart = grind (arith, nat_tests)
+
+pub exponent_test : (s : Sign) (ds : List ℕ) → AllDigits ds → 0 < length ds → grammar.IsExponent (Some (exponent s ds))
+exponent_test s [] h some = absurd (omega arith)
+exponent_test s (d ∷ ds) h some = (refl, (digit_test d h.0, digits_test ds h.1))
+
+pub all-zeros : (n : ℕ) → AllDigits (replicate n 48)
+all-zeros zero = tt
+all-zeros (suc n) = ((omega arith, omega arith), all-zeros n)
+
+-- ---- printed digits
+
+abbrev read_on : ℕ → List ℕ → ℕ
+read_on n ds = fold add_digit n ds
+
+own_all : IsNumeralModel AllDigits (read_on 0)
+own_all = numerals_by_fold _ (search rules) read_on (search rules)
+
+pub number_decimal : (m : ℕ) → m < 2 ^ 64 → digits_number (decimal m) ≡ m
+number_decimal m h = digits_value-decimal own_all m h
+
+pub decimal_digits : (n : ℕ) → n < 2 ^ 64 → AllDigits (decimal n) × (0 < length (decimal n))
+decimal_digits n h = (digits_decimal own_all n h, decimal_nonempty n h)
+
+-- the digits of a mantissa above 0
+pub record IsMantissa (m : ℕ) (ds : List ℕ) : Type 0 where
+  pub number : digits_number ds ≡ m
+  pub digits : AllDigits ds
+  pub some : 0 < length ds
+  pub first : 48 < get_or ds 0 0
+  pub few : length ds ≤ 20
+
+pub mantissa : (m : ℕ) → 0 < m → m < 2 ^ 64 → IsMantissa m (decimal m)
+mantissa m above fits = record {
+  number = number_decimal m fits;
+  digits = digits_decimal own_all m fits;
+  some = decimal_nonempty m fits;
+  first = first_decimal m above fits;
+  few = length-decimal-le 20 m (omega arith) (omega arith) fits;
+}
+
+-- ---- the cases of a text
+
+pub if-le : (a b : ℕ) (xs ys : List ℕ) → a ≤ b → (if nat_le a b then xs else ys) ≡ xs
+if-le a b xs ys h = grind (arith, nat_tests)
+
+pub if-not_le : (a b : ℕ) (xs ys : List ℕ) → b < a → (if nat_le a b then xs else ys) ≡ ys
+if-not_le a b xs ys h = grind (arith, nat_tests)
+
+pub if-lt : (a b : ℕ) (xs ys : List ℕ) → a < b → (if nat_lt a b then xs else ys) ≡ xs
+if-lt a b xs ys h = grind (arith, nat_tests)
+
+pub if-not_lt : (a b : ℕ) (xs ys : List ℕ) → b ≤ a → (if nat_lt a b then xs else ys) ≡ ys
+if-not_lt a b xs ys h = grind (arith, nat_tests)
+
+pub if-eq : (a b : ℕ) (xs ys : List ℕ) → a ≡ b → (if a == b then xs else ys) ≡ xs
+if-eq a b xs ys h = grind (arith, nat_tests)
+
+pub if-ne : (a b : ℕ) (xs ys : List ℕ) → (a ≡ b → ⊥) → (if a == b then xs else ys) ≡ ys
+if-ne a b xs ys h = grind (arith, nat_tests)
+
+pub number_text-above : (s : Bool) (m : ℕ) (e : ℤ) → 0 < m → number_text s m e
+    ≡ sign_text s ++ magnitude_text (decimal m) e
+number_text-above s m e above = ap (λ t. sign_text s ++ t) (if-ne m 0 (codes "0") (magnitude_text (decimal m) e)
+    (λ z. omega arith))
+
+-- ---- what a number means
+
+pub not_not : (s : Bool) → not (not s) ≡ s
+not_not true = refl
+not_not false = refl
+
+-- a number that means d
+pub means_as : (s : Bool) (m : ℕ) (e : ℤ) (n : Numeral) (d : Decimal) → grammar.IsNumeral n
+    → numeral_spelled n ≡ number_text s m e → number_of n ≡ d
+    → same d (parts s m e) ≡ true → decimal_text d ≡ number_text s m e → HasNumeral s m e
+means_as s m e n d ok spelled means alike prints = (
+  n,
+  record {
+    in_grammar = ok;
+    spelled = spelled;
+    alike = ap (λ x. same x (parts s m e)) means
+        ∙ alike;
+    prints = ap decimal_text means ∙ prints;
+  },
+)
+
+kept_all : (ds : List ℕ) → digits_number ds < 2 ^ 64 → kept_len ds ≡ length ds
+kept_all ds h = kept_len-at ds (length ds) (omega arith) (rw (take_all (length ds) ds (omega arith)) h)
+    (λ below. absurd (omega arith))
+
+clamp_small : (e : ℤ) → FitsSigned w16 e → clamp e ≡ e
+clamp_small e fits = omega (arith, ints, clamps)
+
+-- the parts, where all digits fit and the powers of ten add up
+pub exact_parts : (s : Bool) (whole fraction : List ℕ) (x : Option Exponent) (m : ℕ) (e : ℤ)
+    → digits_number (whole ++ fraction) ≡ m → m < 2 ^ 64
+    → (pos 0 -ℤ pos (length fraction)) +ℤ written_exponent x ≡ e → FitsSigned w16 e
+    → number_of (numeral s whole fraction x) ≡ parts s m e
+exact_parts s whole fraction x m e is fits sum small =
+    let all : kept_len (whole ++ fraction) ≡ length (whole ++ fraction) = kept_all (whole ++ fraction)
+    (omega (arith, is)) in
+    let value : digits_number (kept (whole ++ fraction)) ≡ m =
+    ap digits_number (take_all (kept_len (whole ++ fraction)) (whole ++ fraction) (omega (arith, all))) ∙ is in
+    let none : dropped whole fraction ≡ 0 = omega (arith, all, length-append whole fraction) in
+    let some : kept_fraction whole fraction ≡ length fraction = omega (arith, all, length-append whole fraction) in
+    let inner : (pos (dropped whole fraction) -ℤ pos (kept_fraction whole fraction)) +ℤ written_exponent x
+    ≡ e = rw (none, some) sum in
+    let power : read_exponent whole fraction (written_exponent x) ≡ e = ap clamp inner ∙ clamp_small e small in
+    ap (λ b. parts b (digits_number (kept (whole ++ fraction))) (read_exponent whole fraction (written_exponent x)))
+    (not_not s)
+    ∙ ap (λ v. parts s v (read_exponent whole fraction (written_exponent x))) value ∙ ap (parts s m) power
+
+pub minus-is : (s : Bool) → minus_spelled (not s) ≡ sign_text s
+minus-is true = refl
+minus-is false = refl
+
+-- a number with the text of a mantissa above 0, which means exactly its parts
+pub means_exactly : (s : Bool) (m : ℕ) (e : ℤ) (w f : List ℕ) (x : Option Exponent) → 0 < m → m < 2 ^ 64
+    → FitsSigned w16 e → IsWholePart w → AllDigits f
+    → grammar.IsExponent x → w ++ fraction_spelled f ++ exponent_spelled x ≡ magnitude_text (decimal m) e
+    → digits_number (w ++ f) ≡ m
+    → (pos 0 -ℤ pos (length f)) +ℤ written_exponent x ≡ e → HasNumeral s m e
+means_exactly s m e w f x above fits small whole digits power spelled value sum =
+    let text : number_text s m e ≡ minus_spelled (not s) ++ (w ++ fraction_spelled f ++ exponent_spelled x) =
+    number_text-above s m e above ∙ ap (λ t. sign_text s ++ t) (sym spelled)
+    ∙ ap (λ t. t ++ (w ++ fraction_spelled f ++ exponent_spelled x)) (sym (minus-is s)) in
+    means_as s m e (numeral s w f x) (parts s m e) (whole_test w whole, digits_test f digits, power)
+    (ap (λ t. minus_spelled (not s) ++ t) (sym (append_assoc w (fraction_spelled f) (exponent_spelled x))) ∙ sym text)
+    (exact_parts s w f x m e value fits sum small) (same_equiv.refl (parts s m e)) refl

@@ -1,0 +1,351 @@
+-- Each writing of a value without NaN is read as the same value.
+use Rattle.std.proofs.Common.{◌≡◌, ◌∙◌, ◌≢◌, ℕ, suc, ◌≤◌, max, List, [], ◌∷◌, ◌++◌, length, map, Bool, true, false}
+use Rattle.std.proofs.Common.{cond, Option, Some, refl, sym, ap, subst, arith}
+use Rattle.std.specs.Prelude.{IsUtf8, IsTrue, AllPairs}
+use Rattle.std.specs.List.{AllByRecursion, IsDistinct}
+use Rattle.std.specs.Str.{bytes_eq}
+use Rattle.std.proofs.lemmas.Bool.{and_parts, and_from}
+use Rattle.std.proofs.lemmas.List.{length-map}
+use Rattle.std.proofs.lemmas.Slice.Eq.{bytes_eq-Decides}
+use Rattle.jzon_base.specs.Decimal.{nan, parts}
+use Rattle.jzon_base.specs.PairList.{keys_of, find, put_each}
+use Rattle.jzon_base.proofs.PutEach.{put_each-distinct}
+use Rattle.jzon_tree.specs.Value.{Value, null, boolean, text, number, array, object, Values, no_values, value}
+use Rattle.jzon_tree.specs.Value.{values_of, Pairs, no_pairs, pair, pairs_of, list_of_pairs, nest, most_nest}
+use Rattle.jzon_tree.specs.Value.{most_nest_under}
+use Rattle.jzon_tree.specs.Text.{quoted}
+use Rattle.jzon_tree.specs.Lawful.{IsValue, AreValues, ArePairs, HasNoNan, HaveNoNan, PairsHaveNoNan}
+use Rattle.jzon_tree.specs.Same.{same, same_items}
+use Rattle.jzon_tree.specs.SameLaws.{same_at, object-intro}
+use Rattle.jzon_tree.specs.Writing.{Style, Writes, WritesEach, WritesPairs, Encloses, IsOrder, text_at, colon_text}
+use Rattle.jzon_tree.specs.Writing.{is_whitespace, is_all_whitespace}
+use Rattle.jzon_tree.proofs.Views.{list_of_pairs-pairs_of}
+use Rattle.jzon.specs.Reading.{Reading}
+use Rattle.jzon.specs.Grammar.{Node, Each, IsWhitespace}
+use Rattle.jzon.specs.Meaning.{bytes_of, meaning, members_meaning}
+use Rattle.jzon.specs.Laws.{alone, AllowsStrictAlone, ReadsBack}
+use Rattle.jzon.proofs.ReadBack.DistinctKeys.{AreNew-IsDistinct}
+use Rattle.jzon.proofs.ReadBack.NumbersReadBack.{printed_numeral}
+use Rattle.jzon.proofs.ReadBack.Orders.{picked, map-picked, each_picked, AreBelow, AreBelow-order, texts_picked}
+use Rattle.jzon.proofs.ReadBack.Orders.{distinct_picked}
+use Rattle.jzon.proofs.ReadBack.Orders.{find-picked}
+use Rattle.jzon.proofs.ReadBack.Redump.{text_utf8}
+use Rattle.jzon.proofs.ReadBack.WrittenStrings.{items_for, bytes_of-items_for}
+use Rattle.jzon.proofs.ReadBack.WrittenTrees.{NodeSpells, null_spells, true_spells, false_spells, number_spells}
+use Rattle.jzon.proofs.ReadBack.WrittenTrees.{empty_array_spells, empty_object_spells, string_spells, key_for}
+use Rattle.jzon.proofs.ReadBack.WrittenTrees.{array_spells}
+use Rattle.jzon.proofs.ReadBack.WrittenTrees.{object_spells, node_parses}
+use Rattle.jzon.proofs.ReadBack.JoinedTrees.{AllowsWhitespaceOf, node_raised, EachSpells, joined_elements, Entry}
+use Rattle.jzon.proofs.ReadBack.JoinedTrees.{entry_text}
+use Rattle.jzon.proofs.ReadBack.JoinedTrees.{entry_meaning, entry_keys, EntrySpells, joined_members}
+
+-- The node spells the bytes, and means the same value.
+record ReadNode (r : Reading) (v : Value) (b : List ℕ) : Type 0 where
+  node : Node
+  spells : NodeSpells r (nest v) b node
+  alike : same (meaning node) v ≡ true
+
+record ReadNodes (r : Reading) (vs : Values) (ts : List (List ℕ)) : Type 0 where
+  nodes : List Node
+  spell : EachSpells r (most_nest vs) ts nodes
+  alike : same_items (values_of (map meaning nodes)) vs ≡ true
+
+-- in the order of the object
+record ReadEntries (r : Reading) (ps : Pairs) (ts : List (List ℕ)) : Type 0 where
+  entries : List Entry
+  texts : map entry_text entries ≡ ts
+  spell : AllByRecursion (EntrySpells r (most_nest_under ps)) entries
+  keys : entry_keys entries ≡ keys_of (list_of_pairs ps)
+  alike : (q : List ℕ) → same_at (find q (map entry_meaning entries)) (find q (list_of_pairs ps)) ≡ true
+
+-- ---- higher bounds
+
+each_raised : (r : Reading) (h g : ℕ) (ts : List (List ℕ)) (ns : List Node) → h ≤ g → EachSpells r h ts ns
+    → EachSpells r g ts ns
+each_raised r h g [] [] le e = tt
+each_raised r h g [] (n ∷ ns) le e = e
+each_raised r h g (t ∷ ts) [] le e = e
+each_raised r h g (t ∷ ts) (n ∷ ns) le e = (node_raised r h g t n le e.0, each_raised r h g ts ns le e.1)
+
+entry_raised : (r : Reading) (h g : ℕ) (e : Entry) → h ≤ g → EntrySpells r h e → EntrySpells r g e
+entry_raised r h g e le k = record {
+  utf8 = k.utf8;
+  whitespace = k.whitespace;
+  spells = node_raised r h g e.text e.node le
+      k.spells;
+}
+
+entries_raised : (r : Reading) (h g : ℕ) (es : List Entry) → h ≤ g → AllByRecursion (EntrySpells r h) es
+    → AllByRecursion (EntrySpells r g) es
+entries_raised r h g [] le k = tt
+entries_raised r h g (e ∷ es) le k = (entry_raised r h g e le k.0, entries_raised r h g es le k.1)
+
+left_max : (a b : ℕ) → a ≤ max a b
+left_max a b = omega arith
+
+right_max : (a b : ℕ) → b ≤ max a b
+right_max a b = omega arith
+
+above_max : (n : ℕ) → suc (max n n) ≤ suc n
+above_max n = omega arith
+
+-- ---- arrays
+
+array_from : (r : Reading) (s : Style) (dent : ℕ) (v : Value) (vs : Values) (b : List ℕ) (ts : List (List ℕ))
+    (ns : List Node) → AllowsWhitespaceOf r s
+    → EachSpells r (most_nest (value v vs)) ts ns → same_items (values_of (map meaning ns)) (value v vs) ≡ true
+    → Encloses s dent 91 ts 93 b
+    → ReadNode r (array (value v vs)) b
+array_from r s dent v vs b [] ns fit each alike w = absurd w.2
+array_from r s dent v vs b (t ∷ ts) [] fit each alike w = absurd each
+array_from r s dent v vs b (t ∷ ts) (n ∷ ns) fit each alike w =
+    let high : ℕ = most_nest (value v vs) in
+    let j = joined_elements r s (suc dent) high t ts n ns w.0 w.1 fit each w.2 (fit dent w.1 w.3) in
+    let node : Node = Node.array j.before n j.after j.elements in
+    record {
+      node = node;
+      spells =
+          subst (λ x. NodeSpells r (suc high) x node) (sym (w.4 ∙ ap (λ x. 91 ∷ x) j.text))
+          (node_raised r (suc (max high high)) (suc high) _ node (above_max high)
+          (array_spells r high high j.before t j.after j.rest n j.elements j.whitespace j.space each.0 j.spell));
+      alike = ap (λ ms. same_items (value (meaning n) ms) (value v vs)) j.means ∙ alike;
+    }
+
+-- ---- objects
+
+-- the entries in the order in which they are written
+object_from : (r : Reading) (s : Style) (dent : ℕ) (k : List ℕ) (v : Value) (ps : Pairs) (b : List ℕ) (es : List Entry)
+    → AllowsWhitespaceOf r s
+    → AllByRecursion (EntrySpells r (most_nest_under (pair k v ps))) es → IsDistinct bytes_eq (entry_keys es)
+    → ((q : List ℕ) → same_at (find q (map entry_meaning es)) (find q (list_of_pairs (pair k v ps))) ≡ true)
+    → Encloses s dent 123 (map entry_text es) 125 b → ReadNode r (object (pair k v ps)) b
+object_from r s dent k v ps b [] fit each distinct alike w = absurd w.2
+object_from r s dent k v ps b (e ∷ es) fit each distinct alike w =
+    let high : ℕ = most_nest_under (pair k v ps) in
+    let j = joined_members r s (suc dent) high e es w.0 w.1 fit each w.2 (fit dent w.1 w.3) in
+    let node : Node = Node.object (key_for j.before e.key) e.gap e.node j.after j.members in
+    let bytes : bytes_of (items_for e.key) ≡ e.key = bytes_of-items_for e.key each.0.utf8 in
+    let means : put_each ((bytes_of (items_for e.key), meaning e.node) ∷ members_meaning j.members)
+    ≡ map entry_meaning (e ∷ es) =
+    ap (λ y. put_each ((y, meaning e.node) ∷ members_meaning j.members)) bytes
+    ∙ ap (λ qs. put_each (entry_meaning e ∷ qs)) j.means
+    ∙ put_each-distinct (map entry_meaning (e ∷ es)) distinct in
+    record {
+      node = node;
+      spells =
+          subst (λ x. NodeSpells r (suc high) x node) (sym (w.4 ∙ ap (λ x. 123 ∷ x) j.text))
+          (node_raised r (suc (max high high)) (suc high) _ node (above_max high)
+          (object_spells r high high (entry_keys es) j.before e.key e.gap e.text j.after j.rest e.node j.members
+          j.whitespace
+          each.0.utf8 each.0.whitespace j.space each.0.spells
+          j.spell (AreNew-IsDistinct (entry_keys (e ∷ es)) distinct)));
+      alike =
+          ap (λ qs. same (object (pairs_of qs)) (object (pair k v ps))) means
+          ∙ object-intro (pairs_of (map entry_meaning (e ∷ es))) (pair k v ps)
+          (λ q. ap (λ qs. same_at (find q qs) (find q (list_of_pairs (pair k v ps))))
+          (list_of_pairs-pairs_of (map entry_meaning (e ∷ es))) ∙ alike q);
+    }
+
+object_read : (r : Reading) (s : Style) (dent : ℕ) (k : List ℕ) (v : Value) (ps : Pairs) (b : List ℕ)
+    (ts : List (List ℕ)) (positions : List ℕ) (es : List Entry)
+    → AllowsWhitespaceOf r s → AllPairs (λ x y. x ≢ y) (keys_of (list_of_pairs (pair k v ps))) → map entry_text es ≡ ts
+    → AllByRecursion (EntrySpells r (most_nest_under (pair k v ps))) es
+    → entry_keys es ≡ keys_of (list_of_pairs (pair k v ps))
+    → ((q : List ℕ) → same_at (find q (map entry_meaning es)) (find q (list_of_pairs (pair k v ps))) ≡ true)
+    → IsOrder (length ts) positions
+    → Encloses s dent 123 (map (text_at ts) positions) 125 b → ReadNode r (object (pair k v ps)) b
+object_read r s dent k v ps b ts positions [] fit distinct texts each keys alike o w = absurd (cc)
+object_read r s dent k v ps b ts positions (e ∷ es) fit distinct texts each keys alike o w =
+    let all : List Entry = e ∷ es in
+    let stored : List (List ℕ × Value) = map entry_meaning all in
+    let size : length ts ≡ length stored = ap length (sym texts) ∙ length-map all entry_text
+    ∙ sym (length-map all entry_meaning) in
+    let counted : length (keys_of stored) ≡ length stored = length-map stored (λ p. p.0) in
+    let order : IsOrder (length stored) positions = subst (λ n. IsOrder n positions) size o in
+    let apart : AllPairs (λ x y. x ≢ y) (keys_of stored) = subst (λ ks. AllPairs (λ x y. x ≢ y) ks) (sym keys) distinct
+    in
+    let below : AreBelow (length (keys_of stored)) positions = subst (λ n. AreBelow n positions) (sym counted)
+    (AreBelow-order (length stored) positions order) in
+    let written : map (text_at ts) positions ≡ map entry_text (picked e all positions) =
+    texts_picked ts positions (entry_text e) (AreBelow-order (length ts) positions o)
+    ∙ ap (λ xs. picked (entry_text e) xs positions) (sym texts)
+    ∙ sym (map-picked entry_text e all positions) in
+    let meant : map entry_meaning (picked e all positions) ≡ picked (entry_meaning e) stored positions = map-picked
+    entry_meaning e all positions in
+    let named : entry_keys (picked e all positions) ≡ picked e.key (keys_of stored) positions =
+    ap keys_of meant ∙ map-picked (λ (p : List ℕ × Value). p.0) (entry_meaning e) stored positions in
+    let new : IsDistinct bytes_eq (entry_keys (picked e all positions)) =
+    subst (λ ks. IsDistinct bytes_eq ks) (sym named)
+    (distinct_picked (keys_of stored) e.key positions apart below
+    (λ i h. omega (arith, order.once i (omega (arith, counted))))) in
+    object_from r s dent k v ps b (picked e all positions) fit
+    (each_picked (EntrySpells r (most_nest_under (pair k v ps))) e all positions each.0 each) new
+    (λ q. ap (λ xs. same_at (find q xs) (find q (list_of_pairs (pair k v ps)))) meant
+    ∙ ap (λ x. same_at x (find q (list_of_pairs (pair k v ps))))
+    (find-picked q (entry_meaning e) stored positions apart order) ∙ alike q)
+    (subst (λ xs. Encloses s dent 123 xs 125 b) written w)
+
+-- ---- one pair
+
+-- the whitespace behind a colon
+gap_of : Bool → List ℕ
+gap_of wide = elim wide [ true ↦ 32 ∷ [] | false ↦ [] ]
+
+gap_whitespace : (r : Reading) (wide : Bool) → IsWhitespace r (gap_of wide)
+unfolding gap_of
+gap_whitespace r true = (refl, tt)
+gap_whitespace r false = tt
+
+colon-gap : (wide : Bool) (x : List ℕ) → colon_text wide ++ x ≡ 58 ∷ (gap_of wide ++ x)
+unfolding gap_of
+colon-gap true x = refl
+colon-gap false x = refl
+
+same_pair : (b : Bool) (m v : Value) (f g : Option Value) → same m v ≡ true → same_at f g ≡ true
+    → same_at (cond b (Some m) f) (cond b (Some v) g) ≡ true
+same_pair true m v f g here later = here
+same_pair false m v f g here later = later
+
+-- ---- all values
+
+same_text : (s t : List ℕ) → s ≡ t → bytes_eq s t ≡ true
+same_text s t e = (bytes_eq-Decides s t).1 e
+
+mutual
+  read_node : (r : Reading) (s : Style) (dent : ℕ) (v : Value) (b : List ℕ) → AllowsWhitespaceOf r s → IsValue v
+      → HasNoNan v → Writes s dent v b → ReadNode r v b
+  read_node r s dent null b fit h no_nan w = record {
+    node = Node.null;
+    spells = subst (λ x. NodeSpells r 0 x Node.null)
+        (sym w) (null_spells r);
+    alike = refl;
+  }
+  read_node r s dent (boolean true) b fit h no_nan w =
+      record {
+        node = Node.boolean true;
+        spells = subst (λ x. NodeSpells r 0 x (Node.boolean true)) (sym w)
+            (true_spells r);
+        alike = refl;
+      }
+  read_node r s dent (boolean false) b fit h no_nan w =
+      record {
+        node = Node.boolean false;
+        spells = subst (λ x. NodeSpells r 0 x (Node.boolean false)) (sym w)
+            (false_spells r);
+        alike = refl;
+      }
+  read_node r s dent (text k t) b fit h no_nan w =
+      let u : IsUtf8 t = text_utf8 k t h in
+      record {
+        node = Node.string (items_for t);
+        spells = subst (λ x. NodeSpells r 0 x (Node.string (items_for t))) (sym w) (string_spells r t u);
+        alike = same_text (bytes_of (items_for t)) t (bytes_of-items_for t u);
+      }
+  read_node r s dent (number nan) b fit h no_nan w = absurd no_nan
+  read_node r s dent (number (parts p m x)) b fit h no_nan w =
+      let n = printed_numeral p m x h.0 h.1 in
+      record {
+        node = Node.number n.0;
+        spells = subst (λ y. NodeSpells r 0 y (Node.number n.0)) (sym w) (number_spells r p m x n.0 h.0 h.1 n.1);
+        alike = n.1.alike;
+      }
+  read_node r s dent (array no_values) b fit h no_nan w =
+      record {
+        node = Node.empty_array [];
+        spells = subst (λ x. NodeSpells r 0 x (Node.empty_array [])) (sym w)
+            (empty_array_spells r);
+        alike = refl;
+      }
+  read_node r s dent (array (value v vs)) b fit h no_nan w =
+      let e = read_nodes r s (suc dent) (value v vs) w.0 fit h no_nan w.1 in array_from r s dent v vs b w.0 e.nodes fit
+      e.spell e.alike w.2
+  read_node r s dent (object no_pairs) b fit h no_nan w =
+      record {
+        node = Node.empty_object [];
+        spells = subst (λ x. NodeSpells r 0 x (Node.empty_object [])) (sym w)
+            (empty_object_spells r);
+        alike = refl;
+      }
+  read_node r s dent (object (pair k v ps)) b fit h no_nan w =
+      let e = read_entries r s (suc dent) (pair k v ps) w.0 fit h.0 no_nan w.2 in
+      object_read r s dent k v ps b w.0 w.1 e.entries fit h.1 e.texts e.spell e.keys e.alike w.3 w.5
+
+  read_nodes : (r : Reading) (s : Style) (dent : ℕ) (vs : Values) (ts : List (List ℕ)) → AllowsWhitespaceOf r s
+      → AreValues vs → HaveNoNan vs → WritesEach s dent vs ts
+      → ReadNodes r vs ts
+  read_nodes r s dent no_values [] fit h no_nan w = record { nodes = []; spell = tt; alike = refl }
+  read_nodes r s dent no_values (t ∷ ts) fit h no_nan w = absurd w
+  read_nodes r s dent (value v vs) [] fit h no_nan w = absurd w
+  read_nodes r s dent (value v vs) (t ∷ ts) fit h no_nan w =
+      let one = read_node r s dent v t fit h.0 no_nan.0 w.0 in
+      let more = read_nodes r s dent vs ts fit h.1 no_nan.1 w.1 in
+      record {
+        nodes = one.node ∷ more.nodes;
+        spell = (
+          node_raised r (nest v) (max (nest v) (most_nest vs)) t one.node (left_max (nest v) (most_nest vs)) one.spells,
+          each_raised r (most_nest vs) (max (nest v) (most_nest vs)) ts more.nodes (right_max (nest v) (most_nest vs))
+              more.spell,
+        );
+        alike = and_from _ _ one.alike more.alike;
+      }
+
+  read_entries : (r : Reading) (s : Style) (dent : ℕ) (ps : Pairs) (ts : List (List ℕ)) → AllowsWhitespaceOf r s
+      → ArePairs ps → PairsHaveNoNan ps
+      → WritesPairs s dent ps ts → ReadEntries r ps ts
+  read_entries r s dent no_pairs [] fit h no_nan w = record {
+    entries = [];
+    texts = refl;
+    spell = tt;
+    keys = refl;
+    alike = λ q. refl;
+  }
+  read_entries r s dent no_pairs (t ∷ ts) fit h no_nan w = absurd w
+  read_entries r s dent (pair k v ps) [] fit h no_nan w = absurd w
+  read_entries r s dent (pair k v ps) (t ∷ ts) fit h no_nan w =
+      let wide : Bool = w.0.0 in
+      let x : List ℕ = w.0.1 in
+      let one = read_node r s dent v x fit h.1 no_nan.0 w.0.3 in
+      let more = read_entries r s dent ps ts fit h.2 no_nan.1 w.1 in
+      let high : ℕ = max (nest v) (most_nest_under ps) in
+      let here : Entry = record { key = k; gap = gap_of wide; text = x; node = one.node } in
+      record {
+        entries = here ∷ more.entries;
+        texts =
+            ap (λ y. (quoted k ++ y) ∷ map entry_text more.entries) (sym (colon-gap wide x))
+            ∙ ap (λ y. y ∷ map entry_text more.entries) (sym w.0.4)
+            ∙ ap (λ ys. t ∷ ys) more.texts;
+        spell = (
+          record {
+            utf8 = h.0;
+            whitespace = gap_whitespace r wide;
+            spells = node_raised r (nest v) high x one.node
+                (left_max (nest v) (most_nest_under ps)) one.spells;
+          },
+          entries_raised r (most_nest_under ps) high more.entries (right_max (nest v) (most_nest_under ps)) more.spell,
+        );
+        keys = ap (λ ks. k ∷ ks) more.keys;
+        alike = λ q.
+            same_pair (bytes_eq k q) (meaning one.node) v (find q (map entry_meaning more.entries))
+            (find q (list_of_pairs ps)) one.alike (more.alike q);
+      }
+
+-- ---- the law
+
+whitespace_each : (strict : Bool) (w : List ℕ) → is_all_whitespace strict w ≡ true → Each (is_whitespace strict) w
+whitespace_each strict [] h = tt
+whitespace_each strict (c ∷ w) h = let t = and_parts _ _ h in (t.0, whitespace_each strict w t.1)
+
+whitespace_of : (strict : Bool) (w : List ℕ) → (IsTrue strict → is_all_whitespace true w ≡ true)
+    → is_all_whitespace false w ≡ true
+    → is_all_whitespace strict w ≡ true
+whitespace_of true w narrow h = narrow refl
+whitespace_of false w narrow h = h
+
+allows_style_whitespace : (r : Reading) (s : Style) → (IsTrue r.strict → AllowsStrictAlone s) → AllowsWhitespaceOf r s
+allows_style_whitespace r s narrow dent w allowed = whitespace_each r.strict w
+    (whitespace_of r.strict w (λ strict. narrow strict dent w allowed) allowed.0)
+
+pub read_back : ReadsBack
+read_back r s dent v b narrow h no_nan few w =
+    let n = read_node r s dent v b (allows_style_whitespace r s narrow) h no_nan w in
+    (n.spells.utf8, alone n.node, node_parses r (nest v) b n.node few n.spells, n.alike)

@@ -1,0 +1,299 @@
+-- A written string is a string of the grammar, which means the text that was written.
+use Rattle.std.proofs.Common.{◌≡◌, ◌∙◌, ℕ, zero, suc, ◌/◌, ◌%◌, ◌<◌, ◌≤◌, List, [], ◌∷◌, ◌++◌, length, map, get_or}
+use Rattle.std.proofs.Common.{Bool, true, false, not, ◌&&◌, ◌||◌, ◌==◌, nat_le, nat_lt, if◌then◌else◌, refl, sym, ap}
+use Rattle.std.proofs.Common.{subst, arith, inl, inr, append-nil, chars, None}
+use Rattle.std.specs.Prelude.{IsUtf8, encode_utf8, encode_utf8_all}
+use Rattle.std.specs.Char.{digit_char, is_ascii_hexdigit}
+use Rattle.std.specs.Str.{bytes_eq}
+use Rattle.std.proofs.Math.Utf8.{scalar, scalars}
+use Rattle.std.proofs.lemmas.Bool.{cases_lt, and_parts}
+use Rattle.std.proofs.lemmas.Bool.Decides.{nat_tests}
+use Rattle.std.proofs.lemmas.List.Concat.{flat_map-append}
+use Rattle.std.proofs.lemmas.Slice.Eq.{bytes_eq-Decides}
+use Rattle.std.proofs.lemmas.Str.{chars_from_encodes, chars-append, encodes-append, encodes-chars, scalars-chars}
+use Rattle.std.proofs.lemmas.Str.{encode_ascii, inside_one, IsUtf8-append, IsUtf8-from_ascii, encodes-IsAscii}
+use Rattle.std.proofs.lemmas.Str.{chars-IsAscii}
+use Rattle.jzon_tree.specs.Text.{escaped_byte, escaped, quoted}
+use Rattle.jzon.specs.Grammar.{Item, simple, single, double, AreHex, IsItem, AreItems, is_unescaped, is_simple}
+use Rattle.jzon.specs.Grammar.{is_surrogate, code_unit}
+use Rattle.jzon.specs.Grammar as grammar
+use Rattle.jzon.specs.Spelling.{Cell, cell, plain, item_cells, items_cells}
+use Rattle.jzon.specs.Meaning.{item_text, text_of, bytes_of}
+use Rattle.jzon.proofs.Trees.PrefixStates.{plain-append}
+use Rattle.jzon.proofs.ReadBack.Unbroken.{AreSmall, IsAscii-small}
+
+-- ---- what is written for a character
+
+-- as an item: a short escape where there is one, `\u` and four digits for the other characters below 32, else the
+-- character
+abbrev pub item_of : ℕ → Item
+item_of c =
+    if c == 34 || c == 92 then simple c
+    else (if c == 8 then simple 98
+    else (if c == 9 then simple 116
+    else (if c == 10 then simple 110
+    else (if c == 12 then simple 102
+    else (if c == 13 then simple 114
+    else (if nat_lt c 32 then single (48 ∷ 48 ∷ digit_char (c / 16) ∷ digit_char (c % 16) ∷ []) else grammar.plain
+    c))))))
+
+abbrev pub items_of : List ℕ → List Item
+items_of cs = map item_of cs
+
+-- the text of an item that is no pair of escapes
+abbrev item_spelled : Item → List ℕ
+item_spelled (grammar.plain c) = c ∷ []
+item_spelled (simple c) = 92 ∷ c ∷ []
+item_spelled (single u) = 92 ∷ 117 ∷ u
+item_spelled (double u v) = []
+
+-- what holds of the item of a character
+record IsWritten (c : ℕ) (i : Item) : Type 0 where
+  in_grammar : IsItem i
+  spelled : (k : List Cell) → item_cells i k ≡ plain (escaped_byte c) k
+  means : item_text i ≡ c ∷ []
+
+-- ---- characters below 128, one by one
+
+abbrev are_hex : ℕ → List ℕ → Bool
+are_hex zero [] = true
+are_hex zero (c ∷ cs) = false
+are_hex (suc n) [] = false
+are_hex (suc n) (c ∷ cs) = is_ascii_hexdigit c && are_hex n cs
+
+are_hex-true : (n : ℕ) (cs : List ℕ) → are_hex n cs ≡ true → AreHex n cs
+are_hex-true zero [] h = tt
+are_hex-true zero (c ∷ cs) h = absurd (cc)
+are_hex-true (suc n) [] h = absurd (cc)
+are_hex-true (suc n) (c ∷ cs) h = let t = and_parts _ _ h in (t.0, are_hex-true n cs t.1)
+
+abbrev is_item : Item → Bool
+is_item (grammar.plain c) = is_unescaped c
+is_item (simple c) = is_simple c
+is_item (single u) = are_hex 4 u && not (is_surrogate (code_unit u))
+is_item (double u v) = false
+
+not-true : (b : Bool) → not b ≡ true → b ≡ false
+not-true true h = cc
+not-true false h = refl
+
+is_item-true : (i : Item) → is_item i ≡ true → IsItem i
+is_item-true (grammar.plain c) h = h
+is_item-true (simple c) h = h
+is_item-true (single u) h = let t = and_parts _ _ h in (are_hex-true 4 u t.0, not-true _ t.1)
+is_item-true (double u v) h = absurd (cc)
+
+item-plain : (i : Item) → is_item i ≡ true → (k : List Cell) → item_cells i k ≡ plain (item_spelled i) k
+item-plain (grammar.plain c) h k = refl
+item-plain (simple c) h k = refl
+item-plain (single u) h k = refl
+item-plain (double u v) h k = absurd (cc)
+
+abbrev are_small : List ℕ → Bool
+are_small [] = true
+are_small (c ∷ cs) = nat_lt c 128 && are_small cs
+
+are_small-true : (cs : List ℕ) → are_small cs ≡ true → AreSmall cs
+are_small-true [] h = tt
+are_small-true (c ∷ cs) h = let t = and_parts _ _ h in (below c t.0, are_small-true cs t.1)
+  where
+    below : (c : ℕ) → nat_lt c 128 ≡ true → c < 128
+    below c h = grind (arith, nat_tests)
+
+-- the item is in the grammar, is spelled as the character is written, and means it
+abbrev is_written : ℕ → Bool
+is_written c =
+    (is_item (item_of c) && bytes_eq (item_spelled (item_of c)) (escaped_byte c)) &&
+    (bytes_eq (item_text (item_of c)) (c ∷ []) && are_small (escaped_byte c))
+
+abbrev all_below : (ℕ → Bool) → ℕ → Bool
+all_below test zero = true
+all_below test (suc n) = test n && all_below test n
+
+below_all : (test : ℕ → Bool) (n c : ℕ) → all_below test n ≡ true → c < n → test c ≡ true
+below_all test zero c h lt = absurd (omega arith)
+below_all test (suc n) c h lt =
+    let t = and_parts _ _ h in
+    elim (cases_lt c n) [
+      | inl less ↦ below_all test n c t.1 less
+      | inr more ↦ subst (λ (m : ℕ). test m ≡ true) (let e : n ≡ c = omega arith in e) t.0
+    ]
+
+small_written : all_below is_written 128 ≡ true
+unfolding code_unit
+small_written = refl
+
+-- ---- any character
+
+large_item : (c : ℕ) → 128 ≤ c → item_of c ≡ grammar.plain c
+large_item c h = grind (arith, nat_tests)
+
+large_escaped : (c : ℕ) → 128 ≤ c → escaped_byte c ≡ c ∷ []
+large_escaped c h = grind (arith, nat_tests)
+
+large_plain : (c : ℕ) → 128 ≤ c → scalar c ≡ true → is_unescaped c ≡ true
+large_plain c h ok = rw ok (rest c h)
+  where
+    rest : (c : ℕ) → 128 ≤ c → ((true && nat_le 32 c) && not (c == 34 || c == 92)) ≡ true
+    rest c h = grind (arith, nat_tests)
+
+written : (c : ℕ) → scalar c ≡ true → IsWritten c (item_of c)
+written c ok =
+    elim (cases_lt c 128) [
+      | inl small ↦
+          (let all = below_all is_written 128 c small_written small in
+          let a = and_parts (is_item (item_of c) && bytes_eq (item_spelled (item_of c)) (escaped_byte c)) _ all in
+          let b = and_parts (is_item (item_of c)) _ a.0 in
+          let d = and_parts (bytes_eq (item_text (item_of c)) (c ∷ [])) _ a.1 in
+          record {
+            in_grammar = is_item-true (item_of c) b.0;
+            spelled = λ k. item-plain (item_of c) b.0 k ∙ ap (λ t. plain t k) ((bytes_eq-Decides _ _).0 b.1);
+            means = (bytes_eq-Decides _ _).0 d.0;
+          })
+      | inr large ↦ subst (λ (i : Item). IsWritten c i) (sym (large_item c large)) (record {
+        in_grammar = large_plain c large ok;
+        spelled = λ k. ap (λ t. plain t k) (sym (large_escaped c large));
+        means = refl;
+      })
+    ]
+
+-- what is written for the bytes of a character is what is written for the character
+escaped_large : (bs : List ℕ) → ((i : ℕ) → i < length bs → 128 ≤ get_or bs i 0) → escaped bs ≡ bs
+escaped_large [] h = refl
+escaped_large (b ∷ bs) h = ap (λ t. t ++ escaped bs) (large_escaped b (h 0 (omega arith)))
+    ∙ ap (λ t. b ∷ t) (escaped_large bs (λ i lt. h (suc i) (omega arith)))
+
+encode_large : (c : ℕ) → 128 ≤ c → (i : ℕ) → i < length (encode_utf8 c) → 128 ≤ get_or (encode_utf8 c) i 0
+encode_large c h i lt =
+    elim (cases_lt (get_or (encode_utf8 c) i 0) 128) [
+      | inl small ↦
+          (let e : c ≡ get_or (encode_utf8 c) i 0 = inside_one c [] (encode_utf8 c) i (sym (append-nil (encode_utf8 c)))
+          lt small in
+          absurd (omega (arith, e, small, h)))
+      | inr large ↦ large
+    ]
+
+escaped_encoded : (c : ℕ) → encode_utf8_all (escaped_byte c) ≡ escaped (encode_utf8 c)
+escaped_encoded c =
+    elim (cases_lt c 128) [
+      | inl small ↦
+          (let all = below_all is_written 128 c small_written small in
+          let a = and_parts (is_item (item_of c) && bytes_eq (item_spelled (item_of c)) (escaped_byte c)) _ all in
+          let d = and_parts (bytes_eq (item_text (item_of c)) (c ∷ [])) _ a.1 in
+          encodes-IsAscii (escaped_byte c) (IsAscii-small _ (are_small-true _ d.1))
+          ∙ sym (append-nil (escaped_byte c)) ∙ ap escaped (sym (encode_ascii c small)))
+      | inr large ↦ ap encode_utf8_all (large_escaped c large) ∙ append-nil (encode_utf8 c)
+          ∙ sym (escaped_large (encode_utf8 c) (encode_large c large))
+    ]
+
+-- ---- whole texts
+
+escaped-encodes : (cs : List ℕ) → encode_utf8_all (escaped cs) ≡ escaped (encode_utf8_all cs)
+escaped-encodes [] = refl
+escaped-encodes (c ∷ cs) =
+    encodes-append (escaped_byte c) (escaped cs) ∙ ap (λ t. t ++ encode_utf8_all (escaped cs)) (escaped_encoded c)
+    ∙ ap (λ t. escaped (encode_utf8 c) ++ t) (escaped-encodes cs)
+    ∙ sym (flat_map-append escaped_byte (encode_utf8 c) (encode_utf8_all cs))
+
+items_in_grammar : (cs : List ℕ) → scalars cs ≡ true → AreItems (items_of cs)
+items_in_grammar [] h = tt
+items_in_grammar (c ∷ cs) h = let t = and_parts (scalar c) (scalars cs) h in
+    ((written c t.0).in_grammar, items_in_grammar cs t.1)
+
+items-plain : (cs : List ℕ) (k : List Cell) → scalars cs ≡ true → items_cells (items_of cs) k ≡ plain (escaped cs) k
+items-plain [] k h = refl
+items-plain (c ∷ cs) k h =
+    let t = and_parts (scalar c) (scalars cs) h in
+    (written c t.0).spelled (items_cells (items_of cs) k) ∙ ap (λ q. plain (escaped_byte c) q) (items-plain cs k t.1)
+    ∙ sym (plain-append (escaped_byte c) (escaped cs) k)
+
+items_mean : (cs : List ℕ) → scalars cs ≡ true → text_of (items_of cs) ≡ cs
+items_mean [] h = refl
+items_mean (c ∷ cs) h =
+    let t = and_parts (scalar c) (scalars cs) h in
+    ap (λ x. x ++ text_of (items_of cs)) (written c t.0).means ∙ ap (λ x. c ∷ x) (items_mean cs t.1)
+
+-- ---- a string of bytes
+
+abbrev pub items_for : List ℕ → List Item
+items_for s = items_of (chars s)
+
+pub items_for_in_grammar : (s : List ℕ) → IsUtf8 s → AreItems (items_for s)
+items_for_in_grammar s u = items_in_grammar (chars s) (scalars-chars s u)
+
+pub bytes_of-items_for : (s : List ℕ) → IsUtf8 s → bytes_of (items_for s) ≡ s
+unfolding bytes_of
+bytes_of-items_for s u = ap encode_utf8_all (items_mean (chars s) (scalars-chars s u)) ∙ encodes-chars s u
+
+pub IsUtf8-scalars : (cs : List ℕ) → scalars cs ≡ true → IsUtf8 (encode_utf8_all cs)
+IsUtf8-scalars cs h = (cs, (h, refl))
+
+pub scalars-append : (xs ys : List ℕ) → scalars xs ≡ true → scalars ys ≡ true → scalars (xs ++ ys) ≡ true
+scalars-append [] ys h k = k
+scalars-append (x ∷ xs) ys h k = let t = and_parts (scalar x) (scalars xs) h in rw t.0 (scalars-append xs ys t.1 k)
+
+small_scalar : (c : ℕ) → c < 128 → scalar c ≡ true
+small_scalar c h = grind (arith, nat_tests)
+
+small_scalars : (cs : List ℕ) → AreSmall cs → scalars cs ≡ true
+small_scalars [] h = refl
+small_scalars (c ∷ cs) h = rw (small_scalar c h.0) (small_scalars cs h.1)
+
+escaped_small : (c : ℕ) → c < 128 → AreSmall (escaped_byte c)
+escaped_small c small =
+    let all = below_all is_written 128 c small_written small in
+    let a = and_parts (is_item (item_of c) && bytes_eq (item_spelled (item_of c)) (escaped_byte c)) _ all in
+    are_small-true _ (and_parts (bytes_eq (item_text (item_of c)) (c ∷ [])) _ a.1).1
+
+escaped_scalar : (c : ℕ) → scalar c ≡ true → scalars (escaped_byte c) ≡ true
+escaped_scalar c h =
+    elim (cases_lt c 128) [
+      | inl small ↦ small_scalars (escaped_byte c) (escaped_small c small)
+      | inr large ↦ ap scalars (large_escaped c large) ∙ rw h refl
+    ]
+
+escaped_scalars : (cs : List ℕ) → scalars cs ≡ true → scalars (escaped cs) ≡ true
+escaped_scalars [] h = refl
+escaped_scalars (c ∷ cs) h =
+    let t = and_parts (scalar c) (scalars cs) h in
+    scalars-append (escaped_byte c) (escaped cs) (escaped_scalar c t.0) (escaped_scalars cs t.1)
+
+escaped_text : (s : List ℕ) → IsUtf8 s → encode_utf8_all (escaped (chars s)) ≡ escaped s
+escaped_text s u = escaped-encodes (chars s) ∙ ap escaped (encodes-chars s u)
+
+IsUtf8-escaped : (s : List ℕ) → IsUtf8 s → IsUtf8 (escaped s)
+IsUtf8-escaped s u = subst IsUtf8 (escaped_text s u) (IsUtf8-scalars (escaped (chars s))
+    (escaped_scalars (chars s) (scalars-chars s u)))
+
+pub IsUtf8-small : (bs : List ℕ) → AreSmall bs → IsUtf8 bs
+IsUtf8-small bs h = IsUtf8-from_ascii bs (IsAscii-small bs h)
+
+pub chars-small : (bs : List ℕ) → AreSmall bs → chars bs ≡ bs
+chars-small bs h = chars-IsAscii bs (IsAscii-small bs h)
+
+-- characters below 128, and then a text
+pub chars-small_append : (xs ys : List ℕ) → AreSmall xs → chars (xs ++ ys) ≡ xs ++ chars ys
+chars-small_append xs ys h = chars-append xs ys (IsUtf8-small xs h) ∙ ap (λ t. t ++ chars ys) (chars-small xs h)
+
+quote : AreSmall (34 ∷ [])
+quote = (omega arith, tt)
+
+pub IsUtf8-quoted : (s : List ℕ) → IsUtf8 s → IsUtf8 (quoted s)
+IsUtf8-quoted s u = IsUtf8-append (34 ∷ []) _ (IsUtf8-small _ quote)
+    (IsUtf8-append (escaped s) (34 ∷ []) (IsUtf8-escaped s u) (IsUtf8-small _ quote))
+
+chars-quoted : (s : List ℕ) → IsUtf8 s → chars (quoted s) ≡ quoted (chars s)
+chars-quoted s u =
+    chars-small_append (34 ∷ []) (escaped s ++ 34 ∷ []) quote
+    ∙ ap (λ t. 34 ∷ t) (chars-append (escaped s) (34 ∷ []) (IsUtf8-escaped s u)
+    ∙ ap (λ t. t ++ chars (34 ∷ [])) (sym (chars_from_encodes (escaped (chars s)) (escaped s) (IsUtf8-escaped s u)
+    (escaped_text s u)))
+    ∙ ap (λ t. escaped (chars s) ++ t) (chars-small (34 ∷ []) quote))
+
+-- the cells of a string and its quotes
+pub quoted-plain : (s : List ℕ) (k : List Cell) → IsUtf8 s → cell 34 None ∷ items_cells (items_for s) (cell 34 None ∷ k)
+    ≡ plain (chars (quoted s)) k
+quoted-plain s k u =
+    ap (λ q. cell 34 None ∷ q) (items-plain (chars s) (cell 34 None ∷ k) (scalars-chars s u)
+    ∙ sym (plain-append (escaped (chars s)) (34 ∷ []) k))
+    ∙ ap (λ t. plain t k) (sym (chars-quoted s u))
