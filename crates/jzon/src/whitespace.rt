@@ -19,18 +19,18 @@ pub(crate) fn skip_whitespace(source: &str, reading: Reading, start: usize) -> u
     ensures within { start ≤ result }
     ensures stop { result < length source.now → is_whitespace reading.strict (slice_index source.now result) ≡ false }
 {
-    if is_above_blank(source, start) {
+    if is_above_space(source, start) {
         return start;
     }
-    if has_byte(source, start, b' ') && is_above_blank(source, start + 1) {
+    if has_byte(source, start, b' ') && is_above_space(source, start + 1) {
         return start + 1;
     }
     start + whitespace_length(&source[start..], reading.strict())
 }
 
-/// Whether a byte above the whitespace stands at this offset. None of them is whitespace.
+/// Whether a byte above the space stands at this offset. None of them is whitespace.
 #[inline(always)]
-fn is_above_blank(source: &str, index: usize) -> bool
+fn is_above_space(source: &str, index: usize) -> bool
     ensures within { IsTrue result → index < length source.now }
     ensures above { IsTrue result → 32 < slice_index source.now index }
 {

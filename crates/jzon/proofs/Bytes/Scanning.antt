@@ -113,17 +113,17 @@ above_is_no_space : (s : Bool) (c : ℕ) → 32 < c → is_whitespace s c ≡ fa
 above_is_no_space true c lt = grind (arith, nat_tests)
 above_is_no_space false c lt = grind (arith, nat_tests)
 
-blank_is_space : (s : Bool) → is_whitespace s 32 ≡ true
-blank_is_space true = refl
-blank_is_space false = refl
+space_is_whitespace : (s : Bool) → is_whitespace s 32 ≡ true
+space_is_whitespace true = refl
+space_is_whitespace false = refl
 
-pub blank_alone : (s : Bool) (bs : List ℕ) (i : ℕ) → i + 1 < length bs → get_or bs i 0 ≡ 32 → 32 < get_or bs (i + 1) 0
+pub space_alone : (s : Bool) (bs : List ℕ) (i : ℕ) → i + 1 < length bs → get_or bs i 0 ≡ 32 → 32 < get_or bs (i + 1) 0
     → 1 ≡ prefix_len (is_whitespace s) (drop i bs)
-blank_alone s bs i lt whitespace above =
+space_alone s bs i lt whitespace above =
     let passes : prefix_len (is_whitespace s) (drop i bs) ≡ 1 + prefix_len (is_whitespace s) (drop (suc i) bs) =
     ap (prefix_len (is_whitespace s)) (drop-cons bs i 0 (omega arith))
     ∙ ap (λ t. cond t (1 + prefix_len (is_whitespace s) (drop (suc i) bs)) 0)
-    (ap (is_whitespace s) whitespace ∙ blank_is_space s) in
+    (ap (is_whitespace s) whitespace ∙ space_is_whitespace s) in
     let next : prefix_len (is_whitespace s) (drop (suc i) bs) ≡ prefix_len (is_whitespace s) (drop (i + 1) bs) =
     ap (λ n. prefix_len (is_whitespace s) (drop n bs)) (sym (add-one i)) in
     let none = empty_run (is_whitespace s) bs (i + 1) (omega arith) (above_is_no_space s (get_or bs (i + 1) 0) above) in

@@ -3,7 +3,7 @@ use Rattle.std.specs.List.{prefix_len}
 use Rattle.jzon_tree.specs.Writing.{is_whitespace}
 use Rattle.jzon.specs.Machine.{no_frames}
 use Rattle.jzon.proofs.Bytes.ContainerSteps.{whitespace_skips}
-use Rattle.jzon.proofs.Bytes.Scanning.{before_skips, blank_alone, from_skip, boundary_skip, stops_run, within_run}
+use Rattle.jzon.proofs.Bytes.Scanning.{before_skips, space_alone, from_skip, boundary_skip, stops_run, within_run}
 use Rattle.jzon.proofs.whitespace.skip_whitespace.Goals as goal
 
 run : (c : goal.After-whitespace_length) → c.whitespace_length.result
@@ -20,25 +20,25 @@ overflow_add-result-2 c =
     (run c) in
     omega arith
 
-pub returns-then-is_above_blank-2-clause-boundary : goal.returns-then-is_above_blank-2-clause-boundary
-returns-then-is_above_blank-2-clause-boundary c =
-    let next = c.is_above_blank-then-has_byte.ensures in
+pub returns-then-is_above_space-2-clause-boundary : goal.returns-then-is_above_space-2-clause-boundary
+returns-then-is_above_space-2-clause-boundary c =
+    let next = c.is_above_space-then-has_byte.ensures in
     let whitespace = c.has_byte.ensures.0 c.if-has_byte.true in
     boundary_skip c.args.reading _ (is_whitespace c.args.reading.strict) c.args.source.now c.args.start 1
     (before_skips c.args.reading no_frames) c.utf8.source c.requires
-    (blank_alone c.args.reading.strict c.args.source.now c.args.start
-    (next.within c.if-is_above_blank-2.true) whitespace.1
-    (next.above c.if-is_above_blank-2.true))
+    (space_alone c.args.reading.strict c.args.source.now c.args.start
+    (next.within c.if-is_above_space-2.true) whitespace.1
+    (next.above c.if-is_above_space-2.true))
 
-pub returns-then-is_above_blank-2-clause-same : goal.returns-then-is_above_blank-2-clause-same
-returns-then-is_above_blank-2-clause-same c p allows =
-    let next = c.is_above_blank-then-has_byte.ensures in
+pub returns-then-is_above_space-2-clause-same : goal.returns-then-is_above_space-2-clause-same
+returns-then-is_above_space-2-clause-same c p allows =
+    let next = c.is_above_space-then-has_byte.ensures in
     let whitespace = c.has_byte.ensures.0 c.if-has_byte.true in
     from_skip c.args.reading _ (is_whitespace c.args.reading.strict) c.args.source.now c.args.start 1
     (whitespace_skips c.args.reading p allows) c.utf8.source c.requires
-    (blank_alone c.args.reading.strict c.args.source.now c.args.start
-    (next.within c.if-is_above_blank-2.true) whitespace.1
-    (next.above c.if-is_above_blank-2.true))
+    (space_alone c.args.reading.strict c.args.source.now c.args.start
+    (next.within c.if-is_above_space-2.true) whitespace.1
+    (next.above c.if-is_above_space-2.true))
 
 pub returns-clause-boundary : goal.returns-clause-boundary
 returns-clause-boundary c =
