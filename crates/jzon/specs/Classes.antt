@@ -25,6 +25,16 @@ pub data Class : Type 0 where
   begins_false : Class
   other : Class
 
+-- the first letters of the words (section 3)
+abbrev pub letter_n : ℕ
+letter_n = 110
+
+abbrev pub letter_t : ℕ
+letter_t = 116
+
+abbrev pub letter_f : ℕ
+letter_f = 102
+
 -- the class of a character outside of strings and of the later letters of a word
 unfoldable pub class_of : Bool → ℕ → Class
 class_of strict c =
@@ -41,9 +51,9 @@ class_of strict c =
     (cond (c == end_object) closes_object
     (cond (c == value_separator) comma
     (cond (c == name_separator) colon
-    (cond (c == 110) begins_null
-    (cond (c == 116) begins_true
-    (cond (c == 102) begins_false other)))))))))))))))
+    (cond (c == letter_n) begins_null
+    (cond (c == letter_t) begins_true
+    (cond (c == letter_f) begins_false other)))))))))))))))
 
 -- the place inside a number; digits that are still being read have the last one first
 pub data NumberPlace : Type 0 where

@@ -1,14 +1,14 @@
 //! Reads values that are no containers: numbers, texts and words. What is called for each of them is inlined, so that no value is moved from call to call.
 
 ghost use Rattle.std.specs.Prelude.{◌≡◌, ◌≢◌, ◌⊎◌, ◌==◌, ◌<◌, ◌≤◌, ◌+◌, [], length, chars, IsTrue};
-ghost use Rattle.std.specs.Prelude.{IfOk, Err, MatchResult, ◌∷◌, ◌^◌, drop};
+ghost use Rattle.std.specs.Prelude.{IfOk, Err, MatchResult, codes, ◌^◌, drop};
 ghost use Rattle.std.specs.Prelude.{slice_index, None, true, false, IsAscii};
 ghost use Rattle.std.specs.Char.{is_ascii_digit};
 ghost use Rattle.std.specs.Str.{IsCharBoundary};
 ghost use Rattle.jzon_tree.specs.Value.{Value, null, boolean};
 ghost use Rattle.jzon_tree.specs.View.{view};
 ghost use Rattle.jzon_tree.specs.Writing.{is_whitespace};
-ghost use Rattle.jzon.specs.Classes.{signed};
+ghost use Rattle.jzon.specs.Classes.{signed, letter_n, letter_t, letter_f};
 ghost use Rattle.jzon.specs.Machine.{numeral, numeral_begun, string, as_value, between, Frames, is_fresh, before};
 ghost use Rattle.jzon.specs.Machine.{behind, past_letter, value_mark, from, Tells, Leads, LeadsUnlessMemory, stopped};
 ghost use Rattle.jzon.specs.Reading.{Reading};
@@ -114,8 +114,8 @@ fn read_magnitude(source: &str, start: usize, negative: bool) -> Result<(JsonVal
 #[inline(always)]
 fn read_word(source: &str, start: usize) -> Result<(JsonValue, usize)>
     requires within { start < length source.now }
-    requires word { (slice_index source.now start ≡ 110) ⊎ (slice_index source.now start ≡ 116)
-        ⊎ (slice_index source.now start ≡ 102) }
+    requires word { (slice_index source.now start ≡ letter_n) ⊎ (slice_index source.now start ≡ letter_t)
+        ⊎ (slice_index source.now start ≡ letter_f) }
     ensures bounds { IfOk result (λ r. (start < r.1) × IsCharBoundary source.now r.1) }
     ensures same { (r : Reading) (fs : Frames) → value_mark r fs ≡ None →
         Leads r source.now (before fs) start result (λ v. behind fs (view v)) }
@@ -132,9 +132,9 @@ fn read_word(source: &str, start: usize) -> Result<(JsonValue, usize)>
 /// The value of the word that begins with this letter.
 #[inline(always)]
 fn word_value(first: u8) -> JsonValue
-    ensures null { first ≡ 110 → view result ≡ null }
-    ensures yes { first ≡ 116 → view result ≡ boolean true }
-    ensures no { first ≡ 102 → view result ≡ boolean false }
+    ensures null { first ≡ letter_n → view result ≡ null }
+    ensures yes { first ≡ letter_t → view result ≡ boolean true }
+    ensures no { first ≡ letter_f → view result ≡ boolean false }
 {
     if first == b'n' {
         JsonValue::Null
@@ -147,8 +147,8 @@ fn word_value(first: u8) -> JsonValue
 #[inline(always)]
 fn last_four_at(start: usize, first: u8) -> usize
     requires { start < 2 ^ 63 }
-    ensures short { first ≢ 102 → result ≡ start }
-    ensures long { first ≡ 102 → result ≡ start + 1 }
+    ensures short { first ≢ letter_f → result ≡ start }
+    ensures long { first ≡ letter_f → result ≡ start + 1 }
 {
     start + usize::from(first == b'f')
 }
@@ -156,9 +156,9 @@ fn last_four_at(start: usize, first: u8) -> usize
 /// The last four letters of the word that begins with this letter.
 #[inline(always)]
 fn last_four(first: u8) -> [u8; 4]
-    ensures null { first ≡ 110 → result ≡ 110 ∷ 117 ∷ 108 ∷ 108 ∷ [] }
-    ensures yes { first ≡ 116 → result ≡ 116 ∷ 114 ∷ 117 ∷ 101 ∷ [] }
-    ensures no { first ≡ 102 → result ≡ 97 ∷ 108 ∷ 115 ∷ 101 ∷ [] }
+    ensures null { first ≡ letter_n → result ≡ codes "null" }
+    ensures yes { first ≡ letter_t → result ≡ codes "true" }
+    ensures no { first ≡ letter_f → result ≡ codes "alse" }
 {
     match first {
         b'n' => *b"null",
@@ -170,9 +170,9 @@ fn last_four(first: u8) -> [u8; 4]
 /// The letters behind the first of the word that begins with this letter.
 fn letters_behind(first: u8) -> &'static [u8]
     ensures ascii { IsAscii result.now }
-    ensures null { first ≡ 110 → result.now ≡ 117 ∷ 108 ∷ 108 ∷ [] }
-    ensures yes { first ≡ 116 → result.now ≡ 114 ∷ 117 ∷ 101 ∷ [] }
-    ensures no { first ≡ 102 → result.now ≡ 97 ∷ 108 ∷ 115 ∷ 101 ∷ [] }
+    ensures null { first ≡ letter_n → result.now ≡ codes "ull" }
+    ensures yes { first ≡ letter_t → result.now ≡ codes "rue" }
+    ensures no { first ≡ letter_f → result.now ≡ codes "alse" }
 {
     match first {
         b'n' => b"ull",
