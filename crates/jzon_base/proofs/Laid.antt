@@ -2,7 +2,7 @@
 use Rattle.std.proofs.Common.{◌≡◌, ℕ, suc, ◌+◌, ◌-◌, ◌≤◌, ◌<◌, List, [], ◌∷◌, ◌++◌, length, take, drop, set, get_or}
 use Rattle.std.proofs.Common.{arith, refl, ap, sym, ◌∙◌, length-drop, length-append}
 use Rattle.std.specs.List.{copy_within}
-use Rattle.std.proofs.lemmas.List.{drop-drop, length-take-le, append_assoc}
+use Rattle.std.proofs.lemmas.List.{append-nil, drop-drop, drop_all, length-take-le, append_assoc}
 use Rattle.std.proofs.Math.Seq.{append_snoc, drop-append_seam, drop-cons}
 use Rattle.jzon_base.specs.NumberText.{point_after}
 
@@ -41,3 +41,14 @@ moved xs start point some order within =
     ap (λ i. drop i xs) (sym end) ∙ sym (drop-drop (point - start) start xs) in
     rw rest (laid ∙ ap (λ (l : List ℕ). middle ++ 46 ∷ l) behind
     ∙ sym (append_snoc middle 46 (drop (point - start) (drop start xs))))
+
+-- what is put behind the first `start` bytes, up to the end, is what stands there
+pub put_last : (xs ys : List ℕ) (start count : ℕ) → start + count ≡ length xs
+    → drop start (take start xs ++ (ys ++ drop count (drop start xs))) ≡ ys
+put_last xs ys start count whole =
+    let front : length (take start xs) ≡ start = length-take-le start xs (omega (arith, whole)) in
+    let end : drop count (drop start xs) ≡ [] =
+    drop-drop count start xs ∙ drop_all (start + count) xs (omega (arith, whole)) in
+    ap (λ n. drop n (take start xs ++ (ys ++ drop count (drop start xs)))) (sym front)
+    ∙ drop-append_seam (take start xs) (ys ++ drop count (drop start xs))
+    ∙ ap (λ (l : List ℕ). ys ++ l) end ∙ append-nil ys

@@ -14,8 +14,8 @@ use itoa::{Buffer, write_digits};
 use std::io;
 use std::io::Write;
 
-// The most bytes that a number prints.
-const MAX_LEN: usize = 29;
+/// The most bytes that a number prints.
+pub const MAX_LEN: usize = 29;
 
 type NumberText = ArrayString<MAX_LEN>;
 
@@ -27,10 +27,33 @@ pub fn write<W: Write>(wr: &mut W, positive: bool, n: u64, exponent: i16) -> io:
         (AppendsBeginning (W.contents wr.old) (W.contents wr.new) (number_text positive n exponent)) }
 {
     let mut room = [0; MAX_LEN];
-    match put_whole(&mut room, positive, n, exponent) {
-        Some(start) => write_bytes(wr, &room[start..]),
-        None => write_bytes(wr, number_text(positive, n, exponent).as_str().as_bytes()),
+    let start = put(&mut room, positive, n, exponent);
+    write_bytes(wr, &room[start..])
+}
+
+/// Puts the text of the number `n * 10 ^ exponent` with its sign at the end of the room, and tells where it begins.
+#[inline(always)]
+pub fn put(room: &mut [u8; MAX_LEN], positive: bool, n: u64, exponent: i16) -> usize
+    ensures start { result ≤ MAX_LEN }
+    ensures text { drop result room.new ≡ number_text positive n exponent }
+{
+    match put_whole(room, positive, n, exponent) {
+        Some(start) => start,
+        None => put_any(room, positive, n, exponent),
     }
+}
+
+// The same, for any number.
+#[cold]
+#[inline(never)]
+fn put_any(room: &mut [u8; MAX_LEN], positive: bool, n: u64, exponent: i16) -> usize
+    ensures start { result ≤ MAX_LEN }
+    ensures text { drop result room.new ≡ number_text positive n exponent }
+{
+    let text = number_text(positive, n, exponent);
+    let start = MAX_LEN - text.len();
+    room[start..].copy_from_slice(text.as_str().as_bytes());
+    start
 }
 
 // Puts the text at the end of the room and tells where it begins, if all digits are spelled and one stands before the point. Most numbers are such.

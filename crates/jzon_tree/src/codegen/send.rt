@@ -35,7 +35,6 @@ pub(crate) fn send_number<W: Write>(writer: &mut W, number: &Number, fault: &mut
     send_parts(writer, positive, mantissa, exponent, fault)
 }
 
-#[tactic(auto, using(crate::proofs::Sent::sent))]
 fn send_parts<W: Write>(
     writer: &mut W,
     positive: bool,
@@ -46,10 +45,9 @@ fn send_parts<W: Write>(
     ensures { Sends (Just (number_text positive mantissa exponent))
         (W.contents writer.old) (W.contents writer.new) result }
 {
-    lay_aside(
-        print_dec::write(writer, positive, mantissa, exponent),
-        fault,
-    )
+    let mut room = [0; print_dec::MAX_LEN];
+    let start = print_dec::put(&mut room, positive, mantissa, exponent);
+    send(writer, &room[start..], fault)
 }
 
 /// Sends the bytes of the string before `start` as they are, those from `start` on as they stand in a string, and the closing quote.

@@ -53,6 +53,8 @@ pub fn write_object<G: Generator>(g: &mut G, object: &Object) -> io::Result<()>
     }
 }
 
+// Inlined into the loops over items and pairs, so that only a container costs a call.
+#[inline(always)]
 #[cycle(write_value)]
 #[tactic(auto, using(crate::proofs::Views::views))]
 fn write_value<G: Generator>(g: &mut G, json: &JsonValue, fault: &mut Fault) -> Step<()>
@@ -77,6 +79,7 @@ fn write_value<G: Generator>(g: &mut G, json: &JsonValue, fault: &mut Fault) -> 
 }
 
 #[cycle(write_value)]
+#[inline(never)]
 fn write_array<G: Generator>(g: &mut G, items: &[JsonValue], fault: &mut Fault) -> Step<()>
     ensures written { PrintsIf (AreValues (view_values items.now))
         (Writes (G.meaning g.old).style (G.meaning g.old).dent (array (view_values items.now)))
@@ -108,6 +111,7 @@ fn write_items<G: Generator>(g: &mut G, items: &[JsonValue], fault: &mut Fault) 
 }
 
 #[cycle(write_value)]
+#[inline(never)]
 fn write_pairs<G: Generator>(g: &mut G, object: &Object, fault: &mut Fault) -> Step<()>
     ensures written { PrintsIf (IsValue (view_object object.now))
         (Writes (G.meaning g.old).style (G.meaning g.old).dent (view_object object.now))
