@@ -25,6 +25,8 @@ pub use jzon_tree::value::JsonValue;
 pub use jzon_tree::value::JsonValue::Null;
 pub use jzon_tree::view::View;
 pub use jzon_tree::{codegen, lent};
+#[doc(hidden)]
+pub use macros::{with_entry, with_item};
 pub use parser::{parse, parse_as};
 pub use reading::Reading;
 

@@ -1,19 +1,51 @@
-//! The macros that write a value as its text would be written (docs/RULES.md, "Conversions").
+//! The macros that write a value as its text would be written (docs/RULES.md, "Conversions"). They hand the value on from call to call, so a function that
+//! builds one has nothing of it to drop where a call is refused, and is proved in a time that grows with the count of entries.
+
+ghost use Rattle.std.specs.Prelude.{◌≡◌, IfOk, IfErr, codes};
+ghost use Rattle.jzon_tree.specs.Changers.{IsRefusal, with_item, with_entry};
+ghost use Rattle.jzon_tree.specs.Readers.{is_array, is_object};
+ghost use Rattle.jzon_tree.specs.Value.{Value};
+ghost use Rattle.jzon_tree.specs.View.{view};
+
+use jzon_base::error::Result;
+use jzon_tree::into_json::IntoJson;
+use jzon_tree::value::JsonValue;
+use std::alloc::Global;
+
+/// The array with an item more, behind the others. Refused as `push` is.
+#[doc(hidden)]
+pub fn with_item<T: IntoJson>(alloc: Global, array: JsonValue, item: T) -> Result<JsonValue>
+    ensures ok { IfOk result
+        (λ after. (v : Value) × T.means item v × (view after ≡ with_item v (view array))) }
+    ensures refusal { IfErr result (IsRefusal (is_array (view array)) (codes "Array")) }
+{
+    let mut array = array;
+    array.push(alloc, item)?;
+    Ok(array)
+}
+
+/// The object with a value under a key, as `insert` puts it. Refused as `insert` is.
+#[doc(hidden)]
+pub fn with_entry<T: IntoJson>(
+    alloc: Global,
+    object: JsonValue,
+    key: &str,
+    value: T,
+) -> Result<JsonValue>
+    ensures ok { IfOk result
+        (λ after. (v : Value) × T.means value v × (view after ≡ with_entry key.now v (view object))) }
+    ensures refusal { IfErr result (IsRefusal (is_object (view object)) (codes "Object")) }
+{
+    let mut object = object;
+    object.insert(alloc, key, value)?;
+    Ok(object)
+}
 
 /// A value: `null`, `[..]`, `{..}`, or an expression of a type that is `IntoJson`. A refusal is handed on with `?`.
 #[macro_export]
 macro_rules! value {
-    ($alloc:expr; null) => {
-        $crate::JsonValue::Null
-    };
-    ($alloc:expr; [$($items:tt)*]) => {
-        $crate::array!($alloc; $($items)*)
-    };
-    ($alloc:expr; {$($pairs:tt)*}) => {
-        $crate::object!($alloc; $($pairs)*)
-    };
-    ($alloc:expr; $value:expr) => {
-        $crate::from($alloc, $value)?
+    ($alloc:expr; $($source:tt)*) => {
+        $crate::from($alloc, $crate::source!($alloc; $($source)*))?
     };
 }
 
@@ -26,7 +58,7 @@ macro_rules! value {
 macro_rules! array {
     ($alloc:expr; $($items:tt)*) => {{
         let alloc = $alloc;
-        let mut array = $crate::JsonValue::new_array(alloc);
+        let array = $crate::JsonValue::new_array(alloc);
         $crate::push_items!(alloc array $($items)*);
         array
     }};
@@ -42,10 +74,28 @@ macro_rules! array {
 macro_rules! object {
     ($alloc:expr; $($pairs:tt)*) => {{
         let alloc = $alloc;
-        let mut object = $crate::JsonValue::new_object(alloc);
+        let object = $crate::JsonValue::new_object(alloc);
         $crate::insert_pairs!(alloc object $($pairs)*);
         object
     }};
+}
+
+/// What turns into the value that `value!` gives: `null`, `[..]`, `{..}`, or an expression.
+#[doc(hidden)]
+#[macro_export]
+macro_rules! source {
+    ($alloc:expr; null) => {
+        $crate::JsonValue::Null
+    };
+    ($alloc:expr; [$($items:tt)*]) => {
+        $crate::array!($alloc; $($items)*)
+    };
+    ($alloc:expr; {$($pairs:tt)*}) => {
+        $crate::object!($alloc; $($pairs)*)
+    };
+    ($alloc:expr; $value:expr) => {
+        $value
+    };
 }
 
 /// Pushes the items of `array!`.
@@ -54,13 +104,13 @@ macro_rules! object {
 macro_rules! push_items {
     ($alloc:ident $array:ident) => {};
     ($alloc:ident $array:ident $item:tt $(, $($rest:tt)*)?) => {
-        let item = $crate::value!($alloc; $item);
-        $array.push($alloc, item)?;
+        let item = $crate::source!($alloc; $item);
+        let $array = $crate::with_item($alloc, $array, item)?;
         $crate::push_items!($alloc $array $($($rest)*)?);
     };
     ($alloc:ident $array:ident $item:expr $(, $($rest:tt)*)?) => {
-        let item = $crate::from($alloc, $item)?;
-        $array.push($alloc, item)?;
+        let item = $item;
+        let $array = $crate::with_item($alloc, $array, item)?;
         $crate::push_items!($alloc $array $($($rest)*)?);
     };
 }
@@ -89,13 +139,13 @@ macro_rules! insert_pairs {
 #[macro_export]
 macro_rules! insert_value {
     ($alloc:ident $object:ident ($key:expr) $value:tt $(, $($rest:tt)*)?) => {
-        let value = $crate::value!($alloc; $value);
-        $object.insert($alloc, $key, value)?;
+        let value = $crate::source!($alloc; $value);
+        let $object = $crate::with_entry($alloc, $object, $key, value)?;
         $crate::insert_pairs!($alloc $object $($($rest)*)?);
     };
     ($alloc:ident $object:ident ($key:expr) $value:expr $(, $($rest:tt)*)?) => {
-        let value = $crate::from($alloc, $value)?;
-        $object.insert($alloc, $key, value)?;
+        let value = $value;
+        let $object = $crate::with_entry($alloc, $object, $key, value)?;
         $crate::insert_pairs!($alloc $object $($($rest)*)?);
     };
 }
