@@ -1,8 +1,10 @@
 //! Pairs, and pairs that are built of entries.
 
 use jzon_base::key::Key;
-use jzon_base::pairs::{Builder, Iter, IterMut, Pairs};
+use jzon_base::keys::Keys;
+use jzon_base::pairs::{Builder, IntoIter, Iter, IterMut, Pairs};
 use std::alloc::{AllocError, Global};
+use std::process::Abort;
 use std::test::Fail;
 
 fn of_pairs(alloc: Global, pairs: &[(&str, u32)]) -> Result<Pairs<u32>, AllocError> {
@@ -22,38 +24,108 @@ fn shown(alloc: Global, pairs: &Pairs<u32>) -> Result<String, AllocError> {
     Ok(text)
 }
 
+fn expect_shown(
+    rt: &impl Abort,
+    alloc: Global,
+    pairs: &Pairs<u32>,
+    want: &str,
+) -> Result<(), AllocError> {
+    assert_eq!(rt; shown(alloc, pairs)?.as_str(), want);
+    Ok(())
+}
+
 /// The texts of 32 bytes and of 33, which a key keeps in itself and in a `String`.
 const LONGEST_INLINE: &str = "0123456789abcdef0123456789abcdef";
 
 const SHORTEST_OWNED: &str = "0123456789abcdef0123456789abcdef!";
 
+// What is taken at the front or at the back.
+fn taken<'a>(lent: &mut Iter<'a, u32>, at_back: bool) -> Option<(&'a str, u32)> {
+    let (name, value) = if at_back {
+        lent.next_back()?
+    } else {
+        lent.next()?
+    };
+    Some((name, *value))
+}
+
+fn taken_mut<'a>(lent: &mut IterMut<'a, u32>, at_back: bool) -> Option<(&'a str, u32)> {
+    let (name, value) = if at_back {
+        lent.next_back()?
+    } else {
+        lent.next()?
+    };
+    Some((name, *value))
+}
+
 #[test]
 fn goes_from_both_ends(rt: HostRuntime) -> Result<(), AllocError> {
-    let mut pairs = of_pairs(rt.alloc(), &[("a", 1), ("b", 2), ("c", 3)])?;
+    let pairs = of_pairs(rt.alloc(), &[("a", 1), ("b", 2), ("c", 3)])?;
     let mut lent = pairs.iter();
-    assert_eq!(rt; lent.next(), Some(("a", &1)));
-    assert_eq!(rt; lent.next_back(), Some(("c", &3)));
-    assert_eq!(rt; lent.len(), 1);
-    assert_eq!(rt; lent.next(), Some(("b", &2)));
-    assert_eq!(rt; lent.next_back(), None);
-    assert_eq!(rt; Iter::<u32>::empty().next(), None);
+    for (at_back, want, left) in [
+        (false, Some(("a", 1u32)), 2usize),
+        (true, Some(("c", 3)), 1),
+        (false, Some(("b", 2)), 0),
+        (true, None, 0),
+    ] {
+        assert_eq!(rt; taken(&mut lent, at_back), want);
+        assert_eq!(rt; lent.len(), left);
+    }
+    Ok(())
+}
+
+#[test]
+fn goes_from_both_ends_to_write(rt: HostRuntime) -> Result<(), AllocError> {
+    let mut pairs = of_pairs(rt.alloc(), &[("a", 1), ("b", 2), ("c", 3)])?;
+    let mut lent = pairs.iter_mut();
+    assert_eq!(rt; lent.len(), 3);
+    for (at_back, want, left) in [
+        (true, Some(("c", 3u32)), 2usize),
+        (false, Some(("a", 1)), 1),
+        (true, Some(("b", 2)), 0),
+        (false, None, 0),
+    ] {
+        assert_eq!(rt; taken_mut(&mut lent, at_back), want);
+        assert_eq!(rt; lent.len(), left);
+    }
+    Ok(())
+}
+
+#[test]
+fn goes_over_no_pair(rt: HostRuntime) {
+    assert_eq!(rt; taken(&mut Iter::empty(), false), None);
     assert_eq!(rt; Iter::<u32>::empty().len(), 0);
-    let mut written = pairs.iter_mut();
-    assert_eq!(rt; written.len(), 3);
-    assert_eq!(rt; written.next_back(), Some(("c", &mut 3)));
-    assert_eq!(rt; written.next(), Some(("a", &mut 1)));
-    assert_eq!(rt; written.len(), 1);
-    assert_eq!(rt; written.next_back(), Some(("b", &mut 2)));
-    assert_eq!(rt; written.next(), None);
-    assert_eq!(rt; IterMut::<u32>::empty().next(), None);
+    assert_eq!(rt; taken_mut(&mut IterMut::empty(), false), None);
     assert_eq!(rt; IterMut::<u32>::empty().len(), 0);
+}
+
+// Whether this is taken at the front or at the back.
+fn gives(owned: &mut IntoIter<u32>, at_back: bool, want: Option<(&str, u32)>) -> bool {
+    let taken = if at_back {
+        owned.next_back()
+    } else {
+        owned.next()
+    };
+    match taken {
+        Some((key, value)) => want == Some((key.as_str(), value)),
+        None => want.is_none(),
+    }
+}
+
+#[test]
+fn gives_from_both_ends(rt: HostRuntime) -> Result<(), AllocError> {
+    let pairs = of_pairs(rt.alloc(), &[("a", 1), ("b", 2), ("c", 3)])?;
     let mut owned = pairs.into_iter();
     assert_eq!(rt; owned.len(), 3);
-    assert_eq!(rt; owned.next(), Some((Key::new(rt.alloc(), "a")?, 1)));
-    assert_eq!(rt; owned.next_back(), Some((Key::new(rt.alloc(), "c")?, 3)));
-    assert_eq!(rt; owned.len(), 1);
-    assert_eq!(rt; owned.next_back(), Some((Key::new(rt.alloc(), "b")?, 2)));
-    assert_eq!(rt; owned.next(), None);
+    for (at_back, want, left) in [
+        (false, Some(("a", 1u32)), 2usize),
+        (true, Some(("c", 3)), 1),
+        (true, Some(("b", 2)), 0),
+        (false, None, 0),
+    ] {
+        assert!(rt; gives(&mut owned, at_back, want));
+        assert_eq!(rt; owned.len(), left);
+    }
     Ok(())
 }
 
@@ -71,8 +143,7 @@ fn clear_ends(lent: &mut IterMut<'_, u32>) {
 fn lends_its_iterator(rt: HostRuntime) -> Result<(), AllocError> {
     let mut pairs = of_pairs(rt.alloc(), &[("a", 1), ("b", 2), ("c", 3)])?;
     clear_ends(&mut pairs.iter_mut());
-    assert_eq!(rt; shown(rt.alloc(), &pairs)?.as_str(), "a0 b2 c0 ");
-    Ok(())
+    expect_shown(&rt, rt.alloc(), &pairs, "a0 b2 c0 ")
 }
 
 #[test]
@@ -83,65 +154,91 @@ fn writes_through_its_iterator(rt: HostRuntime) -> Result<(), AllocError> {
             *value = 7;
         }
     }
-    assert_eq!(rt; shown(rt.alloc(), &pairs)?.as_str(), "a7 b2 c7 ");
-    Ok(())
+    expect_shown(&rt, rt.alloc(), &pairs, "a7 b2 c7 ")
 }
 
 #[test]
 fn overrides_the_last(rt: HostRuntime) -> Result<(), AllocError> {
     let mut pairs = of_pairs(rt.alloc(), &[("a", 1), ("b", 2), ("c", 3)])?;
     pairs.override_last(9);
-    assert_eq!(rt; shown(rt.alloc(), &pairs)?.as_str(), "a1 b2 c9 ");
+    expect_shown(&rt, rt.alloc(), &pairs, "a1 b2 c9 ")?;
     pairs.clear();
     assert!(rt; pairs.is_empty());
     pairs.override_last(9);
-    assert_eq!(rt; shown(rt.alloc(), &pairs)?.as_str(), "");
+    expect_shown(&rt, rt.alloc(), &pairs, "")
+}
+
+#[test]
+fn removes(rt: HostRuntime) -> Result<(), AllocError> {
+    let mut pairs = of_pairs(rt.alloc(), &[("a", 1), ("b", 2), ("c", 3)])?;
+    for (name, value, want) in [("x", None, "a1 b2 c3 "), ("b", Some(2u32), "a1 c3 ")] {
+        assert_eq!(rt; pairs.remove(name), value);
+        expect_shown(&rt, rt.alloc(), &pairs, want)?;
+    }
     Ok(())
 }
 
 #[test]
 fn removes_and_puts_again(rt: HostRuntime) -> Result<(), AllocError> {
     let mut pairs = of_pairs(rt.alloc(), &[("a", 1), ("b", 2), ("c", 3)])?;
-    assert_eq!(rt; pairs.remove("x"), None);
-    assert_eq!(rt; shown(rt.alloc(), &pairs)?.as_str(), "a1 b2 c3 ");
     assert_eq!(rt; pairs.remove("b"), Some(2));
-    assert_eq!(rt; shown(rt.alloc(), &pairs)?.as_str(), "a1 c3 ");
-    pairs.insert(rt.alloc(), "b", 4)?;
-    assert_eq!(rt; shown(rt.alloc(), &pairs)?.as_str(), "a1 c3 b4 ");
-    pairs.insert(rt.alloc(), "a", 5)?;
-    assert_eq!(rt; shown(rt.alloc(), &pairs)?.as_str(), "a5 c3 b4 ");
+    for (name, value, want) in [("b", 4, "a1 c3 b4 "), ("a", 5, "a5 c3 b4 ")] {
+        pairs.insert(rt.alloc(), name, value)?;
+        expect_shown(&rt, rt.alloc(), &pairs, want)?;
+    }
     Ok(())
 }
 
 #[test]
+fn lends_values_or_puts_them(rt: HostRuntime) -> Result<(), AllocError> {
+    let mut pairs = Pairs::<u32>::with_capacity(rt.alloc(), 2)?;
+    for (name, more) in [("a", 1u32), ("b", 2), ("a", 4)] {
+        let value = pairs.at_mut(rt.alloc(), name, 0)?;
+        *value = value.saturating_add(more);
+    }
+    expect_shown(&rt, rt.alloc(), &pairs, "a5 b2 ")
+}
+
+#[test]
 fn lends_values(rt: HostRuntime) -> Result<(), AllocError> {
-    let mut pairs = Pairs::with_capacity(rt.alloc(), 2)?;
-    *pairs.at_mut(rt.alloc(), "a", 0)? += 1;
-    *pairs.at_mut(rt.alloc(), "b", 0)? += 2;
-    *pairs.at_mut(rt.alloc(), "a", 0)? += 4;
-    assert_eq!(rt; shown(rt.alloc(), &pairs)?.as_str(), "a5 b2 ");
+    let mut pairs = of_pairs(rt.alloc(), &[("a", 5), ("b", 2)])?;
     if let Some(value) = pairs.get_mut("b") {
         *value = 3;
     }
-    assert_eq!(rt; pairs.get("b"), Some(&3));
-    assert_eq!(rt; pairs.get("c"), None);
     assert!(rt; pairs.get_mut("c").is_none());
-    assert_eq!(rt; pairs.position("b"), Some(1));
     assert_eq!(rt; pairs.len(), 2);
     assert_eq!(rt; pairs.get_at(1), ("b", &3));
     *pairs.value_mut(0) = 6;
     assert_eq!(rt; pairs.values(), [6, 3].as_slice());
-    assert_eq!(rt; pairs.keys().position("b"), Some(1));
     Ok(())
+}
+
+#[test]
+fn finds_values_and_places(rt: HostRuntime) -> Result<(), AllocError> {
+    let pairs = of_pairs(rt.alloc(), &[("a", 6), ("b", 3)])?;
+    for (name, value, place) in [("b", Some(3u32), Some(1usize)), ("c", None, None)] {
+        assert_eq!(rt; pairs.get(name).copied(), value);
+        assert_eq!(rt; pairs.position(name), place);
+        assert_eq!(rt; pairs.keys().position(name), place);
+    }
+    Ok(())
+}
+
+/// The text of the pairs of keys and values, or none where they aren't as many.
+fn joined(alloc: Global, keys: Keys, values: Vec<u32>) -> Result<Option<String>, AllocError> {
+    if keys.len() != values.len() {
+        return Ok(None);
+    }
+    let text = shown(alloc, &Pairs::from_parts(keys, values))?;
+    Ok(Some(text))
 }
 
 #[test]
 fn joins_keys_and_values(rt: HostRuntime) -> Result<(), AllocError> {
     let pairs = of_pairs(rt.alloc(), &[("a", 1), ("b", 2)])?;
     let keys = pairs.keys().clone(rt.alloc())?;
-    assert_eq!(rt; keys.len(), 2);
-    let joined = Pairs::from_parts(keys, vec![in rt.alloc(); 8, 9]?);
-    assert_eq!(rt; shown(rt.alloc(), &joined)?.as_str(), "a8 b9 ");
+    let text = joined(rt.alloc(), keys, vec![in rt.alloc(); 8, 9]?)?;
+    assert!(rt; text.is_some_and(|text| text.as_str() == "a8 b9 "));
     Ok(())
 }
 
@@ -184,26 +281,53 @@ fn remove_even(alloc: Global, pairs: &mut Pairs<u32>) -> Result<bool, AllocError
     Ok(were_there)
 }
 
+// The odd numbers under their keys, and no even number.
+fn expect_odd(rt: &impl Abort, alloc: Global, pairs: &Pairs<u32>) -> Result<(), AllocError> {
+    for number in 0..1000u32 {
+        let name = format!(in alloc; "k{number}")?;
+        let value = pairs.get(name.as_str()).copied();
+        assert_eq!(rt; value, (number % 2 == 1).then_some(number), "of k{number}");
+    }
+    Ok(())
+}
+
+// The odd numbers in their order, taken at the front.
+fn expect_odd_in_order(
+    rt: &impl Abort,
+    alloc: Global,
+    left: &mut Iter<'_, u32>,
+) -> Result<(), AllocError> {
+    for half in 0..500u32 {
+        let number = 2 * half + 1;
+        let name = format!(in alloc; "k{number}")?;
+        assert_eq!(rt; taken(left, false), Some((name.as_str(), number)));
+    }
+    Ok(())
+}
+
 #[test]
 fn finds_a_thousand_keys(rt: HostRuntime) -> Result<(), AllocError> {
     let mut pairs = numbered(rt.alloc())?;
     assert!(rt; remove_even(rt.alloc(), &mut pairs)?);
     assert_eq!(rt; pairs.len(), 500);
-    for number in 0..1000u32 {
-        let name = format!(in rt.alloc(); "k{number}")?;
-        let value = pairs.get(name.as_str()).copied();
-        assert_eq!(rt; value, (number % 2 == 1).then_some(number), "of k{number}");
-    }
+    expect_odd(&rt, rt.alloc(), &pairs)
+}
+
+// The pair k0 0 is taken at the back, and 500 are left.
+fn expect_zero_behind(rt: &impl Abort, left: &mut Iter<'_, u32>) {
+    assert_eq!(rt; taken(left, true), Some(("k0", 0)));
+    assert_eq!(rt; left.len(), 500);
+}
+
+#[test]
+fn goes_over_a_thousand_keys(rt: HostRuntime) -> Result<(), AllocError> {
+    let mut pairs = numbered(rt.alloc())?;
+    assert!(rt; remove_even(rt.alloc(), &mut pairs)?);
     pairs.insert(rt.alloc(), "k0", 0)?;
     let mut left = pairs.iter();
-    assert_eq!(rt; left.next_back(), Some(("k0", &0)));
-    assert_eq!(rt; left.len(), 500);
-    for half in 0..500u32 {
-        let number = 2 * half + 1;
-        let name = format!(in rt.alloc(); "k{number}")?;
-        assert_eq!(rt; left.next(), Some((name.as_str(), &number)));
-    }
-    assert_eq!(rt; left.next(), None);
+    expect_zero_behind(&rt, &mut left);
+    expect_odd_in_order(&rt, rt.alloc(), &mut left)?;
+    assert!(rt; taken(&mut left, false).is_none());
     Ok(())
 }
 
@@ -212,20 +336,40 @@ const ONE: &str = "8yn0iYCKYHlIj4-BwPqk";
 
 const OTHER: &str = "GReLUrM4wMqfg9yzV3KQ";
 
+/// The pairs of entries with these names and the numbers from 0.
+fn of_entries(alloc: Global, names: &[&str]) -> Result<Pairs<usize>, AllocError> {
+    let mut built = Builder::new(alloc);
+    for (number, name) in names.iter().enumerate() {
+        built.push(alloc, Key::new(alloc, name)?, number)?;
+    }
+    built.finish(alloc)
+}
+
 #[test]
 fn builds_pairs_of_entries(rt: HostRuntime) -> Result<(), AllocError> {
-    let mut built = Builder::new(rt.alloc());
-    for (value, name) in [OTHER, ONE, "a", ONE, "b", "a", OTHER].iter().enumerate() {
-        built.push(rt.alloc(), Key::new(rt.alloc(), name)?, value)?;
-    }
-    let pairs = built.finish(rt.alloc())?;
+    let pairs = of_entries(rt.alloc(), &[OTHER, ONE, "a", ONE, "b", "a", OTHER])?;
     assert_eq!(rt; pairs.len(), 4);
-    for (at, (name, value)) in [(OTHER, 6usize), (ONE, 3), ("a", 5), ("b", 4)]
-        .iter()
-        .enumerate()
-    {
-        assert_eq!(rt; pairs.position(name), Some(at), "of {name}");
-        assert_eq!(rt; pairs.get(name), Some(value), "of {name}");
+    for (name, place, value) in [
+        (OTHER, 0usize, 6usize),
+        (ONE, 1, 3),
+        ("a", 2, 5),
+        ("b", 3, 4),
+    ] {
+        assert_eq!(rt; pairs.position(name), Some(place), "of {name}");
+        assert_eq!(rt; pairs.get(name).copied(), Some(value), "of {name}");
+    }
+    Ok(())
+}
+
+/// Puts an entry of this number under each of the names.
+fn push_names(
+    alloc: Global,
+    built: &mut Builder<u32>,
+    names: &[&str],
+    number: u32,
+) -> Result<(), AllocError> {
+    for name in names {
+        built.push(alloc, Key::new(alloc, name)?, number)?;
     }
     Ok(())
 }
@@ -234,16 +378,11 @@ fn builds_pairs_of_entries(rt: HostRuntime) -> Result<(), AllocError> {
 fn builds_pairs_of_few_keys(rt: HostRuntime) -> Result<(), AllocError> {
     let mut built = Builder::new(rt.alloc());
     for round in 0u32..1000 {
-        for name in ["c", "a", "b"] {
-            built.push(rt.alloc(), Key::new(rt.alloc(), name)?, round)?;
-        }
+        push_names(rt.alloc(), &mut built, &["c", "a", "b"], round)?;
     }
-    for name in ["d", "a", "d"] {
-        built.push(rt.alloc(), Key::new(rt.alloc(), name)?, 7)?;
-    }
+    push_names(rt.alloc(), &mut built, &["d", "a", "d"], 7)?;
     let pairs = built.finish(rt.alloc())?;
-    assert_eq!(rt; shown(rt.alloc(), &pairs)?.as_str(), "c999 a7 b999 d7 ");
-    Ok(())
+    expect_shown(&rt, rt.alloc(), &pairs, "c999 a7 b999 d7 ")
 }
 
 /// A text of the hash 0. What stands behind it keeps the hash: zero bytes, and `BLOCK` among them.
@@ -287,6 +426,19 @@ fn place_of(
     Ok(pairs.position(name.as_str()))
 }
 
+// Each of these keys is found at its place, or nowhere.
+fn expect_places(
+    rt: &impl Abort,
+    alloc: Global,
+    pairs: &Pairs<usize>,
+    rows: &[(usize, Option<usize>)],
+) -> Result<(), AllocError> {
+    for (number, want) in rows {
+        assert_eq!(rt; place_of(alloc, pairs, *number)?, *want, "of {number}");
+    }
+    Ok(())
+}
+
 #[test]
 fn finds_many_keys_of_one_hash(rt: HostRuntime) -> Result<(), AllocError> {
     let pairs = of_one_hash(rt.alloc(), 20_000)?;
@@ -296,55 +448,76 @@ fn finds_many_keys_of_one_hash(rt: HostRuntime) -> Result<(), AllocError> {
     }
     for hundred in 0..200 {
         let number = 100 * hundred + 99;
-        assert_eq!(rt; place_of(rt.alloc(), &pairs, number)?, Some(number));
+        expect_places(&rt, rt.alloc(), &pairs, &[(number, Some(number))])?;
     }
-    assert_eq!(rt; place_of(rt.alloc(), &pairs, 20_000)?, None);
-    Ok(())
+    expect_places(&rt, rt.alloc(), &pairs, &[(20_000, None)])
+}
+
+/// Removes this one of the keys, and tells its value.
+fn remove(
+    alloc: Global,
+    pairs: &mut Pairs<usize>,
+    number: usize,
+) -> Result<Option<usize>, AllocError> {
+    let name = name_of(alloc, number)?;
+    Ok(pairs.remove(name.as_str()))
 }
 
 #[test]
 fn lowers_places_of_one_hash(rt: HostRuntime) -> Result<(), AllocError> {
     let mut pairs = of_one_hash(rt.alloc(), 10)?;
-    let name = name_of(rt.alloc(), 3)?;
-    assert_eq!(rt; pairs.remove(name.as_str()), Some(3));
-    for (number, want) in [
-        (0, Some(0usize)),
+    assert_eq!(rt; remove(rt.alloc(), &mut pairs, 3)?, Some(3));
+    let rows = [
+        (0, Some(0)),
         (2, Some(2)),
         (3, None),
         (4, Some(3)),
         (9, Some(8)),
         (10, None),
-    ] {
-        assert_eq!(rt; place_of(rt.alloc(), &pairs, number)?, want, "of {number}");
-    }
-    Ok(())
+    ];
+    expect_places(&rt, rt.alloc(), &pairs, &rows)
 }
 
 /// Keys of one hash in the order d, b, a, c, and behind them so many others that there is an index.
 const LETTERS: [usize; 9] = [3, 1, 0, 2, 10, 11, 12, 13, 14];
 
+fn of_letters(alloc: Global) -> Result<Pairs<usize>, AllocError> {
+    let mut pairs = Pairs::new(alloc);
+    for number in LETTERS {
+        let name = name_of(alloc, number)?;
+        pairs.insert(alloc, name.as_str(), number)?;
+    }
+    Ok(pairs)
+}
+
 #[test]
 fn finds_letters_of_one_hash(rt: HostRuntime) -> Result<(), AllocError> {
-    let mut pairs = Pairs::new(rt.alloc());
-    for number in LETTERS {
-        let name = name_of(rt.alloc(), number)?;
-        pairs.insert(rt.alloc(), name.as_str(), number)?;
-    }
+    let mut pairs = of_letters(rt.alloc())?;
     for (place, number) in LETTERS.iter().enumerate() {
-        assert_eq!(rt; place_of(rt.alloc(), &pairs, *number)?, Some(place));
+        expect_places(&rt, rt.alloc(), &pairs, &[(*number, Some(place))])?;
     }
-    assert_eq!(rt; place_of(rt.alloc(), &pairs, 4)?, None);
-    let letter = name_of(rt.alloc(), 1)?;
-    assert_eq!(rt; pairs.remove(letter.as_str()), Some(1));
-    for (number, want) in [
-        (3, Some(0usize)),
+    expect_places(&rt, rt.alloc(), &pairs, &[(4, None)])?;
+    assert_eq!(rt; remove(rt.alloc(), &mut pairs, 1)?, Some(1));
+    let rows = [
+        (3, Some(0)),
         (0, Some(1)),
         (2, Some(2)),
         (1, None),
         (4, None),
-    ] {
-        assert_eq!(rt; place_of(rt.alloc(), &pairs, number)?, want, "of {number}");
-    }
+    ];
+    expect_places(&rt, rt.alloc(), &pairs, &rows)
+}
+
+// The builder knows the key once an entry of it is there, and not before.
+fn push_new(
+    rt: &impl Abort,
+    alloc: Global,
+    built: &mut Builder<u32>,
+    name: &str,
+) -> Result<(), AllocError> {
+    assert!(rt; !built.has_key(alloc, name)?, "of {name}");
+    built.push(alloc, Key::new(alloc, name)?, 0)?;
+    assert!(rt; built.has_key(alloc, name)?, "of {name}");
     Ok(())
 }
 
@@ -353,9 +526,7 @@ fn knows_the_keys_of_one_hash(rt: HostRuntime) -> Result<(), AllocError> {
     let mut built = Builder::new(rt.alloc());
     for number in 0..300 {
         let name = name_of(rt.alloc(), number)?;
-        assert!(rt; !built.has_key(rt.alloc(), name.as_str())?, "of {number}");
-        built.push(rt.alloc(), Key::new(rt.alloc(), name.as_str())?, number)?;
-        assert!(rt; built.has_key(rt.alloc(), name.as_str())?, "of {number}");
+        push_new(&rt, rt.alloc(), &mut built, name.as_str())?;
     }
     let last = name_of(rt.alloc(), 300)?;
     assert!(rt; !built.has_key(rt.alloc(), last.as_str())?);
@@ -363,25 +534,43 @@ fn knows_the_keys_of_one_hash(rt: HostRuntime) -> Result<(), AllocError> {
     Ok(())
 }
 
+// Keys that aren't there, and then are.
+fn push_thousand(
+    rt: &impl Abort,
+    alloc: Global,
+    built: &mut Builder<u32>,
+) -> Result<(), AllocError> {
+    for number in 0..1000u32 {
+        let name = format!(in alloc; "k{number}")?;
+        assert!(rt; !built.has_key(alloc, name.as_str())?, "of k{number}");
+        built.push(alloc, Key::new(alloc, name.as_str())?, number)?;
+    }
+    Ok(())
+}
+
+fn expect_thousand(
+    rt: &impl Abort,
+    alloc: Global,
+    built: &mut Builder<u32>,
+) -> Result<(), AllocError> {
+    for number in 0..1000u32 {
+        let name = format!(in alloc; "k{number}")?;
+        assert!(rt; built.has_key(alloc, name.as_str())?, "of k{number}");
+    }
+    Ok(())
+}
+
 #[test]
 fn knows_the_keys_so_far(rt: HostRuntime) -> Result<(), AllocError> {
     let mut built = Builder::new(rt.alloc());
     for name in [ONE, OTHER, "", "a"] {
-        assert!(rt; !built.has_key(rt.alloc(), name)?, "of {name}");
-        built.push(rt.alloc(), Key::new(rt.alloc(), name)?, 0)?;
-        assert!(rt; built.has_key(rt.alloc(), name)?, "of {name}");
+        push_new(&rt, rt.alloc(), &mut built, name)?;
     }
-    for number in 0..1000u32 {
-        let name = format!(in rt.alloc(); "k{number}")?;
-        assert!(rt; !built.has_key(rt.alloc(), name.as_str())?, "of k{number}");
-        built.push(rt.alloc(), Key::new(rt.alloc(), name.as_str())?, number)?;
+    push_thousand(&rt, rt.alloc(), &mut built)?;
+    expect_thousand(&rt, rt.alloc(), &mut built)?;
+    for (name, known) in [(ONE, true), (OTHER, true), ("k1000", false)] {
+        assert_eq!(rt; built.has_key(rt.alloc(), name)?, known);
     }
-    for number in 0..1000u32 {
-        let name = format!(in rt.alloc(); "k{number}")?;
-        assert!(rt; built.has_key(rt.alloc(), name.as_str())?, "of k{number}");
-    }
-    assert!(rt; built.has_key(rt.alloc(), ONE)? && built.has_key(rt.alloc(), OTHER)?);
-    assert!(rt; !built.has_key(rt.alloc(), "k1000")?);
     assert_eq!(rt; built.finish(rt.alloc())?.len(), 1004);
     Ok(())
 }
