@@ -4,6 +4,7 @@ use jzon_base::key::Key;
 use jzon_base::keys::hash::hash_of;
 use jzon_base::keys::{Iter, Keys};
 use std::alloc::{AllocError, Global};
+use std::process::Abort;
 
 /// The keys of these names, each put once.
 fn of_names(alloc: Global, names: &[&str]) -> Result<Keys, AllocError> {
@@ -16,84 +17,144 @@ fn of_names(alloc: Global, names: &[&str]) -> Result<Keys, AllocError> {
     Ok(keys)
 }
 
+// Each of these names is at its index.
+fn expect_at_index(rt: &impl Abort, keys: &Keys, names: &[&str]) {
+    for (index, name) in names.iter().enumerate() {
+        assert_eq!(rt; keys.position(name), Some(index), "of {name}");
+        assert!(rt; index < keys.len());
+        assert_eq!(rt; keys.get(index), *name);
+    }
+}
+
+// The keys are these, in this order, and "d" isn't among them.
+fn expect_names(rt: &impl Abort, keys: &Keys, names: &[&str]) {
+    assert_eq!(rt; keys.len(), names.len());
+    assert_eq!(rt; keys.is_empty(), names.is_empty());
+    expect_at_index(rt, keys, names);
+    assert_eq!(rt; keys.position("d"), None);
+}
+
 #[test]
 fn keeps_the_order(rt: HostRuntime) -> Result<(), AllocError> {
-    let whole = of_names(rt.alloc(), &["c", "a", "", "b", "a"])?;
-    let mut removed = whole.clone(rt.alloc())?;
-    assert_eq!(rt; removed.len(), 4);
-    removed.remove(1);
-    let mut cleared = whole.clone(rt.alloc())?;
-    cleared.clear();
-    let roomy = Keys::with_capacity(rt.alloc(), 3)?;
-    let none: [&str; 0] = [];
-    let table = [
-        (&whole, ["c", "a", "", "b"].as_slice()),
-        (&removed, ["c", "", "b"].as_slice()),
-        (&cleared, none.as_slice()),
-        (&roomy, none.as_slice()),
-    ];
-    for (keys, names) in table {
-        assert_eq!(rt; keys.len(), names.len());
-        assert_eq!(rt; keys.is_empty(), names.is_empty());
-        for (index, name) in names.iter().enumerate() {
-            assert_eq!(rt; keys.position(name), Some(index), "of {name}");
-            assert!(rt; index < keys.len());
-            assert_eq!(rt; keys.get(index), *name);
-        }
-        assert_eq!(rt; keys.position("d"), None);
-    }
-    assert_eq!(rt; removed.position("a"), None);
-    assert_eq!(rt; removed.place(Key::new(rt.alloc(), "a")?)?, None);
-    assert_eq!(rt; removed.place(Key::new(rt.alloc(), "a")?)?, Some(3));
-    assert_eq!(rt; removed.len(), 4);
+    let keys = of_names(rt.alloc(), &["c", "a", "", "b", "a"])?;
+    expect_names(&rt, &keys, &["c", "a", "", "b"]);
+    expect_names(&rt, &Keys::with_capacity(rt.alloc(), 3)?, &[]);
     Ok(())
 }
 
 #[test]
-fn tells_keys_of_one_hash_apart(rt: HostRuntime) -> Result<(), AllocError> {
-    let one = "8yn0iYCKYHlIj4-BwPqk";
-    let other = "GReLUrM4wMqfg9yzV3KQ";
-    assert_eq!(rt; hash_of(one), hash_of(other));
-    let mut keys = of_names(rt.alloc(), &["a", other, one, "b"])?;
-    for (name, want) in [
-        ("a", Some(0usize)),
-        (other, Some(1)),
-        (one, Some(2)),
-        ("b", Some(3)),
-        ("c", None),
-    ] {
-        assert_eq!(rt; keys.position(name), want, "of {name}");
-    }
+fn changes_a_copy(rt: HostRuntime) -> Result<(), AllocError> {
+    let whole = of_names(rt.alloc(), &["c", "a", "", "b", "a"])?;
+    let mut cleared = whole.clone(rt.alloc())?;
+    cleared.clear();
+    expect_names(&rt, &cleared, &[]);
+    let mut removed = whole.clone(rt.alloc())?;
+    assert_eq!(rt; removed.len(), 4);
+    removed.remove(1);
+    expect_names(&rt, &removed, &["c", "", "b"]);
+    expect_names(&rt, &whole, &["c", "a", "", "b"]);
+    Ok(())
+}
+
+#[test]
+fn places_a_removed_key(rt: HostRuntime) -> Result<(), AllocError> {
+    let mut keys = of_names(rt.alloc(), &["c", "a", "", "b"])?;
     assert_eq!(rt; keys.len(), 4);
     keys.remove(1);
-    for (name, want) in [
-        ("a", Some(0usize)),
-        (other, None),
-        (one, Some(1)),
-        ("b", Some(2)),
-    ] {
-        assert_eq!(rt; keys.position(name), want, "of {name}, without one");
+    assert_eq!(rt; keys.position("a"), None);
+    for want in [None, Some(3usize)] {
+        assert_eq!(rt; keys.place(Key::new(rt.alloc(), "a")?)?, want);
     }
-    assert_eq!(rt; keys.place(Key::new(rt.alloc(), one)?)?, Some(1));
-    assert_eq!(rt; keys.place(Key::new(rt.alloc(), other)?)?, None);
-    assert_eq!(rt; keys.position(other), Some(3));
+    assert_eq!(rt; keys.len(), 4);
     Ok(())
+}
+
+// Each of these keys stands at its place, or nowhere.
+fn expect_places(rt: &impl Abort, keys: &Keys, rows: &[(&str, Option<usize>)]) {
+    for (name, want) in rows {
+        assert_eq!(rt; keys.position(name), *want, "of {name}");
+    }
+}
+
+/// Two texts of one hash.
+const ONE: &str = "8yn0iYCKYHlIj4-BwPqk";
+
+const OTHER: &str = "GReLUrM4wMqfg9yzV3KQ";
+
+#[test]
+fn tells_keys_of_one_hash_apart(rt: HostRuntime) -> Result<(), AllocError> {
+    assert_eq!(rt; hash_of(ONE), hash_of(OTHER));
+    let mut keys = of_names(rt.alloc(), &["a", OTHER, ONE, "b"])?;
+    let rows = [
+        ("a", Some(0)),
+        (OTHER, Some(1)),
+        (ONE, Some(2)),
+        ("b", Some(3)),
+        ("c", None),
+    ];
+    expect_places(&rt, &keys, &rows);
+    assert_eq!(rt; keys.len(), 4);
+    keys.remove(1);
+    let rows = [
+        ("a", Some(0)),
+        (OTHER, None),
+        (ONE, Some(1)),
+        ("b", Some(2)),
+    ];
+    expect_places(&rt, &keys, &rows);
+    Ok(())
+}
+
+#[test]
+fn places_keys_of_one_hash(rt: HostRuntime) -> Result<(), AllocError> {
+    let mut keys = of_names(rt.alloc(), &["a", ONE, "b"])?;
+    for (name, want) in [(ONE, Some(1usize)), (OTHER, None)] {
+        assert_eq!(rt; keys.place(Key::new(rt.alloc(), name)?)?, want);
+    }
+    assert_eq!(rt; keys.position(OTHER), Some(3));
+    Ok(())
+}
+
+// What is taken at the front or at the back.
+fn taken<'a>(names: &mut Iter<'a>, at_back: bool) -> Option<&'a str> {
+    if at_back {
+        names.next_back()
+    } else {
+        names.next()
+    }
 }
 
 #[test]
 fn goes_over_keys_from_both_ends(rt: HostRuntime) -> Result<(), AllocError> {
     let keys = of_names(rt.alloc(), &["a", "b", "c"])?;
     let mut names = keys.iter();
-    assert_eq!(rt; names.next(), Some("a"));
-    assert_eq!(rt; names.next_back(), Some("c"));
-    assert_eq!(rt; names.len(), 1);
-    assert_eq!(rt; names.next(), Some("b"));
-    assert_eq!(rt; names.next_back(), None);
+    for (at_back, want, left) in [
+        (false, Some("a"), 2usize),
+        (true, Some("c"), 1),
+        (false, Some("b"), 0),
+        (true, None, 0),
+    ] {
+        assert_eq!(rt; taken(&mut names, at_back), want);
+        assert_eq!(rt; names.len(), left);
+    }
+    assert_eq!(rt; taken(&mut Iter::empty(), false), None);
+    Ok(())
+}
+
+fn is_key(taken: Option<Key>, want: &str) -> bool {
+    match taken {
+        Some(key) => key.as_str() == want,
+        None => false,
+    }
+}
+
+#[test]
+fn gives_keys_from_both_ends(rt: HostRuntime) -> Result<(), AllocError> {
+    let keys = of_names(rt.alloc(), &["a", "b", "c"])?;
     let mut owned = keys.into_iter();
     assert_eq!(rt; owned.len(), 3);
-    assert_eq!(rt; owned.next_back(), Some(Key::new(rt.alloc(), "c")?));
-    assert_eq!(rt; owned.next(), Some(Key::new(rt.alloc(), "a")?));
+    assert!(rt; is_key(owned.next_back(), "c"));
+    assert!(rt; is_key(owned.next(), "a"));
     assert_eq!(rt; owned.len(), 1);
-    assert_eq!(rt; Iter::empty().next(), None);
     Ok(())
 }
