@@ -1,8 +1,20 @@
 //! Keys by themselves.
 
 use jzon_base::key::Key;
-use std::alloc::AllocError;
+use std::alloc::{AllocError, Global};
+use std::process::Abort;
 use std::test::Fail;
+
+fn expect_text(rt: &impl Abort, alloc: Global, text: &str) -> Result<(), Fail> {
+    let key = Key::new(alloc, text)?;
+    assert_eq!(rt; key.as_str(), text);
+    assert_eq!(rt; key.into_string(alloc)?.as_str(), text);
+    Ok(())
+}
+
+fn are_equal(alloc: Global, left: &str, right: &str) -> Result<bool, AllocError> {
+    Ok(Key::new(alloc, left)? == Key::new(alloc, right)?)
+}
 
 #[test]
 fn gives_its_text(rt: HostRuntime) -> Result<(), Fail> {
@@ -11,11 +23,9 @@ fn gives_its_text(rt: HostRuntime) -> Result<(), Fail> {
     assert_eq!(rt; longest_inline.len(), 32);
     assert_eq!(rt; shortest_owned.len(), 33);
     for text in ["", "a", "é", longest_inline, shortest_owned] {
-        let key = Key::new(rt.alloc(), text)?;
-        assert_eq!(rt; key.as_str(), text);
-        assert_eq!(rt; key, Key::new(rt.alloc(), text)?);
-        assert_ne!(rt; key, Key::new(rt.alloc(), "other")?);
-        assert_eq!(rt; key.into_string(rt.alloc())?.as_str(), text);
+        expect_text(&rt, rt.alloc(), text)?;
+        assert!(rt; are_equal(rt.alloc(), text, text)?);
+        assert!(rt; !are_equal(rt.alloc(), text, "other")?);
     }
     Ok(())
 }

@@ -21,13 +21,22 @@ fn fits_unsigned(rt: HostRuntime) {
         u32::try_from(number(true, 4294967296, 0)),
         Err(NumberOutOfScope)
     );
+}
+
+#[test]
+fn fits_unsigned_words(rt: HostRuntime) {
     let most = number(true, 18446744073709551615, 0);
-    assert_eq!(rt; u64::try_from(most), Ok(18446744073709551615));
     assert_eq!(rt; usize::try_from(most), Ok(18446744073709551615));
-    assert_eq!(rt; u64::try_from(number(false, 0, 0)), Err(NumberOutOfScope));
     assert_eq!(rt; usize::try_from(number(false, 1, 0)), Err(NumberOutOfScope));
-    assert_eq!(rt; u64::try_from(number(true, 5, 2)), Err(NumberOutOfScope));
-    assert_eq!(rt; u64::try_from(NAN), Err(NumberOutOfScope));
+    let rows = [
+        (most, Ok(18446744073709551615u64)),
+        (number(false, 0, 0), Err(NumberOutOfScope)),
+        (number(true, 5, 2), Err(NumberOutOfScope)),
+        (NAN, Err(NumberOutOfScope)),
+    ];
+    for (number, want) in rows {
+        assert_eq!(rt; u64::try_from(number), want);
+    }
 }
 
 #[test]
@@ -48,19 +57,25 @@ fn fits_signed(rt: HostRuntime) {
         i32::try_from(number(true, 2147483648, 0)),
         Err(NumberOutOfScope)
     );
+}
+
+#[test]
+fn fits_signed_words(rt: HostRuntime) {
     let least = number(false, 9223372036854775808, 0);
-    assert_eq!(rt; i64::try_from(least), Ok(i64::MIN));
     assert_eq!(rt; isize::try_from(least), Ok(isize::MIN));
-    assert_eq!(rt; i64::try_from(-least), Err(NumberOutOfScope));
     assert_eq!(rt;
         isize::try_from(number(false, 9223372036854775809, 0)),
         Err(NumberOutOfScope)
     );
-    assert_eq!(rt; i64::try_from(number(false, 0, 0)), Ok(0));
-    assert_eq!(rt; i64::try_from(number(true, 5, 2)), Err(NumberOutOfScope));
-    assert_eq!(rt;
-        i64::try_from(number(true, 18446744073709551615, 0)),
-        Err(NumberOutOfScope)
-    );
-    assert_eq!(rt; i64::try_from(NAN), Err(NumberOutOfScope));
+    let rows = [
+        (least, Ok(i64::MIN)),
+        (-least, Err(NumberOutOfScope)),
+        (number(false, 0, 0), Ok(0)),
+        (number(true, 5, 2), Err(NumberOutOfScope)),
+        (number(true, 18446744073709551615, 0), Err(NumberOutOfScope)),
+        (NAN, Err(NumberOutOfScope)),
+    ];
+    for (number, want) in rows {
+        assert_eq!(rt; i64::try_from(number), want);
+    }
 }
