@@ -6,6 +6,7 @@ ghost use Rattle.jzon_base.specs.Digits.{IsDigit, digits_number};
 
 use jzon_base::digits::{DigitFault, read_scanned, scan};
 use std::alloc::{AllocError, Global};
+use std::process::Abort;
 use std::test::Fail;
 
 fn are_digits(text: &[u8]) -> bool
@@ -53,6 +54,23 @@ fn number_modulo(whole: &[u8], fraction: &[u8]) -> u64
     let (_, before) = scan(whole, 0);
     let (_, number) = scan(fraction, before);
     number
+}
+
+fn expect_parts(
+    rt: &impl Abort,
+    whole: &str,
+    fraction: &str,
+    positive_exponent: bool,
+    exponent: &str,
+    parts: (bool, u64, i16),
+) {
+    let read = parts_read(
+        whole.as_bytes(),
+        fraction.as_bytes(),
+        positive_exponent,
+        exponent.as_bytes(),
+    );
+    assert_eq!(rt; read, Some(Ok(parts)), "{whole}.{fraction}e{exponent}");
 }
 
 #[test]
@@ -121,13 +139,7 @@ fn reads(rt: HostRuntime) {
         ),
     ];
     for (whole, fraction, positive_exponent, exponent, parts) in rows {
-        let read = parts_read(
-            whole.as_bytes(),
-            fraction.as_bytes(),
-            positive_exponent,
-            exponent.as_bytes(),
-        );
-        assert_eq!(rt; read, Some(Ok(parts)), "{whole}.{fraction}e{exponent}");
+        expect_parts(&rt, whole, fraction, positive_exponent, exponent, parts);
     }
 }
 

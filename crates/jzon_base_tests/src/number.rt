@@ -107,9 +107,8 @@ fn tells_zero_and_nan(rt: HostRuntime) -> Result<(), Fail> {
         ),
     ];
     for (number, positive, zero, nan) in rows {
-        assert_eq!(rt; number.is_sign_positive(), positive, "{number}");
-        assert_eq!(rt; number.is_zero(), zero, "{number}");
-        assert_eq!(rt; number.is_nan(), nan, "{number}");
+        let told = (number.is_sign_positive(), number.is_zero(), number.is_nan());
+        assert_eq!(rt; told, (positive, zero, nan), "{number}");
         assert_eq!(rt; number.is_empty(), zero || nan, "{number}");
     }
     assert_eq!(rt; NAN.as_parts(), (false, 0, 0));

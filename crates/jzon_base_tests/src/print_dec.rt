@@ -2,7 +2,34 @@
 
 use jzon_base::number::Number;
 use jzon_base::util::print_dec::write;
+use std::alloc::Global;
+use std::process::Abort;
 use std::test::Fail;
+
+fn expect_shown(
+    rt: &impl Abort,
+    alloc: Global,
+    parts: (bool, u64, i16),
+    text: &str,
+) -> Result<(), Fail> {
+    let (positive, mantissa, exponent) = parts;
+    let number = Number::from_parts_unchecked(positive, mantissa, exponent);
+    assert_eq!(rt; format!(in alloc; "{number}")?.as_str(), text);
+    Ok(())
+}
+
+fn expect_written(
+    rt: &impl Abort,
+    alloc: Global,
+    parts: (bool, u64, i16),
+    text: &str,
+) -> Result<(), Fail> {
+    let (positive, mantissa, exponent) = parts;
+    let mut written = Vec::new(alloc);
+    write(&mut written, positive, mantissa, exponent)?;
+    assert_eq!(rt; written.as_slice(), text.as_bytes());
+    Ok(())
+}
 
 #[test]
 fn prints(rt: HostRuntime) -> Result<(), Fail> {
@@ -49,11 +76,8 @@ fn prints(rt: HostRuntime) -> Result<(), Fail> {
         (false, 18446744073709551615, -17, "-184.46744073709551615"),
     ];
     for (positive, mantissa, exponent, text) in rows {
-        let number = Number::from_parts_unchecked(positive, mantissa, exponent);
-        assert_eq!(rt; format!(in rt.alloc(); "{number}")?.as_str(), text);
-        let mut written = Vec::new(rt.alloc());
-        write(&mut written, positive, mantissa, exponent)?;
-        assert_eq!(rt; written.as_slice(), text.as_bytes());
+        expect_shown(&rt, rt.alloc(), (positive, mantissa, exponent), text)?;
+        expect_written(&rt, rt.alloc(), (positive, mantissa, exponent), text)?;
     }
     Ok(())
 }
