@@ -26,6 +26,10 @@ fn reads_each_wider_width(rt: HostRuntime) {
     assert_eq!(rt; value.as_u16(), None);
     assert_eq!(rt; value.as_i16(), Some(-32768));
     assert_eq!(rt; value.as_i32(), Some(-32768));
+}
+
+#[test]
+fn reads_each_width_of_words(rt: HostRuntime) {
     let value = number(4294967296);
     assert_eq!(rt; value.as_u32(), None);
     assert_eq!(rt; value.as_i32(), None);

@@ -51,19 +51,34 @@ fn makes_keys_of_keys(rt: HostRuntime) -> Tested {
     expect_dump(&rt, rt.alloc(), &value, "{\"foo\":{\"bar\":100}}")
 }
 
-// The item at this index is `lent`, and the whole is then `made`. It is written, and then the whole is `written`.
-fn expect_item(
+// The item at this index is `lent`, and the whole is then `made`.
+fn expect_made(
     rt: &impl Abort,
     alloc: Global,
-    value: &mut JsonValue,
+    mut value: JsonValue,
     index: usize,
     lent: &str,
+    made: &str,
 ) -> Tested {
-    expect_dump(rt, alloc, value.at_index_mut(alloc, index)?, lent)
+    expect_dump(rt, alloc, value.at_index_mut(alloc, index)?, lent)?;
+    expect_dump(rt, alloc, &value, made)
+}
+
+// The item at this index is written, and the whole is then `after`.
+fn expect_written(
+    rt: &impl Abort,
+    alloc: Global,
+    mut value: JsonValue,
+    index: usize,
+    after: &str,
+) -> Tested {
+    *value.at_index_mut(alloc, index)? = number(7);
+    expect_dump(rt, alloc, &value, after)
 }
 
 #[test]
 fn makes_places(rt: HostRuntime) -> Tested {
+    let alloc = rt.alloc();
     let rows = [
         ("5", 7, "null", "[null,null]", "[null,7]"),
         ("5", 0, "null", "[null]", "[7]"),
@@ -75,12 +90,8 @@ fn makes_places(rt: HostRuntime) -> Tested {
         ("[1,2,3]", 2, "3", "[1,2,3]", "[1,2,7]"),
     ];
     for (before, index, lent, made, written) in rows {
-        let mut value = parse(rt.alloc(), before)?;
-        expect_item(&rt, rt.alloc(), &mut value, index, lent)?;
-        expect_dump(&rt, rt.alloc(), &value, made)?;
-        let mut value = parse(rt.alloc(), before)?;
-        *value.at_index_mut(rt.alloc(), index)? = number(7);
-        expect_dump(&rt, rt.alloc(), &value, written)?;
+        expect_made(&rt, alloc, parse(alloc, before)?, index, lent, made)?;
+        expect_written(&rt, alloc, parse(alloc, before)?, index, written)?;
     }
     Ok(())
 }
@@ -106,7 +117,11 @@ fn lends_what_is_there(rt: HostRuntime) -> Tested {
     if let Some(object) = value.as_object_mut() {
         object.clear();
     }
-    expect_dump(&rt, rt.alloc(), &value, "{}")?;
+    expect_dump(&rt, rt.alloc(), &value, "{}")
+}
+
+#[test]
+fn lends_items(rt: HostRuntime) -> Tested {
     let mut value = parse(rt.alloc(), "[1]")?;
     if let Some(items) = value.as_array_mut() {
         items.clear();
@@ -135,6 +150,16 @@ fn move_entries(value: &mut JsonValue) {
     }
 }
 
+fn expect_members(rt: &impl Abort, alloc: Global, mut value: JsonValue, after: &str) -> Tested {
+    move_members(&mut value);
+    expect_dump(rt, alloc, &value, after)
+}
+
+fn expect_entries(rt: &impl Abort, alloc: Global, mut value: JsonValue, after: &str) -> Tested {
+    move_entries(&mut value);
+    expect_dump(rt, alloc, &value, after)
+}
+
 #[test]
 fn lends_members_and_entries(rt: HostRuntime) -> Tested {
     let rows = [
@@ -148,12 +173,8 @@ fn lends_members_and_entries(rt: HostRuntime) -> Tested {
         ("7", "7", "7"),
     ];
     for (before, members, entries) in rows {
-        let mut value = parse(rt.alloc(), before)?;
-        move_members(&mut value);
-        expect_dump(&rt, rt.alloc(), &value, members)?;
-        let mut value = parse(rt.alloc(), before)?;
-        move_entries(&mut value);
-        expect_dump(&rt, rt.alloc(), &value, entries)?;
+        expect_members(&rt, rt.alloc(), parse(rt.alloc(), before)?, members)?;
+        expect_entries(&rt, rt.alloc(), parse(rt.alloc(), before)?, entries)?;
     }
     Ok(())
 }
@@ -171,13 +192,32 @@ fn writes(rt: HostRuntime) -> Tested {
     expect_dump(&rt, alloc, &value, "[null,4]")
 }
 
+// The value under this key is `lent`, and is then this number.
+fn expect_lent(
+    rt: &impl Abort,
+    alloc: Global,
+    object: &mut Object,
+    key: &str,
+    lent: &str,
+    written: u64,
+) -> Tested {
+    let place = object.at_mut(alloc, key)?;
+    expect_dump(rt, alloc, place, lent)?;
+    *place = number(written);
+    Ok(())
+}
+
 #[test]
 fn objects_make_keys(rt: HostRuntime) -> Tested {
     let mut object = Object::new(rt.alloc());
-    expect_dump(&rt, rt.alloc(), object.at_mut(rt.alloc(), "a")?, "null")?;
-    *object.at_mut(rt.alloc(), "b")? = number(1);
-    expect_dump(&rt, rt.alloc(), object.at_mut(rt.alloc(), "b")?, "1")?;
-    *object.at_mut(rt.alloc(), "a")? = number(2);
+    for (key, lent, written) in [
+        ("a", "null", 0u64),
+        ("b", "null", 1),
+        ("b", "1", 1),
+        ("a", "0", 2),
+    ] {
+        expect_lent(&rt, rt.alloc(), &mut object, key, lent, written)?;
+    }
     expect_dump(
         &rt,
         rt.alloc(),

@@ -61,6 +61,11 @@ fn expect_scalar(
     assert_eq!(rt; value.as_str(), text);
     assert_eq!(rt; value.as_number().map(|read| read.as_parts().1), mantissa);
     assert_eq!(rt; value.as_bool(), truth);
+    expect_equal(rt, value, text, truth);
+}
+
+// The text and the truth that it equals.
+fn expect_equal(rt: &impl Abort, value: &JsonValue, text: Option<&str>, truth: Option<bool>) {
     for other in ["a", "b", ""] {
         assert_eq!(rt; value.eq_str(other), text == Some(other), "{other}");
     }
