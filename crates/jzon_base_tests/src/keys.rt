@@ -108,6 +108,7 @@ fn tells_keys_of_one_hash_apart(rt: HostRuntime) -> Result<(), AllocError> {
 #[test]
 fn places_keys_of_one_hash(rt: HostRuntime) -> Result<(), AllocError> {
     let mut keys = of_names(rt.alloc(), &["a", OTHER, ONE, "b"])?;
+    assert_eq!(rt; keys.len(), 4);
     keys.remove(1);
     for (name, want) in [(ONE, Some(1usize)), (OTHER, None)] {
         assert_eq!(rt; keys.place(Key::new(rt.alloc(), name)?)?, want);
