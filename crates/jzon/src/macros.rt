@@ -1,7 +1,7 @@
 //! The macros that write a value as its text would be written (docs/RULES.md, "Conversions"). They hand the value on from call to call, so a function that
-//! builds one has nothing of it to drop where a call is refused, and is proved in a time that grows with the count of entries.
+//! builds one has nothing of it to drop where a call is refused, and is cheaper to prove.
 
-ghost use Rattle.std.specs.Prelude.{◌≡◌, IfOk, IfErr, codes};
+ghost use Rattle.std.specs.Prelude.{◌≡◌, true, IfOk, IfErr, OnOk, codes};
 ghost use Rattle.jzon_tree.specs.Changers.{IsRefusal, with_item, with_entry};
 ghost use Rattle.jzon_tree.specs.Readers.{is_array, is_object};
 ghost use Rattle.jzon_tree.specs.Value.{Value};
@@ -17,6 +17,7 @@ use std::alloc::Global;
 pub fn with_item<T: IntoJson>(alloc: Global, array: JsonValue, item: T) -> Result<JsonValue>
     ensures ok { IfOk result
         (λ after. (v : Value) × T.means item v × (view after ≡ with_item v (view array))) }
+    ensures array { OnOk result (is_array (view array) ≡ true) }
     ensures refusal { IfErr result (IsRefusal (is_array (view array)) (codes "Array")) }
 {
     let mut array = array;
@@ -34,6 +35,7 @@ pub fn with_entry<T: IntoJson>(
 ) -> Result<JsonValue>
     ensures ok { IfOk result
         (λ after. (v : Value) × T.means value v × (view after ≡ with_entry key.now v (view object))) }
+    ensures object { OnOk result (is_object (view object) ≡ true) }
     ensures refusal { IfErr result (IsRefusal (is_object (view object)) (codes "Object")) }
 {
     let mut object = object;
@@ -44,8 +46,17 @@ pub fn with_entry<T: IntoJson>(
 /// A value: `null`, `[..]`, `{..}`, or an expression of a type that is `IntoJson`. A refusal is handed on with `?`.
 #[macro_export]
 macro_rules! value {
-    ($alloc:expr; $($source:tt)*) => {
-        $crate::from($alloc, $crate::source!($alloc; $($source)*))?
+    ($alloc:expr; null) => {
+        $crate::JsonValue::Null
+    };
+    ($alloc:expr; [$($items:tt)*]) => {
+        $crate::array!($alloc; $($items)*)
+    };
+    ($alloc:expr; {$($pairs:tt)*}) => {
+        $crate::object!($alloc; $($pairs)*)
+    };
+    ($alloc:expr; $value:expr) => {
+        $crate::from($alloc, $value)?
     };
 }
 
@@ -80,18 +91,19 @@ macro_rules! object {
     }};
 }
 
-/// What turns into the value that `value!` gives: `null`, `[..]`, `{..}`, or an expression.
+/// What an item or a pair is made of: what `value!` gives for `null`, `[..]` and `{..}`, and an expression as it stands, which `with_item` and `with_entry` turn
+/// into a value.
 #[doc(hidden)]
 #[macro_export]
 macro_rules! source {
     ($alloc:expr; null) => {
-        $crate::JsonValue::Null
+        $crate::value!($alloc; null)
     };
     ($alloc:expr; [$($items:tt)*]) => {
-        $crate::array!($alloc; $($items)*)
+        $crate::value!($alloc; [$($items)*])
     };
     ($alloc:expr; {$($pairs:tt)*}) => {
-        $crate::object!($alloc; $($pairs)*)
+        $crate::value!($alloc; {$($pairs)*})
     };
     ($alloc:expr; $value:expr) => {
         $value
