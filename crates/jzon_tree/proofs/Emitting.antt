@@ -4,7 +4,7 @@ use Rattle.std.proofs.Common.{append-nil, add-one, Result, Ok, Err, arith, Optio
 use Rattle.std.proofs.lemmas.Bool.{eqb-true, false_from_ne_true}
 use Rattle.std.specs.Prelude.{MatchResult, not, ◌==◌}
 use Rattle.std.specs.Result.{IsErr}
-use Rattle.jzon_tree.proofs.Sent.{adds_same, adds_then, adds_weaker}
+use Rattle.jzon_tree.proofs.Sent.{adds_same, adds_then, adds_weaker, Sends-laid}
 use Rattle.jzon_tree.specs.Generator.{Adds, Begins, Just, Sends, Emitted, Added, Failed, Stopped, Emits, Counts, noted}
 use Rattle.jzon_tree.specs.Printing.{IsClosing, PrintsIf}
 use Rattle.jzon_tree.specs.Writing.{Style}
@@ -222,17 +222,23 @@ Failed-sent P bs old new o p h e = rw e (record {
   lender = refl;
 })
 
--- ---- the answer of a call of the writer, handed on
+-- ---- what was sent to the writer, with its fault counted
+pub Emits-counted : {E : Type 0} (P : List ℕ → Type 0) (bs : List ℕ) (old mid new : Emitted) (lent o : Option (List ℕ))
+    (step r : Result (Unit {0}) E)
+    → P bs → lent ≡ old.out → Sends (Just bs) lent o step → mid ≡ record old { out = o } → r ≡ step
+    → Counts step mid new → Emits P old new r
+Emits-counted P bs old mid new lent o (Ok u) r p l h m e k = rw (e, k, m)
+    (Added-sent P bs old o p (subst (λ x. Adds (Just bs) x o) l h))
+Emits-counted P bs old mid new lent o (Err u) r p l h m e k = rw e
+    (Failed-sent P bs old new o p (subst (λ x. Adds (Begins (Just bs)) x o) l h) (rw m at k))
+
+-- the same with the error that was laid aside
 pub Emits-handed : {E F : Type 0} (P : List ℕ → Type 0) (bs : List ℕ) (old mid new : Emitted) (lent o : Option (List ℕ))
     (step : Result (Unit {0}) F) (answer r : Result (Unit {0}) E)
     → P bs → lent ≡ old.out → Sends (Just bs) lent o step → MatchResult step (λ u. answer ≡ Ok u) (λ _. IsErr answer)
     → mid ≡ record old { out = o } → r ≡ answer → Counts answer mid new → Emits P old new r
-Emits-handed P bs old mid new lent o (Ok u) (Ok v) r p l h s m e k = rw (e, k, m)
-    (Added-sent P bs old o p (subst (λ x. Adds (Just bs) x o) l h))
-Emits-handed P bs old mid new lent o (Ok u) (Err v) r p l h s m e k = absurd (cc s)
-Emits-handed P bs old mid new lent o (Err u) (Ok v) r p l h s m e k = absurd (cc s)
-Emits-handed P bs old mid new lent o (Err u) (Err v) r p l h s m e k = rw e
-    (Failed-sent P bs old new o p (subst (λ x. Adds (Begins (Just bs)) x o) l h) (rw m at k))
+Emits-handed P bs old mid new lent o step answer r p l h s =
+    Emits-counted P bs old mid new lent o answer r p l (Sends-laid (Just bs) lent o step answer s h)
 
 -- the answer `None` of a generator that stays as it is
 pub insertion_answered : {E A : Type 0} (K : Option A → Type 0) (old new : Emitted) (r : Result (Option A) E)

@@ -10,7 +10,6 @@ mod print;
 mod print_object;
 mod readable;
 mod send;
-mod step;
 mod text;
 mod visit;
 mod write;

@@ -7,14 +7,14 @@ use std::io;
 use std::io::ErrorKind;
 
 /// Where the error of a call that failed is laid.
-pub(super) type Fault = Option<io::Error>;
+pub type Fault = Option<io::Error>;
 
 /// A call failed, and its error is laid aside.
 #[derive(Drop)]
-pub(super) struct Stopped;
+pub struct Stopped;
 
 /// What is handed on.
-pub(super) type Step<T> = Result<T, Stopped>;
+pub type Step<T> = Result<T, Stopped>;
 
 /// Lays an error aside.
 #[inline]

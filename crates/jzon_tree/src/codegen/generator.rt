@@ -9,7 +9,7 @@ ghost use Rattle.jzon_tree.specs.Generator.{Emitted, Added, Failed, Emits, Count
 ghost use Rattle.jzon_tree.specs.Text.{escaped, quoted};
 ghost use Rattle.jzon_tree.specs.Writing.{IsAllowedWhitespace, IsStyle};
 
-use crate::codegen::fault::taken_up;
+use crate::codegen::fault::{Fault, Step, lay_aside, taken_up};
 use crate::codegen::send::{send, send_number, send_string, send_string_from};
 use crate::object::Object;
 use jzon_base::number::Number;
@@ -167,6 +167,78 @@ pub trait Generator {
             (λ answer. Added (Just []) (meaning self.old) (meaning self.new)
             × IsAnswer (meaning self.old).style (keys_of (entries_of object.now)) answer)
             (λ _. Failed (Just []) (meaning self.old) (meaning self.new)) };
+
+    /// `write`, as `write_json` calls it: an error is laid aside. A generator that keeps its errors apart may do without the `io::Result`, and so may those below.
+    #[doc(hidden)]
+    fn try_write(&mut self, slice: &[u8], fault: &mut Fault) -> Step<()>
+        ensures { Emits (Just slice.now) (meaning self.old) (meaning self.new) result }
+    {
+        lay_aside(self.write(slice), fault)
+    }
+
+    /// `write_char`, as `write_json` calls it.
+    #[doc(hidden)]
+    fn try_write_char(&mut self, ch: u8, fault: &mut Fault) -> Step<()>
+        ensures { Emits (Just (ch ∷ [])) (meaning self.old) (meaning self.new) result }
+    {
+        lay_aside(self.write_char(ch), fault)
+    }
+
+    /// `write_min`, as `write_json` calls it.
+    #[doc(hidden)]
+    fn try_write_min(&mut self, slice: &[u8], min: u8, fault: &mut Fault) -> Step<()>
+        ensures { Emits (IsForm (meaning self.old).style slice.now min)
+            (meaning self.old) (meaning self.new) result }
+    {
+        lay_aside(self.write_min(slice, min), fault)
+    }
+
+    /// `write_string`, as `write_json` calls it.
+    #[doc(hidden)]
+    fn try_write_string(&mut self, string: &str, fault: &mut Fault) -> Step<()>
+        ensures { Emits (Just (quoted string.now)) (meaning self.old) (meaning self.new) result }
+    {
+        lay_aside(self.write_string(string), fault)
+    }
+
+    /// `write_number`, as `write_json` calls it.
+    #[doc(hidden)]
+    fn try_write_number(&mut self, num: &Number, fault: &mut Fault) -> Step<()>
+        ensures { Emits (Just (written_text num.now)) (meaning self.old) (meaning self.new) result }
+    {
+        lay_aside(self.write_number(num), fault)
+    }
+
+    /// `new_line`, as `write_json` calls it.
+    #[doc(hidden)]
+    fn try_new_line(&mut self, fault: &mut Fault) -> Step<()>
+        ensures { Emits (IsAllowedWhitespace (meaning self.old).style (meaning self.old).dent)
+            (meaning self.old) (meaning self.new) result }
+    {
+        lay_aside(self.new_line(), fault)
+    }
+
+    /// `indent`, as `write_json` calls it.
+    #[doc(hidden)]
+    fn try_indent(&mut self, fault: &mut Fault) -> Step<()>
+        ensures { MatchResult result
+            (λ _. meaning self.new ≡ record (meaning self.old) { dent = (meaning self.old).dent + 1 })
+            (λ _. ((meaning self.old).dent ≡ 2 ^ 64 - 1)
+            × (meaning self.new ≡ record (meaning self.old) { faults = noted (meaning self.old).faults })) }
+    {
+        lay_aside(self.indent(), fault)
+    }
+
+    /// `order`, as `write_json` calls it.
+    #[doc(hidden)]
+    fn try_order(&mut self, object: &Object, fault: &mut Fault) -> Step<Option<Vec<usize>>>
+        ensures { MatchResult result
+            (λ answer. Added (Just []) (meaning self.old) (meaning self.new)
+            × IsAnswer (meaning self.old).style (keys_of (entries_of object.now)) answer)
+            (λ _. Failed (Just []) (meaning self.old) (meaning self.new)) }
+    {
+        lay_aside(self.order(object), fault)
+    }
 
     // Another writer changes the bytes alone.
     ghost writer_law: { (g : Self) (w : Self.T)

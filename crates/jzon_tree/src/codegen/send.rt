@@ -7,21 +7,53 @@ ghost use Rattle.jzon_base.specs.PlainBytes.{is_plain};
 ghost use Rattle.jzon_tree.specs.Generator.{Sends, Just};
 ghost use Rattle.jzon_tree.specs.Text.{escaped, escaped_byte};
 
-use crate::codegen::fault::{Fault, Step, lay_aside};
+use crate::codegen::fault::{Fault, Step, Stopped, lay_aside};
 use jzon_base::number::Number;
 use jzon_base::util::plain::plain_len;
 use jzon_base::util::{print_dec, write_bytes};
-use std::io::Write;
+use std::io;
+use std::io::{ErrorKind, Write};
 
 // What is sent at once.
 const BLANKS: [u8; 64] = [b' '; 64];
 
-/// Sends the bytes.
+/// Sends the bytes. Most writers take them all at once.
+#[inline(always)]
 #[tactic(auto, using(crate::proofs::Sent::sent))]
 pub(crate) fn send<W: Write>(writer: &mut W, bytes: &[u8], fault: &mut Fault) -> Step<()>
     ensures { Sends (Just bytes.now) (W.contents writer.old) (W.contents writer.new) result }
 {
-    lay_aside(write_bytes(writer, bytes), fault)
+    if bytes.is_empty() {
+        return Ok(());
+    }
+    match writer.write(bytes) {
+        Ok(count) => {
+            if count < bytes.len() {
+                return send_rest(writer, bytes, count, fault);
+            }
+            Ok(())
+        }
+        Err(error) => {
+            *fault = Some(error);
+            Err(Stopped)
+        }
+    }
+}
+
+// Sends the bytes behind those that the writer took.
+#[cold]
+#[inline(never)]
+#[tactic(auto, using(crate::proofs::Sent::sent))]
+fn send_rest<W: Write>(writer: &mut W, bytes: &[u8], count: usize, fault: &mut Fault) -> Step<()>
+    requires { count ≤ length bytes.now }
+    ensures { Sends (Just (drop count bytes.now)) (W.contents writer.old) (W.contents writer.new) result }
+{
+    if count == 0 {
+        *fault = Some(io::Error::from(ErrorKind::WriteZero));
+        return Err(Stopped);
+    }
+    let (_taken, rest) = bytes.split_at(count);
+    lay_aside(write_bytes(writer, rest), fault)
 }
 
 /// Sends the text of the number, or `null` for NaN.

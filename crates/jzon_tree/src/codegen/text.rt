@@ -1,14 +1,16 @@
 //! The one generator behind the four that print: into memory or to a writer, compact or with lines.
 
 ghost use Rattle.std.specs.Prelude.{◌≡◌, Ok, None};
+ghost use Rattle.jzon_tree.specs.Generator.{Counts};
 ghost use Rattle.jzon_tree.specs.Generators.{text_meaning, with_writer_in, same_emitted};
 ghost use Rattle.jzon_tree.specs.StyleLaws.{IsStyle-layout};
 
-use crate::codegen::fault::taken_up;
+use crate::codegen::fault::{Fault, Step, taken_up};
 use crate::codegen::generator::Generator;
 use crate::codegen::outlet::Outlet;
-use crate::codegen::send::send_line;
+use crate::codegen::send::{send, send_line, send_number, send_string};
 use crate::object::Object;
+use jzon_base::number::Number;
 use std::io;
 
 /// Writes text to its outlet: compact, or with lines of `spaces` spaces for each open indent. An object's pairs stand in the order of insertion.
@@ -32,6 +34,19 @@ impl<O: Outlet, const LINES: bool> TextGenerator<O, LINES> {
             spaces,
         }
     }
+
+    // Hands the answer of a step on, and notes a fault where it stopped.
+    #[inline(always)]
+    fn count(&mut self, step: Step<()>) -> Step<()>
+        ensures same { result ≡ step }
+        ensures faults { Counts step (text_meaning O.out O.lender LINES self.old)
+            (text_meaning O.out O.lender LINES self.new) }
+    {
+        if step.is_err() {
+            self.note_fault();
+        }
+        step
+    }
 }
 
 impl<O: Outlet, const LINES: bool> Generator for TextGenerator<O, LINES> {
@@ -46,11 +61,9 @@ impl<O: Outlet, const LINES: bool> Generator for TextGenerator<O, LINES> {
     }
 
     fn write_min(&mut self, slice: &[u8], min: u8) -> io::Result<()> {
-        if LINES {
-            self.write(slice)
-        } else {
-            self.write_char(min)
-        }
+        let mut fault = None;
+        let step = self.try_write_min(slice, min, &mut fault);
+        taken_up(step, fault)
     }
 
     fn faults(&self) -> u64 {
@@ -70,13 +83,9 @@ impl<O: Outlet, const LINES: bool> Generator for TextGenerator<O, LINES> {
     }
 
     fn new_line(&mut self) -> io::Result<()> {
-        if !LINES {
-            return Ok(());
-        }
-        let spaces = self.dent as u128 * self.spaces as u128;
         let mut fault = None;
-        let step = send_line(self.get_writer(), spaces, &mut fault);
-        self.hand_on(taken_up(step, fault))
+        let step = self.try_new_line(&mut fault);
+        taken_up(step, fault)
     }
 
     /// The order of insertion, always. Nothing of the generator changes.
@@ -85,6 +94,43 @@ impl<O: Outlet, const LINES: bool> Generator for TextGenerator<O, LINES> {
         ensures same { self.new ≡ self.old }
     {
         Ok(None)
+    }
+
+    fn try_write(&mut self, slice: &[u8], fault: &mut Fault) -> Step<()> {
+        let step = send(self.outlet.writer(), slice, fault);
+        self.count(step)
+    }
+
+    fn try_write_char(&mut self, ch: u8, fault: &mut Fault) -> Step<()> {
+        let step = send(self.outlet.writer(), &[ch], fault);
+        self.count(step)
+    }
+
+    fn try_write_min(&mut self, slice: &[u8], min: u8, fault: &mut Fault) -> Step<()> {
+        if LINES {
+            self.try_write(slice, fault)
+        } else {
+            self.try_write_char(min, fault)
+        }
+    }
+
+    fn try_write_string(&mut self, string: &str, fault: &mut Fault) -> Step<()> {
+        let step = send_string(self.outlet.writer(), b"\"", string.as_bytes(), fault);
+        self.count(step)
+    }
+
+    fn try_write_number(&mut self, num: &Number, fault: &mut Fault) -> Step<()> {
+        let step = send_number(self.outlet.writer(), num, fault);
+        self.count(step)
+    }
+
+    fn try_new_line(&mut self, fault: &mut Fault) -> Step<()> {
+        if !LINES {
+            return Ok(());
+        }
+        let spaces = self.dent as u128 * self.spaces as u128;
+        let step = send_line(self.outlet.writer(), spaces, fault);
+        self.count(step)
     }
 
     ghost writer_law = { λ g w. same_emitted (O.out_law g.outlet w) (O.lender_law g.outlet w) };

@@ -12,7 +12,6 @@ ghost use Rattle.jzon_tree.specs.Writing.{Writes};
 
 use crate::codegen::fault::{Fault, Step, Stopped, laid_aside};
 use crate::codegen::generator::Generator;
-use crate::codegen::step;
 use crate::codegen::visit::{see_number, visit_object, visit_value};
 use crate::object::Object;
 use crate::value::JsonValue;
@@ -64,15 +63,15 @@ fn write_value<G: Generator>(g: &mut G, json: &JsonValue, fault: &mut Fault) -> 
     ensures value { OnOk result (IsValue (view json.now)) }
 {
     match json {
-        JsonValue::Null => step::write(g, b"null", fault),
-        JsonValue::Short(text) => step::write_string(g, text.as_str(), fault),
-        JsonValue::String(text) => step::write_string(g, text.as_str(), fault),
+        JsonValue::Null => g.try_write(b"null", fault),
+        JsonValue::Short(text) => g.try_write_string(text.as_str(), fault),
+        JsonValue::String(text) => g.try_write_string(text.as_str(), fault),
         JsonValue::Number(number) => {
             see_number(number);
-            step::write_number(g, number, fault)
+            g.try_write_number(number, fault)
         }
-        JsonValue::Boolean(true) => step::write(g, b"true", fault),
-        JsonValue::Boolean(false) => step::write(g, b"false", fault),
+        JsonValue::Boolean(true) => g.try_write(b"true", fault),
+        JsonValue::Boolean(false) => g.try_write(b"false", fault),
         JsonValue::Object(object) => write_pairs(g, object, fault),
         JsonValue::Array(items) => write_array(g, items, fault),
     }
@@ -87,10 +86,10 @@ fn write_array<G: Generator>(g: &mut G, items: &[JsonValue], fault: &mut Fault) 
     ensures value { OnOk result (AreValues (view_values items.now)) }
 {
     if items.is_empty() {
-        return step::write(g, b"[]", fault);
+        return g.try_write(b"[]", fault);
     }
-    step::write_char(g, b'[', fault)?;
-    step::indent(g, fault)?;
+    g.try_write_char(b'[', fault)?;
+    g.try_indent(fault)?;
     write_items(g, items, fault)?;
     close(g, b']', fault)
 }
@@ -118,12 +117,12 @@ fn write_pairs<G: Generator>(g: &mut G, object: &Object, fault: &mut Fault) -> S
         (G.meaning g.old) (G.meaning g.new) result }
     ensures value { OnOk result (IsValue (view_object object.now)) }
 {
-    let order = step::order(g, object, fault)?;
+    let order = g.try_order(object, fault)?;
     if object.is_empty() {
-        return step::write(g, b"{}", fault);
+        return g.try_write(b"{}", fault);
     }
-    step::write_char(g, b'{', fault)?;
-    step::indent(g, fault)?;
+    g.try_write_char(b'{', fault)?;
+    g.try_indent(fault)?;
     write_members(g, object, &order, fault)?;
     close(g, b'}', fault)
 }
@@ -170,8 +169,8 @@ fn write_pair<G: Generator>(g: &mut G, key: &str, value: &JsonValue, fault: &mut
         (G.meaning g.old) (G.meaning g.new) result }
     ensures value { OnOk result (IsPair (key.now, view value.now)) }
 {
-    step::write_string(g, key, fault)?;
-    step::write_min(g, b": ", b':', fault)?;
+    g.try_write_string(key, fault)?;
+    g.try_write_min(b": ", b':', fault)?;
     write_value(g, value, fault)
 }
 
@@ -181,9 +180,9 @@ fn begin_item<G: Generator>(g: &mut G, comma: bool, fault: &mut Fault) -> Step<(
         (G.meaning g.old) (G.meaning g.new) result }
 {
     if comma {
-        step::write_char(g, b',', fault)?;
+        g.try_write_char(b',', fault)?;
     }
-    step::new_line(g, fault)
+    g.try_new_line(fault)
 }
 
 // Closes an indent, and adds whitespace and the bracket.
@@ -193,6 +192,6 @@ fn close<G: Generator>(g: &mut G, bracket: u8, fault: &mut Fault) -> Step<()>
         (record (G.meaning g.old) { dent = (G.meaning g.old).dent - 1 }) (G.meaning g.new) result }
 {
     g.dedent();
-    step::new_line(g, fault)?;
-    step::write_char(g, bracket, fault)
+    g.try_new_line(fault)?;
+    g.try_write_char(bracket, fault)
 }

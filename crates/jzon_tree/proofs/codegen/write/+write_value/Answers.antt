@@ -23,30 +23,30 @@ use Rattle.jzon_tree.proofs.Writings.{some_writing}
 use Rattle.jzon_tree.proofs.Orders.{order_within}
 use Rattle.jzon_tree.proofs.codegen.write.+write_value.Goals as goal
 
-pub write_array-returns-in_err-write_char-clause-written : goal.write_array-returns-in_err-write_char-clause-written
-write_array-returns-in_err-write_char-clause-written g t c =
+pub write_array-returns-in_err-try_write_char-clause-written : goal.write_array-returns-in_err-try_write_char-clause-written
+write_array-returns-in_err-try_write_char-clause-written g t c =
     array_at_opening _ (g.met.G.Generator.style_law c.args.g.now) (map view c.args.items.now)
     (not_empty c.args.items.now c.is_empty.result c.is_empty.ensures c.if-is_empty.false) _ _
-    c.from_residual.ensures.0 c.in_err-write_char.ensures
+    c.from_residual.ensures.0 c.in_err-try_write_char.ensures
 
-pub write_array-returns-in_err-indent-clause-written : goal.write_array-returns-in_err-indent-clause-written
-write_array-returns-in_err-indent-clause-written g t c =
+pub write_array-returns-in_err-try_indent-clause-written : goal.write_array-returns-in_err-try_indent-clause-written
+write_array-returns-in_err-try_indent-clause-written g t c =
     array_at_indent _ (g.met.G.Generator.style_law c.args.g.now) (map view c.args.items.now)
     (not_empty c.args.items.now c.is_empty.result c.is_empty.ensures c.if-is_empty.false) _ _ _
-    c.in_ok-write_char.ensures c.from_residual-in_err-indent.ensures.0 c.in_err-indent.ensures.1
+    c.in_ok-try_write_char.ensures c.from_residual-in_err-try_indent.ensures.0 c.in_err-try_indent.ensures.1
 
 pub write_array-returns-in_err-write_items-clause-written : goal.write_array-returns-in_err-write_items-clause-written
 write_array-returns-in_err-write_items-clause-written g t c =
     array_at_items _ (g.met.G.Generator.style_law c.args.g.now) (map view c.args.items.now)
     (not_empty c.args.items.now c.is_empty.result c.is_empty.ensures c.if-is_empty.false) _ _ _
-    c.in_ok-write_char.ensures _ c.in_ok-indent.ensures c.from_residual-in_err-write_items.ensures.0
+    c.in_ok-try_write_char.ensures _ c.in_ok-try_indent.ensures c.from_residual-in_err-write_items.ensures.0
     c.in_err-write_items.ensures.written
 
 pub write_array-returns-clause-written : goal.write_array-returns-clause-written
 write_array-returns-clause-written g t c =
     array_at_close _ (g.met.G.Generator.style_law c.args.g.now) (map view c.args.items.now)
     (not_empty c.args.items.now c.is_empty.result c.is_empty.ensures c.if-is_empty.false) _ _ _
-    c.in_ok-write_char.ensures _ c.in_ok-indent.ensures _ c.in_ok-write_items.ensures.written c.close.ensures
+    c.in_ok-try_write_char.ensures _ c.in_ok-try_indent.ensures _ c.in_ok-write_items.ensures.written c.close.ensures
 
 pub write_items-returns-in_err-begin_item-clause-written : goal.write_items-returns-in_err-begin_item-clause-written
 write_items-returns-in_err-begin_item-clause-written g t c =
@@ -83,30 +83,30 @@ write_items-loop-index-preserved g t c =
           c.in_ok-write_value.ensures.value,
     )
 
-pub write_pair-returns-in_err-write_string-clause-written : goal.write_pair-returns-in_err-write_string-clause-written
-write_pair-returns-in_err-write_string-clause-written g t c =
+pub write_pair-returns-in_err-try_write_string-clause-written : goal.write_pair-returns-in_err-try_write_string-clause-written
+write_pair-returns-in_err-try_write_string-clause-written g t c =
     let a = g.G.Generator.meaning c.args.g.now in
     let e : List ℕ × Value = (c.args.key.now, view c.args.value.now) in
     PrintsIf-at_err _ _ _ _ _ c.from_residual.ensures.0 (λ keyed. Stopped-failed _ _ _
     (Failed-begins (Just (quoted e.0)) (IsEntry a.style a.dent e) _ _
-    (after_key a.style a.dent e (g.met.G.Generator.style_law c.args.g.now) keyed) c.in_err-write_string.ensures))
+    (after_key a.style a.dent e (g.met.G.Generator.style_law c.args.g.now) keyed) c.in_err-try_write_string.ensures))
 
-pub write_pair-returns-in_err-write_min-clause-written : goal.write_pair-returns-in_err-write_min-clause-written
-write_pair-returns-in_err-write_min-clause-written g t c =
+pub write_pair-returns-in_err-try_write_min-clause-written : goal.write_pair-returns-in_err-try_write_min-clause-written
+write_pair-returns-in_err-try_write_min-clause-written g t c =
     let a = g.G.Generator.meaning c.args.g.now in
     let e : List ℕ × Value = (c.args.key.now, view c.args.value.now) in
-    PrintsIf-at_err _ _ _ _ _ c.from_residual-in_err-write_min.ensures.0 (λ keyed. Stopped-failed _ _ _
+    PrintsIf-at_err _ _ _ _ _ c.from_residual-in_err-try_write_min.ensures.0 (λ keyed. Stopped-failed _ _ _
     (Failed-begins (AfterColon a.style a.dent e) (IsEntry a.style a.dent e) _ _
     (after_colon a.style a.dent e (g.met.G.Generator.style_law c.args.g.now) keyed)
     (Failed-after (Just (quoted e.0)) (λ s d. IsForm s (58 ∷ 32 ∷ []) 58) (AfterColon a.style a.dent e) _ _ _
-    (pair_colon a.style a.dent e) c.in_ok-write_string.ensures c.in_err-write_min.ensures)))
+    (pair_colon a.style a.dent e) c.in_ok-try_write_string.ensures c.in_err-try_write_min.ensures)))
 
 pub write_pair-returns-clause-written : goal.write_pair-returns-clause-written
 write_pair-returns-clause-written g t c =
     let a = g.G.Generator.meaning c.args.g.now in
     let e : List ℕ × Value = (c.args.key.now, view c.args.value.now) in
     let k = Added-after (Just (quoted e.0)) (λ s d. IsForm s (58 ∷ 32 ∷ []) 58) (AfterColon a.style a.dent e) _ _ _
-    (pair_colon a.style a.dent e) c.in_ok-write_string.ensures c.in_ok-write_min.ensures in
+    (pair_colon a.style a.dent e) c.in_ok-try_write_string.ensures c.in_ok-try_write_min.ensures in
     PrintsIf-after (AfterColon a.style a.dent e) (λ s d. Writes s d e.1) (IsEntry a.style a.dent e) _ _ _
     (pair_value a.style a.dent e) k _ _ c.write_value.ensures.written
 
@@ -205,29 +205,29 @@ pub write_pairs-returns-then-is_empty-clause-written : goal.write_pairs-returns-
 write_pairs-returns-then-is_empty-clause-written g t c =
     after_order _ _ _ (view_object c.args.object.now) _ _ c.in_ok-order.ensures.0
     (no_pair _ _ (entries_of c.args.object.now) c.is_empty.result _ _ c.is_empty.ensures c.if-is_empty.true
-    c.write.ensures)
+    c.try_write.ensures)
 
-pub write_pairs-returns-in_err-write_char-clause-written : goal.write_pairs-returns-in_err-write_char-clause-written
-write_pairs-returns-in_err-write_char-clause-written g t c =
+pub write_pairs-returns-in_err-try_write_char-clause-written : goal.write_pairs-returns-in_err-try_write_char-clause-written
+write_pairs-returns-in_err-try_write_char-clause-written g t c =
     let s = (g.G.Generator.meaning c.args.g.now).style in
     let es = entries_of c.args.object.now in
     after_order _ _ _ (view_object c.args.object.now) _ _ c.in_ok-order.ensures.0
-    (object_at_opening _ (g.met.G.Generator.style_law c.order.new.g) (viewed es)
+    (object_at_opening _ (g.met.G.Generator.style_law c.try_order.new.self) (viewed es)
     (positions (length es) c.in_ok-order.order) (answer_order s es c.in_ok-order.order c.in_ok-order.ensures.1)
     (rw c.in_ok-order.ensures.0.style (answer_allowed s es c.in_ok-order.order c.in_ok-order.ensures.1))
     (some_pair es c.is_empty.result c.is_empty.ensures c.if-is_empty.false) _ _
-    c.from_residual-in_err-write_char.ensures.0 c.in_err-write_char.ensures)
+    c.from_residual-in_err-try_write_char.ensures.0 c.in_err-try_write_char.ensures)
 
-pub write_pairs-returns-in_err-indent-clause-written : goal.write_pairs-returns-in_err-indent-clause-written
-write_pairs-returns-in_err-indent-clause-written g t c =
+pub write_pairs-returns-in_err-try_indent-clause-written : goal.write_pairs-returns-in_err-try_indent-clause-written
+write_pairs-returns-in_err-try_indent-clause-written g t c =
     let s = (g.G.Generator.meaning c.args.g.now).style in
     let es = entries_of c.args.object.now in
     after_order _ _ _ (view_object c.args.object.now) _ _ c.in_ok-order.ensures.0
-    (object_at_indent _ (g.met.G.Generator.style_law c.order.new.g) (viewed es)
+    (object_at_indent _ (g.met.G.Generator.style_law c.try_order.new.self) (viewed es)
     (positions (length es) c.in_ok-order.order) (answer_order s es c.in_ok-order.order c.in_ok-order.ensures.1)
     (rw c.in_ok-order.ensures.0.style (answer_allowed s es c.in_ok-order.order c.in_ok-order.ensures.1))
-    (some_pair es c.is_empty.result c.is_empty.ensures c.if-is_empty.false) _ _ _ c.in_ok-write_char.ensures
-    c.from_residual-in_err-indent.ensures.0 c.in_err-indent.ensures.1)
+    (some_pair es c.is_empty.result c.is_empty.ensures c.if-is_empty.false) _ _ _ c.in_ok-try_write_char.ensures
+    c.from_residual-in_err-try_indent.ensures.0 c.in_err-try_indent.ensures.1)
 
 pub write_pairs-returns-in_err-write_members-clause-written :
     goal.write_pairs-returns-in_err-write_members-clause-written
@@ -235,22 +235,22 @@ write_pairs-returns-in_err-write_members-clause-written g t c =
     let s = (g.G.Generator.meaning c.args.g.now).style in
     let es = entries_of c.args.object.now in
     after_order _ _ _ (view_object c.args.object.now) _ _ c.in_ok-order.ensures.0
-    (object_at_members _ (g.met.G.Generator.style_law c.order.new.g) (viewed es)
+    (object_at_members _ (g.met.G.Generator.style_law c.try_order.new.self) (viewed es)
     (positions (length es) c.in_ok-order.order) (answer_order s es c.in_ok-order.order c.in_ok-order.ensures.1)
     (rw c.in_ok-order.ensures.0.style (answer_allowed s es c.in_ok-order.order c.in_ok-order.ensures.1))
-    (some_pair es c.is_empty.result c.is_empty.ensures c.if-is_empty.false) _ _ _ c.in_ok-write_char.ensures _
-    c.in_ok-indent.ensures c.from_residual-in_err-write_members.ensures.0 c.in_err-write_members.ensures.written)
+    (some_pair es c.is_empty.result c.is_empty.ensures c.if-is_empty.false) _ _ _ c.in_ok-try_write_char.ensures _
+    c.in_ok-try_indent.ensures c.from_residual-in_err-write_members.ensures.0 c.in_err-write_members.ensures.written)
 
 pub write_pairs-returns-clause-written : goal.write_pairs-returns-clause-written
 write_pairs-returns-clause-written g t c =
     let s = (g.G.Generator.meaning c.args.g.now).style in
     let es = entries_of c.args.object.now in
     after_order _ _ _ (view_object c.args.object.now) _ _ c.in_ok-order.ensures.0
-    (object_at_close _ (g.met.G.Generator.style_law c.order.new.g) (viewed es)
+    (object_at_close _ (g.met.G.Generator.style_law c.try_order.new.self) (viewed es)
     (positions (length es) c.in_ok-order.order) (answer_order s es c.in_ok-order.order c.in_ok-order.ensures.1)
     (rw c.in_ok-order.ensures.0.style (answer_allowed s es c.in_ok-order.order c.in_ok-order.ensures.1))
-    (some_pair es c.is_empty.result c.is_empty.ensures c.if-is_empty.false) _ _ _ c.in_ok-write_char.ensures _
-    c.in_ok-indent.ensures _ c.in_ok-write_members.ensures.written c.close.ensures)
+    (some_pair es c.is_empty.result c.is_empty.ensures c.if-is_empty.false) _ _ _ c.in_ok-try_write_char.ensures _
+    c.in_ok-try_indent.ensures _ c.in_ok-write_members.ensures.written c.close.ensures)
 
 pub write_members-returns-clause-value : goal.write_members-returns-clause-value
 write_members-returns-clause-value g t c =
