@@ -376,7 +376,7 @@ fn push_names(
 
 #[test]
 fn builds_pairs_of_few_keys(rt: HostRuntime) -> Result<(), AllocError> {
-    let mut built = Builder::new(rt.alloc());
+    let mut built = Builder::with_capacity(rt.alloc(), 2)?;
     for round in 0u32..1000 {
         push_names(rt.alloc(), &mut built, &["c", "a", "b"], round)?;
     }

@@ -24,6 +24,8 @@ const EMPTY: u8 = 255;
 #[derive(Drop)]
 pub struct Few {
     slots: Vec<u8>,
+    /// The place behind that of the key found last, which is looked at first: keys mostly repeat in one order.
+    next: usize,
 }
 
 impl Few {
@@ -33,6 +35,7 @@ impl Few {
     {
         Few {
             slots: Vec::new(alloc),
+            next: 0,
         }
     }
 
@@ -50,7 +53,7 @@ impl Few {
                 return Ok(Few::new(alloc));
             }
         }
-        Ok(Few { slots })
+        Ok(Few { slots, next: 0 })
     }
 
     /// Gives up the slots.
@@ -62,15 +65,21 @@ impl Few {
 
     /// The place of the key of this name, where it has a slot.
     #[inline(always)]
-    pub fn find(&self, keys: &[Key], name: &str) -> Option<usize>
-        requires { IsSlotted keys.now self.now.slots.items }
+    pub fn find(&mut self, keys: &[Key], name: &str) -> Option<usize>
+        requires { IsSlotted keys.now self.old.slots.items }
+        ensures slots { self.new.slots ≡ self.old.slots }
         ensures place { IfSome result (λ place. position (λ k. bytes_eq k name.now) keys.now ≡ Some place) }
         ensures distinct { IsSome result → IsDistinct bytes_eq keys.now }
     {
         if self.slots.is_empty() {
             return None;
         }
-        look_up(keys, self.slots.as_slice(), name)
+        if self.next == keys.len() {
+            self.next = 0;
+        }
+        let place = look_up(keys, self.slots.as_slice(), self.next, name)?;
+        self.next = place + 1;
+        Some(place)
     }
 }
 
@@ -93,20 +102,37 @@ fn fill(slots: &mut [u8], place: u8, name: &str) -> bool {
     false
 }
 
-/// The place of the key of this name, where it has a slot.
-#[inline(never)]
-fn look_up(keys: &[Key], slots: &[u8], name: &str) -> Option<usize>
+/// The place, where the key of this name stands at it.
+#[inline(always)]
+fn seen_at(keys: &[Key], place: usize, name: &str) -> Option<usize>
     requires { IsDistinct bytes_eq keys.now }
     ensures { IfSome result (λ place. position (λ k. bytes_eq k name.now) keys.now ≡ Some place) }
 {
+    if place < keys.len() && keys[place].as_str() == name {
+        return Some(place);
+    }
+    None
+}
+
+/// The place of the key of this name, where it stands at the place `first` or has a slot.
+#[inline(never)]
+fn look_up(keys: &[Key], slots: &[u8], first: usize, name: &str) -> Option<usize>
+    requires { IsDistinct bytes_eq keys.now }
+    ensures { IfSome result (λ place. position (λ k. bytes_eq k name.now) keys.now ≡ Some place) }
+{
+    let found = seen_at(keys, first, name);
+    if found.is_some() {
+        return found;
+    }
     let start = first_slot(name);
     for at in start..start + STEPS {
         let place = usize::from(*slots.get(at)?);
         if keys.len() <= place {
             return None;
         }
-        if keys[place].as_str() == name {
-            return Some(place);
+        let found = seen_at(keys, place, name);
+        if found.is_some() {
+            return found;
         }
     }
     None

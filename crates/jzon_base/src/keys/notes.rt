@@ -43,8 +43,9 @@ impl Notes {
 
     /// The place of the key of this name, where it has a slot.
     #[inline(always)]
-    pub fn find(&self, keys: &[Key], name: &str) -> Option<usize>
-        requires { AreNoted keys.now self.now }
+    pub fn find(&mut self, keys: &[Key], name: &str) -> Option<usize>
+        requires { AreNoted keys.now self.old }
+        ensures noted { AreNoted keys.now self.new }
         ensures place { IfSome result (λ place. position (λ k. bytes_eq k name.now) keys.now ≡ Some place) }
         ensures distinct { IsSome result → IsDistinct bytes_eq keys.now }
     {

@@ -54,6 +54,18 @@ impl<V: Drop> Builder<V> {
         }
     }
 
+    /// No entry, with room for `capacity` of them. The error is a refused growth.
+    pub fn with_capacity(alloc: Global, capacity: usize) -> Result<Builder<V>, AllocError>
+        ensures { IfOk result (λ b. b ≡ []) }
+    {
+        Ok(Builder {
+            keys: Vec::with_capacity(alloc, capacity)?,
+            values: Vec::with_capacity(alloc, capacity)?,
+            notes: None,
+            limit: FIRST_LIMIT,
+        })
+    }
+
     /// Merges the entries of equal keys. The error is a refused growth.
     #[cold]
     #[inline(never)]

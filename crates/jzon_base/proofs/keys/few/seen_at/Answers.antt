@@ -1,10 +1,10 @@
 use Rattle.std.proofs.Common.{◌<◌, length, arith}
 use Rattle.jzon_base.proofs.Indexes.{only_place, read_equal}
-use Rattle.jzon_base.proofs.keys.few.look_up.Goals as goal
+use Rattle.jzon_base.proofs.keys.few.seen_at.Goals as goal
 
 pub returns-then-eq : goal.returns-then-eq
 returns-then-eq c =
     let ks = c.args.keys.now in
-    let within : c.from-place.result < length ks = omega arith in
+    let within : c.args.place < length ks = omega arith in
     only_place c.args.name.now ks _ c.requires within (read_equal ks _ _ _ c.args.name.now _ within
     c.index-keys-place.is c.as_str.ensures c.if-eq.ensures)
