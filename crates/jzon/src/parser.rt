@@ -25,6 +25,7 @@ use jzon_base::key::Key;
 use jzon_tree::object::{Builder, Object};
 use jzon_tree::value::JsonValue;
 use std::alloc::Global;
+use std::mem;
 
 /// The value that a text means (RFC 8259; docs/RULES.md, "Texts"), or the error of its first fault, or `OutOfMemory` where memory was refused. A text with neither
 /// a string nor an array nor an object takes no memory.
@@ -74,6 +75,8 @@ struct Parser<'a> {
     stack: Vec<Frame>,
     /// The text of the last string with escapes.
     buffer: String,
+    /// How many entries the object has that ended last, until another one begins, which gets room for as many.
+    entries: usize,
 }
 
 impl<'a> Parser<'a> {
@@ -86,6 +89,7 @@ impl<'a> Parser<'a> {
             cursor: Cursor::new(source, reading),
             stack: Vec::new(alloc),
             buffer: String::new(alloc),
+            entries: 0,
         }
     }
 
@@ -146,11 +150,14 @@ impl<'a> Parser<'a> {
         loop {
             match begun {
                 Begun::Array => {
-                    // One element is certain to come.
-                    let elements = Vec::with_capacity(self.alloc, 1)?;
-                    begun = self.read_elements(elements)?;
+                    // One element is certain to come. Containers often nest alone.
+                    let room = if self.cursor.opens_container() { 1 } else { 4 };
+                    begun = self.read_elements(Vec::with_capacity(self.alloc, room)?)?;
                 }
-                Begun::Object => begun = self.read_entries(Builder::new(self.alloc))?,
+                Begun::Object => {
+                    let room = mem::take(&mut self.entries);
+                    begun = self.read_entries(Builder::with_capacity(self.alloc, room)?)?;
+                }
                 Begun::Value(value) => match self.stack.pop() {
                     None => return self.finish(value),
                     Some(frame) => begun = self.go_on(frame, value)?,
@@ -179,6 +186,7 @@ impl<'a> Parser<'a> {
                 entries.push(self.alloc, key, item)?;
                 if self.cursor.object_ends()? {
                     let object = Object::from_builder(self.alloc, entries)?;
+                    self.entries = object.len();
                     return Ok(Begun::Value(JsonValue::Object(object)));
                 }
                 self.read_entries(entries)
@@ -242,6 +250,7 @@ impl<'a> Parser<'a> {
             }
             if self.cursor.object_ends()? {
                 let object = Object::from_builder(self.alloc, entries)?;
+                self.entries = object.len();
                 return Ok(Begun::Value(JsonValue::Object(object)));
             }
         }

@@ -80,6 +80,9 @@ const UNESCAPED: &str = "\"é and a text of more than thirty bytes\\n\u{1d11e}\"
 const TEN_KEYS: &str =
     "{\"a\":0,\"b\":1,\"c\":2,\"d\":3,\"e\":4,\"f\":5,\"g\":6,\"h\":7,\"i\":8,\"j\":9}";
 
+/// The second object and the second array get room for as many items as the first ones had.
+const ALIKE: &str = "[{\"a\":[1,2]},{\"a\":[3,4]}]";
+
 const KEYED: &str = "{\"0123456789abcdef0123456789abcdef01234567\":null}";
 
 #[test]
@@ -99,6 +102,13 @@ fn changed_under_refusals(rt: HostRuntime) -> Tested {
             "null",
             LONG_DOCUMENT,
             9,
+        ),
+        case(
+            Changed::Parse(ALIKE),
+            "parse of items that are alike",
+            "null",
+            ALIKE,
+            10,
         ),
         case(
             Changed::ParseStrictly(DOCUMENT),
