@@ -64,6 +64,7 @@ struct Spelling<'a> {
 }
 
 // How a number is spelled, whose first digit stands at `start`.
+#[inline(always)]
 fn spelling_at(source: &str, start: usize) -> Spelling<'_>
     requires within { start < length source.now }
     requires digit { IsTrue (is_ascii_digit (slice_index source.now start)) }
@@ -101,6 +102,7 @@ fn spelling_at(source: &str, start: usize) -> Spelling<'_>
 }
 
 // The same without the exponent.
+#[inline(always)]
 fn magnitude_at(source: &str, start: usize) -> Spelling<'_>
     requires within { start < length source.now }
     requires digit { IsTrue (is_ascii_digit (slice_index source.now start)) }
@@ -191,6 +193,8 @@ struct Exponent<'a> {
 }
 
 // The exponent whose letter stands before `start`.
+#[cold]
+#[inline(never)]
 fn exponent_behind(source: &str, start: usize) -> Exponent<'_>
     requires { IsCharBoundary source.now start }
     ensures bounds { (start ≤ result.end) × (result.end ≤ length source.now) × IsCharBoundary source.now result.end }
