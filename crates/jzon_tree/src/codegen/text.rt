@@ -96,16 +96,19 @@ impl<O: Outlet, const LINES: bool> Generator for TextGenerator<O, LINES> {
         Ok(None)
     }
 
+    #[inline(always)]
     fn try_write(&mut self, slice: &[u8], fault: &mut Fault) -> Step<()> {
         let step = send(self.outlet.writer(), slice, fault);
         self.count(step)
     }
 
+    #[inline(always)]
     fn try_write_char(&mut self, ch: u8, fault: &mut Fault) -> Step<()> {
         let step = send(self.outlet.writer(), &[ch], fault);
         self.count(step)
     }
 
+    #[inline(always)]
     fn try_write_min(&mut self, slice: &[u8], min: u8, fault: &mut Fault) -> Step<()> {
         if LINES {
             self.try_write(slice, fault)

@@ -175,6 +175,7 @@ fn write_pair<G: Generator>(g: &mut G, key: &str, value: &JsonValue, fault: &mut
 }
 
 // What stands before an item: a comma, unless it is the first, and whitespace.
+#[inline(always)]
 fn begin_item<G: Generator>(g: &mut G, comma: bool, fault: &mut Fault) -> Step<()>
     ensures { Emits (IsBetween (G.meaning g.old).style (G.meaning g.old).dent comma)
         (G.meaning g.old) (G.meaning g.new) result }
@@ -186,6 +187,7 @@ fn begin_item<G: Generator>(g: &mut G, comma: bool, fault: &mut Fault) -> Step<(
 }
 
 // Closes an indent, and adds whitespace and the bracket.
+#[inline(always)]
 fn close<G: Generator>(g: &mut G, bracket: u8, fault: &mut Fault) -> Step<()>
     requires { 0 < (G.meaning g.old).dent }
     ensures { Emits (IsClosing (G.meaning g.old).style ((G.meaning g.old).dent - 1) bracket)
