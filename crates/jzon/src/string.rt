@@ -184,22 +184,48 @@ fn read_escape(source: &str, start: usize) -> Result<(char, usize)>
     }
 }
 
+// The byte that a backslash means before each letter that it may stand before, and 0 for all others.
+#[rattlefmt::skip]
+static MEANT: [u8; 256] = [
+    0, 0, 0, 0, 0, 0, 0, 0, 0, 0, 0, 0, 0, 0, 0, 0,
+    0, 0, 0, 0, 0, 0, 0, 0, 0, 0, 0, 0, 0, 0, 0, 0,
+    0, 0, b'"', 0, 0, 0, 0, 0, 0, 0, 0, 0, 0, 0, 0, b'/',
+    0, 0, 0, 0, 0, 0, 0, 0, 0, 0, 0, 0, 0, 0, 0, 0,
+    0, 0, 0, 0, 0, 0, 0, 0, 0, 0, 0, 0, 0, 0, 0, 0,
+    0, 0, 0, 0, 0, 0, 0, 0, 0, 0, 0, 0, b'\\', 0, 0, 0,
+    0, 0, 8, 0, 0, 0, 12, 0, 0, 0, 0, 0, 0, 0, 10, 0,
+    0, 0, 13, 0, 9, 0, 0, 0, 0, 0, 0, 0, 0, 0, 0, 0,
+    0, 0, 0, 0, 0, 0, 0, 0, 0, 0, 0, 0, 0, 0, 0, 0,
+    0, 0, 0, 0, 0, 0, 0, 0, 0, 0, 0, 0, 0, 0, 0, 0,
+    0, 0, 0, 0, 0, 0, 0, 0, 0, 0, 0, 0, 0, 0, 0, 0,
+    0, 0, 0, 0, 0, 0, 0, 0, 0, 0, 0, 0, 0, 0, 0, 0,
+    0, 0, 0, 0, 0, 0, 0, 0, 0, 0, 0, 0, 0, 0, 0, 0,
+    0, 0, 0, 0, 0, 0, 0, 0, 0, 0, 0, 0, 0, 0, 0, 0,
+    0, 0, 0, 0, 0, 0, 0, 0, 0, 0, 0, 0, 0, 0, 0, 0,
+    0, 0, 0, 0, 0, 0, 0, 0, 0, 0, 0, 0, 0, 0, 0, 0,
+];
+
+/// The character that a backslash means before this letter.
+#[inline(always)]
+fn meant_by(letter: u8) -> Option<char>
+    ensures { SomeIff result (IsTrue (is_simple letter)) (unescaped letter) }
+{
+    let meant = MEANT[letter as usize];
+    if meant == 0 {
+        None
+    } else {
+        Some(char::from(meant))
+    }
+}
+
 /// The character that a backslash means before the letter at this offset.
 fn simple_escape(source: &str, index: usize) -> Option<char>
-    requires { index ≤ length source.now }
     ensures { SomeIff result
         ((index < length source.now) × IsTrue (is_simple (slice_index source.now index)))
         (unescaped (slice_index source.now index)) }
 {
-    match &source.as_bytes()[index..] {
-        [letter @ (b'"' | b'\\' | b'/'), ..] => Some(char::from(*letter)),
-        [b'b', ..] => Some('\u{8}'),
-        [b'f', ..] => Some('\u{c}'),
-        [b'n', ..] => Some('\n'),
-        [b'r', ..] => Some('\r'),
-        [b't', ..] => Some('\t'),
-        _ => None,
-    }
+    let letter = source.as_bytes().get(index)?;
+    meant_by(*letter)
 }
 
 /// The character of a `\u` escape whose digits begin at `start`, or of two of them, and the offset behind it.
