@@ -135,28 +135,42 @@ pub(crate) fn send_line<W: Write>(writer: &mut W, spaces: u128, fault: &mut Faul
     Ok(())
 }
 
+// The letter of the short escape of each byte that has one, and 0 for all others.
+#[rattlefmt::skip]
+static LETTERS: [u8; 256] = [
+    0, 0, 0, 0, 0, 0, 0, 0, b'b', b't', b'n', 0, b'f', b'r', 0, 0,
+    0, 0, 0, 0, 0, 0, 0, 0, 0, 0, 0, 0, 0, 0, 0, 0,
+    0, 0, b'"', 0, 0, 0, 0, 0, 0, 0, 0, 0, 0, 0, 0, 0,
+    0, 0, 0, 0, 0, 0, 0, 0, 0, 0, 0, 0, 0, 0, 0, 0,
+    0, 0, 0, 0, 0, 0, 0, 0, 0, 0, 0, 0, 0, 0, 0, 0,
+    0, 0, 0, 0, 0, 0, 0, 0, 0, 0, 0, 0, b'\\', 0, 0, 0,
+    0, 0, 0, 0, 0, 0, 0, 0, 0, 0, 0, 0, 0, 0, 0, 0,
+    0, 0, 0, 0, 0, 0, 0, 0, 0, 0, 0, 0, 0, 0, 0, 0,
+    0, 0, 0, 0, 0, 0, 0, 0, 0, 0, 0, 0, 0, 0, 0, 0,
+    0, 0, 0, 0, 0, 0, 0, 0, 0, 0, 0, 0, 0, 0, 0, 0,
+    0, 0, 0, 0, 0, 0, 0, 0, 0, 0, 0, 0, 0, 0, 0, 0,
+    0, 0, 0, 0, 0, 0, 0, 0, 0, 0, 0, 0, 0, 0, 0, 0,
+    0, 0, 0, 0, 0, 0, 0, 0, 0, 0, 0, 0, 0, 0, 0, 0,
+    0, 0, 0, 0, 0, 0, 0, 0, 0, 0, 0, 0, 0, 0, 0, 0,
+    0, 0, 0, 0, 0, 0, 0, 0, 0, 0, 0, 0, 0, 0, 0, 0,
+    0, 0, 0, 0, 0, 0, 0, 0, 0, 0, 0, 0, 0, 0, 0, 0,
+];
+
 // Sends what stands in a string for a byte that needs an escape.
 fn send_escape<W: Write>(writer: &mut W, byte: u8, fault: &mut Fault) -> Step<()>
     requires { is_plain byte ≡ false }
     ensures { Sends (Just (escaped_byte byte)) (W.contents writer.old) (W.contents writer.new) result }
 {
-    match byte {
-        b'"' => send(writer, b"\\\"", fault),
-        b'\\' => send(writer, b"\\\\", fault),
-        8 => send(writer, b"\\b", fault),
-        b'\t' => send(writer, b"\\t", fault),
-        b'\n' => send(writer, b"\\n", fault),
-        12 => send(writer, b"\\f", fault),
-        b'\r' => send(writer, b"\\r", fault),
-        _ => {
-            let digits = [hex_digit(byte / 16), hex_digit(byte % 16)];
-            send(
-                writer,
-                &[b'\\', b'u', b'0', b'0', digits[0], digits[1]],
-                fault,
-            )
-        }
+    let letter = LETTERS[byte as usize];
+    if letter != 0 {
+        return send(writer, &[b'\\', letter], fault);
     }
+    let digits = [hex_digit(byte / 16), hex_digit(byte % 16)];
+    send(
+        writer,
+        &[b'\\', b'u', b'0', b'0', digits[0], digits[1]],
+        fault,
+    )
 }
 
 fn hex_digit(digit: u8) -> u8
