@@ -149,11 +149,7 @@ impl<'a> Parser<'a> {
         let mut begun = begun;
         loop {
             match begun {
-                Begun::Array => {
-                    // One element is certain to come. Containers often nest alone.
-                    let room = if self.cursor.opens_container() { 1 } else { 4 };
-                    begun = self.read_elements(Vec::with_capacity(self.alloc, room)?)?;
-                }
+                Begun::Array => begun = self.read_elements(self.room_for_elements()?)?,
                 Begun::Object => {
                     let room = mem::take(&mut self.entries);
                     begun = self.read_entries(Builder::with_capacity(self.alloc, room)?)?;
@@ -164,6 +160,16 @@ impl<'a> Parser<'a> {
                 },
             }
         }
+    }
+
+    /// No elements, with room for those of an array that begins here. One is certain to come, and containers often nest alone. The error is a refused growth.
+    #[inline(always)]
+    fn room_for_elements(&self) -> Result<Vec<JsonValue>>
+        ensures empty { IfOk result (λ elements. elements.items ≡ []) }
+        ensures memory { IsOkUnless result Error.OutOfMemory }
+    {
+        let room = if self.cursor.opens_container() { 1 } else { 4 };
+        Ok(Vec::with_capacity(self.alloc, room)?)
     }
 
     /// Reads on behind the value `item` of an open container: to the container's end, or to its next item that is a container with something in it.
@@ -194,7 +200,7 @@ impl<'a> Parser<'a> {
         }
     }
 
-    /// Reads on in an open array, whose elements so far these are: to the end of the array, or to an element that is a container with something in it.
+    /// Reads on in an open array, whose elements so far these are, and in the arrays in it: to the end of one of them, or to an object with something in it.
     fn read_elements(&mut self, elements: Vec<JsonValue>) -> Result<Begun>
         requires room { vec_len self.old.stack < self.old.cursor.reading.depth }
         requires element { map view elements.items ≡ [] → next_byte self.old.cursor ≢ end_array }
@@ -207,11 +213,18 @@ impl<'a> Parser<'a> {
         loop {
             if self.cursor.opens_container() {
                 let depth = self.stack.len() + 1;
-                match self.begin(depth)? {
+                let begun = self.begin(depth)?;
+                match begun {
                     Begun::Value(value) => elements.push(value)?,
-                    begun => {
+                    Begun::Array => {
+                        // Read on here: a step back to the loop over containers costs as much as an array of one item.
                         self.stack.push(Frame::Array(elements))?;
-                        return Ok(begun);
+                        elements = self.room_for_elements()?;
+                        continue;
+                    }
+                    Begun::Object => {
+                        self.stack.push(Frame::Array(elements))?;
+                        return Ok(Begun::Object);
                     }
                 }
             } else {

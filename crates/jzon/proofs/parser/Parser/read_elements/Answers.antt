@@ -9,17 +9,18 @@ use Rattle.jzon.specs.Cursor.{left, IsBehind}
 use Rattle.jzon.specs.Frames.{IsReady, place_of, stack_view}
 use Rattle.jzon.specs.Machine.{Frames, array_frame, frames_depth, before, behind}
 use Rattle.jzon.specs.declared.cursor.Cursor.{Cursor}
+use Rattle.jzon.specs.declared.frames.Begun.TheVariants.{Array as begun_array, Object as begun_object}
 use Rattle.jzon.proofs.Bytes.Cursors.{Reached, reached_start, reached, token_goes, goes_behind, fails_on}
 use Rattle.jzon.proofs.Bytes.FrameViews.{frames_depth-stack, fresh_is_empty, some_more, stack_view-push}
 use Rattle.jzon.proofs.Bytes.FrameViews.{value_mark-shallow}
-use Rattle.jzon.proofs.parser.Parser.read_elements.Goals.{After-len-depth, After-array_ends}
+use Rattle.jzon.proofs.parser.Parser.read_elements.Goals.{After-len-depth, After-array_ends, In_ok-elements-in-Array}
 use Rattle.jzon.proofs.parser.Parser.read_elements.Goals.{then-opens_container+in_ok-begun+in-Value+in_ok-push-in-Value}
 use Rattle.jzon.proofs.parser.Parser.read_elements.Goals.{else-opens_container+in_ok-value+in_ok-push}
 use Rattle.jzon.proofs.parser.Parser.read_elements.Goals as goal
 
 pub loop-self-init : goal.loop-self-init
 loop-self-init c = record {
-  stack = refl;
+  room = c.requires.room;
   element = c.requires.element;
   came = reached_start c.args.self.now.cursor (before (array_frame (stack_view c.args.self.now.stack.items)
       (map view c.args.elements.items)));
@@ -27,21 +28,14 @@ loop-self-init c = record {
 
 -- so many containers are open around the next element
 depth_here : (c : After-len-depth) →
-    frames_depth (array_frame (stack_view c.args.self.now.stack.items) (map view c.loop-self.elements.items))
+    frames_depth (array_frame (stack_view c.loop-self.self.stack.items) (map view c.loop-self.elements.items))
     ≡ c.len-depth.result + 1
 depth_here c =
-    omega (
-      arith,
-      frames_depth-stack c.args.self.now.stack.items,
-      c.args.self.now.stack.ok.0,
-      c.len-depth.ensures,
-      ap
-          (λ s. vec_len s) c.loop-self.invariant.stack,
-    )
+    omega (arith, frames_depth-stack c.loop-self.self.stack.items, c.loop-self.self.stack.ok.0, c.len-depth.ensures)
 
 pub returns-in_err-begun-clause-same : goal.returns-in_err-begun-clause-same
 returns-in_err-begun-clause-same c =
-    let fs = stack_view c.args.self.now.stack.items in
+    let fs = stack_view c.loop-self.self.stack.items in
     let vs = map view c.loop-self.elements.items in
     let at = goal.at.returns-in_err-begun-clause-same c in
     let failed = err_from_is_err_and c.from_residual.result c.from_residual.ensures.1 in
@@ -50,45 +44,91 @@ returns-in_err-begun-clause-same c =
     (rw failed.2 (c.in_err-begun.ensures.same (array_frame fs vs) (depth_here at.After-len-depth)
     (λ f. c.loop-self.invariant.element (fresh_is_empty fs vs f))))
 
-pub returns-in_default-clause-ready : goal.returns-in_default-clause-ready
-returns-in_default-clause-ready c =
-    subst (λ k. IsReady c.begin.new.self.cursor k c.in_ok-begun.begun)
+pub returns-in-Object-clause-ready : goal.returns-in-Object-clause-ready
+returns-in-Object-clause-ready c =
+    subst (λ k. IsReady c.begin.new.self.cursor k begun_object)
     (omega (
       arith,
-      c.in_ok-push-in_default.ensures.len,
+      c.in_ok-push-in-Object.ensures.len,
       c.len-depth.ensures,
       ap (λ s. vec_len s)
           c.in_ok-begun.ensures.stack,
-    )) c.in_ok-begun.ensures.ready
+    )) (subst (λ b. IsReady c.begin.new.self.cursor (c.len-depth.result + 1) b) c.in-Object.is
+    c.in_ok-begun.ensures.ready)
 
-pub returns-in_default-clause-same : goal.returns-in_default-clause-same
-returns-in_default-clause-same c =
+pub returns-in-Object-clause-same : goal.returns-in-Object-clause-same
+returns-in-Object-clause-same c =
     let n = c.begin.new.self.cursor in
-    let fs = stack_view c.args.self.now.stack.items in
+    let fs = stack_view c.loop-self.self.stack.items in
     let vs = map view c.loop-self.elements.items in
-    let at = goal.at.returns-in_default-clause-same c in
+    let at = goal.at.returns-in-Object-clause-same c in
     let read = c.in_ok-begun.ensures.same (array_frame fs vs) (depth_here at.After-len-depth)
     (λ f. c.loop-self.invariant.element (fresh_is_empty fs vs f)) in
-    let stack = stack_view-push c.begin.new.self.stack.items c.push-in_default.new.self.items _
-    c.in_ok-push-in_default.ensures.items
-    ∙ ap (λ s. array_frame (stack_view s.items) vs) (c.in_ok-begun.ensures.stack ∙ c.loop-self.invariant.stack) in
+    let stack = stack_view-push c.begin.new.self.stack.items c.push-in-Object.new.self.items _
+    c.in_ok-push-in-Object.ensures.items
+    ∙ ap (λ s. array_frame (stack_view s.items) vs) c.in_ok-begun.ensures.stack in
     goes_behind c.args.self.now.cursor c.loop-self.self.cursor n _ (before (array_frame fs vs)) _
     c.loop-self.invariant.came
-    (read.0, read.1 ∙ ap (λ gs. left n (place_of c.in_ok-begun.begun gs)) (sym stack))
+    (read.0, read.1 ∙ ap (λ b. left n (place_of b (array_frame fs vs))) c.in-Object.is
+    ∙ ap (λ gs. left n (place_of begun_object gs)) (sym stack))
+
+-- ---- in an array in the array
+
+nested : (c : In_ok-elements-in-Array) →
+    IsBehind c.loop-self.self.cursor c.begin.new.self.cursor
+    × (left c.loop-self.self.cursor (before (array_frame (stack_view c.loop-self.self.stack.items)
+    (map view c.loop-self.elements.items))) ≡ left c.begin.new.self.cursor
+    (before (array_frame (stack_view c.push-in-Array.new.self.items)
+    (map view c.in_ok-elements-in-Array.elements.items))))
+nested c =
+    let n = c.begin.new.self.cursor in
+    let fs = stack_view c.loop-self.self.stack.items in
+    let vs = map view c.loop-self.elements.items in
+    let at = (goal.at.loop-self-smaller-in-Array c).After-len-depth in
+    let read = c.in_ok-begun.ensures.same (array_frame fs vs) (depth_here at)
+    (λ f. c.loop-self.invariant.element (fresh_is_empty fs vs f)) in
+    let stack = stack_view-push c.begin.new.self.stack.items c.push-in-Array.new.self.items _
+    c.in_ok-push-in-Array.ensures.items
+    ∙ ap (λ s. array_frame (stack_view s.items) vs) c.in_ok-begun.ensures.stack in
+    (read.0, read.1 ∙ ap (λ b. left n (place_of b (array_frame fs vs))) c.in-Array.is
+    ∙ ap (λ gs. left n (before (array_frame gs []))) (sym stack)
+    ∙ ap (λ xs. left n (before (array_frame (stack_view c.push-in-Array.new.self.items) (map view xs))))
+    (sym c.in_ok-elements-in-Array.ensures.empty))
+
+pub loop-self-smaller-in-Array : goal.loop-self-smaller-in-Array
+loop-self-smaller-in-Array c =
+    let read = nested c in
+    omega (arith, read.0.index, ap length read.0.text, c.begin.new.self.cursor.boundary.0)
+
+pub loop-self-preserved-in-Array : goal.loop-self-preserved-in-Array
+loop-self-preserved-in-Array c =
+    let ready = subst (λ b. IsReady c.begin.new.self.cursor (c.len-depth.result + 1) b) c.in-Array.is
+    c.in_ok-begun.ensures.ready in
+    record {
+      room = omega (
+        arith,
+        ready.0,
+        c.in_ok-push-in-Array.ensures.len,
+        c.len-depth.ensures,
+        ap (λ s. vec_len s) c.in_ok-begun.ensures.stack,
+      );
+      element = λ none. ready.1;
+      came = reached c.args.self.now.cursor c.begin.new.self.cursor _ _
+          (goes_behind c.args.self.now.cursor c.loop-self.self.cursor c.begin.new.self.cursor _ _ _
+          c.loop-self.invariant.came (nested c));
+    }
 
 pub returns-in_err-value-clause-same : goal.returns-in_err-value-clause-same
 returns-in_err-value-clause-same c =
     let m = c.loop-self.self.cursor in
-    let fs = stack_view c.args.self.now.stack.items in
+    let fs = stack_view c.loop-self.self.stack.items in
     let vs = map view c.loop-self.elements.items in
     let shallow = value_mark-shallow m.reading (array_frame fs vs)
     (omega (
       arith,
-      frames_depth-stack c.args.self.now.stack.items,
-      c.args.self.now.stack.ok.0,
-      c.requires.room,
-      ap
-          (λ r. r.depth) c.loop-self.invariant.came.reading,
+      frames_depth-stack c.loop-self.self.stack.items,
+      c.loop-self.self.stack.ok.0,
+      c.loop-self.invariant.room,
     )) in
     let failed = err_from_is_err_and c.from_residual-in_err-value.result c.from_residual-in_err-value.ensures.1 in
     fails_on c.args.self.now.cursor m _ _ (before (array_frame fs vs)) c.from_residual-in_err-value.result _ failed.0
@@ -105,31 +145,28 @@ record More (m n : Cursor) (fs : Frames) (vs ws : List Value) : Type 0 where
   read : IsBehind m n × (left m (before (array_frame fs vs)) ≡ left n (behind (array_frame fs vs) value))
 
 more : (c : After-array_ends) →
-    More c.loop-self.self.cursor c.if-opens_container.self.cursor (stack_view c.args.self.now.stack.items)
+    More c.loop-self.self.cursor c.if-opens_container.self.cursor (stack_view c.loop-self.self.stack.items)
     (map view c.loop-self.elements.items)
     (map view c.if-opens_container.elements.items)
 more c =
     let m = c.loop-self.self.cursor in
-    let fs = stack_view c.args.self.now.stack.items in
+    let fs = stack_view c.loop-self.self.stack.items in
     let vs = map view c.loop-self.elements.items in
     let shallow = value_mark-shallow m.reading (array_frame fs vs)
     (omega (
       arith,
-      frames_depth-stack c.args.self.now.stack.items,
-      c.args.self.now.stack.ok.0,
-      c.requires.room,
-      ap
-          (λ r. r.depth) c.loop-self.invariant.came.reading,
+      frames_depth-stack c.loop-self.self.stack.items,
+      c.loop-self.self.stack.ok.0,
+      c.loop-self.invariant.room,
     )) in
     elim c.if-opens_container.branch [
       | then-opens_container+in_ok-begun+in-Value+in_ok-push-in-Value w ↦
           let depth : frames_depth (array_frame fs vs) ≡ w.len-depth.result + 1 =
           omega (
             arith,
-            frames_depth-stack c.args.self.now.stack.items,
-            c.args.self.now.stack.ok.0,
+            frames_depth-stack c.loop-self.self.stack.items,
+            c.loop-self.self.stack.ok.0,
             w.len-depth.ensures,
-            ap (λ s. vec_len s) c.loop-self.invariant.stack,
           ) in
           let read = w.in_ok-begun.ensures.same (array_frame fs vs) depth
           (λ f. c.loop-self.invariant.element (fresh_is_empty fs vs f)) in
@@ -156,20 +193,20 @@ more c =
           })
     ]
 
-stack_kept : (c : After-array_ends) → c.if-opens_container.self.stack ≡ c.args.self.now.stack
+stack_kept : (c : After-array_ends) → c.if-opens_container.self.stack ≡ c.loop-self.self.stack
 stack_kept c =
     elim c.if-opens_container.branch [
       | then-opens_container+in_ok-begun+in-Value+in_ok-push-in-Value w ↦ ap (λ s. s.stack) w.self-is
-          ∙ w.in_ok-begun.ensures.stack ∙ c.loop-self.invariant.stack
-      | else-opens_container+in_ok-value+in_ok-push w ↦ ap (λ s. s.stack) w.self-is ∙ c.loop-self.invariant.stack
+          ∙ w.in_ok-begun.ensures.stack
+      | else-opens_container+in_ok-value+in_ok-push w ↦ ap (λ s. s.stack) w.self-is
     ]
 
 came : (c : After-array_ends) →
     Reached c.args.self.now.cursor (before (array_frame (stack_view c.args.self.now.stack.items)
     (map view c.args.elements.items))) c.if-opens_container.self.cursor
-    (behind (array_frame (stack_view c.args.self.now.stack.items) (map view c.loop-self.elements.items)) (more c).value)
+    (behind (array_frame (stack_view c.loop-self.self.stack.items) (map view c.loop-self.elements.items)) (more c).value)
 came c =
-    let fs = stack_view c.args.self.now.stack.items in
+    let fs = stack_view c.loop-self.self.stack.items in
     let vs = map view c.loop-self.elements.items in
     reached c.args.self.now.cursor c.if-opens_container.self.cursor _ (behind (array_frame fs vs) (more c).value)
     (goes_behind c.args.self.now.cursor c.loop-self.self.cursor c.if-opens_container.self.cursor _
@@ -177,7 +214,7 @@ came c =
 
 pub returns-in_err-array_ends-clause-same : goal.returns-in_err-array_ends-clause-same
 returns-in_err-array_ends-clause-same c =
-    let fs = stack_view c.args.self.now.stack.items in
+    let fs = stack_view c.loop-self.self.stack.items in
     let vs = map view c.loop-self.elements.items in
     let at = (goal.at.returns-in_err-array_ends-clause-same c).After-array_ends in
     let failed = err_from_is_err_and c.from_residual-in_err-array_ends.result
@@ -188,17 +225,17 @@ returns-in_err-array_ends-clause-same c =
 
 pub returns-then-branch-clause-ready : goal.returns-then-branch-clause-ready
 returns-then-branch-clause-ready c =
-    let fs = stack_view c.args.self.now.stack.items in
+    let fs = stack_view c.loop-self.self.stack.items in
     let vs = map view c.loop-self.elements.items in
     let at = (goal.at.returns-then-branch-clause-ready c).After-array_ends in
-    let reading = (c.in_ok-array_ends.ensures fs vs (more at).value).0.reading ∙ (came at).reading in
-    omega (arith, c.requires.room, ap (λ r. r.depth) reading, ap (λ s. vec_len s) (stack_kept at))
+    let reading = (c.in_ok-array_ends.ensures fs vs (more at).value).0.reading ∙ (more at).read.0.reading in
+    omega (arith, c.loop-self.invariant.room, ap (λ r. r.depth) reading, ap (λ s. vec_len s) (stack_kept at))
 
 pub returns-then-branch-clause-same : goal.returns-then-branch-clause-same
 returns-then-branch-clause-same c =
     let t = c.args.self.now.cursor in
     let u = c.array_ends.new.self in
-    let fs = stack_view c.args.self.now.stack.items in
+    let fs = stack_view c.loop-self.self.stack.items in
     let vs = map view c.loop-self.elements.items in
     let at = (goal.at.returns-then-branch-clause-same c).After-array_ends in
     let v = (more at).value in
@@ -214,7 +251,7 @@ returns-then-branch-clause-same c =
 
 pub loop-self-smaller : goal.loop-self-smaller
 loop-self-smaller c =
-    let fs = stack_view c.args.self.now.stack.items in
+    let fs = stack_view c.loop-self.self.stack.items in
     let vs = map view c.loop-self.elements.items in
     let at = (goal.at.loop-self-smaller c).After-array_ends in
     let read = (more at).read in
@@ -225,19 +262,23 @@ pub loop-self-preserved : goal.loop-self-preserved
 loop-self-preserved c =
     let t = c.args.self.now.cursor in
     let u = c.array_ends.new.self in
-    let fs = stack_view c.args.self.now.stack.items in
+    let fs = stack_view c.loop-self.self.stack.items in
     let vs = map view c.loop-self.elements.items in
     let at = (goal.at.loop-self-preserved c).After-array_ends in
     let v = (more at).value in
     let read = goes_behind t c.if-opens_container.self.cursor u _ (behind (array_frame fs vs) v) _ (came at)
     (c.in_ok-array_ends.ensures fs vs v) in
     record {
-      stack = stack_kept at;
+      room = let reading = (c.in_ok-array_ends.ensures fs vs v).0.reading ∙ (more at).read.0.reading in
+          omega (arith, c.loop-self.invariant.room, ap (λ r. r.depth) reading, ap (λ s. vec_len s) (stack_kept at));
       element = λ none. absurd (some_more vs v (sym (more at).grown ∙ none));
-      came = reached t u _ (before (array_frame fs (map view c.if-opens_container.elements.items))) (
+      came = reached t u _ (before (array_frame (stack_view c.if-opens_container.self.stack.items)
+          (map view c.if-opens_container.elements.items))) (
         read.0,
         read.1 ∙ ap (λ b. left u (cond b (behind fs (array (values_of (vs ++ v ∷ []))))
             (before (array_frame fs (vs ++ v ∷ []))))) c.if-branch.false
-            ∙ ap (λ xs. left u (before (array_frame fs xs))) (sym (more at).grown),
+            ∙ ap (λ xs. left u (before (array_frame fs xs))) (sym (more at).grown)
+            ∙ ap (λ s. left u (before (array_frame (stack_view s.items) (map view c.if-opens_container.elements.items))))
+            (sym (stack_kept at)),
       );
     }

@@ -1,4 +1,4 @@
-use Rattle.std.proofs.Common.{◌≡◌, ◌≢◌, ◌-◌, [], length, map}
+use Rattle.std.proofs.Common.{◌≡◌, ◌≢◌, ◌-◌, ◌<◌, [], length, map, vec_len}
 use Rattle.jzon_tree.specs.View.{view}
 use Rattle.jzon.specs.Cursor.{next_byte}
 use Rattle.jzon.specs.Frames.{stack_view}
@@ -9,12 +9,12 @@ use Rattle.jzon.proofs.parser.Parser.read_elements.Given as goal
 
 abbrev pub invariant-loop-self : goal.invariant-loop-self
 invariant-loop-self l = record {
-  stack : l.self.stack ≡ l.initial.self.stack;
+  room : vec_len l.self.stack < l.self.cursor.reading.depth;
   element : map view l.elements.items ≡ [] → next_byte l.self.cursor ≢ end_array;
   came :
       Reached l.initial.self.cursor (before (array_frame (stack_view l.initial.self.stack.items)
       (map view l.fn.elements.items))) l.self.cursor
-      (before (array_frame (stack_view l.initial.self.stack.items) (map view l.elements.items)));
+      (before (array_frame (stack_view l.self.stack.items) (map view l.elements.items)));
 }
 
 abbrev pub decreases-loop-self : goal.decreases-loop-self
