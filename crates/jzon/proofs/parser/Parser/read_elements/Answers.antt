@@ -68,9 +68,11 @@ returns-in-Object-clause-same c =
     c.in_ok-push-in-Object.ensures.items
     ∙ ap (λ s. array_frame (stack_view s.items) vs) c.in_ok-begun.ensures.stack in
     goes_behind c.args.self.now.cursor c.loop-self.self.cursor n _ (before (array_frame fs vs)) _
-    c.loop-self.invariant.came
-    (read.0, read.1 ∙ ap (λ b. left n (place_of b (array_frame fs vs))) c.in-Object.is
-    ∙ ap (λ gs. left n (place_of begun_object gs)) (sym stack))
+    c.loop-self.invariant.came (
+      read.0,
+      read.1 ∙ ap (λ b. left n (place_of b (array_frame fs vs))) c.in-Object.is
+          ∙ ap (λ gs. left n (place_of begun_object gs)) (sym stack),
+    )
 
 -- ---- in an array in the array
 
@@ -89,11 +91,13 @@ nested c =
     (λ f. c.loop-self.invariant.element (fresh_is_empty fs vs f)) in
     let stack = stack_view-push c.begin.new.self.stack.items c.push-in-Array.new.self.items _
     c.in_ok-push-in-Array.ensures.items
-    ∙ ap (λ s. array_frame (stack_view s.items) vs) c.in_ok-begun.ensures.stack in
-    (read.0, read.1 ∙ ap (λ b. left n (place_of b (array_frame fs vs))) c.in-Array.is
-    ∙ ap (λ gs. left n (before (array_frame gs []))) (sym stack)
-    ∙ ap (λ xs. left n (before (array_frame (stack_view c.push-in-Array.new.self.items) (map view xs))))
-    (sym c.in_ok-elements-in-Array.ensures.empty))
+    ∙ ap (λ s. array_frame (stack_view s.items) vs) c.in_ok-begun.ensures.stack in (
+      read.0,
+      read.1 ∙ ap (λ b. left n (place_of b (array_frame fs vs))) c.in-Array.is
+          ∙ ap (λ gs. left n (before (array_frame gs []))) (sym stack)
+          ∙ ap (λ xs. left n (before (array_frame (stack_view c.push-in-Array.new.self.items) (map view xs))))
+          (sym c.in_ok-elements-in-Array.ensures.empty),
+    )
 
 pub loop-self-smaller-in-Array : goal.loop-self-smaller-in-Array
 loop-self-smaller-in-Array c =
@@ -274,11 +278,11 @@ loop-self-preserved c =
       element = λ none. absurd (some_more vs v (sym (more at).grown ∙ none));
       came = reached t u _ (before (array_frame (stack_view c.if-opens_container.self.stack.items)
           (map view c.if-opens_container.elements.items))) (
-        read.0,
-        read.1 ∙ ap (λ b. left u (cond b (behind fs (array (values_of (vs ++ v ∷ []))))
-            (before (array_frame fs (vs ++ v ∷ []))))) c.if-branch.false
-            ∙ ap (λ xs. left u (before (array_frame fs xs))) (sym (more at).grown)
-            ∙ ap (λ s. left u (before (array_frame (stack_view s.items) (map view c.if-opens_container.elements.items))))
-            (sym (stack_kept at)),
-      );
+            read.0,
+            read.1 ∙ ap (λ b. left u (cond b (behind fs (array (values_of (vs ++ v ∷ []))))
+                (before (array_frame fs (vs ++ v ∷ []))))) c.if-branch.false
+                ∙ ap (λ xs. left u (before (array_frame fs xs))) (sym (more at).grown)
+                ∙ ap (λ s. left u (before (array_frame (stack_view s.items) (map view c.if-opens_container.elements.items))))
+                (sym (stack_kept at)),
+          );
     }
