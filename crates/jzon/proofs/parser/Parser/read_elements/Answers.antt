@@ -208,7 +208,8 @@ stack_kept c =
 came : (c : After-array_ends) →
     Reached c.args.self.now.cursor (before (array_frame (stack_view c.args.self.now.stack.items)
     (map view c.args.elements.items))) c.if-opens_container.self.cursor
-    (behind (array_frame (stack_view c.loop-self.self.stack.items) (map view c.loop-self.elements.items)) (more c).value)
+    (behind (array_frame (stack_view c.loop-self.self.stack.items) (map view c.loop-self.elements.items))
+    (more c).value)
 came c =
     let fs = stack_view c.loop-self.self.stack.items in
     let vs = map view c.loop-self.elements.items in
@@ -282,7 +283,7 @@ loop-self-preserved c =
             read.1 ∙ ap (λ b. left u (cond b (behind fs (array (values_of (vs ++ v ∷ []))))
                 (before (array_frame fs (vs ++ v ∷ []))))) c.if-branch.false
                 ∙ ap (λ xs. left u (before (array_frame fs xs))) (sym (more at).grown)
-                ∙ ap (λ s. left u (before (array_frame (stack_view s.items) (map view c.if-opens_container.elements.items))))
-                (sym (stack_kept at)),
+                ∙ ap (λ s. left u (before (array_frame (stack_view s.items)
+                (map view c.if-opens_container.elements.items)))) (sym (stack_kept at)),
           );
     }
