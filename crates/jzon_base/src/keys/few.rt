@@ -1,5 +1,5 @@
 //! Few keys, of which a repeated one is found at once.
-ghost use Rattle.std.specs.Prelude.{◌≡◌, ◌<◌, [], IfOk, IfSome, IsSome, Some};
+ghost use Rattle.std.specs.Prelude.{◌≡◌, ◌<◌, [], true, IfOk, IfSome, IsSome, Some};
 ghost use Rattle.std.specs.List.{position, IsDistinct};
 ghost use Rattle.std.specs.Str.{bytes_eq};
 ghost use Rattle.jzon_base.specs.Keys.{IsSlotted};
@@ -102,16 +102,13 @@ fn fill(slots: &mut [u8], place: u8, name: &str) -> bool {
     false
 }
 
-/// The place, where the key of this name stands at it.
+/// Whether the key of this name stands at this place.
 #[inline(always)]
-fn seen_at(keys: &[Key], place: usize, name: &str) -> Option<usize>
+fn stands_at(keys: &[Key], place: usize, name: &str) -> bool
     requires { IsDistinct bytes_eq keys.now }
-    ensures { IfSome result (λ place. position (λ k. bytes_eq k name.now) keys.now ≡ Some place) }
+    ensures { result ≡ true → position (λ k. bytes_eq k name.now) keys.now ≡ Some place }
 {
-    if place < keys.len() && keys[place].as_str() == name {
-        return Some(place);
-    }
-    None
+    place < keys.len() && keys[place].as_str() == name
 }
 
 /// The place of the key of this name, where it stands at the place `first` or has a slot.
@@ -120,9 +117,8 @@ fn look_up(keys: &[Key], slots: &[u8], first: usize, name: &str) -> Option<usize
     requires { IsDistinct bytes_eq keys.now }
     ensures { IfSome result (λ place. position (λ k. bytes_eq k name.now) keys.now ≡ Some place) }
 {
-    let found = seen_at(keys, first, name);
-    if found.is_some() {
-        return found;
+    if stands_at(keys, first, name) {
+        return Some(first);
     }
     let start = first_slot(name);
     for at in start..start + STEPS {
@@ -130,9 +126,8 @@ fn look_up(keys: &[Key], slots: &[u8], first: usize, name: &str) -> Option<usize
         if keys.len() <= place {
             return None;
         }
-        let found = seen_at(keys, place, name);
-        if found.is_some() {
-            return found;
+        if stands_at(keys, place, name) {
+            return Some(place);
         }
     }
     None

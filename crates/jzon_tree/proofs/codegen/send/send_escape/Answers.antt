@@ -1,7 +1,7 @@
-use Rattle.std.proofs.Common.{◌≡◌, ℕ, ◌<◌, ◌∷◌, [], List, Bool, true, false, cond, map, get_or, refl, ap, sym, ◌∙◌, subst, arith}
-use Rattle.std.proofs.lemmas.List.FromFn.{get_or-map-range_with_len}
+use Rattle.std.proofs.Common.{◌≡◌, ℕ, ◌∷◌, [], List, Bool, true, false, cond, map, refl, ap, sym, ◌∙◌, subst, arith}
 use Rattle.std.specs.Prelude.{◌==◌, ◌||◌}
 use Rattle.std.specs.List.{range_with_len}
+use Rattle.jzon_base.proofs.ByteTables.{table_at}
 use Rattle.jzon_tree.specs.Generator.{Sends, Just}
 use Rattle.jzon_tree.specs.declared.codegen.send.TheConstants.{LETTERS}
 use Rattle.jzon_tree.proofs.codegen.send.send_escape.Goals as goal
@@ -15,9 +15,6 @@ mark c = chosen (c == 34 || c == 92) (c == 8) (c == 9) (c == 10) (c == 12) (c ==
 
 table_is : LETTERS ≡ map mark (range_with_len 0 256)
 table_is = refl
-
-read : (b : ℕ) → b < 256 → get_or LETTERS b 0 ≡ mark b
-read b h = ap (λ t. get_or t b 0) table_is ∙ get_or-map-range_with_len mark 0 256 b b 0 h (omega arith)
 
 short : (q b t n f r : Bool) (c : ℕ) (others : List ℕ) → (chosen q b t n f r c ≡ 0 → ⊥)
     → cond q (92 ∷ c ∷ []) (cond b (92 ∷ 98 ∷ []) (cond t (92 ∷ 116 ∷ []) (cond n (92 ∷ 110 ∷ [])
@@ -33,7 +30,7 @@ short false false false false false false c others h = absurd (h refl)
 pub returns-then-letter-ne0 : goal.returns-then-letter-ne0
 returns-then-letter-ne0 g c =
     let b = c.args.byte in
-    let e = read b (omega arith) in
+    let e = table_at mark LETTERS table_is b (omega arith) in
     let s = short (b == 34 || b == 92) (b == 8) (b == 9) (b == 10) (b == 12) (b == 13) b _
     (λ none. c.if-letter-ne0.true (e ∙ none)) in
     subst (λ bs. Sends (Just bs) (g.W.Write.contents c.args.writer.now) (g.W.Write.contents c.send.new.writer)
