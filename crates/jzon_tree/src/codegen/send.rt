@@ -14,8 +14,14 @@ use jzon_base::util::{print_dec, write_bytes};
 use std::io;
 use std::io::{ErrorKind, Write};
 
-// What is sent at once.
-const BLANKS: [u8; 64] = [b' '; 64];
+// A newline and the spaces that are sent at once.
+#[rattlefmt::skip]
+const LINE: [u8; 64] = [
+    b'\n', b' ', b' ', b' ', b' ', b' ', b' ', b' ', b' ', b' ', b' ', b' ', b' ', b' ', b' ', b' ',
+    b' ', b' ', b' ', b' ', b' ', b' ', b' ', b' ', b' ', b' ', b' ', b' ', b' ', b' ', b' ', b' ',
+    b' ', b' ', b' ', b' ', b' ', b' ', b' ', b' ', b' ', b' ', b' ', b' ', b' ', b' ', b' ', b' ',
+    b' ', b' ', b' ', b' ', b' ', b' ', b' ', b' ', b' ', b' ', b' ', b' ', b' ', b' ', b' ', b' ',
+];
 
 /// Sends the bytes. Most writers take them all at once.
 #[inline(always)]
@@ -26,18 +32,11 @@ pub(crate) fn send<W: Write>(writer: &mut W, bytes: &[u8], fault: &mut Fault) ->
     if bytes.is_empty() {
         return Ok(());
     }
-    match writer.write(bytes) {
-        Ok(count) => {
-            if count < bytes.len() {
-                return send_rest(writer, bytes, count, fault);
-            }
-            Ok(())
-        }
-        Err(error) => {
-            *fault = Some(error);
-            Err(Stopped)
-        }
+    let count = lay_aside(writer.write(bytes), fault)?;
+    if count < bytes.len() {
+        return send_rest(writer, bytes, count, fault);
     }
+    Ok(())
 }
 
 // Sends the bytes behind those that the writer took.
@@ -121,15 +120,29 @@ pub(crate) fn send_string<W: Write>(
     send(writer, b"\"", fault)
 }
 
-/// Sends a newline and so many spaces.
+/// Sends a newline and so many spaces. Most lines begin with few, which go out with the newline.
+#[inline(always)]
 pub(crate) fn send_line<W: Write>(writer: &mut W, spaces: u128, fault: &mut Fault) -> Step<()>
     ensures { Sends (Just (10 ∷ replicate spaces 32)) (W.contents writer.old) (W.contents writer.new) result }
 {
-    send(writer, b"\n", fault)?;
+    let first = spaces.min(63);
+    send(writer, &LINE[..=first as usize], fault)?;
+    if first < spaces {
+        return send_spaces(writer, spaces - first, fault);
+    }
+    Ok(())
+}
+
+// Sends so many spaces.
+#[cold]
+#[inline(never)]
+fn send_spaces<W: Write>(writer: &mut W, spaces: u128, fault: &mut Fault) -> Step<()>
+    ensures { Sends (Just (replicate spaces 32)) (W.contents writer.old) (W.contents writer.new) result }
+{
     let mut left = spaces;
     while left > 0 {
-        let count = left.min(64);
-        send(writer, &BLANKS[..count as usize], fault)?;
+        let count = left.min(63);
+        send(writer, &LINE[1..=count as usize], fault)?;
         left -= count;
     }
     Ok(())

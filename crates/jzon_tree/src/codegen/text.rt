@@ -127,6 +127,7 @@ impl<O: Outlet, const LINES: bool> Generator for TextGenerator<O, LINES> {
         self.count(step)
     }
 
+    #[inline(always)]
     fn try_new_line(&mut self, fault: &mut Fault) -> Step<()> {
         if !LINES {
             return Ok(());

@@ -1,23 +1,23 @@
 use Rattle.std.proofs.Common.{arith}
 use Rattle.jzon_tree.proofs.Sent.{Sends-at_err}
-use Rattle.jzon_tree.proofs.SentSpaces.{take-replicate, newline_stopped, spaces_stopped, spaces_sent}
+use Rattle.jzon_tree.proofs.SentSpaces.{take-line, line_stopped, line_continued, line_whole}
 use Rattle.jzon_tree.proofs.codegen.send.send_line.Goals as goal
 
 pub returns-in_err-send : goal.returns-in_err-send
-returns-in_err-send g c = Sends-at_err _ _ _ _ c.from_residual.ensures.0
-    (newline_stopped c.args.spaces _ _ c.in_err-send.ensures)
+returns-in_err-send g c =
+    Sends-at_err _ _ _ _ c.from_residual.ensures.0
+    (line_stopped c.args.spaces c.min-first.result _
+    (take-line 63 c.min-first.result (omega (arith, c.min-first.ensures))) (omega (arith, c.min-first.ensures))
+    _ _ c.in_err-send.ensures)
 
-pub returns-in_err-send-2 : goal.returns-in_err-send-2
-returns-in_err-send-2 g c =
-    Sends-at_err _ _ _ _ c.from_residual-in_err-send-2.ensures.0
-    (spaces_stopped c.args.spaces c.loop-left.left c.min-count.result _
-    (take-replicate 64 c.min-count.result (omega (arith, c.min-count.ensures))) (omega (arith, c.min-count.ensures))
-    c.loop-left.invariant.0 _ _ _ c.loop-left.invariant.1 c.in_err-send-2.ensures)
+pub returns-then-first-spaces : goal.returns-then-first-spaces
+returns-then-first-spaces g c =
+    line_continued c.args.spaces c.min-first.result _
+    (take-line 63 c.min-first.result (omega (arith, c.min-first.ensures))) (omega (arith, c.min-first.ensures))
+    _ _ _ _ c.in_ok-send.ensures c.send_spaces.ensures
 
-pub loop-left-preserved : goal.loop-left-preserved
-loop-left-preserved g c = (
-  omega (arith, c.min-count.ensures),
-  spaces_sent c.args.spaces c.loop-left.left c.min-count.result _
-      (take-replicate 64 c.min-count.result (omega (arith, c.min-count.ensures))) (omega (arith, c.min-count.ensures))
-      c.loop-left.invariant.0 _ _ _ c.loop-left.invariant.1 c.in_ok-send-2.ensures,
-)
+pub returns : goal.returns
+returns g c =
+    line_whole c.args.spaces c.min-first.result _
+    (take-line 63 c.min-first.result (omega (arith, c.min-first.ensures))) (omega (arith, c.min-first.ensures))
+    _ _ (omega (arith, c.if-first-spaces.false)) c.in_ok-send.ensures
