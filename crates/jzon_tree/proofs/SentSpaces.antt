@@ -5,13 +5,10 @@ use Rattle.std.proofs.lemmas.List.{replicate-append-replicate}
 use Rattle.jzon_tree.specs.Generator.{Adds, Begins, Just, Sends}
 use Rattle.jzon_tree.proofs.Sent.{adds_then, adds_weaker, Begins-after, Begins-early, Sends-after}
 
-take-replicate : (n k : ℕ) → k ≤ n → take {A = ℕ} k (replicate n 32) ≡ replicate k 32
+pub take-replicate : (n k : ℕ) → k ≤ n → take {A = ℕ} k (replicate n 32) ≡ replicate k 32
 take-replicate n zero h = refl
 take-replicate zero (suc k) h = absurd (omega arith)
 take-replicate (suc n) (suc k) h = ap (λ (w : List ℕ). 32 ∷ w) (take-replicate n k (omega arith))
-
-pub take-spaces : (n k : ℕ) → k ≤ n → take {A = ℕ} (k + 1 - 1) (replicate n 32) ≡ replicate k 32
-take-spaces n k h = let e : k + 1 - 1 ≡ k = omega arith in rw e (take-replicate n k h)
 
 -- a newline and n spaces
 abbrev line : ℕ → List ℕ

@@ -14,7 +14,10 @@ use jzon_base::util::{print_dec, write_bytes};
 use std::io;
 use std::io::{ErrorKind, Write};
 
-// A newline and the spaces that are sent at once.
+// What is sent at once of spaces.
+const BLANKS: [u8; 512] = [b' '; 512];
+
+// What is sent at once of a newline and the spaces behind it.
 #[rattlefmt::skip]
 const LINE: [u8; 64] = [
     b'\n', b' ', b' ', b' ', b' ', b' ', b' ', b' ', b' ', b' ', b' ', b' ', b' ', b' ', b' ', b' ',
@@ -141,8 +144,8 @@ fn send_spaces<W: Write>(writer: &mut W, spaces: u128, fault: &mut Fault) -> Ste
 {
     let mut left = spaces;
     while left > 0 {
-        let count = left.min(63);
-        send(writer, &LINE[1..=count as usize], fault)?;
+        let count = left.min(512);
+        send(writer, &BLANKS[..count as usize], fault)?;
         left -= count;
     }
     Ok(())
