@@ -25,7 +25,7 @@ use table::Table;
 
 /// Distinct keys in the order in which they were put. A clause sees the list of their bytes.
 ///
-/// They lie in a box, and there is none where no key was put. How the place of a key is found is this type's own matter.
+/// They lie in a box, and there is none where neither a key was put nor room asked for. How the place of a key is found is this type's own matter.
 #[derive(Drop)]
 pub struct Keys {
     alloc: Global,
@@ -195,8 +195,8 @@ impl Keys {
     }
 }
 
-/// Makes the entries of equal keys one, with the last value in the place of the first, and tells whether there were any. The error is a refused growth, and then
-/// nothing has changed.
+/// Makes the entries of equal keys one, with the last value in the place of the first. `false` where no two keys have one hash: then nothing has changed. The error
+/// is a refused growth, and then nothing has changed.
 pub fn merge<V: Drop>(
     alloc: Global,
     keys: &mut Vec<Key>,

@@ -1,4 +1,4 @@
-//! What is changed of a value (docs/RULES.md, "Changers"). After a refused call the value is as it was, and a value that was handed in is dropped.
+//! What is changed of a value (docs/RULES.md, "Changers"). After a refused call the value means what it meant, and a value that was handed in is dropped.
 
 ghost use Rattle.std.specs.Prelude.{◌≡◌, ◌-◌, codes, true, string_bytes, option_map, slice_get, remove, IfOk, IfErr};
 ghost use Rattle.std.specs.Prelude.{OnOk, OnErr, IsOkUnless};

@@ -114,8 +114,8 @@ impl JsonValue {
     }
 
     /// The item of an array at an index, to be written. Past the end the array first gains one null, whatever the index, which is lent. A value that is no array
-    /// first becomes one of a null for index 0, and else of two, the last of which is lent. Refused by `OutOfMemory` alone, and then the value is as it was; an
-    /// index in range of an array takes no memory. A caller's proof that needs the write calls `lent::write_at_index` instead.
+    /// first becomes one of a null for index 0, and else of two, the last of which is lent. Refused by `OutOfMemory` alone, and then the value means what it
+    /// meant; an index in range of an array takes no memory. A caller's proof that needs the write calls `lent::write_at_index` instead.
     pub fn at_index_mut(&mut self, alloc: Global, index: usize) -> Result<&mut JsonValue>
         ensures* writes_back { sem 𝓛 (LendsSoOk the_row the_row self.entry result
             (λ n w. items_in n ≡ Some (slice_set (items_with_place self.old index) (place_made self.old index) w))

@@ -80,7 +80,7 @@ const UNESCAPED: &str = "\"é and a text of more than thirty bytes\\n\u{1d11e}\"
 const TEN_KEYS: &str =
     "{\"a\":0,\"b\":1,\"c\":2,\"d\":3,\"e\":4,\"f\":5,\"g\":6,\"h\":7,\"i\":8,\"j\":9}";
 
-/// The second object and the second array get room for as many items as the first ones had.
+/// The second object gets room for as many entries as the first one had.
 const ALIKE: &str = "[{\"a\":[1,2]},{\"a\":[3,4]}]";
 
 const KEYED: &str = "{\"0123456789abcdef0123456789abcdef01234567\":null}";
