@@ -197,7 +197,7 @@ impl Keys {
 
 /// Makes the entries of equal keys one, with the last value in the place of the first. `false` where no two keys have one hash: then nothing has changed. The error
 /// is a refused growth, and then nothing has changed.
-pub fn merge<V: Drop>(
+pub(crate) fn merge<V: Drop>(
     alloc: Global,
     keys: &mut Vec<Key>,
     values: &mut Vec<V>,
@@ -205,9 +205,10 @@ pub fn merge<V: Drop>(
     requires { length values.old.items ≡ length keys.old.items }
     ensures even { length values.new.items ≡ length keys.new.items }
     ensures same { put_each (zip keys.new.items values.new.items) ≡ put_each (zip keys.old.items values.old.items) }
-    ensures kept { IfOk result (λ merged. merged ≡ false → keys.new.items ≡ keys.old.items) }
-    ensures distinct { IfOk result (λ merged. merged ≡ true → IsDistinct bytes_eq keys.new.items) }
-    ensures err { OnErr result (keys.new.items ≡ keys.old.items) }
+    ensures kept { IfOk result (λ merged. merged ≡ false → (keys.new.items ≡ keys.old.items)
+        × (values.new.items ≡ values.old.items)) }
+    ensures distinct { IfOk result (λ _. IsDistinct bytes_eq keys.new.items) }
+    ensures err { OnErr result ((keys.new.items ≡ keys.old.items) × (values.new.items ≡ values.old.items)) }
 {
     let mut index = index::of(alloc, keys.as_slice())?;
     if !index::has_tie(index.as_slice()) {
