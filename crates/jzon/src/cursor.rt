@@ -1,12 +1,12 @@
 //! A text and the offset up to which it is read.
 
 ghost use Rattle.std.specs.Prelude.{◌≡◌, ◌≢◌, ◌⊎◌, ◌↔◌, IsTrue, ◌<◌, ◌≤◌, ◌+◌, ◌++◌, ◌∷◌, [], List, ℕ, length, chars};
-ghost use Rattle.std.specs.Prelude.{drop, true, false, slice_index, Err, IfOk, OnOk, if◌then◌else◌};
+ghost use Rattle.std.specs.Prelude.{drop, true, false, slice_index, Err, IfOk, if◌then◌else◌};
 ghost use Rattle.std.specs.Str.{IsCharBoundary, IsUtf8};
 ghost use Rattle.jzon_base.specs.PairList.{put};
 ghost use Rattle.jzon_tree.specs.Value.{Value, array, no_values, values_of, object, no_pairs, pairs_of};
 ghost use Rattle.jzon_tree.specs.Writing.{is_whitespace};
-ghost use Rattle.jzon.specs.Machine.{Entries, Frames, frames_depth, array_frame, object_frame, is_fresh, value_mark};
+ghost use Rattle.jzon.specs.Machine.{Entries, Frames, frames_depth, array_frame, object_frame, value_mark};
 ghost use Rattle.jzon.specs.Machine.{before, before_key, behind, stopped, Tells};
 ghost use Rattle.jzon_base.specs.Tokens.{begin_array, end_array, begin_object, end_object};
 

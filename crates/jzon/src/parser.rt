@@ -1,9 +1,9 @@
 //! Reads texts.
 
-ghost use Rattle.std.specs.Prelude.{◌≡◌, ◌≢◌, ◌&&◌, ℕ, List, [], ◌<◌, ◌≤◌, length, map, chars, true, IfOk, IfErr, OnOk};
+ghost use Rattle.std.specs.Prelude.{◌≡◌, ◌≢◌, ◌&&◌, [], ◌<◌, ◌≤◌, map, chars, true, IfOk, IfErr, OnOk};
 ghost use Rattle.std.specs.Prelude.{Err, None, IsOkUnless, vec_len};
 ghost use Rattle.std.specs.Option.{is_some};
-ghost use Rattle.jzon_base.specs.PairList.{find, put};
+ghost use Rattle.jzon_base.specs.PairList.{find};
 ghost use Rattle.jzon_tree.specs.Value.{Value};
 ghost use Rattle.jzon_tree.specs.View.{view};
 ghost use Rattle.jzon.specs.Answer.{IsMeaningOf, IsReadable, IsErrorUnlessMemory, TakesMemory};

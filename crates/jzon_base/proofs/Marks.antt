@@ -1,6 +1,6 @@
 -- Marks of keys in slots.
-use Rattle.std.proofs.Common.{◌≡◌, ◌≢◌, ◌∙◌, ℕ, zero, suc, ◌+◌, ◌<◌, ◌≤◌, ◌%◌, true, false, List, [], ◌∷◌, ◌++◌}
-use Rattle.std.proofs.Common.{length, set, get_or, bit_and, refl, sym, ap, subst, inl, inr, arith}
+use Rattle.std.proofs.Common.{◌≡◌, ◌≢◌, ◌∙◌, ℕ, zero, suc, ◌+◌, ◌<◌, ◌≤◌, true, false, List, [], ◌∷◌, ◌++◌}
+use Rattle.std.proofs.Common.{length, set, get_or, refl, sym, ap, inl, inr, arith}
 use Rattle.std.proofs.lemmas.Bool.{cases_eq, cases_lt, cases_Bool, eq-eqb, ne_eqb, false≢true}
 use Rattle.std.proofs.lemmas.List.{get_or-set_same, get_or-set_other, get_or_past, get_or_append_left, get_or_default}
 use Rattle.std.proofs.lemmas.List.{length_push}
@@ -8,8 +8,7 @@ use Rattle.std.proofs.lemmas.List.Folds.{list_any_none}
 use Rattle.std.proofs.lemmas.Slice.Eq.{bytes_eq-Decides}
 use Rattle.std.specs.List.{list_any}
 use Rattle.std.specs.Str.{bytes_eq}
-use Rattle.jzon_base.specs.Hash.{hash_of}
-use Rattle.jzon_base.specs.Marks.{is_marked, mark_of, may_be, may_have, AreMarked, StayMarked}
+use Rattle.jzon_base.specs.Marks.{is_marked, may_have, AreMarked}
 
 module _ (ss : List ℕ) (m i n : ℕ) where
   pub marked_empty : get_or ss i 1 ≡ 0 → is_marked ss m i (suc n) ≡ false
@@ -87,17 +86,6 @@ empty_within ss i e = elim (cases_lt i (length ss)) [
 
 pub AreMarked-none : (ks : List (List ℕ)) (ss : List ℕ) (mask n : ℕ) → n ≡ 0 → AreMarked ks ss mask n
 AreMarked-none ks ss mask n none = record { within = omega arith; marked = λ i l. absurd (omega arith) }
-
-pub AreMarked-more : (ks : List (List ℕ)) (ss ts : List ℕ) (mask n h : ℕ) → AreMarked ks ss mask n → n < length ks
-    → StayMarked ss ts → h ≡ hash_of (get_or ks n []) → may_be ts mask h ≡ true → AreMarked ks ts mask (n + 1)
-AreMarked-more ks ss ts mask n h known within stay own new = record {
-  within = omega arith;
-  marked = λ i l. elim (cases_eq i n) [
-    | inl e ↦ subst (λ (x : ℕ). may_be ts mask x ≡ true) (own ∙ ap (λ (j : ℕ). hash_of (get_or ks j [])) (sym e)) new
-    | inr ne ↦ stay (mark_of (hash_of (get_or ks i []))) (bit_and (hash_of (get_or ks i []) % 0x1_0000_0000) mask)
-        (known.marked i (omega arith))
-  ];
-}
 
 pub AreMarked-push : (ks : List (List ℕ)) (k : List ℕ) (ss : List ℕ) (mask n : ℕ) → AreMarked ks ss mask n
     → AreMarked (ks ++ k ∷ []) ss mask n

@@ -184,19 +184,6 @@ module _ {V : Type 0} (ks0 : List (List ℕ)) (vs0 : List V) (fs0 : List ℕ) wh
         ≡ Some (get_or fs j 0)
     pub later : (j : ℕ) → at ≤ j → get_or fs j 0 ≡ get_or fs0 j 0
 
-  pub IsMerged-none : IsMerged ks0 vs0 fs0 0 0
-  IsMerged-none = record {
-    keys_even = refl;
-    values_even = refl;
-    places_even = refl;
-    behind = omega arith;
-    keys_left = refl;
-    values_left = refl;
-    merged = refl;
-    slots = λ j l. absurd (omega arith);
-    later = λ j l. refl;
-  }
-
   module _ (even : length vs0 ≡ length ks0) (firsts : AreFirsts ks0 fs0) (ks : List (List ℕ)) (vs : List V)
       (fs : List ℕ) (kept at : ℕ) (m : IsMerged ks vs fs kept at) (l : at < length ks0) where
     abbrev key : List ℕ

@@ -1,7 +1,6 @@
 -- What the place of a key says of a list of pairs.
 use Rattle.std.proofs.Common.{◌≡◌, ℕ, zero, suc, ◌<◌, Bool, true, false, List, [], ◌∷◌, ◌++◌, length, get_or, set, None}
 use Rattle.std.proofs.Common.{Some, IsSome, refl, sym, ap, ◌∙◌, arith}
-use Rattle.std.proofs.Math.ListN.{length-map}
 use Rattle.std.proofs.lemmas.Slice.Eq.{bytes_eq-Decides}
 use Rattle.std.proofs.lemmas.List.Quantifiers.{position-Some}
 use Rattle.std.proofs.lemmas.Option.{slice_get-map}
@@ -144,9 +143,6 @@ module _ {V : Type 0} (k : List ℕ) (ps : List (List ℕ × V)) where
 
   pub default_placed : (i : ℕ) (v : V) → position (λ x. bytes_eq x k) (keys_of ps) ≡ Some i → with_default k v ps ≡ ps
   default_placed i v e = default-at k ps i v (placed k (keys_of ps) i e)
-
-  pub placed_within : (i : ℕ) → position (λ x. bytes_eq x k) (keys_of ps) ≡ Some i → i < length ps
-  placed_within i e = omega (arith, (placed k (keys_of ps) i e).within, length-map ps (λ p. p.0))
 
   pub find_missing : position (λ x. bytes_eq x k) (keys_of ps) ≡ None → find k ps ≡ None
   find_missing e = find-absent k ps (absent k (keys_of ps) e)

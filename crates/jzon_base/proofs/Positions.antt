@@ -1,10 +1,9 @@
 -- The first place in a list where a test passes.
-use Rattle.std.proofs.Common.{◌≡◌, ℕ, ◌<◌, Bool, true, false, cond, nat_lt, List, [], ◌∷◌, length, map, get_or, Option}
-use Rattle.std.proofs.Common.{Some, None, refl, arith}
-use Rattle.std.proofs.Math.ListN.{length-map}
+use Rattle.std.proofs.Common.{◌≡◌, ℕ, ◌<◌, Bool, true, false, cond, nat_lt, List, length, get_or, Option}
+use Rattle.std.proofs.Common.{Some, None, arith}
 use Rattle.std.proofs.lemmas.Bool.Decides.{nat_tests}
 use Rattle.std.proofs.lemmas.List.Sums.{position_or_len_is, fails_before_first}
-use Rattle.std.specs.List.{position, position_or_len, AllByRecursion}
+use Rattle.std.specs.List.{position, position_or_len}
 
 within : (p n i : ℕ) → p ≡ i → i < n → ◌≡◌ {A = Option ℕ} (cond (nat_lt p n) (Some p) None) (Some i)
 within p n i e h = grind (arith, nat_tests)
@@ -29,14 +28,3 @@ pub position-None-before : {X : Type 0} (test : X → Bool) (xs : List X) (j : �
     → j < length xs → test (get_or xs j d) ≡ false
 position-None-before test xs j d e l = fails_before_first test xs j d
     (past-none (position_or_len test xs) (length xs) j e l)
-
--- where another test of f of each element answers the same
-module _ {X Y : Type 0} (test : X → Bool) (other : Y → Bool) (f : X → Y) where
-  position_or_len-map : (xs : List X) → AllByRecursion (λ x. test x ≡ other (f x)) xs
-      → position_or_len test xs ≡ position_or_len other (map f xs)
-  position_or_len-map [] a = refl
-  position_or_len-map (x ∷ xs) a = rw (a.0, position_or_len-map xs a.1)
-
-  pub position-map : (xs : List X) → AllByRecursion (λ x. test x ≡ other (f x)) xs
-      → position test xs ≡ position other (map f xs)
-  position-map xs a = rw (position_or_len-map xs a, ← length-map xs f)

@@ -58,10 +58,6 @@ module _ {V : Type 0} where
   zip-remove (k ∷ ks) (v ∷ vs) zero e = refl
   zip-remove (k ∷ ks) (v ∷ vs) (suc i) e = ap (λ r. (k, v) ∷ r) (zip-remove ks vs i (omega arith))
 
-  pub zip-parts : (ps : List (List ℕ × V)) → zip (keys_of ps) (values_of ps) ≡ ps
-  zip-parts [] = refl
-  zip-parts (p ∷ ps) = ap (λ r. p ∷ r) (zip-parts ps)
-
   -- keys and as many values, beside the pairs that they are seen as
   pub record AreParts (ks : List (List ℕ)) (vs : List V) (ps : List (List ℕ × V)) : Type 0 where
     pub keys : ks ≡ keys_of ps

@@ -9,8 +9,4 @@ use Rattle.jzon.specs.View.{viewed}
 use Rattle.jzon.specs.JsonValue.{JsonValue}
 use Rattle.jzon.proofs.ValueLaws.{entries-with_entry, is_object-with_entry, entries-other}
 
--- all of these pairs put onto others
-abbrev pub onto : List (List ℕ × Value) → List (List ℕ × Value) → List (List ℕ × Value)
-onto qs ps = fold (λ xs p. put p.0 p.1 xs) qs ps
-
 pub ruleset layers = (entries-with_entry, is_object-with_entry, entries-other)

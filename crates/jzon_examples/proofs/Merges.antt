@@ -16,14 +16,6 @@ pub same_pairs : (o p : Object) → view_object o ≡ view_object p → viewed (
 same_pairs o p e =
     sym (list_of_pairs-pairs_of (viewed (entries_of o))) ∙ ap entries e ∙ list_of_pairs-pairs_of (viewed (entries_of p))
 
-pub patched-other : (t v : Value) → is_object v ≡ false → v ≡ patched t v
-patched-other t null h = refl
-patched-other t (boolean b) h = refl
-patched-other t (text k s) h = refl
-patched-other t (number n) h = refl
-patched-other t (array vs) h = refl
-patched-other t (object ps) h = absurd (cc)
-
 -- what is found among the pairs as they are seen
 pub found-viewed : (k : List ℕ) (ps : List (List ℕ × JsonValue)) → find k (viewed ps) ≡ option_map view (find k ps)
 found-viewed k ps = sym (find-viewed k ps)

@@ -8,7 +8,7 @@ ghost use Rattle.jzon.specs.Reading.{usual};
 ghost use Rattle.jzon.specs.Readers.{entries, is_object};
 ghost use Rattle.jzon.specs.View.{view};
 
-use jzon::{Error, JsonValue, Result};
+use jzon::{JsonValue, Result};
 use std::alloc::Global;
 
 /// The members of both: a name that `later` has stands for what it has there. A value that is no object has no members.

@@ -33,3 +33,11 @@ pub fn expect_dump(rt: &impl Abort, alloc: Global, value: &JsonValue, text: &str
 pub fn expect_read(rt: &impl Abort, alloc: Global, text: &str, dump: &str) -> Tested {
     expect_dump(rt, alloc, &parse(alloc, text)?, dump)
 }
+
+/// Whether it is there, with this key and this number.
+pub fn is_pair(pair: Option<(&str, &JsonValue)>, key: &str, number: u64) -> bool {
+    match pair {
+        Some((name, value)) => name == key && value.eq_u64(number),
+        None => false,
+    }
+}

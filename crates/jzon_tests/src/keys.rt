@@ -3,18 +3,10 @@
 use crate::common::Tested;
 use jzon::object::Object;
 use jzon::{JsonValue, parse};
+use jzon_base::keys::hash::hash_of;
 use std::alloc::Global;
 use std::process::Abort;
 use std::test::Fail;
-
-// The hash over which keys are found: FNV-1a of 64 bits.
-fn hash_of(key: &str) -> u64 {
-    let mut hash = 0xcbf2_9ce4_8422_2325u64;
-    for byte in key.as_bytes() {
-        hash = (hash ^ u64::from(*byte)).wrapping_mul(0x100_0000_01b3);
-    }
-    hash
-}
 
 // So many keys, in ascending order of their hashes.
 fn keys_by_hash(alloc: Global, count: u32) -> Result<Vec<String>, Fail> {

@@ -1,6 +1,6 @@
 //! Objects.
 
-use crate::common::{Tested, expect_dump, number, parts};
+use crate::common::{Tested, expect_dump, is_pair, number, parts};
 use jzon::object::{Iter, IterMut, Object};
 use jzon::{JsonValue, Result, parse};
 use std::alloc::Global;
@@ -107,14 +107,6 @@ fn lends_its_values(rt: HostRuntime) -> Tested {
         &object,
         "{\"a\":true,\"b\":true,\"c\":true}",
     )
-}
-
-// Whether it is there, with this key and this number.
-fn is_pair(pair: Option<(&str, &JsonValue)>, key: &str, number: u64) -> bool {
-    match pair {
-        Some((name, value)) => name == key && value.eq_u64(number),
-        None => false,
-    }
 }
 
 #[test]

@@ -1,10 +1,9 @@
 //! What is read of a value.
 
-use crate::common::{Tested, long, number};
+use crate::common::{Tested, is_pair, long, number};
 use jzon::number::NAN;
 use jzon::object::Object;
 use jzon::{JsonValue, parse};
-use std::alloc::Global;
 use std::process::Abort;
 
 // What the readers of kind, emptiness and length tell: null, boolean, number, string, object, array; empty; the length.
@@ -96,14 +95,6 @@ fn reads_texts_numbers_and_truth(rt: HostRuntime) -> Tested {
 fn is_number(value: Option<&JsonValue>, number: u64) -> bool {
     match value {
         Some(value) => value.eq_u64(number),
-        None => false,
-    }
-}
-
-// Whether it is there, with this key and this number.
-fn is_pair(pair: Option<(&str, &JsonValue)>, key: &str, number: u64) -> bool {
-    match pair {
-        Some((name, value)) => name == key && value.eq_u64(number),
         None => false,
     }
 }

@@ -1,7 +1,7 @@
 //! Texts of every kind, hostile ones too.
 
-use crate::common::{Tested, expect_dump, expect_read};
-use jzon::{JsonValue, parse};
+use crate::common::{Tested, expect_read};
+use jzon::parse;
 use std::alloc::Global;
 use std::process::Abort;
 use std::test::Fail;

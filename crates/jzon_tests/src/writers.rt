@@ -3,10 +3,7 @@
 ghost use Rattle.std.specs.Prelude.{Some};
 
 use crate::common::Tested;
-use jzon::codegen::{
-    DumpGenerator, Generator, PrettyGenerator, PrettyWriterGenerator, WriterGenerator, write_json,
-};
-use jzon::object::Object;
+use jzon::codegen::{PrettyWriterGenerator, WriterGenerator, write_json};
 use jzon::{JsonValue, parse};
 use std::alloc::Global;
 use std::io;
@@ -152,19 +149,4 @@ fn writes_whole_texts(rt: HostRuntime) -> Tested {
         assert_eq!(rt; writer.bytes.as_slice(), how.text().as_bytes());
     }
     Ok(())
-}
-
-// It leaves the pairs in the order in which they were put.
-fn has_no_order<G: Generator>(generator: &mut G, object: &Object) -> bool {
-    matches!(generator.order(object), Ok(None))
-}
-
-#[test]
-fn the_four_generators_have_no_order(rt: HostRuntime) {
-    let object = Object::new(rt.alloc());
-    let mut bytes = Vec::new(rt.alloc());
-    assert!(rt; has_no_order(&mut DumpGenerator::new(rt.alloc()), &object));
-    assert!(rt; has_no_order(&mut PrettyGenerator::new(rt.alloc(), 2), &object));
-    assert!(rt; has_no_order(&mut WriterGenerator::new(&mut bytes), &object));
-    assert!(rt; has_no_order(&mut PrettyWriterGenerator::new(&mut bytes, 2), &object));
 }

@@ -1,6 +1,6 @@
 -- The parts of a container, and what is left of it after a change, as they are seen.
-use Rattle.std.proofs.Common.{◌≡◌, ℕ, List, [], ◌∷◌, ◌++◌, map, length, zero, suc, ◌≤◌, ◌==◌, Bool, ◌||◌, remove}
-use Rattle.std.proofs.Common.{slice_get, arith, unwrap_or, Option, Some, None, option_map, Vec, Global, Bor, refl, sym}
+use Rattle.std.proofs.Common.{◌≡◌, ℕ, List, [], ◌∷◌, ◌++◌, map, length, ◌==◌, Bool, ◌||◌, remove}
+use Rattle.std.proofs.Common.{slice_get, unwrap_or, Option, Some, None, option_map, Vec, Global, Bor, refl, sym}
 use Rattle.std.proofs.Common.{ap, ◌∙◌}
 use Rattle.std.specs.List.{list_any}
 use Rattle.std.proofs.lemmas.List.{length-map}
@@ -66,11 +66,6 @@ item_lent vs i (Some x) h =
     ∙ ap (λ (v : JsonValue). Some v) (sym h.1)))
 
 -- ---- what is taken out of a list
-pub remove-past : {A : Type 0} (xs : List A) (i : ℕ) → length xs ≤ i → remove xs i ≡ xs
-remove-past [] zero h = refl
-remove-past [] (suc i) h = refl
-remove-past (x ∷ xs) zero h = absurd (omega arith)
-remove-past {A} (x ∷ xs) (suc i) h = ap (λ (ys : List A). x ∷ ys) (remove-past xs i (omega arith))
 
 pub view-unwrap_or : (o : Option JsonValue) → view (unwrap_or o Null) ≡ or_null (option_map view o)
 view-unwrap_or None = view-Null

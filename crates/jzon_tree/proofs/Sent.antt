@@ -67,10 +67,4 @@ pub Begins-early : (P R : List ℕ → Type 0) (a b : Option (List ℕ)) (z : Li
 Begins-early P R a b z more = adds_weaker (Begins P) (Begins R) a b
     (λ x (y, p). (y ++ z, rw (sym (append_assoc x y z)) (more (x ++ y) p)))
 
--- the same, where z is not the same after all
-pub Begins-within : (P R : List ℕ → Type 0) (a b : Option (List ℕ)) → ((x : List ℕ) → P x → Begins R x)
-    → Adds (Begins P) a b → Adds (Begins R) a b
-Begins-within P R a b more = adds_weaker (Begins P) (Begins R) a b
-    (λ x (y, p). (y ++ (more (x ++ y) p).0, rw (sym (append_assoc x y (more (x ++ y) p).0)) (more (x ++ y) p).1))
-
 pub ruleset sent = (Sends-appended)

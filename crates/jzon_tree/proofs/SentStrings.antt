@@ -40,19 +40,9 @@ module _ (prefix text bs run rest : List ℕ) (n c : ℕ) (p : run ≡ take n bs
       ∙ rw (sym p, q) refl in
       rw (j, append_assoc x run (escaped_byte c ++ escaped rest), sym all) k
 
-  run_closed : (x : List ℕ) → after_run x → Just (whole prefix text)
-      (x ++ ((escaped_byte c ++ escaped rest) ++ 34 ∷ []))
-  unfolding after_run
-  run_closed x k = sym (append_assoc x (escaped_byte c ++ escaped rest) (34 ∷ [])) ∙ ap (λ (w : List ℕ). w ++ 34 ∷ []) k
-      ∙ append_assoc prefix (escaped text) (34 ∷ [])
-
   escape_joins : (x y : List ℕ) → after_run x → Just (escaped_byte c) y → Left prefix text rest (x ++ y)
   unfolding after_run
   escape_joins x y k j = rw (j, append_assoc x (escaped_byte c) (escaped rest)) k
-
-  pub run_stopped : (d : Option (List ℕ)) → Adds (Begins (Just run)) b d → Adds (Begins (Just (whole prefix text))) a d
-  run_stopped d k = Begins-early after_run (Just (whole prefix text)) a d _ run_closed
-      (Begins-after (Left prefix text bs) (Just run) after_run a b d run_joins h k)
 
   module _ (d : Option (List ℕ)) (k : Adds (Just run) b d) where
     ran : Adds after_run a d

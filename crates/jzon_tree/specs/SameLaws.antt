@@ -40,10 +40,6 @@ at-head k v ps = rw ((bytes_eq-Decides k k).1 refl) refl
 at-past : (l k : List ℕ) (w : Value) (ps : Pairs) → bytes_eq l k ≡ false → at k (pair l w ps) ≡ at k ps
 at-past l k w ps e = rw e refl
 
-has : (o : Option Value) → is_some o ≡ true → (v : Value) × (o ≡ Some v)
-has None h = absurd (false≢true h)
-has (Some v) h = (v, refl)
-
 -- ---- `has_keys_within`, by look-ups
 abbrev KeysWithin : Pairs → Pairs → Type 0
 KeysWithin ps qs = (k : List ℕ) (v : Value) → at k ps ≡ Some v → is_some (at k qs) ≡ true

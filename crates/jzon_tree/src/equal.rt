@@ -1,4 +1,5 @@
-//! Equality of values and of objects: what they mean is compared, so that the order of an object's keys, how a text is kept and how a decimal is written don't count.
+//! Equality of values and of objects: what they mean is compared, so that the order of an object's keys, how a text is kept and how a decimal is written don't
+//! count.
 
 ghost use Rattle.std.specs.Prelude.{◌≡◌, option_map};
 ghost use Rattle.std.specs.Cmp.{on_equiv, on_per, partial_equiv_from_equiv};

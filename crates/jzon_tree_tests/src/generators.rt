@@ -7,74 +7,15 @@ ghost use Rattle.jzon_tree.specs.Generator.{insertion};
 ghost use Rattle.jzon_tree.specs.StyleLaws.{IsStyle-any};
 ghost use Rattle.jzon_tree.specs.Writing.{any_style, IsOrder};
 
-use crate::common::{Tested, expect_bytes, numbers};
+use crate::common::{Tested, expect_bytes};
 use jzon_refusals::{MOST, Refusals};
 use jzon_tree::codegen::{
-    DumpGenerator, Generator, PrettyGenerator, PrettyWriterGenerator, WriterGenerator, write_json,
-    write_object,
+    DumpGenerator, Generator, PrettyGenerator, PrettyWriterGenerator, WriterGenerator, write_object,
 };
 use jzon_tree::object::Object;
 use jzon_tree::value::JsonValue;
 use std::alloc::{AllocError, Global};
 use std::io;
-
-/// A user's generator: its whitespace is vertical tabs.
-#[derive(Drop)]
-struct TabGenerator {
-    code: Vec<u8>,
-    dent: u64,
-    faults: u64,
-}
-
-impl Generator for TabGenerator {
-    type T = Vec<u8>;
-
-    ghost meaning = { λ g. record {
-      out = Some g.code.items;
-      dent = g.dent;
-      faults = g.faults;
-      style = any_style;
-      lender = None;
-    } };
-
-    ghost with_writer = { λ g code. record g { code = code } };
-
-    fn get_writer(&mut self) -> &mut Vec<u8> {
-        &mut self.code
-    }
-
-    fn write_min(&mut self, _slice: &[u8], min: u8) -> io::Result<()> {
-        self.write_char(min)
-    }
-
-    fn faults(&self) -> u64 {
-        self.faults
-    }
-
-    fn dent(&self) -> u64 {
-        self.dent
-    }
-
-    fn note_fault(&mut self) {
-        self.faults = self.faults.saturating_add(1);
-    }
-
-    fn set_dent(&mut self, dent: u64) {
-        self.dent = dent;
-    }
-
-    fn new_line(&mut self) -> io::Result<()> {
-        self.write_char(11)
-    }
-
-    fn order(&mut self, _object: &Object) -> io::Result<Option<Vec<usize>>> {
-        Ok(None)
-    }
-
-    ghost writer_law = { λ _ _. refl };
-
-    ghost style_law = { λ _. IsStyle-any };
-}
 
 /// A user's generator: the pairs of each object stand in the order of their keys.
 #[derive(Drop)]
@@ -213,19 +154,6 @@ fn sorting_under_refusals(rt: HostRuntime) -> Tested {
         assert!(rt; SORTED.as_bytes().starts_with(&generator.code));
     }
     refusals.tell(&rt, "SortingGenerator", 2)?;
-    Ok(())
-}
-
-#[test]
-fn writes_tabs(rt: HostRuntime) -> Tested {
-    let mut generator = TabGenerator {
-        code: Vec::new(rt.alloc()),
-        dent: 0,
-        faults: 0,
-    };
-    write_json(&mut generator, &numbers(rt.alloc(), &[1, 2])?)?;
-    expect_bytes(&rt, &generator.code, "[\x0b1,\x0b2\x0b]");
-    assert_eq!(rt; generator.dent, 0);
     Ok(())
 }
 

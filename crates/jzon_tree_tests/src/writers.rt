@@ -58,16 +58,6 @@ fn is_broken(answer: io::Result<()>) -> bool {
 }
 
 #[test]
-fn stops_at_a_fault_and_hands_it_back(rt: HostRuntime) -> Tested {
-    let value = numbers(rt.alloc(), &[1, 2, 3])?;
-    let mut writer = FaultyWriter::new(rt.alloc(), 4);
-    assert!(rt; is_broken(value.write(&mut writer)));
-    expect_bytes(&rt, &writer.bytes, "[1,");
-    assert_eq!(rt; writer.calls, 4);
-    Ok(())
-}
-
-#[test]
 fn hands_the_fault_of_an_object_back(rt: HostRuntime) -> Tested {
     let mut object = Object::new(rt.alloc());
     object.insert(rt.alloc(), "a", JsonValue::Null)?;

@@ -107,8 +107,8 @@ const CHUNK: usize = 65536;
 /// How many bytes of the printed text are held before they are written.
 const HELD: usize = 65536;
 
-/// Reads one document by the reading, and writes it in the layout and a newline. The reader is read to its end before anything is written, and each fault of it ends the
-/// run.
+/// Reads one document by the reading, and writes it in the layout and a newline. The reader is read to its end before anything is written, and each fault of it
+/// ends the run.
 pub fn run<R: Read, W: Write>(
     alloc: Global,
     reader: &mut R,

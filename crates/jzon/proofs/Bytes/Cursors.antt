@@ -64,14 +64,6 @@ pub fails_on : {A : Type 0} (t m u : Cursor) (o p : Place) (result : Result A Er
     → TellsUnlessMemory (chars m.source.now) e (left m p) → GoesOn t o result u next
 fails_on t m u o p result next e is h k = subst (λ z. GoesOn t o z u next) (sym is) (told_on t m o p e h k)
 
--- the result of what is left is that of a whole text
-pub reads_on : (t m : Cursor) (o p : Place) (result : Result JsonValue Error) → Reached t o m p
-    → Reads (chars m.source.now) result (left m p)
-    → Reads (chars t.source.now) result (left t o)
-reads_on t m o p result h k =
-    subst (λ z. Reads (chars t.source.now) result z) (sym h.same)
-    (subst (λ bs. Reads (chars bs) result (left m p)) h.text k)
-
 pub reads_from : (bytes : List ℕ) (o : Outcome) (m : Cursor) (p : Place) (result : Result JsonValue Error)
     → m.source.now ≡ bytes → o ≡ left m p
     → Reads (chars m.source.now) result (left m p) → Reads (chars bytes) result o

@@ -34,12 +34,6 @@ pub told_deep : (t rest : List ℕ) (o : Outcome) → o ≡ refused (limit deep)
     → TellsUnlessMemory t ExceededDepthLimit o
 told_deep t rest o q = told t ExceededDepthLimit o (refused (limit deep) rest) q refl
 
--- a refusal that a function hands on
-pub told_err : {T : Type 0} (Q : T → Type 0) (t : List ℕ) (result : Result T Error) (e : Error) (o : Outcome)
-    → result ≡ Err e → TellsUnlessMemory t e o
-    → MatchResult result Q (λ x. TellsUnlessMemory t x o)
-told_err Q t result e o q h = subst (λ r. MatchResult r Q (λ x. TellsUnlessMemory t x o)) (sym q) h
-
 -- ---- whole results
 
 -- a text that can't go on is refused
@@ -88,9 +82,6 @@ pub never_memory : {T : Type 0} (P : T → Type 0) (t : List ℕ) (o : Outcome) 
 never_memory P t o (Ok v) h e = cc
 never_memory P t o (Err x) h e = let same : x ≡ OutOfMemory = cc in tells_no_memory t o
     (subst (λ z. Tells t z o) same h)
-
-pub fault_no_memory : (t : List ℕ) (o : Outcome) (e : Error) → Tells t e o → e ≢ OutOfMemory
-fault_no_memory t o e h same = tells_no_memory t o (subst (λ z. Tells t z o) same h)
 
 -- an ASCII byte of a text is one of its characters
 pub has_character : (bs : List ℕ) (i b : ℕ) → IsUtf8 bs → i < length bs → get_or bs i 0 ≡ b → b < 128

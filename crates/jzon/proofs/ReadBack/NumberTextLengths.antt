@@ -17,12 +17,6 @@ length-if false xs ys n p q = q refl
 le_of_test : (a b : ℕ) → nat_le a b ≡ true → a ≤ b
 le_of_test a b h = grind (arith, nat_tests)
 
-lt_of_test : (a b : ℕ) → nat_lt a b ≡ true → a < b
-lt_of_test a b h = grind (arith, nat_tests)
-
-not_le : (a b : ℕ) → nat_le a b ≡ false → b < a
-not_le a b h = grind (arith, nat_tests)
-
 not_lt : (a b : ℕ) → nat_lt a b ≡ false → b ≤ a
 not_lt a b h = grind (arith, nat_tests)
 

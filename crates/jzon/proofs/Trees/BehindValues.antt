@@ -4,7 +4,7 @@ use Rattle.jzon.specs.Reading.{Reading}
 use Rattle.jzon.specs.Grammar.{Node, no_elements, element, no_members, member, Document}
 use Rattle.jzon.specs.Spelling.{Breach, Cell, cell, plain, onto, items_cells, duplicate_if, node_cells}
 use Rattle.jzon.specs.Meaning.{bytes_of}
-use Rattle.jzon.proofs.Trees.TreeMachine.{Class, whitespace, digits, point, letter_e, closes_array, closes_object}
+use Rattle.jzon.proofs.Trees.TreeMachine.{Class, whitespace, closes_array, closes_object}
 use Rattle.jzon.proofs.Trees.TreeMachine.{comma, class_of}
 use Rattle.jzon.proofs.Trees.TreeMachine.{Context, top, in_array, in_object, depth_of, seen_of, key_of, step_behind}
 use Rattle.jzon.proofs.Trees.Completion.{Outer, Behind, Steps}
@@ -85,25 +85,6 @@ forward_behind r k b n z c m q d ([], p, w_ok, e, h) =
 forward_behind r k b n z c m q d (x ∷ w, p, (x_ok, w_ok), e, h) =
     at_cell (λ x y v. Steps r (step_behind (class_of r.strict x) k b n z x) y v d) c x m None q (plain w p) e
     (rw (whitespace-class r x x_ok) (refl, (w, p, w_ok, refl, h)))
-
--- no digit, point or letter of an exponent stands behind a value
-pub no_digit_behind : (r : Reading) (k : Context) (b : List ℕ) (n : Node) (z : List ℕ) (c : ℕ) (m : Option Breach)
-    (q : List Cell) (d : Document)
-    → class_of r.strict c ≡ digits → Behind r k b n z (cell c m ∷ q) d → ⊥
-no_digit_behind r k b n z c m q d e h = subst (λ s. Steps r (step_behind s k b n z c) m q d) e
-    (forward_behind r k b n z c m q d h)
-
-pub no_point_behind : (r : Reading) (k : Context) (b : List ℕ) (n : Node) (z : List ℕ) (c : ℕ) (m : Option Breach)
-    (q : List Cell) (d : Document)
-    → class_of r.strict c ≡ point → Behind r k b n z (cell c m ∷ q) d → ⊥
-no_point_behind r k b n z c m q d e h = subst (λ s. Steps r (step_behind s k b n z c) m q d) e
-    (forward_behind r k b n z c m q d h)
-
-pub no_letter_behind : (r : Reading) (k : Context) (b : List ℕ) (n : Node) (z : List ℕ) (c : ℕ) (m : Option Breach)
-    (q : List Cell) (d : Document)
-    → class_of r.strict c ≡ letter_e → Behind r k b n z (cell c m ∷ q) d → ⊥
-no_letter_behind r k b n z c m q d e h = subst (λ s. Steps r (step_behind s k b n z c) m q d) e
-    (forward_behind r k b n z c m q d h)
 
 -- ---- backward
 

@@ -1,7 +1,7 @@
 -- The characters of each class, and equal cells.
 use Rattle.std.proofs.lemmas.Bool.Decides.{nat_tests}
-use Rattle.std.proofs.Common.{◌≡◌, ℕ, List, [], ◌∷◌, Bool, true, false, cond, ◌==◌, Option, None, arith, eqb-true, refl}
-use Rattle.std.proofs.Common.{sym, subst, ap}
+use Rattle.std.proofs.Common.{◌≡◌, ℕ, List, [], ◌∷◌, Bool, true, false, cond, ◌==◌, Option, arith, eqb-true, refl}
+use Rattle.std.proofs.Common.{sym, subst}
 use Rattle.std.specs.Prelude.{IsTrue, ⊤}
 use Rattle.std.specs.Char.{is_ascii_digit}
 use Rattle.jzon_tree.specs.Writing.{is_whitespace}
@@ -229,7 +229,3 @@ no_cells x q e = cc
 -- a cell put before the others
 pub prefix : (c x : ℕ) (m v : Option Breach) (q p : List Cell) → c ≡ x → m ≡ v → q ≡ p → cell c m ∷ q ≡ cell x v ∷ p
 prefix c x m v q p e f g = rw (e, f, g) refl
-
--- the same character without a breach put before the others
-pub push : (c : ℕ) (q p : List Cell) → q ≡ p → cell c None ∷ q ≡ cell c None ∷ p
-push c q p e = ap (λ z. cell c None ∷ z) e

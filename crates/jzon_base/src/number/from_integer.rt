@@ -1,7 +1,7 @@
 //! Integers as numbers.
 
 ghost use Rattle.std.specs.Prelude.{◌≡◌, pos, true};
-ghost use Rattle.jzon_base.specs.Decimal.{integer_parts, parts, same};
+ghost use Rattle.jzon_base.specs.Decimal.{integer_parts, same};
 
 use super::Number;
 

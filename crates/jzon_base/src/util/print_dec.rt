@@ -1,6 +1,6 @@
 //! The text of a number (docs/RULES.md, "Printed numbers"; RFC 8259, section 6).
 
-ghost use Rattle.std.specs.Prelude.{◌≡◌, negsuc, ◌+◌, ◌-◌, ◌≤◌, ◌<◌, ◌++◌, length, drop, replicate, string_bytes};
+ghost use Rattle.std.specs.Prelude.{◌≡◌, negsuc, ◌+◌, ◌-◌, ◌≤◌, ◌<◌, ◌++◌, length, drop, replicate};
 ghost use Rattle.std.specs.Prelude.{IsAscii, IfSome, OnOk, OnErr};
 ghost use Rattle.std.specs.Io.KnownBytes.{Appends};
 ghost use Rattle.arrayvec.specs.ArrayString.{array_string_len};

@@ -9,7 +9,7 @@ use Rattle.jzon.specs.Cursor.{left, IsBehind}
 use Rattle.jzon.specs.Frames.{IsReady, place_of, stack_view}
 use Rattle.jzon.specs.Machine.{Frames, array_frame, frames_depth, before, behind}
 use Rattle.jzon.specs.declared.cursor.Cursor.{Cursor}
-use Rattle.jzon.specs.declared.frames.Begun.TheVariants.{Array as begun_array, Object as begun_object}
+use Rattle.jzon.specs.declared.frames.Begun.TheVariants.{Object as begun_object}
 use Rattle.jzon.proofs.Bytes.Cursors.{Reached, reached_start, reached, token_goes, goes_behind, fails_on}
 use Rattle.jzon.proofs.Bytes.FrameViews.{frames_depth-stack, fresh_is_empty, some_more, stack_view-push}
 use Rattle.jzon.proofs.Bytes.FrameViews.{value_mark-shallow}
