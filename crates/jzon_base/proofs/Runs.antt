@@ -25,17 +25,12 @@ use Rattle.std.proofs.lemmas.Map.Text.{is_eq-slice_cmp}
 use Rattle.std.proofs.lemmas.Slice.Eq.{bytes_eq-Decides}
 use Rattle.jzon_base.specs.Hash.{hash_of}
 use Rattle.jzon_base.specs.Keys.{beside, hashed_from, pair_cmp, AreRuns}
-use Rattle.jzon_base.proofs.Indexes.{hashed_from-append}
+use Rattle.jzon_base.proofs.Indexes.{hashed_from-append, not_less}
 
 prefix : {X : Type 0} (xs ys zs : List X) → zs ≡ xs ++ ys → take (length xs) zs ≡ xs
 prefix xs ys zs e = rw e (take-append_seam xs ys)
 
 -- ---- a search in one run
-
-not_less : (o r : Ordering) → is_lt (ordering_then o r) ≡ false → is_lt o ≡ false
-not_less Less r e = e
-not_less Equal r e = refl
-not_less Greater r e = refl
 
 abbrev name_cmp : ℕ × List ℕ → ℕ × List ℕ → Ordering
 name_cmp a b = ordering_then (nat_cmp a.0 b.0) (slice_cmp nat_cmp a.1 b.1)

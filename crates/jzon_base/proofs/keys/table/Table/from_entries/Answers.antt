@@ -1,4 +1,4 @@
-use Rattle.std.proofs.Common.{sym, subst}
+use Rattle.std.proofs.Common.{refl, sym, subst}
 use Rattle.std.specs.List.{IsDistinct}
 use Rattle.std.specs.Str.{bytes_eq}
 use Rattle.jzon_base.proofs.Indexes.{distinct-apart, IsIndexed-none}
@@ -10,18 +10,18 @@ invariant_of-result g c =
     rw c.new.ensures.items (record {
       indexed = IsIndexed-none c.args.keys.items;
       distinct = subst (IsDistinct bytes_eq)
-          c.as_slice.ensures.value c.if-are_distinct.ensures;
+          c.as_slice.ensures.value (c.if-are_distinct.ensures.0 refl);
     })
 
 pub returns-then-are_distinct-clause-merged : goal.returns-then-are_distinct-clause-merged
 returns-then-are_distinct-clause-merged g c =
     sym (put_each-zip c.args.keys.items c.args.values.now.items c.requires
-    (subst (IsDistinct bytes_eq) c.as_slice.ensures.value c.if-are_distinct.ensures))
+    (subst (IsDistinct bytes_eq) c.as_slice.ensures.value (c.if-are_distinct.ensures.0 refl)))
 
 pub invariant_of-result-2 : goal.invariant_of-result-2
 invariant_of-result-2 g c =
     let index = rw c.as_slice-2.ensures.value at c.in_ok-index.ensures in
-    let apart = rw c.as_slice-3.ensures.value at c.if-has_tie.ensures in
+    let apart = rw c.as_slice-3.ensures.value at c.if-has_tie.ensures.0 refl in
     record {
       indexed = record { index = λ _. index };
       distinct = distinct-apart c.args.keys.items
@@ -31,6 +31,6 @@ invariant_of-result-2 g c =
 pub returns-clause-merged : goal.returns-clause-merged
 returns-clause-merged g c =
     let index = rw c.as_slice-2.ensures.value at c.in_ok-index.ensures in
-    let apart = rw c.as_slice-3.ensures.value at c.if-has_tie.ensures in
+    let apart = rw c.as_slice-3.ensures.value at c.if-has_tie.ensures.0 refl in
     sym (put_each-zip c.args.keys.items c.args.values.now.items c.requires
     (distinct-apart c.args.keys.items c.in_ok-index.index.items index apart))
