@@ -46,7 +46,7 @@ fn goes_from_place_to_place(rt: HostRuntime) -> Tested {
     let value = parse(rt.alloc(), NESTED)?;
     look_at_items(&rt, value.at("list"));
     look_at_the_list(&rt, value.at("list"));
-    look_at_the_map(&rt, value.at("map"));
+    look_at_the_map(&rt, value.as_view().at("map"));
     Ok(())
 }
 
