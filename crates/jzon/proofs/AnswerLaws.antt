@@ -1,19 +1,17 @@
 -- Laws about answers, for callers: what a result is that meets the clauses of `parse` or of `parse_as`, where it is
 -- known
 -- what the text is read as, or which error it has. They hold for every reading.
-use Rattle.std.proofs.Common.{◌≡◌, ◌⊎◌, inl, inr, ℕ, ◌≤◌, true, List, [], Result, Ok, Err, IsTrue, IfOk, IfErr}
-use Rattle.std.proofs.Common.{MatchResult, IsOkUnless, refl, sym, ap, ◌∙◌, subst, chars, zero, suc, ◌*◌, replicate}
-use Rattle.std.specs.Str.{bytes_eq}
-use Rattle.std.proofs.lemmas.Slice.Eq.{bytes_eq-Decides}
+use Rattle.std.proofs.Common.{◌≡◌, ◌⊎◌, inl, inr, ℕ, ◌≤◌, List, Result, Ok, Err, IsTrue, IfOk, IfErr}
+use Rattle.std.proofs.Common.{MatchResult, IsOkUnless, sym, ap, ◌∙◌, subst, chars}
 use Rattle.jzon_base.specs.declared.error.Error.{Error}
 use Rattle.jzon_base.specs.declared.error.Error.TheVariants.{OutOfMemory}
 use Rattle.jzon_tree.specs.Lawful.{IsValue}
 use Rattle.jzon_tree.specs.Same.{same}
 use Rattle.jzon_tree.specs.Styles.{compact_style, pretty_style}
-use Rattle.jzon_tree.specs.Text.{compact, pretty, pretty_layout}
+use Rattle.jzon_tree.specs.Text.{compact, pretty}
 use Rattle.jzon_tree.specs.Value.{Value, nest}
 use Rattle.jzon_tree.specs.View.{view}
-use Rattle.jzon_tree.specs.Writing.{Style, Writes, is_all_whitespace}
+use Rattle.jzon_tree.specs.Writing.{Style, Writes}
 use Rattle.jzon_tree.specs.declared.value.JsonValue.{JsonValue}
 use Rattle.jzon_tree.proofs.PlainWritings.{Writes-compact, Writes-pretty}
 use Rattle.jzon.specs.Answer.{IsMeaningOf, IsReadable, IsErrorUnlessMemory}
@@ -24,6 +22,7 @@ use Rattle.jzon.specs.Meaning.{meaning}
 use Rattle.jzon.specs.Reading.{Reading}
 use Rattle.jzon.proofs.ReadBack.ReadsBack.{read_back}
 use Rattle.jzon.proofs.ReadBack.Redump.{redumped}
+use Rattle.jzon.proofs.ReadBack.StrictStyles.{strict_styles}
 use Rattle.jzon.proofs.Trees.SameTree.{same_tree}
 use Rattle.jzon.proofs.Trees.Verdict.{one_tree_or_one_fault}
 -- the answer to one concrete text, by computation: `Parses` from a tree, and `IsErrorOf` from an error
@@ -87,34 +86,17 @@ module _ (r : Reading) where
       → IsReadable r v → Writes s dent v b → IsReadAs r b (λ w. IsTrue (same w v))
   reads-writing s dent v b strict readable = read_back r s dent v b strict readable.0 readable.1 readable.2
 
-  same_list : (xs ys : List ℕ) → IsTrue (bytes_eq xs ys) → xs ≡ ys
-  same_list xs ys e = (bytes_eq-Decides xs ys).0 e
-
-  strict_compact : AllowsStrictAlone compact_style
-  strict_compact dent w allowed = subst (λ (b : List ℕ). IsTrue (is_all_whitespace true b))
-      (sym (same_list w [] allowed.1)) refl
-
-  strict_whitespace : (n : ℕ) → is_all_whitespace true (replicate n 32) ≡ true
-  strict_whitespace zero = refl
-  strict_whitespace (suc n) = strict_whitespace n
-
-  strict_pretty : (spaces : ℕ) → AllowsStrictAlone (pretty_style spaces)
-  strict_pretty spaces dent w allowed =
-      subst (λ (b : List ℕ). IsTrue (is_all_whitespace true b))
-      (sym (same_list w ((pretty_layout spaces).line dent) allowed.1))
-      (strict_whitespace (dent * spaces))
-
   -- the compact text, and the text with a line for each item, are read as an equal value
   pub reads-compact : (v : Value) (b : List ℕ) → IsReadable r v → b ≡ compact v → IsReadAs r b (λ w. IsTrue (same w v))
   reads-compact v b readable is =
       subst (λ (x : List ℕ). IsReadAs r x (λ w. IsTrue (same w v))) (sym is)
-      (reads-writing compact_style 0 v (compact v) (λ strict. strict_compact) readable (Writes-compact v readable.0))
+      (reads-writing compact_style 0 v (compact v) (λ strict. strict_styles.0) readable (Writes-compact v readable.0))
 
   pub reads-pretty : (spaces : ℕ) (v : Value) (b : List ℕ) → IsReadable r v → b ≡ pretty v spaces 0
       → IsReadAs r b (λ w. IsTrue (same w v))
   reads-pretty spaces v b readable is =
       subst (λ (x : List ℕ). IsReadAs r x (λ w. IsTrue (same w v))) (sym is)
-      (reads-writing (pretty_style spaces) 0 v (pretty v spaces 0) (λ strict. strict_pretty spaces) readable
+      (reads-writing (pretty_style spaces) 0 v (pretty v spaces 0) (λ strict. strict_styles.1 spaces) readable
       (Writes-pretty spaces v readable.0))
 
   -- the compact text of any value, NaN or not, is read as a value with the same compact text

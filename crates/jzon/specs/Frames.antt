@@ -1,10 +1,9 @@
 -- What the parser keeps of the open containers, as the machine over values sees it.
 use Rattle.std.specs.Prelude.{◌≢◌, ℕ, ◌<◌, ◌≤◌, [], List, map, Bool, true, false}
 use Rattle.std.specs.List.{fold}
-use Rattle.jzon_tree.specs.View.{view}
-use Rattle.jzon_tree.specs.declared.value.JsonValue.{JsonValue}
+use Rattle.jzon_tree.specs.View.{view, viewed}
 use Rattle.jzon.specs.Cursor.{next_byte}
-use Rattle.jzon.specs.Machine.{Entries, Frames, no_frames, array_frame, object_frame, Place, before, before_key, behind}
+use Rattle.jzon.specs.Machine.{Frames, no_frames, array_frame, object_frame, Place, before, before_key, behind}
 use Rattle.jzon_base.specs.Tokens.{end_array, end_object}
 use Rattle.jzon.specs.declared.cursor.Cursor.{Cursor}
 use Rattle.jzon.specs.declared.frames.Begun.{Begun}
@@ -12,14 +11,10 @@ use Rattle.jzon.specs.declared.frames.Begun.TheVariants.{Value, Array as begun_a
 use Rattle.jzon.specs.declared.frames.Frame.{Frame}
 use Rattle.jzon.specs.declared.frames.Frame.TheVariants.{Array, Object}
 
--- an object so far, with its values as they are seen
-abbrev pub entries_view : List (List ℕ × JsonValue) → Entries
-entries_view es = map (λ p. (p.0, view p.1)) es
-
 -- the containers fs with one more inside
 abbrev pub open_in : Frames → Frame → Frames
 open_in fs (Array elements) = array_frame fs (map view elements.items)
-open_in fs (Object entries key) = object_frame fs (entries_view entries) key
+open_in fs (Object entries key) = object_frame fs (viewed entries) key
 
 -- the open containers, of which the stack has the inmost last
 abbrev pub stack_view : List Frame → Frames

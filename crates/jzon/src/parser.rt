@@ -5,10 +5,10 @@ ghost use Rattle.std.specs.Prelude.{Err, None, IsOkUnless, vec_len};
 ghost use Rattle.std.specs.Option.{is_some};
 ghost use Rattle.jzon_base.specs.PairList.{find};
 ghost use Rattle.jzon_tree.specs.Value.{Value};
-ghost use Rattle.jzon_tree.specs.View.{view};
+ghost use Rattle.jzon_tree.specs.View.{view, viewed};
 ghost use Rattle.jzon.specs.Answer.{IsMeaningOf, IsReadable, IsErrorUnlessMemory, TakesMemory};
 ghost use Rattle.jzon.specs.Cursor.{left, next_byte, GoesOn, IsPast};
-ghost use Rattle.jzon.specs.Frames.{entries_view, open_in, stack_view, place_of, is_open, IsReady};
+ghost use Rattle.jzon.specs.Frames.{open_in, stack_view, place_of, is_open, IsReady};
 ghost use Rattle.jzon.specs.Machine.{Frames, no_frames, array_frame, object_frame, frames_depth, is_fresh, before};
 ghost use Rattle.jzon.specs.Machine.{before_key, behind, key_mark, from, Reads};
 ghost use Rattle.jzon.specs.Reading.{usual};
@@ -244,9 +244,9 @@ impl<'a> Parser<'a> {
     /// The same in an open object, whose entries so far these are.
     fn read_entries(&mut self, entries: Builder) -> Result<Begun>
         requires room { vec_len self.old.stack < self.old.cursor.reading.depth }
-        requires key { entries_view entries ≡ [] → next_byte self.old.cursor ≢ end_object }
+        requires key { viewed entries ≡ [] → next_byte self.old.cursor ≢ end_object }
         ensures ready { IfOk result (IsReady self.new.cursor (vec_len self.new.stack)) }
-        ensures same { GoesOn self.old.cursor (before_key (stack_view self.old.stack.items) (entries_view entries))
+        ensures same { GoesOn self.old.cursor (before_key (stack_view self.old.stack.items) (viewed entries))
             result self.new.cursor
             (λ b. place_of b (stack_view self.new.stack.items)) }
     {
@@ -273,7 +273,7 @@ impl<'a> Parser<'a> {
     fn read_key(&mut self, entries: &mut Builder) -> Result<Key>
         ensures kept { OnOk result (entries.new ≡ entries.old) }
         ensures stack { OnOk result (self.new.stack ≡ self.old.stack) }
-        ensures same { (fs : Frames) → let es = entries_view entries.old in key_mark self.old.cursor.reading fs es
+        ensures same { (fs : Frames) → let es = viewed entries.old in key_mark self.old.cursor.reading fs es
             ≡ None →
             (es ≡ [] → next_byte self.old.cursor ≢ end_object) →
             GoesOn self.old.cursor (before_key fs es) result self.new.cursor (λ k. before (object_frame fs es k)) }
@@ -304,7 +304,7 @@ impl<'a> Parser<'a> {
 fn is_refused(alloc: Global, reading: Reading, entries: &mut Builder, name: &str) -> Result<bool>
     ensures same { entries.new ≡ entries.old }
     ensures refused { IfOk result (λ refused. refused ≡ (reading.strict && is_some
-        (find name.now (entries_view entries.old)))) }
+        (find name.now (viewed entries.old)))) }
     ensures memory { IsOkUnless result Error.OutOfMemory }
 {
     if !reading.strict() {

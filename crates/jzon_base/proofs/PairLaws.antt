@@ -161,7 +161,7 @@ module _ {V : Type 0} where
   all_keys P (p ∷ ps) all = (all.0, all_keys P ps all.1)
 
   -- l is none of the keys
-  abbrev IsApart : List ℕ → List (List ℕ × V) → Type 0
+  abbrev pub IsApart : List ℕ → List (List ℕ × V) → Type 0
   IsApart l ps = AllByRecursion (λ y. bytes_eq l y ≡ false) (keys_of ps)
 
   apart_cut : (l k : List ℕ) (ps : List (List ℕ × V)) → IsApart l ps → IsApart l (cut k ps)

@@ -2,23 +2,19 @@
 use Rattle.std.proofs.Common.{◌≡◌, ℕ, suc, ◌≤◌, Bool, true, false, List, [], ◌∷◌, length, cond, Option, Some, None}
 use Rattle.std.proofs.Common.{is_some, refl, sym, ap, ◌∙◌, subst, arith}
 use Rattle.std.specs.Cmp.Lexicographic.{nat_list_eq_equiv}
-use Rattle.std.specs.List.{IsDistinct, AllByRecursion}
+use Rattle.std.specs.List.{IsDistinct}
 use Rattle.std.specs.Str.{bytes_eq}
 use Rattle.std.proofs.lemmas.Bool.{false≢true}
 use Rattle.std.proofs.lemmas.Map.Keys.{IsDistinct-head, IsDistinct-tail, IsDistinct-cons}
 use Rattle.std.proofs.lemmas.Option.{none-some}
 use Rattle.std.proofs.lemmas.Slice.Eq.{bytes_eq-Decides}
-use Rattle.jzon_base.proofs.PairLaws.{find-cut_other}
+use Rattle.jzon_base.proofs.PairLaws.{IsApart, find-cut_other}
 use Rattle.jzon_base.specs.PairList.{find, cut, keys_of}
 
 flip : (k l : List ℕ) → bytes_eq k l ≡ false → bytes_eq l k ≡ false
 flip k l e = nat_list_eq_equiv.symm l k ∙ e
 
 module _ {V : Type 0} where
-  -- k is none of the keys
-  abbrev IsApart : List ℕ → List (List ℕ × V) → Type 0
-  IsApart k ps = AllByRecursion (λ y. bytes_eq k y ≡ false) (keys_of ps)
-
   -- each key of ps is a key of qs
   abbrev pub IsWithin : List (List ℕ × V) → List (List ℕ × V) → Type 0
   IsWithin ps qs = (k : List ℕ) → is_some (find k ps) ≡ true → is_some (find k qs) ≡ true

@@ -3,7 +3,7 @@ use Rattle.std.proofs.Common.{◌≡◌, ℕ, List, [], ◌∷◌, ◌++◌, map
 use Rattle.std.proofs.Common.{slice_get, unwrap_or, Option, Some, None, option_map, Vec, Global, Bor, refl, sym}
 use Rattle.std.proofs.Common.{ap, ◌∙◌}
 use Rattle.std.specs.List.{list_any}
-use Rattle.std.proofs.lemmas.List.{length-map}
+use Rattle.std.proofs.lemmas.List.{length-map, map-append}
 use Rattle.std.proofs.lemmas.Option.{slice_get-map, slice_get_past, slice_get-get_or}
 use Rattle.std.specs.Slice.{IsItemAt}
 use Rattle.jzon_base.proofs.Lists.{map-remove}
@@ -21,10 +21,6 @@ use Rattle.jzon_tree.proofs.Views.{viewed-cut}
 pub list_of_values-values_of : (vs : List Value) → list_of_values (values_of vs) ≡ vs
 list_of_values-values_of [] = refl
 list_of_values-values_of (v ∷ vs) = ap (λ (ws : List Value). v ∷ ws) (list_of_values-values_of vs)
-
-map-append : {A B : Type 0} (f : A → B) (xs ys : List A) → map f (xs ++ ys) ≡ map f xs ++ map f ys
-map-append f [] ys = refl
-map-append {A} {B} f (x ∷ xs) ys = ap (λ (zs : List B). f x ∷ zs) (map-append f xs ys)
 
 -- ---- the parts of a container
 pub items-Array : (v : Vec JsonValue Global) → items (view (Array v)) ≡ map view v.items

@@ -3,7 +3,7 @@ use Rattle.std.proofs.Common.{◌≡◌, ℕ, ◌-◌, min, List, [], ◌∷◌,
 use Rattle.std.proofs.Common.{Bool, true, false, if◌then◌else◌, nat_lt, nat_eq, Option, Some, None, option_map}
 use Rattle.std.specs.Prelude.{slice_set, ◌≤◌, IfSome, OnErr, Result, Ok, Err}
 use Rattle.jzon_base.specs.declared.error.Error.{Error}
-use Rattle.std.proofs.lemmas.List.{length-map, map-set}
+use Rattle.std.proofs.lemmas.List.{length-map, map-append, map-set}
 use Rattle.jzon_base.specs.PairList.{put}
 use Rattle.jzon_tree.specs.Entries.{entries_of, with_entries}
 use Rattle.jzon_tree.specs.Lent.{entries_in, items_in, items_of, with_place, place_in}
@@ -54,12 +54,8 @@ values_of-list_of_values : (vs : Values) → values_of (list_of_values vs) ≡ v
 values_of-list_of_values no_values = refl
 values_of-list_of_values (value v vs) = ap (value v) (values_of-list_of_values vs)
 
-map-append : (xs ys : List JsonValue) → map view (xs ++ ys) ≡ map view xs ++ map view ys
-map-append [] ys = refl
-map-append (x ∷ xs) ys = ap (λ (zs : List Value). view x ∷ zs) (map-append xs ys)
-
 with_null : (vs : List JsonValue) → map view (vs ++ Null ∷ []) ≡ map view vs ++ null ∷ []
-with_null vs = map-append vs (Null ∷ []) ∙ ap (λ (v : Value). map view vs ++ v ∷ []) view-Null
+with_null vs = map-append view vs (Null ∷ []) ∙ ap (λ (v : Value). map view vs ++ v ∷ []) view-Null
 
 map-if : (b : Bool) (xs ys : List JsonValue)
     → map view (if b then xs else ys) ≡ (if b then map view xs else map view ys)

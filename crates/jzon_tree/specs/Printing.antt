@@ -1,7 +1,7 @@
 -- The parts of a writing, as the functions that write values add them.
 use Rattle.std.specs.Prelude.{◌≡◌, ℕ, ◌<◌, Bool, true, false, IsTrue, List, [], ◌∷◌, ◌++◌, length, map, MatchResult}
-use Rattle.std.specs.Prelude.{Result, slice_index_or, if◌then◌else◌}
-use Rattle.jzon_base.specs.Tokens.{value_separator}
+use Rattle.std.specs.Prelude.{Result, slice_index_or}
+use Rattle.jzon_tree.specs.Displayed.{comma_text}
 use Rattle.jzon_tree.specs.Generator.{Emitted, Added, Stopped}
 use Rattle.jzon_tree.specs.Text.{quoted}
 use Rattle.jzon_tree.specs.Value.{Value, null, values_of}
@@ -10,7 +10,7 @@ use Rattle.jzon_tree.specs.Writing.{Style, IsAllowedWhitespace, Writes, WritesEa
 -- a comma, unless it is the first item, and whitespace
 abbrev pub IsBetween : Style → ℕ → Bool → List ℕ → Type 0
 IsBetween s dent comma b = (w : List ℕ) × IsAllowedWhitespace s dent w
-    × (b ≡ (if comma then value_separator ∷ [] else []) ++ w)
+    × (b ≡ comma_text comma ++ w)
 
 -- whitespace and the bracket
 abbrev pub IsClosing : Style → ℕ → ℕ → List ℕ → Type 0

@@ -11,7 +11,7 @@ use Rattle.std.proofs.lemmas.List.Sums.{fold-append}
 use Rattle.std.proofs.Math.ListN.{get_or-eq_default}
 use Rattle.jzon_base.specs.PairList.{find, put}
 use Rattle.jzon_tree.specs.Value.{Value, object, pairs_of}
-use Rattle.jzon_tree.specs.View.{view, view_object}
+use Rattle.jzon_tree.specs.View.{view, view_object, viewed}
 use Rattle.jzon_tree.specs.Entries.{entries_of}
 use Rattle.jzon_tree.specs.declared.object.Object.{Object}
 use Rattle.jzon_tree.specs.declared.value.JsonValue.{JsonValue}
@@ -19,7 +19,7 @@ use Rattle.jzon.specs.Reading.{Reading}
 use Rattle.jzon.specs.Spelling.{breach_if, deep}
 use Rattle.jzon.specs.Machine.{Entries, Frames, no_frames, array_frame, object_frame, frames_depth, is_fresh}
 use Rattle.jzon.specs.Machine.{value_mark, key_mark}
-use Rattle.jzon.specs.Frames.{entries_view, open_in, stack_view, is_open}
+use Rattle.jzon.specs.Frames.{open_in, stack_view, is_open}
 use Rattle.jzon.specs.declared.frames.Begun.{Begun}
 use Rattle.jzon.specs.declared.frames.Begun.TheVariants.{Value as begun_value, Array as begun_array}
 use Rattle.jzon.specs.declared.frames.Begun.TheVariants.{Object as begun_object}
@@ -78,17 +78,6 @@ pub some_put : (k : List ℕ) (v : Value) (es : Entries) → put k v es ≢ []
 some_put k v [] h = cc
 some_put k v (e ∷ es) h = some_by (bytes_eq e.0 k) _ _ _ _ h
 
-put_on : (b : Bool) (k : List ℕ) (v : JsonValue) (p : List ℕ × JsonValue) (ps qs : List (List ℕ × JsonValue))
-    (rs : Entries) → entries_view qs ≡ rs
-    → entries_view (cond b ((p.0, v) ∷ ps) (p ∷ qs)) ≡ cond b ((p.0, view v) ∷ entries_view ps) ((p.0, view p.1) ∷ rs)
-put_on true k v p ps qs rs e = refl
-put_on false k v p ps qs rs e = ap (λ z. (p.0, view p.1) ∷ z) e
-
-pub entries_view-put : (k : List ℕ) (v : JsonValue) (ps : List (List ℕ × JsonValue))
-    → entries_view (put k v ps) ≡ put k (view v) (entries_view ps)
-entries_view-put k v [] = refl
-entries_view-put k v (p ∷ ps) = put_on (bytes_eq p.0 k) k v p ps (put k v ps) _ (entries_view-put k v ps)
-
 find_on : (t : Bool) (v : JsonValue) (o : Option JsonValue) (p : Option Value) → is_some o ≡ is_some p
     → is_some (cond t (Some v) o) ≡ is_some (cond t (Some (view v)) p)
 find_on true v o p e = refl
@@ -96,9 +85,9 @@ find_on false v o p e = e
 
 -- the same keys are known
 pub known_view : (k : List ℕ) (ps : List (List ℕ × JsonValue))
-    → is_some (find k ps) ≡ is_some (find k (entries_view ps))
+    → is_some (find k ps) ≡ is_some (find k (viewed ps))
 known_view k [] = refl
-known_view k (p ∷ ps) = find_on (bytes_eq p.0 k) p.1 (find k ps) (find k (entries_view ps)) (known_view k ps)
+known_view k (p ∷ ps) = find_on (bytes_eq p.0 k) p.1 (find k ps) (find k (viewed ps)) (known_view k ps)
 
 -- ---- what was read where a value begins
 
@@ -109,8 +98,8 @@ open_unless_value begun_object h = refl
 
 -- the object of these entries
 pub view_object-entries : (o : Object) (ps : List (List ℕ × JsonValue)) → entries_of o ≡ ps
-    → view_object o ≡ object (pairs_of (entries_view ps))
-view_object-entries o ps e = ap (λ es. object (pairs_of (entries_view es))) e
+    → view_object o ≡ object (pairs_of (viewed ps))
+view_object-entries o ps e = ap (λ es. object (pairs_of (viewed es))) e
 
 -- ---- bytes
 

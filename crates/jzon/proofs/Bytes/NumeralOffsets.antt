@@ -11,7 +11,7 @@ use Rattle.std.proofs.lemmas.List.{drop-drop, length-drop, get_or-drop}
 use Rattle.std.proofs.lemmas.List.Elements.{All-nil, All-cons}
 use Rattle.std.proofs.lemmas.List.Folds.{length-prefix_len}
 use Rattle.std.proofs.lemmas.List.Sums.{prefix_len-le-length}
-use Rattle.std.proofs.lemmas.Str.{chars-nil, IsUtf8-drop, IsCharBoundary-from_drop, IsCharBoundary-after_ascii}
+use Rattle.std.proofs.lemmas.Str.{IsUtf8-drop, IsCharBoundary-from_drop, IsCharBoundary-after_ascii}
 use Rattle.jzon_base.specs.Decimal.{signed}
 use Rattle.jzon_base.specs.Digits.{IsDigit, digits_number, read_number}
 use Rattle.jzon_tree.specs.Value as value
@@ -21,7 +21,8 @@ use Rattle.jzon.specs.Meaning as meaning
 use Rattle.jzon.specs.Classes.{lettered, signed_exponent}
 use Rattle.jzon.specs.Machine.{Frames, numeral, behind, outcome, from, stopped}
 use Rattle.jzon.proofs.Bytes.Scanning.{chars-ascii, IsUtf8-past_ascii, stops_run}
-use Rattle.jzon.proofs.Bytes.Words.{first_byte}
+use Rattle.jzon.proofs.Bytes.StepsByByte.{digit_is_ascii}
+use Rattle.jzon.proofs.Bytes.Words.{first_byte, some_byte}
 use Rattle.jzon.proofs.Bytes.NumeralOutcomes.{NextFails, stop_lettered, stop_signed, unsigned_to_end, signed_to_end}
 use Rattle.jzon.proofs.Bytes.NumeralOutcomes.{letter_to_plus, letter_to_minus}
 
@@ -34,10 +35,6 @@ next_is bs i b u at lt e ascii =
     let split : drop i bs ≡ b ∷ drop (i + 1) bs = drop-cons bs i 0 lt ∙ ap (λ z. z ∷ drop (suc i) bs) e
     ∙ ap (λ n. b ∷ drop n bs) (sym (add-one i)) in
     ap chars split ∙ chars-ascii b (drop (i + 1) bs) (subst IsUtf8 split (IsUtf8-drop bs i u at)) ascii
-
-some_byte : (bs : List ℕ) (c : ℕ) (cs : List ℕ) → chars bs ≡ c ∷ cs → 0 < length bs
-some_byte [] c cs e = let none : [] ≡ c ∷ cs = sym chars-nil ∙ e in absurd (cc)
-some_byte (b ∷ bs) c cs e = omega arith
 
 -- A test that ASCII characters alone pass fails for the next character where it fails for the next byte.
 pub next_fails : (test : ℕ → Bool) (bs : List ℕ) (i : ℕ) → ((c : ℕ) → test c ≡ true → c < 128) → IsUtf8 bs
@@ -60,9 +57,6 @@ next_fails test bs i ascii u at h = over (chars (drop i bs)) refl
     over (c ∷ cs) e = at_first (test c) c cs e refl
 
 -- ---- digits
-
-digit_is_ascii : (c : ℕ) → is_ascii_digit c ≡ true → c < 128
-digit_is_ascii c e = grind (arith, nat_tests)
 
 digit_bounds : (c : ℕ) → is_ascii_digit c ≡ true → IsDigit c
 digit_bounds c e = (grind (arith, nat_tests), grind (arith, nat_tests))

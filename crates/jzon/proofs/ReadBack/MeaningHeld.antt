@@ -1,6 +1,6 @@
 -- The meaning of a tree that breaks no limit is a value of which the laws `redump` and `reads_back` speak.
-use Rattle.std.proofs.Common.{◌≡◌, ℕ, suc, ◌-◌, ◌<◌, ◌≤◌, max, ℤ, pos, ◌+ℤ◌, ◌-ℤ◌, List, [], ◌∷◌, ◌++◌, length, Bool}
-use Rattle.std.proofs.Common.{true, false, cond, ◌&&◌, nat_le, if◌then◌else◌, Option, None, codes, refl, sym, subst}
+use Rattle.std.proofs.Common.{◌≡◌, ℕ, suc, ◌-◌, ◌<◌, ◌≤◌, max, ℤ, pos, ◌+ℤ◌, ◌-ℤ◌, List, [], ◌∷◌, ◌++◌, Bool}
+use Rattle.std.proofs.Common.{true, false, ◌&&◌, nat_le, if◌then◌else◌, Option, None, codes, refl, sym, subst}
 use Rattle.std.proofs.Common.{arith, FitsSigned}
 use Rattle.std.specs.Prelude.{IsUtf8}
 use Rattle.std.specs.Int.{w16}
@@ -12,12 +12,16 @@ use Rattle.std.proofs.lemmas.Bool.Decides.{nat_tests}
 use Rattle.std.proofs.lemmas.Int.{ints, clamps}
 use Rattle.std.proofs.lemmas.Map.Made.{AllPairs-from_IsDistinct}
 use Rattle.std.proofs.lemmas.Slice.Eq.{bytes_eq-Decides}
+use Rattle.std.proofs.lemmas.Str.{encodes-append, IsUtf8-append, IsUtf8-nil}
 use Rattle.jzon_base.specs.Digits.{dropped, kept_fraction, clamp}
 use Rattle.jzon_base.specs.PairList.{keys_of, put, put_each}
 use Rattle.jzon_base.proofs.Kept.{kept_len_is_longest}
-use Rattle.jzon_tree.specs.Value.{Value, object, Values, pairs_of, short, long, nest, most_nest, most_nest_under}
+use Rattle.jzon_base.proofs.PairLaws.{All-put}
+use Rattle.jzon_base.proofs.PutEach.{IsDistinct-put_each}
+use Rattle.jzon_tree.specs.Value.{Value, object, Values, pairs_of, nest, most_nest, most_nest_under}
 use Rattle.jzon_tree.specs.Text.{compact}
-use Rattle.jzon_tree.specs.Lawful.{InRange, IsText, IsValue, AreValues, ArePairs, HasNoNan, HaveNoNan, PairsHaveNoNan}
+use Rattle.jzon_tree.specs.Lawful.{InRange, IsValue, AreValues, ArePairs, HasNoNan, HaveNoNan, PairsHaveNoNan}
+use Rattle.jzon_tree.proofs.KeptByConversions.{IsValue-text}
 use Rattle.jzon_tree.proofs.Views.{list_of_pairs-pairs_of}
 use Rattle.jzon.specs.Reading.{Reading}
 use Rattle.jzon.specs.Grammar.{Numeral, Item, simple, single, double, Node, Elements, no_elements, element, Members}
@@ -31,10 +35,8 @@ use Rattle.jzon.specs.Meaning.{elements_meaning, members_meaning}
 use Rattle.jzon.specs.Fault.{Parses}
 use Rattle.jzon.specs.Laws.{IsReadAs, Redump}
 use Rattle.jzon.specs.Answer.{IsReadable}
-use Rattle.jzon_base.proofs.PutEach.{IsDistinct-put_each}
 use Rattle.jzon.proofs.Bytes.HexDigits.{hex_is_below_16}
 use Rattle.jzon.proofs.ReadBack.UnmarkedCells.{HaveNoMarks, unmarked, plain_rest, numeral_first, items_rest, key_first}
-use Rattle.jzon.proofs.ReadBack.WrittenStrings.{IsUtf8-scalars, scalars-append}
 
 -- ---- numbers
 
@@ -89,20 +91,12 @@ item_scalars (simple l) h = one_scalar (unescaped l) (unescaped_scalar l h)
 item_scalars (single u) h = one_scalar (code_unit u) (unit_scalar (code_unit u) (code_unit_small u h.0) h.1)
 item_scalars (double u v) h = pair_scalars _ _ (pair_scalar (code_unit u) (code_unit v))
 
-text_scalars : (is : List Item) → AreItems is → scalars (text_of is) ≡ true
-text_scalars [] h = refl
-text_scalars (i ∷ is) h = scalars-append (item_text i) (text_of is) (item_scalars i h.0) (text_scalars is h.1)
-
 bytes_utf8 : (is : List Item) → AreItems is → IsUtf8 (bytes_of is)
 unfolding bytes_of
-bytes_utf8 is h = IsUtf8-scalars (text_of is) (text_scalars is h)
-
-kind_fits : (b : Bool) (s : List ℕ) → nat_le (length s) 30 ≡ b → IsUtf8 s → IsText (if b then short else long) s
-kind_fits true s e u = (u, below (length s) e)
-  where
-    below : (n : ℕ) → nat_le n 30 ≡ true → n ≤ 30
-    below n e = grind (arith, nat_tests)
-kind_fits false s e u = u
+bytes_utf8 [] h = IsUtf8-nil
+bytes_utf8 (i ∷ is) h =
+    subst IsUtf8 (sym (encodes-append (item_text i) (text_of is)))
+    (IsUtf8-append _ _ (item_text i, (item_scalars i h.0, refl)) (bytes_utf8 is h.1))
 
 -- ---- objects
 
@@ -116,31 +110,11 @@ record IsHeldPair (h : ℕ) (p : List ℕ × Value) : Type 0 where
 abbrev AreHeldPairs : ℕ → List (List ℕ × Value) → Type 0
 AreHeldPairs h = AllByRecursion (IsHeldPair h)
 
-cond_held : (b : Bool) (h : ℕ) (ps qs : List (List ℕ × Value)) → AreHeldPairs h ps → AreHeldPairs h qs
-    → AreHeldPairs h (cond b ps qs)
-cond_held true h ps qs x y = x
-cond_held false h ps qs x y = y
-
-put_held : (h : ℕ) (k : List ℕ) (v : Value) (ps : List (List ℕ × Value)) → IsHeldPair h (k, v) → AreHeldPairs h ps
-    → AreHeldPairs h (put k v ps)
-put_held h k v [] one all = (one, tt)
-put_held h k v (p ∷ ps) one all =
-    let new : IsHeldPair h (p.0, v) = record {
-      utf8 = all.0.utf8;
-      lawful = one.lawful;
-      no_nan = one.no_nan;
-      few =
-          one.few;
-    } in
-    cond_held (bytes_eq p.0 k) h ((p.0, v) ∷ ps) (p ∷ put k v ps) (new, all.1) (all.0, put_held h k v ps one all.1)
-
 each_held : (h : ℕ) (qs ps : List (List ℕ × Value)) → AreHeldPairs h qs → AreHeldPairs h ps
     → AreHeldPairs h (fold (λ xs p. put p.0 p.1 xs) qs ps)
 each_held h qs [] done all = done
 each_held h qs (p ∷ ps) done all =
-    each_held h (put p.0 p.1 qs) ps
-    (put_held h p.0 p.1 qs (record { utf8 = all.0.utf8; lawful = all.0.lawful; no_nan = all.0.no_nan; few = all.0.few })
-    done) all.1
+    each_held h (put p.0 p.1 qs) ps (All-put (IsHeldPair h) p.0 p.1 qs all.0 done) all.1
 
 pairs_lawful : (h : ℕ) (ps : List (List ℕ × Value)) → AreHeldPairs h ps → ArePairs (pairs_of ps)
 pairs_lawful h [] all = tt
@@ -226,7 +200,7 @@ mutual
       record { lawful = number_in_range n; no_nan = tt; few = omega arith; mark = first.0; rest = first.1 }
   node_held r (Node.string is) depth m k ok h =
       record {
-        lawful = kind_fits (nat_le (length (bytes_of is)) 30) (bytes_of is) refl (bytes_utf8 is ok);
+        lawful = IsValue-text (bytes_of is) (bytes_utf8 is ok);
         no_nan = tt;
         few = omega arith;
         mark = h.0;

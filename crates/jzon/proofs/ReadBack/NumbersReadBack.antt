@@ -2,20 +2,23 @@
 use Rattle.std.proofs.Common.{◌≡◌, ◌∙◌, ℕ, suc, zero, ℤ, pos, negsuc, ◌+◌, ◌*◌, ◌^◌, ◌≤◌, ◌<◌, None, List, [], length}
 use Rattle.std.proofs.Common.{Bool, sym, ap, subst, arith, decimal, FitsSigned, inl, inr, chars}
 use Rattle.std.specs.Int.{w16}
+use Rattle.std.specs.Str.{IsAscii}
 use Rattle.std.proofs.lemmas.Bool.{cases_lt}
 use Rattle.std.proofs.lemmas.Str.{chars-IsAscii}
+use Rattle.jzon_base.specs.Decimal.{parts}
 use Rattle.jzon_base.specs.NumberText.{number_text}
+use Rattle.jzon_tree.proofs.PrintedUtf8.{IsAscii-written}
 use Rattle.jzon.specs.Reading.{Reading}
 use Rattle.jzon.specs.Grammar.{Numeral, Node}
 use Rattle.jzon.specs.Spelling.{Cell, plain, numeral_cells}
 use Rattle.jzon.specs.Fault.{Parses}
 use Rattle.jzon.specs.Laws.{NumberText, alone}
-use Rattle.jzon.proofs.ReadBack.NumeralTexts.{numeral_spelled, numeral-plain, numeral_small}
+use Rattle.jzon.proofs.ReadBack.NumeralTexts.{numeral_spelled, numeral-plain}
 use Rattle.jzon.proofs.ReadBack.NumberTextLengths.{length-number}
 use Rattle.jzon.proofs.ReadBack.PrintedParts.{IsPrintedAs, HasNumeral}
 use Rattle.jzon.proofs.ReadBack.PrintedForms.{digits_alone, zero_alone, pointed, behind_zeros, small_power, large_power}
 use Rattle.jzon.proofs.ReadBack.TrailingZeros.{zeros_kept, zero_dropped}
-use Rattle.jzon.proofs.ReadBack.Unbroken.{AreSmall, IsAscii-small, parses_plain}
+use Rattle.jzon.proofs.ReadBack.Unbroken.{parses_plain}
 
 -- ---- all cases
 
@@ -52,14 +55,14 @@ pub printed-plain : (s : Bool) (m : ℕ) (e : ℤ) (n : Numeral) (k : List Cell)
 printed-plain s m e n k fits small h =
     numeral-plain n k (omega (arith, spelled_short s m e n fits small h)) ∙ ap (λ t. plain t k) h.spelled
 
-pub printed_small : (s : Bool) (m : ℕ) (e : ℤ) (n : Numeral) → IsPrintedAs s m e n → AreSmall (number_text s m e)
-printed_small s m e n h = subst AreSmall h.spelled (numeral_small n h.in_grammar)
+pub IsAscii-number : (s : Bool) (m : ℕ) (e : ℤ) → m < 2 ^ 64 → FitsSigned w16 e → IsAscii (number_text s m e)
+IsAscii-number s m e fits small = IsAscii-written (parts s m e) (fits, small)
 
 printed_parses : (s : Bool) (m : ℕ) (e : ℤ) (n : Numeral) → m < 2 ^ 64 → FitsSigned w16 e → IsPrintedAs s m e n
     → (r : Reading) → Parses r (chars (number_text s m e)) (alone (Node.number n))
 printed_parses s m e n fits small h r =
     let text : chars (number_text s m e) ≡ number_text s m e = chars-IsAscii _
-    (IsAscii-small _ (printed_small s m e n h)) in
+    (IsAscii-number s m e fits small) in
     subst (λ t. Parses r t (alone (Node.number n))) (sym text)
     (parses_plain r (number_text s m e) (alone (Node.number n)) (tt, h.in_grammar, tt)
     (printed-plain s m e n [] fits small h))

@@ -1,17 +1,12 @@
 -- The text of a number of the grammar, where it has few digits.
-use Rattle.std.proofs.Common.{◌≡◌, ◌∙◌, ℕ, ◌+◌, ◌<◌, ◌≤◌, List, [], ◌∷◌, ◌++◌, length, Bool, true, false, ◌==◌, codes}
-use Rattle.std.proofs.Common.{Option, Some, None, refl, ap, arith, length-append, ◌&&◌, not}
-use Rattle.std.specs.Char.{is_ascii_digit}
-use Rattle.std.proofs.ByRecursion.{All-append}
-use Rattle.std.proofs.lemmas.Bool.Decides.{nat_tests}
+use Rattle.std.proofs.Common.{◌≡◌, ◌∙◌, ℕ, ◌+◌, ◌<◌, ◌≤◌, List, [], ◌∷◌, ◌++◌, length, Bool, true, false, codes}
+use Rattle.std.proofs.Common.{Option, Some, None, refl, ap, arith, length-append}
 use Rattle.jzon_base.proofs.Kept.{kept_len_is_longest}
-use Rattle.jzon.specs.Grammar.{Sign, unsigned, plus, minus, Exponent, Numeral, AreDigits, IsDigits, IsWhole, IsExponent}
-use Rattle.jzon.specs.Grammar.{IsNumeral, is_exponent_letter}
+use Rattle.jzon.specs.Grammar.{Sign, unsigned, plus, minus, Exponent, Numeral}
 use Rattle.jzon.specs.Spelling.{Cell, cell, plain, digits_cells, drops_too_many, keeps_too_many, fraction_cells}
 use Rattle.jzon.specs.Spelling.{exponent_cells, sign_cells, whole_cells, magnitude_cells, numeral_cells}
 use Rattle.jzon.proofs.Trees.NumberLimits.{AreUnmarked, whole_unmarked, fraction_unmarked}
 use Rattle.jzon.proofs.Trees.PrefixStates.{plain-append}
-use Rattle.jzon.proofs.ReadBack.Unbroken.{AreSmall}
 
 -- ---- the text
 
@@ -104,57 +99,3 @@ numeral-plain n k h = by_sign n.negative refl
     by_sign : (b : Bool) → n.negative ≡ b → numeral_cells n None k ≡ plain (numeral_spelled n) k
     by_sign true e = rw e (ap (λ q. cell 45 None ∷ q) magnitude)
     by_sign false e = rw e magnitude
-
--- ---- its characters are below 128
-
-pub AreSmall-append : (xs ys : List ℕ) → AreSmall xs → AreSmall ys → AreSmall (xs ++ ys)
-AreSmall-append xs ys h k = All-append (λ c. c < 128) xs ys h k
-
-digit_small : (d : ℕ) → is_ascii_digit d ≡ true → d < 128
-digit_small d h = grind (arith, nat_tests)
-
-letter_small : (c : ℕ) → is_exponent_letter c ≡ true → c < 128
-letter_small c h = grind (arith, nat_tests)
-
-digits_small : (ds : List ℕ) → AreDigits ds → AreSmall ds
-digits_small [] h = tt
-digits_small (d ∷ ds) h = (digit_small d h.0, digits_small ds h.1)
-
-whole_small : (ds : List ℕ) → IsWhole ds → AreSmall ds
-whole_small [] h = tt
-whole_small (d ∷ []) h = (digit_small d h, tt)
-whole_small (d ∷ e ∷ ds) h = (first d h.0, digits_small (e ∷ ds) h.1)
-  where
-    first : (d : ℕ) → (is_ascii_digit d && not (d == 48)) ≡ true → d < 128
-    first d h = grind (arith, nat_tests)
-
-fraction_small : (ds : List ℕ) → AreDigits ds → AreSmall (fraction_spelled ds)
-fraction_small [] h = tt
-fraction_small (d ∷ ds) h = (omega arith, digits_small (d ∷ ds) h)
-
-exponent_small : (e : Option Exponent) → IsExponent e → AreSmall (exponent_spelled e)
-exponent_small None h = tt
-exponent_small (Some e) h = (
-  letter_small e.letter h.0,
-  AreSmall-append (sign_spelled e.sign) e.digits (signs e.sign)
-      (exponent_digits e.digits h.1),
-)
-  where
-    signs : (s : Sign) → AreSmall (sign_spelled s)
-    signs unsigned = tt
-    signs plus = (omega arith, tt)
-    signs minus = (omega arith, tt)
-
-    exponent_digits : (ds : List ℕ) → IsDigits ds → AreSmall ds
-    exponent_digits [] h = tt
-    exponent_digits (d ∷ ds) h = (digit_small d h.0, digits_small ds h.1)
-
-pub numeral_small : (n : Numeral) → IsNumeral n → AreSmall (numeral_spelled n)
-numeral_small n h =
-    AreSmall-append (minus_spelled n.negative) _ (minus_small n.negative)
-    (AreSmall-append n.whole _ (whole_small n.whole h.0)
-    (AreSmall-append (fraction_spelled n.fraction) _ (fraction_small n.fraction h.1) (exponent_small n.exponent h.2)))
-  where
-    minus_small : (b : Bool) → AreSmall (minus_spelled b)
-    minus_small true = (omega arith, tt)
-    minus_small false = tt

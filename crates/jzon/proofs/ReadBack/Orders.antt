@@ -1,5 +1,5 @@
 -- Lists in another order, by their positions.
-use Rattle.std.proofs.Common.{◌≡◌, ◌∙◌, ◌≢◌, ℕ, zero, suc, ◌+◌, ◌<◌, ◌≤◌, ◌==◌, nat_lt, List, [], ◌∷◌, length, map}
+use Rattle.std.proofs.Common.{◌≡◌, ◌∙◌, ◌≢◌, ℕ, zero, suc, ◌+◌, ◌<◌, ◌≤◌, ◌==◌, List, [], ◌∷◌, length, map}
 use Rattle.std.proofs.Common.{get_or, count_by, Bool, true, false, cond, Option, Some, None, refl, sym, ap, arith, inl}
 use Rattle.std.proofs.Common.{inr}
 use Rattle.std.specs.Prelude.{AllPairs}
@@ -9,12 +9,14 @@ use Rattle.std.proofs.Math.ListN.{get_or-map}
 use Rattle.std.proofs.lemmas.Bool.{cases_lt, cases_eq, false_from_ne_true}
 use Rattle.std.proofs.lemmas.Bool.Decides.{nat_tests}
 use Rattle.std.proofs.lemmas.List.{length-map}
-use Rattle.std.proofs.lemmas.List.Sums.{count_by-le-length, sum_by-cons}
+use Rattle.std.proofs.lemmas.List.Elements.{All-from_get_or, recursion_from_All}
+use Rattle.std.proofs.lemmas.List.Sums.{sum_by-cons}
 use Rattle.std.proofs.lemmas.Map.Keys.{IsDistinct-cons}
 use Rattle.std.proofs.lemmas.Option.{same_Some, none-some}
 use Rattle.std.proofs.lemmas.Slice.Eq.{bytes_eq-Decides}
 use Rattle.jzon_base.specs.PairList.{keys_of, find}
 use Rattle.jzon_tree.specs.Writing.{IsOrder, text_at}
+use Rattle.jzon_tree.proofs.Orders.{order_within}
 
 -- the elements at these positions, and d at one behind the list
 abbrev pub picked : {X : Type 0} → X → List X → List ℕ → List X
@@ -42,6 +44,10 @@ each_picked P d xs (p ∷ ps) here all = (at-each P d xs p here all, each_picked
 abbrev pub AreBelow : ℕ → List ℕ → Type 0
 AreBelow n ps = AllByRecursion (λ i. i < n) ps
 
+pub AreBelow-order : (n : ℕ) (ps : List ℕ) → IsOrder n ps → AreBelow n ps
+AreBelow-order n ps o =
+    recursion_from_All (λ i. i < n) ps (All-from_get_or (λ i. i < n) ps 0 (order_within n ps o))
+
 abbrev count : ℕ → List ℕ → ℕ
 count i ps = count_by (λ j. j == i) ps
 
@@ -49,61 +55,14 @@ count i ps = count_by (λ j. j == i) ps
 abbrev tally : Bool → ℕ
 tally b = cond b 1 0
 
-count_by-cons : (test : ℕ → Bool) (p : ℕ) (ps : List ℕ) → count_by test (p ∷ ps) ≡ tally (test p) + count_by test ps
-count_by-cons test p ps = sum_by-cons (λ x. tally (test x)) p ps
-
-tally_below : (p n : ℕ) → p < n → tally (nat_lt p n) ≡ 1
-tally_below p n h = grind (arith, nat_tests)
-
-tally_above : (p n : ℕ) → n ≤ p → tally (nat_lt p n) ≡ 0
-tally_above p n h = grind (arith, nat_tests)
-
-tally_more : (p m : ℕ) → tally (nat_lt p (suc m)) ≡ tally (nat_lt p m) + tally (p == m)
-tally_more p m = grind (arith, nat_tests)
+count-cons : (i p : ℕ) (ps : List ℕ) → count i (p ∷ ps) ≡ tally (p == i) + count i ps
+count-cons i p ps = sum_by-cons (λ x. tally (x == i)) p ps
 
 tally_here : (p i : ℕ) → p ≡ i → tally (p == i) ≡ 1
 tally_here p i h = grind (arith, nat_tests)
 
 tally_elsewhere : (p i : ℕ) → (p ≡ i → ⊥) → tally (p == i) ≡ 0
 tally_elsewhere p i h = grind (arith, nat_tests)
-
-none_below : (ps : List ℕ) → count_by (λ j. nat_lt j 0) ps ≡ 0
-none_below [] = refl
-none_below (p ∷ ps) = omega (arith, count_by-cons (λ j. nat_lt j 0) p ps, tally_above p 0 (omega arith), none_below ps)
-
-one_more_below : (m : ℕ) (ps : List ℕ) → count_by (λ j. nat_lt j (suc m)) ps
-    ≡ count_by (λ j. nat_lt j m) ps + count m ps
-one_more_below m [] = refl
-one_more_below m (p ∷ ps) = omega (
-  arith,
-  count_by-cons (λ j. nat_lt j (suc m)) p ps,
-  count_by-cons (λ j. nat_lt j m) p ps,
-  count_by-cons (λ j. j == m) p ps,
-  tally_more p m,
-  one_more_below m ps,
-)
-
-counted_below : (n m : ℕ) (ps : List ℕ) → IsOrder n ps → m ≤ n → count_by (λ j. nat_lt j m) ps ≡ m
-counted_below n zero ps o h = none_below ps
-counted_below n (suc m) ps o h = omega (
-  arith,
-  one_more_below m ps,
-  counted_below n m ps o (omega arith),
-  o.once m
-      (omega arith),
-)
-
-all_counted : (n : ℕ) (ps : List ℕ) → count_by (λ j. nat_lt j n) ps ≡ length ps → AreBelow n ps
-all_counted n [] e = tt
-all_counted n (p ∷ ps) e =
-    let cons = count_by-cons (λ j. nat_lt j n) p ps in
-    elim (cases_lt p n) [
-      | inl below ↦ (below, all_counted n ps (omega (arith, e, cons, tally_below p n below)))
-      | inr above ↦ absurd (omega (arith, e, cons, tally_above p n above, count_by-le-length (λ j. nat_lt j n) ps))
-    ]
-
-pub AreBelow-order : (n : ℕ) (ps : List ℕ) → IsOrder n ps → AreBelow n ps
-AreBelow-order n ps o = all_counted n ps (omega (arith, counted_below n n ps o (omega arith), o.as_many))
 
 text_at-get_or : (ts : List (List ℕ)) (i : ℕ) (d : List ℕ) → i < length ts → text_at ts i ≡ get_or ts i d
 text_at-get_or [] i d h = absurd (omega arith)
@@ -136,7 +95,7 @@ apart_from : (ks : List (List ℕ)) (d : List ℕ) (i : ℕ) (ps : List ℕ) →
     → AllByRecursion (λ y. bytes_eq (get_or ks i d) y ≡ false) (picked d ks ps)
 apart_from ks d i [] distinct h below none = tt
 apart_from ks d i (p ∷ ps) distinct h below none =
-    let cons = count_by-cons (λ j. j == i) p ps in
+    let cons = count-cons i p ps in
     let ne : (i ≡ p → ⊥) = λ e. omega (arith, none, cons, tally_here p i (sym e)) in (
       different _ _ (apart_keys ks d i p distinct h below.0 ne),
       apart_from ks d i ps distinct h below.1
@@ -153,10 +112,10 @@ distinct_picked ks d (p ∷ ps) distinct below once =
     (apart_from ks d p ps distinct below.0 below.1 (omega (
       arith,
       once p below.0,
-      count_by-cons (λ j. j == p) p ps,
+      count-cons p p ps,
       tally_here p p refl,
     )))
-    (distinct_picked ks d ps distinct below.1 (λ i h. omega (arith, once i h, count_by-cons (λ j. j == i) p ps)))
+    (distinct_picked ks d ps distinct below.1 (λ i h. omega (arith, once i h, count-cons i p ps)))
 
 -- ---- look-ups do not depend on the order
 
@@ -225,7 +184,7 @@ module _ {V : Type 0} where
             (omega (arith, f.within)) ne
             (key_at d xs p ∙ e ∙ sym f.key ∙ sym (key_at d xs i))) in
             rw no (picked_found q d xs v i ps distinct f below.1
-            (omega (arith, some, count_by-cons (λ j. j == i) p ps, tally_elsewhere p i ne))))
+            (omega (arith, some, count-cons i p ps, tally_elsewhere p i ne))))
       ]
 
   pub find-picked : (q : List ℕ) (d : List ℕ × V) (xs : List (List ℕ × V)) (ps : List ℕ)

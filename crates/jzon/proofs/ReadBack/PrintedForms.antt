@@ -9,8 +9,7 @@ use Rattle.std.proofs.lemmas.Int.{ints}
 use Rattle.std.proofs.lemmas.Bool.{cases_eq}
 use Rattle.std.proofs.lemmas.List.Sums.{fold-append}
 use Rattle.std.proofs.lemmas.List.{length-replicate, take-append-drop}
-use Rattle.std.proofs.ByRecursion.{All-take, All-drop, All-append}
-use Rattle.jzon_base.specs.Digits.{IsDigit, add_digit, digits_number}
+use Rattle.jzon_base.specs.Digits.{add_digit, digits_number}
 use Rattle.jzon_base.specs.Decimal.{parts}
 use Rattle.jzon_base.specs.NumberText.{point_after, point_after_first, small_exponent_text, magnitude_text, number_text}
 use Rattle.jzon.specs.Grammar.{unsigned, plus, minus, Exponent}
@@ -19,7 +18,7 @@ use Rattle.jzon.specs.Meaning.{written_exponent}
 use Rattle.jzon.proofs.ReadBack.NumeralTexts.{numeral_spelled, fraction_spelled, exponent_spelled}
 use Rattle.jzon.proofs.ReadBack.PrintedParts.{HasNumeral, exponent, numeral, IsWholePart, exponent_test, all-zeros}
 use Rattle.jzon.proofs.ReadBack.PrintedParts.{number_decimal, decimal_digits, IsMantissa, mantissa, if-le, if-not_le}
-use Rattle.jzon.proofs.ReadBack.PrintedParts.{if-lt}
+use Rattle.jzon.proofs.ReadBack.PrintedParts.{if-lt, digits-append, digits-take, digits-drop}
 use Rattle.jzon.proofs.ReadBack.PrintedParts.{if-not_lt, if-eq, if-ne, means_as, exact_parts, means_exactly}
 
 -- ---- digits alone
@@ -58,7 +57,7 @@ fraction-is (c ∷ cs) h = refl
 -- a prefix of the digits of a mantissa is a whole part
 whole_prefix : (m n : ℕ) (ds : List ℕ) → IsMantissa m ds → 0 < n → IsWholePart (take n ds)
 whole_prefix m n ds is h = (
-  All-take IsDigit n ds is.digits,
+  digits-take n ds is.digits,
   omega (arith, length-take n ds, is.some),
   λ z. absurd (omega (arith, is.first, get_or-take n ds h)),
 )
@@ -70,7 +69,7 @@ pointed s m k above fits small near inside =
     let n : ℕ = length (decimal m) - (k + 1) in
     let size : length (drop n (decimal m)) ≡ k + 1 = omega (arith, length-drop n (decimal m)) in
     means_exactly s m (negsuc k) (take n (decimal m)) (drop n (decimal m)) None above fits small
-    (whole_prefix m n (decimal m) is (omega arith)) (All-drop IsDigit n (decimal m) is.digits) tt
+    (whole_prefix m n (decimal m) is (omega arith)) (digits-drop n (decimal m) is.digits) tt
     (append-nil _ ∙ ap (λ t. take n (decimal m) ++ t) (fraction-is (drop n (decimal m)) (omega (arith, size)))
     ∙ sym (append_assoc (take n (decimal m)) (codes ".") (drop n (decimal m)))
     ∙ sym (if-le (k + 1) 17 _ _ near ∙ if-lt (k + 1) (length (decimal m)) _ _ inside))
@@ -97,7 +96,7 @@ behind_zeros s m k above fits small near out =
     ) in
     means_exactly s m (negsuc k) (48 ∷ []) f None above fits small
     (((omega arith, omega arith), tt), omega arith, λ _. refl)
-    (All-append IsDigit (replicate n 48) (decimal m) (all-zeros n) is.digits) tt
+    (digits-append (replicate n 48) (decimal m) (all-zeros n) is.digits) tt
     (append-nil _ ∙ ap (λ t. 48 ∷ t) (fraction-is f (omega (arith, size)))
     ∙ sym (if-le (k + 1) 17 _ _ near ∙ if-not_lt (k + 1) (length (decimal m)) _ _ out))
     (fold-append add_digit 0 (replicate n 48) (decimal m) ∙ ap (λ v. fold add_digit v (decimal m)) (zeros_number n)
@@ -119,7 +118,7 @@ scientific : (s : Bool) (m : ℕ) (e : ℤ) (x : Option Exponent) → 0 < m → 
 scientific s m e x above fits small power text sum =
     let is : IsMantissa m (decimal m) = mantissa m above fits in
     means_exactly s m e (take 1 (decimal m)) (drop 1 (decimal m)) x above fits small
-    (whole_prefix m 1 (decimal m) is (omega arith)) (All-drop IsDigit 1 (decimal m) is.digits) power
+    (whole_prefix m 1 (decimal m) is (omega arith)) (digits-drop 1 (decimal m) is.digits) power
     (ap (λ t. t ++ exponent_spelled x) (first_spelled (decimal m) is.some) ∙ text)
     (ap digits_number (take-append-drop 1 (decimal m)) ∙ is.number) (rw (length-drop 1 (decimal m)) sum)
 

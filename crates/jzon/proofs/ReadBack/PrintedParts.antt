@@ -1,6 +1,6 @@
 -- Numbers of the grammar that have the text of given parts, and mean the same parts.
 use Rattle.std.proofs.Common.{◌≡◌, ℕ, suc, ℤ, pos, ◌+ℤ◌, ◌-ℤ◌, ◌^◌, ◌&&◌, ◌≤◌, ◌<◌, ◌==◌, Option, Some, List, [], ◌∷◌}
-use Rattle.std.proofs.Common.{◌++◌, length, replicate, Bool, true, false, not, refl, sym, ap, ◌∙◌, arith, decimal}
+use Rattle.std.proofs.Common.{◌++◌, length, take, drop, replicate, Bool, true, false, not, refl, sym, ap, ◌∙◌, arith, decimal}
 use Rattle.std.proofs.Common.{rules, codes, nat_le, nat_lt, if◌then◌else◌, FitsSigned, get_or, length-append}
 use Rattle.std.proofs.Common.{append_assoc, zero}
 use Rattle.std.specs.Int.{w16}
@@ -12,6 +12,7 @@ use Rattle.std.proofs.lemmas.Fmt.{length-decimal-le, decimal_nonempty, digits_de
 use Rattle.std.proofs.lemmas.Fmt.{digits_value-decimal}
 use Rattle.std.proofs.lemmas.Bool.Decides.{nat_tests}
 use Rattle.std.proofs.lemmas.List.{take_all}
+use Rattle.std.proofs.lemmas.List.Elements.{All-append, All-take, All-drop, All-from_recursion, recursion_from_All}
 use Rattle.jzon_base.specs.Digits.{IsDigit, add_digit, digits_number, kept_len, kept, dropped, kept_fraction}
 use Rattle.jzon_base.specs.Digits.{read_exponent, clamp}
 use Rattle.jzon_base.specs.Decimal.{Decimal, parts, same}
@@ -71,6 +72,16 @@ exponent_test s (d ∷ ds) h some = (refl, (digit_test d h.0, digits_test ds h.1
 pub all-zeros : (n : ℕ) → AllDigits (replicate n 48)
 all-zeros zero = tt
 all-zeros (suc n) = ((omega arith, omega arith), all-zeros n)
+
+pub digits-append : (xs ys : List ℕ) → AllDigits xs → AllDigits ys → AllDigits (xs ++ ys)
+digits-append xs ys h k = recursion_from_All IsDigit (xs ++ ys)
+    (All-append IsDigit xs ys (All-from_recursion IsDigit xs h) (All-from_recursion IsDigit ys k))
+
+pub digits-take : (n : ℕ) (ds : List ℕ) → AllDigits ds → AllDigits (take n ds)
+digits-take n ds h = recursion_from_All IsDigit (take n ds) (All-take IsDigit n ds (All-from_recursion IsDigit ds h))
+
+pub digits-drop : (n : ℕ) (ds : List ℕ) → AllDigits ds → AllDigits (drop n ds)
+digits-drop n ds h = recursion_from_All IsDigit (drop n ds) (All-drop IsDigit n ds (All-from_recursion IsDigit ds h))
 
 -- ---- printed digits
 

@@ -19,6 +19,7 @@ use Rattle.jzon_tree.specs.Same.{same, same_items}
 use Rattle.jzon_tree.specs.SameLaws.{same_at, object-intro}
 use Rattle.jzon_tree.specs.Writing.{Style, Writes, WritesEach, WritesPairs, Encloses, IsOrder, text_at, colon_text}
 use Rattle.jzon_tree.specs.Writing.{is_whitespace, is_all_whitespace}
+use Rattle.jzon_tree.proofs.PrintedUtf8.{text_utf8}
 use Rattle.jzon_tree.proofs.Views.{list_of_pairs-pairs_of}
 use Rattle.jzon.specs.Reading.{Reading}
 use Rattle.jzon.specs.Grammar.{Node, Each, IsWhitespace}
@@ -29,7 +30,6 @@ use Rattle.jzon.proofs.ReadBack.NumbersReadBack.{printed_numeral}
 use Rattle.jzon.proofs.ReadBack.Orders.{picked, map-picked, each_picked, AreBelow, AreBelow-order, texts_picked}
 use Rattle.jzon.proofs.ReadBack.Orders.{distinct_picked}
 use Rattle.jzon.proofs.ReadBack.Orders.{find-picked}
-use Rattle.jzon.proofs.ReadBack.Redump.{text_utf8}
 use Rattle.jzon.proofs.ReadBack.WrittenStrings.{items_for, bytes_of-items_for}
 use Rattle.jzon.proofs.ReadBack.WrittenTrees.{NodeSpells, null_spells, true_spells, false_spells, number_spells}
 use Rattle.jzon.proofs.ReadBack.WrittenTrees.{empty_array_spells, empty_object_spells, string_spells, key_for}

@@ -10,10 +10,11 @@ use Rattle.jzon_base.specs.Decimal.{nan, parts}
 use Rattle.jzon_base.specs.PairList.{keys_of, put_each}
 use Rattle.jzon_base.proofs.PutEach.{put_each-distinct}
 use Rattle.jzon_tree.specs.Value.{Value, null, boolean, text, number, array, object, Values, no_values, value, Pairs}
-use Rattle.jzon_tree.specs.Value.{no_pairs, pair, pairs_of, list_of_pairs, Kind, short, long, nest, most_nest}
+use Rattle.jzon_tree.specs.Value.{no_pairs, pair, pairs_of, list_of_pairs, nest, most_nest}
 use Rattle.jzon_tree.specs.Value.{most_nest_under}
 use Rattle.jzon_tree.specs.Text.{compact_layout, layout_text, more_values_text, more_pairs_text, quoted}
-use Rattle.jzon_tree.specs.Lawful.{IsText, IsValue, AreValues, ArePairs}
+use Rattle.jzon_tree.specs.Lawful.{IsValue, AreValues, ArePairs}
+use Rattle.jzon_tree.proofs.PrintedUtf8.{text_utf8}
 use Rattle.jzon.specs.Reading.{Reading}
 use Rattle.jzon.specs.Grammar.{Node, Elements, no_elements, element, Members, no_members, member}
 use Rattle.jzon.specs.Meaning.{bytes_of, meaning, elements_meaning, members_meaning}
@@ -46,10 +47,6 @@ record DumpedPairs (r : Reading) (d : ℕ) (ps : Pairs) : Type 0 where
   keys : keys_of (members_meaning members) ≡ keys_of (list_of_pairs ps)
   again : (e : ℕ) → more_pairs_text compact_layout e (pairs_of (members_meaning members))
       ≡ more_pairs_text compact_layout e ps
-
-pub text_utf8 : (k : Kind) (s : List ℕ) → IsText k s → IsUtf8 s
-text_utf8 short s h = h.0
-text_utf8 long s h = h
 
 -- a pair as it is laid out
 laid_out : (key x b : List ℕ) → quoted key ++ codes ":" ++ x ++ b ≡ pair_text [] key [] x [] b

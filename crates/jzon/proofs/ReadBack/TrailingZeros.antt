@@ -10,8 +10,7 @@ use Rattle.std.proofs.lemmas.Fmt.{decimal_step}
 use Rattle.std.proofs.Math.Nat.{pow-suc, one-le-mul, one-le-pow, mul-le-mul_right, pow-le-pow_right}
 use Rattle.std.proofs.lemmas.List.Sums.{fold-append}
 use Rattle.std.proofs.lemmas.List.{length-replicate, take_at, take_all}
-use Rattle.std.proofs.ByRecursion.{All-append}
-use Rattle.jzon_base.specs.Digits.{IsDigit, add_digit, digits_number, kept_len, kept, dropped, kept_fraction}
+use Rattle.jzon_base.specs.Digits.{add_digit, digits_number, kept_len, kept, dropped, kept_fraction}
 use Rattle.jzon_base.specs.Digits.{read_exponent, clamp}
 use Rattle.jzon_base.specs.Decimal.{parts, same, scaled}
 use Rattle.jzon_base.specs.NumberText.{sign_text, number_text}
@@ -21,7 +20,7 @@ use Rattle.jzon_base.proofs.Scaled.{scaled-eq-fits}
 use Rattle.jzon.specs.Meaning.{number_of}
 use Rattle.jzon.proofs.ReadBack.NumeralTexts.{numeral_spelled, minus_spelled}
 use Rattle.jzon.proofs.ReadBack.PrintedParts.{HasNumeral, numeral, AllDigits, IsWholePart, whole_test, all-zeros}
-use Rattle.jzon.proofs.ReadBack.PrintedParts.{number_decimal}
+use Rattle.jzon.proofs.ReadBack.PrintedParts.{number_decimal, digits-append}
 use Rattle.jzon.proofs.ReadBack.PrintedParts.{IsMantissa, mantissa, if-le, if-ne, number_text-above, not_not, means_as}
 use Rattle.jzon.proofs.ReadBack.PrintedParts.{exact_parts, minus-is}
 
@@ -76,7 +75,7 @@ first_of_two (c ∷ cs) ys h = refl
 zeros_whole : (m k : ℕ) → 0 < m → m < 2 ^ 64 → IsWholePart (decimal m ++ replicate k 48)
 zeros_whole m k above fits =
     let is : IsMantissa m (decimal m) = mantissa m above fits in (
-      All-append IsDigit (decimal m) (replicate k 48) is.digits (all-zeros k),
+      digits-append (decimal m) (replicate k 48) is.digits (all-zeros k),
       omega (arith, length-append (decimal m) (replicate k 48), is.some),
       λ z. absurd (omega (arith, is.first, first_of_two (decimal m) (replicate k 48) is.some)),
     )

@@ -1,8 +1,6 @@
 -- A tree that breaks no limit, by its cells: none has a mark.
-use Rattle.std.proofs.Common.{◌≡◌, ◌∙◌, ℕ, ◌<◌, zero, suc, List, [], ◌∷◌, Some, ap, subst, append-nil, arith}
+use Rattle.std.proofs.Common.{◌≡◌, ◌∙◌, ℕ, List, [], Some, ap, subst, append-nil}
 use Rattle.std.specs.Prelude.{slice_get}
-use Rattle.std.specs.List.{AllByRecursion}
-use Rattle.std.specs.Str.{IsAscii}
 use Rattle.jzon.specs.Reading.{Reading}
 use Rattle.jzon.specs.Grammar.{Document, IsDocument}
 use Rattle.jzon.specs.Spelling.{plain, cells}
@@ -14,13 +12,3 @@ parses_plain r t d ok e = (
   (ok, ap chars_of e ∙ chars-plain t [] ∙ append-nil t),
   λ i b h. all_unmarked t i b (subst (λ q. slice_get (marks_of q) i ≡ Some (Some b)) e h),
 )
-
--- ---- texts of characters below 128
-
-abbrev pub AreSmall : List ℕ → Type 0
-AreSmall = AllByRecursion (λ c. c < 128)
-
-pub IsAscii-small : (bs : List ℕ) → AreSmall bs → IsAscii bs
-IsAscii-small [] h i = omega arith
-IsAscii-small (b ∷ bs) h zero = h.0
-IsAscii-small (b ∷ bs) h (suc i) = IsAscii-small bs h.1 i

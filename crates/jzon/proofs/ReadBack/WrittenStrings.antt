@@ -1,26 +1,27 @@
 -- A written string is a string of the grammar, which means the text that was written.
-use Rattle.std.proofs.Common.{◌≡◌, ◌∙◌, ℕ, zero, suc, ◌/◌, ◌%◌, ◌<◌, ◌≤◌, List, [], ◌∷◌, ◌++◌, length, map, get_or}
+use Rattle.std.proofs.Common.{◌≡◌, ◌∙◌, ℕ, zero, suc, ◌/◌, ◌%◌, ◌≤◌, List, [], ◌∷◌, ◌++◌, map}
 use Rattle.std.proofs.Common.{Bool, true, false, not, ◌&&◌, ◌||◌, ◌==◌, nat_le, nat_lt, if◌then◌else◌, refl, sym, ap}
 use Rattle.std.proofs.Common.{subst, arith, inl, inr, append-nil, chars, None}
 use Rattle.std.specs.Prelude.{IsUtf8, encode_utf8, encode_utf8_all}
 use Rattle.std.specs.Char.{digit_char, is_ascii_hexdigit}
-use Rattle.std.specs.Str.{bytes_eq}
+use Rattle.std.specs.Str.{IsAscii, bytes_eq}
 use Rattle.std.proofs.Math.Utf8.{scalar, scalars}
-use Rattle.std.proofs.lemmas.Bool.{cases_lt, and_parts}
+use Rattle.std.proofs.lemmas.Bool.{cases_lt, and_parts, not-true}
 use Rattle.std.proofs.lemmas.Bool.Decides.{nat_tests}
 use Rattle.std.proofs.lemmas.List.Concat.{flat_map-append}
 use Rattle.std.proofs.lemmas.Slice.Eq.{bytes_eq-Decides}
 use Rattle.std.proofs.lemmas.Str.{chars_from_encodes, chars-append, encodes-append, encodes-chars, scalars-chars}
-use Rattle.std.proofs.lemmas.Str.{encode_ascii, inside_one, IsUtf8-append, IsUtf8-from_ascii, encodes-IsAscii}
+use Rattle.std.proofs.lemmas.Str.{encode_ascii, IsUtf8-from_ascii, encodes-IsAscii}
 use Rattle.std.proofs.lemmas.Str.{chars-IsAscii}
 use Rattle.jzon_tree.specs.Text.{escaped_byte, escaped, quoted}
+use Rattle.jzon_tree.proofs.PrintedUtf8.{all_below, at_below, large_escaped, escaped_large, encode_large, IsAscii-one}
+use Rattle.jzon_tree.proofs.PrintedUtf8.{IsAscii-escaped_byte, IsUtf8-escaped}
 use Rattle.jzon.specs.Grammar.{Item, simple, single, double, AreHex, IsItem, AreItems, is_unescaped, is_simple}
 use Rattle.jzon.specs.Grammar.{is_surrogate, code_unit}
 use Rattle.jzon.specs.Grammar as grammar
 use Rattle.jzon.specs.Spelling.{Cell, cell, plain, item_cells, items_cells}
 use Rattle.jzon.specs.Meaning.{item_text, text_of, bytes_of}
 use Rattle.jzon.proofs.Trees.PrefixStates.{plain-append}
-use Rattle.jzon.proofs.ReadBack.Unbroken.{AreSmall, IsAscii-small}
 
 -- ---- what is written for a character
 
@@ -73,10 +74,6 @@ is_item (simple c) = is_simple c
 is_item (single u) = are_hex 4 u && not (is_surrogate (code_unit u))
 is_item (double u v) = false
 
-not-true : (b : Bool) → not b ≡ true → b ≡ false
-not-true true h = cc
-not-true false h = refl
-
 is_item-true : (i : Item) → is_item i ≡ true → IsItem i
 is_item-true (grammar.plain c) h = h
 is_item-true (simple c) h = h
@@ -89,35 +86,11 @@ item-plain (simple c) h k = refl
 item-plain (single u) h k = refl
 item-plain (double u v) h k = absurd (cc)
 
-abbrev are_small : List ℕ → Bool
-are_small [] = true
-are_small (c ∷ cs) = nat_lt c 128 && are_small cs
-
-are_small-true : (cs : List ℕ) → are_small cs ≡ true → AreSmall cs
-are_small-true [] h = tt
-are_small-true (c ∷ cs) h = let t = and_parts _ _ h in (below c t.0, are_small-true cs t.1)
-  where
-    below : (c : ℕ) → nat_lt c 128 ≡ true → c < 128
-    below c h = grind (arith, nat_tests)
-
 -- the item is in the grammar, is spelled as the character is written, and means it
 abbrev is_written : ℕ → Bool
 is_written c =
     (is_item (item_of c) && bytes_eq (item_spelled (item_of c)) (escaped_byte c)) &&
-    (bytes_eq (item_text (item_of c)) (c ∷ []) && are_small (escaped_byte c))
-
-abbrev all_below : (ℕ → Bool) → ℕ → Bool
-all_below test zero = true
-all_below test (suc n) = test n && all_below test n
-
-below_all : (test : ℕ → Bool) (n c : ℕ) → all_below test n ≡ true → c < n → test c ≡ true
-below_all test zero c h lt = absurd (omega arith)
-below_all test (suc n) c h lt =
-    let t = and_parts _ _ h in
-    elim (cases_lt c n) [
-      | inl less ↦ below_all test n c t.1 less
-      | inr more ↦ subst (λ (m : ℕ). test m ≡ true) (let e : n ≡ c = omega arith in e) t.0
-    ]
+    bytes_eq (item_text (item_of c)) (c ∷ [])
 
 small_written : all_below is_written 128 ≡ true
 unfolding code_unit
@@ -127,9 +100,6 @@ small_written = refl
 
 large_item : (c : ℕ) → 128 ≤ c → item_of c ≡ grammar.plain c
 large_item c h = grind (arith, nat_tests)
-
-large_escaped : (c : ℕ) → 128 ≤ c → escaped_byte c ≡ c ∷ []
-large_escaped c h = grind (arith, nat_tests)
 
 large_plain : (c : ℕ) → 128 ≤ c → scalar c ≡ true → is_unescaped c ≡ true
 large_plain c h ok = rw ok (rest c h)
@@ -141,14 +111,13 @@ written : (c : ℕ) → scalar c ≡ true → IsWritten c (item_of c)
 written c ok =
     elim (cases_lt c 128) [
       | inl small ↦
-          (let all = below_all is_written 128 c small_written small in
+          (let all = at_below is_written 128 c small_written small in
           let a = and_parts (is_item (item_of c) && bytes_eq (item_spelled (item_of c)) (escaped_byte c)) _ all in
           let b = and_parts (is_item (item_of c)) _ a.0 in
-          let d = and_parts (bytes_eq (item_text (item_of c)) (c ∷ [])) _ a.1 in
           record {
             in_grammar = is_item-true (item_of c) b.0;
             spelled = λ k. item-plain (item_of c) b.0 k ∙ ap (λ t. plain t k) ((bytes_eq-Decides _ _).0 b.1);
-            means = (bytes_eq-Decides _ _).0 d.0;
+            means = (bytes_eq-Decides _ _).0 a.1;
           })
       | inr large ↦ subst (λ (i : Item). IsWritten c i) (sym (large_item c large)) (record {
         in_grammar = large_plain c large ok;
@@ -158,30 +127,12 @@ written c ok =
     ]
 
 -- what is written for the bytes of a character is what is written for the character
-escaped_large : (bs : List ℕ) → ((i : ℕ) → i < length bs → 128 ≤ get_or bs i 0) → escaped bs ≡ bs
-escaped_large [] h = refl
-escaped_large (b ∷ bs) h = ap (λ t. t ++ escaped bs) (large_escaped b (h 0 (omega arith)))
-    ∙ ap (λ t. b ∷ t) (escaped_large bs (λ i lt. h (suc i) (omega arith)))
-
-encode_large : (c : ℕ) → 128 ≤ c → (i : ℕ) → i < length (encode_utf8 c) → 128 ≤ get_or (encode_utf8 c) i 0
-encode_large c h i lt =
-    elim (cases_lt (get_or (encode_utf8 c) i 0) 128) [
-      | inl small ↦
-          (let e : c ≡ get_or (encode_utf8 c) i 0 = inside_one c [] (encode_utf8 c) i (sym (append-nil (encode_utf8 c)))
-          lt small in
-          absurd (omega (arith, e, small, h)))
-      | inr large ↦ large
-    ]
-
 escaped_encoded : (c : ℕ) → encode_utf8_all (escaped_byte c) ≡ escaped (encode_utf8 c)
 escaped_encoded c =
     elim (cases_lt c 128) [
       | inl small ↦
-          (let all = below_all is_written 128 c small_written small in
-          let a = and_parts (is_item (item_of c) && bytes_eq (item_spelled (item_of c)) (escaped_byte c)) _ all in
-          let d = and_parts (bytes_eq (item_text (item_of c)) (c ∷ [])) _ a.1 in
-          encodes-IsAscii (escaped_byte c) (IsAscii-small _ (are_small-true _ d.1))
-          ∙ sym (append-nil (escaped_byte c)) ∙ ap escaped (sym (encode_ascii c small)))
+          encodes-IsAscii (escaped_byte c) (IsAscii-escaped_byte c small)
+          ∙ sym (append-nil (escaped_byte c)) ∙ ap escaped (sym (encode_ascii c small))
       | inr large ↦ ap encode_utf8_all (large_escaped c large) ∙ append-nil (encode_utf8 c)
           ∙ sym (escaped_large (encode_utf8 c) (encode_large c large))
     ]
@@ -225,70 +176,23 @@ pub bytes_of-items_for : (s : List ℕ) → IsUtf8 s → bytes_of (items_for s) 
 unfolding bytes_of
 bytes_of-items_for s u = ap encode_utf8_all (items_mean (chars s) (scalars-chars s u)) ∙ encodes-chars s u
 
-pub IsUtf8-scalars : (cs : List ℕ) → scalars cs ≡ true → IsUtf8 (encode_utf8_all cs)
-IsUtf8-scalars cs h = (cs, (h, refl))
-
-pub scalars-append : (xs ys : List ℕ) → scalars xs ≡ true → scalars ys ≡ true → scalars (xs ++ ys) ≡ true
-scalars-append [] ys h k = k
-scalars-append (x ∷ xs) ys h k = let t = and_parts (scalar x) (scalars xs) h in rw t.0 (scalars-append xs ys t.1 k)
-
-small_scalar : (c : ℕ) → c < 128 → scalar c ≡ true
-small_scalar c h = grind (arith, nat_tests)
-
-small_scalars : (cs : List ℕ) → AreSmall cs → scalars cs ≡ true
-small_scalars [] h = refl
-small_scalars (c ∷ cs) h = rw (small_scalar c h.0) (small_scalars cs h.1)
-
-escaped_small : (c : ℕ) → c < 128 → AreSmall (escaped_byte c)
-escaped_small c small =
-    let all = below_all is_written 128 c small_written small in
-    let a = and_parts (is_item (item_of c) && bytes_eq (item_spelled (item_of c)) (escaped_byte c)) _ all in
-    are_small-true _ (and_parts (bytes_eq (item_text (item_of c)) (c ∷ [])) _ a.1).1
-
-escaped_scalar : (c : ℕ) → scalar c ≡ true → scalars (escaped_byte c) ≡ true
-escaped_scalar c h =
-    elim (cases_lt c 128) [
-      | inl small ↦ small_scalars (escaped_byte c) (escaped_small c small)
-      | inr large ↦ ap scalars (large_escaped c large) ∙ rw h refl
-    ]
-
-escaped_scalars : (cs : List ℕ) → scalars cs ≡ true → scalars (escaped cs) ≡ true
-escaped_scalars [] h = refl
-escaped_scalars (c ∷ cs) h =
-    let t = and_parts (scalar c) (scalars cs) h in
-    scalars-append (escaped_byte c) (escaped cs) (escaped_scalar c t.0) (escaped_scalars cs t.1)
-
 escaped_text : (s : List ℕ) → IsUtf8 s → encode_utf8_all (escaped (chars s)) ≡ escaped s
 escaped_text s u = escaped-encodes (chars s) ∙ ap escaped (encodes-chars s u)
 
-IsUtf8-escaped : (s : List ℕ) → IsUtf8 s → IsUtf8 (escaped s)
-IsUtf8-escaped s u = subst IsUtf8 (escaped_text s u) (IsUtf8-scalars (escaped (chars s))
-    (escaped_scalars (chars s) (scalars-chars s u)))
+pub chars-IsAscii_append : (xs ys : List ℕ) → IsAscii xs → chars (xs ++ ys) ≡ xs ++ chars ys
+chars-IsAscii_append xs ys h =
+    chars-append xs ys (IsUtf8-from_ascii xs h) ∙ ap (λ t. t ++ chars ys) (chars-IsAscii xs h)
 
-pub IsUtf8-small : (bs : List ℕ) → AreSmall bs → IsUtf8 bs
-IsUtf8-small bs h = IsUtf8-from_ascii bs (IsAscii-small bs h)
-
-pub chars-small : (bs : List ℕ) → AreSmall bs → chars bs ≡ bs
-chars-small bs h = chars-IsAscii bs (IsAscii-small bs h)
-
--- characters below 128, and then a text
-pub chars-small_append : (xs ys : List ℕ) → AreSmall xs → chars (xs ++ ys) ≡ xs ++ chars ys
-chars-small_append xs ys h = chars-append xs ys (IsUtf8-small xs h) ∙ ap (λ t. t ++ chars ys) (chars-small xs h)
-
-quote : AreSmall (34 ∷ [])
-quote = (omega arith, tt)
-
-pub IsUtf8-quoted : (s : List ℕ) → IsUtf8 s → IsUtf8 (quoted s)
-IsUtf8-quoted s u = IsUtf8-append (34 ∷ []) _ (IsUtf8-small _ quote)
-    (IsUtf8-append (escaped s) (34 ∷ []) (IsUtf8-escaped s u) (IsUtf8-small _ quote))
+quote : IsAscii (34 ∷ [])
+quote = IsAscii-one 34 (omega arith)
 
 chars-quoted : (s : List ℕ) → IsUtf8 s → chars (quoted s) ≡ quoted (chars s)
 chars-quoted s u =
-    chars-small_append (34 ∷ []) (escaped s ++ 34 ∷ []) quote
+    chars-IsAscii_append (34 ∷ []) (escaped s ++ 34 ∷ []) quote
     ∙ ap (λ t. 34 ∷ t) (chars-append (escaped s) (34 ∷ []) (IsUtf8-escaped s u)
     ∙ ap (λ t. t ++ chars (34 ∷ [])) (sym (chars_from_encodes (escaped (chars s)) (escaped s) (IsUtf8-escaped s u)
     (escaped_text s u)))
-    ∙ ap (λ t. escaped (chars s) ++ t) (chars-small (34 ∷ []) quote))
+    ∙ ap (λ t. escaped (chars s) ++ t) (chars-IsAscii (34 ∷ []) quote))
 
 -- the cells of a string and its quotes
 pub quoted-plain : (s : List ℕ) (k : List Cell) → IsUtf8 s → cell 34 None ∷ items_cells (items_for s) (cell 34 None ∷ k)

@@ -3,12 +3,14 @@ use Rattle.std.proofs.Common.{◌≡◌, ◌∙◌, ℕ, suc, ◌+◌, ◌<◌, 
 use Rattle.std.proofs.Common.{◌&&◌, nat_le, codes, None, refl, sym, ap, arith, chars, FitsSigned}
 use Rattle.std.specs.Prelude.{IsUtf8}
 use Rattle.std.specs.Int.{w16}
+use Rattle.std.specs.Str.{IsAscii}
 use Rattle.std.proofs.lemmas.Bool.Decides.{nat_tests}
-use Rattle.std.proofs.lemmas.Str.{chars-append, IsUtf8-append}
+use Rattle.std.proofs.lemmas.Str.{chars-append, chars-IsAscii, IsUtf8-append, IsUtf8-from_ascii}
+use Rattle.std.proofs.lemmas.Str.Ascii.{IsAscii-nil, IsAscii-cons}
 use Rattle.jzon_base.specs.NumberText.{number_text}
 use Rattle.jzon_tree.specs.Same.{is_known}
 use Rattle.jzon_tree.specs.Text.{quoted}
-use Rattle.jzon_tree.specs.Writing.{is_whitespace}
+use Rattle.jzon_tree.proofs.PrintedUtf8.{IsAscii-one, IsAscii-true, IsUtf8-quoted}
 use Rattle.jzon.specs.Reading.{Reading}
 use Rattle.jzon.specs.Grammar.{Numeral, Key, Node, Elements, no_elements, element, Members, no_members, member}
 use Rattle.jzon.specs.Grammar.{IsWhitespace}
@@ -19,13 +21,13 @@ use Rattle.jzon.specs.Meaning.{bytes_of}
 use Rattle.jzon.specs.Spelling.{Cell, cell, plain, breach_if, deep, duplicate, items_length, items_cells, key_cells}
 use Rattle.jzon.specs.Spelling.{node_cells, elements_cells, members_cells}
 use Rattle.jzon.proofs.Trees.PrefixStates.{plain-append}
-use Rattle.jzon.proofs.ReadBack.Unbroken.{AreSmall, parses_plain}
+use Rattle.jzon.proofs.Bytes.Scanning.{space_is_ascii}
+use Rattle.jzon.proofs.ReadBack.Unbroken.{parses_plain}
 use Rattle.jzon.proofs.ReadBack.PrintedParts.{IsPrintedAs}
-use Rattle.jzon.proofs.ReadBack.NumbersReadBack.{printed-plain, printed_small}
+use Rattle.jzon.proofs.ReadBack.NumbersReadBack.{printed-plain, IsAscii-number}
 use Rattle.jzon.proofs.ReadBack.DistinctKeys.{AreNew}
-use Rattle.jzon.proofs.ReadBack.WrittenStrings.{items_for, items_for_in_grammar, bytes_of-items_for, IsUtf8-small}
-use Rattle.jzon.proofs.ReadBack.WrittenStrings.{chars-small}
-use Rattle.jzon.proofs.ReadBack.WrittenStrings.{chars-small_append, IsUtf8-quoted, quoted-plain}
+use Rattle.jzon.proofs.ReadBack.WrittenStrings.{items_for, items_for_in_grammar, bytes_of-items_for}
+use Rattle.jzon.proofs.ReadBack.WrittenStrings.{chars-IsAscii_append, quoted-plain}
 
 -- The node spells the bytes, and it breaks no limit where so many containers as are `high` may still be opened.
 pub record NodeSpells (r : Reading) (high : ℕ) (b : List ℕ) (n : Node) : Type 0 where
@@ -52,65 +54,54 @@ text-append : (xs ys : List ℕ) (k : List Cell) → IsUtf8 xs → plain (chars 
     ≡ plain (chars xs) (plain (chars ys) k)
 text-append xs ys k u = ap (λ t. plain t k) (chars-append xs ys u) ∙ plain-append (chars xs) (chars ys) k
 
-text-small : (xs ys : List ℕ) (k : List Cell) → AreSmall xs → plain (chars (xs ++ ys)) k ≡ plain xs (plain (chars ys) k)
-text-small xs ys k h = ap (λ t. plain t k) (chars-small_append xs ys h) ∙ plain-append xs (chars ys) k
+text-ascii : (xs ys : List ℕ) (k : List Cell) → IsAscii xs → plain (chars (xs ++ ys)) k ≡ plain xs (plain (chars ys) k)
+text-ascii xs ys k h = ap (λ t. plain t k) (chars-IsAscii_append xs ys h) ∙ plain-append xs (chars ys) k
 
-IsUtf8-small_append : (xs ys : List ℕ) → AreSmall xs → IsUtf8 ys → IsUtf8 (xs ++ ys)
-IsUtf8-small_append xs ys h u = IsUtf8-append xs ys (IsUtf8-small xs h) u
+IsUtf8-ascii_append : (xs ys : List ℕ) → IsAscii xs → IsUtf8 ys → IsUtf8 (xs ++ ys)
+IsUtf8-ascii_append xs ys h u = IsUtf8-append xs ys (IsUtf8-from_ascii xs h) u
 
-space_small : (strict : Bool) (c : ℕ) → is_whitespace strict c ≡ true → c < 128
-space_small true c h = grind (arith, nat_tests)
-space_small false c h = grind (arith, nat_tests)
-
-whitespace_small : (r : Reading) (w : List ℕ) → IsWhitespace r w → AreSmall w
-whitespace_small r [] h = tt
-whitespace_small r (c ∷ w) h = (space_small r.strict c h.0, whitespace_small r w h.1)
-
-abbrev one_small : (c : ℕ) → c < 128 → AreSmall (c ∷ [])
-one_small c h = (h, tt)
+IsAscii-whitespace : (r : Reading) (w : List ℕ) → IsWhitespace r w → IsAscii w
+IsAscii-whitespace r [] h = IsAscii-nil
+IsAscii-whitespace r (c ∷ w) h = IsAscii-cons c w (space_is_ascii r.strict c h.0) (IsAscii-whitespace r w h.1)
 
 not_deep : (depth high limit : ℕ) → depth + suc high ≤ limit → nat_le limit depth ≡ false
 not_deep depth high limit h = grind (arith, nat_tests)
 
 -- A text below 128 whose cells have no mark.
-small_spells : (r : Reading) (b : List ℕ) (n : Node) → AreSmall b → IsNode r n
+ascii_spells : (r : Reading) (b : List ℕ) (n : Node) → IsAscii b → IsNode r n
     → ((depth : ℕ) (k : List Cell) → node_cells r n depth None k ≡ plain b k) → NodeSpells r 0 b n
-small_spells r b n small ok e = record {
-  utf8 = IsUtf8-small b small;
+ascii_spells r b n ascii ok e = record {
+  utf8 = IsUtf8-from_ascii b ascii;
   in_grammar = ok;
-  unbroken = λ depth k h. e depth k ∙ ap (λ t. plain t k) (sym (chars-small b small));
+  unbroken = λ depth k h. e depth k ∙ ap (λ t. plain t k) (sym (chars-IsAscii b ascii));
 }
 
 -- ---- scalars and empty containers
 
 pub null_spells : (r : Reading) → NodeSpells r 0 (codes "null") Node.null
-null_spells r = small_spells r (codes "null") Node.null (omega arith, (omega arith, (omega arith, (omega arith, tt))))
-    tt (λ depth k. refl)
+null_spells r = ascii_spells r (codes "null") Node.null (IsAscii-true (codes "null") refl) tt (λ depth k. refl)
 
 pub true_spells : (r : Reading) → NodeSpells r 0 (codes "true") (Node.boolean true)
-true_spells r = small_spells r (codes "true") (Node.boolean true)
-    (omega arith, (omega arith, (omega arith, (omega arith, tt)))) tt (λ depth k. refl)
+true_spells r = ascii_spells r (codes "true") (Node.boolean true) (IsAscii-true (codes "true") refl) tt
+    (λ depth k. refl)
 
 pub false_spells : (r : Reading) → NodeSpells r 0 (codes "false") (Node.boolean false)
 false_spells r =
-    small_spells r (codes "false") (Node.boolean false) (
-      omega arith,
-      (omega arith, (omega arith, (omega arith, (omega arith, tt)))),
-    ) tt (λ depth k. refl)
+    ascii_spells r (codes "false") (Node.boolean false) (IsAscii-true (codes "false") refl) tt (λ depth k. refl)
 
 pub number_spells : (r : Reading) (s : Bool) (m : ℕ) (e : ℤ) (n : Numeral) → m < 2 ^ 64 → FitsSigned w16 e
     → IsPrintedAs s m e n
     → NodeSpells r 0 (number_text s m e) (Node.number n)
 number_spells r s m e n fits small h =
-    small_spells r (number_text s m e) (Node.number n) (printed_small s m e n h) h.in_grammar
+    ascii_spells r (number_text s m e) (Node.number n) (IsAscii-number s m e fits small) h.in_grammar
     (λ depth k. printed-plain s m e n k fits small h)
 
 pub empty_array_spells : (r : Reading) → NodeSpells r 0 (codes "[]") (Node.empty_array [])
-empty_array_spells r = small_spells r (codes "[]") (Node.empty_array []) (omega arith, (omega arith, tt)) tt
+empty_array_spells r = ascii_spells r (codes "[]") (Node.empty_array []) (IsAscii-true (codes "[]") refl) tt
     (λ depth k. refl)
 
 pub empty_object_spells : (r : Reading) → NodeSpells r 0 (codes "{}") (Node.empty_object [])
-empty_object_spells r = small_spells r (codes "{}") (Node.empty_object []) (omega arith, (omega arith, tt)) tt
+empty_object_spells r = ascii_spells r (codes "{}") (Node.empty_object []) (IsAscii-true (codes "{}") refl) tt
     (λ depth k. refl)
 
 pub string_spells : (r : Reading) (s : List ℕ) → IsUtf8 s → NodeSpells r 0 (quoted s) (Node.string (items_for s))
@@ -125,9 +116,9 @@ string_spells r s u = record {
 
 pub no_elements_spell : (r : Reading) → ElementsSpell r 0 (93 ∷ []) no_elements
 no_elements_spell r = record {
-  utf8 = IsUtf8-small (93 ∷ []) (one_small 93 (omega arith));
+  utf8 = IsUtf8-from_ascii (93 ∷ []) (IsAscii-one 93 (omega arith));
   in_grammar = tt;
-  unbroken = λ depth k h. ap (λ t. plain t k) (sym (chars-small (93 ∷ []) (one_small 93 (omega arith))));
+  unbroken = λ depth k h. ap (λ t. plain t k) (sym (chars-IsAscii (93 ∷ []) (IsAscii-one 93 (omega arith))));
 }
 
 -- whitespace, a value, whitespace and the elements after it
@@ -142,26 +133,26 @@ run-plain : (r : Reading) (h high depth : ℕ) (w x c b : List ℕ) (n : Node) (
 run-plain r h high depth w x c b n es k whitespace space node more few =
     ap (λ q. plain w (node_cells r n depth None (plain c q))) (more.unbroken depth k (omega arith))
     ∙ ap (λ q. plain w q) (node.unbroken depth (plain c (plain (chars b) k)) (omega arith)
-    ∙ ap (λ q. plain (chars x) q) (sym (text-small c b k (whitespace_small r c space)))
+    ∙ ap (λ q. plain (chars x) q) (sym (text-ascii c b k (IsAscii-whitespace r c space)))
     ∙ sym (text-append x (c ++ b) k node.utf8))
-    ∙ sym (text-small w (x ++ (c ++ b)) k (whitespace_small r w whitespace))
+    ∙ sym (text-ascii w (x ++ (c ++ b)) k (IsAscii-whitespace r w whitespace))
 
 IsUtf8-run : (r : Reading) (w x c b : List ℕ) → IsWhitespace r w → IsWhitespace r c → IsUtf8 x → IsUtf8 b
     → IsUtf8 (run_text w x c b)
 IsUtf8-run r w x c b whitespace space u v =
-    IsUtf8-small_append w _ (whitespace_small r w whitespace) (IsUtf8-append x _ u
-    (IsUtf8-small_append c b (whitespace_small r c space) v))
+    IsUtf8-ascii_append w _ (IsAscii-whitespace r w whitespace) (IsUtf8-append x _ u
+    (IsUtf8-ascii_append c b (IsAscii-whitespace r c space) v))
 
 pub element_spells : (r : Reading) (h high : ℕ) (w x c b : List ℕ) (n : Node) (es : Elements) → IsWhitespace r w
     → IsWhitespace r c → NodeSpells r h x n
     → ElementsSpell r high b es → ElementsSpell r (max h high) (44 ∷ run_text w x c b) (element w n c es)
 element_spells r h high w x c b n es whitespace space node more = record {
-  utf8 = IsUtf8-small_append (44 ∷ []) _ (one_small 44 (omega arith))
+  utf8 = IsUtf8-ascii_append (44 ∷ []) _ (IsAscii-one 44 (omega arith))
       (IsUtf8-run r w x c b whitespace space node.utf8 more.utf8);
   in_grammar = (whitespace, node.in_grammar, space, more.in_grammar);
   unbroken = λ depth k few.
       ap (λ q. cell 44 None ∷ q) (run-plain r h high depth w x c b n es k whitespace space node more few)
-      ∙ sym (text-small (44 ∷ []) (run_text w x c b) k (one_small 44 (omega arith)));
+      ∙ sym (text-ascii (44 ∷ []) (run_text w x c b) k (IsAscii-one 44 (omega arith)));
 }
 
 pub array_spells : (r : Reading) (h high : ℕ) (w x c b : List ℕ) (n : Node) (es : Elements) → IsWhitespace r w
@@ -169,7 +160,7 @@ pub array_spells : (r : Reading) (h high : ℕ) (w x c b : List ℕ) (n : Node) 
     → NodeSpells r h x n
     → ElementsSpell r high b es → NodeSpells r (suc (max h high)) (91 ∷ run_text w x c b) (Node.array w n c es)
 array_spells r h high w x c b n es whitespace space node more = record {
-  utf8 = IsUtf8-small_append (91 ∷ []) _ (one_small 91 (omega arith))
+  utf8 = IsUtf8-ascii_append (91 ∷ []) _ (IsAscii-one 91 (omega arith))
       (IsUtf8-run r w x c b whitespace space node.utf8 more.utf8);
   in_grammar = (whitespace, node.in_grammar, space, more.in_grammar);
   unbroken = λ depth k few.
@@ -178,16 +169,16 @@ array_spells r h high w x c b n es whitespace space node more = record {
       (not_deep depth (max h high) r.depth few)
       ∙ ap (λ q. cell 91 None ∷ q) (run-plain r h high (suc depth) w x c b n es k whitespace space node more
       (omega arith))
-      ∙ sym (text-small (91 ∷ []) (run_text w x c b) k (one_small 91 (omega arith)));
+      ∙ sym (text-ascii (91 ∷ []) (run_text w x c b) k (IsAscii-one 91 (omega arith)));
 }
 
 -- ---- objects
 
 pub no_members_spell : (r : Reading) → MembersSpell r 0 [] (125 ∷ []) no_members
 no_members_spell r = record {
-  utf8 = IsUtf8-small (125 ∷ []) (one_small 125 (omega arith));
+  utf8 = IsUtf8-from_ascii (125 ∷ []) (IsAscii-one 125 (omega arith));
   in_grammar = tt;
-  unbroken = λ seen depth k new h. ap (λ t. plain t k) (sym (chars-small (125 ∷ []) (one_small 125 (omega arith))));
+  unbroken = λ seen depth k new h. ap (λ t. plain t k) (sym (chars-IsAscii (125 ∷ []) (IsAscii-one 125 (omega arith))));
 }
 
 -- a key as it is written, behind whitespace
@@ -229,21 +220,21 @@ pair-plain r h high depth seen keys w key g x c b n ms k whitespace u gap space 
     (bytes_of-items_for key u)
     ∙ ap (λ q. plain g (node_cells r n depth None (plain c q))) (more.unbroken (key ∷ seen) depth k new.1 (omega arith))
     ∙ ap (λ q. plain g q) (node.unbroken depth (plain c (plain (chars b) k)) (omega arith)
-    ∙ ap (λ q. plain (chars x) q) (sym (text-small c b k (whitespace_small r c space)))
+    ∙ ap (λ q. plain (chars x) q) (sym (text-ascii c b k (IsAscii-whitespace r c space)))
     ∙ sym (text-append x (c ++ b) k node.utf8))
-    ∙ sym (text-small g (x ++ (c ++ b)) k (whitespace_small r g gap)))
-    ∙ ap (λ q. plain w (plain (chars (quoted key)) q)) (sym (text-small (58 ∷ []) (run_text g x c b) k
-    (one_small 58 (omega arith))))
+    ∙ sym (text-ascii g (x ++ (c ++ b)) k (IsAscii-whitespace r g gap)))
+    ∙ ap (λ q. plain w (plain (chars (quoted key)) q)) (sym (text-ascii (58 ∷ []) (run_text g x c b) k
+    (IsAscii-one 58 (omega arith))))
     ∙ ap (λ q. plain w q) (sym (text-append (quoted key) (58 ∷ run_text g x c b) k (IsUtf8-quoted key u)))
-    ∙ sym (text-small w (quoted key ++ (58 ∷ run_text g x c b)) k (whitespace_small r w whitespace))
+    ∙ sym (text-ascii w (quoted key ++ (58 ∷ run_text g x c b)) k (IsAscii-whitespace r w whitespace))
 
 IsUtf8-pair : (r : Reading) (w key g x c b : List ℕ) → IsWhitespace r w → IsUtf8 key → IsWhitespace r g
     → IsWhitespace r c → IsUtf8 x
     → IsUtf8 b
     → IsUtf8 (pair_text w key g x c b)
 IsUtf8-pair r w key g x c b whitespace u gap space v t =
-    IsUtf8-small_append w _ (whitespace_small r w whitespace)
-    (IsUtf8-append (quoted key) _ (IsUtf8-quoted key u) (IsUtf8-small_append (58 ∷ []) _ (one_small 58 (omega arith))
+    IsUtf8-ascii_append w _ (IsAscii-whitespace r w whitespace)
+    (IsUtf8-append (quoted key) _ (IsUtf8-quoted key u) (IsUtf8-ascii_append (58 ∷ []) _ (IsAscii-one 58 (omega arith))
     (IsUtf8-run r g x c b gap space v t)))
 
 pub member_spells : (r : Reading) (h high : ℕ) (keys : List (List ℕ)) (w key g x c b : List ℕ) (n : Node) (ms : Members)
@@ -251,14 +242,14 @@ pub member_spells : (r : Reading) (h high : ℕ) (keys : List (List ℕ)) (w key
     → IsWhitespace r g → IsWhitespace r c → NodeSpells r h x n → MembersSpell r high keys b ms
     → MembersSpell r (max h high) (key ∷ keys) (44 ∷ pair_text w key g x c b) (member (key_for w key) g n c ms)
 member_spells r h high keys w key g x c b n ms whitespace u gap space node more = record {
-  utf8 = IsUtf8-small_append (44 ∷ []) _ (one_small 44 (omega arith))
+  utf8 = IsUtf8-ascii_append (44 ∷ []) _ (IsAscii-one 44 (omega arith))
       (IsUtf8-pair r w key g x c b whitespace u gap space node.utf8 more.utf8);
   in_grammar = ((whitespace, items_for_in_grammar key u, tt), gap, node.in_grammar, space, more.in_grammar);
   unbroken = λ seen depth k new few.
       ap (λ q. cell 44 None ∷ q) (pair-plain r h high depth seen keys w key g x c b n ms k whitespace u gap space node
       more
       new few)
-      ∙ sym (text-small (44 ∷ []) (pair_text w key g x c b) k (one_small 44 (omega arith)));
+      ∙ sym (text-ascii (44 ∷ []) (pair_text w key g x c b) k (IsAscii-one 44 (omega arith)));
 }
 
 pub object_spells : (r : Reading) (h high : ℕ) (keys : List (List ℕ)) (w key g x c b : List ℕ) (n : Node) (ms : Members)
@@ -266,7 +257,7 @@ pub object_spells : (r : Reading) (h high : ℕ) (keys : List (List ℕ)) (w key
     → IsWhitespace r g → IsWhitespace r c → NodeSpells r h x n → MembersSpell r high keys b ms → AreNew [] (key ∷ keys)
     → NodeSpells r (suc (max h high)) (123 ∷ pair_text w key g x c b) (Node.object (key_for w key) g n c ms)
 object_spells r h high keys w key g x c b n ms whitespace u gap space node more new = record {
-  utf8 = IsUtf8-small_append (123 ∷ []) _ (one_small 123 (omega arith))
+  utf8 = IsUtf8-ascii_append (123 ∷ []) _ (IsAscii-one 123 (omega arith))
       (IsUtf8-pair r w key g x c b whitespace u gap space node.utf8 more.utf8);
   in_grammar = ((whitespace, items_for_in_grammar key u, tt), gap, node.in_grammar, space, more.in_grammar);
   unbroken = λ depth k few.
@@ -277,7 +268,7 @@ object_spells r h high keys w key g x c b n ms whitespace u gap space node more 
       ∙ ap (λ q. cell 123 None ∷ q) (pair-plain r h high
       (suc depth) [] keys w key g x c b n ms k whitespace u gap space node
       more new (omega arith))
-      ∙ sym (text-small (123 ∷ []) (pair_text w key g x c b) k (one_small 123 (omega arith)));
+      ∙ sym (text-ascii (123 ∷ []) (pair_text w key g x c b) k (IsAscii-one 123 (omega arith)));
 }
 
 -- ---- a document of one value

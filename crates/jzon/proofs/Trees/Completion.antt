@@ -1,6 +1,7 @@
 -- What completes a state of the machine: the cells that are still to come, and the tree that they make.
 use Rattle.std.proofs.Common.{◌≡◌, ◌⊎◌, ℕ, suc, List, [], ◌∷◌, Bool, true, false, not, Option, None}
 use Rattle.std.specs.Prelude.{IsTrue}
+use Rattle.jzon.specs.Machine.{exponent_of}
 use Rattle.jzon.specs.Reading.{Reading}
 use Rattle.jzon.specs.Grammar.{Sign, Exponent, Item, simple, single, double, Node, Elements, Members, Document}
 use Rattle.jzon.specs.Grammar.{IsWhitespace}
@@ -19,7 +20,7 @@ use Rattle.jzon.proofs.Trees.TreeMachine.{second}
 use Rattle.jzon.proofs.Trees.TreeMachine.{second_slash, second_code, State, before, before_key, word, numeral, string}
 use Rattle.jzon.proofs.Trees.TreeMachine.{after_key, behind, Step, go, bad, bad_deep, close_array, close_object}
 use Rattle.jzon.proofs.Trees.TreeMachine.{seen_of}
-use Rattle.jzon.proofs.Trees.TreeMachine.{depth_of, value_mark, key_mark, key_of, numeral_of, exponent_of, items_onto}
+use Rattle.jzon.proofs.Trees.TreeMachine.{depth_of, value_mark, key_mark, key_of, numeral_of, items_onto}
 
 -- The value is whole, with the whitespace round it: what comes after it.
 abbrev pub Outer : Reading → Context → List ℕ → Node → List ℕ → List Cell → Document → Type 0

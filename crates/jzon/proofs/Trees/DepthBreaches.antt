@@ -2,6 +2,7 @@
 use Rattle.std.proofs.Common.{◌≡◌, ℕ, zero, suc, List, [], ◌∷◌, Bool, true, false, cond, ◌==◌, Option, Some, None, refl}
 use Rattle.std.proofs.Common.{subst, inl}
 use Rattle.std.specs.Char.{is_ascii_hexdigit}
+use Rattle.jzon.specs.Machine.{exponent_of}
 use Rattle.jzon.specs.Reading.{Reading}
 use Rattle.jzon.specs.Grammar.{Item, is_unescaped, is_simple, Node, Document}
 use Rattle.jzon.specs.Spelling.{Breach, deep, pair, digit, duplicate, breach_if, onto, Cell, cell}
@@ -21,7 +22,7 @@ use Rattle.jzon.proofs.Trees.TreeMachine.{key_mark}
 use Rattle.jzon.proofs.Trees.TreeMachine.{bad_at, step_empty_array, step_before, step_empty_object, step_before_key}
 use Rattle.jzon.proofs.Trees.TreeMachine.{step_after_key, step_behind, step_after_whole, step_after_fraction}
 use Rattle.jzon.proofs.Trees.TreeMachine.{step_numeral}
-use Rattle.jzon.proofs.Trees.TreeMachine.{numeral_of, exponent_of, coded, step_code, step_second_code, step_string}
+use Rattle.jzon.proofs.Trees.TreeMachine.{numeral_of, coded, step_code, step_second_code, step_string}
 use Rattle.jzon.proofs.Trees.TreeMachine.{closed_string, step}
 use Rattle.jzon.proofs.Trees.Completion.{Comp}
 use Rattle.jzon.proofs.Trees.TextEnds.{some_begins, some_begins_key}

@@ -2,19 +2,17 @@
 pub use Rattle.jzon.proofs.Trees.NumeralsForward.{forward_numeral, forward_begin_numeral}
 pub use Rattle.jzon.proofs.Trees.NumeralsBackward.{backward_numeral, backward_begin_digits, backward_begin_dash}
 use Rattle.std.proofs.Common.{◌≡◌, ◌∙◌, ℕ, List, [], ◌∷◌, Bool, true, Some, None, refl, sym, subst}
+use Rattle.jzon.specs.Machine.{exponent_of}
 use Rattle.jzon.specs.Reading.{Reading}
 use Rattle.jzon.specs.Grammar.{Sign, unsigned, plus, minus, Node, Document, IsDigits}
 use Rattle.jzon.specs.Spelling.{Cell, plain, onto, sign_cells}
 use Rattle.jzon.proofs.Trees.TreeMachine.{Context, NumberPlace, signed, zero_read, whole, pointed, fraction, lettered}
-use Rattle.jzon.proofs.Trees.TreeMachine.{signed_exponent, exponent, numeral_of, exponent_of, document_of}
+use Rattle.jzon.proofs.Trees.TreeMachine.{signed_exponent, exponent, numeral_of, document_of}
 use Rattle.jzon.proofs.Trees.TreeMachine.{accept_numeral}
 use Rattle.jzon.proofs.Trees.Completion.{Behind, AfterWhole, AfterFraction, InNumeral}
-use Rattle.jzon.proofs.Trees.TextEnds.{finish_behind, finished_behind, some_behind}
+use Rattle.jzon.proofs.Trees.TextEnds.{nonempty, finish_behind, finished_behind, some_behind}
 
 -- ---- where a text may end
-
-nonempty : (x : Cell) (q : List Cell) → [] ≡ x ∷ q → ⊥
-nonempty x q e = cc
 
 finish_value : (r : Reading) (k : Context) (b : List ℕ) (n : Node) (p : List Cell) (d : Document)
     → [] ≡ p → Behind r k b n [] p d → document_of k b n [] ≡ Some d

@@ -3,6 +3,7 @@ use Rattle.std.proofs.Common.{◌≡◌, ◌∙◌, ℕ, List, [], ◌∷◌, Bo
 use Rattle.std.proofs.Common.{sym, subst, ap, eqb-true}
 use Rattle.std.specs.Prelude.{IsTrue}
 use Rattle.std.specs.Char.{is_ascii_digit}
+use Rattle.jzon.specs.Machine.{exponent_of}
 use Rattle.jzon.specs.Reading.{Reading}
 use Rattle.jzon.specs.Grammar.{Sign, unsigned, plus, minus, Document, IsWhole}
 use Rattle.jzon.specs.Spelling.{Breach, Cell, cell, onto, digits_cells, drops_too_many, whole_cells, fraction_cells}
@@ -10,7 +11,7 @@ use Rattle.jzon.proofs.Trees.TreeMachine.{Class, digits, dash, cross, point, let
 use Rattle.jzon.proofs.Trees.TreeMachine.{signed}
 use Rattle.jzon.proofs.Trees.TreeMachine.{zero_read, whole, pointed, fraction, lettered, signed_exponent, exponent}
 use Rattle.jzon.proofs.Trees.TreeMachine.{begun}
-use Rattle.jzon.proofs.Trees.TreeMachine.{value_mark, numeral_of, exponent_of, step_after_whole, step_after_fraction}
+use Rattle.jzon.proofs.Trees.TreeMachine.{value_mark, numeral_of, step_after_whole, step_after_fraction}
 use Rattle.jzon.proofs.Trees.TreeMachine.{step_whole, step_pointed, step_fraction, step_signed, step_lettered}
 use Rattle.jzon.proofs.Trees.TreeMachine.{step_signed_exponent, step_exponent, step_numeral}
 use Rattle.jzon.proofs.Trees.Completion.{Begins, AfterWhole, AfterFraction, InNumeral, Steps}

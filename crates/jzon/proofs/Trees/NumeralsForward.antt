@@ -3,6 +3,7 @@ use Rattle.std.proofs.Common.{◌≡◌, ℕ, List, [], ◌∷◌, Bool, true, f
 use Rattle.std.proofs.Common.{subst, eqb-true}
 use Rattle.std.specs.Prelude.{IsTrue}
 use Rattle.std.specs.Char.{is_ascii_digit}
+use Rattle.jzon.specs.Machine.{exponent_of}
 use Rattle.jzon.specs.Reading.{Reading}
 use Rattle.jzon.specs.Grammar.{Sign, unsigned, plus, minus, Exponent, Numeral, Node, Document, AreDigits, IsWhole}
 use Rattle.jzon.specs.Grammar.{IsExponent, IsNumeral}
@@ -11,7 +12,7 @@ use Rattle.jzon.proofs.Trees.TreeMachine.{Class, digits, point, letter_e, class_
 use Rattle.jzon.proofs.Trees.TreeMachine.{zero_read}
 use Rattle.jzon.proofs.Trees.TreeMachine.{whole, pointed, fraction, lettered, signed_exponent, exponent, begun}
 use Rattle.jzon.proofs.Trees.TreeMachine.{value_mark}
-use Rattle.jzon.proofs.Trees.TreeMachine.{numeral_of, exponent_of, step_before, step_behind, step_after_whole}
+use Rattle.jzon.proofs.Trees.TreeMachine.{numeral_of, step_before, step_behind, step_after_whole}
 use Rattle.jzon.proofs.Trees.TreeMachine.{step_after_fraction, step_whole, step_pointed, step_fraction, step_signed}
 use Rattle.jzon.proofs.Trees.TreeMachine.{step_lettered, step_signed_exponent, step_exponent, step_numeral}
 use Rattle.jzon.proofs.Trees.Completion.{Behind, AfterWhole, AfterFraction, InNumeral, Steps}

@@ -10,15 +10,11 @@ use Rattle.jzon.proofs.Trees.TreeMachine.{value_mark}
 use Rattle.jzon.proofs.Trees.TreeMachine.{key_mark, accept}
 use Rattle.jzon.proofs.Trees.Completion.{Begins, ClosesArray, BeginsKey, ClosesObject, AfterKey, Comp}
 use Rattle.jzon.proofs.Trees.TextEnds.{finish_behind, finished_behind, some_behind, some_begins, some_begins_key}
-use Rattle.jzon.proofs.Trees.TextEnds.{some_after_key}
-use Rattle.jzon.proofs.Trees.TextEnds.{some_after_string}
+use Rattle.jzon.proofs.Trees.TextEnds.{nonempty, some_after_key, some_after_string}
 use Rattle.jzon.proofs.Trees.Numerals.{finish_numeral, finished_numeral, some_numeral}
 use Rattle.jzon.proofs.Trees.StringsEnds.{finish_string, some_string}
 
 -- ---- something is to come
-
-nonempty : (x : Cell) (q : List Cell) → [] ≡ x ∷ q → ⊥
-nonempty x q e = cc
 
 whole_nonempty : (ws : List ℕ) (m : Option Breach) (p : List Cell) → IsWhole ws → [] ≡ whole_cells ws m p → ⊥
 whole_nonempty [] m p ok e = ok

@@ -9,7 +9,7 @@ use Rattle.jzon.proofs.Trees.Completion.{Outer, Behind, Begins, BeginsKey, After
 
 -- ---- where a text may end
 
-nonempty : (x : Cell) (q : List Cell) → [] ≡ x ∷ q → ⊥
+pub nonempty : (x : Cell) (q : List Cell) → [] ≡ x ∷ q → ⊥
 nonempty x q e = cc
 
 pub finish_outer : (r : Reading) (k : Context) (b : List ℕ) (n : Node) (z : List ℕ) (d : Document)

@@ -2,6 +2,7 @@
 -- read is kept with its last part first.
 use Rattle.std.specs.Prelude.{ℕ, zero, suc, cond, List, [], ◌∷◌, Bool, true, false, not, ◌==◌, Option, Some, None}
 use Rattle.std.specs.Char.{is_ascii_hexdigit}
+use Rattle.jzon.specs.Machine.{exponent_of}
 use Rattle.jzon.specs.Reading.{Reading}
 use Rattle.jzon.specs.Grammar.{Sign, unsigned, plus, minus, Exponent, Numeral, Item, simple, single, double, Key, Node}
 use Rattle.jzon.specs.Grammar.{Elements, no_elements, element, Members, no_members, member, Document, code_unit}
@@ -181,9 +182,6 @@ step_behind _ k b n z c = bad
 
 abbrev pub numeral_of : Bool → List ℕ → List ℕ → Option Exponent → Node
 numeral_of negative ws fs e = Node.number (record { negative = negative; whole = ws; fraction = fs; exponent = e })
-
-abbrev pub exponent_of : ℕ → Sign → List ℕ → Option Exponent
-exponent_of l s ds = Some (record { letter = l; sign = s; digits = ds })
 
 abbrev pub step_after_whole : Class → Context → List ℕ → Bool → List ℕ → ℕ → Step
 step_after_whole point k b negative ws c = go None (numeral k b negative (pointed ws))

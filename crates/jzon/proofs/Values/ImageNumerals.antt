@@ -3,9 +3,9 @@ use Rattle.std.proofs.Common.{◌≡◌, ℕ, List, [], ◌∷◌, Bool, None, r
 use Rattle.jzon.specs.Spelling.{onto}
 use Rattle.jzon.specs.Classes.{Class, digits, dash, cross, point, letter_e, NumberPlace, signed, zero_read, whole}
 use Rattle.jzon.specs.Classes.{pointed, fraction, lettered, signed_exponent, exponent}
-use Rattle.jzon.specs.Machine.{move_after_whole, move_after_fraction, move_numeral}
+use Rattle.jzon.specs.Machine.{move_after_whole, move_after_fraction, move_numeral, exponent_of}
 use Rattle.jzon.proofs.Trees.TreeMachine as tree
-use Rattle.jzon.proofs.Trees.TreeMachine.{Context, numeral_of, exponent_of}
+use Rattle.jzon.proofs.Trees.TreeMachine.{Context, numeral_of}
 use Rattle.jzon.proofs.Values.ImageContexts.{frames_of, image_step, image_behind}
 
 image_after_whole : (s : Class) (k : Context) (b : List ℕ) (negative : Bool) (ws : List ℕ) (c left : ℕ)

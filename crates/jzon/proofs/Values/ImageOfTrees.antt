@@ -8,9 +8,9 @@ use Rattle.jzon.specs.Meaning.{meaning}
 use Rattle.jzon.specs.Classes.{class_of, NumberPlace, signed, zero_read, whole, pointed, fraction, lettered}
 use Rattle.jzon.specs.Classes.{signed_exponent, exponent}
 use Rattle.jzon.specs.Machine.{Place, go, bad, past_letter, move, Outcome, meant, refused, meant_at, last_numeral, last}
-use Rattle.jzon.specs.Machine.{outcome_on, outcome}
+use Rattle.jzon.specs.Machine.{outcome_on, outcome, exponent_of}
 use Rattle.jzon.proofs.Trees.TreeMachine as tree
-use Rattle.jzon.proofs.Trees.TreeMachine.{Context, State, Step, step, numeral_of, exponent_of, document_of}
+use Rattle.jzon.proofs.Trees.TreeMachine.{Context, State, Step, step, numeral_of, document_of}
 use Rattle.jzon.proofs.Trees.TreeMachine.{accept_numeral}
 use Rattle.jzon.proofs.Trees.TreeMachine.{accept}
 use Rattle.jzon.proofs.Trees.TreeAnswer as tree_answer

@@ -2,13 +2,14 @@ use Rattle.std.proofs.Common.{◌≡◌, ◌∙◌, ◌++◌, refl, cond, [], �
 use Rattle.std.proofs.lemmas.List.{map-append}
 use Rattle.jzon_base.specs.PairList.{put}
 use Rattle.jzon_tree.specs.Value.{array, values_of, object, pairs_of}
-use Rattle.jzon_tree.specs.View.{view}
+use Rattle.jzon_tree.specs.View.{view, viewed}
 use Rattle.jzon_tree.proofs.Views.{view-Array, view-Object}
+use Rattle.jzon_tree.proofs.Views.{viewed-put}
 use Rattle.jzon.specs.Cursor.{left}
-use Rattle.jzon.specs.Frames.{entries_view, open_in, stack_view}
+use Rattle.jzon.specs.Frames.{open_in, stack_view}
 use Rattle.jzon.specs.Machine.{array_frame, object_frame, before, before_key, behind}
 use Rattle.jzon.proofs.Bytes.Cursors.{Reached, reached, goes_behind, goes_on}
-use Rattle.jzon.proofs.Bytes.FrameViews.{entries_view-put, some_more, some_put, view_object-entries}
+use Rattle.jzon.proofs.Bytes.FrameViews.{some_more, some_put, view_object-entries}
 use Rattle.jzon.proofs.parser.Parser.go_on.Goals.{After-array_ends, After-object_ends}
 use Rattle.jzon.proofs.parser.Parser.go_on.Goals as goal
 
@@ -90,7 +91,7 @@ returns-else-branch-clause-same c =
 in_object : (c : After-object_ends) →
     Reached c.args.self.now.cursor (behind (open_in (stack_view c.args.self.now.stack.items) c.args.frame)
     (view c.args.item)) c.args.self.now.cursor
-    (behind (object_frame (stack_view c.args.self.now.stack.items) (entries_view c.in-Object.entries) c.in-Object.key)
+    (behind (object_frame (stack_view c.args.self.now.stack.items) (viewed c.in-Object.entries) c.in-Object.key)
     (view c.args.item))
 in_object c = record {
   text = refl;
@@ -101,14 +102,14 @@ in_object c = record {
 }
 
 entry_pushed : (c : After-object_ends) →
-    entries_view c.push-in-Object.new.self ≡ put c.in-Object.key (view c.args.item) (entries_view c.in-Object.entries)
-entry_pushed c = ap entries_view c.in_ok-push-in-Object.ensures.ok
-    ∙ entries_view-put c.in-Object.key c.args.item c.in-Object.entries
+    viewed c.push-in-Object.new.self ≡ put c.in-Object.key (view c.args.item) (viewed c.in-Object.entries)
+entry_pushed c = ap viewed c.in_ok-push-in-Object.ensures.ok
+    ∙ viewed-put c.in-Object.key c.args.item c.in-Object.entries
 
 pub returns-then-branch-2-clause-ready : goal.returns-then-branch-2-clause-ready
 returns-then-branch-2-clause-ready c =
     let ends = c.in_ok-object_ends-in-Object.ensures (stack_view c.args.self.now.stack.items)
-    (entries_view c.in-Object.entries) c.in-Object.key (view c.args.item) in
+    (viewed c.in-Object.entries) c.in-Object.key (view c.args.item) in
     omega (arith, c.requires.room, ap (λ r. r.depth) ends.0.reading)
 
 pub returns-then-branch-2-clause-same : goal.returns-then-branch-2-clause-same
@@ -116,7 +117,7 @@ returns-then-branch-2-clause-same c =
     let t = c.args.self.now.cursor in
     let u = c.object_ends.new.self in
     let fs = stack_view c.args.self.now.stack.items in
-    let es = entries_view c.in-Object.entries in
+    let es = viewed c.in-Object.entries in
     let k = c.in-Object.key in
     let v = view c.args.item in
     let at = (goal.at.returns-then-branch-2-clause-same c).After-object_ends in
@@ -135,12 +136,12 @@ returns-then-branch-2-clause-same c =
 pub read_entries-requires-clause-room : goal.read_entries-requires-clause-room
 read_entries-requires-clause-room c =
     let ends = c.in_ok-object_ends-in-Object.ensures (stack_view c.args.self.now.stack.items)
-    (entries_view c.in-Object.entries) c.in-Object.key (view c.args.item) in
+    (viewed c.in-Object.entries) c.in-Object.key (view c.args.item) in
     omega (arith, c.requires.room, ap (λ r. r.depth) ends.0.reading)
 
 pub read_entries-requires-clause-key : goal.read_entries-requires-clause-key
 read_entries-requires-clause-key c none =
-    absurd (some_put c.in-Object.key (view c.args.item) (entries_view c.in-Object.entries)
+    absurd (some_put c.in-Object.key (view c.args.item) (viewed c.in-Object.entries)
     (sym (entry_pushed (goal.at.read_entries-requires-clause-key c).After-object_ends) ∙ none))
 
 pub returns-else-branch-2-clause-same : goal.returns-else-branch-2-clause-same
@@ -148,14 +149,14 @@ returns-else-branch-2-clause-same c =
     let t = c.args.self.now.cursor in
     let u = c.object_ends.new.self in
     let fs = stack_view c.args.self.now.stack.items in
-    let es = entries_view c.in-Object.entries in
+    let es = viewed c.in-Object.entries in
     let k = c.in-Object.key in
     let v = view c.args.item in
     let at = (goal.at.returns-else-branch-2-clause-same c).After-object_ends in
     let read = goes_behind t t u _ (behind (object_frame fs es k) v) _ (in_object at)
     (c.in_ok-object_ends-in-Object.ensures fs es k v) in
-    goes_on t u _ _ (before_key fs (entries_view c.push-in-Object.new.self)) c.read_entries.result _
-    (reached t u _ (before_key fs (entries_view c.push-in-Object.new.self)) (
+    goes_on t u _ _ (before_key fs (viewed c.push-in-Object.new.self)) c.read_entries.result _
+    (reached t u _ (before_key fs (viewed c.push-in-Object.new.self)) (
       read.0,
       read.1 ∙ ap (λ b. left u (cond b (behind fs (object (pairs_of (put k v es)))) (before_key fs (put k v es))))
           c.if-branch-2.false

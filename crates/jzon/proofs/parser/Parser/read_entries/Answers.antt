@@ -3,13 +3,14 @@ use Rattle.std.proofs.lemmas.Bool.{true≢false}
 use Rattle.std.proofs.lemmas.Result.{err_from_is_err_and}
 use Rattle.jzon_base.specs.PairList.{put}
 use Rattle.jzon_tree.specs.Value.{object, pairs_of}
-use Rattle.jzon_tree.specs.View.{view}
+use Rattle.jzon_tree.specs.View.{view, viewed}
 use Rattle.jzon_tree.proofs.Views.{view-Object}
+use Rattle.jzon_tree.proofs.Views.{viewed-put}
 use Rattle.jzon.specs.Cursor.{left}
-use Rattle.jzon.specs.Frames.{IsReady, entries_view, place_of, stack_view}
+use Rattle.jzon.specs.Frames.{IsReady, place_of, stack_view}
 use Rattle.jzon.specs.Machine.{object_frame, frames_depth, before, before_key, behind, key_mark}
 use Rattle.jzon.proofs.Bytes.Cursors.{Reached, reached_start, reached, goes_behind, fails_on}
-use Rattle.jzon.proofs.Bytes.FrameViews.{entries_view-put, frames_depth-stack, key_mark-shallow, some_put}
+use Rattle.jzon.proofs.Bytes.FrameViews.{frames_depth-stack, key_mark-shallow, some_put}
 use Rattle.jzon.proofs.Bytes.FrameViews.{stack_view-push}
 use Rattle.jzon.proofs.Bytes.FrameViews.{view_object-entries}
 use Rattle.jzon.proofs.parser.Parser.read_entries.Goals.{After-read_key, In_ok-key, After-len-depth, After-object_ends}
@@ -20,16 +21,16 @@ loop-entries-init c = record {
   stack = refl;
   key = c.requires.key;
   came = reached_start c.args.self.now.cursor (before_key (stack_view c.args.self.now.stack.items)
-      (entries_view c.args.entries));
+      (viewed c.args.entries));
 }
 
 -- one more may be open
 mark_here : (c : After-read_key) →
     key_mark c.loop-entries.self.cursor.reading (stack_view c.args.self.now.stack.items)
-    (entries_view c.loop-entries.entries) ≡ None
+    (viewed c.loop-entries.entries) ≡ None
 mark_here c =
     key_mark-shallow c.loop-entries.self.cursor.reading (stack_view c.args.self.now.stack.items)
-    (entries_view c.loop-entries.entries)
+    (viewed c.loop-entries.entries)
     (omega (
       arith,
       frames_depth-stack c.args.self.now.stack.items,
@@ -42,7 +43,7 @@ mark_here c =
 pub returns-in_err-key-clause-same : goal.returns-in_err-key-clause-same
 returns-in_err-key-clause-same c =
     let fs = stack_view c.args.self.now.stack.items in
-    let es = entries_view c.loop-entries.entries in
+    let es = viewed c.loop-entries.entries in
     let at = goal.at.returns-in_err-key-clause-same c in
     let failed = err_from_is_err_and c.from_residual.result c.from_residual.ensures.1 in
     fails_on c.args.self.now.cursor c.loop-entries.self.cursor _ _ (before_key fs es) c.from_residual.result _ failed.0
@@ -51,13 +52,13 @@ returns-in_err-key-clause-same c =
 
 -- the key was read
 keyed : (c : In_ok-key) →
-    Reached c.args.self.now.cursor (before_key (stack_view c.args.self.now.stack.items) (entries_view c.args.entries))
+    Reached c.args.self.now.cursor (before_key (stack_view c.args.self.now.stack.items) (viewed c.args.entries))
     c.read_key.new.self.cursor
-    (before (object_frame (stack_view c.args.self.now.stack.items) (entries_view c.loop-entries.entries)
+    (before (object_frame (stack_view c.args.self.now.stack.items) (viewed c.loop-entries.entries)
     c.in_ok-key.key))
 keyed c =
     let fs = stack_view c.args.self.now.stack.items in
-    let es = entries_view c.loop-entries.entries in
+    let es = viewed c.loop-entries.entries in
     let mark : key_mark c.loop-entries.self.cursor.reading fs es ≡ None =
     key_mark-shallow c.loop-entries.self.cursor.reading fs es
     (omega (
@@ -86,7 +87,7 @@ begin-requires c = record {
 
 -- so many containers are open around the value of the key
 depth_here : (c : After-len-depth) →
-    frames_depth (object_frame (stack_view c.args.self.now.stack.items) (entries_view c.loop-entries.entries)
+    frames_depth (object_frame (stack_view c.args.self.now.stack.items) (viewed c.loop-entries.entries)
     c.in_ok-key.key) ≡ c.len-depth.result + 1
 depth_here c =
     omega (
@@ -99,7 +100,7 @@ depth_here c =
 
 pub returns-in_err-begun-clause-same : goal.returns-in_err-begun-clause-same
 returns-in_err-begun-clause-same c =
-    let here = object_frame (stack_view c.args.self.now.stack.items) (entries_view c.loop-entries.entries)
+    let here = object_frame (stack_view c.args.self.now.stack.items) (viewed c.loop-entries.entries)
     c.in_ok-key.key in
     let at = goal.at.returns-in_err-begun-clause-same c in
     let failed = err_from_is_err_and c.from_residual-in_err-begun.result c.from_residual-in_err-begun.ensures.1 in
@@ -122,31 +123,31 @@ pub returns-in_default-clause-same : goal.returns-in_default-clause-same
 returns-in_default-clause-same c =
     let n = c.begin.new.self.cursor in
     let fs = stack_view c.args.self.now.stack.items in
-    let es = entries_view c.loop-entries.entries in
+    let es = viewed c.loop-entries.entries in
     let here = object_frame fs es c.in_ok-key.key in
     let at = goal.at.returns-in_default-clause-same c in
     let read = c.in_ok-begun.ensures.same here (depth_here at.After-len-depth) (λ f. absurd (true≢false (sym f))) in
     let stack = stack_view-push c.begin.new.self.stack.items c.push-in_default.new.self.items _
     c.in_ok-push-in_default.ensures.items
-    ∙ ap (λ s. object_frame (stack_view s.items) (entries_view c.read_key.new.entries) c.in_ok-key.key)
+    ∙ ap (λ s. object_frame (stack_view s.items) (viewed c.read_key.new.entries) c.in_ok-key.key)
     (c.in_ok-begun.ensures.stack ∙ c.in_ok-key.ensures.stack ∙ c.loop-entries.invariant.stack)
-    ∙ ap (λ xs. object_frame fs (entries_view xs) c.in_ok-key.key) c.in_ok-key.ensures.kept in
+    ∙ ap (λ xs. object_frame fs (viewed xs) c.in_ok-key.key) c.in_ok-key.ensures.kept in
     goes_behind c.args.self.now.cursor c.read_key.new.self.cursor n _ (before here) _ (keyed at.In_ok-key)
     (read.0, read.1 ∙ ap (λ gs. left n (place_of c.in_ok-begun.begun gs)) (sym stack))
 
 -- the value of the key was read
 came : (c : After-object_ends)
-    → Reached c.args.self.now.cursor (before_key (stack_view c.args.self.now.stack.items) (entries_view c.args.entries))
+    → Reached c.args.self.now.cursor (before_key (stack_view c.args.self.now.stack.items) (viewed c.args.entries))
     c.read_key.new.self.cursor
-    (before (object_frame (stack_view c.args.self.now.stack.items) (entries_view c.loop-entries.entries)
+    (before (object_frame (stack_view c.args.self.now.stack.items) (viewed c.loop-entries.entries)
     c.in_ok-key.key))
-    → Reached c.args.self.now.cursor (before_key (stack_view c.args.self.now.stack.items) (entries_view c.args.entries))
+    → Reached c.args.self.now.cursor (before_key (stack_view c.args.self.now.stack.items) (viewed c.args.entries))
     c.begin.new.self.cursor
-    (behind (object_frame (stack_view c.args.self.now.stack.items) (entries_view c.loop-entries.entries)
+    (behind (object_frame (stack_view c.args.self.now.stack.items) (viewed c.loop-entries.entries)
     c.in_ok-key.key) (view c.in-Value.value))
 came c key =
     let n = c.begin.new.self.cursor in
-    let here = object_frame (stack_view c.args.self.now.stack.items) (entries_view c.loop-entries.entries)
+    let here = object_frame (stack_view c.args.self.now.stack.items) (viewed c.loop-entries.entries)
     c.in_ok-key.key in
     let depth : frames_depth here ≡ c.len-depth.result + 1 =
     omega (
@@ -162,16 +163,16 @@ came c key =
     (read.0, read.1 ∙ ap (λ b. left n (place_of b here)) c.in-Value.is))
 
 pushed : (c : After-object_ends) →
-    entries_view c.push.new.self ≡ put c.in_ok-key.key (view c.in-Value.value) (entries_view c.loop-entries.entries)
+    viewed c.push.new.self ≡ put c.in_ok-key.key (view c.in-Value.value) (viewed c.loop-entries.entries)
 pushed c =
-    ap entries_view c.in_ok-push-in-Value.ensures.ok ∙ entries_view-put c.in_ok-key.key c.in-Value.value
+    ap viewed c.in_ok-push-in-Value.ensures.ok ∙ viewed-put c.in_ok-key.key c.in-Value.value
     c.read_key.new.entries
-    ∙ ap (λ es. put c.in_ok-key.key (view c.in-Value.value) (entries_view es)) c.in_ok-key.ensures.kept
+    ∙ ap (λ es. put c.in_ok-key.key (view c.in-Value.value) (viewed es)) c.in_ok-key.ensures.kept
 
 pub returns-in_err-object_ends-clause-same : goal.returns-in_err-object_ends-clause-same
 returns-in_err-object_ends-clause-same c =
     let fs = stack_view c.args.self.now.stack.items in
-    let es = entries_view c.loop-entries.entries in
+    let es = viewed c.loop-entries.entries in
     let at = goal.at.returns-in_err-object_ends-clause-same c in
     let failed = err_from_is_err_and c.from_residual-in_err-object_ends.result
     c.from_residual-in_err-object_ends.ensures.1 in
@@ -183,7 +184,7 @@ returns-in_err-object_ends-clause-same c =
 pub returns-then-branch-clause-ready : goal.returns-then-branch-clause-ready
 returns-then-branch-clause-ready c =
     let fs = stack_view c.args.self.now.stack.items in
-    let es = entries_view c.loop-entries.entries in
+    let es = viewed c.loop-entries.entries in
     let at = goal.at.returns-then-branch-clause-ready c in
     let reading = (c.in_ok-object_ends.ensures fs es c.in_ok-key.key (view c.in-Value.value)).0.reading
     ∙ (came at.After-object_ends (keyed at.In_ok-key)).reading in
@@ -199,7 +200,7 @@ returns-then-branch-clause-same c =
     let t = c.args.self.now.cursor in
     let u = c.object_ends.new.self in
     let fs = stack_view c.args.self.now.stack.items in
-    let es = entries_view c.loop-entries.entries in
+    let es = viewed c.loop-entries.entries in
     let k = c.in_ok-key.key in
     let v = view c.in-Value.value in
     let at = goal.at.returns-then-branch-clause-same c in
@@ -220,7 +221,7 @@ returns-then-branch-clause-same c =
 pub loop-entries-smaller : goal.loop-entries-smaller
 loop-entries-smaller c =
     let fs = stack_view c.args.self.now.stack.items in
-    let es = entries_view c.loop-entries.entries in
+    let es = viewed c.loop-entries.entries in
     let here = object_frame fs es c.in_ok-key.key in
     let at = goal.at.loop-entries-smaller c in
     let key = c.in_ok-key.ensures.same fs (mark_here at.After-read_key) c.loop-entries.invariant.key in
@@ -240,7 +241,7 @@ loop-entries-preserved c =
     let t = c.args.self.now.cursor in
     let u = c.object_ends.new.self in
     let fs = stack_view c.args.self.now.stack.items in
-    let es = entries_view c.loop-entries.entries in
+    let es = viewed c.loop-entries.entries in
     let k = c.in_ok-key.key in
     let v = view c.in-Value.value in
     let at = goal.at.loop-entries-preserved c in
@@ -251,7 +252,7 @@ loop-entries-preserved c =
     record {
       stack = c.in_ok-begun.ensures.stack ∙ c.in_ok-key.ensures.stack ∙ c.loop-entries.invariant.stack;
       key = λ none. absurd (some_put k v es (sym more ∙ none));
-      came = reached t u _ (before_key fs (entries_view c.push.new.self)) (
+      came = reached t u _ (before_key fs (viewed c.push.new.self)) (
         read.0,
         read.1 ∙ ap (λ b. left u (cond b (behind fs (object (pairs_of (put k v es)))) (before_key fs (put k v es))))
             c.if-branch.false

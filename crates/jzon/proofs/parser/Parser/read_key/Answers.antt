@@ -4,8 +4,8 @@ use Rattle.std.specs.Option.{is_some}
 use Rattle.std.proofs.lemmas.Result.{err_from_is_err_and}
 use Rattle.std.proofs.lemmas.Str.{IsCharBoundary-after_ascii}
 use Rattle.jzon_base.specs.PairList.{find}
+use Rattle.jzon_tree.specs.View.{viewed}
 use Rattle.jzon.specs.Cursor.{left, next_byte}
-use Rattle.jzon.specs.Frames.{entries_view}
 use Rattle.jzon.specs.Machine.{as_key, left_at, before, before_key, after_key, object_frame}
 use Rattle.jzon.proofs.Bytes.ContainerSteps.{open_key}
 use Rattle.jzon.proofs.Bytes.ContainerTokens.{key_closes, key_stands, key_missing, colon_read, colon_missing}
@@ -20,7 +20,7 @@ pub returns-then-peek-ne34-clause-same : goal.returns-then-peek-ne34-clause-same
 returns-then-peek-ne34-clause-same c fs h n =
     let t = c.args.self.now.cursor in
     told (chars t.source.now) c.fault.result _ _
-    (key_missing t fs (entries_view c.args.entries.now) h (λ e. c.if-peek-ne34.true (c.peek.ensures ∙ e)) n)
+    (key_missing t fs (viewed c.args.entries.now) h (λ e. c.if-peek-ne34.true (c.peek.ensures ∙ e)) n)
     c.fault.ensures
 
 pub read_string-requires : goal.read_string-requires
@@ -33,7 +33,7 @@ read_string-requires c =
 pub returns-in_err-spelled-clause-same : goal.returns-in_err-spelled-clause-same
 returns-in_err-spelled-clause-same c fs h n =
     let t = c.args.self.now.cursor in
-    let es = entries_view c.args.entries.now in
+    let es = viewed c.args.entries.now in
     let quote : next_byte t ≡ 34 = sym c.peek.ensures ∙ c.if-peek-ne34.false in
     let failed = err_from_is_err_and c.from_residual.result c.from_residual.ensures.1 in
     fails_on t t _ (before_key fs es) (before_key fs es) c.from_residual.result (λ k. before (object_frame fs es k))
@@ -53,7 +53,7 @@ text-name-requires-clause-begin c =
 pub returns-then-refused-clause-same : goal.returns-then-refused-clause-same
 returns-then-refused-clause-same c fs h n =
     let t = c.args.self.now.cursor in
-    let es = entries_view c.args.entries.now in
+    let es = viewed c.args.entries.now in
     let end = c.in_ok-spelled.spelled.end in
     let text = if c.in_ok-spelled.spelled.is_escaped then string_bytes c.read_string.new.buffer else slice_range
     t.source.now (t.index + 1) (end - 1) in
@@ -72,7 +72,7 @@ pub returns-then-peek-ne58-clause-same : goal.returns-then-peek-ne58-clause-same
 returns-then-peek-ne58-clause-same c fs h n =
     let t = c.args.self.now.cursor in
     let u = c.go_to.new.self in
-    let es = entries_view c.args.entries.now in
+    let es = viewed c.args.entries.now in
     let end = c.in_ok-spelled.spelled.end in
     let text = if c.in_ok-spelled.spelled.is_escaped then string_bytes c.read_string.new.buffer else slice_range
     t.source.now (t.index + 1) (end - 1) in
@@ -92,7 +92,7 @@ pub returns-clause-same : goal.returns-clause-same
 returns-clause-same c fs h n =
     let t = c.args.self.now.cursor in
     let u = c.go_to.new.self in
-    let es = entries_view c.args.entries.now in
+    let es = viewed c.args.entries.now in
     let end = c.in_ok-spelled.spelled.end in
     let text = if c.in_ok-spelled.spelled.is_escaped then string_bytes c.read_string.new.buffer else slice_range
     t.source.now (t.index + 1) (end - 1) in
