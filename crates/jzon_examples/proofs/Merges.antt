@@ -1,15 +1,13 @@
 -- What is seen of an object while it is patched.
-use Rattle.std.proofs.Common.{◌≡◌, ℕ, List, false, option_map, refl, sym, ap, ◌∙◌}
+use Rattle.std.proofs.Common.{◌≡◌, ℕ, List, option_map, sym, ap, ◌∙◌}
 use Rattle.jzon.specs.Entries.{entries_of}
 use Rattle.jzon.specs.JsonValue.{JsonValue}
 use Rattle.jzon.specs.Object.{Object}
 use Rattle.jzon.specs.PairList.{find}
-use Rattle.jzon.specs.Readers.{entries, is_object}
-use Rattle.jzon.specs.Value.{Value, null, boolean, text, number, array, object}
+use Rattle.jzon.specs.Readers.{entries}
 use Rattle.jzon.specs.View.{view, viewed, view_object}
 use Rattle.jzon.proofs.ValueLaws.{view-Object, view-Null, entries-Object, list_of_pairs-pairs_of, viewed-put}
 use Rattle.jzon.proofs.ValueLaws.{viewed-cut, find-viewed}
-use Rattle.jzon_examples.specs.Merge.{patched}
 
 -- objects that are seen as the same have the same pairs
 pub same_pairs : (o p : Object) → view_object o ≡ view_object p → viewed (entries_of o) ≡ viewed (entries_of p)

@@ -1,5 +1,5 @@
 -- What several writes add, one after the other.
-use Rattle.std.proofs.Common.{◌≡◌, ℕ, ◌+◌, List, ◌++◌, length, take, arith, Option, Result, Ok, Err, OnErr}
+use Rattle.std.proofs.Common.{ℕ, ◌+◌, List, ◌++◌, length, arith, Option, Result, Ok, Err, OnErr}
 use Rattle.std.proofs.lemmas.List.{length-append}
 use Rattle.std.proofs.Math.Seq.{take-append-add, take-length}
 use Rattle.std.proofs.KnownBytes.{Appends-trans, Appends-kept}

@@ -1,5 +1,5 @@
 -- What an input that is refused leaves: the fault that tells it, and a writer that holds what it held.
-use Rattle.std.proofs.Common.{inl, inr, ◌≡◌, ℕ, List, Option, None, Some, Result, Ok, Err, refl, sym, subst}
+use Rattle.std.proofs.Common.{inl, inr, ◌≡◌, ℕ, List, Option, Result, Ok, Err, sym, subst}
 use Rattle.std.specs.Prelude.{IsUtf8, chars}
 use Rattle.std.specs.Result.{IsErrAnd}
 use Rattle.std.specs.Io.KnownBytes.{Consumes, IsAtEnd}

@@ -1,5 +1,5 @@
 -- What a writer behind a buffer holds.
-use Rattle.std.specs.Prelude.{◌≡◌, ℕ, ◌+◌, ◌-◌, List, ◌∷◌, ◌++◌, length, drop, Option, option_map}
+use Rattle.std.specs.Prelude.{ℕ, ◌+◌, ◌-◌, List, ◌∷◌, ◌++◌, length, drop, Option, option_map}
 use Rattle.jzonfmt.specs.declared.buffered.Buffered.{Buffered}
 
 -- the bytes that the writer didn't take yet

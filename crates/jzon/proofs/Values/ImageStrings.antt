@@ -21,6 +21,7 @@ use Rattle.jzon.specs.Meaning.{meaning, item_text, text_of, bytes_of, is_pair, p
 use Rattle.jzon.specs.Machine.{Role, TextPlace, string, after_key, between, slash, code, second, second_slash}
 use Rattle.jzon.specs.Machine.{second_code, Move, go, bad, closed_string, move_between, move_slash, add_hex, coded}
 use Rattle.jzon.specs.Machine.{move_code, paired, move_second_code, move_string}
+use Rattle.jzon.proofs.Trees.NumberLimits.{onto-append}
 use Rattle.jzon.proofs.Trees.TreeMachine as tree
 use Rattle.jzon.proofs.Trees.TreeMachine.{items_onto, StringPlace, Step, Named, nothing_named, named, seen_of}
 use Rattle.jzon.proofs.Values.ImageContexts.{entries_of, frames_of, role_of, item_read, items_read, place_read}
@@ -93,11 +94,6 @@ length-onto [] ys = omega arith
 length-onto (x ∷ xs) ys = omega (arith, length-onto xs (x ∷ ys))
 
 -- ---- code units
-
-onto-append : (xs ys : List ℕ) → onto xs ys ≡ onto xs [] ++ ys
-onto-append [] ys = refl
-onto-append (x ∷ xs) ys = onto-append xs (x ∷ ys) ∙ sym (ap (λ z. z ++ ys) (onto-append xs (x ∷ []))
-    ∙ append_assoc (onto xs []) (x ∷ []) ys)
 
 no_digits : code_unit [] ≡ 0
 unfolding code_unit

@@ -1,10 +1,9 @@
-use Rattle.std.proofs.Common.{◌≡◌, ◌≢◌, ℕ, List, codes, true, Option, Some, OnOk, Result, Ok, Err, pos, ap, ◌∙◌}
+use Rattle.std.proofs.Common.{◌≡◌, ◌≢◌, ℕ, List, codes, true, Some, OnOk, Result, Ok, Err, pos, ap, ◌∙◌}
 use Rattle.jzon.specs.Changers.{with_entry}
 use Rattle.jzon.specs.Decimal.{integer_parts}
 use Rattle.jzon.specs.PairList.{find}
 use Rattle.jzon.specs.Readers.{entries, is_object}
 use Rattle.jzon.specs.Value.{Value, number}
-use Rattle.jzon.specs.View.{view}
 use Rattle.jzon.proofs.ValueLaws.{find-with_entry_same, find-with_entry_other}
 use Rattle.jzon_examples.proofs.writing.set_port.Goals as goal
 

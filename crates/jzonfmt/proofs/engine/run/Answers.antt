@@ -1,5 +1,3 @@
-use Rattle.std.proofs.Common.{subst}
-use Rattle.jzonfmt.specs.Run.{Answers}
 use Rattle.jzonfmt.proofs.RefusedInputs.{reads_all}
 use Rattle.jzonfmt.proofs.engine.run.Goals as goal
 

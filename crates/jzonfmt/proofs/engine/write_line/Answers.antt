@@ -1,4 +1,4 @@
-use Rattle.std.proofs.Common.{◌≡◌, rules, ap, ℕ, List, ◌+◌, drop, [], arith, ◌∙◌, sym}
+use Rattle.std.proofs.Common.{◌≡◌, rules, ap, ℕ, ◌+◌, drop, [], arith, ◌∙◌, sym}
 use Rattle.jzonfmt.proofs.Held.{told_all, told_part}
 use Rattle.jzonfmt.specs.Run.{line}
 use Rattle.jzon.specs.View.{view}
