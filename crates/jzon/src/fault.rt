@@ -26,6 +26,10 @@ pub(crate) fn has_four(source: &str, index: usize, four: [u8; 4]) -> bool
     ensures second { IsTrue result → slice_index source.now (index + 1) ≡ slice_index four 1 }
     ensures third { IsTrue result → slice_index source.now (index + 2) ≡ slice_index four 2 }
     ensures fourth { IsTrue result → slice_index source.now (index + 3) ≡ slice_index four 3 }
+    ensures all { index + 4 ≤ length source.now → slice_index source.now index ≡ slice_index four 0
+        → slice_index source.now (index + 1) ≡ slice_index four 1
+        → slice_index source.now (index + 2) ≡ slice_index four 2
+        → slice_index source.now (index + 3) ≡ slice_index four 3 → IsTrue result }
 {
     match &source.as_bytes()[index..] {
         [a, b, c, d, ..] => u32::from_le_bytes([*a, *b, *c, *d]) == u32::from_le_bytes(four),
