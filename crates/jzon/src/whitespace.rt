@@ -33,6 +33,7 @@ pub(crate) fn skip_whitespace(source: &str, reading: Reading, start: usize) -> u
 fn is_above_space(source: &str, index: usize) -> bool
     ensures within { IsTrue result → index < length source.now }
     ensures above { IsTrue result → 32 < slice_index source.now index }
+    ensures all { index < length source.now → 32 < slice_index source.now index → IsTrue result }
 {
     let bytes = source.as_bytes();
     index < bytes.len() && bytes[index] > b' '
