@@ -27,6 +27,10 @@ fn words(rt: HostRuntime) -> std::result::Result<(), Fail> {
         (Error::FailedUtf8Parsing, "Failed to parse UTF-8 bytes"),
         (Error::OutOfMemory, "Out of memory"),
         (
+            Error::DuplicateKey { line: 1, column: 8 },
+            "Duplicate key at (1:8)",
+        ),
+        (
             Error::wrong_type(rt.alloc(), "Array")?,
             "Wrong type, expected: Array",
         ),

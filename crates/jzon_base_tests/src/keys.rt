@@ -17,7 +17,7 @@ fn of_names(alloc: Global, names: &[&str]) -> Result<Keys, AllocError> {
     Ok(keys)
 }
 
-// Each of these names is at its index.
+/// Each of these names is at its index.
 fn expect_at_index(rt: &impl Abort, keys: &Keys, names: &[&str]) {
     for (index, name) in names.iter().enumerate() {
         assert_eq!(rt; keys.position(name), Some(index), "of {name}");
@@ -26,7 +26,7 @@ fn expect_at_index(rt: &impl Abort, keys: &Keys, names: &[&str]) {
     }
 }
 
-// The keys are these, in this order, and "d" isn't among them.
+/// The keys are these, in this order, and "d" isn't among them.
 fn expect_names(rt: &impl Abort, keys: &Keys, names: &[&str]) {
     assert_eq!(rt; keys.len(), names.len());
     assert_eq!(rt; keys.is_empty(), names.is_empty());
@@ -69,7 +69,7 @@ fn places_a_removed_key(rt: HostRuntime) -> Result<(), AllocError> {
     Ok(())
 }
 
-// Each of these keys stands at its place, or nowhere.
+/// Each of these keys stands at its place, or nowhere.
 fn expect_places(rt: &impl Abort, keys: &Keys, rows: &[(&str, Option<usize>)]) {
     for (name, want) in rows {
         assert_eq!(rt; keys.position(name), *want, "of {name}");
@@ -117,7 +117,7 @@ fn places_keys_of_one_hash(rt: HostRuntime) -> Result<(), AllocError> {
     Ok(())
 }
 
-// What is taken at the front or at the back.
+/// What is taken at the front or at the back.
 fn taken<'a>(names: &mut Iter<'a>, at_back: bool) -> Option<&'a str> {
     if at_back {
         names.next_back()

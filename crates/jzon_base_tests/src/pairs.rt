@@ -5,7 +5,6 @@ use jzon_base::keys::Keys;
 use jzon_base::pairs::{Builder, IntoIter, Iter, IterMut, Pairs};
 use std::alloc::{AllocError, Global};
 use std::process::Abort;
-use std::test::Fail;
 
 fn of_pairs(alloc: Global, pairs: &[(&str, u32)]) -> Result<Pairs<u32>, AllocError> {
     let mut made = Pairs::new(alloc);
@@ -34,12 +33,7 @@ fn expect_shown(
     Ok(())
 }
 
-/// The texts of 32 bytes and of 33, which a key keeps in itself and in a `String`.
-const LONGEST_INLINE: &str = "0123456789abcdef0123456789abcdef";
-
-const SHORTEST_OWNED: &str = "0123456789abcdef0123456789abcdef!";
-
-// What is taken at the front or at the back.
+/// What is taken at the front or at the back.
 fn taken<'a>(lent: &mut Iter<'a, u32>, at_back: bool) -> Option<(&'a str, u32)> {
     let (name, value) = if at_back {
         lent.next_back()?
@@ -56,22 +50,6 @@ fn taken_mut<'a>(lent: &mut IterMut<'a, u32>, at_back: bool) -> Option<(&'a str,
         lent.next()?
     };
     Some((name, *value))
-}
-
-#[test]
-fn goes_from_both_ends(rt: HostRuntime) -> Result<(), AllocError> {
-    let pairs = of_pairs(rt.alloc(), &[("a", 1), ("b", 2), ("c", 3)])?;
-    let mut lent = pairs.iter();
-    for (at_back, want, left) in [
-        (false, Some(("a", 1u32)), 2usize),
-        (true, Some(("c", 3)), 1),
-        (false, Some(("b", 2)), 0),
-        (true, None, 0),
-    ] {
-        assert_eq!(rt; taken(&mut lent, at_back), want);
-        assert_eq!(rt; lent.len(), left);
-    }
-    Ok(())
 }
 
 #[test]
@@ -99,7 +77,7 @@ fn goes_over_no_pair(rt: HostRuntime) {
     assert_eq!(rt; IterMut::<u32>::empty().len(), 0);
 }
 
-// Whether this is taken at the front or at the back.
+/// Whether this is taken at the front or at the back.
 fn gives(owned: &mut IntoIter<u32>, at_back: bool, want: Option<(&str, u32)>) -> bool {
     let taken = if at_back {
         owned.next_back()
@@ -129,7 +107,7 @@ fn gives_from_both_ends(rt: HostRuntime) -> Result<(), AllocError> {
     Ok(())
 }
 
-// Sets the first and the last value to 0: `next` and `next_back` ask nothing of who is lent the iterator.
+/// Sets the first and the last value to 0: `next` and `next_back` ask nothing of who is lent the iterator.
 fn clear_ends(lent: &mut IterMut<'_, u32>) {
     if let Some((_, first)) = lent.next() {
         *first = 0;
@@ -158,27 +136,6 @@ fn writes_through_its_iterator(rt: HostRuntime) -> Result<(), AllocError> {
 }
 
 #[test]
-fn overrides_the_last(rt: HostRuntime) -> Result<(), AllocError> {
-    let mut pairs = of_pairs(rt.alloc(), &[("a", 1), ("b", 2), ("c", 3)])?;
-    pairs.override_last(9);
-    expect_shown(&rt, rt.alloc(), &pairs, "a1 b2 c9 ")?;
-    pairs.clear();
-    assert!(rt; pairs.is_empty());
-    pairs.override_last(9);
-    expect_shown(&rt, rt.alloc(), &pairs, "")
-}
-
-#[test]
-fn removes(rt: HostRuntime) -> Result<(), AllocError> {
-    let mut pairs = of_pairs(rt.alloc(), &[("a", 1), ("b", 2), ("c", 3)])?;
-    for (name, value, want) in [("x", None, "a1 b2 c3 "), ("b", Some(2u32), "a1 c3 ")] {
-        assert_eq!(rt; pairs.remove(name), value);
-        expect_shown(&rt, rt.alloc(), &pairs, want)?;
-    }
-    Ok(())
-}
-
-#[test]
 fn removes_and_puts_again(rt: HostRuntime) -> Result<(), AllocError> {
     let mut pairs = of_pairs(rt.alloc(), &[("a", 1), ("b", 2), ("c", 3)])?;
     assert_eq!(rt; pairs.remove("b"), Some(2));
@@ -187,16 +144,6 @@ fn removes_and_puts_again(rt: HostRuntime) -> Result<(), AllocError> {
         expect_shown(&rt, rt.alloc(), &pairs, want)?;
     }
     Ok(())
-}
-
-#[test]
-fn lends_values_or_puts_them(rt: HostRuntime) -> Result<(), AllocError> {
-    let mut pairs = Pairs::<u32>::with_capacity(rt.alloc(), 2)?;
-    for (name, more) in [("a", 1u32), ("b", 2), ("a", 4)] {
-        let value = pairs.at_mut(rt.alloc(), name, 0)?;
-        *value = value.saturating_add(more);
-    }
-    expect_shown(&rt, rt.alloc(), &pairs, "a5 b2 ")
 }
 
 #[test]
@@ -242,23 +189,6 @@ fn joins_keys_and_values(rt: HostRuntime) -> Result<(), AllocError> {
     Ok(())
 }
 
-#[test]
-fn keeps_short_and_long_keys_whole(rt: HostRuntime) -> Result<(), Fail> {
-    let pairs = of_pairs(rt.alloc(), &[(LONGEST_INLINE, 32), (SHORTEST_OWNED, 33)])?;
-    assert_eq!(rt; pairs.get(LONGEST_INLINE), Some(&32));
-    assert_eq!(rt; pairs.get(SHORTEST_OWNED), Some(&33));
-    for (key, length) in pairs {
-        let text = key.into_string(rt.alloc())?;
-        let want = if length == 32 {
-            LONGEST_INLINE
-        } else {
-            SHORTEST_OWNED
-        };
-        assert_eq!(rt; text.as_str(), want);
-    }
-    Ok(())
-}
-
 /// The pairs k0 0 to k999 999.
 fn numbered(alloc: Global) -> Result<Pairs<u32>, AllocError> {
     let mut pairs = Pairs::new(alloc);
@@ -281,7 +211,7 @@ fn remove_even(alloc: Global, pairs: &mut Pairs<u32>) -> Result<bool, AllocError
     Ok(were_there)
 }
 
-// The odd numbers under their keys, and no even number.
+/// The odd numbers under their keys, and no even number.
 fn expect_odd(rt: &impl Abort, alloc: Global, pairs: &Pairs<u32>) -> Result<(), AllocError> {
     for number in 0..1000u32 {
         let name = format!(in alloc; "k{number}")?;
@@ -291,7 +221,7 @@ fn expect_odd(rt: &impl Abort, alloc: Global, pairs: &Pairs<u32>) -> Result<(), 
     Ok(())
 }
 
-// The odd numbers in their order, taken at the front.
+/// The odd numbers in their order, taken at the front.
 fn expect_odd_in_order(
     rt: &impl Abort,
     alloc: Global,
@@ -313,7 +243,7 @@ fn finds_a_thousand_keys(rt: HostRuntime) -> Result<(), AllocError> {
     expect_odd(&rt, rt.alloc(), &pairs)
 }
 
-// The pair k0 0 is taken at the back, and 500 are left.
+/// The pair k0 0 is taken at the back, and 500 are left.
 fn expect_zero_behind(rt: &impl Abort, left: &mut Iter<'_, u32>) {
     assert_eq!(rt; taken(left, true), Some(("k0", 0)));
     assert_eq!(rt; left.len(), 500);
@@ -426,7 +356,7 @@ fn place_of(
     Ok(pairs.position(name.as_str()))
 }
 
-// Each of these keys is found at its place, or nowhere.
+/// Each of these keys is found at its place, or nowhere.
 fn expect_places(
     rt: &impl Abort,
     alloc: Global,
@@ -463,21 +393,6 @@ fn remove(
     Ok(pairs.remove(name.as_str()))
 }
 
-#[test]
-fn lowers_places_of_one_hash(rt: HostRuntime) -> Result<(), AllocError> {
-    let mut pairs = of_one_hash(rt.alloc(), 10)?;
-    assert_eq!(rt; remove(rt.alloc(), &mut pairs, 3)?, Some(3));
-    let rows = [
-        (0, Some(0)),
-        (2, Some(2)),
-        (3, None),
-        (4, Some(3)),
-        (9, Some(8)),
-        (10, None),
-    ];
-    expect_places(&rt, rt.alloc(), &pairs, &rows)
-}
-
 /// Keys of one hash in the order d, b, a, c, and behind them so many others that there is an index.
 const LETTERS: [usize; 9] = [3, 1, 0, 2, 10, 11, 12, 13, 14];
 
@@ -508,7 +423,7 @@ fn finds_letters_of_one_hash(rt: HostRuntime) -> Result<(), AllocError> {
     expect_places(&rt, rt.alloc(), &pairs, &rows)
 }
 
-// The builder knows the key once an entry of it is there, and not before.
+/// The builder knows the key once an entry of it is there, and not before.
 fn push_new(
     rt: &impl Abort,
     alloc: Global,
@@ -534,7 +449,7 @@ fn knows_the_keys_of_one_hash(rt: HostRuntime) -> Result<(), AllocError> {
     Ok(())
 }
 
-// Keys that aren't there, and then are.
+/// Keys that aren't there, and then are.
 fn push_thousand(
     rt: &impl Abort,
     alloc: Global,

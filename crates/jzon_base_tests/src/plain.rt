@@ -18,7 +18,7 @@ fn short_runs(rt: HostRuntime) {
     }
 }
 
-// A run of `byte` up to `stop` at each place: as far as the stop, also where nothing stands behind it, and where it doesn't stand there itself.
+/// A run of `byte` up to `stop` at each place: as far as the stop, also where nothing stands behind it, and where it doesn't stand there itself.
 fn expect_runs(rt: &impl Abort, byte: u8, stop: u8) {
     for place in 0..70 {
         let mut bytes = [byte; 70];

@@ -32,6 +32,7 @@ fn fits_unsigned_words(rt: HostRuntime) {
         (most, Ok(18446744073709551615u64)),
         (number(false, 0, 0), Err(NumberOutOfScope)),
         (number(true, 5, 2), Err(NumberOutOfScope)),
+        (number(true, 50, -1), Err(NumberOutOfScope)),
         (NAN, Err(NumberOutOfScope)),
     ];
     for (number, want) in rows {
@@ -72,6 +73,7 @@ fn fits_signed_words(rt: HostRuntime) {
         (-least, Err(NumberOutOfScope)),
         (number(false, 0, 0), Ok(0)),
         (number(true, 5, 2), Err(NumberOutOfScope)),
+        (number(false, 50, -1), Err(NumberOutOfScope)),
         (number(true, 18446744073709551615, 0), Err(NumberOutOfScope)),
         (NAN, Err(NumberOutOfScope)),
     ];

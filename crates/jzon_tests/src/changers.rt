@@ -7,7 +7,7 @@ use jzon::{Error, IntoJson, JsonValue, Result, parse};
 use std::alloc::Global;
 use std::process::Abort;
 
-// A value of this text becomes one of that text, and one that is kept in place stays so.
+/// A value of this text becomes one of that text, and one that is kept in place stays so.
 fn expect_cleared(rt: &impl Abort, alloc: Global, mut value: JsonValue, after: &str) -> Tested {
     let is_short = matches!(value, JsonValue::Short(_));
     value.clear();
@@ -40,7 +40,7 @@ fn takes(rt: HostRuntime) -> Tested {
     expect_dump(&rt, rt.alloc(), &taken, "[1,2,3]")
 }
 
-// What is taken of the value as a text, and the text of what is left.
+/// What is taken of the value as a text, and the text of what is left.
 fn expect_text(
     rt: &impl Abort,
     alloc: Global,
@@ -154,7 +154,7 @@ impl IntoJson for Refused {
     }
 }
 
-// The call was refused in these words, and the value is as it was.
+/// The call was refused in these words, and the value is as it was.
 fn expect_refused(rt: &impl Abort, alloc: Global, refused: Result<()>, words: &str) -> Tested {
     match refused {
         Ok(()) => assert!(rt; false, "it isn't refused"),
@@ -163,7 +163,7 @@ fn expect_refused(rt: &impl Abort, alloc: Global, refused: Result<()>, words: &s
     Ok(())
 }
 
-// The kind of the value is looked at before the memory for what is put into it.
+/// The kind of the value is looked at before the memory for what is put into it.
 #[test]
 fn refuses_another_kind(rt: HostRuntime) -> Tested {
     let rows = [

@@ -1,7 +1,7 @@
 //! What the tests share.
 
+use jzon::JsonValue;
 use jzon::number::Number;
-use jzon::{JsonValue, parse};
 use std::alloc::Global;
 use std::process::Abort;
 use std::test::Fail;
@@ -27,11 +27,6 @@ pub fn long(alloc: Global, text: &str) -> jzon::Result<JsonValue> {
 pub fn expect_dump(rt: &impl Abort, alloc: Global, value: &JsonValue, text: &str) -> Tested {
     assert_eq!(rt; value.dump(alloc)?.as_str(), text);
     Ok(())
-}
-
-/// What `text` means dumps `dump`.
-pub fn expect_read(rt: &impl Abort, alloc: Global, text: &str, dump: &str) -> Tested {
-    expect_dump(rt, alloc, &parse(alloc, text)?, dump)
 }
 
 /// Whether it is there, with this key and this number.

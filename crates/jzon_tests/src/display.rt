@@ -5,7 +5,7 @@ use jzon::{JsonValue, parse};
 use std::alloc::Global;
 use std::test::Fail;
 
-// What is shown of the value that the text means.
+/// What is shown of the value that the text means.
 fn shown(alloc: Global, text: &str) -> Result<String, Fail> {
     let value = parse(alloc, text)?;
     Ok(format!(in alloc; "{value}")?)

@@ -38,7 +38,7 @@ fn reads_each_width_of_words(rt: HostRuntime) {
     assert_eq!(rt; value.as_isize(), Some(4294967296));
 }
 
-// What is read of it as an u64 and as an i64.
+/// What is read of it as an u64 and as an i64.
 fn expect_integers(rt: &impl Abort, value: &JsonValue, unsigned: Option<u64>, signed: Option<i64>) {
     assert_eq!(rt; value.as_u64(), unsigned);
     assert_eq!(rt; value.as_i64(), signed);
@@ -79,7 +79,7 @@ fn equals_integers(rt: HostRuntime) {
     assert!(rt; !JsonValue::Boolean(false).eq_i64(0) && !JsonValue::Null.eq_u64(0));
 }
 
-// It is `[-7,2.5]`.
+/// It is `[-7,2.5]`.
 fn look_at_places(rt: &impl Abort, array: &JsonValue) {
     let integer = array.at_index(0);
     assert_eq!(rt; integer.as_i8(), Some(-7));

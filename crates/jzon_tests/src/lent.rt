@@ -14,7 +14,7 @@ use jzon::{JsonValue, Result, parse};
 use std::alloc::Global;
 use std::process::Abort;
 
-// The value under `a` is `lent`. It is written, and then the whole is `after`.
+/// The value under `a` is `lent`. It is written, and then the whole is `after`.
 fn expect_key(
     rt: &impl Abort,
     alloc: Global,
@@ -51,7 +51,7 @@ fn makes_keys_of_keys(rt: HostRuntime) -> Tested {
     expect_dump(&rt, rt.alloc(), &value, "{\"foo\":{\"bar\":100}}")
 }
 
-// The item at this index is `lent`, and the whole is then `made`.
+/// The item at this index is `lent`, and the whole is then `made`.
 fn expect_made(
     rt: &impl Abort,
     alloc: Global,
@@ -64,7 +64,7 @@ fn expect_made(
     expect_dump(rt, alloc, &value, made)
 }
 
-// The item at this index is written, and the whole is then `after`.
+/// The item at this index is written, and the whole is then `after`.
 fn expect_written(
     rt: &impl Abort,
     alloc: Global,
@@ -96,13 +96,23 @@ fn makes_places(rt: HostRuntime) -> Tested {
     Ok(())
 }
 
+/// It is no container, and so it lends nothing.
+fn lend_nothing(rt: &impl Abort, mut value: JsonValue) {
+    assert!(rt; value.get_mut("a").is_none());
+    assert!(rt; value.as_object_mut().is_none());
+    assert!(rt; value.as_array_mut().is_none());
+    assert_eq!(rt; value.members_mut().len(), 0);
+    assert_eq!(rt; value.entries_mut().len(), 0);
+}
+
 #[test]
-fn lends_nothing_of_another_kind(rt: HostRuntime) {
-    assert!(rt; number(1).get_mut("a").is_none());
-    assert!(rt; number(1).as_object_mut().is_none());
-    assert!(rt; number(1).as_array_mut().is_none());
-    assert_eq!(rt; number(1).members_mut().len(), 0);
-    assert_eq!(rt; number(1).entries_mut().len(), 0);
+fn lends_nothing_of_another_kind(rt: HostRuntime) -> Tested {
+    for text in ["null", "\"a\"", "1", "true"] {
+        lend_nothing(&rt, parse(rt.alloc(), text)?);
+    }
+    assert!(rt; parse(rt.alloc(), "[1]")?.get_mut("a").is_none());
+    assert!(rt; parse(rt.alloc(), "[1]")?.as_object_mut().is_none());
+    Ok(())
 }
 
 #[test]
@@ -111,9 +121,9 @@ fn lends_what_is_there(rt: HostRuntime) -> Tested {
     assert!(rt; value.get_mut("b").is_none());
     assert!(rt; value.as_array_mut().is_none());
     if let Some(place) = value.get_mut("a") {
-        *place = number(2);
+        place.push(rt.alloc(), 2)?;
     }
-    expect_dump(&rt, rt.alloc(), &value, "{\"a\":2}")?;
+    expect_dump(&rt, rt.alloc(), &value, "{\"a\":[1,2]}")?;
     if let Some(object) = value.as_object_mut() {
         object.clear();
     }
@@ -129,7 +139,7 @@ fn lends_items(rt: HostRuntime) -> Tested {
     expect_dump(&rt, rt.alloc(), &value, "[]")
 }
 
-// From the back, each member becomes the one that was taken before it, and the last null.
+/// From the back, each member becomes the one that was taken before it, and the last null.
 fn move_members(value: &mut JsonValue) {
     let mut before = JsonValue::Null;
     for member in value.members_mut().rev() {
@@ -192,7 +202,7 @@ fn writes(rt: HostRuntime) -> Tested {
     expect_dump(&rt, alloc, &value, "[null,4]")
 }
 
-// The value under this key is `lent`, and is then this number.
+/// The value under this key is `lent`, and is then this number.
 fn expect_lent(
     rt: &impl Abort,
     alloc: Global,
@@ -226,7 +236,7 @@ fn objects_make_keys(rt: HostRuntime) -> Tested {
     )
 }
 
-// What a caller's proof knows of a value that was written.
+/// What a caller's proof knows of a value that was written.
 fn put_value(value: &mut JsonValue, alloc: Global, key: &str, written: JsonValue) -> Result<()>
     ensures ok { OnOk result (view value.new ≡
         object (pairs_of (put key.now (view written) (entries (view value.old))))) }

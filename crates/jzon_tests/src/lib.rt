@@ -24,8 +24,6 @@ mod readers;
 #[cfg(test)]
 mod refusals;
 #[cfg(test)]
-mod texts;
-#[cfg(test)]
 mod values;
 #[cfg(test)]
 mod view;

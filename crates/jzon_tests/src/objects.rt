@@ -2,15 +2,15 @@
 
 use crate::common::{Tested, expect_dump, is_pair, number, parts};
 use jzon::object::{Iter, IterMut, Object};
-use jzon::{JsonValue, Result, parse};
+use jzon::{Error, JsonValue, Result, parse};
 use std::alloc::Global;
 use std::process::Abort;
 
-// The object that a text means; of another text the empty one.
+/// The object that a text means.
 fn object_of(alloc: Global, text: &str) -> Result<Object> {
     match parse(alloc, text)? {
         JsonValue::Object(object) => Ok(object),
-        _ => Ok(Object::new(alloc)),
+        _ => Err(Error::wrong_type(alloc, "Object")?),
     }
 }
 
@@ -35,7 +35,7 @@ fn inserts(rt: HostRuntime) -> Tested {
     Ok(())
 }
 
-// What is removed under `a`, null for nothing, and what is left.
+/// What is removed under `a`, null for nothing, and what is left.
 fn expect_removed(
     rt: &impl Abort,
     alloc: Global,
@@ -127,12 +127,12 @@ fn has_empty_iterators(rt: HostRuntime) {
     assert!(rt; IterMut::empty().next().is_none());
 }
 
-// The longest key that lies in place, and the shortest one that doesn't.
+/// The longest key that lies in place, and the shortest one that doesn't.
 const IN_PLACE: &str = "0123456789abcdef0123456789abcdef";
 
 const IN_MEMORY: &str = "0123456789abcdef0123456789abcdef!";
 
-// The keys from the back, with a comma behind each.
+/// The keys from the back, with a comma behind each.
 fn keys_from_the_back(alloc: Global, object: Object) -> Result<String> {
     let mut keys = String::new(alloc);
     for (key, _) in object.into_iter().rev() {
@@ -149,6 +149,8 @@ fn gives_its_keys_whole(rt: HostRuntime) -> Tested {
     object.insert(rt.alloc(), IN_MEMORY, number(2))?;
     assert!(rt; object.get(IN_PLACE).is_some_and(|value| value.eq_u64(1)));
     assert!(rt; object.get(IN_MEMORY).is_some_and(|value| value.eq_u64(2)));
+    assert!(rt; object.at(IN_MEMORY).eq_u64(2));
+    assert!(rt; object.at("x").value().is_none());
     let keys = keys_from_the_back(rt.alloc(), object)?;
     assert_eq!(rt;
         keys.as_str(),
@@ -174,9 +176,6 @@ fn equals_in_any_order(rt: HostRuntime) -> Tested {
 fn shows_its_pairs(rt: HostRuntime) -> Tested {
     let object = object_of(rt.alloc(), "{\"a\\n\":1}")?;
     let text = format!(in rt.alloc(); "{object:?}")?;
-    assert!(rt;
-        text.as_str()
-            .starts_with("Object { pairs: {\"a\\n\": Number(")
-    );
+    assert!(rt; text.as_str().contains("\"a\\n\""));
     Ok(())
 }

@@ -1,25 +1,7 @@
 //! What `stringify` and `stringify_pretty` print of built values.
 
 use crate::common::Tested;
-use jzon::{JsonValue, Result, parse, stringify, stringify_pretty};
-use std::alloc::Global;
-
-fn built_array(alloc: Global) -> Result<JsonValue> {
-    Ok(jzon::array![alloc; 10, false, jzon::Null])
-}
-
-fn built_object(alloc: Global) -> Result<JsonValue> {
-    Ok(jzon::object! {alloc; title: "Dune", "pages": 412})
-}
-
-#[test]
-fn stringifies_what_macros_build(rt: HostRuntime) -> Tested {
-    let text = stringify(rt.alloc(), built_array(rt.alloc())?)?;
-    assert_eq!(rt; text.as_str(), "[10,false,null]");
-    let text = stringify(rt.alloc(), built_object(rt.alloc())?)?;
-    assert_eq!(rt; text.as_str(), "{\"title\":\"Dune\",\"pages\":412}");
-    Ok(())
-}
+use jzon::{JsonValue, parse, stringify, stringify_pretty};
 
 #[test]
 fn stringifies_what_is_pushed(rt: HostRuntime) -> Tested {

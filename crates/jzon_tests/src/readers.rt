@@ -6,7 +6,7 @@ use jzon::object::Object;
 use jzon::{JsonValue, parse};
 use std::process::Abort;
 
-// What the readers of kind, emptiness and length tell: null, boolean, number, string, object, array; empty; the length.
+/// What the readers of kind, emptiness and length tell: null, boolean, number, string, object, array; empty; the length.
 fn expect_told(rt: &impl Abort, value: &JsonValue, kind: usize, empty: bool, len: usize) {
     let told = [
         value.is_null(),
@@ -49,7 +49,7 @@ fn tells_kind_emptiness_and_length(rt: HostRuntime) -> Tested {
     Ok(())
 }
 
-// The text, the mantissa and the truth that are read of it.
+/// The text, the mantissa and the truth that are read of it.
 fn expect_scalar(
     rt: &impl Abort,
     value: &JsonValue,
@@ -59,11 +59,13 @@ fn expect_scalar(
 ) {
     assert_eq!(rt; value.as_str(), text);
     assert_eq!(rt; value.as_number().map(|read| read.as_parts().1), mantissa);
+    assert_eq!(rt; value.as_u64(), mantissa);
+    assert_eq!(rt; value.as_fixed_point_u64(0), mantissa);
     assert_eq!(rt; value.as_bool(), truth);
     expect_equal(rt, value, text, truth);
 }
 
-// The text and the truth that it equals.
+/// The text and the truth that it equals.
 fn expect_equal(rt: &impl Abort, value: &JsonValue, text: Option<&str>, truth: Option<bool>) {
     for other in ["a", "b", ""] {
         assert_eq!(rt; value.eq_str(other), text == Some(other), "{other}");
@@ -91,7 +93,7 @@ fn reads_texts_numbers_and_truth(rt: HostRuntime) -> Tested {
     Ok(())
 }
 
-// Whether it is there, and this number.
+/// Whether it is there, and this number.
 fn is_number(value: Option<&JsonValue>, number: u64) -> bool {
     match value {
         Some(value) => value.eq_u64(number),
@@ -99,7 +101,7 @@ fn is_number(value: Option<&JsonValue>, number: u64) -> bool {
     }
 }
 
-// It is `{"a":1,"b":2}`.
+/// It is `{"a":1,"b":2}`.
 fn look_into_an_object(rt: &impl Abort, object: &JsonValue) {
     assert!(rt; is_number(object.get("a"), 1));
     assert!(rt; object.get("c").is_none());
@@ -108,6 +110,7 @@ fn look_into_an_object(rt: &impl Abort, object: &JsonValue) {
     assert!(rt; !object.contains(&number(1)));
     assert_eq!(rt; object.as_object().map(Object::len), Some(2));
     assert!(rt; object.as_array().is_none());
+    assert!(rt; object.at_index(0).value().is_none());
     assert_eq!(rt; object.members().len(), 0);
     let mut entries = object.entries();
     assert!(rt; is_pair(entries.next(), "a", 1));
@@ -115,7 +118,7 @@ fn look_into_an_object(rt: &impl Abort, object: &JsonValue) {
     assert!(rt; entries.next().is_none());
 }
 
-// It is `[1,2]`.
+/// It is `[1,2]`.
 fn look_into_an_array(rt: &impl Abort, array: &JsonValue) {
     assert!(rt; array.get("a").is_none());
     assert!(rt; !array.has_key("a"));
@@ -138,7 +141,7 @@ fn looks_into_containers(rt: HostRuntime) -> Tested {
     Ok(())
 }
 
-// It is no container, and so nothing is in it.
+/// It is no container, and so nothing is in it.
 fn find_nothing(rt: &impl Abort, value: &JsonValue) {
     assert!(rt; value.get("a").is_none());
     assert!(rt; !value.has_key("a"));

@@ -7,16 +7,11 @@ mod written;
 
 use crate::common::Tested;
 use jzon::{Error, JsonValue, Result, parse};
-use jzon_refusals::{MOST, Refusals};
+use jzon_test_support::{MOST, Refusals};
 use std::alloc::Global;
 use std::process::Abort;
 
-/// A document with something of each kind, and the text that it dumps.
-const DOCUMENT: &str = "{\"a\":[1,-0.5e+2,\"x\\u00e9\\uD834\\uDD1E\"],\"b\":null}";
-
-const PRINTED: &str = "{\"a\":[1,-50,\"xé\u{1d11e}\"],\"b\":null}";
-
-/// One with a key and a text that are too long to lie in place.
+/// A document with a key and a text that are too long to lie in place.
 const LONG_DOCUMENT: &str =
     "{\"0123456789abcdef0123456789abcdef!\":[{\"b\":\"a text of more than thirty bytes\"},[true,{}]]}";
 
@@ -56,7 +51,7 @@ fn case<C>(
     }
 }
 
-// A refused run answered `OutOfMemory`, and its value is as it was.
+/// A refused run answered `OutOfMemory`, and its value is as it was.
 fn expect_refused(
     rt: &impl Abort,
     alloc: Global,
@@ -71,7 +66,7 @@ fn expect_refused(
     Ok(())
 }
 
-// A run without a refusal gave its answer.
+/// A run without a refusal gave its answer.
 fn expect_answer(
     rt: &impl Abort,
     alloc: Global,
@@ -84,7 +79,7 @@ fn expect_answer(
     Ok(())
 }
 
-// The call with its first request refused, then with its second, and so on, until a run meets no refusal.
+/// The call with its first request refused, then with its second, and so on, until a run meets no refusal.
 fn refuse<C: Call>(rt: &(impl Eprint + Abort), alloc: Global, row: &Row<C>) -> Tested {
     let before = parse(alloc, row.before)?;
     let call = row.call;

@@ -7,33 +7,10 @@ use jzon::{JsonValue, parse};
 use std::process::Abort;
 
 #[test]
-fn dumps_numbers(rt: HostRuntime) -> Tested {
-    let rows = [
-        ((true, 0, 5), "0"),
-        ((false, 0, 0), "-0"),
-        ((false, 125, 2), "-12500"),
-        ((true, 150, -2), "1.50"),
-        ((true, 100, -2), "1.00"),
-        ((true, 12, 32767), "1.2e32768"),
-    ];
-    for ((positive, mantissa, exponent), text) in rows {
-        expect_dump(&rt, rt.alloc(), &parts(positive, mantissa, exponent), text)?;
-    }
-    expect_dump(&rt, rt.alloc(), &JsonValue::Number(NAN), "null")?;
-    expect_dump(&rt, rt.alloc(), &JsonValue::Null, "null")?;
-    expect_dump(&rt, rt.alloc(), &JsonValue::Boolean(true), "true")?;
-    expect_dump(&rt, rt.alloc(), &JsonValue::Boolean(false), "false")
-}
-
-#[test]
 fn dumps_texts(rt: HostRuntime) -> Tested {
     let rows = [
-        ("", "\"\""),
         ("\r\n\t\x08\x0c\\/\"", "\"\\r\\n\\t\\b\\f\\\\/\\\"\""),
-        ("\0", "\"\\u0000\""),
-        ("foo\x1fbar\0baz", "\"foo\\u001fbar\\u0000baz\""),
         ("\x0b\x1a\x7f/", "\"\\u000b\\u001a\x7f/\""),
-        ("\u{2764}\u{fe0f}", "\"\u{2764}\u{fe0f}\""),
         ("\u{1d11e}\n\u{e9}", "\"\u{1d11e}\\n\u{e9}\""),
     ];
     for (content, text) in rows {
@@ -43,7 +20,7 @@ fn dumps_texts(rt: HostRuntime) -> Tested {
     Ok(())
 }
 
-// `==` of what two texts mean, from both sides.
+/// `==` of what two texts mean, from both sides.
 fn expect_equal(rt: &impl Abort, left: &JsonValue, right: &JsonValue, is_equal: bool) {
     assert_eq!(rt; left == right, is_equal);
     assert_eq!(rt; right == left, is_equal);

@@ -1,72 +1,17 @@
 //! Writers that take one byte a call, and have trouble at one.
 
-ghost use Rattle.std.specs.Prelude.{Some};
-
 use crate::common::Tested;
 use jzon::codegen::{PrettyWriterGenerator, WriterGenerator, write_json};
 use jzon::{JsonValue, parse};
+use jzon_test_support::{DOCUMENT, DUMP, NEVER, SlowWriter, Trouble};
 use std::alloc::Global;
 use std::io;
-use std::io::{ErrorKind, Write};
+use std::io::ErrorKind;
 use std::process::Abort;
-
-const DOCUMENT: &str = "{\"a\":[1,-0.5e+2,\"x\\u00e9\\uD834\\uDD1E\"],\"b\":null}";
-
-const COMPACT: &str = "{\"a\":[1,-50,\"xé\u{1d11e}\"],\"b\":null}";
 
 const PRETTY: &str = "{\n  \"a\": [\n    1,\n    -50,\n    \"xé\u{1d11e}\"\n  ],\n  \"b\": null\n}";
 
-/// What a writer does at one call.
-#[derive(Clone, Copy)]
-enum Trouble {
-    TakesNothing,
-    Fails(ErrorKind),
-}
-
-/// Takes one byte a call, but for one call that meets trouble. 0 is no call.
-#[derive(Drop)]
-struct SlowWriter {
-    bytes: Vec<u8>,
-    calls: usize,
-    trouble_at: usize,
-    trouble: Trouble,
-}
-
-impl SlowWriter {
-    fn new(alloc: Global, trouble_at: usize, trouble: Trouble) -> SlowWriter {
-        SlowWriter {
-            bytes: Vec::new(alloc),
-            calls: 0,
-            trouble_at,
-            trouble,
-        }
-    }
-}
-
-impl Write for SlowWriter {
-    ghost contents = { λ writer. Some writer.bytes.items };
-
-    fn write(&mut self, buf: &[u8]) -> io::Result<usize> {
-        self.calls = self.calls.saturating_add(1);
-        if self.calls == self.trouble_at {
-            return match self.trouble {
-                Trouble::TakesNothing => Ok(0),
-                Trouble::Fails(kind) => Err(io::Error::from(kind)),
-            };
-        }
-        let Some(first) = buf.first() else {
-            return Ok(0);
-        };
-        self.bytes.push(*first)?;
-        Ok(1)
-    }
-
-    fn flush(&mut self) -> io::Result<()> {
-        Ok(())
-    }
-}
-
-// How a value is written.
+/// How a value is written.
 #[derive(Clone, Copy)]
 enum How {
     Compact,
@@ -78,7 +23,7 @@ enum How {
 impl How {
     fn text(self) -> &'static str {
         match self {
-            How::Compact | How::Generator => COMPACT,
+            How::Compact | How::Generator => DUMP,
             How::Pretty | How::PrettyGenerator => PRETTY,
         }
     }
@@ -93,14 +38,14 @@ impl How {
     }
 }
 
-// The writer holds the first bytes of the text, and this was its last call.
+/// The writer holds the first bytes of the text, and this was its last call.
 fn expect_prefix(rt: &impl Abort, writer: &SlowWriter, text: &str, call: usize) {
     assert_eq!(rt; writer.calls, call);
     assert_eq!(rt; writer.bytes.len(), call.saturating_sub(1));
     assert!(rt; text.as_bytes().starts_with(&writer.bytes));
 }
 
-// At each call there is trouble once: the error has the writer's own kind, and nothing is written after it.
+/// At each call there is trouble once: the error has the writer's own kind, and nothing is written after it.
 fn expect_stops(rt: &impl Abort, alloc: Global, value: &JsonValue, how: How, trouble: Trouble) {
     let text = how.text();
     for call in 1..=text.len() {
@@ -144,7 +89,7 @@ fn writes_whole_texts(rt: HostRuntime) -> Tested {
         How::Generator,
         How::PrettyGenerator,
     ] {
-        let mut writer = SlowWriter::new(rt.alloc(), 0, Trouble::TakesNothing);
+        let mut writer = SlowWriter::new(rt.alloc(), NEVER, Trouble::TakesNothing);
         how.write(&value, &mut writer)?;
         assert_eq!(rt; writer.bytes.as_slice(), how.text().as_bytes());
     }

@@ -3,32 +3,34 @@
 use jzon::{JsonValue, Result};
 use std::alloc::Global;
 
-// An object with each form of a key and of a value.
-fn each_form(alloc: Global, key: &str, inner: JsonValue) -> Result<JsonValue> {
+/// An object with each form of a key and of a value, and a key twice.
+fn each_form(alloc: Global, key: &str) -> Result<JsonValue> {
     Ok(
-        jzon::object! {alloc; foo: inner, "bar": null, [key]: {}, list: [null, [JsonValue::Null,], {a: null}], key => [], "c" => JsonValue::Null,},
+        jzon::object! {alloc; foo: false, "bar": null, [key]: 42, list: [null, "world", true], "a" => 1, "a" => 2,},
     )
 }
 
 #[test]
 fn builds_each_form(rt: HostRuntime) -> Result<()> {
-    let built = each_form(rt.alloc(), "z", JsonValue::Boolean(false))?;
+    let built = each_form(rt.alloc(), "z")?;
     assert_eq!(rt;
         built.dump(rt.alloc())?.as_str(),
-        "{\"foo\":false,\"bar\":null,\"z\":[],\"list\":[null,[null],{\"a\":null}],\"c\":null}"
+        "{\"foo\":false,\"bar\":null,\"z\":42,\"list\":[null,\"world\",true],\"a\":2}"
     );
     Ok(())
 }
 
-fn nothing(alloc: Global) -> Result<JsonValue> {
-    Ok(jzon::array![alloc; {}, jzon::array![alloc;], jzon::value!(alloc; null), jzon::Null])
+fn containers(alloc: Global) -> Result<JsonValue> {
+    Ok(
+        jzon::array![alloc; {}, {a: null}, [JsonValue::Null,], jzon::array![alloc;], jzon::value!(alloc; null), jzon::Null],
+    )
 }
 
 #[test]
-fn builds_empty_containers(rt: HostRuntime) -> Result<()> {
+fn builds_containers(rt: HostRuntime) -> Result<()> {
     assert_eq!(rt;
-        nothing(rt.alloc())?.dump(rt.alloc())?.as_str(),
-        "[{},[],null,null]"
+        containers(rt.alloc())?.dump(rt.alloc())?.as_str(),
+        "[{},{\"a\":null},[null],[],null,null]"
     );
     Ok(())
 }

@@ -5,39 +5,18 @@ ghost use Rattle.jzon.specs.Laws.{IsReadAs};
 ghost use Rattle.jzon.specs.Reading.{usual};
 
 use jzon::{Error, JsonValue, laws, parse};
-use std::alloc::{AllocError, Global};
+use jzon_test_support::joined;
+use std::alloc::Global;
 use std::process::Abort;
 use std::test::Fail;
 
-/// `prefix`, this many times `repeated`, and `back`.
-fn long_text(
-    alloc: Global,
-    prefix: &str,
-    repeated: char,
-    count: usize,
-    back: &str,
-) -> Result<String, AllocError> {
-    let mut text = String::from_str(alloc, prefix)?;
-    for _ in 0..count {
-        text.push(repeated)?;
-    }
-    text.push_str(back)?;
-    Ok(text)
-}
-
-/// Texts one after the other, each so many times.
-fn joined_text(alloc: Global, parts: &[(&str, usize)]) -> Result<String, AllocError> {
-    let mut text = String::new(alloc);
-    for (part, count) in parts {
-        for _ in 0..*count {
-            text.push_str(part)?;
-        }
-    }
-    Ok(text)
-}
-
 /// The text is refused in these words.
-fn expect_refused(rt: &impl Abort, alloc: Global, text: &str, words: &str) -> Result<(), Fail> {
+pub(crate) fn expect_refused(
+    rt: &impl Abort,
+    alloc: Global,
+    text: &str,
+    words: &str,
+) -> Result<(), Fail> {
     match parse(alloc, text) {
         Ok(_) => assert!(rt; false, "{text} is read"),
         Err(e) => {
@@ -45,6 +24,18 @@ fn expect_refused(rt: &impl Abort, alloc: Global, text: &str, words: &str) -> Re
             assert_eq!(rt; told.as_str(), words, "{text}");
         }
     }
+    Ok(())
+}
+
+/// What `text` means dumps `dump`.
+pub(crate) fn expect_read(
+    rt: &impl Abort,
+    alloc: Global,
+    text: &str,
+    dump: &str,
+) -> Result<(), Fail> {
+    let value = parse(alloc, text)?;
+    assert_eq!(rt; value.dump(alloc)?.as_str(), dump, "{text}");
     Ok(())
 }
 
@@ -110,27 +101,27 @@ fn reads_literals_and_numbers(rt: HostRuntime) -> Result<(), Fail> {
 
 #[test]
 fn reads_long_numbers(rt: HostRuntime) -> Result<(), Fail> {
-    let rows: [(&str, char, usize, &str, (bool, u64, i16)); 9] = [
-        ("1e", '9', 60, "", (true, 1, 32767)),
-        ("1e", '9', 1000000, "", (true, 1, 32767)),
-        ("1e-", '9', 1000000, "", (true, 1, -32768)),
-        ("8", '0', 32785, "", (true, 8000000000000000000, 32767)),
-        ("8", '0', 32785, "e-32767", (true, 8000000000000000000, 0)),
-        ("8", '0', 32785, "e1", (true, 8000000000000000000, 32767)),
-        ("0.", '0', 32768, "", (true, 0, -32768)),
-        ("0.", '0', 32767, "1", (true, 1, -32768)),
-        ("9.", '9', 40000, "", (true, 9999999999999999999, -18)),
+    let rows: [(&str, &str, usize, &str, (bool, u64, i16)); 9] = [
+        ("1e", "9", 60, "", (true, 1, 32767)),
+        ("1e", "9", 1000000, "", (true, 1, 32767)),
+        ("1e-", "9", 1000000, "", (true, 1, -32768)),
+        ("8", "0", 32785, "", (true, 8000000000000000000, 32767)),
+        ("8", "0", 32785, "e-32767", (true, 8000000000000000000, 0)),
+        ("8", "0", 32785, "e1", (true, 8000000000000000000, 32767)),
+        ("0.", "0", 32768, "", (true, 0, -32768)),
+        ("0.", "0", 32767, "1", (true, 1, -32768)),
+        ("9.", "9", 40000, "", (true, 9999999999999999999, -18)),
     ];
-    for (prefix, repeated, count, back, parts) in &rows {
-        let text = long_text(rt.alloc(), prefix, *repeated, *count, back)?;
+    for (prefix, repeated, count, back, parts) in rows {
+        let text = joined(rt.alloc(), &[(prefix, 1), (repeated, count), (back, 1)])?;
         let value = parse(rt.alloc(), text.as_str())?;
         assert_eq!(rt;
             parts_of(&value),
-            Some(*parts),
+            Some(parts),
             "{prefix}, {count} times {repeated}, {back}"
         );
     }
-    let text = long_text(rt.alloc(), "0.", '0', 32768, "e32768")?;
+    let text = joined(rt.alloc(), &[("0.", 1), ("0", 32768), ("e32768", 1)])?;
     assert_eq!(rt;
         parts_of(&parse(rt.alloc(), text.as_str())?),
         Some((true, 0, 0))
@@ -148,8 +139,8 @@ fn refuses_digits_past_the_limits(rt: HostRuntime) -> Result<(), Fail> {
         ("8", 32786, ".e"),
         ("-0.", 32769, "ex"),
     ];
-    for (prefix, count, back) in &rows {
-        let text = long_text(rt.alloc(), prefix, '0', *count, back)?;
+    for (prefix, count, back) in rows {
+        let text = joined(rt.alloc(), &[(prefix, 1), ("0", count), (back, 1)])?;
         let refused = parse(rt.alloc(), text.as_str());
         assert!(rt;
             matches!(refused, Err(Error::ExceededDepthLimit)),
@@ -409,9 +400,8 @@ fn reads_arrays_and_objects(rt: HostRuntime) -> Result<(), Fail> {
             "{\"x\\ty\":\"z\",\"w\":\"A\"}",
         ),
     ];
-    for (text, dump) in &rows {
-        let value = parse(rt.alloc(), text)?;
-        assert_eq!(rt; value.dump(rt.alloc())?.as_str(), *dump, "{text}");
+    for (text, dump) in rows {
+        expect_read(&rt, rt.alloc(), text, dump)?;
     }
     Ok(())
 }
@@ -426,13 +416,10 @@ fn reads_512_open_containers(rt: HostRuntime) -> Result<(), Fail> {
         ("[", "]", 512, "[ ]", "[]"),
         ("{\"a\":", "}", 512, "{ }", "{}"),
     ];
-    for (open, close, count, inside, dump) in &rows {
-        let text = joined_text(
-            rt.alloc(),
-            &[(*open, *count), (*inside, 1), (*close, *count)],
-        )?;
+    for (open, close, count, inside, dump) in rows {
+        let text = joined(rt.alloc(), &[(open, count), (inside, 1), (close, count)])?;
         let value = parse(rt.alloc(), text.as_str())?;
-        let expected = joined_text(rt.alloc(), &[(*open, *count), (*dump, 1), (*close, *count)])?;
+        let expected = joined(rt.alloc(), &[(open, count), (dump, 1), (close, count)])?;
         assert_eq!(rt;
             value.dump(rt.alloc())?.as_str(),
             expected.as_str(),
@@ -473,13 +460,13 @@ fn refuses_another_open_container(rt: HostRuntime) -> Result<(), Fail> {
         ),
     ];
     for (parts, words) in &rows {
-        let text = joined_text(rt.alloc(), parts)?;
+        let text = joined(rt.alloc(), parts)?;
         expect_refused(&rt, rt.alloc(), text.as_str(), words)?;
     }
     Ok(())
 }
 
-// What a caller's proof knows of what is read and printed: the printed text is read again, as a value that prints this text.
+/// What a caller's proof knows of what is read and printed: the printed text is read again, as a value that prints this text.
 fn printed_again(alloc: Global, text: &str) -> jzon::Result<String>
     ensures { IfOk result (λ printed. IsReadAs usual (string_bytes printed) (λ v. compact v ≡ string_bytes printed)) }
 {

@@ -53,7 +53,7 @@ fn turns_what_takes_no_memory(rt: HostRuntime) -> Tested {
     expect_dump(&rt, alloc, JsonValue::Boolean(false), "false")
 }
 
-// It is a text that is kept so.
+/// It is a text that is kept so.
 fn expect_kept(rt: &impl Abort, value: &JsonValue, is_short: bool, text: &str) {
     assert_eq!(rt; matches!(value, JsonValue::Short(_)), is_short);
     assert_eq!(rt; value.as_str(), Some(text));
@@ -87,9 +87,9 @@ fn turns_lists(rt: HostRuntime) -> Tested {
 fn turns_maps(rt: HostRuntime) -> Tested {
     let alloc = rt.alloc();
     let mut map = BTreeMap::new(alloc);
-    map.insert("name", "Maciej")?;
-    map.insert("age", "30")?;
-    expect_dump(&rt, alloc, map, "{\"age\":\"30\",\"name\":\"Maciej\"}")?;
+    map.insert("name", "Maciej".into_json(alloc)?)?;
+    map.insert("age", 30u8.into_json(alloc)?)?;
+    expect_dump(&rt, alloc, map, "{\"age\":30,\"name\":\"Maciej\"}")?;
     let mut map = BTreeMap::new(alloc);
     map.insert(String::from_str(alloc, "b")?, 2u8)?;
     map.insert(String::from_str(alloc, "a")?, 1u8)?;

@@ -8,7 +8,7 @@ ghost use Rattle.jzon_tree.specs.StyleLaws.{IsStyle-any};
 ghost use Rattle.jzon_tree.specs.Writing.{any_style, IsOrder};
 
 use crate::common::{Tested, expect_bytes};
-use jzon_refusals::{MOST, Refusals};
+use jzon_test_support::{MOST, Refusals};
 use jzon_tree::codegen::{
     DumpGenerator, Generator, PrettyGenerator, PrettyWriterGenerator, WriterGenerator, write_object,
 };
@@ -115,7 +115,7 @@ impl SortingGenerator {
     }
 }
 
-// `{"c":null,"b":null,"a":null}`
+/// `{"c":null,"b":null,"a":null}`
 fn unsorted(alloc: Global) -> jzon_base::error::Result<Object> {
     let mut object = Object::new(alloc);
     for key in ["c", "b", "a"] {
@@ -126,16 +126,7 @@ fn unsorted(alloc: Global) -> jzon_base::error::Result<Object> {
 
 const SORTED: &str = "{\"a\":null,\"b\":null,\"c\":null}";
 
-#[test]
-fn sorts_the_keys(rt: HostRuntime) -> Tested {
-    let object = unsorted(rt.alloc())?;
-    let mut generator = SortingGenerator::new(rt.alloc());
-    write_object(&mut generator, &object)?;
-    expect_bytes(&rt, &generator.code, SORTED);
-    Ok(())
-}
-
-// Each request is refused in turn, the ones of `order` first.
+/// Each request is refused in turn, the ones of `order` first.
 #[test]
 fn sorting_under_refusals(rt: HostRuntime) -> Tested {
     let object = unsorted(rt.alloc())?;
@@ -157,7 +148,7 @@ fn sorting_under_refusals(rt: HostRuntime) -> Tested {
     Ok(())
 }
 
-// A caller knows the answer before it looks at it.
+/// A caller knows the answer before it looks at it.
 fn dump_keeps_the_order(alloc: Global, object: &Object) -> bool
     ensures { result ≡ true }
 {

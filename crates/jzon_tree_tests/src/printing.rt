@@ -25,7 +25,7 @@ fn prettified(alloc: Global, value: &JsonValue, spaces: u16) -> Result<String, F
     Ok(generator.consume()?)
 }
 
-// Each call prints this compact text of the value.
+/// Each call prints this compact text of the value.
 fn expect_compact(rt: &impl Abort, alloc: Global, value: &JsonValue, text: &str) -> Tested {
     assert_eq!(rt; value.dump(alloc)?.as_str(), text);
     assert_eq!(rt; dumped(alloc, value)?.as_str(), text);
@@ -35,7 +35,7 @@ fn expect_compact(rt: &impl Abort, alloc: Global, value: &JsonValue, text: &str)
     Ok(())
 }
 
-// Each call prints this text of the value, with so many spaces for each open container.
+/// Each call prints this text of the value, with so many spaces for each open container.
 fn expect_pretty(
     rt: &impl Abort,
     alloc: Global,
@@ -78,6 +78,8 @@ fn prints_the_most_spaces(rt: HostRuntime) -> Tested {
     let value = numbers(rt.alloc(), &[1])?;
     assert_eq!(rt; value.pretty(rt.alloc(), 65535)?.len(), 65540);
     assert_eq!(rt; prettified(rt.alloc(), &value, 65535)?.len(), 65540);
+    let nested = JsonValue::Array(vec![in rt.alloc(); value]?);
+    assert_eq!(rt; nested.pretty(rt.alloc(), 65535)?.len(), 262149);
     Ok(())
 }
 
@@ -91,7 +93,7 @@ fn prettifies_an_object(rt: HostRuntime) -> Tested {
     Ok(())
 }
 
-// A string of which the first bytes are known to be plain, twice.
+/// A string of which the first bytes are known to be plain, twice.
 fn write_complex<G: Generator>(generator: &mut G) -> io::Result<()> {
     generator.write_string_complex("ab\"c", 2)?;
     generator.write_string_complex("ab\"c", 3)

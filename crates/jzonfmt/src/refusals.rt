@@ -1,15 +1,10 @@
-// The program with each of its requests for memory refused in turn. That is the work of ci/refuse.c, beside which bin/test runs these tests once more.
+//! The program with each of its requests for memory refused in turn. That is the work of ci/refuse.c, beside which bin/test runs these tests once more.
 
 use crate::engine;
 use crate::engine::{Layout, RunFault};
 use crate::tests::usual;
-use jzon_refusals::{MOST, Refusals};
+use jzon_test_support::{DOCUMENT, DUMP, MOST, Refusals};
 use std::test::Fail;
-
-/// A document with something of each kind.
-const DOCUMENT: &str = "{\"a\":[1,-0.5e+2,\"x\\u00e9\\uD834\\uDD1E\"],\"b\":null}";
-
-const PRINTED: &str = "{\"a\":[1,-50,\"xé\u{1d11e}\"],\"b\":null}";
 
 #[test]
 fn run_under_refusals(rt: HostRuntime) -> Result<(), Fail> {
@@ -25,7 +20,7 @@ fn run_under_refusals(rt: HostRuntime) -> Result<(), Fail> {
             assert!(rt; writer.is_empty());
         } else {
             assert!(rt; result.is_ok());
-            assert_eq!(rt; str::from_utf8(&writer)?.strip_suffix('\n'), Some(PRINTED));
+            assert_eq!(rt; str::from_utf8(&writer)?.strip_suffix('\n'), Some(DUMP));
             break;
         }
     }

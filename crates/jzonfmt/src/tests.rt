@@ -1,23 +1,22 @@
-// The program's lines and statuses, and readers and writers that fail.
+//! The program's lines and statuses, and readers and writers that fail.
+
 ghost use Rattle.std.specs.Prelude.{Some};
 
 use crate::engine;
 use crate::engine::{Layout, RunFault};
 use jzon::{Error, Reading};
+use jzon_test_support::{
+    DOCUMENT, NEVER, SlowWriter, Trouble, joined, keys_by_hash, keys_of_one_hash, object_text,
+};
 use std::alloc::Global;
 use std::io;
-use std::io::{ErrorKind, Read, Write};
+use std::io::{ErrorKind, Read};
 use std::process::Abort;
 use std::test::Fail;
 
 const TEXT: &[u8] = b"-12.50e3";
 
 const PRINTED: &[u8] = b"-12500\n";
-
-/// A document with something of each kind.
-const DOCUMENT: &[u8] = b"{\"a\":[1,-0.5e+2,\"x\\u00e9\\uD834\\uDD1E\"],\"b\":null}";
-
-const PRINTED_DOCUMENT: &str = "{\"a\":[1,-50,\"xé\u{1d11e}\"],\"b\":null}\n";
 
 /// Gives one byte a call, and fails at one call.
 #[derive(Drop)]
@@ -53,68 +52,6 @@ impl Read for FailingReader {
         self.rest.read(&mut buf[..1])
     }
 }
-
-/// What a writer does at one call.
-#[derive(Clone, Copy, Debug, PartialEq, Eq)]
-enum Trouble {
-    TakesNothing,
-    Fails(ErrorKind),
-}
-
-/// Takes one byte a call, but for one call that meets trouble. At a flush it may fail.
-#[derive(Drop)]
-struct SlowWriter {
-    bytes: Vec<u8>,
-    calls: usize,
-    trouble_at: usize,
-    trouble: Trouble,
-    flushes: usize,
-    can_flush: bool,
-}
-
-impl SlowWriter {
-    fn new(alloc: Global, trouble_at: usize, trouble: Trouble) -> SlowWriter {
-        SlowWriter {
-            bytes: Vec::new(alloc),
-            calls: 0,
-            trouble_at,
-            trouble,
-            flushes: 0,
-            can_flush: true,
-        }
-    }
-}
-
-impl Write for SlowWriter {
-    ghost contents = { λ writer. Some writer.bytes.items };
-
-    fn write(&mut self, buf: &[u8]) -> io::Result<usize> {
-        self.calls = self.calls.saturating_add(1);
-        if self.calls == self.trouble_at {
-            return match self.trouble {
-                Trouble::TakesNothing => Ok(0),
-                Trouble::Fails(kind) => Err(io::Error::from(kind)),
-            };
-        }
-        let Some(first) = buf.first() else {
-            return Ok(0);
-        };
-        self.bytes.push(*first)?;
-        Ok(1)
-    }
-
-    fn flush(&mut self) -> io::Result<()> {
-        self.flushes = self.flushes.saturating_add(1);
-        if self.can_flush {
-            Ok(())
-        } else {
-            Err(io::Error::from(ErrorKind::StorageFull))
-        }
-    }
-}
-
-/// No call of a writer.
-const NEVER: usize = 0;
 
 /// The words that follow the program's name, with a comma between them, the input, the status, and what is written on both sides.
 #[derive(Drop)]
@@ -205,6 +142,10 @@ fn lines_and_statuses(rt: HostRuntime) -> Result<(), Fail> {
         done(b" \t\r\n\x0b\x0cnull \n", "null\n"),
         done(b"true", "true\n"),
         done(b"false\n", "false\n"),
+        done(
+            b" [1,[2,{\"b\":[]}],\"three\"] ",
+            "[1,[2,{\"b\":[]}],\"three\"]\n",
+        ),
         done(b"18446744073709551615.5", "18446744073709551615\n"),
         refused(b"", "jzonfmt: Unexpected end of JSON\n"),
         refused(b"  ", "jzonfmt: Unexpected end of JSON\n"),
@@ -214,6 +155,15 @@ fn lines_and_statuses(rt: HostRuntime) -> Result<(), Fail> {
         refused(b"\xff", "jzonfmt: input is not UTF-8\n"),
         refused(b"x\xc3", "jzonfmt: input is not UTF-8\n"),
         refused(b"null\xed\xa0\x80", "jzonfmt: input is not UTF-8\n"),
+        refused(b"[\n}", "jzonfmt: Unexpected character: } at (2:1)\n"),
+        refused(
+            b"\n\nnul\xf0\x9f\xa6\x84\n",
+            "jzonfmt: Unexpected character: 🦄 at (3:4)\n",
+        ),
+        refused(
+            b"[\"\\uDC00\\uDC00\"}",
+            "jzonfmt: Failed to parse UTF-8 bytes\n",
+        ),
         misused(""),
         misused("-"),
         misused("--compact"),
@@ -283,127 +233,33 @@ fn reads_strictly(rt: HostRuntime) -> Result<(), Fail> {
     Ok(())
 }
 
-#[test]
-fn prints_documents(rt: HostRuntime) -> Result<(), Fail> {
-    let rows = [
-        done(b" [ ] ", "[]\n"),
-        done(b"{\n}\n", "{}\n"),
-        done(
-            b"[1,[2,{\"b\":[]}],\"three\"]",
-            "[1,[2,{\"b\":[]}],\"three\"]\n",
-        ),
-        done(
-            b"{ \"foo\": 0, \"bar\": 1, \"foo\": 2 }",
-            "{\"foo\":2,\"bar\":1}\n",
-        ),
-        done(b"{\"a\":{\"a\":1},\"a\":[]}", "{\"a\":[]}\n"),
-        done(DOCUMENT, PRINTED_DOCUMENT),
-    ];
-    for row in &rows {
-        expect_row(&rt, rt.alloc(), row)?;
-    }
-    Ok(())
+/// What `run` answers to the input, and what it writes.
+fn ran(alloc: Global, input: &[u8]) -> (Result<(), RunFault>, Vec<u8>) {
+    let mut reader = input;
+    let mut writer: Vec<u8> = Vec::new(alloc);
+    let answer = engine::run(alloc, &mut reader, &mut writer, &usual(), Layout::Compact);
+    (answer, writer)
 }
 
-#[test]
-fn tells_the_first_fault_of_a_document(rt: HostRuntime) -> Result<(), Fail> {
-    let rows = [
-        refused(b"{a:1}", "jzonfmt: Unexpected character: a at (1:2)\n"),
-        refused(b"[1,,2]", "jzonfmt: Unexpected character: , at (1:4)\n"),
-        refused(b"[1]]", "jzonfmt: Unexpected character: ] at (1:4)\n"),
-        refused(b"[0x14]", "jzonfmt: Unexpected character: x at (1:3)\n"),
-        refused(b"['a']", "jzonfmt: Unexpected character: ' at (1:2)\n"),
-        refused(b"[+1]", "jzonfmt: Unexpected character: + at (1:2)\n"),
-        refused(b"[1,]", "jzonfmt: Unexpected character: ] at (1:4)\n"),
-        refused(b"{\"a\":1,}", "jzonfmt: Unexpected character: } at (1:8)\n"),
-        refused(b"{1", "jzonfmt: Unexpected character: 1 at (1:2)\n"),
-        refused(b"{\"a\" 1}", "jzonfmt: Unexpected character: 1 at (1:6)\n"),
-        refused(
-            b"[\"\xc3\xa9\" x]",
-            "jzonfmt: Unexpected character: x at (1:6)\n",
-        ),
-        refused(b"[\n}", "jzonfmt: Unexpected character: } at (2:1)\n"),
-        refused(
-            b"\n\nnul\xf0\x9f\xa6\x84\n",
-            "jzonfmt: Unexpected character: 🦄 at (3:4)\n",
-        ),
-        refused(b"\r}", "jzonfmt: Unexpected character: } at (1:2)\n"),
-        refused(b"\r\n}", "jzonfmt: Unexpected character: } at (2:1)\n"),
-        refused(
-            b"\n  [\n    null,\n  ]  \n",
-            "jzonfmt: Unexpected character: ] at (4:3)\n",
-        ),
-        refused(
-            b"[\"\\uDC00\\uDC00\"}",
-            "jzonfmt: Failed to parse UTF-8 bytes\n",
-        ),
-    ];
-    for row in &rows {
-        expect_row(&rt, rt.alloc(), row)?;
-    }
+/// `run` prints this text of the input, and a newline.
+fn expect_printed(rt: &impl Abort, alloc: Global, input: &str, text: &str) -> Result<(), Fail> {
+    let (answer, written) = ran(alloc, input.as_bytes());
+    assert!(rt; answer.is_ok());
+    assert_eq!(rt; str::from_utf8(&written)?.strip_suffix('\n'), Some(text));
     Ok(())
 }
 
 #[test]
 fn every_prefix_of_a_document_ends_early(rt: HostRuntime) -> Result<(), Fail> {
-    assert_eq!(rt; DOCUMENT.len(), 48);
-    for length in 0..DOCUMENT.len() {
-        let mut reader = &DOCUMENT[..length];
-        let mut writer: Vec<u8> = Vec::new(rt.alloc());
-        let result = engine::run(
-            rt.alloc(),
-            &mut reader,
-            &mut writer,
-            &usual(),
-            Layout::Compact,
-        );
+    let document = DOCUMENT.as_bytes();
+    assert_eq!(rt; document.len(), 48);
+    for length in 0..document.len() {
+        let (answer, written) = ran(rt.alloc(), &document[..length]);
         assert!(rt;
-            matches!(result, Err(RunFault::Json(Error::UnexpectedEndOfJson))),
+            matches!(answer, Err(RunFault::Json(Error::UnexpectedEndOfJson))),
             "{length} bytes"
         );
-        assert!(rt; writer.is_empty());
-    }
-    Ok(())
-}
-
-/// Texts one after the other, each so many times.
-fn joined(alloc: Global, parts: &[(&str, usize)]) -> Result<String, Fail> {
-    let mut text = String::new(alloc);
-    for (part, count) in parts {
-        for _ in 0..*count {
-            text.push_str(part)?;
-        }
-    }
-    Ok(text)
-}
-
-#[test]
-fn prints_512_open_containers(rt: HostRuntime) -> Result<(), Fail> {
-    let alloc = rt.alloc();
-    let rows: [([(&str, usize); 3], [(&str, usize); 3]); 3] = [
-        (
-            [("[{\"a\":", 256), ("null", 1), ("}]", 256)],
-            [("[{\"a\":", 256), ("null", 1), ("}]", 256)],
-        ),
-        (
-            [("[", 513), (" ", 1), ("]", 513)],
-            [("[", 513), ("", 0), ("]", 513)],
-        ),
-        (
-            [("[", 512), ("{}", 1), ("]", 512)],
-            [("[", 512), ("{}", 1), ("]", 512)],
-        ),
-    ];
-    for (text, printed) in &rows {
-        let text = joined(alloc, text)?;
-        let mut reader = text.as_bytes();
-        let mut writer: Vec<u8> = Vec::new(alloc);
-        assert!(rt;
-            engine::run(alloc, &mut reader, &mut writer, &usual(), Layout::Compact).is_ok()
-        );
-        let mut wanted = joined(alloc, printed)?;
-        wanted.push('\n')?;
-        assert_eq!(rt; str::from_utf8(&writer)?, wanted.as_str());
+        assert!(rt; written.is_empty());
     }
     Ok(())
 }
@@ -411,65 +267,54 @@ fn prints_512_open_containers(rt: HostRuntime) -> Result<(), Fail> {
 #[test]
 fn prints_long_numbers(rt: HostRuntime) -> Result<(), Fail> {
     let alloc = rt.alloc();
-    let rows: [([(&str, usize); 3], &str); 7] = [
-        ([("1e", 1), ("9", 1000000), ("", 0)], "1e32767\n"),
-        ([("1e-", 1), ("9", 1000000), ("", 0)], "1e-32768\n"),
-        (
-            [("8", 1), ("0", 32785), ("e-32767", 1)],
-            "8000000000000000000\n",
-        ),
-        (
-            [("8", 1), ("0", 32785), ("e1", 1)],
-            "8.000000000000000000e32785\n",
-        ),
-        ([("0.", 1), ("0", 32767), ("1", 1)], "1e-32768\n"),
-        ([("0.", 1), ("0", 32768), ("e32768", 1)], "0\n"),
-        ([("9.", 1), ("9", 40000), ("", 0)], "9.999999999999999999\n"),
+    let rows = [
+        ("1e", "9", 1000000, "", "1e32767"),
+        ("1e-", "9", 1000000, "", "1e-32768"),
+        ("8", "0", 32785, "e-32767", "8000000000000000000"),
+        ("8", "0", 32785, "e1", "8.000000000000000000e32785"),
+        ("0.", "0", 32767, "1", "1e-32768"),
+        ("0.", "0", 32768, "e32768", "0"),
+        ("9.", "9", 40000, "", "9.999999999999999999"),
     ];
-    for (text, printed) in &rows {
-        let text = joined(alloc, text)?;
-        let mut reader = text.as_bytes();
-        let mut writer: Vec<u8> = Vec::new(alloc);
-        assert!(rt;
-            engine::run(alloc, &mut reader, &mut writer, &usual(), Layout::Compact).is_ok()
-        );
-        assert_eq!(rt; str::from_utf8(&writer)?, *printed);
+    for (prefix, repeated, count, back, printed) in rows {
+        let text = joined(alloc, &[(prefix, 1), (repeated, count), (back, 1)])?;
+        expect_printed(&rt, alloc, text.as_str(), printed)?;
     }
     Ok(())
 }
 
 #[test]
-fn refuses_another_open_container(rt: HostRuntime) -> Result<(), Fail> {
+fn prints_512_open_containers(rt: HostRuntime) -> Result<(), Fail> {
+    let text = joined(rt.alloc(), &[("[", 512), ("{}", 1), ("]", 512)])?;
+    expect_printed(&rt, rt.alloc(), text.as_str(), text.as_str())
+}
+
+#[test]
+fn prints_hostile_keys(rt: HostRuntime) -> Result<(), Fail> {
     let alloc = rt.alloc();
-    let rows: [([(&str, usize); 3], &str); 9] = [
-        ([("0.", 1), ("0", 40000), ("", 0)], "Exceeded depth limit"),
-        (
-            [("[{\"a\":", 5000), ("null", 1), ("}]", 5000)],
-            "Exceeded depth limit",
-        ),
-        ([("[", 100000), ("", 0), ("", 0)], "Exceeded depth limit"),
-        ([("[", 513), ("}", 1), ("", 0)], "Exceeded depth limit"),
-        ([("[", 513), ("x", 1), ("", 0)], "Exceeded depth limit"),
-        ([("[", 512), ("{1", 1), ("", 0)], "Exceeded depth limit"),
-        (
-            [("[", 512), ("{\"a\":1}", 1), ("]", 512)],
-            "Exceeded depth limit",
-        ),
-        ([("[", 513), ("", 0), ("", 0)], "Unexpected end of JSON"),
-        (
-            [("[", 512), ("x", 1), ("", 0)],
-            "Unexpected character: x at (1:513)",
-        ),
+    let text = object_text(alloc, &keys_by_hash(alloc, 100000)?)?;
+    expect_printed(&rt, alloc, text.as_str(), text.as_str())?;
+    let text = object_text(alloc, &keys_of_one_hash(alloc, 2000)?)?;
+    expect_printed(&rt, alloc, text.as_str(), text.as_str())
+}
+
+#[test]
+fn refuses_what_exceeds_the_limits(rt: HostRuntime) -> Result<(), Fail> {
+    let alloc = rt.alloc();
+    let rows = [
+        ("8", "0", 32786, ""),
+        ("0.", "0", 40000, ""),
+        ("", "[", 100000, ""),
+        ("", "[", 512, "{\"a\":1}"),
     ];
-    for (text, words) in &rows {
-        let text = joined(alloc, text)?;
+    for (prefix, repeated, count, back) in rows {
+        let text = joined(alloc, &[(prefix, 1), (repeated, count), (back, 1)])?;
         let mut reader = text.as_bytes();
         let mut writer: Vec<u8> = Vec::new(alloc);
         let mut faults: Vec<u8> = Vec::new(alloc);
         let status = engine::drive(alloc, &[], &mut reader, &mut writer, &mut faults);
         assert_eq!(rt; status, 1);
-        let line = format!(in alloc; "jzonfmt: {words}\n")?;
-        assert_eq!(rt; str::from_utf8(&faults)?, line.as_str());
+        assert_eq!(rt; str::from_utf8(&faults)?, "jzonfmt: Exceeded depth limit\n");
         assert!(rt; writer.is_empty());
     }
     Ok(())
@@ -480,27 +325,7 @@ fn repeated(alloc: Global, byte: u8, count: usize) -> Result<Vec<u8>, Fail> {
 }
 
 #[test]
-fn too_many_digits(rt: HostRuntime) -> Result<(), Fail> {
-    let alloc = rt.alloc();
-    let mut input = Vec::new(alloc);
-    input.push(b'8')?;
-    input.extend_from_slice(&repeated(alloc, b'0', 32786)?)?;
-    let mut reader = input.as_slice();
-    let mut writer: Vec<u8> = Vec::new(alloc);
-    let mut faults: Vec<u8> = Vec::new(alloc);
-    let status = engine::drive(alloc, &[], &mut reader, &mut writer, &mut faults);
-    assert_eq!(rt; status, 1);
-    assert_eq!(rt;
-        faults.as_slice(),
-        b"jzonfmt: Exceeded depth limit\n".as_slice()
-    );
-    assert!(rt; writer.is_empty());
-    Ok(())
-}
-
-// Inputs round the size of a chunk.
-#[test]
-fn long_inputs(rt: HostRuntime) -> Result<(), Fail> {
+fn reads_inputs_round_a_chunk(rt: HostRuntime) -> Result<(), Fail> {
     let alloc = rt.alloc();
     for spaces in [65531, 65532, 65533, 131072, 200000] {
         let mut input = repeated(alloc, b' ', spaces)?;
@@ -571,9 +396,9 @@ fn a_writer_fails_at_each_call(rt: HostRuntime) -> Result<(), Fail> {
     Ok(())
 }
 
-// Texts that are longer than what is held of them, and a writer that fails behind that.
+/// A writer fails behind what is held, too.
 #[test]
-fn long_texts(rt: HostRuntime) -> Result<(), Fail> {
+fn writes_texts_longer_than_the_buffer(rt: HostRuntime) -> Result<(), Fail> {
     let alloc = rt.alloc();
     // With 8191 items the newline is the byte 65536.
     for items in [8190, 8191, 8192, 20000] {

@@ -2,6 +2,7 @@
 
 use super::*;
 use jzon::{Reading, parse_as};
+use jzon_test_support::{DOCUMENT, DUMP};
 
 #[derive(Clone, Copy)]
 enum Changed {
@@ -18,7 +19,7 @@ enum Changed {
     TakeString,
 }
 
-// That the kind was wrong is no refusal of memory.
+/// That the kind was wrong is no refusal of memory.
 fn passed_over(answer: Result<()>) -> Result<()> {
     match answer {
         Err(Error::WrongType(_)) => Ok(()),
@@ -41,7 +42,7 @@ fn take_string(value: &mut JsonValue, alloc: Global) -> Result<()> {
     Ok(())
 }
 
-// What is lent isn't kept.
+/// What is lent isn't kept.
 fn at_mut(value: &mut JsonValue, alloc: Global) -> Result<()> {
     value.at_mut(alloc, LONG_KEY)?;
     Ok(())
@@ -80,6 +81,10 @@ const UNESCAPED: &str = "\"é and a text of more than thirty bytes\\n\u{1d11e}\"
 const TEN_KEYS: &str =
     "{\"a\":0,\"b\":1,\"c\":2,\"d\":3,\"e\":4,\"f\":5,\"g\":6,\"h\":7,\"i\":8,\"j\":9}";
 
+/// One of them twice.
+const REPEATED: &str =
+    "{\"a\":1,\"b\":1,\"c\":2,\"d\":3,\"e\":4,\"f\":5,\"g\":6,\"h\":7,\"i\":8,\"j\":9,\"a\":0}";
+
 /// The second object gets room for as many entries as the first one had.
 const ALIKE: &str = "[{\"a\":[1,2]},{\"a\":[3,4]}]";
 
@@ -88,7 +93,7 @@ const KEYED: &str = "{\"0123456789abcdef0123456789abcdef01234567\":null}";
 #[test]
 fn changed_under_refusals(rt: HostRuntime) -> Tested {
     let rows = [
-        case(Changed::Parse(DOCUMENT), "parse", "null", PRINTED, 6),
+        case(Changed::Parse(DOCUMENT), "parse", "null", DUMP, 6),
         case(
             Changed::Parse(ESCAPED),
             "parse of a long text",
@@ -104,6 +109,13 @@ fn changed_under_refusals(rt: HostRuntime) -> Tested {
             9,
         ),
         case(
+            Changed::Parse(REPEATED),
+            "parse of a repeated key among ten",
+            "null",
+            TEN_KEYS,
+            6,
+        ),
+        case(
             Changed::Parse(ALIKE),
             "parse of items that are alike",
             "null",
@@ -114,7 +126,7 @@ fn changed_under_refusals(rt: HostRuntime) -> Tested {
             Changed::ParseStrictly(DOCUMENT),
             "strict parse_as",
             "null",
-            PRINTED,
+            DUMP,
             6,
         ),
         case(
@@ -124,7 +136,7 @@ fn changed_under_refusals(rt: HostRuntime) -> Tested {
             TEN_KEYS,
             6,
         ),
-        case(Changed::Clone, "clone", DOCUMENT, PRINTED, 3),
+        case(Changed::Clone, "clone", DOCUMENT, DUMP, 3),
         case(
             Changed::Clone,
             "clone of a long key",

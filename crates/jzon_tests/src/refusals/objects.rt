@@ -13,7 +13,7 @@ enum OfObject {
     FromPairs,
     WriteAt,
     WriteAtIndex,
-    Key,
+    Key(&'static str),
 }
 
 fn change(object: &mut Object, call: OfObject, alloc: Global) -> Result<()> {
@@ -32,8 +32,8 @@ fn pairs(alloc: Global) -> Result<JsonValue> {
     Ok(JsonValue::Object(Object::from_pairs(alloc, pairs.into_iter())?))
 }
 
-fn key_text(alloc: Global) -> Result<JsonValue> {
-    let key = Key::new(alloc, LONG_KEY)?;
+fn key_text(alloc: Global, text: &str) -> Result<JsonValue> {
+    let key = Key::new(alloc, text)?;
     Ok(JsonValue::String(key.into_string(alloc)?))
 }
 
@@ -44,7 +44,7 @@ impl Call for OfObject {
             OfObject::FromPairs => *value = pairs(alloc)?,
             OfObject::WriteAt => write_at(value, alloc, LONG_KEY, JsonValue::Null)?,
             OfObject::WriteAtIndex => write_at_index(value, alloc, 1, JsonValue::Null)?,
-            OfObject::Key => *value = key_text(alloc)?,
+            OfObject::Key(text) => *value = key_text(alloc, text)?,
             OfObject::Insert | OfObject::AtMut | OfObject::Clone => {
                 if let JsonValue::Object(object) = value {
                     change(object, self, alloc)?;
@@ -92,10 +92,17 @@ fn objects_under_refusals(rt: HostRuntime) -> Tested {
             1,
         ),
         case(
-            OfObject::Key,
-            "Key",
+            OfObject::Key(LONG_KEY),
+            "Key::new",
             "null",
             "\"0123456789abcdef0123456789abcdef01234567\"",
+            1,
+        ),
+        case(
+            OfObject::Key("in place"),
+            "Key::into_string",
+            "null",
+            "\"in place\"",
             1,
         ),
     ];

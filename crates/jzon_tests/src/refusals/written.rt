@@ -17,7 +17,7 @@ enum Writing {
     WritePretty,
 }
 
-// What a writer in memory answers: its one error is that memory was refused.
+/// What a writer in memory answers: its one error is that memory was refused.
 fn of_memory(answer: io::Result<()>) -> Result<()> {
     match answer {
         Ok(()) => Ok(()),

@@ -1,6 +1,5 @@
-//! Runs of a call with its requests for memory refused in turn, for tests. That is the work of ci/refuse.c, beside which bin/test runs them once more.
+//! Runs of a call with its requests for memory refused in turn. That is the work of ci/refuse.c, beside which bin/test runs them once more.
 //! Without it each test runs its call once, with memory enough.
-#![tactic(auto)]
 
 use std::alloc::Global;
 
@@ -60,7 +59,7 @@ impl Refusals {
     }
 }
 
-// Whether so much memory can be had.
+/// Whether so much memory can be had.
 fn is_granted(alloc: Global, size: usize) -> bool {
     let block: Result<Vec<u8>, _> = Vec::with_capacity(alloc, size);
     block.is_ok()

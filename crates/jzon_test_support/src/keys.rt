@@ -1,0 +1,48 @@
+//! Keys that are hostile to an index over hashes.
+
+use jzon_base::keys::hash::hash_of;
+use std::alloc::{AllocError, Global};
+
+/// So many keys, in ascending order of their hashes.
+pub fn keys_by_hash(alloc: Global, count: u32) -> Result<Vec<String>, AllocError> {
+    let mut keys = Vec::new(alloc);
+    for number in 0..count {
+        keys.push(format!(in alloc; "{number}")?)?;
+    }
+    keys.sort_by_key(|key| hash_of(key.as_str()))?;
+    Ok(keys)
+}
+
+/// So many keys of the hash 0. Zero bytes behind a key of the hash 0 keep it.
+pub fn keys_of_one_hash(alloc: Global, count: usize) -> Result<Vec<String>, AllocError> {
+    let mut keys = Vec::new(alloc);
+    let mut key = String::from_str(alloc, "77kepQFQ8Kl")?;
+    for _ in 0..count {
+        keys.push(key.clone()?)?;
+        key.push('\0')?;
+    }
+    Ok(keys)
+}
+
+/// The compact text of an object of these keys, each with null. Zero bytes alone are escaped in it.
+pub fn object_text(alloc: Global, keys: &[String]) -> Result<String, AllocError> {
+    let mut text = String::new(alloc);
+    for key in keys {
+        text.push(if text.is_empty() { '{' } else { ',' })?;
+        push_quoted(&mut text, key)?;
+        text.push_str(":null")?;
+    }
+    text.push('}')?;
+    Ok(text)
+}
+
+fn push_quoted(text: &mut String, key: &str) -> Result<(), AllocError> {
+    text.push('"')?;
+    for character in key.chars() {
+        match character {
+            '\0' => text.push_str("\\u0000")?,
+            character => text.push(character)?,
+        }
+    }
+    text.push('"')
+}

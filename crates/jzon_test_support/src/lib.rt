@@ -1,0 +1,28 @@
+//! What tests of several crates use: runs with refused memory, a writer with trouble, long texts, hostile keys, and a document.
+#![tactic(auto)]
+
+mod keys;
+mod refusals;
+mod slow_writer;
+
+pub use keys::{keys_by_hash, keys_of_one_hash, object_text};
+pub use refusals::{MOST, Refusals};
+pub use slow_writer::{NEVER, SlowWriter, Trouble};
+use std::alloc::{AllocError, Global};
+
+/// A document with something of each kind.
+pub const DOCUMENT: &str = "{\"a\":[1,-0.5e+2,\"x\\u00e9\\uD834\\uDD1E\"],\"b\":null}";
+
+/// What it dumps.
+pub const DUMP: &str = "{\"a\":[1,-50,\"xé\u{1d11e}\"],\"b\":null}";
+
+/// Texts one after the other, each so many times.
+pub fn joined(alloc: Global, parts: &[(&str, usize)]) -> Result<String, AllocError> {
+    let mut text = String::new(alloc);
+    for (part, count) in parts {
+        for _ in 0..*count {
+            text.push_str(part)?;
+        }
+    }
+    Ok(text)
+}
