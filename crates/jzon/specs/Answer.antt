@@ -1,5 +1,5 @@
 -- What a parser answers for a text.
-use Rattle.std.specs.Prelude.{◌≡◌, ◌⊎◌, ℕ, ◌≤◌, List, Contains, Result, Ok, Err}
+use Rattle.std.specs.Prelude.{◌≡◌, ◌⊎◌, ℕ, ◌≤◌, List, Contains}
 use Rattle.jzon_base.specs.declared.error.Error.{Error}
 use Rattle.jzon_base.specs.declared.error.Error.TheVariants.{OutOfMemory}
 use Rattle.jzon_base.specs.Tokens.{begin_array, begin_object, quotation_mark}
@@ -24,11 +24,6 @@ IsReadable r v = IsValue v × HasNoNan v × (nest v ≤ r.depth)
 -- memory was refused, or the error is that of the text's first fault
 abbrev pub IsErrorUnlessMemory : Reading → List ℕ → Error → Type 0
 IsErrorUnlessMemory r t e = (e ≡ OutOfMemory) ⊎ IsErrorOf r t e
-
--- a meaning of the text, or such an error
-abbrev pub Answers : Reading → List ℕ → Result JsonValue Error → Type 0
-Answers r t (Ok v) = IsMeaningOf r t v
-Answers r t (Err e) = IsErrorUnlessMemory r t e
 
 -- the text has a quote or an opening bracket of an array or an object; reading any other text takes no memory
 abbrev pub TakesMemory : List ℕ → Type 0

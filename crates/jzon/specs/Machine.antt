@@ -114,7 +114,7 @@ move_empty_array _ = bad
 
 abbrev pub move_before : Reading → Class → Frames → ℕ → Move
 move_before r whitespace fs c = go None (before fs)
-move_before r digits fs c = go (value_mark r fs) (numeral fs false (begun (c == zero_digit) c))
+move_before r digits fs c = go (value_mark r fs) (numeral_begun fs false c)
 move_before r dash fs c = go (value_mark r fs) (numeral fs true signed)
 move_before r quote fs c = go (value_mark r fs) (string (as_value fs) [] between)
 move_before r opens_array fs c = go (value_mark r fs) (before (array_frame fs []))
@@ -179,7 +179,7 @@ move_after_fraction letter_e fs negative ws ds c = go None (numeral fs negative 
 move_after_fraction class fs negative ws ds c = move_behind class fs (number_value negative ws ds None)
 
 abbrev pub move_numeral : NumberPlace → Class → Frames → Bool → ℕ → Move
-move_numeral signed digits fs negative c = go None (numeral fs true (begun (c == zero_digit) c))
+move_numeral signed digits fs negative c = go None (numeral_begun fs true c)
 move_numeral signed _ fs negative c = bad
 move_numeral zero_read class fs negative c = move_after_whole class fs negative (zero_digit ∷ []) c
 move_numeral (whole ds) digits fs negative c =

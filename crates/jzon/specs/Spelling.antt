@@ -111,10 +111,12 @@ items_cells (i ∷ is) k = item_cells i (items_cells is k)
 abbrev pub items_length : List Item → ℕ
 items_length is = length (items_cells is [])
 
--- A key with its colon. An earlier key of its object, one of `seen`, may have its text, which a strict reading refuses.
+-- the mark at a key's closing quote: an earlier key of its object, one of seen, has its text, which a strict reading
+-- refuses
 abbrev pub duplicate_if : Reading → List (List ℕ) → List Item → Option Breach
 duplicate_if r seen is = breach_if (r.strict && is_known seen (bytes_of is)) (duplicate (items_length is + 1))
 
+-- a key with its colon, and the mark m at its opening quote
 abbrev pub key_cells : Reading → List (List ℕ) → Key → Option Breach → List Cell → List Cell
 key_cells r seen key m k =
     plain key.before (cell quotation_mark m ∷ items_cells key.items

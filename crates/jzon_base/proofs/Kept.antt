@@ -30,10 +30,10 @@ fold-take-le v ds i n h =
 
 -- ---- the kept digits are the longest prefix
 
-if-lt : (a b x y : ℕ) → a < b → (if nat_lt a b then x else y) ≡ x
+pub if-lt : {X : Type 0} (a b : ℕ) (x y : X) → a < b → (if nat_lt a b then x else y) ≡ x
 if-lt a b x y h = grind (arith, nat_tests)
 
-if-ge : (a b x y : ℕ) → b ≤ a → (if nat_lt a b then x else y) ≡ y
+pub if-ge : {X : Type 0} (a b : ℕ) (x y : X) → b ≤ a → (if nat_lt a b then x else y) ≡ y
 if-ge a b x y h = grind (arith, nat_tests)
 
 longest_up_to-fits : (ds : List ℕ) (n : ℕ) → digits_number (take (suc n) ds) < 2 ^ 64 → longest_up_to (suc n) ds ≡ suc n
@@ -134,7 +134,11 @@ kept_len-past_whole whole fraction k h fits next =
     let e : length whole + k + 1 ≡ length whole + (k + 1) = omega arith in
     rw e (rw digits_number-take-append (next more)))
 
--- ---- up to 19 digits are all kept
+-- ---- all digits are kept where they fit, as up to 19 do
+
+pub kept_all : (ds : List ℕ) → digits_number ds < 2 ^ 64 → kept_len ds ≡ length ds
+kept_all ds h = kept_len-at ds (length ds) (omega arith) (rw (take_all (length ds) ds (omega arith)) h)
+    (λ below. absurd (omega arith))
 
 below_power : (v k : ℕ) (ds : List ℕ) → All IsDigit ds → v < 10 ^ k → fold add_digit v ds < 10 ^ (k + length ds)
 below_power v k [] all h = rw add-zero h
@@ -150,6 +154,4 @@ few_fit ds all few =
     omega (arith, below, most)
 
 pub few_kept : (ds : List ℕ) → All IsDigit ds → length ds ≤ 19 → kept_len ds ≡ length ds
-few_kept ds all few =
-    kept_len-at ds (length ds) (omega arith) (rw (take_all (length ds) ds (omega arith)) (few_fit ds all few))
-    (λ below. absurd (omega (arith, below)))
+few_kept ds all few = kept_all ds (few_fit ds all few)

@@ -4,6 +4,7 @@ use Rattle.std.proofs.Common.{Some, None, refl, sym, ap, arith}
 use Rattle.std.specs.Option.{is_some}
 use Rattle.std.specs.List.{fold, zip, list_any}
 use Rattle.std.specs.Str.{bytes_eq}
+use Rattle.std.proofs.Math.Bool.{or-false}
 use Rattle.std.proofs.lemmas.Slice.Eq.{bytes_eq-Decides}
 use Rattle.jzon_base.specs.PairList.{find, put, put_each}
 
@@ -20,10 +21,6 @@ or_across : (a b c : Bool) → ((a || b) || c) ≡ (b || (a || c))
 or_across true true c = refl
 or_across true false c = refl
 or_across false b c = refl
-
-or_none : (a : Bool) → a ≡ (a || false)
-or_none true = refl
-or_none false = refl
 
 module _ {V : Type 0} (k : List ℕ) where
   is_some-cond : (b : Bool) (v : V) (o : Option V) → is_some (cond b (Some v) o) ≡ (b || is_some o)
@@ -52,7 +49,7 @@ module _ {V : Type 0} (k : List ℕ) where
   known_onto : (qs ps : List (List ℕ × V))
       → is_some (find k (fold (λ rs p. put p.0 p.1 rs) qs ps))
       ≡ (is_some (find k qs) || list_any (λ p. bytes_eq p.0 k) ps)
-  known_onto qs [] = or_none (is_some (find k qs))
+  known_onto qs [] = sym (or-false (is_some (find k qs)))
   known_onto qs (p ∷ ps) =
       known_onto (put p.0 p.1 qs) ps ∙ ap (λ (b : Bool). b || list_any (λ q. bytes_eq q.0 k) ps) (known-put p.0 p.1 qs)
       ∙ or_across (bytes_eq p.0 k) (is_some (find k qs)) (list_any (λ q. bytes_eq q.0 k) ps)

@@ -11,7 +11,7 @@ use Rattle.std.proofs.lemmas.Bool.{cases_Bool, cases_lt, false≢true, eqb-true,
 use Rattle.std.proofs.lemmas.Slice.Eq.{bytes_eq-Decides}
 use Rattle.std.proofs.lemmas.List.Quantifiers.{position-Some}
 use Rattle.std.specs.List.{position, swap, zip, fold, AllByRecursion}
-use Rattle.std.proofs.lemmas.Slice.Zip.{length-zip}
+use Rattle.std.proofs.lemmas.Slice.Zip.{length-zip, get_or-zip}
 use Rattle.std.specs.Str.{bytes_eq}
 use Rattle.jzon_base.specs.Keys.{AreFirsts}
 use Rattle.jzon_base.specs.PairList.{keys_of, put, put_each}
@@ -108,20 +108,13 @@ module _ {X : Type 0} where
 -- ---- pairs that are put one after the other
 
 module _ {V : Type 0} where
-  get_or-zip : (ks : List (List ℕ)) (vs : List V) (i : ℕ) (k : List ℕ) (v : V) → i < length ks → length vs ≡ length ks
-      → get_or (zip ks vs) i (k, v) ≡ (get_or ks i k, get_or vs i v)
-  get_or-zip [] vs i k v l e = absurd (omega arith)
-  get_or-zip (x ∷ ks) [] i k v l e = absurd (omega arith)
-  get_or-zip (x ∷ ks) (y ∷ vs) zero k v l e = refl
-  get_or-zip (x ∷ ks) (y ∷ vs) (suc i) k v l e = get_or-zip ks vs i k v (omega arith) (omega arith)
-
   -- one entry more
   put_each-more : (ks : List (List ℕ)) (vs : List V) (i : ℕ) (v : V) → i < length ks → length vs ≡ length ks
       → v ≡ get_or vs i v → put_each (take (i + 1) (zip ks vs)) ≡ put (get_or ks i []) v (put_each (take i (zip ks vs)))
   put_each-more ks vs i v l e is =
       let k = get_or ks i [] in
       let long : i < length (zip ks vs) = omega (arith, length-zip ks vs) in
-      let read : get_or (zip ks vs) i (k, v) ≡ (k, v) = get_or-zip ks vs i k v l e
+      let read : get_or (zip ks vs) i (k, v) ≡ (k, v) = get_or-zip ks vs i (k, v) l (omega arith)
       ∙ (λ j. (get_or_default ks i k [] l j, sym is j)) in
       ap put_each (take_more (zip ks vs) i (k, v) long ∙ ap (λ p. take i (zip ks vs) ++ p ∷ []) read)
       ∙ fold-append (λ qs p. put p.0 p.1 qs) [] (take i (zip ks vs)) ((k, v) ∷ [])

@@ -15,9 +15,6 @@ use Rattle.std.proofs.lemmas.Slice.Eq.{bytes_eq-Decides}
 use Rattle.jzon_base.specs.PairList.{find, put, put_each, cut, keys_of}
 use Rattle.jzon_base.proofs.PutEach.{IsDistinct-put, IsDistinct-put_each}
 
-equal : (k : List ℕ) → bytes_eq k k ≡ true
-equal k = (bytes_eq-Decides k k).1 refl
-
 unequal-by : (b : Bool) (j k : List ℕ) → j ≢ k → bytes_eq j k ≡ b → b ≡ false
 unequal-by true j k apart e = absurd (apart ((bytes_eq-Decides j k).0 e))
 unequal-by false j k apart e = refl
@@ -34,7 +31,7 @@ module _ {V : Type 0} where
   find-put_same-by false k v p ps e rest = rw e rest
 
   pub find-put_same : (k : List ℕ) (v : V) (ps : List (List ℕ × V)) → find k (put k v ps) ≡ Some v
-  find-put_same k v [] = rw (equal k) refl
+  find-put_same k v [] = rw (nat_list_eq_equiv.refl k) refl
   find-put_same k v (p ∷ ps) = find-put_same-by (bytes_eq p.0 k) k v p ps refl (find-put_same k v ps)
 
   find-put_other-by : (b : Bool) (j k : List ℕ) (v : V) (p : List ℕ × V) (ps : List (List ℕ × V)) → j ≢ k

@@ -1,9 +1,9 @@
 -- What the place of a key says of a list of pairs.
 use Rattle.std.proofs.Common.{◌≡◌, ℕ, zero, suc, ◌<◌, Bool, true, false, List, [], ◌∷◌, ◌++◌, length, get_or, set, None}
 use Rattle.std.proofs.Common.{Some, IsSome, refl, sym, ap, ◌∙◌, arith}
-use Rattle.std.proofs.lemmas.Slice.Eq.{bytes_eq-Decides}
 use Rattle.std.proofs.lemmas.List.Quantifiers.{position-Some}
 use Rattle.std.proofs.lemmas.Option.{slice_get-map}
+use Rattle.std.specs.Cmp.Lexicographic.{nat_list_eq_equiv}
 use Rattle.std.specs.Option.{option_map}
 use Rattle.std.specs.List.{position, remove, slice_get, zip}
 use Rattle.std.specs.Str.{bytes_eq}
@@ -34,9 +34,6 @@ before_tail k x ks n e h (suc j) l = h j (omega arith)
 -- no key is k
 abbrev IsAbsent : List ℕ → List (List ℕ) → Type 0
 IsAbsent k ks = (j : ℕ) → j < length ks → bytes_eq (get_or ks j []) k ≡ false
-
-same : (k : List ℕ) → bytes_eq k k ≡ true
-same k = (bytes_eq-Decides k k).1 refl
 
 module _ {V : Type 0} where
   find-at : (k : List ℕ) (ps : List (List ℕ × V)) (i : ℕ) (v : V) → IsPlace k (keys_of ps) i
@@ -69,7 +66,11 @@ module _ {V : Type 0} where
 
   place-last : (k : List ℕ) (ps : List (List ℕ × V)) (v : V) → IsAbsent k (keys_of ps)
       → IsPlace k (keys_of (ps ++ (k, v) ∷ [])) (length ps)
-  place-last k [] v h = record { within = omega arith; here = same k; before = λ j l. absurd (omega arith) }
+  place-last k [] v h = record {
+    within = omega arith;
+    here = nat_list_eq_equiv.refl k;
+    before = λ j l. absurd (omega arith);
+  }
   place-last k (x ∷ ps) v h =
       let p = place-last k ps v (λ j l. h (suc j) (omega arith)) in
       record {
@@ -85,7 +86,7 @@ module _ {V : Type 0} where
   put-default-by false k v w x ps e h = rw (e, e, h)
 
   pub put-with_default : (k : List ℕ) (v w : V) (ps : List (List ℕ × V)) → put k w (with_default k v ps) ≡ put k w ps
-  put-with_default k v w [] = rw (same k)
+  put-with_default k v w [] = rw (nat_list_eq_equiv.refl k)
   put-with_default k v w (x ∷ ps) = put-default-by (bytes_eq x.0 k) k v w x ps refl (put-with_default k v w ps)
 
   find-with_default-by : (b : Bool) (k : List ℕ) (v : V) (x : List ℕ × V) (ps : List (List ℕ × V)) → bytes_eq x.0 k ≡ b
@@ -94,7 +95,7 @@ module _ {V : Type 0} where
   find-with_default-by false k v x ps e h = rw (e, e) h
 
   pub find-with_default : (k : List ℕ) (v : V) (ps : List (List ℕ × V)) → IsSome (find k (with_default k v ps))
-  find-with_default k v [] = rw (same k) refl
+  find-with_default k v [] = rw (nat_list_eq_equiv.refl k) refl
   find-with_default k v (x ∷ ps) = find-with_default-by (bytes_eq x.0 k) k v x ps refl (find-with_default k v ps)
 
   find-absent : (k : List ℕ) (ps : List (List ℕ × V)) → IsAbsent k (keys_of ps) → find k ps ≡ None

@@ -1,11 +1,12 @@
 -- Decimals scaled to whole numbers.
 use Rattle.std.proofs.Common.{◌≡◌, ℕ, zero, suc, ℤ, pos, negsuc, ◌+◌, ◌*◌, ◌/◌, ◌%◌, ◌^◌, ◌≤◌, ◌<◌, ◌==◌, ◌+ℤ◌, ◌<ℤ◌}
-use Rattle.std.proofs.Common.{false, refl, sym, ap, ◌∙◌, ◌-◌, arith, pow-add, FitsSigned}
+use Rattle.std.proofs.Common.{false, refl, sym, arith, pow-add, FitsSigned}
 use Rattle.std.specs.Int.{w16}
-use Rattle.std.proofs.Math.Nat.{div-div-eq-div-mul, zero-div}
+use Rattle.std.proofs.Math.Nat.{div-eq_of_lt}
+use Rattle.std.proofs.lemmas.Bool.{ne_eqb}
 use Rattle.std.proofs.lemmas.Int.{ints}
 use Rattle.jzon_base.specs.Decimal.{scaled, shifted}
-use Rattle.jzon_base.proofs.Powers.{power_pos, eq-false, eq-times}
+use Rattle.jzon_base.proofs.Powers.{power_pos, eq-times}
 
 -- ---- from a higher exponent e down to a lower one f
 
@@ -25,7 +26,7 @@ scaled-eq-fits m e n f k r h p = rw (scaled-eq m e n f k h, p) refl
 pub scaled-eq-too_large : (m : ℕ) (e : ℤ) (n : ℕ) (f : ℤ) (k : ℕ) → shifted e ≡ shifted f + k → 2 ^ 64 ≤ m * 10 ^ k
     → n < 2 ^ 64 → false ≡ (scaled m e == scaled n f)
 scaled-eq-too_large m e n f k h large fits = rw (scaled-eq m e n f k h)
-    (sym (eq-false (m * 10 ^ k) n (λ e. omega arith)))
+    (sym (ne_eqb (m * 10 ^ k) n (λ e. omega arith)))
 
 pub ruleset same_rules = (scaled-eq-fits, scaled-eq-too_large)
 
@@ -49,18 +50,9 @@ scaled-strip m e fits negative h =
     let whole : m / 10 * 10 ≡ m = omega arith in
     rw (up, pow-add 10 (shifted e) 1) (regroup (m / 10) m (10 ^ shifted e) whole)
 
--- ---- divided by powers of ten, one digit at a time
+-- ---- divided
 
-pub over-ten : (m i : ℕ) → m / 10 ^ i / 10 ≡ m / 10 ^ (i + 1)
-over-ten m i = rw (pow-add 10 i 1) (div-div-eq-div-mul m (10 ^ i) 10)
+pub over_larger : (m t : ℕ) → m < t → 0 ≡ m / t
+over_larger m t h = sym (div-eq_of_lt h)
 
--- what is 0 after some steps is 0 after all of them
-pub over-zero : (m i p : ℕ) → m / 10 ^ i ≡ 0 → i ≤ p → 0 ≡ m / 10 ^ p
-over-zero m i p e h =
-    let split : p ≡ i + (p - i) = omega arith in
-    let more : m / 10 ^ i / 10 ^ (p - i) ≡ m / 10 ^ p =
-    div-div-eq-div-mul m (10 ^ i) (10 ^ (p - i)) ∙ ap (λ t. m / t)
-    (sym (pow-add 10 i (p - i)) ∙ ap (λ j. 10 ^ j) (sym split)) in
-    sym (zero-div (10 ^ (p - i))) ∙ ap (λ x. x / 10 ^ (p - i)) (sym e) ∙ more
-
-pub ruleset over_rules = (over-ten, over-zero)
+pub ruleset over_rules = (over_larger, power_pos)

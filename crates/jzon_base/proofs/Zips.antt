@@ -1,7 +1,8 @@
 -- Keys and values side by side, as a list of pairs.
 use Rattle.std.proofs.Common.{◌≡◌, ℕ, zero, suc, List, [], ◌∷◌, ◌++◌, length, set, Some, refl, sym, ap, ◌∙◌, arith}
 use Rattle.std.proofs.lemmas.List.{length_push}
-use Rattle.std.proofs.lemmas.Slice.Zip.{length-zip}
+use Rattle.std.proofs.lemmas.Map.Made.{keys_of-zip}
+use Rattle.std.proofs.lemmas.Slice.Zip.{length-zip, seconds-zip}
 use Rattle.std.specs.List.{zip, remove, slice_get}
 use Rattle.jzon_base.specs.PairList.{keys_of, values_of, set_value}
 
@@ -15,17 +16,6 @@ module _ {V : Type 0} where
   slice_get-zip (x ∷ ks) [] i k v a b = absurd (none_at i b)
   slice_get-zip (x ∷ ks) (y ∷ vs) zero k v a b = cc
   slice_get-zip (x ∷ ks) (y ∷ vs) (suc i) k v a b = slice_get-zip ks vs i k v a b
-
-  keys_of-zip : (ks : List (List ℕ)) (vs : List V) → length vs ≡ length ks → keys_of (zip ks vs) ≡ ks
-  keys_of-zip [] vs e = refl
-  keys_of-zip (k ∷ ks) [] e = absurd (omega arith)
-  keys_of-zip (k ∷ ks) (v ∷ vs) e = ap (λ l. k ∷ l) (keys_of-zip ks vs (omega arith))
-
-  values_of-zip : (ks : List (List ℕ)) (vs : List V) → length vs ≡ length ks → values_of (zip ks vs) ≡ vs
-  values_of-zip [] [] e = refl
-  values_of-zip [] (v ∷ vs) e = absurd (omega arith)
-  values_of-zip (k ∷ ks) [] e = absurd (omega arith)
-  values_of-zip (k ∷ ks) (v ∷ vs) e = ap (λ l. v ∷ l) (values_of-zip ks vs (omega arith))
 
   pub zip-push : (ks : List (List ℕ)) (vs : List V) (k : List ℕ) (v : V) → length vs ≡ length ks
       → zip (ks ++ k ∷ []) (vs ++ v ∷ []) ≡ zip ks vs ++ (k, v) ∷ []
@@ -71,8 +61,7 @@ module _ {V : Type 0} where
       let l : length ks ≡ length ps = omega (arith, length-zip ks vs, ap length e) in
       record {
         keys = sym (keys_of-zip ks vs n) ∙ ap keys_of e;
-        values = sym (values_of-zip ks vs n)
-            ∙ ap values_of e;
+        values = sym (seconds-zip ks vs n) ∙ ap values_of e;
         keys_length = l;
         values_length = n ∙ l;
       }

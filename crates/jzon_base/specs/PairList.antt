@@ -1,14 +1,9 @@
 -- A list of pairs of a key and a value, in the order in which they were put (docs/RULES.md, "Objects"). A key is its
 -- bytes.
-use Rattle.std.specs.Prelude.{ℕ, zero, suc, cond, List, [], ◌∷◌, Option, None, Some, map}
+use Rattle.std.specs.Prelude.{ℕ, zero, suc, cond, List, [], ◌∷◌, Option, None, Some}
 use Rattle.std.specs.List.{fold}
 use Rattle.std.specs.Str.{bytes_eq}
-
-abbrev pub keys_of : {V : Type 0} → List (List ℕ × V) → List (List ℕ)
-keys_of ps = map (λ p. p.0) ps
-
-abbrev pub values_of : {V : Type 0} → List (List ℕ × V) → List V
-values_of ps = map (λ p. p.1) ps
+pub use Rattle.std.specs.Map.{keys_of, values_of}
 
 -- the value at k, or none
 abbrev pub find : {V : Type 0} → List ℕ → List (List ℕ × V) → Option V

@@ -1,4 +1,5 @@
--- The characters that the grammar of RFC 8259 names (sections 2, 6 and 7), by its names.
+-- The characters that the grammar of RFC 8259 names (sections 2, 6 and 7), by its names; zero_digit, minus_sign and
+-- plus_sign are its zero, minus and plus.
 use Rattle.std.specs.Prelude.{ℕ}
 
 abbrev pub begin_array : ℕ

@@ -11,7 +11,7 @@ use Rattle.std.proofs.lemmas.Slice.Eq.{bytes_eq-Decides}
 use Rattle.jzon_base.specs.PairList.{find, keys_of, values_of}
 use Rattle.jzon_tree.specs.Value.{Value, object}
 use Rattle.jzon_tree.specs.Same.{same, same_items, passes}
-use Rattle.jzon_tree.specs.SameLaws.{object-elim, object-intro, same_at}
+use Rattle.jzon_tree.specs.SameLaws.{find-head, find-past, object-elim, object-intro, same_at}
 use Rattle.jzon_tree.specs.View.{view, view_values, view_pairs}
 use Rattle.jzon_tree.specs.declared.value.JsonValue.{JsonValue, size-JsonValue}
 use Rattle.jzon_tree.proofs.PairKeys.{IsWithin, found_apart, length-within, none_more}
@@ -45,13 +45,6 @@ pub record ComparedPairs (ps qs rest : List (List ℕ × JsonValue)) : Type 0 wh
 abbrev same_pairs : List (List ℕ × JsonValue) → List (List ℕ × JsonValue) → Bool
 same_pairs ps qs = same (object (view_pairs ps)) (object (view_pairs qs))
 
-find-here : (k : List ℕ) (v : JsonValue) (ps : List (List ℕ × JsonValue)) → find k ((k, v) ∷ ps) ≡ Some v
-find-here k v ps = rw ((bytes_eq-Decides k k).1 refl) refl
-
-find-past : (k l : List ℕ) (v : JsonValue) (ps : List (List ℕ × JsonValue)) → bytes_eq k l ≡ false
-    → find l ((k, v) ∷ ps) ≡ find l ps
-find-past k l v ps e = rw e refl
-
 -- the two look-ups of a key, in two objects that are the same
 looked_up : (ps qs : List (List ℕ × JsonValue)) → same_pairs ps qs ≡ true → (k : List ℕ)
     → same_at (option_map view (find k ps)) (option_map view (find k qs)) ≡ true
@@ -79,7 +72,7 @@ pub value_differs : (ps qs rest left : List (List ℕ × JsonValue)) (k : List �
     → ComparedPairs ps qs rest → rest ≡ (k, v) ∷ left → passes (same (view v)) (option_map view (find k qs)) ≡ false
     → same_pairs ps qs ≡ false
 value_differs ps qs rest left k v c e h =
-    let here : find k ps ≡ Some v = c.inside k v (ap (find k) e ∙ find-here k v left) in
+    let here : find k ps ≡ Some v = c.inside k v (ap (find k) e ∙ find-head k v left) in
     false_from_ne_true (same_pairs ps qs) (λ s. false≢true (sym h ∙ (rw here at (looked_up ps qs s k))))
 
 passed_at : (k l : List ℕ) (b : Bool) (v w : JsonValue) (qs : List (List ℕ × JsonValue)) (found : Option JsonValue)

@@ -2,9 +2,10 @@
 use Rattle.std.proofs.Common.{◌≡◌, ◌≢◌, ℕ, zero, suc, ◌+◌, ◌-◌, ◌<◌, ◌≤◌, false, List, [], ◌∷◌, ◌++◌, refl, sym, ap}
 use Rattle.std.proofs.Common.{subst, ◌∙◌, length, append_assoc, append-nil, arith, map, get_or, take, set, replicate}
 use Rattle.std.proofs.Common.{inl, inr, length-take, length-set}
+use Rattle.std.proofs.Math.Seq.{take-suc}
 use Rattle.std.proofs.lemmas.Bool.{cases_lt}
 use Rattle.std.proofs.lemmas.List.{get_or-set_other, get_or-set_same, get_or-take, length-take-le, take_all, length-map}
-use Rattle.std.proofs.lemmas.List.{length-replicate}
+use Rattle.std.proofs.lemmas.List.{length-replicate, map-append}
 use Rattle.std.specs.Prelude.{nat_lt, IsTrue}
 use Rattle.jzon_base.specs.PairList.{keys_of}
 use Rattle.jzon_tree.specs.Generator.{Begins}
@@ -18,34 +19,13 @@ use Rattle.jzon_tree.proofs.Views.{list_of_pairs-pairs_of}
 use Rattle.jzon_tree.proofs.Writings.{some_between, some_writing, encloses, Items-append, needs_comma}
 use Rattle.jzon_tree.proofs.Writings.{needs_comma-after}
 
--- ---- a text at a place
-text_at-get_or : (ts : List (List ℕ)) (p : ℕ) → text_at ts p ≡ get_or ts p []
-text_at-get_or [] p = refl
-text_at-get_or (t ∷ ts) zero = refl
-text_at-get_or (t ∷ ts) (suc p) = text_at-get_or ts p
-
-text_at-set_same : (ts : List (List ℕ)) (p : ℕ) (x : List ℕ) → p < length ts → text_at (set ts p x) p ≡ x
-text_at-set_same ts p x h = text_at-get_or (set ts p x) p ∙ get_or-set_same ts p x [] h
-
-text_at-set_other : (ts : List (List ℕ)) (p q : ℕ) (x : List ℕ) → q ≢ p → text_at (set ts p x) q ≡ text_at ts q
-text_at-set_other ts p q x h = text_at-get_or (set ts p x) q ∙ get_or-set_other ts p q x [] h
-    ∙ sym (text_at-get_or ts q)
-
+-- ---- one more text at its place
 arranged-set : (ps : List ℕ) (p : ℕ) (ts : List (List ℕ)) (x : List ℕ) → ((k : ℕ) → k < length ps → get_or ps k 0 ≢ p)
     → map (text_at (set ts p x)) ps ≡ map (text_at ts) ps
 arranged-set [] p ts x h = refl
 arranged-set (q ∷ qs) p ts x h =
-    rw (text_at-set_other ts p q x (h 0 (omega arith))) (ap (λ w. text_at ts q ∷ w)
+    rw (get_or-set_other ts p q x [] (h 0 (omega arith))) (ap (λ w. text_at ts q ∷ w)
     (arranged-set qs p ts x (λ k l. h (suc k) (omega arith))))
-
-take_one_more : (ps : List ℕ) (i : ℕ) → i < length ps → take (suc i) ps ≡ take i ps ++ get_or ps i 0 ∷ []
-take_one_more [] i h = absurd (omega arith)
-take_one_more (p ∷ ps) zero h = refl
-take_one_more (p ∷ ps) (suc i) h = ap (λ w. p ∷ w) (take_one_more ps i (omega arith))
-
-map-append-one : (f : ℕ → List ℕ) (ps : List ℕ) (p : ℕ) → map f (ps ++ p ∷ []) ≡ map f ps ++ f p ∷ []
-map-append-one f [] p = refl
-map-append-one f (q ∷ qs) p = ap (λ w. f q ∷ w) (map-append-one f qs p)
 
 -- ---- one pair more
 module _ (s : Style) (d : ℕ) (es : List (List ℕ × Value)) (ps : List ℕ) (o : IsOrder (length es) ps) where
@@ -61,11 +41,12 @@ module _ (s : Style) (d : ℕ) (es : List (List ℕ × Value)) (ps : List ℕ) (
   push_each i ts x h l e each k g =
       let short : k < suc i = omega (arith, length-take (suc i) ps) in
       rw (get_or-take (suc i) ps k 0 short) (elim (cases_lt k i) [
-        | inl f ↦ rw (text_at-set_other ts (get_or ps i 0) (get_or ps k 0) x (order_differs (length es) ps o k i f h))
+        | inl f ↦ rw
+            (get_or-set_other ts (get_or ps i 0) (get_or ps k 0) x [] (order_differs (length es) ps o k i f h))
             (rw (get_or-take i ps k 0 f) at (each k (omega (arith, length-take-le i ps (omega arith)))))
         | inr f ↦ let same : k ≡ i = omega arith in rw (
           same,
-          text_at-set_same ts (get_or ps i 0) x
+          get_or-set_same ts (get_or ps i 0) x []
               (omega (arith, order_within (length es) ps o i h)),
         ) e
       ])
@@ -79,8 +60,8 @@ module _ (s : Style) (d : ℕ) (es : List (List ℕ × Value)) (ps : List ℕ) (
       arranged-set (take i ps) p ts x (λ k g. rw (get_or-take i ps k 0 (omega (arith, length-take i ps)))
       (order_differs (length es) ps o k i (omega (arith, length-take i ps)) h)) in
       let all : map (text_at (set ts p x)) (take (suc i) ps) ≡ map (text_at ts) (take i ps) ++ x ∷ [] =
-      ap (map (text_at (set ts p x))) (take_one_more ps i h) ∙ map-append-one (text_at (set ts p x)) (take i ps) p
-      ∙ rw (kept, text_at-set_same ts p x (omega (arith, order_within (length es) ps o i h))) refl in
+      ap (map (text_at (set ts p x))) (take-suc ps i 0 h) ∙ map-append (text_at (set ts p x)) (take i ps) (p ∷ [])
+      ∙ rw (kept, get_or-set_same ts p x [] (omega (arith, order_within (length es) ps o i h))) refl in
       let comma : needs_comma false (map (text_at ts) (take i ps)) ≡ nat_lt 0 i =
       needs_comma-after (map (text_at ts) (take i ps)) ∙ ap (λ n. nat_lt 0 n)
       (length-map (take i ps) (text_at ts) ∙ length-take-le i ps (omega arith)) in (

@@ -8,6 +8,7 @@ use Rattle.std.specs.List.{IsDistinct}
 use Rattle.std.specs.Str.{bytes_eq}
 use Rattle.std.proofs.lemmas.Bool.{eqb-true, cases_lt}
 use Rattle.std.proofs.lemmas.List.{length-map}
+use Rattle.std.proofs.lemmas.Map.Entries.{length-keys_of}
 use Rattle.std.proofs.lemmas.Map.Made.{AllPairs-from_IsDistinct}
 use Rattle.std.proofs.lemmas.Slice.Eq.{bytes_eq-Decides}
 use Rattle.std.specs.declared.vec.Vec.{Vec}
@@ -31,15 +32,17 @@ entry_at [] p k v e = absurd (cc e)
 entry_at (q ∷ ps) zero k v e = let same : q ≡ (k, v) = cc e in ap (λ (r : List ℕ × JsonValue). (r.0, view r.1)) same
 entry_at (q ∷ ps) (suc p) k v e = entry_at ps p k v e
 
+-- the same of a place that an order names
+pub entry_named : (ps : List (List ℕ × JsonValue)) (p q : ℕ) (k : List ℕ) (v : JsonValue) → p ≡ q
+    → slice_get ps p ≡ Some (k, v) → pair_at (viewed ps) q ≡ (k, view v)
+entry_named ps p q k v e h = sym (ap (pair_at (viewed ps)) e) ∙ entry_at ps p k v h
+
 pub keys-viewed : (ps : List (List ℕ × JsonValue)) → keys_of (viewed ps) ≡ keys_of ps
 keys-viewed [] = refl
 keys-viewed (p ∷ ps) = ap (λ ks. p.0 ∷ ks) (keys-viewed ps)
 
 pub length-viewed : (ps : List (List ℕ × JsonValue)) → length (viewed ps) ≡ length ps
 length-viewed ps = length-map ps (λ p. (p.0, view p.1))
-
-length-keys : (ps : List (List ℕ × JsonValue)) → length (keys_of ps) ≡ length ps
-length-keys ps = length-map ps (λ p. p.0)
 
 answered : (s : Style) (ks : List (List ℕ)) (answer : Option (Vec ℕ Global)) → IsAnswer s ks answer
     → IsOrder (length ks) (positions (length ks) answer) × IsTrue (s.order ks (positions (length ks) answer))
@@ -49,10 +52,10 @@ answered s ks (Some ps) h = h
 module _ (s : Style) (ps : List (List ℕ × JsonValue)) (answer : Option (Vec ℕ Global))
     (h : IsAnswer s (keys_of ps) answer) where
   pub answer_order : IsOrder (length (viewed ps)) (positions (length ps) answer)
-  answer_order = rw (length-viewed ps) (rw (length-keys ps) at (answered s (keys_of ps) answer h).0)
+  answer_order = rw (length-viewed ps) (rw (length-keys_of ps) at (answered s (keys_of ps) answer h).0)
 
   pub answer_allowed : IsTrue (s.order (keys_of (viewed ps)) (positions (length ps) answer))
-  answer_allowed = rw (keys-viewed ps) (rw (length-keys ps) at (answered s (keys_of ps) answer h).1)
+  answer_allowed = rw (keys-viewed ps) (rw (length-keys_of ps) at (answered s (keys_of ps) answer h).1)
 
   pub answer_length : length (positions (length ps) answer) ≡ length ps
   answer_length = answer_order.as_many ∙ length-viewed ps

@@ -10,6 +10,7 @@ use Rattle.std.proofs.lemmas.Option.{none-some}
 use Rattle.std.proofs.lemmas.Slice.Eq.{bytes_eq-Decides}
 use Rattle.jzon_base.proofs.PairLaws.{IsApart, find-cut_other}
 use Rattle.jzon_base.specs.PairList.{find, cut, keys_of}
+use Rattle.jzon_tree.specs.SameLaws.{find-head, find-past}
 
 flip : (k l : List ℕ) → bytes_eq k l ≡ false → bytes_eq l k ≡ false
 flip k l e = nat_list_eq_equiv.symm l k ∙ e
@@ -59,13 +60,6 @@ module _ {V : Type 0} where
   length-cut k (p ∷ ps) h = length-cut-at (bytes_eq p.0 k) k p ps (length-cut k ps) h
 
   -- ---- distinct keys that are all keys of another list are no more than its keys
-  find-head : (p : List ℕ × V) (ps : List (List ℕ × V)) → is_some (find p.0 (p ∷ ps)) ≡ true
-  find-head p ps = rw ((bytes_eq-Decides p.0 p.0).1 refl) refl
-
-  find-tail : (p : List ℕ × V) (l : List ℕ) (ps : List (List ℕ × V)) → bytes_eq p.0 l ≡ false
-      → find l (p ∷ ps) ≡ find l ps
-  find-tail p l ps e = rw e refl
-
   pub length-within : (ps qs : List (List ℕ × V)) → IsDistinct bytes_eq (keys_of ps) → IsWithin ps qs
       → length ps ≤ length qs
   length-within [] qs distinct within = omega arith
@@ -73,12 +67,12 @@ module _ {V : Type 0} where
       let apart = IsDistinct-head bytes_eq p.0 (keys_of ps) distinct in
       let rest : IsWithin ps (cut p.0 qs) = λ l h.
       let other = found_apart p.0 l ps apart h in
-      ap is_some (find-cut p.0 l qs other) ∙ within l (ap is_some (find-tail p l ps other) ∙ h) in
+      ap is_some (find-cut p.0 l qs other) ∙ within l (ap is_some (find-past p.0 l p.1 ps other) ∙ h) in
       omega (
         arith,
         length-within ps (cut p.0 qs) (IsDistinct-tail bytes_eq p.0 (keys_of ps) distinct) rest,
         length-cut
-            p.0 qs (within p.0 (find-head p ps)),
+            p.0 qs (within p.0 (ap is_some (find-head p.0 p.1 ps))),
       )
 
   -- so where these are as many, the other list has no key more

@@ -148,10 +148,13 @@ escaped_characters (c ∷ cs) h =
 pub IsUtf8-escaped : (s : List ℕ) → IsUtf8 s → IsUtf8 (escaped s)
 IsUtf8-escaped s (cs, (ok, e)) = subst (λ t. IsUtf8 (escaped t)) e (escaped_characters cs ok)
 
+IsUtf8-quote : IsUtf8 (34 ∷ [])
+IsUtf8-quote = IsUtf8-from_ascii (34 ∷ []) (IsAscii-true (34 ∷ []) refl)
+
 pub IsUtf8-quoted : (s : List ℕ) → IsUtf8 s → IsUtf8 (quoted s)
 IsUtf8-quoted s u =
-    IsUtf8-append (34 ∷ []) _ (IsUtf8-from_ascii (34 ∷ []) (IsAscii-true (34 ∷ []) refl))
-    (IsUtf8-append (escaped s) (34 ∷ []) (IsUtf8-escaped s u) (IsUtf8-from_ascii (34 ∷ []) (IsAscii-true (34 ∷ []) refl)))
+    IsUtf8-append (34 ∷ []) _ IsUtf8-quote
+    (IsUtf8-append (escaped s) (34 ∷ []) (IsUtf8-escaped s u) IsUtf8-quote)
 
 -- ---- values
 one : (c : ℕ) (bs : List ℕ) → c < 128 → IsUtf8 bs → IsUtf8 (c ∷ bs)

@@ -1,21 +1,17 @@
 -- Spaces that are sent run by run.
-use Rattle.std.proofs.Common.{◌≡◌, ℕ, zero, suc, ◌+◌, ◌-◌, ◌≤◌, List, ◌∷◌, ◌++◌, take, replicate, Option, refl, ap}
+use Rattle.std.proofs.Common.{◌≡◌, ℕ, suc, ◌+◌, ◌-◌, ◌≤◌, List, ◌∷◌, ◌++◌, take, replicate, Option, refl, ap}
 use Rattle.std.proofs.Common.{◌∙◌, arith, Result}
-use Rattle.std.proofs.lemmas.List.{replicate-append-replicate}
+use Rattle.std.proofs.lemmas.List.{replicate-append-replicate, take-replicate}
 use Rattle.jzon_tree.specs.Generator.{Adds, Begins, Just, Sends}
 use Rattle.jzon_tree.proofs.Sent.{adds_then, adds_weaker, Begins-after, Begins-early, Sends-after}
-
-pub take-replicate : (n k : ℕ) → k ≤ n → take {A = ℕ} k (replicate n 32) ≡ replicate k 32
-take-replicate n zero h = refl
-take-replicate zero (suc k) h = absurd (omega arith)
-take-replicate (suc n) (suc k) h = ap (λ (w : List ℕ). 32 ∷ w) (take-replicate n k (omega arith))
 
 -- a newline and n spaces
 abbrev line : ℕ → List ℕ
 line n = 10 ∷ replicate n 32
 
 pub take-line : (n k : ℕ) → k ≤ n → take (k + 1) (line n) ≡ line k
-take-line n k h = let e : k + 1 ≡ suc k = omega arith in rw e (ap (λ (w : List ℕ). 10 ∷ w) (take-replicate n k h))
+take-line n k h =
+    let e : k + 1 ≡ suc k = omega arith in rw e (ap (λ (w : List ℕ). 10 ∷ w) (take-replicate {X = ℕ} k n 32 h))
 
 add_spaces : (j k n : ℕ) → j + k ≡ n → replicate {A = ℕ} j 32 ++ replicate k 32 ≡ replicate n 32
 add_spaces j k n e = replicate-append-replicate j k 32 ∙ ap (λ (m : ℕ). replicate m 32) e

@@ -6,6 +6,7 @@ use Rattle.std.specs.List.{range_with_len}
 use Rattle.std.specs.Str.{bytes_eq}
 use Rattle.std.specs.Borrow.{GName}
 use Rattle.std.specs.Io.KnownBytes.{Appends}
+use Rattle.std.proofs.Math.Seq.{get_or-append_seam, take-append_seam}
 use Rattle.std.proofs.lemmas.Slice.Eq.{bytes_eq-Decides}
 use Rattle.jzon_base.specs.Written.{AppendsBeginning}
 use Rattle.jzon_base.specs.PairList.{keys_of}
@@ -28,16 +29,12 @@ form_is false true h = absurd (cc h)
 form_is false false h = refl
 
 -- ---- the order of insertion
-seam : (prefix ts : List (List ℕ)) (t : List ℕ) → text_at (prefix ++ t ∷ ts) (length prefix) ≡ t
-seam [] ts t = refl
-seam (u ∷ us) ts t = seam us ts t
-
 in_order : (ts prefix : List (List ℕ)) → map (text_at (prefix ++ ts)) (range_with_len (length prefix) (length ts)) ≡ ts
 in_order [] prefix = refl
 in_order (t ∷ ts) prefix =
     let e : map (text_at (prefix ++ t ∷ ts)) (range_with_len (length prefix + 1) (length ts))
     ≡ ts = rw (length-append prefix (t ∷ []), append_assoc prefix (t ∷ []) ts) at (in_order ts (prefix ++ t ∷ [])) in
-    rw (seam prefix ts t, e) refl
+    rw (get_or-append_seam prefix t ts [], e) refl
 
 after_comma : (l t m rest : List ℕ) → (l ++ (t ++ 44 ∷ m)) ++ rest ≡ (l ++ t) ++ 44 ∷ (m ++ rest)
 after_comma l t m rest = ap (λ x. x ++ rest) (sym (append_assoc l t (44 ∷ m))) ∙ append_assoc (l ++ t) (44 ∷ m) rest
@@ -135,10 +132,6 @@ adds-appended P bs None b f h = tt
 adds-appended P bs (Some xs) None f h = absurd h
 adds-appended P bs (Some xs) (Some ys) f (x, e, p) = e ∙ ap (λ w. xs ++ w) (f x p)
 
-take-prefix : (x y : List ℕ) → take (length x) (x ++ y) ≡ x
-take-prefix [] y = refl
-take-prefix (c ∷ x) y = ap (λ w. c ∷ w) (take-prefix x y)
-
 adds-beginning : (P : List ℕ → Type 0) (bs : List ℕ) (a b : Option (List ℕ)) → ((x : List ℕ) → P x → x ≡ bs)
     → Adds (Begins P) a b → AppendsBeginning a b bs
 adds-beginning P bs None b f h = (0, omega arith, tt)
@@ -148,7 +141,7 @@ adds-beginning P bs (Some xs) (Some ys) f (x, e, (y, p)) =
       length x,
       omega (arith, length-append x y, ap (λ (w : List ℕ). length w) whole),
       e
-          ∙ ap (λ w. xs ++ w) (rw whole at (sym (take-prefix x y))),
+          ∙ ap (λ w. xs ++ w) (rw whole at (sym (take-append_seam x y))),
     )
 
 lent_ok : (P : List ℕ → Type 0) (bs : List ℕ) → ((x : List ℕ) → P x → x ≡ bs)

@@ -1,7 +1,6 @@
 -- `same` is an equivalence. (These are proofs; they stand here since the laws of `PartialEq` and `Eq` cite them.)
 use Rattle.std.specs.Prelude.{◌≡◌, ℕ, Bool, true, false, ◌||◌, cond, List, [], ◌∷◌, Option, None, Some, is_some, refl}
-use Rattle.std.specs.Bool.{beq}
-use Rattle.std.specs.Cmp.{IsEquivalence}
+use Rattle.std.specs.Cmp.{IsEquivalence, bool_eq_equiv, booleans_Decides, both_ways}
 use Rattle.std.specs.Str.{bytes_eq}
 use Rattle.std.proofs.Common.{sym, ap, ◌∙◌, subst}
 use Rattle.std.proofs.lemmas.Bool.{false≢true, and_parts, and_from, or_parts}
@@ -34,11 +33,13 @@ each_found P no_pairs k v each e = absurd (none-some v e)
 each_found P (pair l w ps) k v each e = each_cond P (bytes_eq l k) v w (at k ps) each.0 (each_found P ps k v each.1) e
 
 -- a look-up at the head, where it is the key, and where it is not
-at-head : (k : List ℕ) (v : Value) (ps : Pairs) → at k (pair k v ps) ≡ Some v
-at-head k v ps = rw ((bytes_eq-Decides k k).1 refl) refl
+module _ {V : Type 0} where
+  pub find-head : (k : List ℕ) (v : V) (ps : List (List ℕ × V)) → find k ((k, v) ∷ ps) ≡ Some v
+  find-head k v ps = rw ((bytes_eq-Decides k k).1 refl) refl
 
-at-past : (l k : List ℕ) (w : Value) (ps : Pairs) → bytes_eq l k ≡ false → at k (pair l w ps) ≡ at k ps
-at-past l k w ps e = rw e refl
+  pub find-past : (l k : List ℕ) (w : V) (ps : List (List ℕ × V)) → bytes_eq l k ≡ false
+      → find k ((l, w) ∷ ps) ≡ find k ps
+  find-past l k w ps e = rw e refl
 
 -- ---- `has_keys_within`, by look-ups
 abbrev KeysWithin : Pairs → Pairs → Type 0
@@ -60,12 +61,12 @@ within-elim (pair l w ps) qs h k v e =
 within-intro-tail : (l : List ℕ) (w : Value) (ps qs : Pairs) → KeysWithin (pair l w ps) qs
     → (k : List ℕ) (v : Value) (b : Bool) → bytes_eq l k ≡ b → at k ps ≡ Some v → is_some (at k qs) ≡ true
 within-intro-tail l w ps qs h k v true e f = h k w (rw e refl)
-within-intro-tail l w ps qs h k v false e f = h k v (at-past l k w ps e ∙ f)
+within-intro-tail l w ps qs h k v false e f = h k v (find-past l k w (list_of_pairs ps) e ∙ f)
 
 within-intro : (ps qs : Pairs) → KeysWithin ps qs → has_keys_within ps qs ≡ true
 within-intro no_pairs qs h = refl
 within-intro (pair l w ps) qs h =
-    and_from _ _ (h l w (at-head l w ps)) (within-intro ps qs
+    and_from _ _ (h l w (find-head l w (list_of_pairs ps))) (within-intro ps qs
     (λ k v e. within-intro-tail l w ps qs h k v (bytes_eq l k) refl e))
 
 -- ---- `same_under`, by look-ups: what came earlier is not asked again
@@ -100,10 +101,11 @@ under-elim seen (pair l w ps) qs h k v e unseen =
 under-intro : (seen : List (List ℕ)) (ps qs : Pairs) → Agrees seen ps qs → same_under seen ps qs ≡ true
 under-intro seen no_pairs qs h = refl
 under-intro seen (pair l w ps) qs h =
-    and_from _ _ (or_known (is_known seen l) (passes (same w) (at l qs)) (h l w (at-head l w ps)))
+    and_from _ _
+    (or_known (is_known seen l) (passes (same w) (at l qs)) (h l w (find-head l w (list_of_pairs ps))))
     (under-intro (l ∷ seen) ps qs (λ k v e unseen.
     let apart = or_parts (bytes_eq l k) (is_known seen k) unseen in
-    h k v (at-past l k w ps apart.0 ∙ e) apart.1))
+    h k v (find-past l k w (list_of_pairs ps) apart.0 ∙ e) apart.1))
 
 -- ---- equal objects, by look-ups: at each key both have equal values, or neither has one
 abbrev pub same_at : Option Value → Option Value → Bool
@@ -141,10 +143,6 @@ object-intro ps qs h =
     (within-intro qs ps (λ k w e. same_at-there (at k ps) (at k qs) w (h k) e))
 
 -- ---- reflexive
-beq-refl : (b : Bool) → beq b b ≡ true
-beq-refl true = refl
-beq-refl false = refl
-
 same_at-refl : (o : Option Value) → ((v : Value) → o ≡ Some v → same v v ≡ true) → same_at o o ≡ true
 same_at-refl None h = refl
 same_at-refl (Some v) h = h v refl
@@ -156,7 +154,7 @@ object-refl ps each = object-intro ps ps (λ k. same_at-refl (at k ps)
 mutual
   same-refl : (v : Value) → same v v ≡ true
   same-refl null = refl
-  same-refl (boolean b) = beq-refl b
+  same-refl (boolean b) = bool_eq_equiv.refl b
   same-refl (text k s) = (bytes_eq-Decides s s).1 refl
   same-refl (number n) = decimal_equiv.refl n
   same-refl (array vs) = items-refl vs
@@ -174,17 +172,6 @@ mutual
 abbrev IsAlike : Value → Type 0
 IsAlike v = (w : Value) → same v w ≡ true → (x : Value) → same v x ≡ same w x
 
-same_by : (a b : Bool) → (a ≡ true → b ≡ true) → (b ≡ true → a ≡ true) → a ≡ b
-same_by true b f g = sym (f refl)
-same_by false true f g = g refl
-same_by false false f g = refl
-
-beq-same : (b c : Bool) → beq b c ≡ true → b ≡ c
-beq-same true true h = refl
-beq-same true false h = absurd (false≢true h)
-beq-same false true h = absurd (false≢true h)
-beq-same false false h = refl
-
 same_at-alike : (o p r : Option Value) → ((v : Value) → o ≡ Some v → IsAlike v) → same_at o p ≡ true
     → same_at o r ≡ same_at p r
 same_at-alike None None r alike h = refl
@@ -198,7 +185,7 @@ object-alike : (ps qs xs : Pairs) → Each IsAlike ps → same (object ps) (obje
 object-alike ps qs xs each h =
     let along : (k : List ℕ) → same_at (at k ps) (at k xs) ≡ same_at (at k qs) (at k xs) = λ k. same_at-alike (at k ps)
     (at k qs) (at k xs) (λ v e. each_found IsAlike ps k v each e) (object-elim ps qs h k) in
-    same_by (same (object ps) (object xs)) (same (object qs) (object xs))
+    both_ways (same (object ps) (object xs)) (same (object qs) (object xs))
     (λ e. object-intro qs xs (λ k. sym (along k) ∙ object-elim ps xs e k))
     (λ e. object-intro ps xs (λ k. along k ∙ object-elim qs xs e k))
 
@@ -208,7 +195,7 @@ text_alike s t h u = ap (λ (q : List ℕ). bytes_eq q u) ((bytes_eq-Decides s t
 mutual
   same-alike : (v : Value) → IsAlike v
   same-alike null null h x = refl
-  same-alike (boolean b) (boolean c) h x = ap (λ (d : Bool). same (boolean d) x) (beq-same b c h)
+  same-alike (boolean b) (boolean c) h x = ap (λ (d : Bool). same (boolean d) x) ((booleans_Decides b c).0 h)
   same-alike (text j s) (text k t) h (text l u) = text_alike s t h u
   same-alike (text j s) (text k t) h _ = refl
   same-alike (number m) (number n) h (number o) = decimal_equiv.congr m n o h
@@ -238,6 +225,6 @@ same-symm v w h = sym (same-alike v w h v) ∙ same-refl v
 pub same_equiv : IsEquivalence same
 same_equiv = record {
   refl = same-refl;
-  symm = λ v w. same_by (same v w) (same w v) (same-symm v w) (same-symm w v);
+  symm = λ v w. both_ways (same v w) (same w v) (same-symm v w) (same-symm w v);
   congr = λ v w x h. same-alike v w h x;
 }

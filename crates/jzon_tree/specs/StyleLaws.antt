@@ -1,13 +1,13 @@
 -- Each style of a generator allows something. (These are proofs; they stand here since the generators' laws cite them.)
-use Rattle.std.specs.Prelude.{◌≡◌, ◌≢◌, ℕ, zero, suc, ◌+◌, ◌*◌, ◌<◌, ◌==◌, Bool, true, false, List, [], length}
+use Rattle.std.specs.Prelude.{◌≡◌, ℕ, zero, suc, ◌+◌, ◌*◌, ◌<◌, ◌==◌, Bool, true, false, List, [], length}
 use Rattle.std.specs.Prelude.{replicate, count_by, cond, refl}
+use Rattle.std.specs.Cmp.Lexicographic.{nat_list_eq_equiv}
 use Rattle.std.specs.List.{range_with_len}
 use Rattle.std.specs.Str.{bytes_eq}
 use Rattle.std.proofs.Common.{sym, ap, ◌∙◌, subst}
-use Rattle.std.proofs.lemmas.Bool.{eq-eqb, eqb-true, false_from_ne_true}
+use Rattle.std.proofs.lemmas.Bool.{eq-eqb, ne_eqb}
 use Rattle.std.proofs.lemmas.List.FromFn.{length-range_with_len}
 use Rattle.std.proofs.lemmas.List.Sums.{sum_by-cons}
-use Rattle.std.proofs.lemmas.Slice.Eq.{bytes_eq-Decides}
 use Rattle.std.proofs.Math.Nat.{ne_of_lt, add-suc, suc-add, add-zero, zero-add, lt-suc_self, lt_trans, not-suc-le-zero}
 use Rattle.std.proofs.Math.Nat.{le-add_right, suc-le-suc_iff, le_of_suc-le-suc}
 use Rattle.std.proofs.Math.Numerals.{suc-eq-add-one}
@@ -15,9 +15,6 @@ use Rattle.jzon_tree.specs.Generator.{insertion}
 use Rattle.jzon_tree.specs.Styles.{same_form, only, compact_style, pretty_style, layout_style}
 use Rattle.jzon_tree.specs.Text.{pretty_layout}
 use Rattle.jzon_tree.specs.Writing.{IsStyle, IsOrder, IsAllowedWhitespace, is_all_whitespace, any_style}
-
-bytes_eq-refl : (bs : List ℕ) → bytes_eq bs bs ≡ true
-bytes_eq-refl bs = (bytes_eq-Decides bs bs).1 refl
 
 same_form-refl : (b : Bool) → same_form b b ≡ true
 same_form-refl true = refl
@@ -29,9 +26,6 @@ same_form-refl false = refl
 abbrev count : ℕ → ℕ → ℕ → ℕ
 count i a n = count_by (λ j. j == i) (range_with_len a n)
 
-differ : (a i : ℕ) → a ≢ i → (a == i) ≡ false
-differ a i h = false_from_ne_true (a == i) (λ e. h (eqb-true a i e))
-
 count-step : (i a n : ℕ) → count i a (suc n) ≡ cond (a == i) 1 0 + count i (suc a) n
 count-step i a n =
     sum_by-cons (λ j. cond (j == i) 1 0) a (range_with_len (a + 1) n)
@@ -40,7 +34,7 @@ count-step i a n =
 count-past : (i a n : ℕ) → i < a → count i a n ≡ 0
 count-past i a zero h = refl
 count-past i a (suc n) h =
-    count-step i a n ∙ ap (λ t. cond t 1 0 + count i (suc a) n) (differ a i (λ e. ne_of_lt h (sym e)))
+    count-step i a n ∙ ap (λ t. cond t 1 0 + count i (suc a) n) (ne_eqb a i (λ e. ne_of_lt h (sym e)))
     ∙ zero-add (count i (suc a) n) ∙ count-past i (suc a) n (lt_trans h (lt-suc_self a))
 
 count-one : (a k n : ℕ) → k < n → count (a + k) a n ≡ 1
@@ -51,7 +45,7 @@ count-one a zero (suc n) h =
     ∙ ap (λ c. 1 + c) (count-past (a + zero) (suc a) n (subst (λ x. x < suc a) (sym (add-zero a)) (lt-suc_self a)))
 count-one a (suc k) (suc n) h =
     count-step (a + suc k) a n ∙ ap (λ t. cond t 1 0 + count (a + suc k) (suc a) n)
-    (differ a (a + suc k) (ne_of_lt (subst (λ x. a < x) (sym (add-suc a k)) (suc-le-suc_iff.1 (le-add_right a k)))))
+    (ne_eqb a (a + suc k) (ne_of_lt (subst (λ x. a < x) (sym (add-suc a k)) (suc-le-suc_iff.1 (le-add_right a k)))))
     ∙ zero-add (count (a + suc k) (suc a) n) ∙ ap (λ i. count i (suc a) n) (add-suc a k ∙ sym (suc-add a k))
     ∙ count-one (suc a) k n (le_of_suc-le-suc h)
 
@@ -65,28 +59,30 @@ IsOrder-insertion n = record {
 pub IsStyle-only : (line : ℕ → List ℕ) (wide : Bool) → ((dent : ℕ) → is_all_whitespace false (line dent) ≡ true)
     → IsStyle (only line wide)
 IsStyle-only line wide h = record {
-  whitespace = λ dent. (line dent, (h dent, bytes_eq-refl (line dent)));
+  whitespace = λ dent. (line dent, (h dent, nat_list_eq_equiv.refl (line dent)));
   colon = (wide, same_form-refl wide);
-  order = λ ks distinct. (insertion (length ks), IsOrder-insertion (length ks), bytes_eq-refl (insertion (length ks)));
+  order = λ ks distinct.
+      (insertion (length ks), IsOrder-insertion (length ks), nat_list_eq_equiv.refl (insertion (length ks)));
 }
 
 pub IsStyle-compact : IsStyle compact_style
 IsStyle-compact = IsStyle-only (λ dent. []) false (λ dent. refl)
 
-spaces_are_whitespace : (n : ℕ) → is_all_whitespace false (replicate n 32) ≡ true
-spaces_are_whitespace zero = refl
-spaces_are_whitespace (suc n) = spaces_are_whitespace n
+pub spaces_are_whitespace : (strict : Bool) (n : ℕ) → is_all_whitespace strict (replicate n 32) ≡ true
+spaces_are_whitespace strict zero = refl
+spaces_are_whitespace strict (suc n) = spaces_are_whitespace strict n
 
 pub pretty_whitespace : (spaces dent : ℕ)
     → IsAllowedWhitespace (pretty_style spaces) dent ((pretty_layout spaces).line dent)
 pretty_whitespace spaces dent = (
-  spaces_are_whitespace (dent * spaces),
-  bytes_eq-refl
+  spaces_are_whitespace false (dent * spaces),
+  nat_list_eq_equiv.refl
       ((pretty_layout spaces).line dent),
 )
 
 pub IsStyle-pretty : (spaces : ℕ) → IsStyle (pretty_style spaces)
-IsStyle-pretty spaces = IsStyle-only (pretty_layout spaces).line true (λ dent. spaces_are_whitespace (dent * spaces))
+IsStyle-pretty spaces =
+    IsStyle-only (pretty_layout spaces).line true (λ dent. spaces_are_whitespace false (dent * spaces))
 
 pub IsStyle-layout : (lines : Bool) (spaces : ℕ) → IsStyle (layout_style lines spaces)
 IsStyle-layout true spaces = IsStyle-pretty spaces
@@ -94,7 +90,7 @@ IsStyle-layout false spaces = IsStyle-compact
 
 -- the order of insertion
 pub insertion_allowed : (ks : List (List ℕ)) → bytes_eq (insertion (length ks)) (insertion (length ks)) ≡ true
-insertion_allowed ks = bytes_eq-refl (insertion (length ks))
+insertion_allowed ks = nat_list_eq_equiv.refl (insertion (length ks))
 
 pub IsStyle-any : IsStyle any_style
 IsStyle-any = record {

@@ -1,7 +1,7 @@
 -- What a generator may write for a value, in its style: the compact text but for its whitespace, the space after a
 -- colon and the order of an object's pairs.
-use Rattle.std.specs.Prelude.{◌≡◌, ℕ, zero, suc, ◌<◌, List, [], ◌∷◌, ◌++◌, length, map, Bool, true, false, not, ◌&&◌}
-use Rattle.std.specs.Prelude.{◌||◌, ◌==◌, IsTrue, ⊤, codes, count_by, if◌then◌else◌, ◌≢◌, AllPairs}
+use Rattle.std.specs.Prelude.{◌≡◌, ℕ, suc, ◌<◌, List, [], ◌∷◌, ◌++◌, length, map, Bool, true, false, not, ◌&&◌}
+use Rattle.std.specs.Prelude.{◌||◌, ◌==◌, IsTrue, ⊤, codes, count_by, if◌then◌else◌, ◌≢◌, AllPairs, slice_index_or}
 use Rattle.std.specs.List.{list_all}
 use Rattle.jzon_base.specs.NumberText.{written_text}
 use Rattle.jzon_base.specs.PairList.{keys_of}
@@ -37,10 +37,9 @@ pub record IsOrder (n : ℕ) (positions : List ℕ) : Type 0 where
   pub as_many : length positions ≡ n
   pub once : (i : ℕ) → i < n → count_by (λ j. j == i) positions ≡ 1
 
+-- the text at place i, and the empty one past the end
 abbrev pub text_at : List (List ℕ) → ℕ → List ℕ
-text_at [] i = []
-text_at (t ∷ ts) zero = t
-text_at (t ∷ ts) (suc i) = text_at ts i
+text_at ts i = slice_index_or ts i []
 
 -- b is these texts with allowed whitespace before each and a comma between them
 abbrev pub Joins : Style → ℕ → List (List ℕ) → List ℕ → Type 0

@@ -7,7 +7,7 @@ use Rattle.std.specs.Str.{bytes_eq}
 use Rattle.std.specs.Str.Parse.{digits_value}
 use Rattle.std.specs.Io.KnownBytes.{Keeps}
 use Rattle.jzon.specs.ErrorText.{error_text}
-use Rattle.jzon.specs.Reading.{Reading}
+use Rattle.jzon.specs.Reading.{Reading, usual}
 use Rattle.jzonfmt.specs.declared.engine.Layout.{Layout}
 use Rattle.jzonfmt.specs.declared.engine.Layout.TheVariants.{Compact, Pretty}
 use Rattle.jzonfmt.specs.declared.engine.Options.{Options}
@@ -48,7 +48,7 @@ asked_layout (option ∷ spaces ∷ []) =
 asked_layout _ = None
 
 abbrev pub reading_of : Bool → Reading
-reading_of strict = record { strict = strict; depth = 512 }
+reading_of strict = record usual { strict = strict }
 
 abbrev pub asking : Bool → Layout → Options
 asking strict layout = record { reading = reading_of strict; layout = layout }

@@ -11,6 +11,7 @@ use Rattle.jzon.specs.Fault.{Fault}
 use Rattle.jzon.specs.Fault as fault
 use Rattle.jzon.specs.Machine.{Place, go, move, bad, last, refused, outcome, outcome_on, from, left_at, stopped}
 use Rattle.jzon.proofs.Bytes.Scanning.{chars-ascii}
+use Rattle.jzon.proofs.Bytes.StepsByByte.{stop_on}
 use Rattle.jzon.proofs.Bytes.Words.{text_of_first}
 
 -- what is left from a byte on
@@ -57,18 +58,12 @@ byte_moves r p bs i b u at lt e ascii =
     ap (λ cs. outcome r cs p) first ∙ ap (λ rest. outcome_on (move r p b (length rest))
     (λ q. outcome r (chars (drop (i + 1) bs)) q) rest) (sym first)
 
-stops_on : (r : Reading) (p : Place) (cs : List ℕ) → last p ≡ refused fault.end []
-    → ((c : ℕ) (ds : List ℕ) → cs ≡ c ∷ ds → move r p c (length cs) ≡ bad)
-    → outcome r cs p ≡ stopped cs
-stops_on r p [] end h = end
-stops_on r p (c ∷ cs) end h = ap (λ m. outcome_on m (λ q. outcome r cs q) (c ∷ cs)) (h c cs refl)
-
 -- no character that may begin there goes on
 pub byte_stops : (r : Reading) (p : Place) (bs : List ℕ) (i : ℕ) → IsUtf8 bs → IsCharBoundary bs i
     → last p ≡ refused fault.end []
     → ((c : ℕ) → Begins bs i c → move r p c (left_at bs i) ≡ bad) → from r bs p i ≡ stopped (chars (drop i bs))
 unfolding from
-byte_stops r p bs i u at end h = stops_on r p (chars (drop i bs)) end (λ c cs e. h c (begins bs i c cs u at e))
+byte_stops r p bs i u at end h = stop_on r (chars (drop i bs)) p end (λ c cs e. h c (begins bs i c cs u at e))
 
 -- a place that goes on with one ASCII character alone
 pub record Expects (r : Reading) (p : Place) (b : ℕ) (q : Place) : Type 0 where

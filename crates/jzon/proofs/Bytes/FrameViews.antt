@@ -1,6 +1,6 @@
 -- What the machine over values sees of the stack of open containers.
 use Rattle.std.proofs.Common.{◌≡◌, ◌≢◌, ◌⊎◌, inl, inr, get_or, ℕ, suc, ◌+◌, ◌<◌, ◌≤◌, Bool, true, false, cond, List, []}
-use Rattle.std.proofs.Common.{◌∷◌, ◌++◌, length, refl, ap, ◌∙◌, arith, Option, Some, None}
+use Rattle.std.proofs.Common.{◌∷◌, ◌++◌, length, refl, ap, ◌∙◌, arith, Option, Some, None, option_map}
 use Rattle.std.specs.Prelude.{nat_le}
 use Rattle.std.specs.List.{fold}
 use Rattle.std.specs.Option.{is_some}
@@ -15,6 +15,7 @@ use Rattle.jzon_tree.specs.View.{view, view_object, viewed}
 use Rattle.jzon_tree.specs.Entries.{entries_of}
 use Rattle.jzon_tree.specs.declared.object.Object.{Object}
 use Rattle.jzon_tree.specs.declared.value.JsonValue.{JsonValue}
+use Rattle.jzon_tree.proofs.Views.{find-viewed}
 use Rattle.jzon.specs.Reading.{Reading}
 use Rattle.jzon.specs.Spelling.{breach_if, deep}
 use Rattle.jzon.specs.Machine.{Entries, Frames, no_frames, array_frame, object_frame, frames_depth, is_fresh}
@@ -78,16 +79,14 @@ pub some_put : (k : List ℕ) (v : Value) (es : Entries) → put k v es ≢ []
 some_put k v [] h = cc
 some_put k v (e ∷ es) h = some_by (bytes_eq e.0 k) _ _ _ _ h
 
-find_on : (t : Bool) (v : JsonValue) (o : Option JsonValue) (p : Option Value) → is_some o ≡ is_some p
-    → is_some (cond t (Some v) o) ≡ is_some (cond t (Some (view v)) p)
-find_on true v o p e = refl
-find_on false v o p e = e
+is_some-map : (o : Option JsonValue) → is_some o ≡ is_some (option_map view o)
+is_some-map None = refl
+is_some-map (Some v) = refl
 
 -- the same keys are known
 pub known_view : (k : List ℕ) (ps : List (List ℕ × JsonValue))
     → is_some (find k ps) ≡ is_some (find k (viewed ps))
-known_view k [] = refl
-known_view k (p ∷ ps) = find_on (bytes_eq p.0 k) p.1 (find k ps) (find k (viewed ps)) (known_view k ps)
+known_view k ps = is_some-map (find k ps) ∙ ap is_some (find-viewed k ps)
 
 -- ---- what was read where a value begins
 

@@ -6,6 +6,7 @@ use Rattle.std.specs.Prelude.{chars, IsUtf8, IsTrue}
 use Rattle.std.specs.Char.{is_ascii_digit}
 use Rattle.std.specs.Str.{IsCharBoundary}
 use Rattle.std.specs.List.{All, take_while}
+use Rattle.std.proofs.lemmas.Bool.{ne_eqb}
 use Rattle.std.proofs.lemmas.Bool.Decides.{nat_tests}
 use Rattle.std.proofs.lemmas.List.Elements.{All-nil, All-cons}
 use Rattle.std.proofs.lemmas.Str.{IsCharBoundary-before_ascii, IsCharBoundary-after_ascii}
@@ -26,8 +27,8 @@ use Rattle.jzon.proofs.Bytes.DigitRuns.{refuse_fraction}
 use Rattle.jzon.proofs.Bytes.NumeralOutcomes.{NextFails, ReadsWhole, reads_zero, reads_digits, whole_to_point}
 use Rattle.jzon.proofs.Bytes.NumeralOutcomes.{whole_to_letter, whole_to_end, fraction_to_letter, fraction_to_end}
 use Rattle.jzon.proofs.Bytes.NumeralOutcomes.{stop_pointed}
+use Rattle.jzon.proofs.Bytes.StepsByByte.{digit_is_ascii}
 use Rattle.jzon.proofs.Bytes.NumeralOffsets.{next_is, next_fails, AreDigitsAt, digits_stand, some_digits, no_digits}
-use Rattle.jzon.proofs.Bytes.NumeralOffsets.{byte_is_not}
 
 -- ---- whole digits
 
@@ -49,19 +50,16 @@ pub record WholeStands (bs : List ℕ) (i : ℕ) (ws : List ℕ) : Type 0 where
   pub reads : (r : Reading) → ReadsWhole r (get_or bs i 0) ws (chars (drop (i + 1) bs))
       (chars (drop (i + length ws) bs))
 
-digit_is_small : (d : ℕ) → IsTrue (is_ascii_digit d) → d < 128
-digit_is_small d h = grind (arith, nat_tests)
-
 pub whole_stands : (bs : List ℕ) (i : ℕ) (ws : List ℕ) → IsUtf8 bs → i < length bs
     → IsTrue (is_ascii_digit (get_or bs i 0))
     → ws ≡ (if get_or bs i 0 == 48 then 48 ∷ [] else take_while is_ascii_digit (drop i bs)) → WholeStands bs i ws
 whole_stands bs i ws u lt is_digit e = by_first (get_or bs i 0 == 48) refl e
   where
     here : IsCharBoundary bs i
-    here = IsCharBoundary-before_ascii bs i lt (digit_is_small (get_or bs i 0) is_digit)
+    here = IsCharBoundary-before_ascii bs i lt (digit_is_ascii (get_or bs i 0) is_digit)
 
     after : IsCharBoundary bs (i + 1)
-    after = IsCharBoundary-after_ascii bs i u lt (digit_is_small (get_or bs i 0) is_digit)
+    after = IsCharBoundary-after_ascii bs i u lt (digit_is_ascii (get_or bs i 0) is_digit)
 
     by_first : (t : Bool) → (get_or bs i 0 == 48) ≡ t → ws ≡
         (if t then 48 ∷ [] else take_while is_ascii_digit (drop i bs)) → WholeStands bs i ws
@@ -73,7 +71,7 @@ whole_stands bs i ws u lt is_digit e = by_first (get_or bs i 0 == 48) refl e
     by_first false other e =
         let k = digits_stand bs i ws u here e in
         let first : get_or bs i 0 ∷ chars (drop (i + 1) bs) ≡ ws ++ chars (drop (i + length ws) bs) =
-        sym (next_is bs i (get_or bs i 0) u here lt refl (digit_is_small (get_or bs i 0) is_digit)) ∙ k.split in
+        sym (next_is bs i (get_or bs i 0) u here lt refl (digit_is_ascii (get_or bs i 0) is_digit)) ∙ k.split in
         record {
           all = k.all;
           boundary = k.boundary;
@@ -142,7 +140,7 @@ reads_whole_alone bs i ws u w no_point =
       to_end = λ few has r fs negative no_letter. whole_to_end r (get_or bs i 0) ws (chars (drop (i + 1) bs))
           (chars (drop e bs)) fs negative (w.reads r) (omega (arith, few))
           (next_fails (λ c. c == 46) bs e (λ c h. omega (arith, eqb-true c 46 h)) u w.boundary
-          (λ lt. byte_is_not (get_or bs e 0) 46 (λ same. no_point (lt, same))))
+          (λ lt. ne_eqb (get_or bs e 0) 46 (λ same. no_point (lt, same))))
           (next_fails is_exponent_letter bs e letter_is_ascii u w.boundary no_letter);
       stops = λ few lacks r fs negative. absurd (true≢false (sym lacks));
       refuses = too_many;

@@ -6,6 +6,7 @@ use Rattle.std.specs.Prelude.{chars, IsUtf8}
 use Rattle.std.specs.Char.{is_ascii_digit}
 use Rattle.std.specs.Str.{IsCharBoundary}
 use Rattle.std.specs.List.{All, take_while, prefix_len}
+use Rattle.std.proofs.lemmas.Bool.{ne_eqb}
 use Rattle.std.proofs.lemmas.Bool.Decides.{nat_tests}
 use Rattle.std.proofs.lemmas.List.{drop-drop, length-drop, get_or-drop}
 use Rattle.std.proofs.lemmas.List.Elements.{All-nil, All-cons}
@@ -139,9 +140,6 @@ pub no_digits : (ds cs : List ℕ) → length ds ≡ 0 → ds ++ cs ≡ cs
 no_digits [] cs none = refl
 no_digits (d ∷ ds) cs none = absurd (omega arith)
 
-pub byte_is_not : (c b : ℕ) → (c ≡ b → ⊥) → (c == b) ≡ false
-byte_is_not c b h = grind (arith, nat_tests)
-
 pub reads_unsigned : (bs : List ℕ) (i : ℕ) (xs : List ℕ) → IsUtf8 bs → IsCharBoundary bs i
     → ((i < length bs) × (get_or bs i 0 ≡ 45) → ⊥)
     → ((i < length bs) × (get_or bs i 0 ≡ 43) → ⊥) → xs ≡ take_while is_ascii_digit (drop i bs)
@@ -161,9 +159,9 @@ reads_unsigned bs i xs u at no_minus no_plus e =
           ∙ no_digits xs (chars (drop (i + length xs) bs)) none in
           stop_lettered r fs negative ws ds l (chars (drop i bs)) (subst (NextFails is_ascii_digit) (sym here) k.next)
           (next_fails (λ c. c == 43) bs i (λ c e. omega (arith, eqb-true c 43 e)) u at
-          (λ lt. byte_is_not (get_or bs i 0) 43 (λ same. no_plus (lt, same))))
+          (λ lt. ne_eqb (get_or bs i 0) 43 (λ same. no_plus (lt, same))))
           (next_fails (λ c. c == 45) bs i (λ c e. omega (arith, eqb-true c 45 e)) u at
-          (λ lt. byte_is_not (get_or bs i 0) 45 (λ same. no_minus (lt, same))))
+          (λ lt. ne_eqb (get_or bs i 0) 45 (λ same. no_minus (lt, same))))
           ∙ ap stopped here;
     }
 

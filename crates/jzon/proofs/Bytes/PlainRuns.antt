@@ -7,7 +7,7 @@ use Rattle.std.specs.Prelude.{nat_le}
 use lib.Utf8.{scalar, scalars}
 use Rattle.std.specs.Str.{IsCharBoundary}
 use Rattle.std.specs.List.{prefix_len}
-use Rattle.std.proofs.lemmas.Bool.{cases_lt}
+use Rattle.std.proofs.lemmas.Bool.{cases_lt, and_parts}
 use Rattle.std.proofs.lemmas.Bool.Decides.{nat_tests}
 use Rattle.std.proofs.lemmas.List.{drop-drop, length-take-le, get_or-append-add, get_or-take, get_or_default}
 use Rattle.std.proofs.lemmas.List.Sums.{prefix_len-le-length, prefix_len_passes}
@@ -20,11 +20,6 @@ use Rattle.jzon.proofs.Bytes.Scanning.{within_run, stops_run}
 
 -- ---- characters
 
-both_true : (a b : Bool) → (a && b) ≡ true → (a ≡ true) × (b ≡ true)
-both_true true true h = (refl, refl)
-both_true true false h = absurd (cc)
-both_true false b h = absurd (cc)
-
 -- each of these bytes is plain
 abbrev ArePlain : List ℕ → Type 0
 ArePlain xs = (k : ℕ) → k < length xs → is_plain (get_or xs k 0) ≡ true
@@ -32,7 +27,7 @@ ArePlain xs = (k : ℕ) → k < length xs → is_plain (get_or xs k 0) ≡ true
 plain_ascii : (c : ℕ) → scalar c ≡ true → is_plain c ≡ true → is_unescaped c ≡ true
 plain_ascii c s h = rw s h
 
-plain_wide : (c : ℕ) → scalar c ≡ true → 128 ≤ c → is_unescaped c ≡ true
+pub plain_wide : (c : ℕ) → scalar c ≡ true → 128 ≤ c → is_unescaped c ≡ true
 plain_wide c s h = rw s (grind (arith, nat_tests))
 
 -- a character is plain where its bytes are
@@ -56,7 +51,7 @@ third a b t x y z w ea eb et = rw (ea, eb, et) refl
 plain_move : (r : Reading) (role : Role) (bs : List ℕ) (c left : ℕ) → is_unescaped c ≡ true
     → move_between r role bs c left ≡ go None (string role (bs ++ encode_utf8 c) between)
 plain_move r role bs c left h =
-    let parts = both_true (scalar c && nat_le 32 c) (not (c == 34 || c == 92)) h in
+    let parts = and_parts (scalar c && nat_le 32 c) (not (c == 34 || c == 92)) h in
     third (c == 34) (c == 92) (is_unescaped c) _ _ _ _ (grind (arith, nat_tests)) (grind (arith, nat_tests)) h
 
 -- plain characters add their bytes to the text
@@ -64,7 +59,7 @@ read_plain : (r : Reading) (role : Role) (bs cs rest : List ℕ) → scalars cs 
     → outcome r (cs ++ rest) (string role bs between) ≡ outcome r rest (string role (bs ++ encode_utf8_all cs) between)
 read_plain r role bs [] rest s h = ap (λ z. outcome r rest (string role z between)) (sym (append-nil bs))
 read_plain r role bs (c ∷ cs) rest s h =
-    let parts = both_true (scalar c) (scalars cs) s in
+    let parts = and_parts (scalar c) (scalars cs) s in
     ap (λ m. outcome_on m (λ p. outcome r (cs ++ rest) p) (c ∷ (cs ++ rest)))
     (plain_move r role bs c (length (c ∷ (cs ++ rest))) (plain_first c (encode_utf8_all cs) parts.0 h))
     ∙ read_plain r role (bs ++ encode_utf8 c) cs rest parts.1 (plain_rest (encode_utf8 c) (encode_utf8_all cs) h)

@@ -6,7 +6,7 @@ use Rattle.std.specs.Char.{is_ascii_digit}
 use Rattle.std.specs.Str.{IsCharBoundary}
 use Rattle.std.proofs.lemmas.Bool.{cases_lt}
 use Rattle.std.proofs.lemmas.Bool.Decides.{nat_tests}
-use Rattle.std.proofs.lemmas.List.{length-drop, get_or-drop}
+use Rattle.std.proofs.lemmas.List.{length-drop, get_or-drop, nil_from_length}
 use Rattle.std.proofs.lemmas.Str.{IsUtf8-drop, chars-nil, encodes-chars}
 use Rattle.jzon_base.specs.declared.error.Error.{Error}
 use Rattle.jzon.specs.Reading.{Reading}
@@ -45,7 +45,7 @@ pub record StopsAt (r : Reading) (p : Place) (bs : List ℕ) (i : ℕ) : Type 0 
   pub ends : last p ≡ refused Fault.end []
   pub bad : (c : ℕ) → (c < 128 → (i < length bs) × (get_or bs i 0 ≡ c)) → move r p c (left_at bs i) ≡ bad
 
-stop_on : (r : Reading) (cs : List ℕ) (p : Place) → last p ≡ refused Fault.end []
+pub stop_on : (r : Reading) (cs : List ℕ) (p : Place) → last p ≡ refused Fault.end []
     → ((c : ℕ) (ds : List ℕ) → cs ≡ c ∷ ds → move r p c (length cs) ≡ bad)
     → outcome r cs p ≡ stopped cs
 stop_on r [] p e h = e
@@ -117,12 +117,8 @@ from_deep r bs i p u at lt here wide =
 -- the end of the text
 pub from_end : (r : Reading) (bs : List ℕ) (i : ℕ) (p : Place) → length bs ≤ i → from r bs p i ≡ last p
 unfolding from
-from_end r bs i p le = ap (λ cs. outcome r cs p) (ap chars (none (drop i bs) (omega (arith, length-drop i bs)))
-    ∙ chars-nil)
-  where
-    none : (xs : List ℕ) → length xs ≡ 0 → xs ≡ []
-    none [] e = refl
-    none (x ∷ xs) e = absurd (omega (arith, e))
+from_end r bs i p le = ap (λ cs. outcome r cs p)
+    (ap chars (nil_from_length (drop i bs) (omega (arith, length-drop i bs))) ∙ chars-nil)
 
 -- a result that says what an outcome is says what the same outcome is
 pub same_outcome : {T : Type 0} (o p : Outcome) (f : T → Outcome) (t : List ℕ) (result : Result T Error) → o ≡ p

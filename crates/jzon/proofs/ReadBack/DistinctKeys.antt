@@ -1,8 +1,9 @@
 -- Keys that are new each.
-use Rattle.std.proofs.Common.{◌≡◌, ℕ, List, [], ◌∷◌, Bool, false, ◌||◌, refl}
+use Rattle.std.proofs.Common.{◌≡◌, ℕ, List, [], ◌∷◌, false, refl}
 use Rattle.std.specs.Prelude.{⊤}
 use Rattle.std.specs.List.{AllByRecursion, IsDistinct}
 use Rattle.std.specs.Str.{bytes_eq}
+use Rattle.std.proofs.lemmas.Bool.{or_from}
 use Rattle.std.proofs.lemmas.Map.Keys.{IsDistinct-head, IsDistinct-tail}
 use Rattle.jzon_tree.specs.Same.{is_known}
 
@@ -14,14 +15,11 @@ AreNew seen (k ∷ ks) = (is_known seen k ≡ false) × AreNew (k ∷ seen) ks
 abbrev AreUnknown : List (List ℕ) → List (List ℕ) → Type 0
 AreUnknown seen ks = AllByRecursion (λ k. is_known seen k ≡ false) ks
 
-neither : (a b : Bool) → a ≡ false → b ≡ false → (a || b) ≡ false
-neither a b h k = rw (h, k) refl
-
 unknown_more : (k : List ℕ) (seen ks : List (List ℕ)) → AllByRecursion (λ y. bytes_eq k y ≡ false) ks
     → AreUnknown seen ks
     → AreUnknown (k ∷ seen) ks
 unknown_more k seen [] apart h = tt
-unknown_more k seen (y ∷ ys) apart h = (neither _ _ apart.0 h.0, unknown_more k seen ys apart.1 h.1)
+unknown_more k seen (y ∷ ys) apart h = (or_from _ _ apart.0 h.0, unknown_more k seen ys apart.1 h.1)
 
 new_keys : (seen ks : List (List ℕ)) → IsDistinct bytes_eq ks → AreUnknown seen ks → AreNew seen ks
 new_keys seen [] distinct h = tt

@@ -1,6 +1,6 @@
 -- The text of a number of the grammar, where it has few digits.
 use Rattle.std.proofs.Common.{◌≡◌, ◌∙◌, ℕ, ◌+◌, ◌<◌, ◌≤◌, List, [], ◌∷◌, ◌++◌, length, Bool, true, false, codes}
-use Rattle.std.proofs.Common.{Option, Some, None, refl, ap, arith, length-append}
+use Rattle.std.proofs.Common.{Option, Some, None, refl, sym, ap, arith, length-append}
 use Rattle.jzon_base.proofs.Kept.{kept_len_is_longest}
 use Rattle.jzon.specs.Grammar.{Sign, unsigned, plus, minus, Exponent, Numeral}
 use Rattle.jzon.specs.Spelling.{Cell, cell, plain, digits_cells, drops_too_many, keeps_too_many, fraction_cells}
@@ -63,11 +63,7 @@ exponent-plain : (e : Option Exponent) (k : List Cell) → exponent_cells e k �
 exponent-plain None k = refl
 exponent-plain (Some e) k =
     ap (λ q. cell e.letter None ∷ q) (sign-plain e.sign (plain e.digits k)
-    ∙ plain-joined (sign_spelled e.sign) e.digits k)
-  where
-    plain-joined : (f g : List ℕ) (q : List Cell) → plain f (plain g q) ≡ plain (f ++ g) q
-    plain-joined [] g q = refl
-    plain-joined (c ∷ f) g q = ap (λ z. cell c None ∷ z) (plain-joined f g q)
+    ∙ sym (plain-append (sign_spelled e.sign) e.digits k))
 
 magnitude-plain : (n : Numeral) (k : List Cell) → length n.whole < 32768 → length n.fraction < 32769
     → magnitude_cells n None k ≡ plain (magnitude_spelled n.whole n.fraction n.exponent) k

@@ -6,15 +6,16 @@ use Rattle.std.specs.Prelude.{AllPairs}
 use Rattle.std.specs.List.{AllByRecursion, IsDistinct}
 use Rattle.std.specs.Str.{bytes_eq}
 use Rattle.std.proofs.Math.ListN.{get_or-map}
-use Rattle.std.proofs.lemmas.Bool.{cases_lt, cases_eq, false_from_ne_true}
+use Rattle.std.proofs.lemmas.Bool.{cases_lt, cases_eq}
 use Rattle.std.proofs.lemmas.Bool.Decides.{nat_tests}
-use Rattle.std.proofs.lemmas.List.{length-map}
+use Rattle.std.proofs.lemmas.List.{length-map, get_or_default}
 use Rattle.std.proofs.lemmas.List.Elements.{All-from_get_or, recursion_from_All}
 use Rattle.std.proofs.lemmas.List.Sums.{sum_by-cons}
 use Rattle.std.proofs.lemmas.Map.Keys.{IsDistinct-cons}
 use Rattle.std.proofs.lemmas.Option.{same_Some, none-some}
 use Rattle.std.proofs.lemmas.Slice.Eq.{bytes_eq-Decides}
 use Rattle.jzon_base.specs.PairList.{keys_of, find}
+use Rattle.jzon_base.proofs.PairLaws.{bytes_eq-other}
 use Rattle.jzon_tree.specs.Writing.{IsOrder, text_at}
 use Rattle.jzon_tree.proofs.Orders.{order_within}
 
@@ -64,16 +65,11 @@ tally_here p i h = grind (arith, nat_tests)
 tally_elsewhere : (p i : ℕ) → (p ≡ i → ⊥) → tally (p == i) ≡ 0
 tally_elsewhere p i h = grind (arith, nat_tests)
 
-text_at-get_or : (ts : List (List ℕ)) (i : ℕ) (d : List ℕ) → i < length ts → text_at ts i ≡ get_or ts i d
-text_at-get_or [] i d h = absurd (omega arith)
-text_at-get_or (t ∷ ts) zero d h = refl
-text_at-get_or (t ∷ ts) (suc i) d h = text_at-get_or ts i d (omega arith)
-
 pub texts_picked : (ts : List (List ℕ)) (ps : List ℕ) (d : List ℕ) → AreBelow (length ts) ps
     → map (text_at ts) ps ≡ picked d ts ps
 texts_picked ts [] d h = refl
 texts_picked ts (p ∷ ps) d h =
-    ap (λ y. y ∷ map (text_at ts) ps) (text_at-get_or ts p d h.0)
+    ap (λ y. y ∷ map (text_at ts) ps) (get_or_default ts p [] d h.0)
     ∙ ap (λ ys. get_or ts p d ∷ ys) (texts_picked ts ps d h.1)
 
 -- ---- distinct keys stay distinct
@@ -87,9 +83,6 @@ apart_keys ks d i j distinct h k ne e =
       | inr more ↦ distinct j i d (omega (arith, ne)) h (sym e)
     ]
 
-different : (x y : List ℕ) → (x ≡ y → ⊥) → bytes_eq x y ≡ false
-different x y ne = false_from_ne_true (bytes_eq x y) (λ e. ne ((bytes_eq-Decides x y).0 e))
-
 apart_from : (ks : List (List ℕ)) (d : List ℕ) (i : ℕ) (ps : List ℕ) → AllPairs (λ x y. x ≢ y) ks → i < length ks
     → AreBelow (length ks) ps → count i ps ≡ 0
     → AllByRecursion (λ y. bytes_eq (get_or ks i d) y ≡ false) (picked d ks ps)
@@ -97,7 +90,7 @@ apart_from ks d i [] distinct h below none = tt
 apart_from ks d i (p ∷ ps) distinct h below none =
     let cons = count-cons i p ps in
     let ne : (i ≡ p → ⊥) = λ e. omega (arith, none, cons, tally_here p i (sym e)) in (
-      different _ _ (apart_keys ks d i p distinct h below.0 ne),
+      bytes_eq-other _ _ (apart_keys ks d i p distinct h below.0 ne),
       apart_from ks d i ps distinct h below.1
           (omega (arith, none)),
     )
@@ -180,7 +173,7 @@ module _ {V : Type 0} where
         | inr ne ↦
             (let size : length (keys_of xs) ≡ length xs = length-map xs (λ y. y.0) in
             let no : bytes_eq (get_or xs p d).0 q ≡ false =
-            different _ _ (λ e. apart_keys (keys_of xs) d.0 p i distinct (omega (arith, below.0))
+            bytes_eq-other _ _ (λ e. apart_keys (keys_of xs) d.0 p i distinct (omega (arith, below.0))
             (omega (arith, f.within)) ne
             (key_at d xs p ∙ e ∙ sym f.key ∙ sym (key_at d xs i))) in
             rw no (picked_found q d xs v i ps distinct f below.1

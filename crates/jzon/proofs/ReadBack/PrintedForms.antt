@@ -12,14 +12,15 @@ use Rattle.std.proofs.lemmas.List.{length-replicate, take-append-drop}
 use Rattle.jzon_base.specs.Digits.{add_digit, digits_number}
 use Rattle.jzon_base.specs.Decimal.{parts}
 use Rattle.jzon_base.specs.NumberText.{point_after, point_after_first, small_exponent_text, magnitude_text, number_text}
+use Rattle.jzon_base.proofs.Kept.{if-lt, if-ge}
 use Rattle.jzon.specs.Grammar.{unsigned, plus, minus, Exponent}
 use Rattle.jzon.specs.Grammar as grammar
 use Rattle.jzon.specs.Meaning.{written_exponent}
 use Rattle.jzon.proofs.ReadBack.NumeralTexts.{numeral_spelled, fraction_spelled, exponent_spelled}
 use Rattle.jzon.proofs.ReadBack.PrintedParts.{HasNumeral, exponent, numeral, IsWholePart, exponent_test, all-zeros}
 use Rattle.jzon.proofs.ReadBack.PrintedParts.{number_decimal, decimal_digits, IsMantissa, mantissa, if-le, if-not_le}
-use Rattle.jzon.proofs.ReadBack.PrintedParts.{if-lt, digits-append, digits-take, digits-drop}
-use Rattle.jzon.proofs.ReadBack.PrintedParts.{if-not_lt, if-eq, if-ne, means_as, exact_parts, means_exactly}
+use Rattle.jzon.proofs.ReadBack.PrintedParts.{digits-append, digits-take, digits-drop}
+use Rattle.jzon.proofs.ReadBack.PrintedParts.{if-eq, if-ne, means_as, exact_parts, means_exactly}
 
 -- ---- digits alone
 
@@ -98,7 +99,7 @@ behind_zeros s m k above fits small near out =
     (((omega arith, omega arith), tt), omega arith, λ _. refl)
     (digits-append (replicate n 48) (decimal m) (all-zeros n) is.digits) tt
     (append-nil _ ∙ ap (λ t. 48 ∷ t) (fraction-is f (omega (arith, size)))
-    ∙ sym (if-le (k + 1) 17 _ _ near ∙ if-not_lt (k + 1) (length (decimal m)) _ _ out))
+    ∙ sym (if-le (k + 1) 17 _ _ near ∙ if-ge (k + 1) (length (decimal m)) _ _ out))
     (fold-append add_digit 0 (replicate n 48) (decimal m) ∙ ap (λ v. fold add_digit v (decimal m)) (zeros_number n)
     ∙ is.number)
     (rw size (omega (arith, ints)))

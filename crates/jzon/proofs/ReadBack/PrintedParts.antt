@@ -1,8 +1,9 @@
 -- Numbers of the grammar that have the text of given parts, and mean the same parts.
 use Rattle.std.proofs.Common.{◌≡◌, ℕ, suc, ℤ, pos, ◌+ℤ◌, ◌-ℤ◌, ◌^◌, ◌&&◌, ◌≤◌, ◌<◌, ◌==◌, Option, Some, List, [], ◌∷◌}
-use Rattle.std.proofs.Common.{◌++◌, length, take, drop, replicate, Bool, true, false, not, refl, sym, ap, ◌∙◌, arith, decimal}
-use Rattle.std.proofs.Common.{rules, codes, nat_le, nat_lt, if◌then◌else◌, FitsSigned, get_or, length-append}
-use Rattle.std.proofs.Common.{append_assoc, zero}
+use Rattle.std.proofs.Common.{◌++◌, length, take, drop, replicate, Bool, true, false, not, refl, sym, ap, ◌∙◌, arith}
+use Rattle.std.proofs.Common.{rules, codes, nat_le, if◌then◌else◌, FitsSigned, get_or, length-append}
+use Rattle.std.proofs.Common.{append_assoc, decimal, zero}
+use Rattle.std.proofs.Math.Bool.{not-not}
 use Rattle.std.specs.Int.{w16}
 use Rattle.std.specs.Char.{is_ascii_digit}
 use Rattle.std.specs.List.{fold, AllByRecursion}
@@ -18,7 +19,7 @@ use Rattle.jzon_base.specs.Digits.{read_exponent, clamp}
 use Rattle.jzon_base.specs.Decimal.{Decimal, parts, same}
 use Rattle.jzon_base.specs.NumberText.{sign_text, magnitude_text, number_text, decimal_text}
 use Rattle.jzon_base.specs.Same.{same_equiv}
-use Rattle.jzon_base.proofs.Kept.{kept_len-at}
+use Rattle.jzon_base.proofs.Kept.{kept_all}
 use Rattle.jzon.specs.Grammar.{Sign, Exponent, Numeral, AreDigits}
 use Rattle.jzon.specs.Grammar as grammar
 use Rattle.jzon.specs.Meaning.{written_exponent, number_of}
@@ -122,12 +123,6 @@ if-le a b xs ys h = grind (arith, nat_tests)
 pub if-not_le : (a b : ℕ) (xs ys : List ℕ) → b < a → (if nat_le a b then xs else ys) ≡ ys
 if-not_le a b xs ys h = grind (arith, nat_tests)
 
-pub if-lt : (a b : ℕ) (xs ys : List ℕ) → a < b → (if nat_lt a b then xs else ys) ≡ xs
-if-lt a b xs ys h = grind (arith, nat_tests)
-
-pub if-not_lt : (a b : ℕ) (xs ys : List ℕ) → b ≤ a → (if nat_lt a b then xs else ys) ≡ ys
-if-not_lt a b xs ys h = grind (arith, nat_tests)
-
 pub if-eq : (a b : ℕ) (xs ys : List ℕ) → a ≡ b → (if a == b then xs else ys) ≡ xs
 if-eq a b xs ys h = grind (arith, nat_tests)
 
@@ -140,10 +135,6 @@ number_text-above s m e above = ap (λ t. sign_text s ++ t) (if-ne m 0 (codes "0
     (λ z. omega arith))
 
 -- ---- what a number means
-
-pub not_not : (s : Bool) → not (not s) ≡ s
-not_not true = refl
-not_not false = refl
 
 -- a number that means d
 pub means_as : (s : Bool) (m : ℕ) (e : ℤ) (n : Numeral) (d : Decimal) → grammar.IsNumeral n
@@ -159,10 +150,6 @@ means_as s m e n d ok spelled means alike prints = (
     prints = ap decimal_text means ∙ prints;
   },
 )
-
-kept_all : (ds : List ℕ) → digits_number ds < 2 ^ 64 → kept_len ds ≡ length ds
-kept_all ds h = kept_len-at ds (length ds) (omega arith) (rw (take_all (length ds) ds (omega arith)) h)
-    (λ below. absurd (omega arith))
 
 clamp_small : (e : ℤ) → FitsSigned w16 e → clamp e ≡ e
 clamp_small e fits = omega (arith, ints, clamps)
@@ -183,7 +170,7 @@ exact_parts s whole fraction x m e is fits sum small =
     ≡ e = rw (none, some) sum in
     let power : read_exponent whole fraction (written_exponent x) ≡ e = ap clamp inner ∙ clamp_small e small in
     ap (λ b. parts b (digits_number (kept (whole ++ fraction))) (read_exponent whole fraction (written_exponent x)))
-    (not_not s)
+    (not-not s)
     ∙ ap (λ v. parts s v (read_exponent whole fraction (written_exponent x))) value ∙ ap (parts s m) power
 
 pub minus-is : (s : Bool) → minus_spelled (not s) ≡ sign_text s

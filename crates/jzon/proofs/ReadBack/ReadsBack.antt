@@ -4,6 +4,7 @@ use Rattle.std.proofs.Common.{cond, Option, Some, refl, sym, ap, subst, arith}
 use Rattle.std.specs.Prelude.{IsUtf8, IsTrue, AllPairs}
 use Rattle.std.specs.List.{AllByRecursion, IsDistinct}
 use Rattle.std.specs.Str.{bytes_eq}
+use Rattle.std.proofs.Math.Nat.{le-max_left, le-max_right}
 use Rattle.std.proofs.lemmas.Bool.{and_parts, and_from}
 use Rattle.std.proofs.lemmas.List.{length-map}
 use Rattle.std.proofs.lemmas.Slice.Eq.{bytes_eq-Decides}
@@ -79,12 +80,6 @@ entries_raised : (r : Reading) (h g : ℕ) (es : List Entry) → h ≤ g → All
     → AllByRecursion (EntrySpells r g) es
 entries_raised r h g [] le k = tt
 entries_raised r h g (e ∷ es) le k = (entry_raised r h g e le k.0, entries_raised r h g es le k.1)
-
-left_max : (a b : ℕ) → a ≤ max a b
-left_max a b = omega arith
-
-right_max : (a b : ℕ) → b ≤ max a b
-right_max a b = omega arith
 
 above_max : (n : ℕ) → suc (max n n) ≤ suc n
 above_max n = omega arith
@@ -282,8 +277,8 @@ mutual
       record {
         nodes = one.node ∷ more.nodes;
         spell = (
-          node_raised r (nest v) (max (nest v) (most_nest vs)) t one.node (left_max (nest v) (most_nest vs)) one.spells,
-          each_raised r (most_nest vs) (max (nest v) (most_nest vs)) ts more.nodes (right_max (nest v) (most_nest vs))
+          node_raised r (nest v) (max (nest v) (most_nest vs)) t one.node (le-max_left (nest v) (most_nest vs)) one.spells,
+          each_raised r (most_nest vs) (max (nest v) (most_nest vs)) ts more.nodes (le-max_right (nest v) (most_nest vs))
               more.spell,
         );
         alike = and_from _ _ one.alike more.alike;
@@ -319,9 +314,9 @@ mutual
             utf8 = h.0;
             whitespace = gap_whitespace r wide;
             spells = node_raised r (nest v) high x one.node
-                (left_max (nest v) (most_nest_under ps)) one.spells;
+                (le-max_left (nest v) (most_nest_under ps)) one.spells;
           },
-          entries_raised r (most_nest_under ps) high more.entries (right_max (nest v) (most_nest_under ps)) more.spell,
+          entries_raised r (most_nest_under ps) high more.entries (le-max_right (nest v) (most_nest_under ps)) more.spell,
         );
         keys = ap (λ ks. k ∷ ks) more.keys;
         alike = λ q.

@@ -1,8 +1,9 @@
 -- The styles of the four generators allow whitespace of a strict reading alone.
-use Rattle.std.proofs.Common.{◌≡◌, ℕ, zero, suc, ◌*◌, List, [], true, refl, sym, subst}
-use Rattle.std.specs.Prelude.{IsTrue, replicate}
+use Rattle.std.proofs.Common.{◌≡◌, ℕ, ◌*◌, List, [], true, refl, sym, subst}
+use Rattle.std.specs.Prelude.{IsTrue}
 use Rattle.std.specs.Str.{bytes_eq}
 use Rattle.std.proofs.lemmas.Slice.Eq.{bytes_eq-Decides}
+use Rattle.jzon_tree.specs.StyleLaws.{spaces_are_whitespace}
 use Rattle.jzon_tree.specs.Text.{pretty_layout}
 use Rattle.jzon_tree.specs.Writing.{is_all_whitespace}
 use Rattle.jzon.specs.Laws.{StrictStyles}
@@ -12,12 +13,8 @@ one_line : (line w : List ℕ) → IsTrue (is_all_whitespace true line) → byte
     → IsTrue (is_all_whitespace true w)
 one_line line w h e = subst (λ b. IsTrue (is_all_whitespace true b)) (sym ((bytes_eq-Decides w line).0 e)) h
 
-spaces_are_whitespace : (n : ℕ) → is_all_whitespace true (replicate n 32) ≡ true
-spaces_are_whitespace zero = refl
-spaces_are_whitespace (suc n) = spaces_are_whitespace n
-
 pub strict_styles : StrictStyles
 strict_styles = (
   λ dent w h. one_line [] w refl h.1,
-  λ spaces dent w h. one_line ((pretty_layout spaces).line dent) w (spaces_are_whitespace (dent * spaces)) h.1,
+  λ spaces dent w h. one_line ((pretty_layout spaces).line dent) w (spaces_are_whitespace true (dent * spaces)) h.1,
 )

@@ -1,12 +1,13 @@
 -- A printed number with zeros behind its digits: it is read with a larger mantissa, and one zero is dropped where that
 -- has no room.
-use Rattle.std.proofs.Common.{◌≡◌, ℕ, suc, zero, ℤ, pos, ◌+ℤ◌, ◌-ℤ◌, ◌+◌, ◌*◌, ◌/◌, ◌%◌, ◌^◌, ◌&&◌, ◌||◌, ◌≤◌, ◌<◌}
+use Rattle.std.proofs.Common.{◌≡◌, ℕ, suc, zero, ℤ, pos, ◌+ℤ◌, ◌-ℤ◌, ◌+◌, ◌*◌, ◌/◌, ◌%◌, ◌^◌, ◌&&◌, ◌≤◌, ◌<◌}
 use Rattle.std.proofs.Common.{◌==◌, None, List, [], ◌∷◌, ◌++◌, length, take, replicate, Bool, true, false, not, refl}
 use Rattle.std.proofs.Common.{sym, ap, ◌∙◌, arith, decimal, get_or, length-append, append_assoc, append-nil, pow-add}
 use Rattle.std.proofs.Common.{eq-eqb}
 use Rattle.std.specs.List.{fold}
 use Rattle.std.proofs.lemmas.Int.{ints}
 use Rattle.std.proofs.lemmas.Fmt.{decimal_step}
+use Rattle.std.proofs.Math.Bool.{not-not, or-true}
 use Rattle.std.proofs.Math.Nat.{pow-suc, one-le-mul, one-le-pow, mul-le-mul_right, pow-le-pow_right}
 use Rattle.std.proofs.lemmas.List.Sums.{fold-append}
 use Rattle.std.proofs.lemmas.List.{length-replicate, take_at, take_all}
@@ -21,7 +22,7 @@ use Rattle.jzon.specs.Meaning.{number_of}
 use Rattle.jzon.proofs.ReadBack.NumeralTexts.{numeral_spelled, minus_spelled}
 use Rattle.jzon.proofs.ReadBack.PrintedParts.{HasNumeral, numeral, AllDigits, IsWholePart, whole_test, all-zeros}
 use Rattle.jzon.proofs.ReadBack.PrintedParts.{number_decimal, digits-append}
-use Rattle.jzon.proofs.ReadBack.PrintedParts.{IsMantissa, mantissa, if-le, if-ne, number_text-above, not_not, means_as}
+use Rattle.jzon.proofs.ReadBack.PrintedParts.{IsMantissa, mantissa, if-le, if-ne, number_text-above, means_as}
 use Rattle.jzon.proofs.ReadBack.PrintedParts.{exact_parts, minus-is}
 
 -- ---- powers of ten
@@ -98,14 +99,10 @@ zeros_spelled s m k above room =
     ∙ ap (λ t. t ++ (decimal m ++ replicate k 48)) (minus-is s)
     ∙ sym (number_text-zeros s m k above room)
 
-or_true : (b : Bool) → (b || true) ≡ true
-or_true true = refl
-or_true false = refl
-
 same_scaled : (s : Bool) (m : ℕ) (e : ℤ) (n : ℕ) (f : ℤ) → (scaled m e == scaled n f) ≡ true
     → same (parts s m e) (parts s n f) ≡ true
-same_scaled true m e n f h = rw h (or_true ((m == 0) && (n == 0)))
-same_scaled false m e n f h = rw h (or_true ((m == 0) && (n == 0)))
+same_scaled true m e n f h = rw h (or-true ((m == 0) && (n == 0)))
+same_scaled false m e n f h = rw h (or-true ((m == 0) && (n == 0)))
 
 -- ---- where all zeros are kept
 
@@ -135,7 +132,7 @@ one_dropped s w u n all value size =
     let one : dropped w [] ≡ 1 = omega (arith, all, size) in
     let none : kept_fraction w [] ≡ 0 = omega (arith, all, size) in
     let inner : (pos (dropped w []) -ℤ pos (kept_fraction w [])) +ℤ pos 0 ≡ pos 1 = rw (one, none) refl in
-    ap (λ b. parts b (digits_number (kept (w ++ []))) (read_exponent w [] (pos 0))) (not_not s)
+    ap (λ b. parts b (digits_number (kept (w ++ []))) (read_exponent w [] (pos 0))) (not-not s)
     ∙ ap (λ v. parts s (digits_number (take v (w ++ []))) (read_exponent w [] (pos 0))) all
     ∙ ap (λ v. parts s v (read_exponent w [] (pos 0))) value ∙ ap (λ z. parts s u (clamp z)) inner
 

@@ -1,6 +1,6 @@
 -- A written string is a string of the grammar, which means the text that was written.
 use Rattle.std.proofs.Common.{◌≡◌, ◌∙◌, ℕ, zero, suc, ◌/◌, ◌%◌, ◌≤◌, List, [], ◌∷◌, ◌++◌, map}
-use Rattle.std.proofs.Common.{Bool, true, false, not, ◌&&◌, ◌||◌, ◌==◌, nat_le, nat_lt, if◌then◌else◌, refl, sym, ap}
+use Rattle.std.proofs.Common.{Bool, true, false, not, ◌&&◌, ◌||◌, ◌==◌, nat_lt, if◌then◌else◌, refl, sym, ap}
 use Rattle.std.proofs.Common.{subst, arith, inl, inr, append-nil, chars, None}
 use Rattle.std.specs.Prelude.{IsUtf8, encode_utf8, encode_utf8_all}
 use Rattle.std.specs.Char.{digit_char, is_ascii_hexdigit}
@@ -22,6 +22,7 @@ use Rattle.jzon.specs.Grammar as grammar
 use Rattle.jzon.specs.Spelling.{Cell, cell, plain, item_cells, items_cells}
 use Rattle.jzon.specs.Meaning.{item_text, text_of, bytes_of}
 use Rattle.jzon.proofs.Trees.PrefixStates.{plain-append}
+use Rattle.jzon.proofs.Bytes.PlainRuns.{plain_wide}
 
 -- ---- what is written for a character
 
@@ -101,12 +102,6 @@ small_written = refl
 large_item : (c : ℕ) → 128 ≤ c → item_of c ≡ grammar.plain c
 large_item c h = grind (arith, nat_tests)
 
-large_plain : (c : ℕ) → 128 ≤ c → scalar c ≡ true → is_unescaped c ≡ true
-large_plain c h ok = rw ok (rest c h)
-  where
-    rest : (c : ℕ) → 128 ≤ c → ((true && nat_le 32 c) && not (c == 34 || c == 92)) ≡ true
-    rest c h = grind (arith, nat_tests)
-
 written : (c : ℕ) → scalar c ≡ true → IsWritten c (item_of c)
 written c ok =
     elim (cases_lt c 128) [
@@ -120,7 +115,7 @@ written c ok =
             means = (bytes_eq-Decides _ _).0 a.1;
           })
       | inr large ↦ subst (λ (i : Item). IsWritten c i) (sym (large_item c large)) (record {
-        in_grammar = large_plain c large ok;
+        in_grammar = plain_wide c ok large;
         spelled = λ k. ap (λ t. plain t k) (sym (large_escaped c large));
         means = refl;
       })

@@ -4,6 +4,7 @@ use Rattle.std.proofs.Common.{◌&&◌, nat_le, codes, None, refl, sym, ap, arit
 use Rattle.std.specs.Prelude.{IsUtf8}
 use Rattle.std.specs.Int.{w16}
 use Rattle.std.specs.Str.{IsAscii}
+use Rattle.std.proofs.Math.Bool.{and-false}
 use Rattle.std.proofs.lemmas.Bool.Decides.{nat_tests}
 use Rattle.std.proofs.lemmas.Str.{chars-append, chars-IsAscii, IsUtf8-append, IsUtf8-from_ascii}
 use Rattle.std.proofs.lemmas.Str.Ascii.{IsAscii-nil, IsAscii-cons}
@@ -189,17 +190,13 @@ key_for w key = record { before = w; items = items_for key; after = [] }
 abbrev pub pair_text : List ℕ → List ℕ → List ℕ → List ℕ → List ℕ → List ℕ → List ℕ
 pair_text w key g x c b = w ++ (quoted key ++ (58 ∷ run_text g x c b))
 
-no_duplicate : (b : Bool) → (b && false) ≡ false
-no_duplicate true = refl
-no_duplicate false = refl
-
 key-plain : (r : Reading) (seen : List (List ℕ)) (w key : List ℕ) (k : List Cell) → IsUtf8 key
     → is_known seen key ≡ false
     → key_cells r seen (key_for w key) None k ≡ plain w (plain (chars (quoted key)) (cell 58 None ∷ k))
 key-plain r seen w key k u new =
     let none : (r.strict && is_known seen (bytes_of (items_for key))) ≡ false =
     ap (λ t. r.strict && is_known seen t) (bytes_of-items_for key u) ∙ ap (λ t. r.strict && t) new
-    ∙ no_duplicate r.strict in
+    ∙ and-false r.strict in
     ap (λ t. plain w (cell 34 None ∷ items_cells (items_for key)
     (cell 34 (breach_if t (duplicate (items_length (items_for key) + 1))) ∷ cell 58 None ∷ k))) none
     ∙ ap (λ q. plain w q) (quoted-plain key (cell 58 None ∷ k) u)

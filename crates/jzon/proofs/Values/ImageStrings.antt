@@ -2,9 +2,9 @@
 use Rattle.std.proofs.Common.{◌≡◌, ℕ, zero, suc, ◌+◌, ◌-◌, length, arith, Option, ◌||◌, List, [], ◌∷◌, ◌++◌, Bool, true}
 use Rattle.std.proofs.Common.{false, cond, not, ◌&&◌, ◌==◌, Some, None, encode_utf8, encode_utf8_all, refl, sym, ap}
 use Rattle.std.proofs.Common.{◌∙◌, append_assoc, append-nil}
+use Rattle.std.proofs.lemmas.List.Sums.{fold-append}
 use Rattle.std.proofs.lemmas.Str.{encodes-append}
 use Rattle.std.specs.Char.{is_ascii_hexdigit}
-use Rattle.std.specs.List.{fold}
 use Rattle.std.specs.Option.{is_some}
 use Rattle.std.specs.Str.{bytes_eq}
 use Rattle.jzon_base.specs.PairList.{find}
@@ -21,7 +21,7 @@ use Rattle.jzon.specs.Meaning.{meaning, item_text, text_of, bytes_of, is_pair, p
 use Rattle.jzon.specs.Machine.{Role, TextPlace, string, after_key, between, slash, code, second, second_slash}
 use Rattle.jzon.specs.Machine.{second_code, Move, go, bad, closed_string, move_between, move_slash, add_hex, coded}
 use Rattle.jzon.specs.Machine.{move_code, paired, move_second_code, move_string}
-use Rattle.jzon.proofs.Trees.NumberLimits.{onto-append}
+use Rattle.jzon.proofs.Trees.NumberLimits.{onto-append, length-onto}
 use Rattle.jzon.proofs.Trees.TreeMachine as tree
 use Rattle.jzon.proofs.Trees.TreeMachine.{items_onto, StringPlace, Step, Named, nothing_named, named, seen_of}
 use Rattle.jzon.proofs.Values.ImageContexts.{entries_of, frames_of, role_of, item_read, items_read, place_read}
@@ -89,23 +89,15 @@ length-items : (is js : List Item) → length (items_cells (items_onto is js) []
 length-items [] js = omega arith
 length-items (i ∷ is) js = omega (arith, length-items is (i ∷ js), length-item i (items_cells js []))
 
-length-onto : (xs ys : List ℕ) → length (onto xs ys) ≡ length xs + length ys
-length-onto [] ys = omega arith
-length-onto (x ∷ xs) ys = omega (arith, length-onto xs (x ∷ ys))
-
 -- ---- code units
 
 no_digits : code_unit [] ≡ 0
 unfolding code_unit
 no_digits = refl
 
-fold-append : (f : ℕ → ℕ → ℕ) (n : ℕ) (xs : List ℕ) (c : ℕ) → fold f n (xs ++ c ∷ []) ≡ f (fold f n xs) c
-fold-append f n [] c = refl
-fold-append f n (x ∷ xs) c = fold-append f (f n x) xs c
-
 digit_more : (ds : List ℕ) (c : ℕ) → add_hex (code_unit (onto ds [])) c ≡ code_unit (onto ds (c ∷ []))
 unfolding code_unit
-digit_more ds c = sym (ap code_unit (onto-append ds (c ∷ [])) ∙ fold-append add_hex 0 (onto ds []) c)
+digit_more ds c = sym (ap code_unit (onto-append ds (c ∷ [])) ∙ fold-append add_hex 0 (onto ds []) (c ∷ []))
 
 -- ---- between items
 

@@ -7,12 +7,17 @@ use Rattle.jzon.specs.Reading.{Reading}
 use Rattle.jzon.specs.Meaning.{meaning}
 use Rattle.jzon.specs.Machine.{no_frames, before, outcome, Reads}
 use Rattle.std.specs.Prelude.{IfOk, IfErr}
-use Rattle.jzon.specs.Answer.{Answers, IsMeaningOf, IsReadable, IsErrorUnlessMemory}
+use Rattle.jzon.specs.Answer.{IsMeaningOf, IsReadable, IsErrorUnlessMemory}
 use Rattle.jzon.proofs.Trees.TreeMachine.{start}
 use Rattle.jzon.proofs.Trees.TreeAnswer.{Answer, tree, refused, answer}
 use Rattle.jzon.proofs.Trees.Verdict.{Verdict, answers}
 use Rattle.jzon.proofs.Values.ImageOfTrees.{image_answer, outcome_image}
 use Rattle.jzon.proofs.ReadBack.MeaningHeld.{meaning_held}
+
+-- a meaning of the text, or what a refused text is answered
+abbrev pub Answers : Reading → List ℕ → Result JsonValue Error → Type 0
+Answers r t (Ok v) = IsMeaningOf r t v
+Answers r t (Err e) = IsErrorUnlessMemory r t e
 
 answers_by : (r : Reading) (t : List ℕ) (result : Result JsonValue Error) (a : Answer) → Verdict r t a
     → Reads t result (image_answer a) → Answers r t result

@@ -18,6 +18,7 @@ use Rattle.jzon.specs.Spelling.{onto, drops_too_many, keeps_too_many}
 use Rattle.jzon.specs.Spelling as spelling
 use Rattle.jzon.specs.Fault.{limit, Parses, IsErrorOf}
 use Rattle.jzon.specs.Classes.{class_of, whole, pointed, fraction}
+use Rattle.jzon.proofs.Trees.NumberLimits.{onto-onto, length-onto}
 use Rattle.jzon.proofs.Trees.TreeMachine.{top, numeral, start}
 use Rattle.jzon.proofs.Trees.TreeAnswer.{tree, refused, answer}
 use Rattle.jzon.proofs.Trees.ClassesOfCharacters.{digits-class}
@@ -150,15 +151,6 @@ eight_times_ten_meaning = ap value.number (number_of-at (eight_power unsigned (c
 kept_apart : (ws fs : List ℕ) → (length fs ≡ 32769 → ⊥) → keeps_too_many ws fs ≡ false
 unfolding keeps_too_many
 kept_apart ws fs h = let e : (length fs == 32769) ≡ false = ne_eqb (length fs) 32769 h in rw e refl
-
-onto-onto : (xs ys cs : List ℕ) → onto (onto xs ys) cs ≡ onto ys (xs ++ cs)
-onto-onto [] ys cs = refl
-onto-onto (x ∷ xs) ys cs = onto-onto xs (x ∷ ys) cs
-
-length-onto : (xs ys : List ℕ) → length (onto xs ys) ≡ length xs + length ys
-length-onto [] ys = omega arith
-length-onto (x ∷ xs) ys = let e : length (onto xs (x ∷ ys)) ≡ length xs + suc (length ys) = length-onto xs (x ∷ ys) in
-    omega arith
 
 -- the 32769th digit isn't among these
 abbrev Passes : List ℕ → List ℕ → Type 0

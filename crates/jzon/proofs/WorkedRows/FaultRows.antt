@@ -1,25 +1,20 @@
 -- Worked rows of docs/RULES.md, "Errors": texts and the one error of each. The machine computes the fault, and its
 -- verdict is the definition's.
-use Rattle.std.proofs.Common.{◌≡◌, ℕ, [], ◌∷◌, ◌++◌, true, false, codes, encode_utf8_all, refl}
+use Rattle.std.proofs.Common.{◌≡◌, [], ◌∷◌, ◌++◌, codes, encode_utf8_all, refl}
 use Rattle.std.specs.Char.{encode_utf8}
 use Rattle.std.specs.Fmt.{digits}
 use Rattle.jzon_base.specs.Digits.{kept_len}
 use Rattle.jzon_base.specs.ErrorText.{error_text}
 use Rattle.jzon_base.specs.declared.error.Error.TheVariants.{UnexpectedCharacter, UnexpectedEndOfJson}
 use Rattle.jzon_base.specs.declared.error.Error.TheVariants.{ExceededDepthLimit, FailedUtf8Parsing, DuplicateKey}
-use Rattle.jzon.specs.Reading.{Reading, usual}
+use Rattle.jzon.specs.Reading.{usual}
 use Rattle.jzon.specs.Grammar.{code_unit}
 use Rattle.jzon.specs.Meaning.{bytes_of}
 use Rattle.jzon.specs.Spelling.{deep, pair, duplicate, drops_too_many, keeps_too_many}
 use Rattle.jzon.specs.Fault.{Fault, limit, character, IsErrorOf}
 use Rattle.jzon.specs.Classes.{class_of}
 use Rattle.jzon.proofs.Values.TreeOrError.{refused_error}
-
-abbrev shallow : ℕ → Reading
-shallow n = record { strict = false; depth = n }
-
-abbrev strict_to : ℕ → Reading
-strict_to n = record { strict = true; depth = n }
+use Rattle.jzon.proofs.WorkedRows.Samples.{shallow, strict_to}
 
 -- ---- literals and numbers
 

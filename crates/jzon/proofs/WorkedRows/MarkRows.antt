@@ -1,31 +1,23 @@
 -- Worked rows of docs/RULES.md, "Depth", "Strings" and "Readings": where trees break a limit, computed from the
 -- definitions, with the text as it is spelled.
-use Rattle.std.proofs.Common.{◌≡◌, ℕ, zero, suc, List, [], ◌∷◌, ◌++◌, replicate, true, false, codes, refl}
+use Rattle.std.proofs.Common.{◌≡◌, ℕ, zero, suc, List, [], ◌∷◌, ◌++◌, replicate, codes, refl}
 use Rattle.std.specs.Char.{encode_utf8}
 use Rattle.std.specs.List.{repeat}
 use Rattle.jzon.specs.Reading.{Reading, usual}
 use Rattle.jzon.specs.Grammar.{single, double, Node, member, no_members, no_elements, code_unit}
 use Rattle.jzon.specs.Meaning.{bytes_of}
 use Rattle.jzon.specs.Spelling.{deep, pair, duplicate, spell}
+use Rattle.jzon.proofs.WorkedRows.Samples.{shallow, strict_to, a, one}
 use Rattle.jzon.proofs.WorkedRows.Samples.{Marks, marks, alone, plains, string, key, key_of, int, array, object, nested}
 
 -- the tree has this text and these breaches by this reading
 abbrev MarkRow : Reading → List ℕ → Node → Marks → Type 0
 MarkRow r t n ms = (spell r (alone n) ≡ t) × (marks r (alone n) ≡ ms)
 
-abbrev one : Node
-one = int (codes "1")
-
 abbrev two : Node
 two = int (codes "2")
 
-abbrev a : List ℕ
-a = codes "a"
-
 -- ---- depth
-
-abbrev shallow : ℕ → Reading
-shallow n = record { strict = false; depth = n }
 
 scalar_at_0 : MarkRow (shallow 0) (codes "1") one []
 scalar_at_0 = (refl, refl)
@@ -136,9 +128,6 @@ unfolding code_unit
 pair_in_array = (refl, refl)
 
 -- ---- repeated keys
-
-abbrev strict_to : ℕ → Reading
-strict_to n = record { strict = true; depth = n }
 
 abbrev twice : Node
 twice = object (key a) one ((key a, two) ∷ [])

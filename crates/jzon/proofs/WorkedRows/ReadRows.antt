@@ -15,20 +15,8 @@ use Rattle.jzon.specs.Classes.{class_of}
 use Rattle.jzon.proofs.Trees.TreeMachine.{State, Step, go, bad, bad_deep, step, accept, start}
 use Rattle.jzon.proofs.Trees.TreeAnswer.{Answer, refused, last_answer, answer_on, answer}
 use Rattle.jzon.proofs.Values.TreeOrError.{read_tree, refused_error}
-use Rattle.jzon.proofs.WorkedRows.Samples.{alone, string, key, key_of, int, array, object}
+use Rattle.jzon.proofs.WorkedRows.Samples.{shallow, strict_to, a, one, alone, string, key, key_of, array, object}
 use Rattle.jzon.proofs.WorkedRows.SpellingRows.{spaced, mixed, mixed_text}
-
-abbrev shallow : ℕ → Reading
-shallow n = record { strict = false; depth = n }
-
-abbrev strict_to : ℕ → Reading
-strict_to n = record { strict = true; depth = n }
-
-abbrev a : List ℕ
-a = codes "a"
-
-abbrev one : Node
-one = int (codes "1")
 
 -- the text is read as this tree
 abbrev Reads : Reading → List ℕ → Node → Type 0

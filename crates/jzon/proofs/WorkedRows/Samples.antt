@@ -1,6 +1,6 @@
 -- Trees for worked rows, the breaches of a tree as a list, and tests that tell numbers of the grammar.
 use Rattle.std.proofs.Common.{◌≡◌, ℕ, zero, suc, ◌+◌, List, [], ◌∷◌, ◌++◌, map, replicate, Bool, true, false, not, ◌&&◌}
-use Rattle.std.proofs.Common.{◌==◌, Option, Some, None, refl, ap}
+use Rattle.std.proofs.Common.{◌==◌, Option, Some, None, codes, refl, ap}
 use Rattle.std.proofs.lemmas.Bool.{and_parts}
 use Rattle.std.specs.Prelude.{IsTrue, slice_get}
 use Rattle.std.specs.Char.{is_ascii_digit}
@@ -11,6 +11,14 @@ use Rattle.jzon.specs.Grammar.{Sign, Exponent, Numeral, Item, plain, Key, Node, 
 use Rattle.jzon.specs.Grammar.{no_members, member, Document, AreDigits, IsDigits, IsWhole, is_exponent_letter}
 use Rattle.jzon.specs.Grammar.{IsExponent, IsNumeral}
 use Rattle.jzon.specs.Spelling.{Breach, Cell, cells, HasNoBreach}
+
+-- ---- readings
+
+abbrev pub shallow : ℕ → Reading
+shallow n = record { strict = false; depth = n }
+
+abbrev pub strict_to : ℕ → Reading
+strict_to n = record { strict = true; depth = n }
 
 -- ---- the breaches of a tree, as a list
 
@@ -44,6 +52,9 @@ pub no_marks : (r : Reading) (d : Document) → marks r d ≡ [] → HasNoBreach
 no_marks r d e i b h = no_marks_from 0 (cells r d) e i b h
 
 -- ---- trees
+
+abbrev pub a : List ℕ
+a = codes "a"
 
 abbrev pub plains : List ℕ → List Item
 plains [] = []
@@ -81,6 +92,9 @@ negated n = record n { negative = true }
 
 abbrev pub int : List ℕ → Node
 int ds = Node.number (integer ds)
+
+abbrev pub one : Node
+one = int (codes "1")
 
 -- containers with no whitespace: values, and members
 abbrev pub elements : List Node → Elements

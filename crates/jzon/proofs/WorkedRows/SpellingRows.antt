@@ -33,11 +33,6 @@ NumberRow t n v printed =
     × (meaning (Node.number n) ≡ value.number v)
     × (compact (value.number v) ≡ printed)
 
--- so the number alone is what the text is read as
-pub number_parses : (t : List ℕ) (n : Numeral) (v : Decimal) (printed : List ℕ) → NumberRow t n v printed
-    → Parses usual t (alone (Node.number n))
-number_parses t n v printed h = (((tt, is_numeral-true n h.0, tt), h.1), no_marks usual (alone (Node.number n)) h.2)
-
 negative_with_all_parts : NumberRow (codes "-12.50e3") (negated (power (codes "12") (codes "50") unsigned (codes "3")))
     (parts false 1250 (pos 1)) (codes "-12500")
 unfolding digits kept_len drops_too_many keeps_too_many

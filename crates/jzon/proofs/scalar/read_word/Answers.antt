@@ -1,44 +1,22 @@
-use Rattle.std.proofs.Common.{◌≡◌, inl, inr, get_or, refl, sym, ap, subst, arith}
-use Rattle.std.specs.Prelude.{chars}
+use Rattle.std.proofs.Common.{◌≡◌, ◌+◌, None, inl, inr, get_or, refl, sym, ap, subst, arith}
+use Rattle.std.specs.Prelude.{chars, IsTrue}
 use Rattle.std.proofs.lemmas.Str.{IsCharBoundary-after_ascii}
-use Rattle.jzon.specs.Reading.{usual}
-use Rattle.jzon.specs.Machine.{no_frames}
+use Rattle.jzon_tree.specs.View.{view}
+use Rattle.jzon.specs.Reading.{Reading, usual}
+use Rattle.jzon.specs.Machine.{Frames, no_frames, value_mark}
 use Rattle.jzon.proofs.Bytes.StepsByByte.{same_outcome}
-use Rattle.jzon.proofs.Bytes.WholeWords.{IsFirst, word_begins, word_ends}
+use Rattle.jzon.proofs.Bytes.WholeWords.{IsFirst, WordEnds, word_begins, word_ends}
+use Rattle.jzon.proofs.scalar.read_word.Goals.{After-has_four}
 use Rattle.jzon.proofs.scalar.read_word.Goals as goal
 
-pub returns-then-has_four-clause-bounds : goal.returns-then-has_four-clause-bounds
-returns-then-has_four-clause-bounds c =
+-- where the last four letters stand, the word ends behind them
+ends : (c : After-has_four) (r : Reading) (fs : Frames) → value_mark r fs ≡ None → IsTrue c.has_four.result
+    → WordEnds r c.args.source.now c.args.start (c.last_four_at-prefix.result + 4) fs (view c.word_value-value.result)
+ends c r fs m all =
     let first : get_or c.as_bytes.result.now c.args.start 0 ≡ get_or c.args.source.now c.args.start 0 =
     ap (λ s. get_or s c.args.start 0) c.as_bytes.ensures.value in
     let four = c.has_four.ensures in
-    let all = c.if-has_four.true in
-    let ends = word_ends usual c.args.source.now c.args.start (get_or c.as_bytes.result.now c.args.start 0)
-    c.last_four_at-prefix.result no_frames _ c.last_four.result c.utf8.source c.requires.within (sym first) refl
-    (subst IsFirst (sym first) c.requires.word)
-    (record {
-      null = c.word_value-value.ensures.null;
-      yes = c.word_value-value.ensures.yes;
-      no = c.word_value-value.ensures.no;
-    })
-    (record { null = c.last_four.ensures.null; yes = c.last_four.ensures.yes; no = c.last_four.ensures.no })
-    c.last_four_at-prefix.ensures.short c.last_four_at-prefix.ensures.long
-    (record {
-      within = four.within all;
-      first = four.first all;
-      second = four.second all;
-      third = four.third all;
-      fourth = four.fourth all;
-    }) in
-    (ends.past, ends.boundary)
-
-pub returns-then-has_four-clause-same : goal.returns-then-has_four-clause-same
-returns-then-has_four-clause-same c r fs m =
-    let first : get_or c.as_bytes.result.now c.args.start 0 ≡ get_or c.args.source.now c.args.start 0 =
-    ap (λ s. get_or s c.args.start 0) c.as_bytes.ensures.value in
-    let four = c.has_four.ensures in
-    let all = c.if-has_four.true in
-    let ends = word_ends r c.args.source.now c.args.start (get_or c.as_bytes.result.now c.args.start 0)
+    word_ends r c.args.source.now c.args.start (get_or c.as_bytes.result.now c.args.start 0)
     c.last_four_at-prefix.result fs _ c.last_four.result c.utf8.source c.requires.within (sym first) m
     (subst IsFirst (sym first) c.requires.word)
     (record {
@@ -54,8 +32,17 @@ returns-then-has_four-clause-same c r fs m =
       second = four.second all;
       third = four.third all;
       fourth = four.fourth all;
-    }) in
-    ends.same
+    })
+
+pub returns-then-has_four-clause-bounds : goal.returns-then-has_four-clause-bounds
+returns-then-has_four-clause-bounds c =
+    let at = (goal.at.returns-then-has_four-clause-bounds c).After-has_four in
+    let end = ends at usual no_frames refl c.if-has_four.true in
+    (end.past, end.boundary)
+
+pub returns-then-has_four-clause-same : goal.returns-then-has_four-clause-same
+returns-then-has_four-clause-same c r fs m =
+    (ends (goal.at.returns-then-has_four-clause-same c).After-has_four r fs m c.if-has_four.true).same
 
 pub read_rest-requires-clause-boundary : goal.read_rest-requires-clause-boundary
 read_rest-requires-clause-boundary c =

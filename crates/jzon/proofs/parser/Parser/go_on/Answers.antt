@@ -1,17 +1,29 @@
 use Rattle.std.proofs.Common.{◌≡◌, ◌∙◌, ◌++◌, refl, cond, [], ◌∷◌, map, sym, ap, arith}
 use Rattle.std.proofs.lemmas.List.{map-append}
 use Rattle.jzon_base.specs.PairList.{put}
-use Rattle.jzon_tree.specs.Value.{array, values_of, object, pairs_of}
+use Rattle.jzon_tree.specs.Value.{Value, array, values_of, object, pairs_of}
 use Rattle.jzon_tree.specs.View.{view, viewed}
 use Rattle.jzon_tree.proofs.Views.{view-Array, view-Object}
 use Rattle.jzon_tree.proofs.Views.{viewed-put}
 use Rattle.jzon.specs.Cursor.{left}
 use Rattle.jzon.specs.Frames.{open_in, stack_view}
-use Rattle.jzon.specs.Machine.{array_frame, object_frame, before, before_key, behind}
+use Rattle.jzon.specs.Machine.{Frames, array_frame, object_frame, before, before_key, behind}
+use Rattle.jzon.specs.declared.cursor.Cursor.{Cursor}
+use Rattle.jzon.specs.declared.frames.Frame.{Frame}
 use Rattle.jzon.proofs.Bytes.Cursors.{Reached, reached, goes_behind, goes_on}
 use Rattle.jzon.proofs.Bytes.FrameViews.{some_more, some_put, view_object-entries}
 use Rattle.jzon.proofs.parser.Parser.go_on.Goals.{After-array_ends, After-object_ends}
 use Rattle.jzon.proofs.parser.Parser.go_on.Goals as goal
+
+-- behind a value in the same container
+same_frame : (t : Cursor) (fs : Frames) (f g : Frame) (v : Value) → f ≡ g
+    → Reached t (behind (open_in fs f) v) t (behind (open_in fs g) v)
+same_frame t fs f g v e = record {
+  text = refl;
+  reading = refl;
+  within = omega arith;
+  same = ap (λ k. left t (behind (open_in fs k) v)) e;
+}
 
 -- ---- in an array
 
@@ -20,13 +32,7 @@ in_array : (c : After-array_ends) →
     (view c.args.item)) c.args.self.now.cursor
     (behind (array_frame (stack_view c.args.self.now.stack.items) (map view c.in-Array.elements.items))
     (view c.args.item))
-in_array c = record {
-  text = refl;
-  reading = refl;
-  within = omega arith;
-  same = ap (λ f. left c.args.self.now.cursor (behind (open_in (stack_view c.args.self.now.stack.items) f)
-      (view c.args.item))) c.in-Array.is;
-}
+in_array c = same_frame _ _ _ _ _ c.in-Array.is
 
 elements_pushed : (c : After-array_ends) → map view c.push.new.self.items
     ≡ map view c.in-Array.elements.items ++ view c.args.item ∷ []
@@ -93,13 +99,7 @@ in_object : (c : After-object_ends) →
     (view c.args.item)) c.args.self.now.cursor
     (behind (object_frame (stack_view c.args.self.now.stack.items) (viewed c.in-Object.entries) c.in-Object.key)
     (view c.args.item))
-in_object c = record {
-  text = refl;
-  reading = refl;
-  within = omega arith;
-  same = ap (λ f. left c.args.self.now.cursor (behind (open_in (stack_view c.args.self.now.stack.items) f)
-      (view c.args.item))) c.in-Object.is;
-}
+in_object c = same_frame _ _ _ _ _ c.in-Object.is
 
 entry_pushed : (c : After-object_ends) →
     viewed c.push-in-Object.new.self ≡ put c.in-Object.key (view c.args.item) (viewed c.in-Object.entries)

@@ -1,5 +1,5 @@
-use Rattle.std.proofs.Common.{◌≡◌, ◌∙◌, ◌+◌, ◌++◌, refl, cond, [], ◌∷◌, List, length, map, sym, ap, subst, arith}
-use Rattle.std.proofs.Common.{vec_len}
+use Rattle.std.proofs.Common.{◌≡◌, ◌∙◌, ◌+◌, ◌<◌, ◌++◌, refl, cond, [], ◌∷◌, List, length, map, sym, ap, subst, arith}
+use Rattle.std.proofs.Common.{None, vec_len}
 use Rattle.std.proofs.lemmas.List.{map-append}
 use Rattle.std.proofs.lemmas.Result.{err_from_is_err_and}
 use Rattle.jzon_tree.specs.Value.{Value, array, values_of}
@@ -7,9 +7,11 @@ use Rattle.jzon_tree.specs.View.{view}
 use Rattle.jzon_tree.proofs.Views.{view-Array}
 use Rattle.jzon.specs.Cursor.{left, IsBehind}
 use Rattle.jzon.specs.Frames.{IsReady, place_of, stack_view}
-use Rattle.jzon.specs.Machine.{Frames, array_frame, frames_depth, before, behind}
+use Rattle.jzon.specs.Machine.{Frames, array_frame, frames_depth, before, behind, value_mark}
+use Rattle.jzon.specs.Reading.{Reading}
 use Rattle.jzon.specs.declared.cursor.Cursor.{Cursor}
 use Rattle.jzon.specs.declared.frames.Begun.TheVariants.{Object as begun_object}
+use Rattle.jzon.specs.declared.frames.Frame.{Frame}
 use Rattle.jzon.proofs.Bytes.Cursors.{Reached, reached_start, reached, token_goes, goes_behind, fails_on}
 use Rattle.jzon.proofs.Bytes.FrameViews.{frames_depth-stack, fresh_is_empty, some_more, stack_view-push}
 use Rattle.jzon.proofs.Bytes.FrameViews.{value_mark-shallow}
@@ -122,18 +124,19 @@ loop-self-preserved-in-Array c =
           c.loop-self.invariant.came (nested c));
     }
 
+-- no mark stands at the next element
+no_mark : (r : Reading) (stack : List Frame) (vs : List Value) → length stack < r.depth
+    → value_mark r (array_frame (stack_view stack) vs) ≡ None
+no_mark r stack vs room =
+    value_mark-shallow r (array_frame (stack_view stack) vs) (omega (arith, frames_depth-stack stack, room))
+
 pub returns-in_err-value-clause-same : goal.returns-in_err-value-clause-same
 returns-in_err-value-clause-same c =
     let m = c.loop-self.self.cursor in
     let fs = stack_view c.loop-self.self.stack.items in
     let vs = map view c.loop-self.elements.items in
-    let shallow = value_mark-shallow m.reading (array_frame fs vs)
-    (omega (
-      arith,
-      frames_depth-stack c.loop-self.self.stack.items,
-      c.loop-self.self.stack.ok.0,
-      c.loop-self.invariant.room,
-    )) in
+    let shallow = no_mark m.reading c.loop-self.self.stack.items vs
+    (omega (arith, c.loop-self.self.stack.ok.0, c.loop-self.invariant.room)) in
     let failed = err_from_is_err_and c.from_residual-in_err-value.result c.from_residual-in_err-value.ensures.1 in
     fails_on c.args.self.now.cursor m _ _ (before (array_frame fs vs)) c.from_residual-in_err-value.result _ failed.0
     failed.1 c.loop-self.invariant.came
@@ -156,13 +159,8 @@ more c =
     let m = c.loop-self.self.cursor in
     let fs = stack_view c.loop-self.self.stack.items in
     let vs = map view c.loop-self.elements.items in
-    let shallow = value_mark-shallow m.reading (array_frame fs vs)
-    (omega (
-      arith,
-      frames_depth-stack c.loop-self.self.stack.items,
-      c.loop-self.self.stack.ok.0,
-      c.loop-self.invariant.room,
-    )) in
+    let shallow = no_mark m.reading c.loop-self.self.stack.items vs
+    (omega (arith, c.loop-self.self.stack.ok.0, c.loop-self.invariant.room)) in
     elim c.if-opens_container.branch [
       | then-opens_container+in_ok-begun+in-Value+in_ok-push-in-Value w ↦
           let depth : frames_depth (array_frame fs vs) ≡ w.len-depth.result + 1 =

@@ -1,4 +1,4 @@
-use Rattle.std.proofs.Common.{◌≡◌, ◌∙◌, ◌+◌, ◌-◌, ◌&&◌, sym, ap, arith, true, false, lit<}
+use Rattle.std.proofs.Common.{◌≡◌, ◌∙◌, ℕ, ◌+◌, ◌-◌, ◌&&◌, List, None, sym, ap, arith, true, false, lit<}
 use Rattle.std.specs.Prelude.{chars, slice_range, string_bytes, if◌then◌else◌}
 use Rattle.std.specs.Option.{is_some}
 use Rattle.std.proofs.lemmas.Result.{err_from_is_err_and}
@@ -6,14 +6,15 @@ use Rattle.std.proofs.lemmas.Str.{IsCharBoundary-after_ascii}
 use Rattle.jzon_base.specs.PairList.{find}
 use Rattle.jzon_tree.specs.View.{viewed}
 use Rattle.jzon.specs.Cursor.{left, next_byte}
-use Rattle.jzon.specs.Machine.{as_key, left_at, before, before_key, after_key, object_frame}
+use Rattle.jzon.specs.Machine.{Frames, as_key, left_at, before, before_key, after_key, object_frame, key_mark}
 use Rattle.jzon.proofs.Bytes.ContainerSteps.{open_key}
 use Rattle.jzon.proofs.Bytes.ContainerTokens.{key_closes, key_stands, key_missing, colon_read, colon_missing}
-use Rattle.jzon.proofs.Bytes.Cursors.{utf8_of, reached_start, goes_behind, told_on, fails_on}
+use Rattle.jzon.proofs.Bytes.Cursors.{Reached, utf8_of, reached_start, goes_behind, told_on, fails_on}
 use Rattle.jzon.proofs.Bytes.FaultOffsets.{tells_duplicate}
 use Rattle.jzon.proofs.Bytes.FrameViews.{byte_within}
 use Rattle.jzon.proofs.Bytes.Quotes.{key_refused}
 use Rattle.jzon.proofs.Bytes.ToldErrors.{told, told_again}
+use Rattle.jzon.proofs.parser.Parser.read_key.Goals.{After-go_to}
 use Rattle.jzon.proofs.parser.Parser.read_key.Goals as goal
 
 pub returns-then-peek-ne34-clause-same : goal.returns-then-peek-ne34-clause-same
@@ -68,8 +69,17 @@ returns-then-refused-clause-same c fs h n =
     ∙ tells_duplicate t.source.now t.index (end - 1) (utf8_of t) t.boundary c.in_ok-spelled.ensures.quote.1
     (omega (arith, c.in_ok-spelled.ensures.quote.0)))
 
-pub returns-then-peek-ne58-clause-same : goal.returns-then-peek-ne58-clause-same
-returns-then-peek-ne58-clause-same c fs h n =
+-- the bytes of the key
+abbrev key_text : After-go_to → List ℕ
+key_text c = if c.in_ok-spelled.spelled.is_escaped then string_bytes c.read_string.new.buffer else slice_range
+    c.args.self.now.cursor.source.now (c.args.self.now.cursor.index + 1) (c.in_ok-spelled.spelled.end - 1)
+
+-- the key was read, and is none that the reading refuses
+key_read : (c : After-go_to) (fs : Frames)
+    → key_mark c.args.self.now.cursor.reading fs (viewed c.args.entries.now) ≡ None
+    → Reached c.args.self.now.cursor (before_key fs (viewed c.args.entries.now)) c.go_to.new.self
+    (after_key fs (viewed c.args.entries.now) (key_text c))
+key_read c fs h =
     let t = c.args.self.now.cursor in
     let u = c.go_to.new.self in
     let es = viewed c.args.entries.now in
@@ -79,13 +89,21 @@ returns-then-peek-ne58-clause-same c fs h n =
     let new : (t.reading.strict && is_some (find text es)) ≡ false =
     ap (λ k. t.reading.strict && is_some (find k es)) (sym c.text-name.ensures) ∙ sym c.in_ok-refused.ensures.refused
     ∙ c.if-refused.false in
-    told_on t u (before_key fs es) (after_key fs es text) c.fault-then-peek-ne58.result
-    (key_stands t u fs es text end
+    key_stands t u fs es text end
     (key_closes t fs es text end (sym c.peek.ensures ∙ c.if-peek-ne34.false) h
     (c.in_ok-spelled.ensures.same t.reading (as_key fs es (left_at t.source.now t.index))))
-    new (omega (arith, c.in_ok-spelled.ensures.quote.0)) c.go_to.ensures)
+    new (omega (arith, c.in_ok-spelled.ensures.quote.0)) c.go_to.ensures
+
+pub returns-then-peek-ne58-clause-same : goal.returns-then-peek-ne58-clause-same
+returns-then-peek-ne58-clause-same c fs h n =
+    let t = c.args.self.now.cursor in
+    let u = c.go_to.new.self in
+    let es = viewed c.args.entries.now in
+    let at = (goal.at.returns-then-peek-ne58-clause-same c).After-go_to in
+    told_on t u (before_key fs es) (after_key fs es (key_text at)) c.fault-then-peek-ne58.result
+    (key_read at fs h)
     (told (chars u.source.now) c.fault-then-peek-ne58.result _ _
-    (colon_missing u fs es text (λ e. c.if-peek-ne58.true (c.peek-2.ensures ∙ e)))
+    (colon_missing u fs es (key_text at) (λ e. c.if-peek-ne58.true (c.peek-2.ensures ∙ e)))
     c.fault-then-peek-ne58.ensures)
 
 pub returns-clause-same : goal.returns-clause-same
@@ -93,19 +111,11 @@ returns-clause-same c fs h n =
     let t = c.args.self.now.cursor in
     let u = c.go_to.new.self in
     let es = viewed c.args.entries.now in
-    let end = c.in_ok-spelled.spelled.end in
-    let text = if c.in_ok-spelled.spelled.is_escaped then string_bytes c.read_string.new.buffer else slice_range
-    t.source.now (t.index + 1) (end - 1) in
-    let new : (t.reading.strict && is_some (find text es)) ≡ false =
-    ap (λ k. t.reading.strict && is_some (find k es)) (sym c.text-name.ensures) ∙ sym c.in_ok-refused.ensures.refused
-    ∙ c.if-refused.false in
-    let read = goes_behind t u c.bump.new.self (before_key fs es) (after_key fs es text)
-    (before (object_frame fs es text))
-    (key_stands t u fs es text end
-    (key_closes t fs es text end (sym c.peek.ensures ∙ c.if-peek-ne34.false) h
-    (c.in_ok-spelled.ensures.same t.reading (as_key fs es (left_at t.source.now t.index))))
-    new (omega (arith, c.in_ok-spelled.ensures.quote.0)) c.go_to.ensures)
-    (colon_read u c.bump.new.self fs es text c.bump.ensures (sym c.peek-2.ensures ∙ c.if-peek-ne58.false)) in (
+    let at = (goal.at.returns-clause-same c).After-go_to in
+    let read = goes_behind t u c.bump.new.self (before_key fs es) (after_key fs es (key_text at))
+    (before (object_frame fs es (key_text at)))
+    (key_read at fs h)
+    (colon_read u c.bump.new.self fs es (key_text at) c.bump.ensures (sym c.peek-2.ensures ∙ c.if-peek-ne58.false)) in (
       read.0,
       read.1 ∙ ap (λ k. left c.bump.new.self (before (object_frame fs es k)))
           (sym (c.in_ok-key.ensures.bytes ∙ c.text-name.ensures)),

@@ -1,10 +1,10 @@
-use Rattle.std.proofs.Common.{ℕ, List, [], ◌∷◌, ◌+◌, sym, ap, ◌∙◌, map, length, take, drop, arith, rules, subst}
+use Rattle.std.proofs.Common.{ℕ, List, [], ◌∷◌, ◌+◌, sym, map, length, take, drop, arith, rules, subst}
 use Rattle.std.proofs.lemmas.List.{take_all}
 use Rattle.jzon_tree.specs.declared.value.JsonValue.{the_lemmas}
 use Rattle.jzon_tree.specs.Entries.{entries_of}
 use Rattle.jzon_tree.specs.Generator.{Just, IsForm, positions}
 use Rattle.jzon_tree.specs.Lawful.{IsPair}
-use Rattle.jzon_tree.specs.Printing.{IsEntry, pair_at}
+use Rattle.jzon_tree.specs.Printing.{IsEntry}
 use Rattle.jzon_tree.specs.Text.{quoted}
 use Rattle.jzon_tree.specs.Value.{Value}
 use Rattle.jzon_tree.specs.View.{view, view_object, viewed}
@@ -15,7 +15,7 @@ use Rattle.jzon_tree.proofs.Exits.{array_at_opening, array_at_indent, array_at_i
 use Rattle.jzon_tree.proofs.Exits.{items_at_item, items_more, members_at_begin, members_at_entry, members_more}
 use Rattle.jzon_tree.proofs.Exits.{object_at_opening, object_at_indent, object_at_members, object_at_close, AfterColon}
 use Rattle.jzon_tree.proofs.Exits.{pair_colon, pair_value, after_colon, after_key}
-use Rattle.jzon_tree.proofs.Ordered.{after_order, no_pair, some_pair, entry_at, answer_allowed, answer_order}
+use Rattle.jzon_tree.proofs.Ordered.{after_order, no_pair, some_pair, entry_named, answer_allowed, answer_order}
 use Rattle.jzon_tree.proofs.Ordered.{answer_length, most-at, map-at, map-take_more, length-map-take, not_empty}
 use Rattle.jzon_tree.proofs.Ordered.{length-viewed, keyed_more, named_more, pairs_named, whole_object}
 use Rattle.jzon_tree.proofs.Members.{members_none}
@@ -23,7 +23,8 @@ use Rattle.jzon_tree.proofs.Writings.{some_writing}
 use Rattle.jzon_tree.proofs.Orders.{order_within}
 use Rattle.jzon_tree.proofs.codegen.write.+write_value.Goals as goal
 
-pub write_array-returns-in_err-try_write_char-clause-written : goal.write_array-returns-in_err-try_write_char-clause-written
+pub write_array-returns-in_err-try_write_char-clause-written :
+    goal.write_array-returns-in_err-try_write_char-clause-written
 write_array-returns-in_err-try_write_char-clause-written g t c =
     array_at_opening _ (g.met.G.Generator.style_law c.args.g.now) (map view c.args.items.now)
     (not_empty c.args.items.now c.is_empty.result c.is_empty.ensures c.if-is_empty.false) _ _
@@ -83,7 +84,8 @@ write_items-loop-index-preserved g t c =
           c.in_ok-write_value.ensures.value,
     )
 
-pub write_pair-returns-in_err-try_write_string-clause-written : goal.write_pair-returns-in_err-try_write_string-clause-written
+pub write_pair-returns-in_err-try_write_string-clause-written :
+    goal.write_pair-returns-in_err-try_write_string-clause-written
 write_pair-returns-in_err-try_write_string-clause-written g t c =
     let a = g.G.Generator.meaning c.args.g.now in
     let e : List ℕ × Value = (c.args.key.now, view c.args.value.now) in
@@ -151,8 +153,8 @@ write_members-returns-in_err-begin_item-clause-written g t c =
     members_at_begin a (g.met.G.Generator.style_law c.args.g.now) (viewed entries)
     (positions (length entries) c.args.order.now) (answer_order a.style entries c.args.order.now c.requires)
     c.loop-index.index _ (rw length_is (rw c.len-index-end.ensures.len at c.loop-index-test.true))
-    (sym (ap (pair_at (viewed entries)) (rw c.len.ensures.len at c.position_of-position.ensures))
-    ∙ entry_at entries c.position_of-position.result c.get_at.result.0.now c.get_at.result.1.now c.get_at.ensures)
+    (entry_named entries c.position_of-position.result _ c.get_at.result.0.now c.get_at.result.1.now
+    (rw c.len.ensures.len at c.position_of-position.ensures) c.get_at.ensures)
     _ _ c.loop-index.invariant.0 _ c.from_residual.ensures.0 c.in_err-begin_item.ensures
 
 pub write_members-returns-in_err-write_pair-clause-written : goal.write_members-returns-in_err-write_pair-clause-written
@@ -163,8 +165,8 @@ write_members-returns-in_err-write_pair-clause-written g t c =
     members_at_entry a (g.met.G.Generator.style_law c.args.g.now) (viewed entries)
     (positions (length entries) c.args.order.now) (answer_order a.style entries c.args.order.now c.requires)
     c.loop-index.index _ (rw length_is (rw c.len-index-end.ensures.len at c.loop-index-test.true))
-    (sym (ap (pair_at (viewed entries)) (rw c.len.ensures.len at c.position_of-position.ensures))
-    ∙ entry_at entries c.position_of-position.result c.get_at.result.0.now c.get_at.result.1.now c.get_at.ensures)
+    (entry_named entries c.position_of-position.result _ c.get_at.result.0.now c.get_at.result.1.now
+    (rw c.len.ensures.len at c.position_of-position.ensures) c.get_at.ensures)
     _ _ c.loop-index.invariant.0 _ c.in_ok-begin_item.ensures _ c.from_residual-in_err-write_pair.ensures.0
     c.in_err-write_pair.ensures.written
 
@@ -173,14 +175,11 @@ write_members-loop-index-preserved g t c =
     let a = g.G.Generator.meaning c.args.g.now in
     let entries = entries_of c.args.object.now in
     let length_is = answer_length a.style entries c.args.order.now c.requires in
-    let here = sym (ap (pair_at (viewed entries)) (rw c.len.ensures.len at c.position_of-position.ensures))
-    ∙ entry_at entries c.position_of-position.result c.get_at.result.0.now c.get_at.result.1.now c.get_at.ensures in (
+    let here = entry_named entries c.position_of-position.result _ c.get_at.result.0.now c.get_at.result.1.now
+    (rw c.len.ensures.len at c.position_of-position.ensures) c.get_at.ensures in (
       members_more a (g.met.G.Generator.style_law c.args.g.now) (viewed entries)
           (positions (length entries) c.args.order.now) (answer_order a.style entries c.args.order.now c.requires)
-          c.loop-index.index _ (rw length_is (rw c.len-index-end.ensures.len at c.loop-index-test.true))
-          (sym (ap (pair_at (viewed entries)) (rw c.len.ensures.len at c.position_of-position.ensures))
-          ∙ entry_at entries c.position_of-position.result c.get_at.result.0.now c.get_at.result.1.now
-          c.get_at.ensures)
+          c.loop-index.index _ (rw length_is (rw c.len-index-end.ensures.len at c.loop-index-test.true)) here
           _ _ c.loop-index.invariant.0 _ c.in_ok-begin_item.ensures c.in_ok-write_pair.ensures.written,
       named_more (viewed entries) (positions (length entries) c.args.order.now) c.loop-index.index
           (subst IsPair (sym here) c.in_ok-write_pair.ensures.value) c.loop-index.invariant.1,
@@ -207,7 +206,8 @@ write_pairs-returns-then-is_empty-clause-written g t c =
     (no_pair _ _ (entries_of c.args.object.now) c.is_empty.result _ _ c.is_empty.ensures c.if-is_empty.true
     c.try_write.ensures)
 
-pub write_pairs-returns-in_err-try_write_char-clause-written : goal.write_pairs-returns-in_err-try_write_char-clause-written
+pub write_pairs-returns-in_err-try_write_char-clause-written :
+    goal.write_pairs-returns-in_err-try_write_char-clause-written
 write_pairs-returns-in_err-try_write_char-clause-written g t c =
     let s = (g.G.Generator.meaning c.args.g.now).style in
     let es = entries_of c.args.object.now in
