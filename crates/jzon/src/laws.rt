@@ -25,7 +25,7 @@ pub fn number_text()
     ensures { NumberText }
 {}
 
-/// The compact text of a value is read as a value with the same compact text.
+/// The compact text of a value that nests no deeper than the reading allows, and may hold NaN, is read as a value with the same compact text.
 pub fn redump()
     ensures { Redump }
 {}
@@ -35,7 +35,8 @@ pub fn strict_styles()
     ensures { StrictStyles }
 {}
 
-/// Each writing of a value without NaN is read as the same value.
+/// Each writing of a value without NaN that nests no deeper than the reading allows is read as an equal value; by a strict reading, where its style allows
+/// strict whitespace alone.
 pub fn reads_back()
     ensures { ReadsBack }
 {}

@@ -48,22 +48,22 @@ pub(crate) fn read_number(source: &str, start: usize, negative: bool) -> Result<
     }
 }
 
-// The digits of a number in a text.
+/// The digits of a number in a text.
 #[derive(Clone, Copy)]
 struct Spelling<'a> {
     whole: &'a [u8],
     fraction: &'a [u8],
-    // the number that they spell, modulo 2^64
+    /// The number that they spell, modulo 2^64.
     number: u64,
     positive_exponent: bool,
     exponent: &'a [u8],
-    // the offset behind the number
+    /// The offset behind the number.
     end: usize,
-    // a digit must stand there and doesn't
+    /// A digit must stand there, and doesn't.
     is_missing: bool,
 }
 
-// How a number is spelled, whose first digit stands at `start`.
+/// How a number is spelled, whose first digit stands at `start`.
 #[inline(always)]
 fn spelling_at(source: &str, start: usize) -> Spelling<'_>
     requires within { start < length source.now }
@@ -101,7 +101,7 @@ fn spelling_at(source: &str, start: usize) -> Spelling<'_>
     }
 }
 
-// The same without the exponent.
+/// The same without the exponent.
 #[inline(always)]
 fn magnitude_at(source: &str, start: usize) -> Spelling<'_>
     requires within { start < length source.now }
@@ -157,7 +157,7 @@ fn magnitude_at(source: &str, start: usize) -> Spelling<'_>
     }
 }
 
-// The digits before the point, a `0` alone or all that stand there, and their number modulo 2^64.
+/// The digits before the point, a `0` alone or all that stand there, and their number modulo 2^64.
 #[inline(always)]
 fn whole_at(source: &str, start: usize) -> (&[u8], u64)
     requires { start < length source.now }
@@ -172,7 +172,7 @@ fn whole_at(source: &str, start: usize) -> (&[u8], u64)
     }
 }
 
-// The digits that stand at an offset, and the number that they spell behind the digits of a number before, both modulo 2^64.
+/// The digits that stand at an offset, and the number that they spell behind the digits of a number before, both modulo 2^64.
 #[inline(always)]
 fn digits_at(source: &str, start: usize, before: u64) -> (&[u8], u64)
     requires { start ≤ length source.now }
@@ -184,7 +184,7 @@ fn digits_at(source: &str, start: usize, before: u64) -> (&[u8], u64)
     (&rest[..count], number)
 }
 
-// The digits of an exponent, which may be none, and the offset behind them.
+/// The digits of an exponent, which may be none, and the offset behind them.
 #[derive(Clone, Copy)]
 struct Exponent<'a> {
     is_positive: bool,
@@ -192,7 +192,7 @@ struct Exponent<'a> {
     end: usize,
 }
 
-// The exponent whose letter stands before `start`.
+/// The exponent whose letter stands before `start`.
 #[cold]
 #[inline(never)]
 fn exponent_behind(source: &str, start: usize) -> Exponent<'_>
@@ -218,7 +218,7 @@ fn exponent_behind(source: &str, start: usize) -> Exponent<'_>
     exponent_at(source, start, true)
 }
 
-// The exponent whose first digit may stand at `start`.
+/// The exponent whose first digit may stand at `start`.
 fn exponent_at(source: &str, start: usize, is_positive: bool) -> Exponent<'_>
     requires { start ≤ length source.now }
     ensures sign { result.is_positive ≡ is_positive }
@@ -233,7 +233,7 @@ fn exponent_at(source: &str, start: usize, is_positive: bool) -> Exponent<'_>
     }
 }
 
-// Whether an exponent begins at this offset.
+/// Whether an exponent begins at this offset.
 fn has_exponent_letter(source: &str, index: usize) -> bool
     ensures { IsTrue result ↔ ((index < length source.now)
         × IsTrue (is_exponent_letter (slice_index source.now index))) }

@@ -1,4 +1,4 @@
-//! Reads texts.
+//! Reads texts (RFC 8259, section 2; docs/RULES.md, "Texts").
 
 ghost use Rattle.std.specs.Prelude.{◌≡◌, ◌≢◌, ◌&&◌, [], ◌<◌, ◌≤◌, map, chars, true, IfOk, IfErr, OnOk};
 ghost use Rattle.std.specs.Prelude.{Err, None, IsOkUnless, vec_len};
@@ -162,7 +162,7 @@ impl<'a> Parser<'a> {
         }
     }
 
-    /// No elements, with room for those of an array that begins here. One is certain to come, and containers often nest alone. The error is a refused growth.
+    /// No elements, with room for those of an array that begins here. One is certain to come, and containers often nest alone. Refused by `OutOfMemory` alone.
     #[inline(always)]
     fn room_for_elements(&self) -> Result<Vec<JsonValue>>
         ensures empty { IfOk result (λ elements. elements.items ≡ []) }
@@ -172,7 +172,7 @@ impl<'a> Parser<'a> {
         Ok(Vec::with_capacity(self.alloc, room)?)
     }
 
-    /// Reads on behind the value `item` of an open container: to the container's end, or to its next item that is a container with something in it.
+    /// Reads on behind the value `item` of an open container, as `read_elements` does in an array and `read_entries` in an object.
     fn go_on(&mut self, frame: Frame, item: JsonValue) -> Result<Begun>
         requires room { vec_len self.old.stack < self.old.cursor.reading.depth }
         ensures ready { IfOk result (IsReady self.new.cursor (vec_len self.new.stack)) }
@@ -241,7 +241,7 @@ impl<'a> Parser<'a> {
         }
     }
 
-    /// The same in an open object, whose entries so far these are.
+    /// Reads on in an open object, whose entries so far these are: to its end, or to a value that is a container with something in it.
     fn read_entries(&mut self, entries: Builder) -> Result<Begun>
         requires room { vec_len self.old.stack < self.old.cursor.reading.depth }
         requires key { viewed entries ≡ [] → next_byte self.old.cursor ≢ end_object }

@@ -1,4 +1,4 @@
-//! Reads values that are no containers: numbers, texts and words. What is called for each of them is inlined, so that no value is moved from call to call.
+//! Reads values that are no containers: numbers, texts and words (RFC 8259, section 3). What is called for each of them is inlined, so that no value is moved from call to call.
 
 ghost use Rattle.std.specs.Prelude.{◌≡◌, ◌≢◌, ◌⊎◌, ◌==◌, ◌<◌, ◌≤◌, ◌+◌, [], length, chars, IsTrue};
 ghost use Rattle.std.specs.Prelude.{IfOk, Err, MatchResult, codes, ◌^◌, drop};

@@ -1,4 +1,4 @@
-//! Reads strings.
+//! Reads strings (RFC 8259, section 7; docs/RULES.md, "Strings").
 
 ghost use Rattle.std.specs.Prelude.{◌≡◌, ◌==◌, ◌<◌, ◌≤◌, ◌+◌, ◌-◌, ◌++◌, ◌&&◌, ◌⊎◌, ◌↔◌, Contains, ℕ, List, [], length};
 ghost use Rattle.std.specs.Prelude.{drop, chars, IsTrue, IfOk, IsOk, IsOkUnless, SomeIff, MatchResult, OnOk};
@@ -184,7 +184,7 @@ fn read_escape(source: &str, start: usize) -> Result<(char, usize)>
     }
 }
 
-// The byte that a backslash means before each letter that it may stand before, and 0 for all others.
+/// The byte that a backslash means before each letter that it may stand before, and 0 for all others.
 #[rattlefmt::skip]
 static MEANT: [u8; 256] = [
     0, 0, 0, 0, 0, 0, 0, 0, 0, 0, 0, 0, 0, 0, 0, 0,

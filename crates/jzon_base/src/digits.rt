@@ -12,16 +12,16 @@ ghost use Rattle.jzon_base.specs.DigitLimits.{AreFewEnough, IsFirstTooMany, Keep
 use crate::number::Number;
 use core::dec2flt::read_digits;
 
-// So many digits spell a number below 2^64, whichever they are.
+/// So many digits spell a number below 2^64, whichever they are.
 const ALWAYS_KEPT: usize = 19;
 
-// At most so many digits before the point are dropped.
+/// At most so many digits before the point are dropped.
 const MAX_DROPPED: usize = 32767;
 
-// At most so many digits after the point are kept.
+/// At most so many digits after the point are kept.
 const MAX_KEPT_FRACTION: usize = 32768;
 
-// A written exponent beyond this is clamped, whatever the digits are.
+/// A written exponent beyond this is clamped, whatever the digits are.
 const MAX_WRITTEN: u32 = 65536;
 
 /// The digit that is one too many, by its place among the digits before or after the point.
@@ -77,7 +77,7 @@ pub fn scan(bytes: &[u8], before: u64) -> (usize, u64)
     read_digits(bytes, 0, before)
 }
 
-// The longest prefix of the digits before and after a point that spells a number below 2^64.
+/// The longest prefix of the digits before and after a point that spells a number below 2^64.
 #[derive(Clone, Copy)]
 struct Prefix {
     number: u64,
@@ -103,7 +103,7 @@ fn kept_prefix(whole: &[u8], fraction: &[u8], number: u64) -> Prefix
     searched_prefix(whole, fraction)
 }
 
-// The same prefix, found digit by digit.
+/// The same prefix, found digit by digit.
 fn searched_prefix(whole: &[u8], fraction: &[u8]) -> Prefix
     requires whole { All IsDigit whole.now }
     requires fraction { All IsDigit fraction.now }
@@ -127,7 +127,7 @@ fn searched_prefix(whole: &[u8], fraction: &[u8]) -> Prefix
     }
 }
 
-// The longest prefix of digits that goes on from `before` and stays below 2^64: its number and its length.
+/// The longest prefix of digits that goes on from `before` and stays below 2^64: its number and its length.
 fn longest_prefix(before: u64, digits: &[u8]) -> (u64, usize)
     requires { All IsDigit digits.now }
     ensures number { result.0 ≡ fold add_digit before (take result.1 digits.now) }
@@ -148,7 +148,7 @@ fn longest_prefix(before: u64, digits: &[u8]) -> (u64, usize)
     (number, digits.len())
 }
 
-// The digits' own power of ten and the written exponent, added exactly and clamped once.
+/// The digits' own power of ten and the written exponent, added exactly and clamped once.
 fn clamped_exponent(dropped: usize, kept_fraction: usize, positive: bool, written: &[u8]) -> i16
     requires digits { All IsDigit written.now }
     requires dropped { dropped ≤ 32767 }
@@ -164,7 +164,7 @@ fn clamped_exponent(dropped: usize, kept_fraction: usize, positive: bool, writte
     }
 }
 
-// The number that digits spell, at most `MAX_WRITTEN`.
+/// The number that digits spell, at most `MAX_WRITTEN`.
 fn capped_number(digits: &[u8]) -> u32
     requires { All IsDigit digits.now }
     ensures { result ≡ min (digits_number digits.now) MAX_WRITTEN }
@@ -179,13 +179,7 @@ fn capped_number(digits: &[u8]) -> u32
 fn clamped(sum: i32) -> i16
     ensures { result ≡ clamp sum }
 {
-    if sum < i32::from(i16::MIN) {
-        i16::MIN
-    } else if sum > i32::from(i16::MAX) {
-        i16::MAX
-    } else {
-        sum as i16
-    }
+    sum.clamp(i32::from(i16::MIN), i32::from(i16::MAX)) as i16
 }
 
 /// A law on the definitions alone: the kept digits are the longest prefix that spells a number below 2^64, and each longer prefix spells one of 2^64 or more.

@@ -9,7 +9,7 @@ use std::fmt;
 /// Why a text is not read, or a call on a value is refused.
 #[derive(Debug, PartialEq, Eq, Drop)]
 pub enum Error {
-    /// The character `ch` cannot stand where it stands in the text. Lines and columns are counted from 1.
+    /// The character `ch` can't stand where it stands in the text. Lines and columns are counted from 1, columns in characters.
     UnexpectedCharacter {
         ch: char,
         line: usize,
@@ -25,7 +25,8 @@ pub enum Error {
     WrongType(String),
     /// Memory was refused.
     OutOfMemory,
-    /// An object of a text has a key twice, which a strict reading refuses: the place of the second one's opening quote.
+    /// An object of a text has a key twice, which a strict reading refuses: the place of the second one's opening quote, with its line and
+    /// column counted from 1, the column in characters.
     DuplicateKey {
         line: usize,
         column: usize,
@@ -37,9 +38,6 @@ pub type Result<T> = std::result::Result<T, Error>;
 
 /// `Result` under another name.
 pub type JsonResult<T> = Result<T>;
-
-/// `Error` under another name.
-pub type JsonError = Error;
 
 impl Error {
     /// The refusal of a value that is not of the kind `expected`. Its words take memory, so it is itself refused by `OutOfMemory`.

@@ -1,4 +1,4 @@
-//! The keys of an object in the order in which they were put, and the place of each.
+//! The keys of an object in the order in which they were put, and the place of each (docs/RULES.md, "Objects").
 ghost use Rattle.std.specs.Prelude.{◌≡◌, ◌<◌, ◌++◌, ◌∷◌, ◌==◌, [], length, remove, slice_get, IfOk, OnOk, OnErr};
 ghost use Rattle.std.specs.Prelude.{MatchOption, None, Some, false, true};
 ghost use Rattle.std.specs.List.{position, zip, IsDistinct};
@@ -70,7 +70,7 @@ impl Keys {
     }
 
     /// The keys of entries: those of equal keys become one, with the last value in the place of the first. Where no key repeats, the keys are taken over as they are.
-    /// The error is a refused growth.
+    /// The error is a refused growth, and then what is in `values` has no meaning.
     pub fn from_entries<V: Drop>(
         alloc: Global,
         keys: Vec<Key>,

@@ -147,9 +147,16 @@ impl PartialEq for Number {
         if self.is_nan() || other.is_nan() {
             return self.is_nan() && other.is_nan();
         }
-        let (p, m, e) = self.as_parts();
-        let (q, n, f) = other.as_parts();
-        same_parts(p, m, e, q, n, f)
+        let (positive, mantissa, exponent) = self.as_parts();
+        let (other_positive, other_mantissa, other_exponent) = other.as_parts();
+        same_parts(
+            positive,
+            mantissa,
+            exponent,
+            other_positive,
+            other_mantissa,
+            other_exponent,
+        )
     }
 }
 
@@ -174,57 +181,58 @@ impl fmt::Display for Number {
     }
 }
 
-// Whether two numbers with these parts are the same.
+/// Whether two numbers with these parts are the same.
 #[tactic(auto, using(crate::specs::Same::zero_rules))]
-fn same_parts(p: bool, m: u64, e: i16, q: bool, n: u64, f: i16) -> bool
-    ensures { result ≡ same (parts p m e) (parts q n f) }
+fn same_parts(
+    positive: bool,
+    mantissa: u64,
+    exponent: i16,
+    other_positive: bool,
+    other_mantissa: u64,
+    other_exponent: i16,
+) -> bool
+    ensures { result ≡ same (parts positive mantissa exponent) (parts other_positive other_mantissa other_exponent) }
 {
-    if m == 0 || n == 0 {
-        return m == n;
+    if mantissa == 0 || other_mantissa == 0 {
+        return mantissa == other_mantissa;
     }
-    p == q && same_magnitude(m, e, n, f)
+    positive == other_positive && same_magnitude(mantissa, exponent, other_mantissa, other_exponent)
 }
 
-fn same_magnitude(m: u64, e: i16, n: u64, f: i16) -> bool
-    requires left { 0 < m }
-    requires right { 0 < n }
-    ensures { result ≡ (scaled m e == scaled n f) }
+fn same_magnitude(mantissa: u64, exponent: i16, other_mantissa: u64, other_exponent: i16) -> bool
+    requires left { 0 < mantissa }
+    requires right { 0 < other_mantissa }
+    ensures { result ≡ (scaled mantissa exponent == scaled other_mantissa other_exponent) }
 {
-    if e >= f {
-        is_scaled(m, e, n, f)
+    if exponent >= other_exponent {
+        is_scaled(mantissa, exponent, other_mantissa, other_exponent)
     } else {
-        is_scaled(n, f, m, e)
+        is_scaled(other_mantissa, other_exponent, mantissa, exponent)
     }
 }
 
-// Whether `m`, times ten for each step from `f` up to `e`, is `n`.
+/// Whether the mantissa, times ten for each step from its exponent down to the lower one, is the other mantissa.
 #[tactic(auto, using(crate::proofs::Scaled::same_rules))]
-fn is_scaled(m: u64, e: i16, n: u64, f: i16) -> bool
-    requires some { 0 < m }
-    requires order { f ≤ℤ e }
-    ensures { result ≡ (scaled m e == scaled n f) }
+fn is_scaled(mantissa: u64, exponent: i16, other_mantissa: u64, lower: i16) -> bool
+    requires some { 0 < mantissa }
+    requires order { lower ≤ℤ exponent }
+    ensures { result ≡ (scaled mantissa exponent == scaled other_mantissa lower) }
 {
-    times_power(m, steps_between(f, e)) == Some(n)
+    times_power(mantissa, steps_between(lower, exponent)) == Some(other_mantissa)
 }
 
 fn steps_between(low: i16, high: i16) -> u32
     requires { low ≤ℤ high }
     ensures { shifted high ≡ shifted low + result }
 {
-    (i32::from(high) - i32::from(low)) as u32
+    u32::from(high.abs_diff(low))
 }
 
-// `m * 10 ^ power`, where it fits. As m is not 0, at most 20 steps are made.
-fn times_power(m: u64, power: u32) -> Option<u64>
-    requires { 0 < m }
-    ensures { MatchOption result (2 ^ 64 ≤ m * 10 ^ power) (λ r. r ≡ m * 10 ^ power) }
+/// `mantissa * 10 ^ power`, where it fits.
+#[tactic(auto, using(crate::proofs::Powers::too_large))]
+fn times_power(mantissa: u64, power: u32) -> Option<u64>
+    requires { 0 < mantissa }
+    ensures { MatchOption result (2 ^ 64 ≤ mantissa * 10 ^ power) (λ r. r ≡ mantissa * 10 ^ power) }
 {
-    let mut value = m;
-    for i in 0..power {
-        match value.checked_mul(10) {
-            Some(more) => value = more,
-            None => return None,
-        }
-    }
-    Some(value)
+    mantissa.checked_mul(10u64.checked_pow(power)?)
 }

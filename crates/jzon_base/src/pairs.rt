@@ -1,4 +1,4 @@
-//! Keys and values side by side.
+//! Keys and values side by side (docs/RULES.md, "Objects").
 ghost use Rattle.std.specs.Prelude.{◌≡◌, ◌<◌, ◌-◌, ◌++◌, ◌∷◌, ◌==◌, [], length, remove, slice_get, OnOk, OnErr, IfOk};
 ghost use Rattle.std.specs.Prelude.{IsSome, Some, None};
 ghost use Rattle.std.specs.List.{position, zip, IsDistinct};
@@ -132,10 +132,7 @@ impl<V> Pairs<V> {
     pub fn get(&self, name: &str) -> Option<&V>
         ensures { option_copied result ≡ find name.now self.now }
     {
-        match self.position(name) {
-            Some(index) => Some(self.get_at(index).1),
-            None => None,
-        }
+        Some(self.get_at(self.position(name)?).1)
     }
 
     /// The value of a key, to be written: nothing else changes.
@@ -145,10 +142,8 @@ impl<V> Pairs<V> {
             self.old) }
         ensures value { option_copied_mut result ≡ find name.now self.old }
     {
-        match self.position(name) {
-            Some(index) => Some(self.value_mut(index)),
-            None => None,
-        }
+        let index = self.position(name)?;
+        Some(self.value_mut(index))
     }
 
     /// The value of a key that is there, to be written: nothing else changes.
@@ -258,10 +253,8 @@ impl<V> Pairs<V> {
         ensures value { result ≡ find name.now self.old }
         ensures after { self.new ≡ cut name.now self.old }
     {
-        match self.position(name) {
-            Some(index) => Some(self.remove_at(index)),
-            None => None,
-        }
+        let index = self.position(name)?;
+        Some(self.remove_at(index))
     }
 
     /// Removes all pairs.

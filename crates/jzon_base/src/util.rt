@@ -1,4 +1,4 @@
-//! What the other modules share: the write loop, and the text of a number.
+//! What the other modules share: the write loop, the text of a number, hexadecimal digits, and runs of plain bytes.
 
 ghost use Rattle.std.specs.Prelude.{OnOk, OnErr};
 ghost use Rattle.std.specs.Io.KnownBytes.{Appends};

@@ -133,7 +133,7 @@ pub fn sorted_positions(
     Ok(positions)
 }
 
-// The keys of the object.
+/// The keys of the object.
 fn keys_in_order<'a>(
     alloc: Global,
     object: &'a Object,
@@ -152,7 +152,7 @@ mod tests {
     use super::*;
     use std::test::Fail;
 
-    // The text of what the source means, and its dump.
+    /// The text of what the source means, and its dump.
     fn printed(alloc: Global, source: &str) -> Result<(String, String)> {
         let value = jzon::parse(alloc, source)?;
         Ok((canonical(alloc, &value)?, value.dump(alloc)?))

@@ -18,7 +18,7 @@ pub fn compacted(alloc: Global, text: &str) -> Result<String>
     Ok(printed)
 }
 
-// Adds the text of one line.
+/// Adds the text of one line.
 fn add_line(alloc: Global, line: &str, printed: &mut String) -> Result<()>
     ensures { OnOk result ((bytes : List ℕ) × IsPrinted line.now bytes
         × (string_bytes printed.new ≡ string_bytes printed.old ++ bytes)) }

@@ -151,7 +151,7 @@ impl JsonValue {
     }
 }
 
-// Takes the item at a place out of the list.
+/// Takes the item at a place out of the list.
 fn remove_item(items: &mut Vec<JsonValue>, index: usize) -> Option<JsonValue>
     ensures value { result ≡ slice_get items.old.items index }
     ensures after { items.new.items ≡ remove items.old.items index }

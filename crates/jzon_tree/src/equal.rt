@@ -57,7 +57,7 @@ fn same_value(value: &JsonValue, other: &JsonValue) -> bool
     }
 }
 
-// Item by item.
+/// Item by item.
 #[cycle(same)]
 fn same_array(items: &[JsonValue], others: &[JsonValue]) -> bool
     ensures { result ≡ same_items (view_values items.now) (view_values others.now) }
@@ -73,7 +73,7 @@ fn same_array(items: &[JsonValue], others: &[JsonValue]) -> bool
     true
 }
 
-// As many keys, and under each of the first the same value in both: so the second has no other key.
+/// As many keys, and under each of the first the same value in both: so the second has no other key.
 #[cycle(same)]
 fn same_object(object: &Object, other: &Object) -> bool
     ensures { result ≡ same (view_object object.now) (view_object other.now) }

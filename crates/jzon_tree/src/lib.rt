@@ -1,3 +1,4 @@
+//! JSON values and objects: what is read and changed of them, what turns into them, and how they are printed.
 #![tactic(auto)]
 
 mod changers;

@@ -1,4 +1,4 @@
-//! A place in a value, which may be missing.
+//! A place in a value, which may be missing (docs/RULES.md, "Readers").
 
 ghost use Rattle.std.specs.Prelude.{◌≡◌, ◌<◌, ◌^◌, pos, map, is_some, option_map, slice_get, FitsSigned, Some};
 ghost use Rattle.std.specs.Int.{w8, w16, w32, w64};

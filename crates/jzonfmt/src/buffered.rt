@@ -12,10 +12,11 @@ use std::io::{ErrorKind, Write};
 pub struct Buffered<'a, W> {
     inner: &'a mut W,
     bytes: Vec<u8>,
-    // How many of these bytes the writer took already, and how many before them.
+    /// How many of these bytes the writer took already.
     taken: usize,
+    /// How many bytes it took before them.
     before: u64,
-    // The error of a call that failed, until that call hands it back.
+    /// The error of a call that failed, until that call hands it back.
     fault: Option<io::Error>,
     ghost within: { taken ≤ length bytes.items },
 }
@@ -48,7 +49,8 @@ impl<'a, W: Write> Buffered<'a, W> {
         self.inner
     }
 
-    /// Hands all bytes on. An error is that of the writer, or one of the kind `WriteZero` where it took none.
+    /// Hands all bytes on. An error is that of the writer, one of the kind `WriteZero` where it took none, or `FileTooLarge` where it took
+    /// 2^64 bytes or more in all.
     #[cold]
     #[inline(never)]
     pub fn hand_on(&mut self) -> io::Result<()>
@@ -71,8 +73,8 @@ impl<'a, W: Write> Buffered<'a, W> {
         Ok(())
     }
 
-    // Hands all bytes on, and then takes as many as there is room for. An error is laid aside: an `io::Error` takes 88 bytes, which the caller would set aside
-    // and clear also where there is room for all.
+    /// Hands all bytes on, and then takes as many as there is room for. An error is laid aside: an `io::Error` takes 88 bytes, which the caller would set aside
+    /// and clear also where there is room for all.
     #[cold]
     #[inline(never)]
     fn write_behind(&mut self, buf: &[u8]) -> Option<usize>
@@ -89,7 +91,7 @@ impl<'a, W: Write> Buffered<'a, W> {
         Some(count)
     }
 
-    // Takes bytes for which there is room.
+    /// Takes bytes for which there is room.
     #[inline(always)]
     fn hold(&mut self, bytes: &[u8])
         requires { vec_len self.old.bytes + length bytes.now ≤ vec_capacity self.old.bytes }
@@ -100,7 +102,7 @@ impl<'a, W: Write> Buffered<'a, W> {
         };
     }
 
-    // The error that was laid aside. There is one wherever a call failed.
+    /// The error that was laid aside. There is one wherever a call failed.
     #[inline(always)]
     fn taken_fault(&mut self) -> io::Error
         ensures { Keeps (held W.contents self.old) (held W.contents self.new) }

@@ -1,4 +1,4 @@
-//! What the program does, over any reader and any writers.
+//! What the program does, over any reader and any writers (docs/RULES.md, "The program jzonfmt").
 
 ghost use Rattle.std.specs.Prelude.{◌≡◌, ℕ, List, [], IfOk, IfErr, OnOk, OnErr, map, option_map, string_bytes, vec_len};
 ghost use Rattle.std.specs.Io.KnownBytes.{Appends, Consumes, Keeps};
@@ -124,7 +124,7 @@ pub fn run<R: Read, W: Write>(
     print_input(alloc, input.as_slice(), writer, reading, layout)
 }
 
-// Reads to the end, in chunks.
+/// Reads to the end, in chunks.
 fn read_input<R: Read>(alloc: Global, reader: &mut R) -> Result<Vec<u8>, RunFault>
     ensures all { IfOk result
         (λ input. Reads result (R.remaining reader.old) (R.remaining reader.new) input.items) }
@@ -142,14 +142,14 @@ fn read_input<R: Read>(alloc: Global, reader: &mut R) -> Result<Vec<u8>, RunFaul
     }
 }
 
-// So many bytes 0.
+/// So many bytes 0. It has a contract of its own, so that no proof computes with all of them.
 fn zeros(alloc: Global, count: usize) -> Result<Vec<u8>, AllocError>
     ensures { IfOk result (λ bytes. vec_len bytes ≡ count) }
 {
     vec![in alloc; 0u8; count]
 }
 
-// Prints the document that the input is. All memory is asked for before the first byte is written.
+/// Prints the document that the input is. All memory is asked for before the first byte is written.
 fn print_input<W: Write>(
     alloc: Global,
     input: &[u8],
@@ -170,7 +170,7 @@ fn print_input<W: Write>(
     answer.map_err(RunFault::Write)
 }
 
-// Writes the text of the value in the layout and a newline, by way of the memory. After a fault a beginning of them is written.
+/// Writes the text of the value in the layout and a newline, by way of the memory. After a fault a beginning of them is written.
 fn write_line<W: Write>(
     writer: &mut W,
     memory: Vec<u8>,
@@ -191,7 +191,7 @@ fn write_line<W: Write>(
     answer
 }
 
-// Writes them behind what is held, and hands all on.
+/// Writes them behind what is held, and hands all on.
 fn write_held<W: Write>(
     buffered: &mut Buffered<'_, W>,
     value: &JsonValue,
@@ -209,7 +209,7 @@ fn write_held<W: Write>(
     buffered.hand_on()
 }
 
-// Writes the text of the value in the layout.
+/// Writes the text of the value in the layout.
 fn write_text<W: Write>(writer: &mut W, value: &JsonValue, layout: Layout) -> io::Result<()>
     ensures ok { OnOk result
         (Appends (W.contents writer.old) (W.contents writer.new) (text layout (view value.now))) }
@@ -246,39 +246,27 @@ pub fn drive<R: Read, W: Write, F: Write>(
     }
 }
 
-// What the words ask for: `--strict` may be the first one.
+/// What the words ask for: `--strict` may be the first one.
 fn options_of(words: &[String]) -> Option<Options>
     ensures { result ≡ asked_options (map string_bytes words.now) }
 {
     match words {
-        [] => options_behind(words),
-        [option, rest @ ..] => {
-            if option.as_str() == "--strict" {
-                with_layout(true, rest)
-            } else {
-                options_behind(words)
-            }
-        }
+        [option, rest @ ..] if option.as_str() == "--strict" => with_layout(true, rest),
+        _ => options_behind(words),
     }
 }
 
-// The same where it may be the last one, behind the words of a layout.
+/// The same where it may be the last one, behind the words of a layout.
 fn options_behind(words: &[String]) -> Option<Options>
     ensures { result ≡ asked_behind (map string_bytes words.now) }
 {
     match words {
-        [_, _, option] => {
-            if option.as_str() == "--strict" {
-                with_layout(true, &words[..2])
-            } else {
-                None
-            }
-        }
+        [_, _, option] if option.as_str() == "--strict" => with_layout(true, &words[..2]),
         _ => with_layout(false, words),
     }
 }
 
-// The layout that the words ask for, with a strict reading or that of `parse`.
+/// The layout that the words ask for, with a strict reading or that of `parse`.
 fn with_layout(strict: bool, words: &[String]) -> Option<Options>
     ensures { result ≡ option_map (asking strict) (asked_layout (map string_bytes words.now)) }
 {
@@ -287,7 +275,7 @@ fn with_layout(strict: bool, words: &[String]) -> Option<Options>
     Some(Options { reading, layout })
 }
 
-// The layout that the words ask for.
+/// The layout that the words ask for.
 fn layout_of(words: &[String]) -> Option<Layout>
     ensures { result ≡ asked_layout (map string_bytes words.now) }
 {
@@ -300,7 +288,7 @@ fn layout_of(words: &[String]) -> Option<Layout>
     }
 }
 
-// The count of spaces that a word of one to five decimal digits names.
+/// The count of spaces that a word of one to five decimal digits names.
 fn spaces_of(word: &str) -> Option<u16>
     ensures { result ≡ asked_spaces word.now }
 {
@@ -310,7 +298,7 @@ fn spaces_of(word: &str) -> Option<u16>
     word.parse().ok()
 }
 
-// Runs, and then flushes the writer.
+/// Runs, and then flushes the writer.
 fn run_and_flush<R: Read, W: Write>(
     alloc: Global,
     reader: &mut R,

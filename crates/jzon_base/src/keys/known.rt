@@ -19,7 +19,7 @@ const FEW: usize = 8;
 
 /// Pairs of the index in the order of hashes, of texts and of places. A clause sees the list of pairs.
 #[derive(Drop)]
-pub struct Run {
+struct Run {
     pairs: Vec<(u64, usize)>,
 }
 
@@ -106,7 +106,7 @@ impl Known {
     }
 
     /// Forgets all keys.
-    pub fn clear(&mut self)
+    fn clear(&mut self)
         ensures runs { self.new.runs.items ≡ [] }
         ensures count { self.new.count ≡ 0 }
     {

@@ -44,7 +44,7 @@ impl Marks {
     }
 
     /// Forgets all keys.
-    pub fn clear(&mut self)
+    fn clear(&mut self)
         ensures { self.new.count ≡ 0 }
     {
         self.slots.clear();

@@ -5,7 +5,6 @@ ghost use Rattle.std.specs.Str.{bytes_eq};
 ghost use Rattle.jzon_base.specs.Keys.{IsIndex};
 ghost use Rattle.jzon_base.specs.PairList.{put_each};
 
-use super::hash::hash_of;
 use super::{IntoIter, Iter, index, repeats};
 use crate::key::Key;
 use std::alloc::{AllocError, Global};
@@ -53,7 +52,7 @@ impl Table {
     }
 
     /// The keys of entries of which some may repeat, and their index: the entries of equal keys become one, with the last value in the place of the first. The error
-    /// is a refused growth.
+    /// is a refused growth, and then what is in `values` has no meaning.
     fn from_repeats<V: Drop>(
         alloc: Global,
         mut keys: Vec<Key>,
@@ -73,7 +72,7 @@ impl Table {
     }
 
     /// The keys of entries: those of equal keys become one, with the last value in the place of the first. Where no key repeats, the keys are taken over as they are.
-    /// The error is a refused growth.
+    /// The error is a refused growth, and then what is in `values` has no meaning.
     pub fn from_entries<V: Drop>(
         alloc: Global,
         keys: Vec<Key>,
@@ -111,12 +110,7 @@ impl Table {
         if self.index.is_empty() {
             return self.keys.iter().position(|key| key.as_str() == name);
         }
-        index::find(
-            self.keys.as_slice(),
-            self.index.as_slice(),
-            hash_of(name),
-            name,
-        )
+        index::find(self.keys.as_slice(), self.index.as_slice(), name)
     }
 
     /// The key at a place.

@@ -32,7 +32,7 @@ impl Number {
     }
 }
 
-// The mantissa with its point moved, cut to a whole number, where it fits.
+/// The mantissa with its point moved, cut to a whole number, where it fits.
 fn whole_part(mantissa: u64, exponent: i16, point: u16) -> Option<u64>
     ensures { let n = whole_part mantissa (exponent +ℤ pos point) in SomeIff result (n < 2 ^ 64) n }
 {
@@ -47,17 +47,13 @@ fn whole_part(mantissa: u64, exponent: i16, point: u16) -> Option<u64>
     }
 }
 
-// `m / 10 ^ power`. As m has at most 20 digits, at most 20 steps are made.
+/// `mantissa / 10 ^ power`, which is 0 where the power doesn't fit.
 #[tactic(auto, using(crate::proofs::Scaled::over_rules))]
-fn over_power(m: u64, power: u32) -> u64
-    ensures { result ≡ m / 10 ^ power }
+fn over_power(mantissa: u64, power: u32) -> u64
+    ensures { result ≡ mantissa / 10 ^ power }
 {
-    let mut value = m;
-    for i in 0..power {
-        if value == 0 {
-            return 0;
-        }
-        value /= 10;
+    match 10u64.checked_pow(power) {
+        Some(divisor) => mantissa / divisor,
+        None => 0,
     }
-    value
 }

@@ -1,4 +1,4 @@
-//! Integers as numbers.
+//! Integers as numbers (docs/RULES.md, "Calls on numbers").
 
 ghost use Rattle.std.specs.Prelude.{◌≡◌, pos, true};
 ghost use Rattle.jzon_base.specs.Decimal.{integer_parts, same};

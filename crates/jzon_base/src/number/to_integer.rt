@@ -12,7 +12,7 @@ use super::Number;
 pub struct NumberOutOfScope;
 
 impl Number {
-    // The mantissa, where the sign is positive and the exponent is 0.
+    /// The mantissa, where the sign is positive and the exponent is 0.
     fn unsigned(self) -> Option<u64>
         ensures { result ≡ unsigned_of self }
     {
@@ -22,7 +22,7 @@ impl Number {
         }
     }
 
-    // The mantissa with its sign, where the exponent is 0.
+    /// The mantissa with its sign, where the exponent is 0.
     fn signed(self) -> Option<i64>
         ensures { SomeWhere (integer_of self) (FitsSigned w64) result }
     {
@@ -36,7 +36,7 @@ impl Number {
     }
 }
 
-// The magnitude with a sign, where it fits.
+/// The magnitude with a sign, where it fits.
 pub(super) fn with_sign(positive: bool, magnitude: u64) -> Option<i64>
     ensures { let z = signed positive magnitude in SomeIff result (FitsSigned w64 z) z }
 {

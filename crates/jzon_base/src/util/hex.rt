@@ -4,9 +4,10 @@ ghost use Rattle.std.specs.Prelude.{IsTrue};
 ghost use Rattle.std.specs.Char.{is_ascii_hexdigit, digit_value};
 ghost use Rattle.std.specs.Option.{SomeIff};
 
-// What stands in the table for a byte that is no digit.
+/// What stands in the table for a byte that is no digit.
 const NO: u8 = 255;
 
+/// The value of each byte that is a hexadecimal digit, and `NO` for all others.
 #[rattlefmt::skip]
 static VALUES: [u8; 256] = [
     NO, NO, NO, NO, NO, NO, NO, NO, NO, NO, NO, NO, NO, NO, NO, NO,

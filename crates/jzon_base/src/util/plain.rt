@@ -1,4 +1,4 @@
-//! Runs of bytes that need no escape.
+//! Runs of bytes that need no escape (RFC 8259, section 7).
 
 ghost use Rattle.std.specs.Prelude.{◌≡◌, ◌+◌, ◌≤◌, drop, length, take};
 ghost use Rattle.std.specs.List.{prefix_len};

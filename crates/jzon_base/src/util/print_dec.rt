@@ -43,7 +43,7 @@ pub fn put(room: &mut [u8; MAX_LEN], positive: bool, n: u64, exponent: i16) -> u
     }
 }
 
-// The same, for any number.
+/// The same, for any number.
 #[cold]
 #[inline(never)]
 fn put_any(room: &mut [u8; MAX_LEN], positive: bool, n: u64, exponent: i16) -> usize
@@ -56,7 +56,7 @@ fn put_any(room: &mut [u8; MAX_LEN], positive: bool, n: u64, exponent: i16) -> u
     start
 }
 
-// Puts the text at the end of the room and tells where it begins, if all digits are spelled and one stands before the point. Most numbers are such.
+/// Puts the text at the end of the room and tells where it begins, if all digits are spelled and one stands before the point. Most numbers are such.
 fn put_whole(
     room: &mut [u8; MAX_LEN],
     positive: bool,
@@ -81,7 +81,7 @@ fn put_whole(
     Some(put_sign(room, start - 1, positive))
 }
 
-// Moves the bytes between `start` and `point` one place to the left, and puts a point behind them.
+/// Moves the bytes between `start` and `point` one place to the left, and puts a point behind them.
 fn put_point(room: &mut [u8; MAX_LEN], start: usize, point: usize)
     requires some { 0 < start }
     requires order { start < point }
@@ -92,7 +92,7 @@ fn put_point(room: &mut [u8; MAX_LEN], start: usize, point: usize)
     room[point - 1] = b'.';
 }
 
-// Puts the sign before the bytes from `start` on, and tells where they begin then.
+/// Puts the sign before the bytes from `start` on, and tells where they begin then.
 fn put_sign(room: &mut [u8; MAX_LEN], start: usize, positive: bool) -> usize
     requires some { 0 < start }
     requires within { start ≤ MAX_LEN }
@@ -106,7 +106,7 @@ fn put_sign(room: &mut [u8; MAX_LEN], start: usize, positive: bool) -> usize
     start - 1
 }
 
-// The whole text of a number.
+/// The whole text of a number.
 #[tactic(auto, using(std::proofs::lemmas::Fmt::decimal_nonempty))]
 pub(crate) fn number_text(positive: bool, mantissa: u64, exponent: i16) -> NumberText
     ensures { result.bytes ≡ number_text positive mantissa exponent }
@@ -147,7 +147,7 @@ fn push_magnitude(text: &mut NumberText, digits: &str, exponent: i16)
     }
 }
 
-// The digits over `10 ^ places`: up to 17 places are spelled, more are an exponent.
+/// The digits over `10 ^ places`: up to 17 places are spelled, more are an exponent.
 fn push_negative_power(text: &mut NumberText, digits: &str, places: usize)
     requires ascii { IsAscii digits.now }
     requires some { 0 < length digits.now }
@@ -165,7 +165,7 @@ fn push_negative_power(text: &mut NumberText, digits: &str, places: usize)
     }
 }
 
-// The digits over `10 ^ places`, with all places spelled.
+/// The digits over `10 ^ places`, with all places spelled.
 fn push_fraction(text: &mut NumberText, digits: &str, places: usize)
     requires ascii { IsAscii digits.now }
     requires places { places ≤ 17 }
@@ -183,7 +183,7 @@ fn push_fraction(text: &mut NumberText, digits: &str, places: usize)
     }
 }
 
-// The exponent after the first of `count` digits, where the digits are over `10 ^ places`.
+/// The exponent after the first of `count` digits, where the digits are over `10 ^ places`.
 fn push_small_exponent(text: &mut NumberText, count: usize, places: usize)
     requires count { count ≤ 20 }
     requires small { 18 ≤ places }

@@ -35,7 +35,7 @@ impl fmt::Display for JsonValue {
     }
 }
 
-// Shows the value in the compact layout.
+/// Shows the value in the compact layout.
 #[cycle(show)]
 fn show<W: fmt::Write>(value: &JsonValue, f: &mut fmt::Formatter<W>) -> fmt::Result
     ensures { WritesOnOk W.write_str_gives f.old result (compact (view value.now)) f.new }
@@ -90,7 +90,7 @@ fn show_member<W: fmt::Write>(
     show(value, f)
 }
 
-// Shows a comma, unless it is the first item that follows.
+/// Shows a comma, unless it is the first item that follows.
 fn show_comma<W: fmt::Write>(comma: bool, f: &mut fmt::Formatter<W>) -> fmt::Result
     ensures { WritesOnOk W.write_str_gives f.old result (comma_text comma) f.new }
 {
@@ -109,7 +109,7 @@ fn show_number<W: fmt::Write>(number: &Number, f: &mut fmt::Formatter<W>) -> fmt
     fmt::Display::fmt(number, f)
 }
 
-// Shows the text in quotes, escaped. Runs of bytes that need no escape are shown whole.
+/// Shows the text in quotes, escaped. Runs of bytes that need no escape are shown whole.
 fn show_text<W: fmt::Write>(text: &str, f: &mut fmt::Formatter<W>) -> fmt::Result
     ensures { WritesOnOk W.write_str_gives f.old result (quoted text.now) f.new }
 {
@@ -127,7 +127,7 @@ fn show_text<W: fmt::Write>(text: &str, f: &mut fmt::Formatter<W>) -> fmt::Resul
     f.write_str("\"")
 }
 
-// Shows bytes that are UTF-8: each run ends where the text does, or before a byte below 128.
+/// Shows bytes that are UTF-8: each run ends where the text does, or before a byte below 128.
 fn show_bytes<W: fmt::Write>(bytes: &[u8], f: &mut fmt::Formatter<W>) -> fmt::Result
     ensures { WritesOnOk W.write_str_gives f.old result bytes.now f.new }
 {
@@ -137,7 +137,7 @@ fn show_bytes<W: fmt::Write>(bytes: &[u8], f: &mut fmt::Formatter<W>) -> fmt::Re
     }
 }
 
-// Shows what stands in a string for the byte.
+/// Shows what stands in a string for the byte.
 fn show_escape<W: fmt::Write>(byte: u8, f: &mut fmt::Formatter<W>) -> fmt::Result
     ensures { WritesOnOk W.write_str_gives f.old result (escaped_byte byte) f.new }
 {
@@ -151,10 +151,10 @@ fn show_escape<W: fmt::Write>(byte: u8, f: &mut fmt::Formatter<W>) -> fmt::Resul
     }
 }
 
-// The longest escape, and the quote that is sent behind it.
+/// The longest escape, and the quote that is sent behind it.
 const ROOM: usize = 7;
 
-// Takes what is sent, as long as there is room.
+/// Takes what is sent, as long as there is room.
 #[derive(Drop)]
 struct Room {
     bytes: [u8; ROOM],

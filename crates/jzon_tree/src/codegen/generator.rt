@@ -18,7 +18,7 @@ use std::io::{ErrorKind, Write};
 
 /// What writes values, piece by piece, into a writer.
 ///
-/// Behind it stand the bytes written so far, the count of open indents, the count of faults so far, and a style, which no hook changes. An `Ok` of a hook adds
+/// Behind it stand the bytes written so far, the count of open indents, the count of faults so far, and two things that no hook changes: a style, and the reference that is written through, if there is one. An `Ok` of a hook adds
 /// exactly the hook's bytes. An `Err` adds a beginning of them, notes one fault (the greatest u64 stays), and leaves the open indents. Where the writer doesn't
 /// tell its bytes, nothing is said of bytes.
 ///
@@ -39,7 +39,7 @@ pub trait Generator {
     /// The writer.
     type T: Write;
 
-    // The bytes written so far, the open indents, the faults so far, and the style.
+    // The bytes written so far, the open indents, the faults so far, the style, and the reference that is written through, if there is one.
     ghost meaning: { Self → Emitted };
 
     // The generator with this writer in the place of its own.

@@ -53,7 +53,7 @@ impl<const LINES: bool> TextGenerator<Memory, LINES> {
         String::from_utf8(self.outlet.bytes).map_err(|_| Error::FailedUtf8Parsing)
     }
 
-    // The same of bytes that are UTF-8, without a test.
+    /// The same of bytes that are UTF-8, without a test.
     pub(super) fn into_text(self) -> String
         requires { IsUtf8 self.outlet.bytes.items }
         ensures { string_bytes result ≡ self.entry.outlet.bytes.items }

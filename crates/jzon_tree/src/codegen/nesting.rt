@@ -1,4 +1,4 @@
-//! Whether non-empty containers nest no deeper than a count of indents goes.
+//! Whether non-empty containers nest no deeper than a count, and what refusal follows.
 
 ghost use Rattle.std.specs.Prelude.{◌≡◌, ◌<◌, ◌≤◌, ◌^◌, true, false};
 ghost use Rattle.jzon_tree.specs.Value.{array, nest};
@@ -32,7 +32,7 @@ pub(super) fn refusal_of_object(object: &Object) -> Error
     }
 }
 
-// Whether at most `room` containers that are not empty nest.
+/// Whether at most `room` containers that are not empty nest.
 #[cycle(is_within)]
 #[tactic(auto, using(crate::proofs::Views::views))]
 pub(super) fn is_within(value: &JsonValue, room: u64) -> bool

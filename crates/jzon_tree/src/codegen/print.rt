@@ -1,4 +1,4 @@
-//! The texts of values.
+//! The texts of values (docs/RULES.md, "Layouts").
 
 ghost use Rattle.std.specs.Prelude.{◌≡◌, ◌<◌, ◌≤◌, ◌^◌, OnOk, OnErr, IfOk, IsOkUnless, string_bytes};
 ghost use Rattle.std.specs.Io.KnownBytes.{Appends};

@@ -1,4 +1,4 @@
-//! The texts of objects.
+//! The texts of objects (docs/RULES.md, "Layouts").
 
 ghost use Rattle.std.specs.Prelude.{◌≡◌, ◌<◌, ◌≤◌, ◌^◌, IfOk, IsOkUnless, string_bytes};
 ghost use Rattle.jzon_tree.specs.Lawful.{IsValue};

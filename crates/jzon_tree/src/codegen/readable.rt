@@ -19,7 +19,7 @@ pub fn is_readable(value: &JsonValue, depth: u16) -> bool
     has_no_nan(value) && is_within(value, u64::from(depth))
 }
 
-// Whether no number in the value is NaN.
+/// Whether no number in the value is NaN.
 #[cycle(has_no_nan)]
 #[tactic(auto, using(crate::proofs::Views::views))]
 fn has_no_nan(value: &JsonValue) -> bool

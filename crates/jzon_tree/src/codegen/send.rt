@@ -14,10 +14,10 @@ use jzon_base::util::{print_dec, write_bytes};
 use std::io;
 use std::io::{ErrorKind, Write};
 
-// What is sent at once of spaces.
+/// What is sent at once of spaces.
 const BLANKS: [u8; 512] = [b' '; 512];
 
-// What is sent at once of a newline and the spaces behind it.
+/// What is sent at once of a newline and the spaces behind it.
 #[rattlefmt::skip]
 const LINE: [u8; 64] = [
     b'\n', b' ', b' ', b' ', b' ', b' ', b' ', b' ', b' ', b' ', b' ', b' ', b' ', b' ', b' ', b' ',
@@ -29,7 +29,7 @@ const LINE: [u8; 64] = [
 /// Sends the bytes. Most writers take them all at once.
 #[inline(always)]
 #[tactic(auto, using(crate::proofs::Sent::sent))]
-pub(crate) fn send<W: Write>(writer: &mut W, bytes: &[u8], fault: &mut Fault) -> Step<()>
+pub(super) fn send<W: Write>(writer: &mut W, bytes: &[u8], fault: &mut Fault) -> Step<()>
     ensures { Sends (Just bytes.now) (W.contents writer.old) (W.contents writer.new) result }
 {
     if bytes.is_empty() {
@@ -42,7 +42,7 @@ pub(crate) fn send<W: Write>(writer: &mut W, bytes: &[u8], fault: &mut Fault) ->
     Ok(())
 }
 
-// Sends the bytes behind those that the writer took.
+/// Sends the bytes behind those that the writer took.
 #[cold]
 #[inline(never)]
 #[tactic(auto, using(crate::proofs::Sent::sent))]
@@ -59,7 +59,7 @@ fn send_rest<W: Write>(writer: &mut W, bytes: &[u8], count: usize, fault: &mut F
 }
 
 /// Sends the text of the number, or `null` for NaN.
-pub(crate) fn send_number<W: Write>(writer: &mut W, number: &Number, fault: &mut Fault) -> Step<()>
+pub(super) fn send_number<W: Write>(writer: &mut W, number: &Number, fault: &mut Fault) -> Step<()>
     ensures { Sends (Just (written_text number.now)) (W.contents writer.old) (W.contents writer.new) result }
 {
     if number.is_nan() {
@@ -85,7 +85,7 @@ fn send_parts<W: Write>(
 }
 
 /// Sends the bytes of the string before `start` as they are, those from `start` on as they stand in a string, and the closing quote.
-pub(crate) fn send_string_from<W: Write>(
+pub(super) fn send_string_from<W: Write>(
     writer: &mut W,
     string: &str,
     start: usize,
@@ -100,7 +100,7 @@ pub(crate) fn send_string_from<W: Write>(
 }
 
 /// Sends the prefix as it is, the text as it stands in a string, and the closing quote. Runs of bytes that need no escape are sent whole.
-pub(crate) fn send_string<W: Write>(
+pub(super) fn send_string<W: Write>(
     writer: &mut W,
     prefix: &[u8],
     text: &[u8],
@@ -125,7 +125,7 @@ pub(crate) fn send_string<W: Write>(
 
 /// Sends a newline and so many spaces. Most lines begin with few, which go out with the newline.
 #[inline(always)]
-pub(crate) fn send_line<W: Write>(writer: &mut W, spaces: u128, fault: &mut Fault) -> Step<()>
+pub(super) fn send_line<W: Write>(writer: &mut W, spaces: u128, fault: &mut Fault) -> Step<()>
     ensures { Sends (Just (10 ∷ replicate spaces 32)) (W.contents writer.old) (W.contents writer.new) result }
 {
     let first = spaces.min(63);
@@ -136,7 +136,7 @@ pub(crate) fn send_line<W: Write>(writer: &mut W, spaces: u128, fault: &mut Faul
     Ok(())
 }
 
-// Sends so many spaces.
+/// Sends so many spaces.
 #[cold]
 #[inline(never)]
 fn send_spaces<W: Write>(writer: &mut W, spaces: u128, fault: &mut Fault) -> Step<()>
@@ -151,7 +151,7 @@ fn send_spaces<W: Write>(writer: &mut W, spaces: u128, fault: &mut Fault) -> Ste
     Ok(())
 }
 
-// The letter of the short escape of each byte that has one, and 0 for all others.
+/// The letter of the short escape of each byte that has one, and 0 for all others.
 #[rattlefmt::skip]
 static LETTERS: [u8; 256] = [
     0, 0, 0, 0, 0, 0, 0, 0, b'b', b't', b'n', 0, b'f', b'r', 0, 0,
@@ -172,7 +172,7 @@ static LETTERS: [u8; 256] = [
     0, 0, 0, 0, 0, 0, 0, 0, 0, 0, 0, 0, 0, 0, 0, 0,
 ];
 
-// Sends what stands in a string for a byte that needs an escape.
+/// Sends what stands in a string for a byte that needs an escape.
 fn send_escape<W: Write>(writer: &mut W, byte: u8, fault: &mut Fault) -> Step<()>
     requires { is_plain byte ≡ false }
     ensures { Sends (Just (escaped_byte byte)) (W.contents writer.old) (W.contents writer.new) result }

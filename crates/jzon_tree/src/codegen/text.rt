@@ -23,7 +23,7 @@ pub struct TextGenerator<O: Outlet, const LINES: bool> {
 }
 
 impl<O: Outlet, const LINES: bool> TextGenerator<O, LINES> {
-    // Without an open indent and without a fault. A compact text has no use for `spaces`.
+    /// Without an open indent and without a fault. A compact text has no use for `spaces`.
     pub(super) fn over(outlet: O, spaces: u16) -> TextGenerator<O, LINES>
         ensures { result ≡ record { outlet = outlet; dent = 0; faults = 0; spaces = spaces } }
     {
@@ -35,7 +35,7 @@ impl<O: Outlet, const LINES: bool> TextGenerator<O, LINES> {
         }
     }
 
-    // Hands the answer of a step on, and notes a fault where it stopped.
+    /// Hands the answer of a step on, and notes a fault where it stopped.
     #[inline(always)]
     fn count(&mut self, step: Step<()>) -> Step<()>
         ensures same { result ≡ step }

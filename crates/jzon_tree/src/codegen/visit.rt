@@ -11,7 +11,7 @@ use jzon_base::number::Number;
 /// Visits all parts of the value.
 #[cycle(visit)]
 #[tactic(auto, using(crate::proofs::Views::views))]
-pub(crate) fn visit_value(value: &JsonValue)
+pub(super) fn visit_value(value: &JsonValue)
     ensures { IsValue (view value.now) }
 {
     match value {
@@ -30,7 +30,7 @@ pub(crate) fn visit_value(value: &JsonValue)
 
 /// Visits the pairs of the object and all parts of their values.
 #[cycle(visit)]
-pub(crate) fn visit_object(object: &Object)
+pub(super) fn visit_object(object: &Object)
     ensures { IsValue (view_object object.now) }
 {
     for index in 0..object.len() {
@@ -49,7 +49,7 @@ fn visit_items(items: &[JsonValue])
 }
 
 /// A number is within range by its type.
-pub(crate) fn see_number(number: &Number)
+pub(super) fn see_number(number: &Number)
     ensures { InRange number.now }
 {
     let _parts = number.as_parts();

@@ -52,7 +52,7 @@ pub fn write_object<G: Generator>(g: &mut G, object: &Object) -> io::Result<()>
     }
 }
 
-// Inlined into the loops over items and pairs, so that only a container costs a call.
+/// Inlined into the loops over items and pairs, so that only a container costs a call.
 #[inline(always)]
 #[cycle(write_value)]
 #[tactic(auto, using(crate::proofs::Views::views))]
@@ -94,7 +94,7 @@ fn write_array<G: Generator>(g: &mut G, items: &[JsonValue], fault: &mut Fault) 
     close(g, b']', fault)
 }
 
-// Each item after whitespace, and a comma before each but the first.
+/// Each item after whitespace, and a comma before each but the first.
 #[cycle(write_value)]
 fn write_items<G: Generator>(g: &mut G, items: &[JsonValue], fault: &mut Fault) -> Step<()>
     ensures written { PrintsIf (AreValues (view_values items.now))
@@ -127,7 +127,7 @@ fn write_pairs<G: Generator>(g: &mut G, object: &Object, fault: &mut Fault) -> S
     close(g, b'}', fault)
 }
 
-// Each pair after whitespace, and a comma before each but the first.
+/// Each pair after whitespace, and a comma before each but the first.
 #[cycle(write_value)]
 fn write_members<G: Generator>(
     g: &mut G,
@@ -151,7 +151,7 @@ fn write_members<G: Generator>(
     Ok(())
 }
 
-// The position that the order names at the index.
+/// The position that the order names at the index.
 fn position_of(order: &Option<Vec<usize>>, index: usize, count: usize) -> usize
     requires index_in_range { index < length (positions count order.now) }
     ensures { result ≡ slice_index_or (positions count order.now) index 0 }
@@ -174,7 +174,7 @@ fn write_pair<G: Generator>(g: &mut G, key: &str, value: &JsonValue, fault: &mut
     write_value(g, value, fault)
 }
 
-// What stands before an item: a comma, unless it is the first, and whitespace.
+/// What stands before an item: a comma, unless it is the first, and whitespace.
 #[inline(always)]
 fn begin_item<G: Generator>(g: &mut G, comma: bool, fault: &mut Fault) -> Step<()>
     ensures { Emits (IsBetween (G.meaning g.old).style (G.meaning g.old).dent comma)
@@ -186,7 +186,7 @@ fn begin_item<G: Generator>(g: &mut G, comma: bool, fault: &mut Fault) -> Step<(
     g.try_new_line(fault)
 }
 
-// Closes an indent, and adds whitespace and the bracket.
+/// Closes an indent, and adds whitespace and the bracket.
 #[inline(always)]
 fn close<G: Generator>(g: &mut G, bracket: u8, fault: &mut Fault) -> Step<()>
     requires { 0 < (G.meaning g.old).dent }

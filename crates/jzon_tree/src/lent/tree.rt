@@ -52,8 +52,8 @@ pub trait Tree {
         ensures value { MatchOption result (pairs self.old ≡ [])
             (λ lent. (lent.now ≡ pairs self.old) × (object (pairs self.old) ≡ self.old)) };
 
-    /// Makes the value an object that has the key: what is no object becomes one without pairs, and then a missing key is put last, with null. The error is a
-    /// refused growth, and then nothing has changed.
+    /// Makes the value an object that has the key: what is no object becomes one without pairs, and then a missing key is put last, with null. Refused by
+    /// `OutOfMemory` alone, and then nothing has changed.
     fn make_key(&mut self, alloc: Global, key: &str) -> Result<()>
         ensures ok { OnOk result (self.new ≡ object (with_default key.now null (pairs self.old))) }
         ensures err { OnErr result (self.new ≡ self.old) }
@@ -66,7 +66,7 @@ pub trait Tree {
         ensures* writes_back { sem 𝓛 (Lends Self.row (pairs_row Self.Node.row) self.entry result object) }
         ensures value { result.now ≡ pairs self.old };
 
-    /// Makes the value an array that has a place for the index. The error is a refused growth, and then the value means what it meant.
+    /// Makes the value an array that has a place for the index. Refused by `OutOfMemory` alone, and then the value means what it meant.
     fn make_place(&mut self, alloc: Global, index: usize) -> Result<()>
         ensures ok { OnOk result (items self.new ≡ Some (with_place null (items self.old) index)) }
         ensures err { OnErr result (meaning self.new ≡ meaning self.old) }
@@ -89,7 +89,7 @@ pub trait Tree {
         pairs.get_mut(key)
     }
 
-    /// The node of an object's key, to be written, once the key is made: nothing else changes. The error is a refused growth, and then nothing has changed.
+    /// The node of an object's key, to be written, once the key is made: nothing else changes. Refused by `OutOfMemory` alone, and then nothing has changed.
     final fn at_in(&mut self, alloc: Global, key: &str) -> Result<&mut Self::Node>
         ensures* writes_back { sem 𝓛 (LendsIfOk Self.row Self.Node.row self.entry result
             (λ w. object (put key.now w (pairs self.old))) self.old) }
@@ -103,7 +103,7 @@ pub trait Tree {
         Ok(pairs.member_mut(key))
     }
 
-    /// The item of an array at an index, to be written, once its place is made. The error is a refused growth, and then the value means what it meant.
+    /// The item of an array at an index, to be written, once its place is made. Refused by `OutOfMemory` alone, and then the value means what it meant.
     final fn at_index_in(&mut self, alloc: Global, index: usize) -> Result<&mut Self::Node>
         ensures* writes_back { sem 𝓛 (LendsSoOk Self.row Self.Node.row self.entry result
             (λ n w. items n ≡ Some (slice_set (with_place null (items self.old) index)
@@ -179,7 +179,7 @@ impl Tree for JsonValue {
     }
 }
 
-/// Adds one null where the index is past the end. The error is a refused growth.
+/// Adds one null where the index is past the end. Refused by `OutOfMemory` alone.
 fn add_place(items: &mut Vec<JsonValue>, index: usize) -> Result<()>
     ensures ok { OnOk result (items.new.items ≡ with_place null_value (Some items.old.items) index) }
     ensures err { OnErr result (items.new.items ≡ items.old.items) }
@@ -193,7 +193,7 @@ fn add_place(items: &mut Vec<JsonValue>, index: usize) -> Result<()>
     Ok(())
 }
 
-/// One null for index 0, and else two. The error is a refused growth.
+/// One null for index 0, and else two. Refused by `OutOfMemory` alone.
 fn new_items(alloc: Global, index: usize) -> Result<Vec<JsonValue>>
     ensures items { IfOk result (λ items. items.items ≡ with_place null_value None index) }
     ensures memory { IsOkUnless result Error.OutOfMemory }
