@@ -277,9 +277,10 @@ mutual
       record {
         nodes = one.node ∷ more.nodes;
         spell = (
-          node_raised r (nest v) (max (nest v) (most_nest vs)) t one.node (le-max_left (nest v) (most_nest vs)) one.spells,
-          each_raised r (most_nest vs) (max (nest v) (most_nest vs)) ts more.nodes (le-max_right (nest v) (most_nest vs))
-              more.spell,
+          node_raised r (nest v) (max (nest v) (most_nest vs)) t one.node
+              (le-max_left (nest v) (most_nest vs)) one.spells,
+          each_raised r (most_nest vs) (max (nest v) (most_nest vs)) ts more.nodes
+              (le-max_right (nest v) (most_nest vs)) more.spell,
         );
         alike = and_from _ _ one.alike more.alike;
       }
@@ -316,7 +317,8 @@ mutual
             spells = node_raised r (nest v) high x one.node
                 (le-max_left (nest v) (most_nest_under ps)) one.spells;
           },
-          entries_raised r (most_nest_under ps) high more.entries (le-max_right (nest v) (most_nest_under ps)) more.spell,
+          entries_raised r (most_nest_under ps) high more.entries
+              (le-max_right (nest v) (most_nest_under ps)) more.spell,
         );
         keys = ap (λ ks. k ∷ ks) more.keys;
         alike = λ q.

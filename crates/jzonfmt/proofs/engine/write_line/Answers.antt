@@ -24,7 +24,8 @@ returns-clause-ok g c =
     rw (sym c.new-buffered.ensures.same)
     (told_all b.inner.ghost_name n.inner.ghost_name (b.before + b.taken) (n.before + n.taken)
     (drop b.taken b.bytes.items)
-    (drop n.taken n.bytes.items) start.0 start.1 c.write_held-answer.result (line c.args.layout (view c.args.value.now)) _
+    (drop n.taken n.bytes.items) start.0 start.1 c.write_held-answer.result
+    (line c.args.layout (view c.args.value.now)) _
     (g.W.Write.contents n.inner.now) _
     (λ name. search rules) c.write_held-answer.ensures.all c.write_held-answer.ensures.ok)
 
@@ -36,6 +37,7 @@ returns-clause-err g c =
     rw (sym c.new-buffered.ensures.same)
     (told_part b.inner.ghost_name n.inner.ghost_name (b.before + b.taken) (n.before + n.taken)
     (drop b.taken b.bytes.items)
-    (drop n.taken n.bytes.items) start.0 start.1 c.write_held-answer.result (line c.args.layout (view c.args.value.now)) _
+    (drop n.taken n.bytes.items) start.0 start.1 c.write_held-answer.result
+    (line c.args.layout (view c.args.value.now)) _
     (g.W.Write.contents n.inner.now) _
     (λ name. search rules) c.write_held-answer.ensures.err)
