@@ -1,5 +1,4 @@
-pub mod Trees
-pub mod Values
+pub mod Study
 pub mod Bytes
 pub mod ReadBack
 pub mod WorkedRows

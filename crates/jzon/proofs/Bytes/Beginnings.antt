@@ -14,12 +14,12 @@ use Rattle.jzon.specs.Classes.{begins_true, begins_false, class_of, signed, begu
 use Rattle.jzon.specs.Machine.{Frames, no_frames, array_frame, object_frame, is_fresh, as_value, between, string}
 use Rattle.jzon.specs.Machine.{numeral, past_letter, before, go, bad, bad_at, value_mark, move_before, move_empty_array}
 use Rattle.jzon.specs.Machine.{from}
-use Rattle.jzon.proofs.Trees.ClassesOfCharacters.{class-whitespace, class-digits, class-dash, class-quote}
-use Rattle.jzon.proofs.Trees.ClassesOfCharacters.{class-opens_array}
-use Rattle.jzon.proofs.Trees.ClassesOfCharacters.{class-closes_array, class-opens_object, class-begins_null}
-use Rattle.jzon.proofs.Trees.ClassesOfCharacters.{class-begins_true}
-use Rattle.jzon.proofs.Trees.ClassesOfCharacters.{class-begins_false, class_34, class_45, class_102, class_110}
-use Rattle.jzon.proofs.Trees.ClassesOfCharacters.{class_116, digits-class}
+use Rattle.jzon.proofs.Study.ClassesOfCharacters.{class-whitespace, class-digits, class-dash, class-quote}
+use Rattle.jzon.proofs.Study.ClassesOfCharacters.{class-opens_array}
+use Rattle.jzon.proofs.Study.ClassesOfCharacters.{class-closes_array, class-opens_object, class-begins_null}
+use Rattle.jzon.proofs.Study.ClassesOfCharacters.{class-begins_true}
+use Rattle.jzon.proofs.Study.ClassesOfCharacters.{class-begins_false, class_34, class_45, class_102, class_110}
+use Rattle.jzon.proofs.Study.ClassesOfCharacters.{class_116, digits-class}
 use Rattle.jzon.proofs.Bytes.Scanning.{wide_is_no_space}
 use Rattle.jzon.proofs.Bytes.StepsByByte.{StopsAt, from_step, stops_by, digit_is_ascii}
 

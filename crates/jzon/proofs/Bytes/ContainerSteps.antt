@@ -16,11 +16,11 @@ use Rattle.jzon.specs.Machine.{Entries, Frames, frames_depth, array_frame, objec
 use Rattle.jzon.specs.Machine.{before_key, word, numeral, string, after_key, behind, allows_whitespace, go, bad, bad_at}
 use Rattle.jzon.specs.Machine.{value_mark, key_mark, move_before, move_before_key, move_after_key, move_empty_object}
 use Rattle.jzon.specs.Machine.{move_behind, refused, outcome_on, from, left_at}
-use Rattle.jzon.proofs.Trees.ClassesOfCharacters.{class-whitespace, class-quote, class-closes_array}
-use Rattle.jzon.proofs.Trees.ClassesOfCharacters.{class-closes_object, class-comma}
-use Rattle.jzon.proofs.Trees.ClassesOfCharacters.{class-colon, class_34, class_44, class_58, class_91, class_93}
-use Rattle.jzon.proofs.Trees.ClassesOfCharacters.{class_123, class_125}
-use Rattle.jzon.proofs.Trees.ClassesOfCharacters.{whitespace-class}
+use Rattle.jzon.proofs.Study.ClassesOfCharacters.{class-whitespace, class-quote, class-closes_array}
+use Rattle.jzon.proofs.Study.ClassesOfCharacters.{class-closes_object, class-comma}
+use Rattle.jzon.proofs.Study.ClassesOfCharacters.{class-colon, class_34, class_44, class_58, class_91, class_93}
+use Rattle.jzon.proofs.Study.ClassesOfCharacters.{class_123, class_125}
+use Rattle.jzon.proofs.Study.ClassesOfCharacters.{whitespace-class}
 use Rattle.jzon.proofs.Bytes.Scanning.{Skips, before_skips, behind_skips, space_is_ascii, wide_is_no_space}
 use Rattle.jzon.proofs.Bytes.StepsByByte.{StopsAt, from_step, stops_by, IsDeep, from_deep}
 

@@ -10,9 +10,9 @@ use Rattle.jzon.specs.Spelling.{digit, breach_if, onto, drops_too_many, keeps_to
 use Rattle.jzon.specs.Fault.{limit}
 use Rattle.jzon.specs.Classes.{whole, pointed, fraction, lettered, signed_exponent, exponent}
 use Rattle.jzon.specs.Machine.{Frames, Place, numeral, go, move, refused, outcome_on, outcome}
-use Rattle.jzon.proofs.Trees.ClassesOfCharacters.{digits-class}
-use Rattle.jzon.proofs.Trees.NumberLimits.{AreUnmarked, IsFirstMarked, whole_unmarked, whole_marked, fraction_unmarked}
-use Rattle.jzon.proofs.Trees.NumberLimits.{fraction_marked, never_marked}
+use Rattle.jzon.proofs.Study.ClassesOfCharacters.{digits-class}
+use Rattle.jzon.proofs.Study.NumberLimits.{AreUnmarked, IsFirstMarked, whole_unmarked, whole_marked, fraction_unmarked}
+use Rattle.jzon.proofs.Study.NumberLimits.{fraction_marked, never_marked}
 
 -- ---- digits at a place that collects them
 

@@ -13,10 +13,10 @@ use Rattle.jzon.specs.Classes.{pointed, fraction, lettered, signed_exponent, exp
 use Rattle.jzon.specs.Machine.{Frames, Place, numeral, behind, go, bad, move, move_behind, move_after_whole}
 use Rattle.jzon.specs.Machine.{move_numeral, number_value, exponent_of, last, meant_at, refused, outcome_on, outcome}
 use Rattle.jzon.specs.Machine.{stopped}
-use Rattle.jzon.proofs.Trees.ClassesOfCharacters.{letter_e-class, class_43, class_45, class_46, class-digits}
-use Rattle.jzon.proofs.Trees.ClassesOfCharacters.{class-dash, class-cross}
-use Rattle.jzon.proofs.Trees.ClassesOfCharacters.{class-point, class-letter_e}
-use Rattle.jzon.proofs.Trees.NumberLimits.{onto-onto}
+use Rattle.jzon.proofs.Study.ClassesOfCharacters.{letter_e-class, class_43, class_45, class_46, class-digits}
+use Rattle.jzon.proofs.Study.ClassesOfCharacters.{class-dash, class-cross}
+use Rattle.jzon.proofs.Study.ClassesOfCharacters.{class-point, class-letter_e}
+use Rattle.jzon.proofs.Study.NumberLimits.{onto-onto}
 use Rattle.jzon.proofs.Bytes.DigitRuns.{read_whole, refuse_whole, read_fraction, read_unsigned_exponent}
 use Rattle.jzon.proofs.Bytes.DigitRuns.{read_signed_exponent}
 

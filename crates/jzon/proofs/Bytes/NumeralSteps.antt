@@ -9,7 +9,7 @@ use Rattle.jzon.specs.Classes.{closes_array}
 use Rattle.jzon.specs.Classes.{opens_object, closes_object, comma, colon, begins_null, begins_true, begins_false, other}
 use Rattle.jzon.specs.Classes.{class_of, signed, begun}
 use Rattle.jzon.specs.Machine.{Frames, numeral, bad, move_numeral, from}
-use Rattle.jzon.proofs.Trees.ClassesOfCharacters.{class-digits, digits-class}
+use Rattle.jzon.proofs.Study.ClassesOfCharacters.{class-digits, digits-class}
 use Rattle.jzon.proofs.Bytes.StepsByByte.{StopsAt, from_step, digit_is_ascii}
 
 no_digit_on : (r : Reading) (fs : Frames) (c : ℕ) (k : Class) → (IsTrue (is_ascii_digit c) → ⊥)

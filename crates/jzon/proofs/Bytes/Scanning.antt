@@ -13,7 +13,7 @@ use Rattle.jzon_tree.specs.Value.{Value}
 use Rattle.jzon_tree.specs.Writing.{is_whitespace}
 use Rattle.jzon.specs.Reading.{Reading}
 use Rattle.jzon.specs.Machine.{Place, Frames, before, behind, go, move, outcome, outcome_on, from}
-use Rattle.jzon.proofs.Trees.ClassesOfCharacters.{whitespace-class}
+use Rattle.jzon.proofs.Study.ClassesOfCharacters.{whitespace-class}
 
 -- an ASCII byte is a character, and what follows it is text
 pub chars-ascii : (b : ℕ) (bs : List ℕ) → IsUtf8 (b ∷ bs) → b < 128 → chars (b ∷ bs) ≡ b ∷ chars bs

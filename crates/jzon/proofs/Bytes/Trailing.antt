@@ -7,7 +7,7 @@ use Rattle.jzon_tree.specs.Writing.{is_whitespace}
 use Rattle.jzon.specs.Reading.{Reading}
 use Rattle.jzon.specs.Classes.{Class, whitespace, class_of}
 use Rattle.jzon.specs.Machine.{no_frames, behind, bad, move_behind, outcome, outcome_on, from, stopped}
-use Rattle.jzon.proofs.Trees.ClassesOfCharacters.{class-whitespace}
+use Rattle.jzon.proofs.Study.ClassesOfCharacters.{class-whitespace}
 use Rattle.jzon.proofs.Bytes.Scanning.{wide_is_no_space}
 use Rattle.jzon.proofs.Bytes.StepsByByte.{byte_there, by_character, some_character}
 

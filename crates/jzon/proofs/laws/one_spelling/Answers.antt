@@ -1,8 +1,10 @@
+use Rattle.std.proofs.Common.{◌∙◌, sym}
+use Rattle.jzon.proofs.Study.Texts.{spells}
+use Rattle.jzon.proofs.Study.Cells.{one_breach}
 use Rattle.jzon.proofs.laws.one_spelling.Goals as goal
-use Rattle.jzon.proofs.Trees.TreeTexts.{same_text, one_breach}
 
 pub returns-clause-text : goal.returns-clause-text
-returns-clause-text c = same_text
+returns-clause-text c = λ r s d. spells r d ∙ sym (spells s d)
 
 pub returns-clause-breach : goal.returns-clause-breach
 returns-clause-breach c = one_breach
