@@ -2,9 +2,12 @@
 
 ghost use Rattle.std.specs.Prelude.{◌≡◌, IfOk, IfErr, IsOk, IsOkUnless, string_bytes};
 ghost use Rattle.jzon_tree.specs.IntoJson.{IsTextRefusal};
+ghost use Rattle.jzon_tree.specs.Lawful.{IsValue};
+ghost use Rattle.jzon_tree.specs.Styles.{compact_style, pretty_style};
 ghost use Rattle.jzon_tree.specs.Text.{compact, pretty};
 ghost use Rattle.jzon_tree.specs.Value.{Value};
 ghost use Rattle.jzon_tree.specs.View.{view};
+ghost use Rattle.jzon_tree.specs.Writing.{Writes};
 
 use jzon_base::error::{Error, Result};
 use jzon_tree::into_json::IntoJson;
@@ -22,7 +25,8 @@ pub fn from<T: IntoJson>(alloc: Global, value: T) -> Result<JsonValue>
 
 /// The compact text of the value that `root` turns into. Refused as `dump` is.
 pub fn stringify<T: IntoJson>(alloc: Global, root: T) -> Result<String>
-    ensures text { IfOk result (λ text. (v : Value) × T.means root v × (string_bytes text ≡ compact v)) }
+    ensures text { IfOk result (λ text. (v : Value) × T.means root v × IsValue v × (string_bytes text ≡ compact v)
+        × Writes compact_style 0 v (string_bytes text)) }
     ensures refusal { IfErr result (IsTextRefusal (T.means root)) }
 {
     root.into_json(alloc)?.dump(alloc)
@@ -32,7 +36,8 @@ pub fn stringify<T: IntoJson>(alloc: Global, root: T) -> Result<String>
 /// `dump` is.
 pub fn stringify_pretty<T: IntoJson>(alloc: Global, root: T, spaces: u16) -> Result<String>
     ensures text { IfOk result
-        (λ text. (v : Value) × T.means root v × (string_bytes text ≡ pretty v spaces 0)) }
+        (λ text. (v : Value) × T.means root v × IsValue v × (string_bytes text ≡ pretty v spaces 0)
+        × Writes (pretty_style spaces) 0 v (string_bytes text)) }
     ensures refusal { IfErr result (IsTextRefusal (T.means root)) }
 {
     root.into_json(alloc)?.pretty(alloc, spaces)
