@@ -103,7 +103,7 @@ impl JsonValue {
         ensures ok { OnOk result ((v : Value) × T.means value v
             × (view self.new ≡ with_entry key.now v (view self.old))) }
         ensures object { OnOk result (is_object (view self.old) ≡ true) }
-        ensures err { OnErr result (view self.new ≡ view self.old) }
+        ensures err { OnErr result (self.new ≡ self.old) }
         ensures refusal { IfErr result (IsRefusal (is_object (view self.old)) (codes "Object")) }
     {
         match self {
