@@ -23,11 +23,11 @@ use Rattle.jzon.specs.Reading.{Reading}
 use Rattle.jzon.proofs.ReadBack.ReadsBack.{read_back}
 use Rattle.jzon.proofs.ReadBack.Redump.{redumped}
 use Rattle.jzon.proofs.ReadBack.StrictStyles.{strict_styles}
-use Rattle.jzon.proofs.Study.OneTree.{same_tree}
-use Rattle.jzon.proofs.Study.Verdict.{one_tree_or_one_fault}
+use Rattle.jzon.proofs.Texts.OneTree.{same_tree}
+use Rattle.jzon.proofs.Texts.Verdict.{one_tree_or_one_fault}
 -- the answer to one concrete text, by computation: `Parses` from a tree, and `IsErrorOf` from an error
-pub use Rattle.jzon.proofs.Study.Answers.{refused_error}
-pub use Rattle.jzon.proofs.Study.ReadTree.{read_tree}
+pub use Rattle.jzon.proofs.Texts.Answers.{refused_error}
+pub use Rattle.jzon.proofs.Texts.ReadTree.{read_tree}
 
 module _ (r : Reading) where
   -- ---- a text that is read as some value

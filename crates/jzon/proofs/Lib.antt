@@ -1,5 +1,7 @@
-pub mod Study
-pub mod Bytes
+pub mod Numbers
+pub mod Strings
+pub mod Containers
+pub mod Texts
 pub mod ReadBack
 pub mod WorkedRows
 pub mod AnswerLaws

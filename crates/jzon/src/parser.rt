@@ -300,7 +300,7 @@ impl<'a> Parser<'a> {
 }
 
 /// Whether the reading refuses this key behind these entries. Refused by `OutOfMemory` alone.
-#[tactic(auto, using(crate::proofs::Bytes::FrameViews::known_view))]
+#[tactic(auto, using(crate::proofs::Containers::FrameViews::known_view))]
 fn is_refused(alloc: Global, reading: Reading, entries: &mut Builder, name: &str) -> Result<bool>
     ensures same { entries.new ≡ entries.old }
     ensures refused { IfOk result (λ refused. refused ≡ (reading.strict && is_some

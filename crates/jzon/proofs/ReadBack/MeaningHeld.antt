@@ -35,7 +35,7 @@ use Rattle.jzon.specs.Meaning.{elements_meaning, members_meaning}
 use Rattle.jzon.specs.Fault.{Parses}
 use Rattle.jzon.specs.Laws.{IsReadAs, Redump}
 use Rattle.jzon.specs.Answer.{IsReadable}
-use Rattle.jzon.proofs.Bytes.HexDigits.{hex_is_below_16}
+use Rattle.jzon.proofs.Strings.HexDigits.{hex_is_below_16}
 use Rattle.jzon.proofs.ReadBack.UnmarkedCells.{HaveNoMarks, unmarked, plain_rest, numeral_first, items_rest, key_first}
 
 -- ---- numbers

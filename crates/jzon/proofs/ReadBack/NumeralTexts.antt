@@ -5,8 +5,8 @@ use Rattle.jzon_base.proofs.Kept.{kept_len_is_longest}
 use Rattle.jzon.specs.Grammar.{Sign, unsigned, plus, minus, Exponent, Numeral}
 use Rattle.jzon.specs.Spelling.{Cell, cell, plain, digits_cells, drops_too_many, keeps_too_many, fraction_cells}
 use Rattle.jzon.specs.Spelling.{exponent_cells, sign_cells, whole_cells, magnitude_cells, numeral_cells}
-use Rattle.jzon.proofs.Study.NumberLimits.{AreUnmarked, whole_unmarked, fraction_unmarked}
-use Rattle.jzon.proofs.Study.Cells.{plain-append}
+use Rattle.jzon.proofs.Numbers.NumberLimits.{AreUnmarked, whole_unmarked, fraction_unmarked}
+use Rattle.jzon.proofs.Texts.Cells.{plain-append}
 
 -- ---- the text
 

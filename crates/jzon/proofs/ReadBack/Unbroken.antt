@@ -5,7 +5,7 @@ use Rattle.jzon.specs.Reading.{Reading}
 use Rattle.jzon.specs.Grammar.{Document, IsDocument}
 use Rattle.jzon.specs.Spelling.{plain, cells}
 use Rattle.jzon.specs.Fault.{Parses}
-use Rattle.jzon.proofs.Study.Cells.{chars_of, marks_of, chars-plain, all_unmarked}
+use Rattle.jzon.proofs.Texts.Cells.{chars_of, marks_of, chars-plain, all_unmarked}
 
 pub parses_plain : (r : Reading) (t : List ℕ) (d : Document) → IsDocument r d → cells r d ≡ plain t [] → Parses r t d
 parses_plain r t d ok e = (

@@ -9,7 +9,7 @@ use Rattle.jzon.specs.Grammar as grammar
 use Rattle.jzon.specs.Spelling.{Breach, Cell, cell, plain, marked_last, drops_too_many, keeps_too_many, digits_cells}
 use Rattle.jzon.specs.Spelling.{whole_cells, fraction_cells, sign_cells, exponent_cells, magnitude_cells, numeral_cells}
 use Rattle.jzon.specs.Spelling.{item_cells, items_cells, key_cells}
-use Rattle.jzon.proofs.Study.Cells.{marks_of}
+use Rattle.jzon.proofs.Texts.Cells.{marks_of}
 
 abbrev pub HaveNoMarks : List Cell → Type 0
 HaveNoMarks [] = ⊤

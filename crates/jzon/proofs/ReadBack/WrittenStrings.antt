@@ -21,8 +21,8 @@ use Rattle.jzon.specs.Grammar.{is_surrogate, code_unit}
 use Rattle.jzon.specs.Grammar as grammar
 use Rattle.jzon.specs.Spelling.{Cell, cell, plain, item_cells, items_cells}
 use Rattle.jzon.specs.Meaning.{item_text, text_of, bytes_of}
-use Rattle.jzon.proofs.Study.Cells.{plain-append}
-use Rattle.jzon.proofs.Bytes.PlainRuns.{plain_wide}
+use Rattle.jzon.proofs.Texts.Cells.{plain-append}
+use Rattle.jzon.proofs.Strings.PlainRuns.{plain_wide}
 
 -- ---- what is written for a character
 

@@ -21,8 +21,8 @@ use Rattle.jzon.specs.Laws.{alone}
 use Rattle.jzon.specs.Meaning.{bytes_of}
 use Rattle.jzon.specs.Spelling.{Cell, cell, plain, breach_if, deep, duplicate, items_length, items_cells, key_cells}
 use Rattle.jzon.specs.Spelling.{node_cells, elements_cells, members_cells}
-use Rattle.jzon.proofs.Study.Cells.{plain-append}
-use Rattle.jzon.proofs.Bytes.Scanning.{space_is_ascii}
+use Rattle.jzon.proofs.Texts.Cells.{plain-append}
+use Rattle.jzon.proofs.Texts.AsciiRuns.{space_is_ascii}
 use Rattle.jzon.proofs.ReadBack.Unbroken.{parses_plain}
 use Rattle.jzon.proofs.ReadBack.PrintedParts.{IsPrintedAs}
 use Rattle.jzon.proofs.ReadBack.NumbersReadBack.{printed-plain, IsAscii-number}

@@ -1,6 +1,6 @@
 use Rattle.std.proofs.Common.{◌∙◌, sym, ap}
 use Rattle.std.specs.Prelude.{◌+◌, length, chars}
-use Rattle.jzon.proofs.Bytes.Columns.{column_of_one_line, column_of_last_line}
+use Rattle.jzon.proofs.Texts.Columns.{column_of_one_line, column_of_last_line}
 use Rattle.jzon.proofs.fault.column_after.Goals as goal
 
 pub returns-in-None : goal.returns-in-None

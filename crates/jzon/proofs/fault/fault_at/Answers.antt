@@ -1,7 +1,7 @@
 use Rattle.std.proofs.Common.{◌≡◌, sym, ap, ◌∙◌, take, Some, slice_get, arith, drop}
 use Rattle.std.specs.Prelude.{chars}
 use Rattle.jzon.specs.Fault.{line, column}
-use Rattle.jzon.proofs.Bytes.FaultOffsets.{tells_character}
+use Rattle.jzon.proofs.Texts.FaultOffsets.{tells_character}
 use Rattle.jzon.proofs.fault.fault_at.Goals as goal
 
 pub returns-in-Some : goal.returns-in-Some

@@ -1,6 +1,6 @@
 use Rattle.std.proofs.Common.{◌∙◌, sym}
-use Rattle.jzon.proofs.Study.Texts.{spells}
-use Rattle.jzon.proofs.Study.Cells.{one_breach}
+use Rattle.jzon.proofs.Texts.TreeCharacters.{spells}
+use Rattle.jzon.proofs.Texts.Cells.{one_breach}
 use Rattle.jzon.proofs.laws.one_spelling.Goals as goal
 
 pub returns-clause-text : goal.returns-clause-text

@@ -1,6 +1,6 @@
 use Rattle.std.proofs.Common.{get_or}
 use Rattle.std.proofs.lemmas.Str.{IsCharBoundary-after_ascii}
-use Rattle.jzon.proofs.Bytes.Magnitudes.{letter_is_ascii}
+use Rattle.jzon.proofs.Numbers.Magnitudes.{letter_is_ascii}
 use Rattle.jzon.proofs.numeral.spelling_at.Goals as goal
 
 pub exponent_behind-exponent-requires : goal.exponent_behind-exponent-requires

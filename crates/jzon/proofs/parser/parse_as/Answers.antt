@@ -1,6 +1,6 @@
 use Rattle.std.specs.Prelude.{chars}
 use Rattle.jzon.specs.Machine.{from}
-use Rattle.jzon.proofs.Study.Answers.{Answers, answers_of, value_of, readable_of, error_of}
+use Rattle.jzon.proofs.Texts.Answers.{Answers, answers_of, value_of, readable_of, error_of}
 use Rattle.jzon.proofs.parser.parse_as.Goals as goal
 
 answer : (c : goal.After-read) → Answers c.args.reading.now (chars c.args.source.now) c.read.result

@@ -4,8 +4,8 @@ use Rattle.std.proofs.lemmas.Bool.{true≢false}
 use Rattle.jzon.specs.Answer.{TakesMemory}
 use Rattle.jzon.specs.Frames.{place_of}
 use Rattle.jzon.specs.Machine.{no_frames, before}
-use Rattle.jzon.proofs.Bytes.Cursors.{reads_from}
-use Rattle.jzon.proofs.Bytes.FrameViews.{open_unless_value}
+use Rattle.jzon.proofs.Texts.Cursors.{reads_from}
+use Rattle.jzon.proofs.Containers.FrameViews.{open_unless_value}
 use Rattle.jzon.proofs.parser.read.Goals as goal
 
 pub returns-clause-outcome : goal.returns-clause-outcome

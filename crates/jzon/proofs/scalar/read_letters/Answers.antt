@@ -3,7 +3,7 @@ use Rattle.std.proofs.Common.{false}
 use Rattle.std.specs.Prelude.{chars}
 use Rattle.std.proofs.lemmas.Str.{IsCharBoundary-after_ascii}
 use Rattle.jzon.specs.Machine.{from, past_letter, Tells}
-use Rattle.jzon.proofs.Bytes.Words.{letter_read, letter_missing}
+use Rattle.jzon.proofs.Containers.LiteralLetters.{letter_read, letter_missing}
 use Rattle.jzon.proofs.scalar.read_letters.Goals as goal
 
 pub returns-then-not-has_byte-clause-same : goal.returns-then-not-has_byte-clause-same

@@ -2,9 +2,9 @@ use Rattle.std.proofs.Common.{◌≡◌, true, false}
 use Rattle.std.specs.Prelude.{chars}
 use Rattle.jzon.specs.Machine.{numeral}
 use Rattle.jzon.specs.Classes.{signed}
-use Rattle.jzon.proofs.Bytes.StepsByByte.{from_stop, same_outcome}
-use Rattle.jzon.proofs.Bytes.ToldErrors.{stopped_leads}
-use Rattle.jzon.proofs.Bytes.NumeralSteps.{no_digit_stops, digit_goes}
+use Rattle.jzon.proofs.Texts.StepsByByte.{from_stop, same_outcome}
+use Rattle.jzon.proofs.Texts.ReportedErrors.{stopped_leads}
+use Rattle.jzon.proofs.Numbers.FirstDigits.{no_digit_stops, digit_goes}
 use Rattle.jzon.proofs.scalar.read_negative.Goals as goal
 
 pub returns-then-not-has_digit-clause-same : goal.returns-then-not-has_digit-clause-same

@@ -5,10 +5,9 @@ use Rattle.std.proofs.lemmas.Bool.{false_from_ne_true, iff_false}
 use Rattle.std.proofs.lemmas.Str.{IsCharBoundary-after_ascii}
 use Rattle.jzon.specs.Reading.{usual}
 use Rattle.jzon.specs.Machine.{no_frames, before}
-use Rattle.jzon.proofs.Bytes.Beginnings.{stops_before, begin_minus, begin_digit}
-use Rattle.jzon.proofs.Bytes.Beginnings.{begin_string}
-use Rattle.jzon.proofs.Bytes.StepsByByte.{from_stop}
-use Rattle.jzon.proofs.Bytes.ToldErrors.{stopped_told, same_or_memory, same_unless_memory, never_memory}
+use Rattle.jzon.proofs.Containers.FirstBytes.{stops_before, begin_minus, begin_digit, begin_string}
+use Rattle.jzon.proofs.Texts.StepsByByte.{from_stop}
+use Rattle.jzon.proofs.Texts.ReportedErrors.{stopped_told, same_or_memory, same_unless_memory, never_memory}
 use Rattle.jzon.proofs.scalar.read_scalar.Goals as goal
 
 -- a byte of the bytes of a text is one of the text

@@ -4,8 +4,8 @@ use Rattle.std.proofs.lemmas.Str.{IsCharBoundary-after_ascii}
 use Rattle.jzon_tree.specs.View.{view}
 use Rattle.jzon.specs.Reading.{Reading, usual}
 use Rattle.jzon.specs.Machine.{Frames, no_frames, value_mark}
-use Rattle.jzon.proofs.Bytes.StepsByByte.{same_outcome}
-use Rattle.jzon.proofs.Bytes.WholeWords.{IsFirst, WordEnds, word_begins, word_ends}
+use Rattle.jzon.proofs.Texts.StepsByByte.{same_outcome}
+use Rattle.jzon.proofs.Containers.WholeLiterals.{IsFirst, WordEnds, word_begins, word_ends}
 use Rattle.jzon.proofs.scalar.read_word.Goals.{After-has_four}
 use Rattle.jzon.proofs.scalar.read_word.Goals as goal
 

@@ -2,7 +2,7 @@ use Rattle.std.proofs.Common.{refl, sym, subst}
 use Rattle.std.specs.Prelude.{chars}
 use Rattle.std.proofs.lemmas.Bool.{iff_false}
 use Rattle.jzon.specs.Machine.{Tells}
-use Rattle.jzon.proofs.Bytes.Quotes.{quote_closes, quote_ends, string_stops}
+use Rattle.jzon.proofs.Strings.Quotes.{quote_closes, quote_ends, string_stops}
 use Rattle.jzon.proofs.string.past_quote.Goals as goal
 
 pub returns-then-has_byte-clause-quote : goal.returns-then-has_byte-clause-quote

@@ -2,8 +2,8 @@ use Rattle.std.proofs.Common.{◌≡◌, ◌≤◌, ◌+◌, ◌-◌, ◌∙◌,
 use Rattle.std.proofs.lemmas.List.{take_rest}
 use Rattle.std.specs.List.{prefix_len}
 use Rattle.jzon_base.specs.PlainBytes.{is_plain}
-use Rattle.jzon.proofs.Bytes.Scanning.{stops_run, within_run}
-use Rattle.jzon.proofs.Bytes.PlainRuns.{plain_boundary, plain_no_escape, plain_run}
+use Rattle.jzon.proofs.Texts.AsciiRuns.{stops_run, within_run}
+use Rattle.jzon.proofs.Strings.PlainRuns.{plain_boundary, plain_no_escape, plain_run}
 use Rattle.jzon.proofs.string.plain_end.Goals as goal
 
 run : (c : goal.After-plain_len) → c.plain_len.result ≡ prefix_len is_plain (drop c.args.start c.args.source.now)

@@ -3,7 +3,7 @@ use Rattle.std.specs.Prelude.{chars, encode_utf8, MatchResult}
 use Rattle.std.proofs.lemmas.Bool.{iff_false}
 use Rattle.std.proofs.lemmas.Str.{IsCharBoundary-after_ascii}
 use Rattle.jzon.specs.Machine.{string, between, from, Tells}
-use Rattle.jzon.proofs.Bytes.Escapes.{simple_is_ascii, simple_read, digits_begin, escape_stops}
+use Rattle.jzon.proofs.Strings.Escapes.{simple_is_ascii, simple_read, digits_begin, escape_stops}
 use Rattle.jzon.proofs.string.read_escape.Goals as goal
 
 pub read_unicode-requires : goal.read_unicode-requires

@@ -4,7 +4,7 @@ use Rattle.std.specs.String.{string_bytes}
 use Rattle.std.proofs.lemmas.Result.{err_from_is_err_and, MatchResult-weaker}
 use Rattle.std.proofs.lemmas.Str.{IsCharBoundary-after_ascii}
 use Rattle.jzon.specs.Machine.{string, between, from, Tells}
-use Rattle.jzon.proofs.Bytes.Quotes.{backslash_begins}
+use Rattle.jzon.proofs.Strings.Quotes.{backslash_begins}
 use Rattle.jzon.proofs.string.read_escapes.Goals as goal
 
 pub read_escape-requires : goal.read_escape-requires

@@ -1,8 +1,8 @@
 use Rattle.std.proofs.Common.{get_or, ◌+◌, ◌*◌, ap, sym, subst, arith}
 use Rattle.std.specs.Prelude.{chars}
 use Rattle.jzon.specs.Machine.{Tells}
-use Rattle.jzon.proofs.Bytes.HexDigits.{HexRead, hex_is_below_16, code_reads, second_code_reads, hex_begun, hex_more}
-use Rattle.jzon.proofs.Bytes.HexDigits.{hex_stops, hex_end, hex_small}
+use Rattle.jzon.proofs.Strings.HexDigits.{HexRead, hex_is_below_16, code_reads, second_code_reads, hex_begun, hex_more}
+use Rattle.jzon.proofs.Strings.HexDigits.{hex_stops, hex_end, hex_small}
 use Rattle.jzon.proofs.string.read_hex.Goals as goal
 
 pub loop-index-init : goal.loop-index-init

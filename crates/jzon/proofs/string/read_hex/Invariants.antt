@@ -1,4 +1,4 @@
-use Rattle.jzon.proofs.Bytes.HexDigits.{HexRead}
+use Rattle.jzon.proofs.Strings.HexDigits.{HexRead}
 use Rattle.jzon.proofs.string.read_hex.Given as goal
 
 abbrev pub invariant-loop-index : goal.invariant-loop-index

@@ -7,7 +7,7 @@ use Rattle.jzon_base.specs.declared.error.Error.TheVariants.{FailedUtf8Parsing}
 use Rattle.jzon.specs.Grammar.{is_high, is_low}
 use Rattle.jzon.specs.Meaning.{pair_char}
 use Rattle.jzon.specs.Machine.{string, between, paired, outcome_on, from, Tells}
-use Rattle.jzon.proofs.Bytes.Escapes.{second_begins, second_digits_boundary, second_stops, second_u_stops}
+use Rattle.jzon.proofs.Strings.Escapes.{second_begins, second_digits_boundary, second_stops, second_u_stops}
 use Rattle.jzon.proofs.string.read_second.Goals as goal
 
 pub returns-then-not-has_byte-clause-same : goal.returns-then-not-has_byte-clause-same

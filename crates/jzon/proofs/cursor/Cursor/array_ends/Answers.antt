@@ -1,7 +1,7 @@
 use Rattle.std.proofs.Common.{◌∙◌, sym, arith}
 use Rattle.std.specs.Prelude.{chars}
-use Rattle.jzon.proofs.Bytes.ContainerTokens.{array_closes, array_goes_on, array_stops}
-use Rattle.jzon.proofs.Bytes.ToldErrors.{told}
+use Rattle.jzon.proofs.Containers.ContainerTokens.{array_closes, array_goes_on, array_stops}
+use Rattle.jzon.proofs.Texts.ReportedErrors.{told}
 use Rattle.jzon.proofs.cursor.Cursor.array_ends.Goals as goal
 
 pub returns-in-93 : goal.returns-in-93

@@ -1,7 +1,7 @@
 use Rattle.std.proofs.Common.{refl, arith}
 use Rattle.std.proofs.lemmas.Str.{IsCharBoundary-after_ascii}
-use Rattle.jzon.proofs.Bytes.Cursors.{utf8_of}
-use Rattle.jzon.proofs.Bytes.FrameViews.{byte_within}
+use Rattle.jzon.proofs.Texts.Cursors.{utf8_of}
+use Rattle.jzon.proofs.Containers.FrameViews.{byte_within}
 use Rattle.jzon.proofs.cursor.Cursor.bump.Goals as goal
 
 pub overflow_add-self : goal.overflow_add-self

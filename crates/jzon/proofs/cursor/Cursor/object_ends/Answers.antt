@@ -1,7 +1,7 @@
 use Rattle.std.proofs.Common.{◌∙◌, sym, arith}
 use Rattle.std.specs.Prelude.{chars}
-use Rattle.jzon.proofs.Bytes.ContainerTokens.{object_closes, object_goes_on, object_stops}
-use Rattle.jzon.proofs.Bytes.ToldErrors.{told}
+use Rattle.jzon.proofs.Containers.ContainerTokens.{object_closes, object_goes_on, object_stops}
+use Rattle.jzon.proofs.Texts.ReportedErrors.{told}
 use Rattle.jzon.proofs.cursor.Cursor.object_ends.Goals as goal
 
 pub returns-in-125 : goal.returns-in-125

@@ -3,9 +3,9 @@ use Rattle.jzon_base.specs.declared.error.Error.TheVariants.{UnexpectedEndOfJson
 use Rattle.jzon_tree.specs.Value.{array, no_values, object, no_pairs}
 use Rattle.jzon.specs.Cursor.{next_byte}
 use Rattle.jzon.specs.Machine.{Frames, array_frame, before, before_key, behind, value_mark}
-use Rattle.jzon.proofs.Bytes.ContainerTokens.{array_opens, object_opens, empty_array_closes, empty_object_closes}
-use Rattle.jzon.proofs.Bytes.ContainerTokens.{array_left_open, object_left_open, element_too_deep, key_too_deep}
-use Rattle.jzon.proofs.Bytes.Cursors.{Reached, reached, goes_behind, told_on}
+use Rattle.jzon.proofs.Containers.ContainerTokens.{array_opens, object_opens, empty_array_closes, empty_object_closes}
+use Rattle.jzon.proofs.Containers.ContainerTokens.{array_left_open, object_left_open, element_too_deep, key_too_deep}
+use Rattle.jzon.proofs.Texts.Cursors.{Reached, reached, goes_behind, told_on}
 use Rattle.jzon.proofs.cursor.Cursor.open_container.Goals.{After-bump}
 use Rattle.jzon.proofs.cursor.Cursor.open_container.Goals as goal
 

@@ -5,9 +5,9 @@ use Rattle.jzon_tree.specs.View.{view}
 use Rattle.jzon.specs.Cursor.{next_byte}
 use Rattle.jzon.specs.Frames.{place_of}
 use Rattle.jzon.specs.Machine.{before, behind, value_mark}
-use Rattle.jzon.proofs.Bytes.Cursors.{utf8_of, token_goes, reached_start, fails_on}
-use Rattle.jzon.proofs.Bytes.FrameViews.{value_mark-shallow, byte_within}
-use Rattle.jzon.proofs.Bytes.ToldErrors.{has_character}
+use Rattle.jzon.proofs.Texts.Cursors.{utf8_of, token_goes, reached_start, fails_on}
+use Rattle.jzon.proofs.Containers.FrameViews.{value_mark-shallow, byte_within}
+use Rattle.jzon.proofs.Texts.ReportedErrors.{has_character}
 use Rattle.jzon.proofs.parser.Parser.begin.Goals as goal
 
 pub returns-in_err-value-in_default-clause-memory : goal.returns-in_err-value-in_default-clause-memory

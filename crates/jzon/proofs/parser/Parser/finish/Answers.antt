@@ -1,10 +1,10 @@
 use Rattle.std.specs.Prelude.{chars}
 use Rattle.jzon_tree.specs.View.{view}
 use Rattle.jzon.specs.Machine.{no_frames, behind}
-use Rattle.jzon.proofs.Bytes.Cursors.{utf8_of}
-use Rattle.jzon.proofs.Bytes.StepsByByte.{from_end}
-use Rattle.jzon.proofs.Bytes.ToldErrors.{told}
-use Rattle.jzon.proofs.Bytes.Trailing.{trailing_stops}
+use Rattle.jzon.proofs.Texts.Cursors.{utf8_of}
+use Rattle.jzon.proofs.Texts.StepsByByte.{from_end}
+use Rattle.jzon.proofs.Texts.ReportedErrors.{told}
+use Rattle.jzon.proofs.Texts.TrailingWhitespace.{trailing_stops}
 use Rattle.jzon.proofs.parser.Parser.finish.Goals as goal
 
 pub returns-then-self-clause-same : goal.returns-then-self-clause-same

@@ -10,8 +10,8 @@ use Rattle.jzon.specs.Frames.{open_in, stack_view}
 use Rattle.jzon.specs.Machine.{Frames, array_frame, object_frame, before, before_key, behind}
 use Rattle.jzon.specs.declared.cursor.Cursor.{Cursor}
 use Rattle.jzon.specs.declared.frames.Frame.{Frame}
-use Rattle.jzon.proofs.Bytes.Cursors.{Reached, reached, goes_behind, goes_on}
-use Rattle.jzon.proofs.Bytes.FrameViews.{some_more, some_put, view_object-entries}
+use Rattle.jzon.proofs.Texts.Cursors.{Reached, reached, goes_behind, goes_on}
+use Rattle.jzon.proofs.Containers.FrameViews.{some_more, some_put, view_object-entries}
 use Rattle.jzon.proofs.parser.Parser.go_on.Goals.{After-array_ends, After-object_ends}
 use Rattle.jzon.proofs.parser.Parser.go_on.Goals as goal
 

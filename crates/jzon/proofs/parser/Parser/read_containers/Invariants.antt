@@ -1,7 +1,7 @@
 use Rattle.std.proofs.Common.{◌-◌, length, vec_len}
 use Rattle.jzon.specs.Frames.{IsReady, place_of, stack_view}
 use Rattle.jzon.specs.Machine.{no_frames}
-use Rattle.jzon.proofs.Bytes.Cursors.{Reached}
+use Rattle.jzon.proofs.Texts.Cursors.{Reached}
 use Rattle.jzon.proofs.parser.Parser.read_containers.Given as goal
 
 abbrev pub invariant-loop-begun : goal.invariant-loop-begun

@@ -12,9 +12,9 @@ use Rattle.jzon.specs.Reading.{Reading}
 use Rattle.jzon.specs.declared.cursor.Cursor.{Cursor}
 use Rattle.jzon.specs.declared.frames.Begun.TheVariants.{Object as begun_object}
 use Rattle.jzon.specs.declared.frames.Frame.{Frame}
-use Rattle.jzon.proofs.Bytes.Cursors.{Reached, reached_start, reached, token_goes, goes_behind, fails_on}
-use Rattle.jzon.proofs.Bytes.FrameViews.{frames_depth-stack, fresh_is_empty, some_more, stack_view-push}
-use Rattle.jzon.proofs.Bytes.FrameViews.{value_mark-shallow}
+use Rattle.jzon.proofs.Texts.Cursors.{Reached, reached_start, reached, token_goes, goes_behind, fails_on}
+use Rattle.jzon.proofs.Containers.FrameViews.{frames_depth-stack, fresh_is_empty, some_more, stack_view-push}
+use Rattle.jzon.proofs.Containers.FrameViews.{value_mark-shallow}
 use Rattle.jzon.proofs.parser.Parser.read_elements.Goals.{After-len-depth, After-array_ends, In_ok-elements-in-Array}
 use Rattle.jzon.proofs.parser.Parser.read_elements.Goals.{then-opens_container+in_ok-begun+in-Value+in_ok-push-in-Value}
 use Rattle.jzon.proofs.parser.Parser.read_elements.Goals.{else-opens_container+in_ok-value+in_ok-push}

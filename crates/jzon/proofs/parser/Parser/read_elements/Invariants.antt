@@ -4,7 +4,7 @@ use Rattle.jzon.specs.Cursor.{next_byte}
 use Rattle.jzon.specs.Frames.{stack_view}
 use Rattle.jzon.specs.Machine.{array_frame, before}
 use Rattle.jzon_base.specs.Tokens.{end_array}
-use Rattle.jzon.proofs.Bytes.Cursors.{Reached}
+use Rattle.jzon.proofs.Texts.Cursors.{Reached}
 use Rattle.jzon.proofs.parser.Parser.read_elements.Given as goal
 
 abbrev pub invariant-loop-self : goal.invariant-loop-self

@@ -9,10 +9,9 @@ use Rattle.jzon_tree.proofs.Views.{viewed-put}
 use Rattle.jzon.specs.Cursor.{left}
 use Rattle.jzon.specs.Frames.{IsReady, place_of, stack_view}
 use Rattle.jzon.specs.Machine.{object_frame, frames_depth, before, before_key, behind, key_mark}
-use Rattle.jzon.proofs.Bytes.Cursors.{Reached, reached_start, reached, goes_behind, fails_on}
-use Rattle.jzon.proofs.Bytes.FrameViews.{frames_depth-stack, key_mark-shallow, some_put}
-use Rattle.jzon.proofs.Bytes.FrameViews.{stack_view-push}
-use Rattle.jzon.proofs.Bytes.FrameViews.{view_object-entries}
+use Rattle.jzon.proofs.Texts.Cursors.{Reached, reached_start, reached, goes_behind, fails_on}
+use Rattle.jzon.proofs.Containers.FrameViews.{frames_depth-stack, key_mark-shallow, some_put, stack_view-push}
+use Rattle.jzon.proofs.Containers.FrameViews.{view_object-entries}
 use Rattle.jzon.proofs.parser.Parser.read_entries.Goals.{After-read_key, In_ok-key, After-len-depth, After-object_ends}
 use Rattle.jzon.proofs.parser.Parser.read_entries.Goals as goal
 

@@ -4,7 +4,7 @@ use Rattle.jzon.specs.Cursor.{next_byte}
 use Rattle.jzon.specs.Frames.{stack_view}
 use Rattle.jzon.specs.Machine.{before_key}
 use Rattle.jzon_base.specs.Tokens.{end_object}
-use Rattle.jzon.proofs.Bytes.Cursors.{Reached}
+use Rattle.jzon.proofs.Texts.Cursors.{Reached}
 use Rattle.jzon.proofs.parser.Parser.read_entries.Given as goal
 
 abbrev pub invariant-loop-entries : goal.invariant-loop-entries

@@ -7,13 +7,13 @@ use Rattle.jzon_base.specs.PairList.{find}
 use Rattle.jzon_tree.specs.View.{viewed}
 use Rattle.jzon.specs.Cursor.{left, next_byte}
 use Rattle.jzon.specs.Machine.{Frames, as_key, left_at, before, before_key, after_key, object_frame, key_mark}
-use Rattle.jzon.proofs.Bytes.ContainerSteps.{open_key}
-use Rattle.jzon.proofs.Bytes.ContainerTokens.{key_closes, key_stands, key_missing, colon_read, colon_missing}
-use Rattle.jzon.proofs.Bytes.Cursors.{Reached, utf8_of, reached_start, goes_behind, told_on, fails_on}
-use Rattle.jzon.proofs.Bytes.FaultOffsets.{tells_duplicate}
-use Rattle.jzon.proofs.Bytes.FrameViews.{byte_within}
-use Rattle.jzon.proofs.Bytes.Quotes.{key_refused}
-use Rattle.jzon.proofs.Bytes.ToldErrors.{told, told_again}
+use Rattle.jzon.proofs.Containers.ContainerSteps.{open_key}
+use Rattle.jzon.proofs.Containers.ContainerTokens.{key_closes, key_stands, key_missing, colon_read, colon_missing}
+use Rattle.jzon.proofs.Texts.Cursors.{Reached, utf8_of, reached_start, goes_behind, told_on, fails_on}
+use Rattle.jzon.proofs.Texts.FaultOffsets.{tells_duplicate}
+use Rattle.jzon.proofs.Containers.FrameViews.{byte_within}
+use Rattle.jzon.proofs.Strings.Quotes.{key_refused}
+use Rattle.jzon.proofs.Texts.ReportedErrors.{told, told_again}
 use Rattle.jzon.proofs.parser.Parser.read_key.Goals.{After-go_to}
 use Rattle.jzon.proofs.parser.Parser.read_key.Goals as goal
 

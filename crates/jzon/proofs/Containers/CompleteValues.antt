@@ -1,0 +1,190 @@
+-- Over the cells of a tree the machine goes from before it to behind what it means, each move with its cell's mark.
+use Rattle.std.proofs.Common.{◌≡◌, ◌∙◌, ℕ, suc, ◌+◌, ◌-◌, List, [], ◌∷◌, ◌++◌, length, Bool, true, false, cond, ◌&&◌, ◌||◌}
+use Rattle.std.proofs.Common.{None, refl, sym, subst, ap, arith}
+use Rattle.std.specs.Prelude.{IsTrue}
+use Rattle.std.specs.List.{fold}
+use Rattle.std.specs.Option.{is_some}
+use Rattle.std.specs.Str.{bytes_eq}
+use Rattle.jzon_base.specs.PairList.{find, put}
+use Rattle.jzon_base.proofs.KnownKeys.{known-put}
+use Rattle.jzon_tree.specs.Same.{is_known}
+use Rattle.jzon_tree.specs.Writing.{is_whitespace}
+use Rattle.jzon_tree.specs.Value as value
+use Rattle.jzon_tree.specs.Value.{Value, Values, pairs_of}
+use Rattle.jzon.specs.Reading.{Reading}
+use Rattle.jzon.specs.Grammar.{Key, Node, Elements, no_elements, element, Members, no_members, member, Document}
+use Rattle.jzon.specs.Grammar.{IsWhitespace, IsKey, IsNode, AreElements, AreMembers, IsDocument}
+use Rattle.jzon.specs.Spelling.{duplicate, Cell, cell, plain, breach_if, items_cells, items_length, duplicate_if}
+use Rattle.jzon.specs.Spelling.{key_cells, node_cells, elements_cells, members_cells, cells}
+use Rattle.jzon.specs.Meaning.{bytes_of, meaning, elements_meaning, members_meaning}
+use Rattle.jzon.specs.Machine.{Entries, Frames, no_frames, array_frame, object_frame, as_key, Place, before, before_key}
+use Rattle.jzon.specs.Machine.{after_key, behind, go, move, Outcome, meant, frames_depth, value_mark, key_mark}
+use Rattle.jzon.specs.Machine.{repeated_if}
+use Rattle.jzon.proofs.Texts.ClassesOfCharacters.{whitespace-class, class_34, class_44, class_58, class_91, class_93}
+use Rattle.jzon.proofs.Texts.ClassesOfCharacters.{class_102, class_110, class_116, class_123, class_125}
+use Rattle.jzon.proofs.Texts.Runs.{Follows}
+use Rattle.jzon.proofs.Numbers.CompleteNumbers.{complete_number}
+use Rattle.jzon.proofs.Strings.CompleteStrings.{read_items, complete_string, length-items}
+
+-- ---- values of an array, with those before
+
+abbrev pub with_prefix : List Value → Values → Values
+with_prefix [] vs = vs
+with_prefix (u ∷ us) vs = value.value u (with_prefix us vs)
+
+pub with_prefix-append : (us : List Value) (v : Value) (vs : Values)
+    → with_prefix (us ++ v ∷ []) vs ≡ with_prefix us (value.value v vs)
+with_prefix-append [] v vs = refl
+with_prefix-append (u ∷ us) v vs = ap (value.value u) (with_prefix-append us v vs)
+
+pub closed-values : (us : List Value) (v : Value)
+    → value.values_of (us ++ v ∷ []) ≡ with_prefix us (value.value v value.no_values)
+closed-values [] v = refl
+closed-values (u ∷ us) v = ap (value.value u) (closed-values us v)
+
+-- ---- marks
+
+pub not_first_value : (r : Reading) (fs : Frames) (us : List Value) (v : Value)
+    → value_mark r (array_frame fs (us ++ v ∷ [])) ≡ None
+not_first_value r fs [] v = refl
+not_first_value r fs (u ∷ us) v = refl
+
+not_first_by : (r : Reading) (fs : Frames) (t : Bool) (p q : List ℕ × Value) (ps qs : Entries)
+    → key_mark r fs (cond t (p ∷ ps) (q ∷ qs)) ≡ None
+not_first_by r fs true p q ps qs = refl
+not_first_by r fs false p q ps qs = refl
+
+pub not_first_key : (r : Reading) (fs : Frames) (k : List ℕ) (v : Value) (es : Entries)
+    → key_mark r fs (put k v es) ≡ None
+not_first_key r fs k v [] = refl
+not_first_key r fs k v (e ∷ es) = not_first_by r fs (bytes_eq e.0 k) _ _ _ _
+
+-- the keys of the object so far are those that were seen
+abbrev Knows : List (List ℕ) → Entries → Type 0
+Knows seen es = (q : List ℕ) → is_some (find q es) ≡ is_known seen q
+
+knows-put : (seen : List (List ℕ)) (es : Entries) (k : List ℕ) (v : Value) → Knows seen es → Knows (k ∷ seen) (put k v es)
+knows-put seen es k v h q = known-put q k v es ∙ ap (λ t. bytes_eq k q || t) (h q)
+
+-- ---- whitespace
+
+module _ (r : Reading) (G : Outcome → Type 0) where
+  abbrev F : List Cell → Place → Type 0
+  F q p = Follows r G q p
+
+  blanks : (w : List ℕ) (p : Place) (q : List Cell) → IsWhitespace r w
+      → ((c left : ℕ) → IsTrue (is_whitespace r.strict c) → move r p c left ≡ go None p) → F q p → F (plain w q) p
+  blanks [] p q ok stays h = h
+  blanks (c ∷ w) p q ok stays h = rw (stays c (suc (length (plain w q))) ok.0) (refl, blanks w p q ok.1 stays h)
+
+  blanks_before : (w : List ℕ) (fs : Frames) (q : List Cell) → IsWhitespace r w → F q (before fs)
+      → F (plain w q) (before fs)
+  blanks_before w fs q ok h = blanks w (before fs) q ok (λ c left e. rw (whitespace-class r c e) refl) h
+
+  blanks_behind : (w : List ℕ) (fs : Frames) (v : Value) (q : List Cell) → IsWhitespace r w → F q (behind fs v)
+      → F (plain w q) (behind fs v)
+  blanks_behind w fs v q ok h = blanks w (behind fs v) q ok (λ c left e. rw (whitespace-class r c e) refl) h
+
+  -- ---- keys
+
+  complete_key : (fs : Frames) (es : Entries) (seen : List (List ℕ)) (key : Key) (k : List Cell) → Knows seen es
+      → IsKey r key → F k (before (object_frame fs es (bytes_of key.items)))
+      → F (key_cells r seen key (key_mark r fs es) k) (before_key fs es)
+  complete_key fs es seen key k knows ok h =
+      let after : List Cell = plain key.after (cell 58 None ∷ k) in
+      let closing : Cell = cell 34 (duplicate_if r seen key.items) in
+      let opened : ℕ = suc (length (items_cells key.items (closing ∷ after))) in
+      let back : opened - suc (length after) ≡ items_length key.items + 1 =
+      omega (arith, length-items key.items (closing ∷ after)) in
+      let mark : repeated_if r es (bytes_of key.items) (opened - suc (length after)) ≡ duplicate_if r seen key.items =
+      ap (λ t. breach_if (r.strict && t) (duplicate (opened - suc (length after)))) (knows (bytes_of key.items))
+      ∙ ap (λ n. breach_if (r.strict && is_known seen (bytes_of key.items)) (duplicate n)) back in
+      blanks key.before (before_key fs es) _ ok.0 (λ c left e. rw (whitespace-class r c e) refl)
+      (rw (class_34 r.strict) (
+        refl,
+        read_items r G (as_key fs es opened) [] key.items (closing ∷ after) ok.1 (
+          mark,
+          blanks key.after (after_key fs es (bytes_of key.items)) _ ok.2
+              (λ c left e. rw (whitespace-class r c e) refl) (rw (class_58 r.strict) (refl, h)),
+        ),
+      ))
+
+  -- ---- values
+
+  mutual
+    pub complete_node : (n : Node) (fs : Frames) (k : List Cell) → IsNode r n → F k (behind fs (meaning n))
+        → F (node_cells r n (frames_depth fs) (value_mark r fs) k) (before fs)
+    complete_node Node.null fs k ok h = rw (class_110 r.strict) (refl, (refl, (refl, (refl, h))))
+    complete_node (Node.boolean true) fs k ok h = rw (class_116 r.strict) (refl, (refl, (refl, (refl, h))))
+    complete_node (Node.boolean false) fs k ok h = rw (class_102 r.strict) (refl, (refl, (refl, (refl, (refl, h)))))
+    complete_node (Node.number n) fs k ok h = complete_number r G fs n k ok h
+    complete_node (Node.string is) fs k ok h = complete_string r G fs is k ok h
+    complete_node (Node.empty_array b) fs k ok h =
+        rw (class_91 r.strict) (refl, blanks_before b (array_frame fs []) _ ok (rw (class_93 r.strict) (refl, h)))
+    complete_node (Node.empty_object b) fs k ok h =
+        rw (class_123 r.strict) (
+          refl,
+          blanks b (before_key fs []) _ ok (λ c left e. rw (whitespace-class r c e) refl)
+              (rw (class_125 r.strict) (refl, h)),
+        )
+    complete_node (Node.array b n c es) fs k ok h =
+        rw (class_91 r.strict) (
+          refl,
+          blanks_before b (array_frame fs []) _ ok.0
+              (complete_node n (array_frame fs []) _ ok.1
+              (blanks_behind c (array_frame fs []) (meaning n) _ ok.2 (complete_elements es fs [] (meaning n) k ok.3 h))),
+        )
+    complete_node (Node.object key b n c ms) fs k ok h =
+        rw (class_123 r.strict) (
+          refl,
+          complete_key fs [] [] key _ (λ q. refl) ok.0
+              (blanks_before b (object_frame fs [] (bytes_of key.items)) _ ok.1
+              (complete_node n (object_frame fs [] (bytes_of key.items)) _ ok.2
+              (blanks_behind c (object_frame fs [] (bytes_of key.items)) (meaning n) _ ok.3
+              (complete_members ms fs [] (bytes_of key.items) (meaning n) (bytes_of key.items ∷ []) k
+              (knows-put [] [] (bytes_of key.items) (meaning n) (λ q. refl)) ok.4 h)))),
+        )
+
+    complete_elements : (es : Elements) (fs : Frames) (vs : List Value) (v : Value) (k : List Cell) → AreElements r es
+        → F k (behind fs (value.array (with_prefix vs (value.value v (elements_meaning es)))))
+        → F (elements_cells r es (suc (frames_depth fs)) k) (behind (array_frame fs vs) v)
+    complete_elements no_elements fs vs v k ok h =
+        rw (class_93 r.strict) (refl, subst (λ z. F k (behind fs (value.array z))) (sym (closed-values vs v)) h)
+    complete_elements (element b n c es) fs vs v k ok h =
+        let inner : Frames = array_frame fs (vs ++ v ∷ []) in
+        let rest : List Cell = plain c (elements_cells r es (suc (frames_depth fs)) k) in
+        rw (class_44 r.strict) (
+          refl,
+          blanks_before b inner _ ok.0
+              (subst (λ m. F (node_cells r n (suc (frames_depth fs)) m rest) (before inner)) (not_first_value r fs vs v)
+              (complete_node n inner rest ok.1 (blanks_behind c inner (meaning n) _ ok.2
+              (complete_elements es fs (vs ++ v ∷ []) (meaning n) k ok.3
+              (subst (λ z. F k (behind fs (value.array z)))
+              (sym (with_prefix-append vs v (value.value (meaning n) (elements_meaning es)))) h))))),
+        )
+
+    complete_members : (ms : Members) (fs : Frames) (es : Entries) (key : List ℕ) (v : Value) (seen : List (List ℕ))
+        (k : List Cell) → Knows seen (put key v es) → AreMembers r ms
+        → F k (behind fs (value.object (pairs_of (fold (λ qs p. put p.0 p.1 qs) (put key v es) (members_meaning ms)))))
+        → F (members_cells r ms seen (suc (frames_depth fs)) k) (behind (object_frame fs es key) v)
+    complete_members no_members fs es key v seen k knows ok h = rw (class_125 r.strict) (refl, h)
+    complete_members (member key' b n c ms) fs es key v seen k knows ok h =
+        let so_far : Entries = put key v es in
+        let inner : Frames = object_frame fs so_far (bytes_of key'.items) in
+        let rest : List Cell = plain b (node_cells r n (suc (frames_depth fs)) None
+        (plain c (members_cells r ms (bytes_of key'.items ∷ seen) (suc (frames_depth fs)) k))) in
+        rw (class_44 r.strict) (
+          refl,
+          subst (λ m. F (key_cells r seen key' m rest) (before_key fs so_far)) (not_first_key r fs key v es)
+              (complete_key fs so_far seen key' rest knows ok.0
+              (blanks_before b inner _ ok.1 (complete_node n inner _ ok.2 (blanks_behind c inner (meaning n) _ ok.3
+              (complete_members ms fs so_far (bytes_of key'.items) (meaning n) (bytes_of key'.items ∷ seen) k
+              (knows-put seen so_far (bytes_of key'.items) (meaning n) knows) ok.4 h))))),
+        )
+
+pub complete : (r : Reading) (d : Document) → IsDocument r d
+    → Follows r (λ o. o ≡ meant (meaning d.node)) (cells r d) (before no_frames)
+complete r d ok =
+    let G : Outcome → Type 0 = λ o. o ≡ meant (meaning d.node) in
+    blanks_before r G d.before no_frames _ ok.0 (complete_node r G d.node no_frames _ ok.1
+    (blanks_behind r G d.after no_frames (meaning d.node) [] ok.2 refl))

@@ -1,0 +1,275 @@
+-- Steps of the machine over values at the tokens of arrays and objects, by the byte that stands at an offset of a text.
+use Rattle.std.proofs.Common.{◌≡◌, ◌≢◌, ℕ, ◌+◌, ◌<◌, true, false, List, [], ◌∷◌, ◌++◌, length, drop, get_or, refl, ap}
+use Rattle.std.proofs.Common.{◌∙◌, arith, Option, Some, None, lit<}
+use Rattle.std.specs.Prelude.{chars, IsUtf8, IsTrue, nat_le}
+use Rattle.std.specs.Str.{IsCharBoundary}
+use Rattle.jzon_base.specs.PairList.{put}
+use Rattle.jzon_tree.specs.Value.{Value, values_of, pairs_of}
+use Rattle.jzon_tree.specs.Value as value
+use Rattle.jzon_tree.specs.Writing.{is_whitespace}
+use Rattle.jzon.specs.Reading.{Reading}
+use Rattle.jzon.specs.Spelling.{Breach, deep, breach_if}
+use Rattle.jzon.specs.Fault.{limit}
+use Rattle.jzon.specs.Classes.{Class, whitespace, digits, dash, quote, opens_array, closes_array, opens_object}
+use Rattle.jzon.specs.Classes.{closes_object, comma, colon, begins_null, begins_true, begins_false, class_of}
+use Rattle.jzon.specs.Machine.{Entries, Frames, frames_depth, array_frame, object_frame, as_key, between, Place, before}
+use Rattle.jzon.specs.Machine.{before_key, word, numeral, string, after_key, behind, allows_whitespace, go, bad, bad_at}
+use Rattle.jzon.specs.Machine.{value_mark, key_mark, move_before, move_before_key, move_after_key, move_empty_object}
+use Rattle.jzon.specs.Machine.{move_behind, refused, outcome_on, from, left_at}
+use Rattle.jzon.proofs.Texts.ClassesOfCharacters.{class-whitespace, class-quote, class-closes_array}
+use Rattle.jzon.proofs.Texts.ClassesOfCharacters.{class-closes_object, class-comma, class-colon, class_34, class_44}
+use Rattle.jzon.proofs.Texts.ClassesOfCharacters.{class_58, class_91, class_93, class_123, class_125, whitespace-class}
+use Rattle.jzon.proofs.Texts.AsciiRuns.{Skips, before_skips, behind_skips, space_is_ascii, wide_is_no_space}
+use Rattle.jzon.proofs.Texts.StepsByByte.{StopsAt, from_step, stops_by, IsDeep, from_deep}
+
+-- ---- opening brackets
+
+pub open_array : (r : Reading) (bs : List ℕ) (i : ℕ) (fs : Frames) → IsUtf8 bs → IsCharBoundary bs i → i < length bs
+    → get_or bs i 0 ≡ 91
+    → value_mark r fs ≡ None → from r bs (before fs) i ≡ from r bs (before (array_frame fs [])) (i + 1)
+open_array r bs i fs u at lt e h =
+    from_step r bs i (before fs) _ 91 u at lt e (lit< tt)
+    (ap (λ k. move_before r k fs 91) (class_91 r.strict) ∙ ap (λ m. go m (before (array_frame fs []))) h)
+
+pub open_object : (r : Reading) (bs : List ℕ) (i : ℕ) (fs : Frames) → IsUtf8 bs → IsCharBoundary bs i → i < length bs
+    → get_or bs i 0 ≡ 123
+    → value_mark r fs ≡ None → from r bs (before fs) i ≡ from r bs (before_key fs []) (i + 1)
+open_object r bs i fs u at lt e h =
+    from_step r bs i (before fs) _ 123 u at lt e (lit< tt)
+    (ap (λ k. move_before r k fs 123) (class_123 r.strict) ∙ ap (λ m. go m (before_key fs [])) h)
+
+-- ---- empty containers
+
+pub close_empty_array : (r : Reading) (bs : List ℕ) (i : ℕ) (fs : Frames) → IsUtf8 bs → IsCharBoundary bs i
+    → i < length bs → get_or bs i 0 ≡ 93
+    → from r bs (before (array_frame fs [])) i ≡ from r bs (behind fs (value.array value.no_values)) (i + 1)
+close_empty_array r bs i fs u at lt e =
+    from_step r bs i (before (array_frame fs [])) _ 93 u at lt e (lit< tt)
+    (ap (λ k. move_before r k (array_frame fs []) 93) (class_93 r.strict))
+
+pub close_empty_object : (r : Reading) (bs : List ℕ) (i : ℕ) (fs : Frames) → IsUtf8 bs → IsCharBoundary bs i
+    → i < length bs → get_or bs i 0 ≡ 125
+    → from r bs (before_key fs []) i ≡ from r bs (behind fs (value.object value.no_pairs)) (i + 1)
+close_empty_object r bs i fs u at lt e =
+    from_step r bs i (before_key fs []) _ 125 u at lt e (lit< tt)
+    (ap (λ k. move_before_key r k fs [] (left_at bs i)) (class_125 r.strict))
+
+-- ---- a container too many
+
+deep_go : (m : Option Breach) (p : Place) → m ≡ Some deep → IsDeep (go m p)
+deep_go m p h f rest = ap (λ n. outcome_on (go n p) f rest) h
+
+deep_bad : (m : Option Breach) → m ≡ Some deep → IsDeep (bad_at m)
+deep_bad m h f rest = ap (λ n. outcome_on (bad_at n) f rest) h
+
+deep_element_on : (r : Reading) (fs : Frames) (c : ℕ) (k : Class) → value_mark r fs ≡ Some deep
+    → is_whitespace r.strict c ≡ false → c ≢ 93 → class_of r.strict c ≡ k
+    → IsDeep (move_before r k fs c)
+deep_element_on r fs c whitespace h s n e = let yes : is_whitespace r.strict c
+    ≡ true = class-whitespace r c e in absurd (cc)
+deep_element_on r fs c closes_array h s n e = absurd (n (class-closes_array r.strict c e))
+deep_element_on r fs c digits h s n e = deep_go (value_mark r fs) _ h
+deep_element_on r fs c dash h s n e = deep_go (value_mark r fs) _ h
+deep_element_on r fs c quote h s n e = deep_go (value_mark r fs) _ h
+deep_element_on r fs c opens_array h s n e = deep_go (value_mark r fs) _ h
+deep_element_on r fs c opens_object h s n e = deep_go (value_mark r fs) _ h
+deep_element_on r fs c begins_null h s n e = deep_go (value_mark r fs) _ h
+deep_element_on r fs c begins_true h s n e = deep_go (value_mark r fs) _ h
+deep_element_on r fs c begins_false h s n e = deep_go (value_mark r fs) _ h
+deep_element_on r fs c _ h s n e = deep_bad (value_mark r fs) h
+
+-- a first element where too many containers are open
+pub deep_element : (r : Reading) (bs : List ℕ) (i : ℕ) (fs : Frames) → IsUtf8 bs → IsCharBoundary bs i → i < length bs
+    → is_whitespace r.strict (get_or bs i 0) ≡ false → get_or bs i 0 ≢ 93 → IsTrue (nat_le r.depth (frames_depth fs))
+    → from r bs (before (array_frame fs [])) i ≡ refused (limit deep) (chars (drop i bs))
+deep_element r bs i fs u at lt s n h =
+    let mark : value_mark r (array_frame fs []) ≡ Some deep = ap (λ t. breach_if t deep) h in
+    from_deep r bs i (before (array_frame fs [])) u at lt
+    (deep_element_on r (array_frame fs []) (get_or bs i 0) (class_of r.strict (get_or bs i 0)) mark s n refl)
+    (λ c wide. deep_element_on r (array_frame fs []) c (class_of r.strict c) mark (wide_is_no_space r.strict c wide)
+    (λ e. absurd (omega (arith, e))) refl)
+
+deep_key_on : (r : Reading) (fs : Frames) (c n : ℕ) (k : Class) → key_mark r fs [] ≡ Some deep
+    → is_whitespace r.strict c ≡ false → c ≢ 125 → class_of r.strict c ≡ k
+    → IsDeep (move_before_key r k fs [] n)
+deep_key_on r fs c left whitespace h s n e = let yes : is_whitespace r.strict c
+    ≡ true = class-whitespace r c e in absurd (cc)
+deep_key_on r fs c left closes_object h s n e = absurd (n (class-closes_object r.strict c e))
+deep_key_on r fs c left quote h s n e = deep_go (key_mark r fs []) _ h
+deep_key_on r fs c left _ h s n e = deep_bad (key_mark r fs []) h
+
+-- a first key where too many containers are open
+pub deep_key : (r : Reading) (bs : List ℕ) (i : ℕ) (fs : Frames) → IsUtf8 bs → IsCharBoundary bs i → i < length bs
+    → is_whitespace r.strict (get_or bs i 0) ≡ false → get_or bs i 0 ≢ 125 → IsTrue (nat_le r.depth (frames_depth fs))
+    → from r bs (before_key fs []) i ≡ refused (limit deep) (chars (drop i bs))
+deep_key r bs i fs u at lt s n h =
+    let mark : key_mark r fs [] ≡ Some deep = ap (λ t. breach_if t deep) h in
+    from_deep r bs i (before_key fs []) u at lt
+    (deep_key_on r fs (get_or bs i 0) (left_at bs i) (class_of r.strict (get_or bs i 0)) mark s n refl)
+    (λ c wide. deep_key_on r fs c (left_at bs i) (class_of r.strict c) mark (wide_is_no_space r.strict c wide)
+    (λ e. absurd (omega (arith, e))) refl)
+
+-- ---- keys and colons
+
+pub open_key : (r : Reading) (bs : List ℕ) (i : ℕ) (fs : Frames) (es : Entries) → IsUtf8 bs → IsCharBoundary bs i
+    → i < length bs → get_or bs i 0 ≡ 34
+    → key_mark r fs es ≡ None → from r bs (before_key fs es) i
+    ≡ from r bs (string (as_key fs es (left_at bs i)) [] between) (i + 1)
+open_key r bs i fs es u at lt e h =
+    from_step r bs i (before_key fs es) _ 34 u at lt e (lit< tt)
+    (ap (λ k. move_before_key r k fs es (left_at bs i)) (class_34 r.strict)
+    ∙ ap (λ m. go m (string (as_key fs es (left_at bs i)) [] between)) h)
+
+no_pairs_on : (fs : Frames) (es : Entries) → (es ≡ [] → ⊥) → move_empty_object fs es ≡ bad
+no_pairs_on fs [] h = absurd (h refl)
+no_pairs_on fs (e ∷ es) h = refl
+
+no_key_on : (r : Reading) (fs : Frames) (es : Entries) (c left : ℕ) (k : Class) → key_mark r fs es ≡ None
+    → is_whitespace r.strict c ≡ false → c ≢ 34
+    → (es ≡ [] → c ≢ 125) → class_of r.strict c ≡ k → move_before_key r k fs es left ≡ bad
+no_key_on r fs es c left whitespace h s q n e = let yes : is_whitespace r.strict c
+    ≡ true = class-whitespace r c e in absurd (cc)
+no_key_on r fs es c left quote h s q n e = absurd (q (class-quote r.strict c e))
+no_key_on r fs es c left closes_object h s q n e = no_pairs_on fs es (λ f. n f (class-closes_object r.strict c e))
+no_key_on r fs es c left _ h s q n e = ap bad_at h
+
+-- no key begins here
+pub no_key : (r : Reading) (bs : List ℕ) (i : ℕ) (fs : Frames) (es : Entries) → key_mark r fs es ≡ None
+    → (i < length bs → is_whitespace r.strict (get_or bs i 0) ≡ false) → ((i < length bs) × (get_or bs i 0 ≡ 34) → ⊥)
+    → (es ≡ [] → get_or bs i 0 ≢ 125)
+    → StopsAt r (before_key fs es) bs i
+no_key r bs i fs es h s q n =
+    stops_by r (before_key fs es) bs i refl
+    (λ lt. no_key_on r fs es (get_or bs i 0) (left_at bs i) (class_of r.strict (get_or bs i 0)) h (s lt)
+    (λ e. q (lt, e)) n refl)
+    (λ c wide. no_key_on r fs es c (left_at bs i) (class_of r.strict c) h (wide_is_no_space r.strict c wide)
+    (λ e. absurd (omega (arith, e))) (λ f e. absurd (omega (arith, e))) refl)
+
+pub before_key_skips : (r : Reading) (fs : Frames) (es : Entries) → Skips r (before_key fs es) (is_whitespace r.strict)
+before_key_skips r fs es = record {
+  ascii = space_is_ascii r.strict;
+  stays = λ c n e. ap
+      (λ x. move_before_key r x fs es n) (whitespace-class r c e);
+}
+
+pub after_key_skips : (r : Reading) (fs : Frames) (es : Entries) (k : List ℕ)
+    → Skips r (after_key fs es k) (is_whitespace r.strict)
+after_key_skips r fs es k = record {
+  ascii = space_is_ascii r.strict;
+  stays = λ c n e. ap
+      (λ x. move_after_key x fs es k) (whitespace-class r c e);
+}
+
+pub colon_goes : (r : Reading) (bs : List ℕ) (i : ℕ) (fs : Frames) (es : Entries) (k : List ℕ) → IsUtf8 bs
+    → IsCharBoundary bs i → i < length bs
+    → get_or bs i 0 ≡ 58 → from r bs (after_key fs es k) i ≡ from r bs (before (object_frame fs es k)) (i + 1)
+colon_goes r bs i fs es k u at lt e =
+    from_step r bs i (after_key fs es k) _ 58 u at lt e (lit< tt)
+    (ap (λ x. move_after_key x fs es k) (class_58 r.strict))
+
+-- where whitespace may stand, it is passed over
+pub whitespace_skips : (r : Reading) (p : Place) → allows_whitespace p ≡ true → Skips r p (is_whitespace r.strict)
+whitespace_skips r (before fs) e = before_skips r fs
+whitespace_skips r (before_key fs es) e = before_key_skips r fs es
+whitespace_skips r (after_key fs es k) e = after_key_skips r fs es k
+whitespace_skips r (behind fs v) e = behind_skips r fs v
+whitespace_skips r (word fs v l ls) e = absurd (cc)
+whitespace_skips r (numeral fs negative x) e = absurd (cc)
+whitespace_skips r (string role bs x) e = absurd (cc)
+
+no_colon_on : (r : Reading) (fs : Frames) (es : Entries) (k : List ℕ) (c : ℕ) (x : Class)
+    → is_whitespace r.strict c ≡ false
+    → c ≢ 58 → class_of r.strict c ≡ x
+    → move_after_key x fs es k ≡ bad
+no_colon_on r fs es k c whitespace s n e = let yes : is_whitespace r.strict c
+    ≡ true = class-whitespace r c e in absurd (cc)
+no_colon_on r fs es k c colon s n e = absurd (n (class-colon r.strict c e))
+no_colon_on r fs es k c _ s n e = refl
+
+-- no colon follows the key here
+pub no_colon : (r : Reading) (bs : List ℕ) (i : ℕ) (fs : Frames) (es : Entries) (k : List ℕ)
+    → (i < length bs → is_whitespace r.strict (get_or bs i 0) ≡ false)
+    → ((i < length bs) × (get_or bs i 0 ≡ 58) → ⊥) → StopsAt r (after_key fs es k) bs i
+no_colon r bs i fs es k s n =
+    stops_by r (after_key fs es k) bs i refl
+    (λ lt. no_colon_on r fs es k (get_or bs i 0) (class_of r.strict (get_or bs i 0)) (s lt) (λ e. n (lt, e)) refl)
+    (λ c wide. no_colon_on r fs es k c (class_of r.strict c) (wide_is_no_space r.strict c wide)
+    (λ e. absurd (omega (arith, e))) refl)
+
+-- ---- behind an element
+
+pub element_comma : (r : Reading) (bs : List ℕ) (i : ℕ) (fs : Frames) (vs : List Value) (v : Value) → IsUtf8 bs
+    → IsCharBoundary bs i → i < length bs
+    → get_or bs i 0 ≡ 44 → from r bs (behind (array_frame fs vs) v) i
+    ≡ from r bs (before (array_frame fs (vs ++ v ∷ []))) (i + 1)
+element_comma r bs i fs vs v u at lt e =
+    from_step r bs i (behind (array_frame fs vs) v) _ 44 u at lt e (lit< tt)
+    (ap (λ x. move_behind x (array_frame fs vs) v) (class_44 r.strict))
+
+pub close_array : (r : Reading) (bs : List ℕ) (i : ℕ) (fs : Frames) (vs : List Value) (v : Value) → IsUtf8 bs
+    → IsCharBoundary bs i → i < length bs
+    → get_or bs i 0 ≡ 93 → from r bs (behind (array_frame fs vs) v) i
+    ≡ from r bs (behind fs (value.array (values_of (vs ++ v ∷ [])))) (i + 1)
+close_array r bs i fs vs v u at lt e =
+    from_step r bs i (behind (array_frame fs vs) v) _ 93 u at lt e (lit< tt)
+    (ap (λ x. move_behind x (array_frame fs vs) v) (class_93 r.strict))
+
+no_element_on : (r : Reading) (fs : Frames) (vs : List Value) (v : Value) (c : ℕ) (x : Class)
+    → is_whitespace r.strict c ≡ false → c ≢ 44 → c ≢ 93
+    → class_of r.strict c ≡ x → move_behind x (array_frame fs vs) v ≡ bad
+no_element_on r fs vs v c whitespace s m n e = let yes : is_whitespace r.strict c
+    ≡ true = class-whitespace r c e in absurd (cc)
+no_element_on r fs vs v c comma s m n e = absurd (m (class-comma r.strict c e))
+no_element_on r fs vs v c closes_array s m n e = absurd (n (class-closes_array r.strict c e))
+no_element_on r fs vs v c _ s m n e = refl
+
+-- neither a comma nor the closing bracket of the array stands here
+pub no_element : (r : Reading) (bs : List ℕ) (i : ℕ) (fs : Frames) (vs : List Value) (v : Value)
+    → (i < length bs → is_whitespace r.strict (get_or bs i 0) ≡ false)
+    → ((i < length bs) × (get_or bs i 0 ≡ 44) → ⊥) → ((i < length bs) × (get_or bs i 0 ≡ 93) → ⊥)
+    → StopsAt r (behind (array_frame fs vs) v) bs i
+no_element r bs i fs vs v s m n =
+    stops_by r (behind (array_frame fs vs) v) bs i refl
+    (λ lt. no_element_on r fs vs v (get_or bs i 0) (class_of r.strict (get_or bs i 0)) (s lt) (λ e. m (lt, e))
+    (λ e. n (lt, e)) refl)
+    (λ c wide. no_element_on r fs vs v c (class_of r.strict c) (wide_is_no_space r.strict c wide)
+    (λ e. absurd (omega (arith, e))) (λ e. absurd (omega (arith, e))) refl)
+
+-- ---- behind the value of a key
+
+pub entry_comma : (r : Reading) (bs : List ℕ) (i : ℕ) (fs : Frames) (es : Entries) (k : List ℕ) (v : Value) → IsUtf8 bs
+    → IsCharBoundary bs i → i < length bs
+    → get_or bs i 0 ≡ 44 → from r bs (behind (object_frame fs es k) v) i
+    ≡ from r bs (before_key fs (put k v es)) (i + 1)
+entry_comma r bs i fs es k v u at lt e =
+    from_step r bs i (behind (object_frame fs es k) v) _ 44 u at lt e (lit< tt)
+    (ap (λ x. move_behind x (object_frame fs es k) v) (class_44 r.strict))
+
+pub close_object : (r : Reading) (bs : List ℕ) (i : ℕ) (fs : Frames) (es : Entries) (k : List ℕ) (v : Value) → IsUtf8 bs
+    → IsCharBoundary bs i → i < length bs
+    → get_or bs i 0 ≡ 125 → from r bs (behind (object_frame fs es k) v) i
+    ≡ from r bs (behind fs (value.object (pairs_of (put k v es)))) (i + 1)
+close_object r bs i fs es k v u at lt e =
+    from_step r bs i (behind (object_frame fs es k) v) _ 125 u at lt e (lit< tt)
+    (ap (λ x. move_behind x (object_frame fs es k) v) (class_125 r.strict))
+
+no_entry_on : (r : Reading) (fs : Frames) (es : Entries) (k : List ℕ) (v : Value) (c : ℕ) (x : Class)
+    → is_whitespace r.strict c ≡ false → c ≢ 44 → c ≢ 125
+    → class_of r.strict c ≡ x → move_behind x (object_frame fs es k) v ≡ bad
+no_entry_on r fs es k v c whitespace s m n e = let yes : is_whitespace r.strict c
+    ≡ true = class-whitespace r c e in absurd (cc)
+no_entry_on r fs es k v c comma s m n e = absurd (m (class-comma r.strict c e))
+no_entry_on r fs es k v c closes_object s m n e = absurd (n (class-closes_object r.strict c e))
+no_entry_on r fs es k v c _ s m n e = refl
+
+-- neither a comma nor the closing bracket of the object stands here
+pub no_entry : (r : Reading) (bs : List ℕ) (i : ℕ) (fs : Frames) (es : Entries) (k : List ℕ) (v : Value)
+    → (i < length bs → is_whitespace r.strict (get_or bs i 0) ≡ false)
+    → ((i < length bs) × (get_or bs i 0 ≡ 44) → ⊥) → ((i < length bs) × (get_or bs i 0 ≡ 125) → ⊥)
+    → StopsAt r (behind (object_frame fs es k) v) bs i
+no_entry r bs i fs es k v s m n =
+    stops_by r (behind (object_frame fs es k) v) bs i refl
+    (λ lt. no_entry_on r fs es k v (get_or bs i 0) (class_of r.strict (get_or bs i 0)) (s lt) (λ e. m (lt, e))
+    (λ e. n (lt, e)) refl)
+    (λ c wide. no_entry_on r fs es k v c (class_of r.strict c) (wide_is_no_space r.strict c wide)
+    (λ e. absurd (omega (arith, e))) (λ e. absurd (omega (arith, e))) refl)

@@ -1,0 +1,178 @@
+-- The tokens of arrays and objects, by the offset of the parser's cursor.
+use Rattle.std.proofs.Common.{◌≡◌, ◌≢◌, ◌∙◌, ℕ, ◌+◌, ◌<◌, ◌≤◌, ◌&&◌, false, List, [], ◌∷◌, ◌++◌, length, drop, refl}
+use Rattle.std.proofs.Common.{arith, None, lit<}
+use Rattle.std.specs.Prelude.{chars}
+use Rattle.std.specs.Option.{is_some}
+use Rattle.jzon_base.specs.PairList.{find, put}
+use Rattle.jzon_base.specs.declared.error.Error.TheVariants.{UnexpectedEndOfJson, ExceededDepthLimit}
+use Rattle.jzon_tree.specs.Value.{Value, array, no_values, values_of, object, no_pairs, pairs_of}
+use Rattle.jzon.specs.Cursor.{left, next_byte, IsPast, IsBehind}
+use Rattle.jzon.specs.Machine.{Entries, Frames, array_frame, object_frame, as_key, between, before, before_key, string}
+use Rattle.jzon.specs.Machine.{after_key, behind, frames_depth, value_mark, key_mark, from, from_closed, left_at}
+use Rattle.jzon.specs.Machine.{stopped, TellsUnlessMemory}
+use Rattle.jzon.specs.declared.cursor.Cursor.{Cursor}
+use Rattle.jzon.proofs.Containers.ContainerSteps.{open_array, open_object, close_empty_array, close_empty_object}
+use Rattle.jzon.proofs.Containers.ContainerSteps.{deep_element, deep_key, element_comma, close_array, no_element}
+use Rattle.jzon.proofs.Containers.ContainerSteps.{entry_comma, close_object, no_entry, open_key, no_key, colon_goes}
+use Rattle.jzon.proofs.Containers.ContainerSteps.{no_colon}
+use Rattle.jzon.proofs.Texts.Cursors.{Reached, utf8_of, byte_goes}
+use Rattle.jzon.proofs.Containers.FrameViews.{byte_within, too_deep}
+use Rattle.jzon.proofs.Strings.Quotes.{key_goes}
+use Rattle.jzon.proofs.Texts.StepsByByte.{from_stop}
+use Rattle.jzon.proofs.Texts.ReportedErrors.{told_deep, told_end}
+
+-- ---- opening brackets
+
+pub array_opens : (t u : Cursor) (fs : Frames) → IsPast t.reading t.source.now (t.index + 1) u → next_byte t ≡ 91
+    → value_mark t.reading fs ≡ None
+    → IsBehind t u × (left t (before fs) ≡ left u (before (array_frame fs [])))
+array_opens t u fs past e mark =
+    byte_goes t u (before fs) (before (array_frame fs [])) past refl
+    (open_array t.reading t.source.now t.index fs (utf8_of t) t.boundary
+    (byte_within t.source.now t.index 91 e (lit< tt)) e mark)
+
+pub object_opens : (t u : Cursor) (fs : Frames) → IsPast t.reading t.source.now (t.index + 1) u → next_byte t ≡ 123
+    → value_mark t.reading fs ≡ None
+    → IsBehind t u × (left t (before fs) ≡ left u (before_key fs []))
+object_opens t u fs past e mark =
+    byte_goes t u (before fs) (before_key fs []) past refl
+    (open_object t.reading t.source.now t.index fs (utf8_of t) t.boundary
+    (byte_within t.source.now t.index 123 e (lit< tt)) e mark)
+
+-- ---- behind an opening bracket
+
+pub empty_array_closes : (t u : Cursor) (fs : Frames) → IsPast t.reading t.source.now (t.index + 1) u → next_byte t ≡ 93
+    → IsBehind t u × (left t (before (array_frame fs [])) ≡ left u (behind fs (array no_values)))
+empty_array_closes t u fs past e =
+    byte_goes t u (before (array_frame fs [])) (behind fs (array no_values)) past refl
+    (close_empty_array t.reading t.source.now t.index fs (utf8_of t) t.boundary
+    (byte_within t.source.now t.index 93 e (lit< tt)) e)
+
+pub empty_object_closes : (t u : Cursor) (fs : Frames) → IsPast t.reading t.source.now (t.index + 1) u
+    → next_byte t ≡ 125
+    → IsBehind t u × (left t (before_key fs []) ≡ left u (behind fs (object no_pairs)))
+empty_object_closes t u fs past e =
+    byte_goes t u (before_key fs []) (behind fs (object no_pairs)) past refl
+    (close_empty_object t.reading t.source.now t.index fs (utf8_of t) t.boundary
+    (byte_within t.source.now t.index 125 e (lit< tt)) e)
+
+pub array_left_open : (t : Cursor) (fs : Frames) → length t.source.now ≤ t.index
+    → TellsUnlessMemory (chars t.source.now) UnexpectedEndOfJson (left t (before (array_frame fs [])))
+array_left_open t fs le = told_end t.reading t.source.now t.index (before (array_frame fs [])) _ refl le refl
+
+pub object_left_open : (t : Cursor) (fs : Frames) → length t.source.now ≤ t.index
+    → TellsUnlessMemory (chars t.source.now) UnexpectedEndOfJson (left t (before_key fs []))
+object_left_open t fs le = told_end t.reading t.source.now t.index (before_key fs []) _ refl le refl
+
+pub element_too_deep : (t : Cursor) (fs : Frames) → t.index < length t.source.now → next_byte t ≢ 93
+    → t.reading.depth ≤ frames_depth fs
+    → TellsUnlessMemory (chars t.source.now) ExceededDepthLimit (left t (before (array_frame fs [])))
+element_too_deep t fs lt n le =
+    told_deep (chars t.source.now) (chars (drop t.index t.source.now)) _
+    (deep_element t.reading t.source.now t.index fs (utf8_of t) t.boundary lt (t.past_whitespace lt) n
+    (too_deep t.reading.depth (frames_depth fs) le))
+
+pub key_too_deep : (t : Cursor) (fs : Frames) → t.index < length t.source.now → next_byte t ≢ 125
+    → t.reading.depth ≤ frames_depth fs
+    → TellsUnlessMemory (chars t.source.now) ExceededDepthLimit (left t (before_key fs []))
+key_too_deep t fs lt n le =
+    told_deep (chars t.source.now) (chars (drop t.index t.source.now)) _
+    (deep_key t.reading t.source.now t.index fs (utf8_of t) t.boundary lt (t.past_whitespace lt) n
+    (too_deep t.reading.depth (frames_depth fs) le))
+
+-- ---- behind an element
+
+pub array_closes : (t u : Cursor) (fs : Frames) (vs : List Value) (v : Value)
+    → IsPast t.reading t.source.now (t.index + 1) u → next_byte t ≡ 93
+    → IsBehind t u × (left t (behind (array_frame fs vs) v) ≡ left u (behind fs (array (values_of (vs ++ v ∷ [])))))
+array_closes t u fs vs v past e =
+    byte_goes t u (behind (array_frame fs vs) v) (behind fs (array (values_of (vs ++ v ∷ [])))) past refl
+    (close_array t.reading t.source.now t.index fs vs v (utf8_of t) t.boundary
+    (byte_within t.source.now t.index 93 e (lit< tt)) e)
+
+pub array_goes_on : (t u : Cursor) (fs : Frames) (vs : List Value) (v : Value)
+    → IsPast t.reading t.source.now (t.index + 1) u → next_byte t ≡ 44
+    → IsBehind t u × (left t (behind (array_frame fs vs) v) ≡ left u (before (array_frame fs (vs ++ v ∷ []))))
+array_goes_on t u fs vs v past e =
+    byte_goes t u (behind (array_frame fs vs) v) (before (array_frame fs (vs ++ v ∷ []))) past refl
+    (element_comma t.reading t.source.now t.index fs vs v (utf8_of t) t.boundary
+    (byte_within t.source.now t.index 44 e (lit< tt)) e)
+
+pub array_stops : (t : Cursor) (fs : Frames) (vs : List Value) (v : Value) → next_byte t ≢ 44 → next_byte t ≢ 93
+    → left t (behind (array_frame fs vs) v) ≡ stopped (chars (drop t.index t.source.now))
+array_stops t fs vs v no_comma no_end =
+    from_stop t.reading t.source.now t.index (behind (array_frame fs vs) v) (utf8_of t) t.boundary
+    (no_element t.reading t.source.now t.index fs vs v t.past_whitespace (λ h. no_comma h.1) (λ h. no_end h.1))
+
+-- ---- behind the value of a key
+
+pub object_closes : (t u : Cursor) (fs : Frames) (es : Entries) (k : List ℕ) (v : Value)
+    → IsPast t.reading t.source.now (t.index + 1) u → next_byte t ≡ 125
+    → IsBehind t u × (left t (behind (object_frame fs es k) v) ≡ left u (behind fs (object (pairs_of (put k v es)))))
+object_closes t u fs es k v past e =
+    byte_goes t u (behind (object_frame fs es k) v) (behind fs (object (pairs_of (put k v es)))) past refl
+    (close_object t.reading t.source.now t.index fs es k v (utf8_of t) t.boundary
+    (byte_within t.source.now t.index 125 e (lit< tt)) e)
+
+pub object_goes_on : (t u : Cursor) (fs : Frames) (es : Entries) (k : List ℕ) (v : Value)
+    → IsPast t.reading t.source.now (t.index + 1) u → next_byte t ≡ 44
+    → IsBehind t u × (left t (behind (object_frame fs es k) v) ≡ left u (before_key fs (put k v es)))
+object_goes_on t u fs es k v past e =
+    byte_goes t u (behind (object_frame fs es k) v) (before_key fs (put k v es)) past refl
+    (entry_comma t.reading t.source.now t.index fs es k v (utf8_of t) t.boundary
+    (byte_within t.source.now t.index 44 e (lit< tt)) e)
+
+pub object_stops : (t : Cursor) (fs : Frames) (es : Entries) (k : List ℕ) (v : Value) → next_byte t ≢ 44
+    → next_byte t ≢ 125
+    → left t (behind (object_frame fs es k) v) ≡ stopped (chars (drop t.index t.source.now))
+object_stops t fs es k v no_comma no_end =
+    from_stop t.reading t.source.now t.index (behind (object_frame fs es k) v) (utf8_of t) t.boundary
+    (no_entry t.reading t.source.now t.index fs es k v t.past_whitespace (λ h. no_comma h.1) (λ h. no_end h.1))
+
+-- ---- keys
+
+-- a key was read up to its closing quote, which stands before this offset
+pub key_closes : (t : Cursor) (fs : Frames) (es : Entries) (text : List ℕ) (end : ℕ) → next_byte t ≡ 34
+    → key_mark t.reading fs es ≡ None
+    → from t.reading t.source.now (string (as_key fs es (left_at t.source.now t.index)) [] between) (t.index + 1)
+    ≡ from_closed t.reading t.source.now (as_key fs es (left_at t.source.now t.index)) text end
+    → left t (before_key fs es) ≡ from_closed t.reading t.source.now (as_key fs es (left_at t.source.now t.index)) text
+    end
+key_closes t fs es text end e mark read =
+    open_key t.reading t.source.now t.index fs es (utf8_of t) t.boundary
+    (byte_within t.source.now t.index 34 e (lit< tt)) e mark ∙ read
+
+-- and no earlier one refuses it
+pub key_stands : (t u : Cursor) (fs : Frames) (es : Entries) (text : List ℕ) (end : ℕ)
+    → left t (before_key fs es) ≡ from_closed t.reading t.source.now (as_key fs es (left_at t.source.now t.index)) text
+    end
+    → (t.reading.strict && is_some (find text es)) ≡ false → t.index < end → IsPast t.reading t.source.now end u
+    → Reached t (before_key fs es) u (after_key fs es text)
+key_stands t u fs es text end read new lt past = record {
+  text = past.text;
+  reading = past.reading;
+  within = omega (arith, past.within);
+  same = read ∙ key_goes t.reading t.source.now fs es (left_at t.source.now t.index) text end new
+      ∙ past.same (after_key fs es text) refl;
+}
+
+pub key_missing : (t : Cursor) (fs : Frames) (es : Entries) → key_mark t.reading fs es ≡ None → next_byte t ≢ 34
+    → (es ≡ [] → next_byte t ≢ 125)
+    → left t (before_key fs es) ≡ stopped (chars (drop t.index t.source.now))
+key_missing t fs es mark no_quote no_end =
+    from_stop t.reading t.source.now t.index (before_key fs es) (utf8_of t) t.boundary
+    (no_key t.reading t.source.now t.index fs es mark t.past_whitespace (λ here. no_quote here.1) no_end)
+
+pub colon_read : (t u : Cursor) (fs : Frames) (es : Entries) (k : List ℕ)
+    → IsPast t.reading t.source.now (t.index + 1) u → next_byte t ≡ 58
+    → IsBehind t u × (left t (after_key fs es k) ≡ left u (before (object_frame fs es k)))
+colon_read t u fs es k past e =
+    byte_goes t u (after_key fs es k) (before (object_frame fs es k)) past refl
+    (colon_goes t.reading t.source.now t.index fs es k (utf8_of t) t.boundary
+    (byte_within t.source.now t.index 58 e (lit< tt)) e)
+
+pub colon_missing : (t : Cursor) (fs : Frames) (es : Entries) (k : List ℕ) → next_byte t ≢ 58
+    → left t (after_key fs es k) ≡ stopped (chars (drop t.index t.source.now))
+colon_missing t fs es k none =
+    from_stop t.reading t.source.now t.index (after_key fs es k) (utf8_of t) t.boundary
+    (no_colon t.reading t.source.now t.index fs es k t.past_whitespace (λ here. none here.1))

@@ -1,0 +1,181 @@
+-- Over the cells of a number the machine goes from its first character to behind it, each move with its cell's mark.
+use Rattle.std.proofs.Common.{◌≡◌, ◌∙◌, ℕ, List, [], ◌∷◌, Bool, true, false, not, ◌&&◌, ◌==◌, Option, Some, None, refl}
+use Rattle.std.proofs.Common.{sym, subst, ap, eqb-true, append-nil}
+use Rattle.std.specs.Prelude.{IsTrue}
+use Rattle.std.specs.Char.{is_ascii_digit}
+use Rattle.jzon_tree.specs.Value as value
+use Rattle.jzon.specs.Reading.{Reading}
+use Rattle.jzon.specs.Grammar.{Sign, unsigned, plus, minus, Exponent, Numeral, AreDigits, IsDigits, IsWhole, IsExponent}
+use Rattle.jzon.specs.Grammar.{IsNumeral}
+use Rattle.jzon.specs.Spelling.{Breach, Cell, plain, onto, digits_cells, drops_too_many, keeps_too_many}
+use Rattle.jzon.specs.Spelling.{sign_cells, exponent_cells, fraction_cells, numeral_cells}
+use Rattle.jzon.specs.Meaning.{number_of}
+use Rattle.jzon.specs.Classes.{Class, digits, point, letter_e, class_of, NumberPlace, zero_read}
+use Rattle.jzon.specs.Classes.{whole, fraction, lettered, exponent, begun}
+use Rattle.jzon.specs.Machine.{Frames, Place, before, numeral, behind, Outcome, meant_at, last_numeral, value_mark}
+use Rattle.jzon.specs.Machine.{number_value, exponent_of, move_behind, move_after_whole}
+use Rattle.jzon.specs.Machine.{move_numeral}
+use Rattle.jzon.proofs.Texts.ClassesOfCharacters.{digits-class, letter_e-class, class_43, class_45, class_46}
+use Rattle.jzon.proofs.Numbers.NumberLimits.{onto-onto}
+use Rattle.jzon.proofs.Texts.Runs.{Meets, Follows}
+
+module _ (r : Reading) (G : Outcome → Type 0) (fs : Frames) (negative : Bool) where
+  abbrev F : List Cell → NumberPlace → Type 0
+  F q x = Follows r G q (numeral fs negative x)
+
+  -- the value of these parts is whole
+  abbrev B : List ℕ → List ℕ → Option Exponent → List Cell → Type 0
+  B ws ds x q = Follows r G q (behind fs (number_value negative ws ds x))
+
+  -- ---- the exponent
+
+  past_exponent : (class : Class) (ws ds : List ℕ) (l : ℕ) (s : Sign) (xs : List ℕ) (c : ℕ) (m : Option Breach)
+      (H : Place → Type 0)
+      → Meets (move_behind class fs (number_value negative ws ds (exponent_of l s (onto xs [])))) m H
+      → Meets (move_numeral (exponent ws ds l s xs) class fs negative c) m H
+  past_exponent digits ws ds l s xs c m H h = absurd h
+  past_exponent _ ws ds l s xs c m H h = h
+
+  read_exponent : (ws ds : List ℕ) (l : ℕ) (s : Sign) (xs es : List ℕ) (k : List Cell) → AreDigits es
+      → B ws ds (exponent_of l s (onto xs es)) k → F (plain es k) (exponent ws ds l s xs)
+  read_exponent ws ds l s xs [] [] ok h = h
+  read_exponent ws ds l s xs [] (y ∷ k) ok h =
+      past_exponent (class_of r.strict y.char) ws ds l s xs y.char y.mark (λ p. Follows r G k p) h
+  read_exponent ws ds l s xs (e ∷ es) k ok h =
+      rw (digits-class r.strict e ok.0) (refl, read_exponent ws ds l s (e ∷ xs) es k ok.1 h)
+
+  read_letter : (ws ds : List ℕ) (l : ℕ) (s : Sign) (es : List ℕ) (k : List Cell) → IsDigits es
+      → B ws ds (exponent_of l s es) k → F (sign_cells s (plain es k)) (lettered ws ds l)
+  read_letter ws ds l s [] k ok h = absurd ok
+  read_letter ws ds l unsigned (e ∷ es) k ok h =
+      rw (digits-class r.strict e ok.0) (refl, read_exponent ws ds l unsigned (e ∷ []) es k ok.1 h)
+  read_letter ws ds l plus (e ∷ es) k ok h =
+      rw (class_43 r.strict) (
+        refl,
+        rw (digits-class r.strict e ok.0)
+            (refl, read_exponent ws ds l plus (e ∷ []) es k ok.1 h),
+      )
+  read_letter ws ds l minus (e ∷ es) k ok h =
+      rw (class_45 r.strict) (
+        refl,
+        rw (digits-class r.strict e ok.0)
+            (refl, read_exponent ws ds l minus (e ∷ []) es k ok.1 h),
+      )
+
+  -- ---- the fraction
+
+  past_fraction : (class : Class) (ws ds : List ℕ) (c : ℕ) (m : Option Breach) (H : Place → Type 0)
+      → Meets (move_behind class fs (number_value negative ws (onto ds []) None)) m H
+      → Meets (move_numeral (fraction ws ds) class fs negative c) m H
+  past_fraction digits ws ds c m H h = absurd h
+  past_fraction letter_e ws ds c m H h = absurd h
+  past_fraction _ ws ds c m H h = h
+
+  read_fraction : (ws ds es : List ℕ) (x : Option Exponent) (k : List Cell) → AreDigits es → IsExponent x
+      → B ws (onto ds es) x k
+      → F (digits_cells (keeps_too_many ws) ds es (exponent_cells x k)) (fraction ws ds)
+  read_fraction ws ds [] None [] ok x_ok h = h
+  read_fraction ws ds [] None (y ∷ k) ok x_ok h =
+      past_fraction (class_of r.strict y.char) ws ds y.char y.mark (λ p. Follows r G k p) h
+  read_fraction ws ds [] (Some x) k ok x_ok h =
+      rw (letter_e-class r.strict x.letter x_ok.0)
+      (refl, read_letter ws (onto ds []) x.letter x.sign x.digits k x_ok.1 h)
+  read_fraction ws ds (e ∷ es) x k ok x_ok h =
+      rw (digits-class r.strict e ok.0) (refl, read_fraction ws (e ∷ ds) es x k ok.1 x_ok h)
+
+  -- ---- whole digits
+
+  -- at this place the whole digits ws are read, and what follows isn't one more
+  record EndsWhole (x : NumberPlace) (ws : List ℕ) : Type 1 where
+    past : (class : Class) (c : ℕ) (m : Option Breach) (H : Place → Type 0)
+        → Meets (move_after_whole class fs negative ws c) m H → Meets (move_numeral x class fs negative c) m H
+    ends : G (meant_at fs (number_value negative ws [] None)) → G (last_numeral x fs negative)
+
+  zero_ends : EndsWhole zero_read (48 ∷ [])
+  zero_ends = record { past = λ class c m H h. h; ends = λ h. h }
+
+  past_digits : (class : Class) (ds : List ℕ) (c : ℕ) (m : Option Breach) (H : Place → Type 0)
+      → Meets (move_after_whole class fs negative (onto ds []) c) m H
+      → Meets (move_numeral (whole ds) class fs negative c) m H
+  past_digits digits ds c m H h = absurd h
+  past_digits _ ds c m H h = h
+
+  digits_end : (ds : List ℕ) → EndsWhole (whole ds) (onto ds [])
+  digits_end ds = record { past = λ class c m H h. past_digits class ds c m H h; ends = λ h. h }
+
+  past_whole : (class : Class) (ws : List ℕ) (c : ℕ) (m : Option Breach) (H : Place → Type 0)
+      → Meets (move_behind class fs (number_value negative ws [] None)) m H
+      → Meets (move_after_whole class fs negative ws c) m H
+  past_whole point ws c m H h = absurd h
+  past_whole letter_e ws c m H h = absurd h
+  past_whole _ ws c m H h = h
+
+  read_after_whole : (x : NumberPlace) (ws ds : List ℕ) (e : Option Exponent) (k : List Cell) → EndsWhole x ws
+      → AreDigits ds → IsExponent e → B ws ds e k → F (fraction_cells ws ds (exponent_cells e k)) x
+  read_after_whole x ws [] None [] end ok e_ok h = end.ends h
+  read_after_whole x ws [] None (y ∷ k) end ok e_ok h =
+      end.past (class_of r.strict y.char) y.char y.mark (λ p. Follows r G k p)
+      (past_whole (class_of r.strict y.char) ws y.char y.mark (λ p. Follows r G k p) h)
+  read_after_whole x ws [] (Some e) k end ok e_ok h =
+      end.past (class_of r.strict e.letter) e.letter None _ (rw (letter_e-class r.strict e.letter e_ok.0)
+      (refl, read_letter ws [] e.letter e.sign e.digits k e_ok.1 h))
+  read_after_whole x ws (d ∷ ds) e k end ok e_ok h =
+      end.past (class_of r.strict 46) 46 None _ (rw (class_46 r.strict)
+      (refl, rw (digits-class r.strict d ok.0) (refl, read_fraction ws (d ∷ []) ds e k ok.1 e_ok h)))
+
+  read_whole : (ds es : List ℕ) (k : List Cell) → AreDigits es → F k (whole (onto es ds))
+      → F (digits_cells drops_too_many ds es k) (whole ds)
+  read_whole ds [] k ok h = h
+  read_whole ds (e ∷ es) k ok h = rw (digits-class r.strict e ok.0) (refl, read_whole (e ∷ ds) es k ok.1 h)
+
+  in_order : (d : ℕ) (es : List ℕ) → onto (onto es (d ∷ [])) [] ≡ d ∷ es
+  in_order d es = onto-onto es (d ∷ []) [] ∙ ap (λ l. d ∷ l) (append-nil es)
+
+  read_first : (is_zero : Bool) (d : ℕ) (es : List ℕ) (k : List Cell) → d == 48 ≡ is_zero → IsWhole (d ∷ es)
+      → ((x : NumberPlace) → EndsWhole x (d ∷ es) → F k x)
+      → F (digits_cells drops_too_many (d ∷ []) es k) (begun is_zero d)
+  read_first true d [] k e ok h = h zero_read (subst (λ z. EndsWhole zero_read (z ∷ [])) (sym (eqb-true d 48 e)) zero_ends)
+  read_first true d (x ∷ es) k e ok h = absurd (no_zero (is_ascii_digit d) (d == 48) e ok.0)
+    where
+      no_zero : (a b : Bool) → b ≡ true → IsTrue (a && not b) → ⊥
+      no_zero true b e h = cc
+      no_zero false b e h = cc
+  read_first false d [] k e ok h = h (whole (d ∷ [])) (digits_end (d ∷ []))
+  read_first false d (x ∷ es) k e ok h =
+      read_whole (d ∷ []) (x ∷ es) k ok.1 (h (whole (onto (x ∷ es) (d ∷ [])))
+      (subst (EndsWhole (whole (onto (x ∷ es) (d ∷ [])))) (in_order d (x ∷ es)) (digits_end (onto (x ∷ es) (d ∷ [])))))
+
+  first_digit : (d : ℕ) (es : List ℕ) → IsWhole (d ∷ es) → IsTrue (is_ascii_digit d)
+  first_digit d [] ok = ok
+  first_digit d (x ∷ es) ok = both (is_ascii_digit d) _ ok.0
+    where
+      both : (a b : Bool) → IsTrue (a && b) → IsTrue a
+      both true b h = refl
+      both false b h = absurd (cc)
+
+  read_magnitude : (d : ℕ) (es ds : List ℕ) (x : Option Exponent) (k : List Cell) → IsWhole (d ∷ es) → AreDigits ds
+      → IsExponent x → B (d ∷ es) ds x k
+      → F (digits_cells drops_too_many (d ∷ []) es (fraction_cells (d ∷ es) ds (exponent_cells x k))) (begun (d == 48) d)
+  read_magnitude d es ds x k ok ds_ok x_ok h =
+      read_first (d == 48) d es _ refl ok (λ p end. read_after_whole p (d ∷ es) ds x k end ds_ok x_ok h)
+
+module _ (r : Reading) (G : Outcome → Type 0) (fs : Frames) where
+  read_signed : (negative : Bool) (ws ds : List ℕ) (x : Option Exponent) (k : List Cell) → IsWhole ws → AreDigits ds
+      → IsExponent x → Follows r G k (behind fs (number_value negative ws ds x))
+      → Follows r G (numeral_cells (record { negative = negative; whole = ws; fraction = ds; exponent = x })
+      (value_mark r fs) k) (before fs)
+  read_signed negative [] ds x k ok ds_ok x_ok h = absurd ok
+  read_signed true (d ∷ es) ds x k ok ds_ok x_ok h =
+      rw (class_45 r.strict) (
+        refl,
+        rw (digits-class r.strict d (first_digit r G fs true d es ok))
+            (refl, read_magnitude r G fs true d es ds x k ok ds_ok x_ok h),
+      )
+  read_signed false (d ∷ es) ds x k ok ds_ok x_ok h =
+      rw (digits-class r.strict d (first_digit r G fs false d es ok))
+      (refl, read_magnitude r G fs false d es ds x k ok ds_ok x_ok h)
+
+  pub complete_number : (n : Numeral) (k : List Cell) → IsNumeral n
+      → Follows r G k (behind fs (value.number (number_of n)))
+      → Follows r G (numeral_cells n (value_mark r fs) k) (before fs)
+  complete_number n k ok h = read_signed n.negative n.whole n.fraction n.exponent k ok.0 ok.1 ok.2 h

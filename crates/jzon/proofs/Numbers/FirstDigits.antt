@@ -1,0 +1,50 @@
+-- The first digit behind a minus, by the byte that stands there.
+use Rattle.std.proofs.Common.{◌≡◌, ℕ, ◌+◌, ◌<◌, true, List, length, get_or, refl, ap, ◌∙◌}
+use Rattle.std.specs.Prelude.{IsUtf8, IsTrue, ◌==◌}
+use Rattle.std.specs.Char.{is_ascii_digit}
+use Rattle.std.specs.Str.{IsCharBoundary}
+use Rattle.jzon.specs.Reading.{Reading}
+use Rattle.jzon.specs.Classes.{Class, whitespace, digits, dash, cross, point, letter_e, quote, opens_array}
+use Rattle.jzon.specs.Classes.{closes_array}
+use Rattle.jzon.specs.Classes.{opens_object, closes_object, comma, colon, begins_null, begins_true, begins_false, other}
+use Rattle.jzon.specs.Classes.{class_of, signed, begun}
+use Rattle.jzon.specs.Machine.{Frames, numeral, bad, move_numeral, from}
+use Rattle.jzon.proofs.Texts.ClassesOfCharacters.{class-digits, digits-class}
+use Rattle.jzon.proofs.Texts.StepsByByte.{StopsAt, from_step, digit_is_ascii}
+
+no_digit_on : (r : Reading) (fs : Frames) (c : ℕ) (k : Class) → (IsTrue (is_ascii_digit c) → ⊥)
+    → class_of r.strict c ≡ k → move_numeral signed k fs true c ≡ bad
+no_digit_on r fs c digits h e = absurd (h (class-digits r.strict c e))
+no_digit_on r fs c whitespace h e = refl
+no_digit_on r fs c dash h e = refl
+no_digit_on r fs c cross h e = refl
+no_digit_on r fs c point h e = refl
+no_digit_on r fs c letter_e h e = refl
+no_digit_on r fs c quote h e = refl
+no_digit_on r fs c opens_array h e = refl
+no_digit_on r fs c closes_array h e = refl
+no_digit_on r fs c opens_object h e = refl
+no_digit_on r fs c closes_object h e = refl
+no_digit_on r fs c comma h e = refl
+no_digit_on r fs c colon h e = refl
+no_digit_on r fs c begins_null h e = refl
+no_digit_on r fs c begins_true h e = refl
+no_digit_on r fs c begins_false h e = refl
+no_digit_on r fs c other h e = refl
+
+pub no_digit_stops : (r : Reading) (bs : List ℕ) (i : ℕ) (fs : Frames)
+    → ((i < length bs) × IsTrue (is_ascii_digit (get_or bs i 0)) → ⊥)
+    → StopsAt r (numeral fs true signed) bs i
+no_digit_stops r bs i fs none = record {
+  ends = refl;
+  bad = λ c there. no_digit_on r fs c (class_of r.strict c)
+      (λ d. let h = there (digit_is_ascii c d) in none (h.0, ap is_ascii_digit h.1 ∙ d)) refl;
+}
+
+pub digit_goes : (r : Reading) (bs : List ℕ) (i : ℕ) (fs : Frames) → IsUtf8 bs → IsCharBoundary bs i → (i < length bs)
+    × IsTrue (is_ascii_digit (get_or bs i 0))
+    → from r bs (numeral fs true signed) i ≡ from r bs (numeral fs true (begun (get_or bs i 0 == 48) (get_or bs i 0)))
+    (i + 1)
+digit_goes r bs i fs u at (lt, d) =
+    from_step r bs i (numeral fs true signed) _ (get_or bs i 0) u at lt refl (digit_is_ascii (get_or bs i 0) d)
+    (ap (λ k. move_numeral signed k fs true (get_or bs i 0)) (digits-class r.strict (get_or bs i 0) d))

@@ -1,0 +1,228 @@
+-- The digits of a number before its exponent, by the bytes of a text.
+use Rattle.std.proofs.Common.{◌≡◌, ◌∙◌, ℕ, ◌+◌, ◌<◌, ◌≤◌, Bool, true, false, not, if◌then◌else◌, ◌==◌, List, [], ◌∷◌}
+use Rattle.std.proofs.Common.{◌++◌, length, drop, get_or, pos, refl, sym, ap, subst, arith, eqb-true, true≢false}
+use Rattle.std.proofs.Common.{length-append}
+use Rattle.std.specs.Prelude.{chars, IsUtf8, IsTrue}
+use Rattle.std.specs.Char.{is_ascii_digit}
+use Rattle.std.specs.Str.{IsCharBoundary}
+use Rattle.std.specs.List.{All, take_while}
+use Rattle.std.proofs.lemmas.Bool.{ne_eqb}
+use Rattle.std.proofs.lemmas.Bool.Decides.{nat_tests}
+use Rattle.std.proofs.lemmas.List.Elements.{All-nil, All-cons}
+use Rattle.std.proofs.lemmas.Str.{IsCharBoundary-before_ascii, IsCharBoundary-after_ascii}
+use Rattle.jzon_base.specs.Digits.{IsDigit, dropped, kept_fraction, read_number}
+use Rattle.jzon_base.specs.DigitLimits.{AreFewEnough, IsFirstTooMany}
+use Rattle.jzon_base.specs.declared.digits.DigitFault.{DigitFault}
+use Rattle.jzon_base.specs.declared.digits.DigitFault.TheVariants.{Whole, Fraction}
+use Rattle.jzon_base.specs.declared.error.Error.TheVariants.{ExceededDepthLimit}
+use Rattle.jzon_base.proofs.Kept.{kept_len_is_longest}
+use Rattle.jzon_tree.specs.Value as value
+use Rattle.jzon.specs.Reading.{Reading, usual}
+use Rattle.jzon.specs.Grammar.{AreDigits, IsDigits, is_exponent_letter}
+use Rattle.jzon.specs.Spelling.{digit}
+use Rattle.jzon.specs.Fault.{limit}
+use Rattle.jzon.specs.Classes.{begun, pointed, lettered}
+use Rattle.jzon.specs.Machine.{Frames, numeral, behind, Outcome, refused, outcome, from, stopped, Tells}
+use Rattle.jzon.proofs.Numbers.DigitRuns.{refuse_fraction}
+use Rattle.jzon.proofs.Numbers.NumeralOutcomes.{NextFails, ReadsWhole, reads_zero, reads_digits, whole_to_point}
+use Rattle.jzon.proofs.Numbers.NumeralOutcomes.{whole_to_letter, whole_to_end, fraction_to_letter, fraction_to_end}
+use Rattle.jzon.proofs.Numbers.NumeralOutcomes.{stop_pointed}
+use Rattle.jzon.proofs.Texts.StepsByByte.{digit_is_ascii}
+use Rattle.jzon.proofs.Numbers.NumeralOffsets.{next_is, next_fails, AreDigitsAt, digits_stand, some_digits, no_digits}
+
+-- ---- whole digits
+
+-- all digits that stand there, of which d is the first
+all_digits : (r : Reading) (d : ℕ) (ws cs rest : List ℕ) → (d == 48) ≡ false → IsTrue (is_ascii_digit d) → AreDigits ws
+    → NextFails is_ascii_digit rest
+    → d ∷ cs ≡ ws ++ rest → ReadsWhole r d ws cs rest
+all_digits r d [] cs rest some is_digit ok stop e =
+    let no_more : is_ascii_digit d ≡ false = subst (NextFails is_ascii_digit) (sym e) stop in
+    absurd (true≢false (sym is_digit ∙ no_more))
+all_digits r d (w ∷ es) cs rest some is_digit ok stop e =
+    let first : d ≡ w = cc in
+    let others : cs ≡ es ++ rest = cc in
+    rw (others, ← first) (reads_digits r d es rest some ok.1 stop)
+
+pub record WholeStands (bs : List ℕ) (i : ℕ) (ws : List ℕ) : Type 0 where
+  pub all : All IsDigit ws
+  pub boundary : IsCharBoundary bs (i + length ws)
+  pub reads : (r : Reading) → ReadsWhole r (get_or bs i 0) ws (chars (drop (i + 1) bs))
+      (chars (drop (i + length ws) bs))
+
+pub whole_stands : (bs : List ℕ) (i : ℕ) (ws : List ℕ) → IsUtf8 bs → i < length bs
+    → IsTrue (is_ascii_digit (get_or bs i 0))
+    → ws ≡ (if get_or bs i 0 == 48 then 48 ∷ [] else take_while is_ascii_digit (drop i bs)) → WholeStands bs i ws
+whole_stands bs i ws u lt is_digit e = by_first (get_or bs i 0 == 48) refl e
+  where
+    here : IsCharBoundary bs i
+    here = IsCharBoundary-before_ascii bs i lt (digit_is_ascii (get_or bs i 0) is_digit)
+
+    after : IsCharBoundary bs (i + 1)
+    after = IsCharBoundary-after_ascii bs i u lt (digit_is_ascii (get_or bs i 0) is_digit)
+
+    by_first : (t : Bool) → (get_or bs i 0 == 48) ≡ t → ws ≡
+        (if t then 48 ∷ [] else take_while is_ascii_digit (drop i bs)) → WholeStands bs i ws
+    by_first true is_zero e = subst (WholeStands bs i) (sym e) (record {
+      all = All-cons IsDigit 48 [] (omega arith, omega arith) (All-nil IsDigit);
+      boundary = after;
+      reads = λ r. reads_zero r (get_or bs i 0) (chars (drop (i + 1) bs)) is_zero;
+    })
+    by_first false other e =
+        let k = digits_stand bs i ws u here e in
+        let first : get_or bs i 0 ∷ chars (drop (i + 1) bs) ≡ ws ++ chars (drop (i + length ws) bs) =
+        sym (next_is bs i (get_or bs i 0) u here lt refl (digit_is_ascii (get_or bs i 0) is_digit)) ∙ k.split in
+        record {
+          all = k.all;
+          boundary = k.boundary;
+          reads = λ r. all_digits r (get_or bs i 0) ws (chars (drop (i + 1) bs)) (chars (drop (i + length ws) bs)) other
+              is_digit k.digits k.next first;
+        }
+
+-- ---- whole digits and fraction digits
+
+-- Behind the first digit, which stands at offset i, the digits ws and ds are read up to offset e, where a digit may be
+-- missing.
+pub record ReadsMagnitude (bs : List ℕ) (i : ℕ) (ws ds : List ℕ) (e : ℕ) (missing : Bool) : Type 0 where
+  pub after : i < e
+  pub boundary : IsCharBoundary bs e
+  pub all_whole : All IsDigit ws
+  pub all_fraction : All IsDigit ds
+  pub to_letter : AreFewEnough ws ds → missing ≡ false → (r : Reading) (fs : Frames) (negative : Bool) → e < length bs
+      → IsTrue (is_exponent_letter (get_or bs e 0))
+      → from r bs (numeral fs negative (begun (get_or bs i 0 == 48) (get_or bs i 0))) (i + 1)
+      ≡ from r bs (numeral fs negative (lettered ws ds (get_or bs e 0))) (e + 1)
+  pub to_end : AreFewEnough ws ds → missing ≡ false → (r : Reading) (fs : Frames) (negative : Bool)
+      → (e < length bs → is_exponent_letter (get_or bs e 0) ≡ false)
+      → from r bs (numeral fs negative (begun (get_or bs i 0 == 48) (get_or bs i 0))) (i + 1)
+      ≡ from r bs (behind fs (value.number (read_number (not negative) ws ds (pos 0)))) e
+  pub stops : AreFewEnough ws ds → missing ≡ true → (r : Reading) (fs : Frames) (negative : Bool)
+      → from r bs (numeral fs negative (begun (get_or bs i 0 == 48) (get_or bs i 0))) (i + 1)
+      ≡ stopped (chars (drop e bs))
+  pub refuses : (f : DigitFault) → IsFirstTooMany ws ds f → (r : Reading) (fs : Frames) (negative : Bool)
+      → Tells (chars bs) ExceededDepthLimit (from r bs (numeral fs negative
+      (begun (get_or bs i 0 == 48) (get_or bs i 0))) (i + 1))
+
+-- a refusal at a digit is told by this error
+tells_digit : (t rest : List ℕ) (o : Outcome) → o ≡ refused (limit digit) rest → Tells t ExceededDepthLimit o
+tells_digit t rest o e = subst (Tells t ExceededDepthLimit) (sym e) refl
+
+pub letter_is_ascii : (c : ℕ) → is_exponent_letter c ≡ true → c < 128
+letter_is_ascii c h = grind (arith, nat_tests)
+
+keeps_no_fraction : (ws : List ℕ) → kept_fraction ws [] ≡ 0
+keeps_no_fraction ws = omega (arith, (kept_len_is_longest (ws ++ [])).within, length-append ws [])
+
+whole_too_many : (bs : List ℕ) (i : ℕ) (ws ds : List ℕ) → WholeStands bs i ws → 32768 ≤ dropped ws ds
+    → (r : Reading) (fs : Frames) (negative : Bool)
+    → Tells (chars bs) ExceededDepthLimit (from r bs (numeral fs negative (begun (get_or bs i 0 == 48) (get_or bs i 0)))
+    (i + 1))
+unfolding from
+whole_too_many bs i ws ds w many r fs negative =
+    let k = (w.reads r).refuses fs negative ds many in
+    tells_digit (chars bs) k.0 _ k.1
+
+pub reads_whole_alone : (bs : List ℕ) (i : ℕ) (ws : List ℕ) → IsUtf8 bs → WholeStands bs i ws
+    → ((i + length ws < length bs) × (get_or bs (i + length ws) 0 ≡ 46) → ⊥)
+    → ReadsMagnitude bs i ws [] (i + length ws) false
+unfolding from
+reads_whole_alone bs i ws u w no_point =
+    let e = i + length ws in record {
+      after = omega (arith, (w.reads usual).some);
+      boundary = w.boundary;
+      all_whole = w.all;
+      all_fraction = All-nil IsDigit;
+      to_letter = λ few has r fs negative lt letter. whole_to_letter r (get_or bs i 0) (get_or bs e 0) ws
+          (chars (drop (i + 1) bs)) (chars (drop (e + 1) bs)) fs negative
+          (subst (ReadsWhole r (get_or bs i 0) ws (chars (drop (i + 1) bs)))
+          (next_is bs e (get_or bs e 0) u w.boundary lt refl (letter_is_ascii (get_or bs e 0) letter)) (w.reads r))
+          (omega (arith, few)) letter;
+      to_end = λ few has r fs negative no_letter. whole_to_end r (get_or bs i 0) ws (chars (drop (i + 1) bs))
+          (chars (drop e bs)) fs negative (w.reads r) (omega (arith, few))
+          (next_fails (λ c. c == 46) bs e (λ c h. omega (arith, eqb-true c 46 h)) u w.boundary
+          (λ lt. ne_eqb (get_or bs e 0) 46 (λ same. no_point (lt, same))))
+          (next_fails is_exponent_letter bs e letter_is_ascii u w.boundary no_letter);
+      stops = λ few lacks r fs negative. absurd (true≢false (sym lacks));
+      refuses = too_many;
+    }
+  where
+    too_many : (f : DigitFault) → IsFirstTooMany ws [] f → (r : Reading) (fs : Frames) (negative : Bool)
+        → Tells (chars bs) ExceededDepthLimit (from r bs (numeral fs negative
+        (begun (get_or bs i 0 == 48) (get_or bs i 0))) (i + 1))
+    too_many (Whole k) h r fs negative = whole_too_many bs i ws [] w h.0 r fs negative
+    too_many (Fraction k) h r fs negative = absurd (omega (arith, h.0, keeps_no_fraction ws))
+
+-- With a point at offset p: what is left is what stands behind it.
+to_point : (bs : List ℕ) (i p : ℕ) (ws ds : List ℕ) → IsUtf8 bs → WholeStands bs i ws → p ≡ i + length ws
+    → p < length bs → get_or bs p 0 ≡ 46
+    → dropped ws ds < 32768 → (r : Reading) (fs : Frames) (negative : Bool)
+    → from r bs (numeral fs negative (begun (get_or bs i 0 == 48) (get_or bs i 0))) (i + 1)
+    ≡ from r bs (numeral fs negative (pointed ws)) (p + 1)
+unfolding from
+to_point bs i p ws ds u w at lt is_point few r fs negative =
+    let reads : ReadsWhole r (get_or bs i 0) ws (chars (drop (i + 1) bs)) (chars (drop p bs)) =
+    subst (λ n. ReadsWhole r (get_or bs i 0) ws (chars (drop (i + 1) bs)) (chars (drop n bs))) (sym at) (w.reads r) in
+    let boundary : IsCharBoundary bs p = subst (IsCharBoundary bs) (sym at) w.boundary in
+    whole_to_point r (get_or bs i 0) ws (chars (drop (i + 1) bs)) (chars (drop (p + 1) bs)) ds fs negative
+    (subst (ReadsWhole r (get_or bs i 0) ws (chars (drop (i + 1) bs)))
+    (next_is bs p 46 u boundary lt is_point (omega arith)) reads) few
+
+fraction_too_many : (bs : List ℕ) (j : ℕ) (ws ds : List ℕ) → AreDigitsAt bs j ds → 32769 ≤ kept_fraction ws ds
+    → (r : Reading) (fs : Frames) (negative : Bool)
+    → Tells (chars bs) ExceededDepthLimit (from r bs (numeral fs negative (pointed ws)) j)
+unfolding from
+fraction_too_many bs j ws ds k many r fs negative =
+    let some : 0 < length ds = omega (arith, (kept_len_is_longest (ws ++ ds)).within, length-append ws ds) in
+    tells_digit (chars bs) (drop 32768 ds ++ chars (drop (j + length ds) bs)) _
+    (ap (λ cs. outcome r cs (numeral fs negative (pointed ws))) k.split
+    ∙ refuse_fraction r fs negative ws ds (chars (drop (j + length ds) bs)) (some_digits ds k.digits some) many)
+
+-- The digits behind it are ds, and none is missing if there are some.
+pub reads_whole_and_fraction : (bs : List ℕ) (i p : ℕ) (ws ds : List ℕ) → IsUtf8 bs → WholeStands bs i ws
+    → p ≡ i + length ws → p < length bs
+    → get_or bs p 0 ≡ 46 → ds ≡ take_while is_ascii_digit (drop (p + 1) bs)
+    → ReadsMagnitude bs i ws ds (p + 1 + length ds) (length ds == 0)
+unfolding from
+reads_whole_and_fraction bs i p ws ds u w at lt is_point same =
+    let k : AreDigitsAt bs (p + 1) ds = digits_stand bs (p + 1) ds u
+    (IsCharBoundary-after_ascii bs p u lt (omega (arith, is_point))) same in
+    let e : ℕ = p + 1 + length ds in
+    let there : (length ds == 0) ≡ false → IsDigits ds =
+    λ has. some_digits ds k.digits (not_none (length ds) has) in
+    let begins : dropped ws ds < 32768 → (r : Reading) (fs : Frames) (negative : Bool)
+    → from r bs (numeral fs negative (begun (get_or bs i 0 == 48) (get_or bs i 0))) (i + 1)
+    ≡ outcome r (ds ++ chars (drop e bs)) (numeral fs negative (pointed ws)) =
+    λ few r fs negative. to_point bs i p ws ds u w at lt is_point few r fs negative
+    ∙ ap (λ cs. outcome r cs (numeral fs negative (pointed ws))) k.split in
+    record {
+      after = omega (arith, at);
+      boundary = k.boundary;
+      all_whole = w.all;
+      all_fraction = k.all;
+      to_letter = λ few has r fs negative below letter. begins (omega (arith, few)) r fs negative
+          ∙ ap (λ cs. outcome r (ds ++ cs) (numeral fs negative (pointed ws)))
+          (next_is bs e (get_or bs e 0) u k.boundary below refl (letter_is_ascii (get_or bs e 0) letter))
+          ∙ fraction_to_letter r (get_or bs e 0) ws ds (chars (drop (e + 1) bs)) fs negative (there has)
+          (omega (arith, few)) letter;
+      to_end = λ few has r fs negative no_letter. begins (omega (arith, few)) r fs negative
+          ∙ fraction_to_end r ws ds (chars (drop e bs)) fs negative (there has) (omega (arith, few)) k.next
+          (next_fails is_exponent_letter bs e letter_is_ascii u k.boundary no_letter);
+      stops = λ few lacks r fs negative. begins (omega (arith, few)) r fs negative
+          ∙ ap (λ cs. outcome r cs (numeral fs negative (pointed ws)))
+          (no_digits ds (chars (drop e bs)) (eqb-true (length ds) 0 lacks))
+          ∙ stop_pointed r fs negative ws (chars (drop e bs)) k.next;
+      refuses = too_many k;
+    }
+  where
+    not_none : (n : ℕ) → (n == 0) ≡ false → 0 < n
+    not_none n h = grind (arith, nat_tests)
+
+    too_many : AreDigitsAt bs (p + 1) ds → (f : DigitFault) → IsFirstTooMany ws ds f
+        → (r : Reading) (fs : Frames) (negative : Bool)
+        → Tells (chars bs) ExceededDepthLimit (from r bs (numeral fs negative
+        (begun (get_or bs i 0 == 48) (get_or bs i 0))) (i + 1))
+    too_many k (Whole n) h r fs negative = whole_too_many bs i ws ds w h.0 r fs negative
+    too_many k (Fraction n) h r fs negative =
+        subst (Tells (chars bs) ExceededDepthLimit) (sym (to_point bs i p ws ds u w at lt is_point (omega (arith, h.0))
+        r fs negative))
+        (fraction_too_many bs (p + 1) ws ds k h.0 r fs negative)

@@ -1,0 +1,213 @@
+-- The digits of a number, by the bytes of a text.
+use Rattle.std.proofs.Common.{◌≡◌, ◌∙◌, ℕ, suc, ◌+◌, ◌<◌, ◌≤◌, Bool, true, false, cond, ◌==◌, List, [], ◌∷◌, ◌++◌}
+use Rattle.std.proofs.Common.{length, take, drop, get_or, refl, sym, ap, subst, arith, drop-cons, add-one, eqb-true}
+use Rattle.std.proofs.Common.{not}
+use Rattle.std.specs.Prelude.{chars, IsUtf8}
+use Rattle.std.specs.Char.{is_ascii_digit}
+use Rattle.std.specs.Str.{IsCharBoundary}
+use Rattle.std.specs.List.{All, take_while, prefix_len}
+use Rattle.std.proofs.lemmas.Bool.{ne_eqb}
+use Rattle.std.proofs.lemmas.Bool.Decides.{nat_tests}
+use Rattle.std.proofs.lemmas.List.{drop-drop, length-drop, get_or-drop}
+use Rattle.std.proofs.lemmas.List.Elements.{All-nil, All-cons}
+use Rattle.std.proofs.lemmas.List.Folds.{length-prefix_len}
+use Rattle.std.proofs.lemmas.List.Sums.{prefix_len-le-length}
+use Rattle.std.proofs.lemmas.Str.{IsUtf8-drop, IsCharBoundary-from_drop, IsCharBoundary-after_ascii}
+use Rattle.jzon_base.specs.Decimal.{signed}
+use Rattle.jzon_base.specs.Digits.{IsDigit, digits_number, read_number}
+use Rattle.jzon_tree.specs.Value as value
+use Rattle.jzon.specs.Reading.{Reading}
+use Rattle.jzon.specs.Grammar.{Sign, plus, minus, AreDigits, IsDigits}
+use Rattle.jzon.specs.Meaning as meaning
+use Rattle.jzon.specs.Classes.{lettered, signed_exponent}
+use Rattle.jzon.specs.Machine.{Frames, numeral, behind, outcome, from, stopped}
+use Rattle.jzon.proofs.Texts.AsciiRuns.{chars-ascii, IsUtf8-past_ascii, stops_run}
+use Rattle.jzon.proofs.Texts.StepsByByte.{digit_is_ascii}
+use Rattle.jzon.proofs.Containers.LiteralLetters.{first_byte, some_byte}
+use Rattle.jzon.proofs.Numbers.NumeralOutcomes.{NextFails, stop_lettered, stop_signed, unsigned_to_end, signed_to_end}
+use Rattle.jzon.proofs.Numbers.NumeralOutcomes.{letter_to_plus, letter_to_minus}
+
+-- ---- one byte
+
+-- an ASCII byte is the next character
+pub next_is : (bs : List ℕ) (i b : ℕ) → IsUtf8 bs → IsCharBoundary bs i → i < length bs → get_or bs i 0 ≡ b → b < 128
+    → chars (drop i bs) ≡ b ∷ chars (drop (i + 1) bs)
+next_is bs i b u at lt e ascii =
+    let split : drop i bs ≡ b ∷ drop (i + 1) bs = drop-cons bs i 0 lt ∙ ap (λ z. z ∷ drop (suc i) bs) e
+    ∙ ap (λ n. b ∷ drop n bs) (sym (add-one i)) in
+    ap chars split ∙ chars-ascii b (drop (i + 1) bs) (subst IsUtf8 split (IsUtf8-drop bs i u at)) ascii
+
+-- A test that ASCII characters alone pass fails for the next character where it fails for the next byte.
+pub next_fails : (test : ℕ → Bool) (bs : List ℕ) (i : ℕ) → ((c : ℕ) → test c ≡ true → c < 128) → IsUtf8 bs
+    → IsCharBoundary bs i
+    → (i < length bs → test (get_or bs i 0) ≡ false) → NextFails test (chars (drop i bs))
+next_fails test bs i ascii u at h = over (chars (drop i bs)) refl
+  where
+    at_first : (v : Bool) (c : ℕ) (cs : List ℕ) → chars (drop i bs) ≡ c ∷ cs → test c ≡ v → v ≡ false
+    at_first false c cs e t = refl
+    at_first true c cs e t =
+        let w = IsUtf8-drop bs i u at in
+        let some : 0 < length (drop i bs) = some_byte (drop i bs) c cs e in
+        let here : get_or bs i 0 ≡ c =
+        ap (λ n. get_or bs n 0) (omega arith) ∙ sym (get_or-drop i bs 0 0)
+        ∙ first_byte (drop i bs) c cs w e (ascii c t) in
+        sym t ∙ ap test (sym here) ∙ h (omega (arith, some, length-drop i bs))
+
+    over : (cs : List ℕ) → chars (drop i bs) ≡ cs → NextFails test cs
+    over [] e = tt
+    over (c ∷ cs) e = at_first (test c) c cs e refl
+
+-- ---- digits
+
+digit_bounds : (c : ℕ) → is_ascii_digit c ≡ true → IsDigit c
+digit_bounds c e = (grind (arith, nat_tests), grind (arith, nat_tests))
+
+-- the text begins with the digits ds, and no digit follows them
+record Begins (bs ds : List ℕ) : Type 0 where
+  split : chars bs ≡ ds ++ chars (drop (length ds) bs)
+  digits : AreDigits ds
+  all : All IsDigit ds
+  utf8 : IsUtf8 (drop (length ds) bs)
+
+begins_one : (b : ℕ) (bs : List ℕ) (v : Bool) (n : ℕ) → is_ascii_digit b ≡ v → IsUtf8 (b ∷ bs)
+    → (IsUtf8 bs → Begins bs (take n bs))
+    → Begins (b ∷ bs) (take (cond v (1 + n) 0) (b ∷ bs))
+begins_one b bs false n e u ih = record { split = refl; digits = tt; all = All-nil IsDigit; utf8 = u }
+begins_one b bs true n e u ih =
+    let k = ih (IsUtf8-past_ascii b bs u (digit_is_ascii b e)) in
+    let m : suc n ≡ 1 + n = omega arith in
+    subst (λ j. Begins (b ∷ bs) (take j (b ∷ bs))) m (record {
+      split = chars-ascii b bs u (digit_is_ascii b e) ∙ ap (λ cs. b ∷ cs) k.split;
+      digits = (e, k.digits);
+      all = All-cons IsDigit b (take n bs) (digit_bounds b e) k.all;
+      utf8 = k.utf8;
+    })
+
+begins : (bs : List ℕ) → IsUtf8 bs → Begins bs (take_while is_ascii_digit bs)
+begins [] u = record { split = refl; digits = tt; all = All-nil IsDigit; utf8 = u }
+begins (b ∷ bs) u = begins_one b bs (is_ascii_digit b) (prefix_len is_ascii_digit bs) refl u (λ w. begins bs w)
+
+-- The digits ds stand at offset i of the text, and no digit follows them.
+pub record AreDigitsAt (bs : List ℕ) (i : ℕ) (ds : List ℕ) : Type 0 where
+  pub split : chars (drop i bs) ≡ ds ++ chars (drop (i + length ds) bs)
+  pub digits : AreDigits ds
+  pub all : All IsDigit ds
+  pub boundary : IsCharBoundary bs (i + length ds)
+  pub next : NextFails is_ascii_digit (chars (drop (i + length ds) bs))
+
+pub digits_stand : (bs : List ℕ) (i : ℕ) (ds : List ℕ) → IsUtf8 bs → IsCharBoundary bs i
+    → ds ≡ take_while is_ascii_digit (drop i bs) → AreDigitsAt bs i ds
+digits_stand bs i ds u at e =
+    let k : Begins (drop i bs) ds = subst (Begins (drop i bs)) (sym e) (begins (drop i bs) (IsUtf8-drop bs i u at)) in
+    let n : length ds ≡ prefix_len is_ascii_digit (drop i bs) = ap length e
+    ∙ length-prefix_len is_ascii_digit (drop i bs) in
+    let behind : drop (length ds) (drop i bs) ≡ drop (i + length ds) bs = drop-drop (length ds) i bs in
+    let at_end : IsCharBoundary bs (i + length ds) =
+    IsCharBoundary-from_drop bs (i + length ds) (omega (
+      arith,
+      n,
+      prefix_len-le-length is_ascii_digit (drop i bs),
+      length-drop i bs,
+      at.0,
+    )) (subst IsUtf8 behind k.utf8) in
+    record {
+      split = k.split ∙ ap (λ z. ds ++ chars z) behind;
+      digits = k.digits;
+      all = k.all;
+      boundary = at_end;
+      next = next_fails is_ascii_digit bs (i + length ds) digit_is_ascii u at_end
+          (stops_run is_ascii_digit bs i (length ds) n);
+    }
+
+-- ---- exponents
+
+-- Behind the letter of an exponent its digits xs are read up to offset e, with this sign.
+pub record ReadsExponent (bs : List ℕ) (i : ℕ) (positive : Bool) (xs : List ℕ) (e : ℕ) : Type 0 where
+  pub after : i ≤ e
+  pub boundary : IsCharBoundary bs e
+  pub all : All IsDigit xs
+  pub number : 0 < length xs → (r : Reading) (fs : Frames) (negative : Bool) (ws ds : List ℕ) (l : ℕ)
+      → from r bs (numeral fs negative (lettered ws ds l)) i
+      ≡ from r bs (behind fs (value.number (read_number (not negative) ws ds (signed positive (digits_number xs))))) e
+  pub missing : length xs ≡ 0 → (r : Reading) (fs : Frames) (negative : Bool) (ws ds : List ℕ) (l : ℕ)
+      → from r bs (numeral fs negative (lettered ws ds l)) i ≡ stopped (chars (drop e bs))
+
+pub some_digits : (ds : List ℕ) → AreDigits ds → 0 < length ds → IsDigits ds
+some_digits [] ok some = absurd (omega arith)
+some_digits (d ∷ ds) ok some = ok
+
+pub no_digits : (ds cs : List ℕ) → length ds ≡ 0 → ds ++ cs ≡ cs
+no_digits [] cs none = refl
+no_digits (d ∷ ds) cs none = absurd (omega arith)
+
+pub reads_unsigned : (bs : List ℕ) (i : ℕ) (xs : List ℕ) → IsUtf8 bs → IsCharBoundary bs i
+    → ((i < length bs) × (get_or bs i 0 ≡ 45) → ⊥)
+    → ((i < length bs) × (get_or bs i 0 ≡ 43) → ⊥) → xs ≡ take_while is_ascii_digit (drop i bs)
+    → ReadsExponent bs i true xs (i + length xs)
+unfolding from
+reads_unsigned bs i xs u at no_minus no_plus e =
+    let k = digits_stand bs i xs u at e in
+    record {
+      after = omega arith;
+      boundary = k.boundary;
+      all = k.all;
+      number = λ some r fs negative ws ds l. ap (λ cs. outcome r cs (numeral fs negative (lettered ws ds l))) k.split
+          ∙ unsigned_to_end r ws ds l xs (chars (drop (i + length xs) bs)) fs negative (some_digits xs k.digits some)
+          k.next;
+      missing = λ none r fs negative ws ds l.
+          let here : chars (drop i bs) ≡ chars (drop (i + length xs) bs) = k.split
+          ∙ no_digits xs (chars (drop (i + length xs) bs)) none in
+          stop_lettered r fs negative ws ds l (chars (drop i bs)) (subst (NextFails is_ascii_digit) (sym here) k.next)
+          (next_fails (λ c. c == 43) bs i (λ c e. omega (arith, eqb-true c 43 e)) u at
+          (λ lt. ne_eqb (get_or bs i 0) 43 (λ same. no_plus (lt, same))))
+          (next_fails (λ c. c == 45) bs i (λ c e. omega (arith, eqb-true c 45 e)) u at
+          (λ lt. ne_eqb (get_or bs i 0) 45 (λ same. no_minus (lt, same))))
+          ∙ ap stopped here;
+    }
+
+-- behind a sign that stands at offset i
+reads_signed : (bs : List ℕ) (i : ℕ) (xs : List ℕ) (s : Sign) (b : ℕ) (positive : Bool) → IsUtf8 bs
+    → IsCharBoundary bs i → i < length bs
+    → get_or bs i 0 ≡ b → b < 128 → ((ws ds : List ℕ) (l : ℕ) (cs : List ℕ) (r : Reading) (fs : Frames)
+    (negative : Bool)
+    → outcome r (b ∷ cs) (numeral fs negative (lettered ws ds l))
+    ≡ outcome r cs (numeral fs negative (signed_exponent ws ds l s)))
+    → ((n : ℕ) → signed positive n ≡ meaning.signed_exponent s n)
+    → xs ≡ take_while is_ascii_digit (drop (i + 1) bs) → ReadsExponent bs i positive xs (i + 1 + length xs)
+unfolding from
+reads_signed bs i xs s b positive u at lt here ascii step sign e =
+    let next_at = IsCharBoundary-after_ascii bs i u lt (omega arith) in
+    let k = digits_stand bs (i + 1) xs u next_at e in
+    let rest = chars (drop (i + 1 + length xs) bs) in
+    let to_sign : (r : Reading) (fs : Frames) (negative : Bool) (ws ds : List ℕ) (l : ℕ)
+    → outcome r (chars (drop i bs)) (numeral fs negative (lettered ws ds l))
+    ≡ outcome r (xs ++ rest) (numeral fs negative (signed_exponent ws ds l s)) =
+    λ r fs negative ws ds l. ap (λ cs. outcome r cs (numeral fs negative (lettered ws ds l)))
+    (next_is bs i b u at lt here ascii ∙ ap (λ cs. b ∷ cs) k.split)
+    ∙ step ws ds l (xs ++ rest) r fs negative in
+    record {
+      after = omega arith;
+      boundary = k.boundary;
+      all = k.all;
+      number = λ some r fs negative ws ds l. to_sign r fs negative ws ds l
+          ∙ signed_to_end r ws ds l s xs rest fs negative (some_digits xs k.digits some) k.next
+          ∙ ap (λ z. outcome r rest (behind fs (value.number (read_number (not negative) ws ds z))))
+          (sym (sign (digits_number xs)));
+      missing = λ none r fs negative ws ds l. to_sign r fs negative ws ds l
+          ∙ ap (λ cs. outcome r cs (numeral fs negative (signed_exponent ws ds l s))) (no_digits xs rest none)
+          ∙ stop_signed r fs negative ws ds l s rest k.next;
+    }
+
+pub reads_minus : (bs : List ℕ) (i : ℕ) (xs : List ℕ) → IsUtf8 bs → IsCharBoundary bs i → i < length bs
+    → get_or bs i 0 ≡ 45
+    → xs ≡ take_while is_ascii_digit (drop (i + 1) bs) → ReadsExponent bs i false xs (i + 1 + length xs)
+reads_minus bs i xs u at lt here e =
+    reads_signed bs i xs minus 45 false u at lt here (omega arith) (λ ws ds l cs r. letter_to_minus r ws ds l cs)
+    (λ n. refl) e
+
+pub reads_plus : (bs : List ℕ) (i : ℕ) (xs : List ℕ) → IsUtf8 bs → IsCharBoundary bs i → i < length bs
+    → get_or bs i 0 ≡ 43
+    → xs ≡ take_while is_ascii_digit (drop (i + 1) bs) → ReadsExponent bs i true xs (i + 1 + length xs)
+reads_plus bs i xs u at lt here e =
+    reads_signed bs i xs plus 43 true u at lt here (omega arith) (λ ws ds l cs r. letter_to_plus r ws ds l cs)
+    (λ n. refl) e

@@ -1,0 +1,138 @@
+-- Four hexadecimal digits of an escape, by the bytes of a text.
+use Rattle.std.proofs.Common.{◌≡◌, ℕ, zero, suc, ◌+◌, ◌-◌, ◌^◌, ◌<◌, ◌≤◌, true, false, cond, List, [], length, drop}
+use Rattle.std.proofs.Common.{get_or, refl, ap, ◌∙◌, arith, None, ◌&&◌}
+use Rattle.std.specs.Prelude.{chars, IsUtf8}
+use Rattle.std.specs.Char.{is_ascii_hexdigit, digit_value}
+use Rattle.std.specs.Str.{IsCharBoundary}
+use Rattle.std.proofs.Math.Nat.{pow-le-pow_right}
+use Rattle.std.proofs.lemmas.Bool.{false_from_ne_true}
+use Rattle.std.proofs.lemmas.Bool.Decides.{nat_tests}
+use Rattle.std.proofs.lemmas.Grind.{pow_more}
+use Rattle.std.proofs.lemmas.Str.{IsCharBoundary-after_ascii}
+use Rattle.jzon.specs.Reading.{Reading}
+use Rattle.jzon.specs.Grammar.{is_high, is_low, is_surrogate}
+use Rattle.jzon.specs.Fault as fault
+use Rattle.jzon.specs.Machine.{Role, Place, Move, string, code, second_code, go, bad, move, last, refused, add_hex}
+use Rattle.jzon.specs.Machine.{coded, paired, move_code, move_second_code, Outcome, outcome_on, from, left_at, stopped}
+use Rattle.jzon.proofs.Strings.StringSteps.{byte_moves, byte_stops}
+
+-- A place that reads hexadecimal digits, by how many are missing behind the next one and the number so far; and the
+-- move behind the last digit.
+pub record ReadsHex (r : Reading) (at : ℕ → ℕ → Place) (done : ℕ → Move) : Type 0 where
+  pub more : (n u c left : ℕ) → is_ascii_hexdigit c ≡ true → move r (at (suc n) u) c left ≡ go None (at n (add_hex u c))
+  pub last_one : (u c left : ℕ) → is_ascii_hexdigit c ≡ true → move r (at zero u) c left ≡ done (add_hex u c)
+  pub stops : (n u c left : ℕ) → is_ascii_hexdigit c ≡ false → move r (at n u) c left ≡ bad
+  pub unfinished : (n u : ℕ) → last (at n u) ≡ refused fault.end []
+
+-- the digits of an escape, and those of the second one of a pair
+pub code_reads : (r : Reading) (role : Role) (xs : List ℕ)
+    → ReadsHex r (λ n u. string role xs (code n u)) (λ u. go None (coded (is_surrogate u) role xs u))
+code_reads r role xs = record {
+  more = λ n u c left h. ap (λ t. cond t (move_code role xs (suc n) u c) bad) h;
+  last_one = λ u c left h. ap (λ t. cond t (move_code role xs zero u c) bad) h;
+  stops = λ n u c left h. ap (λ t. cond t (move_code role xs n u c) bad) h;
+  unfinished = λ n u. refl;
+}
+
+pub second_code_reads : (r : Reading) (role : Role) (xs : List ℕ) (first : ℕ)
+    → ReadsHex r (λ n u. string role xs (second_code first n u))
+    (λ u. paired (is_high first && is_low u) role xs first u)
+second_code_reads r role xs first = record {
+  more = λ n u c left h. ap (λ t. cond t (move_second_code role xs first (suc n) u c) bad) h;
+  last_one = λ u c left h. ap (λ t. cond t (move_second_code role xs first zero u c) bad) h;
+  stops = λ n u c left h. ap (λ t. cond t (move_second_code role xs first n u c) bad) h;
+  unfinished = λ n u. refl;
+}
+
+-- what the text comes to from byte i on with so many digits missing; with none, the last one stands before i
+abbrev pub hex_left : Reading → (ℕ → ℕ → Place) → (ℕ → Move) → List ℕ → ℕ → ℕ → ℕ → Outcome
+hex_left r at done bs zero u i = outcome_on (done u) (λ p. from r bs p i) (chars (drop (i - 1) bs))
+hex_left r at done bs (suc n) u i = from r bs (at n u) i
+
+hex_is_ascii : (b : ℕ) → is_ascii_hexdigit b ≡ true → b < 128
+hex_is_ascii b h = grind (arith, nat_tests)
+
+-- a digit stands there
+pub hex_read : (r : Reading) (at : ℕ → ℕ → Place) (done : ℕ → Move) (bs : List ℕ) (n u i : ℕ) → ReadsHex r at done
+    → IsUtf8 bs → IsCharBoundary bs i
+    → i < length bs → is_ascii_hexdigit (get_or bs i 0) ≡ true
+    → hex_left r at done bs (suc n) u i ≡ hex_left r at done bs n (add_hex u (get_or bs i 0)) (i + 1)
+hex_read r at done bs zero u i h text here lt e =
+    byte_moves r (at zero u) bs i (get_or bs i 0) text here lt refl (hex_is_ascii _ e)
+    ∙ ap (λ m. outcome_on m (λ p. from r bs p (i + 1)) (chars (drop i bs)))
+    (h.last_one u (get_or bs i 0) (left_at bs i) e)
+    ∙ ap (λ k. outcome_on (done (add_hex u (get_or bs i 0))) (λ p. from r bs p (i + 1)) (chars (drop k bs)))
+    (omega arith)
+hex_read r at done bs (suc n) u i h text here lt e =
+    byte_moves r (at (suc n) u) bs i (get_or bs i 0) text here lt refl (hex_is_ascii _ e)
+    ∙ ap (λ m. outcome_on m (λ p. from r bs p (i + 1)) (chars (drop i bs)))
+    (h.more n u (get_or bs i 0) (left_at bs i) e)
+
+-- none stands there
+pub hex_missing : (r : Reading) (at : ℕ → ℕ → Place) (done : ℕ → Move) (bs : List ℕ) (n u i : ℕ) → ReadsHex r at done
+    → IsUtf8 bs → IsCharBoundary bs i
+    → ((i < length bs) × (is_ascii_hexdigit (get_or bs i 0) ≡ true) → ⊥)
+    → hex_left r at done bs (suc n) u i ≡ stopped (chars (drop i bs))
+hex_missing r at done bs n u i h text here none =
+    byte_stops r (at n u) bs i text here (h.unfinished n u) (λ c b.
+    h.stops n u c (left_at bs i) (false_from_ne_true (is_ascii_hexdigit c)
+    (λ e. none (b.within, ap is_ascii_hexdigit (b.byte (hex_is_ascii c e)) ∙ e))))
+
+-- ---- the number so far
+
+-- What is read from the first of four digits on, up to byte i, at each place that reads them.
+pub record HexRead (bs : List ℕ) (start i u : ℕ) : Type 0 where
+  pub boundary : IsCharBoundary bs i
+  pub small : u < 16 ^ (i - start)
+  pub same : (r : Reading) (at : ℕ → ℕ → Place) (done : ℕ → Move) → ReadsHex r at done
+      → from r bs (at 3 0) start ≡ hex_left r at done bs (4 - (i - start)) u i
+
+pub hex_begun : (bs : List ℕ) (start : ℕ) → IsCharBoundary bs start → HexRead bs start start 0
+hex_begun bs start here = record {
+  boundary = here;
+  small = let e : start - start ≡ 0 = omega arith in rw e (omega arith);
+  same = λ r at done h. ap (λ n. hex_left r at done bs n 0 start) (let e : 4 ≡ 4 - (start - start) = omega arith in e);
+}
+
+pub hex_is_below_16 : (b : ℕ) → is_ascii_hexdigit b ≡ true → digit_value b < 16
+hex_is_below_16 b h = grind (arith, nat_tests)
+
+-- one digit more
+pub hex_more : (bs : List ℕ) (start i u : ℕ) → HexRead bs start i u → IsUtf8 bs → start ≤ i → i < start + 4
+    → i < length bs → is_ascii_hexdigit (get_or bs i 0) ≡ true → HexRead bs start (i + 1) (add_hex u (get_or bs i 0))
+hex_more bs start i u k text low high lt e = record {
+  boundary = IsCharBoundary-after_ascii bs i text lt (hex_is_ascii _ e);
+  small =
+      let n : i + 1 - start ≡ (i - start) + 1 = omega arith in
+      rw (n, pow_more 16 (i - start)) (omega (arith, k.small, hex_is_below_16 (get_or bs i 0) e));
+  same = λ r at done h.
+      k.same r at done h ∙ ap (λ n. hex_left r at done bs n u i)
+      (let n : 4 - (i - start) ≡ suc (4 - (i + 1 - start)) = omega arith in n)
+      ∙ hex_read r at done bs (4 - (i + 1 - start)) u i h text k.boundary lt e;
+}
+
+-- no digit more
+pub hex_stops : (r : Reading) (bs : List ℕ) (start i u : ℕ) (at : ℕ → ℕ → Place) (done : ℕ → Move)
+    → HexRead bs start i u → ReadsHex r at done → IsUtf8 bs
+    → start ≤ i → i < start + 4 → ((i < length bs) × (is_ascii_hexdigit (get_or bs i 0) ≡ true) → ⊥)
+    → from r bs (at 3 0) start ≡ stopped (chars (drop i bs))
+hex_stops r bs start i u at done k h text low high none =
+    k.same r at done h ∙ ap (λ n. hex_left r at done bs n u i)
+    (let n : 4 - (i - start) ≡ suc (3 - (i - start)) = omega arith in n)
+    ∙ hex_missing r at done bs (3 - (i - start)) u i h text k.boundary none
+
+-- all four digits
+pub hex_end : (r : Reading) (bs : List ℕ) (start i u : ℕ) (at : ℕ → ℕ → Place) (done : ℕ → Move) → HexRead bs start i u
+    → ReadsHex r at done → i ≡ start + 4
+    → from r bs (at 3 0) start ≡ outcome_on (done u) (λ p. from r bs p (start + 4)) (chars (drop (start + 3) bs))
+hex_end r bs start i u at done k h e =
+    k.same r at done h ∙ ap (λ n. hex_left r at done bs n u i) (let n : 4 - (i - start) ≡ 0 = omega arith in n)
+    ∙ ap (λ n. outcome_on (done u) (λ p. from r bs p n) (chars (drop (n - 1) bs))) e
+    ∙ ap (λ n. outcome_on (done u) (λ p. from r bs p (start + 4)) (chars (drop n bs)))
+    (let n : start + 4 - 1 ≡ start + 3 = omega arith in n)
+
+pub hex_small : (bs : List ℕ) (start i u : ℕ) → HexRead bs start i u → i ≤ start + 4 → u < 65536
+hex_small bs start i u k h =
+    let most : 16 ^ (i - start) ≤ 16 ^ 4 = pow-le-pow_right {n = 16} (omega arith) {i = i - start} {j = 4} (omega arith)
+    in
+    omega (arith, k.small, most)

@@ -1,0 +1,81 @@
+-- Where a run of plain characters of a string ends: a quote, a backslash, or a fault.
+use Rattle.std.proofs.Common.{◌≡◌, ℕ, ◌+◌, ◌-◌, ◌<◌, Bool, true, false, ◌&&◌, cond, List, length, drop, get_or, refl}
+use Rattle.std.proofs.Common.{ap, sym, subst, ◌∙◌, arith}
+use Rattle.std.specs.Prelude.{chars, IsUtf8, ◌==◌}
+use Rattle.std.specs.Option.{is_some}
+use Rattle.std.specs.Str.{IsCharBoundary}
+use Rattle.std.proofs.lemmas.Bool.Decides.{nat_tests}
+use Rattle.std.proofs.lemmas.Str.{IsCharBoundary-after_ascii}
+use Rattle.jzon_base.specs.PlainBytes.{is_plain}
+use Rattle.jzon_base.specs.PairList.{find}
+use Rattle.jzon.specs.Reading.{Reading}
+use Rattle.jzon.specs.Grammar.{is_unescaped}
+use Rattle.jzon.specs.Spelling.{duplicate, breach_if}
+use Rattle.jzon.specs.Fault.{limit}
+use Rattle.jzon.specs.Quote.{EndsAtQuote}
+use Rattle.jzon.specs.Machine.{Entries, Frames, Role, as_key, after_key, Move, go, refused, string, between, slash}
+use Rattle.jzon.specs.Machine.{closed_string, bad, move_between, outcome_on, from, from_closed, left_at, stopped}
+use Rattle.jzon.proofs.Strings.StringSteps.{byte_moves, byte_stops}
+
+none_of : (a b t : Bool) (x y z w : Move) → a ≡ false → b ≡ false → t ≡ false → cond a x (cond b y (cond t z w)) ≡ w
+none_of a b t x y z w ea eb et = rw (ea, eb, et) refl
+
+-- a quote closes the string
+pub quote_closes : (r : Reading) (role : Role) (xs bs : List ℕ) (i : ℕ) → IsUtf8 bs → IsCharBoundary bs i
+    → i < length bs → get_or bs i 0 ≡ 34
+    → from r bs (string role xs between) i ≡ from_closed r bs role xs (i + 1)
+quote_closes r role xs bs i u at lt e =
+    byte_moves r (string role xs between) bs i 34 u at lt e (omega arith)
+    ∙ ap (λ k. outcome_on (closed_string r role xs (left_at bs k)) (λ p. from r bs p (i + 1)) (chars (drop k bs)))
+    (let back : i ≡ i + 1 - 1 = omega arith in back)
+
+-- it stands before the place behind it
+pub quote_ends : (bs : List ℕ) (i : ℕ) → IsUtf8 bs → IsCharBoundary bs i → (i < length bs) × (get_or bs i 0 ≡ 34)
+    → EndsAtQuote bs i (i + 1)
+quote_ends bs i u at here =
+    let back : i ≡ i + 1 - 1 = omega arith in (
+      omega arith,
+      subst (IsCharBoundary bs) back at,
+      IsCharBoundary-after_ascii bs i u here.0 (omega (arith, here.1)),
+      ap (λ n. get_or bs n 0) (sym back) ∙ here.1,
+    )
+
+-- a backslash begins an escape
+pub backslash_begins : (r : Reading) (role : Role) (xs bs : List ℕ) (i : ℕ) → IsUtf8 bs → IsCharBoundary bs i
+    → i < length bs → get_or bs i 0 ≡ 92
+    → from r bs (string role xs between) i ≡ from r bs (string role xs slash) (i + 1)
+backslash_begins r role xs bs i u at lt e = byte_moves r (string role xs between) bs i 92 u at lt e (omega arith)
+
+-- another byte that is not plain, or none, goes on in no text
+no_quote : (r : Reading) (role : Role) (xs : List ℕ) (c left : ℕ) → is_plain c ≡ false → (c ≡ 34 → ⊥)
+    → (c ≡ 92 → ⊥) → move_between r role xs c left ≡ bad
+no_quote r role xs c left h no34 no92 =
+    none_of (c == 34) (c == 92) (is_unescaped c) _ _ _ _ (grind (arith, nat_tests)) (grind (arith, nat_tests))
+    (grind (arith, nat_tests))
+
+pub string_stops : (r : Reading) (role : Role) (xs bs : List ℕ) (i : ℕ) → IsUtf8 bs → IsCharBoundary bs i
+    → (i < length bs → is_plain (get_or bs i 0) ≡ false) → (i < length bs → get_or bs i 0 ≡ 92 → ⊥)
+    → ((i < length bs) × (get_or bs i 0 ≡ 34) → ⊥)
+    → from r bs (string role xs between) i ≡ stopped (chars (drop i bs))
+string_stops r role xs bs i u at no_plain no_escape no_end =
+    byte_stops r (string role xs between) bs i u at refl (λ c b.
+    let plain : is_plain (get_or bs i 0) ≡ false = no_plain b.within in
+    let same : c ≡ get_or bs i 0 = b.char (grind (arith, nat_tests)) in
+    no_quote r role xs c (left_at bs i) (ap is_plain same ∙ plain) (λ e. no_end (b.within, sym same ∙ e))
+    (λ e. no_escape b.within (sym same ∙ e)))
+
+-- behind the closing quote of a key that is not refused, and of one that is
+pub key_goes : (r : Reading) (bs : List ℕ) (fs : Frames) (es : Entries) (opened : ℕ) (k : List ℕ) (i : ℕ)
+    → (r.strict && is_some (find k es)) ≡ false
+    → from_closed r bs (as_key fs es opened) k i ≡ from r bs (after_key fs es k) i
+key_goes r bs fs es opened k i e =
+    ap (λ t. outcome_on (go (breach_if t (duplicate (opened - left_at bs (i - 1)))) (after_key fs es k))
+    (λ p. from r bs p i) (chars (drop (i - 1) bs))) e
+
+pub key_refused : (r : Reading) (bs : List ℕ) (fs : Frames) (es : Entries) (opened : ℕ) (k : List ℕ) (i : ℕ)
+    → (r.strict && is_some (find k es)) ≡ true
+    → from_closed r bs (as_key fs es opened) k i ≡ refused (limit (duplicate (opened - left_at bs (i - 1))))
+    (chars (drop (i - 1) bs))
+key_refused r bs fs es opened k i e =
+    ap (λ t. outcome_on (go (breach_if t (duplicate (opened - left_at bs (i - 1)))) (after_key fs es k))
+    (λ p. from r bs p i) (chars (drop (i - 1) bs))) e

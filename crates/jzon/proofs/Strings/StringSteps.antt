@@ -1,0 +1,91 @@
+-- One byte of a text: an ASCII character that is read, or the character at which the text stops.
+use Rattle.std.proofs.Common.{◌≡◌, ℕ, suc, ◌+◌, ◌<◌, cond, List, [], ◌∷◌, length, drop, get_or, refl, ap, subst, sym}
+use Rattle.std.proofs.Common.{◌∙◌, arith, drop-cons, add-one, None, eq-eqb, eqb-true}
+use Rattle.std.specs.Prelude.{chars, IsUtf8, encode_utf8, encode_utf8_all, ◌++◌, ◌==◌}
+use Rattle.std.specs.Str.{IsCharBoundary}
+use Rattle.std.proofs.lemmas.Bool.{false_from_ne_true}
+use Rattle.std.proofs.lemmas.List.{length-append, length-drop, get_or-drop}
+use Rattle.std.proofs.lemmas.Str.{byte_from_char, char_from_byte, IsUtf8-drop, length-encode, len_utf8_bounds}
+use Rattle.jzon.specs.Reading.{Reading}
+use Rattle.jzon.specs.Fault.{Fault}
+use Rattle.jzon.specs.Fault as fault
+use Rattle.jzon.specs.Machine.{Place, go, move, bad, last, refused, outcome, outcome_on, from, left_at, stopped}
+use Rattle.jzon.proofs.Texts.AsciiRuns.{chars-ascii}
+use Rattle.jzon.proofs.Texts.StepsByByte.{stop_on}
+use Rattle.jzon.proofs.Containers.LiteralLetters.{text_of_first}
+
+-- what is left from a byte on
+pub drop_byte : (bs : List ℕ) (i b : ℕ) → i < length bs → get_or bs i 0 ≡ b → drop i bs ≡ b ∷ drop (i + 1) bs
+drop_byte bs i b lt e = drop-cons bs i 0 lt ∙ ap (λ z. z ∷ drop (suc i) bs) e
+    ∙ ap (λ n. b ∷ drop n bs) (sym (add-one i))
+
+-- the character that begins at byte i, by that byte
+pub record Begins (bs : List ℕ) (i c : ℕ) : Type 0 where
+  pub within : i < length bs
+  pub byte : c < 128 → get_or bs i 0 ≡ c
+  pub char : get_or bs i 0 < 128 → c ≡ get_or bs i 0
+
+begins : (bs : List ℕ) (i c : ℕ) (cs : List ℕ) → IsUtf8 bs → IsCharBoundary bs i → chars (drop i bs) ≡ c ∷ cs
+    → Begins bs i c
+begins bs i c cs u at e =
+    let text : drop i bs ≡ encode_utf8 c ++ encode_utf8_all cs = text_of_first (drop i bs) c cs (IsUtf8-drop bs i u at)
+    e in
+    let some : 0 < length (drop i bs) =
+    omega (
+      arith,
+      ap length text,
+      length-append (encode_utf8 c) (encode_utf8_all cs),
+      length-encode c,
+      (len_utf8_bounds c).0,
+    ) in
+    let here : get_or (drop i bs) 0 0 ≡ get_or bs i 0 = get_or-drop i bs 0 0 ∙ ap (λ n. get_or bs n 0) (omega arith) in
+    record {
+      within = omega (arith, some, length-drop i bs);
+      byte = λ lt. sym here ∙ byte_from_char (drop i bs) (encode_utf8_all cs) c text lt;
+      char = λ lt. char_from_byte (drop i bs) (encode_utf8_all cs) c text (subst (λ z. z < 128) (sym here) lt) some
+          ∙ here;
+    }
+
+-- the byte is an ASCII character, and the machine moves by it
+pub byte_moves : (r : Reading) (p : Place) (bs : List ℕ) (i b : ℕ) → IsUtf8 bs → IsCharBoundary bs i → i < length bs
+    → get_or bs i 0 ≡ b → b < 128
+    → from r bs p i ≡ outcome_on (move r p b (left_at bs i)) (λ q. from r bs q (i + 1)) (chars (drop i bs))
+unfolding from
+byte_moves r p bs i b u at lt e ascii =
+    let split : drop i bs ≡ b ∷ drop (i + 1) bs = drop_byte bs i b lt e in
+    let first : chars (drop i bs) ≡ b ∷ chars (drop (i + 1) bs) =
+    ap chars split ∙ chars-ascii b (drop (i + 1) bs) (subst IsUtf8 split (IsUtf8-drop bs i u at)) ascii in
+    ap (λ cs. outcome r cs p) first ∙ ap (λ rest. outcome_on (move r p b (length rest))
+    (λ q. outcome r (chars (drop (i + 1) bs)) q) rest) (sym first)
+
+-- no character that may begin there goes on
+pub byte_stops : (r : Reading) (p : Place) (bs : List ℕ) (i : ℕ) → IsUtf8 bs → IsCharBoundary bs i
+    → last p ≡ refused fault.end []
+    → ((c : ℕ) → Begins bs i c → move r p c (left_at bs i) ≡ bad) → from r bs p i ≡ stopped (chars (drop i bs))
+unfolding from
+byte_stops r p bs i u at end h = stop_on r (chars (drop i bs)) p end (λ c cs e. h c (begins bs i c cs u at e))
+
+-- a place that goes on with one ASCII character alone
+pub record Expects (r : Reading) (p : Place) (b : ℕ) (q : Place) : Type 0 where
+  pub ascii : b < 128
+  pub moves : (c n : ℕ) → move r p c n ≡ cond (c == b) (go None q) bad
+  pub unfinished : last p ≡ refused fault.end []
+
+-- that character stands there
+pub expected_byte : (r : Reading) (p q : Place) (bs : List ℕ) (i b : ℕ) → Expects r p b q → IsUtf8 bs
+    → IsCharBoundary bs i → i < length bs → get_or bs i 0 ≡ b
+    → from r bs p i ≡ from r bs q (i + 1)
+expected_byte r p q bs i b h u at lt e =
+    byte_moves r p bs i b u at lt e h.ascii
+    ∙ ap (λ m. outcome_on m (λ z. from r bs z (i + 1)) (chars (drop i bs)))
+    (h.moves b (left_at bs i) ∙ ap (λ t. cond t (go None q) bad) (eq-eqb b b refl))
+
+-- another one does, or none
+pub unexpected_byte : (r : Reading) (p q : Place) (bs : List ℕ) (i b : ℕ) → Expects r p b q → IsUtf8 bs
+    → IsCharBoundary bs i
+    → ((i < length bs) × (get_or bs i 0 ≡ b) → ⊥) → from r bs p i ≡ stopped (chars (drop i bs))
+unexpected_byte r p q bs i b h u at none =
+    byte_stops r p bs i u at h.unfinished (λ c here. h.moves c (left_at bs i)
+    ∙ ap (λ t. cond t (go None q) bad) (false_from_ne_true (c == b) (λ e.
+    let same : c ≡ b = eqb-true c b e in
+    none (here.within, here.byte (subst (λ z. z < 128) (sym same) h.ascii) ∙ same))))

@@ -1,0 +1,61 @@
+-- A result that the machine gives is the answer to the text.
+use Rattle.std.proofs.Common.{inl, inr, ◌≡◌, ℕ, ◌-◌, List, length, Result, Ok, Err, subst, sym, ◌∙◌, refl}
+use Rattle.jzon_base.specs.declared.error.Error.{Error}
+use Rattle.jzon_base.specs.declared.error.Error.TheVariants.{ExceededDepthLimit}
+use Rattle.jzon_tree.specs.View.{view}
+use Rattle.jzon_tree.specs.declared.value.JsonValue.{JsonValue}
+use Rattle.jzon.specs.Reading.{Reading}
+use Rattle.jzon.specs.Spelling.{deep, digit}
+use Rattle.jzon.specs.Meaning.{meaning}
+use Rattle.jzon.specs.Fault.{Fault, limit, error_at, IsErrorOf}
+use Rattle.jzon.specs.Machine.{no_frames, before, Outcome, meant, refused, outcome, Reads}
+use Rattle.std.specs.Prelude.{IfOk, IfErr}
+use Rattle.jzon.specs.Answer.{IsMeaningOf, IsReadable, IsErrorUnlessMemory}
+use Rattle.jzon.proofs.Texts.Verdict.{Verdict, answers}
+use Rattle.jzon.proofs.ReadBack.MeaningHeld.{meaning_held}
+
+-- a meaning of the text, or what a refused text is answered
+abbrev pub Answers : Reading → List ℕ → Result JsonValue Error → Type 0
+Answers r t (Ok v) = IsMeaningOf r t v
+Answers r t (Err e) = IsErrorUnlessMemory r t e
+
+answers_by : (r : Reading) (t : List ℕ) (result : Result JsonValue Error) (o : Outcome) → Verdict r t o
+    → Reads t result o → Answers r t result
+answers_by r t (Ok v) (meant w) told read = let same : w ≡ view v = cc in (told.0, told.1, sym (told.2 ∙ same))
+answers_by r t (Ok v) (refused f rest) told read = absurd (cc)
+answers_by r t (Err e) o told (inl memory) = inl memory
+answers_by r t (Err e) (meant w) told (inr tells) = absurd tells
+answers_by r t (Err e) (refused f rest) told (inr tells) = inr (length t - length rest, f, told, tells)
+
+pub answers_of : (r : Reading) (t : List ℕ) (result : Result JsonValue Error)
+    → Reads t result (outcome r t (before no_frames)) → Answers r t result
+answers_of r t result read = answers_by r t result (outcome r t (before no_frames)) (answers r t) read
+
+-- the same, clause by clause
+pub value_of : (r : Reading) (t : List ℕ) (result : Result JsonValue Error) → Answers r t result
+    → IfOk result (IsMeaningOf r t)
+value_of r t (Ok v) h = h
+value_of r t (Err e) h = tt
+
+pub readable_of : (r : Reading) (t : List ℕ) (result : Result JsonValue Error) → Answers r t result
+    → IfOk result (λ v. IsReadable r (view v))
+readable_of r t (Ok v) h = subst (λ w. IsReadable r w) (sym h.2) (meaning_held r t h.0 h.1)
+readable_of r t (Err e) h = tt
+
+pub error_of : (r : Reading) (t : List ℕ) (result : Result JsonValue Error) → Answers r t result
+    → IfErr result (IsErrorUnlessMemory r t)
+error_of r t (Ok v) h = tt
+error_of r t (Err e) h = h
+
+-- the error of one text, by computation
+pub refused_error : (r : Reading) (t rest : List ℕ) (f : Fault) (e : Error)
+    → outcome r t (before no_frames) ≡ refused f rest → e ≡ error_at t (length t - length rest) f → IsErrorOf r t e
+refused_error r t rest f e h g = (length t - length rest, f, subst (λ z. Verdict r t z) h (answers r t), g)
+
+pub too_deep : (r : Reading) (t rest : List ℕ) → outcome r t (before no_frames) ≡ refused (limit deep) rest
+    → IsErrorOf r t ExceededDepthLimit
+too_deep r t rest h = refused_error r t rest (limit deep) ExceededDepthLimit h refl
+
+pub too_many_digits : (r : Reading) (t rest : List ℕ) → outcome r t (before no_frames) ≡ refused (limit digit) rest
+    → IsErrorOf r t ExceededDepthLimit
+too_many_digits r t rest h = refused_error r t rest (limit digit) ExceededDepthLimit h refl

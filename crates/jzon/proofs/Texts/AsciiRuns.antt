@@ -1,0 +1,130 @@
+-- Runs of ASCII bytes of a text, and what they do to what is left of it.
+use Rattle.std.proofs.Common.{◌≡◌, ℕ, suc, ◌+◌, ◌<◌, ◌≤◌, Bool, true, false, cond, List, [], ◌∷◌, ◌++◌, length, drop}
+use Rattle.std.proofs.Common.{add-one, drop-cons, get_or, refl, sym, ap, subst, ◌∙◌, arith, None}
+use Rattle.std.specs.Prelude.{chars, IsUtf8}
+use Rattle.std.specs.Str.{IsCharBoundary}
+use Rattle.std.specs.List.{prefix_len}
+use Rattle.std.proofs.lemmas.Bool.Decides.{nat_tests}
+use Rattle.std.proofs.lemmas.List.{drop-drop, length-drop, get_or-drop}
+use Rattle.std.proofs.lemmas.List.Sums.{prefix_len-le-length, prefix_len_stops}
+use Rattle.std.proofs.lemmas.Str.{chars_past_char, encode_ascii, IsUtf8-past_char, IsUtf8-drop}
+use Rattle.std.proofs.lemmas.Str.{IsCharBoundary-from_drop}
+use Rattle.jzon_tree.specs.Value.{Value}
+use Rattle.jzon_tree.specs.Writing.{is_whitespace}
+use Rattle.jzon.specs.Reading.{Reading}
+use Rattle.jzon.specs.Machine.{Place, Frames, before, behind, go, move, outcome, outcome_on, from}
+use Rattle.jzon.proofs.Texts.ClassesOfCharacters.{whitespace-class}
+
+-- an ASCII byte is a character, and what follows it is text
+pub chars-ascii : (b : ℕ) (bs : List ℕ) → IsUtf8 (b ∷ bs) → b < 128 → chars (b ∷ bs) ≡ b ∷ chars bs
+chars-ascii b bs u lt = chars_past_char (b ∷ bs) bs b u (ap (λ z. z ++ bs) (sym (encode_ascii b lt)))
+
+pub IsUtf8-past_ascii : (b : ℕ) (bs : List ℕ) → IsUtf8 (b ∷ bs) → b < 128 → IsUtf8 bs
+IsUtf8-past_ascii b bs u lt = IsUtf8-past_char (b ∷ bs) bs b u (ap (λ z. z ++ bs) (sym (encode_ascii b lt)))
+
+-- at this place the characters that pass the test, all ASCII, are passed over
+pub record Skips (r : Reading) (p : Place) (test : ℕ → Bool) : Type 0 where
+  pub ascii : (c : ℕ) → test c ≡ true → c < 128
+  pub stays : (c n : ℕ) → test c ≡ true → move r p c n ≡ go None p
+
+pub record Skipped (r : Reading) (p : Place) (bs rest : List ℕ) : Type 0 where
+  pub same : outcome r (chars bs) p ≡ outcome r (chars rest) p
+  pub utf8 : IsUtf8 rest
+
+skip_one : (r : Reading) (p : Place) (test : ℕ → Bool) (b : ℕ) (bs : List ℕ) (v : Bool) (n : ℕ) → Skips r p test
+    → IsUtf8 (b ∷ bs) → test b ≡ v
+    → (IsUtf8 bs → Skipped r p bs (drop n bs)) → Skipped r p (b ∷ bs) (drop (cond v (1 + n) 0) (b ∷ bs))
+skip_one r p test b bs false n h u e ih = record { same = refl; utf8 = u }
+skip_one r p test b bs true n h u e ih =
+    let lt : b < 128 = h.ascii b e in
+    let k = ih (IsUtf8-past_ascii b bs u lt) in
+    let m : 1 + n ≡ suc n = omega arith in
+    let step : outcome r (chars (b ∷ bs)) p ≡ outcome r (chars bs) p =
+    ap (λ cs. outcome r cs p) (chars-ascii b bs u lt) ∙ ap (λ x. outcome_on x (λ q. outcome r (chars bs) q)
+    (b ∷ chars bs)) (h.stays b (length (b ∷ chars bs)) e) in
+    subst (λ j. Skipped r p (b ∷ bs) (drop j (b ∷ bs))) (sym m) (record { same = step ∙ k.same; utf8 = k.utf8 })
+
+pub skip_run : (r : Reading) (p : Place) (test : ℕ → Bool) (bs : List ℕ) → Skips r p test → IsUtf8 bs
+    → Skipped r p bs (drop (prefix_len test bs) bs)
+skip_run r p test [] h u = record { same = refl; utf8 = u }
+skip_run r p test (b ∷ bs) h u = skip_one r p test b bs (test b) (prefix_len test bs) h u refl
+    (λ g. skip_run r p test bs h g)
+
+-- ---- whitespace
+
+pub space_is_ascii : (s : Bool) (c : ℕ) → is_whitespace s c ≡ true → c < 128
+space_is_ascii true c e = grind (arith, nat_tests)
+space_is_ascii false c e = grind (arith, nat_tests)
+
+pub wide_is_no_space : (s : Bool) (c : ℕ) → 128 ≤ c → is_whitespace s c ≡ false
+wide_is_no_space true c le = grind (arith, nat_tests)
+wide_is_no_space false c le = grind (arith, nat_tests)
+
+pub before_skips : (r : Reading) (fs : Frames) → Skips r (before fs) (is_whitespace r.strict)
+before_skips r fs = record { ascii = space_is_ascii r.strict; stays = λ c n e. rw (whitespace-class r c e) refl }
+
+pub behind_skips : (r : Reading) (fs : Frames) (v : Value) → Skips r (behind fs v) (is_whitespace r.strict)
+behind_skips r fs v = record { ascii = space_is_ascii r.strict; stays = λ c n e. rw (whitespace-class r c e) refl }
+
+-- ---- by the index of a byte
+
+-- what is left is the same behind a run of bytes that are passed over
+pub from_skip : (r : Reading) (p : Place) (test : ℕ → Bool) (bs : List ℕ) (i n : ℕ) → Skips r p test → IsUtf8 bs
+    → IsCharBoundary bs i
+    → n ≡ prefix_len test (drop i bs) → from r bs p i ≡ from r bs p (i + n)
+unfolding from
+from_skip r p test bs i n h u at e =
+    (skip_run r p test (drop i bs) h (IsUtf8-drop bs i u at)).same
+    ∙ ap (λ k. outcome r (chars (drop k (drop i bs))) p) (sym e) ∙ ap (λ z. outcome r (chars z) p) (drop-drop n i bs)
+
+-- no run begins with a byte that doesn't pass the test
+pub empty_run : (test : ℕ → Bool) (bs : List ℕ) (i : ℕ) → i ≤ length bs → test (get_or bs i 0) ≡ false
+    → prefix_len test (drop i bs) ≡ 0
+empty_run test bs i le e = none (drop i bs) (ap test (get_or-drop i bs 0 0 ∙ ap (λ n. get_or bs n 0) (omega arith)) ∙ e)
+  where
+    none : (xs : List ℕ) → test (get_or xs 0 0) ≡ false → prefix_len test xs ≡ 0
+    none [] h = refl
+    none (x ∷ xs) h = ap (λ t. cond t (1 + prefix_len test xs) 0) h
+
+pub within_run : (test : ℕ → Bool) (bs : List ℕ) (i n : ℕ) → i ≤ length bs → n ≡ prefix_len test (drop i bs)
+    → i + n ≤ length bs
+within_run test bs i n le e = omega (arith, e, prefix_len-le-length test (drop i bs), length-drop i bs)
+
+pub boundary_skip : (r : Reading) (p : Place) (test : ℕ → Bool) (bs : List ℕ) (i n : ℕ) → Skips r p test → IsUtf8 bs
+    → IsCharBoundary bs i
+    → n ≡ prefix_len test (drop i bs) → IsCharBoundary bs (i + n)
+boundary_skip r p test bs i n h u at e =
+    let k : IsUtf8 (drop (prefix_len test (drop i bs)) (drop i bs)) =
+    (skip_run r p test (drop i bs) h (IsUtf8-drop bs i u at)).utf8 in
+    IsCharBoundary-from_drop bs (i + n) (within_run test bs i n at.0 e)
+    (subst IsUtf8 (ap (λ m. drop m (drop i bs)) (sym e) ∙ drop-drop n i bs) k)
+
+-- the byte behind a run doesn't pass the test
+pub stops_run : (test : ℕ → Bool) (bs : List ℕ) (i n : ℕ) → n ≡ prefix_len test (drop i bs) → i + n < length bs
+    → test (get_or bs (i + n) 0) ≡ false
+stops_run test bs i n e lt =
+    let k : prefix_len test (drop i bs) < length (drop i bs) = omega (arith, e, length-drop i bs) in
+    subst (λ c. test c ≡ false) (ap (λ m. get_or (drop i bs) m 0) (sym e) ∙ get_or-drop i bs n 0)
+    (prefix_len_stops test (drop i bs) 0 k)
+
+-- ---- whitespace alone
+
+above_is_no_space : (s : Bool) (c : ℕ) → 32 < c → is_whitespace s c ≡ false
+above_is_no_space true c lt = grind (arith, nat_tests)
+above_is_no_space false c lt = grind (arith, nat_tests)
+
+space_is_whitespace : (s : Bool) → is_whitespace s 32 ≡ true
+space_is_whitespace true = refl
+space_is_whitespace false = refl
+
+pub space_alone : (s : Bool) (bs : List ℕ) (i : ℕ) → i + 1 < length bs → get_or bs i 0 ≡ 32 → 32 < get_or bs (i + 1) 0
+    → 1 ≡ prefix_len (is_whitespace s) (drop i bs)
+space_alone s bs i lt whitespace above =
+    let passes : prefix_len (is_whitespace s) (drop i bs) ≡ 1 + prefix_len (is_whitespace s) (drop (suc i) bs) =
+    ap (prefix_len (is_whitespace s)) (drop-cons bs i 0 (omega arith))
+    ∙ ap (λ t. cond t (1 + prefix_len (is_whitespace s) (drop (suc i) bs)) 0)
+    (ap (is_whitespace s) whitespace ∙ space_is_whitespace s) in
+    let next : prefix_len (is_whitespace s) (drop (suc i) bs) ≡ prefix_len (is_whitespace s) (drop (i + 1) bs) =
+    ap (λ n. prefix_len (is_whitespace s) (drop n bs)) (sym (add-one i)) in
+    let none = empty_run (is_whitespace s) bs (i + 1) (omega arith) (above_is_no_space s (get_or bs (i + 1) 0) above) in
+    omega (arith, passes, next, none)

@@ -1,0 +1,182 @@
+-- The prefixes of a text: each completion of a prefix goes through a place alike to the text's own.
+use Rattle.std.proofs.Common.{◌≡◌, ℕ, suc, List, [], ◌∷◌, ◌++◌, length, Option, None, refl, sym, subst, ap}
+use Rattle.std.proofs.Common.{◌∙◌, append_assoc}
+use Rattle.jzon_tree.specs.Value.{Value}
+use Rattle.jzon.specs.Reading.{Reading}
+use Rattle.jzon.specs.Grammar.{Document}
+use Rattle.jzon.specs.Meaning.{meaning}
+use Rattle.jzon.specs.Spelling.{Breach, Cell, cell, plain, cells}
+use Rattle.jzon.specs.Fault.{Spells, Completes}
+use Rattle.jzon.specs.Machine.{Place, Move, go, bad, bad_deep, no_frames, before, move, meant}
+use Rattle.jzon.proofs.Texts.Cells.{chars_of, plain-append}
+use Rattle.jzon.proofs.Texts.Runs.{Meets, Follows, On, Goes}
+use Rattle.jzon.proofs.Texts.Closing.{closer, closes}
+use Rattle.jzon.proofs.Texts.AlikeStates.{Alike, AlikeMove, moves_alike, closer-alike}
+use Rattle.jzon.proofs.Containers.CompleteValues.{complete}
+use Rattle.jzon.proofs.Containers.SoundValues.{sound}
+
+-- the cells of the tree behind the prefix, and where the machine is then
+pub record Followed (r : Reading) (prefix rest : List ℕ) (left : ℕ) (p : Place) (d : Document) : Type 0 where
+  pub cells_left : List Cell
+  pub place : Place
+  pub split : cells r d ≡ plain prefix cells_left
+  pub text : chars_of cells_left ≡ rest
+  pub alike : Alike left (length cells_left) p place
+  pub follows : Follows r (λ o. o ≡ meant (meaning d.node)) cells_left place
+
+-- the place behind the prefix where so many characters are left
+pub record Reached (r : Reading) (prefix : List ℕ) (left : ℕ) (p : Place) (other : ℕ) : Type 0 where
+  pub place : Place
+  pub alike : Alike left other p place
+  pub goes : (s : List ℕ) (v : Value) → length s ≡ other → Goes r v s place → Goes r v (prefix ++ s) (before no_frames)
+
+-- The machine goes over the prefix, with no mark, to the place, where so many characters are left.
+pub record Reaches (r : Reading) (prefix : List ℕ) (left : ℕ) (p : Place) : Type 0 where
+  pub onward : (d : Document) (h : Completes r prefix d) → Followed r prefix h.1 left p d
+  pub back : (other : ℕ) → Reached r prefix left p other
+
+pub reaches_start : (r : Reading) (left : ℕ) → Reaches r [] left (before no_frames)
+reaches_start r left = record {
+  onward = λ d h. record {
+    cells_left = cells r d;
+    place = before no_frames;
+    split = refl;
+    text = h.2;
+    alike = refl;
+    follows = complete r d h.0;
+  };
+  back = λ other. record { place = before no_frames; alike = refl; goes = λ s v e h. h };
+}
+
+-- the next cell of a tree that goes on
+pub record Next (r : Reading) (prefix : List ℕ) (c : ℕ) (rest : List ℕ) (left : ℕ) (z : Move) (d : Document) :
+    Type 0 where
+  pub mark : Option Breach
+  pub cells_left : List Cell
+  pub other : Move
+  pub split : cells r d ≡ plain prefix (cell c mark ∷ cells_left)
+  pub text : chars_of cells_left ≡ rest
+  pub alike : AlikeMove left (length cells_left) z other
+  pub meets : Meets other mark (λ s. Follows r (λ o. o ≡ meant (meaning d.node)) cells_left s)
+
+next_of : (r : Reading) (prefix : List ℕ) (c : ℕ) (rest : List ℕ) (left : ℕ) (p place : Place) (d : Document)
+    (q : List Cell)
+    → cells r d ≡ plain prefix q → chars_of q ≡ c ∷ rest → Alike (suc left) (length q) p place
+    → Follows r (λ o. o ≡ meant (meaning d.node)) q place → Next r prefix c rest left (move r p c (suc left)) d
+next_of r prefix c rest left p place d [] e x alike h = absurd (cc)
+next_of r prefix c rest left p place d (y ∷ q) e x alike h =
+    let ec : y.char ≡ c = cc in
+    record {
+      mark = y.mark;
+      cells_left = q;
+      other = move r place c (suc (length q));
+      split = subst (λ z. cells r d ≡ plain prefix (cell z y.mark ∷ q)) ec e;
+      text = cc;
+      alike = moves_alike r left (length q) c p place alike;
+      meets = subst (λ z. Meets (move r place z (suc (length q))) y.mark (λ s. Follows r (λ o. o ≡ meant (meaning d.node)) q s)) ec h;
+    }
+
+pub next : (r : Reading) (prefix : List ℕ) (c left : ℕ) (p : Place) (d : Document) → Reaches r prefix (suc left) p
+    → (h : Completes r (prefix ++ (c ∷ [])) d) → Next r prefix c h.1 left (move r p c (suc left)) d
+next r prefix c left p d reached h =
+    let g = reached.onward d (h.0, c ∷ h.1, h.2 ∙ append_assoc prefix (c ∷ []) h.1) in
+    next_of r prefix c h.1 left p g.place d g.cells_left g.split g.text g.alike g.follows
+
+-- where the text goes on with a mark, or none, the next cell has it
+meets_go : (r : Reading) (m v : Option Breach) (i j : ℕ) (s : Place) (z w : Move) (F : Place → Type 0) → z ≡ go m s
+    → AlikeMove i j z w → Meets w v F → (q : Place) × (v ≡ m) × Alike i j s q × F q
+meets_go r m v i j s z w F e alike h =
+    let a : AlikeMove i j (go m s) w = subst (λ x. AlikeMove i j x w) e alike in
+    let k : Meets (go m a.0) v F = subst (λ x. Meets x v F) a.1 h in
+    (a.0, sym k.0, a.2, k.1)
+
+pub next_goes : (r : Reading) (prefix : List ℕ) (c : ℕ) (rest : List ℕ) (left : ℕ) (m : Option Breach) (s : Place)
+    (z : Move) (d : Document) (n : Next r prefix c rest left z d) → z ≡ go m s
+    → (q : Place) × (n.mark ≡ m) × Alike left (length n.cells_left) s q
+    × Follows r (λ o. o ≡ meant (meaning d.node)) n.cells_left q
+next_goes r prefix c rest left m s z d n e =
+    meets_go r m n.mark left (length n.cells_left) s z n.other _ e n.alike n.meets
+
+pub next_bad : (r : Reading) (prefix : List ℕ) (c : ℕ) (rest : List ℕ) (left : ℕ)
+    (z : Move) (d : Document) → Next r prefix c rest left z d → z ≡ bad → ⊥
+next_bad r prefix c rest left z d n e =
+    let w : n.other ≡ bad = subst (λ x. AlikeMove left (length n.cells_left) x n.other) e n.alike in
+    subst (λ x. Meets x n.mark (λ s. Follows r (λ o. o ≡ meant (meaning d.node)) n.cells_left s)) w n.meets
+
+pub next_bad_deep : (r : Reading) (prefix : List ℕ) (c : ℕ) (rest : List ℕ) (left : ℕ)
+    (z : Move) (d : Document) → Next r prefix c rest left z d → z ≡ bad_deep → ⊥
+next_bad_deep r prefix c rest left z d n e =
+    let w : n.other ≡ bad_deep = subst (λ x. AlikeMove left (length n.cells_left) x n.other) e n.alike in
+    subst (λ x. Meets x n.mark (λ s. Follows r (λ o. o ≡ meant (meaning d.node)) n.cells_left s)) w n.meets
+
+-- behind one character more, by any mark
+pub record Onto (r : Reading) (prefix : List ℕ) (c left : ℕ) (s : Place) (other : ℕ) : Type 0 where
+  pub place : Place
+  pub alike : Alike left other s place
+  pub goes : (t : List ℕ) (v : Value) → length t ≡ other → Goes r v t place
+      → Goes r v (prefix ++ (c ∷ t)) (before no_frames)
+
+pub onto_next : (r : Reading) (prefix : List ℕ) (c left : ℕ) (p s : Place) (m : Option Breach)
+    → Reaches r prefix (suc left) p → move r p c (suc left) ≡ go m s → (other : ℕ) → Onto r prefix c left s other
+onto_next r prefix c left p s m reached e other =
+    let b = reached.back (suc other) in
+    let a : AlikeMove left other (go m s) (move r b.place c (suc other)) =
+    subst (λ x. AlikeMove left other x (move r b.place c (suc other))) e
+    (moves_alike r left other c p b.place b.alike) in
+    record {
+      place = a.0;
+      alike = a.2;
+      goes = λ t v l h. b.goes (c ∷ t) v (ap suc l)
+          (subst (λ n. On (move r b.place c (suc n)) (λ x. Goes r v t x)) (sym l)
+          (subst (λ z. On z (λ x. Goes r v t x)) (sym a.1) h));
+    }
+
+-- one character more, at which no breach stands
+pub reaches_next : (r : Reading) (prefix : List ℕ) (c left : ℕ) (p s : Place) → Reaches r prefix (suc left) p
+    → move r p c (suc left) ≡ go None s → Reaches r (prefix ++ (c ∷ [])) left s
+reaches_next r prefix c left p s reached e = record { onward = onward; back = back }
+  where
+    onward : (d : Document) (h : Completes r (prefix ++ (c ∷ [])) d) → Followed r (prefix ++ (c ∷ [])) h.1 left s d
+    onward d h =
+        let n = next r prefix c left p d reached h in
+        let g = next_goes r prefix c h.1 left None s (move r p c (suc left)) d n e in
+        record {
+          cells_left = n.cells_left;
+          place = g.0;
+          split = n.split ∙ ap (λ z. plain prefix (cell c z ∷ n.cells_left)) g.1
+              ∙ sym (plain-append prefix (c ∷ []) n.cells_left);
+          text = n.text;
+          alike = g.2;
+          follows = g.3;
+        }
+
+    back : (other : ℕ) → Reached r (prefix ++ (c ∷ [])) left s other
+    back other =
+        let o = onto_next r prefix c left p s None reached e other in
+        record {
+          place = o.place;
+          alike = o.alike;
+          goes = λ t v l h. subst (λ z. Goes r v z (before no_frames)) (sym (append_assoc prefix (c ∷ []) t))
+              (o.goes t v l h);
+        }
+
+-- the prefix, closed, is a text of the grammar
+pub closed : (r : Reading) (prefix : List ℕ) (left : ℕ) (p : Place) → Reaches r prefix left p
+    → (d : Document) × Spells r (prefix ++ closer p) d
+closed r prefix left p reached =
+    let b = reached.back (length (closer p)) in
+    let g = closes r b.place in
+    let d = sound r g.0 (prefix ++ closer p) (b.goes (closer p) g.0 refl
+    (subst (λ t. Goes r g.0 t b.place) (sym (closer-alike left (length (closer p)) p b.place b.alike)) g.1)) in
+    (d.0, d.1)
+
+-- so is the prefix with the character, where the machine goes on with it, by any mark
+pub closed_next : (r : Reading) (prefix : List ℕ) (c left : ℕ) (p s : Place) (m : Option Breach)
+    → Reaches r prefix (suc left) p → move r p c (suc left) ≡ go m s
+    → (d : Document) × Spells r (prefix ++ (c ∷ closer s)) d
+closed_next r prefix c left p s m reached e =
+    let o = onto_next r prefix c left p s m reached e (length (closer s)) in
+    let g = closes r o.place in
+    let d = sound r g.0 (prefix ++ (c ∷ closer s)) (o.goes (closer s) g.0 refl
+    (subst (λ t. Goes r g.0 t o.place) (sym (closer-alike left (length (closer s)) s o.place o.alike)) g.1)) in
+    (d.0, d.1)

@@ -1,0 +1,99 @@
+-- From what an outcome is to the error that tells it, and when it may be that of memory.
+use Rattle.std.proofs.Common.{◌≡◌, ◌≢◌, inr, ℕ, suc, ◌-◌, ◌<◌, ◌≤◌, List, [], ◌∷◌, ◌++◌, length, take, drop, drop-cons}
+use Rattle.std.proofs.Common.{get_or, refl, sym, ap, subst, ◌∙◌, arith, Result, Ok, Err}
+use Rattle.std.specs.Prelude.{Contains, chars, IsUtf8, MatchResult}
+use Rattle.std.specs.Str.{IsCharBoundary}
+use Rattle.std.proofs.Math.Seq.{get_or-append_seam}
+use Rattle.std.proofs.lemmas.List.{length-append}
+use Rattle.std.proofs.lemmas.Str.{IsUtf8-drop, IsCharBoundary-before_ascii}
+use Rattle.jzon_base.specs.declared.error.Error.{Error}
+use Rattle.jzon_base.specs.declared.error.Error.TheVariants.{OutOfMemory, UnexpectedEndOfJson, ExceededDepthLimit}
+use Rattle.jzon.specs.Reading.{Reading}
+use Rattle.jzon.specs.Spelling.{deep, pair, digit, duplicate}
+use Rattle.jzon.specs.Fault.{Fault, limit, character, error_at}
+use Rattle.jzon.specs.Machine.{Place, Outcome, meant, refused, last, from, Tells, TellsUnlessMemory}
+use Rattle.jzon.proofs.Texts.FaultOffsets.{chars_split}
+use Rattle.jzon.proofs.Texts.AsciiRuns.{chars-ascii}
+use Rattle.jzon.proofs.Texts.StepsByByte.{from_end}
+
+-- an error that tells an outcome tells the same outcome
+pub told : (t : List ℕ) (e : Error) (o p : Outcome) → o ≡ p → Tells t e p → TellsUnlessMemory t e o
+told t e o p q h = inr (subst (Tells t e) (sym q) h)
+
+pub told_again : (t : List ℕ) (e : Error) (o p : Outcome) → o ≡ p → TellsUnlessMemory t e p → TellsUnlessMemory t e o
+told_again t e o p q h = subst (TellsUnlessMemory t e) (sym q) h
+
+-- the end of a text, where it may not end
+pub told_end : (r : Reading) (bs : List ℕ) (i : ℕ) (p : Place) (o : Outcome) → o ≡ from r bs p i → length bs ≤ i
+    → last p ≡ refused Fault.end []
+    → TellsUnlessMemory (chars bs) UnexpectedEndOfJson o
+told_end r bs i p o q le h = told (chars bs) UnexpectedEndOfJson o (refused Fault.end []) (q ∙ from_end r bs i p le ∙ h)
+    refl
+
+pub told_deep : (t rest : List ℕ) (o : Outcome) → o ≡ refused (limit deep) rest
+    → TellsUnlessMemory t ExceededDepthLimit o
+told_deep t rest o q = told t ExceededDepthLimit o (refused (limit deep) rest) q refl
+
+-- ---- whole results
+
+-- a text that can't go on is refused
+pub stopped_leads : {T : Type 0} (t : List ℕ) (o p : Outcome) (f : T → Outcome) (result : Result T Error) → o ≡ p
+    → MatchResult result (λ v. ⊥) (λ e. Tells t e p) → MatchResult result (λ v. o ≡ f v) (λ e. Tells t e o)
+stopped_leads t o p f (Ok v) q h = absurd h
+stopped_leads t o p f (Err e) q h = subst (Tells t e) (sym q) h
+
+pub stopped_told : {T : Type 0} (t : List ℕ) (o p : Outcome) (f : T → Outcome) (result : Result T Error) → o ≡ p
+    → MatchResult result (λ v. ⊥) (λ e. Tells t e p)
+    → MatchResult result (λ v. o ≡ f v) (λ e. TellsUnlessMemory t e o)
+stopped_told t o p f (Ok v) q h = absurd h
+stopped_told t o p f (Err e) q h = told t e o p q h
+
+-- a result that says what an outcome is says what the same outcome is
+pub same_unless_memory : {T : Type 0} (o p : Outcome) (f : T → Outcome) (t : List ℕ) (result : Result T Error) → o ≡ p
+    → MatchResult result (λ v. p ≡ f v) (λ e. TellsUnlessMemory t e p)
+    → MatchResult result (λ v. o ≡ f v) (λ e. TellsUnlessMemory t e o)
+same_unless_memory o p f t result e h = subst (λ q. MatchResult result (λ v. q ≡ f v) (λ x. TellsUnlessMemory t x q))
+    (sym e) h
+
+pub same_or_memory : {T : Type 0} (o p : Outcome) (f : T → Outcome) (t : List ℕ) (result : Result T Error) → o ≡ p
+    → MatchResult result (λ v. p ≡ f v) (λ e. Tells t e p) → MatchResult result (λ v. o ≡ f v)
+    (λ e. TellsUnlessMemory t e o)
+same_or_memory o p f t (Ok v) q h = q ∙ h
+same_or_memory o p f t (Err e) q h = told t e o p q h
+
+-- ---- memory
+
+-- the error of a text is never that of memory
+error_at_memory : (t : List ℕ) (i : ℕ) (f : Fault) → OutOfMemory ≡ error_at t i f → ⊥
+error_at_memory t i (limit deep) e = cc
+error_at_memory t i (limit pair) e = cc
+error_at_memory t i (limit digit) e = cc
+error_at_memory t i (limit (duplicate back)) e = cc
+error_at_memory t i character e = cc
+error_at_memory t i Fault.end e = cc
+
+tells_no_memory : (t : List ℕ) (o : Outcome) → Tells t OutOfMemory o → ⊥
+tells_no_memory t (meant v) h = h
+tells_no_memory t (refused f rest) h = error_at_memory t (length t - length rest) f h
+
+pub never_memory : {T : Type 0} (P : T → Type 0) (t : List ℕ) (o : Outcome) (result : Result T Error)
+    → MatchResult result P (λ e. Tells t e o)
+    → result ≢ Err OutOfMemory
+never_memory P t o (Ok v) h e = cc
+never_memory P t o (Err x) h e = let same : x ≡ OutOfMemory = cc in tells_no_memory t o
+    (subst (λ z. Tells t z o) same h)
+
+-- an ASCII byte of a text is one of its characters
+pub has_character : (bs : List ℕ) (i b : ℕ) → IsUtf8 bs → i < length bs → get_or bs i 0 ≡ b → b < 128
+    → Contains (chars bs) b
+has_character bs i b u lt e ascii =
+    let at : IsCharBoundary bs i = IsCharBoundary-before_ascii bs i lt (omega (arith, e)) in
+    let split : drop i bs ≡ b ∷ drop (suc i) bs = drop-cons bs i 0 lt ∙ ap (λ z. z ∷ drop (suc i) bs) e in
+    let whole : chars bs ≡ chars (take i bs) ++ (b ∷ chars (drop (suc i) bs)) =
+    chars_split bs i u at ∙ ap (λ z. chars (take i bs) ++ z)
+    (ap chars split ∙ chars-ascii b (drop (suc i) bs) (subst IsUtf8 split (IsUtf8-drop bs i u at)) ascii) in
+    subst (λ z. Contains z b) (sym whole) (
+      length (chars (take i bs)),
+      omega (arith, length-append (chars (take i bs)) (b ∷ chars (drop (suc i) bs))),
+      get_or-append_seam (chars (take i bs)) b (chars (drop (suc i) bs)) b,
+    )

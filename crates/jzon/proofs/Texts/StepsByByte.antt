@@ -1,0 +1,126 @@
+-- One step of the machine over values, by the byte that stands at an offset of a text.
+use Rattle.std.proofs.Common.{◌≡◌, ◌⊎◌, inl, inr, ℕ, suc, ◌+◌, ◌<◌, ◌≤◌, List, [], ◌∷◌, length, drop, get_or, refl, sym}
+use Rattle.std.proofs.Common.{ap, subst, ◌∙◌, arith, drop-cons, add-one, None, Result}
+use Rattle.std.specs.Prelude.{chars, IsUtf8, encode_utf8_all, IsTrue, MatchResult}
+use Rattle.std.specs.Char.{is_ascii_digit}
+use Rattle.std.specs.Str.{IsCharBoundary}
+use Rattle.std.proofs.lemmas.Bool.{cases_lt}
+use Rattle.std.proofs.lemmas.Bool.Decides.{nat_tests}
+use Rattle.std.proofs.lemmas.List.{length-drop, get_or-drop, nil_from_length}
+use Rattle.std.proofs.lemmas.Str.{IsUtf8-drop, chars-nil, encodes-chars}
+use Rattle.jzon_base.specs.declared.error.Error.{Error}
+use Rattle.jzon.specs.Reading.{Reading}
+use Rattle.jzon.specs.Spelling.{deep}
+use Rattle.jzon.specs.Fault.{Fault, limit}
+use Rattle.jzon.specs.Machine.{Place, Move, go, bad, move, last, outcome, outcome_on, from, left_at, stopped, Outcome}
+use Rattle.jzon.specs.Machine.{refused, Tells}
+use Rattle.jzon.proofs.Texts.AsciiRuns.{chars-ascii}
+use Rattle.jzon.proofs.Containers.LiteralLetters.{first_byte, some_byte}
+
+pub digit_is_ascii : (c : ℕ) → IsTrue (is_ascii_digit c) → c < 128
+digit_is_ascii c h = grind (arith, nat_tests)
+
+step_on : (r : Reading) (bs : List ℕ) (p q : Place) (c : ℕ) → IsUtf8 (c ∷ bs) → c < 128
+    → move r p c (length (c ∷ chars bs)) ≡ go None q
+    → outcome r (chars (c ∷ bs)) p ≡ outcome r (chars bs) q
+step_on r bs p q c u lt e = ap (λ cs. outcome r cs p) (chars-ascii c bs u lt)
+    ∙ ap (λ m. outcome_on m (λ x. outcome r (chars bs) x) (c ∷ chars bs)) e
+
+-- an ASCII byte at which the machine goes on
+pub from_step : (r : Reading) (bs : List ℕ) (i : ℕ) (p q : Place) (c : ℕ) → IsUtf8 bs → IsCharBoundary bs i
+    → i < length bs → get_or bs i 0 ≡ c → c < 128
+    → move r p c (left_at bs i) ≡ go None q → from r bs p i ≡ from r bs q (i + 1)
+unfolding from
+from_step r bs i p q c u at lt e ascii m =
+    let split : drop i bs ≡ c ∷ drop (i + 1) bs = drop-cons bs i 0 lt ∙ ap (λ z. z ∷ drop (suc i) bs) e
+    ∙ ap (λ n. c ∷ drop n bs) (sym (add-one i)) in
+    let text : IsUtf8 (c ∷ drop (i + 1) bs) = subst IsUtf8 split (IsUtf8-drop bs i u at) in
+    let left : left_at bs i ≡ length (c ∷ chars (drop (i + 1) bs)) = ap (λ s. length (chars s)) split
+    ∙ ap length (chars-ascii c (drop (i + 1) bs) text ascii) in
+    ap (λ s. outcome r (chars s) p) split ∙ step_on r (drop (i + 1) bs) p q c text ascii
+    (ap (move r p c) (sym left) ∙ m)
+
+-- A place from which no text goes on with the character c, nor ends.
+pub record StopsAt (r : Reading) (p : Place) (bs : List ℕ) (i : ℕ) : Type 0 where
+  pub ends : last p ≡ refused Fault.end []
+  pub bad : (c : ℕ) → (c < 128 → (i < length bs) × (get_or bs i 0 ≡ c)) → move r p c (left_at bs i) ≡ bad
+
+pub stop_on : (r : Reading) (cs : List ℕ) (p : Place) → last p ≡ refused Fault.end []
+    → ((c : ℕ) (ds : List ℕ) → cs ≡ c ∷ ds → move r p c (length cs) ≡ bad)
+    → outcome r cs p ≡ stopped cs
+stop_on r [] p e h = e
+stop_on r (c ∷ cs) p e h = ap (λ m. outcome_on m (λ q. outcome r cs q) (c ∷ cs)) (h c cs refl)
+
+-- the character that stands at an offset, where it is ASCII
+pub byte_there : (bs : List ℕ) (i c : ℕ) (cs : List ℕ) → IsUtf8 bs → IsCharBoundary bs i → chars (drop i bs) ≡ c ∷ cs
+    → c < 128
+    → (i < length bs) × (get_or bs i 0 ≡ c)
+byte_there bs i c cs u at e lt =
+    let w = IsUtf8-drop bs i u at in
+    let some : 0 < length (drop i bs) = some_byte (drop i bs) c cs e in (
+      omega (arith, some, length-drop i bs),
+      ap (λ n. get_or bs n 0) (omega arith) ∙ sym (get_or-drop i bs 0 0)
+          ∙ first_byte (drop i bs) c cs w e lt,
+    )
+
+-- what holds of the byte that stands at an offset, and of each character past ASCII, holds of the character there
+pub by_character : (P : ℕ → Type 0) (bs : List ℕ) (i c : ℕ) → (i < length bs → P (get_or bs i 0))
+    → ((x : ℕ) → 128 ≤ x → P x)
+    → (c < 128 → (i < length bs) × (get_or bs i 0 ≡ c)) → P c
+by_character P bs i c here wide there = either (cases_lt c 128)
+  where
+    either : (c < 128) ⊎ (128 ≤ c) → P c
+    either (inl lt) = let k = there lt in subst P k.1 (here k.0)
+    either (inr le) = wide c le
+
+pub stops_by : (r : Reading) (p : Place) (bs : List ℕ) (i : ℕ) → last p ≡ refused Fault.end []
+    → (i < length bs → move r p (get_or bs i 0) (left_at bs i) ≡ bad)
+    → ((c : ℕ) → 128 ≤ c → move r p c (left_at bs i) ≡ bad) → StopsAt r p bs i
+stops_by r p bs i e here wide = record {
+  ends = e;
+  bad = λ c there. by_character (λ x. move r p x (left_at bs i) ≡ bad)
+      bs i c here wide there;
+}
+
+pub from_stop : (r : Reading) (bs : List ℕ) (i : ℕ) (p : Place) → IsUtf8 bs → IsCharBoundary bs i → StopsAt r p bs i
+    → from r bs p i ≡ stopped (chars (drop i bs))
+unfolding from
+from_stop r bs i p u at h = stop_on r (chars (drop i bs)) p h.ends (λ c cs e. h.bad c (byte_there bs i c cs u at e))
+
+-- what reading a character comes to, where a container too many is open
+abbrev pub IsDeep : Move → Type 0
+IsDeep m = (f : Place → Outcome) (rest : List ℕ) → outcome_on m f rest ≡ refused (limit deep) rest
+
+deep_on : (r : Reading) (cs : List ℕ) (p : Place) → (cs ≡ [] → ⊥)
+    → ((c : ℕ) (ds : List ℕ) → cs ≡ c ∷ ds → IsDeep (move r p c (length cs)))
+    → outcome r cs p ≡ refused (limit deep) cs
+deep_on r [] p some h = absurd (some refl)
+deep_on r (c ∷ cs) p some h = h c cs refl (λ q. outcome r cs q) (c ∷ cs)
+
+-- some character stands before the end of a text
+pub some_character : (bs : List ℕ) (i : ℕ) → IsUtf8 bs → IsCharBoundary bs i → i < length bs → chars (drop i bs) ≡ []
+    → ⊥
+some_character bs i u at lt e =
+    let none : drop i bs ≡ [] = sym (encodes-chars (drop i bs) (IsUtf8-drop bs i u at)) ∙ ap encode_utf8_all e in
+    absurd (omega (arith, lt, length-drop i bs, ap length none))
+
+pub from_deep : (r : Reading) (bs : List ℕ) (i : ℕ) (p : Place) → IsUtf8 bs → IsCharBoundary bs i → i < length bs
+    → IsDeep (move r p (get_or bs i 0) (left_at bs i))
+    → ((c : ℕ) → 128 ≤ c → IsDeep (move r p c (left_at bs i)))
+    → from r bs p i ≡ refused (limit deep) (chars (drop i bs))
+unfolding from
+from_deep r bs i p u at lt here wide =
+    deep_on r (chars (drop i bs)) p (some_character bs i u at lt)
+    (λ c cs e. by_character (λ x. IsDeep (move r p x (left_at bs i))) bs i c (λ _. here) wide
+    (byte_there bs i c cs u at e))
+
+-- the end of the text
+pub from_end : (r : Reading) (bs : List ℕ) (i : ℕ) (p : Place) → length bs ≤ i → from r bs p i ≡ last p
+unfolding from
+from_end r bs i p le = ap (λ cs. outcome r cs p)
+    (ap chars (nil_from_length (drop i bs) (omega (arith, length-drop i bs))) ∙ chars-nil)
+
+-- a result that says what an outcome is says what the same outcome is
+pub same_outcome : {T : Type 0} (o p : Outcome) (f : T → Outcome) (t : List ℕ) (result : Result T Error) → o ≡ p
+    → MatchResult result (λ v. p ≡ f v) (λ e. Tells t e p) → MatchResult result (λ v. o ≡ f v) (λ e. Tells t e o)
+same_outcome o p f t result e h = subst (λ q. MatchResult result (λ v. q ≡ f v) (λ x. Tells t x q)) (sym e) h

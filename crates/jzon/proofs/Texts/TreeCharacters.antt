@@ -1,0 +1,160 @@
+-- The characters of a tree, without marks: what the cells of each part spell before what follows.
+use Rattle.std.proofs.Common.{◌≡◌, ◌∙◌, ℕ, List, [], ◌∷◌, ◌++◌, Bool, true, false, Option, Some, None, refl, ap, append-nil}
+use Rattle.std.specs.Prelude.{if◌then◌else◌}
+use Rattle.jzon.specs.Reading.{Reading}
+use Rattle.jzon.specs.Grammar.{Sign, unsigned, plus, minus, Exponent, Numeral, Item, simple, single, double, Key, Node}
+use Rattle.jzon.specs.Grammar.{Elements, no_elements, element, Members, no_members, member, Document}
+use Rattle.jzon.specs.Grammar as grammar
+use Rattle.jzon.specs.Spelling.{Breach, drops_too_many, keeps_too_many, Cell, cell, plain, marked_last, digits_cells}
+use Rattle.jzon.specs.Spelling.{whole_cells, fraction_cells, sign_cells, exponent_cells, magnitude_cells, item_cells}
+use Rattle.jzon.specs.Spelling.{items_cells, key_cells, node_cells, elements_cells, members_cells, spell}
+use Rattle.jzon.proofs.Texts.Cells.{chars_of, chars-plain}
+
+-- ---- the characters of each part, and then t
+
+abbrev pub fraction_chars : List ℕ → List ℕ → List ℕ
+fraction_chars [] t = t
+fraction_chars (d ∷ ds) t = 46 ∷ d ∷ (ds ++ t)
+
+abbrev pub sign_chars : Sign → List ℕ → List ℕ
+sign_chars unsigned t = t
+sign_chars plus t = 43 ∷ t
+sign_chars minus t = 45 ∷ t
+
+abbrev pub exponent_chars : Option Exponent → List ℕ → List ℕ
+exponent_chars None t = t
+exponent_chars (Some e) t = e.letter ∷ sign_chars e.sign (e.digits ++ t)
+
+abbrev pub magnitude_chars : Numeral → List ℕ → List ℕ
+magnitude_chars n t = n.whole ++ fraction_chars n.fraction (exponent_chars n.exponent t)
+
+abbrev pub numeral_chars : Bool → Numeral → List ℕ → List ℕ
+numeral_chars true n t = 45 ∷ magnitude_chars n t
+numeral_chars false n t = magnitude_chars n t
+
+abbrev pub item_chars : Item → List ℕ → List ℕ
+item_chars (grammar.plain c) t = c ∷ t
+item_chars (simple c) t = 92 ∷ c ∷ t
+item_chars (single u) t = 92 ∷ 117 ∷ (u ++ t)
+item_chars (double u v) t = 92 ∷ 117 ∷ (u ++ (92 ∷ 117 ∷ (v ++ t)))
+
+abbrev pub items_chars : List Item → List ℕ → List ℕ
+items_chars [] t = t
+items_chars (i ∷ is) t = item_chars i (items_chars is t)
+
+abbrev pub key_chars : Key → List ℕ → List ℕ
+key_chars key t = key.before ++ (34 ∷ items_chars key.items (34 ∷ (key.after ++ (58 ∷ t))))
+
+abbrev mutual
+  pub node_chars : Node → List ℕ → List ℕ
+  node_chars Node.null t = 110 ∷ 117 ∷ 108 ∷ 108 ∷ t
+  node_chars (Node.boolean true) t = 116 ∷ 114 ∷ 117 ∷ 101 ∷ t
+  node_chars (Node.boolean false) t = 102 ∷ 97 ∷ 108 ∷ 115 ∷ 101 ∷ t
+  node_chars (Node.number n) t = numeral_chars n.negative n t
+  node_chars (Node.string is) t = 34 ∷ items_chars is (34 ∷ t)
+  node_chars (Node.empty_array b) t = 91 ∷ (b ++ (93 ∷ t))
+  node_chars (Node.empty_object b) t = 123 ∷ (b ++ (125 ∷ t))
+  node_chars (Node.array b n c es) t = 91 ∷ (b ++ node_chars n (c ++ elements_chars es t))
+  node_chars (Node.object key b n c ms) t = 123 ∷ key_chars key (b ++ node_chars n (c ++ members_chars ms t))
+
+  pub elements_chars : Elements → List ℕ → List ℕ
+  elements_chars no_elements t = 93 ∷ t
+  elements_chars (element b n c es) t = 44 ∷ (b ++ node_chars n (c ++ elements_chars es t))
+
+  pub members_chars : Members → List ℕ → List ℕ
+  members_chars no_members t = 125 ∷ t
+  members_chars (member key b n c ms) t = 44 ∷ key_chars key (b ++ node_chars n (c ++ members_chars ms t))
+
+abbrev pub document_chars : Document → List ℕ
+document_chars d = d.before ++ node_chars d.node d.after
+
+-- ---- the cells of each part spell them
+
+chars-digits : (f : List ℕ → Bool) (prefix ds : List ℕ) (k : List Cell)
+    → chars_of (digits_cells f prefix ds k) ≡ ds ++ chars_of k
+chars-digits f prefix [] k = refl
+chars-digits f prefix (d ∷ ds) k = ap (λ z. d ∷ z) (chars-digits f (d ∷ prefix) ds k)
+
+chars-marked : (cs : List ℕ) (m : Option Breach) (k : List Cell) → chars_of (marked_last cs m k) ≡ cs ++ chars_of k
+chars-marked [] m k = refl
+chars-marked (c ∷ []) m k = refl
+chars-marked (c ∷ d ∷ cs) m k = ap (λ z. c ∷ z) (chars-marked (d ∷ cs) m k)
+
+chars-whole : (ds : List ℕ) (m : Option Breach) (k : List Cell) → chars_of (whole_cells ds m k) ≡ ds ++ chars_of k
+chars-whole [] m k = refl
+chars-whole (d ∷ ds) m k = ap (λ z. d ∷ z) (chars-digits drops_too_many (d ∷ []) ds k)
+
+chars-fraction : (ws ds : List ℕ) (k : List Cell) → chars_of (fraction_cells ws ds k) ≡ fraction_chars ds (chars_of k)
+chars-fraction ws [] k = refl
+chars-fraction ws (d ∷ ds) k = ap (λ z. 46 ∷ z) (chars-digits (keeps_too_many ws) [] (d ∷ ds) k)
+
+chars-sign : (s : Sign) (k : List Cell) → chars_of (sign_cells s k) ≡ sign_chars s (chars_of k)
+chars-sign unsigned k = refl
+chars-sign plus k = refl
+chars-sign minus k = refl
+
+chars-exponent : (x : Option Exponent) (k : List Cell)
+    → chars_of (exponent_cells x k) ≡ exponent_chars x (chars_of k)
+chars-exponent None k = refl
+chars-exponent (Some e) k = ap (λ z. e.letter ∷ z)
+    (chars-sign e.sign (plain e.digits k) ∙ ap (sign_chars e.sign) (chars-plain e.digits k))
+
+chars-magnitude : (n : Numeral) (m : Option Breach) (k : List Cell)
+    → chars_of (magnitude_cells n m k) ≡ magnitude_chars n (chars_of k)
+chars-magnitude n m k = chars-whole n.whole m _ ∙ ap (λ z. n.whole ++ z)
+    (chars-fraction n.whole n.fraction _ ∙ ap (fraction_chars n.fraction) (chars-exponent n.exponent k))
+
+chars-numeral : (negative : Bool) (n : Numeral) (m : Option Breach) (k : List Cell)
+    → chars_of (if negative then cell 45 m ∷ magnitude_cells n None k else magnitude_cells n m k)
+    ≡ numeral_chars negative n (chars_of k)
+chars-numeral true n m k = ap (λ z. 45 ∷ z) (chars-magnitude n None k)
+chars-numeral false n m k = chars-magnitude n m k
+
+chars-item : (i : Item) (k : List Cell) → chars_of (item_cells i k) ≡ item_chars i (chars_of k)
+chars-item (grammar.plain c) k = refl
+chars-item (simple c) k = refl
+chars-item (single u) k = ap (λ z. 92 ∷ 117 ∷ z) (chars-plain u k)
+chars-item (double u v) k = ap (λ z. 92 ∷ 117 ∷ z) (chars-plain u _
+    ∙ ap (λ z. u ++ (92 ∷ 117 ∷ z)) (chars-marked v _ k))
+
+chars-items : (is : List Item) (k : List Cell) → chars_of (items_cells is k) ≡ items_chars is (chars_of k)
+chars-items [] k = refl
+chars-items (i ∷ is) k = chars-item i (items_cells is k) ∙ ap (item_chars i) (chars-items is k)
+
+chars-key : (r : Reading) (seen : List (List ℕ)) (key : Key) (m : Option Breach) (k : List Cell)
+    → chars_of (key_cells r seen key m k) ≡ key_chars key (chars_of k)
+chars-key r seen key m k = chars-plain key.before _ ∙ ap (λ z. key.before ++ (34 ∷ z))
+    (chars-items key.items _ ∙ ap (λ z. items_chars key.items (34 ∷ z)) (chars-plain key.after _))
+
+mutual
+  pub chars-node : (r : Reading) (n : Node) (i : ℕ) (m : Option Breach) (k : List Cell)
+      → chars_of (node_cells r n i m k) ≡ node_chars n (chars_of k)
+  chars-node r Node.null i m k = refl
+  chars-node r (Node.boolean true) i m k = refl
+  chars-node r (Node.boolean false) i m k = refl
+  chars-node r (Node.number n) i m k = chars-numeral n.negative n m k
+  chars-node r (Node.string is) i m k = ap (λ z. 34 ∷ z) (chars-items is _)
+  chars-node r (Node.empty_array b) i m k = ap (λ z. 91 ∷ z) (chars-plain b _)
+  chars-node r (Node.empty_object b) i m k = ap (λ z. 123 ∷ z) (chars-plain b _)
+  chars-node r (Node.array b n c es) i m k = ap (λ z. 91 ∷ z) (chars-plain b _ ∙ ap (λ z. b ++ z)
+      (chars-node r n _ _ _ ∙ ap (node_chars n) (chars-plain c _ ∙ ap (λ z. c ++ z) (chars-elements r es _ k))))
+  chars-node r (Node.object key b n c ms) i m k = ap (λ z. 123 ∷ z) (chars-key r [] key _ _ ∙ ap (key_chars key)
+      (chars-plain b _ ∙ ap (λ z. b ++ z) (chars-node r n _ _ _ ∙ ap (node_chars n)
+      (chars-plain c _ ∙ ap (λ z. c ++ z) (chars-members r ms _ _ k)))))
+
+  pub chars-elements : (r : Reading) (es : Elements) (i : ℕ) (k : List Cell)
+      → chars_of (elements_cells r es i k) ≡ elements_chars es (chars_of k)
+  chars-elements r no_elements i k = refl
+  chars-elements r (element b n c es) i k = ap (λ z. 44 ∷ z) (chars-plain b _ ∙ ap (λ z. b ++ z)
+      (chars-node r n _ _ _ ∙ ap (node_chars n) (chars-plain c _ ∙ ap (λ z. c ++ z) (chars-elements r es _ k))))
+
+  pub chars-members : (r : Reading) (ms : Members) (seen : List (List ℕ)) (i : ℕ) (k : List Cell)
+      → chars_of (members_cells r ms seen i k) ≡ members_chars ms (chars_of k)
+  chars-members r no_members seen i k = refl
+  chars-members r (member key b n c ms) seen i k = ap (λ z. 44 ∷ z) (chars-key r seen key _ _ ∙ ap (key_chars key)
+      (chars-plain b _ ∙ ap (λ z. b ++ z) (chars-node r n _ _ _ ∙ ap (node_chars n)
+      (chars-plain c _ ∙ ap (λ z. c ++ z) (chars-members r ms _ _ k)))))
+
+pub spells : (r : Reading) (d : Document) → spell r d ≡ document_chars d
+spells r d = chars-plain d.before _ ∙ ap (λ z. d.before ++ z)
+    (chars-node r d.node 0 None _ ∙ ap (node_chars d.node) (chars-plain d.after [] ∙ append-nil d.after))
