@@ -1,4 +1,6 @@
--- Over the cells of a tree the machine goes from before it to behind what it means, each move with its cell's mark.
+-- Complete (`complete`): over the cells of a tree the automaton goes from before it to after its meaning, each move
+-- with its cell's mark. For each part of a tree, whatever cells k follow and whatever G is asked at the end: from after
+-- the part over k gives from before the part over its cells and k.
 use Rattle.std.proofs.Common.{◌≡◌, ◌∙◌, ℕ, suc, ◌+◌, ◌-◌, List, [], ◌∷◌, ◌++◌, length, Bool, true, false, cond, ◌&&◌, ◌||◌}
 use Rattle.std.proofs.Common.{None, refl, sym, subst, ap, arith}
 use Rattle.std.specs.Prelude.{IsTrue}

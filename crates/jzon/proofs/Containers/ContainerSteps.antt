@@ -1,4 +1,4 @@
--- Steps of the machine over values at the tokens of arrays and objects, by the byte that stands at an offset of a text.
+-- Moves of the automaton at the tokens of arrays and objects, by the byte at an offset of a text.
 use Rattle.std.proofs.Common.{◌≡◌, ◌≢◌, ℕ, ◌+◌, ◌<◌, true, false, List, [], ◌∷◌, ◌++◌, length, drop, get_or, refl, ap}
 use Rattle.std.proofs.Common.{◌∙◌, arith, Option, Some, None, lit<}
 use Rattle.std.specs.Prelude.{chars, IsUtf8, IsTrue, nat_le}

@@ -1,4 +1,4 @@
--- What begins a value, by the byte that stands before it, whatever containers are open.
+-- What begins a value, by the byte before it, whatever containers are open.
 use Rattle.std.proofs.Common.{◌≡◌, ◌≢◌, ℕ, ◌+◌, ◌<◌, ◌≤◌, Bool, true, false, List, [], ◌∷◌, length, get_or, refl, ap}
 use Rattle.std.proofs.Common.{◌∙◌, arith, None, lit<}
 use Rattle.std.specs.Prelude.{IsUtf8, IsTrue, ◌==◌}

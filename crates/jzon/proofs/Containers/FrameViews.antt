@@ -1,4 +1,4 @@
--- What the machine over values sees of the stack of open containers.
+-- The parser's stack of open containers, as the automaton sees it.
 use Rattle.std.proofs.Common.{◌≡◌, ◌≢◌, ◌⊎◌, inl, inr, get_or, ℕ, suc, ◌+◌, ◌<◌, ◌≤◌, Bool, true, false, cond, List, []}
 use Rattle.std.proofs.Common.{◌∷◌, ◌++◌, length, refl, ap, ◌∙◌, arith, Option, Some, None, option_map}
 use Rattle.std.specs.Prelude.{nat_le}

@@ -1,4 +1,4 @@
--- The letters of a word, by the bytes of a text.
+-- The letters of `null`, `true` and `false`, one by one, by the bytes of a text.
 use Rattle.std.proofs.Common.{◌≡◌, ℕ, suc, ◌+◌, ◌<◌, ◌≤◌, Bool, true, false, cond, List}
 use Rattle.std.proofs.Common.{[], ◌∷◌, ◌++◌, length, drop, get_or}
 use Rattle.std.proofs.Common.{refl, sym, ap, subst, ◌∙◌, arith, drop-cons, add-one, eq-eqb, eqb-true, None}

@@ -1,4 +1,6 @@
--- Where the machine, marks passed over, goes over a text and ends with a value, a tree spells the text and means it.
+-- Sound (`sound`): what the automaton reads to a value, marks passed over, a tree spells that means it. By induction
+-- over the text: `Left p t` says what the text t is from state p to its end (from inside an array: the rest of an
+-- element, then elements, the bracket, and what follows the array), and `on` gives it for one character more.
 use Rattle.std.proofs.Common.{◌≡◌, ◌∙◌, ◌⊎◌, inl, inr, ℕ, suc, List, [], ◌∷◌, ◌++◌, length, Bool, true}
 use Rattle.std.proofs.Common.{false, cond, ◌==◌, Option, Some, None, refl, sym, subst, ap, eqb-true}
 use Rattle.std.specs.List.{fold}
@@ -30,9 +32,9 @@ use Rattle.jzon.proofs.Numbers.SoundNumbers.{InNumeral, number_ends, number_on, 
 use Rattle.jzon.proofs.Strings.SoundStrings.{Left as string_left, string_on}
 
 module _ (r : Reading) (v : Value) where
-  -- ---- what the rest of a text is, from each place to the end of the text
+  -- ---- what the rest of a text is, from each state to the end of the text
 
-  -- behind a value: the rest of its container, and so on; at the top it is the value that is meant
+  -- after a value: the rest of its container, and so on; at the top it is the value that is meant
   abbrev Behind : Frames → Value → List ℕ → Type 0
   Behind no_frames x t = IsWhitespace r t × (x ≡ v)
   Behind (array_frame fs vs) x t = (w : List ℕ) × (es : Elements) × (u : List ℕ) × IsWhitespace r w × AreElements r es

@@ -1,4 +1,4 @@
--- Words, of which four letters are compared at once.
+-- `null`, `true` and `false`, of which the code compares four letters at once.
 use Rattle.std.proofs.Common.{◌≡◌, ◌≢◌, ◌⊎◌, inl, inr, ℕ, ◌+◌, ◌<◌, ◌≤◌, true, false, List}
 use Rattle.std.proofs.Common.{[], ◌∷◌, length, get_or, refl, sym}
 use Rattle.std.proofs.Common.{ap, subst, ◌∙◌, arith, None, lit<}

@@ -1,4 +1,5 @@
--- Over the cells of a number the machine goes from its first character to behind it, each move with its cell's mark.
+-- Complete, for numbers (`complete_number`): over the cells of a number the automaton goes from before it to after it,
+-- each move with its cell's mark. A number ends by what follows it, so nothing is asked of that.
 use Rattle.std.proofs.Common.{◌≡◌, ◌∙◌, ℕ, List, [], ◌∷◌, Bool, true, false, not, ◌&&◌, ◌==◌, Option, Some, None, refl}
 use Rattle.std.proofs.Common.{sym, subst, ap, eqb-true, append-nil}
 use Rattle.std.specs.Prelude.{IsTrue}
@@ -85,7 +86,7 @@ module _ (r : Reading) (G : Outcome → Type 0) (fs : Frames) (negative : Bool) 
 
   -- ---- whole digits
 
-  -- at this place the whole digits ws are read, and what follows isn't one more
+  -- at this state the whole digits ws are read, and what follows isn't one more
   record EndsWhole (x : NumberPlace) (ws : List ℕ) : Type 1 where
     past : (class : Class) (c : ℕ) (m : Option Breach) (H : Place → Type 0)
         → Meets (move_after_whole class fs negative ws c) m H → Meets (move_numeral x class fs negative c) m H

@@ -1,4 +1,4 @@
--- The machine over values on runs of digits, and behind the digits of a number.
+-- The automaton on a whole run of digits: it reads the run, or stops at the digit at which a limit is broken.
 use Rattle.std.proofs.Common.{◌≡◌, ◌∙◌, ℕ, zero, suc, ◌+◌, ◌<◌, ◌≤◌, List, [], ◌∷◌, ◌++◌, length, drop, Bool, true}
 use Rattle.std.proofs.Common.{false, refl, ap}
 use Rattle.std.specs.Prelude.{IsTrue}
@@ -14,9 +14,9 @@ use Rattle.jzon.proofs.Texts.ClassesOfCharacters.{digits-class}
 use Rattle.jzon.proofs.Numbers.NumberLimits.{AreUnmarked, IsFirstMarked, whole_unmarked, whole_marked}
 use Rattle.jzon.proofs.Numbers.NumberLimits.{fraction_unmarked, fraction_marked, never_marked}
 
--- ---- digits at a place that collects them
+-- ---- digits at a state that collects them
 
--- Each digit is put before those that the place has, and has a breach where the digits up to it are too many.
+-- Each digit is put before those that the state has, and has a breach where the digits up to it are too many.
 Collects : Reading → (List ℕ → Place) → (List ℕ → Bool) → Type 0
 Collects r at too_many =
     (ds : List ℕ) (c left : ℕ) → IsTrue (is_ascii_digit c) → move r (at ds) c left

@@ -1,4 +1,4 @@
--- The first digit behind a minus, by the byte that stands there.
+-- The first digit after a minus, by the byte there.
 use Rattle.std.proofs.Common.{◌≡◌, ℕ, ◌+◌, ◌<◌, true, List, length, get_or, refl, ap, ◌∙◌}
 use Rattle.std.specs.Prelude.{IsUtf8, IsTrue, ◌==◌}
 use Rattle.std.specs.Char.{is_ascii_digit}

@@ -1,4 +1,5 @@
--- The digits of a number before its exponent, by the bytes of a text.
+-- The digits of a number before its exponent, by offsets of the text's bytes: `reads_whole_alone` without a fraction,
+-- `reads_whole_and_fraction` with one.
 use Rattle.std.proofs.Common.{◌≡◌, ◌∙◌, ℕ, ◌+◌, ◌<◌, ◌≤◌, Bool, true, false, not, if◌then◌else◌, ◌==◌, List, [], ◌∷◌}
 use Rattle.std.proofs.Common.{◌++◌, length, drop, get_or, pos, refl, sym, ap, subst, arith, eqb-true, true≢false}
 use Rattle.std.proofs.Common.{length-append}

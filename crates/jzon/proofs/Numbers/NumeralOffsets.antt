@@ -1,4 +1,4 @@
--- The digits of a number, by the bytes of a text.
+-- The digits of a number and its exponent, by offsets of the text's bytes.
 use Rattle.std.proofs.Common.{◌≡◌, ◌∙◌, ℕ, suc, ◌+◌, ◌<◌, ◌≤◌, Bool, true, false, cond, ◌==◌, List, [], ◌∷◌, ◌++◌}
 use Rattle.std.proofs.Common.{length, take, drop, get_or, refl, sym, ap, subst, arith, drop-cons, add-one, eqb-true}
 use Rattle.std.proofs.Common.{not}

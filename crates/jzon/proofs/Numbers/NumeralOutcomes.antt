@@ -1,4 +1,4 @@
--- What is left of a text comes to, behind each part of a number.
+-- What the automaton makes of what is left after each part of a number: another part, the end, or a missing digit.
 use Rattle.std.proofs.Common.{◌≡◌, ◌∙◌, ℕ, ◌+◌, ◌<◌, ◌≤◌, List, [], ◌∷◌, ◌++◌, length, drop, Bool, true, false, ◌==◌}
 use Rattle.std.proofs.Common.{None, refl, sym, ap, arith, true≢false, append-nil, eq-eqb}
 use Rattle.std.specs.Prelude.{IsTrue, ⊤}
@@ -93,7 +93,7 @@ stop_signed r fs negative ws ds l s (c ∷ cs) h =
 
 -- ---- whole digits
 
--- At this place the whole digits ws are read; a character that passes the test would be one more.
+-- At this state the whole digits ws are read; a character that passes the test would be one more.
 record IsBehindWhole (r : Reading) (fs : Frames) (negative : Bool) (x : NumberPlace) (ws : List ℕ) (more : ℕ → Bool) :
     Type 0 where
   moves : (c : ℕ) → more c ≡ false → move r (numeral fs negative x) c 0

@@ -1,4 +1,6 @@
--- Inside a number: what is left of a text begins with the rest of the number. One character more, from what is so behind it.
+-- Sound, for numbers (`number_on`, `number_ends`): where the automaton goes to a value from inside a number, what is
+-- left begins with the rest of a number, `InNumeral`, and goes on as is allowed after it. One character more, from what
+-- is so after that character.
 use Rattle.std.proofs.Common.{◌≡◌, ◌∙◌, ℕ, List, [], ◌∷◌, ◌++◌, Bool, true, false, not, ◌&&◌, ◌==◌, Option, None}
 use Rattle.std.proofs.Common.{refl, sym, subst, ap, eqb-true}
 use Rattle.std.specs.Prelude.{IsTrue}

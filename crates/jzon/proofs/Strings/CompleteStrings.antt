@@ -1,4 +1,5 @@
--- Over the items of a string the machine goes from between two items to behind them, each move with its cell's mark.
+-- Complete, for strings (`complete_string`, `read_items`): over the items of a string the automaton goes from between
+-- two items to after them, each move with its cell's mark, and has the bytes that they mean.
 use Rattle.std.proofs.Common.{◌≡◌, ◌∙◌, ℕ, zero, suc, ◌+◌, List, [], ◌∷◌, ◌++◌, length, Bool, true, false, not, ◌&&◌, Option}
 use Rattle.std.proofs.Common.{None, refl, sym, subst, ap, arith, append_assoc, append-nil, encode_utf8}
 use Rattle.std.proofs.Common.{encode_utf8_all}

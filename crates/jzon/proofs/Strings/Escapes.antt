@@ -1,4 +1,4 @@
--- Escapes of a string, by the bytes of a text.
+-- Escapes of a string, by the bytes of a text: a simple one, one of four digits, and the second of a surrogate pair.
 use Rattle.std.proofs.Common.{◌≡◌, ℕ, ◌+◌, ◌<◌, Bool, true, false, cond, List, ◌++◌, length, drop, get_or, refl, ap}
 use Rattle.std.proofs.Common.{subst, ◌∙◌, arith, None}
 use Rattle.std.specs.Prelude.{chars, IsUtf8, encode_utf8, ◌==◌}

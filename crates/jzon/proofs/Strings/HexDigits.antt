@@ -1,4 +1,4 @@
--- Four hexadecimal digits of an escape, by the bytes of a text.
+-- The four hexadecimal digits of an escape, by the bytes of a text.
 use Rattle.std.proofs.Common.{◌≡◌, ℕ, zero, suc, ◌+◌, ◌-◌, ◌^◌, ◌<◌, ◌≤◌, true, false, cond, List, [], length, drop}
 use Rattle.std.proofs.Common.{get_or, refl, ap, ◌∙◌, arith, None, ◌&&◌}
 use Rattle.std.specs.Prelude.{chars, IsUtf8}
@@ -16,8 +16,8 @@ use Rattle.jzon.specs.Machine.{Role, Place, Move, string, code, second_code, go,
 use Rattle.jzon.specs.Machine.{coded, paired, move_code, move_second_code, Outcome, outcome_on, from, left_at, stopped}
 use Rattle.jzon.proofs.Strings.StringSteps.{byte_moves, byte_stops}
 
--- A place that reads hexadecimal digits, by how many are missing behind the next one and the number so far; and the
--- move behind the last digit.
+-- States that read hexadecimal digits, by the count of digits missing after the next one and the number so far; and
+-- the move after the last digit.
 pub record ReadsHex (r : Reading) (at : ℕ → ℕ → Place) (done : ℕ → Move) : Type 0 where
   pub more : (n u c left : ℕ) → is_ascii_hexdigit c ≡ true → move r (at (suc n) u) c left ≡ go None (at n (add_hex u c))
   pub last_one : (u c left : ℕ) → is_ascii_hexdigit c ≡ true → move r (at zero u) c left ≡ done (add_hex u c)
@@ -44,7 +44,7 @@ second_code_reads r role xs first = record {
   unfinished = λ n u. refl;
 }
 
--- what the text comes to from byte i on with so many digits missing; with none, the last one stands before i
+-- what the text comes to from byte i on with n digits missing; with none, the last one is before i
 abbrev pub hex_left : Reading → (ℕ → ℕ → Place) → (ℕ → Move) → List ℕ → ℕ → ℕ → ℕ → Outcome
 hex_left r at done bs zero u i = outcome_on (done u) (λ p. from r bs p i) (chars (drop (i - 1) bs))
 hex_left r at done bs (suc n) u i = from r bs (at n u) i
@@ -80,7 +80,7 @@ hex_missing r at done bs n u i h text here none =
 
 -- ---- the number so far
 
--- What is read from the first of four digits on, up to byte i, at each place that reads them.
+-- What is read from the first of four digits on, up to byte i, at each state that reads them.
 pub record HexRead (bs : List ℕ) (start i u : ℕ) : Type 0 where
   pub boundary : IsCharBoundary bs i
   pub small : u < 16 ^ (i - start)

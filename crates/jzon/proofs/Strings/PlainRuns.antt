@@ -1,4 +1,4 @@
--- Runs of bytes that stand in a string as they are, and what they do to what is left of a text.
+-- Runs of bytes that are in a string as they are: the automaton adds them to the string.
 use Rattle.std.proofs.Common.{◌≡◌, ℕ, ◌+◌, ◌<◌, ◌≤◌, Bool, true, false, cond, List, [], ◌∷◌, ◌++◌, length, take, drop}
 use Rattle.std.proofs.Common.{get_or, refl, sym, ap, subst, ◌∙◌, inl, inr, arith, append_assoc, append-nil}
 use Rattle.std.proofs.Common.{take-append-drop, length-append, None}

@@ -29,7 +29,7 @@ quote_closes r role xs bs i u at lt e =
     ∙ ap (λ k. outcome_on (closed_string r role xs (left_at bs k)) (λ p. from r bs p (i + 1)) (chars (drop k bs)))
     (let back : i ≡ i + 1 - 1 = omega arith in back)
 
--- it stands before the place behind it
+-- a boundary of characters is after it
 pub quote_ends : (bs : List ℕ) (i : ℕ) → IsUtf8 bs → IsCharBoundary bs i → (i < length bs) × (get_or bs i 0 ≡ 34)
     → EndsAtQuote bs i (i + 1)
 quote_ends bs i u at here =

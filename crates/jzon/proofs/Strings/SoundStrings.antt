@@ -1,5 +1,6 @@
--- Inside a string: where the machine goes over a text to a value, the text begins with the rest of a string, and from
--- behind it the machine goes over what follows.
+-- Sound, for strings (`string_on`): where the automaton goes to a value from inside a string, what is left begins with
+-- the rest of a string, `Left`, and goes on as is allowed after its closing quote. One character more, from what is so
+-- after that character.
 use Rattle.std.proofs.Common.{◌≡◌, ◌∙◌, ◌⊎◌, ℕ, zero, suc, List, [], ◌∷◌, ◌++◌, length, Bool, true, false, cond, ◌&&◌, ◌==◌}
 use Rattle.std.proofs.Common.{None, inl, inr, refl, sym, subst, ap, eqb-true, encode_utf8, encode_utf8_all, append-nil}
 use Rattle.std.specs.Prelude.{IsTrue, if◌then◌else◌}

@@ -1,4 +1,5 @@
--- One byte of a text: an ASCII character that is read, or the character at which the text stops.
+-- One move by the character at an offset, which may be past ASCII: it goes on with an ASCII character (`byte_moves`),
+-- with one that the state alone expects (`expected_byte`), or with none (`byte_stops`).
 use Rattle.std.proofs.Common.{◌≡◌, ℕ, suc, ◌+◌, ◌<◌, cond, List, [], ◌∷◌, length, drop, get_or, refl, ap, subst, sym}
 use Rattle.std.proofs.Common.{◌∙◌, arith, drop-cons, add-one, None, eq-eqb, eqb-true}
 use Rattle.std.specs.Prelude.{chars, IsUtf8, encode_utf8, encode_utf8_all, ◌++◌, ◌==◌}
@@ -46,7 +47,7 @@ begins bs i c cs u at e =
           ∙ here;
     }
 
--- the byte is an ASCII character, and the machine moves by it
+-- the byte is an ASCII character, and the automaton moves by it
 pub byte_moves : (r : Reading) (p : Place) (bs : List ℕ) (i b : ℕ) → IsUtf8 bs → IsCharBoundary bs i → i < length bs
     → get_or bs i 0 ≡ b → b < 128
     → from r bs p i ≡ outcome_on (move r p b (left_at bs i)) (λ q. from r bs q (i + 1)) (chars (drop i bs))
@@ -65,13 +66,13 @@ pub byte_stops : (r : Reading) (p : Place) (bs : List ℕ) (i : ℕ) → IsUtf8 
 unfolding from
 byte_stops r p bs i u at end h = stop_on r (chars (drop i bs)) p end (λ c cs e. h c (begins bs i c cs u at e))
 
--- a place that goes on with one ASCII character alone
+-- a state that goes on with one ASCII character alone
 pub record Expects (r : Reading) (p : Place) (b : ℕ) (q : Place) : Type 0 where
   pub ascii : b < 128
   pub moves : (c n : ℕ) → move r p c n ≡ cond (c == b) (go None q) bad
   pub unfinished : last p ≡ refused fault.end []
 
--- that character stands there
+-- that character is there
 pub expected_byte : (r : Reading) (p q : Place) (bs : List ℕ) (i b : ℕ) → Expects r p b q → IsUtf8 bs
     → IsCharBoundary bs i → i < length bs → get_or bs i 0 ≡ b
     → from r bs p i ≡ from r bs q (i + 1)
@@ -80,7 +81,7 @@ expected_byte r p q bs i b h u at lt e =
     ∙ ap (λ m. outcome_on m (λ z. from r bs z (i + 1)) (chars (drop i bs)))
     (h.moves b (left_at bs i) ∙ ap (λ t. cond t (go None q) bad) (eq-eqb b b refl))
 
--- another one does, or none
+-- another one is, or none
 pub unexpected_byte : (r : Reading) (p q : Place) (bs : List ℕ) (i b : ℕ) → Expects r p b q → IsUtf8 bs
     → IsCharBoundary bs i
     → ((i < length bs) × (get_or bs i 0 ≡ b) → ⊥) → from r bs p i ≡ stopped (chars (drop i bs))

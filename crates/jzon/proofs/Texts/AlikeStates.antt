@@ -1,5 +1,10 @@
--- How many characters are left matters to a key alone: places that differ in it move alike. And where a depth breach
--- would stand at the next character.
+-- Alike states. A state inside a name of a member keeps how many characters were left at its opening quote, so two
+-- texts with one prefix, but of other lengths, come to states that differ in that count alone: they are `Alike`, have
+-- one closing text (`closer-alike`), and move alike (`moves_alike`).
+-- And depth: a value or a name that opens one container too many is the only thing that a depth breach can be at, so
+-- the state alone says whether one may be at the next character (`IsDeep`): so it is where a move has that mark
+-- (`deep_of_go`) or is `bad_deep` (`deep_of_bad_deep`), no move from there is `bad` (`deep_not_bad`), and some
+-- character goes on from there with that mark (`deep_some`).
 use Rattle.std.proofs.Common.{◌≡◌, ℕ, zero, suc, ◌+◌, ◌-◌, List, [], ◌∷◌, Bool, true, false, cond, ◌==◌, nat_le, Option}
 use Rattle.std.proofs.Common.{Some, None, refl, subst, ap, ◌∙◌, arith}
 use Rattle.std.specs.Prelude.{⊤}
@@ -23,7 +28,7 @@ use Rattle.jzon.specs.Machine.{move_second_code, past_letter, number_value, expo
 use Rattle.jzon.proofs.Texts.ClassesOfCharacters.{class_34, class_110}
 use Rattle.jzon.proofs.Texts.Closing.{closer}
 
--- the same place, of a text that has i characters left and of one that has j
+-- the same state, of a text that has i characters left and of one that has j
 abbrev pub AlikeKey : ℕ → ℕ → Role → List ℕ → TextPlace → Place → Type 0
 AlikeKey i j (as_value fs) bs x q = string (as_value fs) bs x ≡ q
 AlikeKey i j (as_key fs es opened) bs x q = (back : ℕ) × (opened ≡ back + i) × (string (as_key fs es (back + j)) bs x ≡ q)
@@ -37,7 +42,7 @@ AlikeMove i j (go m p) z = (q : Place) × (z ≡ go m q) × Alike i j p q
 AlikeMove i j bad z = z ≡ bad
 AlikeMove i j bad_deep z = z ≡ bad_deep
 
--- the mark of the first character of what the place waits for, where that is a value or a key
+-- the mark of the first character of what the state waits for, where that is a value or a key
 abbrev pub next_mark : Reading → Place → Option Breach
 next_mark r (before fs) = value_mark r fs
 next_mark r (before_key fs es) = key_mark r fs es
@@ -46,7 +51,7 @@ next_mark r _ = None
 abbrev pub IsDeep : Reading → Place → Type 0
 IsDeep r p = next_mark r p ≡ Some deep
 
--- what does not speak of how many characters are left is the same at alike places
+-- what does not speak of how many characters are left is the same at alike states
 role_same : {A : Type 0} (f : Place → A) (i j : ℕ) (role : Role) (bs : List ℕ) (x : TextPlace) (q : Place)
     → ((fs : Frames) (es : Entries) (m n : ℕ) → f (string (as_key fs es m) bs x) ≡ f (string (as_key fs es n) bs x))
     → AlikeKey i j role bs x q → f (string role bs x) ≡ f q
@@ -67,13 +72,13 @@ mark-alike r i j _ q h = ap (next_mark r) h
 
 -- ---- what each move tells
 
--- the place isn't inside a key
+-- the state isn't inside a key
 abbrev Keyless : Place → Type 0
 Keyless (string (as_key fs es opened) bs x) = ⊥
 Keyless _ = ⊤
 
--- Where this is the mark of the place: a move has a depth breach or is refused for depth only if the mark is one, it is
--- refused as a character only if it is none, and K holds of the next place.
+-- Where this is the mark of the state: a move has a depth breach or is `bad_deep` only if the mark is one, it is `bad`
+-- only if it is none, and K holds of the next state.
 abbrev Tells : (Place → Type 0) → Option Breach → Move → Type 0
 Tells K m (go m' p) = (m' ≡ Some deep → m ≡ Some deep) × K p
 Tells K m bad = m ≡ Some deep → ⊥
@@ -194,7 +199,7 @@ numeral_tells (exponent ws ds l s xs) digits fs negative c = (unmarked _, tt)
 numeral_tells (exponent ws ds l s xs) class fs negative c =
     behind_tells class fs (number_value negative ws ds (exponent_of l s (onto xs [])))
 
--- Of strings K is what holds of each place inside and behind.
+-- Of strings K is what holds of each state inside and after them.
 module _ (r : Reading) (K : Place → Type 0) (role : Role) (inside : (bs : List ℕ) (x : TextPlace) → K (string role bs x)) where
   code_tells : (bs : List ℕ) (n u c : ℕ) → Tells K None (move_code role bs n u c)
   code_tells bs zero u c = (unmarked _, by_test (is_surrogate (add_hex u c)))
@@ -272,7 +277,7 @@ deep_some r (before_key fs es) left h =
     (34, s, rw (class_34 r.strict) (ap (λ m. go m s) h))
 deep_some r _ left h = absurd (cc)
 
--- ---- alike places move alike
+-- ---- alike states move alike
 
 keyless_alike : (i j : ℕ) (p : Place) → Keyless p → Alike i j p p
 keyless_alike i j (string (as_key fs es opened) bs x) h = absurd h

@@ -1,4 +1,5 @@
--- A result that the machine gives is the answer to the text.
+-- What is returned for a text by a parser that returns what the automaton makes of it (`answers_of`): a value that the
+-- text means, or its error. And the error of one text, by computation (`refused_error`).
 use Rattle.std.proofs.Common.{inl, inr, ◌≡◌, ℕ, ◌-◌, List, length, Result, Ok, Err, subst, sym, ◌∙◌, refl}
 use Rattle.jzon_base.specs.declared.error.Error.{Error}
 use Rattle.jzon_base.specs.declared.error.Error.TheVariants.{ExceededDepthLimit}
@@ -14,7 +15,7 @@ use Rattle.jzon.specs.Answer.{IsMeaningOf, IsReadable, IsErrorUnlessMemory}
 use Rattle.jzon.proofs.Texts.Verdict.{Verdict, answers}
 use Rattle.jzon.proofs.ReadBack.MeaningHeld.{meaning_held}
 
--- a meaning of the text, or what a refused text is answered
+-- the text means the value, or has the error, unless an allocation failed
 abbrev pub Answers : Reading → List ℕ → Result JsonValue Error → Type 0
 Answers r t (Ok v) = IsMeaningOf r t v
 Answers r t (Err e) = IsErrorUnlessMemory r t e

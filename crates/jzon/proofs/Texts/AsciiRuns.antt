@@ -1,4 +1,4 @@
--- Runs of ASCII bytes of a text, and what they do to what is left of it.
+-- Runs of ASCII bytes of a text, as whitespace and digits are: what is left of the text after them.
 use Rattle.std.proofs.Common.{◌≡◌, ℕ, suc, ◌+◌, ◌<◌, ◌≤◌, Bool, true, false, cond, List, [], ◌∷◌, ◌++◌, length, drop}
 use Rattle.std.proofs.Common.{add-one, drop-cons, get_or, refl, sym, ap, subst, ◌∙◌, arith, None}
 use Rattle.std.specs.Prelude.{chars, IsUtf8}
@@ -22,7 +22,7 @@ chars-ascii b bs u lt = chars_past_char (b ∷ bs) bs b u (ap (λ z. z ++ bs) (s
 pub IsUtf8-past_ascii : (b : ℕ) (bs : List ℕ) → IsUtf8 (b ∷ bs) → b < 128 → IsUtf8 bs
 IsUtf8-past_ascii b bs u lt = IsUtf8-past_char (b ∷ bs) bs b u (ap (λ z. z ++ bs) (sym (encode_ascii b lt)))
 
--- at this place the characters that pass the test, all ASCII, are passed over
+-- at this state the characters that pass the test, all ASCII, are passed over
 pub record Skips (r : Reading) (p : Place) (test : ℕ → Bool) : Type 0 where
   pub ascii : (c : ℕ) → test c ≡ true → c < 128
   pub stays : (c n : ℕ) → test c ≡ true → move r p c n ≡ go None p

@@ -1,4 +1,5 @@
--- From each place a text leads to an end: the missing letters and digits, a quote, a value, the brackets.
+-- Closing: from each state a text leads to an end (`closes`). The text is computed by `closer` from the state alone:
+-- the digit or letter that is missing, a quote, a value, and the brackets that close what is open. It may break limits.
 use Rattle.std.proofs.Common.{◌≡◌, ℕ, zero, suc, List, [], ◌∷◌, ◌++◌, codes, refl, Bool, true}
 use Rattle.std.proofs.Common.{false, None, ◌&&◌, eq-eqb}
 use Rattle.jzon_base.specs.PairList.{put}
@@ -30,12 +31,12 @@ digit_closer (lettered ws ds l) t = 48 ∷ t
 digit_closer (signed_exponent ws ds l s) t = 48 ∷ t
 digit_closer (exponent ws ds l s xs) t = t
 
--- so many zeros
+-- n zeros
 abbrev pub zeros : ℕ → List ℕ → List ℕ
 zeros zero t = t
 zeros (suc n) t = 48 ∷ zeros n t
 
--- the code unit with so many zeros more
+-- the code unit with n zeros more
 abbrev pub with_zeros : ℕ → ℕ → ℕ
 with_zeros zero u = u
 with_zeros (suc n) u = with_zeros n (add_hex u 48)
@@ -84,7 +85,7 @@ module _ (r : Reading) where
 
   -- ---- numbers
 
-  -- a place where a number may end, with this value
+  -- a state where a number may end, with this value
   ends_number : (fs : Frames) (negative : Bool) (x : NumberPlace) (v : Value)
       → last_numeral x fs negative ≡ meant_at fs v
       → move_numeral x closes_array fs negative 93 ≡ move_behind closes_array fs v

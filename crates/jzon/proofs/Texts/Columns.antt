@@ -1,4 +1,4 @@
--- The column behind a prefix of a text, by its last newline.
+-- The column after a prefix of a text, by its last newline.
 use Rattle.std.proofs.Common.{◌≡◌, ℕ, zero, suc, ◌+◌, ◌-◌, ◌<◌, ◌≤◌, Bool, true, List, [], ◌∷◌, ◌++◌, length, take}
 use Rattle.std.proofs.Common.{drop, get_or, refl, sym, ap, subst, ◌∙◌, arith, take-append-drop}
 use Rattle.std.specs.Prelude.{not, ◌==◌, chars, IsUtf8}

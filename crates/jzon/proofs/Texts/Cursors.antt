@@ -1,4 +1,5 @@
--- From one offset of a text to another, as the parser's cursor goes.
+-- From one offset of the parser's cursor to another: what the automaton makes of what was left, from the old state, is
+-- what it makes of what is left now, from the new state.
 use Rattle.std.proofs.Common.{◌≡◌, ℕ, ◌+◌, ◌<◌, ◌≤◌, List, true, refl, sym, subst, ◌∙◌, arith, Result, Ok, Err}
 use Rattle.std.specs.Prelude.{chars, IsUtf8}
 use Rattle.std.proofs.lemmas.Str.{IsUtf8-had}
@@ -12,7 +13,7 @@ use Rattle.jzon.proofs.Texts.ReportedErrors.{told_again}
 pub utf8_of : (t : Cursor) → IsUtf8 t.source.now
 utf8_of t = IsUtf8-had _ t.utf8
 
--- behind a token that the machine reads so
+-- after a token that the automaton reads so
 pub token_goes : (t u : Cursor) (p q : Place) (end : ℕ) → IsPast t.reading t.source.now end u → t.index < end
     → allows_whitespace q ≡ true
     → left t p ≡ from t.reading t.source.now q end → IsBehind t u × (left t p ≡ left u q)
@@ -25,7 +26,7 @@ pub byte_goes : (t u : Cursor) (p q : Place) → IsPast t.reading t.source.now (
     → left t p ≡ from t.reading t.source.now q (t.index + 1) → IsBehind t u × (left t p ≡ left u q)
 byte_goes t u p q past allows e = token_goes t u p q (t.index + 1) past (omega arith) allows e
 
--- What was left of a text comes to the same as what is left here, at or behind the old place.
+-- What was left of a text comes to the same as what is left here, at the old offset or after it.
 pub record Reached (t : Cursor) (o : Place) (m : Cursor) (p : Place) : Type 0 where
   pub text : m.source.now ≡ t.source.now
   pub reading : m.reading ≡ t.reading

@@ -1,4 +1,4 @@
--- The error of a text that stops at an offset, by the bytes before and after it.
+-- The error of a text that stops at an offset, by the bytes before it and after it.
 use Rattle.std.proofs.Common.{◌≡◌, ℕ, ◌+◌, ◌-◌, ◌≤◌, refl, List, [], ◌∷◌, ◌++◌, length, take, drop, get_or, sym, ap}
 use Rattle.std.proofs.Common.{subst, ◌∙◌, arith, take-append-drop, slice_get, Some}
 use Rattle.std.specs.Prelude.{chars, IsUtf8, slice_range}

@@ -1,4 +1,6 @@
--- Two trees that spell one text are the same tree: by the first characters of their parts.
+-- One tree: two trees that spell one text are the same tree (`same_tree`). No automaton is spoken of: two trees are
+-- taken apart together, part by part, since the first character of what is left says which part comes next, and the
+-- class of the character after a part says where the part ends.
 use Rattle.std.proofs.Common.{◌≡◌, ◌∙◌, ℕ, zero, suc, List, [], ◌∷◌, ◌++◌, Bool, true, false, cond, ◌==◌, Option, Some, None}
 use Rattle.std.proofs.Common.{refl, sym, subst, ap, arith, append-nil}
 use Rattle.std.specs.Prelude.{IsTrue, ⊤}

@@ -1,4 +1,8 @@
--- The prefixes of a text: each completion of a prefix goes through a place alike to the text's own.
+-- Prefixes. `Reaches r f left p`: over the prefix f the automaton comes to state p with no mark, where `left`
+-- characters are left. Two facts are carried along (`reaches_start`, `reaches_next`): each tree whose text begins with
+-- f has no mark inside f, and from a state alike to p the automaton follows its other cells (`onward`, by `complete`);
+-- and what goes to a value from a state alike to p goes there with f before it (`back`, for `sound`). So f has a
+-- completion (`closed`), and so has f with a character with which the automaton goes on (`closed_next`).
 use Rattle.std.proofs.Common.{◌≡◌, ℕ, suc, List, [], ◌∷◌, ◌++◌, length, Option, None, refl, sym, subst, ap}
 use Rattle.std.proofs.Common.{◌∙◌, append_assoc}
 use Rattle.jzon_tree.specs.Value.{Value}
@@ -15,7 +19,7 @@ use Rattle.jzon.proofs.Texts.AlikeStates.{Alike, AlikeMove, moves_alike, closer-
 use Rattle.jzon.proofs.Containers.CompleteValues.{complete}
 use Rattle.jzon.proofs.Containers.SoundValues.{sound}
 
--- the cells of the tree behind the prefix, and where the machine is then
+-- the cells of the tree after the prefix, and the state from which the automaton follows them
 pub record Followed (r : Reading) (prefix rest : List ℕ) (left : ℕ) (p : Place) (d : Document) : Type 0 where
   pub cells_left : List Cell
   pub place : Place
@@ -24,13 +28,13 @@ pub record Followed (r : Reading) (prefix rest : List ℕ) (left : ℕ) (p : Pla
   pub alike : Alike left (length cells_left) p place
   pub follows : Follows r (λ o. o ≡ meant (meaning d.node)) cells_left place
 
--- the place behind the prefix where so many characters are left
+-- the state after the prefix where `other` characters are left
 pub record Reached (r : Reading) (prefix : List ℕ) (left : ℕ) (p : Place) (other : ℕ) : Type 0 where
   pub place : Place
   pub alike : Alike left other p place
   pub goes : (s : List ℕ) (v : Value) → length s ≡ other → Goes r v s place → Goes r v (prefix ++ s) (before no_frames)
 
--- The machine goes over the prefix, with no mark, to the place, where so many characters are left.
+-- The automaton goes over the prefix, with no mark, to the state, where `left` characters are left.
 pub record Reaches (r : Reading) (prefix : List ℕ) (left : ℕ) (p : Place) : Type 0 where
   pub onward : (d : Document) (h : Completes r prefix d) → Followed r prefix h.1 left p d
   pub back : (other : ℕ) → Reached r prefix left p other
@@ -170,7 +174,7 @@ closed r prefix left p reached =
     (subst (λ t. Goes r g.0 t b.place) (sym (closer-alike left (length (closer p)) p b.place b.alike)) g.1)) in
     (d.0, d.1)
 
--- so is the prefix with the character, where the machine goes on with it, by any mark
+-- so is the prefix with the character, where the automaton goes on with it, by any mark
 pub closed_next : (r : Reading) (prefix : List ℕ) (c left : ℕ) (p s : Place) (m : Option Breach)
     → Reaches r prefix (suc left) p → move r p c (suc left) ≡ go m s
     → (d : Document) × Spells r (prefix ++ (c ∷ closer s)) d

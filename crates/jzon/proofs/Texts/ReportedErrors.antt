@@ -1,4 +1,5 @@
--- From what an outcome is to the error that tells it, and when it may be that of memory.
+-- From what the automaton makes of a text to the error that reports it; that error is never `OutOfMemory`, which is
+-- returned where an allocation fails.
 use Rattle.std.proofs.Common.{◌≡◌, ◌≢◌, inr, ℕ, suc, ◌-◌, ◌<◌, ◌≤◌, List, [], ◌∷◌, ◌++◌, length, take, drop, drop-cons}
 use Rattle.std.proofs.Common.{get_or, refl, sym, ap, subst, ◌∙◌, arith, Result, Ok, Err}
 use Rattle.std.specs.Prelude.{Contains, chars, IsUtf8, MatchResult}

@@ -1,4 +1,5 @@
--- One step of the machine over values, by the byte that stands at an offset of a text.
+-- One move of the automaton, by the byte at an offset of a text: it goes on, stops, reports a depth limit, or the text
+-- ends.
 use Rattle.std.proofs.Common.{◌≡◌, ◌⊎◌, inl, inr, ℕ, suc, ◌+◌, ◌<◌, ◌≤◌, List, [], ◌∷◌, length, drop, get_or, refl, sym}
 use Rattle.std.proofs.Common.{ap, subst, ◌∙◌, arith, drop-cons, add-one, None, Result}
 use Rattle.std.specs.Prelude.{chars, IsUtf8, encode_utf8_all, IsTrue, MatchResult}
@@ -26,7 +27,7 @@ step_on : (r : Reading) (bs : List ℕ) (p q : Place) (c : ℕ) → IsUtf8 (c �
 step_on r bs p q c u lt e = ap (λ cs. outcome r cs p) (chars-ascii c bs u lt)
     ∙ ap (λ m. outcome_on m (λ x. outcome r (chars bs) x) (c ∷ chars bs)) e
 
--- an ASCII byte at which the machine goes on
+-- an ASCII byte with which the automaton goes on
 pub from_step : (r : Reading) (bs : List ℕ) (i : ℕ) (p q : Place) (c : ℕ) → IsUtf8 bs → IsCharBoundary bs i
     → i < length bs → get_or bs i 0 ≡ c → c < 128
     → move r p c (left_at bs i) ≡ go None q → from r bs p i ≡ from r bs q (i + 1)
@@ -40,7 +41,7 @@ from_step r bs i p q c u at lt e ascii m =
     ap (λ s. outcome r (chars s) p) split ∙ step_on r (drop (i + 1) bs) p q c text ascii
     (ap (move r p c) (sym left) ∙ m)
 
--- A place from which no text goes on with the character c, nor ends.
+-- A state from which no text goes on with the character c, nor ends.
 pub record StopsAt (r : Reading) (p : Place) (bs : List ℕ) (i : ℕ) : Type 0 where
   pub ends : last p ≡ refused Fault.end []
   pub bad : (c : ℕ) → (c < 128 → (i < length bs) × (get_or bs i 0 ≡ c)) → move r p c (left_at bs i) ≡ bad

@@ -1,4 +1,4 @@
--- What may follow a whole text: whitespace alone.
+-- What may follow the value of a whole text: whitespace alone.
 use Rattle.std.proofs.Common.{◌≡◌, ℕ, ◌<◌, true, false, List, [], ◌∷◌, length, drop, get_or, refl, ap}
 use Rattle.std.specs.Prelude.{chars, IsUtf8}
 use Rattle.std.specs.Str.{IsCharBoundary}

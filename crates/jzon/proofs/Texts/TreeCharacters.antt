@@ -1,4 +1,4 @@
--- The characters of a tree, without marks: what the cells of each part spell before what follows.
+-- The text of a tree without its marks, part by part, each with what follows; `spells`: it is what `spell` gives.
 use Rattle.std.proofs.Common.{◌≡◌, ◌∙◌, ℕ, List, [], ◌∷◌, ◌++◌, Bool, true, false, Option, Some, None, refl, ap, append-nil}
 use Rattle.std.specs.Prelude.{if◌then◌else◌}
 use Rattle.jzon.specs.Reading.{Reading}

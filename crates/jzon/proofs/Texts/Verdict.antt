@@ -1,4 +1,7 @@
--- What the machine makes of a text is what its one tree means, or its one first fault.
+-- The verdict: what the automaton makes of a text is what its one tree means, or its one first fault (`answers`). One
+-- lemma for each way to stop: `accepted`, `limit_fault` (a limit), `bad_deep_fault` (depth, at a character that doesn't
+-- go on), `character_fault` (an unexpected character), `end_fault` (the end of the text); `first` says of each that no
+-- fault is before it. docs/ARCHITECTURE.md walks through them.
 use Rattle.std.proofs.Common.{◌≡◌, ◌⊎◌, ℕ, suc, ◌-◌, ◌<◌, ◌≤◌, List, [], ◌∷◌, ◌++◌, length, take, Option, Some, None}
 use Rattle.std.proofs.Common.{inl, inr, refl, sym, subst, ap, ◌∙◌, slice_get, arith, append_assoc, append-nil}
 use Rattle.std.proofs.Common.{length-append, Bool}
@@ -41,7 +44,7 @@ mark_at : (r : Reading) (f : List ℕ) (y : Cell) (q : List Cell) (d : Document)
     → cells r d ≡ plain f (y ∷ q) → slice_get (marks_of (cells r d)) (length f) ≡ Some y.mark
 mark_at r f y q d e = ap (λ z. slice_get (marks_of z) (length f)) e ∙ mark_behind f (y ∷ q)
 
--- no fault stands in a prefix that leads to a place
+-- no fault is in a prefix over which the automaton came: its closing text completes it, and no tree has a mark there
 no_fault_before : (r : Reading) (f u : List ℕ) (left : ℕ) (p : Place) (j : ℕ) (g : Fault) → Reaches r f left p
     → j < length f → IsFault r (f ++ u) j g → ⊥
 no_fault_before r f u left p j g reached lt h =
@@ -54,7 +57,7 @@ no_fault_before r f u left p j g reached lt h =
     (subst (λ z. Completes r z x.0) (sym (take-append-le (suc j) f u lt)) (completes_take r (suc j) f x.0 whole_prefix))
     (λ b e. plain_unmarked f rest j b lt (subst (λ z. slice_get (marks_of z) j ≡ Some (Some b)) split e)) h
 
--- a fault behind such a prefix is the first
+-- so a fault after such a prefix is the first
 first : (r : Reading) (f u : List ℕ) (left : ℕ) (p : Place) (g : Fault) → Reaches r f left p
     → IsFault r (f ++ u) (length f) g → IsFirstFault r (f ++ u) (length f) g
 first r f u left p g reached h = (h, λ j k e. not_before j k e)
