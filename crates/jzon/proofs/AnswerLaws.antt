@@ -1,8 +1,8 @@
 -- Laws about answers, for callers: what a result is that meets the clauses of `parse` or of `parse_as`, where it is
 -- known
 -- what the text is read as, or which error it has. They hold for every reading.
-use Rattle.std.proofs.Common.{◌≡◌, ◌⊎◌, inl, inr, ℕ, ◌≤◌, List, Result, Ok, Err, IsTrue, IfOk, IfErr}
-use Rattle.std.proofs.Common.{MatchResult, IsOkUnless, sym, ap, ◌∙◌, subst, chars}
+use Rattle.std.proofs.Common.{◌≡◌, ◌⊎◌, inl, inr, ℕ, ◌≤◌, List, Result, Ok, Err, IsTrue, IfOk, IfErr, MatchResult}
+use Rattle.std.proofs.Common.{IsOkUnless, sym, ap, ◌∙◌, subst, chars}
 use Rattle.jzon_base.specs.declared.error.Error.{Error}
 use Rattle.jzon_base.specs.declared.error.Error.TheVariants.{OutOfMemory}
 use Rattle.jzon_tree.specs.Lawful.{IsValue}

@@ -1,8 +1,8 @@
 -- Complete (`complete`): over the cells of a tree the automaton goes from before it to after its meaning, each move
 -- with its cell's mark. For each part of a tree, whatever cells k follow and whatever G is asked at the end: from after
 -- the part over k gives from before the part over its cells and k.
-use Rattle.std.proofs.Common.{◌≡◌, ◌∙◌, ℕ, suc, ◌+◌, ◌-◌, List, [], ◌∷◌, ◌++◌, length, Bool, true, false, cond, ◌&&◌, ◌||◌}
-use Rattle.std.proofs.Common.{None, refl, sym, subst, ap, arith}
+use Rattle.std.proofs.Common.{◌≡◌, ◌∙◌, ℕ, suc, ◌+◌, ◌-◌, List, [], ◌∷◌, ◌++◌, length, Bool, true, false, cond, ◌&&◌}
+use Rattle.std.proofs.Common.{◌||◌, None, refl, sym, subst, ap, arith}
 use Rattle.std.specs.Prelude.{IsTrue}
 use Rattle.std.specs.List.{fold}
 use Rattle.std.specs.Option.{is_some}
@@ -22,8 +22,9 @@ use Rattle.jzon.specs.Meaning.{bytes_of, meaning, elements_meaning, members_mean
 use Rattle.jzon.specs.Machine.{Entries, Frames, no_frames, array_frame, object_frame, as_key, Place, before, before_key}
 use Rattle.jzon.specs.Machine.{after_key, behind, go, move, Outcome, meant, frames_depth, value_mark, key_mark}
 use Rattle.jzon.specs.Machine.{repeated_if}
-use Rattle.jzon.proofs.Texts.ClassesOfCharacters.{whitespace-class, class_34, class_44, class_58, class_91, class_93}
-use Rattle.jzon.proofs.Texts.ClassesOfCharacters.{class_102, class_110, class_116, class_123, class_125}
+use Rattle.jzon.specs.Classes.{quote, opens_array, closes_array, opens_object, closes_object, comma, colon, begins_null}
+use Rattle.jzon.specs.Classes.{begins_true, begins_false}
+use Rattle.jzon.proofs.Texts.ClassesOfCharacters.{whitespace-class, class-char}
 use Rattle.jzon.proofs.Texts.Runs.{Follows}
 use Rattle.jzon.proofs.Numbers.CompleteNumbers.{complete_number}
 use Rattle.jzon.proofs.Strings.CompleteStrings.{read_items, complete_string, length-items}
@@ -65,7 +66,8 @@ not_first_key r fs k v (e ∷ es) = not_first_by r fs (bytes_eq e.0 k) _ _ _ _
 abbrev Knows : List (List ℕ) → Entries → Type 0
 Knows seen es = (q : List ℕ) → is_some (find q es) ≡ is_known seen q
 
-knows-put : (seen : List (List ℕ)) (es : Entries) (k : List ℕ) (v : Value) → Knows seen es → Knows (k ∷ seen) (put k v es)
+knows-put : (seen : List (List ℕ)) (es : Entries) (k : List ℕ) (v : Value) → Knows seen es
+    → Knows (k ∷ seen) (put k v es)
 knows-put seen es k v h q = known-put q k v es ∙ ap (λ t. bytes_eq k q || t) (h q)
 
 -- ---- whitespace
@@ -102,12 +104,12 @@ module _ (r : Reading) (G : Outcome → Type 0) where
       ap (λ t. breach_if (r.strict && t) (duplicate (opened - suc (length after)))) (knows (bytes_of key.items))
       ∙ ap (λ n. breach_if (r.strict && is_known seen (bytes_of key.items)) (duplicate n)) back in
       blanks key.before (before_key fs es) _ ok.0 (λ c left e. rw (whitespace-class r c e) refl)
-      (rw (class_34 r.strict) (
+      (rw (class-char r.strict quote) (
         refl,
         read_items r G (as_key fs es opened) [] key.items (closing ∷ after) ok.1 (
           mark,
           blanks key.after (after_key fs es (bytes_of key.items)) _ ok.2
-              (λ c left e. rw (whitespace-class r c e) refl) (rw (class_58 r.strict) (refl, h)),
+              (λ c left e. rw (whitespace-class r c e) refl) (rw (class-char r.strict colon) (refl, h)),
         ),
       ))
 
@@ -116,28 +118,31 @@ module _ (r : Reading) (G : Outcome → Type 0) where
   mutual
     pub complete_node : (n : Node) (fs : Frames) (k : List Cell) → IsNode r n → F k (behind fs (meaning n))
         → F (node_cells r n (frames_depth fs) (value_mark r fs) k) (before fs)
-    complete_node Node.null fs k ok h = rw (class_110 r.strict) (refl, (refl, (refl, (refl, h))))
-    complete_node (Node.boolean true) fs k ok h = rw (class_116 r.strict) (refl, (refl, (refl, (refl, h))))
-    complete_node (Node.boolean false) fs k ok h = rw (class_102 r.strict) (refl, (refl, (refl, (refl, (refl, h)))))
+    complete_node Node.null fs k ok h = rw (class-char r.strict begins_null) (refl, (refl, (refl, (refl, h))))
+    complete_node (Node.boolean true) fs k ok h = rw (class-char r.strict begins_true) (refl, (refl, (refl, (refl, h))))
+    complete_node (Node.boolean false) fs k ok h =
+        rw (class-char r.strict begins_false) (refl, (refl, (refl, (refl, (refl, h)))))
     complete_node (Node.number n) fs k ok h = complete_number r G fs n k ok h
     complete_node (Node.string is) fs k ok h = complete_string r G fs is k ok h
     complete_node (Node.empty_array b) fs k ok h =
-        rw (class_91 r.strict) (refl, blanks_before b (array_frame fs []) _ ok (rw (class_93 r.strict) (refl, h)))
+        rw (class-char r.strict opens_array)
+        (refl, blanks_before b (array_frame fs []) _ ok (rw (class-char r.strict closes_array) (refl, h)))
     complete_node (Node.empty_object b) fs k ok h =
-        rw (class_123 r.strict) (
+        rw (class-char r.strict opens_object) (
           refl,
           blanks b (before_key fs []) _ ok (λ c left e. rw (whitespace-class r c e) refl)
-              (rw (class_125 r.strict) (refl, h)),
+              (rw (class-char r.strict closes_object) (refl, h)),
         )
     complete_node (Node.array b n c es) fs k ok h =
-        rw (class_91 r.strict) (
+        rw (class-char r.strict opens_array) (
           refl,
           blanks_before b (array_frame fs []) _ ok.0
               (complete_node n (array_frame fs []) _ ok.1
-              (blanks_behind c (array_frame fs []) (meaning n) _ ok.2 (complete_elements es fs [] (meaning n) k ok.3 h))),
+              (blanks_behind c (array_frame fs []) (meaning n) _ ok.2
+              (complete_elements es fs [] (meaning n) k ok.3 h))),
         )
     complete_node (Node.object key b n c ms) fs k ok h =
-        rw (class_123 r.strict) (
+        rw (class-char r.strict opens_object) (
           refl,
           complete_key fs [] [] key _ (λ q. refl) ok.0
               (blanks_before b (object_frame fs [] (bytes_of key.items)) _ ok.1
@@ -151,11 +156,12 @@ module _ (r : Reading) (G : Outcome → Type 0) where
         → F k (behind fs (value.array (with_prefix vs (value.value v (elements_meaning es)))))
         → F (elements_cells r es (suc (frames_depth fs)) k) (behind (array_frame fs vs) v)
     complete_elements no_elements fs vs v k ok h =
-        rw (class_93 r.strict) (refl, subst (λ z. F k (behind fs (value.array z))) (sym (closed-values vs v)) h)
+        rw (class-char r.strict closes_array)
+        (refl, subst (λ z. F k (behind fs (value.array z))) (sym (closed-values vs v)) h)
     complete_elements (element b n c es) fs vs v k ok h =
         let inner : Frames = array_frame fs (vs ++ v ∷ []) in
         let rest : List Cell = plain c (elements_cells r es (suc (frames_depth fs)) k) in
-        rw (class_44 r.strict) (
+        rw (class-char r.strict comma) (
           refl,
           blanks_before b inner _ ok.0
               (subst (λ m. F (node_cells r n (suc (frames_depth fs)) m rest) (before inner)) (not_first_value r fs vs v)
@@ -169,13 +175,13 @@ module _ (r : Reading) (G : Outcome → Type 0) where
         (k : List Cell) → Knows seen (put key v es) → AreMembers r ms
         → F k (behind fs (value.object (pairs_of (fold (λ qs p. put p.0 p.1 qs) (put key v es) (members_meaning ms)))))
         → F (members_cells r ms seen (suc (frames_depth fs)) k) (behind (object_frame fs es key) v)
-    complete_members no_members fs es key v seen k knows ok h = rw (class_125 r.strict) (refl, h)
+    complete_members no_members fs es key v seen k knows ok h = rw (class-char r.strict closes_object) (refl, h)
     complete_members (member key' b n c ms) fs es key v seen k knows ok h =
         let so_far : Entries = put key v es in
         let inner : Frames = object_frame fs so_far (bytes_of key'.items) in
         let rest : List Cell = plain b (node_cells r n (suc (frames_depth fs)) None
         (plain c (members_cells r ms (bytes_of key'.items ∷ seen) (suc (frames_depth fs)) k))) in
-        rw (class_44 r.strict) (
+        rw (class-char r.strict comma) (
           refl,
           subst (λ m. F (key_cells r seen key' m rest) (before_key fs so_far)) (not_first_key r fs key v es)
               (complete_key fs so_far seen key' rest knows ok.0

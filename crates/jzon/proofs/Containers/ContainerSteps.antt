@@ -16,9 +16,7 @@ use Rattle.jzon.specs.Machine.{Entries, Frames, frames_depth, array_frame, objec
 use Rattle.jzon.specs.Machine.{before_key, word, numeral, string, after_key, behind, allows_whitespace, go, bad, bad_at}
 use Rattle.jzon.specs.Machine.{value_mark, key_mark, move_before, move_before_key, move_after_key, move_empty_object}
 use Rattle.jzon.specs.Machine.{move_behind, refused, outcome_on, from, left_at}
-use Rattle.jzon.proofs.Texts.ClassesOfCharacters.{class-whitespace, class-quote, class-closes_array}
-use Rattle.jzon.proofs.Texts.ClassesOfCharacters.{class-closes_object, class-comma, class-colon, class_34, class_44}
-use Rattle.jzon.proofs.Texts.ClassesOfCharacters.{class_58, class_91, class_93, class_123, class_125, whitespace-class}
+use Rattle.jzon.proofs.Texts.ClassesOfCharacters.{class-says, class-char, whitespace-class}
 use Rattle.jzon.proofs.Texts.AsciiRuns.{Skips, before_skips, behind_skips, space_is_ascii, wide_is_no_space}
 use Rattle.jzon.proofs.Texts.StepsByByte.{StopsAt, from_step, stops_by, IsDeep, from_deep}
 
@@ -29,14 +27,14 @@ pub open_array : (r : Reading) (bs : List ℕ) (i : ℕ) (fs : Frames) → IsUtf
     → value_mark r fs ≡ None → from r bs (before fs) i ≡ from r bs (before (array_frame fs [])) (i + 1)
 open_array r bs i fs u at lt e h =
     from_step r bs i (before fs) _ 91 u at lt e (lit< tt)
-    (ap (λ k. move_before r k fs 91) (class_91 r.strict) ∙ ap (λ m. go m (before (array_frame fs []))) h)
+    (ap (λ k. move_before r k fs 91) (class-char r.strict opens_array) ∙ ap (λ m. go m (before (array_frame fs []))) h)
 
 pub open_object : (r : Reading) (bs : List ℕ) (i : ℕ) (fs : Frames) → IsUtf8 bs → IsCharBoundary bs i → i < length bs
     → get_or bs i 0 ≡ 123
     → value_mark r fs ≡ None → from r bs (before fs) i ≡ from r bs (before_key fs []) (i + 1)
 open_object r bs i fs u at lt e h =
     from_step r bs i (before fs) _ 123 u at lt e (lit< tt)
-    (ap (λ k. move_before r k fs 123) (class_123 r.strict) ∙ ap (λ m. go m (before_key fs [])) h)
+    (ap (λ k. move_before r k fs 123) (class-char r.strict opens_object) ∙ ap (λ m. go m (before_key fs [])) h)
 
 -- ---- empty containers
 
@@ -45,14 +43,14 @@ pub close_empty_array : (r : Reading) (bs : List ℕ) (i : ℕ) (fs : Frames) �
     → from r bs (before (array_frame fs [])) i ≡ from r bs (behind fs (value.array value.no_values)) (i + 1)
 close_empty_array r bs i fs u at lt e =
     from_step r bs i (before (array_frame fs [])) _ 93 u at lt e (lit< tt)
-    (ap (λ k. move_before r k (array_frame fs []) 93) (class_93 r.strict))
+    (ap (λ k. move_before r k (array_frame fs []) 93) (class-char r.strict closes_array))
 
 pub close_empty_object : (r : Reading) (bs : List ℕ) (i : ℕ) (fs : Frames) → IsUtf8 bs → IsCharBoundary bs i
     → i < length bs → get_or bs i 0 ≡ 125
     → from r bs (before_key fs []) i ≡ from r bs (behind fs (value.object value.no_pairs)) (i + 1)
 close_empty_object r bs i fs u at lt e =
     from_step r bs i (before_key fs []) _ 125 u at lt e (lit< tt)
-    (ap (λ k. move_before_key r k fs [] (left_at bs i)) (class_125 r.strict))
+    (ap (λ k. move_before_key r k fs [] (left_at bs i)) (class-char r.strict closes_object))
 
 -- ---- a container too many
 
@@ -66,8 +64,8 @@ deep_element_on : (r : Reading) (fs : Frames) (c : ℕ) (k : Class) → value_ma
     → is_whitespace r.strict c ≡ false → c ≢ 93 → class_of r.strict c ≡ k
     → IsDeep (move_before r k fs c)
 deep_element_on r fs c whitespace h s n e = let yes : is_whitespace r.strict c
-    ≡ true = class-whitespace r c e in absurd (cc)
-deep_element_on r fs c closes_array h s n e = absurd (n (class-closes_array r.strict c e))
+    ≡ true = class-says r.strict c e in absurd (cc)
+deep_element_on r fs c closes_array h s n e = absurd (n (class-says r.strict c e))
 deep_element_on r fs c digits h s n e = deep_go (value_mark r fs) _ h
 deep_element_on r fs c dash h s n e = deep_go (value_mark r fs) _ h
 deep_element_on r fs c quote h s n e = deep_go (value_mark r fs) _ h
@@ -93,8 +91,8 @@ deep_key_on : (r : Reading) (fs : Frames) (c n : ℕ) (k : Class) → key_mark r
     → is_whitespace r.strict c ≡ false → c ≢ 125 → class_of r.strict c ≡ k
     → IsDeep (move_before_key r k fs [] n)
 deep_key_on r fs c left whitespace h s n e = let yes : is_whitespace r.strict c
-    ≡ true = class-whitespace r c e in absurd (cc)
-deep_key_on r fs c left closes_object h s n e = absurd (n (class-closes_object r.strict c e))
+    ≡ true = class-says r.strict c e in absurd (cc)
+deep_key_on r fs c left closes_object h s n e = absurd (n (class-says r.strict c e))
 deep_key_on r fs c left quote h s n e = deep_go (key_mark r fs []) _ h
 deep_key_on r fs c left _ h s n e = deep_bad (key_mark r fs []) h
 
@@ -117,7 +115,7 @@ pub open_key : (r : Reading) (bs : List ℕ) (i : ℕ) (fs : Frames) (es : Entri
     ≡ from r bs (string (as_key fs es (left_at bs i)) [] between) (i + 1)
 open_key r bs i fs es u at lt e h =
     from_step r bs i (before_key fs es) _ 34 u at lt e (lit< tt)
-    (ap (λ k. move_before_key r k fs es (left_at bs i)) (class_34 r.strict)
+    (ap (λ k. move_before_key r k fs es (left_at bs i)) (class-char r.strict quote)
     ∙ ap (λ m. go m (string (as_key fs es (left_at bs i)) [] between)) h)
 
 no_pairs_on : (fs : Frames) (es : Entries) → (es ≡ [] → ⊥) → move_empty_object fs es ≡ bad
@@ -128,9 +126,9 @@ no_key_on : (r : Reading) (fs : Frames) (es : Entries) (c left : ℕ) (k : Class
     → is_whitespace r.strict c ≡ false → c ≢ 34
     → (es ≡ [] → c ≢ 125) → class_of r.strict c ≡ k → move_before_key r k fs es left ≡ bad
 no_key_on r fs es c left whitespace h s q n e = let yes : is_whitespace r.strict c
-    ≡ true = class-whitespace r c e in absurd (cc)
-no_key_on r fs es c left quote h s q n e = absurd (q (class-quote r.strict c e))
-no_key_on r fs es c left closes_object h s q n e = no_pairs_on fs es (λ f. n f (class-closes_object r.strict c e))
+    ≡ true = class-says r.strict c e in absurd (cc)
+no_key_on r fs es c left quote h s q n e = absurd (q (class-says r.strict c e))
+no_key_on r fs es c left closes_object h s q n e = no_pairs_on fs es (λ f. n f (class-says r.strict c e))
 no_key_on r fs es c left _ h s q n e = ap bad_at h
 
 -- no key begins here
@@ -165,7 +163,7 @@ pub colon_goes : (r : Reading) (bs : List ℕ) (i : ℕ) (fs : Frames) (es : Ent
     → get_or bs i 0 ≡ 58 → from r bs (after_key fs es k) i ≡ from r bs (before (object_frame fs es k)) (i + 1)
 colon_goes r bs i fs es k u at lt e =
     from_step r bs i (after_key fs es k) _ 58 u at lt e (lit< tt)
-    (ap (λ x. move_after_key x fs es k) (class_58 r.strict))
+    (ap (λ x. move_after_key x fs es k) (class-char r.strict colon))
 
 -- where whitespace may stand, it is passed over
 pub whitespace_skips : (r : Reading) (p : Place) → allows_whitespace p ≡ true → Skips r p (is_whitespace r.strict)
@@ -182,8 +180,8 @@ no_colon_on : (r : Reading) (fs : Frames) (es : Entries) (k : List ℕ) (c : ℕ
     → c ≢ 58 → class_of r.strict c ≡ x
     → move_after_key x fs es k ≡ bad
 no_colon_on r fs es k c whitespace s n e = let yes : is_whitespace r.strict c
-    ≡ true = class-whitespace r c e in absurd (cc)
-no_colon_on r fs es k c colon s n e = absurd (n (class-colon r.strict c e))
+    ≡ true = class-says r.strict c e in absurd (cc)
+no_colon_on r fs es k c colon s n e = absurd (n (class-says r.strict c e))
 no_colon_on r fs es k c _ s n e = refl
 
 -- no colon follows the key here
@@ -204,7 +202,7 @@ pub element_comma : (r : Reading) (bs : List ℕ) (i : ℕ) (fs : Frames) (vs : 
     ≡ from r bs (before (array_frame fs (vs ++ v ∷ []))) (i + 1)
 element_comma r bs i fs vs v u at lt e =
     from_step r bs i (behind (array_frame fs vs) v) _ 44 u at lt e (lit< tt)
-    (ap (λ x. move_behind x (array_frame fs vs) v) (class_44 r.strict))
+    (ap (λ x. move_behind x (array_frame fs vs) v) (class-char r.strict comma))
 
 pub close_array : (r : Reading) (bs : List ℕ) (i : ℕ) (fs : Frames) (vs : List Value) (v : Value) → IsUtf8 bs
     → IsCharBoundary bs i → i < length bs
@@ -212,15 +210,15 @@ pub close_array : (r : Reading) (bs : List ℕ) (i : ℕ) (fs : Frames) (vs : Li
     ≡ from r bs (behind fs (value.array (values_of (vs ++ v ∷ [])))) (i + 1)
 close_array r bs i fs vs v u at lt e =
     from_step r bs i (behind (array_frame fs vs) v) _ 93 u at lt e (lit< tt)
-    (ap (λ x. move_behind x (array_frame fs vs) v) (class_93 r.strict))
+    (ap (λ x. move_behind x (array_frame fs vs) v) (class-char r.strict closes_array))
 
 no_element_on : (r : Reading) (fs : Frames) (vs : List Value) (v : Value) (c : ℕ) (x : Class)
     → is_whitespace r.strict c ≡ false → c ≢ 44 → c ≢ 93
     → class_of r.strict c ≡ x → move_behind x (array_frame fs vs) v ≡ bad
 no_element_on r fs vs v c whitespace s m n e = let yes : is_whitespace r.strict c
-    ≡ true = class-whitespace r c e in absurd (cc)
-no_element_on r fs vs v c comma s m n e = absurd (m (class-comma r.strict c e))
-no_element_on r fs vs v c closes_array s m n e = absurd (n (class-closes_array r.strict c e))
+    ≡ true = class-says r.strict c e in absurd (cc)
+no_element_on r fs vs v c comma s m n e = absurd (m (class-says r.strict c e))
+no_element_on r fs vs v c closes_array s m n e = absurd (n (class-says r.strict c e))
 no_element_on r fs vs v c _ s m n e = refl
 
 -- neither a comma nor the closing bracket of the array stands here
@@ -243,7 +241,7 @@ pub entry_comma : (r : Reading) (bs : List ℕ) (i : ℕ) (fs : Frames) (es : En
     ≡ from r bs (before_key fs (put k v es)) (i + 1)
 entry_comma r bs i fs es k v u at lt e =
     from_step r bs i (behind (object_frame fs es k) v) _ 44 u at lt e (lit< tt)
-    (ap (λ x. move_behind x (object_frame fs es k) v) (class_44 r.strict))
+    (ap (λ x. move_behind x (object_frame fs es k) v) (class-char r.strict comma))
 
 pub close_object : (r : Reading) (bs : List ℕ) (i : ℕ) (fs : Frames) (es : Entries) (k : List ℕ) (v : Value) → IsUtf8 bs
     → IsCharBoundary bs i → i < length bs
@@ -251,15 +249,15 @@ pub close_object : (r : Reading) (bs : List ℕ) (i : ℕ) (fs : Frames) (es : E
     ≡ from r bs (behind fs (value.object (pairs_of (put k v es)))) (i + 1)
 close_object r bs i fs es k v u at lt e =
     from_step r bs i (behind (object_frame fs es k) v) _ 125 u at lt e (lit< tt)
-    (ap (λ x. move_behind x (object_frame fs es k) v) (class_125 r.strict))
+    (ap (λ x. move_behind x (object_frame fs es k) v) (class-char r.strict closes_object))
 
 no_entry_on : (r : Reading) (fs : Frames) (es : Entries) (k : List ℕ) (v : Value) (c : ℕ) (x : Class)
     → is_whitespace r.strict c ≡ false → c ≢ 44 → c ≢ 125
     → class_of r.strict c ≡ x → move_behind x (object_frame fs es k) v ≡ bad
 no_entry_on r fs es k v c whitespace s m n e = let yes : is_whitespace r.strict c
-    ≡ true = class-whitespace r c e in absurd (cc)
-no_entry_on r fs es k v c comma s m n e = absurd (m (class-comma r.strict c e))
-no_entry_on r fs es k v c closes_object s m n e = absurd (n (class-closes_object r.strict c e))
+    ≡ true = class-says r.strict c e in absurd (cc)
+no_entry_on r fs es k v c comma s m n e = absurd (m (class-says r.strict c e))
+no_entry_on r fs es k v c closes_object s m n e = absurd (n (class-says r.strict c e))
 no_entry_on r fs es k v c _ s m n e = refl
 
 -- neither a comma nor the closing bracket of the object stands here

@@ -9,15 +9,11 @@ use Rattle.jzon_tree.specs.Value as value
 use Rattle.jzon_tree.specs.Writing.{is_whitespace}
 use Rattle.jzon.specs.Reading.{Reading}
 use Rattle.jzon.specs.Classes.{Class, whitespace, digits, dash, quote, opens_array, closes_array, opens_object}
-use Rattle.jzon.specs.Classes.{begins_null}
-use Rattle.jzon.specs.Classes.{begins_true, begins_false, class_of, signed, begun}
+use Rattle.jzon.specs.Classes.{begins_null, begins_true, begins_false, class_of, signed, begun}
 use Rattle.jzon.specs.Machine.{Frames, no_frames, array_frame, object_frame, is_fresh, as_value, between, string}
 use Rattle.jzon.specs.Machine.{numeral, past_letter, before, go, bad, bad_at, value_mark, move_before, move_empty_array}
 use Rattle.jzon.specs.Machine.{from}
-use Rattle.jzon.proofs.Texts.ClassesOfCharacters.{class-whitespace, class-digits, class-dash, class-quote}
-use Rattle.jzon.proofs.Texts.ClassesOfCharacters.{class-opens_array, class-closes_array, class-opens_object}
-use Rattle.jzon.proofs.Texts.ClassesOfCharacters.{class-begins_null, class-begins_true, class-begins_false, class_34}
-use Rattle.jzon.proofs.Texts.ClassesOfCharacters.{class_45, class_102, class_110, class_116, digits-class}
+use Rattle.jzon.proofs.Texts.ClassesOfCharacters.{class-says, class-char, digits-class}
 use Rattle.jzon.proofs.Texts.AsciiRuns.{wide_is_no_space}
 use Rattle.jzon.proofs.Texts.StepsByByte.{StopsAt, from_step, stops_by, digit_is_ascii}
 
@@ -44,17 +40,17 @@ begins_nothing_on : (r : Reading) (fs : Frames) (c : ℕ) (k : Class) → value_
     → BeginsNothing r.strict fs c → class_of r.strict c ≡ k
     → move_before r k fs c ≡ bad
 begins_nothing_on r fs c whitespace m h e = let y : is_whitespace r.strict c
-    ≡ true = class-whitespace r c e in let n = h.no_space in absurd (cc)
+    ≡ true = class-says r.strict c e in let n = h.no_space in absurd (cc)
 begins_nothing_on r fs c digits m h e = let y : is_ascii_digit c
-    ≡ true = class-digits r.strict c e in let n = h.no_digit in absurd (cc)
-begins_nothing_on r fs c dash m h e = absurd (h.no_minus (class-dash r.strict c e))
-begins_nothing_on r fs c quote m h e = absurd (h.no_quote (class-quote r.strict c e))
-begins_nothing_on r fs c opens_array m h e = absurd (h.no_array (class-opens_array r.strict c e))
-begins_nothing_on r fs c opens_object m h e = absurd (h.no_object (class-opens_object r.strict c e))
-begins_nothing_on r fs c begins_null m h e = absurd (h.no_null (class-begins_null r.strict c e))
-begins_nothing_on r fs c begins_true m h e = absurd (h.no_true (class-begins_true r.strict c e))
-begins_nothing_on r fs c begins_false m h e = absurd (h.no_false (class-begins_false r.strict c e))
-begins_nothing_on r fs c closes_array m h e = full_array_on fs (λ f. h.no_end f (class-closes_array r.strict c e))
+    ≡ true = class-says r.strict c e in let n = h.no_digit in absurd (cc)
+begins_nothing_on r fs c dash m h e = absurd (h.no_minus (class-says r.strict c e))
+begins_nothing_on r fs c quote m h e = absurd (h.no_quote (class-says r.strict c e))
+begins_nothing_on r fs c opens_array m h e = absurd (h.no_array (class-says r.strict c e))
+begins_nothing_on r fs c opens_object m h e = absurd (h.no_object (class-says r.strict c e))
+begins_nothing_on r fs c begins_null m h e = absurd (h.no_null (class-says r.strict c e))
+begins_nothing_on r fs c begins_true m h e = absurd (h.no_true (class-says r.strict c e))
+begins_nothing_on r fs c begins_false m h e = absurd (h.no_false (class-says r.strict c e))
+begins_nothing_on r fs c closes_array m h e = full_array_on fs (λ f. h.no_end f (class-says r.strict c e))
 begins_nothing_on r fs c _ m h e = ap bad_at m
 
 -- no character past ASCII begins a value
@@ -88,7 +84,7 @@ pub begin_null : (r : Reading) (bs : List ℕ) (i : ℕ) (fs : Frames) → IsUtf
     (i + 1)
 begin_null r bs i fs u at lt e m =
     from_step r bs i (before fs) _ 110 u at lt e (lit< tt)
-    (ap (λ k. move_before r k fs 110) (class_110 r.strict) ∙ ap
+    (ap (λ k. move_before r k fs 110) (class-char r.strict begins_null) ∙ ap
     (λ b. go b (past_letter fs value.null (117 ∷ 108 ∷ 108 ∷ []))) m)
 
 pub begin_true : (r : Reading) (bs : List ℕ) (i : ℕ) (fs : Frames) → IsUtf8 bs → IsCharBoundary bs i → i < length bs
@@ -97,7 +93,7 @@ pub begin_true : (r : Reading) (bs : List ℕ) (i : ℕ) (fs : Frames) → IsUtf
     (past_letter fs (value.boolean true) (114 ∷ 117 ∷ 101 ∷ [])) (i + 1)
 begin_true r bs i fs u at lt e m =
     from_step r bs i (before fs) _ 116 u at lt e (lit< tt)
-    (ap (λ k. move_before r k fs 116) (class_116 r.strict) ∙ ap
+    (ap (λ k. move_before r k fs 116) (class-char r.strict begins_true) ∙ ap
     (λ b. go b (past_letter fs (value.boolean true) (114 ∷ 117 ∷ 101 ∷ []))) m)
 
 pub begin_false : (r : Reading) (bs : List ℕ) (i : ℕ) (fs : Frames) → IsUtf8 bs → IsCharBoundary bs i → i < length bs
@@ -106,7 +102,7 @@ pub begin_false : (r : Reading) (bs : List ℕ) (i : ℕ) (fs : Frames) → IsUt
     (past_letter fs (value.boolean false) (97 ∷ 108 ∷ 115 ∷ 101 ∷ [])) (i + 1)
 begin_false r bs i fs u at lt e m =
     from_step r bs i (before fs) _ 102 u at lt e (lit< tt)
-    (ap (λ k. move_before r k fs 102) (class_102 r.strict) ∙ ap
+    (ap (λ k. move_before r k fs 102) (class-char r.strict begins_false) ∙ ap
     (λ b. go b (past_letter fs (value.boolean false) (97 ∷ 108 ∷ 115 ∷ 101 ∷ []))) m)
 
 pub begin_minus : (r : Reading) (bs : List ℕ) (i : ℕ) (fs : Frames) → IsUtf8 bs → IsCharBoundary bs i → i < length bs
@@ -114,7 +110,7 @@ pub begin_minus : (r : Reading) (bs : List ℕ) (i : ℕ) (fs : Frames) → IsUt
     → value_mark r fs ≡ None → from r bs (before fs) i ≡ from r bs (numeral fs true signed) (i + 1)
 begin_minus r bs i fs u at lt e m =
     from_step r bs i (before fs) _ 45 u at lt e (lit< tt)
-    (ap (λ k. move_before r k fs 45) (class_45 r.strict) ∙ ap (λ b. go b (numeral fs true signed)) m)
+    (ap (λ k. move_before r k fs 45) (class-char r.strict dash) ∙ ap (λ b. go b (numeral fs true signed)) m)
 
 pub begin_digit : (r : Reading) (bs : List ℕ) (i : ℕ) (fs : Frames) → IsUtf8 bs → IsCharBoundary bs i → i < length bs
     → IsTrue (is_ascii_digit (get_or bs i 0))
@@ -130,4 +126,4 @@ pub begin_string : (r : Reading) (bs : List ℕ) (i : ℕ) (fs : Frames) → IsU
     → value_mark r fs ≡ None → from r bs (before fs) i ≡ from r bs (string (as_value fs) [] between) (i + 1)
 begin_string r bs i fs u at lt e m =
     from_step r bs i (before fs) _ 34 u at lt e (lit< tt)
-    (ap (λ k. move_before r k fs 34) (class_34 r.strict) ∙ ap (λ b. go b (string (as_value fs) [] between)) m)
+    (ap (λ k. move_before r k fs 34) (class-char r.strict quote) ∙ ap (λ b. go b (string (as_value fs) [] between)) m)

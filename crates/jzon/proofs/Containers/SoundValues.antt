@@ -1,30 +1,28 @@
 -- Sound (`sound`): what the automaton reads to a value, marks passed over, a tree spells that means it. By induction
 -- over the text: `Left p t` says what the text t is from state p to its end (from inside an array: the rest of an
 -- element, then elements, the bracket, and what follows the array), and `on` gives it for one character more.
-use Rattle.std.proofs.Common.{◌≡◌, ◌∙◌, ◌⊎◌, inl, inr, ℕ, suc, List, [], ◌∷◌, ◌++◌, length, Bool, true}
-use Rattle.std.proofs.Common.{false, cond, ◌==◌, Option, Some, None, refl, sym, subst, ap, eqb-true}
+use Rattle.std.proofs.Common.{◌≡◌, ◌∙◌, ◌⊎◌, inl, inr, ℕ, suc, List, [], ◌∷◌, ◌++◌, length, Bool, true, false, cond}
+use Rattle.std.proofs.Common.{◌==◌, Option, Some, None, refl, sym, subst, ap, eqb-true}
 use Rattle.std.specs.List.{fold}
 use Rattle.std.specs.Str.{bytes_eq}
 use Rattle.jzon_base.specs.PairList.{put}
 use Rattle.jzon_tree.specs.Value as value
 use Rattle.jzon_tree.specs.Value.{Value, values_of, pairs_of, kind_of}
 use Rattle.jzon.specs.Reading.{Reading}
-use Rattle.jzon.specs.Grammar.{Key, Node}
-use Rattle.jzon.specs.Grammar.{Elements, no_elements, element, Members, no_members, member, Document, IsWhitespace, IsKey}
-use Rattle.jzon.specs.Grammar.{IsNode, AreElements, AreMembers}
+use Rattle.jzon.specs.Grammar.{Key, Node, Elements, no_elements, element, Members, no_members, member, Document}
+use Rattle.jzon.specs.Grammar.{IsWhitespace, IsKey, IsNode, AreElements, AreMembers}
 use Rattle.jzon.specs.Spelling.{Breach}
 use Rattle.jzon.specs.Meaning.{bytes_of, meaning, elements_meaning, members_meaning}
 use Rattle.jzon.specs.Fault.{Spells}
 use Rattle.jzon.specs.Classes.{Class, whitespace, digits, dash, quote, opens_array, closes_array, opens_object}
-use Rattle.jzon.specs.Classes.{closes_object, comma, colon, begins_null, begins_true, begins_false, class_of, begun, signed}
+use Rattle.jzon.specs.Classes.{closes_object, comma, colon, begins_null, begins_true, begins_false, class_of, begun}
+use Rattle.jzon.specs.Classes.{signed}
 use Rattle.jzon.specs.Machine.{Entries, Frames, no_frames, array_frame, object_frame, as_value, as_key, Place, before}
-use Rattle.jzon.specs.Machine.{Role, Move, numeral, last, meant, meant_at, closed_string, before_key, word, string, after_key, behind, between, go, bad, past_letter, value_mark}
-use Rattle.jzon.specs.Machine.{key_mark, bad_at, move_before, move_before_key, move_after_key, move_behind, move_empty_array}
+use Rattle.jzon.specs.Machine.{Role, Move, numeral, last, meant, meant_at, closed_string, before_key, word, string}
+use Rattle.jzon.specs.Machine.{after_key, behind, between, go, bad, past_letter, value_mark, key_mark, bad_at}
+use Rattle.jzon.specs.Machine.{move_before, move_before_key, move_after_key, move_behind, move_empty_array}
 use Rattle.jzon.specs.Machine.{move_empty_object}
-use Rattle.jzon.proofs.Texts.ClassesOfCharacters.{class-whitespace, class-quote, class-closes_array}
-use Rattle.jzon.proofs.Texts.ClassesOfCharacters.{class-closes_object, class-comma, class-colon, class-opens_array}
-use Rattle.jzon.proofs.Texts.ClassesOfCharacters.{class-opens_object, class-begins_null, class-begins_true}
-use Rattle.jzon.proofs.Texts.ClassesOfCharacters.{class-begins_false, class-dash}
+use Rattle.jzon.proofs.Texts.ClassesOfCharacters.{class-says}
 use Rattle.jzon.proofs.Texts.Runs.{On, Goes}
 use Rattle.jzon.proofs.Texts.TreeCharacters.{items_chars, key_chars, node_chars, elements_chars, members_chars, spells}
 use Rattle.jzon.proofs.Containers.CompleteValues.{with_prefix, with_prefix-append, closed-values}
@@ -38,7 +36,8 @@ module _ (r : Reading) (v : Value) where
   abbrev Behind : Frames → Value → List ℕ → Type 0
   Behind no_frames x t = IsWhitespace r t × (x ≡ v)
   Behind (array_frame fs vs) x t = (w : List ℕ) × (es : Elements) × (u : List ℕ) × IsWhitespace r w × AreElements r es
-      × (t ≡ w ++ elements_chars es u) × Behind fs (value.array (with_prefix vs (value.value x (elements_meaning es)))) u
+      × (t ≡ w ++ elements_chars es u)
+      × Behind fs (value.array (with_prefix vs (value.value x (elements_meaning es)))) u
   Behind (object_frame fs es k) x t = (w : List ℕ) × (ms : Members) × (u : List ℕ) × IsWhitespace r w × AreMembers r ms
       × (t ≡ w ++ members_chars ms u)
       × Behind fs (value.object (pairs_of (fold (λ qs p. put p.0 p.1 qs) (put k x es) (members_meaning ms)))) u
@@ -148,27 +147,27 @@ module _ (r : Reading) (v : Value) where
         no_close (p ∷ ps) h = by_test (bytes_eq p.0 k) _ _ _ _ h
 
     behind_more : (fs : Frames) (x : Value) → class_of r.strict c ≡ whitespace → Behind fs x cs → Behind fs x (c ∷ cs)
-    behind_more no_frames x e (w_ok, f) = ((class-whitespace r c e, w_ok), f)
+    behind_more no_frames x e (w_ok, f) = ((class-says r.strict c e, w_ok), f)
     behind_more (array_frame fs vs) x e (w, es, u, w_ok, es_ok, f, h) =
-        (c ∷ w, es, u, (class-whitespace r c e, w_ok), es_ok, ap (λ z. c ∷ z) f, h)
+        (c ∷ w, es, u, (class-says r.strict c e, w_ok), es_ok, ap (λ z. c ∷ z) f, h)
     behind_more (object_frame fs ps k) x e (w, ms, u, w_ok, ms_ok, f, h) =
-        (c ∷ w, ms, u, (class-whitespace r c e, w_ok), ms_ok, ap (λ z. c ∷ z) f, h)
+        (c ∷ w, ms, u, (class-says r.strict c e, w_ok), ms_ok, ap (λ z. c ∷ z) f, h)
 
     behind_on : (k : Class) (fs : Frames) (x : Value) → class_of r.strict c ≡ k → M (move_behind k fs x)
         → Behind fs x (c ∷ cs)
     behind_on whitespace fs x e h = behind_more fs x e (ih (behind fs x) h)
     behind_on comma no_frames x e h = absurd h
     behind_on comma (array_frame fs vs) x e h =
-        element_on fs vs x (class-comma r.strict c e) (ih (before (array_frame fs (vs ++ x ∷ []))) h)
+        element_on fs vs x (class-says r.strict c e) (ih (before (array_frame fs (vs ++ x ∷ []))) h)
     behind_on comma (object_frame fs es k) x e h =
-        member_on fs es k x (class-comma r.strict c e) (ih (before_key fs (put k x es)) h)
+        member_on fs es k x (class-says r.strict c e) (ih (before_key fs (put k x es)) h)
     behind_on closes_array (array_frame fs vs) x e h = (
       [],
       no_elements,
       cs,
       tt,
       tt,
-      ap (λ z. z ∷ cs) (class-closes_array r.strict c e),
+      ap (λ z. z ∷ cs) (class-says r.strict c e),
       subst (λ z. Behind fs (value.array z) cs) (closed-values vs x)
           (ih (behind fs (value.array (values_of (vs ++ x ∷ [])))) h),
     )
@@ -180,7 +179,7 @@ module _ (r : Reading) (v : Value) where
       cs,
       tt,
       tt,
-      ap (λ z. z ∷ cs) (class-closes_object r.strict c e),
+      ap (λ z. z ∷ cs) (class-says r.strict c e),
       ih (behind fs (value.object (pairs_of (put k x es)))) h,
     )
     behind_on closes_object no_frames x e h = absurd h
@@ -191,9 +190,9 @@ module _ (r : Reading) (v : Value) where
 
     value_more : (fs : Frames) → class_of r.strict c ≡ whitespace → Left (before fs) cs → Left (before fs) (c ∷ cs)
     value_more fs e (inl (w, n, u, w_ok, n_ok, f, h)) =
-        inl (c ∷ w, n, u, (class-whitespace r c e, w_ok), n_ok, ap (λ z. c ∷ z) f, h)
+        inl (c ∷ w, n, u, (class-says r.strict c e, w_ok), n_ok, ap (λ z. c ∷ z) f, h)
     value_more (array_frame fs []) e (inr (w, u, w_ok, f, h)) =
-        inr (c ∷ w, u, (class-whitespace r c e, w_ok), ap (λ z. c ∷ z) f, h)
+        inr (c ∷ w, u, (class-says r.strict c e, w_ok), ap (λ z. c ∷ z) f, h)
     value_more _ e (inr h) = absurd h
 
     array_closes : (fs : Frames) → c ≡ 93 → M (move_empty_array fs) → ArrayCloses fs (c ∷ cs)
@@ -235,27 +234,28 @@ module _ (r : Reading) (v : Value) where
         → ValueLeft fs (c ∷ cs)
     word_on fs n d l ls e ok spelt (u, f, h) = ([], n, u, tt, ok, rw e (ap (λ z. d ∷ z) f) ∙ spelt u, h)
 
-    value_on : (k : Class) (fs : Frames) → class_of r.strict c ≡ k → M (move_before r k fs c) → Left (before fs) (c ∷ cs)
+    value_on : (k : Class) (fs : Frames) → class_of r.strict c ≡ k → M (move_before r k fs c)
+        → Left (before fs) (c ∷ cs)
     value_on whitespace fs e h = value_more fs e (ih (before fs) h)
     value_on digits fs e h =
         let g = digit_sound r v fs (Behind fs) c cs e (ih (numeral fs false (begun (c == 48) c)) h) in
         inl ([], Node.number g.0, g.1, tt, g.2, g.3, g.4)
     value_on dash fs e h =
         let g = minus_sound r v fs (Behind fs) cs (ih (numeral fs true signed) h) in
-        inl ([], Node.number g.0, g.1, tt, g.2, ap (λ z. z ∷ cs) (class-dash r.strict c e) ∙ g.3, g.4)
+        inl ([], Node.number g.0, g.1, tt, g.2, ap (λ z. z ∷ cs) (class-says r.strict c e) ∙ g.3, g.4)
     value_on quote fs e h =
         let g = ih (string (as_value fs) [] between) h in
-        inl ([], Node.string g.0, g.1, tt, g.2, rw (class-quote r.strict c e) (ap (λ z. 34 ∷ z) g.3), g.4)
-    value_on opens_array fs e h = inl (array_on fs (class-opens_array r.strict c e) (ih (before (array_frame fs [])) h))
-    value_on opens_object fs e h = inl (object_on fs (class-opens_object r.strict c e) (ih (before_key fs []) h))
-    value_on closes_array fs e h = inr (array_closes fs (class-closes_array r.strict c e) h)
+        inl ([], Node.string g.0, g.1, tt, g.2, rw (class-says r.strict c e) (ap (λ z. 34 ∷ z) g.3), g.4)
+    value_on opens_array fs e h = inl (array_on fs (class-says r.strict c e) (ih (before (array_frame fs [])) h))
+    value_on opens_object fs e h = inl (object_on fs (class-says r.strict c e) (ih (before_key fs []) h))
+    value_on closes_array fs e h = inr (array_closes fs (class-says r.strict c e) h)
     value_on begins_null fs e h =
-        inl (word_on fs Node.null 110 117 (108 ∷ 108 ∷ []) (class-begins_null r.strict c e) tt (λ u. refl) (ih _ h))
+        inl (word_on fs Node.null 110 117 (108 ∷ 108 ∷ []) (class-says r.strict c e) tt (λ u. refl) (ih _ h))
     value_on begins_true fs e h =
-        inl (word_on fs (Node.boolean true) 116 114 (117 ∷ 101 ∷ []) (class-begins_true r.strict c e) tt (λ u. refl)
+        inl (word_on fs (Node.boolean true) 116 114 (117 ∷ 101 ∷ []) (class-says r.strict c e) tt (λ u. refl)
         (ih _ h))
     value_on begins_false fs e h =
-        inl (word_on fs (Node.boolean false) 102 97 (108 ∷ 115 ∷ 101 ∷ []) (class-begins_false r.strict c e) tt
+        inl (word_on fs (Node.boolean false) 102 97 (108 ∷ 115 ∷ 101 ∷ []) (class-says r.strict c e) tt
         (λ u. refl) (ih _ h))
     value_on _ fs e h = absurd (no_more (value_mark r fs) _ h)
 
@@ -269,14 +269,14 @@ module _ (r : Reading) (v : Value) where
           b,
           x,
           u,
-          ((class-whitespace r c e, a_ok), i_ok, z_ok),
+          ((class-says r.strict c e, a_ok), i_ok, z_ok),
           b_ok,
           x_ok,
           ap (λ z. c ∷ z) f,
           h,
         )
     key_more fs [] e (inr (w, u, w_ok, f, h)) =
-        inr (c ∷ w, u, (class-whitespace r c e, w_ok), ap (λ z. c ∷ z) f, h)
+        inr (c ∷ w, u, (class-says r.strict c e, w_ok), ap (λ z. c ∷ z) f, h)
     key_more fs (x ∷ es) e (inr h) = absurd h
 
     object_closes : (fs : Frames) (es : Entries) → c ≡ 125 → M (move_empty_object fs es) → ObjectCloses fs es (c ∷ cs)
@@ -301,9 +301,9 @@ module _ (r : Reading) (v : Value) where
         → M (move_before_key r k fs es (suc (length cs))) → Left (before_key fs es) (c ∷ cs)
     key_on whitespace fs es e h = key_more fs es e (ih (before_key fs es) h)
     key_on quote fs es e h =
-        inl (quote_on fs es (suc (length cs)) (class-quote r.strict c e)
+        inl (quote_on fs es (suc (length cs)) (class-says r.strict c e)
         (ih (string (as_key fs es (suc (length cs))) [] between) h))
-    key_on closes_object fs es e h = inr (object_closes fs es (class-closes_object r.strict c e) h)
+    key_on closes_object fs es e h = inr (object_closes fs es (class-says r.strict c e) h)
     key_on _ fs es e h = absurd (no_more (key_mark r fs es) _ h)
 
     colon_value : (fs : Frames) (es : Entries) (k : List ℕ) → c ≡ 58 → Left (before (object_frame fs es k)) cs
@@ -314,9 +314,9 @@ module _ (r : Reading) (v : Value) where
     colon_on : (class : Class) (fs : Frames) (es : Entries) (k : List ℕ) → class_of r.strict c ≡ class
         → M (move_after_key class fs es k) → ColonLeft fs es k (c ∷ cs)
     colon_on whitespace fs es k e h =
-        let g = ih (after_key fs es k) h in (c ∷ g.0, g.1, (class-whitespace r c e, g.2), ap (λ z. c ∷ z) g.3, g.4)
+        let g = ih (after_key fs es k) h in (c ∷ g.0, g.1, (class-says r.strict c e, g.2), ap (λ z. c ∷ z) g.3, g.4)
     colon_on colon fs es k e h =
-        colon_value fs es k (class-colon r.strict c e) (ih (before (object_frame fs es k)) h)
+        colon_value fs es k (class-says r.strict c e) (ih (before (object_frame fs es k)) h)
     colon_on _ fs es k e h = absurd h
 
     -- words

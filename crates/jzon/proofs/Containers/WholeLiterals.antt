@@ -1,7 +1,6 @@
 -- `null`, `true` and `false`, of which the code compares four letters at once.
-use Rattle.std.proofs.Common.{◌≡◌, ◌≢◌, ◌⊎◌, inl, inr, ℕ, ◌+◌, ◌<◌, ◌≤◌, true, false, List}
-use Rattle.std.proofs.Common.{[], ◌∷◌, length, get_or, refl, sym}
-use Rattle.std.proofs.Common.{ap, subst, ◌∙◌, arith, None, lit<}
+use Rattle.std.proofs.Common.{◌≡◌, ◌≢◌, ◌⊎◌, inl, inr, ℕ, ◌+◌, ◌<◌, ◌≤◌, true, false, List, [], ◌∷◌, length, get_or}
+use Rattle.std.proofs.Common.{refl, sym, ap, subst, ◌∙◌, arith, None, lit<}
 use Rattle.std.specs.Prelude.{IsUtf8}
 use Rattle.std.specs.Str.{IsCharBoundary}
 use Rattle.std.proofs.lemmas.Str.{IsCharBoundary-before_ascii, IsCharBoundary-after_ascii}

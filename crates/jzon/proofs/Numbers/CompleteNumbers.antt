@@ -8,15 +8,14 @@ use Rattle.jzon_tree.specs.Value as value
 use Rattle.jzon.specs.Reading.{Reading}
 use Rattle.jzon.specs.Grammar.{Sign, unsigned, plus, minus, Exponent, Numeral, AreDigits, IsDigits, IsWhole, IsExponent}
 use Rattle.jzon.specs.Grammar.{IsNumeral}
-use Rattle.jzon.specs.Spelling.{Breach, Cell, plain, onto, digits_cells, drops_too_many, keeps_too_many}
-use Rattle.jzon.specs.Spelling.{sign_cells, exponent_cells, fraction_cells, numeral_cells}
+use Rattle.jzon.specs.Spelling.{Breach, Cell, plain, onto, digits_cells, drops_too_many, keeps_too_many, sign_cells}
+use Rattle.jzon.specs.Spelling.{exponent_cells, fraction_cells, numeral_cells}
 use Rattle.jzon.specs.Meaning.{number_of}
-use Rattle.jzon.specs.Classes.{Class, digits, point, letter_e, class_of, NumberPlace, zero_read}
-use Rattle.jzon.specs.Classes.{whole, fraction, lettered, exponent, begun}
+use Rattle.jzon.specs.Classes.{Class, digits, point, letter_e, class_of, NumberPlace, zero_read, whole, fraction}
+use Rattle.jzon.specs.Classes.{lettered, exponent, begun, dash, cross}
 use Rattle.jzon.specs.Machine.{Frames, Place, before, numeral, behind, Outcome, meant_at, last_numeral, value_mark}
-use Rattle.jzon.specs.Machine.{number_value, exponent_of, move_behind, move_after_whole}
-use Rattle.jzon.specs.Machine.{move_numeral}
-use Rattle.jzon.proofs.Texts.ClassesOfCharacters.{digits-class, letter_e-class, class_43, class_45, class_46}
+use Rattle.jzon.specs.Machine.{number_value, exponent_of, move_behind, move_after_whole, move_numeral}
+use Rattle.jzon.proofs.Texts.ClassesOfCharacters.{digits-class, letter_e-class, class-char}
 use Rattle.jzon.proofs.Numbers.NumberLimits.{onto-onto}
 use Rattle.jzon.proofs.Texts.Runs.{Meets, Follows}
 
@@ -51,13 +50,13 @@ module _ (r : Reading) (G : Outcome → Type 0) (fs : Frames) (negative : Bool) 
   read_letter ws ds l unsigned (e ∷ es) k ok h =
       rw (digits-class r.strict e ok.0) (refl, read_exponent ws ds l unsigned (e ∷ []) es k ok.1 h)
   read_letter ws ds l plus (e ∷ es) k ok h =
-      rw (class_43 r.strict) (
+      rw (class-char r.strict cross) (
         refl,
         rw (digits-class r.strict e ok.0)
             (refl, read_exponent ws ds l plus (e ∷ []) es k ok.1 h),
       )
   read_letter ws ds l minus (e ∷ es) k ok h =
-      rw (class_45 r.strict) (
+      rw (class-char r.strict dash) (
         refl,
         rw (digits-class r.strict e ok.0)
             (refl, read_exponent ws ds l minus (e ∷ []) es k ok.1 h),
@@ -121,7 +120,7 @@ module _ (r : Reading) (G : Outcome → Type 0) (fs : Frames) (negative : Bool) 
       end.past (class_of r.strict e.letter) e.letter None _ (rw (letter_e-class r.strict e.letter e_ok.0)
       (refl, read_letter ws [] e.letter e.sign e.digits k e_ok.1 h))
   read_after_whole x ws (d ∷ ds) e k end ok e_ok h =
-      end.past (class_of r.strict 46) 46 None _ (rw (class_46 r.strict)
+      end.past (class_of r.strict 46) 46 None _ (rw (class-char r.strict point)
       (refl, rw (digits-class r.strict d ok.0) (refl, read_fraction ws (d ∷ []) ds e k ok.1 e_ok h)))
 
   read_whole : (ds es : List ℕ) (k : List Cell) → AreDigits es → F k (whole (onto es ds))
@@ -135,7 +134,8 @@ module _ (r : Reading) (G : Outcome → Type 0) (fs : Frames) (negative : Bool) 
   read_first : (is_zero : Bool) (d : ℕ) (es : List ℕ) (k : List Cell) → d == 48 ≡ is_zero → IsWhole (d ∷ es)
       → ((x : NumberPlace) → EndsWhole x (d ∷ es) → F k x)
       → F (digits_cells drops_too_many (d ∷ []) es k) (begun is_zero d)
-  read_first true d [] k e ok h = h zero_read (subst (λ z. EndsWhole zero_read (z ∷ [])) (sym (eqb-true d 48 e)) zero_ends)
+  read_first true d [] k e ok h =
+      h zero_read (subst (λ z. EndsWhole zero_read (z ∷ [])) (sym (eqb-true d 48 e)) zero_ends)
   read_first true d (x ∷ es) k e ok h = absurd (no_zero (is_ascii_digit d) (d == 48) e ok.0)
     where
       no_zero : (a b : Bool) → b ≡ true → IsTrue (a && not b) → ⊥
@@ -156,7 +156,8 @@ module _ (r : Reading) (G : Outcome → Type 0) (fs : Frames) (negative : Bool) 
 
   read_magnitude : (d : ℕ) (es ds : List ℕ) (x : Option Exponent) (k : List Cell) → IsWhole (d ∷ es) → AreDigits ds
       → IsExponent x → B (d ∷ es) ds x k
-      → F (digits_cells drops_too_many (d ∷ []) es (fraction_cells (d ∷ es) ds (exponent_cells x k))) (begun (d == 48) d)
+      → F (digits_cells drops_too_many (d ∷ []) es (fraction_cells (d ∷ es) ds (exponent_cells x k)))
+      (begun (d == 48) d)
   read_magnitude d es ds x k ok ds_ok x_ok h =
       read_first (d == 48) d es _ refl ok (λ p end. read_after_whole p (d ∷ es) ds x k end ds_ok x_ok h)
 
@@ -167,7 +168,7 @@ module _ (r : Reading) (G : Outcome → Type 0) (fs : Frames) where
       (value_mark r fs) k) (before fs)
   read_signed negative [] ds x k ok ds_ok x_ok h = absurd ok
   read_signed true (d ∷ es) ds x k ok ds_ok x_ok h =
-      rw (class_45 r.strict) (
+      rw (class-char r.strict dash) (
         refl,
         rw (digits-class r.strict d (first_digit r G fs true d es ok))
             (refl, read_magnitude r G fs true d es ds x k ok ds_ok x_ok h),

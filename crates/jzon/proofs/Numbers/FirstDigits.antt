@@ -5,16 +5,15 @@ use Rattle.std.specs.Char.{is_ascii_digit}
 use Rattle.std.specs.Str.{IsCharBoundary}
 use Rattle.jzon.specs.Reading.{Reading}
 use Rattle.jzon.specs.Classes.{Class, whitespace, digits, dash, cross, point, letter_e, quote, opens_array}
-use Rattle.jzon.specs.Classes.{closes_array}
-use Rattle.jzon.specs.Classes.{opens_object, closes_object, comma, colon, begins_null, begins_true, begins_false, other}
-use Rattle.jzon.specs.Classes.{class_of, signed, begun}
+use Rattle.jzon.specs.Classes.{closes_array, opens_object, closes_object, comma, colon, begins_null, begins_true}
+use Rattle.jzon.specs.Classes.{begins_false, other, class_of, signed, begun}
 use Rattle.jzon.specs.Machine.{Frames, numeral, bad, move_numeral, from}
-use Rattle.jzon.proofs.Texts.ClassesOfCharacters.{class-digits, digits-class}
+use Rattle.jzon.proofs.Texts.ClassesOfCharacters.{class-says, digits-class}
 use Rattle.jzon.proofs.Texts.StepsByByte.{StopsAt, from_step, digit_is_ascii}
 
 no_digit_on : (r : Reading) (fs : Frames) (c : ℕ) (k : Class) → (IsTrue (is_ascii_digit c) → ⊥)
     → class_of r.strict c ≡ k → move_numeral signed k fs true c ≡ bad
-no_digit_on r fs c digits h e = absurd (h (class-digits r.strict c e))
+no_digit_on r fs c digits h e = absurd (h (class-says r.strict c e))
 no_digit_on r fs c whitespace h e = refl
 no_digit_on r fs c dash h e = refl
 no_digit_on r fs c cross h e = refl

@@ -13,8 +13,7 @@ use Rattle.jzon.specs.Classes.{pointed, fraction, lettered, signed_exponent, exp
 use Rattle.jzon.specs.Machine.{Frames, Place, numeral, behind, go, bad, move, move_behind, move_after_whole}
 use Rattle.jzon.specs.Machine.{move_numeral, number_value, exponent_of, last, meant_at, refused, outcome_on, outcome}
 use Rattle.jzon.specs.Machine.{stopped}
-use Rattle.jzon.proofs.Texts.ClassesOfCharacters.{letter_e-class, class_43, class_45, class_46, class-digits}
-use Rattle.jzon.proofs.Texts.ClassesOfCharacters.{class-dash, class-cross, class-point, class-letter_e}
+use Rattle.jzon.proofs.Texts.ClassesOfCharacters.{letter_e-class, class-char, class-says}
 use Rattle.jzon.proofs.Numbers.NumberLimits.{onto-onto}
 use Rattle.jzon.proofs.Numbers.DigitRuns.{read_whole, refuse_whole, read_fraction, read_unsigned_exponent}
 use Rattle.jzon.proofs.Numbers.DigitRuns.{read_signed_exponent}
@@ -31,19 +30,19 @@ read_one r p q c cs e = ap (λ m. outcome_on m (λ x. outcome r cs x) (c ∷ cs)
 -- ---- characters that aren't in a class
 
 no_digit : (s : Bool) (c : ℕ) → is_ascii_digit c ≡ false → class_of s c ≡ digits → ⊥
-no_digit s c fails e = true≢false (sym (class-digits s c e) ∙ fails)
+no_digit s c fails e = true≢false (sym (class-says s c e) ∙ fails)
 
 no_letter : (s : Bool) (c : ℕ) → is_exponent_letter c ≡ false → class_of s c ≡ letter_e → ⊥
-no_letter s c fails e = true≢false (sym (class-letter_e s c e) ∙ fails)
+no_letter s c fails e = true≢false (sym (class-says s c e) ∙ fails)
 
 no_point : (s : Bool) (c : ℕ) → (c == 46) ≡ false → class_of s c ≡ point → ⊥
-no_point s c fails e = true≢false (sym (eq-eqb c 46 (class-point s c e)) ∙ fails)
+no_point s c fails e = true≢false (sym (eq-eqb c 46 (class-says s c e)) ∙ fails)
 
 no_plus : (s : Bool) (c : ℕ) → (c == 43) ≡ false → class_of s c ≡ cross → ⊥
-no_plus s c fails e = true≢false (sym (eq-eqb c 43 (class-cross s c e)) ∙ fails)
+no_plus s c fails e = true≢false (sym (eq-eqb c 43 (class-says s c e)) ∙ fails)
 
 no_minus : (s : Bool) (c : ℕ) → (c == 45) ≡ false → class_of s c ≡ dash → ⊥
-no_minus s c fails e = true≢false (sym (eq-eqb c 45 (class-dash s c e)) ∙ fails)
+no_minus s c fails e = true≢false (sym (eq-eqb c 45 (class-says s c e)) ∙ fails)
 
 -- ---- where a digit is missing
 
@@ -178,7 +177,7 @@ whole_to_point r d ws cs rest gs fs negative h few =
     h.reads fs negative gs few
     ∙ read_one r (numeral fs negative h.place) (numeral fs negative (pointed ws)) 46 rest
     ((h.is_behind fs negative).moves 46 h.next ∙ behind_point fs negative ws (class_of r.strict 46) 46
-    (class_46 r.strict))
+    (class-char r.strict point))
 
 behind_letter : (fs : Frames) (negative : Bool) (ws : List ℕ) (k : Class) (l : ℕ) → k ≡ letter_e
     → move_after_whole k fs negative ws l ≡ go None (numeral fs negative (lettered ws [] l))
@@ -310,9 +309,9 @@ signed_to_end r ws ds l s xs rest fs negative ok stop =
 pub letter_to_plus : (r : Reading) (ws ds : List ℕ) (l : ℕ) (cs : List ℕ) (fs : Frames) (negative : Bool)
     → outcome r (43 ∷ cs) (numeral fs negative (lettered ws ds l))
     ≡ outcome r cs (numeral fs negative (signed_exponent ws ds l plus))
-letter_to_plus r ws ds l cs fs negative = rw (class_43 r.strict) refl
+letter_to_plus r ws ds l cs fs negative = rw (class-char r.strict cross) refl
 
 pub letter_to_minus : (r : Reading) (ws ds : List ℕ) (l : ℕ) (cs : List ℕ) (fs : Frames) (negative : Bool)
     → outcome r (45 ∷ cs) (numeral fs negative (lettered ws ds l))
     ≡ outcome r cs (numeral fs negative (signed_exponent ws ds l minus))
-letter_to_minus r ws ds l cs fs negative = rw (class_45 r.strict) refl
+letter_to_minus r ws ds l cs fs negative = rw (class-char r.strict dash) refl

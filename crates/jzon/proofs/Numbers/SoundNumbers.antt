@@ -1,8 +1,8 @@
 -- Sound, for numbers (`number_on`, `number_ends`): where the automaton goes to a value from inside a number, what is
 -- left begins with the rest of a number, `InNumeral`, and goes on as is allowed after it. One character more, from what
 -- is so after that character.
-use Rattle.std.proofs.Common.{◌≡◌, ◌∙◌, ℕ, List, [], ◌∷◌, ◌++◌, Bool, true, false, not, ◌&&◌, ◌==◌, Option, None}
-use Rattle.std.proofs.Common.{refl, sym, subst, ap, eqb-true}
+use Rattle.std.proofs.Common.{◌≡◌, ◌∙◌, ℕ, List, [], ◌∷◌, ◌++◌, Bool, true, false, not, ◌&&◌, ◌==◌, Option, None, refl}
+use Rattle.std.proofs.Common.{sym, subst, ap, eqb-true}
 use Rattle.std.specs.Prelude.{IsTrue}
 use Rattle.std.specs.Char.{is_ascii_digit}
 use Rattle.jzon_tree.specs.Value.{Value}
@@ -14,9 +14,9 @@ use Rattle.jzon.specs.Spelling.{onto}
 use Rattle.jzon.specs.Meaning.{number_of}
 use Rattle.jzon.specs.Classes.{Class, digits, dash, cross, point, letter_e, class_of, NumberPlace, signed, zero_read}
 use Rattle.jzon.specs.Classes.{whole, pointed, fraction, lettered, signed_exponent, exponent, begun}
-use Rattle.jzon.specs.Machine.{Frames, numeral, number_value, exponent_of, move_behind, meant_at}
-use Rattle.jzon.specs.Machine.{move_after_whole, move_numeral, last_numeral, meant}
-use Rattle.jzon.proofs.Texts.ClassesOfCharacters.{class-digits, class-letter_e, class-cross, class-dash, class-point}
+use Rattle.jzon.specs.Machine.{Frames, numeral, number_value, exponent_of, move_behind, meant_at, move_after_whole}
+use Rattle.jzon.specs.Machine.{move_numeral, last_numeral, meant}
+use Rattle.jzon.proofs.Texts.ClassesOfCharacters.{class-says}
 use Rattle.jzon.proofs.Texts.Runs.{On, Goes}
 use Rattle.jzon.proofs.Texts.TreeCharacters.{fraction_chars, sign_chars, exponent_chars, numeral_chars}
 
@@ -83,7 +83,8 @@ module _ (r : Reading) (v : Value) (fs : Frames) (Beh : Value → List ℕ → T
 
   -- ---- one character, of this class
 
-  module _ (c : ℕ) (cs : List ℕ) (ih : (b : Bool) (y : NumberPlace) → Goes r v cs (numeral fs b y) → InNumeral b y cs) where
+  module _ (c : ℕ) (cs : List ℕ)
+      (ih : (b : Bool) (y : NumberPlace) → Goes r v cs (numeral fs b y) → InNumeral b y cs) where
     abbrev C : Class → Bool → NumberPlace → Type 0
     C k negative x = On (move_numeral x k fs negative c) (λ p. Goes r v cs p)
 
@@ -95,7 +96,7 @@ module _ (r : Reading) (v : Value) (fs : Frames) (Beh : Value → List ℕ → T
         → InNumeral negative (exponent ws ds l s xs) (c ∷ cs)
     exponent_on digits negative ws ds l s xs e b h =
         let g = ih negative (exponent ws ds l s (c ∷ xs)) h in
-        (c ∷ g.0, g.1, (class-digits r.strict c e, g.2), ap (λ z. c ∷ z) g.3, g.4)
+        (c ∷ g.0, g.1, (class-says r.strict c e, g.2), ap (λ z. c ∷ z) g.3, g.4)
     exponent_on _ negative ws ds l s xs e b h =
         ([], c ∷ cs, tt, refl, b (number_value negative ws ds (exponent_of l s (onto xs []))) h)
 
@@ -103,20 +104,20 @@ module _ (r : Reading) (v : Value) (fs : Frames) (Beh : Value → List ℕ → T
         → C k negative (signed_exponent ws ds l s) → InNumeral negative (signed_exponent ws ds l s) (c ∷ cs)
     signed_on digits negative ws ds l s e h =
         let g = ih negative (exponent ws ds l s (c ∷ [])) h in
-        (c ∷ g.0, g.1, (class-digits r.strict c e, g.2), ap (λ z. c ∷ z) g.3, g.4)
+        (c ∷ g.0, g.1, (class-says r.strict c e, g.2), ap (λ z. c ∷ z) g.3, g.4)
     signed_on _ negative ws ds l s e h = absurd h
 
     letter_on : (k : Class) (negative : Bool) (ws ds : List ℕ) (l : ℕ) → class_of r.strict c ≡ k
         → C k negative (lettered ws ds l) → InNumeral negative (lettered ws ds l) (c ∷ cs)
     letter_on digits negative ws ds l e h =
         let g = ih negative (exponent ws ds l unsigned (c ∷ [])) h in
-        (unsigned, c ∷ g.0, g.1, (class-digits r.strict c e, g.2), ap (λ z. c ∷ z) g.3, g.4)
+        (unsigned, c ∷ g.0, g.1, (class-says r.strict c e, g.2), ap (λ z. c ∷ z) g.3, g.4)
     letter_on cross negative ws ds l e h =
         let g = ih negative (signed_exponent ws ds l plus) h in
-        (plus, g.0, g.1, g.2, rw (class-cross r.strict c e) (ap (λ z. 43 ∷ z) g.3), g.4)
+        (plus, g.0, g.1, g.2, rw (class-says r.strict c e) (ap (λ z. 43 ∷ z) g.3), g.4)
     letter_on dash negative ws ds l e h =
         let g = ih negative (signed_exponent ws ds l minus) h in
-        (minus, g.0, g.1, g.2, rw (class-dash r.strict c e) (ap (λ z. 45 ∷ z) g.3), g.4)
+        (minus, g.0, g.1, g.2, rw (class-says r.strict c e) (ap (λ z. 45 ∷ z) g.3), g.4)
     letter_on _ negative ws ds l e h = absurd h
 
     -- the letter of an exponent
@@ -125,13 +126,13 @@ module _ (r : Reading) (v : Value) (fs : Frames) (Beh : Value → List ℕ → T
         → (x : Option Exponent) × (u : List ℕ) × IsExponent x × (c ∷ cs ≡ exponent_chars x u) × B negative ws ds x u
     exponent_part negative ws ds e h =
         let g = ih negative (lettered ws ds c) h in
-        (exponent_of c g.0 g.1, g.2, (class-letter_e r.strict c e, g.3), ap (λ z. c ∷ z) g.4, g.5)
+        (exponent_of c g.0 g.1, g.2, (class-says r.strict c e, g.3), ap (λ z. c ∷ z) g.4, g.5)
 
     fraction_on : (k : Class) (negative : Bool) (ws ds : List ℕ) → class_of r.strict c ≡ k → After k
         → C k negative (fraction ws ds) → InNumeral negative (fraction ws ds) (c ∷ cs)
     fraction_on digits negative ws ds e b h =
         let g = ih negative (fraction ws (c ∷ ds)) h in
-        (c ∷ g.0, g.1, g.2, (class-digits r.strict c e, g.3), g.4, ap (λ z. c ∷ z) g.5, g.6)
+        (c ∷ g.0, g.1, g.2, (class-says r.strict c e, g.3), g.4, ap (λ z. c ∷ z) g.5, g.6)
     fraction_on letter_e negative ws ds e b h =
         let g = exponent_part negative ws (onto ds []) e h in ([], g.0, g.1, tt, g.2, g.3, g.4)
     fraction_on _ negative ws ds e b h =
@@ -141,7 +142,7 @@ module _ (r : Reading) (v : Value) (fs : Frames) (Beh : Value → List ℕ → T
         → InNumeral negative (pointed ws) (c ∷ cs)
     point_on digits negative ws e h =
         let g = ih negative (fraction ws (c ∷ [])) h in
-        (c ∷ g.0, g.1, g.2, (class-digits r.strict c e, g.3), g.4, ap (λ z. c ∷ z) g.5, g.6)
+        (c ∷ g.0, g.1, g.2, (class-says r.strict c e, g.3), g.4, ap (λ z. c ∷ z) g.5, g.6)
     point_on _ negative ws e h = absurd h
 
     fraction_part : (negative : Bool) (ws : List ℕ) → c ≡ 46 → InNumeral negative (pointed ws) cs
@@ -153,7 +154,7 @@ module _ (r : Reading) (v : Value) (fs : Frames) (Beh : Value → List ℕ → T
     tail_on : (k : Class) (negative : Bool) (ws : List ℕ) → class_of r.strict c ≡ k → After k
         → On (move_after_whole k fs negative ws c) (λ p. Goes r v cs p) → TailLeft negative ws (c ∷ cs)
     tail_on point negative ws e b h =
-        fraction_part negative ws (class-point r.strict c e) (ih negative (pointed ws) h)
+        fraction_part negative ws (class-says r.strict c e) (ih negative (pointed ws) h)
     tail_on letter_e negative ws e b h =
         let g = exponent_part negative ws [] e h in ([], g.0, g.1, tt, g.2, g.3, g.4)
     tail_on _ negative ws e b h = ([], None, c ∷ cs, tt, tt, refl, b (number_value negative ws [] None) h)
@@ -162,13 +163,13 @@ module _ (r : Reading) (v : Value) (fs : Frames) (Beh : Value → List ℕ → T
         → C k negative (whole ds) → InNumeral negative (whole ds) (c ∷ cs)
     whole_on digits negative ds e b h =
         let g = ih negative (whole (c ∷ ds)) h in
-        (c ∷ g.0, g.1, (class-digits r.strict c e, g.2), ap (λ z. c ∷ z) g.3, g.4)
+        (c ∷ g.0, g.1, (class-says r.strict c e, g.2), ap (λ z. c ∷ z) g.3, g.4)
     whole_on k negative ds e b h = ([], c ∷ cs, tt, refl, tail_on k negative (onto ds []) e b h)
 
     minus_on : (k : Class) (negative : Bool) → class_of r.strict c ≡ k → C k negative signed
         → InNumeral negative signed (c ∷ cs)
     minus_on digits negative e h =
-        let ok = class-digits r.strict c e in
+        let ok = class-says r.strict c e in
         (c, cs, refl, magnitude_left (c == 48) true c cs ok refl (ih true (begun (c == 48) c) h))
     minus_on _ negative e h = absurd h
 
@@ -193,7 +194,7 @@ module _ (r : Reading) (v : Value) (fs : Frames) (Beh : Value → List ℕ → T
       → NumberLeft (c ∷ cs)
   digit_sound c cs e h =
       let (es, u, ok, f, (ds, x, u', ds_ok, x_ok, g, k)) =
-      magnitude_left (c == 48) false c cs (class-digits r.strict c e) refl h in (
+      magnitude_left (c == 48) false c cs (class-says r.strict c e) refl h in (
         record { negative = false; whole = c ∷ es; fraction = ds; exponent = x },
         u',
         (ok, ds_ok, x_ok),

@@ -1,7 +1,7 @@
 -- The meaning of a tree that breaks no limit is a value of which the laws `redump` and `reads_back` speak.
-use Rattle.std.proofs.Common.{◌≡◌, ℕ, suc, ◌-◌, ◌<◌, ◌≤◌, max, ℤ, pos, ◌+ℤ◌, ◌-ℤ◌, List, [], ◌∷◌, ◌++◌, Bool}
-use Rattle.std.proofs.Common.{true, false, ◌&&◌, nat_le, if◌then◌else◌, Option, None, codes, refl, sym, subst}
-use Rattle.std.proofs.Common.{arith, FitsSigned}
+use Rattle.std.proofs.Common.{◌≡◌, ℕ, suc, ◌-◌, ◌<◌, ◌≤◌, max, ℤ, pos, ◌+ℤ◌, ◌-ℤ◌, List, [], ◌∷◌, ◌++◌, Bool, true}
+use Rattle.std.proofs.Common.{false, ◌&&◌, nat_le, if◌then◌else◌, Option, None, codes, refl, sym, subst, arith}
+use Rattle.std.proofs.Common.{FitsSigned}
 use Rattle.std.specs.Prelude.{IsUtf8}
 use Rattle.std.specs.Int.{w16}
 use Rattle.std.specs.List.{fold, AllByRecursion, IsDistinct}

@@ -19,8 +19,8 @@ use Rattle.jzon.specs.Meaning.{written_exponent}
 use Rattle.jzon.proofs.ReadBack.NumeralTexts.{numeral_spelled, fraction_spelled, exponent_spelled}
 use Rattle.jzon.proofs.ReadBack.PrintedParts.{HasNumeral, exponent, numeral, IsWholePart, exponent_test, all-zeros}
 use Rattle.jzon.proofs.ReadBack.PrintedParts.{number_decimal, decimal_digits, IsMantissa, mantissa, if-le, if-not_le}
-use Rattle.jzon.proofs.ReadBack.PrintedParts.{digits-append, digits-take, digits-drop}
-use Rattle.jzon.proofs.ReadBack.PrintedParts.{if-eq, if-ne, means_as, exact_parts, means_exactly}
+use Rattle.jzon.proofs.ReadBack.PrintedParts.{digits-append, digits-take, digits-drop, if-eq, if-ne, means_as}
+use Rattle.jzon.proofs.ReadBack.PrintedParts.{exact_parts, means_exactly}
 
 -- ---- digits alone
 

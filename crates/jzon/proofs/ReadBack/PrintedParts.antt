@@ -1,8 +1,8 @@
 -- Numbers of the grammar that have the text of given parts, and mean the same parts.
 use Rattle.std.proofs.Common.{◌≡◌, ℕ, suc, ℤ, pos, ◌+ℤ◌, ◌-ℤ◌, ◌^◌, ◌&&◌, ◌≤◌, ◌<◌, ◌==◌, Option, Some, List, [], ◌∷◌}
 use Rattle.std.proofs.Common.{◌++◌, length, take, drop, replicate, Bool, true, false, not, refl, sym, ap, ◌∙◌, arith}
-use Rattle.std.proofs.Common.{rules, codes, nat_le, if◌then◌else◌, FitsSigned, get_or, length-append}
-use Rattle.std.proofs.Common.{append_assoc, decimal, zero}
+use Rattle.std.proofs.Common.{rules, codes, nat_le, if◌then◌else◌, FitsSigned, get_or, length-append, append_assoc}
+use Rattle.std.proofs.Common.{decimal, zero}
 use Rattle.std.proofs.Math.Bool.{not-not}
 use Rattle.std.specs.Int.{w16}
 use Rattle.std.specs.Char.{is_ascii_digit}

@@ -29,16 +29,13 @@ use Rattle.jzon.specs.Laws.{alone, AllowsStrictAlone, ReadsBack}
 use Rattle.jzon.proofs.ReadBack.DistinctKeys.{AreNew-IsDistinct}
 use Rattle.jzon.proofs.ReadBack.NumbersReadBack.{printed_numeral}
 use Rattle.jzon.proofs.ReadBack.Orders.{picked, map-picked, each_picked, AreBelow, AreBelow-order, texts_picked}
-use Rattle.jzon.proofs.ReadBack.Orders.{distinct_picked}
-use Rattle.jzon.proofs.ReadBack.Orders.{find-picked}
+use Rattle.jzon.proofs.ReadBack.Orders.{distinct_picked, find-picked}
 use Rattle.jzon.proofs.ReadBack.WrittenStrings.{items_for, bytes_of-items_for}
 use Rattle.jzon.proofs.ReadBack.WrittenTrees.{NodeSpells, null_spells, true_spells, false_spells, number_spells}
 use Rattle.jzon.proofs.ReadBack.WrittenTrees.{empty_array_spells, empty_object_spells, string_spells, key_for}
-use Rattle.jzon.proofs.ReadBack.WrittenTrees.{array_spells}
-use Rattle.jzon.proofs.ReadBack.WrittenTrees.{object_spells, node_parses}
+use Rattle.jzon.proofs.ReadBack.WrittenTrees.{array_spells, object_spells, node_parses}
 use Rattle.jzon.proofs.ReadBack.JoinedTrees.{AllowsWhitespaceOf, node_raised, EachSpells, joined_elements, Entry}
-use Rattle.jzon.proofs.ReadBack.JoinedTrees.{entry_text}
-use Rattle.jzon.proofs.ReadBack.JoinedTrees.{entry_meaning, entry_keys, EntrySpells, joined_members}
+use Rattle.jzon.proofs.ReadBack.JoinedTrees.{entry_text, entry_meaning, entry_keys, EntrySpells, joined_members}
 
 -- The node spells the bytes, and means the same value.
 record ReadNode (r : Reading) (v : Value) (b : List ℕ) : Type 0 where

@@ -10,8 +10,7 @@ use Rattle.jzon_base.specs.Decimal.{nan, parts}
 use Rattle.jzon_base.specs.PairList.{keys_of, put_each}
 use Rattle.jzon_base.proofs.PutEach.{put_each-distinct}
 use Rattle.jzon_tree.specs.Value.{Value, null, boolean, text, number, array, object, Values, no_values, value, Pairs}
-use Rattle.jzon_tree.specs.Value.{no_pairs, pair, pairs_of, list_of_pairs, nest, most_nest}
-use Rattle.jzon_tree.specs.Value.{most_nest_under}
+use Rattle.jzon_tree.specs.Value.{no_pairs, pair, pairs_of, list_of_pairs, nest, most_nest, most_nest_under}
 use Rattle.jzon_tree.specs.Text.{compact_layout, layout_text, more_values_text, more_pairs_text, quoted}
 use Rattle.jzon_tree.specs.Lawful.{IsValue, AreValues, ArePairs}
 use Rattle.jzon_tree.proofs.PrintedUtf8.{text_utf8}
@@ -23,12 +22,9 @@ use Rattle.jzon.proofs.ReadBack.DistinctKeys.{AreNew, AreNew-IsDistinct}
 use Rattle.jzon.proofs.ReadBack.NumbersReadBack.{printed_numeral}
 use Rattle.jzon.proofs.ReadBack.WrittenStrings.{items_for, bytes_of-items_for}
 use Rattle.jzon.proofs.ReadBack.WrittenTrees.{NodeSpells, ElementsSpell, MembersSpell, null_spells, true_spells}
-use Rattle.jzon.proofs.ReadBack.WrittenTrees.{false_spells}
-use Rattle.jzon.proofs.ReadBack.WrittenTrees.{number_spells, empty_array_spells, empty_object_spells, string_spells}
-use Rattle.jzon.proofs.ReadBack.WrittenTrees.{key_for}
-use Rattle.jzon.proofs.ReadBack.WrittenTrees.{pair_text, no_elements_spell, element_spells, array_spells}
-use Rattle.jzon.proofs.ReadBack.WrittenTrees.{no_members_spell}
-use Rattle.jzon.proofs.ReadBack.WrittenTrees.{member_spells, object_spells, node_parses}
+use Rattle.jzon.proofs.ReadBack.WrittenTrees.{false_spells, number_spells, empty_array_spells, empty_object_spells}
+use Rattle.jzon.proofs.ReadBack.WrittenTrees.{string_spells, key_for, pair_text, no_elements_spell, element_spells}
+use Rattle.jzon.proofs.ReadBack.WrittenTrees.{array_spells, no_members_spell, member_spells, object_spells, node_parses}
 
 -- The node spells the compact text of the value inside d containers, and means a value with the same compact text.
 record Dumped (r : Reading) (d : ℕ) (v : Value) : Type 0 where

@@ -1,9 +1,8 @@
 -- A printed number with zeros behind its digits: it is read with a larger mantissa, and one zero is dropped where that
 -- has no room.
-use Rattle.std.proofs.Common.{◌≡◌, ℕ, suc, zero, ℤ, pos, ◌+ℤ◌, ◌-ℤ◌, ◌+◌, ◌*◌, ◌/◌, ◌%◌, ◌^◌, ◌&&◌, ◌≤◌, ◌<◌}
-use Rattle.std.proofs.Common.{◌==◌, None, List, [], ◌∷◌, ◌++◌, length, take, replicate, Bool, true, false, not, refl}
-use Rattle.std.proofs.Common.{sym, ap, ◌∙◌, arith, decimal, get_or, length-append, append_assoc, append-nil, pow-add}
-use Rattle.std.proofs.Common.{eq-eqb}
+use Rattle.std.proofs.Common.{◌≡◌, ℕ, suc, zero, ℤ, pos, ◌+ℤ◌, ◌-ℤ◌, ◌+◌, ◌*◌, ◌/◌, ◌%◌, ◌^◌, ◌&&◌, ◌≤◌, ◌<◌, ◌==◌}
+use Rattle.std.proofs.Common.{None, List, [], ◌∷◌, ◌++◌, length, take, replicate, Bool, true, false, not, refl, sym, ap}
+use Rattle.std.proofs.Common.{◌∙◌, arith, decimal, get_or, length-append, append_assoc, append-nil, pow-add, eq-eqb}
 use Rattle.std.specs.List.{fold}
 use Rattle.std.proofs.lemmas.Int.{ints}
 use Rattle.std.proofs.lemmas.Fmt.{decimal_step}
@@ -11,8 +10,8 @@ use Rattle.std.proofs.Math.Bool.{not-not, or-true}
 use Rattle.std.proofs.Math.Nat.{pow-suc, one-le-mul, one-le-pow, mul-le-mul_right, pow-le-pow_right}
 use Rattle.std.proofs.lemmas.List.Sums.{fold-append}
 use Rattle.std.proofs.lemmas.List.{length-replicate, take_at, take_all}
-use Rattle.jzon_base.specs.Digits.{add_digit, digits_number, kept_len, kept, dropped, kept_fraction}
-use Rattle.jzon_base.specs.Digits.{read_exponent, clamp}
+use Rattle.jzon_base.specs.Digits.{add_digit, digits_number, kept_len, kept, dropped, kept_fraction, read_exponent}
+use Rattle.jzon_base.specs.Digits.{clamp}
 use Rattle.jzon_base.specs.Decimal.{parts, same, scaled}
 use Rattle.jzon_base.specs.NumberText.{sign_text, number_text}
 use Rattle.jzon_base.specs.Same.{same_equiv}
@@ -21,9 +20,8 @@ use Rattle.jzon_base.proofs.Scaled.{scaled-eq-fits}
 use Rattle.jzon.specs.Meaning.{number_of}
 use Rattle.jzon.proofs.ReadBack.NumeralTexts.{numeral_spelled, minus_spelled}
 use Rattle.jzon.proofs.ReadBack.PrintedParts.{HasNumeral, numeral, AllDigits, IsWholePart, whole_test, all-zeros}
-use Rattle.jzon.proofs.ReadBack.PrintedParts.{number_decimal, digits-append}
-use Rattle.jzon.proofs.ReadBack.PrintedParts.{IsMantissa, mantissa, if-le, if-ne, number_text-above, means_as}
-use Rattle.jzon.proofs.ReadBack.PrintedParts.{exact_parts, minus-is}
+use Rattle.jzon.proofs.ReadBack.PrintedParts.{number_decimal, digits-append, IsMantissa, mantissa, if-le, if-ne}
+use Rattle.jzon.proofs.ReadBack.PrintedParts.{number_text-above, means_as, exact_parts, minus-is}
 
 -- ---- powers of ten
 

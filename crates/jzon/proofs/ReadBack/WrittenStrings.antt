@@ -1,7 +1,7 @@
 -- A written string is a string of the grammar, which means the text that was written.
-use Rattle.std.proofs.Common.{◌≡◌, ◌∙◌, ℕ, zero, suc, ◌/◌, ◌%◌, ◌≤◌, List, [], ◌∷◌, ◌++◌, map}
-use Rattle.std.proofs.Common.{Bool, true, false, not, ◌&&◌, ◌||◌, ◌==◌, nat_lt, if◌then◌else◌, refl, sym, ap}
-use Rattle.std.proofs.Common.{subst, arith, inl, inr, append-nil, chars, None}
+use Rattle.std.proofs.Common.{◌≡◌, ◌∙◌, ℕ, zero, suc, ◌/◌, ◌%◌, ◌≤◌, List, [], ◌∷◌, ◌++◌, map, Bool, true, false, not}
+use Rattle.std.proofs.Common.{◌&&◌, ◌||◌, ◌==◌, nat_lt, if◌then◌else◌, refl, sym, ap, subst, arith, inl, inr}
+use Rattle.std.proofs.Common.{append-nil, chars, None}
 use Rattle.std.specs.Prelude.{IsUtf8, encode_utf8, encode_utf8_all}
 use Rattle.std.specs.Char.{digit_char, is_ascii_hexdigit}
 use Rattle.std.specs.Str.{IsAscii, bytes_eq}
@@ -11,8 +11,7 @@ use Rattle.std.proofs.lemmas.Bool.Decides.{nat_tests}
 use Rattle.std.proofs.lemmas.List.Concat.{flat_map-append}
 use Rattle.std.proofs.lemmas.Slice.Eq.{bytes_eq-Decides}
 use Rattle.std.proofs.lemmas.Str.{chars_from_encodes, chars-append, encodes-append, encodes-chars, scalars-chars}
-use Rattle.std.proofs.lemmas.Str.{encode_ascii, IsUtf8-from_ascii, encodes-IsAscii}
-use Rattle.std.proofs.lemmas.Str.{chars-IsAscii}
+use Rattle.std.proofs.lemmas.Str.{encode_ascii, IsUtf8-from_ascii, encodes-IsAscii, chars-IsAscii}
 use Rattle.jzon_tree.specs.Text.{escaped_byte, escaped, quoted}
 use Rattle.jzon_tree.proofs.PrintedUtf8.{all_below, at_below, large_escaped, escaped_large, encode_large, IsAscii-one}
 use Rattle.jzon_tree.proofs.PrintedUtf8.{IsAscii-escaped_byte, IsUtf8-escaped}

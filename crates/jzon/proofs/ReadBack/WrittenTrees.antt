@@ -14,8 +14,7 @@ use Rattle.jzon_tree.specs.Text.{quoted}
 use Rattle.jzon_tree.proofs.PrintedUtf8.{IsAscii-one, IsAscii-true, IsUtf8-quoted}
 use Rattle.jzon.specs.Reading.{Reading}
 use Rattle.jzon.specs.Grammar.{Numeral, Key, Node, Elements, no_elements, element, Members, no_members, member}
-use Rattle.jzon.specs.Grammar.{IsWhitespace}
-use Rattle.jzon.specs.Grammar.{IsNode, AreElements, AreMembers}
+use Rattle.jzon.specs.Grammar.{IsWhitespace, IsNode, AreElements, AreMembers}
 use Rattle.jzon.specs.Fault.{Parses}
 use Rattle.jzon.specs.Laws.{alone}
 use Rattle.jzon.specs.Meaning.{bytes_of}

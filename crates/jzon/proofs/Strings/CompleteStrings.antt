@@ -1,7 +1,7 @@
 -- Complete, for strings (`complete_string`, `read_items`): over the items of a string the automaton goes from between
 -- two items to after them, each move with its cell's mark, and has the bytes that they mean.
-use Rattle.std.proofs.Common.{◌≡◌, ◌∙◌, ℕ, zero, suc, ◌+◌, List, [], ◌∷◌, ◌++◌, length, Bool, true, false, not, ◌&&◌, Option}
-use Rattle.std.proofs.Common.{None, refl, sym, subst, ap, arith, append_assoc, append-nil, encode_utf8}
+use Rattle.std.proofs.Common.{◌≡◌, ◌∙◌, ℕ, zero, suc, ◌+◌, List, [], ◌∷◌, ◌++◌, length, Bool, true, false, not, ◌&&◌}
+use Rattle.std.proofs.Common.{Option, None, refl, sym, subst, ap, arith, append_assoc, append-nil, encode_utf8}
 use Rattle.std.proofs.Common.{encode_utf8_all}
 use Rattle.std.specs.Prelude.{if◌then◌else◌}
 use Rattle.std.specs.List.{fold}
@@ -15,9 +15,10 @@ use Rattle.jzon.specs.Grammar as grammar
 use Rattle.jzon.specs.Spelling.{Breach, pair, Cell, cell, plain, marked_last, breach_if, item_cells, items_cells}
 use Rattle.jzon.specs.Spelling.{items_length}
 use Rattle.jzon.specs.Meaning.{item_text, text_of, bytes_of, is_pair, pair_char}
-use Rattle.jzon.specs.Machine.{Frames, Role, as_value, before, string, behind, between, code, second_code}
-use Rattle.jzon.specs.Machine.{Outcome, value_mark, coded, paired, add_hex}
-use Rattle.jzon.proofs.Texts.ClassesOfCharacters.{class_34}
+use Rattle.jzon.specs.Machine.{Frames, Role, as_value, before, string, behind, between, code, second_code, Outcome}
+use Rattle.jzon.specs.Machine.{value_mark, coded, paired, add_hex}
+use Rattle.jzon.specs.Classes.{quote}
+use Rattle.jzon.proofs.Texts.ClassesOfCharacters.{class-char}
 use Rattle.jzon.proofs.Strings.StringCharacters.{plain_parts, simple_not_u}
 use Rattle.jzon.proofs.Texts.Runs.{Meets, Follows}
 
@@ -149,4 +150,4 @@ pub complete_string : (r : Reading) (G : Outcome → Type 0) (fs : Frames) (is :
     → Follows r G k (behind fs (value.text (kind_of (bytes_of is)) (bytes_of is)))
     → Follows r G (cell 34 (value_mark r fs) ∷ items_cells is (cell 34 None ∷ k)) (before fs)
 complete_string r G fs is k ok h =
-    rw (class_34 r.strict) (refl, read_items r G (as_value fs) [] is (cell 34 None ∷ k) ok (refl, h))
+    rw (class-char r.strict quote) (refl, read_items r G (as_value fs) [] is (cell 34 None ∷ k) ok (refl, h))

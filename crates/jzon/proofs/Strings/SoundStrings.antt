@@ -1,8 +1,9 @@
 -- Sound, for strings (`string_on`): where the automaton goes to a value from inside a string, what is left begins with
 -- the rest of a string, `Left`, and goes on as is allowed after its closing quote. One character more, from what is so
 -- after that character.
-use Rattle.std.proofs.Common.{◌≡◌, ◌∙◌, ◌⊎◌, ℕ, zero, suc, List, [], ◌∷◌, ◌++◌, length, Bool, true, false, cond, ◌&&◌, ◌==◌}
-use Rattle.std.proofs.Common.{None, inl, inr, refl, sym, subst, ap, eqb-true, encode_utf8, encode_utf8_all, append-nil}
+use Rattle.std.proofs.Common.{◌≡◌, ◌∙◌, ◌⊎◌, ℕ, zero, suc, List, [], ◌∷◌, ◌++◌, length, Bool, true, false, cond, ◌&&◌}
+use Rattle.std.proofs.Common.{◌==◌, None, inl, inr, refl, sym, subst, ap, eqb-true, encode_utf8, encode_utf8_all}
+use Rattle.std.proofs.Common.{append-nil}
 use Rattle.std.specs.Prelude.{IsTrue, if◌then◌else◌}
 use Rattle.std.specs.Char.{is_ascii_hexdigit}
 use Rattle.std.specs.List.{fold}
@@ -157,7 +158,8 @@ module _ (r : Reading) (v : Value) (role : Role) (Closed : List ℕ → List ℕ
 
   pub string_on : (x : TextPlace) (bs : List ℕ) (c : ℕ) (cs : List ℕ) → S (c ∷ cs) bs x → Rest cs → Closing cs
       → Left x bs (c ∷ cs)
-  string_on between bs c cs h ih after = between_on (c == 34) (c == 92) (is_unescaped c) bs c cs refl refl refl h ih after
+  string_on between bs c cs h ih after =
+      between_on (c == 34) (c == 92) (is_unescaped c) bs c cs refl refl refl h ih after
   string_on slash bs c cs h ih after = slash_on (c == 117) (is_simple c) bs c cs refl refl h ih
   string_on (code n u) bs c cs h ih after = code_on (is_ascii_hexdigit c) n u bs c cs refl h ih
   string_on (second w) bs c cs h ih after = second_on (c == 92) w bs c cs refl h ih

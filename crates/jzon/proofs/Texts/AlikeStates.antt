@@ -14,10 +14,10 @@ use Rattle.jzon_tree.specs.Value as value
 use Rattle.jzon.specs.Reading.{Reading}
 use Rattle.jzon.specs.Grammar.{is_unescaped, is_simple, is_surrogate}
 use Rattle.jzon.specs.Spelling.{Breach, deep, pair, digit, breach_if, onto}
-use Rattle.jzon.specs.Classes.{Class, whitespace, digits, dash, cross, point, letter_e, quote, opens_array, closes_array}
-use Rattle.jzon.specs.Classes.{opens_object, closes_object, comma, colon, begins_null, begins_true, begins_false}
-use Rattle.jzon.specs.Classes.{class_of, NumberPlace, signed, zero_read, whole, pointed, fraction, lettered}
-use Rattle.jzon.specs.Classes.{signed_exponent, exponent}
+use Rattle.jzon.specs.Classes.{Class, whitespace, digits, dash, cross, point, letter_e, quote, opens_array}
+use Rattle.jzon.specs.Classes.{closes_array, opens_object, closes_object, comma, colon, begins_null, begins_true}
+use Rattle.jzon.specs.Classes.{begins_false, class_of, NumberPlace, signed, zero_read, whole, pointed, fraction}
+use Rattle.jzon.specs.Classes.{lettered, signed_exponent, exponent}
 use Rattle.jzon.specs.Machine.{Entries, Frames, no_frames, array_frame, object_frame, Role, as_value, as_key, TextPlace}
 use Rattle.jzon.specs.Machine.{between, slash, code, second, second_slash, second_code, Place, before, before_key, word}
 use Rattle.jzon.specs.Machine.{numeral, string, after_key, behind, Move, go, bad, bad_deep, move, value_mark, key_mark}
@@ -25,13 +25,14 @@ use Rattle.jzon.specs.Machine.{last, frames_depth, bad_at, move_empty_array, mov
 use Rattle.jzon.specs.Machine.{move_before_key, move_after_key, move_behind, move_after_whole, move_after_fraction}
 use Rattle.jzon.specs.Machine.{move_numeral, repeated_if, closed_string, move_string, add_hex, coded, move_code, paired}
 use Rattle.jzon.specs.Machine.{move_second_code, past_letter, number_value, exponent_of}
-use Rattle.jzon.proofs.Texts.ClassesOfCharacters.{class_34, class_110}
+use Rattle.jzon.proofs.Texts.ClassesOfCharacters.{class-char}
 use Rattle.jzon.proofs.Texts.Closing.{closer}
 
 -- the same state, of a text that has i characters left and of one that has j
 abbrev pub AlikeKey : ℕ → ℕ → Role → List ℕ → TextPlace → Place → Type 0
 AlikeKey i j (as_value fs) bs x q = string (as_value fs) bs x ≡ q
-AlikeKey i j (as_key fs es opened) bs x q = (back : ℕ) × (opened ≡ back + i) × (string (as_key fs es (back + j)) bs x ≡ q)
+AlikeKey i j (as_key fs es opened) bs x q =
+    (back : ℕ) × (opened ≡ back + i) × (string (as_key fs es (back + j)) bs x ≡ q)
 
 abbrev pub Alike : ℕ → ℕ → Place → Place → Type 0
 Alike i j (string role bs x) q = AlikeKey i j role bs x q
@@ -200,7 +201,8 @@ numeral_tells (exponent ws ds l s xs) class fs negative c =
     behind_tells class fs (number_value negative ws ds (exponent_of l s (onto xs [])))
 
 -- Of strings K is what holds of each state inside and after them.
-module _ (r : Reading) (K : Place → Type 0) (role : Role) (inside : (bs : List ℕ) (x : TextPlace) → K (string role bs x)) where
+module _ (r : Reading) (K : Place → Type 0) (role : Role)
+    (inside : (bs : List ℕ) (x : TextPlace) → K (string role bs x)) where
   code_tells : (bs : List ℕ) (n u c : ℕ) → Tells K None (move_code role bs n u c)
   code_tells bs zero u c = (unmarked _, by_test (is_surrogate (add_hex u c)))
     where
@@ -271,10 +273,10 @@ pub deep_some : (r : Reading) (p : Place) (left : ℕ) → IsDeep r p
     → (c : ℕ) × (s : Place) × (move r p c left ≡ go (Some deep) s)
 deep_some r (before fs) left h =
     let s : Place = word fs value.null 117 (108 ∷ 108 ∷ []) in
-    (110, s, rw (class_110 r.strict) (ap (λ m. go m s) h))
+    (110, s, rw (class-char r.strict begins_null) (ap (λ m. go m s) h))
 deep_some r (before_key fs es) left h =
     let s : Place = string (as_key fs es left) [] between in
-    (34, s, rw (class_34 r.strict) (ap (λ m. go m s) h))
+    (34, s, rw (class-char r.strict quote) (ap (λ m. go m s) h))
 deep_some r _ left h = absurd (cc)
 
 -- ---- alike states move alike
@@ -316,7 +318,8 @@ module _ (r : Reading) (i j : ℕ) (fs : Frames) (es : Entries) (opened back : �
   code_alike : (n u : ℕ) (bs : List ℕ) (c : ℕ) → AlikeMove i j (move_code here bs n u c) (move_code there bs n u c)
   code_alike zero u bs c = by_test (is_surrogate (add_hex u c))
     where
-      by_test : (t : Bool) → AlikeMove i j (go None (coded t here bs (add_hex u c))) (go None (coded t there bs (add_hex u c)))
+      by_test : (t : Bool)
+          → AlikeMove i j (go None (coded t here bs (add_hex u c))) (go None (coded t there bs (add_hex u c)))
       by_test true = inner None bs _
       by_test false = inner None _ between
   code_alike (suc n) u bs c = inner None bs _
@@ -363,7 +366,8 @@ alike_value_string r i j fs between bs c = same_move i j None _ (value_string_te
 alike_value_string r i j fs slash bs c = same_move i j None _ (value_string_tells r fs slash bs c 0)
 alike_value_string r i j fs (code n u) bs c = same_move i j None _ (value_string_tells r fs (code n u) bs c 0)
 alike_value_string r i j fs (second u) bs c = same_move i j None _ (value_string_tells r fs (second u) bs c 0)
-alike_value_string r i j fs (second_slash u) bs c = same_move i j None _ (value_string_tells r fs (second_slash u) bs c 0)
+alike_value_string r i j fs (second_slash u) bs c =
+    same_move i j None _ (value_string_tells r fs (second_slash u) bs c 0)
 alike_value_string r i j fs (second_code u n v) bs c =
     same_move i j None _ (value_string_tells r fs (second_code u n v) bs c 0)
 

@@ -1,19 +1,19 @@
 -- Closing: from each state a text leads to an end (`closes`). The text is computed by `closer` from the state alone:
 -- the digit or letter that is missing, a quote, a value, and the brackets that close what is open. It may break limits.
-use Rattle.std.proofs.Common.{◌≡◌, ℕ, zero, suc, List, [], ◌∷◌, ◌++◌, codes, refl, Bool, true}
-use Rattle.std.proofs.Common.{false, None, ◌&&◌, eq-eqb}
+use Rattle.std.proofs.Common.{◌≡◌, ℕ, zero, suc, List, [], ◌∷◌, ◌++◌, codes, refl, Bool, true, false, None, ◌&&◌}
+use Rattle.std.proofs.Common.{eq-eqb}
 use Rattle.jzon_base.specs.PairList.{put}
 use Rattle.jzon_tree.specs.Value as value
 use Rattle.jzon_tree.specs.Value.{Value, values_of, pairs_of, kind_of}
 use Rattle.jzon.specs.Reading.{Reading}
 use Rattle.jzon.specs.Grammar.{is_surrogate, is_high, is_low, unsigned}
 use Rattle.jzon.specs.Classes.{NumberPlace, signed, zero_read, whole, pointed, fraction, lettered, signed_exponent}
-use Rattle.jzon.specs.Classes.{exponent, digits, closes_array, closes_object}
+use Rattle.jzon.specs.Classes.{exponent, digits, closes_array, closes_object, quote, colon, begins_null}
 use Rattle.jzon.specs.Machine.{Frames, no_frames, array_frame, object_frame, Role, as_value, as_key, TextPlace, between}
 use Rattle.jzon.specs.Machine.{slash, code, second, second_slash, second_code, Place, before, before_key, word, numeral}
 use Rattle.jzon.specs.Machine.{string, after_key, behind, add_hex, Entries, go, last_numeral, meant_at, move_numeral}
 use Rattle.jzon.specs.Machine.{move_behind, paired, coded, past_letter}
-use Rattle.jzon.proofs.Texts.ClassesOfCharacters.{class_34, class_58, class_93, class_110, class_125, digits-class}
+use Rattle.jzon.proofs.Texts.ClassesOfCharacters.{class-char, digits-class}
 use Rattle.jzon.proofs.Texts.Runs.{On, Goes}
 
 abbrev pub brackets : Frames → List ℕ
@@ -74,14 +74,16 @@ module _ (r : Reading) where
   ends_behind : (fs : Frames) (x : Value) → Ends (brackets fs) (behind fs x)
   ends_behind no_frames x = (x, refl)
   ends_behind (array_frame fs vs) x =
-      let h = ends_behind fs (value.array (values_of (vs ++ x ∷ []))) in (h.0, rw (class_93 r.strict) h.1)
+      let h = ends_behind fs (value.array (values_of (vs ++ x ∷ []))) in
+      (h.0, rw (class-char r.strict closes_array) h.1)
   ends_behind (object_frame fs es k) x =
-      let h = ends_behind fs (value.object (pairs_of (put k x es))) in (h.0, rw (class_125 r.strict) h.1)
+      let h = ends_behind fs (value.object (pairs_of (put k x es))) in (h.0, rw (class-char r.strict closes_object) h.1)
 
   ends_after_key : (fs : Frames) (es : Entries) (k : List ℕ) → Ends (codes ":null}" ++ brackets fs) (after_key fs es k)
   ends_after_key fs es k =
       let h = ends_behind fs (value.object (pairs_of (put k value.null es))) in
-      (h.0, rw (class_58 r.strict) (rw (class_110 r.strict) (rw (class_125 r.strict) h.1)))
+      (h.0, rw (class-char r.strict colon) (rw (class-char r.strict begins_null)
+      (rw (class-char r.strict closes_object) h.1)))
 
   -- ---- numbers
 
@@ -93,9 +95,11 @@ module _ (r : Reading) where
       → Ends (brackets fs) (numeral fs negative x)
   ends_number no_frames negative x v e f g = (v, e)
   ends_number (array_frame fs vs) negative x v e f g =
-      let h = ends_behind fs (value.array (values_of (vs ++ v ∷ []))) in (h.0, rw (class_93 r.strict) (rw f h.1))
+      let h = ends_behind fs (value.array (values_of (vs ++ v ∷ []))) in
+      (h.0, rw (class-char r.strict closes_array) (rw f h.1))
   ends_number (object_frame fs es k) negative x v e f g =
-      let h = ends_behind fs (value.object (pairs_of (put k v es))) in (h.0, rw (class_125 r.strict) (rw g h.1))
+      let h = ends_behind fs (value.object (pairs_of (put k v es))) in
+      (h.0, rw (class-char r.strict closes_object) (rw g h.1))
 
   -- where a digit is wanted
   ends_zero : (fs : Frames) (negative : Bool) (x : NumberPlace) (p : Place)
@@ -164,8 +168,8 @@ module _ (r : Reading) where
   ends_word fs x (l ∷ ls) = let h = ends_word fs x ls in (h.0, rw (eq-eqb l l refl) h.1)
 
   pub closes : (p : Place) → Ends (closer p) p
-  closes (before fs) = let h = ends_behind fs value.null in (h.0, rw (class_110 r.strict) h.1)
-  closes (before_key fs es) = let h = ends_after_key fs es [] in (h.0, rw (class_34 r.strict) h.1)
+  closes (before fs) = let h = ends_behind fs value.null in (h.0, rw (class-char r.strict begins_null) h.1)
+  closes (before_key fs es) = let h = ends_after_key fs es [] in (h.0, rw (class-char r.strict quote) h.1)
   closes (word fs v l ls) = ends_word fs v (l ∷ ls)
   closes (numeral fs negative x) = ends_numeral fs negative x
   closes (string role bs x) = ends_string x role bs

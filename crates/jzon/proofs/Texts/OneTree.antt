@@ -1,25 +1,23 @@
 -- One tree: two trees that spell one text are the same tree (`same_tree`). No automaton is spoken of: two trees are
 -- taken apart together, part by part, since the first character of what is left says which part comes next, and the
 -- class of the character after a part says where the part ends.
-use Rattle.std.proofs.Common.{◌≡◌, ◌∙◌, ℕ, zero, suc, List, [], ◌∷◌, ◌++◌, Bool, true, false, cond, ◌==◌, Option, Some, None}
-use Rattle.std.proofs.Common.{refl, sym, subst, ap, arith, append-nil}
+use Rattle.std.proofs.Common.{◌≡◌, ◌∙◌, ℕ, zero, suc, List, [], ◌∷◌, ◌++◌, Bool, true, false, cond, ◌==◌, Option, Some}
+use Rattle.std.proofs.Common.{None, refl, sym, subst, ap, arith, append-nil}
 use Rattle.std.specs.Prelude.{IsTrue, ⊤}
 use Rattle.std.specs.Char.{is_ascii_digit}
 use Rattle.std.proofs.lemmas.Bool.{and_parts}
 use Rattle.jzon_tree.specs.Writing.{is_whitespace}
 use Rattle.jzon.specs.Reading.{Reading}
 use Rattle.jzon.specs.Grammar.{Sign, unsigned, plus, minus, Exponent, Numeral, Item, simple, single, double, Key, Node}
-use Rattle.jzon.specs.Grammar.{Elements, no_elements, element, Members, no_members, member, Document, Each, IsWhitespace}
-use Rattle.jzon.specs.Grammar.{AreDigits, IsDigits, IsWhole, IsExponent, IsNumeral, AreHex, AreItems, IsItem, IsKey, IsNode}
-use Rattle.jzon.specs.Grammar.{AreElements, AreMembers, IsDocument, is_surrogate, code_unit}
+use Rattle.jzon.specs.Grammar.{Elements, no_elements, element, Members, no_members, member, Document, Each}
+use Rattle.jzon.specs.Grammar.{IsWhitespace, AreDigits, IsDigits, IsWhole, IsExponent, IsNumeral, AreHex, AreItems}
+use Rattle.jzon.specs.Grammar.{IsItem, IsKey, IsNode, AreElements, AreMembers, IsDocument, is_surrogate, code_unit}
 use Rattle.jzon.specs.Grammar as grammar
 use Rattle.jzon.specs.Fault.{Spells}
-use Rattle.jzon.specs.Classes.{Class, whitespace, digits, dash, cross, point, letter_e, quote, opens_array, closes_array}
-use Rattle.jzon.specs.Classes.{opens_object, closes_object, comma, colon, begins_null, begins_true, begins_false}
-use Rattle.jzon.specs.Classes.{class_of}
-use Rattle.jzon.proofs.Texts.ClassesOfCharacters.{whitespace-class, digits-class, letter_e-class, class_34, class_43}
-use Rattle.jzon.proofs.Texts.ClassesOfCharacters.{class_44, class_45, class_46, class_58, class_91, class_93, class_102}
-use Rattle.jzon.proofs.Texts.ClassesOfCharacters.{class_110, class_116, class_123, class_125}
+use Rattle.jzon.specs.Classes.{Class, whitespace, digits, dash, cross, point, letter_e, quote, opens_array}
+use Rattle.jzon.specs.Classes.{closes_array, opens_object, closes_object, comma, colon, begins_null, begins_true}
+use Rattle.jzon.specs.Classes.{begins_false, class_of}
+use Rattle.jzon.proofs.Texts.ClassesOfCharacters.{whitespace-class, digits-class, letter_e-class, class-char, char_of}
 use Rattle.jzon.proofs.Strings.StringCharacters.{plain_parts, simple_not_u}
 use Rattle.jzon.proofs.Texts.TreeCharacters.{fraction_chars, sign_chars, exponent_chars, magnitude_chars, numeral_chars}
 use Rattle.jzon.proofs.Texts.TreeCharacters.{items_chars, key_chars, node_chars, elements_chars, members_chars}
@@ -99,7 +97,7 @@ module _ (r : Reading) where
   fraction_not : (ds : List ℕ) (x : Option Exponent) (t : List ℕ) → IsExponent x → Stops t
       → Not digits (fraction_chars ds (exponent_chars x t))
   fraction_not [] x t ok h = exponent_not digits x t refl (λ e. cc) ok h
-  fraction_not (d ∷ ds) x t ok h = λ e. let f : point ≡ digits = sym (class_46 r.strict) ∙ e in cc
+  fraction_not (d ∷ ds) x t ok h = λ e. let f : point ≡ digits = sym (class-char r.strict point) ∙ e in cc
 
   are_digits : (ds : List ℕ) → IsDigits ds → AreDigits ds
   are_digits [] ok = tt
@@ -112,10 +110,10 @@ module _ (r : Reading) where
       let f : d ≡ c = cc in other (sym (digits-class r.strict d ok.0) ∙ ap class f)
 
   no_plus : digits ≡ class 43 → ⊥
-  no_plus e = let f : digits ≡ cross = e ∙ class_43 r.strict in cc
+  no_plus e = let f : digits ≡ cross = e ∙ class-char r.strict cross in cc
 
   no_minus : digits ≡ class 45 → ⊥
-  no_minus e = let f : digits ≡ dash = e ∙ class_45 r.strict in cc
+  no_minus e = let f : digits ≡ dash = e ∙ class-char r.strict dash in cc
 
   same_sign : (a b : Sign) (ds es t u : List ℕ) → IsDigits ds → IsDigits es
       → sign_chars a (ds ++ t) ≡ sign_chars b (es ++ u) → (a ≡ b) × (ds ++ t ≡ es ++ u)
@@ -156,10 +154,10 @@ module _ (r : Reading) where
   same_fraction [] [] x y t u ok ko x_ok y_ok h k e = (refl, e)
   same_fraction [] (d ∷ es) x y t u ok ko x_ok y_ok h k e =
       absurd (begins point (exponent_chars x t) _ 46 (exponent_not point x t refl (λ f. cc) x_ok h) e
-      (class_46 r.strict))
+      (class-char r.strict point))
   same_fraction (d ∷ ds) [] x y t u ok ko x_ok y_ok h k e =
       absurd (begins point (exponent_chars y u) _ 46 (exponent_not point y u refl (λ f. cc) y_ok k) (sym e)
-      (class_46 r.strict))
+      (class-char r.strict point))
   same_fraction (d ∷ ds) (c ∷ es) x y t u ok ko x_ok y_ok h k e =
       let rest : (d ∷ ds) ++ exponent_chars x t ≡ (c ∷ es) ++ exponent_chars y u = cc in
       same_digits (d ∷ ds) (c ∷ es) (exponent_chars x t) (exponent_chars y u) ok ko
@@ -272,7 +270,8 @@ module _ (r : Reading) where
       let g = same_items is js t u ok.1 ko.1 f.1 in
       (rw (f.0, g.0) refl, g.1)
   same_items (double a b ∷ is) (double c d ∷ js) t u ok ko e =
-      let rest : a ++ (92 ∷ 117 ∷ (b ++ items_chars is (34 ∷ t))) ≡ c ++ (92 ∷ 117 ∷ (d ++ items_chars js (34 ∷ u))) = cc in
+      let rest : a ++ (92 ∷ 117 ∷ (b ++ items_chars is (34 ∷ t)))
+      ≡ c ++ (92 ∷ 117 ∷ (d ++ items_chars js (34 ∷ u))) = cc in
       let f = same_hex 4 a c _ _ ok.0.0 ko.0.0 rest in
       let second : b ++ items_chars is (34 ∷ t) ≡ d ++ items_chars js (34 ∷ u) = (let x = f.1 in cc) in
       let s = same_hex 4 b d _ _ ok.0.2 ko.0.2 second in
@@ -312,22 +311,22 @@ module _ (r : Reading) where
 
   first_numeral : (negative : Bool) (ws t : List ℕ) (n : Numeral) (u : List ℕ) → n.whole ≡ ws → IsDigits ws
       → first (numeral_chars negative n u) ≡ Some digits
-  first_numeral true ws t n u e ok = ap (λ k. Some (merged k)) (class_45 r.strict)
+  first_numeral true ws t n u e ok = ap (λ k. Some (merged k)) (class-char r.strict dash)
   first_numeral false [] t n u e ok = absurd ok
   first_numeral false (d ∷ ws) t n u e ok =
       ap (λ z. first (z ++ fraction_chars n.fraction (exponent_chars n.exponent u))) e
       ∙ ap (λ k. Some (merged k)) (digits-class r.strict d ok.0)
 
   lead : (n : Node) (t : List ℕ) → IsNode r n → first (node_chars n t) ≡ Some (kind n)
-  lead Node.null t ok = ap (λ k. Some (merged k)) (class_110 r.strict)
-  lead (Node.boolean true) t ok = ap (λ k. Some (merged k)) (class_116 r.strict)
-  lead (Node.boolean false) t ok = ap (λ k. Some (merged k)) (class_102 r.strict)
+  lead Node.null t ok = ap (λ k. Some (merged k)) (class-char r.strict begins_null)
+  lead (Node.boolean true) t ok = ap (λ k. Some (merged k)) (class-char r.strict begins_true)
+  lead (Node.boolean false) t ok = ap (λ k. Some (merged k)) (class-char r.strict begins_false)
   lead (Node.number n) t ok = first_numeral n.negative n.whole t n t refl (whole_digits n.whole ok.0)
-  lead (Node.string is) t ok = ap (λ k. Some (merged k)) (class_34 r.strict)
-  lead (Node.empty_array b) t ok = ap (λ k. Some (merged k)) (class_91 r.strict)
-  lead (Node.array b n c es) t ok = ap (λ k. Some (merged k)) (class_91 r.strict)
-  lead (Node.empty_object b) t ok = ap (λ k. Some (merged k)) (class_123 r.strict)
-  lead (Node.object key b n c ms) t ok = ap (λ k. Some (merged k)) (class_123 r.strict)
+  lead (Node.string is) t ok = ap (λ k. Some (merged k)) (class-char r.strict quote)
+  lead (Node.empty_array b) t ok = ap (λ k. Some (merged k)) (class-char r.strict opens_array)
+  lead (Node.array b n c es) t ok = ap (λ k. Some (merged k)) (class-char r.strict opens_array)
+  lead (Node.empty_object b) t ok = ap (λ k. Some (merged k)) (class-char r.strict opens_object)
+  lead (Node.object key b n c ms) t ok = ap (λ k. Some (merged k)) (class-char r.strict opens_object)
 
   abbrev begins_value : Class → Bool
   begins_value begins_null = true
@@ -360,34 +359,34 @@ module _ (r : Reading) where
   no_blank : (n : Node) (t : List ℕ) → IsNode r n → Not whitespace (node_chars n t)
   no_blank n t ok = not_value whitespace (node_chars n t) n refl (lead n t ok)
 
-  bracket_blank : (c : ℕ) (k : Class) → class c ≡ k → (k ≡ whitespace → ⊥) → class c ≡ whitespace → ⊥
-  bracket_blank c k e apart f = apart (sym e ∙ f)
+  token_blank : (k : Class) → (k ≡ whitespace → ⊥) → class (char_of k) ≡ whitespace → ⊥
+  token_blank k apart f = apart (sym (class-char r.strict k) ∙ f)
 
   elements_blank : (es : Elements) (t : List ℕ) → Not whitespace (elements_chars es t)
-  elements_blank no_elements t = bracket_blank 93 closes_array (class_93 r.strict) (λ e. cc)
-  elements_blank (element b n c es) t = bracket_blank 44 comma (class_44 r.strict) (λ e. cc)
+  elements_blank no_elements t = token_blank closes_array (λ e. cc)
+  elements_blank (element b n c es) t = token_blank comma (λ e. cc)
 
   members_blank : (ms : Members) (t : List ℕ) → Not whitespace (members_chars ms t)
-  members_blank no_members t = bracket_blank 125 closes_object (class_125 r.strict) (λ e. cc)
-  members_blank (member key b n c ms) t = bracket_blank 44 comma (class_44 r.strict) (λ e. cc)
+  members_blank no_members t = token_blank closes_object (λ e. cc)
+  members_blank (member key b n c ms) t = token_blank comma (λ e. cc)
 
   elements_stop : (c : List ℕ) (es : Elements) (t : List ℕ) → IsWhitespace r c → Stops (c ++ elements_chars es t)
-  elements_stop c no_elements t ok = stops_blanks c _ ok (ap stops (class_93 r.strict))
-  elements_stop c (element b n d es) t ok = stops_blanks c _ ok (ap stops (class_44 r.strict))
+  elements_stop c no_elements t ok = stops_blanks c _ ok (ap stops (class-char r.strict closes_array))
+  elements_stop c (element b n d es) t ok = stops_blanks c _ ok (ap stops (class-char r.strict comma))
 
   members_stop : (c : List ℕ) (ms : Members) (t : List ℕ) → IsWhitespace r c → Stops (c ++ members_chars ms t)
-  members_stop c no_members t ok = stops_blanks c _ ok (ap stops (class_125 r.strict))
-  members_stop c (member key b n d ms) t ok = stops_blanks c _ ok (ap stops (class_44 r.strict))
+  members_stop c no_members t ok = stops_blanks c _ ok (ap stops (class-char r.strict closes_object))
+  members_stop c (member key b n d ms) t ok = stops_blanks c _ ok (ap stops (class-char r.strict comma))
 
   same_key : (k l : Key) (t u : List ℕ) → IsKey r k → IsKey r l → key_chars k t ≡ key_chars l u → (k ≡ l) × (t ≡ u)
   same_key k l t u ok ko e =
-      let a = same_blanks k.before l.before _ _ ok.0 ko.0 (bracket_blank 34 quote (class_34 r.strict) (λ f. cc))
-      (bracket_blank 34 quote (class_34 r.strict) (λ f. cc)) e in
+      let a = same_blanks k.before l.before _ _ ok.0 ko.0 (token_blank quote (λ f. cc))
+      (token_blank quote (λ f. cc)) e in
       let rest : items_chars k.items (34 ∷ (k.after ++ (58 ∷ t))) ≡ items_chars l.items (34 ∷ (l.after ++ (58 ∷ u))) =
       (let x = a.1 in cc) in
       let i = same_items k.items l.items (k.after ++ (58 ∷ t)) (l.after ++ (58 ∷ u)) ok.1 ko.1 rest in
-      let z = same_blanks k.after l.after _ _ ok.2 ko.2 (bracket_blank 58 colon (class_58 r.strict) (λ f. cc))
-      (bracket_blank 58 colon (class_58 r.strict) (λ f. cc)) i.1 in
+      let z = same_blanks k.after l.after _ _ ok.2 ko.2 (token_blank colon (λ f. cc))
+      (token_blank colon (λ f. cc)) i.1 in
       (same_parts k.before l.before k.items l.items k.after l.after a.0 i.0 z.0, let x = z.1 in let f : t ≡ u = cc in f)
     where
       same_parts : (a b : List ℕ) (is js : List Item) (y z : List ℕ) → a ≡ b → is ≡ js → y ≡ z
@@ -398,15 +397,15 @@ module _ (r : Reading) where
   no_empty_array : (b c t u : List ℕ) (n : Node) → IsWhitespace r b → IsWhitespace r c → IsNode r n
       → b ++ (93 ∷ t) ≡ c ++ node_chars n u → ⊥
   no_empty_array b c t u n ok ko n_ok e =
-      let a = same_blanks b c _ _ ok ko (bracket_blank 93 closes_array (class_93 r.strict) (λ f. cc))
+      let a = same_blanks b c _ _ ok ko (token_blank closes_array (λ f. cc))
       (no_blank n u n_ok) e in
       begins closes_array (node_chars n u) t 93 (not_value closes_array _ n refl (lead n u n_ok)) (sym a.1)
-      (class_93 r.strict)
+      (class-char r.strict closes_array)
 
   no_empty_object : (b t u : List ℕ) (key : Key) → IsWhitespace r b → IsKey r key → b ++ (125 ∷ t) ≡ key_chars key u → ⊥
   no_empty_object b t u key ok ko e =
-      let a = same_blanks b key.before _ _ ok ko.0 (bracket_blank 125 closes_object (class_125 r.strict) (λ f. cc))
-      (bracket_blank 34 quote (class_34 r.strict) (λ f. cc)) e in
+      let a = same_blanks b key.before _ _ ok ko.0 (token_blank closes_object (λ f. cc))
+      (token_blank quote (λ f. cc)) e in
       omega (arith, heads 125 34 _ _ a.1)
 
   mutual
@@ -447,13 +446,17 @@ module _ (r : Reading) where
         let s = same_members ms ns t u ok.4 ko.4 z.1 in
         (rw (y.0, a.0, g.0, z.0, s.0) refl, s.1)
     same_node (Node.empty_array b) (Node.array c n d es) t u ok ko h k e =
-        absurd (no_empty_array b c t _ n ok ko.0 ko.1 (let f : b ++ (93 ∷ t) ≡ c ++ node_chars n (d ++ elements_chars es u) = cc in f))
+        let f : b ++ (93 ∷ t) ≡ c ++ node_chars n (d ++ elements_chars es u) = cc in
+        absurd (no_empty_array b c t _ n ok ko.0 ko.1 f)
     same_node (Node.array c n d es) (Node.empty_array b) t u ok ko h k e =
-        absurd (no_empty_array b c u _ n ko ok.0 ok.1 (let f : b ++ (93 ∷ u) ≡ c ++ node_chars n (d ++ elements_chars es t) = cc in f))
+        let f : b ++ (93 ∷ u) ≡ c ++ node_chars n (d ++ elements_chars es t) = cc in
+        absurd (no_empty_array b c u _ n ko ok.0 ok.1 f)
     same_node (Node.empty_object b) (Node.object key c n d ms) t u ok ko h k e =
-        absurd (no_empty_object b t _ key ok ko.0 (let f : b ++ (125 ∷ t) ≡ key_chars key (c ++ node_chars n (d ++ members_chars ms u)) = cc in f))
+        let f : b ++ (125 ∷ t) ≡ key_chars key (c ++ node_chars n (d ++ members_chars ms u)) = cc in
+        absurd (no_empty_object b t _ key ok ko.0 f)
     same_node (Node.object key c n d ms) (Node.empty_object b) t u ok ko h k e =
-        absurd (no_empty_object b u _ key ko ok.0 (let f : b ++ (125 ∷ u) ≡ key_chars key (c ++ node_chars n (d ++ members_chars ms t)) = cc in f))
+        let f : b ++ (125 ∷ u) ≡ key_chars key (c ++ node_chars n (d ++ members_chars ms t)) = cc in
+        absurd (no_empty_object b u _ key ko ok.0 f)
     same_node m n t u ok ko h k e =
         absurd (let f : Some (kind m) ≡ Some (kind n) = sym (lead m t ok) ∙ ap first e ∙ lead n u ko in cc)
 
@@ -491,7 +494,8 @@ module _ (r : Reading) where
   same_document : (d e : Document) → IsDocument r d → IsDocument r e → document_chars d ≡ document_chars e → d ≡ e
   same_document d e ok ko h =
       let a = same_blanks d.before e.before _ _ ok.0 ko.0 (no_blank d.node _ ok.1) (no_blank e.node _ ko.1) h in
-      let g = same_node d.node e.node d.after e.after ok.1 ko.1 (after_stops d.after ok.2) (after_stops e.after ko.2) a.1 in
+      let g = same_node d.node e.node d.after e.after ok.1 ko.1 (after_stops d.after ok.2) (after_stops e.after ko.2)
+      a.1 in
       same_parts d.before e.before d.node e.node d.after e.after a.0 g.0 g.1
     where
       same_parts : (a b : List ℕ) (m n : Node) (y z : List ℕ) → a ≡ b → m ≡ n → y ≡ z

@@ -3,8 +3,8 @@
 -- f has no mark inside f, and from a state alike to p the automaton follows its other cells (`onward`, by `complete`);
 -- and what goes to a value from a state alike to p goes there with f before it (`back`, for `sound`). So f has a
 -- completion (`closed`), and so has f with a character with which the automaton goes on (`closed_next`).
-use Rattle.std.proofs.Common.{◌≡◌, ℕ, suc, List, [], ◌∷◌, ◌++◌, length, Option, None, refl, sym, subst, ap}
-use Rattle.std.proofs.Common.{◌∙◌, append_assoc}
+use Rattle.std.proofs.Common.{◌≡◌, ℕ, suc, List, [], ◌∷◌, ◌++◌, length, Option, None, refl, sym, subst, ap, ◌∙◌}
+use Rattle.std.proofs.Common.{append_assoc}
 use Rattle.jzon_tree.specs.Value.{Value}
 use Rattle.jzon.specs.Reading.{Reading}
 use Rattle.jzon.specs.Grammar.{Document}
@@ -77,7 +77,8 @@ next_of r prefix c rest left p place d (y ∷ q) e x alike h =
       split = subst (λ z. cells r d ≡ plain prefix (cell z y.mark ∷ q)) ec e;
       text = cc;
       alike = moves_alike r left (length q) c p place alike;
-      meets = subst (λ z. Meets (move r place z (suc (length q))) y.mark (λ s. Follows r (λ o. o ≡ meant (meaning d.node)) q s)) ec h;
+      meets = subst (λ z. Meets (move r place z (suc (length q))) y.mark
+          (λ s. Follows r (λ o. o ≡ meant (meaning d.node)) q s)) ec h;
     }
 
 pub next : (r : Reading) (prefix : List ℕ) (c left : ℕ) (p : Place) (d : Document) → Reaches r prefix (suc left) p

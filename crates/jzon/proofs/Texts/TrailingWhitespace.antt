@@ -7,13 +7,13 @@ use Rattle.jzon_tree.specs.Writing.{is_whitespace}
 use Rattle.jzon.specs.Reading.{Reading}
 use Rattle.jzon.specs.Classes.{Class, whitespace, class_of}
 use Rattle.jzon.specs.Machine.{no_frames, behind, bad, move_behind, outcome, outcome_on, from, stopped}
-use Rattle.jzon.proofs.Texts.ClassesOfCharacters.{class-whitespace}
+use Rattle.jzon.proofs.Texts.ClassesOfCharacters.{class-says}
 use Rattle.jzon.proofs.Texts.AsciiRuns.{wide_is_no_space}
 use Rattle.jzon.proofs.Texts.StepsByByte.{byte_there, by_character, some_character}
 
 trailing_on : (r : Reading) (v : Value) (c : ℕ) (k : Class) → is_whitespace r.strict c ≡ false → class_of r.strict c ≡ k
     → move_behind k no_frames v ≡ bad
-trailing_on r v c whitespace h e = let yes : is_whitespace r.strict c ≡ true = class-whitespace r c e in absurd (cc)
+trailing_on r v c whitespace h e = let yes : is_whitespace r.strict c ≡ true = class-says r.strict c e in absurd (cc)
 trailing_on r v c _ h e = refl
 
 stopped_on : (r : Reading) (cs : List ℕ) (v : Value) → (cs ≡ [] → ⊥)

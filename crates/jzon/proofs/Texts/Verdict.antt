@@ -12,11 +12,9 @@ use Rattle.jzon.specs.Reading.{Reading}
 use Rattle.jzon.specs.Grammar.{Document}
 use Rattle.jzon.specs.Meaning.{meaning}
 use Rattle.jzon.specs.Spelling.{Breach, deep, Cell, cell, plain, cells}
-use Rattle.jzon.specs.Classes.{NumberPlace, zero_read, whole, fraction}
-use Rattle.jzon.specs.Classes.{exponent}
-use Rattle.jzon.specs.Machine.{Frames, no_frames, Place, before, numeral}
-use Rattle.jzon.specs.Machine.{behind, Move, go, bad, bad_deep, move, Outcome, meant, refused}
-use Rattle.jzon.specs.Machine.{meant_at, last_numeral, last, outcome_on, outcome}
+use Rattle.jzon.specs.Classes.{NumberPlace, zero_read, whole, fraction, exponent}
+use Rattle.jzon.specs.Machine.{Frames, no_frames, Place, before, numeral, behind, Move, go, bad, bad_deep, move}
+use Rattle.jzon.specs.Machine.{Outcome, meant, refused, meant_at, last_numeral, last, outcome_on, outcome}
 use Rattle.jzon.specs.Fault.{Spells, Completes, HasCompletion, AllBreakAt, Parses, Fault, limit, character}
 use Rattle.jzon.specs.Fault.{IsDepthFault, IsFault, IsFirstFault}
 use Rattle.jzon.specs.Laws.{HasOneTree, HasOneFault}
@@ -107,6 +105,7 @@ depth_fault r f u c x left p s reached e all =
       all,
     )
 
+-- the move has a mark
 limit_fault : (r : Reading) (f u : List ℕ) (c left : ℕ) (p s : Place) (b : Breach) → Reaches r f (suc left) p
     → move r p c (suc left) ≡ go (Some b) s → IsFault r (f ++ (c ∷ u)) (length f) (limit b)
 limit_fault r f u c left p s deep reached e = depth_fault r f u c c left p s reached e
@@ -116,6 +115,7 @@ limit_fault r f u c left p s b reached e =
 
 -- ---- no text goes on with the character
 
+-- no text goes on with c, but one goes on with a container too many
 bad_deep_fault : (r : Reading) (f u : List ℕ) (c left : ℕ) (p : Place) → Reaches r f (suc left) p
     → move r p c (suc left) ≡ bad_deep → IsFault r (f ++ (c ∷ u)) (length f) (limit deep)
 bad_deep_fault r f u c left p reached e =
@@ -124,12 +124,13 @@ bad_deep_fault r f u c left p reached e =
     let k = subst (λ z. Completes r z d) (take_next f u c) g in
     absurd (next_bad_deep r f c k.1 left (move r p c (suc left)) d (next r f c left p d reached k) e))
 
+-- where a move is `bad`, no tree has a container too many: the state would be deep, and no move from there is `bad`
 no_depth_fault : (r : Reading) (f u : List ℕ) (c left : ℕ) (p : Place) → Reaches r f (suc left) p
     → move r p c (suc left) ≡ bad → IsDepthFault r (f ++ (c ∷ u)) (length f) → ⊥
 no_depth_fault r f u c left p reached e (lt, (d, g, b), all) =
     let h = reached.onward d (subst (λ z. Completes r z d) (take-append_seam f (c ∷ u)) g) in
-    let deep_there = on (λ o. o ≡ meant (meaning d.node)) h.cells_left h.place h.follows (sym (mark_behind f h.cells_left)
-    ∙ ap (λ z. slice_get (marks_of z) (length f)) (sym h.split) ∙ b) in
+    let deep_there = on (λ o. o ≡ meant (meaning d.node)) h.cells_left h.place h.follows
+    (sym (mark_behind f h.cells_left) ∙ ap (λ z. slice_get (marks_of z) (length f)) (sym h.split) ∙ b) in
     deep_not_bad r p c (suc left) (mark-alike r (suc left) (length h.cells_left) p h.place h.alike ∙ deep_there) e
   where
     meets_deep : (s : Place) (x left : ℕ) (v : Option Breach) (F : Place → Type 0) (z : Move) → move r s x left ≡ z
@@ -143,6 +144,7 @@ no_depth_fault r f u c left p reached e (lt, (d, g, b), all) =
     on G [] s h m = absurd (cc)
     on G (y ∷ q) s h m = meets_deep s y.char (suc (length q)) y.mark _ (move r s y.char (suc (length q))) refl h (cc)
 
+-- an unexpected character: f has a completion, f with c has none, and no depth limit is broken
 character_fault : (r : Reading) (f u : List ℕ) (c left : ℕ) (p : Place) → Reaches r f (suc left) p
     → move r p c (suc left) ≡ bad → IsFault r (f ++ (c ∷ u)) (length f) character
 character_fault r f u c left p reached e =
@@ -161,6 +163,7 @@ no_cells_left : (q : List Cell) → chars_of q ≡ [] → q ≡ []
 no_cells_left [] e = refl
 no_cells_left (y ∷ q) e = absurd (cc)
 
+-- a tree that spells f leads to its meaning, and has no mark
 spelled : (r : Reading) (f : List ℕ) (p : Place) (d : Document) → Reaches r f 0 p → Spells r f d
     → (last p ≡ meant (meaning d.node)) × (cells r d ≡ plain f [])
 spelled r f p d reached h =
@@ -171,6 +174,7 @@ spelled r f p d reached h =
       g.split ∙ ap (plain f) none,
     )
 
+-- the text ends too early: f has a completion, and no tree spells it
 end_fault : (r : Reading) (f : List ℕ) (p : Place) → Reaches r f 0 p → last p ≡ refused Fault.end []
     → IsFault r f (length f) Fault.end
 end_fault r f p reached e =
@@ -190,6 +194,7 @@ refused_at r f rest g h =
     let e : length f ≡ length (f ++ rest) - length rest = omega (arith, length-append f rest) in
     subst (λ z. IsFirstFault r (f ++ rest) z g) e h
 
+-- the text is read to a value: a tree spells it, means the value and has no mark
 accepted : (r : Reading) (f : List ℕ) (p : Place) (v : Value) → Reaches r f 0 p → last p ≡ meant v
     → Verdict r f (meant v)
 accepted r f p v reached e =
@@ -200,7 +205,8 @@ accepted r f p v reached e =
     (d.0, (s, λ i b k. all_unmarked f i b (subst (λ z. slice_get (marks_of z) i ≡ Some (Some b)) g k)), d.2)
 
 -- what the end of a text comes to is a value or the fault of the end
-meant_or_end : (fs : Frames) (v : Value) → ((w : Value) × (meant_at fs v ≡ meant w)) ⊎ (meant_at fs v ≡ refused Fault.end [])
+meant_or_end : (fs : Frames) (v : Value)
+    → ((w : Value) × (meant_at fs v ≡ meant w)) ⊎ (meant_at fs v ≡ refused Fault.end [])
 meant_or_end no_frames v = inl (v, refl)
 meant_or_end _ v = inr refl
 

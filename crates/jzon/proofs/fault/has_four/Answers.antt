@@ -1,6 +1,5 @@
-use Rattle.std.proofs.Common.{rules, ◌≡◌, ◌<◌, ◌+◌, ◌∷◌, [], List, ℕ, zero, suc, sym}
-use Rattle.std.proofs.Common.{ap, ◌∙◌, get_or, drop, take, eqb-true}
-use Rattle.std.proofs.Common.{w32, ◌-◌, length, arith, lit<}
+use Rattle.std.proofs.Common.{rules, ◌≡◌, ◌<◌, ◌+◌, ◌∷◌, [], List, ℕ, zero, suc, sym, ap, ◌∙◌, get_or, drop, take}
+use Rattle.std.proofs.Common.{eqb-true, w32, ◌-◌, length, arith, lit<}
 use Rattle.std.specs.Int.{to_le_bytes}
 use Rattle.std.proofs.lemmas.List.{get_or-drop, take_rest}
 use Rattle.std.proofs.lemmas.Nat.{le_bytes_4}

@@ -3,8 +3,7 @@ use Rattle.std.proofs.lemmas.List.{map-append}
 use Rattle.jzon_base.specs.PairList.{put}
 use Rattle.jzon_tree.specs.Value.{Value, array, values_of, object, pairs_of}
 use Rattle.jzon_tree.specs.View.{view, viewed}
-use Rattle.jzon_tree.proofs.Views.{view-Array, view-Object}
-use Rattle.jzon_tree.proofs.Views.{viewed-put}
+use Rattle.jzon_tree.proofs.Views.{view-Array, view-Object, viewed-put}
 use Rattle.jzon.specs.Cursor.{left}
 use Rattle.jzon.specs.Frames.{open_in, stack_view}
 use Rattle.jzon.specs.Machine.{Frames, array_frame, object_frame, before, before_key, behind}

@@ -4,8 +4,7 @@ use Rattle.std.proofs.lemmas.Result.{err_from_is_err_and}
 use Rattle.jzon_base.specs.PairList.{put}
 use Rattle.jzon_tree.specs.Value.{object, pairs_of}
 use Rattle.jzon_tree.specs.View.{view, viewed}
-use Rattle.jzon_tree.proofs.Views.{view-Object}
-use Rattle.jzon_tree.proofs.Views.{viewed-put}
+use Rattle.jzon_tree.proofs.Views.{view-Object, viewed-put}
 use Rattle.jzon.specs.Cursor.{left}
 use Rattle.jzon.specs.Frames.{IsReady, place_of, stack_view}
 use Rattle.jzon.specs.Machine.{object_frame, frames_depth, before, before_key, behind, key_mark}
