@@ -35,8 +35,7 @@ module _ (r : Reading) where
   module _ (P : Value → Type 0) (bytes : List ℕ) where
     -- each value that is answered is such a value
     pub answer-value : (answer : Result JsonValue Error) → IsReadAs r bytes P
-        → IfOk answer (IsMeaningOf r (chars bytes))
-        → IfOk answer (λ v. P (view v))
+        → IfOk answer (IsMeaningOf r (chars bytes)) → IfOk answer (λ v. P (view v))
     answer-value (Ok v) read means =
         let one = same_tree r (chars bytes) read.1 means.0 read.2.0 means.1.0 in
         subst P (ap (λ d. meaning d.node) one ∙ sym means.2) read.3

@@ -30,8 +30,7 @@ open_array r bs i fs u at lt e h =
     (ap (λ k. move_before r k fs 91) (class-char r.strict opens_array) ∙ ap (λ m. go m (before (array_frame fs []))) h)
 
 pub open_object : (r : Reading) (bs : List ℕ) (i : ℕ) (fs : Frames) → IsUtf8 bs → IsCharBoundary bs i → i < length bs
-    → get_or bs i 0 ≡ 123
-    → value_mark r fs ≡ None → from r bs (before fs) i ≡ from r bs (before_key fs []) (i + 1)
+    → get_or bs i 0 ≡ 123 → value_mark r fs ≡ None → from r bs (before fs) i ≡ from r bs (before_key fs []) (i + 1)
 open_object r bs i fs u at lt e h =
     from_step r bs i (before fs) _ 123 u at lt e (lit< tt)
     (ap (λ k. move_before r k fs 123) (class-char r.strict opens_object) ∙ ap (λ m. go m (before_key fs [])) h)
@@ -61,8 +60,7 @@ deep_bad : (m : Option Breach) → m ≡ Some deep → IsDeep (bad_at m)
 deep_bad m h f rest = ap (λ n. outcome_on (bad_at n) f rest) h
 
 deep_element_on : (r : Reading) (fs : Frames) (c : ℕ) (k : Class) → value_mark r fs ≡ Some deep
-    → is_whitespace r.strict c ≡ false → c ≢ 93 → class_of r.strict c ≡ k
-    → IsDeep (move_before r k fs c)
+    → is_whitespace r.strict c ≡ false → c ≢ 93 → class_of r.strict c ≡ k → IsDeep (move_before r k fs c)
 deep_element_on r fs c whitespace h s n e = let yes : is_whitespace r.strict c
     ≡ true = class-says r.strict c e in absurd (cc)
 deep_element_on r fs c closes_array h s n e = absurd (n (class-says r.strict c e))
@@ -88,8 +86,7 @@ deep_element r bs i fs u at lt s n h =
     (λ e. absurd (omega (arith, e))) refl)
 
 deep_key_on : (r : Reading) (fs : Frames) (c n : ℕ) (k : Class) → key_mark r fs [] ≡ Some deep
-    → is_whitespace r.strict c ≡ false → c ≢ 125 → class_of r.strict c ≡ k
-    → IsDeep (move_before_key r k fs [] n)
+    → is_whitespace r.strict c ≡ false → c ≢ 125 → class_of r.strict c ≡ k → IsDeep (move_before_key r k fs [] n)
 deep_key_on r fs c left whitespace h s n e = let yes : is_whitespace r.strict c
     ≡ true = class-says r.strict c e in absurd (cc)
 deep_key_on r fs c left closes_object h s n e = absurd (n (class-says r.strict c e))
@@ -110,9 +107,8 @@ deep_key r bs i fs u at lt s n h =
 -- ---- keys and colons
 
 pub open_key : (r : Reading) (bs : List ℕ) (i : ℕ) (fs : Frames) (es : Entries) → IsUtf8 bs → IsCharBoundary bs i
-    → i < length bs → get_or bs i 0 ≡ 34
-    → key_mark r fs es ≡ None → from r bs (before_key fs es) i
-    ≡ from r bs (string (as_key fs es (left_at bs i)) [] between) (i + 1)
+    → i < length bs → get_or bs i 0 ≡ 34 → key_mark r fs es ≡ None
+    → from r bs (before_key fs es) i ≡ from r bs (string (as_key fs es (left_at bs i)) [] between) (i + 1)
 open_key r bs i fs es u at lt e h =
     from_step r bs i (before_key fs es) _ 34 u at lt e (lit< tt)
     (ap (λ k. move_before_key r k fs es (left_at bs i)) (class-char r.strict quote)
@@ -134,8 +130,7 @@ no_key_on r fs es c left _ h s q n e = ap bad_at h
 -- no key begins here
 pub no_key : (r : Reading) (bs : List ℕ) (i : ℕ) (fs : Frames) (es : Entries) → key_mark r fs es ≡ None
     → (i < length bs → is_whitespace r.strict (get_or bs i 0) ≡ false) → ((i < length bs) × (get_or bs i 0 ≡ 34) → ⊥)
-    → (es ≡ [] → get_or bs i 0 ≢ 125)
-    → StopsAt r (before_key fs es) bs i
+    → (es ≡ [] → get_or bs i 0 ≢ 125) → StopsAt r (before_key fs es) bs i
 no_key r bs i fs es h s q n =
     stops_by r (before_key fs es) bs i refl
     (λ lt. no_key_on r fs es (get_or bs i 0) (left_at bs i) (class_of r.strict (get_or bs i 0)) h (s lt)
@@ -176,9 +171,7 @@ whitespace_skips r (numeral fs negative x) e = absurd (cc)
 whitespace_skips r (string role bs x) e = absurd (cc)
 
 no_colon_on : (r : Reading) (fs : Frames) (es : Entries) (k : List ℕ) (c : ℕ) (x : Class)
-    → is_whitespace r.strict c ≡ false
-    → c ≢ 58 → class_of r.strict c ≡ x
-    → move_after_key x fs es k ≡ bad
+    → is_whitespace r.strict c ≡ false → c ≢ 58 → class_of r.strict c ≡ x → move_after_key x fs es k ≡ bad
 no_colon_on r fs es k c whitespace s n e = let yes : is_whitespace r.strict c
     ≡ true = class-says r.strict c e in absurd (cc)
 no_colon_on r fs es k c colon s n e = absurd (n (class-says r.strict c e))
@@ -197,9 +190,8 @@ no_colon r bs i fs es k s n =
 -- ---- behind an element
 
 pub element_comma : (r : Reading) (bs : List ℕ) (i : ℕ) (fs : Frames) (vs : List Value) (v : Value) → IsUtf8 bs
-    → IsCharBoundary bs i → i < length bs
-    → get_or bs i 0 ≡ 44 → from r bs (behind (array_frame fs vs) v) i
-    ≡ from r bs (before (array_frame fs (vs ++ v ∷ []))) (i + 1)
+    → IsCharBoundary bs i → i < length bs → get_or bs i 0 ≡ 44
+    → from r bs (behind (array_frame fs vs) v) i ≡ from r bs (before (array_frame fs (vs ++ v ∷ []))) (i + 1)
 element_comma r bs i fs vs v u at lt e =
     from_step r bs i (behind (array_frame fs vs) v) _ 44 u at lt e (lit< tt)
     (ap (λ x. move_behind x (array_frame fs vs) v) (class-char r.strict comma))
@@ -223,9 +215,8 @@ no_element_on r fs vs v c _ s m n e = refl
 
 -- neither a comma nor the closing bracket of the array stands here
 pub no_element : (r : Reading) (bs : List ℕ) (i : ℕ) (fs : Frames) (vs : List Value) (v : Value)
-    → (i < length bs → is_whitespace r.strict (get_or bs i 0) ≡ false)
-    → ((i < length bs) × (get_or bs i 0 ≡ 44) → ⊥) → ((i < length bs) × (get_or bs i 0 ≡ 93) → ⊥)
-    → StopsAt r (behind (array_frame fs vs) v) bs i
+    → (i < length bs → is_whitespace r.strict (get_or bs i 0) ≡ false) → ((i < length bs) × (get_or bs i 0 ≡ 44) → ⊥)
+    → ((i < length bs) × (get_or bs i 0 ≡ 93) → ⊥) → StopsAt r (behind (array_frame fs vs) v) bs i
 no_element r bs i fs vs v s m n =
     stops_by r (behind (array_frame fs vs) v) bs i refl
     (λ lt. no_element_on r fs vs v (get_or bs i 0) (class_of r.strict (get_or bs i 0)) (s lt) (λ e. m (lt, e))
@@ -236,9 +227,8 @@ no_element r bs i fs vs v s m n =
 -- ---- behind the value of a key
 
 pub entry_comma : (r : Reading) (bs : List ℕ) (i : ℕ) (fs : Frames) (es : Entries) (k : List ℕ) (v : Value) → IsUtf8 bs
-    → IsCharBoundary bs i → i < length bs
-    → get_or bs i 0 ≡ 44 → from r bs (behind (object_frame fs es k) v) i
-    ≡ from r bs (before_key fs (put k v es)) (i + 1)
+    → IsCharBoundary bs i → i < length bs → get_or bs i 0 ≡ 44
+    → from r bs (behind (object_frame fs es k) v) i ≡ from r bs (before_key fs (put k v es)) (i + 1)
 entry_comma r bs i fs es k v u at lt e =
     from_step r bs i (behind (object_frame fs es k) v) _ 44 u at lt e (lit< tt)
     (ap (λ x. move_behind x (object_frame fs es k) v) (class-char r.strict comma))
@@ -262,9 +252,8 @@ no_entry_on r fs es k v c _ s m n e = refl
 
 -- neither a comma nor the closing bracket of the object stands here
 pub no_entry : (r : Reading) (bs : List ℕ) (i : ℕ) (fs : Frames) (es : Entries) (k : List ℕ) (v : Value)
-    → (i < length bs → is_whitespace r.strict (get_or bs i 0) ≡ false)
-    → ((i < length bs) × (get_or bs i 0 ≡ 44) → ⊥) → ((i < length bs) × (get_or bs i 0 ≡ 125) → ⊥)
-    → StopsAt r (behind (object_frame fs es k) v) bs i
+    → (i < length bs → is_whitespace r.strict (get_or bs i 0) ≡ false) → ((i < length bs) × (get_or bs i 0 ≡ 44) → ⊥)
+    → ((i < length bs) × (get_or bs i 0 ≡ 125) → ⊥) → StopsAt r (behind (object_frame fs es k) v) bs i
 no_entry r bs i fs es k v s m n =
     stops_by r (behind (object_frame fs es k) v) bs i refl
     (λ lt. no_entry_on r fs es k v (get_or bs i 0) (class_of r.strict (get_or bs i 0)) (s lt) (λ e. m (lt, e))

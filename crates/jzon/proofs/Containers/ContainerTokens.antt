@@ -24,16 +24,14 @@ use Rattle.jzon.proofs.Texts.ReportedErrors.{told_deep, told_end}
 -- ---- opening brackets
 
 pub array_opens : (t u : Cursor) (fs : Frames) → IsPast t.reading t.source.now (t.index + 1) u → next_byte t ≡ 91
-    → value_mark t.reading fs ≡ None
-    → IsBehind t u × (left t (before fs) ≡ left u (before (array_frame fs [])))
+    → value_mark t.reading fs ≡ None → IsBehind t u × (left t (before fs) ≡ left u (before (array_frame fs [])))
 array_opens t u fs past e mark =
     byte_goes t u (before fs) (before (array_frame fs [])) past refl
     (open_array t.reading t.source.now t.index fs (utf8_of t) t.boundary
     (byte_within t.source.now t.index 91 e (lit< tt)) e mark)
 
 pub object_opens : (t u : Cursor) (fs : Frames) → IsPast t.reading t.source.now (t.index + 1) u → next_byte t ≡ 123
-    → value_mark t.reading fs ≡ None
-    → IsBehind t u × (left t (before fs) ≡ left u (before_key fs []))
+    → value_mark t.reading fs ≡ None → IsBehind t u × (left t (before fs) ≡ left u (before_key fs []))
 object_opens t u fs past e mark =
     byte_goes t u (before fs) (before_key fs []) past refl
     (open_object t.reading t.source.now t.index fs (utf8_of t) t.boundary
@@ -49,8 +47,7 @@ empty_array_closes t u fs past e =
     (byte_within t.source.now t.index 93 e (lit< tt)) e)
 
 pub empty_object_closes : (t u : Cursor) (fs : Frames) → IsPast t.reading t.source.now (t.index + 1) u
-    → next_byte t ≡ 125
-    → IsBehind t u × (left t (before_key fs []) ≡ left u (behind fs (object no_pairs)))
+    → next_byte t ≡ 125 → IsBehind t u × (left t (before_key fs []) ≡ left u (behind fs (object no_pairs)))
 empty_object_closes t u fs past e =
     byte_goes t u (before_key fs []) (behind fs (object no_pairs)) past refl
     (close_empty_object t.reading t.source.now t.index fs (utf8_of t) t.boundary
@@ -123,8 +120,7 @@ object_goes_on t u fs es k v past e =
     (byte_within t.source.now t.index 44 e (lit< tt)) e)
 
 pub object_stops : (t : Cursor) (fs : Frames) (es : Entries) (k : List ℕ) (v : Value) → next_byte t ≢ 44
-    → next_byte t ≢ 125
-    → left t (behind (object_frame fs es k) v) ≡ stopped (chars (drop t.index t.source.now))
+    → next_byte t ≢ 125 → left t (behind (object_frame fs es k) v) ≡ stopped (chars (drop t.index t.source.now))
 object_stops t fs es k v no_comma no_end =
     from_stop t.reading t.source.now t.index (behind (object_frame fs es k) v) (utf8_of t) t.boundary
     (no_entry t.reading t.source.now t.index fs es k v t.past_whitespace (λ h. no_comma h.1) (λ h. no_end h.1))
@@ -157,8 +153,7 @@ key_stands t u fs es text end read new lt past = record {
 }
 
 pub key_missing : (t : Cursor) (fs : Frames) (es : Entries) → key_mark t.reading fs es ≡ None → next_byte t ≢ 34
-    → (es ≡ [] → next_byte t ≢ 125)
-    → left t (before_key fs es) ≡ stopped (chars (drop t.index t.source.now))
+    → (es ≡ [] → next_byte t ≢ 125) → left t (before_key fs es) ≡ stopped (chars (drop t.index t.source.now))
 key_missing t fs es mark no_quote no_end =
     from_stop t.reading t.source.now t.index (before_key fs es) (utf8_of t) t.boundary
     (no_key t.reading t.source.now t.index fs es mark t.past_whitespace (λ here. no_quote here.1) no_end)

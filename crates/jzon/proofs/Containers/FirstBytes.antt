@@ -37,8 +37,7 @@ full_array_on (array_frame fs (v ∷ vs)) h = refl
 full_array_on (object_frame fs es k) h = refl
 
 begins_nothing_on : (r : Reading) (fs : Frames) (c : ℕ) (k : Class) → value_mark r fs ≡ None
-    → BeginsNothing r.strict fs c → class_of r.strict c ≡ k
-    → move_before r k fs c ≡ bad
+    → BeginsNothing r.strict fs c → class_of r.strict c ≡ k → move_before r k fs c ≡ bad
 begins_nothing_on r fs c whitespace m h e = let y : is_whitespace r.strict c
     ≡ true = class-says r.strict c e in let n = h.no_space in absurd (cc)
 begins_nothing_on r fs c digits m h e = let y : is_ascii_digit c
@@ -69,8 +68,7 @@ wide_begins_nothing strict fs c le = record {
 }
 
 pub stops_before : (r : Reading) (bs : List ℕ) (i : ℕ) (fs : Frames) → value_mark r fs ≡ None
-    → (i < length bs → BeginsNothing r.strict fs (get_or bs i 0))
-    → StopsAt r (before fs) bs i
+    → (i < length bs → BeginsNothing r.strict fs (get_or bs i 0)) → StopsAt r (before fs) bs i
 stops_before r bs i fs m h =
     stops_by r (before fs) bs i refl
     (λ lt. begins_nothing_on r fs (get_or bs i 0) (class_of r.strict (get_or bs i 0)) m (h lt) refl)
@@ -79,43 +77,38 @@ stops_before r bs i fs m h =
 -- ---- the first byte of a value
 
 pub begin_null : (r : Reading) (bs : List ℕ) (i : ℕ) (fs : Frames) → IsUtf8 bs → IsCharBoundary bs i → i < length bs
-    → get_or bs i 0 ≡ 110
-    → value_mark r fs ≡ None → from r bs (before fs) i ≡ from r bs (past_letter fs value.null (117 ∷ 108 ∷ 108 ∷ []))
-    (i + 1)
+    → get_or bs i 0 ≡ 110 → value_mark r fs ≡ None
+    → from r bs (before fs) i ≡ from r bs (past_letter fs value.null (117 ∷ 108 ∷ 108 ∷ [])) (i + 1)
 begin_null r bs i fs u at lt e m =
     from_step r bs i (before fs) _ 110 u at lt e (lit< tt)
     (ap (λ k. move_before r k fs 110) (class-char r.strict begins_null) ∙ ap
     (λ b. go b (past_letter fs value.null (117 ∷ 108 ∷ 108 ∷ []))) m)
 
 pub begin_true : (r : Reading) (bs : List ℕ) (i : ℕ) (fs : Frames) → IsUtf8 bs → IsCharBoundary bs i → i < length bs
-    → get_or bs i 0 ≡ 116
-    → value_mark r fs ≡ None → from r bs (before fs) i ≡ from r bs
-    (past_letter fs (value.boolean true) (114 ∷ 117 ∷ 101 ∷ [])) (i + 1)
+    → get_or bs i 0 ≡ 116 → value_mark r fs ≡ None
+    → from r bs (before fs) i ≡ from r bs (past_letter fs (value.boolean true) (114 ∷ 117 ∷ 101 ∷ [])) (i + 1)
 begin_true r bs i fs u at lt e m =
     from_step r bs i (before fs) _ 116 u at lt e (lit< tt)
     (ap (λ k. move_before r k fs 116) (class-char r.strict begins_true) ∙ ap
     (λ b. go b (past_letter fs (value.boolean true) (114 ∷ 117 ∷ 101 ∷ []))) m)
 
 pub begin_false : (r : Reading) (bs : List ℕ) (i : ℕ) (fs : Frames) → IsUtf8 bs → IsCharBoundary bs i → i < length bs
-    → get_or bs i 0 ≡ 102
-    → value_mark r fs ≡ None → from r bs (before fs) i ≡ from r bs
-    (past_letter fs (value.boolean false) (97 ∷ 108 ∷ 115 ∷ 101 ∷ [])) (i + 1)
+    → get_or bs i 0 ≡ 102 → value_mark r fs ≡ None
+    → from r bs (before fs) i ≡ from r bs (past_letter fs (value.boolean false) (97 ∷ 108 ∷ 115 ∷ 101 ∷ [])) (i + 1)
 begin_false r bs i fs u at lt e m =
     from_step r bs i (before fs) _ 102 u at lt e (lit< tt)
     (ap (λ k. move_before r k fs 102) (class-char r.strict begins_false) ∙ ap
     (λ b. go b (past_letter fs (value.boolean false) (97 ∷ 108 ∷ 115 ∷ 101 ∷ []))) m)
 
 pub begin_minus : (r : Reading) (bs : List ℕ) (i : ℕ) (fs : Frames) → IsUtf8 bs → IsCharBoundary bs i → i < length bs
-    → get_or bs i 0 ≡ 45
-    → value_mark r fs ≡ None → from r bs (before fs) i ≡ from r bs (numeral fs true signed) (i + 1)
+    → get_or bs i 0 ≡ 45 → value_mark r fs ≡ None → from r bs (before fs) i ≡ from r bs (numeral fs true signed) (i + 1)
 begin_minus r bs i fs u at lt e m =
     from_step r bs i (before fs) _ 45 u at lt e (lit< tt)
     (ap (λ k. move_before r k fs 45) (class-char r.strict dash) ∙ ap (λ b. go b (numeral fs true signed)) m)
 
 pub begin_digit : (r : Reading) (bs : List ℕ) (i : ℕ) (fs : Frames) → IsUtf8 bs → IsCharBoundary bs i → i < length bs
-    → IsTrue (is_ascii_digit (get_or bs i 0))
-    → value_mark r fs ≡ None → from r bs (before fs) i ≡ from r bs
-    (numeral fs false (begun (get_or bs i 0 == 48) (get_or bs i 0))) (i + 1)
+    → IsTrue (is_ascii_digit (get_or bs i 0)) → value_mark r fs ≡ None
+    → from r bs (before fs) i ≡ from r bs (numeral fs false (begun (get_or bs i 0 == 48) (get_or bs i 0))) (i + 1)
 begin_digit r bs i fs u at lt d m =
     from_step r bs i (before fs) _ (get_or bs i 0) u at lt refl (digit_is_ascii (get_or bs i 0) d)
     (ap (λ k. move_before r k fs (get_or bs i 0)) (digits-class r.strict (get_or bs i 0) d)

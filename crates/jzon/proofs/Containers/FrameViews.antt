@@ -84,8 +84,7 @@ is_some-map None = refl
 is_some-map (Some v) = refl
 
 -- the same keys are known
-pub known_view : (k : List ℕ) (ps : List (List ℕ × JsonValue))
-    → is_some (find k ps) ≡ is_some (find k (viewed ps))
+pub known_view : (k : List ℕ) (ps : List (List ℕ × JsonValue)) → is_some (find k ps) ≡ is_some (find k (viewed ps))
 known_view k ps = is_some-map (find k ps) ∙ ap is_some (find-viewed k ps)
 
 -- ---- what was read where a value begins

@@ -42,8 +42,7 @@ letter_read r bs i l ls fs v u at lt e ascii =
     ∙ letter_on r (drop (i + 1) bs) l ls fs v (subst IsUtf8 split (IsUtf8-drop bs i u at)) ascii
 
 missing_on : (r : Reading) (cs : List ℕ) (l : ℕ) (ls : List ℕ) (fs : Frames) (v : Value)
-    → ((c : ℕ) (ds : List ℕ) → cs ≡ c ∷ ds → c ≡ l → ⊥)
-    → outcome r cs (past_letter fs v (l ∷ ls)) ≡ stopped cs
+    → ((c : ℕ) (ds : List ℕ) → cs ≡ c ∷ ds → c ≡ l → ⊥) → outcome r cs (past_letter fs v (l ∷ ls)) ≡ stopped cs
 missing_on r [] l ls fs v h = refl
 missing_on r (c ∷ cs) l ls fs v h = other (c == l) refl
   where
@@ -54,9 +53,8 @@ missing_on r (c ∷ cs) l ls fs v h = other (c == l) refl
 
 -- another byte stands there, or none
 pub letter_missing : (r : Reading) (bs : List ℕ) (i l : ℕ) (ls : List ℕ) (fs : Frames) (v : Value) → IsUtf8 bs
-    → IsCharBoundary bs i → l < 128
-    → ((i < length bs) × (get_or bs i 0 ≡ l) → ⊥) → from r bs (past_letter fs v (l ∷ ls)) i
-    ≡ stopped (chars (drop i bs))
+    → IsCharBoundary bs i → l < 128 → ((i < length bs) × (get_or bs i 0 ≡ l) → ⊥)
+    → from r bs (past_letter fs v (l ∷ ls)) i ≡ stopped (chars (drop i bs))
 unfolding from
 letter_missing r bs i l ls fs v u at ascii none =
     missing_on r (chars (drop i bs)) l ls fs v (λ c cs e same.
@@ -71,9 +69,8 @@ letter_missing r bs i l ls fs v u at ascii none =
 
 -- three letters stand there, the last of a word
 pub three_read : (r : Reading) (bs : List ℕ) (i a b c : ℕ) (fs : Frames) (v : Value) → IsUtf8 bs → IsCharBoundary bs i
-    → i + 3 ≤ length bs → get_or bs i 0 ≡ a → get_or bs (i + 1) 0 ≡ b → get_or bs (i + 2) 0 ≡ c
-    → a < 128 → b < 128 → c < 128
-    → from r bs (past_letter fs v (a ∷ b ∷ c ∷ [])) i ≡ from r bs (behind fs v) (i + 3)
+    → i + 3 ≤ length bs → get_or bs i 0 ≡ a → get_or bs (i + 1) 0 ≡ b → get_or bs (i + 2) 0 ≡ c → a < 128 → b < 128
+    → c < 128 → from r bs (past_letter fs v (a ∷ b ∷ c ∷ [])) i ≡ from r bs (behind fs v) (i + 3)
 three_read r bs i a b c fs v u at le ea eb ec la lb lc =
     let next = IsCharBoundary-after_ascii bs i u (omega arith) (omega (arith, ea, la)) in
     let last : IsCharBoundary bs (i + 2) = subst (IsCharBoundary bs) (omega arith)

@@ -85,8 +85,7 @@ short_ends r bs i prefix l a b c fs v four u lt ascii here is la lb lc begun sta
 pub word_ends : (r : Reading) (bs : List ℕ) (i b prefix : ℕ) (fs : Frames) (v : Value) (four : List ℕ) → IsUtf8 bs
     → i < length bs → get_or bs i 0 ≡ b → value_mark r fs ≡ None → IsFirst b → Means b v
     → Spells b four (110 ∷ 117 ∷ 108 ∷ 108 ∷ []) (116 ∷ 114 ∷ 117 ∷ 101 ∷ []) (97 ∷ 108 ∷ 115 ∷ 101 ∷ [])
-    → (b ≢ 102 → prefix ≡ i) → (b ≡ 102 → prefix ≡ i + 1) → Stand bs prefix four
-    → WordEnds r bs i (prefix + 4) fs v
+    → (b ≢ 102 → prefix ≡ i) → (b ≡ 102 → prefix ≡ i + 1) → Stand bs prefix four → WordEnds r bs i (prefix + 4) fs v
 word_ends r bs i b prefix fs v four u lt h m (inl e) means spells short long stand =
     short_ends r bs i prefix 110 117 108 108 fs v four u lt (omega (arith, h, e))
     (short (λ f. absurd (omega (arith, e, f)))) (spells.null e) (lit< tt) (lit< tt) (lit< tt)

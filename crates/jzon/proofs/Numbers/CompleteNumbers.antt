@@ -72,8 +72,7 @@ module _ (r : Reading) (G : Outcome → Type 0) (fs : Frames) (negative : Bool) 
   past_fraction _ ws ds c m H h = h
 
   read_fraction : (ws ds es : List ℕ) (x : Option Exponent) (k : List Cell) → AreDigits es → IsExponent x
-      → B ws (onto ds es) x k
-      → F (digits_cells (keeps_too_many ws) ds es (exponent_cells x k)) (fraction ws ds)
+      → B ws (onto ds es) x k → F (digits_cells (keeps_too_many ws) ds es (exponent_cells x k)) (fraction ws ds)
   read_fraction ws ds [] None [] ok x_ok h = h
   read_fraction ws ds [] None (y ∷ k) ok x_ok h =
       past_fraction (class_of r.strict y.char) ws ds y.char y.mark (λ p. Follows r G k p) h

@@ -41,9 +41,8 @@ collect_all r at too_many collects ds (e ∷ es) rest ok h =
     ∙ collect_all r at too_many collects (e ∷ ds) es rest ok.1 h.1
 
 collect_up_to : (r : Reading) (at : List ℕ → Place) (too_many : List ℕ → Bool) → Collects r at too_many
-    → (ds es rest : List ℕ) (i : ℕ)
-    → AreDigits es → IsFirstMarked too_many ds es i → outcome r (es ++ rest) (at ds)
-    ≡ refused (limit digit) (drop i es ++ rest)
+    → (ds es rest : List ℕ) (i : ℕ) → AreDigits es → IsFirstMarked too_many ds es i
+    → outcome r (es ++ rest) (at ds) ≡ refused (limit digit) (drop i es ++ rest)
 collect_up_to r at too_many collects ds [] rest i ok h = absurd h
 collect_up_to r at too_many collects ds (e ∷ es) rest zero ok h = collect_one r at too_many true collects ds e
     (es ++ rest) ok.0 h
@@ -79,8 +78,7 @@ read_whole r fs negative ds es rest gs ok few =
 
 -- The 32768th that is dropped is refused.
 pub refuse_whole : (r : Reading) (fs : Frames) (negative : Bool) (ds es rest gs : List ℕ) (i : ℕ) → AreDigits es
-    → 32768 ≤ dropped (onto ds es) gs
-    → length ds + i ≡ kept_len (onto ds es ++ gs) + 32767
+    → 32768 ≤ dropped (onto ds es) gs → length ds + i ≡ kept_len (onto ds es ++ gs) + 32767
     → outcome r (es ++ rest) (numeral fs negative (whole ds)) ≡ refused (limit digit) (drop i es ++ rest)
 refuse_whole r fs negative ds es rest gs i ok many at =
     collect_up_to r (λ ds. numeral fs negative (whole ds)) drops_too_many (whole_collects r fs negative) ds es rest i ok

@@ -32,8 +32,7 @@ no_digit_on r fs c begins_false h e = refl
 no_digit_on r fs c other h e = refl
 
 pub no_digit_stops : (r : Reading) (bs : List ℕ) (i : ℕ) (fs : Frames)
-    → ((i < length bs) × IsTrue (is_ascii_digit (get_or bs i 0)) → ⊥)
-    → StopsAt r (numeral fs true signed) bs i
+    → ((i < length bs) × IsTrue (is_ascii_digit (get_or bs i 0)) → ⊥) → StopsAt r (numeral fs true signed) bs i
 no_digit_stops r bs i fs none = record {
   ends = refl;
   bad = λ c there. no_digit_on r fs c (class_of r.strict c)

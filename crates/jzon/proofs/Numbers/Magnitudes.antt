@@ -180,8 +180,7 @@ fraction_too_many bs j ws ds k many r fs negative =
 
 -- The digits behind it are ds, and none is missing if there are some.
 pub reads_whole_and_fraction : (bs : List ℕ) (i p : ℕ) (ws ds : List ℕ) → IsUtf8 bs → WholeStands bs i ws
-    → p ≡ i + length ws → p < length bs
-    → get_or bs p 0 ≡ 46 → ds ≡ take_while is_ascii_digit (drop (p + 1) bs)
+    → p ≡ i + length ws → p < length bs → get_or bs p 0 ≡ 46 → ds ≡ take_while is_ascii_digit (drop (p + 1) bs)
     → ReadsMagnitude bs i ws ds (p + 1 + length ds) (length ds == 0)
 unfolding from
 reads_whole_and_fraction bs i p ws ds u w at lt is_point same =

@@ -39,8 +39,7 @@ next_is bs i b u at lt e ascii =
 
 -- A test that ASCII characters alone pass fails for the next character where it fails for the next byte.
 pub next_fails : (test : ℕ → Bool) (bs : List ℕ) (i : ℕ) → ((c : ℕ) → test c ≡ true → c < 128) → IsUtf8 bs
-    → IsCharBoundary bs i
-    → (i < length bs → test (get_or bs i 0) ≡ false) → NextFails test (chars (drop i bs))
+    → IsCharBoundary bs i → (i < length bs → test (get_or bs i 0) ≡ false) → NextFails test (chars (drop i bs))
 next_fails test bs i ascii u at h = over (chars (drop i bs)) refl
   where
     at_first : (v : Bool) (c : ℕ) (cs : List ℕ) → chars (drop i bs) ≡ c ∷ cs → test c ≡ v → v ≡ false
@@ -70,8 +69,7 @@ record Begins (bs ds : List ℕ) : Type 0 where
   utf8 : IsUtf8 (drop (length ds) bs)
 
 begins_one : (b : ℕ) (bs : List ℕ) (v : Bool) (n : ℕ) → is_ascii_digit b ≡ v → IsUtf8 (b ∷ bs)
-    → (IsUtf8 bs → Begins bs (take n bs))
-    → Begins (b ∷ bs) (take (cond v (1 + n) 0) (b ∷ bs))
+    → (IsUtf8 bs → Begins bs (take n bs)) → Begins (b ∷ bs) (take (cond v (1 + n) 0) (b ∷ bs))
 begins_one b bs false n e u ih = record { split = refl; digits = tt; all = All-nil IsDigit; utf8 = u }
 begins_one b bs true n e u ih =
     let k = ih (IsUtf8-past_ascii b bs u (digit_is_ascii b e)) in
@@ -141,9 +139,8 @@ no_digits [] cs none = refl
 no_digits (d ∷ ds) cs none = absurd (omega arith)
 
 pub reads_unsigned : (bs : List ℕ) (i : ℕ) (xs : List ℕ) → IsUtf8 bs → IsCharBoundary bs i
-    → ((i < length bs) × (get_or bs i 0 ≡ 45) → ⊥)
-    → ((i < length bs) × (get_or bs i 0 ≡ 43) → ⊥) → xs ≡ take_while is_ascii_digit (drop i bs)
-    → ReadsExponent bs i true xs (i + length xs)
+    → ((i < length bs) × (get_or bs i 0 ≡ 45) → ⊥) → ((i < length bs) × (get_or bs i 0 ≡ 43) → ⊥)
+    → xs ≡ take_while is_ascii_digit (drop i bs) → ReadsExponent bs i true xs (i + length xs)
 unfolding from
 reads_unsigned bs i xs u at no_minus no_plus e =
     let k = digits_stand bs i xs u at e in

@@ -59,16 +59,14 @@ stop_pointed r fs negative ws (c ∷ cs) h =
     (no_digit r.strict c h))
 
 lettered_stops : (k : Class) (fs : Frames) (negative : Bool) (ws ds : List ℕ) (l c : ℕ) → (k ≡ digits → ⊥)
-    → (k ≡ cross → ⊥) → (k ≡ dash → ⊥)
-    → move_numeral (lettered ws ds l) k fs negative c ≡ bad
+    → (k ≡ cross → ⊥) → (k ≡ dash → ⊥) → move_numeral (lettered ws ds l) k fs negative c ≡ bad
 lettered_stops digits fs negative ws ds l c fails no_cross no_dash = absurd (fails refl)
 lettered_stops cross fs negative ws ds l c fails no_cross no_dash = absurd (no_cross refl)
 lettered_stops dash fs negative ws ds l c fails no_cross no_dash = absurd (no_dash refl)
 lettered_stops k fs negative ws ds l c fails no_cross no_dash = refl
 
 pub stop_lettered : (r : Reading) (fs : Frames) (negative : Bool) (ws ds : List ℕ) (l : ℕ) (cs : List ℕ)
-    → NextFails is_ascii_digit cs
-    → NextFails (λ c. c == 43) cs → NextFails (λ c. c == 45) cs
+    → NextFails is_ascii_digit cs → NextFails (λ c. c == 43) cs → NextFails (λ c. c == 45) cs
     → outcome r cs (numeral fs negative (lettered ws ds l)) ≡ stopped cs
 stop_lettered r fs negative ws ds l [] h p m = refl
 stop_lettered r fs negative ws ds l (c ∷ cs) h p m =
@@ -77,14 +75,12 @@ stop_lettered r fs negative ws ds l (c ∷ cs) h p m =
     (no_minus r.strict c m))
 
 signed_stops : (k : Class) (fs : Frames) (negative : Bool) (ws ds : List ℕ) (l : ℕ) (s : Sign) (c : ℕ)
-    → (k ≡ digits → ⊥)
-    → move_numeral (signed_exponent ws ds l s) k fs negative c ≡ bad
+    → (k ≡ digits → ⊥) → move_numeral (signed_exponent ws ds l s) k fs negative c ≡ bad
 signed_stops digits fs negative ws ds l s c fails = absurd (fails refl)
 signed_stops k fs negative ws ds l s c fails = refl
 
 pub stop_signed : (r : Reading) (fs : Frames) (negative : Bool) (ws ds : List ℕ) (l : ℕ) (s : Sign) (cs : List ℕ)
-    → NextFails is_ascii_digit cs
-    → outcome r cs (numeral fs negative (signed_exponent ws ds l s)) ≡ stopped cs
+    → NextFails is_ascii_digit cs → outcome r cs (numeral fs negative (signed_exponent ws ds l s)) ≡ stopped cs
 stop_signed r fs negative ws ds l s [] h = refl
 stop_signed r fs negative ws ds l s (c ∷ cs) h =
     ap (λ m. outcome_on m (λ x. outcome r cs x) (c ∷ cs)) (signed_stops (class_of r.strict c) fs negative ws ds l s c
@@ -184,8 +180,7 @@ behind_letter : (fs : Frames) (negative : Bool) (ws : List ℕ) (k : Class) (l :
 behind_letter fs negative ws k l e = rw e refl
 
 pub whole_to_letter : (r : Reading) (d l : ℕ) (ws cs rest : List ℕ) (fs : Frames) (negative : Bool)
-    → ReadsWhole r d ws cs (l ∷ rest) → dropped ws [] < 32768
-    → IsTrue (is_exponent_letter l)
+    → ReadsWhole r d ws cs (l ∷ rest) → dropped ws [] < 32768 → IsTrue (is_exponent_letter l)
     → outcome r cs (numeral fs negative (begun (d == 48) d)) ≡ outcome r rest (numeral fs negative (lettered ws [] l))
 whole_to_letter r d l ws cs rest fs negative h few letter =
     h.reads fs negative [] few

@@ -16,8 +16,7 @@ abbrev AreUnknown : List (List ℕ) → List (List ℕ) → Type 0
 AreUnknown seen ks = AllByRecursion (λ k. is_known seen k ≡ false) ks
 
 unknown_more : (k : List ℕ) (seen ks : List (List ℕ)) → AllByRecursion (λ y. bytes_eq k y ≡ false) ks
-    → AreUnknown seen ks
-    → AreUnknown (k ∷ seen) ks
+    → AreUnknown seen ks → AreUnknown (k ∷ seen) ks
 unknown_more k seen [] apart h = tt
 unknown_more k seen (y ∷ ys) apart h = (or_from _ _ apart.0 h.0, unknown_more k seen ys apart.1 h.1)
 

@@ -154,9 +154,8 @@ pub record JoinedMembers (r : Reading) (high : ℕ) (e : Entry) (es : List Entry
   pub means : members_meaning members ≡ map entry_meaning es
 
 pub joined_members : (r : Reading) (s : Style) (dent high : ℕ) (e : Entry) (es : List Entry) (inside w : List ℕ)
-    → AllowsWhitespaceOf r s
-    → AllByRecursion (EntrySpells r high) (e ∷ es) → Joins s dent (map entry_text (e ∷ es)) inside → IsWhitespace r w
-    → JoinedMembers r high e es inside w
+    → AllowsWhitespaceOf r s → AllByRecursion (EntrySpells r high) (e ∷ es)
+    → Joins s dent (map entry_text (e ∷ es)) inside → IsWhitespace r w → JoinedMembers r high e es inside w
 joined_members r s dent high e [] inside w fit each join space = record {
   before = join.0;
   after = w;

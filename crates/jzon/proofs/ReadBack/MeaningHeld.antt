@@ -181,8 +181,7 @@ deeper a depth room h l = omega arith
 
 mutual
   node_held : (r : Reading) (n : Node) (depth : ℕ) (m : Option Breach) (k : List Cell) → IsNode r n
-      → HaveNoMarks (node_cells r n depth m k)
-      → NodeHeld r depth m k (meaning n)
+      → HaveNoMarks (node_cells r n depth m k) → NodeHeld r depth m k (meaning n)
   node_held r Node.null depth m k ok h = record {
     lawful = tt;
     no_nan = tt;
@@ -248,8 +247,7 @@ mutual
       }
 
   elements_held : (r : Reading) (es : Elements) (depth : ℕ) (k : List Cell) → AreElements r es
-      → HaveNoMarks (elements_cells r es depth k)
-      → ElementsHeld r depth k (elements_meaning es)
+      → HaveNoMarks (elements_cells r es depth k) → ElementsHeld r depth k (elements_meaning es)
   elements_held r no_elements depth k ok h = record { lawful = tt; no_nan = tt; few = omega arith; rest = h.1 }
   elements_held r (element b n c es) depth k ok h =
       let one = node_held r n depth None (plain c (elements_cells r es depth k)) ok.1 (plain_rest b _ h.1) in

@@ -50,8 +50,7 @@ spelled_short s m e n fits small h = omega (arith, ap length h.spelled, length-n
 
 -- no breach stands in it
 pub printed-plain : (s : Bool) (m : ℕ) (e : ℤ) (n : Numeral) (k : List Cell) → m < 2 ^ 64 → FitsSigned w16 e
-    → IsPrintedAs s m e n
-    → numeral_cells n None k ≡ plain (number_text s m e) k
+    → IsPrintedAs s m e n → numeral_cells n None k ≡ plain (number_text s m e) k
 printed-plain s m e n k fits small h =
     numeral-plain n k (omega (arith, spelled_short s m e n fits small h)) ∙ ap (λ t. plain t k) h.spelled
 

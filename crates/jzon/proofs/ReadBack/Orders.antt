@@ -74,8 +74,7 @@ texts_picked ts (p ∷ ps) d h =
 -- ---- distinct keys stay distinct
 
 apart_keys : (ks : List (List ℕ)) (d : List ℕ) (i j : ℕ) → AllPairs (λ x y. x ≢ y) ks → i < length ks → j < length ks
-    → (i ≡ j → ⊥)
-    → get_or ks i d ≡ get_or ks j d → ⊥
+    → (i ≡ j → ⊥) → get_or ks i d ≡ get_or ks j d → ⊥
 apart_keys ks d i j distinct h k ne e =
     elim (cases_lt i j) [
       | inl less ↦ distinct i j d less k e
@@ -95,8 +94,7 @@ apart_from ks d i (p ∷ ps) distinct h below none =
     )
 
 pub distinct_picked : (ks : List (List ℕ)) (d : List ℕ) (ps : List ℕ) → AllPairs (λ x y. x ≢ y) ks
-    → AreBelow (length ks) ps
-    → ((i : ℕ) → i < length ks → count i ps ≤ 1) → IsDistinct bytes_eq (picked d ks ps)
+    → AreBelow (length ks) ps → ((i : ℕ) → i < length ks → count i ps ≤ 1) → IsDistinct bytes_eq (picked d ks ps)
 unfolding IsDistinct
 distinct_picked ks d [] distinct below once = tt
 distinct_picked ks d (p ∷ ps) distinct below once =
@@ -139,8 +137,7 @@ module _ {V : Type 0} where
   found_place q d (x ∷ xs) v e = found_at q d x xs v (bytes_eq x.0 q) refl (λ f. found_place q d xs v f) e
 
   nowhere_at : (q : List ℕ) (x : List ℕ × V) (rest : Option V) (b : Bool) → bytes_eq x.0 q ≡ b
-      → cond b (Some x.1) rest ≡ None
-      → (bytes_eq x.0 q ≡ false) × (rest ≡ None)
+      → cond b (Some x.1) rest ≡ None → (bytes_eq x.0 q ≡ false) × (rest ≡ None)
   nowhere_at q x rest true t f = absurd (none-some x.1 (sym f))
   nowhere_at q x rest false t f = (t, f)
 
@@ -180,8 +177,7 @@ module _ {V : Type 0} where
       ]
 
   pub find-picked : (q : List ℕ) (d : List ℕ × V) (xs : List (List ℕ × V)) (ps : List ℕ)
-      → AllPairs (λ x y. x ≢ y) (keys_of xs) → IsOrder (length xs) ps
-      → find q (picked d xs ps) ≡ find q xs
+      → AllPairs (λ x y. x ≢ y) (keys_of xs) → IsOrder (length xs) ps → find q (picked d xs ps) ≡ find q xs
   find-picked q d xs ps distinct o = by_find (find q xs) refl
     where
       by_find : (f : Option V) → find q xs ≡ f → find q (picked d xs ps) ≡ find q xs

@@ -83,8 +83,7 @@ zeros_number zero = refl
 zeros_number (suc n) = zeros_number n
 
 pub behind_zeros : (s : Bool) (m k : ℕ) → 0 < m → m < 2 ^ 64 → FitsSigned w16 (negsuc k) → k + 1 ≤ 17
-    → length (decimal m) ≤ k + 1
-    → HasNumeral s m (negsuc k)
+    → length (decimal m) ≤ k + 1 → HasNumeral s m (negsuc k)
 behind_zeros s m k above fits small near out =
     let is : IsMantissa m (decimal m) = mantissa m above fits in
     let n : ℕ = k + 1 - length (decimal m) in
@@ -113,8 +112,7 @@ first_spelled (c ∷ d ∷ cs) h = sym (if-lt 1 (length (c ∷ d ∷ cs)) (point
     (omega arith))
 
 scientific : (s : Bool) (m : ℕ) (e : ℤ) (x : Option Exponent) → 0 < m → m < 2 ^ 64 → FitsSigned w16 e
-    → grammar.IsExponent x
-    → point_after_first (decimal m) ++ exponent_spelled x ≡ magnitude_text (decimal m) e
+    → grammar.IsExponent x → point_after_first (decimal m) ++ exponent_spelled x ≡ magnitude_text (decimal m) e
     → (pos 0 -ℤ pos (length (decimal m) - 1)) +ℤ written_exponent x ≡ e → HasNumeral s m e
 scientific s m e x above fits small power text sum =
     let is : IsMantissa m (decimal m) = mantissa m above fits in

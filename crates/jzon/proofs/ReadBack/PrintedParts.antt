@@ -156,9 +156,8 @@ clamp_small e fits = omega (arith, ints, clamps)
 
 -- the parts, where all digits fit and the powers of ten add up
 pub exact_parts : (s : Bool) (whole fraction : List ℕ) (x : Option Exponent) (m : ℕ) (e : ℤ)
-    → digits_number (whole ++ fraction) ≡ m → m < 2 ^ 64
-    → (pos 0 -ℤ pos (length fraction)) +ℤ written_exponent x ≡ e → FitsSigned w16 e
-    → number_of (numeral s whole fraction x) ≡ parts s m e
+    → digits_number (whole ++ fraction) ≡ m → m < 2 ^ 64 → (pos 0 -ℤ pos (length fraction)) +ℤ written_exponent x ≡ e
+    → FitsSigned w16 e → number_of (numeral s whole fraction x) ≡ parts s m e
 exact_parts s whole fraction x m e is fits sum small =
     let all : kept_len (whole ++ fraction) ≡ length (whole ++ fraction) = kept_all (whole ++ fraction)
     (omega (arith, is)) in
@@ -179,9 +178,8 @@ minus-is false = refl
 
 -- a number with the text of a mantissa above 0, which means exactly its parts
 pub means_exactly : (s : Bool) (m : ℕ) (e : ℤ) (w f : List ℕ) (x : Option Exponent) → 0 < m → m < 2 ^ 64
-    → FitsSigned w16 e → IsWholePart w → AllDigits f
-    → grammar.IsExponent x → w ++ fraction_spelled f ++ exponent_spelled x ≡ magnitude_text (decimal m) e
-    → digits_number (w ++ f) ≡ m
+    → FitsSigned w16 e → IsWholePart w → AllDigits f → grammar.IsExponent x
+    → w ++ fraction_spelled f ++ exponent_spelled x ≡ magnitude_text (decimal m) e → digits_number (w ++ f) ≡ m
     → (pos 0 -ℤ pos (length f)) +ℤ written_exponent x ≡ e → HasNumeral s m e
 means_exactly s m e w f x above fits small whole digits power spelled value sum =
     let text : number_text s m e ≡ minus_spelled (not s) ++ (w ++ fraction_spelled f ++ exponent_spelled x) =

@@ -263,8 +263,7 @@ mutual
       object_read r s dent k v ps b w.0 w.1 e.entries fit h.1 e.texts e.spell e.keys e.alike w.3 w.5
 
   read_nodes : (r : Reading) (s : Style) (dent : ℕ) (vs : Values) (ts : List (List ℕ)) → AllowsWhitespaceOf r s
-      → AreValues vs → HaveNoNan vs → WritesEach s dent vs ts
-      → ReadNodes r vs ts
+      → AreValues vs → HaveNoNan vs → WritesEach s dent vs ts → ReadNodes r vs ts
   read_nodes r s dent no_values [] fit h no_nan w = record { nodes = []; spell = tt; alike = refl }
   read_nodes r s dent no_values (t ∷ ts) fit h no_nan w = absurd w
   read_nodes r s dent (value v vs) [] fit h no_nan w = absurd w
@@ -283,8 +282,7 @@ mutual
       }
 
   read_entries : (r : Reading) (s : Style) (dent : ℕ) (ps : Pairs) (ts : List (List ℕ)) → AllowsWhitespaceOf r s
-      → ArePairs ps → PairsHaveNoNan ps
-      → WritesPairs s dent ps ts → ReadEntries r ps ts
+      → ArePairs ps → PairsHaveNoNan ps → WritesPairs s dent ps ts → ReadEntries r ps ts
   read_entries r s dent no_pairs [] fit h no_nan w = record {
     entries = [];
     texts = refl;
@@ -330,8 +328,7 @@ whitespace_each strict [] h = tt
 whitespace_each strict (c ∷ w) h = let t = and_parts _ _ h in (t.0, whitespace_each strict w t.1)
 
 whitespace_of : (strict : Bool) (w : List ℕ) → (IsTrue strict → is_all_whitespace true w ≡ true)
-    → is_all_whitespace false w ≡ true
-    → is_all_whitespace strict w ≡ true
+    → is_all_whitespace false w ≡ true → is_all_whitespace strict w ≡ true
 whitespace_of true w narrow h = narrow refl
 whitespace_of false w narrow h = h
 

@@ -124,8 +124,7 @@ zeros_kept s m k above fits room all =
 
 -- one digit of w is dropped
 one_dropped : (s : Bool) (w : List ℕ) (u n : ℕ) → kept_len (w ++ []) ≡ n → digits_number (take n (w ++ [])) ≡ u
-    → length w ≡ n + 1
-    → number_of (numeral s w [] None) ≡ parts s u (pos 1)
+    → length w ≡ n + 1 → number_of (numeral s w [] None) ≡ parts s u (pos 1)
 one_dropped s w u n all value size =
     let one : dropped w [] ≡ 1 = omega (arith, all, size) in
     let none : kept_fraction w [] ≡ 0 = omega (arith, all, size) in

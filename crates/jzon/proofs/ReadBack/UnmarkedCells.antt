@@ -88,8 +88,7 @@ items_rest [] k h = h
 items_rest (i ∷ is) k h = items_rest is k (item_rest i (items_cells is k) h)
 
 pub key_first : (r : Reading) (seen : List (List ℕ)) (key : Key) (m : Option Breach) (k : List Cell)
-    → HaveNoMarks (key_cells r seen key m k)
-    → (m ≡ None) × HaveNoMarks k
+    → HaveNoMarks (key_cells r seen key m k) → (m ≡ None) × HaveNoMarks k
 key_first r seen key m k h =
     let first = plain_rest key.before _ h in
     let closing = items_rest key.items _ first.1 in

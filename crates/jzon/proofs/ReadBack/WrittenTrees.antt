@@ -90,8 +90,7 @@ false_spells r =
     ascii_spells r (codes "false") (Node.boolean false) (IsAscii-true (codes "false") refl) tt (λ depth k. refl)
 
 pub number_spells : (r : Reading) (s : Bool) (m : ℕ) (e : ℤ) (n : Numeral) → m < 2 ^ 64 → FitsSigned w16 e
-    → IsPrintedAs s m e n
-    → NodeSpells r 0 (number_text s m e) (Node.number n)
+    → IsPrintedAs s m e n → NodeSpells r 0 (number_text s m e) (Node.number n)
 number_spells r s m e n fits small h =
     ascii_spells r (number_text s m e) (Node.number n) (IsAscii-number s m e fits small) h.in_grammar
     (λ depth k. printed-plain s m e n k fits small h)
@@ -126,9 +125,8 @@ abbrev pub run_text : List ℕ → List ℕ → List ℕ → List ℕ → List �
 run_text w x c b = w ++ (x ++ (c ++ b))
 
 run-plain : (r : Reading) (h high depth : ℕ) (w x c b : List ℕ) (n : Node) (es : Elements) (k : List Cell)
-    → IsWhitespace r w
-    → IsWhitespace r c → NodeSpells r h x n
-    → ElementsSpell r high b es → depth + max h high ≤ r.depth
+    → IsWhitespace r w → IsWhitespace r c → NodeSpells r h x n → ElementsSpell r high b es
+    → depth + max h high ≤ r.depth
     → plain w (node_cells r n depth None (plain c (elements_cells r es depth k))) ≡ plain (chars (run_text w x c b)) k
 run-plain r h high depth w x c b n es k whitespace space node more few =
     ap (λ q. plain w (node_cells r n depth None (plain c q))) (more.unbroken depth k (omega arith))
@@ -156,9 +154,8 @@ element_spells r h high w x c b n es whitespace space node more = record {
 }
 
 pub array_spells : (r : Reading) (h high : ℕ) (w x c b : List ℕ) (n : Node) (es : Elements) → IsWhitespace r w
-    → IsWhitespace r c
-    → NodeSpells r h x n
-    → ElementsSpell r high b es → NodeSpells r (suc (max h high)) (91 ∷ run_text w x c b) (Node.array w n c es)
+    → IsWhitespace r c → NodeSpells r h x n → ElementsSpell r high b es
+    → NodeSpells r (suc (max h high)) (91 ∷ run_text w x c b) (Node.array w n c es)
 array_spells r h high w x c b n es whitespace space node more = record {
   utf8 = IsUtf8-ascii_append (91 ∷ []) _ (IsAscii-one 91 (omega arith))
       (IsUtf8-run r w x c b whitespace space node.utf8 more.utf8);
@@ -225,9 +222,7 @@ pair-plain r h high depth seen keys w key g x c b n ms k whitespace u gap space 
     ∙ sym (text-ascii w (quoted key ++ (58 ∷ run_text g x c b)) k (IsAscii-whitespace r w whitespace))
 
 IsUtf8-pair : (r : Reading) (w key g x c b : List ℕ) → IsWhitespace r w → IsUtf8 key → IsWhitespace r g
-    → IsWhitespace r c → IsUtf8 x
-    → IsUtf8 b
-    → IsUtf8 (pair_text w key g x c b)
+    → IsWhitespace r c → IsUtf8 x → IsUtf8 b → IsUtf8 (pair_text w key g x c b)
 IsUtf8-pair r w key g x c b whitespace u gap space v t =
     IsUtf8-ascii_append w _ (IsAscii-whitespace r w whitespace)
     (IsUtf8-append (quoted key) _ (IsUtf8-quoted key u) (IsUtf8-ascii_append (58 ∷ []) _ (IsAscii-one 58 (omega arith))

@@ -49,8 +49,7 @@ no_letter role xs c no_u no_simple =
     (false_from_ne_true (is_simple c) no_simple)
 
 pub escape_stops : (r : Reading) (role : Role) (xs bs : List ℕ) (i : ℕ) → IsUtf8 bs → IsCharBoundary bs i
-    → ((i < length bs) × (get_or bs i 0 ≡ 117) → ⊥)
-    → ((i < length bs) × (is_simple (get_or bs i 0) ≡ true) → ⊥)
+    → ((i < length bs) × (get_or bs i 0 ≡ 117) → ⊥) → ((i < length bs) × (is_simple (get_or bs i 0) ≡ true) → ⊥)
     → from r bs (string role xs slash) i ≡ stopped (chars (drop i bs))
 escape_stops r role xs bs i u at no_u no_simple =
     byte_stops r (string role xs slash) bs i u at refl (λ c b.
@@ -69,9 +68,8 @@ expects_u r role xs u = record { ascii = omega arith; moves = λ c n. refl; unfi
 
 -- a backslash and a `u` begin it
 pub second_begins : (r : Reading) (role : Role) (xs bs : List ℕ) (u i : ℕ) → IsUtf8 bs → IsCharBoundary bs i
-    → (i < length bs) × (get_or bs i 0 ≡ 92)
-    → (i + 1 < length bs) × (get_or bs (i + 1) 0 ≡ 117) → from r bs (string role xs (second u)) i
-    ≡ from r bs (string role xs (second_code u 3 0)) (i + 2)
+    → (i < length bs) × (get_or bs i 0 ≡ 92) → (i + 1 < length bs) × (get_or bs (i + 1) 0 ≡ 117)
+    → from r bs (string role xs (second u)) i ≡ from r bs (string role xs (second_code u 3 0)) (i + 2)
 second_begins r role xs bs u i text at one two =
     expected_byte r (string role xs (second u)) (string role xs (second_slash u)) bs i 92
     (expects_backslash r role xs u) text at one.0 one.1
@@ -95,8 +93,7 @@ second_stops r role xs bs u i text at none =
     (expects_backslash r role xs u) text at none
 
 pub second_u_stops : (r : Reading) (role : Role) (xs bs : List ℕ) (u i : ℕ) → IsUtf8 bs → IsCharBoundary bs i
-    → (i < length bs) × (get_or bs i 0 ≡ 92)
-    → ((i + 1 < length bs) × (get_or bs (i + 1) 0 ≡ 117) → ⊥)
+    → (i < length bs) × (get_or bs i 0 ≡ 92) → ((i + 1 < length bs) × (get_or bs (i + 1) 0 ≡ 117) → ⊥)
     → from r bs (string role xs (second u)) i ≡ stopped (chars (drop (i + 1) bs))
 second_u_stops r role xs bs u i text at one none =
     expected_byte r (string role xs (second u)) (string role xs (second_slash u)) bs i 92

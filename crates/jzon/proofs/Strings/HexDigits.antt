@@ -54,8 +54,7 @@ hex_is_ascii b h = grind (arith, nat_tests)
 
 -- a digit stands there
 pub hex_read : (r : Reading) (at : ℕ → ℕ → Place) (done : ℕ → Move) (bs : List ℕ) (n u i : ℕ) → ReadsHex r at done
-    → IsUtf8 bs → IsCharBoundary bs i
-    → i < length bs → is_ascii_hexdigit (get_or bs i 0) ≡ true
+    → IsUtf8 bs → IsCharBoundary bs i → i < length bs → is_ascii_hexdigit (get_or bs i 0) ≡ true
     → hex_left r at done bs (suc n) u i ≡ hex_left r at done bs n (add_hex u (get_or bs i 0)) (i + 1)
 hex_read r at done bs zero u i h text here lt e =
     byte_moves r (at zero u) bs i (get_or bs i 0) text here lt refl (hex_is_ascii _ e)
@@ -70,8 +69,7 @@ hex_read r at done bs (suc n) u i h text here lt e =
 
 -- none stands there
 pub hex_missing : (r : Reading) (at : ℕ → ℕ → Place) (done : ℕ → Move) (bs : List ℕ) (n u i : ℕ) → ReadsHex r at done
-    → IsUtf8 bs → IsCharBoundary bs i
-    → ((i < length bs) × (is_ascii_hexdigit (get_or bs i 0) ≡ true) → ⊥)
+    → IsUtf8 bs → IsCharBoundary bs i → ((i < length bs) × (is_ascii_hexdigit (get_or bs i 0) ≡ true) → ⊥)
     → hex_left r at done bs (suc n) u i ≡ stopped (chars (drop i bs))
 hex_missing r at done bs n u i h text here none =
     byte_stops r (at n u) bs i text here (h.unfinished n u) (λ c b.

@@ -22,8 +22,7 @@ none_of a b t x y z w ea eb et = rw (ea, eb, et) refl
 
 -- a quote closes the string
 pub quote_closes : (r : Reading) (role : Role) (xs bs : List ℕ) (i : ℕ) → IsUtf8 bs → IsCharBoundary bs i
-    → i < length bs → get_or bs i 0 ≡ 34
-    → from r bs (string role xs between) i ≡ from_closed r bs role xs (i + 1)
+    → i < length bs → get_or bs i 0 ≡ 34 → from r bs (string role xs between) i ≡ from_closed r bs role xs (i + 1)
 quote_closes r role xs bs i u at lt e =
     byte_moves r (string role xs between) bs i 34 u at lt e (omega arith)
     ∙ ap (λ k. outcome_on (closed_string r role xs (left_at bs k)) (λ p. from r bs p (i + 1)) (chars (drop k bs)))
@@ -55,8 +54,7 @@ no_quote r role xs c left h no34 no92 =
 
 pub string_stops : (r : Reading) (role : Role) (xs bs : List ℕ) (i : ℕ) → IsUtf8 bs → IsCharBoundary bs i
     → (i < length bs → is_plain (get_or bs i 0) ≡ false) → (i < length bs → get_or bs i 0 ≡ 92 → ⊥)
-    → ((i < length bs) × (get_or bs i 0 ≡ 34) → ⊥)
-    → from r bs (string role xs between) i ≡ stopped (chars (drop i bs))
+    → ((i < length bs) × (get_or bs i 0 ≡ 34) → ⊥) → from r bs (string role xs between) i ≡ stopped (chars (drop i bs))
 string_stops r role xs bs i u at no_plain no_escape no_end =
     byte_stops r (string role xs between) bs i u at refl (λ c b.
     let plain : is_plain (get_or bs i 0) ≡ false = no_plain b.within in

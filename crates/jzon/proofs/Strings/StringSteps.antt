@@ -74,8 +74,7 @@ pub record Expects (r : Reading) (p : Place) (b : ℕ) (q : Place) : Type 0 wher
 
 -- that character is there
 pub expected_byte : (r : Reading) (p q : Place) (bs : List ℕ) (i b : ℕ) → Expects r p b q → IsUtf8 bs
-    → IsCharBoundary bs i → i < length bs → get_or bs i 0 ≡ b
-    → from r bs p i ≡ from r bs q (i + 1)
+    → IsCharBoundary bs i → i < length bs → get_or bs i 0 ≡ b → from r bs p i ≡ from r bs q (i + 1)
 expected_byte r p q bs i b h u at lt e =
     byte_moves r p bs i b u at lt e h.ascii
     ∙ ap (λ m. outcome_on m (λ z. from r bs z (i + 1)) (chars (drop i bs)))
@@ -83,8 +82,7 @@ expected_byte r p q bs i b h u at lt e =
 
 -- another one is, or none
 pub unexpected_byte : (r : Reading) (p q : Place) (bs : List ℕ) (i b : ℕ) → Expects r p b q → IsUtf8 bs
-    → IsCharBoundary bs i
-    → ((i < length bs) × (get_or bs i 0 ≡ b) → ⊥) → from r bs p i ≡ stopped (chars (drop i bs))
+    → IsCharBoundary bs i → ((i < length bs) × (get_or bs i 0 ≡ b) → ⊥) → from r bs p i ≡ stopped (chars (drop i bs))
 unexpected_byte r p q bs i b h u at none =
     byte_stops r p bs i u at h.unfinished (λ c here. h.moves c (left_at bs i)
     ∙ ap (λ t. cond t (go None q) bad) (false_from_ne_true (c == b) (λ e.

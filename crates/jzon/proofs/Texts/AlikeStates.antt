@@ -371,8 +371,7 @@ alike_value_string r i j fs (second_slash u) bs c =
 alike_value_string r i j fs (second_code u n v) bs c =
     same_move i j None _ (value_string_tells r fs (second_code u n v) bs c 0)
 
-same_alike : (r : Reading) (i j c : ℕ) (p : Place) → Keyless p
-    → AlikeMove i j (move r p c (suc i)) (move r p c (suc j))
+same_alike : (r : Reading) (i j c : ℕ) (p : Place) → Keyless p → AlikeMove i j (move r p c (suc i)) (move r p c (suc j))
 same_alike r i j c (before fs) h = same_move i j (value_mark r fs) _ (before_tells r (class_of r.strict c) fs c)
 same_alike r i j c (before_key fs es) h = key_alike r i j (class_of r.strict c) fs es
 same_alike r i j c (word fs v l ls) h = same_move i j None _ (word_tells (c == l) fs v ls)

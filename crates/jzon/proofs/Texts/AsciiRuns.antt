@@ -70,8 +70,7 @@ behind_skips r fs v = record { ascii = space_is_ascii r.strict; stays = λ c n e
 
 -- what is left is the same behind a run of bytes that are passed over
 pub from_skip : (r : Reading) (p : Place) (test : ℕ → Bool) (bs : List ℕ) (i n : ℕ) → Skips r p test → IsUtf8 bs
-    → IsCharBoundary bs i
-    → n ≡ prefix_len test (drop i bs) → from r bs p i ≡ from r bs p (i + n)
+    → IsCharBoundary bs i → n ≡ prefix_len test (drop i bs) → from r bs p i ≡ from r bs p (i + n)
 unfolding from
 from_skip r p test bs i n h u at e =
     (skip_run r p test (drop i bs) h (IsUtf8-drop bs i u at)).same
@@ -91,8 +90,7 @@ pub within_run : (test : ℕ → Bool) (bs : List ℕ) (i n : ℕ) → i ≤ len
 within_run test bs i n le e = omega (arith, e, prefix_len-le-length test (drop i bs), length-drop i bs)
 
 pub boundary_skip : (r : Reading) (p : Place) (test : ℕ → Bool) (bs : List ℕ) (i n : ℕ) → Skips r p test → IsUtf8 bs
-    → IsCharBoundary bs i
-    → n ≡ prefix_len test (drop i bs) → IsCharBoundary bs (i + n)
+    → IsCharBoundary bs i → n ≡ prefix_len test (drop i bs) → IsCharBoundary bs (i + n)
 boundary_skip r p test bs i n h u at e =
     let k : IsUtf8 (drop (prefix_len test (drop i bs)) (drop i bs)) =
     (skip_run r p test (drop i bs) h (IsUtf8-drop bs i u at)).utf8 in

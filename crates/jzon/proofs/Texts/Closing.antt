@@ -81,9 +81,11 @@ module _ (r : Reading) where
 
   ends_after_key : (fs : Frames) (es : Entries) (k : List ℕ) → Ends (codes ":null}" ++ brackets fs) (after_key fs es k)
   ends_after_key fs es k =
-      let h = ends_behind fs (value.object (pairs_of (put k value.null es))) in
-      (h.0, rw (class-char r.strict colon) (rw (class-char r.strict begins_null)
-      (rw (class-char r.strict closes_object) h.1)))
+      let h = ends_behind fs (value.object (pairs_of (put k value.null es))) in (
+        h.0,
+        rw (class-char r.strict colon) (rw (class-char r.strict begins_null)
+            (rw (class-char r.strict closes_object) h.1)),
+      )
 
   -- ---- numbers
 

@@ -15,8 +15,7 @@ utf8_of t = IsUtf8-had _ t.utf8
 
 -- after a token that the automaton reads so
 pub token_goes : (t u : Cursor) (p q : Place) (end : ℕ) → IsPast t.reading t.source.now end u → t.index < end
-    → allows_whitespace q ≡ true
-    → left t p ≡ from t.reading t.source.now q end → IsBehind t u × (left t p ≡ left u q)
+    → allows_whitespace q ≡ true → left t p ≡ from t.reading t.source.now q end → IsBehind t u × (left t p ≡ left u q)
 token_goes t u p q end past lt allows e =
     (record { text = past.text; reading = past.reading; index = omega (arith, past.within) }, e ∙ past.same q allows)
 
@@ -48,25 +47,21 @@ goes_behind t m u o p q h k = (
 )
 
 pub told_on : (t m : Cursor) (o p : Place) (e : Error) → Reached t o m p
-    → TellsUnlessMemory (chars m.source.now) e (left m p)
-    → TellsUnlessMemory (chars t.source.now) e (left t o)
+    → TellsUnlessMemory (chars m.source.now) e (left m p) → TellsUnlessMemory (chars t.source.now) e (left t o)
 told_on t m o p e h k = told_again (chars t.source.now) e _ _ h.same
     (subst (λ bs. TellsUnlessMemory (chars bs) e (left m p)) h.text k)
 
 pub goes_on : {A : Type 0} (t m u : Cursor) (o p : Place) (result : Result A Error) (next : A → Place) → Reached t o m p
-    → GoesOn m p result u next
-    → GoesOn t o result u next
+    → GoesOn m p result u next → GoesOn t o result u next
 goes_on t m u o p (Ok x) next h k = goes_behind t m u o p (next x) h k
 goes_on t m u o p (Err e) next h k = told_on t m o p e h k
 
 -- an error that is handed on
 pub fails_on : {A : Type 0} (t m u : Cursor) (o p : Place) (result : Result A Error) (next : A → Place) (e : Error)
-    → result ≡ Err e → Reached t o m p
-    → TellsUnlessMemory (chars m.source.now) e (left m p) → GoesOn t o result u next
+    → result ≡ Err e → Reached t o m p → TellsUnlessMemory (chars m.source.now) e (left m p) → GoesOn t o result u next
 fails_on t m u o p result next e is h k = subst (λ z. GoesOn t o z u next) (sym is) (told_on t m o p e h k)
 
 pub reads_from : (bytes : List ℕ) (o : Outcome) (m : Cursor) (p : Place) (result : Result JsonValue Error)
-    → m.source.now ≡ bytes → o ≡ left m p
-    → Reads (chars m.source.now) result (left m p) → Reads (chars bytes) result o
+    → m.source.now ≡ bytes → o ≡ left m p → Reads (chars m.source.now) result (left m p) → Reads (chars bytes) result o
 reads_from bytes o m p result text same k =
     subst (λ z. Reads (chars bytes) result z) (sym same) (subst (λ bs. Reads (chars bs) result (left m p)) text k)

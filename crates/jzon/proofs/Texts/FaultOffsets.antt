@@ -30,8 +30,7 @@ tells_behind f (x ∷ rest) c e =
     ∙ ap (λ z. UnexpectedCharacter (get_or (f ++ (x ∷ rest)) (length f) 0) (line z) (column z)) (sym prefix))
 
 pub tells_character : (bs : List ℕ) (i c l k : ℕ) → IsUtf8 bs → IsCharBoundary bs i
-    → slice_get (chars (drop i bs)) 0 ≡ Some c
-    → l ≡ line (chars (take i bs)) → k ≡ column (chars (take i bs))
+    → slice_get (chars (drop i bs)) 0 ≡ Some c → l ≡ line (chars (take i bs)) → k ≡ column (chars (take i bs))
     → Tells (chars bs) (UnexpectedCharacter c l k) (stopped (chars (drop i bs)))
 tells_character bs i c l k u at e el ek =
     let split = chars_split bs i u at in

@@ -26,8 +26,7 @@ told_again t e o p q h = subst (TellsUnlessMemory t e) (sym q) h
 
 -- the end of a text, where it may not end
 pub told_end : (r : Reading) (bs : List ℕ) (i : ℕ) (p : Place) (o : Outcome) → o ≡ from r bs p i → length bs ≤ i
-    → last p ≡ refused Fault.end []
-    → TellsUnlessMemory (chars bs) UnexpectedEndOfJson o
+    → last p ≡ refused Fault.end [] → TellsUnlessMemory (chars bs) UnexpectedEndOfJson o
 told_end r bs i p o q le h = told (chars bs) UnexpectedEndOfJson o (refused Fault.end []) (q ∙ from_end r bs i p le ∙ h)
     refl
 
@@ -44,8 +43,7 @@ stopped_leads t o p f (Ok v) q h = absurd h
 stopped_leads t o p f (Err e) q h = subst (Tells t e) (sym q) h
 
 pub stopped_told : {T : Type 0} (t : List ℕ) (o p : Outcome) (f : T → Outcome) (result : Result T Error) → o ≡ p
-    → MatchResult result (λ v. ⊥) (λ e. Tells t e p)
-    → MatchResult result (λ v. o ≡ f v) (λ e. TellsUnlessMemory t e o)
+    → MatchResult result (λ v. ⊥) (λ e. Tells t e p) → MatchResult result (λ v. o ≡ f v) (λ e. TellsUnlessMemory t e o)
 stopped_told t o p f (Ok v) q h = absurd h
 stopped_told t o p f (Err e) q h = told t e o p q h
 
@@ -78,8 +76,7 @@ tells_no_memory t (meant v) h = h
 tells_no_memory t (refused f rest) h = error_at_memory t (length t - length rest) f h
 
 pub never_memory : {T : Type 0} (P : T → Type 0) (t : List ℕ) (o : Outcome) (result : Result T Error)
-    → MatchResult result P (λ e. Tells t e o)
-    → result ≢ Err OutOfMemory
+    → MatchResult result P (λ e. Tells t e o) → result ≢ Err OutOfMemory
 never_memory P t o (Ok v) h e = cc
 never_memory P t o (Err x) h e = let same : x ≡ OutOfMemory = cc in tells_no_memory t o
     (subst (λ z. Tells t z o) same h)

@@ -22,8 +22,7 @@ pub digit_is_ascii : (c : ℕ) → IsTrue (is_ascii_digit c) → c < 128
 digit_is_ascii c h = grind (arith, nat_tests)
 
 step_on : (r : Reading) (bs : List ℕ) (p q : Place) (c : ℕ) → IsUtf8 (c ∷ bs) → c < 128
-    → move r p c (length (c ∷ chars bs)) ≡ go None q
-    → outcome r (chars (c ∷ bs)) p ≡ outcome r (chars bs) q
+    → move r p c (length (c ∷ chars bs)) ≡ go None q → outcome r (chars (c ∷ bs)) p ≡ outcome r (chars bs) q
 step_on r bs p q c u lt e = ap (λ cs. outcome r cs p) (chars-ascii c bs u lt)
     ∙ ap (λ m. outcome_on m (λ x. outcome r (chars bs) x) (c ∷ chars bs)) e
 
@@ -47,15 +46,13 @@ pub record StopsAt (r : Reading) (p : Place) (bs : List ℕ) (i : ℕ) : Type 0 
   pub bad : (c : ℕ) → (c < 128 → (i < length bs) × (get_or bs i 0 ≡ c)) → move r p c (left_at bs i) ≡ bad
 
 pub stop_on : (r : Reading) (cs : List ℕ) (p : Place) → last p ≡ refused Fault.end []
-    → ((c : ℕ) (ds : List ℕ) → cs ≡ c ∷ ds → move r p c (length cs) ≡ bad)
-    → outcome r cs p ≡ stopped cs
+    → ((c : ℕ) (ds : List ℕ) → cs ≡ c ∷ ds → move r p c (length cs) ≡ bad) → outcome r cs p ≡ stopped cs
 stop_on r [] p e h = e
 stop_on r (c ∷ cs) p e h = ap (λ m. outcome_on m (λ q. outcome r cs q) (c ∷ cs)) (h c cs refl)
 
 -- the character that stands at an offset, where it is ASCII
 pub byte_there : (bs : List ℕ) (i c : ℕ) (cs : List ℕ) → IsUtf8 bs → IsCharBoundary bs i → chars (drop i bs) ≡ c ∷ cs
-    → c < 128
-    → (i < length bs) × (get_or bs i 0 ≡ c)
+    → c < 128 → (i < length bs) × (get_or bs i 0 ≡ c)
 byte_there bs i c cs u at e lt =
     let w = IsUtf8-drop bs i u at in
     let some : 0 < length (drop i bs) = some_byte (drop i bs) c cs e in (
@@ -66,8 +63,7 @@ byte_there bs i c cs u at e lt =
 
 -- what holds of the byte that stands at an offset, and of each character past ASCII, holds of the character there
 pub by_character : (P : ℕ → Type 0) (bs : List ℕ) (i c : ℕ) → (i < length bs → P (get_or bs i 0))
-    → ((x : ℕ) → 128 ≤ x → P x)
-    → (c < 128 → (i < length bs) × (get_or bs i 0 ≡ c)) → P c
+    → ((x : ℕ) → 128 ≤ x → P x) → (c < 128 → (i < length bs) × (get_or bs i 0 ≡ c)) → P c
 by_character P bs i c here wide there = either (cases_lt c 128)
   where
     either : (c < 128) ⊎ (128 ≤ c) → P c
@@ -93,8 +89,7 @@ abbrev pub IsDeep : Move → Type 0
 IsDeep m = (f : Place → Outcome) (rest : List ℕ) → outcome_on m f rest ≡ refused (limit deep) rest
 
 deep_on : (r : Reading) (cs : List ℕ) (p : Place) → (cs ≡ [] → ⊥)
-    → ((c : ℕ) (ds : List ℕ) → cs ≡ c ∷ ds → IsDeep (move r p c (length cs)))
-    → outcome r cs p ≡ refused (limit deep) cs
+    → ((c : ℕ) (ds : List ℕ) → cs ≡ c ∷ ds → IsDeep (move r p c (length cs))) → outcome r cs p ≡ refused (limit deep) cs
 deep_on r [] p some h = absurd (some refl)
 deep_on r (c ∷ cs) p some h = h c cs refl (λ q. outcome r cs q) (c ∷ cs)
 
@@ -106,8 +101,7 @@ some_character bs i u at lt e =
     absurd (omega (arith, lt, length-drop i bs, ap length none))
 
 pub from_deep : (r : Reading) (bs : List ℕ) (i : ℕ) (p : Place) → IsUtf8 bs → IsCharBoundary bs i → i < length bs
-    → IsDeep (move r p (get_or bs i 0) (left_at bs i))
-    → ((c : ℕ) → 128 ≤ c → IsDeep (move r p c (left_at bs i)))
+    → IsDeep (move r p (get_or bs i 0) (left_at bs i)) → ((c : ℕ) → 128 ≤ c → IsDeep (move r p c (left_at bs i)))
     → from r bs p i ≡ refused (limit deep) (chars (drop i bs))
 unfolding from
 from_deep r bs i p u at lt here wide =

@@ -94,8 +94,7 @@ chars-sign unsigned k = refl
 chars-sign plus k = refl
 chars-sign minus k = refl
 
-chars-exponent : (x : Option Exponent) (k : List Cell)
-    → chars_of (exponent_cells x k) ≡ exponent_chars x (chars_of k)
+chars-exponent : (x : Option Exponent) (k : List Cell) → chars_of (exponent_cells x k) ≡ exponent_chars x (chars_of k)
 chars-exponent None k = refl
 chars-exponent (Some e) k = ap (λ z. e.letter ∷ z)
     (chars-sign e.sign (plain e.digits k) ∙ ap (sign_chars e.sign) (chars-plain e.digits k))

@@ -75,8 +75,7 @@ breaks r f c left p s b d reached e h =
     mark_at r f (cell c n.mark) n.cells_left d n.split ∙ ap Some g.1
 
 all_break : (r : Reading) (f u : List ℕ) (c left : ℕ) (p s : Place) (b : Breach) → Reaches r f (suc left) p
-    → move r p c (suc left) ≡ go (Some b) s
-    → AllBreakAt r (take (suc (length f)) (f ++ (c ∷ u))) b (length f)
+    → move r p c (suc left) ≡ go (Some b) s → AllBreakAt r (take (suc (length f)) (f ++ (c ∷ u))) b (length f)
 all_break r f u c left p s b reached e d h =
     breaks r f c left p s b d reached e (subst (λ z. Completes r z d) (take_next f u c) h)
 
