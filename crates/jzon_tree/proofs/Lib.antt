@@ -8,8 +8,7 @@ pub mod Ordered
 pub mod Plain
 pub mod PrintedUtf8
 pub mod Consumed
-pub mod Nesting
-pub mod NoNan
+pub mod Inspected
 pub mod PairKeys
 mod Rows
 pub mod Seen

@@ -12,6 +12,7 @@ pub mod SortedStyleLaws
 pub mod Printing
 pub mod Generators
 pub mod Lawful
+pub mod Inspected
 pub mod Measure
 pub mod Entries
 pub mod IntoIter

@@ -10,8 +10,8 @@ ghost use Rattle.jzon_tree.specs.Value.{nest};
 ghost use Rattle.jzon_tree.specs.View.{view};
 ghost use Rattle.jzon_tree.specs.Writing.{Writes};
 
+use crate::codegen::inspect::inspect;
 use crate::codegen::memory::{DumpGenerator, PrettyGenerator};
-use crate::codegen::nesting::refusal;
 use crate::codegen::write::write_json;
 use crate::codegen::writer::{PrettyWriterGenerator, WriterGenerator};
 use crate::value::JsonValue;
@@ -38,7 +38,7 @@ impl JsonValue {
         let mut generator = DumpGenerator::new(alloc);
         match write_json(&mut generator, self) {
             Ok(()) => Ok(generator.into_text()),
-            Err(_) => Err(refusal(self)),
+            Err(_) => Err(inspect(self).refusal()),
         }
     }
 
@@ -54,7 +54,7 @@ impl JsonValue {
         let mut generator = PrettyGenerator::new(alloc, spaces);
         match write_json(&mut generator, self) {
             Ok(()) => Ok(generator.into_text()),
-            Err(_) => Err(refusal(self)),
+            Err(_) => Err(inspect(self).refusal()),
         }
     }
 

@@ -8,8 +8,8 @@ ghost use Rattle.jzon_tree.specs.Value.{nest};
 ghost use Rattle.jzon_tree.specs.View.{view_object};
 ghost use Rattle.jzon_tree.specs.Writing.{Writes};
 
+use crate::codegen::inspect::inspect_object;
 use crate::codegen::memory::{DumpGenerator, PrettyGenerator};
-use crate::codegen::nesting::refusal_of_object;
 use crate::codegen::write::write_object;
 use crate::object::Object;
 use jzon_base::error::{Error, Result};
@@ -27,7 +27,7 @@ impl Object {
         let mut generator = DumpGenerator::new(alloc);
         match write_object(&mut generator, self) {
             Ok(()) => Ok(generator.into_text()),
-            Err(_) => Err(refusal_of_object(self)),
+            Err(_) => Err(inspect_object(self).refusal()),
         }
     }
 
@@ -43,7 +43,7 @@ impl Object {
         let mut generator = PrettyGenerator::new(alloc, spaces);
         match write_object(&mut generator, self) {
             Ok(()) => Ok(generator.into_text()),
-            Err(_) => Err(refusal_of_object(self)),
+            Err(_) => Err(inspect_object(self).refusal()),
         }
     }
 }

@@ -12,7 +12,7 @@ ghost use Rattle.jzon_tree.specs.Writing.{Writes};
 
 use crate::codegen::fault::{Fault, Step, Stopped, laid_aside};
 use crate::codegen::generator::Generator;
-use crate::codegen::visit::{see_number, visit_object, visit_value};
+use crate::codegen::inspect::{inspect, inspect_object, see_number};
 use crate::object::Object;
 use crate::value::JsonValue;
 use std::io;
@@ -30,7 +30,7 @@ pub fn write_json<G: Generator>(g: &mut G, json: &JsonValue) -> io::Result<()>
     match write_value(g, json, &mut fault) {
         Ok(()) => Ok(()),
         Err(Stopped) => {
-            visit_value(json);
+            let _found = inspect(json);
             Err(laid_aside(fault))
         }
     }
@@ -46,7 +46,7 @@ pub fn write_object<G: Generator>(g: &mut G, object: &Object) -> io::Result<()>
     match write_pairs(g, object, &mut fault) {
         Ok(()) => Ok(()),
         Err(Stopped) => {
-            visit_object(object);
+            let _found = inspect_object(object);
             Err(laid_aside(fault))
         }
     }

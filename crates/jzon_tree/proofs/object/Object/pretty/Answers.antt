@@ -24,3 +24,9 @@ returns-in-Ok-clause-text c = c.into_text.ensures ∙ (printed c).1
 pub returns-in-Ok-clause-writing : goal.returns-in-Ok-clause-writing
 returns-in-Ok-clause-writing c = subst (Writes (pretty_style c.args.spaces) 0 (view_object c.args.self.now))
     (sym c.into_text.ensures) (printed c).2
+
+pub returns-in-Err-clause-memory : goal.returns-in-Err-clause-memory
+returns-in-Err-clause-memory c = c.refusal.ensures.memory (view_object c.args.self.now) c.inspect_object.ensures
+
+pub returns-in-Err-clause-depth : goal.returns-in-Err-clause-depth
+returns-in-Err-clause-depth c = c.refusal.ensures.depth (view_object c.args.self.now) c.inspect_object.ensures

@@ -1,0 +1,130 @@
+-- What a walk finds of a container, one item after the other.
+use Rattle.std.proofs.Common.{◌≡◌, ℕ, zero, suc, ◌+◌, ◌-◌, ◌<◌, ◌≤◌, ◌^◌, List, [], ◌∷◌, ◌++◌, map, take, Some, add-one}
+use Rattle.std.proofs.Common.{Bool, true, false, refl, sym, ap, ◌∙◌, arith, subst}
+use Rattle.std.specs.Prelude.{slice_get, max, min, ◌||◌, ◌↔◌}
+use Rattle.std.proofs.Math.Nat.{max-le, le-max_left, le-max_right}
+use Rattle.jzon_tree.specs.Inspected.{IsInspected}
+use Rattle.jzon_tree.specs.Lawful.{IsValue, AreValues, ArePairs, HasNoNan, HaveNoNan, PairsHaveNoNan}
+use Rattle.jzon_tree.specs.Value.{Value, Values, array, object, nest, most_nest, most_nest_under, values_of, pairs_of}
+use Rattle.jzon_tree.specs.View.{view, viewed}
+use Rattle.jzon_tree.specs.declared.value.JsonValue.{JsonValue}
+
+abbrev end : List Value → Value → Values
+end vs v = values_of (vs ++ v ∷ [])
+
+values_more : (vs : List Value) (v : Value) → AreValues (values_of vs) → IsValue v → AreValues (end vs v)
+values_more [] v h k = (k, tt)
+values_more (w ∷ vs) v h k = (h.0, values_more vs v h.1 k)
+
+nan_more : (vs : List Value) (v : Value) → HaveNoNan (values_of vs) → HasNoNan v → HaveNoNan (end vs v)
+nan_more [] v h k = (k, tt)
+nan_more (w ∷ vs) v h k = (h.0, nan_more vs v h.1 k)
+
+nan_parts : (vs : List Value) (v : Value) → HaveNoNan (end vs v) → HaveNoNan (values_of vs) × HasNoNan v
+nan_parts [] v h = (tt, h.0)
+nan_parts (w ∷ vs) v h = ((h.0, (nan_parts vs v h.1).0), (nan_parts vs v h.1).1)
+
+most_more : (vs : List Value) (v : Value) (r : ℕ) → most_nest (values_of vs) ≤ r → nest v ≤ r → most_nest (end vs v) ≤ r
+most_more [] v r h k = max-le k (omega arith)
+most_more (w ∷ vs) v r h k = max-le (omega (arith, le-max_left (nest w) (most_nest (values_of vs)), h))
+    (most_more vs v r (omega (arith, le-max_right (nest w) (most_nest (values_of vs)), h)) k)
+
+most_start : (vs : List Value) (v : Value) → most_nest (values_of vs) ≤ most_nest (end vs v)
+most_start [] v = omega arith
+most_start (w ∷ vs) v = max-le (le-max_left (nest w) (most_nest (end vs v)))
+    (omega (arith, most_start vs v, le-max_right (nest w) (most_nest (end vs v))))
+
+most_last : (vs : List Value) (v : Value) → nest v ≤ most_nest (end vs v)
+most_last [] v = le-max_left (nest v) 0
+most_last (w ∷ vs) v = omega (arith, most_last vs v, le-max_right (nest w) (most_nest (end vs v)))
+
+nest_more : (vs : List Value) (v : Value) (r : ℕ) → nest (array (values_of vs)) ≤ r → nest v < r
+    → nest (array (end vs v)) ≤ r
+nest_more vs v zero h k = absurd (omega arith)
+nest_more [] v (suc r) h k = omega (arith, most_more [] v r (omega arith) (omega (arith, k)))
+nest_more (w ∷ vs) v (suc r) h k = omega (arith, most_more (w ∷ vs) v r (omega (arith, h)) (omega (arith, k)))
+
+nest_parts : (vs : List Value) (v : Value) (r : ℕ) → nest (array (end vs v)) ≤ r
+    → (nest (array (values_of vs)) ≤ r) × (nest v < r)
+nest_parts [] v r h = (omega arith, omega (arith, h, most_last [] v))
+nest_parts (w ∷ vs) v r h = (omega (arith, h, most_start (w ∷ vs) v), omega (arith, h, most_last (w ∷ vs) v))
+
+neither : (a b : Bool) → (a || b) ≡ false → (a ≡ false) × (b ≡ false)
+neither false b h = (refl, h)
+neither true b h = absurd (cc h)
+
+none : (a b : Bool) → a ≡ false → b ≡ false → (a || b) ≡ false
+none a b h k = rw (h, k) refl
+
+-- one more, unless it is the greatest
+below : (n r : ℕ) → r < 2 ^ 128 - 1 → min (n + 1) (2 ^ 128 - 1) ≤ r → n < r
+below n r h k = omega (arith, h, k)
+
+below_back : (n r : ℕ) → n < r → min (n + 1) (2 ^ 128 - 1) ≤ r
+below_back n r h = omega (arith, h)
+
+pub inspected_more : (vs : List Value) (v : Value) (a b : Bool) (m n : ℕ) → IsInspected (array (values_of vs)) a m
+    → IsInspected v b n → IsInspected (array (end vs v)) (a || b) (max m (min (n + 1) (2 ^ 128 - 1)))
+inspected_more vs v a b m n h k = record {
+  value = values_more vs v h.value k.value;
+  without = λ e. nan_more vs v (h.without (neither a b e).0) (k.without (neither a b e).1);
+  free = λ e. none a b (h.free (nan_parts vs v e).0) (k.free (nan_parts vs v e).1);
+  within = λ r l e. nest_more vs v r (h.within r l (omega (arith, e, le-max_left m (min (n + 1) (2 ^ 128 - 1)))))
+      (omega (
+        arith,
+        k.within (r - 1) (omega (arith, l)) (omega (
+          arith,
+          below n r l (omega
+              (arith, e, le-max_right m (min (n + 1) (2 ^ 128 - 1)))),
+        )),
+      ));
+  reached = λ r l e. max-le (h.reached r l (nest_parts vs v r e).0)
+      (below_back n r (omega (
+        arith,
+        k.reached (r - 1) (omega (arith, l)) (omega (arith, (nest_parts vs v r e).1)),
+        (nest_parts vs v r e).1,
+      )));
+}
+
+-- a value without parts
+pub inspected_plain : (v : Value) → IsValue v → HasNoNan v → nest v ≡ 0 → IsInspected v false 0
+inspected_plain v h k e = record {
+  value = h;
+  without = λ f. k;
+  free = λ f. refl;
+  within = λ r l f. rw e f;
+  reached = λ r l f. omega arith;
+}
+
+-- ---- the values of pairs
+abbrev pub inside : List (List ℕ × JsonValue) → List Value
+inside ps = map (λ p. view p.1) ps
+
+pub inside_more : (ps : List (List ℕ × JsonValue)) (i : ℕ) (k : List ℕ) (v : JsonValue) → slice_get ps i ≡ Some (k, v)
+    → inside (take (i + 1) ps) ≡ inside (take i ps) ++ view v ∷ []
+inside_more [] i k v e = absurd (cc e)
+inside_more (p ∷ ps) zero k v e = let same : p ≡ (k, v) = cc e in ap (λ (q : List ℕ × JsonValue). view q.1 ∷ []) same
+inside_more (p ∷ ps) (suc i) k v e = rw (add-one (suc i)) (ap (λ ws. view p.1 ∷ ws)
+    (rw (add-one i) at (inside_more ps i k v e)))
+
+nan_under : (ps : List (List ℕ × JsonValue)) → PairsHaveNoNan (pairs_of (viewed ps)) ↔ HaveNoNan (values_of (inside ps))
+nan_under [] = (λ h. h, λ h. h)
+nan_under (p ∷ ps) = (λ h. (h.0, (nan_under ps).0 h.1), λ h. (h.0, (nan_under ps).1 h.1))
+
+most_under : (ps : List (List ℕ × JsonValue)) → most_nest_under (pairs_of (viewed ps)) ≡ most_nest (values_of (inside ps))
+most_under [] = refl
+most_under (p ∷ ps) = ap (max (nest (view p.1))) (most_under ps)
+
+nest_under : (ps : List (List ℕ × JsonValue)) → nest (object (pairs_of (viewed ps))) ≡ nest (array (values_of (inside ps)))
+nest_under [] = refl
+nest_under (p ∷ ps) = ap suc (most_under (p ∷ ps))
+
+pub inspected_object : (ps : List (List ℕ × JsonValue)) (a : Bool) (n : ℕ) → IsValue (object (pairs_of (viewed ps)))
+    → IsInspected (array (values_of (inside ps))) a n → IsInspected (object (pairs_of (viewed ps))) a n
+inspected_object ps a n h k = record {
+  value = h;
+  without = λ e. (nan_under ps).1 (k.without e);
+  free = λ e. k.free ((nan_under ps).0 e);
+  within = λ r l e. rw (nest_under ps) (k.within r l e);
+  reached = λ r l e. k.reached r l (rw (nest_under ps) at e);
+}

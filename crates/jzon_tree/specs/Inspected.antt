@@ -1,0 +1,12 @@
+-- What a walk over a value found.
+use Rattle.std.specs.Prelude.{◌≡◌, ℕ, ◌-◌, ◌<◌, ◌≤◌, ◌^◌, ◌↔◌, Bool, false}
+use Rattle.jzon_tree.specs.Lawful.{IsValue, HasNoNan}
+use Rattle.jzon_tree.specs.Value.{Value, nest}
+
+-- It is a value, a NaN is inside or none is, and so many non-empty containers nest, or the greatest u128 stands for more.
+pub record IsInspected (v : Value) (has_nan : Bool) (deep : ℕ) : Type 0 where
+  pub value : IsValue v
+  pub without : has_nan ≡ false → HasNoNan v
+  pub free : HasNoNan v → has_nan ≡ false
+  pub within : (room : ℕ) → room < 2 ^ 128 - 1 → deep ≤ room → nest v ≤ room
+  pub reached : (room : ℕ) → room < 2 ^ 128 - 1 → nest v ≤ room → deep ≤ room
