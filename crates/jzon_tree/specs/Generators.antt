@@ -1,5 +1,5 @@
 -- What stands behind each of the four generators.
-use Rattle.std.specs.Prelude.{◌≡◌, ℕ, Bool, List, Option, Some, None, Result, MatchResult, IsUtf8, string_bytes}
+use Rattle.std.specs.Prelude.{◌≡◌, ℕ, List, Option, Some, None, Result, MatchResult, IsUtf8, string_bytes}
 use Rattle.std.specs.Borrow.{GName}
 use Rattle.std.specs.declared.string.String.{String}
 use Rattle.std.specs.declared.alloc.Global.{Global}
@@ -8,7 +8,6 @@ use Rattle.std.proofs.Common.{ap, ◌∙◌}
 use Rattle.jzon_base.specs.declared.error.Error.{Error}
 use Rattle.jzon_base.specs.declared.error.Error.TheVariants.{FailedUtf8Parsing}
 use Rattle.jzon_tree.specs.Generator.{Emitted}
-use Rattle.jzon_tree.specs.Styles.{layout_style}
 use Rattle.jzon_tree.specs.Writing.{Style}
 use Rattle.jzon_tree.specs.declared.codegen.outlet.Memory.{Memory}
 use Rattle.jzon_tree.specs.declared.codegen.text.TextGenerator.{TextGenerator}
@@ -17,19 +16,19 @@ use Rattle.jzon_tree.specs.declared.codegen.text.TextGenerator.{TextGenerator}
 abbrev pub fresh : Option (List ℕ) → Style → Option GName → Emitted
 fresh out style lender = record { out = out; dent = 0; faults = 0; style = style; lender = lender }
 
--- what stands behind a generator over an outlet, of which the bytes and the reference are known
-abbrev pub text_meaning : {O T : Type 0} {n : ℕ} → (O → Option (List ℕ)) → (O → Option GName) → Bool
-    → TextGenerator O n T → Emitted
-text_meaning out lender lines g = record {
+-- what stands behind a generator over an outlet in a layout, of which the bytes, the reference and the style are known
+abbrev pub text_meaning : {O L T : Type 0} → (O → Option (List ℕ)) → (O → Option GName) → (L → Style)
+    → TextGenerator O L T → Emitted
+text_meaning out lender style g = record {
   out = out g.outlet;
   dent = g.dent;
   faults = g.faults;
-  style = layout_style lines g.spaces;
+  style = style g.layout;
   lender = lender g.outlet;
 }
 
 -- the generator with this writer in its outlet
-abbrev pub with_writer_in : {O T : Type 0} {n : ℕ} → (O → T → O) → TextGenerator O n T → T → TextGenerator O n T
+abbrev pub with_writer_in : {O L T : Type 0} → (O → T → O) → TextGenerator O L T → T → TextGenerator O L T
 with_writer_in with_writer g w = record g { outlet = with_writer g.outlet w }
 
 -- memory of a generator's own: its bytes, and itself with others

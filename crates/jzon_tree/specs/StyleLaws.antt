@@ -12,7 +12,7 @@ use Rattle.std.proofs.Math.Nat.{ne_of_lt, add-suc, suc-add, add-zero, zero-add, 
 use Rattle.std.proofs.Math.Nat.{le-add_right, suc-le-suc_iff, le_of_suc-le-suc}
 use Rattle.std.proofs.Math.Numerals.{suc-eq-add-one}
 use Rattle.jzon_tree.specs.Generator.{insertion}
-use Rattle.jzon_tree.specs.Styles.{same_form, only, compact_style, pretty_style, layout_style}
+use Rattle.jzon_tree.specs.Styles.{same_form, only, compact_style, pretty_style}
 use Rattle.jzon_tree.specs.Text.{pretty_layout}
 use Rattle.jzon_tree.specs.Writing.{IsStyle, IsOrder, IsAllowedWhitespace, is_all_whitespace, any_style}
 
@@ -83,10 +83,6 @@ pretty_whitespace spaces dent = (
 pub IsStyle-pretty : (spaces : ℕ) → IsStyle (pretty_style spaces)
 IsStyle-pretty spaces =
     IsStyle-only (pretty_layout spaces).line true (λ dent. spaces_are_whitespace false (dent * spaces))
-
-pub IsStyle-layout : (lines : Bool) (spaces : ℕ) → IsStyle (layout_style lines spaces)
-IsStyle-layout true spaces = IsStyle-pretty spaces
-IsStyle-layout false spaces = IsStyle-compact
 
 -- the order of insertion
 pub insertion_allowed : (ks : List (List ℕ)) → bytes_eq (insertion (length ks)) (insertion (length ks)) ≡ true

@@ -1,5 +1,5 @@
 -- The styles of the generators.
-use Rattle.std.specs.Prelude.{ℕ, Bool, true, false, not, List, length}
+use Rattle.std.specs.Prelude.{ℕ, Bool, true, false, not, IsTrue, List, [], length, Option, Some, None}
 use Rattle.std.specs.Str.{bytes_eq}
 use Rattle.jzon_tree.specs.Generator.{insertion}
 use Rattle.jzon_tree.specs.Text.{compact_layout, pretty_layout}
@@ -25,10 +25,9 @@ compact_style = only compact_layout.line false
 abbrev pub pretty_style : ℕ → Style
 pretty_style spaces = only (pretty_layout spaces).line true
 
--- a layout with lines or without, and its style
-abbrev pub layout_line : Bool → ℕ → ℕ → List ℕ
-layout_line true spaces = (pretty_layout spaces).line
-layout_line false spaces = compact_layout.line
-
-abbrev pub layout_style : Bool → ℕ → Style
-layout_style lines spaces = only (layout_line lines spaces) lines
+-- A style allows no whitespace and a colon alone, or a newline and `spaces` spaces for each open indent and a space
+-- after each colon.
+abbrev pub LaysOut : Style → Option ℕ → Type 0
+LaysOut s None = ((dent : ℕ) → IsTrue (s.whitespace dent [])) × IsTrue (s.colon false)
+LaysOut s (Some spaces) =
+    ((dent : ℕ) → IsTrue (s.whitespace dent ((pretty_layout spaces).line dent))) × IsTrue (s.colon true)

@@ -4,6 +4,7 @@ mod display;
 mod fault;
 mod generator;
 mod inspect;
+mod layout;
 mod memory;
 mod outlet;
 mod print;
@@ -16,6 +17,8 @@ mod writer;
 pub use generator::Generator;
 #[doc(hidden)]
 pub use inspect::is_readable;
+pub use layout::{Compact, Layout, Pretty};
 pub use memory::{DumpGenerator, PrettyGenerator};
+pub use text::TextGenerator;
 pub use write::{write_json, write_object};
 pub use writer::{PrettyWriterGenerator, WriterGenerator};

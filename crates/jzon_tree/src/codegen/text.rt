@@ -1,37 +1,40 @@
 //! The one generator behind the four that print: into memory or to a writer, compact or with lines.
 
-ghost use Rattle.std.specs.Prelude.{◌≡◌, Ok, None};
-ghost use Rattle.jzon_tree.specs.Generator.{Counts};
+ghost use Rattle.std.specs.Prelude.{◌≡◌, [], Ok, None, IsTrue, MatchResult};
+ghost use Rattle.jzon_base.specs.PairList.{keys_of};
+ghost use Rattle.jzon_tree.specs.Entries.{entries_of};
+ghost use Rattle.jzon_tree.specs.Generator.{Added, Failed, Counts, Just, IsAnswer};
 ghost use Rattle.jzon_tree.specs.Generators.{text_meaning, with_writer_in, same_emitted};
-ghost use Rattle.jzon_tree.specs.StyleLaws.{IsStyle-layout};
 
 use crate::codegen::fault::{Fault, Step, taken_up};
 use crate::codegen::generator::Generator;
+use crate::codegen::layout::Layout;
 use crate::codegen::outlet::Outlet;
 use crate::codegen::send::{send, send_line, send_number, send_string};
 use crate::object::Object;
 use jzon_base::number::Number;
 use std::io;
+use std::io::ErrorKind;
 
-/// Writes text to its outlet: compact, or with lines of `spaces` spaces for each open indent. An object's pairs stand in the order of insertion.
+/// Writes text to its outlet in a layout.
 #[derive(Debug, Drop)]
-pub struct TextGenerator<O: Outlet, const LINES: bool> {
+pub struct TextGenerator<O: Outlet, L: Layout> {
     pub(super) outlet: O,
+    layout: L,
     dent: u64,
     faults: u64,
-    spaces: u16,
 }
 
-impl<O: Outlet, const LINES: bool> TextGenerator<O, LINES> {
-    /// Without an open indent and without a fault. A compact text has no use for `spaces`.
-    pub(super) fn over(outlet: O, spaces: u16) -> TextGenerator<O, LINES>
-        ensures { result ≡ record { outlet = outlet; dent = 0; faults = 0; spaces = spaces } }
+impl<O: Outlet, L: Layout> TextGenerator<O, L> {
+    /// Without an open indent and without a fault.
+    pub(super) fn over(outlet: O, layout: L) -> TextGenerator<O, L>
+        ensures { result ≡ record { outlet = outlet; layout = layout; dent = 0; faults = 0 } }
     {
         TextGenerator {
             outlet,
+            layout,
             dent: 0,
             faults: 0,
-            spaces,
         }
     }
 
@@ -39,8 +42,8 @@ impl<O: Outlet, const LINES: bool> TextGenerator<O, LINES> {
     #[inline(always)]
     fn count(&mut self, step: Step<()>) -> Step<()>
         ensures same { result ≡ step }
-        ensures faults { Counts step (text_meaning O.out O.lender LINES self.old)
-            (text_meaning O.out O.lender LINES self.new) }
+        ensures faults { Counts step (text_meaning O.out O.lender L.style self.old)
+            (text_meaning O.out O.lender L.style self.new) }
     {
         if step.is_err() {
             self.note_fault();
@@ -49,10 +52,10 @@ impl<O: Outlet, const LINES: bool> TextGenerator<O, LINES> {
     }
 }
 
-impl<O: Outlet, const LINES: bool> Generator for TextGenerator<O, LINES> {
+impl<O: Outlet, L: Layout> Generator for TextGenerator<O, L> {
     type T = O::T;
 
-    ghost meaning = { text_meaning O.out O.lender LINES };
+    ghost meaning = { text_meaning O.out O.lender L.style };
 
     ghost with_writer = { with_writer_in O.with_writer };
 
@@ -88,12 +91,24 @@ impl<O: Outlet, const LINES: bool> Generator for TextGenerator<O, LINES> {
         taken_up(step, fault)
     }
 
-    /// The order of insertion, always. Nothing of the generator changes.
-    fn order(&mut self, _object: &Object) -> io::Result<Option<Vec<usize>>>
-        ensures insertion { result ≡ Ok None }
-        ensures same { self.new ≡ self.old }
+    /// The order of the layout. Where that is the order of insertion, it is `None`, and nothing of the generator changes.
+    #[inline(always)]
+    fn order(&mut self, object: &Object) -> io::Result<Option<Vec<usize>>>
+        ensures answer { MatchResult result
+            (λ answer. Added (Just []) (text_meaning O.out O.lender L.style self.old)
+            (text_meaning O.out O.lender L.style self.new)
+            × IsAnswer (L.style self.old.layout) (keys_of (entries_of object.now)) answer)
+            (λ _. Failed (Just []) (text_meaning O.out O.lender L.style self.old)
+            (text_meaning O.out O.lender L.style self.new)) }
+        ensures insertion { IsTrue (L.keeps_order self.old.layout) → (result ≡ Ok None) × (self.new ≡ self.old) }
     {
-        Ok(None)
+        match self.layout.order(object) {
+            Ok(answer) => Ok(answer),
+            Err(_) => {
+                self.note_fault();
+                Err(io::Error::from(ErrorKind::OutOfMemory))
+            }
+        }
     }
 
     #[inline(always)]
@@ -110,7 +125,7 @@ impl<O: Outlet, const LINES: bool> Generator for TextGenerator<O, LINES> {
 
     #[inline(always)]
     fn try_write_min(&mut self, slice: &[u8], min: u8, fault: &mut Fault) -> Step<()> {
-        if LINES {
+        if self.layout.spaces().is_some() {
             self.try_write(slice, fault)
         } else {
             self.try_write_char(min, fault)
@@ -129,15 +144,15 @@ impl<O: Outlet, const LINES: bool> Generator for TextGenerator<O, LINES> {
 
     #[inline(always)]
     fn try_new_line(&mut self, fault: &mut Fault) -> Step<()> {
-        if !LINES {
+        let Some(spaces) = self.layout.spaces() else {
             return Ok(());
-        }
-        let spaces = self.dent as u128 * self.spaces as u128;
+        };
+        let spaces = self.dent as u128 * spaces as u128;
         let step = send_line(self.outlet.writer(), spaces, fault);
         self.count(step)
     }
 
     ghost writer_law = { λ g w. same_emitted (O.out_law g.outlet w) (O.lender_law g.outlet w) };
 
-    ghost style_law = { λ g. IsStyle-layout LINES g.spaces };
+    ghost style_law = { λ g. L.style_law g.layout };
 }

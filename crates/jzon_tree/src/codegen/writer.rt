@@ -5,15 +5,16 @@ ghost use Rattle.jzon_tree.specs.Generators.{fresh};
 ghost use Rattle.jzon_tree.specs.Styles.{compact_style, pretty_style};
 
 use crate::codegen::generator::Generator;
+use crate::codegen::layout::{Compact, Pretty};
 use crate::codegen::text::TextGenerator;
 use std::io::Write;
 
 /// Writes compact text to a writer: no whitespace, and a colon alone after a key. An object's pairs stand in the order of insertion.
-pub type WriterGenerator<'a, W> = TextGenerator<&'a mut W, false>;
+pub type WriterGenerator<'a, W> = TextGenerator<&'a mut W, Compact>;
 
 /// Writes text with a line for each item to a writer: a newline and `spaces` spaces for each open indent, and a space after each colon. An object's pairs stand
 /// in the order of insertion.
-pub type PrettyWriterGenerator<'a, W> = TextGenerator<&'a mut W, true>;
+pub type PrettyWriterGenerator<'a, W> = TextGenerator<&'a mut W, Pretty>;
 
 impl<'a, W: Write> WriterGenerator<'a, W> {
     /// A generator that goes on behind what the writer holds.
@@ -21,7 +22,7 @@ impl<'a, W: Write> WriterGenerator<'a, W> {
         ensures { ⟦<WriterGenerator<'a, W> as Generator>⟧.meaning result
             ≡ fresh (W.contents writer.old) compact_style (Some writer.entry.ghost_name) }
     {
-        TextGenerator::over(writer, 0)
+        TextGenerator::over(writer, Compact)
     }
 }
 
@@ -31,6 +32,6 @@ impl<'a, W: Write> PrettyWriterGenerator<'a, W> {
         ensures { ⟦<PrettyWriterGenerator<'a, W> as Generator>⟧.meaning result
             ≡ fresh (W.contents writer.old) (pretty_style spaces) (Some writer.entry.ghost_name) }
     {
-        TextGenerator::over(writer, spaces)
+        TextGenerator::over(writer, Pretty(spaces))
     }
 }

@@ -1,4 +1,4 @@
-use Rattle.std.proofs.Common.{lit<, refl, subst, sym, ◌∙◌}
+use Rattle.std.proofs.Common.{refl, subst, sym, ◌∙◌}
 use Rattle.jzon_tree.specs.Styles.{pretty_style}
 use Rattle.jzon_tree.specs.Text.{pretty}
 use Rattle.jzon_tree.specs.View.{view_object}
@@ -7,11 +7,9 @@ use Rattle.jzon_tree.proofs.Consumed.{IsPrinted, pretty_printed}
 use Rattle.jzon_tree.proofs.object.Object.pretty.Goals as goal
 
 pub into_text-requires : goal.into_text-requires
-into_text-requires c = (
-  lit< tt,
-  (pretty_printed c.args.spaces (view_object c.args.self.now) _ _ _
-      c.new-generator.ensures c.in-Ok.ensures.value c.in-Ok.ensures.written refl).0,
-)
+into_text-requires c =
+    (pretty_printed c.args.spaces (view_object c.args.self.now) _ _ _
+    c.new-generator.ensures c.in-Ok.ensures.value c.in-Ok.ensures.written refl).0
 
 printed : (c : goal.After-into_text) → IsPrinted (pretty (view_object c.args.self.now) c.args.spaces 0)
     (pretty_style c.args.spaces) (view_object c.args.self.now) c.write_object.new.g.outlet.bytes.items

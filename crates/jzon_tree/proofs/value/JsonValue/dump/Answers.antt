@@ -1,4 +1,4 @@
-use Rattle.std.proofs.Common.{lit<, refl, subst, sym, ◌∙◌}
+use Rattle.std.proofs.Common.{refl, subst, sym, ◌∙◌}
 use Rattle.jzon_tree.specs.Styles.{compact_style}
 use Rattle.jzon_tree.specs.Text.{compact}
 use Rattle.jzon_tree.specs.View.{view}
@@ -7,11 +7,9 @@ use Rattle.jzon_tree.proofs.Consumed.{IsPrinted, compact_printed}
 use Rattle.jzon_tree.proofs.value.JsonValue.dump.Goals as goal
 
 pub into_text-requires : goal.into_text-requires
-into_text-requires c = (
-  lit< tt,
-  (compact_printed (view c.args.self.now) _ _ _ c.new-generator.ensures
-      c.in-Ok.ensures.value c.in-Ok.ensures.written refl).0,
-)
+into_text-requires c =
+    (compact_printed (view c.args.self.now) _ _ _ c.new-generator.ensures
+    c.in-Ok.ensures.value c.in-Ok.ensures.written refl).0
 
 printed : (c : goal.After-into_text) → IsPrinted (compact (view c.args.self.now)) compact_style (view c.args.self.now)
     c.write_json.new.g.outlet.bytes.items

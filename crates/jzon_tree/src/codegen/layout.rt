@@ -1,0 +1,77 @@
+//! Layouts: the whitespace of a text, and the order of an object's entries.
+
+ghost use Rattle.std.specs.Prelude.{◌≡◌, Bool, true, false, IsTrue, IfOk, Ok, None};
+ghost use Rattle.jzon_base.specs.PairList.{keys_of};
+ghost use Rattle.jzon_tree.specs.Entries.{entries_of};
+ghost use Rattle.jzon_tree.specs.Generator.{IsAnswer};
+ghost use Rattle.jzon_tree.specs.StyleLaws.{IsStyle-compact, IsStyle-pretty};
+ghost use Rattle.jzon_tree.specs.Styles.{compact_style, pretty_style, LaysOut};
+ghost use Rattle.jzon_tree.specs.Writing.{Style, IsStyle};
+
+use crate::object::Object;
+use std::alloc::AllocError;
+
+/// The layout of the text that a `TextGenerator` writes.
+pub trait Layout {
+    // The style of its texts.
+    ghost style: { Self → Style };
+
+    // Whether `order` always returns `None`.
+    ghost keeps_order: { Self → Bool } = { λ _. false };
+
+    /// The number of spaces for each open indent, where each item has a line of its own and a space follows each colon; `None` for no whitespace at all.
+    fn spaces(&self) -> Option<u16>
+        ensures { LaysOut (style self.now) result };
+
+    /// The order of the object's entries, as their positions, each exactly once; `None` is the order of insertion.
+    fn order(&self, object: &Object) -> Result<Option<Vec<usize>>, AllocError>
+        ensures allowed { IfOk result (IsAnswer (style self.now) (keys_of (entries_of object.now))) }
+        ensures insertion { IsTrue (keeps_order self.now) → result ≡ Ok None };
+
+    // The style allows some whitespace, one form of the colon, and one order of distinct keys.
+    ghost style_law: { (l : Self) → IsStyle (style l) };
+}
+
+/// No whitespace, and a colon alone after a key. Entries are written in the order of insertion.
+#[derive(Debug, Drop)]
+pub struct Compact;
+
+impl Layout for Compact {
+    ghost style = { λ _. compact_style };
+
+    ghost keeps_order = { λ _. true };
+
+    #[inline(always)]
+    fn spaces(&self) -> Option<u16> {
+        None
+    }
+
+    #[inline(always)]
+    fn order(&self, _object: &Object) -> Result<Option<Vec<usize>>, AllocError> {
+        Ok(None)
+    }
+
+    ghost style_law = { λ _. IsStyle-compact };
+}
+
+/// A line for each item: a newline and this number of spaces for each open indent, and a space after each colon. Entries are written in the order of insertion.
+#[derive(Debug, Drop)]
+pub struct Pretty(pub u16);
+
+impl Layout for Pretty {
+    ghost style = { λ l. pretty_style l.0 };
+
+    ghost keeps_order = { λ _. true };
+
+    #[inline(always)]
+    fn spaces(&self) -> Option<u16> {
+        Some(self.0)
+    }
+
+    #[inline(always)]
+    fn order(&self, _object: &Object) -> Result<Option<Vec<usize>>, AllocError> {
+        Ok(None)
+    }
+
+    ghost style_law = { λ l. IsStyle-pretty l.0 };
+}
