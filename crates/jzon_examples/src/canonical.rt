@@ -1,4 +1,4 @@
-//! Canonical printer: a generator of one's own, which prints the pairs of each object in the order of their keys.
+//! Canonical printer: a layout of one's own, which prints the pairs of each object in the order of their keys.
 //!
 //! `sorted_style` allows that order alone, so the contract says that what is printed is sorted; and each writing is read as an equal value, in whatever style.
 
@@ -15,11 +15,10 @@ ghost use Rattle.jzon.specs.Value.{nest};
 ghost use Rattle.jzon.specs.View.{view};
 ghost use Rattle.jzon.specs.Writing.{Writes};
 
-use jzon::codegen::{Generator, write_json};
+use jzon::codegen::Layout;
 use jzon::object::Object;
-use jzon::{Error, JsonValue, Result};
+use jzon::{JsonValue, Result};
 use std::alloc::{AllocError, Global};
-use std::io;
 
 /// The canonical text of a value that was built: no whitespace, and the pairs of each object in the order of their keys.
 pub fn canonical(alloc: Global, value: &JsonValue) -> Result<String>
@@ -29,86 +28,28 @@ pub fn canonical(alloc: Global, value: &JsonValue) -> Result<String>
     ensures read { IfOk result (λ text. IsReadAs usual (string_bytes text)
         (λ again. IsTrue (same again (view value.now)))) }
 {
-    let mut generator = CanonicalGenerator {
-        alloc,
-        code: Vec::new(alloc),
-        dent: 0,
-        faults: 0,
-    };
-    let Ok(()) = write_json(&mut generator, value) else {
-        return Err(Error::OutOfMemory);
-    };
-    match String::from_utf8(generator.code) {
-        Ok(text) => Ok(text),
-        Err(_) => Err(Error::FailedUtf8Parsing),
-    }
+    value.lay_out(alloc, Sorted { alloc })
 }
 
-/// Compact text in memory, with sorted keys.
+/// No whitespace, and the pairs of each object in the order of their keys.
 #[derive(Drop)]
-pub struct CanonicalGenerator {
+pub struct Sorted {
     alloc: Global,
-    code: Vec<u8>,
-    dent: u64,
-    faults: u64,
 }
 
-impl Generator for CanonicalGenerator {
-    ghost use Rattle.std.specs.Prelude.{None, Some, refl};
+impl Layout for Sorted {
     ghost use Rattle.jzon.specs.SortedStyle.{sorted_style};
     ghost use Rattle.jzon.specs.SortedStyleLaws.{IsStyle-sorted};
 
-    type T = Vec<u8>;
+    ghost style = { λ _. sorted_style };
 
-    ghost meaning = { λ g. record {
-      out = Some g.code.items;
-      dent = g.dent;
-      faults = g.faults;
-      style = sorted_style;
-      lender = None;
-    } };
-
-    ghost with_writer = { λ g code. record g { code = code } };
-
-    fn get_writer(&mut self) -> &mut Vec<u8> {
-        &mut self.code
+    fn spaces(&self) -> Option<u16> {
+        None
     }
 
-    fn write_min(&mut self, _slice: &[u8], min: u8) -> io::Result<()> {
-        self.write_char(min)
+    fn order(&self, object: &Object) -> std::result::Result<Option<Vec<usize>>, AllocError> {
+        Ok(Some(sorted_positions(self.alloc, object)?))
     }
-
-    fn faults(&self) -> u64 {
-        self.faults
-    }
-
-    fn dent(&self) -> u64 {
-        self.dent
-    }
-
-    fn note_fault(&mut self) {
-        self.faults = self.faults.saturating_add(1);
-    }
-
-    fn set_dent(&mut self, dent: u64) {
-        self.dent = dent;
-    }
-
-    fn new_line(&mut self) -> io::Result<()> {
-        self.write(b"")
-    }
-
-    fn order(&mut self, object: &Object) -> io::Result<Option<Vec<usize>>> {
-        match sorted_positions(self.alloc, object) {
-            Ok(positions) => Ok(Some(positions)),
-            Err(_) => {
-                self.note_fault();
-                Err(io::Error::from(io::ErrorKind::OutOfMemory))
-            }
-        }
-    }
-
-    ghost writer_law = { λ _ _. refl };
 
     ghost style_law = { λ _. IsStyle-sorted };
 }

@@ -10,7 +10,7 @@ use Rattle.std.proofs.Math.Seq.{get_or-append_seam, take-append_seam}
 use Rattle.std.proofs.lemmas.Slice.Eq.{bytes_eq-Decides}
 use Rattle.jzon_base.specs.Written.{AppendsBeginning}
 use Rattle.jzon_base.specs.PairList.{keys_of}
-use Rattle.jzon_tree.specs.Generator.{Adds, Begins, Emitted, Prints, insertion}
+use Rattle.jzon_tree.specs.Generator.{Adds, Begins, Sends, Emitted, Prints, insertion}
 use Rattle.jzon_tree.specs.Generators.{fresh}
 use Rattle.jzon_tree.specs.Styles.{only, same_form}
 use Rattle.jzon_tree.specs.Text.{Layout, layout_text, more_values_text, more_pairs_text, quoted}
@@ -144,39 +144,49 @@ adds-beginning P bs (Some xs) (Some ys) f (x, e, (y, p)) =
           ∙ ap (λ w. xs ++ w) (rw whole at (sym (take-append_seam x y))),
     )
 
-lent_ok : (P : List ℕ → Type 0) (bs : List ℕ) → ((x : List ℕ) → P x → x ≡ bs)
-    → {W E : Type 0} (contents : W → Option (List ℕ)) (old new : Emitted) (r : Result (Unit {0}) E) (n m : GName)
-    (x now : W)
-    → Prints P old new r → old.lender ≡ Some n → new.lender ≡ Some m → (n ≡ m → x ≡ now) → new.out ≡ contents now
-    → OnOk r (Appends old.out (contents x) bs)
-lent_ok P bs unique contents old new (Ok u) n m x now h e f same out = let s : n
-    ≡ m = cc (e, f, h.lender) in rw (same s, sym out) (adds-appended P bs old.out new.out unique h.bytes)
-lent_ok P bs unique contents old new (Err u) n m x now h e f same out = tt
+sends_ok : (P : List ℕ → Type 0) (bs : List ℕ) {E : Type 0} (a b : Option (List ℕ)) (r : Result (Unit {0}) E)
+    → ((x : List ℕ) → P x → x ≡ bs) → Sends P a b r → OnOk r (Appends a b bs)
+sends_ok P bs a b (Ok u) unique h = adds-appended P bs a b unique h
+sends_ok P bs a b (Err u) unique h = tt
 
-lent_err : (P : List ℕ → Type 0) (bs : List ℕ) → ((x : List ℕ) → P x → x ≡ bs)
-    → {W E : Type 0} (contents : W → Option (List ℕ)) (old new : Emitted) (r : Result (Unit {0}) E) (n m : GName)
-    (x now : W)
+sends_err : (P : List ℕ → Type 0) (bs : List ℕ) {E : Type 0} (a b : Option (List ℕ)) (r : Result (Unit {0}) E)
+    → ((x : List ℕ) → P x → x ≡ bs) → Sends P a b r → OnErr r (AppendsBeginning a b bs)
+sends_err P bs a b (Ok u) unique h = tt
+sends_err P bs a b (Err u) unique h = adds-beginning P bs a b unique h
+
+lent : (P : List ℕ → Type 0) {W E : Type 0} (contents : W → Option (List ℕ)) (old new : Emitted)
+    (r : Result (Unit {0}) E) (n m : GName) (x now : W)
     → Prints P old new r → old.lender ≡ Some n → new.lender ≡ Some m → (n ≡ m → x ≡ now) → new.out ≡ contents now
-    → OnErr r (AppendsBeginning old.out (contents x) bs)
-lent_err P bs unique contents old new (Ok u) n m x now h e f same out = tt
-lent_err P bs unique contents old new (Err u) n m x now h e f same out = let s : n
-    ≡ m = cc (e, f, h.lender) in rw (same s, sym out) (adds-beginning P bs old.out new.out unique h.bytes)
+    → Sends P old.out (contents x) r
+lent P contents old new (Ok u) n m x now h e f same out = let s : n ≡ m = cc (e, f, h.lender) in
+    rw (same s, sym out) h.bytes
+lent P contents old new (Err u) n m x now h e f same out = let s : n ≡ m = cc (e, f, h.lender) in
+    rw (same s, sym out) h.bytes
 
 -- the same of a generator that began without an indent
+module _ (style : Style) (v : Value) {W E : Type 0} (contents : W → Option (List ℕ))
+    (old new : Emitted) (o : Option (List ℕ)) (l : Option GName) (r : Result (Unit {0}) E) (n m : GName) (x now : W)
+    (begun : old ≡ fresh o style l) (printed : Prints (Writes old.style old.dent v) old new r)
+    (e : old.lender ≡ Some n) (f : new.lender ≡ Some m) (same : n ≡ m → x ≡ now) (out : new.out ≡ contents now)
+  where
+    pub given_back : Sends (Writes style 0 v) o (contents x) r
+    given_back = subst (λ z. Sends (Writes style 0 v) z (contents x) r) (ap (λ z. z.out) begun)
+        (lent (Writes style 0 v) contents old new r n m x now
+        (subst (λ z. Prints (Writes z.style z.dent v) old new r) begun printed) e f same out)
+
+-- and of one whose style has one writing
 module _ (line : ℕ → List ℕ) (wide : Bool) (v : Value) {W E : Type 0} (contents : W → Option (List ℕ))
     (old new : Emitted) (o : Option (List ℕ)) (l : Option GName) (r : Result (Unit {0}) E) (n m : GName) (x now : W)
     (begun : old ≡ fresh o (only line wide) l) (printed : Prints (Writes old.style old.dent v) old new r)
     (e : old.lender ≡ Some n) (f : new.lender ≡ Some m) (same : n ≡ m → x ≡ now) (out : new.out ≡ contents now)
   where
-    outmost : Prints (Writes (only line wide) 0 v) old new r
-    outmost = subst (λ z. Prints (Writes z.style z.dent v) old new r) begun printed
+    sent : Sends (Writes (only line wide) 0 v) o (contents x) r
+    sent = given_back (only line wide) v contents old new o l r n m x now begun printed e f same out
 
     pub given_back_ok : OnOk r (Appends o (contents x) (layout_text (layout line wide) 0 v))
-    given_back_ok = subst (λ z. OnOk r (Appends z (contents x) (layout_text (layout line wide) 0 v)))
-        (ap (λ z. z.out) begun) (lent_ok (Writes (only line wide) 0 v) (layout_text (layout line wide) 0 v)
-        (written line wide 0 v) contents old new r n m x now outmost e f same out)
+    given_back_ok = sends_ok (Writes (only line wide) 0 v) (layout_text (layout line wide) 0 v) o (contents x) r
+        (written line wide 0 v) sent
 
     pub given_back_err : OnErr r (AppendsBeginning o (contents x) (layout_text (layout line wide) 0 v))
-    given_back_err = subst (λ z. OnErr r (AppendsBeginning z (contents x) (layout_text (layout line wide) 0 v)))
-        (ap (λ z. z.out) begun) (lent_err (Writes (only line wide) 0 v) (layout_text (layout line wide) 0 v)
-        (written line wide 0 v) contents old new r n m x now outmost e f same out)
+    given_back_err = sends_err (Writes (only line wide) 0 v) (layout_text (layout line wide) 0 v) o (contents x) r
+        (written line wide 0 v) sent

@@ -1,6 +1,6 @@
-//! Generators of a user's own.
+//! Layouts of a user's own, and the orders of generators.
 
-ghost use Rattle.std.specs.Prelude.{◌≡◌, length, true, IfOk, Some, None, refl};
+ghost use Rattle.std.specs.Prelude.{◌≡◌, length, true, IfOk};
 ghost use Rattle.jzon_base.specs.PairList.{keys_of};
 ghost use Rattle.jzon_tree.specs.Entries.{entries_of};
 ghost use Rattle.jzon_tree.specs.Generator.{insertion};
@@ -10,20 +10,17 @@ ghost use Rattle.jzon_tree.specs.Writing.{any_style, IsOrder};
 use crate::common::{Tested, expect_bytes};
 use jzon_test_support::{MOST, Refusals};
 use jzon_tree::codegen::{
-    DumpGenerator, Generator, PrettyGenerator, PrettyWriterGenerator, WriterGenerator, write_object,
+    DumpGenerator, Generator, Layout, PrettyGenerator, PrettyWriterGenerator, TextGenerator,
+    WriterGenerator, write_object,
 };
 use jzon_tree::object::Object;
 use jzon_tree::value::JsonValue;
 use std::alloc::{AllocError, Global};
-use std::io;
 
-/// A user's generator: the pairs of each object stand in the order of their keys.
+/// A user's layout: the entries of each object are in the order of their keys.
 #[derive(Drop)]
-struct SortingGenerator {
+struct Sorting {
     alloc: Global,
-    code: Vec<u8>,
-    dent: u64,
-    faults: u64,
 }
 
 fn key_at(object: &Object, position: usize) -> Option<&str> {
@@ -48,71 +45,18 @@ fn sorted_order(alloc: Global, object: &Object) -> Result<Vec<usize>, AllocError
     Ok(positions)
 }
 
-impl Generator for SortingGenerator {
-    type T = Vec<u8>;
+impl Layout for Sorting {
+    ghost style = { λ _. any_style };
 
-    ghost meaning = { λ g. record {
-      out = Some g.code.items;
-      dent = g.dent;
-      faults = g.faults;
-      style = any_style;
-      lender = None;
-    } };
-
-    ghost with_writer = { λ g code. record g { code = code } };
-
-    fn get_writer(&mut self) -> &mut Vec<u8> {
-        &mut self.code
+    fn spaces(&self) -> Option<u16> {
+        None
     }
 
-    fn write_min(&mut self, _slice: &[u8], min: u8) -> io::Result<()> {
-        self.write_char(min)
+    fn order(&self, object: &Object) -> Result<Option<Vec<usize>>, AllocError> {
+        Ok(Some(sorted_order(self.alloc, object)?))
     }
-
-    fn faults(&self) -> u64 {
-        self.faults
-    }
-
-    fn dent(&self) -> u64 {
-        self.dent
-    }
-
-    fn note_fault(&mut self) {
-        self.faults = self.faults.saturating_add(1);
-    }
-
-    fn set_dent(&mut self, dent: u64) {
-        self.dent = dent;
-    }
-
-    fn new_line(&mut self) -> io::Result<()> {
-        Ok(())
-    }
-
-    fn order(&mut self, object: &Object) -> io::Result<Option<Vec<usize>>> {
-        match sorted_order(self.alloc, object) {
-            Ok(positions) => Ok(Some(positions)),
-            Err(_) => {
-                self.note_fault();
-                Err(io::Error::from(io::ErrorKind::OutOfMemory))
-            }
-        }
-    }
-
-    ghost writer_law = { λ _ _. refl };
 
     ghost style_law = { λ _. IsStyle-any };
-}
-
-impl SortingGenerator {
-    fn new(alloc: Global) -> SortingGenerator {
-        SortingGenerator {
-            alloc,
-            code: Vec::new(alloc),
-            dent: 0,
-            faults: 0,
-        }
-    }
 }
 
 /// `{"c":null,"b":null,"a":null}`
@@ -132,19 +76,20 @@ fn sorting_under_refusals(rt: HostRuntime) -> Tested {
     let object = unsorted(rt.alloc())?;
     let mut refusals = Refusals::new(rt.alloc());
     for _ in 0..MOST {
-        let mut generator = SortingGenerator::new(rt.alloc());
+        let alloc = rt.alloc();
+        let mut generator = TextGenerator::in_memory(alloc, Sorting { alloc });
         refusals.begin();
         let answer = write_object(&mut generator, &object);
         if !refusals.was_refused() {
             assert!(rt; answer.is_ok());
-            expect_bytes(&rt, &generator.code, SORTED);
+            expect_bytes(&rt, generator.get_writer(), SORTED);
             break;
         }
         assert!(rt; answer.is_err());
-        assert_eq!(rt; generator.faults, 1);
-        assert!(rt; SORTED.as_bytes().starts_with(&generator.code));
+        assert_eq!(rt; generator.faults(), 1);
+        assert!(rt; SORTED.as_bytes().starts_with(generator.get_writer()));
     }
-    refusals.tell(&rt, "SortingGenerator", 2)?;
+    refusals.tell(&rt, "Sorting", 2)?;
     Ok(())
 }
 

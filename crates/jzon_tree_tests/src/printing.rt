@@ -4,7 +4,8 @@ use crate::common::{Tested, empty_containers, expect_bytes, numbers};
 use jzon_base::error::Error;
 use jzon_base::number::NAN;
 use jzon_tree::codegen::{
-    DumpGenerator, Generator, PrettyGenerator, PrettyWriterGenerator, WriterGenerator, write_json,
+    Compact, DumpGenerator, Generator, Layout, Pretty, PrettyGenerator, PrettyWriterGenerator,
+    WriterGenerator, write_json,
 };
 use jzon_tree::object::Object;
 use jzon_tree::value::JsonValue;
@@ -25,6 +26,21 @@ fn prettified(alloc: Global, value: &JsonValue, spaces: u16) -> Result<String, F
     Ok(generator.consume()?)
 }
 
+/// Both calls that print in a layout print this text of the value.
+fn expect_layout<L: Layout + Copy>(
+    rt: &impl Abort,
+    alloc: Global,
+    value: &JsonValue,
+    layout: L,
+    text: &str,
+) -> Tested {
+    let mut bytes = Vec::new(alloc);
+    value.write_layout(&mut bytes, layout)?;
+    expect_bytes(rt, &bytes, text);
+    assert_eq!(rt; value.lay_out(alloc, layout)?.as_str(), text);
+    Ok(())
+}
+
 /// Each call prints this compact text of the value.
 fn expect_compact(rt: &impl Abort, alloc: Global, value: &JsonValue, text: &str) -> Tested {
     assert_eq!(rt; value.dump(alloc)?.as_str(), text);
@@ -32,7 +48,7 @@ fn expect_compact(rt: &impl Abort, alloc: Global, value: &JsonValue, text: &str)
     let mut bytes = Vec::new(alloc);
     value.write(&mut bytes)?;
     expect_bytes(rt, &bytes, text);
-    Ok(())
+    expect_layout(rt, alloc, value, Compact, text)
 }
 
 /// Each call prints this text of the value, with so many spaces for each open container.
@@ -48,7 +64,7 @@ fn expect_pretty(
     let mut bytes = Vec::new(alloc);
     value.write_pretty(&mut bytes, spaces)?;
     expect_bytes(rt, &bytes, text);
-    Ok(())
+    expect_layout(rt, alloc, value, Pretty(spaces), text)
 }
 
 #[test]

@@ -22,19 +22,7 @@ use std::io::{ErrorKind, Write};
 /// exactly the hook's bytes. An `Err` adds a beginning of them, notes one fault (the greatest u64 stays), and leaves the open indents. Where the writer doesn't
 /// tell its bytes, nothing is said of bytes.
 ///
-/// A generator of one's own keeps its bytes, its open indents and its faults, and says which order an object's pairs have:
-///
-/// ```rust
-/// fn order(&mut self, object: &Object) -> io::Result<Option<Vec<usize>>> {
-///     match sorted_positions(self.alloc, object) {
-///         Ok(positions) => Ok(Some(positions)),
-///         Err(_) => {
-///             self.note_fault();
-///             Err(io::Error::from(io::ErrorKind::OutOfMemory))
-///         }
-///     }
-/// }
-/// ```
+/// A generator of one's own keeps its bytes, its open indents and its faults. Where only whitespace or the order of entries differ, a `Layout` is enough.
 pub trait Generator {
     /// The writer.
     type T: Write;

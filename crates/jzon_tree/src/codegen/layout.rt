@@ -1,4 +1,4 @@
-//! Layouts: the whitespace of a text, and the order of an object's entries.
+//! Layouts: the whitespace of a text, and the order of an object's entries (docs/RULES.md, "Layouts of one's own").
 
 ghost use Rattle.std.specs.Prelude.{◌≡◌, Bool, true, false, IsTrue, IfOk, Ok, None};
 ghost use Rattle.jzon_base.specs.PairList.{keys_of};
@@ -11,7 +11,17 @@ ghost use Rattle.jzon_tree.specs.Writing.{Style, IsStyle};
 use crate::object::Object;
 use std::alloc::AllocError;
 
-/// The layout of the text that a `TextGenerator` writes.
+/// The layout of the text that a `TextGenerator` writes. One of a user's own has a style and two methods:
+///
+/// ```rust
+/// fn spaces(&self) -> Option<u16> {
+///     None
+/// }
+///
+/// fn order(&self, object: &Object) -> std::result::Result<Option<Vec<usize>>, AllocError> {
+///     Ok(Some(sorted_positions(self.alloc, object)?))
+/// }
+/// ```
 pub trait Layout {
     // The style of its texts.
     ghost style: { Self → Style };
@@ -33,7 +43,7 @@ pub trait Layout {
 }
 
 /// No whitespace, and a colon alone after a key. Entries are written in the order of insertion.
-#[derive(Debug, Drop)]
+#[derive(Clone, Copy, Debug)]
 pub struct Compact;
 
 impl Layout for Compact {
@@ -55,7 +65,7 @@ impl Layout for Compact {
 }
 
 /// A line for each item: a newline and this number of spaces for each open indent, and a space after each colon. Entries are written in the order of insertion.
-#[derive(Debug, Drop)]
+#[derive(Clone, Copy, Debug)]
 pub struct Pretty(pub u16);
 
 impl Layout for Pretty {

@@ -3,6 +3,7 @@
 ghost use Rattle.std.specs.Prelude.{◌≡◌, ◌<◌, ◌≤◌, ◌^◌, OnOk, OnErr, IfOk, IsOkUnless, string_bytes};
 ghost use Rattle.std.specs.Io.KnownBytes.{Appends};
 ghost use Rattle.jzon_base.specs.Written.{AppendsBeginning};
+ghost use Rattle.jzon_tree.specs.Generator.{Sends};
 ghost use Rattle.jzon_tree.specs.Lawful.{IsValue};
 ghost use Rattle.jzon_tree.specs.Styles.{compact_style, pretty_style};
 ghost use Rattle.jzon_tree.specs.Text.{compact, pretty};
@@ -11,7 +12,9 @@ ghost use Rattle.jzon_tree.specs.View.{view};
 ghost use Rattle.jzon_tree.specs.Writing.{Writes};
 
 use crate::codegen::inspect::inspect;
+use crate::codegen::layout::Layout;
 use crate::codegen::memory::{DumpGenerator, PrettyGenerator};
+use crate::codegen::text::TextGenerator;
 use crate::codegen::write::write_json;
 use crate::codegen::writer::{PrettyWriterGenerator, WriterGenerator};
 use crate::value::JsonValue;
@@ -58,6 +61,18 @@ impl JsonValue {
         }
     }
 
+    /// The text of the value in a layout of the caller's. Fails as `dump`, and with `OutOfMemory` where the layout's `order` does.
+    pub fn lay_out<L: Layout + Drop>(&self, alloc: Global, layout: L) -> Result<String>
+        ensures writing { IfOk result (λ text. Writes (L.style layout) 0 (view self.now) (string_bytes text)) }
+        ensures value { IsValue (view self.now) }
+    {
+        let mut generator = TextGenerator::in_memory(alloc, layout);
+        match write_json(&mut generator, self) {
+            Ok(()) => generator.consume(),
+            Err(_) => Err(inspect(self).refusal()),
+        }
+    }
+
     /// Writes the compact text of the value, with no whitespace outside of its strings. It takes no memory of its own. After a fault of the writer, which is handed
     /// back, a beginning of the text is written.
     pub fn write<W: Write>(&self, writer: &mut W) -> io::Result<()>
@@ -80,6 +95,21 @@ impl JsonValue {
         ensures value { IsValue (view self.now) }
     {
         let mut generator = PrettyWriterGenerator::new(writer, spaces);
+        write_json(&mut generator, self)
+    }
+
+    /// Writes the text of the value in a layout of the caller's. It takes no memory of its own. An error is the writer's, or reports that the layout's `order` ran
+    /// out of memory; a prefix of the text is then written.
+    pub fn write_layout<W: Write, L: Layout + Drop>(
+        &self,
+        writer: &mut W,
+        layout: L,
+    ) -> io::Result<()>
+        ensures writing { Sends (Writes (L.style layout) 0 (view self.now))
+            (W.contents writer.old) (W.contents writer.new) result }
+        ensures value { IsValue (view self.now) }
+    {
+        let mut generator = TextGenerator::to_writer(writer, layout);
         write_json(&mut generator, self)
     }
 }

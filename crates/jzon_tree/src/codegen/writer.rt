@@ -5,7 +5,7 @@ ghost use Rattle.jzon_tree.specs.Generators.{fresh};
 ghost use Rattle.jzon_tree.specs.Styles.{compact_style, pretty_style};
 
 use crate::codegen::generator::Generator;
-use crate::codegen::layout::{Compact, Pretty};
+use crate::codegen::layout::{Compact, Layout, Pretty};
 use crate::codegen::text::TextGenerator;
 use std::io::Write;
 
@@ -22,7 +22,7 @@ impl<'a, W: Write> WriterGenerator<'a, W> {
         ensures { ⟦<WriterGenerator<'a, W> as Generator>⟧.meaning result
             ≡ fresh (W.contents writer.old) compact_style (Some writer.entry.ghost_name) }
     {
-        TextGenerator::over(writer, Compact)
+        TextGenerator::to_writer(writer, Compact)
     }
 }
 
@@ -32,6 +32,16 @@ impl<'a, W: Write> PrettyWriterGenerator<'a, W> {
         ensures { ⟦<PrettyWriterGenerator<'a, W> as Generator>⟧.meaning result
             ≡ fresh (W.contents writer.old) (pretty_style spaces) (Some writer.entry.ghost_name) }
     {
-        TextGenerator::over(writer, Pretty(spaces))
+        TextGenerator::to_writer(writer, Pretty(spaces))
+    }
+}
+
+impl<'a, W: Write, L: Layout> TextGenerator<&'a mut W, L> {
+    /// A generator of this layout that appends to what was written to the writer.
+    pub fn to_writer(writer: &'a mut W, layout: L) -> TextGenerator<&'a mut W, L>
+        ensures { ⟦<TextGenerator<&'a mut W, L> as Generator>⟧.meaning result
+            ≡ fresh (W.contents writer.old) (L.style layout) (Some writer.entry.ghost_name) }
+    {
+        TextGenerator::over(writer, layout)
     }
 }
