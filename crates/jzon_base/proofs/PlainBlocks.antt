@@ -1,10 +1,10 @@
 -- From the lanes of one block to the bytes that need no escape.
-use Rattle.std.proofs.Common.{◌≡◌, ℕ, ◌+◌, ◌-◌, ◌%◌, ◌^◌, ◌≤◌, ◌<◌, ltb, eqb, Bool, true, not, cond, List, [], ◌∷◌}
+use Rattle.std.proofs.Common.{◌≡◌, ℕ, ◌+◌, ◌-◌, ◌%◌, ◌^◌, ◌≤◌, ◌<◌, ltb, eqb, Bool, true, false, not, cond, List, [], ◌∷◌}
 use Rattle.std.proofs.Common.{length, take, drop, get_or, map, replicate, bit_or, Fits, w8, refl, sym, ap, ap₂, ◌∙◌}
-use Rattle.std.proofs.Common.{arith}
+use Rattle.std.proofs.Common.{zero, suc, zero-add, arith}
 use Rattle.std.specs.List.{prefix_len}
 use Rattle.std.proofs.lemmas.Bool.{agree_below, agree_below_at, cond-true, cond-false, eq-eqb, ne_eqb}
-use Rattle.std.proofs.lemmas.List.{drop-drop, length-drop, length-map, take-append-drop, take_rest}
+use Rattle.std.proofs.lemmas.List.{length-drop, length-map, take-append-drop, take_rest}
 use Rattle.std.proofs.lemmas.List.Sums.{prefix_len-le-length}
 use Rattle.std.proofs.lemmas.List.Folds.{prefix_len-append}
 use Rattle.std.proofs.lemmas.Simd.{chunk-fits, first_set_mask_l, length-chunk, map-map, mask_l-mod, zip2_of_maps}
@@ -94,24 +94,34 @@ prefix_passes d n r room counted whole =
     (arith, long, prefix_len-le-length is_plain (take n d)) in
     ap (λ (m : ℕ). m + prefix_len is_plain (drop n d)) (sym long) ∙ sym (split d n ∙ cond-true _ _ _ (eq-eqb _ _ same))
 
--- the same, with the rest of the bytes as the code lends it, and what was counted in it
-pub prefix_and_rest : (d : List ℕ) (n r s : ℕ) → n ≤ length d → r ≡ prefix_len is_plain (take n d) → n ≤ r
-    → s ≡ prefix_len is_plain (take (length d - n) (drop n d)) → n + s ≡ prefix_len is_plain d
-prefix_and_rest d n r s room counted whole rest =
-    ap (λ (m : ℕ). n + m) (rest ∙ ap (prefix_len is_plain) (take_rest d n)) ∙ prefix_passes d n r room counted whole
+-- ---- a run that is known up to an offset
+past-at : (b : Bool) (i n m : ℕ) → (i ≤ n → i + m ≡ n) → suc i ≤ cond b (1 + n) 0 → suc i + m ≡ cond b (1 + n) 0
+past-at true i n m later h = omega (arith, later (omega arith))
+past-at false i n m later h = absurd (omega arith)
 
--- the run from a place on, past a block there
+past : (p : ℕ → Bool) (d : List ℕ) (i : ℕ) → i ≤ prefix_len p d → i + prefix_len p (drop i d) ≡ prefix_len p d
+past p d zero h = zero-add (prefix_len p d)
+past p [] (suc i) h = absurd (omega arith)
+past p (x ∷ xs) (suc i) h = past-at (p x) i (prefix_len p xs) (prefix_len p (drop i xs)) (past p xs i) h
+
+-- it goes on past a block there
 pub passes_block : (d : List ℕ) (i n r : ℕ) → i + n ≤ length d → r ≡ prefix_len is_plain (chunk i n d) → n ≤ r
-    → prefix_len is_plain d ≡ i + prefix_len is_plain (drop i d)
-    → prefix_len is_plain d ≡ (i + n) + prefix_len is_plain (drop (i + n) d)
+    → i ≤ prefix_len is_plain d → i + n ≤ prefix_len is_plain d
 passes_block d i n r room counted whole before =
     let rest = prefix_passes (drop i d) n r (omega (arith, length-drop i d)) counted whole in
-    let joined = ap (prefix_len is_plain) (drop-drop n i d) in
-    omega (arith, rest, joined)
+    omega (arith, rest, past is_plain d i before)
 
--- and one that ends in that block
+-- it ends in that block
 pub ends_in_block : (d : List ℕ) (i n r : ℕ) → i + n ≤ length d → r ≡ prefix_len is_plain (chunk i n d) → r < n
-    → prefix_len is_plain d ≡ i + prefix_len is_plain (drop i d) → i + r ≡ prefix_len is_plain d
+    → i ≤ prefix_len is_plain d → i + r ≡ prefix_len is_plain d
 ends_in_block d i n r room counted short before =
     let rest = prefix_ends (drop i d) n r (omega (arith, length-drop i d)) counted short in
-    omega (arith, rest)
+    omega (arith, rest, past is_plain d i before)
+
+-- that block is the last
+pub ends_in_last : (d : List ℕ) (i n r : ℕ) → i + n ≡ length d → r ≡ prefix_len is_plain (chunk i n d)
+    → i ≤ prefix_len is_plain d → i + r ≡ prefix_len is_plain d
+ends_in_last d i n r whole counted before =
+    let left : n ≡ length d - i = omega arith in
+    ap (λ (m : ℕ). i + m) (counted ∙ ap (λ (m : ℕ). prefix_len is_plain (take m (drop i d))) left
+    ∙ ap (prefix_len is_plain) (take_rest d i)) ∙ past is_plain d i before

@@ -16,44 +16,12 @@ const HALF: usize = 16;
 pub fn plain_len(bytes: &[u8]) -> usize
     ensures { result ≡ prefix_len is_plain bytes.now }
 {
-    if bytes.len() < HALF {
-        return plain_by_bytes(bytes);
-    }
-    let plain = plain_in_half(bytes);
-    if plain < HALF {
-        plain
-    } else {
-        HALF + plain_by_blocks(&bytes[HALF..])
-    }
-}
-
-/// The same length, found block by block.
-fn plain_by_blocks(bytes: &[u8]) -> usize
-    ensures { result ≡ prefix_len is_plain bytes.now }
-{
-    let mut len = 0;
-    while bytes.len() - len >= BLOCK {
-        let plain = plain_in_block(bytes, len);
-        if plain < BLOCK {
-            return len + plain;
-        }
-        len += BLOCK;
-    }
-    len + plain_by_half(&bytes[len..])
-}
-
-/// The same length, for what is left behind the last block.
-fn plain_by_half(bytes: &[u8]) -> usize
-    ensures { result ≡ prefix_len is_plain bytes.now }
-{
-    if bytes.len() < HALF {
-        return plain_by_bytes(bytes);
-    }
-    let plain = plain_in_half(bytes);
-    if plain < HALF {
-        plain
-    } else {
-        HALF + plain_by_bytes(&bytes[HALF..])
+    match bytes.len() {
+        0..=3 => plain_by_bytes(bytes),
+        4..=7 => plain_by_ends::<4>(bytes),
+        8..=15 => plain_by_ends::<8>(bytes),
+        16..=31 => plain_by_ends::<16>(bytes),
+        _ => plain_by_blocks(bytes),
     }
 }
 
@@ -67,37 +35,57 @@ fn plain_by_bytes(bytes: &[u8]) -> usize
         .count()
 }
 
-/// How many bytes of the block at a place come before the first that needs an escape: all of them where none does.
+/// The same length, for `N` to `2 * N` bytes: the first `N` and the last `N` are compared, which may overlap.
 #[inline(always)]
-fn plain_in_block(bytes: &[u8], start: usize) -> usize
-    requires { start + BLOCK ≤ length bytes.now }
-    ensures { result ≡ prefix_len is_plain (take BLOCK (drop start bytes.now)) }
+fn plain_by_ends<const N: usize>(bytes: &[u8]) -> usize
+    requires few { N ≤ 32 }
+    requires room { N ≤ length bytes.now }
+    requires covered { length bytes.now ≤ N + N }
+    ensures { result ≡ prefix_len is_plain bytes.now }
 {
-    let block = u8x32::from_slice(&bytes[start..]);
-    let stops = block.simd_lt(u8x32::splat(32))
-        | block.simd_eq(u8x32::splat(b'"'))
-        | block.simd_eq(u8x32::splat(b'\\'));
-    let mask = stops.to_bitmask();
-    if mask == 0 {
-        BLOCK
-    } else {
-        mask.trailing_zeros() as usize
+    let plain = plain_in_lanes::<N>(bytes, 0);
+    if plain < N {
+        return plain;
     }
+    let last = bytes.len() - N;
+    last + plain_in_lanes::<N>(bytes, last)
 }
 
-/// The same count, for the first half of a block.
-#[inline(always)]
-fn plain_in_half(bytes: &[u8]) -> usize
-    requires { HALF ≤ length bytes.now }
-    ensures { result ≡ prefix_len is_plain (take HALF bytes.now) }
+/// The same length, for a block or more: in half a block, within which most strings end, and then block by block, of which the last may overlap the one before.
+fn plain_by_blocks(bytes: &[u8]) -> usize
+    requires { BLOCK ≤ length bytes.now }
+    ensures { result ≡ prefix_len is_plain bytes.now }
 {
-    let half = u8x16::from_slice(bytes);
-    let stops = half.simd_lt(u8x16::splat(32))
-        | half.simd_eq(u8x16::splat(b'"'))
-        | half.simd_eq(u8x16::splat(b'\\'));
+    let plain = plain_in_lanes::<16>(bytes, 0);
+    if plain < HALF {
+        return plain;
+    }
+    let last = bytes.len() - BLOCK;
+    let mut start = HALF;
+    while start < last {
+        let plain = plain_in_lanes::<32>(bytes, start);
+        if plain < BLOCK {
+            return start + plain;
+        }
+        start += BLOCK;
+    }
+    last + plain_in_lanes::<32>(bytes, last)
+}
+
+/// How many of the `N` bytes at an offset come before the first that needs an escape: all of them where none does.
+#[inline(always)]
+fn plain_in_lanes<const N: usize>(bytes: &[u8], start: usize) -> usize
+    requires few { N ≤ 32 }
+    requires room { start + N ≤ length bytes.now }
+    ensures { result ≡ prefix_len is_plain (take N (drop start bytes.now)) }
+{
+    let lanes = Simd::<u8, N>::from_slice(&bytes[start..]);
+    let stops = lanes.simd_lt(Simd::splat(32))
+        | lanes.simd_eq(Simd::splat(b'"'))
+        | lanes.simd_eq(Simd::splat(b'\\'));
     let mask = stops.to_bitmask();
     if mask == 0 {
-        HALF
+        N
     } else {
         mask.trailing_zeros() as usize
     }
