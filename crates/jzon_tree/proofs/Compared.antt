@@ -34,13 +34,38 @@ lengths_differ (v ∷ vs) (w ∷ ws) h = and_right _ _ (lengths_differ vs ws (λ
 
 -- ---- objects
 
--- The pairs rest of an object are left, and all before them are in the other.
-pub record ComparedPairs (ps qs rest : List (List ℕ × JsonValue)) : Type 0 where
+-- The entries rest of an object are left.
+pub record LeftEntries (ps rest : List (List ℕ × JsonValue)) : Type 0 where
   pub inside : (k : List ℕ) (v : JsonValue) → find k rest ≡ Some v → find k ps ≡ Some v
+  pub distinct : IsDistinct bytes_eq (keys_of rest)
+
+-- The entries rest of an object are left, and all before them are in the other.
+pub record ComparedPairs (ps qs rest : List (List ℕ × JsonValue)) : Type 0 where
+  pub left : LeftEntries ps rest
   pub agreed : (k : List ℕ) (v : JsonValue) → find k ps ≡ Some v → (find k rest ≡ Some v)
       ⊎ (passes (same (view v)) (option_map view (find k qs)) ≡ true)
-  pub distinct : IsDistinct bytes_eq (keys_of rest)
   pub no_larger : most size-JsonValue (values_of rest) ≤ most size-JsonValue (values_of ps)
+
+-- the next of them is found by its key
+pub next_found : (ps rest left : List (List ℕ × JsonValue)) (k : List ℕ) (v : JsonValue) → LeftEntries ps rest
+    → rest ≡ (k, v) ∷ left → find k ps ≡ Some v
+next_found ps rest left k v c e = c.inside k v (ap (find k) e ∙ find-head k v left)
+
+pub none_left : (xs ys : List (List ℕ × JsonValue)) → length xs ≡ length ys → ys ≡ [] → xs ≡ []
+none_left [] ys h e = refl
+none_left (x ∷ xs) ys h e = absurd (omega (arith, ap (λ (zs : List (List ℕ × JsonValue)). length zs) e))
+
+pub left_next : (ps rest left : List (List ℕ × JsonValue)) (k : List ℕ) (v : JsonValue) → LeftEntries ps rest
+    → rest ≡ (k, v) ∷ left → LeftEntries ps left
+left_next ps rest left k v c e =
+    let keys : IsDistinct bytes_eq (keys_of ((k, v) ∷ left)) = subst
+    (λ (xs : List (List ℕ × JsonValue)). IsDistinct bytes_eq (keys_of xs)) e c.distinct in
+    record {
+      inside = λ l w f.
+          let apart = found_apart k l left (IsDistinct-head bytes_eq k (keys_of left) keys) (ap is_some f) in
+          c.inside l w (ap (find l) e ∙ find-past k l v left apart ∙ f);
+      distinct = IsDistinct-tail bytes_eq k (keys_of left) keys;
+    }
 
 abbrev same_pairs : List (List ℕ × JsonValue) → List (List ℕ × JsonValue) → Bool
 same_pairs ps qs = same (object (view_pairs ps)) (object (view_pairs qs))
@@ -72,7 +97,7 @@ pub value_differs : (ps qs rest left : List (List ℕ × JsonValue)) (k : List �
     → ComparedPairs ps qs rest → rest ≡ (k, v) ∷ left → passes (same (view v)) (option_map view (find k qs)) ≡ false
     → same_pairs ps qs ≡ false
 value_differs ps qs rest left k v c e h =
-    let here : find k ps ≡ Some v = c.inside k v (ap (find k) e ∙ find-head k v left) in
+    let here : find k ps ≡ Some v = next_found ps rest left k v c.left e in
     false_from_ne_true (same_pairs ps qs) (λ s. false≢true (sym h ∙ (rw here at (looked_up ps qs s k))))
 
 passed_at : (k l : List ℕ) (b : Bool) (v w : JsonValue) (qs : List (List ℕ × JsonValue)) (found : Option JsonValue)
@@ -88,21 +113,14 @@ passed_at k l false v w qs found e h f = inl f
 pub compared_next : (ps qs rest left : List (List ℕ × JsonValue)) (k : List ℕ) (v : JsonValue)
     → ComparedPairs ps qs rest → rest ≡ (k, v) ∷ left → passes (same (view v)) (option_map view (find k qs)) ≡ true
     → ComparedPairs ps qs left
-compared_next ps qs rest left k v c e h =
-    let keys : IsDistinct bytes_eq (keys_of ((k, v) ∷ left)) = subst
-    (λ (xs : List (List ℕ × JsonValue)). IsDistinct bytes_eq (keys_of xs)) e c.distinct in
-    record {
-      inside = λ l w f.
-          let apart = found_apart k l left (IsDistinct-head bytes_eq k (keys_of left) keys) (ap is_some f) in
-          c.inside l w (ap (find l) e ∙ find-past k l v left apart ∙ f);
-      agreed = λ l w f. elim (c.agreed l w f) [
-        | inl g ↦ passed_at k l (bytes_eq k l) v w qs (find l left) refl h
-            (sym (ap (find l) e) ∙ g)
-        | inr g ↦ inr g
-      ];
-      distinct = IsDistinct-tail bytes_eq k (keys_of left) keys;
-      no_larger = omega (arith, c.no_larger, most-rest rest left (k, v) e);
-    }
+compared_next ps qs rest left k v c e h = record {
+  left = left_next ps rest left k v c.left e;
+  agreed = λ l w f. elim (c.agreed l w f) [
+    | inl g ↦ passed_at k l (bytes_eq k l) v w qs (find l left) refl h (sym (ap (find l) e) ∙ g)
+    | inr g ↦ inr g
+  ];
+  no_larger = omega (arith, c.no_larger, most-rest rest left (k, v) e);
+}
 
 -- ---- all pairs compared
 none_more_at : (k : List ℕ) (ps qs : List (List ℕ × JsonValue)) (o p : Option JsonValue) → find k ps ≡ o → find k qs ≡ p

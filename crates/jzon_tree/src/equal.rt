@@ -1,8 +1,11 @@
 //! Equality of values and of objects: what they mean is compared, so that the order of an object's keys, how a text is kept and how a decimal is written don't
 //! count.
 
-ghost use Rattle.std.specs.Prelude.{◌≡◌, option_map};
+ghost use Rattle.std.specs.Prelude.{◌≡◌, Some, option_map};
+ghost use Rattle.std.specs.Option.{option_copied};
 ghost use Rattle.std.specs.Cmp.{on_equiv, on_per, partial_equiv_from_equiv};
+ghost use Rattle.jzon_base.specs.PairList.{find};
+ghost use Rattle.jzon_tree.specs.Entries.{entries_of};
 ghost use Rattle.jzon_tree.specs.Same.{same, same_items, passes};
 ghost use Rattle.jzon_tree.specs.SameLaws.{same_equiv};
 ghost use Rattle.jzon_tree.specs.View.{view, view_object, view_values};
@@ -81,8 +84,8 @@ fn same_object(object: &Object, other: &Object) -> bool
     if object.len() != other.len() {
         return false;
     }
-    for (key, value) in object {
-        if !same_found(value, other.get(key)) {
+    for ((key, value), entry) in object.iter().zip(other) {
+        if !same_found(value, find_from(other, key, entry)) {
             return false;
         }
     }
@@ -96,5 +99,22 @@ fn same_found(value: &JsonValue, found: Option<&JsonValue>) -> bool
     match found {
         Some(other) => same_value(value, other),
         None => false,
+    }
+}
+
+/// The value of the key. Equal objects mostly have their keys in one order, so that the entry at the same position has it; else it is looked up.
+#[inline(always)]
+fn find_from<'a>(
+    object: &'a Object,
+    key: &str,
+    entry: (&str, &'a JsonValue),
+) -> Option<&'a JsonValue>
+    requires { find entry.0.now (entries_of object.now) ≡ Some entry.1.now }
+    ensures { option_copied result ≡ find key.now (entries_of object.now) }
+{
+    if key == entry.0 {
+        Some(entry.1)
+    } else {
+        object.get(key)
     }
 }

@@ -1,10 +1,13 @@
-use Rattle.std.proofs.Common.{◌∙◌, sym, ap, arith}
+use Rattle.std.proofs.Common.{◌∙◌, ℕ, List, length, inl, inr, sym, ap, arith}
+use Rattle.std.specs.Iterator.Adapters.{zip_first, zip_second}
 use Rattle.jzon_base.specs.PairList.{find}
 use Rattle.jzon_tree.specs.Entries.{entries_of}
+use Rattle.jzon_tree.specs.declared.value.JsonValue.{JsonValue}
 use Rattle.jzon_tree.specs.Same.{same, passes}
 use Rattle.jzon_tree.specs.View.{view}
-use Rattle.jzon_tree.proofs.Compared.{lengths_differ, counts_differ, value_differs, compared_next, all_compared}
 use Rattle.jzon_tree.proofs.Views.{view_found}
+use Rattle.jzon_tree.proofs.Compared.{lengths_differ, counts_differ, value_differs, compared_next, left_next}
+use Rattle.jzon_tree.proofs.Compared.{next_found, none_left, all_compared}
 use Rattle.jzon_tree.proofs.equal.+same.Goals as goal
 
 pub same_array-returns-then-items-others : goal.same_array-returns-then-items-others
@@ -16,23 +19,41 @@ same_object-returns-then-len t c =
     sym (counts_differ (entries_of c.args.object.now) (entries_of c.args.other.now) c.len.ensures.distinct
     c.len-2.ensures.distinct (λ e. c.if-len.true (omega (arith, e))))
 
+pub same_object-find_from-requires : goal.same_object-find_from-requires
+same_object-find_from-requires t c =
+    next_found (entries_of c.args.other.now) (zip_second c.loop-key.key-iterator) (zip_second c.next.new.self) _ _
+    c.loop-key.invariant.1 c.in-Some.ensures.steps.1
+
 pub same_object-returns-then-not-same_found : goal.same_object-returns-then-not-same_found
 same_object-returns-then-not-same_found t c =
     let others = entries_of c.args.other.now in
     let found = ap (passes (same (view c.in-Some.value.now)))
-    (view_found c.get.result (find c.in-Some.key.now others) c.get.ensures) in
-    sym (value_differs (entries_of c.args.object.now) others c.loop-key.key-iterator c.next.new.self _ _
-    c.loop-key.invariant c.in-Some.ensures.steps (sym found ∙ sym c.if-not-same_found.ensures))
+    (view_found c.find_from.result (find c.in-Some.key.now others) c.find_from.ensures) in
+    sym (value_differs (entries_of c.args.object.now) others (zip_first c.loop-key.key-iterator)
+    (zip_first c.next.new.self) _ _ c.loop-key.invariant.0 c.in-Some.ensures.steps.0
+    (sym found ∙ sym c.if-not-same_found.ensures))
 
 pub same_object-loop-key-preserved : goal.same_object-loop-key-preserved
 same_object-loop-key-preserved t c =
     let others = entries_of c.args.other.now in
     let found = ap (passes (same (view c.in-Some.value.now)))
-    (view_found c.get.result (find c.in-Some.key.now others) c.get.ensures) in
-    compared_next (entries_of c.args.object.now) others c.loop-key.key-iterator c.next.new.self _ _ c.loop-key.invariant
-    c.in-Some.ensures.steps (sym found ∙ sym c.if-not-same_found.ensures)
+    (view_found c.find_from.result (find c.in-Some.key.now others) c.find_from.ensures) in
+    let first = c.in-Some.ensures.steps.0 in
+    let second = c.in-Some.ensures.steps.1 in
+    let counted = ap (λ (xs : List (List ℕ × JsonValue)). length xs) first in
+    let beside = ap (λ (xs : List (List ℕ × JsonValue)). length xs) second in (
+      compared_next (entries_of c.args.object.now) others (zip_first c.loop-key.key-iterator)
+          (zip_first c.next.new.self) _ _ c.loop-key.invariant.0 first (sym found ∙ sym c.if-not-same_found.ensures),
+      left_next others (zip_second c.loop-key.key-iterator) (zip_second c.next.new.self) _ _
+          c.loop-key.invariant.1 second,
+      omega (arith, counted, beside),
+    )
 
 pub same_object-returns : goal.same_object-returns
 same_object-returns t c =
-    sym (all_compared (entries_of c.args.object.now) (entries_of c.args.other.now) c.loop-key.key-iterator
-    c.len.ensures.distinct (omega arith) c.loop-key.invariant c.in-None.ensures.steps.0)
+    sym (all_compared (entries_of c.args.object.now) (entries_of c.args.other.now) (zip_first c.loop-key.key-iterator)
+    c.len.ensures.distinct (omega arith) c.loop-key.invariant.0 (elim c.in-None.ensures.steps [
+      | inl ended ↦ ended.1.0
+      | inr ended ↦ none_left (zip_first c.loop-key.key-iterator) (zip_second c.loop-key.key-iterator)
+          c.loop-key.invariant.2 ended.1.0
+    ]))

@@ -1,7 +1,8 @@
+use Rattle.std.proofs.Common.{◌≡◌, length}
 use Rattle.std.specs.Iterator.Adapters.{zip_first, zip_second}
 use Rattle.std.specs.Slice.Iter.{iter_rest}
 use Rattle.jzon_tree.specs.Entries.{entries_of}
-use Rattle.jzon_tree.proofs.Compared.{ComparedItems, ComparedPairs}
+use Rattle.jzon_tree.proofs.Compared.{ComparedItems, ComparedPairs, LeftEntries}
 use Rattle.jzon_tree.proofs.equal.+same.Given as goal
 
 abbrev pub invariant-same_array-loop-item : goal.invariant-same_array-loop-item
@@ -9,4 +10,7 @@ invariant-same_array-loop-item l = ComparedItems l.items l.others (iter_rest (zi
     (iter_rest (zip_second l.item-iterator))
 
 abbrev pub invariant-same_object-loop-key : goal.invariant-same_object-loop-key
-invariant-same_object-loop-key l = ComparedPairs (entries_of l.object) (entries_of l.other) l.key-iterator
+invariant-same_object-loop-key l =
+    ComparedPairs (entries_of l.object) (entries_of l.other) (zip_first l.key-iterator)
+    × LeftEntries (entries_of l.other) (zip_second l.key-iterator)
+    × (length (zip_first l.key-iterator) ≡ length (zip_second l.key-iterator))
