@@ -50,6 +50,19 @@ impl Key {
         }
     }
 
+    /// A copy. Text of up to 32 bytes takes no memory; for longer text the error is a refused growth.
+    pub fn clone(&self, alloc: Global) -> Result<Key, AllocError>
+        ensures bytes { IfOk result (λ k. k ≡ self.now) }
+        ensures long { OnErr result (32 < length self.now) }
+    {
+        match &self.text {
+            Text::Inline(inline) => Ok(Key {
+                text: Text::Inline(*inline),
+            }),
+            Text::Owned(owned) => Key::new(alloc, owned.as_str()),
+        }
+    }
+
     /// The text of the key.
     pub fn as_str(&self) -> &str
         ensures { result.now ≡ self.now }

@@ -38,6 +38,13 @@ impl Short {
         Short { text }
     }
 
+    /// A copy. It takes no memory.
+    pub fn clone(&self) -> Short
+        ensures { result ≡ self.now }
+    {
+        Short { text: self.text }
+    }
+
     /// The text.
     pub fn as_str(&self) -> &str
         ensures text { result.now ≡ self.now }

@@ -7,7 +7,6 @@ use crate::object::Object;
 use crate::value::JsonValue;
 use jzon_base::error::{Error, Result};
 use jzon_base::pairs::Pairs;
-use jzon_base::short::Short;
 use std::alloc::Global;
 
 impl JsonValue {
@@ -30,6 +29,8 @@ impl Object {
     }
 }
 
+/// Inlined into the loop over items, where most values are primitives.
+#[inline(always)]
 #[cycle(copy)]
 #[tactic(auto, using(crate::proofs::Views::views))]
 fn copy_value(alloc: Global, value: &JsonValue) -> Result<JsonValue>
@@ -38,7 +39,7 @@ fn copy_value(alloc: Global, value: &JsonValue) -> Result<JsonValue>
 {
     match value {
         JsonValue::Null => Ok(JsonValue::Null),
-        JsonValue::Short(text) => Ok(JsonValue::Short(Short::from_slice(text.as_str()))),
+        JsonValue::Short(text) => Ok(JsonValue::Short(text.clone())),
         JsonValue::String(text) => Ok(JsonValue::String(text.clone()?)),
         JsonValue::Number(number) => Ok(JsonValue::Number(*number)),
         JsonValue::Boolean(truth) => Ok(JsonValue::Boolean(*truth)),
@@ -47,6 +48,7 @@ fn copy_value(alloc: Global, value: &JsonValue) -> Result<JsonValue>
     }
 }
 
+#[inline(never)]
 #[cycle(copy)]
 fn copy_object(alloc: Global, object: &Object) -> Result<Object>
     ensures copy { IfOk result (λ copy. view_object copy ≡ view_object object.now) }
@@ -59,6 +61,7 @@ fn copy_object(alloc: Global, object: &Object) -> Result<Object>
     })
 }
 
+#[inline(never)]
 #[cycle(copy)]
 fn copy_items(alloc: Global, items: &[JsonValue]) -> Result<Vec<JsonValue>>
     ensures copy { IfOk result (λ copies. map view copies.items ≡ map view items.now) }
@@ -66,7 +69,7 @@ fn copy_items(alloc: Global, items: &[JsonValue]) -> Result<Vec<JsonValue>>
 {
     let mut copies = Vec::with_capacity(alloc, items.len())?;
     for item in items {
-        copies.push(copy_value(alloc, item)?)?;
+        copies.push_reserved(copy_value(alloc, item)?);
     }
     Ok(copies)
 }

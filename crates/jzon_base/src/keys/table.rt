@@ -161,7 +161,7 @@ impl Table {
     {
         let mut keys = Vec::with_capacity(alloc, self.keys.len())?;
         for key in &self.keys {
-            keys.push(Key::new(alloc, key.as_str())?)?;
+            keys.push(key.clone(alloc)?)?;
         }
         let index = Vec::from_slice(alloc, self.index.as_slice())?;
         Ok(Table { keys, index })
