@@ -15,6 +15,7 @@ pub mod Answer
 pub use Rattle.jzon_base.specs.Decimal
 pub use Rattle.jzon_base.specs.DigitLimits
 pub use Rattle.jzon_base.specs.Digits
+pub use Rattle.jzon_base.specs.ErrorPlace
 pub use Rattle.jzon_base.specs.ErrorText
 pub use Rattle.jzon_base.specs.IterMut
 pub use Rattle.jzon_base.specs.Key

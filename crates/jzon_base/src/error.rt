@@ -1,6 +1,7 @@
 //! Why a call is refused (docs/RULES.md, "Errors").
 
-ghost use Rattle.std.specs.Prelude.{Some, IfOk, IsOkUnless};
+ghost use Rattle.std.specs.Prelude.{◌≡◌, Some, IfOk, IsOkUnless};
+ghost use Rattle.jzon_base.specs.ErrorPlace.{line_in, column_in};
 ghost use Rattle.jzon_base.specs.ErrorText.{error_text, IsWrongType};
 
 use std::alloc::{AllocError, AllocFailed, Global};
@@ -46,6 +47,28 @@ impl Error {
         ensures memory { IsOkUnless result Error.OutOfMemory }
     {
         Ok(Error::WrongType(String::from_str(alloc, expected)?))
+    }
+
+    /// The line of the text, counted from 1, at which it was rejected. `None` for an error that carries no position.
+    pub fn line(&self) -> Option<usize>
+        ensures { result ≡ line_in self.now }
+    {
+        match self {
+            Error::UnexpectedCharacter { line, .. } => Some(*line),
+            Error::DuplicateKey { line, .. } => Some(*line),
+            _ => None,
+        }
+    }
+
+    /// The column of the text, counted from 1 in characters, at which it was rejected. `None` for an error that carries no position.
+    pub fn column(&self) -> Option<usize>
+        ensures { result ≡ column_in self.now }
+    {
+        match self {
+            Error::UnexpectedCharacter { column, .. } => Some(*column),
+            Error::DuplicateKey { column, .. } => Some(*column),
+            _ => None,
+        }
     }
 }
 

@@ -8,6 +8,8 @@ mod common;
 #[cfg(test)]
 mod display;
 #[cfg(test)]
+mod errors;
+#[cfg(test)]
 mod generators;
 #[cfg(test)]
 mod integers;
