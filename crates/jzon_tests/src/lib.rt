@@ -18,6 +18,8 @@ mod keys;
 #[cfg(test)]
 mod lent;
 #[cfg(test)]
+mod listed;
+#[cfg(test)]
 mod objects;
 #[cfg(test)]
 mod printed;

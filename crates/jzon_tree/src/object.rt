@@ -1,14 +1,15 @@
 //! Objects.
 
 ghost use Rattle.std.specs.Prelude.{◌≡◌, ◌-◌, ◌==◌, List, [], length, OnOk, OnErr, IfOk, IsOkUnless, None, IfSome};
-ghost use Rattle.std.specs.Prelude.{Some};
+ghost use Rattle.std.specs.Prelude.{Some, is_some};
 ghost use Rattle.std.specs.Option.{option_copied, option_copied_mut};
 ghost use Rattle.std.specs.Iterator.{Drains, IsFinite, YieldsFirstBy, YieldsLastBy, item_count, at_most, UpTo};
 ghost use Rattle.std.specs.Iterator.SizeHint.{IsWithinCount};
 ghost use Rattle.std.specs.List.{IsDistinct};
+ghost use Rattle.std.specs.Slice.Iter.{iter_rest};
 ghost use Rattle.std.specs.Str.{bytes_eq};
 ghost use Rattle.jzon_base.specs.IterMut.{iter_mut_rest};
-ghost use Rattle.jzon_base.specs.PairList.{find, put, cut, set_value, with_default, keys_of};
+ghost use Rattle.jzon_base.specs.PairList.{find, put, cut, set_value, with_default, keys_of, values_of};
 ghost use Rattle.jzon_tree.specs.IntoIter.{entries_left};
 ghost use Rattle.jzon_tree.specs.IntoJson.{PutMeans};
 ghost use Rattle.jzon_tree.specs.Entries.{entries_of};
@@ -18,16 +19,24 @@ use crate::into_json::IntoJson;
 use crate::value::JsonValue;
 use jzon_base::error::{Error, Result};
 pub use jzon_base::key::Key;
+use jzon_base::keys;
 use jzon_base::pairs::{self, Pairs};
 use std::alloc::Global;
 use std::convert::AsStr;
 use std::iter::FusedIterator;
+use std::slice;
 
 /// The pairs of an object that are left, each as its key's text and its value.
 pub type Iter<'a> = pairs::Iter<'a, JsonValue>;
 
 /// The pairs of an object that are left, each as its key's text and its value, which may be written.
 pub type IterMut<'a> = pairs::IterMut<'a, JsonValue>;
+
+/// The keys of an object that are left, each by its text.
+pub type Keys<'a> = keys::Iter<'a>;
+
+/// The values of an object that are left.
+pub type Values<'a> = slice::Iter<'a, JsonValue>;
 
 /// The pairs of an object that are left, each as its key and its value.
 #[derive(Drop)]
@@ -180,6 +189,27 @@ impl Object {
         ensures { entries_of self.new ≡ [] }
     {
         self.pairs.clear();
+    }
+
+    /// Whether there is an entry of the key. It takes no memory.
+    pub fn contains_key(&self, key: &str) -> bool
+        ensures { result ≡ is_some (find key.now (entries_of self.now)) }
+    {
+        self.get(key).is_some()
+    }
+
+    /// The keys in their order, from both ends.
+    pub fn keys(&self) -> Keys<'_>
+        ensures { result ≡ keys_of (entries_of self.now) }
+    {
+        self.pairs.keys().iter()
+    }
+
+    /// The values in the order of their keys, from both ends.
+    pub fn values(&self) -> Values<'_>
+        ensures { iter_rest result ≡ values_of (entries_of self.now) }
+    {
+        self.pairs.values().iter()
     }
 
     /// The pairs in their order, from both ends.
