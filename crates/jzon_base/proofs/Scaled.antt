@@ -2,7 +2,7 @@
 use Rattle.std.proofs.Common.{◌≡◌, ℕ, zero, suc, ℤ, pos, negsuc, ◌+◌, ◌*◌, ◌/◌, ◌%◌, ◌^◌, ◌≤◌, ◌<◌, ◌==◌, ◌+ℤ◌, ◌<ℤ◌}
 use Rattle.std.proofs.Common.{false, refl, sym, arith, pow-add, FitsSigned}
 use Rattle.std.specs.Int.{w16}
-use Rattle.std.proofs.Math.Nat.{div-eq_of_lt}
+use Rattle.std.proofs.Math.Nat.{div-eq_of_lt, mod-eq_of_lt}
 use Rattle.std.proofs.lemmas.Bool.{ne_eqb}
 use Rattle.std.proofs.lemmas.Int.{ints}
 use Rattle.jzon_base.specs.Decimal.{scaled, shifted}
@@ -56,3 +56,7 @@ pub over_larger : (m t : ℕ) → m < t → 0 ≡ m / t
 over_larger m t h = sym (div-eq_of_lt h)
 
 pub ruleset over_rules = (over_larger, power_pos)
+
+-- the rest of what is divided by something larger
+pub rest_of_larger : (m t : ℕ) → m < t → (m == 0) ≡ (m % t == 0)
+rest_of_larger m t h = rw (mod-eq_of_lt h) refl

@@ -112,3 +112,20 @@ abbrev pub unsigned_fixed_point : Decimal → ℕ → Option ℕ
 unsigned_fixed_point nan point = None
 unsigned_fixed_point (parts true m e) point = Some (whole_part m (e +ℤ pos point))
 unsigned_fixed_point (parts false m e) point = None
+
+-- m * 10 ^ k is a whole number
+abbrev pub is_whole : ℕ → ℤ → Bool
+is_whole m (pos k) = true
+is_whole m (negsuc k) = m % 10 ^ (k + 1) == 0
+
+-- mantissa * 10 ^ (exponent + point) is a whole number
+abbrev pub is_whole_at : Decimal → ℕ → Bool
+is_whole_at nan point = false
+is_whole_at (parts positive m e) point = is_whole m (e +ℤ pos point)
+
+-- the fixed-point readings where no digit is lost
+abbrev pub exact_fixed_point : Decimal → ℕ → Option ℤ
+exact_fixed_point d point = if is_whole_at d point then fixed_point d point else None
+
+abbrev pub exact_unsigned_fixed_point : Decimal → ℕ → Option ℕ
+exact_unsigned_fixed_point d point = if is_whole_at d point then unsigned_fixed_point d point else None

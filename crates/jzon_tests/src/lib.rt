@@ -10,6 +10,8 @@ mod display;
 #[cfg(test)]
 mod errors;
 #[cfg(test)]
+mod exact;
+#[cfg(test)]
 mod generators;
 #[cfg(test)]
 mod integers;

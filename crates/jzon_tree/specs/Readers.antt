@@ -2,7 +2,7 @@
 use Rattle.std.specs.Prelude.{ℕ, ℤ, List, [], length, Bool, true, false, not, ◌||◌, ◌==◌, Option, None, Some}
 use Rattle.std.specs.Prelude.{option_and_then}
 use Rattle.jzon_base.specs.Decimal.{Decimal, is_zero, is_nan, integer_of, unsigned_of, fixed_point}
-use Rattle.jzon_base.specs.Decimal.{unsigned_fixed_point}
+use Rattle.jzon_base.specs.Decimal.{unsigned_fixed_point, exact_fixed_point, exact_unsigned_fixed_point}
 use Rattle.jzon_tree.specs.Value.{Value, null, boolean, text, number, array, object, list_of_values, list_of_pairs}
 
 -- ---- the kind of a value
@@ -57,6 +57,14 @@ fixed_point_in v point = option_and_then (λ n. fixed_point n point) (number_in 
 -- the same, where its sign is positive
 abbrev pub unsigned_fixed_point_in : Value → ℕ → Option ℕ
 unsigned_fixed_point_in v point = option_and_then (λ n. unsigned_fixed_point n point) (number_in v)
+
+-- the number with its point moved, where no digit is lost
+abbrev pub exact_fixed_point_in : Value → ℕ → Option ℤ
+exact_fixed_point_in v point = option_and_then (λ n. exact_fixed_point n point) (number_in v)
+
+-- the same, where its sign is positive
+abbrev pub exact_unsigned_fixed_point_in : Value → ℕ → Option ℕ
+exact_unsigned_fixed_point_in v point = option_and_then (λ n. exact_unsigned_fixed_point n point) (number_in v)
 
 abbrev pub text_in : Value → Option (List ℕ)
 text_in (text k s) = Some s

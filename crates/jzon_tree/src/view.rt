@@ -11,6 +11,7 @@ ghost use Rattle.jzon_tree.specs.Place.{shown, seen};
 ghost use Rattle.jzon_tree.specs.Readers.{is_null, is_boolean, is_number, is_text, is_object, is_array, is_empty};
 ghost use Rattle.jzon_tree.specs.Readers.{truth_in, number_in, integer_in, unsigned_in, fixed_point_in};
 ghost use Rattle.jzon_tree.specs.Readers.{unsigned_fixed_point_in, text_in, object_of, array_of, items, entries, count};
+ghost use Rattle.jzon_tree.specs.Readers.{exact_fixed_point_in, exact_unsigned_fixed_point_in};
 ghost use Rattle.jzon_tree.specs.Same.{same};
 ghost use Rattle.jzon_tree.specs.Value.{array, boolean, number, short, text};
 ghost use Rattle.jzon_tree.specs.View.{view, view_object, view_values, viewed};
@@ -319,6 +320,21 @@ impl<'a> View<'a> {
         ensures { SomeWhere (fixed_point_in (seen self.entry) point) (FitsSigned w64) result }
     {
         self.value?.as_fixed_point_i64(point)
+    }
+
+    /// `mantissa * 10 ^ (exponent + point)` of the number, where that is a whole number, its sign is positive and it fits. `None` where a digit would be lost.
+    pub fn as_exact_fixed_point_u64(self, point: u16) -> Option<u64>
+        ensures { SomeWhere (exact_unsigned_fixed_point_in (seen self.entry) point)
+            (λ n. n < 2 ^ 64) result }
+    {
+        self.value?.as_exact_fixed_point_u64(point)
+    }
+
+    /// `mantissa * 10 ^ (exponent + point)` of the number, with its sign, where that is a whole number and fits. `None` where a digit would be lost.
+    pub fn as_exact_fixed_point_i64(self, point: u16) -> Option<i64>
+        ensures { SomeWhere (exact_fixed_point_in (seen self.entry) point) (FitsSigned w64) result }
+    {
+        self.value?.as_exact_fixed_point_i64(point)
     }
 
     /// Whether it is a number that equals this integer: `5e2` is 500.

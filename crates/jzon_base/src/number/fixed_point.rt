@@ -1,9 +1,10 @@
 //! Numbers as integers of a fixed point (docs/RULES.md, "Fixed-point readings").
 
-ghost use Rattle.std.specs.Prelude.{◌≡◌, pos, ◌/◌, ◌+ℤ◌, ◌<◌, ◌^◌, FitsSigned};
+ghost use Rattle.std.specs.Prelude.{◌≡◌, pos, ◌/◌, ◌%◌, ◌==◌, ◌+ℤ◌, ◌<◌, ◌^◌, FitsSigned};
 ghost use Rattle.std.specs.Int.{w64};
 ghost use Rattle.std.specs.Option.{SomeIff};
 ghost use Rattle.jzon_base.specs.Decimal.{fixed_point, unsigned_fixed_point, whole_part, SomeWhere};
+ghost use Rattle.jzon_base.specs.Decimal.{exact_fixed_point, exact_unsigned_fixed_point, is_whole_at};
 
 use super::to_integer::with_sign;
 use super::{Number, times_power};
@@ -30,6 +31,38 @@ impl Number {
         let (positive, mantissa, exponent) = self.as_parts();
         with_sign(positive, whole_part(mantissa, exponent, point)?)
     }
+
+    /// `mantissa * 10 ^ (exponent + point)`, where that is a whole number: 12.30 at 2 is 1230, and 12.301 at 2 is `None`, since a digit would be lost. `None` too for NaN,
+    /// for each negative sign, that of -0 included, and where it doesn't fit.
+    pub fn as_exact_fixed_point_u64(&self, point: u16) -> Option<u64>
+        ensures { SomeWhere (exact_unsigned_fixed_point self.now point) (λ n. n < 2 ^ 64) result }
+    {
+        if self.is_whole_at(point) {
+            self.as_fixed_point_u64(point)
+        } else {
+            None
+        }
+    }
+
+    /// `mantissa * 10 ^ (exponent + point)` with the sign, where that is a whole number. `None` where a digit would be lost, for NaN, and where it doesn't fit.
+    pub fn as_exact_fixed_point_i64(&self, point: u16) -> Option<i64>
+        ensures { SomeWhere (exact_fixed_point self.now point) (FitsSigned w64) result }
+    {
+        if self.is_whole_at(point) {
+            self.as_fixed_point_i64(point)
+        } else {
+            None
+        }
+    }
+
+    /// Whether no digit is lost where the fixed-point readings cut.
+    fn is_whole_at(&self, point: u16) -> bool
+        ensures { result ≡ is_whole_at self.now point }
+    {
+        let (_, mantissa, exponent) = self.as_parts();
+        let power = i32::from(exponent) + i32::from(point);
+        !self.is_nan() && (power >= 0 || is_multiple(mantissa, power.unsigned_abs()))
+    }
 }
 
 /// The mantissa with its point moved, cut to a whole number, where it fits.
@@ -44,6 +77,16 @@ fn whole_part(mantissa: u64, exponent: i16, point: u16) -> Option<u64>
         Some(over_power(mantissa, power.unsigned_abs()))
     } else {
         times_power(mantissa, power as u32)
+    }
+}
+
+/// Whether `10 ^ power` divides the mantissa.
+fn is_multiple(mantissa: u64, power: u32) -> bool
+    ensures { result ≡ (mantissa % 10 ^ power == 0) }
+{
+    match 10u64.checked_pow(power) {
+        Some(divisor) => mantissa % divisor == 0,
+        None => mantissa == 0,
     }
 }
 

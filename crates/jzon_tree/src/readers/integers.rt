@@ -4,6 +4,7 @@ ghost use Rattle.std.specs.Prelude.{◌≡◌, ◌<◌, ◌^◌, pos, FitsSigned
 ghost use Rattle.std.specs.Int.{w8, w16, w32, w64};
 ghost use Rattle.jzon_base.specs.Decimal.{integer_parts, SomeWhere};
 ghost use Rattle.jzon_tree.specs.Readers.{integer_in, unsigned_in, fixed_point_in, unsigned_fixed_point_in};
+ghost use Rattle.jzon_tree.specs.Readers.{exact_fixed_point_in, exact_unsigned_fixed_point_in};
 ghost use Rattle.jzon_tree.specs.Same.{same};
 ghost use Rattle.jzon_tree.specs.Value.{number};
 ghost use Rattle.jzon_tree.specs.View.{view};
@@ -94,6 +95,21 @@ impl JsonValue {
         ensures { SomeWhere (fixed_point_in (view self.now) point) (FitsSigned w64) result }
     {
         self.as_number()?.as_fixed_point_i64(point)
+    }
+
+    /// `mantissa * 10 ^ (exponent + point)` of the number, where that is a whole number, its sign is positive and it fits. `None` where a digit would be lost.
+    pub fn as_exact_fixed_point_u64(&self, point: u16) -> Option<u64>
+        ensures { SomeWhere (exact_unsigned_fixed_point_in (view self.now) point)
+            (λ n. n < 2 ^ 64) result }
+    {
+        self.as_number()?.as_exact_fixed_point_u64(point)
+    }
+
+    /// `mantissa * 10 ^ (exponent + point)` of the number, with its sign, where that is a whole number and fits. `None` where a digit would be lost.
+    pub fn as_exact_fixed_point_i64(&self, point: u16) -> Option<i64>
+        ensures { SomeWhere (exact_fixed_point_in (view self.now) point) (FitsSigned w64) result }
+    {
+        self.as_number()?.as_exact_fixed_point_i64(point)
     }
 
     /// Whether it is a number that equals this integer: `5e2` is 500.

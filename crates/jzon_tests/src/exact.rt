@@ -1,0 +1,60 @@
+//! Fixed-point readings that lose no digit.
+
+use crate::common::{Tested, number, parts};
+use jzon::number::NAN;
+use jzon::{JsonValue, View, parse};
+use std::process::Abort;
+
+/// What is read of it at the point, as an u64 and as an i64, through the value and through its place.
+fn expect_exact(
+    rt: &impl Abort,
+    value: &JsonValue,
+    point: u16,
+    unsigned: Option<u64>,
+    signed: Option<i64>,
+) {
+    assert_eq!(rt; value.as_exact_fixed_point_u64(point), unsigned);
+    assert_eq!(rt; value.as_exact_fixed_point_i64(point), signed);
+    let view = value.as_view();
+    assert_eq!(rt; view.as_exact_fixed_point_u64(point), unsigned);
+    assert_eq!(rt; view.as_exact_fixed_point_i64(point), signed);
+}
+
+#[test]
+fn reads_amounts(rt: HostRuntime) -> Tested {
+    // the text, and the readings at 2
+    let rows = [
+        ("12.3", Some(1230), Some(1230)),
+        ("12.30", Some(1230), Some(1230)),
+        ("12.300", Some(1230), Some(1230)),
+        ("12.301", None, None),
+        ("12.3000001", None, None),
+        ("-0.05", None, Some(-5)),
+        ("1e1", Some(1000), Some(1000)),
+        ("0e-9", Some(0), Some(0)),
+        ("-0", None, Some(0)),
+        ("1e-30", None, None),
+        ("1e18", None, None),
+        ("\"12.3\"", None, None),
+    ];
+    for (text, unsigned, signed) in rows {
+        expect_exact(&rt, &parse(rt.alloc(), text)?, 2, unsigned, signed);
+    }
+    Ok(())
+}
+
+#[test]
+fn reads_at_the_limits(rt: HostRuntime) {
+    expect_exact(&rt, &number(u64::MAX), 0, Some(u64::MAX), None);
+    expect_exact(&rt, &parts(true, 0, -32768), 0, Some(0), Some(0));
+    expect_exact(&rt, &parts(false, 7, -32768), 32768, None, Some(-7));
+    expect_exact(&rt, &parts(true, 1, 32767), 65535, None, None);
+    expect_exact(&rt, &JsonValue::Number(NAN), 0, None, None);
+}
+
+#[test]
+fn reads_no_missing_place(rt: HostRuntime) {
+    let missing: View<'_> = JsonValue::Null.at("a");
+    assert_eq!(rt; missing.as_exact_fixed_point_u64(0), None);
+    assert_eq!(rt; missing.as_exact_fixed_point_i64(0), None);
+}
