@@ -74,6 +74,11 @@ impl<V> Pairs<V> {
         Pairs { keys, values }
     }
 
+    /// The allocator of the pairs.
+    pub fn allocator(&self) -> Global {
+        *self.values.allocator()
+    }
+
     /// How many pairs there are.
     pub fn len(&self) -> usize
         ensures len { result ≡ length self.now }

@@ -4,6 +4,8 @@
 #[cfg(test)]
 mod changers;
 #[cfg(test)]
+mod cloned;
+#[cfg(test)]
 mod common;
 #[cfg(test)]
 mod display;

@@ -3,6 +3,7 @@
 
 mod changers;
 mod clone;
+mod cloned;
 pub mod codegen;
 mod equal;
 pub mod into_json;

@@ -1,0 +1,44 @@
+//! Copies by std's `Clone`.
+
+use crate::common::{Tested, expect_dump};
+use jzon::object::Object;
+use jzon::{IntoJson, JsonValue, parse};
+
+#[derive(Clone, Drop)]
+struct Setting {
+    name: String,
+    value: JsonValue,
+    fallback: Option<Object>,
+}
+
+#[test]
+fn derives_clone(rt: HostRuntime) -> Tested {
+    let alloc = rt.alloc();
+    let text = "{\"b\":[null,true,1.50,\"a\"],\"a\":{}}";
+    let setting = Setting {
+        name: String::from_str(alloc, "x")?,
+        value: parse(alloc, text)?,
+        fallback: Some(Object::new(alloc)),
+    };
+    let copy = setting.clone()?;
+    assert_eq!(rt; copy.name.as_str(), "x");
+    assert!(rt; copy.fallback.is_some());
+    assert!(rt; copy.value == setting.value);
+    expect_dump(&rt, alloc, &copy.value, text)
+}
+
+#[test]
+fn clones_each_kind(rt: HostRuntime) -> Tested {
+    let alloc = rt.alloc();
+    let text = "[null,true,1.50,\"a\",\"abcdefghijklmnopqrstuvwxyz01234\",[],{\"b\":[1],\"a\":{}}]";
+    let value = parse(alloc, text)?;
+    expect_dump(&rt, alloc, &Clone::clone(&value)?, text)?;
+    let Some(items) = value.as_array() else {
+        assert!(rt; false);
+        return Ok(());
+    };
+    let copies = items.clone()?;
+    assert_eq!(rt; copies.len(), items.len());
+    expect_dump(&rt, alloc, &JsonValue::Array(copies), text)?;
+    expect_dump(&rt, alloc, &items.as_slice().into_json(alloc)?, text)
+}
