@@ -6,6 +6,8 @@ mod changers;
 #[cfg(test)]
 mod cloned;
 #[cfg(test)]
+mod collected;
+#[cfg(test)]
 mod common;
 #[cfg(test)]
 mod display;

@@ -15,6 +15,8 @@ ghost use Rattle.jzon_tree.specs.IntoJson.{PutMeans};
 ghost use Rattle.jzon_tree.specs.Entries.{entries_of};
 ghost use Rattle.jzon_tree.specs.View.{view_object};
 
+mod from_iter;
+
 use crate::into_json::IntoJson;
 use crate::value::JsonValue;
 use jzon_base::error::{Error, Result};

@@ -1,0 +1,27 @@
+//! An object by `collect`.
+
+ghost use Rattle.jzon_tree.specs.IntoJson.{PutMeans};
+ghost use Rattle.jzon_tree.specs.View.{view_object};
+
+use super::Object;
+use crate::into_json::IntoJson;
+use std::alloc::{AllocError, Global};
+use std::convert::AsStr;
+
+/// The object in which the pairs are put one after the other, as `Object::from_pairs` puts them: a later pair of a key changes that key's value in its place. The error
+/// is a failed allocation.
+impl<K: AsStr + Drop, V: IntoJson> FromIterator<(K, V)> for Object {
+    type Alloc = Global;
+
+    ghost from_iter_gives = { λ ps o. PutMeans K.text V.means ps (view_object o) };
+
+    fn from_iter<U: IntoIterator<Item = (K, V)>>(
+        alloc: Global,
+        pairs: U,
+    ) -> Result<Object, AllocError> {
+        match Object::from_pairs(alloc, pairs.into_iter()) {
+            Ok(object) => Ok(object),
+            Err(_) => Err(AllocError),
+        }
+    }
+}
