@@ -16,6 +16,8 @@ mod errors;
 #[cfg(test)]
 mod exact;
 #[cfg(test)]
+mod from;
+#[cfg(test)]
 mod generators;
 #[cfg(test)]
 mod integers;

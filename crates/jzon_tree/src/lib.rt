@@ -6,6 +6,7 @@ mod clone;
 mod cloned;
 pub mod codegen;
 mod equal;
+mod from;
 pub mod into_json;
 pub mod lent;
 pub mod object;
