@@ -1,16 +1,16 @@
--- Trees for worked rows, the breaches of a tree as a list, and tests that tell numbers of the grammar.
-use Rattle.std.proofs.Common.{◌≡◌, ℕ, zero, suc, ◌+◌, List, [], ◌∷◌, ◌++◌, map, replicate, Bool, true, false, not, ◌&&◌}
-use Rattle.std.proofs.Common.{◌==◌, Option, Some, None, codes, refl, ap}
+-- What the worked rows share: how a list of rows is proved, readings, trees, and tests of numbers of the grammar.
+use Prim.Native.String.{String}
+use Rattle.std.proofs.Common.{◌≡◌, ℕ, zero, suc, List, [], ◌∷◌, ◌++◌, map, replicate, Bool, true, false, not}
+use Rattle.std.proofs.Common.{◌&&◌, ◌==◌, Option, Some, None, All, codes, refl, ap, arith}
 use Rattle.std.proofs.lemmas.Bool.{and_parts}
-use Rattle.std.specs.Prelude.{IsTrue, slice_get}
+use Rattle.std.specs.Prelude.{IsTrue}
 use Rattle.std.specs.Char.{is_ascii_digit}
 use Rattle.std.specs.List.{list_all}
 pub use Rattle.jzon.specs.Laws.{alone}
 use Rattle.jzon.specs.Reading.{Reading}
-use Rattle.jzon.specs.Grammar.{Sign, Exponent, Numeral, Item, plain, Key, Node, Elements, no_elements, element, Members}
-use Rattle.jzon.specs.Grammar.{no_members, member, Document, AreDigits, IsDigits, IsWhole, is_exponent_letter}
-use Rattle.jzon.specs.Grammar.{IsExponent, IsNumeral}
-use Rattle.jzon.specs.Spelling.{Breach, Cell, cells, HasNoBreach}
+use Rattle.jzon.specs.Grammar.{Sign, plus, Exponent, Numeral, Item, plain, single, double, Key, Node, Elements}
+use Rattle.jzon.specs.Grammar.{no_elements, element, Members, no_members, member, AreDigits, IsDigits, IsWhole}
+use Rattle.jzon.specs.Grammar.{IsExponent, IsNumeral, is_exponent_letter}
 
 -- ---- readings
 
@@ -20,81 +20,59 @@ shallow n = record { strict = false; depth = n }
 abbrev pub strict_to : ℕ → Reading
 strict_to n = record { strict = true; depth = n }
 
--- ---- the breaches of a tree, as a list
+-- ---- rows
 
--- places and what is broken there
-abbrev pub Marks : Type 0
-Marks = List (ℕ × Breach)
-
-abbrev pub put_mark : ℕ → Option Breach → Marks → Marks
-put_mark i None ms = ms
-put_mark i (Some b) ms = (i, b) ∷ ms
-
--- each mark of these cells, the first of which stands at offset i
-abbrev pub marks_from : ℕ → List Cell → Marks
-marks_from i [] = []
-marks_from i (x ∷ q) = put_mark i x.mark (marks_from (i + 1) q)
-
-abbrev pub marks : Reading → Document → Marks
-marks r d = marks_from 0 (cells r d)
-
-no_put : (i : ℕ) (m : Option Breach) (ms : Marks) → put_mark i m ms ≡ [] → (m ≡ None) × (ms ≡ [])
-no_put i None ms e = (refl, e)
-no_put i (Some b) ms e = absurd (cc)
-
-no_marks_from : (i : ℕ) (q : List Cell) → marks_from i q ≡ [] → (j : ℕ) (b : Breach)
-    → slice_get (map (λ x. x.mark) q) j ≡ Some (Some b) → ⊥
-no_marks_from i [] e j b h = cc
-no_marks_from i (x ∷ q) e zero b h = let t = no_put i x.mark (marks_from (i + 1) q) e in cc
-no_marks_from i (x ∷ q) e (suc j) b h = no_marks_from (i + 1) q (no_put i x.mark (marks_from (i + 1) q) e).1 j b h
-
-pub no_marks : (r : Reading) (d : Document) → marks r d ≡ [] → HasNoBreach r d
-no_marks r d e i b h = no_marks_from 0 (cells r d) e i b h
+-- where two columns of rows are equal, each row has the property that follows
+pub each_row : {A B : Type 0} (P : A → Type 0) (f g : A → B) → ((x : A) → f x ≡ g x → P x) → (xs : List A)
+    → map f xs ≡ map g xs → All P xs
+each_row P f g law [] e k d lt = absurd (omega arith)
+each_row P f g law (x ∷ xs) e zero d lt = law x (cc)
+each_row P f g law (x ∷ xs) e (suc k) d lt = each_row P f g law xs (cc) k d (omega arith)
 
 -- ---- trees
-
-abbrev pub a : List ℕ
-a = codes "a"
 
 abbrev pub plains : List ℕ → List Item
 plains [] = []
 plains (c ∷ cs) = plain c ∷ plains cs
 
 -- a string of characters that stand for themselves, and a key of such characters with no whitespace round it
-abbrev pub string : List ℕ → Node
-string cs = Node.string (plains cs)
+abbrev pub string : String → Node
+string s = Node.string (plains (codes s))
 
 abbrev pub key_of : List Item → Key
 key_of is = record { before = []; items = is; after = [] }
 
-abbrev pub key : List ℕ → Key
-key cs = key_of (plains cs)
+abbrev pub key : String → Key
+key s = key_of (plains (codes s))
 
--- numbers: digits alone, with digits after a point, and with an exponent too
-abbrev pub integer : List ℕ → Numeral
-integer ds = record { negative = false; whole = ds; fraction = []; exponent = None }
+-- `\uXXXX`, and two of them
+abbrev pub escape : String → Item
+escape u = single (codes u)
 
-abbrev pub decimal : List ℕ → List ℕ → Numeral
-decimal ws fs = record { negative = false; whole = ws; fraction = fs; exponent = None }
+abbrev pub surrogates : String → String → Item
+surrogates u v = double (codes u) (codes v)
 
-abbrev pub power : List ℕ → List ℕ → Sign → List ℕ → Numeral
-power ws fs s ds = record {
-  negative = false;
-  whole = ws;
-  fraction = fs;
-  exponent = Some
-      (record { letter = 101; sign = s; digits = ds });
-}
+-- numbers: digits alone, with digits after a point, with an exponent too, and with a minus
+abbrev pub integer : String → Numeral
+integer ds = record { negative = false; whole = codes ds; fraction = []; exponent = None }
 
--- the same number with a minus
+abbrev pub decimal : String → String → Numeral
+decimal ws fs = record (integer ws) { fraction = codes fs }
+
+abbrev pub power : String → String → Sign → String → Numeral
+power ws fs s ds = record (decimal ws fs) { exponent = Some (record { letter = 101; sign = s; digits = codes ds }) }
+
 abbrev pub negated : Numeral → Numeral
 negated n = record n { negative = true }
 
-abbrev pub int : List ℕ → Node
-int ds = Node.number (integer ds)
+abbrev zero_node : Node
+zero_node = Node.number (integer "0")
 
 abbrev pub one : Node
-one = int (codes "1")
+one = Node.number (integer "1")
+
+abbrev pub two : Node
+two = Node.number (integer "2")
 
 -- containers with no whitespace: values, and members
 abbrev pub elements : List Node → Elements
@@ -115,6 +93,29 @@ object k n ms = Node.object k [] n [] (members ms)
 abbrev pub nested : ℕ → Node → Node
 nested zero v = v
 nested (suc n) v = array (nested n v) []
+
+-- n times, an array and in it an object round a value
+abbrev pub in_turn : ℕ → Node → Node
+in_turn zero v = v
+in_turn (suc n) v = array (object (key "a") (in_turn n v) []) []
+
+-- whitespace, and a key that comes twice
+abbrev spaced_key : String → Key
+spaced_key s = record { before = codes " "; items = plains (codes s); after = [] }
+
+abbrev pub spaced : Node
+spaced =
+    Node.object (spaced_key "foo") (codes " ") zero_node [] (member (spaced_key "bar") (codes " ") one []
+    (member (spaced_key "foo") (codes " ") two (codes " ") no_members))
+
+-- every kind of value
+abbrev pub mixed : Node
+mixed =
+    object (key "a") (array one (Node.number (negated (power "0" "5" plus "2"))
+    ∷ Node.string (plain 120 ∷ escape "00e9" ∷ surrogates "D834" "DD1E" ∷ []) ∷ [])) ((key "b", Node.null) ∷ [])
+
+abbrev pub mixed_text : List ℕ
+mixed_text = codes "{\"a\":[1,-0.5e+2,\"x\\u00e9\\uD834\\uDD1E\"],\"b\":null}"
 
 -- n equal characters and one more
 pub replicate-cons : (n x : ℕ) (cs : List ℕ) → replicate n x ++ (x ∷ cs) ≡ x ∷ (replicate n x ++ cs)

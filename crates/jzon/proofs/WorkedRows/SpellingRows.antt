@@ -1,399 +1,210 @@
--- Worked rows of docs/RULES.md, "Texts" and "Numbers": a tree, the text that it spells, what it means and how that is
--- printed, computed from the definitions.
-use Rattle.std.proofs.Common.{◌≡◌, pos, negsuc, List, [], ◌∷◌, ◌++◌, replicate, true, false, codes, encode_utf8_all}
-use Rattle.std.proofs.Common.{refl, ℕ}
+-- Worked rows of docs/RULES.md, "Texts" and "Numbers": a text, its tree, what that means and how it is printed, all
+-- computed from the definitions; then printed, equal and changed values.
+use Prim.Native.String.{String}
+use Rattle.std.proofs.Common.{◌≡◌, pos, negsuc, ℕ, List, [], ◌∷◌, ◌++◌, map, replicate, Bool, true, false, All, codes}
+use Rattle.std.proofs.Common.{encode_utf8_all, refl, ap}
 use Rattle.std.specs.Fmt.{digits}
 use Rattle.std.specs.Char.{encode_utf8}
-use Rattle.std.specs.Prelude.{IsTrue}
 use Rattle.jzon_base.specs.Decimal.{Decimal, nan, parts, scaled}
 use Rattle.jzon_base.specs.PairList.{put, cut}
 use Rattle.jzon_base.specs.Digits.{kept_len}
-use Rattle.jzon_tree.specs.Value.{Value, short, long, values_of, pairs_of}
+use Rattle.jzon_tree.specs.Value.{Value, Kind, short, long, values_of, pairs_of}
 use Rattle.jzon_tree.specs.Value as value
 use Rattle.jzon_tree.specs.Text.{compact, pretty}
 use Rattle.jzon_tree.specs.Same.{same}
 use Rattle.jzon.specs.Reading.{usual}
-use Rattle.jzon.specs.Grammar.{unsigned, plus, minus, Numeral, plain, simple, single, double, Node, no_members, member}
-use Rattle.jzon.specs.Grammar.{Document, IsWhitespace, code_unit}
+use Rattle.jzon.specs.Grammar.{unsigned, plus, minus, Numeral, plain, simple, Node, code_unit}
 use Rattle.jzon.specs.Meaning.{meaning, bytes_of}
-use Rattle.jzon.specs.Spelling.{spell, drops_too_many, keeps_too_many}
-use Rattle.jzon.specs.Fault.{Parses, Completes}
-use Rattle.jzon.proofs.WorkedRows.Samples.{marks, no_marks, alone, plains, string, key, key_of, integer, decimal, power}
-use Rattle.jzon.proofs.WorkedRows.Samples.{negated}
-use Rattle.jzon.proofs.WorkedRows.Samples.{int, array, object, is_numeral, is_numeral-true}
+use Rattle.jzon.specs.Spelling.{drops_too_many, keeps_too_many}
+use Rattle.jzon.specs.Fault.{Parses}
+use Rattle.jzon.specs.Classes.{class_of}
+use Rattle.jzon.proofs.Texts.ReadTree.{is_read, read_tree}
+use Rattle.jzon.proofs.WorkedRows.Samples.{each_row, alone, plains, string, key, key_of, escape, surrogates, integer}
+use Rattle.jzon.proofs.WorkedRows.Samples.{decimal, power, negated, one, two, array, object, is_numeral, spaced, mixed}
+use Rattle.jzon.proofs.WorkedRows.Samples.{mixed_text}
+
+-- ---- rows
+
+-- a text, its tree, what that means and how it is printed without whitespace
+abbrev Row : Type 0
+Row = List ℕ × Node × Value × List ℕ
+
+abbrev Means : Row → Type 0
+Means (t, n, v, printed) = Parses usual t (alone n) × (meaning n ≡ v) × (compact v ≡ printed)
+
+abbrev computed : Row → Bool × Value × List ℕ
+computed (t, n, v, printed) = (is_read usual t (alone n), meaning n, compact v)
+
+abbrev stated : Row → Bool × Value × List ℕ
+stated (t, n, v, printed) = (true, v, printed)
+
+means : (x : Row) → computed x ≡ stated x → Means x
+means (t, n, v, printed) h = (read_tree usual t (alone n) (ap (λ z. z.0) h), ap (λ z. z.1) h, ap (λ z. z.2) h)
+
+abbrev row : String → Node → Value → String → Row
+row t n v printed = (codes t, n, v, encode_utf8_all (codes printed))
 
 -- ---- numbers
 
--- The number is in the grammar and breaks no limit, and this is its text, what it means and how that is printed.
-abbrev NumberRow : List ℕ → Numeral → Decimal → List ℕ → Type 0
-NumberRow t n v printed =
-    IsTrue (is_numeral n)
-    × (spell usual (alone (Node.number n)) ≡ t)
-    × (marks usual (alone (Node.number n)) ≡ [])
-    × (meaning (Node.number n) ≡ value.number v)
-    × (compact (value.number v) ≡ printed)
+abbrev number : String → Numeral → Decimal → String → Row
+number t n v printed = row t (Node.number n) (value.number v) printed
 
-negative_with_all_parts : NumberRow (codes "-12.50e3") (negated (power (codes "12") (codes "50") unsigned (codes "3")))
-    (parts false 1250 (pos 1)) (codes "-12500")
-unfolding digits kept_len drops_too_many keeps_too_many
-negative_with_all_parts = (refl, refl, refl, refl, refl)
+abbrev number_rows : List Row
+number_rows =
+    number "-12.50e3" (negated (power "12" "50" unsigned "3")) (parts false 1250 (pos 1)) "-12500"
+    ∷ number "18446744073709551615.5" (decimal "18446744073709551615" "5") (parts true 18446744073709551615 (pos 0))
+    "18446744073709551615"
+    -- digits of the fraction that are dropped, and a small digit
+    ∷ number "2.22507385850720113605740979670913197593481954635164564e-308"
+    (power "2" "22507385850720113605740979670913197593481954635164564" minus "308")
+    (parts true 2225073858507201136 (negsuc 325)) "2.225073858507201136e-308"
+    ∷ number "184467440737095516165" (integer "184467440737095516165") (parts true 1844674407370955161 (pos 2))
+    "1.844674407370955161e20"
+    -- the exponent is clamped once
+    ∷ number "1.2e32768" (power "1" "2" unsigned "32768") (parts true 12 (pos 32767)) "1.2e32768"
+    ∷ number "1e999999999999999999999999999999999999999999999999999999999999"
+    (power "1" "" unsigned "999999999999999999999999999999999999999999999999999999999999") (parts true 1 (pos 32767))
+    "1e32767"
+    ∷ number "1e-32768" (power "1" "" minus "32768") (parts true 1 (negsuc 32767)) "1e-32768"
+    ∷ number "1e-32769" (power "1" "" minus "32769") (parts true 1 (negsuc 32767)) "1e-32768"
+    -- zeros are kept
+    ∷ number "1.50" (decimal "1" "50") (parts true 150 (negsuc 1)) "1.50"
+    ∷ number "100e-2" (power "100" "" minus "2") (parts true 100 (negsuc 1)) "1.00"
+    ∷ number "0e5" (power "0" "" unsigned "5") (parts true 0 (pos 5)) "0"
+    ∷ number "-0" (negated (integer "0")) (parts false 0 (pos 0)) "-0"
+    ∷ number "5e2" (power "5" "" unsigned "2") (parts true 5 (pos 2)) "500"
+    ∷ number "50000000000000000000" (integer "50000000000000000000") (parts true 5000000000000000000 (pos 1))
+    "50000000000000000000"
+    ∷ number "0.05e+1" (power "0" "05" plus "1") (parts true 5 (negsuc 0)) "0.5"
+    ∷ []
 
-greatest_mantissa : NumberRow (codes "18446744073709551615.5") (decimal (codes "18446744073709551615") (codes "5"))
-    (parts true 18446744073709551615 (pos 0)) (codes "18446744073709551615")
-unfolding digits kept_len drops_too_many keeps_too_many
-greatest_mantissa = (refl, refl, refl, refl, refl)
-
-fraction_digits_dropped :
-    NumberRow (codes "2.22507385850720113605740979670913197593481954635164564e-308")
-    (power (codes "2") (codes "22507385850720113605740979670913197593481954635164564") minus (codes "308"))
-    (parts true 2225073858507201136 (negsuc 325)) (codes "2.225073858507201136e-308")
-unfolding digits kept_len drops_too_many keeps_too_many
-fraction_digits_dropped = (refl, refl, refl, refl, refl)
-
-small_digit_dropped : NumberRow (codes "184467440737095516165") (integer (codes "184467440737095516165"))
-    (parts true 1844674407370955161 (pos 2)) (codes "1.844674407370955161e20")
-unfolding digits kept_len drops_too_many keeps_too_many
-small_digit_dropped = (refl, refl, refl, refl, refl)
-
-clamped_once : NumberRow (codes "1.2e32768") (power (codes "1") (codes "2") unsigned (codes "32768"))
-    (parts true 12 (pos 32767)) (codes "1.2e32768")
-unfolding digits kept_len drops_too_many keeps_too_many
-clamped_once = (refl, refl, refl, refl, refl)
-
-sixty_nines : NumberRow (codes "1e" ++ replicate 60 57) (power (codes "1") [] unsigned (replicate 60 57))
-    (parts true 1 (pos 32767)) (codes "1e32767")
-unfolding digits kept_len drops_too_many keeps_too_many
-sixty_nines = (refl, refl, refl, refl, refl)
-
-least_exponent : NumberRow (codes "1e-32768") (power (codes "1") [] minus (codes "32768")) (parts true 1 (negsuc 32767))
-    (codes "1e-32768")
-unfolding digits kept_len drops_too_many keeps_too_many
-least_exponent = (refl, refl, refl, refl, refl)
-
-below_least_exponent : NumberRow (codes "1e-32769") (power (codes "1") [] minus (codes "32769"))
-    (parts true 1 (negsuc 32767)) (codes "1e-32768")
-unfolding digits kept_len drops_too_many keeps_too_many
-below_least_exponent = (refl, refl, refl, refl, refl)
-
-zeros_kept : NumberRow (codes "1.50") (decimal (codes "1") (codes "50")) (parts true 150 (negsuc 1)) (codes "1.50")
-unfolding digits kept_len drops_too_many keeps_too_many
-zeros_kept = (refl, refl, refl, refl, refl)
-
-hundredths : NumberRow (codes "100e-2") (power (codes "100") [] minus (codes "2")) (parts true 100 (negsuc 1))
-    (codes "1.00")
-unfolding digits kept_len drops_too_many keeps_too_many
-hundredths = (refl, refl, refl, refl, refl)
-
-zero_keeps_exponent : NumberRow (codes "0e5") (power (codes "0") [] unsigned (codes "5")) (parts true 0 (pos 5))
-    (codes "0")
-unfolding digits kept_len drops_too_many keeps_too_many
-zero_keeps_exponent = (refl, refl, refl, refl, refl)
-
-minus_zero : NumberRow (codes "-0") (negated (integer (codes "0"))) (parts false 0 (pos 0)) (codes "-0")
-unfolding digits kept_len drops_too_many keeps_too_many
-minus_zero = (refl, refl, refl, refl, refl)
-
-five_hundred : NumberRow (codes "5e2") (power (codes "5") [] unsigned (codes "2")) (parts true 5 (pos 2)) (codes "500")
-unfolding digits kept_len drops_too_many keeps_too_many
-five_hundred = (refl, refl, refl, refl, refl)
-
-last_zero_dropped : NumberRow (codes "50000000000000000000") (integer (codes "50000000000000000000"))
-    (parts true 5000000000000000000 (pos 1)) (codes "50000000000000000000")
-unfolding digits kept_len drops_too_many keeps_too_many
-last_zero_dropped = (refl, refl, refl, refl, refl)
-
-leading_zeros_kept : NumberRow (codes "0.05e+1") (power (codes "0") (codes "05") plus (codes "1"))
-    (parts true 5 (negsuc 0)) (codes "0.5")
-unfolding digits kept_len drops_too_many keeps_too_many
-leading_zeros_kept = (refl, refl, refl, refl, refl)
+numbers : All Means number_rows
+unfolding digits class_of encode_utf8 kept_len drops_too_many keeps_too_many
+numbers = each_row Means computed stated means number_rows refl
 
 -- no number of the grammar
-leading_zero : is_numeral (integer (codes "01")) ≡ false
+leading_zero : is_numeral (integer "01") ≡ false
 leading_zero = refl
-
--- ---- literals and whitespace
-
-null_read : Parses usual (codes "null") (alone Node.null)
-null_read = (((tt, tt, tt), refl), no_marks usual (alone Node.null) refl)
-
-true_read : Parses usual (codes "true") (alone (Node.boolean true))
-true_read = (((tt, tt, tt), refl), no_marks usual (alone (Node.boolean true)) refl)
-
-abbrev pub between_whitespace : Document
-between_whitespace = record { before = 32 ∷ 10 ∷ 9 ∷ []; node = Node.boolean false; after = 13 ∷ 32 ∷ [] }
-
-false_between_whitespace : Parses usual (codes " \n\tfalse\r ") between_whitespace
-false_between_whitespace = (
-  (((refl, (refl, (refl, tt))), tt, (refl, (refl, tt))), refl),
-  no_marks usual between_whitespace
-      refl,
-)
-
--- a vertical tab and a form feed are whitespace of a usual reading alone
-wide_whitespace : IsWhitespace usual (11 ∷ 12 ∷ [])
-wide_whitespace = (refl, (refl, tt))
-
-no_strict_tab : IsWhitespace (record { strict = true; depth = 512 }) (11 ∷ []) → ⊥
-no_strict_tab h = cc (h.0)
-
-no_strict_feed : IsWhitespace (record { strict = true; depth = 512 }) (12 ∷ []) → ⊥
-no_strict_feed h = cc (h.0)
-
-byte_order_mark : IsWhitespace usual (0xFEFF ∷ []) → ⊥
-byte_order_mark h = cc (h.0)
-
--- ---- prefixes that go on
-
-empty_goes_on : Completes usual [] (alone Node.null)
-empty_goes_on = ((tt, tt, tt), codes "null", refl)
-
-whitespace_goes_on : Completes usual (codes "  ") (record { before = codes "  "; node = Node.null; after = [] })
-whitespace_goes_on = (((refl, (refl, tt)), tt, tt), codes "null", refl)
-
-minus_goes_on : Completes usual (codes "-") (alone (Node.number (negated (integer (codes "0")))))
-unfolding drops_too_many
-minus_goes_on = ((tt, is_numeral-true (negated (integer (codes "0"))) refl, tt), codes "0", refl)
-
-point_goes_on : Completes usual (codes "1.") (alone (Node.number (decimal (codes "1") (codes "0"))))
-unfolding drops_too_many keeps_too_many kept_len
-point_goes_on = ((tt, is_numeral-true (decimal (codes "1") (codes "0")) refl, tt), codes "0", refl)
-
-word_goes_on : Completes usual (codes "tru") (alone (Node.boolean true))
-word_goes_on = ((tt, tt, tt), codes "e", refl)
 
 -- ---- strings
 
--- The tree breaks no limit, and this is its text, what it means and how that is printed without whitespace.
-abbrev Row : List ℕ → Node → Value → List ℕ → Type 0
-Row t n v printed =
-    (spell usual (alone n) ≡ t) × (marks usual (alone n) ≡ []) × (meaning n ≡ v) × (compact v ≡ printed)
+-- characters that stand for themselves, in the text, in the string and in what is printed
+abbrev raw : Kind → List ℕ → Row
+raw kind cs =
+    let bytes = encode_utf8_all cs in
+    (34 ∷ cs ++ 34 ∷ [], Node.string (plains cs), value.text kind bytes, 34 ∷ bytes ++ 34 ∷ [])
 
-simple_escapes :
-    Row (codes "\"\\r\\n\\t\\b\\f\\\\\\/\\\"\"")
-    (Node.string (simple 114 ∷ simple 110 ∷ simple 116 ∷ simple 98 ∷ simple 102 ∷ simple 92 ∷ simple 47 ∷ simple 34 ∷
-    []))
-    (value.text short (13 ∷ 10 ∷ 9 ∷ 8 ∷ 12 ∷ 92 ∷ 47 ∷ 34 ∷ [])) (codes "\"\\r\\n\\t\\b\\f\\\\/\\\"\"")
-unfolding encode_utf8 bytes_of
-simple_escapes = (refl, refl, refl, refl)
+abbrev string_rows : List Row
+string_rows =
+    row "\"\\r\\n\\t\\b\\f\\\\\\/\\\"\"" (Node.string (map simple (codes "rntbf\\/\"")))
+    (value.text short (13 ∷ 10 ∷ 9 ∷ 8 ∷ 12 ∷ 92 ∷ 47 ∷ 34 ∷ [])) "\"\\r\\n\\t\\b\\f\\\\/\\\"\""
+    ∷ row "\"\\u2764\\ufe0f\"" (Node.string (escape "2764" ∷ escape "fe0f" ∷ []))
+    (value.text short (0xE2 ∷ 0x9D ∷ 0xA4 ∷ 0xEF ∷ 0xB8 ∷ 0x8F ∷ [])) "\"\u{2764}\u{FE0F}\""
+    ∷ row "\"\\u0000\"" (Node.string (escape "0000" ∷ [])) (value.text short (0 ∷ [])) "\"\\u0000\""
+    ∷ row "\"\\uD834\\uDD1E\"" (Node.string (surrogates "D834" "DD1E" ∷ []))
+    (value.text short (0xF0 ∷ 0x9D ∷ 0x84 ∷ 0x9E ∷ [])) "\"𝄞\""
+    -- one character, written in three ways
+    ∷ row "\"é\\u00e9\\u00E9\"" (Node.string (plain 233 ∷ escape "00e9" ∷ escape "00E9" ∷ []))
+    (value.text short (0xC3 ∷ 0xA9 ∷ 0xC3 ∷ 0xA9 ∷ 0xC3 ∷ 0xA9 ∷ [])) "\"ééé\""
+    ∷ row "\"foo\\u001fbar\\u0000baz\"" (Node.string (plains (codes "foo") ++ escape "001f" ∷ plains (codes "bar")
+    ++ escape "0000" ∷ plains (codes "baz"))) (value.text short (codes "foo\u{1F}bar\u{0}baz"))
+    "\"foo\\u001fbar\\u0000baz\""
+    -- a solidus and the character 127 are printed as they are; a text is short by its bytes, not by its characters
+    ∷ raw short (47 ∷ 127 ∷ [])
+    ∷ raw short (codes "abcdefghijklmnopqrstuvwxyz0123")
+    ∷ raw long (codes "abcdefghijklmnopqrstuvwxyz01234")
+    ∷ raw short (replicate 15 233)
+    ∷ raw long (replicate 16 233)
+    ∷ []
 
-heart :
-    Row (codes "\"\\u2764\\ufe0f\"") (Node.string (single (codes "2764") ∷ single (codes "fe0f") ∷ []))
-    (value.text short (0xE2 ∷ 0x9D ∷ 0xA4 ∷ 0xEF ∷ 0xB8 ∷ 0x8F ∷ []))
-    (34 ∷ 0xE2 ∷ 0x9D ∷ 0xA4 ∷ 0xEF ∷ 0xB8 ∷ 0x8F ∷ 34 ∷ [])
-unfolding encode_utf8 bytes_of code_unit
-heart = (refl, refl, refl, refl)
-
-null_character : Row (codes "\"\\u0000\"") (Node.string (single (codes "0000") ∷ [])) (value.text short (0 ∷ []))
-    (codes "\"\\u0000\"")
-unfolding encode_utf8 bytes_of code_unit
-null_character = (refl, refl, refl, refl)
-
-clef :
-    Row (codes "\"\\uD834\\uDD1E\"") (Node.string (double (codes "D834") (codes "DD1E") ∷ []))
-    (value.text short (0xF0 ∷ 0x9D ∷ 0x84 ∷ 0x9E ∷ [])) (34 ∷ 0xF0 ∷ 0x9D ∷ 0x84 ∷ 0x9E ∷ 34 ∷ [])
-unfolding encode_utf8 bytes_of code_unit
-clef = (refl, refl, refl, refl)
-
--- one character, written in three ways
-e_acute :
-    Row (codes "\"é\\u00e9\\u00E9\"") (Node.string (plain 233 ∷ single (codes "00e9") ∷ single (codes "00E9") ∷ []))
-    (value.text short (0xC3 ∷ 0xA9 ∷ 0xC3 ∷ 0xA9 ∷ 0xC3 ∷ 0xA9 ∷ []))
-    (34 ∷ 0xC3 ∷ 0xA9 ∷ 0xC3 ∷ 0xA9 ∷ 0xC3 ∷ 0xA9 ∷ 34 ∷ [])
-unfolding encode_utf8 bytes_of code_unit
-e_acute = (refl, refl, refl, refl)
-
-controls :
-    Row (codes "\"foo\\u001fbar\\u0000baz\"")
-    (Node.string (plains (codes "foo") ++ single (codes "001f") ∷ plains (codes "bar") ++ single (codes "0000") ∷ plains
-    (codes "baz")))
-    (value.text short (codes "foo" ++ 31 ∷ codes "bar" ++ 0 ∷ codes "baz")) (codes "\"foo\\u001fbar\\u0000baz\"")
-unfolding encode_utf8 bytes_of code_unit
-controls = (refl, refl, refl, refl)
-
--- a solidus and the character 127 are printed as they are
-raw_characters : Row (34 ∷ 47 ∷ 127 ∷ 34 ∷ []) (string (47 ∷ 127 ∷ [])) (value.text short (47 ∷ 127 ∷ []))
-    (34 ∷ 47 ∷ 127 ∷ 34 ∷ [])
-unfolding encode_utf8 bytes_of
-raw_characters = (refl, refl, refl, refl)
-
-thirty_bytes :
-    Row (codes "\"abcdefghijklmnopqrstuvwxyz0123\"") (string (codes "abcdefghijklmnopqrstuvwxyz0123"))
-    (value.text short (codes "abcdefghijklmnopqrstuvwxyz0123")) (codes "\"abcdefghijklmnopqrstuvwxyz0123\"")
-unfolding encode_utf8 bytes_of
-thirty_bytes = (refl, refl, refl, refl)
-
-thirty_one_bytes :
-    Row (codes "\"abcdefghijklmnopqrstuvwxyz01234\"") (string (codes "abcdefghijklmnopqrstuvwxyz01234"))
-    (value.text long (codes "abcdefghijklmnopqrstuvwxyz01234")) (codes "\"abcdefghijklmnopqrstuvwxyz01234\"")
-unfolding encode_utf8 bytes_of
-thirty_one_bytes = (refl, refl, refl, refl)
-
--- a text is short by its bytes, not by its characters
-fifteen_e_acute : meaning (string (replicate 15 233)) ≡ value.text short (encode_utf8_all (replicate 15 233))
-unfolding encode_utf8 bytes_of
-fifteen_e_acute = refl
-
-sixteen_e_acute : meaning (string (replicate 16 233)) ≡ value.text long (encode_utf8_all (replicate 16 233))
-unfolding encode_utf8 bytes_of
-sixteen_e_acute = refl
-
-open_string_goes_on : spell usual (alone (string (codes "ab"))) ≡ codes "\"ab" ++ codes "\""
-open_string_goes_on = refl
+strings : All Means string_rows
+unfolding class_of code_unit bytes_of encode_utf8 kept_len drops_too_many keeps_too_many
+strings = each_row Means computed stated means string_rows refl
 
 -- ---- arrays and objects
 
-abbrev one : Value
-one = value.number (parts true 1 (pos 0))
+abbrev whole : ℕ → Value
+whole m = value.number (parts true m (pos 0))
 
-abbrev two : Value
-two = value.number (parts true 2 (pos 0))
+abbrev object_of : List (List ℕ × Value) → Value
+object_of es = value.object (pairs_of es)
 
-abbrev a : List ℕ
-a = codes "a"
+abbrev mixed_items : List Value
+mixed_items = whole 1 ∷ value.number (parts false 5 (pos 1)) ∷ value.text short (encode_utf8_all (codes "xé𝄞")) ∷ []
 
-abbrev b : List ℕ
-b = codes "b"
+abbrev mixed_value : Value
+mixed_value = object_of ((codes "a", value.array (values_of mixed_items)) ∷ (codes "b", value.null) ∷ [])
 
--- with whitespace, and a key that comes twice: the first one's place and the last one's value
-abbrev pub spaced : Node
-spaced =
-    Node.object (record { before = codes " "; items = plains (codes "foo"); after = [] }) (codes " ") (int (codes "0"))
-    []
-    (member (record { before = codes " "; items = plains (codes "bar"); after = [] }) (codes " ") (int (codes "1")) []
-    (member (record { before = codes " "; items = plains (codes "foo"); after = [] }) (codes " ") (int (codes "2"))
-    (codes " ") no_members))
+abbrev container_rows : List Row
+container_rows =
+    -- a key that comes twice: the first one's place and the last one's value
+    row "{ \"foo\": 0, \"bar\": 1, \"foo\": 2 }" spaced
+    (object_of ((codes "foo", whole 2) ∷ (codes "bar", whole 1) ∷ [])) "{\"foo\":2,\"bar\":1}"
+    ∷ row "{\"a\":1,\"\\u0061\":2}" (object (key "a") one ((key_of (escape "0061" ∷ []), two) ∷ []))
+    (object_of ((codes "a", whole 2) ∷ [])) "{\"a\":2}"
+    ∷ row "{\"a\":{\"a\":1},\"a\":[]}"
+    (object (key "a") (object (key "a") one []) ((key "a", Node.empty_array []) ∷ []))
+    (object_of ((codes "a", value.array value.no_values) ∷ [])) "{\"a\":[]}"
+    ∷ row "{\"a\":1,\"b\":2,\"a\":2}" (object (key "a") one ((key "b", two) ∷ (key "a", two) ∷ []))
+    (object_of ((codes "a", whole 2) ∷ (codes "b", whole 2) ∷ [])) "{\"a\":2,\"b\":2}"
+    ∷ row "[ ]" (Node.empty_array (codes " ")) (value.array value.no_values) "[]"
+    ∷ row "{\n}" (Node.empty_object (codes "\n")) (value.object value.no_pairs) "{}"
+    ∷ row "{\"list\":[null,\"world\"]}" (object (key "list") (array Node.null (string "world" ∷ [])) [])
+    (object_of ((codes "list", value.array (values_of (value.null ∷ value.text short (codes "world") ∷ []))) ∷ []))
+    "{\"list\":[null,\"world\"]}"
+    ∷ (mixed_text, mixed, mixed_value, encode_utf8_all (codes "{\"a\":[1,-50,\"xé𝄞\"],\"b\":null}"))
+    ∷ []
 
-last_value_at_first_place :
-    Row (codes "{ \"foo\": 0, \"bar\": 1, \"foo\": 2 }") spaced
-    (value.object (pairs_of ((codes "foo", two) ∷ (codes "bar", one) ∷ []))) (codes "{\"foo\":2,\"bar\":1}")
-unfolding digits encode_utf8 bytes_of kept_len drops_too_many
-last_value_at_first_place = (refl, refl, refl, refl)
-
-repeated_key_as_escape :
-    Row (codes "{\"a\":1,\"\\u0061\":2}") (object (key a) (int (codes "1"))
-    ((key_of (single (codes "0061") ∷ []), int (codes "2")) ∷ []))
-    (value.object (pairs_of ((a, two) ∷ []))) (codes "{\"a\":2}")
-unfolding digits encode_utf8 bytes_of code_unit kept_len drops_too_many
-repeated_key_as_escape = (refl, refl, refl, refl)
-
-repeated_key_of_containers :
-    Row (codes "{\"a\":{\"a\":1},\"a\":[]}") (object (key a) (object (key a) (int (codes "1")) [])
-    ((key a, Node.empty_array []) ∷ []))
-    (value.object (pairs_of ((a, value.array value.no_values) ∷ []))) (codes "{\"a\":[]}")
-unfolding digits encode_utf8 bytes_of kept_len drops_too_many
-repeated_key_of_containers = (refl, refl, refl, refl)
-
-three_members :
-    Row (codes "{\"a\":1,\"b\":2,\"a\":2}") (object (key a) (int (codes "1"))
-    ((key b, int (codes "2")) ∷ (key a, int (codes "2")) ∷ []))
-    (value.object (pairs_of ((a, two) ∷ (b, two) ∷ []))) (codes "{\"a\":2,\"b\":2}")
-unfolding digits encode_utf8 bytes_of kept_len drops_too_many
-three_members = (refl, refl, refl, refl)
-
-empty_containers : Row (codes "[ ]") (Node.empty_array (codes " ")) (value.array value.no_values) (codes "[]")
-empty_containers = (refl, refl, refl, refl)
-
-empty_object_with_whitespace : Row (codes "{\n}") (Node.empty_object (10 ∷ [])) (value.object value.no_pairs)
-    (codes "{}")
-empty_object_with_whitespace = (refl, refl, refl, refl)
-
-world_in_list :
-    Row (codes "{\"list\":[null,\"world\"]}") (object (key (codes "list"))
-    (array Node.null (string (codes "world") ∷ [])) [])
-    (value.object (pairs_of ((
-      codes "list",
-      value.array (values_of
-          (value.null ∷ value.text short (codes "world") ∷ [])),
-    ) ∷ [])))
-    (codes "{\"list\":[null,\"world\"]}")
-unfolding encode_utf8 bytes_of
-world_in_list = (refl, refl, refl, refl)
-
--- every kind of value
-abbrev pub mixed : Node
-mixed =
-    object (key a)
-    (array (int (codes "1"))
-    (Node.number (negated (power (codes "0") (codes "5") plus (codes "2")))
-    ∷ Node.string (plain 120 ∷ single (codes "00e9") ∷ double (codes "D834") (codes "DD1E") ∷ [])
-    ∷ []))
-    ((key b, Node.null) ∷ [])
-
-abbrev pub mixed_text : List ℕ
-mixed_text = codes "{\"a\":[1,-0.5e+2,\"x\\u00e9\\uD834\\uDD1E\"],\"b\":null}"
-
-mixed_row :
-    Row mixed_text mixed
-    (value.object (pairs_of ((
-      a,
-      value.array (values_of (one ∷ value.number (parts false 5 (pos 1)) ∷ value.text short
-          (encode_utf8_all (codes "xé𝄞")) ∷ [])),
-    ) ∷ (b, value.null) ∷ [])))
-    (encode_utf8_all (codes "{\"a\":[1,-50,\"xé𝄞\"],\"b\":null}"))
-unfolding digits encode_utf8 bytes_of code_unit kept_len drops_too_many keeps_too_many
-mixed_row = (refl, refl, refl, refl)
+containers : All Means container_rows
+unfolding digits class_of code_unit bytes_of encode_utf8 kept_len drops_too_many keeps_too_many
+containers = each_row Means computed stated means container_rows refl
 
 -- ---- printed values
 
-nan_in_array : compact (value.array (values_of (value.number nan ∷ []))) ≡ codes "[null]"
-nan_in_array = refl
-
-four_spaces :
-    pretty (meaning (array (int (codes "1")) (Node.boolean true ∷ string (codes "three") ∷ []))) 4 0
-    ≡ codes "[\n    1,\n    true,\n    \"three\"\n]"
-unfolding digits encode_utf8 bytes_of kept_len
-four_spaces = refl
-
-pretty_empty_containers :
-    pretty (meaning (object (key a) (Node.empty_array []) ((key b, Node.empty_object []) ∷ []))) 2 0
-    ≡ codes "{\n  \"a\": [],\n  \"b\": {}\n}"
-unfolding encode_utf8 bytes_of
-pretty_empty_containers = refl
-
-pretty_inside :
-    pretty (meaning (object (key a) (array (int (codes "1")) (Node.empty_object [] ∷ [])) [])) 2 0
-    ≡ codes "{\n  \"a\": [\n    1,\n    {}\n  ]\n}"
-unfolding digits encode_utf8 bytes_of kept_len
-pretty_inside = refl
-
-no_spaces : pretty (meaning (array (int (codes "1")) [])) 0 0 ≡ codes "[\n1\n]"
-unfolding digits kept_len
-no_spaces = refl
-
--- ---- values that are the same, and changed objects
-
--- neither the order of the members counts nor how a number is written
-same_objects :
-    same (meaning (object (key a) (int (codes "1")) ((key b, int (codes "2")) ∷ [])))
-    (meaning (object (key b) (int (codes "2")) ((key a, Node.number (decimal (codes "1") (codes "0"))) ∷ []))) ≡ true
-unfolding encode_utf8 bytes_of kept_len scaled
-same_objects = refl
-
-other_value : same (meaning (object (key a) (int (codes "1")) [])) (meaning (object (key a) (int (codes "2")) []))
-    ≡ false
-unfolding encode_utf8 bytes_of kept_len scaled
-other_value = refl
-
-other_order : same (meaning (array (int (codes "1")) (int (codes "2") ∷ [])))
-    (meaning (array (int (codes "2")) (int (codes "1") ∷ []))) ≡ false
-unfolding kept_len scaled
-other_order = refl
-
--- nor how a text is kept
-same_texts : same (value.text short a) (value.text long a) ≡ true
-same_texts = refl
-
 abbrev three : List (List ℕ × Value)
-three = (a, one) ∷ (b, two) ∷ (codes "c", value.null) ∷ []
+three = (codes "a", whole 1) ∷ (codes "b", whole 2) ∷ (codes "c", value.null) ∷ []
 
-cut_from_middle : compact (value.object (pairs_of (cut b three))) ≡ codes "{\"a\":1,\"c\":null}"
-unfolding digits
-cut_from_middle = refl
+-- what is printed, and the text
+abbrev text : List ℕ → String → List ℕ × List ℕ
+text printed t = (printed, codes t)
 
-put_after_cut : compact (value.object (pairs_of (put b one (cut b three)))) ≡ codes "{\"a\":1,\"c\":null,\"b\":1}"
-unfolding digits
-put_after_cut = refl
+abbrev printed_rows : List (List ℕ × List ℕ)
+printed_rows =
+    text (compact (value.array (values_of (value.number nan ∷ [])))) "[null]"
+    ∷ text (pretty (meaning (array one (Node.boolean true ∷ string "three" ∷ []))) 4 0)
+    "[\n    1,\n    true,\n    \"three\"\n]"
+    ∷ text (pretty (meaning (object (key "a") (Node.empty_array []) ((key "b", Node.empty_object []) ∷ []))) 2 0)
+    "{\n  \"a\": [],\n  \"b\": {}\n}"
+    ∷ text (pretty (meaning (object (key "a") (array one (Node.empty_object [] ∷ [])) [])) 2 0)
+    "{\n  \"a\": [\n    1,\n    {}\n  ]\n}"
+    ∷ text (pretty (meaning (array one [])) 0 0) "[\n1\n]"
+    -- changed objects
+    ∷ text (compact (object_of (cut (codes "b") three))) "{\"a\":1,\"c\":null}"
+    ∷ text (compact (object_of (put (codes "b") (whole 1) (cut (codes "b") three)))) "{\"a\":1,\"c\":null,\"b\":1}"
+    ∷ text (compact (object_of (put (codes "b") (whole 1) three))) "{\"a\":1,\"b\":1,\"c\":null}"
+    ∷ []
 
-put_in_place : compact (value.object (pairs_of (put b one three))) ≡ codes "{\"a\":1,\"b\":1,\"c\":null}"
-unfolding digits
-put_in_place = refl
+printed : All (λ x. x.0 ≡ x.1) printed_rows
+unfolding digits encode_utf8 bytes_of kept_len
+printed = each_row (λ x. x.0 ≡ x.1) (λ x. x.0) (λ x. x.1) (λ x e. e) printed_rows refl
+
+-- ---- values that are the same
+
+-- two values, and whether they are the same
+abbrev pair_of : Value → Value → Bool → Value × Value × Bool
+pair_of v w b = (v, w, b)
+
+abbrev same_rows : List (Value × Value × Bool)
+same_rows =
+    -- neither the order of the members counts nor how a number is written
+    pair_of (meaning (object (key "a") one ((key "b", two) ∷ [])))
+    (meaning (object (key "b") two ((key "a", Node.number (decimal "1" "0")) ∷ []))) true
+    ∷ (meaning (object (key "a") one []), meaning (object (key "a") two []), false)
+    ∷ (meaning (array one (two ∷ [])), meaning (array two (one ∷ [])), false)
+    -- nor how a text is kept
+    ∷ (value.text short (codes "a"), value.text long (codes "a"), true)
+    ∷ []
+
+same_values : All (λ x. same x.0 x.1 ≡ x.2) same_rows
+unfolding encode_utf8 bytes_of kept_len scaled
+same_values = each_row (λ x. same x.0 x.1 ≡ x.2) (λ x. same x.0 x.1) (λ x. x.2) (λ x e. e) same_rows refl

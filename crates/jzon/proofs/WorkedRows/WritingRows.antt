@@ -21,7 +21,9 @@ use Rattle.jzon.specs.Grammar.{Node, no_elements, no_members, member, plain, sim
 use Rattle.jzon.specs.Meaning.{bytes_of}
 use Rattle.jzon.specs.Spelling.{drops_too_many, keeps_too_many}
 use Rattle.jzon.specs.Laws.{alone, IsReadAs}
-use Rattle.jzon.proofs.WorkedRows.Samples.{no_marks, key, decimal}
+use Rattle.jzon.specs.Classes.{class_of}
+use Rattle.jzon.proofs.Texts.ReadTree.{read_tree}
+use Rattle.jzon.proofs.WorkedRows.Samples.{key, decimal}
 
 -- `{"a":1.5,"b":["x\n"]}`
 abbrev written : Value
@@ -98,29 +100,8 @@ abbrev node : Node
 node =
     Node.object (record { before = 32 ∷ []; items = plain 98 ∷ []; after = [] }) (32 ∷ [])
     (Node.array [] (Node.string (plain 120 ∷ simple 110 ∷ [])) (9 ∷ []) no_elements) []
-    (member (key (codes "a")) [] (Node.number (decimal (codes "1") (codes "5"))) [] no_members)
+    (member (key "a") [] (Node.number (decimal "1" "5")) [] no_members)
 
 read : IsReadAs usual bytes (λ w. IsTrue (same w written))
-unfolding encode_utf8 chars bytes_of kept_len scaled drops_too_many keeps_too_many
-read = (
-  (bytes, (refl, refl)),
-  alone node,
-  (
-    (
-      (
-        tt,
-        (
-          ((refl, tt), (refl, tt), tt),
-          (refl, tt),
-          (tt, (refl, (refl, tt)), (refl, tt), tt),
-          tt,
-          ((tt, (refl, tt), tt), tt, (refl, (refl, tt), tt), tt, tt),
-        ),
-        tt,
-      ),
-      refl,
-    ),
-    no_marks usual (alone node) refl,
-  ),
-  refl,
-)
+unfolding class_of encode_utf8 chars bytes_of kept_len scaled drops_too_many keeps_too_many
+read = ((bytes, (refl, refl)), alone node, read_tree usual (chars bytes) (alone node) refl, refl)
