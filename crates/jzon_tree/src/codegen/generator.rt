@@ -206,28 +206,6 @@ pub trait Generator {
         lay_aside(self.new_line(), fault)
     }
 
-    /// `indent`, as `write_json` calls it.
-    #[doc(hidden)]
-    fn try_indent(&mut self, fault: &mut Fault) -> Step<()>
-        ensures { MatchResult result
-            (λ _. meaning self.new ≡ record (meaning self.old) { dent = (meaning self.old).dent + 1 })
-            (λ _. ((meaning self.old).dent ≡ 2 ^ 64 - 1)
-            × (meaning self.new ≡ record (meaning self.old) { faults = noted (meaning self.old).faults })) }
-    {
-        lay_aside(self.indent(), fault)
-    }
-
-    /// `order`, as `write_json` calls it.
-    #[doc(hidden)]
-    fn try_order(&mut self, object: &Object, fault: &mut Fault) -> Step<Option<Vec<usize>>>
-        ensures { MatchResult result
-            (λ answer. Added (Just []) (meaning self.old) (meaning self.new)
-            × IsAnswer (meaning self.old).style (keys_of (entries_of object.now)) answer)
-            (λ _. Failed (Just []) (meaning self.old) (meaning self.new)) }
-    {
-        lay_aside(self.order(object), fault)
-    }
-
     // Another writer changes the bytes alone.
     ghost writer_law: { (g : Self) (w : Self.T)
         → meaning (with_writer g w) ≡ record (meaning g) { out = Self.T.contents w } };

@@ -10,7 +10,7 @@ use crate::codegen::fault::{Fault, Step, taken_up};
 use crate::codegen::generator::Generator;
 use crate::codegen::layout::Layout;
 use crate::codegen::outlet::Outlet;
-use crate::codegen::send::{send, send_line, send_number, send_string};
+use crate::codegen::send::{send, send_line, send_number, send_string, send_string_from};
 use crate::object::Object;
 use jzon_base::number::Number;
 use std::io;
@@ -63,9 +63,39 @@ impl<O: Outlet, L: Layout> Generator for TextGenerator<O, L> {
         self.outlet.writer()
     }
 
+    fn write(&mut self, slice: &[u8]) -> io::Result<()> {
+        let mut fault = None;
+        let step = self.try_write(slice, &mut fault);
+        taken_up(step, fault)
+    }
+
+    fn write_char(&mut self, ch: u8) -> io::Result<()> {
+        let mut fault = None;
+        let step = self.try_write_char(ch, &mut fault);
+        taken_up(step, fault)
+    }
+
     fn write_min(&mut self, slice: &[u8], min: u8) -> io::Result<()> {
         let mut fault = None;
         let step = self.try_write_min(slice, min, &mut fault);
+        taken_up(step, fault)
+    }
+
+    fn write_string(&mut self, string: &str) -> io::Result<()> {
+        let mut fault = None;
+        let step = self.try_write_string(string, &mut fault);
+        taken_up(step, fault)
+    }
+
+    fn write_string_complex(&mut self, string: &str, start: usize) -> io::Result<()> {
+        let mut fault = None;
+        let step = send_string_from(self.outlet.writer(), string, start, &mut fault);
+        taken_up(self.count(step), fault)
+    }
+
+    fn write_number(&mut self, num: &Number) -> io::Result<()> {
+        let mut fault = None;
+        let step = self.try_write_number(num, &mut fault);
         taken_up(step, fault)
     }
 

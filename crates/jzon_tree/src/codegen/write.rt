@@ -1,16 +1,16 @@
 //! Values and objects, written by a generator.
 
-ghost use Rattle.std.specs.Prelude.{◌≡◌, ◌-◌, ◌<◌, length, map, slice_index_or, OnOk};
+ghost use Rattle.std.specs.Prelude.{◌≡◌, ◌+◌, ◌-◌, ◌<◌, ◌^◌, [], length, map, slice_index_or, MatchResult, OnOk};
 ghost use Rattle.jzon_base.specs.PairList.{keys_of};
 ghost use Rattle.jzon_tree.specs.Entries.{entries_of};
-ghost use Rattle.jzon_tree.specs.Generator.{Emits, Prints, IsAnswer, positions};
+ghost use Rattle.jzon_tree.specs.Generator.{Added, Emits, Failed, IsAnswer, Just, Prints, noted, positions};
 ghost use Rattle.jzon_tree.specs.Lawful.{IsValue, AreValues, ArePairs, IsPair};
 ghost use Rattle.jzon_tree.specs.Printing.{IsBetween, IsClosing, AreItems, IsEntry, AreMembers, PrintsIf};
 ghost use Rattle.jzon_tree.specs.Value.{array};
 ghost use Rattle.jzon_tree.specs.View.{view, view_object, view_values, view_pairs, viewed};
 ghost use Rattle.jzon_tree.specs.Writing.{Writes};
 
-use crate::codegen::fault::{Fault, Step, Stopped, laid_aside};
+use crate::codegen::fault::{Fault, Step, Stopped, laid_aside, lay_aside};
 use crate::codegen::generator::Generator;
 use crate::codegen::inspect::{inspect, inspect_object, see_number};
 use crate::object::Object;
@@ -89,7 +89,7 @@ fn write_array<G: Generator>(g: &mut G, items: &[JsonValue], fault: &mut Fault) 
         return g.try_write(b"[]", fault);
     }
     g.try_write_char(b'[', fault)?;
-    g.try_indent(fault)?;
+    try_indent(g, fault)?;
     write_items(g, items, fault)?;
     close(g, b']', fault)
 }
@@ -117,12 +117,12 @@ fn write_pairs<G: Generator>(g: &mut G, object: &Object, fault: &mut Fault) -> S
         (G.meaning g.old) (G.meaning g.new) result }
     ensures value { OnOk result (IsValue (view_object object.now)) }
 {
-    let order = g.try_order(object, fault)?;
+    let order = try_order(g, object, fault)?;
     if object.is_empty() {
         return g.try_write(b"{}", fault);
     }
     g.try_write_char(b'{', fault)?;
-    g.try_indent(fault)?;
+    try_indent(g, fault)?;
     write_members(g, object, &order, fault)?;
     close(g, b'}', fault)
 }
@@ -196,4 +196,24 @@ fn close<G: Generator>(g: &mut G, bracket: u8, fault: &mut Fault) -> Step<()>
     g.dedent();
     g.try_new_line(fault)?;
     g.try_write_char(bracket, fault)
+}
+
+/// `indent`, whose error is stored.
+fn try_indent<G: Generator>(g: &mut G, fault: &mut Fault) -> Step<()>
+    ensures { MatchResult result
+        (λ _. G.meaning g.new ≡ record (G.meaning g.old) { dent = (G.meaning g.old).dent + 1 })
+        (λ _. ((G.meaning g.old).dent ≡ 2 ^ 64 - 1)
+        × (G.meaning g.new ≡ record (G.meaning g.old) { faults = noted (G.meaning g.old).faults })) }
+{
+    lay_aside(g.indent(), fault)
+}
+
+/// `order`, whose error is stored.
+fn try_order<G: Generator>(g: &mut G, object: &Object, fault: &mut Fault) -> Step<Option<Vec<usize>>>
+    ensures { MatchResult result
+        (λ answer. Added (Just []) (G.meaning g.old) (G.meaning g.new)
+        × IsAnswer (G.meaning g.old).style (keys_of (entries_of object.now)) answer)
+        (λ _. Failed (Just []) (G.meaning g.old) (G.meaning g.new)) }
+{
+    lay_aside(g.order(object), fault)
 }

@@ -212,7 +212,7 @@ write_pairs-returns-in_err-try_write_char-clause-written g t c =
     let s = (g.G.Generator.meaning c.args.g.now).style in
     let es = entries_of c.args.object.now in
     after_order _ _ _ (view_object c.args.object.now) _ _ c.in_ok-order.ensures.0
-    (object_at_opening _ (g.met.G.Generator.style_law c.try_order.new.self) (viewed es)
+    (object_at_opening _ (g.met.G.Generator.style_law c.try_order.new.g) (viewed es)
     (positions (length es) c.in_ok-order.order) (answer_order s es c.in_ok-order.order c.in_ok-order.ensures.1)
     (rw c.in_ok-order.ensures.0.style (answer_allowed s es c.in_ok-order.order c.in_ok-order.ensures.1))
     (some_pair es c.is_empty.result c.is_empty.ensures c.if-is_empty.false) _ _
@@ -223,7 +223,7 @@ write_pairs-returns-in_err-try_indent-clause-written g t c =
     let s = (g.G.Generator.meaning c.args.g.now).style in
     let es = entries_of c.args.object.now in
     after_order _ _ _ (view_object c.args.object.now) _ _ c.in_ok-order.ensures.0
-    (object_at_indent _ (g.met.G.Generator.style_law c.try_order.new.self) (viewed es)
+    (object_at_indent _ (g.met.G.Generator.style_law c.try_order.new.g) (viewed es)
     (positions (length es) c.in_ok-order.order) (answer_order s es c.in_ok-order.order c.in_ok-order.ensures.1)
     (rw c.in_ok-order.ensures.0.style (answer_allowed s es c.in_ok-order.order c.in_ok-order.ensures.1))
     (some_pair es c.is_empty.result c.is_empty.ensures c.if-is_empty.false) _ _ _ c.in_ok-try_write_char.ensures
@@ -235,7 +235,7 @@ write_pairs-returns-in_err-write_members-clause-written g t c =
     let s = (g.G.Generator.meaning c.args.g.now).style in
     let es = entries_of c.args.object.now in
     after_order _ _ _ (view_object c.args.object.now) _ _ c.in_ok-order.ensures.0
-    (object_at_members _ (g.met.G.Generator.style_law c.try_order.new.self) (viewed es)
+    (object_at_members _ (g.met.G.Generator.style_law c.try_order.new.g) (viewed es)
     (positions (length es) c.in_ok-order.order) (answer_order s es c.in_ok-order.order c.in_ok-order.ensures.1)
     (rw c.in_ok-order.ensures.0.style (answer_allowed s es c.in_ok-order.order c.in_ok-order.ensures.1))
     (some_pair es c.is_empty.result c.is_empty.ensures c.if-is_empty.false) _ _ _ c.in_ok-try_write_char.ensures _
@@ -246,7 +246,7 @@ write_pairs-returns-clause-written g t c =
     let s = (g.G.Generator.meaning c.args.g.now).style in
     let es = entries_of c.args.object.now in
     after_order _ _ _ (view_object c.args.object.now) _ _ c.in_ok-order.ensures.0
-    (object_at_close _ (g.met.G.Generator.style_law c.try_order.new.self) (viewed es)
+    (object_at_close _ (g.met.G.Generator.style_law c.try_order.new.g) (viewed es)
     (positions (length es) c.in_ok-order.order) (answer_order s es c.in_ok-order.order c.in_ok-order.ensures.1)
     (rw c.in_ok-order.ensures.0.style (answer_allowed s es c.in_ok-order.order c.in_ok-order.ensures.1))
     (some_pair es c.is_empty.result c.is_empty.ensures c.if-is_empty.false) _ _ _ c.in_ok-try_write_char.ensures _
