@@ -1,5 +1,6 @@
 -- The laws of lists of pairs: what is found under a key after a pair was put or cut, that distinct keys stay distinct,
 -- and what holds of each pair.
+pub use Rattle.jzon_base.proofs.PutEach.{put_each-distinct, put_each-put_each}
 use Rattle.std.proofs.Common.{◌≡◌, ◌≢◌, ℕ, List, [], ◌∷◌, Bool, true, false, cond, Option, Some, None, refl, sym, ap}
 use Rattle.std.proofs.Common.{subst, ◌∙◌}
 use Rattle.std.specs.Option.{option_or}

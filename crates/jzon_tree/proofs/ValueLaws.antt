@@ -1,20 +1,23 @@
 -- The laws of values: what each kind of `JsonValue` is seen as, what its items and pairs are, and what is found after a
--- change.
+-- change, and what a value is that is no object or no array.
 pub use Rattle.jzon_tree.proofs.Views.{view-Null, view-Boolean, view-Array, view-Object}
 pub use Rattle.jzon_tree.proofs.Views.{list_of_pairs-pairs_of, find-viewed, viewed-put, viewed-cut}
+pub use Rattle.jzon_tree.proofs.Ordered.{keys-viewed}
 pub use Rattle.jzon_tree.proofs.Seen.{list_of_values-values_of, items-Array, entries-Object, count-Array, count-Object}
-use Rattle.std.proofs.Common.{◌≡◌, ◌≢◌, ℕ, zero, suc, List, [], ◌∷◌, ◌++◌, map, remove, true, false}
+use Rattle.std.proofs.Common.{◌≡◌, ◌≢◌, ℕ, zero, suc, List, [], ◌∷◌, ◌++◌, map, remove, Bool, true, false, cond}
 use Rattle.std.proofs.Common.{Some, None, option_map, unwrap_or}
 use Rattle.std.proofs.Common.{refl, sym, ap, ◌∙◌, subst, rules, string_bytes, String, Global}
 use Rattle.std.specs.Prelude.{AllPairs}
+use Rattle.std.specs.Str.{bytes_eq}
+use Rattle.std.proofs.lemmas.Option.{none-some}
 use Rattle.jzon_base.specs.Decimal.{Decimal}
 use Rattle.jzon_base.specs.PairList.{find, put, cut, keys_of}
 use Rattle.jzon_base.proofs.PairLaws.{find-put_same, find-put_other, find-cut_same, find-cut_other}
 use Rattle.jzon_tree.specs.Changers.{with_item, without_item, with_entry, without_entry}
-use Rattle.jzon_tree.specs.Lent.{entries_in, items_in}
-use Rattle.jzon_tree.specs.Readers.{items, entries, is_array, is_object}
+use Rattle.jzon_tree.specs.Lent.{object_in, entries_in, items_in}
+use Rattle.jzon_tree.specs.Readers.{items, entries, is_array, is_object, object_of, array_of}
 use Rattle.jzon_tree.specs.Value.{Value, null, boolean, text, number, array, object, short, long, list_of_values}
-use Rattle.jzon_tree.specs.Value.{list_of_pairs}
+use Rattle.jzon_tree.specs.Value.{list_of_pairs, Values, Pairs, no_values, value, no_pairs, pair, values_of, pairs_of}
 use Rattle.jzon_tree.specs.View.{view, viewed}
 use Rattle.jzon_tree.specs.declared.object.Object.{Object}
 use Rattle.jzon_tree.specs.declared.value.JsonValue.{JsonValue, out-JsonValue, roll-JsonValue, the_lemmas}
@@ -153,6 +156,91 @@ find-without_entry_same k w distinct = ap (find k) (entries-without_entry k w) �
 pub find-without_entry_other : (j k : List ℕ) (w : Value) → j ≢ k
     → find j (entries (without_entry k w)) ≡ find j (entries w)
 find-without_entry_other j k w apart = ap (find j) (entries-without_entry k w) ∙ find-cut_other j k (entries w) apart
+
+-- ---- the lists of a value, and back
+
+pub values_of-list_of_values : (vs : Values) → values_of (list_of_values vs) ≡ vs
+values_of-list_of_values no_values = refl
+values_of-list_of_values (value v vs) = ap (λ ws. value v ws) (values_of-list_of_values vs)
+
+pub pairs_of-list_of_pairs : (ps : Pairs) → pairs_of (list_of_pairs ps) ≡ ps
+pairs_of-list_of_pairs no_pairs = refl
+pairs_of-list_of_pairs (pair k v ps) = ap (λ qs. pair k v qs) (pairs_of-list_of_pairs ps)
+
+-- ---- a put of what is seen as the value that is there
+
+put_same-by : (b : Bool) (k : List ℕ) (v w : JsonValue) (p : List ℕ × JsonValue) (ps : List (List ℕ × JsonValue))
+    → cond b (Some p.1) (find k ps) ≡ Some w → view v ≡ view w
+    → (find k ps ≡ Some w → viewed (put k v ps) ≡ viewed ps)
+    → viewed (cond b ((p.0, v) ∷ ps) (p ∷ put k v ps)) ≡ viewed (p ∷ ps)
+put_same-by true k v w p ps found same rest =
+    let is : p.1 ≡ w = cc in ap (λ (x : Value). (p.0, x) ∷ viewed ps) (same ∙ sym (ap view is))
+put_same-by false k v w p ps found same rest = ap (λ (qs : List (List ℕ × Value)). (p.0, view p.1) ∷ qs) (rest found)
+
+pub viewed-put_same : (k : List ℕ) (v w : JsonValue) (ps : List (List ℕ × JsonValue)) → find k ps ≡ Some w
+    → view v ≡ view w → viewed (put k v ps) ≡ viewed ps
+viewed-put_same k v w [] found same = absurd (cc)
+viewed-put_same k v w (p ∷ ps) found same =
+    put_same-by (bytes_eq p.0 k) k v w p ps found same (λ rest. viewed-put_same k v w ps rest same)
+
+-- ---- what is no object, and what is no array
+
+rolled-no_object : (l : JsonValue-F JsonValue Object) → object_in (roll-JsonValue l) ≡ None
+    → is_object (view (roll-JsonValue l)) ≡ false
+rolled-no_object JsonValue-F.Null h = search (rules, the_lemmas)
+rolled-no_object (JsonValue-F.Short s) h = search (rules, the_lemmas)
+rolled-no_object (JsonValue-F.String s) h = search (rules, the_lemmas)
+rolled-no_object (JsonValue-F.Number n) h = search (rules, the_lemmas)
+rolled-no_object (JsonValue-F.Boolean b) h = search (rules, the_lemmas)
+rolled-no_object (JsonValue-F.Object o) h =
+    let is : object_in (roll-JsonValue (JsonValue-F.Object o)) ≡ Some o = search (rules, the_lemmas) in
+    absurd (none-some o (sym h ∙ is))
+rolled-no_object (JsonValue-F.Array vs) h = search (rules, the_lemmas)
+
+pub is_object-no_object_in : (v : JsonValue) → object_in v ≡ None → is_object (view v) ≡ false
+is_object-no_object_in v =
+    let same : roll-JsonValue (out-JsonValue v) ≡ v = search (rules, the_lemmas) in
+    subst (λ w. object_in w ≡ None → is_object (view w) ≡ false) same (rolled-no_object (out-JsonValue v))
+
+rolled-no_array : (l : JsonValue-F JsonValue Object) → items_in (roll-JsonValue l) ≡ None
+    → is_array (view (roll-JsonValue l)) ≡ false
+rolled-no_array JsonValue-F.Null h = search (rules, the_lemmas)
+rolled-no_array (JsonValue-F.Short s) h = search (rules, the_lemmas)
+rolled-no_array (JsonValue-F.String s) h = search (rules, the_lemmas)
+rolled-no_array (JsonValue-F.Number n) h = search (rules, the_lemmas)
+rolled-no_array (JsonValue-F.Boolean b) h = search (rules, the_lemmas)
+rolled-no_array (JsonValue-F.Object o) h = search (rules, the_lemmas)
+rolled-no_array (JsonValue-F.Array vs) h =
+    let is : items_in (roll-JsonValue (JsonValue-F.Array vs)) ≡ Some vs.items = search (rules, the_lemmas) in
+    absurd (none-some vs.items (sym h ∙ is))
+
+pub is_array-no_items_in : (v : JsonValue) → items_in v ≡ None → is_array (view v) ≡ false
+is_array-no_items_in v =
+    let same : roll-JsonValue (out-JsonValue v) ≡ v = search (rules, the_lemmas) in
+    subst (λ w. items_in w ≡ None → is_array (view w) ≡ false) same (rolled-no_array (out-JsonValue v))
+
+pub entries-no_object_in : (v : JsonValue) → object_in v ≡ None → entries (view v) ≡ []
+entries-no_object_in v none = entries-other (view v) (is_object-no_object_in v none)
+
+pub items-no_items_in : (v : JsonValue) → items_in v ≡ None → items (view v) ≡ []
+items-no_items_in v none = items-other (view v) (is_array-no_items_in v none)
+
+-- the same by what `as_object` and `as_array` return
+pub is_object-no_object_of : (v : Value) → object_of v ≡ None → is_object v ≡ false
+is_object-no_object_of null h = refl
+is_object-no_object_of (boolean b) h = refl
+is_object-no_object_of (text k s) h = refl
+is_object-no_object_of (number n) h = refl
+is_object-no_object_of (array vs) h = refl
+is_object-no_object_of (object ps) h = absurd (cc)
+
+pub is_array-no_array_of : (v : Value) → array_of v ≡ None → is_array v ≡ false
+is_array-no_array_of null h = refl
+is_array-no_array_of (boolean b) h = refl
+is_array-no_array_of (text k s) h = refl
+is_array-no_array_of (number n) h = refl
+is_array-no_array_of (array vs) h = absurd (cc)
+is_array-no_array_of (object ps) h = refl
 
 pub ruleset changed_parts = (entries-with_entry, entries-without_entry, items-with_item, items-without_item)
 

@@ -1,4 +1,4 @@
-use Rattle.std.proofs.Common.{◌≡◌, ◌^◌, ◌<◌, ◌≤◌, arith}
+use Rattle.std.proofs.Common.{◌^◌, arith}
 use Rattle.jzon_base.proofs.Scaled.{rest_of_larger}
 use Rattle.jzon_base.proofs.Powers.{power_pos}
 use Rattle.jzon_base.proofs.number.fixed_point.is_multiple.Goals as goal
