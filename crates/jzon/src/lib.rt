@@ -5,6 +5,7 @@ mod conversions;
 mod cursor;
 mod fault;
 mod frames;
+mod hints;
 pub mod iterators;
 pub mod laws;
 mod macros;

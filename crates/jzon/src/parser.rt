@@ -4,7 +4,7 @@ ghost use Rattle.std.specs.Prelude.{◌≡◌, ◌≢◌, ◌&&◌, [], ◌<◌,
 ghost use Rattle.std.specs.Prelude.{Err, None, IsOkUnless, vec_len};
 ghost use Rattle.std.specs.Option.{is_some};
 ghost use Rattle.jzon_base.specs.PairList.{find};
-ghost use Rattle.jzon_tree.specs.Value.{Value};
+ghost use Rattle.jzon_tree.specs.Value.{Value, array, values_of, object, pairs_of};
 ghost use Rattle.jzon_tree.specs.View.{view, viewed};
 ghost use Rattle.jzon.specs.Answer.{IsMeaningOf, IsReadable, IsErrorUnlessMemory, TakesMemory};
 ghost use Rattle.jzon.specs.Cursor.{left, next_byte, GoesOn, IsPast};
@@ -17,15 +17,16 @@ ghost use Rattle.jzon_base.specs.Tokens.{end_array, end_object};
 use crate::cursor::Cursor;
 use crate::fault::duplicate_at;
 use crate::frames::{Begun, Frame};
+use crate::hints::Hints;
 use crate::reading::{Reading, USUAL};
 use crate::scalar::read_scalar;
 use crate::string::read_string;
 use jzon_base::error::{Error, Result};
 use jzon_base::key::Key;
+use jzon_base::util::fit::fit;
 use jzon_tree::object::{Builder, Object};
 use jzon_tree::value::JsonValue;
 use std::alloc::Global;
-use std::mem;
 
 /// The value that a text means (RFC 8259; docs/RULES.md, "Texts"), or the error of its first fault, or `OutOfMemory` where memory was refused. A text with neither
 /// a string nor an array nor an object takes no memory.
@@ -75,8 +76,8 @@ struct Parser<'a> {
     stack: Vec<Frame>,
     /// The text of the last string with escapes.
     buffer: String,
-    /// How many entries the object has that ended last, until another one begins, which gets room for as many.
-    entries: usize,
+    array_hints: Hints,
+    object_hints: Hints,
 }
 
 impl<'a> Parser<'a> {
@@ -89,7 +90,8 @@ impl<'a> Parser<'a> {
             cursor: Cursor::new(source, reading),
             stack: Vec::new(alloc),
             buffer: String::new(alloc),
-            entries: 0,
+            array_hints: Hints::new(),
+            object_hints: Hints::new(),
         }
     }
 
@@ -149,10 +151,19 @@ impl<'a> Parser<'a> {
         let mut begun = begun;
         loop {
             match begun {
-                Begun::Array => begun = self.read_elements(self.room_for_elements()?)?,
+                Begun::Array => {
+                    let depth = self.stack.len();
+                    let elements = room_for_elements(
+                        self.alloc,
+                        &self.cursor,
+                        &mut self.array_hints,
+                        depth,
+                    )?;
+                    begun = self.read_elements(elements)?;
+                }
                 Begun::Object => {
-                    let room = mem::take(&mut self.entries);
-                    begun = self.read_entries(Builder::with_capacity(self.alloc, room)?)?;
+                    let capacity = self.object_hints.take(self.stack.len());
+                    begun = self.read_entries(Builder::with_capacity(self.alloc, capacity)?)?;
                 }
                 Begun::Value(value) => match self.stack.pop() {
                     None => return self.finish(value),
@@ -160,16 +171,6 @@ impl<'a> Parser<'a> {
                 },
             }
         }
-    }
-
-    /// No elements, with room for those of an array that begins here. One is certain to come, and containers often nest alone. Refused by `OutOfMemory` alone.
-    #[inline(always)]
-    fn room_for_elements(&self) -> Result<Vec<JsonValue>>
-        ensures empty { IfOk result (λ elements. elements.items ≡ []) }
-        ensures memory { IsOkUnless result Error.OutOfMemory }
-    {
-        let room = if self.cursor.opens_container() { 1 } else { 4 };
-        Ok(Vec::with_capacity(self.alloc, room)?)
     }
 
     /// Reads on behind the value `item` of an open container, as `read_elements` does in an array and `read_entries` in an object.
@@ -184,16 +185,18 @@ impl<'a> Parser<'a> {
             Frame::Array(mut elements) => {
                 elements.push(item)?;
                 if self.cursor.array_ends()? {
-                    return Ok(Begun::Value(JsonValue::Array(elements)));
+                    let depth = self.stack.len();
+                    let array = close_array(self.alloc, elements, &mut self.array_hints, depth)?;
+                    return Ok(Begun::Value(array));
                 }
                 self.read_elements(elements)
             }
             Frame::Object(mut entries, key) => {
                 entries.push(self.alloc, key, item)?;
                 if self.cursor.object_ends()? {
-                    let object = Object::from_builder(self.alloc, entries)?;
-                    self.entries = object.len();
-                    return Ok(Begun::Value(JsonValue::Object(object)));
+                    let depth = self.stack.len();
+                    let object = close_object(self.alloc, entries, &mut self.object_hints, depth)?;
+                    return Ok(Begun::Value(object));
                 }
                 self.read_entries(entries)
             }
@@ -219,7 +222,13 @@ impl<'a> Parser<'a> {
                     Begun::Array => {
                         // Read on here: a step back to the loop over containers costs as much as an array of one item.
                         self.stack.push(Frame::Array(elements))?;
-                        elements = self.room_for_elements()?;
+                        let depth = self.stack.len();
+                        elements = room_for_elements(
+                            self.alloc,
+                            &self.cursor,
+                            &mut self.array_hints,
+                            depth,
+                        )?;
                         continue;
                     }
                     Begun::Object => {
@@ -236,7 +245,9 @@ impl<'a> Parser<'a> {
                 elements.push(value)?;
             }
             if self.cursor.array_ends()? {
-                return Ok(Begun::Value(JsonValue::Array(elements)));
+                let depth = self.stack.len();
+                let array = close_array(self.alloc, elements, &mut self.array_hints, depth)?;
+                return Ok(Begun::Value(array));
             }
         }
     }
@@ -262,9 +273,9 @@ impl<'a> Parser<'a> {
                 }
             }
             if self.cursor.object_ends()? {
-                let object = Object::from_builder(self.alloc, entries)?;
-                self.entries = object.len();
-                return Ok(Begun::Value(JsonValue::Object(object)));
+                let depth = self.stack.len();
+                let object = close_object(self.alloc, entries, &mut self.object_hints, depth)?;
+                return Ok(Begun::Value(object));
             }
         }
     }
@@ -297,6 +308,62 @@ impl<'a> Parser<'a> {
         self.cursor.bump();
         Ok(key)
     }
+}
+
+/// No elements, with room for those of an array that begins at the cursor inside of `depth` others. Without a hint one is certain to come, and containers often nest
+/// alone. The error is `OutOfMemory`.
+#[inline(always)]
+fn room_for_elements(
+    alloc: Global,
+    cursor: &Cursor<'_>,
+    hints: &mut Hints,
+    depth: usize,
+) -> Result<Vec<JsonValue>>
+    ensures empty { IfOk result (λ elements. elements.items ≡ []) }
+    ensures memory { IsOkUnless result Error.OutOfMemory }
+{
+    let hint = hints.take(depth);
+    let capacity = if hint > 0 {
+        hint
+    } else if cursor.opens_container() {
+        1
+    } else {
+        4
+    };
+    Ok(Vec::with_capacity(alloc, capacity)?)
+}
+
+/// The array of these elements, which ends inside of `depth` others. The error is `OutOfMemory`.
+#[inline(always)]
+fn close_array(
+    alloc: Global,
+    elements: Vec<JsonValue>,
+    hints: &mut Hints,
+    depth: usize,
+) -> Result<JsonValue>
+    ensures value { IfOk result (λ v. view v ≡ array (values_of (map view elements.items))) }
+    ensures memory { IsOkUnless result Error.OutOfMemory }
+{
+    let mut elements = elements;
+    fit(alloc, &mut elements)?;
+    hints.set(depth, elements.len());
+    Ok(JsonValue::Array(elements))
+}
+
+/// The object of these entries, which ends inside of `depth` others. The error is `OutOfMemory`.
+#[inline(always)]
+fn close_object(
+    alloc: Global,
+    entries: Builder,
+    hints: &mut Hints,
+    depth: usize,
+) -> Result<JsonValue>
+    ensures value { IfOk result (λ v. view v ≡ object (pairs_of (viewed entries))) }
+    ensures memory { IsOkUnless result Error.OutOfMemory }
+{
+    let object = Object::from_builder(alloc, entries)?;
+    hints.set(depth, object.len());
+    Ok(JsonValue::Object(object))
 }
 
 /// Whether the reading refuses this key behind these entries. Refused by `OutOfMemory` alone.

@@ -1,4 +1,4 @@
-//! What the other modules share: the write loop, the text of a number, hexadecimal digits, and runs of plain bytes.
+//! What the other modules share: the write loop, the text of a number, hexadecimal digits, runs of plain bytes, and vectors without unused room.
 
 ghost use Rattle.std.specs.Prelude.{OnOk, OnErr};
 ghost use Rattle.std.specs.Io.KnownBytes.{Appends};
@@ -7,6 +7,7 @@ ghost use Rattle.jzon_base.specs.Written.{AppendsBeginning};
 use std::io;
 use std::io::Write;
 
+pub mod fit;
 pub mod hex;
 pub mod plain;
 pub mod print_dec;

@@ -7,6 +7,7 @@ use super::Pairs;
 use crate::key::Key;
 use crate::keys::notes::{self, Notes};
 use crate::keys::{self, Keys};
+use crate::util::fit::fit;
 use std::alloc::{AllocError, Global};
 use std::marker::Model;
 
@@ -128,8 +129,11 @@ impl<V: Drop> Builder<V> {
     pub fn finish(self, alloc: Global) -> Result<Pairs<V>, AllocError>
         ensures { IfOk result (λ p. p ≡ self) }
     {
+        let mut keys = self.keys;
         let mut values = self.values;
-        let keys = Keys::from_entries(alloc, self.keys, &mut values)?;
+        fit(alloc, &mut keys)?;
+        fit(alloc, &mut values)?;
+        let keys = Keys::from_entries(alloc, keys, &mut values)?;
         Ok(Pairs { keys, values })
     }
 }

@@ -3,14 +3,14 @@ use Rattle.std.proofs.lemmas.List.{map-append}
 use Rattle.jzon_base.specs.PairList.{put}
 use Rattle.jzon_tree.specs.Value.{Value, array, values_of, object, pairs_of}
 use Rattle.jzon_tree.specs.View.{view, viewed}
-use Rattle.jzon_tree.proofs.Views.{view-Array, view-Object, viewed-put}
+use Rattle.jzon_tree.proofs.Views.{viewed-put}
 use Rattle.jzon.specs.Cursor.{left}
 use Rattle.jzon.specs.Frames.{open_in, stack_view}
 use Rattle.jzon.specs.Machine.{Frames, array_frame, object_frame, before, before_key, behind}
 use Rattle.jzon.specs.declared.cursor.Cursor.{Cursor}
 use Rattle.jzon.specs.declared.frames.Frame.{Frame}
 use Rattle.jzon.proofs.Texts.Cursors.{Reached, reached, goes_behind, goes_on}
-use Rattle.jzon.proofs.Containers.FrameViews.{some_more, some_put, view_object-entries}
+use Rattle.jzon.proofs.Containers.FrameViews.{some_more, some_put}
 use Rattle.jzon.proofs.parser.Parser.go_on.Goals.{After-array_ends, After-object_ends}
 use Rattle.jzon.proofs.parser.Parser.go_on.Goals as goal
 
@@ -57,7 +57,7 @@ returns-then-branch-clause-same c =
       read.0,
       read.1 ∙ ap (λ b. left u (cond b (behind fs (array (values_of (vs ++ v ∷ []))))
           (before (array_frame fs (vs ++ v ∷ []))))) c.if-branch.true
-          ∙ ap (λ x. left u (behind fs x)) (sym (view-Array c.push.new.self
+          ∙ ap (λ x. left u (behind fs x)) (sym (c.in_ok-array-in-Array.ensures.value
           ∙ ap (λ xs. array (values_of xs)) (elements_pushed at))),
     )
 
@@ -126,10 +126,7 @@ returns-then-branch-2-clause-same c =
       read.1 ∙ ap (λ b. left u (cond b (behind fs (object (pairs_of (put k v es)))) (before_key fs (put k v es))))
           c.if-branch-2.true
           ∙ ap (λ x. left u (behind fs x))
-          (sym (view-Object c.in_ok-object-in-Object.object
-          ∙ view_object-entries c.in_ok-object-in-Object.object c.push-in-Object.new.self
-          c.in_ok-object-in-Object.ensures.pairs
-          ∙ ap (λ xs. object (pairs_of xs)) (entry_pushed at))),
+          (sym (c.in_ok-object-in-Object.ensures.value ∙ ap (λ xs. object (pairs_of xs)) (entry_pushed at))),
     )
 
 pub read_entries-requires-clause-room : goal.read_entries-requires-clause-room

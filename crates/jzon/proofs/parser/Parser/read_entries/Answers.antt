@@ -4,13 +4,13 @@ use Rattle.std.proofs.lemmas.Result.{err_from_is_err_and}
 use Rattle.jzon_base.specs.PairList.{put}
 use Rattle.jzon_tree.specs.Value.{object, pairs_of}
 use Rattle.jzon_tree.specs.View.{view, viewed}
-use Rattle.jzon_tree.proofs.Views.{view-Object, viewed-put}
+use Rattle.jzon_tree.proofs.Views.{viewed-put}
 use Rattle.jzon.specs.Cursor.{left}
 use Rattle.jzon.specs.Frames.{IsReady, place_of, stack_view}
 use Rattle.jzon.specs.Machine.{object_frame, frames_depth, before, before_key, behind, key_mark}
 use Rattle.jzon.proofs.Texts.Cursors.{Reached, reached_start, reached, goes_behind, fails_on}
-use Rattle.jzon.proofs.Containers.FrameViews.{frames_depth-stack, key_mark-shallow, some_put, stack_view-push}
-use Rattle.jzon.proofs.Containers.FrameViews.{view_object-entries}
+use Rattle.jzon.proofs.Containers.FrameViews.{frames_depth-stack, key_mark-shallow, some_put}
+use Rattle.jzon.proofs.Containers.FrameViews.{stack_view-push}
 use Rattle.jzon.proofs.parser.Parser.read_entries.Goals.{After-read_key, In_ok-key, After-len-depth, After-object_ends}
 use Rattle.jzon.proofs.parser.Parser.read_entries.Goals as goal
 
@@ -211,9 +211,7 @@ returns-then-branch-clause-same c =
           ∙ ap (λ s. left u (behind (stack_view s.items) (object (pairs_of (put k v es)))))
           (sym (c.in_ok-begun.ensures.stack ∙ c.in_ok-key.ensures.stack ∙ c.loop-entries.invariant.stack))
           ∙ ap (λ x. left u (behind (stack_view c.begin.new.self.stack.items) x))
-          (sym (view-Object c.in_ok-object.object ∙ view_object-entries c.in_ok-object.object c.push.new.self
-          c.in_ok-object.ensures.pairs
-          ∙ ap (λ xs. object (pairs_of xs)) (pushed at.After-object_ends))),
+          (sym (c.in_ok-object.ensures.value ∙ ap (λ xs. object (pairs_of xs)) (pushed at.After-object_ends))),
     )
 
 pub loop-entries-smaller : goal.loop-entries-smaller
