@@ -99,7 +99,7 @@ string_rows =
     row "\"\\r\\n\\t\\b\\f\\\\\\/\\\"\"" (Node.string (map simple (codes "rntbf\\/\"")))
     (value.text short (13 ∷ 10 ∷ 9 ∷ 8 ∷ 12 ∷ 92 ∷ 47 ∷ 34 ∷ [])) "\"\\r\\n\\t\\b\\f\\\\/\\\"\""
     ∷ row "\"\\u2764\\ufe0f\"" (Node.string (escape "2764" ∷ escape "fe0f" ∷ []))
-    (value.text short (0xE2 ∷ 0x9D ∷ 0xA4 ∷ 0xEF ∷ 0xB8 ∷ 0x8F ∷ [])) "\"\u{2764}\u{FE0F}\""
+    (value.text short (0xE2 ∷ 0x9D ∷ 0xA4 ∷ 0xEF ∷ 0xB8 ∷ 0x8F ∷ [])) "\"❤\u{fe0f}\""
     ∷ row "\"\\u0000\"" (Node.string (escape "0000" ∷ [])) (value.text short (0 ∷ [])) "\"\\u0000\""
     ∷ row "\"\\uD834\\uDD1E\"" (Node.string (surrogates "D834" "DD1E" ∷ []))
     (value.text short (0xF0 ∷ 0x9D ∷ 0x84 ∷ 0x9E ∷ [])) "\"𝄞\""
@@ -107,7 +107,7 @@ string_rows =
     ∷ row "\"é\\u00e9\\u00E9\"" (Node.string (plain 233 ∷ escape "00e9" ∷ escape "00E9" ∷ []))
     (value.text short (0xC3 ∷ 0xA9 ∷ 0xC3 ∷ 0xA9 ∷ 0xC3 ∷ 0xA9 ∷ [])) "\"ééé\""
     ∷ row "\"foo\\u001fbar\\u0000baz\"" (Node.string (plains (codes "foo") ++ escape "001f" ∷ plains (codes "bar")
-    ++ escape "0000" ∷ plains (codes "baz"))) (value.text short (codes "foo\u{1F}bar\u{0}baz"))
+    ++ escape "0000" ∷ plains (codes "baz"))) (value.text short (codes "foo\u{1f}bar\0baz"))
     "\"foo\\u001fbar\\u0000baz\""
     -- a solidus and the character 127 are printed as they are; a text is short by its bytes, not by its characters
     ∷ raw short (47 ∷ 127 ∷ [])
