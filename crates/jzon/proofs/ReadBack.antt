@@ -3,6 +3,9 @@
 -- `redumped` (Redump): the compact text of a value is read as a value with the same compact text
 -- `meaning_held` (MeaningHeld): what is read is a value of which both speak
 -- `number_read_back` (NumbersReadBack): the text of a number is read as the same number
+-- Letters: Texts.antt, and
+--   s style   dent indentation   high how many more containers may be open   b bytes that are written   m mantissa
+--   e exponent   ms, ns nodes or members
 pub mod NumeralTexts
 pub mod NumberTextLengths
 pub mod PrintedParts

@@ -1,4 +1,4 @@
--- What the machines over characters share: the classes of characters, and the places inside a number.
+-- What the automaton of Machine knows a character by, its class, and its states inside a number.
 use Rattle.std.specs.Prelude.{ℕ, cond, List, [], ◌∷◌, Bool, true, false, ◌==◌}
 use Rattle.std.specs.Char.{is_ascii_digit}
 use Rattle.jzon_base.specs.Tokens.{begin_array, begin_object, decimal_point, end_array, end_object, minus_sign}

@@ -1,4 +1,4 @@
--- What the parser's offset in a text says to the machine over values.
+-- What the parser's offset in a text says to the automaton.
 use Rattle.std.specs.Prelude.{◌≡◌, ℕ, ◌<◌, ◌≤◌, List, true, chars, Result, MatchResult, slice_index}
 use Rattle.jzon_base.specs.declared.error.Error.{Error}
 use Rattle.jzon.specs.Reading.{Reading}

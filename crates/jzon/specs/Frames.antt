@@ -1,4 +1,4 @@
--- What the parser keeps of the open containers, as the machine over values sees it.
+-- What the parser keeps of the open containers, as the automaton sees it.
 use Rattle.std.specs.Prelude.{◌≢◌, ℕ, ◌<◌, ◌≤◌, [], List, map, Bool, true, false}
 use Rattle.std.specs.List.{fold}
 use Rattle.jzon_tree.specs.View.{view, viewed}

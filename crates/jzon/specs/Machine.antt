@@ -1,5 +1,5 @@
--- The machine over values: what is left of a text comes to a value or to a fault, one character at a time. It keeps no
--- tree and no whitespace, only what the open containers hold so far.
+-- The automaton: what is left of a text comes to a value or to a fault, one character at a time. Its states are the
+-- `Place`s: no tree and no whitespace, only what the open containers hold so far, and where in a token the text goes on.
 use Rattle.std.specs.Prelude.{◌≡◌, ◌⊎◌, ℕ, zero, suc, ◌+◌, ◌-◌, ◌*◌, cond, List, [], ◌∷◌, ◌++◌, length, drop, Bool}
 use Rattle.std.specs.Prelude.{true, false, ◌&&◌, ◌==◌, Option, Some, None, Result, Ok, Err, MatchResult, chars}
 use Rattle.std.specs.Prelude.{encode_utf8}
@@ -254,7 +254,7 @@ move_string r (second u) role bs c left = cond (c == escape) (go None (string ro
 move_string r (second_slash u) role bs c left = cond (c == 117) (go None (string role bs (second_code u 3 0))) bad
 move_string r (second_code u n v) role bs c left = cond (is_ascii_hexdigit c) (move_second_code role bs u n v c) bad
 
--- ---- the machine
+-- ---- the automaton
 
 abbrev pub past_letter : Frames → Value → List ℕ → Place
 past_letter fs v [] = behind fs v

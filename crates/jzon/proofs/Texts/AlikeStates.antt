@@ -1,10 +1,9 @@
 -- Alike states. A state inside a name of a member keeps how many characters were left at its opening quote, so two
 -- texts with one prefix, but of other lengths, come to states that differ in that count alone: they are `Alike`, have
 -- one closing text (`closer-alike`), and move alike (`moves_alike`).
--- And depth: a value or a name that opens one container too many is the only thing that a depth breach can be at, so
--- the state alone says whether one may be at the next character (`IsDeep`): so it is where a move has that mark
--- (`deep_of_go`) or is `bad_deep` (`deep_of_bad_deep`), no move from there is `bad` (`deep_not_bad`), and some
--- character goes on from there with that mark (`deep_some`).
+-- And depth: a depth breach is at the first element or name in a container too many, so the state before that says
+-- whether one may come (`IsDeep`). It may where a move has that mark (`deep_of_go`) or is `bad_deep`
+-- (`deep_of_bad_deep`); then no move is `bad` (`deep_not_bad`), and some move has that mark (`deep_some`).
 use Rattle.std.proofs.Common.{◌≡◌, ℕ, zero, suc, ◌+◌, ◌-◌, List, [], ◌∷◌, Bool, true, false, cond, ◌==◌, nat_le, Option}
 use Rattle.std.proofs.Common.{Some, None, refl, subst, ap, ◌∙◌, arith}
 use Rattle.std.specs.Prelude.{⊤}

@@ -7,7 +7,6 @@ use Rattle.jzon_tree.specs.View.{view}
 use Rattle.jzon_tree.specs.declared.value.JsonValue.{JsonValue}
 use Rattle.jzon.specs.Reading.{Reading}
 use Rattle.jzon.specs.Spelling.{deep, digit}
-use Rattle.jzon.specs.Meaning.{meaning}
 use Rattle.jzon.specs.Fault.{Fault, limit, error_at, IsErrorOf}
 use Rattle.jzon.specs.Machine.{no_frames, before, Outcome, meant, refused, outcome, Reads}
 use Rattle.std.specs.Prelude.{IfOk, IfErr}

@@ -11,7 +11,7 @@ use Rattle.jzon.specs.Reading.{Reading}
 use Rattle.jzon.specs.Grammar.{Sign, unsigned, plus, minus, Exponent, Numeral, Item, simple, single, double, Key, Node}
 use Rattle.jzon.specs.Grammar.{Elements, no_elements, element, Members, no_members, member, Document, Each}
 use Rattle.jzon.specs.Grammar.{IsWhitespace, AreDigits, IsDigits, IsWhole, IsExponent, IsNumeral, AreHex, AreItems}
-use Rattle.jzon.specs.Grammar.{IsItem, IsKey, IsNode, AreElements, AreMembers, IsDocument, is_surrogate, code_unit}
+use Rattle.jzon.specs.Grammar.{IsKey, IsNode, AreElements, AreMembers, IsDocument, is_surrogate, code_unit}
 use Rattle.jzon.specs.Grammar as grammar
 use Rattle.jzon.specs.Fault.{Spells}
 use Rattle.jzon.specs.Classes.{Class, whitespace, digits, dash, cross, point, letter_e, quote, opens_array}

@@ -1,7 +1,6 @@
 -- The tree of one text, by computation (`read_tree`): the automaton accepts the text, and a tree of the grammar spells
 -- it.
-use Rattle.std.proofs.Common.{◌≡◌, ◌∙◌, ℕ, zero, suc, List, [], ◌∷◌, Bool, true, false, not, ◌&&◌, refl, sym, subst}
-use Rattle.std.proofs.Common.{cond}
+use Rattle.std.proofs.Common.{◌≡◌, ◌∙◌, ℕ, zero, suc, List, [], ◌∷◌, Bool, true, false, not, ◌&&◌, refl, subst}
 use Rattle.std.specs.Prelude.{IsTrue}
 use Rattle.std.specs.Char.{is_ascii_hexdigit}
 use Rattle.std.specs.List.{list_all}
@@ -13,9 +12,8 @@ use Rattle.jzon_tree.specs.Writing.{is_whitespace}
 use Rattle.jzon.specs.Reading.{Reading}
 use Rattle.jzon.specs.Grammar.{Item, simple, single, double, Key, Node, Elements, no_elements, element, Members}
 use Rattle.jzon.specs.Grammar.{no_members, member, Document, Each, AreHex, IsItem, AreItems, IsKey, IsNode, AreElements}
-use Rattle.jzon.specs.Grammar.{AreMembers, IsDocument, is_unescaped, is_simple, is_surrogate, code_unit}
+use Rattle.jzon.specs.Grammar.{AreMembers, is_unescaped, is_simple, is_surrogate, code_unit}
 use Rattle.jzon.specs.Grammar as grammar
-use Rattle.jzon.specs.Meaning.{meaning}
 use Rattle.jzon.specs.Fault.{Spells, Parses}
 use Rattle.jzon.specs.Machine.{no_frames, before, Outcome, meant, refused, outcome}
 use Rattle.jzon.proofs.WorkedRows.Samples.{is_numeral, is_numeral-true}
