@@ -209,7 +209,11 @@ fn try_indent<G: Generator>(g: &mut G, fault: &mut Fault) -> Step<()>
 }
 
 /// `order`, whose error is stored.
-fn try_order<G: Generator>(g: &mut G, object: &Object, fault: &mut Fault) -> Step<Option<Vec<usize>>>
+fn try_order<G: Generator>(
+    g: &mut G,
+    object: &Object,
+    fault: &mut Fault,
+) -> Step<Option<Vec<usize>>>
     ensures { MatchResult result
         (λ answer. Added (Just []) (G.meaning g.old) (G.meaning g.new)
         × IsAnswer (G.meaning g.old).style (keys_of (entries_of object.now)) answer)
