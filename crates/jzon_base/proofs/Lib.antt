@@ -24,3 +24,6 @@ pub mod Runs
 pub mod Few
 pub mod Marks
 pub mod Notes
+pub mod Handed
+pub mod FlatRuns
+pub mod Tables

@@ -14,6 +14,7 @@ mod known;
 mod marks;
 pub(crate) mod notes;
 mod repeats;
+pub mod runs;
 mod table;
 
 use crate::key::Key;
@@ -59,7 +60,7 @@ impl Keys {
         })
     }
 
-    /// No key, with room for `capacity` of them. The error is a refused growth.
+    /// No key, with room for `capacity` of them and for their index. The error is a failed allocation.
     pub fn with_capacity(alloc: Global, capacity: usize) -> Result<Keys, AllocError>
         ensures { IfOk result (λ k. k ≡ []) }
     {

@@ -56,7 +56,7 @@ impl<V> Pairs<V> {
         }
     }
 
-    /// No pair, with room for `capacity` of them. The error is a refused growth.
+    /// No pair, with room for the keys, the values and the index of `capacity` pairs. The error is a failed allocation.
     pub fn with_capacity(alloc: Global, capacity: usize) -> Result<Pairs<V>, AllocError>
         ensures { IfOk result (λ p. p ≡ []) }
     {

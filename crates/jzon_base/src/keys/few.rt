@@ -1,4 +1,4 @@
-//! Few keys, of which a repeated one is found at once.
+//! Slots for the positions of at most 64 keys. A builder uses them after a merge that leaves so few keys, to find the entry that a repeated key changes.
 ghost use Rattle.std.specs.Prelude.{◌≡◌, ◌<◌, [], true, IfOk, IfSome, IsSome, Some};
 ghost use Rattle.std.specs.List.{position, IsDistinct};
 ghost use Rattle.std.specs.Str.{bytes_eq};
@@ -8,8 +8,8 @@ use super::hash::hash_of;
 use crate::key::Key;
 use std::alloc::{AllocError, Global};
 
-/// How many keys are few.
-const FEW: usize = 64;
+/// Up to how many keys get slots.
+const SLOTTED_MAX: usize = 64;
 
 /// How many slots a look-up goes through at most.
 const STEPS: usize = 8;
@@ -44,7 +44,7 @@ impl Few {
         requires { IsDistinct bytes_eq keys.now }
         ensures { IfOk result (λ few. IsSlotted keys.now few.slots.items) }
     {
-        if FEW < keys.len() {
+        if SLOTTED_MAX < keys.len() {
             return Ok(Few::new(alloc));
         }
         let mut slots = vec![in alloc; EMPTY; SLOTS]?;

@@ -1,4 +1,4 @@
-//! Which names the keys of a growing list have, whatever their hashes are.
+//! Sorted runs of index entries, in which binary search finds a name whatever the hashes are. A strict reading uses them for a key that the filter doesn't reject.
 ghost use Rattle.std.specs.Prelude.{◌≡◌, ◌++◌, ◌≤◌, ◌<◌, [], drop, length, IfOk, OnOk};
 ghost use Rattle.std.specs.Bool.{OnTrue};
 ghost use Rattle.std.specs.List.{list_any, All};
@@ -14,8 +14,8 @@ use crate::key::Key;
 use std::alloc::{AllocError, Global};
 use std::marker::Model;
 
-/// How many keys are compared one by one before they become a run.
-const FEW: usize = 8;
+/// How many keys become a run at least. Fewer are compared one by one.
+const RUN_MIN: usize = 8;
 
 /// Pairs of the index in the order of hashes, of texts and of places. A clause sees the list of pairs.
 #[derive(Drop)]
@@ -145,7 +145,7 @@ impl Known {
         requires { AreRuns keys.now self.old.runs.items self.old.count }
         ensures { OnOk result (AreRuns keys.now self.new.runs.items self.new.count) }
     {
-        if keys.len() - self.count < FEW {
+        if keys.len() - self.count < RUN_MIN {
             return Ok(());
         }
         let run = Run::of(alloc, keys, self.count)?;

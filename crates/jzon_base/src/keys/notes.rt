@@ -1,4 +1,4 @@
-//! What is noted of the keys of a growing list.
+//! The slots, the filter and the runs of one builder, in a box. A builder has it once it needs one of them.
 ghost use Rattle.std.specs.Prelude.{◌≡◌, ◌++◌, ◌∷◌, [], List, ℕ, Some, IfOk, IfSome, IsSome};
 ghost use Rattle.std.specs.List.{list_any, position, IsDistinct};
 ghost use Rattle.std.specs.Str.{bytes_eq};
@@ -85,7 +85,7 @@ pub fn has_key(
     ensures noted { IfSome notes.new (λ b. AreNoted keys.now b.value) }
     ensures known { IfOk result (λ known. known ≡ list_any (λ k. bytes_eq k name.now) keys.now) }
 {
-    if keys.len() <= index::FEW {
+    if keys.len() <= index::LINEAR_MAX {
         return Ok(index::has_name(keys, name));
     }
     let mut noted = match notes.take() {

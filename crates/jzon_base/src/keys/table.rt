@@ -1,22 +1,26 @@
 //! Keys beside their index.
-ghost use Rattle.std.specs.Prelude.{◌≡◌, ◌<◌, ◌++◌, ◌∷◌, [], length, remove, slice_get, IfOk, OnErr, MatchOption, Some};
+ghost use Rattle.std.specs.Prelude.{◌≡◌, ◌<◌, ◌++◌, ◌∷◌, [], length, remove, slice_get, IfOk, OnOk, OnErr, MatchOption, Some, map};
 ghost use Rattle.std.specs.List.{position, zip, IsDistinct};
 ghost use Rattle.std.specs.Str.{bytes_eq};
-ghost use Rattle.jzon_base.specs.Keys.{IsIndex};
+ghost use Rattle.jzon_base.specs.Keys.{IsIndex, IsIndexed};
+ghost use Rattle.jzon_base.specs.Handed.{IsIndexOf};
+ghost use Rattle.jzon_base.specs.Hash.{hash_of};
 ghost use Rattle.jzon_base.specs.PairList.{put_each};
 
+use super::hash::hash_of;
+use super::runs::Runs;
 use super::{IntoIter, Iter, index, repeats};
 use crate::key::Key;
 use std::alloc::{AllocError, Global};
 use std::marker::Model;
 
-/// Distinct keys in the order in which they were put, and the index in which the place of each is found. A clause sees the list of their bytes.
+/// Distinct keys in the order in which they were put, and the index in which the position of each is found. A clause sees the list of their bytes.
 ///
-/// Few keys need no index: a look-up goes through the keys themselves.
+/// Few keys need no index: a look-up compares them one by one. The hash of a key is computed here and handed to the index.
 #[derive(Drop)]
 pub struct Table {
     keys: Vec<Key>,
-    index: Vec<(u64, usize)>,
+    index: Runs,
 }
 
 impl Model for Table {
@@ -27,7 +31,68 @@ impl Model for Table {
 
     ghost view = { λ k. k.keys.items };
 
-    ghost invariant = { λ k. IsTable k.keys.items k.index.items };
+    ghost invariant = { λ k. IsTable k.keys.items k.index };
+}
+
+/// No entry, with room for those of `capacity` keys, where so many have an index. The error is a failed allocation.
+fn room_for(alloc: Global, capacity: usize) -> Result<Runs, AllocError>
+    ensures { IfOk result (λ r. r ≡ []) }
+{
+    if capacity <= index::LINEAR_MAX {
+        return Ok(Runs::new(alloc));
+    }
+    let entries = Vec::with_capacity(alloc, capacity)?;
+    Runs::of(alloc, entries)
+}
+
+/// The index of keys, or none where they are few. The error is a failed allocation.
+fn index_of(alloc: Global, keys: &[Key]) -> Result<Runs, AllocError>
+    ensures { IfOk result (λ r. IsIndexed keys.now r) }
+{
+    if keys.len() <= index::LINEAR_MAX {
+        return Ok(Runs::new(alloc));
+    }
+    let entries = index::of(alloc, keys)?;
+    Runs::of(alloc, entries)
+}
+
+/// Adds all keys to an empty index. The error is a failed allocation.
+fn add_all(alloc: Global, keys: &[Key], index: &mut Runs) -> Result<(), AllocError>
+    requires { index.old ≡ [] }
+    ensures { OnOk result (IsIndexOf (map hash_of keys.now) index.new) }
+{
+    for (at, key) in keys.iter().enumerate() {
+        index.add(alloc, hash_of(key.as_str()), at)?;
+    }
+    Ok(())
+}
+
+/// Adds all keys to an empty index. The error is a failed allocation, and then the index is empty.
+fn fill(alloc: Global, keys: &[Key], index: &mut Runs) -> Result<(), AllocError>
+    requires { index.old ≡ [] }
+    ensures ok { OnOk result (IsIndexOf (map hash_of keys.now) index.new) }
+    ensures err { OnErr result (index.new ≡ []) }
+{
+    if let Err(error) = add_all(alloc, keys, index) {
+        index.clear();
+        return Err(error);
+    }
+    Ok(())
+}
+
+/// Adds a key that is put after these keys to their index, which is filled first where it is empty and the keys are no longer few. The error is a failed allocation.
+fn add_key(alloc: Global, keys: &[Key], index: &mut Runs, name: &str) -> Result<(), AllocError>
+    requires { IsIndexed keys.now index.old }
+    ensures ok { OnOk result (IsIndexed (keys.now ++ name.now ∷ []) index.new) }
+    ensures err { OnErr result (IsIndexed keys.now index.new) }
+{
+    if index.is_empty() {
+        if keys.len() < index::LINEAR_MAX {
+            return Ok(());
+        }
+        fill(alloc, keys, index)?;
+    }
+    index.add(alloc, hash_of(name), keys.len())
 }
 
 impl Table {
@@ -37,17 +102,17 @@ impl Table {
     {
         Table {
             keys: Vec::new(alloc),
-            index: Vec::new(alloc),
+            index: Runs::new(alloc),
         }
     }
 
-    /// No key, with room for `capacity` of them. The error is a refused growth.
+    /// No key, with room for `capacity` of them and for their index. The error is a failed allocation.
     pub fn with_capacity(alloc: Global, capacity: usize) -> Result<Table, AllocError>
         ensures { IfOk result (λ k. k ≡ []) }
     {
         Ok(Table {
             keys: Vec::with_capacity(alloc, capacity)?,
-            index: Vec::with_capacity(alloc, capacity)?,
+            index: room_for(alloc, capacity)?,
         })
     }
 
@@ -67,7 +132,7 @@ impl Table {
         let firsts = repeats::firsts(alloc, keys.as_slice(), index.as_mut_slice())?;
         drop(index);
         repeats::merge(&mut keys, values, firsts);
-        let index = index::of(alloc, keys.as_slice())?;
+        let index = index_of(alloc, keys.as_slice())?;
         Ok(Table { keys, index })
     }
 
@@ -82,16 +147,17 @@ impl Table {
         ensures even { IfOk result (λ k. length values.new.items ≡ length k) }
         ensures merged { IfOk result (λ k. zip k values.new.items ≡ put_each (zip keys.items values.old.items)) }
     {
-        if keys.len() <= index::FEW && index::are_distinct(keys.as_slice()) {
+        if keys.len() <= index::LINEAR_MAX && index::are_distinct(keys.as_slice()) {
             return Ok(Table {
                 keys,
-                index: Vec::new(alloc),
+                index: Runs::new(alloc),
             });
         }
         let index = index::of(alloc, keys.as_slice())?;
         if index::has_tie(index.as_slice()) {
             return Table::from_repeats(alloc, keys, values, index);
         }
+        let index = Runs::of(alloc, index)?;
         Ok(Table { keys, index })
     }
 
@@ -110,7 +176,7 @@ impl Table {
         if self.index.is_empty() {
             return self.keys.iter().position(|key| key.as_str() == name);
         }
-        index::find(self.keys.as_slice(), self.index.as_slice(), name)
+        self.index.find(self.keys.as_slice(), hash_of(name), name)
     }
 
     /// The key at a place.
@@ -133,7 +199,7 @@ impl Table {
             return Ok(found);
         }
         self.keys.reserve(1)?;
-        index::add_key(alloc, self.keys.as_slice(), &mut self.index, key.as_str())?;
+        add_key(alloc, self.keys.as_slice(), &mut self.index, key.as_str())?;
         self.keys.push_reserved(key);
         Ok(None)
     }
@@ -144,7 +210,7 @@ impl Table {
         ensures { self.new ≡ remove self.old index }
     {
         drop(self.keys.remove(index));
-        index::cut(&mut self.index, index);
+        self.index.cut(index);
     }
 
     /// Removes all keys.
@@ -163,7 +229,7 @@ impl Table {
         for key in &self.keys {
             keys.push(key.clone(alloc)?)?;
         }
-        let index = Vec::from_slice(alloc, self.index.as_slice())?;
+        let index = self.index.clone(alloc)?;
         Ok(Table { keys, index })
     }
 

@@ -1,13 +1,14 @@
 use Rattle.std.proofs.Common.{refl, sym, subst}
 use Rattle.std.specs.List.{IsDistinct}
 use Rattle.std.specs.Str.{bytes_eq}
-use Rattle.jzon_base.proofs.Indexes.{distinct-apart, IsIndexed-none}
+use Rattle.jzon_base.proofs.Indexes.{distinct-apart}
+use Rattle.jzon_base.proofs.Tables.{IsIndexed-none, IsIndexed-from_index}
 use Rattle.jzon_base.proofs.PutEach.{put_each-zip}
 use Rattle.jzon_base.proofs.keys.table.Table.from_entries.Goals as goal
 
 pub invariant_of-result : goal.invariant_of-result
 invariant_of-result g c =
-    rw c.new.ensures.items (record {
+    rw c.new.ensures (record {
       indexed = IsIndexed-none c.args.keys.items;
       distinct = subst (IsDistinct bytes_eq)
           c.as_slice.ensures.value (c.if-are_distinct.ensures.0 refl);
@@ -23,7 +24,7 @@ invariant_of-result-2 g c =
     let index = rw c.as_slice-2.ensures.value at c.in_ok-index.ensures in
     let apart = rw c.as_slice-3.ensures.value at c.if-has_tie.ensures.0 refl in
     record {
-      indexed = record { index = λ _. index };
+      indexed = rw c.in_ok-index-2.ensures (IsIndexed-from_index c.args.keys.items _ index);
       distinct = distinct-apart c.args.keys.items
           c.in_ok-index.index.items index apart;
     }

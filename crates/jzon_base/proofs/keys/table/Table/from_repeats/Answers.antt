@@ -6,7 +6,7 @@ pub invariant_of-result : goal.invariant_of-result
 invariant_of-result g c =
     let ks = c.merge.new.keys.items in
     record {
-      indexed = record { index = λ _. rw c.as_slice-2.ensures.value at c.in_ok-index.ensures };
+      indexed = rw c.as_slice-2.ensures.value at c.in_ok-index.ensures;
       distinct = IsDistinct-merged ks c.merge.new.values.items (zip c.args.keys.items c.args.values.now.items)
           c.merge.ensures.even c.merge.ensures.merged;
     }
