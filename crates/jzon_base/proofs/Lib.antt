@@ -10,6 +10,7 @@ pub mod PrintedRows
 pub mod ReadRows
 pub mod SameRows
 pub mod Scaled
+pub mod ExactPoints
 pub mod Scanned
 pub mod Written
 pub mod Zips

@@ -10,7 +10,7 @@ use Rattle.jzon_base.proofs.Powers.{power_pos, eq-times}
 
 -- ---- from a higher exponent e down to a lower one f
 
-scaled-down : (m : ℕ) (e f : ℤ) (k : ℕ) → shifted e ≡ shifted f + k → scaled m e ≡ m * 10 ^ k * 10 ^ shifted f
+pub scaled-down : (m : ℕ) (e f : ℤ) (k : ℕ) → shifted e ≡ shifted f + k → scaled m e ≡ m * 10 ^ k * 10 ^ shifted f
 unfolding scaled
 scaled-down m e f k h = rw (h, pow-add) (omega arith)
 

@@ -2,7 +2,7 @@
 -- docs/RULES.md, "Numbers").
 use Rattle.std.specs.Prelude.{◌≡◌, ◌≢◌, ℕ, ℤ, pos, negsuc, neg_ℤ, suc, ◌+◌, ◌*◌, ◌^◌, ◌-◌, ◌/◌, ◌%◌, ◌≤ℤ◌, ◌<ℤ◌, ◌+ℤ◌}
 use Rattle.std.specs.Prelude.{◌⊎◌, Bool, true, false, not, ◌&&◌, ◌||◌, ◌==◌, if◌then◌else◌, Option, Some, None, Result}
-use Rattle.std.specs.Prelude.{IsErr, OkIff, IsNone, SomeIff}
+use Rattle.std.specs.Prelude.{IsErr, OkIff, IsNone, SomeIff, IsTrue, ◌≤◌}
 use Rattle.std.specs.Ordering.{int_eq}
 use Rattle.std.specs.Bool.{beq}
 
@@ -129,3 +129,12 @@ exact_fixed_point d point = if is_whole_at d point then fixed_point d point else
 
 abbrev pub exact_unsigned_fixed_point : Decimal → ℕ → Option ℕ
 exact_unsigned_fixed_point d point = if is_whole_at d point then unsigned_fixed_point d point else None
+
+-- n * 10 ^ (0 - point)
+abbrev pub integer_at : ℤ → ℕ → Decimal
+integer_at (pos n) point = parts true n (neg_ℤ (pos point))
+integer_at (negsuc n) point = parts false (suc n) (neg_ℤ (pos point))
+
+-- what is read at the point is the number itself
+abbrev pub IsExactAt : Decimal → ℕ → Type 0
+IsExactAt d point = point ≤ 32768 → (n : ℤ) → fixed_point d point ≡ Some n → IsTrue (same d (integer_at n point))

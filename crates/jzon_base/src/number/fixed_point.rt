@@ -1,10 +1,12 @@
 //! Numbers as integers of a fixed point (docs/RULES.md, "Fixed-point readings").
 
-ghost use Rattle.std.specs.Prelude.{◌≡◌, pos, ◌/◌, ◌%◌, ◌==◌, ◌+ℤ◌, ◌<◌, ◌^◌, FitsSigned};
+ghost use Rattle.std.specs.Prelude.{◌≡◌, pos, ◌/◌, ◌%◌, ◌==◌, ◌+ℤ◌, ◌<◌, ◌≤◌, ◌^◌, FitsSigned};
+ghost use Rattle.std.specs.Prelude.{IfSome, IsTrue, true};
 ghost use Rattle.std.specs.Int.{w64};
 ghost use Rattle.std.specs.Option.{SomeIff};
 ghost use Rattle.jzon_base.specs.Decimal.{fixed_point, unsigned_fixed_point, whole_part, SomeWhere};
-ghost use Rattle.jzon_base.specs.Decimal.{exact_fixed_point, exact_unsigned_fixed_point, is_whole_at};
+ghost use Rattle.jzon_base.specs.Decimal.{exact_fixed_point, exact_unsigned_fixed_point, is_whole, is_whole_at, integer_at};
+ghost use Rattle.jzon_base.specs.Decimal.{same, IsExactAt};
 
 use super::to_integer::with_sign;
 use super::{Number, times_power};
@@ -35,9 +37,10 @@ impl Number {
     /// `mantissa * 10 ^ (exponent + point)`, where that is a whole number: 12.30 at 2 is 1230, and 12.301 at 2 is `None`, since a digit would be lost. `None` too for NaN,
     /// for each negative sign, that of -0 included, and where it doesn't fit.
     pub fn as_exact_fixed_point_u64(&self, point: u16) -> Option<u64>
-        ensures { SomeWhere (exact_unsigned_fixed_point self.now point) (λ n. n < 2 ^ 64) result }
+        ensures number { SomeWhere (exact_unsigned_fixed_point self.now point) (λ n. n < 2 ^ 64) result }
+        ensures same { IfSome result (λ n. point ≤ 32768 → IsTrue (same self.now (integer_at (pos n) point))) }
     {
-        if self.is_whole_at(point) {
+        if self.is_exact_at(point) {
             self.as_fixed_point_u64(point)
         } else {
             None
@@ -46,9 +49,10 @@ impl Number {
 
     /// `mantissa * 10 ^ (exponent + point)` with the sign, where that is a whole number. `None` where a digit would be lost, for NaN, and where it doesn't fit.
     pub fn as_exact_fixed_point_i64(&self, point: u16) -> Option<i64>
-        ensures { SomeWhere (exact_fixed_point self.now point) (FitsSigned w64) result }
+        ensures number { SomeWhere (exact_fixed_point self.now point) (FitsSigned w64) result }
+        ensures same { IfSome result (λ n. point ≤ 32768 → IsTrue (same self.now (integer_at n point))) }
     {
-        if self.is_whole_at(point) {
+        if self.is_exact_at(point) {
             self.as_fixed_point_i64(point)
         } else {
             None
@@ -56,13 +60,24 @@ impl Number {
     }
 
     /// Whether no digit is lost where the fixed-point readings cut.
-    fn is_whole_at(&self, point: u16) -> bool
-        ensures { result ≡ is_whole_at self.now point }
+    fn is_exact_at(&self, point: u16) -> bool
+        ensures whole { result ≡ is_whole_at self.now point }
+        ensures same { result ≡ true → IsExactAt self.now point }
     {
+        if self.is_nan() {
+            return false;
+        }
         let (_, mantissa, exponent) = self.as_parts();
-        let power = i32::from(exponent) + i32::from(point);
-        !self.is_nan() && (power >= 0 || is_multiple(mantissa, power.unsigned_abs()))
+        is_whole(mantissa, exponent, point)
     }
+}
+
+/// Whether the mantissa with its point moved is a whole number.
+fn is_whole(mantissa: u64, exponent: i16, point: u16) -> bool
+    ensures { result ≡ is_whole mantissa (exponent +ℤ pos point) }
+{
+    let power = i32::from(exponent) + i32::from(point);
+    power >= 0 || is_multiple(mantissa, power.unsigned_abs())
 }
 
 /// The mantissa with its point moved, cut to a whole number, where it fits.
