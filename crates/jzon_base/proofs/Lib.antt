@@ -28,3 +28,5 @@ pub mod Notes
 pub mod Handed
 pub mod FlatRuns
 pub mod Tables
+pub mod EightDigits
+pub mod LeadingDigits

@@ -4,7 +4,7 @@ use Rattle.std.proofs.Common.{length, take, drop, get_or, map, replicate, bit_or
 use Rattle.std.proofs.Common.{zero, suc, zero-add, arith}
 use Rattle.std.specs.List.{prefix_len}
 use Rattle.std.proofs.lemmas.Bool.{agree_below, agree_below_at, cond-true, cond-false, eq-eqb, ne_eqb}
-use Rattle.std.proofs.lemmas.List.{length-drop, length-map, take-append-drop, take_rest}
+use Rattle.std.proofs.lemmas.List.{drop-drop, length-drop, length-map, take-append-drop, take_rest}
 use Rattle.std.proofs.lemmas.List.Sums.{prefix_len-le-length}
 use Rattle.std.proofs.lemmas.List.Folds.{prefix_len-append}
 use Rattle.std.proofs.lemmas.Simd.{chunk-fits, first_set_mask_l, length-chunk, map-map, mask_l-mod, zip2_of_maps}
@@ -26,7 +26,7 @@ lane a b c x = bit_or (bit_or (below x a) (equal x b)) (equal x c)
 abbrev pub stops : ℕ → ℕ → ℕ → ℕ → Bool
 stops a b c x = top 7 (lane a b c x)
 
-same_run : (p q : ℕ → Bool) (v : List ℕ) → agree_below p q 256 ≡ true → Each1 (Fits w8) v
+pub same_run : (p q : ℕ → Bool) (v : List ℕ) → agree_below p q 256 ≡ true → Each1 (Fits w8) v
     → prefix_len p v ≡ prefix_len q v
 same_run p q [] all fits = refl
 same_run p q (x ∷ xs) all fits = ap₂ (λ (b : Bool) (n : ℕ). cond b (1 + n) 0) (agree_below_at p q 256 x all fits.0.fits)
@@ -72,10 +72,10 @@ pub block_some : (a b c : ℕ) (d : List ℕ) (i n : ℕ) → i + n ≤ length d
 block_some a b c d i n room few fits some all = sym (cond-false _ _ _ (ne_eqb _ _ some))
     ∙ first_set a b c d i n room few fits all
 
-split : (d : List ℕ) (n : ℕ) → prefix_len is_plain d
-    ≡ cond (eqb (prefix_len is_plain (take n d)) (length (take n d)))
-    (length (take n d) + prefix_len is_plain (drop n d)) (prefix_len is_plain (take n d))
-split d n = ap (prefix_len is_plain) (sym (take-append-drop n d)) ∙ prefix_len-append is_plain (take n d) (drop n d)
+split : (p : ℕ → Bool) (d : List ℕ) (n : ℕ) → prefix_len p d
+    ≡ cond (eqb (prefix_len p (take n d)) (length (take n d)))
+    (length (take n d) + prefix_len p (drop n d)) (prefix_len p (take n d))
+split p d n = ap (prefix_len p) (sym (take-append-drop n d)) ∙ prefix_len-append p (take n d) (drop n d)
 
 -- a run that ends in a first block
 pub prefix_ends : (d : List ℕ) (n r : ℕ) → n ≤ length d → r ≡ prefix_len is_plain (take n d) → r < n
@@ -83,16 +83,25 @@ pub prefix_ends : (d : List ℕ) (n r : ℕ) → n ≤ length d → r ≡ prefix
 prefix_ends d n r room counted short =
     let other = ne_eqb (prefix_len is_plain (take n d)) (length (take n d))
     (λ same. absurd (omega (arith, length-chunk 0 n d (omega arith)))) in
-    counted ∙ sym (split d n ∙ cond-false _ _ _ other)
+    counted ∙ sym (split is_plain d n ∙ cond-false _ _ _ other)
 
 -- a run that goes on past a first block
-pub prefix_passes : (d : List ℕ) (n r : ℕ) → n ≤ length d → r ≡ prefix_len is_plain (take n d) → n ≤ r
-    → n + prefix_len is_plain (drop n d) ≡ prefix_len is_plain d
-prefix_passes d n r room counted whole =
+pub prefix_passes : (p : ℕ → Bool) (d : List ℕ) (n r : ℕ) → n ≤ length d → r ≡ prefix_len p (take n d) → n ≤ r
+    → n + prefix_len p (drop n d) ≡ prefix_len p d
+prefix_passes p d n r room counted whole =
     let long = length-chunk 0 n d (omega arith) in
-    let same : prefix_len is_plain (take n d) ≡ length (take n d) = omega
-    (arith, long, prefix_len-le-length is_plain (take n d)) in
-    ap (λ (m : ℕ). m + prefix_len is_plain (drop n d)) (sym long) ∙ sym (split d n ∙ cond-true _ _ _ (eq-eqb _ _ same))
+    let same : prefix_len p (take n d) ≡ length (take n d) = omega
+    (arith, long, prefix_len-le-length p (take n d)) in
+    ap (λ (m : ℕ). m + prefix_len p (drop n d)) (sym long) ∙ sym (split p d n ∙ cond-true _ _ _ (eq-eqb _ _ same))
+
+-- the same from an offset on, up to which the run is known
+pub goes_past : (p : ℕ → Bool) (d : List ℕ) (i n r : ℕ) → i + n ≤ length d → r ≡ prefix_len p (chunk i n d) → n ≤ r
+    → prefix_len p d ≡ i + prefix_len p (drop i d)
+    → prefix_len p d ≡ (i + n) + prefix_len p (drop (i + n) d)
+goes_past p d i n r room counted whole before =
+    let rest = prefix_passes p (drop i d) n r (omega (arith, length-drop i d)) counted whole in
+    let joined = ap (prefix_len p) (drop-drop n i d) in
+    omega (arith, rest, joined)
 
 -- ---- a run that is known up to an offset
 past-at : (b : Bool) (i n m : ℕ) → (i ≤ n → i + m ≡ n) → suc i ≤ cond b (1 + n) 0 → suc i + m ≡ cond b (1 + n) 0
@@ -108,7 +117,7 @@ past p (x ∷ xs) (suc i) h = past-at (p x) i (prefix_len p xs) (prefix_len p (d
 pub passes_block : (d : List ℕ) (i n r : ℕ) → i + n ≤ length d → r ≡ prefix_len is_plain (chunk i n d) → n ≤ r
     → i ≤ prefix_len is_plain d → i + n ≤ prefix_len is_plain d
 passes_block d i n r room counted whole before =
-    let rest = prefix_passes (drop i d) n r (omega (arith, length-drop i d)) counted whole in
+    let rest = prefix_passes is_plain (drop i d) n r (omega (arith, length-drop i d)) counted whole in
     omega (arith, rest, past is_plain d i before)
 
 -- it ends in that block

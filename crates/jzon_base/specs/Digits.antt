@@ -18,6 +18,14 @@ add_digit v c = v * 10 + (c - 48)
 abbrev pub digits_number : List ℕ → ℕ
 digits_number ds = fold add_digit 0 ds
 
+-- the number with one digit more, by the digit's value
+abbrev pub add_value : ℕ → ℕ → ℕ
+add_value v d = v * 10 + d
+
+-- the number that digits spell, by their values
+abbrev pub values_number : List ℕ → ℕ
+values_number ds = fold add_value 0 ds
+
 -- the greatest count up to n of digits that spell a number below 2 ^ 64
 abbrev pub longest_up_to : ℕ → List ℕ → ℕ
 longest_up_to zero ds = 0

@@ -10,7 +10,10 @@ ghost use Rattle.jzon_base.specs.Digits.{read_number};
 ghost use Rattle.jzon_base.specs.DigitLimits.{AreFewEnough, IsFirstTooMany, KeepsLongestPrefix};
 
 use crate::number::Number;
-use core::dec2flt::read_digits;
+
+mod eight;
+
+use eight::{EIGHT, leading_digits, ten_to};
 
 /// So many digits spell a number below 2^64, whichever they are.
 const ALWAYS_KEPT: usize = 19;
@@ -74,7 +77,35 @@ pub fn scan(bytes: &[u8], before: u64) -> (usize, u64)
     ensures count { result.0 ≡ prefix_len is_ascii_digit bytes.now }
     ensures number { (n : ℕ) → before ≡ n % 2 ^ 64 → result.1 ≡ fold add_digit n (take result.0 bytes.now) % 2 ^ 64 }
 {
-    read_digits(bytes, 0, before)
+    let mut len = 0;
+    let mut number = before;
+    while bytes.len() - len >= EIGHT {
+        let (count, next) = leading_digits(bytes, len);
+        number = number.wrapping_mul(ten_to(count)).wrapping_add(next);
+        len += count;
+        if count < EIGHT {
+            return (len, number);
+        }
+    }
+    let (count, number) = scan_by_bytes(&bytes[len..], number);
+    (len + count, number)
+}
+
+/// The same, one byte at a time.
+fn scan_by_bytes(bytes: &[u8], before: u64) -> (usize, u64)
+    ensures count { result.0 ≡ prefix_len is_ascii_digit bytes.now }
+    ensures number { (n : ℕ) → before ≡ n % 2 ^ 64 → result.1 ≡ fold add_digit n (take result.0 bytes.now) % 2 ^ 64 }
+{
+    let mut number = before;
+    for (i, byte) in bytes.iter().enumerate() {
+        if !byte.is_ascii_digit() {
+            return (i, number);
+        }
+        number = number
+            .wrapping_mul(10)
+            .wrapping_add(u64::from(*byte - b'0'));
+    }
+    (bytes.len(), number)
 }
 
 /// The longest prefix of the digits before and after a point that spells a number below 2^64.

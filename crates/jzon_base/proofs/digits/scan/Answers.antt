@@ -1,14 +1,18 @@
-use Rattle.std.proofs.Common.{◌≡◌, ◌-◌, ◌^◌, ◌∙◌, arith}
-use Rattle.std.specs.Char.{is_ascii_digit}
-use Rattle.std.specs.List.{prefix_len}
-use Rattle.std.proofs.lemmas.List.Folds.{length-prefix_len}
-use Rattle.jzon_base.proofs.Scanned.{scanned}
+use Rattle.std.proofs.Common.{arith}
+use Rattle.jzon_base.proofs.Scanned.{number_more, number_rest, scanned_block}
 use Rattle.jzon_base.proofs.digits.scan.Goals as goal
 
+pub returns-then-count-lt-EIGHT-clause-number : goal.returns-then-count-lt-EIGHT-clause-number
+returns-then-count-lt-EIGHT-clause-number c = rw c.ten_to.ensures
+    (number_more c.args.bytes.now c.args.before c.loop-len.len c.loop-len.number c.leading_digits-count.result.0
+    c.leading_digits-count.result.1 c.loop-len.invariant (omega arith) c.leading_digits-count.ensures.number)
+
+pub loop-len-preserved : goal.loop-len-preserved
+loop-len-preserved c = rw c.ten_to.ensures
+    (scanned_block c.args.bytes.now c.args.before c.loop-len.len c.loop-len.number 8 c.leading_digits-count.result.0
+    c.leading_digits-count.result.1 c.loop-len.invariant (omega arith) c.leading_digits-count.ensures.count (omega arith)
+    c.leading_digits-count.ensures.number)
+
 pub returns-clause-number : goal.returns-clause-number
-returns-clause-number c = λ n before.
-    let bytes = c.args.bytes.now in
-    let count : c.read_digits.result.0 ≡ prefix_len is_ascii_digit bytes = omega arith in
-    let from_start : c.read_digits.result.0 - 0 ≡ prefix_len is_ascii_digit bytes = omega arith in
-    let value = rw from_start at c.read_digits.ensures.value in
-    rw count (value ∙ rw (length-prefix_len is_ascii_digit bytes) at (scanned n c.args.before (2 ^ 64) bytes before))
+returns-clause-number c = number_rest c.args.bytes.now c.args.before c.loop-len.len c.loop-len.number
+    c.scan_by_bytes-count.result.0 c.scan_by_bytes-count.result.1 c.loop-len.invariant c.scan_by_bytes-count.ensures.number

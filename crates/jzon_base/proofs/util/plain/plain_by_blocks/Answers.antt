@@ -12,7 +12,7 @@ returns-then-plain-lt-HALF c =
 
 pub loop-start-init : goal.loop-start-init
 loop-start-init c =
-    let first = prefix_passes c.args.bytes.now 16 c.plain_in_lanes-plain.result (omega arith)
+    let first = prefix_passes is_plain c.args.bytes.now 16 c.plain_in_lanes-plain.result (omega arith)
     c.plain_in_lanes-plain.ensures (omega arith) in
     omega (arith, first)
 

@@ -11,14 +11,14 @@ returns-then-plain g c = prefix_ends c.args.bytes.now g.row.N c.plain_in_lanes-p
 
 pub returns : goal.returns
 returns g c =
-    let first = prefix_passes c.args.bytes.now g.row.N c.plain_in_lanes-plain.result (omega arith)
+    let first = prefix_passes is_plain c.args.bytes.now g.row.N c.plain_in_lanes-plain.result (omega arith)
     c.plain_in_lanes-plain.ensures (omega arith) in
     ends_in_last c.args.bytes.now (length c.args.bytes.now - g.row.N) g.row.N c.plain_in_lanes.result (omega arith)
     c.plain_in_lanes.ensures (omega (arith, first))
 
 pub overflow_add-result : goal.overflow_add-result
 overflow_add-result g c =
-    let first = prefix_passes c.args.bytes.now g.row.N c.plain_in_lanes-plain.result (omega arith)
+    let first = prefix_passes is_plain c.args.bytes.now g.row.N c.plain_in_lanes-plain.result (omega arith)
     c.plain_in_lanes-plain.ensures (omega arith) in
     let whole : length c.args.bytes.now - g.row.N + c.plain_in_lanes.result ≡ prefix_len is_plain c.args.bytes.now =
     ends_in_last c.args.bytes.now (length c.args.bytes.now - g.row.N) g.row.N c.plain_in_lanes.result (omega arith)
