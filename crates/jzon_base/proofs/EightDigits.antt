@@ -40,11 +40,14 @@ even_bytes : (p x q y r z s n : ℕ) → p < 100 → x < 100 → q < 100 → y <
     → n ≡ p + 2 ^ 8 * x + 2 ^ 16 * q + 2 ^ 24 * y + 2 ^ 32 * r + 2 ^ 40 * z + 2 ^ 48 * s
     → bit_and n 0x00ff_00ff_00ff_00ff ≡ p + 2 ^ 16 * q + 2 ^ 32 * r + 2 ^ 48 * s
 even_bytes p x q y r z s n P X Q Y R Z S e =
-    let parts : n ≡ ((s * 2 ^ 16 + (z * 2 ^ 8 + r)) * 2 ^ 16 + (y * 2 ^ 8 + q)) * 2 ^ 16 + (x * 2 ^ 8 + p) = omega arith in
+    let parts : n ≡ ((s * 2 ^ 16 + (z * 2 ^ 8 + r)) * 2 ^ 16 + (y * 2 ^ 8 + q)) * 2 ^ 16 + (x * 2 ^ 8 + p) =
+        omega arith in
     let last : s % 2 ^ 8 ≡ s = omega arith in
-    let joined : ((s * 2 ^ 16 + r) * 2 ^ 16 + q) * 2 ^ 16 + p ≡ p + 2 ^ 16 * q + 2 ^ 32 * r + 2 ^ 48 * s = omega arith in
+    let joined : ((s * 2 ^ 16 + r) * 2 ^ 16 + q) * 2 ^ 16 + p ≡ p + 2 ^ 16 * q + 2 ^ 32 * r + 2 ^ 48 * s =
+        omega arith in
     ap (λ m. bit_and m 0x00ff_00ff_00ff_00ff) parts
-    ∙ even_byte ((s * 2 ^ 16 + (z * 2 ^ 8 + r)) * 2 ^ 16 + (y * 2 ^ 8 + q)) 0x00ff_00ff_00ff x p (omega arith) (omega arith)
+    ∙ even_byte ((s * 2 ^ 16 + (z * 2 ^ 8 + r)) * 2 ^ 16 + (y * 2 ^ 8 + q)) 0x00ff_00ff_00ff x p (omega arith)
+        (omega arith)
     ∙ ap (λ m. m * 2 ^ 16 + p) (even_byte (s * 2 ^ 16 + (z * 2 ^ 8 + r)) 0x00ff_00ff y q (omega arith) (omega arith)
     ∙ ap (λ m. m * 2 ^ 16 + q) (even_byte s 255 z r (omega arith) (omega arith)
     ∙ ap (λ m. m * 2 ^ 16 + r) (and_mask s 8 ∙ last)))

@@ -1,6 +1,8 @@
 -- The digits at the beginning of eight bytes: how many they are, and their word.
-use Rattle.std.proofs.Common.{◌≡◌, ℕ, zero, suc, ◌+◌, ◌-◌, ◌*◌, ◌%◌, ◌^◌, ◌<◌, ◌≤◌, Bool, true, false, not, cond, ltb, eqb}
-use Rattle.std.proofs.Common.{List, [], ◌∷◌, ◌++◌, length, take, drop, map, replicate, Fits, w8, w64, refl, sym, ap, ◌∙◌, arith, pow-suc}
+use Rattle.std.proofs.Common.{◌≡◌, ℕ, zero, suc, ◌+◌, ◌-◌, ◌*◌, ◌%◌, ◌^◌, ◌<◌, ◌≤◌, Bool, true, false, not, cond, ltb}
+use Rattle.std.proofs.Common.{eqb}
+use Rattle.std.proofs.Common.{List, [], ◌∷◌, ◌++◌, length, take, drop, map, replicate, Fits, w8, w64, refl, sym, ap}
+use Rattle.std.proofs.Common.{◌∙◌, arith, pow-suc}
 use Rattle.std.specs.Char.{is_ascii_digit}
 use Rattle.std.specs.Int.{from_le_bytes}
 use Rattle.std.specs.List.{fold, prefix_len, All}
@@ -12,7 +14,8 @@ use Rattle.std.proofs.lemmas.List.Sums.{prefix_len-le-length}
 use Rattle.std.proofs.lemmas.List.Elements.{All-append, All-cons, All-nil, All-replicate}
 use Rattle.std.proofs.lemmas.Nat.{mod-mul-add, pow-add}
 use Rattle.std.proofs.lemmas.Nat.Bits.{bit_at-trailing_zeros, bit_at_above}
-use Rattle.std.proofs.lemmas.Simd.{first_set_mask_l, length-replicate, map-map, mask_l-lt, mask_l-mod, zip2_splat, zip2_splat_left}
+use Rattle.std.proofs.lemmas.Simd.{first_set_mask_l, length-replicate, map-map, mask_l-lt, mask_l-mod, zip2_splat}
+use Rattle.std.proofs.lemmas.Simd.{zip2_splat_left}
 use lib.Count.{count_trailing_zeros}
 use lib.Lanes.{Each1, mask_l, number_l, top, zip2}
 use Rattle.jzon_base.specs.Digits.{add_digit, digits_number, add_value, values_number}
@@ -127,7 +130,8 @@ zeros_worth zero ds = refl
 zeros_worth (suc k) ds = zeros_worth k ds
 
 pub two_shifts : (n : ℕ) → n < 8 → 256 * 2 ^ (56 - 8 * n) ≡ 256 ^ (8 - n)
-two_shifts n few = eqb-true _ _ (agree_below_at (λ k. eqb (256 * 2 ^ (56 - 8 * k)) (256 ^ (8 - k))) (λ _. true) 8 n refl few)
+two_shifts n few = eqb-true _ _
+    (agree_below_at (λ k. eqb (256 * 2 ^ (56 - 8 * k)) (256 ^ (8 - k))) (λ _. true) 8 n refl few)
 
 -- the lowest n lanes, moved up to the highest
 moved_up : (xs : List ℕ) (n : ℕ) → length xs ≡ 8 → n ≤ 8 → number_l 256 (take n xs) < 256 ^ n
@@ -164,7 +168,8 @@ spells_first xs n base word long count given is =
     let moved = moved_up vs n length-vs few (rw first r.fits) in
     record {
       digits = replicate (8 - n) 0 ++ map value_of (take n xs);
-      eight = omega (arith, length-append (replicate (8 - n) 0) (map value_of (take n xs)), length-replicate {A = ℕ} (8 - n) 0,
+      eight = omega (arith, length-append (replicate (8 - n) 0) (map value_of (take n xs)),
+          length-replicate {A = ℕ} (8 - n) 0,
           length-map (take n xs) value_of, length-take n xs);
       small = All-append (λ d. d < 10) _ _ (All-replicate (λ d. d < 10) (8 - n) 0 (omega arith)) r.small;
       word_is = is ∙ ap (λ m. m * 256 ^ (8 - n) % 2 ^ 64) whole ∙ moved

@@ -4,4 +4,5 @@ use Rattle.jzon_base.specs.declared.digits.eight.TheConstants.{POWERS_OF_TEN}
 use Rattle.jzon_base.proofs.digits.eight.ten_to.Goals as goal
 
 pub returns : goal.returns
-returns c = eqb-true _ _ (agree_below_at (λ n. eqb (get_or POWERS_OF_TEN n 0) (10 ^ n)) (λ _. true) 9 c.args.n refl (omega arith))
+returns c = eqb-true _ _
+    (agree_below_at (λ n. eqb (get_or POWERS_OF_TEN n 0) (10 ^ n)) (λ _. true) 9 c.args.n refl (omega arith))
