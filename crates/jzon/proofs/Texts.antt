@@ -1,5 +1,5 @@
--- Whole texts (RFC 8259, section 2): what the automaton of specs/Machine (from a state and a character to the next state)
--- has to do with spelling trees. The four statements on which all else rests:
+-- Whole texts (RFC 8259, section 2): what the automaton of specs/Machine, which goes from a state and a character to
+-- the next state, has to do with spelling trees. The four statements on which all else rests:
 -- complete: over the cells of a tree the automaton goes from before it to after its meaning, each move with its cell's
 --   mark (`complete`: Containers/CompleteValues)
 -- sound: what the automaton reads to a value, marks passed over, a tree spells that means it (`sound`:

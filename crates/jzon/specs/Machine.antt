@@ -1,5 +1,5 @@
--- The automaton: what is left of a text comes to a value or to a fault, one character at a time. Its states are the
--- `Place`s: no tree and no whitespace, only what the open containers hold so far, and where in a token the text goes on.
+-- The automaton: what is left of a text comes to a value or to a fault, one character at a time. A `Place` is its
+-- state: no tree and no whitespace, only what the open containers hold so far, and where in a token the text goes on.
 use Rattle.std.specs.Prelude.{◌≡◌, ◌⊎◌, ℕ, zero, suc, ◌+◌, ◌-◌, ◌*◌, cond, List, [], ◌∷◌, ◌++◌, length, drop, Bool}
 use Rattle.std.specs.Prelude.{true, false, ◌&&◌, ◌==◌, Option, Some, None, Result, Ok, Err, MatchResult, chars}
 use Rattle.std.specs.Prelude.{encode_utf8}
