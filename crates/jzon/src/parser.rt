@@ -4,7 +4,7 @@ ghost use Rattle.std.specs.Prelude.{◌≡◌, ◌≢◌, ◌&&◌, [], ◌<◌,
 ghost use Rattle.std.specs.Prelude.{Err, None, IsOkUnless, vec_len};
 ghost use Rattle.std.specs.Option.{is_some};
 ghost use Rattle.jzon_base.specs.PairList.{find};
-ghost use Rattle.jzon_tree.specs.Value.{Value, array, values_of, object, pairs_of};
+ghost use Rattle.jzon_tree.specs.Value.{Value, object, pairs_of};
 ghost use Rattle.jzon_tree.specs.View.{view, viewed};
 ghost use Rattle.jzon.specs.Answer.{IsMeaningOf, IsReadable, IsErrorUnlessMemory, TakesMemory};
 ghost use Rattle.jzon.specs.Cursor.{left, next_byte, GoesOn, IsPast};
@@ -186,8 +186,8 @@ impl<'a> Parser<'a> {
                 elements.push(item)?;
                 if self.cursor.array_ends()? {
                     let depth = self.stack.len();
-                    let array = close_array(self.alloc, elements, &mut self.array_hints, depth)?;
-                    return Ok(Begun::Value(array));
+                    fit_array(self.alloc, &mut elements, &mut self.array_hints, depth)?;
+                    return Ok(Begun::Value(JsonValue::Array(elements)));
                 }
                 self.read_elements(elements)
             }
@@ -246,8 +246,8 @@ impl<'a> Parser<'a> {
             }
             if self.cursor.array_ends()? {
                 let depth = self.stack.len();
-                let array = close_array(self.alloc, elements, &mut self.array_hints, depth)?;
-                return Ok(Begun::Value(array));
+                fit_array(self.alloc, &mut elements, &mut self.array_hints, depth)?;
+                return Ok(Begun::Value(JsonValue::Array(elements)));
             }
         }
     }
@@ -310,8 +310,8 @@ impl<'a> Parser<'a> {
     }
 }
 
-/// No elements, with room for those of an array that begins at the cursor inside of `depth` others. Without a hint one is certain to come, and containers often nest
-/// alone. The error is `OutOfMemory`.
+/// No elements, with room for those of an array that begins at the cursor inside of `depth` others. Without a hint one is certain to come, and containers
+/// often nest alone. The error is `OutOfMemory`.
 #[inline(always)]
 fn room_for_elements(
     alloc: Global,
@@ -333,21 +333,33 @@ fn room_for_elements(
     Ok(Vec::with_capacity(alloc, capacity)?)
 }
 
-/// The array of these elements, which ends inside of `depth` others. The error is `OutOfMemory`.
+/// Gives back unused room of an array that ends inside of `depth` others, and notes how many elements it has. The error is `OutOfMemory`.
 #[inline(always)]
-fn close_array(
+fn fit_array(
     alloc: Global,
-    elements: Vec<JsonValue>,
+    elements: &mut Vec<JsonValue>,
     hints: &mut Hints,
     depth: usize,
-) -> Result<JsonValue>
-    ensures value { IfOk result (λ v. view v ≡ array (values_of (map view elements.items))) }
+) -> Result<()>
+    ensures items { elements.new.items ≡ elements.old.items }
     ensures memory { IsOkUnless result Error.OutOfMemory }
 {
-    let mut elements = elements;
-    fit(alloc, &mut elements)?;
     hints.set(depth, elements.len());
-    Ok(JsonValue::Array(elements))
+    if elements.len() < elements.capacity() {
+        fit_elements(alloc, elements)?;
+    }
+    Ok(())
+}
+
+/// Gives back room of an array that ends. A function of its own, so that the loop over elements stays small. The error is `OutOfMemory`.
+#[cold]
+#[inline(never)]
+fn fit_elements(alloc: Global, elements: &mut Vec<JsonValue>) -> Result<()>
+    ensures items { elements.new.items ≡ elements.old.items }
+    ensures memory { IsOkUnless result Error.OutOfMemory }
+{
+    fit(alloc, elements)?;
+    Ok(())
 }
 
 /// The object of these entries, which ends inside of `depth` others. The error is `OutOfMemory`.

@@ -3,7 +3,7 @@ use Rattle.std.proofs.lemmas.List.{map-append}
 use Rattle.jzon_base.specs.PairList.{put}
 use Rattle.jzon_tree.specs.Value.{Value, array, values_of, object, pairs_of}
 use Rattle.jzon_tree.specs.View.{view, viewed}
-use Rattle.jzon_tree.proofs.Views.{viewed-put}
+use Rattle.jzon_tree.proofs.Views.{view-Array, viewed-put}
 use Rattle.jzon.specs.Cursor.{left}
 use Rattle.jzon.specs.Frames.{open_in, stack_view}
 use Rattle.jzon.specs.Machine.{Frames, array_frame, object_frame, before, before_key, behind}
@@ -57,7 +57,8 @@ returns-then-branch-clause-same c =
       read.0,
       read.1 ∙ ap (λ b. left u (cond b (behind fs (array (values_of (vs ++ v ∷ []))))
           (before (array_frame fs (vs ++ v ∷ []))))) c.if-branch.true
-          ∙ ap (λ x. left u (behind fs x)) (sym (c.in_ok-array-in-Array.ensures.value
+          ∙ ap (λ x. left u (behind fs x)) (sym (view-Array c.fit_array.new.elements
+          ∙ ap (λ xs. array (values_of (map view xs))) c.in_ok-fit_array-in-Array.ensures.items
           ∙ ap (λ xs. array (values_of xs)) (elements_pushed at))),
     )
 

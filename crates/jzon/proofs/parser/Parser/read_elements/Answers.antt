@@ -4,6 +4,7 @@ use Rattle.std.proofs.lemmas.List.{map-append}
 use Rattle.std.proofs.lemmas.Result.{err_from_is_err_and}
 use Rattle.jzon_tree.specs.Value.{Value, array, values_of}
 use Rattle.jzon_tree.specs.View.{view}
+use Rattle.jzon_tree.proofs.Views.{view-Array}
 use Rattle.jzon.specs.Cursor.{left, IsBehind}
 use Rattle.jzon.specs.Frames.{IsReady, place_of, stack_view}
 use Rattle.jzon.specs.Machine.{Frames, array_frame, frames_depth, before, behind, value_mark}
@@ -248,7 +249,9 @@ returns-then-branch-clause-same c =
           (before (array_frame fs (vs ++ v ∷ []))))) c.if-branch.true
           ∙ ap (λ s. left u (behind (stack_view s.items) (array (values_of (vs ++ v ∷ []))))) (sym (stack_kept at))
           ∙ ap (λ x. left u (behind (stack_view c.if-opens_container.self.stack.items) x))
-          (sym (c.in_ok-array.ensures.value ∙ ap (λ xs. array (values_of xs)) (more at).grown)),
+          (sym (view-Array c.fit_array.new.elements
+          ∙ ap (λ xs. array (values_of (map view xs))) c.in_ok-fit_array.ensures.items
+          ∙ ap (λ xs. array (values_of xs)) (more at).grown)),
     )
 
 pub loop-self-smaller : goal.loop-self-smaller
