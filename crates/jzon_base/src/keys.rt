@@ -134,7 +134,12 @@ impl Keys {
         ensures err { OnErr result (self.new ≡ self.old) }
     {
         let key = Key::new(alloc, name)?;
-        self.place(key)?;
+        if let Some(table) = &mut self.table {
+            return table.push(alloc, key);
+        }
+        let mut table = Box::new(alloc, Table::new(alloc))?;
+        table.push(alloc, key)?;
+        self.table = Some(table);
         Ok(())
     }
 

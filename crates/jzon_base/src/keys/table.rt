@@ -1,5 +1,5 @@
 //! Keys beside their index.
-ghost use Rattle.std.specs.Prelude.{◌≡◌, ◌<◌, ◌++◌, ◌∷◌, [], length, remove, slice_get, IfOk, OnOk, OnErr, MatchOption, Some, map};
+ghost use Rattle.std.specs.Prelude.{◌≡◌, ◌<◌, ◌++◌, ◌∷◌, [], length, remove, slice_get, IfOk, OnOk, OnErr, MatchOption, None, Some, map};
 ghost use Rattle.std.specs.List.{position, zip, IsDistinct};
 ghost use Rattle.std.specs.Str.{bytes_eq};
 ghost use Rattle.jzon_base.specs.Keys.{IsIndex, IsIndexed};
@@ -187,6 +187,18 @@ impl Table {
         self.keys[index].as_str()
     }
 
+    /// Adds a key that is missing, last. The error is a failed allocation.
+    pub fn push(&mut self, alloc: Global, key: Key) -> Result<(), AllocError>
+        requires { position (λ k. bytes_eq k key) self.old ≡ None }
+        ensures ok { OnOk result (self.new ≡ self.old ++ key ∷ []) }
+        ensures err { OnErr result (self.new ≡ self.old) }
+    {
+        self.keys.reserve(1)?;
+        add_key(alloc, self.keys.as_slice(), &mut self.index, key.as_str())?;
+        self.keys.push_reserved(key);
+        Ok(())
+    }
+
     /// The place of a key. Where the key is missing it is put last, and the answer is `None`. The error is a refused growth.
     pub fn place(&mut self, alloc: Global, key: Key) -> Result<Option<usize>, AllocError>
         ensures place { IfOk result (λ place. place ≡ position (λ k. bytes_eq k key) self.old) }
@@ -198,9 +210,7 @@ impl Table {
         if found.is_some() {
             return Ok(found);
         }
-        self.keys.reserve(1)?;
-        add_key(alloc, self.keys.as_slice(), &mut self.index, key.as_str())?;
-        self.keys.push_reserved(key);
+        self.push(alloc, key)?;
         Ok(None)
     }
 
