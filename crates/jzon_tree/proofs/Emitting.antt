@@ -58,6 +58,46 @@ module _ (P : List ℕ → Type 0) (Q : Style → ℕ → List ℕ → Type 0) (
   PrintsIf-after K (Ok u) k = Added-after k
   PrintsIf-after K (Err e) k = λ keyed. Stopped-after (k keyed)
 
+-- two calls in turn, of which the bytes of both together are known
+module _ (P R : List ℕ → Type 0) (a b c : Emitted) (h : Added P a b) where
+  pub Added-chain : (Q : List ℕ → Type 0) → Added Q b c → Adds R a.out c.out → Added R a c
+  Added-chain Q k bytes = record {
+    bytes = bytes;
+    dent = k.dent ∙ h.dent;
+    faults = k.faults ∙ h.faults;
+    style = k.style ∙ h.style;
+    lender = k.lender ∙ h.lender;
+  }
+
+  pub Failed-chain : (Q : List ℕ → Type 0) → Failed Q b c → Adds (Begins R) a.out c.out → Failed R a c
+  Failed-chain Q k bytes = record {
+    bytes = bytes;
+    dent = k.dent ∙ h.dent;
+    faults = k.faults ∙ ap noted h.faults;
+    style = k.style ∙ h.style;
+    lender = k.lender ∙ h.lender;
+  }
+
+-- and three
+module _ (P Q R S : List ℕ → Type 0) (a b c d : Emitted) (h : Added P a b) (j : Added Q b c) where
+  pub Added-chained : Added S c d → Adds R a.out d.out → Added R a d
+  Added-chained k bytes = record {
+    bytes = bytes;
+    dent = k.dent ∙ j.dent ∙ h.dent;
+    faults = k.faults ∙ j.faults ∙ h.faults;
+    style = k.style ∙ j.style ∙ h.style;
+    lender = k.lender ∙ j.lender ∙ h.lender;
+  }
+
+  pub Failed-chained : Failed S c d → Adds (Begins R) a.out d.out → Failed R a d
+  Failed-chained k bytes = record {
+    bytes = bytes;
+    dent = k.dent ∙ j.dent ∙ h.dent;
+    faults = k.faults ∙ ap noted (j.faults ∙ h.faults);
+    style = k.style ∙ j.style ∙ h.style;
+    lender = k.lender ∙ j.lender ∙ h.lender;
+  }
+
 -- a fault, where some bytes would have followed
 module _ (P R : List ℕ → Type 0) (a b : Emitted) (more : (x : List ℕ) → P x → Begins R x) where
   more_begins : (x : List ℕ) → Begins P x → Begins R x

@@ -1,6 +1,7 @@
 pub mod Compared
 pub mod LentSteps
 pub mod Emitting
+pub mod Escapes
 pub mod Exits
 pub mod Members
 pub mod Orders

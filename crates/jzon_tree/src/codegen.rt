@@ -1,6 +1,7 @@
 //! Printing: generators, and what is written by them (docs/RULES.md, "Generators").
 
 mod display;
+mod escape;
 mod fault;
 mod generator;
 mod inspect;

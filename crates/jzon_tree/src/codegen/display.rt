@@ -1,21 +1,20 @@
 //! What `{}` shows of a value (docs/RULES.md, "Layouts"). Its pieces are written into the formatter, and it takes no memory.
 
-ghost use Rattle.std.specs.Prelude.{◌≤◌, length, Some};
+ghost use Rattle.std.specs.Prelude.{◌≡◌, false};
 ghost use Rattle.std.specs.Fmt.{WritesOnOk};
 ghost use Rattle.jzon_base.specs.NumberText.{written_text};
+ghost use Rattle.jzon_base.specs.PlainBytes.{is_plain};
 ghost use Rattle.jzon_tree.specs.Displayed.{comma_text, member_text};
 ghost use Rattle.jzon_tree.specs.Text.{compact, escaped_byte, quoted};
 ghost use Rattle.jzon_tree.specs.Value.{array};
 ghost use Rattle.jzon_tree.specs.View.{view, view_object, view_values};
 
-use crate::codegen::fault::Stopped;
-use crate::codegen::send::send_string;
+use crate::codegen::escape;
 use crate::object::Object;
 use crate::value::JsonValue;
 use jzon_base::number::Number;
 use jzon_base::util::plain::plain_len;
-use std::io::Write;
-use std::{fmt, io, str};
+use std::{fmt, str};
 
 /// A text bare, a number as `Number` shows it, and all else as in the compact layout. An error is the formatter's.
 impl fmt::Display for JsonValue {
@@ -137,48 +136,12 @@ fn show_bytes<W: fmt::Write>(bytes: &[u8], f: &mut fmt::Formatter<W>) -> fmt::Re
     }
 }
 
-/// Shows what stands in a string for the byte.
+/// Shows the escape of a byte that needs one.
 fn show_escape<W: fmt::Write>(byte: u8, f: &mut fmt::Formatter<W>) -> fmt::Result
+    requires { is_plain byte ≡ false }
     ensures { WritesOnOk W.write_str_gives f.old result (escaped_byte byte) f.new }
 {
-    let mut room = Room {
-        bytes: [0; ROOM],
-        len: 0,
-    };
-    match send_string(&mut room, b"", &[byte], &mut None) {
-        Ok(()) => show_bytes(&room.bytes[..room.len - 1], f),
-        Err(Stopped) => Err(fmt::Error),
-    }
-}
-
-/// The longest escape, and the quote that is sent behind it.
-const ROOM: usize = 7;
-
-/// Takes what is sent, as long as there is room.
-#[derive(Drop)]
-struct Room {
-    bytes: [u8; ROOM],
-    len: usize,
-    ghost within: { len ≤ length bytes },
-}
-
-impl Write for Room {
-    ghost use Rattle.std.specs.Prelude.{Some, take};
-
-    ghost contents = { λ room. Some (take room.len room.bytes) };
-
-    fn write(&mut self, buf: &[u8]) -> io::Result<usize> {
-        match buf.first() {
-            Some(byte) if self.len < self.bytes.len() => {
-                self.bytes[self.len] = *byte;
-                self.len += 1;
-                Ok(1)
-            }
-            _ => Ok(0),
-        }
-    }
-
-    fn flush(&mut self) -> io::Result<()> {
-        Ok(())
-    }
+    let mut room = [0; escape::MAX_LEN];
+    let at = escape::put(&mut room, byte);
+    show_bytes(&room[at..], f)
 }

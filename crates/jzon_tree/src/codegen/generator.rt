@@ -9,10 +9,12 @@ ghost use Rattle.jzon_tree.specs.Generator.{Emitted, Added, Failed, Emits, Count
 ghost use Rattle.jzon_tree.specs.Text.{escaped, quoted};
 ghost use Rattle.jzon_tree.specs.Writing.{IsAllowedWhitespace, IsStyle};
 
+use crate::codegen::escape;
 use crate::codegen::fault::{Fault, Step, lay_aside, taken_up};
-use crate::codegen::send::{send, send_number, send_string, send_string_from};
+use crate::codegen::send::{send, send_number};
 use crate::object::Object;
 use jzon_base::number::Number;
+use jzon_base::util::plain::plain_len;
 use std::io;
 use std::io::{ErrorKind, Write};
 
@@ -119,24 +121,35 @@ pub trait Generator {
         self.set_dent(dent - 1);
     }
 
-    /// Adds the text in quotes, escaped.
+    /// Adds the text in quotes, escaped. The bytes go through `write` and `write_char`.
     fn write_string(&mut self, string: &str) -> io::Result<()>
         ensures { Emits (Just (quoted string.now)) (meaning self.old) (meaning self.new) result }
     {
-        let mut fault = None;
-        let step = send_string(self.get_writer(), b"\"", string.as_bytes(), &mut fault);
-        self.hand_on(taken_up(step, fault))
+        self.write_char(b'"')?;
+        self.write_string_complex(string, plain_len(string.as_bytes()))
     }
 
-    /// Adds the bytes before `start` as they are, those from `start` on escaped, and the closing quote.
+    /// Adds the bytes before `start` as they are, those from `start` on escaped, and the closing quote. The bytes go through `write` and `write_char`.
     fn write_string_complex(&mut self, string: &str, start: usize) -> io::Result<()>
         requires { start ≤ length string.now }
         ensures { Emits (Just (take start string.now ++ (escaped (drop start string.now) ++ 34 ∷ [])))
             (meaning self.old) (meaning self.new) result }
     {
-        let mut fault = None;
-        let step = send_string_from(self.get_writer(), string, start, &mut fault);
-        self.hand_on(taken_up(step, fault))
+        let (prefix, text) = string.as_bytes().split_at(start);
+        self.write(prefix)?;
+        let mut rest = text;
+        loop {
+            let (run, others) = rest.split_at(plain_len(rest));
+            self.write(run)?;
+            let Some((byte, others)) = others.split_first() else {
+                break;
+            };
+            let mut room = [0; escape::MAX_LEN];
+            let at = escape::put(&mut room, *byte);
+            self.write(&room[at..])?;
+            rest = others;
+        }
+        self.write_char(b'"')
     }
 
     /// Adds the text of the number, or `null` for NaN.

@@ -153,7 +153,7 @@ fn send_spaces<W: Write>(writer: &mut W, spaces: u128, fault: &mut Fault) -> Ste
 
 /// The letter of the short escape of each byte that has one, and 0 for all others.
 #[rattlefmt::skip]
-static LETTERS: [u8; 256] = [
+pub(super) static LETTERS: [u8; 256] = [
     0, 0, 0, 0, 0, 0, 0, 0, b'b', b't', b'n', 0, b'f', b'r', 0, 0,
     0, 0, 0, 0, 0, 0, 0, 0, 0, 0, 0, 0, 0, 0, 0, 0,
     0, 0, b'"', 0, 0, 0, 0, 0, 0, 0, 0, 0, 0, 0, 0, 0,
@@ -189,7 +189,7 @@ fn send_escape<W: Write>(writer: &mut W, byte: u8, fault: &mut Fault) -> Step<()
     )
 }
 
-fn hex_digit(digit: u8) -> u8
+pub(super) fn hex_digit(digit: u8) -> u8
     requires { digit < 16 }
     ensures { result ≡ digit_char digit }
 {

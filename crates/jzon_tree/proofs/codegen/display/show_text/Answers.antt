@@ -4,6 +4,7 @@ use Rattle.std.proofs.lemmas.List.Sums.{prefix_len-le-length}
 use Rattle.std.proofs.lemmas.List.{nil_from_length}
 use Rattle.jzon_base.specs.PlainBytes.{is_plain}
 use Rattle.jzon_tree.specs.Text.{escaped}
+use Rattle.jzon_tree.proofs.SentStrings.{needs_escape}
 use Rattle.jzon_tree.proofs.Shown.{escape_shown, text_shown}
 use Rattle.jzon_tree.proofs.codegen.display.show_text.Goals as goal
 
@@ -17,6 +18,10 @@ loop-byte-init g c = λ plain. (
   ap (λ (bs : List ℕ). 34 ∷ escaped bs)
       c.as_bytes-rest.ensures.value,
 )
+
+pub show_escape-requires : goal.show_escape-requires
+show_escape-requires g c = needs_escape c.loop-byte.rest.now c.in-Some.others.now _ _ c.plain_len.ensures
+    (sym c.split_at.ensures.back ∙ c.in-Some.ensures.cases.0)
 
 pub loop-byte-preserved : goal.loop-byte-preserved
 loop-byte-preserved g c = λ plain.

@@ -1,0 +1,12 @@
+use Rattle.std.proofs.Common.{length, take, drop}
+use Rattle.jzon_tree.specs.Generator.{Added}
+use Rattle.jzon_tree.proofs.SentStrings.{Left}
+use Rattle.jzon_tree.proofs.codegen.generator.Generator.write_string_complex.Given as goal
+
+-- what is written already and what is left make the whole
+abbrev pub invariant-loop-byte : goal.invariant-loop-byte
+invariant-loop-byte g l = Added (Left (take l.fn.start l.fn.string) (drop l.fn.start l.fn.string) l.rest)
+    (g.Self.Generator.meaning l.fn.self) (g.Self.Generator.meaning l.self)
+
+abbrev pub decreases-loop-byte : goal.decreases-loop-byte
+decreases-loop-byte g l = length l.rest
