@@ -41,13 +41,13 @@ even_bytes : (p x q y r z s n : ℕ) → p < 100 → x < 100 → q < 100 → y <
     → bit_and n 0x00ff_00ff_00ff_00ff ≡ p + 2 ^ 16 * q + 2 ^ 32 * r + 2 ^ 48 * s
 even_bytes p x q y r z s n P X Q Y R Z S e =
     let parts : n ≡ ((s * 2 ^ 16 + (z * 2 ^ 8 + r)) * 2 ^ 16 + (y * 2 ^ 8 + q)) * 2 ^ 16 + (x * 2 ^ 8 + p) =
-        omega arith in
+    omega arith in
     let last : s % 2 ^ 8 ≡ s = omega arith in
     let joined : ((s * 2 ^ 16 + r) * 2 ^ 16 + q) * 2 ^ 16 + p ≡ p + 2 ^ 16 * q + 2 ^ 32 * r + 2 ^ 48 * s =
-        omega arith in
+    omega arith in
     ap (λ m. bit_and m 0x00ff_00ff_00ff_00ff) parts
     ∙ even_byte ((s * 2 ^ 16 + (z * 2 ^ 8 + r)) * 2 ^ 16 + (y * 2 ^ 8 + q)) 0x00ff_00ff_00ff x p (omega arith)
-        (omega arith)
+    (omega arith)
     ∙ ap (λ m. m * 2 ^ 16 + p) (even_byte (s * 2 ^ 16 + (z * 2 ^ 8 + r)) 0x00ff_00ff y q (omega arith) (omega arith)
     ∙ ap (λ m. m * 2 ^ 16 + q) (even_byte s 255 z r (omega arith) (omega arith)
     ∙ ap (λ m. m * 2 ^ 16 + r) (and_mask s 8 ∙ last)))
@@ -59,7 +59,7 @@ pairs : (a b c d e f g h word : ℕ) → a < 10 → b < 10 → c < 10 → d < 10
     ≡ (a * 10 + b) + 2 ^ 16 * (c * 10 + d) + 2 ^ 32 * (e * 10 + f) + 2 ^ 48 * (g * 10 + h)
 pairs a b c d e f g h word A B C D E F G H is =
     let sum : ℕ = (a * 10 + b) + 2 ^ 8 * (b * 10 + c) + 2 ^ 16 * (c * 10 + d) + 2 ^ 24 * (d * 10 + e)
-        + 2 ^ 32 * (e * 10 + f) + 2 ^ 40 * (f * 10 + g) + 2 ^ 48 * (g * 10 + h) in
+    + 2 ^ 32 * (e * 10 + f) + 2 ^ 40 * (f * 10 + g) + 2 ^ 48 * (g * 10 + h) in
     let product : word * 2561 ≡ h * 10 * 2 ^ 64 + (sum * 2 ^ 8 + a) = omega arith in
     even_bytes (a * 10 + b) (b * 10 + c) (c * 10 + d) (d * 10 + e) (e * 10 + f) (f * 10 + g) (g * 10 + h) _
     (omega arith) (omega arith) (omega arith) (omega arith) (omega arith) (omega arith) (omega arith)
@@ -89,8 +89,8 @@ pub joined_is : (ds : List ℕ) (word : ℕ) → length ds ≡ 8 → All (λ d. 
     → joined word ≡ values_number ds
 joined_is (a ∷ b ∷ c ∷ d ∷ e ∷ f ∷ g ∷ h ∷ []) word long all is =
     let two = pairs a b c d e f g h word (all 0 0 (omega arith)) (all 1 0 (omega arith)) (all 2 0 (omega arith))
-        (all 3 0 (omega arith)) (all 4 0 (omega arith)) (all 5 0 (omega arith)) (all 6 0 (omega arith))
-        (all 7 0 (omega arith)) is in
+    (all 3 0 (omega arith)) (all 4 0 (omega arith)) (all 5 0 (omega arith)) (all 6 0 (omega arith))
+    (all 7 0 (omega arith)) is in
     let A : a < 10 = all 0 0 (omega arith) in
     let B : b < 10 = all 1 0 (omega arith) in
     let C : c < 10 = all 2 0 (omega arith) in
@@ -100,8 +100,8 @@ joined_is (a ∷ b ∷ c ∷ d ∷ e ∷ f ∷ g ∷ h ∷ []) word long all is 
     let G : g < 10 = all 6 0 (omega arith) in
     let H : h < 10 = all 7 0 (omega arith) in
     let four = fours (a * 10 + b) (c * 10 + d) (e * 10 + f) (g * 10 + h) _ (omega arith) (omega arith) (omega arith)
-        (omega arith) two in
+    (omega arith) two in
     let whole = eight ((a * 10 + b) * 100 + (c * 10 + d)) ((e * 10 + f) * 100 + (g * 10 + h)) _ (omega arith)
-        (omega arith) four in
+    (omega arith) four in
     whole ∙ omega arith
 joined_is _ word long all is = absurd (omega arith)

@@ -47,8 +47,8 @@ lanes_are xs long = zip2_splat less xs 8 48 long
 others_are : (xs : List ℕ) → length xs ≡ 8 → others xs ≡ mask_l (map stops xs)
 others_are xs long =
     let compared = ap (zip2 below (replicate 8 9)) (lanes_are xs long)
-        ∙ zip2_splat_left below 9 8 (map value_of xs) (length-map xs value_of ∙ long)
-        ∙ map-map (below 9) value_of xs in
+    ∙ zip2_splat_left below 9 8 (map value_of xs) (length-map xs value_of ∙ long)
+    ∙ map-map (below 9) value_of xs in
     ap (λ l. mask_l (map (top 7) l) % 2 ^ 64) compared
     ∙ ap (λ l. mask_l l % 2 ^ 64) (map-map (top 7) (λ x. below 9 (value_of x)) xs)
     ∙ mask_l-mod (map stops xs) 64 (omega (arith, length-map xs stops, long))
@@ -164,13 +164,17 @@ spells_first xs n base word long count given is =
     let first = take-map value_of n xs in
     let length-vs : length vs ≡ 8 = length-map xs value_of ∙ long in
     let whole : base ≡ number_l 256 vs =
-        given ∙ ap (from_le_bytes w64) (lanes_are xs long) ∙ word_is vs length-vs in
+    given ∙ ap (from_le_bytes w64) (lanes_are xs long) ∙ word_is vs length-vs in
     let moved = moved_up vs n length-vs few (rw first r.fits) in
     record {
       digits = replicate (8 - n) 0 ++ map value_of (take n xs);
-      eight = omega (arith, length-append (replicate (8 - n) 0) (map value_of (take n xs)),
-          length-replicate {A = ℕ} (8 - n) 0,
-          length-map (take n xs) value_of, length-take n xs);
+      eight = omega (
+        arith,
+        length-append (replicate (8 - n) 0) (map value_of (take n xs)),
+        length-replicate {A = ℕ} (8 - n) 0,
+        length-map (take n xs) value_of,
+        length-take n xs,
+      );
       small = All-append (λ d. d < 10) _ _ (All-replicate (λ d. d < 10) (8 - n) 0 (omega arith)) r.small;
       word_is = is ∙ ap (λ m. m * 256 ^ (8 - n) % 2 ^ 64) whole ∙ moved
           ∙ ap (λ l. number_l 256 l * 256 ^ (8 - n)) first ∙ sym (zeros_below (8 - n) (map value_of (take n xs)));

@@ -58,7 +58,7 @@ number_more bytes before at number count next scanned room is n given =
     let ds = take count (drop at bytes) in
     let long : length ds ≡ count = omega (arith, length-take count (drop at bytes), length-drop at bytes) in
     let more = rw long at
-        (more_digits (fold add_digit n (take at bytes)) number (2 ^ 64) ds (scanned.number_is n given)) in
+    (more_digits (fold add_digit n (take at bytes)) number (2 ^ 64) ds (scanned.number_is n given)) in
     ap (λ x. (number * 10 ^ count % 2 ^ 64 + x) % 2 ^ 64) is ∙ more
     ∙ ap (λ x. x % 2 ^ 64) (sym (fold-append add_digit n (take at bytes) ds))
     ∙ ap (λ l. fold add_digit n l % 2 ^ 64) (sym (take_sum at count bytes))

@@ -20,7 +20,7 @@ returns-then-others-eq0-clause-number c =
     let long = length-chunk c.args.start 8 bytes (omega arith) in
     let count = all_eight xs long (chunk-fits w8 c.args.start 8 bytes c.type_inv.bytes) c.if-others-eq0.true in
     let s = spells_first xs 8 c.from_le_bytes-word.result c.from_le_bytes-word.result long count
-        c.from_le_bytes-word.ensures (omega (arith, c.from_le_bytes-word.type_inv)) in
+    c.from_le_bytes-word.ensures (omega (arith, c.from_le_bytes-word.type_inv)) in
     c.number_of_eight.ensures s.digits s.eight s.small s.word_is ∙ s.worth
     ∙ ap digits_number (take_all 8 xs (omega arith))
 
@@ -43,7 +43,7 @@ returns-clause-number c =
     let long = length-chunk c.args.start 8 bytes (omega arith) in
     let count = first_other xs long (chunk-fits w8 c.args.start 8 bytes c.type_inv.bytes) c.if-others-eq0.false in
     let s = spells_first xs _ c.from_le_bytes-word.result c.last_bytes.result long count
-        c.from_le_bytes-word.ensures c.last_bytes.ensures in
+    c.from_le_bytes-word.ensures c.last_bytes.ensures in
     c.number_of_eight-2.ensures s.digits s.eight s.small s.word_is ∙ s.worth
     ∙ ap digits_number (take-take _ 8 (drop c.args.start bytes)
     (omega (arith, count, prefix_len-le-length is_ascii_digit xs)))
