@@ -160,3 +160,42 @@ fn gives_keys_from_both_ends(rt: HostRuntime) -> Result<(), AllocError> {
     assert_eq!(rt; owned.len(), 1);
     Ok(())
 }
+
+/// The numbers below `count`, as texts.
+fn numbers(alloc: Global, count: u32) -> Result<Vec<String>, AllocError> {
+    let mut texts = Vec::new(alloc);
+    for number in 0..count {
+        texts.push(format!(in alloc; "{number}")?)?;
+    }
+    Ok(texts)
+}
+
+/// Each name is at its position, without the one at `removed`.
+fn expect_without(rt: &impl Abort, keys: &Keys, names: &[String], removed: usize) {
+    for (index, name) in names.iter().enumerate() {
+        let want = if index < removed {
+            Some(index)
+        } else if index == removed {
+            None
+        } else {
+            Some(index - 1)
+        };
+        assert_eq!(rt; keys.position(name.as_str()), want, "of {name}");
+    }
+}
+
+#[test]
+fn finds_keys_in_several_runs(rt: HostRuntime) -> Result<(), AllocError> {
+    let names = numbers(rt.alloc(), 3000)?;
+    let mut keys = Keys::new(rt.alloc());
+    for name in &names {
+        assert_eq!(rt; keys.place(Key::new(rt.alloc(), name.as_str())?)?, None);
+    }
+    expect_without(&rt, &keys, names.as_slice(), 3000);
+    assert_eq!(rt; keys.len(), 3000);
+    keys.remove(1700);
+    expect_without(&rt, &keys, names.as_slice(), 1700);
+    let copy = keys.clone(rt.alloc())?;
+    expect_without(&rt, &copy, names.as_slice(), 1700);
+    Ok(())
+}

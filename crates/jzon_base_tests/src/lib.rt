@@ -26,6 +26,8 @@ mod plain;
 #[cfg(test)]
 mod print_dec;
 #[cfg(test)]
+mod runs;
+#[cfg(test)]
 mod short;
 #[cfg(test)]
 mod to_integer;

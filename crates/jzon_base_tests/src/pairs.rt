@@ -3,8 +3,10 @@
 use jzon_base::key::Key;
 use jzon_base::keys::Keys;
 use jzon_base::pairs::{Builder, IntoIter, Iter, IterMut, Pairs};
+use jzon_test_support::{MOST, Refusals, keys_by_hash};
 use std::alloc::{AllocError, Global};
 use std::process::Abort;
+use std::test::Fail;
 
 fn of_pairs(alloc: Global, pairs: &[(&str, u32)]) -> Result<Pairs<u32>, AllocError> {
     let mut made = Pairs::new(alloc);
@@ -487,5 +489,52 @@ fn knows_the_keys_so_far(rt: HostRuntime) -> Result<(), AllocError> {
         assert_eq!(rt; built.has_key(rt.alloc(), name)?, known);
     }
     assert_eq!(rt; built.finish(rt.alloc())?.len(), 1004);
+    Ok(())
+}
+
+/// Puts each of these keys with 0.
+fn insert_each(pairs: &mut Pairs<u32>, alloc: Global, keys: &[String]) -> Result<(), AllocError> {
+    for key in keys {
+        pairs.insert(alloc, key.as_str(), 0)?;
+    }
+    Ok(())
+}
+
+/// Fills pairs that have room for these keys. Not one request for memory is made: the first would be refused.
+fn expect_room(
+    rt: &impl Abort,
+    alloc: Global,
+    refusals: &mut Refusals,
+    pairs: &mut Pairs<u32>,
+    keys: &[String],
+) {
+    refusals.begin();
+    let inserted = insert_each(pairs, alloc, keys);
+    assert!(rt; !refusals.was_refused());
+    assert!(rt; inserted.is_ok());
+    assert_eq!(rt; pairs.len(), keys.len());
+}
+
+/// `with_capacity` gives keys, values and index their room, and `clear` keeps it. One key more takes memory.
+#[test]
+fn room_for_pairs_under_refusals(rt: HostRuntime) -> Result<(), Fail> {
+    let alloc = rt.alloc();
+    let keys = keys_by_hash(alloc, 100)?;
+    let mut refusals = Refusals::new(alloc);
+    let mut pairs = Pairs::with_capacity(alloc, 100)?;
+    expect_room(&rt, alloc, &mut refusals, &mut pairs, keys.as_slice());
+    pairs.clear();
+    expect_room(&rt, alloc, &mut refusals, &mut pairs, keys.as_slice());
+    for _ in 0..MOST {
+        refusals.begin();
+        let inserted = pairs.insert(alloc, "one more", 0);
+        if !refusals.was_refused() {
+            assert!(rt; inserted.is_ok());
+            break;
+        }
+        assert!(rt; inserted.is_err());
+        assert_eq!(rt; pairs.len(), 100);
+    }
+    refusals.tell(&rt, "Pairs::insert past the room", 2)?;
     Ok(())
 }
