@@ -8,6 +8,8 @@ mod conversions;
 #[cfg(test)]
 mod generators;
 #[cfg(test)]
+mod hooks;
+#[cfg(test)]
 mod printing;
 #[cfg(test)]
 mod writers;
