@@ -111,11 +111,13 @@ nan_under : (ps : List (List ℕ × JsonValue)) → PairsHaveNoNan (pairs_of (vi
 nan_under [] = (λ h. h, λ h. h)
 nan_under (p ∷ ps) = (λ h. (h.0, (nan_under ps).0 h.1), λ h. (h.0, (nan_under ps).1 h.1))
 
-most_under : (ps : List (List ℕ × JsonValue)) → most_nest_under (pairs_of (viewed ps)) ≡ most_nest (values_of (inside ps))
+most_under : (ps : List (List ℕ × JsonValue))
+    → most_nest_under (pairs_of (viewed ps)) ≡ most_nest (values_of (inside ps))
 most_under [] = refl
 most_under (p ∷ ps) = ap (max (nest (view p.1))) (most_under ps)
 
-nest_under : (ps : List (List ℕ × JsonValue)) → nest (object (pairs_of (viewed ps))) ≡ nest (array (values_of (inside ps)))
+nest_under : (ps : List (List ℕ × JsonValue))
+    → nest (object (pairs_of (viewed ps))) ≡ nest (array (values_of (inside ps)))
 nest_under [] = refl
 nest_under (p ∷ ps) = ap suc (most_under (p ∷ ps))
 

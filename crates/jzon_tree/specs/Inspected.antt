@@ -3,7 +3,8 @@ use Rattle.std.specs.Prelude.{◌≡◌, ℕ, ◌-◌, ◌<◌, ◌≤◌, ◌^�
 use Rattle.jzon_tree.specs.Lawful.{IsValue, HasNoNan}
 use Rattle.jzon_tree.specs.Value.{Value, nest}
 
--- It is a value, a NaN is inside or none is, and so many non-empty containers nest, or the greatest u128 stands for more.
+-- It is a value, `has_nan` says whether a NaN is inside, and `deep` non-empty containers nest, or more where it is
+-- `u128::MAX`.
 pub record IsInspected (v : Value) (has_nan : Bool) (deep : ℕ) : Type 0 where
   pub value : IsValue v
   pub without : has_nan ≡ false → HasNoNan v
