@@ -6,7 +6,6 @@ ghost use Rattle.std.specs.Str.{bytes_eq};
 
 use jzon_base::key::Key;
 use jzon_base::keys::runs::Runs;
-use jzon_test_support::keys_by_hash;
 use std::alloc::{AllocError, Global};
 use std::marker::Model;
 use std::process::Abort;
@@ -73,10 +72,7 @@ impl Sevens {
     }
 }
 
-fn of_names<'a>(
-    alloc: Global,
-    names: impl Iterator<Item = &'a str> + Drop,
-) -> Result<Sevens, AllocError> {
+fn of_names(alloc: Global, names: &[&str]) -> Result<Sevens, AllocError> {
     let mut keys = Sevens::new(alloc);
     for name in names {
         if keys.find(name).is_none() {
@@ -94,7 +90,7 @@ fn expect_positions(rt: &impl Abort, keys: &Sevens, rows: &[(&str, Option<usize>
 
 #[test]
 fn finds_keys_of_one_hash(rt: HostRuntime) -> Result<(), AllocError> {
-    let mut keys = of_names(rt.alloc(), ["d", "b", "a", "c"].into_iter())?;
+    let mut keys = of_names(rt.alloc(), &["d", "b", "a", "c"])?;
     let rows = [
         ("d", Some(0)),
         ("b", Some(1)),
