@@ -34,7 +34,7 @@ impl Model for Table {
     ghost invariant = { λ k. IsTable k.keys.items k.index };
 }
 
-/// No entry, with room for those of `capacity` keys, where so many have an index. The error is a failed allocation.
+/// No entry, with room for those of `capacity` keys, or none where `capacity` keys need no index. The error is a failed allocation.
 fn room_for(alloc: Global, capacity: usize) -> Result<Runs, AllocError>
     ensures { IfOk result (λ r. r ≡ []) }
 {
