@@ -8,7 +8,7 @@ ghost use Rattle.jzon_tree.specs.StyleLaws.{IsStyle-any};
 ghost use Rattle.jzon_tree.specs.Writing.{any_style, IsOrder};
 
 use crate::common::{Tested, expect_bytes};
-use jzon_test_support::{MOST, Refusals};
+use jzon_test_support::{MOST, Refusals, SlowWriter, Trouble};
 use jzon_tree::codegen::{
     DumpGenerator, Generator, Layout, PrettyGenerator, PrettyWriterGenerator, TextGenerator,
     WriterGenerator, write_object,
@@ -16,6 +16,7 @@ use jzon_tree::codegen::{
 use jzon_tree::object::Object;
 use jzon_tree::value::JsonValue;
 use std::alloc::{AllocError, Global};
+use std::io::ErrorKind;
 
 /// A user's layout: the entries of each object are in the order of their keys.
 #[derive(Drop)]
@@ -90,6 +91,27 @@ fn sorting_under_refusals(rt: HostRuntime) -> Tested {
         assert!(rt; SORTED.as_bytes().starts_with(generator.get_writer()));
     }
     refusals.tell(&rt, "Sorting", 2)?;
+    Ok(())
+}
+
+#[test]
+fn writes_in_a_layout(rt: HostRuntime) -> Tested {
+    let alloc = rt.alloc();
+    let value = JsonValue::Object(unsorted(alloc)?);
+    let mut bytes: Vec<u8> = Vec::new(alloc);
+    value.write_layout(&mut bytes, Sorting { alloc })?;
+    expect_bytes(&rt, &bytes, SORTED);
+    Ok(())
+}
+
+#[test]
+fn propagates_the_error_of_the_writer_in_a_layout(rt: HostRuntime) -> Tested {
+    let alloc = rt.alloc();
+    let value = JsonValue::Object(unsorted(alloc)?);
+    let mut writer = SlowWriter::new(alloc, 6, Trouble::Fails(ErrorKind::BrokenPipe));
+    let answer = value.write_layout(&mut writer, Sorting { alloc });
+    assert!(rt; answer.is_err_and(|error| error.kind() == ErrorKind::BrokenPipe));
+    expect_bytes(&rt, &writer.bytes, "{\"a\":");
     Ok(())
 }
 

@@ -5,7 +5,7 @@ use jzon_base::error::Error;
 use jzon_base::number::NAN;
 use jzon_tree::codegen::{
     Compact, DumpGenerator, Generator, Layout, Pretty, PrettyGenerator, PrettyWriterGenerator,
-    TextGenerator, WriterGenerator, write_json,
+    WriterGenerator, write_json,
 };
 use jzon_tree::object::Object;
 use jzon_tree::value::JsonValue;
@@ -26,7 +26,7 @@ fn prettified(alloc: Global, value: &JsonValue, spaces: u16) -> Result<String, F
     Ok(generator.consume()?)
 }
 
-/// The value has this text in the layout, in memory and in a writer.
+/// Both calls that print in a layout print this text of the value.
 fn expect_layout<L: Layout + Copy>(
     rt: &impl Abort,
     alloc: Global,
@@ -35,7 +35,7 @@ fn expect_layout<L: Layout + Copy>(
     text: &str,
 ) -> Tested {
     let mut bytes = Vec::new(alloc);
-    write_json(&mut TextGenerator::to_writer(&mut bytes, layout), value)?;
+    value.write_layout(&mut bytes, layout)?;
     expect_bytes(rt, &bytes, text);
     assert_eq!(rt; value.lay_out(alloc, layout)?.as_str(), text);
     Ok(())

@@ -42,6 +42,25 @@ pub trait Layout {
     ghost style_law: { (l : Self) → IsStyle (style l) };
 }
 
+/// A layout that is borrowed.
+impl<L: Layout> Layout for &L {
+    ghost style = { λ l. L.style l.now };
+
+    ghost keeps_order = { λ l. L.keeps_order l.now };
+
+    #[inline(always)]
+    fn spaces(&self) -> Option<u16> {
+        (**self).spaces()
+    }
+
+    #[inline(always)]
+    fn order(&self, object: &Object) -> Result<Option<Vec<usize>>, AllocError> {
+        (**self).order(object)
+    }
+
+    ghost style_law = { λ l. L.style_law l.now };
+}
+
 /// No whitespace, and a colon alone after a key. Entries are written in the order of insertion.
 #[derive(Clone, Copy, Debug)]
 pub struct Compact;

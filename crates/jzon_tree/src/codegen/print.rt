@@ -3,6 +3,7 @@
 ghost use Rattle.std.specs.Prelude.{◌≡◌, ◌<◌, ◌≤◌, ◌^◌, OnOk, OnErr, IfOk, IsOkUnless, string_bytes};
 ghost use Rattle.std.specs.Io.KnownBytes.{Appends};
 ghost use Rattle.jzon_base.specs.Written.{AppendsBeginning};
+ghost use Rattle.jzon_tree.specs.Generator.{Sends};
 ghost use Rattle.jzon_tree.specs.Lawful.{IsValue};
 ghost use Rattle.jzon_tree.specs.Styles.{compact_style, pretty_style};
 ghost use Rattle.jzon_tree.specs.Text.{compact, pretty};
@@ -94,6 +95,21 @@ impl JsonValue {
         ensures value { IsValue (view self.now) }
     {
         let mut generator = PrettyWriterGenerator::new(writer, spaces);
+        write_json(&mut generator, self)
+    }
+
+    /// Writes the text of the value in a layout of the caller's. It takes no memory of its own. An error is the writer's, or reports that the layout's `order` ran
+    /// out of memory; a prefix of the text is then written.
+    pub fn write_layout<W: Write, L: Layout + Drop>(
+        &self,
+        writer: &mut W,
+        layout: L,
+    ) -> io::Result<()>
+        ensures writing { Sends (Writes (L.style layout) 0 (view self.now))
+            (W.contents writer.old) (W.contents writer.new) result }
+        ensures value { IsValue (view self.now) }
+    {
+        let mut generator = TextGenerator::to_writer(writer, &layout);
         write_json(&mut generator, self)
     }
 }
