@@ -5,7 +5,7 @@ pub mod Texts
 pub mod ReadBack
 pub mod WorkedRows
 pub mod AnswerLaws
--- the lower crates' laws, for callers (docs/CALLERS.md)
+-- the lower crates' laws, for callers (crates/jzon/CALLING.md)
 pub use Rattle.jzon_base.proofs.PairLaws
 pub use Rattle.jzon_tree.proofs.ValueLaws
 pub use Rattle.jzon_tree.proofs.KeptByChanges

@@ -1,4 +1,4 @@
-//! Proved callers of `jzon`, each a page (docs/CALLERS.md): they name no word but those of `jzon`.
+//! Proved callers of `jzon`, each a page (crates/jzon/CALLING.md): they name no word but those of `jzon`.
 #![tactic(auto)]
 
 pub mod building;
