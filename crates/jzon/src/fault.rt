@@ -1,4 +1,4 @@
-//! Offsets of a text: what stands there, and the error that tells a fault there (docs/RULES.md, "Which error is reported").
+//! Offsets of a text: what stands there, and the error that tells a fault there (docs/RULES.md, "Which error is told").
 
 ghost use Rattle.std.specs.Prelude.{◌≡◌, ◌<◌, ◌≤◌, ◌+◌, length, take, drop, chars, IsTrue, slice_index, ◌↔◌};
 ghost use Rattle.std.specs.Char.{is_ascii_digit};
