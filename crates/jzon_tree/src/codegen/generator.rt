@@ -11,10 +11,11 @@ ghost use Rattle.jzon_tree.specs.Writing.{IsAllowedWhitespace, IsStyle};
 
 use crate::codegen::escape;
 use crate::codegen::fault::{Fault, Step, lay_aside, taken_up};
-use crate::codegen::send::{send, send_number};
+use crate::codegen::send::{send, text_of_number};
 use crate::object::Object;
 use jzon_base::number::Number;
 use jzon_base::util::plain::plain_len;
+use jzon_base::util::print_dec;
 use std::io;
 use std::io::{ErrorKind, Write};
 
@@ -152,13 +153,12 @@ pub trait Generator {
         self.write_char(b'"')
     }
 
-    /// Adds the text of the number, or `null` for NaN.
+    /// Adds the text of the number, or `null` for NaN. The bytes go through `write`.
     fn write_number(&mut self, num: &Number) -> io::Result<()>
         ensures { Emits (Just (written_text num.now)) (meaning self.old) (meaning self.new) result }
     {
-        let mut fault = None;
-        let step = send_number(self.get_writer(), num, &mut fault);
-        self.hand_on(taken_up(step, fault))
+        let mut room = [0; print_dec::MAX_LEN];
+        self.write(text_of_number(&mut room, num))
     }
 
     /// The order in which the pairs of the object are to be written, as their positions, each exactly once; `None` is the order of insertion. It is an order

@@ -62,26 +62,33 @@ fn send_rest<W: Write>(writer: &mut W, bytes: &[u8], count: usize, fault: &mut F
 pub(super) fn send_number<W: Write>(writer: &mut W, number: &Number, fault: &mut Fault) -> Step<()>
     ensures { Sends (Just (written_text number.now)) (W.contents writer.old) (W.contents writer.new) result }
 {
-    if number.is_nan() {
-        return send(writer, b"null", fault);
-    }
-    let (positive, mantissa, exponent) = number.as_parts();
-    send_parts(writer, positive, mantissa, exponent, fault)
+    let mut room = [0; print_dec::MAX_LEN];
+    send(writer, text_of_number(&mut room, number), fault)
 }
 
-fn send_parts<W: Write>(
-    writer: &mut W,
+/// The text of the number, or `null` for NaN. It may be in the room.
+#[inline(always)]
+pub(super) fn text_of_number<'a>(room: &'a mut [u8; print_dec::MAX_LEN], number: &Number) -> &'a [u8]
+    ensures { result.now ≡ written_text number.now }
+{
+    if number.is_nan() {
+        return b"null";
+    }
+    let (positive, mantissa, exponent) = number.as_parts();
+    text_of_parts(room, positive, mantissa, exponent)
+}
+
+#[inline(always)]
+fn text_of_parts<'a>(
+    room: &'a mut [u8; print_dec::MAX_LEN],
     positive: bool,
     mantissa: u64,
     exponent: i16,
-    fault: &mut Fault,
-) -> Step<()>
-    ensures { Sends (Just (number_text positive mantissa exponent))
-        (W.contents writer.old) (W.contents writer.new) result }
+) -> &'a [u8]
+    ensures { result.now ≡ number_text positive mantissa exponent }
 {
-    let mut room = [0; print_dec::MAX_LEN];
-    let start = print_dec::put(&mut room, positive, mantissa, exponent);
-    send(writer, &room[start..], fault)
+    let start = print_dec::put(room, positive, mantissa, exponent);
+    &room[start..]
 }
 
 /// Sends the bytes of the string before `start` as they are, those from `start` on as they stand in a string, and the closing quote.
