@@ -10,6 +10,8 @@ pub use Rattle.jzon_base.proofs.PairLaws
 pub use Rattle.jzon_tree.proofs.ValueLaws
 pub use Rattle.jzon_tree.proofs.KeptByChanges
 pub use Rattle.jzon_tree.proofs.KeptByConversions
+pub use Rattle.jzon_tree.proofs.Chains
+pub use Rattle.jzon_tree.proofs.InPlace
 pub use Rattle.jzon_tree.proofs.PlainWritings
 pub use Rattle.jzon_tree.proofs.Sorted
 pub use Rattle.jzon_tree.proofs.KeyOrder

@@ -1,3 +1,4 @@
+pub mod Chains
 pub mod Compared
 pub mod LentSteps
 pub mod Emitting
@@ -28,4 +29,5 @@ pub mod WrittenViews
 pub mod ValueLaws
 pub mod KeptByChanges
 pub mod KeptByConversions
+pub mod InPlace
 pub mod PlainWritings

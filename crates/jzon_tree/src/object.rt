@@ -15,6 +15,7 @@ ghost use Rattle.jzon_tree.specs.IntoJson.{PutMeans};
 ghost use Rattle.jzon_tree.specs.Entries.{entries_of};
 ghost use Rattle.jzon_tree.specs.View.{view_object};
 
+mod by_index;
 mod from_iter;
 
 use crate::into_json::IntoJson;

@@ -1,0 +1,40 @@
+//! The members of an object by their positions, so that a loop can write each value where it is.
+
+ghost use Rattle.std.specs.Prelude.{◌≡◌, slice_get, option_map};
+ghost use Rattle.std.specs.Option.{option_copied_mut};
+ghost use Rattle.jzon_base.specs.PairList.{set_value};
+
+use super::Object;
+use crate::value::JsonValue;
+
+impl Object {
+    ghost use Rattle.std.specs.Borrow.{sem, Lends, LendsIf, Array};
+    ghost use Rattle.jzon_tree.specs.contracts.object.Object.{the_row};
+    ghost use Rattle.jzon_tree.specs.contracts.value.JsonValue.{the_row as value_row};
+    ghost use Rattle.jzon_tree.specs.Entries.{entries_of, with_entries};
+
+    /// The member at a position, counted from 0 in the order of the members: its key's text and its value.
+    pub fn get_index(&self, index: usize) -> Option<(&str, &JsonValue)>
+        ensures { option_map (λ p. (p.0.now, p.1.now)) result ≡ slice_get (entries_of self.now) index }
+    {
+        if index < self.len() {
+            Some(self.pairs.get_at(index))
+        } else {
+            None
+        }
+    }
+
+    /// The value of the member at a position, counted from 0 in the order of the members, to be written. Nothing else changes.
+    pub fn get_index_mut(&mut self, index: usize) -> Option<&mut JsonValue>
+        ensures* writes_back { sem 𝓛 (LendsIf the_row value_row self.entry result
+            (λ w. with_entries (set_value (entries_of self.old) index w)) self.old) }
+        ensures value { option_copied_mut result ≡
+            option_map (λ p. p.1) (slice_get (entries_of self.old) index) }
+    {
+        if index < self.len() {
+            Some(self.pairs.value_mut(index))
+        } else {
+            None
+        }
+    }
+}
