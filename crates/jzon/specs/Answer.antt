@@ -1,4 +1,4 @@
--- What a parser answers for a text.
+-- What a parser returns for a text.
 use Rattle.std.specs.Prelude.{◌≡◌, ◌⊎◌, ℕ, ◌≤◌, List, Contains}
 use Rattle.jzon_base.specs.declared.error.Error.{Error}
 use Rattle.jzon_base.specs.declared.error.Error.TheVariants.{OutOfMemory}
@@ -16,15 +16,15 @@ use Rattle.jzon.specs.Fault.{Parses, IsErrorOf}
 abbrev pub IsMeaningOf : Reading → List ℕ → JsonValue → Type 0
 IsMeaningOf r t v = (d : Document) × Parses r t d × (view v ≡ meaning d.node)
 
--- The laws `redump` and `reads_back` speak of it: numbers in range and no NaN, texts of UTF-8, distinct keys, and
--- non-empty containers no deeper than allowed.
+-- The values that the laws `redump` and `reads_back` speak of: numbers in range and no NaN, strings of UTF-8, distinct
+-- keys, and non-empty containers no deeper than allowed.
 abbrev pub IsReadable : Reading → Value → Type 0
 IsReadable r v = IsValue v × HasNoNan v × (nest v ≤ r.depth)
 
--- memory was refused, or the error is that of the text's first fault
+-- an allocation failed, or the error is that of the text's first fault
 abbrev pub IsErrorUnlessMemory : Reading → List ℕ → Error → Type 0
 IsErrorUnlessMemory r t e = (e ≡ OutOfMemory) ⊎ IsErrorOf r t e
 
--- the text has a quote or an opening bracket of an array or an object; reading any other text takes no memory
+-- the text contains a quote, a `[` or a `{`; reading any other text allocates nothing
 abbrev pub TakesMemory : List ℕ → Type 0
 TakesMemory t = Contains t quotation_mark ⊎ (Contains t begin_array ⊎ Contains t begin_object)

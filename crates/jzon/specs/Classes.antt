@@ -1,4 +1,4 @@
--- What the automaton of Machine knows a character by, its class, and its states inside a number.
+-- The classes by which the automaton of Machine tells characters apart, and its states inside a number.
 use Rattle.std.specs.Prelude.{ℕ, cond, List, [], ◌∷◌, Bool, true, false, ◌==◌}
 use Rattle.std.specs.Char.{is_ascii_digit}
 use Rattle.jzon_base.specs.Tokens.{begin_array, begin_object, decimal_point, end_array, end_object, minus_sign}
@@ -25,7 +25,7 @@ pub data Class : Type 0 where
   begins_false : Class
   other : Class
 
--- the first letters of the words (section 3)
+-- the first letters of the literals (section 3)
 abbrev pub letter_n : ℕ
 letter_n = 110
 
@@ -35,7 +35,7 @@ letter_t = 116
 abbrev pub letter_f : ℕ
 letter_f = 102
 
--- the class of a character outside of strings and of the later letters of a word
+-- the class of a character that is neither in a string nor a later letter of a literal
 unfoldable pub class_of : Bool → ℕ → Class
 class_of strict c =
     cond (is_whitespace strict c) whitespace
@@ -55,22 +55,22 @@ class_of strict c =
     (cond (c == letter_t) begins_true
     (cond (c == letter_f) begins_false other)))))))))))))))
 
--- the place inside a number; digits that are still being read have the last one first
+-- the state inside a number; the digits read so far of the current part are in reverse order
 pub data NumberPlace : Type 0 where
-  -- behind a minus
+  -- after a minus
   signed : NumberPlace
-  -- behind a first digit 0
+  -- after a first digit 0
   zero_read : NumberPlace
   whole : List ℕ → NumberPlace
-  -- behind the point, with the whole digits
+  -- after the point, with the whole digits
   pointed : List ℕ → NumberPlace
   fraction : List ℕ → List ℕ → NumberPlace
-  -- behind the letter of an exponent, with the digits before it
+  -- after the letter of an exponent, with the digits before it
   lettered : List ℕ → List ℕ → ℕ → NumberPlace
   signed_exponent : List ℕ → List ℕ → ℕ → Sign → NumberPlace
   exponent : List ℕ → List ℕ → ℕ → Sign → List ℕ → NumberPlace
 
--- behind the first digit of a number
+-- after the first digit of a number
 abbrev pub begun : Bool → ℕ → NumberPlace
 begun true c = zero_read
 begun false c = whole (c ∷ [])

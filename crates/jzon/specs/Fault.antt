@@ -1,4 +1,4 @@
--- From which prefixes a text can go on, where a text has a fault, and the one error of a text (docs/RULES.md,
+-- Which prefixes can be completed to a text, where a text has a fault, and the one error of a text (docs/RULES.md,
 -- "Errors").
 use Rattle.std.specs.Prelude.{◌≡◌, ℕ, suc, ◌+◌, ◌-◌, ◌<◌, ◌≤◌, List, ◌++◌, length, take, not, ◌==◌, count_by}
 use Rattle.std.specs.Prelude.{slice_index}
@@ -41,15 +41,15 @@ pub data Fault : Type 0 where
   -- the text ends too early
   end : Fault
 
--- Some text goes on from the characters before with a container too many, and each text that goes on with this
--- character too has one; there may be none.
+-- The characters before i have a completion with one open container too many at i, and every completion that includes
+-- character i has one there too; there may be no such completion.
 abbrev pub IsDepthFault : Reading → List ℕ → ℕ → Type 0
 IsDepthFault r t i =
     (i < length t)
     × ((d : Document) × Completes r (take i t) d × BreachAt r deep d i)
     × AllBreakAt r (take (suc i) t) deep i
 
--- the fault stands at offset i of the text
+-- the fault is at offset i of the text
 abbrev pub IsFault : Reading → List ℕ → ℕ → Fault → Type 0
 IsFault r t i (limit deep) = IsDepthFault r t i
 IsFault r t i (limit b) = (i < length t) × HasCompletion r (take (suc i) t) × AllBreakAt r (take (suc i) t) b i
@@ -63,7 +63,7 @@ IsFault r t i Fault.end =
     × HasCompletion r t
     × ((d : Document) → Spells r t d → ⊥)
 
--- the fault stands at i, and none stands before it
+-- the fault is at offset i, and no fault is at a smaller offset
 abbrev pub IsFirstFault : Reading → List ℕ → ℕ → Fault → Type 0
 IsFirstFault r t i f = IsFault r t i f × ((j : ℕ) (g : Fault) → IsFault r t j g → i ≤ j)
 
@@ -77,7 +77,7 @@ line prefix = count_by (λ c. c == 10) prefix + 1
 abbrev pub column : List ℕ → ℕ
 column prefix = suffix_len (λ c. not (c == 10)) prefix + 1
 
--- the error that tells a fault at offset i of a text
+-- the error that reports a fault at offset i of a text
 abbrev pub error_at : List ℕ → ℕ → Fault → Error
 error_at t i (limit deep) = ExceededDepthLimit
 error_at t i (limit pair) = FailedUtf8Parsing

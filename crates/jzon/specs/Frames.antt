@@ -1,4 +1,4 @@
--- What the parser keeps of the open containers, as the automaton sees it.
+-- The parser's stack of open containers, as the automaton sees it.
 use Rattle.std.specs.Prelude.{◌≢◌, ℕ, ◌<◌, ◌≤◌, [], List, map, Bool, true, false}
 use Rattle.std.specs.List.{fold}
 use Rattle.jzon_tree.specs.View.{view, viewed}
@@ -11,16 +11,16 @@ use Rattle.jzon.specs.declared.frames.Begun.TheVariants.{Value, Array as begun_a
 use Rattle.jzon.specs.declared.frames.Frame.{Frame}
 use Rattle.jzon.specs.declared.frames.Frame.TheVariants.{Array, Object}
 
--- the containers fs with one more inside
+-- the containers fs with one more opened inside
 abbrev pub open_in : Frames → Frame → Frames
 open_in fs (Array elements) = array_frame fs (map view elements.items)
 open_in fs (Object entries key) = object_frame fs (viewed entries) key
 
--- the open containers, of which the stack has the inmost last
+-- the open containers; the innermost is the last of the stack
 abbrev pub stack_view : List Frame → Frames
 stack_view stack = fold open_in no_frames stack
 
--- the place behind what was read, inside of the containers fs
+-- the state after what was read, inside the containers fs
 abbrev pub place_of : Begun → Frames → Place
 place_of (Value v) fs = behind fs (view v)
 place_of begun_array fs = before (array_frame fs [])
@@ -32,8 +32,8 @@ is_open (Value v) = false
 is_open begun_array = true
 is_open begun_object = true
 
--- Where so many containers are open already, the reading allows them and the one that was opened, and an item stands in
--- it next.
+-- `depth` containers are open: the reading allows them and the one just opened, if any, in which an element or a member
+-- comes next.
 abbrev pub IsReady : Cursor → ℕ → Begun → Type 0
 IsReady t depth (Value v) = depth ≤ t.reading.depth
 IsReady t depth begun_array = (depth < t.reading.depth) × (next_byte t ≢ end_array)

@@ -1,4 +1,5 @@
--- The grammar of RFC 8259 as trees: a tree has each part of a text, the whitespace too. A text is a list of characters.
+-- The grammar of RFC 8259 as trees: a tree has each part of a text, including whitespace. A text is a list of
+-- characters.
 use Rattle.std.specs.Prelude.{◌≡◌, ℕ, zero, suc, ◌+◌, ◌*◌, List, [], ◌∷◌, Bool, false, not, ◌&&◌, ◌||◌, ◌==◌, nat_le}
 use Rattle.std.specs.Prelude.{nat_lt, Option, Some, None, codes, IsTrue, ⊤}
 use Rattle.std.specs.Char.{is_ascii_digit, is_ascii_hexdigit, digit_value}
@@ -28,15 +29,15 @@ pub record Numeral : Type 0 where
   pub fraction : List ℕ
   pub exponent : Option Exponent
 
--- A part of a string (section 7): a character that stands for itself; a backslash and a letter; a `\u` escape with its
--- four digits; two `\u` escapes, of which the first names a surrogate.
+-- A part of a string (section 7): an unescaped character; a backslash and a letter; a `\u` escape with its four digits;
+-- two `\u` escapes, of which the first names a surrogate.
 pub data Item : Type 0 where
   plain : ℕ → Item
   simple : ℕ → Item
   single : List ℕ → Item
   double : List ℕ → List ℕ → Item
 
--- a key with the whitespace round it (section 4)
+-- a key with the whitespace around it (section 4)
 pub record Key : Type 0 where
   pub before : List ℕ
   pub items : List Item
@@ -57,7 +58,7 @@ mutual
     -- a first key and its value, and the members after it
     object : Key → List ℕ → Node → List ℕ → Members → Node
 
-  -- what follows a value of an array: its closing bracket, or a comma and one element more
+  -- what follows a value of an array: its closing bracket, or a comma and one more element
   pub data Elements : Type 0 where
     no_elements : Elements
     element : List ℕ → Node → List ℕ → Elements → Elements
@@ -106,7 +107,7 @@ IsExponent (Some e) = IsTrue (is_exponent_letter e.letter) × IsDigits e.digits
 abbrev pub IsNumeral : Numeral → Type 0
 IsNumeral n = IsWhole n.whole × AreDigits n.fraction × IsExponent n.exponent
 
--- so many hexadecimal digits, of either case
+-- exactly n hexadecimal digits, of either case
 abbrev pub AreHex : ℕ → List ℕ → Type 0
 AreHex zero [] = ⊤
 AreHex zero (c ∷ cs) = ⊥
@@ -117,7 +118,7 @@ AreHex (suc n) (c ∷ cs) = IsTrue (is_ascii_hexdigit c) × AreHex n cs
 unfoldable pub code_unit : List ℕ → ℕ
 code_unit cs = fold (λ n c. n * 16 + digit_value c) 0 cs
 
--- the surrogates of UTF-16: the high ones begin a pair and the low ones end it
+-- the surrogates of UTF-16: a high one begins a surrogate pair and a low one ends it
 abbrev pub is_high : ℕ → Bool
 is_high u = nat_le 0xD800 u && nat_lt u 0xDC00
 
@@ -127,7 +128,7 @@ is_low u = nat_le 0xDC00 u && nat_lt u 0xE000
 abbrev pub is_surrogate : ℕ → Bool
 is_surrogate u = nat_le 0xD800 u && nat_lt u 0xE000
 
--- the characters that stand for themselves: from U+0020 on, and neither a quote nor a backslash
+-- the characters that need no escape: from U+0020 on, except the quote and the backslash
 abbrev pub is_unescaped : ℕ → Bool
 is_unescaped c = (scalar c && nat_le 32 c) && not (c == quotation_mark || c == escape)
 

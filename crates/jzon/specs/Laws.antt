@@ -1,4 +1,4 @@
--- Laws over the definitions alone.
+-- Laws on the definitions alone.
 use Rattle.std.specs.Prelude.{◌≡◌, ◌⊎◌, ℕ, ℤ, ◌≤◌, ◌<◌, ◌^◌, List, [], length, Bool, true, IsTrue, IsUtf8, chars}
 use Rattle.std.specs.Prelude.{FitsSigned}
 use Rattle.std.specs.Int.{w16}
@@ -17,15 +17,15 @@ use Rattle.jzon.specs.Spelling.{Breach, spell, BreachAt}
 use Rattle.jzon.specs.Meaning.{number_of, meaning}
 use Rattle.jzon.specs.Fault.{Spells, Parses, Fault, IsFault, IsFirstFault}
 
--- two trees that spell one text are the same tree
+-- two trees that spell the same text are equal
 abbrev pub OneReading : Type 0
 OneReading = (r : Reading) (t : List ℕ) (d e : Document) → Spells r t d → Spells r t e → d ≡ e
 
--- the text of a tree is the same by each reading
+-- the text of a tree is the same in each reading
 abbrev pub OneText : Type 0
 OneText = (r s : Reading) (d : Document) → spell r d ≡ spell s d
 
--- at most one breach stands at a character
+-- each character has at most one breach
 abbrev pub OneBreach : Type 0
 OneBreach = (r : Reading) (d : Document) (i : ℕ) (b c : Breach) → BreachAt r b d i → BreachAt r c d i → b ≡ c
 
@@ -34,7 +34,7 @@ abbrev pub HasOneTree : Reading → List ℕ → Type 0
 HasOneTree r t = (d : Document) × Parses r t d × ((e : Document) → Spells r t e → e ≡ d)
     × ((i : ℕ) (f : Fault) → IsFault r t i f → ⊥)
 
--- no tree that breaks no limit spells the text, and one fault alone is its first
+-- no tree within the limits spells the text, and exactly one fault is its first
 abbrev pub HasOneFault : Reading → List ℕ → Type 0
 HasOneFault r t =
     ((d : Document) → Parses r t d → ⊥)
@@ -44,14 +44,14 @@ HasOneFault r t =
 abbrev pub OneFault : Type 0
 OneFault = (r : Reading) (t : List ℕ) → HasOneTree r t ⊎ HasOneFault r t
 
--- ---- what is written is read
+-- -- what is written can be read back
 
--- a text that is one value, with no whitespace round it
+-- a text that is one value, with no whitespace around it
 abbrev pub alone : Node → Document
 alone n = record { before = []; node = n; after = [] }
 
--- The printed text of a sign, a mantissa and an exponent is a number of the grammar with no digit too many. It means
--- the same number, which prints this text again. The text has at most 29 bytes.
+-- The printed text of a sign, a mantissa and an exponent is a number of the grammar within the limits on digits. It
+-- means the same number, which prints this text again. The text has at most 29 bytes.
 abbrev pub NumberText : Type 0
 NumberText =
     (positive : Bool) (m : ℕ) (e : ℤ) → m < 2 ^ 64 → FitsSigned w16 e
@@ -69,16 +69,16 @@ IsReadAs r bytes P = IsUtf8 bytes × (d : Document) × Parses r (chars bytes) d 
 abbrev pub Redump : Type 0
 Redump = (r : Reading) (v : Value) → IsValue v → nest v ≤ r.depth → IsReadAs r (compact v) (λ w. compact w ≡ compact v)
 
--- all whitespace that the style allows is one of a strict reading
+-- the style allows only whitespace of a strict reading
 abbrev pub AllowsStrictAlone : Style → Type 0
 AllowsStrictAlone s = (dent : ℕ) (w : List ℕ) → IsAllowedWhitespace s dent w → IsTrue (is_all_whitespace true w)
 
--- the two styles of the four generators, the compact one and the one with a line for each item, are such
+-- the two styles of the four generators, compact and one line per element or member, allow no other whitespace
 abbrev pub StrictStyles : Type 0
 StrictStyles = AllowsStrictAlone compact_style × ((spaces : ℕ) → AllowsStrictAlone (pretty_style spaces))
 
--- Each writing of a value without NaN, in whatever style, is read as the same value. A strict reading asks for a style
--- of strict whitespace alone.
+-- Each text that is written for a value without NaN, in whatever style, is read as the same value. For a strict reading
+-- the style must allow strict whitespace only.
 abbrev pub ReadsBack : Type 0
 ReadsBack =
     (r : Reading) (s : Style) (dent : ℕ) (v : Value) (b : List ℕ)

@@ -11,7 +11,7 @@ pub mod Machine
 pub mod Cursor
 pub mod Frames
 pub mod Answer
--- what the contracts of this crate cite, and those of what it shows
+-- the definitions that the contracts of this crate and of its re-exports cite
 pub use Rattle.jzon_base.specs.Decimal
 pub use Rattle.jzon_base.specs.DigitLimits
 pub use Rattle.jzon_base.specs.Digits

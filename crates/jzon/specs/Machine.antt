@@ -1,5 +1,5 @@
--- The automaton: what is left of a text comes to a value or to a fault, one character at a time. A `Place` is its
--- state: no tree and no whitespace, only what the open containers hold so far, and where in a token the text goes on.
+-- The automaton: maps the rest of a text to a value or a fault, one character at a time. A `Place` is its state: no
+-- tree and no whitespace, only the contents so far of the open containers, and the position within a token.
 use Rattle.std.specs.Prelude.{◌≡◌, ◌⊎◌, ℕ, zero, suc, ◌+◌, ◌-◌, ◌*◌, cond, List, [], ◌∷◌, ◌++◌, length, drop, Bool}
 use Rattle.std.specs.Prelude.{true, false, ◌&&◌, ◌==◌, Option, Some, None, Result, Ok, Err, MatchResult, chars}
 use Rattle.std.specs.Prelude.{encode_utf8}
@@ -26,23 +26,23 @@ use Rattle.jzon.specs.Classes.{opens_object, closes_object, comma, colon, begins
 use Rattle.jzon.specs.Classes.{class_of, NumberPlace, signed, zero_read, whole, pointed, fraction, lettered}
 use Rattle.jzon.specs.Classes.{signed_exponent, exponent, begun}
 
--- an object so far
+-- the entries of an object read so far
 abbrev pub Entries : Type 0
 Entries = List (List ℕ × Value)
 
--- the open containers, the inmost first: what each holds so far, and in an object the key of the present value
+-- the open containers, the innermost first: the contents of each so far, and in an object the key of the current value
 pub data Frames : Type 0 where
   no_frames : Frames
   array_frame : Frames → List Value → Frames
   object_frame : Frames → Entries → List ℕ → Frames
 
--- a string is a value, or a key of an object; of a key, how many characters were left at its opening quote
+-- a string is a value, or a key of an object; for a key, the number of characters left at its opening quote
 pub data Role : Type 0 where
   as_value : Frames → Role
   as_key : Frames → Entries → ℕ → Role
 
--- the place inside an item of a string; a code unit that is being read is a number, with the count of digits missing
--- behind the next one
+-- The state inside a string. A code unit that is being read is a number, with the count of digits missing after the
+-- next one.
 pub data TextPlace : Type 0 where
   between : TextPlace
   slash : TextPlace
@@ -56,12 +56,12 @@ pub data Place : Type 0 where
   before_key : Frames → Entries → Place
   word : Frames → Value → ℕ → List ℕ → Place
   numeral : Frames → Bool → NumberPlace → Place
-  -- with the bytes of the text so far
+  -- with the bytes of the string so far
   string : Role → List ℕ → TextPlace → Place
   after_key : Frames → Entries → List ℕ → Place
   behind : Frames → Value → Place
 
--- whitespace may stand there
+-- whitespace is allowed there
 abbrev pub allows_whitespace : Place → Bool
 allows_whitespace (before fs) = true
 allows_whitespace (before_key fs es) = true
@@ -69,12 +69,12 @@ allows_whitespace (after_key fs es k) = true
 allows_whitespace (behind fs v) = true
 allows_whitespace _ = false
 
--- behind the first digit of a number
+-- after the first digit of a number
 abbrev pub numeral_begun : Frames → Bool → ℕ → Place
 numeral_begun fs negative c = numeral fs negative (begun (c == zero_digit) c)
 
--- what reading one character comes to: a place, and the breach that stands at the character, if any; or no text can go
--- on, where it may be that each text that goes on otherwise has a depth breach
+-- The result of reading one character: a state and the breach at the character, if any; or no text goes on with the
+-- character, in the case of `bad_deep` where another one would open one container too many.
 pub data Move : Type 0 where
   go : Option Breach → Place → Move
   bad : Move
@@ -85,7 +85,7 @@ frames_depth no_frames = zero
 frames_depth (array_frame fs vs) = suc (frames_depth fs)
 frames_depth (object_frame fs es k) = suc (frames_depth fs)
 
--- the inmost open container is an array without elements
+-- the innermost open container is an array without elements
 abbrev pub is_fresh : Frames → Bool
 is_fresh no_frames = false
 is_fresh (array_frame fs []) = true
@@ -106,7 +106,7 @@ abbrev pub bad_at : Option Breach → Move
 bad_at None = bad
 bad_at (Some b) = bad_deep
 
--- ---- before and behind values
+-- -- before and after values
 
 abbrev pub move_empty_array : Frames → Move
 move_empty_array (array_frame fs []) = go None (behind fs (value.array value.no_values))
@@ -205,12 +205,11 @@ move_numeral (exponent ws ds l s xs) class fs negative c = move_behind class fs
 
 -- ---- strings
 
--- an earlier key of the object has this text, which a strict reading refuses, so many characters behind its opening
--- quote
+-- a breach if a strict reading finds the same key earlier in the object; the opening quote is `back` characters before
 abbrev pub repeated_if : Reading → Entries → List ℕ → ℕ → Option Breach
 repeated_if r es k back = breach_if (r.strict && is_some (find k es)) (duplicate back)
 
--- behind the closing quote
+-- after the closing quote
 abbrev pub closed_string : Reading → Role → List ℕ → ℕ → Move
 closed_string r (as_value fs) bs left = go None (behind fs (value.text (kind_of bs) bs))
 closed_string r (as_key fs es opened) bs left = go (repeated_if r es bs (opened - left)) (after_key fs es bs)
@@ -226,7 +225,7 @@ move_slash role bs c =
     cond (c == 117) (go None (string role bs (code 3 0)))
     (cond (is_simple c) (go None (string role (bs ++ encode_utf8 (unescaped c)) between)) bad)
 
--- one hexadecimal digit more
+-- appends one hexadecimal digit
 abbrev pub add_hex : ℕ → ℕ → ℕ
 add_hex u c = u * 16 + digit_value c
 
@@ -260,7 +259,7 @@ abbrev pub past_letter : Frames → Value → List ℕ → Place
 past_letter fs v [] = behind fs v
 past_letter fs v (l ∷ ls) = word fs v l ls
 
--- the character c is read, where so many are left, c among them
+-- reads the character c, with `left` characters left, c among them
 abbrev pub move : Reading → Place → ℕ → ℕ → Move
 move r (before fs) c left = move_before r (class_of r.strict c) fs c
 move r (before_key fs es) c left = move_before_key r (class_of r.strict c) fs es left
@@ -270,7 +269,7 @@ move r (string role bs x) c left = move_string r x role bs c left
 move r (after_key fs es k) c left = move_after_key (class_of r.strict c) fs es k
 move r (behind fs v) c left = move_behind (class_of r.strict c) fs v
 
--- what a text comes to: a value, or a fault with the rest of the text from its character on
+-- the outcome of a text: a value, or a fault with the rest of the text from the faulty character on
 pub data Outcome : Type 0 where
   meant : Value → Outcome
   refused : Fault → List ℕ → Outcome
@@ -287,7 +286,7 @@ last_numeral (exponent ws ds l s xs) fs negative = meant_at fs
     (number_value negative ws ds (exponent_of l s (onto xs [])))
 last_numeral _ fs negative = refused Fault.end []
 
--- what the end of the text comes to
+-- the outcome at the end of the text
 abbrev pub last : Place → Outcome
 last (numeral fs negative x) = last_numeral x fs negative
 last (behind fs v) = meant_at fs v
@@ -299,52 +298,51 @@ outcome_on (go (Some b) p) f rest = refused (limit b) rest
 outcome_on bad f rest = refused character rest
 outcome_on bad_deep f rest = refused (limit deep) rest
 
--- what is left of a text comes to this, from this place
+-- the outcome of the rest of a text from this state
 abbrev pub outcome : Reading → List ℕ → Place → Outcome
 outcome r [] p = last p
 outcome r (c ∷ cs) p = outcome_on (move r p c (length (c ∷ cs))) (λ p'. outcome r cs p') (c ∷ cs)
 
--- the same for what a text has from its byte i on
+-- the same for the rest of a text from byte i on
 unfoldable pub from : Reading → List ℕ → Place → ℕ → Outcome
 from r bytes p i = outcome r (chars (drop i bytes)) p
 
--- how many characters are left from a byte on
+-- the number of characters left from a byte on
 abbrev pub left_at : List ℕ → ℕ → ℕ
 left_at bytes i = length (chars (drop i bytes))
 
--- what a text comes to behind a string with this text, whose closing quote stands before byte i
+-- the outcome after a string with this content, whose closing quote is the byte before i
 abbrev pub from_closed : Reading → List ℕ → Role → List ℕ → ℕ → Outcome
 from_closed r bytes role text i =
     outcome_on (closed_string r role text (left_at bytes (i - 1))) (λ p. from r bytes p i) (chars (drop (i - 1) bytes))
 
--- what is left of a text where it can't go on
+-- the outcome of the rest of a text that can't go on
 abbrev pub stopped : List ℕ → Outcome
 stopped [] = refused Fault.end []
 stopped (c ∷ cs) = refused character (c ∷ cs)
 
--- the error tells this outcome of a text
+-- the error reports this outcome of a text
 abbrev pub Tells : List ℕ → Error → Outcome → Type 0
 Tells t e (meant v) = ⊥
 Tells t e (refused f rest) = e ≡ error_at t (length t - length rest) f
 
--- the error tells this outcome of a text, or memory was refused
+-- the error reports this outcome of a text, or an allocation failed
 abbrev pub TellsUnlessMemory : List ℕ → Error → Outcome → Type 0
 TellsUnlessMemory t e o = (e ≡ OutOfMemory) ⊎ Tells t e o
 
--- What a text comes to from its byte i on, at this place, is what it comes to behind what was read, or the error tells
--- it.
+-- The outcome from byte i on in this state is the outcome after what was read, or the error reports it.
 abbrev pub Leads : {A : Type 0} → Reading → List ℕ → Place → ℕ → Result (A × ℕ) Error → (A → Place) → Type 0
 Leads r bytes p i result next =
     MatchResult result (λ x. from r bytes p i ≡ from r bytes (next x.0) x.1)
     (λ e. Tells (chars bytes) e (from r bytes p i))
 
--- the same, or memory was refused
+-- the same, or an allocation failed
 abbrev pub LeadsUnlessMemory : {A : Type 0} → Reading → List ℕ → Place → ℕ → Result (A × ℕ) Error → (A → Place) → Type 0
 LeadsUnlessMemory r bytes p i result next =
     MatchResult result (λ x. from r bytes p i ≡ from r bytes (next x.0) x.1)
     (λ e. TellsUnlessMemory (chars bytes) e (from r bytes p i))
 
--- the result is what this outcome of a text says, unless memory was refused
+-- the result agrees with this outcome of a text, unless an allocation failed
 abbrev pub Reads : List ℕ → Result JsonValue Error → Outcome → Type 0
 Reads t (Ok v) o = o ≡ meant (view v)
 Reads t (Err e) o = TellsUnlessMemory t e o

@@ -31,11 +31,11 @@ abbrev pub unescaped : ℕ → ℕ
 unescaped l = if l == 98 then 8 else (if l == 102 then 12 else
     (if l == 110 then 10 else (if l == 114 then 13 else (if l == 116 then 9 else l))))
 
--- the character of a high surrogate and a low one
+-- the character of a surrogate pair
 abbrev pub pair_char : ℕ → ℕ → ℕ
 pair_char high low = 0x10000 + (high - 0xD800) * 0x400 + (low - 0xDC00)
 
--- two `\u` escapes, the first high and the second low
+-- two `\u` escapes that form a surrogate pair
 abbrev pub is_pair : List ℕ → List ℕ → Bool
 is_pair u v = is_high (code_unit u) && is_low (code_unit v)
 
@@ -72,7 +72,7 @@ abbrev mutual
   elements_meaning no_elements = no_values
   elements_meaning (element b n c es) = value (meaning n) (elements_meaning es)
 
-  -- the keys and values as they are written
+  -- the entries in the order of the text, with repeated keys
   pub members_meaning : Members → List (List ℕ × Value)
   members_meaning no_members = []
   members_meaning (member key b n c ms) = (bytes_of key.items, meaning n) ∷ members_meaning ms

@@ -3,7 +3,7 @@ use Rattle.std.specs.Prelude.{◌≡◌, ℕ, ◌-◌, ◌<◌, List, slice_inde
 use Rattle.std.specs.Str.{IsCharBoundary}
 use Rattle.jzon_base.specs.Tokens.{quotation_mark}
 
--- a quote stands before this offset, and not before the first one
+-- the byte before `end` is a quote, at `start` or after it
 abbrev pub EndsAtQuote : List ℕ → ℕ → ℕ → Type 0
 EndsAtQuote source start end =
     (start < end) × IsCharBoundary source (end - 1) × IsCharBoundary source end

@@ -1,7 +1,7 @@
 -- How texts are read (docs/RULES.md, "Readings").
 use Rattle.std.specs.Prelude.{ℕ, Bool, false}
 
--- strict: the whitespace of RFC 8259 alone, and no repeated key; depth: how many non-empty containers may be open
+-- strict: only the whitespace of RFC 8259 and no repeated key; depth: how many non-empty containers may be open
 pub record Reading : Type 0 where
   pub strict : Bool
   pub depth : ℕ

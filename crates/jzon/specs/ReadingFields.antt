@@ -1,4 +1,4 @@
--- How the fields of a `Reading` stand for it.
+-- How the fields of a `Reading` represent it.
 use Rattle.jzon.specs.Reading.{Reading}
 use Rattle.jzon.specs.declared.reading.Reading.TheInside.{Inside}
 

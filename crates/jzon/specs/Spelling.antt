@@ -1,4 +1,4 @@
--- The text of a tree, and where it breaks a limit.
+-- The text of a tree, and where it exceeds a limit.
 use Rattle.std.specs.Prelude.{◌≡◌, ℕ, suc, ◌+◌, List, [], ◌∷◌, length, map, Bool, true, false, not, ◌&&◌, ◌==◌, nat_le}
 use Rattle.std.specs.Prelude.{if◌then◌else◌, Option, Some, None, codes, slice_get}
 use Rattle.jzon_base.specs.Digits.{dropped, kept_fraction}
@@ -13,18 +13,18 @@ use Rattle.jzon.specs.Meaning.{is_pair, bytes_of}
 
 -- the limits that a tree can break
 pub data Breach : Type 0 where
-  -- a container too many is open
+  -- one open container too many
   deep : Breach
-  -- two surrogates that are no high one and then a low one
+  -- two surrogates that aren't a surrogate pair
   pair : Breach
-  -- a digit too many
+  -- one digit too many
   digit : Breach
-  -- a repeated key, and how many characters its closing quote is behind its opening quote
+  -- a repeated key, with the number of characters from its opening quote to its closing quote
   duplicate : ℕ → Breach
 
--- A character of a text, and the breach that stands at it. There is at most one: a depth breach stands at the first
--- character of a value or of a key, a digit breach never at the first digit of a number, a pair breach at the last
--- digit of an escape, a duplicate breach at a closing quote.
+-- A character of a text with its breach, if any. There is at most one: a depth breach is at the first character of a
+-- value or of a key, a digit breach never at the first digit of a number, a `pair` breach at the last digit of an
+-- escape, a duplicate breach at a closing quote.
 pub record Cell : Type 0 where
   pub char : ℕ
   pub mark : Option Breach
@@ -35,20 +35,20 @@ cell c m = record { char = c; mark = m }
 abbrev pub breach_if : Bool → Breach → Option Breach
 breach_if t b = if t then Some b else None
 
--- The text of each part goes before `k`, which is what follows it.
+-- The text of each part is put before `k`, the cells that follow it.
 
--- characters at which no breach stands
+-- characters without a breach
 abbrev pub plain : List ℕ → List Cell → List Cell
 plain [] k = k
 plain (c ∷ cs) k = cell c None ∷ plain cs k
 
--- the same, with a mark at the last one
+-- the same, with the breach at the last one
 abbrev pub marked_last : List ℕ → Option Breach → List Cell → List Cell
 marked_last [] m k = k
 marked_last (c ∷ []) m k = cell c m ∷ k
 marked_last (c ∷ d ∷ cs) m k = cell c None ∷ marked_last (d ∷ cs) m k
 
--- the first list from its end to its beginning, and then the second
+-- the first list reversed, followed by the second
 abbrev pub onto : List ℕ → List ℕ → List ℕ
 onto [] cs = cs
 onto (b ∷ bs) cs = onto bs (b ∷ cs)
@@ -63,13 +63,13 @@ drops_too_many whole = dropped whole [] == 32768
 unfoldable pub keeps_too_many : List ℕ → List ℕ → Bool
 keeps_too_many whole fraction = length fraction == 32769 && kept_fraction whole fraction == 32769
 
--- digits after others (`prefix`, the last one first), each with a breach where the digits up to it are too many
+-- digits after others (`prefix`, in reverse order), each with a breach if the digits up to it are too many
 abbrev pub digits_cells : (List ℕ → Bool) → List ℕ → List ℕ → List Cell → List Cell
 digits_cells too_many prefix [] k = k
 digits_cells too_many prefix (d ∷ ds) k =
     cell d (breach_if (too_many (onto (d ∷ prefix) [])) digit) ∷ digits_cells too_many (d ∷ prefix) ds k
 
--- with the mark at the first digit
+-- with the breach at the first digit
 abbrev pub whole_cells : List ℕ → Option Breach → List Cell → List Cell
 whole_cells [] m k = k
 whole_cells (d ∷ ds) m k = cell d m ∷ digits_cells drops_too_many (d ∷ []) ds k
@@ -111,12 +111,11 @@ items_cells (i ∷ is) k = item_cells i (items_cells is k)
 abbrev pub items_length : List Item → ℕ
 items_length is = length (items_cells is [])
 
--- the mark at a key's closing quote: an earlier key of its object, one of seen, has its text, which a strict reading
--- refuses
+-- the breach at a key's closing quote: a strict reading, and the key is one of `seen`, the earlier keys of its object
 abbrev pub duplicate_if : Reading → List (List ℕ) → List Item → Option Breach
 duplicate_if r seen is = breach_if (r.strict && is_known seen (bytes_of is)) (duplicate (items_length is + 1))
 
--- a key with its colon, and the mark m at its opening quote
+-- a key with its colon, with the breach m at its opening quote
 abbrev pub key_cells : Reading → List (List ℕ) → Key → Option Breach → List Cell → List Cell
 key_cells r seen key m k =
     plain key.before (cell quotation_mark m ∷ items_cells key.items
@@ -125,13 +124,13 @@ key_cells r seen key m k =
 
 -- ---- values
 
--- The first character after a bracket and its whitespace, where as many non-empty containers are open round it as the
--- reading allows.
+-- The breach at the first character after a bracket and its whitespace: as many non-empty containers as the reading
+-- allows are open already.
 abbrev pub deep_if : Reading → ℕ → Option Breach
 deep_if r depth = breach_if (nat_le r.depth depth) deep
 
 abbrev mutual
-  -- a value inside so many non-empty containers, with the mark at its first character
+  -- a value inside `depth` non-empty containers, with the breach at its first character
   pub node_cells : Reading → Node → ℕ → Option Breach → List Cell → List Cell
   node_cells r Node.null depth m k = cell 110 m ∷ plain (codes "ull") k
   node_cells r (Node.boolean true) depth m k = cell 116 m ∷ plain (codes "rue") k
@@ -152,7 +151,7 @@ abbrev mutual
   elements_cells r (element b n c es) depth k =
       cell value_separator None ∷ plain b (node_cells r n depth None (plain c (elements_cells r es depth k)))
 
-  -- `seen` are the texts of the keys before
+  -- `seen` are the keys before
   pub members_cells : Reading → Members → List (List ℕ) → ℕ → List Cell → List Cell
   members_cells r no_members seen depth k = cell end_object None ∷ k
   members_cells r (member key b n c ms) seen depth k =
@@ -166,7 +165,7 @@ cells r d = plain d.before (node_cells r d.node 0 None (plain d.after []))
 abbrev pub spell : Reading → Document → List ℕ
 spell r d = map (λ x. x.char) (cells r d)
 
--- this breach stands at offset i of the tree's text
+-- this breach is at offset i of the tree's text
 abbrev pub BreachAt : Reading → Breach → Document → ℕ → Type 0
 BreachAt r b d i = slice_get (map (λ x. x.mark) (cells r d)) i ≡ Some (Some b)
 

@@ -6,12 +6,12 @@ use Rattle.std.specs.Prelude.{IsErr, OkIff, IsNone, SomeIff, IsTrue, ◌≤◌}
 use Rattle.std.specs.Ordering.{int_eq}
 use Rattle.std.specs.Bool.{beq}
 
--- no number, or a sign (is it positive), a mantissa and a decimal exponent: mantissa * 10 ^ exponent
+-- NaN, or a sign (whether it is positive), a mantissa and a decimal exponent: mantissa * 10 ^ exponent
 pub data Decimal : Type 0 where
   nan : Decimal
   parts : Bool → ℕ → ℤ → Decimal
 
--- the parts that are told: those of NaN are (false, 0, 0)
+-- the parts that the accessors return: those of NaN are (false, 0, 0)
 abbrev pub parts_of : Decimal → Bool × ℕ × ℤ
 parts_of nan = (false, 0, pos 0)
 parts_of (parts positive m e) = (positive, m, e)
@@ -20,22 +20,22 @@ abbrev pub is_nan : Decimal → Bool
 is_nan nan = true
 is_nan (parts positive m e) = false
 
--- NaN is no zero
+-- whether it is zero; NaN isn't
 abbrev pub is_zero : Decimal → Bool
 is_zero nan = false
 is_zero (parts positive m e) = m == 0
 
--- NaN is not positive
+-- whether its sign is positive; NaN's isn't
 abbrev pub is_positive : Decimal → Bool
 is_positive nan = false
 is_positive (parts positive m e) = positive
 
--- the sign turned, where there is one
+-- the opposite sign; NaN stays NaN
 abbrev pub negated : Decimal → Decimal
 negated nan = nan
 negated (parts positive m e) = parts (not positive) m e
 
--- e + 32768, which is a whole number for each exponent of 16 bits
+-- e + 32768, which isn't negative for an exponent of 16 bits
 abbrev pub shifted : ℤ → ℕ
 shifted (pos n) = 32768 + n
 shifted (negsuc n) = 32767 - n
@@ -44,8 +44,8 @@ shifted (negsuc n) = 32767 - n
 unfoldable pub scaled : ℕ → ℤ → ℕ
 scaled m e = m * 10 ^ shifted e
 
--- The same number: NaN is the same as NaN alone, zeros are the same whatever their sign and exponent, and else the
--- signs agree and the exact decimals are equal.
+-- Equality as numbers: NaN equals only itself, all zeros are equal whatever their sign and exponent, and any other two
+-- are equal if the signs agree and the exact decimals are equal.
 abbrev pub same : Decimal → Decimal → Bool
 same nan nan = true
 same nan (parts q n f) = false
@@ -76,38 +76,38 @@ abbrev pub integer_parts : ℤ → Decimal
 integer_parts (pos n) = parts true n (pos 0)
 integer_parts (negsuc n) = parts false (suc n) (pos 0)
 
--- the integer that a number is told as: its exponent is 0, so a power of ten is none (5e2 is no integer here)
+-- a number as an integer, if its exponent is 0 (5e2 isn't an integer here)
 abbrev pub integer_of : Decimal → Option ℤ
 integer_of nan = None
 integer_of (parts positive m e) = if int_eq e (pos 0) then Some (signed positive m) else None
 
--- the same, where the sign is positive too (-0 is none)
+-- the same, if the sign is positive (-0 isn't)
 abbrev pub unsigned_of : Decimal → Option ℕ
 unsigned_of nan = None
 unsigned_of (parts true m e) = if int_eq e (pos 0) then Some m else None
 unsigned_of (parts false m e) = None
 
--- `Ok` of the number in o where there is one and P holds of it, else `Err`
+-- `Ok` of the number in o if there is one and P holds of it, else `Err`
 abbrev pub OkWhere : {T E : Type 0} → Option T → (T → Type 0) → Result T E → Type 0
 OkWhere None P r = IsErr r
 OkWhere (Some v) P r = OkIff r (P v) v
 
--- `Some` of the number in o where there is one and P holds of it, else `None`
+-- `Some` of the number in o if there is one and P holds of it, else `None`
 abbrev pub SomeWhere : {T : Type 0} → Option T → (T → Type 0) → Option T → Type 0
 SomeWhere None P r = IsNone r
 SomeWhere (Some v) P r = SomeIff r (P v) v
 
--- m * 10 ^ k, cut to a whole number
+-- m * 10 ^ k, truncated to a whole number
 abbrev pub whole_part : ℕ → ℤ → ℕ
 whole_part m (pos k) = m * 10 ^ k
 whole_part m (negsuc k) = m / 10 ^ (k + 1)
 
--- the fixed-point reading: mantissa * 10 ^ (exponent + point), cut toward zero
+-- the fixed-point reading: mantissa * 10 ^ (exponent + point), truncated toward zero
 abbrev pub fixed_point : Decimal → ℕ → Option ℤ
 fixed_point nan point = None
 fixed_point (parts positive m e) point = Some (signed positive (whole_part m (e +ℤ pos point)))
 
--- the same, where the sign is positive
+-- the same, if the sign is positive
 abbrev pub unsigned_fixed_point : Decimal → ℕ → Option ℕ
 unsigned_fixed_point nan point = None
 unsigned_fixed_point (parts true m e) point = Some (whole_part m (e +ℤ pos point))
@@ -123,7 +123,7 @@ abbrev pub is_whole_at : Decimal → ℕ → Bool
 is_whole_at nan point = false
 is_whole_at (parts positive m e) point = is_whole m (e +ℤ pos point)
 
--- the fixed-point readings where no digit is lost
+-- the fixed-point readings that lose no digit
 abbrev pub exact_fixed_point : Decimal → ℕ → Option ℤ
 exact_fixed_point d point = if is_whole_at d point then fixed_point d point else None
 
@@ -135,6 +135,6 @@ abbrev pub integer_at : ℤ → ℕ → Decimal
 integer_at (pos n) point = parts true n (neg_ℤ (pos point))
 integer_at (negsuc n) point = parts false (suc n) (neg_ℤ (pos point))
 
--- what is read at the point is the number itself
+-- the value read at the point is the number itself
 abbrev pub IsExactAt : Decimal → ℕ → Type 0
 IsExactAt d point = point ≤ 32768 → (n : ℤ) → fixed_point d point ≡ Some n → IsTrue (same d (integer_at n point))

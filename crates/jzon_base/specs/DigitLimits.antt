@@ -8,7 +8,7 @@ use Rattle.jzon_base.specs.declared.digits.DigitFault.TheVariants.{Whole, Fracti
 abbrev pub AreFewEnough : List ℕ → List ℕ → Type 0
 AreFewEnough whole fraction = (dropped whole fraction ≤ 32767) × (kept_fraction whole fraction ≤ 32768)
 
--- the 32768th digit that is dropped before the point, or the 32769th that is kept after it
+-- the digit that exceeds the limit: the 32768th dropped before the point, or the 32769th kept after it
 abbrev pub IsFirstTooMany : List ℕ → List ℕ → DigitFault → Type 0
 IsFirstTooMany whole fraction (Whole i) = (32768 ≤ dropped whole fraction) × (i ≡ kept_len (whole ++ fraction) + 32767)
 IsFirstTooMany whole fraction (Fraction i) = (32769 ≤ kept_fraction whole fraction) × (i ≡ 32768)

@@ -10,7 +10,7 @@ use Rattle.jzon_base.specs.Decimal.{Decimal, parts}
 abbrev pub IsDigit : ℕ → Type 0
 IsDigit c = (48 ≤ c) × (c ≤ 57)
 
--- the number with one digit more
+-- appends one digit
 abbrev pub add_digit : ℕ → ℕ → ℕ
 add_digit v c = v * 10 + (c - 48)
 
@@ -18,15 +18,15 @@ add_digit v c = v * 10 + (c - 48)
 abbrev pub digits_number : List ℕ → ℕ
 digits_number ds = fold add_digit 0 ds
 
--- the number with one digit more, by the digit's value
+-- appends one digit, given by its value
 abbrev pub add_value : ℕ → ℕ → ℕ
 add_value v d = v * 10 + d
 
--- the number that digits spell, by their values
+-- the number that digits spell, given by their values
 abbrev pub values_number : List ℕ → ℕ
 values_number ds = fold add_value 0 ds
 
--- the greatest count up to n of digits that spell a number below 2 ^ 64
+-- the greatest k up to n such that the first k digits spell a number below 2 ^ 64
 abbrev pub longest_up_to : ℕ → List ℕ → ℕ
 longest_up_to zero ds = 0
 longest_up_to (suc n) ds = if nat_lt (digits_number (take (suc n) ds)) (2 ^ 64) then suc n else longest_up_to n ds
@@ -39,7 +39,7 @@ kept_len ds = longest_up_to (length ds) ds
 abbrev pub kept : List ℕ → List ℕ
 kept ds = take (kept_len ds) ds
 
--- how many of the digits before the point are dropped, and how many of those after it are kept
+-- how many of the digits before the point are dropped, and how many after it are kept
 abbrev pub dropped : List ℕ → List ℕ → ℕ
 dropped whole fraction = length whole - kept_len (whole ++ fraction)
 
@@ -50,13 +50,13 @@ kept_fraction whole fraction = kept_len (whole ++ fraction) - length whole
 abbrev pub clamp : ℤ → ℤ
 clamp z = int_max (negsuc 32767) (int_min (pos 32767) z)
 
--- The exponent: the dropped digits before the point, less the kept ones after it, and the written exponent, added
--- exactly and clamped once.
+-- The exponent: the written one, plus the number of digits dropped before the point, minus the number kept after it,
+-- added exactly and clamped once.
 abbrev pub read_exponent : List ℕ → List ℕ → ℤ → ℤ
 read_exponent whole fraction written = clamp ((pos (dropped whole fraction) -ℤ pos (kept_fraction whole fraction)) +ℤ
     written)
 
--- the parts of a number in a text: its sign, its digits before and after the point, and its written exponent
+-- the number of a text, from its sign, its digits before and after the point, and its written exponent
 abbrev pub read_number : Bool → List ℕ → List ℕ → ℤ → Decimal
 read_number positive whole fraction written =
     parts positive (digits_number (kept (whole ++ fraction))) (read_exponent whole fraction written)

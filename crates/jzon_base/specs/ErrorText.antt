@@ -1,4 +1,4 @@
--- The words of each error (docs/RULES.md, "Errors").
+-- The message of each error (docs/RULES.md, "Errors").
 use Rattle.std.specs.Prelude.{◌≡◌, ℕ, List, ◌++◌, codes, decimal, encode_utf8, string_bytes}
 use Rattle.jzon_base.specs.declared.error.Error.{Error}
 use Rattle.jzon_base.specs.declared.error.Error.TheVariants.{UnexpectedCharacter, UnexpectedEndOfJson}
@@ -9,7 +9,7 @@ use Rattle.jzon_base.specs.declared.error.Error.TheVariants.{OutOfMemory, Duplic
 abbrev pub place_text : ℕ → ℕ → List ℕ
 place_text line column = codes "(" ++ decimal line ++ codes ":" ++ decimal column ++ codes ")"
 
--- what `Display` shows; the character stands as itself, with no escape
+-- what `Display` shows; the character itself, without escaping
 abbrev pub error_text : Error → List ℕ
 error_text (UnexpectedCharacter ch line column) = codes "Unexpected character: " ++ encode_utf8 ch ++ codes " at " ++
     place_text line column
@@ -20,7 +20,7 @@ error_text (WrongType expected) = codes "Wrong type, expected: " ++ string_bytes
 error_text OutOfMemory = codes "Out of memory"
 error_text (DuplicateKey line column) = codes "Duplicate key at " ++ place_text line column
 
--- the error names the kind that these bytes spell
+-- the error names the kind with these bytes
 abbrev pub IsWrongType : List ℕ → Error → Type 0
 IsWrongType kind (WrongType expected) = string_bytes expected ≡ kind
 IsWrongType kind _ = ⊥

@@ -1,7 +1,7 @@
--- The hash of a key: FNV-1a of 64 bits, by Fowler, Noll and Vo.
+-- The hash of a key: 64-bit FNV-1a, by Fowler, Noll and Vo.
 use Rattle.std.specs.Prelude.{ℕ, ◌*◌, ◌%◌, ◌^◌, List, fold, bit_xor}
 
--- the hash with one byte more
+-- the hash after one more byte
 abbrev pub hash_step : ℕ → ℕ → ℕ
 hash_step h byte = bit_xor h byte * 0x100_0000_01b3 % 2 ^ 64
 

@@ -1,4 +1,4 @@
--- How the fields of a `Number` stand for its decimal.
+-- How the fields of a `Number` represent its decimal.
 use Rattle.std.specs.Prelude.{◌≡◌, ℕ, ℤ, pos, true, false}
 use Rattle.jzon_base.specs.Decimal.{Decimal, nan, parts}
 use Rattle.jzon_base.specs.declared.number.Category.{Category}

@@ -1,4 +1,5 @@
--- The text of a number: the table of docs/RULES.md, "Printed numbers". It decides, whatever another printer does.
+-- The text of a number: the table of docs/RULES.md, "Printed numbers". The table is normative, whatever another printer
+-- does.
 use Rattle.std.specs.Prelude.{ℕ, ℤ, pos, negsuc, ◌+◌, ◌-◌, Bool, nat_le, nat_lt, ◌==◌, if◌then◌else◌, List, [], ◌++◌}
 use Rattle.std.specs.Prelude.{length, take, drop, replicate, codes, decimal}
 use Rattle.jzon_base.specs.Decimal.{Decimal, nan, parts}
@@ -21,7 +22,7 @@ fraction_text ds k =
     if nat_lt k (length ds) then point_after (length ds - k) ds
     else codes "0." ++ replicate (k - length ds) 48 ++ ds
 
--- the exponent that follows the first of d digits, where the digits are over 10 ^ k
+-- the exponent after the first of d digits, for digits divided by 10 ^ k
 abbrev pub small_exponent_text : ℕ → ℕ → List ℕ
 small_exponent_text d k =
     if d == k + 1 then []
@@ -37,7 +38,7 @@ magnitude_text ds (negsuc k) =
     if nat_le (k + 1) 17 then fraction_text ds (k + 1)
     else point_after_first ds ++ small_exponent_text (length ds) (k + 1)
 
--- the text of a sign, a mantissa and a decimal exponent: a mantissa 0 is `0`, whatever the exponent
+-- the text of a sign, a mantissa and a decimal exponent: for the mantissa 0 it is `0`, whatever the exponent
 abbrev pub number_text : Bool → ℕ → ℤ → List ℕ
 number_text positive m e = sign_text positive ++ (if m == 0 then codes "0" else magnitude_text (decimal m) e)
 
@@ -46,7 +47,7 @@ abbrev pub decimal_text : Decimal → List ℕ
 decimal_text nan = codes "nan"
 decimal_text (parts positive m e) = number_text positive m e
 
--- what is written into a document: `null` for NaN, since no number of the grammar means it (RFC 8259, section 6)
+-- what is written into a JSON text: `null` for NaN, since the grammar has no NaN (RFC 8259, section 6)
 abbrev pub written_text : Decimal → List ℕ
 written_text nan = codes "null"
 written_text (parts positive m e) = number_text positive m e

@@ -1,5 +1,5 @@
--- A list of pairs of a key and a value, in the order in which they were put (docs/RULES.md, "Objects"). A key is its
--- bytes.
+-- A list of entries, each a key and a value, in the order in which they were put (docs/RULES.md, "Objects"). A key is
+-- its bytes.
 use Rattle.std.specs.Prelude.{ℕ, zero, suc, cond, List, [], ◌∷◌, Option, None, Some}
 use Rattle.std.specs.List.{fold}
 use Rattle.std.specs.Str.{bytes_eq}
@@ -10,28 +10,28 @@ abbrev pub find : {V : Type 0} → List ℕ → List (List ℕ × V) → Option 
 find k [] = None
 find k (p ∷ ps) = cond (bytes_eq p.0 k) (Some p.1) (find k ps)
 
--- v at k: in its place where k is present, else last
+-- the entry (k, v): at the position of k if it is present, else last
 abbrev pub put : {V : Type 0} → List ℕ → V → List (List ℕ × V) → List (List ℕ × V)
 put k v [] = (k, v) ∷ []
 put k v (p ∷ ps) = cond (bytes_eq p.0 k) ((p.0, v) ∷ ps) (p ∷ put k v ps)
 
--- the pairs put one after the other, into an empty list: a repeated key keeps the first one's place and takes the last
--- value
+-- The entries put one after the other into an empty list: a repeated key keeps its first position and takes the last
+-- value.
 abbrev pub put_each : {V : Type 0} → List (List ℕ × V) → List (List ℕ × V)
 put_each ps = fold (λ qs p. put p.0 p.1 qs) [] ps
 
--- without the pair of k; the others keep their order
+-- without the entry of k; the others keep their order
 abbrev pub cut : {V : Type 0} → List ℕ → List (List ℕ × V) → List (List ℕ × V)
 cut k [] = []
 cut k (p ∷ ps) = cond (bytes_eq p.0 k) ps (p ∷ cut k ps)
 
--- v as the value at place i
+-- v as the value at position i
 abbrev pub set_value : {V : Type 0} → List (List ℕ × V) → ℕ → V → List (List ℕ × V)
 set_value [] i v = []
 set_value (p ∷ ps) zero v = (p.0, v) ∷ ps
 set_value (p ∷ ps) (suc i) v = p ∷ set_value ps i v
 
--- v at k, last, where k is missing
+-- the entry (k, v) last, if k is missing
 abbrev pub with_default : {V : Type 0} → List ℕ → V → List (List ℕ × V) → List (List ℕ × V)
 with_default k v [] = (k, v) ∷ []
 with_default k v (p ∷ ps) = cond (bytes_eq p.0 k) (p ∷ ps) (p ∷ with_default k v ps)

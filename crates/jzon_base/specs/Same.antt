@@ -1,5 +1,5 @@
--- `same` is an equivalence: two decimals are the same just where their keys are equal. (These are proofs; they stand
--- here since the laws of `PartialEq` and `Eq` cite them.)
+-- `same` is an equivalence: two decimals are the same if and only if their keys are equal. (These are proofs; they are
+-- here because the laws of `PartialEq` and `Eq` cite them.)
 use Rattle.std.specs.Prelude.{◌≡◌, ℕ, ℤ, ◌+◌, ◌*◌, ◌<◌, true, false, ◌==◌, ◌&&◌, ◌||◌, if◌then◌else◌, refl}
 use Rattle.std.specs.Cmp.{IsEquivalence, nat_eq_equiv, on_equiv}
 use Rattle.std.proofs.Common.{sym, subst, arith}
@@ -7,7 +7,7 @@ use Rattle.std.proofs.Math.Nat.{one-le-pow, one-le-mul}
 use Rattle.std.proofs.lemmas.Bool.Decides.{nat_tests}
 use Rattle.jzon_base.specs.Decimal.{Decimal, nan, parts, same, scaled, shifted}
 
--- a number for each class of same decimals: NaN, the zeros, and else a sign and an exact decimal
+-- a number for each class of equal decimals: for NaN, for the zeros, and else from a sign and an exact decimal
 abbrev pub key : Decimal → ℕ
 key nan = 0
 key (parts true m e) = 1 + 2 * scaled m e
@@ -23,7 +23,7 @@ scaled-pos m e h = one-le-mul h (one-le-pow (shifted e) 10 (omega arith))
 
 pub ruleset zero_rules = (scaled-zero, scaled-pos)
 
--- a is 0 just where m is
+-- a is 0 if and only if m is
 record IsZeroWith (m a : ℕ) : Type 0 where
   zero : m ≡ 0 → a ≡ 0
   above : 0 < m → 0 < a

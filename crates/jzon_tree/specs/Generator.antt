@@ -1,4 +1,4 @@
--- What stands behind a generator, and what its hooks do to it (docs/RULES.md, "Generators").
+-- The state that the contracts of a generator speak of, and what its hooks do to it (docs/RULES.md, "Generators").
 use Rattle.std.specs.Prelude.{◌≡◌, ℕ, ◌+◌, ◌-◌, ◌^◌, ◌≤◌, min, true, false, IsTrue, List, [], ◌∷◌, ◌++◌, ◌⊎◌, ⊤, length}
 use Rattle.std.specs.Prelude.{MatchResult, Option, Result, Some, None}
 use Rattle.std.specs.Borrow.{GName}
@@ -7,13 +7,13 @@ use Rattle.std.specs.declared.vec.Vec.{Vec}
 use Rattle.std.specs.declared.alloc.Global.{Global}
 use Rattle.jzon_tree.specs.Writing.{Style, IsOrder}
 
--- known bytes grow by some that P allows
+-- known bytes grow by bytes that P allows
 abbrev pub Adds : (List ℕ → Type 0) → Option (List ℕ) → Option (List ℕ) → Type 0
 Adds P None new = ⊤
 Adds P (Some xs) None = ⊥
 Adds P (Some xs) (Some ys) = (b : List ℕ) × (ys ≡ xs ++ b) × P b
 
--- b begins some bytes that P allows
+-- b is a prefix of bytes that P allows
 abbrev pub Begins : (List ℕ → Type 0) → List ℕ → Type 0
 Begins P b = (rest : List ℕ) × P (b ++ rest)
 
@@ -21,12 +21,12 @@ Begins P b = (rest : List ℕ) × P (b ++ rest)
 abbrev pub Just : List ℕ → List ℕ → Type 0
 Just bs b = b ≡ bs
 
--- a writer is given bytes that P allows at `Ok`, and a beginning of such bytes at `Err`
+-- a writer receives bytes that P allows at `Ok`, and a prefix of such bytes at `Err`
 abbrev pub Sends : {E : Type 0} → (List ℕ → Type 0) → Option (List ℕ) → Option (List ℕ) → Result (Unit {0}) E → Type 0
 Sends P old new r = MatchResult r (λ _. Adds P old new) (λ _. Adds (Begins P) old new)
 
--- The bytes written so far, where the writer tells them; the open indents; the faults so far; the style; and the
--- reference that is written through, if one is.
+-- The bytes written so far, if the writer reports them; the open indents; the faults so far; the style; and the
+-- reference that is written through, if there is one.
 pub record Emitted : Type 0 where
   pub out : Option (List ℕ)
   pub dent : ℕ
@@ -34,7 +34,7 @@ pub record Emitted : Type 0 where
   pub style : Style
   pub lender : Option GName
 
--- one fault more, or the greatest u64 stays
+-- one more fault, saturating at `u64::MAX`
 abbrev pub noted : ℕ → ℕ
 noted n = min (n + 1) (2 ^ 64 - 1)
 
@@ -42,7 +42,7 @@ noted n = min (n + 1) (2 ^ 64 - 1)
 abbrev pub Counts : {E : Type 0} → Result (Unit {0}) E → Emitted → Emitted → Type 0
 Counts r old new = MatchResult r (λ _. new ≡ old) (λ _. new ≡ record old { faults = noted old.faults })
 
--- The bytes grow by some that P allows, and nothing else changes.
+-- The bytes grow by bytes that P allows, and nothing else changes.
 pub record Added (P : List ℕ → Type 0) (old new : Emitted) : Type 0 where
   pub bytes : Adds P old.out new.out
   pub dent : new.dent ≡ old.dent
@@ -50,7 +50,7 @@ pub record Added (P : List ℕ → Type 0) (old new : Emitted) : Type 0 where
   pub style : new.style ≡ old.style
   pub lender : new.lender ≡ old.lender
 
--- The bytes grow by a beginning of some that P allows, and a fault is noted.
+-- The bytes grow by a prefix of bytes that P allows, and one more fault is counted.
 pub record Failed (P : List ℕ → Type 0) (old new : Emitted) : Type 0 where
   pub bytes : Adds (Begins P) old.out new.out
   pub dent : new.dent ≡ old.dent
@@ -58,7 +58,7 @@ pub record Failed (P : List ℕ → Type 0) (old new : Emitted) : Type 0 where
   pub style : new.style ≡ old.style
   pub lender : new.lender ≡ old.lender
 
--- The same of a call that may leave more indents open.
+-- As `Failed`, for a call that may leave more indents open.
 pub record Stopped (P : List ℕ → Type 0) (old new : Emitted) : Type 0 where
   pub bytes : Adds (Begins P) old.out new.out
   pub dent : old.dent ≤ new.dent
@@ -66,28 +66,28 @@ pub record Stopped (P : List ℕ → Type 0) (old new : Emitted) : Type 0 where
   pub style : new.style ≡ old.style
   pub lender : new.lender ≡ old.lender
 
--- what a hook that adds bytes does
+-- the effect of a hook that adds bytes
 abbrev pub Emits : {E : Type 0} → (List ℕ → Type 0) → Emitted → Emitted → Result (Unit {0}) E → Type 0
 Emits P old new r = MatchResult r (λ _. Added P old new) (λ _. Failed P old new)
 
--- what writing a value does
+-- the effect of writing a value
 abbrev pub Prints : {E : Type 0} → (List ℕ → Type 0) → Emitted → Emitted → Result (Unit {0}) E → Type 0
 Prints P old new r = MatchResult r (λ _. Added P old new) (λ _. Stopped P old new)
 
--- `slice` where a space may follow a colon, or `min` where none need
+-- `slice` if the style allows a space after a colon, or `min` if it allows a bare colon
 abbrev pub IsForm : Style → List ℕ → ℕ → List ℕ → Type 0
 IsForm s slice min b = ((b ≡ slice) × IsTrue (s.colon true)) ⊎ ((b ≡ min ∷ []) × IsTrue (s.colon false))
 
--- the positions from 0
+-- the positions 0 to n - 1
 abbrev pub insertion : ℕ → List ℕ
 insertion n = range_with_len 0 n
 
--- the positions of n pairs that an answer names: `None` is the order of insertion
+-- the order of n entries that `order` returns: `None` is the order of insertion
 abbrev pub positions : ℕ → Option (Vec ℕ Global) → List ℕ
 positions n None = insertion n
 positions n (Some answer) = answer.items
 
--- an answer names each position once, in an order that the style allows of these keys
+-- the returned order has each position once, and the style allows it for these keys
 abbrev pub IsAnswer : Style → List (List ℕ) → Option (Vec ℕ Global) → Type 0
 IsAnswer s ks None = IsTrue (s.order ks (insertion (length ks)))
 IsAnswer s ks (Some answer) = IsOrder (length ks) answer.items × IsTrue (s.order ks answer.items)

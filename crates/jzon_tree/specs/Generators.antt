@@ -1,4 +1,4 @@
--- What stands behind each of the four generators.
+-- The states of the four generators.
 use Rattle.std.specs.Prelude.{◌≡◌, ℕ, List, Option, Some, None, Result, MatchResult, IsUtf8, string_bytes}
 use Rattle.std.specs.Borrow.{GName}
 use Rattle.std.specs.declared.string.String.{String}
@@ -16,7 +16,7 @@ use Rattle.jzon_tree.specs.declared.codegen.text.TextGenerator.{TextGenerator}
 abbrev pub fresh : Option (List ℕ) → Style → Option GName → Emitted
 fresh out style lender = record { out = out; dent = 0; faults = 0; style = style; lender = lender }
 
--- what stands behind a generator over an outlet in a layout, of which the bytes, the reference and the style are known
+-- the state of a generator over an outlet in a layout, from the outlet's bytes and reference and the layout's style
 abbrev pub text_meaning : {O L T : Type 0} → (O → Option (List ℕ)) → (O → Option GName) → (L → Style)
     → TextGenerator O L T → Emitted
 text_meaning out lender style g = record {
@@ -31,24 +31,24 @@ text_meaning out lender style g = record {
 abbrev pub with_writer_in : {O L T : Type 0} → (O → T → O) → TextGenerator O L T → T → TextGenerator O L T
 with_writer_in with_writer g w = record g { outlet = with_writer g.outlet w }
 
--- memory of a generator's own: its bytes, and itself with others
+-- a generator that writes to memory: its bytes, and the same with other bytes
 abbrev pub bytes_in : Memory → Option (List ℕ)
 bytes_in m = Some m.bytes.items
 
 abbrev pub with_bytes : Memory → Vec ℕ Global → Memory
 with_bytes m bytes = record m { bytes = bytes }
 
--- bytes that are known, and are no UTF-8
+-- the bytes are known and aren't UTF-8
 abbrev pub IsNoUtf8 : Option (List ℕ) → Type 0
 IsNoUtf8 None = ⊥
 IsNoUtf8 (Some bytes) = IsUtf8 bytes → ⊥
 
--- what `consume` answers: the bytes written as a text, or where they are no UTF-8 the error that says so
+-- the result of `consume`: the bytes written as a string, or `FailedUtf8Parsing` if they aren't UTF-8
 abbrev pub IsConsumed : Option (List ℕ) → Result (String Global) Error → Type 0
 IsConsumed out r = MatchResult r (λ text. out ≡ Some (string_bytes text)) (λ e. (e ≡ FailedUtf8Parsing) × IsNoUtf8 out)
 
--- Equal bytes and equal references make equals of what stands behind a generator.
--- (This is a proof; it stands here since a law of the generators cites it.)
+-- Equal bytes and equal references make equal states.
+-- (This is a proof; it is here because a law of the generators cites it.)
 pub same_emitted : {o p : Option (List ℕ)} {l m : Option GName} {d f : ℕ} {s : Style} → o ≡ p → l ≡ m
     → let e : Emitted = record { out = o; dent = d; faults = f; style = s; lender = l } in
     e ≡ record { out = p; dent = d; faults = f; style = s; lender = m }

@@ -1,9 +1,9 @@
--- What a walk over a value found.
+-- What an inspection of a value found.
 use Rattle.std.specs.Prelude.{◌≡◌, ℕ, ◌-◌, ◌<◌, ◌≤◌, ◌^◌, ◌↔◌, Bool, false}
 use Rattle.jzon_tree.specs.Lawful.{IsValue, HasNoNan}
 use Rattle.jzon_tree.specs.Value.{Value, nest}
 
--- It is a value, `has_nan` says whether a NaN is inside, and `deep` non-empty containers nest, or more where it is
+-- The value is valid, `has_nan` says whether it contains a NaN, and `deep` is its nesting depth, saturating at
 -- `u128::MAX`.
 pub record IsInspected (v : Value) (has_nan : Bool) (deep : ℕ) : Type 0 where
   pub value : IsValue v

@@ -1,4 +1,4 @@
--- What an iterator that owns an object's pairs has left.
+-- What an iterator that owns an object's entries has left.
 use Rattle.std.specs.Prelude.{ℕ, List}
 use Rattle.jzon_tree.specs.declared.object.IntoIter.{IntoIter}
 use Rattle.jzon_tree.specs.declared.value.JsonValue.{JsonValue}

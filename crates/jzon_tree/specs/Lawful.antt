@@ -1,4 +1,4 @@
--- Which values a program can hold: numbers within range, texts that are UTF-8, distinct keys.
+-- Which values a program can hold: numbers within range, strings that are UTF-8, distinct keys.
 use Rattle.std.specs.Prelude.{◌≢◌, ℕ, ◌≤◌, ◌<◌, ◌^◌, List, length, IsUtf8, ⊤, AllPairs, FitsSigned}
 use Rattle.std.specs.Int.{w16}
 use Rattle.jzon_base.specs.Decimal.{Decimal, nan, parts}
@@ -6,12 +6,12 @@ use Rattle.jzon_base.specs.PairList.{keys_of}
 use Rattle.jzon_tree.specs.Value.{Value, null, boolean, text, number, array, object, Values, no_values, value, Pairs}
 use Rattle.jzon_tree.specs.Value.{no_pairs, pair, list_of_pairs, Kind, short, long}
 
--- a mantissa of 64 bits and an exponent of 16
+-- a mantissa of 64 bits and an exponent of 16 bits
 abbrev pub InRange : Decimal → Type 0
 InRange nan = ⊤
 InRange (parts positive m e) = (m < 2 ^ 64) × FitsSigned w16 e
 
--- a short text has at most 30 bytes
+-- a short string has at most 30 bytes
 abbrev pub IsText : Kind → List ℕ → Type 0
 IsText short s = IsUtf8 s × (length s ≤ 30)
 IsText long s = IsUtf8 s
@@ -33,11 +33,11 @@ abbrev mutual
   ArePairs no_pairs = ⊤
   ArePairs (pair k v ps) = IsUtf8 k × IsValue v × ArePairs ps
 
--- a pair of such a key and such a value
+-- an entry of such a key and such a value
 abbrev pub IsPair : List ℕ × Value → Type 0
 IsPair e = IsUtf8 e.0 × IsValue e.1
 
--- a number and not NaN
+-- a number other than NaN
 abbrev pub IsNumber : Decimal → Type 0
 IsNumber nan = ⊥
 IsNumber (parts positive m e) = ⊤

@@ -1,4 +1,4 @@
--- What a value lends to be written (docs/RULES.md, "Readers" and "Changers").
+-- What a value lends for writing through `&mut` (docs/RULES.md, "Readers" and "Changers").
 use Rattle.std.specs.Prelude.{◌≡◌, ℕ, min, ◌-◌, List, [], ◌∷◌, ◌++◌, length, nat_lt, nat_eq, if◌then◌else◌, Option}
 use Rattle.std.specs.Prelude.{None, Some}
 use Rattle.std.specs.Global.{Vec}
@@ -14,7 +14,7 @@ abbrev object_at : JsonValue-F JsonValue Object → Option Object
 object_at (JsonValue-F.Object o) = Some o
 object_at _ = None
 
--- the object that a value is, or none
+-- the object in a value, if it is one
 abbrev pub object_in : JsonValue → Option Object
 object_in v = object_at (out-JsonValue v)
 
@@ -22,7 +22,7 @@ abbrev entries_at : JsonValue-F JsonValue Object → List (List ℕ × JsonValue
 entries_at (JsonValue-F.Object o) = entries_of o
 entries_at _ = []
 
--- the pairs of an object; no pair of another value
+-- the entries of an object; none of another value
 abbrev pub entries_in : JsonValue → List (List ℕ × JsonValue)
 entries_in v = entries_at (out-JsonValue v)
 
@@ -30,34 +30,34 @@ abbrev items_at : JsonValue-F JsonValue Object → Option (List JsonValue)
 items_at (JsonValue-F.Array vs) = Some vs.items
 items_at _ = None
 
--- the items of an array, or none of another value
+-- the elements of an array, if the value is one
 abbrev pub items_in : JsonValue → Option (List JsonValue)
 items_in v = items_at (out-JsonValue v)
 
--- the same of a value as it is seen
+-- the same for a `Value`
 abbrev pub items_of : Value → Option (List Value)
 items_of (array vs) = Some (list_of_values vs)
 items_of _ = None
 
--- the items once there is a place for index i: the same where i is in range, and one null more past the end; one null
--- at 0 and else two, of what has no items
+-- The elements of which index i lends one: the same if i is in range, else one null more; of a value that isn't an
+-- array, one null for i = 0 and two for any other i.
 abbrev pub with_place : {V : Type 0} → V → Option (List V) → ℕ → List V
 with_place null (Some xs) i = if nat_lt i (length xs) then xs else xs ++ null ∷ []
 with_place null None i = if nat_eq i 0 then null ∷ [] else null ∷ null ∷ []
 
--- that place: the index in range, and the last one else
+-- the position that is lent: i if it is in range, else the last
 abbrev pub place_in : {V : Type 0} → V → Option (List V) → ℕ → ℕ
 place_in null xs i = min i (length (with_place null xs i) - 1)
 
--- what `at_index_mut` makes of a value's items
+-- the elements after `at_index_mut`
 abbrev pub items_with_place : JsonValue → ℕ → List JsonValue
 items_with_place v i = with_place Null (items_in v) i
 
--- which of them it lends
+-- the position that it lends
 abbrev pub place_made : JsonValue → ℕ → ℕ
 place_made v i = place_in Null (items_in v) i
 
--- ---- what is put into an object or an array is what it has
+-- -- an object or array value has what it was built from
 
 pub entries_in-object : (ps : List (List ℕ × JsonValue)) → entries_in (object_value (with_entries ps)) ≡ ps
 entries_in-object ps = search (rules, the_lemmas)

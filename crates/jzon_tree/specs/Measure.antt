@@ -1,4 +1,4 @@
--- Sizes of values, for the measure of a function that calls itself on what is inside one.
+-- Sizes of values, as the measure of functions that recurse into a value.
 use Rattle.std.specs.Prelude.{ℕ, List}
 use denote.Param.Weighed.{most}
 use Rattle.jzon_base.specs.PairList.{values_of}
@@ -8,7 +8,7 @@ use Rattle.jzon_tree.specs.declared.value.JsonValue.{JsonValue, size-JsonValue}
 abbrev pub size : JsonValue → ℕ
 size v = size-JsonValue v
 
--- the size of the largest of these values, and of the values of these pairs
+-- the size of the largest of these values, and of the values of these entries
 abbrev pub largest : List JsonValue → ℕ
 largest vs = most size-JsonValue vs
 

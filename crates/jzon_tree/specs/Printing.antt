@@ -1,4 +1,4 @@
--- The parts of a writing, as the functions that write values add them.
+-- The parts of a written value, as the functions that write values add them.
 use Rattle.std.specs.Prelude.{◌≡◌, ℕ, ◌<◌, Bool, true, false, IsTrue, List, [], ◌∷◌, ◌++◌, length, map, MatchResult}
 use Rattle.std.specs.Prelude.{Result, slice_index_or}
 use Rattle.jzon_tree.specs.Displayed.{comma_text}
@@ -7,26 +7,26 @@ use Rattle.jzon_tree.specs.Text.{quoted}
 use Rattle.jzon_tree.specs.Value.{Value, null, values_of}
 use Rattle.jzon_tree.specs.Writing.{Style, IsAllowedWhitespace, Writes, WritesEach, text_at, colon_text}
 
--- a comma, unless it is the first item, and whitespace
+-- a comma, but none before the first element or entry, and whitespace
 abbrev pub IsBetween : Style → ℕ → Bool → List ℕ → Type 0
 IsBetween s dent comma b = (w : List ℕ) × IsAllowedWhitespace s dent w
     × (b ≡ comma_text comma ++ w)
 
--- whitespace and the bracket
+-- whitespace and the closing bracket
 abbrev pub IsClosing : Style → ℕ → ℕ → List ℕ → Type 0
 IsClosing s dent bracket b = (w : List ℕ) × IsAllowedWhitespace s dent w × (b ≡ w ++ bracket ∷ [])
 
--- these texts in turn, each after whitespace, and a comma before each but the first
+-- these texts in order, each after whitespace, and a comma before each but the first
 abbrev pub Items : Style → ℕ → Bool → List (List ℕ) → List ℕ → Type 0
 Items s dent comma [] b = b ≡ []
 Items s dent comma (t ∷ ts) b = (w rest : List ℕ) × IsBetween s dent comma w × Items s dent true ts rest
     × (b ≡ w ++ (t ++ rest))
 
--- the values in turn, without the brackets
+-- the values in order, without the brackets
 abbrev pub AreItems : Style → ℕ → List Value → List ℕ → Type 0
 AreItems s dent vs b = (ts : List (List ℕ)) × WritesEach s dent (values_of vs) ts × Items s dent false ts b
 
--- a pair: its key, a colon and its value
+-- an entry: its key, a colon and its value
 abbrev pub IsEntry : Style → ℕ → List ℕ × Value → List ℕ → Type 0
 IsEntry s dent e t = (wide : Bool) × (x : List ℕ) × IsTrue (s.colon wide) × Writes s dent e.1 x
     × (t ≡ quoted e.0 ++ (colon_text wide ++ x))
@@ -34,13 +34,13 @@ IsEntry s dent e t = (wide : Bool) × (x : List ℕ) × IsTrue (s.colon wide) ×
 abbrev pub pair_at : List (List ℕ × Value) → ℕ → List ℕ × Value
 pair_at es p = slice_index_or es p ([], null)
 
--- the pairs at these positions in turn, without the brackets
+-- the entries at these positions, in order, without the brackets
 abbrev pub AreMembers : Style → ℕ → List (List ℕ × Value) → List ℕ → List ℕ → Type 0
 AreMembers s dent es ps b =
     (ts : List (List ℕ)) × (length ts ≡ length es) × ((k : ℕ) → k < length ps
     → IsEntry s dent (pair_at es (slice_index_or ps k 0)) (text_at ts (slice_index_or ps k 0)))
     × Items s dent false (map (text_at ts) ps) b
 
--- what writing a value does, where the beginning is promised of such values alone
+-- the effect of writing a value, where at `Err` the prefix is promised only if K holds
 abbrev pub PrintsIf : {E : Type 0} → Type 0 → (List ℕ → Type 0) → Emitted → Emitted → Result (Unit {0}) E → Type 0
 PrintsIf K P old new r = MatchResult r (λ _. Added P old new) (λ _. K → Stopped P old new)

@@ -1,4 +1,4 @@
--- What each reader sees in a value (docs/RULES.md, "Readers").
+-- What each reader returns for a value (docs/RULES.md, "Readers").
 use Rattle.std.specs.Prelude.{ℕ, ℤ, List, [], length, Bool, true, false, not, ◌||◌, ◌==◌, Option, None, Some}
 use Rattle.std.specs.Prelude.{option_and_then}
 use Rattle.jzon_base.specs.Decimal.{Decimal, is_zero, is_nan, integer_of, unsigned_of, fixed_point}
@@ -19,7 +19,7 @@ abbrev pub is_number : Value → Bool
 is_number (number n) = true
 is_number _ = false
 
--- a text of either kind
+-- a string, inline or allocated
 abbrev pub is_text : Value → Bool
 is_text (text k s) = true
 is_text _ = false
@@ -32,7 +32,7 @@ abbrev pub is_array : Value → Bool
 is_array (array vs) = true
 is_array _ = false
 
--- ---- what stands in it
+-- -- its content
 
 abbrev pub truth_in : Value → Option Bool
 truth_in (boolean b) = Some b
@@ -46,23 +46,23 @@ number_in _ = None
 abbrev pub integer_in : Value → Option ℤ
 integer_in v = option_and_then integer_of (number_in v)
 
--- the same, where its sign is positive too
+-- the same, if its sign is positive
 abbrev pub unsigned_in : Value → Option ℕ
 unsigned_in v = option_and_then unsigned_of (number_in v)
 
--- the number with its point moved right by so many digits, cut to an integer
+-- the number with its point moved right by `point` digits, truncated to an integer
 abbrev pub fixed_point_in : Value → ℕ → Option ℤ
 fixed_point_in v point = option_and_then (λ n. fixed_point n point) (number_in v)
 
--- the same, where its sign is positive
+-- the same, if its sign is positive
 abbrev pub unsigned_fixed_point_in : Value → ℕ → Option ℕ
 unsigned_fixed_point_in v point = option_and_then (λ n. unsigned_fixed_point n point) (number_in v)
 
--- the number with its point moved, where no digit is lost
+-- the number with its point moved right by `point` digits, if that is an integer
 abbrev pub exact_fixed_point_in : Value → ℕ → Option ℤ
 exact_fixed_point_in v point = option_and_then (λ n. exact_fixed_point n point) (number_in v)
 
--- the same, where its sign is positive
+-- the same, if its sign is positive
 abbrev pub exact_unsigned_fixed_point_in : Value → ℕ → Option ℕ
 exact_unsigned_fixed_point_in v point = option_and_then (λ n. exact_unsigned_fixed_point n point) (number_in v)
 
@@ -70,33 +70,33 @@ abbrev pub text_in : Value → Option (List ℕ)
 text_in (text k s) = Some s
 text_in _ = None
 
--- the value, where it is an object
+-- the value, if it is an object
 abbrev pub object_of : Value → Option Value
 object_of (object ps) = Some (object ps)
 object_of _ = None
 
--- the value, where it is an array
+-- the value, if it is an array
 abbrev pub array_of : Value → Option Value
 array_of (array vs) = Some (array vs)
 array_of _ = None
 
--- the items of an array in their order, and none of another value
+-- the elements of an array in their order; none of another value
 abbrev pub items : Value → List Value
 items (array vs) = list_of_values vs
 items _ = []
 
--- the pairs of an object in their order, and none of another value
+-- the entries of an object in their order; none of another value
 abbrev pub entries : Value → List (List ℕ × Value)
 entries (object ps) = list_of_pairs ps
 entries _ = []
 
--- how many pairs or items there are
+-- the number of members or elements
 abbrev pub count : Value → ℕ
 count (object ps) = length (list_of_pairs ps)
 count (array vs) = length (list_of_values vs)
 count _ = 0
 
--- null, false, a zero, NaN, a text of no character, a container of nothing
+-- null, false, a zero, NaN, an empty string or an empty container
 abbrev pub is_empty : Value → Bool
 is_empty null = true
 is_empty (boolean b) = not b
@@ -105,7 +105,7 @@ is_empty (text k s) = length s == 0
 is_empty (object ps) = length (list_of_pairs ps) == 0
 is_empty (array vs) = length (list_of_values vs) == 0
 
--- what is missing reads as null
+-- a missing value reads as null
 abbrev pub or_null : Option Value → Value
 or_null None = null
 or_null (Some v) = v

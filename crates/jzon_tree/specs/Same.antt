@@ -1,5 +1,5 @@
--- Equality of values (docs/RULES.md, "Equality"): the order of an object's keys doesn't count (RFC 8259, section 4),
--- nor how a text is kept, nor how a decimal is written.
+-- Equality of values (docs/RULES.md, "Equality"): the order of an object's members doesn't matter (RFC 8259, section
+-- 4), nor does how a string is stored or how a decimal is written.
 use Rattle.std.specs.Prelude.{ℕ, Bool, true, false, ◌&&◌, ◌||◌, List, [], ◌∷◌, Option, None, Some, is_some}
 use Rattle.std.specs.Bool.{beq}
 use Rattle.std.specs.Str.{bytes_eq}
@@ -33,14 +33,13 @@ abbrev mutual
   same (object ps) (object qs) = same_under [] ps qs && has_keys_within qs ps
   same _ _ = false
 
-  -- item by item
+  -- element by element
   pub same_items : Values → Values → Bool
   same_items no_values no_values = true
   same_items (value v vs) (value w ws) = same v w && same_items vs ws
   same_items _ _ = false
 
-  -- Each key has in qs the value that it has in ps, its first one where a key is repeated; `seen` are the keys that
-  -- came earlier.
+  -- Each key of ps has the same value in qs; of a repeated key the first value counts. `seen` are the keys before.
   pub same_under : List (List ℕ) → Pairs → Pairs → Bool
   same_under seen no_pairs qs = true
   same_under seen (pair k v ps) qs = (is_known seen k || passes (same v) (find k (list_of_pairs qs))) && same_under

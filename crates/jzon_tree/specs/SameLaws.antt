@@ -1,4 +1,4 @@
--- `same` is an equivalence. (These are proofs; they stand here since the laws of `PartialEq` and `Eq` cite them.)
+-- `same` is an equivalence. (These are proofs; they are here because the laws of `PartialEq` and `Eq` cite them.)
 use Rattle.std.specs.Prelude.{◌≡◌, ℕ, Bool, true, false, ◌||◌, cond, List, [], ◌∷◌, Option, None, Some, is_some, refl}
 use Rattle.std.specs.Cmp.{IsEquivalence, bool_eq_equiv, booleans_Decides, both_ways}
 use Rattle.std.specs.Str.{bytes_eq}
@@ -12,13 +12,13 @@ use Rattle.jzon_tree.specs.Value.{Value, null, boolean, text, number, array, obj
 use Rattle.jzon_tree.specs.Value.{no_pairs, pair, list_of_pairs}
 use Rattle.jzon_tree.specs.Same.{same, same_items, same_under, has_keys_within, is_known, passes}
 
--- ---- what a look-up finds
+-- -- what a lookup finds
 
 -- the value at a key
 abbrev pub at : List ℕ → Pairs → Option Value
 at k ps = find k (list_of_pairs ps)
 
--- of each value of the pairs
+-- P holds of the value of each entry
 abbrev Each : (Value → Type 0) → Pairs → Type 0
 Each P no_pairs = Unit {0}
 Each P (pair k v ps) = P v × Each P ps
@@ -32,7 +32,7 @@ each_found : (P : Value → Type 0) (ps : Pairs) (k : List ℕ) (v : Value) → 
 each_found P no_pairs k v each e = absurd (none-some v e)
 each_found P (pair l w ps) k v each e = each_cond P (bytes_eq l k) v w (at k ps) each.0 (each_found P ps k v each.1) e
 
--- a look-up at the head, where it is the key, and where it is not
+-- a lookup at the head, for its key and for another one
 module _ {V : Type 0} where
   pub find-head : (k : List ℕ) (v : V) (ps : List (List ℕ × V)) → find k ((k, v) ∷ ps) ≡ Some v
   find-head k v ps = rw ((bytes_eq-Decides k k).1 refl) refl
@@ -41,7 +41,7 @@ module _ {V : Type 0} where
       → find k ((l, w) ∷ ps) ≡ find k ps
   find-past l k w ps e = rw e refl
 
--- ---- `has_keys_within`, by look-ups
+-- -- `has_keys_within`, by lookups
 abbrev KeysWithin : Pairs → Pairs → Type 0
 KeysWithin ps qs = (k : List ℕ) (v : Value) → at k ps ≡ Some v → is_some (at k qs) ≡ true
 
@@ -69,7 +69,7 @@ within-intro (pair l w ps) qs h =
     and_from _ _ (h l w (find-head l w (list_of_pairs ps))) (within-intro ps qs
     (λ k v e. within-intro-tail l w ps qs h k v (bytes_eq l k) refl e))
 
--- ---- `same_under`, by look-ups: what came earlier is not asked again
+-- -- `same_under`, by lookups: keys that are in `seen` aren't compared again
 abbrev Agrees : List (List ℕ) → Pairs → Pairs → Type 0
 Agrees seen ps qs = (k : List ℕ) (v : Value) → at k ps ≡ Some v → is_known seen k ≡ false
     → passes (same v) (at k qs) ≡ true
@@ -107,7 +107,7 @@ under-intro seen (pair l w ps) qs h =
     let apart = or_parts (bytes_eq l k) (is_known seen k) unseen in
     h k v (find-past l k w (list_of_pairs ps) apart.0 ∙ e) apart.1))
 
--- ---- equal objects, by look-ups: at each key both have equal values, or neither has one
+-- -- equal objects, by lookups: at each key both have equal values, or neither has one
 abbrev pub same_at : Option Value → Option Value → Bool
 same_at None None = true
 same_at None (Some w) = false

@@ -1,4 +1,4 @@
--- The style of sorted keys allows an order of each list of keys. (These are proofs; they stand here since the laws of
+-- The style of sorted keys allows an order of any list of keys. (These are proofs; they are here because the laws of
 -- generators cite them.)
 use Rattle.std.specs.Prelude.{◌≡◌, ℕ, suc, ◌+◌, ◌==◌, Bool, true, false, not, if◌then◌else◌, List}
 use Rattle.std.specs.Prelude.{[], ◌∷◌, length, map, count_by, cond, refl}
@@ -12,13 +12,13 @@ use Rattle.jzon_tree.specs.SortedStyle.{is_before, ascend, sorted_style}
 use Rattle.jzon_tree.specs.StyleLaws.{IsOrder-insertion, IsStyle-compact}
 use Rattle.jzon_tree.specs.Writing.{IsStyle, text_at}
 
--- of two texts, one at most stands before the other
+-- of two texts, at most one is before the other
 pub is_before-one_way : (j k : List ℕ) → is_before j k ≡ true → is_before k j ≡ false
 is_before-one_way j k h = (ranks_by nat_list_cmp_total (λ (t : List ℕ). t)).one_way j k h
 
--- ---- texts that ascend, cut at the first
+-- -- ascending texts, split at the first
 
--- the first of these texts doesn't stand before j
+-- the first of these texts isn't before j
 abbrev follows : List ℕ → List (List ℕ) → Bool
 follows j [] = true
 follows j (k ∷ ks) = not (is_before k j)
@@ -36,7 +36,7 @@ module _ (keys : List (List ℕ)) where
   abbrev put_if : Bool → ℕ → ℕ → List ℕ → List ℕ → List ℕ
   put_if further p q more qs = if further then q ∷ more else p ∷ q ∷ qs
 
-  -- the position before the first whose key its own doesn't follow
+  -- inserts p before the first position whose key isn't less
   abbrev put : ℕ → List ℕ → List ℕ
   put p [] = p ∷ []
   put p (q ∷ qs) = put_if (is_before (text_at keys q) (text_at keys p)) p q (put p qs) qs
@@ -51,7 +51,7 @@ module _ (keys : List (List ℕ)) where
   times-cons : (i p : ℕ) (ps : List ℕ) → times i (p ∷ ps) ≡ cond (p == i) 1 0 + times i ps
   times-cons i p ps = sum_by-cons (λ j. cond (j == i) 1 0) p ps
 
-  -- what is put is there once more
+  -- inserting p adds one occurrence of p
   times-put_if : (b : Bool) (i p q : ℕ) (more qs : List ℕ) → times i more ≡ cond (p == i) 1 0 + times i qs
       → times i (put_if b p q more qs) ≡ cond (p == i) 1 0 + times i (q ∷ qs)
   times-put_if true i p q more qs h = omega (arith, times-cons i q more, times-cons i q qs, h)

@@ -1,4 +1,4 @@
--- Each style of a generator allows something. (These are proofs; they stand here since the generators' laws cite them.)
+-- Each style of a generator allows something. (These are proofs; they are here because the generators' laws cite them.)
 use Rattle.std.specs.Prelude.{◌≡◌, ℕ, zero, suc, ◌+◌, ◌*◌, ◌<◌, ◌==◌, Bool, true, false, List, [], length}
 use Rattle.std.specs.Prelude.{replicate, count_by, cond, refl}
 use Rattle.std.specs.Cmp.Lexicographic.{nat_list_eq_equiv}
@@ -20,9 +20,9 @@ same_form-refl : (b : Bool) → same_form b b ≡ true
 same_form-refl true = refl
 same_form-refl false = refl
 
--- ---- each position stands once in the order of insertion
+-- -- the order of insertion has each position once
 
--- how often i stands in the n numbers from a on
+-- how often i occurs in a, a + 1, ..., a + n - 1
 abbrev count : ℕ → ℕ → ℕ → ℕ
 count i a n = count_by (λ j. j == i) (range_with_len a n)
 

@@ -9,7 +9,7 @@ abbrev pub same_form : Bool → Bool → Bool
 same_form true b = b
 same_form false b = not b
 
--- one whitespace at each count of indents, one form of the colon, and the order of insertion, alone
+-- exactly one whitespace for each number of open indents, one form of the colon, and the order of insertion
 abbrev pub only : (ℕ → List ℕ) → Bool → Style
 only line wide = record {
   whitespace = λ dent w. bytes_eq w (line dent);
@@ -25,7 +25,7 @@ compact_style = only compact_layout.line false
 abbrev pub pretty_style : ℕ → Style
 pretty_style spaces = only (pretty_layout spaces).line true
 
--- A style allows no whitespace and a colon alone, or a newline and `spaces` spaces for each open indent and a space
+-- The style allows no whitespace and a bare colon, or a newline and `spaces` spaces for each open indent and a space
 -- after each colon.
 abbrev pub LaysOut : Style → Option ℕ → Type 0
 LaysOut s None = ((dent : ℕ) → IsTrue (s.whitespace dent [])) × IsTrue (s.colon false)

@@ -8,8 +8,8 @@ use Rattle.jzon_base.specs.Tokens.{value_separator}
 use Rattle.jzon_tree.specs.Value.{Value, null, boolean, text, number, array, object, Values, no_values, value, Pairs}
 use Rattle.jzon_tree.specs.Value.{no_pairs, pair}
 
--- what stands in a string for the byte c: a short escape where there is one, `\u00` and two lower-case digits for the
--- other bytes below 32, else the byte
+-- The escaped form of byte c in a string: a short escape if there is one, `\u00` and two lower-case digits for the
+-- other bytes below 32, else the byte itself.
 abbrev pub escaped_byte : ℕ → List ℕ
 escaped_byte c =
     if c == quotation_mark || c == escape then escape ∷ c ∷ []
@@ -30,14 +30,14 @@ quoted s = quotation_mark ∷ (escaped s ++ quotation_mark ∷ [])
 abbrev pub boolean_text : Bool → List ℕ
 boolean_text b = if b then codes "true" else codes "false"
 
--- what stands before each item, each key and each closing bracket of a non-empty container, by the count of open
--- containers, and between a key and its value
+-- What precedes each element, each key and each closing bracket of a non-empty container, by the number of open
+-- containers, and what separates a key from its value.
 pub record Layout : Type 0 where
   pub line : ℕ → List ℕ
   pub colon : List ℕ
 
 abbrev mutual
-  -- the value's text inside `depth` open containers
+  -- the text of a value inside `depth` open containers
   pub layout_text : Layout → ℕ → Value → List ℕ
   layout_text l depth null = codes "null"
   layout_text l depth (boolean b) = boolean_text b
@@ -52,7 +52,7 @@ abbrev mutual
       begin_object ∷ (l.line (suc depth) ++ quoted k ++ l.colon ++ layout_text l (suc depth) v
       ++ more_pairs_text l depth ps)
 
-  -- the other items, and the closing bracket
+  -- the remaining elements and the closing bracket
   pub more_values_text : Layout → ℕ → Values → List ℕ
   more_values_text l depth no_values = l.line depth ++ end_array ∷ []
   more_values_text l depth (value v vs) = value_separator
@@ -65,7 +65,7 @@ abbrev mutual
       value_separator ∷ (l.line (suc depth) ++ quoted k ++ l.colon ++ layout_text l (suc depth) v
       ++ more_pairs_text l depth ps)
 
--- no whitespace at all
+-- no whitespace
 abbrev pub compact_layout : Layout
 compact_layout = record { line = λ depth. []; colon = codes ":" }
 

@@ -1,13 +1,13 @@
--- JSON values (RFC 8259, sections 3 to 7). A text and a key are their bytes in UTF-8.
+-- JSON values (RFC 8259, sections 3 to 7). A string and a key are their bytes in UTF-8.
 use Rattle.std.specs.Prelude.{ℕ, suc, max, List, [], ◌∷◌, length, nat_le, Bool, if◌then◌else◌}
 use Rattle.jzon_base.specs.Decimal.{Decimal}
 
--- how a text is kept: in place, or in memory of its own; no other rule sees the difference
+-- how a string is stored: inline or allocated; no other rule depends on it
 pub data Kind : Type 0 where
   short : Kind
   long : Kind
 
--- A list of values, or pairs of a key and a value in their order. A program's objects have distinct keys.
+-- A list of values, or of keys and values in their order. A program's objects have distinct keys.
 mutual
   pub data Value : Type 0 where
     null : Value
@@ -25,11 +25,11 @@ mutual
     no_pairs : Pairs
     pair : List ℕ → Value → Pairs → Pairs
 
--- the kind of a text that is read: short up to 30 bytes
+-- the kind of a string read from a text: short up to 30 bytes
 abbrev pub kind_of : List ℕ → Kind
 kind_of bytes = if nat_le (length bytes) 30 then short else long
 
--- ---- the same lists, as lists
+-- -- conversions to and from lists
 
 abbrev pub values_of : List Value → Values
 values_of [] = no_values
@@ -47,7 +47,7 @@ abbrev pub list_of_pairs : Pairs → List (List ℕ × Value)
 list_of_pairs no_pairs = []
 list_of_pairs (pair k v ps) = (k, v) ∷ list_of_pairs ps
 
--- ---- how deep non-empty containers nest
+-- -- the nesting depth of non-empty containers
 
 abbrev mutual
   pub nest : Value → ℕ

@@ -7,7 +7,7 @@ use Rattle.jzon_tree.specs.declared.object.Object.{Object}
 use Rattle.jzon_tree.specs.declared.value.JsonValue.{JsonValue, fold-JsonValue}
 use Rattle.jzon_tree.specs.declared.value.JsonValue.TheOpen.{JsonValue-F, Object-F}
 
--- one level, with each value inside already seen
+-- one level, given the views of the values inside
 abbrev pub value_step : JsonValue-F Value Pairs → Value
 value_step JsonValue-F.Null = null
 value_step (JsonValue-F.Short s) = text short s
@@ -23,7 +23,7 @@ object_step o = pairs_of o.pairs
 abbrev pub view : JsonValue → Value
 view = fold-JsonValue Value Pairs value_step object_step
 
--- values and pairs, each seen so
+-- the views of values and of entries
 abbrev pub view_values : List JsonValue → Values
 view_values vs = values_of (map view vs)
 

@@ -1,5 +1,5 @@
--- What a generator may write for a value, in its style: the compact text but for its whitespace, the space after a
--- colon and the order of an object's pairs.
+-- What a generator may write for a value, in its style: the compact text up to whitespace, the space after a colon and
+-- the order of an object's members.
 use Rattle.std.specs.Prelude.{◌≡◌, ℕ, suc, ◌<◌, List, [], ◌∷◌, ◌++◌, length, map, Bool, true, false, not, ◌&&◌}
 use Rattle.std.specs.Prelude.{◌||◌, ◌==◌, IsTrue, ⊤, codes, count_by, if◌then◌else◌, ◌≢◌, AllPairs, slice_index_or}
 use Rattle.std.specs.List.{list_all}
@@ -18,8 +18,8 @@ is_whitespace strict c = (c == 9 || c == 10 || c == 13 || c == 32) || (not stric
 abbrev pub is_all_whitespace : Bool → List ℕ → Bool
 is_all_whitespace strict = list_all (is_whitespace strict)
 
--- What is allowed: this whitespace where so many containers are open, a colon with a space after it (true) or without
--- (false), these positions as the order of these keys.
+-- What is allowed: this whitespace inside `n` open containers, a colon with a space after it (true) or without (false),
+-- these positions as the order of these keys.
 pub record Style : Type 0 where
   pub whitespace : ℕ → List ℕ → Bool
   pub colon : Bool → Bool
@@ -28,16 +28,16 @@ pub record Style : Type 0 where
 abbrev pub colon_text : Bool → List ℕ
 colon_text wide = if wide then codes ": " else codes ":"
 
--- it is whitespace of the widest reading, and allowed
+-- it is whitespace in the widest sense, and the style allows it
 abbrev pub IsAllowedWhitespace : Style → ℕ → List ℕ → Type 0
 IsAllowedWhitespace s dent w = IsTrue (is_all_whitespace false w) × IsTrue (s.whitespace dent w)
 
--- the positions below n, each once
+-- the positions below n, each exactly once
 pub record IsOrder (n : ℕ) (positions : List ℕ) : Type 0 where
   pub as_many : length positions ≡ n
   pub once : (i : ℕ) → i < n → count_by (λ j. j == i) positions ≡ 1
 
--- the text at place i, and the empty one past the end
+-- the text at position i, and the empty one past the end
 abbrev pub text_at : List (List ℕ) → ℕ → List ℕ
 text_at ts i = slice_index_or ts i []
 
@@ -55,7 +55,7 @@ Encloses s dent opening ts closing b =
     × (b ≡ opening ∷ (inside ++ (w ++ closing ∷ [])))
 
 abbrev mutual
-  -- b is a writing of the value where `dent` containers are open
+  -- b is a text of the value inside `dent` open containers
   pub Writes : Style → ℕ → Value → List ℕ → Type 0
   Writes s dent null b = b ≡ codes "null"
   Writes s dent (boolean t) b = b ≡ boolean_text t
@@ -70,13 +70,13 @@ abbrev mutual
       × IsOrder (length ts) positions × IsTrue (s.order (keys_of (list_of_pairs (pair k v ps))) positions)
       × Encloses s dent begin_object (map (text_at ts) positions) end_object b
 
-  -- these texts are writings of the values
+  -- these texts are texts of the values
   pub WritesEach : Style → ℕ → Values → List (List ℕ) → Type 0
   WritesEach s dent no_values [] = ⊤
   WritesEach s dent (value v vs) (t ∷ ts) = Writes s dent v t × WritesEach s dent vs ts
   WritesEach s dent _ _ = ⊥
 
-  -- these texts are writings of the pairs: a key, a colon and a value each
+  -- these texts are texts of the entries: a key, a colon and a value each
   pub WritesPairs : Style → ℕ → Pairs → List (List ℕ) → Type 0
   WritesPairs s dent no_pairs [] = ⊤
   WritesPairs s dent (pair k v ps) (t ∷ ts) =
@@ -84,11 +84,12 @@ abbrev mutual
       × (t ≡ quoted k ++ (colon_text wide ++ x))) × WritesPairs s dent ps ts
   WritesPairs s dent _ _ = ⊥
 
--- the loosest style: all that may be written
+-- the loosest style: it allows everything
 abbrev pub any_style : Style
 any_style = record { whitespace = λ dent w. true; colon = λ wide. true; order = λ ks positions. true }
 
--- A style allows some whitespace at each count, one form of the colon, and one order of each list of distinct keys.
+-- A style allows some whitespace for each number of open containers, some form of the colon, and some order of each
+-- list of distinct keys.
 pub record IsStyle (s : Style) : Type 0 where
   pub whitespace : (dent : ℕ) → (w : List ℕ) × IsAllowedWhitespace s dent w
   pub colon : (wide : Bool) × IsTrue (s.colon wide)

@@ -1,4 +1,4 @@
--- What the program does for its words (docs/RULES.md, "The program jzonfmt").
+-- What the program does for its arguments (docs/RULES.md, "The program jzonfmt").
 use Rattle.std.specs.Prelude.{◌≡◌, ℕ, ◌^◌, Bool, true, false, List, [], ◌∷◌, length, nat_le, nat_lt, ◌&&◌}
 use Rattle.std.specs.Prelude.{if◌then◌else◌, Result, Ok, Err, Option, None, Some, option_map, codes, MatchOption}
 use Rattle.std.specs.Char.{is_digit}
@@ -15,7 +15,7 @@ use Rattle.jzonfmt.specs.declared.engine.RunFault.{RunFault}
 use Rattle.jzonfmt.specs.declared.engine.RunFault.TheVariants.{Read, NotUtf8, Json, Write, Memory}
 use Rattle.jzonfmt.specs.Run.{Streams, Runs}
 
--- what is told of a fault
+-- the message for a fault
 abbrev pub fault_text : RunFault → List ℕ
 fault_text (Read e) = codes "reading failed"
 fault_text NotUtf8 = codes "input is not UTF-8"
@@ -23,7 +23,7 @@ fault_text (Json e) = error_text e
 fault_text (Write e) = codes "writing failed"
 fault_text Memory = codes "Out of memory"
 
--- the status after a fault: 1 for a refused input, 3 for what failed round the program
+-- the exit status after a fault: 1 for invalid input, 3 for an I/O error or a failed allocation
 abbrev pub fault_status : RunFault → ℕ
 fault_status NotUtf8 = 1
 fault_status (Json e) = 1
@@ -33,14 +33,14 @@ abbrev pub status_of : {T : Type 0} → Result T RunFault → ℕ
 status_of (Ok _) = 0
 status_of (Err fault) = fault_status fault
 
--- so many spaces as a word of one to five decimal digits names, of which there are at most 65535
+-- the number of spaces that an argument of one to five decimal digits names, at most 65535
 abbrev pub asked_spaces : List ℕ → Option ℕ
 asked_spaces n =
     if nat_lt 0 (length n) && nat_le (length n) 5 && list_all (λ c. is_digit c 10) n
     && nat_lt (digits_value 10 n) (2 ^ 16) then Some (digits_value 10 n) else None
 
--- the layout that the words ask for, where they ask for one: no word asks for the compact one, and `--pretty N` for the
--- pretty one with N spaces
+-- The layout that the arguments name, if they name one: none for the compact layout, and `--pretty N` for the pretty
+-- one with N spaces.
 abbrev pub asked_layout : List (List ℕ) → Option Layout
 asked_layout [] = Some Compact
 asked_layout (option ∷ spaces ∷ []) =
@@ -53,22 +53,21 @@ reading_of strict = record usual { strict = strict }
 abbrev pub asking : Bool → Layout → Options
 asking strict layout = record { reading = reading_of strict; layout = layout }
 
--- `--strict` behind the words of a layout; or those words alone
+-- a layout's arguments followed by `--strict`, or without it
 abbrev pub asked_behind : List (List ℕ) → Option Options
 asked_behind (a ∷ b ∷ option ∷ []) =
     if bytes_eq option (codes "--strict") then option_map (asking true) (asked_layout (a ∷ b ∷ [])) else None
 asked_behind words = option_map (asking false) (asked_layout words)
 
--- What the words ask for: a layout; with `--strict` before its words or behind them by a strict reading, else by that
--- of `parse`.
+-- What the arguments ask for: a layout; with `--strict` before or after it a strict reading, else that of `parse`.
 abbrev pub asked_options : List (List ℕ) → Option Options
 asked_options (option ∷ words) =
     if bytes_eq option (codes "--strict") then option_map (asking true) (asked_layout words)
     else asked_behind (option ∷ words)
 asked_options [] = asked_behind []
 
--- Words that ask for nothing that the program does are answered by 2, with nothing read or written; the others by a run
--- and its status.
+-- For arguments that aren't valid the status is 2, and nothing is read or written; for others the program runs and
+-- returns the status of the run.
 abbrev pub Drives : List (List ℕ) → ℕ → Streams → Streams → Type 0
 Drives words status before after =
     MatchOption (asked_options words)

@@ -15,20 +15,20 @@ use Rattle.jzonfmt.specs.declared.engine.Layout.TheVariants.{Compact, Pretty}
 use Rattle.jzonfmt.specs.declared.engine.RunFault.{RunFault}
 use Rattle.jzonfmt.specs.declared.engine.RunFault.TheVariants.{Read, NotUtf8, Json, Write, Memory}
 
--- the fault that a refusal is
+-- the fault for an error of the library
 abbrev pub fault_of : Error → RunFault
 fault_of OutOfMemory = Memory
 fault_of e = Json e
 
 -- ---- what is read
 
--- these bytes are read: all that the reader has, but where it fails or memory is refused
+-- these bytes are read: all of the reader's, unless it fails or an allocation fails
 abbrev pub Reads : {T : Type 0} → Result T RunFault → Option (List ℕ) → Option (List ℕ) → List ℕ → Type 0
 Reads (Err (Read e)) old new input = Consumes old new input
 Reads (Err Memory) old new input = Consumes old new input
 Reads _ old new input = Consumes old new input × IsAtEnd new
 
--- the reader failed, or memory was refused
+-- the reader failed, or an allocation did
 abbrev pub IsReadFault : RunFault → Type 0
 IsReadFault (Read e) = ⊤
 IsReadFault Memory = ⊤
@@ -36,7 +36,7 @@ IsReadFault _ = ⊥
 
 -- ---- what is printed
 
--- the bytes are the text of the document, by this reading
+-- the bytes are the text of the tree, in this reading
 abbrev pub IsTextOf : Reading → List ℕ → Document → Type 0
 IsTextOf reading input d = IsUtf8 input × Parses reading (chars input) d
 
@@ -49,14 +49,14 @@ text (Pretty spaces) v = pretty v spaces 0
 abbrev pub line : Layout → Value → List ℕ
 line layout v = text layout v ++ 10 ∷ []
 
--- that of its meaning
+-- the line printed for a tree: that of the value it means
 abbrev pub printed : Layout → Document → List ℕ
 printed layout d = line layout (meaning d.node)
 
--- ---- what is answered
+-- -- the result
 
--- The answer to the bytes, and what the writer holds before and after it. A fault leaves nothing written, but for one
--- of the writer, which leaves a beginning of what was to be printed.
+-- The result for the input, and what the writer holds before and after. After a fault nothing is written, except after
+-- a fault of the writer: then a prefix of what was to be printed is.
 abbrev pub Answers : {T : Type 0} → Reading → Layout → List ℕ → Result T RunFault → Option (List ℕ) → Option (List ℕ)
     → Type 0
 Answers reading layout input (Ok _) old new = (d : Document) × IsTextOf reading input d
@@ -67,12 +67,12 @@ Answers reading layout input (Err NotUtf8) old new = (¬ (IsUtf8 input)) × Keep
 Answers reading layout input (Err (Json e)) old new = (IsUtf8 input × IsErrorOf reading (chars input) e) × Keeps old new
 Answers reading layout input (Err _) old new = Keeps old new
 
--- what the reader still has and what the writer holds, where they tell it
+-- what is left in the reader and what the writer holds, if they report it
 pub record Streams : Type 0 where
   pub unread : Option (List ℕ)
   pub written : Option (List ℕ)
 
--- some bytes are read and answered
+-- some bytes are read, and the result is the one for them
 abbrev pub Runs : {T : Type 0} → Reading → Layout → Result T RunFault → Streams → Streams → Type 0
 Runs reading layout result before after =
     (input : List ℕ) × Reads result before.unread after.unread input

@@ -1,4 +1,4 @@
--- `Pairs` as a type that may hold the type that holds it, by its values.
+-- `Pairs` as a type former, for recursive types, by its values.
 use Rattle.std.specs.Prelude.{◌≡◌, ℕ, max, List, [], ◌∷◌, map, length}
 use mathlib.Core.Path.{refl, sym, ap, ◌∙◌}
 use mathlib.Core.Former.{Former, Count, Row, one_more, this, const, pair, list, list_count, list_put, via, children}
@@ -25,11 +25,11 @@ use Rattle.jzon_base.specs.contracts.pairs.Pairs as C
 use Rattle.jzon_base.specs.contracts.pairs.Pairs.TheInside as I
 use Rattle.jzon_base.specs.PairList.{values_of}
 
--- a key beside one of g's values
+-- a key with one of g's values
 abbrev entry : Former {0} → Former {0}
 entry g = pair (const (List ℕ)) g
 
--- the pair, with h applied to its value
+-- the entry, with h applied to its value
 abbrev on_value : {X Y : Type 0} → (X → Y) → List ℕ × X → List ℕ × Y
 on_value h p = (p.0, h p.1)
 
