@@ -1,4 +1,5 @@
-//! What is changed of a value (docs/RULES.md, "Changers"). After a refused call the value means what it meant, and a value that was handed in is dropped.
+//! Changes to values (docs/RULES.md, "Changers"). A call that fails leaves the value's meaning unchanged and drops the
+//! value that was passed to it.
 
 ghost use Rattle.std.specs.Prelude.{◌≡◌, ◌-◌, codes, true, string_bytes, option_map, slice_get, remove, IfOk, IfErr};
 ghost use Rattle.std.specs.Prelude.{OnOk, OnErr, IsOkUnless};
@@ -18,7 +19,7 @@ use std::alloc::Global;
 use std::mem;
 
 impl JsonValue {
-    /// An object without pairs. It takes no memory.
+    /// An empty object. It allocates nothing.
     #[tactic(auto, using(crate::proofs::Views::views, crate::proofs::Seen::seen))]
     pub fn new_object(alloc: Global) -> JsonValue
         ensures { view result ≡ object no_pairs }
@@ -26,7 +27,7 @@ impl JsonValue {
         JsonValue::Object(Object::new(alloc))
     }
 
-    /// An array without items. It takes no memory.
+    /// An empty array. It allocates nothing.
     #[tactic(auto, using(crate::proofs::Views::views, crate::proofs::Seen::seen))]
     pub fn new_array(alloc: Global) -> JsonValue
         ensures { view result ≡ array no_values }
@@ -34,7 +35,7 @@ impl JsonValue {
         JsonValue::Array(Vec::new(alloc))
     }
 
-    /// The value itself, with null left in its place.
+    /// Returns the value and leaves null.
     pub fn take(&mut self) -> JsonValue
         ensures value { result ≡ self.old }
         ensures after { view self.new ≡ null }
@@ -42,8 +43,8 @@ impl JsonValue {
         mem::replace(self, JsonValue::Null)
     }
 
-    /// The text, with null left in its place. Another value stays as it is. A text that is kept in the value takes memory, and may be refused by `OutOfMemory`; no
-    /// other call is refused.
+    /// Returns the string and leaves null; any other value is left as it is. A string that is stored inline is copied
+    /// to an allocated `String`, the only case that can fail with `OutOfMemory`.
     pub fn take_string(&mut self, alloc: Global) -> Result<Option<String>>
         ensures value { IfOk result (λ s. option_map string_bytes s ≡ text_in (view self.old)) }
         ensures after { OnOk result (view self.new ≡ without_text (view self.old)) }
@@ -65,7 +66,7 @@ impl JsonValue {
         }
     }
 
-    /// Puts an item behind the last one of an array. Refused by `WrongType` where the value is no array, and by `OutOfMemory`.
+    /// Appends an element to an array. Fails with `WrongType` if the value isn't an array, and with `OutOfMemory`.
     #[tactic(auto, using(crate::proofs::Views::views, crate::proofs::Seen::seen))]
     pub fn push<T: IntoJson>(&mut self, alloc: Global, value: T) -> Result<()>
         ensures ok { OnOk result ((v : Value) × T.means value v × (view self.new ≡ with_item v (view self.old))) }
@@ -82,7 +83,7 @@ impl JsonValue {
         }
     }
 
-    /// Takes the last item of an array. The answer is null where there is none.
+    /// Removes the last element of an array and returns it, or null if there is none.
     #[tactic(auto, using(crate::proofs::Views::views, crate::proofs::Seen::seen))]
     pub fn pop(&mut self) -> JsonValue
         ensures value { view result ≡ or_null (slice_get (items (view self.old)) (count (view self.old) - 1)) }
@@ -92,8 +93,8 @@ impl JsonValue {
         self.array_remove(last)
     }
 
-    /// Puts a value under the key of an object: in its place where the key is there, else last. Refused by `WrongType` where the value is no object, and by
-    /// `OutOfMemory`.
+    /// Sets the member `key` of an object: at its position if the key is present, else last. Fails with `WrongType` if
+    /// the value isn't an object, and with `OutOfMemory`.
     ///
     /// ```rust
     /// data.insert(alloc, "first", first)?;
@@ -112,7 +113,8 @@ impl JsonValue {
         }
     }
 
-    /// Takes the value of the key out of an object. The others keep their order. The answer is null where there is none.
+    /// Removes the member `key` of an object and returns its value, or null if there is none. The others keep their
+    /// order.
     #[tactic(auto, using(crate::proofs::Views::views, crate::proofs::Seen::seen))]
     pub fn remove(&mut self, key: &str) -> JsonValue
         ensures value { view result ≡ or_null (find key.now (entries (view self.old))) }
@@ -124,7 +126,8 @@ impl JsonValue {
         }
     }
 
-    /// Takes the item at a place out of an array. The others keep their order. The answer is null where there is none.
+    /// Removes the element at a position of an array and returns it, or null if there is none. The others keep their
+    /// order.
     #[tactic(auto, using(crate::proofs::Views::views, crate::proofs::Seen::seen))]
     pub fn array_remove(&mut self, index: usize) -> JsonValue
         ensures value { view result ≡ or_null (slice_get (items (view self.old)) index) }
@@ -136,7 +139,7 @@ impl JsonValue {
         }
     }
 
-    /// Leaves the empty text of a text, kept as it was, the empty container of a container, and null of another value.
+    /// Empties a string, which stays inline or allocated, or a container; any other value becomes null.
     #[tactic(auto, using(crate::proofs::Views::views, crate::proofs::Seen::seen))]
     pub fn clear(&mut self)
         ensures { view self.new ≡ cleared (view self.old) }
@@ -151,7 +154,7 @@ impl JsonValue {
     }
 }
 
-/// Takes the item at a place out of the list.
+/// Removes the element at a position of the list.
 fn remove_item(items: &mut Vec<JsonValue>, index: usize) -> Option<JsonValue>
     ensures value { result ≡ slice_get items.old.items index }
     ensures after { items.new.items ≡ remove items.old.items index }

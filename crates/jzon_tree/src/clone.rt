@@ -1,4 +1,4 @@
-//! Copies of values and of objects. They take memory, so that each is refused by `OutOfMemory` alone.
+//! Copies of values and of objects. They allocate, so each can fail with `OutOfMemory` only.
 
 ghost use Rattle.std.specs.Prelude.{◌≡◌, map, IfOk, IsOkUnless};
 ghost use Rattle.jzon_tree.specs.View.{view, view_object};
@@ -29,7 +29,7 @@ impl Object {
     }
 }
 
-/// Inlined into the loop over items, where most values are primitives.
+/// Inlined into the loop over elements, most of which are primitives.
 #[inline(always)]
 #[cycle(copy)]
 #[tactic(auto, using(crate::proofs::Views::views))]

@@ -1,4 +1,4 @@
-//! std's `Clone`, by which `derive(Clone)` and `clone` of lists work. The allocator of the value is that of the copy.
+//! std's `Clone`, for `derive(Clone)` and for `clone` of lists. The copy uses the allocator of the value.
 
 ghost use Rattle.std.specs.Prelude.{◌≡◌};
 ghost use Rattle.jzon_tree.specs.View.{view, view_object};

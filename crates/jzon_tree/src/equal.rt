@@ -1,5 +1,5 @@
-//! Equality of values and of objects: what they mean is compared, so that the order of an object's keys, how a text is kept and how a decimal is written don't
-//! count.
+//! Equality of values and of objects by meaning: the order of an object's members, how a string is stored and how a
+//! decimal is written don't matter.
 
 ghost use Rattle.std.specs.Prelude.{◌≡◌, Some, option_map};
 ghost use Rattle.std.specs.Option.{option_copied};
@@ -60,7 +60,7 @@ fn same_value(value: &JsonValue, other: &JsonValue) -> bool
     }
 }
 
-/// Item by item.
+/// Element by element.
 #[cycle(same)]
 fn same_array(items: &[JsonValue], others: &[JsonValue]) -> bool
     ensures { result ≡ same_items (view_values items.now) (view_values others.now) }
@@ -76,7 +76,7 @@ fn same_array(items: &[JsonValue], others: &[JsonValue]) -> bool
     true
 }
 
-/// As many keys, and under each of the first the same value in both: so the second has no other key.
+/// The same number of members, and the same value for each key of the first: so the second has no other key.
 #[cycle(same)]
 fn same_object(object: &Object, other: &Object) -> bool
     ensures { result ≡ same (view_object object.now) (view_object other.now) }
@@ -102,7 +102,8 @@ fn same_found(value: &JsonValue, found: Option<&JsonValue>) -> bool
     }
 }
 
-/// The value of the key. Equal objects mostly have their keys in one order, so that the entry at the same position has it; else it is looked up.
+/// The value of the key. Equal objects mostly have their keys in the same order, so the entry at the same position is
+/// tried first.
 #[inline(always)]
 fn find_from<'a>(
     object: &'a Object,

@@ -1,4 +1,4 @@
-//! Values from what needs no memory (docs/RULES.md, "Conversions").
+//! Values from types whose conversion allocates nothing (docs/RULES.md, "Conversions").
 
 ghost use Rattle.std.specs.Prelude.{◌≡◌, pos, string_bytes};
 ghost use Rattle.jzon_base.specs.Decimal.{integer_parts};
@@ -106,7 +106,7 @@ impl From<Number> for JsonValue {
     }
 }
 
-/// A `String` stays one, however short it is.
+/// A `String` stays allocated, however short it is.
 impl From<String> for JsonValue {
     ghost from_gives = { λ s v. view v ≡ text long (string_bytes s) };
 

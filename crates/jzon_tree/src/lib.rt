@@ -1,4 +1,4 @@
-//! JSON values and objects: what is read and changed of them, what turns into them, and how they are printed.
+//! JSON values and objects: reading and changing them, converting into them, and printing them.
 #![tactic(auto)]
 
 mod changers;

@@ -1,4 +1,4 @@
-//! What is read of a value (docs/RULES.md, "Readers"). None of these calls takes memory.
+//! Reading values (docs/RULES.md, "Readers"). None of these calls allocates.
 
 ghost use Rattle.std.specs.Prelude.{◌≡◌, map, is_some, option_map};
 ghost use Rattle.std.specs.List.{list_any};
@@ -18,10 +18,10 @@ use crate::value::JsonValue;
 use jzon_base::number::Number;
 use std::slice;
 
-/// The items of an array that are left.
+/// Iterator over the elements of an array.
 pub type Members<'a> = slice::Iter<'a, JsonValue>;
 
-/// The pairs of an object that are left, each as its key's text and its value.
+/// Iterator over the members of an object, each as its name and its value.
 pub type Entries<'a> = object::Iter<'a>;
 
 impl JsonValue {
@@ -32,7 +32,7 @@ impl JsonValue {
         matches!(self, JsonValue::Null)
     }
 
-    /// Whether it is a truth value.
+    /// Whether it is a boolean.
     pub fn is_boolean(&self) -> bool
         ensures { result ≡ is_boolean (view self.now) }
     {
@@ -46,7 +46,7 @@ impl JsonValue {
         matches!(self, JsonValue::Number(_))
     }
 
-    /// Whether it is a text, however it is kept.
+    /// Whether it is a string, however it is stored.
     pub fn is_string(&self) -> bool
         ensures { result ≡ is_text (view self.now) }
     {
@@ -67,7 +67,7 @@ impl JsonValue {
         matches!(self, JsonValue::Array(_))
     }
 
-    /// Whether it is null, false, a zero, NaN, the empty text, or a container of nothing.
+    /// Whether it is null, false, a zero, NaN, an empty string or an empty container.
     #[tactic(auto, using(crate::proofs::Views::views, crate::proofs::Seen::seen))]
     pub fn is_empty(&self) -> bool
         ensures { result ≡ is_empty (view self.now) }
@@ -83,7 +83,7 @@ impl JsonValue {
         }
     }
 
-    /// How many pairs an object has, or how many items an array has, and 0 for another value.
+    /// The number of members of an object or of elements of an array, and 0 for any other value.
     #[tactic(auto, using(crate::proofs::Views::views, crate::proofs::Seen::seen))]
     pub fn len(&self) -> usize
         ensures { result ≡ count (view self.now) }
@@ -95,7 +95,7 @@ impl JsonValue {
         }
     }
 
-    /// The text, however it is kept.
+    /// The string, however it is stored.
     pub fn as_str(&self) -> Option<&str>
         ensures { option_copied result ≡ text_in (view self.now) }
     {
@@ -106,7 +106,7 @@ impl JsonValue {
         }
     }
 
-    /// The number, with its parts as they were read or given.
+    /// The number, with its parts as they were parsed or set.
     pub fn as_number(&self) -> Option<Number>
         ensures { result ≡ number_in (view self.now) }
     {
@@ -116,7 +116,7 @@ impl JsonValue {
         }
     }
 
-    /// The truth value.
+    /// The boolean.
     pub fn as_bool(&self) -> Option<bool>
         ensures { result ≡ truth_in (view self.now) }
     {
@@ -137,7 +137,7 @@ impl JsonValue {
         }
     }
 
-    /// The items of the array.
+    /// The elements of the array.
     #[tactic(auto, using(crate::proofs::Views::views, crate::proofs::Seen::seen))]
     pub fn as_array(&self) -> Option<&Vec<JsonValue>>
         ensures { option_map (λ vs. array (view_values vs.now.items)) result ≡ array_of (view self.now) }
@@ -159,14 +159,14 @@ impl JsonValue {
         }
     }
 
-    /// Whether it is an object with the key.
+    /// Whether it is an object that has the key.
     pub fn has_key(&self, key: &str) -> bool
         ensures { result ≡ is_some (find key.now (entries (view self.now))) }
     {
         self.get(key).is_some()
     }
 
-    /// The items of an array in their order, from both ends, and none of another value.
+    /// Iterates over the elements of an array in order, from both ends; over nothing for any other value.
     #[tactic(auto, using(crate::proofs::Views::views, crate::proofs::Seen::seen))]
     pub fn members(&self) -> Members<'_>
         ensures { map view (iter_rest result) ≡ items (view self.now) }
@@ -177,7 +177,7 @@ impl JsonValue {
         }
     }
 
-    /// The pairs of an object in their order, from both ends, and none of another value.
+    /// Iterates over the members of an object in order, from both ends; over nothing for any other value.
     #[tactic(auto, using(crate::proofs::Views::views, crate::proofs::Seen::seen))]
     pub fn entries(&self) -> Entries<'_>
         ensures { viewed result ≡ entries (view self.now) }
@@ -188,7 +188,7 @@ impl JsonValue {
         object.iter()
     }
 
-    /// Whether it is an array with an item that equals `value`.
+    /// Whether it is an array that contains an element equal to `value`.
     pub fn contains(&self, value: &JsonValue) -> bool
         ensures { result ≡ list_any (λ v. same v (view value.now)) (items (view self.now)) }
     {
@@ -198,14 +198,14 @@ impl JsonValue {
         }
     }
 
-    /// Whether it is this text, however it is kept.
+    /// Whether it is this string, however it is stored.
     pub fn eq_str(&self, other: &str) -> bool
         ensures { result ≡ same (view self.now) (text short other.now) }
     {
         self.as_str() == Some(other)
     }
 
-    /// Whether it is this truth value.
+    /// Whether it is this boolean.
     pub fn eq_bool(&self, other: bool) -> bool
         ensures { result ≡ same (view self.now) (boolean other) }
     {

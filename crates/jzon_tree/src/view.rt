@@ -1,4 +1,4 @@
-//! A place in a value, which may be missing (docs/RULES.md, "Readers").
+//! A value inside a value, which may be missing (docs/RULES.md, "Readers").
 
 ghost use Rattle.std.specs.Prelude.{◌≡◌, ◌<◌, ◌^◌, pos, map, is_some, option_map, slice_get, FitsSigned, Some};
 ghost use Rattle.std.specs.Int.{w8, w16, w32, w64};
@@ -22,21 +22,21 @@ use crate::readers::{Entries, Members};
 use crate::value::JsonValue;
 use jzon_base::number::Number;
 
-/// A value, or missing. What is missing reads as null.
+/// A value that may be missing. A missing value reads as null.
 #[derive(Clone, Copy)]
 pub struct View<'a> {
     value: Option<&'a JsonValue>,
 }
 
 impl JsonValue {
-    /// The place of the value itself, as a start for a walk by `at` and `at_index`.
+    /// A view of the value itself, from which `at` and `at_index` go on.
     pub fn as_view(&self) -> View<'_>
         ensures { shown result ≡ Some (view self.now) }
     {
         View { value: Some(self) }
     }
 
-    /// The value of the key of an object, or missing.
+    /// The member `key` of an object, or missing.
     ///
     /// ```rust
     /// let is_named = data.at("name").eq_str("x");
@@ -50,7 +50,7 @@ impl JsonValue {
         }
     }
 
-    /// The item at a place of an array, or missing.
+    /// The element at a position of an array, or missing.
     #[tactic(auto, using(crate::proofs::Views::views, crate::proofs::Seen::seen))]
     pub fn at_index(&self, index: usize) -> View<'_>
         ensures { shown result ≡ slice_get (items (view self.now)) index }
@@ -77,14 +77,14 @@ impl Object {
 }
 
 impl<'a> View<'a> {
-    /// The value, where it is not missing.
+    /// The value, if it isn't missing.
     pub fn value(self) -> Option<&'a JsonValue>
         ensures { option_map (λ v. view v.now) result ≡ shown self.entry }
     {
         self.value
     }
 
-    /// The value of the key of an object, or missing.
+    /// The member `key` of an object, or missing.
     pub fn at(self, key: &str) -> View<'a>
         ensures { shown result ≡ find key.now (entries (seen self.entry)) }
     {
@@ -94,7 +94,7 @@ impl<'a> View<'a> {
         }
     }
 
-    /// The item at a place of an array, or missing.
+    /// The element at a position of an array, or missing.
     pub fn at_index(self, index: usize) -> View<'a>
         ensures { shown result ≡ slice_get (items (seen self.entry)) index }
     {
@@ -111,7 +111,7 @@ impl<'a> View<'a> {
         self.value.is_none_or(JsonValue::is_null)
     }
 
-    /// Whether it is a truth value.
+    /// Whether it is a boolean.
     pub fn is_boolean(self) -> bool
         ensures { result ≡ is_boolean (seen self.entry) }
     {
@@ -125,7 +125,7 @@ impl<'a> View<'a> {
         self.value.is_some_and(JsonValue::is_number)
     }
 
-    /// Whether it is a text, however it is kept.
+    /// Whether it is a string, however it is stored.
     pub fn is_string(self) -> bool
         ensures { result ≡ is_text (seen self.entry) }
     {
@@ -146,35 +146,35 @@ impl<'a> View<'a> {
         self.value.is_some_and(JsonValue::is_array)
     }
 
-    /// Whether it is missing, null, false, a zero, NaN, the empty text, or a container of nothing.
+    /// Whether it is missing, null, false, a zero, NaN, an empty string or an empty container.
     pub fn is_empty(self) -> bool
         ensures { result ≡ is_empty (seen self.entry) }
     {
         self.value.is_none_or(JsonValue::is_empty)
     }
 
-    /// How many pairs an object has, or how many items an array has, and 0 for all else.
+    /// The number of members of an object or of elements of an array, and 0 for any other value or none.
     pub fn len(self) -> usize
         ensures { result ≡ count (seen self.entry) }
     {
         self.value.map_or(0, JsonValue::len)
     }
 
-    /// The text, however it is kept.
+    /// The string, however it is stored.
     pub fn as_str(self) -> Option<&'a str>
         ensures { option_copied result ≡ text_in (seen self.entry) }
     {
         self.value?.as_str()
     }
 
-    /// The number, with its parts as they were read or given.
+    /// The number, with its parts as they were parsed or set.
     pub fn as_number(self) -> Option<Number>
         ensures { result ≡ number_in (seen self.entry) }
     {
         self.value?.as_number()
     }
 
-    /// The truth value.
+    /// The boolean.
     pub fn as_bool(self) -> Option<bool>
         ensures { result ≡ truth_in (seen self.entry) }
     {
@@ -188,126 +188,126 @@ impl<'a> View<'a> {
         self.value?.as_object()
     }
 
-    /// The items of the array.
+    /// The elements of the array.
     pub fn as_array(self) -> Option<&'a Vec<JsonValue>>
         ensures { option_map (λ vs. array (view_values vs.now.items)) result ≡ array_of (seen self.entry) }
     {
         self.value?.as_array()
     }
 
-    /// Whether it is an object with the key.
+    /// Whether it is an object that has the key.
     pub fn has_key(self, key: &str) -> bool
         ensures { result ≡ is_some (find key.now (entries (seen self.entry))) }
     {
         self.at(key).value.is_some()
     }
 
-    /// The items of an array in their order, from both ends, and none of all else.
+    /// Iterates over the elements of an array in order, from both ends; over nothing for any other value or none.
     pub fn members(self) -> Members<'a>
         ensures { map view (iter_rest result) ≡ items (seen self.entry) }
     {
         self.value.map_or([].iter(), JsonValue::members)
     }
 
-    /// The pairs of an object in their order, from both ends, and none of all else.
+    /// Iterates over the members of an object in order, from both ends; over nothing for any other value or none.
     pub fn entries(self) -> Entries<'a>
         ensures { viewed result ≡ entries (seen self.entry) }
     {
         self.value.map_or(Entries::empty(), JsonValue::entries)
     }
 
-    /// Whether it is an array with an item that equals `value`.
+    /// Whether it is an array that contains an element equal to `value`.
     pub fn contains(self, value: &JsonValue) -> bool
         ensures { result ≡ list_any (λ v. same v (view value.now)) (items (seen self.entry)) }
     {
         self.value.is_some_and(|array| array.contains(value))
     }
 
-    /// Whether it is this text, however it is kept.
+    /// Whether it is this string, however it is stored.
     pub fn eq_str(self, other: &str) -> bool
         ensures { result ≡ same (seen self.entry) (text short other.now) }
     {
         self.as_str() == Some(other)
     }
 
-    /// Whether it is this truth value.
+    /// Whether it is this boolean.
     pub fn eq_bool(self, other: bool) -> bool
         ensures { result ≡ same (seen self.entry) (boolean other) }
     {
         self.as_bool() == Some(other)
     }
 
-    /// The number as a `u64`, where its exponent is 0, its sign is positive, and it fits.
+    /// The number as a `u64`, if its exponent is 0, its sign is positive, and it fits.
     pub fn as_u64(self) -> Option<u64>
         ensures { SomeWhere (unsigned_in (seen self.entry)) (λ n. n < 2 ^ 64) result }
     {
         self.value?.as_u64()
     }
 
-    /// The number as a `u32`, where its exponent is 0, its sign is positive, and it fits.
+    /// The number as a `u32`, if its exponent is 0, its sign is positive, and it fits.
     pub fn as_u32(self) -> Option<u32>
         ensures { SomeWhere (unsigned_in (seen self.entry)) (λ n. n < 2 ^ 32) result }
     {
         self.value?.as_u32()
     }
 
-    /// The number as a `u16`, where its exponent is 0, its sign is positive, and it fits.
+    /// The number as a `u16`, if its exponent is 0, its sign is positive, and it fits.
     pub fn as_u16(self) -> Option<u16>
         ensures { SomeWhere (unsigned_in (seen self.entry)) (λ n. n < 2 ^ 16) result }
     {
         self.value?.as_u16()
     }
 
-    /// The number as a `u8`, where its exponent is 0, its sign is positive, and it fits.
+    /// The number as a `u8`, if its exponent is 0, its sign is positive, and it fits.
     pub fn as_u8(self) -> Option<u8>
         ensures { SomeWhere (unsigned_in (seen self.entry)) (λ n. n < 2 ^ 8) result }
     {
         self.value?.as_u8()
     }
 
-    /// The number as a `usize`, where its exponent is 0, its sign is positive, and it fits.
+    /// The number as a `usize`, if its exponent is 0, its sign is positive, and it fits.
     pub fn as_usize(self) -> Option<usize>
         ensures { SomeWhere (unsigned_in (seen self.entry)) (λ n. n < 2 ^ 64) result }
     {
         self.value?.as_usize()
     }
 
-    /// The number as an `i64`, where its exponent is 0, and it fits.
+    /// The number as an `i64`, if its exponent is 0 and it fits.
     pub fn as_i64(self) -> Option<i64>
         ensures { SomeWhere (integer_in (seen self.entry)) (FitsSigned w64) result }
     {
         self.value?.as_i64()
     }
 
-    /// The number as an `i32`, where its exponent is 0, and it fits.
+    /// The number as an `i32`, if its exponent is 0 and it fits.
     pub fn as_i32(self) -> Option<i32>
         ensures { SomeWhere (integer_in (seen self.entry)) (FitsSigned w32) result }
     {
         self.value?.as_i32()
     }
 
-    /// The number as an `i16`, where its exponent is 0, and it fits.
+    /// The number as an `i16`, if its exponent is 0 and it fits.
     pub fn as_i16(self) -> Option<i16>
         ensures { SomeWhere (integer_in (seen self.entry)) (FitsSigned w16) result }
     {
         self.value?.as_i16()
     }
 
-    /// The number as an `i8`, where its exponent is 0, and it fits.
+    /// The number as an `i8`, if its exponent is 0 and it fits.
     pub fn as_i8(self) -> Option<i8>
         ensures { SomeWhere (integer_in (seen self.entry)) (FitsSigned w8) result }
     {
         self.value?.as_i8()
     }
 
-    /// The number as an `isize`, where its exponent is 0, and it fits.
+    /// The number as an `isize`, if its exponent is 0 and it fits.
     pub fn as_isize(self) -> Option<isize>
         ensures { SomeWhere (integer_in (seen self.entry)) (FitsSigned w64) result }
     {
         self.value?.as_isize()
     }
 
-    /// `mantissa * 10 ^ (exponent + point)` of the number, cut to a whole number, where its sign is positive and that fits.
+    /// `mantissa * 10 ^ (exponent + point)`, truncated to an integer, if the sign is positive and it fits.
     pub fn as_fixed_point_u64(self, point: u16) -> Option<u64>
         ensures { SomeWhere (unsigned_fixed_point_in (seen self.entry) point)
             (λ n. n < 2 ^ 64) result }
@@ -315,14 +315,15 @@ impl<'a> View<'a> {
         self.value?.as_fixed_point_u64(point)
     }
 
-    /// `mantissa * 10 ^ (exponent + point)` of the number, cut to a whole number, with its sign, where that fits.
+    /// `mantissa * 10 ^ (exponent + point)`, truncated to an integer, with its sign, if it fits.
     pub fn as_fixed_point_i64(self, point: u16) -> Option<i64>
         ensures { SomeWhere (fixed_point_in (seen self.entry) point) (FitsSigned w64) result }
     {
         self.value?.as_fixed_point_i64(point)
     }
 
-    /// `mantissa * 10 ^ (exponent + point)` of the number, where that is a whole number, its sign is positive and it fits. `None` where a digit would be lost.
+    /// `mantissa * 10 ^ (exponent + point)`, if that is an integer, the sign is positive and it fits. `None` if a digit
+    /// would be lost.
     pub fn as_exact_fixed_point_u64(self, point: u16) -> Option<u64>
         ensures { SomeWhere (exact_unsigned_fixed_point_in (seen self.entry) point)
             (λ n. n < 2 ^ 64) result }
@@ -330,21 +331,22 @@ impl<'a> View<'a> {
         self.value?.as_exact_fixed_point_u64(point)
     }
 
-    /// `mantissa * 10 ^ (exponent + point)` of the number, with its sign, where that is a whole number and fits. `None` where a digit would be lost.
+    /// `mantissa * 10 ^ (exponent + point)` with its sign, if that is an integer and fits. `None` if a digit would be
+    /// lost.
     pub fn as_exact_fixed_point_i64(self, point: u16) -> Option<i64>
         ensures { SomeWhere (exact_fixed_point_in (seen self.entry) point) (FitsSigned w64) result }
     {
         self.value?.as_exact_fixed_point_i64(point)
     }
 
-    /// Whether it is a number that equals this integer: `5e2` is 500.
+    /// Whether it is a number equal to this integer: `5e2` equals 500.
     pub fn eq_i64(self, other: i64) -> bool
         ensures { result ≡ same (seen self.entry) (number (integer_parts other)) }
     {
         self.value.is_some_and(|value| value.eq_i64(other))
     }
 
-    /// Whether it is a number that equals this integer: `5e2` is 500.
+    /// Whether it is a number equal to this integer: `5e2` equals 500.
     pub fn eq_u64(self, other: u64) -> bool
         ensures { result ≡ same (seen self.entry) (number (integer_parts (pos other))) }
     {

@@ -10,7 +10,7 @@ use crate::value::JsonValue;
 use jzon_base::error::{Error, Result};
 use std::alloc::Global;
 
-/// It takes no memory.
+/// It allocates nothing.
 impl IntoJson for Object {
     ghost means = { λ o v. v ≡ view_object o };
 
@@ -26,7 +26,7 @@ impl IntoJson for Object {
     }
 }
 
-/// `None` is null, and `Some` what is in it.
+/// `None` is null, and `Some` means what its content means.
 impl<T: IntoJson> IntoJson for Option<T> {
     ghost means = { OptionMeans T.means };
 
@@ -40,7 +40,7 @@ impl<T: IntoJson> IntoJson for Option<T> {
     }
 }
 
-/// The array of what the items mean.
+/// The array of what the elements mean.
 impl<T: IntoJson> IntoJson for Vec<T> {
     ghost means = { λ list v. ListMeans T.means list.items v };
 
@@ -55,7 +55,7 @@ impl<T: IntoJson> IntoJson for Vec<T> {
     }
 }
 
-/// The array of what clones of the items mean.
+/// The array of what clones of the elements mean.
 impl<T: IntoJson + Clone> IntoJson for &[T] {
     ghost means = { λ list v. CloneListMeans T.is_clone T.means list.now v };
 

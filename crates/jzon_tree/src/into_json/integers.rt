@@ -1,4 +1,4 @@
-//! Integers as values. They take no memory.
+//! Integers as values. They allocate nothing.
 
 ghost use Rattle.std.specs.Prelude.{◌≡◌, ⊤, pos, IfOk, IsOk, IsOkUnless};
 ghost use Rattle.jzon_base.specs.Decimal.{integer_parts};

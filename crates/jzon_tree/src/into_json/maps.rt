@@ -1,4 +1,4 @@
-//! Maps as values. A key's text is a key of the object.
+//! Maps as values. The text of a map's key is the member's name.
 
 ghost use Rattle.std.specs.Prelude.{string_bytes};
 ghost use Rattle.jzon_tree.specs.IntoJson.{MapMeans, AnyOrderMeans};
@@ -10,7 +10,7 @@ use jzon_base::error::Result;
 use std::alloc::Global;
 use std::collections::{BTreeMap, HashMap};
 
-/// The object of its pairs, in the map's order.
+/// The object of its entries, in the map's order.
 impl<T: IntoJson> IntoJson for BTreeMap<String, T> {
     ghost means = { λ pairs v. MapMeans string_bytes T.means pairs.entries v };
 
@@ -21,7 +21,7 @@ impl<T: IntoJson> IntoJson for BTreeMap<String, T> {
     }
 }
 
-/// The object of its pairs, in the map's order.
+/// The object of its entries, in the map's order.
 impl<T: IntoJson> IntoJson for BTreeMap<&str, T> {
     ghost means = { λ pairs v. MapMeans (λ key. key.now) T.means pairs.entries v };
 
@@ -32,7 +32,7 @@ impl<T: IntoJson> IntoJson for BTreeMap<&str, T> {
     }
 }
 
-/// The object of its pairs, in any order.
+/// The object of its entries, in any order.
 impl<T: IntoJson> IntoJson for HashMap<String, T> {
     ghost means = { λ pairs v. AnyOrderMeans string_bytes T.means pairs.entries v };
 
@@ -43,7 +43,7 @@ impl<T: IntoJson> IntoJson for HashMap<String, T> {
     }
 }
 
-/// The object of its pairs, in any order.
+/// The object of its entries, in any order.
 impl<T: IntoJson> IntoJson for HashMap<&str, T> {
     ghost means = { λ pairs v. AnyOrderMeans (λ key. key.now) T.means pairs.entries v };
 

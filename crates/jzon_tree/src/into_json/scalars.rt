@@ -1,4 +1,4 @@
-//! Truth values, numbers and texts as values.
+//! Booleans, numbers and strings as values.
 
 ghost use Rattle.std.specs.Prelude.{◌≡◌, ⊤, ◌≤◌, length, string_bytes, IfOk, IsOk, IsOkUnless};
 ghost use Rattle.jzon_tree.specs.Value.{boolean, number, text, kind_of, long};
@@ -11,7 +11,7 @@ use jzon_base::number::Number;
 use jzon_base::short::{MAX_LEN, Short};
 use std::alloc::Global;
 
-/// It takes no memory.
+/// It allocates nothing.
 impl IntoJson for bool {
     ghost means = { λ b v. v ≡ boolean b };
 
@@ -26,7 +26,7 @@ impl IntoJson for bool {
     }
 }
 
-/// A number keeps its parts. It takes no memory.
+/// A number keeps its parts. It allocates nothing.
 impl IntoJson for Number {
     ghost means = { λ n v. v ≡ number n };
 
@@ -41,7 +41,7 @@ impl IntoJson for Number {
     }
 }
 
-/// A text of at most 30 bytes is kept in the value, and takes no memory.
+/// A string of at most 30 bytes is stored inline, without an allocation.
 impl IntoJson for &str {
     ghost means = { λ s v. v ≡ text (kind_of s.now) s.now };
 
@@ -60,7 +60,7 @@ impl IntoJson for &str {
     }
 }
 
-/// A `String` stays one, however short it is. It takes no memory.
+/// A `String` stays allocated, however short it is. It allocates nothing.
 impl IntoJson for String {
     ghost means = { λ s v. v ≡ text long (string_bytes s) };
 

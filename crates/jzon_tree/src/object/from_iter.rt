@@ -1,4 +1,4 @@
-//! An object by `collect`.
+//! `collect` into an object.
 
 ghost use Rattle.jzon_tree.specs.IntoJson.{PutMeans};
 ghost use Rattle.jzon_tree.specs.View.{view_object};
@@ -8,8 +8,8 @@ use crate::into_json::IntoJson;
 use std::alloc::{AllocError, Global};
 use std::convert::AsStr;
 
-/// The object in which the pairs are put one after the other, as `Object::from_pairs` puts them: a later pair of a key changes that key's value in its place. The error
-/// is a failed allocation.
+/// The object of these entries, put one after the other as by `Object::from_pairs`: a repeated key keeps its first
+/// position and takes the last value. The error is a failed allocation.
 impl<K: AsStr + Drop, V: IntoJson> FromIterator<(K, V)> for Object {
     type Alloc = Global;
 

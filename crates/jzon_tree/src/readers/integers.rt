@@ -1,4 +1,4 @@
-//! What is read of a value as an integer (docs/RULES.md, "Integer readings" and "Fixed-point readings").
+//! Reading values as integers (docs/RULES.md, "Integer readings" and "Fixed-point readings").
 
 ghost use Rattle.std.specs.Prelude.{◌≡◌, ◌<◌, ◌^◌, pos, FitsSigned};
 ghost use Rattle.std.specs.Int.{w8, w16, w32, w64};
@@ -12,77 +12,77 @@ ghost use Rattle.jzon_tree.specs.View.{view};
 use crate::value::JsonValue;
 
 impl JsonValue {
-    /// The number as a `u64`, where its exponent is 0, its sign is positive, and it fits.
+    /// The number as a `u64`, if its exponent is 0, its sign is positive, and it fits.
     pub fn as_u64(&self) -> Option<u64>
         ensures { SomeWhere (unsigned_in (view self.now)) (λ n. n < 2 ^ 64) result }
     {
         u64::try_from(self.as_number()?).ok()
     }
 
-    /// The number as a `u32`, where its exponent is 0, its sign is positive, and it fits.
+    /// The number as a `u32`, if its exponent is 0, its sign is positive, and it fits.
     pub fn as_u32(&self) -> Option<u32>
         ensures { SomeWhere (unsigned_in (view self.now)) (λ n. n < 2 ^ 32) result }
     {
         u32::try_from(self.as_number()?).ok()
     }
 
-    /// The number as a `u16`, where its exponent is 0, its sign is positive, and it fits.
+    /// The number as a `u16`, if its exponent is 0, its sign is positive, and it fits.
     pub fn as_u16(&self) -> Option<u16>
         ensures { SomeWhere (unsigned_in (view self.now)) (λ n. n < 2 ^ 16) result }
     {
         u16::try_from(self.as_number()?).ok()
     }
 
-    /// The number as a `u8`, where its exponent is 0, its sign is positive, and it fits.
+    /// The number as a `u8`, if its exponent is 0, its sign is positive, and it fits.
     pub fn as_u8(&self) -> Option<u8>
         ensures { SomeWhere (unsigned_in (view self.now)) (λ n. n < 2 ^ 8) result }
     {
         u8::try_from(self.as_number()?).ok()
     }
 
-    /// The number as a `usize`, where its exponent is 0, its sign is positive, and it fits.
+    /// The number as a `usize`, if its exponent is 0, its sign is positive, and it fits.
     pub fn as_usize(&self) -> Option<usize>
         ensures { SomeWhere (unsigned_in (view self.now)) (λ n. n < 2 ^ 64) result }
     {
         usize::try_from(self.as_number()?).ok()
     }
 
-    /// The number as an `i64`, where its exponent is 0, and it fits.
+    /// The number as an `i64`, if its exponent is 0 and it fits.
     pub fn as_i64(&self) -> Option<i64>
         ensures { SomeWhere (integer_in (view self.now)) (FitsSigned w64) result }
     {
         i64::try_from(self.as_number()?).ok()
     }
 
-    /// The number as an `i32`, where its exponent is 0, and it fits.
+    /// The number as an `i32`, if its exponent is 0 and it fits.
     pub fn as_i32(&self) -> Option<i32>
         ensures { SomeWhere (integer_in (view self.now)) (FitsSigned w32) result }
     {
         i32::try_from(self.as_number()?).ok()
     }
 
-    /// The number as an `i16`, where its exponent is 0, and it fits.
+    /// The number as an `i16`, if its exponent is 0 and it fits.
     pub fn as_i16(&self) -> Option<i16>
         ensures { SomeWhere (integer_in (view self.now)) (FitsSigned w16) result }
     {
         i16::try_from(self.as_number()?).ok()
     }
 
-    /// The number as an `i8`, where its exponent is 0, and it fits.
+    /// The number as an `i8`, if its exponent is 0 and it fits.
     pub fn as_i8(&self) -> Option<i8>
         ensures { SomeWhere (integer_in (view self.now)) (FitsSigned w8) result }
     {
         i8::try_from(self.as_number()?).ok()
     }
 
-    /// The number as an `isize`, where its exponent is 0, and it fits.
+    /// The number as an `isize`, if its exponent is 0 and it fits.
     pub fn as_isize(&self) -> Option<isize>
         ensures { SomeWhere (integer_in (view self.now)) (FitsSigned w64) result }
     {
         isize::try_from(self.as_number()?).ok()
     }
 
-    /// `mantissa * 10 ^ (exponent + point)` of the number, cut to a whole number, where its sign is positive and that fits.
+    /// `mantissa * 10 ^ (exponent + point)`, truncated to an integer, if the sign is positive and it fits.
     pub fn as_fixed_point_u64(&self, point: u16) -> Option<u64>
         ensures { SomeWhere (unsigned_fixed_point_in (view self.now) point)
             (λ n. n < 2 ^ 64) result }
@@ -90,14 +90,15 @@ impl JsonValue {
         self.as_number()?.as_fixed_point_u64(point)
     }
 
-    /// `mantissa * 10 ^ (exponent + point)` of the number, cut to a whole number, with its sign, where that fits.
+    /// `mantissa * 10 ^ (exponent + point)`, truncated to an integer, with its sign, if it fits.
     pub fn as_fixed_point_i64(&self, point: u16) -> Option<i64>
         ensures { SomeWhere (fixed_point_in (view self.now) point) (FitsSigned w64) result }
     {
         self.as_number()?.as_fixed_point_i64(point)
     }
 
-    /// `mantissa * 10 ^ (exponent + point)` of the number, where that is a whole number, its sign is positive and it fits. `None` where a digit would be lost.
+    /// `mantissa * 10 ^ (exponent + point)`, if that is an integer, the sign is positive and it fits. `None` if a digit
+    /// would be lost.
     pub fn as_exact_fixed_point_u64(&self, point: u16) -> Option<u64>
         ensures { SomeWhere (exact_unsigned_fixed_point_in (view self.now) point)
             (λ n. n < 2 ^ 64) result }
@@ -105,21 +106,22 @@ impl JsonValue {
         self.as_number()?.as_exact_fixed_point_u64(point)
     }
 
-    /// `mantissa * 10 ^ (exponent + point)` of the number, with its sign, where that is a whole number and fits. `None` where a digit would be lost.
+    /// `mantissa * 10 ^ (exponent + point)` with its sign, if that is an integer and fits. `None` if a digit would be
+    /// lost.
     pub fn as_exact_fixed_point_i64(&self, point: u16) -> Option<i64>
         ensures { SomeWhere (exact_fixed_point_in (view self.now) point) (FitsSigned w64) result }
     {
         self.as_number()?.as_exact_fixed_point_i64(point)
     }
 
-    /// Whether it is a number that equals this integer: `5e2` is 500.
+    /// Whether it is a number equal to this integer: `5e2` equals 500.
     pub fn eq_i64(&self, other: i64) -> bool
         ensures { result ≡ same (view self.now) (number (integer_parts other)) }
     {
         self.as_number().is_some_and(|number| number.eq_i64(other))
     }
 
-    /// Whether it is a number that equals this integer: `5e2` is 500.
+    /// Whether it is a number equal to this integer: `5e2` equals 500.
     pub fn eq_u64(&self, other: u64) -> bool
         ensures { result ≡ same (view self.now) (number (integer_parts (pos other))) }
     {
