@@ -15,19 +15,19 @@ mod eight;
 
 use eight::{EIGHT, leading_digits, ten_to};
 
-/// So many digits spell a number below 2^64, whichever they are.
+/// Any 19 digits fit in a `u64`.
 const ALWAYS_KEPT: usize = 19;
 
-/// At most so many digits before the point are dropped.
+/// The most digits before the point that may be dropped.
 const MAX_DROPPED: usize = 32767;
 
-/// At most so many digits after the point are kept.
+/// The most digits after the point that may be kept.
 const MAX_KEPT_FRACTION: usize = 32768;
 
-/// A written exponent beyond this is clamped, whatever the digits are.
+/// A written exponent above this is clamped, whatever the digits are.
 const MAX_WRITTEN: u32 = 65536;
 
-/// The digit that is one too many, by its place among the digits before or after the point.
+/// The digit that exceeds a limit, by its position among the digits before or after the point.
 #[derive(Clone, Copy, Debug, PartialEq, Eq)]
 pub enum DigitFault {
     /// The 32768th digit before the point that is dropped.
@@ -36,9 +36,9 @@ pub enum DigitFault {
     Fraction(usize),
 }
 
-/// The number that is written in these digits: those before the point, those after it, and those of the exponent, with the signs of both; `number` is what `scan`
-/// says of the digits before and after the point, one after the other. A part that is missing is empty, and the exponent is then 0. A `DigitFault` is told where
-/// there are too many digits, whatever the exponent is.
+/// The number written with the digits before the point, those after it and those of the exponent, and the signs of
+/// both. `number` is what `scan` returns for the digits before and after the point, one after the other. A missing part
+/// is empty; a missing exponent is 0. Returns a `DigitFault` if there are too many digits, whatever the exponent is.
 pub fn read_scanned(
     positive: bool,
     whole: &[u8],
@@ -71,7 +71,8 @@ pub fn read_scanned(
     Ok(Number::from_parts_unchecked(positive, prefix.number, exponent))
 }
 
-/// How many digits stand at the beginning, and the number that they spell behind the digits of a number before, modulo 2^64. That number is given modulo 2^64.
+/// The number of leading digits, and the number that they spell when appended to `before`, modulo 2^64. `before` is
+/// itself reduced modulo 2^64.
 #[inline]
 pub fn scan(bytes: &[u8], before: u64) -> (usize, u64)
     ensures count { result.0 ≡ prefix_len is_ascii_digit bytes.now }
@@ -108,7 +109,7 @@ fn scan_by_bytes(bytes: &[u8], before: u64) -> (usize, u64)
     (bytes.len(), number)
 }
 
-/// The longest prefix of the digits before and after a point that spells a number below 2^64.
+/// The longest prefix of the digits before and after the point that spells a number below 2^64.
 #[derive(Clone, Copy)]
 struct Prefix {
     number: u64,
@@ -134,7 +135,7 @@ fn kept_prefix(whole: &[u8], fraction: &[u8], number: u64) -> Prefix
     searched_prefix(whole, fraction)
 }
 
-/// The same prefix, found digit by digit.
+/// The same prefix, computed digit by digit.
 fn searched_prefix(whole: &[u8], fraction: &[u8]) -> Prefix
     requires whole { All IsDigit whole.now }
     requires fraction { All IsDigit fraction.now }
@@ -158,7 +159,7 @@ fn searched_prefix(whole: &[u8], fraction: &[u8]) -> Prefix
     }
 }
 
-/// The longest prefix of digits that goes on from `before` and stays below 2^64: its number and its length.
+/// Appends digits to `before` as long as the number stays below 2^64: the number and how many digits were appended.
 fn longest_prefix(before: u64, digits: &[u8]) -> (u64, usize)
     requires { All IsDigit digits.now }
     ensures number { result.0 ≡ fold add_digit before (take result.1 digits.now) }
@@ -179,7 +180,7 @@ fn longest_prefix(before: u64, digits: &[u8]) -> (u64, usize)
     (number, digits.len())
 }
 
-/// The digits' own power of ten and the written exponent, added exactly and clamped once.
+/// The exponent from the dropped and kept digits and the written exponent, added exactly and clamped once.
 fn clamped_exponent(dropped: usize, kept_fraction: usize, positive: bool, written: &[u8]) -> i16
     requires digits { All IsDigit written.now }
     requires dropped { dropped ≤ 32767 }
@@ -195,7 +196,7 @@ fn clamped_exponent(dropped: usize, kept_fraction: usize, positive: bool, writte
     }
 }
 
-/// The number that digits spell, at most `MAX_WRITTEN`.
+/// The number that the digits spell, at most `MAX_WRITTEN`.
 fn capped_number(digits: &[u8]) -> u32
     requires { All IsDigit digits.now }
     ensures { result ≡ min (digits_number digits.now) MAX_WRITTEN }
@@ -213,7 +214,8 @@ fn clamped(sum: i32) -> i16
     sum.clamp(i32::from(i16::MIN), i32::from(i16::MAX)) as i16
 }
 
-/// A law on the definitions alone: the kept digits are the longest prefix that spells a number below 2^64, and each longer prefix spells one of 2^64 or more.
+/// A law on the definitions alone: the kept digits are the longest prefix that spells a number below 2^64, and each
+/// longer prefix spells 2^64 or more.
 pub fn keeps_longest_prefix()
     ensures { KeepsLongestPrefix }
 {}

@@ -1,4 +1,4 @@
-//! Why a call is refused (docs/RULES.md, "Errors").
+//! Why a call fails (docs/RULES.md, "Errors").
 
 ghost use Rattle.std.specs.Prelude.{◌≡◌, Some, IfOk, IsOkUnless};
 ghost use Rattle.jzon_base.specs.ErrorPlace.{line_in, column_in};
@@ -7,41 +7,42 @@ ghost use Rattle.jzon_base.specs.ErrorText.{error_text, IsWrongType};
 use std::alloc::{AllocError, AllocFailed, Global};
 use std::fmt;
 
-/// Why a text is not read, or a call on a value is refused.
+/// Why a text is rejected, or a call on a value fails.
 #[derive(Debug, PartialEq, Eq, Drop)]
 pub enum Error {
-    /// The character `ch` can't stand where it stands in the text. Lines and columns are counted from 1, columns in characters.
+    /// The character `ch` isn't allowed at its offset. Lines and columns are counted from 1, columns in characters.
     UnexpectedCharacter {
         ch: char,
         line: usize,
         column: usize,
     },
-    /// The text ends inside a value, or before one.
+    /// The text ends inside a value or before one.
     UnexpectedEndOfJson,
     /// Too many containers are open, or a number has too many digits.
     ExceededDepthLimit,
-    /// An escape names no character, or bytes are no UTF-8.
+    /// An escape names no character, or bytes aren't UTF-8.
     FailedUtf8Parsing,
-    /// The value is of another kind than the one that is named.
+    /// The value isn't of the kind that is named.
     WrongType(String),
-    /// Memory was refused.
+    /// An allocation failed.
     OutOfMemory,
-    /// An object of a text has a key twice, which a strict reading refuses: the place of the second one's opening quote, with its line and
-    /// column counted from 1, the column in characters.
+    /// A strict reading found a key for the second time in an object: the line and column of the second one's opening
+    /// quote, counted from 1, the column in characters.
     DuplicateKey {
         line: usize,
         column: usize,
     },
 }
 
-/// The result of a call that is refused by an `Error`.
+/// The result of a call that fails with an `Error`.
 pub type Result<T> = std::result::Result<T, Error>;
 
 /// `Result` under another name.
 pub type JsonResult<T> = Result<T>;
 
 impl Error {
-    /// The refusal of a value that is not of the kind `expected`. Its words take memory, so it is itself refused by `OutOfMemory`.
+    /// The error for a value that isn't of the kind `expected`. Its text is allocated, so the call itself can fail with
+    /// `OutOfMemory`.
     pub fn wrong_type(alloc: Global, expected: &str) -> Result<Error>
         ensures words { IfOk result (IsWrongType expected.now) }
         ensures memory { IsOkUnless result Error.OutOfMemory }
@@ -49,7 +50,7 @@ impl Error {
         Ok(Error::WrongType(String::from_str(alloc, expected)?))
     }
 
-    /// The line of the text, counted from 1, at which it was rejected. `None` for an error that carries no position.
+    /// The line of the text, counted from 1, at which it was rejected. `None` for an error without a position.
     pub fn line(&self) -> Option<usize>
         ensures { result ≡ line_in self.now }
     {
@@ -60,7 +61,8 @@ impl Error {
         }
     }
 
-    /// The column of the text, counted from 1 in characters, at which it was rejected. `None` for an error that carries no position.
+    /// The column of the text, counted from 1 in characters, at which it was rejected. `None` for an error without a
+    /// position.
     pub fn column(&self) -> Option<usize>
         ensures { result ≡ column_in self.now }
     {

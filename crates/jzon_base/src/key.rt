@@ -1,4 +1,4 @@
-//! A key of an object: text that is kept inline where it is short (docs/RULES.md, "Short and long texts").
+//! A key of an object: text that is stored inline if it is short (docs/RULES.md, "Short and long texts").
 ghost use Rattle.std.specs.Prelude.{◌≡◌, ◌<◌, ◌≤◌, length, string_bytes, IfOk, IsOkUnless, OnErr};
 ghost use Rattle.std.specs.Str.{bytes_eq};
 ghost use Rattle.std.specs.Cmp.{partial_equiv_from_equiv};
@@ -10,9 +10,9 @@ use std::alloc::{AllocError, Global};
 use std::fmt;
 use std::marker::Model;
 
-/// A key of an object. A clause sees it as its bytes.
+/// A key of an object. In clauses a key is its bytes.
 ///
-/// Text of up to 32 bytes lies in the key itself, longer text in a `String` of its own.
+/// Text of up to 32 bytes is stored inline, longer text in an allocated `String`.
 #[derive(Drop)]
 pub struct Key {
     text: Text,
@@ -35,7 +35,8 @@ impl Model for Key {
 }
 
 impl Key {
-    /// The key of a text. Text of up to 32 bytes takes no memory; for longer text the error is a refused growth.
+    /// The key with this text. Text of up to 32 bytes allocates nothing; for longer text the error is a failed
+    /// allocation.
     pub fn new(alloc: Global, text: &str) -> Result<Key, AllocError>
         ensures bytes { IfOk result (λ k. k ≡ text.now) }
         ensures long { OnErr result (32 < length text.now) }
@@ -50,7 +51,7 @@ impl Key {
         }
     }
 
-    /// A copy. Text of up to 32 bytes takes no memory; for longer text the error is a refused growth.
+    /// A copy. Text of up to 32 bytes allocates nothing; for longer text the error is a failed allocation.
     pub fn clone(&self, alloc: Global) -> Result<Key, AllocError>
         ensures bytes { IfOk result (λ k. k ≡ self.now) }
         ensures long { OnErr result (32 < length self.now) }
@@ -73,7 +74,8 @@ impl Key {
         }
     }
 
-    /// The text as a `String`. Only text of up to 32 bytes, which lies in the key, takes memory here. Refused by `OutOfMemory` alone.
+    /// The text as a `String`. Only text of up to 32 bytes, which was stored inline, is allocated here. Fails with
+    /// `OutOfMemory` only.
     pub fn into_string(self, alloc: Global) -> error::Result<String>
         ensures bytes { IfOk result (λ s. string_bytes s ≡ self) }
         ensures short { OnErr result (length self ≤ 32) }
@@ -86,7 +88,7 @@ impl Key {
     }
 }
 
-/// Keys are equal where their bytes are.
+/// Keys are equal if their bytes are.
 impl PartialEq for Key {
     ghost eq = { bytes_eq };
 

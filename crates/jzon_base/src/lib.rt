@@ -1,4 +1,4 @@
-//! What JSON values and their parser stand on: errors, numbers, short texts, keys, and lists of pairs.
+//! What JSON values and their parser are built on: errors, numbers, short strings, keys, and lists of entries.
 #![tactic(auto)]
 
 pub mod digits;

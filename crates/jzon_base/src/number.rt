@@ -1,4 +1,4 @@
-//! Numbers: exact decimals, and what is not a number (docs/RULES.md, "Numbers").
+//! Numbers: exact decimals, and NaN (docs/RULES.md, "Numbers").
 
 ghost use Rattle.std.specs.Prelude.{◌≡◌, ◌+◌, ◌*◌, ◌^◌, ◌<◌, ◌≤◌, ◌≤ℤ◌, ◌==◌, ◌||◌, MatchOption};
 ghost use Rattle.jzon_base.specs.Decimal.{nan, parts, parts_of, is_nan, is_zero, is_positive, negated, same, shifted};
@@ -20,7 +20,8 @@ enum Category {
     Nan,
 }
 
-/// A number: `mantissa * 10 ^ exponent` with a sign, or NaN. It keeps its parts as they were given, so `1.50` is not `1.5` until it is compared.
+/// A number: `mantissa * 10 ^ exponent` with a sign, or NaN. It keeps its parts as they were set: `1.50` and `1.5` have
+/// different parts but are equal.
 #[derive(Clone, Copy, Debug)]
 pub struct Number {
     category: Category,
@@ -42,7 +43,7 @@ impl Model for Number {
     ghost inverse = { fields_of };
 }
 
-/// Not a number. Its parts are told as `(false, 0, 0)`.
+/// Not a number. Its parts are returned as `(false, 0, 0)`.
 pub const NAN: Number = Number {
     category: Category::Nan,
     exponent: 0,
@@ -50,7 +51,7 @@ pub const NAN: Number = Number {
 };
 
 impl Number {
-    /// The number with exactly these parts, zeros at the end of the mantissa included.
+    /// The number with exactly these parts, including trailing zeros of the mantissa.
     pub fn from_parts_unchecked(positive: bool, mantissa: u64, exponent: i16) -> Number
         ensures { result ≡ parts positive mantissa exponent }
     {
@@ -66,8 +67,8 @@ impl Number {
         }
     }
 
-    /// The number with this sign and decimal, where the mantissa's trailing zeros are stripped, one at a time, while the exponent is negative. So a mantissa 0 with
-    /// a negative exponent ends at exponent 0.
+    /// The number with this sign and decimal. Trailing zeros of the mantissa are stripped, one at a time, while the
+    /// exponent is negative, so a mantissa 0 with a negative exponent ends at exponent 0.
     pub fn from_parts(positive: bool, mantissa: u64, exponent: i16) -> Number
         ensures { StripsTo positive mantissa exponent result }
     {
@@ -80,7 +81,7 @@ impl Number {
         Number::from_parts_unchecked(positive, mantissa, exponent)
     }
 
-    /// Whether the sign is positive, the mantissa, and the exponent. NaN is told as `(false, 0, 0)`.
+    /// Whether the sign is positive, the mantissa, and the exponent; `(false, 0, 0)` for NaN.
     pub fn as_parts(&self) -> (bool, u64, i16)
         ensures { result ≡ parts_of self.now }
     {
@@ -98,14 +99,14 @@ impl Number {
         matches!(self.category, Category::Nan)
     }
 
-    /// Whether the sign is positive. That of NaN is not.
+    /// Whether the sign is positive. NaN's isn't.
     pub fn is_sign_positive(&self) -> bool
         ensures { result ≡ is_positive self.now }
     {
         matches!(self.category, Category::Positive)
     }
 
-    /// Whether this is 0, of either sign. NaN is not.
+    /// Whether this is 0, of either sign. NaN isn't.
     pub fn is_zero(&self) -> bool
         ensures { result ≡ is_zero self.now }
     {
@@ -181,7 +182,7 @@ impl fmt::Display for Number {
     }
 }
 
-/// Whether two numbers with these parts are the same.
+/// Whether two numbers with these parts are equal.
 #[tactic(auto, using(crate::specs::Same::zero_rules))]
 fn same_parts(
     positive: bool,
@@ -211,7 +212,7 @@ fn same_magnitude(mantissa: u64, exponent: i16, other_mantissa: u64, other_expon
     }
 }
 
-/// Whether the mantissa, times ten for each step from its exponent down to the lower one, is the other mantissa.
+/// Whether `mantissa * 10 ^ (exponent - lower)` is the other mantissa.
 #[tactic(auto, using(crate::proofs::Scaled::same_rules))]
 fn is_scaled(mantissa: u64, exponent: i16, other_mantissa: u64, lower: i16) -> bool
     requires some { 0 < mantissa }
@@ -228,7 +229,7 @@ fn steps_between(low: i16, high: i16) -> u32
     u32::from(high.abs_diff(low))
 }
 
-/// `mantissa * 10 ^ power`, where it fits.
+/// `mantissa * 10 ^ power`, if it fits.
 #[tactic(auto, using(crate::proofs::Powers::too_large))]
 fn times_power(mantissa: u64, power: u32) -> Option<u64>
     requires { 0 < mantissa }

@@ -1,4 +1,4 @@
-//! Short texts, kept in place (docs/RULES.md, "Short and long texts").
+//! Short strings, stored inline (docs/RULES.md, "Short and long texts").
 
 ghost use Rattle.std.specs.Prelude.{◌≡◌, ◌≤◌, length, IfOk, IsOkUnless, IsUtf8, string_bytes};
 ghost use Rattle.std.specs.Str.{bytes_eq};
@@ -13,7 +13,7 @@ use std::marker::Model;
 /// The most bytes that a `Short` holds.
 pub const MAX_LEN: usize = 30;
 
-/// A text of at most `MAX_LEN` bytes, which lie in the value itself, so that it takes no memory.
+/// A string of at most `MAX_LEN` bytes, stored in the value itself, so that it allocates nothing.
 #[derive(Drop)]
 pub struct Short {
     text: ArrayString<MAX_LEN>,
@@ -28,7 +28,7 @@ impl Model for Short {
 }
 
 impl Short {
-    /// A copy of the text, which must have at most `MAX_LEN` bytes.
+    /// A copy of the string, which must have at most `MAX_LEN` bytes.
     pub fn from_slice(slice: &str) -> Short
         requires { length slice.now ≤ MAX_LEN }
         ensures { result ≡ slice.now }
@@ -38,14 +38,14 @@ impl Short {
         Short { text }
     }
 
-    /// A copy. It takes no memory.
+    /// A copy. It allocates nothing.
     pub fn clone(&self) -> Short
         ensures { result ≡ self.now }
     {
         Short { text: self.text }
     }
 
-    /// The text.
+    /// The string.
     pub fn as_str(&self) -> &str
         ensures text { result.now ≡ self.now }
         ensures short { length self.now ≤ MAX_LEN }
@@ -54,14 +54,14 @@ impl Short {
         self.text.as_str()
     }
 
-    /// Whether this is the text `other`.
+    /// Whether this is the string `other`.
     pub fn eq_str(&self, other: &str) -> bool
         ensures { result ≡ bytes_eq self.now other.now }
     {
         self.as_str() == other
     }
 
-    /// The text as a `String`. It is refused by `OutOfMemory` alone.
+    /// The string as an allocated `String`. Fails with `OutOfMemory` only.
     pub fn into_string(self, alloc: Global) -> Result<String>
         ensures text { IfOk result (λ s. string_bytes s ≡ self) }
         ensures memory { IsOkUnless result OutOfMemory }

@@ -1,4 +1,4 @@
-//! Reads up to eight digits at once, in the bytes of a 64-bit word.
+//! Reads up to eight digits at once, as the bytes of a 64-bit word.
 
 ghost use Rattle.std.specs.Prelude.{◌≡◌, ℕ, List, ◌+◌, ◌-◌, ◌*◌, ◌%◌, ◌^◌, ◌<◌, ◌≤◌, drop, length, take};
 ghost use Rattle.std.specs.Char.{is_ascii_digit};
@@ -8,7 +8,7 @@ ghost use Rattle.jzon_base.specs.Digits.{digits_number, values_number};
 
 use std::simd::prelude::*;
 
-/// As many digits are read at once.
+/// How many digits are read at once.
 pub(crate) const EIGHT: usize = 8;
 
 /// `10 ^ n` at each position `n`.
@@ -32,7 +32,7 @@ pub(crate) fn ten_to(n: usize) -> u64
     POWERS_OF_TEN[n]
 }
 
-/// How many of the eight bytes from `start` on are digits before the first that is none, and the number that they spell.
+/// How many of the eight bytes from `start` on are leading digits, and the number that they spell.
 #[inline(always)]
 pub(crate) fn leading_digits(bytes: &[u8], start: usize) -> (usize, u64)
     requires { start + 8 ≤ length bytes.now }
@@ -59,8 +59,8 @@ fn last_bytes(word: u64, count: u32) -> u64
     word << 8 << (56 - 8 * count)
 }
 
-/// The number that eight digits spell, by their values in the bytes of a word, the first in the lowest byte: digits are joined to pairs, pairs to fours,
-/// and fours to eight.
+/// The number that eight digits spell, given by their values in the bytes of a word, the first in the lowest byte:
+/// digits are joined two by two, then four by four, then all eight.
 #[inline(always)]
 fn number_of_eight(word: u64) -> u64
     ensures { (ds : List ℕ) → length ds ≡ 8 → All (λ d. d < 10) ds → word ≡ number_l 256 ds → result ≡ values_number ds }

@@ -1,4 +1,4 @@
-//! Numbers as integers of a fixed point (docs/RULES.md, "Fixed-point readings").
+//! Numbers as fixed-point integers (docs/RULES.md, "Fixed-point readings").
 
 ghost use Rattle.std.specs.Prelude.{◌≡◌, pos, ◌/◌, ◌%◌, ◌==◌, ◌+ℤ◌, ◌<◌, ◌≤◌, ◌^◌, FitsSigned};
 ghost use Rattle.std.specs.Prelude.{IfSome, IsTrue, true};
@@ -12,7 +12,8 @@ use super::to_integer::with_sign;
 use super::{Number, times_power};
 
 impl Number {
-    /// `mantissa * 10 ^ (exponent + point)`, cut to a whole number. `None` for NaN, for each negative sign, that of -0 included, and where it doesn't fit.
+    /// `mantissa * 10 ^ (exponent + point)`, truncated to an integer. `None` for NaN, for a negative sign, even of -0,
+    /// and if it doesn't fit.
     pub fn as_fixed_point_u64(&self, point: u16) -> Option<u64>
         ensures { SomeWhere (unsigned_fixed_point self.now point) (λ n. n < 2 ^ 64) result }
     {
@@ -23,7 +24,8 @@ impl Number {
         whole_part(mantissa, exponent, point)
     }
 
-    /// `mantissa * 10 ^ (exponent + point)`, cut to a whole number, with the sign put on after that. `None` for NaN, and where it doesn't fit.
+    /// `mantissa * 10 ^ (exponent + point)`, truncated to an integer before the sign is applied. `None` for NaN, and if
+    /// it doesn't fit.
     pub fn as_fixed_point_i64(&self, point: u16) -> Option<i64>
         ensures { SomeWhere (fixed_point self.now point) (FitsSigned w64) result }
     {
@@ -34,8 +36,8 @@ impl Number {
         with_sign(positive, whole_part(mantissa, exponent, point)?)
     }
 
-    /// `mantissa * 10 ^ (exponent + point)`, where that is a whole number: 12.30 at 2 is 1230, and 12.301 at 2 is `None`, since a digit would be lost. `None` too for NaN,
-    /// for each negative sign, that of -0 included, and where it doesn't fit.
+    /// `mantissa * 10 ^ (exponent + point)`, if that is an integer: 12.30 at 2 is 1230, and 12.301 at 2 is `None`,
+    /// since a digit would be lost. `None` also for NaN, for a negative sign, even of -0, and if it doesn't fit.
     pub fn as_exact_fixed_point_u64(&self, point: u16) -> Option<u64>
         ensures number { SomeWhere (exact_unsigned_fixed_point self.now point) (λ n. n < 2 ^ 64) result }
         ensures same { IfSome result (λ n. point ≤ 32768 → IsTrue (same self.now (integer_at (pos n) point))) }
@@ -47,7 +49,8 @@ impl Number {
         }
     }
 
-    /// `mantissa * 10 ^ (exponent + point)` with the sign, where that is a whole number. `None` where a digit would be lost, for NaN, and where it doesn't fit.
+    /// `mantissa * 10 ^ (exponent + point)` with the sign, if that is an integer. `None` if a digit would be lost, for
+    /// NaN, and if it doesn't fit.
     pub fn as_exact_fixed_point_i64(&self, point: u16) -> Option<i64>
         ensures number { SomeWhere (exact_fixed_point self.now point) (FitsSigned w64) result }
         ensures same { IfSome result (λ n. point ≤ 32768 → IsTrue (same self.now (integer_at n point))) }
@@ -59,7 +62,7 @@ impl Number {
         }
     }
 
-    /// Whether no digit is lost where the fixed-point readings cut.
+    /// Whether the fixed-point readings at this point lose no digit.
     fn is_exact_at(&self, point: u16) -> bool
         ensures whole { result ≡ is_whole_at self.now point }
         ensures same { result ≡ true → IsExactAt self.now point }
@@ -72,7 +75,7 @@ impl Number {
     }
 }
 
-/// Whether the mantissa with its point moved is a whole number.
+/// Whether `mantissa * 10 ^ (exponent + point)` is an integer.
 fn is_whole(mantissa: u64, exponent: i16, point: u16) -> bool
     ensures { result ≡ is_whole mantissa (exponent +ℤ pos point) }
 {
@@ -80,7 +83,7 @@ fn is_whole(mantissa: u64, exponent: i16, point: u16) -> bool
     power >= 0 || is_multiple(mantissa, power.unsigned_abs())
 }
 
-/// The mantissa with its point moved, cut to a whole number, where it fits.
+/// `mantissa * 10 ^ (exponent + point)`, truncated to an integer, if it fits.
 fn whole_part(mantissa: u64, exponent: i16, point: u16) -> Option<u64>
     ensures { let n = whole_part mantissa (exponent +ℤ pos point) in SomeIff result (n < 2 ^ 64) n }
 {
@@ -105,7 +108,7 @@ fn is_multiple(mantissa: u64, power: u32) -> bool
     }
 }
 
-/// `mantissa / 10 ^ power`, which is 0 where the power doesn't fit.
+/// `mantissa / 10 ^ power`, which is 0 if `10 ^ power` doesn't fit.
 #[tactic(auto, using(crate::proofs::Scaled::over_rules))]
 fn over_power(mantissa: u64, power: u32) -> u64
     ensures { result ≡ mantissa / 10 ^ power }

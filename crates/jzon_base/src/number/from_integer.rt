@@ -6,14 +6,14 @@ ghost use Rattle.jzon_base.specs.Decimal.{integer_parts, same};
 use super::Number;
 
 impl Number {
-    /// Whether this is the integer `value`, however its parts are kept: `5e2` is 500.
+    /// Whether this equals the integer `value`, whatever its parts are: `5e2` equals 500.
     pub fn eq_i64(&self, value: i64) -> bool
         ensures { result ≡ same self.now (integer_parts value) }
     {
         *self == Number::from(value)
     }
 
-    /// Whether this is the integer `value`, however its parts are kept: `5e2` is 500.
+    /// Whether this equals the integer `value`, whatever its parts are: `5e2` equals 500.
     pub fn eq_u64(&self, value: u64) -> bool
         ensures { result ≡ same self.now (integer_parts (pos value)) }
     {

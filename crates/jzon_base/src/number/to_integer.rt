@@ -1,4 +1,4 @@
-//! Numbers as integers (docs/RULES.md, "Integer readings"). A power of ten is none here: `5e2` is no integer.
+//! Numbers as integers (docs/RULES.md, "Integer readings"). Only a number of exponent 0 is one: `5e2` isn't.
 
 ghost use Rattle.std.specs.Prelude.{◌≡◌, ◌<◌, ◌^◌, FitsSigned};
 ghost use Rattle.std.specs.Int.{w8, w16, w32, w64};
@@ -7,12 +7,12 @@ ghost use Rattle.jzon_base.specs.Decimal.{integer_of, signed, unsigned_of, OkWhe
 
 use super::Number;
 
-/// The number is no integer of the type.
+/// The number isn't an integer of the type.
 #[derive(Clone, Copy, Debug, PartialEq)]
 pub struct NumberOutOfScope;
 
 impl Number {
-    /// The mantissa, where the sign is positive and the exponent is 0.
+    /// The mantissa, if the sign is positive and the exponent is 0.
     fn unsigned(self) -> Option<u64>
         ensures { result ≡ unsigned_of self }
     {
@@ -22,7 +22,7 @@ impl Number {
         }
     }
 
-    /// The mantissa with its sign, where the exponent is 0.
+    /// The mantissa with its sign, if the exponent is 0.
     fn signed(self) -> Option<i64>
         ensures { SomeWhere (integer_of self) (FitsSigned w64) result }
     {
@@ -36,7 +36,7 @@ impl Number {
     }
 }
 
-/// The magnitude with a sign, where it fits.
+/// The magnitude with a sign, if it fits.
 pub(super) fn with_sign(positive: bool, magnitude: u64) -> Option<i64>
     ensures { let z = signed positive magnitude in SomeIff result (FitsSigned w64 z) z }
 {

@@ -1,13 +1,15 @@
-//! Vectors without much unused room.
+//! Vectors without much spare capacity.
 
 ghost use Rattle.std.specs.Prelude.{◌≡◌};
 
 use std::alloc::{AllocError, Global};
 
-/// A vector with more room than this keeps it: what it doesn't use is mostly pages that are never touched, and a copy would touch as many again.
+/// A vector of more capacity than this keeps it: its spare part is mostly pages that are never touched, and a copy
+/// would touch as many again.
 const FITTED_MAX: usize = 128;
 
-/// Moves the items to a block of their own size where they leave much of a small block unused. The error is a failed allocation.
+/// Moves the elements to a block of their exact size if the vector is small and more than a fifth of it is unused. The
+/// error is a failed allocation.
 #[inline(always)]
 pub fn fit<T: Drop>(alloc: Global, items: &mut Vec<T>) -> Result<(), AllocError>
     ensures { items.new.items ≡ items.old.items }

@@ -14,12 +14,13 @@ use itoa::{Buffer, write_digits};
 use std::io;
 use std::io::Write;
 
-/// The most bytes that a number prints.
+/// The most bytes in the text of a number.
 pub const MAX_LEN: usize = 29;
 
 type NumberText = ArrayString<MAX_LEN>;
 
-/// Writes the text of the number `n * 10 ^ exponent` with its sign. A fault of the writer is handed back, and a beginning of the text is then written.
+/// Writes the text of the number `n * 10 ^ exponent` with its sign. An error of the writer is returned; a prefix of the
+/// text is then written.
 pub fn write<W: Write>(wr: &mut W, positive: bool, n: u64, exponent: i16) -> io::Result<()>
     ensures ok { OnOk result
         (Appends (W.contents wr.old) (W.contents wr.new) (number_text positive n exponent)) }
@@ -31,7 +32,8 @@ pub fn write<W: Write>(wr: &mut W, positive: bool, n: u64, exponent: i16) -> io:
     write_bytes(wr, &room[start..])
 }
 
-/// Puts the text of the number `n * 10 ^ exponent` with its sign at the end of the room, and tells where it begins.
+/// Puts the text of the number `n * 10 ^ exponent` with its sign at the end of the buffer, and returns the offset at
+/// which it begins.
 #[inline(always)]
 pub fn put(room: &mut [u8; MAX_LEN], positive: bool, n: u64, exponent: i16) -> usize
     ensures start { result ≤ MAX_LEN }
@@ -56,7 +58,8 @@ fn put_any(room: &mut [u8; MAX_LEN], positive: bool, n: u64, exponent: i16) -> u
     start
 }
 
-/// Puts the text at the end of the room and tells where it begins, if all digits are spelled and one stands before the point. Most numbers are such.
+/// As `put` for the common case, in which the text is the mantissa's digits with at most a sign and a point; `None` in
+/// other cases and for 0.
 fn put_whole(
     room: &mut [u8; MAX_LEN],
     positive: bool,
@@ -81,7 +84,7 @@ fn put_whole(
     Some(put_sign(room, start - 1, positive))
 }
 
-/// Moves the bytes between `start` and `point` one place to the left, and puts a point behind them.
+/// Moves the bytes from `start` up to `point` one byte to the left, and puts a point after them.
 fn put_point(room: &mut [u8; MAX_LEN], start: usize, point: usize)
     requires some { 0 < start }
     requires order { start < point }
@@ -92,7 +95,7 @@ fn put_point(room: &mut [u8; MAX_LEN], start: usize, point: usize)
     room[point - 1] = b'.';
 }
 
-/// Puts the sign before the bytes from `start` on, and tells where they begin then.
+/// Puts the sign before the bytes from `start` on, and returns the offset at which the text begins.
 fn put_sign(room: &mut [u8; MAX_LEN], start: usize, positive: bool) -> usize
     requires some { 0 < start }
     requires within { start ≤ MAX_LEN }
@@ -147,7 +150,7 @@ fn push_magnitude(text: &mut NumberText, digits: &str, exponent: i16)
     }
 }
 
-/// The digits over `10 ^ places`: up to 17 places are spelled, more are an exponent.
+/// The digits divided by `10 ^ places`: for up to 17 places without an exponent, else with one.
 fn push_negative_power(text: &mut NumberText, digits: &str, places: usize)
     requires ascii { IsAscii digits.now }
     requires some { 0 < length digits.now }
@@ -165,7 +168,7 @@ fn push_negative_power(text: &mut NumberText, digits: &str, places: usize)
     }
 }
 
-/// The digits over `10 ^ places`, with all places spelled.
+/// The digits divided by `10 ^ places`, without an exponent.
 fn push_fraction(text: &mut NumberText, digits: &str, places: usize)
     requires ascii { IsAscii digits.now }
     requires places { places ≤ 17 }
@@ -183,7 +186,7 @@ fn push_fraction(text: &mut NumberText, digits: &str, places: usize)
     }
 }
 
-/// The exponent after the first of `count` digits, where the digits are over `10 ^ places`.
+/// The exponent after the first of `count` digits, for digits divided by `10 ^ places`.
 fn push_small_exponent(text: &mut NumberText, count: usize, places: usize)
     requires count { count ≤ 20 }
     requires small { 18 ≤ places }
