@@ -1,4 +1,4 @@
-//! Values and texts made of whatever turns into a value (docs/RULES.md, "Conversions").
+//! Converts types that are `IntoJson` into values and texts (docs/RULES.md, "Conversions").
 
 ghost use Rattle.std.specs.Prelude.{◌≡◌, IfOk, IfErr, IsOk, IsOkUnless, string_bytes};
 ghost use Rattle.jzon_tree.specs.IntoJson.{IsTextRefusal};
@@ -14,7 +14,8 @@ use jzon_tree::into_json::IntoJson;
 use jzon_tree::value::JsonValue;
 use std::alloc::Global;
 
-/// The value that `value` turns into. Refused by `OutOfMemory` alone, and never where the source is free, as integers and truth values are.
+/// Converts `value` into a JSON value. Fails with `OutOfMemory` only, and never if the conversion is free, as for
+/// integers and booleans.
 pub fn from<T: IntoJson>(alloc: Global, value: T) -> Result<JsonValue>
     ensures meant { IfOk result (λ v. T.means value (view v)) }
     ensures memory { IsOkUnless result Error.OutOfMemory }
@@ -23,7 +24,7 @@ pub fn from<T: IntoJson>(alloc: Global, value: T) -> Result<JsonValue>
     value.into_json(alloc)
 }
 
-/// The compact text of the value that `root` turns into. Refused as `dump` is.
+/// The compact text of the value that `root` converts into. Fails as `dump` does.
 pub fn stringify<T: IntoJson>(alloc: Global, root: T) -> Result<String>
     ensures text { IfOk result (λ text. (v : Value) × T.means root v × IsValue v × (string_bytes text ≡ compact v)
         × Writes compact_style 0 v (string_bytes text)) }
@@ -32,8 +33,8 @@ pub fn stringify<T: IntoJson>(alloc: Global, root: T) -> Result<String>
     root.into_json(alloc)?.dump(alloc)
 }
 
-/// The text of the value that `root` turns into, with a line for each item and `spaces` spaces for each container around it. Refused as
-/// `dump` is.
+/// The text of the value that `root` converts into, with a line for each element or member and `spaces` spaces for each
+/// container around it. Fails as `dump` does.
 pub fn stringify_pretty<T: IntoJson>(alloc: Global, root: T, spaces: u16) -> Result<String>
     ensures text { IfOk result
         (λ text. (v : Value) × T.means root v × IsValue v × (string_bytes text ≡ pretty v spaces 0)

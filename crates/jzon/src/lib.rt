@@ -1,4 +1,4 @@
-//! Reads, holds, changes and prints JSON without typed structs: a port of the Rust crate `jzon`.
+//! Parses, holds, changes and prints JSON without typed structs: a port of the Rust crate `jzon`.
 #![tactic(auto)]
 
 mod conversions;
@@ -31,5 +31,5 @@ pub use macros::{with_entry, with_item};
 pub use parser::{parse, parse_as};
 pub use reading::Reading;
 
-/// The items of an array.
+/// The elements of an array.
 pub type Array = Vec<JsonValue>;

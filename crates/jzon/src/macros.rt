@@ -1,5 +1,5 @@
-//! The macros that write a value as its text would be written (docs/RULES.md, "Conversions"). They hand the value on from call to call, so a function that
-//! builds one has nothing of it to drop where a call is refused, and is cheaper to prove.
+//! Macros that write a value in the form of its text (docs/RULES.md, "Conversions"). They pass the value from call to
+//! call, so a function that builds one holds nothing of it to drop when a call fails, and is cheaper to prove.
 
 ghost use Rattle.std.specs.Prelude.{◌≡◌, true, IfOk, IfErr, OnOk, codes};
 ghost use Rattle.jzon_tree.specs.Changers.{IsRefusal, with_item, with_entry};
@@ -12,7 +12,7 @@ use jzon_tree::into_json::IntoJson;
 use jzon_tree::value::JsonValue;
 use std::alloc::Global;
 
-/// The array with an item more, behind the others. Refused as `push` is.
+/// Appends an element to the array and returns the array. Fails as `push` does.
 #[doc(hidden)]
 pub fn with_item<T: IntoJson>(alloc: Global, array: JsonValue, item: T) -> Result<JsonValue>
     ensures ok { IfOk result
@@ -25,7 +25,7 @@ pub fn with_item<T: IntoJson>(alloc: Global, array: JsonValue, item: T) -> Resul
     Ok(array)
 }
 
-/// The object with a value under a key, as `insert` puts it. Refused as `insert` is.
+/// Sets a member of the object as `insert` does, and returns the object. Fails as `insert` does.
 #[doc(hidden)]
 pub fn with_entry<T: IntoJson>(
     alloc: Global,
@@ -43,7 +43,7 @@ pub fn with_entry<T: IntoJson>(
     Ok(object)
 }
 
-/// A value: `null`, `[..]`, `{..}`, or an expression of a type that is `IntoJson`. A refusal is handed on with `?`.
+/// A value: `null`, `[..]`, `{..}`, or an expression of a type that is `IntoJson`. An error is propagated with `?`.
 #[macro_export]
 macro_rules! value {
     ($alloc:expr; null) => {
@@ -60,7 +60,7 @@ macro_rules! value {
     };
 }
 
-/// An array of items with commas between them; a last comma is allowed. An item is all that `value!` takes.
+/// An array of elements separated by commas; a trailing comma is allowed. An element is anything that `value!` takes.
 ///
 /// ```rust
 /// let list = jzon::array![alloc; 1u8, "two", null];
@@ -75,8 +75,9 @@ macro_rules! array {
     }};
 }
 
-/// An object of pairs with commas between them; a last comma is allowed. A pair is a key, `:` and all that `value!` takes, where a key is an identifier, a text
-/// literal or `[expression]`; or it is `key => value`, where the key is an expression. The expressions of keys are of type `&str`.
+/// An object of members separated by commas; a trailing comma is allowed. A member is a key, `:` and anything that
+/// `value!` takes, where a key is an identifier, a string literal or `[expression]`; or it is `key => value`, where the
+/// key is an expression. Key expressions are of type `&str`.
 ///
 /// ```rust
 /// let built = jzon::object! {alloc; a: 5u8, "b": [true, null], c: list};
@@ -91,8 +92,8 @@ macro_rules! object {
     }};
 }
 
-/// What an item or a pair is made of: what `value!` gives for `null`, `[..]` and `{..}`, and an expression as it stands, which `with_item` and `with_entry` turn
-/// into a value.
+/// The value of an element or member: as by `value!` for `null`, `[..]` and `{..}`; any other expression is left as it
+/// is, for `with_item` and `with_entry` to convert.
 #[doc(hidden)]
 #[macro_export]
 macro_rules! source {
@@ -110,7 +111,7 @@ macro_rules! source {
     };
 }
 
-/// Pushes the items of `array!`.
+/// Pushes the elements of `array!`.
 #[doc(hidden)]
 #[macro_export]
 macro_rules! push_items {
@@ -127,7 +128,7 @@ macro_rules! push_items {
     };
 }
 
-/// Inserts the pairs of `object!`.
+/// Inserts the members of `object!`.
 #[doc(hidden)]
 #[macro_export]
 macro_rules! insert_pairs {
@@ -146,7 +147,7 @@ macro_rules! insert_pairs {
     };
 }
 
-/// Inserts a value under its key, and then the pairs behind it.
+/// Inserts a member, and then those after it.
 #[doc(hidden)]
 #[macro_export]
 macro_rules! insert_value {

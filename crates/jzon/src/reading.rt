@@ -8,8 +8,8 @@ use jzon_tree::codegen::is_readable;
 use jzon_tree::value::JsonValue;
 use std::marker::Model;
 
-/// How a text is read: strictly or not, and with how many containers open that aren't empty. A strict reading has the whitespace of RFC 8259 alone, and
-/// refuses a repeated key.
+/// How a text is read: whether strictly, and how many non-empty containers may be open. A strict reading accepts only
+/// the whitespace of RFC 8259 and rejects a repeated key.
 #[derive(Clone, Copy, Debug)]
 pub struct Reading {
     strict: bool,
@@ -37,7 +37,7 @@ pub(crate) const USUAL: Reading = Reading {
 };
 
 impl Reading {
-    /// The reading of these arguments; none where `depth` is above 512.
+    /// The reading with these settings; `None` if `depth` is above 512.
     pub fn new(strict: bool, depth: u16) -> Option<Reading>
         ensures { SomeIff result (depth ≤ 512) (record { strict = strict; depth = depth }) }
     {
@@ -54,7 +54,7 @@ impl Reading {
         self.strict
     }
 
-    /// How many containers that aren't empty may be open.
+    /// How many non-empty containers may be open.
     pub fn depth(&self) -> u16
         ensures depth { result ≡ self.now.depth }
         ensures most { result ≤ 512 }
@@ -62,8 +62,8 @@ impl Reading {
         self.depth
     }
 
-    /// Whether the value holds no NaN and nests no deeper than this reading allows. If so, what is dumped of it reads back by this reading as an equal value
-    /// (`laws::reads_back`). Takes no memory.
+    /// Whether the value contains no NaN and nests no deeper than this reading allows. If so, its dumped text is read
+    /// back by this reading as an equal value (`laws::reads_back`). Allocates nothing.
     pub fn admits(&self, value: &JsonValue) -> bool
         ensures { IsTrue result ↔ IsReadable self.now (view value.now) }
     {

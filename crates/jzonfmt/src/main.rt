@@ -1,4 +1,4 @@
-//! Reads one JSON document from standard input, and prints it on standard output.
+//! Reads one JSON text from standard input and prints it on standard output.
 #![tactic(auto)]
 
 mod buffered;

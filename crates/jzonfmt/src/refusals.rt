@@ -1,4 +1,5 @@
-//! The program with each of its requests for memory refused in turn. That is the work of ci/refuse.c, beside which bin/test runs these tests once more.
+//! The program with each of its allocations failing in turn. ci/refuse.c makes them fail: bin/test runs these tests
+//! once more with it.
 
 use crate::engine;
 use crate::engine::{Layout, RunFault};
