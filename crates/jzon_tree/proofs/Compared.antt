@@ -19,7 +19,7 @@ use Rattle.jzon_tree.proofs.Views.{view-find, most-rest}
 
 -- ---- arrays
 
--- The items vs and ws of two arrays are left, and all before them are the same.
+-- The elements vs and ws of two arrays are left, and all before them are equal.
 pub record ComparedItems (items others vs ws : List JsonValue) : Type 0 where
   pub left : same_items (view_values items) (view_values others) ≡ same_items (view_values vs) (view_values ws)
   pub as_many : length vs ≡ length ws
@@ -70,7 +70,7 @@ left_next ps rest left k v c e =
 abbrev same_pairs : List (List ℕ × JsonValue) → List (List ℕ × JsonValue) → Bool
 same_pairs ps qs = same (object (view_pairs ps)) (object (view_pairs qs))
 
--- the two look-ups of a key, in two objects that are the same
+-- the two lookups of a key, in two equal objects
 looked_up : (ps qs : List (List ℕ × JsonValue)) → same_pairs ps qs ≡ true → (k : List ℕ)
     → same_at (option_map view (find k ps)) (option_map view (find k qs)) ≡ true
 looked_up ps qs h k = rw (view-find k ps, view-find k qs) (object-elim (view_pairs ps) (view_pairs qs) h k)
@@ -109,7 +109,7 @@ passed_at k l true v w qs found e h f =
     inr (subst (λ (x : JsonValue). passes (same (view x)) (option_map view (find l qs)) ≡ true) (same_Some v w f) there)
 passed_at k l false v w qs found e h f = inl f
 
--- one pair further
+-- one entry further
 pub compared_next : (ps qs rest left : List (List ℕ × JsonValue)) (k : List ℕ) (v : JsonValue)
     → ComparedPairs ps qs rest → rest ≡ (k, v) ∷ left → passes (same (view v)) (option_map view (find k qs)) ≡ true
     → ComparedPairs ps qs left
@@ -122,7 +122,7 @@ compared_next ps qs rest left k v c e h = record {
   no_larger = omega (arith, c.no_larger, most-rest rest left (k, v) e);
 }
 
--- ---- all pairs compared
+-- -- all entries compared
 none_more_at : (k : List ℕ) (ps qs : List (List ℕ × JsonValue)) (o p : Option JsonValue) → find k ps ≡ o → find k qs ≡ p
     → (o ≡ None → (w : JsonValue) → p ≡ Some w → ⊥) → ((v : JsonValue) → o ≡ Some v
     → passes (same (view v)) (option_map view p) ≡ true)

@@ -1,4 +1,5 @@
--- The bytes that a generator over memory wrote of a value, from nothing on: its text in the generator's layout.
+-- The bytes that a generator over memory writes for a value, if it was empty before: the value's text in the
+-- generator's layout.
 use Rattle.std.proofs.Common.{◌≡◌, ◌∙◌, ℕ, Bool, List, [], ◌*◌, Some, None, refl, sym, subst, true, false, arith}
 use Rattle.std.specs.Prelude.{IsUtf8}
 use Rattle.std.specs.Str.{IsAscii}
@@ -13,7 +14,7 @@ use Rattle.jzon_tree.specs.Writing.{Style, Writes, colon_text}
 use Rattle.jzon_tree.proofs.PrintedUtf8.{IsAscii-true, IsAscii-replicate, IsUtf8-text}
 use Rattle.jzon_tree.proofs.Unique.{written}
 
--- the bytes are UTF-8, and are this text, a writing of the value in the style
+-- the bytes are UTF-8, are this text, and are a text of the value in the style
 abbrev pub IsPrinted : List ℕ → Style → Value → List ℕ → Type 0
 IsPrinted t s v bytes = IsUtf8 bytes × (bytes ≡ t) × Writes s 0 v bytes
 

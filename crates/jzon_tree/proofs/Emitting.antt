@@ -1,4 +1,4 @@
--- What hooks do, one after another.
+-- The effect of several hooks, one after the other.
 use Rattle.std.proofs.Common.{◌≡◌, ℕ, suc, ◌+◌, ◌-◌, List, [], ◌∷◌, ◌++◌, refl, sym, ap, subst, ◌∙◌, append_assoc}
 use Rattle.std.proofs.Common.{append-nil, add-one, Result, Ok, Err, arith, Option, None, true}
 use Rattle.std.proofs.lemmas.Bool.{eqb-true, false_from_ne_true}
@@ -15,7 +15,7 @@ Added-nothing P e p = record { bytes = adds_same P e.out p; dent = refl; faults 
 at_style : (Q : Style → ℕ → List ℕ → Type 0) {s t : Style} {m n : ℕ} → s ≡ t → m ≡ n → (x : List ℕ) → Q s m x → Q t n x
 at_style Q {s} {t} {m} {n} es en x q = subst (λ k. Q t k x) en (subst (λ k. Q k m x) es q)
 
--- two calls in turn, of which the second writes by the style and the indents that it finds
+-- two calls in sequence; the second writes by the style and the indents that the first leaves
 module _ (P : List ℕ → Type 0) (Q : Style → ℕ → List ℕ → Type 0) (R : List ℕ → Type 0) (a b c : Emitted)
     (join : (x y : List ℕ) → P x → Q a.style a.dent y → R (x ++ y)) (h : Added P a b) where
   join_begins : (x y : List ℕ) → P x → Begins (Q b.style b.dent) y → Begins R (x ++ y)
@@ -58,7 +58,7 @@ module _ (P : List ℕ → Type 0) (Q : Style → ℕ → List ℕ → Type 0) (
   PrintsIf-after K (Ok u) k = Added-after k
   PrintsIf-after K (Err e) k = λ keyed. Stopped-after (k keyed)
 
--- two calls in turn, of which the bytes of both together are known
+-- two calls in sequence, with known bytes for both together
 module _ (P R : List ℕ → Type 0) (a b c : Emitted) (h : Added P a b) where
   pub Added-chain : (Q : List ℕ → Type 0) → Added Q b c → Adds R a.out c.out → Added R a c
   Added-chain Q k bytes = record {
@@ -78,7 +78,7 @@ module _ (P R : List ℕ → Type 0) (a b c : Emitted) (h : Added P a b) where
     lender = k.lender ∙ h.lender;
   }
 
--- and three
+-- three calls in sequence
 module _ (P Q R S : List ℕ → Type 0) (a b c d : Emitted) (h : Added P a b) (j : Added Q b c) where
   pub Added-chained : Added S c d → Adds R a.out d.out → Added R a d
   Added-chained k bytes = record {
@@ -98,7 +98,7 @@ module _ (P Q R S : List ℕ → Type 0) (a b c d : Emitted) (h : Added P a b) (
     lender = k.lender ∙ j.lender ∙ h.lender;
   }
 
--- a fault, where some bytes would have followed
+-- a fault, where more bytes would have followed
 module _ (P R : List ℕ → Type 0) (a b : Emitted) (more : (x : List ℕ) → P x → Begins R x) where
   more_begins : (x : List ℕ) → Begins P x → Begins R x
   more_begins x (y, p) = (y ++ (more (x ++ y) p).0, rw (sym (append_assoc x y (more (x ++ y) p).0)) (more (x ++ y) p).1)
@@ -157,11 +157,11 @@ PrintsIf-emits : {E : Type 0} (K : Type 0) (P : List ℕ → Type 0) (a b : Emit
 PrintsIf-emits K P a b (Ok u) h = h
 PrintsIf-emits K P a b (Err e) h = λ keyed. Stopped-failed P a b h
 
--- ---- an opening bracket, an indent, what Q allows there, and the close
+-- -- an opening bracket, an indent, what Q allows inside, and the closing bracket
 module _ (opening closing : ℕ) (Q : Style → ℕ → List ℕ → Type 0) (R : List ℕ → Type 0) (a : Emitted)
     (close : (y z : List ℕ) → Q a.style (suc a.dent) y → IsClosing a.style a.dent closing z → R (opening ∷ (y ++ z)))
   where
-    -- while what is inside has not begun or not ended, some of it must be known to exist
+    -- if the inside isn't begun or isn't finished, some text for it must be known to exist
     module _ (inner : (y : List ℕ) × Q a.style (suc a.dent) y) (end : (z : List ℕ) × IsClosing a.style a.dent closing z)
       where
         closed_after : (x : List ℕ) → Just (opening ∷ []) x → Begins R x
@@ -212,7 +212,7 @@ module _ (opening closing : ℕ) (Q : Style → ℕ → List ℕ → Type 0) (R 
         lender = k.lender ∙ lender_within;
       }
 
-      -- the bracket, and what Q allows within
+      -- the bracket, and what Q allows inside
       opened : List ℕ → Type 0
       opened w = (y : List ℕ) × Q a.style (suc a.dent) y × (w ≡ opening ∷ y)
 
@@ -262,7 +262,7 @@ Failed-sent P bs old new o p h e = rw e (record {
   lender = refl;
 })
 
--- ---- what was sent to the writer, with its fault counted
+-- -- what was sent to the writer, with its error counted as a fault
 pub Emits-counted : {E : Type 0} (P : List ℕ → Type 0) (bs : List ℕ) (old mid new : Emitted) (lent o : Option (List ℕ))
     (step r : Result (Unit {0}) E)
     → P bs → lent ≡ old.out → Sends (Just bs) lent o step → mid ≡ record old { out = o } → r ≡ step
@@ -272,7 +272,7 @@ Emits-counted P bs old mid new lent o (Ok u) r p l h m e k = rw (e, k, m)
 Emits-counted P bs old mid new lent o (Err u) r p l h m e k = rw e
     (Failed-sent P bs old new o p (subst (λ x. Adds (Begins (Just bs)) x o) l h) (rw m at k))
 
--- the same with the error that was laid aside
+-- the same with the error stored in the error slot
 pub Emits-handed : {E F : Type 0} (P : List ℕ → Type 0) (bs : List ℕ) (old mid new : Emitted) (lent o : Option (List ℕ))
     (step : Result (Unit {0}) F) (answer r : Result (Unit {0}) E)
     → P bs → lent ≡ old.out → Sends (Just bs) lent o step → MatchResult step (λ u. answer ≡ Ok u) (λ _. IsErr answer)
@@ -280,12 +280,12 @@ pub Emits-handed : {E F : Type 0} (P : List ℕ → Type 0) (bs : List ℕ) (old
 Emits-handed P bs old mid new lent o step answer r p l h s =
     Emits-counted P bs old mid new lent o answer r p l (Sends-laid (Just bs) lent o step answer s h)
 
--- the answer `None` of a generator that stays as it is
+-- a generator that returns `None` and stays as it is
 pub insertion_answered : {E A : Type 0} (K : Option A → Type 0) (old new : Emitted) (r : Result (Option A) E)
     → r ≡ Ok None → new ≡ old → K None
     → MatchResult r (λ answer. Added (Just []) old new × K answer) (λ _. Failed (Just []) old new)
 insertion_answered K old new r e same k = rw (e, same) (Added-nothing (Just []) old refl, k)
 
--- a truth value as the program keeps it
+-- a boolean as the program computes it
 pub has_lines : (n : ℕ) → (n ≡ 0 → ⊥) → not (n == 0) ≡ true
 has_lines n h = ap not (false_from_ne_true (n == 0) (λ e. h (eqb-true n 0 e)))

@@ -1,4 +1,4 @@
--- What was written where the functions that write values return.
+-- What has been written when the functions that write values return.
 use Rattle.std.proofs.Common.{◌≡◌, ℕ, zero, suc, ◌+◌, ◌-◌, ◌<◌, List, [], ◌∷◌, ◌++◌, length, Result, ◌∙◌, ap, subst}
 use Rattle.std.proofs.Common.{get_or, take, append_assoc, append-nil, sym, refl, true, false, Bool, inl, inr, add-one}
 use Rattle.std.proofs.Common.{arith, length-append}
@@ -52,7 +52,7 @@ module _ (a : Emitted) (lawful : IsStyle a.style) (vs : List Value) (n : 0 < len
       array_at_close f = printed_at_close 91 93 (λ s d. AreItems s d vs) this_array a (array_closed a.style a.dent vs n)
           b c d h e (AreValues (values_of vs)) f r
 
--- ---- the loop over an array's items: us are written, v is next, and rest follow
+-- -- the loop over an array's elements: us are written, v is next, and rest follow
 keyed_next : (us : List Value) (v : Value) (rest : List Value) → AreValues (values_of (us ++ v ∷ rest)) → IsValue v
     × AreValues (values_of rest)
 keyed_next [] v rest h = h
@@ -63,7 +63,7 @@ module _ (a : Emitted) (lawful : IsStyle a.style) (us : List Value) (v : Value) 
   abbrev all : List Value
   all = us ++ v ∷ rest
 
-  -- what was written, and what stands before the next item
+  -- what was written, and what precedes the next element
   begun : List ℕ → Type 0
   begun x = (u w : List ℕ) × AreItems a.style a.dent us u × IsBetween a.style a.dent (nat_lt 0 (length us)) w
       × (x ≡ u ++ w)
@@ -73,7 +73,7 @@ module _ (a : Emitted) (lawful : IsStyle a.style) (us : List Value) (v : Value) 
   unfolding begun
   begun_then x y p q = (x, y, p, q, refl)
 
-  -- with a writing of the next item
+  -- with a text of the next element
   begun_ends : (vs : List Value) (x y z : List ℕ) → begun x → Writes a.style a.dent v y
       → MoreItems a.style a.dent true vs z → AreItems a.style a.dent (us ++ v ∷ vs) ((x ++ y) ++ z)
   unfolding begun
@@ -128,7 +128,7 @@ module _ (a : Emitted) (lawful : IsStyle a.style) (us : List Value) (v : Value) 
     items_more f = Added-after begun (λ s d. Writes s d v) (AreItems a.style a.dent (us ++ v ∷ [])) a c d one_more
         has_begun f
 
--- ---- the loop over an object's pairs: those at the first i positions are written, and e is next
+-- -- the loop over an object's entries: those at the first i positions are written, and e is next
 keyed_at : (es : List (List ℕ × Value)) (p : ℕ) → ArePairs (pairs_of es) → p < length es → IsValue (pair_at es p).1
 keyed_at [] p k h = absurd (omega arith)
 keyed_at (e ∷ es) zero k h = k.1
@@ -193,7 +193,7 @@ module _ (a : Emitted) (lawful : IsStyle a.style) (es : List (List ℕ × Value)
     members_more f = Added-after ready (λ s d. IsEntry s d e) (AreMembers a.style a.dent es (take (i + 1) ps)) a c d
         entry_then is_ready f
 
--- ---- an object, after its order is known
+-- -- an object whose order is known
 module _ (a : Emitted) (lawful : IsStyle a.style) (es : List (List ℕ × Value)) (ps : List ℕ)
     (o : IsOrder (length es) ps) (t : IsTrue (a.style.order (keys_of es) ps)) (n : 0 < length es) {E : Type 0}
     (r : Result (Unit {0}) E) where
@@ -228,7 +228,7 @@ module _ (a : Emitted) (lawful : IsStyle a.style) (es : List (List ℕ × Value)
       object_at_close f = printed_at_close 123 125 (λ s d. AreMembers s d es ps) this_object a
           (object_closed a.style a.dent es ps o t n) b c d h e (IsValue (object (pairs_of es))) f r
 
--- ---- a pair in three steps
+-- -- an entry in three steps
 module _ (s : Style) (d : ℕ) (e : List ℕ × Value) where
   pub AfterColon : List ℕ → Type 0
   AfterColon x = (wide : Bool) × IsTrue (s.colon wide) × (x ≡ quoted e.0 ++ colon_text wide)

@@ -1,4 +1,4 @@
--- What a walk finds of a container, one item after the other.
+-- What an inspection finds of a container, one element or entry after the other.
 use Rattle.std.proofs.Common.{◌≡◌, ℕ, zero, suc, ◌+◌, ◌-◌, ◌<◌, ◌≤◌, ◌^◌, List, [], ◌∷◌, ◌++◌, map, take, Some, add-one}
 use Rattle.std.proofs.Common.{Bool, true, false, refl, sym, ap, ◌∙◌, arith, subst}
 use Rattle.std.specs.Prelude.{slice_get, max, min, ◌||◌, ◌↔◌}
@@ -56,7 +56,7 @@ neither true b h = absurd (cc h)
 none : (a b : Bool) → a ≡ false → b ≡ false → (a || b) ≡ false
 none a b h k = rw (h, k) refl
 
--- one more, unless it is the greatest
+-- one more, saturating
 below : (n r : ℕ) → r < 2 ^ 128 - 1 → min (n + 1) (2 ^ 128 - 1) ≤ r → n < r
 below n r h k = omega (arith, h, k)
 
@@ -96,7 +96,7 @@ inspected_plain v h k e = record {
   reached = λ r l f. omega arith;
 }
 
--- ---- the values of pairs
+-- -- the values of entries
 abbrev pub inside : List (List ℕ × JsonValue) → List Value
 inside ps = map (λ p. view p.1) ps
 

@@ -1,5 +1,5 @@
--- What the changers of values keep: that a value is one that a program can hold, that it holds no NaN, and how deep it
--- nests.
+-- What the changers of values preserve: that a program can hold the value, that it contains no NaN, and its nesting
+-- depth.
 use Rattle.std.proofs.Common.{◌≡◌, ◌≢◌, ℕ, zero, suc, ◌<◌, ◌≤◌, List, [], ◌∷◌, ◌++◌, remove, slice_get}
 use Rattle.std.proofs.Common.{Some, refl, subst, arith}
 use Rattle.std.specs.Prelude.{⊤, AllPairs, IsUtf8}
@@ -34,10 +34,10 @@ module _ {X : Type 0} (P : X → Type 0) where
   All-slice_get (y ∷ ys) zero x all got = subst P (same_Some y x got) all.0
   All-slice_get (y ∷ ys) (suc i) x all got = All-slice_get ys i x all.1 got
 
--- ---- a property that holds of a container just where one holds of what is in it
+-- -- a property that holds of a container if and only if one holds of its parts
 
--- P holds of an array where Q holds of its items, and of an object where K holds of its keys, Q of its values, and D of
--- all its keys.
+-- P holds of an array if Q holds of its elements, and of an object if K holds of its keys, Q of its values, and D of
+-- the list of its keys.
 pub record GoesInside (P Q : Value → Type 0) (K : List ℕ → Type 0) (D : List (List ℕ) → Type 0) : Type 0 where
   pub null : P null
   pub empty_text : (k : Kind) (s : List ℕ) → P (text k s) → P (text k [])
@@ -257,7 +257,7 @@ nests h = record {
   cut = λ k ps all. tt;
 }
 
--- ---- what each change keeps
+-- -- what each change preserves
 
 -- the keys of a value that a program can hold
 pub distinct-entries : (v : Value) → IsValue v → AllPairs (λ j k. j ≢ k) (keys_of (entries v))

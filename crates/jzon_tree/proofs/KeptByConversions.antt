@@ -1,5 +1,5 @@
--- What the conversions give: a value that a program can hold, without NaN, and how deep it nests, by what each part of
--- a source means.
+-- What the conversions return: a value that a program can hold, without NaN, and its nesting depth, from what each part
+-- of a source means.
 use Rattle.std.proofs.Common.{◌≡◌, ℕ, ◌<◌, ◌≤◌, ◌^◌, pos, List, [], ◌∷◌, length, Bool, true, false, nat_le}
 use Rattle.std.proofs.Common.{if◌then◌else◌, Option, Some, None, refl, subst, sym, arith}
 use Rattle.std.specs.Prelude.{IsUtf8}
@@ -14,7 +14,7 @@ use Rattle.jzon_tree.specs.Lawful.{IsText, IsValue, HasNoNan}
 use Rattle.jzon_tree.specs.Value.{Value, null, text, number, short, long, kind_of, nest}
 use Rattle.jzon_tree.proofs.KeptByChanges.{GoesInside, held, no_nan, nests}
 
--- ---- scalars
+-- -- primitives
 
 kind_fits : (b : Bool) (s : List ℕ) → nat_le (length s) 30 ≡ b → IsUtf8 s → IsText (if b then short else long) s
 kind_fits true s e u = (u, below (length s) e)

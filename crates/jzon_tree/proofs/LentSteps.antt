@@ -1,4 +1,4 @@
--- What the proofs by hand of `get_mut`, `at_mut` and `at_index_mut` cite, which lend a value out of a value.
+-- Cited by the handwritten proofs of `get_mut`, `at_mut` and `at_index_mut`, which lend a value inside a value.
 pub use Rattle.std.proofs.Common.{[], ◌∷◌, refl}
 pub use Rattle.std.proofs.raw_atomic.Walks.{proved, leaves}
 pub use base.Fraction.{full_share}
@@ -35,6 +35,6 @@ pub use contract.Lifetimes.{Lfts, Shares}
 pub use denote.Param.Laws.{row_loose}
 pub use denote.Plain.{uint_vals, uint_Tells}
 
--- each lifetime lies within [], which never ends
+-- each lifetime is within [], which never ends
 pub within_static : (κ : Lft) → κ ⊑ []
 within_static κ a m = absurd (not-mem-nil m)

@@ -1,4 +1,4 @@
--- The pairs of an object in the order that was answered.
+-- The entries of an object in the order that the generator returned.
 use Rattle.std.proofs.Common.{◌≡◌, ℕ, zero, suc, ◌+◌, ◌<◌, ◌≤◌, List, [], ◌∷◌, ◌++◌, length, length-take, drop, Option}
 use Rattle.std.proofs.Common.{Some, None, map, refl, sym, ap, ◌∙◌, get_or, take, true, false, Bool, add-one, arith}
 use Rattle.std.proofs.Common.{subst, inl, inr}
@@ -32,7 +32,7 @@ entry_at [] p k v e = absurd (cc e)
 entry_at (q ∷ ps) zero k v e = let same : q ≡ (k, v) = cc e in ap (λ (r : List ℕ × JsonValue). (r.0, view r.1)) same
 entry_at (q ∷ ps) (suc p) k v e = entry_at ps p k v e
 
--- the same of a place that an order names
+-- the same for a position in an order
 pub entry_named : (ps : List (List ℕ × JsonValue)) (p q : ℕ) (k : List ℕ) (v : JsonValue) → p ≡ q
     → slice_get ps p ≡ Some (k, v) → pair_at (viewed ps) q ≡ (k, view v)
 entry_named ps p q k v e h = sym (ap (pair_at (viewed ps)) e) ∙ entry_at ps p k v h
@@ -88,7 +88,7 @@ whole_object ps h k = (
       (AllPairs-from_IsDistinct bytes_eq-Decides (keys_of ps) h),
 )
 
--- one pair more of those that were visited
+-- one more visited entry
 pub pairs_more : (ps : List (List ℕ × JsonValue)) (i : ℕ) (k : List ℕ) (v : JsonValue) → slice_get ps i ≡ Some (k, v)
     → IsUtf8 k → IsValue (view v) → ArePairs (view_pairs (take i ps))
     → ArePairs (view_pairs (take (i + 1) ps))
@@ -97,7 +97,7 @@ pairs_more (p ∷ ps) zero k v e u q h = let same : p ≡ (k, v) = cc e in rw sa
 pairs_more (p ∷ ps) (suc i) k v e u q h = rw (add-one (suc i))
     (h.0, h.1, rw (add-one i) at (pairs_more ps i k v e u q h.2))
 
--- the pairs that an order names
+-- the entries at the positions of an order
 pairs_at : (es : List (List ℕ × Value)) → ((p : ℕ) → p < length es → IsPair (pair_at es p)) → ArePairs (pairs_of es)
 pairs_at [] h = tt
 pairs_at (e ∷ es) h = ((h 0 (omega arith)).0, (h 0 (omega arith)).1, pairs_at es (λ p g. h (suc p) (omega arith)))
@@ -116,7 +116,7 @@ named_more es ps i e each k h = elim (cases_lt k i) [
   | inr f ↦ let same : k ≡ i = omega arith in rw same e
 ]
 
--- one item more of those that were visited
+-- one more visited element
 pub keyed_more : (vs : List JsonValue) (i : ℕ) (v : JsonValue) → i < length vs → v ≡ get_or vs i v
     → AreValues (view_values (take i vs)) → IsValue (view v) → AreValues (view_values (take (i + 1) vs))
 keyed_more [] i v h e k q = absurd (omega arith)
@@ -124,7 +124,7 @@ keyed_more (w ∷ vs) zero v h e k q = (rw e at q, tt)
 keyed_more (w ∷ vs) (suc i) v h e k q = rw (add-one (suc i))
     (k.0, rw (add-one i) at (keyed_more vs i v (omega arith) e k.1 q))
 
--- no value at a place is larger than all of them
+-- no value at a position is larger than all of them
 pub most-at : (ps : List (List ℕ × JsonValue)) (p : ℕ) (k : List ℕ) (v : JsonValue) → slice_get ps p ≡ Some (k, v)
     → size-JsonValue v ≤ most size-JsonValue (values_of ps)
 most-at [] p k v e = absurd (cc e)
@@ -132,7 +132,7 @@ most-at (q ∷ ps) zero k v e = let same : q ≡ (k, v) = cc e in omega
     (arith, ap (λ (r : List ℕ × JsonValue). size-JsonValue r.1) same)
 most-at (q ∷ ps) (suc p) k v e = omega (arith, most-at ps p k v e)
 
--- a list at one of its places, through a function
+-- a list at one of its positions, through a function
 module _ {X Y : Type 0} (f : X → Y) where
   pub map-at : (xs : List X) (i : ℕ) (x : X) → i < length xs → x ≡ get_or xs i x
       → map f xs ≡ map f (take i xs) ++ f x ∷ map f (drop (i + 1) xs)

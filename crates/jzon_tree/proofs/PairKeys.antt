@@ -1,4 +1,4 @@
--- Lists of pairs with distinct keys, by their look-ups.
+-- Lists of entries with distinct keys, by lookups.
 use Rattle.std.proofs.Common.{◌≡◌, ℕ, suc, ◌≤◌, Bool, true, false, List, [], ◌∷◌, length, cond, Option, Some, None}
 use Rattle.std.proofs.Common.{is_some, refl, sym, ap, ◌∙◌, subst, arith}
 use Rattle.std.specs.Cmp.Lexicographic.{nat_list_eq_equiv}
@@ -20,7 +20,7 @@ module _ {V : Type 0} where
   abbrev pub IsWithin : List (List ℕ × V) → List (List ℕ × V) → Type 0
   IsWithin ps qs = (k : List ℕ) → is_some (find k ps) ≡ true → is_some (find k qs) ≡ true
 
-  -- a key that is not found is none of the keys
+  -- a key that isn't found isn't one of the keys
   apart_from_find-at : (k l : List ℕ) (b : Bool) (v : V) (rest : Option V) → bytes_eq l k ≡ b
       → cond b (Some v) rest ≡ None → (bytes_eq k l ≡ false) × (rest ≡ None)
   apart_from_find-at k l true v rest e h = absurd (none-some v (sym h))
@@ -32,7 +32,7 @@ module _ {V : Type 0} where
       let here = apart_from_find-at k p.0 (bytes_eq p.0 k) p.1 (find k ps) refl h in
       (here.0, apart_from_find k ps here.1)
 
-  -- and one that is found beside another is not that one
+  -- a key that is found without another one isn't that one
   found_apart-at : (k l m : List ℕ) (b : Bool) (v : V) (rest : Option V) → bytes_eq m l ≡ b → bytes_eq k m ≡ false
       → (is_some rest ≡ true → bytes_eq k l ≡ false) → is_some (cond b (Some v) rest) ≡ true → bytes_eq k l ≡ false
   found_apart-at k l m true v rest e here later h = subst (λ (q : List ℕ). bytes_eq k q ≡ false)
@@ -59,7 +59,7 @@ module _ {V : Type 0} where
   length-cut k [] h = absurd (false≢true h)
   length-cut k (p ∷ ps) h = length-cut-at (bytes_eq p.0 k) k p ps (length-cut k ps) h
 
-  -- ---- distinct keys that are all keys of another list are no more than its keys
+  -- -- distinct keys that are all keys of another list are at most as many as its keys
   pub length-within : (ps qs : List (List ℕ × V)) → IsDistinct bytes_eq (keys_of ps) → IsWithin ps qs
       → length ps ≤ length qs
   length-within [] qs distinct within = omega arith
@@ -75,7 +75,7 @@ module _ {V : Type 0} where
             p.0 qs (within p.0 (ap is_some (find-head p.0 p.1 ps))),
       )
 
-  -- so where these are as many, the other list has no key more
+  -- so if they are as many, the other list has no further key
   within-cons-at : (k l : List ℕ) (b : Bool) (v : V) (ps qs : List (List ℕ × V)) → bytes_eq k l ≡ b
       → is_some (find k qs) ≡ true → (is_some (find l ps) ≡ true → is_some (find l qs) ≡ true)
       → is_some (cond b (Some v) (find l ps)) ≡ true → is_some (find l qs) ≡ true

@@ -24,7 +24,7 @@ escaped-run bs zero h = refl
 escaped-run [] (suc n) h = absurd (omega arith)
 escaped-run (c ∷ cs) (suc n) h = escaped-run-at (is_plain c) c cs n refl h (λ g. escaped-run cs n g)
 
--- the byte behind a run needs an escape
+-- the byte after a run needs an escape
 pub escape_stands : (bs : List ℕ) (n : ℕ) → n ≡ prefix_len is_plain bs → n < length bs
     → is_plain (get_or bs n 0) ≡ false
 escape_stands bs n e h = rw (← e) at (prefix_len_stops is_plain bs 0 (omega arith))

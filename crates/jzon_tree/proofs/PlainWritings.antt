@@ -1,4 +1,4 @@
--- The compact text of a value, and its text with a line for each item, are writings in their styles.
+-- The compact and the pretty text of a value are allowed by their styles.
 use Rattle.std.proofs.Common.{ℕ, true, false, List, subst}
 use Rattle.jzon_tree.specs.Lawful.{IsValue}
 use Rattle.jzon_tree.specs.StyleLaws.{IsStyle-compact, IsStyle-pretty}

@@ -1,4 +1,4 @@
--- The text of a value is UTF-8: its strings are, and all else in it is below 128.
+-- The text of a value is UTF-8: its strings are, and all its other bytes are below 128.
 use Rattle.std.proofs.Common.{◌≡◌, ◌∙◌, ℕ, zero, suc, ℤ, pos, negsuc, ◌+◌, ◌-◌, ◌^◌, ◌<◌, ◌≤◌, List, [], ◌∷◌, ◌++◌}
 use Rattle.std.proofs.Common.{length, take, drop, replicate, get_or, Bool, true, false, ◌&&◌, ◌==◌, nat_le, nat_lt}
 use Rattle.std.proofs.Common.{if◌then◌else◌, decimal, FitsSigned, codes, refl, sym, ap, subst, append-nil, inl, inr}

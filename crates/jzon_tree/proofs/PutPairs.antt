@@ -1,4 +1,4 @@
--- Pairs that are put one after the other, and maps that are gone over.
+-- Entries that are put one after the other, and maps that are iterated over.
 use Rattle.std.proofs.Common.{◌≡◌, ℕ, Bool, false, List, [], ◌∷◌, ◌++◌, map, refl, sym, ap, subst, ◌∙◌}
 use Rattle.std.specs.Iterator.{Drains}
 use Rattle.std.specs.List.{AllByRecursion, IsDistinct}
@@ -13,20 +13,20 @@ use Rattle.jzon_tree.specs.declared.object.Object.{Object}
 use Rattle.jzon_tree.specs.declared.value.JsonValue.{JsonValue, Object as in_object}
 use Rattle.jzon_tree.proofs.Views.{view-Object, viewed-put}
 
--- an object with one pair more
+-- an object with one more entry
 pub viewed-put_each : (ps qs : List (List ℕ × JsonValue)) (rs : List (List ℕ × Value)) (k l : List ℕ) (v : JsonValue)
     → viewed ps ≡ put_each rs → k ≡ l → qs ≡ put k v ps → viewed qs ≡ put_each (rs ++ (l, view v) ∷ [])
 viewed-put_each ps qs rs k l v before same is =
     ap viewed (is ∙ ap (λ (key : List ℕ). put key v ps) same) ∙ viewed-put l v ps ∙ ap (put l (view v)) before
     ∙ sym (put_each-push rs l (view v))
 
--- ---- what a map's iterator gives
+-- -- what a map's iterator yields
 drained : {X : Type 0} (left xs : List X) → Drains (TakesFirst (λ (x : X). x)) left xs → xs ≡ left
 drained left [] (after, (end, same, step)) = sym (same ∙ step.0)
 drained left (x ∷ xs) (after, (end, (next, first, more), step)) = ap (λ ys. x ∷ ys)
     (drained next xs (after, (end, more, step))) ∙ sym first
 
--- ---- keys are distinct by their texts where they are by a test that tells these apart
+-- -- keys have distinct texts if they are distinct by an equality that agrees with that of their texts
 module _ {K : Type 0} (text : K → List ℕ) (e : K → K → Bool) (by_text : (j k : K) → e j k ≡ bytes_eq (text j) (text k))
   where
     apart_texts : (k : K) (ks : List K) → AllByRecursion (λ j. e k j ≡ false) ks
@@ -48,7 +48,7 @@ module _ {K : Type 0} (text : K → List ℕ) (e : K → K → Bool) (by_text : 
       meant_keys (p ∷ ps) (q ∷ qs) each = ap (λ k. k ∷ keys_of qs) each.0.0
           ∙ ap (λ ks. text p.0 ∷ ks) (meant_keys ps qs each.1)
 
-      -- an object in which a map's pairs were put one after the other
+      -- an object into which a map's entries were put one after the other
       pub map_put : (ps left : List (K × X)) (o : Object) → left ≡ ps → IsDistinct e (map (λ p. p.0) ps)
           → (xs : List (K × X)) × Drains (TakesFirst (λ (x : K × X). x)) left xs
           × PutMeans text means xs (view_object o)

@@ -1,4 +1,4 @@
--- What the definitions say of some values: their texts, which are equal, how deep they nest.
+-- The definitions applied to some values: their texts, their equality, their nesting depth.
 use Rattle.std.specs.Prelude.{◌≡◌, ℕ, zero, suc, pos, negsuc, List, [], ◌∷◌, ◌++◌, true, false, codes, refl}
 use Rattle.std.specs.Fmt.{digits}
 use Rattle.jzon_base.specs.Decimal.{nan, parts, scaled}
@@ -86,12 +86,12 @@ pretty-no_spaces : pretty (list (int 1 ∷ [])) 0 0 ≡ codes "[\n1\n]"
 unfolding digits
 pretty-no_spaces = refl
 
--- inside one container already
+-- inside one open container
 pretty-deeper : pretty (list (int 1 ∷ [])) 3 1 ≡ codes "[\n      1\n   ]"
 unfolding digits
 pretty-deeper = refl
 
--- ---- quoted texts
+-- -- quoted strings
 
 quoted-short_escapes : quoted (13 ∷ 10 ∷ 9 ∷ 8 ∷ 12 ∷ 92 ∷ 47 ∷ 34 ∷ []) ≡ codes "\"\\r\\n\\t\\b\\f\\\\/\\\"\""
 quoted-short_escapes = refl
@@ -168,7 +168,7 @@ nest-deepest : nest (list (null ∷ members ((codes "a", list (null ∷ [])) ∷
     [])) ≡ 3
 nest-deepest = refl
 
--- so many brackets round an empty array
+-- n brackets around an empty array
 abbrev nested : ℕ → Value
 nested zero = list []
 nested (suc n) = list (nested n ∷ [])

@@ -1,4 +1,4 @@
--- The parts of a container, and what is left of it after a change, as they are seen.
+-- Views of the parts of a container, and of what is left of it after a change.
 use Rattle.std.proofs.Common.{◌≡◌, ℕ, List, [], ◌∷◌, ◌++◌, map, length, ◌==◌, Bool, ◌||◌, remove}
 use Rattle.std.proofs.Common.{slice_get, unwrap_or, Option, Some, None, option_map, Vec, Global, Bor, refl, sym}
 use Rattle.std.proofs.Common.{ap, ◌∙◌}
@@ -53,7 +53,7 @@ pub any-viewed : (test : Value → Bool) (vs : List JsonValue)
 any-viewed test [] = refl
 any-viewed test (v ∷ vs) = ap (λ (b : Bool). test (view v) || b) (any-viewed test vs)
 
--- what `get` of a list lends
+-- the element that `get` of a list returns
 pub item_lent : (vs : List JsonValue) (i : ℕ) (r : Option (Bor JsonValue)) → IsItemAt vs i r
     → option_map (λ w. view w.now) r ≡ slice_get (map view vs) i
 item_lent vs i None h = sym (item-viewed vs i ∙ ap (option_map view) (slice_get_past vs i h.3))
@@ -61,13 +61,13 @@ item_lent vs i (Some x) h =
     sym (item-viewed vs i ∙ ap (option_map view) (slice_get-get_or vs i x.now h.3.0
     ∙ ap (λ (v : JsonValue). Some v) (sym h.1)))
 
--- ---- what is taken out of a list
+-- -- an element removed from a list
 
 pub view-unwrap_or : (o : Option JsonValue) → view (unwrap_or o Null) ≡ or_null (option_map view o)
 view-unwrap_or None = view-Null
 view-unwrap_or (Some v) = refl
 
--- ---- what is left of it
+-- -- what is left of the list
 pub without_item-Array : (v : Vec JsonValue Global) (i : ℕ) → without_item i (view (Array v))
     ≡ array (view_values (remove v.items i))
 without_item-Array v i =

@@ -44,14 +44,14 @@ pub Sends-at_err : {E : Type 0} (P : List ℕ → Type 0) (a b : Option (List �
 Sends-at_err P a b (Ok u) h k = absurd (cc h)
 Sends-at_err P a b (Err e) h k = k
 
--- the same of an answer whose error was laid aside
+-- the same for a result whose error was stored in the error slot
 pub Sends-laid : {E F : Type 0} (P : List ℕ → Type 0) (a b : Option (List ℕ)) (r : Result (Unit {0}) E)
     (s : Result (Unit {0}) F) → MatchResult r (λ u. s ≡ Ok u) (λ e. IsErr s) → Sends P a b r → Sends P a b s
 Sends-laid P a b (Ok u) s k h = rw k h
 Sends-laid P a b (Err e) (Ok u) k h = absurd (cc k)
 Sends-laid P a b (Err e) (Err f) k h = h
 
--- ---- two calls in turn
+-- -- two calls in sequence
 module _ (P Q R : List ℕ → Type 0) (a b c : Option (List ℕ)) (join : (x y : List ℕ) → P x → Q y → R (x ++ y))
     (h : Adds P a b) where
   pub Begins-after : Adds (Begins Q) b c → Adds (Begins R) a c
@@ -61,7 +61,7 @@ module _ (P Q R : List ℕ → Type 0) (a b c : Option (List ℕ)) (join : (x y 
   Sends-after (Ok u) k = adds_then P Q R a b c join h k
   Sends-after (Err e) k = Begins-after k
 
--- a call that stopped, where z would have followed
+-- a call that stopped early, where z would have followed
 pub Begins-early : (P R : List ℕ → Type 0) (a b : Option (List ℕ)) (z : List ℕ) → ((x : List ℕ) → P x → R (x ++ z))
     → Adds (Begins P) a b → Adds (Begins R) a b
 Begins-early P R a b z more = adds_weaker (Begins P) (Begins R) a b

@@ -9,7 +9,7 @@ use Rattle.jzon_tree.specs.Generator.{Adds, Begins, Just, Sends}
 use Rattle.jzon_tree.proofs.Plain.{escaped-run, escape_stands}
 use Rattle.jzon_tree.proofs.Sent.{adds_then, Begins-after, Begins-early, Sends-after}
 
--- x is sent of a prefix and a text, of which `rest` is left
+-- x of a prefix and a string has been sent, and `rest` of the string is left
 abbrev pub Left : List ℕ → List ℕ → List ℕ → List ℕ → Type 0
 Left prefix text rest x = x ++ escaped rest ≡ prefix ++ escaped text
 
@@ -67,7 +67,7 @@ module _ (prefix text bs run : List ℕ) (n : ℕ) (p : run ≡ take n bs) (e : 
       → (x ++ y) ++ escaped (drop n bs) ≡ prefix ++ escaped text
   last_joins x y k j = rw (j, append_assoc x run (escaped (drop n bs)), sym split) k
 
-  -- a run that stopped, whatever follows it
+  -- a run that stopped early, whatever follows it
   pub any_run_stopped : (d : Option (List ℕ)) → Adds (Begins (Just run)) b d
       → Adds (Begins (Just (whole prefix text))) a d
   any_run_stopped d k =

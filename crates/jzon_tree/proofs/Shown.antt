@@ -17,9 +17,9 @@ use Rattle.jzon_tree.specs.View.{view, view_values, view_pairs}
 use Rattle.jzon_tree.specs.declared.value.JsonValue.{JsonValue}
 use Rattle.jzon_tree.proofs.Plain.{escaped-run}
 
--- ---- a text
+-- -- a string
 
--- x is shown of a text in quotes, of which `rest` is left
+-- x of a string in quotes has been shown, and `rest` of it is left
 abbrev pub TextLeft : List ℕ → List ℕ → List ℕ → Type 0
 TextLeft whole rest x = x ++ escaped rest ≡ 34 ∷ escaped whole
 
@@ -37,7 +37,7 @@ module _ (whole bs run : List ℕ) (n : ℕ) (p : run ≡ take n bs) (e : n ≡ 
       let all : escaped bs ≡ run = escaped-run bs n (omega (arith, e)) ∙ rw (sym p, q) (append-nil run) in
       ap (λ (w : List ℕ). w ++ 34 ∷ []) (ap (λ (w : List ℕ). x ++ w) (sym all) ∙ h)
 
--- ---- an escape, of which the quote behind it is cut off
+-- -- an escape, without the quote after it
 pub without_last : (n : ℕ) (bs xs : List ℕ) (c : ℕ) → n ≤ length bs → take n bs ≡ xs ++ c ∷ [] → take (n - 1) bs ≡ xs
 without_last n bs xs c h e =
     let all : n ≡ length xs + 1 = omega (
@@ -75,12 +75,12 @@ mutual
   same_pairs d e (pair k v ps) =
       λ i. 44 ∷ (((quoted k ++ 58 ∷ []) ++ same_depth (suc d) (suc e) v i) ++ same_pairs d e ps i)
 
--- these texts with a comma before each, but perhaps for the first, and the bracket
+-- these texts with a comma before each, except perhaps before the first, and the bracket
 abbrev texts_left : ℕ → Bool → List (List ℕ) → List ℕ
 texts_left close comma [] = close ∷ []
 texts_left close comma (t ∷ ts) = comma_text comma ++ (t ++ texts_left close true ts)
 
--- x is shown of a container of these items, of which those from the index on are left
+-- x of a container of these elements has been shown, and those from the index on are left
 module _ {A : Type 0} (shown : A → List ℕ) (opening close : ℕ) (items : List A) where
   pub all_shown : List ℕ
   all_shown = opening ∷ texts_left close false (map shown items)

@@ -1,4 +1,4 @@
--- Positions that are sorted stay an order.
+-- Sorted positions are still an order.
 use Rattle.std.proofs.Common.{◌≡◌, ℕ, zero, suc, ◌+◌, ◌<◌, false, IsTrue, List, [], ◌∷◌, ◌++◌, cond, length, get_or}
 use Rattle.std.proofs.Common.{map, refl, ap, ◌∙◌, sym, add-one, add-zero, zero-add, arith}
 use Rattle.std.specs.List.{range_with_len}
@@ -29,7 +29,7 @@ range_more a (suc n) =
 pub insertion_more : (n : ℕ) → insertion (n + 1) ≡ insertion n ++ n ∷ []
 insertion_more n = rw (add-one n) (range_more 0 n ∙ ap (λ (x : ℕ). insertion n ++ x ∷ []) (zero-add n))
 
--- keys ascend at positions where none stands before the one that it follows
+-- keys ascend at positions where none is before its predecessor
 ascend_from : (keys : List (List ℕ)) (ps : List ℕ)
     → ((k : ℕ) → suc k < length ps → is_before (text_at keys (get_or ps (suc k) 0)) (text_at keys (get_or ps k 0))
     ≡ false)
@@ -40,7 +40,7 @@ ascend_from keys (p ∷ q ∷ ps) h =
     let first : is_before (text_at keys q) (text_at keys p) ≡ false = h 0 (omega arith) in
     rw first (ascend_from keys (q ∷ ps) (λ k l. h (suc k) (omega arith)))
 
--- the same of positions that are an order, which are all within range
+-- the same for an order, whose positions are all within range
 pub ascend_in_order : (keys : List (List ℕ)) (ps : List ℕ) → IsOrder (length keys) ps
     → ((p q : ℕ) (k : ℕ) → k + 1 < length ps → get_or ps k 0 ≡ p → get_or ps (k + 1) 0 ≡ q → p < length keys
     → q < length keys

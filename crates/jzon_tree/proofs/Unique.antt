@@ -1,4 +1,4 @@
--- A style with one choice of each has one writing of each value: the text in its layout.
+-- A style with exactly one choice of each kind allows exactly one text for each value: the text in its layout.
 use Rattle.std.proofs.Common.{◌≡◌, ℕ, suc, ◌+◌, Bool, true, false, List, [], ◌∷◌, ◌++◌, refl, sym, ap, ◌∙◌, length}
 use Rattle.std.proofs.Common.{append_assoc, length-append, arith, map, take, Option, Some, None, subst, Result, Ok, Err}
 use Rattle.std.specs.Prelude.{IsTrue, OnOk, OnErr}
@@ -39,7 +39,7 @@ in_order (t ∷ ts) prefix =
 after_comma : (l t m rest : List ℕ) → (l ++ (t ++ 44 ∷ m)) ++ rest ≡ (l ++ t) ++ 44 ∷ (m ++ rest)
 after_comma l t m rest = ap (λ x. x ++ rest) (sym (append_assoc l t (44 ∷ m))) ∙ append_assoc (l ++ t) (44 ∷ m) rest
 
--- ---- the texts of the values and pairs
+-- -- the texts of the values and entries
 module _ (line : ℕ → List ℕ) (wide : Bool) where
   abbrev layout : Layout
   layout = record { line = line; colon = colon_text wide }
@@ -125,7 +125,7 @@ module _ (line : ℕ → List ℕ) (wide : Bool) where
     written_pairs d (pair k v ps) (t ∷ ts) ((form, x, c, i, e), h) = rw
         (e, form_is form wide c, written d v x i, written_pairs d ps ts h) refl
 
--- ---- a writer that is lent to a generator, in the end
+-- -- the final state of a writer that a generator borrowed
 adds-appended : (P : List ℕ → Type 0) (bs : List ℕ) (a b : Option (List ℕ)) → ((x : List ℕ) → P x → x ≡ bs) → Adds P a b
     → Appends a b bs
 adds-appended P bs None b f h = tt
@@ -163,7 +163,7 @@ lent P contents old new (Ok u) n m x now h e f same out = let s : n ≡ m = cc (
 lent P contents old new (Err u) n m x now h e f same out = let s : n ≡ m = cc (e, f, h.lender) in
     rw (same s, sym out) h.bytes
 
--- the same of a generator that began without an indent
+-- the same for a generator that began without an indent
 module _ (style : Style) (v : Value) {W E : Type 0} (contents : W → Option (List ℕ))
     (old new : Emitted) (o : Option (List ℕ)) (l : Option GName) (r : Result (Unit {0}) E) (n m : GName) (x now : W)
     (begun : old ≡ fresh o style l) (printed : Prints (Writes old.style old.dent v) old new r)
@@ -174,7 +174,7 @@ module _ (style : Style) (v : Value) {W E : Type 0} (contents : W → Option (Li
         (lent (Writes style 0 v) contents old new r n m x now
         (subst (λ z. Prints (Writes z.style z.dent v) old new r) begun printed) e f same out)
 
--- and of one whose style has one writing
+-- and for one whose style allows exactly one text
 module _ (line : ℕ → List ℕ) (wide : Bool) (v : Value) {W E : Type 0} (contents : W → Option (List ℕ))
     (old new : Emitted) (o : Option (List ℕ)) (l : Option GName) (r : Result (Unit {0}) E) (n m : GName) (x now : W)
     (begun : old ≡ fresh o (only line wide) l) (printed : Prints (Writes old.style old.dent v) old new r)

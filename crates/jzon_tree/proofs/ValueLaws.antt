@@ -1,5 +1,5 @@
--- The laws of values: what each kind of `JsonValue` is seen as, what its items and pairs are, and what is found after a
--- change, and what a value is that is no object or no array.
+-- The laws of values: the view of each kind of `JsonValue`, its elements and entries, what is found after a change, and
+-- what a value is that is neither an object nor an array.
 pub use Rattle.jzon_tree.proofs.Views.{view-Null, view-Boolean, view-Array, view-Object}
 pub use Rattle.jzon_tree.proofs.Views.{list_of_pairs-pairs_of, find-viewed, viewed-put, viewed-cut}
 pub use Rattle.jzon_tree.proofs.Ordered.{keys-viewed}
@@ -35,7 +35,7 @@ view-String s = search (rules, the_lemmas)
 pub view-Number : (n : Decimal) → view (Number n) ≡ number n
 view-Number n = search (rules, the_lemmas)
 
--- ---- the pairs and the items of any value
+-- -- the entries and the elements of any value
 
 rolled_entries : (l : JsonValue-F JsonValue Object)
     → entries (view (roll-JsonValue l)) ≡ viewed (entries_in (roll-JsonValue l))
@@ -86,7 +86,7 @@ items-other (number n) h = refl
 items-other (array vs) h = absurd (cc)
 items-other (object ps) h = refl
 
--- ---- the pairs and the items after a change
+-- -- the entries and the elements after a change
 
 pub entries-with_entry : (k : List ℕ) (v w : Value) → is_object w ≡ true
     → entries (with_entry k v w) ≡ put k v (entries w)
@@ -167,7 +167,7 @@ pub pairs_of-list_of_pairs : (ps : Pairs) → pairs_of (list_of_pairs ps) ≡ ps
 pairs_of-list_of_pairs no_pairs = refl
 pairs_of-list_of_pairs (pair k v ps) = ap (λ qs. pair k v qs) (pairs_of-list_of_pairs ps)
 
--- ---- a put of what is seen as the value that is there
+-- -- putting the view of the value that is there already
 
 put_same-by : (b : Bool) (k : List ℕ) (v w : JsonValue) (p : List ℕ × JsonValue) (ps : List (List ℕ × JsonValue))
     → cond b (Some p.1) (find k ps) ≡ Some w → view v ≡ view w
@@ -183,7 +183,7 @@ viewed-put_same k v w [] found same = absurd (cc)
 viewed-put_same k v w (p ∷ ps) found same =
     put_same-by (bytes_eq p.0 k) k v w p ps found same (λ rest. viewed-put_same k v w ps rest same)
 
--- ---- what is no object, and what is no array
+-- -- values that are no object, and values that are no array
 
 rolled-no_object : (l : JsonValue-F JsonValue Object) → object_in (roll-JsonValue l) ≡ None
     → is_object (view (roll-JsonValue l)) ≡ false
@@ -225,7 +225,7 @@ entries-no_object_in v none = entries-other (view v) (is_object-no_object_in v n
 pub items-no_items_in : (v : JsonValue) → items_in v ≡ None → items (view v) ≡ []
 items-no_items_in v none = items-other (view v) (is_array-no_items_in v none)
 
--- the same by what `as_object` and `as_array` return
+-- the same, from what `as_object` and `as_array` return
 pub is_object-no_object_of : (v : Value) → object_of v ≡ None → is_object v ≡ false
 is_object-no_object_of null h = refl
 is_object-no_object_of (boolean b) h = refl

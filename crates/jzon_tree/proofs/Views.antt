@@ -1,4 +1,4 @@
--- A value seen level by level, and the pairs of an object as they are seen.
+-- A value viewed level by level, and the views of an object's entries.
 use Rattle.std.proofs.Common.{◌≡◌, ℕ, List, [], ◌∷◌, map, Option, Some, None, option_map, Vec, Global, cond, Bool, true}
 use Rattle.std.proofs.Common.{false, Bor, refl, sym, ap, ◌∙◌, ◌≤◌, arith, rules}
 use denote.Param.Weighed.{most}
@@ -24,7 +24,7 @@ view-Array v = search (rules, the_lemmas)
 pub view-Object : (o : Object) → view (in_object o) ≡ view_object o
 view-Object o = search (rules, the_lemmas)
 
--- ---- the look-ups and the changes of an object's pairs, as they are seen
+-- -- views of lookups in an object's entries and of changes to them
 pub list_of_pairs-pairs_of : (ps : List (List ℕ × Value)) → list_of_pairs (pairs_of ps) ≡ ps
 list_of_pairs-pairs_of [] = refl
 list_of_pairs-pairs_of (p ∷ ps) = ap (λ (qs : List (List ℕ × Value)). p ∷ qs) (list_of_pairs-pairs_of ps)
@@ -60,7 +60,7 @@ pub view-find : (k : List ℕ) (ps : List (List ℕ × JsonValue))
     → option_map view (find k ps) ≡ find k (list_of_pairs (view_pairs ps))
 view-find k ps = find-viewed k ps ∙ ap (find k) (sym (list_of_pairs-pairs_of (viewed ps)))
 
--- ---- what a call lends
+-- -- what a call returns by reference
 pub view_of_ref : (r : Option (Bor JsonValue)) → option_map (λ x. view x.now) r ≡ option_map view (option_copied r)
 view_of_ref None = refl
 view_of_ref (Some x) = refl
@@ -75,7 +75,7 @@ cons_parts x y xs ys e = (cc, cc)
 nil_cons : {A : Type 0} (x : A) (xs : List A) → ◌≡◌ {A = List A} [] (x ∷ xs) → ⊥
 nil_cons x xs e = cc
 
--- the keys of an object beside values that are seen as its values are
+-- the keys of an object with other values that have the same views
 pub view_pairs-zip : (ps : List (List ℕ × JsonValue)) (vs : List JsonValue) → map view vs ≡ map view (values_of ps)
     → view_pairs (zip (keys_of ps) vs) ≡ view_pairs ps
 view_pairs-zip [] vs e = refl
@@ -84,7 +84,7 @@ view_pairs-zip (p ∷ ps) (v ∷ vs) e =
     let parts = cons_parts (view v) (view p.1) (map view vs) (map view (values_of ps)) e in
     rw (parts.0, view_pairs-zip ps vs parts.1) refl
 
--- no value of the pairs that are left is larger than all of them
+-- no value of the entries that are left is larger than all of them
 pub most-rest : (ps rest : List (List ℕ × JsonValue)) (p : List ℕ × JsonValue) → ps ≡ p ∷ rest
     → most size-JsonValue (values_of rest) ≤ most size-JsonValue (values_of ps)
 most-rest ps rest p e = omega (arith, ap (λ (xs : List (List ℕ × JsonValue)). most size-JsonValue (values_of xs)) e)

@@ -1,4 +1,4 @@
--- A value has a writing in every style, and how writings are put together.
+-- Each value has a text in every style, and how texts are put together.
 use Rattle.std.proofs.Common.{◌≡◌, ℕ, suc, ◌<◌, Bool, true, false, List, [], ◌∷◌, ◌++◌, refl, sym, ap, ◌∙◌, length}
 use Rattle.std.proofs.Common.{append_assoc, append-nil, arith, map}
 use Rattle.std.proofs.lemmas.Bool.{lt-ltb}
@@ -62,7 +62,7 @@ some_enclosed s lawful d opening closing t ts =
     let c : (b : List ℕ) × IsClosing s d closing b = some_closing s lawful d closing in
     (opening ∷ (i.0 ++ c.0), encloses s d opening closing t ts i.0 c.0 i.1 c.1)
 
--- ---- some writing of a value without repeated keys
+-- -- some text of a value without repeated keys
 length-texts : (s : Style) (d : ℕ) (ps : Pairs) (ts : List (List ℕ)) → WritesPairs s d ps ts
     → length ts ≡ length (keys_of (list_of_pairs ps))
 length-texts s d no_pairs [] h = refl
@@ -115,7 +115,7 @@ mutual
         ((lawful.colon.0, x.0, lawful.colon.1, x.1, refl), xs.1),
       )
 
--- ---- items after items: whether a comma stands before the next
+-- -- elements in sequence: whether a comma precedes the next
 abbrev pub needs_comma : Bool → List (List ℕ) → Bool
 needs_comma comma [] = comma
 needs_comma comma (t ∷ ts) = true
@@ -154,7 +154,7 @@ WritesEach-length s d [] (x ∷ xs) h = absurd h
 WritesEach-length s d (u ∷ us) [] h = absurd h
 WritesEach-length s d (u ∷ us) (x ∷ xs) h = ap suc (WritesEach-length s d us xs h.1)
 
--- the values in turn, where a comma may stand before the first too
+-- the values in sequence, where a comma may precede the first too
 abbrev pub MoreItems : Style → ℕ → Bool → List Value → List ℕ → Type 0
 MoreItems s d comma vs b = (ts : List (List ℕ)) × WritesEach s d (values_of vs) ts × Items s d comma ts b
 

@@ -1,4 +1,4 @@
--- What is written into a value, as the value is seen: a pair of an object, and an item of an array.
+-- The view of a value after a write into it: to a member of an object, and to an element of an array.
 use Rattle.std.proofs.Common.{◌≡◌, ℕ, ◌-◌, min, List, [], ◌∷◌, ◌++◌, map, length, refl, sym, ap, subst, ◌∙◌, rules}
 use Rattle.std.proofs.Common.{Bool, true, false, if◌then◌else◌, nat_lt, nat_eq, Option, Some, None, option_map}
 use Rattle.std.specs.Prelude.{slice_set, ◌≤◌, IfSome, OnErr, Result, Ok, Err}
@@ -19,7 +19,7 @@ use Rattle.jzon_tree.proofs.Views.{view-Null, view-Object, viewed-put}
 use Rattle.jzon_tree.proofs.Seen.{list_of_values-values_of}
 use Rattle.jzon_tree.proofs.ValueLaws.{entries-view, find-view}
 
--- ---- a pair
+-- -- a member
 
 entries-made : (ps : List (List ℕ × JsonValue)) → entries_of (with_entries ps) ≡ ps
 entries-made ps = search (rules, the_lemmas)
@@ -33,7 +33,7 @@ view-put k w v =
     ∙ ap (λ (ps : List (List ℕ × Value)). object (pairs_of ps)) (viewed-put k w (entries_in v)
     ∙ ap (put k (view w)) (sym (entries-view v)))
 
--- ---- an item
+-- -- an element
 
 rolled_items_of : (l : JsonValue-F JsonValue Object)
     → items_of (view (roll-JsonValue l)) ≡ option_map (map view) (items_in (roll-JsonValue l))

@@ -4,7 +4,7 @@ use Rattle.jzon_tree.specs.Entries.{entries_of}
 use Rattle.jzon_tree.proofs.Shown.{ItemsLeft, item_text, entry_text}
 use Rattle.jzon_tree.proofs.codegen.display.+show.Given as goal
 
--- what is shown already and what is left make the container
+-- what has been shown and what is left make up the container
 abbrev pub invariant-show_array-loop-index : goal.invariant-show_array-loop-index
 invariant-show_array-loop-index g l =
     IsPlainFormatter l.fn.f

@@ -3,7 +3,7 @@ use Rattle.std.specs.Fmt.{HasWritten, IsPlainFormatter}
 use Rattle.jzon_tree.proofs.Shown.{TextLeft}
 use Rattle.jzon_tree.proofs.codegen.display.show_text.Given as goal
 
--- what is shown already and what is left make the text
+-- what has been shown and what is left make up the string
 abbrev pub invariant-loop-byte : goal.invariant-loop-byte
 invariant-loop-byte g l =
     IsPlainFormatter l.fn.f → (x : List ℕ) × HasWritten g.W.Write.write_str_gives l.fn.f x l.f

@@ -3,7 +3,7 @@ use Rattle.jzon_tree.specs.Generator.{Adds}
 use Rattle.jzon_tree.proofs.SentStrings.{Left}
 use Rattle.jzon_tree.proofs.codegen.send.send_string.Given as goal
 
--- what is sent already and what is left make the whole
+-- what has been sent and what is left make up the whole
 abbrev pub invariant-loop-byte : goal.invariant-loop-byte
 invariant-loop-byte g l = Adds (Left l.fn.prefix l.fn.text l.rest) (g.W.Write.contents l.fn.writer)
     (g.W.Write.contents l.writer)

@@ -6,14 +6,14 @@ use Rattle.jzon_tree.specs.Printing.{AreItems, AreMembers, pair_at}
 use Rattle.jzon_tree.specs.View.{view, view_values, viewed}
 use Rattle.jzon_tree.proofs.codegen.write.+write_value.Given as goal
 
--- the items before this one are written
+-- the elements before this one are written
 abbrev pub invariant-write_items-loop-index : goal.invariant-write_items-loop-index
 invariant-write_items-loop-index g l =
     let a = g.G.Generator.meaning l.initial.g in
     Added (AreItems a.style a.dent (map view (take l.index l.items))) a (g.G.Generator.meaning l.g)
     × AreValues (view_values (take l.index l.items))
 
--- the pairs at the positions before this one are written
+-- the entries at the positions before this one are written
 abbrev pub invariant-write_members-loop-index : goal.invariant-write_members-loop-index
 invariant-write_members-loop-index g l =
     let a = g.G.Generator.meaning l.initial.g in

@@ -1,5 +1,5 @@
--- `get_mut` hands on what the trait's `get_in` lends. The borrow checker makes no proof of a clause from a type to
--- itself.
+-- `get_mut` returns the reference that the trait's `get_in` returns. The borrow checker produces no proof of a clause
+-- from a type to itself.
 use Rattle.jzon_tree.proofs.LentSteps.{[], ◌∷◌, refl, proved, leaves, full_share, id⊢, emp, ftrue, flft, ◌⊑◌, fact}
 use Rattle.jzon_tree.proofs.LentSteps.{fact_i, tables, ‵, raw, ◌⊛◌, some, later, ◌$◌, ◌∵◌, !, qed, by, move, keep, drop}
 use Rattle.jzon_tree.proofs.LentSteps.{use0, use1, use2, split, join, fjoin, pick, await, enter, addr, stop, no_more}

@@ -3,7 +3,7 @@ use Rattle.jzon_tree.specs.Generator.{Added}
 use Rattle.jzon_tree.proofs.SentStrings.{Left}
 use Rattle.jzon_tree.proofs.codegen.generator.Generator.write_string_complex.Given as goal
 
--- what is written already and what is left make the whole
+-- what has been written and what is left make up the whole
 abbrev pub invariant-loop-byte : goal.invariant-loop-byte
 invariant-loop-byte g l = Added (Left (take l.fn.start l.fn.string) (drop l.fn.start l.fn.string) l.rest)
     (g.Self.Generator.meaning l.fn.self) (g.Self.Generator.meaning l.self)
