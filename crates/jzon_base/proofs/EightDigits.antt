@@ -1,4 +1,4 @@
--- Eight digits that are joined to pairs, fours and eight, by the bytes of a word.
+-- Eight digits joined two by two, then four by four, then all eight, in the bytes of a word.
 use Rattle.std.proofs.Common.{◌≡◌, ℕ, ◌+◌, ◌*◌, ◌/◌, ◌%◌, ◌^◌, ◌<◌, List, [], ◌∷◌, length, bit_and, ap, ap₂, ◌∙◌}
 use Rattle.std.proofs.Common.{arith}
 use Rattle.std.specs.List.{All}
@@ -6,7 +6,7 @@ use lib.Bits.{and_block, and_mask}
 use lib.Lanes.{number_l}
 use Rattle.jzon_base.specs.Digits.{values_number}
 
--- what is left of a product at 64 bits, without its lowest part of 8, 16 or 32 bits
+-- what is left of a 64-bit product without its lowest 8, 16 or 32 bits
 less_byte : (n high sum low : ℕ) → n ≡ high * 2 ^ 64 + (sum * 2 ^ 8 + low) → sum < 2 ^ 56 → low < 2 ^ 8
     → n % 2 ^ 64 / 2 ^ 8 ≡ sum
 less_byte n high sum low e s l = omega arith
@@ -27,7 +27,7 @@ even_byte rest mask x p X P =
     and_block 16 rest mask (x * 2 ^ 8 + p) 255 (omega arith) (omega arith)
     ∙ ap (λ n. bit_and rest mask * 2 ^ 16 + n) (and_mask (x * 2 ^ 8 + p) 8 ∙ low)
 
--- and the lower of two neighbouring halves
+-- and the lower of two neighbouring 16-bit halves
 even_half : (x p r : ℕ) → x < 2 ^ 16 → p < 2 ^ 16 → r < 2 ^ 16
     → bit_and (r * 2 ^ 32 + (x * 2 ^ 16 + p)) 0x0000_ffff_0000_ffff ≡ r * 2 ^ 32 + p
 even_half x p r X P R =
@@ -80,7 +80,7 @@ eight x y word X Y is =
     let product : word * 42949672960001 ≡ y * 10_000 * 2 ^ 64 + ((x * 10_000 + y) * 2 ^ 32 + x) = omega arith in
     less_word _ (y * 10_000) (x * 10_000 + y) x product (omega arith) (omega arith)
 
--- the number that the three multiplications make of a word
+-- the number that the three multiplications compute from a word
 abbrev pub joined : ℕ → ℕ
 joined word = bit_and (bit_and (word * 2561 % 2 ^ 64 / 2 ^ 8) 0x00ff_00ff_00ff_00ff * 6553601 % 2 ^ 64 / 2 ^ 16)
     0x0000_ffff_0000_ffff * 42949672960001 % 2 ^ 64 / 2 ^ 32

@@ -1,4 +1,4 @@
--- What an exact fixed-point reading is: the decimal itself, its point moved.
+-- What an exact fixed-point reading is: the decimal itself, with its point moved.
 use Rattle.std.proofs.Common.{◌≡◌, ℕ, zero, suc, ℤ, pos, negsuc, neg_ℤ, ◌+◌, ◌*◌, ◌/◌, ◌%◌, ◌^◌, ◌≤◌, ◌<◌, ◌==◌, ◌+ℤ◌}
 use Rattle.std.proofs.Common.{Bool, true, false, Option, Some, None, refl, sym, ap, ◌∙◌, arith, FitsSigned, subst}
 use Rattle.std.specs.Prelude.{IsTrue, IfSome, ◌||◌, ◌&&◌}

@@ -1,4 +1,4 @@
--- Few keys, of which each has its place.
+-- Few keys, each with its position.
 use Rattle.std.proofs.Common.{◌≡◌, ◌∙◌, ℕ, List, [], length, set, Some, refl, sym}
 use Rattle.std.proofs.lemmas.List.{length-set}
 use Rattle.std.specs.List.{position, zip, IsDistinct}
@@ -11,7 +11,7 @@ use Rattle.jzon_base.proofs.PutEach.{put_each-zip}
 pub IsSlotted-none : (ks : List (List ℕ)) → IsSlotted ks []
 IsSlotted-none ks = record { distinct = λ e. absurd (e refl) }
 
--- a value that is put in the place of a distinct key
+-- a value that is put at the position of a distinct key
 pub put_each-placed : {V : Type 0} (ks : List (List ℕ)) (vs : List V) (k : List ℕ) (v : V) (i : ℕ)
     → length vs ≡ length ks → IsDistinct bytes_eq ks → position (λ x. bytes_eq x k) ks ≡ Some i
     → put_each (zip ks (set vs i v)) ≡ put k v (put_each (zip ks vs))

@@ -1,4 +1,4 @@
--- Keys that are found by hashes that are handed in, and pairs that are merged.
+-- Keys found by hashes that the caller passes, and merged index entries.
 use Rattle.std.proofs.Common.{◌≡◌, ◌≢◌, ℕ, zero, suc, ◌+◌, ◌-◌, ◌<◌, ◌≤◌, Bool, true, false, ◌&&◌, ltb, eqb}
 use Rattle.std.proofs.Common.{◌||◌, List}
 use Rattle.std.proofs.Common.{[], ◌∷◌, ◌++◌, length, get_or, map, filter, Option, None, Some, take, take_all, refl}
@@ -25,9 +25,9 @@ use Rattle.jzon_base.proofs.Permutations.{IsPermutation-filter}
 use Rattle.jzon_base.proofs.Positions.{position-none}
 use Rattle.jzon_base.proofs.Indexes.{only_place, is_other, kept_by, lowered-lower, lowered-higher}
 
--- ---- two runs that are merged
+-- -- merging two runs
 
--- the first i of the one and the first j of the other are merged, and the rest of both is no lower
+-- the first i of the one and the first j of the other are merged, and the rest of both isn't lower
 pub record IsMerging (xs ys ms : List (ℕ × ℕ)) (i j : ℕ) : Type 0 where
   pub left : i ≤ length xs
   pub right : j ≤ length ys
@@ -94,9 +94,9 @@ pub merging_done : (xs ys ms : List (ℕ × ℕ)) (i j : ℕ) → IsMerging xs y
 merging_done xs ys ms i j m l r =
     subst (λ us. IsPermutation us ms) ((λ k. take_all i xs l k ++ take_all j ys r k)) m.whole
 
--- ---- a look-up
+-- -- a lookup
 
--- none of the first n pairs is that of the hash and the name
+-- none of the first n index entries is that of the hash and the name
 abbrev pub NoneYet : List (List ℕ) → ℕ → List ℕ → List (ℕ × ℕ) → ℕ → Type 0
 NoneYet ks h name ps n = (j : ℕ) → j < n → is_found ks h name (get_or ps j (0, 0)) ≡ false
 
@@ -125,20 +125,20 @@ get_or-numbered (h ∷ hs) n (suc i) d l =
 pub apart_by : (ks : List (List ℕ)) (h : ℕ) (name : List ℕ) (p : ℕ × ℕ) → p.0 ≢ h → is_found ks h name p ≡ false
 apart_by ks h name p ne = ap (λ (b : Bool). b && is_at ks name p.1) (ne_eqb p.0 h ne)
 
--- the pairs of lower hashes
+-- the index entries of lower hashes
 pub none_start : (ks : List (List ℕ)) (h : ℕ) (name : List ℕ) (ps : List (ℕ × ℕ)) (start : ℕ)
     → ((j : ℕ) (d : ℕ × ℕ) → j < start → (get_or ps j d).0 < h) → NoneYet ks h name ps start
 none_start ks h name ps start lower j l = apart_by ks h name (get_or ps j (0, 0))
     (λ e. absurd (omega (arith, lower j (0, 0) l, e)))
 
--- where some run has it, the runs one after the other do
+-- if some run has it, so has their concatenation
 pub any_flat : (test : ℕ × ℕ → Bool) (rs : List (List (ℕ × ℕ)))
     → list_any (λ r. list_any test r) rs ≡ list_any test (flat_map (λ r. r) rs)
 any_flat test [] = refl
 any_flat test (r ∷ rs) = ap (λ (b : Bool). list_any test r || b) (any_flat test rs)
     ∙ sym (list_any-append test r (flat_map (λ r. r) rs))
 
--- what the pairs tell is the place of the key of this name
+-- the position that the index entries give is that of the key of this name
 pub found_place : (hs : List ℕ) (ks : List (List ℕ)) (ps : List (ℕ × ℕ)) (h : ℕ) (name : List ℕ) (o : Option ℕ)
     → IsIndexOf hs ps → AreHanded hs ks h name → IsDistinct bytes_eq ks
     → IfSome o (λ p. is_at ks name p ≡ true) → is_some o ≡ list_any (is_found ks h name) ps
@@ -161,7 +161,7 @@ found_place hs ks ps h name None index handed distinct here any =
           ∙ list_any_at (is_found ks h name) (numbered 0 hs) i (0, 0) (omega (arith, length-numbered 0 hs)) it)))
     ]))
 
--- ---- a hash more
+-- -- one more hash
 
 numbered-push : (n : ℕ) (hs : List ℕ) (h : ℕ) → numbered n (hs ++ h ∷ []) ≡ numbered n hs ++ (h, n + length hs) ∷ []
 unfolding numbered
@@ -177,11 +177,11 @@ IsIndexOf-push hs h ps qs index added =
     ∙ ap (λ (m : ℕ). numbered 0 hs ++ (h, m) ∷ []) (zero-add (length hs)) in
     record { whole = rw e (IsPermutation-push_more (numbered 0 hs) ps qs (h, length hs) index.whole added) }
 
--- pairs in another order, as after a merge
+-- index entries in another order, as after a merge
 pub IsIndexOf-same : (hs : List ℕ) (ps qs : List (ℕ × ℕ)) → IsIndexOf hs ps → IsPermutation ps qs → IsIndexOf hs qs
 IsIndexOf-same hs ps qs index moved = record { whole = IsPermutation-trans _ ps qs index.whole moved }
 
--- ---- a place less
+-- -- one position less
 
 numbered-behind : (hs : List ℕ) (i m n : ℕ) → i ≤ m → n ≡ m + 1
     → map (lowered i) (filter (is_other i) (numbered n hs)) ≡ numbered m hs

@@ -13,7 +13,7 @@ use Rattle.std.proofs.lemmas.Bool.Decides.{nat_tests}
 use Rattle.jzon_base.specs.DigitLimits.{IsLongestPrefix}
 use Rattle.jzon_base.specs.Digits.{IsDigit, add_digit, digits_number, longest_up_to, kept_len}
 
--- ---- a longer prefix spells no smaller number
+-- -- a longer prefix spells a number that is at least as large
 
 fold-ge : (v : ℕ) (ds : List ℕ) → v ≤ fold add_digit v ds
 fold-ge v [] = omega arith
@@ -43,13 +43,13 @@ longest_up_to-large : (ds : List ℕ) (n : ℕ) → 2 ^ 64 ≤ digits_number (ta
     → longest_up_to (suc n) ds ≡ longest_up_to n ds
 longest_up_to-large ds n large = if-ge (digits_number (take (suc n) ds)) (2 ^ 64) (suc n) (longest_up_to n ds) large
 
--- k is the greatest count up to n of digits that spell a number below 2 ^ 64
+-- k is the greatest number up to n of leading digits that spell a number below 2 ^ 64
 record IsLongestUpTo (ds : List ℕ) (n k : ℕ) : Type 0 where
   within : k ≤ n
   fits : digits_number (take k ds) < 2 ^ 64
   longest : (j : ℕ) → k < j → j ≤ n → 2 ^ 64 ≤ digits_number (take j ds)
 
--- one count more, which is too many
+-- one more digit, which is too many
 longest_and_one_more : (ds : List ℕ) (n k : ℕ) → IsLongestUpTo ds n k → 2 ^ 64 ≤ digits_number (take (suc n) ds)
     → IsLongestUpTo ds (suc n) k
 longest_and_one_more ds n k before large = record {
@@ -87,7 +87,7 @@ unfolding kept_len
 kept_len_is_longest ds = let k = longest_up_to_is ds (length ds) in record
     { within = k.within; fits = k.fits; longest = k.longest }
 
--- ---- a prefix that one digit more makes too large is the longest
+-- -- a prefix that is too large with one more digit is the longest
 
 pub kept_len-at : (ds : List ℕ) (k : ℕ) → k ≤ length ds → digits_number (take k ds) < 2 ^ 64
     → (k < length ds → 2 ^ 64 ≤ digits_number (take (k + 1) ds)) → kept_len ds ≡ k
@@ -134,7 +134,7 @@ kept_len-past_whole whole fraction k h fits next =
     let e : length whole + k + 1 ≡ length whole + (k + 1) = omega arith in
     rw e (rw digits_number-take-append (next more)))
 
--- ---- all digits are kept where they fit, as up to 19 do
+-- -- all digits are kept if they fit, as up to 19 do
 
 pub kept_all : (ds : List ℕ) → digits_number ds < 2 ^ 64 → kept_len ds ≡ length ds
 kept_all ds h = kept_len-at ds (length ds) (omega arith) (rw (take_all (length ds) ds (omega arith)) h)

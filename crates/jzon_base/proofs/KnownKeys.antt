@@ -40,7 +40,7 @@ module _ {V : Type 0} (k : List ℕ) where
       ∙ or_swap (bytes_eq p.0 k) (bytes_eq l k) (is_some (find k ps))
       ∙ ap (λ (b : Bool). bytes_eq l k || b) (sym (is_some-cond (bytes_eq p.0 k) p.1 (find k ps)))
 
-  -- a key is known where it is put, or was known before
+  -- a key is known after a `put` if it is the one put, or was known before
   pub known-put : (l : List ℕ) (v : V) (ps : List (List ℕ × V))
       → is_some (find k (put l v ps)) ≡ (bytes_eq l k || is_some (find k ps))
   known-put l v [] = is_some-cond (bytes_eq l k) v None
@@ -60,7 +60,7 @@ module _ {V : Type 0} (k : List ℕ) where
   known_keys (x ∷ ks) [] e = absurd (omega arith)
   known_keys (x ∷ ks) (v ∷ vs) e = ap (λ (b : Bool). bytes_eq x k || b) (known_keys ks vs (omega arith))
 
-  -- a key is known where some entry has it
+  -- a key is known if some entry has it
   pub known-put_each : (ks : List (List ℕ)) (vs : List V) → length vs ≡ length ks
       → is_some (find k (put_each (zip ks vs))) ≡ list_any (λ x. bytes_eq x k) ks
   known-put_each ks vs e = known_onto [] (zip ks vs) ∙ known_keys ks vs e

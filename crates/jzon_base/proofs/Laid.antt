@@ -1,4 +1,4 @@
--- The bytes of a number, laid at the end of a room.
+-- The bytes of a number, put at the end of a buffer.
 use Rattle.std.proofs.Common.{◌≡◌, ℕ, suc, ◌+◌, ◌-◌, ◌≤◌, ◌<◌, List, [], ◌∷◌, ◌++◌, length, take, drop, set, get_or}
 use Rattle.std.proofs.Common.{arith, refl, ap, sym, ◌∙◌, length-drop, length-append}
 use Rattle.std.specs.List.{copy_within}
@@ -17,7 +17,7 @@ put_behind prefix middle x y rest =
     ap (drop (length prefix)) (set_behind (prefix ++ middle) x y rest ∙ append_assoc prefix middle (y ∷ rest))
     ∙ drop-append_seam prefix (middle ++ y ∷ rest)
 
--- the bytes from start to point moved one place to the left, and a point behind them
+-- the bytes from start to point moved one byte to the left, and a point after them
 pub moved : (xs : List ℕ) (start point : ℕ) → 0 < start → start < point → point ≤ length xs
     → drop (start - 1) (set (copy_within xs start point (start - 1)) (point - 1) 46)
     ≡ point_after (point - start) (drop start xs)
@@ -42,7 +42,7 @@ moved xs start point some order within =
     rw rest (laid ∙ ap (λ (l : List ℕ). middle ++ 46 ∷ l) behind
     ∙ sym (append_snoc middle 46 (drop (point - start) (drop start xs))))
 
--- what is put behind the first `start` bytes, up to the end, is what stands there
+-- what is put after the first `start` bytes, up to the end, is what is there
 pub put_last : (xs ys : List ℕ) (start count : ℕ) → start + count ≡ length xs
     → drop start (take start xs ++ (ys ++ drop count (drop start xs))) ≡ ys
 put_last xs ys start count whole =

@@ -1,4 +1,4 @@
--- The digits at the beginning of eight bytes: how many they are, and their word.
+-- The leading digits of eight bytes: how many they are, and their word.
 use Rattle.std.proofs.Common.{◌≡◌, ℕ, zero, suc, ◌+◌, ◌-◌, ◌*◌, ◌%◌, ◌^◌, ◌<◌, ◌≤◌, Bool, true, false, not, cond, ltb}
 use Rattle.std.proofs.Common.{eqb}
 use Rattle.std.proofs.Common.{List, [], ◌∷◌, ◌++◌, length, take, drop, map, replicate, Fits, w8, w64, refl, sym, ap}
@@ -21,7 +21,7 @@ use lib.Lanes.{Each1, mask_l, number_l, top, zip2}
 use Rattle.jzon_base.specs.Digits.{add_digit, digits_number, add_value, values_number}
 use Rattle.jzon_base.proofs.PlainBlocks.{same_run}
 
--- a byte less that of `0`, in the eight bits of a lane
+-- a byte minus that of `0`, in the eight bits of a lane
 abbrev less : ℕ → ℕ → ℕ
 less a b = (a + (2 ^ 8 - b)) % 2 ^ 8
 
@@ -34,7 +34,7 @@ below a b = cond (ltb a b) 255 0
 abbrev stops : ℕ → Bool
 stops x = top 7 (below 9 (value_of x))
 
--- the values of eight bytes, and the mask of those that are no digits
+-- the values of eight bytes, and the mask of those that aren't digits
 abbrev pub lanes : List ℕ → List ℕ
 lanes xs = zip2 less xs (replicate 8 48)
 
@@ -60,11 +60,11 @@ counted xs long fits =
     ∙ first_set_mask_l stops xs 8 long (omega arith)
     ∙ same_run (λ x. not (stops x)) is_ascii_digit xs refl fits
 
--- where no lane is above nine, all eight are digits
+-- if no lane is above nine, all eight are digits
 pub all_eight : (xs : List ℕ) → length xs ≡ 8 → Each1 (Fits w8) xs → others xs ≡ 0 → 8 ≡ prefix_len is_ascii_digit xs
 all_eight xs long fits none = sym (cond-true _ _ _ (eq-eqb _ _ none)) ∙ counted xs long fits
 
--- and else the first lane above nine ends the run
+-- otherwise the first lane above nine ends the run
 pub first_other : (xs : List ℕ) → length xs ≡ 8 → Each1 (Fits w8) xs → (others xs ≡ 0 → ⊥)
     → count_trailing_zeros 64 (others xs) ≡ prefix_len is_ascii_digit xs
 first_other xs long fits some = sym (cond-false _ _ _ (ne_eqb _ _ some)) ∙ counted xs long fits
@@ -95,7 +95,7 @@ record AreDigits (xs : List ℕ) (n : ℕ) : Type 0 where
   worth : (v : ℕ) → fold add_value v (map value_of (take n xs)) ≡ fold add_digit v (take n xs)
   fits : number_l 256 (map value_of (take n xs)) < 256 ^ n
 
--- the lanes of the digits at the beginning are the digits' values
+-- the lanes of the leading digits are the digits' values
 are_digits : (xs : List ℕ) (n : ℕ) → n ≤ prefix_len is_ascii_digit xs → AreDigits xs n
 are_digits xs zero h = record { small = All-nil (λ d. d < 10); worth = λ v. refl; fits = omega arith }
 are_digits [] (suc n) h = absurd (omega arith)
@@ -133,7 +133,7 @@ pub two_shifts : (n : ℕ) → n < 8 → 256 * 2 ^ (56 - 8 * n) ≡ 256 ^ (8 - n
 two_shifts n few = eqb-true _ _
     (agree_below_at (λ k. eqb (256 * 2 ^ (56 - 8 * k)) (256 ^ (8 - k))) (λ _. true) 8 n refl few)
 
--- the lowest n lanes, moved up to the highest
+-- the lowest n lanes, moved to the highest
 moved_up : (xs : List ℕ) (n : ℕ) → length xs ≡ 8 → n ≤ 8 → number_l 256 (take n xs) < 256 ^ n
     → number_l 256 xs * 256 ^ (8 - n) % 2 ^ 64 ≡ number_l 256 (take n xs) * 256 ^ (8 - n)
 moved_up xs n long few fits =

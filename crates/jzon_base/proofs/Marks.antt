@@ -1,4 +1,4 @@
--- Marks of keys in slots.
+-- Tags of keys in slots.
 use Rattle.std.proofs.Common.{◌≡◌, ◌≢◌, ◌∙◌, ℕ, zero, suc, ◌+◌, ◌<◌, ◌≤◌, true, false, List, [], ◌∷◌, ◌++◌}
 use Rattle.std.proofs.Common.{length, set, get_or, refl, sym, ap, inl, inr, arith}
 use Rattle.std.proofs.lemmas.Bool.{cases_eq, cases_lt, cases_Bool, eq-eqb, ne_eqb, false≢true}
@@ -23,7 +23,7 @@ module _ (ss : List ℕ) (m i n : ℕ) where
   unfolding is_marked
   marked_on ne other = rw (ne_eqb (get_or ss i 1) 0 ne, ne_eqb (get_or ss i 1) m other) refl
 
--- where no slot is empty
+-- if no slot is empty
 pub full_marked : (ss : List ℕ) (m i n : ℕ) → ((k : ℕ) → i ≤ k → k < i + n → get_or ss k 1 ≢ 0)
     → is_marked ss m i n ≡ true
 unfolding is_marked
@@ -36,7 +36,7 @@ full_marked ss m i (suc n) full =
           ∙ full_marked ss m (i + 1) n (λ k l h. full k (omega arith) (omega arith))
     ]
 
--- a mark in the first empty slot
+-- a tag in the first empty slot
 pub set_marked : (ss : List ℕ) (at m i n : ℕ) → m ≢ 0 → at < length ss → i ≤ at → at < i + n
     → ((k : ℕ) → i ≤ k → k < at → get_or ss k 1 ≢ 0) → is_marked (set ss at m) m i n ≡ true
 set_marked ss at m i zero some within low high full = absurd (omega arith)
@@ -57,7 +57,7 @@ set_marked ss at m i (suc n) some within low high full =
           ])
     ]
 
--- what is marked stays so where an empty slot is filled
+-- a tag that is found is still found after an empty slot is filled
 pub stay_marked : (ss : List ℕ) (at v : ℕ) → get_or ss at 1 ≡ 0 → (m i n : ℕ) → is_marked ss m i n ≡ true
     → is_marked (set ss at v) m i n ≡ true
 unfolding is_marked
@@ -82,7 +82,7 @@ empty_within ss i e = elim (cases_lt i (length ss)) [
   | inr ge ↦ absurd (omega (arith, get_or_past ss i 1 ge, e))
 ]
 
--- ---- the keys that are marked
+-- -- the keys whose tags are found
 
 pub AreMarked-none : (ks : List (List ℕ)) (ss : List ℕ) (mask n : ℕ) → n ≡ 0 → AreMarked ks ss mask n
 AreMarked-none ks ss mask n none = record { within = omega arith; marked = λ i l. absurd (omega arith) }
@@ -95,7 +95,7 @@ AreMarked-push ks k ss mask n known = record {
       (get_or_append_left ks (k ∷ []) [] i (omega (arith, known.within))) ∙ known.marked i l;
 }
 
--- no key has a name that isn't marked
+-- no key has a name whose tag isn't found
 pub unmarked : (ks : List (List ℕ)) (ss : List ℕ) (mask n : ℕ) (name : List ℕ) → AreMarked ks ss mask n
     → n ≡ length ks → may_have ss mask name ≡ false → false ≡ list_any (λ k. bytes_eq k name) ks
 unmarked ks ss mask n name known all new =

@@ -1,4 +1,4 @@
--- Entries of repeated keys that are put into one, in place.
+-- Merging the entries of repeated keys in place.
 use Rattle.std.proofs.Common.{◌≡◌, ℕ, zero, suc, ◌+◌, ◌<◌, ◌≤◌, Bool, true, false, eqb, List, [], ◌∷◌, ◌++◌, length}
 use Rattle.std.proofs.Common.{get_or, set, take, drop, None, Some, cond, length-append, refl, sym, ap, ◌∙◌, inl, inr}
 use Rattle.std.proofs.Common.{arith, add-one}
@@ -20,7 +20,7 @@ use Rattle.jzon_base.proofs.Zips.{AreParts-zip}
 use Rattle.std.proofs.lemmas.Option.{same_Some}
 use Rattle.jzon_base.proofs.Positions.{position-first, position-none, position-None-before}
 
--- ---- an element that is moved to the prefix part
+-- -- moving an element into the prefix
 
 module _ {X : Type 0} where
   prefix : (xs : List X) (k n : ℕ) (a b : X) → k ≤ n → (k ≡ n → a ≡ b) → n < length xs
@@ -44,7 +44,7 @@ module _ {X : Type 0} where
   back (x ∷ xs) (suc k) zero a b le = absurd (omega arith)
   back (x ∷ xs) (suc k) (suc n) a b le = back xs k n a b (omega arith)
 
-  -- a place before the prefix part's end is written over, and one at or behind it
+  -- a position within the prefix is overwritten, and one at its end or after it
   within : (xs : List X) (m k n : ℕ) (a b : X) → m ≤ n → k < m → take m (set (set xs k a) n b) ≡ set (take m xs) k a
   within xs zero k n a b le l = absurd (omega arith)
   within [] (suc m) k n a b le l = refl
@@ -63,7 +63,7 @@ module _ {X : Type 0} where
   item (x ∷ xs) zero l = (x, refl)
   item (x ∷ xs) (suc i) l = item xs i (omega arith)
 
-  -- lists that agree from place n on
+  -- lists that agree from position n on
   same_read : (xs ys : List X) (n : ℕ) (d : X) → n < length xs → n < length ys → drop n xs ≡ drop n ys
       → (get_or xs n d ≡ get_or ys n d) × (drop (n + 1) xs ≡ drop (n + 1) ys)
   same_read xs ys n d l m e =
@@ -105,10 +105,10 @@ module _ {X : Type 0} where
       (ap test (get_or-append_seam xs y [] y) ∙ t)
       (λ j l. ap test (get_or_append_left xs (y ∷ []) y j l) ∙ position-None-before test xs j y e l)
 
--- ---- pairs that are put one after the other
+-- -- entries put one after the other
 
 module _ {V : Type 0} where
-  -- one entry more
+  -- one more entry
   put_each-more : (ks : List (List ℕ)) (vs : List V) (i : ℕ) (v : V) → i < length ks → length vs ≡ length ks
       → v ≡ get_or vs i v → put_each (take (i + 1) (zip ks vs)) ≡ put (get_or ks i []) v (put_each (take i (zip ks vs)))
   put_each-more ks vs i v l e is =
@@ -119,7 +119,7 @@ module _ {V : Type 0} where
       ap put_each (take_more (zip ks vs) i (k, v) long ∙ ap (λ p. take i (zip ks vs) ++ p ∷ []) read)
       ∙ fold-append (λ qs p. put p.0 p.1 qs) [] (take i (zip ks vs)) ((k, v) ∷ [])
 
-  -- a key that is none of those put
+  -- a key that isn't one of those put
   module _ (k : List ℕ) where
     abbrev AreOther : List (List ℕ × V) → Type 0
     AreOther ps = AllByRecursion (λ p. bytes_eq p.0 k ≡ false) ps
@@ -160,11 +160,11 @@ module _ {V : Type 0} where
     missing_each ps h = position-none (λ x. bytes_eq x k) (keys_of (put_each ps)) []
         (other_at (put_each ps) (other_each [] ps tt h))
 
--- ---- the walk
+-- -- the loop
 
 module _ {V : Type 0} (ks0 : List (List ℕ)) (vs0 : List V) (fs0 : List ℕ) where
-  -- The first entries up to `at` are merged into the first `kept` places, and the others are as they were. fs has the
-  -- new places of first keys, and behind them first places.
+  -- The first entries up to `at` are merged into the first `kept` positions, and the others are unchanged. Before `at`,
+  -- fs has the new positions of first keys; from there on, first positions.
   pub record IsMerged (ks : List (List ℕ)) (vs : List V) (fs : List ℕ) (kept at : ℕ) : Type 0 where
     pub keys_even : length ks ≡ length ks0
     pub values_even : length vs ≡ length vs0
@@ -202,7 +202,7 @@ module _ {V : Type 0} (ks0 : List (List ℕ)) (vs0 : List V) (fs0 : List ℕ) wh
     entry_more : put_each (take (at + 1) (zip ks0 vs0)) ≡ put key value.0 (put_each (take at (zip ks0 vs0)))
     entry_more = put_each-more ks0 vs0 at value.0 l even value.1
 
-    -- ---- a key that is there for the first time
+    -- -- a key that occurs for the first time
 
     module _ (new : get_or fs at 0 ≡ at) where
       first_here : position (λ k. bytes_eq k key) ks0 ≡ Some at
@@ -258,7 +258,7 @@ module _ {V : Type 0} (ks0 : List (List ℕ)) (vs0 : List V) (fs0 : List ℕ) wh
         later = λ j h. get_or-set_other fs at j kept 0 (λ e. absurd (omega arith)) ∙ m.later j (omega arith);
       }
 
-    -- ---- a key that was there before
+    -- -- a key that occurred before
 
     module _ (old : get_or fs at 0 ≡ at → ⊥) where
       abbrev first : ℕ

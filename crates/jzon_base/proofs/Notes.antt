@@ -1,4 +1,4 @@
--- What is noted of the keys of a growing list.
+-- What a growing list of keys keeps for lookups.
 use Rattle.std.proofs.Common.{◌≡◌, ℕ, List, []}
 use Rattle.jzon_base.specs.Notes.{AreNoted}
 use Rattle.jzon_base.specs.declared.keys.notes.Notes.{Notes}

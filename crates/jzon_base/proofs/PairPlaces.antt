@@ -1,4 +1,4 @@
--- What the place of a key says of a list of pairs.
+-- What the position of a key says of a list of entries.
 use Rattle.std.proofs.Common.{◌≡◌, ℕ, zero, suc, ◌<◌, Bool, true, false, List, [], ◌∷◌, ◌++◌, length, get_or, set, None}
 use Rattle.std.proofs.Common.{Some, IsSome, refl, sym, ap, ◌∙◌, arith}
 use Rattle.std.proofs.lemmas.List.Quantifiers.{position-Some}
@@ -11,7 +11,7 @@ use Rattle.jzon_base.specs.PairList.{keys_of, values_of, find, put, cut, set_val
 use Rattle.jzon_base.proofs.Positions.{position-first, position-None-before}
 use Rattle.jzon_base.proofs.Zips.{AreParts-zip, zip-push, zip-set}
 
--- place i is the first of k among the keys
+-- i is the first position of k among the keys
 record IsPlace (k : List ℕ) (ks : List (List ℕ)) (i : ℕ) : Type 0 where
   within : i < length ks
   here : bytes_eq (get_or ks i []) k ≡ true
@@ -126,7 +126,7 @@ placed k ks i e = let h = position-Some (λ x. bytes_eq x k) ks i [] e in record
 absent : (k : List ℕ) (ks : List (List ℕ)) → position (λ x. bytes_eq x k) ks ≡ None → IsAbsent k ks
 absent k ks e j l = position-None-before (λ x. bytes_eq x k) ks j [] e l
 
--- a key that has a place, and one that has none
+-- a key that has a position, and one that has none
 module _ {V : Type 0} (k : List ℕ) (ps : List (List ℕ × V)) where
   pub find_placed : (i : ℕ) (v : V) → position (λ x. bytes_eq x k) (keys_of ps) ≡ Some i
       → slice_get (values_of ps) i ≡ Some v → find k ps ≡ Some v
@@ -163,12 +163,12 @@ module _ {V : Type 0} (k : List ℕ) (ps : List (List ℕ × V)) where
   last_placed v e = let p = place-last k ps v (absent k (keys_of ps) e) in position-first (λ x. bytes_eq x k)
       (keys_of (ps ++ (k, v) ∷ [])) (length ps) [] p.within p.here p.before
 
--- a value that is written at the place where a default was put
+-- a value that is written at the position where a default was put
 pub default_written : {V : Type 0} (k : List ℕ) (v : V) (ps qs : List (List ℕ × V)) (i : ℕ) → qs ≡ with_default k v ps
     → position (λ x. bytes_eq x k) (keys_of qs) ≡ Some i → (w : V) → set_value qs i w ≡ put k w ps
 default_written k v ps qs i e p w = sym (put_placed k qs i w p) ∙ ap (put k w) e ∙ put-with_default k v w ps
 
--- a value that is put under a key, where keys and values stand side by side
+-- a value put under a key, for separate lists of keys and values
 module _ {V : Type 0} (k : List ℕ) (v : V) (ks : List (List ℕ)) (vs : List V) (ps : List (List ℕ × V))
     (seen : zip ks vs ≡ ps) (even : length vs ≡ length ks) where
   pub zip-put_placed : (i : ℕ) → Some i ≡ position (λ x. bytes_eq x k) ks → zip ks (set vs i v) ≡ put k v ps

@@ -19,7 +19,7 @@ below a b = cond (ltb a b) 255 0
 abbrev equal : ℕ → ℕ → ℕ
 equal a b = cond (eqb a b) 255 0
 
--- what the code's three tests make of one lane
+-- the result of the code's three tests for one lane
 abbrev lane : ℕ → ℕ → ℕ → ℕ → ℕ
 lane a b c x = bit_or (bit_or (below x a) (equal x b)) (equal x c)
 
@@ -44,7 +44,7 @@ mask_is a b c n v long few =
     ap (λ l. mask_l l % 2 ^ 64) (ap (map (top 7)) lanes ∙ map-map (top 7) (lane a b c) v)
     ∙ mask_l-mod (map (stops a b c) v) 64 (omega (arith, length-map v (stops a b c), long))
 
--- a lane stops at just the bytes that are not plain
+-- a lane stops exactly at the bytes that aren't plain
 abbrev pub AtEscapes : ℕ → ℕ → ℕ → Type 0
 AtEscapes a b c = agree_below (λ x. not (stops a b c x)) is_plain 256 ≡ true
 
@@ -59,13 +59,13 @@ first_set a b c d i n room few fits all =
     ∙ first_set_mask_l (stops a b c) v n long few
     ∙ same_run (λ x. not (stops a b c x)) is_plain v all (chunk-fits w8 i n d fits)
 
--- where no lane stops, the whole block is plain
+-- if no lane stops, the whole block is plain
 pub block_none : (a b c : ℕ) (d : List ℕ) (i n : ℕ) → i + n ≤ length d → n ≤ 64 → ((k : ℕ) → Fits w8 (get_or d k 0))
     → mask_of a b c n (chunk i n d) ≡ 0 → AtEscapes a b c → n ≡ prefix_len is_plain (chunk i n d)
 block_none a b c d i n room few fits none all = sym (cond-true _ _ _ (eq-eqb _ _ none))
     ∙ first_set a b c d i n room few fits all
 
--- and else the first lane that stops ends the run
+-- otherwise the first lane that stops ends the run
 pub block_some : (a b c : ℕ) (d : List ℕ) (i n : ℕ) → i + n ≤ length d → n ≤ 64 → ((k : ℕ) → Fits w8 (get_or d k 0))
     → (mask_of a b c n (chunk i n d) ≡ 0 → ⊥) → AtEscapes a b c
     → count_trailing_zeros 64 (mask_of a b c n (chunk i n d)) ≡ prefix_len is_plain (chunk i n d)

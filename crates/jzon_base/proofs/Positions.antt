@@ -1,4 +1,4 @@
--- The first place in a list where a test passes.
+-- The first position in a list where a test passes.
 use Rattle.std.proofs.Common.{◌≡◌, ℕ, ◌<◌, Bool, true, false, cond, nat_lt, List, length, get_or, Option}
 use Rattle.std.proofs.Common.{Some, None, arith}
 use Rattle.std.proofs.lemmas.Bool.Decides.{nat_tests}

@@ -3,7 +3,7 @@ use Rattle.std.proofs.Common.{◌≡◌, ℕ, ◌*◌, ◌/◌, ◌^◌, ◌≤�
 use Rattle.std.proofs.Math.Nat.{one-le-pow, mul-le-mul_right, mul-div_cancel}
 use Rattle.std.proofs.lemmas.Bool.{cases_eq, eq-eqb, ne_eqb}
 
--- a multiple of what is too large is too large
+-- a multiple of a number that is too large is too large
 pub too_large : (m p : ℕ) → 0 < m → 2 ^ 64 ≤ p → 2 ^ 64 ≤ m * p
 too_large m p some large = omega (arith, mul-le-mul_right p some, large)
 

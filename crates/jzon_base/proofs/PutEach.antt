@@ -1,4 +1,4 @@
--- Pairs that are put one after the other.
+-- Entries put one after the other.
 use Rattle.std.proofs.Common.{◌≡◌, ◌∙◌, ℕ, List, [], ◌∷◌, ◌++◌, Bool, true, false, cond, length, refl, sym, ap, subst}
 use Rattle.std.proofs.Common.{append_assoc, append-nil}
 use Rattle.std.specs.List.{fold, zip, AllByRecursion, IsDistinct}
@@ -13,7 +13,7 @@ module _ {V : Type 0} where
       → put_each (ps ++ (k, v) ∷ []) ≡ put k v (put_each ps)
   put_each-push ps k v = fold-append (λ qs p. put p.0 p.1 qs) [] ps ((k, v) ∷ [])
 
-  -- ---- pairs of distinct keys stay as they are
+  -- -- entries of distinct keys stay as they are
 
   key_within : (P : List ℕ → Type 0) (qs ps : List (List ℕ × V)) (p : List ℕ × V)
       → AllByRecursion P (keys_of (qs ++ p ∷ ps)) → P p.0
@@ -40,7 +40,7 @@ module _ {V : Type 0} where
   pub put_each-distinct : (ps : List (List ℕ × V)) → IsDistinct bytes_eq (keys_of ps) → put_each ps ≡ ps
   put_each-distinct ps distinct = put_behind [] ps distinct
 
-  -- ---- whatever is put, the keys are distinct
+  -- -- the keys are distinct, whatever is put
 
   apart_by : (b : Bool) (l k : List ℕ) (v : V) (p : List ℕ × V) (ps : List (List ℕ × V))
       → AllByRecursion (λ y. bytes_eq l y ≡ false) (keys_of (p ∷ ps))
@@ -78,11 +78,11 @@ module _ {V : Type 0} where
   unfolding IsDistinct
   IsDistinct-put_each ps = IsDistinct-put_onto [] ps tt
 
-  -- put once more, they stay
+  -- putting the result once more changes nothing
   pub put_each-put_each : (ps : List (List ℕ × V)) → put_each (put_each ps) ≡ put_each ps
   put_each-put_each ps = put_each-distinct (put_each ps) (IsDistinct-put_each ps)
 
-  -- ---- keys and values side by side
+  -- -- separate lists of keys and values
 
   pub put_each-zip : (ks : List (List ℕ)) (vs : List V) → length vs ≡ length ks → IsDistinct bytes_eq ks
       → put_each (zip ks vs) ≡ zip ks vs

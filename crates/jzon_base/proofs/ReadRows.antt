@@ -61,7 +61,7 @@ last_zero_dropped = refl
 
 -- ---- many digits
 
--- the parts where the first k digits are kept
+-- the number if the first k digits are kept
 read_number-at : (positive : Bool) (whole fraction : List ℕ) (written : ℤ) (k : ℕ) → kept_len (whole ++ fraction) ≡ k
     → read_number positive whole fraction written ≡ parts positive (digits_number (take k (whole ++ fraction)))
     (clamp ((pos (length whole - k) -ℤ pos (k - length whole)) +ℤ written))

@@ -1,4 +1,4 @@
--- Keys that are looked for in sorted runs.
+-- Lookups of keys in sorted runs.
 use Rattle.std.proofs.Common.{◌≡◌, ◌∙◌, ℕ, suc, ◌+◌, ◌-◌, ◌<◌, Bool, true, false, List, [], ◌∷◌, ◌++◌}
 use Rattle.std.proofs.Common.{length, get_or, take, drop, ◌||◌, Result, Ok, Err, take_all, add-zero, zero-add}
 use Rattle.std.proofs.Common.{append_assoc, append-nil, refl, sym, ap, subst, inl, inr, arith}
@@ -63,13 +63,13 @@ module _ (ks : List (List ℕ)) (h : ℕ) (name : List ℕ) where
         | inr ge ↦ ap is_eq (point.1 j d ge l)
       ]))
 
-  -- some run has it where the runs one after the other do
+  -- some run has it if their concatenation has
   pub any_run : (rs : List (List (ℕ × ℕ))) → list_any (λ r. list_any is_it r) rs ≡ list_any is_it (flat_map (λ r. r) rs)
   any_run [] = refl
   any_run (r ∷ rs) = ap (λ (b : Bool). list_any is_it r || b) (any_run rs)
       ∙ sym (list_any-append is_it r (flat_map (λ r. r) rs))
 
--- ---- what the runs know
+-- -- what the runs find
 
 unequal_then : (o r : Ordering) → is_eq r ≡ false → is_eq (ordering_then o r) ≡ false
 unequal_then Less r e = refl
@@ -130,7 +130,7 @@ module _ (ks : List (List ℕ)) (rs ss : List (List (ℕ × ℕ))) (n h : ℕ) (
       f ∙ ap (list_any is_known) (take_rest ks n) ∙ sym (known_parts
       ∙ ap (λ (b : Bool). b || list_any is_known (drop n ks)) (sym (e ∙ known_first)))
 
--- ---- runs come and go
+-- -- adding and joining runs
 
 pub AreRuns-none : (ks : List (List ℕ)) → AreRuns ks [] 0
 unfolding hashed_from
@@ -183,7 +183,7 @@ AreRuns-join ks us a b c n runs moved up = record {
       (prefix us (a ∷ b ∷ []) ((us ++ a ∷ []) ++ b ∷ []) (append_assoc us (a ∷ []) (b ∷ [])))) all) up);
 }
 
--- ---- a key more
+-- -- one more key
 
 All-places : (n : ℕ) (ks : List (List ℕ)) → All (λ p. p.1 < n + length ks) (hashed_from n ks)
 unfolding hashed_from

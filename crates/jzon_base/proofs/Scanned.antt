@@ -1,4 +1,4 @@
--- The digits at the beginning of a text, as they are added up.
+-- The leading digits of a text, as they are accumulated.
 use Rattle.std.proofs.Common.{◌≡◌, ℕ, zero, suc, ◌+◌, ◌-◌, ◌*◌, ◌^◌, ◌%◌, ◌≤◌, true, List, [], ◌∷◌, ◌++◌, length}
 use Rattle.std.proofs.Common.{take, drop, refl, ap}
 use Rattle.std.proofs.Common.{sym, ◌∙◌, arith, pow-suc}
@@ -20,7 +20,7 @@ value_after n (c ∷ cs) =
     let b = value_after (0 * 10 + (c - 48)) cs in
     omega (arith, ap (λ x. n * x) (pow-suc 10 (length cs)))
 
--- the number with more digits, of which the remainder is known
+-- the number with more digits, if its remainder is known
 more_digits : (n v m : ℕ) (ds : List ℕ) → v ≡ n % m
     → (v * 10 ^ length ds % m + digits_number ds) % m ≡ fold add_digit n ds % m
 more_digits n v m ds h =
@@ -42,7 +42,7 @@ take_sum (suc m) n [] = take_nil (suc m + n) ∙ sym (take_nil n)
 take_sum (suc m) n (x ∷ xs) =
     ap (λ k. take k (x ∷ xs)) {y = suc (m + n)} (omega arith) ∙ ap (λ (l : List ℕ). x ∷ l) (take_sum m n xs)
 
--- The bytes before `at` are digits, and `number` is what they spell after a number before, modulo 2 ^ 64.
+-- The bytes before `at` are digits, and `number` is what they spell when appended to `before`, modulo 2 ^ 64.
 pub record HasScanned (bytes : List ℕ) (before at number : ℕ) : Type 0 where
   pub within : at ≤ length bytes
   pub count : prefix_len is_ascii_digit bytes ≡ at + prefix_len is_ascii_digit (drop at bytes)
@@ -63,7 +63,7 @@ number_more bytes before at number count next scanned room is n given =
     ∙ ap (λ x. x % 2 ^ 64) (sym (fold-append add_digit n (take at bytes) ds))
     ∙ ap (λ l. fold add_digit n l % 2 ^ 64) (sym (take_sum at count bytes))
 
--- a block of n bytes that are digits
+-- a block of n digits
 pub scanned_block : (bytes : List ℕ) (before at number n count next : ℕ) → HasScanned bytes before at number
     → at + n ≤ length bytes → count ≡ prefix_len is_ascii_digit (take n (drop at bytes)) → n ≤ count
     → next ≡ digits_number (take count (drop at bytes))
@@ -92,7 +92,7 @@ number_rest bytes before at number count last scanned rest n given =
 is_digit : (d : ℕ) → IsDigit d → is_ascii_digit d ≡ true
 is_digit d h = grind (arith, nat_tests)
 
--- digits alone are all at the beginning
+-- in a list of digits all are leading digits
 pub all_scanned : (ds : List ℕ) → All IsDigit ds → take_while is_ascii_digit ds ≡ ds
 all_scanned [] all = refl
 all_scanned (d ∷ ds) all =

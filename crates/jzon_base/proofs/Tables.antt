@@ -1,4 +1,4 @@
--- Keys, and the index of their hashes where there is one.
+-- Keys, and the index of their hashes if there is one.
 use Rattle.std.proofs.Common.{◌≡◌, ◌≢◌, ℕ, zero, suc, ◌+◌, ◌<◌, false, eqb, not, List, [], ◌∷◌, ◌++◌}
 use Rattle.std.proofs.Common.{length}
 use Rattle.std.proofs.Common.{get_or, map, filter, take, Option, refl, sym, ap, ◌∙◌, subst, arith}
@@ -16,7 +16,7 @@ use Rattle.jzon_base.specs.Keys.{hashed_from, lowered, IsIndex, IsIndexed, IsTab
 use Rattle.jzon_base.proofs.Handed.{IsIndexOf-push, IsIndexOf-same, IsIndexOf-remove}
 use Rattle.jzon_base.proofs.Indexes.{is_other, none_of, IsDistinct-missing, IsDistinct-remove}
 
--- ---- the hashes of keys are handed in
+-- -- hashes passed by the caller
 
 hashed_from-numbered : (n : ℕ) (ks : List (List ℕ)) → hashed_from n ks ≡ numbered n (map hash_of ks)
 unfolding hashed_from numbered
@@ -27,7 +27,7 @@ pub IsIndexOf-none : IsIndexOf [] []
 unfolding numbered
 IsIndexOf-none = record { whole = IsPermutation-refl [] }
 
--- any function may give the hashes
+-- the hashes may be those of any function
 module _ (hash : List ℕ → ℕ) where
   hashes-push : (ks : List (List ℕ)) (k : List ℕ) → map hash (ks ++ k ∷ []) ≡ map hash ks ++ hash k ∷ []
   hashes-push [] k = refl
@@ -47,7 +47,7 @@ module _ (hash : List ℕ → ℕ) where
         ∙ sym own;
   }
 
-  -- one key more
+  -- one more key
   pub IsIndexOf-key : (ks : List (List ℕ)) (k : List ℕ) (h n : ℕ) (ps qs : List (ℕ × ℕ)) → IsIndexOf (map hash ks) ps
       → h ≡ hash k → n ≡ length ks → IsPermutation ((h, n) ∷ ps) qs → IsIndexOf (map hash (ks ++ k ∷ [])) qs
   IsIndexOf-key ks k h n ps qs index own last added =
@@ -55,14 +55,14 @@ module _ (hash : List ℕ → ℕ) where
       subst (λ hs. IsIndexOf hs qs) (sym (hashes-push ks k)) (IsIndexOf-push (map hash ks) (hash k) ps qs index
       (subst (λ (p : ℕ × ℕ). IsPermutation (p ∷ ps) qs) e added))
 
-  -- one key less
+  -- one key fewer
   pub IsIndexOf-cut : (ks : List (List ℕ)) (ps : List (ℕ × ℕ)) (i : ℕ) → i < length ks → IsIndexOf (map hash ks) ps
       → IsIndexOf (map hash (remove ks i)) (map (lowered i) (filter (is_other i) ps))
   IsIndexOf-cut ks ps i l index =
       subst (λ hs. IsIndexOf hs (map (lowered i) (filter (is_other i) ps))) (sym (hashes-remove ks i))
       (IsIndexOf-remove (map hash ks) ps i (omega (arith, length-map ks hash)) index)
 
--- ---- keys come and go
+-- -- adding and removing keys
 
 pub IsIndexed-none : (ks : List (List ℕ)) → IsIndexed ks []
 IsIndexed-none ks = record { index = λ e. absurd (e refl) }
@@ -100,7 +100,7 @@ filled_more ks n k name h ps qs l is same own index added =
     (IsIndexOf-key hash_of (take n ks) (get_or ks n k) h n ps qs index (own ∙ ap hash_of (same ∙ is))
     (sym (length-take-le n ks (omega arith))) added)
 
--- an index without entries is that of no key
+-- an index without entries is the index of no keys
 pub IsIndexed-empty : (ks : List (List ℕ)) (ps : List (ℕ × ℕ)) → length ps ≡ 0 → IsIndexed ks ps
 IsIndexed-empty ks ps none = record { index = λ ne. absurd (ne (nil_from_length ps none)) }
 

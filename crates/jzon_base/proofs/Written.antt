@@ -5,7 +5,7 @@ use Rattle.std.proofs.KnownBytes.{Appends-trans}
 use Rattle.std.proofs.Math.Seq.{take-add}
 use Rattle.std.proofs.lemmas.List.{take_all, length-drop}
 
--- a write of n of the bytes after the first i, where those stand already
+-- a write of n of the bytes after the first i, which are written already
 pub Appends-more : (a b c : Option (List ℕ)) (bs : List ℕ) (i n : ℕ) → Appends a b (take i bs)
     → Appends b c (take n (take (length bs - i) (drop i bs))) → Appends a c (take (i + n) bs)
 Appends-more a b c bs i n p q =

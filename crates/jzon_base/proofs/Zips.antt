@@ -1,4 +1,4 @@
--- Keys and values side by side, as a list of pairs.
+-- Separate lists of keys and values, as a list of entries.
 use Rattle.std.proofs.Common.{◌≡◌, ℕ, zero, suc, List, [], ◌∷◌, ◌++◌, length, set, Some, refl, sym, ap, ◌∙◌, arith}
 use Rattle.std.proofs.lemmas.List.{length_push}
 use Rattle.std.proofs.lemmas.Map.Made.{keys_of-zip}
@@ -24,7 +24,7 @@ module _ {V : Type 0} where
   zip-push (l ∷ ks) [] k v e = absurd (omega arith)
   zip-push (l ∷ ks) (w ∷ vs) k v e = ap (λ r. (l, w) ∷ r) (zip-push ks vs k v (omega arith))
 
-  -- the ends of keys and of as many values
+  -- the last key and the last of as many values
   pub length-last : (ks ls : List (List ℕ)) (vs ws : List V) (k : List ℕ) (v : V) → ks ≡ ls ++ k ∷ []
       → vs ≡ ws ++ v ∷ [] → length vs ≡ length ks → length ws ≡ length ls
   length-last ks ls vs ws k v e f n = omega (arith, ap length e, ap length f, length_push ls k, length_push ws v)
@@ -48,7 +48,7 @@ module _ {V : Type 0} where
   zip-remove (k ∷ ks) (v ∷ vs) zero e = refl
   zip-remove (k ∷ ks) (v ∷ vs) (suc i) e = ap (λ r. (k, v) ∷ r) (zip-remove ks vs i (omega arith))
 
-  -- keys and as many values, beside the pairs that they are seen as
+  -- keys and as many values, and the entries that they represent
   pub record AreParts (ks : List (List ℕ)) (vs : List V) (ps : List (List ℕ × V)) : Type 0 where
     pub keys : ks ≡ keys_of ps
     pub values : vs ≡ values_of ps

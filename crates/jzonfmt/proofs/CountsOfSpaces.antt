@@ -1,4 +1,4 @@
--- The count of spaces that a word names.
+-- The number of spaces that an argument names.
 use Rattle.std.proofs.Common.{◌≡◌, ℕ, ◌^◌, ◌≤◌, List, [], ◌∷◌, length, Bool, true, false, ◌==◌}
 use Rattle.std.proofs.Common.{nat_lt, nat_le, Option, Some, None, Result, Ok, Err, refl, ap}
 use Rattle.std.proofs.Common.{if◌then◌else◌}
@@ -10,7 +10,7 @@ use Rattle.std.specs.Result.{result_ok}
 use Rattle.std.specs.Str.Parse.{AllDigits, ParsesUnsigned, digits_value, without_leading_plus}
 use Rattle.jzonfmt.specs.Drive.{asked_spaces}
 
--- digits, as a test tells them
+-- digits, by a test for digits
 all_digits : (n : List ℕ) → AllDigits 10 n → list_all (λ c. is_digit c 10) n ≡ true
 all_digits [] h = refl
 all_digits (c ∷ cs) h = rw (lt-ltb (digit_value c) 10 h.0) (all_digits cs h.1)
@@ -32,7 +32,8 @@ refused : (b : Bool) (v : ℕ) → (b ≡ true → ⊥) → ◌≡◌ {A = Optio
 refused true v h = absurd (h refl)
 refused false v h = refl
 
--- a number that is read of a word of five bytes at most, where no plus stands first, is the count that the word names
+-- the number parsed from an argument of at most five bytes that doesn't begin with `+` is the one that the argument
+-- names
 pub spaces_read : {E : Type 0} (n : List ℕ) (first : Option ℕ) (r : Result ℕ E) → length n ≤ 5 → first ≡ slice_get n 0
     → option_eq (λ x y. x == y) first (Some 43) ≡ false
     → ParsesUnsigned 16 10 n r → result_ok r ≡ asked_spaces n

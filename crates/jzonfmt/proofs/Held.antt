@@ -1,4 +1,4 @@
--- What a writer behind a buffer holds, call by call.
+-- What a buffered writer holds, call by call.
 use Rattle.std.proofs.Common.{◌≡◌, ℕ, ◌+◌, ◌-◌, ◌≤◌, List, [], ◌∷◌, ◌++◌, length, take, drop, Option, None, Some, refl}
 use Rattle.std.proofs.Common.{sym}
 use Rattle.std.proofs.Common.{Result, Ok, Err, OnOk, OnErr}
@@ -25,7 +25,7 @@ took name sent n rest (Some x) (Some y) h p =
     ∙ append_assoc x (take n rest) (drop n rest) ∙ ap (λ (l : List ℕ). x ++ l) (take-append-drop n rest) in
     rw (count, all) refl
 
--- the writer took n bytes of those that are left
+-- the writer accepted n bytes of those that are left
 pub shown_moved : (name before taken n : ℕ) (items seen : List ℕ) (a b : Option (List ℕ)) → seen ≡ items
     → n ≤ length (take (length seen - taken) (drop taken seen))
     → Appends a b (take n (take (length seen - taken) (drop taken seen)))
@@ -41,7 +41,7 @@ shown_moved name before taken n items seen a b same h p =
     rw (left, sent) at (took name (before + taken) n (drop taken items) a b (rw (same, rest) at h)
     (rw (same, rest) at p))
 
--- ---- all calls together: what the writer behind an empty buffer got of the bytes that were added
+-- -- all calls together: what the writer received of the bytes that were added, from an empty buffer on
 
 -- where x was held, y is now
 grew : (name name' none sent : ℕ) (x y empty rest bs : List ℕ) → none ≡ 0 → empty ≡ []
@@ -85,7 +85,7 @@ module _ (name name' none sent : ℕ) (empty rest : List ℕ) (e : none ≡ 0) (
       let within : k ≤ n = omega (arith, m, length-take-le n bs l) in
       (k, omega (arith, within, l), rw (take-take k n bs within) at q)
 
-  -- the same of the answer of all calls
+  -- the same for the result of all calls
   pub told_all : {E : Type 0} (r : Result (Unit {0}) E) (bs : List ℕ) (a b f : Option (List ℕ))
       → (name ≡ name' → f ≡ b) → OnOk r (rest ≡ [])
       → OnOk r (Appends (shown name none empty a) (shown name' sent rest b) bs)

@@ -1,4 +1,4 @@
--- What an input that is refused leaves: the fault that tells it, and a writer that holds what it held.
+-- What a rejected input leaves: the fault that reports it, and a writer that holds what it held.
 use Rattle.std.proofs.Common.{inl, inr, ◌≡◌, ℕ, List, Option, Result, Ok, Err, sym, subst}
 use Rattle.std.specs.Prelude.{IsUtf8, chars}
 use Rattle.std.specs.Result.{IsErrAnd}
@@ -31,7 +31,7 @@ answers_fault T reading layout input (WrongType s) w u (inr h) = ((u, h), Keeps-
 answers_fault T reading layout input (DuplicateKey l k) w u (inl e) = absurd (cc)
 answers_fault T reading layout input (DuplicateKey l k) w u (inr h) = ((u, h), Keeps-refl w)
 
--- the error of the text, told as a fault
+-- the error of the text, reported as a fault
 pub answers_refusal : {T : Type 0} (reading : Reading) (layout : Layout) (input : List ℕ) (e : Error)
     (result : Result T RunFault) (w : Option (List ℕ)) → IsUtf8 input
     → IsErrorUnlessMemory reading (chars input) e → IsErrAnd result (λ f. f ≡ fault_of e)
@@ -40,7 +40,7 @@ answers_refusal reading layout input e (Ok v) w u h r = absurd r
 answers_refusal {T = T} reading layout input e (Err f) w u h r = subst
     (λ g. Answers {T = T} reading layout input (Err g) w w) (sym r) (answers_fault T reading layout input e w u h)
 
--- an input that was read to its end is all that was read, whatever is answered
+-- the input was read to its end, whatever the result is
 pub reads_all : {T : Type 0} (r : Result T RunFault) (old new : Option (List ℕ)) (input : List ℕ)
     → Consumes old new input × IsAtEnd new → Reads r old new input
 reads_all (Ok v) old new input h = h

@@ -5,7 +5,7 @@ use Rattle.jzon.specs.View.{view}
 use Rattle.jzonfmt.proofs.engine.write_line.Goals.{After-new-buffered}
 use Rattle.jzonfmt.proofs.engine.write_line.Goals as goal
 
--- nothing is held yet, and nothing was handed on
+-- nothing is held yet, and nothing was passed on
 nothing_held : (g : _) (c : After-new-buffered g)
     → (c.new-buffered.result.before + c.new-buffered.result.taken ≡ 0)
     × (drop c.new-buffered.result.taken c.new-buffered.result.bytes.items ≡ [])

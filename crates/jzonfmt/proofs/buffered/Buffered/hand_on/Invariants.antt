@@ -3,7 +3,7 @@ use Rattle.std.specs.Io.KnownBytes.{Keeps}
 use Rattle.jzonfmt.specs.Buffered.{held}
 use Rattle.jzonfmt.proofs.buffered.Buffered.hand_on.Given as goal
 
--- what is held stays
+-- the contents held don't change
 abbrev pub invariant-loop-self : goal.invariant-loop-self
 invariant-loop-self g l = Keeps (held g.W.Write.contents l.initial.self) (held g.W.Write.contents l.self)
 
