@@ -1,5 +1,4 @@
--- Laws about answers, for callers: what a result is that meets the clauses of `parse` or of `parse_as`, where it is
--- known
+-- Laws on results, for callers: what a result that meets the clauses of `parse` or of `parse_as` is, if it is known
 -- what the text is read as, or which error it has. They hold for every reading.
 use Rattle.std.proofs.Common.{◌≡◌, ◌⊎◌, inl, inr, ℕ, ◌≤◌, List, Result, Ok, Err, IsTrue, IfOk, IfErr, MatchResult}
 use Rattle.std.proofs.Common.{IsOkUnless, sym, ap, ◌∙◌, subst, chars}
@@ -25,7 +24,7 @@ use Rattle.jzon.proofs.ReadBack.Redump.{redumped}
 use Rattle.jzon.proofs.ReadBack.StrictStyles.{strict_styles}
 use Rattle.jzon.proofs.Texts.OneTree.{same_tree}
 use Rattle.jzon.proofs.Texts.Verdict.{one_tree_or_one_fault}
--- the answer to one concrete text, by computation: `Parses` from a tree, and `IsErrorOf` from an error
+-- the result for one concrete text, by computation: `Parses` from a tree, and `IsErrorOf` from an error
 pub use Rattle.jzon.proofs.Texts.Answers.{refused_error}
 pub use Rattle.jzon.proofs.Texts.ReadTree.{read_tree}
 
@@ -33,7 +32,7 @@ module _ (r : Reading) where
   -- ---- a text that is read as some value
 
   module _ (P : Value → Type 0) (bytes : List ℕ) where
-    -- each value that is answered is such a value
+    -- each value that is returned is such a value
     pub answer-value : (answer : Result JsonValue Error) → IsReadAs r bytes P
         → IfOk answer (IsMeaningOf r (chars bytes)) → IfOk answer (λ v. P (view v))
     answer-value (Ok v) read means =
@@ -54,12 +53,12 @@ module _ (r : Reading) where
 
   -- ---- a text with an error
 
-  -- it has no tree within the limits
+  -- no tree within the limits spells it
   pub error-no_tree : (t : List ℕ) (e : Error) (d : Document) → IsErrorOf r t e → Parses r t d → ⊥
   error-no_tree t e d (i, f, first, told) parses =
       elim (one_tree_or_one_fault r t) [ inl tree ↦ tree.3 i f first.0 | inr fault ↦ fault.0 d parses ]
 
-  -- and this error alone
+  -- and this is its only error
   pub error-one : (t : List ℕ) (e f : Error) → IsErrorOf r t e → IsErrorOf r t f → f ≡ e
   error-one t e f (i, x, first, told) (j, y, other, also) =
       elim (one_tree_or_one_fault r t) [
@@ -71,7 +70,7 @@ module _ (r : Reading) where
             (two.1 ∙ sym one.1) ∙ sym told
       ]
 
-  -- so it is what is answered, but where memory is refused
+  -- so it is the error that is returned, unless an allocation fails
   pub answer-error : (t : List ℕ) (e : Error) (answer : Result JsonValue Error) → IsErrorOf r t e
       → IfOk answer (IsMeaningOf r t) → IfErr answer (IsErrorUnlessMemory r t)
       → MatchResult answer (λ v. ⊥) (λ f. (f ≡ OutOfMemory) ⊎ (f ≡ e))
@@ -81,12 +80,12 @@ module _ (r : Reading) where
 
   -- ---- a text that was printed
 
-  -- any writing of a value, in any style; a strict reading asks for a style of strict whitespace alone
+  -- any text written for a value, in any style; for a strict reading the style must allow strict whitespace only
   pub reads-writing : (s : Style) (dent : ℕ) (v : Value) (b : List ℕ) → (IsTrue r.strict → AllowsStrictAlone s)
       → IsReadable r v → Writes s dent v b → IsReadAs r b (λ w. IsTrue (same w v))
   reads-writing s dent v b strict readable = read_back r s dent v b strict readable.0 readable.1 readable.2
 
-  -- the compact text, and the text with a line for each item, are read as an equal value
+  -- the compact and the pretty text are read as an equal value
   pub reads-compact : (v : Value) (b : List ℕ) → IsReadable r v → b ≡ compact v → IsReadAs r b (λ w. IsTrue (same w v))
   reads-compact v b readable is =
       subst (λ (x : List ℕ). IsReadAs r x (λ w. IsTrue (same w v))) (sym is)

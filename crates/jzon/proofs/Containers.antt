@@ -1,5 +1,5 @@
--- Values (RFC 8259, section 3), arrays (5) and objects (4): before a value, between values and after them. Letters:
--- Texts.antt
+-- Values (RFC 8259, section 3), arrays (5) and objects (4): before a value, between values and after them.
+-- Letters: Texts.antt
 
 -- the automaton
 pub mod CompleteValues

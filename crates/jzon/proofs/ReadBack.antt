@@ -1,10 +1,10 @@
 -- What is printed reads back. The main statements:
--- `read_back` (ReadsBack): each writing of a value without NaN is read as the same value
+-- `read_back` (ReadsBack): each text written for a value without NaN is read as the same value
 -- `redumped` (Redump): the compact text of a value is read as a value with the same compact text
--- `meaning_held` (MeaningHeld): what is read is a value of which both speak
+-- `meaning_held` (MeaningHeld): what is read is a value that both laws apply to
 -- `number_read_back` (NumbersReadBack): the text of a number is read as the same number
 -- Letters: Texts.antt, and
---   s style   dent indentation   high how many more containers may be open   b bytes that are written   m mantissa
+--   s style   dent indentation   high how many more containers may be opened   b bytes that are written   m mantissa
 --   e exponent   ms, ns nodes or members
 pub mod NumeralTexts
 pub mod NumberTextLengths

@@ -1,19 +1,19 @@
--- Whole texts (RFC 8259, section 2): what the automaton of specs/Machine, which goes from a state and a character to
--- the next state, has to do with spelling trees. The four statements on which all else rests:
+-- Whole texts (RFC 8259, section 2): how the automaton of specs/Machine, which goes from a state and a character to the
+-- next state, relates to trees that spell texts. The four statements on which everything rests:
 -- complete: over the cells of a tree the automaton goes from before it to after its meaning, each move with its cell's
 --   mark (`complete`: Containers/CompleteValues)
--- sound: what the automaton reads to a value, marks passed over, a tree spells that means it (`sound`:
+-- sound: if the automaton reads a text to a value, ignoring marks, some tree spells the text and means it (`sound`:
 --   Containers/SoundValues)
 -- closing: from each state a text, computed by the function `closer`, leads to an end (`closes`: Closing)
--- one tree: two trees that spell one text are the same tree (`same_tree`: OneTree; it speaks of no automaton)
+-- one tree: two trees that spell the same text are equal (`same_tree`: OneTree; no automaton is involved)
 -- What follows from them: `answers` and `one_tree_or_one_fault` (Verdict); of one text, by computation, `read_tree`
 -- (ReadTree) and `refused_error` (Answers).
 --
 -- Letters, here and in Numbers, Strings and Containers:
 --   r reading   d document   n node (a value's tree)   t text   c character   cs, u the characters after it
 --   f prefix   g what may follow it   b, w whitespace   k cells or characters that follow   p, q, s states
---   fs open containers, the inmost first   vs elements so far   es entries so far   v, x value   left characters left
---   G, H what is asked of the state or the outcome at the end
+--   fs open containers, the innermost first   vs elements so far   es entries so far   v, x value
+--   left characters left   G, H what is required of the state or the outcome at the end
 -- The bytes: bs text as bytes   i offset   b byte
 
 -- the automaton

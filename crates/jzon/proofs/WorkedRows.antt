@@ -1,5 +1,5 @@
--- Worked rows of docs/RULES.md, computed from the definitions. No code is involved, so a definition that says something
--- else than its row is refused here.
+-- Worked rows of docs/RULES.md, computed from the definitions. No code is involved, so a definition that disagrees with
+-- its row is rejected here.
 pub mod Samples
 pub mod SpellingRows
 pub mod MarkRows

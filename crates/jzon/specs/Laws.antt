@@ -44,7 +44,7 @@ HasOneFault r t =
 abbrev pub OneFault : Type 0
 OneFault = (r : Reading) (t : List ℕ) → HasOneTree r t ⊎ HasOneFault r t
 
--- -- what is written can be read back
+-- ---- what is written can be read back
 
 -- a text that is one value, with no whitespace around it
 abbrev pub alone : Node → Document

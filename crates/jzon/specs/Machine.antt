@@ -106,7 +106,7 @@ abbrev pub bad_at : Option Breach → Move
 bad_at None = bad
 bad_at (Some b) = bad_deep
 
--- -- before and after values
+-- ---- before and after values
 
 abbrev pub move_empty_array : Frames → Move
 move_empty_array (array_frame fs []) = go None (behind fs (value.array value.no_values))

@@ -25,7 +25,7 @@ use Rattle.jzon_base.proofs.Permutations.{IsPermutation-filter}
 use Rattle.jzon_base.proofs.Positions.{position-none}
 use Rattle.jzon_base.proofs.Indexes.{only_place, is_other, kept_by, lowered-lower, lowered-higher}
 
--- -- merging two runs
+-- ---- merging two runs
 
 -- the first i of the one and the first j of the other are merged, and the rest of both isn't lower
 pub record IsMerging (xs ys ms : List (ℕ × ℕ)) (i j : ℕ) : Type 0 where
@@ -94,7 +94,7 @@ pub merging_done : (xs ys ms : List (ℕ × ℕ)) (i j : ℕ) → IsMerging xs y
 merging_done xs ys ms i j m l r =
     subst (λ us. IsPermutation us ms) ((λ k. take_all i xs l k ++ take_all j ys r k)) m.whole
 
--- -- a lookup
+-- ---- a lookup
 
 -- none of the first n index entries is that of the hash and the name
 abbrev pub NoneYet : List (List ℕ) → ℕ → List ℕ → List (ℕ × ℕ) → ℕ → Type 0
@@ -161,7 +161,7 @@ found_place hs ks ps h name None index handed distinct here any =
           ∙ list_any_at (is_found ks h name) (numbered 0 hs) i (0, 0) (omega (arith, length-numbered 0 hs)) it)))
     ]))
 
--- -- one more hash
+-- ---- one more hash
 
 numbered-push : (n : ℕ) (hs : List ℕ) (h : ℕ) → numbered n (hs ++ h ∷ []) ≡ numbered n hs ++ (h, n + length hs) ∷ []
 unfolding numbered
@@ -181,7 +181,7 @@ IsIndexOf-push hs h ps qs index added =
 pub IsIndexOf-same : (hs : List ℕ) (ps qs : List (ℕ × ℕ)) → IsIndexOf hs ps → IsPermutation ps qs → IsIndexOf hs qs
 IsIndexOf-same hs ps qs index moved = record { whole = IsPermutation-trans _ ps qs index.whole moved }
 
--- -- one position less
+-- ---- one position less
 
 numbered-behind : (hs : List ℕ) (i m n : ℕ) → i ≤ m → n ≡ m + 1
     → map (lowered i) (filter (is_other i) (numbered n hs)) ≡ numbered m hs

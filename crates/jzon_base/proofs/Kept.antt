@@ -13,7 +13,7 @@ use Rattle.std.proofs.lemmas.Bool.Decides.{nat_tests}
 use Rattle.jzon_base.specs.DigitLimits.{IsLongestPrefix}
 use Rattle.jzon_base.specs.Digits.{IsDigit, add_digit, digits_number, longest_up_to, kept_len}
 
--- -- a longer prefix spells a number that is at least as large
+-- ---- a longer prefix spells a number that is at least as large
 
 fold-ge : (v : ℕ) (ds : List ℕ) → v ≤ fold add_digit v ds
 fold-ge v [] = omega arith
@@ -87,7 +87,7 @@ unfolding kept_len
 kept_len_is_longest ds = let k = longest_up_to_is ds (length ds) in record
     { within = k.within; fits = k.fits; longest = k.longest }
 
--- -- a prefix that is too large with one more digit is the longest
+-- ---- a prefix that is too large with one more digit is the longest
 
 pub kept_len-at : (ds : List ℕ) (k : ℕ) → k ≤ length ds → digits_number (take k ds) < 2 ^ 64
     → (k < length ds → 2 ^ 64 ≤ digits_number (take (k + 1) ds)) → kept_len ds ≡ k
@@ -134,7 +134,7 @@ kept_len-past_whole whole fraction k h fits next =
     let e : length whole + k + 1 ≡ length whole + (k + 1) = omega arith in
     rw e (rw digits_number-take-append (next more)))
 
--- -- all digits are kept if they fit, as up to 19 do
+-- ---- all digits are kept if they fit, as up to 19 do
 
 pub kept_all : (ds : List ℕ) → digits_number ds < 2 ^ 64 → kept_len ds ≡ length ds
 kept_all ds h = kept_len-at ds (length ds) (omega arith) (rw (take_all (length ds) ds (omega arith)) h)

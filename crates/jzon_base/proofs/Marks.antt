@@ -82,7 +82,7 @@ empty_within ss i e = elim (cases_lt i (length ss)) [
   | inr ge ↦ absurd (omega (arith, get_or_past ss i 1 ge, e))
 ]
 
--- -- the keys whose tags are found
+-- ---- the keys whose tags are found
 
 pub AreMarked-none : (ks : List (List ℕ)) (ss : List ℕ) (mask n : ℕ) → n ≡ 0 → AreMarked ks ss mask n
 AreMarked-none ks ss mask n none = record { within = omega arith; marked = λ i l. absurd (omega arith) }

@@ -20,7 +20,7 @@ use Rattle.jzon_base.proofs.Zips.{AreParts-zip}
 use Rattle.std.proofs.lemmas.Option.{same_Some}
 use Rattle.jzon_base.proofs.Positions.{position-first, position-none, position-None-before}
 
--- -- moving an element into the prefix
+-- ---- moving an element into the prefix
 
 module _ {X : Type 0} where
   prefix : (xs : List X) (k n : ℕ) (a b : X) → k ≤ n → (k ≡ n → a ≡ b) → n < length xs
@@ -105,7 +105,7 @@ module _ {X : Type 0} where
       (ap test (get_or-append_seam xs y [] y) ∙ t)
       (λ j l. ap test (get_or_append_left xs (y ∷ []) y j l) ∙ position-None-before test xs j y e l)
 
--- -- entries put one after the other
+-- ---- entries put one after the other
 
 module _ {V : Type 0} where
   -- one more entry
@@ -160,7 +160,7 @@ module _ {V : Type 0} where
     missing_each ps h = position-none (λ x. bytes_eq x k) (keys_of (put_each ps)) []
         (other_at (put_each ps) (other_each [] ps tt h))
 
--- -- the loop
+-- ---- the loop
 
 module _ {V : Type 0} (ks0 : List (List ℕ)) (vs0 : List V) (fs0 : List ℕ) where
   -- The first entries up to `at` are merged into the first `kept` positions, and the others are unchanged. Before `at`,
@@ -202,7 +202,7 @@ module _ {V : Type 0} (ks0 : List (List ℕ)) (vs0 : List V) (fs0 : List ℕ) wh
     entry_more : put_each (take (at + 1) (zip ks0 vs0)) ≡ put key value.0 (put_each (take at (zip ks0 vs0)))
     entry_more = put_each-more ks0 vs0 at value.0 l even value.1
 
-    -- -- a key that occurs for the first time
+    -- ---- a key that occurs for the first time
 
     module _ (new : get_or fs at 0 ≡ at) where
       first_here : position (λ k. bytes_eq k key) ks0 ≡ Some at
@@ -258,7 +258,7 @@ module _ {V : Type 0} (ks0 : List (List ℕ)) (vs0 : List V) (fs0 : List ℕ) wh
         later = λ j h. get_or-set_other fs at j kept 0 (λ e. absurd (omega arith)) ∙ m.later j (omega arith);
       }
 
-    -- -- a key that occurred before
+    -- ---- a key that occurred before
 
     module _ (old : get_or fs at 0 ≡ at → ⊥) where
       abbrev first : ℕ

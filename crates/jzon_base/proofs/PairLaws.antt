@@ -24,7 +24,7 @@ pub bytes_eq-other : (j k : List ℕ) → j ≢ k → bytes_eq j k ≡ false
 bytes_eq-other j k apart = unequal-by (bytes_eq j k) j k apart refl
 
 module _ {V : Type 0} where
-  -- -- what is found after `put`
+  -- ---- what is found after `put`
 
   find-put_same-by : (b : Bool) (k : List ℕ) (v : V) (p : List ℕ × V) (ps : List (List ℕ × V)) → bytes_eq p.0 k ≡ b
       → find k (put k v ps) ≡ Some v → find k (cond b ((p.0, v) ∷ ps) (p ∷ put k v ps)) ≡ Some v
@@ -48,7 +48,7 @@ module _ {V : Type 0} where
   find-put_other j k v (p ∷ ps) apart =
       find-put_other-by (bytes_eq p.0 k) j k v p ps apart refl (find-put_other j k v ps apart)
 
-  -- -- what is found after `cut`
+  -- ---- what is found after `cut`
 
   find-apart : (k : List ℕ) (ps : List (List ℕ × V)) → AllByRecursion (λ j. bytes_eq k j ≡ false) (keys_of ps)
       → find k ps ≡ None
@@ -83,7 +83,7 @@ module _ {V : Type 0} where
   find-cut_other j k (p ∷ ps) apart =
       find-cut_other-by (bytes_eq p.0 k) j k p ps apart refl (find-cut_other j k ps apart)
 
-  -- -- entries put one after the other onto others: the last value of a key is found, or else the first of the others
+  -- ---- entries put one after the other onto others: the last value of a key is found, or else the first of the others
 
   option_or-put : (b : Bool) (k : List ℕ) (p : List ℕ × V) (qs ps : List (List ℕ × V)) → bytes_eq p.0 k ≡ b
       → AllByRecursion (λ j. bytes_eq p.0 j ≡ false) (keys_of ps)
@@ -108,7 +108,7 @@ module _ {V : Type 0} where
       → find k (fold (λ xs p. put p.0 p.1 xs) qs ps) ≡ option_or (find k ps) (find k qs)
   find-put_onto k qs ps distinct = found_onto k qs ps (IsDistinct-from_AllPairs bytes_eq-Decides (keys_of ps) distinct)
 
-  -- -- what holds of each entry
+  -- ---- what holds of each entry
 
   All-put-by : (P : List ℕ × V → Type 0) (b : Bool) (k : List ℕ) (v : V) (p : List ℕ × V) (ps : List (List ℕ × V))
       → bytes_eq p.0 k ≡ b → P (k, v) → AllByRecursion P (p ∷ ps) → AllByRecursion P (put k v ps)

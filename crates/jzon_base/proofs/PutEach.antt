@@ -13,7 +13,7 @@ module _ {V : Type 0} where
       → put_each (ps ++ (k, v) ∷ []) ≡ put k v (put_each ps)
   put_each-push ps k v = fold-append (λ qs p. put p.0 p.1 qs) [] ps ((k, v) ∷ [])
 
-  -- -- entries of distinct keys stay as they are
+  -- ---- entries of distinct keys stay as they are
 
   key_within : (P : List ℕ → Type 0) (qs ps : List (List ℕ × V)) (p : List ℕ × V)
       → AllByRecursion P (keys_of (qs ++ p ∷ ps)) → P p.0
@@ -40,7 +40,7 @@ module _ {V : Type 0} where
   pub put_each-distinct : (ps : List (List ℕ × V)) → IsDistinct bytes_eq (keys_of ps) → put_each ps ≡ ps
   put_each-distinct ps distinct = put_behind [] ps distinct
 
-  -- -- the keys are distinct, whatever is put
+  -- ---- the keys are distinct, whatever is put
 
   apart_by : (b : Bool) (l k : List ℕ) (v : V) (p : List ℕ × V) (ps : List (List ℕ × V))
       → AllByRecursion (λ y. bytes_eq l y ≡ false) (keys_of (p ∷ ps))
@@ -82,7 +82,7 @@ module _ {V : Type 0} where
   pub put_each-put_each : (ps : List (List ℕ × V)) → put_each (put_each ps) ≡ put_each ps
   put_each-put_each ps = put_each-distinct (put_each ps) (IsDistinct-put_each ps)
 
-  -- -- separate lists of keys and values
+  -- ---- separate lists of keys and values
 
   pub put_each-zip : (ks : List (List ℕ)) (vs : List V) → length vs ≡ length ks → IsDistinct bytes_eq ks
       → put_each (zip ks vs) ≡ zip ks vs

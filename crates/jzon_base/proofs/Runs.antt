@@ -69,7 +69,7 @@ module _ (ks : List (List ℕ)) (h : ℕ) (name : List ℕ) where
   any_run (r ∷ rs) = ap (λ (b : Bool). list_any is_it r || b) (any_run rs)
       ∙ sym (list_any-append is_it r (flat_map (λ r. r) rs))
 
--- -- what the runs find
+-- ---- what the runs find
 
 unequal_then : (o r : Ordering) → is_eq r ≡ false → is_eq (ordering_then o r) ≡ false
 unequal_then Less r e = refl
@@ -130,7 +130,7 @@ module _ (ks : List (List ℕ)) (rs ss : List (List (ℕ × ℕ))) (n h : ℕ) (
       f ∙ ap (list_any is_known) (take_rest ks n) ∙ sym (known_parts
       ∙ ap (λ (b : Bool). b || list_any is_known (drop n ks)) (sym (e ∙ known_first)))
 
--- -- adding and joining runs
+-- ---- adding and joining runs
 
 pub AreRuns-none : (ks : List (List ℕ)) → AreRuns ks [] 0
 unfolding hashed_from
@@ -183,7 +183,7 @@ AreRuns-join ks us a b c n runs moved up = record {
       (prefix us (a ∷ b ∷ []) ((us ++ a ∷ []) ++ b ∷ []) (append_assoc us (a ∷ []) (b ∷ [])))) all) up);
 }
 
--- -- one more key
+-- ---- one more key
 
 All-places : (n : ℕ) (ks : List (List ℕ)) → All (λ p. p.1 < n + length ks) (hashed_from n ks)
 unfolding hashed_from

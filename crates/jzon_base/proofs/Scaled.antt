@@ -30,7 +30,7 @@ scaled-eq-too_large m e n f k h large fits = rw (scaled-eq m e n f k h)
 
 pub ruleset same_rules = (scaled-eq-fits, scaled-eq-too_large)
 
--- -- one trailing zero fewer
+-- ---- one trailing zero fewer
 
 shifted-up : (e : ℤ) → FitsSigned w16 e → e <ℤ pos 0 → shifted (e +ℤ pos 1) ≡ shifted e + 1
 shifted-up (pos n) fits negative = absurd (omega (arith, ints))
@@ -50,7 +50,7 @@ scaled-strip m e fits negative h =
     let whole : m / 10 * 10 ≡ m = omega arith in
     rw (up, pow-add 10 (shifted e) 1) (regroup (m / 10) m (10 ^ shifted e) whole)
 
--- -- division
+-- ---- division
 
 pub over_larger : (m t : ℕ) → m < t → 0 ≡ m / t
 over_larger m t h = sym (div-eq_of_lt h)

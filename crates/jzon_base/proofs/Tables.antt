@@ -16,7 +16,7 @@ use Rattle.jzon_base.specs.Keys.{hashed_from, lowered, IsIndex, IsIndexed, IsTab
 use Rattle.jzon_base.proofs.Handed.{IsIndexOf-push, IsIndexOf-same, IsIndexOf-remove}
 use Rattle.jzon_base.proofs.Indexes.{is_other, none_of, IsDistinct-missing, IsDistinct-remove}
 
--- -- hashes passed by the caller
+-- ---- hashes passed by the caller
 
 hashed_from-numbered : (n : ℕ) (ks : List (List ℕ)) → hashed_from n ks ≡ numbered n (map hash_of ks)
 unfolding hashed_from numbered
@@ -62,7 +62,7 @@ module _ (hash : List ℕ → ℕ) where
       subst (λ hs. IsIndexOf hs (map (lowered i) (filter (is_other i) ps))) (sym (hashes-remove ks i))
       (IsIndexOf-remove (map hash ks) ps i (omega (arith, length-map ks hash)) index)
 
--- -- adding and removing keys
+-- ---- adding and removing keys
 
 pub IsIndexed-none : (ks : List (List ℕ)) → IsIndexed ks []
 IsIndexed-none ks = record { index = λ e. absurd (e refl) }

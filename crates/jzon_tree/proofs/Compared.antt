@@ -122,7 +122,7 @@ compared_next ps qs rest left k v c e h = record {
   no_larger = omega (arith, c.no_larger, most-rest rest left (k, v) e);
 }
 
--- -- all entries compared
+-- ---- all entries compared
 none_more_at : (k : List ℕ) (ps qs : List (List ℕ × JsonValue)) (o p : Option JsonValue) → find k ps ≡ o → find k qs ≡ p
     → (o ≡ None → (w : JsonValue) → p ≡ Some w → ⊥) → ((v : JsonValue) → o ≡ Some v
     → passes (same (view v)) (option_map view p) ≡ true)

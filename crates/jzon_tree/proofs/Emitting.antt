@@ -157,7 +157,7 @@ PrintsIf-emits : {E : Type 0} (K : Type 0) (P : List ℕ → Type 0) (a b : Emit
 PrintsIf-emits K P a b (Ok u) h = h
 PrintsIf-emits K P a b (Err e) h = λ keyed. Stopped-failed P a b h
 
--- -- an opening bracket, an indent, what Q allows inside, and the closing bracket
+-- ---- an opening bracket, an indent, what Q allows inside, and the closing bracket
 module _ (opening closing : ℕ) (Q : Style → ℕ → List ℕ → Type 0) (R : List ℕ → Type 0) (a : Emitted)
     (close : (y z : List ℕ) → Q a.style (suc a.dent) y → IsClosing a.style a.dent closing z → R (opening ∷ (y ++ z)))
   where
@@ -262,7 +262,7 @@ Failed-sent P bs old new o p h e = rw e (record {
   lender = refl;
 })
 
--- -- what was sent to the writer, with its error counted as a fault
+-- ---- what was sent to the writer, with its error counted as a fault
 pub Emits-counted : {E : Type 0} (P : List ℕ → Type 0) (bs : List ℕ) (old mid new : Emitted) (lent o : Option (List ℕ))
     (step r : Result (Unit {0}) E)
     → P bs → lent ≡ old.out → Sends (Just bs) lent o step → mid ≡ record old { out = o } → r ≡ step

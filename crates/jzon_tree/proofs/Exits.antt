@@ -52,7 +52,7 @@ module _ (a : Emitted) (lawful : IsStyle a.style) (vs : List Value) (n : 0 < len
       array_at_close f = printed_at_close 91 93 (λ s d. AreItems s d vs) this_array a (array_closed a.style a.dent vs n)
           b c d h e (AreValues (values_of vs)) f r
 
--- -- the loop over an array's elements: us are written, v is next, and rest follow
+-- ---- the loop over an array's elements: us are written, v is next, and rest follow
 keyed_next : (us : List Value) (v : Value) (rest : List Value) → AreValues (values_of (us ++ v ∷ rest)) → IsValue v
     × AreValues (values_of rest)
 keyed_next [] v rest h = h
@@ -128,7 +128,7 @@ module _ (a : Emitted) (lawful : IsStyle a.style) (us : List Value) (v : Value) 
     items_more f = Added-after begun (λ s d. Writes s d v) (AreItems a.style a.dent (us ++ v ∷ [])) a c d one_more
         has_begun f
 
--- -- the loop over an object's entries: those at the first i positions are written, and e is next
+-- ---- the loop over an object's entries: those at the first i positions are written, and e is next
 keyed_at : (es : List (List ℕ × Value)) (p : ℕ) → ArePairs (pairs_of es) → p < length es → IsValue (pair_at es p).1
 keyed_at [] p k h = absurd (omega arith)
 keyed_at (e ∷ es) zero k h = k.1
@@ -193,7 +193,7 @@ module _ (a : Emitted) (lawful : IsStyle a.style) (es : List (List ℕ × Value)
     members_more f = Added-after ready (λ s d. IsEntry s d e) (AreMembers a.style a.dent es (take (i + 1) ps)) a c d
         entry_then is_ready f
 
--- -- an object whose order is known
+-- ---- an object whose order is known
 module _ (a : Emitted) (lawful : IsStyle a.style) (es : List (List ℕ × Value)) (ps : List ℕ)
     (o : IsOrder (length es) ps) (t : IsTrue (a.style.order (keys_of es) ps)) (n : 0 < length es) {E : Type 0}
     (r : Result (Unit {0}) E) where
@@ -228,7 +228,7 @@ module _ (a : Emitted) (lawful : IsStyle a.style) (es : List (List ℕ × Value)
       object_at_close f = printed_at_close 123 125 (λ s d. AreMembers s d es ps) this_object a
           (object_closed a.style a.dent es ps o t n) b c d h e (IsValue (object (pairs_of es))) f r
 
--- -- an entry in three steps
+-- ---- an entry in three steps
 module _ (s : Style) (d : ℕ) (e : List ℕ × Value) where
   pub AfterColon : List ℕ → Type 0
   AfterColon x = (wide : Bool) × IsTrue (s.colon wide) × (x ≡ quoted e.0 ++ colon_text wide)

@@ -96,7 +96,7 @@ inspected_plain v h k e = record {
   reached = λ r l f. omega arith;
 }
 
--- -- the values of entries
+-- ---- the values of entries
 abbrev pub inside : List (List ℕ × JsonValue) → List Value
 inside ps = map (λ p. view p.1) ps
 

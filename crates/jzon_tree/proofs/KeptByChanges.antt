@@ -34,7 +34,7 @@ module _ {X : Type 0} (P : X → Type 0) where
   All-slice_get (y ∷ ys) zero x all got = subst P (same_Some y x got) all.0
   All-slice_get (y ∷ ys) (suc i) x all got = All-slice_get ys i x all.1 got
 
--- -- a property that holds of a container if and only if one holds of its parts
+-- ---- a property that holds of a container if and only if one holds of its parts
 
 -- P holds of an array if Q holds of its elements, and of an object if K holds of its keys, Q of its values, and D of
 -- the list of its keys.
@@ -257,7 +257,7 @@ nests h = record {
   cut = λ k ps all. tt;
 }
 
--- -- what each change preserves
+-- ---- what each change preserves
 
 -- the keys of a value that a program can hold
 pub distinct-entries : (v : Value) → IsValue v → AllPairs (λ j k. j ≢ k) (keys_of (entries v))

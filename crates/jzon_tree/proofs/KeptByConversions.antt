@@ -14,7 +14,7 @@ use Rattle.jzon_tree.specs.Lawful.{IsText, IsValue, HasNoNan}
 use Rattle.jzon_tree.specs.Value.{Value, null, text, number, short, long, kind_of, nest}
 use Rattle.jzon_tree.proofs.KeptByChanges.{GoesInside, held, no_nan, nests}
 
--- -- primitives
+-- ---- primitives
 
 kind_fits : (b : Bool) (s : List ℕ) → nat_le (length s) 30 ≡ b → IsUtf8 s → IsText (if b then short else long) s
 kind_fits true s e u = (u, below (length s) e)

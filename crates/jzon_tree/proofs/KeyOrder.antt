@@ -49,7 +49,7 @@ module _ (keys : List (Bor (List ℕ))) (ps : List ℕ) (order : IsOrder (length
   pub in_key_order : IsTrue (ascend (map (text_at (texts_of keys)) ps))
   in_key_order = ascend_in_order (texts_of keys) ps (rw (length-map keys (λ key. key.now)) order) step
 
--- -- the keys of entries, one after the other
+-- ---- the keys of entries, one after the other
 texts_append : (keys : List (Bor (List ℕ))) (key : Bor (List ℕ)) (more : List (List ℕ))
     → texts_of (keys ++ key ∷ []) ++ more ≡ texts_of keys ++ key.now ∷ more
 texts_append [] key more = refl

@@ -19,7 +19,7 @@ use Rattle.jzon_tree.proofs.Views.{list_of_pairs-pairs_of}
 use Rattle.jzon_tree.proofs.Writings.{some_between, some_writing, encloses, Items-append, needs_comma}
 use Rattle.jzon_tree.proofs.Writings.{needs_comma-after}
 
--- -- one more text at its position
+-- ---- one more text at its position
 arranged-set : (ps : List ℕ) (p : ℕ) (ts : List (List ℕ)) (x : List ℕ) → ((k : ℕ) → k < length ps → get_or ps k 0 ≢ p)
     → map (text_at (set ts p x)) ps ≡ map (text_at ts) ps
 arranged-set [] p ts x h = refl
@@ -27,7 +27,7 @@ arranged-set (q ∷ qs) p ts x h =
     rw (get_or-set_other ts p q x [] (h 0 (omega arith))) (ap (λ w. text_at ts q ∷ w)
     (arranged-set qs p ts x (λ k l. h (suc k) (omega arith))))
 
--- -- one more entry
+-- ---- one more entry
 module _ (s : Style) (d : ℕ) (es : List (List ℕ × Value)) (ps : List ℕ) (o : IsOrder (length es) ps) where
   pub members_none : AreMembers s d es (take 0 ps) []
   members_none = (replicate (length es) [], length-replicate (length es) [], λ k h. absurd (omega arith), refl)
@@ -74,7 +74,7 @@ module _ (s : Style) (d : ℕ) (es : List (List ℕ × Value)) (ps : List ℕ) (
             (w, [], rw comma hw, refl, refl))),
       )
 
-  -- -- the prefixes of a text of all entries
+  -- ---- the prefixes of a text of all entries
   module _ (lawful : IsStyle s) (keyed : ArePairs (pairs_of es)) where
     pub some_entry : (fs : List (List ℕ × Value)) (p : ℕ) → ArePairs (pairs_of fs) → p < length fs → (x : List ℕ)
         × IsEntry s d (pair_at fs p) x

@@ -59,7 +59,7 @@ module _ {V : Type 0} where
   length-cut k [] h = absurd (false≢true h)
   length-cut k (p ∷ ps) h = length-cut-at (bytes_eq p.0 k) k p ps (length-cut k ps) h
 
-  -- -- distinct keys that are all keys of another list are at most as many as its keys
+  -- ---- distinct keys that are all keys of another list are at most as many as its keys
   pub length-within : (ps qs : List (List ℕ × V)) → IsDistinct bytes_eq (keys_of ps) → IsWithin ps qs
       → length ps ≤ length qs
   length-within [] qs distinct within = omega arith

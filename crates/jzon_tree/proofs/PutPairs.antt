@@ -20,13 +20,13 @@ viewed-put_each ps qs rs k l v before same is =
     ap viewed (is ∙ ap (λ (key : List ℕ). put key v ps) same) ∙ viewed-put l v ps ∙ ap (put l (view v)) before
     ∙ sym (put_each-push rs l (view v))
 
--- -- what a map's iterator yields
+-- ---- what a map's iterator yields
 drained : {X : Type 0} (left xs : List X) → Drains (TakesFirst (λ (x : X). x)) left xs → xs ≡ left
 drained left [] (after, (end, same, step)) = sym (same ∙ step.0)
 drained left (x ∷ xs) (after, (end, (next, first, more), step)) = ap (λ ys. x ∷ ys)
     (drained next xs (after, (end, more, step))) ∙ sym first
 
--- -- keys have distinct texts if they are distinct by an equality that agrees with that of their texts
+-- ---- keys have distinct texts if they are distinct by an equality that agrees with that of their texts
 module _ {K : Type 0} (text : K → List ℕ) (e : K → K → Bool) (by_text : (j k : K) → e j k ≡ bytes_eq (text j) (text k))
   where
     apart_texts : (k : K) (ks : List K) → AllByRecursion (λ j. e k j ≡ false) ks

@@ -91,7 +91,7 @@ pretty-deeper : pretty (list (int 1 ∷ [])) 3 1 ≡ codes "[\n      1\n   ]"
 unfolding digits
 pretty-deeper = refl
 
--- -- quoted strings
+-- ---- quoted strings
 
 quoted-short_escapes : quoted (13 ∷ 10 ∷ 9 ∷ 8 ∷ 12 ∷ 92 ∷ 47 ∷ 34 ∷ []) ≡ codes "\"\\r\\n\\t\\b\\f\\\\/\\\"\""
 quoted-short_escapes = refl

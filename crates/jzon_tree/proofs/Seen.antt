@@ -61,13 +61,13 @@ item_lent vs i (Some x) h =
     sym (item-viewed vs i ∙ ap (option_map view) (slice_get-get_or vs i x.now h.3.0
     ∙ ap (λ (v : JsonValue). Some v) (sym h.1)))
 
--- -- an element removed from a list
+-- ---- an element removed from a list
 
 pub view-unwrap_or : (o : Option JsonValue) → view (unwrap_or o Null) ≡ or_null (option_map view o)
 view-unwrap_or None = view-Null
 view-unwrap_or (Some v) = refl
 
--- -- what is left of the list
+-- ---- what is left of the list
 pub without_item-Array : (v : Vec JsonValue Global) (i : ℕ) → without_item i (view (Array v))
     ≡ array (view_values (remove v.items i))
 without_item-Array v i =

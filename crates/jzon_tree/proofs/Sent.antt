@@ -51,7 +51,7 @@ Sends-laid P a b (Ok u) s k h = rw k h
 Sends-laid P a b (Err e) (Ok u) k h = absurd (cc k)
 Sends-laid P a b (Err e) (Err f) k h = h
 
--- -- two calls in sequence
+-- ---- two calls in sequence
 module _ (P Q R : List ℕ → Type 0) (a b c : Option (List ℕ)) (join : (x y : List ℕ) → P x → Q y → R (x ++ y))
     (h : Adds P a b) where
   pub Begins-after : Adds (Begins Q) b c → Adds (Begins R) a c

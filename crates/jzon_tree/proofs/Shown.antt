@@ -17,7 +17,7 @@ use Rattle.jzon_tree.specs.View.{view, view_values, view_pairs}
 use Rattle.jzon_tree.specs.declared.value.JsonValue.{JsonValue}
 use Rattle.jzon_tree.proofs.Plain.{escaped-run}
 
--- -- a string
+-- ---- a string
 
 -- x of a string in quotes has been shown, and `rest` of it is left
 abbrev pub TextLeft : List ℕ → List ℕ → List ℕ → Type 0
@@ -37,7 +37,7 @@ module _ (whole bs run : List ℕ) (n : ℕ) (p : run ≡ take n bs) (e : n ≡ 
       let all : escaped bs ≡ run = escaped-run bs n (omega (arith, e)) ∙ rw (sym p, q) (append-nil run) in
       ap (λ (w : List ℕ). w ++ 34 ∷ []) (ap (λ (w : List ℕ). x ++ w) (sym all) ∙ h)
 
--- -- an escape, without the quote after it
+-- ---- an escape, without the quote after it
 pub without_last : (n : ℕ) (bs xs : List ℕ) (c : ℕ) → n ≤ length bs → take n bs ≡ xs ++ c ∷ [] → take (n - 1) bs ≡ xs
 without_last n bs xs c h e =
     let all : n ≡ length xs + 1 = omega (

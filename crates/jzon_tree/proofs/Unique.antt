@@ -39,7 +39,7 @@ in_order (t ∷ ts) prefix =
 after_comma : (l t m rest : List ℕ) → (l ++ (t ++ 44 ∷ m)) ++ rest ≡ (l ++ t) ++ 44 ∷ (m ++ rest)
 after_comma l t m rest = ap (λ x. x ++ rest) (sym (append_assoc l t (44 ∷ m))) ∙ append_assoc (l ++ t) (44 ∷ m) rest
 
--- -- the texts of the values and entries
+-- ---- the texts of the values and entries
 module _ (line : ℕ → List ℕ) (wide : Bool) where
   abbrev layout : Layout
   layout = record { line = line; colon = colon_text wide }
@@ -125,7 +125,7 @@ module _ (line : ℕ → List ℕ) (wide : Bool) where
     written_pairs d (pair k v ps) (t ∷ ts) ((form, x, c, i, e), h) = rw
         (e, form_is form wide c, written d v x i, written_pairs d ps ts h) refl
 
--- -- the final state of a writer that a generator borrowed
+-- ---- the final state of a writer that a generator borrowed
 adds-appended : (P : List ℕ → Type 0) (bs : List ℕ) (a b : Option (List ℕ)) → ((x : List ℕ) → P x → x ≡ bs) → Adds P a b
     → Appends a b bs
 adds-appended P bs None b f h = tt

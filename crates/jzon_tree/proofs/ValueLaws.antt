@@ -35,7 +35,7 @@ view-String s = search (rules, the_lemmas)
 pub view-Number : (n : Decimal) → view (Number n) ≡ number n
 view-Number n = search (rules, the_lemmas)
 
--- -- the entries and the elements of any value
+-- ---- the entries and the elements of any value
 
 rolled_entries : (l : JsonValue-F JsonValue Object)
     → entries (view (roll-JsonValue l)) ≡ viewed (entries_in (roll-JsonValue l))
@@ -86,7 +86,7 @@ items-other (number n) h = refl
 items-other (array vs) h = absurd (cc)
 items-other (object ps) h = refl
 
--- -- the entries and the elements after a change
+-- ---- the entries and the elements after a change
 
 pub entries-with_entry : (k : List ℕ) (v w : Value) → is_object w ≡ true
     → entries (with_entry k v w) ≡ put k v (entries w)
@@ -167,7 +167,7 @@ pub pairs_of-list_of_pairs : (ps : Pairs) → pairs_of (list_of_pairs ps) ≡ ps
 pairs_of-list_of_pairs no_pairs = refl
 pairs_of-list_of_pairs (pair k v ps) = ap (λ qs. pair k v qs) (pairs_of-list_of_pairs ps)
 
--- -- putting the view of the value that is there already
+-- ---- putting the view of the value that is there already
 
 put_same-by : (b : Bool) (k : List ℕ) (v w : JsonValue) (p : List ℕ × JsonValue) (ps : List (List ℕ × JsonValue))
     → cond b (Some p.1) (find k ps) ≡ Some w → view v ≡ view w
@@ -183,7 +183,7 @@ viewed-put_same k v w [] found same = absurd (cc)
 viewed-put_same k v w (p ∷ ps) found same =
     put_same-by (bytes_eq p.0 k) k v w p ps found same (λ rest. viewed-put_same k v w ps rest same)
 
--- -- values that are no object, and values that are no array
+-- ---- values that are no object, and values that are no array
 
 rolled-no_object : (l : JsonValue-F JsonValue Object) → object_in (roll-JsonValue l) ≡ None
     → is_object (view (roll-JsonValue l)) ≡ false

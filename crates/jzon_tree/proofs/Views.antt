@@ -24,7 +24,7 @@ view-Array v = search (rules, the_lemmas)
 pub view-Object : (o : Object) → view (in_object o) ≡ view_object o
 view-Object o = search (rules, the_lemmas)
 
--- -- views of lookups in an object's entries and of changes to them
+-- ---- views of lookups in an object's entries and of changes to them
 pub list_of_pairs-pairs_of : (ps : List (List ℕ × Value)) → list_of_pairs (pairs_of ps) ≡ ps
 list_of_pairs-pairs_of [] = refl
 list_of_pairs-pairs_of (p ∷ ps) = ap (λ (qs : List (List ℕ × Value)). p ∷ qs) (list_of_pairs-pairs_of ps)
@@ -60,7 +60,7 @@ pub view-find : (k : List ℕ) (ps : List (List ℕ × JsonValue))
     → option_map view (find k ps) ≡ find k (list_of_pairs (view_pairs ps))
 view-find k ps = find-viewed k ps ∙ ap (find k) (sym (list_of_pairs-pairs_of (viewed ps)))
 
--- -- what a call returns by reference
+-- ---- what a call returns by reference
 pub view_of_ref : (r : Option (Bor JsonValue)) → option_map (λ x. view x.now) r ≡ option_map view (option_copied r)
 view_of_ref None = refl
 view_of_ref (Some x) = refl

@@ -62,7 +62,7 @@ some_enclosed s lawful d opening closing t ts =
     let c : (b : List ℕ) × IsClosing s d closing b = some_closing s lawful d closing in
     (opening ∷ (i.0 ++ c.0), encloses s d opening closing t ts i.0 c.0 i.1 c.1)
 
--- -- some text of a value without repeated keys
+-- ---- some text of a value without repeated keys
 length-texts : (s : Style) (d : ℕ) (ps : Pairs) (ts : List (List ℕ)) → WritesPairs s d ps ts
     → length ts ≡ length (keys_of (list_of_pairs ps))
 length-texts s d no_pairs [] h = refl
@@ -115,7 +115,7 @@ mutual
         ((lawful.colon.0, x.0, lawful.colon.1, x.1, refl), xs.1),
       )
 
--- -- elements in sequence: whether a comma precedes the next
+-- ---- elements in sequence: whether a comma precedes the next
 abbrev pub needs_comma : Bool → List (List ℕ) → Bool
 needs_comma comma [] = comma
 needs_comma comma (t ∷ ts) = true

@@ -19,7 +19,7 @@ use Rattle.jzon_tree.proofs.Views.{view-Null, view-Object, viewed-put}
 use Rattle.jzon_tree.proofs.Seen.{list_of_values-values_of}
 use Rattle.jzon_tree.proofs.ValueLaws.{entries-view, find-view}
 
--- -- a member
+-- ---- a member
 
 entries-made : (ps : List (List ℕ × JsonValue)) → entries_of (with_entries ps) ≡ ps
 entries-made ps = search (rules, the_lemmas)
@@ -33,7 +33,7 @@ view-put k w v =
     ∙ ap (λ (ps : List (List ℕ × Value)). object (pairs_of ps)) (viewed-put k w (entries_in v)
     ∙ ap (put k (view w)) (sym (entries-view v)))
 
--- -- an element
+-- ---- an element
 
 rolled_items_of : (l : JsonValue-F JsonValue Object)
     → items_of (view (roll-JsonValue l)) ≡ option_map (map view) (items_in (roll-JsonValue l))

@@ -57,7 +57,7 @@ items_with_place v i = with_place Null (items_in v) i
 abbrev pub place_made : JsonValue → ℕ → ℕ
 place_made v i = place_in Null (items_in v) i
 
--- -- an object or array value has what it was built from
+-- ---- an object or array value has what it was built from
 
 pub entries_in-object : (ps : List (List ℕ × JsonValue)) → entries_in (object_value (with_entries ps)) ≡ ps
 entries_in-object ps = search (rules, the_lemmas)

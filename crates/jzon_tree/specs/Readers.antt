@@ -32,7 +32,7 @@ abbrev pub is_array : Value → Bool
 is_array (array vs) = true
 is_array _ = false
 
--- -- its content
+-- ---- its content
 
 abbrev pub truth_in : Value → Option Bool
 truth_in (boolean b) = Some b

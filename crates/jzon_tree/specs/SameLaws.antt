@@ -12,7 +12,7 @@ use Rattle.jzon_tree.specs.Value.{Value, null, boolean, text, number, array, obj
 use Rattle.jzon_tree.specs.Value.{no_pairs, pair, list_of_pairs}
 use Rattle.jzon_tree.specs.Same.{same, same_items, same_under, has_keys_within, is_known, passes}
 
--- -- what a lookup finds
+-- ---- what a lookup finds
 
 -- the value at a key
 abbrev pub at : List ℕ → Pairs → Option Value
@@ -41,7 +41,7 @@ module _ {V : Type 0} where
       → find k ((l, w) ∷ ps) ≡ find k ps
   find-past l k w ps e = rw e refl
 
--- -- `has_keys_within`, by lookups
+-- ---- `has_keys_within`, by lookups
 abbrev KeysWithin : Pairs → Pairs → Type 0
 KeysWithin ps qs = (k : List ℕ) (v : Value) → at k ps ≡ Some v → is_some (at k qs) ≡ true
 
@@ -69,7 +69,7 @@ within-intro (pair l w ps) qs h =
     and_from _ _ (h l w (find-head l w (list_of_pairs ps))) (within-intro ps qs
     (λ k v e. within-intro-tail l w ps qs h k v (bytes_eq l k) refl e))
 
--- -- `same_under`, by lookups: keys that are in `seen` aren't compared again
+-- ---- `same_under`, by lookups: keys that are in `seen` aren't compared again
 abbrev Agrees : List (List ℕ) → Pairs → Pairs → Type 0
 Agrees seen ps qs = (k : List ℕ) (v : Value) → at k ps ≡ Some v → is_known seen k ≡ false
     → passes (same v) (at k qs) ≡ true
@@ -107,7 +107,7 @@ under-intro seen (pair l w ps) qs h =
     let apart = or_parts (bytes_eq l k) (is_known seen k) unseen in
     h k v (find-past l k w (list_of_pairs ps) apart.0 ∙ e) apart.1))
 
--- -- equal objects, by lookups: at each key both have equal values, or neither has one
+-- ---- equal objects, by lookups: at each key both have equal values, or neither has one
 abbrev pub same_at : Option Value → Option Value → Bool
 same_at None None = true
 same_at None (Some w) = false

@@ -16,7 +16,7 @@ use Rattle.jzon_tree.specs.Writing.{IsStyle, text_at}
 pub is_before-one_way : (j k : List ℕ) → is_before j k ≡ true → is_before k j ≡ false
 is_before-one_way j k h = (ranks_by nat_list_cmp_total (λ (t : List ℕ). t)).one_way j k h
 
--- -- ascending texts, split at the first
+-- ---- ascending texts, split at the first
 
 -- the first of these texts isn't before j
 abbrev follows : List ℕ → List (List ℕ) → Bool

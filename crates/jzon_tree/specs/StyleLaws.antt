@@ -20,7 +20,7 @@ same_form-refl : (b : Bool) → same_form b b ≡ true
 same_form-refl true = refl
 same_form-refl false = refl
 
--- -- the order of insertion has each position once
+-- ---- the order of insertion has each position once
 
 -- how often i occurs in a, a + 1, ..., a + n - 1
 abbrev count : ℕ → ℕ → ℕ → ℕ

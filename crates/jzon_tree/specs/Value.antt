@@ -29,7 +29,7 @@ mutual
 abbrev pub kind_of : List ℕ → Kind
 kind_of bytes = if nat_le (length bytes) 30 then short else long
 
--- -- conversions to and from lists
+-- ---- conversions to and from lists
 
 abbrev pub values_of : List Value → Values
 values_of [] = no_values
@@ -47,7 +47,7 @@ abbrev pub list_of_pairs : Pairs → List (List ℕ × Value)
 list_of_pairs no_pairs = []
 list_of_pairs (pair k v ps) = (k, v) ∷ list_of_pairs ps
 
--- -- the nesting depth of non-empty containers
+-- ---- the nesting depth of non-empty containers
 
 abbrev mutual
   pub nest : Value → ℕ

@@ -41,7 +41,7 @@ shown_moved name before taken n items seen a b same h p =
     rw (left, sent) at (took name (before + taken) n (drop taken items) a b (rw (same, rest) at h)
     (rw (same, rest) at p))
 
--- -- all calls together: what the writer received of the bytes that were added, from an empty buffer on
+-- ---- all calls together: what the writer received of the bytes that were added, from an empty buffer on
 
 -- where x was held, y is now
 grew : (name name' none sent : ℕ) (x y empty rest bs : List ℕ) → none ≡ 0 → empty ≡ []

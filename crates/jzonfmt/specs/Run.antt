@@ -53,7 +53,7 @@ line layout v = text layout v ++ 10 ∷ []
 abbrev pub printed : Layout → Document → List ℕ
 printed layout d = line layout (meaning d.node)
 
--- -- the result
+-- ---- the result
 
 -- The result for the input, and what the writer holds before and after. After a fault nothing is written, except after
 -- a fault of the writer: then a prefix of what was to be printed is.

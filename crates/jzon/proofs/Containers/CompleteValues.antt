@@ -1,6 +1,6 @@
 -- Complete (`complete`): over the cells of a tree the automaton goes from before it to after its meaning, each move
--- with its cell's mark. For each part of a tree, whatever cells k follow and whatever G is asked at the end: from after
--- the part over k gives from before the part over its cells and k.
+-- with its cell's mark. Shown for each part of a tree, whatever cells k follow it and whatever G is required at the
+-- end: if G is reached from after the part over k, it is reached from before the part over its cells and k.
 use Rattle.std.proofs.Common.{◌≡◌, ◌∙◌, ℕ, suc, ◌+◌, ◌-◌, List, [], ◌∷◌, ◌++◌, length, Bool, true, false, cond, ◌&&◌}
 use Rattle.std.proofs.Common.{◌||◌, None, refl, sym, subst, ap, arith}
 use Rattle.std.specs.Prelude.{IsTrue}
@@ -62,7 +62,7 @@ pub not_first_key : (r : Reading) (fs : Frames) (k : List ℕ) (v : Value) (es :
 not_first_key r fs k v [] = refl
 not_first_key r fs k v (e ∷ es) = not_first_by r fs (bytes_eq e.0 k) _ _ _ _
 
--- the keys of the object so far are those that were seen
+-- the keys of the object so far are those in `seen`
 abbrev Knows : List (List ℕ) → Entries → Type 0
 Knows seen es = (q : List ℕ) → is_some (find q es) ≡ is_known seen q
 

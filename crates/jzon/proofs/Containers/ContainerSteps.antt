@@ -74,7 +74,7 @@ deep_element_on r fs c begins_true h s n e = deep_go (value_mark r fs) _ h
 deep_element_on r fs c begins_false h s n e = deep_go (value_mark r fs) _ h
 deep_element_on r fs c _ h s n e = deep_bad (value_mark r fs) h
 
--- a first element where too many containers are open
+-- a first element where it would open one container too many
 pub deep_element : (r : Reading) (bs : List ℕ) (i : ℕ) (fs : Frames) → IsUtf8 bs → IsCharBoundary bs i → i < length bs
     → is_whitespace r.strict (get_or bs i 0) ≡ false → get_or bs i 0 ≢ 93 → IsTrue (nat_le r.depth (frames_depth fs))
     → from r bs (before (array_frame fs [])) i ≡ refused (limit deep) (chars (drop i bs))
@@ -93,7 +93,7 @@ deep_key_on r fs c left closes_object h s n e = absurd (n (class-says r.strict c
 deep_key_on r fs c left quote h s n e = deep_go (key_mark r fs []) _ h
 deep_key_on r fs c left _ h s n e = deep_bad (key_mark r fs []) h
 
--- a first key where too many containers are open
+-- a first key where it would open one container too many
 pub deep_key : (r : Reading) (bs : List ℕ) (i : ℕ) (fs : Frames) → IsUtf8 bs → IsCharBoundary bs i → i < length bs
     → is_whitespace r.strict (get_or bs i 0) ≡ false → get_or bs i 0 ≢ 125 → IsTrue (nat_le r.depth (frames_depth fs))
     → from r bs (before_key fs []) i ≡ refused (limit deep) (chars (drop i bs))
@@ -160,7 +160,7 @@ colon_goes r bs i fs es k u at lt e =
     from_step r bs i (after_key fs es k) _ 58 u at lt e (lit< tt)
     (ap (λ x. move_after_key x fs es k) (class-char r.strict colon))
 
--- where whitespace may stand, it is passed over
+-- where whitespace is allowed, it is skipped
 pub whitespace_skips : (r : Reading) (p : Place) → allows_whitespace p ≡ true → Skips r p (is_whitespace r.strict)
 whitespace_skips r (before fs) e = before_skips r fs
 whitespace_skips r (before_key fs es) e = before_key_skips r fs es
@@ -187,7 +187,7 @@ no_colon r bs i fs es k s n =
     (λ c wide. no_colon_on r fs es k c (class_of r.strict c) (wide_is_no_space r.strict c wide)
     (λ e. absurd (omega (arith, e))) refl)
 
--- ---- behind an element
+-- ---- after an element
 
 pub element_comma : (r : Reading) (bs : List ℕ) (i : ℕ) (fs : Frames) (vs : List Value) (v : Value) → IsUtf8 bs
     → IsCharBoundary bs i → i < length bs → get_or bs i 0 ≡ 44
@@ -213,7 +213,7 @@ no_element_on r fs vs v c comma s m n e = absurd (m (class-says r.strict c e))
 no_element_on r fs vs v c closes_array s m n e = absurd (n (class-says r.strict c e))
 no_element_on r fs vs v c _ s m n e = refl
 
--- neither a comma nor the closing bracket of the array stands here
+-- the next character is neither a comma nor the closing bracket of the array
 pub no_element : (r : Reading) (bs : List ℕ) (i : ℕ) (fs : Frames) (vs : List Value) (v : Value)
     → (i < length bs → is_whitespace r.strict (get_or bs i 0) ≡ false) → ((i < length bs) × (get_or bs i 0 ≡ 44) → ⊥)
     → ((i < length bs) × (get_or bs i 0 ≡ 93) → ⊥) → StopsAt r (behind (array_frame fs vs) v) bs i
@@ -224,7 +224,7 @@ no_element r bs i fs vs v s m n =
     (λ c wide. no_element_on r fs vs v c (class_of r.strict c) (wide_is_no_space r.strict c wide)
     (λ e. absurd (omega (arith, e))) (λ e. absurd (omega (arith, e))) refl)
 
--- ---- behind the value of a key
+-- ---- after a member's value
 
 pub entry_comma : (r : Reading) (bs : List ℕ) (i : ℕ) (fs : Frames) (es : Entries) (k : List ℕ) (v : Value) → IsUtf8 bs
     → IsCharBoundary bs i → i < length bs → get_or bs i 0 ≡ 44
@@ -250,7 +250,7 @@ no_entry_on r fs es k v c comma s m n e = absurd (m (class-says r.strict c e))
 no_entry_on r fs es k v c closes_object s m n e = absurd (n (class-says r.strict c e))
 no_entry_on r fs es k v c _ s m n e = refl
 
--- neither a comma nor the closing bracket of the object stands here
+-- the next character is neither a comma nor the closing bracket of the object
 pub no_entry : (r : Reading) (bs : List ℕ) (i : ℕ) (fs : Frames) (es : Entries) (k : List ℕ) (v : Value)
     → (i < length bs → is_whitespace r.strict (get_or bs i 0) ≡ false) → ((i < length bs) × (get_or bs i 0 ≡ 44) → ⊥)
     → ((i < length bs) × (get_or bs i 0 ≡ 125) → ⊥) → StopsAt r (behind (object_frame fs es k) v) bs i

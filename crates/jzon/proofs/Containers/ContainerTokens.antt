@@ -37,7 +37,7 @@ object_opens t u fs past e mark =
     (open_object t.reading t.source.now t.index fs (utf8_of t) t.boundary
     (byte_within t.source.now t.index 123 e (lit< tt)) e mark)
 
--- ---- behind an opening bracket
+-- ---- after an opening bracket
 
 pub empty_array_closes : (t u : Cursor) (fs : Frames) → IsPast t.reading t.source.now (t.index + 1) u → next_byte t ≡ 93
     → IsBehind t u × (left t (before (array_frame fs [])) ≡ left u (behind fs (array no_values)))
@@ -77,7 +77,7 @@ key_too_deep t fs lt n le =
     (deep_key t.reading t.source.now t.index fs (utf8_of t) t.boundary lt (t.past_whitespace lt) n
     (too_deep t.reading.depth (frames_depth fs) le))
 
--- ---- behind an element
+-- ---- after an element
 
 pub array_closes : (t u : Cursor) (fs : Frames) (vs : List Value) (v : Value)
     → IsPast t.reading t.source.now (t.index + 1) u → next_byte t ≡ 93
@@ -101,7 +101,7 @@ array_stops t fs vs v no_comma no_end =
     from_stop t.reading t.source.now t.index (behind (array_frame fs vs) v) (utf8_of t) t.boundary
     (no_element t.reading t.source.now t.index fs vs v t.past_whitespace (λ h. no_comma h.1) (λ h. no_end h.1))
 
--- ---- behind the value of a key
+-- ---- after a member's value
 
 pub object_closes : (t u : Cursor) (fs : Frames) (es : Entries) (k : List ℕ) (v : Value)
     → IsPast t.reading t.source.now (t.index + 1) u → next_byte t ≡ 125
@@ -127,7 +127,7 @@ object_stops t fs es k v no_comma no_end =
 
 -- ---- keys
 
--- a key was read up to its closing quote, which stands before this offset
+-- a key was read up to its closing quote, which is before this offset
 pub key_closes : (t : Cursor) (fs : Frames) (es : Entries) (text : List ℕ) (end : ℕ) → next_byte t ≡ 34
     → key_mark t.reading fs es ≡ None
     → from t.reading t.source.now (string (as_key fs es (left_at t.source.now t.index)) [] between) (t.index + 1)
@@ -138,7 +138,7 @@ key_closes t fs es text end e mark read =
     open_key t.reading t.source.now t.index fs es (utf8_of t) t.boundary
     (byte_within t.source.now t.index 34 e (lit< tt)) e mark ∙ read
 
--- and no earlier one refuses it
+-- and the reading doesn't reject it as a repetition
 pub key_stands : (t u : Cursor) (fs : Frames) (es : Entries) (text : List ℕ) (end : ℕ)
     → left t (before_key fs es) ≡ from_closed t.reading t.source.now (as_key fs es (left_at t.source.now t.index)) text
     end

@@ -1,4 +1,4 @@
--- What begins a value, by the byte before it, whatever containers are open.
+-- Which bytes begin a value, whatever containers are open.
 use Rattle.std.proofs.Common.{◌≡◌, ◌≢◌, ℕ, ◌+◌, ◌<◌, ◌≤◌, Bool, true, false, List, [], ◌∷◌, length, get_or, refl, ap}
 use Rattle.std.proofs.Common.{◌∙◌, arith, None, lit<}
 use Rattle.std.specs.Prelude.{IsUtf8, IsTrue, ◌==◌}
@@ -17,7 +17,7 @@ use Rattle.jzon.proofs.Texts.ClassesOfCharacters.{class-says, class-char, digits
 use Rattle.jzon.proofs.Texts.AsciiRuns.{wide_is_no_space}
 use Rattle.jzon.proofs.Texts.StepsByByte.{StopsAt, from_step, stops_by, digit_is_ascii}
 
--- the character begins no value, nor does it end an empty array
+-- the character neither begins a value nor closes an empty array
 pub record BeginsNothing (strict : Bool) (fs : Frames) (c : ℕ) : Type 0 where
   pub no_space : is_whitespace strict c ≡ false
   pub no_digit : is_ascii_digit c ≡ false

@@ -43,7 +43,7 @@ depth_on fs (f ∷ s) = let more = depth_on (open_in fs f) s in let one = depth_
 pub frames_depth-stack : (s : List Frame) → frames_depth (stack_view s) ≡ length s
 frames_depth-stack s = let d = depth_on no_frames s in omega arith
 
--- ---- how deep
+-- ---- the depth
 
 pub not_too_deep : (m n : ℕ) → n < m → breach_if (nat_le m n) deep ≡ None
 not_too_deep m n lt = let no : nat_le m n ≡ false = grind (arith, nat_tests) in ap (λ t. breach_if t deep) no
@@ -87,7 +87,7 @@ is_some-map (Some v) = refl
 pub known_view : (k : List ℕ) (ps : List (List ℕ × JsonValue)) → is_some (find k ps) ≡ is_some (find k (viewed ps))
 known_view k ps = is_some-map (find k ps) ∙ ap is_some (find-viewed k ps)
 
--- ---- what was read where a value begins
+-- ---- what was read at the beginning of a value
 
 pub open_unless_value : (b : Begun) → ((v : JsonValue) → b ≡ begun_value v → ⊥) → is_open b ≡ true
 open_unless_value (begun_value v) h = absurd (h v refl)
@@ -101,7 +101,7 @@ view_object-entries o ps e = ap (λ es. object (pairs_of (viewed es))) e
 
 -- ---- bytes
 
--- a byte other than 0 stands before the end of a text
+-- a byte other than 0 is before the end of a text
 pub byte_within : (bs : List ℕ) (i b : ℕ) → get_or bs i 0 ≡ b → 0 < b → i < length bs
 byte_within bs i b e lt = within (cases_lt i (length bs))
   where

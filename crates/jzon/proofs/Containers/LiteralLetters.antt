@@ -10,12 +10,12 @@ use Rattle.jzon.specs.Reading.{Reading}
 use Rattle.jzon.specs.Machine.{Frames, word, go, bad, past_letter, behind, outcome, outcome_on, from, stopped}
 use Rattle.jzon.proofs.Texts.AsciiRuns.{chars-ascii}
 
--- what a text is, by its first character
+-- a text, by its first character
 pub text_of_first : (bs : List ℕ) (c : ℕ) (cs : List ℕ) → IsUtf8 bs → chars bs ≡ c ∷ cs
     → bs ≡ encode_utf8 c ++ encode_utf8_all cs
 text_of_first bs c cs u e = sym (encodes-chars bs u) ∙ ap encode_utf8_all e
 
--- an ASCII character is the byte that stands there
+-- an ASCII character is the byte there
 pub first_byte : (bs : List ℕ) (c : ℕ) (cs : List ℕ) → IsUtf8 bs → chars bs ≡ c ∷ cs → c < 128 → get_or bs 0 0 ≡ c
 first_byte bs c cs u e lt = byte_from_char bs (encode_utf8_all cs) c (text_of_first bs c cs u e) lt
 
@@ -30,7 +30,7 @@ letter_on r bs l ls fs v u lt =
     ∙ ap (λ t. outcome_on (cond t (go None (past_letter fs v ls)) bad) (λ q. outcome r (chars bs) q) (l ∷ chars bs))
     (eq-eqb l l refl)
 
--- the next letter stands there
+-- the next letter is there
 pub letter_read : (r : Reading) (bs : List ℕ) (i l : ℕ) (ls : List ℕ) (fs : Frames) (v : Value) → IsUtf8 bs
     → IsCharBoundary bs i → i < length bs
     → get_or bs i 0 ≡ l → l < 128 → from r bs (past_letter fs v (l ∷ ls)) i ≡ from r bs (past_letter fs v ls) (i + 1)
@@ -51,7 +51,7 @@ missing_on r (c ∷ cs) l ls fs v h = other (c == l) refl
     other true e = absurd (h c cs refl (eqb-true c l e))
     other false e = refl
 
--- another byte stands there, or none
+-- another byte is there, or none
 pub letter_missing : (r : Reading) (bs : List ℕ) (i l : ℕ) (ls : List ℕ) (fs : Frames) (v : Value) → IsUtf8 bs
     → IsCharBoundary bs i → l < 128 → ((i < length bs) × (get_or bs i 0 ≡ l) → ⊥)
     → from r bs (past_letter fs v (l ∷ ls)) i ≡ stopped (chars (drop i bs))
@@ -67,7 +67,7 @@ letter_missing r bs i l ls fs v u at ascii none =
           ∙ first_byte (drop i bs) c cs w e lt ∙ same,
     ))
 
--- three letters stand there, the last of a word
+-- the last three letters of a literal are there
 pub three_read : (r : Reading) (bs : List ℕ) (i a b c : ℕ) (fs : Frames) (v : Value) → IsUtf8 bs → IsCharBoundary bs i
     → i + 3 ≤ length bs → get_or bs i 0 ≡ a → get_or bs (i + 1) 0 ≡ b → get_or bs (i + 2) 0 ≡ c → a < 128 → b < 128
     → c < 128 → from r bs (past_letter fs v (a ∷ b ∷ c ∷ [])) i ≡ from r bs (behind fs v) (i + 3)
@@ -81,7 +81,7 @@ three_read r bs i a b c fs v u at le ea eb ec la lb lc =
     ∙ letter_read r bs (i + 2) c [] fs v u last (omega arith) ec lc
     ∙ ap (λ n. from r bs (behind fs v) n) (omega arith)
 
--- and four
+-- and the last four
 pub four_read : (r : Reading) (bs : List ℕ) (i a b c d : ℕ) (fs : Frames) (v : Value) → IsUtf8 bs
     → IsCharBoundary bs i → i + 4 ≤ length bs → get_or bs i 0 ≡ a → get_or bs (i + 1) 0 ≡ b → get_or bs (i + 2) 0 ≡ c
     → get_or bs (i + 3) 0 ≡ d → a < 128 → b < 128 → c < 128 → d < 128

@@ -1,6 +1,7 @@
--- Sound (`sound`): what the automaton reads to a value, marks passed over, a tree spells that means it. By induction
--- over the text: `Left p t` says what the text t is from state p to its end (from inside an array: the rest of an
--- element, then elements, the bracket, and what follows the array), and `on` gives it for one character more.
+-- Sound (`sound`): if the automaton reads a text to a value, ignoring marks, some tree spells the text and means the
+-- value. By induction over the text: `Left p t` says what the text t is from state p to its end (from inside an array:
+-- the rest of an element, then elements, the bracket, and what follows the array), and `on` extends it by one
+-- character.
 use Rattle.std.proofs.Common.{◌≡◌, ◌∙◌, ◌⊎◌, inl, inr, ℕ, suc, List, [], ◌∷◌, ◌++◌, length, Bool, true, false, cond}
 use Rattle.std.proofs.Common.{◌==◌, Option, Some, None, refl, sym, subst, ap, eqb-true}
 use Rattle.std.specs.List.{fold}
@@ -32,7 +33,7 @@ use Rattle.jzon.proofs.Strings.SoundStrings.{Left as string_left, string_on}
 module _ (r : Reading) (v : Value) where
   -- ---- what the rest of a text is, from each state to the end of the text
 
-  -- after a value: the rest of its container, and so on; at the top it is the value that is meant
+  -- after a value: the rest of its container, and so on; at the top the value is the result
   abbrev Behind : Frames → Value → List ℕ → Type 0
   Behind no_frames x t = IsWhitespace r t × (x ≡ v)
   Behind (array_frame fs vs) x t = (w : List ℕ) × (es : Elements) × (u : List ℕ) × IsWhitespace r w × AreElements r es
@@ -104,7 +105,7 @@ module _ (r : Reading) (v : Value) where
     abbrev M : Move → Type 0
     M z = On z (λ p. Goes r v cs p)
 
-    -- behind a value
+    -- after a value
 
     element_on : (fs : Frames) (vs : List Value) (x : Value) → c ≡ 44 → Left (before (array_frame fs (vs ++ x ∷ []))) cs
         → Behind (array_frame fs vs) x (c ∷ cs)
@@ -228,7 +229,7 @@ module _ (r : Reading) (v : Value) where
     object_on fs e (inr (w, u, w_ok, f, h)) =
         ([], Node.empty_object w, u, tt, w_ok, rw e (ap (λ z. 123 ∷ z) f), h)
 
-    -- the first letter of a word is read
+    -- the first letter of a literal is read
     word_on : (fs : Frames) (n : Node) (d l : ℕ) (ls : List ℕ) → c ≡ d → IsNode r n
         → ((u : List ℕ) → d ∷ l ∷ (ls ++ u) ≡ node_chars n u) → Left (word fs (meaning n) l ls) cs
         → ValueLeft fs (c ∷ cs)
@@ -319,7 +320,7 @@ module _ (r : Reading) (v : Value) where
         colon_value fs es k (class-says r.strict c e) (ih (before (object_frame fs es k)) h)
     colon_on _ fs es k e h = absurd h
 
-    -- words
+    -- literals
 
     past : (fs : Frames) (x : Value) (ls : List ℕ) → Goes r v cs (past_letter fs x ls)
         → (u : List ℕ) × (cs ≡ ls ++ u) × Behind fs x u

@@ -1,4 +1,4 @@
--- `null`, `true` and `false`, of which the code compares four letters at once.
+-- `null`, `true` and `false`, four letters of which the code compares at once.
 use Rattle.std.proofs.Common.{◌≡◌, ◌≢◌, ◌⊎◌, inl, inr, ℕ, ◌+◌, ◌<◌, ◌≤◌, true, false, List, [], ◌∷◌, length, get_or}
 use Rattle.std.proofs.Common.{refl, sym, ap, subst, ◌∙◌, arith, None, lit<}
 use Rattle.std.specs.Prelude.{IsUtf8}
@@ -13,7 +13,7 @@ use Rattle.jzon.proofs.Containers.LiteralLetters.{three_read, four_read}
 abbrev pub IsFirst : ℕ → Type 0
 IsFirst b = (b ≡ 110) ⊎ ((b ≡ 116) ⊎ (b ≡ 102))
 
--- what the code takes by the first letter of a word
+-- the value of a literal, by its first letter
 pub record Means (b : ℕ) (v : Value) : Type 0 where
   pub null : b ≡ 110 → v ≡ null
   pub yes : b ≡ 116 → v ≡ boolean true
@@ -42,7 +42,7 @@ word_begins r bs i b fs v ls u lt h m (inr (inr e)) means spells =
     ∙ ap (λ w. from r bs (past_letter fs w (97 ∷ 108 ∷ 115 ∷ 101 ∷ [])) (i + 1)) (sym (means.no e))
     ∙ ap (λ l. from r bs (past_letter fs v l) (i + 1)) (sym (spells.no e))
 
--- four bytes stand there
+-- four bytes are there
 pub record Stand (bs : List ℕ) (i : ℕ) (four : List ℕ) : Type 0 where
   pub within : i + 4 ≤ length bs
   pub first : get_or bs i 0 ≡ get_or four 0 0
@@ -62,7 +62,7 @@ past_four bs i four u stand lt =
     subst (IsCharBoundary bs) (omega arith)
     (IsCharBoundary-after_ascii bs (i + 3) u (omega (arith, stand.within)) (omega (arith, e, lt)))
 
--- a word of four letters stands there, of which the first was read
+-- a literal of four letters is there, of which the first was read
 short_ends : (r : Reading) (bs : List ℕ) (i prefix l a b c : ℕ) (fs : Frames) (v : Value) (four : List ℕ) → IsUtf8 bs
     → i < length bs → get_or bs i 0 < 128 → prefix ≡ i → four ≡ l ∷ a ∷ b ∷ c ∷ [] → a < 128 → b < 128 → c < 128
     → from r bs (before fs) i ≡ from r bs (past_letter fs v (a ∷ b ∷ c ∷ [])) (i + 1) → Stand bs prefix four
@@ -81,7 +81,7 @@ short_ends r bs i prefix l a b c fs v four u lt ascii here is la lb lc begun sta
           ∙ ap (λ n. from r bs (behind fs v) n) (omega (arith, here));
     }
 
--- the last four letters of a word stand there
+-- the last four letters of a literal are there
 pub word_ends : (r : Reading) (bs : List ℕ) (i b prefix : ℕ) (fs : Frames) (v : Value) (four : List ℕ) → IsUtf8 bs
     → i < length bs → get_or bs i 0 ≡ b → value_mark r fs ≡ None → IsFirst b → Means b v
     → Spells b four (110 ∷ 117 ∷ 108 ∷ 108 ∷ []) (116 ∷ 114 ∷ 117 ∷ 101 ∷ []) (97 ∷ 108 ∷ 115 ∷ 101 ∷ [])

@@ -1,5 +1,5 @@
 -- Complete, for numbers (`complete_number`): over the cells of a number the automaton goes from before it to after it,
--- each move with its cell's mark. A number ends by what follows it, so nothing is asked of that.
+-- each move with its cell's mark. The end of a number is decided by what follows it, so nothing is required of that.
 use Rattle.std.proofs.Common.{◌≡◌, ◌∙◌, ℕ, List, [], ◌∷◌, Bool, true, false, not, ◌&&◌, ◌==◌, Option, Some, None, refl}
 use Rattle.std.proofs.Common.{sym, subst, ap, eqb-true, append-nil}
 use Rattle.std.specs.Prelude.{IsTrue}
@@ -23,7 +23,7 @@ module _ (r : Reading) (G : Outcome → Type 0) (fs : Frames) (negative : Bool) 
   abbrev F : List Cell → NumberPlace → Type 0
   F q x = Follows r G q (numeral fs negative x)
 
-  -- the value of these parts is whole
+  -- from the state after a number of these parts
   abbrev B : List ℕ → List ℕ → Option Exponent → List Cell → Type 0
   B ws ds x q = Follows r G q (behind fs (number_value negative ws ds x))
 
@@ -84,7 +84,7 @@ module _ (r : Reading) (G : Outcome → Type 0) (fs : Frames) (negative : Bool) 
 
   -- ---- whole digits
 
-  -- at this state the whole digits ws are read, and what follows isn't one more
+  -- in this state the whole digits ws are read, and what follows isn't another digit
   record EndsWhole (x : NumberPlace) (ws : List ℕ) : Type 1 where
     past : (class : Class) (c : ℕ) (m : Option Breach) (H : Place → Type 0)
         → Meets (move_after_whole class fs negative ws c) m H → Meets (move_numeral x class fs negative c) m H

@@ -1,4 +1,4 @@
--- The automaton on a whole run of digits: it reads the run, or stops at the digit at which a limit is broken.
+-- The automaton on a whole run of digits: it reads the run, or stops at the digit that exceeds a limit.
 use Rattle.std.proofs.Common.{◌≡◌, ◌∙◌, ℕ, zero, suc, ◌+◌, ◌<◌, ◌≤◌, List, [], ◌∷◌, ◌++◌, length, drop, Bool, true}
 use Rattle.std.proofs.Common.{false, refl, ap}
 use Rattle.std.specs.Prelude.{IsTrue}
@@ -14,9 +14,9 @@ use Rattle.jzon.proofs.Texts.ClassesOfCharacters.{digits-class}
 use Rattle.jzon.proofs.Numbers.NumberLimits.{AreUnmarked, IsFirstMarked, whole_unmarked, whole_marked}
 use Rattle.jzon.proofs.Numbers.NumberLimits.{fraction_unmarked, fraction_marked, never_marked}
 
--- ---- digits at a state that collects them
+-- ---- digits in a state that collects them
 
--- Each digit is put before those that the state has, and has a breach where the digits up to it are too many.
+-- Each digit is put before those that the state has, and has a breach if the digits up to it are too many.
 Collects : Reading → (List ℕ → Place) → (List ℕ → Bool) → Type 0
 Collects r at too_many =
     (ds : List ℕ) (c left : ℕ) → IsTrue (is_ascii_digit c) → move r (at ds) c left
@@ -67,7 +67,7 @@ exponent_collects r fs negative ws gs l s ds c left h = rw (digits-class r.stric
 
 -- ---- whole digits
 
--- They are read where the number drops fewer than 32768 of them, whatever digits the fraction has.
+-- They are read if fewer than 32768 of them are dropped, whatever digits the fraction has.
 pub read_whole : (r : Reading) (fs : Frames) (negative : Bool) (ds es rest gs : List ℕ) → AreDigits es
     → dropped (onto ds es) gs < 32768
     → outcome r (es ++ rest) (numeral fs negative (whole ds))
@@ -76,7 +76,7 @@ read_whole r fs negative ds es rest gs ok few =
     collect_all r (λ ds. numeral fs negative (whole ds)) drops_too_many (whole_collects r fs negative) ds es rest ok
     (whole_unmarked ds es gs few)
 
--- The 32768th that is dropped is refused.
+-- The 32768th that is dropped is a fault.
 pub refuse_whole : (r : Reading) (fs : Frames) (negative : Bool) (ds es rest gs : List ℕ) (i : ℕ) → AreDigits es
     → 32768 ≤ dropped (onto ds es) gs → length ds + i ≡ kept_len (onto ds es ++ gs) + 32767
     → outcome r (es ++ rest) (numeral fs negative (whole ds)) ≡ refused (limit digit) (drop i es ++ rest)
@@ -86,14 +86,14 @@ refuse_whole r fs negative ds es rest gs i ok many at =
 
 -- ---- fraction digits
 
--- the first digit behind the point
+-- the first digit after the point
 at_point : (r : Reading) (fs : Frames) (negative : Bool) (ws : List ℕ) (c : ℕ) (rest : List ℕ)
     → IsTrue (is_ascii_digit c)
     → outcome r (c ∷ rest) (numeral fs negative (pointed ws))
     ≡ outcome r (c ∷ rest) (numeral fs negative (fraction ws []))
 at_point r fs negative ws c rest h = rw (digits-class r.strict c h) refl
 
--- They are read where the number keeps fewer than 32769 of them.
+-- They are read if fewer than 32769 of them are kept.
 pub read_fraction : (r : Reading) (fs : Frames) (negative : Bool) (ws es rest : List ℕ) → IsDigits es
     → kept_fraction ws es < 32769
     → outcome r (es ++ rest) (numeral fs negative (pointed ws))
@@ -105,7 +105,7 @@ read_fraction r fs negative ws (e ∷ es) rest ok few =
     (fraction_collects r fs negative ws) [] (e ∷ es) rest ok
     (fraction_unmarked ws [] (e ∷ es) few)
 
--- The 32769th that is kept is refused.
+-- The 32769th that is kept is a fault.
 pub refuse_fraction : (r : Reading) (fs : Frames) (negative : Bool) (ws es rest : List ℕ) → IsDigits es
     → 32769 ≤ kept_fraction ws es
     → outcome r (es ++ rest) (numeral fs negative (pointed ws)) ≡ refused (limit digit) (drop 32768 es ++ rest)
@@ -127,7 +127,7 @@ read_more_exponent r fs negative ws gs l s ds es rest ok =
     (exponent_collects r fs negative ws gs l s) ds es rest ok
     (never_marked ds es)
 
--- behind the letter, and behind a sign
+-- after the letter, and after a sign
 pub read_unsigned_exponent : (r : Reading) (fs : Frames) (negative : Bool) (ws gs : List ℕ) (l : ℕ) (es rest : List ℕ)
     → IsDigits es
     → outcome r (es ++ rest) (numeral fs negative (lettered ws gs l))

@@ -33,7 +33,7 @@ use Rattle.jzon.proofs.Numbers.NumeralOffsets.{next_is, next_fails, AreDigitsAt,
 
 -- ---- whole digits
 
--- all digits that stand there, of which d is the first
+-- all digits that are there, of which d is the first
 all_digits : (r : Reading) (d : ℕ) (ws cs rest : List ℕ) → (d == 48) ≡ false → IsTrue (is_ascii_digit d) → AreDigits ws
     → NextFails is_ascii_digit rest
     → d ∷ cs ≡ ws ++ rest → ReadsWhole r d ws cs rest
@@ -82,8 +82,7 @@ whole_stands bs i ws u lt is_digit e = by_first (get_or bs i 0 == 48) refl e
 
 -- ---- whole digits and fraction digits
 
--- Behind the first digit, which stands at offset i, the digits ws and ds are read up to offset e, where a digit may be
--- missing.
+-- After the first digit, at offset i, the digits ws and ds are read up to offset e, where a digit may be missing.
 pub record ReadsMagnitude (bs : List ℕ) (i : ℕ) (ws ds : List ℕ) (e : ℕ) (missing : Bool) : Type 0 where
   pub after : i < e
   pub boundary : IsCharBoundary bs e
@@ -104,7 +103,7 @@ pub record ReadsMagnitude (bs : List ℕ) (i : ℕ) (ws ds : List ℕ) (e : ℕ)
       → Tells (chars bs) ExceededDepthLimit (from r bs (numeral fs negative
       (begun (get_or bs i 0 == 48) (get_or bs i 0))) (i + 1))
 
--- a refusal at a digit is told by this error
+-- this error reports a fault at a digit
 tells_digit : (t rest : List ℕ) (o : Outcome) → o ≡ refused (limit digit) rest → Tells t ExceededDepthLimit o
 tells_digit t rest o e = subst (Tells t ExceededDepthLimit) (sym e) refl
 
@@ -153,7 +152,7 @@ reads_whole_alone bs i ws u w no_point =
     too_many (Whole k) h r fs negative = whole_too_many bs i ws [] w h.0 r fs negative
     too_many (Fraction k) h r fs negative = absurd (omega (arith, h.0, keeps_no_fraction ws))
 
--- With a point at offset p: what is left is what stands behind it.
+-- With a point at offset p: what is left is the text after it.
 to_point : (bs : List ℕ) (i p : ℕ) (ws ds : List ℕ) → IsUtf8 bs → WholeStands bs i ws → p ≡ i + length ws
     → p < length bs → get_or bs p 0 ≡ 46
     → dropped ws ds < 32768 → (r : Reading) (fs : Frames) (negative : Bool)
@@ -178,7 +177,7 @@ fraction_too_many bs j ws ds k many r fs negative =
     (ap (λ cs. outcome r cs (numeral fs negative (pointed ws))) k.split
     ∙ refuse_fraction r fs negative ws ds (chars (drop (j + length ds) bs)) (some_digits ds k.digits some) many)
 
--- The digits behind it are ds, and none is missing if there are some.
+-- The digits after it are ds, and none is missing if ds isn't empty.
 pub reads_whole_and_fraction : (bs : List ℕ) (i p : ℕ) (ws ds : List ℕ) → IsUtf8 bs → WholeStands bs i ws
     → p ≡ i + length ws → p < length bs → get_or bs p 0 ≡ 46 → ds ≡ take_while is_ascii_digit (drop (p + 1) bs)
     → ReadsMagnitude bs i ws ds (p + 1 + length ds) (length ds == 0)

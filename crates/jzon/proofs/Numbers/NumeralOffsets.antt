@@ -37,7 +37,7 @@ next_is bs i b u at lt e ascii =
     ∙ ap (λ n. b ∷ drop n bs) (sym (add-one i)) in
     ap chars split ∙ chars-ascii b (drop (i + 1) bs) (subst IsUtf8 split (IsUtf8-drop bs i u at)) ascii
 
--- A test that ASCII characters alone pass fails for the next character where it fails for the next byte.
+-- A test that only ASCII characters pass fails for the next character if it fails for the next byte.
 pub next_fails : (test : ℕ → Bool) (bs : List ℕ) (i : ℕ) → ((c : ℕ) → test c ≡ true → c < 128) → IsUtf8 bs
     → IsCharBoundary bs i → (i < length bs → test (get_or bs i 0) ≡ false) → NextFails test (chars (drop i bs))
 next_fails test bs i ascii u at h = over (chars (drop i bs)) refl
@@ -85,7 +85,7 @@ begins : (bs : List ℕ) → IsUtf8 bs → Begins bs (take_while is_ascii_digit 
 begins [] u = record { split = refl; digits = tt; all = All-nil IsDigit; utf8 = u }
 begins (b ∷ bs) u = begins_one b bs (is_ascii_digit b) (prefix_len is_ascii_digit bs) refl u (λ w. begins bs w)
 
--- The digits ds stand at offset i of the text, and no digit follows them.
+-- The digits ds are at offset i of the text, and no digit follows them.
 pub record AreDigitsAt (bs : List ℕ) (i : ℕ) (ds : List ℕ) : Type 0 where
   pub split : chars (drop i bs) ≡ ds ++ chars (drop (i + length ds) bs)
   pub digits : AreDigits ds
@@ -119,7 +119,7 @@ digits_stand bs i ds u at e =
 
 -- ---- exponents
 
--- Behind the letter of an exponent its digits xs are read up to offset e, with this sign.
+-- After the letter of an exponent its digits xs are read up to offset e, with this sign.
 pub record ReadsExponent (bs : List ℕ) (i : ℕ) (positive : Bool) (xs : List ℕ) (e : ℕ) : Type 0 where
   pub after : i ≤ e
   pub boundary : IsCharBoundary bs e
@@ -162,7 +162,7 @@ reads_unsigned bs i xs u at no_minus no_plus e =
           ∙ ap stopped here;
     }
 
--- behind a sign that stands at offset i
+-- after a sign at offset i
 reads_signed : (bs : List ℕ) (i : ℕ) (xs : List ℕ) (s : Sign) (b : ℕ) (positive : Bool) → IsUtf8 bs
     → IsCharBoundary bs i → i < length bs
     → get_or bs i 0 ≡ b → b < 128 → ((ws ds : List ℕ) (l : ℕ) (cs : List ℕ) (r : Reading) (fs : Frames)

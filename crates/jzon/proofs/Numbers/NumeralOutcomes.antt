@@ -1,4 +1,4 @@
--- What the automaton makes of what is left after each part of a number: another part, the end, or a missing digit.
+-- The outcome of the rest of the text after each part of a number: another part, the end, or a missing digit.
 use Rattle.std.proofs.Common.{◌≡◌, ◌∙◌, ℕ, ◌+◌, ◌<◌, ◌≤◌, List, [], ◌∷◌, ◌++◌, length, drop, Bool, true, false, ◌==◌}
 use Rattle.std.proofs.Common.{None, refl, sym, ap, arith, true≢false, append-nil, eq-eqb}
 use Rattle.std.specs.Prelude.{IsTrue, ⊤}
@@ -44,7 +44,7 @@ no_plus s c fails e = true≢false (sym (eq-eqb c 43 (class-says s c e)) ∙ fai
 no_minus : (s : Bool) (c : ℕ) → (c == 45) ≡ false → class_of s c ≡ dash → ⊥
 no_minus s c fails e = true≢false (sym (eq-eqb c 45 (class-says s c e)) ∙ fails)
 
--- ---- where a digit is missing
+-- ---- a missing digit
 
 pointed_stops : (k : Class) (fs : Frames) (negative : Bool) (ws : List ℕ) (c : ℕ) → (k ≡ digits → ⊥)
     → move_numeral (pointed ws) k fs negative c ≡ bad
@@ -88,7 +88,7 @@ stop_signed r fs negative ws ds l s (c ∷ cs) h =
 
 -- ---- whole digits
 
--- At this state the whole digits ws are read; a character that passes the test would be one more.
+-- In this state the whole digits ws are read; a character that passes the test would be one more.
 record IsBehindWhole (r : Reading) (fs : Frames) (negative : Bool) (x : NumberPlace) (ws : List ℕ) (more : ℕ → Bool) :
     Type 0 where
   moves : (c : ℕ) → more c ≡ false → move r (numeral fs negative x) c 0
@@ -116,8 +116,8 @@ whole_is_behind r fs negative d es = record {
   ends = ap (λ ws. meant_at fs (number_value negative ws [] None)) (in_order d es);
 }
 
--- Behind the first digit d the whole digits are read: ws are all of them, cs is the text behind d, and rest is the text
--- behind them.
+-- After the first digit d the whole digits are read: ws are all of them, cs is the text after d, and rest is the text
+-- after them.
 pub record ReadsWhole (r : Reading) (d : ℕ) (ws cs rest : List ℕ) : Type 0 where
   pub some : 0 < length ws
   place : NumberPlace

@@ -1,6 +1,6 @@
--- Sound, for numbers (`number_on`, `number_ends`): where the automaton goes to a value from inside a number, what is
--- left begins with the rest of a number, `InNumeral`, and goes on as is allowed after it. One character more, from what
--- is so after that character.
+-- Sound, for numbers (`number_on`, `number_ends`): if the automaton goes to a value from inside a number, the rest of
+-- the text begins with the rest of a number, `InNumeral`, and continues with what is allowed after it. Shown for one
+-- more character, given the statement for the text after it.
 use Rattle.std.proofs.Common.{◌≡◌, ◌∙◌, ℕ, List, [], ◌∷◌, ◌++◌, Bool, true, false, not, ◌&&◌, ◌==◌, Option, None, refl}
 use Rattle.std.proofs.Common.{sym, subst, ap, eqb-true}
 use Rattle.std.specs.Prelude.{IsTrue}
@@ -27,17 +27,17 @@ module _ (r : Reading) (v : Value) (fs : Frames) (Beh : Value → List ℕ → T
 
   -- ---- what is left of a number
 
-  -- behind the whole digits
+  -- after the whole digits
   abbrev TailLeft : Bool → List ℕ → List ℕ → Type 0
   TailLeft negative ws t = (ds : List ℕ) × (x : Option Exponent) × (u : List ℕ) × AreDigits ds × IsExponent x
       × (t ≡ fraction_chars ds (exponent_chars x u)) × B negative ws ds x u
 
-  -- behind the first digit
+  -- after the first digit
   abbrev pub MagnitudeLeft : Bool → ℕ → List ℕ → Type 0
   MagnitudeLeft negative c t = (es : List ℕ) × (u : List ℕ) × IsWhole (c ∷ es) × (t ≡ es ++ u)
       × TailLeft negative (c ∷ es) u
 
-  -- inside a number; behind a minus it is negative
+  -- inside a number; after a minus it is negative
   abbrev pub InNumeral : Bool → NumberPlace → List ℕ → Type 0
   InNumeral negative signed t = (c : ℕ) × (u : List ℕ) × (t ≡ c ∷ u) × MagnitudeLeft true c u
   InNumeral negative zero_read t = TailLeft negative (48 ∷ []) t

@@ -1,4 +1,4 @@
--- Keys that are new each.
+-- Keys each of which is new.
 use Rattle.std.proofs.Common.{◌≡◌, ℕ, List, [], ◌∷◌, false, refl}
 use Rattle.std.specs.Prelude.{⊤}
 use Rattle.std.specs.List.{AllByRecursion, IsDistinct}
@@ -7,7 +7,7 @@ use Rattle.std.proofs.lemmas.Bool.{or_from}
 use Rattle.std.proofs.lemmas.Map.Keys.{IsDistinct-head, IsDistinct-tail}
 use Rattle.jzon_tree.specs.Same.{is_known}
 
--- each key is none of those seen before, nor of the keys before it
+-- each key is neither one of those seen before nor one of the keys before it
 abbrev pub AreNew : List (List ℕ) → List (List ℕ) → Type 0
 AreNew seen [] = ⊤
 AreNew seen (k ∷ ks) = (is_known seen k ≡ false) × AreNew (k ∷ seen) ks

@@ -1,4 +1,4 @@
--- Trees of what a style joins: values with commas between them and whitespace round them, and pairs.
+-- Trees of what a style joins: values separated by commas with whitespace around them, and members.
 use Rattle.std.proofs.Common.{◌≡◌, ◌∙◌, ℕ, ◌≤◌, max, List, [], ◌∷◌, ◌++◌, map, refl, ap, append_assoc, arith}
 use Rattle.std.specs.Prelude.{IsUtf8, ⊤}
 use Rattle.std.specs.List.{AllByRecursion}
@@ -13,7 +13,7 @@ use Rattle.jzon.proofs.ReadBack.WrittenStrings.{items_for, bytes_of-items_for}
 use Rattle.jzon.proofs.ReadBack.WrittenTrees.{NodeSpells, ElementsSpell, MembersSpell, run_text, key_for, pair_text}
 use Rattle.jzon.proofs.ReadBack.WrittenTrees.{no_elements_spell, element_spells, no_members_spell, member_spells}
 
--- all whitespace that the style allows is one of the reading
+-- the style allows only whitespace of the reading
 abbrev pub AllowsWhitespaceOf : Reading → Style → Type 0
 AllowsWhitespaceOf r s = (dent : ℕ) (w : List ℕ) → IsAllowedWhitespace s dent w → IsWhitespace r w
 
@@ -55,8 +55,8 @@ EachSpells r high (t ∷ ts) (n ∷ ns) = NodeSpells r high t n × EachSpells r 
 EachSpells r high [] (n ∷ ns) = ⊥
 EachSpells r high (t ∷ ts) [] = ⊥
 
--- The text `inside` of the values, with the whitespace w and the bracket behind it, is a whitespace, the first value,
--- whitespace and the elements after it.
+-- The text `inside` of the values, followed by the whitespace w and the bracket, splits into whitespace, the first
+-- value, whitespace and the elements after it.
 pub record JoinedElements (r : Reading) (high : ℕ) (t : List ℕ) (ns : List Node) (inside w : List ℕ) : Type 0 where
   pub before : List ℕ
   pub after : List ℕ
@@ -68,7 +68,7 @@ pub record JoinedElements (r : Reading) (high : ℕ) (t : List ℕ) (ns : List N
   pub text : inside ++ (w ++ 93 ∷ []) ≡ run_text before t after rest
   pub means : elements_meaning elements ≡ values_of (map meaning ns)
 
--- whitespace, a text and what follows
+-- whitespace, a text and what follows it
 behind : (w t x y : List ℕ) → (w ++ (t ++ x)) ++ y ≡ w ++ (t ++ (x ++ y))
 behind w t x y = append_assoc w (t ++ x) y ∙ ap (λ z. w ++ z) (append_assoc t x y)
 
@@ -112,9 +112,9 @@ joined_elements r s dent high t (u ∷ ts) n (m ∷ ns) inside w fit each join s
       means = ap (λ vs. value (meaning m) vs) more.means;
     }
 
--- ---- pairs
+-- ---- members
 
--- a key, the whitespace behind its colon, and the text and the node of its value
+-- a key, the whitespace after its colon, and the text and the node of its value
 pub record Entry : Type 0 where
   pub key : List ℕ
   pub gap : List ℕ

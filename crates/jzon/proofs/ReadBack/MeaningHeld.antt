@@ -1,4 +1,4 @@
--- The meaning of a tree that breaks no limit is a value of which the laws `redump` and `reads_back` speak.
+-- The meaning of a tree that breaks no limit is a value that the laws `redump` and `reads_back` apply to.
 use Rattle.std.proofs.Common.{◌≡◌, ℕ, suc, ◌-◌, ◌<◌, ◌≤◌, max, ℤ, pos, ◌+ℤ◌, ◌-ℤ◌, List, [], ◌∷◌, ◌++◌, Bool, true}
 use Rattle.std.proofs.Common.{false, ◌&&◌, nat_le, if◌then◌else◌, Option, None, codes, refl, sym, subst, arith}
 use Rattle.std.proofs.Common.{FitsSigned}
@@ -100,7 +100,7 @@ bytes_utf8 (i ∷ is) h =
 
 -- ---- objects
 
--- a pair whose value nests no deeper than h
+-- an entry whose value nests no deeper than h
 record IsHeldPair (h : ℕ) (p : List ℕ × Value) : Type 0 where
   utf8 : IsUtf8 p.0
   lawful : IsValue p.1
@@ -142,8 +142,8 @@ object_lawful h ps all distinct = (
 
 -- ---- values
 
--- What holds of a value that is read inside so many non-empty containers, with the mark at its first character and the
--- cells behind it.
+-- What holds of a value that is read inside `depth` non-empty containers, with the mark at its first character and the
+-- cells after it.
 record NodeHeld (r : Reading) (depth : ℕ) (m : Option Breach) (k : List Cell) (v : Value) : Type 0 where
   lawful : IsValue v
   no_nan : HasNoNan v
@@ -165,7 +165,7 @@ not_deep : (b : Bool) → breach_if b deep ≡ None → b ≡ false
 not_deep true e = absurd (cc)
 not_deep false e = refl
 
--- a value that follows an opening bracket is read only where one container more may be open
+-- a value after an opening bracket is read only if one more container may be opened
 room_inside : (r : Reading) (depth : ℕ) → deep_if r depth ≡ None → depth < r.depth
 room_inside r depth e = above r.depth depth (not_deep (nat_le r.depth depth) e)
   where

@@ -1,4 +1,4 @@
--- How long the text of a number is.
+-- The length of the text of a number.
 use Rattle.std.proofs.Common.{◌≡◌, ℕ, ℤ, pos, negsuc, ◌+◌, ◌-◌, ◌^◌, ◌≤◌, ◌<◌, ◌==◌, List, [], ◌++◌, length, replicate}
 use Rattle.std.proofs.Common.{Bool, true, false, refl, arith, decimal, codes, nat_le, nat_lt, if◌then◌else◌, FitsSigned}
 use Rattle.std.proofs.Common.{length-append, length-take, length-drop}

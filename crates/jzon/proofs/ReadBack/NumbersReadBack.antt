@@ -48,7 +48,7 @@ spelled_short : (s : Bool) (m : ℕ) (e : ℤ) (n : Numeral) → m < 2 ^ 64 → 
     → length (numeral_spelled n) ≤ 29
 spelled_short s m e n fits small h = omega (arith, ap length h.spelled, length-number s m e fits small)
 
--- no breach stands in it
+-- it has no breach
 pub printed-plain : (s : Bool) (m : ℕ) (e : ℤ) (n : Numeral) (k : List Cell) → m < 2 ^ 64 → FitsSigned w16 e
     → IsPrintedAs s m e n → numeral_cells n None k ≡ plain (number_text s m e) k
 printed-plain s m e n k fits small h =

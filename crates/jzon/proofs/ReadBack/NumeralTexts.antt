@@ -1,4 +1,4 @@
--- The text of a number of the grammar, where it has few digits.
+-- The text of a number of the grammar that has few digits.
 use Rattle.std.proofs.Common.{◌≡◌, ◌∙◌, ℕ, ◌+◌, ◌<◌, ◌≤◌, List, [], ◌∷◌, ◌++◌, length, Bool, true, false, codes, Option}
 use Rattle.std.proofs.Common.{Some, None, refl, sym, ap, arith, length-append}
 use Rattle.jzon_base.proofs.Kept.{kept_len_is_longest}
@@ -32,7 +32,7 @@ magnitude_spelled whole fraction e = whole ++ (fraction_spelled fraction ++ expo
 abbrev pub numeral_spelled : Numeral → List ℕ
 numeral_spelled n = minus_spelled n.negative ++ magnitude_spelled n.whole n.fraction n.exponent
 
--- ---- no breach stands in it
+-- ---- it has no breach
 
 digits-plain : (too_many : List ℕ → Bool) (prefix ds : List ℕ) (k : List Cell) → AreUnmarked too_many prefix ds
     → digits_cells too_many prefix ds k ≡ plain ds k

@@ -18,7 +18,7 @@ use Rattle.jzon_base.proofs.PairLaws.{bytes_eq-other}
 use Rattle.jzon_tree.specs.Writing.{IsOrder, text_at}
 use Rattle.jzon_tree.proofs.Orders.{order_within}
 
--- the elements at these positions, and d at one behind the list
+-- the elements at these positions, and d for one past the end of the list
 abbrev pub picked : {X : Type 0} → X → List X → List ℕ → List X
 picked d xs ps = map (λ i. get_or xs i d) ps
 
@@ -107,7 +107,7 @@ distinct_picked ks d (p ∷ ps) distinct below once =
     )))
     (distinct_picked ks d ps distinct below.1 (λ i h. omega (arith, once i h, count-cons i p ps)))
 
--- ---- look-ups do not depend on the order
+-- ---- lookups don't depend on the order
 
 module _ {V : Type 0} where
   record IsFound (q : List ℕ) (d : List ℕ × V) (xs : List (List ℕ × V)) (v : V) (i : ℕ) : Type 0 where

@@ -1,4 +1,4 @@
--- The forms of a printed number that keep its mantissa and its exponent.
+-- The forms of a printed number that preserve its mantissa and its exponent.
 use Rattle.std.proofs.Common.{◌≡◌, ℕ, suc, zero, ℤ, pos, negsuc, ◌+ℤ◌, ◌-ℤ◌, ◌+◌, ◌-◌, ◌^◌, ◌≤◌, ◌<◌, Option, Some}
 use Rattle.std.proofs.Common.{None, List, [], ◌∷◌, ◌++◌, length, take, drop, replicate, Bool, true, false, refl, sym}
 use Rattle.std.proofs.Common.{ap, ◌∙◌, arith, decimal, codes, FitsSigned, get_or, length-append, length-take}
@@ -121,7 +121,7 @@ scientific s m e x above fits small power text sum =
     (ap (λ t. t ++ exponent_spelled x) (first_spelled (decimal m) is.some) ∙ text)
     (ap digits_number (take-append-drop 1 (decimal m)) ∙ is.number) (rw (length-drop 1 (decimal m)) sum)
 
--- the exponent that is written is 0, 1 or below 0
+-- the exponent that is written is 0, 1 or negative
 pub small_power : (s : Bool) (m k : ℕ) → 0 < m → m < 2 ^ 64 → FitsSigned w16 (negsuc k) → 17 < k + 1
     → HasNumeral s m (negsuc k)
 small_power s m k above fits small far =

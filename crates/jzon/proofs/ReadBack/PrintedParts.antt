@@ -25,7 +25,7 @@ use Rattle.jzon.specs.Grammar as grammar
 use Rattle.jzon.specs.Meaning.{written_exponent, number_of}
 use Rattle.jzon.proofs.ReadBack.NumeralTexts.{numeral_spelled, minus_spelled, fraction_spelled, exponent_spelled}
 
--- The number has the text of these parts. It means the same parts, and what it means is printed so again.
+-- The number has the text of these parts. It means the same parts, and what it means prints as the same text.
 pub record IsPrintedAs (s : Bool) (m : ℕ) (e : ℤ) (n : Numeral) : Type 0 where
   pub in_grammar : grammar.IsNumeral n
   pub spelled : numeral_spelled n ≡ number_text s m e
@@ -154,7 +154,7 @@ means_as s m e n d ok spelled means alike prints = (
 clamp_small : (e : ℤ) → FitsSigned w16 e → clamp e ≡ e
 clamp_small e fits = omega (arith, ints, clamps)
 
--- the parts, where all digits fit and the powers of ten add up
+-- the parts, if all digits fit and the powers of ten add up
 pub exact_parts : (s : Bool) (whole fraction : List ℕ) (x : Option Exponent) (m : ℕ) (e : ℤ)
     → digits_number (whole ++ fraction) ≡ m → m < 2 ^ 64 → (pos 0 -ℤ pos (length fraction)) +ℤ written_exponent x ≡ e
     → FitsSigned w16 e → number_of (numeral s whole fraction x) ≡ parts s m e

@@ -1,4 +1,4 @@
--- Each writing of a value without NaN is read as the same value.
+-- Each text that is written for a value without NaN is read as the same value.
 use Rattle.std.proofs.Common.{◌≡◌, ◌∙◌, ◌≢◌, ℕ, suc, ◌≤◌, max, List, [], ◌∷◌, ◌++◌, length, map, Bool, true, false}
 use Rattle.std.proofs.Common.{cond, Option, Some, refl, sym, ap, subst, arith}
 use Rattle.std.specs.Prelude.{IsUtf8, IsTrue, AllPairs}
@@ -177,9 +177,9 @@ object_read r s dent k v ps b ts positions (e ∷ es) fit distinct texts each ke
     (find-picked q (entry_meaning e) stored positions apart order) ∙ alike q)
     (subst (λ xs. Encloses s dent 123 xs 125 b) written w)
 
--- ---- one pair
+-- ---- one entry
 
--- the whitespace behind a colon
+-- the whitespace after a colon
 gap_of : Bool → List ℕ
 gap_of wide = elim wide [ true ↦ 32 ∷ [] | false ↦ [] ]
 

@@ -1,4 +1,4 @@
--- The styles of the four generators allow whitespace of a strict reading alone.
+-- The styles of the four generators allow only whitespace of a strict reading.
 use Rattle.std.proofs.Common.{◌≡◌, ℕ, ◌*◌, List, [], true, refl, sym, subst}
 use Rattle.std.specs.Prelude.{IsTrue}
 use Rattle.std.specs.Str.{bytes_eq}
@@ -8,7 +8,7 @@ use Rattle.jzon_tree.specs.Text.{pretty_layout}
 use Rattle.jzon_tree.specs.Writing.{is_all_whitespace}
 use Rattle.jzon.specs.Laws.{StrictStyles}
 
--- a style of one line at each indent, which is strict whitespace
+-- a style with one whitespace for each indent, which is strict whitespace
 one_line : (line w : List ℕ) → IsTrue (is_all_whitespace true line) → bytes_eq w line ≡ true
     → IsTrue (is_all_whitespace true w)
 one_line line w h e = subst (λ b. IsTrue (is_all_whitespace true b)) (sym ((bytes_eq-Decides w line).0 e)) h

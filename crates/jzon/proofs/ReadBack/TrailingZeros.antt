@@ -1,5 +1,5 @@
--- A printed number with zeros behind its digits: it is read with a larger mantissa, and one zero is dropped where that
--- has no room.
+-- A printed number with zeros after its digits: it is read with a larger mantissa, and one zero is dropped if the
+-- mantissa has no room for it.
 use Rattle.std.proofs.Common.{◌≡◌, ℕ, suc, zero, ℤ, pos, ◌+ℤ◌, ◌-ℤ◌, ◌+◌, ◌*◌, ◌/◌, ◌%◌, ◌^◌, ◌&&◌, ◌≤◌, ◌<◌, ◌==◌}
 use Rattle.std.proofs.Common.{None, List, [], ◌∷◌, ◌++◌, length, take, replicate, Bool, true, false, not, refl, sym, ap}
 use Rattle.std.proofs.Common.{◌∙◌, arith, decimal, get_or, length-append, append_assoc, append-nil, pow-add, eq-eqb}
@@ -44,7 +44,7 @@ replicate_end : (n : ℕ) → ◌++◌ {A = ℕ} (replicate n 48) (48 ∷ []) �
 replicate_end zero = refl
 replicate_end (suc n) = ap (λ t. 48 ∷ t) (replicate_end n)
 
--- ten times a number prints a zero more
+-- ten times a number prints with one more zero
 decimal-ten : (m : ℕ) → 0 < m → m * 10 < 2 ^ 64 → decimal (m * 10) ≡ decimal m ++ 48 ∷ []
 decimal-ten m above fits =
     let over : m * 10 / 10 ≡ m = omega arith in
@@ -52,7 +52,7 @@ decimal-ten m above fits =
     decimal_step (m * 10) (omega arith) fits ∙ ap (λ x. decimal x ++ (48 + m * 10 % 10) ∷ []) over
     ∙ ap (λ r. decimal m ++ (48 + r) ∷ []) rest
 
--- a mantissa with n zeros more prints as its digits and n zeros
+-- a mantissa with n more zeros prints as its digits and n zeros
 decimal-zeros : (m n : ℕ) → 0 < m → m * 10 ^ n < 2 ^ 64 → decimal (m * 10 ^ n) ≡ decimal m ++ replicate n 48
 decimal-zeros m zero above fits = ap decimal (times_one m) ∙ sym (append-nil (decimal m))
 decimal-zeros m (suc n) above fits =
@@ -102,7 +102,7 @@ same_scaled : (s : Bool) (m : ℕ) (e : ℤ) (n : ℕ) (f : ℤ) → (scaled m e
 same_scaled true m e n f h = rw h (or-true ((m == 0) && (n == 0)))
 same_scaled false m e n f h = rw h (or-true ((m == 0) && (n == 0)))
 
--- ---- where all zeros are kept
+-- ---- if all zeros are kept
 
 pub zeros_kept : (s : Bool) (m k : ℕ) → 0 < m → m < 2 ^ 64 → length (decimal m) + k ≤ 20 → m * 10 ^ k < 2 ^ 64
     → HasNumeral s m (pos k)
@@ -120,7 +120,7 @@ zeros_kept s m k above fits room all =
     (number_text-above s v (pos 0) some ∙ ap (λ t. sign_text s ++ t) (decimal-zeros m k above all)
     ∙ sym (number_text-zeros s m k above room))
 
--- ---- where the last zero is dropped
+-- ---- if the last zero is dropped
 
 -- one digit of w is dropped
 one_dropped : (s : Bool) (w : List ℕ) (u n : ℕ) → kept_len (w ++ []) ≡ n → digits_number (take n (w ++ [])) ≡ u

@@ -1,5 +1,5 @@
--- Cells without marks: behind each part of a tree they go on without marks, and the mark at the first character of a
--- value is none.
+-- Cells without marks: the cells after each part of a tree have no marks either, and neither has the first character of
+-- a value.
 use Rattle.std.proofs.Common.{◌≡◌, ℕ, List, [], ◌∷◌, suc, Bool, true, false, if◌then◌else◌, Option, Some, None, ap}
 use Rattle.std.specs.Prelude.{⊤, slice_get}
 use Rattle.jzon.specs.Reading.{Reading}

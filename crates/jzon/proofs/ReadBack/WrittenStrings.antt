@@ -1,4 +1,4 @@
--- A written string is a string of the grammar, which means the text that was written.
+-- A written string is a string of the grammar, and means the string that was written.
 use Rattle.std.proofs.Common.{◌≡◌, ◌∙◌, ℕ, zero, suc, ◌/◌, ◌%◌, ◌≤◌, List, [], ◌∷◌, ◌++◌, map, Bool, true, false, not}
 use Rattle.std.proofs.Common.{◌&&◌, ◌||◌, ◌==◌, nat_lt, if◌then◌else◌, refl, sym, ap, subst, arith, inl, inr}
 use Rattle.std.proofs.Common.{append-nil, chars, None}
@@ -25,8 +25,8 @@ use Rattle.jzon.proofs.Strings.PlainRuns.{plain_wide}
 
 -- ---- what is written for a character
 
--- as an item: a short escape where there is one, `\u` and four digits for the other characters below 32, else the
--- character
+-- as an item: a short escape if there is one, `\u` and four digits for the other characters below 32, else the
+-- character itself
 abbrev pub item_of : ℕ → Item
 item_of c =
     if c == 34 || c == 92 then simple c
@@ -41,7 +41,7 @@ item_of c =
 abbrev pub items_of : List ℕ → List Item
 items_of cs = map item_of cs
 
--- the text of an item that is no pair of escapes
+-- the text of an item that isn't a surrogate pair
 abbrev item_spelled : Item → List ℕ
 item_spelled (grammar.plain c) = c ∷ []
 item_spelled (simple c) = 92 ∷ c ∷ []

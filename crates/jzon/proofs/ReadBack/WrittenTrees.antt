@@ -29,19 +29,19 @@ use Rattle.jzon.proofs.ReadBack.DistinctKeys.{AreNew}
 use Rattle.jzon.proofs.ReadBack.WrittenStrings.{items_for, items_for_in_grammar, bytes_of-items_for}
 use Rattle.jzon.proofs.ReadBack.WrittenStrings.{chars-IsAscii_append, quoted-plain}
 
--- The node spells the bytes, and it breaks no limit where so many containers as are `high` may still be opened.
+-- The node spells the bytes, and it breaks no limit if `high` more containers may be opened.
 pub record NodeSpells (r : Reading) (high : ℕ) (b : List ℕ) (n : Node) : Type 0 where
   pub utf8 : IsUtf8 b
   pub in_grammar : IsNode r n
   pub unbroken : (depth : ℕ) (k : List Cell) → depth + high ≤ r.depth → node_cells r n depth None k ≡ plain (chars b) k
 
--- so do the elements, with the closing bracket
+-- and so the elements, with the closing bracket
 pub record ElementsSpell (r : Reading) (high : ℕ) (b : List ℕ) (es : Elements) : Type 0 where
   pub utf8 : IsUtf8 b
   pub in_grammar : AreElements r es
   pub unbroken : (depth : ℕ) (k : List Cell) → depth + high ≤ r.depth → elements_cells r es depth k ≡ plain (chars b) k
 
--- and the members, of these keys
+-- and so the members, of these keys
 pub record MembersSpell (r : Reading) (high : ℕ) (keys : List (List ℕ)) (b : List ℕ) (ms : Members) : Type 0 where
   pub utf8 : IsUtf8 b
   pub in_grammar : AreMembers r ms
@@ -76,7 +76,7 @@ ascii_spells r b n ascii ok e = record {
   unbroken = λ depth k h. e depth k ∙ ap (λ t. plain t k) (sym (chars-IsAscii b ascii));
 }
 
--- ---- scalars and empty containers
+-- ---- primitives and empty containers
 
 pub null_spells : (r : Reading) → NodeSpells r 0 (codes "null") Node.null
 null_spells r = ascii_spells r (codes "null") Node.null (IsAscii-true (codes "null") refl) tt (λ depth k. refl)
@@ -178,7 +178,7 @@ no_members_spell r = record {
   unbroken = λ seen depth k new h. ap (λ t. plain t k) (sym (chars-IsAscii (125 ∷ []) (IsAscii-one 125 (omega arith))));
 }
 
--- a key as it is written, behind whitespace
+-- a key as it is written, after whitespace
 abbrev pub key_for : List ℕ → List ℕ → Key
 key_for w key = record { before = w; items = items_for key; after = [] }
 
@@ -262,7 +262,7 @@ object_spells r h high keys w key g x c b n ms whitespace u gap space node more 
       ∙ sym (text-ascii (123 ∷ []) (pair_text w key g x c b) k (IsAscii-one 123 (omega arith)));
 }
 
--- ---- a document of one value
+-- ---- a text of one value
 
 pub node_parses : (r : Reading) (high : ℕ) (b : List ℕ) (n : Node) → high ≤ r.depth → NodeSpells r high b n
     → Parses r (chars b) (alone n)

@@ -24,7 +24,7 @@ use Rattle.jzon.proofs.Texts.Runs.{Meets, Follows}
 
 -- ---- bytes
 
--- the bytes of one item and of those behind it
+-- the bytes of one item and of those after it
 pub bytes-more : (bs : List ℕ) (i : Item) (is : List Item)
     → bs ++ bytes_of (i ∷ is) ≡ (bs ++ encode_utf8_all (item_text i)) ++ bytes_of is
 unfolding bytes_of
@@ -39,7 +39,7 @@ bytes-none bs = append-nil bs
 pub bytes-one : (bs : List ℕ) (c : ℕ) → bs ++ encode_utf8_all (c ∷ []) ≡ bs ++ encode_utf8 c
 bytes-one bs c = ap (λ z. bs ++ z) (append-nil (encode_utf8 c))
 
--- ---- how many characters
+-- ---- lengths in characters
 
 length-plain : (cs : List ℕ) (k : List Cell) → length (plain cs k) ≡ length cs + length k
 length-plain [] k = omega arith
@@ -93,7 +93,7 @@ module _ (r : Reading) (G : Outcome → Type 0) (role : Role) (bs : List ℕ) wh
   read_second u (suc n) v (c ∷ []) m q ok h = absurd ok.1
   read_second u (suc n) v (c ∷ d ∷ es) m q ok h = rw (ok.0) (refl, read_second u n (add_hex v c) (d ∷ es) m q ok.1 h)
 
-  -- b: the bytes of the pair, if it is one
+  -- b: the bytes of the surrogate pair, if it is one
   meets_pair : (t : Bool) (u v : ℕ) (q : List Cell)
       → Follows r G q (string role (bs ++ encode_utf8_all (if t then pair_char u v ∷ [] else [])) between)
       → Meets (paired t role bs u v) (breach_if (not t) pair) (λ p. Follows r G q p)

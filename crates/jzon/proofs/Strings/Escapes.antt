@@ -1,4 +1,4 @@
--- Escapes of a string, by the bytes of a text: a simple one, one of four digits, and the second of a surrogate pair.
+-- Escapes of a string, by the bytes of a text: a simple one, one of four digits, and the second one after a surrogate.
 use Rattle.std.proofs.Common.{◌≡◌, ℕ, ◌+◌, ◌<◌, Bool, true, false, cond, List, ◌++◌, length, drop, get_or, refl, ap}
 use Rattle.std.proofs.Common.{subst, ◌∙◌, arith, None}
 use Rattle.std.specs.Prelude.{chars, IsUtf8, encode_utf8, ◌==◌}
@@ -13,7 +13,7 @@ use Rattle.jzon.specs.Machine.{Role, Move, string, between, slash, code, second,
 use Rattle.jzon.specs.Machine.{move_slash, outcome_on, from, stopped}
 use Rattle.jzon.proofs.Strings.StringSteps.{Expects, byte_moves, byte_stops, expected_byte, unexpected_byte}
 
--- ---- behind a backslash
+-- ---- after a backslash
 
 pub simple_is_ascii : (c : ℕ) → is_simple c ≡ true → (c < 128) × ((c == 117) ≡ false)
 simple_is_ascii c h = (grind (arith, nat_tests), grind (arith, nat_tests))
@@ -41,7 +41,7 @@ pub digits_begin : (r : Reading) (role : Role) (xs bs : List ℕ) (i : ℕ) → 
     → from r bs (string role xs slash) i ≡ from r bs (string role xs (code 3 0)) (i + 1)
 digits_begin r role xs bs i u at lt e = byte_moves r (string role xs slash) bs i 117 u at lt e (omega arith)
 
--- another character, or none, goes on in no text
+-- with another character, or none, no text goes on
 no_letter : (role : Role) (xs : List ℕ) (c : ℕ) → (c ≡ 117 → ⊥) → (is_simple c ≡ true → ⊥) → move_slash role xs c ≡ bad
 no_letter role xs c no_u no_simple =
     either (c == 117) (is_simple c) _ _ _ (grind (arith, nat_tests))
@@ -56,7 +56,7 @@ escape_stops r role xs bs i u at no_u no_simple =
     no_letter role xs c (λ e. no_u (b.within, b.byte (omega (arith, e)) ∙ e))
     (λ e. no_simple (b.within, ap is_simple (b.byte (simple_is_ascii c e).0) ∙ e)))
 
--- ---- the second escape of a pair
+-- ---- the second escape after a surrogate
 
 pub expects_backslash : (r : Reading) (role : Role) (xs : List ℕ) (u : ℕ)
     → Expects r (string role xs (second u)) 92 (string role xs (second_slash u))
@@ -84,7 +84,7 @@ second_digits_boundary bs i text two =
     subst (IsCharBoundary bs) (let e : i + 1 + 1 ≡ i + 2 = omega arith in e)
     (IsCharBoundary-after_ascii bs (i + 1) text two.0 (omega (arith, two.1)))
 
--- no backslash stands behind a surrogate, and no `u` behind the backslash
+-- no backslash follows a surrogate, or no `u` follows the backslash
 pub second_stops : (r : Reading) (role : Role) (xs bs : List ℕ) (u i : ℕ) → IsUtf8 bs → IsCharBoundary bs i
     → ((i < length bs) × (get_or bs i 0 ≡ 92) → ⊥)
     → from r bs (string role xs (second u)) i ≡ stopped (chars (drop i bs))

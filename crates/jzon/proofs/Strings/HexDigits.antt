@@ -24,7 +24,7 @@ pub record ReadsHex (r : Reading) (at : ℕ → ℕ → Place) (done : ℕ → M
   pub stops : (n u c left : ℕ) → is_ascii_hexdigit c ≡ false → move r (at n u) c left ≡ bad
   pub unfinished : (n u : ℕ) → last (at n u) ≡ refused fault.end []
 
--- the digits of an escape, and those of the second one of a pair
+-- the digits of an escape, and those of the second escape of two
 pub code_reads : (r : Reading) (role : Role) (xs : List ℕ)
     → ReadsHex r (λ n u. string role xs (code n u)) (λ u. go None (coded (is_surrogate u) role xs u))
 code_reads r role xs = record {
@@ -44,7 +44,7 @@ second_code_reads r role xs first = record {
   unfinished = λ n u. refl;
 }
 
--- what the text comes to from byte i on with n digits missing; with none, the last one is before i
+-- the outcome of the text from byte i on with n digits missing; with none missing, the last one is before i
 abbrev pub hex_left : Reading → (ℕ → ℕ → Place) → (ℕ → Move) → List ℕ → ℕ → ℕ → ℕ → Outcome
 hex_left r at done bs zero u i = outcome_on (done u) (λ p. from r bs p i) (chars (drop (i - 1) bs))
 hex_left r at done bs (suc n) u i = from r bs (at n u) i
@@ -52,7 +52,7 @@ hex_left r at done bs (suc n) u i = from r bs (at n u) i
 hex_is_ascii : (b : ℕ) → is_ascii_hexdigit b ≡ true → b < 128
 hex_is_ascii b h = grind (arith, nat_tests)
 
--- a digit stands there
+-- the next byte is a digit
 pub hex_read : (r : Reading) (at : ℕ → ℕ → Place) (done : ℕ → Move) (bs : List ℕ) (n u i : ℕ) → ReadsHex r at done
     → IsUtf8 bs → IsCharBoundary bs i → i < length bs → is_ascii_hexdigit (get_or bs i 0) ≡ true
     → hex_left r at done bs (suc n) u i ≡ hex_left r at done bs n (add_hex u (get_or bs i 0)) (i + 1)
@@ -67,7 +67,7 @@ hex_read r at done bs (suc n) u i h text here lt e =
     ∙ ap (λ m. outcome_on m (λ p. from r bs p (i + 1)) (chars (drop i bs)))
     (h.more n u (get_or bs i 0) (left_at bs i) e)
 
--- none stands there
+-- the next byte isn't a digit
 pub hex_missing : (r : Reading) (at : ℕ → ℕ → Place) (done : ℕ → Move) (bs : List ℕ) (n u i : ℕ) → ReadsHex r at done
     → IsUtf8 bs → IsCharBoundary bs i → ((i < length bs) × (is_ascii_hexdigit (get_or bs i 0) ≡ true) → ⊥)
     → hex_left r at done bs (suc n) u i ≡ stopped (chars (drop i bs))
@@ -78,7 +78,7 @@ hex_missing r at done bs n u i h text here none =
 
 -- ---- the number so far
 
--- What is read from the first of four digits on, up to byte i, at each state that reads them.
+-- The part of the four digits from `start` on up to byte i has been read, in each state that reads digits.
 pub record HexRead (bs : List ℕ) (start i u : ℕ) : Type 0 where
   pub boundary : IsCharBoundary bs i
   pub small : u < 16 ^ (i - start)
@@ -95,7 +95,7 @@ hex_begun bs start here = record {
 pub hex_is_below_16 : (b : ℕ) → is_ascii_hexdigit b ≡ true → digit_value b < 16
 hex_is_below_16 b h = grind (arith, nat_tests)
 
--- one digit more
+-- one more digit
 pub hex_more : (bs : List ℕ) (start i u : ℕ) → HexRead bs start i u → IsUtf8 bs → start ≤ i → i < start + 4
     → i < length bs → is_ascii_hexdigit (get_or bs i 0) ≡ true → HexRead bs start (i + 1) (add_hex u (get_or bs i 0))
 hex_more bs start i u k text low high lt e = record {
@@ -109,7 +109,7 @@ hex_more bs start i u k text low high lt e = record {
       ∙ hex_read r at done bs (4 - (i + 1 - start)) u i h text k.boundary lt e;
 }
 
--- no digit more
+-- no further digit
 pub hex_stops : (r : Reading) (bs : List ℕ) (start i u : ℕ) (at : ℕ → ℕ → Place) (done : ℕ → Move)
     → HexRead bs start i u → ReadsHex r at done → IsUtf8 bs
     → start ≤ i → i < start + 4 → ((i < length bs) × (is_ascii_hexdigit (get_or bs i 0) ≡ true) → ⊥)

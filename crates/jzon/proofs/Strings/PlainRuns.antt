@@ -1,4 +1,4 @@
--- Runs of bytes that are in a string as they are: the automaton adds them to the string.
+-- Runs of unescaped bytes in a string: the automaton adds them to the string.
 use Rattle.std.proofs.Common.{◌≡◌, ℕ, ◌+◌, ◌<◌, ◌≤◌, Bool, true, false, cond, List, [], ◌∷◌, ◌++◌, length, take, drop}
 use Rattle.std.proofs.Common.{get_or, refl, sym, ap, subst, ◌∙◌, inl, inr, arith, append_assoc, append-nil}
 use Rattle.std.proofs.Common.{take-append-drop, length-append, None}
@@ -30,7 +30,7 @@ plain_ascii c s h = rw s h
 pub plain_wide : (c : ℕ) → scalar c ≡ true → 128 ≤ c → is_unescaped c ≡ true
 plain_wide c s h = rw s (grind (arith, nat_tests))
 
--- a character is plain where its bytes are
+-- a character is plain if its bytes are
 plain_first : (c : ℕ) (xs : List ℕ) → scalar c ≡ true → ArePlain (encode_utf8 c ++ xs) → is_unescaped c ≡ true
 plain_first c xs s h =
     elim (cases_lt c 128) [
@@ -54,7 +54,7 @@ plain_move r role bs c left h =
     let parts = and_parts (scalar c && nat_le 32 c) (not (c == 34 || c == 92)) h in
     third (c == 34) (c == 92) (is_unescaped c) _ _ _ _ (grind (arith, nat_tests)) (grind (arith, nat_tests)) h
 
--- plain characters add their bytes to the text
+-- plain characters add their bytes to the string
 read_plain : (r : Reading) (role : Role) (bs cs rest : List ℕ) → scalars cs ≡ true → ArePlain (encode_utf8_all cs)
     → outcome r (cs ++ rest) (string role bs between) ≡ outcome r rest (string role (bs ++ encode_utf8_all cs) between)
 read_plain r role bs [] rest s h = ap (λ z. outcome r rest (string role z between)) (sym (append-nil bs))
@@ -88,7 +88,7 @@ run_is_plain bs i n e = λ k lt.
     subst (λ z. is_plain z ≡ true) (sym (get_or-take n (drop i bs) k 0 less))
     (prefix_len_passes is_plain (drop i bs) k 0 (omega (arith, less, e)))
 
--- the bytes of the run are added to the text, whole
+-- the bytes of the run are added to the string, all of them
 pub plain_run : (r : Reading) (role : Role) (xs bs : List ℕ) (i n : ℕ) → IsUtf8 bs → IsCharBoundary bs i
     → n ≡ prefix_len is_plain (drop i bs)
     → from r bs (string role xs between) i ≡ from r bs (string role (xs ++ slice_range bs i (i + n)) between) (i + n)
@@ -107,7 +107,7 @@ plain_run r role xs bs i n u at e =
     ∙ read_plain r role xs (chars run) (chars (drop (i + n) bs)) (scalars-chars run text) plain
     ∙ ap (λ z. outcome r (chars (drop (i + n) bs)) (string role (xs ++ z) between)) (encodes-chars run text)
 
--- no backslash stands in the run
+-- no backslash is in the run
 pub plain_no_escape : (bs : List ℕ) (i n : ℕ) → n ≡ prefix_len is_plain (drop i bs)
     → Contains (slice_range bs i (i + n)) 92 → ⊥
 plain_no_escape bs i n e (k, lt, found) =

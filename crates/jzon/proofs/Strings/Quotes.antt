@@ -28,7 +28,7 @@ quote_closes r role xs bs i u at lt e =
     ∙ ap (λ k. outcome_on (closed_string r role xs (left_at bs k)) (λ p. from r bs p (i + 1)) (chars (drop k bs)))
     (let back : i ≡ i + 1 - 1 = omega arith in back)
 
--- a boundary of characters is after it
+-- a character boundary is after it
 pub quote_ends : (bs : List ℕ) (i : ℕ) → IsUtf8 bs → IsCharBoundary bs i → (i < length bs) × (get_or bs i 0 ≡ 34)
     → EndsAtQuote bs i (i + 1)
 quote_ends bs i u at here =
@@ -45,7 +45,7 @@ pub backslash_begins : (r : Reading) (role : Role) (xs bs : List ℕ) (i : ℕ) 
     → from r bs (string role xs between) i ≡ from r bs (string role xs slash) (i + 1)
 backslash_begins r role xs bs i u at lt e = byte_moves r (string role xs between) bs i 92 u at lt e (omega arith)
 
--- another byte that is not plain, or none, goes on in no text
+-- with another byte that isn't plain, or none, no text goes on
 no_quote : (r : Reading) (role : Role) (xs : List ℕ) (c left : ℕ) → is_plain c ≡ false → (c ≡ 34 → ⊥)
     → (c ≡ 92 → ⊥) → move_between r role xs c left ≡ bad
 no_quote r role xs c left h no34 no92 =
@@ -62,7 +62,7 @@ string_stops r role xs bs i u at no_plain no_escape no_end =
     no_quote r role xs c (left_at bs i) (ap is_plain same ∙ plain) (λ e. no_end (b.within, sym same ∙ e))
     (λ e. no_escape b.within (sym same ∙ e)))
 
--- behind the closing quote of a key that is not refused, and of one that is
+-- after the closing quote of a key that isn't rejected, and of one that is
 pub key_goes : (r : Reading) (bs : List ℕ) (fs : Frames) (es : Entries) (opened : ℕ) (k : List ℕ) (i : ℕ)
     → (r.strict && is_some (find k es)) ≡ false
     → from_closed r bs (as_key fs es opened) k i ≡ from r bs (after_key fs es k) i

@@ -1,6 +1,6 @@
--- Sound, for strings (`string_on`): where the automaton goes to a value from inside a string, what is left begins with
--- the rest of a string, `Left`, and goes on as is allowed after its closing quote. One character more, from what is so
--- after that character.
+-- Sound, for strings (`string_on`): if the automaton goes to a value from inside a string, the rest of the text begins
+-- with the rest of a string, `Left`, and continues with what is allowed after its closing quote. Shown for one more
+-- character, given the statement for the text after it.
 use Rattle.std.proofs.Common.{◌≡◌, ◌∙◌, ◌⊎◌, ℕ, zero, suc, List, [], ◌∷◌, ◌++◌, length, Bool, true, false, cond, ◌&&◌}
 use Rattle.std.proofs.Common.{◌==◌, None, inl, inr, refl, sym, subst, ap, eqb-true, encode_utf8, encode_utf8_all}
 use Rattle.std.proofs.Common.{append-nil}
@@ -61,7 +61,7 @@ module _ (r : Reading) (v : Value) (role : Role) (Closed : List ℕ → List ℕ
   Left (second_slash w) bs t = SecondSlash bs w t
   Left (second_code w n u) bs t = SecondCode bs w n u t
 
-  -- ---- one item more
+  -- ---- one more item
 
   item_more : (i : Item) (bs t : List ℕ) → IsItem i → ItemsLeft (bs ++ encode_utf8_all (item_text i)) t
       → ItemsLeft bs (item_chars i t)

@@ -1,5 +1,5 @@
 -- One move by the character at an offset, which may be past ASCII: it goes on with an ASCII character (`byte_moves`),
--- with one that the state alone expects (`expected_byte`), or with none (`byte_stops`).
+-- with the only one that the state expects (`expected_byte`), or with none (`byte_stops`).
 use Rattle.std.proofs.Common.{◌≡◌, ℕ, suc, ◌+◌, ◌<◌, cond, List, [], ◌∷◌, length, drop, get_or, refl, ap, subst, sym}
 use Rattle.std.proofs.Common.{◌∙◌, arith, drop-cons, add-one, None, eq-eqb, eqb-true}
 use Rattle.std.specs.Prelude.{chars, IsUtf8, encode_utf8, encode_utf8_all, ◌++◌, ◌==◌}
@@ -15,7 +15,7 @@ use Rattle.jzon.proofs.Texts.AsciiRuns.{chars-ascii}
 use Rattle.jzon.proofs.Texts.StepsByByte.{stop_on}
 use Rattle.jzon.proofs.Containers.LiteralLetters.{text_of_first}
 
--- what is left from a byte on
+-- the rest from a byte on
 pub drop_byte : (bs : List ℕ) (i b : ℕ) → i < length bs → get_or bs i 0 ≡ b → drop i bs ≡ b ∷ drop (i + 1) bs
 drop_byte bs i b lt e = drop-cons bs i 0 lt ∙ ap (λ z. z ∷ drop (suc i) bs) e
     ∙ ap (λ n. b ∷ drop n bs) (sym (add-one i))
@@ -59,14 +59,14 @@ byte_moves r p bs i b u at lt e ascii =
     ap (λ cs. outcome r cs p) first ∙ ap (λ rest. outcome_on (move r p b (length rest))
     (λ q. outcome r (chars (drop (i + 1) bs)) q) rest) (sym first)
 
--- no character that may begin there goes on
+-- no character that may begin there lets the text go on
 pub byte_stops : (r : Reading) (p : Place) (bs : List ℕ) (i : ℕ) → IsUtf8 bs → IsCharBoundary bs i
     → last p ≡ refused fault.end []
     → ((c : ℕ) → Begins bs i c → move r p c (left_at bs i) ≡ bad) → from r bs p i ≡ stopped (chars (drop i bs))
 unfolding from
 byte_stops r p bs i u at end h = stop_on r (chars (drop i bs)) p end (λ c cs e. h c (begins bs i c cs u at e))
 
--- a state that goes on with one ASCII character alone
+-- a state in which only one ASCII character lets the text go on
 pub record Expects (r : Reading) (p : Place) (b : ℕ) (q : Place) : Type 0 where
   pub ascii : b < 128
   pub moves : (c n : ℕ) → move r p c n ≡ cond (c == b) (go None q) bad

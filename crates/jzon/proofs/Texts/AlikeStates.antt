@@ -1,8 +1,8 @@
--- Alike states. A state inside a name of a member keeps how many characters were left at its opening quote, so two
--- texts with one prefix, but of other lengths, come to states that differ in that count alone: they are `Alike`, have
--- one closing text (`closer-alike`), and move alike (`moves_alike`).
--- And depth: a depth breach is at the first element or name in a container too many, so the state before that says
--- whether one may come (`IsDeep`). It may where a move has that mark (`deep_of_go`) or is `bad_deep`
+-- Alike states. A state inside a member's name keeps how many characters were left at its opening quote, so two texts
+-- of different lengths with a common prefix lead to states that differ in that count only: they are `Alike`, have the
+-- same closing text (`closer-alike`), and move alike (`moves_alike`).
+-- And depth: a depth breach is at the first element or name in a container too many, so the state before that decides
+-- whether there can be one (`IsDeep`). There can if a move has that mark (`deep_of_go`) or is `bad_deep`
 -- (`deep_of_bad_deep`); then no move is `bad` (`deep_not_bad`), and some move has that mark (`deep_some`).
 use Rattle.std.proofs.Common.{◌≡◌, ℕ, zero, suc, ◌+◌, ◌-◌, List, [], ◌∷◌, Bool, true, false, cond, ◌==◌, nat_le, Option}
 use Rattle.std.proofs.Common.{Some, None, refl, subst, ap, ◌∙◌, arith}
@@ -51,7 +51,7 @@ next_mark r _ = None
 abbrev pub IsDeep : Reading → Place → Type 0
 IsDeep r p = next_mark r p ≡ Some deep
 
--- what does not speak of how many characters are left is the same at alike states
+-- a function that doesn't depend on how many characters are left is the same on alike states
 role_same : {A : Type 0} (f : Place → A) (i j : ℕ) (role : Role) (bs : List ℕ) (x : TextPlace) (q : Place)
     → ((fs : Frames) (es : Entries) (m n : ℕ) → f (string (as_key fs es m) bs x) ≡ f (string (as_key fs es n) bs x))
     → AlikeKey i j role bs x q → f (string role bs x) ≡ f q
@@ -70,15 +70,15 @@ pub mark-alike : (r : Reading) (i j : ℕ) (p q : Place) → Alike i j p q → n
 mark-alike r i j (string role bs x) q h = role_same (next_mark r) i j role bs x q (λ fs es m n. refl) h
 mark-alike r i j _ q h = ap (next_mark r) h
 
--- ---- what each move tells
+-- ---- what each move says of the state's mark
 
 -- the state isn't inside a key
 abbrev Keyless : Place → Type 0
 Keyless (string (as_key fs es opened) bs x) = ⊥
 Keyless _ = ⊤
 
--- Where this is the mark of the state: a move has a depth breach or is `bad_deep` only if the mark is one, it is `bad`
--- only if it is none, and K holds of the next state.
+-- For a state with this mark: a move has a depth breach or is `bad_deep` only if the mark is one, it is `bad` only if
+-- the mark is none, and K holds of the next state.
 abbrev Tells : (Place → Type 0) → Option Breach → Move → Type 0
 Tells K m (go m' p) = (m' ≡ Some deep → m ≡ Some deep) × K p
 Tells K m bad = m ≡ Some deep → ⊥
@@ -116,7 +116,7 @@ key_bad : (r : Reading) (fs : Frames) (es : Entries) → Tells (λ p. ⊤) (key_
 key_bad r fs [] = bad_tells (λ p. ⊤) (nat_le r.depth (frames_depth fs))
 key_bad r fs (e ∷ es) = λ e. cc
 
--- an empty array closes: where a value may begin too
+-- an empty array may close where a value may begin
 array_tells : (r : Reading) (fs : Frames) → Tells Keyless (value_mark r fs) (move_empty_array fs)
 array_tells r no_frames = λ e. cc
 array_tells r (array_frame fs []) = (unmarked _, tt)
@@ -199,7 +199,7 @@ numeral_tells (exponent ws ds l s xs) digits fs negative c = (unmarked _, tt)
 numeral_tells (exponent ws ds l s xs) class fs negative c =
     behind_tells class fs (number_value negative ws ds (exponent_of l s (onto xs [])))
 
--- Of strings K is what holds of each state inside and after them.
+-- For strings: K holds of each state inside and after them.
 module _ (r : Reading) (K : Place → Type 0) (role : Role)
     (inside : (bs : List ℕ) (x : TextPlace) → K (string role bs x)) where
   code_tells : (bs : List ℕ) (n u c : ℕ) → Tells K None (move_code role bs n u c)
@@ -267,7 +267,7 @@ deep_of_bad_deep r p c left e = subst (λ z. Tells (λ q. ⊤) (next_mark r p) z
 pub deep_not_bad : (r : Reading) (p : Place) (c left : ℕ) → IsDeep r p → move r p c left ≡ bad → ⊥
 deep_not_bad r p c left h e = subst (λ z. Tells (λ q. ⊤) (next_mark r p) z) e (tells r p c left) h
 
--- some character goes on with a container too many
+-- with some character the text goes on with one container too many
 pub deep_some : (r : Reading) (p : Place) (left : ℕ) → IsDeep r p
     → (c : ℕ) × (s : Place) × (move r p c left ≡ go (Some deep) s)
 deep_some r (before fs) left h =

@@ -1,5 +1,5 @@
--- What is returned for a text by a parser that returns what the automaton makes of it (`answers_of`): a value that the
--- text means, or its error. And the error of one text, by computation (`refused_error`).
+-- The result of a parser that returns the automaton's outcome (`answers_of`): the value that the text means, or its
+-- error. And the error of one text, by computation (`refused_error`).
 use Rattle.std.proofs.Common.{inl, inr, ◌≡◌, ℕ, ◌-◌, List, length, Result, Ok, Err, subst, sym, ◌∙◌, refl}
 use Rattle.jzon_base.specs.declared.error.Error.{Error}
 use Rattle.jzon_base.specs.declared.error.Error.TheVariants.{ExceededDepthLimit}

@@ -1,4 +1,4 @@
--- Runs of ASCII bytes of a text, as whitespace and digits are: what is left of the text after them.
+-- Runs of ASCII bytes of a text, such as whitespace and digits, and the rest of the text after them.
 use Rattle.std.proofs.Common.{◌≡◌, ℕ, suc, ◌+◌, ◌<◌, ◌≤◌, Bool, true, false, cond, List, [], ◌∷◌, ◌++◌, length, drop}
 use Rattle.std.proofs.Common.{add-one, drop-cons, get_or, refl, sym, ap, subst, ◌∙◌, arith, None}
 use Rattle.std.specs.Prelude.{chars, IsUtf8}
@@ -22,7 +22,7 @@ chars-ascii b bs u lt = chars_past_char (b ∷ bs) bs b u (ap (λ z. z ++ bs) (s
 pub IsUtf8-past_ascii : (b : ℕ) (bs : List ℕ) → IsUtf8 (b ∷ bs) → b < 128 → IsUtf8 bs
 IsUtf8-past_ascii b bs u lt = IsUtf8-past_char (b ∷ bs) bs b u (ap (λ z. z ++ bs) (sym (encode_ascii b lt)))
 
--- at this state the characters that pass the test, all ASCII, are passed over
+-- in this state the characters that pass the test, all ASCII, are skipped
 pub record Skips (r : Reading) (p : Place) (test : ℕ → Bool) : Type 0 where
   pub ascii : (c : ℕ) → test c ≡ true → c < 128
   pub stays : (c n : ℕ) → test c ≡ true → move r p c n ≡ go None p
@@ -68,7 +68,7 @@ behind_skips r fs v = record { ascii = space_is_ascii r.strict; stays = λ c n e
 
 -- ---- by the index of a byte
 
--- what is left is the same behind a run of bytes that are passed over
+-- the outcome of the rest is the same after a run of bytes that are skipped
 pub from_skip : (r : Reading) (p : Place) (test : ℕ → Bool) (bs : List ℕ) (i n : ℕ) → Skips r p test → IsUtf8 bs
     → IsCharBoundary bs i → n ≡ prefix_len test (drop i bs) → from r bs p i ≡ from r bs p (i + n)
 unfolding from
@@ -97,7 +97,7 @@ boundary_skip r p test bs i n h u at e =
     IsCharBoundary-from_drop bs (i + n) (within_run test bs i n at.0 e)
     (subst IsUtf8 (ap (λ m. drop m (drop i bs)) (sym e) ∙ drop-drop n i bs) k)
 
--- the byte behind a run doesn't pass the test
+-- the byte after a run doesn't pass the test
 pub stops_run : (test : ℕ → Bool) (bs : List ℕ) (i n : ℕ) → n ≡ prefix_len test (drop i bs) → i + n < length bs
     → test (get_or bs (i + n) 0) ≡ false
 stops_run test bs i n e lt =
@@ -105,7 +105,7 @@ stops_run test bs i n e lt =
     subst (λ c. test c ≡ false) (ap (λ m. get_or (drop i bs) m 0) (sym e) ∙ get_or-drop i bs n 0)
     (prefix_len_stops test (drop i bs) 0 k)
 
--- ---- whitespace alone
+-- ---- only whitespace
 
 above_is_no_space : (s : Bool) (c : ℕ) → 32 < c → is_whitespace s c ≡ false
 above_is_no_space true c lt = grind (arith, nat_tests)

@@ -1,5 +1,5 @@
--- Closing: from each state a text leads to an end (`closes`). The text is computed by `closer` from the state alone:
--- the digit or letter that is missing, a quote, a value, and the brackets that close what is open. It may break limits.
+-- Closing: from each state some text leads to an end (`closes`). The text is computed by `closer` from the state alone:
+-- the missing digit or letter, a quote, a value, and the brackets that close the open containers. It may break limits.
 use Rattle.std.proofs.Common.{◌≡◌, ℕ, zero, suc, List, [], ◌∷◌, ◌++◌, codes, refl, Bool, true, false, None, ◌&&◌}
 use Rattle.std.proofs.Common.{eq-eqb}
 use Rattle.jzon_base.specs.PairList.{put}
@@ -36,7 +36,7 @@ abbrev pub zeros : ℕ → List ℕ → List ℕ
 zeros zero t = t
 zeros (suc n) t = 48 ∷ zeros n t
 
--- the code unit with n zeros more
+-- the code unit with n more zeros
 abbrev pub with_zeros : ℕ → ℕ → ℕ
 with_zeros zero u = u
 with_zeros (suc n) u = with_zeros n (add_hex u 48)
@@ -67,7 +67,7 @@ closer (after_key fs es k) = codes ":null}" ++ brackets fs
 closer (behind fs v) = brackets fs
 
 module _ (r : Reading) where
-  -- the text comes to some value
+  -- the outcome of the text is some value
   abbrev Ends : List ℕ → Place → Type 0
   Ends t p = (v : Value) × Goes r v t p
 
@@ -103,7 +103,7 @@ module _ (r : Reading) where
       let h = ends_behind fs (value.object (pairs_of (put k v es))) in
       (h.0, rw (class-char r.strict closes_object) (rw g h.1))
 
-  -- where a digit is wanted
+  -- a digit is missing
   ends_zero : (fs : Frames) (negative : Bool) (x : NumberPlace) (p : Place)
       → move_numeral x digits fs negative 48 ≡ go None p → Ends (brackets fs) p
       → Ends (48 ∷ brackets fs) (numeral fs negative x)
@@ -163,7 +163,7 @@ module _ (r : Reading) where
   ends_string (second_slash w) role bs = ends_second_code role bs w 3 0
   ends_string (second_code w n u) role bs = ends_second_code role bs w n u
 
-  -- ---- words
+  -- ---- literals
 
   ends_word : (fs : Frames) (x : Value) (ls : List ℕ) → Ends (ls ++ brackets fs) (past_letter fs x ls)
   ends_word fs x [] = ends_behind fs x

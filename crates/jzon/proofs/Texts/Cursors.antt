@@ -1,5 +1,5 @@
--- From one offset of the parser's cursor to another: what the automaton makes of what was left, from the old state, is
--- what it makes of what is left now, from the new state.
+-- From one offset of the parser's cursor to a later one: the outcome of the rest of the text in the old state is the
+-- outcome of what is left now in the new state.
 use Rattle.std.proofs.Common.{◌≡◌, ℕ, ◌+◌, ◌<◌, ◌≤◌, List, true, refl, sym, subst, ◌∙◌, arith, Result, Ok, Err}
 use Rattle.std.specs.Prelude.{chars, IsUtf8}
 use Rattle.std.proofs.lemmas.Str.{IsUtf8-had}
@@ -13,19 +13,19 @@ use Rattle.jzon.proofs.Texts.ReportedErrors.{told_again}
 pub utf8_of : (t : Cursor) → IsUtf8 t.source.now
 utf8_of t = IsUtf8-had _ t.utf8
 
--- after a token that the automaton reads so
+-- after a token over which the automaton goes from p to q
 pub token_goes : (t u : Cursor) (p q : Place) (end : ℕ) → IsPast t.reading t.source.now end u → t.index < end
     → allows_whitespace q ≡ true → left t p ≡ from t.reading t.source.now q end → IsBehind t u × (left t p ≡ left u q)
 token_goes t u p q end past lt allows e =
     (record { text = past.text; reading = past.reading; index = omega (arith, past.within) }, e ∙ past.same q allows)
 
--- the same of one byte
+-- the same for one byte
 pub byte_goes : (t u : Cursor) (p q : Place) → IsPast t.reading t.source.now (t.index + 1) u
     → allows_whitespace q ≡ true
     → left t p ≡ from t.reading t.source.now q (t.index + 1) → IsBehind t u × (left t p ≡ left u q)
 byte_goes t u p q past allows e = token_goes t u p q (t.index + 1) past (omega arith) allows e
 
--- What was left of a text comes to the same as what is left here, at the old offset or after it.
+-- The outcome of what was left of a text is the outcome of what is left here, at the old offset or after it.
 pub record Reached (t : Cursor) (o : Place) (m : Cursor) (p : Place) : Type 0 where
   pub text : m.source.now ≡ t.source.now
   pub reading : m.reading ≡ t.reading
@@ -38,7 +38,7 @@ reached_start t o = record { text = refl; reading = refl; within = omega arith; 
 pub reached : (t m : Cursor) (o p : Place) → IsBehind t m × (left t o ≡ left m p) → Reached t o m p
 reached t m o p h = record { text = h.0.text; reading = h.0.reading; within = omega (arith, h.0.index); same = h.1 }
 
--- a step more
+-- one more step
 pub goes_behind : (t m u : Cursor) (o p q : Place) → Reached t o m p → IsBehind m u × (left m p ≡ left u q)
     → IsBehind t u × (left t o ≡ left u q)
 goes_behind t m u o p q h k = (
@@ -56,7 +56,7 @@ pub goes_on : {A : Type 0} (t m u : Cursor) (o p : Place) (result : Result A Err
 goes_on t m u o p (Ok x) next h k = goes_behind t m u o p (next x) h k
 goes_on t m u o p (Err e) next h k = told_on t m o p e h k
 
--- an error that is handed on
+-- an error that is propagated
 pub fails_on : {A : Type 0} (t m u : Cursor) (o p : Place) (result : Result A Error) (next : A → Place) (e : Error)
     → result ≡ Err e → Reached t o m p → TellsUnlessMemory (chars m.source.now) e (left m p) → GoesOn t o result u next
 fails_on t m u o p result next e is h k = subst (λ z. GoesOn t o z u next) (sym is) (told_on t m o p e h k)

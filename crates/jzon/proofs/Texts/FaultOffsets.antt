@@ -1,4 +1,4 @@
--- The error of a text that stops at an offset, by the bytes before it and after it.
+-- The error of a text that stops at an offset, from the bytes before it and after it.
 use Rattle.std.proofs.Common.{◌≡◌, ℕ, ◌+◌, ◌-◌, ◌≤◌, refl, List, [], ◌∷◌, ◌++◌, length, take, drop, get_or, sym, ap}
 use Rattle.std.proofs.Common.{subst, ◌∙◌, arith, take-append-drop, slice_get, Some}
 use Rattle.std.specs.Prelude.{chars, IsUtf8, slice_range}
@@ -38,7 +38,7 @@ tells_character bs i c l k u at e el ek =
     (stopped (chars (drop i bs)))) (sym split)
     (tells_behind (chars (take i bs)) (chars (drop i bs)) c e))
 
--- what is left from an offset on is what is left behind it and the characters between
+-- the rest from an offset on is the characters between and the rest after them
 left_behind : (bs : List ℕ) (i j : ℕ) → IsUtf8 bs → IsCharBoundary bs i → IsCharBoundary bs j → i ≤ j
     → left_at bs j ≤ left_at bs i
 left_behind bs i j u from to le =
@@ -59,7 +59,7 @@ left_behind bs i j u from to le =
 prefix_of : (f rest : List ℕ) (i : ℕ) → i ≡ length f → take i (f ++ rest) ≡ f
 prefix_of f rest i e = ap (λ k. take k (f ++ rest)) e ∙ take-append_seam f rest
 
--- a repeated key is told at its opening quote, which stands at offset i
+-- a repeated key is reported at its opening quote, at offset i
 pub tells_duplicate : (bs : List ℕ) (i j : ℕ) → IsUtf8 bs → IsCharBoundary bs i → IsCharBoundary bs j → i ≤ j
     → Tells (chars bs) (DuplicateKey (line (chars (take i bs))) (column (chars (take i bs))))
     (refused (limit (duplicate (left_at bs i - left_at bs j))) (chars (drop j bs)))

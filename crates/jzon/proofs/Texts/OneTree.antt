@@ -1,6 +1,6 @@
--- One tree: two trees that spell one text are the same tree (`same_tree`). No automaton is spoken of: two trees are
--- taken apart together, part by part, since the first character of what is left says which part comes next, and the
--- class of the character after a part says where the part ends.
+-- One tree: two trees that spell the same text are equal (`same_tree`). No automaton is involved: two trees are
+-- compared part by part, since the first character of what is left decides which part comes next, and the class of the
+-- character after a part decides where the part ends.
 use Rattle.std.proofs.Common.{◌≡◌, ◌∙◌, ℕ, zero, suc, List, [], ◌∷◌, ◌++◌, Bool, true, false, cond, ◌==◌, Option, Some}
 use Rattle.std.proofs.Common.{None, refl, sym, subst, ap, arith, append-nil}
 use Rattle.std.specs.Prelude.{IsTrue, ⊤}
@@ -62,7 +62,7 @@ module _ (r : Reading) where
       → w ++ t ≡ x ++ u → (w ≡ x) × (t ≡ u)
   same_digits w x t u = same_run digits is_ascii_digit (λ c h. digits-class r.strict c h) w x t u
 
-  -- ---- what may stand behind a value
+  -- ---- what may follow a value
 
   abbrev stops : Class → Bool
   stops whitespace = true
@@ -205,7 +205,7 @@ module _ (r : Reading) where
 
   -- ---- strings
 
-  -- what a text goes on with between two items: the end, a simple escape, an escape of digits, a character
+  -- how a text goes on between two items: with the end, a simple escape, an escape of digits, or a character
   abbrev escape_shape : List ℕ → ℕ
   escape_shape [] = 4
   escape_shape (c ∷ cs) = cond (c == 117) 2 1
@@ -289,7 +289,7 @@ module _ (r : Reading) where
 
   -- ---- values
 
-  -- the class of a value's first character; a minus counts as a digit, and an f as a t
+  -- the class of a value's first character; a minus counts as a digit, and an `f` as a `t`
   abbrev merged : Class → Class
   merged dash = digits
   merged begins_false = begins_true
@@ -393,7 +393,7 @@ module _ (r : Reading) where
           → ◌≡◌ {A = Key} (record { before = a; items = is; after = y }) (record { before = b; items = js; after = z })
       same_parts a b is js y z e f g = rw (e, f, g) refl
 
-  -- an empty container isn't one with something in it
+  -- an empty container isn't one with elements or members
   no_empty_array : (b c t u : List ℕ) (n : Node) → IsWhitespace r b → IsWhitespace r c → IsNode r n
       → b ++ (93 ∷ t) ≡ c ++ node_chars n u → ⊥
   no_empty_array b c t u n ok ko n_ok e =

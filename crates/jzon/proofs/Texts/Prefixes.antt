@@ -1,6 +1,6 @@
--- Prefixes. `Reaches r f left p`: over the prefix f the automaton comes to state p with no mark, where `left`
--- characters are left. Two facts are carried along (`reaches_start`, `reaches_next`): each tree whose text begins with
--- f has no mark inside f, and from a state alike to p the automaton follows its other cells (`onward`, by `complete`);
+-- Prefixes. `Reaches r f left p`: over the prefix f the automaton comes to state p without a mark, with `left`
+-- characters left. Two facts are carried along (`reaches_start`, `reaches_next`): each tree whose text begins with f
+-- has no mark inside f, and from a state alike to p the automaton follows its other cells (`onward`, by `complete`);
 -- and what goes to a value from a state alike to p goes there with f before it (`back`, for `sound`). So f has a
 -- completion (`closed`), and so has f with a character with which the automaton goes on (`closed_next`).
 use Rattle.std.proofs.Common.{◌≡◌, ℕ, suc, List, [], ◌∷◌, ◌++◌, length, Option, None, refl, sym, subst, ap, ◌∙◌}
@@ -34,7 +34,7 @@ pub record Reached (r : Reading) (prefix : List ℕ) (left : ℕ) (p : Place) (o
   pub alike : Alike left other p place
   pub goes : (s : List ℕ) (v : Value) → length s ≡ other → Goes r v s place → Goes r v (prefix ++ s) (before no_frames)
 
--- The automaton goes over the prefix, with no mark, to the state, where `left` characters are left.
+-- The automaton goes over the prefix, without a mark, to the state, with `left` characters left.
 pub record Reaches (r : Reading) (prefix : List ℕ) (left : ℕ) (p : Place) : Type 0 where
   pub onward : (d : Document) (h : Completes r prefix d) → Followed r prefix h.1 left p d
   pub back : (other : ℕ) → Reached r prefix left p other
@@ -87,7 +87,7 @@ next r prefix c left p d reached h =
     let g = reached.onward d (h.0, c ∷ h.1, h.2 ∙ append_assoc prefix (c ∷ []) h.1) in
     next_of r prefix c h.1 left p g.place d g.cells_left g.split g.text g.alike g.follows
 
--- where the text goes on with a mark, or none, the next cell has it
+-- if the text goes on, with a mark or none, the next cell has the same
 meets_go : (r : Reading) (m v : Option Breach) (i j : ℕ) (s : Place) (z w : Move) (F : Place → Type 0) → z ≡ go m s
     → AlikeMove i j z w → Meets w v F → (q : Place) × (v ≡ m) × Alike i j s q × F q
 meets_go r m v i j s z w F e alike h =
@@ -114,7 +114,7 @@ next_bad_deep r prefix c rest left z d n e =
     let w : n.other ≡ bad_deep = subst (λ x. AlikeMove left (length n.cells_left) x n.other) e n.alike in
     subst (λ x. Meets x n.mark (λ s. Follows r (λ o. o ≡ meant (meaning d.node)) n.cells_left s)) w n.meets
 
--- behind one character more, by any mark
+-- after one more character, with any mark
 pub record Onto (r : Reading) (prefix : List ℕ) (c left : ℕ) (s : Place) (other : ℕ) : Type 0 where
   pub place : Place
   pub alike : Alike left other s place
@@ -136,7 +136,7 @@ onto_next r prefix c left p s m reached e other =
           (subst (λ z. On z (λ x. Goes r v t x)) (sym a.1) h));
     }
 
--- one character more, at which no breach stands
+-- one more character, without a breach
 pub reaches_next : (r : Reading) (prefix : List ℕ) (c left : ℕ) (p s : Place) → Reaches r prefix (suc left) p
     → move r p c (suc left) ≡ go None s → Reaches r (prefix ++ (c ∷ [])) left s
 reaches_next r prefix c left p s reached e = record { onward = onward; back = back }
@@ -175,7 +175,7 @@ closed r prefix left p reached =
     (subst (λ t. Goes r g.0 t b.place) (sym (closer-alike left (length (closer p)) p b.place b.alike)) g.1)) in
     (d.0, d.1)
 
--- so is the prefix with the character, where the automaton goes on with it, by any mark
+-- so is the prefix with the character, if the automaton goes on with it, with any mark
 pub closed_next : (r : Reading) (prefix : List ℕ) (c left : ℕ) (p s : Place) (m : Option Breach)
     → Reaches r prefix (suc left) p → move r p c (suc left) ≡ go m s
     → (d : Document) × Spells r (prefix ++ (c ∷ closer s)) d

@@ -137,7 +137,7 @@ abbrev is_meant : Outcome → Bool
 is_meant (meant v) = true
 is_meant (refused f rest) = false
 
--- a text that comes to a value, and a tree that spells it
+-- a text whose outcome is a value, and a tree that spells it
 pub read_spelled : (r : Reading) (t : List ℕ) (d : Document) (o : Outcome) → Verdict r t o
     → IsTrue (is_meant o) → Spells r t d → Parses r t d
 read_spelled r t d (meant v) told m h =

@@ -1,5 +1,5 @@
--- From what the automaton makes of a text to the error that reports it; that error is never `OutOfMemory`, which is
--- returned where an allocation fails.
+-- From the automaton's outcome of a text to the error that reports it; that error is never `OutOfMemory`, which is
+-- returned if an allocation fails.
 use Rattle.std.proofs.Common.{◌≡◌, ◌≢◌, inr, ℕ, suc, ◌-◌, ◌<◌, ◌≤◌, List, [], ◌∷◌, ◌++◌, length, take, drop, drop-cons}
 use Rattle.std.proofs.Common.{get_or, refl, sym, ap, subst, ◌∙◌, arith, Result, Ok, Err}
 use Rattle.std.specs.Prelude.{Contains, chars, IsUtf8, MatchResult}
@@ -17,7 +17,7 @@ use Rattle.jzon.proofs.Texts.FaultOffsets.{chars_split}
 use Rattle.jzon.proofs.Texts.AsciiRuns.{chars-ascii}
 use Rattle.jzon.proofs.Texts.StepsByByte.{from_end}
 
--- an error that tells an outcome tells the same outcome
+-- an error that reports an outcome reports an equal outcome
 pub told : (t : List ℕ) (e : Error) (o p : Outcome) → o ≡ p → Tells t e p → TellsUnlessMemory t e o
 told t e o p q h = inr (subst (Tells t e) (sym q) h)
 
@@ -36,7 +36,7 @@ told_deep t rest o q = told t ExceededDepthLimit o (refused (limit deep) rest) q
 
 -- ---- whole results
 
--- a text that can't go on is refused
+-- a text that can't go on is rejected
 pub stopped_leads : {T : Type 0} (t : List ℕ) (o p : Outcome) (f : T → Outcome) (result : Result T Error) → o ≡ p
     → MatchResult result (λ v. ⊥) (λ e. Tells t e p) → MatchResult result (λ v. o ≡ f v) (λ e. Tells t e o)
 stopped_leads t o p f (Ok v) q h = absurd h
@@ -47,7 +47,7 @@ pub stopped_told : {T : Type 0} (t : List ℕ) (o p : Outcome) (f : T → Outcom
 stopped_told t o p f (Ok v) q h = absurd h
 stopped_told t o p f (Err e) q h = told t e o p q h
 
--- a result that says what an outcome is says what the same outcome is
+-- a result that agrees with an outcome agrees with an equal outcome
 pub same_unless_memory : {T : Type 0} (o p : Outcome) (f : T → Outcome) (t : List ℕ) (result : Result T Error) → o ≡ p
     → MatchResult result (λ v. p ≡ f v) (λ e. TellsUnlessMemory t e p)
     → MatchResult result (λ v. o ≡ f v) (λ e. TellsUnlessMemory t e o)
@@ -62,7 +62,7 @@ same_or_memory o p f t (Err e) q h = told t e o p q h
 
 -- ---- memory
 
--- the error of a text is never that of memory
+-- the error of a text is never `OutOfMemory`
 error_at_memory : (t : List ℕ) (i : ℕ) (f : Fault) → OutOfMemory ≡ error_at t i f → ⊥
 error_at_memory t i (limit deep) e = cc
 error_at_memory t i (limit pair) e = cc

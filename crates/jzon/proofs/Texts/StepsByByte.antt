@@ -40,7 +40,7 @@ from_step r bs i p q c u at lt e ascii m =
     ap (λ s. outcome r (chars s) p) split ∙ step_on r (drop (i + 1) bs) p q c text ascii
     (ap (move r p c) (sym left) ∙ m)
 
--- A state from which no text goes on with the character c, nor ends.
+-- A state in which no text goes on with the character c or ends.
 pub record StopsAt (r : Reading) (p : Place) (bs : List ℕ) (i : ℕ) : Type 0 where
   pub ends : last p ≡ refused Fault.end []
   pub bad : (c : ℕ) → (c < 128 → (i < length bs) × (get_or bs i 0 ≡ c)) → move r p c (left_at bs i) ≡ bad
@@ -50,7 +50,7 @@ pub stop_on : (r : Reading) (cs : List ℕ) (p : Place) → last p ≡ refused F
 stop_on r [] p e h = e
 stop_on r (c ∷ cs) p e h = ap (λ m. outcome_on m (λ q. outcome r cs q) (c ∷ cs)) (h c cs refl)
 
--- the character that stands at an offset, where it is ASCII
+-- the character at an offset, if it is ASCII
 pub byte_there : (bs : List ℕ) (i c : ℕ) (cs : List ℕ) → IsUtf8 bs → IsCharBoundary bs i → chars (drop i bs) ≡ c ∷ cs
     → c < 128 → (i < length bs) × (get_or bs i 0 ≡ c)
 byte_there bs i c cs u at e lt =
@@ -61,7 +61,7 @@ byte_there bs i c cs u at e lt =
           ∙ first_byte (drop i bs) c cs w e lt,
     )
 
--- what holds of the byte that stands at an offset, and of each character past ASCII, holds of the character there
+-- what holds of the byte at an offset, and of each character past ASCII, holds of the character there
 pub by_character : (P : ℕ → Type 0) (bs : List ℕ) (i c : ℕ) → (i < length bs → P (get_or bs i 0))
     → ((x : ℕ) → 128 ≤ x → P x) → (c < 128 → (i < length bs) × (get_or bs i 0 ≡ c)) → P c
 by_character P bs i c here wide there = either (cases_lt c 128)
@@ -84,7 +84,7 @@ pub from_stop : (r : Reading) (bs : List ℕ) (i : ℕ) (p : Place) → IsUtf8 b
 unfolding from
 from_stop r bs i p u at h = stop_on r (chars (drop i bs)) p h.ends (λ c cs e. h.bad c (byte_there bs i c cs u at e))
 
--- what reading a character comes to, where a container too many is open
+-- the result of reading a character that opens one container too many
 abbrev pub IsDeep : Move → Type 0
 IsDeep m = (f : Place → Outcome) (rest : List ℕ) → outcome_on m f rest ≡ refused (limit deep) rest
 
@@ -93,7 +93,7 @@ deep_on : (r : Reading) (cs : List ℕ) (p : Place) → (cs ≡ [] → ⊥)
 deep_on r [] p some h = absurd (some refl)
 deep_on r (c ∷ cs) p some h = h c cs refl (λ q. outcome r cs q) (c ∷ cs)
 
--- some character stands before the end of a text
+-- there is some character before the end of a text
 pub some_character : (bs : List ℕ) (i : ℕ) → IsUtf8 bs → IsCharBoundary bs i → i < length bs → chars (drop i bs) ≡ []
     → ⊥
 some_character bs i u at lt e =
@@ -115,7 +115,7 @@ unfolding from
 from_end r bs i p le = ap (λ cs. outcome r cs p)
     (ap chars (nil_from_length (drop i bs) (omega (arith, length-drop i bs))) ∙ chars-nil)
 
--- a result that says what an outcome is says what the same outcome is
+-- a result that agrees with an outcome agrees with an equal outcome
 pub same_outcome : {T : Type 0} (o p : Outcome) (f : T → Outcome) (t : List ℕ) (result : Result T Error) → o ≡ p
     → MatchResult result (λ v. p ≡ f v) (λ e. Tells t e p) → MatchResult result (λ v. o ≡ f v) (λ e. Tells t e o)
 same_outcome o p f t result e h = subst (λ q. MatchResult result (λ v. q ≡ f v) (λ x. Tells t x q)) (sym e) h

@@ -1,4 +1,4 @@
--- What may follow the value of a whole text: whitespace alone.
+-- What may follow the value of a whole text: only whitespace.
 use Rattle.std.proofs.Common.{◌≡◌, ℕ, ◌<◌, true, false, List, [], ◌∷◌, length, drop, get_or, refl, ap}
 use Rattle.std.specs.Prelude.{chars, IsUtf8}
 use Rattle.std.specs.Str.{IsCharBoundary}
@@ -23,7 +23,7 @@ stopped_on r [] v some h = absurd (some refl)
 stopped_on r (c ∷ cs) v some h =
     ap (λ m. outcome_on m (λ q. outcome r cs q) (c ∷ cs)) (trailing_on r v c (class_of r.strict c) (h c cs refl) refl)
 
--- another character behind the value of a text
+-- another character after the value of a text
 pub trailing_stops : (r : Reading) (bs : List ℕ) (i : ℕ) (v : Value) → IsUtf8 bs → IsCharBoundary bs i → i < length bs
     → is_whitespace r.strict (get_or bs i 0) ≡ false → from r bs (behind no_frames v) i ≡ stopped (chars (drop i bs))
 unfolding from

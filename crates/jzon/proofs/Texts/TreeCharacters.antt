@@ -1,4 +1,5 @@
--- The text of a tree without its marks, part by part, each with what follows; `spells`: it is what `spell` gives.
+-- The text of a tree without its marks, part by part, each with what follows; `spells`: it equals the result of
+-- `spell`.
 use Rattle.std.proofs.Common.{◌≡◌, ◌∙◌, ℕ, List, [], ◌∷◌, ◌++◌, Bool, true, false, Option, Some, None, refl, ap}
 use Rattle.std.proofs.Common.{append-nil}
 use Rattle.std.specs.Prelude.{if◌then◌else◌}

@@ -1,7 +1,7 @@
--- The verdict: what the automaton makes of a text is what its one tree means, or its one first fault (`answers`). One
--- lemma for each way to stop: `accepted`, `limit_fault` (a limit), `bad_deep_fault` (depth, at a character that doesn't
--- go on), `character_fault` (an unexpected character), `end_fault` (the end of the text); `first` says of each that no
--- fault is before it. docs/ARCHITECTURE.md walks through them.
+-- The verdict: the automaton's outcome of a text is what its one tree means, or its one first fault (`answers`). One
+-- lemma for each way to stop: `accepted`, `limit_fault` (a limit), `bad_deep_fault` (depth, at a character with which
+-- no text goes on), `character_fault` (an unexpected character), `end_fault` (the end of the text); `first` says of
+-- each that no fault is before it. docs/ARCHITECTURE.md walks through them.
 use Rattle.std.proofs.Common.{◌≡◌, ◌⊎◌, ℕ, suc, ◌-◌, ◌<◌, ◌≤◌, List, [], ◌∷◌, ◌++◌, length, take, Option, Some, None}
 use Rattle.std.proofs.Common.{inl, inr, refl, sym, subst, ap, ◌∙◌, slice_get, arith, append_assoc, append-nil}
 use Rattle.std.proofs.Common.{length-append, Bool}
@@ -42,7 +42,8 @@ mark_at : (r : Reading) (f : List ℕ) (y : Cell) (q : List Cell) (d : Document)
     → cells r d ≡ plain f (y ∷ q) → slice_get (marks_of (cells r d)) (length f) ≡ Some y.mark
 mark_at r f y q d e = ap (λ z. slice_get (marks_of z) (length f)) e ∙ mark_behind f (y ∷ q)
 
--- no fault is in a prefix over which the automaton came: its closing text completes it, and no tree has a mark there
+-- no fault is in a prefix over which the automaton has gone: its closing text completes it, and no tree has a mark
+-- there
 no_fault_before : (r : Reading) (f u : List ℕ) (left : ℕ) (p : Place) (j : ℕ) (g : Fault) → Reaches r f left p
     → j < length f → IsFault r (f ++ u) j g → ⊥
 no_fault_before r f u left p j g reached lt h =
@@ -88,7 +89,7 @@ goes_on r f u c left p s m reached e =
           (x.1.0, closer s, x.1.1 ∙ sym (append_assoc f (c ∷ []) (closer s))),
     )
 
--- some tree goes on with a container too many
+-- some tree goes on with one container too many
 depth_fault : (r : Reading) (f u : List ℕ) (c x left : ℕ) (p s : Place) → Reaches r f (suc left) p
     → move r p x (suc left) ≡ go (Some deep) s
     → AllBreakAt r (take (suc (length f)) (f ++ (c ∷ u))) deep (length f) → IsDepthFault r (f ++ (c ∷ u)) (length f)
@@ -114,7 +115,7 @@ limit_fault r f u c left p s b reached e =
 
 -- ---- no text goes on with the character
 
--- no text goes on with c, but one goes on with a container too many
+-- no text goes on with c, but some text goes on with one container too many
 bad_deep_fault : (r : Reading) (f u : List ℕ) (c left : ℕ) (p : Place) → Reaches r f (suc left) p
     → move r p c (suc left) ≡ bad_deep → IsFault r (f ++ (c ∷ u)) (length f) (limit deep)
 bad_deep_fault r f u c left p reached e =
@@ -123,7 +124,7 @@ bad_deep_fault r f u c left p reached e =
     let k = subst (λ z. Completes r z d) (take_next f u c) g in
     absurd (next_bad_deep r f c k.1 left (move r p c (suc left)) d (next r f c left p d reached k) e))
 
--- where a move is `bad`, no tree has a container too many: the state would be deep, and no move from there is `bad`
+-- if a move is `bad`, no tree has one container too many: the state would be deep, and no move from there is `bad`
 no_depth_fault : (r : Reading) (f u : List ℕ) (c left : ℕ) (p : Place) → Reaches r f (suc left) p
     → move r p c (suc left) ≡ bad → IsDepthFault r (f ++ (c ∷ u)) (length f) → ⊥
 no_depth_fault r f u c left p reached e (lt, (d, g, b), all) =
@@ -182,7 +183,7 @@ end_fault r f p reached e =
 
 -- ---- the verdict
 
--- A tree that breaks no limit spells the text and means the value; or this is the first fault.
+-- A tree within the limits spells the text and means the value; or this is the first fault.
 abbrev pub Verdict : Reading → List ℕ → Outcome → Type 0
 Verdict r t (meant v) = (d : Document) × Parses r t d × (meaning d.node ≡ v)
 Verdict r t (refused f rest) = IsFirstFault r t (length t - length rest) f
@@ -203,7 +204,7 @@ accepted r f p v reached e =
     let g = (spelled r f p d.0 reached s).1 in
     (d.0, (s, λ i b k. all_unmarked f i b (subst (λ z. slice_get (marks_of z) i ≡ Some (Some b)) g k)), d.2)
 
--- what the end of a text comes to is a value or the fault of the end
+-- the outcome at the end of a text is a value or the fault of the end
 meant_or_end : (fs : Frames) (v : Value)
     → ((w : Value) × (meant_at fs v ≡ meant w)) ⊎ (meant_at fs v ≡ refused Fault.end [])
 meant_or_end no_frames v = inl (v, refl)

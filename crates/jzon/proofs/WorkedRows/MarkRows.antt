@@ -1,5 +1,5 @@
 -- Worked rows of docs/RULES.md, "Depth", "Strings" and "Readings": where trees break a limit, computed from the
--- definitions: a reading, a text, its tree, and each offset at which that breaks a limit.
+-- definitions: a reading, a text, its tree, and each offset at which the tree breaks a limit.
 use Prim.Native.String.{String}
 use Rattle.std.proofs.Common.{◌≡◌, ℕ, ◌+◌, List, [], ◌∷◌, ◌++◌, replicate, All, Option, Some, None, codes}
 use Rattle.std.proofs.Common.{refl, ap}
@@ -12,7 +12,7 @@ use Rattle.jzon.specs.Spelling.{Breach, deep, pair, duplicate, Cell, spell, cell
 use Rattle.jzon.proofs.WorkedRows.Samples.{each_row, shallow, strict_to, alone, one, two, plains, string, key, key_of}
 use Rattle.jzon.proofs.WorkedRows.Samples.{escape, surrogates, array, object, nested, in_turn, spaced}
 
--- offsets and what is broken there
+-- offsets and the breaches there
 abbrev Marks : Type 0
 Marks = List (ℕ × Breach)
 
@@ -20,7 +20,7 @@ abbrev put_mark : ℕ → Option Breach → Marks → Marks
 put_mark i None ms = ms
 put_mark i (Some b) ms = (i, b) ∷ ms
 
--- each mark of these cells, the first of which stands at offset i
+-- each mark of these cells, the first of which is at offset i
 abbrev marks_from : ℕ → List Cell → Marks
 marks_from i [] = []
 marks_from i (x ∷ q) = put_mark i x.mark (marks_from (i + 1) q)
@@ -31,7 +31,7 @@ Row = Reading × List ℕ × Node × Marks
 abbrev spelled : Row → List ℕ × Marks
 spelled (r, t, n, ms) = (spell r (alone n), marks_from 0 (cells r (alone n)))
 
--- the tree has this text and these breaches by this reading
+-- the tree has this text and these breaches in this reading
 abbrev Breaks : Row → Type 0
 Breaks (r, t, n, ms) = (spell r (alone n) ≡ t) × (marks_from 0 (cells r (alone n)) ≡ ms)
 
@@ -54,7 +54,7 @@ rows =
     ∷ row (shallow 0) "{\"a\":1}" (object (key "a") one []) ((1, deep) ∷ [])
     ∷ row (shallow 1) "[[1]]" (array (array one []) []) ((2, deep) ∷ [])
     ∷ row (shallow 1) "[1,{\"a\":2}]" (array one (object (key "a") two [] ∷ [])) ((4, deep) ∷ [])
-    -- behind the whitespace, at the first character
+    -- after the whitespace, at the first character
     ∷ row (shallow 0) "[ \n1]" (Node.array (codes " \n") one [] no_elements) ((3, deep) ∷ [])
     -- each first value too deep, and no other
     ∷ row (shallow 1) "[[1,2],[2]]" (array (array one (two ∷ [])) (array two [] ∷ [])) ((2, deep) ∷ (8, deep) ∷ [])

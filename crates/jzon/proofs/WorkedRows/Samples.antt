@@ -22,7 +22,7 @@ strict_to n = record { strict = true; depth = n }
 
 -- ---- rows
 
--- where two columns of rows are equal, each row has the property that follows
+-- if two columns of rows are equal, each row has the property that follows
 pub each_row : {A B : Type 0} (P : A → Type 0) (f g : A → B) → ((x : A) → f x ≡ g x → P x) → (xs : List A)
     → map f xs ≡ map g xs → All P xs
 each_row P f g law [] e k d lt = absurd (omega arith)
@@ -35,7 +35,7 @@ abbrev pub plains : List ℕ → List Item
 plains [] = []
 plains (c ∷ cs) = plain c ∷ plains cs
 
--- a string of characters that stand for themselves, and a key of such characters with no whitespace round it
+-- a string of unescaped characters, and a key of such characters with no whitespace around it
 abbrev pub string : String → Node
 string s = Node.string (plains (codes s))
 
@@ -89,17 +89,17 @@ members (m ∷ ms) = member m.0 [] m.1 [] (members ms)
 abbrev pub object : Key → Node → List (Key × Node) → Node
 object k n ms = Node.object k [] n [] (members ms)
 
--- n arrays round a value
+-- n arrays around a value
 abbrev pub nested : ℕ → Node → Node
 nested zero v = v
 nested (suc n) v = array (nested n v) []
 
--- n times, an array and in it an object round a value
+-- n times, an array and in it an object around a value
 abbrev pub in_turn : ℕ → Node → Node
 in_turn zero v = v
 in_turn (suc n) v = array (object (key "a") (in_turn n v) []) []
 
--- whitespace, and a key that comes twice
+-- whitespace, and a repeated key
 abbrev spaced_key : String → Key
 spaced_key s = record { before = codes " "; items = plains (codes s); after = [] }
 

@@ -82,13 +82,13 @@ numbers : All Means number_rows
 unfolding digits class_of encode_utf8 kept_len drops_too_many keeps_too_many
 numbers = each_row Means computed stated means number_rows refl
 
--- no number of the grammar
+-- not a number of the grammar
 leading_zero : is_numeral (integer "01") ≡ false
 leading_zero = refl
 
 -- ---- strings
 
--- characters that stand for themselves, in the text, in the string and in what is printed
+-- unescaped characters, in the text, in the string and in what is printed
 abbrev raw : Kind → List ℕ → Row
 raw kind cs =
     let bytes = encode_utf8_all cs in
@@ -109,7 +109,7 @@ string_rows =
     ∷ row "\"foo\\u001fbar\\u0000baz\"" (Node.string (plains (codes "foo") ++ escape "001f" ∷ plains (codes "bar")
     ++ escape "0000" ∷ plains (codes "baz"))) (value.text short (codes "foo\u{1f}bar\0baz"))
     "\"foo\\u001fbar\\u0000baz\""
-    -- a solidus and the character 127 are printed as they are; a text is short by its bytes, not by its characters
+    -- a solidus and the character 127 are printed as they are; a string is short by its bytes, not by its characters
     ∷ raw short (47 ∷ 127 ∷ [])
     ∷ raw short (codes "abcdefghijklmnopqrstuvwxyz0123")
     ∷ raw long (codes "abcdefghijklmnopqrstuvwxyz01234")
@@ -137,7 +137,7 @@ mixed_value = object_of ((codes "a", value.array (values_of mixed_items)) ∷ (c
 
 abbrev container_rows : List Row
 container_rows =
-    -- a key that comes twice: the first one's place and the last one's value
+    -- a repeated key: the first one's position and the last one's value
     row "{ \"foo\": 0, \"bar\": 1, \"foo\": 2 }" spaced
     (object_of ((codes "foo", whole 2) ∷ (codes "bar", whole 1) ∷ [])) "{\"foo\":2,\"bar\":1}"
     ∷ row "{\"a\":1,\"\\u0061\":2}" (object (key "a") one ((key_of (escape "0061" ∷ []), two) ∷ []))
@@ -188,20 +188,20 @@ printed : All (λ x. x.0 ≡ x.1) printed_rows
 unfolding digits encode_utf8 bytes_of kept_len
 printed = each_row (λ x. x.0 ≡ x.1) (λ x. x.0) (λ x. x.1) (λ x e. e) printed_rows refl
 
--- ---- values that are the same
+-- ---- equal values
 
--- two values, and whether they are the same
+-- two values, and whether they are equal
 abbrev pair_of : Value → Value → Bool → Value × Value × Bool
 pair_of v w b = (v, w, b)
 
 abbrev same_rows : List (Value × Value × Bool)
 same_rows =
-    -- neither the order of the members counts nor how a number is written
+    -- neither the order of the members matters nor how a number is written
     pair_of (meaning (object (key "a") one ((key "b", two) ∷ [])))
     (meaning (object (key "b") two ((key "a", Node.number (decimal "1" "0")) ∷ []))) true
     ∷ (meaning (object (key "a") one []), meaning (object (key "a") two []), false)
     ∷ (meaning (array one (two ∷ [])), meaning (array two (one ∷ [])), false)
-    -- nor how a text is kept
+    -- nor how a string is stored
     ∷ (value.text short (codes "a"), value.text long (codes "a"), true)
     ∷ []
 

@@ -1,5 +1,5 @@
--- One writing, in a loose style, of an object whose pairs it puts in another order: it is a writing, and what it is
--- read as is computed from the definitions.
+-- A text that a loose style allows for an object, with its members in another order: it is a text of the object, and
+-- what it is read as is computed from the definitions.
 use Rattle.std.proofs.Common.{◌≡◌, ◌≢◌, ℕ, zero, suc, ◌<◌, List, [], ◌∷◌, count_by, ◌==◌, true, false, codes, negsuc}
 use Rattle.std.proofs.Common.{refl, arith}
 use Rattle.std.specs.Prelude.{IsTrue, AllPairs}
@@ -37,7 +37,7 @@ distinct_keys : AllPairs (λ j k. j ≢ k) (codes "a" ∷ codes "b" ∷ [])
 unfolding IsDistinct
 distinct_keys = AllPairs-from_IsDistinct bytes_eq-Decides (codes "a" ∷ codes "b" ∷ []) ((refl, tt), (tt, tt))
 
--- ---- what the laws ask
+-- ---- what the laws require
 
 is_value : IsValue written
 unfolding encode_utf8

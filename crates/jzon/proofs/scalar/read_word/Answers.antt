@@ -9,7 +9,7 @@ use Rattle.jzon.proofs.Containers.WholeLiterals.{IsFirst, WordEnds, word_begins,
 use Rattle.jzon.proofs.scalar.read_word.Goals.{After-has_four}
 use Rattle.jzon.proofs.scalar.read_word.Goals as goal
 
--- where the last four letters stand, the word ends behind them
+-- if the last four letters are there, the literal ends after them
 ends : (c : After-has_four) (r : Reading) (fs : Frames) → value_mark r fs ≡ None → IsTrue c.has_four.result
     → WordEnds r c.args.source.now c.args.start (c.last_four_at-prefix.result + 4) fs (view c.word_value-value.result)
 ends c r fs m all =

@@ -14,7 +14,7 @@ use Rattle.jzon.proofs.Containers.FrameViews.{some_more, some_put}
 use Rattle.jzon.proofs.parser.Parser.go_on.Goals.{After-array_ends, After-object_ends}
 use Rattle.jzon.proofs.parser.Parser.go_on.Goals as goal
 
--- behind a value in the same container
+-- after a value in the same container
 same_frame : (t : Cursor) (fs : Frames) (f g : Frame) (v : Value) → f ≡ g
     → Reached t (behind (open_in fs f) v) t (behind (open_in fs g) v)
 same_frame t fs f g v e = record {

@@ -28,7 +28,7 @@ loop-self-init c = record {
       (map view c.args.elements.items)));
 }
 
--- so many containers are open around the next element
+-- the number of open containers around the next element
 depth_here : (c : After-len-depth) →
     frames_depth (array_frame (stack_view c.loop-self.self.stack.items) (map view c.loop-self.elements.items))
     ≡ c.len-depth.result + 1
@@ -124,7 +124,7 @@ loop-self-preserved-in-Array c =
           c.loop-self.invariant.came (nested c));
     }
 
--- no mark stands at the next element
+-- the next element has no mark
 no_mark : (r : Reading) (stack : List Frame) (vs : List Value) → length stack < r.depth
     → value_mark r (array_frame (stack_view stack) vs) ≡ None
 no_mark r stack vs room =
@@ -143,9 +143,9 @@ returns-in_err-value-clause-same c =
     (rw failed.2 (c.in_err-value.ensures.same m.reading (array_frame fs vs) shallow m.past_whitespace
     (λ f. c.loop-self.invariant.element (fresh_is_empty fs vs f))))
 
--- ---- behind an element
+-- ---- after an element
 
--- one element more was read
+-- one more element was read
 record More (m n : Cursor) (fs : Frames) (vs ws : List Value) : Type 0 where
   value : Value
   grown : ws ≡ vs ++ value ∷ []

@@ -22,7 +22,7 @@ loop-entries-init c = record {
       (viewed c.args.entries));
 }
 
--- one more may be open
+-- one more container may be opened
 mark_here : (c : After-read_key) →
     key_mark c.loop-entries.self.cursor.reading (stack_view c.args.self.now.stack.items)
     (viewed c.loop-entries.entries) ≡ None
@@ -83,7 +83,7 @@ begin-requires c = record {
   );
 }
 
--- so many containers are open around the value of the key
+-- the number of open containers around the value of the key
 depth_here : (c : After-len-depth) →
     frames_depth (object_frame (stack_view c.args.self.now.stack.items) (viewed c.loop-entries.entries)
     c.in_ok-key.key) ≡ c.len-depth.result + 1

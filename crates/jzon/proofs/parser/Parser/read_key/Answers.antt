@@ -74,7 +74,7 @@ abbrev key_text : After-go_to → List ℕ
 key_text c = if c.in_ok-spelled.spelled.is_escaped then string_bytes c.read_string.new.buffer else slice_range
     c.args.self.now.cursor.source.now (c.args.self.now.cursor.index + 1) (c.in_ok-spelled.spelled.end - 1)
 
--- the key was read, and is none that the reading refuses
+-- the key was read, and the reading doesn't reject it
 key_read : (c : After-go_to) (fs : Frames)
     → key_mark c.args.self.now.cursor.reading fs (viewed c.args.entries.now) ≡ None
     → Reached c.args.self.now.cursor (before_key fs (viewed c.args.entries.now)) c.go_to.new.self
