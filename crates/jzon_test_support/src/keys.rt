@@ -3,7 +3,7 @@
 use jzon_base::keys::hash::hash_of;
 use std::alloc::{AllocError, Global};
 
-/// So many keys, in ascending order of their hashes.
+/// `count` keys, in ascending order of their hashes.
 pub fn keys_by_hash(alloc: Global, count: u32) -> Result<Vec<String>, AllocError> {
     let mut keys = Vec::new(alloc);
     for number in 0..count {
@@ -13,7 +13,7 @@ pub fn keys_by_hash(alloc: Global, count: u32) -> Result<Vec<String>, AllocError
     Ok(keys)
 }
 
-/// So many keys of the hash 0. Zero bytes behind a key of the hash 0 keep it.
+/// `count` keys whose hash is 0: zero bytes appended to a key of hash 0 don't change its hash.
 pub fn keys_of_one_hash(alloc: Global, count: usize) -> Result<Vec<String>, AllocError> {
     let mut keys = Vec::new(alloc);
     let mut key = String::from_str(alloc, "77kepQFQ8Kl")?;
@@ -24,7 +24,7 @@ pub fn keys_of_one_hash(alloc: Global, count: usize) -> Result<Vec<String>, Allo
     Ok(keys)
 }
 
-/// The compact text of an object of these keys, each with null. Zero bytes alone are escaped in it.
+/// The compact text of an object with these keys, each with null. Zero bytes are the only ones escaped in it.
 pub fn object_text(alloc: Global, keys: &[String]) -> Result<String, AllocError> {
     let mut text = String::new(alloc);
     for key in keys {

@@ -1,4 +1,5 @@
-//! What tests of several crates use: runs with refused memory, a writer with trouble, long texts, hostile keys, and a document.
+//! Shared by the tests of several crates: runs with failing allocations, a writer that fails, long texts, hostile keys,
+//! and a sample text.
 #![tactic(auto)]
 
 mod keys;
@@ -10,13 +11,13 @@ pub use refusals::{MOST, Refusals};
 pub use slow_writer::{NEVER, SlowWriter, Trouble};
 use std::alloc::{AllocError, Global};
 
-/// A document with something of each kind.
+/// A JSON text with a value of each kind.
 pub const DOCUMENT: &str = "{\"a\":[1,-0.5e+2,\"x\\u00e9\\uD834\\uDD1E\"],\"b\":null}";
 
-/// What it dumps.
+/// What its value dumps as.
 pub const DUMP: &str = "{\"a\":[1,-50,\"xé\u{1d11e}\"],\"b\":null}";
 
-/// Texts one after the other, each so many times.
+/// Concatenates texts, each repeated as often as its number says.
 pub fn joined(alloc: Global, parts: &[(&str, usize)]) -> Result<String, AllocError> {
     let mut text = String::new(alloc);
     for (part, count) in parts {

@@ -1,15 +1,16 @@
-//! Runs of a call with its requests for memory refused in turn. That is the work of ci/refuse.c, beside which bin/test runs them once more.
-//! Without it each test runs its call once, with memory enough.
+//! Repeats a call with its allocations failing in turn. ci/refuse.c makes them fail: bin/test runs these tests once
+//! more with it. Without it each test runs its call once, with enough memory.
 
 use std::alloc::Global;
 
-/// A request of this size or more is a sign to ci/refuse.c, and fails without it.
+/// An allocation of this size or more is a signal to ci/refuse.c, and fails without it.
 const MARK: usize = 1 << 62;
 
 /// More runs than a test needs.
 pub const MOST: usize = 200;
 
-/// Runs of one call. In the first one its first request is refused, in the next one its second, and so on, until a run meets no refusal.
+/// Runs of one call. In the first run the first allocation fails, in the next run the second, and so on, until in a run
+/// no allocation fails.
 #[derive(Drop)]
 pub struct Refusals {
     alloc: Global,
@@ -19,7 +20,7 @@ pub struct Refusals {
 }
 
 impl Refusals {
-    /// Before the first run.
+    /// To be called before the first run.
     pub fn new(alloc: Global) -> Refusals {
         Refusals {
             alloc,
@@ -29,13 +30,13 @@ impl Refusals {
         }
     }
 
-    /// Stands right before the call.
+    /// To be called right before the call.
     pub fn begin(&mut self) {
         let next = self.count.saturating_add(1);
         self.is_able = is_granted(self.alloc, MARK.saturating_add(next));
     }
 
-    /// Stands right after the call: whether a request was refused in it.
+    /// To be called right after the call: whether an allocation failed in it.
     pub fn was_refused(&mut self) -> bool {
         let was_refused = self.is_able && !is_granted(self.alloc, MARK);
         if was_refused {
@@ -45,8 +46,9 @@ impl Refusals {
         was_refused
     }
 
-    /// Stands after the last run, which must have met no refusal, and tells how many refusals there were: at least so many where ci/refuse.c is there.
-    /// bin/test reads the line.
+    /// To be called after the last run, in which no allocation may have failed. Prints how many runs had a failed
+    /// allocation, in a line that bin/test reads, and returns an error if ci/refuse.c is loaded and there were fewer
+    /// than `least`.
     pub fn tell(&self, rt: &impl Eprint, test: &str, least: usize) -> Result<(), &'static str> {
         let _ = eprintln!(rt; "{test}: {} refusals", self.count);
         if !self.is_done {
@@ -59,7 +61,7 @@ impl Refusals {
     }
 }
 
-/// Whether so much memory can be had.
+/// Whether an allocation of this size succeeds.
 fn is_granted(alloc: Global, size: usize) -> bool {
     let block: Result<Vec<u8>, _> = Vec::with_capacity(alloc, size);
     block.is_ok()

@@ -1,23 +1,23 @@
-//! A writer that takes one byte a call, and has trouble at one.
+//! A writer that accepts one byte per call, and fails at one call.
 
 use std::alloc::Global;
 use std::io;
 use std::io::{ErrorKind, Write};
 
-/// The call at which a writer without trouble has it.
+/// The call number of a writer that never fails.
 pub const NEVER: usize = 0;
 
-/// What a writer does at one call.
+/// What a writer does at the failing call.
 #[derive(Clone, Copy, Debug, PartialEq, Eq)]
 pub enum Trouble {
     TakesNothing,
     Fails(ErrorKind),
 }
 
-/// Takes one byte a call, but for one call that meets trouble. At a flush it may fail.
+/// Accepts one byte per call, except at one call, where it fails or accepts nothing. A flush may fail too.
 #[derive(Drop)]
 pub struct SlowWriter {
-    /// What it took.
+    /// The bytes accepted so far.
     pub bytes: Vec<u8>,
     /// How often `write` was called.
     pub calls: usize,
@@ -30,7 +30,7 @@ pub struct SlowWriter {
 }
 
 impl SlowWriter {
-    /// Meets this trouble at the call of this number. The first call is 1.
+    /// A writer that fails in this way at this call; the first call is 1.
     pub fn new(alloc: Global, trouble_at: usize, trouble: Trouble) -> SlowWriter {
         SlowWriter {
             bytes: Vec::new(alloc),
