@@ -1,6 +1,6 @@
 -- Numbers (RFC 8259, section 6): from the first character of a number to the one after it. Letters: Texts.antt, and
 --   ws digits before the point   ds those after it   xs those of the exponent   l its letter e or E
---   what grows is kept in reverse: `onto ds []` are the digits in their order
+--   lists that grow are kept in reverse: `onto ds []` are the digits in their order
 
 -- the automaton
 pub mod NumberLimits

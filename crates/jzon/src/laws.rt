@@ -26,7 +26,8 @@ pub fn number_text()
     ensures { NumberText }
 {}
 
-/// The compact text of a value that nests no deeper than the reading allows, and may hold NaN, is read as a value with the same compact text.
+/// The compact text of a value that nests no deeper than the reading allows, and may contain NaN, is read as a value
+/// with the same compact text.
 pub fn redump()
     ensures { Redump }
 {}

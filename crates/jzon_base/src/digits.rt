@@ -1,4 +1,5 @@
-//! The digits of a number in a text, and the parts that they mean (RFC 8259, section 6; docs/RULES.md, "What digits mean" and "Digit limits").
+//! The digits of a number in a text, and the number that they mean (RFC 8259, section 6; docs/RULES.md, "What digits
+//! mean" and "Digit limits").
 
 ghost use Rattle.std.specs.Prelude.{◌≡◌, ℕ, pos, ◌+◌, ◌%◌, ◌<◌, ◌≤◌, ◌^◌, ◌-ℤ◌, ◌+ℤ◌, ◌++◌, length, take, min, IfErr};
 ghost use Rattle.std.specs.Prelude.{OkIff};

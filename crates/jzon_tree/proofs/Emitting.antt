@@ -161,7 +161,8 @@ PrintsIf-emits K P a b (Err e) h = λ keyed. Stopped-failed P a b h
 module _ (opening closing : ℕ) (Q : Style → ℕ → List ℕ → Type 0) (R : List ℕ → Type 0) (a : Emitted)
     (close : (y z : List ℕ) → Q a.style (suc a.dent) y → IsClosing a.style a.dent closing z → R (opening ∷ (y ++ z)))
   where
-    -- if the inside isn't begun or isn't finished, some text for it must be known to exist
+    -- if writing stops before the closing bracket, texts of the inside and of the close are required, so that the bytes
+    -- are a prefix of some whole text
     module _ (inner : (y : List ℕ) × Q a.style (suc a.dent) y) (end : (z : List ℕ) × IsClosing a.style a.dent closing z)
       where
         closed_after : (x : List ℕ) → Just (opening ∷ []) x → Begins R x

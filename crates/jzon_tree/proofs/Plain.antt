@@ -1,4 +1,4 @@
--- Runs of plain bytes in a text.
+-- Runs of plain bytes in a string.
 use Rattle.std.proofs.Common.{◌≡◌, ℕ, zero, suc, ◌+◌, ◌≤◌, ◌<◌, Bool, true, false, cond, List, [], ◌∷◌, ◌++◌, length}
 use Rattle.std.proofs.Common.{get_or, take, drop, refl, ap, ◌∙◌, arith}
 use Rattle.std.specs.List.{prefix_len}

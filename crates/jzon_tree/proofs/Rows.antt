@@ -8,7 +8,7 @@ use Rattle.jzon_tree.specs.Value.{short, long, nest}
 use Rattle.jzon_tree.specs.Same.{same}
 use Rattle.jzon_tree.specs.Text.{compact, pretty, quoted}
 
--- a natural number, a short text, and containers from lists
+-- a natural number, a short string, and containers from lists
 abbrev int : ℕ → Value
 int n = number (parts true n (pos 0))
 

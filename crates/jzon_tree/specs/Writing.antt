@@ -70,13 +70,13 @@ abbrev mutual
       × IsOrder (length ts) positions × IsTrue (s.order (keys_of (list_of_pairs (pair k v ps))) positions)
       × Encloses s dent begin_object (map (text_at ts) positions) end_object b
 
-  -- these texts are texts of the values
+  -- each of these texts is a text of the value at its position
   pub WritesEach : Style → ℕ → Values → List (List ℕ) → Type 0
   WritesEach s dent no_values [] = ⊤
   WritesEach s dent (value v vs) (t ∷ ts) = Writes s dent v t × WritesEach s dent vs ts
   WritesEach s dent _ _ = ⊥
 
-  -- these texts are texts of the entries: a key, a colon and a value each
+  -- each of these texts is a text of the entry at its position: its key, a colon and its value
   pub WritesPairs : Style → ℕ → Pairs → List (List ℕ) → Type 0
   WritesPairs s dent no_pairs [] = ⊤
   WritesPairs s dent (pair k v ps) (t ∷ ts) =

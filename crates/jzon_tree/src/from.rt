@@ -106,7 +106,7 @@ impl From<Number> for JsonValue {
     }
 }
 
-/// A `String` stays allocated, however short it is.
+/// A `String` becomes a `JsonValue::String`, however short it is.
 impl From<String> for JsonValue {
     ghost from_gives = { λ s v. view v ≡ text long (string_bytes s) };
 

@@ -44,7 +44,7 @@ record DumpedPairs (r : Reading) (d : ℕ) (ps : Pairs) : Type 0 where
   again : (e : ℕ) → more_pairs_text compact_layout e (pairs_of (members_meaning members))
       ≡ more_pairs_text compact_layout e ps
 
--- an entry as it is laid out
+-- the text of an entry, regrouped
 laid_out : (key x b : List ℕ) → quoted key ++ codes ":" ++ x ++ b ≡ pair_text [] key [] x [] b
 laid_out key x b = append_assoc (quoted key ++ codes ":") x b ∙ append_assoc (quoted key) (codes ":") (x ++ b)
 

@@ -42,7 +42,7 @@ AlikeMove i j (go m p) z = (q : Place) × (z ≡ go m q) × Alike i j p q
 AlikeMove i j bad z = z ≡ bad
 AlikeMove i j bad_deep z = z ≡ bad_deep
 
--- the mark of the first character of what the state waits for, where that is a value or a key
+-- the mark of the first character of the value or key that may come next in this state; none in other states
 abbrev pub next_mark : Reading → Place → Option Breach
 next_mark r (before fs) = value_mark r fs
 next_mark r (before_key fs es) = key_mark r fs es

@@ -60,7 +60,7 @@ impl IntoJson for &str {
     }
 }
 
-/// A `String` stays allocated, however short it is. It allocates nothing.
+/// A `String` becomes a `JsonValue::String`, however short it is. It allocates nothing.
 impl IntoJson for String {
     ghost means = { λ s v. v ≡ text long (string_bytes s) };
 
