@@ -1,15 +1,31 @@
--- The contents of a buffered writer.
-use Rattle.std.specs.Prelude.{ℕ, ◌+◌, ◌-◌, List, ◌∷◌, ◌++◌, length, drop, Option, option_map}
+-- What a writer behind a buffer holds.
+use Rattle.std.specs.Prelude.{ℕ, List, ◌∷◌, ◌++◌, length, drop, nat_le, Option, None, Some, if◌then◌else◌}
 use Rattle.jzonfmt.specs.declared.buffered.Buffered.{Buffered}
 
--- the bytes that the writer hasn't accepted yet
-abbrev pub left : {W : Type 0} → Buffered W → List ℕ
+-- the name of the reference to the writer, and the writer's bytes with those that are left after them
+pub record Held : Type 0 where
+  pub writer : ℕ
+  pub bytes : List ℕ
+
+abbrev pub listed : Held → List ℕ
+listed h = h.writer ∷ h.bytes
+
+-- The same where the writer tells its bytes, and has at least as many as it had at first: so none of those was lost.
+abbrev pub held_since : ℕ → ℕ → List ℕ → Option (List ℕ) → Option (List ℕ)
+held_since start name rest None = None
+held_since start name rest (Some xs) =
+    if nat_le start (length xs) then Some (listed (record { writer = name; bytes = xs ++ rest })) else None
+
+-- how many bytes there are, where they are told
+abbrev pub count : Option (List ℕ) → ℕ
+count None = 0
+count (Some xs) = length xs
+
+-- the bytes that the writer didn't take yet
+abbrev pub left : {W : Type 0} {S : Type 0} → Buffered W S → List ℕ
 left b = drop b.taken b.bytes.items
 
--- The writer's bytes followed by those left in the buffer, after two numbers that no call changes: the name of the
--- reference to the writer, and how many bytes the writer held at first. Through calls whose contracts report nothing
--- else, a caller can still know which writer received the bytes, and that none was lost.
-abbrev pub held : {W : Type 0} → (W → Option (List ℕ)) → Buffered W → Option (List ℕ)
-held contents b = option_map
-    (λ xs. b.inner.ghost_name ∷ (length xs - (b.before + b.taken)) ∷ (xs ++ left b))
-    (contents b.inner.now)
+-- What a buffer holds whose writer had `start` bytes at first. Calls that tell nothing else can't change the writer's
+-- name; so who hands bytes to it by them knows afterwards which writer got them.
+abbrev pub held : {W : Type 0} {S : Type 0} → (W → Option (List ℕ)) → ℕ → Buffered W S → Option (List ℕ)
+held contents start b = held_since start b.inner.ghost_name (left b) (contents b.inner.now)

@@ -1,43 +1,51 @@
 //! A writer behind a buffer.
 
-ghost use Rattle.std.specs.Prelude.{◌≡◌, ◌+◌, ◌≤◌, [], length, take, vec_len, vec_capacity, MatchOption, OnOk};
+ghost use Rattle.std.specs.Prelude.{◌≡◌, ℕ, ◌+◌, ◌≤◌, [], length, take, vec_len, vec_capacity, MatchOption, OnOk};
 ghost use Rattle.std.specs.Io.KnownBytes.{Appends, Keeps};
 
 use std::io;
 use std::io::{ErrorKind, Write};
+use std::marker::{Brand, PhantomData};
 
-/// Takes bytes, and hands them on to a writer where they fill its memory, in the order in which they came. It asks for no memory. After a fault of the writer,
+/// A number for proofs alone: how many bytes the writer had before the buffer.
+pub trait Start {
+    ghost start: { ℕ };
+}
+
+impl Start for Brand {
+    ghost start = { 0 };
+}
+
+/// Takes bytes, and passes them to a writer where they fill its memory, in the order in which they came. It asks for no memory. After an error of the writer,
 /// what the writer didn't take is kept.
 #[derive(Drop)]
-pub struct Buffered<'a, W> {
+pub struct Buffered<'a, W, S> {
     inner: &'a mut W,
     bytes: Vec<u8>,
     /// How many of these bytes the writer took already.
     taken: usize,
-    /// How many bytes it took before them.
-    before: u64,
-    /// The error of a call that failed, until that call hands it back.
+    /// The error of a call that failed, until that call returns it.
     fault: Option<io::Error>,
+    since: PhantomData<S>,
     ghost within: { taken ≤ length bytes.items },
 }
 
-impl<'a, W: Write> Buffered<'a, W> {
+impl<'a, W: Write, S: Start> Buffered<'a, W, S> {
     ghost use Rattle.jzonfmt.specs.Buffered.{held, left};
 
     /// Over a writer, with memory that is empty.
-    pub fn new(inner: &'a mut W, memory: Vec<u8>) -> Buffered<'a, W>
+    pub fn new(inner: &'a mut W, memory: Vec<u8>) -> Buffered<'a, W, S>
         ensures same_reference { result.inner.ghost_name ≡ inner.entry.ghost_name }
         ensures same { result.inner.now ≡ inner.old }
         ensures bytes { result.bytes ≡ memory }
         ensures taken { result.taken ≡ 0 }
-        ensures before { result.before ≡ 0 }
     {
         Buffered {
             inner,
             bytes: memory,
             taken: 0,
-            before: 0,
             fault: None,
+            since: PhantomData,
         }
     }
 
@@ -49,12 +57,11 @@ impl<'a, W: Write> Buffered<'a, W> {
         self.inner
     }
 
-    /// Hands all bytes on. An error is that of the writer, one of the kind `WriteZero` where it took none, or `FileTooLarge` where it took
-    /// 2^64 bytes or more in all.
+    /// Passes all bytes to the writer. An error is the writer's, or one of the kind `WriteZero` where it took none.
     #[cold]
     #[inline(never)]
     pub fn hand_on(&mut self) -> io::Result<()>
-        ensures bytes { Keeps (held W.contents self.old) (held W.contents self.new) }
+        ensures bytes { Keeps (held W.contents S.start self.old) (held W.contents S.start self.new) }
         ensures all { OnOk result (left self.new ≡ []) }
     {
         while self.taken < self.bytes.len() {
@@ -64,23 +71,19 @@ impl<'a, W: Write> Buffered<'a, W> {
             }
             self.taken += count;
         }
-        let Some(before) = self.before.checked_add(self.taken as u64) else {
-            return Err(io::Error::from(ErrorKind::FileTooLarge));
-        };
         self.taken = 0;
-        self.before = before;
         self.bytes.clear();
         Ok(())
     }
 
-    /// Hands all bytes on, and then takes as many as there is room for. An error is laid aside: an `io::Error` takes 88 bytes, which the caller would set aside
-    /// and clear also where there is room for all.
+    /// Passes all bytes to the writer, and then takes as many as there is room for. An error is stored: an `io::Error` takes 88 bytes, which the caller would
+    /// reserve and clear also where there is room for all.
     #[cold]
     #[inline(never)]
     fn write_behind(&mut self, buf: &[u8]) -> Option<usize>
-        ensures { MatchOption result (Keeps (held W.contents self.old) (held W.contents self.new))
+        ensures { MatchOption result (Keeps (held W.contents S.start self.old) (held W.contents S.start self.new))
             (λ count. (count ≤ length buf.now)
-            × Appends (held W.contents self.old) (held W.contents self.new) (take count buf.now)) }
+            × Appends (held W.contents S.start self.old) (held W.contents S.start self.new) (take count buf.now)) }
     {
         if let Err(error) = self.hand_on() {
             self.fault = Some(error);
@@ -95,17 +98,17 @@ impl<'a, W: Write> Buffered<'a, W> {
     #[inline(always)]
     fn hold(&mut self, bytes: &[u8])
         requires { vec_len self.old.bytes + length bytes.now ≤ vec_capacity self.old.bytes }
-        ensures { Appends (held W.contents self.old) (held W.contents self.new) bytes.now }
+        ensures { Appends (held W.contents S.start self.old) (held W.contents S.start self.new) bytes.now }
     {
         let Ok(()) = self.bytes.extend_from_slice(bytes) else {
             unreachable!()
         };
     }
 
-    /// The error that was laid aside. There is one wherever a call failed.
+    /// The error that was stored. There is one wherever a call failed.
     #[inline(always)]
     fn taken_fault(&mut self) -> io::Error
-        ensures { Keeps (held W.contents self.old) (held W.contents self.new) }
+        ensures { Keeps (held W.contents S.start self.old) (held W.contents S.start self.new) }
     {
         match self.fault.take() {
             Some(error) => error,
@@ -114,10 +117,10 @@ impl<'a, W: Write> Buffered<'a, W> {
     }
 }
 
-impl<W: Write> Write for Buffered<'_, W> {
+impl<W: Write, S: Start> Write for Buffered<'_, W, S> {
     ghost use Rattle.jzonfmt.specs.Buffered.{held};
 
-    ghost contents = { held W.contents };
+    ghost contents = { held W.contents S.start };
 
     #[inline(always)]
     fn write(&mut self, buf: &[u8]) -> io::Result<usize> {

@@ -1,18 +1,19 @@
 //! What the program does, over any reader and any writers (docs/RULES.md, "The program jzonfmt").
 
-ghost use Rattle.std.specs.Prelude.{◌≡◌, ℕ, List, [], IfOk, IfErr, OnOk, OnErr, map, option_map, string_bytes, vec_len};
+ghost use Rattle.std.specs.Prelude.{◌≡◌, ℕ, List, [], IfOk, IfErr, OnOk, OnErr, map, string_bytes, vec_len};
 ghost use Rattle.std.specs.Io.KnownBytes.{Appends, Consumes, Keeps};
 ghost use Rattle.jzon.specs.View.{view};
 ghost use Rattle.jzon.specs.Written.{AppendsBeginning};
-ghost use Rattle.jzonfmt.specs.Buffered.{held, left};
+ghost use Rattle.jzonfmt.specs.Buffered.{count, held, left};
 ghost use Rattle.jzonfmt.specs.Run.{Answers, IsReadFault, Reads, Runs, line, text};
-ghost use Rattle.jzonfmt.specs.Drive.{Drives, asking, asked_behind, asked_layout, asked_options, asked_spaces};
+ghost use Rattle.jzonfmt.specs.Drive.{Drives, asked_layout, asked_options, asked_spaces};
 ghost use Rattle.jzonfmt.specs.Drive.{fault_status};
 
-use crate::buffered::Buffered;
+use crate::buffered::{Buffered, Start};
 use jzon::{Error, JsonValue, Reading, util};
 use std::alloc::{AllocError, Global};
 use std::io::{Read, Write};
+use std::marker::Brand;
 use std::{fmt, io, mem};
 
 /// How a document is printed.
@@ -164,26 +165,27 @@ fn print_input<W: Write>(
     };
     let value = jzon::parse_as(alloc, source, reading)?;
     let memory = Vec::with_capacity(alloc, HELD)?;
-    let answer = write_line(writer, memory, &value, layout);
+    let answer = write_line::<W, Brand>(writer, memory, &value, layout);
     // The program ends once the text is written, so the value is not taken apart first.
     mem::forget(value);
     answer.map_err(RunFault::Write)
 }
 
 /// Writes the text of the value in the layout and a newline, by way of the memory. After a fault a beginning of them is written.
-fn write_line<W: Write>(
+fn write_line<W: Write, S: Start>(
     writer: &mut W,
     memory: Vec<u8>,
     value: &JsonValue,
     layout: Layout,
 ) -> io::Result<()>
-    requires { memory.items ≡ [] }
+    requires empty { memory.items ≡ [] }
+    requires start { S.start ≡ count (W.contents writer.old) }
     ensures ok { OnOk result
         (Appends (W.contents writer.old) (W.contents writer.new) (line layout (view value.now))) }
     ensures err { OnErr result
         (AppendsBeginning (W.contents writer.old) (W.contents writer.new) (line layout (view value.now))) }
 {
-    let mut buffered = Buffered::new(writer, memory);
+    let mut buffered: Buffered<'_, W, S> = Buffered::new(writer, memory);
     let answer = write_held(&mut buffered, value, layout);
     let inner = buffered.into_writer();
     // No effect when it runs. The proof reads what the writer holds from this use of it.
@@ -192,15 +194,15 @@ fn write_line<W: Write>(
 }
 
 /// Writes them behind what is held, and hands all on.
-fn write_held<W: Write>(
-    buffered: &mut Buffered<'_, W>,
+fn write_held<W: Write, S: Start>(
+    buffered: &mut Buffered<'_, W, S>,
     value: &JsonValue,
     layout: Layout,
 ) -> io::Result<()>
     ensures ok { OnOk result
-        (Appends (held W.contents buffered.old) (held W.contents buffered.new) (line layout (view value.now))) }
+        (Appends (held W.contents S.start buffered.old) (held W.contents S.start buffered.new) (line layout (view value.now))) }
     ensures err { OnErr result
-        (AppendsBeginning (held W.contents buffered.old) (held W.contents buffered.new)
+        (AppendsBeginning (held W.contents S.start buffered.old) (held W.contents S.start buffered.new)
         (line layout (view value.now))) }
     ensures all { OnOk result (left buffered.new ≡ []) }
 {
@@ -246,30 +248,15 @@ pub fn drive<R: Read, W: Write, F: Write>(
     }
 }
 
-/// What the words ask for: `--strict` may be the first one.
+/// What the words ask for: a layout, with `--strict` before its words or after them.
 fn options_of(words: &[String]) -> Option<Options>
     ensures { result ≡ asked_options (map string_bytes words.now) }
 {
-    match words {
-        [option, rest @ ..] if option.as_str() == "--strict" => with_layout(true, rest),
-        _ => options_behind(words),
-    }
-}
-
-/// The same where it may be the last one, behind the words of a layout.
-fn options_behind(words: &[String]) -> Option<Options>
-    ensures { result ≡ asked_behind (map string_bytes words.now) }
-{
-    match words {
-        [_, _, option] if option.as_str() == "--strict" => with_layout(true, &words[..2]),
-        _ => with_layout(false, words),
-    }
-}
-
-/// The layout that the words ask for, with a strict reading or that of `parse`.
-fn with_layout(strict: bool, words: &[String]) -> Option<Options>
-    ensures { result ≡ option_map (asking strict) (asked_layout (map string_bytes words.now)) }
-{
+    let (strict, words) = match words {
+        [option, rest @ ..] if option.as_str() == "--strict" => (true, rest),
+        [_, _, option] if option.as_str() == "--strict" => (true, &words[..2]),
+        _ => (false, words),
+    };
     let layout = layout_of(words)?;
     let reading = Reading::new(strict, 512)?;
     Some(Options { reading, layout })

@@ -5,7 +5,8 @@ use Rattle.jzonfmt.proofs.buffered.Buffered.hand_on.Given as goal
 
 -- the contents held don't change
 abbrev pub invariant-loop-self : goal.invariant-loop-self
-invariant-loop-self g l = Keeps (held g.W.Write.contents l.initial.self) (held g.W.Write.contents l.self)
+invariant-loop-self g l = Keeps (held g.W.Write.contents g.S.Start.start l.initial.self)
+    (held g.W.Write.contents g.S.Start.start l.self)
 
 abbrev pub decreases-loop-self : goal.decreases-loop-self
 decreases-loop-self g l = length l.self.bytes.items - l.self.taken
