@@ -8,7 +8,7 @@ use Rattle.std.proofs.lemmas.List.{length-append, length-take-le, length-drop, t
 use Rattle.std.proofs.Math.Seq.{drop-drop, take-append_seam, take-append-add, take-take, take-length}
 use Rattle.std.specs.Io.KnownBytes.{Appends, Keeps}
 use Rattle.jzon.specs.Written.{AppendsBeginning}
-use Rattle.jzonfmt.specs.Buffered.{Held, listed, held_since, count}
+use Rattle.jzonfmt.specs.Buffered.{listed, held_since, count}
 
 -- some of them went to the writer, which has no fewer bytes then
 moved : (name : ℕ) (rest rest' x y : List ℕ) (p q : Bool) → (p ≡ true → q ≡ true) → y ++ rest' ≡ x ++ rest
