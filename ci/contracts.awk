@@ -17,6 +17,17 @@ function shortened(text) {
     return text
 }
 
+# A line, below the name of its file if it is the first of that.
+function emit(text) {
+    if (pending != "") {
+        if (has_lines) print ""
+        print pending
+        pending = ""
+        has_lines = 1
+    }
+    print text
+}
+
 # A clause: its label, if it has one, and what is between its braces.
 function print_clause(text,    open, label) {
     text = shortened(text)
@@ -24,7 +35,7 @@ function print_clause(text,    open, label) {
     label = squeezed(substr(text, 1, open - 1))
     text = substr(text, open + 1)
     sub(/ *\}[;, ]*$/, "", text)
-    print "  " label ": " squeezed(text)
+    emit("  " label ": " squeezed(text))
 }
 
 # The head of a function, and then each of its clauses.
@@ -42,20 +53,19 @@ function print_function(    head, open, count, i, clauses) {
     sub(/,$/, "", head)
     if (type != "") sub(/fn /, "fn " type "::", head)
     by_value = head ~ /\(self[,)]/
-    print head
+    emit(head)
     for (i = 2; i <= count; i++) print_clause(clauses[i])
 }
 
 FNR == 1 {
     is_spec = FILENAME ~ /\.antt$/
-    if (NR > 1) print ""
     name = FILENAME
     sub(/^crates\//, "", name)
-    print (is_spec ? "-- " : "") name
+    pending = (is_spec ? "-- " : "") name
     type = is_trait = is_hidden = in_tests = holding = ""
 }
 is_spec {
-    if ($0 !~ /^(pub )?use / && $0 != "") print
+    if ($0 !~ /^(pub )?use / && $0 != "") emit($0)
     next
 }
 /^#\[cfg\(test\)\]/ { in_tests = 1 }
@@ -107,7 +117,7 @@ in_impl_of_trait && /^    ghost (output|eq|from_gives|try_from_gives|neg_gives|i
 is_trait && /^    ghost [a-z_]+: / {
     line = shortened($0)
     sub(/;$/, "", line)
-    if (line ~ /\{ .* \}/) print "ghost " type "::" substr(line, 7)
+    if (line ~ /\{ .* \}/) emit("ghost " type "::" substr(line, 7))
     next
 }
 # A function with its contract begins. One of one line with its body has no clause.
@@ -121,10 +131,10 @@ is_trait && /^    ghost [a-z_]+: / {
 /^(    )?(pub )?(struct|enum|type|const|mod|use|fn) / { is_hidden = "" }
 
 function print_ghost(    line) {
-    if (!has_head) print impl_head
+    if (!has_head) emit(impl_head)
     has_head = 1
     line = shortened(held)
     sub(/^ghost /, "", line)
     sub(/;$/, "", line)
-    print "  " line
+    emit("  " line)
 }
