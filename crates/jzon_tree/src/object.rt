@@ -29,6 +29,9 @@ use std::convert::AsStr;
 use std::iter::FusedIterator;
 use std::slice;
 
+/// The most pairs that `from_pairs` makes room for ahead of reading them: what an iterator expects may be far more than there are distinct keys.
+const ROOM_MAX: usize = 256;
+
 /// The pairs of an object that are left, each as its key's text and its value.
 pub type Iter<'a> = pairs::Iter<'a, JsonValue>;
 
@@ -96,7 +99,8 @@ impl Object {
             × PutMeans K.text V.means ps (view_object object)) }
         ensures memory { IsOkUnless result Error.OutOfMemory }
     {
-        let mut builder = Builder::new(alloc);
+        let (least, _) = pairs.size_hint();
+        let mut builder = Builder::with_capacity(alloc, least.min(ROOM_MAX))?;
         for (key, value) in pairs {
             let key = Key::new(alloc, key.as_str())?;
             builder.push(alloc, key, value.into_json(alloc)?)?;
