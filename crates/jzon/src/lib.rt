@@ -12,6 +12,7 @@ mod macros;
 mod numeral;
 pub mod object;
 mod parser;
+mod peek;
 mod reading;
 mod scalar;
 mod string;

@@ -17,7 +17,8 @@ ghost use Rattle.jzon.specs.Classes.{lettered};
 ghost use Rattle.jzon_base.specs.Tokens.{zero_digit};
 ghost use Rattle.jzon.specs.Machine.{Frames, numeral, numeral_begun, behind, from, stopped, Tells, Leads};
 
-use crate::fault::{fault_at, has_byte};
+use crate::fault::fault_at;
+use crate::peek::has_byte;
 use jzon_base::digits::{read_scanned, scan};
 use jzon_base::error::{Error, Result};
 use jzon_base::number::Number;

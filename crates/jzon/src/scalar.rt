@@ -14,8 +14,9 @@ ghost use Rattle.jzon.specs.Machine.{behind, past_letter, value_mark, from, Tell
 ghost use Rattle.jzon.specs.Reading.{Reading};
 ghost use Rattle.jzon_base.specs.Tokens.{begin_array, begin_object, end_array, quotation_mark};
 
-use crate::fault::{fault_at, has_byte, has_digit, has_four};
+use crate::fault::fault_at;
 use crate::numeral::read_number;
+use crate::peek::{has_byte, has_digit, has_four};
 use crate::string::{read_string, text_value};
 use jzon_base::error::{Error, Result};
 use jzon_tree::value::JsonValue;

@@ -16,7 +16,8 @@ ghost use Rattle.jzon.specs.Quote.{EndsAtQuote};
 ghost use Rattle.jzon.specs.Machine.{Role, string, between, slash, code, second, second_code, coded, paired};
 ghost use Rattle.jzon.specs.Machine.{outcome_on, from, from_closed, Tells};
 
-use crate::fault::{fault_at, has_byte};
+use crate::fault::fault_at;
+use crate::peek::has_byte;
 use jzon_base::error::{Error, Result};
 use jzon_base::short::{MAX_LEN, Short};
 use jzon_base::util::hex::hex_value;

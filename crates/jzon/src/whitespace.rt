@@ -6,7 +6,7 @@ ghost use Rattle.std.specs.Str.{IsCharBoundary};
 ghost use Rattle.jzon_tree.specs.Writing.{is_whitespace};
 ghost use Rattle.jzon.specs.Machine.{Place, allows_whitespace, from};
 
-use crate::fault::{has_byte, has_four};
+use crate::peek::{has_byte, has_four};
 use crate::reading::Reading;
 
 /// The offset behind the whitespace that stands at `start`.

@@ -1,0 +1,40 @@
+//! What is at an offset of a text.
+
+ghost use Rattle.std.specs.Prelude.{◌≡◌, ◌<◌, ◌≤◌, ◌+◌, ◌↔◌, length, IsTrue, slice_index};
+ghost use Rattle.std.specs.Char.{is_ascii_digit};
+
+/// Whether the byte at `index` is `byte`.
+pub(crate) fn has_byte(source: &str, index: usize, byte: u8) -> bool
+    ensures { IsTrue result ↔ ((index < length source.now) × (slice_index source.now index ≡ byte)) }
+{
+    let bytes = source.as_bytes();
+    index < bytes.len() && bytes[index] == byte
+}
+
+/// Whether the four bytes from `index` on are `four`. They are compared at once.
+#[inline(always)]
+pub(crate) fn has_four(source: &str, index: usize, four: [u8; 4]) -> bool
+    requires { index ≤ length source.now }
+    ensures within { IsTrue result → index + 4 ≤ length source.now }
+    ensures first { IsTrue result → slice_index source.now index ≡ slice_index four 0 }
+    ensures second { IsTrue result → slice_index source.now (index + 1) ≡ slice_index four 1 }
+    ensures third { IsTrue result → slice_index source.now (index + 2) ≡ slice_index four 2 }
+    ensures fourth { IsTrue result → slice_index source.now (index + 3) ≡ slice_index four 3 }
+    ensures all { index + 4 ≤ length source.now → slice_index source.now index ≡ slice_index four 0
+        → slice_index source.now (index + 1) ≡ slice_index four 1
+        → slice_index source.now (index + 2) ≡ slice_index four 2
+        → slice_index source.now (index + 3) ≡ slice_index four 3 → IsTrue result }
+{
+    match &source.as_bytes()[index..] {
+        [a, b, c, d, ..] => u32::from_le_bytes([*a, *b, *c, *d]) == u32::from_le_bytes(four),
+        _ => false,
+    }
+}
+
+/// Whether the byte at `index` is a digit.
+pub(crate) fn has_digit(source: &str, index: usize) -> bool
+    ensures { IsTrue result ↔ ((index < length source.now) × IsTrue (is_ascii_digit (slice_index source.now index))) }
+{
+    let bytes = source.as_bytes();
+    index < bytes.len() && bytes[index].is_ascii_digit()
+}
