@@ -3,6 +3,7 @@
 
 pub mod building;
 pub mod canonical;
+pub mod chains;
 pub mod faults;
 pub mod from_rust;
 pub mod layers;
