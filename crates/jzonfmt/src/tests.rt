@@ -302,13 +302,14 @@ fn prints_hostile_keys(rt: HostRuntime) -> Result<(), Fail> {
 fn refuses_what_exceeds_the_limits(rt: HostRuntime) -> Result<(), Fail> {
     let alloc = rt.alloc();
     let rows = [
-        ("8", "0", 32786, ""),
-        ("0.", "0", 40000, ""),
-        ("", "[", 100000, ""),
-        ("", "[", 512, "{\"a\":1}"),
+        ("8", "0", 32786, "", 0),
+        ("0.", "0", 40000, "", 0),
+        ("", "[", 100000, "", 0),
+        ("", "[", 512, "{\"a\":1}", 512),
     ];
-    for (prefix, repeated, count, back) in rows {
-        let text = joined(alloc, &[(prefix, 1), (repeated, count), (back, 1)])?;
+    for (prefix, repeated, count, back, closing) in rows {
+        let parts = [(prefix, 1), (repeated, count), (back, 1), ("]", closing)];
+        let text = joined(alloc, &parts)?;
         let mut reader = text.as_bytes();
         let mut writer: Vec<u8> = Vec::new(alloc);
         let mut faults: Vec<u8> = Vec::new(alloc);
