@@ -28,6 +28,8 @@ mod lent;
 #[cfg(test)]
 mod listed;
 #[cfg(test)]
+mod names;
+#[cfg(test)]
 mod objects;
 #[cfg(test)]
 mod printed;
