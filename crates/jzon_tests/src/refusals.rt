@@ -3,6 +3,7 @@
 mod built;
 mod changed;
 mod objects;
+mod room;
 mod written;
 
 use crate::common::Tested;

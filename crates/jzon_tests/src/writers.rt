@@ -9,7 +9,9 @@ use std::io;
 use std::io::ErrorKind;
 use std::process::Abort;
 
-const PRETTY: &str = "{\n  \"a\": [\n    1,\n    -50,\n    \"xé\u{1d11e}\"\n  ],\n  \"b\": null\n}";
+/// What `DOCUMENT` means, on lines, with two spaces for each open container.
+pub(crate) const PRETTY: &str =
+    "{\n  \"a\": [\n    1,\n    -50,\n    \"xé\u{1d11e}\"\n  ],\n  \"b\": null\n}";
 
 /// How a value is written.
 #[derive(Clone, Copy)]
