@@ -6,6 +6,8 @@ mod common;
 #[cfg(test)]
 mod conversions;
 #[cfg(test)]
+mod counting;
+#[cfg(test)]
 mod generators;
 #[cfg(test)]
 mod hooks;

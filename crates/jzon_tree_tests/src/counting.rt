@@ -1,0 +1,127 @@
+//! A generator of a user's own that overrides `write` and `write_char`, to count.
+
+ghost use Rattle.std.specs.Prelude.{◌≡◌};
+
+use crate::common::{Tested, empty_containers, expect_bytes, numbers};
+use jzon_base::number::{NAN, Number};
+use jzon_tree::codegen::{DumpGenerator, Generator, write_json};
+use jzon_tree::object::Object;
+use jzon_tree::value::JsonValue;
+use std::alloc::Global;
+use std::io;
+use std::process::Abort;
+
+/// Counts the bytes that a compact generator is given, but for those that its writer is given past it.
+#[derive(Drop)]
+struct Counting<G: Generator> {
+    inner: G,
+    count: usize,
+}
+
+impl<G: Generator> Counting<G> {
+    fn add(&mut self, count: usize)
+        ensures { self.new ≡ record self.old { count = self.new.count } }
+    {
+        self.count = self.count.saturating_add(count);
+    }
+}
+
+impl<G: Generator> Generator for Counting<G> {
+    type T = G::T;
+
+    ghost meaning = { λ g. G.meaning g.inner };
+
+    ghost with_writer = { λ g w. record g { inner = G.with_writer g.inner w } };
+
+    fn get_writer(&mut self) -> &mut G::T {
+        self.inner.get_writer()
+    }
+
+    fn write(&mut self, slice: &[u8]) -> io::Result<()> {
+        self.add(slice.len());
+        self.inner.write(slice)
+    }
+
+    fn write_char(&mut self, ch: u8) -> io::Result<()> {
+        self.add(1);
+        self.inner.write_char(ch)
+    }
+
+    fn write_min(&mut self, slice: &[u8], min: u8) -> io::Result<()> {
+        self.add(1);
+        self.inner.write_min(slice, min)
+    }
+
+    fn faults(&self) -> u64 {
+        self.inner.faults()
+    }
+
+    fn dent(&self) -> u64 {
+        self.inner.dent()
+    }
+
+    fn note_fault(&mut self) {
+        self.inner.note_fault()
+    }
+
+    fn set_dent(&mut self, dent: u64) {
+        self.inner.set_dent(dent)
+    }
+
+    fn new_line(&mut self) -> io::Result<()> {
+        self.inner.new_line()
+    }
+
+    fn order(&mut self, object: &Object) -> io::Result<Option<Vec<usize>>> {
+        self.inner.order(object)
+    }
+
+    ghost writer_law = { λ g w. G.writer_law g.inner w };
+
+    ghost style_law = { λ g. G.style_law g.inner };
+}
+
+/// The value has this text, each byte of which is counted.
+fn expect_counted(rt: &impl Abort, alloc: Global, value: &JsonValue, text: &str) -> Tested {
+    let mut generator = Counting {
+        inner: DumpGenerator::new(alloc),
+        count: 0,
+    };
+    write_json(&mut generator, value)?;
+    expect_bytes(rt, generator.get_writer(), text);
+    assert_eq!(rt; generator.count, text.len());
+    Ok(())
+}
+
+#[test]
+fn counts_strings(rt: HostRuntime) -> Tested {
+    for (string, text) in [
+        ("", "\"\""),
+        ("plain", "\"plain\""),
+        ("a\"b\\\n\u{1}é", "\"a\\\"b\\\\\\n\\u0001é\""),
+    ] {
+        let value = JsonValue::String(String::from_str(rt.alloc(), string)?);
+        expect_counted(&rt, rt.alloc(), &value, text)?;
+    }
+    Ok(())
+}
+
+#[test]
+fn counts_numbers(rt: HostRuntime) -> Tested {
+    for (number, text) in [
+        (Number::from_parts_unchecked(false, 125, -1), "-12.5"),
+        (Number::from_parts_unchecked(true, 1, 30), "1e30"),
+        (NAN, "null"),
+    ] {
+        expect_counted(&rt, rt.alloc(), &JsonValue::Number(number), text)?;
+    }
+    Ok(())
+}
+
+#[test]
+fn counts_containers(rt: HostRuntime) -> Tested {
+    let array = numbers(rt.alloc(), &[1, 20])?;
+    expect_counted(&rt, rt.alloc(), &array, "[1,20]")?;
+    let object = empty_containers(rt.alloc())?;
+    expect_counted(&rt, rt.alloc(), &object, "{\"a\":[],\"b\":{}}")
+}
