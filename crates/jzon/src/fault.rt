@@ -1,4 +1,4 @@
-//! The error of a text at an offset, with its line and column (docs/RULES.md, "Which error is told").
+//! The error of a text at an offset, with its line and column (docs/RULES.md, "Which error is reported").
 
 ghost use Rattle.std.specs.Prelude.{◌≡◌, ◌+◌, length, take, drop, chars};
 ghost use Rattle.std.specs.Str.{IsCharBoundary};

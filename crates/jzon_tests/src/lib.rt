@@ -2,6 +2,8 @@
 #![tactic(auto)]
 
 #[cfg(test)]
+mod by_index;
+#[cfg(test)]
 mod changers;
 #[cfg(test)]
 mod cloned;

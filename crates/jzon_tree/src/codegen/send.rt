@@ -68,7 +68,10 @@ pub(super) fn send_number<W: Write>(writer: &mut W, number: &Number, fault: &mut
 
 /// The text of the number, or `null` for NaN. It may be in the room.
 #[inline(always)]
-pub(super) fn text_of_number<'a>(room: &'a mut [u8; print_dec::MAX_LEN], number: &Number) -> &'a [u8]
+pub(super) fn text_of_number<'a>(
+    room: &'a mut [u8; print_dec::MAX_LEN],
+    number: &Number,
+) -> &'a [u8]
     ensures { result.now ≡ written_text number.now }
 {
     if number.is_nan() {
