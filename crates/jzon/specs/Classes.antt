@@ -1,4 +1,4 @@
--- The classes by which the automaton of Machine tells characters apart, and its states inside a number.
+-- The classes of characters that the automaton of Machine distinguishes, and its states inside a number.
 use Rattle.std.specs.Prelude.{ℕ, cond, List, [], ◌∷◌, Bool, true, false, ◌==◌}
 use Rattle.std.specs.Char.{is_ascii_digit}
 use Rattle.jzon_base.specs.Tokens.{begin_array, begin_object, decimal_point, end_array, end_object, minus_sign}

@@ -76,7 +76,7 @@ grown start name name' x y empty rest bs s h a =
     since start name name' x y empty rest bs (nat_le start (length x)) (nat_le start (length y))
     (λ e. le-leb start (length x) (omega (arith, e))) (leb-true start (length y)) s h a
 
--- a writer that tells its bytes goes on telling them
+-- a writer whose bytes are known keeps them known
 told : (start name name' : ℕ) (x empty rest bs : List ℕ) (p : Bool) → (start ≡ length x → p ≡ true)
     → start ≡ length x
     → Appends (if p then Some (listed (record { writer = name; bytes = x ++ empty })) else None) None bs → ⊥

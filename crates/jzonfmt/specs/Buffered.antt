@@ -10,13 +10,13 @@ pub record Held : Type 0 where
 abbrev pub listed : Held → List ℕ
 listed h = h.writer ∷ h.bytes
 
--- The same where the writer tells its bytes, and has at least as many as it had at first: so none of those was lost.
+-- The same where the writer's bytes are known and at least as many as at first: so none of those was lost.
 abbrev pub held_since : ℕ → ℕ → List ℕ → Option (List ℕ) → Option (List ℕ)
 held_since start name rest None = None
 held_since start name rest (Some xs) =
     if nat_le start (length xs) then Some (listed (record { writer = name; bytes = xs ++ rest })) else None
 
--- how many bytes there are, where they are told
+-- how many bytes there are, 0 where they are unknown
 abbrev pub count : Option (List ℕ) → ℕ
 count None = 0
 count (Some xs) = length xs
@@ -25,7 +25,7 @@ count (Some xs) = length xs
 abbrev pub left : {W : Type 0} {S : Type 0} → Buffered W S → List ℕ
 left b = drop b.taken b.bytes.items
 
--- What a buffer holds whose writer had `start` bytes at first. Calls that tell nothing else can't change the writer's
--- name; so who hands bytes to it by them knows afterwards which writer got them.
+-- What the buffer holds, where its writer had `start` bytes at first. The name of the reference is part of it: a call
+-- that only keeps what is held, or appends to it, has not put another writer in its place.
 abbrev pub held : {W : Type 0} {S : Type 0} → (W → Option (List ℕ)) → ℕ → Buffered W S → Option (List ℕ)
 held contents start b = held_since start b.inner.ghost_name (left b) (contents b.inner.now)
