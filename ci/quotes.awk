@@ -1,7 +1,7 @@
-# Prints each code line that a page quotes and that doesn't stand in the examples. The examples come first on the command line, then the pages, and the other
+# Prints each code line that a page quotes and that isn't in the examples. The examples come first on the command line, then the pages, and the other
 # sources, of which the lines of "///" are a page. A quoted line is one between "```rust" and "```", without its comment, or in the right column of the table
 # "What one writes".
-# Spaces at both ends don't count. The status is 0 only if something is quoted and all of it stands there.
+# Spaces at both ends don't count. The status is 0 only if something is quoted and all of it is there.
 function trimmed(text) {
     gsub(/^[ \t]+|[ \t]+$/, "", text)
     return text
@@ -10,14 +10,14 @@ function trimmed(text) {
 # Looks for a whole line, or for a part of one.
 function look_for(text, is_part) {
     quoted++
-    if (is_part ? index(code, text) == 0 : !(text in stands)) {
+    if (is_part ? index(code, text) == 0 : !(text in is_there)) {
         print FILENAME ":" FNR ": not in the examples: " text
         missing++
     }
 }
 
 FILENAME ~ /jzon_examples.*\.rt$/ {
-    stands[trimmed($0)] = 1
+    is_there[trimmed($0)] = 1
     code = code "\n" $0
     next
 }

@@ -1,14 +1,14 @@
 /*
- * Refuses one chosen request for memory of the program that it is loaded into, so that a test can see what the program makes of it.
+ * Makes one chosen allocation of the program that it is loaded into fail, so that a test can see what the program makes of it.
  *
- * It is loaded before the C library (LD_PRELOAD) and stands in for its malloc and realloc. Each call of one of them is a request, the growth of a block
- * too. A test speaks to it by requests of marked sizes, for which no machine has memory: without this library they fail, and so tell the test that it
- * isn't there. A marked request that is granted gets a block of one byte, which the test frees and never touches.
+ * It is loaded before the C library (LD_PRELOAD) and replaces its malloc and realloc. Each call of one of them is an allocation, the growth of a block
+ * too. A test speaks to it by allocations of marked sizes, for which no machine has memory: without this library they fail, which shows the test that it
+ * isn't there. A marked allocation that succeeds gets a block of one byte, which the test frees and never touches.
  *
- *     MARK + n, for an n of 1 to LIMIT   is granted. The nth request after it is refused.
- *     MARK                               ends that. It is refused if a request was refused since, and granted if none was.
+ *     MARK + n, for an n of 1 to LIMIT   succeeds. The nth allocation after it fails.
+ *     MARK                               ends that. It fails if an allocation failed since, and succeeds if none did.
  *
- * A program that asks for no marked size gets all its memory from the C library as ever. One thread asks at a time.
+ * A program without allocations of marked sizes gets all its memory from the C library as ever. One thread allocates at a time.
  */
 #include <stddef.h>
 
@@ -19,39 +19,39 @@ extern void *__libc_realloc(void *block, size_t size);
 static const size_t MARK = (size_t)1 << 62;
 static const size_t LIMIT = (size_t)1 << 32;
 
-/* How many requests there are up to the one to refuse, and it; 0: none is to be refused. */
-static size_t requests_left = 0;
-static int was_refused = 0;
+/* How many allocations there are up to the one that fails, and it; 0: none is to fail. */
+static size_t allocations_left = 0;
+static int has_failed = 0;
 
-/* Whether this request is the one to refuse. */
-static int is_refused(void)
+/* Whether this allocation is the one that fails. */
+static int fails(void)
 {
-    if (requests_left == 0)
+    if (allocations_left == 0)
         return 0;
-    requests_left--;
-    if (requests_left == 0)
-        was_refused = 1;
-    return requests_left == 0;
+    allocations_left--;
+    if (allocations_left == 0)
+        has_failed = 1;
+    return allocations_left == 0;
 }
 
-/* Answers a request of a marked size. */
+/* The result of an allocation of a marked size. */
 static void *marked(size_t n)
 {
-    int refuses = n == 0 && was_refused;
+    int is_failure = n == 0 && has_failed;
 
-    requests_left = n;
-    was_refused = 0;
-    return refuses ? NULL : __libc_malloc(1);
+    allocations_left = n;
+    has_failed = 0;
+    return is_failure ? NULL : __libc_malloc(1);
 }
 
 void *malloc(size_t size)
 {
     if (size >= MARK && size - MARK <= LIMIT)
         return marked(size - MARK);
-    return is_refused() ? NULL : __libc_malloc(size);
+    return fails() ? NULL : __libc_malloc(size);
 }
 
 void *realloc(void *block, size_t size)
 {
-    return is_refused() ? NULL : __libc_realloc(block, size);
+    return fails() ? NULL : __libc_realloc(block, size);
 }
