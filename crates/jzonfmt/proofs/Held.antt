@@ -1,4 +1,4 @@
--- What a writer behind a buffer holds, call by call.
+-- What a buffered writer holds, call by call.
 use Rattle.std.proofs.Common.{◌≡◌, ℕ, ◌+◌, ◌-◌, ◌≤◌, List, [], ◌∷◌, ◌++◌, length, take, drop, Option, None, Some, refl}
 use Rattle.std.proofs.Common.{sym, Bool, true, false, nat_le, if◌then◌else◌}
 use Rattle.std.proofs.Common.{Result, Ok, Err, OnOk, OnErr}
@@ -10,18 +10,18 @@ use Rattle.std.specs.Io.KnownBytes.{Appends, Keeps}
 use Rattle.jzon.specs.Written.{AppendsBeginning}
 use Rattle.jzonfmt.specs.Buffered.{listed, held_since, count}
 
--- some of them went to the writer, which has no fewer bytes then
+-- bytes that go from the buffer to the writer: what is held stays the same
 moved : (name : ℕ) (rest rest' x y : List ℕ) (p q : Bool) → (p ≡ true → q ≡ true) → y ++ rest' ≡ x ++ rest
     → Keeps (if p then Some (listed (record { writer = name; bytes = x ++ rest })) else None)
     (if q then Some (listed (record { writer = name; bytes = y ++ rest' })) else None)
 moved name rest rest' x y false q h e = tt
 moved name rest rest' x y true q h e = rw (h refl) (ap (λ (l : List ℕ). name ∷ l) e)
 
-took : (start name n : ℕ) (rest : List ℕ) (a b : Option (List ℕ)) → Appends a b (take n rest)
+written_out : (start name n : ℕ) (rest : List ℕ) (a b : Option (List ℕ)) → Appends a b (take n rest)
     → Keeps (held_since start name rest a) (held_since start name (drop n rest) b)
-took start name n rest None b p = tt
-took start name n rest (Some x) None p = absurd p
-took start name n rest (Some x) (Some y) p =
+written_out start name n rest None b p = tt
+written_out start name n rest (Some x) None p = absurd p
+written_out start name n rest (Some x) (Some y) p =
     let long : length y ≡ length x + length (take n rest) = ap (λ (l : List ℕ). length l) p
     ∙ length-append x (take n rest) in
     let all : y ++ drop n rest ≡ x ++ rest = ap (λ (l : List ℕ). l ++ drop n rest) p
@@ -29,7 +29,7 @@ took start name n rest (Some x) (Some y) p =
     moved name rest (drop n rest) x y (nat_le start (length x)) (nat_le start (length y))
     (λ first. le-leb start (length y) (omega (arith, long, leb-true start (length x) first))) all
 
--- the writer took n bytes of those that are left
+-- the writer written_out n bytes of those that are left
 pub held_moved : (start name taken n : ℕ) (items seen : List ℕ) (a b : Option (List ℕ)) → seen ≡ items
     → Appends a b (take n (take (length seen - taken) (drop taken seen)))
     → Keeps (held_since start name (drop taken items) a) (held_since start name (drop (taken + n) items) b)
@@ -39,11 +39,11 @@ held_moved start name taken n items seen a b same p =
       length-drop taken items,
     )) in
     let left : drop n (drop taken items) ≡ drop (taken + n) items = drop-drop n taken items in
-    rw left at (took start name n (drop taken items) a b (rw (same, rest) at p))
+    rw left at (written_out start name n (drop taken items) a b (rw (same, rest) at p))
 
--- ---- all calls together: what the writer behind an empty buffer got of the bytes that were added
+-- ---- all calls together: which of the added bytes the writer got, where the buffer was empty at first
 
--- where x was held, y is now
+-- the writer had x, and has y now
 grew : (name name' : ℕ) (x y empty rest bs : List ℕ) → empty ≡ [] → length x ≤ length y
     → name' ∷ (y ++ rest) ≡ name ∷ ((x ++ empty) ++ bs)
     → (name ≡ name') × (k : ℕ) × (k + length rest ≡ length bs) × (y ≡ x ++ take k bs)
@@ -77,55 +77,55 @@ grown start name name' x y empty rest bs s h a =
     (λ e. le-leb start (length x) (omega (arith, e))) (leb-true start (length y)) s h a
 
 -- a writer whose bytes are known keeps them known
-told : (start name name' : ℕ) (x empty rest bs : List ℕ) (p : Bool) → (start ≡ length x → p ≡ true)
+stays_known_if : (start name name' : ℕ) (x empty rest bs : List ℕ) (p : Bool) → (start ≡ length x → p ≡ true)
     → start ≡ length x
     → Appends (if p then Some (listed (record { writer = name; bytes = x ++ empty })) else None) None bs → ⊥
-told start name name' x empty rest bs false f s a = let wrong : false ≡ true = f s in absurd (cc)
-told start name name' x empty rest bs true f s a = a
+stays_known_if start name name' x empty rest bs false f s a = let wrong : false ≡ true = f s in absurd (cc)
+stays_known_if start name name' x empty rest bs true f s a = a
 
-untold : (start name name' : ℕ) (x empty rest bs : List ℕ) → start ≡ length x
+stays_known : (start name name' : ℕ) (x empty rest bs : List ℕ) → start ≡ length x
     → Appends (held_since start name empty (Some x)) (held_since start name' rest None) bs → ⊥
-untold start name name' x empty rest bs s a =
-    told start name name' x empty rest bs (nat_le start (length x))
+stays_known start name name' x empty rest bs s a =
+    stays_known_if start name name' x empty rest bs (nat_le start (length x))
     (λ e. le-leb start (length x) (omega (arith, e))) s a
 
 module _ (start name name' : ℕ) (empty rest : List ℕ) (h : empty ≡ []) where
-  handed_all : (bs : List ℕ) (a b f : Option (List ℕ)) → start ≡ count a → (name ≡ name' → f ≡ b) → rest ≡ []
+  appends_all : (bs : List ℕ) (a b f : Option (List ℕ)) → start ≡ count a → (name ≡ name' → f ≡ b) → rest ≡ []
       → Appends (held_since start name empty a) (held_since start name' rest b) bs → Appends a f bs
-  handed_all bs None b f s same l p = tt
-  handed_all bs (Some x) None f s same l p = absurd (untold start name name' x empty rest bs s p)
-  handed_all bs (Some x) (Some y) f s same l p =
+  appends_all bs None b f s same l p = tt
+  appends_all bs (Some x) None f s same l p = absurd (stays_known start name name' x empty rest bs s p)
+  appends_all bs (Some x) (Some y) f s same l p =
       let g = grown start name name' x y empty rest bs s h p in
       let k : g.1 ≡ length bs = omega (arith, g.2, ap (λ (l : List ℕ). length l) l) in
       rw (same g.0) (g.3 ∙ ap (λ (n : ℕ). x ++ take n bs) k ∙ ap (λ (l : List ℕ). x ++ l) (take-length bs))
 
-  begun : (bs : List ℕ) (a b f : Option (List ℕ)) → start ≡ count a → (name ≡ name' → f ≡ b)
+  appends_prefix : (bs : List ℕ) (a b f : Option (List ℕ)) → start ≡ count a → (name ≡ name' → f ≡ b)
       → Appends (held_since start name empty a) (held_since start name' rest b) bs
       → (k : ℕ) × (k ≤ length bs) × Appends a f (take k bs)
-  begun bs None b f s same p = (0, omega arith, tt)
-  begun bs (Some x) None f s same p = absurd (untold start name name' x empty rest bs s p)
-  begun bs (Some x) (Some y) f s same p =
+  appends_prefix bs None b f s same p = (0, omega arith, tt)
+  appends_prefix bs (Some x) None f s same p = absurd (stays_known start name name' x empty rest bs s p)
+  appends_prefix bs (Some x) (Some y) f s same p =
       let g = grown start name name' x y empty rest bs s h p in
       (g.1, omega (arith, g.2), rw (same g.0) g.3)
 
-  handed_part : (bs : List ℕ) (a b f : Option (List ℕ)) → start ≡ count a → (name ≡ name' → f ≡ b)
+  appends_part : (bs : List ℕ) (a b f : Option (List ℕ)) → start ≡ count a → (name ≡ name' → f ≡ b)
       → AppendsBeginning (held_since start name empty a) (held_since start name' rest b) bs → AppendsBeginning a f bs
-  handed_part bs a b f s same (n, l, p) =
-      let (k, m, q) = begun (take n bs) a b f s same p in
+  appends_part bs a b f s same (n, l, p) =
+      let (k, m, q) = appends_prefix (take n bs) a b f s same p in
       let within : k ≤ n = omega (arith, m, length-take-le n bs l) in
       (k, omega (arith, within, l), rw (take-take k n bs within) at q)
 
-  -- the same of the answer of all calls
-  pub told_all : {E : Type 0} (r : Result (Unit {0}) E) (bs : List ℕ) (a b f : Option (List ℕ))
+  -- the same by the result of all calls
+  pub ok_appends : {E : Type 0} (r : Result (Unit {0}) E) (bs : List ℕ) (a b f : Option (List ℕ))
       → start ≡ count a → (name ≡ name' → f ≡ b) → OnOk r (rest ≡ [])
       → OnOk r (Appends (held_since start name empty a) (held_since start name' rest b) bs)
       → OnOk r (Appends a f bs)
-  told_all (Ok u) bs a b f s same l p = handed_all bs a b f s same l p
-  told_all (Err x) bs a b f s same l p = tt
+  ok_appends (Ok u) bs a b f s same l p = appends_all bs a b f s same l p
+  ok_appends (Err x) bs a b f s same l p = tt
 
-  pub told_part : {E : Type 0} (r : Result (Unit {0}) E) (bs : List ℕ) (a b f : Option (List ℕ))
+  pub err_appends : {E : Type 0} (r : Result (Unit {0}) E) (bs : List ℕ) (a b f : Option (List ℕ))
       → start ≡ count a → (name ≡ name' → f ≡ b)
       → OnErr r (AppendsBeginning (held_since start name empty a) (held_since start name' rest b) bs)
       → OnErr r (AppendsBeginning a f bs)
-  told_part (Ok u) bs a b f s same p = tt
-  told_part (Err x) bs a b f s same p = handed_part bs a b f s same p
+  err_appends (Ok u) bs a b f s same p = tt
+  err_appends (Err x) bs a b f s same p = appends_part bs a b f s same p

@@ -1,4 +1,4 @@
 pub mod Added
 pub mod CountsOfSpaces
 pub mod Held
-pub mod RefusedInputs
+pub mod RejectedInputs

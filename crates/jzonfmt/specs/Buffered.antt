@@ -1,4 +1,4 @@
--- What a writer behind a buffer holds.
+-- What a buffered writer holds: the bytes that its writer got, and those still in the buffer.
 use Rattle.std.specs.Prelude.{ℕ, List, ◌∷◌, ◌++◌, length, drop, nat_le, Option, None, Some, if◌then◌else◌}
 use Rattle.jzonfmt.specs.declared.buffered.Buffered.{Buffered}
 
@@ -10,7 +10,7 @@ pub record Held : Type 0 where
 abbrev pub listed : Held → List ℕ
 listed h = h.writer ∷ h.bytes
 
--- The same where the writer's bytes are known and at least as many as at first: so none of those was lost.
+-- What is held, where the writer's bytes are known and are at least as many as at first, so none of those was lost.
 abbrev pub held_since : ℕ → ℕ → List ℕ → Option (List ℕ) → Option (List ℕ)
 held_since start name rest None = None
 held_since start name rest (Some xs) =

@@ -53,18 +53,18 @@ reading_of strict = record usual { strict = strict }
 abbrev pub asking : Bool → Layout → Options
 asking strict layout = record { reading = reading_of strict; layout = layout }
 
--- a layout's arguments followed by `--strict`, or without it
-abbrev pub asked_behind : List (List ℕ) → Option Options
-asked_behind (a ∷ b ∷ option ∷ []) =
+-- a layout's arguments, with `--strict` after them or without it
+abbrev pub asked_strict_last : List (List ℕ) → Option Options
+asked_strict_last (a ∷ b ∷ option ∷ []) =
     if bytes_eq option (codes "--strict") then option_map (asking true) (asked_layout (a ∷ b ∷ [])) else None
-asked_behind words = option_map (asking false) (asked_layout words)
+asked_strict_last words = option_map (asking false) (asked_layout words)
 
 -- What the arguments ask for: a layout; with `--strict` before or after it a strict reading, else that of `parse`.
 abbrev pub asked_options : List (List ℕ) → Option Options
 asked_options (option ∷ words) =
     if bytes_eq option (codes "--strict") then option_map (asking true) (asked_layout words)
-    else asked_behind (option ∷ words)
-asked_options [] = asked_behind []
+    else asked_strict_last (option ∷ words)
+asked_options [] = asked_strict_last []
 
 -- For arguments that aren't valid the status is 2, and nothing is read or written; for others the program runs and
 -- returns the status of the run.

@@ -1,4 +1,4 @@
-//! A writer behind a buffer.
+//! A buffered writer whose contract names the writer after it.
 
 ghost use Rattle.std.specs.Prelude.{◌≡◌, ℕ, ◌+◌, ◌≤◌, [], length, take, vec_len, vec_capacity, MatchOption, OnOk};
 ghost use Rattle.std.specs.Io.KnownBytes.{Appends, Keeps};
@@ -7,7 +7,7 @@ use std::io;
 use std::io::{ErrorKind, Write};
 use std::marker::{Brand, PhantomData};
 
-/// A number for proofs alone: how many bytes the writer had before the buffer.
+/// A number that only proofs use: how many bytes the writer had before the buffer was made.
 pub trait Start {
     ghost start: { ℕ };
 }
@@ -16,16 +16,16 @@ impl Start for Brand {
     ghost start = { 0 };
 }
 
-/// Takes bytes, and passes them to a writer where they fill its memory, in the order in which they came. It asks for no memory. After an error of the writer,
-/// what the writer didn't take is kept.
+/// Collects bytes in memory that it is given, and writes them in order when they fill it. It never allocates. After an error of the
+/// writer, the bytes that it didn't accept are kept.
 #[derive(Drop)]
 pub struct Buffered<'a, W, S> {
     inner: &'a mut W,
     bytes: Vec<u8>,
-    /// How many of these bytes the writer took already.
+    /// How many of these bytes the writer has accepted.
     taken: usize,
-    /// The error of a call that failed, until that call returns it.
-    fault: Option<io::Error>,
+    /// The error slot: the error of a failed call, until that call returns it.
+    error: Option<io::Error>,
     since: PhantomData<S>,
     ghost within: { taken ≤ length bytes.items },
 }
@@ -33,10 +33,10 @@ pub struct Buffered<'a, W, S> {
 impl<'a, W: Write, S: Start> Buffered<'a, W, S> {
     ghost use Rattle.jzonfmt.specs.Buffered.{held, left};
 
-    /// Over a writer, with memory that is empty.
+    /// A buffer before a writer, in memory that is empty.
     pub fn new(inner: &'a mut W, memory: Vec<u8>) -> Buffered<'a, W, S>
         ensures same_reference { result.inner.ghost_name ≡ inner.entry.ghost_name }
-        ensures same { result.inner.now ≡ inner.old }
+        ensures writer { result.inner.now ≡ inner.old }
         ensures bytes { result.bytes ≡ memory }
         ensures taken { result.taken ≡ 0 }
     {
@@ -44,23 +44,23 @@ impl<'a, W: Write, S: Start> Buffered<'a, W, S> {
             inner,
             bytes: memory,
             taken: 0,
-            fault: None,
+            error: None,
             since: PhantomData,
         }
     }
 
-    /// The writer. What is left is dropped.
+    /// The writer. Bytes that weren't written are dropped.
     pub fn into_writer(self) -> &'a mut W
         ensures same_reference { result.ghost_name ≡ self.entry.inner.ghost_name }
-        ensures same { result.now ≡ self.entry.inner.now }
+        ensures writer { result.now ≡ self.entry.inner.now }
     {
         self.inner
     }
 
-    /// Passes all bytes to the writer. An error is the writer's, or one of the kind `WriteZero` where it took none.
+    /// Writes all bytes. An error is the writer's, or `WriteZero` where it accepted none.
     #[cold]
     #[inline(never)]
-    pub fn hand_on(&mut self) -> io::Result<()>
+    pub fn write_out(&mut self) -> io::Result<()>
         ensures bytes { Keeps (held W.contents S.start self.old) (held W.contents S.start self.new) }
         ensures all { OnOk result (left self.new ≡ []) }
     {
@@ -76,17 +76,17 @@ impl<'a, W: Write, S: Start> Buffered<'a, W, S> {
         Ok(())
     }
 
-    /// Passes all bytes to the writer, and then takes as many as there is room for. An error is stored: an `io::Error` takes 88 bytes, which the caller would
-    /// reserve and clear also where there is room for all.
+    /// Writes all bytes, and then holds as many of `buf` as there is room for. An error is stored in the slot: an `io::Error` takes 88 bytes,
+    /// which the caller would reserve and clear even where there is room for all.
     #[cold]
     #[inline(never)]
-    fn write_behind(&mut self, buf: &[u8]) -> Option<usize>
+    fn write_out_and_hold(&mut self, buf: &[u8]) -> Option<usize>
         ensures { MatchOption result (Keeps (held W.contents S.start self.old) (held W.contents S.start self.new))
             (λ count. (count ≤ length buf.now)
             × Appends (held W.contents S.start self.old) (held W.contents S.start self.new) (take count buf.now)) }
     {
-        if let Err(error) = self.hand_on() {
-            self.fault = Some(error);
+        if let Err(error) = self.write_out() {
+            self.error = Some(error);
             return None;
         }
         let count = buf.len().min(self.bytes.capacity() - self.bytes.len());
@@ -94,7 +94,7 @@ impl<'a, W: Write, S: Start> Buffered<'a, W, S> {
         Some(count)
     }
 
-    /// Takes bytes for which there is room.
+    /// Holds bytes for which there is room.
     #[inline(always)]
     fn hold(&mut self, bytes: &[u8])
         requires { vec_len self.old.bytes + length bytes.now ≤ vec_capacity self.old.bytes }
@@ -105,12 +105,12 @@ impl<'a, W: Write, S: Start> Buffered<'a, W, S> {
         };
     }
 
-    /// The error that was stored. There is one wherever a call failed.
+    /// Takes the stored error. There is one after each failed call.
     #[inline(always)]
-    fn taken_fault(&mut self) -> io::Error
+    fn take_error(&mut self) -> io::Error
         ensures { Keeps (held W.contents S.start self.old) (held W.contents S.start self.new) }
     {
-        match self.fault.take() {
+        match self.error.take() {
             Some(error) => error,
             None => io::Error::from(ErrorKind::Other),
         }
@@ -128,14 +128,14 @@ impl<W: Write, S: Start> Write for Buffered<'_, W, S> {
             self.hold(buf);
             return Ok(buf.len());
         }
-        match self.write_behind(buf) {
+        match self.write_out_and_hold(buf) {
             Some(count) => Ok(count),
-            None => Err(self.taken_fault()),
+            None => Err(self.take_error()),
         }
     }
 
     fn flush(&mut self) -> io::Result<()> {
-        self.hand_on()?;
+        self.write_out()?;
         self.inner.flush()
     }
 }

@@ -21,7 +21,7 @@ use std::{fmt, io, mem};
 pub enum Layout {
     /// Without whitespace.
     Compact,
-    /// With each item, each key and each closing bracket on a line of its own, behind so many spaces for each open container.
+    /// With each element, member and closing bracket on its own line, after this many spaces for each open container.
     Pretty(u16),
 }
 
@@ -34,23 +34,23 @@ pub struct Options {
     pub layout: Layout,
 }
 
-/// Why no document was printed, or not the whole of it.
+/// Why a document was not printed, or only in part.
 #[derive(Debug, Drop)]
 pub enum RunFault {
-    /// The reader failed, by this error; an interruption counts.
+    /// The reader failed with this error; an interruption counts.
     Read(io::Error),
-    /// The input is no UTF-8.
+    /// The input is not UTF-8.
     NotUtf8,
-    /// The text is refused.
+    /// The text was rejected with this error.
     Json(Error),
-    /// The writer failed, by this error.
+    /// The writer failed with this error.
     Write(io::Error),
-    /// Memory was refused.
+    /// An allocation failed.
     Memory,
 }
 
 impl RunFault {
-    /// The status that the program ends with: 1 where the input is refused, 3 where reading, writing or memory failed.
+    /// The exit status: 1 for rejected input, 3 where reading, writing or an allocation failed.
     pub fn status(&self) -> u8
         ensures { result ≡ fault_status self.now }
     {
@@ -83,7 +83,7 @@ impl From<AllocError> for RunFault {
 
     ghost from_gives = { λ _ fault. fault ≡ Memory };
 
-    fn from(_refused: AllocError) -> RunFault {
+    fn from(_error: AllocError) -> RunFault {
         RunFault::Memory
     }
 }
@@ -102,14 +102,14 @@ impl From<Error> for RunFault {
     }
 }
 
-/// How many bytes are asked of the reader at once.
-const CHUNK: usize = 65536;
+/// How many bytes are read at once.
+const CHUNK_SIZE: usize = 65536;
 
-/// How many bytes of the printed text are held before they are written.
-const HELD: usize = 65536;
+/// How many bytes of the printed text are collected before they are written.
+const BUFFER_SIZE: usize = 65536;
 
-/// Reads one document by the reading, and writes it in the layout and a newline. The reader is read to its end before anything is written, and each fault of it
-/// ends the run.
+/// Reads one text by `reading`, and writes its value in `layout` and a newline. The reader is read to its end before anything is written,
+/// and its first error ends the run.
 pub fn run<R: Read, W: Write>(
     alloc: Global,
     reader: &mut R,
@@ -133,7 +133,7 @@ fn read_input<R: Read>(alloc: Global, reader: &mut R) -> Result<Vec<u8>, RunFaul
     ensures some { (input : List ℕ) × Consumes (R.remaining reader.old) (R.remaining reader.new) input }
 {
     let mut input = Vec::new(alloc);
-    let mut chunk = zeros(alloc, CHUNK)?;
+    let mut chunk = zeros(alloc, CHUNK_SIZE)?;
     loop {
         let count = reader.read(&mut chunk).map_err(RunFault::Read)?;
         if count == 0 {
@@ -143,14 +143,14 @@ fn read_input<R: Read>(alloc: Global, reader: &mut R) -> Result<Vec<u8>, RunFaul
     }
 }
 
-/// So many bytes 0. It has a contract of its own, so that no proof computes with all of them.
+/// `count` zero bytes. Its contract keeps proofs from computing with all of them.
 fn zeros(alloc: Global, count: usize) -> Result<Vec<u8>, AllocError>
     ensures { IfOk result (λ bytes. vec_len bytes ≡ count) }
 {
     vec![in alloc; 0u8; count]
 }
 
-/// Prints the document that the input is. All memory is asked for before the first byte is written.
+/// Prints the JSON text in `input`. All memory is allocated before the first byte is written.
 fn print_input<W: Write>(
     alloc: Global,
     input: &[u8],
@@ -164,14 +164,14 @@ fn print_input<W: Write>(
         return Err(RunFault::NotUtf8);
     };
     let value = jzon::parse_as(alloc, source, reading)?;
-    let memory = Vec::with_capacity(alloc, HELD)?;
+    let memory = Vec::with_capacity(alloc, BUFFER_SIZE)?;
     let answer = write_line::<W, Brand>(writer, memory, &value, layout);
-    // The program ends once the text is written, so the value is not taken apart first.
+    // The program ends once the text is written, so dropping the value would cost time for nothing.
     mem::forget(value);
     answer.map_err(RunFault::Write)
 }
 
-/// Writes the text of the value in the layout and a newline, by way of the memory. After a fault a beginning of them is written.
+/// Writes the text of the value in the layout and a newline, buffered in `memory`. After an error a prefix of them is written.
 fn write_line<W: Write, S: Start>(
     writer: &mut W,
     memory: Vec<u8>,
@@ -188,12 +188,12 @@ fn write_line<W: Write, S: Start>(
     let mut buffered: Buffered<'_, W, S> = Buffered::new(writer, memory);
     let answer = write_held(&mut buffered, value, layout);
     let inner = buffered.into_writer();
-    // No effect when it runs. The proof reads what the writer holds from this use of it.
+    // No effect at run time. From this use the proof learns what the writer holds.
     let _ = &*inner;
     answer
 }
 
-/// Writes them behind what is held, and hands all on.
+/// Writes them after what is held, and writes out the buffer.
 fn write_held<W: Write, S: Start>(
     buffered: &mut Buffered<'_, W, S>,
     value: &JsonValue,
@@ -208,7 +208,7 @@ fn write_held<W: Write, S: Start>(
 {
     write_text(buffered, value, layout)?;
     util::write_bytes(buffered, b"\n")?;
-    buffered.hand_on()
+    buffered.write_out()
 }
 
 /// Writes the text of the value in the layout.
@@ -224,8 +224,8 @@ fn write_text<W: Write>(writer: &mut W, value: &JsonValue, layout: Layout) -> io
     }
 }
 
-/// The program, but for where its words and streams come from: judges the words that follow its name, runs, flushes the writer, tells of a fault in one
-/// line on `faults`, and answers the status. A fault of that line is passed over.
+/// The program, apart from where its arguments and streams come from: reads the arguments, runs, flushes the writer, reports a fault in
+/// one line on `faults`, and returns the exit status. A failed write of that line is ignored.
 pub fn drive<R: Read, W: Write, F: Write>(
     alloc: Global,
     words: &[String],
@@ -244,11 +244,11 @@ pub fn drive<R: Read, W: Write, F: Write>(
     };
     match run_and_flush(alloc, reader, writer, options) {
         Ok(()) => 0,
-        Err(fault) => tell(faults, &fault),
+        Err(fault) => report(faults, &fault),
     }
 }
 
-/// What the words ask for: a layout, with `--strict` before its words or after them.
+/// The options that the arguments name: a layout, with `--strict` before or after it.
 fn options_of(words: &[String]) -> Option<Options>
     ensures { result ≡ asked_options (map string_bytes words.now) }
 {
@@ -262,7 +262,7 @@ fn options_of(words: &[String]) -> Option<Options>
     Some(Options { reading, layout })
 }
 
-/// The layout that the words ask for.
+/// The layout that the arguments name.
 fn layout_of(words: &[String]) -> Option<Layout>
     ensures { result ≡ asked_layout (map string_bytes words.now) }
 {
@@ -275,7 +275,7 @@ fn layout_of(words: &[String]) -> Option<Layout>
     }
 }
 
-/// The count of spaces that a word of one to five decimal digits names.
+/// The number of spaces that an argument of one to five decimal digits names.
 fn spaces_of(word: &str) -> Option<u16>
     ensures { result ≡ asked_spaces word.now }
 {
@@ -303,8 +303,8 @@ fn run_and_flush<R: Read, W: Write>(
     }
 }
 
-/// Tells of the fault in one line, and answers its status. A fault of the line itself is passed over.
-pub fn tell<F: Write>(faults: &mut F, fault: &RunFault) -> u8
+/// Reports the fault in one line, and returns its exit status. A failed write of that line is ignored.
+pub fn report<F: Write>(faults: &mut F, fault: &RunFault) -> u8
     ensures { result ≡ fault_status fault.now }
 {
     let _ = writeln!(faults, "jzonfmt: {fault}");

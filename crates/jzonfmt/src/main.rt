@@ -22,7 +22,7 @@ fn main(rt: HostRuntime) -> ExitCode {
             &mut rt.stdout(),
             &mut faults,
         ),
-        Err(error) => engine::tell(&mut faults, &RunFault::Read(error)),
+        Err(error) => engine::report(&mut faults, &RunFault::Read(error)),
     };
     ExitCode::from(status)
 }

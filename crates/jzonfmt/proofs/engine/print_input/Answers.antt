@@ -1,7 +1,7 @@
 use Rattle.std.proofs.Common.{◌≡◌, rules, subst}
 use Rattle.std.specs.Prelude.{chars, IsUtf8}
 use Rattle.jzon.specs.Answer.{IsErrorUnlessMemory}
-use Rattle.jzonfmt.proofs.RefusedInputs.{answers_refusal}
+use Rattle.jzonfmt.proofs.RejectedInputs.{answers_error}
 use Rattle.jzonfmt.proofs.engine.print_input.Goals as goal
 
 pub returns-in_err-value : goal.returns-in_err-value
@@ -11,5 +11,5 @@ returns-in_err-value g c =
     let error : IsErrorUnlessMemory c.args.reading.now (chars c.args.input.now) c.in_err-value.field-0.0 =
     subst (λ s. IsErrorUnlessMemory c.args.reading.now (chars s) c.in_err-value.field-0.0) same
     c.in_err-value.ensures.error in
-    answers_refusal c.args.reading.now c.args.layout c.args.input.now c.in_err-value.field-0.0 c.from_residual.result _
+    answers_error c.args.reading.now c.args.layout c.args.input.now c.in_err-value.field-0.0 c.from_residual.result _
     text error c.from_residual.ensures.1

@@ -1,4 +1,4 @@
-use Rattle.jzonfmt.proofs.RefusedInputs.{reads_all}
+use Rattle.jzonfmt.proofs.RejectedInputs.{reads_all}
 use Rattle.jzonfmt.proofs.engine.run.Goals as goal
 
 pub returns : goal.returns

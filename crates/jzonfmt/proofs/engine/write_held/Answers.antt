@@ -10,5 +10,5 @@ returns-in_err-write_bytes-clause-err g c = second_stopped _ _ _ _ (text c.args.
     c.in_ok-write_text.ensures.ok c.in_err-write_bytes.ensures.err
 
 pub returns-clause-err : goal.returns-clause-err
-returns-clause-err g c = both_kept c.hand_on.result _ _ _ _ (text c.args.layout (view c.args.value.now)) (10 ∷ [])
-    c.in_ok-write_text.ensures.ok c.in_ok-write_bytes.ensures.ok c.hand_on.ensures.bytes
+returns-clause-err g c = both_kept c.write_out.result _ _ _ _ (text c.args.layout (view c.args.value.now)) (10 ∷ [])
+    c.in_ok-write_text.ensures.ok c.in_ok-write_bytes.ensures.ok c.write_out.ensures.bytes

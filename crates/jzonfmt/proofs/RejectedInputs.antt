@@ -32,12 +32,12 @@ answers_fault T reading layout input (DuplicateKey l k) w u (inl e) = absurd (cc
 answers_fault T reading layout input (DuplicateKey l k) w u (inr h) = ((u, h), Keeps-refl w)
 
 -- the error of the text, reported as a fault
-pub answers_refusal : {T : Type 0} (reading : Reading) (layout : Layout) (input : List ℕ) (e : Error)
+pub answers_error : {T : Type 0} (reading : Reading) (layout : Layout) (input : List ℕ) (e : Error)
     (result : Result T RunFault) (w : Option (List ℕ)) → IsUtf8 input
     → IsErrorUnlessMemory reading (chars input) e → IsErrAnd result (λ f. f ≡ fault_of e)
     → Answers reading layout input result w w
-answers_refusal reading layout input e (Ok v) w u h r = absurd r
-answers_refusal {T = T} reading layout input e (Err f) w u h r = subst
+answers_error reading layout input e (Ok v) w u h r = absurd r
+answers_error {T = T} reading layout input e (Err f) w u h r = subst
     (λ g. Answers {T = T} reading layout input (Err g) w w) (sym r) (answers_fault T reading layout input e w u h)
 
 -- the input was read to its end, whatever the result is

@@ -1,7 +1,7 @@
 use Rattle.std.proofs.Common.{◌-◌, length}
 use Rattle.std.specs.Io.KnownBytes.{Keeps}
 use Rattle.jzonfmt.specs.Buffered.{held}
-use Rattle.jzonfmt.proofs.buffered.Buffered.hand_on.Given as goal
+use Rattle.jzonfmt.proofs.buffered.Buffered.write_out.Given as goal
 
 -- the contents held don't change
 abbrev pub invariant-loop-self : goal.invariant-loop-self

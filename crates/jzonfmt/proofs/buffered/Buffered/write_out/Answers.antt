@@ -1,6 +1,6 @@
 use Rattle.std.proofs.KnownBytes.{Keeps-trans}
 use Rattle.jzonfmt.proofs.Held.{held_moved}
-use Rattle.jzonfmt.proofs.buffered.Buffered.hand_on.Goals as goal
+use Rattle.jzonfmt.proofs.buffered.Buffered.write_out.Goals as goal
 
 pub loop-self-preserved : goal.loop-self-preserved
 loop-self-preserved g c = Keeps-trans _ _ _ c.loop-self.invariant
