@@ -9,6 +9,8 @@ pub mod from_rust;
 pub mod layers;
 pub mod line_filter;
 pub mod merge_patch;
+pub mod patch;
 pub mod pointer;
+pub mod redact;
 pub mod round_trip;
 pub mod writing;

@@ -1,13 +1,16 @@
 -- A loop that writes a list in place, one position after the other, for callers: what its invariant says, and the laws of
 -- its steps. `see` is what is seen of an item, `view` of an array's elements and `seen_member` of an object's members, and
 -- `h` is what each one becomes.
-use Rattle.std.proofs.Common.{◌≡◌, ◌≤◌, ◌+◌, ℕ, zero, suc, List, [], ◌∷◌, map, take, drop, length, set, Some}
-use Rattle.std.proofs.Common.{refl, ap, sym, ◌∙◌, arith, add-one, slice_get}
+use Rattle.std.proofs.Common.{◌≡◌, ◌≤◌, ◌<◌, ◌+◌, ℕ, zero, suc, List, [], ◌∷◌, map, take, drop, length, set, get_or}
+use Rattle.std.proofs.Common.{Option, Some, None, refl, ap, sym, ◌∙◌, arith, add-one, slice_get, option_map}
+use Rattle.std.proofs.lemmas.Option.{slice_get-get_or}
+use Rattle.std.specs.Borrow.{MutBor}
+use Rattle.std.specs.Option.{option_copied_mut}
 use Rattle.jzon_base.specs.PairList.{set_value}
 use Rattle.jzon_tree.specs.Measure.{size, largest, largest_under}
 use Rattle.jzon_tree.specs.Value.{Value}
 use Rattle.jzon_tree.specs.View.{view}
-use Rattle.jzon_tree.specs.declared.value.JsonValue.{JsonValue}
+use Rattle.jzon_tree.specs.declared.value.JsonValue.{JsonValue, Null}
 
 abbrev pub seen_member : List ℕ × JsonValue → List ℕ × Value
 seen_member p = (p.0, view p.1)
@@ -97,6 +100,18 @@ pub written-next_member : (h : List ℕ × Value → List ℕ × Value) (i : ℕ
 written-next_member h i old new k v w before at is =
     rw (set_value-set i new k v w at) (written-next seen_member h i old new (k, v) (k, w) before at is)
 
+-- `get_index_mut` returns a member at each position below the length
+pub member-present : (h : List ℕ × Value → List ℕ × Value) (i : ℕ) (old new : List (List ℕ × JsonValue))
+    (r : Option (MutBor JsonValue)) → IsWrittenBelow seen_member h i old new → i < length old
+    → option_copied_mut r ≡ option_map (λ p. p.1) (slice_get new i) → ((x : MutBor JsonValue) → r ≡ Some x → ⊥) → ⊥
+member-present h i old new None before within found never =
+    let nothing : List ℕ × JsonValue = ([], Null) in
+    let there : slice_get new i ≡ Some (get_or old i nothing) =
+    unwritten seen_member h i old new before ∙ slice_get-get_or old i nothing within in
+    let some = found ∙ ap (option_map (λ (p : List ℕ × JsonValue). p.1)) there in
+    absurd (cc)
+member-present h i old new (Some x) before within found never = never x refl
+
 -- ---- a value inside is smaller
 
 pub size-element : (i : ℕ) (vs : List JsonValue) (v : JsonValue) → slice_get vs i ≡ Some v → size v ≤ largest vs
@@ -104,8 +119,8 @@ size-element i [] v at = absurd (cc)
 size-element zero (w ∷ vs) v at = let e : w ≡ v = cc in omega (arith, ap size e)
 size-element (suc i) (w ∷ vs) v at = omega (arith, size-element i vs v at)
 
-pub size-member : (i : ℕ) (ps : List (List ℕ × JsonValue)) (p : List ℕ × JsonValue) → slice_get ps i ≡ Some p
-    → size p.1 ≤ largest_under ps
-size-member i [] p at = absurd (cc)
-size-member zero (q ∷ ps) p at = let e : q ≡ p = cc in omega (arith, ap (λ r. size r.1) e)
-size-member (suc i) (q ∷ ps) p at = omega (arith, size-member i ps p at)
+pub size-member : (i : ℕ) (ps : List (List ℕ × JsonValue)) (v : JsonValue)
+    → Some v ≡ option_map (λ p. p.1) (slice_get ps i) → size v ≤ largest_under ps
+size-member i [] v at = absurd (cc)
+size-member zero (p ∷ ps) v at = let e : v ≡ p.1 = cc in omega (arith, ap size e)
+size-member (suc i) (p ∷ ps) v at = omega (arith, size-member i ps v at)

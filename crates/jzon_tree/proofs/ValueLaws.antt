@@ -14,14 +14,15 @@ use Rattle.jzon_base.specs.Decimal.{Decimal}
 use Rattle.jzon_base.specs.PairList.{find, put, cut, keys_of}
 use Rattle.jzon_base.proofs.PairLaws.{find-put_same, find-put_other, find-cut_same, find-cut_other}
 use Rattle.jzon_tree.specs.Changers.{with_item, without_item, with_entry, without_entry}
+use Rattle.jzon_tree.specs.Entries.{entries_of, with_entries}
 use Rattle.jzon_tree.specs.Lent.{object_in, entries_in, items_in}
 use Rattle.jzon_tree.specs.Readers.{items, entries, is_array, is_object, object_of, array_of}
 use Rattle.jzon_tree.specs.Value.{Value, null, boolean, text, number, array, object, short, long, list_of_values}
 use Rattle.jzon_tree.specs.Value.{list_of_pairs, Values, Pairs, no_values, value, no_pairs, pair, values_of, pairs_of}
-use Rattle.jzon_tree.specs.View.{view, viewed}
+use Rattle.jzon_tree.specs.View.{view, viewed, view_object}
 use Rattle.jzon_tree.specs.declared.object.Object.{Object}
 use Rattle.jzon_tree.specs.declared.value.JsonValue.{JsonValue, out-JsonValue, roll-JsonValue, the_lemmas}
-use Rattle.jzon_tree.specs.declared.value.JsonValue.{Short, String as in_memory, Number}
+use Rattle.jzon_tree.specs.declared.value.JsonValue.{Short, String as in_memory, Number, Object as object_value}
 use Rattle.jzon_tree.specs.declared.value.JsonValue.TheOpen.{JsonValue-F}
 
 -- ---- each kind
@@ -54,6 +55,17 @@ entries-view v =
 
 pub find-view : (k : List ℕ) (v : JsonValue) → find k (entries (view v)) ≡ option_map view (find k (entries_in v))
 find-view k v = ap (find k) (entries-view v) ∙ sym (find-viewed k (entries_in v))
+
+-- the members of an object, as it is seen
+pub find-view_object : (k : List ℕ) (o : Object) → find k (entries (view_object o)) ≡ option_map view (find k (entries_of o))
+find-view_object k o =
+    ap (find k) (list_of_pairs-pairs_of (viewed (entries_of o))) ∙ sym (find-viewed k (entries_of o))
+
+pub view_object-put : (k : List ℕ) (v : JsonValue) (o : Object)
+    → view_object (with_entries (put k v (entries_of o))) ≡ with_entry k (view v) (view_object o)
+view_object-put k v o =
+    ap (λ qs. object (pairs_of qs))
+    (viewed-put k v (entries_of o) ∙ ap (put k (view v)) (sym (list_of_pairs-pairs_of (viewed (entries_of o)))))
 
 rolled_items : (l : JsonValue-F JsonValue Object)
     → items (view (roll-JsonValue l)) ≡ map view (unwrap_or (items_in (roll-JsonValue l)) [])
@@ -201,6 +213,24 @@ pub is_object-no_object_in : (v : JsonValue) → object_in v ≡ None → is_obj
 is_object-no_object_in v =
     let same : roll-JsonValue (out-JsonValue v) ≡ v = search (rules, the_lemmas) in
     subst (λ w. object_in w ≡ None → is_object (view w) ≡ false) same (rolled-no_object (out-JsonValue v))
+
+-- the same by what a match on `JsonValue::Object` leaves to its last arm
+rolled-not_Object : (l : JsonValue-F JsonValue Object) → ((o : Object) → roll-JsonValue l ≡ object_value o → ⊥)
+    → is_object (view (roll-JsonValue l)) ≡ false
+rolled-not_Object JsonValue-F.Null h = search (rules, the_lemmas)
+rolled-not_Object (JsonValue-F.Short s) h = search (rules, the_lemmas)
+rolled-not_Object (JsonValue-F.String s) h = search (rules, the_lemmas)
+rolled-not_Object (JsonValue-F.Number n) h = search (rules, the_lemmas)
+rolled-not_Object (JsonValue-F.Boolean b) h = search (rules, the_lemmas)
+rolled-not_Object (JsonValue-F.Object o) h =
+    let is : roll-JsonValue (JsonValue-F.Object o) ≡ object_value o = search (rules, the_lemmas) in absurd (h o is)
+rolled-not_Object (JsonValue-F.Array vs) h = search (rules, the_lemmas)
+
+pub is_object-not_Object : (v : JsonValue) → ((o : Object) → v ≡ object_value o → ⊥) → is_object (view v) ≡ false
+is_object-not_Object v =
+    let same : roll-JsonValue (out-JsonValue v) ≡ v = search (rules, the_lemmas) in
+    subst (λ w. ((o : Object) → w ≡ object_value o → ⊥) → is_object (view w) ≡ false) same
+    (rolled-not_Object (out-JsonValue v))
 
 rolled-no_array : (l : JsonValue-F JsonValue Object) → items_in (roll-JsonValue l) ≡ None
     → is_array (view (roll-JsonValue l)) ≡ false
