@@ -8,6 +8,7 @@ pub mod Laws
 pub mod Classes
 pub mod Quote
 pub mod Machine
+pub mod Brackets
 pub mod Cursor
 pub mod Frames
 pub mod Answer

@@ -1,21 +1,41 @@
 //! A text and the offset up to which it is read.
 
-ghost use Rattle.std.specs.Prelude.{◌≡◌, ◌≢◌, ◌⊎◌, ◌↔◌, IsTrue, ◌<◌, ◌≤◌, ◌+◌, ◌++◌, ◌∷◌, [], List, ℕ, length, chars};
-ghost use Rattle.std.specs.Prelude.{drop, true, false, slice_index, Err, IfOk, if◌then◌else◌};
+ghost use Rattle.std.specs.Prelude.{◌≡◌, ◌≢◌, ◌⊎◌, ◌↔◌, IsTrue, ◌<◌, ◌≤◌, ◌+◌, length, chars};
+ghost use Rattle.std.specs.Prelude.{drop, false, slice_index, Err, IfOk, None, Some, if◌then◌else◌};
 ghost use Rattle.std.specs.Str.{IsCharBoundary, IsUtf8};
-ghost use Rattle.jzon_base.specs.PairList.{put};
-ghost use Rattle.jzon_tree.specs.Value.{Value, array, no_values, values_of, object, no_pairs, pairs_of};
+ghost use Rattle.jzon_tree.specs.Value.{Value};
 ghost use Rattle.jzon_tree.specs.Writing.{is_whitespace};
-ghost use Rattle.jzon.specs.Machine.{Entries, Frames, frames_depth, array_frame, object_frame, value_mark};
-ghost use Rattle.jzon.specs.Machine.{before, before_key, behind, stopped, Tells};
-ghost use Rattle.jzon_base.specs.Tokens.{begin_array, end_array, begin_object, end_object};
+ghost use Rattle.jzon.specs.Brackets.{opener, closer, empty_container, innermost_bracket};
+ghost use Rattle.jzon.specs.Brackets.{after_opener, after_comma, after_closer};
+ghost use Rattle.jzon.specs.Machine.{Frames, frames_depth, value_mark, before, behind, stopped, Tells};
+ghost use Rattle.jzon_base.specs.Tokens.{begin_array, begin_object};
 
 use crate::fault::fault_at;
 use crate::reading::Reading;
 use crate::whitespace::skip_whitespace;
 use jzon_base::error::{Error, Result};
 
-/// A text, the offset up to which it is read, and how it is read. The offset lies between two tokens, behind the whitespace.
+/// The brackets of one kind of container.
+#[derive(Clone, Copy)]
+pub(crate) enum Bracket {
+    Array,
+    Object,
+}
+
+impl Bracket {
+    /// The closing bracket.
+    #[inline(always)]
+    fn closer(self) -> u8
+        ensures { result ≡ closer self }
+    {
+        match self {
+            Bracket::Array => b']',
+            Bracket::Object => b'}',
+        }
+    }
+}
+
+/// A text, the offset up to which it is read, and how it is read. The offset is that of a token or of the end.
 #[derive(Clone, Copy)]
 pub(crate) struct Cursor<'a> {
     pub(crate) source: &'a str,
@@ -41,7 +61,7 @@ impl<'a> Cursor<'a> {
         }
     }
 
-    /// The byte that stands here, or 0 at the end. No token begins with 0.
+    /// The next byte, or 0 at the end. No token begins with 0.
     #[inline(always)]
     pub(crate) fn peek(&self) -> u8
         ensures { result ≡ next_byte self.now }
@@ -52,7 +72,7 @@ impl<'a> Cursor<'a> {
         }
     }
 
-    /// Whether an array or an object opens here.
+    /// Whether an array or an object comes next.
     #[inline(always)]
     pub(crate) fn opens_container(&self) -> bool
         ensures { IsTrue result ↔ ((next_byte self.now ≡ begin_array) ⊎ (next_byte self.now ≡ begin_object)) }
@@ -61,7 +81,7 @@ impl<'a> Cursor<'a> {
         next == b'[' || next == b'{'
     }
 
-    /// Goes past the token that ends at this offset, and the whitespace behind it.
+    /// Moves past the token that ends at `end`, and the whitespace after it.
     #[inline(always)]
     pub(crate) fn go_to(&mut self, end: usize)
         requires { IsCharBoundary self.old.source.now end }
@@ -70,7 +90,7 @@ impl<'a> Cursor<'a> {
         self.index = skip_whitespace(self.source, self.reading, end);
     }
 
-    /// Goes past the token of one byte that stands here, and the whitespace behind it.
+    /// Moves past the next byte, which is a token, and the whitespace after it.
     #[inline(always)]
     pub(crate) fn bump(&mut self)
         requires some { 0 < next_byte self.old }
@@ -80,37 +100,30 @@ impl<'a> Cursor<'a> {
         self.go_to(self.index + 1);
     }
 
-    /// The error of a text that can't go on from here.
+    /// The error of a text that has no valid continuation from here.
     pub(crate) fn fault(&self) -> Error
         ensures { Tells (chars self.now.source.now) result (stopped (chars (drop self.now.index self.now.source.now))) }
     {
         fault_at(self.source, self.index)
     }
 
-    /// Goes past the opening bracket that stands here. Whether the container is empty, and then it goes past the closing bracket too. Another one is refused
-    /// where as many are open as the reading allows.
+    /// Moves past the opening bracket that comes next, inside of `depth` containers. Whether the container is empty; then it moves past the closing bracket too.
+    /// `ExceededDepthLimit` where it isn't and `depth` is what the reading allows.
     #[inline(always)]
-    pub(crate) fn open_container(&mut self, closer: u8, depth: usize) -> Result<bool>
+    pub(crate) fn open_container(&mut self, bracket: Bracket, depth: usize) -> Result<bool>
         requires room { depth ≤ self.old.reading.depth }
-        requires some { 0 < closer }
-        requires ascii { closer < 128 }
-        requires opening { begin_array ≤ next_byte self.old × next_byte self.old < 128 }
+        requires opening { next_byte self.old ≡ opener bracket }
         ensures reading { self.new.reading ≡ self.old.reading }
         ensures memory { result ≢ Err Error.OutOfMemory }
         ensures filled { IfOk result (λ is_empty. is_empty ≡ false → (depth < self.old.reading.depth)
-            × (next_byte self.new ≢ closer)) }
-        ensures array { next_byte self.old ≡ begin_array → closer ≡ end_array →
-            (fs : Frames) → value_mark self.old.reading fs ≡ None → frames_depth fs ≡ depth →
+            × (next_byte self.new ≢ closer bracket)) }
+        ensures outcome { (fs : Frames) → value_mark self.old.reading fs ≡ None → frames_depth fs ≡ depth →
             GoesOn self.old (before fs) result self.new
-            (λ is_empty. if is_empty then behind fs (array no_values) else before (array_frame fs [])) }
-        ensures object { next_byte self.old ≡ begin_object → closer ≡ end_object →
-            (fs : Frames) → value_mark self.old.reading fs ≡ None → frames_depth fs ≡ depth →
-            GoesOn self.old (before fs) result self.new
-            (λ is_empty. if is_empty then behind fs (object no_pairs) else before_key fs []) }
+            (λ is_empty. if is_empty then behind fs (empty_container bracket) else after_opener bracket fs) }
     {
         self.bump();
-        let next = self.peek();
-        if next == closer {
+        let first = self.peek();
+        if first == bracket.closer() {
             self.bump();
             return Ok(true);
         }
@@ -123,44 +136,22 @@ impl<'a> Cursor<'a> {
         Ok(false)
     }
 
-    /// Behind an element of an array: whether the array ends. Goes past its closing bracket or the comma.
+    /// After an element or an entry: whether the container ends. Moves past its closing bracket or the comma.
     #[inline(always)]
-    pub(crate) fn array_ends(&mut self) -> Result<bool>
-        ensures { (fs : Frames) (vs : List Value) (v : Value)
-            → GoesOn self.old (behind (array_frame fs vs) v) result self.new
-            (λ ends. if ends then behind fs (array (values_of (vs ++ v ∷ []))) else before
-            (array_frame fs (vs ++ v ∷ []))) }
+    pub(crate) fn container_ends(&mut self, bracket: Bracket) -> Result<bool>
+        ensures { (fs : Frames) (v : Value) → innermost_bracket fs ≡ Some bracket →
+            GoesOn self.old (behind fs v) result self.new
+            (λ ends. if ends then after_closer fs v else after_comma fs v) }
     {
-        match self.peek() {
-            b']' => {
-                self.bump();
-                Ok(true)
-            }
-            b',' => {
-                self.bump();
-                Ok(false)
-            }
-            _ => Err(self.fault()),
+        let next = self.peek();
+        if next == bracket.closer() {
+            self.bump();
+            return Ok(true);
         }
-    }
-
-    /// The same behind the value of a key in an object.
-    #[inline(always)]
-    pub(crate) fn object_ends(&mut self) -> Result<bool>
-        ensures { (fs : Frames) (es : Entries) (k : List ℕ) (v : Value)
-            → GoesOn self.old (behind (object_frame fs es k) v) result self.new
-            (λ ends. if ends then behind fs (object (pairs_of (put k v es))) else before_key fs (put k v es)) }
-    {
-        match self.peek() {
-            b'}' => {
-                self.bump();
-                Ok(true)
-            }
-            b',' => {
-                self.bump();
-                Ok(false)
-            }
-            _ => Err(self.fault()),
+        if next == b',' {
+            self.bump();
+            return Ok(false);
         }
+        Err(self.fault())
     }
 }

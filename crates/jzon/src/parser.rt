@@ -14,7 +14,7 @@ ghost use Rattle.jzon.specs.Machine.{before_key, behind, key_mark, from, Reads};
 ghost use Rattle.jzon.specs.Reading.{usual};
 ghost use Rattle.jzon_base.specs.Tokens.{end_array, end_object};
 
-use crate::cursor::Cursor;
+use crate::cursor::{Bracket, Cursor};
 use crate::fault::duplicate_at;
 use crate::frames::{Begun, Frame};
 use crate::hints::Hints;
@@ -109,13 +109,13 @@ impl<'a> Parser<'a> {
     {
         match self.cursor.peek() {
             b'[' => {
-                if self.cursor.open_container(b']', depth)? {
+                if self.cursor.open_container(Bracket::Array, depth)? {
                     return Ok(Begun::Value(JsonValue::Array(Vec::new(self.alloc))));
                 }
                 Ok(Begun::Array)
             }
             b'{' => {
-                if self.cursor.open_container(b'}', depth)? {
+                if self.cursor.open_container(Bracket::Object, depth)? {
                     return Ok(Begun::Value(JsonValue::Object(Object::new(self.alloc))));
                 }
                 Ok(Begun::Object)
@@ -184,7 +184,7 @@ impl<'a> Parser<'a> {
         match frame {
             Frame::Array(mut elements) => {
                 elements.push(item)?;
-                if self.cursor.array_ends()? {
+                if self.cursor.container_ends(Bracket::Array)? {
                     let depth = self.stack.len();
                     fit_array(self.alloc, &mut elements, &mut self.array_hints, depth)?;
                     return Ok(Begun::Value(JsonValue::Array(elements)));
@@ -193,7 +193,7 @@ impl<'a> Parser<'a> {
             }
             Frame::Object(mut entries, key) => {
                 entries.push(self.alloc, key, item)?;
-                if self.cursor.object_ends()? {
+                if self.cursor.container_ends(Bracket::Object)? {
                     let depth = self.stack.len();
                     let object = close_object(self.alloc, entries, &mut self.object_hints, depth)?;
                     return Ok(Begun::Value(object));
@@ -244,7 +244,7 @@ impl<'a> Parser<'a> {
                 self.cursor.go_to(end);
                 elements.push(value)?;
             }
-            if self.cursor.array_ends()? {
+            if self.cursor.container_ends(Bracket::Array)? {
                 let depth = self.stack.len();
                 fit_array(self.alloc, &mut elements, &mut self.array_hints, depth)?;
                 return Ok(Begun::Value(JsonValue::Array(elements)));
@@ -272,7 +272,7 @@ impl<'a> Parser<'a> {
                     return Ok(begun);
                 }
             }
-            if self.cursor.object_ends()? {
+            if self.cursor.container_ends(Bracket::Object)? {
                 let depth = self.stack.len();
                 let object = close_object(self.alloc, entries, &mut self.object_hints, depth)?;
                 return Ok(Begun::Value(object));

@@ -1,15 +1,19 @@
 -- The tokens of arrays and objects, by the offset of the parser's cursor.
 use Rattle.std.proofs.Common.{◌≡◌, ◌≢◌, ◌∙◌, ℕ, ◌+◌, ◌<◌, ◌≤◌, ◌&&◌, false, List, [], ◌∷◌, ◌++◌, length, drop, refl}
-use Rattle.std.proofs.Common.{arith, None, lit<}
+use Rattle.std.proofs.Common.{arith, None, Some, sym, lit<}
 use Rattle.std.specs.Prelude.{chars}
 use Rattle.std.specs.Option.{is_some}
-use Rattle.jzon_base.specs.PairList.{find, put}
+use Rattle.jzon_base.specs.PairList.{find}
 use Rattle.jzon_base.specs.declared.error.Error.TheVariants.{UnexpectedEndOfJson, ExceededDepthLimit}
-use Rattle.jzon_tree.specs.Value.{Value, array, no_values, values_of, object, no_pairs, pairs_of}
+use Rattle.jzon_tree.specs.Value.{Value, array, no_values, object, no_pairs}
+use Rattle.jzon.specs.Brackets.{opener, closer, empty_container, innermost_bracket, after_opener, after_comma, after_closer}
 use Rattle.jzon.specs.Cursor.{left, next_byte, IsPast, IsBehind}
-use Rattle.jzon.specs.Machine.{Entries, Frames, array_frame, object_frame, as_key, between, before, before_key, string}
+use Rattle.jzon.specs.Machine.{Entries, Frames, no_frames, array_frame, object_frame, as_key, between, before}
+use Rattle.jzon.specs.Machine.{before_key, string}
 use Rattle.jzon.specs.Machine.{after_key, behind, frames_depth, value_mark, key_mark, from, from_closed, left_at}
 use Rattle.jzon.specs.Machine.{stopped, TellsUnlessMemory}
+use Rattle.jzon.specs.declared.cursor.Bracket.{Bracket}
+use Rattle.jzon.specs.declared.cursor.Bracket.TheVariants.{Array, Object}
 use Rattle.jzon.specs.declared.cursor.Cursor.{Cursor}
 use Rattle.jzon.proofs.Containers.ContainerSteps.{open_array, open_object, close_empty_array, close_empty_object}
 use Rattle.jzon.proofs.Containers.ContainerSteps.{deep_element, deep_key, element_comma, close_array, no_element}
@@ -21,109 +25,98 @@ use Rattle.jzon.proofs.Strings.Quotes.{key_goes}
 use Rattle.jzon.proofs.Texts.StepsByByte.{from_stop}
 use Rattle.jzon.proofs.Texts.ReportedErrors.{told_deep, told_end}
 
--- ---- opening brackets
+-- ---- brackets
 
-pub array_opens : (t u : Cursor) (fs : Frames) → IsPast t.reading t.source.now (t.index + 1) u → next_byte t ≡ 91
-    → value_mark t.reading fs ≡ None → IsBehind t u × (left t (before fs) ≡ left u (before (array_frame fs [])))
-array_opens t u fs past e mark =
+pub opener_bounds : (b : Bracket) → (0 < opener b) × (opener b < 128)
+opener_bounds Array = (omega arith, omega arith)
+opener_bounds Object = (omega arith, omega arith)
+
+same_closer : (b d : Bracket) → Some b ≡ Some d → closer d ≡ closer b
+same_closer b d e = cc
+
+-- ---- after the opening bracket
+
+pub opens : (b : Bracket) (t u : Cursor) (fs : Frames) → IsPast t.reading t.source.now (t.index + 1) u
+    → next_byte t ≡ opener b → value_mark t.reading fs ≡ None
+    → IsBehind t u × (left t (before fs) ≡ left u (after_opener b fs))
+opens Array t u fs past e mark =
     byte_goes t u (before fs) (before (array_frame fs [])) past refl
     (open_array t.reading t.source.now t.index fs (utf8_of t) t.boundary
     (byte_within t.source.now t.index 91 e (lit< tt)) e mark)
-
-pub object_opens : (t u : Cursor) (fs : Frames) → IsPast t.reading t.source.now (t.index + 1) u → next_byte t ≡ 123
-    → value_mark t.reading fs ≡ None → IsBehind t u × (left t (before fs) ≡ left u (before_key fs []))
-object_opens t u fs past e mark =
+opens Object t u fs past e mark =
     byte_goes t u (before fs) (before_key fs []) past refl
     (open_object t.reading t.source.now t.index fs (utf8_of t) t.boundary
     (byte_within t.source.now t.index 123 e (lit< tt)) e mark)
 
--- ---- after an opening bracket
-
-pub empty_array_closes : (t u : Cursor) (fs : Frames) → IsPast t.reading t.source.now (t.index + 1) u → next_byte t ≡ 93
-    → IsBehind t u × (left t (before (array_frame fs [])) ≡ left u (behind fs (array no_values)))
-empty_array_closes t u fs past e =
+pub empty_closes : (b : Bracket) (t u : Cursor) (fs : Frames) → IsPast t.reading t.source.now (t.index + 1) u
+    → next_byte t ≡ closer b → IsBehind t u × (left t (after_opener b fs) ≡ left u (behind fs (empty_container b)))
+empty_closes Array t u fs past e =
     byte_goes t u (before (array_frame fs [])) (behind fs (array no_values)) past refl
     (close_empty_array t.reading t.source.now t.index fs (utf8_of t) t.boundary
     (byte_within t.source.now t.index 93 e (lit< tt)) e)
-
-pub empty_object_closes : (t u : Cursor) (fs : Frames) → IsPast t.reading t.source.now (t.index + 1) u
-    → next_byte t ≡ 125 → IsBehind t u × (left t (before_key fs []) ≡ left u (behind fs (object no_pairs)))
-empty_object_closes t u fs past e =
+empty_closes Object t u fs past e =
     byte_goes t u (before_key fs []) (behind fs (object no_pairs)) past refl
     (close_empty_object t.reading t.source.now t.index fs (utf8_of t) t.boundary
     (byte_within t.source.now t.index 125 e (lit< tt)) e)
 
-pub array_left_open : (t : Cursor) (fs : Frames) → length t.source.now ≤ t.index
-    → TellsUnlessMemory (chars t.source.now) UnexpectedEndOfJson (left t (before (array_frame fs [])))
-array_left_open t fs le = told_end t.reading t.source.now t.index (before (array_frame fs [])) _ refl le refl
+pub left_open : (b : Bracket) (t : Cursor) (fs : Frames) → length t.source.now ≤ t.index
+    → TellsUnlessMemory (chars t.source.now) UnexpectedEndOfJson (left t (after_opener b fs))
+left_open Array t fs le = told_end t.reading t.source.now t.index (before (array_frame fs [])) _ refl le refl
+left_open Object t fs le = told_end t.reading t.source.now t.index (before_key fs []) _ refl le refl
 
-pub object_left_open : (t : Cursor) (fs : Frames) → length t.source.now ≤ t.index
-    → TellsUnlessMemory (chars t.source.now) UnexpectedEndOfJson (left t (before_key fs []))
-object_left_open t fs le = told_end t.reading t.source.now t.index (before_key fs []) _ refl le refl
-
-pub element_too_deep : (t : Cursor) (fs : Frames) → t.index < length t.source.now → next_byte t ≢ 93
+pub item_too_deep : (b : Bracket) (t : Cursor) (fs : Frames) → t.index < length t.source.now → next_byte t ≢ closer b
     → t.reading.depth ≤ frames_depth fs
-    → TellsUnlessMemory (chars t.source.now) ExceededDepthLimit (left t (before (array_frame fs [])))
-element_too_deep t fs lt n le =
+    → TellsUnlessMemory (chars t.source.now) ExceededDepthLimit (left t (after_opener b fs))
+item_too_deep Array t fs lt n le =
     told_deep (chars t.source.now) (chars (drop t.index t.source.now)) _
     (deep_element t.reading t.source.now t.index fs (utf8_of t) t.boundary lt (t.past_whitespace lt) n
     (too_deep t.reading.depth (frames_depth fs) le))
-
-pub key_too_deep : (t : Cursor) (fs : Frames) → t.index < length t.source.now → next_byte t ≢ 125
-    → t.reading.depth ≤ frames_depth fs
-    → TellsUnlessMemory (chars t.source.now) ExceededDepthLimit (left t (before_key fs []))
-key_too_deep t fs lt n le =
+item_too_deep Object t fs lt n le =
     told_deep (chars t.source.now) (chars (drop t.index t.source.now)) _
     (deep_key t.reading t.source.now t.index fs (utf8_of t) t.boundary lt (t.past_whitespace lt) n
     (too_deep t.reading.depth (frames_depth fs) le))
 
--- ---- after an element
+-- ---- after an item
 
-pub array_closes : (t u : Cursor) (fs : Frames) (vs : List Value) (v : Value)
-    → IsPast t.reading t.source.now (t.index + 1) u → next_byte t ≡ 93
-    → IsBehind t u × (left t (behind (array_frame fs vs) v) ≡ left u (behind fs (array (values_of (vs ++ v ∷ [])))))
-array_closes t u fs vs v past e =
-    byte_goes t u (behind (array_frame fs vs) v) (behind fs (array (values_of (vs ++ v ∷ [])))) past refl
+pub closes : (b : Bracket) (t u : Cursor) (fs : Frames) (v : Value) → innermost_bracket fs ≡ Some b
+    → IsPast t.reading t.source.now (t.index + 1) u → next_byte t ≡ closer b
+    → IsBehind t u × (left t (behind fs v) ≡ left u (after_closer fs v))
+closes b t u no_frames v here past e = absurd (cc)
+closes b t u (array_frame fs vs) v here past e =
+    let next : next_byte t ≡ 93 = e ∙ same_closer Array b here in
+    byte_goes t u (behind (array_frame fs vs) v) (after_closer (array_frame fs vs) v) past refl
     (close_array t.reading t.source.now t.index fs vs v (utf8_of t) t.boundary
-    (byte_within t.source.now t.index 93 e (lit< tt)) e)
+    (byte_within t.source.now t.index 93 next (lit< tt)) next)
+closes b t u (object_frame fs es k) v here past e =
+    let next : next_byte t ≡ 125 = e ∙ same_closer Object b here in
+    byte_goes t u (behind (object_frame fs es k) v) (after_closer (object_frame fs es k) v) past refl
+    (close_object t.reading t.source.now t.index fs es k v (utf8_of t) t.boundary
+    (byte_within t.source.now t.index 125 next (lit< tt)) next)
 
-pub array_goes_on : (t u : Cursor) (fs : Frames) (vs : List Value) (v : Value)
+pub comma_goes : (b : Bracket) (t u : Cursor) (fs : Frames) (v : Value) → innermost_bracket fs ≡ Some b
     → IsPast t.reading t.source.now (t.index + 1) u → next_byte t ≡ 44
-    → IsBehind t u × (left t (behind (array_frame fs vs) v) ≡ left u (before (array_frame fs (vs ++ v ∷ []))))
-array_goes_on t u fs vs v past e =
-    byte_goes t u (behind (array_frame fs vs) v) (before (array_frame fs (vs ++ v ∷ []))) past refl
+    → IsBehind t u × (left t (behind fs v) ≡ left u (after_comma fs v))
+comma_goes b t u no_frames v here past e = absurd (cc)
+comma_goes b t u (array_frame fs vs) v here past e =
+    byte_goes t u (behind (array_frame fs vs) v) (after_comma (array_frame fs vs) v) past refl
     (element_comma t.reading t.source.now t.index fs vs v (utf8_of t) t.boundary
     (byte_within t.source.now t.index 44 e (lit< tt)) e)
-
-pub array_stops : (t : Cursor) (fs : Frames) (vs : List Value) (v : Value) → next_byte t ≢ 44 → next_byte t ≢ 93
-    → left t (behind (array_frame fs vs) v) ≡ stopped (chars (drop t.index t.source.now))
-array_stops t fs vs v no_comma no_end =
-    from_stop t.reading t.source.now t.index (behind (array_frame fs vs) v) (utf8_of t) t.boundary
-    (no_element t.reading t.source.now t.index fs vs v t.past_whitespace (λ h. no_comma h.1) (λ h. no_end h.1))
-
--- ---- after a member's value
-
-pub object_closes : (t u : Cursor) (fs : Frames) (es : Entries) (k : List ℕ) (v : Value)
-    → IsPast t.reading t.source.now (t.index + 1) u → next_byte t ≡ 125
-    → IsBehind t u × (left t (behind (object_frame fs es k) v) ≡ left u (behind fs (object (pairs_of (put k v es)))))
-object_closes t u fs es k v past e =
-    byte_goes t u (behind (object_frame fs es k) v) (behind fs (object (pairs_of (put k v es)))) past refl
-    (close_object t.reading t.source.now t.index fs es k v (utf8_of t) t.boundary
-    (byte_within t.source.now t.index 125 e (lit< tt)) e)
-
-pub object_goes_on : (t u : Cursor) (fs : Frames) (es : Entries) (k : List ℕ) (v : Value)
-    → IsPast t.reading t.source.now (t.index + 1) u → next_byte t ≡ 44
-    → IsBehind t u × (left t (behind (object_frame fs es k) v) ≡ left u (before_key fs (put k v es)))
-object_goes_on t u fs es k v past e =
-    byte_goes t u (behind (object_frame fs es k) v) (before_key fs (put k v es)) past refl
+comma_goes b t u (object_frame fs es k) v here past e =
+    byte_goes t u (behind (object_frame fs es k) v) (after_comma (object_frame fs es k) v) past refl
     (entry_comma t.reading t.source.now t.index fs es k v (utf8_of t) t.boundary
     (byte_within t.source.now t.index 44 e (lit< tt)) e)
 
-pub object_stops : (t : Cursor) (fs : Frames) (es : Entries) (k : List ℕ) (v : Value) → next_byte t ≢ 44
-    → next_byte t ≢ 125 → left t (behind (object_frame fs es k) v) ≡ stopped (chars (drop t.index t.source.now))
-object_stops t fs es k v no_comma no_end =
+pub item_stops : (b : Bracket) (t : Cursor) (fs : Frames) (v : Value) → innermost_bracket fs ≡ Some b → next_byte t ≢ 44
+    → next_byte t ≢ closer b → left t (behind fs v) ≡ stopped (chars (drop t.index t.source.now))
+item_stops b t no_frames v here no_comma no_end = absurd (cc)
+item_stops b t (array_frame fs vs) v here no_comma no_end =
+    from_stop t.reading t.source.now t.index (behind (array_frame fs vs) v) (utf8_of t) t.boundary
+    (no_element t.reading t.source.now t.index fs vs v t.past_whitespace (λ h. no_comma h.1)
+    (λ h. no_end (h.1 ∙ sym (same_closer Array b here))))
+item_stops b t (object_frame fs es k) v here no_comma no_end =
     from_stop t.reading t.source.now t.index (behind (object_frame fs es k) v) (utf8_of t) t.boundary
-    (no_entry t.reading t.source.now t.index fs es k v t.past_whitespace (λ h. no_comma h.1) (λ h. no_end h.1))
+    (no_entry t.reading t.source.now t.index fs es k v t.past_whitespace (λ h. no_comma h.1)
+    (λ h. no_end (h.1 ∙ sym (same_closer Object b here))))
 
 -- ---- keys
 

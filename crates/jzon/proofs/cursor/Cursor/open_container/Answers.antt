@@ -1,79 +1,52 @@
-use Rattle.std.proofs.Common.{◌≡◌, ◌≢◌, ◌∙◌, ◌<◌, [], None, length, sym, arith}
+use Rattle.std.proofs.Common.{◌≡◌, ◌≢◌, ◌∙◌, ◌<◌, None, length, sym, arith}
 use Rattle.jzon_base.specs.declared.error.Error.TheVariants.{UnexpectedEndOfJson, ExceededDepthLimit}
-use Rattle.jzon_tree.specs.Value.{array, no_values, object, no_pairs}
+use Rattle.jzon.specs.Brackets.{closer, empty_container, after_opener}
 use Rattle.jzon.specs.Cursor.{next_byte}
-use Rattle.jzon.specs.Machine.{Frames, array_frame, before, before_key, behind, value_mark}
-use Rattle.jzon.proofs.Containers.ContainerTokens.{array_opens, object_opens, empty_array_closes, empty_object_closes}
-use Rattle.jzon.proofs.Containers.ContainerTokens.{array_left_open, object_left_open, element_too_deep, key_too_deep}
+use Rattle.jzon.specs.Machine.{Frames, before, behind, value_mark}
+use Rattle.jzon.proofs.Containers.ContainerTokens.{opener_bounds, opens, empty_closes, left_open, item_too_deep}
 use Rattle.jzon.proofs.Texts.Cursors.{Reached, reached, goes_behind, told_on}
 use Rattle.jzon.proofs.cursor.Cursor.open_container.Goals.{After-bump}
 use Rattle.jzon.proofs.cursor.Cursor.open_container.Goals as goal
 
+pub bump-requires : goal.bump-requires
+bump-requires c =
+    let bounds = opener_bounds c.args.bracket in
+    record { some = omega (arith, bounds.0, c.requires.opening); ascii = omega (arith, bounds.1, c.requires.opening) }
+
 -- the opening bracket was read
-in_array : (c : After-bump) (fs : Frames) → next_byte c.args.self.now ≡ 91
-    → value_mark c.args.self.now.reading fs ≡ None
-    → Reached c.args.self.now (before fs) c.bump.new.self (before (array_frame fs []))
-in_array c fs e mark = reached c.args.self.now c.bump.new.self _ _
-    (array_opens c.args.self.now c.bump.new.self fs c.bump.ensures e mark)
+at_first : (c : After-bump) (fs : Frames) → value_mark c.args.self.now.reading fs ≡ None
+    → Reached c.args.self.now (before fs) c.bump.new.self (after_opener c.args.bracket fs)
+at_first c fs mark = reached c.args.self.now c.bump.new.self _ _
+    (opens c.args.bracket c.args.self.now c.bump.new.self fs c.bump.ensures c.requires.opening mark)
 
-in_object : (c : After-bump) (fs : Frames) → next_byte c.args.self.now ≡ 123
-    → value_mark c.args.self.now.reading fs ≡ None
-    → Reached c.args.self.now (before fs) c.bump.new.self (before_key fs [])
-in_object c fs e mark = reached c.args.self.now c.bump.new.self _ _
-    (object_opens c.args.self.now c.bump.new.self fs c.bump.ensures e mark)
-
-pub returns-then-next-closer-clause-array : goal.returns-then-next-closer-clause-array
-returns-then-next-closer-clause-array c e closer fs mark depth =
+pub returns-then-first-closer-clause-outcome : goal.returns-then-first-closer-clause-outcome
+returns-then-first-closer-clause-outcome c fs mark depth =
+    let b = c.args.bracket in
     let t = c.args.self.now in
     let m = c.bump.new.self in
-    let u = c.bump-then-next-closer.new.self in
-    goes_behind t m u (before fs) (before (array_frame fs [])) (behind fs (array no_values))
-    (in_array (goal.at.returns-then-next-closer-clause-array c).After-bump fs e mark)
-    (empty_array_closes m u fs c.bump-then-next-closer.ensures
-    (sym c.peek-next.ensures ∙ c.if-next-closer.true ∙ closer))
+    let u = c.bump-then-first-closer.new.self in
+    goes_behind t m u (before fs) (after_opener b fs) (behind fs (empty_container b))
+    (at_first (goal.at.returns-then-first-closer-clause-outcome c).After-bump fs mark)
+    (empty_closes b m u fs c.bump-then-first-closer.ensures
+    (sym c.peek-first.ensures ∙ c.if-first-closer.true ∙ c.closer.ensures))
 
-pub returns-then-next-closer-clause-object : goal.returns-then-next-closer-clause-object
-returns-then-next-closer-clause-object c e closer fs mark depth =
-    let t = c.args.self.now in
-    let m = c.bump.new.self in
-    let u = c.bump-then-next-closer.new.self in
-    goes_behind t m u (before fs) (before_key fs []) (behind fs (object no_pairs))
-    (in_object (goal.at.returns-then-next-closer-clause-object c).After-bump fs e mark)
-    (empty_object_closes m u fs c.bump-then-next-closer.ensures
-    (sym c.peek-next.ensures ∙ c.if-next-closer.true ∙ closer))
+pub returns-then-self-clause-outcome : goal.returns-then-self-clause-outcome
+returns-then-self-clause-outcome c fs mark depth =
+    told_on c.args.self.now c.bump.new.self (before fs) (after_opener c.args.bracket fs) UnexpectedEndOfJson
+    (at_first (goal.at.returns-then-self-clause-outcome c).After-bump fs mark)
+    (left_open c.args.bracket c.bump.new.self fs (omega arith))
 
-pub returns-then-self-clause-array : goal.returns-then-self-clause-array
-returns-then-self-clause-array c e closer fs mark depth =
-    told_on c.args.self.now c.bump.new.self (before fs) (before (array_frame fs [])) UnexpectedEndOfJson
-    (in_array (goal.at.returns-then-self-clause-array c).After-bump fs e mark)
-    (array_left_open c.bump.new.self fs (omega arith))
-
-pub returns-then-self-clause-object : goal.returns-then-self-clause-object
-returns-then-self-clause-object c e closer fs mark depth =
-    told_on c.args.self.now c.bump.new.self (before fs) (before_key fs []) UnexpectedEndOfJson
-    (in_object (goal.at.returns-then-self-clause-object c).After-bump fs e mark)
-    (object_left_open c.bump.new.self fs (omega arith))
-
-pub returns-then-depth-from-clause-array : goal.returns-then-depth-from-clause-array
-returns-then-depth-from-clause-array c e closer fs mark depth =
+pub returns-then-depth-from-clause-outcome : goal.returns-then-depth-from-clause-outcome
+returns-then-depth-from-clause-outcome c fs mark depth =
+    let b = c.args.bracket in
     let m = c.bump.new.self in
     let lt : m.index < length m.source.now = omega (arith, m.boundary.0) in
-    let other : next_byte m ≢ 93 = λ f. c.if-next-closer.false (c.peek-next.ensures ∙ f ∙ sym closer) in
-    told_on c.args.self.now m (before fs) (before (array_frame fs [])) ExceededDepthLimit
-    (in_array (goal.at.returns-then-depth-from-clause-array c).After-bump fs e mark)
-    (element_too_deep m fs lt other (omega (arith, depth, c.if-depth-from.true, c.from.ensures, c.depth.ensures.depth)))
+    let other : next_byte m ≢ closer b = λ f. c.if-first-closer.false (c.peek-first.ensures ∙ f ∙ sym c.closer.ensures) in
+    told_on c.args.self.now m (before fs) (after_opener b fs) ExceededDepthLimit
+    (at_first (goal.at.returns-then-depth-from-clause-outcome c).After-bump fs mark)
+    (item_too_deep b m fs lt other
+    (omega (arith, depth, c.if-depth-from.true, c.from.ensures, c.depth.ensures.depth)))
 
-pub returns-then-depth-from-clause-object : goal.returns-then-depth-from-clause-object
-returns-then-depth-from-clause-object c e closer fs mark depth =
-    let m = c.bump.new.self in
-    let lt : m.index < length m.source.now = omega (arith, m.boundary.0) in
-    let other : next_byte m ≢ 125 = λ f. c.if-next-closer.false (c.peek-next.ensures ∙ f ∙ sym closer) in
-    told_on c.args.self.now m (before fs) (before_key fs []) ExceededDepthLimit
-    (in_object (goal.at.returns-then-depth-from-clause-object c).After-bump fs e mark)
-    (key_too_deep m fs lt other (omega (arith, depth, c.if-depth-from.true, c.from.ensures, c.depth.ensures.depth)))
-
-pub returns-clause-array : goal.returns-clause-array
-returns-clause-array c e closer fs mark depth = array_opens c.args.self.now c.bump.new.self fs c.bump.ensures e mark
-
-pub returns-clause-object : goal.returns-clause-object
-returns-clause-object c e closer fs mark depth = object_opens c.args.self.now c.bump.new.self fs c.bump.ensures e mark
+pub returns-clause-outcome : goal.returns-clause-outcome
+returns-clause-outcome c fs mark depth =
+    opens c.args.bracket c.args.self.now c.bump.new.self fs c.bump.ensures c.requires.opening mark

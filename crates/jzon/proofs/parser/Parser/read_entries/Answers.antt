@@ -11,7 +11,7 @@ use Rattle.jzon.specs.Machine.{object_frame, frames_depth, before, before_key, b
 use Rattle.jzon.proofs.Texts.Cursors.{Reached, reached_start, reached, goes_behind, fails_on}
 use Rattle.jzon.proofs.Containers.FrameViews.{frames_depth-stack, key_mark-shallow, some_put}
 use Rattle.jzon.proofs.Containers.FrameViews.{stack_view-push}
-use Rattle.jzon.proofs.parser.Parser.read_entries.Goals.{After-read_key, In_ok-key, After-len-depth, After-object_ends}
+use Rattle.jzon.proofs.parser.Parser.read_entries.Goals.{After-read_key, In_ok-key, After-len-depth, After-container_ends}
 use Rattle.jzon.proofs.parser.Parser.read_entries.Goals as goal
 
 pub loop-entries-init : goal.loop-entries-init
@@ -134,7 +134,7 @@ returns-in_default-clause-same c =
     (read.0, read.1 ∙ ap (λ gs. left n (place_of c.in_ok-begun.begun gs)) (sym stack))
 
 -- the value of the key was read
-came : (c : After-object_ends)
+came : (c : After-container_ends)
     → Reached c.args.self.now.cursor (before_key (stack_view c.args.self.now.stack.items) (viewed c.args.entries))
     c.read_key.new.self.cursor
     (before (object_frame (stack_view c.args.self.now.stack.items) (viewed c.loop-entries.entries)
@@ -160,32 +160,32 @@ came c key =
     (goes_behind c.args.self.now.cursor c.read_key.new.self.cursor n _ (before here) _ key
     (read.0, read.1 ∙ ap (λ b. left n (place_of b here)) c.in-Value.is))
 
-pushed : (c : After-object_ends) →
+pushed : (c : After-container_ends) →
     viewed c.push.new.self ≡ put c.in_ok-key.key (view c.in-Value.value) (viewed c.loop-entries.entries)
 pushed c =
     ap viewed c.in_ok-push-in-Value.ensures.ok ∙ viewed-put c.in_ok-key.key c.in-Value.value
     c.read_key.new.entries
     ∙ ap (λ es. put c.in_ok-key.key (view c.in-Value.value) (viewed es)) c.in_ok-key.ensures.kept
 
-pub returns-in_err-object_ends-clause-same : goal.returns-in_err-object_ends-clause-same
-returns-in_err-object_ends-clause-same c =
+pub returns-in_err-container_ends-clause-same : goal.returns-in_err-container_ends-clause-same
+returns-in_err-container_ends-clause-same c =
     let fs = stack_view c.args.self.now.stack.items in
     let es = viewed c.loop-entries.entries in
-    let at = goal.at.returns-in_err-object_ends-clause-same c in
-    let failed = err_from_is_err_and c.from_residual-in_err-object_ends.result
-    c.from_residual-in_err-object_ends.ensures.1 in
+    let at = goal.at.returns-in_err-container_ends-clause-same c in
+    let failed = err_from_is_err_and c.from_residual-in_err-container_ends.result
+    c.from_residual-in_err-container_ends.ensures.1 in
     fails_on c.args.self.now.cursor c.begin.new.self.cursor _ _
     (behind (object_frame fs es c.in_ok-key.key) (view c.in-Value.value))
-    c.from_residual-in_err-object_ends.result _ failed.0 failed.1 (came at.After-object_ends (keyed at.In_ok-key))
-    (rw failed.2 (c.in_err-object_ends.ensures fs es c.in_ok-key.key (view c.in-Value.value)))
+    c.from_residual-in_err-container_ends.result _ failed.0 failed.1 (came at.After-container_ends (keyed at.In_ok-key))
+    (rw failed.2 (c.in_err-container_ends.ensures (object_frame fs es c.in_ok-key.key) (view c.in-Value.value) refl))
 
 pub returns-then-branch-clause-ready : goal.returns-then-branch-clause-ready
 returns-then-branch-clause-ready c =
     let fs = stack_view c.args.self.now.stack.items in
     let es = viewed c.loop-entries.entries in
     let at = goal.at.returns-then-branch-clause-ready c in
-    let reading = (c.in_ok-object_ends.ensures fs es c.in_ok-key.key (view c.in-Value.value)).0.reading
-    ∙ (came at.After-object_ends (keyed at.In_ok-key)).reading in
+    let reading = (c.in_ok-container_ends.ensures (object_frame fs es c.in_ok-key.key) (view c.in-Value.value) refl).0.reading
+    ∙ (came at.After-container_ends (keyed at.In_ok-key)).reading in
     omega (
       arith,
       c.requires.room,
@@ -196,22 +196,22 @@ returns-then-branch-clause-ready c =
 pub returns-then-branch-clause-same : goal.returns-then-branch-clause-same
 returns-then-branch-clause-same c =
     let t = c.args.self.now.cursor in
-    let u = c.object_ends.new.self in
+    let u = c.container_ends.new.self in
     let fs = stack_view c.args.self.now.stack.items in
     let es = viewed c.loop-entries.entries in
     let k = c.in_ok-key.key in
     let v = view c.in-Value.value in
     let at = goal.at.returns-then-branch-clause-same c in
     let read = goes_behind t c.begin.new.self.cursor u _ (behind (object_frame fs es k) v) _
-    (came at.After-object_ends (keyed at.In_ok-key))
-    (c.in_ok-object_ends.ensures fs es k v) in (
+    (came at.After-container_ends (keyed at.In_ok-key))
+    (c.in_ok-container_ends.ensures (object_frame fs es k) v refl) in (
       read.0,
       read.1 ∙ ap (λ b. left u (cond b (behind fs (object (pairs_of (put k v es)))) (before_key fs (put k v es))))
           c.if-branch.true
           ∙ ap (λ s. left u (behind (stack_view s.items) (object (pairs_of (put k v es)))))
           (sym (c.in_ok-begun.ensures.stack ∙ c.in_ok-key.ensures.stack ∙ c.loop-entries.invariant.stack))
           ∙ ap (λ x. left u (behind (stack_view c.begin.new.self.stack.items) x))
-          (sym (c.in_ok-object.ensures.value ∙ ap (λ xs. object (pairs_of xs)) (pushed at.After-object_ends))),
+          (sym (c.in_ok-object.ensures.value ∙ ap (λ xs. object (pairs_of xs)) (pushed at.After-container_ends))),
     )
 
 pub loop-entries-smaller : goal.loop-entries-smaller
@@ -222,29 +222,29 @@ loop-entries-smaller c =
     let at = goal.at.loop-entries-smaller c in
     let key = c.in_ok-key.ensures.same fs (mark_here at.After-read_key) c.loop-entries.invariant.key in
     let read = c.in_ok-begun.ensures.same here (depth_here at.After-len-depth) (λ f. absurd (true≢false (sym f))) in
-    let ends = c.in_ok-object_ends.ensures fs es c.in_ok-key.key (view c.in-Value.value) in
+    let ends = c.in_ok-container_ends.ensures (object_frame fs es c.in_ok-key.key) (view c.in-Value.value) refl in
     omega (
       arith,
       key.0.index,
       read.0.index,
       ends.0.index,
       ap length (ends.0.text ∙ read.0.text ∙ key.0.text),
-      c.object_ends.new.self.boundary.0,
+      c.container_ends.new.self.boundary.0,
     )
 
 pub loop-entries-preserved : goal.loop-entries-preserved
 loop-entries-preserved c =
     let t = c.args.self.now.cursor in
-    let u = c.object_ends.new.self in
+    let u = c.container_ends.new.self in
     let fs = stack_view c.args.self.now.stack.items in
     let es = viewed c.loop-entries.entries in
     let k = c.in_ok-key.key in
     let v = view c.in-Value.value in
     let at = goal.at.loop-entries-preserved c in
-    let more = pushed at.After-object_ends in
+    let more = pushed at.After-container_ends in
     let read = goes_behind t c.begin.new.self.cursor u _ (behind (object_frame fs es k) v) _
-    (came at.After-object_ends (keyed at.In_ok-key))
-    (c.in_ok-object_ends.ensures fs es k v) in
+    (came at.After-container_ends (keyed at.In_ok-key))
+    (c.in_ok-container_ends.ensures (object_frame fs es k) v refl) in
     record {
       stack = c.in_ok-begun.ensures.stack ∙ c.in_ok-key.ensures.stack ∙ c.loop-entries.invariant.stack;
       key = λ none. absurd (some_put k v es (sym more ∙ none));
