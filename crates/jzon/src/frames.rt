@@ -4,19 +4,19 @@ use jzon_base::key::Key;
 use jzon_tree::object::Builder;
 use jzon_tree::value::JsonValue;
 
-/// An open container that isn't the inmost, with what it holds so far.
+/// An open container other than the innermost, with what it holds so far.
 #[derive(Drop)]
 pub(crate) enum Frame {
     /// The elements.
     Array(Vec<JsonValue>),
-    /// The object so far, and the key of the value that is read next.
+    /// The entries, and the key of the value that is read next.
     Object(Builder, Key),
 }
 
 /// What was read where a value begins.
 #[derive(Drop)]
-pub(crate) enum Begun {
-    /// The whole value. Containers without elements or entries are read whole.
+pub(crate) enum ValueStart {
+    /// The whole value. Empty containers are read whole.
     Value(JsonValue),
     /// The opening bracket of an array, up to its first element.
     Array,

@@ -1,11 +1,12 @@
-//! How much room the parser gives a container ahead.
+//! Capacities that the parser allocates ahead for containers.
 
 use std::mem;
 
 /// How many depths have a hint of their own. Deeper ones share them.
 const DEPTHS: usize = 8;
 
-/// For each depth, how many items the last container had that ended there. A hint is taken once, so that all room given ahead is for fewer items than were read.
+/// For each depth, the length of the last container that ended there. A hint is taken once, so all capacity allocated ahead is for fewer elements and entries
+/// than were read.
 #[derive(Drop)]
 pub(crate) struct Hints {
     capacities: [usize; DEPTHS],
@@ -19,13 +20,13 @@ impl Hints {
         }
     }
 
-    /// The hint for a container that begins at this depth, or 0.
+    /// Takes the hint for a container that opens at this depth; 0 if there is none.
     #[inline(always)]
     pub(crate) fn take(&mut self, depth: usize) -> usize {
         mem::take(&mut self.capacities[depth % DEPTHS])
     }
 
-    /// A container with `len` items ended at this depth.
+    /// Sets the hint: a container of length `len` ended at this depth.
     #[inline(always)]
     pub(crate) fn set(&mut self, depth: usize, len: usize) {
         self.capacities[depth % DEPTHS] = len;

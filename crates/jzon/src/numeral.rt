@@ -23,13 +23,13 @@ use jzon_base::digits::{read_scanned, scan};
 use jzon_base::error::{Error, Result};
 use jzon_base::number::Number;
 
-/// The number whose first digit stands at `start`, and the offset behind it.
+/// The number whose first digit is at `start`, and the offset after it.
 #[inline(always)]
 pub(crate) fn read_number(source: &str, start: usize, negative: bool) -> Result<(Number, usize)>
     requires within { start < length source.now }
     requires digit { IsTrue (is_ascii_digit (slice_index source.now start)) }
-    ensures bounds { IfOk result (λ r. (start < r.1) × (r.1 ≤ length source.now) × IsCharBoundary source.now r.1) }
-    ensures same { (r : Reading) (fs : Frames) →
+    ensures end { IfOk result (λ r. (start < r.1) × (r.1 ≤ length source.now) × IsCharBoundary source.now r.1) }
+    ensures outcome { (r : Reading) (fs : Frames) →
         Leads r source.now (numeral_begun fs negative (slice_index source.now start)) (start + 1) result
         (λ v. behind fs (number v)) }
 {
@@ -58,18 +58,18 @@ struct Spelling<'a> {
     number: u64,
     positive_exponent: bool,
     exponent: &'a [u8],
-    /// The offset behind the number.
+    /// The offset after the number.
     end: usize,
-    /// A digit must stand there, and doesn't.
+    /// Whether a digit is required at `end`, and there is none.
     is_missing: bool,
 }
 
-/// How a number is spelled, whose first digit stands at `start`.
+/// The digits of the number whose first digit is at `start`.
 #[inline(always)]
 fn spelling_at(source: &str, start: usize) -> Spelling<'_>
     requires within { start < length source.now }
     requires digit { IsTrue (is_ascii_digit (slice_index source.now start)) }
-    ensures bounds { (start < result.end) × (result.end ≤ length source.now) × IsCharBoundary source.now result.end }
+    ensures end { (start < result.end) × (result.end ≤ length source.now) × IsCharBoundary source.now result.end }
     ensures whole { All IsDigit result.whole.now }
     ensures fraction { All IsDigit result.fraction.now }
     ensures added_up { result.number ≡ digits_number (result.whole.now ++ result.fraction.now) % 2 ^ 64 }
@@ -102,12 +102,12 @@ fn spelling_at(source: &str, start: usize) -> Spelling<'_>
     }
 }
 
-/// The same without the exponent.
+/// The digits up to the exponent, which is empty in the result. Three clauses say what follows them: an exponent's letter, no letter, or a missing digit.
 #[inline(always)]
 fn magnitude_at(source: &str, start: usize) -> Spelling<'_>
     requires within { start < length source.now }
     requires digit { IsTrue (is_ascii_digit (slice_index source.now start)) }
-    ensures bounds { (start < result.end) × (result.end ≤ length source.now) × IsCharBoundary source.now result.end }
+    ensures end { (start < result.end) × (result.end ≤ length source.now) × IsCharBoundary source.now result.end }
     ensures whole { All IsDigit result.whole.now }
     ensures fraction { All IsDigit result.fraction.now }
     ensures added_up { result.number ≡ digits_number (result.whole.now ++ result.fraction.now) % 2 ^ 64 }
@@ -158,7 +158,7 @@ fn magnitude_at(source: &str, start: usize) -> Spelling<'_>
     }
 }
 
-/// The digits before the point, a `0` alone or all that stand there, and their number modulo 2^64.
+/// The digits before the point, a single `0` or all digits from `start` on, and their number modulo 2^64.
 #[inline(always)]
 fn whole_at(source: &str, start: usize) -> (&[u8], u64)
     requires { start < length source.now }
@@ -173,7 +173,7 @@ fn whole_at(source: &str, start: usize) -> (&[u8], u64)
     }
 }
 
-/// The digits that stand at an offset, and the number that they spell behind the digits of a number before, both modulo 2^64.
+/// The digits from `start` on, and the number that they make when appended to the digits of `before`, both modulo 2^64.
 #[inline(always)]
 fn digits_at(source: &str, start: usize, before: u64) -> (&[u8], u64)
     requires { start ≤ length source.now }
@@ -185,7 +185,7 @@ fn digits_at(source: &str, start: usize, before: u64) -> (&[u8], u64)
     (&rest[..count], number)
 }
 
-/// The digits of an exponent, which may be none, and the offset behind them.
+/// The digits of an exponent, maybe none, and the offset after them.
 #[derive(Clone, Copy)]
 struct Exponent<'a> {
     is_positive: bool,
@@ -193,12 +193,12 @@ struct Exponent<'a> {
     end: usize,
 }
 
-/// The exponent whose letter stands before `start`.
+/// The exponent whose letter is before `start`.
 #[cold]
 #[inline(never)]
 fn exponent_behind(source: &str, start: usize) -> Exponent<'_>
     requires { IsCharBoundary source.now start }
-    ensures bounds { (start ≤ result.end) × (result.end ≤ length source.now) × IsCharBoundary source.now result.end }
+    ensures end { (start ≤ result.end) × (result.end ≤ length source.now) × IsCharBoundary source.now result.end }
     ensures digits { All IsDigit result.digits.now }
     ensures number { 0 < length result.digits.now → (r : Reading) (fs : Frames) (negative : Bool) (ws ds : List ℕ)
         (l : ℕ)
@@ -219,7 +219,7 @@ fn exponent_behind(source: &str, start: usize) -> Exponent<'_>
     exponent_at(source, start, true)
 }
 
-/// The exponent whose first digit may stand at `start`.
+/// The exponent whose digits, if any, are at `start`.
 fn exponent_at(source: &str, start: usize, is_positive: bool) -> Exponent<'_>
     requires { start ≤ length source.now }
     ensures sign { result.is_positive ≡ is_positive }
@@ -234,7 +234,7 @@ fn exponent_at(source: &str, start: usize, is_positive: bool) -> Exponent<'_>
     }
 }
 
-/// Whether an exponent begins at this offset.
+/// Whether the letter of an exponent is at `index`.
 fn has_exponent_letter(source: &str, index: usize) -> bool
     ensures { IsTrue result ↔ ((index < length source.now)
         × IsTrue (is_exponent_letter (slice_index source.now index))) }

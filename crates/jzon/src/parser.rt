@@ -1,4 +1,4 @@
-//! Reads texts (RFC 8259, section 2; docs/RULES.md, "Texts").
+//! Parses texts (RFC 8259, section 2; docs/RULES.md, "Texts").
 
 ghost use Rattle.std.specs.Prelude.{◌≡◌, ◌≢◌, ◌&&◌, [], ◌<◌, ◌≤◌, map, chars, true, IfOk, IfErr, OnOk};
 ghost use Rattle.std.specs.Prelude.{Err, None, IsOkUnless, vec_len};
@@ -16,7 +16,7 @@ ghost use Rattle.jzon_base.specs.Tokens.{end_array, end_object};
 
 use crate::cursor::{Bracket, Cursor};
 use crate::fault::duplicate_at;
-use crate::frames::{Begun, Frame};
+use crate::frames::{Frame, ValueStart};
 use crate::hints::Hints;
 use crate::reading::{Reading, USUAL};
 use crate::scalar::read_scalar;
@@ -28,8 +28,8 @@ use jzon_tree::object::{Builder, Object};
 use jzon_tree::value::JsonValue;
 use std::alloc::Global;
 
-/// The value that a text means (RFC 8259; docs/RULES.md, "Texts"), or the error of its first fault, or `OutOfMemory` where memory was refused. A text with neither
-/// a string nor an array nor an object takes no memory.
+/// The value that a text means (RFC 8259; docs/RULES.md, "Texts"), or the error of its first fault, or `OutOfMemory` if an allocation fails. A text without
+/// strings, arrays and objects takes no memory.
 ///
 /// ```rust
 /// let value = jzon::parse(alloc, "[1, -12.50e3, {\"a\": null}]")?;
@@ -45,36 +45,36 @@ pub fn parse(alloc: Global, source: &str) -> Result<JsonValue>
     parse_as(alloc, source, &USUAL)
 }
 
-/// The same by this reading (docs/RULES.md, "Readings"): its depth and its whitespace hold, and where it is strict a repeated key is refused by `DuplicateKey`.
+/// Parses by `reading` (docs/RULES.md, "Readings"), which sets the depth limit and the whitespace; a strict one rejects a repeated key by `DuplicateKey`.
 pub fn parse_as(alloc: Global, source: &str, reading: &Reading) -> Result<JsonValue>
     ensures value { IfOk result (IsMeaningOf reading.now (chars source.now)) }
     ensures readable { IfOk result (λ v. IsReadable reading.now (view v)) }
     ensures error { IfErr result (IsErrorUnlessMemory reading.now (chars source.now)) }
     ensures memory { result ≡ Err Error.OutOfMemory → TakesMemory (chars source.now) }
 {
-    read(alloc, source, *reading)
+    parse_text(alloc, source, *reading)
 }
 
-/// The same, by the machine over values.
-fn read(alloc: Global, source: &str, reading: Reading) -> Result<JsonValue>
+/// Parses; the contract is stated over the automaton of `specs/Machine`.
+fn parse_text(alloc: Global, source: &str, reading: Reading) -> Result<JsonValue>
     ensures outcome { Reads (chars source.now) result (from reading source.now (before no_frames) 0) }
     ensures memory { result ≡ Err Error.OutOfMemory → TakesMemory (chars source.now) }
 {
     let mut parser = Parser::new(alloc, source, reading);
-    match parser.begin(0)? {
-        Begun::Value(value) => parser.finish(value),
-        begun => parser.read_containers(begun),
+    match parser.read_start(0)? {
+        ValueStart::Value(value) => parser.expect_end(value),
+        value_start => parser.read_to_end(value_start),
     }
 }
 
-/// A text that is being read. After an error what it holds has no meaning.
+/// A text that is being parsed. After an error its fields are unspecified.
 #[derive(Drop)]
 struct Parser<'a> {
     alloc: Global,
     cursor: Cursor<'a>,
-    /// The open containers but for the inmost.
+    /// The open containers except the innermost, the outermost first.
     stack: Vec<Frame>,
-    /// The text of the last string with escapes.
+    /// The last string that had escapes, unescaped.
     buffer: String,
     array_hints: Hints,
     object_hints: Hints,
@@ -95,45 +95,45 @@ impl<'a> Parser<'a> {
         }
     }
 
-    /// Reads the value that begins here, where so many containers are open; a container that isn't empty only up to its first item.
+    /// Reads the value that comes next, inside of `depth` open containers; a container that isn't empty only up to its first element or key.
     #[inline(always)]
-    fn begin(&mut self, depth: usize) -> Result<Begun>
+    fn read_start(&mut self, depth: usize) -> Result<ValueStart>
         requires room { depth ≤ self.old.cursor.reading.depth }
         ensures stack { OnOk result (self.new.stack ≡ self.old.stack) }
         ensures ready { IfOk result (IsReady self.new.cursor depth) }
         ensures memory { result ≡ Err Error.OutOfMemory → TakesMemory (chars self.old.cursor.source.now) }
         ensures opened { IfOk result (λ b. is_open b ≡ true → TakesMemory (chars self.old.cursor.source.now)) }
-        ensures same { (fs : Frames) → frames_depth fs ≡ depth
+        ensures outcome { (fs : Frames) → frames_depth fs ≡ depth
             → (is_fresh fs ≡ true → next_byte self.old.cursor ≢ end_array) →
             GoesOn self.old.cursor (before fs) result self.new.cursor (λ b. place_of b fs) }
     {
         match self.cursor.peek() {
             b'[' => {
                 if self.cursor.open_container(Bracket::Array, depth)? {
-                    return Ok(Begun::Value(JsonValue::Array(Vec::new(self.alloc))));
+                    return Ok(ValueStart::Value(JsonValue::Array(Vec::new(self.alloc))));
                 }
-                Ok(Begun::Array)
+                Ok(ValueStart::Array)
             }
             b'{' => {
                 if self.cursor.open_container(Bracket::Object, depth)? {
-                    return Ok(Begun::Value(JsonValue::Object(Object::new(self.alloc))));
+                    return Ok(ValueStart::Value(JsonValue::Object(Object::new(self.alloc))));
                 }
-                Ok(Begun::Object)
+                Ok(ValueStart::Object)
             }
             _ => {
                 let source = self.cursor.source;
                 let start = self.cursor.index;
                 let (value, end) = read_scalar(self.alloc, source, start, &mut self.buffer)?;
                 self.cursor.go_to(end);
-                Ok(Begun::Value(value))
+                Ok(ValueStart::Value(value))
             }
         }
     }
 
-    /// The value of a text, of which the value is read and nothing may follow.
-    fn finish(&self, value: JsonValue) -> Result<JsonValue>
+    /// Expects the end of the text, whose value this is.
+    fn expect_end(&self, value: JsonValue) -> Result<JsonValue>
         ensures memory { result ≢ Err Error.OutOfMemory }
-        ensures same { Reads (chars self.now.cursor.source.now) result
+        ensures outcome { Reads (chars self.now.cursor.source.now) result
             (left self.now.cursor (behind no_frames (view value))) }
     {
         if self.cursor.index < self.cursor.source.len() {
@@ -142,16 +142,16 @@ impl<'a> Parser<'a> {
         Ok(value)
     }
 
-    /// The value of a text that began in this way, with all that it contains.
-    fn read_containers(&mut self, begun: Begun) -> Result<JsonValue>
+    /// Reads the rest of the text: all that the containers hold, and the end.
+    fn read_to_end(&mut self, value_start: ValueStart) -> Result<JsonValue>
         requires outmost { self.old.stack.items ≡ [] }
-        requires ready { IsReady self.old.cursor 0 begun }
-        ensures { Reads (chars self.old.cursor.source.now) result (left self.old.cursor (place_of begun no_frames)) }
+        requires ready { IsReady self.old.cursor 0 value_start }
+        ensures { Reads (chars self.old.cursor.source.now) result (left self.old.cursor (place_of value_start no_frames)) }
     {
-        let mut begun = begun;
+        let mut value_start = value_start;
         loop {
-            match begun {
-                Begun::Array => {
+            match value_start {
+                ValueStart::Array => {
                     let depth = self.stack.len();
                     let elements = room_for_elements(
                         self.alloc,
@@ -159,25 +159,25 @@ impl<'a> Parser<'a> {
                         &mut self.array_hints,
                         depth,
                     )?;
-                    begun = self.read_elements(elements)?;
+                    value_start = self.read_elements(elements)?;
                 }
-                Begun::Object => {
+                ValueStart::Object => {
                     let capacity = self.object_hints.take(self.stack.len());
-                    begun = self.read_entries(Builder::with_capacity(self.alloc, capacity)?)?;
+                    value_start = self.read_entries(Builder::with_capacity(self.alloc, capacity)?)?;
                 }
-                Begun::Value(value) => match self.stack.pop() {
-                    None => return self.finish(value),
-                    Some(frame) => begun = self.go_on(frame, value)?,
+                ValueStart::Value(value) => match self.stack.pop() {
+                    None => return self.expect_end(value),
+                    Some(frame) => value_start = self.read_after_item(frame, value)?,
                 },
             }
         }
     }
 
-    /// Reads on behind the value `item` of an open container, as `read_elements` does in an array and `read_entries` in an object.
-    fn go_on(&mut self, frame: Frame, item: JsonValue) -> Result<Begun>
+    /// Reads on after `item`, the last element or value of an open container, as `read_elements` and `read_entries` do.
+    fn read_after_item(&mut self, frame: Frame, item: JsonValue) -> Result<ValueStart>
         requires room { vec_len self.old.stack < self.old.cursor.reading.depth }
         ensures ready { IfOk result (IsReady self.new.cursor (vec_len self.new.stack)) }
-        ensures same { GoesOn self.old.cursor (behind (open_in (stack_view self.old.stack.items) frame) (view item))
+        ensures outcome { GoesOn self.old.cursor (behind (open_in (stack_view self.old.stack.items) frame) (view item))
             result self.new.cursor
             (λ b. place_of b (stack_view self.new.stack.items)) }
     {
@@ -187,7 +187,7 @@ impl<'a> Parser<'a> {
                 if self.cursor.container_ends(Bracket::Array)? {
                     let depth = self.stack.len();
                     fit_array(self.alloc, &mut elements, &mut self.array_hints, depth)?;
-                    return Ok(Begun::Value(JsonValue::Array(elements)));
+                    return Ok(ValueStart::Value(JsonValue::Array(elements)));
                 }
                 self.read_elements(elements)
             }
@@ -196,19 +196,19 @@ impl<'a> Parser<'a> {
                 if self.cursor.container_ends(Bracket::Object)? {
                     let depth = self.stack.len();
                     let object = close_object(self.alloc, entries, &mut self.object_hints, depth)?;
-                    return Ok(Begun::Value(object));
+                    return Ok(ValueStart::Value(object));
                 }
                 self.read_entries(entries)
             }
         }
     }
 
-    /// Reads on in an open array, whose elements so far these are, and in the arrays in it: to the end of one of them, or to an object with something in it.
-    fn read_elements(&mut self, elements: Vec<JsonValue>) -> Result<Begun>
+    /// Reads elements of an open array, and of the arrays in it: to the end of one of them, or to an object that isn't empty.
+    fn read_elements(&mut self, elements: Vec<JsonValue>) -> Result<ValueStart>
         requires room { vec_len self.old.stack < self.old.cursor.reading.depth }
         requires element { map view elements.items ≡ [] → next_byte self.old.cursor ≢ end_array }
         ensures ready { IfOk result (IsReady self.new.cursor (vec_len self.new.stack)) }
-        ensures same { GoesOn self.old.cursor (before (array_frame (stack_view self.old.stack.items)
+        ensures outcome { GoesOn self.old.cursor (before (array_frame (stack_view self.old.stack.items)
             (map view elements.items))) result self.new.cursor
             (λ b. place_of b (stack_view self.new.stack.items)) }
     {
@@ -216,11 +216,11 @@ impl<'a> Parser<'a> {
         loop {
             if self.cursor.opens_container() {
                 let depth = self.stack.len() + 1;
-                let begun = self.begin(depth)?;
-                match begun {
-                    Begun::Value(value) => elements.push(value)?,
-                    Begun::Array => {
-                        // Read on here: a step back to the loop over containers costs as much as an array of one item.
+                let value_start = self.read_start(depth)?;
+                match value_start {
+                    ValueStart::Value(value) => elements.push(value)?,
+                    ValueStart::Array => {
+                        // Read here: going back to the loop over containers costs as much as an array of one element.
                         self.stack.push(Frame::Array(elements))?;
                         let depth = self.stack.len();
                         elements = room_for_elements(
@@ -231,13 +231,13 @@ impl<'a> Parser<'a> {
                         )?;
                         continue;
                     }
-                    Begun::Object => {
+                    ValueStart::Object => {
                         self.stack.push(Frame::Array(elements))?;
-                        return Ok(Begun::Object);
+                        return Ok(ValueStart::Object);
                     }
                 }
             } else {
-                // Not by `begin`: a value that is handed on from call to call is moved each time.
+                // Not by `read_start`: each call that returns a value moves it.
                 let source = self.cursor.source;
                 let start = self.cursor.index;
                 let (value, end) = read_scalar(self.alloc, source, start, &mut self.buffer)?;
@@ -247,17 +247,17 @@ impl<'a> Parser<'a> {
             if self.cursor.container_ends(Bracket::Array)? {
                 let depth = self.stack.len();
                 fit_array(self.alloc, &mut elements, &mut self.array_hints, depth)?;
-                return Ok(Begun::Value(JsonValue::Array(elements)));
+                return Ok(ValueStart::Value(JsonValue::Array(elements)));
             }
         }
     }
 
-    /// Reads on in an open object, whose entries so far these are: to its end, or to a value that is a container with something in it.
-    fn read_entries(&mut self, entries: Builder) -> Result<Begun>
+    /// Reads entries of an open object: to its end, or to a value that is a container and isn't empty.
+    fn read_entries(&mut self, entries: Builder) -> Result<ValueStart>
         requires room { vec_len self.old.stack < self.old.cursor.reading.depth }
         requires key { viewed entries ≡ [] → next_byte self.old.cursor ≢ end_object }
         ensures ready { IfOk result (IsReady self.new.cursor (vec_len self.new.stack)) }
-        ensures same { GoesOn self.old.cursor (before_key (stack_view self.old.stack.items) (viewed entries))
+        ensures outcome { GoesOn self.old.cursor (before_key (stack_view self.old.stack.items) (viewed entries))
             result self.new.cursor
             (λ b. place_of b (stack_view self.new.stack.items)) }
     {
@@ -265,26 +265,26 @@ impl<'a> Parser<'a> {
         loop {
             let key = self.read_key(&mut entries)?;
             let depth = self.stack.len() + 1;
-            match self.begin(depth)? {
-                Begun::Value(value) => entries.push(self.alloc, key, value)?,
-                begun => {
+            match self.read_start(depth)? {
+                ValueStart::Value(value) => entries.push(self.alloc, key, value)?,
+                value_start => {
                     self.stack.push(Frame::Object(entries, key))?;
-                    return Ok(begun);
+                    return Ok(value_start);
                 }
             }
             if self.cursor.container_ends(Bracket::Object)? {
                 let depth = self.stack.len();
                 let object = close_object(self.alloc, entries, &mut self.object_hints, depth)?;
-                return Ok(Begun::Value(object));
+                return Ok(ValueStart::Value(object));
             }
         }
     }
 
-    /// The key that stands here, in an object whose entries so far these are, and its colon.
+    /// Reads a key of an object with these entries, and the colon.
     fn read_key(&mut self, entries: &mut Builder) -> Result<Key>
         ensures kept { OnOk result (entries.new ≡ entries.old) }
         ensures stack { OnOk result (self.new.stack ≡ self.old.stack) }
-        ensures same { (fs : Frames) → let es = viewed entries.old in key_mark self.old.cursor.reading fs es
+        ensures outcome { (fs : Frames) → let es = viewed entries.old in key_mark self.old.cursor.reading fs es
             ≡ None →
             (es ≡ [] → next_byte self.old.cursor ≢ end_object) →
             GoesOn self.old.cursor (before_key fs es) result self.new.cursor (λ k. before (object_frame fs es k)) }
@@ -310,8 +310,8 @@ impl<'a> Parser<'a> {
     }
 }
 
-/// No elements, with room for those of an array that begins at the cursor inside of `depth` others. Without a hint one is certain to come, and containers
-/// often nest alone. The error is `OutOfMemory`.
+/// An empty vector for the elements of an array inside of `depth` containers, whose first is at the cursor. Without a hint it has room for one where that is
+/// a container, since containers often nest alone, and else for four. The error is `OutOfMemory`.
 #[inline(always)]
 fn room_for_elements(
     alloc: Global,
@@ -333,7 +333,7 @@ fn room_for_elements(
     Ok(Vec::with_capacity(alloc, capacity)?)
 }
 
-/// Gives back unused room of an array that ends inside of `depth` others, and notes how many elements it has. The error is `OutOfMemory`.
+/// Frees unused capacity of an array that ends inside of `depth` containers, and sets the hint to its length. The error is `OutOfMemory`.
 #[inline(always)]
 fn fit_array(
     alloc: Global,
@@ -351,7 +351,7 @@ fn fit_array(
     Ok(())
 }
 
-/// Gives back room of an array that ends. A function of its own, so that the loop over elements stays small. The error is `OutOfMemory`.
+/// Frees unused capacity. Not inlined, so that the loop over elements stays small. The error is `OutOfMemory`.
 #[cold]
 #[inline(never)]
 fn fit_elements(alloc: Global, elements: &mut Vec<JsonValue>) -> Result<()>
@@ -362,7 +362,7 @@ fn fit_elements(alloc: Global, elements: &mut Vec<JsonValue>) -> Result<()>
     Ok(())
 }
 
-/// The object of these entries, which ends inside of `depth` others. The error is `OutOfMemory`.
+/// The object of these entries, which ends inside of `depth` containers; sets the hint to its length. The error is `OutOfMemory`.
 #[inline(always)]
 fn close_object(
     alloc: Global,
@@ -378,10 +378,10 @@ fn close_object(
     Ok(JsonValue::Object(object))
 }
 
-/// Whether the reading refuses this key behind these entries. Refused by `OutOfMemory` alone.
+/// Whether the reading rejects `name` after these entries: it is strict, and they have it. The error is `OutOfMemory`.
 #[tactic(auto, using(crate::proofs::Containers::FrameViews::known_view))]
 fn is_refused(alloc: Global, reading: Reading, entries: &mut Builder, name: &str) -> Result<bool>
-    ensures same { entries.new ≡ entries.old }
+    ensures kept { entries.new ≡ entries.old }
     ensures refused { IfOk result (λ refused. refused ≡ (reading.strict && is_some
         (find name.now (viewed entries.old)))) }
     ensures memory { IsOkUnless result Error.OutOfMemory }

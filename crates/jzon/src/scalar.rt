@@ -1,4 +1,4 @@
-//! Reads values that are no containers: numbers, texts and words (RFC 8259, section 3). What is called for each of them is inlined, so that no value is moved from call to call.
+//! Reads primitives: numbers, strings and literals (RFC 8259, section 3). What each of them calls is inlined, so that no value is moved from call to call.
 
 ghost use Rattle.std.specs.Prelude.{◌≡◌, ◌≢◌, ◌⊎◌, ◌==◌, ◌<◌, ◌≤◌, ◌+◌, [], length, chars, IsTrue};
 ghost use Rattle.std.specs.Prelude.{IfOk, Err, MatchResult, codes, ◌^◌, drop};
@@ -22,7 +22,7 @@ use jzon_base::error::{Error, Result};
 use jzon_tree::value::JsonValue;
 use std::alloc::Global;
 
-/// The value that begins at `start` and is no container, and the offset behind it.
+/// The primitive at `start`, and the offset after it.
 #[inline(always)]
 pub(crate) fn read_scalar(
     alloc: Global,
@@ -33,9 +33,9 @@ pub(crate) fn read_scalar(
     requires boundary { IsCharBoundary source.now start }
     requires no_array { slice_index source.now start ≢ begin_array }
     requires no_object { slice_index source.now start ≢ begin_object }
-    ensures bounds { IfOk result (λ r. (start < r.1) × IsCharBoundary source.now r.1) }
+    ensures end { IfOk result (λ r. (start < r.1) × IsCharBoundary source.now r.1) }
     ensures memory { result ≡ Err Error.OutOfMemory → slice_index source.now start ≡ quotation_mark }
-    ensures same { (r : Reading) (fs : Frames) → value_mark r fs ≡ None
+    ensures outcome { (r : Reading) (fs : Frames) → value_mark r fs ≡ None
         → (start < length source.now → is_whitespace r.strict (slice_index source.now start) ≡ false)
         → (is_fresh fs ≡ true → slice_index source.now start ≢ end_array) →
         LeadsUnlessMemory r source.now (before fs) start result (λ v. behind fs (view v)) }
@@ -54,7 +54,7 @@ pub(crate) fn read_scalar(
     }
 }
 
-/// The refusal of a text that can't go on from here. Inlined, so that room for an error is cleared only where one is told.
+/// The error of a text that has no valid continuation at `index`. Inlined, so that the stack slot of an error is cleared only where one is reported.
 #[inline(always)]
 fn stopped_at(source: &str, index: usize) -> Result<(JsonValue, usize)>
     requires { IsCharBoundary source.now index }
@@ -64,7 +64,7 @@ fn stopped_at(source: &str, index: usize) -> Result<(JsonValue, usize)>
     Err(fault_at(source, index))
 }
 
-/// The text that begins at `start`, behind its opening quote, as a value, and the offset behind it.
+/// The string whose opening quote is before `start`, as a value, and the offset after it.
 #[inline(always)]
 fn read_text(
     alloc: Global,
@@ -73,8 +73,8 @@ fn read_text(
     buffer: &mut String,
 ) -> Result<(JsonValue, usize)>
     requires { IsCharBoundary source.now start }
-    ensures bounds { IfOk result (λ r. (start < r.1) × IsCharBoundary source.now r.1) }
-    ensures same { (r : Reading) (fs : Frames) →
+    ensures end { IfOk result (λ r. (start < r.1) × IsCharBoundary source.now r.1) }
+    ensures outcome { (r : Reading) (fs : Frames) →
         LeadsUnlessMemory r source.now (string (as_value fs) [] between) start result (λ v. behind fs (view v)) }
 {
     let spelled = read_string(source, start, buffer)?;
@@ -82,12 +82,12 @@ fn read_text(
     Ok((value, spelled.end))
 }
 
-/// The number whose minus stands before `start`, and the offset behind it.
+/// The number whose minus is before `start`, and the offset after it.
 #[inline(always)]
 fn read_negative(source: &str, start: usize) -> Result<(JsonValue, usize)>
     requires { IsCharBoundary source.now start }
-    ensures bounds { IfOk result (λ r. (start < r.1) × IsCharBoundary source.now r.1) }
-    ensures same { (r : Reading) (fs : Frames) →
+    ensures end { IfOk result (λ r. (start < r.1) × IsCharBoundary source.now r.1) }
+    ensures outcome { (r : Reading) (fs : Frames) →
         Leads r source.now (numeral fs true signed) start result (λ v. behind fs (view v)) }
 {
     if !has_digit(source, start) {
@@ -96,13 +96,13 @@ fn read_negative(source: &str, start: usize) -> Result<(JsonValue, usize)>
     read_magnitude(source, start, true)
 }
 
-/// The number whose first digit stands at `start`, and the offset behind it.
+/// The number whose first digit is at `start`, and the offset after it.
 #[inline(always)]
 fn read_magnitude(source: &str, start: usize, negative: bool) -> Result<(JsonValue, usize)>
     requires within { start < length source.now }
     requires digit { IsTrue (is_ascii_digit (slice_index source.now start)) }
-    ensures bounds { IfOk result (λ r. (start < r.1) × IsCharBoundary source.now r.1) }
-    ensures same { (r : Reading) (fs : Frames) →
+    ensures end { IfOk result (λ r. (start < r.1) × IsCharBoundary source.now r.1) }
+    ensures outcome { (r : Reading) (fs : Frames) →
         Leads r source.now (numeral_begun fs negative (slice_index source.now start)) (start + 1) result
         (λ v. behind fs (view v)) }
 {
@@ -110,15 +110,15 @@ fn read_magnitude(source: &str, start: usize, negative: bool) -> Result<(JsonVal
     Ok((JsonValue::Number(number), end))
 }
 
-/// The value of the word whose first letter stands at `start`, and the offset behind it. Its last four letters are compared at once, and nothing branches by the
-/// word: which of the three comes next can't be foreseen.
+/// The literal whose first letter is at `start`, and the offset after it. Its last four letters are compared at once, and there is no branch for each of the
+/// three literals, since processors can't predict which comes next.
 #[inline(always)]
 fn read_word(source: &str, start: usize) -> Result<(JsonValue, usize)>
     requires within { start < length source.now }
     requires word { (slice_index source.now start ≡ letter_n) ⊎ (slice_index source.now start ≡ letter_t)
         ⊎ (slice_index source.now start ≡ letter_f) }
-    ensures bounds { IfOk result (λ r. (start < r.1) × IsCharBoundary source.now r.1) }
-    ensures same { (r : Reading) (fs : Frames) → value_mark r fs ≡ None →
+    ensures end { IfOk result (λ r. (start < r.1) × IsCharBoundary source.now r.1) }
+    ensures outcome { (r : Reading) (fs : Frames) → value_mark r fs ≡ None →
         Leads r source.now (before fs) start result (λ v. behind fs (view v)) }
 {
     let first = source.as_bytes()[start];
@@ -130,7 +130,7 @@ fn read_word(source: &str, start: usize) -> Result<(JsonValue, usize)>
     read_rest(source, start + 1, letters_behind(first), value)
 }
 
-/// The value of the word that begins with this letter.
+/// The value of the literal with this first letter.
 #[inline(always)]
 fn word_value(first: u8) -> JsonValue
     ensures null { first ≡ letter_n → view result ≡ null }
@@ -144,7 +144,7 @@ fn word_value(first: u8) -> JsonValue
     }
 }
 
-/// Where the last four letters begin of the word that begins with this letter at `start`.
+/// The offset of the last four letters of the literal with this first letter at `start`.
 #[inline(always)]
 fn last_four_at(start: usize, first: u8) -> usize
     requires { start < 2 ^ 63 }
@@ -154,7 +154,7 @@ fn last_four_at(start: usize, first: u8) -> usize
     start + usize::from(first == b'f')
 }
 
-/// The last four letters of the word that begins with this letter.
+/// The last four letters of the literal with this first letter.
 #[inline(always)]
 fn last_four(first: u8) -> [u8; 4]
     ensures null { first ≡ letter_n → result ≡ codes "null" }
@@ -168,7 +168,7 @@ fn last_four(first: u8) -> [u8; 4]
     }
 }
 
-/// The letters behind the first of the word that begins with this letter.
+/// The letters after the first of the literal with this first letter.
 fn letters_behind(first: u8) -> &'static [u8]
     ensures ascii { IsAscii result.now }
     ensures null { first ≡ letter_n → result.now ≡ codes "ull" }
@@ -182,7 +182,7 @@ fn letters_behind(first: u8) -> &'static [u8]
     }
 }
 
-/// The value of a word, whose letters from `start` on are these, and the offset behind it.
+/// The value of a literal, whose remaining letters must be at `start`, and the offset after it.
 #[inline(always)]
 fn read_rest(
     source: &str,
@@ -192,22 +192,22 @@ fn read_rest(
 ) -> Result<(JsonValue, usize)>
     requires boundary { IsCharBoundary source.now start }
     requires ascii { IsAscii letters.now }
-    ensures bounds { IfOk result (λ r. (start ≤ r.1) × IsCharBoundary source.now r.1) }
-    ensures same { (r : Reading) (fs : Frames) →
+    ensures end { IfOk result (λ r. (start ≤ r.1) × IsCharBoundary source.now r.1) }
+    ensures outcome { (r : Reading) (fs : Frames) →
         Leads r source.now (past_letter fs (view value) letters.now) start result (λ v. behind fs (view v)) }
 {
     let end = read_letters(source, start, letters)?;
     Ok((value, end))
 }
 
-/// The offset behind these letters, which are the rest of a word, one by one: where one is missing, its place is told.
+/// The offset after these letters, the rest of a literal, compared one by one, so that the error is at the first wrong one.
 #[cold]
 #[inline(never)]
 fn read_letters(source: &str, start: usize, letters: &[u8]) -> Result<usize>
     requires boundary { IsCharBoundary source.now start }
     requires ascii { IsAscii letters.now }
-    ensures bounds { IfOk result (λ end. (start ≤ end) × IsCharBoundary source.now end) }
-    ensures same { (r : Reading) (fs : Frames) (v : Value) → MatchResult result
+    ensures end { IfOk result (λ end. (start ≤ end) × IsCharBoundary source.now end) }
+    ensures outcome { (r : Reading) (fs : Frames) (v : Value) → MatchResult result
         (λ end. from r source.now (past_letter fs v letters.now) start ≡ from r source.now (behind fs v) end)
         (λ e. Tells (chars source.now) e (from r source.now (past_letter fs v letters.now) start)) }
 {

@@ -25,17 +25,17 @@ use jzon_base::util::plain::plain_len;
 use jzon_tree::value::JsonValue;
 use std::alloc::Global;
 
-/// How the text of a string stands, and where the string ends.
+/// A string that was read: where its contents are, and where it ends.
 #[derive(Clone, Copy)]
 pub(crate) struct Spelled {
-    /// The offset behind the closing quote.
+    /// The offset after the closing quote.
     pub(crate) end: usize,
-    /// Whether the text stands in the buffer, with its escapes read. Else it stands in the source, up to the closing quote.
+    /// Whether the contents are in the buffer, unescaped. Else they are in the source, up to the closing quote.
     pub(crate) is_escaped: bool,
 }
 
 impl Spelled {
-    /// The text of the string whose opening quote stands before `start`.
+    /// The contents of the string whose opening quote is before `start`.
     pub(crate) fn text<'a>(self, source: &'a str, start: usize, buffer: &'a String) -> &'a str
         requires begin { IsCharBoundary source.now start }
         requires end { EndsAtQuote source.now start self.end }
@@ -50,7 +50,7 @@ impl Spelled {
     }
 }
 
-/// The value of a text: kept in place up to 30 bytes, and else in memory of its own. Refused by `OutOfMemory` alone, and never in place.
+/// A string value: up to 30 bytes in place, which never fails, and longer ones on the heap. The error is `OutOfMemory`.
 #[inline(always)]
 pub(crate) fn text_value(alloc: Global, content: &str) -> Result<JsonValue>
     ensures value { IfOk result (λ v. view v ≡ text (kind_of content.now) content.now) }
@@ -64,15 +64,15 @@ pub(crate) fn text_value(alloc: Global, content: &str) -> Result<JsonValue>
     }
 }
 
-/// Reads the string whose opening quote stands before `start`. A string without escapes is not copied, and leaves the buffer as it was. After an error what is
-/// in the buffer has no meaning.
+/// Reads the string whose opening quote is before `start`. A string without escapes is not copied, and leaves the buffer as it was. After an error the buffer
+/// is unspecified.
 #[inline(always)]
 pub(crate) fn read_string(source: &str, start: usize, buffer: &mut String) -> Result<Spelled>
     requires { IsCharBoundary source.now start }
     ensures quote { IfOk result (λ s. EndsAtQuote source.now start s.end) }
     ensures escaped { IfOk result (λ s. IsTrue s.is_escaped ↔ Contains (slice_range source.now start (s.end - 1)) 92) }
     ensures untouched { IfOk result (λ s. s.is_escaped ≡ false → string_bytes buffer.new ≡ string_bytes buffer.old) }
-    ensures same { (r : Reading) (role : Role) → MatchResult result
+    ensures outcome { (r : Reading) (role : Role) → MatchResult result
         (λ s. from r source.now (string role [] between) start
         ≡ from_closed r source.now role (if s.is_escaped then string_bytes buffer.new else slice_range source.now start
         (s.end - 1)) s.end)
@@ -95,26 +95,26 @@ pub(crate) fn read_string(source: &str, start: usize, buffer: &mut String) -> Re
     })
 }
 
-/// The offset behind the characters that stand for themselves.
+/// The offset after the unescaped characters from `start` on.
 fn plain_end(source: &str, start: usize) -> usize
     requires { IsCharBoundary source.now start }
     ensures within { start ≤ result }
     ensures boundary { IsCharBoundary source.now result }
     ensures stop { result < length source.now → is_plain (slice_index source.now result) ≡ false }
     ensures no_escape { ¬ (Contains (slice_range source.now start result) 92) }
-    ensures same { (r : Reading) (role : Role) (bs : List ℕ) → from r source.now (string role bs between) start
+    ensures outcome { (r : Reading) (role : Role) (bs : List ℕ) → from r source.now (string role bs between) start
         ≡ from r source.now (string role (bs ++ slice_range source.now start result) between) result }
 {
     start + plain_len(&source.as_bytes()[start..])
 }
 
-/// The offset behind the closing quote, where one stands.
+/// The offset after the closing quote, if one is at `index`.
 fn past_quote(source: &str, index: usize) -> Result<usize>
     requires boundary { IsCharBoundary source.now index }
     requires stop { index < length source.now → is_plain (slice_index source.now index) ≡ false }
     requires no_escape { index < length source.now → slice_index source.now index ≡ 92 → ⊥ }
     ensures quote { IfOk result (λ end. (end ≡ index + 1) × EndsAtQuote source.now index end) }
-    ensures same { (r : Reading) (role : Role) (bs : List ℕ) → MatchResult result
+    ensures outcome { (r : Reading) (role : Role) (bs : List ℕ) → MatchResult result
         (λ end. from r source.now (string role bs between) index ≡ from_closed r source.now role bs end)
         (λ e. Tells (chars source.now) e (from r source.now (string role bs between) index)) }
 {
@@ -125,13 +125,13 @@ fn past_quote(source: &str, index: usize) -> Result<usize>
     }
 }
 
-/// Adds the rest of the text, with its escapes read; gives the offset behind the closing quote.
+/// Adds the rest of the string, unescaped, to the buffer; returns the offset after the closing quote.
 #[inline(never)]
 fn read_escapes(source: &str, start: usize, buffer: &mut String) -> Result<usize>
     requires boundary { IsCharBoundary source.now start }
     requires stop { start < length source.now → is_plain (slice_index source.now start) ≡ false }
     ensures quote { IfOk result (λ end. EndsAtQuote source.now start end) }
-    ensures same { (r : Reading) (role : Role) → MatchResult result
+    ensures outcome { (r : Reading) (role : Role) → MatchResult result
         (λ end. from r source.now (string role (string_bytes buffer.old) between) start
         ≡ from_closed r source.now role (string_bytes buffer.new) end)
         (λ e. (e ≡ OutOfMemory) ⊎ Tells (chars source.now) e
@@ -146,15 +146,15 @@ fn read_escapes(source: &str, start: usize, buffer: &mut String) -> Result<usize
     past_quote(source, index)
 }
 
-/// Adds the characters that stand for themselves; gives the offset behind them. Refused by `OutOfMemory` alone. Where an escape comes at once nothing is looked
-/// for.
+/// Adds the unescaped characters from `start` on to the buffer; returns the offset after them. The error is `OutOfMemory`. An escape at `start` is tested first,
+/// since escapes often follow one another.
 #[inline(always)]
 fn push_run(source: &str, start: usize, buffer: &mut String) -> Result<usize>
     requires { IsCharBoundary source.now start }
     ensures within { IfOk result (λ end. start ≤ end) }
     ensures boundary { IfOk result (λ end. IsCharBoundary source.now end) }
     ensures stop { IfOk result (λ end. end < length source.now → is_plain (slice_index source.now end) ≡ false) }
-    ensures same { (r : Reading) (role : Role) → IfOk result (λ end.
+    ensures outcome { (r : Reading) (role : Role) → IfOk result (λ end.
         from r source.now (string role (string_bytes buffer.old) between) start
         ≡ from r source.now (string role (string_bytes buffer.new) between) end) }
     ensures memory { IsOkUnless result OutOfMemory }
@@ -167,11 +167,11 @@ fn push_run(source: &str, start: usize, buffer: &mut String) -> Result<usize>
     Ok(end)
 }
 
-/// The character that an escape means, and the offset behind it. Its backslash stands before `start`.
+/// The character of the escape whose backslash is before `start`, and the offset after it.
 fn read_escape(source: &str, start: usize) -> Result<(char, usize)>
     requires { IsCharBoundary source.now start }
-    ensures bounds { IfOk result (λ r. (start < r.1) × IsCharBoundary source.now r.1) }
-    ensures same { (r : Reading) (role : Role) (bs : List ℕ) → MatchResult result
+    ensures end { IfOk result (λ r. (start < r.1) × IsCharBoundary source.now r.1) }
+    ensures outcome { (r : Reading) (role : Role) (bs : List ℕ) → MatchResult result
         (λ x. from r source.now (string role bs slash) start
         ≡ from r source.now (string role (bs ++ encode_utf8 x.0) between) x.1)
         (λ e. Tells (chars source.now) e (from r source.now (string role bs slash) start)) }
@@ -219,7 +219,7 @@ fn meant_by(letter: u8) -> Option<char>
     }
 }
 
-/// The character that a backslash means before the letter at this offset.
+/// The character of the escape whose letter is at `index`.
 fn simple_escape(source: &str, index: usize) -> Option<char>
     ensures { SomeIff result
         ((index < length source.now) × IsTrue (is_simple (slice_index source.now index)))
@@ -229,11 +229,11 @@ fn simple_escape(source: &str, index: usize) -> Option<char>
     meant_by(*letter)
 }
 
-/// The character of a `\u` escape whose digits begin at `start`, or of two of them, and the offset behind it.
+/// The character of the `\u` escape whose digits are at `start`, or of a surrogate pair that begins there, and the offset after it.
 fn read_unicode(source: &str, start: usize) -> Result<(char, usize)>
     requires { IsCharBoundary source.now start }
-    ensures bounds { IfOk result (λ r. (start < r.1) × IsCharBoundary source.now r.1) }
-    ensures same { (r : Reading) (role : Role) (bs : List ℕ) → MatchResult result
+    ensures end { IfOk result (λ r. (start < r.1) × IsCharBoundary source.now r.1) }
+    ensures outcome { (r : Reading) (role : Role) (bs : List ℕ) → MatchResult result
         (λ x. from r source.now (string role bs (code 3 0)) start
         ≡ from r source.now (string role (bs ++ encode_utf8 x.0) between) x.1)
         (λ e. Tells (chars source.now) e (from r source.now (string role bs (code 3 0)) start)) }
@@ -245,11 +245,11 @@ fn read_unicode(source: &str, start: usize) -> Result<(char, usize)>
     }
 }
 
-/// The character of a surrogate and of the one that must follow it at `start`, and the offset behind both.
+/// The character of the surrogate `first` and of the one that must follow at `start`, and the offset after both.
 fn read_second(source: &str, start: usize, first: u32) -> Result<(char, usize)>
     requires { IsCharBoundary source.now start }
-    ensures bounds { IfOk result (λ r. (start < r.1) × IsCharBoundary source.now r.1) }
-    ensures same { (r : Reading) (role : Role) (bs : List ℕ) → MatchResult result
+    ensures end { IfOk result (λ r. (start < r.1) × IsCharBoundary source.now r.1) }
+    ensures outcome { (r : Reading) (role : Role) (bs : List ℕ) → MatchResult result
         (λ x. from r source.now (string role bs (second first)) start
         ≡ from r source.now (string role (bs ++ encode_utf8 x.0) between) x.1)
         (λ e. Tells (chars source.now) e (from r source.now (string role bs (second first)) start)) }
@@ -267,7 +267,7 @@ fn read_second(source: &str, start: usize, first: u32) -> Result<(char, usize)>
     }
 }
 
-/// The character of a high surrogate and a low one.
+/// The character of a surrogate pair.
 fn paired_char(high: u32, low: u32) -> Option<char>
     ensures { SomeIff result (IsTrue (is_high high && is_low low)) (pair_char high low) }
 {
@@ -278,7 +278,7 @@ fn paired_char(high: u32, low: u32) -> Option<char>
     }
 }
 
-/// The number that four hexadecimal digits spell, of either case.
+/// The code unit that the four hexadecimal digits at `start`, of either case, spell: in a first escape, and in the second of a surrogate pair.
 fn read_hex(source: &str, start: usize) -> Result<u32>
     requires { IsCharBoundary source.now start }
     ensures unit { IfOk result (λ u. u < 0x10000) }
@@ -303,7 +303,7 @@ fn read_hex(source: &str, start: usize) -> Result<u32>
     Ok(unit)
 }
 
-/// The value of the hexadecimal digit at this offset.
+/// The value of the hexadecimal digit at `index`.
 fn hex_digit(source: &str, index: usize) -> Option<u32>
     ensures { SomeIff result
         ((index < length source.now) × IsTrue (is_ascii_hexdigit (slice_index source.now index)))

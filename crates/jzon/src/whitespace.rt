@@ -9,12 +9,12 @@ ghost use Rattle.jzon.specs.Machine.{Place, allows_whitespace, from};
 use crate::peek::{has_byte, has_four};
 use crate::reading::Reading;
 
-/// The offset behind the whitespace that stands at `start`.
+/// The offset after the whitespace at `start`.
 #[inline(always)]
 pub(crate) fn skip_whitespace(source: &str, reading: Reading, start: usize) -> usize
     requires { IsCharBoundary source.now start }
     ensures boundary { IsCharBoundary source.now result }
-    ensures same { (p : Place) → allows_whitespace p ≡ true →
+    ensures outcome { (p : Place) → allows_whitespace p ≡ true →
         from reading source.now p start ≡ from reading source.now p result }
     ensures within { start ≤ result }
     ensures stop { result < length source.now → is_whitespace reading.strict (slice_index source.now result) ≡ false }
@@ -28,7 +28,7 @@ pub(crate) fn skip_whitespace(source: &str, reading: Reading, start: usize) -> u
     start + whitespace_length(&source[start..], reading.strict())
 }
 
-/// Whether a byte above the space stands at this offset. None of them is whitespace.
+/// Whether the byte at `index` is above the space. No such byte is whitespace.
 #[inline(always)]
 fn is_above_space(source: &str, index: usize) -> bool
     ensures within { IsTrue result → index < length source.now }
@@ -39,7 +39,7 @@ fn is_above_space(source: &str, index: usize) -> bool
     index < bytes.len() && bytes[index] > b' '
 }
 
-/// How many whitespace bytes stand at the beginning. A newline and the spaces behind it come first: they are most of the whitespace of a text with lines.
+/// How many bytes at the start are whitespace. A newline and the spaces after it are tried first: they are most of the whitespace of an indented text.
 #[inline(never)]
 fn whitespace_length(text: &str, strict: bool) -> usize
     ensures { result ≡ prefix_len (is_whitespace strict) text.now }
@@ -51,7 +51,7 @@ fn whitespace_length(text: &str, strict: bool) -> usize
     len + whitespace_by_bytes(&text.as_bytes()[len..], strict)
 }
 
-/// The same of bytes, found one by one.
+/// How many bytes at the start are whitespace, one by one.
 #[inline(always)]
 fn whitespace_by_bytes(bytes: &[u8], strict: bool) -> usize
     ensures { result ≡ prefix_len (is_whitespace strict) bytes.now }
@@ -62,7 +62,7 @@ fn whitespace_by_bytes(bytes: &[u8], strict: bool) -> usize
         .count()
 }
 
-/// Whether the byte is whitespace: tab, newline, carriage return or space, or where the reading isn't strict vertical tab or form feed.
+/// Whether the byte is whitespace: tab, newline, carriage return or space; if not `strict`, vertical tab and form feed too.
 fn is_whitespace(byte: u8, strict: bool) -> bool
     ensures { result ≡ is_whitespace strict byte }
 {

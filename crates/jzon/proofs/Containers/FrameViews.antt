@@ -21,9 +21,9 @@ use Rattle.jzon.specs.Spelling.{breach_if, deep}
 use Rattle.jzon.specs.Machine.{Entries, Frames, no_frames, array_frame, object_frame, frames_depth, is_fresh}
 use Rattle.jzon.specs.Machine.{value_mark, key_mark}
 use Rattle.jzon.specs.Frames.{open_in, stack_view, is_open}
-use Rattle.jzon.specs.declared.frames.Begun.{Begun}
-use Rattle.jzon.specs.declared.frames.Begun.TheVariants.{Value as begun_value, Array as begun_array}
-use Rattle.jzon.specs.declared.frames.Begun.TheVariants.{Object as begun_object}
+use Rattle.jzon.specs.declared.frames.ValueStart.{ValueStart}
+use Rattle.jzon.specs.declared.frames.ValueStart.TheVariants.{Value as start_value, Array as start_array}
+use Rattle.jzon.specs.declared.frames.ValueStart.TheVariants.{Object as start_object}
 use Rattle.jzon.specs.declared.frames.Frame.{Frame}
 use Rattle.jzon.specs.declared.frames.Frame.TheVariants.{Array, Object as in_object}
 
@@ -89,10 +89,10 @@ known_view k ps = is_some-map (find k ps) ∙ ap is_some (find-viewed k ps)
 
 -- ---- what was read at the beginning of a value
 
-pub open_unless_value : (b : Begun) → ((v : JsonValue) → b ≡ begun_value v → ⊥) → is_open b ≡ true
-open_unless_value (begun_value v) h = absurd (h v refl)
-open_unless_value begun_array h = refl
-open_unless_value begun_object h = refl
+pub open_unless_value : (b : ValueStart) → ((v : JsonValue) → b ≡ start_value v → ⊥) → is_open b ≡ true
+open_unless_value (start_value v) h = absurd (h v refl)
+open_unless_value start_array h = refl
+open_unless_value start_object h = refl
 
 -- the object of these entries
 pub view_object-entries : (o : Object) (ps : List (List ℕ × JsonValue)) → entries_of o ≡ ps

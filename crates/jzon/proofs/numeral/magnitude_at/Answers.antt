@@ -16,7 +16,7 @@ returns-then-not-has_byte c =
     reads_whole_alone c.args.source.now c.args.start c.whole_at-before.result.0.now c.utf8.source whole
     (λ h. true≢false (sym (c.has_byte.ensures.1 h) ∙ c.if-not-has_byte.true)) in
     record {
-      bounds = (k.after, k.boundary.0, k.boundary);
+      end = (k.after, k.boundary.0, k.boundary);
       whole = k.all_whole;
       fraction = k.all_fraction;
       added_up = rw append-nil c.whole_at-before.ensures.number;
@@ -41,7 +41,7 @@ returns c =
     (reads_whole_and_fraction c.args.source.now c.args.start end c.whole_at-before.result.0.now fraction c.utf8.source
     whole refl here.0 here.1 c.digits_at-number.ensures.digits) in
     record {
-      bounds = (k.after, k.boundary.0, k.boundary);
+      end = (k.after, k.boundary.0, k.boundary);
       whole = k.all_whole;
       fraction = k.all_fraction;
       added_up = c.digits_at-number.ensures.number (digits_number c.whole_at-before.result.0.now)

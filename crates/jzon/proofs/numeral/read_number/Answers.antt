@@ -1,5 +1,5 @@
 use Rattle.jzon.proofs.numeral.read_number.Goals as goal
 
-pub returns-in-Err-clause-same : goal.returns-in-Err-clause-same
-returns-in-Err-clause-same c r fs = c.spelling_at-spelling.ensures.too_many c.in-Err.field-0 c.in-Err.ensures.fault r fs
+pub returns-in-Err-clause-outcome : goal.returns-in-Err-clause-outcome
+returns-in-Err-clause-outcome c r fs = c.spelling_at-spelling.ensures.too_many c.in-Err.field-0 c.in-Err.ensures.fault r fs
     c.args.negative

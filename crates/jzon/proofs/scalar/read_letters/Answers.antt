@@ -6,8 +6,8 @@ use Rattle.jzon.specs.Machine.{from, past_letter, Tells}
 use Rattle.jzon.proofs.Containers.LiteralLetters.{letter_read, letter_missing}
 use Rattle.jzon.proofs.scalar.read_letters.Goals as goal
 
-pub returns-then-not-has_byte-clause-same : goal.returns-then-not-has_byte-clause-same
-returns-then-not-has_byte-clause-same c r fs v =
+pub returns-then-not-has_byte-clause-outcome : goal.returns-then-not-has_byte-clause-outcome
+returns-then-not-has_byte-clause-outcome c r fs v =
     let k = c.loop-letter.letter-index in
     let letters = c.args.letters.now in
     let next : drop k letters ≡ get_or letters k 0 ∷ drop (suc k) letters = drop-cons letters k 0

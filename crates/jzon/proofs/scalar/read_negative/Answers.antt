@@ -7,17 +7,17 @@ use Rattle.jzon.proofs.Texts.ReportedErrors.{stopped_leads}
 use Rattle.jzon.proofs.Numbers.FirstDigits.{no_digit_stops, digit_goes}
 use Rattle.jzon.proofs.scalar.read_negative.Goals as goal
 
-pub returns-then-not-has_digit-clause-same : goal.returns-then-not-has_digit-clause-same
-returns-then-not-has_digit-clause-same c r fs =
+pub returns-then-not-has_digit-clause-outcome : goal.returns-then-not-has_digit-clause-outcome
+returns-then-not-has_digit-clause-outcome c r fs =
     stopped_leads (chars c.args.source.now) _ _ _ c.stopped_at.result
     (from_stop r c.args.source.now c.args.start (numeral fs true signed) c.utf8.source c.requires
     (no_digit_stops r c.args.source.now c.args.start fs (λ h. let no : c.has_digit.result
     ≡ true = c.has_digit.ensures.1 h in let yes : c.has_digit.result ≡ false = c.if-not-has_digit.true in cc)))
     c.stopped_at.ensures
 
-pub returns-clause-same : goal.returns-clause-same
-returns-clause-same c r fs =
+pub returns-clause-outcome : goal.returns-clause-outcome
+returns-clause-outcome c r fs =
     let here = c.has_digit.ensures.0 c.if-not-has_digit.false in
     same_outcome _ _ _ (chars c.args.source.now) c.read_magnitude.result
     (digit_goes r c.args.source.now c.args.start fs c.utf8.source c.requires here)
-    (c.read_magnitude.ensures.same r fs)
+    (c.read_magnitude.ensures.outcome r fs)

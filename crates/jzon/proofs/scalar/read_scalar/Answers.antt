@@ -14,8 +14,8 @@ use Rattle.jzon.proofs.scalar.read_scalar.Goals as goal
 here : (bs cs : List ℕ) (i x : ℕ) → cs ≡ bs → get_or cs i 0 ≡ x → get_or bs i 0 ≡ x
 here bs cs i x e f = ap (λ s. get_or s i 0) (sym e) ∙ f
 
-pub returns-then-start-source-clause-same : goal.returns-then-start-source-clause-same
-returns-then-start-source-clause-same c r fs shallow stop ends =
+pub returns-then-start-source-clause-outcome : goal.returns-then-start-source-clause-outcome
+returns-then-start-source-clause-outcome c r fs shallow stop ends =
     stopped_told (chars c.args.source.now) _ _ _ c.stopped_at.result
     (from_stop r c.args.source.now c.args.start (before fs) c.utf8.source c.requires.boundary
     (stops_before r c.args.source.now c.args.start fs shallow (λ lt. absurd (omega arith))))
@@ -23,14 +23,14 @@ returns-then-start-source-clause-same c r fs shallow stop ends =
 
 pub returns-then-has_digit-clause-memory : goal.returns-then-has_digit-clause-memory
 returns-then-has_digit-clause-memory c e = absurd (never_memory _ (chars c.args.source.now) _ c.read_magnitude.result
-    (c.read_magnitude.ensures.same usual no_frames) e)
+    (c.read_magnitude.ensures.outcome usual no_frames) e)
 
-pub returns-then-has_digit-clause-same : goal.returns-then-has_digit-clause-same
-returns-then-has_digit-clause-same c r fs shallow stop ends =
+pub returns-then-has_digit-clause-outcome : goal.returns-then-has_digit-clause-outcome
+returns-then-has_digit-clause-outcome c r fs shallow stop ends =
     let digit = c.has_digit.ensures.0 c.if-has_digit.true in
     same_or_memory _ _ _ (chars c.args.source.now) c.read_magnitude.result
     (begin_digit r c.args.source.now c.args.start fs c.utf8.source c.requires.boundary digit.0 digit.1 shallow)
-    (c.read_magnitude.ensures.same r fs)
+    (c.read_magnitude.ensures.outcome r fs)
 
 pub read_negative-requires : goal.read_negative-requires
 read_negative-requires c =
@@ -44,28 +44,28 @@ read_text-requires c =
 
 pub returns-in-45-clause-memory : goal.returns-in-45-clause-memory
 returns-in-45-clause-memory c e = absurd (never_memory _ (chars c.args.source.now) _ c.read_negative.result
-    (c.read_negative.ensures.same usual no_frames) e)
+    (c.read_negative.ensures.outcome usual no_frames) e)
 
-pub returns-in-45-clause-same : goal.returns-in-45-clause-same
-returns-in-45-clause-same c r fs shallow stop ends =
+pub returns-in-45-clause-outcome : goal.returns-in-45-clause-outcome
+returns-in-45-clause-outcome c r fs shallow stop ends =
     same_or_memory _ _ _ (chars c.args.source.now) c.read_negative.result
     (begin_minus r c.args.source.now c.args.start fs c.utf8.source c.requires.boundary (omega arith)
     (here _ _ _ 45 c.as_bytes.ensures.value c.in-45.is) shallow)
-    (c.read_negative.ensures.same r fs)
+    (c.read_negative.ensures.outcome r fs)
 
-pub returns-in-34-clause-same : goal.returns-in-34-clause-same
-returns-in-34-clause-same c r fs shallow stop ends =
+pub returns-in-34-clause-outcome : goal.returns-in-34-clause-outcome
+returns-in-34-clause-outcome c r fs shallow stop ends =
     same_unless_memory _ _ _ (chars c.args.source.now) c.read_text.result
     (begin_string r c.args.source.now c.args.start fs c.utf8.source c.requires.boundary (omega arith)
     (here _ _ _ 34 c.as_bytes.ensures.value c.in-34.is) shallow)
-    (c.read_text.ensures.same r fs)
+    (c.read_text.ensures.outcome r fs)
 
 pub returns-in-110-clause-memory : goal.returns-in-110-clause-memory
 returns-in-110-clause-memory c e = absurd (never_memory _ (chars c.args.source.now) _ c.read_word.result
-    (c.read_word.ensures.same usual no_frames refl) e)
+    (c.read_word.ensures.outcome usual no_frames refl) e)
 
-pub returns-in_default-clause-same : goal.returns-in_default-clause-same
-returns-in_default-clause-same c r fs shallow stop ends =
+pub returns-in_default-clause-outcome : goal.returns-in_default-clause-outcome
+returns-in_default-clause-outcome c r fs shallow stop ends =
     let same : get_or c.as_bytes.result.now c.args.start 0 ≡ get_or c.args.source.now c.args.start 0 =
     ap (λ s. get_or s c.args.start 0) c.as_bytes.ensures.value in
     stopped_told (chars c.args.source.now) _ _ _ c.stopped_at-in_default.result

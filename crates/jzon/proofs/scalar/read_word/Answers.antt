@@ -34,15 +34,15 @@ ends c r fs m all =
       fourth = four.fourth all;
     })
 
-pub returns-then-has_four-clause-bounds : goal.returns-then-has_four-clause-bounds
-returns-then-has_four-clause-bounds c =
-    let at = (goal.at.returns-then-has_four-clause-bounds c).After-has_four in
+pub returns-then-has_four-clause-end : goal.returns-then-has_four-clause-end
+returns-then-has_four-clause-end c =
+    let at = (goal.at.returns-then-has_four-clause-end c).After-has_four in
     let end = ends at usual no_frames refl c.if-has_four.true in
     (end.past, end.boundary)
 
-pub returns-then-has_four-clause-same : goal.returns-then-has_four-clause-same
-returns-then-has_four-clause-same c r fs m =
-    (ends (goal.at.returns-then-has_four-clause-same c).After-has_four r fs m c.if-has_four.true).same
+pub returns-then-has_four-clause-outcome : goal.returns-then-has_four-clause-outcome
+returns-then-has_four-clause-outcome c r fs m =
+    (ends (goal.at.returns-then-has_four-clause-outcome c).After-has_four r fs m c.if-has_four.true).same
 
 pub read_rest-requires-clause-boundary : goal.read_rest-requires-clause-boundary
 read_rest-requires-clause-boundary c =
@@ -56,8 +56,8 @@ read_rest-requires-clause-boundary c =
       ]
     ])
 
-pub returns-clause-same : goal.returns-clause-same
-returns-clause-same c r fs m =
+pub returns-clause-outcome : goal.returns-clause-outcome
+returns-clause-outcome c r fs m =
     let first : get_or c.as_bytes.result.now c.args.start 0 ≡ get_or c.args.source.now c.args.start 0 =
     ap (λ s. get_or s c.args.start 0) c.as_bytes.ensures.value in
     same_outcome _ _ _ (chars c.args.source.now) c.read_rest.result
@@ -74,4 +74,4 @@ returns-clause-same c r fs m =
       yes = c.letters_behind.ensures.yes;
       no = c.letters_behind.ensures.no;
     }))
-    (c.read_rest.ensures.same r fs)
+    (c.read_rest.ensures.outcome r fs)

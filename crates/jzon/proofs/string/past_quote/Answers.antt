@@ -10,13 +10,13 @@ returns-then-has_byte-clause-quote c =
     let here = c.has_byte.ensures.0 c.if-has_byte.true in
     (refl, quote_ends c.args.source.now c.args.index c.utf8.source c.requires.boundary here)
 
-pub returns-then-has_byte-clause-same : goal.returns-then-has_byte-clause-same
-returns-then-has_byte-clause-same c r role bs =
+pub returns-then-has_byte-clause-outcome : goal.returns-then-has_byte-clause-outcome
+returns-then-has_byte-clause-outcome c r role bs =
     let here = c.has_byte.ensures.0 c.if-has_byte.true in
     quote_closes r role bs c.args.source.now c.args.index c.utf8.source c.requires.boundary here.0 here.1
 
-pub returns-else-has_byte-clause-same : goal.returns-else-has_byte-clause-same
-returns-else-has_byte-clause-same c r role bs =
+pub returns-else-has_byte-clause-outcome : goal.returns-else-has_byte-clause-outcome
+returns-else-has_byte-clause-outcome c r role bs =
     subst (Tells (chars c.args.source.now) c.fault_at.result)
     (sym (string_stops r role bs c.args.source.now c.args.index c.utf8.source c.requires.boundary c.requires.stop
     c.requires.no_escape

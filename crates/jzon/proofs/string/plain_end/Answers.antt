@@ -28,6 +28,6 @@ returns-clause-stop c lt = stops_run is_plain c.args.source.now c.args.start c.p
 pub returns-clause-no_escape : goal.returns-clause-no_escape
 returns-clause-no_escape c = plain_no_escape c.args.source.now c.args.start c.plain_len.result (run c)
 
-pub returns-clause-same : goal.returns-clause-same
-returns-clause-same c r role bs =
+pub returns-clause-outcome : goal.returns-clause-outcome
+returns-clause-outcome c r role bs =
     plain_run r role bs c.args.source.now c.args.start c.plain_len.result c.utf8.source c.requires (run c)

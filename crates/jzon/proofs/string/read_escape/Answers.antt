@@ -11,32 +11,32 @@ read_unicode-requires c =
     let here = c.has_byte.ensures.0 c.if-has_byte.true in
     IsCharBoundary-after_ascii c.args.source.now c.args.start c.utf8.source here.0 (omega (arith, here.1))
 
-pub returns-then-has_byte-clause-same : goal.returns-then-has_byte-clause-same
-returns-then-has_byte-clause-same c r role bs =
+pub returns-then-has_byte-clause-outcome : goal.returns-then-has_byte-clause-outcome
+returns-then-has_byte-clause-outcome c r role bs =
     let text = c.args.source.now in
     let here = c.has_byte.ensures.0 c.if-has_byte.true in
     subst (λ o. MatchResult c.read_unicode.result (λ x. o ≡ from r text (string role (bs ++ encode_utf8 x.0) between)
     x.1) (λ e. Tells (chars text) e o))
     (sym (digits_begin r role bs text c.args.start c.utf8.source c.requires here.0 here.1))
-    (c.read_unicode.ensures.same r role bs)
+    (c.read_unicode.ensures.outcome r role bs)
 
-pub returns-in-Some-clause-bounds : goal.returns-in-Some-clause-bounds
-returns-in-Some-clause-bounds c =
+pub returns-in-Some-clause-end : goal.returns-in-Some-clause-end
+returns-in-Some-clause-end c =
     let here = c.in-Some.ensures in (
       omega arith,
       IsCharBoundary-after_ascii c.args.source.now c.args.start c.utf8.source here.0.0
           (simple_is_ascii _ here.0.1).0,
     )
 
-pub returns-in-Some-clause-same : goal.returns-in-Some-clause-same
-returns-in-Some-clause-same c r role bs =
+pub returns-in-Some-clause-outcome : goal.returns-in-Some-clause-outcome
+returns-in-Some-clause-outcome c r role bs =
     let text = c.args.source.now in
     let here = c.in-Some.ensures in
     simple_read r role bs text c.args.start c.utf8.source c.requires here.0.0 here.0.1
     ∙ ap (λ ch. from r text (string role (bs ++ encode_utf8 ch) between) (c.args.start + 1)) (sym here.1)
 
-pub returns-in-None-clause-same : goal.returns-in-None-clause-same
-returns-in-None-clause-same c r role bs =
+pub returns-in-None-clause-outcome : goal.returns-in-None-clause-outcome
+returns-in-None-clause-outcome c r role bs =
     subst (Tells (chars c.args.source.now) c.fault_at.result)
     (sym (escape_stops r role bs c.args.source.now c.args.start c.utf8.source c.requires
     (iff_false c.has_byte.ensures c.if-has_byte.false) c.in-None.ensures))

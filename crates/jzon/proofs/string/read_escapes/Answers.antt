@@ -12,8 +12,8 @@ read_escape-requires c =
     let here = c.has_byte.ensures.0 c.loop-start-test.true in
     IsCharBoundary-after_ascii c.args.source.now c.loop-start.index c.utf8.source here.0 (omega (arith, here.1))
 
-pub returns-in_err-ch-clause-same : goal.returns-in_err-ch-clause-same
-returns-in_err-ch-clause-same c r role =
+pub returns-in_err-ch-clause-outcome : goal.returns-in_err-ch-clause-outcome
+returns-in_err-ch-clause-outcome c r role =
     let text = c.args.source.now in
     let here = c.has_byte.ensures.0 c.loop-start-test.true in
     let read = string_bytes c.loop-start.buffer in
@@ -21,7 +21,7 @@ returns-in_err-ch-clause-same c r role =
     let escape = c.loop-start.invariant.same r role
     ∙ backslash_begins r role read text c.loop-start.index c.utf8.source c.loop-start.invariant.boundary here.0 here.1
     in
-    rw (told.1, told.2) (inr (subst (Tells (chars text) _) (sym escape) (c.in_err-ch.ensures.same r role read)))
+    rw (told.1, told.2) (inr (subst (Tells (chars text) _) (sym escape) (c.in_err-ch.ensures.outcome r role read)))
 
 pub loop-start-preserved : goal.loop-start-preserved
 loop-start-preserved c =
@@ -29,21 +29,21 @@ loop-start-preserved c =
     let here = c.has_byte.ensures.0 c.loop-start-test.true in
     let read = string_bytes c.loop-start.buffer in
     record {
-      within = omega (arith, c.in_ok-ch.ensures.bounds.0, c.in_ok-index.ensures.within);
+      within = omega (arith, c.in_ok-ch.ensures.end.0, c.in_ok-index.ensures.within);
       boundary = c.in_ok-index.ensures.boundary;
       stop = c.in_ok-index.ensures.stop;
       same = λ r role.
           c.loop-start.invariant.same r role
           ∙ backslash_begins r role read text c.loop-start.index c.utf8.source c.loop-start.invariant.boundary here.0
           here.1
-          ∙ c.in_ok-ch.ensures.same r role read
+          ∙ c.in_ok-ch.ensures.outcome r role read
           ∙ ap (λ z. from r text (string role z between) c.in_ok-ch.end) (sym c.in_ok-push.ensures.bytes)
-          ∙ c.in_ok-index.ensures.same r role;
+          ∙ c.in_ok-index.ensures.outcome r role;
     }
 
-pub returns-clause-same : goal.returns-clause-same
-returns-clause-same c r role =
+pub returns-clause-outcome : goal.returns-clause-outcome
+returns-clause-outcome c r role =
     let so_far = c.loop-start.invariant.same r role in
-    MatchResult-weaker c.past_quote.result (c.past_quote.ensures.same r role (string_bytes c.loop-start.buffer))
+    MatchResult-weaker c.past_quote.result (c.past_quote.ensures.outcome r role (string_bytes c.loop-start.buffer))
     (λ end h. so_far ∙ h)
     (λ e h. inr (subst (Tells (chars c.args.source.now) e) (sym so_far) h))

@@ -10,8 +10,8 @@ use Rattle.jzon.specs.Machine.{string, between, paired, outcome_on, from, Tells}
 use Rattle.jzon.proofs.Strings.Escapes.{second_begins, second_digits_boundary, second_stops, second_u_stops}
 use Rattle.jzon.proofs.string.read_second.Goals as goal
 
-pub returns-then-not-has_byte-clause-same : goal.returns-then-not-has_byte-clause-same
-returns-then-not-has_byte-clause-same c r role bs =
+pub returns-then-not-has_byte-clause-outcome : goal.returns-then-not-has_byte-clause-outcome
+returns-then-not-has_byte-clause-outcome c r role bs =
     subst (Tells (chars c.args.source.now) c.fault_at.result)
     (sym (second_stops r role bs c.args.source.now c.args.first c.args.start c.utf8.source c.requires
     (iff_false c.has_byte.ensures c.if-not-has_byte.true)))
@@ -22,8 +22,8 @@ fault_at-requires-then-not-has_byte-2 c =
     let one = c.has_byte.ensures.0 c.if-not-has_byte.false in
     IsCharBoundary-after_ascii c.args.source.now c.args.start c.utf8.source one.0 (omega (arith, one.1))
 
-pub returns-then-not-has_byte-2-clause-same : goal.returns-then-not-has_byte-2-clause-same
-returns-then-not-has_byte-2-clause-same c r role bs =
+pub returns-then-not-has_byte-2-clause-outcome : goal.returns-then-not-has_byte-2-clause-outcome
+returns-then-not-has_byte-2-clause-outcome c r role bs =
     subst (Tells (chars c.args.source.now) c.fault_at-then-not-has_byte-2.result)
     (sym (second_u_stops r role bs c.args.source.now c.args.first c.args.start c.utf8.source c.requires
     (c.has_byte.ensures.0 c.if-not-has_byte.false)
@@ -35,16 +35,16 @@ read_hex-requires c =
     second_digits_boundary c.args.source.now c.args.start c.utf8.source
     (c.has_byte-2.ensures.0 c.if-not-has_byte-2.false)
 
-pub returns-in_err-unit-clause-same : goal.returns-in_err-unit-clause-same
-returns-in_err-unit-clause-same c r role bs =
+pub returns-in_err-unit-clause-outcome : goal.returns-in_err-unit-clause-outcome
+returns-in_err-unit-clause-outcome c r role bs =
     let told = err_from_is_err_and c.from_residual.result c.from_residual.ensures.1 in
     let digits = second_begins r role bs c.args.source.now c.args.first c.args.start c.utf8.source c.requires
     (c.has_byte.ensures.0 c.if-not-has_byte.false) (c.has_byte-2.ensures.0 c.if-not-has_byte-2.false) in
     rw (told.1, told.2) (subst (Tells (chars c.args.source.now) _) (sym digits)
     (c.in_err-unit.ensures.second r role bs c.args.first))
 
-pub returns-in-Some-clause-same : goal.returns-in-Some-clause-same
-returns-in-Some-clause-same c r role bs =
+pub returns-in-Some-clause-outcome : goal.returns-in-Some-clause-outcome
+returns-in-Some-clause-outcome c r role bs =
     let pair = c.in-Some.ensures in
     let text = c.args.source.now in
     let rest = chars (drop (c.args.start + 2 + 3) text) in
@@ -58,8 +58,8 @@ returns-in-Some-clause-same c r role bs =
     (let e : c.args.start + 2 + 4 ≡ c.args.start + 6 = omega arith in e)
     ∙ ap (λ ch. from r text (string role (bs ++ encode_utf8 ch) between) (c.args.start + 6)) (sym pair.1)
 
-pub returns-in-None-clause-same : goal.returns-in-None-clause-same
-returns-in-None-clause-same c r role bs =
+pub returns-in-None-clause-outcome : goal.returns-in-None-clause-outcome
+returns-in-None-clause-outcome c r role bs =
     let text = c.args.source.now in
     let rest = chars (drop (c.args.start + 2 + 3) text) in
     let no_pair : (is_high c.args.first && is_low c.in_ok-unit.unit) ≡ false = false_from_ne_true _ c.in-None.ensures in

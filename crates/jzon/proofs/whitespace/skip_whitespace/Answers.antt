@@ -30,8 +30,8 @@ returns-then-is_above_space-2-clause-boundary c =
     (next.within c.if-is_above_space-2.true) whitespace.1
     (next.above c.if-is_above_space-2.true))
 
-pub returns-then-is_above_space-2-clause-same : goal.returns-then-is_above_space-2-clause-same
-returns-then-is_above_space-2-clause-same c p allows =
+pub returns-then-is_above_space-2-clause-outcome : goal.returns-then-is_above_space-2-clause-outcome
+returns-then-is_above_space-2-clause-outcome c p allows =
     let next = c.is_above_space-then-has_byte.ensures in
     let whitespace = c.has_byte.ensures.0 c.if-has_byte.true in
     from_skip c.args.reading _ (is_whitespace c.args.reading.strict) c.args.source.now c.args.start 1
@@ -45,8 +45,8 @@ returns-clause-boundary c =
     boundary_skip c.args.reading _ (is_whitespace c.args.reading.strict) c.args.source.now c.args.start
     c.whitespace_length.result (before_skips c.args.reading no_frames) c.utf8.source c.requires (run c)
 
-pub returns-clause-same : goal.returns-clause-same
-returns-clause-same c p allows =
+pub returns-clause-outcome : goal.returns-clause-outcome
+returns-clause-outcome c p allows =
     from_skip c.args.reading _ (is_whitespace c.args.reading.strict) c.args.source.now c.args.start
     c.whitespace_length.result (whitespace_skips c.args.reading p allows) c.utf8.source c.requires (run c)
 

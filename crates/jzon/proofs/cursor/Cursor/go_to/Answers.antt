@@ -16,5 +16,5 @@ returns c = record {
   reading = refl;
   within = c.skip_whitespace-self.ensures.within;
   same =
-      c.skip_whitespace-self.ensures.same;
+      c.skip_whitespace-self.ensures.outcome;
 }

@@ -15,4 +15,4 @@ invariant_of-result c =
     }
 
 pub returns : goal.returns
-returns c = record { text = refl; reading = refl; within = omega arith; same = c.skip_whitespace.ensures.same }
+returns c = record { text = refl; reading = refl; within = omega arith; same = c.skip_whitespace.ensures.outcome }

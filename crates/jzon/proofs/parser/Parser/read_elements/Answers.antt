@@ -10,13 +10,13 @@ use Rattle.jzon.specs.Frames.{IsReady, place_of, stack_view}
 use Rattle.jzon.specs.Machine.{Frames, array_frame, frames_depth, before, behind, value_mark}
 use Rattle.jzon.specs.Reading.{Reading}
 use Rattle.jzon.specs.declared.cursor.Cursor.{Cursor}
-use Rattle.jzon.specs.declared.frames.Begun.TheVariants.{Object as begun_object}
+use Rattle.jzon.specs.declared.frames.ValueStart.TheVariants.{Object as start_object}
 use Rattle.jzon.specs.declared.frames.Frame.{Frame}
 use Rattle.jzon.proofs.Texts.Cursors.{Reached, reached_start, reached, token_goes, goes_behind, fails_on}
 use Rattle.jzon.proofs.Containers.FrameViews.{frames_depth-stack, fresh_is_empty, some_more, stack_view-push}
 use Rattle.jzon.proofs.Containers.FrameViews.{value_mark-shallow}
 use Rattle.jzon.proofs.parser.Parser.read_elements.Goals.{After-len-depth, After-container_ends, In_ok-elements-in-Array}
-use Rattle.jzon.proofs.parser.Parser.read_elements.Goals.{then-opens_container+in_ok-begun+in-Value+in_ok-push-in-Value}
+use Rattle.jzon.proofs.parser.Parser.read_elements.Goals.{then-opens_container+in_ok-value_start+in-Value+in_ok-push-in-Value}
 use Rattle.jzon.proofs.parser.Parser.read_elements.Goals.{else-opens_container+in_ok-value+in_ok-push}
 use Rattle.jzon.proofs.parser.Parser.read_elements.Goals as goal
 
@@ -35,65 +35,65 @@ depth_here : (c : After-len-depth) →
 depth_here c =
     omega (arith, frames_depth-stack c.loop-self.self.stack.items, c.loop-self.self.stack.ok.0, c.len-depth.ensures)
 
-pub returns-in_err-begun-clause-same : goal.returns-in_err-begun-clause-same
-returns-in_err-begun-clause-same c =
+pub returns-in_err-value_start-clause-outcome : goal.returns-in_err-value_start-clause-outcome
+returns-in_err-value_start-clause-outcome c =
     let fs = stack_view c.loop-self.self.stack.items in
     let vs = map view c.loop-self.elements.items in
-    let at = goal.at.returns-in_err-begun-clause-same c in
+    let at = goal.at.returns-in_err-value_start-clause-outcome c in
     let failed = err_from_is_err_and c.from_residual.result c.from_residual.ensures.1 in
     fails_on c.args.self.now.cursor c.loop-self.self.cursor _ _ (before (array_frame fs vs)) c.from_residual.result _
     failed.0 failed.1 c.loop-self.invariant.came
-    (rw failed.2 (c.in_err-begun.ensures.same (array_frame fs vs) (depth_here at.After-len-depth)
+    (rw failed.2 (c.in_err-value_start.ensures.outcome (array_frame fs vs) (depth_here at.After-len-depth)
     (λ f. c.loop-self.invariant.element (fresh_is_empty fs vs f))))
 
 pub returns-in-Object-clause-ready : goal.returns-in-Object-clause-ready
 returns-in-Object-clause-ready c =
-    subst (λ k. IsReady c.begin.new.self.cursor k begun_object)
+    subst (λ k. IsReady c.read_start.new.self.cursor k start_object)
     (omega (
       arith,
       c.in_ok-push-in-Object.ensures.len,
       c.len-depth.ensures,
       ap (λ s. vec_len s)
-          c.in_ok-begun.ensures.stack,
-    )) (subst (λ b. IsReady c.begin.new.self.cursor (c.len-depth.result + 1) b) c.in-Object.is
-    c.in_ok-begun.ensures.ready)
+          c.in_ok-value_start.ensures.stack,
+    )) (subst (λ b. IsReady c.read_start.new.self.cursor (c.len-depth.result + 1) b) c.in-Object.is
+    c.in_ok-value_start.ensures.ready)
 
-pub returns-in-Object-clause-same : goal.returns-in-Object-clause-same
-returns-in-Object-clause-same c =
-    let n = c.begin.new.self.cursor in
+pub returns-in-Object-clause-outcome : goal.returns-in-Object-clause-outcome
+returns-in-Object-clause-outcome c =
+    let n = c.read_start.new.self.cursor in
     let fs = stack_view c.loop-self.self.stack.items in
     let vs = map view c.loop-self.elements.items in
-    let at = goal.at.returns-in-Object-clause-same c in
-    let read = c.in_ok-begun.ensures.same (array_frame fs vs) (depth_here at.After-len-depth)
+    let at = goal.at.returns-in-Object-clause-outcome c in
+    let read = c.in_ok-value_start.ensures.outcome (array_frame fs vs) (depth_here at.After-len-depth)
     (λ f. c.loop-self.invariant.element (fresh_is_empty fs vs f)) in
-    let stack = stack_view-push c.begin.new.self.stack.items c.push-in-Object.new.self.items _
+    let stack = stack_view-push c.read_start.new.self.stack.items c.push-in-Object.new.self.items _
     c.in_ok-push-in-Object.ensures.items
-    ∙ ap (λ s. array_frame (stack_view s.items) vs) c.in_ok-begun.ensures.stack in
+    ∙ ap (λ s. array_frame (stack_view s.items) vs) c.in_ok-value_start.ensures.stack in
     goes_behind c.args.self.now.cursor c.loop-self.self.cursor n _ (before (array_frame fs vs)) _
     c.loop-self.invariant.came (
       read.0,
       read.1 ∙ ap (λ b. left n (place_of b (array_frame fs vs))) c.in-Object.is
-          ∙ ap (λ gs. left n (place_of begun_object gs)) (sym stack),
+          ∙ ap (λ gs. left n (place_of start_object gs)) (sym stack),
     )
 
 -- ---- in an array in the array
 
 nested : (c : In_ok-elements-in-Array) →
-    IsBehind c.loop-self.self.cursor c.begin.new.self.cursor
+    IsBehind c.loop-self.self.cursor c.read_start.new.self.cursor
     × (left c.loop-self.self.cursor (before (array_frame (stack_view c.loop-self.self.stack.items)
-    (map view c.loop-self.elements.items))) ≡ left c.begin.new.self.cursor
+    (map view c.loop-self.elements.items))) ≡ left c.read_start.new.self.cursor
     (before (array_frame (stack_view c.push-in-Array.new.self.items)
     (map view c.in_ok-elements-in-Array.elements.items))))
 nested c =
-    let n = c.begin.new.self.cursor in
+    let n = c.read_start.new.self.cursor in
     let fs = stack_view c.loop-self.self.stack.items in
     let vs = map view c.loop-self.elements.items in
     let at = (goal.at.loop-self-smaller-in-Array c).After-len-depth in
-    let read = c.in_ok-begun.ensures.same (array_frame fs vs) (depth_here at)
+    let read = c.in_ok-value_start.ensures.outcome (array_frame fs vs) (depth_here at)
     (λ f. c.loop-self.invariant.element (fresh_is_empty fs vs f)) in
-    let stack = stack_view-push c.begin.new.self.stack.items c.push-in-Array.new.self.items _
+    let stack = stack_view-push c.read_start.new.self.stack.items c.push-in-Array.new.self.items _
     c.in_ok-push-in-Array.ensures.items
-    ∙ ap (λ s. array_frame (stack_view s.items) vs) c.in_ok-begun.ensures.stack in (
+    ∙ ap (λ s. array_frame (stack_view s.items) vs) c.in_ok-value_start.ensures.stack in (
       read.0,
       read.1 ∙ ap (λ b. left n (place_of b (array_frame fs vs))) c.in-Array.is
           ∙ ap (λ gs. left n (before (array_frame gs []))) (sym stack)
@@ -104,23 +104,23 @@ nested c =
 pub loop-self-smaller-in-Array : goal.loop-self-smaller-in-Array
 loop-self-smaller-in-Array c =
     let read = nested c in
-    omega (arith, read.0.index, ap length read.0.text, c.begin.new.self.cursor.boundary.0)
+    omega (arith, read.0.index, ap length read.0.text, c.read_start.new.self.cursor.boundary.0)
 
 pub loop-self-preserved-in-Array : goal.loop-self-preserved-in-Array
 loop-self-preserved-in-Array c =
-    let ready = subst (λ b. IsReady c.begin.new.self.cursor (c.len-depth.result + 1) b) c.in-Array.is
-    c.in_ok-begun.ensures.ready in
+    let ready = subst (λ b. IsReady c.read_start.new.self.cursor (c.len-depth.result + 1) b) c.in-Array.is
+    c.in_ok-value_start.ensures.ready in
     record {
       room = omega (
         arith,
         ready.0,
         c.in_ok-push-in-Array.ensures.len,
         c.len-depth.ensures,
-        ap (λ s. vec_len s) c.in_ok-begun.ensures.stack,
+        ap (λ s. vec_len s) c.in_ok-value_start.ensures.stack,
       );
       element = λ none. ready.1;
-      came = reached c.args.self.now.cursor c.begin.new.self.cursor _ _
-          (goes_behind c.args.self.now.cursor c.loop-self.self.cursor c.begin.new.self.cursor _ _ _
+      came = reached c.args.self.now.cursor c.read_start.new.self.cursor _ _
+          (goes_behind c.args.self.now.cursor c.loop-self.self.cursor c.read_start.new.self.cursor _ _ _
           c.loop-self.invariant.came (nested c));
     }
 
@@ -130,8 +130,8 @@ no_mark : (r : Reading) (stack : List Frame) (vs : List Value) → length stack 
 no_mark r stack vs room =
     value_mark-shallow r (array_frame (stack_view stack) vs) (omega (arith, frames_depth-stack stack, room))
 
-pub returns-in_err-value-clause-same : goal.returns-in_err-value-clause-same
-returns-in_err-value-clause-same c =
+pub returns-in_err-value-clause-outcome : goal.returns-in_err-value-clause-outcome
+returns-in_err-value-clause-outcome c =
     let m = c.loop-self.self.cursor in
     let fs = stack_view c.loop-self.self.stack.items in
     let vs = map view c.loop-self.elements.items in
@@ -140,7 +140,7 @@ returns-in_err-value-clause-same c =
     let failed = err_from_is_err_and c.from_residual-in_err-value.result c.from_residual-in_err-value.ensures.1 in
     fails_on c.args.self.now.cursor m _ _ (before (array_frame fs vs)) c.from_residual-in_err-value.result _ failed.0
     failed.1 c.loop-self.invariant.came
-    (rw failed.2 (c.in_err-value.ensures.same m.reading (array_frame fs vs) shallow m.past_whitespace
+    (rw failed.2 (c.in_err-value.ensures.outcome m.reading (array_frame fs vs) shallow m.past_whitespace
     (λ f. c.loop-self.invariant.element (fresh_is_empty fs vs f))))
 
 -- ---- after an element
@@ -162,7 +162,7 @@ more c =
     let shallow = no_mark m.reading c.loop-self.self.stack.items vs
     (omega (arith, c.loop-self.self.stack.ok.0, c.loop-self.invariant.room)) in
     elim c.if-opens_container.branch [
-      | then-opens_container+in_ok-begun+in-Value+in_ok-push-in-Value w ↦
+      | then-opens_container+in_ok-value_start+in-Value+in_ok-push-in-Value w ↦
           let depth : frames_depth (array_frame fs vs) ≡ w.len-depth.result + 1 =
           omega (
             arith,
@@ -170,7 +170,7 @@ more c =
             c.loop-self.self.stack.ok.0,
             w.len-depth.ensures,
           ) in
-          let read = w.in_ok-begun.ensures.same (array_frame fs vs) depth
+          let read = w.in_ok-value_start.ensures.outcome (array_frame fs vs) depth
           (λ f. c.loop-self.invariant.element (fresh_is_empty fs vs f)) in
           rw (w.self-is, w.elements-is) (record {
             value = view w.in-Value.value;
@@ -178,7 +178,7 @@ more c =
                 ∙ map-append view c.loop-self.elements.items (w.in-Value.value ∷ []);
             read = (
               read.0,
-              read.1 ∙ ap (λ b. left w.begin.new.self.cursor (place_of b (array_frame fs vs)))
+              read.1 ∙ ap (λ b. left w.read_start.new.self.cursor (place_of b (array_frame fs vs)))
                   w.in-Value.is,
             );
           })
@@ -189,8 +189,8 @@ more c =
                 ∙ map-append view c.loop-self.elements.items (w.in_ok-value.value ∷ []);
             read = token_goes m w.go_to.new.self (before (array_frame fs vs))
                 (behind (array_frame fs vs) (view w.in_ok-value.value)) w.in_ok-value.end w.go_to.ensures
-                w.in_ok-value.ensures.bounds.0 refl
-                (w.in_ok-value.ensures.same m.reading (array_frame fs vs) shallow m.past_whitespace
+                w.in_ok-value.ensures.end.0 refl
+                (w.in_ok-value.ensures.outcome m.reading (array_frame fs vs) shallow m.past_whitespace
                 (λ f. c.loop-self.invariant.element (fresh_is_empty fs vs f)));
           })
     ]
@@ -198,8 +198,8 @@ more c =
 stack_kept : (c : After-container_ends) → c.if-opens_container.self.stack ≡ c.loop-self.self.stack
 stack_kept c =
     elim c.if-opens_container.branch [
-      | then-opens_container+in_ok-begun+in-Value+in_ok-push-in-Value w ↦ ap (λ s. s.stack) w.self-is
-          ∙ w.in_ok-begun.ensures.stack
+      | then-opens_container+in_ok-value_start+in-Value+in_ok-push-in-Value w ↦ ap (λ s. s.stack) w.self-is
+          ∙ w.in_ok-value_start.ensures.stack
       | else-opens_container+in_ok-value+in_ok-push w ↦ ap (λ s. s.stack) w.self-is
     ]
 
@@ -215,11 +215,11 @@ came c =
     (goes_behind c.args.self.now.cursor c.loop-self.self.cursor c.if-opens_container.self.cursor _
     (before (array_frame fs vs)) _ c.loop-self.invariant.came (more c).read)
 
-pub returns-in_err-container_ends-clause-same : goal.returns-in_err-container_ends-clause-same
-returns-in_err-container_ends-clause-same c =
+pub returns-in_err-container_ends-clause-outcome : goal.returns-in_err-container_ends-clause-outcome
+returns-in_err-container_ends-clause-outcome c =
     let fs = stack_view c.loop-self.self.stack.items in
     let vs = map view c.loop-self.elements.items in
-    let at = (goal.at.returns-in_err-container_ends-clause-same c).After-container_ends in
+    let at = (goal.at.returns-in_err-container_ends-clause-outcome c).After-container_ends in
     let failed = err_from_is_err_and c.from_residual-in_err-container_ends.result
     c.from_residual-in_err-container_ends.ensures.1 in
     fails_on c.args.self.now.cursor c.if-opens_container.self.cursor _ _ (behind (array_frame fs vs) (more at).value)
@@ -234,13 +234,13 @@ returns-then-branch-clause-ready c =
     let reading = (c.in_ok-container_ends.ensures (array_frame fs vs) (more at).value refl).0.reading ∙ (more at).read.0.reading in
     omega (arith, c.loop-self.invariant.room, ap (λ r. r.depth) reading, ap (λ s. vec_len s) (stack_kept at))
 
-pub returns-then-branch-clause-same : goal.returns-then-branch-clause-same
-returns-then-branch-clause-same c =
+pub returns-then-branch-clause-outcome : goal.returns-then-branch-clause-outcome
+returns-then-branch-clause-outcome c =
     let t = c.args.self.now.cursor in
     let u = c.container_ends.new.self in
     let fs = stack_view c.loop-self.self.stack.items in
     let vs = map view c.loop-self.elements.items in
-    let at = (goal.at.returns-then-branch-clause-same c).After-container_ends in
+    let at = (goal.at.returns-then-branch-clause-outcome c).After-container_ends in
     let v = (more at).value in
     let read = goes_behind t c.if-opens_container.self.cursor u _ (behind (array_frame fs vs) v) _ (came at)
     (c.in_ok-container_ends.ensures (array_frame fs vs) v refl) in (

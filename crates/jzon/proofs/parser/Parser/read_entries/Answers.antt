@@ -38,15 +38,15 @@ mark_here c =
           (λ r. r.depth) c.loop-entries.invariant.came.reading,
     ))
 
-pub returns-in_err-key-clause-same : goal.returns-in_err-key-clause-same
-returns-in_err-key-clause-same c =
+pub returns-in_err-key-clause-outcome : goal.returns-in_err-key-clause-outcome
+returns-in_err-key-clause-outcome c =
     let fs = stack_view c.args.self.now.stack.items in
     let es = viewed c.loop-entries.entries in
-    let at = goal.at.returns-in_err-key-clause-same c in
+    let at = goal.at.returns-in_err-key-clause-outcome c in
     let failed = err_from_is_err_and c.from_residual.result c.from_residual.ensures.1 in
     fails_on c.args.self.now.cursor c.loop-entries.self.cursor _ _ (before_key fs es) c.from_residual.result _ failed.0
     failed.1 c.loop-entries.invariant.came
-    (rw failed.2 (c.in_err-key.ensures.same fs (mark_here at.After-read_key) c.loop-entries.invariant.key))
+    (rw failed.2 (c.in_err-key.ensures.outcome fs (mark_here at.After-read_key) c.loop-entries.invariant.key))
 
 -- the key was read
 keyed : (c : In_ok-key) →
@@ -70,16 +70,16 @@ keyed c =
     reached c.args.self.now.cursor c.read_key.new.self.cursor _ (before (object_frame fs es c.in_ok-key.key))
     (goes_behind c.args.self.now.cursor c.loop-entries.self.cursor c.read_key.new.self.cursor _ (before_key fs es) _
     c.loop-entries.invariant.came
-    (c.in_ok-key.ensures.same fs mark c.loop-entries.invariant.key))
+    (c.in_ok-key.ensures.outcome fs mark c.loop-entries.invariant.key))
 
-pub begin-requires : goal.begin-requires
-begin-requires c = record {
+pub read_start-requires : goal.read_start-requires
+read_start-requires c = record {
   room = omega (
     arith,
     c.requires.room,
     c.len-depth.ensures,
     ap (λ s. vec_len s) (c.in_ok-key.ensures.stack ∙ c.loop-entries.invariant.stack),
-    ap (λ r. r.depth) (keyed (goal.at.begin-requires c).In_ok-key).reading,
+    ap (λ r. r.depth) (keyed (goal.at.read_start-requires c).In_ok-key).reading,
   );
 }
 
@@ -96,42 +96,42 @@ depth_here c =
       ap (λ s. vec_len s) (c.in_ok-key.ensures.stack ∙ c.loop-entries.invariant.stack),
     )
 
-pub returns-in_err-begun-clause-same : goal.returns-in_err-begun-clause-same
-returns-in_err-begun-clause-same c =
+pub returns-in_err-value_start-clause-outcome : goal.returns-in_err-value_start-clause-outcome
+returns-in_err-value_start-clause-outcome c =
     let here = object_frame (stack_view c.args.self.now.stack.items) (viewed c.loop-entries.entries)
     c.in_ok-key.key in
-    let at = goal.at.returns-in_err-begun-clause-same c in
-    let failed = err_from_is_err_and c.from_residual-in_err-begun.result c.from_residual-in_err-begun.ensures.1 in
-    fails_on c.args.self.now.cursor c.read_key.new.self.cursor _ _ (before here) c.from_residual-in_err-begun.result _
+    let at = goal.at.returns-in_err-value_start-clause-outcome c in
+    let failed = err_from_is_err_and c.from_residual-in_err-value_start.result c.from_residual-in_err-value_start.ensures.1 in
+    fails_on c.args.self.now.cursor c.read_key.new.self.cursor _ _ (before here) c.from_residual-in_err-value_start.result _
     failed.0 failed.1 (keyed at.In_ok-key)
-    (rw failed.2 (c.in_err-begun.ensures.same here (depth_here at.After-len-depth) (λ f. absurd (true≢false (sym f)))))
+    (rw failed.2 (c.in_err-value_start.ensures.outcome here (depth_here at.After-len-depth) (λ f. absurd (true≢false (sym f)))))
 
 pub returns-in_default-clause-ready : goal.returns-in_default-clause-ready
 returns-in_default-clause-ready c =
-    subst (λ k. IsReady c.begin.new.self.cursor k c.in_ok-begun.begun)
+    subst (λ k. IsReady c.read_start.new.self.cursor k c.in_ok-value_start.value_start)
     (omega (
       arith,
       c.in_ok-push-in_default.ensures.len,
       c.len-depth.ensures,
       ap (λ s. vec_len s)
-          c.in_ok-begun.ensures.stack,
-    )) c.in_ok-begun.ensures.ready
+          c.in_ok-value_start.ensures.stack,
+    )) c.in_ok-value_start.ensures.ready
 
-pub returns-in_default-clause-same : goal.returns-in_default-clause-same
-returns-in_default-clause-same c =
-    let n = c.begin.new.self.cursor in
+pub returns-in_default-clause-outcome : goal.returns-in_default-clause-outcome
+returns-in_default-clause-outcome c =
+    let n = c.read_start.new.self.cursor in
     let fs = stack_view c.args.self.now.stack.items in
     let es = viewed c.loop-entries.entries in
     let here = object_frame fs es c.in_ok-key.key in
-    let at = goal.at.returns-in_default-clause-same c in
-    let read = c.in_ok-begun.ensures.same here (depth_here at.After-len-depth) (λ f. absurd (true≢false (sym f))) in
-    let stack = stack_view-push c.begin.new.self.stack.items c.push-in_default.new.self.items _
+    let at = goal.at.returns-in_default-clause-outcome c in
+    let read = c.in_ok-value_start.ensures.outcome here (depth_here at.After-len-depth) (λ f. absurd (true≢false (sym f))) in
+    let stack = stack_view-push c.read_start.new.self.stack.items c.push-in_default.new.self.items _
     c.in_ok-push-in_default.ensures.items
     ∙ ap (λ s. object_frame (stack_view s.items) (viewed c.read_key.new.entries) c.in_ok-key.key)
-    (c.in_ok-begun.ensures.stack ∙ c.in_ok-key.ensures.stack ∙ c.loop-entries.invariant.stack)
+    (c.in_ok-value_start.ensures.stack ∙ c.in_ok-key.ensures.stack ∙ c.loop-entries.invariant.stack)
     ∙ ap (λ xs. object_frame fs (viewed xs) c.in_ok-key.key) c.in_ok-key.ensures.kept in
     goes_behind c.args.self.now.cursor c.read_key.new.self.cursor n _ (before here) _ (keyed at.In_ok-key)
-    (read.0, read.1 ∙ ap (λ gs. left n (place_of c.in_ok-begun.begun gs)) (sym stack))
+    (read.0, read.1 ∙ ap (λ gs. left n (place_of c.in_ok-value_start.value_start gs)) (sym stack))
 
 -- the value of the key was read
 came : (c : After-container_ends)
@@ -140,11 +140,11 @@ came : (c : After-container_ends)
     (before (object_frame (stack_view c.args.self.now.stack.items) (viewed c.loop-entries.entries)
     c.in_ok-key.key))
     → Reached c.args.self.now.cursor (before_key (stack_view c.args.self.now.stack.items) (viewed c.args.entries))
-    c.begin.new.self.cursor
+    c.read_start.new.self.cursor
     (behind (object_frame (stack_view c.args.self.now.stack.items) (viewed c.loop-entries.entries)
     c.in_ok-key.key) (view c.in-Value.value))
 came c key =
-    let n = c.begin.new.self.cursor in
+    let n = c.read_start.new.self.cursor in
     let here = object_frame (stack_view c.args.self.now.stack.items) (viewed c.loop-entries.entries)
     c.in_ok-key.key in
     let depth : frames_depth here ≡ c.len-depth.result + 1 =
@@ -155,7 +155,7 @@ came c key =
       c.len-depth.ensures,
       ap (λ s. vec_len s) (c.in_ok-key.ensures.stack ∙ c.loop-entries.invariant.stack),
     ) in
-    let read = c.in_ok-begun.ensures.same here depth (λ f. absurd (true≢false (sym f))) in
+    let read = c.in_ok-value_start.ensures.outcome here depth (λ f. absurd (true≢false (sym f))) in
     reached c.args.self.now.cursor n _ (behind here (view c.in-Value.value))
     (goes_behind c.args.self.now.cursor c.read_key.new.self.cursor n _ (before here) _ key
     (read.0, read.1 ∙ ap (λ b. left n (place_of b here)) c.in-Value.is))
@@ -167,14 +167,14 @@ pushed c =
     c.read_key.new.entries
     ∙ ap (λ es. put c.in_ok-key.key (view c.in-Value.value) (viewed es)) c.in_ok-key.ensures.kept
 
-pub returns-in_err-container_ends-clause-same : goal.returns-in_err-container_ends-clause-same
-returns-in_err-container_ends-clause-same c =
+pub returns-in_err-container_ends-clause-outcome : goal.returns-in_err-container_ends-clause-outcome
+returns-in_err-container_ends-clause-outcome c =
     let fs = stack_view c.args.self.now.stack.items in
     let es = viewed c.loop-entries.entries in
-    let at = goal.at.returns-in_err-container_ends-clause-same c in
+    let at = goal.at.returns-in_err-container_ends-clause-outcome c in
     let failed = err_from_is_err_and c.from_residual-in_err-container_ends.result
     c.from_residual-in_err-container_ends.ensures.1 in
-    fails_on c.args.self.now.cursor c.begin.new.self.cursor _ _
+    fails_on c.args.self.now.cursor c.read_start.new.self.cursor _ _
     (behind (object_frame fs es c.in_ok-key.key) (view c.in-Value.value))
     c.from_residual-in_err-container_ends.result _ failed.0 failed.1 (came at.After-container_ends (keyed at.In_ok-key))
     (rw failed.2 (c.in_err-container_ends.ensures (object_frame fs es c.in_ok-key.key) (view c.in-Value.value) refl))
@@ -190,27 +190,27 @@ returns-then-branch-clause-ready c =
       arith,
       c.requires.room,
       ap (λ r. r.depth) reading,
-      ap (λ s. vec_len s) (c.in_ok-begun.ensures.stack ∙ c.in_ok-key.ensures.stack ∙ c.loop-entries.invariant.stack),
+      ap (λ s. vec_len s) (c.in_ok-value_start.ensures.stack ∙ c.in_ok-key.ensures.stack ∙ c.loop-entries.invariant.stack),
     )
 
-pub returns-then-branch-clause-same : goal.returns-then-branch-clause-same
-returns-then-branch-clause-same c =
+pub returns-then-branch-clause-outcome : goal.returns-then-branch-clause-outcome
+returns-then-branch-clause-outcome c =
     let t = c.args.self.now.cursor in
     let u = c.container_ends.new.self in
     let fs = stack_view c.args.self.now.stack.items in
     let es = viewed c.loop-entries.entries in
     let k = c.in_ok-key.key in
     let v = view c.in-Value.value in
-    let at = goal.at.returns-then-branch-clause-same c in
-    let read = goes_behind t c.begin.new.self.cursor u _ (behind (object_frame fs es k) v) _
+    let at = goal.at.returns-then-branch-clause-outcome c in
+    let read = goes_behind t c.read_start.new.self.cursor u _ (behind (object_frame fs es k) v) _
     (came at.After-container_ends (keyed at.In_ok-key))
     (c.in_ok-container_ends.ensures (object_frame fs es k) v refl) in (
       read.0,
       read.1 ∙ ap (λ b. left u (cond b (behind fs (object (pairs_of (put k v es)))) (before_key fs (put k v es))))
           c.if-branch.true
           ∙ ap (λ s. left u (behind (stack_view s.items) (object (pairs_of (put k v es)))))
-          (sym (c.in_ok-begun.ensures.stack ∙ c.in_ok-key.ensures.stack ∙ c.loop-entries.invariant.stack))
-          ∙ ap (λ x. left u (behind (stack_view c.begin.new.self.stack.items) x))
+          (sym (c.in_ok-value_start.ensures.stack ∙ c.in_ok-key.ensures.stack ∙ c.loop-entries.invariant.stack))
+          ∙ ap (λ x. left u (behind (stack_view c.read_start.new.self.stack.items) x))
           (sym (c.in_ok-object.ensures.value ∙ ap (λ xs. object (pairs_of xs)) (pushed at.After-container_ends))),
     )
 
@@ -220,8 +220,8 @@ loop-entries-smaller c =
     let es = viewed c.loop-entries.entries in
     let here = object_frame fs es c.in_ok-key.key in
     let at = goal.at.loop-entries-smaller c in
-    let key = c.in_ok-key.ensures.same fs (mark_here at.After-read_key) c.loop-entries.invariant.key in
-    let read = c.in_ok-begun.ensures.same here (depth_here at.After-len-depth) (λ f. absurd (true≢false (sym f))) in
+    let key = c.in_ok-key.ensures.outcome fs (mark_here at.After-read_key) c.loop-entries.invariant.key in
+    let read = c.in_ok-value_start.ensures.outcome here (depth_here at.After-len-depth) (λ f. absurd (true≢false (sym f))) in
     let ends = c.in_ok-container_ends.ensures (object_frame fs es c.in_ok-key.key) (view c.in-Value.value) refl in
     omega (
       arith,
@@ -242,11 +242,11 @@ loop-entries-preserved c =
     let v = view c.in-Value.value in
     let at = goal.at.loop-entries-preserved c in
     let more = pushed at.After-container_ends in
-    let read = goes_behind t c.begin.new.self.cursor u _ (behind (object_frame fs es k) v) _
+    let read = goes_behind t c.read_start.new.self.cursor u _ (behind (object_frame fs es k) v) _
     (came at.After-container_ends (keyed at.In_ok-key))
     (c.in_ok-container_ends.ensures (object_frame fs es k) v refl) in
     record {
-      stack = c.in_ok-begun.ensures.stack ∙ c.in_ok-key.ensures.stack ∙ c.loop-entries.invariant.stack;
+      stack = c.in_ok-value_start.ensures.stack ∙ c.in_ok-key.ensures.stack ∙ c.loop-entries.invariant.stack;
       key = λ none. absurd (some_put k v es (sym more ∙ none));
       came = reached t u _ (before_key fs (viewed c.push.new.self)) (
         read.0,

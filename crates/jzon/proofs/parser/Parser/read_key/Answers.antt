@@ -17,8 +17,8 @@ use Rattle.jzon.proofs.Texts.ReportedErrors.{told, told_again}
 use Rattle.jzon.proofs.parser.Parser.read_key.Goals.{After-go_to}
 use Rattle.jzon.proofs.parser.Parser.read_key.Goals as goal
 
-pub returns-then-peek-ne34-clause-same : goal.returns-then-peek-ne34-clause-same
-returns-then-peek-ne34-clause-same c fs h n =
+pub returns-then-peek-ne34-clause-outcome : goal.returns-then-peek-ne34-clause-outcome
+returns-then-peek-ne34-clause-outcome c fs h n =
     let t = c.args.self.now.cursor in
     told (chars t.source.now) c.fault.result _ _
     (key_missing t fs (viewed c.args.entries.now) h (λ e. c.if-peek-ne34.true (c.peek.ensures ∙ e)) n)
@@ -31,8 +31,8 @@ read_string-requires c =
     IsCharBoundary-after_ascii t.source.now t.index (utf8_of t) (byte_within t.source.now t.index 34 quote (lit< tt))
     (omega (arith, quote))
 
-pub returns-in_err-spelled-clause-same : goal.returns-in_err-spelled-clause-same
-returns-in_err-spelled-clause-same c fs h n =
+pub returns-in_err-spelled-clause-outcome : goal.returns-in_err-spelled-clause-outcome
+returns-in_err-spelled-clause-outcome c fs h n =
     let t = c.args.self.now.cursor in
     let es = viewed c.args.entries.now in
     let quote : next_byte t ≡ 34 = sym c.peek.ensures ∙ c.if-peek-ne34.false in
@@ -42,7 +42,7 @@ returns-in_err-spelled-clause-same c fs h n =
     (told_again (chars t.source.now) failed.0 _ _
     (open_key t.reading t.source.now t.index fs es (utf8_of t) t.boundary
     (byte_within t.source.now t.index 34 quote (lit< tt)) quote h)
-    (rw failed.2 (c.in_err-spelled.ensures.same t.reading (as_key fs es (left_at t.source.now t.index)))))
+    (rw failed.2 (c.in_err-spelled.ensures.outcome t.reading (as_key fs es (left_at t.source.now t.index)))))
 
 pub text-name-requires-clause-begin : goal.text-name-requires-clause-begin
 text-name-requires-clause-begin c =
@@ -51,8 +51,8 @@ text-name-requires-clause-begin c =
     IsCharBoundary-after_ascii t.source.now t.index (utf8_of t) (byte_within t.source.now t.index 34 quote (lit< tt))
     (omega (arith, quote))
 
-pub returns-then-refused-clause-same : goal.returns-then-refused-clause-same
-returns-then-refused-clause-same c fs h n =
+pub returns-then-refused-clause-outcome : goal.returns-then-refused-clause-outcome
+returns-then-refused-clause-outcome c fs h n =
     let t = c.args.self.now.cursor in
     let es = viewed c.args.entries.now in
     let end = c.in_ok-spelled.spelled.end in
@@ -63,7 +63,7 @@ returns-then-refused-clause-same c fs h n =
     ∙ c.if-refused.true in
     told (chars t.source.now) c.duplicate_at.result _ _
     (key_closes t fs es text end (sym c.peek.ensures ∙ c.if-peek-ne34.false) h
-    (c.in_ok-spelled.ensures.same t.reading (as_key fs es (left_at t.source.now t.index)))
+    (c.in_ok-spelled.ensures.outcome t.reading (as_key fs es (left_at t.source.now t.index)))
     ∙ key_refused t.reading t.source.now fs es (left_at t.source.now t.index) text end known)
     (c.duplicate_at.ensures
     ∙ tells_duplicate t.source.now t.index (end - 1) (utf8_of t) t.boundary c.in_ok-spelled.ensures.quote.1
@@ -91,27 +91,27 @@ key_read c fs h =
     ∙ c.if-refused.false in
     key_stands t u fs es text end
     (key_closes t fs es text end (sym c.peek.ensures ∙ c.if-peek-ne34.false) h
-    (c.in_ok-spelled.ensures.same t.reading (as_key fs es (left_at t.source.now t.index))))
+    (c.in_ok-spelled.ensures.outcome t.reading (as_key fs es (left_at t.source.now t.index))))
     new (omega (arith, c.in_ok-spelled.ensures.quote.0)) c.go_to.ensures
 
-pub returns-then-peek-ne58-clause-same : goal.returns-then-peek-ne58-clause-same
-returns-then-peek-ne58-clause-same c fs h n =
+pub returns-then-peek-ne58-clause-outcome : goal.returns-then-peek-ne58-clause-outcome
+returns-then-peek-ne58-clause-outcome c fs h n =
     let t = c.args.self.now.cursor in
     let u = c.go_to.new.self in
     let es = viewed c.args.entries.now in
-    let at = (goal.at.returns-then-peek-ne58-clause-same c).After-go_to in
+    let at = (goal.at.returns-then-peek-ne58-clause-outcome c).After-go_to in
     told_on t u (before_key fs es) (after_key fs es (key_text at)) c.fault-then-peek-ne58.result
     (key_read at fs h)
     (told (chars u.source.now) c.fault-then-peek-ne58.result _ _
     (colon_missing u fs es (key_text at) (λ e. c.if-peek-ne58.true (c.peek-2.ensures ∙ e)))
     c.fault-then-peek-ne58.ensures)
 
-pub returns-clause-same : goal.returns-clause-same
-returns-clause-same c fs h n =
+pub returns-clause-outcome : goal.returns-clause-outcome
+returns-clause-outcome c fs h n =
     let t = c.args.self.now.cursor in
     let u = c.go_to.new.self in
     let es = viewed c.args.entries.now in
-    let at = (goal.at.returns-clause-same c).After-go_to in
+    let at = (goal.at.returns-clause-outcome c).After-go_to in
     let read = goes_behind t u c.bump.new.self (before_key fs es) (after_key fs es (key_text at))
     (before (object_frame fs es (key_text at)))
     (key_read at fs h)

@@ -8,7 +8,7 @@ use Rattle.jzon.specs.Machine.{before, behind, value_mark}
 use Rattle.jzon.proofs.Texts.Cursors.{utf8_of, token_goes, reached_start, fails_on}
 use Rattle.jzon.proofs.Containers.FrameViews.{value_mark-shallow, byte_within}
 use Rattle.jzon.proofs.Texts.ReportedErrors.{has_character}
-use Rattle.jzon.proofs.parser.Parser.begin.Goals as goal
+use Rattle.jzon.proofs.parser.Parser.read_start.Goals as goal
 
 pub returns-in_err-value-in_default-clause-memory : goal.returns-in_err-value-in_default-clause-memory
 returns-in_err-value-in_default-clause-memory c e =
@@ -34,8 +34,8 @@ returns-else-branch-2-clause-opened c e =
     inr (inr (has_character t.source.now t.index 123 (utf8_of t) (byte_within t.source.now t.index 123 next (lit< tt))
     next (lit< tt)))
 
-pub returns-in_err-value-in_default-clause-same : goal.returns-in_err-value-in_default-clause-same
-returns-in_err-value-in_default-clause-same c fs d fresh =
+pub returns-in_err-value-in_default-clause-outcome : goal.returns-in_err-value-in_default-clause-outcome
+returns-in_err-value-in_default-clause-outcome c fs d fresh =
     let t = c.args.self.now.cursor in
     let shallow : value_mark t.reading fs ≡ None = value_mark-shallow t.reading fs (omega (arith, d, c.requires.room))
     in
@@ -43,14 +43,14 @@ returns-in_err-value-in_default-clause-same c fs d fresh =
     c.from_residual-in_err-value-in_default.ensures.1 in
     fails_on t t _ (before fs) (before fs) c.from_residual-in_err-value-in_default.result (λ b. place_of b fs) failed.0
     failed.1 (reached_start t (before fs))
-    (rw failed.2 (c.in_err-value-in_default.ensures.same t.reading fs shallow t.past_whitespace fresh))
+    (rw failed.2 (c.in_err-value-in_default.ensures.outcome t.reading fs shallow t.past_whitespace fresh))
 
-pub returns-in_ok-value-in_default-clause-same : goal.returns-in_ok-value-in_default-clause-same
-returns-in_ok-value-in_default-clause-same c fs d fresh =
+pub returns-in_ok-value-in_default-clause-outcome : goal.returns-in_ok-value-in_default-clause-outcome
+returns-in_ok-value-in_default-clause-outcome c fs d fresh =
     let t = c.args.self.now.cursor in
     let shallow : value_mark t.reading fs ≡ None = value_mark-shallow t.reading fs (omega (arith, d, c.requires.room))
     in
     token_goes t c.go_to.new.self (before fs) (behind fs (view c.in_ok-value-in_default.value))
     c.in_ok-value-in_default.end c.go_to.ensures
-    c.in_ok-value-in_default.ensures.bounds.0 refl (c.in_ok-value-in_default.ensures.same t.reading fs shallow
+    c.in_ok-value-in_default.ensures.end.0 refl (c.in_ok-value-in_default.ensures.outcome t.reading fs shallow
     t.past_whitespace fresh)

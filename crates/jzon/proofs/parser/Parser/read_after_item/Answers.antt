@@ -11,8 +11,8 @@ use Rattle.jzon.specs.declared.cursor.Cursor.{Cursor}
 use Rattle.jzon.specs.declared.frames.Frame.{Frame}
 use Rattle.jzon.proofs.Texts.Cursors.{Reached, reached, goes_behind, goes_on}
 use Rattle.jzon.proofs.Containers.FrameViews.{some_more, some_put}
-use Rattle.jzon.proofs.parser.Parser.go_on.Goals.{After-container_ends, After-container_ends-in-Object}
-use Rattle.jzon.proofs.parser.Parser.go_on.Goals as goal
+use Rattle.jzon.proofs.parser.Parser.read_after_item.Goals.{After-container_ends, After-container_ends-in-Object}
+use Rattle.jzon.proofs.parser.Parser.read_after_item.Goals as goal
 
 -- after a value in the same container
 same_frame : (t : Cursor) (fs : Frames) (f g : Frame) (v : Value) → f ≡ g
@@ -45,14 +45,14 @@ returns-then-branch-clause-ready c =
     in
     omega (arith, c.requires.room, ap (λ r. r.depth) ends.0.reading)
 
-pub returns-then-branch-clause-same : goal.returns-then-branch-clause-same
-returns-then-branch-clause-same c =
+pub returns-then-branch-clause-outcome : goal.returns-then-branch-clause-outcome
+returns-then-branch-clause-outcome c =
     let t = c.args.self.now.cursor in
     let u = c.container_ends.new.self in
     let fs = stack_view c.args.self.now.stack.items in
     let vs = map view c.in-Array.elements.items in
     let v = view c.args.item in
-    let at = (goal.at.returns-then-branch-clause-same c).After-container_ends in
+    let at = (goal.at.returns-then-branch-clause-outcome c).After-container_ends in
     let read = goes_behind t t u _ (behind (array_frame fs vs) v) _ (in_array at)
     (c.in_ok-container_ends-in-Array.ensures (array_frame fs vs) v refl) in (
       read.0,
@@ -75,14 +75,14 @@ read_elements-requires-clause-element c none =
     absurd (some_more (map view c.in-Array.elements.items) (view c.args.item)
     (sym (elements_pushed (goal.at.read_elements-requires-clause-element c).After-container_ends) ∙ none))
 
-pub returns-else-branch-clause-same : goal.returns-else-branch-clause-same
-returns-else-branch-clause-same c =
+pub returns-else-branch-clause-outcome : goal.returns-else-branch-clause-outcome
+returns-else-branch-clause-outcome c =
     let t = c.args.self.now.cursor in
     let u = c.container_ends.new.self in
     let fs = stack_view c.args.self.now.stack.items in
     let vs = map view c.in-Array.elements.items in
     let v = view c.args.item in
-    let at = (goal.at.returns-else-branch-clause-same c).After-container_ends in
+    let at = (goal.at.returns-else-branch-clause-outcome c).After-container_ends in
     let read = goes_behind t t u _ (behind (array_frame fs vs) v) _ (in_array at)
     (c.in_ok-container_ends-in-Array.ensures (array_frame fs vs) v refl) in
     goes_on t u _ _ (before (array_frame fs (map view c.push.new.self.items))) c.read_elements.result _
@@ -92,7 +92,7 @@ returns-else-branch-clause-same c =
           (before (array_frame fs (vs ++ v ∷ []))))) c.if-branch.false
           ∙ ap (λ xs. left u (before (array_frame fs xs))) (sym (elements_pushed at)),
     ))
-    c.read_elements.ensures.same
+    c.read_elements.ensures.outcome
 
 -- ---- in an object
 
@@ -115,15 +115,15 @@ returns-then-branch-2-clause-ready c =
     (view c.args.item) refl in
     omega (arith, c.requires.room, ap (λ r. r.depth) ends.0.reading)
 
-pub returns-then-branch-2-clause-same : goal.returns-then-branch-2-clause-same
-returns-then-branch-2-clause-same c =
+pub returns-then-branch-2-clause-outcome : goal.returns-then-branch-2-clause-outcome
+returns-then-branch-2-clause-outcome c =
     let t = c.args.self.now.cursor in
     let u = c.container_ends-in-Object.new.self in
     let fs = stack_view c.args.self.now.stack.items in
     let es = viewed c.in-Object.entries in
     let k = c.in-Object.key in
     let v = view c.args.item in
-    let at = (goal.at.returns-then-branch-2-clause-same c).After-container_ends-in-Object in
+    let at = (goal.at.returns-then-branch-2-clause-outcome c).After-container_ends-in-Object in
     let read = goes_behind t t u _ (behind (object_frame fs es k) v) _ (in_object at)
     (c.in_ok-container_ends-in-Object.ensures (object_frame fs es k) v refl) in (
       read.0,
@@ -145,15 +145,15 @@ read_entries-requires-clause-key c none =
     absurd (some_put c.in-Object.key (view c.args.item) (viewed c.in-Object.entries)
     (sym (entry_pushed (goal.at.read_entries-requires-clause-key c).After-container_ends-in-Object) ∙ none))
 
-pub returns-else-branch-2-clause-same : goal.returns-else-branch-2-clause-same
-returns-else-branch-2-clause-same c =
+pub returns-else-branch-2-clause-outcome : goal.returns-else-branch-2-clause-outcome
+returns-else-branch-2-clause-outcome c =
     let t = c.args.self.now.cursor in
     let u = c.container_ends-in-Object.new.self in
     let fs = stack_view c.args.self.now.stack.items in
     let es = viewed c.in-Object.entries in
     let k = c.in-Object.key in
     let v = view c.args.item in
-    let at = (goal.at.returns-else-branch-2-clause-same c).After-container_ends-in-Object in
+    let at = (goal.at.returns-else-branch-2-clause-outcome c).After-container_ends-in-Object in
     let read = goes_behind t t u _ (behind (object_frame fs es k) v) _ (in_object at)
     (c.in_ok-container_ends-in-Object.ensures (object_frame fs es k) v refl) in
     goes_on t u _ _ (before_key fs (viewed c.push-in-Object.new.self)) c.read_entries.result _
@@ -163,4 +163,4 @@ returns-else-branch-2-clause-same c =
           c.if-branch-2.false
           ∙ ap (λ xs. left u (before_key fs xs)) (sym (entry_pushed at)),
     ))
-    c.read_entries.ensures.same
+    c.read_entries.ensures.outcome
