@@ -6,17 +6,14 @@ mod cursor;
 mod fault;
 mod frames;
 mod hints;
-pub mod iterators;
 pub mod laws;
 mod macros;
 mod numeral;
-pub mod object;
 mod parser;
 mod peek;
 mod reading;
 mod scalar;
 mod string;
-pub mod util;
 mod whitespace;
 
 pub use conversions::{from, stringify, stringify_pretty};
@@ -34,3 +31,19 @@ pub use reading::Reading;
 
 /// The elements of an array.
 pub type Array = Vec<JsonValue>;
+
+/// The iterators over the elements of arrays and the members of objects (docs/RULES.md, "Public names").
+pub mod iterators {
+    pub use jzon_tree::lent::{EntriesMut, MembersMut};
+    pub use jzon_tree::readers::{Entries, Members};
+}
+
+/// Objects (RFC 8259, section 4; docs/RULES.md, "Objects").
+pub mod object {
+    pub use jzon_tree::object::{IntoIter, Iter, IterMut, Key, Keys, Object, Values};
+}
+
+/// The text of a number, and the loop that writes bytes.
+pub mod util {
+    pub use jzon_base::util::{print_dec, write_bytes};
+}
