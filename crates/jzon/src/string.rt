@@ -10,7 +10,7 @@ ghost use Rattle.jzon_base.specs.PlainBytes.{is_plain};
 ghost use Rattle.jzon_tree.specs.Value.{text, kind_of};
 ghost use Rattle.jzon_tree.specs.View.{view};
 ghost use Rattle.jzon.specs.Reading.{Reading};
-ghost use Rattle.jzon.specs.Grammar.{is_simple, is_high, is_low, is_surrogate};
+ghost use Rattle.jzon.specs.Grammar.{is_simple, is_high, is_low, is_surrogate, code_unit};
 ghost use Rattle.jzon.specs.Meaning.{unescaped, pair_char};
 ghost use Rattle.jzon.specs.Quote.{EndsAtQuote};
 ghost use Rattle.jzon.specs.Machine.{Role, string, between, slash, code, second, second_code, coded, paired};
@@ -281,7 +281,8 @@ fn paired_char(high: u32, low: u32) -> Option<char>
 /// The code unit that the four hexadecimal digits at `start`, of either case, spell: in a first escape, and in the second of a surrogate pair.
 fn read_hex(source: &str, start: usize) -> Result<u32>
     requires { IsCharBoundary source.now start }
-    ensures unit { IfOk result (λ u. u < 0x10000) }
+    ensures value { IfOk result (λ u. u ≡ code_unit (slice_range source.now start (start + 4))) }
+    ensures small { IfOk result (λ u. u < 0x10000) }
     ensures boundary { OnOk result (IsCharBoundary source.now (start + 4)) }
     ensures first { (r : Reading) (role : Role) (bs : List ℕ) → MatchResult result
         (λ u. from r source.now (string role bs (code 3 0)) start

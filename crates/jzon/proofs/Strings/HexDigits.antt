@@ -1,16 +1,19 @@
 -- The four hexadecimal digits of an escape, by the bytes of a text.
-use Rattle.std.proofs.Common.{◌≡◌, ℕ, zero, suc, ◌+◌, ◌-◌, ◌^◌, ◌<◌, ◌≤◌, true, false, cond, List, [], length, drop}
-use Rattle.std.proofs.Common.{get_or, refl, ap, ◌∙◌, arith, None, ◌&&◌}
-use Rattle.std.specs.Prelude.{chars, IsUtf8}
+use Rattle.std.proofs.Common.{◌≡◌, ℕ, zero, suc, ◌+◌, ◌-◌, ◌^◌, ◌<◌, ◌≤◌, true, false, cond, List, [], ◌∷◌, length}
+use Rattle.std.proofs.Common.{take, drop, get_or, refl, sym, ap, ◌∙◌, arith, None, ◌&&◌, length-drop}
+use Rattle.std.specs.Prelude.{chars, IsUtf8, slice_range}
+use Rattle.std.specs.List.{fold}
 use Rattle.std.specs.Char.{is_ascii_hexdigit, digit_value}
 use Rattle.std.specs.Str.{IsCharBoundary}
 use Rattle.std.proofs.Math.Nat.{pow-le-pow_right}
 use Rattle.std.proofs.lemmas.Bool.{false_from_ne_true}
 use Rattle.std.proofs.lemmas.Bool.Decides.{nat_tests}
 use Rattle.std.proofs.lemmas.Grind.{pow_more}
+use Rattle.std.proofs.lemmas.List.{get_or-drop, take_more}
+use Rattle.std.proofs.lemmas.List.Sums.{fold-append}
 use Rattle.std.proofs.lemmas.Str.{IsCharBoundary-after_ascii}
 use Rattle.jzon.specs.Reading.{Reading}
-use Rattle.jzon.specs.Grammar.{is_high, is_low, is_surrogate}
+use Rattle.jzon.specs.Grammar.{is_high, is_low, is_surrogate, code_unit}
 use Rattle.jzon.specs.Fault as fault
 use Rattle.jzon.specs.Machine.{Role, Place, Move, string, code, second_code, go, bad, move, last, refused, add_hex}
 use Rattle.jzon.specs.Machine.{coded, paired, move_code, move_second_code, Outcome, outcome_on, from, left_at, stopped}
@@ -81,6 +84,7 @@ hex_missing r at done bs n u i h text here none =
 -- The part of the four digits from `start` on up to byte i has been read, in each state that reads digits.
 pub record HexRead (bs : List ℕ) (start i u : ℕ) : Type 0 where
   pub boundary : IsCharBoundary bs i
+  pub value : u ≡ fold add_hex 0 (slice_range bs start i)
   pub small : u < 16 ^ (i - start)
   pub same : (r : Reading) (at : ℕ → ℕ → Place) (done : ℕ → Move) → ReadsHex r at done
       → from r bs (at 3 0) start ≡ hex_left r at done bs (4 - (i - start)) u i
@@ -88,6 +92,7 @@ pub record HexRead (bs : List ℕ) (start i u : ℕ) : Type 0 where
 pub hex_begun : (bs : List ℕ) (start : ℕ) → IsCharBoundary bs start → HexRead bs start start 0
 hex_begun bs start here = record {
   boundary = here;
+  value = let e : start - start ≡ 0 = omega arith in rw e refl;
   small = let e : start - start ≡ 0 = omega arith in rw e (omega arith);
   same = λ r at done h. ap (λ n. hex_left r at done bs n 0 start) (let e : 4 ≡ 4 - (start - start) = omega arith in e);
 }
@@ -95,11 +100,29 @@ hex_begun bs start here = record {
 pub hex_is_below_16 : (b : ℕ) → is_ascii_hexdigit b ≡ true → digit_value b < 16
 hex_is_below_16 b h = grind (arith, nat_tests)
 
+-- the number of the digits with one more
+hex_number_more : (cs : List ℕ) (n : ℕ) → n < length cs
+    → fold add_hex 0 (take (n + 1) cs) ≡ add_hex (fold add_hex 0 (take n cs)) (get_or cs n 0)
+hex_number_more cs n lt = ap (fold add_hex 0) (take_more cs n 0 lt)
+    ∙ fold-append add_hex 0 (take n cs) (get_or cs n 0 ∷ [])
+
+hex_value_more : (bs : List ℕ) (start i u : ℕ) → u ≡ fold add_hex 0 (slice_range bs start i) → start ≤ i → i < length bs
+    → add_hex u (get_or bs i 0) ≡ fold add_hex 0 (slice_range bs start (i + 1))
+hex_value_more bs start i u e low lt =
+    let n : i + 1 - start ≡ (i - start) + 1 = omega arith in
+    let here : start + (i - start) ≡ i = omega arith in
+    ap (λ v. add_hex v (get_or bs i 0)) e
+    ∙ ap (add_hex (fold add_hex 0 (slice_range bs start i)))
+    (ap (λ k. get_or bs k 0) (sym here) ∙ sym (get_or-drop start bs (i - start) 0))
+    ∙ sym (hex_number_more (drop start bs) (i - start) (omega (arith, length-drop start bs)))
+    ∙ ap (λ k. fold add_hex 0 (take k (drop start bs))) (sym n)
+
 -- one more digit
 pub hex_more : (bs : List ℕ) (start i u : ℕ) → HexRead bs start i u → IsUtf8 bs → start ≤ i → i < start + 4
     → i < length bs → is_ascii_hexdigit (get_or bs i 0) ≡ true → HexRead bs start (i + 1) (add_hex u (get_or bs i 0))
 hex_more bs start i u k text low high lt e = record {
   boundary = IsCharBoundary-after_ascii bs i text lt (hex_is_ascii _ e);
+  value = hex_value_more bs start i u k.value low lt;
   small =
       let n : i + 1 - start ≡ (i - start) + 1 = omega arith in
       rw (n, pow_more 16 (i - start)) (omega (arith, k.small, hex_is_below_16 (get_or bs i 0) e));
@@ -134,3 +157,9 @@ hex_small bs start i u k h =
     let most : 16 ^ (i - start) ≤ 16 ^ 4 = pow-le-pow_right {n = 16} (omega arith) {i = i - start} {j = 4} (omega arith)
     in
     omega (arith, k.small, most)
+
+-- what the four digits spell
+pub hex_spelled : (bs : List ℕ) (start i u : ℕ) → HexRead bs start i u → i ≡ start + 4
+    → u ≡ code_unit (slice_range bs start (start + 4))
+unfolding code_unit
+hex_spelled bs start i u k e = k.value ∙ ap (λ n. fold add_hex 0 (slice_range bs start n)) e

@@ -2,7 +2,7 @@ use Rattle.std.proofs.Common.{get_or, ◌+◌, ◌*◌, ap, sym, subst, arith}
 use Rattle.std.specs.Prelude.{chars}
 use Rattle.jzon.specs.Machine.{Tells}
 use Rattle.jzon.proofs.Strings.HexDigits.{HexRead, hex_is_below_16, code_reads, second_code_reads, hex_begun, hex_more}
-use Rattle.jzon.proofs.Strings.HexDigits.{hex_stops, hex_end, hex_small}
+use Rattle.jzon.proofs.Strings.HexDigits.{hex_stops, hex_end, hex_small, hex_spelled}
 use Rattle.jzon.proofs.string.read_hex.Goals as goal
 
 pub loop-index-init : goal.loop-index-init
@@ -46,8 +46,12 @@ returns-in-None-clause-second c r role bs h =
     c.utf8.source c.loop-index.auto.index c.loop-index-test.true c.in-None.ensures))
     c.fault_at.ensures
 
-pub returns-clause-unit : goal.returns-clause-unit
-returns-clause-unit c = hex_small c.args.source.now c.args.start c.loop-index.index c.loop-index.unit
+pub returns-clause-value : goal.returns-clause-value
+returns-clause-value c = hex_spelled c.args.source.now c.args.start c.loop-index.index c.loop-index.unit
+    c.loop-index.invariant (omega arith)
+
+pub returns-clause-small : goal.returns-clause-small
+returns-clause-small c = hex_small c.args.source.now c.args.start c.loop-index.index c.loop-index.unit
     c.loop-index.invariant (omega arith)
 
 pub returns-clause-first : goal.returns-clause-first
