@@ -54,7 +54,7 @@ pub(crate) fn read_number(source: &str, start: usize, negative: bool) -> Result<
 struct Spelling<'a> {
     whole: &'a [u8],
     fraction: &'a [u8],
-    /// The number that they spell, modulo 2^64.
+    /// The number that the digits of both spell, modulo 2^64.
     number: u64,
     positive_exponent: bool,
     exponent: &'a [u8],
@@ -62,6 +62,10 @@ struct Spelling<'a> {
     end: usize,
     /// Whether a digit is required at `end`, and there is none.
     is_missing: bool,
+    ghost whole_digits: { All IsDigit whole.now },
+    ghost fraction_digits: { All IsDigit fraction.now },
+    ghost added_up: { number ≡ digits_number (whole.now ++ fraction.now) % 2 ^ 64 },
+    ghost exponent_digits: { All IsDigit exponent.now },
 }
 
 /// The digits of the number whose first digit is at `start`.
@@ -70,10 +74,6 @@ fn spelling_at(source: &str, start: usize) -> Spelling<'_>
     requires within { start < length source.now }
     requires digit { IsTrue (is_ascii_digit (slice_index source.now start)) }
     ensures end { (start < result.end) × (result.end ≤ length source.now) × IsCharBoundary source.now result.end }
-    ensures whole { All IsDigit result.whole.now }
-    ensures fraction { All IsDigit result.fraction.now }
-    ensures added_up { result.number ≡ digits_number (result.whole.now ++ result.fraction.now) % 2 ^ 64 }
-    ensures exponent { All IsDigit result.exponent.now }
     ensures number { AreFewEnough result.whole.now result.fraction.now → result.is_missing ≡ false
         → (r : Reading) (fs : Frames) (negative : Bool)
         → from r source.now (numeral_begun fs negative (slice_index source.now start)) (start + 1)
@@ -94,11 +94,13 @@ fn spelling_at(source: &str, start: usize) -> Spelling<'_>
     }
     let exponent = exponent_behind(source, magnitude.end + 1);
     Spelling {
+        whole: magnitude.whole,
+        fraction: magnitude.fraction,
+        number: magnitude.number,
         positive_exponent: exponent.is_positive,
         exponent: exponent.digits,
         end: exponent.end,
         is_missing: exponent.digits.is_empty(),
-        ..magnitude
     }
 }
 
@@ -108,9 +110,6 @@ fn magnitude_at(source: &str, start: usize) -> Spelling<'_>
     requires within { start < length source.now }
     requires digit { IsTrue (is_ascii_digit (slice_index source.now start)) }
     ensures end { (start < result.end) × (result.end ≤ length source.now) × IsCharBoundary source.now result.end }
-    ensures whole { All IsDigit result.whole.now }
-    ensures fraction { All IsDigit result.fraction.now }
-    ensures added_up { result.number ≡ digits_number (result.whole.now ++ result.fraction.now) % 2 ^ 64 }
     ensures exponent { (result.positive_exponent ≡ true) × (result.exponent.now ≡ []) }
     ensures letter { AreFewEnough result.whole.now result.fraction.now → result.is_missing ≡ false
         → (r : Reading) (fs : Frames) (negative : Bool)

@@ -1,10 +1,24 @@
 use Rattle.std.proofs.Common.{◌∙◌, sym, refl, ap, [], ◌+◌, ◌%◌, ◌^◌, length, false, true≢false}
 use Rattle.std.proofs.lemmas.List.{append-nil}
+use Rattle.std.proofs.lemmas.List.Elements.{All-nil}
 use Rattle.std.proofs.lemmas.List.Sums.{fold-append}
-use Rattle.jzon_base.specs.Digits.{add_digit, digits_number}
+use Rattle.jzon_base.specs.Digits.{IsDigit, add_digit, digits_number}
 use Rattle.jzon.proofs.Numbers.Magnitudes.{WholeStands, whole_stands, ReadsMagnitude, reads_whole_alone}
 use Rattle.jzon.proofs.Numbers.Magnitudes.{reads_whole_and_fraction}
 use Rattle.jzon.proofs.numeral.magnitude_at.Goals as goal
+
+-- without a point
+pub invariant_of-result : goal.invariant_of-result
+invariant_of-result c =
+    let whole : WholeStands c.args.source.now c.args.start c.whole_at-before.result.0.now =
+    whole_stands c.args.source.now c.args.start c.whole_at-before.result.0.now c.utf8.source c.requires.within
+    c.requires.digit c.whole_at-before.ensures.digits in
+    record {
+      whole_digits = whole.all;
+      fraction_digits = All-nil IsDigit;
+      added_up = rw append-nil c.whole_at-before.ensures.number;
+      exponent_digits = All-nil IsDigit;
+    }
 
 pub returns-then-not-has_byte : goal.returns-then-not-has_byte
 returns-then-not-has_byte c =
@@ -17,14 +31,30 @@ returns-then-not-has_byte c =
     (λ h. true≢false (sym (c.has_byte.ensures.1 h) ∙ c.if-not-has_byte.true)) in
     record {
       end = (k.after, k.boundary.0, k.boundary);
-      whole = k.all_whole;
-      fraction = k.all_fraction;
-      added_up = rw append-nil c.whole_at-before.ensures.number;
       exponent = (refl, refl);
       letter = k.to_letter;
       number = k.to_end;
       missing = k.stops;
       too_many = k.refuses;
+    }
+
+-- with a point
+pub invariant_of-result-2 : goal.invariant_of-result-2
+invariant_of-result-2 c =
+    let whole : WholeStands c.args.source.now c.args.start c.whole_at-before.result.0.now =
+    whole_stands c.args.source.now c.args.start c.whole_at-before.result.0.now c.utf8.source c.requires.within
+    c.requires.digit c.whole_at-before.ensures.digits in
+    let fraction = c.digits_at-number.result.0.now in
+    let here = c.has_byte.ensures.0 c.if-not-has_byte.false in
+    let k = reads_whole_and_fraction c.args.source.now c.args.start _ c.whole_at-before.result.0.now fraction
+    c.utf8.source whole refl here.0 here.1 c.digits_at-number.ensures.digits in
+    record {
+      whole_digits = k.all_whole;
+      fraction_digits = k.all_fraction;
+      added_up = c.digits_at-number.ensures.number (digits_number c.whole_at-before.result.0.now)
+          c.whole_at-before.ensures.number ∙ ap (λ n. n % 2 ^ 64)
+          (sym (fold-append add_digit 0 c.whole_at-before.result.0.now fraction));
+      exponent_digits = All-nil IsDigit;
     }
 
 pub returns : goal.returns
@@ -42,11 +72,6 @@ returns c =
     whole refl here.0 here.1 c.digits_at-number.ensures.digits) in
     record {
       end = (k.after, k.boundary.0, k.boundary);
-      whole = k.all_whole;
-      fraction = k.all_fraction;
-      added_up = c.digits_at-number.ensures.number (digits_number c.whole_at-before.result.0.now)
-          c.whole_at-before.ensures.number ∙ ap (λ n. n % 2 ^ 64)
-          (sym (fold-append add_digit 0 c.whole_at-before.result.0.now fraction));
       exponent = (refl, refl);
       letter = k.to_letter;
       number = k.to_end;
