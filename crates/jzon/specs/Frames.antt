@@ -1,6 +1,7 @@
 -- The parser's stack of open containers, as the automaton sees it.
-use Rattle.std.specs.Prelude.{◌≢◌, ℕ, ◌<◌, ◌≤◌, [], List, map, Bool, true, false}
+use Rattle.std.specs.Prelude.{◌≡◌, ◌≢◌, ℕ, ◌<◌, ◌≤◌, [], List, map, Bool, true, false}
 use Rattle.std.specs.List.{fold}
+use Rattle.jzon_tree.specs.Value as value
 use Rattle.jzon_tree.specs.View.{view, viewed}
 use Rattle.jzon.specs.Cursor.{next_byte}
 use Rattle.jzon.specs.Machine.{Frames, no_frames, array_frame, object_frame, Place, before, before_key, behind}
@@ -20,7 +21,7 @@ open_in fs (Object entries key) = object_frame fs (viewed entries) key
 abbrev pub stack_view : List Frame → Frames
 stack_view stack = fold open_in no_frames stack
 
--- the place behind what was read, inside of the containers fs
+-- the state after what was read, inside the containers fs
 abbrev pub place_of : ValueStart → Frames → Place
 place_of (Value v) fs = behind fs (view v)
 place_of start_array fs = before (array_frame fs [])
@@ -32,8 +33,14 @@ is_open (Value v) = false
 is_open start_array = true
 is_open start_object = true
 
--- Where so many containers are open already, the reading allows them and the one that was opened, and an item stands in
--- it next.
+-- the value was read whole, and its meaning is w
+abbrev pub IsWholeValue : ValueStart → value.Value → Type 0
+IsWholeValue (Value v) w = view v ≡ w
+IsWholeValue start_array w = ⊥
+IsWholeValue start_object w = ⊥
+
+-- `depth` containers are open: the reading allows them and the one just opened, if any, in which an element or a member
+-- comes next.
 abbrev pub IsReady : Cursor → ℕ → ValueStart → Type 0
 IsReady t depth (Value v) = depth ≤ t.reading.depth
 IsReady t depth start_array = (depth < t.reading.depth) × (next_byte t ≢ end_array)

@@ -35,6 +35,14 @@ impl Bracket {
     }
 }
 
+/// Whether this is the first byte of an array or an object.
+#[inline(always)]
+pub(crate) fn opens_container(first: u8) -> bool
+    ensures { IsTrue result ↔ ((first ≡ begin_array) ⊎ (first ≡ begin_object)) }
+{
+    first == b'[' || first == b'{'
+}
+
 /// A text, the offset up to which it is read, and how it is read. The offset is that of a token or of the end.
 #[derive(Clone, Copy)]
 pub(crate) struct Cursor<'a> {
@@ -70,15 +78,6 @@ impl<'a> Cursor<'a> {
             Some(byte) => *byte,
             None => 0,
         }
-    }
-
-    /// Whether an array or an object comes next.
-    #[inline(always)]
-    pub(crate) fn opens_container(&self) -> bool
-        ensures { IsTrue result ↔ ((next_byte self.now ≡ begin_array) ⊎ (next_byte self.now ≡ begin_object)) }
-    {
-        let next = self.peek();
-        next == b'[' || next == b'{'
     }
 
     /// Moves past the token that ends at `end`, and the whitespace after it.

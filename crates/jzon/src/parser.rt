@@ -1,20 +1,21 @@
 //! Parses texts (RFC 8259, section 2; docs/RULES.md, "Texts").
 
 ghost use Rattle.std.specs.Prelude.{◌≡◌, ◌≢◌, ◌&&◌, [], ◌<◌, ◌≤◌, map, chars, true, IfOk, IfErr, OnOk};
-ghost use Rattle.std.specs.Prelude.{Err, None, IsOkUnless, vec_len};
+ghost use Rattle.std.specs.Prelude.{Err, None, Some, IsOkUnless, vec_len, if◌then◌else◌};
 ghost use Rattle.std.specs.Option.{is_some};
 ghost use Rattle.jzon_base.specs.PairList.{find};
 ghost use Rattle.jzon_tree.specs.Value.{Value, object, pairs_of};
 ghost use Rattle.jzon_tree.specs.View.{view, viewed};
+ghost use Rattle.jzon.specs.Brackets.{innermost_bracket, after_comma, after_closer};
 ghost use Rattle.jzon.specs.Answer.{IsMeaningOf, IsReadable, IsErrorUnlessMemory, TakesMemory};
 ghost use Rattle.jzon.specs.Cursor.{left, next_byte, GoesOn, IsPast};
-ghost use Rattle.jzon.specs.Frames.{open_in, stack_view, place_of, is_open, IsReady};
+ghost use Rattle.jzon.specs.Frames.{open_in, stack_view, place_of, is_open, IsReady, IsWholeValue};
 ghost use Rattle.jzon.specs.Machine.{Frames, no_frames, array_frame, object_frame, frames_depth, is_fresh, before};
 ghost use Rattle.jzon.specs.Machine.{before_key, behind, key_mark, from, Reads};
 ghost use Rattle.jzon.specs.Reading.{usual};
 ghost use Rattle.jzon_base.specs.Tokens.{end_array, end_object};
 
-use crate::cursor::{Bracket, Cursor};
+use crate::cursor::{Bracket, Cursor, opens_container};
 use crate::fault::duplicate_at;
 use crate::frames::{Frame, ValueStart};
 use crate::hints::Hints;
@@ -52,15 +53,7 @@ pub fn parse_as(alloc: Global, source: &str, reading: &Reading) -> Result<JsonVa
     ensures error { IfErr result (IsErrorUnlessMemory reading.now (chars source.now)) }
     ensures memory { result ≡ Err Error.OutOfMemory → TakesMemory (chars source.now) }
 {
-    parse_text(alloc, source, *reading)
-}
-
-/// Parses; the contract is stated over the automaton of `specs/Machine`.
-fn parse_text(alloc: Global, source: &str, reading: Reading) -> Result<JsonValue>
-    ensures outcome { Reads (chars source.now) result (from reading source.now (before no_frames) 0) }
-    ensures memory { result ≡ Err Error.OutOfMemory → TakesMemory (chars source.now) }
-{
-    let mut parser = Parser::new(alloc, source, reading);
+    let mut parser = Parser::new(alloc, source, *reading);
     match parser.read_start(0)? {
         ValueStart::Value(value) => parser.expect_end(value),
         value_start => parser.read_to_end(value_start),
@@ -107,7 +100,8 @@ impl<'a> Parser<'a> {
             → (is_fresh fs ≡ true → next_byte self.old.cursor ≢ end_array) →
             GoesOn self.old.cursor (before fs) result self.new.cursor (λ b. place_of b fs) }
     {
-        match self.cursor.peek() {
+        let first = self.cursor.peek();
+        match first {
             b'[' => {
                 if self.cursor.open_container(Bracket::Array, depth)? {
                     return Ok(ValueStart::Value(JsonValue::Array(Vec::new(self.alloc))));
@@ -123,7 +117,7 @@ impl<'a> Parser<'a> {
             _ => {
                 let source = self.cursor.source;
                 let start = self.cursor.index;
-                let (value, end) = read_scalar(self.alloc, source, start, &mut self.buffer)?;
+                let (value, end) = read_scalar(self.alloc, source, start, first, &mut self.buffer)?;
                 self.cursor.go_to(end);
                 Ok(ValueStart::Value(value))
             }
@@ -151,16 +145,7 @@ impl<'a> Parser<'a> {
         let mut value_start = value_start;
         loop {
             match value_start {
-                ValueStart::Array => {
-                    let depth = self.stack.len();
-                    let elements = room_for_elements(
-                        self.alloc,
-                        &self.cursor,
-                        &mut self.array_hints,
-                        depth,
-                    )?;
-                    value_start = self.read_elements(elements)?;
-                }
+                ValueStart::Array => value_start = self.read_array()?,
                 ValueStart::Object => {
                     let capacity = self.object_hints.take(self.stack.len());
                     value_start = self.read_entries(Builder::with_capacity(self.alloc, capacity)?)?;
@@ -184,9 +169,7 @@ impl<'a> Parser<'a> {
         match frame {
             Frame::Array(mut elements) => {
                 elements.push(item)?;
-                if self.cursor.container_ends(Bracket::Array)? {
-                    let depth = self.stack.len();
-                    fit_array(self.alloc, &mut elements, &mut self.array_hints, depth)?;
+                if self.array_ends(&mut elements)? {
                     return Ok(ValueStart::Value(JsonValue::Array(elements)));
                 }
                 self.read_elements(elements)
@@ -194,13 +177,26 @@ impl<'a> Parser<'a> {
             Frame::Object(mut entries, key) => {
                 entries.push(self.alloc, key, item)?;
                 if self.cursor.container_ends(Bracket::Object)? {
-                    let depth = self.stack.len();
-                    let object = close_object(self.alloc, entries, &mut self.object_hints, depth)?;
-                    return Ok(ValueStart::Value(object));
+                    return self.close_object(entries);
                 }
                 self.read_entries(entries)
             }
         }
+    }
+
+    /// Reads an array, whose first element comes next.
+    #[inline(always)]
+    fn read_array(&mut self) -> Result<ValueStart>
+        requires room { vec_len self.old.stack < self.old.cursor.reading.depth }
+        requires element { next_byte self.old.cursor ≢ end_array }
+        ensures ready { IfOk result (IsReady self.new.cursor (vec_len self.new.stack)) }
+        ensures outcome { GoesOn self.old.cursor (before (array_frame (stack_view self.old.stack.items) []))
+            result self.new.cursor
+            (λ b. place_of b (stack_view self.new.stack.items)) }
+    {
+        let depth = self.stack.len();
+        let elements = room_for_elements(self.alloc, &self.cursor, &mut self.array_hints, depth)?;
+        self.read_elements(elements)
     }
 
     /// Reads elements of an open array, and of the arrays in it: to the end of one of them, or to an object that isn't empty.
@@ -214,7 +210,8 @@ impl<'a> Parser<'a> {
     {
         let mut elements = elements;
         loop {
-            if self.cursor.opens_container() {
+            let first = self.cursor.peek();
+            if opens_container(first) {
                 let depth = self.stack.len() + 1;
                 let value_start = self.read_start(depth)?;
                 match value_start {
@@ -240,19 +237,17 @@ impl<'a> Parser<'a> {
                 // Not by `read_start`: each call that returns a value moves it.
                 let source = self.cursor.source;
                 let start = self.cursor.index;
-                let (value, end) = read_scalar(self.alloc, source, start, &mut self.buffer)?;
+                let (value, end) = read_scalar(self.alloc, source, start, first, &mut self.buffer)?;
                 self.cursor.go_to(end);
                 elements.push(value)?;
             }
-            if self.cursor.container_ends(Bracket::Array)? {
-                let depth = self.stack.len();
-                fit_array(self.alloc, &mut elements, &mut self.array_hints, depth)?;
+            if self.array_ends(&mut elements)? {
                 return Ok(ValueStart::Value(JsonValue::Array(elements)));
             }
         }
     }
 
-    /// Reads entries of an open object: to its end, or to a value that is a container and isn't empty.
+    /// Reads entries of an open object, and a value that is an array: to the end of either, or to an object that isn't empty.
     fn read_entries(&mut self, entries: Builder) -> Result<ValueStart>
         requires room { vec_len self.old.stack < self.old.cursor.reading.depth }
         requires key { viewed entries ≡ [] → next_byte self.old.cursor ≢ end_object }
@@ -269,15 +264,48 @@ impl<'a> Parser<'a> {
                 ValueStart::Value(value) => entries.push(self.alloc, key, value)?,
                 value_start => {
                     self.stack.push(Frame::Object(entries, key))?;
-                    return Ok(value_start);
+                    match value_start {
+                        ValueStart::Array => return self.read_array(),
+                        start => return Ok(start),
+                    }
                 }
             }
             if self.cursor.container_ends(Bracket::Object)? {
-                let depth = self.stack.len();
-                let object = close_object(self.alloc, entries, &mut self.object_hints, depth)?;
-                return Ok(ValueStart::Value(object));
+                return self.close_object(entries);
             }
         }
+    }
+
+    /// After an element: whether the array ends. Moves past the comma or the closing bracket; at the end frees unused capacity, and sets the hint to the length.
+    #[inline(always)]
+    fn array_ends(&mut self, elements: &mut Vec<JsonValue>) -> Result<bool>
+        ensures items { elements.new.items ≡ elements.old.items }
+        ensures stack { OnOk result (self.new.stack ≡ self.old.stack) }
+        ensures outcome { (fs : Frames) (v : Value) → innermost_bracket fs ≡ Some Bracket.Array →
+            GoesOn self.old.cursor (behind fs v) result self.new.cursor
+            (λ ends. if ends then after_closer fs v else after_comma fs v) }
+    {
+        if self.cursor.container_ends(Bracket::Array)? {
+            self.array_hints.set(self.stack.len(), elements.len());
+            if elements.len() < elements.capacity() {
+                fit_elements(self.alloc, elements)?;
+            }
+            return Ok(true);
+        }
+        Ok(false)
+    }
+
+    /// The object of these entries, which ends; sets the hint to their number. The error is `OutOfMemory`.
+    #[inline(always)]
+    fn close_object(&mut self, entries: Builder) -> Result<ValueStart>
+        ensures cursor { self.new.cursor ≡ self.old.cursor }
+        ensures stack { self.new.stack ≡ self.old.stack }
+        ensures value { IfOk result (λ b. IsWholeValue b (object (pairs_of (viewed entries)))) }
+        ensures memory { IsOkUnless result Error.OutOfMemory }
+    {
+        let object = Object::from_builder(self.alloc, entries)?;
+        self.object_hints.set(self.stack.len(), object.len());
+        Ok(ValueStart::Value(JsonValue::Object(object)))
     }
 
     /// Reads a key of an object with these entries, and the colon.
@@ -325,30 +353,12 @@ fn room_for_elements(
     let hint = hints.take(depth);
     let capacity = if hint > 0 {
         hint
-    } else if cursor.opens_container() {
+    } else if opens_container(cursor.peek()) {
         1
     } else {
         4
     };
     Ok(Vec::with_capacity(alloc, capacity)?)
-}
-
-/// Frees unused capacity of an array that ends inside of `depth` containers, and sets the hint to its length. The error is `OutOfMemory`.
-#[inline(always)]
-fn fit_array(
-    alloc: Global,
-    elements: &mut Vec<JsonValue>,
-    hints: &mut Hints,
-    depth: usize,
-) -> Result<()>
-    ensures items { elements.new.items ≡ elements.old.items }
-    ensures memory { IsOkUnless result Error.OutOfMemory }
-{
-    hints.set(depth, elements.len());
-    if elements.len() < elements.capacity() {
-        fit_elements(alloc, elements)?;
-    }
-    Ok(())
 }
 
 /// Frees unused capacity. Not inlined, so that the loop over elements stays small. The error is `OutOfMemory`.
@@ -360,22 +370,6 @@ fn fit_elements(alloc: Global, elements: &mut Vec<JsonValue>) -> Result<()>
 {
     fit(alloc, elements)?;
     Ok(())
-}
-
-/// The object of these entries, which ends inside of `depth` containers; sets the hint to its length. The error is `OutOfMemory`.
-#[inline(always)]
-fn close_object(
-    alloc: Global,
-    entries: Builder,
-    hints: &mut Hints,
-    depth: usize,
-) -> Result<JsonValue>
-    ensures value { IfOk result (λ v. view v ≡ object (pairs_of (viewed entries))) }
-    ensures memory { IsOkUnless result Error.OutOfMemory }
-{
-    let object = Object::from_builder(alloc, entries)?;
-    hints.set(depth, object.len());
-    Ok(JsonValue::Object(object))
 }
 
 /// Whether the reading rejects `name` after these entries: it is strict, and they have it. The error is `OutOfMemory`.

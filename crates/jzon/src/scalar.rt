@@ -22,34 +22,33 @@ use jzon_base::error::{Error, Result};
 use jzon_tree::value::JsonValue;
 use std::alloc::Global;
 
-/// The primitive at `start`, and the offset after it.
+/// The primitive at `start`, whose first byte is `first` (0 at the end of the text), and the offset after it.
 #[inline(always)]
 pub(crate) fn read_scalar(
     alloc: Global,
     source: &str,
     start: usize,
+    first: u8,
     buffer: &mut String,
 ) -> Result<(JsonValue, usize)>
     requires boundary { IsCharBoundary source.now start }
-    requires no_array { slice_index source.now start ≢ begin_array }
-    requires no_object { slice_index source.now start ≢ begin_object }
+    requires first { first ≡ slice_index source.now start }
+    requires no_array { first ≢ begin_array }
+    requires no_object { first ≢ begin_object }
     ensures end { IfOk result (λ r. (start < r.1) × IsCharBoundary source.now r.1) }
-    ensures memory { result ≡ Err Error.OutOfMemory → slice_index source.now start ≡ quotation_mark }
+    ensures memory { result ≡ Err Error.OutOfMemory → first ≡ quotation_mark }
     ensures outcome { (r : Reading) (fs : Frames) → value_mark r fs ≡ None
         → (start < length source.now → is_whitespace r.strict (slice_index source.now start) ≡ false)
         → (is_fresh fs ≡ true → slice_index source.now start ≢ end_array) →
         LeadsUnlessMemory r source.now (before fs) start result (λ v. behind fs (view v)) }
 {
-    if start == source.len() {
-        return stopped_at(source, start);
-    }
-    if has_digit(source, start) {
+    if first.is_ascii_digit() {
         return read_magnitude(source, start, false);
     }
-    match source.as_bytes()[start] {
+    match first {
         b'-' => read_negative(source, start + 1),
         b'"' => read_text(alloc, source, start + 1, buffer),
-        b'n' | b't' | b'f' => read_word(source, start),
+        b'n' | b't' | b'f' => read_word(source, start, first),
         _ => stopped_at(source, start),
     }
 }
@@ -110,18 +109,17 @@ fn read_magnitude(source: &str, start: usize, negative: bool) -> Result<(JsonVal
     Ok((JsonValue::Number(number), end))
 }
 
-/// The literal whose first letter is at `start`, and the offset after it. Its last four letters are compared at once, and there is no branch for each of the
+/// The literal whose first letter, `first`, is at `start`, and the offset after it. Its last four letters are compared at once, and there is no branch for each of the
 /// three literals, since processors can't predict which comes next.
 #[inline(always)]
-fn read_word(source: &str, start: usize) -> Result<(JsonValue, usize)>
+fn read_word(source: &str, start: usize, first: u8) -> Result<(JsonValue, usize)>
     requires within { start < length source.now }
-    requires word { (slice_index source.now start ≡ letter_n) ⊎ (slice_index source.now start ≡ letter_t)
-        ⊎ (slice_index source.now start ≡ letter_f) }
+    requires first { first ≡ slice_index source.now start }
+    requires word { (first ≡ letter_n) ⊎ (first ≡ letter_t) ⊎ (first ≡ letter_f) }
     ensures end { IfOk result (λ r. (start < r.1) × IsCharBoundary source.now r.1) }
     ensures outcome { (r : Reading) (fs : Frames) → value_mark r fs ≡ None →
         Leads r source.now (before fs) start result (λ v. behind fs (view v)) }
 {
-    let first = source.as_bytes()[start];
     let prefix = last_four_at(start, first);
     let value = word_value(first);
     if has_four(source, prefix, last_four(first)) {

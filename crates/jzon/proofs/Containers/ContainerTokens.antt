@@ -1,5 +1,5 @@
 -- The tokens of arrays and objects, by the offset of the parser's cursor.
-use Rattle.std.proofs.Common.{◌≡◌, ◌≢◌, ◌∙◌, ℕ, ◌+◌, ◌<◌, ◌≤◌, ◌&&◌, false, List, [], ◌∷◌, ◌++◌, length, drop, refl}
+use Rattle.std.proofs.Common.{◌≡◌, ◌≢◌, ◌∙◌, ℕ, ◌+◌, ◌<◌, ◌≤◌, ◌&&◌, false, List, [], length, drop, refl}
 use Rattle.std.proofs.Common.{arith, None, Some, sym, lit<}
 use Rattle.std.specs.Prelude.{chars}
 use Rattle.std.specs.Option.{is_some}

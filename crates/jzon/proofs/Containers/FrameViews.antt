@@ -1,7 +1,8 @@
 -- The parser's stack of open containers, as the automaton sees it.
 use Rattle.std.proofs.Common.{◌≡◌, ◌≢◌, ◌⊎◌, inl, inr, get_or, ℕ, suc, ◌+◌, ◌<◌, ◌≤◌, Bool, true, false, cond, List, []}
-use Rattle.std.proofs.Common.{◌∷◌, ◌++◌, length, refl, ap, ◌∙◌, arith, Option, Some, None, option_map}
-use Rattle.std.specs.Prelude.{nat_le}
+use Rattle.std.proofs.Common.{◌∷◌, ◌++◌, length, refl, sym, ap, subst, ◌∙◌, arith, Option, Some, None, option_map}
+use Rattle.std.proofs.Common.{Result, Ok, Err}
+use Rattle.std.specs.Prelude.{nat_le, IfOk, IsOkUnless}
 use Rattle.std.specs.List.{fold}
 use Rattle.std.specs.Option.{is_some}
 use Rattle.std.specs.Str.{bytes_eq}
@@ -10,6 +11,8 @@ use Rattle.std.proofs.lemmas.Bool.Decides.{nat_tests}
 use Rattle.std.proofs.lemmas.List.Sums.{fold-append}
 use Rattle.std.proofs.Math.ListN.{get_or-eq_default}
 use Rattle.jzon_base.specs.PairList.{find, put}
+use Rattle.jzon_base.specs.declared.error.Error.{Error}
+use Rattle.jzon_base.specs.declared.error.Error.TheVariants.{OutOfMemory}
 use Rattle.jzon_tree.specs.Value.{Value, object, pairs_of}
 use Rattle.jzon_tree.specs.View.{view, view_object, viewed}
 use Rattle.jzon_tree.specs.Entries.{entries_of}
@@ -19,8 +22,10 @@ use Rattle.jzon_tree.proofs.Views.{find-viewed}
 use Rattle.jzon.specs.Reading.{Reading}
 use Rattle.jzon.specs.Spelling.{breach_if, deep}
 use Rattle.jzon.specs.Machine.{Entries, Frames, no_frames, array_frame, object_frame, frames_depth, is_fresh}
-use Rattle.jzon.specs.Machine.{value_mark, key_mark}
-use Rattle.jzon.specs.Frames.{open_in, stack_view, is_open}
+use Rattle.jzon.specs.Machine.{Place, behind, value_mark, key_mark}
+use Rattle.jzon.specs.Cursor.{left, IsBehind, GoesOn}
+use Rattle.jzon.specs.Frames.{open_in, stack_view, place_of, is_open, IsReady, IsWholeValue}
+use Rattle.jzon.specs.declared.cursor.Cursor.{Cursor}
 use Rattle.jzon.specs.declared.frames.ValueStart.{ValueStart}
 use Rattle.jzon.specs.declared.frames.ValueStart.TheVariants.{Value as start_value, Array as start_array}
 use Rattle.jzon.specs.declared.frames.ValueStart.TheVariants.{Object as start_object}
@@ -93,6 +98,26 @@ pub open_unless_value : (b : ValueStart) → ((v : JsonValue) → b ≡ start_va
 open_unless_value (start_value v) h = absurd (h v refl)
 open_unless_value start_array h = refl
 open_unless_value start_object h = refl
+
+-- a container that was closed was read whole, from an earlier offset
+pub closed_on : (t u n : Cursor) (o : Place) (fs gs : Frames) (w : Value) (result : Result ValueStart Error)
+    → n ≡ u → gs ≡ fs → IfOk result (λ b. IsWholeValue b w) → IsOkUnless result OutOfMemory
+    → IsBehind t u × (left t o ≡ left u (behind fs w)) → GoesOn t o result n (λ b. place_of b gs)
+closed_on t u n o fs gs w (Ok (start_value v)) at kept whole memory h =
+    subst (λ x. IsBehind t x × (left t o ≡ left x (behind gs (view v)))) (sym at) (
+      h.0,
+      h.1 ∙ ap (λ ks. left u (behind ks w)) (sym kept) ∙ ap (λ x. left u (behind gs x)) (sym whole),
+    )
+closed_on t u n o fs gs w (Ok start_array) at kept whole memory h = absurd whole
+closed_on t u n o fs gs w (Ok start_object) at kept whole memory h = absurd whole
+closed_on t u n o fs gs w (Err e) at kept whole memory h = inl memory
+
+pub closed_ready : (t : Cursor) (depth : ℕ) (w : Value) (result : Result ValueStart Error)
+    → IfOk result (λ b. IsWholeValue b w) → depth ≤ t.reading.depth → IfOk result (IsReady t depth)
+closed_ready t depth w (Ok (start_value v)) whole le = le
+closed_ready t depth w (Ok start_array) whole le = absurd whole
+closed_ready t depth w (Ok start_object) whole le = absurd whole
+closed_ready t depth w (Err e) whole le = tt
 
 -- the object of these entries
 pub view_object-entries : (o : Object) (ps : List (List ℕ × JsonValue)) → entries_of o ≡ ps

@@ -1,11 +1,11 @@
-use Rattle.std.proofs.Common.{◌≡◌, ◌+◌, None, inl, inr, get_or, refl, sym, ap, subst, arith}
+use Rattle.std.proofs.Common.{◌≡◌, ◌+◌, None, inl, inr, refl, sym, arith}
 use Rattle.std.specs.Prelude.{chars, IsTrue}
 use Rattle.std.proofs.lemmas.Str.{IsCharBoundary-after_ascii}
 use Rattle.jzon_tree.specs.View.{view}
 use Rattle.jzon.specs.Reading.{Reading, usual}
 use Rattle.jzon.specs.Machine.{Frames, no_frames, value_mark}
 use Rattle.jzon.proofs.Texts.StepsByByte.{same_outcome}
-use Rattle.jzon.proofs.Containers.WholeLiterals.{IsFirst, WordEnds, word_begins, word_ends}
+use Rattle.jzon.proofs.Containers.WholeLiterals.{WordEnds, word_begins, word_ends}
 use Rattle.jzon.proofs.scalar.read_word.Goals.{After-has_four}
 use Rattle.jzon.proofs.scalar.read_word.Goals as goal
 
@@ -13,12 +13,10 @@ use Rattle.jzon.proofs.scalar.read_word.Goals as goal
 ends : (c : After-has_four) (r : Reading) (fs : Frames) → value_mark r fs ≡ None → IsTrue c.has_four.result
     → WordEnds r c.args.source.now c.args.start (c.last_four_at-prefix.result + 4) fs (view c.word_value-value.result)
 ends c r fs m all =
-    let first : get_or c.as_bytes.result.now c.args.start 0 ≡ get_or c.args.source.now c.args.start 0 =
-    ap (λ s. get_or s c.args.start 0) c.as_bytes.ensures.value in
     let four = c.has_four.ensures in
-    word_ends r c.args.source.now c.args.start (get_or c.as_bytes.result.now c.args.start 0)
-    c.last_four_at-prefix.result fs _ c.last_four.result c.utf8.source c.requires.within (sym first) m
-    (subst IsFirst (sym first) c.requires.word)
+    word_ends r c.args.source.now c.args.start c.args.first
+    c.last_four_at-prefix.result fs _ c.last_four.result c.utf8.source c.requires.within (sym c.requires.first) m
+    c.requires.word
     (record {
       null = c.word_value-value.ensures.null;
       yes = c.word_value-value.ensures.yes;
@@ -48,22 +46,16 @@ pub read_rest-requires-clause-boundary : goal.read_rest-requires-clause-boundary
 read_rest-requires-clause-boundary c =
     IsCharBoundary-after_ascii c.args.source.now c.args.start c.utf8.source c.requires.within
     (elim c.requires.word [
-      | inl e ↦ omega (arith, e)
-      | inr w ↦ elim w [
-        | inl e ↦ omega (arith, e)
-        | inr e ↦ omega
-            (arith, e)
-      ]
+      | inl e ↦ omega (arith, e, c.requires.first)
+      | inr w ↦ elim w [ inl e ↦ omega (arith, e, c.requires.first) | inr e ↦ omega (arith, e, c.requires.first) ]
     ])
 
 pub returns-clause-outcome : goal.returns-clause-outcome
 returns-clause-outcome c r fs m =
-    let first : get_or c.as_bytes.result.now c.args.start 0 ≡ get_or c.args.source.now c.args.start 0 =
-    ap (λ s. get_or s c.args.start 0) c.as_bytes.ensures.value in
     same_outcome _ _ _ (chars c.args.source.now) c.read_rest.result
-    (word_begins r c.args.source.now c.args.start (get_or c.as_bytes.result.now c.args.start 0) fs _
-    c.letters_behind.result.now c.utf8.source c.requires.within (sym first) m
-    (subst IsFirst (sym first) c.requires.word)
+    (word_begins r c.args.source.now c.args.start c.args.first fs _
+    c.letters_behind.result.now c.utf8.source c.requires.within (sym c.requires.first) m
+    c.requires.word
     (record {
       null = c.word_value-value.ensures.null;
       yes = c.word_value-value.ensures.yes;

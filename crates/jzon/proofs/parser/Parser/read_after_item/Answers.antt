@@ -1,4 +1,4 @@
-use Rattle.std.proofs.Common.{◌≡◌, ◌∙◌, ◌++◌, refl, cond, [], ◌∷◌, map, sym, ap, arith}
+use Rattle.std.proofs.Common.{◌≡◌, ◌∙◌, ◌++◌, refl, cond, [], ◌∷◌, map, sym, ap, arith, vec_len}
 use Rattle.std.proofs.lemmas.List.{map-append}
 use Rattle.jzon_base.specs.PairList.{put}
 use Rattle.jzon_tree.specs.Value.{Value, array, values_of, object, pairs_of}
@@ -10,8 +10,8 @@ use Rattle.jzon.specs.Machine.{Frames, array_frame, object_frame, before, before
 use Rattle.jzon.specs.declared.cursor.Cursor.{Cursor}
 use Rattle.jzon.specs.declared.frames.Frame.{Frame}
 use Rattle.jzon.proofs.Texts.Cursors.{Reached, reached, goes_behind, goes_on}
-use Rattle.jzon.proofs.Containers.FrameViews.{some_more, some_put}
-use Rattle.jzon.proofs.parser.Parser.read_after_item.Goals.{After-container_ends, After-container_ends-in-Object}
+use Rattle.jzon.proofs.Containers.FrameViews.{some_more, some_put, closed_on, closed_ready}
+use Rattle.jzon.proofs.parser.Parser.read_after_item.Goals.{After-array_ends, After-container_ends}
 use Rattle.jzon.proofs.parser.Parser.read_after_item.Goals as goal
 
 -- after a value in the same container
@@ -26,84 +26,101 @@ same_frame t fs f g v e = record {
 
 -- ---- in an array
 
-in_array : (c : After-container_ends) →
+in_array : (c : After-array_ends) →
     Reached c.args.self.now.cursor (behind (open_in (stack_view c.args.self.now.stack.items) c.args.frame)
     (view c.args.item)) c.args.self.now.cursor
     (behind (array_frame (stack_view c.args.self.now.stack.items) (map view c.in-Array.elements.items))
     (view c.args.item))
 in_array c = same_frame _ _ _ _ _ c.in-Array.is
 
-elements_pushed : (c : After-container_ends) → map view c.push.new.self.items
+elements_pushed : (c : After-array_ends) → map view c.push.new.self.items
     ≡ map view c.in-Array.elements.items ++ view c.args.item ∷ []
 elements_pushed c = ap (map view) c.in_ok-push-in-Array.ensures.items
     ∙ map-append view c.in-Array.elements.items (c.args.item ∷ [])
 
 pub returns-then-branch-clause-ready : goal.returns-then-branch-clause-ready
 returns-then-branch-clause-ready c =
-    let ends = c.in_ok-container_ends-in-Array.ensures
+    let ends = c.in_ok-array_ends-in-Array.ensures.outcome
     (array_frame (stack_view c.args.self.now.stack.items) (map view c.in-Array.elements.items)) (view c.args.item) refl
     in
-    omega (arith, c.requires.room, ap (λ r. r.depth) ends.0.reading)
+    omega (
+      arith,
+      c.requires.room,
+      ap (λ r. r.depth) ends.0.reading,
+      ap (λ s. vec_len s) c.in_ok-array_ends-in-Array.ensures.stack,
+    )
 
 pub returns-then-branch-clause-outcome : goal.returns-then-branch-clause-outcome
 returns-then-branch-clause-outcome c =
     let t = c.args.self.now.cursor in
-    let u = c.container_ends.new.self in
+    let n = c.array_ends.new.self in
     let fs = stack_view c.args.self.now.stack.items in
     let vs = map view c.in-Array.elements.items in
     let v = view c.args.item in
-    let at = (goal.at.returns-then-branch-clause-outcome c).After-container_ends in
-    let read = goes_behind t t u _ (behind (array_frame fs vs) v) _ (in_array at)
-    (c.in_ok-container_ends-in-Array.ensures (array_frame fs vs) v refl) in (
+    let at = (goal.at.returns-then-branch-clause-outcome c).After-array_ends in
+    let read = goes_behind t t n.cursor _ (behind (array_frame fs vs) v) _ (in_array at)
+    (c.in_ok-array_ends-in-Array.ensures.outcome (array_frame fs vs) v refl) in (
       read.0,
-      read.1 ∙ ap (λ b. left u (cond b (behind fs (array (values_of (vs ++ v ∷ []))))
+      read.1 ∙ ap (λ b. left n.cursor (cond b (behind fs (array (values_of (vs ++ v ∷ []))))
           (before (array_frame fs (vs ++ v ∷ []))))) c.if-branch.true
-          ∙ ap (λ x. left u (behind fs x)) (sym (view-Array c.fit_array.new.elements
-          ∙ ap (λ xs. array (values_of (map view xs))) c.in_ok-fit_array-in-Array.ensures.items
+          ∙ ap (λ s. left n.cursor (behind (stack_view s.items) (array (values_of (vs ++ v ∷ [])))))
+          (sym c.in_ok-array_ends-in-Array.ensures.stack)
+          ∙ ap (λ x. left n.cursor (behind (stack_view n.stack.items) x)) (sym (view-Array c.array_ends.new.elements
+          ∙ ap (λ xs. array (values_of (map view xs))) c.in_ok-array_ends-in-Array.ensures.items
           ∙ ap (λ xs. array (values_of xs)) (elements_pushed at))),
     )
 
 pub read_elements-requires-clause-room : goal.read_elements-requires-clause-room
 read_elements-requires-clause-room c =
-    let ends = c.in_ok-container_ends-in-Array.ensures
+    let ends = c.in_ok-array_ends-in-Array.ensures.outcome
     (array_frame (stack_view c.args.self.now.stack.items) (map view c.in-Array.elements.items)) (view c.args.item) refl
     in
-    omega (arith, c.requires.room, ap (λ r. r.depth) ends.0.reading)
+    omega (
+      arith,
+      c.requires.room,
+      ap (λ r. r.depth) ends.0.reading,
+      ap (λ s. vec_len s) c.in_ok-array_ends-in-Array.ensures.stack,
+    )
 
 pub read_elements-requires-clause-element : goal.read_elements-requires-clause-element
 read_elements-requires-clause-element c none =
     absurd (some_more (map view c.in-Array.elements.items) (view c.args.item)
-    (sym (elements_pushed (goal.at.read_elements-requires-clause-element c).After-container_ends) ∙ none))
+    (sym (ap (map view) c.in_ok-array_ends-in-Array.ensures.items
+    ∙ elements_pushed (goal.at.read_elements-requires-clause-element c).After-array_ends) ∙ none))
 
 pub returns-else-branch-clause-outcome : goal.returns-else-branch-clause-outcome
 returns-else-branch-clause-outcome c =
     let t = c.args.self.now.cursor in
-    let u = c.container_ends.new.self in
+    let n = c.array_ends.new.self in
     let fs = stack_view c.args.self.now.stack.items in
     let vs = map view c.in-Array.elements.items in
     let v = view c.args.item in
-    let at = (goal.at.returns-else-branch-clause-outcome c).After-container_ends in
-    let read = goes_behind t t u _ (behind (array_frame fs vs) v) _ (in_array at)
-    (c.in_ok-container_ends-in-Array.ensures (array_frame fs vs) v refl) in
-    goes_on t u _ _ (before (array_frame fs (map view c.push.new.self.items))) c.read_elements.result _
-    (reached t u _ (before (array_frame fs (map view c.push.new.self.items))) (
+    let inside = before (array_frame (stack_view n.stack.items) (map view c.array_ends.new.elements.items)) in
+    let at = (goal.at.returns-else-branch-clause-outcome c).After-array_ends in
+    let read = goes_behind t t n.cursor _ (behind (array_frame fs vs) v) _ (in_array at)
+    (c.in_ok-array_ends-in-Array.ensures.outcome (array_frame fs vs) v refl) in
+    goes_on t n.cursor _ _ inside c.read_elements.result _
+    (reached t n.cursor _ inside (
       read.0,
-      read.1 ∙ ap (λ b. left u (cond b (behind fs (array (values_of (vs ++ v ∷ []))))
+      read.1 ∙ ap (λ b. left n.cursor (cond b (behind fs (array (values_of (vs ++ v ∷ []))))
           (before (array_frame fs (vs ++ v ∷ []))))) c.if-branch.false
-          ∙ ap (λ xs. left u (before (array_frame fs xs))) (sym (elements_pushed at)),
+          ∙ ap (λ xs. left n.cursor (before (array_frame fs xs)))
+          (sym (ap (map view) c.in_ok-array_ends-in-Array.ensures.items ∙ elements_pushed at))
+          ∙ ap (λ s. left n.cursor (before (array_frame (stack_view s.items)
+          (map view c.array_ends.new.elements.items)))) (sym c.in_ok-array_ends-in-Array.ensures.stack),
     ))
     c.read_elements.ensures.outcome
 
 -- ---- in an object
 
-in_object : (c : After-container_ends-in-Object) →
+in_object : (c : After-container_ends) →
     Reached c.args.self.now.cursor (behind (open_in (stack_view c.args.self.now.stack.items) c.args.frame)
     (view c.args.item)) c.args.self.now.cursor
     (behind (object_frame (stack_view c.args.self.now.stack.items) (viewed c.in-Object.entries) c.in-Object.key)
     (view c.args.item))
 in_object c = same_frame _ _ _ _ _ c.in-Object.is
 
-entry_pushed : (c : After-container_ends-in-Object) →
+entry_pushed : (c : After-container_ends) →
     viewed c.push-in-Object.new.self ≡ put c.in-Object.key (view c.args.item) (viewed c.in-Object.entries)
 entry_pushed c = ap viewed c.in_ok-push-in-Object.ensures.ok
     ∙ viewed-put c.in-Object.key c.args.item c.in-Object.entries
@@ -113,24 +130,35 @@ returns-then-branch-2-clause-ready c =
     let ends = c.in_ok-container_ends-in-Object.ensures
     (object_frame (stack_view c.args.self.now.stack.items) (viewed c.in-Object.entries) c.in-Object.key)
     (view c.args.item) refl in
-    omega (arith, c.requires.room, ap (λ r. r.depth) ends.0.reading)
+    closed_ready c.close_object.new.self.cursor (vec_len c.close_object.new.self.stack)
+    (object (pairs_of (viewed c.push-in-Object.new.self))) c.close_object.result c.close_object.ensures.value
+    (omega (
+      arith,
+      c.requires.room,
+      ap (λ r. r.depth) ends.0.reading,
+      ap (λ t. t.reading.depth) c.close_object.ensures.cursor,
+      ap (λ s. vec_len s) c.close_object.ensures.stack,
+    ))
 
 pub returns-then-branch-2-clause-outcome : goal.returns-then-branch-2-clause-outcome
 returns-then-branch-2-clause-outcome c =
     let t = c.args.self.now.cursor in
-    let u = c.container_ends-in-Object.new.self in
+    let u = c.container_ends.new.self in
+    let n = c.close_object.new.self in
     let fs = stack_view c.args.self.now.stack.items in
     let es = viewed c.in-Object.entries in
     let k = c.in-Object.key in
     let v = view c.args.item in
-    let at = (goal.at.returns-then-branch-2-clause-outcome c).After-container_ends-in-Object in
+    let at = (goal.at.returns-then-branch-2-clause-outcome c).After-container_ends in
     let read = goes_behind t t u _ (behind (object_frame fs es k) v) _ (in_object at)
-    (c.in_ok-container_ends-in-Object.ensures (object_frame fs es k) v refl) in (
+    (c.in_ok-container_ends-in-Object.ensures (object_frame fs es k) v refl) in
+    closed_on t u n.cursor _ fs (stack_view n.stack.items) (object (pairs_of (viewed c.push-in-Object.new.self)))
+    c.close_object.result c.close_object.ensures.cursor (ap (λ s. stack_view s.items) c.close_object.ensures.stack)
+    c.close_object.ensures.value c.close_object.ensures.memory (
       read.0,
       read.1 ∙ ap (λ b. left u (cond b (behind fs (object (pairs_of (put k v es)))) (before_key fs (put k v es))))
           c.if-branch-2.true
-          ∙ ap (λ x. left u (behind fs x))
-          (sym (c.in_ok-object-in-Object.ensures.value ∙ ap (λ xs. object (pairs_of xs)) (entry_pushed at))),
+          ∙ ap (λ xs. left u (behind fs (object (pairs_of xs)))) (sym (entry_pushed at)),
     )
 
 pub read_entries-requires-clause-room : goal.read_entries-requires-clause-room
@@ -143,17 +171,17 @@ read_entries-requires-clause-room c =
 pub read_entries-requires-clause-key : goal.read_entries-requires-clause-key
 read_entries-requires-clause-key c none =
     absurd (some_put c.in-Object.key (view c.args.item) (viewed c.in-Object.entries)
-    (sym (entry_pushed (goal.at.read_entries-requires-clause-key c).After-container_ends-in-Object) ∙ none))
+    (sym (entry_pushed (goal.at.read_entries-requires-clause-key c).After-container_ends) ∙ none))
 
 pub returns-else-branch-2-clause-outcome : goal.returns-else-branch-2-clause-outcome
 returns-else-branch-2-clause-outcome c =
     let t = c.args.self.now.cursor in
-    let u = c.container_ends-in-Object.new.self in
+    let u = c.container_ends.new.self in
     let fs = stack_view c.args.self.now.stack.items in
     let es = viewed c.in-Object.entries in
     let k = c.in-Object.key in
     let v = view c.args.item in
-    let at = (goal.at.returns-else-branch-2-clause-outcome c).After-container_ends-in-Object in
+    let at = (goal.at.returns-else-branch-2-clause-outcome c).After-container_ends in
     let read = goes_behind t t u _ (behind (object_frame fs es k) v) _ (in_object at)
     (c.in_ok-container_ends-in-Object.ensures (object_frame fs es k) v refl) in
     goes_on t u _ _ (before_key fs (viewed c.push-in-Object.new.self)) c.read_entries.result _

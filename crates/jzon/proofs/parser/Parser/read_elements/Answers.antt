@@ -15,7 +15,7 @@ use Rattle.jzon.specs.declared.frames.Frame.{Frame}
 use Rattle.jzon.proofs.Texts.Cursors.{Reached, reached_start, reached, token_goes, goes_behind, fails_on}
 use Rattle.jzon.proofs.Containers.FrameViews.{frames_depth-stack, fresh_is_empty, some_more, stack_view-push}
 use Rattle.jzon.proofs.Containers.FrameViews.{value_mark-shallow}
-use Rattle.jzon.proofs.parser.Parser.read_elements.Goals.{After-len-depth, After-container_ends, In_ok-elements-in-Array}
+use Rattle.jzon.proofs.parser.Parser.read_elements.Goals.{After-len-depth, After-array_ends, In_ok-elements-in-Array}
 use Rattle.jzon.proofs.parser.Parser.read_elements.Goals.{then-opens_container+in_ok-value_start+in-Value+in_ok-push-in-Value}
 use Rattle.jzon.proofs.parser.Parser.read_elements.Goals.{else-opens_container+in_ok-value+in_ok-push}
 use Rattle.jzon.proofs.parser.Parser.read_elements.Goals as goal
@@ -151,7 +151,7 @@ record More (m n : Cursor) (fs : Frames) (vs ws : List Value) : Type 0 where
   grown : ws ≡ vs ++ value ∷ []
   read : IsBehind m n × (left m (before (array_frame fs vs)) ≡ left n (behind (array_frame fs vs) value))
 
-more : (c : After-container_ends) →
+more : (c : After-array_ends) →
     More c.loop-self.self.cursor c.if-opens_container.self.cursor (stack_view c.loop-self.self.stack.items)
     (map view c.loop-self.elements.items)
     (map view c.if-opens_container.elements.items)
@@ -195,7 +195,7 @@ more c =
           })
     ]
 
-stack_kept : (c : After-container_ends) → c.if-opens_container.self.stack ≡ c.loop-self.self.stack
+stack_kept : (c : After-array_ends) → c.if-opens_container.self.stack ≡ c.loop-self.self.stack
 stack_kept c =
     elim c.if-opens_container.branch [
       | then-opens_container+in_ok-value_start+in-Value+in_ok-push-in-Value w ↦ ap (λ s. s.stack) w.self-is
@@ -203,7 +203,7 @@ stack_kept c =
       | else-opens_container+in_ok-value+in_ok-push w ↦ ap (λ s. s.stack) w.self-is
     ]
 
-came : (c : After-container_ends) →
+came : (c : After-array_ends) →
     Reached c.args.self.now.cursor (before (array_frame (stack_view c.args.self.now.stack.items)
     (map view c.args.elements.items))) c.if-opens_container.self.cursor
     (behind (array_frame (stack_view c.loop-self.self.stack.items) (map view c.loop-self.elements.items))
@@ -215,42 +215,48 @@ came c =
     (goes_behind c.args.self.now.cursor c.loop-self.self.cursor c.if-opens_container.self.cursor _
     (before (array_frame fs vs)) _ c.loop-self.invariant.came (more c).read)
 
-pub returns-in_err-container_ends-clause-outcome : goal.returns-in_err-container_ends-clause-outcome
-returns-in_err-container_ends-clause-outcome c =
+pub returns-in_err-array_ends-clause-outcome : goal.returns-in_err-array_ends-clause-outcome
+returns-in_err-array_ends-clause-outcome c =
     let fs = stack_view c.loop-self.self.stack.items in
     let vs = map view c.loop-self.elements.items in
-    let at = (goal.at.returns-in_err-container_ends-clause-outcome c).After-container_ends in
-    let failed = err_from_is_err_and c.from_residual-in_err-container_ends.result
-    c.from_residual-in_err-container_ends.ensures.1 in
+    let at = (goal.at.returns-in_err-array_ends-clause-outcome c).After-array_ends in
+    let failed = err_from_is_err_and c.from_residual-in_err-array_ends.result
+    c.from_residual-in_err-array_ends.ensures.1 in
     fails_on c.args.self.now.cursor c.if-opens_container.self.cursor _ _ (behind (array_frame fs vs) (more at).value)
-    c.from_residual-in_err-container_ends.result _
-    failed.0 failed.1 (came at) (rw failed.2 (c.in_err-container_ends.ensures (array_frame fs vs) (more at).value refl))
+    c.from_residual-in_err-array_ends.result _
+    failed.0 failed.1 (came at) (rw failed.2 (c.in_err-array_ends.ensures.outcome (array_frame fs vs) (more at).value refl))
 
 pub returns-then-branch-clause-ready : goal.returns-then-branch-clause-ready
 returns-then-branch-clause-ready c =
     let fs = stack_view c.loop-self.self.stack.items in
     let vs = map view c.loop-self.elements.items in
-    let at = (goal.at.returns-then-branch-clause-ready c).After-container_ends in
-    let reading = (c.in_ok-container_ends.ensures (array_frame fs vs) (more at).value refl).0.reading ∙ (more at).read.0.reading in
-    omega (arith, c.loop-self.invariant.room, ap (λ r. r.depth) reading, ap (λ s. vec_len s) (stack_kept at))
+    let at = (goal.at.returns-then-branch-clause-ready c).After-array_ends in
+    let reading = (c.in_ok-array_ends.ensures.outcome (array_frame fs vs) (more at).value refl).0.reading
+    ∙ (more at).read.0.reading in
+    omega (
+      arith,
+      c.loop-self.invariant.room,
+      ap (λ r. r.depth) reading,
+      ap (λ s. vec_len s) (c.in_ok-array_ends.ensures.stack ∙ stack_kept at),
+    )
 
 pub returns-then-branch-clause-outcome : goal.returns-then-branch-clause-outcome
 returns-then-branch-clause-outcome c =
     let t = c.args.self.now.cursor in
-    let u = c.container_ends.new.self in
+    let n = c.array_ends.new.self in
     let fs = stack_view c.loop-self.self.stack.items in
     let vs = map view c.loop-self.elements.items in
-    let at = (goal.at.returns-then-branch-clause-outcome c).After-container_ends in
+    let at = (goal.at.returns-then-branch-clause-outcome c).After-array_ends in
     let v = (more at).value in
-    let read = goes_behind t c.if-opens_container.self.cursor u _ (behind (array_frame fs vs) v) _ (came at)
-    (c.in_ok-container_ends.ensures (array_frame fs vs) v refl) in (
+    let read = goes_behind t c.if-opens_container.self.cursor n.cursor _ (behind (array_frame fs vs) v) _ (came at)
+    (c.in_ok-array_ends.ensures.outcome (array_frame fs vs) v refl) in (
       read.0,
-      read.1 ∙ ap (λ b. left u (cond b (behind fs (array (values_of (vs ++ v ∷ []))))
+      read.1 ∙ ap (λ b. left n.cursor (cond b (behind fs (array (values_of (vs ++ v ∷ []))))
           (before (array_frame fs (vs ++ v ∷ []))))) c.if-branch.true
-          ∙ ap (λ s. left u (behind (stack_view s.items) (array (values_of (vs ++ v ∷ []))))) (sym (stack_kept at))
-          ∙ ap (λ x. left u (behind (stack_view c.if-opens_container.self.stack.items) x))
-          (sym (view-Array c.fit_array.new.elements
-          ∙ ap (λ xs. array (values_of (map view xs))) c.in_ok-fit_array.ensures.items
+          ∙ ap (λ s. left n.cursor (behind (stack_view s.items) (array (values_of (vs ++ v ∷ [])))))
+          (sym (c.in_ok-array_ends.ensures.stack ∙ stack_kept at))
+          ∙ ap (λ x. left n.cursor (behind (stack_view n.stack.items) x)) (sym (view-Array c.array_ends.new.elements
+          ∙ ap (λ xs. array (values_of (map view xs))) c.in_ok-array_ends.ensures.items
           ∙ ap (λ xs. array (values_of xs)) (more at).grown)),
     )
 
@@ -258,32 +264,41 @@ pub loop-self-smaller : goal.loop-self-smaller
 loop-self-smaller c =
     let fs = stack_view c.loop-self.self.stack.items in
     let vs = map view c.loop-self.elements.items in
-    let at = (goal.at.loop-self-smaller c).After-container_ends in
+    let at = (goal.at.loop-self-smaller c).After-array_ends in
     let read = (more at).read in
-    let ends = c.in_ok-container_ends.ensures (array_frame fs vs) (more at).value refl in
-    omega (arith, read.0.index, ends.0.index, ap length (ends.0.text ∙ read.0.text), c.container_ends.new.self.boundary.0)
+    let ends = c.in_ok-array_ends.ensures.outcome (array_frame fs vs) (more at).value refl in
+    omega (
+      arith,
+      read.0.index,
+      ends.0.index,
+      ap length (ends.0.text ∙ read.0.text),
+      c.array_ends.new.self.cursor.boundary.0,
+    )
 
 pub loop-self-preserved : goal.loop-self-preserved
 loop-self-preserved c =
     let t = c.args.self.now.cursor in
-    let u = c.container_ends.new.self in
+    let n = c.array_ends.new.self in
     let fs = stack_view c.loop-self.self.stack.items in
     let vs = map view c.loop-self.elements.items in
-    let at = (goal.at.loop-self-preserved c).After-container_ends in
+    let at = (goal.at.loop-self-preserved c).After-array_ends in
     let v = (more at).value in
-    let read = goes_behind t c.if-opens_container.self.cursor u _ (behind (array_frame fs vs) v) _ (came at)
-    (c.in_ok-container_ends.ensures (array_frame fs vs) v refl) in
+    let ends = c.in_ok-array_ends.ensures.outcome (array_frame fs vs) v refl in
+    let kept = c.in_ok-array_ends.ensures.stack ∙ stack_kept at in
+    let grown = ap (map view) c.in_ok-array_ends.ensures.items ∙ (more at).grown in
+    let read = goes_behind t c.if-opens_container.self.cursor n.cursor _ (behind (array_frame fs vs) v) _ (came at)
+    ends in
     record {
-      room = let reading = (c.in_ok-container_ends.ensures (array_frame fs vs) v refl).0.reading ∙ (more at).read.0.reading in
-          omega (arith, c.loop-self.invariant.room, ap (λ r. r.depth) reading, ap (λ s. vec_len s) (stack_kept at));
-      element = λ none. absurd (some_more vs v (sym (more at).grown ∙ none));
-      came = reached t u _ (before (array_frame (stack_view c.if-opens_container.self.stack.items)
-          (map view c.if-opens_container.elements.items))) (
+      room = let reading = ends.0.reading ∙ (more at).read.0.reading in
+          omega (arith, c.loop-self.invariant.room, ap (λ r. r.depth) reading, ap (λ s. vec_len s) kept);
+      element = λ none. absurd (some_more vs v (sym grown ∙ none));
+      came = reached t n.cursor _ (before (array_frame (stack_view n.stack.items)
+          (map view c.array_ends.new.elements.items))) (
             read.0,
-            read.1 ∙ ap (λ b. left u (cond b (behind fs (array (values_of (vs ++ v ∷ []))))
+            read.1 ∙ ap (λ b. left n.cursor (cond b (behind fs (array (values_of (vs ++ v ∷ []))))
                 (before (array_frame fs (vs ++ v ∷ []))))) c.if-branch.false
-                ∙ ap (λ xs. left u (before (array_frame fs xs))) (sym (more at).grown)
-                ∙ ap (λ s. left u (before (array_frame (stack_view s.items)
-                (map view c.if-opens_container.elements.items)))) (sym (stack_kept at)),
+                ∙ ap (λ xs. left n.cursor (before (array_frame fs xs))) (sym grown)
+                ∙ ap (λ s. left n.cursor (before (array_frame (stack_view s.items)
+                (map view c.array_ends.new.elements.items)))) (sym kept),
           );
     }

@@ -1,4 +1,4 @@
-use Rattle.std.proofs.Common.{◌≡◌, ◌∙◌, ◌+◌, refl, cond, length, sym, ap, subst, arith, vec_len, None}
+use Rattle.std.proofs.Common.{◌≡◌, ◌∙◌, ◌+◌, refl, cond, [], length, sym, ap, subst, arith, vec_len, None}
 use Rattle.std.proofs.lemmas.Bool.{true≢false}
 use Rattle.std.proofs.lemmas.Result.{err_from_is_err_and}
 use Rattle.jzon_base.specs.PairList.{put}
@@ -7,10 +7,10 @@ use Rattle.jzon_tree.specs.View.{view, viewed}
 use Rattle.jzon_tree.proofs.Views.{viewed-put}
 use Rattle.jzon.specs.Cursor.{left}
 use Rattle.jzon.specs.Frames.{IsReady, place_of, stack_view}
-use Rattle.jzon.specs.Machine.{object_frame, frames_depth, before, before_key, behind, key_mark}
-use Rattle.jzon.proofs.Texts.Cursors.{Reached, reached_start, reached, goes_behind, fails_on}
+use Rattle.jzon.specs.Machine.{array_frame, object_frame, frames_depth, before, before_key, behind, key_mark}
+use Rattle.jzon.proofs.Texts.Cursors.{Reached, reached_start, reached, goes_behind, goes_on, fails_on}
 use Rattle.jzon.proofs.Containers.FrameViews.{frames_depth-stack, key_mark-shallow, some_put}
-use Rattle.jzon.proofs.Containers.FrameViews.{stack_view-push}
+use Rattle.jzon.proofs.Containers.FrameViews.{stack_view-push, closed_on, closed_ready}
 use Rattle.jzon.proofs.parser.Parser.read_entries.Goals.{After-read_key, In_ok-key, After-len-depth, After-container_ends}
 use Rattle.jzon.proofs.parser.Parser.read_entries.Goals as goal
 
@@ -106,25 +106,27 @@ returns-in_err-value_start-clause-outcome c =
     failed.0 failed.1 (keyed at.In_ok-key)
     (rw failed.2 (c.in_err-value_start.ensures.outcome here (depth_here at.After-len-depth) (λ f. absurd (true≢false (sym f)))))
 
-pub returns-in_default-clause-ready : goal.returns-in_default-clause-ready
-returns-in_default-clause-ready c =
+-- ---- the value is a container that isn't empty
+
+pub returns-in_default-value_start-clause-ready : goal.returns-in_default-value_start-clause-ready
+returns-in_default-value_start-clause-ready c =
     subst (λ k. IsReady c.read_start.new.self.cursor k c.in_ok-value_start.value_start)
     (omega (
       arith,
       c.in_ok-push-in_default.ensures.len,
       c.len-depth.ensures,
-      ap (λ s. vec_len s)
-          c.in_ok-value_start.ensures.stack,
+      ap (λ s. vec_len s) c.in_ok-value_start.ensures.stack,
     )) c.in_ok-value_start.ensures.ready
 
-pub returns-in_default-clause-outcome : goal.returns-in_default-clause-outcome
-returns-in_default-clause-outcome c =
+pub returns-in_default-value_start-clause-outcome : goal.returns-in_default-value_start-clause-outcome
+returns-in_default-value_start-clause-outcome c =
     let n = c.read_start.new.self.cursor in
     let fs = stack_view c.args.self.now.stack.items in
     let es = viewed c.loop-entries.entries in
     let here = object_frame fs es c.in_ok-key.key in
-    let at = goal.at.returns-in_default-clause-outcome c in
-    let read = c.in_ok-value_start.ensures.outcome here (depth_here at.After-len-depth) (λ f. absurd (true≢false (sym f))) in
+    let at = goal.at.returns-in_default-value_start-clause-outcome c in
+    let read = c.in_ok-value_start.ensures.outcome here (depth_here at.After-len-depth)
+    (λ f. absurd (true≢false (sym f))) in
     let stack = stack_view-push c.read_start.new.self.stack.items c.push-in_default.new.self.items _
     c.in_ok-push-in_default.ensures.items
     ∙ ap (λ s. object_frame (stack_view s.items) (viewed c.read_key.new.entries) c.in_ok-key.key)
@@ -132,6 +134,46 @@ returns-in_default-clause-outcome c =
     ∙ ap (λ xs. object_frame fs (viewed xs) c.in_ok-key.key) c.in_ok-key.ensures.kept in
     goes_behind c.args.self.now.cursor c.read_key.new.self.cursor n _ (before here) _ (keyed at.In_ok-key)
     (read.0, read.1 ∙ ap (λ gs. left n (place_of c.in_ok-value_start.value_start gs)) (sym stack))
+
+pub read_array-requires : goal.read_array-requires
+read_array-requires c =
+    let ready = subst (λ b. IsReady c.read_start.new.self.cursor (c.len-depth.result + 1) b) c.in-Array.is
+    c.in_ok-value_start.ensures.ready in
+    record {
+      room = omega (
+        arith,
+        ready.0,
+        c.in_ok-push-in_default.ensures.len,
+        c.len-depth.ensures,
+        ap (λ s. vec_len s) c.in_ok-value_start.ensures.stack,
+      );
+      element = ready.1;
+    }
+
+pub returns-in-Array-clause-outcome : goal.returns-in-Array-clause-outcome
+returns-in-Array-clause-outcome c =
+    let t = c.args.self.now.cursor in
+    let n = c.read_start.new.self.cursor in
+    let fs = stack_view c.args.self.now.stack.items in
+    let es = viewed c.loop-entries.entries in
+    let here = object_frame fs es c.in_ok-key.key in
+    let inside = before (array_frame (stack_view c.push-in_default.new.self.items) []) in
+    let at = goal.at.returns-in-Array-clause-outcome c in
+    let read = c.in_ok-value_start.ensures.outcome here (depth_here at.After-len-depth)
+    (λ f. absurd (true≢false (sym f))) in
+    let stack = stack_view-push c.read_start.new.self.stack.items c.push-in_default.new.self.items _
+    c.in_ok-push-in_default.ensures.items
+    ∙ ap (λ s. object_frame (stack_view s.items) (viewed c.read_key.new.entries) c.in_ok-key.key)
+    (c.in_ok-value_start.ensures.stack ∙ c.in_ok-key.ensures.stack ∙ c.loop-entries.invariant.stack)
+    ∙ ap (λ xs. object_frame fs (viewed xs) c.in_ok-key.key) c.in_ok-key.ensures.kept in
+    goes_on t n c.read_array.new.self.cursor _ inside c.read_array.result _
+    (reached t n _ inside
+    (goes_behind t c.read_key.new.self.cursor n _ (before here) _ (keyed at.In_ok-key) (
+      read.0,
+      read.1 ∙ ap (λ b. left n (place_of b here)) c.in-Array.is
+          ∙ ap (λ gs. left n (before (array_frame gs []))) (sym stack),
+    )))
+    c.read_array.ensures.outcome
 
 -- the value of the key was read
 came : (c : After-container_ends)
@@ -186,17 +228,22 @@ returns-then-branch-clause-ready c =
     let at = goal.at.returns-then-branch-clause-ready c in
     let reading = (c.in_ok-container_ends.ensures (object_frame fs es c.in_ok-key.key) (view c.in-Value.value) refl).0.reading
     ∙ (came at.After-container_ends (keyed at.In_ok-key)).reading in
-    omega (
+    closed_ready c.close_object.new.self.cursor (vec_len c.close_object.new.self.stack)
+    (object (pairs_of (viewed c.push.new.self))) c.close_object.result c.close_object.ensures.value
+    (omega (
       arith,
       c.requires.room,
       ap (λ r. r.depth) reading,
-      ap (λ s. vec_len s) (c.in_ok-value_start.ensures.stack ∙ c.in_ok-key.ensures.stack ∙ c.loop-entries.invariant.stack),
-    )
+      ap (λ t. t.reading.depth) c.close_object.ensures.cursor,
+      ap (λ s. vec_len s) (c.close_object.ensures.stack ∙ c.in_ok-value_start.ensures.stack
+          ∙ c.in_ok-key.ensures.stack ∙ c.loop-entries.invariant.stack),
+    ))
 
 pub returns-then-branch-clause-outcome : goal.returns-then-branch-clause-outcome
 returns-then-branch-clause-outcome c =
     let t = c.args.self.now.cursor in
     let u = c.container_ends.new.self in
+    let n = c.close_object.new.self in
     let fs = stack_view c.args.self.now.stack.items in
     let es = viewed c.loop-entries.entries in
     let k = c.in_ok-key.key in
@@ -204,14 +251,16 @@ returns-then-branch-clause-outcome c =
     let at = goal.at.returns-then-branch-clause-outcome c in
     let read = goes_behind t c.read_start.new.self.cursor u _ (behind (object_frame fs es k) v) _
     (came at.After-container_ends (keyed at.In_ok-key))
-    (c.in_ok-container_ends.ensures (object_frame fs es k) v refl) in (
+    (c.in_ok-container_ends.ensures (object_frame fs es k) v refl) in
+    closed_on t u n.cursor _ fs (stack_view n.stack.items) (object (pairs_of (viewed c.push.new.self)))
+    c.close_object.result c.close_object.ensures.cursor
+    (ap (λ s. stack_view s.items) (c.close_object.ensures.stack ∙ c.in_ok-value_start.ensures.stack
+    ∙ c.in_ok-key.ensures.stack ∙ c.loop-entries.invariant.stack))
+    c.close_object.ensures.value c.close_object.ensures.memory (
       read.0,
       read.1 ∙ ap (λ b. left u (cond b (behind fs (object (pairs_of (put k v es)))) (before_key fs (put k v es))))
           c.if-branch.true
-          ∙ ap (λ s. left u (behind (stack_view s.items) (object (pairs_of (put k v es)))))
-          (sym (c.in_ok-value_start.ensures.stack ∙ c.in_ok-key.ensures.stack ∙ c.loop-entries.invariant.stack))
-          ∙ ap (λ x. left u (behind (stack_view c.read_start.new.self.stack.items) x))
-          (sym (c.in_ok-object.ensures.value ∙ ap (λ xs. object (pairs_of xs)) (pushed at.After-container_ends))),
+          ∙ ap (λ xs. left u (behind fs (object (pairs_of xs)))) (sym (pushed at.After-container_ends)),
     )
 
 pub loop-entries-smaller : goal.loop-entries-smaller

@@ -16,21 +16,21 @@ returns-in_err-value-in_default-clause-memory c e =
     let failed = err_from_is_err_and c.from_residual-in_err-value-in_default.result
     c.from_residual-in_err-value-in_default.ensures.1 in
     let refused : Err c.in_err-value-in_default.field-0.0 ≡ Err OutOfMemory = cc (failed.1, failed.2, e) in
-    let quote = c.in_err-value-in_default.ensures.memory refused in
+    let quote : next_byte t ≡ 34 = sym c.peek-first.ensures ∙ c.in_err-value-in_default.ensures.memory refused in
     inl (has_character t.source.now t.index 34 (utf8_of t) (byte_within t.source.now t.index 34 quote (lit< tt)) quote
     (lit< tt))
 
 pub returns-else-branch-clause-opened : goal.returns-else-branch-clause-opened
 returns-else-branch-clause-opened c e =
     let t = c.args.self.now.cursor in
-    let next : next_byte t ≡ 91 = sym c.peek.ensures ∙ c.in-91.is in
+    let next : next_byte t ≡ 91 = sym c.peek-first.ensures ∙ c.in-91.is in
     inr (inl (has_character t.source.now t.index 91 (utf8_of t) (byte_within t.source.now t.index 91 next (lit< tt))
     next (lit< tt)))
 
 pub returns-else-branch-2-clause-opened : goal.returns-else-branch-2-clause-opened
 returns-else-branch-2-clause-opened c e =
     let t = c.args.self.now.cursor in
-    let next : next_byte t ≡ 123 = sym c.peek.ensures ∙ c.in-123.is in
+    let next : next_byte t ≡ 123 = sym c.peek-first.ensures ∙ c.in-123.is in
     inr (inr (has_character t.source.now t.index 123 (utf8_of t) (byte_within t.source.now t.index 123 next (lit< tt))
     next (lit< tt)))
 

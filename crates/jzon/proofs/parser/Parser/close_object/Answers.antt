@@ -1,7 +1,7 @@
 use Rattle.std.proofs.Common.{◌∙◌}
 use Rattle.jzon_tree.proofs.Views.{view-Object}
 use Rattle.jzon.proofs.Containers.FrameViews.{view_object-entries}
-use Rattle.jzon.proofs.parser.close_object.Goals as goal
+use Rattle.jzon.proofs.parser.Parser.close_object.Goals as goal
 
 pub returns-clause-value : goal.returns-clause-value
 returns-clause-value c = view-Object c.in_ok-object.object
