@@ -43,9 +43,9 @@ module _ (r : Reading) where
     -- and the only error is `OutOfMemory`
     pub answer-memory : (answer : Result JsonValue Error) → IsReadAs r bytes P
         → IfErr answer (IsErrorUnlessMemory r (chars bytes)) → IsOkUnless answer OutOfMemory
-    answer-memory (Ok v) read tells = tt
+    answer-memory (Ok v) read reports = tt
     answer-memory (Err e) read (inl memory) = memory
-    answer-memory (Err e) read (inr (i, f, first, told)) =
+    answer-memory (Err e) read (inr (i, f, first, reported)) =
         elim (one_tree_or_one_fault r (chars bytes)) [
           | inl tree ↦ absurd (tree.3 i f first.0)
           | inr fault ↦ absurd (fault.0 read.1 read.2)
@@ -55,26 +55,26 @@ module _ (r : Reading) where
 
   -- no tree within the limits spells it
   pub error-no_tree : (t : List ℕ) (e : Error) (d : Document) → IsErrorOf r t e → Parses r t d → ⊥
-  error-no_tree t e d (i, f, first, told) parses =
+  error-no_tree t e d (i, f, first, reported) parses =
       elim (one_tree_or_one_fault r t) [ inl tree ↦ tree.3 i f first.0 | inr fault ↦ fault.0 d parses ]
 
   -- and this is its only error
   pub error-one : (t : List ℕ) (e f : Error) → IsErrorOf r t e → IsErrorOf r t f → f ≡ e
-  error-one t e f (i, x, first, told) (j, y, other, also) =
+  error-one t e f (i, x, first, reported) (j, y, other, also) =
       elim (one_tree_or_one_fault r t) [
         | inl tree ↦ absurd (tree.3 i x first.0)
         | inr fault ↦
             let one = fault.1.3 i x first in
             let two = fault.1.3 j y other in
             also ∙ ap (λ n. error_at t n y) (two.0 ∙ sym one.0) ∙ ap (λ g. error_at t i g)
-            (two.1 ∙ sym one.1) ∙ sym told
+            (two.1 ∙ sym one.1) ∙ sym reported
       ]
 
   -- so it is the error that is returned, unless an allocation fails
   pub answer-error : (t : List ℕ) (e : Error) (answer : Result JsonValue Error) → IsErrorOf r t e
       → IfOk answer (IsMeaningOf r t) → IfErr answer (IsErrorUnlessMemory r t)
       → MatchResult answer (λ v. ⊥) (λ f. (f ≡ OutOfMemory) ⊎ (f ≡ e))
-  answer-error t e (Ok v) is means tells = error-no_tree t e means.0 is means.1
+  answer-error t e (Ok v) is means reports = error-no_tree t e means.0 is means.1
   answer-error t e (Err f) is means (inl memory) = inl memory
   answer-error t e (Err f) is means (inr other) = inr (error-one t e f is other)
 

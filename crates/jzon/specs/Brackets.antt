@@ -4,7 +4,7 @@ use Rattle.jzon_base.specs.PairList.{put}
 use Rattle.jzon_base.specs.Tokens.{begin_array, end_array, begin_object, end_object}
 use Rattle.jzon_tree.specs.Value.{Value, no_values, values_of, no_pairs, pairs_of}
 use Rattle.jzon_tree.specs.Value as value
-use Rattle.jzon.specs.Machine.{Frames, no_frames, array_frame, object_frame, Place, before, before_key, behind}
+use Rattle.jzon.specs.Machine.{Frames, no_frames, array_frame, object_frame, State, before, before_key, after_value}
 use Rattle.jzon.specs.declared.cursor.Bracket.{Bracket}
 use Rattle.jzon.specs.declared.cursor.Bracket.TheVariants.{Array, Object}
 
@@ -21,7 +21,7 @@ empty_container Array = value.array no_values
 empty_container Object = value.object no_pairs
 
 -- after the opening bracket of a container in fs
-abbrev pub after_opener : Bracket → Frames → Place
+abbrev pub after_opener : Bracket → Frames → State
 after_opener Array fs = before (array_frame fs [])
 after_opener Object fs = before_key fs []
 
@@ -32,13 +32,13 @@ innermost_bracket (array_frame fs vs) = Some Array
 innermost_bracket (object_frame fs es k) = Some Object
 
 -- after the comma that follows the item v of the innermost container
-abbrev pub after_comma : Frames → Value → Place
-after_comma no_frames v = behind no_frames v
+abbrev pub after_comma : Frames → Value → State
+after_comma no_frames v = after_value no_frames v
 after_comma (array_frame fs vs) v = before (array_frame fs (vs ++ v ∷ []))
 after_comma (object_frame fs es k) v = before_key fs (put k v es)
 
 -- after its closing bracket
-abbrev pub after_closer : Frames → Value → Place
-after_closer no_frames v = behind no_frames v
-after_closer (array_frame fs vs) v = behind fs (value.array (values_of (vs ++ v ∷ [])))
-after_closer (object_frame fs es k) v = behind fs (value.object (pairs_of (put k v es)))
+abbrev pub after_closer : Frames → Value → State
+after_closer no_frames v = after_value no_frames v
+after_closer (array_frame fs vs) v = after_value fs (value.array (values_of (vs ++ v ∷ [])))
+after_closer (object_frame fs es k) v = after_value fs (value.object (pairs_of (put k v es)))

@@ -1,5 +1,5 @@
 -- The classes of characters that the automaton of Machine distinguishes, and its states inside a number.
-use Rattle.std.specs.Prelude.{ℕ, cond, List, [], ◌∷◌, Bool, true, false, ◌==◌}
+use Rattle.std.specs.Prelude.{ℕ, if◌then◌else◌, List, [], ◌∷◌, Bool, true, false, ◌==◌}
 use Rattle.std.specs.Char.{is_ascii_digit}
 use Rattle.jzon_base.specs.Tokens.{begin_array, begin_object, decimal_point, end_array, end_object, minus_sign}
 use Rattle.jzon_base.specs.Tokens.{name_separator, plus_sign, quotation_mark, value_separator}
@@ -9,8 +9,8 @@ use Rattle.jzon.specs.Grammar.{Sign, is_exponent_letter}
 pub data Class : Type 0 where
   whitespace : Class
   digits : Class
-  dash : Class
-  cross : Class
+  minus_char : Class
+  plus_char : Class
   point : Class
   letter_e : Class
   quote : Class
@@ -38,39 +38,39 @@ letter_f = 102
 -- the class of a character that is neither in a string nor a later letter of a literal
 unfoldable pub class_of : Bool → ℕ → Class
 class_of strict c =
-    cond (is_whitespace strict c) whitespace
-    (cond (is_ascii_digit c) digits
-    (cond (c == minus_sign) dash
-    (cond (c == plus_sign) cross
-    (cond (c == decimal_point) point
-    (cond (is_exponent_letter c) letter_e
-    (cond (c == quotation_mark) quote
-    (cond (c == begin_array) opens_array
-    (cond (c == end_array) closes_array
-    (cond (c == begin_object) opens_object
-    (cond (c == end_object) closes_object
-    (cond (c == value_separator) comma
-    (cond (c == name_separator) colon
-    (cond (c == letter_n) begins_null
-    (cond (c == letter_t) begins_true
-    (cond (c == letter_f) begins_false other)))))))))))))))
+    if is_whitespace strict c then whitespace
+    else (if is_ascii_digit c then digits
+    else (if c == minus_sign then minus_char
+    else (if c == plus_sign then plus_char
+    else (if c == decimal_point then point
+    else (if is_exponent_letter c then letter_e
+    else (if c == quotation_mark then quote
+    else (if c == begin_array then opens_array
+    else (if c == end_array then closes_array
+    else (if c == begin_object then opens_object
+    else (if c == end_object then closes_object
+    else (if c == value_separator then comma
+    else (if c == name_separator then colon
+    else (if c == letter_n then begins_null
+    else (if c == letter_t then begins_true
+    else (if c == letter_f then begins_false else other)))))))))))))))
 
 -- the state inside a number; the digits read so far of the current part are in reverse order
-pub data NumberPlace : Type 0 where
+pub data NumberState : Type 0 where
   -- after a minus
-  signed : NumberPlace
+  after_minus : NumberState
   -- after a first digit 0
-  zero_read : NumberPlace
-  whole : List ℕ → NumberPlace
+  zero_read : NumberState
+  whole : List ℕ → NumberState
   -- after the point, with the whole digits
-  pointed : List ℕ → NumberPlace
-  fraction : List ℕ → List ℕ → NumberPlace
+  pointed : List ℕ → NumberState
+  fraction : List ℕ → List ℕ → NumberState
   -- after the letter of an exponent, with the digits before it
-  lettered : List ℕ → List ℕ → ℕ → NumberPlace
-  signed_exponent : List ℕ → List ℕ → ℕ → Sign → NumberPlace
-  exponent : List ℕ → List ℕ → ℕ → Sign → List ℕ → NumberPlace
+  lettered : List ℕ → List ℕ → ℕ → NumberState
+  signed_exponent : List ℕ → List ℕ → ℕ → Sign → NumberState
+  exponent : List ℕ → List ℕ → ℕ → Sign → List ℕ → NumberState
 
 -- after the first digit of a number
-abbrev pub begun : Bool → ℕ → NumberPlace
-begun true c = zero_read
-begun false c = whole (c ∷ [])
+abbrev pub after_first_digit : Bool → ℕ → NumberState
+after_first_digit true c = zero_read
+after_first_digit false c = whole (c ∷ [])

@@ -2,11 +2,11 @@
 use Rattle.std.specs.Prelude.{◌≡◌, ℕ, ◌<◌, ◌≤◌, List, true, chars, Result, MatchResult, slice_index}
 use Rattle.jzon_base.specs.declared.error.Error.{Error}
 use Rattle.jzon.specs.Reading.{Reading}
-use Rattle.jzon.specs.Machine.{Place, Outcome, allows_whitespace, from, TellsUnlessMemory}
+use Rattle.jzon.specs.Machine.{State, Outcome, allows_whitespace, from, ReportsUnlessMemory}
 use Rattle.jzon.specs.declared.cursor.Cursor.{Cursor}
 
 -- the outcome of the rest of the text from this state of the automaton
-abbrev pub left : Cursor → Place → Outcome
+abbrev pub left : Cursor → State → Outcome
 left t p = from t.reading t.source.now p t.index
 
 -- the next byte, 0 at the end
@@ -18,17 +18,17 @@ pub record IsPast (r : Reading) (bytes : List ℕ) (end : ℕ) (t : Cursor) : Ty
   pub text : t.source.now ≡ bytes
   pub reading : t.reading ≡ r
   pub within : end ≤ t.index
-  pub same : (p : Place) → allows_whitespace p ≡ true → from r bytes p end ≡ left t p
+  pub same : (p : State) → allows_whitespace p ≡ true → from r bytes p end ≡ left t p
 
 -- further on in the same text, in the same reading
-pub record IsBehind (t u : Cursor) : Type 0 where
+pub record IsAfter (t u : Cursor) : Type 0 where
   pub text : u.source.now ≡ t.source.now
   pub reading : u.reading ≡ t.reading
   pub index : t.index < u.index
 
 -- The outcome of the rest of the text at cursor t in state p equals that at the new cursor u in the state that the
 -- result gives; or the error reports it, or an allocation failed.
-abbrev pub GoesOn : {A : Type 0} → Cursor → Place → Result A Error → Cursor → (A → Place) → Type 0
+abbrev pub GoesOn : {A : Type 0} → Cursor → State → Result A Error → Cursor → (A → State) → Type 0
 GoesOn t p result u next =
-    MatchResult result (λ x. IsBehind t u × (left t p ≡ left u (next x)))
-    (λ e. TellsUnlessMemory (chars t.source.now) e (left t p))
+    MatchResult result (λ x. IsAfter t u × (left t p ≡ left u (next x)))
+    (λ e. ReportsUnlessMemory (chars t.source.now) e (left t p))

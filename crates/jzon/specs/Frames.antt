@@ -4,7 +4,7 @@ use Rattle.std.specs.List.{fold}
 use Rattle.jzon_tree.specs.Value as value
 use Rattle.jzon_tree.specs.View.{view, viewed}
 use Rattle.jzon.specs.Cursor.{next_byte}
-use Rattle.jzon.specs.Machine.{Frames, no_frames, array_frame, object_frame, Place, before, before_key, behind}
+use Rattle.jzon.specs.Machine.{Frames, no_frames, array_frame, object_frame, State, before, before_key, after_value}
 use Rattle.jzon_base.specs.Tokens.{end_array, end_object}
 use Rattle.jzon.specs.declared.cursor.Cursor.{Cursor}
 use Rattle.jzon.specs.declared.frames.ValueStart.{ValueStart}
@@ -22,10 +22,10 @@ abbrev pub stack_view : List Frame → Frames
 stack_view stack = fold open_in no_frames stack
 
 -- the state after what was read, inside the containers fs
-abbrev pub place_of : ValueStart → Frames → Place
-place_of (Value v) fs = behind fs (view v)
-place_of start_array fs = before (array_frame fs [])
-place_of start_object fs = before_key fs []
+abbrev pub state_of : ValueStart → Frames → State
+state_of (Value v) fs = after_value fs (view v)
+state_of start_array fs = before (array_frame fs [])
+state_of start_object fs = before_key fs []
 
 -- a container was opened
 abbrev pub is_open : ValueStart → Bool

@@ -1,6 +1,6 @@
 -- The automaton: maps the rest of a text to a value or a fault, one character at a time. A `Place` is its state: no
 -- tree and no whitespace, only the contents so far of the open containers, and the position within a token.
-use Rattle.std.specs.Prelude.{◌≡◌, ◌⊎◌, ℕ, zero, suc, ◌+◌, ◌-◌, ◌*◌, cond, List, [], ◌∷◌, ◌++◌, length, drop, Bool}
+use Rattle.std.specs.Prelude.{◌≡◌, ◌⊎◌, ℕ, zero, suc, ◌+◌, ◌-◌, ◌*◌, if◌then◌else◌, List, [], ◌∷◌, ◌++◌, length, drop, Bool}
 use Rattle.std.specs.Prelude.{true, false, ◌&&◌, ◌==◌, Option, Some, None, Result, Ok, Err, MatchResult, chars}
 use Rattle.std.specs.Prelude.{encode_utf8}
 use Rattle.std.specs.Char.{is_ascii_hexdigit, digit_value}
@@ -20,11 +20,11 @@ use Rattle.jzon.specs.Spelling.{Breach, deep, pair, digit, duplicate, breach_if,
 use Rattle.jzon.specs.Spelling.{deep_if}
 use Rattle.jzon.specs.Meaning.{number_of, unescaped, pair_char}
 use Rattle.jzon.specs.Fault.{Fault, limit, character, error_at}
-use Rattle.jzon.specs.Classes.{Class, whitespace, digits, dash, cross, point, letter_e, quote, opens_array}
+use Rattle.jzon.specs.Classes.{Class, whitespace, digits, minus_char, plus_char, point, letter_e, quote, opens_array}
 use Rattle.jzon.specs.Classes.{closes_array}
 use Rattle.jzon.specs.Classes.{opens_object, closes_object, comma, colon, begins_null, begins_true, begins_false}
-use Rattle.jzon.specs.Classes.{class_of, NumberPlace, signed, zero_read, whole, pointed, fraction, lettered}
-use Rattle.jzon.specs.Classes.{signed_exponent, exponent, begun}
+use Rattle.jzon.specs.Classes.{class_of, NumberState, after_minus, zero_read, whole, pointed, fraction, lettered}
+use Rattle.jzon.specs.Classes.{signed_exponent, exponent, after_first_digit}
 
 -- the entries of an object read so far
 abbrev pub Entries : Type 0
@@ -43,40 +43,40 @@ pub data Role : Type 0 where
 
 -- The state inside a string. A code unit that is being read is a number, with the count of digits missing after the
 -- next one.
-pub data TextPlace : Type 0 where
-  between : TextPlace
-  slash : TextPlace
-  code : ℕ → ℕ → TextPlace
-  second : ℕ → TextPlace
-  second_slash : ℕ → TextPlace
-  second_code : ℕ → ℕ → ℕ → TextPlace
+pub data StringState : Type 0 where
+  between : StringState
+  slash : StringState
+  code : ℕ → ℕ → StringState
+  second : ℕ → StringState
+  second_slash : ℕ → StringState
+  second_code : ℕ → ℕ → ℕ → StringState
 
-pub data Place : Type 0 where
-  before : Frames → Place
-  before_key : Frames → Entries → Place
-  word : Frames → Value → ℕ → List ℕ → Place
-  numeral : Frames → Bool → NumberPlace → Place
+pub data State : Type 0 where
+  before : Frames → State
+  before_key : Frames → Entries → State
+  word : Frames → Value → ℕ → List ℕ → State
+  numeral : Frames → Bool → NumberState → State
   -- with the bytes of the string so far
-  string : Role → List ℕ → TextPlace → Place
-  after_key : Frames → Entries → List ℕ → Place
-  behind : Frames → Value → Place
+  string : Role → List ℕ → StringState → State
+  after_key : Frames → Entries → List ℕ → State
+  after_value : Frames → Value → State
 
 -- whitespace is allowed there
-abbrev pub allows_whitespace : Place → Bool
+abbrev pub allows_whitespace : State → Bool
 allows_whitespace (before fs) = true
 allows_whitespace (before_key fs es) = true
 allows_whitespace (after_key fs es k) = true
-allows_whitespace (behind fs v) = true
+allows_whitespace (after_value fs v) = true
 allows_whitespace _ = false
 
 -- after the first digit of a number
-abbrev pub numeral_begun : Frames → Bool → ℕ → Place
-numeral_begun fs negative c = numeral fs negative (begun (c == zero_digit) c)
+abbrev pub numeral_after_first : Frames → Bool → ℕ → State
+numeral_after_first fs negative c = numeral fs negative (after_first_digit (c == zero_digit) c)
 
 -- The result of reading one character: a state and the breach at the character, if any; or no text goes on with the
 -- character, in the case of `bad_deep` where another one would open one container too many.
 pub data Move : Type 0 where
-  go : Option Breach → Place → Move
+  go : Option Breach → State → Move
   bad : Move
   bad_deep : Move
 
@@ -109,13 +109,13 @@ bad_at (Some b) = bad_deep
 -- ---- before and after values
 
 abbrev pub move_empty_array : Frames → Move
-move_empty_array (array_frame fs []) = go None (behind fs (value.array value.no_values))
+move_empty_array (array_frame fs []) = go None (after_value fs (value.array value.no_values))
 move_empty_array _ = bad
 
 abbrev pub move_before : Reading → Class → Frames → ℕ → Move
 move_before r whitespace fs c = go None (before fs)
-move_before r digits fs c = go (value_mark r fs) (numeral_begun fs false c)
-move_before r dash fs c = go (value_mark r fs) (numeral fs true signed)
+move_before r digits fs c = go (value_mark r fs) (numeral_after_first fs false c)
+move_before r minus_char fs c = go (value_mark r fs) (numeral fs true after_minus)
 move_before r quote fs c = go (value_mark r fs) (string (as_value fs) [] between)
 move_before r opens_array fs c = go (value_mark r fs) (before (array_frame fs []))
 move_before r opens_object fs c = go (value_mark r fs) (before_key fs [])
@@ -126,7 +126,7 @@ move_before r begins_false fs c = go (value_mark r fs) (word fs (value.boolean f
 move_before r _ fs c = bad_at (value_mark r fs)
 
 abbrev pub move_empty_object : Frames → Entries → Move
-move_empty_object fs [] = go None (behind fs (value.object value.no_pairs))
+move_empty_object fs [] = go None (after_value fs (value.object value.no_pairs))
 move_empty_object fs (e ∷ es) = bad
 
 abbrev pub move_before_key : Reading → Class → Frames → Entries → ℕ → Move
@@ -146,19 +146,19 @@ move_comma (array_frame fs vs) v = go None (before (array_frame fs (vs ++ v ∷ 
 move_comma (object_frame fs es k) v = go None (before_key fs (put k v es))
 
 abbrev pub move_close_array : Frames → Value → Move
-move_close_array (array_frame fs vs) v = go None (behind fs (value.array (values_of (vs ++ v ∷ []))))
+move_close_array (array_frame fs vs) v = go None (after_value fs (value.array (values_of (vs ++ v ∷ []))))
 move_close_array _ v = bad
 
 abbrev pub move_close_object : Frames → Value → Move
-move_close_object (object_frame fs es k) v = go None (behind fs (value.object (pairs_of (put k v es))))
+move_close_object (object_frame fs es k) v = go None (after_value fs (value.object (pairs_of (put k v es))))
 move_close_object _ v = bad
 
-abbrev pub move_behind : Class → Frames → Value → Move
-move_behind whitespace fs v = go None (behind fs v)
-move_behind comma fs v = move_comma fs v
-move_behind closes_array fs v = move_close_array fs v
-move_behind closes_object fs v = move_close_object fs v
-move_behind _ fs v = bad
+abbrev pub move_after_value : Class → Frames → Value → Move
+move_after_value whitespace fs v = go None (after_value fs v)
+move_after_value comma fs v = move_comma fs v
+move_after_value closes_array fs v = move_close_array fs v
+move_after_value closes_object fs v = move_close_object fs v
+move_after_value _ fs v = bad
 
 -- ---- numbers
 
@@ -172,15 +172,15 @@ exponent_of l s ds = Some (record { letter = l; sign = s; digits = ds })
 abbrev pub move_after_whole : Class → Frames → Bool → List ℕ → ℕ → Move
 move_after_whole point fs negative ws c = go None (numeral fs negative (pointed ws))
 move_after_whole letter_e fs negative ws c = go None (numeral fs negative (lettered ws [] c))
-move_after_whole class fs negative ws c = move_behind class fs (number_value negative ws [] None)
+move_after_whole class fs negative ws c = move_after_value class fs (number_value negative ws [] None)
 
 abbrev pub move_after_fraction : Class → Frames → Bool → List ℕ → List ℕ → ℕ → Move
 move_after_fraction letter_e fs negative ws ds c = go None (numeral fs negative (lettered ws ds c))
-move_after_fraction class fs negative ws ds c = move_behind class fs (number_value negative ws ds None)
+move_after_fraction class fs negative ws ds c = move_after_value class fs (number_value negative ws ds None)
 
-abbrev pub move_numeral : NumberPlace → Class → Frames → Bool → ℕ → Move
-move_numeral signed digits fs negative c = go None (numeral_begun fs true c)
-move_numeral signed _ fs negative c = bad
+abbrev pub move_numeral : NumberState → Class → Frames → Bool → ℕ → Move
+move_numeral after_minus digits fs negative c = go None (numeral_after_first fs true c)
+move_numeral after_minus _ fs negative c = bad
 move_numeral zero_read class fs negative c = move_after_whole class fs negative (zero_digit ∷ []) c
 move_numeral (whole ds) digits fs negative c =
     go (breach_if (drops_too_many (onto (c ∷ ds) [])) digit) (numeral fs negative (whole (c ∷ ds)))
@@ -193,14 +193,14 @@ move_numeral (fraction ws ds) digits fs negative c =
 move_numeral (fraction ws ds) class fs negative c = move_after_fraction class fs negative ws (onto ds []) c
 move_numeral (lettered ws ds l) digits fs negative c = go None
     (numeral fs negative (exponent ws ds l unsigned (c ∷ [])))
-move_numeral (lettered ws ds l) cross fs negative c = go None (numeral fs negative (signed_exponent ws ds l plus))
-move_numeral (lettered ws ds l) dash fs negative c = go None (numeral fs negative (signed_exponent ws ds l minus))
+move_numeral (lettered ws ds l) plus_char fs negative c = go None (numeral fs negative (signed_exponent ws ds l plus))
+move_numeral (lettered ws ds l) minus_char fs negative c = go None (numeral fs negative (signed_exponent ws ds l minus))
 move_numeral (lettered ws ds l) _ fs negative c = bad
 move_numeral (signed_exponent ws ds l s) digits fs negative c = go None
     (numeral fs negative (exponent ws ds l s (c ∷ [])))
 move_numeral (signed_exponent ws ds l s) _ fs negative c = bad
 move_numeral (exponent ws ds l s xs) digits fs negative c = go None (numeral fs negative (exponent ws ds l s (c ∷ xs)))
-move_numeral (exponent ws ds l s xs) class fs negative c = move_behind class fs
+move_numeral (exponent ws ds l s xs) class fs negative c = move_after_value class fs
     (number_value negative ws ds (exponent_of l s (onto xs [])))
 
 -- ---- strings
@@ -211,63 +211,63 @@ repeated_if r es k back = breach_if (r.strict && is_some (find k es)) (duplicate
 
 -- after the closing quote
 abbrev pub closed_string : Reading → Role → List ℕ → ℕ → Move
-closed_string r (as_value fs) bs left = go None (behind fs (value.text (kind_of bs) bs))
+closed_string r (as_value fs) bs left = go None (after_value fs (value.text (kind_of bs) bs))
 closed_string r (as_key fs es opened) bs left = go (repeated_if r es bs (opened - left)) (after_key fs es bs)
 
 abbrev pub move_between : Reading → Role → List ℕ → ℕ → ℕ → Move
 move_between r role bs c left =
-    cond (c == quotation_mark) (closed_string r role bs left)
-    (cond (c == escape) (go None (string role bs slash))
-    (cond (is_unescaped c) (go None (string role (bs ++ encode_utf8 c) between)) bad))
+    if c == quotation_mark then closed_string r role bs left
+    else (if c == escape then go None (string role bs slash)
+    else (if is_unescaped c then go None (string role (bs ++ encode_utf8 c) between) else bad))
 
 abbrev pub move_slash : Role → List ℕ → ℕ → Move
 move_slash role bs c =
-    cond (c == 117) (go None (string role bs (code 3 0)))
-    (cond (is_simple c) (go None (string role (bs ++ encode_utf8 (unescaped c)) between)) bad)
+    if c == 117 then go None (string role bs (code 3 0))
+    else (if is_simple c then go None (string role (bs ++ encode_utf8 (unescaped c)) between) else bad)
 
 -- appends one hexadecimal digit
 abbrev pub add_hex : ℕ → ℕ → ℕ
 add_hex u c = u * 16 + digit_value c
 
-abbrev pub coded : Bool → Role → List ℕ → ℕ → Place
-coded true role bs u = string role bs (second u)
-coded false role bs u = string role (bs ++ encode_utf8 u) between
+abbrev pub after_unit : Bool → Role → List ℕ → ℕ → State
+after_unit true role bs u = string role bs (second u)
+after_unit false role bs u = string role (bs ++ encode_utf8 u) between
 
 abbrev pub move_code : Role → List ℕ → ℕ → ℕ → ℕ → Move
-move_code role bs zero u c = go None (coded (is_surrogate (add_hex u c)) role bs (add_hex u c))
+move_code role bs zero u c = go None (after_unit (is_surrogate (add_hex u c)) role bs (add_hex u c))
 move_code role bs (suc n) u c = go None (string role bs (code n (add_hex u c)))
 
-abbrev pub paired : Bool → Role → List ℕ → ℕ → ℕ → Move
-paired true role bs u v = go None (string role (bs ++ encode_utf8 (pair_char u v)) between)
-paired false role bs u v = go (Some pair) (string role bs between)
+abbrev pub move_pair : Bool → Role → List ℕ → ℕ → ℕ → Move
+move_pair true role bs u v = go None (string role (bs ++ encode_utf8 (pair_char u v)) between)
+move_pair false role bs u v = go (Some pair) (string role bs between)
 
 abbrev pub move_second_code : Role → List ℕ → ℕ → ℕ → ℕ → ℕ → Move
-move_second_code role bs u zero v c = paired (is_high u && is_low (add_hex v c)) role bs u (add_hex v c)
+move_second_code role bs u zero v c = move_pair (is_high u && is_low (add_hex v c)) role bs u (add_hex v c)
 move_second_code role bs u (suc n) v c = go None (string role bs (second_code u n (add_hex v c)))
 
-abbrev pub move_string : Reading → TextPlace → Role → List ℕ → ℕ → ℕ → Move
+abbrev pub move_string : Reading → StringState → Role → List ℕ → ℕ → ℕ → Move
 move_string r between role bs c left = move_between r role bs c left
 move_string r slash role bs c left = move_slash role bs c
-move_string r (code n u) role bs c left = cond (is_ascii_hexdigit c) (move_code role bs n u c) bad
-move_string r (second u) role bs c left = cond (c == escape) (go None (string role bs (second_slash u))) bad
-move_string r (second_slash u) role bs c left = cond (c == 117) (go None (string role bs (second_code u 3 0))) bad
-move_string r (second_code u n v) role bs c left = cond (is_ascii_hexdigit c) (move_second_code role bs u n v c) bad
+move_string r (code n u) role bs c left = if is_ascii_hexdigit c then move_code role bs n u c else bad
+move_string r (second u) role bs c left = if c == escape then go None (string role bs (second_slash u)) else bad
+move_string r (second_slash u) role bs c left = if c == 117 then go None (string role bs (second_code u 3 0)) else bad
+move_string r (second_code u n v) role bs c left = if is_ascii_hexdigit c then move_second_code role bs u n v c else bad
 
 -- ---- the automaton
 
-abbrev pub past_letter : Frames → Value → List ℕ → Place
-past_letter fs v [] = behind fs v
+abbrev pub past_letter : Frames → Value → List ℕ → State
+past_letter fs v [] = after_value fs v
 past_letter fs v (l ∷ ls) = word fs v l ls
 
 -- reads the character c, with `left` characters left, c among them
-abbrev pub move : Reading → Place → ℕ → ℕ → Move
+abbrev pub move : Reading → State → ℕ → ℕ → Move
 move r (before fs) c left = move_before r (class_of r.strict c) fs c
 move r (before_key fs es) c left = move_before_key r (class_of r.strict c) fs es left
-move r (word fs v l ls) c left = cond (c == l) (go None (past_letter fs v ls)) bad
+move r (word fs v l ls) c left = if c == l then go None (past_letter fs v ls) else bad
 move r (numeral fs negative x) c left = move_numeral x (class_of r.strict c) fs negative c
 move r (string role bs x) c left = move_string r x role bs c left
 move r (after_key fs es k) c left = move_after_key (class_of r.strict c) fs es k
-move r (behind fs v) c left = move_behind (class_of r.strict c) fs v
+move r (after_value fs v) c left = move_after_value (class_of r.strict c) fs v
 
 -- the outcome of a text: a value, or a fault with the rest of the text from the faulty character on
 pub data Outcome : Type 0 where
@@ -278,7 +278,7 @@ abbrev pub meant_at : Frames → Value → Outcome
 meant_at no_frames v = meant v
 meant_at _ v = refused Fault.end []
 
-abbrev pub last_numeral : NumberPlace → Frames → Bool → Outcome
+abbrev pub last_numeral : NumberState → Frames → Bool → Outcome
 last_numeral zero_read fs negative = meant_at fs (number_value negative (zero_digit ∷ []) [] None)
 last_numeral (whole ds) fs negative = meant_at fs (number_value negative (onto ds []) [] None)
 last_numeral (fraction ws ds) fs negative = meant_at fs (number_value negative ws (onto ds []) None)
@@ -287,24 +287,24 @@ last_numeral (exponent ws ds l s xs) fs negative = meant_at fs
 last_numeral _ fs negative = refused Fault.end []
 
 -- the outcome at the end of the text
-abbrev pub last : Place → Outcome
+abbrev pub last : State → Outcome
 last (numeral fs negative x) = last_numeral x fs negative
-last (behind fs v) = meant_at fs v
+last (after_value fs v) = meant_at fs v
 last _ = refused Fault.end []
 
-abbrev pub outcome_on : Move → (Place → Outcome) → List ℕ → Outcome
+abbrev pub outcome_on : Move → (State → Outcome) → List ℕ → Outcome
 outcome_on (go None p) f rest = f p
 outcome_on (go (Some b) p) f rest = refused (limit b) rest
 outcome_on bad f rest = refused character rest
 outcome_on bad_deep f rest = refused (limit deep) rest
 
 -- the outcome of the rest of a text from this state
-abbrev pub outcome : Reading → List ℕ → Place → Outcome
+abbrev pub outcome : Reading → List ℕ → State → Outcome
 outcome r [] p = last p
 outcome r (c ∷ cs) p = outcome_on (move r p c (length (c ∷ cs))) (λ p'. outcome r cs p') (c ∷ cs)
 
 -- the same for the rest of a text from byte i on
-unfoldable pub from : Reading → List ℕ → Place → ℕ → Outcome
+unfoldable pub from : Reading → List ℕ → State → ℕ → Outcome
 from r bytes p i = outcome r (chars (drop i bytes)) p
 
 -- the number of characters left from a byte on
@@ -317,32 +317,32 @@ from_closed r bytes role text i =
     outcome_on (closed_string r role text (left_at bytes (i - 1))) (λ p. from r bytes p i) (chars (drop (i - 1) bytes))
 
 -- the outcome of the rest of a text that can't go on
-abbrev pub stopped : List ℕ → Outcome
-stopped [] = refused Fault.end []
-stopped (c ∷ cs) = refused character (c ∷ cs)
+abbrev pub fault_here : List ℕ → Outcome
+fault_here [] = refused Fault.end []
+fault_here (c ∷ cs) = refused character (c ∷ cs)
 
 -- the error reports this outcome of a text
-abbrev pub Tells : List ℕ → Error → Outcome → Type 0
-Tells t e (meant v) = ⊥
-Tells t e (refused f rest) = e ≡ error_at t (length t - length rest) f
+abbrev pub Reports : List ℕ → Error → Outcome → Type 0
+Reports t e (meant v) = ⊥
+Reports t e (refused f rest) = e ≡ error_at t (length t - length rest) f
 
 -- the error reports this outcome of a text, or an allocation failed
-abbrev pub TellsUnlessMemory : List ℕ → Error → Outcome → Type 0
-TellsUnlessMemory t e o = (e ≡ OutOfMemory) ⊎ Tells t e o
+abbrev pub ReportsUnlessMemory : List ℕ → Error → Outcome → Type 0
+ReportsUnlessMemory t e o = (e ≡ OutOfMemory) ⊎ Reports t e o
 
 -- The outcome from byte i on in this state is the outcome after what was read, or the error reports it.
-abbrev pub Leads : {A : Type 0} → Reading → List ℕ → Place → ℕ → Result (A × ℕ) Error → (A → Place) → Type 0
+abbrev pub Leads : {A : Type 0} → Reading → List ℕ → State → ℕ → Result (A × ℕ) Error → (A → State) → Type 0
 Leads r bytes p i result next =
     MatchResult result (λ x. from r bytes p i ≡ from r bytes (next x.0) x.1)
-    (λ e. Tells (chars bytes) e (from r bytes p i))
+    (λ e. Reports (chars bytes) e (from r bytes p i))
 
 -- the same, or an allocation failed
-abbrev pub LeadsUnlessMemory : {A : Type 0} → Reading → List ℕ → Place → ℕ → Result (A × ℕ) Error → (A → Place) → Type 0
+abbrev pub LeadsUnlessMemory : {A : Type 0} → Reading → List ℕ → State → ℕ → Result (A × ℕ) Error → (A → State) → Type 0
 LeadsUnlessMemory r bytes p i result next =
     MatchResult result (λ x. from r bytes p i ≡ from r bytes (next x.0) x.1)
-    (λ e. TellsUnlessMemory (chars bytes) e (from r bytes p i))
+    (λ e. ReportsUnlessMemory (chars bytes) e (from r bytes p i))
 
 -- the result agrees with this outcome of a text, unless an allocation failed
 abbrev pub Reads : List ℕ → Result JsonValue Error → Outcome → Type 0
 Reads t (Ok v) o = o ≡ meant (view v)
-Reads t (Err e) o = TellsUnlessMemory t e o
+Reads t (Err e) o = ReportsUnlessMemory t e o

@@ -7,7 +7,7 @@ ghost use Rattle.jzon_tree.specs.Value.{Value};
 ghost use Rattle.jzon_tree.specs.Writing.{is_whitespace};
 ghost use Rattle.jzon.specs.Brackets.{opener, closer, empty_container, innermost_bracket};
 ghost use Rattle.jzon.specs.Brackets.{after_opener, after_comma, after_closer};
-ghost use Rattle.jzon.specs.Machine.{Frames, frames_depth, value_mark, before, behind, stopped, Tells};
+ghost use Rattle.jzon.specs.Machine.{Frames, frames_depth, value_mark, before, after_value, fault_here, Reports};
 ghost use Rattle.jzon_base.specs.Tokens.{begin_array, begin_object};
 
 use crate::fault::fault_at;
@@ -101,7 +101,7 @@ impl<'a> Cursor<'a> {
 
     /// The error of a text that has no valid continuation from here.
     pub(crate) fn fault(&self) -> Error
-        ensures { Tells (chars self.now.source.now) result (stopped (chars (drop self.now.index self.now.source.now))) }
+        ensures { Reports (chars self.now.source.now) result (fault_here (chars (drop self.now.index self.now.source.now))) }
     {
         fault_at(self.source, self.index)
     }
@@ -118,7 +118,7 @@ impl<'a> Cursor<'a> {
             × (next_byte self.new ≢ closer bracket)) }
         ensures outcome { (fs : Frames) → value_mark self.old.reading fs ≡ None → frames_depth fs ≡ depth →
             GoesOn self.old (before fs) result self.new
-            (λ is_empty. if is_empty then behind fs (empty_container bracket) else after_opener bracket fs) }
+            (λ is_empty. if is_empty then after_value fs (empty_container bracket) else after_opener bracket fs) }
     {
         self.bump();
         let first = self.peek();
@@ -139,7 +139,7 @@ impl<'a> Cursor<'a> {
     #[inline(always)]
     pub(crate) fn container_ends(&mut self, bracket: Bracket) -> Result<bool>
         ensures { (fs : Frames) (v : Value) → innermost_bracket fs ≡ Some bracket →
-            GoesOn self.old (behind fs v) result self.new
+            GoesOn self.old (after_value fs v) result self.new
             (λ ends. if ends then after_closer fs v else after_comma fs v) }
     {
         let next = self.peek();

@@ -4,7 +4,7 @@ ghost use Rattle.std.specs.Prelude.{◌≡◌, ◌+◌, length, take, drop, char
 ghost use Rattle.std.specs.Str.{IsCharBoundary};
 ghost use Rattle.jzon_base.specs.declared.error.Error.TheVariants.{DuplicateKey};
 ghost use Rattle.jzon.specs.Fault.{line, column};
-ghost use Rattle.jzon.specs.Machine.{Tells, stopped};
+ghost use Rattle.jzon.specs.Machine.{Reports, fault_here};
 
 use jzon_base::error::Error;
 
@@ -47,7 +47,7 @@ pub(crate) fn duplicate_at(source: &str, start: usize) -> Error
 /// The error of a text that has no valid continuation at `index`: `UnexpectedEndOfJson` at its end, else `UnexpectedCharacter`.
 pub(crate) fn fault_at(source: &str, index: usize) -> Error
     requires { IsCharBoundary source.now index }
-    ensures { Tells (chars source.now) result (stopped (chars (drop index source.now))) }
+    ensures { Reports (chars source.now) result (fault_here (chars (drop index source.now))) }
 {
     match source[index..].chars().next() {
         None => Error::UnexpectedEndOfJson,

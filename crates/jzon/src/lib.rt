@@ -11,8 +11,8 @@ mod macros;
 mod numeral;
 mod parser;
 mod peek;
+mod primitive;
 mod reading;
-mod scalar;
 mod string;
 mod whitespace;
 

@@ -15,7 +15,7 @@ ghost use Rattle.jzon.specs.Reading.{Reading};
 ghost use Rattle.jzon.specs.Grammar.{is_exponent_letter};
 ghost use Rattle.jzon.specs.Classes.{lettered};
 ghost use Rattle.jzon_base.specs.Tokens.{zero_digit};
-ghost use Rattle.jzon.specs.Machine.{Frames, numeral, numeral_begun, behind, from, stopped, Tells, Leads};
+ghost use Rattle.jzon.specs.Machine.{Frames, numeral, numeral_after_first, after_value, from, fault_here, Reports, Leads};
 
 use crate::fault::fault_at;
 use crate::peek::has_byte;
@@ -30,8 +30,8 @@ pub(crate) fn read_number(source: &str, start: usize, negative: bool) -> Result<
     requires digit { IsTrue (is_ascii_digit (slice_index source.now start)) }
     ensures end { IfOk result (λ r. (start < r.1) × (r.1 ≤ length source.now) × IsCharBoundary source.now r.1) }
     ensures outcome { (r : Reading) (fs : Frames) →
-        Leads r source.now (numeral_begun fs negative (slice_index source.now start)) (start + 1) result
-        (λ v. behind fs (number v)) }
+        Leads r source.now (numeral_after_first fs negative (slice_index source.now start)) (start + 1) result
+        (λ v. after_value fs (number v)) }
 {
     let spelling = spelling_at(source, start);
     let number = read_scanned(
@@ -76,23 +76,23 @@ fn spelling_at(source: &str, start: usize) -> Spelling<'_>
     ensures end { (start < result.end) × (result.end ≤ length source.now) × IsCharBoundary source.now result.end }
     ensures number { AreFewEnough result.whole.now result.fraction.now → result.is_missing ≡ false
         → (r : Reading) (fs : Frames) (negative : Bool)
-        → from r source.now (numeral_begun fs negative (slice_index source.now start)) (start + 1)
-        ≡ from r source.now (behind fs (number (read_number (not negative) result.whole.now result.fraction.now
+        → from r source.now (numeral_after_first fs negative (slice_index source.now start)) (start + 1)
+        ≡ from r source.now (after_value fs (number (read_number (not negative) result.whole.now result.fraction.now
         (signed result.positive_exponent (digits_number result.exponent.now))))) result.end }
     ensures missing { AreFewEnough result.whole.now result.fraction.now → result.is_missing ≡ true
         → (r : Reading) (fs : Frames) (negative : Bool)
-        → from r source.now (numeral_begun fs negative (slice_index source.now start)) (start + 1)
-        ≡ stopped (chars (drop result.end source.now)) }
+        → from r source.now (numeral_after_first fs negative (slice_index source.now start)) (start + 1)
+        ≡ fault_here (chars (drop result.end source.now)) }
     ensures too_many { (f : DigitFault) → IsFirstTooMany result.whole.now result.fraction.now f
         → (r : Reading) (fs : Frames) (negative : Bool)
-        → Tells (chars source.now) ExceededDepthLimit
-        (from r source.now (numeral_begun fs negative (slice_index source.now start)) (start + 1)) }
+        → Reports (chars source.now) ExceededDepthLimit
+        (from r source.now (numeral_after_first fs negative (slice_index source.now start)) (start + 1)) }
 {
     let magnitude = magnitude_at(source, start);
     if magnitude.is_missing || !has_exponent_letter(source, magnitude.end) {
         return magnitude;
     }
-    let exponent = exponent_behind(source, magnitude.end + 1);
+    let exponent = exponent_after(source, magnitude.end + 1);
     Spelling {
         whole: magnitude.whole,
         fraction: magnitude.fraction,
@@ -114,23 +114,23 @@ fn magnitude_at(source: &str, start: usize) -> Spelling<'_>
     ensures letter { AreFewEnough result.whole.now result.fraction.now → result.is_missing ≡ false
         → (r : Reading) (fs : Frames) (negative : Bool)
         → result.end < length source.now → IsTrue (is_exponent_letter (slice_index source.now result.end))
-        → from r source.now (numeral_begun fs negative (slice_index source.now start)) (start + 1)
+        → from r source.now (numeral_after_first fs negative (slice_index source.now start)) (start + 1)
         ≡ from r source.now (numeral fs negative (lettered result.whole.now result.fraction.now
         (slice_index source.now result.end))) (result.end + 1) }
     ensures number { AreFewEnough result.whole.now result.fraction.now → result.is_missing ≡ false
         → (r : Reading) (fs : Frames) (negative : Bool)
         → (result.end < length source.now → is_exponent_letter (slice_index source.now result.end) ≡ false)
-        → from r source.now (numeral_begun fs negative (slice_index source.now start)) (start + 1)
-        ≡ from r source.now (behind fs (number (read_number (not negative) result.whole.now result.fraction.now
+        → from r source.now (numeral_after_first fs negative (slice_index source.now start)) (start + 1)
+        ≡ from r source.now (after_value fs (number (read_number (not negative) result.whole.now result.fraction.now
         (pos 0)))) result.end }
     ensures missing { AreFewEnough result.whole.now result.fraction.now → result.is_missing ≡ true
         → (r : Reading) (fs : Frames) (negative : Bool)
-        → from r source.now (numeral_begun fs negative (slice_index source.now start)) (start + 1)
-        ≡ stopped (chars (drop result.end source.now)) }
+        → from r source.now (numeral_after_first fs negative (slice_index source.now start)) (start + 1)
+        ≡ fault_here (chars (drop result.end source.now)) }
     ensures too_many { (f : DigitFault) → IsFirstTooMany result.whole.now result.fraction.now f
         → (r : Reading) (fs : Frames) (negative : Bool)
-        → Tells (chars source.now) ExceededDepthLimit
-        (from r source.now (numeral_begun fs negative (slice_index source.now start)) (start + 1)) }
+        → Reports (chars source.now) ExceededDepthLimit
+        (from r source.now (numeral_after_first fs negative (slice_index source.now start)) (start + 1)) }
 {
     let (whole, before) = whole_at(source, start);
     let end = start + whole.len();
@@ -195,19 +195,19 @@ struct Exponent<'a> {
 /// The exponent whose letter is before `start`.
 #[cold]
 #[inline(never)]
-fn exponent_behind(source: &str, start: usize) -> Exponent<'_>
+fn exponent_after(source: &str, start: usize) -> Exponent<'_>
     requires { IsCharBoundary source.now start }
     ensures end { (start ≤ result.end) × (result.end ≤ length source.now) × IsCharBoundary source.now result.end }
     ensures digits { All IsDigit result.digits.now }
     ensures number { 0 < length result.digits.now → (r : Reading) (fs : Frames) (negative : Bool) (ws ds : List ℕ)
         (l : ℕ)
         → from r source.now (numeral fs negative (lettered ws ds l)) start
-        ≡ from r source.now (behind fs (number (read_number (not negative) ws ds
+        ≡ from r source.now (after_value fs (number (read_number (not negative) ws ds
         (signed result.is_positive (digits_number result.digits.now))))) result.end }
     ensures missing { length result.digits.now ≡ 0 → (r : Reading) (fs : Frames) (negative : Bool) (ws ds : List ℕ)
         (l : ℕ)
         → from r source.now (numeral fs negative (lettered ws ds l)) start
-        ≡ stopped (chars (drop result.end source.now)) }
+        ≡ fault_here (chars (drop result.end source.now)) }
 {
     if has_byte(source, start, b'-') {
         return exponent_at(source, start + 1, false);

@@ -9,9 +9,9 @@ ghost use Rattle.jzon_tree.specs.View.{view, viewed};
 ghost use Rattle.jzon.specs.Brackets.{innermost_bracket, after_comma, after_closer};
 ghost use Rattle.jzon.specs.Answer.{IsMeaningOf, IsReadable, IsErrorUnlessMemory, TakesMemory};
 ghost use Rattle.jzon.specs.Cursor.{left, next_byte, GoesOn, IsPast};
-ghost use Rattle.jzon.specs.Frames.{open_in, stack_view, place_of, is_open, IsReady, IsWholeValue};
+ghost use Rattle.jzon.specs.Frames.{open_in, stack_view, state_of, is_open, IsReady, IsWholeValue};
 ghost use Rattle.jzon.specs.Machine.{Frames, no_frames, array_frame, object_frame, frames_depth, is_fresh, before};
-ghost use Rattle.jzon.specs.Machine.{before_key, behind, key_mark, from, Reads};
+ghost use Rattle.jzon.specs.Machine.{before_key, after_value, key_mark, from, Reads};
 ghost use Rattle.jzon.specs.Reading.{usual};
 ghost use Rattle.jzon_base.specs.Tokens.{end_array, end_object};
 
@@ -19,8 +19,8 @@ use crate::cursor::{Bracket, Cursor, opens_container};
 use crate::fault::duplicate_at;
 use crate::frames::{Frame, ValueStart};
 use crate::hints::Hints;
+use crate::primitive::read_primitive;
 use crate::reading::{Reading, USUAL};
-use crate::scalar::read_scalar;
 use crate::string::read_string;
 use jzon_base::error::{Error, Result};
 use jzon_base::key::Key;
@@ -98,7 +98,7 @@ impl<'a> Parser<'a> {
         ensures opened { IfOk result (λ b. is_open b ≡ true → TakesMemory (chars self.old.cursor.source.now)) }
         ensures outcome { (fs : Frames) → frames_depth fs ≡ depth
             → (is_fresh fs ≡ true → next_byte self.old.cursor ≢ end_array) →
-            GoesOn self.old.cursor (before fs) result self.new.cursor (λ b. place_of b fs) }
+            GoesOn self.old.cursor (before fs) result self.new.cursor (λ b. state_of b fs) }
     {
         let first = self.cursor.peek();
         match first {
@@ -117,7 +117,13 @@ impl<'a> Parser<'a> {
             _ => {
                 let source = self.cursor.source;
                 let start = self.cursor.index;
-                let (value, end) = read_scalar(self.alloc, source, start, first, &mut self.buffer)?;
+                let (value, end) = read_primitive(
+                    self.alloc,
+                    source,
+                    start,
+                    first,
+                    &mut self.buffer,
+                )?;
                 self.cursor.go_to(end);
                 Ok(ValueStart::Value(value))
             }
@@ -128,7 +134,7 @@ impl<'a> Parser<'a> {
     fn expect_end(&self, value: JsonValue) -> Result<JsonValue>
         ensures memory { result ≢ Err Error.OutOfMemory }
         ensures outcome { Reads (chars self.now.cursor.source.now) result
-            (left self.now.cursor (behind no_frames (view value))) }
+            (left self.now.cursor (after_value no_frames (view value))) }
     {
         if self.cursor.index < self.cursor.source.len() {
             return Err(self.cursor.fault());
@@ -140,7 +146,7 @@ impl<'a> Parser<'a> {
     fn read_to_end(&mut self, value_start: ValueStart) -> Result<JsonValue>
         requires outmost { self.old.stack.items ≡ [] }
         requires ready { IsReady self.old.cursor 0 value_start }
-        ensures { Reads (chars self.old.cursor.source.now) result (left self.old.cursor (place_of value_start no_frames)) }
+        ensures { Reads (chars self.old.cursor.source.now) result (left self.old.cursor (state_of value_start no_frames)) }
     {
         let mut value_start = value_start;
         loop {
@@ -162,9 +168,9 @@ impl<'a> Parser<'a> {
     fn read_after_item(&mut self, frame: Frame, item: JsonValue) -> Result<ValueStart>
         requires room { vec_len self.old.stack < self.old.cursor.reading.depth }
         ensures ready { IfOk result (IsReady self.new.cursor (vec_len self.new.stack)) }
-        ensures outcome { GoesOn self.old.cursor (behind (open_in (stack_view self.old.stack.items) frame) (view item))
+        ensures outcome { GoesOn self.old.cursor (after_value (open_in (stack_view self.old.stack.items) frame) (view item))
             result self.new.cursor
-            (λ b. place_of b (stack_view self.new.stack.items)) }
+            (λ b. state_of b (stack_view self.new.stack.items)) }
     {
         match frame {
             Frame::Array(mut elements) => {
@@ -192,7 +198,7 @@ impl<'a> Parser<'a> {
         ensures ready { IfOk result (IsReady self.new.cursor (vec_len self.new.stack)) }
         ensures outcome { GoesOn self.old.cursor (before (array_frame (stack_view self.old.stack.items) []))
             result self.new.cursor
-            (λ b. place_of b (stack_view self.new.stack.items)) }
+            (λ b. state_of b (stack_view self.new.stack.items)) }
     {
         let depth = self.stack.len();
         let elements = room_for_elements(self.alloc, &self.cursor, &mut self.array_hints, depth)?;
@@ -206,7 +212,7 @@ impl<'a> Parser<'a> {
         ensures ready { IfOk result (IsReady self.new.cursor (vec_len self.new.stack)) }
         ensures outcome { GoesOn self.old.cursor (before (array_frame (stack_view self.old.stack.items)
             (map view elements.items))) result self.new.cursor
-            (λ b. place_of b (stack_view self.new.stack.items)) }
+            (λ b. state_of b (stack_view self.new.stack.items)) }
     {
         let mut elements = elements;
         loop {
@@ -237,7 +243,13 @@ impl<'a> Parser<'a> {
                 // Not by `read_start`: each call that returns a value moves it.
                 let source = self.cursor.source;
                 let start = self.cursor.index;
-                let (value, end) = read_scalar(self.alloc, source, start, first, &mut self.buffer)?;
+                let (value, end) = read_primitive(
+                    self.alloc,
+                    source,
+                    start,
+                    first,
+                    &mut self.buffer,
+                )?;
                 self.cursor.go_to(end);
                 elements.push(value)?;
             }
@@ -254,7 +266,7 @@ impl<'a> Parser<'a> {
         ensures ready { IfOk result (IsReady self.new.cursor (vec_len self.new.stack)) }
         ensures outcome { GoesOn self.old.cursor (before_key (stack_view self.old.stack.items) (viewed entries))
             result self.new.cursor
-            (λ b. place_of b (stack_view self.new.stack.items)) }
+            (λ b. state_of b (stack_view self.new.stack.items)) }
     {
         let mut entries = entries;
         loop {
@@ -282,7 +294,7 @@ impl<'a> Parser<'a> {
         ensures items { elements.new.items ≡ elements.old.items }
         ensures stack { OnOk result (self.new.stack ≡ self.old.stack) }
         ensures outcome { (fs : Frames) (v : Value) → innermost_bracket fs ≡ Some Bracket.Array →
-            GoesOn self.old.cursor (behind fs v) result self.new.cursor
+            GoesOn self.old.cursor (after_value fs v) result self.new.cursor
             (λ ends. if ends then after_closer fs v else after_comma fs v) }
     {
         if self.cursor.container_ends(Bracket::Array)? {

@@ -7,14 +7,15 @@ ghost use Rattle.std.specs.Char.{is_ascii_hexdigit, digit_value};
 ghost use Rattle.std.specs.Str.{IsCharBoundary};
 ghost use Rattle.jzon_base.specs.declared.error.Error.TheVariants.{OutOfMemory};
 ghost use Rattle.jzon_base.specs.PlainBytes.{is_plain};
+ghost use Rattle.jzon_base.specs.Tokens.{escape};
 ghost use Rattle.jzon_tree.specs.Value.{text, kind_of};
 ghost use Rattle.jzon_tree.specs.View.{view};
 ghost use Rattle.jzon.specs.Reading.{Reading};
 ghost use Rattle.jzon.specs.Grammar.{is_simple, is_high, is_low, is_surrogate, code_unit};
 ghost use Rattle.jzon.specs.Meaning.{unescaped, pair_char};
 ghost use Rattle.jzon.specs.Quote.{EndsAtQuote};
-ghost use Rattle.jzon.specs.Machine.{Role, string, between, slash, code, second, second_code, coded, paired};
-ghost use Rattle.jzon.specs.Machine.{outcome_on, from, from_closed, Tells};
+ghost use Rattle.jzon.specs.Machine.{Role, string, between, slash, code, second, second_code, after_unit, move_pair};
+ghost use Rattle.jzon.specs.Machine.{outcome_on, from, from_closed, Reports};
 
 use crate::fault::fault_at;
 use crate::peek::has_byte;
@@ -70,13 +71,13 @@ pub(crate) fn text_value(alloc: Global, content: &str) -> Result<JsonValue>
 pub(crate) fn read_string(source: &str, start: usize, buffer: &mut String) -> Result<Spelled>
     requires { IsCharBoundary source.now start }
     ensures quote { IfOk result (λ s. EndsAtQuote source.now start s.end) }
-    ensures escaped { IfOk result (λ s. IsTrue s.is_escaped ↔ Contains (slice_range source.now start (s.end - 1)) 92) }
+    ensures escaped { IfOk result (λ s. IsTrue s.is_escaped ↔ Contains (slice_range source.now start (s.end - 1)) escape) }
     ensures untouched { IfOk result (λ s. s.is_escaped ≡ false → string_bytes buffer.new ≡ string_bytes buffer.old) }
     ensures outcome { (r : Reading) (role : Role) → MatchResult result
         (λ s. from r source.now (string role [] between) start
         ≡ from_closed r source.now role (if s.is_escaped then string_bytes buffer.new else slice_range source.now start
         (s.end - 1)) s.end)
-        (λ e. (e ≡ OutOfMemory) ⊎ Tells (chars source.now) e (from r source.now (string role [] between) start)) }
+        (λ e. (e ≡ OutOfMemory) ⊎ Reports (chars source.now) e (from r source.now (string role [] between) start)) }
 {
     let stop = plain_end(source, start);
     if !has_byte(source, stop, b'\\') {
@@ -101,7 +102,7 @@ fn plain_end(source: &str, start: usize) -> usize
     ensures within { start ≤ result }
     ensures boundary { IsCharBoundary source.now result }
     ensures stop { result < length source.now → is_plain (slice_index source.now result) ≡ false }
-    ensures no_escape { ¬ (Contains (slice_range source.now start result) 92) }
+    ensures no_escape { ¬ (Contains (slice_range source.now start result) escape) }
     ensures outcome { (r : Reading) (role : Role) (bs : List ℕ) → from r source.now (string role bs between) start
         ≡ from r source.now (string role (bs ++ slice_range source.now start result) between) result }
 {
@@ -112,11 +113,11 @@ fn plain_end(source: &str, start: usize) -> usize
 fn past_quote(source: &str, index: usize) -> Result<usize>
     requires boundary { IsCharBoundary source.now index }
     requires stop { index < length source.now → is_plain (slice_index source.now index) ≡ false }
-    requires no_escape { index < length source.now → slice_index source.now index ≡ 92 → ⊥ }
+    requires no_escape { index < length source.now → slice_index source.now index ≡ escape → ⊥ }
     ensures quote { IfOk result (λ end. (end ≡ index + 1) × EndsAtQuote source.now index end) }
     ensures outcome { (r : Reading) (role : Role) (bs : List ℕ) → MatchResult result
         (λ end. from r source.now (string role bs between) index ≡ from_closed r source.now role bs end)
-        (λ e. Tells (chars source.now) e (from r source.now (string role bs between) index)) }
+        (λ e. Reports (chars source.now) e (from r source.now (string role bs between) index)) }
 {
     if has_byte(source, index, b'"') {
         Ok(index + 1)
@@ -134,7 +135,7 @@ fn read_escapes(source: &str, start: usize, buffer: &mut String) -> Result<usize
     ensures outcome { (r : Reading) (role : Role) → MatchResult result
         (λ end. from r source.now (string role (string_bytes buffer.old) between) start
         ≡ from_closed r source.now role (string_bytes buffer.new) end)
-        (λ e. (e ≡ OutOfMemory) ⊎ Tells (chars source.now) e
+        (λ e. (e ≡ OutOfMemory) ⊎ Reports (chars source.now) e
         (from r source.now (string role (string_bytes buffer.old) between) start)) }
 {
     let mut index = start;
@@ -174,7 +175,7 @@ fn read_escape(source: &str, start: usize) -> Result<(char, usize)>
     ensures outcome { (r : Reading) (role : Role) (bs : List ℕ) → MatchResult result
         (λ x. from r source.now (string role bs slash) start
         ≡ from r source.now (string role (bs ++ encode_utf8 x.0) between) x.1)
-        (λ e. Tells (chars source.now) e (from r source.now (string role bs slash) start)) }
+        (λ e. Reports (chars source.now) e (from r source.now (string role bs slash) start)) }
 {
     if has_byte(source, start, b'u') {
         return read_unicode(source, start + 1);
@@ -236,7 +237,7 @@ fn read_unicode(source: &str, start: usize) -> Result<(char, usize)>
     ensures outcome { (r : Reading) (role : Role) (bs : List ℕ) → MatchResult result
         (λ x. from r source.now (string role bs (code 3 0)) start
         ≡ from r source.now (string role (bs ++ encode_utf8 x.0) between) x.1)
-        (λ e. Tells (chars source.now) e (from r source.now (string role bs (code 3 0)) start)) }
+        (λ e. Reports (chars source.now) e (from r source.now (string role bs (code 3 0)) start)) }
 {
     let unit = read_hex(source, start)?;
     match char::from_u32(unit) {
@@ -252,7 +253,7 @@ fn read_second(source: &str, start: usize, first: u32) -> Result<(char, usize)>
     ensures outcome { (r : Reading) (role : Role) (bs : List ℕ) → MatchResult result
         (λ x. from r source.now (string role bs (second first)) start
         ≡ from r source.now (string role (bs ++ encode_utf8 x.0) between) x.1)
-        (λ e. Tells (chars source.now) e (from r source.now (string role bs (second first)) start)) }
+        (λ e. Reports (chars source.now) e (from r source.now (string role bs (second first)) start)) }
 {
     if !has_byte(source, start, b'\\') {
         return Err(fault_at(source, start));
@@ -286,13 +287,13 @@ fn read_hex(source: &str, start: usize) -> Result<u32>
     ensures boundary { OnOk result (IsCharBoundary source.now (start + 4)) }
     ensures first { (r : Reading) (role : Role) (bs : List ℕ) → MatchResult result
         (λ u. from r source.now (string role bs (code 3 0)) start
-        ≡ from r source.now (coded (is_surrogate u) role bs u) (start + 4))
-        (λ e. Tells (chars source.now) e (from r source.now (string role bs (code 3 0)) start)) }
+        ≡ from r source.now (after_unit (is_surrogate u) role bs u) (start + 4))
+        (λ e. Reports (chars source.now) e (from r source.now (string role bs (code 3 0)) start)) }
     ensures second { (r : Reading) (role : Role) (bs : List ℕ) (h : ℕ) → MatchResult result
         (λ u. from r source.now (string role bs (second_code h 3 0)) start
-        ≡ outcome_on (paired (is_high h && is_low u) role bs h u) (λ p. from r source.now p (start + 4))
+        ≡ outcome_on (move_pair (is_high h && is_low u) role bs h u) (λ p. from r source.now p (start + 4))
         (chars (drop (start + 3) source.now)))
-        (λ e. Tells (chars source.now) e (from r source.now (string role bs (second_code h 3 0)) start)) }
+        (λ e. Reports (chars source.now) e (from r source.now (string role bs (second_code h 3 0)) start)) }
 {
     let mut unit = 0;
     for index in start..start + 4 {

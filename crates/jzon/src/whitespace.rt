@@ -4,7 +4,7 @@ ghost use Rattle.std.specs.Prelude.{◌≡◌, IsTrue, ◌<◌, ◌≤◌, lengt
 ghost use Rattle.std.specs.List.{prefix_len};
 ghost use Rattle.std.specs.Str.{IsCharBoundary};
 ghost use Rattle.jzon_tree.specs.Writing.{is_whitespace};
-ghost use Rattle.jzon.specs.Machine.{Place, allows_whitespace, from};
+ghost use Rattle.jzon.specs.Machine.{State, allows_whitespace, from};
 
 use crate::peek::{has_byte, has_four};
 use crate::reading::Reading;
@@ -14,7 +14,7 @@ use crate::reading::Reading;
 pub(crate) fn skip_whitespace(source: &str, reading: Reading, start: usize) -> usize
     requires { IsCharBoundary source.now start }
     ensures boundary { IsCharBoundary source.now result }
-    ensures outcome { (p : Place) → allows_whitespace p ≡ true →
+    ensures outcome { (p : State) → allows_whitespace p ≡ true →
         from reading source.now p start ≡ from reading source.now p result }
     ensures within { start ≤ result }
     ensures stop { result < length source.now → is_whitespace reading.strict (slice_index source.now result) ≡ false }

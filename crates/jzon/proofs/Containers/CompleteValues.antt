@@ -19,8 +19,8 @@ use Rattle.jzon.specs.Grammar.{IsWhitespace, IsKey, IsNode, AreElements, AreMemb
 use Rattle.jzon.specs.Spelling.{duplicate, Cell, cell, plain, breach_if, items_cells, items_length, duplicate_if}
 use Rattle.jzon.specs.Spelling.{key_cells, node_cells, elements_cells, members_cells, cells}
 use Rattle.jzon.specs.Meaning.{bytes_of, meaning, elements_meaning, members_meaning}
-use Rattle.jzon.specs.Machine.{Entries, Frames, no_frames, array_frame, object_frame, as_key, Place, before, before_key}
-use Rattle.jzon.specs.Machine.{after_key, behind, go, move, Outcome, meant, frames_depth, value_mark, key_mark}
+use Rattle.jzon.specs.Machine.{Entries, Frames, no_frames, array_frame, object_frame, as_key, State, before, before_key}
+use Rattle.jzon.specs.Machine.{after_key, after_value, go, move, Outcome, meant, frames_depth, value_mark, key_mark}
 use Rattle.jzon.specs.Machine.{repeated_if}
 use Rattle.jzon.specs.Classes.{quote, opens_array, closes_array, opens_object, closes_object, comma, colon, begins_null}
 use Rattle.jzon.specs.Classes.{begins_true, begins_false}
@@ -73,10 +73,10 @@ knows-put seen es k v h q = known-put q k v es ∙ ap (λ t. bytes_eq k q || t) 
 -- ---- whitespace
 
 module _ (r : Reading) (G : Outcome → Type 0) where
-  abbrev F : List Cell → Place → Type 0
+  abbrev F : List Cell → State → Type 0
   F q p = Follows r G q p
 
-  blanks : (w : List ℕ) (p : Place) (q : List Cell) → IsWhitespace r w
+  blanks : (w : List ℕ) (p : State) (q : List Cell) → IsWhitespace r w
       → ((c left : ℕ) → IsTrue (is_whitespace r.strict c) → move r p c left ≡ go None p) → F q p → F (plain w q) p
   blanks [] p q ok stays h = h
   blanks (c ∷ w) p q ok stays h = rw (stays c (suc (length (plain w q))) ok.0) (refl, blanks w p q ok.1 stays h)
@@ -85,9 +85,9 @@ module _ (r : Reading) (G : Outcome → Type 0) where
       → F (plain w q) (before fs)
   blanks_before w fs q ok h = blanks w (before fs) q ok (λ c left e. rw (whitespace-class r c e) refl) h
 
-  blanks_behind : (w : List ℕ) (fs : Frames) (v : Value) (q : List Cell) → IsWhitespace r w → F q (behind fs v)
-      → F (plain w q) (behind fs v)
-  blanks_behind w fs v q ok h = blanks w (behind fs v) q ok (λ c left e. rw (whitespace-class r c e) refl) h
+  blanks_after : (w : List ℕ) (fs : Frames) (v : Value) (q : List Cell) → IsWhitespace r w → F q (after_value fs v)
+      → F (plain w q) (after_value fs v)
+  blanks_after w fs v q ok h = blanks w (after_value fs v) q ok (λ c left e. rw (whitespace-class r c e) refl) h
 
   -- ---- keys
 
@@ -116,7 +116,7 @@ module _ (r : Reading) (G : Outcome → Type 0) where
   -- ---- values
 
   mutual
-    pub complete_node : (n : Node) (fs : Frames) (k : List Cell) → IsNode r n → F k (behind fs (meaning n))
+    pub complete_node : (n : Node) (fs : Frames) (k : List Cell) → IsNode r n → F k (after_value fs (meaning n))
         → F (node_cells r n (frames_depth fs) (value_mark r fs) k) (before fs)
     complete_node Node.null fs k ok h = rw (class-char r.strict begins_null) (refl, (refl, (refl, (refl, h))))
     complete_node (Node.boolean true) fs k ok h = rw (class-char r.strict begins_true) (refl, (refl, (refl, (refl, h))))
@@ -138,7 +138,7 @@ module _ (r : Reading) (G : Outcome → Type 0) where
           refl,
           blanks_before b (array_frame fs []) _ ok.0
               (complete_node n (array_frame fs []) _ ok.1
-              (blanks_behind c (array_frame fs []) (meaning n) _ ok.2
+              (blanks_after c (array_frame fs []) (meaning n) _ ok.2
               (complete_elements es fs [] (meaning n) k ok.3 h))),
         )
     complete_node (Node.object key b n c ms) fs k ok h =
@@ -147,17 +147,17 @@ module _ (r : Reading) (G : Outcome → Type 0) where
           complete_key fs [] [] key _ (λ q. refl) ok.0
               (blanks_before b (object_frame fs [] (bytes_of key.items)) _ ok.1
               (complete_node n (object_frame fs [] (bytes_of key.items)) _ ok.2
-              (blanks_behind c (object_frame fs [] (bytes_of key.items)) (meaning n) _ ok.3
+              (blanks_after c (object_frame fs [] (bytes_of key.items)) (meaning n) _ ok.3
               (complete_members ms fs [] (bytes_of key.items) (meaning n) (bytes_of key.items ∷ []) k
               (knows-put [] [] (bytes_of key.items) (meaning n) (λ q. refl)) ok.4 h)))),
         )
 
     complete_elements : (es : Elements) (fs : Frames) (vs : List Value) (v : Value) (k : List Cell) → AreElements r es
-        → F k (behind fs (value.array (with_prefix vs (value.value v (elements_meaning es)))))
-        → F (elements_cells r es (suc (frames_depth fs)) k) (behind (array_frame fs vs) v)
+        → F k (after_value fs (value.array (with_prefix vs (value.value v (elements_meaning es)))))
+        → F (elements_cells r es (suc (frames_depth fs)) k) (after_value (array_frame fs vs) v)
     complete_elements no_elements fs vs v k ok h =
         rw (class-char r.strict closes_array)
-        (refl, subst (λ z. F k (behind fs (value.array z))) (sym (closed-values vs v)) h)
+        (refl, subst (λ z. F k (after_value fs (value.array z))) (sym (closed-values vs v)) h)
     complete_elements (element b n c es) fs vs v k ok h =
         let inner : Frames = array_frame fs (vs ++ v ∷ []) in
         let rest : List Cell = plain c (elements_cells r es (suc (frames_depth fs)) k) in
@@ -165,16 +165,16 @@ module _ (r : Reading) (G : Outcome → Type 0) where
           refl,
           blanks_before b inner _ ok.0
               (subst (λ m. F (node_cells r n (suc (frames_depth fs)) m rest) (before inner)) (not_first_value r fs vs v)
-              (complete_node n inner rest ok.1 (blanks_behind c inner (meaning n) _ ok.2
+              (complete_node n inner rest ok.1 (blanks_after c inner (meaning n) _ ok.2
               (complete_elements es fs (vs ++ v ∷ []) (meaning n) k ok.3
-              (subst (λ z. F k (behind fs (value.array z)))
+              (subst (λ z. F k (after_value fs (value.array z)))
               (sym (with_prefix-append vs v (value.value (meaning n) (elements_meaning es)))) h))))),
         )
 
     complete_members : (ms : Members) (fs : Frames) (es : Entries) (key : List ℕ) (v : Value) (seen : List (List ℕ))
         (k : List Cell) → Knows seen (put key v es) → AreMembers r ms
-        → F k (behind fs (value.object (pairs_of (fold (λ qs p. put p.0 p.1 qs) (put key v es) (members_meaning ms)))))
-        → F (members_cells r ms seen (suc (frames_depth fs)) k) (behind (object_frame fs es key) v)
+        → F k (after_value fs (value.object (pairs_of (fold (λ qs p. put p.0 p.1 qs) (put key v es) (members_meaning ms)))))
+        → F (members_cells r ms seen (suc (frames_depth fs)) k) (after_value (object_frame fs es key) v)
     complete_members no_members fs es key v seen k knows ok h = rw (class-char r.strict closes_object) (refl, h)
     complete_members (member key' b n c ms) fs es key v seen k knows ok h =
         let so_far : Entries = put key v es in
@@ -185,7 +185,7 @@ module _ (r : Reading) (G : Outcome → Type 0) where
           refl,
           subst (λ m. F (key_cells r seen key' m rest) (before_key fs so_far)) (not_first_key r fs key v es)
               (complete_key fs so_far seen key' rest knows ok.0
-              (blanks_before b inner _ ok.1 (complete_node n inner _ ok.2 (blanks_behind c inner (meaning n) _ ok.3
+              (blanks_before b inner _ ok.1 (complete_node n inner _ ok.2 (blanks_after c inner (meaning n) _ ok.3
               (complete_members ms fs so_far (bytes_of key'.items) (meaning n) (bytes_of key'.items ∷ seen) k
               (knows-put seen so_far (bytes_of key'.items) (meaning n) knows) ok.4 h))))),
         )
@@ -195,4 +195,4 @@ pub complete : (r : Reading) (d : Document) → IsDocument r d
 complete r d ok =
     let G : Outcome → Type 0 = λ o. o ≡ meant (meaning d.node) in
     blanks_before r G d.before no_frames _ ok.0 (complete_node r G d.node no_frames _ ok.1
-    (blanks_behind r G d.after no_frames (meaning d.node) [] ok.2 refl))
+    (blanks_after r G d.after no_frames (meaning d.node) [] ok.2 refl))

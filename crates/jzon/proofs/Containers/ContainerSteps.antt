@@ -10,14 +10,14 @@ use Rattle.jzon_tree.specs.Writing.{is_whitespace}
 use Rattle.jzon.specs.Reading.{Reading}
 use Rattle.jzon.specs.Spelling.{Breach, deep, breach_if}
 use Rattle.jzon.specs.Fault.{limit}
-use Rattle.jzon.specs.Classes.{Class, whitespace, digits, dash, quote, opens_array, closes_array, opens_object}
+use Rattle.jzon.specs.Classes.{Class, whitespace, digits, minus_char, quote, opens_array, closes_array, opens_object}
 use Rattle.jzon.specs.Classes.{closes_object, comma, colon, begins_null, begins_true, begins_false, class_of}
-use Rattle.jzon.specs.Machine.{Entries, Frames, frames_depth, array_frame, object_frame, as_key, between, Place, before}
-use Rattle.jzon.specs.Machine.{before_key, word, numeral, string, after_key, behind, allows_whitespace, go, bad, bad_at}
+use Rattle.jzon.specs.Machine.{Entries, Frames, frames_depth, array_frame, object_frame, as_key, between, State, before}
+use Rattle.jzon.specs.Machine.{before_key, word, numeral, string, after_key, after_value, allows_whitespace, go, bad, bad_at}
 use Rattle.jzon.specs.Machine.{value_mark, key_mark, move_before, move_before_key, move_after_key, move_empty_object}
-use Rattle.jzon.specs.Machine.{move_behind, refused, outcome_on, from, left_at}
+use Rattle.jzon.specs.Machine.{move_after_value, refused, outcome_on, from, left_at}
 use Rattle.jzon.proofs.Texts.ClassesOfCharacters.{class-says, class-char, whitespace-class}
-use Rattle.jzon.proofs.Texts.AsciiRuns.{Skips, before_skips, behind_skips, space_is_ascii, wide_is_no_space}
+use Rattle.jzon.proofs.Texts.AsciiRuns.{Skips, before_skips, after_skips, space_is_ascii, wide_is_no_space}
 use Rattle.jzon.proofs.Texts.StepsByByte.{StopsAt, from_step, stops_by, IsDeep, from_deep}
 
 -- ---- opening brackets
@@ -39,21 +39,21 @@ open_object r bs i fs u at lt e h =
 
 pub close_empty_array : (r : Reading) (bs : List ℕ) (i : ℕ) (fs : Frames) → IsUtf8 bs → IsCharBoundary bs i
     → i < length bs → get_or bs i 0 ≡ 93
-    → from r bs (before (array_frame fs [])) i ≡ from r bs (behind fs (value.array value.no_values)) (i + 1)
+    → from r bs (before (array_frame fs [])) i ≡ from r bs (after_value fs (value.array value.no_values)) (i + 1)
 close_empty_array r bs i fs u at lt e =
     from_step r bs i (before (array_frame fs [])) _ 93 u at lt e (lit< tt)
     (ap (λ k. move_before r k (array_frame fs []) 93) (class-char r.strict closes_array))
 
 pub close_empty_object : (r : Reading) (bs : List ℕ) (i : ℕ) (fs : Frames) → IsUtf8 bs → IsCharBoundary bs i
     → i < length bs → get_or bs i 0 ≡ 125
-    → from r bs (before_key fs []) i ≡ from r bs (behind fs (value.object value.no_pairs)) (i + 1)
+    → from r bs (before_key fs []) i ≡ from r bs (after_value fs (value.object value.no_pairs)) (i + 1)
 close_empty_object r bs i fs u at lt e =
     from_step r bs i (before_key fs []) _ 125 u at lt e (lit< tt)
     (ap (λ k. move_before_key r k fs [] (left_at bs i)) (class-char r.strict closes_object))
 
 -- ---- a container too many
 
-deep_go : (m : Option Breach) (p : Place) → m ≡ Some deep → IsDeep (go m p)
+deep_go : (m : Option Breach) (p : State) → m ≡ Some deep → IsDeep (go m p)
 deep_go m p h f rest = ap (λ n. outcome_on (go n p) f rest) h
 
 deep_bad : (m : Option Breach) → m ≡ Some deep → IsDeep (bad_at m)
@@ -65,7 +65,7 @@ deep_element_on r fs c whitespace h s n e = let yes : is_whitespace r.strict c
     ≡ true = class-says r.strict c e in absurd (cc)
 deep_element_on r fs c closes_array h s n e = absurd (n (class-says r.strict c e))
 deep_element_on r fs c digits h s n e = deep_go (value_mark r fs) _ h
-deep_element_on r fs c dash h s n e = deep_go (value_mark r fs) _ h
+deep_element_on r fs c minus_char h s n e = deep_go (value_mark r fs) _ h
 deep_element_on r fs c quote h s n e = deep_go (value_mark r fs) _ h
 deep_element_on r fs c opens_array h s n e = deep_go (value_mark r fs) _ h
 deep_element_on r fs c opens_object h s n e = deep_go (value_mark r fs) _ h
@@ -161,11 +161,11 @@ colon_goes r bs i fs es k u at lt e =
     (ap (λ x. move_after_key x fs es k) (class-char r.strict colon))
 
 -- where whitespace is allowed, it is skipped
-pub whitespace_skips : (r : Reading) (p : Place) → allows_whitespace p ≡ true → Skips r p (is_whitespace r.strict)
+pub whitespace_skips : (r : Reading) (p : State) → allows_whitespace p ≡ true → Skips r p (is_whitespace r.strict)
 whitespace_skips r (before fs) e = before_skips r fs
 whitespace_skips r (before_key fs es) e = before_key_skips r fs es
 whitespace_skips r (after_key fs es k) e = after_key_skips r fs es k
-whitespace_skips r (behind fs v) e = behind_skips r fs v
+whitespace_skips r (after_value fs v) e = after_skips r fs v
 whitespace_skips r (word fs v l ls) e = absurd (cc)
 whitespace_skips r (numeral fs negative x) e = absurd (cc)
 whitespace_skips r (string role bs x) e = absurd (cc)
@@ -191,22 +191,22 @@ no_colon r bs i fs es k s n =
 
 pub element_comma : (r : Reading) (bs : List ℕ) (i : ℕ) (fs : Frames) (vs : List Value) (v : Value) → IsUtf8 bs
     → IsCharBoundary bs i → i < length bs → get_or bs i 0 ≡ 44
-    → from r bs (behind (array_frame fs vs) v) i ≡ from r bs (before (array_frame fs (vs ++ v ∷ []))) (i + 1)
+    → from r bs (after_value (array_frame fs vs) v) i ≡ from r bs (before (array_frame fs (vs ++ v ∷ []))) (i + 1)
 element_comma r bs i fs vs v u at lt e =
-    from_step r bs i (behind (array_frame fs vs) v) _ 44 u at lt e (lit< tt)
-    (ap (λ x. move_behind x (array_frame fs vs) v) (class-char r.strict comma))
+    from_step r bs i (after_value (array_frame fs vs) v) _ 44 u at lt e (lit< tt)
+    (ap (λ x. move_after_value x (array_frame fs vs) v) (class-char r.strict comma))
 
 pub close_array : (r : Reading) (bs : List ℕ) (i : ℕ) (fs : Frames) (vs : List Value) (v : Value) → IsUtf8 bs
     → IsCharBoundary bs i → i < length bs
-    → get_or bs i 0 ≡ 93 → from r bs (behind (array_frame fs vs) v) i
-    ≡ from r bs (behind fs (value.array (values_of (vs ++ v ∷ [])))) (i + 1)
+    → get_or bs i 0 ≡ 93 → from r bs (after_value (array_frame fs vs) v) i
+    ≡ from r bs (after_value fs (value.array (values_of (vs ++ v ∷ [])))) (i + 1)
 close_array r bs i fs vs v u at lt e =
-    from_step r bs i (behind (array_frame fs vs) v) _ 93 u at lt e (lit< tt)
-    (ap (λ x. move_behind x (array_frame fs vs) v) (class-char r.strict closes_array))
+    from_step r bs i (after_value (array_frame fs vs) v) _ 93 u at lt e (lit< tt)
+    (ap (λ x. move_after_value x (array_frame fs vs) v) (class-char r.strict closes_array))
 
 no_element_on : (r : Reading) (fs : Frames) (vs : List Value) (v : Value) (c : ℕ) (x : Class)
     → is_whitespace r.strict c ≡ false → c ≢ 44 → c ≢ 93
-    → class_of r.strict c ≡ x → move_behind x (array_frame fs vs) v ≡ bad
+    → class_of r.strict c ≡ x → move_after_value x (array_frame fs vs) v ≡ bad
 no_element_on r fs vs v c whitespace s m n e = let yes : is_whitespace r.strict c
     ≡ true = class-says r.strict c e in absurd (cc)
 no_element_on r fs vs v c comma s m n e = absurd (m (class-says r.strict c e))
@@ -216,9 +216,9 @@ no_element_on r fs vs v c _ s m n e = refl
 -- the next character is neither a comma nor the closing bracket of the array
 pub no_element : (r : Reading) (bs : List ℕ) (i : ℕ) (fs : Frames) (vs : List Value) (v : Value)
     → (i < length bs → is_whitespace r.strict (get_or bs i 0) ≡ false) → ((i < length bs) × (get_or bs i 0 ≡ 44) → ⊥)
-    → ((i < length bs) × (get_or bs i 0 ≡ 93) → ⊥) → StopsAt r (behind (array_frame fs vs) v) bs i
+    → ((i < length bs) × (get_or bs i 0 ≡ 93) → ⊥) → StopsAt r (after_value (array_frame fs vs) v) bs i
 no_element r bs i fs vs v s m n =
-    stops_by r (behind (array_frame fs vs) v) bs i refl
+    stops_by r (after_value (array_frame fs vs) v) bs i refl
     (λ lt. no_element_on r fs vs v (get_or bs i 0) (class_of r.strict (get_or bs i 0)) (s lt) (λ e. m (lt, e))
     (λ e. n (lt, e)) refl)
     (λ c wide. no_element_on r fs vs v c (class_of r.strict c) (wide_is_no_space r.strict c wide)
@@ -228,22 +228,22 @@ no_element r bs i fs vs v s m n =
 
 pub entry_comma : (r : Reading) (bs : List ℕ) (i : ℕ) (fs : Frames) (es : Entries) (k : List ℕ) (v : Value) → IsUtf8 bs
     → IsCharBoundary bs i → i < length bs → get_or bs i 0 ≡ 44
-    → from r bs (behind (object_frame fs es k) v) i ≡ from r bs (before_key fs (put k v es)) (i + 1)
+    → from r bs (after_value (object_frame fs es k) v) i ≡ from r bs (before_key fs (put k v es)) (i + 1)
 entry_comma r bs i fs es k v u at lt e =
-    from_step r bs i (behind (object_frame fs es k) v) _ 44 u at lt e (lit< tt)
-    (ap (λ x. move_behind x (object_frame fs es k) v) (class-char r.strict comma))
+    from_step r bs i (after_value (object_frame fs es k) v) _ 44 u at lt e (lit< tt)
+    (ap (λ x. move_after_value x (object_frame fs es k) v) (class-char r.strict comma))
 
 pub close_object : (r : Reading) (bs : List ℕ) (i : ℕ) (fs : Frames) (es : Entries) (k : List ℕ) (v : Value) → IsUtf8 bs
     → IsCharBoundary bs i → i < length bs
-    → get_or bs i 0 ≡ 125 → from r bs (behind (object_frame fs es k) v) i
-    ≡ from r bs (behind fs (value.object (pairs_of (put k v es)))) (i + 1)
+    → get_or bs i 0 ≡ 125 → from r bs (after_value (object_frame fs es k) v) i
+    ≡ from r bs (after_value fs (value.object (pairs_of (put k v es)))) (i + 1)
 close_object r bs i fs es k v u at lt e =
-    from_step r bs i (behind (object_frame fs es k) v) _ 125 u at lt e (lit< tt)
-    (ap (λ x. move_behind x (object_frame fs es k) v) (class-char r.strict closes_object))
+    from_step r bs i (after_value (object_frame fs es k) v) _ 125 u at lt e (lit< tt)
+    (ap (λ x. move_after_value x (object_frame fs es k) v) (class-char r.strict closes_object))
 
 no_entry_on : (r : Reading) (fs : Frames) (es : Entries) (k : List ℕ) (v : Value) (c : ℕ) (x : Class)
     → is_whitespace r.strict c ≡ false → c ≢ 44 → c ≢ 125
-    → class_of r.strict c ≡ x → move_behind x (object_frame fs es k) v ≡ bad
+    → class_of r.strict c ≡ x → move_after_value x (object_frame fs es k) v ≡ bad
 no_entry_on r fs es k v c whitespace s m n e = let yes : is_whitespace r.strict c
     ≡ true = class-says r.strict c e in absurd (cc)
 no_entry_on r fs es k v c comma s m n e = absurd (m (class-says r.strict c e))
@@ -253,9 +253,9 @@ no_entry_on r fs es k v c _ s m n e = refl
 -- the next character is neither a comma nor the closing bracket of the object
 pub no_entry : (r : Reading) (bs : List ℕ) (i : ℕ) (fs : Frames) (es : Entries) (k : List ℕ) (v : Value)
     → (i < length bs → is_whitespace r.strict (get_or bs i 0) ≡ false) → ((i < length bs) × (get_or bs i 0 ≡ 44) → ⊥)
-    → ((i < length bs) × (get_or bs i 0 ≡ 125) → ⊥) → StopsAt r (behind (object_frame fs es k) v) bs i
+    → ((i < length bs) × (get_or bs i 0 ≡ 125) → ⊥) → StopsAt r (after_value (object_frame fs es k) v) bs i
 no_entry r bs i fs es k v s m n =
-    stops_by r (behind (object_frame fs es k) v) bs i refl
+    stops_by r (after_value (object_frame fs es k) v) bs i refl
     (λ lt. no_entry_on r fs es k v (get_or bs i 0) (class_of r.strict (get_or bs i 0)) (s lt) (λ e. m (lt, e))
     (λ e. n (lt, e)) refl)
     (λ c wide. no_entry_on r fs es k v c (class_of r.strict c) (wide_is_no_space r.strict c wide)

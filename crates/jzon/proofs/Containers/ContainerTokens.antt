@@ -7,11 +7,11 @@ use Rattle.jzon_base.specs.PairList.{find}
 use Rattle.jzon_base.specs.declared.error.Error.TheVariants.{UnexpectedEndOfJson, ExceededDepthLimit}
 use Rattle.jzon_tree.specs.Value.{Value, array, no_values, object, no_pairs}
 use Rattle.jzon.specs.Brackets.{opener, closer, empty_container, innermost_bracket, after_opener, after_comma, after_closer}
-use Rattle.jzon.specs.Cursor.{left, next_byte, IsPast, IsBehind}
+use Rattle.jzon.specs.Cursor.{left, next_byte, IsPast, IsAfter}
 use Rattle.jzon.specs.Machine.{Entries, Frames, no_frames, array_frame, object_frame, as_key, between, before}
 use Rattle.jzon.specs.Machine.{before_key, string}
-use Rattle.jzon.specs.Machine.{after_key, behind, frames_depth, value_mark, key_mark, from, from_closed, left_at}
-use Rattle.jzon.specs.Machine.{stopped, TellsUnlessMemory}
+use Rattle.jzon.specs.Machine.{after_key, after_value, frames_depth, value_mark, key_mark, from, from_closed, left_at}
+use Rattle.jzon.specs.Machine.{fault_here, ReportsUnlessMemory}
 use Rattle.jzon.specs.declared.cursor.Bracket.{Bracket}
 use Rattle.jzon.specs.declared.cursor.Bracket.TheVariants.{Array, Object}
 use Rattle.jzon.specs.declared.cursor.Cursor.{Cursor}
@@ -23,7 +23,7 @@ use Rattle.jzon.proofs.Texts.Cursors.{Reached, utf8_of, byte_goes}
 use Rattle.jzon.proofs.Containers.FrameViews.{byte_within, too_deep}
 use Rattle.jzon.proofs.Strings.Quotes.{key_goes}
 use Rattle.jzon.proofs.Texts.StepsByByte.{from_stop}
-use Rattle.jzon.proofs.Texts.ReportedErrors.{told_deep, told_end}
+use Rattle.jzon.proofs.Texts.ReportedErrors.{reported_deep, reported_end}
 
 -- ---- brackets
 
@@ -38,7 +38,7 @@ same_closer b d e = cc
 
 pub opens : (b : Bracket) (t u : Cursor) (fs : Frames) → IsPast t.reading t.source.now (t.index + 1) u
     → next_byte t ≡ opener b → value_mark t.reading fs ≡ None
-    → IsBehind t u × (left t (before fs) ≡ left u (after_opener b fs))
+    → IsAfter t u × (left t (before fs) ≡ left u (after_opener b fs))
 opens Array t u fs past e mark =
     byte_goes t u (before fs) (before (array_frame fs [])) past refl
     (open_array t.reading t.source.now t.index fs (utf8_of t) t.boundary
@@ -49,30 +49,30 @@ opens Object t u fs past e mark =
     (byte_within t.source.now t.index 123 e (lit< tt)) e mark)
 
 pub empty_closes : (b : Bracket) (t u : Cursor) (fs : Frames) → IsPast t.reading t.source.now (t.index + 1) u
-    → next_byte t ≡ closer b → IsBehind t u × (left t (after_opener b fs) ≡ left u (behind fs (empty_container b)))
+    → next_byte t ≡ closer b → IsAfter t u × (left t (after_opener b fs) ≡ left u (after_value fs (empty_container b)))
 empty_closes Array t u fs past e =
-    byte_goes t u (before (array_frame fs [])) (behind fs (array no_values)) past refl
+    byte_goes t u (before (array_frame fs [])) (after_value fs (array no_values)) past refl
     (close_empty_array t.reading t.source.now t.index fs (utf8_of t) t.boundary
     (byte_within t.source.now t.index 93 e (lit< tt)) e)
 empty_closes Object t u fs past e =
-    byte_goes t u (before_key fs []) (behind fs (object no_pairs)) past refl
+    byte_goes t u (before_key fs []) (after_value fs (object no_pairs)) past refl
     (close_empty_object t.reading t.source.now t.index fs (utf8_of t) t.boundary
     (byte_within t.source.now t.index 125 e (lit< tt)) e)
 
 pub left_open : (b : Bracket) (t : Cursor) (fs : Frames) → length t.source.now ≤ t.index
-    → TellsUnlessMemory (chars t.source.now) UnexpectedEndOfJson (left t (after_opener b fs))
-left_open Array t fs le = told_end t.reading t.source.now t.index (before (array_frame fs [])) _ refl le refl
-left_open Object t fs le = told_end t.reading t.source.now t.index (before_key fs []) _ refl le refl
+    → ReportsUnlessMemory (chars t.source.now) UnexpectedEndOfJson (left t (after_opener b fs))
+left_open Array t fs le = reported_end t.reading t.source.now t.index (before (array_frame fs [])) _ refl le refl
+left_open Object t fs le = reported_end t.reading t.source.now t.index (before_key fs []) _ refl le refl
 
 pub item_too_deep : (b : Bracket) (t : Cursor) (fs : Frames) → t.index < length t.source.now → next_byte t ≢ closer b
     → t.reading.depth ≤ frames_depth fs
-    → TellsUnlessMemory (chars t.source.now) ExceededDepthLimit (left t (after_opener b fs))
+    → ReportsUnlessMemory (chars t.source.now) ExceededDepthLimit (left t (after_opener b fs))
 item_too_deep Array t fs lt n le =
-    told_deep (chars t.source.now) (chars (drop t.index t.source.now)) _
+    reported_deep (chars t.source.now) (chars (drop t.index t.source.now)) _
     (deep_element t.reading t.source.now t.index fs (utf8_of t) t.boundary lt (t.past_whitespace lt) n
     (too_deep t.reading.depth (frames_depth fs) le))
 item_too_deep Object t fs lt n le =
-    told_deep (chars t.source.now) (chars (drop t.index t.source.now)) _
+    reported_deep (chars t.source.now) (chars (drop t.index t.source.now)) _
     (deep_key t.reading t.source.now t.index fs (utf8_of t) t.boundary lt (t.past_whitespace lt) n
     (too_deep t.reading.depth (frames_depth fs) le))
 
@@ -80,41 +80,41 @@ item_too_deep Object t fs lt n le =
 
 pub closes : (b : Bracket) (t u : Cursor) (fs : Frames) (v : Value) → innermost_bracket fs ≡ Some b
     → IsPast t.reading t.source.now (t.index + 1) u → next_byte t ≡ closer b
-    → IsBehind t u × (left t (behind fs v) ≡ left u (after_closer fs v))
+    → IsAfter t u × (left t (after_value fs v) ≡ left u (after_closer fs v))
 closes b t u no_frames v here past e = absurd (cc)
 closes b t u (array_frame fs vs) v here past e =
     let next : next_byte t ≡ 93 = e ∙ same_closer Array b here in
-    byte_goes t u (behind (array_frame fs vs) v) (after_closer (array_frame fs vs) v) past refl
+    byte_goes t u (after_value (array_frame fs vs) v) (after_closer (array_frame fs vs) v) past refl
     (close_array t.reading t.source.now t.index fs vs v (utf8_of t) t.boundary
     (byte_within t.source.now t.index 93 next (lit< tt)) next)
 closes b t u (object_frame fs es k) v here past e =
     let next : next_byte t ≡ 125 = e ∙ same_closer Object b here in
-    byte_goes t u (behind (object_frame fs es k) v) (after_closer (object_frame fs es k) v) past refl
+    byte_goes t u (after_value (object_frame fs es k) v) (after_closer (object_frame fs es k) v) past refl
     (close_object t.reading t.source.now t.index fs es k v (utf8_of t) t.boundary
     (byte_within t.source.now t.index 125 next (lit< tt)) next)
 
 pub comma_goes : (b : Bracket) (t u : Cursor) (fs : Frames) (v : Value) → innermost_bracket fs ≡ Some b
     → IsPast t.reading t.source.now (t.index + 1) u → next_byte t ≡ 44
-    → IsBehind t u × (left t (behind fs v) ≡ left u (after_comma fs v))
+    → IsAfter t u × (left t (after_value fs v) ≡ left u (after_comma fs v))
 comma_goes b t u no_frames v here past e = absurd (cc)
 comma_goes b t u (array_frame fs vs) v here past e =
-    byte_goes t u (behind (array_frame fs vs) v) (after_comma (array_frame fs vs) v) past refl
+    byte_goes t u (after_value (array_frame fs vs) v) (after_comma (array_frame fs vs) v) past refl
     (element_comma t.reading t.source.now t.index fs vs v (utf8_of t) t.boundary
     (byte_within t.source.now t.index 44 e (lit< tt)) e)
 comma_goes b t u (object_frame fs es k) v here past e =
-    byte_goes t u (behind (object_frame fs es k) v) (after_comma (object_frame fs es k) v) past refl
+    byte_goes t u (after_value (object_frame fs es k) v) (after_comma (object_frame fs es k) v) past refl
     (entry_comma t.reading t.source.now t.index fs es k v (utf8_of t) t.boundary
     (byte_within t.source.now t.index 44 e (lit< tt)) e)
 
 pub item_stops : (b : Bracket) (t : Cursor) (fs : Frames) (v : Value) → innermost_bracket fs ≡ Some b → next_byte t ≢ 44
-    → next_byte t ≢ closer b → left t (behind fs v) ≡ stopped (chars (drop t.index t.source.now))
+    → next_byte t ≢ closer b → left t (after_value fs v) ≡ fault_here (chars (drop t.index t.source.now))
 item_stops b t no_frames v here no_comma no_end = absurd (cc)
 item_stops b t (array_frame fs vs) v here no_comma no_end =
-    from_stop t.reading t.source.now t.index (behind (array_frame fs vs) v) (utf8_of t) t.boundary
+    from_stop t.reading t.source.now t.index (after_value (array_frame fs vs) v) (utf8_of t) t.boundary
     (no_element t.reading t.source.now t.index fs vs v t.past_whitespace (λ h. no_comma h.1)
     (λ h. no_end (h.1 ∙ sym (same_closer Array b here))))
 item_stops b t (object_frame fs es k) v here no_comma no_end =
-    from_stop t.reading t.source.now t.index (behind (object_frame fs es k) v) (utf8_of t) t.boundary
+    from_stop t.reading t.source.now t.index (after_value (object_frame fs es k) v) (utf8_of t) t.boundary
     (no_entry t.reading t.source.now t.index fs es k v t.past_whitespace (λ h. no_comma h.1)
     (λ h. no_end (h.1 ∙ sym (same_closer Object b here))))
 
@@ -146,21 +146,21 @@ key_stands t u fs es text end read new lt past = record {
 }
 
 pub key_missing : (t : Cursor) (fs : Frames) (es : Entries) → key_mark t.reading fs es ≡ None → next_byte t ≢ 34
-    → (es ≡ [] → next_byte t ≢ 125) → left t (before_key fs es) ≡ stopped (chars (drop t.index t.source.now))
+    → (es ≡ [] → next_byte t ≢ 125) → left t (before_key fs es) ≡ fault_here (chars (drop t.index t.source.now))
 key_missing t fs es mark no_quote no_end =
     from_stop t.reading t.source.now t.index (before_key fs es) (utf8_of t) t.boundary
     (no_key t.reading t.source.now t.index fs es mark t.past_whitespace (λ here. no_quote here.1) no_end)
 
 pub colon_read : (t u : Cursor) (fs : Frames) (es : Entries) (k : List ℕ)
     → IsPast t.reading t.source.now (t.index + 1) u → next_byte t ≡ 58
-    → IsBehind t u × (left t (after_key fs es k) ≡ left u (before (object_frame fs es k)))
+    → IsAfter t u × (left t (after_key fs es k) ≡ left u (before (object_frame fs es k)))
 colon_read t u fs es k past e =
     byte_goes t u (after_key fs es k) (before (object_frame fs es k)) past refl
     (colon_goes t.reading t.source.now t.index fs es k (utf8_of t) t.boundary
     (byte_within t.source.now t.index 58 e (lit< tt)) e)
 
 pub colon_missing : (t : Cursor) (fs : Frames) (es : Entries) (k : List ℕ) → next_byte t ≢ 58
-    → left t (after_key fs es k) ≡ stopped (chars (drop t.index t.source.now))
+    → left t (after_key fs es k) ≡ fault_here (chars (drop t.index t.source.now))
 colon_missing t fs es k none =
     from_stop t.reading t.source.now t.index (after_key fs es k) (utf8_of t) t.boundary
     (no_colon t.reading t.source.now t.index fs es k t.past_whitespace (λ here. none here.1))

@@ -8,8 +8,8 @@ use Rattle.std.proofs.lemmas.Bool.Decides.{nat_tests}
 use Rattle.jzon_tree.specs.Value as value
 use Rattle.jzon_tree.specs.Writing.{is_whitespace}
 use Rattle.jzon.specs.Reading.{Reading}
-use Rattle.jzon.specs.Classes.{Class, whitespace, digits, dash, quote, opens_array, closes_array, opens_object}
-use Rattle.jzon.specs.Classes.{begins_null, begins_true, begins_false, class_of, signed, begun}
+use Rattle.jzon.specs.Classes.{Class, whitespace, digits, minus_char, quote, opens_array, closes_array, opens_object}
+use Rattle.jzon.specs.Classes.{begins_null, begins_true, begins_false, class_of, after_minus, after_first_digit}
 use Rattle.jzon.specs.Machine.{Frames, no_frames, array_frame, object_frame, is_fresh, as_value, between, string}
 use Rattle.jzon.specs.Machine.{numeral, past_letter, before, go, bad, bad_at, value_mark, move_before, move_empty_array}
 use Rattle.jzon.specs.Machine.{from}
@@ -42,7 +42,7 @@ begins_nothing_on r fs c whitespace m h e = let y : is_whitespace r.strict c
     ≡ true = class-says r.strict c e in let n = h.no_space in absurd (cc)
 begins_nothing_on r fs c digits m h e = let y : is_ascii_digit c
     ≡ true = class-says r.strict c e in let n = h.no_digit in absurd (cc)
-begins_nothing_on r fs c dash m h e = absurd (h.no_minus (class-says r.strict c e))
+begins_nothing_on r fs c minus_char m h e = absurd (h.no_minus (class-says r.strict c e))
 begins_nothing_on r fs c quote m h e = absurd (h.no_quote (class-says r.strict c e))
 begins_nothing_on r fs c opens_array m h e = absurd (h.no_array (class-says r.strict c e))
 begins_nothing_on r fs c opens_object m h e = absurd (h.no_object (class-says r.strict c e))
@@ -101,18 +101,18 @@ begin_false r bs i fs u at lt e m =
     (λ b. go b (past_letter fs (value.boolean false) (97 ∷ 108 ∷ 115 ∷ 101 ∷ []))) m)
 
 pub begin_minus : (r : Reading) (bs : List ℕ) (i : ℕ) (fs : Frames) → IsUtf8 bs → IsCharBoundary bs i → i < length bs
-    → get_or bs i 0 ≡ 45 → value_mark r fs ≡ None → from r bs (before fs) i ≡ from r bs (numeral fs true signed) (i + 1)
+    → get_or bs i 0 ≡ 45 → value_mark r fs ≡ None → from r bs (before fs) i ≡ from r bs (numeral fs true after_minus) (i + 1)
 begin_minus r bs i fs u at lt e m =
     from_step r bs i (before fs) _ 45 u at lt e (lit< tt)
-    (ap (λ k. move_before r k fs 45) (class-char r.strict dash) ∙ ap (λ b. go b (numeral fs true signed)) m)
+    (ap (λ k. move_before r k fs 45) (class-char r.strict minus_char) ∙ ap (λ b. go b (numeral fs true after_minus)) m)
 
 pub begin_digit : (r : Reading) (bs : List ℕ) (i : ℕ) (fs : Frames) → IsUtf8 bs → IsCharBoundary bs i → i < length bs
     → IsTrue (is_ascii_digit (get_or bs i 0)) → value_mark r fs ≡ None
-    → from r bs (before fs) i ≡ from r bs (numeral fs false (begun (get_or bs i 0 == 48) (get_or bs i 0))) (i + 1)
+    → from r bs (before fs) i ≡ from r bs (numeral fs false (after_first_digit (get_or bs i 0 == 48) (get_or bs i 0))) (i + 1)
 begin_digit r bs i fs u at lt d m =
     from_step r bs i (before fs) _ (get_or bs i 0) u at lt refl (digit_is_ascii (get_or bs i 0) d)
     (ap (λ k. move_before r k fs (get_or bs i 0)) (digits-class r.strict (get_or bs i 0) d)
-    ∙ ap (λ b. go b (numeral fs false (begun (get_or bs i 0 == 48) (get_or bs i 0)))) m)
+    ∙ ap (λ b. go b (numeral fs false (after_first_digit (get_or bs i 0 == 48) (get_or bs i 0)))) m)
 
 pub begin_string : (r : Reading) (bs : List ℕ) (i : ℕ) (fs : Frames) → IsUtf8 bs → IsCharBoundary bs i → i < length bs
     → get_or bs i 0 ≡ 34

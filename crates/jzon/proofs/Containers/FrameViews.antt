@@ -22,9 +22,9 @@ use Rattle.jzon_tree.proofs.Views.{find-viewed}
 use Rattle.jzon.specs.Reading.{Reading}
 use Rattle.jzon.specs.Spelling.{breach_if, deep}
 use Rattle.jzon.specs.Machine.{Entries, Frames, no_frames, array_frame, object_frame, frames_depth, is_fresh}
-use Rattle.jzon.specs.Machine.{Place, behind, value_mark, key_mark}
-use Rattle.jzon.specs.Cursor.{left, IsBehind, GoesOn}
-use Rattle.jzon.specs.Frames.{open_in, stack_view, place_of, is_open, IsReady, IsWholeValue}
+use Rattle.jzon.specs.Machine.{State, after_value, value_mark, key_mark}
+use Rattle.jzon.specs.Cursor.{left, IsAfter, GoesOn}
+use Rattle.jzon.specs.Frames.{open_in, stack_view, state_of, is_open, IsReady, IsWholeValue}
 use Rattle.jzon.specs.declared.cursor.Cursor.{Cursor}
 use Rattle.jzon.specs.declared.frames.ValueStart.{ValueStart}
 use Rattle.jzon.specs.declared.frames.ValueStart.TheVariants.{Value as start_value, Array as start_array}
@@ -100,13 +100,13 @@ open_unless_value start_array h = refl
 open_unless_value start_object h = refl
 
 -- a container that was closed was read whole, from an earlier offset
-pub closed_on : (t u n : Cursor) (o : Place) (fs gs : Frames) (w : Value) (result : Result ValueStart Error)
+pub closed_on : (t u n : Cursor) (o : State) (fs gs : Frames) (w : Value) (result : Result ValueStart Error)
     → n ≡ u → gs ≡ fs → IfOk result (λ b. IsWholeValue b w) → IsOkUnless result OutOfMemory
-    → IsBehind t u × (left t o ≡ left u (behind fs w)) → GoesOn t o result n (λ b. place_of b gs)
+    → IsAfter t u × (left t o ≡ left u (after_value fs w)) → GoesOn t o result n (λ b. state_of b gs)
 closed_on t u n o fs gs w (Ok (start_value v)) at kept whole memory h =
-    subst (λ x. IsBehind t x × (left t o ≡ left x (behind gs (view v)))) (sym at) (
+    subst (λ x. IsAfter t x × (left t o ≡ left x (after_value gs (view v)))) (sym at) (
       h.0,
-      h.1 ∙ ap (λ ks. left u (behind ks w)) (sym kept) ∙ ap (λ x. left u (behind gs x)) (sym whole),
+      h.1 ∙ ap (λ ks. left u (after_value ks w)) (sym kept) ∙ ap (λ x. left u (after_value gs x)) (sym whole),
     )
 closed_on t u n o fs gs w (Ok start_array) at kept whole memory h = absurd whole
 closed_on t u n o fs gs w (Ok start_object) at kept whole memory h = absurd whole

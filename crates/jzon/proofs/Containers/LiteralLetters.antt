@@ -7,7 +7,7 @@ use Rattle.std.proofs.lemmas.List.{length-drop, get_or-drop}
 use Rattle.std.proofs.lemmas.Str.{chars-nil, encodes-chars, byte_from_char, IsUtf8-drop, IsCharBoundary-after_ascii}
 use Rattle.jzon_tree.specs.Value.{Value}
 use Rattle.jzon.specs.Reading.{Reading}
-use Rattle.jzon.specs.Machine.{Frames, word, go, bad, past_letter, behind, outcome, outcome_on, from, stopped}
+use Rattle.jzon.specs.Machine.{Frames, word, go, bad, past_letter, after_value, outcome, outcome_on, from, fault_here}
 use Rattle.jzon.proofs.Texts.AsciiRuns.{chars-ascii}
 
 -- a text, by its first character
@@ -42,19 +42,19 @@ letter_read r bs i l ls fs v u at lt e ascii =
     ∙ letter_on r (drop (i + 1) bs) l ls fs v (subst IsUtf8 split (IsUtf8-drop bs i u at)) ascii
 
 missing_on : (r : Reading) (cs : List ℕ) (l : ℕ) (ls : List ℕ) (fs : Frames) (v : Value)
-    → ((c : ℕ) (ds : List ℕ) → cs ≡ c ∷ ds → c ≡ l → ⊥) → outcome r cs (past_letter fs v (l ∷ ls)) ≡ stopped cs
+    → ((c : ℕ) (ds : List ℕ) → cs ≡ c ∷ ds → c ≡ l → ⊥) → outcome r cs (past_letter fs v (l ∷ ls)) ≡ fault_here cs
 missing_on r [] l ls fs v h = refl
 missing_on r (c ∷ cs) l ls fs v h = other (c == l) refl
   where
     other : (t : Bool) → (c == l) ≡ t → outcome_on (cond t (go None (past_letter fs v ls)) bad) (λ q. outcome r cs q)
-        (c ∷ cs) ≡ stopped (c ∷ cs)
+        (c ∷ cs) ≡ fault_here (c ∷ cs)
     other true e = absurd (h c cs refl (eqb-true c l e))
     other false e = refl
 
 -- another byte is there, or none
 pub letter_missing : (r : Reading) (bs : List ℕ) (i l : ℕ) (ls : List ℕ) (fs : Frames) (v : Value) → IsUtf8 bs
     → IsCharBoundary bs i → l < 128 → ((i < length bs) × (get_or bs i 0 ≡ l) → ⊥)
-    → from r bs (past_letter fs v (l ∷ ls)) i ≡ stopped (chars (drop i bs))
+    → from r bs (past_letter fs v (l ∷ ls)) i ≡ fault_here (chars (drop i bs))
 unfolding from
 letter_missing r bs i l ls fs v u at ascii none =
     missing_on r (chars (drop i bs)) l ls fs v (λ c cs e same.
@@ -70,7 +70,7 @@ letter_missing r bs i l ls fs v u at ascii none =
 -- the last three letters of a literal are there
 pub three_read : (r : Reading) (bs : List ℕ) (i a b c : ℕ) (fs : Frames) (v : Value) → IsUtf8 bs → IsCharBoundary bs i
     → i + 3 ≤ length bs → get_or bs i 0 ≡ a → get_or bs (i + 1) 0 ≡ b → get_or bs (i + 2) 0 ≡ c → a < 128 → b < 128
-    → c < 128 → from r bs (past_letter fs v (a ∷ b ∷ c ∷ [])) i ≡ from r bs (behind fs v) (i + 3)
+    → c < 128 → from r bs (past_letter fs v (a ∷ b ∷ c ∷ [])) i ≡ from r bs (after_value fs v) (i + 3)
 three_read r bs i a b c fs v u at le ea eb ec la lb lc =
     let next = IsCharBoundary-after_ascii bs i u (omega arith) (omega (arith, ea, la)) in
     let last : IsCharBoundary bs (i + 2) = subst (IsCharBoundary bs) (omega arith)
@@ -79,15 +79,15 @@ three_read r bs i a b c fs v u at le ea eb ec la lb lc =
     ∙ letter_read r bs (i + 1) b (c ∷ []) fs v u next (omega arith) eb lb
     ∙ ap (λ n. from r bs (past_letter fs v (c ∷ [])) n) (omega arith)
     ∙ letter_read r bs (i + 2) c [] fs v u last (omega arith) ec lc
-    ∙ ap (λ n. from r bs (behind fs v) n) (omega arith)
+    ∙ ap (λ n. from r bs (after_value fs v) n) (omega arith)
 
 -- and the last four
 pub four_read : (r : Reading) (bs : List ℕ) (i a b c d : ℕ) (fs : Frames) (v : Value) → IsUtf8 bs
     → IsCharBoundary bs i → i + 4 ≤ length bs → get_or bs i 0 ≡ a → get_or bs (i + 1) 0 ≡ b → get_or bs (i + 2) 0 ≡ c
     → get_or bs (i + 3) 0 ≡ d → a < 128 → b < 128 → c < 128 → d < 128
-    → from r bs (past_letter fs v (a ∷ b ∷ c ∷ d ∷ [])) i ≡ from r bs (behind fs v) (i + 4)
+    → from r bs (past_letter fs v (a ∷ b ∷ c ∷ d ∷ [])) i ≡ from r bs (after_value fs v) (i + 4)
 four_read r bs i a b c d fs v u at le ea eb ec ed la lb lc ld =
     letter_read r bs i a (b ∷ c ∷ d ∷ []) fs v u at (omega arith) ea la
     ∙ three_read r bs (i + 1) b c d fs v u (IsCharBoundary-after_ascii bs i u (omega arith) (omega (arith, ea, la)))
     (omega arith) eb (ap (λ n. get_or bs n 0) (omega arith) ∙ ec) (ap (λ n. get_or bs n 0) (omega arith) ∙ ed) lb lc ld
-    ∙ ap (λ n. from r bs (behind fs v) n) (omega arith)
+    ∙ ap (λ n. from r bs (after_value fs v) n) (omega arith)

@@ -15,13 +15,13 @@ use Rattle.jzon.specs.Grammar.{IsWhitespace, IsKey, IsNode, AreElements, AreMemb
 use Rattle.jzon.specs.Spelling.{Breach}
 use Rattle.jzon.specs.Meaning.{bytes_of, meaning, elements_meaning, members_meaning}
 use Rattle.jzon.specs.Fault.{Spells}
-use Rattle.jzon.specs.Classes.{Class, whitespace, digits, dash, quote, opens_array, closes_array, opens_object}
-use Rattle.jzon.specs.Classes.{closes_object, comma, colon, begins_null, begins_true, begins_false, class_of, begun}
-use Rattle.jzon.specs.Classes.{signed}
-use Rattle.jzon.specs.Machine.{Entries, Frames, no_frames, array_frame, object_frame, as_value, as_key, Place, before}
+use Rattle.jzon.specs.Classes.{Class, whitespace, digits, minus_char, quote, opens_array, closes_array, opens_object}
+use Rattle.jzon.specs.Classes.{closes_object, comma, colon, begins_null, begins_true, begins_false, class_of, after_first_digit}
+use Rattle.jzon.specs.Classes.{after_minus}
+use Rattle.jzon.specs.Machine.{Entries, Frames, no_frames, array_frame, object_frame, as_value, as_key, State, before}
 use Rattle.jzon.specs.Machine.{Role, Move, numeral, last, meant, meant_at, closed_string, before_key, word, string}
-use Rattle.jzon.specs.Machine.{after_key, behind, between, go, bad, past_letter, value_mark, key_mark, bad_at}
-use Rattle.jzon.specs.Machine.{move_before, move_before_key, move_after_key, move_behind, move_empty_array}
+use Rattle.jzon.specs.Machine.{after_key, after_value, between, go, bad, past_letter, value_mark, key_mark, bad_at}
+use Rattle.jzon.specs.Machine.{move_before, move_before_key, move_after_key, move_after_value, move_empty_array}
 use Rattle.jzon.specs.Machine.{move_empty_object}
 use Rattle.jzon.proofs.Texts.ClassesOfCharacters.{class-says}
 use Rattle.jzon.proofs.Texts.Runs.{On, Goes}
@@ -34,24 +34,24 @@ module _ (r : Reading) (v : Value) where
   -- ---- what the rest of a text is, from each state to the end of the text
 
   -- after a value: the rest of its container, and so on; at the top the value is the result
-  abbrev Behind : Frames → Value → List ℕ → Type 0
-  Behind no_frames x t = IsWhitespace r t × (x ≡ v)
-  Behind (array_frame fs vs) x t = (w : List ℕ) × (es : Elements) × (u : List ℕ) × IsWhitespace r w × AreElements r es
+  abbrev AfterValue : Frames → Value → List ℕ → Type 0
+  AfterValue no_frames x t = IsWhitespace r t × (x ≡ v)
+  AfterValue (array_frame fs vs) x t = (w : List ℕ) × (es : Elements) × (u : List ℕ) × IsWhitespace r w × AreElements r es
       × (t ≡ w ++ elements_chars es u)
-      × Behind fs (value.array (with_prefix vs (value.value x (elements_meaning es)))) u
-  Behind (object_frame fs es k) x t = (w : List ℕ) × (ms : Members) × (u : List ℕ) × IsWhitespace r w × AreMembers r ms
+      × AfterValue fs (value.array (with_prefix vs (value.value x (elements_meaning es)))) u
+  AfterValue (object_frame fs es k) x t = (w : List ℕ) × (ms : Members) × (u : List ℕ) × IsWhitespace r w × AreMembers r ms
       × (t ≡ w ++ members_chars ms u)
-      × Behind fs (value.object (pairs_of (fold (λ qs p. put p.0 p.1 qs) (put k x es) (members_meaning ms)))) u
+      × AfterValue fs (value.object (pairs_of (fold (λ qs p. put p.0 p.1 qs) (put k x es) (members_meaning ms)))) u
 
   -- whitespace and a value
   abbrev ValueLeft : Frames → List ℕ → Type 0
   ValueLeft fs t = (w : List ℕ) × (n : Node) × (u : List ℕ) × IsWhitespace r w × IsNode r n × (t ≡ w ++ node_chars n u)
-      × Behind fs (meaning n) u
+      × AfterValue fs (meaning n) u
 
   -- whitespace and the bracket that closes an empty array
   abbrev ArrayCloses : Frames → List ℕ → Type 0
   ArrayCloses (array_frame fs []) t = (w : List ℕ) × (u : List ℕ) × IsWhitespace r w × (t ≡ w ++ (93 ∷ u))
-      × Behind fs (value.array value.no_values) u
+      × AfterValue fs (value.array value.no_values) u
   ArrayCloses _ t = ⊥
 
   -- whitespace, a colon and a value
@@ -63,52 +63,52 @@ module _ (r : Reading) (v : Value) where
   abbrev MemberLeft : Frames → Entries → List ℕ → Type 0
   MemberLeft fs es t = (key : Key) × (b : List ℕ) × (n : Node) × (u : List ℕ) × IsKey r key × IsWhitespace r b
       × IsNode r n × (t ≡ key_chars key (b ++ node_chars n u))
-      × Behind (object_frame fs es (bytes_of key.items)) (meaning n) u
+      × AfterValue (object_frame fs es (bytes_of key.items)) (meaning n) u
 
   abbrev ObjectCloses : Frames → Entries → List ℕ → Type 0
   ObjectCloses fs [] t = (w : List ℕ) × (u : List ℕ) × IsWhitespace r w × (t ≡ w ++ (125 ∷ u))
-      × Behind fs (value.object value.no_pairs) u
+      × AfterValue fs (value.object value.no_pairs) u
   ObjectCloses fs (e ∷ es) t = ⊥
 
   abbrev AfterString : Role → List ℕ → List ℕ → Type 0
-  AfterString (as_value fs) bs u = Behind fs (value.text (kind_of bs) bs) u
+  AfterString (as_value fs) bs u = AfterValue fs (value.text (kind_of bs) bs) u
   AfterString (as_key fs es opened) bs u = ColonLeft fs es bs u
 
-  abbrev Left : Place → List ℕ → Type 0
+  abbrev Left : State → List ℕ → Type 0
   Left (before fs) t = ValueLeft fs t ⊎ ArrayCloses fs t
   Left (before_key fs es) t = MemberLeft fs es t ⊎ ObjectCloses fs es t
-  Left (word fs x l ls) t = (u : List ℕ) × (t ≡ l ∷ (ls ++ u)) × Behind fs x u
-  Left (numeral fs negative x) t = InNumeral r v fs (Behind fs) negative x t
+  Left (word fs x l ls) t = (u : List ℕ) × (t ≡ l ∷ (ls ++ u)) × AfterValue fs x u
+  Left (numeral fs negative x) t = InNumeral r v fs (AfterValue fs) negative x t
   Left (string role bs x) t = string_left r v role (AfterString role) x bs t
   Left (after_key fs es k) t = ColonLeft fs es k t
-  Left (behind fs x) t = Behind fs x t
+  Left (after_value fs x) t = AfterValue fs x t
 
   -- ---- the end of the text
 
-  behind_ends : (fs : Frames) (x : Value) → meant_at fs x ≡ meant v → Behind fs x []
-  behind_ends no_frames x e = (tt, let f : x ≡ v = cc in f)
-  behind_ends (array_frame fs vs) x e = absurd (cc)
-  behind_ends (object_frame fs es k) x e = absurd (cc)
+  after_ends : (fs : Frames) (x : Value) → meant_at fs x ≡ meant v → AfterValue fs x []
+  after_ends no_frames x e = (tt, let f : x ≡ v = cc in f)
+  after_ends (array_frame fs vs) x e = absurd (cc)
+  after_ends (object_frame fs es k) x e = absurd (cc)
 
-  ends : (p : Place) → last p ≡ meant v → Left p []
-  ends (numeral fs negative x) e = number_ends r v fs (Behind fs) (behind_ends fs) x negative e
-  ends (behind fs x) e = behind_ends fs x e
+  ends : (p : State) → last p ≡ meant v → Left p []
+  ends (numeral fs negative x) e = number_ends r v fs (AfterValue fs) (after_ends fs) x negative e
+  ends (after_value fs x) e = after_ends fs x e
   ends _ e = absurd (cc)
 
-  no_more : (m : Option Breach) (F : Place → Type 0) → On (bad_at m) F → ⊥
+  no_more : (m : Option Breach) (F : State → Type 0) → On (bad_at m) F → ⊥
   no_more None F h = h
   no_more (Some b) F h = h
 
   -- ---- one character
 
-  module _ (c : ℕ) (cs : List ℕ) (ih : (p : Place) → Goes r v cs p → Left p cs) where
+  module _ (c : ℕ) (cs : List ℕ) (ih : (p : State) → Goes r v cs p → Left p cs) where
     abbrev M : Move → Type 0
     M z = On z (λ p. Goes r v cs p)
 
     -- after a value
 
     element_on : (fs : Frames) (vs : List Value) (x : Value) → c ≡ 44 → Left (before (array_frame fs (vs ++ x ∷ []))) cs
-        → Behind (array_frame fs vs) x (c ∷ cs)
+        → AfterValue (array_frame fs vs) x (c ∷ cs)
     element_on fs vs x e (inl (b, y, u, b_ok, y_ok, f, (w, es, u', w_ok, es_ok, g, h))) = (
       [],
       element b y w es,
@@ -116,7 +116,7 @@ module _ (r : Reading) (v : Value) where
       tt,
       (b_ok, y_ok, w_ok, es_ok),
       rw e (ap (λ z. 44 ∷ z) (f ∙ ap (λ z. b ++ node_chars y z) g)),
-      subst (λ z. Behind fs (value.array z) u')
+      subst (λ z. AfterValue fs (value.array z) u')
           (with_prefix-append vs x (value.value (meaning y) (elements_meaning es))) h,
     )
     element_on fs vs x e (inr h) = absurd (no_close vs h)
@@ -126,7 +126,7 @@ module _ (r : Reading) (v : Value) where
         no_close (y ∷ us) h = h
 
     member_on : (fs : Frames) (es : Entries) (k : List ℕ) (x : Value) → c ≡ 44 → Left (before_key fs (put k x es)) cs
-        → Behind (object_frame fs es k) x (c ∷ cs)
+        → AfterValue (object_frame fs es k) x (c ∷ cs)
     member_on fs es k x e (inl (key, b, y, u, key_ok, b_ok, y_ok, f, (w, ms, u', w_ok, ms_ok, g, h))) = (
       [],
       member key b y w ms,
@@ -147,45 +147,45 @@ module _ (r : Reading) (v : Value) where
         no_close [] h = h
         no_close (p ∷ ps) h = by_test (bytes_eq p.0 k) _ _ _ _ h
 
-    behind_more : (fs : Frames) (x : Value) → class_of r.strict c ≡ whitespace → Behind fs x cs → Behind fs x (c ∷ cs)
-    behind_more no_frames x e (w_ok, f) = ((class-says r.strict c e, w_ok), f)
-    behind_more (array_frame fs vs) x e (w, es, u, w_ok, es_ok, f, h) =
+    after_more : (fs : Frames) (x : Value) → class_of r.strict c ≡ whitespace → AfterValue fs x cs → AfterValue fs x (c ∷ cs)
+    after_more no_frames x e (w_ok, f) = ((class-says r.strict c e, w_ok), f)
+    after_more (array_frame fs vs) x e (w, es, u, w_ok, es_ok, f, h) =
         (c ∷ w, es, u, (class-says r.strict c e, w_ok), es_ok, ap (λ z. c ∷ z) f, h)
-    behind_more (object_frame fs ps k) x e (w, ms, u, w_ok, ms_ok, f, h) =
+    after_more (object_frame fs ps k) x e (w, ms, u, w_ok, ms_ok, f, h) =
         (c ∷ w, ms, u, (class-says r.strict c e, w_ok), ms_ok, ap (λ z. c ∷ z) f, h)
 
-    behind_on : (k : Class) (fs : Frames) (x : Value) → class_of r.strict c ≡ k → M (move_behind k fs x)
-        → Behind fs x (c ∷ cs)
-    behind_on whitespace fs x e h = behind_more fs x e (ih (behind fs x) h)
-    behind_on comma no_frames x e h = absurd h
-    behind_on comma (array_frame fs vs) x e h =
+    after_on : (k : Class) (fs : Frames) (x : Value) → class_of r.strict c ≡ k → M (move_after_value k fs x)
+        → AfterValue fs x (c ∷ cs)
+    after_on whitespace fs x e h = after_more fs x e (ih (after_value fs x) h)
+    after_on comma no_frames x e h = absurd h
+    after_on comma (array_frame fs vs) x e h =
         element_on fs vs x (class-says r.strict c e) (ih (before (array_frame fs (vs ++ x ∷ []))) h)
-    behind_on comma (object_frame fs es k) x e h =
+    after_on comma (object_frame fs es k) x e h =
         member_on fs es k x (class-says r.strict c e) (ih (before_key fs (put k x es)) h)
-    behind_on closes_array (array_frame fs vs) x e h = (
+    after_on closes_array (array_frame fs vs) x e h = (
       [],
       no_elements,
       cs,
       tt,
       tt,
       ap (λ z. z ∷ cs) (class-says r.strict c e),
-      subst (λ z. Behind fs (value.array z) cs) (closed-values vs x)
-          (ih (behind fs (value.array (values_of (vs ++ x ∷ [])))) h),
+      subst (λ z. AfterValue fs (value.array z) cs) (closed-values vs x)
+          (ih (after_value fs (value.array (values_of (vs ++ x ∷ [])))) h),
     )
-    behind_on closes_array no_frames x e h = absurd h
-    behind_on closes_array (object_frame fs es k) x e h = absurd h
-    behind_on closes_object (object_frame fs es k) x e h = (
+    after_on closes_array no_frames x e h = absurd h
+    after_on closes_array (object_frame fs es k) x e h = absurd h
+    after_on closes_object (object_frame fs es k) x e h = (
       [],
       no_members,
       cs,
       tt,
       tt,
       ap (λ z. z ∷ cs) (class-says r.strict c e),
-      ih (behind fs (value.object (pairs_of (put k x es)))) h,
+      ih (after_value fs (value.object (pairs_of (put k x es)))) h,
     )
-    behind_on closes_object no_frames x e h = absurd h
-    behind_on closes_object (array_frame fs vs) x e h = absurd h
-    behind_on _ fs x e h = absurd h
+    after_on closes_object no_frames x e h = absurd h
+    after_on closes_object (array_frame fs vs) x e h = absurd h
+    after_on _ fs x e h = absurd h
 
     -- before a value
 
@@ -198,7 +198,7 @@ module _ (r : Reading) (v : Value) where
 
     array_closes : (fs : Frames) → c ≡ 93 → M (move_empty_array fs) → ArrayCloses fs (c ∷ cs)
     array_closes (array_frame fs []) e h =
-        ([], cs, tt, ap (λ z. z ∷ cs) e, ih (behind fs (value.array value.no_values)) h)
+        ([], cs, tt, ap (λ z. z ∷ cs) e, ih (after_value fs (value.array value.no_values)) h)
     array_closes (array_frame fs (x ∷ vs)) e h = absurd h
     array_closes no_frames e h = absurd h
     array_closes (object_frame fs es k) e h = absurd h
@@ -239,10 +239,10 @@ module _ (r : Reading) (v : Value) where
         → Left (before fs) (c ∷ cs)
     value_on whitespace fs e h = value_more fs e (ih (before fs) h)
     value_on digits fs e h =
-        let g = digit_sound r v fs (Behind fs) c cs e (ih (numeral fs false (begun (c == 48) c)) h) in
+        let g = digit_sound r v fs (AfterValue fs) c cs e (ih (numeral fs false (after_first_digit (c == 48) c)) h) in
         inl ([], Node.number g.0, g.1, tt, g.2, g.3, g.4)
-    value_on dash fs e h =
-        let g = minus_sound r v fs (Behind fs) cs (ih (numeral fs true signed) h) in
+    value_on minus_char fs e h =
+        let g = minus_sound r v fs (AfterValue fs) cs (ih (numeral fs true after_minus) h) in
         inl ([], Node.number g.0, g.1, tt, g.2, ap (λ z. z ∷ cs) (class-says r.strict c e) ∙ g.3, g.4)
     value_on quote fs e h =
         let g = ih (string (as_value fs) [] between) h in
@@ -281,7 +281,7 @@ module _ (r : Reading) (v : Value) where
     key_more fs (x ∷ es) e (inr h) = absurd h
 
     object_closes : (fs : Frames) (es : Entries) → c ≡ 125 → M (move_empty_object fs es) → ObjectCloses fs es (c ∷ cs)
-    object_closes fs [] e h = ([], cs, tt, ap (λ z. z ∷ cs) e, ih (behind fs (value.object value.no_pairs)) h)
+    object_closes fs [] e h = ([], cs, tt, ap (λ z. z ∷ cs) e, ih (after_value fs (value.object value.no_pairs)) h)
     object_closes fs (x ∷ es) e h = absurd h
 
     quote_on : (fs : Frames) (es : Entries) (opened : ℕ) → c ≡ 34 → Left (string (as_key fs es opened) [] between) cs
@@ -323,12 +323,12 @@ module _ (r : Reading) (v : Value) where
     -- literals
 
     past : (fs : Frames) (x : Value) (ls : List ℕ) → Goes r v cs (past_letter fs x ls)
-        → (u : List ℕ) × (cs ≡ ls ++ u) × Behind fs x u
-    past fs x [] h = (cs, refl, ih (behind fs x) h)
+        → (u : List ℕ) × (cs ≡ ls ++ u) × AfterValue fs x u
+    past fs x [] h = (cs, refl, ih (after_value fs x) h)
     past fs x (l ∷ ls) h = ih (word fs x l ls) h
 
     one_letter : (fs : Frames) (x : Value) (l : ℕ) (ls : List ℕ) → c ≡ l
-        → (u : List ℕ) × (cs ≡ ls ++ u) × Behind fs x u → Left (word fs x l ls) (c ∷ cs)
+        → (u : List ℕ) × (cs ≡ ls ++ u) × AfterValue fs x u → Left (word fs x l ls) (c ∷ cs)
     one_letter fs x l ls e (u, f, h) = (u, rw e (ap (λ z. l ∷ z) f), h)
 
     letter_on : (a : Bool) (fs : Frames) (x : Value) (l : ℕ) (ls : List ℕ) → c == l ≡ a
@@ -337,22 +337,22 @@ module _ (r : Reading) (v : Value) where
     letter_on false fs x l ls e h = absurd h
 
     closing : (role : Role) (bs : List ℕ) → M (closed_string r role bs (suc (length cs))) → AfterString role bs cs
-    closing (as_value fs) bs h = ih (behind fs (value.text (kind_of bs) bs)) h
+    closing (as_value fs) bs h = ih (after_value fs (value.text (kind_of bs) bs)) h
     closing (as_key fs es opened) bs h = ih (after_key fs es bs) h
 
-    on : (p : Place) → Goes r v (c ∷ cs) p → Left p (c ∷ cs)
+    on : (p : State) → Goes r v (c ∷ cs) p → Left p (c ∷ cs)
     on (before fs) h = value_on (class_of r.strict c) fs refl h
     on (before_key fs es) h = key_on (class_of r.strict c) fs es refl h
     on (word fs x l ls) h = letter_on (c == l) fs x l ls refl h
     on (numeral fs negative x) h =
-        number_on r v fs (Behind fs) c cs (λ b y k. ih (numeral fs b y) k) x (class_of r.strict c) negative refl
-        (λ y k. behind_on (class_of r.strict c) fs y refl k) h
+        number_on r v fs (AfterValue fs) c cs (λ b y k. ih (numeral fs b y) k) x (class_of r.strict c) negative refl
+        (λ y k. after_on (class_of r.strict c) fs y refl k) h
     on (string role bs x) h =
         string_on r v role (AfterString role) x bs c cs h (λ y b k. ih (string role b y) k) (λ b k. closing role b k)
     on (after_key fs es k) h = colon_on (class_of r.strict c) fs es k refl h
-    on (behind fs x) h = behind_on (class_of r.strict c) fs x refl h
+    on (after_value fs x) h = after_on (class_of r.strict c) fs x refl h
 
-  left : (t : List ℕ) (p : Place) → Goes r v t p → Left p t
+  left : (t : List ℕ) (p : State) → Goes r v t p → Left p t
   left [] p h = ends p h
   left (c ∷ cs) p h = on c cs (λ q k. left cs q k) p h
 

@@ -6,7 +6,7 @@ use Rattle.std.specs.Str.{IsCharBoundary}
 use Rattle.std.proofs.lemmas.Str.{IsCharBoundary-before_ascii, IsCharBoundary-after_ascii}
 use Rattle.jzon_tree.specs.Value.{Value, null, boolean}
 use Rattle.jzon.specs.Reading.{Reading}
-use Rattle.jzon.specs.Machine.{Frames, before, behind, past_letter, value_mark, from}
+use Rattle.jzon.specs.Machine.{Frames, before, after_value, past_letter, value_mark, from}
 use Rattle.jzon.proofs.Containers.FirstBytes.{begin_null, begin_true, begin_false}
 use Rattle.jzon.proofs.Containers.LiteralLetters.{three_read, four_read}
 
@@ -53,7 +53,7 @@ pub record Stand (bs : List ℕ) (i : ℕ) (four : List ℕ) : Type 0 where
 pub record WordEnds (r : Reading) (bs : List ℕ) (i k : ℕ) (fs : Frames) (v : Value) : Type 0 where
   pub past : i < k
   pub boundary : IsCharBoundary bs k
-  pub same : from r bs (before fs) i ≡ from r bs (behind fs v) k
+  pub same : from r bs (before fs) i ≡ from r bs (after_value fs v) k
 
 past_four : (bs : List ℕ) (i : ℕ) (four : List ℕ) → IsUtf8 bs → Stand bs i four → get_or four 3 0 < 128
     → IsCharBoundary bs (i + 4)
@@ -67,18 +67,18 @@ short_ends : (r : Reading) (bs : List ℕ) (i prefix l a b c : ℕ) (fs : Frames
     → i < length bs → get_or bs i 0 < 128 → prefix ≡ i → four ≡ l ∷ a ∷ b ∷ c ∷ [] → a < 128 → b < 128 → c < 128
     → from r bs (before fs) i ≡ from r bs (past_letter fs v (a ∷ b ∷ c ∷ [])) (i + 1) → Stand bs prefix four
     → WordEnds r bs i (prefix + 4) fs v
-short_ends r bs i prefix l a b c fs v four u lt ascii here is la lb lc begun stand =
+short_ends r bs i prefix l a b c fs v four u lt ascii here is la lb lc after_first_digit stand =
     record {
       past = omega (arith, here);
       boundary = past_four bs prefix four u stand (omega (arith, ap (λ l. get_or l 3 0) is, lc));
       same =
-          begun
+          after_first_digit
           ∙ three_read r bs (i + 1) a b c fs v u (IsCharBoundary-after_ascii bs i u lt ascii)
           (omega (arith, here, stand.within))
           (ap (λ n. get_or bs n 0) (omega (arith, here)) ∙ stand.second ∙ ap (λ l. get_or l 1 0) is)
           (ap (λ n. get_or bs n 0) (omega (arith, here)) ∙ stand.third ∙ ap (λ l. get_or l 2 0) is)
           (ap (λ n. get_or bs n 0) (omega (arith, here)) ∙ stand.fourth ∙ ap (λ l. get_or l 3 0) is) la lb lc
-          ∙ ap (λ n. from r bs (behind fs v) n) (omega (arith, here));
+          ∙ ap (λ n. from r bs (after_value fs v) n) (omega (arith, here));
     }
 
 -- the last four letters of a literal are there
@@ -113,5 +113,5 @@ word_ends r bs i b prefix fs v four u lt h m (inr (inr e)) means spells short lo
           (ap (λ n. get_or bs n 0) (omega (arith, here)) ∙ stand.third ∙ ap (λ l. get_or l 2 0) is)
           (ap (λ n. get_or bs n 0) (omega (arith, here)) ∙ stand.fourth ∙ ap (λ l. get_or l 3 0) is)
           (lit< tt) (lit< tt) (lit< tt) (lit< tt)
-          ∙ ap (λ n. from r bs (behind fs v) n) (omega (arith, here));
+          ∙ ap (λ n. from r bs (after_value fs v) n) (omega (arith, here));
     }

@@ -11,27 +11,27 @@ use Rattle.jzon.specs.Grammar.{IsNumeral}
 use Rattle.jzon.specs.Spelling.{Breach, Cell, plain, onto, digits_cells, drops_too_many, keeps_too_many, sign_cells}
 use Rattle.jzon.specs.Spelling.{exponent_cells, fraction_cells, numeral_cells}
 use Rattle.jzon.specs.Meaning.{number_of}
-use Rattle.jzon.specs.Classes.{Class, digits, point, letter_e, class_of, NumberPlace, zero_read, whole, fraction}
-use Rattle.jzon.specs.Classes.{lettered, exponent, begun, dash, cross}
-use Rattle.jzon.specs.Machine.{Frames, Place, before, numeral, behind, Outcome, meant_at, last_numeral, value_mark}
-use Rattle.jzon.specs.Machine.{number_value, exponent_of, move_behind, move_after_whole, move_numeral}
+use Rattle.jzon.specs.Classes.{Class, digits, point, letter_e, class_of, NumberState, zero_read, whole, fraction}
+use Rattle.jzon.specs.Classes.{lettered, exponent, after_first_digit, minus_char, plus_char}
+use Rattle.jzon.specs.Machine.{Frames, State, before, numeral, after_value, Outcome, meant_at, last_numeral, value_mark}
+use Rattle.jzon.specs.Machine.{number_value, exponent_of, move_after_value, move_after_whole, move_numeral}
 use Rattle.jzon.proofs.Texts.ClassesOfCharacters.{digits-class, letter_e-class, class-char}
 use Rattle.jzon.proofs.Numbers.NumberLimits.{onto-onto}
 use Rattle.jzon.proofs.Texts.Runs.{Meets, Follows}
 
 module _ (r : Reading) (G : Outcome → Type 0) (fs : Frames) (negative : Bool) where
-  abbrev F : List Cell → NumberPlace → Type 0
+  abbrev F : List Cell → NumberState → Type 0
   F q x = Follows r G q (numeral fs negative x)
 
   -- from the state after a number of these parts
   abbrev B : List ℕ → List ℕ → Option Exponent → List Cell → Type 0
-  B ws ds x q = Follows r G q (behind fs (number_value negative ws ds x))
+  B ws ds x q = Follows r G q (after_value fs (number_value negative ws ds x))
 
   -- ---- the exponent
 
   past_exponent : (class : Class) (ws ds : List ℕ) (l : ℕ) (s : Sign) (xs : List ℕ) (c : ℕ) (m : Option Breach)
-      (H : Place → Type 0)
-      → Meets (move_behind class fs (number_value negative ws ds (exponent_of l s (onto xs [])))) m H
+      (H : State → Type 0)
+      → Meets (move_after_value class fs (number_value negative ws ds (exponent_of l s (onto xs [])))) m H
       → Meets (move_numeral (exponent ws ds l s xs) class fs negative c) m H
   past_exponent digits ws ds l s xs c m H h = absurd h
   past_exponent _ ws ds l s xs c m H h = h
@@ -50,13 +50,13 @@ module _ (r : Reading) (G : Outcome → Type 0) (fs : Frames) (negative : Bool) 
   read_letter ws ds l unsigned (e ∷ es) k ok h =
       rw (digits-class r.strict e ok.0) (refl, read_exponent ws ds l unsigned (e ∷ []) es k ok.1 h)
   read_letter ws ds l plus (e ∷ es) k ok h =
-      rw (class-char r.strict cross) (
+      rw (class-char r.strict plus_char) (
         refl,
         rw (digits-class r.strict e ok.0)
             (refl, read_exponent ws ds l plus (e ∷ []) es k ok.1 h),
       )
   read_letter ws ds l minus (e ∷ es) k ok h =
-      rw (class-char r.strict dash) (
+      rw (class-char r.strict minus_char) (
         refl,
         rw (digits-class r.strict e ok.0)
             (refl, read_exponent ws ds l minus (e ∷ []) es k ok.1 h),
@@ -64,8 +64,8 @@ module _ (r : Reading) (G : Outcome → Type 0) (fs : Frames) (negative : Bool) 
 
   -- ---- the fraction
 
-  past_fraction : (class : Class) (ws ds : List ℕ) (c : ℕ) (m : Option Breach) (H : Place → Type 0)
-      → Meets (move_behind class fs (number_value negative ws (onto ds []) None)) m H
+  past_fraction : (class : Class) (ws ds : List ℕ) (c : ℕ) (m : Option Breach) (H : State → Type 0)
+      → Meets (move_after_value class fs (number_value negative ws (onto ds []) None)) m H
       → Meets (move_numeral (fraction ws ds) class fs negative c) m H
   past_fraction digits ws ds c m H h = absurd h
   past_fraction letter_e ws ds c m H h = absurd h
@@ -85,15 +85,15 @@ module _ (r : Reading) (G : Outcome → Type 0) (fs : Frames) (negative : Bool) 
   -- ---- whole digits
 
   -- in this state the whole digits ws are read, and what follows isn't another digit
-  record EndsWhole (x : NumberPlace) (ws : List ℕ) : Type 1 where
-    past : (class : Class) (c : ℕ) (m : Option Breach) (H : Place → Type 0)
+  record EndsWhole (x : NumberState) (ws : List ℕ) : Type 1 where
+    past : (class : Class) (c : ℕ) (m : Option Breach) (H : State → Type 0)
         → Meets (move_after_whole class fs negative ws c) m H → Meets (move_numeral x class fs negative c) m H
     ends : G (meant_at fs (number_value negative ws [] None)) → G (last_numeral x fs negative)
 
   zero_ends : EndsWhole zero_read (48 ∷ [])
   zero_ends = record { past = λ class c m H h. h; ends = λ h. h }
 
-  past_digits : (class : Class) (ds : List ℕ) (c : ℕ) (m : Option Breach) (H : Place → Type 0)
+  past_digits : (class : Class) (ds : List ℕ) (c : ℕ) (m : Option Breach) (H : State → Type 0)
       → Meets (move_after_whole class fs negative (onto ds []) c) m H
       → Meets (move_numeral (whole ds) class fs negative c) m H
   past_digits digits ds c m H h = absurd h
@@ -102,14 +102,14 @@ module _ (r : Reading) (G : Outcome → Type 0) (fs : Frames) (negative : Bool) 
   digits_end : (ds : List ℕ) → EndsWhole (whole ds) (onto ds [])
   digits_end ds = record { past = λ class c m H h. past_digits class ds c m H h; ends = λ h. h }
 
-  past_whole : (class : Class) (ws : List ℕ) (c : ℕ) (m : Option Breach) (H : Place → Type 0)
-      → Meets (move_behind class fs (number_value negative ws [] None)) m H
+  past_whole : (class : Class) (ws : List ℕ) (c : ℕ) (m : Option Breach) (H : State → Type 0)
+      → Meets (move_after_value class fs (number_value negative ws [] None)) m H
       → Meets (move_after_whole class fs negative ws c) m H
   past_whole point ws c m H h = absurd h
   past_whole letter_e ws c m H h = absurd h
   past_whole _ ws c m H h = h
 
-  read_after_whole : (x : NumberPlace) (ws ds : List ℕ) (e : Option Exponent) (k : List Cell) → EndsWhole x ws
+  read_after_whole : (x : NumberState) (ws ds : List ℕ) (e : Option Exponent) (k : List Cell) → EndsWhole x ws
       → AreDigits ds → IsExponent e → B ws ds e k → F (fraction_cells ws ds (exponent_cells e k)) x
   read_after_whole x ws [] None [] end ok e_ok h = end.ends h
   read_after_whole x ws [] None (y ∷ k) end ok e_ok h =
@@ -131,8 +131,8 @@ module _ (r : Reading) (G : Outcome → Type 0) (fs : Frames) (negative : Bool) 
   in_order d es = onto-onto es (d ∷ []) [] ∙ ap (λ l. d ∷ l) (append-nil es)
 
   read_first : (is_zero : Bool) (d : ℕ) (es : List ℕ) (k : List Cell) → d == 48 ≡ is_zero → IsWhole (d ∷ es)
-      → ((x : NumberPlace) → EndsWhole x (d ∷ es) → F k x)
-      → F (digits_cells drops_too_many (d ∷ []) es k) (begun is_zero d)
+      → ((x : NumberState) → EndsWhole x (d ∷ es) → F k x)
+      → F (digits_cells drops_too_many (d ∷ []) es k) (after_first_digit is_zero d)
   read_first true d [] k e ok h =
       h zero_read (subst (λ z. EndsWhole zero_read (z ∷ [])) (sym (eqb-true d 48 e)) zero_ends)
   read_first true d (x ∷ es) k e ok h = absurd (no_zero (is_ascii_digit d) (d == 48) e ok.0)
@@ -156,18 +156,18 @@ module _ (r : Reading) (G : Outcome → Type 0) (fs : Frames) (negative : Bool) 
   read_magnitude : (d : ℕ) (es ds : List ℕ) (x : Option Exponent) (k : List Cell) → IsWhole (d ∷ es) → AreDigits ds
       → IsExponent x → B (d ∷ es) ds x k
       → F (digits_cells drops_too_many (d ∷ []) es (fraction_cells (d ∷ es) ds (exponent_cells x k)))
-      (begun (d == 48) d)
+      (after_first_digit (d == 48) d)
   read_magnitude d es ds x k ok ds_ok x_ok h =
       read_first (d == 48) d es _ refl ok (λ p end. read_after_whole p (d ∷ es) ds x k end ds_ok x_ok h)
 
 module _ (r : Reading) (G : Outcome → Type 0) (fs : Frames) where
   read_signed : (negative : Bool) (ws ds : List ℕ) (x : Option Exponent) (k : List Cell) → IsWhole ws → AreDigits ds
-      → IsExponent x → Follows r G k (behind fs (number_value negative ws ds x))
+      → IsExponent x → Follows r G k (after_value fs (number_value negative ws ds x))
       → Follows r G (numeral_cells (record { negative = negative; whole = ws; fraction = ds; exponent = x })
       (value_mark r fs) k) (before fs)
   read_signed negative [] ds x k ok ds_ok x_ok h = absurd ok
   read_signed true (d ∷ es) ds x k ok ds_ok x_ok h =
-      rw (class-char r.strict dash) (
+      rw (class-char r.strict minus_char) (
         refl,
         rw (digits-class r.strict d (first_digit r G fs true d es ok))
             (refl, read_magnitude r G fs true d es ds x k ok ds_ok x_ok h),
@@ -177,6 +177,6 @@ module _ (r : Reading) (G : Outcome → Type 0) (fs : Frames) where
       (refl, read_magnitude r G fs false d es ds x k ok ds_ok x_ok h)
 
   pub complete_number : (n : Numeral) (k : List Cell) → IsNumeral n
-      → Follows r G k (behind fs (value.number (number_of n)))
+      → Follows r G k (after_value fs (value.number (number_of n)))
       → Follows r G (numeral_cells n (value_mark r fs) k) (before fs)
   complete_number n k ok h = read_signed n.negative n.whole n.fraction n.exponent k ok.0 ok.1 ok.2 h

@@ -9,7 +9,7 @@ use Rattle.jzon.specs.Grammar.{Sign, unsigned, AreDigits, IsDigits}
 use Rattle.jzon.specs.Spelling.{digit, breach_if, onto, drops_too_many, keeps_too_many}
 use Rattle.jzon.specs.Fault.{limit}
 use Rattle.jzon.specs.Classes.{whole, pointed, fraction, lettered, signed_exponent, exponent}
-use Rattle.jzon.specs.Machine.{Frames, Place, numeral, go, move, refused, outcome_on, outcome}
+use Rattle.jzon.specs.Machine.{Frames, State, numeral, go, move, refused, outcome_on, outcome}
 use Rattle.jzon.proofs.Texts.ClassesOfCharacters.{digits-class}
 use Rattle.jzon.proofs.Numbers.NumberLimits.{AreUnmarked, IsFirstMarked, whole_unmarked, whole_marked}
 use Rattle.jzon.proofs.Numbers.NumberLimits.{fraction_unmarked, fraction_marked, never_marked}
@@ -17,12 +17,12 @@ use Rattle.jzon.proofs.Numbers.NumberLimits.{fraction_unmarked, fraction_marked,
 -- ---- digits in a state that collects them
 
 -- Each digit is put before those that the state has, and has a breach if the digits up to it are too many.
-Collects : Reading → (List ℕ → Place) → (List ℕ → Bool) → Type 0
+Collects : Reading → (List ℕ → State) → (List ℕ → Bool) → Type 0
 Collects r at too_many =
     (ds : List ℕ) (c left : ℕ) → IsTrue (is_ascii_digit c) → move r (at ds) c left
     ≡ go (breach_if (too_many (onto (c ∷ ds) [])) digit) (at (c ∷ ds))
 
-collect_one : (r : Reading) (at : List ℕ → Place) (too_many : List ℕ → Bool) (v : Bool) → Collects r at too_many
+collect_one : (r : Reading) (at : List ℕ → State) (too_many : List ℕ → Bool) (v : Bool) → Collects r at too_many
     → (ds : List ℕ) (c : ℕ) (rest : List ℕ)
     → IsTrue (is_ascii_digit c) → too_many (onto (c ∷ ds) []) ≡ v
     → outcome r (c ∷ rest) (at ds) ≡ outcome_on (go (breach_if v digit) (at (c ∷ ds))) (λ p. outcome r rest p)
@@ -32,7 +32,7 @@ collect_one r at too_many v collects ds c rest ok e =
     ap (λ m. outcome_on m (λ p. outcome r rest p) (c ∷ rest))
     (collects ds c (length (c ∷ rest)) ok ∙ ap (λ t. go (breach_if t digit) (at (c ∷ ds))) e)
 
-collect_all : (r : Reading) (at : List ℕ → Place) (too_many : List ℕ → Bool) → Collects r at too_many
+collect_all : (r : Reading) (at : List ℕ → State) (too_many : List ℕ → Bool) → Collects r at too_many
     → (ds es rest : List ℕ)
     → AreDigits es → AreUnmarked too_many ds es → outcome r (es ++ rest) (at ds) ≡ outcome r rest (at (onto es ds))
 collect_all r at too_many collects ds [] rest ok h = refl
@@ -40,7 +40,7 @@ collect_all r at too_many collects ds (e ∷ es) rest ok h =
     collect_one r at too_many false collects ds e (es ++ rest) ok.0 h.0
     ∙ collect_all r at too_many collects (e ∷ ds) es rest ok.1 h.1
 
-collect_up_to : (r : Reading) (at : List ℕ → Place) (too_many : List ℕ → Bool) → Collects r at too_many
+collect_up_to : (r : Reading) (at : List ℕ → State) (too_many : List ℕ → Bool) → Collects r at too_many
     → (ds es rest : List ℕ) (i : ℕ) → AreDigits es → IsFirstMarked too_many ds es i
     → outcome r (es ++ rest) (at ds) ≡ refused (limit digit) (drop i es ++ rest)
 collect_up_to r at too_many collects ds [] rest i ok h = absurd h

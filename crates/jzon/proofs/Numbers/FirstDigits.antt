@@ -4,19 +4,19 @@ use Rattle.std.specs.Prelude.{IsUtf8, IsTrue, ◌==◌}
 use Rattle.std.specs.Char.{is_ascii_digit}
 use Rattle.std.specs.Str.{IsCharBoundary}
 use Rattle.jzon.specs.Reading.{Reading}
-use Rattle.jzon.specs.Classes.{Class, whitespace, digits, dash, cross, point, letter_e, quote, opens_array}
+use Rattle.jzon.specs.Classes.{Class, whitespace, digits, minus_char, plus_char, point, letter_e, quote, opens_array}
 use Rattle.jzon.specs.Classes.{closes_array, opens_object, closes_object, comma, colon, begins_null, begins_true}
-use Rattle.jzon.specs.Classes.{begins_false, other, class_of, signed, begun}
+use Rattle.jzon.specs.Classes.{begins_false, other, class_of, after_minus, after_first_digit}
 use Rattle.jzon.specs.Machine.{Frames, numeral, bad, move_numeral, from}
 use Rattle.jzon.proofs.Texts.ClassesOfCharacters.{class-says, digits-class}
 use Rattle.jzon.proofs.Texts.StepsByByte.{StopsAt, from_step, digit_is_ascii}
 
 no_digit_on : (r : Reading) (fs : Frames) (c : ℕ) (k : Class) → (IsTrue (is_ascii_digit c) → ⊥)
-    → class_of r.strict c ≡ k → move_numeral signed k fs true c ≡ bad
+    → class_of r.strict c ≡ k → move_numeral after_minus k fs true c ≡ bad
 no_digit_on r fs c digits h e = absurd (h (class-says r.strict c e))
 no_digit_on r fs c whitespace h e = refl
-no_digit_on r fs c dash h e = refl
-no_digit_on r fs c cross h e = refl
+no_digit_on r fs c minus_char h e = refl
+no_digit_on r fs c plus_char h e = refl
 no_digit_on r fs c point h e = refl
 no_digit_on r fs c letter_e h e = refl
 no_digit_on r fs c quote h e = refl
@@ -32,7 +32,7 @@ no_digit_on r fs c begins_false h e = refl
 no_digit_on r fs c other h e = refl
 
 pub no_digit_stops : (r : Reading) (bs : List ℕ) (i : ℕ) (fs : Frames)
-    → ((i < length bs) × IsTrue (is_ascii_digit (get_or bs i 0)) → ⊥) → StopsAt r (numeral fs true signed) bs i
+    → ((i < length bs) × IsTrue (is_ascii_digit (get_or bs i 0)) → ⊥) → StopsAt r (numeral fs true after_minus) bs i
 no_digit_stops r bs i fs none = record {
   ends = refl;
   bad = λ c there. no_digit_on r fs c (class_of r.strict c)
@@ -41,8 +41,8 @@ no_digit_stops r bs i fs none = record {
 
 pub digit_goes : (r : Reading) (bs : List ℕ) (i : ℕ) (fs : Frames) → IsUtf8 bs → IsCharBoundary bs i → (i < length bs)
     × IsTrue (is_ascii_digit (get_or bs i 0))
-    → from r bs (numeral fs true signed) i ≡ from r bs (numeral fs true (begun (get_or bs i 0 == 48) (get_or bs i 0)))
+    → from r bs (numeral fs true after_minus) i ≡ from r bs (numeral fs true (after_first_digit (get_or bs i 0 == 48) (get_or bs i 0)))
     (i + 1)
 digit_goes r bs i fs u at (lt, d) =
-    from_step r bs i (numeral fs true signed) _ (get_or bs i 0) u at lt refl (digit_is_ascii (get_or bs i 0) d)
-    (ap (λ k. move_numeral signed k fs true (get_or bs i 0)) (digits-class r.strict (get_or bs i 0) d))
+    from_step r bs i (numeral fs true after_minus) _ (get_or bs i 0) u at lt refl (digit_is_ascii (get_or bs i 0) d)
+    (ap (λ k. move_numeral after_minus k fs true (get_or bs i 0)) (digits-class r.strict (get_or bs i 0) d))

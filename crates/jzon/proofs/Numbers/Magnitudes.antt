@@ -22,8 +22,8 @@ use Rattle.jzon.specs.Reading.{Reading, usual}
 use Rattle.jzon.specs.Grammar.{AreDigits, IsDigits, is_exponent_letter}
 use Rattle.jzon.specs.Spelling.{digit}
 use Rattle.jzon.specs.Fault.{limit}
-use Rattle.jzon.specs.Classes.{begun, pointed, lettered}
-use Rattle.jzon.specs.Machine.{Frames, numeral, behind, Outcome, refused, outcome, from, stopped, Tells}
+use Rattle.jzon.specs.Classes.{after_first_digit, pointed, lettered}
+use Rattle.jzon.specs.Machine.{Frames, numeral, after_value, Outcome, refused, outcome, from, fault_here, Reports}
 use Rattle.jzon.proofs.Numbers.DigitRuns.{refuse_fraction}
 use Rattle.jzon.proofs.Numbers.NumeralOutcomes.{NextFails, ReadsWhole, reads_zero, reads_digits, whole_to_point}
 use Rattle.jzon.proofs.Numbers.NumeralOutcomes.{whole_to_letter, whole_to_end, fraction_to_letter, fraction_to_end}
@@ -90,22 +90,22 @@ pub record ReadsMagnitude (bs : List ℕ) (i : ℕ) (ws ds : List ℕ) (e : ℕ)
   pub all_fraction : All IsDigit ds
   pub to_letter : AreFewEnough ws ds → missing ≡ false → (r : Reading) (fs : Frames) (negative : Bool) → e < length bs
       → IsTrue (is_exponent_letter (get_or bs e 0))
-      → from r bs (numeral fs negative (begun (get_or bs i 0 == 48) (get_or bs i 0))) (i + 1)
+      → from r bs (numeral fs negative (after_first_digit (get_or bs i 0 == 48) (get_or bs i 0))) (i + 1)
       ≡ from r bs (numeral fs negative (lettered ws ds (get_or bs e 0))) (e + 1)
   pub to_end : AreFewEnough ws ds → missing ≡ false → (r : Reading) (fs : Frames) (negative : Bool)
       → (e < length bs → is_exponent_letter (get_or bs e 0) ≡ false)
-      → from r bs (numeral fs negative (begun (get_or bs i 0 == 48) (get_or bs i 0))) (i + 1)
-      ≡ from r bs (behind fs (value.number (read_number (not negative) ws ds (pos 0)))) e
+      → from r bs (numeral fs negative (after_first_digit (get_or bs i 0 == 48) (get_or bs i 0))) (i + 1)
+      ≡ from r bs (after_value fs (value.number (read_number (not negative) ws ds (pos 0)))) e
   pub stops : AreFewEnough ws ds → missing ≡ true → (r : Reading) (fs : Frames) (negative : Bool)
-      → from r bs (numeral fs negative (begun (get_or bs i 0 == 48) (get_or bs i 0))) (i + 1)
-      ≡ stopped (chars (drop e bs))
+      → from r bs (numeral fs negative (after_first_digit (get_or bs i 0 == 48) (get_or bs i 0))) (i + 1)
+      ≡ fault_here (chars (drop e bs))
   pub refuses : (f : DigitFault) → IsFirstTooMany ws ds f → (r : Reading) (fs : Frames) (negative : Bool)
-      → Tells (chars bs) ExceededDepthLimit (from r bs (numeral fs negative
-      (begun (get_or bs i 0 == 48) (get_or bs i 0))) (i + 1))
+      → Reports (chars bs) ExceededDepthLimit (from r bs (numeral fs negative
+      (after_first_digit (get_or bs i 0 == 48) (get_or bs i 0))) (i + 1))
 
 -- this error reports a fault at a digit
-tells_digit : (t rest : List ℕ) (o : Outcome) → o ≡ refused (limit digit) rest → Tells t ExceededDepthLimit o
-tells_digit t rest o e = subst (Tells t ExceededDepthLimit) (sym e) refl
+reports_digit : (t rest : List ℕ) (o : Outcome) → o ≡ refused (limit digit) rest → Reports t ExceededDepthLimit o
+reports_digit t rest o e = subst (Reports t ExceededDepthLimit) (sym e) refl
 
 pub letter_is_ascii : (c : ℕ) → is_exponent_letter c ≡ true → c < 128
 letter_is_ascii c h = grind (arith, nat_tests)
@@ -115,12 +115,12 @@ keeps_no_fraction ws = omega (arith, (kept_len_is_longest (ws ++ [])).within, le
 
 whole_too_many : (bs : List ℕ) (i : ℕ) (ws ds : List ℕ) → WholeStands bs i ws → 32768 ≤ dropped ws ds
     → (r : Reading) (fs : Frames) (negative : Bool)
-    → Tells (chars bs) ExceededDepthLimit (from r bs (numeral fs negative (begun (get_or bs i 0 == 48) (get_or bs i 0)))
+    → Reports (chars bs) ExceededDepthLimit (from r bs (numeral fs negative (after_first_digit (get_or bs i 0 == 48) (get_or bs i 0)))
     (i + 1))
 unfolding from
 whole_too_many bs i ws ds w many r fs negative =
     let k = (w.reads r).refuses fs negative ds many in
-    tells_digit (chars bs) k.0 _ k.1
+    reports_digit (chars bs) k.0 _ k.1
 
 pub reads_whole_alone : (bs : List ℕ) (i : ℕ) (ws : List ℕ) → IsUtf8 bs → WholeStands bs i ws
     → ((i + length ws < length bs) × (get_or bs (i + length ws) 0 ≡ 46) → ⊥)
@@ -147,8 +147,8 @@ reads_whole_alone bs i ws u w no_point =
     }
   where
     too_many : (f : DigitFault) → IsFirstTooMany ws [] f → (r : Reading) (fs : Frames) (negative : Bool)
-        → Tells (chars bs) ExceededDepthLimit (from r bs (numeral fs negative
-        (begun (get_or bs i 0 == 48) (get_or bs i 0))) (i + 1))
+        → Reports (chars bs) ExceededDepthLimit (from r bs (numeral fs negative
+        (after_first_digit (get_or bs i 0 == 48) (get_or bs i 0))) (i + 1))
     too_many (Whole k) h r fs negative = whole_too_many bs i ws [] w h.0 r fs negative
     too_many (Fraction k) h r fs negative = absurd (omega (arith, h.0, keeps_no_fraction ws))
 
@@ -156,7 +156,7 @@ reads_whole_alone bs i ws u w no_point =
 to_point : (bs : List ℕ) (i p : ℕ) (ws ds : List ℕ) → IsUtf8 bs → WholeStands bs i ws → p ≡ i + length ws
     → p < length bs → get_or bs p 0 ≡ 46
     → dropped ws ds < 32768 → (r : Reading) (fs : Frames) (negative : Bool)
-    → from r bs (numeral fs negative (begun (get_or bs i 0 == 48) (get_or bs i 0))) (i + 1)
+    → from r bs (numeral fs negative (after_first_digit (get_or bs i 0 == 48) (get_or bs i 0))) (i + 1)
     ≡ from r bs (numeral fs negative (pointed ws)) (p + 1)
 unfolding from
 to_point bs i p ws ds u w at lt is_point few r fs negative =
@@ -169,11 +169,11 @@ to_point bs i p ws ds u w at lt is_point few r fs negative =
 
 fraction_too_many : (bs : List ℕ) (j : ℕ) (ws ds : List ℕ) → AreDigitsAt bs j ds → 32769 ≤ kept_fraction ws ds
     → (r : Reading) (fs : Frames) (negative : Bool)
-    → Tells (chars bs) ExceededDepthLimit (from r bs (numeral fs negative (pointed ws)) j)
+    → Reports (chars bs) ExceededDepthLimit (from r bs (numeral fs negative (pointed ws)) j)
 unfolding from
 fraction_too_many bs j ws ds k many r fs negative =
     let some : 0 < length ds = omega (arith, (kept_len_is_longest (ws ++ ds)).within, length-append ws ds) in
-    tells_digit (chars bs) (drop 32768 ds ++ chars (drop (j + length ds) bs)) _
+    reports_digit (chars bs) (drop 32768 ds ++ chars (drop (j + length ds) bs)) _
     (ap (λ cs. outcome r cs (numeral fs negative (pointed ws))) k.split
     ∙ refuse_fraction r fs negative ws ds (chars (drop (j + length ds) bs)) (some_digits ds k.digits some) many)
 
@@ -189,7 +189,7 @@ reads_whole_and_fraction bs i p ws ds u w at lt is_point same =
     let there : (length ds == 0) ≡ false → IsDigits ds =
     λ has. some_digits ds k.digits (not_none (length ds) has) in
     let begins : dropped ws ds < 32768 → (r : Reading) (fs : Frames) (negative : Bool)
-    → from r bs (numeral fs negative (begun (get_or bs i 0 == 48) (get_or bs i 0))) (i + 1)
+    → from r bs (numeral fs negative (after_first_digit (get_or bs i 0 == 48) (get_or bs i 0))) (i + 1)
     ≡ outcome r (ds ++ chars (drop e bs)) (numeral fs negative (pointed ws)) =
     λ few r fs negative. to_point bs i p ws ds u w at lt is_point few r fs negative
     ∙ ap (λ cs. outcome r cs (numeral fs negative (pointed ws))) k.split in
@@ -218,10 +218,10 @@ reads_whole_and_fraction bs i p ws ds u w at lt is_point same =
 
     too_many : AreDigitsAt bs (p + 1) ds → (f : DigitFault) → IsFirstTooMany ws ds f
         → (r : Reading) (fs : Frames) (negative : Bool)
-        → Tells (chars bs) ExceededDepthLimit (from r bs (numeral fs negative
-        (begun (get_or bs i 0 == 48) (get_or bs i 0))) (i + 1))
+        → Reports (chars bs) ExceededDepthLimit (from r bs (numeral fs negative
+        (after_first_digit (get_or bs i 0 == 48) (get_or bs i 0))) (i + 1))
     too_many k (Whole n) h r fs negative = whole_too_many bs i ws ds w h.0 r fs negative
     too_many k (Fraction n) h r fs negative =
-        subst (Tells (chars bs) ExceededDepthLimit) (sym (to_point bs i p ws ds u w at lt is_point (omega (arith, h.0))
+        subst (Reports (chars bs) ExceededDepthLimit) (sym (to_point bs i p ws ds u w at lt is_point (omega (arith, h.0))
         r fs negative))
         (fraction_too_many bs (p + 1) ws ds k h.0 r fs negative)

@@ -20,7 +20,7 @@ use Rattle.jzon.specs.Reading.{Reading}
 use Rattle.jzon.specs.Grammar.{Sign, plus, minus, AreDigits, IsDigits}
 use Rattle.jzon.specs.Meaning as meaning
 use Rattle.jzon.specs.Classes.{lettered, signed_exponent}
-use Rattle.jzon.specs.Machine.{Frames, numeral, behind, outcome, from, stopped}
+use Rattle.jzon.specs.Machine.{Frames, numeral, after_value, outcome, from, fault_here}
 use Rattle.jzon.proofs.Texts.AsciiRuns.{chars-ascii, IsUtf8-past_ascii, stops_run}
 use Rattle.jzon.proofs.Texts.StepsByByte.{digit_is_ascii}
 use Rattle.jzon.proofs.Containers.LiteralLetters.{first_byte, some_byte}
@@ -99,7 +99,7 @@ digits_stand bs i ds u at e =
     let k : Begins (drop i bs) ds = subst (Begins (drop i bs)) (sym e) (begins (drop i bs) (IsUtf8-drop bs i u at)) in
     let n : length ds ≡ prefix_len is_ascii_digit (drop i bs) = ap length e
     ∙ length-prefix_len is_ascii_digit (drop i bs) in
-    let behind : drop (length ds) (drop i bs) ≡ drop (i + length ds) bs = drop-drop (length ds) i bs in
+    let after_value : drop (length ds) (drop i bs) ≡ drop (i + length ds) bs = drop-drop (length ds) i bs in
     let at_end : IsCharBoundary bs (i + length ds) =
     IsCharBoundary-from_drop bs (i + length ds) (omega (
       arith,
@@ -107,9 +107,9 @@ digits_stand bs i ds u at e =
       prefix_len-le-length is_ascii_digit (drop i bs),
       length-drop i bs,
       at.0,
-    )) (subst IsUtf8 behind k.utf8) in
+    )) (subst IsUtf8 after_value k.utf8) in
     record {
-      split = k.split ∙ ap (λ z. ds ++ chars z) behind;
+      split = k.split ∙ ap (λ z. ds ++ chars z) after_value;
       digits = k.digits;
       all = k.all;
       boundary = at_end;
@@ -126,9 +126,9 @@ pub record ReadsExponent (bs : List ℕ) (i : ℕ) (positive : Bool) (xs : List 
   pub all : All IsDigit xs
   pub number : 0 < length xs → (r : Reading) (fs : Frames) (negative : Bool) (ws ds : List ℕ) (l : ℕ)
       → from r bs (numeral fs negative (lettered ws ds l)) i
-      ≡ from r bs (behind fs (value.number (read_number (not negative) ws ds (signed positive (digits_number xs))))) e
+      ≡ from r bs (after_value fs (value.number (read_number (not negative) ws ds (signed positive (digits_number xs))))) e
   pub missing : length xs ≡ 0 → (r : Reading) (fs : Frames) (negative : Bool) (ws ds : List ℕ) (l : ℕ)
-      → from r bs (numeral fs negative (lettered ws ds l)) i ≡ stopped (chars (drop e bs))
+      → from r bs (numeral fs negative (lettered ws ds l)) i ≡ fault_here (chars (drop e bs))
 
 pub some_digits : (ds : List ℕ) → AreDigits ds → 0 < length ds → IsDigits ds
 some_digits [] ok some = absurd (omega arith)
@@ -159,7 +159,7 @@ reads_unsigned bs i xs u at no_minus no_plus e =
           (λ lt. ne_eqb (get_or bs i 0) 43 (λ same. no_plus (lt, same))))
           (next_fails (λ c. c == 45) bs i (λ c e. omega (arith, eqb-true c 45 e)) u at
           (λ lt. ne_eqb (get_or bs i 0) 45 (λ same. no_minus (lt, same))))
-          ∙ ap stopped here;
+          ∙ ap fault_here here;
     }
 
 -- after a sign at offset i
@@ -188,7 +188,7 @@ reads_signed bs i xs s b positive u at lt here ascii step sign e =
       all = k.all;
       number = λ some r fs negative ws ds l. to_sign r fs negative ws ds l
           ∙ signed_to_end r ws ds l s xs rest fs negative (some_digits xs k.digits some) k.next
-          ∙ ap (λ z. outcome r rest (behind fs (value.number (read_number (not negative) ws ds z))))
+          ∙ ap (λ z. outcome r rest (after_value fs (value.number (read_number (not negative) ws ds z))))
           (sym (sign (digits_number xs)));
       missing = λ none r fs negative ws ds l. to_sign r fs negative ws ds l
           ∙ ap (λ cs. outcome r cs (numeral fs negative (signed_exponent ws ds l s))) (no_digits xs rest none)

@@ -8,11 +8,11 @@ use Rattle.jzon.specs.Reading.{Reading}
 use Rattle.jzon.specs.Grammar.{Sign, unsigned, plus, minus, AreDigits, IsDigits, is_exponent_letter}
 use Rattle.jzon.specs.Spelling.{digit, onto}
 use Rattle.jzon.specs.Fault.{limit}
-use Rattle.jzon.specs.Classes.{Class, digits, dash, cross, point, letter_e, class_of, NumberPlace, zero_read, whole}
-use Rattle.jzon.specs.Classes.{pointed, fraction, lettered, signed_exponent, exponent, begun}
-use Rattle.jzon.specs.Machine.{Frames, Place, numeral, behind, go, bad, move, move_behind, move_after_whole}
+use Rattle.jzon.specs.Classes.{Class, digits, minus_char, plus_char, point, letter_e, class_of, NumberState, zero_read, whole}
+use Rattle.jzon.specs.Classes.{pointed, fraction, lettered, signed_exponent, exponent, after_first_digit}
+use Rattle.jzon.specs.Machine.{Frames, State, numeral, after_value, go, bad, move, move_after_value, move_after_whole}
 use Rattle.jzon.specs.Machine.{move_numeral, number_value, exponent_of, last, meant_at, refused, outcome_on, outcome}
-use Rattle.jzon.specs.Machine.{stopped}
+use Rattle.jzon.specs.Machine.{fault_here}
 use Rattle.jzon.proofs.Texts.ClassesOfCharacters.{letter_e-class, class-char, class-says}
 use Rattle.jzon.proofs.Numbers.NumberLimits.{onto-onto}
 use Rattle.jzon.proofs.Numbers.DigitRuns.{read_whole, refuse_whole, read_fraction, read_unsigned_exponent}
@@ -23,7 +23,7 @@ abbrev pub NextFails : (ℕ → Bool) → List ℕ → Type 0
 NextFails test [] = ⊤
 NextFails test (c ∷ cs) = test c ≡ false
 
-read_one : (r : Reading) (p q : Place) (c : ℕ) (cs : List ℕ) → move r p c (length (c ∷ cs)) ≡ go None q
+read_one : (r : Reading) (p q : State) (c : ℕ) (cs : List ℕ) → move r p c (length (c ∷ cs)) ≡ go None q
     → outcome r (c ∷ cs) p ≡ outcome r cs q
 read_one r p q c cs e = ap (λ m. outcome_on m (λ x. outcome r cs x) (c ∷ cs)) e
 
@@ -38,10 +38,10 @@ no_letter s c fails e = true≢false (sym (class-says s c e) ∙ fails)
 no_point : (s : Bool) (c : ℕ) → (c == 46) ≡ false → class_of s c ≡ point → ⊥
 no_point s c fails e = true≢false (sym (eq-eqb c 46 (class-says s c e)) ∙ fails)
 
-no_plus : (s : Bool) (c : ℕ) → (c == 43) ≡ false → class_of s c ≡ cross → ⊥
+no_plus : (s : Bool) (c : ℕ) → (c == 43) ≡ false → class_of s c ≡ plus_char → ⊥
 no_plus s c fails e = true≢false (sym (eq-eqb c 43 (class-says s c e)) ∙ fails)
 
-no_minus : (s : Bool) (c : ℕ) → (c == 45) ≡ false → class_of s c ≡ dash → ⊥
+no_minus : (s : Bool) (c : ℕ) → (c == 45) ≡ false → class_of s c ≡ minus_char → ⊥
 no_minus s c fails e = true≢false (sym (eq-eqb c 45 (class-says s c e)) ∙ fails)
 
 -- ---- a missing digit
@@ -52,22 +52,22 @@ pointed_stops digits fs negative ws c fails = absurd (fails refl)
 pointed_stops k fs negative ws c fails = refl
 
 pub stop_pointed : (r : Reading) (fs : Frames) (negative : Bool) (ws cs : List ℕ) → NextFails is_ascii_digit cs
-    → outcome r cs (numeral fs negative (pointed ws)) ≡ stopped cs
+    → outcome r cs (numeral fs negative (pointed ws)) ≡ fault_here cs
 stop_pointed r fs negative ws [] h = refl
 stop_pointed r fs negative ws (c ∷ cs) h =
     ap (λ m. outcome_on m (λ x. outcome r cs x) (c ∷ cs)) (pointed_stops (class_of r.strict c) fs negative ws c
     (no_digit r.strict c h))
 
 lettered_stops : (k : Class) (fs : Frames) (negative : Bool) (ws ds : List ℕ) (l c : ℕ) → (k ≡ digits → ⊥)
-    → (k ≡ cross → ⊥) → (k ≡ dash → ⊥) → move_numeral (lettered ws ds l) k fs negative c ≡ bad
+    → (k ≡ plus_char → ⊥) → (k ≡ minus_char → ⊥) → move_numeral (lettered ws ds l) k fs negative c ≡ bad
 lettered_stops digits fs negative ws ds l c fails no_cross no_dash = absurd (fails refl)
-lettered_stops cross fs negative ws ds l c fails no_cross no_dash = absurd (no_cross refl)
-lettered_stops dash fs negative ws ds l c fails no_cross no_dash = absurd (no_dash refl)
+lettered_stops plus_char fs negative ws ds l c fails no_cross no_dash = absurd (no_cross refl)
+lettered_stops minus_char fs negative ws ds l c fails no_cross no_dash = absurd (no_dash refl)
 lettered_stops k fs negative ws ds l c fails no_cross no_dash = refl
 
 pub stop_lettered : (r : Reading) (fs : Frames) (negative : Bool) (ws ds : List ℕ) (l : ℕ) (cs : List ℕ)
     → NextFails is_ascii_digit cs → NextFails (λ c. c == 43) cs → NextFails (λ c. c == 45) cs
-    → outcome r cs (numeral fs negative (lettered ws ds l)) ≡ stopped cs
+    → outcome r cs (numeral fs negative (lettered ws ds l)) ≡ fault_here cs
 stop_lettered r fs negative ws ds l [] h p m = refl
 stop_lettered r fs negative ws ds l (c ∷ cs) h p m =
     ap (λ m. outcome_on m (λ x. outcome r cs x) (c ∷ cs))
@@ -80,7 +80,7 @@ signed_stops digits fs negative ws ds l s c fails = absurd (fails refl)
 signed_stops k fs negative ws ds l s c fails = refl
 
 pub stop_signed : (r : Reading) (fs : Frames) (negative : Bool) (ws ds : List ℕ) (l : ℕ) (s : Sign) (cs : List ℕ)
-    → NextFails is_ascii_digit cs → outcome r cs (numeral fs negative (signed_exponent ws ds l s)) ≡ stopped cs
+    → NextFails is_ascii_digit cs → outcome r cs (numeral fs negative (signed_exponent ws ds l s)) ≡ fault_here cs
 stop_signed r fs negative ws ds l s [] h = refl
 stop_signed r fs negative ws ds l s (c ∷ cs) h =
     ap (λ m. outcome_on m (λ x. outcome r cs x) (c ∷ cs)) (signed_stops (class_of r.strict c) fs negative ws ds l s c
@@ -89,15 +89,15 @@ stop_signed r fs negative ws ds l s (c ∷ cs) h =
 -- ---- whole digits
 
 -- In this state the whole digits ws are read; a character that passes the test would be one more.
-record IsBehindWhole (r : Reading) (fs : Frames) (negative : Bool) (x : NumberPlace) (ws : List ℕ) (more : ℕ → Bool) :
+record IsAfterWhole (r : Reading) (fs : Frames) (negative : Bool) (x : NumberState) (ws : List ℕ) (more : ℕ → Bool) :
     Type 0 where
   moves : (c : ℕ) → more c ≡ false → move r (numeral fs negative x) c 0
       ≡ move_after_whole (class_of r.strict c) fs negative ws c
   ends : last (numeral fs negative x) ≡ meant_at fs (number_value negative ws [] None)
 
-zero_is_behind : (r : Reading) (fs : Frames) (negative : Bool)
-    → IsBehindWhole r fs negative zero_read (48 ∷ []) (λ c. false)
-zero_is_behind r fs negative = record { moves = λ c fails. refl; ends = refl }
+zero_is_after : (r : Reading) (fs : Frames) (negative : Bool)
+    → IsAfterWhole r fs negative zero_read (48 ∷ []) (λ c. false)
+zero_is_after r fs negative = record { moves = λ c fails. refl; ends = refl }
 
 whole_moves : (k : Class) (fs : Frames) (negative : Bool) (ds : List ℕ) (c : ℕ) → (k ≡ digits → ⊥)
     → move_numeral (whole ds) k fs negative c ≡ move_after_whole k fs negative (onto ds []) c
@@ -108,9 +108,9 @@ whole_moves k fs negative ds c fails = refl
 in_order : (d : ℕ) (es : List ℕ) → onto (onto es (d ∷ [])) [] ≡ d ∷ es
 in_order d es = onto-onto es (d ∷ []) [] ∙ ap (λ l. d ∷ l) (append-nil es)
 
-whole_is_behind : (r : Reading) (fs : Frames) (negative : Bool) (d : ℕ) (es : List ℕ)
-    → IsBehindWhole r fs negative (whole (onto es (d ∷ []))) (d ∷ es) is_ascii_digit
-whole_is_behind r fs negative d es = record {
+whole_is_after : (r : Reading) (fs : Frames) (negative : Bool) (d : ℕ) (es : List ℕ)
+    → IsAfterWhole r fs negative (whole (onto es (d ∷ []))) (d ∷ es) is_ascii_digit
+whole_is_after r fs negative d es = record {
   moves = λ c fails. whole_moves (class_of r.strict c) fs negative (onto es (d ∷ [])) c (no_digit r.strict c fails)
       ∙ ap (λ ws. move_after_whole (class_of r.strict c) fs negative ws c) (in_order d es);
   ends = ap (λ ws. meant_at fs (number_value negative ws [] None)) (in_order d es);
@@ -120,23 +120,23 @@ whole_is_behind r fs negative d es = record {
 -- after them.
 pub record ReadsWhole (r : Reading) (d : ℕ) (ws cs rest : List ℕ) : Type 0 where
   pub some : 0 < length ws
-  place : NumberPlace
+  place : NumberState
   more : ℕ → Bool
-  is_behind : (fs : Frames) (negative : Bool) → IsBehindWhole r fs negative place ws more
+  is_after : (fs : Frames) (negative : Bool) → IsAfterWhole r fs negative place ws more
   next : NextFails more rest
   reads : (fs : Frames) (negative : Bool) (gs : List ℕ) → dropped ws gs < 32768
-      → outcome r cs (numeral fs negative (begun (d == 48) d)) ≡ outcome r rest (numeral fs negative place)
+      → outcome r cs (numeral fs negative (after_first_digit (d == 48) d)) ≡ outcome r rest (numeral fs negative place)
   pub refuses : (fs : Frames) (negative : Bool) (gs : List ℕ) → 32768 ≤ dropped ws gs
-      → (left : List ℕ) × (outcome r cs (numeral fs negative (begun (d == 48) d)) ≡ refused (limit digit) left)
+      → (left : List ℕ) × (outcome r cs (numeral fs negative (after_first_digit (d == 48) d)) ≡ refused (limit digit) left)
 
 pub reads_zero : (r : Reading) (d : ℕ) (cs : List ℕ) → (d == 48) ≡ true → ReadsWhole r d (48 ∷ []) cs cs
 reads_zero r d cs zero = record {
   some = omega arith;
   place = zero_read;
   more = λ c. false;
-  is_behind = λ fs negative. zero_is_behind r fs negative;
+  is_after = λ fs negative. zero_is_after r fs negative;
   next = nothing cs;
-  reads = λ fs negative gs few. ap (λ t. outcome r cs (numeral fs negative (begun t d))) zero;
+  reads = λ fs negative gs few. ap (λ t. outcome r cs (numeral fs negative (after_first_digit t d))) zero;
   refuses = λ fs negative gs many. absurd (omega arith);
 }
   where
@@ -151,56 +151,56 @@ reads_digits r d es rest some ok stop = record {
   some = omega arith;
   place = whole (onto es (d ∷ []));
   more = is_ascii_digit;
-  is_behind = λ fs negative. whole_is_behind r fs negative d es;
+  is_after = λ fs negative. whole_is_after r fs negative d es;
   next = stop;
-  reads = λ fs negative gs few. ap (λ t. outcome r (es ++ rest) (numeral fs negative (begun t d))) some
+  reads = λ fs negative gs few. ap (λ t. outcome r (es ++ rest) (numeral fs negative (after_first_digit t d))) some
       ∙ read_whole r fs negative (d ∷ []) es rest gs ok few;
   refuses = λ fs negative gs many. (
     drop (kept_len (d ∷ es ++ gs) + 32766) es ++ rest,
-    ap (λ t. outcome r (es ++ rest) (numeral fs negative (begun t d))) some
+    ap (λ t. outcome r (es ++ rest) (numeral fs negative (after_first_digit t d))) some
         ∙ refuse_whole r fs negative (d ∷ []) es rest gs (kept_len (d ∷ es ++ gs) + 32766) ok many (omega arith),
   );
 }
 
-behind_point : (fs : Frames) (negative : Bool) (ws : List ℕ) (k : Class) (c : ℕ) → k ≡ point
+after_point : (fs : Frames) (negative : Bool) (ws : List ℕ) (k : Class) (c : ℕ) → k ≡ point
     → move_after_whole k fs negative ws c ≡ go None (numeral fs negative (pointed ws))
-behind_point fs negative ws k c e = rw e refl
+after_point fs negative ws k c e = rw e refl
 
 pub whole_to_point : (r : Reading) (d : ℕ) (ws cs rest gs : List ℕ) (fs : Frames) (negative : Bool)
     → ReadsWhole r d ws cs (46 ∷ rest) → dropped ws gs < 32768
-    → outcome r cs (numeral fs negative (begun (d == 48) d)) ≡ outcome r rest (numeral fs negative (pointed ws))
+    → outcome r cs (numeral fs negative (after_first_digit (d == 48) d)) ≡ outcome r rest (numeral fs negative (pointed ws))
 whole_to_point r d ws cs rest gs fs negative h few =
     h.reads fs negative gs few
     ∙ read_one r (numeral fs negative h.place) (numeral fs negative (pointed ws)) 46 rest
-    ((h.is_behind fs negative).moves 46 h.next ∙ behind_point fs negative ws (class_of r.strict 46) 46
+    ((h.is_after fs negative).moves 46 h.next ∙ after_point fs negative ws (class_of r.strict 46) 46
     (class-char r.strict point))
 
-behind_letter : (fs : Frames) (negative : Bool) (ws : List ℕ) (k : Class) (l : ℕ) → k ≡ letter_e
+after_letter : (fs : Frames) (negative : Bool) (ws : List ℕ) (k : Class) (l : ℕ) → k ≡ letter_e
     → move_after_whole k fs negative ws l ≡ go None (numeral fs negative (lettered ws [] l))
-behind_letter fs negative ws k l e = rw e refl
+after_letter fs negative ws k l e = rw e refl
 
 pub whole_to_letter : (r : Reading) (d l : ℕ) (ws cs rest : List ℕ) (fs : Frames) (negative : Bool)
     → ReadsWhole r d ws cs (l ∷ rest) → dropped ws [] < 32768 → IsTrue (is_exponent_letter l)
-    → outcome r cs (numeral fs negative (begun (d == 48) d)) ≡ outcome r rest (numeral fs negative (lettered ws [] l))
+    → outcome r cs (numeral fs negative (after_first_digit (d == 48) d)) ≡ outcome r rest (numeral fs negative (lettered ws [] l))
 whole_to_letter r d l ws cs rest fs negative h few letter =
     h.reads fs negative [] few
     ∙ read_one r (numeral fs negative h.place) (numeral fs negative (lettered ws [] l)) l rest
-    ((h.is_behind fs negative).moves l h.next ∙ behind_letter fs negative ws (class_of r.strict l) l
+    ((h.is_after fs negative).moves l h.next ∙ after_letter fs negative ws (class_of r.strict l) l
     (letter_e-class r.strict l letter))
 
 whole_ends : (k : Class) (fs : Frames) (negative : Bool) (ws : List ℕ) (c : ℕ) → (k ≡ point → ⊥) → (k ≡ letter_e → ⊥)
-    → move_after_whole k fs negative ws c ≡ move_behind k fs (number_value negative ws [] None)
+    → move_after_whole k fs negative ws c ≡ move_after_value k fs (number_value negative ws [] None)
 whole_ends point fs negative ws c no_dot no_e = absurd (no_dot refl)
 whole_ends letter_e fs negative ws c no_dot no_e = absurd (no_e refl)
 whole_ends k fs negative ws c no_dot no_e = refl
 
-behind_whole : (r : Reading) (fs : Frames) (negative : Bool) (x : NumberPlace) (ws : List ℕ) (more : ℕ → Bool)
+after_whole : (r : Reading) (fs : Frames) (negative : Bool) (x : NumberState) (ws : List ℕ) (more : ℕ → Bool)
     (cs : List ℕ)
-    → IsBehindWhole r fs negative x ws more → NextFails more cs → NextFails (λ c. c == 46) cs
+    → IsAfterWhole r fs negative x ws more → NextFails more cs → NextFails (λ c. c == 46) cs
     → NextFails is_exponent_letter cs
-    → outcome r cs (numeral fs negative x) ≡ outcome r cs (behind fs (number_value negative ws [] None))
-behind_whole r fs negative x ws more [] h stop no_dot no_e = h.ends
-behind_whole r fs negative x ws more (c ∷ cs) h stop no_dot no_e =
+    → outcome r cs (numeral fs negative x) ≡ outcome r cs (after_value fs (number_value negative ws [] None))
+after_whole r fs negative x ws more [] h stop no_dot no_e = h.ends
+after_whole r fs negative x ws more (c ∷ cs) h stop no_dot no_e =
     ap (λ m. outcome_on m (λ p. outcome r cs p) (c ∷ cs))
     (h.moves c stop ∙ whole_ends (class_of r.strict c) fs negative ws c (no_point r.strict c no_dot)
     (no_letter r.strict c no_e))
@@ -208,10 +208,10 @@ behind_whole r fs negative x ws more (c ∷ cs) h stop no_dot no_e =
 pub whole_to_end : (r : Reading) (d : ℕ) (ws cs rest : List ℕ) (fs : Frames) (negative : Bool)
     → ReadsWhole r d ws cs rest → dropped ws [] < 32768
     → NextFails (λ c. c == 46) rest → NextFails is_exponent_letter rest
-    → outcome r cs (numeral fs negative (begun (d == 48) d))
-    ≡ outcome r rest (behind fs (number_value negative ws [] None))
+    → outcome r cs (numeral fs negative (after_first_digit (d == 48) d))
+    ≡ outcome r rest (after_value fs (number_value negative ws [] None))
 whole_to_end r d ws cs rest fs negative h few no_dot no_e =
-    h.reads fs negative [] few ∙ behind_whole r fs negative h.place ws h.more rest (h.is_behind fs negative) h.next
+    h.reads fs negative [] few ∙ after_whole r fs negative h.place ws h.more rest (h.is_after fs negative) h.next
     no_dot no_e
 
 -- ---- fraction digits
@@ -221,17 +221,17 @@ same_order ds = onto-onto ds [] [] ∙ append-nil ds
 
 fraction_ends : (k : Class) (fs : Frames) (negative : Bool) (ws ds : List ℕ) (c : ℕ) → (k ≡ digits → ⊥)
     → (k ≡ letter_e → ⊥)
-    → move_numeral (fraction ws ds) k fs negative c ≡ move_behind k fs (number_value negative ws (onto ds []) None)
+    → move_numeral (fraction ws ds) k fs negative c ≡ move_after_value k fs (number_value negative ws (onto ds []) None)
 fraction_ends digits fs negative ws ds c no_more no_e = absurd (no_more refl)
 fraction_ends letter_e fs negative ws ds c no_more no_e = absurd (no_e refl)
 fraction_ends k fs negative ws ds c no_more no_e = refl
 
-behind_fraction : (r : Reading) (fs : Frames) (negative : Bool) (ws ds cs : List ℕ) → NextFails is_ascii_digit cs
+after_fraction : (r : Reading) (fs : Frames) (negative : Bool) (ws ds cs : List ℕ) → NextFails is_ascii_digit cs
     → NextFails is_exponent_letter cs
     → outcome r cs (numeral fs negative (fraction ws ds)) ≡ outcome r cs
-    (behind fs (number_value negative ws (onto ds []) None))
-behind_fraction r fs negative ws ds [] stop no_e = refl
-behind_fraction r fs negative ws ds (c ∷ cs) stop no_e =
+    (after_value fs (number_value negative ws (onto ds []) None))
+after_fraction r fs negative ws ds [] stop no_e = refl
+after_fraction r fs negative ws ds (c ∷ cs) stop no_e =
     ap (λ m. outcome_on m (λ p. outcome r cs p) (c ∷ cs))
     (fraction_ends (class_of r.strict c) fs negative ws ds c (no_digit r.strict c stop) (no_letter r.strict c no_e))
 
@@ -239,10 +239,10 @@ pub fraction_to_end : (r : Reading) (ws ds rest : List ℕ) (fs : Frames) (negat
     → kept_fraction ws ds < 32769
     → NextFails is_ascii_digit rest → NextFails is_exponent_letter rest
     → outcome r (ds ++ rest) (numeral fs negative (pointed ws))
-    ≡ outcome r rest (behind fs (number_value negative ws ds None))
+    ≡ outcome r rest (after_value fs (number_value negative ws ds None))
 fraction_to_end r ws ds rest fs negative ok few stop no_e =
-    read_fraction r fs negative ws ds rest ok few ∙ behind_fraction r fs negative ws (onto ds []) rest stop no_e
-    ∙ ap (λ xs. outcome r rest (behind fs (number_value negative ws xs None))) (same_order ds)
+    read_fraction r fs negative ws ds rest ok few ∙ after_fraction r fs negative ws (onto ds []) rest stop no_e
+    ∙ ap (λ xs. outcome r rest (after_value fs (number_value negative ws xs None))) (same_order ds)
 
 fraction_letter : (fs : Frames) (negative : Bool) (ws ds : List ℕ) (k : Class) (l : ℕ) → k ≡ letter_e
     → move_numeral (fraction ws ds) k fs negative l ≡ go None (numeral fs negative (lettered ws (onto ds []) l))
@@ -264,32 +264,32 @@ fraction_to_letter r l ws ds rest fs negative ok few letter =
 
 exponent_ends : (k : Class) (fs : Frames) (negative : Bool) (ws ds : List ℕ) (l : ℕ) (s : Sign) (xs : List ℕ) (c : ℕ)
     → (k ≡ digits → ⊥)
-    → move_numeral (exponent ws ds l s xs) k fs negative c ≡ move_behind k fs
+    → move_numeral (exponent ws ds l s xs) k fs negative c ≡ move_after_value k fs
     (number_value negative ws ds (exponent_of l s (onto xs [])))
 exponent_ends digits fs negative ws ds l s xs c no_more = absurd (no_more refl)
 exponent_ends k fs negative ws ds l s xs c no_more = refl
 
-behind_exponent : (r : Reading) (fs : Frames) (negative : Bool) (ws ds : List ℕ) (l : ℕ) (s : Sign) (xs cs : List ℕ)
+after_exponent : (r : Reading) (fs : Frames) (negative : Bool) (ws ds : List ℕ) (l : ℕ) (s : Sign) (xs cs : List ℕ)
     → NextFails is_ascii_digit cs
     → outcome r cs (numeral fs negative (exponent ws ds l s xs))
-    ≡ outcome r cs (behind fs (number_value negative ws ds (exponent_of l s (onto xs []))))
-behind_exponent r fs negative ws ds l s xs [] stop = refl
-behind_exponent r fs negative ws ds l s xs (c ∷ cs) stop =
+    ≡ outcome r cs (after_value fs (number_value negative ws ds (exponent_of l s (onto xs []))))
+after_exponent r fs negative ws ds l s xs [] stop = refl
+after_exponent r fs negative ws ds l s xs (c ∷ cs) stop =
     ap (λ m. outcome_on m (λ p. outcome r cs p) (c ∷ cs))
     (exponent_ends (class_of r.strict c) fs negative ws ds l s xs c (no_digit r.strict c stop))
 
 collected_to_end : (r : Reading) (fs : Frames) (negative : Bool) (ws ds : List ℕ) (l : ℕ) (s : Sign) (xs rest : List ℕ)
     → NextFails is_ascii_digit rest
     → outcome r rest (numeral fs negative (exponent ws ds l s (onto xs [])))
-    ≡ outcome r rest (behind fs (number_value negative ws ds (exponent_of l s xs)))
+    ≡ outcome r rest (after_value fs (number_value negative ws ds (exponent_of l s xs)))
 collected_to_end r fs negative ws ds l s xs rest stop =
-    behind_exponent r fs negative ws ds l s (onto xs []) rest stop
-    ∙ ap (λ ys. outcome r rest (behind fs (number_value negative ws ds (exponent_of l s ys)))) (same_order xs)
+    after_exponent r fs negative ws ds l s (onto xs []) rest stop
+    ∙ ap (λ ys. outcome r rest (after_value fs (number_value negative ws ds (exponent_of l s ys)))) (same_order xs)
 
 pub unsigned_to_end : (r : Reading) (ws ds : List ℕ) (l : ℕ) (xs rest : List ℕ) (fs : Frames) (negative : Bool)
     → IsDigits xs → NextFails is_ascii_digit rest
     → outcome r (xs ++ rest) (numeral fs negative (lettered ws ds l))
-    ≡ outcome r rest (behind fs (number_value negative ws ds (exponent_of l unsigned xs)))
+    ≡ outcome r rest (after_value fs (number_value negative ws ds (exponent_of l unsigned xs)))
 unsigned_to_end r ws ds l xs rest fs negative ok stop =
     read_unsigned_exponent r fs negative ws ds l xs rest ok ∙ collected_to_end r fs negative ws ds l unsigned xs rest
     stop
@@ -297,16 +297,16 @@ unsigned_to_end r ws ds l xs rest fs negative ok stop =
 pub signed_to_end : (r : Reading) (ws ds : List ℕ) (l : ℕ) (s : Sign) (xs rest : List ℕ) (fs : Frames) (negative : Bool)
     → IsDigits xs → NextFails is_ascii_digit rest
     → outcome r (xs ++ rest) (numeral fs negative (signed_exponent ws ds l s))
-    ≡ outcome r rest (behind fs (number_value negative ws ds (exponent_of l s xs)))
+    ≡ outcome r rest (after_value fs (number_value negative ws ds (exponent_of l s xs)))
 signed_to_end r ws ds l s xs rest fs negative ok stop =
     read_signed_exponent r fs negative ws ds l s xs rest ok ∙ collected_to_end r fs negative ws ds l s xs rest stop
 
 pub letter_to_plus : (r : Reading) (ws ds : List ℕ) (l : ℕ) (cs : List ℕ) (fs : Frames) (negative : Bool)
     → outcome r (43 ∷ cs) (numeral fs negative (lettered ws ds l))
     ≡ outcome r cs (numeral fs negative (signed_exponent ws ds l plus))
-letter_to_plus r ws ds l cs fs negative = rw (class-char r.strict cross) refl
+letter_to_plus r ws ds l cs fs negative = rw (class-char r.strict plus_char) refl
 
 pub letter_to_minus : (r : Reading) (ws ds : List ℕ) (l : ℕ) (cs : List ℕ) (fs : Frames) (negative : Bool)
     → outcome r (45 ∷ cs) (numeral fs negative (lettered ws ds l))
     ≡ outcome r cs (numeral fs negative (signed_exponent ws ds l minus))
-letter_to_minus r ws ds l cs fs negative = rw (class-char r.strict dash) refl
+letter_to_minus r ws ds l cs fs negative = rw (class-char r.strict minus_char) refl

@@ -12,9 +12,9 @@ use Rattle.jzon.specs.Grammar.{Sign, unsigned, plus, minus, Exponent, Numeral, A
 use Rattle.jzon.specs.Grammar.{IsNumeral}
 use Rattle.jzon.specs.Spelling.{onto}
 use Rattle.jzon.specs.Meaning.{number_of}
-use Rattle.jzon.specs.Classes.{Class, digits, dash, cross, point, letter_e, class_of, NumberPlace, signed, zero_read}
-use Rattle.jzon.specs.Classes.{whole, pointed, fraction, lettered, signed_exponent, exponent, begun}
-use Rattle.jzon.specs.Machine.{Frames, numeral, number_value, exponent_of, move_behind, meant_at, move_after_whole}
+use Rattle.jzon.specs.Classes.{Class, digits, minus_char, plus_char, point, letter_e, class_of, NumberState, after_minus, zero_read}
+use Rattle.jzon.specs.Classes.{whole, pointed, fraction, lettered, signed_exponent, exponent, after_first_digit}
+use Rattle.jzon.specs.Machine.{Frames, numeral, number_value, exponent_of, move_after_value, meant_at, move_after_whole}
 use Rattle.jzon.specs.Machine.{move_numeral, last_numeral, meant}
 use Rattle.jzon.proofs.Texts.ClassesOfCharacters.{class-says}
 use Rattle.jzon.proofs.Texts.Runs.{On, Goes}
@@ -38,8 +38,8 @@ module _ (r : Reading) (v : Value) (fs : Frames) (Beh : Value → List ℕ → T
       × TailLeft negative (c ∷ es) u
 
   -- inside a number; after a minus it is negative
-  abbrev pub InNumeral : Bool → NumberPlace → List ℕ → Type 0
-  InNumeral negative signed t = (c : ℕ) × (u : List ℕ) × (t ≡ c ∷ u) × MagnitudeLeft true c u
+  abbrev pub InNumeral : Bool → NumberState → List ℕ → Type 0
+  InNumeral negative after_minus t = (c : ℕ) × (u : List ℕ) × (t ≡ c ∷ u) × MagnitudeLeft true c u
   InNumeral negative zero_read t = TailLeft negative (48 ∷ []) t
   InNumeral negative (whole ds) t = (es : List ℕ) × (u : List ℕ) × AreDigits es × (t ≡ es ++ u)
       × TailLeft negative (onto ds es) u
@@ -66,14 +66,14 @@ module _ (r : Reading) (v : Value) (fs : Frames) (Beh : Value → List ℕ → T
       (x ∷ es, u, (and_not (is_ascii_digit c) (c == 48) ok e, es_ok), f, h)
 
   pub magnitude_left : (is_zero negative : Bool) (c : ℕ) (t : List ℕ) → IsTrue (is_ascii_digit c) → c == 48 ≡ is_zero
-      → InNumeral negative (begun is_zero c) t → MagnitudeLeft negative c t
+      → InNumeral negative (after_first_digit is_zero c) t → MagnitudeLeft negative c t
   magnitude_left true negative c t ok e h =
       ([], t, ok, refl, subst (λ z. TailLeft negative (z ∷ []) t) (sym (eqb-true c 48 e)) h)
   magnitude_left false negative c t ok e h = first_whole negative c t ok e h
 
   -- ---- the end of the text
 
-  pub number_ends : (ends : (x : Value) → meant_at fs x ≡ meant v → Beh x []) (x : NumberPlace) (negative : Bool)
+  pub number_ends : (ends : (x : Value) → meant_at fs x ≡ meant v → Beh x []) (x : NumberState) (negative : Bool)
       → last_numeral x fs negative ≡ meant v → InNumeral negative x []
   number_ends ends zero_read negative h = ([], None, [], tt, tt, refl, ends _ h)
   number_ends ends (whole ds) negative h = ([], [], tt, refl, ([], None, [], tt, tt, refl, ends _ h))
@@ -84,12 +84,12 @@ module _ (r : Reading) (v : Value) (fs : Frames) (Beh : Value → List ℕ → T
   -- ---- one character, of this class
 
   module _ (c : ℕ) (cs : List ℕ)
-      (ih : (b : Bool) (y : NumberPlace) → Goes r v cs (numeral fs b y) → InNumeral b y cs) where
-    abbrev C : Class → Bool → NumberPlace → Type 0
+      (ih : (b : Bool) (y : NumberState) → Goes r v cs (numeral fs b y) → InNumeral b y cs) where
+    abbrev C : Class → Bool → NumberState → Type 0
     C k negative x = On (move_numeral x k fs negative c) (λ p. Goes r v cs p)
 
     abbrev After : Class → Type 0
-    After k = (x : Value) → On (move_behind k fs x) (λ p. Goes r v cs p) → Beh x (c ∷ cs)
+    After k = (x : Value) → On (move_after_value k fs x) (λ p. Goes r v cs p) → Beh x (c ∷ cs)
 
     exponent_on : (k : Class) (negative : Bool) (ws ds : List ℕ) (l : ℕ) (s : Sign) (xs : List ℕ)
         → class_of r.strict c ≡ k → After k → C k negative (exponent ws ds l s xs)
@@ -112,10 +112,10 @@ module _ (r : Reading) (v : Value) (fs : Frames) (Beh : Value → List ℕ → T
     letter_on digits negative ws ds l e h =
         let g = ih negative (exponent ws ds l unsigned (c ∷ [])) h in
         (unsigned, c ∷ g.0, g.1, (class-says r.strict c e, g.2), ap (λ z. c ∷ z) g.3, g.4)
-    letter_on cross negative ws ds l e h =
+    letter_on plus_char negative ws ds l e h =
         let g = ih negative (signed_exponent ws ds l plus) h in
         (plus, g.0, g.1, g.2, rw (class-says r.strict c e) (ap (λ z. 43 ∷ z) g.3), g.4)
-    letter_on dash negative ws ds l e h =
+    letter_on minus_char negative ws ds l e h =
         let g = ih negative (signed_exponent ws ds l minus) h in
         (minus, g.0, g.1, g.2, rw (class-says r.strict c e) (ap (λ z. 45 ∷ z) g.3), g.4)
     letter_on _ negative ws ds l e h = absurd h
@@ -166,16 +166,16 @@ module _ (r : Reading) (v : Value) (fs : Frames) (Beh : Value → List ℕ → T
         (c ∷ g.0, g.1, (class-says r.strict c e, g.2), ap (λ z. c ∷ z) g.3, g.4)
     whole_on k negative ds e b h = ([], c ∷ cs, tt, refl, tail_on k negative (onto ds []) e b h)
 
-    minus_on : (k : Class) (negative : Bool) → class_of r.strict c ≡ k → C k negative signed
-        → InNumeral negative signed (c ∷ cs)
+    minus_on : (k : Class) (negative : Bool) → class_of r.strict c ≡ k → C k negative after_minus
+        → InNumeral negative after_minus (c ∷ cs)
     minus_on digits negative e h =
         let ok = class-says r.strict c e in
-        (c, cs, refl, magnitude_left (c == 48) true c cs ok refl (ih true (begun (c == 48) c) h))
+        (c, cs, refl, magnitude_left (c == 48) true c cs ok refl (ih true (after_first_digit (c == 48) c) h))
     minus_on _ negative e h = absurd h
 
-    pub number_on : (x : NumberPlace) (k : Class) (negative : Bool) → class_of r.strict c ≡ k → After k
+    pub number_on : (x : NumberState) (k : Class) (negative : Bool) → class_of r.strict c ≡ k → After k
         → C k negative x → InNumeral negative x (c ∷ cs)
-    number_on signed k negative e b h = minus_on k negative e h
+    number_on after_minus k negative e b h = minus_on k negative e h
     number_on zero_read k negative e b h = tail_on k negative (48 ∷ []) e b h
     number_on (whole ds) k negative e b h = whole_on k negative ds e b h
     number_on (pointed ws) k negative e b h = point_on k negative ws e h
@@ -190,7 +190,7 @@ module _ (r : Reading) (v : Value) (fs : Frames) (Beh : Value → List ℕ → T
   NumberLeft t = (n : Numeral) × (u : List ℕ) × IsNumeral n × (t ≡ numeral_chars n.negative n u)
       × Beh (value.number (number_of n)) u
 
-  pub digit_sound : (c : ℕ) (cs : List ℕ) → class_of r.strict c ≡ digits → InNumeral false (begun (c == 48) c) cs
+  pub digit_sound : (c : ℕ) (cs : List ℕ) → class_of r.strict c ≡ digits → InNumeral false (after_first_digit (c == 48) c) cs
       → NumberLeft (c ∷ cs)
   digit_sound c cs e h =
       let (es, u, ok, f, (ds, x, u', ds_ok, x_ok, g, k)) =
@@ -202,7 +202,7 @@ module _ (r : Reading) (v : Value) (fs : Frames) (Beh : Value → List ℕ → T
         k,
       )
 
-  pub minus_sound : (t : List ℕ) → InNumeral true signed t → NumberLeft (45 ∷ t)
+  pub minus_sound : (t : List ℕ) → InNumeral true after_minus t → NumberLeft (45 ∷ t)
   minus_sound t (c, u, e, (es, u1, ok, f, (ds, x, u', ds_ok, x_ok, g, k))) = (
     record { negative = true; whole = c ∷ es; fraction = ds; exponent = x },
     u',

@@ -69,8 +69,8 @@ pub record JoinedElements (r : Reading) (high : ℕ) (t : List ℕ) (ns : List N
   pub means : elements_meaning elements ≡ values_of (map meaning ns)
 
 -- whitespace, a text and what follows it
-behind : (w t x y : List ℕ) → (w ++ (t ++ x)) ++ y ≡ w ++ (t ++ (x ++ y))
-behind w t x y = append_assoc w (t ++ x) y ∙ ap (λ z. w ++ z) (append_assoc t x y)
+after_value : (w t x y : List ℕ) → (w ++ (t ++ x)) ++ y ≡ w ++ (t ++ (x ++ y))
+after_value w t x y = append_assoc w (t ++ x) y ∙ ap (λ z. w ++ z) (append_assoc t x y)
 
 no_higher : (n : ℕ) → max n n ≤ n
 no_higher n = omega arith
@@ -107,7 +107,7 @@ joined_elements r s dent high t (u ∷ ts) n (m ∷ ns) inside w fit each join s
           each.1.0
           more.spell);
       text =
-          ap (λ x. x ++ (w ++ 93 ∷ [])) join.4 ∙ behind join.0 t (44 ∷ join.1) (w ++ 93 ∷ [])
+          ap (λ x. x ++ (w ++ 93 ∷ [])) join.4 ∙ after_value join.0 t (44 ∷ join.1) (w ++ 93 ∷ [])
           ∙ ap (λ x. join.0 ++ (t ++ 44 ∷ x)) more.text;
       means = ap (λ vs. value (meaning m) vs) more.means;
     }
@@ -136,9 +136,9 @@ pub record EntrySpells (r : Reading) (high : ℕ) (e : Entry) : Type 0 where
   pub spells : NodeSpells r high e.text e.node
 
 -- what follows the text of an entry
-entry_behind : (e : Entry) (w x : List ℕ) → w ++ (entry_text e ++ x)
+entry_after : (e : Entry) (w x : List ℕ) → w ++ (entry_text e ++ x)
     ≡ w ++ (quoted e.key ++ (58 ∷ (e.gap ++ (e.text ++ x))))
-entry_behind e w x =
+entry_after e w x =
     ap (λ z. w ++ z) (append_assoc (quoted e.key) (58 ∷ (e.gap ++ e.text)) x
     ∙ ap (λ z. quoted e.key ++ 58 ∷ z) (append_assoc e.gap e.text x))
 
@@ -165,7 +165,7 @@ joined_members r s dent high e [] inside w fit each join space = record {
   space = space;
   spell = members_raised r 0 high [] (125 ∷ []) no_members (omega arith) (no_members_spell r);
   text = ap (λ x. x ++ (w ++ 125 ∷ [])) join.2 ∙ append_assoc join.0 (entry_text e) (w ++ 125 ∷ [])
-      ∙ entry_behind e join.0 (w ++ 125 ∷ []);
+      ∙ entry_after e join.0 (w ++ 125 ∷ []);
   means = refl;
 }
 joined_members r s dent high e (f ∷ es) inside w fit each join space =
@@ -184,8 +184,8 @@ joined_members r s dent high e (f ∷ es) inside w fit each join space =
           more.members more.whitespace each.1.0.utf8 each.1.0.whitespace
           more.space each.1.0.spells more.spell);
       text =
-          ap (λ x. x ++ (w ++ 125 ∷ [])) join.4 ∙ behind join.0 (entry_text e) (44 ∷ join.1) (w ++ 125 ∷ [])
-          ∙ entry_behind e join.0 (44 ∷ (join.1 ++ (w ++ 125 ∷ [])))
+          ap (λ x. x ++ (w ++ 125 ∷ [])) join.4 ∙ after_value join.0 (entry_text e) (44 ∷ join.1) (w ++ 125 ∷ [])
+          ∙ entry_after e join.0 (44 ∷ (join.1 ++ (w ++ 125 ∷ [])))
           ∙ ap (λ x. pair_text join.0 e.key e.gap e.text [] (44 ∷ x)) more.text;
       means = ap (λ y. (y, meaning f.node) ∷ members_meaning more.members) bytes
           ∙ ap (λ ps. entry_meaning f ∷ ps) more.means;

@@ -16,7 +16,7 @@ use Rattle.jzon.specs.Laws.{NumberText, alone}
 use Rattle.jzon.proofs.ReadBack.NumeralTexts.{numeral_spelled, numeral-plain}
 use Rattle.jzon.proofs.ReadBack.NumberTextLengths.{length-number}
 use Rattle.jzon.proofs.ReadBack.PrintedParts.{IsPrintedAs, HasNumeral}
-use Rattle.jzon.proofs.ReadBack.PrintedForms.{digits_alone, zero_alone, pointed, behind_zeros, small_power, large_power}
+use Rattle.jzon.proofs.ReadBack.PrintedForms.{digits_alone, zero_alone, pointed, after_zeros, small_power, large_power}
 use Rattle.jzon.proofs.ReadBack.TrailingZeros.{zeros_kept, zero_dropped}
 use Rattle.jzon.proofs.ReadBack.Unbroken.{parses_plain}
 
@@ -38,7 +38,7 @@ printed_numeral s (suc m) (negsuc k) fits small =
       | inl far ↦ small_power s (suc m) k (omega arith) fits small far
       | inr near ↦ elim (cases_lt (k + 1) (length (decimal (suc m)))) [
         | inl inside ↦ pointed s (suc m) k (omega arith) fits small near inside
-        | inr out ↦ behind_zeros s (suc m) k (omega arith) fits small near out
+        | inr out ↦ after_zeros s (suc m) k (omega arith) fits small near out
       ]
     ]
 

@@ -82,9 +82,9 @@ zeros_number : (n : ℕ) → fold add_digit 0 (replicate n 48) ≡ 0
 zeros_number zero = refl
 zeros_number (suc n) = zeros_number n
 
-pub behind_zeros : (s : Bool) (m k : ℕ) → 0 < m → m < 2 ^ 64 → FitsSigned w16 (negsuc k) → k + 1 ≤ 17
+pub after_zeros : (s : Bool) (m k : ℕ) → 0 < m → m < 2 ^ 64 → FitsSigned w16 (negsuc k) → k + 1 ≤ 17
     → length (decimal m) ≤ k + 1 → HasNumeral s m (negsuc k)
-behind_zeros s m k above fits small near out =
+after_zeros s m k above fits small near out =
     let is : IsMantissa m (decimal m) = mantissa m above fits in
     let n : ℕ = k + 1 - length (decimal m) in
     let f : List ℕ = replicate n 48 ++ decimal m in

@@ -15,8 +15,8 @@ use Rattle.jzon.specs.Grammar as grammar
 use Rattle.jzon.specs.Spelling.{Breach, pair, Cell, cell, plain, marked_last, breach_if, item_cells, items_cells}
 use Rattle.jzon.specs.Spelling.{items_length}
 use Rattle.jzon.specs.Meaning.{item_text, text_of, bytes_of, is_pair, pair_char}
-use Rattle.jzon.specs.Machine.{Frames, Role, as_value, before, string, behind, between, code, second_code, Outcome}
-use Rattle.jzon.specs.Machine.{value_mark, coded, paired, add_hex}
+use Rattle.jzon.specs.Machine.{Frames, Role, as_value, before, string, after_value, between, code, second_code, Outcome}
+use Rattle.jzon.specs.Machine.{value_mark, after_unit, move_pair, add_hex}
 use Rattle.jzon.specs.Classes.{quote}
 use Rattle.jzon.proofs.Texts.ClassesOfCharacters.{class-char}
 use Rattle.jzon.proofs.Strings.StringCharacters.{plain_parts, simple_not_u}
@@ -77,7 +77,7 @@ length-items (i ∷ is) k =
 
 module _ (r : Reading) (G : Outcome → Type 0) (role : Role) (bs : List ℕ) where
   read_code : (n u : ℕ) (es : List ℕ) (q : List Cell) → AreHex (suc n) es
-      → Follows r G q (coded (is_surrogate (fold add_hex u es)) role bs (fold add_hex u es))
+      → Follows r G q (after_unit (is_surrogate (fold add_hex u es)) role bs (fold add_hex u es))
       → Follows r G (plain es q) (string role bs (code n u))
   read_code n u [] q ok h = absurd ok
   read_code zero u (c ∷ []) q ok h = rw (ok.0) (refl, h)
@@ -85,7 +85,7 @@ module _ (r : Reading) (G : Outcome → Type 0) (role : Role) (bs : List ℕ) wh
   read_code (suc n) u (c ∷ es) q ok h = rw (ok.0) (refl, read_code n (add_hex u c) es q ok.1 h)
 
   read_second : (u n v : ℕ) (es : List ℕ) (m : Option Breach) (q : List Cell) → AreHex (suc n) es
-      → Meets (paired (is_high u && is_low (fold add_hex v es)) role bs u (fold add_hex v es)) m (λ p. Follows r G q p)
+      → Meets (move_pair (is_high u && is_low (fold add_hex v es)) role bs u (fold add_hex v es)) m (λ p. Follows r G q p)
       → Follows r G (marked_last es m q) (string role bs (second_code u n v))
   read_second u n v [] m q ok h = absurd ok
   read_second u zero v (c ∷ []) m q ok h = rw (ok.0) h
@@ -96,7 +96,7 @@ module _ (r : Reading) (G : Outcome → Type 0) (role : Role) (bs : List ℕ) wh
   -- b: the bytes of the surrogate pair, if it is one
   meets_pair : (t : Bool) (u v : ℕ) (q : List Cell)
       → Follows r G q (string role (bs ++ encode_utf8_all (if t then pair_char u v ∷ [] else [])) between)
-      → Meets (paired t role bs u v) (breach_if (not t) pair) (λ p. Follows r G q p)
+      → Meets (move_pair t role bs u v) (breach_if (not t) pair) (λ p. Follows r G q p)
   meets_pair true u v q h = (refl, subst (λ b. Follows r G q (string role b between)) (bytes-one bs _) h)
   meets_pair false u v q h = (refl, subst (λ b. Follows r G q (string role b between)) (append-nil bs) h)
 
@@ -147,7 +147,7 @@ module _ (r : Reading) (G : Outcome → Type 0) (role : Role) where
 
 -- a string that is a value
 pub complete_string : (r : Reading) (G : Outcome → Type 0) (fs : Frames) (is : List Item) (k : List Cell) → AreItems is
-    → Follows r G k (behind fs (value.text (kind_of (bytes_of is)) (bytes_of is)))
+    → Follows r G k (after_value fs (value.text (kind_of (bytes_of is)) (bytes_of is)))
     → Follows r G (cell 34 (value_mark r fs) ∷ items_cells is (cell 34 None ∷ k)) (before fs)
 complete_string r G fs is k ok h =
     rw (class-char r.strict quote) (refl, read_items r G (as_value fs) [] is (cell 34 None ∷ k) ok (refl, h))

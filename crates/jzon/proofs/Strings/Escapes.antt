@@ -10,7 +10,7 @@ use Rattle.jzon.specs.Reading.{Reading}
 use Rattle.jzon.specs.Grammar.{is_simple}
 use Rattle.jzon.specs.Meaning.{unescaped}
 use Rattle.jzon.specs.Machine.{Role, Move, string, between, slash, code, second, second_slash, second_code, go, bad}
-use Rattle.jzon.specs.Machine.{move_slash, outcome_on, from, stopped}
+use Rattle.jzon.specs.Machine.{move_slash, outcome_on, from, fault_here}
 use Rattle.jzon.proofs.Strings.StringSteps.{Expects, byte_moves, byte_stops, expected_byte, unexpected_byte}
 
 -- ---- after a backslash
@@ -50,7 +50,7 @@ no_letter role xs c no_u no_simple =
 
 pub escape_stops : (r : Reading) (role : Role) (xs bs : List ℕ) (i : ℕ) → IsUtf8 bs → IsCharBoundary bs i
     → ((i < length bs) × (get_or bs i 0 ≡ 117) → ⊥) → ((i < length bs) × (is_simple (get_or bs i 0) ≡ true) → ⊥)
-    → from r bs (string role xs slash) i ≡ stopped (chars (drop i bs))
+    → from r bs (string role xs slash) i ≡ fault_here (chars (drop i bs))
 escape_stops r role xs bs i u at no_u no_simple =
     byte_stops r (string role xs slash) bs i u at refl (λ c b.
     no_letter role xs c (λ e. no_u (b.within, b.byte (omega (arith, e)) ∙ e))
@@ -87,14 +87,14 @@ second_digits_boundary bs i text two =
 -- no backslash follows a surrogate, or no `u` follows the backslash
 pub second_stops : (r : Reading) (role : Role) (xs bs : List ℕ) (u i : ℕ) → IsUtf8 bs → IsCharBoundary bs i
     → ((i < length bs) × (get_or bs i 0 ≡ 92) → ⊥)
-    → from r bs (string role xs (second u)) i ≡ stopped (chars (drop i bs))
+    → from r bs (string role xs (second u)) i ≡ fault_here (chars (drop i bs))
 second_stops r role xs bs u i text at none =
     unexpected_byte r (string role xs (second u)) (string role xs (second_slash u)) bs i 92
     (expects_backslash r role xs u) text at none
 
 pub second_u_stops : (r : Reading) (role : Role) (xs bs : List ℕ) (u i : ℕ) → IsUtf8 bs → IsCharBoundary bs i
     → (i < length bs) × (get_or bs i 0 ≡ 92) → ((i + 1 < length bs) × (get_or bs (i + 1) 0 ≡ 117) → ⊥)
-    → from r bs (string role xs (second u)) i ≡ stopped (chars (drop (i + 1) bs))
+    → from r bs (string role xs (second u)) i ≡ fault_here (chars (drop (i + 1) bs))
 second_u_stops r role xs bs u i text at one none =
     expected_byte r (string role xs (second u)) (string role xs (second_slash u)) bs i 92
     (expects_backslash r role xs u) text at one.0 one.1

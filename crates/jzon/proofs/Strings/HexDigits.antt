@@ -15,13 +15,13 @@ use Rattle.std.proofs.lemmas.Str.{IsCharBoundary-after_ascii}
 use Rattle.jzon.specs.Reading.{Reading}
 use Rattle.jzon.specs.Grammar.{is_high, is_low, is_surrogate, code_unit}
 use Rattle.jzon.specs.Fault as fault
-use Rattle.jzon.specs.Machine.{Role, Place, Move, string, code, second_code, go, bad, move, last, refused, add_hex}
-use Rattle.jzon.specs.Machine.{coded, paired, move_code, move_second_code, Outcome, outcome_on, from, left_at, stopped}
+use Rattle.jzon.specs.Machine.{Role, State, Move, string, code, second_code, go, bad, move, last, refused, add_hex}
+use Rattle.jzon.specs.Machine.{after_unit, move_pair, move_code, move_second_code, Outcome, outcome_on, from, left_at, fault_here}
 use Rattle.jzon.proofs.Strings.StringSteps.{byte_moves, byte_stops}
 
 -- States that read hexadecimal digits, by the count of digits missing after the next one and the number so far; and
 -- the move after the last digit.
-pub record ReadsHex (r : Reading) (at : ℕ → ℕ → Place) (done : ℕ → Move) : Type 0 where
+pub record ReadsHex (r : Reading) (at : ℕ → ℕ → State) (done : ℕ → Move) : Type 0 where
   pub more : (n u c left : ℕ) → is_ascii_hexdigit c ≡ true → move r (at (suc n) u) c left ≡ go None (at n (add_hex u c))
   pub last_one : (u c left : ℕ) → is_ascii_hexdigit c ≡ true → move r (at zero u) c left ≡ done (add_hex u c)
   pub stops : (n u c left : ℕ) → is_ascii_hexdigit c ≡ false → move r (at n u) c left ≡ bad
@@ -29,7 +29,7 @@ pub record ReadsHex (r : Reading) (at : ℕ → ℕ → Place) (done : ℕ → M
 
 -- the digits of an escape, and those of the second escape of two
 pub code_reads : (r : Reading) (role : Role) (xs : List ℕ)
-    → ReadsHex r (λ n u. string role xs (code n u)) (λ u. go None (coded (is_surrogate u) role xs u))
+    → ReadsHex r (λ n u. string role xs (code n u)) (λ u. go None (after_unit (is_surrogate u) role xs u))
 code_reads r role xs = record {
   more = λ n u c left h. ap (λ t. cond t (move_code role xs (suc n) u c) bad) h;
   last_one = λ u c left h. ap (λ t. cond t (move_code role xs zero u c) bad) h;
@@ -39,7 +39,7 @@ code_reads r role xs = record {
 
 pub second_code_reads : (r : Reading) (role : Role) (xs : List ℕ) (first : ℕ)
     → ReadsHex r (λ n u. string role xs (second_code first n u))
-    (λ u. paired (is_high first && is_low u) role xs first u)
+    (λ u. move_pair (is_high first && is_low u) role xs first u)
 second_code_reads r role xs first = record {
   more = λ n u c left h. ap (λ t. cond t (move_second_code role xs first (suc n) u c) bad) h;
   last_one = λ u c left h. ap (λ t. cond t (move_second_code role xs first zero u c) bad) h;
@@ -48,7 +48,7 @@ second_code_reads r role xs first = record {
 }
 
 -- the outcome of the text from byte i on with n digits missing; with none missing, the last one is before i
-abbrev pub hex_left : Reading → (ℕ → ℕ → Place) → (ℕ → Move) → List ℕ → ℕ → ℕ → ℕ → Outcome
+abbrev pub hex_left : Reading → (ℕ → ℕ → State) → (ℕ → Move) → List ℕ → ℕ → ℕ → ℕ → Outcome
 hex_left r at done bs zero u i = outcome_on (done u) (λ p. from r bs p i) (chars (drop (i - 1) bs))
 hex_left r at done bs (suc n) u i = from r bs (at n u) i
 
@@ -56,7 +56,7 @@ hex_is_ascii : (b : ℕ) → is_ascii_hexdigit b ≡ true → b < 128
 hex_is_ascii b h = grind (arith, nat_tests)
 
 -- the next byte is a digit
-pub hex_read : (r : Reading) (at : ℕ → ℕ → Place) (done : ℕ → Move) (bs : List ℕ) (n u i : ℕ) → ReadsHex r at done
+pub hex_read : (r : Reading) (at : ℕ → ℕ → State) (done : ℕ → Move) (bs : List ℕ) (n u i : ℕ) → ReadsHex r at done
     → IsUtf8 bs → IsCharBoundary bs i → i < length bs → is_ascii_hexdigit (get_or bs i 0) ≡ true
     → hex_left r at done bs (suc n) u i ≡ hex_left r at done bs n (add_hex u (get_or bs i 0)) (i + 1)
 hex_read r at done bs zero u i h text here lt e =
@@ -71,9 +71,9 @@ hex_read r at done bs (suc n) u i h text here lt e =
     (h.more n u (get_or bs i 0) (left_at bs i) e)
 
 -- the next byte isn't a digit
-pub hex_missing : (r : Reading) (at : ℕ → ℕ → Place) (done : ℕ → Move) (bs : List ℕ) (n u i : ℕ) → ReadsHex r at done
+pub hex_missing : (r : Reading) (at : ℕ → ℕ → State) (done : ℕ → Move) (bs : List ℕ) (n u i : ℕ) → ReadsHex r at done
     → IsUtf8 bs → IsCharBoundary bs i → ((i < length bs) × (is_ascii_hexdigit (get_or bs i 0) ≡ true) → ⊥)
-    → hex_left r at done bs (suc n) u i ≡ stopped (chars (drop i bs))
+    → hex_left r at done bs (suc n) u i ≡ fault_here (chars (drop i bs))
 hex_missing r at done bs n u i h text here none =
     byte_stops r (at n u) bs i text here (h.unfinished n u) (λ c b.
     h.stops n u c (left_at bs i) (false_from_ne_true (is_ascii_hexdigit c)
@@ -86,7 +86,7 @@ pub record HexRead (bs : List ℕ) (start i u : ℕ) : Type 0 where
   pub boundary : IsCharBoundary bs i
   pub value : u ≡ fold add_hex 0 (slice_range bs start i)
   pub small : u < 16 ^ (i - start)
-  pub same : (r : Reading) (at : ℕ → ℕ → Place) (done : ℕ → Move) → ReadsHex r at done
+  pub same : (r : Reading) (at : ℕ → ℕ → State) (done : ℕ → Move) → ReadsHex r at done
       → from r bs (at 3 0) start ≡ hex_left r at done bs (4 - (i - start)) u i
 
 pub hex_begun : (bs : List ℕ) (start : ℕ) → IsCharBoundary bs start → HexRead bs start start 0
@@ -133,17 +133,17 @@ hex_more bs start i u k text low high lt e = record {
 }
 
 -- no further digit
-pub hex_stops : (r : Reading) (bs : List ℕ) (start i u : ℕ) (at : ℕ → ℕ → Place) (done : ℕ → Move)
+pub hex_stops : (r : Reading) (bs : List ℕ) (start i u : ℕ) (at : ℕ → ℕ → State) (done : ℕ → Move)
     → HexRead bs start i u → ReadsHex r at done → IsUtf8 bs
     → start ≤ i → i < start + 4 → ((i < length bs) × (is_ascii_hexdigit (get_or bs i 0) ≡ true) → ⊥)
-    → from r bs (at 3 0) start ≡ stopped (chars (drop i bs))
+    → from r bs (at 3 0) start ≡ fault_here (chars (drop i bs))
 hex_stops r bs start i u at done k h text low high none =
     k.same r at done h ∙ ap (λ n. hex_left r at done bs n u i)
     (let n : 4 - (i - start) ≡ suc (3 - (i - start)) = omega arith in n)
     ∙ hex_missing r at done bs (3 - (i - start)) u i h text k.boundary none
 
 -- all four digits
-pub hex_end : (r : Reading) (bs : List ℕ) (start i u : ℕ) (at : ℕ → ℕ → Place) (done : ℕ → Move) → HexRead bs start i u
+pub hex_end : (r : Reading) (bs : List ℕ) (start i u : ℕ) (at : ℕ → ℕ → State) (done : ℕ → Move) → HexRead bs start i u
     → ReadsHex r at done → i ≡ start + 4
     → from r bs (at 3 0) start ≡ outcome_on (done u) (λ p. from r bs p (start + 4)) (chars (drop (start + 3) bs))
 hex_end r bs start i u at done k h e =

@@ -13,15 +13,15 @@ use Rattle.jzon.specs.Grammar.{Item, simple, single, double, AreHex, AreItems, I
 use Rattle.jzon.specs.Grammar.{is_low, is_unescaped, is_simple}
 use Rattle.jzon.specs.Grammar as grammar
 use Rattle.jzon.specs.Meaning.{item_text, bytes_of, pair_char, unescaped}
-use Rattle.jzon.specs.Machine.{Role, TextPlace, between, slash, code, second, second_slash, second_code, string, go}
-use Rattle.jzon.specs.Machine.{bad, closed_string, coded, paired, add_hex, move_code, move_second_code}
+use Rattle.jzon.specs.Machine.{Role, StringState, between, slash, code, second, second_slash, second_code, string, go}
+use Rattle.jzon.specs.Machine.{bad, closed_string, after_unit, move_pair, add_hex, move_code, move_second_code}
 use Rattle.jzon.proofs.Texts.Runs.{On, Goes}
 use Rattle.jzon.proofs.Texts.TreeCharacters.{item_chars, items_chars}
 use Rattle.jzon.proofs.Strings.CompleteStrings.{bytes-more, bytes-none, bytes-one}
 
 -- Closed bs u: the text u is what may follow a string of these bytes.
 module _ (r : Reading) (v : Value) (role : Role) (Closed : List ℕ → List ℕ → Type 0) where
-  abbrev S : List ℕ → List ℕ → TextPlace → Type 0
+  abbrev S : List ℕ → List ℕ → StringState → Type 0
   S t bs x = Goes r v t (string role bs x)
 
   -- ---- what is left of a string
@@ -53,7 +53,7 @@ module _ (r : Reading) (v : Value) (role : Role) (Closed : List ℕ → List ℕ
       ((c : ℕ) × (t' : List ℕ) × IsTrue (is_simple c) × (t ≡ c ∷ t') × ItemsLeft (bs ++ encode_utf8 (unescaped c)) t')
       ⊎ ((t' : List ℕ) × (t ≡ 117 ∷ t') × Code bs 3 0 t')
 
-  abbrev pub Left : TextPlace → List ℕ → List ℕ → Type 0
+  abbrev pub Left : StringState → List ℕ → List ℕ → Type 0
   Left between bs t = ItemsLeft bs t
   Left slash bs t = Slash bs t
   Left (code n u) bs t = Code bs n u t
@@ -89,7 +89,7 @@ module _ (r : Reading) (v : Value) (role : Role) (Closed : List ℕ → List ℕ
   -- ---- one character
 
   abbrev Rest : List ℕ → Type 0
-  Rest cs = (x : TextPlace) (bs : List ℕ) → S cs bs x → Left x bs cs
+  Rest cs = (x : StringState) (bs : List ℕ) → S cs bs x → Left x bs cs
 
   abbrev Closing : List ℕ → Type 0
   Closing cs = (bs : List ℕ) → On (closed_string r role bs (suc (length cs))) (λ p. Goes r v cs p) → Closed bs cs
@@ -118,7 +118,7 @@ module _ (r : Reading) (v : Value) (role : Role) (Closed : List ℕ → List ℕ
   slash_on false true bs c cs e f h ih = inl (c, cs, f, refl, ih between _ h)
   slash_on false false bs c cs e f h ih = absurd h
 
-  coded_on : (a : Bool) (w : ℕ) (bs cs : List ℕ) → is_surrogate w ≡ a → Goes r v cs (coded a role bs w) → Rest cs
+  coded_on : (a : Bool) (w : ℕ) (bs cs : List ℕ) → is_surrogate w ≡ a → Goes r v cs (after_unit a role bs w) → Rest cs
       → Coded bs w cs
   coded_on true w bs cs e h ih = inr (e, ih (second w) bs h)
   coded_on false w bs cs e h ih = inl (e, ih between _ h)
@@ -143,7 +143,7 @@ module _ (r : Reading) (v : Value) (role : Role) (Closed : List ℕ → List ℕ
   second_slash_on true w bs c cs e h ih = (cs, ap (λ z. z ∷ cs) (eqb-true c 117 e), ih (second_code w 3 0) bs h)
   second_slash_on false w bs c cs e h ih = absurd h
 
-  paired_on : (a : Bool) (w u : ℕ) (bs cs : List ℕ) → On (paired a role bs w u) (λ p. Goes r v cs p) → Rest cs
+  paired_on : (a : Bool) (w u : ℕ) (bs cs : List ℕ) → On (move_pair a role bs w u) (λ p. Goes r v cs p) → Rest cs
       → ItemsLeft (bs ++ encode_utf8_all (if a then pair_char w u ∷ [] else [])) cs
   paired_on true w u bs cs h ih = subst (λ b. ItemsLeft b cs) (sym (bytes-one bs _)) (ih between _ h)
   paired_on false w u bs cs h ih = subst (λ b. ItemsLeft b cs) (sym (append-nil bs)) (ih between bs h)
@@ -156,7 +156,7 @@ module _ (r : Reading) (v : Value) (role : Role) (Closed : List ℕ → List ℕ
       let g = ih (second_code w n (add_hex u c)) bs h in (c ∷ g.0, g.1, (e, g.2), ap (λ z. c ∷ z) g.3, g.4)
   second_code_on false w n u bs c cs e h ih = absurd h
 
-  pub string_on : (x : TextPlace) (bs : List ℕ) (c : ℕ) (cs : List ℕ) → S (c ∷ cs) bs x → Rest cs → Closing cs
+  pub string_on : (x : StringState) (bs : List ℕ) (c : ℕ) (cs : List ℕ) → S (c ∷ cs) bs x → Rest cs → Closing cs
       → Left x bs (c ∷ cs)
   string_on between bs c cs h ih after =
       between_on (c == 34) (c == 92) (is_unescaped c) bs c cs refl refl refl h ih after

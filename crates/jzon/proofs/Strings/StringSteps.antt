@@ -10,7 +10,7 @@ use Rattle.std.proofs.lemmas.Str.{byte_from_char, char_from_byte, IsUtf8-drop, l
 use Rattle.jzon.specs.Reading.{Reading}
 use Rattle.jzon.specs.Fault.{Fault}
 use Rattle.jzon.specs.Fault as fault
-use Rattle.jzon.specs.Machine.{Place, go, move, bad, last, refused, outcome, outcome_on, from, left_at, stopped}
+use Rattle.jzon.specs.Machine.{State, go, move, bad, last, refused, outcome, outcome_on, from, left_at, fault_here}
 use Rattle.jzon.proofs.Texts.AsciiRuns.{chars-ascii}
 use Rattle.jzon.proofs.Texts.StepsByByte.{stop_on}
 use Rattle.jzon.proofs.Containers.LiteralLetters.{text_of_first}
@@ -48,7 +48,7 @@ begins bs i c cs u at e =
     }
 
 -- the byte is an ASCII character, and the automaton moves by it
-pub byte_moves : (r : Reading) (p : Place) (bs : List ℕ) (i b : ℕ) → IsUtf8 bs → IsCharBoundary bs i → i < length bs
+pub byte_moves : (r : Reading) (p : State) (bs : List ℕ) (i b : ℕ) → IsUtf8 bs → IsCharBoundary bs i → i < length bs
     → get_or bs i 0 ≡ b → b < 128
     → from r bs p i ≡ outcome_on (move r p b (left_at bs i)) (λ q. from r bs q (i + 1)) (chars (drop i bs))
 unfolding from
@@ -60,20 +60,20 @@ byte_moves r p bs i b u at lt e ascii =
     (λ q. outcome r (chars (drop (i + 1) bs)) q) rest) (sym first)
 
 -- no character that may begin there lets the text go on
-pub byte_stops : (r : Reading) (p : Place) (bs : List ℕ) (i : ℕ) → IsUtf8 bs → IsCharBoundary bs i
+pub byte_stops : (r : Reading) (p : State) (bs : List ℕ) (i : ℕ) → IsUtf8 bs → IsCharBoundary bs i
     → last p ≡ refused fault.end []
-    → ((c : ℕ) → Begins bs i c → move r p c (left_at bs i) ≡ bad) → from r bs p i ≡ stopped (chars (drop i bs))
+    → ((c : ℕ) → Begins bs i c → move r p c (left_at bs i) ≡ bad) → from r bs p i ≡ fault_here (chars (drop i bs))
 unfolding from
 byte_stops r p bs i u at end h = stop_on r (chars (drop i bs)) p end (λ c cs e. h c (begins bs i c cs u at e))
 
 -- a state in which only one ASCII character lets the text go on
-pub record Expects (r : Reading) (p : Place) (b : ℕ) (q : Place) : Type 0 where
+pub record Expects (r : Reading) (p : State) (b : ℕ) (q : State) : Type 0 where
   pub ascii : b < 128
   pub moves : (c n : ℕ) → move r p c n ≡ cond (c == b) (go None q) bad
   pub unfinished : last p ≡ refused fault.end []
 
 -- that character is there
-pub expected_byte : (r : Reading) (p q : Place) (bs : List ℕ) (i b : ℕ) → Expects r p b q → IsUtf8 bs
+pub expected_byte : (r : Reading) (p q : State) (bs : List ℕ) (i b : ℕ) → Expects r p b q → IsUtf8 bs
     → IsCharBoundary bs i → i < length bs → get_or bs i 0 ≡ b → from r bs p i ≡ from r bs q (i + 1)
 expected_byte r p q bs i b h u at lt e =
     byte_moves r p bs i b u at lt e h.ascii
@@ -81,8 +81,8 @@ expected_byte r p q bs i b h u at lt e =
     (h.moves b (left_at bs i) ∙ ap (λ t. cond t (go None q) bad) (eq-eqb b b refl))
 
 -- another one is, or none
-pub unexpected_byte : (r : Reading) (p q : Place) (bs : List ℕ) (i b : ℕ) → Expects r p b q → IsUtf8 bs
-    → IsCharBoundary bs i → ((i < length bs) × (get_or bs i 0 ≡ b) → ⊥) → from r bs p i ≡ stopped (chars (drop i bs))
+pub unexpected_byte : (r : Reading) (p q : State) (bs : List ℕ) (i b : ℕ) → Expects r p b q → IsUtf8 bs
+    → IsCharBoundary bs i → ((i < length bs) × (get_or bs i 0 ≡ b) → ⊥) → from r bs p i ≡ fault_here (chars (drop i bs))
 unexpected_byte r p q bs i b h u at none =
     byte_stops r p bs i u at h.unfinished (λ c here. h.moves c (left_at bs i)
     ∙ ap (λ t. cond t (go None q) bad) (false_from_ne_true (c == b) (λ e.

@@ -13,76 +13,76 @@ use Rattle.jzon_tree.specs.Value as value
 use Rattle.jzon.specs.Reading.{Reading}
 use Rattle.jzon.specs.Grammar.{is_unescaped, is_simple, is_surrogate}
 use Rattle.jzon.specs.Spelling.{Breach, deep, pair, digit, breach_if, onto}
-use Rattle.jzon.specs.Classes.{Class, whitespace, digits, dash, cross, point, letter_e, quote, opens_array}
+use Rattle.jzon.specs.Classes.{Class, whitespace, digits, minus_char, plus_char, point, letter_e, quote, opens_array}
 use Rattle.jzon.specs.Classes.{closes_array, opens_object, closes_object, comma, colon, begins_null, begins_true}
-use Rattle.jzon.specs.Classes.{begins_false, class_of, NumberPlace, signed, zero_read, whole, pointed, fraction}
+use Rattle.jzon.specs.Classes.{begins_false, class_of, NumberState, after_minus, zero_read, whole, pointed, fraction}
 use Rattle.jzon.specs.Classes.{lettered, signed_exponent, exponent}
-use Rattle.jzon.specs.Machine.{Entries, Frames, no_frames, array_frame, object_frame, Role, as_value, as_key, TextPlace}
-use Rattle.jzon.specs.Machine.{between, slash, code, second, second_slash, second_code, Place, before, before_key, word}
-use Rattle.jzon.specs.Machine.{numeral, string, after_key, behind, Move, go, bad, bad_deep, move, value_mark, key_mark}
+use Rattle.jzon.specs.Machine.{Entries, Frames, no_frames, array_frame, object_frame, Role, as_value, as_key, StringState}
+use Rattle.jzon.specs.Machine.{between, slash, code, second, second_slash, second_code, State, before, before_key, word}
+use Rattle.jzon.specs.Machine.{numeral, string, after_key, after_value, Move, go, bad, bad_deep, move, value_mark, key_mark}
 use Rattle.jzon.specs.Machine.{last, frames_depth, bad_at, move_empty_array, move_before, move_empty_object}
-use Rattle.jzon.specs.Machine.{move_before_key, move_after_key, move_behind, move_after_whole, move_after_fraction}
-use Rattle.jzon.specs.Machine.{move_numeral, repeated_if, closed_string, move_string, add_hex, coded, move_code, paired}
+use Rattle.jzon.specs.Machine.{move_before_key, move_after_key, move_after_value, move_after_whole, move_after_fraction}
+use Rattle.jzon.specs.Machine.{move_numeral, repeated_if, closed_string, move_string, add_hex, after_unit, move_code, move_pair}
 use Rattle.jzon.specs.Machine.{move_second_code, past_letter, number_value, exponent_of}
 use Rattle.jzon.proofs.Texts.ClassesOfCharacters.{class-char}
 use Rattle.jzon.proofs.Texts.Closing.{closer}
 
 -- the same state, of a text that has i characters left and of one that has j
-abbrev pub AlikeKey : ℕ → ℕ → Role → List ℕ → TextPlace → Place → Type 0
+abbrev pub AlikeKey : ℕ → ℕ → Role → List ℕ → StringState → State → Type 0
 AlikeKey i j (as_value fs) bs x q = string (as_value fs) bs x ≡ q
 AlikeKey i j (as_key fs es opened) bs x q =
     (back : ℕ) × (opened ≡ back + i) × (string (as_key fs es (back + j)) bs x ≡ q)
 
-abbrev pub Alike : ℕ → ℕ → Place → Place → Type 0
+abbrev pub Alike : ℕ → ℕ → State → State → Type 0
 Alike i j (string role bs x) q = AlikeKey i j role bs x q
 Alike i j p q = p ≡ q
 
 abbrev pub AlikeMove : ℕ → ℕ → Move → Move → Type 0
-AlikeMove i j (go m p) z = (q : Place) × (z ≡ go m q) × Alike i j p q
+AlikeMove i j (go m p) z = (q : State) × (z ≡ go m q) × Alike i j p q
 AlikeMove i j bad z = z ≡ bad
 AlikeMove i j bad_deep z = z ≡ bad_deep
 
 -- the mark of the first character of the value or key that may come next in this state; none in other states
-abbrev pub next_mark : Reading → Place → Option Breach
+abbrev pub next_mark : Reading → State → Option Breach
 next_mark r (before fs) = value_mark r fs
 next_mark r (before_key fs es) = key_mark r fs es
 next_mark r _ = None
 
-abbrev pub IsDeep : Reading → Place → Type 0
+abbrev pub IsDeep : Reading → State → Type 0
 IsDeep r p = next_mark r p ≡ Some deep
 
 -- a function that doesn't depend on how many characters are left is the same on alike states
-role_same : {A : Type 0} (f : Place → A) (i j : ℕ) (role : Role) (bs : List ℕ) (x : TextPlace) (q : Place)
+role_same : {A : Type 0} (f : State → A) (i j : ℕ) (role : Role) (bs : List ℕ) (x : StringState) (q : State)
     → ((fs : Frames) (es : Entries) (m n : ℕ) → f (string (as_key fs es m) bs x) ≡ f (string (as_key fs es n) bs x))
     → AlikeKey i j role bs x q → f (string role bs x) ≡ f q
 role_same f i j (as_value fs) bs x q same h = ap f h
 role_same f i j (as_key fs es opened) bs x q same h = same fs es opened (h.0 + j) ∙ ap f h.2
 
-pub closer-alike : (i j : ℕ) (p q : Place) → Alike i j p q → closer p ≡ closer q
+pub closer-alike : (i j : ℕ) (p q : State) → Alike i j p q → closer p ≡ closer q
 closer-alike i j (string role bs x) q h = role_same closer i j role bs x q (λ fs es m n. refl) h
 closer-alike i j _ q h = ap closer h
 
-pub last-alike : (i j : ℕ) (p q : Place) → Alike i j p q → last p ≡ last q
+pub last-alike : (i j : ℕ) (p q : State) → Alike i j p q → last p ≡ last q
 last-alike i j (string role bs x) q h = role_same last i j role bs x q (λ fs es m n. refl) h
 last-alike i j _ q h = ap last h
 
-pub mark-alike : (r : Reading) (i j : ℕ) (p q : Place) → Alike i j p q → next_mark r p ≡ next_mark r q
+pub mark-alike : (r : Reading) (i j : ℕ) (p q : State) → Alike i j p q → next_mark r p ≡ next_mark r q
 mark-alike r i j (string role bs x) q h = role_same (next_mark r) i j role bs x q (λ fs es m n. refl) h
 mark-alike r i j _ q h = ap (next_mark r) h
 
 -- ---- what each move says of the state's mark
 
 -- the state isn't inside a key
-abbrev Keyless : Place → Type 0
+abbrev Keyless : State → Type 0
 Keyless (string (as_key fs es opened) bs x) = ⊥
 Keyless _ = ⊤
 
 -- For a state with this mark: a move has a depth breach or is `bad_deep` only if the mark is one, it is `bad` only if
 -- the mark is none, and K holds of the next state.
-abbrev Tells : (Place → Type 0) → Option Breach → Move → Type 0
-Tells K m (go m' p) = (m' ≡ Some deep → m ≡ Some deep) × K p
-Tells K m bad = m ≡ Some deep → ⊥
-Tells K m bad_deep = m ≡ Some deep
+abbrev Reports : (State → Type 0) → Option Breach → Move → Type 0
+Reports K m (go m' p) = (m' ≡ Some deep → m ≡ Some deep) × K p
+Reports K m bad = m ≡ Some deep → ⊥
+Reports K m bad_deep = m ≡ Some deep
 
 unmarked : (m : Option Breach) → None ≡ Some deep → m ≡ Some deep
 unmarked m e = absurd (cc)
@@ -97,195 +97,195 @@ other_mark false b m other e = absurd (cc)
 digit_mark : (v : Bool) → breach_if v digit ≡ Some deep → None ≡ Some deep
 digit_mark v = other_mark v digit None (λ e. cc)
 
-if_tells : (K : Place → Type 0) (v : Bool) (m : Option Breach) (x y : Move) → Tells K m x → Tells K m y
-    → Tells K m (cond v x y)
-if_tells K true m x y h k = h
-if_tells K false m x y h k = k
+if_reports : (K : State → Type 0) (v : Bool) (m : Option Breach) (x y : Move) → Reports K m x → Reports K m y
+    → Reports K m (cond v x y)
+if_reports K true m x y h k = h
+if_reports K false m x y h k = k
 
-bad_tells : (K : Place → Type 0) (v : Bool) → Tells K (breach_if v deep) (bad_at (breach_if v deep))
-bad_tells K true = refl
-bad_tells K false = λ e. cc
+bad_reports : (K : State → Type 0) (v : Bool) → Reports K (breach_if v deep) (bad_at (breach_if v deep))
+bad_reports K true = refl
+bad_reports K false = λ e. cc
 
-value_bad : (r : Reading) (fs : Frames) → Tells Keyless (value_mark r fs) (bad_at (value_mark r fs))
+value_bad : (r : Reading) (fs : Frames) → Reports Keyless (value_mark r fs) (bad_at (value_mark r fs))
 value_bad r no_frames = λ e. cc
-value_bad r (array_frame fs []) = bad_tells Keyless (nat_le r.depth (frames_depth fs))
+value_bad r (array_frame fs []) = bad_reports Keyless (nat_le r.depth (frames_depth fs))
 value_bad r (array_frame fs (v ∷ vs)) = λ e. cc
 value_bad r (object_frame fs es k) = λ e. cc
 
-key_bad : (r : Reading) (fs : Frames) (es : Entries) → Tells (λ p. ⊤) (key_mark r fs es) (bad_at (key_mark r fs es))
-key_bad r fs [] = bad_tells (λ p. ⊤) (nat_le r.depth (frames_depth fs))
+key_bad : (r : Reading) (fs : Frames) (es : Entries) → Reports (λ p. ⊤) (key_mark r fs es) (bad_at (key_mark r fs es))
+key_bad r fs [] = bad_reports (λ p. ⊤) (nat_le r.depth (frames_depth fs))
 key_bad r fs (e ∷ es) = λ e. cc
 
 -- an empty array may close where a value may begin
-array_tells : (r : Reading) (fs : Frames) → Tells Keyless (value_mark r fs) (move_empty_array fs)
-array_tells r no_frames = λ e. cc
-array_tells r (array_frame fs []) = (unmarked _, tt)
-array_tells r (array_frame fs (v ∷ vs)) = λ e. cc
-array_tells r (object_frame fs es k) = λ e. cc
+array_reports : (r : Reading) (fs : Frames) → Reports Keyless (value_mark r fs) (move_empty_array fs)
+array_reports r no_frames = λ e. cc
+array_reports r (array_frame fs []) = (unmarked _, tt)
+array_reports r (array_frame fs (v ∷ vs)) = λ e. cc
+array_reports r (object_frame fs es k) = λ e. cc
 
-before_tells : (r : Reading) (class : Class) (fs : Frames) (c : ℕ)
-    → Tells Keyless (value_mark r fs) (move_before r class fs c)
-before_tells r whitespace fs c = (unmarked _, tt)
-before_tells r closes_array fs c = array_tells r fs
-before_tells r digits fs c = (λ e. e, tt)
-before_tells r dash fs c = (λ e. e, tt)
-before_tells r quote fs c = (λ e. e, tt)
-before_tells r opens_array fs c = (λ e. e, tt)
-before_tells r opens_object fs c = (λ e. e, tt)
-before_tells r begins_null fs c = (λ e. e, tt)
-before_tells r begins_true fs c = (λ e. e, tt)
-before_tells r begins_false fs c = (λ e. e, tt)
-before_tells r _ fs c = value_bad r fs
+before_reports : (r : Reading) (class : Class) (fs : Frames) (c : ℕ)
+    → Reports Keyless (value_mark r fs) (move_before r class fs c)
+before_reports r whitespace fs c = (unmarked _, tt)
+before_reports r closes_array fs c = array_reports r fs
+before_reports r digits fs c = (λ e. e, tt)
+before_reports r minus_char fs c = (λ e. e, tt)
+before_reports r quote fs c = (λ e. e, tt)
+before_reports r opens_array fs c = (λ e. e, tt)
+before_reports r opens_object fs c = (λ e. e, tt)
+before_reports r begins_null fs c = (λ e. e, tt)
+before_reports r begins_true fs c = (λ e. e, tt)
+before_reports r begins_false fs c = (λ e. e, tt)
+before_reports r _ fs c = value_bad r fs
 
-object_tells : (r : Reading) (fs : Frames) (es : Entries) → Tells (λ p. ⊤) (key_mark r fs es) (move_empty_object fs es)
-object_tells r fs [] = (unmarked _, tt)
-object_tells r fs (e ∷ es) = λ e. cc
+object_reports : (r : Reading) (fs : Frames) (es : Entries) → Reports (λ p. ⊤) (key_mark r fs es) (move_empty_object fs es)
+object_reports r fs [] = (unmarked _, tt)
+object_reports r fs (e ∷ es) = λ e. cc
 
-key_tells : (r : Reading) (class : Class) (fs : Frames) (es : Entries) (left : ℕ)
-    → Tells (λ p. ⊤) (key_mark r fs es) (move_before_key r class fs es left)
-key_tells r whitespace fs es left = (unmarked _, tt)
-key_tells r quote fs es left = (λ e. e, tt)
-key_tells r closes_object fs es left = object_tells r fs es
-key_tells r _ fs es left = key_bad r fs es
+key_reports : (r : Reading) (class : Class) (fs : Frames) (es : Entries) (left : ℕ)
+    → Reports (λ p. ⊤) (key_mark r fs es) (move_before_key r class fs es left)
+key_reports r whitespace fs es left = (unmarked _, tt)
+key_reports r quote fs es left = (λ e. e, tt)
+key_reports r closes_object fs es left = object_reports r fs es
+key_reports r _ fs es left = key_bad r fs es
 
-after_key_tells : (class : Class) (fs : Frames) (es : Entries) (k : List ℕ)
-    → Tells Keyless None (move_after_key class fs es k)
-after_key_tells whitespace fs es k = (unmarked _, tt)
-after_key_tells colon fs es k = (unmarked _, tt)
-after_key_tells _ fs es k = shut
+after_key_reports : (class : Class) (fs : Frames) (es : Entries) (k : List ℕ)
+    → Reports Keyless None (move_after_key class fs es k)
+after_key_reports whitespace fs es k = (unmarked _, tt)
+after_key_reports colon fs es k = (unmarked _, tt)
+after_key_reports _ fs es k = shut
 
-behind_tells : (class : Class) (fs : Frames) (v : Value) → Tells Keyless None (move_behind class fs v)
-behind_tells whitespace fs v = (unmarked _, tt)
-behind_tells comma no_frames v = shut
-behind_tells comma (array_frame fs vs) v = (unmarked _, tt)
-behind_tells comma (object_frame fs es k) v = (unmarked _, tt)
-behind_tells closes_array (array_frame fs vs) v = (unmarked _, tt)
-behind_tells closes_array no_frames v = shut
-behind_tells closes_array (object_frame fs es k) v = shut
-behind_tells closes_object (object_frame fs es k) v = (unmarked _, tt)
-behind_tells closes_object no_frames v = shut
-behind_tells closes_object (array_frame fs vs) v = shut
-behind_tells _ fs v = shut
+after_reports : (class : Class) (fs : Frames) (v : Value) → Reports Keyless None (move_after_value class fs v)
+after_reports whitespace fs v = (unmarked _, tt)
+after_reports comma no_frames v = shut
+after_reports comma (array_frame fs vs) v = (unmarked _, tt)
+after_reports comma (object_frame fs es k) v = (unmarked _, tt)
+after_reports closes_array (array_frame fs vs) v = (unmarked _, tt)
+after_reports closes_array no_frames v = shut
+after_reports closes_array (object_frame fs es k) v = shut
+after_reports closes_object (object_frame fs es k) v = (unmarked _, tt)
+after_reports closes_object no_frames v = shut
+after_reports closes_object (array_frame fs vs) v = shut
+after_reports _ fs v = shut
 
-whole_tells : (class : Class) (fs : Frames) (negative : Bool) (ws : List ℕ) (c : ℕ)
-    → Tells Keyless None (move_after_whole class fs negative ws c)
-whole_tells point fs negative ws c = (unmarked _, tt)
-whole_tells letter_e fs negative ws c = (unmarked _, tt)
-whole_tells class fs negative ws c = behind_tells class fs (number_value negative ws [] None)
+whole_reports : (class : Class) (fs : Frames) (negative : Bool) (ws : List ℕ) (c : ℕ)
+    → Reports Keyless None (move_after_whole class fs negative ws c)
+whole_reports point fs negative ws c = (unmarked _, tt)
+whole_reports letter_e fs negative ws c = (unmarked _, tt)
+whole_reports class fs negative ws c = after_reports class fs (number_value negative ws [] None)
 
-fraction_tells : (class : Class) (fs : Frames) (negative : Bool) (ws ds : List ℕ) (c : ℕ)
-    → Tells Keyless None (move_after_fraction class fs negative ws ds c)
-fraction_tells letter_e fs negative ws ds c = (unmarked _, tt)
-fraction_tells class fs negative ws ds c = behind_tells class fs (number_value negative ws ds None)
+fraction_reports : (class : Class) (fs : Frames) (negative : Bool) (ws ds : List ℕ) (c : ℕ)
+    → Reports Keyless None (move_after_fraction class fs negative ws ds c)
+fraction_reports letter_e fs negative ws ds c = (unmarked _, tt)
+fraction_reports class fs negative ws ds c = after_reports class fs (number_value negative ws ds None)
 
-numeral_tells : (x : NumberPlace) (class : Class) (fs : Frames) (negative : Bool) (c : ℕ)
-    → Tells Keyless None (move_numeral x class fs negative c)
-numeral_tells signed digits fs negative c = (unmarked _, tt)
-numeral_tells signed _ fs negative c = shut
-numeral_tells zero_read class fs negative c = whole_tells class fs negative (48 ∷ []) c
-numeral_tells (whole ds) digits fs negative c = (digit_mark _, tt)
-numeral_tells (whole ds) class fs negative c = whole_tells class fs negative (onto ds []) c
-numeral_tells (pointed ws) digits fs negative c = (digit_mark _, tt)
-numeral_tells (pointed ws) _ fs negative c = shut
-numeral_tells (fraction ws ds) digits fs negative c = (digit_mark _, tt)
-numeral_tells (fraction ws ds) class fs negative c = fraction_tells class fs negative ws (onto ds []) c
-numeral_tells (lettered ws ds l) digits fs negative c = (unmarked _, tt)
-numeral_tells (lettered ws ds l) cross fs negative c = (unmarked _, tt)
-numeral_tells (lettered ws ds l) dash fs negative c = (unmarked _, tt)
-numeral_tells (lettered ws ds l) _ fs negative c = shut
-numeral_tells (signed_exponent ws ds l s) digits fs negative c = (unmarked _, tt)
-numeral_tells (signed_exponent ws ds l s) _ fs negative c = shut
-numeral_tells (exponent ws ds l s xs) digits fs negative c = (unmarked _, tt)
-numeral_tells (exponent ws ds l s xs) class fs negative c =
-    behind_tells class fs (number_value negative ws ds (exponent_of l s (onto xs [])))
+numeral_reports : (x : NumberState) (class : Class) (fs : Frames) (negative : Bool) (c : ℕ)
+    → Reports Keyless None (move_numeral x class fs negative c)
+numeral_reports after_minus digits fs negative c = (unmarked _, tt)
+numeral_reports after_minus _ fs negative c = shut
+numeral_reports zero_read class fs negative c = whole_reports class fs negative (48 ∷ []) c
+numeral_reports (whole ds) digits fs negative c = (digit_mark _, tt)
+numeral_reports (whole ds) class fs negative c = whole_reports class fs negative (onto ds []) c
+numeral_reports (pointed ws) digits fs negative c = (digit_mark _, tt)
+numeral_reports (pointed ws) _ fs negative c = shut
+numeral_reports (fraction ws ds) digits fs negative c = (digit_mark _, tt)
+numeral_reports (fraction ws ds) class fs negative c = fraction_reports class fs negative ws (onto ds []) c
+numeral_reports (lettered ws ds l) digits fs negative c = (unmarked _, tt)
+numeral_reports (lettered ws ds l) plus_char fs negative c = (unmarked _, tt)
+numeral_reports (lettered ws ds l) minus_char fs negative c = (unmarked _, tt)
+numeral_reports (lettered ws ds l) _ fs negative c = shut
+numeral_reports (signed_exponent ws ds l s) digits fs negative c = (unmarked _, tt)
+numeral_reports (signed_exponent ws ds l s) _ fs negative c = shut
+numeral_reports (exponent ws ds l s xs) digits fs negative c = (unmarked _, tt)
+numeral_reports (exponent ws ds l s xs) class fs negative c =
+    after_reports class fs (number_value negative ws ds (exponent_of l s (onto xs [])))
 
 -- For strings: K holds of each state inside and after them.
-module _ (r : Reading) (K : Place → Type 0) (role : Role)
-    (inside : (bs : List ℕ) (x : TextPlace) → K (string role bs x)) where
-  code_tells : (bs : List ℕ) (n u c : ℕ) → Tells K None (move_code role bs n u c)
-  code_tells bs zero u c = (unmarked _, by_test (is_surrogate (add_hex u c)))
+module _ (r : Reading) (K : State → Type 0) (role : Role)
+    (inside : (bs : List ℕ) (x : StringState) → K (string role bs x)) where
+  code_reports : (bs : List ℕ) (n u c : ℕ) → Reports K None (move_code role bs n u c)
+  code_reports bs zero u c = (unmarked _, by_test (is_surrogate (add_hex u c)))
     where
-      by_test : (t : Bool) → K (coded t role bs (add_hex u c))
+      by_test : (t : Bool) → K (after_unit t role bs (add_hex u c))
       by_test true = inside bs _
       by_test false = inside _ between
-  code_tells bs (suc n) u c = (unmarked _, inside bs _)
+  code_reports bs (suc n) u c = (unmarked _, inside bs _)
 
-  pair_tells : (t : Bool) (bs : List ℕ) (u v : ℕ) → Tells K None (paired t role bs u v)
-  pair_tells true bs u v = (unmarked _, inside _ between)
-  pair_tells false bs u v = ((λ e. absurd (cc)), inside bs between)
+  pair_reports : (t : Bool) (bs : List ℕ) (u v : ℕ) → Reports K None (move_pair t role bs u v)
+  pair_reports true bs u v = (unmarked _, inside _ between)
+  pair_reports false bs u v = ((λ e. absurd (cc)), inside bs between)
 
-  second_code_tells : (bs : List ℕ) (u n v c : ℕ) → Tells K None (move_second_code role bs u n v c)
-  second_code_tells bs u zero v c = pair_tells _ bs u _
-  second_code_tells bs u (suc n) v c = (unmarked _, inside bs _)
+  second_code_reports : (bs : List ℕ) (u n v c : ℕ) → Reports K None (move_second_code role bs u n v c)
+  second_code_reports bs u zero v c = pair_reports _ bs u _
+  second_code_reports bs u (suc n) v c = (unmarked _, inside bs _)
 
-  string_tells : (x : TextPlace) (bs : List ℕ) (c left : ℕ) → Tells K None (closed_string r role bs left)
-      → Tells K None (move_string r x role bs c left)
-  string_tells between bs c left h =
-      if_tells K (c == 34) None _ _ h (if_tells K (c == 92) None _ _ (unmarked _, inside bs _)
-      (if_tells K (is_unescaped c) None _ _ (unmarked _, inside _ between) shut))
-  string_tells slash bs c left h =
-      if_tells K (c == 117) None _ _ (unmarked _, inside bs _)
-      (if_tells K (is_simple c) None _ _ (unmarked _, inside _ between) shut)
-  string_tells (code n u) bs c left h = if_tells K (is_ascii_hexdigit c) None _ _ (code_tells bs n u c) shut
-  string_tells (second u) bs c left h = if_tells K (c == 92) None _ _ (unmarked _, inside bs _) shut
-  string_tells (second_slash u) bs c left h = if_tells K (c == 117) None _ _ (unmarked _, inside bs _) shut
-  string_tells (second_code u n v) bs c left h =
-      if_tells K (is_ascii_hexdigit c) None _ _ (second_code_tells bs u n v c) shut
+  string_reports : (x : StringState) (bs : List ℕ) (c left : ℕ) → Reports K None (closed_string r role bs left)
+      → Reports K None (move_string r x role bs c left)
+  string_reports between bs c left h =
+      if_reports K (c == 34) None _ _ h (if_reports K (c == 92) None _ _ (unmarked _, inside bs _)
+      (if_reports K (is_unescaped c) None _ _ (unmarked _, inside _ between) shut))
+  string_reports slash bs c left h =
+      if_reports K (c == 117) None _ _ (unmarked _, inside bs _)
+      (if_reports K (is_simple c) None _ _ (unmarked _, inside _ between) shut)
+  string_reports (code n u) bs c left h = if_reports K (is_ascii_hexdigit c) None _ _ (code_reports bs n u c) shut
+  string_reports (second u) bs c left h = if_reports K (c == 92) None _ _ (unmarked _, inside bs _) shut
+  string_reports (second_slash u) bs c left h = if_reports K (c == 117) None _ _ (unmarked _, inside bs _) shut
+  string_reports (second_code u n v) bs c left h =
+      if_reports K (is_ascii_hexdigit c) None _ _ (second_code_reports bs u n v c) shut
 
-value_string_tells : (r : Reading) (fs : Frames) (x : TextPlace) (bs : List ℕ) (c left : ℕ)
-    → Tells Keyless None (move_string r x (as_value fs) bs c left)
-value_string_tells r fs x bs c left = string_tells r Keyless (as_value fs) (λ b y. tt) x bs c left (unmarked _, tt)
+value_string_reports : (r : Reading) (fs : Frames) (x : StringState) (bs : List ℕ) (c left : ℕ)
+    → Reports Keyless None (move_string r x (as_value fs) bs c left)
+value_string_reports r fs x bs c left = string_reports r Keyless (as_value fs) (λ b y. tt) x bs c left (unmarked _, tt)
 
-word_tells : (t : Bool) (fs : Frames) (v : Value) (ls : List ℕ)
-    → Tells Keyless None (cond t (go None (past_letter fs v ls)) bad)
-word_tells true fs v [] = (unmarked _, tt)
-word_tells true fs v (l ∷ ls) = (unmarked _, tt)
-word_tells false fs v ls = shut
+word_reports : (t : Bool) (fs : Frames) (v : Value) (ls : List ℕ)
+    → Reports Keyless None (cond t (go None (past_letter fs v ls)) bad)
+word_reports true fs v [] = (unmarked _, tt)
+word_reports true fs v (l ∷ ls) = (unmarked _, tt)
+word_reports false fs v ls = shut
 
-loose : (K : Place → Type 0) (m : Option Breach) (z : Move) → Tells K m z → Tells (λ p. ⊤) m z
+loose : (K : State → Type 0) (m : Option Breach) (z : Move) → Reports K m z → Reports (λ p. ⊤) m z
 loose K m (go v p) h = (h.0, tt)
 loose K m bad h = h
 loose K m bad_deep h = h
 
-tells : (r : Reading) (p : Place) (c left : ℕ) → Tells (λ q. ⊤) (next_mark r p) (move r p c left)
-tells r (before fs) c left = loose _ _ _ (before_tells r (class_of r.strict c) fs c)
-tells r (before_key fs es) c left = key_tells r (class_of r.strict c) fs es left
-tells r (word fs v l ls) c left = loose _ _ _ (word_tells (c == l) fs v ls)
-tells r (numeral fs negative x) c left = loose _ _ _ (numeral_tells x (class_of r.strict c) fs negative c)
-tells r (string (as_value fs) bs x) c left = loose _ _ _ (value_string_tells r fs x bs c left)
-tells r (string (as_key fs es opened) bs x) c left =
-    string_tells r (λ q. ⊤) (as_key fs es opened) (λ b y. tt) x bs c left (other_mark _ _ None (λ e. cc), tt)
-tells r (after_key fs es k) c left = loose _ _ _ (after_key_tells (class_of r.strict c) fs es k)
-tells r (behind fs v) c left = loose _ _ _ (behind_tells (class_of r.strict c) fs v)
+reports : (r : Reading) (p : State) (c left : ℕ) → Reports (λ q. ⊤) (next_mark r p) (move r p c left)
+reports r (before fs) c left = loose _ _ _ (before_reports r (class_of r.strict c) fs c)
+reports r (before_key fs es) c left = key_reports r (class_of r.strict c) fs es left
+reports r (word fs v l ls) c left = loose _ _ _ (word_reports (c == l) fs v ls)
+reports r (numeral fs negative x) c left = loose _ _ _ (numeral_reports x (class_of r.strict c) fs negative c)
+reports r (string (as_value fs) bs x) c left = loose _ _ _ (value_string_reports r fs x bs c left)
+reports r (string (as_key fs es opened) bs x) c left =
+    string_reports r (λ q. ⊤) (as_key fs es opened) (λ b y. tt) x bs c left (other_mark _ _ None (λ e. cc), tt)
+reports r (after_key fs es k) c left = loose _ _ _ (after_key_reports (class_of r.strict c) fs es k)
+reports r (after_value fs v) c left = loose _ _ _ (after_reports (class_of r.strict c) fs v)
 
-pub deep_of_go : (r : Reading) (p s : Place) (c left : ℕ) → move r p c left ≡ go (Some deep) s → IsDeep r p
-deep_of_go r p s c left e = (subst (λ z. Tells (λ q. ⊤) (next_mark r p) z) e (tells r p c left)).0 refl
+pub deep_of_go : (r : Reading) (p s : State) (c left : ℕ) → move r p c left ≡ go (Some deep) s → IsDeep r p
+deep_of_go r p s c left e = (subst (λ z. Reports (λ q. ⊤) (next_mark r p) z) e (reports r p c left)).0 refl
 
-pub deep_of_bad_deep : (r : Reading) (p : Place) (c left : ℕ) → move r p c left ≡ bad_deep → IsDeep r p
-deep_of_bad_deep r p c left e = subst (λ z. Tells (λ q. ⊤) (next_mark r p) z) e (tells r p c left)
+pub deep_of_bad_deep : (r : Reading) (p : State) (c left : ℕ) → move r p c left ≡ bad_deep → IsDeep r p
+deep_of_bad_deep r p c left e = subst (λ z. Reports (λ q. ⊤) (next_mark r p) z) e (reports r p c left)
 
-pub deep_not_bad : (r : Reading) (p : Place) (c left : ℕ) → IsDeep r p → move r p c left ≡ bad → ⊥
-deep_not_bad r p c left h e = subst (λ z. Tells (λ q. ⊤) (next_mark r p) z) e (tells r p c left) h
+pub deep_not_bad : (r : Reading) (p : State) (c left : ℕ) → IsDeep r p → move r p c left ≡ bad → ⊥
+deep_not_bad r p c left h e = subst (λ z. Reports (λ q. ⊤) (next_mark r p) z) e (reports r p c left) h
 
 -- with some character the text goes on with one container too many
-pub deep_some : (r : Reading) (p : Place) (left : ℕ) → IsDeep r p
-    → (c : ℕ) × (s : Place) × (move r p c left ≡ go (Some deep) s)
+pub deep_some : (r : Reading) (p : State) (left : ℕ) → IsDeep r p
+    → (c : ℕ) × (s : State) × (move r p c left ≡ go (Some deep) s)
 deep_some r (before fs) left h =
-    let s : Place = word fs value.null 117 (108 ∷ 108 ∷ []) in
+    let s : State = word fs value.null 117 (108 ∷ 108 ∷ []) in
     (110, s, rw (class-char r.strict begins_null) (ap (λ m. go m s) h))
 deep_some r (before_key fs es) left h =
-    let s : Place = string (as_key fs es left) [] between in
+    let s : State = string (as_key fs es left) [] between in
     (34, s, rw (class-char r.strict quote) (ap (λ m. go m s) h))
 deep_some r _ left h = absurd (cc)
 
 -- ---- alike states move alike
 
-keyless_alike : (i j : ℕ) (p : Place) → Keyless p → Alike i j p p
+keyless_alike : (i j : ℕ) (p : State) → Keyless p → Alike i j p p
 keyless_alike i j (string (as_key fs es opened) bs x) h = absurd h
 keyless_alike i j (string (as_value fs) bs x) h = refl
 keyless_alike i j _ h = refl
 
-same_move : (i j : ℕ) (m : Option Breach) (z : Move) → Tells Keyless m z → AlikeMove i j z z
+same_move : (i j : ℕ) (m : Option Breach) (z : Move) → Reports Keyless m z → AlikeMove i j z z
 same_move i j m (go v p) h = (p, refl, keyless_alike i j p h.1)
 same_move i j m bad h = refl
 same_move i j m bad_deep h = refl
@@ -303,7 +303,7 @@ module _ (r : Reading) (i j : ℕ) (fs : Frames) (es : Entries) (opened back : �
   abbrev there : Role
   there = as_key fs es (back + suc j)
 
-  inner : (m : Option Breach) (bs : List ℕ) (x : TextPlace)
+  inner : (m : Option Breach) (bs : List ℕ) (x : StringState)
       → AlikeMove i j (go m (string here bs x)) (go m (string there bs x))
   inner m bs x =
       let f : suc back + j ≡ back + suc j = omega arith in
@@ -318,12 +318,12 @@ module _ (r : Reading) (i j : ℕ) (fs : Frames) (es : Entries) (opened back : �
   code_alike zero u bs c = by_test (is_surrogate (add_hex u c))
     where
       by_test : (t : Bool)
-          → AlikeMove i j (go None (coded t here bs (add_hex u c))) (go None (coded t there bs (add_hex u c)))
+          → AlikeMove i j (go None (after_unit t here bs (add_hex u c))) (go None (after_unit t there bs (add_hex u c)))
       by_test true = inner None bs _
       by_test false = inner None _ between
   code_alike (suc n) u bs c = inner None bs _
 
-  pair_alike : (t : Bool) (bs : List ℕ) (u v : ℕ) → AlikeMove i j (paired t here bs u v) (paired t there bs u v)
+  pair_alike : (t : Bool) (bs : List ℕ) (u v : ℕ) → AlikeMove i j (move_pair t here bs u v) (move_pair t there bs u v)
   pair_alike true bs u v = inner None _ between
   pair_alike false bs u v = inner (Some pair) bs between
 
@@ -332,7 +332,7 @@ module _ (r : Reading) (i j : ℕ) (fs : Frames) (es : Entries) (opened back : �
   second_alike u zero v bs c = pair_alike _ bs u _
   second_alike u (suc n) v bs c = inner None bs _
 
-  string_alike : (x : TextPlace) (bs : List ℕ) (c : ℕ)
+  string_alike : (x : StringState) (bs : List ℕ) (c : ℕ)
       → AlikeMove i j (move_string r x here bs c (suc i)) (move_string r x there bs c (suc j))
   string_alike between bs c =
       if_alike i j (c == 34) _ _ _ _ (closed_alike bs) (if_alike i j (c == 92) _ _ _ _ (inner None bs slash)
@@ -355,33 +355,33 @@ key_alike r i j whitespace fs es = (before_key fs es, refl, refl)
 key_alike r i j quote fs es =
     let f : 1 + j ≡ suc j = omega arith in
     (string (as_key fs es (suc j)) [] between, refl, (1, omega arith, ap (λ n. string (as_key fs es n) [] between) f))
-key_alike r i j closes_object fs [] = (behind fs (value.object value.no_pairs), refl, refl)
+key_alike r i j closes_object fs [] = (after_value fs (value.object value.no_pairs), refl, refl)
 key_alike r i j closes_object fs (e ∷ es) = refl
 key_alike r i j _ fs es = bad_alike i j (key_mark r fs es)
 
-alike_value_string : (r : Reading) (i j : ℕ) (fs : Frames) (x : TextPlace) (bs : List ℕ) (c : ℕ)
+alike_value_string : (r : Reading) (i j : ℕ) (fs : Frames) (x : StringState) (bs : List ℕ) (c : ℕ)
     → AlikeMove i j (move_string r x (as_value fs) bs c (suc i)) (move_string r x (as_value fs) bs c (suc j))
-alike_value_string r i j fs between bs c = same_move i j None _ (value_string_tells r fs between bs c 0)
-alike_value_string r i j fs slash bs c = same_move i j None _ (value_string_tells r fs slash bs c 0)
-alike_value_string r i j fs (code n u) bs c = same_move i j None _ (value_string_tells r fs (code n u) bs c 0)
-alike_value_string r i j fs (second u) bs c = same_move i j None _ (value_string_tells r fs (second u) bs c 0)
+alike_value_string r i j fs between bs c = same_move i j None _ (value_string_reports r fs between bs c 0)
+alike_value_string r i j fs slash bs c = same_move i j None _ (value_string_reports r fs slash bs c 0)
+alike_value_string r i j fs (code n u) bs c = same_move i j None _ (value_string_reports r fs (code n u) bs c 0)
+alike_value_string r i j fs (second u) bs c = same_move i j None _ (value_string_reports r fs (second u) bs c 0)
 alike_value_string r i j fs (second_slash u) bs c =
-    same_move i j None _ (value_string_tells r fs (second_slash u) bs c 0)
+    same_move i j None _ (value_string_reports r fs (second_slash u) bs c 0)
 alike_value_string r i j fs (second_code u n v) bs c =
-    same_move i j None _ (value_string_tells r fs (second_code u n v) bs c 0)
+    same_move i j None _ (value_string_reports r fs (second_code u n v) bs c 0)
 
-same_alike : (r : Reading) (i j c : ℕ) (p : Place) → Keyless p → AlikeMove i j (move r p c (suc i)) (move r p c (suc j))
-same_alike r i j c (before fs) h = same_move i j (value_mark r fs) _ (before_tells r (class_of r.strict c) fs c)
+same_alike : (r : Reading) (i j c : ℕ) (p : State) → Keyless p → AlikeMove i j (move r p c (suc i)) (move r p c (suc j))
+same_alike r i j c (before fs) h = same_move i j (value_mark r fs) _ (before_reports r (class_of r.strict c) fs c)
 same_alike r i j c (before_key fs es) h = key_alike r i j (class_of r.strict c) fs es
-same_alike r i j c (word fs v l ls) h = same_move i j None _ (word_tells (c == l) fs v ls)
+same_alike r i j c (word fs v l ls) h = same_move i j None _ (word_reports (c == l) fs v ls)
 same_alike r i j c (numeral fs negative x) h =
-    same_move i j None _ (numeral_tells x (class_of r.strict c) fs negative c)
+    same_move i j None _ (numeral_reports x (class_of r.strict c) fs negative c)
 same_alike r i j c (string (as_value fs) bs x) h = alike_value_string r i j fs x bs c
 same_alike r i j c (string (as_key fs es opened) bs x) h = absurd h
-same_alike r i j c (after_key fs es k) h = same_move i j None _ (after_key_tells (class_of r.strict c) fs es k)
-same_alike r i j c (behind fs v) h = same_move i j None _ (behind_tells (class_of r.strict c) fs v)
+same_alike r i j c (after_key fs es k) h = same_move i j None _ (after_key_reports (class_of r.strict c) fs es k)
+same_alike r i j c (after_value fs v) h = same_move i j None _ (after_reports (class_of r.strict c) fs v)
 
-pub moves_alike : (r : Reading) (i j c : ℕ) (p q : Place) → Alike (suc i) (suc j) p q
+pub moves_alike : (r : Reading) (i j c : ℕ) (p q : State) → Alike (suc i) (suc j) p q
     → AlikeMove i j (move r p c (suc i)) (move r q c (suc j))
 moves_alike r i j c (string (as_key fs es opened) bs x) q h =
     subst (λ z. AlikeMove i j (move_string r x (as_key fs es opened) bs c (suc i)) (move r z c (suc j))) h.2

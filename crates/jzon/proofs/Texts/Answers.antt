@@ -21,11 +21,11 @@ Answers r t (Err e) = IsErrorUnlessMemory r t e
 
 answers_by : (r : Reading) (t : List ℕ) (result : Result JsonValue Error) (o : Outcome) → Verdict r t o
     → Reads t result o → Answers r t result
-answers_by r t (Ok v) (meant w) told read = let same : w ≡ view v = cc in (told.0, told.1, sym (told.2 ∙ same))
-answers_by r t (Ok v) (refused f rest) told read = absurd (cc)
-answers_by r t (Err e) o told (inl memory) = inl memory
-answers_by r t (Err e) (meant w) told (inr tells) = absurd tells
-answers_by r t (Err e) (refused f rest) told (inr tells) = inr (length t - length rest, f, told, tells)
+answers_by r t (Ok v) (meant w) reported read = let same : w ≡ view v = cc in (reported.0, reported.1, sym (reported.2 ∙ same))
+answers_by r t (Ok v) (refused f rest) reported read = absurd (cc)
+answers_by r t (Err e) o reported (inl memory) = inl memory
+answers_by r t (Err e) (meant w) reported (inr reports) = absurd reports
+answers_by r t (Err e) (refused f rest) reported (inr reports) = inr (length t - length rest, f, reported, reports)
 
 pub answers_of : (r : Reading) (t : List ℕ) (result : Result JsonValue Error)
     → Reads t result (outcome r t (before no_frames)) → Answers r t result

@@ -12,7 +12,7 @@ use Rattle.std.proofs.lemmas.Str.{IsCharBoundary-from_drop}
 use Rattle.jzon_tree.specs.Value.{Value}
 use Rattle.jzon_tree.specs.Writing.{is_whitespace}
 use Rattle.jzon.specs.Reading.{Reading}
-use Rattle.jzon.specs.Machine.{Place, Frames, before, behind, go, move, outcome, outcome_on, from}
+use Rattle.jzon.specs.Machine.{State, Frames, before, after_value, go, move, outcome, outcome_on, from}
 use Rattle.jzon.proofs.Texts.ClassesOfCharacters.{whitespace-class}
 
 -- an ASCII byte is a character, and what follows it is text
@@ -23,15 +23,15 @@ pub IsUtf8-past_ascii : (b : ℕ) (bs : List ℕ) → IsUtf8 (b ∷ bs) → b < 
 IsUtf8-past_ascii b bs u lt = IsUtf8-past_char (b ∷ bs) bs b u (ap (λ z. z ++ bs) (sym (encode_ascii b lt)))
 
 -- in this state the characters that pass the test, all ASCII, are skipped
-pub record Skips (r : Reading) (p : Place) (test : ℕ → Bool) : Type 0 where
+pub record Skips (r : Reading) (p : State) (test : ℕ → Bool) : Type 0 where
   pub ascii : (c : ℕ) → test c ≡ true → c < 128
   pub stays : (c n : ℕ) → test c ≡ true → move r p c n ≡ go None p
 
-pub record Skipped (r : Reading) (p : Place) (bs rest : List ℕ) : Type 0 where
+pub record Skipped (r : Reading) (p : State) (bs rest : List ℕ) : Type 0 where
   pub same : outcome r (chars bs) p ≡ outcome r (chars rest) p
   pub utf8 : IsUtf8 rest
 
-skip_one : (r : Reading) (p : Place) (test : ℕ → Bool) (b : ℕ) (bs : List ℕ) (v : Bool) (n : ℕ) → Skips r p test
+skip_one : (r : Reading) (p : State) (test : ℕ → Bool) (b : ℕ) (bs : List ℕ) (v : Bool) (n : ℕ) → Skips r p test
     → IsUtf8 (b ∷ bs) → test b ≡ v
     → (IsUtf8 bs → Skipped r p bs (drop n bs)) → Skipped r p (b ∷ bs) (drop (cond v (1 + n) 0) (b ∷ bs))
 skip_one r p test b bs false n h u e ih = record { same = refl; utf8 = u }
@@ -44,7 +44,7 @@ skip_one r p test b bs true n h u e ih =
     (b ∷ chars bs)) (h.stays b (length (b ∷ chars bs)) e) in
     subst (λ j. Skipped r p (b ∷ bs) (drop j (b ∷ bs))) (sym m) (record { same = step ∙ k.same; utf8 = k.utf8 })
 
-pub skip_run : (r : Reading) (p : Place) (test : ℕ → Bool) (bs : List ℕ) → Skips r p test → IsUtf8 bs
+pub skip_run : (r : Reading) (p : State) (test : ℕ → Bool) (bs : List ℕ) → Skips r p test → IsUtf8 bs
     → Skipped r p bs (drop (prefix_len test bs) bs)
 skip_run r p test [] h u = record { same = refl; utf8 = u }
 skip_run r p test (b ∷ bs) h u = skip_one r p test b bs (test b) (prefix_len test bs) h u refl
@@ -63,13 +63,13 @@ wide_is_no_space false c le = grind (arith, nat_tests)
 pub before_skips : (r : Reading) (fs : Frames) → Skips r (before fs) (is_whitespace r.strict)
 before_skips r fs = record { ascii = space_is_ascii r.strict; stays = λ c n e. rw (whitespace-class r c e) refl }
 
-pub behind_skips : (r : Reading) (fs : Frames) (v : Value) → Skips r (behind fs v) (is_whitespace r.strict)
-behind_skips r fs v = record { ascii = space_is_ascii r.strict; stays = λ c n e. rw (whitespace-class r c e) refl }
+pub after_skips : (r : Reading) (fs : Frames) (v : Value) → Skips r (after_value fs v) (is_whitespace r.strict)
+after_skips r fs v = record { ascii = space_is_ascii r.strict; stays = λ c n e. rw (whitespace-class r c e) refl }
 
 -- ---- by the index of a byte
 
 -- the outcome of the rest is the same after a run of bytes that are skipped
-pub from_skip : (r : Reading) (p : Place) (test : ℕ → Bool) (bs : List ℕ) (i n : ℕ) → Skips r p test → IsUtf8 bs
+pub from_skip : (r : Reading) (p : State) (test : ℕ → Bool) (bs : List ℕ) (i n : ℕ) → Skips r p test → IsUtf8 bs
     → IsCharBoundary bs i → n ≡ prefix_len test (drop i bs) → from r bs p i ≡ from r bs p (i + n)
 unfolding from
 from_skip r p test bs i n h u at e =
@@ -89,7 +89,7 @@ pub within_run : (test : ℕ → Bool) (bs : List ℕ) (i n : ℕ) → i ≤ len
     → i + n ≤ length bs
 within_run test bs i n le e = omega (arith, e, prefix_len-le-length test (drop i bs), length-drop i bs)
 
-pub boundary_skip : (r : Reading) (p : Place) (test : ℕ → Bool) (bs : List ℕ) (i n : ℕ) → Skips r p test → IsUtf8 bs
+pub boundary_skip : (r : Reading) (p : State) (test : ℕ → Bool) (bs : List ℕ) (i n : ℕ) → Skips r p test → IsUtf8 bs
     → IsCharBoundary bs i → n ≡ prefix_len test (drop i bs) → IsCharBoundary bs (i + n)
 boundary_skip r p test bs i n h u at e =
     let k : IsUtf8 (drop (prefix_len test (drop i bs)) (drop i bs)) =

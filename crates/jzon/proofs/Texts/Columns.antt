@@ -28,9 +28,9 @@ on_one_line cs h =
     (λ k _ lt. none_at cs k h lt) (λ lt. absurd (omega arith)) in
     omega (arith, e)
 
-behind_newline : (xs ys : List ℕ) (k : ℕ) → length xs + 1 ≤ k
+after_newline : (xs ys : List ℕ) (k : ℕ) → length xs + 1 ≤ k
     → get_or (xs ++ (10 ∷ ys)) k 0 ≡ get_or ys (k - (length xs + 1)) 0
-behind_newline xs ys k le =
+after_newline xs ys k le =
     let e : k ≡ length xs + suc (k - (length xs + 1)) = omega arith in
     ap (λ n. get_or (xs ++ (10 ∷ ys)) n 0) e ∙ get_or-append-add xs (10 ∷ ys) (suc (k - (length xs + 1))) 0
 
@@ -39,7 +39,7 @@ on_last_line xs ys h =
     let n : length (xs ++ (10 ∷ ys)) ≡ length xs + suc (length ys) = length-append xs (10 ∷ ys) in
     let e : suffix_len is_in_line (xs ++ (10 ∷ ys)) ≡ length (xs ++ (10 ∷ ys)) - (length xs + 1) =
     suffix_len_is is_in_line (xs ++ (10 ∷ ys)) (length xs + 1) 0 (omega arith)
-    (λ k le lt. subst (λ c. is_in_line c ≡ true) (sym (behind_newline xs ys k le))
+    (λ k le lt. subst (λ c. is_in_line c ≡ true) (sym (after_newline xs ys k le))
     (none_at ys (k - (length xs + 1)) h (omega arith)))
     (λ lt. let s : get_or (xs ++ (10 ∷ ys)) (length xs + 1 - 1) 0
     ≡ 10 = ap (λ m. get_or (xs ++ (10 ∷ ys)) m 0) (omega arith) ∙ get_or-append_seam xs 10 ys 0 in rw s refl) in

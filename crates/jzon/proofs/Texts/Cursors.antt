@@ -5,63 +5,63 @@ use Rattle.std.specs.Prelude.{chars, IsUtf8}
 use Rattle.std.proofs.lemmas.Str.{IsUtf8-had}
 use Rattle.jzon_base.specs.declared.error.Error.{Error}
 use Rattle.jzon_tree.specs.declared.value.JsonValue.{JsonValue}
-use Rattle.jzon.specs.Cursor.{left, IsPast, IsBehind, GoesOn}
-use Rattle.jzon.specs.Machine.{Place, Outcome, allows_whitespace, from, Reads, TellsUnlessMemory}
+use Rattle.jzon.specs.Cursor.{left, IsPast, IsAfter, GoesOn}
+use Rattle.jzon.specs.Machine.{State, Outcome, allows_whitespace, from, Reads, ReportsUnlessMemory}
 use Rattle.jzon.specs.declared.cursor.Cursor.{Cursor}
-use Rattle.jzon.proofs.Texts.ReportedErrors.{told_again}
+use Rattle.jzon.proofs.Texts.ReportedErrors.{reported_again}
 
 pub utf8_of : (t : Cursor) → IsUtf8 t.source.now
 utf8_of t = IsUtf8-had _ t.utf8
 
 -- after a token over which the automaton goes from p to q
-pub token_goes : (t u : Cursor) (p q : Place) (end : ℕ) → IsPast t.reading t.source.now end u → t.index < end
-    → allows_whitespace q ≡ true → left t p ≡ from t.reading t.source.now q end → IsBehind t u × (left t p ≡ left u q)
+pub token_goes : (t u : Cursor) (p q : State) (end : ℕ) → IsPast t.reading t.source.now end u → t.index < end
+    → allows_whitespace q ≡ true → left t p ≡ from t.reading t.source.now q end → IsAfter t u × (left t p ≡ left u q)
 token_goes t u p q end past lt allows e =
     (record { text = past.text; reading = past.reading; index = omega (arith, past.within) }, e ∙ past.same q allows)
 
 -- the same for one byte
-pub byte_goes : (t u : Cursor) (p q : Place) → IsPast t.reading t.source.now (t.index + 1) u
+pub byte_goes : (t u : Cursor) (p q : State) → IsPast t.reading t.source.now (t.index + 1) u
     → allows_whitespace q ≡ true
-    → left t p ≡ from t.reading t.source.now q (t.index + 1) → IsBehind t u × (left t p ≡ left u q)
+    → left t p ≡ from t.reading t.source.now q (t.index + 1) → IsAfter t u × (left t p ≡ left u q)
 byte_goes t u p q past allows e = token_goes t u p q (t.index + 1) past (omega arith) allows e
 
 -- The outcome of what was left of a text is the outcome of what is left here, at the old offset or after it.
-pub record Reached (t : Cursor) (o : Place) (m : Cursor) (p : Place) : Type 0 where
+pub record Reached (t : Cursor) (o : State) (m : Cursor) (p : State) : Type 0 where
   pub text : m.source.now ≡ t.source.now
   pub reading : m.reading ≡ t.reading
   pub within : t.index ≤ m.index
   pub same : left t o ≡ left m p
 
-pub reached_start : (t : Cursor) (o : Place) → Reached t o t o
+pub reached_start : (t : Cursor) (o : State) → Reached t o t o
 reached_start t o = record { text = refl; reading = refl; within = omega arith; same = refl }
 
-pub reached : (t m : Cursor) (o p : Place) → IsBehind t m × (left t o ≡ left m p) → Reached t o m p
+pub reached : (t m : Cursor) (o p : State) → IsAfter t m × (left t o ≡ left m p) → Reached t o m p
 reached t m o p h = record { text = h.0.text; reading = h.0.reading; within = omega (arith, h.0.index); same = h.1 }
 
 -- one more step
-pub goes_behind : (t m u : Cursor) (o p q : Place) → Reached t o m p → IsBehind m u × (left m p ≡ left u q)
-    → IsBehind t u × (left t o ≡ left u q)
-goes_behind t m u o p q h k = (
+pub goes_after : (t m u : Cursor) (o p q : State) → Reached t o m p → IsAfter m u × (left m p ≡ left u q)
+    → IsAfter t u × (left t o ≡ left u q)
+goes_after t m u o p q h k = (
   record { text = k.0.text ∙ h.text; reading = k.0.reading ∙ h.reading; index = omega (arith, h.within, k.0.index) },
   h.same ∙ k.1,
 )
 
-pub told_on : (t m : Cursor) (o p : Place) (e : Error) → Reached t o m p
-    → TellsUnlessMemory (chars m.source.now) e (left m p) → TellsUnlessMemory (chars t.source.now) e (left t o)
-told_on t m o p e h k = told_again (chars t.source.now) e _ _ h.same
-    (subst (λ bs. TellsUnlessMemory (chars bs) e (left m p)) h.text k)
+pub reported_on : (t m : Cursor) (o p : State) (e : Error) → Reached t o m p
+    → ReportsUnlessMemory (chars m.source.now) e (left m p) → ReportsUnlessMemory (chars t.source.now) e (left t o)
+reported_on t m o p e h k = reported_again (chars t.source.now) e _ _ h.same
+    (subst (λ bs. ReportsUnlessMemory (chars bs) e (left m p)) h.text k)
 
-pub goes_on : {A : Type 0} (t m u : Cursor) (o p : Place) (result : Result A Error) (next : A → Place) → Reached t o m p
+pub goes_on : {A : Type 0} (t m u : Cursor) (o p : State) (result : Result A Error) (next : A → State) → Reached t o m p
     → GoesOn m p result u next → GoesOn t o result u next
-goes_on t m u o p (Ok x) next h k = goes_behind t m u o p (next x) h k
-goes_on t m u o p (Err e) next h k = told_on t m o p e h k
+goes_on t m u o p (Ok x) next h k = goes_after t m u o p (next x) h k
+goes_on t m u o p (Err e) next h k = reported_on t m o p e h k
 
 -- an error that is propagated
-pub fails_on : {A : Type 0} (t m u : Cursor) (o p : Place) (result : Result A Error) (next : A → Place) (e : Error)
-    → result ≡ Err e → Reached t o m p → TellsUnlessMemory (chars m.source.now) e (left m p) → GoesOn t o result u next
-fails_on t m u o p result next e is h k = subst (λ z. GoesOn t o z u next) (sym is) (told_on t m o p e h k)
+pub fails_on : {A : Type 0} (t m u : Cursor) (o p : State) (result : Result A Error) (next : A → State) (e : Error)
+    → result ≡ Err e → Reached t o m p → ReportsUnlessMemory (chars m.source.now) e (left m p) → GoesOn t o result u next
+fails_on t m u o p result next e is h k = subst (λ z. GoesOn t o z u next) (sym is) (reported_on t m o p e h k)
 
-pub reads_from : (bytes : List ℕ) (o : Outcome) (m : Cursor) (p : Place) (result : Result JsonValue Error)
+pub reads_from : (bytes : List ℕ) (o : Outcome) (m : Cursor) (p : State) (result : Result JsonValue Error)
     → m.source.now ≡ bytes → o ≡ left m p → Reads (chars m.source.now) result (left m p) → Reads (chars bytes) result o
 reads_from bytes o m p result text same k =
     subst (λ z. Reads (chars bytes) result z) (sym same) (subst (λ bs. Reads (chars bs) result (left m p)) text k)

@@ -14,7 +14,7 @@ use Rattle.jzon.specs.Grammar.{IsWhitespace, AreDigits, IsDigits, IsWhole, IsExp
 use Rattle.jzon.specs.Grammar.{IsKey, IsNode, AreElements, AreMembers, IsDocument, is_surrogate, code_unit}
 use Rattle.jzon.specs.Grammar as grammar
 use Rattle.jzon.specs.Fault.{Spells}
-use Rattle.jzon.specs.Classes.{Class, whitespace, digits, dash, cross, point, letter_e, quote, opens_array}
+use Rattle.jzon.specs.Classes.{Class, whitespace, digits, minus_char, plus_char, point, letter_e, quote, opens_array}
 use Rattle.jzon.specs.Classes.{closes_array, opens_object, closes_object, comma, colon, begins_null, begins_true}
 use Rattle.jzon.specs.Classes.{begins_false, class_of}
 use Rattle.jzon.proofs.Texts.ClassesOfCharacters.{whitespace-class, digits-class, letter_e-class, class-char, char_of}
@@ -75,9 +75,9 @@ module _ (r : Reading) where
   Stops [] = ⊤
   Stops (c ∷ cs) = IsTrue (stops (class c))
 
-  stopped : (k : Class) (t : List ℕ) → stops k ≡ false → Stops t → Not k t
-  stopped k [] apart h = tt
-  stopped k (c ∷ cs) apart h = λ e. let f : stops (class c) ≡ false = ap stops e ∙ apart in cc
+  fault_here : (k : Class) (t : List ℕ) → stops k ≡ false → Stops t → Not k t
+  fault_here k [] apart h = tt
+  fault_here k (c ∷ cs) apart h = λ e. let f : stops (class c) ≡ false = ap stops e ∙ apart in cc
 
   stops_blanks : (w t : List ℕ) → IsWhitespace r w → Stops t → Stops (w ++ t)
   stops_blanks [] t ok h = h
@@ -91,7 +91,7 @@ module _ (r : Reading) where
 
   exponent_not : (k : Class) (x : Option Exponent) (t : List ℕ) → stops k ≡ false → (letter_e ≡ k → ⊥) → IsExponent x
       → Stops t → Not k (exponent_chars x t)
-  exponent_not k None t apart other ok h = stopped k t apart h
+  exponent_not k None t apart other ok h = fault_here k t apart h
   exponent_not k (Some x) t apart other ok h = letter_not k x t other ok
 
   fraction_not : (ds : List ℕ) (x : Option Exponent) (t : List ℕ) → IsExponent x → Stops t
@@ -110,10 +110,10 @@ module _ (r : Reading) where
       let f : d ≡ c = cc in other (sym (digits-class r.strict d ok.0) ∙ ap class f)
 
   no_plus : digits ≡ class 43 → ⊥
-  no_plus e = let f : digits ≡ cross = e ∙ class-char r.strict cross in cc
+  no_plus e = let f : digits ≡ plus_char = e ∙ class-char r.strict plus_char in cc
 
   no_minus : digits ≡ class 45 → ⊥
-  no_minus e = let f : digits ≡ dash = e ∙ class-char r.strict dash in cc
+  no_minus e = let f : digits ≡ minus_char = e ∙ class-char r.strict minus_char in cc
 
   same_sign : (a b : Sign) (ds es t u : List ℕ) → IsDigits ds → IsDigits es
       → sign_chars a (ds ++ t) ≡ sign_chars b (es ++ u) → (a ≡ b) × (ds ++ t ≡ es ++ u)
@@ -131,15 +131,15 @@ module _ (r : Reading) where
       → exponent_chars x t ≡ exponent_chars y u → (x ≡ y) × (t ≡ u)
   same_exponent None None t u ok ko h k e = (refl, e)
   same_exponent None (Some y) t u ok ko h k e =
-      absurd (begins letter_e t _ y.letter (stopped letter_e t refl h) e (letter_e-class r.strict y.letter ko.0))
+      absurd (begins letter_e t _ y.letter (fault_here letter_e t refl h) e (letter_e-class r.strict y.letter ko.0))
   same_exponent (Some x) None t u ok ko h k e =
-      absurd (begins letter_e u _ x.letter (stopped letter_e u refl k) (sym e) (letter_e-class r.strict x.letter ok.0))
+      absurd (begins letter_e u _ x.letter (fault_here letter_e u refl k) (sym e) (letter_e-class r.strict x.letter ok.0))
   same_exponent (Some x) (Some y) t u ok ko h k e =
       let letter : x.letter ≡ y.letter = cc in
       let rest : sign_chars x.sign (x.digits ++ t) ≡ sign_chars y.sign (y.digits ++ u) = cc in
       let s = same_sign x.sign y.sign x.digits y.digits t u ok.1 ko.1 rest in
       let d = same_digits x.digits y.digits t u (are_digits x.digits ok.1) (are_digits y.digits ko.1)
-      (stopped digits t refl h) (stopped digits u refl k) s.1 in
+      (fault_here digits t refl h) (fault_here digits u refl k) s.1 in
       (same_parts x.letter y.letter x.sign y.sign x.digits y.digits letter s.0 d.0, d.1)
     where
       same_parts : (a b : ℕ) (p q : Sign) (ds es : List ℕ) → a ≡ b → p ≡ q → ds ≡ es
@@ -291,7 +291,7 @@ module _ (r : Reading) where
 
   -- the class of a value's first character; a minus counts as a digit, and an `f` as a `t`
   abbrev merged : Class → Class
-  merged dash = digits
+  merged minus_char = digits
   merged begins_false = begins_true
   merged k = k
 
@@ -311,7 +311,7 @@ module _ (r : Reading) where
 
   first_numeral : (negative : Bool) (ws t : List ℕ) (n : Numeral) (u : List ℕ) → n.whole ≡ ws → IsDigits ws
       → first (numeral_chars negative n u) ≡ Some digits
-  first_numeral true ws t n u e ok = ap (λ k. Some (merged k)) (class-char r.strict dash)
+  first_numeral true ws t n u e ok = ap (λ k. Some (merged k)) (class-char r.strict minus_char)
   first_numeral false [] t n u e ok = absurd ok
   first_numeral false (d ∷ ws) t n u e ok =
       ap (λ z. first (z ++ fraction_chars n.fraction (exponent_chars n.exponent u))) e

@@ -11,7 +11,7 @@ use Rattle.jzon.specs.Grammar.{Document}
 use Rattle.jzon.specs.Meaning.{meaning}
 use Rattle.jzon.specs.Spelling.{Breach, Cell, cell, plain, cells}
 use Rattle.jzon.specs.Fault.{Spells, Completes}
-use Rattle.jzon.specs.Machine.{Place, Move, go, bad, bad_deep, no_frames, before, move, meant}
+use Rattle.jzon.specs.Machine.{State, Move, go, bad, bad_deep, no_frames, before, move, meant}
 use Rattle.jzon.proofs.Texts.Cells.{chars_of, plain-append}
 use Rattle.jzon.proofs.Texts.Runs.{Meets, Follows, On, Goes}
 use Rattle.jzon.proofs.Texts.Closing.{closer, closes}
@@ -20,22 +20,22 @@ use Rattle.jzon.proofs.Containers.CompleteValues.{complete}
 use Rattle.jzon.proofs.Containers.SoundValues.{sound}
 
 -- the cells of the tree after the prefix, and the state from which the automaton follows them
-pub record Followed (r : Reading) (prefix rest : List ℕ) (left : ℕ) (p : Place) (d : Document) : Type 0 where
+pub record Followed (r : Reading) (prefix rest : List ℕ) (left : ℕ) (p : State) (d : Document) : Type 0 where
   pub cells_left : List Cell
-  pub place : Place
+  pub place : State
   pub split : cells r d ≡ plain prefix cells_left
   pub text : chars_of cells_left ≡ rest
   pub alike : Alike left (length cells_left) p place
   pub follows : Follows r (λ o. o ≡ meant (meaning d.node)) cells_left place
 
 -- the state after the prefix where `other` characters are left
-pub record Reached (r : Reading) (prefix : List ℕ) (left : ℕ) (p : Place) (other : ℕ) : Type 0 where
-  pub place : Place
+pub record Reached (r : Reading) (prefix : List ℕ) (left : ℕ) (p : State) (other : ℕ) : Type 0 where
+  pub place : State
   pub alike : Alike left other p place
   pub goes : (s : List ℕ) (v : Value) → length s ≡ other → Goes r v s place → Goes r v (prefix ++ s) (before no_frames)
 
 -- The automaton goes over the prefix, without a mark, to the state, with `left` characters left.
-pub record Reaches (r : Reading) (prefix : List ℕ) (left : ℕ) (p : Place) : Type 0 where
+pub record Reaches (r : Reading) (prefix : List ℕ) (left : ℕ) (p : State) : Type 0 where
   pub onward : (d : Document) (h : Completes r prefix d) → Followed r prefix h.1 left p d
   pub back : (other : ℕ) → Reached r prefix left p other
 
@@ -63,7 +63,7 @@ pub record Next (r : Reading) (prefix : List ℕ) (c : ℕ) (rest : List ℕ) (l
   pub alike : AlikeMove left (length cells_left) z other
   pub meets : Meets other mark (λ s. Follows r (λ o. o ≡ meant (meaning d.node)) cells_left s)
 
-next_of : (r : Reading) (prefix : List ℕ) (c : ℕ) (rest : List ℕ) (left : ℕ) (p place : Place) (d : Document)
+next_of : (r : Reading) (prefix : List ℕ) (c : ℕ) (rest : List ℕ) (left : ℕ) (p place : State) (d : Document)
     (q : List Cell)
     → cells r d ≡ plain prefix q → chars_of q ≡ c ∷ rest → Alike (suc left) (length q) p place
     → Follows r (λ o. o ≡ meant (meaning d.node)) q place → Next r prefix c rest left (move r p c (suc left)) d
@@ -81,23 +81,23 @@ next_of r prefix c rest left p place d (y ∷ q) e x alike h =
           (λ s. Follows r (λ o. o ≡ meant (meaning d.node)) q s)) ec h;
     }
 
-pub next : (r : Reading) (prefix : List ℕ) (c left : ℕ) (p : Place) (d : Document) → Reaches r prefix (suc left) p
+pub next : (r : Reading) (prefix : List ℕ) (c left : ℕ) (p : State) (d : Document) → Reaches r prefix (suc left) p
     → (h : Completes r (prefix ++ (c ∷ [])) d) → Next r prefix c h.1 left (move r p c (suc left)) d
 next r prefix c left p d reached h =
     let g = reached.onward d (h.0, c ∷ h.1, h.2 ∙ append_assoc prefix (c ∷ []) h.1) in
     next_of r prefix c h.1 left p g.place d g.cells_left g.split g.text g.alike g.follows
 
 -- if the text goes on, with a mark or none, the next cell has the same
-meets_go : (r : Reading) (m v : Option Breach) (i j : ℕ) (s : Place) (z w : Move) (F : Place → Type 0) → z ≡ go m s
-    → AlikeMove i j z w → Meets w v F → (q : Place) × (v ≡ m) × Alike i j s q × F q
+meets_go : (r : Reading) (m v : Option Breach) (i j : ℕ) (s : State) (z w : Move) (F : State → Type 0) → z ≡ go m s
+    → AlikeMove i j z w → Meets w v F → (q : State) × (v ≡ m) × Alike i j s q × F q
 meets_go r m v i j s z w F e alike h =
     let a : AlikeMove i j (go m s) w = subst (λ x. AlikeMove i j x w) e alike in
     let k : Meets (go m a.0) v F = subst (λ x. Meets x v F) a.1 h in
     (a.0, sym k.0, a.2, k.1)
 
-pub next_goes : (r : Reading) (prefix : List ℕ) (c : ℕ) (rest : List ℕ) (left : ℕ) (m : Option Breach) (s : Place)
+pub next_goes : (r : Reading) (prefix : List ℕ) (c : ℕ) (rest : List ℕ) (left : ℕ) (m : Option Breach) (s : State)
     (z : Move) (d : Document) (n : Next r prefix c rest left z d) → z ≡ go m s
-    → (q : Place) × (n.mark ≡ m) × Alike left (length n.cells_left) s q
+    → (q : State) × (n.mark ≡ m) × Alike left (length n.cells_left) s q
     × Follows r (λ o. o ≡ meant (meaning d.node)) n.cells_left q
 next_goes r prefix c rest left m s z d n e =
     meets_go r m n.mark left (length n.cells_left) s z n.other _ e n.alike n.meets
@@ -115,13 +115,13 @@ next_bad_deep r prefix c rest left z d n e =
     subst (λ x. Meets x n.mark (λ s. Follows r (λ o. o ≡ meant (meaning d.node)) n.cells_left s)) w n.meets
 
 -- after one more character, with any mark
-pub record Onto (r : Reading) (prefix : List ℕ) (c left : ℕ) (s : Place) (other : ℕ) : Type 0 where
-  pub place : Place
+pub record Onto (r : Reading) (prefix : List ℕ) (c left : ℕ) (s : State) (other : ℕ) : Type 0 where
+  pub place : State
   pub alike : Alike left other s place
   pub goes : (t : List ℕ) (v : Value) → length t ≡ other → Goes r v t place
       → Goes r v (prefix ++ (c ∷ t)) (before no_frames)
 
-pub onto_next : (r : Reading) (prefix : List ℕ) (c left : ℕ) (p s : Place) (m : Option Breach)
+pub onto_next : (r : Reading) (prefix : List ℕ) (c left : ℕ) (p s : State) (m : Option Breach)
     → Reaches r prefix (suc left) p → move r p c (suc left) ≡ go m s → (other : ℕ) → Onto r prefix c left s other
 onto_next r prefix c left p s m reached e other =
     let b = reached.back (suc other) in
@@ -137,7 +137,7 @@ onto_next r prefix c left p s m reached e other =
     }
 
 -- one more character, without a breach
-pub reaches_next : (r : Reading) (prefix : List ℕ) (c left : ℕ) (p s : Place) → Reaches r prefix (suc left) p
+pub reaches_next : (r : Reading) (prefix : List ℕ) (c left : ℕ) (p s : State) → Reaches r prefix (suc left) p
     → move r p c (suc left) ≡ go None s → Reaches r (prefix ++ (c ∷ [])) left s
 reaches_next r prefix c left p s reached e = record { onward = onward; back = back }
   where
@@ -166,7 +166,7 @@ reaches_next r prefix c left p s reached e = record { onward = onward; back = ba
         }
 
 -- the prefix, closed, is a text of the grammar
-pub closed : (r : Reading) (prefix : List ℕ) (left : ℕ) (p : Place) → Reaches r prefix left p
+pub closed : (r : Reading) (prefix : List ℕ) (left : ℕ) (p : State) → Reaches r prefix left p
     → (d : Document) × Spells r (prefix ++ closer p) d
 closed r prefix left p reached =
     let b = reached.back (length (closer p)) in
@@ -176,7 +176,7 @@ closed r prefix left p reached =
     (d.0, d.1)
 
 -- so is the prefix with the character, if the automaton goes on with it, with any mark
-pub closed_next : (r : Reading) (prefix : List ℕ) (c left : ℕ) (p s : Place) (m : Option Breach)
+pub closed_next : (r : Reading) (prefix : List ℕ) (c left : ℕ) (p s : State) (m : Option Breach)
     → Reaches r prefix (suc left) p → move r p c (suc left) ≡ go m s
     → (d : Document) × Spells r (prefix ++ (c ∷ closer s)) d
 closed_next r prefix c left p s m reached e =

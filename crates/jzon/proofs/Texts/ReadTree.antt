@@ -140,9 +140,9 @@ is_meant (refused f rest) = false
 -- a text whose outcome is a value, and a tree that spells it
 pub read_spelled : (r : Reading) (t : List ℕ) (d : Document) (o : Outcome) → Verdict r t o
     → IsTrue (is_meant o) → Spells r t d → Parses r t d
-read_spelled r t d (meant v) told m h =
-    subst (Parses r t) (same_tree r t told.0 d told.1.0 h) told.1
-read_spelled r t d (refused f rest) told m h = absurd (cc)
+read_spelled r t d (meant v) reported m h =
+    subst (Parses r t) (same_tree r t reported.0 d reported.1.0 h) reported.1
+read_spelled r t d (refused f rest) reported m h = absurd (cc)
 
 pub read_meant : (r : Reading) (t : List ℕ) (d : Document) (v : Value) → outcome r t (before no_frames) ≡ meant v
     → Spells r t d → Parses r t d

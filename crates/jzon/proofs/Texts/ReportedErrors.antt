@@ -12,53 +12,53 @@ use Rattle.jzon_base.specs.declared.error.Error.TheVariants.{OutOfMemory, Unexpe
 use Rattle.jzon.specs.Reading.{Reading}
 use Rattle.jzon.specs.Spelling.{deep, pair, digit, duplicate}
 use Rattle.jzon.specs.Fault.{Fault, limit, character, error_at}
-use Rattle.jzon.specs.Machine.{Place, Outcome, meant, refused, last, from, Tells, TellsUnlessMemory}
+use Rattle.jzon.specs.Machine.{State, Outcome, meant, refused, last, from, Reports, ReportsUnlessMemory}
 use Rattle.jzon.proofs.Texts.FaultOffsets.{chars_split}
 use Rattle.jzon.proofs.Texts.AsciiRuns.{chars-ascii}
 use Rattle.jzon.proofs.Texts.StepsByByte.{from_end}
 
 -- an error that reports an outcome reports an equal outcome
-pub told : (t : List ℕ) (e : Error) (o p : Outcome) → o ≡ p → Tells t e p → TellsUnlessMemory t e o
-told t e o p q h = inr (subst (Tells t e) (sym q) h)
+pub reported : (t : List ℕ) (e : Error) (o p : Outcome) → o ≡ p → Reports t e p → ReportsUnlessMemory t e o
+reported t e o p q h = inr (subst (Reports t e) (sym q) h)
 
-pub told_again : (t : List ℕ) (e : Error) (o p : Outcome) → o ≡ p → TellsUnlessMemory t e p → TellsUnlessMemory t e o
-told_again t e o p q h = subst (TellsUnlessMemory t e) (sym q) h
+pub reported_again : (t : List ℕ) (e : Error) (o p : Outcome) → o ≡ p → ReportsUnlessMemory t e p → ReportsUnlessMemory t e o
+reported_again t e o p q h = subst (ReportsUnlessMemory t e) (sym q) h
 
 -- the end of a text, where it may not end
-pub told_end : (r : Reading) (bs : List ℕ) (i : ℕ) (p : Place) (o : Outcome) → o ≡ from r bs p i → length bs ≤ i
-    → last p ≡ refused Fault.end [] → TellsUnlessMemory (chars bs) UnexpectedEndOfJson o
-told_end r bs i p o q le h = told (chars bs) UnexpectedEndOfJson o (refused Fault.end []) (q ∙ from_end r bs i p le ∙ h)
+pub reported_end : (r : Reading) (bs : List ℕ) (i : ℕ) (p : State) (o : Outcome) → o ≡ from r bs p i → length bs ≤ i
+    → last p ≡ refused Fault.end [] → ReportsUnlessMemory (chars bs) UnexpectedEndOfJson o
+reported_end r bs i p o q le h = reported (chars bs) UnexpectedEndOfJson o (refused Fault.end []) (q ∙ from_end r bs i p le ∙ h)
     refl
 
-pub told_deep : (t rest : List ℕ) (o : Outcome) → o ≡ refused (limit deep) rest
-    → TellsUnlessMemory t ExceededDepthLimit o
-told_deep t rest o q = told t ExceededDepthLimit o (refused (limit deep) rest) q refl
+pub reported_deep : (t rest : List ℕ) (o : Outcome) → o ≡ refused (limit deep) rest
+    → ReportsUnlessMemory t ExceededDepthLimit o
+reported_deep t rest o q = reported t ExceededDepthLimit o (refused (limit deep) rest) q refl
 
 -- ---- whole results
 
 -- a text that can't go on is rejected
-pub stopped_leads : {T : Type 0} (t : List ℕ) (o p : Outcome) (f : T → Outcome) (result : Result T Error) → o ≡ p
-    → MatchResult result (λ v. ⊥) (λ e. Tells t e p) → MatchResult result (λ v. o ≡ f v) (λ e. Tells t e o)
-stopped_leads t o p f (Ok v) q h = absurd h
-stopped_leads t o p f (Err e) q h = subst (Tells t e) (sym q) h
+pub fault_here_leads : {T : Type 0} (t : List ℕ) (o p : Outcome) (f : T → Outcome) (result : Result T Error) → o ≡ p
+    → MatchResult result (λ v. ⊥) (λ e. Reports t e p) → MatchResult result (λ v. o ≡ f v) (λ e. Reports t e o)
+fault_here_leads t o p f (Ok v) q h = absurd h
+fault_here_leads t o p f (Err e) q h = subst (Reports t e) (sym q) h
 
-pub stopped_told : {T : Type 0} (t : List ℕ) (o p : Outcome) (f : T → Outcome) (result : Result T Error) → o ≡ p
-    → MatchResult result (λ v. ⊥) (λ e. Tells t e p) → MatchResult result (λ v. o ≡ f v) (λ e. TellsUnlessMemory t e o)
-stopped_told t o p f (Ok v) q h = absurd h
-stopped_told t o p f (Err e) q h = told t e o p q h
+pub fault_here_reported : {T : Type 0} (t : List ℕ) (o p : Outcome) (f : T → Outcome) (result : Result T Error) → o ≡ p
+    → MatchResult result (λ v. ⊥) (λ e. Reports t e p) → MatchResult result (λ v. o ≡ f v) (λ e. ReportsUnlessMemory t e o)
+fault_here_reported t o p f (Ok v) q h = absurd h
+fault_here_reported t o p f (Err e) q h = reported t e o p q h
 
 -- a result that agrees with an outcome agrees with an equal outcome
 pub same_unless_memory : {T : Type 0} (o p : Outcome) (f : T → Outcome) (t : List ℕ) (result : Result T Error) → o ≡ p
-    → MatchResult result (λ v. p ≡ f v) (λ e. TellsUnlessMemory t e p)
-    → MatchResult result (λ v. o ≡ f v) (λ e. TellsUnlessMemory t e o)
-same_unless_memory o p f t result e h = subst (λ q. MatchResult result (λ v. q ≡ f v) (λ x. TellsUnlessMemory t x q))
+    → MatchResult result (λ v. p ≡ f v) (λ e. ReportsUnlessMemory t e p)
+    → MatchResult result (λ v. o ≡ f v) (λ e. ReportsUnlessMemory t e o)
+same_unless_memory o p f t result e h = subst (λ q. MatchResult result (λ v. q ≡ f v) (λ x. ReportsUnlessMemory t x q))
     (sym e) h
 
 pub same_or_memory : {T : Type 0} (o p : Outcome) (f : T → Outcome) (t : List ℕ) (result : Result T Error) → o ≡ p
-    → MatchResult result (λ v. p ≡ f v) (λ e. Tells t e p) → MatchResult result (λ v. o ≡ f v)
-    (λ e. TellsUnlessMemory t e o)
+    → MatchResult result (λ v. p ≡ f v) (λ e. Reports t e p) → MatchResult result (λ v. o ≡ f v)
+    (λ e. ReportsUnlessMemory t e o)
 same_or_memory o p f t (Ok v) q h = q ∙ h
-same_or_memory o p f t (Err e) q h = told t e o p q h
+same_or_memory o p f t (Err e) q h = reported t e o p q h
 
 -- ---- memory
 
@@ -71,15 +71,15 @@ error_at_memory t i (limit (duplicate back)) e = cc
 error_at_memory t i character e = cc
 error_at_memory t i Fault.end e = cc
 
-tells_no_memory : (t : List ℕ) (o : Outcome) → Tells t OutOfMemory o → ⊥
-tells_no_memory t (meant v) h = h
-tells_no_memory t (refused f rest) h = error_at_memory t (length t - length rest) f h
+reports_no_memory : (t : List ℕ) (o : Outcome) → Reports t OutOfMemory o → ⊥
+reports_no_memory t (meant v) h = h
+reports_no_memory t (refused f rest) h = error_at_memory t (length t - length rest) f h
 
 pub never_memory : {T : Type 0} (P : T → Type 0) (t : List ℕ) (o : Outcome) (result : Result T Error)
-    → MatchResult result P (λ e. Tells t e o) → result ≢ Err OutOfMemory
+    → MatchResult result P (λ e. Reports t e o) → result ≢ Err OutOfMemory
 never_memory P t o (Ok v) h e = cc
-never_memory P t o (Err x) h e = let same : x ≡ OutOfMemory = cc in tells_no_memory t o
-    (subst (λ z. Tells t z o) same h)
+never_memory P t o (Err x) h e = let same : x ≡ OutOfMemory = cc in reports_no_memory t o
+    (subst (λ z. Reports t z o) same h)
 
 -- an ASCII byte of a text is one of its characters
 pub has_character : (bs : List ℕ) (i b : ℕ) → IsUtf8 bs → i < length bs → get_or bs i 0 ≡ b → b < 128

@@ -13,21 +13,21 @@ use Rattle.jzon_base.specs.declared.error.Error.{Error}
 use Rattle.jzon.specs.Reading.{Reading}
 use Rattle.jzon.specs.Spelling.{deep}
 use Rattle.jzon.specs.Fault.{Fault, limit}
-use Rattle.jzon.specs.Machine.{Place, Move, go, bad, move, last, outcome, outcome_on, from, left_at, stopped, Outcome}
-use Rattle.jzon.specs.Machine.{refused, Tells}
+use Rattle.jzon.specs.Machine.{State, Move, go, bad, move, last, outcome, outcome_on, from, left_at, fault_here, Outcome}
+use Rattle.jzon.specs.Machine.{refused, Reports}
 use Rattle.jzon.proofs.Texts.AsciiRuns.{chars-ascii}
 use Rattle.jzon.proofs.Containers.LiteralLetters.{first_byte, some_byte}
 
 pub digit_is_ascii : (c : ℕ) → IsTrue (is_ascii_digit c) → c < 128
 digit_is_ascii c h = grind (arith, nat_tests)
 
-step_on : (r : Reading) (bs : List ℕ) (p q : Place) (c : ℕ) → IsUtf8 (c ∷ bs) → c < 128
+step_on : (r : Reading) (bs : List ℕ) (p q : State) (c : ℕ) → IsUtf8 (c ∷ bs) → c < 128
     → move r p c (length (c ∷ chars bs)) ≡ go None q → outcome r (chars (c ∷ bs)) p ≡ outcome r (chars bs) q
 step_on r bs p q c u lt e = ap (λ cs. outcome r cs p) (chars-ascii c bs u lt)
     ∙ ap (λ m. outcome_on m (λ x. outcome r (chars bs) x) (c ∷ chars bs)) e
 
 -- an ASCII byte with which the automaton goes on
-pub from_step : (r : Reading) (bs : List ℕ) (i : ℕ) (p q : Place) (c : ℕ) → IsUtf8 bs → IsCharBoundary bs i
+pub from_step : (r : Reading) (bs : List ℕ) (i : ℕ) (p q : State) (c : ℕ) → IsUtf8 bs → IsCharBoundary bs i
     → i < length bs → get_or bs i 0 ≡ c → c < 128
     → move r p c (left_at bs i) ≡ go None q → from r bs p i ≡ from r bs q (i + 1)
 unfolding from
@@ -41,12 +41,12 @@ from_step r bs i p q c u at lt e ascii m =
     (ap (move r p c) (sym left) ∙ m)
 
 -- A state in which no text goes on with the character c or ends.
-pub record StopsAt (r : Reading) (p : Place) (bs : List ℕ) (i : ℕ) : Type 0 where
+pub record StopsAt (r : Reading) (p : State) (bs : List ℕ) (i : ℕ) : Type 0 where
   pub ends : last p ≡ refused Fault.end []
   pub bad : (c : ℕ) → (c < 128 → (i < length bs) × (get_or bs i 0 ≡ c)) → move r p c (left_at bs i) ≡ bad
 
-pub stop_on : (r : Reading) (cs : List ℕ) (p : Place) → last p ≡ refused Fault.end []
-    → ((c : ℕ) (ds : List ℕ) → cs ≡ c ∷ ds → move r p c (length cs) ≡ bad) → outcome r cs p ≡ stopped cs
+pub stop_on : (r : Reading) (cs : List ℕ) (p : State) → last p ≡ refused Fault.end []
+    → ((c : ℕ) (ds : List ℕ) → cs ≡ c ∷ ds → move r p c (length cs) ≡ bad) → outcome r cs p ≡ fault_here cs
 stop_on r [] p e h = e
 stop_on r (c ∷ cs) p e h = ap (λ m. outcome_on m (λ q. outcome r cs q) (c ∷ cs)) (h c cs refl)
 
@@ -70,7 +70,7 @@ by_character P bs i c here wide there = either (cases_lt c 128)
     either (inl lt) = let k = there lt in subst P k.1 (here k.0)
     either (inr le) = wide c le
 
-pub stops_by : (r : Reading) (p : Place) (bs : List ℕ) (i : ℕ) → last p ≡ refused Fault.end []
+pub stops_by : (r : Reading) (p : State) (bs : List ℕ) (i : ℕ) → last p ≡ refused Fault.end []
     → (i < length bs → move r p (get_or bs i 0) (left_at bs i) ≡ bad)
     → ((c : ℕ) → 128 ≤ c → move r p c (left_at bs i) ≡ bad) → StopsAt r p bs i
 stops_by r p bs i e here wide = record {
@@ -79,16 +79,16 @@ stops_by r p bs i e here wide = record {
       bs i c here wide there;
 }
 
-pub from_stop : (r : Reading) (bs : List ℕ) (i : ℕ) (p : Place) → IsUtf8 bs → IsCharBoundary bs i → StopsAt r p bs i
-    → from r bs p i ≡ stopped (chars (drop i bs))
+pub from_stop : (r : Reading) (bs : List ℕ) (i : ℕ) (p : State) → IsUtf8 bs → IsCharBoundary bs i → StopsAt r p bs i
+    → from r bs p i ≡ fault_here (chars (drop i bs))
 unfolding from
 from_stop r bs i p u at h = stop_on r (chars (drop i bs)) p h.ends (λ c cs e. h.bad c (byte_there bs i c cs u at e))
 
 -- the result of reading a character that opens one container too many
 abbrev pub IsDeep : Move → Type 0
-IsDeep m = (f : Place → Outcome) (rest : List ℕ) → outcome_on m f rest ≡ refused (limit deep) rest
+IsDeep m = (f : State → Outcome) (rest : List ℕ) → outcome_on m f rest ≡ refused (limit deep) rest
 
-deep_on : (r : Reading) (cs : List ℕ) (p : Place) → (cs ≡ [] → ⊥)
+deep_on : (r : Reading) (cs : List ℕ) (p : State) → (cs ≡ [] → ⊥)
     → ((c : ℕ) (ds : List ℕ) → cs ≡ c ∷ ds → IsDeep (move r p c (length cs))) → outcome r cs p ≡ refused (limit deep) cs
 deep_on r [] p some h = absurd (some refl)
 deep_on r (c ∷ cs) p some h = h c cs refl (λ q. outcome r cs q) (c ∷ cs)
@@ -100,7 +100,7 @@ some_character bs i u at lt e =
     let none : drop i bs ≡ [] = sym (encodes-chars (drop i bs) (IsUtf8-drop bs i u at)) ∙ ap encode_utf8_all e in
     absurd (omega (arith, lt, length-drop i bs, ap length none))
 
-pub from_deep : (r : Reading) (bs : List ℕ) (i : ℕ) (p : Place) → IsUtf8 bs → IsCharBoundary bs i → i < length bs
+pub from_deep : (r : Reading) (bs : List ℕ) (i : ℕ) (p : State) → IsUtf8 bs → IsCharBoundary bs i → i < length bs
     → IsDeep (move r p (get_or bs i 0) (left_at bs i)) → ((c : ℕ) → 128 ≤ c → IsDeep (move r p c (left_at bs i)))
     → from r bs p i ≡ refused (limit deep) (chars (drop i bs))
 unfolding from
@@ -110,12 +110,12 @@ from_deep r bs i p u at lt here wide =
     (byte_there bs i c cs u at e))
 
 -- the end of the text
-pub from_end : (r : Reading) (bs : List ℕ) (i : ℕ) (p : Place) → length bs ≤ i → from r bs p i ≡ last p
+pub from_end : (r : Reading) (bs : List ℕ) (i : ℕ) (p : State) → length bs ≤ i → from r bs p i ≡ last p
 unfolding from
 from_end r bs i p le = ap (λ cs. outcome r cs p)
     (ap chars (nil_from_length (drop i bs) (omega (arith, length-drop i bs))) ∙ chars-nil)
 
 -- a result that agrees with an outcome agrees with an equal outcome
 pub same_outcome : {T : Type 0} (o p : Outcome) (f : T → Outcome) (t : List ℕ) (result : Result T Error) → o ≡ p
-    → MatchResult result (λ v. p ≡ f v) (λ e. Tells t e p) → MatchResult result (λ v. o ≡ f v) (λ e. Tells t e o)
-same_outcome o p f t result e h = subst (λ q. MatchResult result (λ v. q ≡ f v) (λ x. Tells t x q)) (sym e) h
+    → MatchResult result (λ v. p ≡ f v) (λ e. Reports t e p) → MatchResult result (λ v. o ≡ f v) (λ e. Reports t e o)
+same_outcome o p f t result e h = subst (λ q. MatchResult result (λ v. q ≡ f v) (λ x. Reports t x q)) (sym e) h

@@ -12,14 +12,14 @@ use Rattle.jzon.specs.Reading.{Reading}
 use Rattle.jzon.specs.Grammar.{Document}
 use Rattle.jzon.specs.Meaning.{meaning}
 use Rattle.jzon.specs.Spelling.{Breach, deep, Cell, cell, plain, cells}
-use Rattle.jzon.specs.Classes.{NumberPlace, zero_read, whole, fraction, exponent}
-use Rattle.jzon.specs.Machine.{Frames, no_frames, Place, before, numeral, behind, Move, go, bad, bad_deep, move}
+use Rattle.jzon.specs.Classes.{NumberState, zero_read, whole, fraction, exponent}
+use Rattle.jzon.specs.Machine.{Frames, no_frames, State, before, numeral, after_value, Move, go, bad, bad_deep, move}
 use Rattle.jzon.specs.Machine.{Outcome, meant, refused, meant_at, last_numeral, last, outcome_on, outcome}
 use Rattle.jzon.specs.Fault.{Spells, Completes, HasCompletion, AllBreakAt, Parses, Fault, limit, character}
 use Rattle.jzon.specs.Fault.{IsDepthFault, IsFault, IsFirstFault}
 use Rattle.jzon.specs.Laws.{HasOneTree, HasOneFault}
 use Rattle.jzon.proofs.Texts.Faults.{completes_take, no_fault_at, no_fault, has_one_fault}
-use Rattle.jzon.proofs.Texts.Cells.{chars_of, marks_of, plain_unmarked, all_unmarked, mark_behind}
+use Rattle.jzon.proofs.Texts.Cells.{chars_of, marks_of, plain_unmarked, all_unmarked, mark_after}
 use Rattle.jzon.proofs.Texts.Runs.{Meets, Follows}
 use Rattle.jzon.proofs.Texts.Closing.{closer}
 use Rattle.jzon.proofs.Texts.AlikeStates.{last-alike, mark-alike, IsDeep, deep_of_go, deep_of_bad_deep, deep_not_bad}
@@ -40,11 +40,11 @@ within f u c = omega (arith, length-append f (c ∷ u))
 
 mark_at : (r : Reading) (f : List ℕ) (y : Cell) (q : List Cell) (d : Document)
     → cells r d ≡ plain f (y ∷ q) → slice_get (marks_of (cells r d)) (length f) ≡ Some y.mark
-mark_at r f y q d e = ap (λ z. slice_get (marks_of z) (length f)) e ∙ mark_behind f (y ∷ q)
+mark_at r f y q d e = ap (λ z. slice_get (marks_of z) (length f)) e ∙ mark_after f (y ∷ q)
 
 -- no fault is in a prefix over which the automaton has gone: its closing text completes it, and no tree has a mark
 -- there
-no_fault_before : (r : Reading) (f u : List ℕ) (left : ℕ) (p : Place) (j : ℕ) (g : Fault) → Reaches r f left p
+no_fault_before : (r : Reading) (f u : List ℕ) (left : ℕ) (p : State) (j : ℕ) (g : Fault) → Reaches r f left p
     → j < length f → IsFault r (f ++ u) j g → ⊥
 no_fault_before r f u left p j g reached lt h =
     let x = closed r f left p reached in
@@ -57,7 +57,7 @@ no_fault_before r f u left p j g reached lt h =
     (λ b e. plain_unmarked f rest j b lt (subst (λ z. slice_get (marks_of z) j ≡ Some (Some b)) split e)) h
 
 -- so a fault after such a prefix is the first
-first : (r : Reading) (f u : List ℕ) (left : ℕ) (p : Place) (g : Fault) → Reaches r f left p
+first : (r : Reading) (f u : List ℕ) (left : ℕ) (p : State) (g : Fault) → Reaches r f left p
     → IsFault r (f ++ u) (length f) g → IsFirstFault r (f ++ u) (length f) g
 first r f u left p g reached h = (h, λ j k e. not_before j k e)
   where
@@ -67,7 +67,7 @@ first r f u left p g reached h = (h, λ j k e. not_before j k e)
 -- ---- a limit is broken
 
 -- each tree that goes on with the character has the mark there
-breaks : (r : Reading) (f : List ℕ) (c left : ℕ) (p s : Place) (b : Breach) (d : Document) → Reaches r f (suc left) p
+breaks : (r : Reading) (f : List ℕ) (c left : ℕ) (p s : State) (b : Breach) (d : Document) → Reaches r f (suc left) p
     → move r p c (suc left) ≡ go (Some b) s → Completes r (f ++ (c ∷ [])) d
     → slice_get (marks_of (cells r d)) (length f) ≡ Some (Some b)
 breaks r f c left p s b d reached e h =
@@ -75,12 +75,12 @@ breaks r f c left p s b d reached e h =
     let g = next_goes r f c h.1 left (Some b) s (move r p c (suc left)) d n e in
     mark_at r f (cell c n.mark) n.cells_left d n.split ∙ ap Some g.1
 
-all_break : (r : Reading) (f u : List ℕ) (c left : ℕ) (p s : Place) (b : Breach) → Reaches r f (suc left) p
+all_break : (r : Reading) (f u : List ℕ) (c left : ℕ) (p s : State) (b : Breach) → Reaches r f (suc left) p
     → move r p c (suc left) ≡ go (Some b) s → AllBreakAt r (take (suc (length f)) (f ++ (c ∷ u))) b (length f)
 all_break r f u c left p s b reached e d h =
     breaks r f c left p s b d reached e (subst (λ z. Completes r z d) (take_next f u c) h)
 
-goes_on : (r : Reading) (f u : List ℕ) (c left : ℕ) (p s : Place) (m : Option Breach) → Reaches r f (suc left) p
+goes_on : (r : Reading) (f u : List ℕ) (c left : ℕ) (p s : State) (m : Option Breach) → Reaches r f (suc left) p
     → move r p c (suc left) ≡ go m s → HasCompletion r (take (suc (length f)) (f ++ (c ∷ u)))
 goes_on r f u c left p s m reached e =
     let x = closed_next r f c left p s m reached e in (
@@ -90,7 +90,7 @@ goes_on r f u c left p s m reached e =
     )
 
 -- some tree goes on with one container too many
-depth_fault : (r : Reading) (f u : List ℕ) (c x left : ℕ) (p s : Place) → Reaches r f (suc left) p
+depth_fault : (r : Reading) (f u : List ℕ) (c x left : ℕ) (p s : State) → Reaches r f (suc left) p
     → move r p x (suc left) ≡ go (Some deep) s
     → AllBreakAt r (take (suc (length f)) (f ++ (c ∷ u))) deep (length f) → IsDepthFault r (f ++ (c ∷ u)) (length f)
 depth_fault r f u c x left p s reached e all =
@@ -106,7 +106,7 @@ depth_fault r f u c x left p s reached e all =
     )
 
 -- the move has a mark
-limit_fault : (r : Reading) (f u : List ℕ) (c left : ℕ) (p s : Place) (b : Breach) → Reaches r f (suc left) p
+limit_fault : (r : Reading) (f u : List ℕ) (c left : ℕ) (p s : State) (b : Breach) → Reaches r f (suc left) p
     → move r p c (suc left) ≡ go (Some b) s → IsFault r (f ++ (c ∷ u)) (length f) (limit b)
 limit_fault r f u c left p s deep reached e = depth_fault r f u c c left p s reached e
     (all_break r f u c left p s deep reached e)
@@ -116,7 +116,7 @@ limit_fault r f u c left p s b reached e =
 -- ---- no text goes on with the character
 
 -- no text goes on with c, but some text goes on with one container too many
-bad_deep_fault : (r : Reading) (f u : List ℕ) (c left : ℕ) (p : Place) → Reaches r f (suc left) p
+bad_deep_fault : (r : Reading) (f u : List ℕ) (c left : ℕ) (p : State) → Reaches r f (suc left) p
     → move r p c (suc left) ≡ bad_deep → IsFault r (f ++ (c ∷ u)) (length f) (limit deep)
 bad_deep_fault r f u c left p reached e =
     let h = deep_some r p (suc left) (deep_of_bad_deep r p c (suc left) e) in
@@ -125,27 +125,27 @@ bad_deep_fault r f u c left p reached e =
     absurd (next_bad_deep r f c k.1 left (move r p c (suc left)) d (next r f c left p d reached k) e))
 
 -- if a move is `bad`, no tree has one container too many: the state would be deep, and no move from there is `bad`
-no_depth_fault : (r : Reading) (f u : List ℕ) (c left : ℕ) (p : Place) → Reaches r f (suc left) p
+no_depth_fault : (r : Reading) (f u : List ℕ) (c left : ℕ) (p : State) → Reaches r f (suc left) p
     → move r p c (suc left) ≡ bad → IsDepthFault r (f ++ (c ∷ u)) (length f) → ⊥
 no_depth_fault r f u c left p reached e (lt, (d, g, b), all) =
     let h = reached.onward d (subst (λ z. Completes r z d) (take-append_seam f (c ∷ u)) g) in
     let deep_there = on (λ o. o ≡ meant (meaning d.node)) h.cells_left h.place h.follows
-    (sym (mark_behind f h.cells_left) ∙ ap (λ z. slice_get (marks_of z) (length f)) (sym h.split) ∙ b) in
+    (sym (mark_after f h.cells_left) ∙ ap (λ z. slice_get (marks_of z) (length f)) (sym h.split) ∙ b) in
     deep_not_bad r p c (suc left) (mark-alike r (suc left) (length h.cells_left) p h.place h.alike ∙ deep_there) e
   where
-    meets_deep : (s : Place) (x left : ℕ) (v : Option Breach) (F : Place → Type 0) (z : Move) → move r s x left ≡ z
+    meets_deep : (s : State) (x left : ℕ) (v : Option Breach) (F : State → Type 0) (z : Move) → move r s x left ≡ z
         → Meets z v F → v ≡ Some deep → IsDeep r s
     meets_deep s x left v F (go m q) e h k = deep_of_go r s q x left (e ∙ ap (λ y. go y q) (h.0 ∙ k))
     meets_deep s x left v F bad e h k = absurd h
     meets_deep s x left v F bad_deep e h k = absurd h
 
-    on : (G : Outcome → Type 0) (q : List Cell) (s : Place) → Follows r G q s
+    on : (G : Outcome → Type 0) (q : List Cell) (s : State) → Follows r G q s
         → slice_get (marks_of q) 0 ≡ Some (Some deep) → IsDeep r s
     on G [] s h m = absurd (cc)
     on G (y ∷ q) s h m = meets_deep s y.char (suc (length q)) y.mark _ (move r s y.char (suc (length q))) refl h (cc)
 
 -- an unexpected character: f has a completion, f with c has none, and no depth limit is broken
-character_fault : (r : Reading) (f u : List ℕ) (c left : ℕ) (p : Place) → Reaches r f (suc left) p
+character_fault : (r : Reading) (f u : List ℕ) (c left : ℕ) (p : State) → Reaches r f (suc left) p
     → move r p c (suc left) ≡ bad → IsFault r (f ++ (c ∷ u)) (length f) character
 character_fault r f u c left p reached e =
     let x = closed r f (suc left) p reached in (
@@ -164,7 +164,7 @@ no_cells_left [] e = refl
 no_cells_left (y ∷ q) e = absurd (cc)
 
 -- a tree that spells f leads to its meaning, and has no mark
-spelled : (r : Reading) (f : List ℕ) (p : Place) (d : Document) → Reaches r f 0 p → Spells r f d
+spelled : (r : Reading) (f : List ℕ) (p : State) (d : Document) → Reaches r f 0 p → Spells r f d
     → (last p ≡ meant (meaning d.node)) × (cells r d ≡ plain f [])
 spelled r f p d reached h =
     let g = reached.onward d (h.0, [], h.1 ∙ sym (append-nil f)) in
@@ -175,7 +175,7 @@ spelled r f p d reached h =
     )
 
 -- the text ends too early: f has a completion, and no tree spells it
-end_fault : (r : Reading) (f : List ℕ) (p : Place) → Reaches r f 0 p → last p ≡ refused Fault.end []
+end_fault : (r : Reading) (f : List ℕ) (p : State) → Reaches r f 0 p → last p ≡ refused Fault.end []
     → IsFault r f (length f) Fault.end
 end_fault r f p reached e =
     let x = closed r f 0 p reached in
@@ -195,7 +195,7 @@ refused_at r f rest g h =
     subst (λ z. IsFirstFault r (f ++ rest) z g) e h
 
 -- the text is read to a value: a tree spells it, means the value and has no mark
-accepted : (r : Reading) (f : List ℕ) (p : Place) (v : Value) → Reaches r f 0 p → last p ≡ meant v
+accepted : (r : Reading) (f : List ℕ) (p : State) (v : Value) → Reaches r f 0 p → last p ≡ meant v
     → Verdict r f (meant v)
 accepted r f p v reached e =
     let b = reached.back 0 in
@@ -210,7 +210,7 @@ meant_or_end : (fs : Frames) (v : Value)
 meant_or_end no_frames v = inl (v, refl)
 meant_or_end _ v = inr refl
 
-numeral_or_end : (x : NumberPlace) (fs : Frames) (negative : Bool)
+numeral_or_end : (x : NumberState) (fs : Frames) (negative : Bool)
     → ((w : Value) × (last_numeral x fs negative ≡ meant w)) ⊎ (last_numeral x fs negative ≡ refused Fault.end [])
 numeral_or_end zero_read fs negative = meant_or_end fs _
 numeral_or_end (whole ds) fs negative = meant_or_end fs _
@@ -218,12 +218,12 @@ numeral_or_end (fraction ws ds) fs negative = meant_or_end fs _
 numeral_or_end (exponent ws ds l s xs) fs negative = meant_or_end fs _
 numeral_or_end _ fs negative = inr refl
 
-value_or_end : (p : Place) → ((w : Value) × (last p ≡ meant w)) ⊎ (last p ≡ refused Fault.end [])
+value_or_end : (p : State) → ((w : Value) × (last p ≡ meant w)) ⊎ (last p ≡ refused Fault.end [])
 value_or_end (numeral fs negative x) = numeral_or_end x fs negative
-value_or_end (behind fs v) = meant_or_end fs v
+value_or_end (after_value fs v) = meant_or_end fs v
 value_or_end _ = inr refl
 
-last_verdict : (r : Reading) (f : List ℕ) (p : Place) → Reaches r f 0 p
+last_verdict : (r : Reading) (f : List ℕ) (p : State) → Reaches r f 0 p
     → ((w : Value) × (last p ≡ meant w)) ⊎ (last p ≡ refused Fault.end []) → Verdict r (f ++ []) (last p)
 last_verdict r f p reached (inl (w, e)) =
     subst (λ z. Verdict r z (last p)) (sym (append-nil f)) (subst (Verdict r f) (sym e) (accepted r f p w reached e))
@@ -231,9 +231,9 @@ last_verdict r f p reached (inr e) =
     subst (Verdict r (f ++ [])) (sym e) (refused_at r f [] Fault.end (first r f [] 0 p Fault.end reached
     (subst (λ z. IsFault r z (length f) Fault.end) (sym (append-nil f)) (end_fault r f p reached e))))
 
-verdict_on : (r : Reading) (f u : List ℕ) (c : ℕ) (p : Place) (z : Move) (g : Place → Outcome)
+verdict_on : (r : Reading) (f u : List ℕ) (c : ℕ) (p : State) (z : Move) (g : State → Outcome)
     → Reaches r f (suc (length u)) p → move r p c (suc (length u)) ≡ z
-    → ((s : Place) → Reaches r (f ++ (c ∷ [])) (length u) s → Verdict r (f ++ (c ∷ u)) (g s))
+    → ((s : State) → Reaches r (f ++ (c ∷ [])) (length u) s → Verdict r (f ++ (c ∷ u)) (g s))
     → Verdict r (f ++ (c ∷ u)) (outcome_on z g (c ∷ u))
 verdict_on r f u c p (go None s) g reached e ih = ih s (reaches_next r f c (length u) p s reached e)
 verdict_on r f u c p (go (Some b) s) g reached e ih = refused_at r f (c ∷ u) (limit b)
@@ -243,7 +243,7 @@ verdict_on r f u c p bad g reached e ih = refused_at r f (c ∷ u) character
 verdict_on r f u c p bad_deep g reached e ih = refused_at r f (c ∷ u) (limit deep)
     (first r f (c ∷ u) (suc (length u)) p (limit deep) reached (bad_deep_fault r f u c (length u) p reached e))
 
-verdict : (r : Reading) (u f : List ℕ) (p : Place) → Reaches r f (length u) p → Verdict r (f ++ u) (outcome r u p)
+verdict : (r : Reading) (u f : List ℕ) (p : State) → Reaches r f (length u) p → Verdict r (f ++ u) (outcome r u p)
 verdict r [] f p reached = last_verdict r f p reached (value_or_end p)
 verdict r (c ∷ u) f p reached =
     verdict_on r f u c p (move r p c (suc (length u))) (λ s. outcome r u s) reached refl

@@ -7,8 +7,8 @@ use Rattle.jzon_tree.specs.View.{view}
 use Rattle.jzon_tree.specs.declared.value.JsonValue.{JsonValue}
 use Rattle.jzon.specs.Answer.{TakesMemory}
 use Rattle.jzon.specs.Cursor.{left}
-use Rattle.jzon.specs.Frames.{place_of}
-use Rattle.jzon.specs.Machine.{no_frames, before, behind, from, Reads}
+use Rattle.jzon.specs.Frames.{state_of}
+use Rattle.jzon.specs.Machine.{no_frames, before, after_value, from, Reads}
 use Rattle.jzon.specs.Reading.{Reading}
 use Rattle.jzon.proofs.Containers.FrameViews.{open_unless_value}
 use Rattle.jzon.proofs.Texts.Answers.{Answers, answers_of, value_of, readable_of, error_of}
@@ -30,13 +30,13 @@ returns-in_err-value_start-clause-error c =
     let r = c.args.reading.now in
     let bytes = c.args.source.now in
     let failed = err_from_is_err_and c.from_residual.result c.from_residual.ensures.1 in
-    let told : Reads (chars bytes) (Err failed.0) (from r bytes (before no_frames) 0) =
+    let reported : Reads (chars bytes) (Err failed.0) (from r bytes (before no_frames) 0) =
     reads_from bytes (from r bytes (before no_frames) 0) t (before no_frames) (Err failed.0)
     c.new-parser.ensures.cursor.text (c.new-parser.ensures.cursor.same (before no_frames) refl)
     (rw failed.2 (c.in_err-value_start.ensures.outcome no_frames refl (λ f. absurd (true≢false (sym f))))) in
     error_of r (chars bytes) c.from_residual.result
     (answer r bytes c.from_residual.result
-    (subst (λ z. Reads (chars bytes) z (from r bytes (before no_frames) 0)) (sym failed.1) told))
+    (subst (λ z. Reads (chars bytes) z (from r bytes (before no_frames) 0)) (sym failed.1) reported))
 
 -- ---- the whole value is read
 
@@ -45,10 +45,10 @@ whole c =
     let u = c.read_start.new.self.cursor in
     let read = c.in_ok-value_start.ensures.outcome no_frames refl (λ f. absurd (true≢false (sym f))) in
     answer c.args.reading.now c.args.source.now c.expect_end.result
-    (reads_from _ _ u (behind no_frames (view c.in-Value.value)) c.expect_end.result
+    (reads_from _ _ u (after_value no_frames (view c.in-Value.value)) c.expect_end.result
     (read.0.text ∙ c.new-parser.ensures.cursor.text)
     (c.new-parser.ensures.cursor.same (before no_frames) refl ∙ read.1
-    ∙ ap (λ b. left u (place_of b no_frames)) c.in-Value.is)
+    ∙ ap (λ b. left u (state_of b no_frames)) c.in-Value.is)
     c.expect_end.ensures.outcome)
 
 pub returns-in-Value-clause-value : goal.returns-in-Value-clause-value
@@ -68,7 +68,7 @@ opened c =
     let u = c.read_start.new.self.cursor in
     let read = c.in_ok-value_start.ensures.outcome no_frames refl (λ f. absurd (true≢false (sym f))) in
     answer c.args.reading.now c.args.source.now c.read_to_end.result
-    (reads_from _ _ u (place_of c.in_ok-value_start.value_start no_frames) c.read_to_end.result
+    (reads_from _ _ u (state_of c.in_ok-value_start.value_start no_frames) c.read_to_end.result
     (read.0.text ∙ c.new-parser.ensures.cursor.text)
     (c.new-parser.ensures.cursor.same (before no_frames) refl ∙ read.1) c.read_to_end.ensures)
 

@@ -36,5 +36,5 @@ pub returns-else-meant-eq0 : goal.returns-else-meant-eq0
 returns-else-meant-eq0 c =
     let b = c.args.letter in
     let e = table_at mark MEANT table_is b (omega arith) in
-    let told = unmarked (is_simple b) (unescaped b) 0 (λ same. c.if-meant-eq0.false (e ∙ same)) in
-    (told.0, c.from.ensures ∙ e ∙ told.1)
+    let reported = unmarked (is_simple b) (unescaped b) 0 (λ same. c.if-meant-eq0.false (e ∙ same)) in
+    (reported.0, c.from.ensures ∙ e ∙ reported.1)

@@ -1,7 +1,7 @@
 use Rattle.std.proofs.Common.{refl, sym, subst}
 use Rattle.std.specs.Prelude.{chars}
 use Rattle.std.proofs.lemmas.Bool.{iff_false}
-use Rattle.jzon.specs.Machine.{Tells}
+use Rattle.jzon.specs.Machine.{Reports}
 use Rattle.jzon.proofs.Strings.Quotes.{quote_closes, quote_ends, string_stops}
 use Rattle.jzon.proofs.string.past_quote.Goals as goal
 
@@ -17,7 +17,7 @@ returns-then-has_byte-clause-outcome c r role bs =
 
 pub returns-else-has_byte-clause-outcome : goal.returns-else-has_byte-clause-outcome
 returns-else-has_byte-clause-outcome c r role bs =
-    subst (Tells (chars c.args.source.now) c.fault_at.result)
+    subst (Reports (chars c.args.source.now) c.fault_at.result)
     (sym (string_stops r role bs c.args.source.now c.args.index c.utf8.source c.requires.boundary c.requires.stop
     c.requires.no_escape
     (iff_false c.has_byte.ensures c.if-has_byte.false)))

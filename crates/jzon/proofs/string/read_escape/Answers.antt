@@ -2,7 +2,7 @@ use Rattle.std.proofs.Common.{◌≡◌, ◌+◌, ◌++◌, ◌∙◌, ap, sym, 
 use Rattle.std.specs.Prelude.{chars, encode_utf8, MatchResult}
 use Rattle.std.proofs.lemmas.Bool.{iff_false}
 use Rattle.std.proofs.lemmas.Str.{IsCharBoundary-after_ascii}
-use Rattle.jzon.specs.Machine.{string, between, from, Tells}
+use Rattle.jzon.specs.Machine.{string, between, from, Reports}
 use Rattle.jzon.proofs.Strings.Escapes.{simple_is_ascii, simple_read, digits_begin, escape_stops}
 use Rattle.jzon.proofs.string.read_escape.Goals as goal
 
@@ -16,7 +16,7 @@ returns-then-has_byte-clause-outcome c r role bs =
     let text = c.args.source.now in
     let here = c.has_byte.ensures.0 c.if-has_byte.true in
     subst (λ o. MatchResult c.read_unicode.result (λ x. o ≡ from r text (string role (bs ++ encode_utf8 x.0) between)
-    x.1) (λ e. Tells (chars text) e o))
+    x.1) (λ e. Reports (chars text) e o))
     (sym (digits_begin r role bs text c.args.start c.utf8.source c.requires here.0 here.1))
     (c.read_unicode.ensures.outcome r role bs)
 
@@ -37,7 +37,7 @@ returns-in-Some-clause-outcome c r role bs =
 
 pub returns-in-None-clause-outcome : goal.returns-in-None-clause-outcome
 returns-in-None-clause-outcome c r role bs =
-    subst (Tells (chars c.args.source.now) c.fault_at.result)
+    subst (Reports (chars c.args.source.now) c.fault_at.result)
     (sym (escape_stops r role bs c.args.source.now c.args.start c.utf8.source c.requires
     (iff_false c.has_byte.ensures c.if-has_byte.false) c.in-None.ensures))
     c.fault_at.ensures

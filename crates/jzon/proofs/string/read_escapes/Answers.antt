@@ -3,7 +3,7 @@ use Rattle.std.specs.Prelude.{chars}
 use Rattle.std.specs.String.{string_bytes}
 use Rattle.std.proofs.lemmas.Result.{err_from_is_err_and, MatchResult-weaker}
 use Rattle.std.proofs.lemmas.Str.{IsCharBoundary-after_ascii}
-use Rattle.jzon.specs.Machine.{string, between, from, Tells}
+use Rattle.jzon.specs.Machine.{string, between, from, Reports}
 use Rattle.jzon.proofs.Strings.Quotes.{backslash_begins}
 use Rattle.jzon.proofs.string.read_escapes.Goals as goal
 
@@ -17,11 +17,11 @@ returns-in_err-ch-clause-outcome c r role =
     let text = c.args.source.now in
     let here = c.has_byte.ensures.0 c.loop-start-test.true in
     let read = string_bytes c.loop-start.buffer in
-    let told = err_from_is_err_and c.from_residual.result c.from_residual.ensures.1 in
+    let reported = err_from_is_err_and c.from_residual.result c.from_residual.ensures.1 in
     let escape = c.loop-start.invariant.same r role
     ∙ backslash_begins r role read text c.loop-start.index c.utf8.source c.loop-start.invariant.boundary here.0 here.1
     in
-    rw (told.1, told.2) (inr (subst (Tells (chars text) _) (sym escape) (c.in_err-ch.ensures.outcome r role read)))
+    rw (reported.1, reported.2) (inr (subst (Reports (chars text) _) (sym escape) (c.in_err-ch.ensures.outcome r role read)))
 
 pub loop-start-preserved : goal.loop-start-preserved
 loop-start-preserved c =
@@ -46,4 +46,4 @@ returns-clause-outcome c r role =
     let so_far = c.loop-start.invariant.same r role in
     MatchResult-weaker c.past_quote.result (c.past_quote.ensures.outcome r role (string_bytes c.loop-start.buffer))
     (λ end h. so_far ∙ h)
-    (λ e h. inr (subst (Tells (chars c.args.source.now) e) (sym so_far) h))
+    (λ e h. inr (subst (Reports (chars c.args.source.now) e) (sym so_far) h))

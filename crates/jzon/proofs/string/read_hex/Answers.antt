@@ -1,6 +1,6 @@
 use Rattle.std.proofs.Common.{get_or, ◌+◌, ◌*◌, ap, sym, subst, arith}
 use Rattle.std.specs.Prelude.{chars}
-use Rattle.jzon.specs.Machine.{Tells}
+use Rattle.jzon.specs.Machine.{Reports}
 use Rattle.jzon.proofs.Strings.HexDigits.{HexRead, hex_is_below_16, code_reads, second_code_reads, hex_begun, hex_more}
 use Rattle.jzon.proofs.Strings.HexDigits.{hex_stops, hex_end, hex_small, hex_spelled}
 use Rattle.jzon.proofs.string.read_hex.Goals as goal
@@ -32,7 +32,7 @@ loop-index-preserved c =
 
 pub returns-in-None-clause-first : goal.returns-in-None-clause-first
 returns-in-None-clause-first c r role bs =
-    subst (Tells (chars c.args.source.now) c.fault_at.result)
+    subst (Reports (chars c.args.source.now) c.fault_at.result)
     (sym (hex_stops r c.args.source.now c.args.start c.loop-index.index c.loop-index.unit _ _ c.loop-index.invariant
     (code_reads r role bs)
     c.utf8.source c.loop-index.auto.index c.loop-index-test.true c.in-None.ensures))
@@ -40,7 +40,7 @@ returns-in-None-clause-first c r role bs =
 
 pub returns-in-None-clause-second : goal.returns-in-None-clause-second
 returns-in-None-clause-second c r role bs h =
-    subst (Tells (chars c.args.source.now) c.fault_at.result)
+    subst (Reports (chars c.args.source.now) c.fault_at.result)
     (sym (hex_stops r c.args.source.now c.args.start c.loop-index.index c.loop-index.unit _ _ c.loop-index.invariant
     (second_code_reads r role bs h)
     c.utf8.source c.loop-index.auto.index c.loop-index-test.true c.in-None.ensures))

@@ -6,13 +6,13 @@ use Rattle.std.proofs.lemmas.Str.{IsCharBoundary-after_ascii}
 use Rattle.jzon_base.specs.declared.error.Error.TheVariants.{FailedUtf8Parsing}
 use Rattle.jzon.specs.Grammar.{is_high, is_low}
 use Rattle.jzon.specs.Meaning.{pair_char}
-use Rattle.jzon.specs.Machine.{string, between, paired, outcome_on, from, Tells}
+use Rattle.jzon.specs.Machine.{string, between, move_pair, outcome_on, from, Reports}
 use Rattle.jzon.proofs.Strings.Escapes.{second_begins, second_digits_boundary, second_stops, second_u_stops}
 use Rattle.jzon.proofs.string.read_second.Goals as goal
 
 pub returns-then-not-has_byte-clause-outcome : goal.returns-then-not-has_byte-clause-outcome
 returns-then-not-has_byte-clause-outcome c r role bs =
-    subst (Tells (chars c.args.source.now) c.fault_at.result)
+    subst (Reports (chars c.args.source.now) c.fault_at.result)
     (sym (second_stops r role bs c.args.source.now c.args.first c.args.start c.utf8.source c.requires
     (iff_false c.has_byte.ensures c.if-not-has_byte.true)))
     c.fault_at.ensures
@@ -24,7 +24,7 @@ fault_at-requires-then-not-has_byte-2 c =
 
 pub returns-then-not-has_byte-2-clause-outcome : goal.returns-then-not-has_byte-2-clause-outcome
 returns-then-not-has_byte-2-clause-outcome c r role bs =
-    subst (Tells (chars c.args.source.now) c.fault_at-then-not-has_byte-2.result)
+    subst (Reports (chars c.args.source.now) c.fault_at-then-not-has_byte-2.result)
     (sym (second_u_stops r role bs c.args.source.now c.args.first c.args.start c.utf8.source c.requires
     (c.has_byte.ensures.0 c.if-not-has_byte.false)
     (iff_false c.has_byte-2.ensures c.if-not-has_byte-2.true)))
@@ -37,10 +37,10 @@ read_hex-requires c =
 
 pub returns-in_err-unit-clause-outcome : goal.returns-in_err-unit-clause-outcome
 returns-in_err-unit-clause-outcome c r role bs =
-    let told = err_from_is_err_and c.from_residual.result c.from_residual.ensures.1 in
+    let reported = err_from_is_err_and c.from_residual.result c.from_residual.ensures.1 in
     let digits = second_begins r role bs c.args.source.now c.args.first c.args.start c.utf8.source c.requires
     (c.has_byte.ensures.0 c.if-not-has_byte.false) (c.has_byte-2.ensures.0 c.if-not-has_byte-2.false) in
-    rw (told.1, told.2) (subst (Tells (chars c.args.source.now) _) (sym digits)
+    rw (reported.1, reported.2) (subst (Reports (chars c.args.source.now) _) (sym digits)
     (c.in_err-unit.ensures.second r role bs c.args.first))
 
 pub returns-in-Some-clause-outcome : goal.returns-in-Some-clause-outcome
@@ -52,7 +52,7 @@ returns-in-Some-clause-outcome c r role bs =
     (c.has_byte.ensures.0 c.if-not-has_byte.false)
     (c.has_byte-2.ensures.0 c.if-not-has_byte-2.false) in
     digits ∙ c.in_ok-unit.ensures.second r role bs c.args.first
-    ∙ ap (λ t. outcome_on (paired t role bs c.args.first c.in_ok-unit.unit) (λ p. from r text p (c.args.start + 2 + 4))
+    ∙ ap (λ t. outcome_on (move_pair t role bs c.args.first c.in_ok-unit.unit) (λ p. from r text p (c.args.start + 2 + 4))
     rest) pair.0
     ∙ ap (λ n. from r text (string role (bs ++ encode_utf8 (pair_char c.args.first c.in_ok-unit.unit)) between) n)
     (let e : c.args.start + 2 + 4 ≡ c.args.start + 6 = omega arith in e)
@@ -66,8 +66,8 @@ returns-in-None-clause-outcome c r role bs =
     let digits = second_begins r role bs text c.args.first c.args.start c.utf8.source c.requires
     (c.has_byte.ensures.0 c.if-not-has_byte.false)
     (c.has_byte-2.ensures.0 c.if-not-has_byte-2.false) in
-    subst (Tells (chars text) FailedUtf8Parsing)
+    subst (Reports (chars text) FailedUtf8Parsing)
     (sym (digits ∙ c.in_ok-unit.ensures.second r role bs c.args.first
-    ∙ ap (λ t. outcome_on (paired t role bs c.args.first c.in_ok-unit.unit) (λ p. from r text p (c.args.start + 2 + 4))
+    ∙ ap (λ t. outcome_on (move_pair t role bs c.args.first c.in_ok-unit.unit) (λ p. from r text p (c.args.start + 2 + 4))
     rest) no_pair))
     refl

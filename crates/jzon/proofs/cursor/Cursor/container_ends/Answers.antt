@@ -1,7 +1,7 @@
 use Rattle.std.proofs.Common.{◌∙◌, sym}
 use Rattle.std.specs.Prelude.{chars}
 use Rattle.jzon.proofs.Containers.ContainerTokens.{closes, comma_goes, item_stops}
-use Rattle.jzon.proofs.Texts.ReportedErrors.{told}
+use Rattle.jzon.proofs.Texts.ReportedErrors.{reported}
 use Rattle.jzon.proofs.cursor.Cursor.container_ends.Goals as goal
 
 pub returns-then-next-closer : goal.returns-then-next-closer
@@ -14,7 +14,7 @@ returns-then-next-eq44 c fs v here = comma_goes c.args.bracket c.args.self.now c
 
 pub returns : goal.returns
 returns c fs v here =
-    told (chars c.args.self.now.source.now) c.fault.result _ _
+    reported (chars c.args.self.now.source.now) c.fault.result _ _
     (item_stops c.args.bracket c.args.self.now fs v here (λ e. c.if-next-eq44.false (c.peek-next.ensures ∙ e))
     (λ e. c.if-next-closer.false (c.peek-next.ensures ∙ e ∙ sym c.closer.ensures)))
     c.fault.ensures

@@ -2,9 +2,9 @@ use Rattle.std.proofs.Common.{◌≡◌, ◌≢◌, ◌∙◌, ◌<◌, None, le
 use Rattle.jzon_base.specs.declared.error.Error.TheVariants.{UnexpectedEndOfJson, ExceededDepthLimit}
 use Rattle.jzon.specs.Brackets.{closer, empty_container, after_opener}
 use Rattle.jzon.specs.Cursor.{next_byte}
-use Rattle.jzon.specs.Machine.{Frames, before, behind, value_mark}
+use Rattle.jzon.specs.Machine.{Frames, before, after_value, value_mark}
 use Rattle.jzon.proofs.Containers.ContainerTokens.{opener_bounds, opens, empty_closes, left_open, item_too_deep}
-use Rattle.jzon.proofs.Texts.Cursors.{Reached, reached, goes_behind, told_on}
+use Rattle.jzon.proofs.Texts.Cursors.{Reached, reached, goes_after, reported_on}
 use Rattle.jzon.proofs.cursor.Cursor.open_container.Goals.{After-bump}
 use Rattle.jzon.proofs.cursor.Cursor.open_container.Goals as goal
 
@@ -25,14 +25,14 @@ returns-then-first-closer-clause-outcome c fs mark depth =
     let t = c.args.self.now in
     let m = c.bump.new.self in
     let u = c.bump-then-first-closer.new.self in
-    goes_behind t m u (before fs) (after_opener b fs) (behind fs (empty_container b))
+    goes_after t m u (before fs) (after_opener b fs) (after_value fs (empty_container b))
     (at_first (goal.at.returns-then-first-closer-clause-outcome c).After-bump fs mark)
     (empty_closes b m u fs c.bump-then-first-closer.ensures
     (sym c.peek-first.ensures ∙ c.if-first-closer.true ∙ c.closer.ensures))
 
 pub returns-then-self-clause-outcome : goal.returns-then-self-clause-outcome
 returns-then-self-clause-outcome c fs mark depth =
-    told_on c.args.self.now c.bump.new.self (before fs) (after_opener c.args.bracket fs) UnexpectedEndOfJson
+    reported_on c.args.self.now c.bump.new.self (before fs) (after_opener c.args.bracket fs) UnexpectedEndOfJson
     (at_first (goal.at.returns-then-self-clause-outcome c).After-bump fs mark)
     (left_open c.args.bracket c.bump.new.self fs (omega arith))
 
@@ -42,7 +42,7 @@ returns-then-depth-from-clause-outcome c fs mark depth =
     let m = c.bump.new.self in
     let lt : m.index < length m.source.now = omega (arith, m.boundary.0) in
     let other : next_byte m ≢ closer b = λ f. c.if-first-closer.false (c.peek-first.ensures ∙ f ∙ sym c.closer.ensures) in
-    told_on c.args.self.now m (before fs) (after_opener b fs) ExceededDepthLimit
+    reported_on c.args.self.now m (before fs) (after_opener b fs) ExceededDepthLimit
     (at_first (goal.at.returns-then-depth-from-clause-outcome c).After-bump fs mark)
     (item_too_deep b m fs lt other
     (omega (arith, depth, c.if-depth-from.true, c.from.ensures, c.depth.ensures.depth)))

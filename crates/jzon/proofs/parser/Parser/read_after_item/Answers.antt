@@ -6,30 +6,30 @@ use Rattle.jzon_tree.specs.View.{view, viewed}
 use Rattle.jzon_tree.proofs.Views.{view-Array, viewed-put}
 use Rattle.jzon.specs.Cursor.{left}
 use Rattle.jzon.specs.Frames.{open_in, stack_view}
-use Rattle.jzon.specs.Machine.{Frames, array_frame, object_frame, before, before_key, behind}
+use Rattle.jzon.specs.Machine.{Frames, array_frame, object_frame, before, before_key, after_value}
 use Rattle.jzon.specs.declared.cursor.Cursor.{Cursor}
 use Rattle.jzon.specs.declared.frames.Frame.{Frame}
-use Rattle.jzon.proofs.Texts.Cursors.{Reached, reached, goes_behind, goes_on}
+use Rattle.jzon.proofs.Texts.Cursors.{Reached, reached, goes_after, goes_on}
 use Rattle.jzon.proofs.Containers.FrameViews.{some_more, some_put, closed_on, closed_ready}
 use Rattle.jzon.proofs.parser.Parser.read_after_item.Goals.{After-array_ends, After-container_ends}
 use Rattle.jzon.proofs.parser.Parser.read_after_item.Goals as goal
 
 -- after a value in the same container
 same_frame : (t : Cursor) (fs : Frames) (f g : Frame) (v : Value) → f ≡ g
-    → Reached t (behind (open_in fs f) v) t (behind (open_in fs g) v)
+    → Reached t (after_value (open_in fs f) v) t (after_value (open_in fs g) v)
 same_frame t fs f g v e = record {
   text = refl;
   reading = refl;
   within = omega arith;
-  same = ap (λ k. left t (behind (open_in fs k) v)) e;
+  same = ap (λ k. left t (after_value (open_in fs k) v)) e;
 }
 
 -- ---- in an array
 
 in_array : (c : After-array_ends) →
-    Reached c.args.self.now.cursor (behind (open_in (stack_view c.args.self.now.stack.items) c.args.frame)
+    Reached c.args.self.now.cursor (after_value (open_in (stack_view c.args.self.now.stack.items) c.args.frame)
     (view c.args.item)) c.args.self.now.cursor
-    (behind (array_frame (stack_view c.args.self.now.stack.items) (map view c.in-Array.elements.items))
+    (after_value (array_frame (stack_view c.args.self.now.stack.items) (map view c.in-Array.elements.items))
     (view c.args.item))
 in_array c = same_frame _ _ _ _ _ c.in-Array.is
 
@@ -58,14 +58,14 @@ returns-then-branch-clause-outcome c =
     let vs = map view c.in-Array.elements.items in
     let v = view c.args.item in
     let at = (goal.at.returns-then-branch-clause-outcome c).After-array_ends in
-    let read = goes_behind t t n.cursor _ (behind (array_frame fs vs) v) _ (in_array at)
+    let read = goes_after t t n.cursor _ (after_value (array_frame fs vs) v) _ (in_array at)
     (c.in_ok-array_ends-in-Array.ensures.outcome (array_frame fs vs) v refl) in (
       read.0,
-      read.1 ∙ ap (λ b. left n.cursor (cond b (behind fs (array (values_of (vs ++ v ∷ []))))
+      read.1 ∙ ap (λ b. left n.cursor (cond b (after_value fs (array (values_of (vs ++ v ∷ []))))
           (before (array_frame fs (vs ++ v ∷ []))))) c.if-branch.true
-          ∙ ap (λ s. left n.cursor (behind (stack_view s.items) (array (values_of (vs ++ v ∷ [])))))
+          ∙ ap (λ s. left n.cursor (after_value (stack_view s.items) (array (values_of (vs ++ v ∷ [])))))
           (sym c.in_ok-array_ends-in-Array.ensures.stack)
-          ∙ ap (λ x. left n.cursor (behind (stack_view n.stack.items) x)) (sym (view-Array c.array_ends.new.elements
+          ∙ ap (λ x. left n.cursor (after_value (stack_view n.stack.items) x)) (sym (view-Array c.array_ends.new.elements
           ∙ ap (λ xs. array (values_of (map view xs))) c.in_ok-array_ends-in-Array.ensures.items
           ∙ ap (λ xs. array (values_of xs)) (elements_pushed at))),
     )
@@ -97,12 +97,12 @@ returns-else-branch-clause-outcome c =
     let v = view c.args.item in
     let inside = before (array_frame (stack_view n.stack.items) (map view c.array_ends.new.elements.items)) in
     let at = (goal.at.returns-else-branch-clause-outcome c).After-array_ends in
-    let read = goes_behind t t n.cursor _ (behind (array_frame fs vs) v) _ (in_array at)
+    let read = goes_after t t n.cursor _ (after_value (array_frame fs vs) v) _ (in_array at)
     (c.in_ok-array_ends-in-Array.ensures.outcome (array_frame fs vs) v refl) in
     goes_on t n.cursor _ _ inside c.read_elements.result _
     (reached t n.cursor _ inside (
       read.0,
-      read.1 ∙ ap (λ b. left n.cursor (cond b (behind fs (array (values_of (vs ++ v ∷ []))))
+      read.1 ∙ ap (λ b. left n.cursor (cond b (after_value fs (array (values_of (vs ++ v ∷ []))))
           (before (array_frame fs (vs ++ v ∷ []))))) c.if-branch.false
           ∙ ap (λ xs. left n.cursor (before (array_frame fs xs)))
           (sym (ap (map view) c.in_ok-array_ends-in-Array.ensures.items ∙ elements_pushed at))
@@ -114,9 +114,9 @@ returns-else-branch-clause-outcome c =
 -- ---- in an object
 
 in_object : (c : After-container_ends) →
-    Reached c.args.self.now.cursor (behind (open_in (stack_view c.args.self.now.stack.items) c.args.frame)
+    Reached c.args.self.now.cursor (after_value (open_in (stack_view c.args.self.now.stack.items) c.args.frame)
     (view c.args.item)) c.args.self.now.cursor
-    (behind (object_frame (stack_view c.args.self.now.stack.items) (viewed c.in-Object.entries) c.in-Object.key)
+    (after_value (object_frame (stack_view c.args.self.now.stack.items) (viewed c.in-Object.entries) c.in-Object.key)
     (view c.args.item))
 in_object c = same_frame _ _ _ _ _ c.in-Object.is
 
@@ -150,15 +150,15 @@ returns-then-branch-2-clause-outcome c =
     let k = c.in-Object.key in
     let v = view c.args.item in
     let at = (goal.at.returns-then-branch-2-clause-outcome c).After-container_ends in
-    let read = goes_behind t t u _ (behind (object_frame fs es k) v) _ (in_object at)
+    let read = goes_after t t u _ (after_value (object_frame fs es k) v) _ (in_object at)
     (c.in_ok-container_ends-in-Object.ensures (object_frame fs es k) v refl) in
     closed_on t u n.cursor _ fs (stack_view n.stack.items) (object (pairs_of (viewed c.push-in-Object.new.self)))
     c.close_object.result c.close_object.ensures.cursor (ap (λ s. stack_view s.items) c.close_object.ensures.stack)
     c.close_object.ensures.value c.close_object.ensures.memory (
       read.0,
-      read.1 ∙ ap (λ b. left u (cond b (behind fs (object (pairs_of (put k v es)))) (before_key fs (put k v es))))
+      read.1 ∙ ap (λ b. left u (cond b (after_value fs (object (pairs_of (put k v es)))) (before_key fs (put k v es))))
           c.if-branch-2.true
-          ∙ ap (λ xs. left u (behind fs (object (pairs_of xs)))) (sym (entry_pushed at)),
+          ∙ ap (λ xs. left u (after_value fs (object (pairs_of xs)))) (sym (entry_pushed at)),
     )
 
 pub read_entries-requires-clause-room : goal.read_entries-requires-clause-room
@@ -182,12 +182,12 @@ returns-else-branch-2-clause-outcome c =
     let k = c.in-Object.key in
     let v = view c.args.item in
     let at = (goal.at.returns-else-branch-2-clause-outcome c).After-container_ends in
-    let read = goes_behind t t u _ (behind (object_frame fs es k) v) _ (in_object at)
+    let read = goes_after t t u _ (after_value (object_frame fs es k) v) _ (in_object at)
     (c.in_ok-container_ends-in-Object.ensures (object_frame fs es k) v refl) in
     goes_on t u _ _ (before_key fs (viewed c.push-in-Object.new.self)) c.read_entries.result _
     (reached t u _ (before_key fs (viewed c.push-in-Object.new.self)) (
       read.0,
-      read.1 ∙ ap (λ b. left u (cond b (behind fs (object (pairs_of (put k v es)))) (before_key fs (put k v es))))
+      read.1 ∙ ap (λ b. left u (cond b (after_value fs (object (pairs_of (put k v es)))) (before_key fs (put k v es))))
           c.if-branch-2.false
           ∙ ap (λ xs. left u (before_key fs xs)) (sym (entry_pushed at)),
     ))

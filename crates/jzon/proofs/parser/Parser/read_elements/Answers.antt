@@ -5,14 +5,14 @@ use Rattle.std.proofs.lemmas.Result.{err_from_is_err_and}
 use Rattle.jzon_tree.specs.Value.{Value, array, values_of}
 use Rattle.jzon_tree.specs.View.{view}
 use Rattle.jzon_tree.proofs.Views.{view-Array}
-use Rattle.jzon.specs.Cursor.{left, IsBehind}
-use Rattle.jzon.specs.Frames.{IsReady, place_of, stack_view}
-use Rattle.jzon.specs.Machine.{Frames, array_frame, frames_depth, before, behind, value_mark}
+use Rattle.jzon.specs.Cursor.{left, IsAfter}
+use Rattle.jzon.specs.Frames.{IsReady, state_of, stack_view}
+use Rattle.jzon.specs.Machine.{Frames, array_frame, frames_depth, before, after_value, value_mark}
 use Rattle.jzon.specs.Reading.{Reading}
 use Rattle.jzon.specs.declared.cursor.Cursor.{Cursor}
 use Rattle.jzon.specs.declared.frames.ValueStart.TheVariants.{Object as start_object}
 use Rattle.jzon.specs.declared.frames.Frame.{Frame}
-use Rattle.jzon.proofs.Texts.Cursors.{Reached, reached_start, reached, token_goes, goes_behind, fails_on}
+use Rattle.jzon.proofs.Texts.Cursors.{Reached, reached_start, reached, token_goes, goes_after, fails_on}
 use Rattle.jzon.proofs.Containers.FrameViews.{frames_depth-stack, fresh_is_empty, some_more, stack_view-push}
 use Rattle.jzon.proofs.Containers.FrameViews.{value_mark-shallow}
 use Rattle.jzon.proofs.parser.Parser.read_elements.Goals.{After-len-depth, After-array_ends, In_ok-elements-in-Array}
@@ -69,17 +69,17 @@ returns-in-Object-clause-outcome c =
     let stack = stack_view-push c.read_start.new.self.stack.items c.push-in-Object.new.self.items _
     c.in_ok-push-in-Object.ensures.items
     ∙ ap (λ s. array_frame (stack_view s.items) vs) c.in_ok-value_start.ensures.stack in
-    goes_behind c.args.self.now.cursor c.loop-self.self.cursor n _ (before (array_frame fs vs)) _
+    goes_after c.args.self.now.cursor c.loop-self.self.cursor n _ (before (array_frame fs vs)) _
     c.loop-self.invariant.came (
       read.0,
-      read.1 ∙ ap (λ b. left n (place_of b (array_frame fs vs))) c.in-Object.is
-          ∙ ap (λ gs. left n (place_of start_object gs)) (sym stack),
+      read.1 ∙ ap (λ b. left n (state_of b (array_frame fs vs))) c.in-Object.is
+          ∙ ap (λ gs. left n (state_of start_object gs)) (sym stack),
     )
 
 -- ---- in an array in the array
 
 nested : (c : In_ok-elements-in-Array) →
-    IsBehind c.loop-self.self.cursor c.read_start.new.self.cursor
+    IsAfter c.loop-self.self.cursor c.read_start.new.self.cursor
     × (left c.loop-self.self.cursor (before (array_frame (stack_view c.loop-self.self.stack.items)
     (map view c.loop-self.elements.items))) ≡ left c.read_start.new.self.cursor
     (before (array_frame (stack_view c.push-in-Array.new.self.items)
@@ -95,7 +95,7 @@ nested c =
     c.in_ok-push-in-Array.ensures.items
     ∙ ap (λ s. array_frame (stack_view s.items) vs) c.in_ok-value_start.ensures.stack in (
       read.0,
-      read.1 ∙ ap (λ b. left n (place_of b (array_frame fs vs))) c.in-Array.is
+      read.1 ∙ ap (λ b. left n (state_of b (array_frame fs vs))) c.in-Array.is
           ∙ ap (λ gs. left n (before (array_frame gs []))) (sym stack)
           ∙ ap (λ xs. left n (before (array_frame (stack_view c.push-in-Array.new.self.items) (map view xs))))
           (sym c.in_ok-elements-in-Array.ensures.empty),
@@ -120,7 +120,7 @@ loop-self-preserved-in-Array c =
       );
       element = λ none. ready.1;
       came = reached c.args.self.now.cursor c.read_start.new.self.cursor _ _
-          (goes_behind c.args.self.now.cursor c.loop-self.self.cursor c.read_start.new.self.cursor _ _ _
+          (goes_after c.args.self.now.cursor c.loop-self.self.cursor c.read_start.new.self.cursor _ _ _
           c.loop-self.invariant.came (nested c));
     }
 
@@ -149,7 +149,7 @@ returns-in_err-value-clause-outcome c =
 record More (m n : Cursor) (fs : Frames) (vs ws : List Value) : Type 0 where
   value : Value
   grown : ws ≡ vs ++ value ∷ []
-  read : IsBehind m n × (left m (before (array_frame fs vs)) ≡ left n (behind (array_frame fs vs) value))
+  read : IsAfter m n × (left m (before (array_frame fs vs)) ≡ left n (after_value (array_frame fs vs) value))
 
 more : (c : After-array_ends) →
     More c.loop-self.self.cursor c.if-opens_container.self.cursor (stack_view c.loop-self.self.stack.items)
@@ -178,7 +178,7 @@ more c =
                 ∙ map-append view c.loop-self.elements.items (w.in-Value.value ∷ []);
             read = (
               read.0,
-              read.1 ∙ ap (λ b. left w.read_start.new.self.cursor (place_of b (array_frame fs vs)))
+              read.1 ∙ ap (λ b. left w.read_start.new.self.cursor (state_of b (array_frame fs vs)))
                   w.in-Value.is,
             );
           })
@@ -188,7 +188,7 @@ more c =
             grown = ap (map view) w.in_ok-push.ensures.items
                 ∙ map-append view c.loop-self.elements.items (w.in_ok-value.value ∷ []);
             read = token_goes m w.go_to.new.self (before (array_frame fs vs))
-                (behind (array_frame fs vs) (view w.in_ok-value.value)) w.in_ok-value.end w.go_to.ensures
+                (after_value (array_frame fs vs) (view w.in_ok-value.value)) w.in_ok-value.end w.go_to.ensures
                 w.in_ok-value.ensures.end.0 refl
                 (w.in_ok-value.ensures.outcome m.reading (array_frame fs vs) shallow m.past_whitespace
                 (λ f. c.loop-self.invariant.element (fresh_is_empty fs vs f)));
@@ -206,13 +206,13 @@ stack_kept c =
 came : (c : After-array_ends) →
     Reached c.args.self.now.cursor (before (array_frame (stack_view c.args.self.now.stack.items)
     (map view c.args.elements.items))) c.if-opens_container.self.cursor
-    (behind (array_frame (stack_view c.loop-self.self.stack.items) (map view c.loop-self.elements.items))
+    (after_value (array_frame (stack_view c.loop-self.self.stack.items) (map view c.loop-self.elements.items))
     (more c).value)
 came c =
     let fs = stack_view c.loop-self.self.stack.items in
     let vs = map view c.loop-self.elements.items in
-    reached c.args.self.now.cursor c.if-opens_container.self.cursor _ (behind (array_frame fs vs) (more c).value)
-    (goes_behind c.args.self.now.cursor c.loop-self.self.cursor c.if-opens_container.self.cursor _
+    reached c.args.self.now.cursor c.if-opens_container.self.cursor _ (after_value (array_frame fs vs) (more c).value)
+    (goes_after c.args.self.now.cursor c.loop-self.self.cursor c.if-opens_container.self.cursor _
     (before (array_frame fs vs)) _ c.loop-self.invariant.came (more c).read)
 
 pub returns-in_err-array_ends-clause-outcome : goal.returns-in_err-array_ends-clause-outcome
@@ -222,7 +222,7 @@ returns-in_err-array_ends-clause-outcome c =
     let at = (goal.at.returns-in_err-array_ends-clause-outcome c).After-array_ends in
     let failed = err_from_is_err_and c.from_residual-in_err-array_ends.result
     c.from_residual-in_err-array_ends.ensures.1 in
-    fails_on c.args.self.now.cursor c.if-opens_container.self.cursor _ _ (behind (array_frame fs vs) (more at).value)
+    fails_on c.args.self.now.cursor c.if-opens_container.self.cursor _ _ (after_value (array_frame fs vs) (more at).value)
     c.from_residual-in_err-array_ends.result _
     failed.0 failed.1 (came at) (rw failed.2 (c.in_err-array_ends.ensures.outcome (array_frame fs vs) (more at).value refl))
 
@@ -248,14 +248,14 @@ returns-then-branch-clause-outcome c =
     let vs = map view c.loop-self.elements.items in
     let at = (goal.at.returns-then-branch-clause-outcome c).After-array_ends in
     let v = (more at).value in
-    let read = goes_behind t c.if-opens_container.self.cursor n.cursor _ (behind (array_frame fs vs) v) _ (came at)
+    let read = goes_after t c.if-opens_container.self.cursor n.cursor _ (after_value (array_frame fs vs) v) _ (came at)
     (c.in_ok-array_ends.ensures.outcome (array_frame fs vs) v refl) in (
       read.0,
-      read.1 ∙ ap (λ b. left n.cursor (cond b (behind fs (array (values_of (vs ++ v ∷ []))))
+      read.1 ∙ ap (λ b. left n.cursor (cond b (after_value fs (array (values_of (vs ++ v ∷ []))))
           (before (array_frame fs (vs ++ v ∷ []))))) c.if-branch.true
-          ∙ ap (λ s. left n.cursor (behind (stack_view s.items) (array (values_of (vs ++ v ∷ [])))))
+          ∙ ap (λ s. left n.cursor (after_value (stack_view s.items) (array (values_of (vs ++ v ∷ [])))))
           (sym (c.in_ok-array_ends.ensures.stack ∙ stack_kept at))
-          ∙ ap (λ x. left n.cursor (behind (stack_view n.stack.items) x)) (sym (view-Array c.array_ends.new.elements
+          ∙ ap (λ x. left n.cursor (after_value (stack_view n.stack.items) x)) (sym (view-Array c.array_ends.new.elements
           ∙ ap (λ xs. array (values_of (map view xs))) c.in_ok-array_ends.ensures.items
           ∙ ap (λ xs. array (values_of xs)) (more at).grown)),
     )
@@ -286,7 +286,7 @@ loop-self-preserved c =
     let ends = c.in_ok-array_ends.ensures.outcome (array_frame fs vs) v refl in
     let kept = c.in_ok-array_ends.ensures.stack ∙ stack_kept at in
     let grown = ap (map view) c.in_ok-array_ends.ensures.items ∙ (more at).grown in
-    let read = goes_behind t c.if-opens_container.self.cursor n.cursor _ (behind (array_frame fs vs) v) _ (came at)
+    let read = goes_after t c.if-opens_container.self.cursor n.cursor _ (after_value (array_frame fs vs) v) _ (came at)
     ends in
     record {
       room = let reading = ends.0.reading ∙ (more at).read.0.reading in
@@ -295,7 +295,7 @@ loop-self-preserved c =
       came = reached t n.cursor _ (before (array_frame (stack_view n.stack.items)
           (map view c.array_ends.new.elements.items))) (
             read.0,
-            read.1 ∙ ap (λ b. left n.cursor (cond b (behind fs (array (values_of (vs ++ v ∷ []))))
+            read.1 ∙ ap (λ b. left n.cursor (cond b (after_value fs (array (values_of (vs ++ v ∷ []))))
                 (before (array_frame fs (vs ++ v ∷ []))))) c.if-branch.false
                 ∙ ap (λ xs. left n.cursor (before (array_frame fs xs))) (sym grown)
                 ∙ ap (λ s. left n.cursor (before (array_frame (stack_view s.items)

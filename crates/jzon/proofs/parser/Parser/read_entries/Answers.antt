@@ -6,9 +6,9 @@ use Rattle.jzon_tree.specs.Value.{object, pairs_of}
 use Rattle.jzon_tree.specs.View.{view, viewed}
 use Rattle.jzon_tree.proofs.Views.{viewed-put}
 use Rattle.jzon.specs.Cursor.{left}
-use Rattle.jzon.specs.Frames.{IsReady, place_of, stack_view}
-use Rattle.jzon.specs.Machine.{array_frame, object_frame, frames_depth, before, before_key, behind, key_mark}
-use Rattle.jzon.proofs.Texts.Cursors.{Reached, reached_start, reached, goes_behind, goes_on, fails_on}
+use Rattle.jzon.specs.Frames.{IsReady, state_of, stack_view}
+use Rattle.jzon.specs.Machine.{array_frame, object_frame, frames_depth, before, before_key, after_value, key_mark}
+use Rattle.jzon.proofs.Texts.Cursors.{Reached, reached_start, reached, goes_after, goes_on, fails_on}
 use Rattle.jzon.proofs.Containers.FrameViews.{frames_depth-stack, key_mark-shallow, some_put}
 use Rattle.jzon.proofs.Containers.FrameViews.{stack_view-push, closed_on, closed_ready}
 use Rattle.jzon.proofs.parser.Parser.read_entries.Goals.{After-read_key, In_ok-key, After-len-depth, After-container_ends}
@@ -68,7 +68,7 @@ keyed c =
           (λ r. r.depth) c.loop-entries.invariant.came.reading,
     )) in
     reached c.args.self.now.cursor c.read_key.new.self.cursor _ (before (object_frame fs es c.in_ok-key.key))
-    (goes_behind c.args.self.now.cursor c.loop-entries.self.cursor c.read_key.new.self.cursor _ (before_key fs es) _
+    (goes_after c.args.self.now.cursor c.loop-entries.self.cursor c.read_key.new.self.cursor _ (before_key fs es) _
     c.loop-entries.invariant.came
     (c.in_ok-key.ensures.outcome fs mark c.loop-entries.invariant.key))
 
@@ -132,8 +132,8 @@ returns-in_default-value_start-clause-outcome c =
     ∙ ap (λ s. object_frame (stack_view s.items) (viewed c.read_key.new.entries) c.in_ok-key.key)
     (c.in_ok-value_start.ensures.stack ∙ c.in_ok-key.ensures.stack ∙ c.loop-entries.invariant.stack)
     ∙ ap (λ xs. object_frame fs (viewed xs) c.in_ok-key.key) c.in_ok-key.ensures.kept in
-    goes_behind c.args.self.now.cursor c.read_key.new.self.cursor n _ (before here) _ (keyed at.In_ok-key)
-    (read.0, read.1 ∙ ap (λ gs. left n (place_of c.in_ok-value_start.value_start gs)) (sym stack))
+    goes_after c.args.self.now.cursor c.read_key.new.self.cursor n _ (before here) _ (keyed at.In_ok-key)
+    (read.0, read.1 ∙ ap (λ gs. left n (state_of c.in_ok-value_start.value_start gs)) (sym stack))
 
 pub read_array-requires : goal.read_array-requires
 read_array-requires c =
@@ -168,9 +168,9 @@ returns-in-Array-clause-outcome c =
     ∙ ap (λ xs. object_frame fs (viewed xs) c.in_ok-key.key) c.in_ok-key.ensures.kept in
     goes_on t n c.read_array.new.self.cursor _ inside c.read_array.result _
     (reached t n _ inside
-    (goes_behind t c.read_key.new.self.cursor n _ (before here) _ (keyed at.In_ok-key) (
+    (goes_after t c.read_key.new.self.cursor n _ (before here) _ (keyed at.In_ok-key) (
       read.0,
-      read.1 ∙ ap (λ b. left n (place_of b here)) c.in-Array.is
+      read.1 ∙ ap (λ b. left n (state_of b here)) c.in-Array.is
           ∙ ap (λ gs. left n (before (array_frame gs []))) (sym stack),
     )))
     c.read_array.ensures.outcome
@@ -183,7 +183,7 @@ came : (c : After-container_ends)
     c.in_ok-key.key))
     → Reached c.args.self.now.cursor (before_key (stack_view c.args.self.now.stack.items) (viewed c.args.entries))
     c.read_start.new.self.cursor
-    (behind (object_frame (stack_view c.args.self.now.stack.items) (viewed c.loop-entries.entries)
+    (after_value (object_frame (stack_view c.args.self.now.stack.items) (viewed c.loop-entries.entries)
     c.in_ok-key.key) (view c.in-Value.value))
 came c key =
     let n = c.read_start.new.self.cursor in
@@ -198,9 +198,9 @@ came c key =
       ap (λ s. vec_len s) (c.in_ok-key.ensures.stack ∙ c.loop-entries.invariant.stack),
     ) in
     let read = c.in_ok-value_start.ensures.outcome here depth (λ f. absurd (true≢false (sym f))) in
-    reached c.args.self.now.cursor n _ (behind here (view c.in-Value.value))
-    (goes_behind c.args.self.now.cursor c.read_key.new.self.cursor n _ (before here) _ key
-    (read.0, read.1 ∙ ap (λ b. left n (place_of b here)) c.in-Value.is))
+    reached c.args.self.now.cursor n _ (after_value here (view c.in-Value.value))
+    (goes_after c.args.self.now.cursor c.read_key.new.self.cursor n _ (before here) _ key
+    (read.0, read.1 ∙ ap (λ b. left n (state_of b here)) c.in-Value.is))
 
 pushed : (c : After-container_ends) →
     viewed c.push.new.self ≡ put c.in_ok-key.key (view c.in-Value.value) (viewed c.loop-entries.entries)
@@ -217,7 +217,7 @@ returns-in_err-container_ends-clause-outcome c =
     let failed = err_from_is_err_and c.from_residual-in_err-container_ends.result
     c.from_residual-in_err-container_ends.ensures.1 in
     fails_on c.args.self.now.cursor c.read_start.new.self.cursor _ _
-    (behind (object_frame fs es c.in_ok-key.key) (view c.in-Value.value))
+    (after_value (object_frame fs es c.in_ok-key.key) (view c.in-Value.value))
     c.from_residual-in_err-container_ends.result _ failed.0 failed.1 (came at.After-container_ends (keyed at.In_ok-key))
     (rw failed.2 (c.in_err-container_ends.ensures (object_frame fs es c.in_ok-key.key) (view c.in-Value.value) refl))
 
@@ -249,7 +249,7 @@ returns-then-branch-clause-outcome c =
     let k = c.in_ok-key.key in
     let v = view c.in-Value.value in
     let at = goal.at.returns-then-branch-clause-outcome c in
-    let read = goes_behind t c.read_start.new.self.cursor u _ (behind (object_frame fs es k) v) _
+    let read = goes_after t c.read_start.new.self.cursor u _ (after_value (object_frame fs es k) v) _
     (came at.After-container_ends (keyed at.In_ok-key))
     (c.in_ok-container_ends.ensures (object_frame fs es k) v refl) in
     closed_on t u n.cursor _ fs (stack_view n.stack.items) (object (pairs_of (viewed c.push.new.self)))
@@ -258,9 +258,9 @@ returns-then-branch-clause-outcome c =
     ∙ c.in_ok-key.ensures.stack ∙ c.loop-entries.invariant.stack))
     c.close_object.ensures.value c.close_object.ensures.memory (
       read.0,
-      read.1 ∙ ap (λ b. left u (cond b (behind fs (object (pairs_of (put k v es)))) (before_key fs (put k v es))))
+      read.1 ∙ ap (λ b. left u (cond b (after_value fs (object (pairs_of (put k v es)))) (before_key fs (put k v es))))
           c.if-branch.true
-          ∙ ap (λ xs. left u (behind fs (object (pairs_of xs)))) (sym (pushed at.After-container_ends)),
+          ∙ ap (λ xs. left u (after_value fs (object (pairs_of xs)))) (sym (pushed at.After-container_ends)),
     )
 
 pub loop-entries-smaller : goal.loop-entries-smaller
@@ -291,7 +291,7 @@ loop-entries-preserved c =
     let v = view c.in-Value.value in
     let at = goal.at.loop-entries-preserved c in
     let more = pushed at.After-container_ends in
-    let read = goes_behind t c.read_start.new.self.cursor u _ (behind (object_frame fs es k) v) _
+    let read = goes_after t c.read_start.new.self.cursor u _ (after_value (object_frame fs es k) v) _
     (came at.After-container_ends (keyed at.In_ok-key))
     (c.in_ok-container_ends.ensures (object_frame fs es k) v refl) in
     record {
@@ -299,7 +299,7 @@ loop-entries-preserved c =
       key = λ none. absurd (some_put k v es (sym more ∙ none));
       came = reached t u _ (before_key fs (viewed c.push.new.self)) (
         read.0,
-        read.1 ∙ ap (λ b. left u (cond b (behind fs (object (pairs_of (put k v es)))) (before_key fs (put k v es))))
+        read.1 ∙ ap (λ b. left u (cond b (after_value fs (object (pairs_of (put k v es)))) (before_key fs (put k v es))))
             c.if-branch.false
             ∙ ap (λ xs. left u (before_key fs xs)) (sym more),
       );

@@ -9,18 +9,18 @@ use Rattle.jzon.specs.Cursor.{left, next_byte}
 use Rattle.jzon.specs.Machine.{Frames, as_key, left_at, before, before_key, after_key, object_frame, key_mark}
 use Rattle.jzon.proofs.Containers.ContainerSteps.{open_key}
 use Rattle.jzon.proofs.Containers.ContainerTokens.{key_closes, key_stands, key_missing, colon_read, colon_missing}
-use Rattle.jzon.proofs.Texts.Cursors.{Reached, utf8_of, reached_start, goes_behind, told_on, fails_on}
-use Rattle.jzon.proofs.Texts.FaultOffsets.{tells_duplicate}
+use Rattle.jzon.proofs.Texts.Cursors.{Reached, utf8_of, reached_start, goes_after, reported_on, fails_on}
+use Rattle.jzon.proofs.Texts.FaultOffsets.{reports_duplicate}
 use Rattle.jzon.proofs.Containers.FrameViews.{byte_within}
 use Rattle.jzon.proofs.Strings.Quotes.{key_refused}
-use Rattle.jzon.proofs.Texts.ReportedErrors.{told, told_again}
+use Rattle.jzon.proofs.Texts.ReportedErrors.{reported, reported_again}
 use Rattle.jzon.proofs.parser.Parser.read_key.Goals.{After-go_to}
 use Rattle.jzon.proofs.parser.Parser.read_key.Goals as goal
 
 pub returns-then-peek-ne34-clause-outcome : goal.returns-then-peek-ne34-clause-outcome
 returns-then-peek-ne34-clause-outcome c fs h n =
     let t = c.args.self.now.cursor in
-    told (chars t.source.now) c.fault.result _ _
+    reported (chars t.source.now) c.fault.result _ _
     (key_missing t fs (viewed c.args.entries.now) h (λ e. c.if-peek-ne34.true (c.peek.ensures ∙ e)) n)
     c.fault.ensures
 
@@ -39,7 +39,7 @@ returns-in_err-spelled-clause-outcome c fs h n =
     let failed = err_from_is_err_and c.from_residual.result c.from_residual.ensures.1 in
     fails_on t t _ (before_key fs es) (before_key fs es) c.from_residual.result (λ k. before (object_frame fs es k))
     failed.0 failed.1 (reached_start t (before_key fs es))
-    (told_again (chars t.source.now) failed.0 _ _
+    (reported_again (chars t.source.now) failed.0 _ _
     (open_key t.reading t.source.now t.index fs es (utf8_of t) t.boundary
     (byte_within t.source.now t.index 34 quote (lit< tt)) quote h)
     (rw failed.2 (c.in_err-spelled.ensures.outcome t.reading (as_key fs es (left_at t.source.now t.index)))))
@@ -61,12 +61,12 @@ returns-then-refused-clause-outcome c fs h n =
     let known : (t.reading.strict && is_some (find text es)) ≡ true =
     ap (λ k. t.reading.strict && is_some (find k es)) (sym c.text-name.ensures) ∙ sym c.in_ok-refused.ensures.refused
     ∙ c.if-refused.true in
-    told (chars t.source.now) c.duplicate_at.result _ _
+    reported (chars t.source.now) c.duplicate_at.result _ _
     (key_closes t fs es text end (sym c.peek.ensures ∙ c.if-peek-ne34.false) h
     (c.in_ok-spelled.ensures.outcome t.reading (as_key fs es (left_at t.source.now t.index)))
     ∙ key_refused t.reading t.source.now fs es (left_at t.source.now t.index) text end known)
     (c.duplicate_at.ensures
-    ∙ tells_duplicate t.source.now t.index (end - 1) (utf8_of t) t.boundary c.in_ok-spelled.ensures.quote.1
+    ∙ reports_duplicate t.source.now t.index (end - 1) (utf8_of t) t.boundary c.in_ok-spelled.ensures.quote.1
     (omega (arith, c.in_ok-spelled.ensures.quote.0)))
 
 -- the bytes of the key
@@ -100,9 +100,9 @@ returns-then-peek-ne58-clause-outcome c fs h n =
     let u = c.go_to.new.self in
     let es = viewed c.args.entries.now in
     let at = (goal.at.returns-then-peek-ne58-clause-outcome c).After-go_to in
-    told_on t u (before_key fs es) (after_key fs es (key_text at)) c.fault-then-peek-ne58.result
+    reported_on t u (before_key fs es) (after_key fs es (key_text at)) c.fault-then-peek-ne58.result
     (key_read at fs h)
-    (told (chars u.source.now) c.fault-then-peek-ne58.result _ _
+    (reported (chars u.source.now) c.fault-then-peek-ne58.result _ _
     (colon_missing u fs es (key_text at) (λ e. c.if-peek-ne58.true (c.peek-2.ensures ∙ e)))
     c.fault-then-peek-ne58.ensures)
 
@@ -112,7 +112,7 @@ returns-clause-outcome c fs h n =
     let u = c.go_to.new.self in
     let es = viewed c.args.entries.now in
     let at = (goal.at.returns-clause-outcome c).After-go_to in
-    let read = goes_behind t u c.bump.new.self (before_key fs es) (after_key fs es (key_text at))
+    let read = goes_after t u c.bump.new.self (before_key fs es) (after_key fs es (key_text at))
     (before (object_frame fs es (key_text at)))
     (key_read at fs h)
     (colon_read u c.bump.new.self fs es (key_text at) c.bump.ensures (sym c.peek-2.ensures ∙ c.if-peek-ne58.false)) in (

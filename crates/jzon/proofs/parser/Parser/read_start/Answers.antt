@@ -3,8 +3,8 @@ use Rattle.std.proofs.lemmas.Result.{err_from_is_err_and}
 use Rattle.jzon_base.specs.declared.error.Error.TheVariants.{OutOfMemory}
 use Rattle.jzon_tree.specs.View.{view}
 use Rattle.jzon.specs.Cursor.{next_byte}
-use Rattle.jzon.specs.Frames.{place_of}
-use Rattle.jzon.specs.Machine.{before, behind, value_mark}
+use Rattle.jzon.specs.Frames.{state_of}
+use Rattle.jzon.specs.Machine.{before, after_value, value_mark}
 use Rattle.jzon.proofs.Texts.Cursors.{utf8_of, token_goes, reached_start, fails_on}
 use Rattle.jzon.proofs.Containers.FrameViews.{value_mark-shallow, byte_within}
 use Rattle.jzon.proofs.Texts.ReportedErrors.{has_character}
@@ -41,7 +41,7 @@ returns-in_err-value-in_default-clause-outcome c fs d fresh =
     in
     let failed = err_from_is_err_and c.from_residual-in_err-value-in_default.result
     c.from_residual-in_err-value-in_default.ensures.1 in
-    fails_on t t _ (before fs) (before fs) c.from_residual-in_err-value-in_default.result (λ b. place_of b fs) failed.0
+    fails_on t t _ (before fs) (before fs) c.from_residual-in_err-value-in_default.result (λ b. state_of b fs) failed.0
     failed.1 (reached_start t (before fs))
     (rw failed.2 (c.in_err-value-in_default.ensures.outcome t.reading fs shallow t.past_whitespace fresh))
 
@@ -50,7 +50,7 @@ returns-in_ok-value-in_default-clause-outcome c fs d fresh =
     let t = c.args.self.now.cursor in
     let shallow : value_mark t.reading fs ≡ None = value_mark-shallow t.reading fs (omega (arith, d, c.requires.room))
     in
-    token_goes t c.go_to.new.self (before fs) (behind fs (view c.in_ok-value-in_default.value))
+    token_goes t c.go_to.new.self (before fs) (after_value fs (view c.in_ok-value-in_default.value))
     c.in_ok-value-in_default.end c.go_to.ensures
     c.in_ok-value-in_default.ensures.end.0 refl (c.in_ok-value-in_default.ensures.outcome t.reading fs shallow
     t.past_whitespace fresh)

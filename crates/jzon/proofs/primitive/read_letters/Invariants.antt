@@ -3,7 +3,7 @@ use Rattle.std.specs.Str.{IsCharBoundary}
 use Rattle.jzon_tree.specs.Value.{Value}
 use Rattle.jzon.specs.Reading.{Reading}
 use Rattle.jzon.specs.Machine.{Frames, past_letter, from}
-use Rattle.jzon.proofs.scalar.read_letters.Given as goal
+use Rattle.jzon.proofs.primitive.read_letters.Given as goal
 
 abbrev pub invariant-loop-letter : goal.invariant-loop-letter
 invariant-loop-letter l =

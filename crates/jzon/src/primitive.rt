@@ -8,9 +8,9 @@ ghost use Rattle.std.specs.Str.{IsCharBoundary};
 ghost use Rattle.jzon_tree.specs.Value.{Value, null, boolean};
 ghost use Rattle.jzon_tree.specs.View.{view};
 ghost use Rattle.jzon_tree.specs.Writing.{is_whitespace};
-ghost use Rattle.jzon.specs.Classes.{signed, letter_n, letter_t, letter_f};
-ghost use Rattle.jzon.specs.Machine.{numeral, numeral_begun, string, as_value, between, Frames, is_fresh, before};
-ghost use Rattle.jzon.specs.Machine.{behind, past_letter, value_mark, from, Tells, Leads, LeadsUnlessMemory, stopped};
+ghost use Rattle.jzon.specs.Classes.{after_minus, letter_n, letter_t, letter_f};
+ghost use Rattle.jzon.specs.Machine.{numeral, numeral_after_first, string, as_value, between, Frames, is_fresh, before};
+ghost use Rattle.jzon.specs.Machine.{after_value, past_letter, value_mark, from, Reports, Leads, LeadsUnlessMemory, fault_here};
 ghost use Rattle.jzon.specs.Reading.{Reading};
 ghost use Rattle.jzon_base.specs.Tokens.{begin_array, begin_object, end_array, quotation_mark};
 
@@ -24,7 +24,7 @@ use std::alloc::Global;
 
 /// The primitive at `start`, whose first byte is `first` (0 at the end of the text), and the offset after it.
 #[inline(always)]
-pub(crate) fn read_scalar(
+pub(crate) fn read_primitive(
     alloc: Global,
     source: &str,
     start: usize,
@@ -40,15 +40,15 @@ pub(crate) fn read_scalar(
     ensures outcome { (r : Reading) (fs : Frames) → value_mark r fs ≡ None
         → (start < length source.now → is_whitespace r.strict (slice_index source.now start) ≡ false)
         → (is_fresh fs ≡ true → slice_index source.now start ≢ end_array) →
-        LeadsUnlessMemory r source.now (before fs) start result (λ v. behind fs (view v)) }
+        LeadsUnlessMemory r source.now (before fs) start result (λ v. after_value fs (view v)) }
 {
     if first.is_ascii_digit() {
         return read_magnitude(source, start, false);
     }
     match first {
         b'-' => read_negative(source, start + 1),
-        b'"' => read_text(alloc, source, start + 1, buffer),
-        b'n' | b't' | b'f' => read_word(source, start, first),
+        b'"' => read_string_value(alloc, source, start + 1, buffer),
+        b'n' | b't' | b'f' => read_literal(source, start, first),
         _ => stopped_at(source, start),
     }
 }
@@ -58,14 +58,14 @@ pub(crate) fn read_scalar(
 fn stopped_at(source: &str, index: usize) -> Result<(JsonValue, usize)>
     requires { IsCharBoundary source.now index }
     ensures { MatchResult result (λ r. ⊥)
-        (λ e. Tells (chars source.now) e (stopped (chars (drop index source.now)))) }
+        (λ e. Reports (chars source.now) e (fault_here (chars (drop index source.now)))) }
 {
     Err(fault_at(source, index))
 }
 
 /// The string whose opening quote is before `start`, as a value, and the offset after it.
 #[inline(always)]
-fn read_text(
+fn read_string_value(
     alloc: Global,
     source: &str,
     start: usize,
@@ -74,7 +74,7 @@ fn read_text(
     requires { IsCharBoundary source.now start }
     ensures end { IfOk result (λ r. (start < r.1) × IsCharBoundary source.now r.1) }
     ensures outcome { (r : Reading) (fs : Frames) →
-        LeadsUnlessMemory r source.now (string (as_value fs) [] between) start result (λ v. behind fs (view v)) }
+        LeadsUnlessMemory r source.now (string (as_value fs) [] between) start result (λ v. after_value fs (view v)) }
 {
     let spelled = read_string(source, start, buffer)?;
     let value = text_value(alloc, spelled.text(source, start, buffer))?;
@@ -87,7 +87,7 @@ fn read_negative(source: &str, start: usize) -> Result<(JsonValue, usize)>
     requires { IsCharBoundary source.now start }
     ensures end { IfOk result (λ r. (start < r.1) × IsCharBoundary source.now r.1) }
     ensures outcome { (r : Reading) (fs : Frames) →
-        Leads r source.now (numeral fs true signed) start result (λ v. behind fs (view v)) }
+        Leads r source.now (numeral fs true after_minus) start result (λ v. after_value fs (view v)) }
 {
     if !has_digit(source, start) {
         return stopped_at(source, start);
@@ -102,8 +102,8 @@ fn read_magnitude(source: &str, start: usize, negative: bool) -> Result<(JsonVal
     requires digit { IsTrue (is_ascii_digit (slice_index source.now start)) }
     ensures end { IfOk result (λ r. (start < r.1) × IsCharBoundary source.now r.1) }
     ensures outcome { (r : Reading) (fs : Frames) →
-        Leads r source.now (numeral_begun fs negative (slice_index source.now start)) (start + 1) result
-        (λ v. behind fs (view v)) }
+        Leads r source.now (numeral_after_first fs negative (slice_index source.now start)) (start + 1) result
+        (λ v. after_value fs (view v)) }
 {
     let (number, end) = read_number(source, start, negative)?;
     Ok((JsonValue::Number(number), end))
@@ -112,25 +112,25 @@ fn read_magnitude(source: &str, start: usize, negative: bool) -> Result<(JsonVal
 /// The literal whose first letter, `first`, is at `start`, and the offset after it. Its last four letters are compared at once, and there is no branch for each of the
 /// three literals, since processors can't predict which comes next.
 #[inline(always)]
-fn read_word(source: &str, start: usize, first: u8) -> Result<(JsonValue, usize)>
+fn read_literal(source: &str, start: usize, first: u8) -> Result<(JsonValue, usize)>
     requires within { start < length source.now }
     requires first { first ≡ slice_index source.now start }
     requires word { (first ≡ letter_n) ⊎ (first ≡ letter_t) ⊎ (first ≡ letter_f) }
     ensures end { IfOk result (λ r. (start < r.1) × IsCharBoundary source.now r.1) }
     ensures outcome { (r : Reading) (fs : Frames) → value_mark r fs ≡ None →
-        Leads r source.now (before fs) start result (λ v. behind fs (view v)) }
+        Leads r source.now (before fs) start result (λ v. after_value fs (view v)) }
 {
     let prefix = last_four_at(start, first);
-    let value = word_value(first);
+    let value = literal_value(first);
     if has_four(source, prefix, last_four(first)) {
         return Ok((value, prefix + 4));
     }
-    read_rest(source, start + 1, letters_behind(first), value)
+    read_literal_rest(source, start + 1, letters_after(first), value)
 }
 
 /// The value of the literal with this first letter.
 #[inline(always)]
-fn word_value(first: u8) -> JsonValue
+fn literal_value(first: u8) -> JsonValue
     ensures null { first ≡ letter_n → view result ≡ null }
     ensures yes { first ≡ letter_t → view result ≡ boolean true }
     ensures no { first ≡ letter_f → view result ≡ boolean false }
@@ -167,7 +167,7 @@ fn last_four(first: u8) -> [u8; 4]
 }
 
 /// The letters after the first of the literal with this first letter.
-fn letters_behind(first: u8) -> &'static [u8]
+fn letters_after(first: u8) -> &'static [u8]
     ensures ascii { IsAscii result.now }
     ensures null { first ≡ letter_n → result.now ≡ codes "ull" }
     ensures yes { first ≡ letter_t → result.now ≡ codes "rue" }
@@ -182,7 +182,7 @@ fn letters_behind(first: u8) -> &'static [u8]
 
 /// The value of a literal, whose remaining letters must be at `start`, and the offset after it.
 #[inline(always)]
-fn read_rest(
+fn read_literal_rest(
     source: &str,
     start: usize,
     letters: &[u8],
@@ -192,7 +192,7 @@ fn read_rest(
     requires ascii { IsAscii letters.now }
     ensures end { IfOk result (λ r. (start ≤ r.1) × IsCharBoundary source.now r.1) }
     ensures outcome { (r : Reading) (fs : Frames) →
-        Leads r source.now (past_letter fs (view value) letters.now) start result (λ v. behind fs (view v)) }
+        Leads r source.now (past_letter fs (view value) letters.now) start result (λ v. after_value fs (view v)) }
 {
     let end = read_letters(source, start, letters)?;
     Ok((value, end))
@@ -206,8 +206,8 @@ fn read_letters(source: &str, start: usize, letters: &[u8]) -> Result<usize>
     requires ascii { IsAscii letters.now }
     ensures end { IfOk result (λ end. (start ≤ end) × IsCharBoundary source.now end) }
     ensures outcome { (r : Reading) (fs : Frames) (v : Value) → MatchResult result
-        (λ end. from r source.now (past_letter fs v letters.now) start ≡ from r source.now (behind fs v) end)
-        (λ e. Tells (chars source.now) e (from r source.now (past_letter fs v letters.now) start)) }
+        (λ end. from r source.now (past_letter fs v letters.now) start ≡ from r source.now (after_value fs v) end)
+        (λ e. Reports (chars source.now) e (from r source.now (past_letter fs v letters.now) start)) }
 {
     let mut index = start;
     for letter in letters {

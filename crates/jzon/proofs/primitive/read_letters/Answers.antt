@@ -2,9 +2,9 @@ use Rattle.std.proofs.Common.{◌≡◌, ◌+◌, suc, ◌∷◌, ◌∙◌, sym
 use Rattle.std.proofs.Common.{false}
 use Rattle.std.specs.Prelude.{chars}
 use Rattle.std.proofs.lemmas.Str.{IsCharBoundary-after_ascii}
-use Rattle.jzon.specs.Machine.{from, past_letter, Tells}
+use Rattle.jzon.specs.Machine.{from, past_letter, Reports}
 use Rattle.jzon.proofs.Containers.LiteralLetters.{letter_read, letter_missing}
-use Rattle.jzon.proofs.scalar.read_letters.Goals as goal
+use Rattle.jzon.proofs.primitive.read_letters.Goals as goal
 
 pub returns-then-not-has_byte-clause-outcome : goal.returns-then-not-has_byte-clause-outcome
 returns-then-not-has_byte-clause-outcome c r fs v =
@@ -12,7 +12,7 @@ returns-then-not-has_byte-clause-outcome c r fs v =
     let letters = c.args.letters.now in
     let next : drop k letters ≡ get_or letters k 0 ∷ drop (suc k) letters = drop-cons letters k 0
     c.loop-letter-test.true in
-    subst (Tells (chars c.args.source.now) c.fault_at.result)
+    subst (Reports (chars c.args.source.now) c.fault_at.result)
     (sym (c.loop-letter.invariant.2 r fs v ∙ ap (λ ls. from r c.args.source.now (past_letter fs v ls)
     c.loop-letter.index) next
     ∙ letter_missing r c.args.source.now c.loop-letter.index (get_or letters k 0) (drop (suc k) letters) fs v

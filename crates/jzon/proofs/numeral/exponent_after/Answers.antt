@@ -1,6 +1,6 @@
 use Rattle.std.proofs.Common.{◌∙◌, sym, true≢false}
 use Rattle.jzon.proofs.Numbers.NumeralOffsets.{ReadsExponent, reads_minus, reads_plus, reads_unsigned}
-use Rattle.jzon.proofs.numeral.exponent_behind.Goals as goal
+use Rattle.jzon.proofs.numeral.exponent_after.Goals as goal
 
 pub returns-then-has_byte : goal.returns-then-has_byte
 returns-then-has_byte c =

@@ -6,21 +6,21 @@ use Rattle.jzon.specs.Reading.{Reading, usual}
 use Rattle.jzon.specs.Machine.{Frames, no_frames, value_mark}
 use Rattle.jzon.proofs.Texts.StepsByByte.{same_outcome}
 use Rattle.jzon.proofs.Containers.WholeLiterals.{WordEnds, word_begins, word_ends}
-use Rattle.jzon.proofs.scalar.read_word.Goals.{After-has_four}
-use Rattle.jzon.proofs.scalar.read_word.Goals as goal
+use Rattle.jzon.proofs.primitive.read_literal.Goals.{After-has_four}
+use Rattle.jzon.proofs.primitive.read_literal.Goals as goal
 
 -- if the last four letters are there, the literal ends after them
 ends : (c : After-has_four) (r : Reading) (fs : Frames) → value_mark r fs ≡ None → IsTrue c.has_four.result
-    → WordEnds r c.args.source.now c.args.start (c.last_four_at-prefix.result + 4) fs (view c.word_value-value.result)
+    → WordEnds r c.args.source.now c.args.start (c.last_four_at-prefix.result + 4) fs (view c.literal_value-value.result)
 ends c r fs m all =
     let four = c.has_four.ensures in
     word_ends r c.args.source.now c.args.start c.args.first
     c.last_four_at-prefix.result fs _ c.last_four.result c.utf8.source c.requires.within (sym c.requires.first) m
     c.requires.word
     (record {
-      null = c.word_value-value.ensures.null;
-      yes = c.word_value-value.ensures.yes;
-      no = c.word_value-value.ensures.no;
+      null = c.literal_value-value.ensures.null;
+      yes = c.literal_value-value.ensures.yes;
+      no = c.literal_value-value.ensures.no;
     })
     (record { null = c.last_four.ensures.null; yes = c.last_four.ensures.yes; no = c.last_four.ensures.no })
     c.last_four_at-prefix.ensures.short c.last_four_at-prefix.ensures.long
@@ -42,8 +42,8 @@ pub returns-then-has_four-clause-outcome : goal.returns-then-has_four-clause-out
 returns-then-has_four-clause-outcome c r fs m =
     (ends (goal.at.returns-then-has_four-clause-outcome c).After-has_four r fs m c.if-has_four.true).same
 
-pub read_rest-requires-clause-boundary : goal.read_rest-requires-clause-boundary
-read_rest-requires-clause-boundary c =
+pub read_literal_rest-requires-clause-boundary : goal.read_literal_rest-requires-clause-boundary
+read_literal_rest-requires-clause-boundary c =
     IsCharBoundary-after_ascii c.args.source.now c.args.start c.utf8.source c.requires.within
     (elim c.requires.word [
       | inl e ↦ omega (arith, e, c.requires.first)
@@ -52,18 +52,18 @@ read_rest-requires-clause-boundary c =
 
 pub returns-clause-outcome : goal.returns-clause-outcome
 returns-clause-outcome c r fs m =
-    same_outcome _ _ _ (chars c.args.source.now) c.read_rest.result
+    same_outcome _ _ _ (chars c.args.source.now) c.read_literal_rest.result
     (word_begins r c.args.source.now c.args.start c.args.first fs _
-    c.letters_behind.result.now c.utf8.source c.requires.within (sym c.requires.first) m
+    c.letters_after.result.now c.utf8.source c.requires.within (sym c.requires.first) m
     c.requires.word
     (record {
-      null = c.word_value-value.ensures.null;
-      yes = c.word_value-value.ensures.yes;
-      no = c.word_value-value.ensures.no;
+      null = c.literal_value-value.ensures.null;
+      yes = c.literal_value-value.ensures.yes;
+      no = c.literal_value-value.ensures.no;
     })
     (record {
-      null = c.letters_behind.ensures.null;
-      yes = c.letters_behind.ensures.yes;
-      no = c.letters_behind.ensures.no;
+      null = c.letters_after.ensures.null;
+      yes = c.letters_after.ensures.yes;
+      no = c.letters_after.ensures.no;
     }))
-    (c.read_rest.ensures.outcome r fs)
+    (c.read_literal_rest.ensures.outcome r fs)

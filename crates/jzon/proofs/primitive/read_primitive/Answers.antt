@@ -8,8 +8,8 @@ use Rattle.jzon.specs.Machine.{no_frames, before}
 use Rattle.jzon.proofs.Containers.FirstBytes.{stops_before, begin_minus, begin_digit, begin_string}
 use Rattle.jzon.proofs.Containers.FrameViews.{byte_within}
 use Rattle.jzon.proofs.Texts.StepsByByte.{from_stop}
-use Rattle.jzon.proofs.Texts.ReportedErrors.{stopped_told, same_or_memory, same_unless_memory, never_memory}
-use Rattle.jzon.proofs.scalar.read_scalar.Goals as goal
+use Rattle.jzon.proofs.Texts.ReportedErrors.{fault_here_reported, same_or_memory, same_unless_memory, never_memory}
+use Rattle.jzon.proofs.primitive.read_primitive.Goals as goal
 
 pub read_magnitude-requires : goal.read_magnitude-requires
 read_magnitude-requires c =
@@ -41,8 +41,8 @@ read_negative-requires c =
     IsCharBoundary-after_ascii c.args.source.now c.args.start c.utf8.source
     (byte_within c.args.source.now c.args.start 45 e (lit< tt)) (omega (arith, e))
 
-pub read_text-requires : goal.read_text-requires
-read_text-requires c =
+pub read_string_value-requires : goal.read_string_value-requires
+read_string_value-requires c =
     let e : get_or c.args.source.now c.args.start 0 ≡ 34 = sym c.requires.first ∙ c.in-34.is in
     IsCharBoundary-after_ascii c.args.source.now c.args.start c.utf8.source
     (byte_within c.args.source.now c.args.start 34 e (lit< tt)) (omega (arith, e))
@@ -62,19 +62,19 @@ returns-in-45-clause-outcome c r fs shallow stop ends =
 pub returns-in-34-clause-outcome : goal.returns-in-34-clause-outcome
 returns-in-34-clause-outcome c r fs shallow stop ends =
     let e : get_or c.args.source.now c.args.start 0 ≡ 34 = sym c.requires.first ∙ c.in-34.is in
-    same_unless_memory _ _ _ (chars c.args.source.now) c.read_text.result
+    same_unless_memory _ _ _ (chars c.args.source.now) c.read_string_value.result
     (begin_string r c.args.source.now c.args.start fs c.utf8.source c.requires.boundary
     (byte_within c.args.source.now c.args.start 34 e (lit< tt)) e shallow)
-    (c.read_text.ensures.outcome r fs)
+    (c.read_string_value.ensures.outcome r fs)
 
 pub returns-in-110-clause-memory : goal.returns-in-110-clause-memory
-returns-in-110-clause-memory c e = absurd (never_memory _ (chars c.args.source.now) _ c.read_word.result
-    (c.read_word.ensures.outcome usual no_frames refl) e)
+returns-in-110-clause-memory c e = absurd (never_memory _ (chars c.args.source.now) _ c.read_literal.result
+    (c.read_literal.ensures.outcome usual no_frames refl) e)
 
 pub returns-in_default-clause-outcome : goal.returns-in_default-clause-outcome
 returns-in_default-clause-outcome c r fs shallow stop ends =
     let first = c.requires.first in
-    stopped_told (chars c.args.source.now) _ _ _ c.stopped_at.result
+    fault_here_reported (chars c.args.source.now) _ _ _ c.stopped_at.result
     (from_stop r c.args.source.now c.args.start (before fs) c.utf8.source c.requires.boundary
     (stops_before r c.args.source.now c.args.start fs shallow (λ lt. record {
       no_space = stop lt;
