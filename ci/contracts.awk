@@ -87,7 +87,8 @@ in_tests { next }
     type = $0
     sub(/^pub trait /, "", type)
     sub(/[:<{ ].*$/, "", type)
-    is_trait = 1
+    is_trait = is_hidden ? "" : 1
+    is_hidden = ""
     next
 }
 /^}/ { type = ""; is_trait = ""; in_impl_of_trait = ""; next }

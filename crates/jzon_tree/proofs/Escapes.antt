@@ -4,7 +4,7 @@ use Rattle.std.specs.Prelude.{◌==◌, ◌||◌}
 use Rattle.std.specs.List.{range_with_len}
 use Rattle.jzon_base.proofs.ByteTables.{table_at}
 use Rattle.jzon_tree.specs.Text.{escaped_byte}
-use Rattle.jzon_tree.specs.declared.codegen.send.TheConstants.{LETTERS}
+use Rattle.jzon_tree.specs.declared.codegen.strings.TheConstants.{LETTERS}
 
 abbrev chosen : Bool → Bool → Bool → Bool → Bool → Bool → ℕ → ℕ
 chosen q b t n f r c = cond q c (cond b 98 (cond t 116 (cond n 110 (cond f 102 (cond r 114 0)))))

@@ -9,8 +9,8 @@ use Rattle.jzon_base.specs.declared.error.Error.{Error}
 use Rattle.jzon_base.specs.declared.error.Error.TheVariants.{FailedUtf8Parsing}
 use Rattle.jzon_tree.specs.Generator.{Emitted}
 use Rattle.jzon_tree.specs.Writing.{Style}
-use Rattle.jzon_tree.specs.declared.codegen.outlet.Memory.{Memory}
-use Rattle.jzon_tree.specs.declared.codegen.text.TextGenerator.{TextGenerator}
+use Rattle.jzon_tree.specs.declared.codegen.text_generator.Memory.{Memory}
+use Rattle.jzon_tree.specs.declared.codegen.text_generator.TextGenerator.{TextGenerator}
 
 -- these bytes, no open indent and no fault
 abbrev pub fresh : Option (List ℕ) → Style → Option GName → Emitted

@@ -1,25 +1,20 @@
-//! Printing: generators, and what is written by them (docs/RULES.md, "Generators").
+//! Printing: generators and layouts (docs/RULES.md, "Generators"). `driver` goes over a value and calls the hooks of a `generator`; `text_generator` has those of the
+//! crate, which write by `strings`, `numbers` and `layout`.
 
 mod display;
-mod escape;
-mod fault;
+mod driver;
+mod error_slot;
 mod generator;
-mod inspect;
 mod layout;
-mod memory;
-mod outlet;
-mod print;
-mod print_object;
-mod send;
-mod text;
-mod write;
-mod writer;
+mod numbers;
+mod strings;
+mod text_generator;
 
-pub use generator::Generator;
 #[doc(hidden)]
-pub use inspect::is_readable;
+pub use crate::value::inspect::is_readable;
+pub use driver::{write_json, write_object};
+pub use generator::Generator;
 pub use layout::{Compact, Layout, Pretty};
-pub use memory::{DumpGenerator, PrettyGenerator};
-pub use text::TextGenerator;
-pub use write::{write_json, write_object};
-pub use writer::{PrettyWriterGenerator, WriterGenerator};
+pub use text_generator::{
+    DumpGenerator, PrettyGenerator, PrettyWriterGenerator, TextGenerator, WriterGenerator,
+};

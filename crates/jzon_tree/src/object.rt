@@ -17,6 +17,7 @@ ghost use Rattle.jzon_tree.specs.View.{view_object};
 
 mod by_index;
 mod from_iter;
+mod print;
 
 use crate::into_json::IntoJson;
 use crate::value::JsonValue;

@@ -1,4 +1,8 @@
-//! JSON values.
+//! JSON values. The methods of `JsonValue` are in `readers` (what it holds), `changers` and `lent` (changes), `clone` and `cloned` (copies), `equal` (`==`), `print`
+//! (texts) and `codegen::display`.
+
+pub(crate) mod inspect;
+mod print;
 
 use crate::object::Object;
 use jzon_base::number::Number;

@@ -1,4 +1,4 @@
-//! What `{}` shows of a value (docs/RULES.md, "Layouts"). Its pieces are written into the formatter, and it takes no memory.
+//! `Display` of a value (docs/RULES.md, "Layouts"). It writes to the formatter as it goes, and allocates nothing.
 
 ghost use Rattle.std.specs.Prelude.{◌≡◌, false};
 ghost use Rattle.std.specs.Fmt.{WritesOnOk};
@@ -9,14 +9,14 @@ ghost use Rattle.jzon_tree.specs.Text.{compact, escaped_byte, quoted};
 ghost use Rattle.jzon_tree.specs.Value.{array};
 ghost use Rattle.jzon_tree.specs.View.{view, view_object, view_values};
 
-use crate::codegen::escape;
+use crate::codegen::strings::{ESCAPE_MAX_LEN, put_escape};
 use crate::object::Object;
 use crate::value::JsonValue;
 use jzon_base::number::Number;
 use jzon_base::util::plain::plain_len;
 use std::{fmt, str};
 
-/// A text bare, a number as `Number` shows it, and all else as in the compact layout. An error is the formatter's.
+/// A string without quotes, a number as `Number` shows it, and all else as in the compact layout. An error is the formatter's.
 impl fmt::Display for JsonValue {
     ghost use Rattle.std.specs.Prelude.{Some};
     ghost use Rattle.jzon_tree.specs.Displayed.{displayed};
@@ -89,7 +89,7 @@ fn show_member<W: fmt::Write>(
     show(value, f)
 }
 
-/// Shows a comma, unless it is the first item that follows.
+/// Shows a comma, unless what follows is the first element or entry.
 fn show_comma<W: fmt::Write>(comma: bool, f: &mut fmt::Formatter<W>) -> fmt::Result
     ensures { WritesOnOk W.write_str_gives f.old result (comma_text comma) f.new }
 {
@@ -108,7 +108,7 @@ fn show_number<W: fmt::Write>(number: &Number, f: &mut fmt::Formatter<W>) -> fmt
     fmt::Display::fmt(number, f)
 }
 
-/// Shows the text in quotes, escaped. Runs of bytes that need no escape are shown whole.
+/// Shows the string in quotes, escaped. Runs of bytes that need no escape are shown whole.
 fn show_text<W: fmt::Write>(text: &str, f: &mut fmt::Formatter<W>) -> fmt::Result
     ensures { WritesOnOk W.write_str_gives f.old result (quoted text.now) f.new }
 {
@@ -141,7 +141,7 @@ fn show_escape<W: fmt::Write>(byte: u8, f: &mut fmt::Formatter<W>) -> fmt::Resul
     requires { is_plain byte ≡ false }
     ensures { WritesOnOk W.write_str_gives f.old result (escaped_byte byte) f.new }
 {
-    let mut room = [0; escape::MAX_LEN];
-    let at = escape::put(&mut room, byte);
+    let mut room = [0; ESCAPE_MAX_LEN];
+    let at = put_escape(&mut room, byte);
     show_bytes(&room[at..], f)
 }

@@ -1,4 +1,4 @@
-//! The trait of the generators.
+//! The trait `Generator`: its hooks, and the provided methods.
 
 ghost use Rattle.std.specs.Prelude.{◌≡◌, ◌+◌, ◌-◌, ◌<◌, ◌≤◌, ◌^◌, ◌∷◌, ◌++◌, [], length, take, drop, MatchResult};
 ghost use Rattle.std.specs.Borrow.{sem, Lends};
@@ -9,9 +9,9 @@ ghost use Rattle.jzon_tree.specs.Generator.{Emitted, Added, Failed, Emits, Count
 ghost use Rattle.jzon_tree.specs.Text.{escaped, quoted};
 ghost use Rattle.jzon_tree.specs.Writing.{IsAllowedWhitespace, IsStyle};
 
-use crate::codegen::escape;
-use crate::codegen::fault::{Fault, Step, lay_aside, taken_up};
-use crate::codegen::send::{send, text_of_number};
+use crate::codegen::error_slot::{ErrorSlot, SlotResult, send, store, take_result};
+use crate::codegen::numbers::text_of_number;
+use crate::codegen::strings::{ESCAPE_MAX_LEN, put_escape};
 use crate::object::Object;
 use jzon_base::number::Number;
 use jzon_base::util::plain::plain_len;
@@ -19,13 +19,13 @@ use jzon_base::util::print_dec;
 use std::io;
 use std::io::{ErrorKind, Write};
 
-/// What writes values, piece by piece, into a writer.
+/// Writes values, piece by piece, to a writer.
 ///
-/// Behind it stand the bytes written so far, the count of open indents, the count of faults so far, and two things that no hook changes: a style, and the reference that is written through, if there is one. An `Ok` of a hook adds
-/// exactly the hook's bytes. An `Err` adds a beginning of them, notes one fault (the greatest u64 stays), and leaves the open indents. Where the writer doesn't
-/// tell its bytes, nothing is said of bytes.
+/// It has the bytes written so far, the number of open indents, the number of faults so far, and two things that no hook changes: a style, and the reference that
+/// is written through, if there is one. An `Ok` of a hook adds exactly the hook's bytes. An `Err` adds a prefix of them, counts one fault (saturating at
+/// `u64::MAX`), and leaves the open indents. Where the contract of the writer doesn't fix its bytes, that of a hook doesn't either.
 ///
-/// A generator of one's own keeps its bytes, its open indents and its faults. Where only whitespace or the order of entries differ, a `Layout` is enough.
+/// Where only whitespace or the order of entries differ from the generators of the crate, a `Layout` is enough.
 pub trait Generator {
     /// The writer.
     type T: Write;
@@ -36,12 +36,12 @@ pub trait Generator {
     // The generator with this writer in the place of its own.
     ghost with_writer: { Self → Self.T → Self };
 
-    /// Lends the writer. Its bytes are the bytes written, when lent and after.
+    /// Lends the writer. Its bytes are the bytes written, before and after.
     fn get_writer(&mut self) -> &mut Self::T
         ensures* writes_back { sem 𝓛 (Lends Self.row Self.T.row self.entry result (with_writer self.old)) }
         ensures bytes { Self.T.contents result.now ≡ (meaning self.old).out };
 
-    /// Adds `slice`, which stands for a colon and a space, or the one byte `min`, which stands for a colon, as the style allows.
+    /// Adds `slice`, which is a colon and a space, or the one byte `min`, which is a colon, as the style allows.
     fn write_min(&mut self, slice: &[u8], min: u8) -> io::Result<()>
         ensures { Emits (IsForm (meaning self.old).style slice.now min)
             (meaning self.old) (meaning self.new) result };
@@ -54,7 +54,7 @@ pub trait Generator {
     fn dent(&self) -> u64
         ensures { result ≡ (meaning self.now).dent };
 
-    /// One fault more, or the greatest u64 stays.
+    /// Counts one more fault, saturating at `u64::MAX`.
     fn note_fault(&mut self)
         ensures { meaning self.new ≡ record (meaning self.old) { faults = noted (meaning self.old).faults } };
 
@@ -62,7 +62,7 @@ pub trait Generator {
     fn set_dent(&mut self, dent: u64)
         ensures { meaning self.new ≡ record (meaning self.old) { dent = dent } };
 
-    /// Hands the answer of a call of the writer on, and notes a fault where it is an error.
+    /// Returns `answer`, the result of a call of the writer, and counts a fault where it is an error.
     #[inline]
     fn hand_on(&mut self, answer: io::Result<()>) -> io::Result<()>
         ensures same { result ≡ answer }
@@ -78,18 +78,18 @@ pub trait Generator {
     fn write(&mut self, slice: &[u8]) -> io::Result<()>
         ensures { Emits (Just slice.now) (meaning self.old) (meaning self.new) result }
     {
-        let mut fault = None;
-        let step = send(self.get_writer(), slice, &mut fault);
-        self.hand_on(taken_up(step, fault))
+        let mut slot = None;
+        let step = send(self.get_writer(), slice, &mut slot);
+        self.hand_on(take_result(step, slot))
     }
 
     /// Adds the byte.
     fn write_char(&mut self, ch: u8) -> io::Result<()>
         ensures { Emits (Just (ch ∷ [])) (meaning self.old) (meaning self.new) result }
     {
-        let mut fault = None;
-        let step = send(self.get_writer(), &[ch], &mut fault);
-        self.hand_on(taken_up(step, fault))
+        let mut slot = None;
+        let step = send(self.get_writer(), &[ch], &mut slot);
+        self.hand_on(take_result(step, slot))
     }
 
     /// Adds whitespace alone, as the style allows at the open indents.
@@ -97,7 +97,7 @@ pub trait Generator {
         ensures { Emits (IsAllowedWhitespace (meaning self.old).style (meaning self.old).dent)
             (meaning self.old) (meaning self.new) result };
 
-    /// Opens an indent. It is refused only where the greatest u64 of them are open, and then notes a fault.
+    /// Opens an indent. Fails only where `u64::MAX` of them are open, and then counts a fault.
     fn indent(&mut self) -> io::Result<()>
         ensures { MatchResult result
             (λ _. meaning self.new ≡ record (meaning self.old) { dent = (meaning self.old).dent + 1 })
@@ -145,8 +145,8 @@ pub trait Generator {
             let Some((byte, others)) = others.split_first() else {
                 break;
             };
-            let mut room = [0; escape::MAX_LEN];
-            let at = escape::put(&mut room, *byte);
+            let mut room = [0; ESCAPE_MAX_LEN];
+            let at = put_escape(&mut room, *byte);
             self.write(&room[at..])?;
             rest = others;
         }
@@ -161,7 +161,7 @@ pub trait Generator {
         self.write(text_of_number(&mut room, num))
     }
 
-    /// The order in which the pairs of the object are to be written, as their positions, each exactly once; `None` is the order of insertion. It is an order
+    /// The order in which the entries of the object are written, as their positions, each exactly once; `None` is the order of insertion. It is an order
     /// that the style allows of the keys. No byte is added.
     fn order(&mut self, object: &Object) -> io::Result<Option<Vec<usize>>>
         ensures { MatchResult result
@@ -169,54 +169,54 @@ pub trait Generator {
             × IsAnswer (meaning self.old).style (keys_of (entries_of object.now)) answer)
             (λ _. Failed (Just []) (meaning self.old) (meaning self.new)) };
 
-    /// `write`, as `write_json` calls it: an error is laid aside. A generator that keeps its errors apart may do without the `io::Result`, and so may those below.
+    /// `write`, as `write_json` calls it: an error is stored in the slot. A generator that has its errors there already may override it, and those below.
     #[doc(hidden)]
-    fn try_write(&mut self, slice: &[u8], fault: &mut Fault) -> Step<()>
+    fn try_write(&mut self, slice: &[u8], slot: &mut ErrorSlot) -> SlotResult<()>
         ensures { Emits (Just slice.now) (meaning self.old) (meaning self.new) result }
     {
-        lay_aside(self.write(slice), fault)
+        store(self.write(slice), slot)
     }
 
     /// `write_char`, as `write_json` calls it.
     #[doc(hidden)]
-    fn try_write_char(&mut self, ch: u8, fault: &mut Fault) -> Step<()>
+    fn try_write_char(&mut self, ch: u8, slot: &mut ErrorSlot) -> SlotResult<()>
         ensures { Emits (Just (ch ∷ [])) (meaning self.old) (meaning self.new) result }
     {
-        lay_aside(self.write_char(ch), fault)
+        store(self.write_char(ch), slot)
     }
 
     /// `write_min`, as `write_json` calls it.
     #[doc(hidden)]
-    fn try_write_min(&mut self, slice: &[u8], min: u8, fault: &mut Fault) -> Step<()>
+    fn try_write_min(&mut self, slice: &[u8], min: u8, slot: &mut ErrorSlot) -> SlotResult<()>
         ensures { Emits (IsForm (meaning self.old).style slice.now min)
             (meaning self.old) (meaning self.new) result }
     {
-        lay_aside(self.write_min(slice, min), fault)
+        store(self.write_min(slice, min), slot)
     }
 
     /// `write_string`, as `write_json` calls it.
     #[doc(hidden)]
-    fn try_write_string(&mut self, string: &str, fault: &mut Fault) -> Step<()>
+    fn try_write_string(&mut self, string: &str, slot: &mut ErrorSlot) -> SlotResult<()>
         ensures { Emits (Just (quoted string.now)) (meaning self.old) (meaning self.new) result }
     {
-        lay_aside(self.write_string(string), fault)
+        store(self.write_string(string), slot)
     }
 
     /// `write_number`, as `write_json` calls it.
     #[doc(hidden)]
-    fn try_write_number(&mut self, num: &Number, fault: &mut Fault) -> Step<()>
+    fn try_write_number(&mut self, num: &Number, slot: &mut ErrorSlot) -> SlotResult<()>
         ensures { Emits (Just (written_text num.now)) (meaning self.old) (meaning self.new) result }
     {
-        lay_aside(self.write_number(num), fault)
+        store(self.write_number(num), slot)
     }
 
     /// `new_line`, as `write_json` calls it.
     #[doc(hidden)]
-    fn try_new_line(&mut self, fault: &mut Fault) -> Step<()>
+    fn try_new_line(&mut self, slot: &mut ErrorSlot) -> SlotResult<()>
         ensures { Emits (IsAllowedWhitespace (meaning self.old).style (meaning self.old).dent)
             (meaning self.old) (meaning self.new) result }
     {
-        lay_aside(self.new_line(), fault)
+        store(self.new_line(), slot)
     }
 
     // Another writer changes the bytes alone.

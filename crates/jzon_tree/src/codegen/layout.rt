@@ -1,15 +1,29 @@
-//! Layouts: the whitespace of a text, and the order of an object's entries (docs/RULES.md, "Layouts of one's own").
+//! Layouts: the whitespace of a text, which is written here, and the order of an object's entries (docs/RULES.md, "Layouts of one's own").
 
-ghost use Rattle.std.specs.Prelude.{◌≡◌, Bool, true, false, IsTrue, IfOk, Ok, None};
+ghost use Rattle.std.specs.Prelude.{◌≡◌, ◌∷◌, Bool, true, false, IsTrue, IfOk, Ok, None, replicate};
 ghost use Rattle.jzon_base.specs.PairList.{keys_of};
 ghost use Rattle.jzon_tree.specs.Entries.{entries_of};
-ghost use Rattle.jzon_tree.specs.Generator.{IsAnswer};
+ghost use Rattle.jzon_tree.specs.Generator.{IsAnswer, Sends, Just};
 ghost use Rattle.jzon_tree.specs.StyleLaws.{IsStyle-compact, IsStyle-pretty};
 ghost use Rattle.jzon_tree.specs.Styles.{compact_style, pretty_style, LaysOut};
 ghost use Rattle.jzon_tree.specs.Writing.{Style, IsStyle};
 
+use crate::codegen::error_slot::{ErrorSlot, SlotResult, send};
 use crate::object::Object;
 use std::alloc::AllocError;
+use std::io::Write;
+
+/// The spaces that are written at once.
+const BLANKS: [u8; 512] = [b' '; 512];
+
+/// The newline, and the spaces that are written with it.
+#[rattlefmt::skip]
+const LINE: [u8; 64] = [
+    b'\n', b' ', b' ', b' ', b' ', b' ', b' ', b' ', b' ', b' ', b' ', b' ', b' ', b' ', b' ', b' ',
+    b' ', b' ', b' ', b' ', b' ', b' ', b' ', b' ', b' ', b' ', b' ', b' ', b' ', b' ', b' ', b' ',
+    b' ', b' ', b' ', b' ', b' ', b' ', b' ', b' ', b' ', b' ', b' ', b' ', b' ', b' ', b' ', b' ',
+    b' ', b' ', b' ', b' ', b' ', b' ', b' ', b' ', b' ', b' ', b' ', b' ', b' ', b' ', b' ', b' ',
+];
 
 /// The layout of the text that a `TextGenerator` writes. One of a user's own has a style and two methods:
 ///
@@ -103,4 +117,36 @@ impl Layout for Pretty {
     }
 
     ghost style_law = { λ l. IsStyle-pretty l.0 };
+}
+
+/// Writes a newline and `spaces` spaces. Most lines begin with few, which are written with the newline.
+#[inline(always)]
+pub(super) fn send_line<W: Write>(
+    writer: &mut W,
+    spaces: u128,
+    slot: &mut ErrorSlot,
+) -> SlotResult<()>
+    ensures { Sends (Just (10 ∷ replicate spaces 32)) (W.contents writer.old) (W.contents writer.new) result }
+{
+    let first = spaces.min(63);
+    send(writer, &LINE[..=first as usize], slot)?;
+    if first < spaces {
+        return send_spaces(writer, spaces - first, slot);
+    }
+    Ok(())
+}
+
+/// Writes `spaces` spaces.
+#[cold]
+#[inline(never)]
+fn send_spaces<W: Write>(writer: &mut W, spaces: u128, slot: &mut ErrorSlot) -> SlotResult<()>
+    ensures { Sends (Just (replicate spaces 32)) (W.contents writer.old) (W.contents writer.new) result }
+{
+    let mut left = spaces;
+    while left > 0 {
+        let count = left.min(512);
+        send(writer, &BLANKS[..count as usize], slot)?;
+        left -= count;
+    }
+    Ok(())
 }

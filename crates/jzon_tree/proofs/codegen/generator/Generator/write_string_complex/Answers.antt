@@ -19,13 +19,13 @@ returns-in_err-write-2 g c =
     _ _ c.split_at-in-loop-byte.ensures.front c.plain_len.ensures _ _ c.loop-byte.invariant.bytes _
     c.in_err-write-2.ensures.bytes))
 
-pub put-at-requires : goal.put-at-requires
-put-at-requires g c = needs_escape c.loop-byte.rest.now c.in-Some.others.now _ _ c.plain_len.ensures
+pub put_escape-at-requires : goal.put_escape-at-requires
+put_escape-at-requires g c = needs_escape c.loop-byte.rest.now c.in-Some.others.now _ _ c.plain_len.ensures
     (sym c.split_at-in-loop-byte.ensures.back ∙ c.in-Some.ensures.cases.0)
 
 pub returns-in_err-write-3 : goal.returns-in_err-write-3
 returns-in_err-write-3 g c =
-    let same = rw c.put-at.array_long at (take_rest c.put-at.new.room c.put-at.result ∙ c.put-at.ensures.text) in
+    let same = rw c.put_escape-at.array_long at (take_rest c.put_escape-at.new.room c.put_escape-at.result ∙ c.put_escape-at.ensures.text) in
     let escape = rw same at c.in_err-write-3.ensures in
     Emits-at_err _ _ _ _ c.from_residual-in_err-write-3.ensures.0
     (Failed-chained _ _ _ _ _ _ _ _ c.loop-byte.invariant c.in_ok-write-2.ensures escape
@@ -36,7 +36,7 @@ returns-in_err-write-3 g c =
 
 pub loop-byte-preserved : goal.loop-byte-preserved
 loop-byte-preserved g c =
-    let same = rw c.put-at.array_long at (take_rest c.put-at.new.room c.put-at.result ∙ c.put-at.ensures.text) in
+    let same = rw c.put_escape-at.array_long at (take_rest c.put_escape-at.new.room c.put_escape-at.result ∙ c.put_escape-at.ensures.text) in
     let escape = rw same at c.in_ok-write-3.ensures in
     Added-chained _ _ _ _ _ _ _ _ c.loop-byte.invariant c.in_ok-write-2.ensures escape
     (escape_sent (take c.args.start c.args.string.now) (drop c.args.start c.args.string.now) c.loop-byte.rest.now

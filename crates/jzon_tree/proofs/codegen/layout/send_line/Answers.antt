@@ -1,0 +1,23 @@
+use Rattle.std.proofs.Common.{arith}
+use Rattle.jzon_tree.proofs.Sent.{Sends-at_err}
+use Rattle.jzon_tree.proofs.SentSpaces.{take-line, line_stopped, line_continued, line_whole}
+use Rattle.jzon_tree.proofs.codegen.layout.send_line.Goals as goal
+
+pub returns-in_err-send : goal.returns-in_err-send
+returns-in_err-send g c =
+    Sends-at_err _ _ _ _ c.from_residual.ensures.0
+    (line_stopped c.args.spaces c.min-first.result _
+    (take-line 63 c.min-first.result (omega (arith, c.min-first.ensures))) (omega (arith, c.min-first.ensures))
+    _ _ c.in_err-send.ensures)
+
+pub returns-then-first-spaces : goal.returns-then-first-spaces
+returns-then-first-spaces g c =
+    line_continued c.args.spaces c.min-first.result _
+    (take-line 63 c.min-first.result (omega (arith, c.min-first.ensures))) (omega (arith, c.min-first.ensures))
+    _ _ _ _ c.in_ok-send.ensures c.send_spaces.ensures
+
+pub returns : goal.returns
+returns g c =
+    line_whole c.args.spaces c.min-first.result _
+    (take-line 63 c.min-first.result (omega (arith, c.min-first.ensures))) (omega (arith, c.min-first.ensures))
+    _ _ (omega (arith, c.if-first-spaces.false)) c.in_ok-send.ensures

@@ -1,0 +1,41 @@
+use Rattle.std.proofs.Common.{◌∙◌, sym}
+use Rattle.std.proofs.lemmas.List.Sums.{prefix_len-le-length}
+use Rattle.std.proofs.lemmas.List.{nil_from_length}
+use Rattle.jzon_base.specs.PlainBytes.{is_plain}
+use Rattle.jzon_tree.proofs.Sent.{Sends-at_err}
+use Rattle.jzon_tree.proofs.SentStrings.{any_run_stopped, escape_stopped, escape_sent, last_sent, needs_escape, closes}
+use Rattle.jzon_tree.proofs.codegen.strings.send_string.Goals as goal
+
+pub split_at-requires : goal.split_at-requires
+split_at-requires g c = rw c.plain_len.ensures (prefix_len-le-length is_plain c.loop-byte.rest.now)
+
+pub returns-in_err-send-2 : goal.returns-in_err-send-2
+returns-in_err-send-2 g c =
+    Sends-at_err _ _ _ _ c.from_residual-in_err-send-2.ensures.0
+    (any_run_stopped c.args.prefix.now c.args.text.now c.loop-byte.rest.now _ _ c.split_at.ensures.front
+    c.plain_len.ensures _ _ c.loop-byte.invariant _ c.in_err-send-2.ensures)
+
+pub send_escape-requires : goal.send_escape-requires
+send_escape-requires g c = needs_escape c.loop-byte.rest.now c.in-Some.others.now _ _ c.plain_len.ensures
+    (sym c.split_at.ensures.back ∙ c.in-Some.ensures.cases.0)
+
+pub returns-in_err-send_escape : goal.returns-in_err-send_escape
+returns-in_err-send_escape g c =
+    Sends-at_err _ _ _ _ c.from_residual-in_err-send_escape.ensures.0
+    (escape_stopped c.args.prefix.now c.args.text.now c.loop-byte.rest.now _ c.in-Some.others.now _ _
+    c.split_at.ensures.front c.plain_len.ensures (sym c.split_at.ensures.back ∙ c.in-Some.ensures.cases.0) _ _
+    c.loop-byte.invariant _ c.in_ok-send-2.ensures _ c.in_err-send_escape.ensures)
+
+pub loop-byte-preserved : goal.loop-byte-preserved
+loop-byte-preserved g c =
+    escape_sent c.args.prefix.now c.args.text.now c.loop-byte.rest.now _ c.in-Some.others.now _ _
+    c.split_at.ensures.front c.plain_len.ensures (sym c.split_at.ensures.back ∙ c.in-Some.ensures.cases.0) _ _
+    c.loop-byte.invariant _ c.in_ok-send-2.ensures _ c.in_ok-send_escape.ensures
+
+pub returns : goal.returns
+returns g c =
+    closes c.args.prefix.now c.args.text.now _ _ _ _
+    (last_sent c.args.prefix.now c.args.text.now c.loop-byte.rest.now _ _ c.split_at.ensures.front c.plain_len.ensures _
+    _ c.loop-byte.invariant (sym c.split_at.ensures.back ∙ nil_from_length _ c.in_default.ensures.cases) _
+    c.in_ok-send-2.ensures)
+    c.send-2.ensures

@@ -1,0 +1,21 @@
+use Rattle.std.proofs.Common.{◌*◌, refl, Some, false}
+use Rattle.jzon_tree.specs.Generators.{text_meaning, same_emitted}
+use Rattle.jzon_tree.specs.StyleLaws.{spaces_are_whitespace}
+use Rattle.jzon_tree.specs.Styles.{LaysOut}
+use Rattle.jzon_tree.specs.Text.{pretty_layout}
+use Rattle.jzon_tree.specs.Writing.{IsAllowedWhitespace}
+use Rattle.jzon_tree.proofs.Emitting.{Emits-counted}
+use Rattle.jzon_tree.proofs.codegen.text_generator.TextGeneratorGenerator.try_new_line.Goals as goal
+
+pub returns : goal.returns
+returns g c =
+    let s = c.args.self.now in
+    let style = g.L.Layout.style s.layout in
+    let n = c.in-Some.spaces in
+    let laid : LaysOut style (Some n) = rw c.in-Some.is at c.spaces.ensures in
+    let w = c.send_line-step.new.writer in
+    Emits-counted (IsAllowedWhitespace style s.dent) ((pretty_layout n).line s.dent)
+    (text_meaning g.O.Outlet.out g.O.Outlet.lender g.L.Layout.style s) _ _ _ _ _ _
+    (spaces_are_whitespace false (s.dent * n), laid.0 s.dent) c.writer.ensures.bytes c.send_line-step.ensures
+    (same_emitted (g.met.O.Outlet.out_law s.outlet w) (g.met.O.Outlet.lender_law s.outlet w)) c.count.ensures.same
+    c.count.ensures.faults

@@ -1,0 +1,228 @@
+//! Goes over a value or an object, and calls the hooks of a generator.
+
+ghost use Rattle.std.specs.Prelude.{◌≡◌, ◌+◌, ◌-◌, ◌<◌, ◌^◌, [], length, map, slice_index_or, MatchResult, OnOk};
+ghost use Rattle.jzon_base.specs.PairList.{keys_of};
+ghost use Rattle.jzon_tree.specs.Entries.{entries_of};
+ghost use Rattle.jzon_tree.specs.Generator.{Added, Emits, Failed, IsAnswer, Just, Prints, noted, positions};
+ghost use Rattle.jzon_tree.specs.Lawful.{IsValue, AreValues, ArePairs, IsPair};
+ghost use Rattle.jzon_tree.specs.Printing.{IsBetween, IsClosing, AreItems, IsEntry, AreMembers, PrintsIf};
+ghost use Rattle.jzon_tree.specs.Value.{array};
+ghost use Rattle.jzon_tree.specs.View.{view, view_object, view_values, view_pairs, viewed};
+ghost use Rattle.jzon_tree.specs.Writing.{Writes};
+
+use crate::codegen::error_slot::{ErrorSlot, SlotResult, store, take_error};
+use crate::codegen::generator::Generator;
+use crate::object::Object;
+use crate::value::JsonValue;
+use crate::value::inspect::{inspect, inspect_object, see_number};
+use std::io;
+
+/// Writes the value in the generator's style, counted from the indents that are open. The entries of each object are in the order that `order` returned for it.
+///
+/// An `Err` is that of a hook. Nothing is written after it: the bytes added are a prefix of a writing of the value, and the indents that were open then stay
+/// open.
+pub fn write_json<G: Generator>(g: &mut G, json: &JsonValue) -> io::Result<()>
+    ensures written { Prints (Writes (G.meaning g.old).style (G.meaning g.old).dent (view json.now))
+        (G.meaning g.old) (G.meaning g.new) result }
+    ensures value { IsValue (view json.now) }
+{
+    let mut slot = None;
+    match write_value(g, json, &mut slot) {
+        Ok(()) => Ok(()),
+        Err(_) => {
+            let _found = inspect(json);
+            Err(take_error(slot))
+        }
+    }
+}
+
+/// Writes the object in the generator's style, as `write_json` writes a value.
+pub fn write_object<G: Generator>(g: &mut G, object: &Object) -> io::Result<()>
+    ensures written { Prints (Writes (G.meaning g.old).style (G.meaning g.old).dent (view_object object.now))
+        (G.meaning g.old) (G.meaning g.new) result }
+    ensures value { IsValue (view_object object.now) }
+{
+    let mut slot = None;
+    match write_pairs(g, object, &mut slot) {
+        Ok(()) => Ok(()),
+        Err(_) => {
+            let _found = inspect_object(object);
+            Err(take_error(slot))
+        }
+    }
+}
+
+/// Inlined into the loops over elements and entries, so that only a container costs a call.
+#[inline(always)]
+#[cycle(write_value)]
+#[tactic(auto, using(crate::proofs::Views::views))]
+fn write_value<G: Generator>(g: &mut G, json: &JsonValue, slot: &mut ErrorSlot) -> SlotResult<()>
+    ensures written { PrintsIf (IsValue (view json.now))
+        (Writes (G.meaning g.old).style (G.meaning g.old).dent (view json.now))
+        (G.meaning g.old) (G.meaning g.new) result }
+    ensures value { OnOk result (IsValue (view json.now)) }
+{
+    match json {
+        JsonValue::Null => g.try_write(b"null", slot),
+        JsonValue::Short(text) => g.try_write_string(text.as_str(), slot),
+        JsonValue::String(text) => g.try_write_string(text.as_str(), slot),
+        JsonValue::Number(number) => {
+            see_number(number);
+            g.try_write_number(number, slot)
+        }
+        JsonValue::Boolean(true) => g.try_write(b"true", slot),
+        JsonValue::Boolean(false) => g.try_write(b"false", slot),
+        JsonValue::Object(object) => write_pairs(g, object, slot),
+        JsonValue::Array(items) => write_array(g, items, slot),
+    }
+}
+
+#[cycle(write_value)]
+#[inline(never)]
+fn write_array<G: Generator>(g: &mut G, items: &[JsonValue], slot: &mut ErrorSlot) -> SlotResult<()>
+    ensures written { PrintsIf (AreValues (view_values items.now))
+        (Writes (G.meaning g.old).style (G.meaning g.old).dent (array (view_values items.now)))
+        (G.meaning g.old) (G.meaning g.new) result }
+    ensures value { OnOk result (AreValues (view_values items.now)) }
+{
+    if items.is_empty() {
+        return g.try_write(b"[]", slot);
+    }
+    g.try_write_char(b'[', slot)?;
+    try_indent(g, slot)?;
+    write_items(g, items, slot)?;
+    close(g, b']', slot)
+}
+
+/// Writes each element after whitespace, and a comma before each but the first.
+#[cycle(write_value)]
+fn write_items<G: Generator>(g: &mut G, items: &[JsonValue], slot: &mut ErrorSlot) -> SlotResult<()>
+    ensures written { PrintsIf (AreValues (view_values items.now))
+        (AreItems (G.meaning g.old).style (G.meaning g.old).dent (map view items.now))
+        (G.meaning g.old) (G.meaning g.new) result }
+    ensures value { OnOk result (AreValues (view_values items.now)) }
+{
+    for (index, item) in items.iter().enumerate() {
+        begin_item(g, index > 0, slot)?;
+        write_value(g, item, slot)?;
+    }
+    Ok(())
+}
+
+#[cycle(write_value)]
+#[inline(never)]
+fn write_pairs<G: Generator>(g: &mut G, object: &Object, slot: &mut ErrorSlot) -> SlotResult<()>
+    ensures written { PrintsIf (IsValue (view_object object.now))
+        (Writes (G.meaning g.old).style (G.meaning g.old).dent (view_object object.now))
+        (G.meaning g.old) (G.meaning g.new) result }
+    ensures value { OnOk result (IsValue (view_object object.now)) }
+{
+    let order = try_order(g, object, slot)?;
+    if object.is_empty() {
+        return g.try_write(b"{}", slot);
+    }
+    g.try_write_char(b'{', slot)?;
+    try_indent(g, slot)?;
+    write_members(g, object, &order, slot)?;
+    close(g, b'}', slot)
+}
+
+/// Writes each entry after whitespace, and a comma before each but the first.
+#[cycle(write_value)]
+fn write_members<G: Generator>(
+    g: &mut G,
+    object: &Object,
+    order: &Option<Vec<usize>>,
+    slot: &mut ErrorSlot,
+) -> SlotResult<()>
+    requires { IsAnswer (G.meaning g.old).style (keys_of (entries_of object.now)) order.now }
+    ensures written { PrintsIf (ArePairs (view_pairs (entries_of object.now)))
+        (AreMembers (G.meaning g.old).style (G.meaning g.old).dent
+        (viewed (entries_of object.now)) (positions (length (entries_of object.now)) order.now))
+        (G.meaning g.old) (G.meaning g.new) result }
+    ensures value { OnOk result (IsValue (view_object object.now)) }
+{
+    for index in 0..object.len() {
+        let position = position_of(order, index, object.len());
+        let (key, value) = object.pairs.get_at(position);
+        begin_item(g, index > 0, slot)?;
+        write_pair(g, key, value, slot)?;
+    }
+    Ok(())
+}
+
+/// The position that the order names at the index.
+fn position_of(order: &Option<Vec<usize>>, index: usize, count: usize) -> usize
+    requires index_in_range { index < length (positions count order.now) }
+    ensures { result ≡ slice_index_or (positions count order.now) index 0 }
+{
+    match order {
+        Some(positions) => positions[index],
+        None => index,
+    }
+}
+
+#[cycle(write_value)]
+fn write_pair<G: Generator>(
+    g: &mut G,
+    key: &str,
+    value: &JsonValue,
+    slot: &mut ErrorSlot,
+) -> SlotResult<()>
+    ensures written { PrintsIf (IsValue (view value.now))
+        (IsEntry (G.meaning g.old).style (G.meaning g.old).dent (key.now, view value.now))
+        (G.meaning g.old) (G.meaning g.new) result }
+    ensures value { OnOk result (IsPair (key.now, view value.now)) }
+{
+    g.try_write_string(key, slot)?;
+    g.try_write_min(b": ", b':', slot)?;
+    write_value(g, value, slot)
+}
+
+/// Writes what is before an element or entry: a comma, unless it is the first, and whitespace.
+#[inline(always)]
+fn begin_item<G: Generator>(g: &mut G, comma: bool, slot: &mut ErrorSlot) -> SlotResult<()>
+    ensures { Emits (IsBetween (G.meaning g.old).style (G.meaning g.old).dent comma)
+        (G.meaning g.old) (G.meaning g.new) result }
+{
+    if comma {
+        g.try_write_char(b',', slot)?;
+    }
+    g.try_new_line(slot)
+}
+
+/// Closes an indent, and writes whitespace and the bracket.
+#[inline(always)]
+fn close<G: Generator>(g: &mut G, bracket: u8, slot: &mut ErrorSlot) -> SlotResult<()>
+    requires { 0 < (G.meaning g.old).dent }
+    ensures { Emits (IsClosing (G.meaning g.old).style ((G.meaning g.old).dent - 1) bracket)
+        (record (G.meaning g.old) { dent = (G.meaning g.old).dent - 1 }) (G.meaning g.new) result }
+{
+    g.dedent();
+    g.try_new_line(slot)?;
+    g.try_write_char(bracket, slot)
+}
+
+/// `indent`, whose error is stored.
+fn try_indent<G: Generator>(g: &mut G, slot: &mut ErrorSlot) -> SlotResult<()>
+    ensures { MatchResult result
+        (λ _. G.meaning g.new ≡ record (G.meaning g.old) { dent = (G.meaning g.old).dent + 1 })
+        (λ _. ((G.meaning g.old).dent ≡ 2 ^ 64 - 1)
+        × (G.meaning g.new ≡ record (G.meaning g.old) { faults = noted (G.meaning g.old).faults })) }
+{
+    store(g.indent(), slot)
+}
+
+/// `order`, whose error is stored.
+fn try_order<G: Generator>(
+    g: &mut G,
+    object: &Object,
+    slot: &mut ErrorSlot,
+) -> SlotResult<Option<Vec<usize>>>
+    ensures { MatchResult result
+        (λ answer. Added (Just []) (G.meaning g.old) (G.meaning g.new)
+        × IsAnswer (G.meaning g.old).style (keys_of (entries_of object.now)) answer)
+        (λ _. Failed (Just []) (G.meaning g.old) (G.meaning g.new)) }
+{
+    store(g.order(object), slot)
+}

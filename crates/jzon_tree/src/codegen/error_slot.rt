@@ -1,0 +1,89 @@
+//! Keeps an 88-byte `io::Error` out of return values: it is stored in a slot, and a one-byte `Failed` is returned.
+
+ghost use Rattle.std.specs.Prelude.{◌≡◌, ◌≤◌, Ok, IsErr, MatchResult, length, drop};
+ghost use Rattle.jzon_tree.specs.Generator.{Sends, Just};
+
+use jzon_base::util::write_bytes;
+use std::io;
+use std::io::{ErrorKind, Write};
+
+/// Holds the error of a call that failed.
+pub type ErrorSlot = Option<io::Error>;
+
+/// A call failed; its error is in the slot.
+#[derive(Drop)]
+pub struct Failed;
+
+/// The result of a call whose error is stored.
+pub type SlotResult<T> = Result<T, Failed>;
+
+/// Stores an error in the slot.
+#[inline]
+pub(super) fn store<T>(answer: io::Result<T>, slot: &mut ErrorSlot) -> SlotResult<T>
+    ensures { MatchResult answer (λ x. result ≡ Ok x) (λ _. IsErr result) }
+{
+    match answer {
+        Ok(value) => Ok(value),
+        Err(error) => {
+            *slot = Some(error);
+            Err(Failed)
+        }
+    }
+}
+
+/// The result with the stored error.
+#[inline]
+pub(super) fn take_result(step: SlotResult<()>, slot: ErrorSlot) -> io::Result<()>
+    ensures { MatchResult step (λ x. result ≡ Ok x) (λ _. IsErr result) }
+{
+    match step {
+        Ok(()) => Ok(()),
+        Err(Failed) => Err(take_error(slot)),
+    }
+}
+
+/// The stored error. There is one wherever a call failed.
+#[cold]
+pub(super) fn take_error(slot: ErrorSlot) -> io::Error {
+    match slot {
+        Some(error) => error,
+        None => io::Error::from(ErrorKind::Other),
+    }
+}
+
+/// Writes the bytes, of which a prefix is written where the writer fails. Most writers take them all at once.
+#[inline(always)]
+#[tactic(auto, using(crate::proofs::Sent::sent))]
+pub(super) fn send<W: Write>(writer: &mut W, bytes: &[u8], slot: &mut ErrorSlot) -> SlotResult<()>
+    ensures { Sends (Just bytes.now) (W.contents writer.old) (W.contents writer.new) result }
+{
+    if bytes.is_empty() {
+        return Ok(());
+    }
+    let count = store(writer.write(bytes), slot)?;
+    if count < bytes.len() {
+        return send_rest(writer, bytes, count, slot);
+    }
+    Ok(())
+}
+
+/// Writes the bytes after those that the writer took.
+#[cold]
+#[inline(never)]
+#[tactic(auto, using(crate::proofs::Sent::sent))]
+fn send_rest<W: Write>(
+    writer: &mut W,
+    bytes: &[u8],
+    count: usize,
+    slot: &mut ErrorSlot,
+) -> SlotResult<()>
+    requires { count ≤ length bytes.now }
+    ensures { Sends (Just (drop count bytes.now)) (W.contents writer.old) (W.contents writer.new) result }
+{
+    if count == 0 {
+        *slot = Some(io::Error::from(ErrorKind::WriteZero));
+        return Err(Failed);
+    }
+    let (_taken, rest) = bytes.split_at(count);
+    store(write_bytes(writer, rest), slot)
+}

@@ -1,0 +1,50 @@
+//! The texts of numbers (docs/RULES.md, "Printed numbers").
+
+ghost use Rattle.std.specs.Prelude.{◌≡◌};
+ghost use Rattle.jzon_base.specs.NumberText.{number_text, written_text};
+ghost use Rattle.jzon_tree.specs.Generator.{Sends, Just};
+
+use crate::codegen::error_slot::{ErrorSlot, SlotResult, send};
+use jzon_base::number::Number;
+use jzon_base::util::print_dec;
+use std::io::Write;
+
+/// Writes the text of the number, or `null` for NaN.
+pub(super) fn send_number<W: Write>(
+    writer: &mut W,
+    number: &Number,
+    slot: &mut ErrorSlot,
+) -> SlotResult<()>
+    ensures { Sends (Just (written_text number.now)) (W.contents writer.old) (W.contents writer.new) result }
+{
+    let mut room = [0; print_dec::MAX_LEN];
+    send(writer, text_of_number(&mut room, number), slot)
+}
+
+/// The text of the number, or `null` for NaN, for which `room` may be used.
+#[inline(always)]
+pub(super) fn text_of_number<'a>(
+    room: &'a mut [u8; print_dec::MAX_LEN],
+    number: &Number,
+) -> &'a [u8]
+    ensures { result.now ≡ written_text number.now }
+{
+    if number.is_nan() {
+        return b"null";
+    }
+    let (positive, mantissa, exponent) = number.as_parts();
+    text_of_parts(room, positive, mantissa, exponent)
+}
+
+#[inline(always)]
+fn text_of_parts<'a>(
+    room: &'a mut [u8; print_dec::MAX_LEN],
+    positive: bool,
+    mantissa: u64,
+    exponent: i16,
+) -> &'a [u8]
+    ensures { result.now ≡ number_text positive mantissa exponent }
+{
+    let start = print_dec::put(room, positive, mantissa, exponent);
+    &room[start..]
+}

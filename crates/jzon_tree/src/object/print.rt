@@ -1,0 +1,48 @@
+//! The texts of objects (docs/RULES.md, "Layouts").
+
+ghost use Rattle.std.specs.Prelude.{◌≡◌, ◌<◌, ◌≤◌, ◌^◌, IfOk, IsOkUnless, string_bytes};
+ghost use Rattle.jzon_tree.specs.Lawful.{IsValue};
+ghost use Rattle.jzon_tree.specs.Styles.{compact_style, pretty_style};
+ghost use Rattle.jzon_tree.specs.Text.{compact, pretty};
+ghost use Rattle.jzon_tree.specs.Value.{nest};
+ghost use Rattle.jzon_tree.specs.View.{view_object};
+ghost use Rattle.jzon_tree.specs.Writing.{Writes};
+
+use crate::codegen::{DumpGenerator, PrettyGenerator, write_object};
+use crate::object::Object;
+use crate::value::inspect::inspect_object;
+use jzon_base::error::{Error, Result};
+use std::alloc::Global;
+
+impl Object {
+    /// The compact text of the object, with no whitespace outside of its strings. Fails as that of a value.
+    pub fn dump(&self, alloc: Global) -> Result<String>
+        ensures text { IfOk result (λ text. string_bytes text ≡ compact (view_object self.now)) }
+        ensures writing { IfOk result (λ text. Writes compact_style 0 (view_object self.now) (string_bytes text)) }
+        ensures value { IsValue (view_object self.now) }
+        ensures memory { nest (view_object self.now) < 2 ^ 64 → IsOkUnless result Error.OutOfMemory }
+        ensures depth { 2 ^ 64 ≤ nest (view_object self.now) → IsOkUnless result Error.ExceededDepthLimit }
+    {
+        let mut generator = DumpGenerator::new(alloc);
+        match write_object(&mut generator, self) {
+            Ok(()) => Ok(generator.into_text()),
+            Err(_) => Err(inspect_object(self).refusal()),
+        }
+    }
+
+    /// The text of the object with a line for each entry, as that of a value. Fails as `dump`.
+    pub fn pretty(&self, alloc: Global, spaces: u16) -> Result<String>
+        ensures text { IfOk result (λ text. string_bytes text ≡ pretty (view_object self.now) spaces 0) }
+        ensures writing { IfOk result
+            (λ text. Writes (pretty_style spaces) 0 (view_object self.now) (string_bytes text)) }
+        ensures value { IsValue (view_object self.now) }
+        ensures memory { nest (view_object self.now) < 2 ^ 64 → IsOkUnless result Error.OutOfMemory }
+        ensures depth { 2 ^ 64 ≤ nest (view_object self.now) → IsOkUnless result Error.ExceededDepthLimit }
+    {
+        let mut generator = PrettyGenerator::new(alloc, spaces);
+        match write_object(&mut generator, self) {
+            Ok(()) => Ok(generator.into_text()),
+            Err(_) => Err(inspect_object(self).refusal()),
+        }
+    }
+}

@@ -1,0 +1,124 @@
+//! Goes over all parts of a value. What a part is by its type (a number in range, a string of UTF-8, distinct keys) is known where the part is read; after the walk it
+//! is known of all of them.
+
+ghost use Rattle.std.specs.Prelude.{◌≡◌, ◌<◌, ◌≤◌, ◌^◌, ◌∷◌, ◌++◌, ◌↔◌, [], List, IsTrue};
+ghost use Rattle.jzon_tree.specs.Inspected.{IsInspected};
+ghost use Rattle.jzon_tree.specs.Lawful.{IsValue, HasNoNan, InRange};
+ghost use Rattle.jzon_tree.specs.Value.{Value, array, nest, values_of};
+ghost use Rattle.jzon_tree.specs.View.{view, view_object, view_values};
+
+use crate::object::Object;
+use crate::value::JsonValue;
+use jzon_base::error::Error;
+use jzon_base::number::Number;
+
+/// What was found in a value.
+#[derive(Clone, Copy)]
+pub(crate) struct Inspection {
+    /// Whether a number in it is NaN.
+    has_nan: bool,
+    /// How many containers that are not empty nest, or the greatest u128 where more do.
+    nest: u128,
+}
+
+impl Inspection {
+    /// No NaN and no nesting, as in an empty container.
+    const PLAIN: Inspection = Inspection {
+        has_nan: false,
+        nest: 0,
+    };
+
+    /// What is found in a container with one more item.
+    fn with(self, item: Inspection) -> Inspection
+        ensures { (vs : List Value) (v : Value) → IsInspected (array (values_of vs)) self.has_nan self.nest
+            → IsInspected v item.has_nan item.nest
+            → IsInspected (array (values_of (vs ++ v ∷ []))) result.has_nan result.nest }
+    {
+        Inspection {
+            has_nan: self.has_nan || item.has_nan,
+            nest: self.nest.max(item.nest.saturating_add(1)),
+        }
+    }
+
+    /// Why printing the value failed.
+    pub(crate) fn refusal(self) -> Error
+        ensures memory { (v : Value) → IsInspected v self.has_nan self.nest → nest v < 2 ^ 64
+            → result ≡ Error.OutOfMemory }
+        ensures depth { (v : Value) → IsInspected v self.has_nan self.nest → 2 ^ 64 ≤ nest v
+            → result ≡ Error.ExceededDepthLimit }
+    {
+        if self.nest <= u128::from(u64::MAX) {
+            Error::OutOfMemory
+        } else {
+            Error::ExceededDepthLimit
+        }
+    }
+}
+
+/// Whether no number in the value is NaN, and at most `depth` containers that are not empty nest in it. Allocates nothing.
+pub fn is_readable(value: &JsonValue, depth: u16) -> bool
+    ensures value { IsValue (view value.now) }
+    ensures readable { IsTrue result ↔ (HasNoNan (view value.now) × (nest (view value.now) ≤ depth)) }
+{
+    let found = inspect(value);
+    !found.has_nan && found.nest <= u128::from(depth)
+}
+
+/// Looks at all parts of the value.
+#[cycle(inspect)]
+#[tactic(auto, using(crate::proofs::Views::views))]
+pub(crate) fn inspect(value: &JsonValue) -> Inspection
+    ensures { IsInspected (view value.now) result.has_nan result.nest }
+{
+    match value {
+        JsonValue::Null | JsonValue::Boolean(_) => Inspection::PLAIN,
+        JsonValue::Short(text) => {
+            let _text = text.as_str();
+            Inspection::PLAIN
+        }
+        JsonValue::String(text) => {
+            let _text = text.as_str();
+            Inspection::PLAIN
+        }
+        JsonValue::Number(number) => {
+            see_number(number);
+            Inspection {
+                has_nan: number.is_nan(),
+                nest: 0,
+            }
+        }
+        JsonValue::Object(object) => inspect_object(object),
+        JsonValue::Array(items) => inspect_items(items),
+    }
+}
+
+/// Looks at the pairs of the object and all parts of their values.
+#[cycle(inspect)]
+pub(crate) fn inspect_object(object: &Object) -> Inspection
+    ensures { IsInspected (view_object object.now) result.has_nan result.nest }
+{
+    let mut found = Inspection::PLAIN;
+    for index in 0..object.len() {
+        let (_key, value) = object.pairs.get_at(index);
+        found = found.with(inspect(value));
+    }
+    found
+}
+
+#[cycle(inspect)]
+fn inspect_items(items: &[JsonValue]) -> Inspection
+    ensures { IsInspected (array (view_values items.now)) result.has_nan result.nest }
+{
+    let mut found = Inspection::PLAIN;
+    for item in items {
+        found = found.with(inspect(item));
+    }
+    found
+}
+
+/// A number is within range by its type.
+pub(crate) fn see_number(number: &Number)
+    ensures { InRange number.now }
+{
+    let _parts = number.as_parts();
+}
