@@ -1,4 +1,4 @@
-//! What a value lends to be written (docs/RULES.md, "Readers" and "Changers").
+//! Mutable references to the parts of a value (docs/RULES.md, "Readers" and "Changers").
 
 ghost use Rattle.std.specs.Prelude.{◌≡◌, ◌≤◌, [], length, slice_get, slice_set, IfOk, OnErr, IfSome, IsOkUnless, None};
 ghost use Rattle.std.specs.Prelude.{Some, unwrap_or};
@@ -25,16 +25,16 @@ use std::slice;
 use tree::Tree;
 pub use writes::{write_at, write_at_index, write_present};
 
-/// The items of an array that are left, which may be written.
+/// The elements of an array that are left, as mutable references.
 pub type MembersMut<'a> = slice::IterMut<'a, JsonValue>;
 
-/// The pairs of an object that are left, each as its key's text and its value, which may be written.
+/// The members of an object that are left, each as its key and a mutable reference to its value.
 pub type EntriesMut<'a> = object::IterMut<'a>;
 
 impl JsonValue {
     ghost use Rattle.jzon_tree.specs.contracts.value.JsonValue.{the_row};
 
-    /// The object that the value is, to be written.
+    /// The object that the value is.
     pub fn as_object_mut(&mut self) -> Option<&mut Object>
         ensures* writes_back { sem 𝓛 (LendsIf the_row object_row self.entry result object_value self.old) }
         ensures value { option_copied_mut result ≡ object_in self.old }
@@ -46,7 +46,7 @@ impl JsonValue {
         }
     }
 
-    /// The items of the array that the value is, to be written.
+    /// The elements of the array that the value is.
     pub fn as_array_mut(&mut self) -> Option<&mut Vec<JsonValue>>
         ensures* writes_back { sem 𝓛 (LendsIf the_row (vec_row the_row) self.entry result array_value self.old) }
         ensures value { option_map (λ items. items.now.items) result ≡ items_in self.old }
@@ -58,7 +58,7 @@ impl JsonValue {
         }
     }
 
-    /// The items of an array in their order, from both ends, which may be written. Another value has none.
+    /// The elements of an array in their order, from both ends. Another value has none.
     pub fn members_mut(&mut self) -> MembersMut<'_>
         ensures { items_left result ≡ unwrap_or (items_in self.old) [] }
     {
@@ -68,7 +68,7 @@ impl JsonValue {
         }
     }
 
-    /// The pairs of an object in their order, from both ends. Their values may be written. Another value has none.
+    /// The members of an object in their order, from both ends. Their values may be changed, their keys not. Another value has none.
     pub fn entries_mut(&mut self) -> EntriesMut<'_>
         ensures { iter_mut_rest result ≡ entries_in self.old }
     {
@@ -78,7 +78,7 @@ impl JsonValue {
         EntriesMut::empty()
     }
 
-    /// The value of an object's key, to be written. Nothing else changes. A caller's proof learns of the write by `as_object_mut`, or calls
+    /// The value of an object's key. A write through it changes nothing else. A caller's proof learns of the write by `as_object_mut`, or calls
     /// `lent::write_present` instead.
     ///
     /// ```rust
@@ -94,9 +94,9 @@ impl JsonValue {
         self.get_in(key)
     }
 
-    /// The value of an object's key, to be written. A missing key is first put last, with null, and a value that is no object first becomes one without pairs.
-    /// Nothing else changes. Refused by `OutOfMemory` alone, and then nothing has changed; a key that is there takes no memory. A caller's proof that needs the write
-    /// calls `lent::write_at` instead.
+    /// The value of an object's key. A missing key is first put last, with null, and a value that isn't an object first becomes an empty one. A write through it changes
+    /// nothing else. Fails only with `OutOfMemory`, and then nothing has changed; a key that is there needs no allocation. A caller's proof that needs the write calls
+    /// `lent::write_at` instead.
     ///
     /// ```rust
     /// *data.at_mut(alloc, "count")? = jzon::from(alloc, 1u8)?;
@@ -113,9 +113,9 @@ impl JsonValue {
         self.at_in(alloc, key)
     }
 
-    /// The item of an array at an index, to be written. Past the end the array first gains one null, whatever the index, which is lent. A value that is no array
-    /// first becomes one of a null for index 0, and else of two, the last of which is lent. Refused by `OutOfMemory` alone, and then the value means what it
-    /// meant; an index in range of an array takes no memory. A caller's proof that needs the write calls `lent::write_at_index` instead.
+    /// The element of an array at an index. Past the end the array first gains one null, whatever the index, and that null is returned. A value that isn't an array
+    /// first becomes one of a null for index 0, and of two for any other index, and the last null is returned. Fails only with `OutOfMemory`, and then the value
+    /// means what it meant; an index in range of an array needs no allocation. A caller's proof that needs the write calls `lent::write_at_index` instead.
     pub fn at_index_mut(&mut self, alloc: Global, index: usize) -> Result<&mut JsonValue>
         ensures* writes_back { sem 𝓛 (LendsSoOk the_row the_row self.entry result
             (λ n w. items_in n ≡ Some (slice_set (items_with_place self.old index) (place_made self.old index) w))

@@ -33,7 +33,7 @@ pub trait Generator {
     // The bytes written so far, the open indents, the faults so far, the style, and the reference that is written through, if there is one.
     ghost meaning: { Self → Emitted };
 
-    // The generator with this writer in the place of its own.
+    // The generator with this writer instead of its own.
     ghost with_writer: { Self → Self.T → Self };
 
     /// Lends the writer. Its bytes are the bytes written, before and after.

@@ -13,7 +13,7 @@ use crate::object::Object;
 use std::alloc::AllocError;
 use std::io::Write;
 
-/// The spaces that are written at once.
+/// The most spaces that one write has.
 const BLANKS: [u8; 512] = [b' '; 512];
 
 /// The newline, and the spaces that are written with it.
@@ -43,7 +43,7 @@ pub trait Layout {
     // Whether `order` always returns `None`.
     ghost keeps_order: { Self → Bool } = { λ _. false };
 
-    /// The number of spaces for each open indent, where each item has a line of its own and a space follows each colon; `None` for no whitespace at all.
+    /// The number of spaces for each open indent, where each element and entry has its own line and a space follows each colon; `None` for no whitespace at all.
     fn spaces(&self) -> Option<u16>
         ensures { LaysOut (style self.now) result };
 
@@ -97,7 +97,7 @@ impl Layout for Compact {
     ghost style_law = { λ _. IsStyle-compact };
 }
 
-/// A line for each item: a newline and this number of spaces for each open indent, and a space after each colon. Entries are written in the order of insertion.
+/// A line for each element and entry: a newline and this number of spaces for each open indent, and a space after each colon. Entries are written in the order of insertion.
 #[derive(Clone, Copy, Debug)]
 pub struct Pretty(pub u16);
 

@@ -33,7 +33,7 @@ pub trait Outlet {
 
     ghost lender: { Self → Option GName };
 
-    // The outlet with this writer in the place of its own.
+    // The outlet with this writer instead of its own.
     ghost with_writer: { Self → Self.T → Self };
 
     /// Lends the writer.
@@ -304,7 +304,7 @@ impl<L: Layout + Drop> TextGenerator<Memory, L> {
         String::from_utf8(self.outlet.bytes).map_err(|_| Error::FailedUtf8Parsing)
     }
 
-    /// The same of bytes that are UTF-8, without a test.
+    /// The bytes that were written, which are UTF-8, as a string. They aren't tested again.
     pub(crate) fn into_text(self) -> String
         requires { IsUtf8 self.outlet.bytes.items }
         ensures { string_bytes result ≡ self.outlet.bytes.items }

@@ -1,4 +1,4 @@
-//! What is lent out of a tree whose own type and whose nodes' type are two parameters. Of such a `&mut` the checker proves what is written back through it; of one
+//! Mutable references into a tree whose own type and whose nodes' type are two parameters. Of such a `&mut` the checker proves what is written back through it; of one
 //! from a type to itself it makes no proof (docs/DECISIONS.md, "What is written back through a lent value of the same type").
 
 ghost use Rattle.std.specs.Prelude.{◌≡◌, ◌≤◌, ◌<◌, List, ℕ, [], length, slice_get, slice_set, IfOk, IfSome, OnOk};
@@ -22,21 +22,21 @@ use jzon_base::error::{Error, Result};
 use jzon_base::pairs::Pairs;
 use std::alloc::Global;
 
-/// A value that may be an object or an array of nodes, as a `JsonValue` is of values. `get_in`, `at_in` and `at_index_in` lend its nodes to be written.
+/// A value that may be an object or an array of nodes, as a `JsonValue` is of values. `get_in`, `at_in` and `at_index_in` return mutable references to its nodes.
 pub trait Tree {
     type Node;
 
     // The null node.
     ghost null: { Self.Node };
 
-    // The pairs of an object, no pair of another value; and the object of some pairs.
+    // The entries of an object, none of another value; and the object of some entries.
     ghost pairs: { Self → List (List ℕ × Self.Node) };
 
     ghost object: { List (List ℕ × Self.Node) → Self };
 
     ghost pairs_of_object: { (ps : List (List ℕ × Self.Node)) → pairs (object ps) ≡ ps };
 
-    // The items of an array; and the array of some items.
+    // The elements of an array; and the array of some elements.
     ghost items: { Self → Option (List Self.Node) };
 
     ghost array: { Vec Self.Node → Self };
@@ -46,40 +46,40 @@ pub trait Tree {
     // What the value means.
     ghost meaning: { Self → Value };
 
-    /// The pairs of an object, to be written.
+    /// The entries of an object.
     fn pairs_mut(&mut self) -> Option<&mut Pairs<Self::Node>>
         ensures* writes_back { sem 𝓛 (LendsIf Self.row (pairs_row Self.Node.row) self.entry result object self.old) }
         ensures value { MatchOption result (pairs self.old ≡ [])
             (λ lent. (lent.now ≡ pairs self.old) × (object (pairs self.old) ≡ self.old)) };
 
-    /// Makes the value an object that has the key: what is no object becomes one without pairs, and then a missing key is put last, with null. Refused by
-    /// `OutOfMemory` alone, and then nothing has changed.
+    /// Makes the value an object that has the key: what isn't an object becomes an empty one, and then a missing key is put last, with null. Fails only with
+    /// `OutOfMemory`, and then nothing has changed.
     fn make_key(&mut self, alloc: Global, key: &str) -> Result<()>
         ensures ok { OnOk result (self.new ≡ object (with_default key.now null (pairs self.old))) }
         ensures err { OnErr result (self.new ≡ self.old) }
         ensures present { OnErr result (find key.now (pairs self.old) ≡ None) }
         ensures memory { IsOkUnless result Error.OutOfMemory };
 
-    /// The pairs of a value that is an object, to be written.
+    /// The entries of a value that is an object.
     fn object_pairs(&mut self) -> &mut Pairs<Self::Node>
         requires { object (pairs self.old) ≡ self.old }
         ensures* writes_back { sem 𝓛 (Lends Self.row (pairs_row Self.Node.row) self.entry result object) }
         ensures value { result.now ≡ pairs self.old };
 
-    /// Makes the value an array that has a place for the index. Refused by `OutOfMemory` alone, and then the value means what it meant.
+    /// Makes the value an array that has an element for the index. Fails only with `OutOfMemory`, and then the value means what it meant.
     fn make_place(&mut self, alloc: Global, index: usize) -> Result<()>
         ensures ok { OnOk result (items self.new ≡ Some (with_place null (items self.old) index)) }
         ensures err { OnErr result (meaning self.new ≡ meaning self.old) }
         ensures present { OnErr result (IfSome (items self.old) (λ xs. length xs ≤ index)) }
         ensures memory { IsOkUnless result Error.OutOfMemory };
 
-    /// The items of a value that is an array, to be written.
+    /// The elements of a value that is an array.
     fn array_items(&mut self) -> &mut Vec<Self::Node>
         requires { IsSome (items self.old) }
         ensures* writes_back { sem 𝓛 (Lends Self.row (vec_row Self.Node.row) self.entry result array) }
         ensures value { Some result.now.items ≡ items self.old };
 
-    /// The node of an object's key, to be written: nothing else changes.
+    /// The node of an object's key. A write through it changes nothing else.
     final fn get_in(&mut self, key: &str) -> Option<&mut Self::Node>
         ensures* writes_back { sem 𝓛 (LendsIf Self.row Self.Node.row self.entry result
             (λ w. object (put key.now w (pairs self.old))) self.old) }
@@ -89,7 +89,8 @@ pub trait Tree {
         pairs.get_mut(key)
     }
 
-    /// The node of an object's key, to be written, once the key is made: nothing else changes. Refused by `OutOfMemory` alone, and then nothing has changed.
+    /// The node of an object's key, which is added if it is missing. A write through it changes nothing else. Fails only with `OutOfMemory`, and then nothing has
+    /// changed.
     final fn at_in(&mut self, alloc: Global, key: &str) -> Result<&mut Self::Node>
         ensures* writes_back { sem 𝓛 (LendsIfOk Self.row Self.Node.row self.entry result
             (λ w. object (put key.now w (pairs self.old))) self.old) }
@@ -103,7 +104,7 @@ pub trait Tree {
         Ok(pairs.member_mut(key))
     }
 
-    /// The item of an array at an index, to be written, once its place is made. Refused by `OutOfMemory` alone, and then the value means what it meant.
+    /// The element of an array for an index, which is added if it is missing. Fails only with `OutOfMemory`, and then the value means what it meant.
     final fn at_index_in(&mut self, alloc: Global, index: usize) -> Result<&mut Self::Node>
         ensures* writes_back { sem 𝓛 (LendsSoOk Self.row Self.Node.row self.entry result
             (λ n w. items n ≡ Some (slice_set (with_place null (items self.old) index)
@@ -179,7 +180,7 @@ impl Tree for JsonValue {
     }
 }
 
-/// Adds one null where the index is past the end. Refused by `OutOfMemory` alone.
+/// Adds one null if the index is past the end. Fails only with `OutOfMemory`.
 fn add_place(items: &mut Vec<JsonValue>, index: usize) -> Result<()>
     ensures ok { OnOk result (items.new.items ≡ with_place null_value (Some items.old.items) index) }
     ensures err { OnErr result (items.new.items ≡ items.old.items) }
@@ -193,7 +194,7 @@ fn add_place(items: &mut Vec<JsonValue>, index: usize) -> Result<()>
     Ok(())
 }
 
-/// One null for index 0, and else two. Refused by `OutOfMemory` alone.
+/// One null for index 0, and two for any other. Fails only with `OutOfMemory`.
 fn new_items(alloc: Global, index: usize) -> Result<Vec<JsonValue>>
     ensures items { IfOk result (λ items. items.items ≡ with_place null_value None index) }
     ensures memory { IsOkUnless result Error.OutOfMemory }

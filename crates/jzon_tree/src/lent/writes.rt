@@ -13,7 +13,7 @@ use crate::value::JsonValue;
 use jzon_base::error::{Error, Result};
 use std::alloc::Global;
 
-/// Writes the value of an object's key, and tells whether the key is there. Without it nothing changes.
+/// Writes the value of an object's key, and returns whether the key is there. If it isn't, nothing changes.
 #[tactic(auto, using(crate::proofs::WrittenViews::written))]
 pub fn write_present(value: &mut JsonValue, key: &str, item: JsonValue) -> bool
     ensures found { result ≡ is_some (find key.now (entries (view value.old))) }
@@ -24,7 +24,8 @@ pub fn write_present(value: &mut JsonValue, key: &str, item: JsonValue) -> bool
     write_present_in(value, key, item)
 }
 
-/// Writes the value of an object's key, as `at_mut` lends it. Refused by `OutOfMemory` alone, and then nothing has changed; a key that is there takes no memory.
+/// Writes the value of an object's key, which is the value that `at_mut` returns. Fails only with `OutOfMemory`, and then nothing has changed; a key that is there
+/// needs no allocation.
 #[tactic(auto, using(crate::proofs::WrittenViews::written))]
 pub fn write_at(value: &mut JsonValue, alloc: Global, key: &str, item: JsonValue) -> Result<()>
     ensures ok { OnOk result (view value.new ≡
@@ -36,8 +37,8 @@ pub fn write_at(value: &mut JsonValue, alloc: Global, key: &str, item: JsonValue
     write_at_in(value, alloc, key, item)
 }
 
-/// Writes the item of an array at an index, as `at_index_mut` lends it. Refused by `OutOfMemory` alone, and then the value means what it meant; an index in range
-/// of an array takes no memory.
+/// Writes the element of an array for an index, which is the element that `at_index_mut` returns. Fails only with `OutOfMemory`, and then the value means what it
+/// meant; an index in range of an array needs no allocation.
 #[tactic(auto, using(crate::proofs::WrittenViews::written))]
 pub fn write_at_index(
     value: &mut JsonValue,

@@ -13,7 +13,7 @@ impl Object {
     ghost use Rattle.jzon_tree.specs.contracts.value.JsonValue.{the_row as value_row};
     ghost use Rattle.jzon_tree.specs.Entries.{entries_of, with_entries};
 
-    /// The member at a position, counted from 0 in the order of the members: its key's text and its value.
+    /// The member at a position, counted from 0 in the order of the members: its key and its value.
     pub fn get_index(&self, index: usize) -> Option<(&str, &JsonValue)>
         ensures { option_map (λ p. (p.0.now, p.1.now)) result ≡ slice_get (entries_of self.now) index }
     {
@@ -24,7 +24,7 @@ impl Object {
         }
     }
 
-    /// The value of the member at a position, counted from 0 in the order of the members, to be written. Nothing else changes.
+    /// The value of the member at a position, counted from 0 in the order of the members. A write through it changes nothing else.
     pub fn get_index_mut(&mut self, index: usize) -> Option<&mut JsonValue>
         ensures* writes_back { sem 𝓛 (LendsIf the_row value_row self.entry result
             (λ w. with_entries (set_value (entries_of self.old) index w)) self.old) }

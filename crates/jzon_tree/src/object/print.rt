@@ -15,7 +15,7 @@ use jzon_base::error::{Error, Result};
 use std::alloc::Global;
 
 impl Object {
-    /// The compact text of the object, with no whitespace outside of its strings. Fails as that of a value.
+    /// The compact text of the object, with no whitespace outside of its strings. Fails as `JsonValue::dump`.
     pub fn dump(&self, alloc: Global) -> Result<String>
         ensures text { IfOk result (λ text. string_bytes text ≡ compact (view_object self.now)) }
         ensures writing { IfOk result (λ text. Writes compact_style 0 (view_object self.now) (string_bytes text)) }
@@ -30,7 +30,7 @@ impl Object {
         }
     }
 
-    /// The text of the object with a line for each entry, as that of a value. Fails as `dump`.
+    /// The text of the object with a line for each member, as by `JsonValue::pretty`. Fails as `dump`.
     pub fn pretty(&self, alloc: Global, spaces: u16) -> Result<String>
         ensures text { IfOk result (λ text. string_bytes text ≡ pretty (view_object self.now) spaces 0) }
         ensures writing { IfOk result

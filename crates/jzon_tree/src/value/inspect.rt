@@ -1,5 +1,5 @@
-//! Goes over all parts of a value. What a part is by its type (a number in range, a string of UTF-8, distinct keys) is known where the part is read; after the walk it
-//! is known of all of them.
+//! Goes over all parts of a value. The type of each part promises something (a number in range, a string of UTF-8, distinct keys), and the proof learns it where the
+//! part is read; after the walk it is known of all parts.
 
 ghost use Rattle.std.specs.Prelude.{◌≡◌, ◌<◌, ◌≤◌, ◌^◌, ◌∷◌, ◌++◌, ◌↔◌, [], List, IsTrue};
 ghost use Rattle.jzon_tree.specs.Inspected.{IsInspected};
@@ -17,7 +17,7 @@ use jzon_base::number::Number;
 pub(crate) struct Inspection {
     /// Whether a number in it is NaN.
     has_nan: bool,
-    /// How many containers that are not empty nest, or the greatest u128 where more do.
+    /// How many non-empty containers nest, saturating at `u128::MAX`.
     nest: u128,
 }
 
@@ -28,7 +28,7 @@ impl Inspection {
         nest: 0,
     };
 
-    /// What is found in a container with one more item.
+    /// What is found in a container with one more element or entry.
     fn with(self, item: Inspection) -> Inspection
         ensures { (vs : List Value) (v : Value) → IsInspected (array (values_of vs)) self.has_nan self.nest
             → IsInspected v item.has_nan item.nest
@@ -55,7 +55,7 @@ impl Inspection {
     }
 }
 
-/// Whether no number in the value is NaN, and at most `depth` containers that are not empty nest in it. Allocates nothing.
+/// Whether no number in the value is NaN, and at most `depth` non-empty containers nest in it. Allocates nothing.
 pub fn is_readable(value: &JsonValue, depth: u16) -> bool
     ensures value { IsValue (view value.now) }
     ensures readable { IsTrue result ↔ (HasNoNan (view value.now) × (nest (view value.now) ≤ depth)) }
@@ -64,7 +64,7 @@ pub fn is_readable(value: &JsonValue, depth: u16) -> bool
     !found.has_nan && found.nest <= u128::from(depth)
 }
 
-/// Looks at all parts of the value.
+/// Inspects all parts of the value.
 #[cycle(inspect)]
 #[tactic(auto, using(crate::proofs::Views::views))]
 pub(crate) fn inspect(value: &JsonValue) -> Inspection
@@ -92,7 +92,7 @@ pub(crate) fn inspect(value: &JsonValue) -> Inspection
     }
 }
 
-/// Looks at the pairs of the object and all parts of their values.
+/// Inspects the entries of the object and all parts of their values.
 #[cycle(inspect)]
 pub(crate) fn inspect_object(object: &Object) -> Inspection
     ensures { IsInspected (view_object object.now) result.has_nan result.nest }
