@@ -1,9 +1,10 @@
 -- The grammar of RFC 8259 as trees: a tree has each part of a text, including whitespace. A text is a list of
 -- characters.
 use Rattle.std.specs.Prelude.{◌≡◌, ℕ, zero, suc, ◌+◌, ◌*◌, List, [], ◌∷◌, Bool, false, not, ◌&&◌, ◌||◌, ◌==◌, nat_le}
-use Rattle.std.specs.Prelude.{nat_lt, Option, Some, None, codes, IsTrue, ⊤}
+use Rattle.std.specs.Prelude.{nat_lt, Option, Some, None, IsTrue, ⊤}
 use Rattle.std.specs.Char.{is_ascii_digit, is_ascii_hexdigit, digit_value}
-use Rattle.std.specs.List.{list_any, fold}
+use Rattle.std.specs.List.{fold}
+pub use Rattle.jzon_base.specs.Escapes.{is_simple}
 use Rattle.jzon_base.specs.Tokens.{escape, quotation_mark, zero_digit}
 use lib.Utf8.{scalar}
 use Rattle.jzon_tree.specs.Writing.{is_whitespace}
@@ -131,10 +132,6 @@ is_surrogate u = nat_le 0xD800 u && nat_lt u 0xE000
 -- the characters that need no escape: from U+0020 on, except the quote and the backslash
 abbrev pub is_unescaped : ℕ → Bool
 is_unescaped c = (scalar c && nat_le 32 c) && not (c == quotation_mark || c == escape)
-
--- the letters of the simple escapes
-abbrev pub is_simple : ℕ → Bool
-is_simple c = list_any (λ l. l == c) (codes "\"\\/bfnrt")
 
 abbrev pub IsItem : Item → Type 0
 IsItem (plain c) = IsTrue (is_unescaped c)

@@ -18,6 +18,7 @@ pub use Rattle.jzon_base.specs.DigitLimits
 pub use Rattle.jzon_base.specs.Digits
 pub use Rattle.jzon_base.specs.ErrorPlace
 pub use Rattle.jzon_base.specs.ErrorText
+pub use Rattle.jzon_base.specs.Escapes
 pub use Rattle.jzon_base.specs.IterMut
 pub use Rattle.jzon_base.specs.Key
 pub use Rattle.jzon_base.specs.NumberText

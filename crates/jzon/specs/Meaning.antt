@@ -1,8 +1,9 @@
 -- What a tree means: a value (docs/RULES.md, "Texts").
-use Rattle.std.specs.Prelude.{ℕ, ◌+◌, ◌-◌, ◌*◌, List, [], ◌∷◌, ◌++◌, Bool, not, ◌&&◌, ◌==◌, if◌then◌else◌, Option, Some}
+use Rattle.std.specs.Prelude.{ℕ, ◌+◌, ◌-◌, ◌*◌, List, [], ◌∷◌, ◌++◌, Bool, not, ◌&&◌, if◌then◌else◌, Option, Some}
 use Rattle.std.specs.Prelude.{None, ℤ, pos, neg_ℤ, encode_utf8_all}
 use Rattle.jzon_base.specs.Decimal.{Decimal}
 use Rattle.jzon_base.specs.Digits.{digits_number, read_number}
+pub use Rattle.jzon_base.specs.Escapes.{unescaped}
 use Rattle.jzon_base.specs.PairList.{put_each}
 use Rattle.jzon_tree.specs.Value.{Value, null, boolean, text, number, array, object, no_values, Values, value, no_pairs}
 use Rattle.jzon_tree.specs.Value.{pairs_of, kind_of}
@@ -25,11 +26,6 @@ abbrev pub number_of : Numeral → Decimal
 number_of n = read_number (not n.negative) n.whole n.fraction (written_exponent n.exponent)
 
 -- ---- strings
-
--- the character that a backslash and this letter mean (RFC 8259, section 7)
-abbrev pub unescaped : ℕ → ℕ
-unescaped l = if l == 98 then 8 else (if l == 102 then 12 else
-    (if l == 110 then 10 else (if l == 114 then 13 else (if l == 116 then 9 else l))))
 
 -- the character of a surrogate pair
 abbrev pub pair_char : ℕ → ℕ → ℕ

@@ -21,7 +21,7 @@ use crate::fault::fault_at;
 use crate::peek::has_byte;
 use jzon_base::error::{Error, Result};
 use jzon_base::short::{MAX_LEN, Short};
-use jzon_base::util::hex::hex_value;
+use jzon_base::util::escapes::{hex_value, meant_by};
 use jzon_base::util::plain::plain_len;
 use jzon_tree::value::JsonValue;
 use std::alloc::Global;
@@ -183,40 +183,6 @@ fn read_escape(source: &str, start: usize) -> Result<(char, usize)>
     match simple_escape(source, start) {
         Some(ch) => Ok((ch, start + 1)),
         None => Err(fault_at(source, start)),
-    }
-}
-
-/// The byte that a backslash means before each letter that it may stand before, and 0 for all others.
-#[rattlefmt::skip]
-static MEANT: [u8; 256] = [
-    0, 0, 0, 0, 0, 0, 0, 0, 0, 0, 0, 0, 0, 0, 0, 0,
-    0, 0, 0, 0, 0, 0, 0, 0, 0, 0, 0, 0, 0, 0, 0, 0,
-    0, 0, b'"', 0, 0, 0, 0, 0, 0, 0, 0, 0, 0, 0, 0, b'/',
-    0, 0, 0, 0, 0, 0, 0, 0, 0, 0, 0, 0, 0, 0, 0, 0,
-    0, 0, 0, 0, 0, 0, 0, 0, 0, 0, 0, 0, 0, 0, 0, 0,
-    0, 0, 0, 0, 0, 0, 0, 0, 0, 0, 0, 0, b'\\', 0, 0, 0,
-    0, 0, 8, 0, 0, 0, 12, 0, 0, 0, 0, 0, 0, 0, 10, 0,
-    0, 0, 13, 0, 9, 0, 0, 0, 0, 0, 0, 0, 0, 0, 0, 0,
-    0, 0, 0, 0, 0, 0, 0, 0, 0, 0, 0, 0, 0, 0, 0, 0,
-    0, 0, 0, 0, 0, 0, 0, 0, 0, 0, 0, 0, 0, 0, 0, 0,
-    0, 0, 0, 0, 0, 0, 0, 0, 0, 0, 0, 0, 0, 0, 0, 0,
-    0, 0, 0, 0, 0, 0, 0, 0, 0, 0, 0, 0, 0, 0, 0, 0,
-    0, 0, 0, 0, 0, 0, 0, 0, 0, 0, 0, 0, 0, 0, 0, 0,
-    0, 0, 0, 0, 0, 0, 0, 0, 0, 0, 0, 0, 0, 0, 0, 0,
-    0, 0, 0, 0, 0, 0, 0, 0, 0, 0, 0, 0, 0, 0, 0, 0,
-    0, 0, 0, 0, 0, 0, 0, 0, 0, 0, 0, 0, 0, 0, 0, 0,
-];
-
-/// The character that a backslash means before this letter.
-#[inline(always)]
-fn meant_by(letter: u8) -> Option<char>
-    ensures { SomeIff result (IsTrue (is_simple letter)) (unescaped letter) }
-{
-    let meant = MEANT[letter as usize];
-    if meant == 0 {
-        None
-    } else {
-        Some(char::from(meant))
     }
 }
 

@@ -1,5 +1,5 @@
-//! What the other modules share: the write loop, the text of a number, hexadecimal digits, runs of plain bytes, and
-//! vectors without spare capacity.
+//! What the other modules share: the write loop, the text of a number, escapes, runs of plain bytes, and vectors without
+//! spare capacity.
 
 ghost use Rattle.std.specs.Prelude.{OnOk, OnErr};
 ghost use Rattle.std.specs.Io.KnownBytes.{Appends};
@@ -8,8 +8,8 @@ ghost use Rattle.jzon_base.specs.Written.{AppendsBeginning};
 use std::io;
 use std::io::Write;
 
+pub mod escapes;
 pub mod fit;
-pub mod hex;
 pub mod plain;
 pub mod print_dec;
 

@@ -6,13 +6,13 @@ mod digits;
 #[cfg(test)]
 mod error;
 #[cfg(test)]
+mod escapes;
+#[cfg(test)]
 mod fixed_point;
 #[cfg(test)]
 mod from_integer;
 #[cfg(test)]
 mod hash;
-#[cfg(test)]
-mod hex;
 #[cfg(test)]
 mod key;
 #[cfg(test)]

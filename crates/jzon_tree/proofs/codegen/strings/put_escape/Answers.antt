@@ -1,9 +1,8 @@
-use Rattle.std.proofs.Common.{◌∷◌, [], ap, sym, ◌∙◌, arith}
-use Rattle.jzon_tree.proofs.Escapes.{letter_at, short_escape}
+use Rattle.std.proofs.Common.{◌∷◌, [], ap, sym, ◌∙◌}
+use Rattle.jzon_tree.proofs.Escapes.{short_escape}
 use Rattle.jzon_tree.proofs.codegen.strings.put_escape.Goals as goal
 
-pub returns-then-letter-ne0-clause-text : goal.returns-then-letter-ne0-clause-text
-returns-then-letter-ne0-clause-text c =
-    let e = letter_at c.args.byte (omega arith) in
-    let s = short_escape c.args.byte (λ none. c.if-letter-ne0.true (e ∙ none)) in
-    ap (λ l. 92 ∷ l ∷ []) e ∙ sym s
+pub returns-in-Some-clause-text : goal.returns-in-Some-clause-text
+returns-in-Some-clause-text c =
+    let l = c.in-Some.ensures.letter in
+    ap (λ l. 92 ∷ l ∷ []) l.1 ∙ sym (short_escape c.args.byte l.0)

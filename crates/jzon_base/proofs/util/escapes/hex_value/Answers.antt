@@ -3,8 +3,8 @@ use Rattle.std.proofs.lemmas.Bool.Decides.{nat_tests}
 use Rattle.std.specs.Char.{digit_value, is_ascii_hexdigit}
 use Rattle.std.specs.List.{range_with_len}
 use Rattle.jzon_base.proofs.ByteTables.{table_at, marked, unmarked}
-use Rattle.jzon_base.specs.declared.util.hex.TheConstants.{VALUES}
-use Rattle.jzon_base.proofs.util.hex.hex_value.Goals as goal
+use Rattle.jzon_base.specs.declared.util.escapes.TheConstants.{VALUES}
+use Rattle.jzon_base.proofs.util.escapes.hex_value.Goals as goal
 
 -- a digit's value, and 255 for any other byte
 abbrev mark : ℕ → ℕ

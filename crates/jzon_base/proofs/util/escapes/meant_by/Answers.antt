@@ -1,10 +1,9 @@
 use Rattle.std.proofs.Common.{◌≡◌, ℕ, zero, suc, ◌<◌, Bool, true, false, cond, map, refl, sym, ◌∙◌, arith}
 use Rattle.std.specs.List.{range_with_len}
 use Rattle.jzon_base.proofs.ByteTables.{table_at, marked, unmarked}
-use Rattle.jzon.specs.Grammar.{is_simple}
-use Rattle.jzon.specs.Meaning.{unescaped}
-use Rattle.jzon.specs.declared.string.TheConstants.{MEANT}
-use Rattle.jzon.proofs.string.meant_by.Goals as goal
+use Rattle.jzon_base.specs.Escapes.{is_simple, unescaped}
+use Rattle.jzon_base.specs.declared.util.escapes.TheConstants.{MEANT}
+use Rattle.jzon_base.proofs.util.escapes.meant_by.Goals as goal
 
 -- what a letter of a simple escape means, and 0 for any other byte
 abbrev mark : ℕ → ℕ
