@@ -1,11 +1,12 @@
 -- Runs of plain bytes in a string.
 use Rattle.std.proofs.Common.{◌≡◌, ℕ, zero, suc, ◌+◌, ◌≤◌, ◌<◌, Bool, true, false, cond, List, [], ◌∷◌, ◌++◌, length}
-use Rattle.std.proofs.Common.{get_or, take, drop, refl, ap, ◌∙◌, arith}
+use Rattle.std.proofs.Common.{get_or, take, drop, refl, sym, ap, ◌∙◌, append_assoc, append-nil, arith}
+use Rattle.std.proofs.lemmas.List.{take_all, drop_all}
 use Rattle.std.specs.List.{prefix_len}
 use Rattle.std.proofs.lemmas.Bool.Decides.{nat_tests}
 use Rattle.std.proofs.lemmas.List.Sums.{prefix_len_stops}
 use Rattle.jzon_base.specs.PlainBytes.{is_plain}
-use Rattle.jzon_tree.specs.Text.{escaped, escaped_byte}
+use Rattle.jzon_tree.specs.Text.{escaped, escaped_byte, quoted}
 
 pub escaped_byte-plain : (c : ℕ) → is_plain c ≡ true → escaped_byte c ≡ c ∷ []
 escaped_byte-plain c h = grind (arith, nat_tests)
@@ -23,6 +24,18 @@ pub escaped-run : (bs : List ℕ) (n : ℕ) → n ≤ prefix_len is_plain bs →
 escaped-run bs zero h = refl
 escaped-run [] (suc n) h = absurd (omega arith)
 escaped-run (c ∷ cs) (suc n) h = escaped-run-at (is_plain c) c cs n refl h (λ g. escaped-run cs n g)
+
+-- a string of plain bytes is written as it is
+pub escaped-plain : (bs : List ℕ) → length bs ≤ prefix_len is_plain bs → escaped bs ≡ bs
+escaped-plain bs h = escaped-run bs (length bs) h
+    ∙ ap (λ (xs : List ℕ). xs ++ escaped (drop (length bs) bs)) (take_all (length bs) bs (omega arith))
+    ∙ ap (λ (xs : List ℕ). bs ++ escaped xs) (drop_all (length bs) bs (omega arith)) ∙ append-nil bs
+
+-- the same with its quotes, after other bytes
+pub quoted-plain : (xs bs : List ℕ) → length bs ≤ prefix_len is_plain bs
+    → ((xs ++ 34 ∷ []) ++ bs) ++ 34 ∷ [] ≡ xs ++ quoted bs
+quoted-plain xs bs h = append_assoc (xs ++ 34 ∷ []) bs (34 ∷ []) ∙ append_assoc xs (34 ∷ []) (bs ++ 34 ∷ [])
+    ∙ ap (λ (w : List ℕ). xs ++ 34 ∷ (w ++ 34 ∷ [])) (sym (escaped-plain bs h))
 
 -- the byte after a run needs an escape
 pub escape_stands : (bs : List ℕ) (n : ℕ) → n ≡ prefix_len is_plain bs → n < length bs

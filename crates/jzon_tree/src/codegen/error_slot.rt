@@ -51,6 +51,15 @@ pub(super) fn take_error(slot: ErrorSlot) -> io::Error {
     }
 }
 
+/// Stores that an allocation failed.
+#[cold]
+pub(super) fn out_of_memory(slot: &mut ErrorSlot) -> SlotResult<()>
+    ensures { IsErr result }
+{
+    *slot = Some(io::Error::from(ErrorKind::OutOfMemory));
+    Err(Failed)
+}
+
 /// Writes the bytes, of which a prefix is written where the writer fails. Most writers take them all at once.
 #[inline(always)]
 #[tactic(auto, using(crate::proofs::Sent::sent))]

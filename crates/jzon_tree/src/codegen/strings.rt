@@ -1,13 +1,15 @@
 //! Strings and their escapes (docs/RULES.md, "Printed values").
 
-ghost use Rattle.std.specs.Prelude.{◌≡◌, ◌≤◌, ◌++◌, ◌∷◌, [], false, length, take, drop};
+ghost use Rattle.std.specs.Prelude.{◌≡◌, ◌≤◌, ◌++◌, ◌∷◌, [], false, length, take, drop, OnOk, OnErr};
+ghost use Rattle.std.specs.List.{prefix_len};
 ghost use Rattle.jzon_base.specs.PlainBytes.{is_plain};
 ghost use Rattle.jzon_tree.specs.Generator.{Sends, Just};
-ghost use Rattle.jzon_tree.specs.Text.{escaped, escaped_byte};
+ghost use Rattle.jzon_tree.specs.Text.{escaped, escaped_byte, quoted};
 
 use crate::codegen::error_slot::{ErrorSlot, SlotResult, send};
 use jzon_base::util::escapes::{hex_digit, letter_of};
 use jzon_base::util::plain::plain_len;
+use std::alloc::AllocError;
 use std::io::Write;
 
 /// The length of the longest escape.
@@ -50,6 +52,20 @@ pub(super) fn send_string<W: Write>(
         rest = others;
     }
     send(writer, b"\"", slot)
+}
+
+/// Adds a string that needs no escape in quotes, with one request for room. After an error nothing is added.
+#[inline(always)]
+pub(super) fn push_quoted(bytes: &mut Vec<u8>, string: &[u8]) -> Result<(), AllocError>
+    requires { length string.now ≤ prefix_len is_plain string.now }
+    ensures ok { OnOk result (bytes.new.items ≡ bytes.old.items ++ quoted string.now) }
+    ensures err { OnErr result (bytes.new.items ≡ bytes.old.items) }
+{
+    bytes.reserve(string.len() + 2)?;
+    bytes.push_reserved(b'"');
+    bytes.extend_from_slice(string)?;
+    bytes.push_reserved(b'"');
+    Ok(())
 }
 
 /// Writes the escape of a byte that needs one.

@@ -5,19 +5,21 @@ ghost use Rattle.std.specs.Prelude.{string_bytes};
 ghost use Rattle.std.specs.Borrow.{GName, sem, Lends};
 ghost use Rattle.jzon_base.specs.PairList.{keys_of};
 ghost use Rattle.jzon_tree.specs.Entries.{entries_of};
-ghost use Rattle.jzon_tree.specs.Generator.{Added, Failed, Counts, Just, IsAnswer};
+ghost use Rattle.jzon_tree.specs.Generator.{Added, Failed, Counts, Just, IsAnswer, Sends};
 ghost use Rattle.jzon_tree.specs.Generators.{text_meaning, with_writer_in, same_emitted, fresh, IsConsumed};
 ghost use Rattle.jzon_tree.specs.Generators.{bytes_in, with_bytes};
 ghost use Rattle.jzon_tree.specs.Styles.{compact_style, pretty_style};
+ghost use Rattle.jzon_tree.specs.Text.{quoted};
 
-use crate::codegen::error_slot::{ErrorSlot, SlotResult, send, take_result};
+use crate::codegen::error_slot::{ErrorSlot, SlotResult, out_of_memory, send, take_result};
 use crate::codegen::generator::Generator;
 use crate::codegen::layout::{Compact, Layout, Pretty, send_line};
 use crate::codegen::numbers::send_number;
-use crate::codegen::strings::{send_string, send_string_from};
+use crate::codegen::strings::{push_quoted, send_string, send_string_from};
 use crate::object::Object;
 use jzon_base::error::{Error, Result};
 use jzon_base::number::Number;
+use jzon_base::util::plain::plain_len;
 use std::alloc::Global;
 use std::io;
 use std::io::{ErrorKind, Write};
@@ -40,6 +42,14 @@ pub trait Outlet {
     fn writer(&mut self) -> &mut Self::T
         ensures* writes_back { sem 𝓛 (Lends Self.row Self.T.row self.entry result (with_writer self.old)) }
         ensures bytes { Self.T.contents result.now ≡ out self.old };
+
+    /// Writes the string in quotes, escaped.
+    fn send_quoted(&mut self, string: &[u8], slot: &mut ErrorSlot) -> SlotResult<()>
+        ensures bytes { Sends (Just (quoted string.now)) (out self.old) (out self.new) result }
+        ensures lender { lender self.new ≡ lender self.old }
+    {
+        send_string(self.writer(), b"\"", string, slot)
+    }
 
     // Another writer changes the bytes alone.
     ghost out_law: { (o : Self) (w : Self.T) → out (with_writer o w) ≡ Self.T.contents w };
@@ -64,6 +74,17 @@ impl Outlet for Memory {
 
     fn writer(&mut self) -> &mut Vec<u8> {
         &mut self.bytes
+    }
+
+    /// Room for a string that needs no escape is requested once.
+    fn send_quoted(&mut self, string: &[u8], slot: &mut ErrorSlot) -> SlotResult<()> {
+        if plain_len(string) < string.len() {
+            return send_string(&mut self.bytes, b"\"", string, slot);
+        }
+        match push_quoted(&mut self.bytes, string) {
+            Ok(()) => Ok(()),
+            Err(_) => out_of_memory(slot),
+        }
     }
 
     ghost out_law = { λ _ _. refl };
@@ -237,7 +258,7 @@ impl<O: Outlet, L: Layout> Generator for TextGenerator<O, L> {
     }
 
     fn try_write_string(&mut self, string: &str, slot: &mut ErrorSlot) -> SlotResult<()> {
-        let step = send_string(self.outlet.writer(), b"\"", string.as_bytes(), slot);
+        let step = self.outlet.send_quoted(string.as_bytes(), slot);
         self.count(step)
     }
 

@@ -1,0 +1,14 @@
+use Rattle.std.proofs.Common.{refl, ap}
+use Rattle.jzon_tree.specs.Generator.{Just}
+use Rattle.jzon_tree.specs.Generators.{text_meaning, same_emitted}
+use Rattle.jzon_tree.specs.Text.{quoted}
+use Rattle.jzon_tree.proofs.Emitting.{Emits-counted}
+use Rattle.jzon_tree.proofs.codegen.text_generator.TextGeneratorGenerator.try_write_string.Goals as goal
+
+pub returns : goal.returns
+returns g c =
+    let s = c.args.self.now in
+    Emits-counted (Just (quoted c.args.string.now)) (quoted c.as_bytes.result.now)
+    (text_meaning g.O.Outlet.out g.O.Outlet.lender g.L.Layout.style s) _ _ _ _ _ _ (ap quoted c.as_bytes.ensures.value) refl
+    c.send_quoted-step.ensures.bytes (same_emitted refl c.send_quoted-step.ensures.lender) c.count.ensures.same
+    c.count.ensures.faults
