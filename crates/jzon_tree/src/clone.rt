@@ -1,6 +1,6 @@
 //! Copies of values and of objects. They allocate, so each can fail with `OutOfMemory` only.
 
-ghost use Rattle.std.specs.Prelude.{◌≡◌, map, IfOk, IsOkUnless};
+ghost use Rattle.std.specs.Prelude.{◌≡◌, ◌+◌, ◌<◌, ◌++◌, ◌∷◌, [], map, true, false, IfOk, IsOkUnless, vec_len, vec_capacity};
 ghost use Rattle.jzon_tree.specs.View.{view, view_object};
 
 use crate::object::Object;
@@ -69,7 +69,40 @@ fn copy_items(alloc: Global, items: &[JsonValue]) -> Result<Vec<JsonValue>>
 {
     let mut copies = Vec::with_capacity(alloc, items.len())?;
     for item in items {
-        copies.push_reserved(copy_value(alloc, item)?);
+        if !push_inline(&mut copies, item) {
+            copies.push_reserved(copy_value(alloc, item)?);
+        }
     }
     Ok(copies)
+}
+
+/// Adds a copy of a value that is stored inline, and returns whether it is. Each arm writes its copy where it stays: through `copy_value` it would be moved there.
+#[inline(always)]
+#[tactic(auto, using(crate::proofs::Views::views))]
+fn push_inline(copies: &mut Vec<JsonValue>, value: &JsonValue) -> bool
+    requires { vec_len copies.old < vec_capacity copies.old }
+    ensures copy { result ≡ true → map view copies.new.items ≡ map view copies.old.items ++ view value.now ∷ [] }
+    ensures other { result ≡ false → copies.new ≡ copies.old }
+    ensures room { vec_capacity copies.new ≡ vec_capacity copies.old }
+    ensures len { result ≡ true → vec_len copies.new ≡ vec_len copies.old + 1 }
+{
+    match value {
+        JsonValue::Null => {
+            copies.push_reserved(JsonValue::Null);
+            true
+        }
+        JsonValue::Short(text) => {
+            copies.push_reserved(JsonValue::Short(text.clone()));
+            true
+        }
+        JsonValue::Number(number) => {
+            copies.push_reserved(JsonValue::Number(*number));
+            true
+        }
+        JsonValue::Boolean(truth) => {
+            copies.push_reserved(JsonValue::Boolean(*truth));
+            true
+        }
+        _ => false,
+    }
 }
