@@ -1,6 +1,6 @@
 -- A style with exactly one choice of each kind allows exactly one text for each value: the text in its layout.
 use Rattle.std.proofs.Common.{◌≡◌, ℕ, suc, ◌+◌, Bool, true, false, List, [], ◌∷◌, ◌++◌, refl, sym, ap, ◌∙◌, length}
-use Rattle.std.proofs.Common.{append_assoc, length-append, arith, map, take, Option, Some, None, subst, Result, Ok, Err}
+use Rattle.std.proofs.Common.{append_assoc, length-append, arith, map, Option, Some, None, subst, Result, Ok, Err}
 use Rattle.std.specs.Prelude.{IsTrue, OnOk, OnErr}
 use Rattle.std.specs.List.{range_with_len}
 use Rattle.std.specs.Str.{bytes_eq}

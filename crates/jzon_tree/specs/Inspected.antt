@@ -1,5 +1,5 @@
 -- What an inspection of a value found.
-use Rattle.std.specs.Prelude.{◌≡◌, ℕ, ◌-◌, ◌<◌, ◌≤◌, ◌^◌, ◌↔◌, Bool, false}
+use Rattle.std.specs.Prelude.{◌≡◌, ℕ, ◌-◌, ◌<◌, ◌≤◌, ◌^◌, Bool, false}
 use Rattle.jzon_tree.specs.Lawful.{IsValue, HasNoNan}
 use Rattle.jzon_tree.specs.Value.{Value, nest}
 
