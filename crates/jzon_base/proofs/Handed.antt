@@ -108,7 +108,7 @@ and_right : (a b : Bool) → (a && b) ≡ true → b ≡ true
 and_right true b e = e
 and_right false b e = absurd (false≢true e)
 
-length-numbered : (n : ℕ) (hs : List ℕ) → length (numbered n hs) ≡ length hs
+pub length-numbered : (n : ℕ) (hs : List ℕ) → length (numbered n hs) ≡ length hs
 unfolding numbered
 length-numbered n [] = refl
 length-numbered n (h ∷ hs) = ap suc (length-numbered (n + 1) hs)

@@ -31,3 +31,5 @@ pub mod FlatRuns
 pub mod Tables
 pub mod EightDigits
 pub mod LeadingDigits
+pub mod Retained
+pub mod Refilled

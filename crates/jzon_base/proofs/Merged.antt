@@ -71,14 +71,14 @@ module _ {X : Type 0} where
       ∙ drop_more ys n d m in
       (cc, cc)
 
-  swap_prefix : (xs : List X) (k n : ℕ) (d : X) → k ≤ n → n < length xs
+  pub swap_prefix : (xs : List X) (k n : ℕ) (d : X) → k ≤ n → n < length xs
       → take (k + 1) (swap xs k n) ≡ take k xs ++ get_or xs n d ∷ []
   swap_prefix xs k n d le l =
       ap (take (k + 1)) (sym (swap_is xs k n d (omega arith) l))
       ∙ ap (λ (m : ℕ). take m (set (set xs k (get_or xs n d)) n (get_or xs k d))) (add-one k)
       ∙ prefix xs k n (get_or xs n d) (get_or xs k d) le (λ f. ap (λ (m : ℕ). get_or xs m d) (sym f)) l
 
-  swap_back : (xs : List X) (k n : ℕ) (d : X) → k ≤ n → n < length xs → drop (n + 1) (swap xs k n) ≡ drop (n + 1) xs
+  pub swap_back : (xs : List X) (k n : ℕ) (d : X) → k ≤ n → n < length xs → drop (n + 1) (swap xs k n) ≡ drop (n + 1) xs
   swap_back xs k n d le l =
       ap (drop (n + 1)) (sym (swap_is xs k n d (omega arith) l))
       ∙ ap (λ (m : ℕ). drop m (set (set xs k (get_or xs n d)) n (get_or xs k d))) (add-one n)

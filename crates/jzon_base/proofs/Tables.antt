@@ -18,7 +18,7 @@ use Rattle.jzon_base.proofs.Indexes.{is_other, none_of, IsDistinct-missing, IsDi
 
 -- ---- hashes passed by the caller
 
-hashed_from-numbered : (n : ℕ) (ks : List (List ℕ)) → hashed_from n ks ≡ numbered n (map hash_of ks)
+pub hashed_from-numbered : (n : ℕ) (ks : List (List ℕ)) → hashed_from n ks ≡ numbered n (map hash_of ks)
 unfolding hashed_from numbered
 hashed_from-numbered n [] = refl
 hashed_from-numbered n (k ∷ ks) = ap (λ ps. (hash_of k, n) ∷ ps) (hashed_from-numbered (n + 1) ks)

@@ -1,7 +1,16 @@
-//! The keys of an object in the order in which they were put, and the place of each (docs/RULES.md, "Objects").
+//! The keys of an object in the order in which they were put, and the position of each (docs/RULES.md, "Objects").
+//!
+//! How a key is found, by what holds the keys:
+//! - `Table`, of an object: up to eight keys are compared one by one.
+//! - `Runs`, in a `Table` from the ninth key on: entries of hash and position in few sorted runs, each asked by binary search.
+//! - `Few`, in a builder after a merge that leaves at most 64 keys: slots by the hash, by which an entry of a repeated key finds its position.
+//! - `Marks`, in a builder that is asked for keys, from the tenth on: a filter that rejects nearly every new key.
+//! - `Known`, in such a builder, for a key that `Marks` doesn't reject: runs sorted by hash and text.
+//! - `Notes` has the last three of one builder, in a box that small objects never need.
 ghost use Rattle.std.specs.Prelude.{◌≡◌, ◌<◌, ◌++◌, ◌∷◌, ◌==◌, [], length, remove, slice_get, IfOk, OnOk, OnErr};
 ghost use Rattle.std.specs.Prelude.{MatchOption, None, Some, false, true};
 ghost use Rattle.std.specs.List.{position, zip, IsDistinct};
+ghost use Rattle.std.specs.Map.Calls.{CalledAtPair, CallableOnEachPair, RetainsPairs, TakesPair};
 ghost use Rattle.std.specs.Str.{bytes_eq};
 ghost use Rattle.jzon_base.specs.PairList.{put_each};
 
@@ -50,7 +59,7 @@ impl Keys {
         Keys { alloc, table: None }
     }
 
-    /// The keys of a table. The error is a refused growth.
+    /// The keys of a table. The error is a failed allocation.
     fn boxed(alloc: Global, table: Table) -> Result<Keys, AllocError>
         ensures { IfOk result (λ k. k ≡ table) }
     {
@@ -70,8 +79,8 @@ impl Keys {
         Keys::boxed(alloc, Table::with_capacity(alloc, capacity)?)
     }
 
-    /// The keys of entries: those of equal keys become one, with the last value in the place of the first. Where no key repeats, the keys are taken over as they are.
-    /// The error is a refused growth, and then what is in `values` has no meaning.
+    /// The keys of entries: those of equal keys become one, with the last value at the position of the first. Where no key repeats, the keys are taken over as they are.
+    /// The error is a failed allocation, and then what is in `values` is unspecified.
     pub fn from_entries<V: Drop>(
         alloc: Global,
         keys: Vec<Key>,
@@ -106,7 +115,7 @@ impl Keys {
         self.len() == 0
     }
 
-    /// The place of a key.
+    /// The position of a key.
     pub fn position(&self, name: &str) -> Option<usize>
         ensures { result ≡ position (λ k. bytes_eq k name.now) self.now }
     {
@@ -116,7 +125,7 @@ impl Keys {
         }
     }
 
-    /// The key at a place.
+    /// The key at a position.
     pub fn get(&self, index: usize) -> &str
         requires { index < length self.now }
         ensures { slice_get self.now index ≡ Some result.now }
@@ -127,7 +136,7 @@ impl Keys {
         }
     }
 
-    /// Puts a key that is not there, last. The error is a refused growth.
+    /// Puts a key that is not there, last. The error is a failed allocation.
     pub fn push(&mut self, alloc: Global, name: &str) -> Result<(), AllocError>
         requires { position (λ k. bytes_eq k name.now) self.old ≡ None }
         ensures ok { OnOk result (self.new ≡ self.old ++ name.now ∷ []) }
@@ -143,14 +152,13 @@ impl Keys {
         Ok(())
     }
 
-    /// The place of a key. Where the key is missing it is put last, and the answer is `None`. The error is a refused growth.
-    pub fn place(&mut self, key: Key) -> Result<Option<usize>, AllocError>
+    /// The position of a key. A missing key is put last, and the result is `None`. The error is a failed allocation, and then nothing has changed.
+    pub fn place(&mut self, alloc: Global, key: Key) -> Result<Option<usize>, AllocError>
         ensures place { IfOk result (λ place. place ≡ position (λ k. bytes_eq k key) self.old) }
         ensures ok { IfOk result (λ place. MatchOption place
             (self.new ≡ self.old ++ key ∷ []) (λ _. self.new ≡ self.old)) }
         ensures err { OnErr result (self.new ≡ self.old) }
     {
-        let alloc = self.alloc;
         if let Some(table) = &mut self.table {
             return table.place(alloc, key);
         }
@@ -160,7 +168,7 @@ impl Keys {
         Ok(place)
     }
 
-    /// Removes the key at a place. The others keep their order. Takes no memory.
+    /// Removes the key at a position. The others keep their order. Takes no memory.
     pub fn remove(&mut self, index: usize)
         requires { index < length self.old }
         ensures { self.new ≡ remove self.old index }
@@ -168,6 +176,20 @@ impl Keys {
         match &mut self.table {
             Some(table) => table.remove(index),
             None => unreachable!(),
+        }
+    }
+
+    /// Keeps the keys and the values for which `keep` returns `true`, in their order. Takes no memory.
+    pub fn retain<V: Drop, F: FnMut(&str, &mut V) -> bool>(&mut self, values: &mut Vec<V>, keep: F)
+        requires even { length values.old.items ≡ length self.old }
+        requires callable { CallableOnEachPair (CalledAtPair F.FnMut) (TakesPair F.FnMut) keep
+            (zip self.old values.old.items) }
+        ensures even { length values.new.items ≡ length self.new }
+        ensures kept { RetainsPairs (CalledAtPair F.FnMut) keep (zip self.old values.old.items)
+            (zip self.new values.new.items) }
+    {
+        if let Some(table) = &mut self.table {
+            table.retain(values, keep);
         }
     }
 
@@ -180,7 +202,7 @@ impl Keys {
         }
     }
 
-    /// A copy. Its error is a refused growth.
+    /// A copy. Its error is a failed allocation.
     pub fn clone(&self, alloc: Global) -> Result<Keys, AllocError>
         ensures { IfOk result (λ k. k ≡ self.now) }
     {
@@ -201,8 +223,8 @@ impl Keys {
     }
 }
 
-/// Makes the entries of equal keys one, with the last value in the place of the first. `false` where no two keys have one hash: then nothing has changed. The error
-/// is a refused growth, and then nothing has changed.
+/// Makes the entries of equal keys one, with the last value at the position of the first. `false` where no two keys have one hash: then nothing has changed. The error
+/// is a failed allocation, and then nothing has changed.
 pub(crate) fn merge<V: Drop>(
     alloc: Global,
     keys: &mut Vec<Key>,

@@ -2,6 +2,7 @@
 ghost use Rattle.std.specs.Prelude.{◌≡◌, ◌<◌, ◌-◌, ◌++◌, ◌∷◌, ◌==◌, [], length, remove, slice_get, OnOk, OnErr, IfOk};
 ghost use Rattle.std.specs.Prelude.{IsSome, Some, None};
 ghost use Rattle.std.specs.List.{position, zip, IsDistinct};
+ghost use Rattle.std.specs.Map.Calls.{CalledAtPair, CallableOnEachPair, RetainsPairs, TakesPair};
 ghost use Rattle.std.specs.Str.{bytes_eq};
 ghost use Rattle.std.specs.Option.{option_copied, option_copied_mut};
 
@@ -108,14 +109,14 @@ impl<V> Pairs<V> {
         self.values.as_slice()
     }
 
-    /// The place of a key.
+    /// The position of a key.
     pub fn position(&self, name: &str) -> Option<usize>
         ensures { result ≡ position (λ k. bytes_eq k name.now) (keys_of self.now) }
     {
         self.keys.position(name)
     }
 
-    /// The pair at a place.
+    /// The pair at a position.
     pub fn get_at(&self, index: usize) -> (&str, &V)
         requires { index < length self.now }
         ensures { slice_get self.now index ≡ Some (result.0.now, result.1.now) }
@@ -123,7 +124,7 @@ impl<V> Pairs<V> {
         (self.keys.get(index), &self.values[index])
     }
 
-    /// The value at a place, to be written: nothing else changes.
+    /// The value at a position, to be written: nothing else changes.
     pub fn value_mut(&mut self, index: usize) -> &mut V
         requires { index < length self.old }
         ensures* writes_back { sem 𝓛 (Lends (the_row V.row) V.row self.entry result (set_value self.old index)) }
@@ -164,7 +165,7 @@ impl<V> Pairs<V> {
         }
     }
 
-    /// Puts a pair last, whose key is not there. The error is a refused growth.
+    /// Puts a pair last, whose key is not there. The error is a failed allocation.
     fn push(&mut self, alloc: Global, name: &str, value: V) -> Result<(), AllocError>
     where
         V: Drop,
@@ -178,7 +179,7 @@ impl<V> Pairs<V> {
         Ok(())
     }
 
-    /// Puts a value under a key: in its place where the key is there, which takes no memory, else last. The error is a refused growth.
+    /// Puts a value under a key: in its place where the key is there, which takes no memory, else last. The error is a failed allocation.
     #[tactic(auto, using(crate::proofs::PairPlaces::places))]
     pub fn insert(&mut self, alloc: Global, name: &str, value: V) -> Result<(), AllocError>
     where
@@ -196,7 +197,7 @@ impl<V> Pairs<V> {
         }
     }
 
-    /// The place of a key. Where the key is missing it is put last with `value`, and the error is a refused growth.
+    /// The position of a key. Where the key is missing it is put last with `value`, and the error is a failed allocation.
     #[tactic(auto, using(crate::proofs::PairPlaces::places))]
     pub fn place(&mut self, alloc: Global, name: &str, value: V) -> Result<usize, AllocError>
     where
@@ -216,7 +217,7 @@ impl<V> Pairs<V> {
         }
     }
 
-    /// The value of a key, to be written. Where the key is missing it is put last with `value`, and the error is a refused growth.
+    /// The value of a key, to be written. Where the key is missing it is put last with `value`, and the error is a failed allocation.
     #[tactic(auto, using(crate::proofs::PairPlaces::places))]
     pub fn at_mut(&mut self, alloc: Global, name: &str, value: V) -> Result<&mut V, AllocError>
     where
@@ -242,7 +243,7 @@ impl<V> Pairs<V> {
         }
     }
 
-    /// Removes the pair at a place. The others keep their order. Takes no memory.
+    /// Removes the pair at a position. The others keep their order. Takes no memory.
     fn remove_at(&mut self, index: usize) -> V
         requires { index < length self.old }
         ensures value { slice_get (values_of self.old) index ≡ Some result }
@@ -260,6 +261,16 @@ impl<V> Pairs<V> {
     {
         let index = self.position(name)?;
         Some(self.remove_at(index))
+    }
+
+    /// Keeps the pairs for which `keep` returns `true`, in their order. It may write their values. Takes no memory.
+    pub fn retain<F: FnMut(&str, &mut V) -> bool>(&mut self, keep: F)
+    where
+        V: Drop,
+        requires { CallableOnEachPair (CalledAtPair F.FnMut) (TakesPair F.FnMut) keep self.old }
+        ensures { RetainsPairs (CalledAtPair F.FnMut) keep self.old self.new }
+    {
+        self.keys.retain(&mut self.values, keep);
     }
 
     /// Removes all pairs.

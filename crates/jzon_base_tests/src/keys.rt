@@ -63,7 +63,7 @@ fn places_a_removed_key(rt: HostRuntime) -> Result<(), AllocError> {
     keys.remove(1);
     assert_eq!(rt; keys.position("a"), None);
     for want in [None, Some(3usize)] {
-        assert_eq!(rt; keys.place(Key::new(rt.alloc(), "a")?)?, want);
+        assert_eq!(rt; keys.place(rt.alloc(), Key::new(rt.alloc(), "a")?)?, want);
     }
     assert_eq!(rt; keys.len(), 4);
     Ok(())
@@ -111,7 +111,7 @@ fn places_keys_of_one_hash(rt: HostRuntime) -> Result<(), AllocError> {
     assert_eq!(rt; keys.len(), 4);
     keys.remove(1);
     for (name, want) in [(ONE, Some(1usize)), (OTHER, None)] {
-        assert_eq!(rt; keys.place(Key::new(rt.alloc(), name)?)?, want);
+        assert_eq!(rt; keys.place(rt.alloc(), Key::new(rt.alloc(), name)?)?, want);
     }
     assert_eq!(rt; keys.position(OTHER), Some(3));
     Ok(())
@@ -189,7 +189,10 @@ fn finds_keys_in_several_runs(rt: HostRuntime) -> Result<(), AllocError> {
     let names = numbers(rt.alloc(), 3000)?;
     let mut keys = Keys::new(rt.alloc());
     for name in &names {
-        assert_eq!(rt; keys.place(Key::new(rt.alloc(), name.as_str())?)?, None);
+        assert_eq!(rt;
+            keys.place(rt.alloc(), Key::new(rt.alloc(), name.as_str())?)?,
+            None
+        );
     }
     expect_without(&rt, &keys, names.as_slice(), 3000);
     assert_eq!(rt; keys.len(), 3000);

@@ -191,10 +191,10 @@ fn joins_keys_and_values(rt: HostRuntime) -> Result<(), AllocError> {
     Ok(())
 }
 
-/// The pairs k0 0 to k999 999.
-fn numbered(alloc: Global) -> Result<Pairs<u32>, AllocError> {
+/// The pairs k0 0, k1 1 and so on, `count` of them.
+fn numbered(alloc: Global, count: u32) -> Result<Pairs<u32>, AllocError> {
     let mut pairs = Pairs::new(alloc);
-    for number in 0..1000u32 {
+    for number in 0..count {
         let name = format!(in alloc; "k{number}")?;
         pairs.insert(alloc, name.as_str(), number)?;
     }
@@ -239,7 +239,7 @@ fn expect_odd_in_order(
 
 #[test]
 fn finds_a_thousand_keys(rt: HostRuntime) -> Result<(), AllocError> {
-    let mut pairs = numbered(rt.alloc())?;
+    let mut pairs = numbered(rt.alloc(), 1000)?;
     assert!(rt; remove_even(rt.alloc(), &mut pairs)?);
     assert_eq!(rt; pairs.len(), 500);
     expect_odd(&rt, rt.alloc(), &pairs)
@@ -253,7 +253,7 @@ fn expect_zero_behind(rt: &impl Abort, left: &mut Iter<'_, u32>) {
 
 #[test]
 fn goes_over_a_thousand_keys(rt: HostRuntime) -> Result<(), AllocError> {
-    let mut pairs = numbered(rt.alloc())?;
+    let mut pairs = numbered(rt.alloc(), 1000)?;
     assert!(rt; remove_even(rt.alloc(), &mut pairs)?);
     pairs.insert(rt.alloc(), "k0", 0)?;
     let mut left = pairs.iter();
@@ -261,6 +261,65 @@ fn goes_over_a_thousand_keys(rt: HostRuntime) -> Result<(), AllocError> {
     expect_odd_in_order(&rt, rt.alloc(), &mut left)?;
     assert!(rt; taken(&mut left, false).is_none());
     Ok(())
+}
+
+/// Of the pairs k0 0, k1 1 and so on, `count` of them, every `step`th is left, in order: its position is found, and no other key is.
+fn expect_every(
+    rt: &impl Abort,
+    alloc: Global,
+    pairs: &Pairs<u32>,
+    count: u32,
+    step: u32,
+) -> Result<(), AllocError> {
+    let mut left = 0usize;
+    for number in 0..count {
+        let name = format!(in alloc; "k{number}")?;
+        let is_left = step != 0 && number % step == 0;
+        assert_eq!(rt;
+            pairs.position(name.as_str()),
+            is_left.then_some(left),
+            "of k{number}"
+        );
+        if is_left {
+            left = left.wrapping_add(1);
+        }
+    }
+    assert_eq!(rt; pairs.len(), left);
+    Ok(())
+}
+
+/// Few keys and many, in one run of the index and in several: all are kept, none, every second and every hundredth. What is left can be put to.
+#[test]
+fn finds_what_is_retained(rt: HostRuntime) -> Result<(), AllocError> {
+    for (count, step) in [
+        (0u32, 1u32),
+        (5, 1),
+        (5, 0),
+        (5, 2),
+        (100, 1),
+        (100, 0),
+        (100, 2),
+        (3000, 2),
+        (3000, 100),
+    ] {
+        let mut pairs = numbered(rt.alloc(), count)?;
+        pairs.retain(|_, number| step != 0 && *number % step == 0);
+        expect_every(&rt, rt.alloc(), &pairs, count, step)?;
+        pairs.insert(rt.alloc(), "more", 7)?;
+        assert_eq!(rt; pairs.get("more").copied(), Some(7));
+    }
+    Ok(())
+}
+
+/// The closure is called once for each pair, in order, and what it writes stays.
+#[test]
+fn writes_while_it_retains(rt: HostRuntime) -> Result<(), AllocError> {
+    let mut pairs = of_pairs(rt.alloc(), &[("a", 1), ("b", 2), ("c", 3)])?;
+    pairs.retain(|name, number| {
+        *number = number.wrapping_mul(10);
+        name != "b"
+    });
+    expect_shown(&rt, rt.alloc(), &pairs, "a10 c30 ")
 }
 
 /// Two texts of one hash.

@@ -71,6 +71,27 @@ fn removes(rt: HostRuntime) -> Tested {
     Ok(())
 }
 
+/// Of these objects the members with other keys than `b` are left, in order, and each value is what the closure wrote.
+#[test]
+fn retains(rt: HostRuntime) -> Tested {
+    let rows = [
+        ("{\"a\":1,\"b\":2,\"c\":3}", "{\"a\":9,\"c\":9}"),
+        ("{\"b\":1,\"c\":2}", "{\"c\":9}"),
+        ("{\"a\":1}", "{\"a\":9}"),
+        ("{\"b\":1}", "{}"),
+        ("{}", "{}"),
+    ];
+    for (before, after) in rows {
+        let mut object = object_of(rt.alloc(), before)?;
+        object.retain(|key, value| {
+            *value = number(9);
+            key != "b"
+        });
+        expect_text(&rt, rt.alloc(), &object, after)?;
+    }
+    Ok(())
+}
+
 #[test]
 fn overrides_the_last(rt: HostRuntime) -> Tested {
     for (before, after) in [("{\"a\":1,\"b\":2}", "{\"a\":1,\"b\":9}"), ("{}", "{}")] {

@@ -17,14 +17,14 @@ const STEPS: usize = 8;
 /// How many slots there are. A look-up begins at one of the first 256.
 const SLOTS: usize = 256 + STEPS;
 
-/// Stands in an empty slot, and is no place of few keys.
+/// The value of an empty slot: no position of few keys.
 const EMPTY: u8 = 255;
 
-/// Slots in which the places of few distinct keys lie, each near the one that its hash names; or no slots. A look-up goes through eight at most.
+/// The positions of few distinct keys, each in a slot near the one that its hash names; or no slots. A look-up goes through eight at most.
 #[derive(Drop)]
 pub struct Few {
     slots: Vec<u8>,
-    /// The place behind that of the key found last, which is looked at first: keys mostly repeat in one order.
+    /// The position after that of the key found last, which is looked at first: keys mostly repeat in one order.
     next: usize,
 }
 
@@ -39,7 +39,7 @@ impl Few {
         }
     }
 
-    /// The slots of these keys, or none where they are not few or where one of them finds no slot. The error is a refused growth.
+    /// The slots of these keys, or none where they are not few or where one of them finds no slot. The error is a failed allocation.
     pub fn of(alloc: Global, keys: &[Key]) -> Result<Few, AllocError>
         requires { IsDistinct bytes_eq keys.now }
         ensures { IfOk result (λ few. IsSlotted keys.now few.slots.items) }
@@ -63,7 +63,7 @@ impl Few {
         self.slots.clear();
     }
 
-    /// The place of the key of this name, where it has a slot.
+    /// The position of the key of this name, where it has a slot.
     #[inline(always)]
     pub fn find(&mut self, keys: &[Key], name: &str) -> Option<usize>
         requires { IsSlotted keys.now self.old.slots.items }
@@ -90,7 +90,7 @@ fn first_slot(name: &str) -> usize
     (hash_of(name) & 0xff) as usize
 }
 
-/// Puts a place into an empty slot of its key, and tells whether there was one.
+/// Puts a position into an empty slot of its key, and returns whether there was one.
 fn fill(slots: &mut [u8], place: u8, name: &str) -> bool {
     let start = first_slot(name);
     for at in start..start + STEPS {
@@ -102,7 +102,7 @@ fn fill(slots: &mut [u8], place: u8, name: &str) -> bool {
     false
 }
 
-/// Whether the key of this name stands at this place.
+/// Whether the key of this name is at this position.
 #[inline(always)]
 fn stands_at(keys: &[Key], place: usize, name: &str) -> bool
     requires { IsDistinct bytes_eq keys.now }
@@ -111,7 +111,7 @@ fn stands_at(keys: &[Key], place: usize, name: &str) -> bool
     place < keys.len() && keys[place].as_str() == name
 }
 
-/// The place of the key of this name, where it stands at the place `first` or has a slot.
+/// The position of the key of this name, where it is at the position `first` or has a slot.
 #[inline(never)]
 fn look_up(keys: &[Key], slots: &[u8], first: usize, name: &str) -> Option<usize>
     requires { IsDistinct bytes_eq keys.now }

@@ -32,7 +32,7 @@ impl Model for Run {
 }
 
 impl Run {
-    /// The pairs of the keys from a place on. The error is a refused growth.
+    /// The entries of the keys from a position on. The error is a failed allocation.
     fn of(alloc: Global, keys: &[Key], from: usize) -> Result<Run, AllocError>
         requires { from ≤ length keys.now }
         ensures whole { IfOk result (λ r. IsPermutation (hashed_from from (drop from keys.now)) r) }
@@ -50,7 +50,7 @@ impl Run {
         self.pairs.len()
     }
 
-    /// Both runs as one. The error is a refused growth.
+    /// Both runs as one. The error is a failed allocation.
     fn join(self, keys: &[Key], other: Run) -> Result<Run, AllocError>
         ensures whole { IfOk result (λ r. IsPermutation (self ++ other) r) }
         ensures sorted { IfOk result (λ r. IsSorted (pair_cmp keys.now) r) }
@@ -122,7 +122,7 @@ impl Known {
         1 < count && self.runs[count - 2].len() / 8 < self.runs[count - 1].len()
     }
 
-    /// Makes the last two runs one. The error is a refused growth.
+    /// Makes the last two runs one. The error is a failed allocation.
     fn join_last(&mut self, keys: &[Key]) -> Result<(), AllocError>
         requires runs { AreRuns keys.now self.old.runs.items self.old.count }
         requires two { 1 < length self.old.runs.items }
@@ -140,7 +140,7 @@ impl Known {
         }
     }
 
-    /// Takes in the keys behind the runs, once they are no longer few. The error is a refused growth.
+    /// Takes in the keys behind the runs, once they are no longer few. The error is a failed allocation.
     fn extend(&mut self, alloc: Global, keys: &[Key]) -> Result<(), AllocError>
         requires { AreRuns keys.now self.old.runs.items self.old.count }
         ensures { OnOk result (AreRuns keys.now self.new.runs.items self.new.count) }
@@ -168,7 +168,7 @@ impl Known {
         index::has_name(&keys[self.count..], name)
     }
 
-    /// Whether one of the keys has this name. The error is a refused growth.
+    /// Whether one of the keys has this name. The error is a failed allocation.
     pub fn has(&mut self, alloc: Global, keys: &[Key], name: &str) -> Result<bool, AllocError>
         requires { AreRuns keys.now self.old.runs.items self.old.count }
         ensures runs { AreRuns keys.now self.new.runs.items self.new.count }

@@ -51,7 +51,7 @@ impl Marks {
         self.count = 0;
     }
 
-    /// Makes slots for so many keys, and forgets all keys. The error is a refused growth.
+    /// Makes slots for so many keys, and forgets all keys. The error is a failed allocation.
     fn grow(&mut self, alloc: Global, count: usize) -> Result<(), AllocError>
         ensures { self.new.count ≡ 0 }
     {
@@ -78,7 +78,7 @@ impl Marks {
         self.count += 1;
     }
 
-    /// Marks the keys that have come since. The error is a refused growth.
+    /// Marks the keys that have come since. The error is a failed allocation.
     pub fn extend(&mut self, alloc: Global, keys: &[Key]) -> Result<(), AllocError>
         requires { AreMarked keys.now self.old.slots.items self.old.mask self.old.count }
         ensures marked { AreMarked keys.now self.new.slots.items self.new.mask self.new.count }

@@ -31,7 +31,7 @@ impl Notes {
         }
     }
 
-    /// The slots of these keys. The error is a refused growth.
+    /// The slots of these keys. The error is a failed allocation.
     pub fn of(alloc: Global, keys: &[Key]) -> Result<Notes, AllocError>
         requires { IsDistinct bytes_eq keys.now }
         ensures { IfOk result (AreNoted keys.now) }
@@ -41,7 +41,7 @@ impl Notes {
         Ok(notes)
     }
 
-    /// The place of the key of this name, where it has a slot.
+    /// The position of the key of this name, where it has a slot.
     #[inline(always)]
     pub fn find(&mut self, keys: &[Key], name: &str) -> Option<usize>
         requires { AreNoted keys.now self.old }
@@ -60,7 +60,7 @@ impl Notes {
         self.few.clear();
     }
 
-    /// Whether one of the keys has this name. The error is a refused growth.
+    /// Whether one of the keys has this name. The error is a failed allocation.
     pub fn has(&mut self, alloc: Global, keys: &[Key], name: &str) -> Result<bool, AllocError>
         requires { AreNoted keys.now self.old }
         ensures noted { AreNoted keys.now self.new }
@@ -74,7 +74,7 @@ impl Notes {
     }
 }
 
-/// Whether one of the keys has this name. Few keys are compared one by one, and then nothing is noted. The error is a refused growth.
+/// Whether one of the keys has this name. Few keys are compared one by one, and then nothing is noted. The error is a failed allocation.
 pub fn has_key(
     notes: &mut Option<Box<Notes>>,
     alloc: Global,

@@ -7,6 +7,8 @@ ghost use Rattle.jzon_base.specs.Handed.{IsIndexOf};
 ghost use Rattle.jzon_base.specs.Hash.{hash_of};
 ghost use Rattle.jzon_base.specs.PairList.{put_each};
 
+mod retain;
+
 use super::hash::hash_of;
 use super::runs::Runs;
 use super::{IntoIter, Iter, index, repeats};
@@ -116,8 +118,8 @@ impl Table {
         })
     }
 
-    /// The keys of entries of which some may repeat, and their index: the entries of equal keys become one, with the last value in the place of the first. The error
-    /// is a refused growth, and then what is in `values` has no meaning.
+    /// The keys of entries of which some may repeat, and their index: the entries of equal keys become one, with the last value at the position of the first. The error
+    /// is a failed allocation, and then what is in `values` is unspecified.
     fn from_repeats<V: Drop>(
         alloc: Global,
         mut keys: Vec<Key>,
@@ -136,8 +138,8 @@ impl Table {
         Ok(Table { keys, index })
     }
 
-    /// The keys of entries: those of equal keys become one, with the last value in the place of the first. Where no key repeats, the keys are taken over as they are.
-    /// The error is a refused growth, and then what is in `values` has no meaning.
+    /// The keys of entries: those of equal keys become one, with the last value at the position of the first. Where no key repeats, the keys are taken over as they are.
+    /// The error is a failed allocation, and then what is in `values` is unspecified.
     pub fn from_entries<V: Drop>(
         alloc: Global,
         keys: Vec<Key>,
@@ -169,7 +171,7 @@ impl Table {
         self.keys.len()
     }
 
-    /// The place of a key.
+    /// The position of a key.
     pub fn position(&self, name: &str) -> Option<usize>
         ensures { result ≡ position (λ k. bytes_eq k name.now) self.now }
     {
@@ -179,7 +181,7 @@ impl Table {
         self.index.find(self.keys.as_slice(), hash_of(name), name)
     }
 
-    /// The key at a place.
+    /// The key at a position.
     pub fn get(&self, index: usize) -> &str
         requires { index < length self.now }
         ensures { slice_get self.now index ≡ Some result.now }
@@ -199,7 +201,7 @@ impl Table {
         Ok(())
     }
 
-    /// The place of a key. Where the key is missing it is put last, and the answer is `None`. The error is a refused growth.
+    /// The position of a key. A missing key is put last, and the result is `None`. The error is a failed allocation, and then nothing has changed.
     pub fn place(&mut self, alloc: Global, key: Key) -> Result<Option<usize>, AllocError>
         ensures place { IfOk result (λ place. place ≡ position (λ k. bytes_eq k key) self.old) }
         ensures ok { IfOk result (λ place. MatchOption place
@@ -214,7 +216,7 @@ impl Table {
         Ok(None)
     }
 
-    /// Removes the key at a place. The others keep their order. Takes no memory.
+    /// Removes the key at a position. The others keep their order. Takes no memory.
     pub fn remove(&mut self, index: usize)
         requires { index < length self.old }
         ensures { self.new ≡ remove self.old index }
@@ -231,7 +233,7 @@ impl Table {
         self.index.clear();
     }
 
-    /// A copy. Its error is a refused growth.
+    /// A copy. Its error is a failed allocation.
     pub fn clone(&self, alloc: Global) -> Result<Table, AllocError>
         ensures { IfOk result (λ k. k ≡ self.now) }
     {

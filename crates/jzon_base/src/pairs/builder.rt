@@ -55,7 +55,7 @@ impl<V: Drop> Builder<V> {
         }
     }
 
-    /// No entry, with room for `capacity` of them. The error is a refused growth.
+    /// No entry, with room for `capacity` of them. The error is a failed allocation.
     pub fn with_capacity(alloc: Global, capacity: usize) -> Result<Builder<V>, AllocError>
         ensures { IfOk result (λ b. b ≡ []) }
     {
@@ -67,7 +67,7 @@ impl<V: Drop> Builder<V> {
         })
     }
 
-    /// Merges the entries of equal keys. The error is a refused growth.
+    /// Merges the entries of equal keys. The error is a failed allocation.
     #[cold]
     #[inline(never)]
     fn merge(&mut self, alloc: Global) -> Result<(), AllocError>
@@ -82,7 +82,7 @@ impl<V: Drop> Builder<V> {
         Ok(())
     }
 
-    /// Puts an entry. The error is a refused growth.
+    /// Puts an entry. The error is a failed allocation.
     #[inline(always)]
     pub fn push(&mut self, alloc: Global, key: Key, value: V) -> Result<(), AllocError>
         ensures ok { OnOk result (self.new ≡ put key value self.old) }
@@ -117,7 +117,7 @@ impl<V: Drop> Builder<V> {
     }
 
     /// Whether an entry has this key. Calls before each of n entries take about n comparisons in all for most keys, and about n (log n)^2 whatever the keys are.
-    /// The error is a refused growth.
+    /// The error is a failed allocation.
     pub fn has_key(&mut self, alloc: Global, key: &str) -> Result<bool, AllocError>
         ensures same { self.new ≡ self.old }
         ensures known { IfOk result (λ known. known ≡ is_some (find key.now self.old)) }
@@ -125,7 +125,7 @@ impl<V: Drop> Builder<V> {
         notes::has_key(&mut self.notes, alloc, self.keys.as_slice(), key)
     }
 
-    /// The pairs. The error is a refused growth.
+    /// The pairs. The error is a failed allocation.
     pub fn finish(self, alloc: Global) -> Result<Pairs<V>, AllocError>
         ensures { IfOk result (λ p. p ≡ self) }
     {

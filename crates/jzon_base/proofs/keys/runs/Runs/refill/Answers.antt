@@ -1,0 +1,28 @@
+use Rattle.std.proofs.Common.{◌∙◌, length, refl, ap, arith}
+use Rattle.std.proofs.lemmas.List.{length-set}
+use Rattle.jzon_base.proofs.Refilled.{AreRefilled-none, AreRefilled-more, AreRefilled-all}
+use Rattle.jzon_base.proofs.keys.runs.Runs.refill.Goals as goal
+
+pub loop-at-init : goal.loop-at-init
+loop-at-init c = record {
+  count = refl;
+  refilled = AreRefilled-none c.args.keys.now c.self.inside.runs.items (omega (arith, ap length c.self.view_is));
+}
+
+pub refill-from-requires : goal.refill-from-requires
+refill-from-requires c = c.loop-at.invariant.refilled.within
+
+pub loop-at-preserved : goal.loop-at-preserved
+loop-at-preserved c =
+    let rs = c.loop-at.self-inside.runs.items in
+    record {
+      count = length-set rs c.loop-at.at c.refill-from.new.self ∙ c.loop-at.invariant.count;
+      refilled = AreRefilled-more c.args.keys.now rs c.loop-at.from c.refill-from.result c.loop-at.at
+          c.index_mut.result.now c.refill-from.new.self (omega (arith, c.loop-at.invariant.count))
+          c.index_mut.ensures.value c.loop-at.invariant.refilled c.refill-from.ensures.end
+          c.refill-from.ensures.entries;
+    }
+
+pub returns : goal.returns
+returns c = AreRefilled-all c.args.keys.now c.loop-at.self-inside.runs.items c.loop-at.from c.loop-at.at
+    (omega (arith, c.loop-at.invariant.count)) c.loop-at.invariant.refilled

@@ -1,0 +1,9 @@
+use Rattle.std.proofs.Common.{◌≡◌, length}
+use Rattle.jzon_base.proofs.Refilled.{AreRefilled}
+use Rattle.jzon_base.proofs.keys.runs.Runs.refill.Given as goal
+
+abbrev pub invariant-loop-at : goal.invariant-loop-at
+invariant-loop-at l = record {
+  count : length l.self-inside.runs.items ≡ length l.initial.self-inside.runs.items;
+  refilled : AreRefilled l.keys l.self-inside.runs.items l.from l.at;
+}

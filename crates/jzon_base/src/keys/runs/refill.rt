@@ -1,0 +1,49 @@
+//! The index of fewer keys, in the room of the index of more.
+ghost use Rattle.std.specs.Prelude.{◌≡◌, ◌≤◌, ◌+◌, ◌-◌, drop, length, map, min, take};
+ghost use Rattle.std.specs.List.{flat_map};
+ghost use Rattle.std.specs.List.Sorted.{IsPermutation};
+ghost use Rattle.jzon_base.specs.Handed.{IsIndexOf};
+ghost use Rattle.jzon_base.specs.Hash.{hash_of};
+ghost use Rattle.jzon_base.specs.Keys.{hashed_from};
+
+use super::{Run, Runs};
+use crate::key::Key;
+use crate::keys::hash::hash_of;
+
+/// Replaces entries by those of as many keys from a position on.
+fn put_hashed(entries: &mut [(u64, usize)], keys: &[Key], from: usize)
+    requires { from + length entries.old ≤ length keys.now }
+    ensures { entries.new ≡ hashed_from from (take (length entries.old) (drop from keys.now)) }
+{
+    let rest = &keys[from..];
+    for at in 0..entries.len() {
+        entries[at] = (hash_of(rest[at].as_str()), from + at);
+    }
+}
+
+impl Run {
+    /// Replaces the entries by those of the keys from a position on, as many as fit, and returns the position after them. Takes no memory.
+    fn refill(&mut self, keys: &[Key], from: usize) -> usize
+        requires { from ≤ length keys.now }
+        ensures end { result ≡ min (from + length self.old) (length keys.now) }
+        ensures entries { IsPermutation (hashed_from from (take (result - from) (drop from keys.now))) self.new }
+    {
+        self.entries.truncate(keys.len() - from);
+        put_hashed(self.entries.as_mut_slice(), keys, from);
+        self.entries.sort_unstable();
+        from + self.entries.len()
+    }
+}
+
+impl Runs {
+    /// Replaces the entries by those of at most as many keys. Takes no memory.
+    pub fn refill(&mut self, keys: &[Key])
+        requires { length keys.now ≤ length self.old }
+        ensures { IsIndexOf (map hash_of keys.now) self.new }
+    {
+        let mut from = 0;
+        for at in 0..self.runs.len() {
+            from = self.runs[at].refill(keys, from);
+        }
+    }
+}
