@@ -33,3 +33,4 @@ pub mod EightDigits
 pub mod LeadingDigits
 pub mod Retained
 pub mod Refilled
+pub mod Cut
