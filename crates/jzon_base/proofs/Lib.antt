@@ -34,3 +34,4 @@ pub mod LeadingDigits
 pub mod Retained
 pub mod Refilled
 pub mod Cut
+pub mod Slots
