@@ -35,7 +35,7 @@ use table::Table;
 
 /// Distinct keys in the order in which they were put. A clause sees the list of their bytes.
 ///
-/// They lie in a box, and there is none where neither a key was put nor room asked for. How the place of a key is found is this type's own matter.
+/// They are in a box; there is none where no key was put and no room asked for. How the position of a key is found is private to this type.
 #[derive(Drop)]
 pub struct Keys {
     alloc: Global,

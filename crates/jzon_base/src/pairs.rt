@@ -21,7 +21,7 @@ use std::alloc::{AllocError, Global};
 use std::fmt;
 use std::marker::Model;
 
-/// Values under distinct keys, in the order in which the keys were put. A clause sees the list of pairs.
+/// Values under distinct keys, in the order in which the keys were put. A clause sees the list of entries.
 #[derive(Drop)]
 pub struct Pairs<V> {
     keys: Keys,
@@ -47,7 +47,7 @@ impl<V> Pairs<V> {
     ghost use Rattle.jzon_base.specs.contracts.pairs.Pairs.{the_row};
     ghost use Rattle.jzon_base.specs.PairList.{find, put, cut, set_value, keys_of, values_of, with_default};
 
-    /// No pair. Takes no memory.
+    /// No entry. Takes no memory.
     pub fn new(alloc: Global) -> Pairs<V>
         ensures { result ≡ [] }
     {
@@ -57,7 +57,7 @@ impl<V> Pairs<V> {
         }
     }
 
-    /// No pair, with room for the keys, the values and the index of `capacity` pairs. The error is a failed allocation.
+    /// No entry, with room for the keys, the values and the index of `capacity` entries. The error is a failed allocation.
     pub fn with_capacity(alloc: Global, capacity: usize) -> Result<Pairs<V>, AllocError>
         ensures { IfOk result (λ p. p ≡ []) }
     {
@@ -67,7 +67,7 @@ impl<V> Pairs<V> {
         })
     }
 
-    /// The pairs of keys and as many values.
+    /// The entries of keys and as many values.
     pub fn from_parts(keys: Keys, values: Vec<V>) -> Pairs<V>
         requires { length values.items ≡ length keys }
         ensures { result ≡ zip keys values.items }
@@ -75,12 +75,12 @@ impl<V> Pairs<V> {
         Pairs { keys, values }
     }
 
-    /// The allocator of the pairs.
+    /// The allocator of the entries.
     pub fn allocator(&self) -> Global {
         *self.values.allocator()
     }
 
-    /// How many pairs there are.
+    /// The number of entries.
     pub fn len(&self) -> usize
         ensures len { result ≡ length self.now }
         ensures distinct { IsDistinct bytes_eq (keys_of self.now) }
@@ -88,7 +88,7 @@ impl<V> Pairs<V> {
         self.keys.len()
     }
 
-    /// Whether there is no pair.
+    /// Whether there is no entry.
     pub fn is_empty(&self) -> bool
         ensures { result ≡ (length self.now == 0) }
     {
@@ -116,7 +116,7 @@ impl<V> Pairs<V> {
         self.keys.position(name)
     }
 
-    /// The pair at a position.
+    /// The entry at a position.
     pub fn get_at(&self, index: usize) -> (&str, &V)
         requires { index < length self.now }
         ensures { slice_get self.now index ≡ Some (result.0.now, result.1.now) }
@@ -165,7 +165,7 @@ impl<V> Pairs<V> {
         }
     }
 
-    /// Puts a pair last, whose key is not there. The error is a failed allocation.
+    /// Puts an entry last whose key is missing. The error is a failed allocation.
     fn push(&mut self, alloc: Global, name: &str, value: V) -> Result<(), AllocError>
     where
         V: Drop,
@@ -231,7 +231,7 @@ impl<V> Pairs<V> {
         Ok(self.value_mut(index))
     }
 
-    /// Changes the last value alone, and nothing where there is no pair.
+    /// Changes the last value alone, and nothing where there is no entry.
     pub fn override_last(&mut self, value: V)
     where
         V: Drop,
@@ -243,7 +243,7 @@ impl<V> Pairs<V> {
         }
     }
 
-    /// Removes the pair at a position. The others keep their order. Takes no memory.
+    /// Removes the entry at a position. The others keep their order. Takes no memory.
     fn remove_at(&mut self, index: usize) -> V
         requires { index < length self.old }
         ensures value { slice_get (values_of self.old) index ≡ Some result }
@@ -253,7 +253,7 @@ impl<V> Pairs<V> {
         self.values.remove(index)
     }
 
-    /// Removes the pair of a key, and gives its value. The others keep their order. Takes no memory.
+    /// Removes the entry of a key, and returns its value. The others keep their order. Takes no memory.
     #[tactic(auto, using(crate::proofs::PairPlaces::places))]
     pub fn remove(&mut self, name: &str) -> Option<V>
         ensures value { result ≡ find name.now self.old }
@@ -263,7 +263,7 @@ impl<V> Pairs<V> {
         Some(self.remove_at(index))
     }
 
-    /// Keeps the pairs for which `keep` returns `true`, in their order. It may write their values. Takes no memory.
+    /// Keeps the entries for which `keep` returns `true`, in their order. `keep` is called once for each entry, in order, and may change the value. Takes no memory.
     pub fn retain<F: FnMut(&str, &mut V) -> bool>(&mut self, keep: F)
     where
         V: Drop,
@@ -273,7 +273,7 @@ impl<V> Pairs<V> {
         self.keys.retain(&mut self.values, keep);
     }
 
-    /// Removes all pairs.
+    /// Removes all entries.
     pub fn clear(&mut self)
     where
         V: Drop,
@@ -284,7 +284,7 @@ impl<V> Pairs<V> {
     }
 }
 
-/// The pairs as a map of keys to values.
+/// The entries as a map of keys to values.
 impl<V: fmt::Debug> fmt::Debug for Pairs<V> {
     fn fmt<W: fmt::Write>(&self, f: &mut fmt::Formatter<W>) -> fmt::Result {
         f.debug_map().entries(self.iter()).finish()

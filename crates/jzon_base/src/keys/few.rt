@@ -56,7 +56,7 @@ impl Few {
         Ok(Few { slots, next: 0 })
     }
 
-    /// Gives up the slots.
+    /// Drops the slots.
     pub fn clear(&mut self)
         ensures { self.new.slots.items ≡ [] }
     {

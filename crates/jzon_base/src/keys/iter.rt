@@ -1,4 +1,4 @@
-//! The iterator that lends keys.
+//! An iterator over keys.
 ghost use Rattle.std.specs.Prelude.{◌≡◌, [], length, IfSome, Some};
 ghost use Rattle.std.specs.Iterator.{YieldsFirstRef, YieldsLastRef, item_count, at_most, UpTo};
 ghost use Rattle.std.specs.Iterator.SizeHint.{IsWithinCount};

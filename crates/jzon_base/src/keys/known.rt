@@ -17,7 +17,7 @@ use std::marker::Model;
 /// How many keys become a run at least. Fewer are compared one by one.
 const RUN_MIN: usize = 8;
 
-/// Pairs of the index in the order of hashes, of texts and of places. A clause sees the list of pairs.
+/// Index entries sorted by hash, then by text, then by position. A clause sees the list of entries.
 #[derive(Drop)]
 struct Run {
     pairs: Vec<(u64, usize)>,
@@ -43,7 +43,7 @@ impl Run {
         Ok(Run { pairs })
     }
 
-    /// How many pairs there are.
+    /// The number of entries.
     fn len(&self) -> usize
         ensures { result ≡ length self.now }
     {
@@ -62,7 +62,7 @@ impl Run {
         Ok(Run { pairs })
     }
 
-    /// Whether there is a pair of this hash, whose key has this name.
+    /// Whether there is an entry of this hash whose key has this name.
     fn has(&self, keys: &[Key], hash: u64, name: &str) -> bool
         requires { IsSorted (pair_cmp keys.now) self.now }
         ensures { result ≡ list_any (λ p. is_eq (beside keys.now hash name.now p)) self.now }
@@ -73,7 +73,7 @@ impl Run {
     }
 }
 
-/// Whether a run has a pair of this hash, whose key has this name.
+/// Whether a run has an entry of this hash whose key has this name.
 fn is_in(runs: &[Run], keys: &[Key], hash: u64, name: &str) -> bool
     requires { All (IsSorted (pair_cmp keys.now)) runs.now }
     ensures { result ≡ list_any (λ r. list_any (λ p. is_eq (beside keys.now hash name.now p)) r) runs.now }
@@ -122,7 +122,7 @@ impl Known {
         1 < count && self.runs[count - 2].len() / 8 < self.runs[count - 1].len()
     }
 
-    /// Makes the last two runs one. The error is a failed allocation.
+    /// Joins the last two runs. The error is a failed allocation.
     fn join_last(&mut self, keys: &[Key]) -> Result<(), AllocError>
         requires runs { AreRuns keys.now self.old.runs.items self.old.count }
         requires two { 1 < length self.old.runs.items }
@@ -140,7 +140,7 @@ impl Known {
         }
     }
 
-    /// Takes in the keys behind the runs, once they are no longer few. The error is a failed allocation.
+    /// Makes the keys after those of the runs a run, once they are no longer few. The error is a failed allocation.
     fn extend(&mut self, alloc: Global, keys: &[Key]) -> Result<(), AllocError>
         requires { AreRuns keys.now self.old.runs.items self.old.count }
         ensures { OnOk result (AreRuns keys.now self.new.runs.items self.new.count) }

@@ -13,17 +13,17 @@ const STEPS: usize = 16;
 /// How many values half of a hash has.
 const HALF: u64 = 0x1_0000_0000;
 
-/// Stands in an empty slot, and is no mark.
+/// The value of an empty slot: no tag.
 const EMPTY: u32 = 0;
 
 /// How many slots a key gets at least when the slots are made. They are made anew for half as many.
 const SLOTS_FOR_EACH: usize = 8;
 
-/// What stands behind the last slot, for a look-up.
+/// What a look-up reads past the last slot.
 const TAKEN: u32 = 1;
 
-/// Slots in which the marks of the first keys of a list lie, each in one of the sixteen from the one on that its hash names. Where those were taken, the key has
-/// none: such keys are never told at once, whatever they are.
+/// Slots with the tags of the first keys of a list, each in one of the sixteen slots from the one on that its hash names. Where those were taken, the key has no tag,
+/// and the filter rejects no key of such a hash.
 #[derive(Drop)]
 pub struct Marks {
     slots: Vec<u32>,
@@ -51,7 +51,7 @@ impl Marks {
         self.count = 0;
     }
 
-    /// Makes slots for so many keys, and forgets all keys. The error is a failed allocation.
+    /// Makes slots for `count` keys, and forgets all keys. The error is a failed allocation.
     fn grow(&mut self, alloc: Global, count: usize) -> Result<(), AllocError>
         ensures { self.new.count ≡ 0 }
     {
@@ -62,7 +62,7 @@ impl Marks {
         Ok(())
     }
 
-    /// Marks the next key.
+    /// Stores the tag of the next key.
     fn add(&mut self, keys: &[Key])
         requires within { self.old.count < length keys.now }
         requires marked { AreMarked keys.now self.old.slots.items self.old.mask self.old.count }
@@ -78,7 +78,7 @@ impl Marks {
         self.count += 1;
     }
 
-    /// Marks the keys that have come since. The error is a failed allocation.
+    /// Stores the tags of the keys after those that have one. The error is a failed allocation.
     pub fn extend(&mut self, alloc: Global, keys: &[Key]) -> Result<(), AllocError>
         requires { AreMarked keys.now self.old.slots.items self.old.mask self.old.count }
         ensures marked { AreMarked keys.now self.new.slots.items self.new.mask self.new.count }
@@ -93,7 +93,7 @@ impl Marks {
         Ok(())
     }
 
-    /// Whether one of the marked keys may have this name: where not, none has.
+    /// Whether one of the keys with tags may have this name: if not, none has.
     pub fn may_have(&self, name: &str) -> bool
         ensures { result ≡ may_have self.now.slots.items self.now.mask name.now }
     {
@@ -106,7 +106,7 @@ impl Marks {
     }
 }
 
-/// One less than how many slots so many keys get: a power of two.
+/// One less than the number of slots for `count` keys, which is a power of two.
 fn mask_for(count: usize) -> u32 {
     let slots = count
         .saturating_mul(SLOTS_FOR_EACH)
@@ -122,14 +122,14 @@ fn first_slot(hash: u64, mask: u32) -> u32
     (hash % HALF) as u32 & mask
 }
 
-/// The mark of a hash.
+/// The tag of a hash.
 fn mark_of(hash: u64) -> u32
     ensures { result ≡ mark_of hash }
 {
     ((hash / HALF) as u32).max(1)
 }
 
-/// The slot at a place, and one that is taken behind the last.
+/// The slot at a position, and a taken one past the last.
 fn slot_at(slots: &[u32], place: usize) -> u32
     ensures { result ≡ slice_index_or slots.now place 1 }
 {
@@ -139,7 +139,7 @@ fn slot_at(slots: &[u32], place: usize) -> u32
     }
 }
 
-/// Whether this mark stands in a slot from the first on before an empty one, or sixteen others do.
+/// Whether this tag is in a slot from the first on before an empty one, or sixteen other tags are.
 fn is_marked(slots: &[u32], first: u32, mark: u32) -> bool
     ensures { result ≡ is_marked slots.now mark first 16 }
 {
@@ -156,7 +156,7 @@ fn is_marked(slots: &[u32], first: u32, mark: u32) -> bool
     true
 }
 
-/// Puts a mark into the first empty slot of sixteen, where there is one.
+/// Puts a tag into the first empty slot of sixteen, where there is one.
 fn mark(slots: &mut [u32], first: u32, mark: u32)
     requires { mark ≢ 0 }
     ensures marked { is_marked slots.new mark first 16 ≡ true }

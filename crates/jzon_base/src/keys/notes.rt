@@ -11,7 +11,7 @@ use super::marks::Marks;
 use crate::key::Key;
 use std::alloc::{AllocError, Global};
 
-/// What is noted of the keys of a list: slots for few keys, and marks and sorted runs, by which a repeated key is found before it is put.
+/// What a builder keeps to find a repeated key before it is put: slots for few keys, tags, and sorted runs.
 #[derive(Drop)]
 pub struct Notes {
     few: Few,
@@ -52,7 +52,7 @@ impl Notes {
         self.few.find(keys, name)
     }
 
-    /// Gives up the slots, for the list gets another key.
+    /// Drops the slots, since the list gets another key.
     #[inline(always)]
     pub fn go_on(&mut self)
         ensures { (ks : List (List ℕ)) (k : List ℕ) → AreNoted ks self.old → AreNoted (ks ++ k ∷ []) self.new }

@@ -18,7 +18,7 @@ use std::marker::Model;
 
 /// Distinct keys in the order in which they were put, and the index in which the position of each is found. A clause sees the list of their bytes.
 ///
-/// Few keys need no index: a look-up compares them one by one. The hash of a key is computed here and handed to the index.
+/// Few keys need no index: a look-up compares them one by one. The hash of a key is computed here and passed to the index.
 #[derive(Drop)]
 pub struct Table {
     keys: Vec<Key>,

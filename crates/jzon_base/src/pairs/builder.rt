@@ -1,4 +1,4 @@
-//! Pairs that are put one after the other, and merged now and then.
+//! Builds `Pairs` in bulk; entries of equal keys are merged each time the count doubles.
 ghost use Rattle.std.specs.Prelude.{◌≡◌, [], IfOk, OnOk, OnErr};
 ghost use Rattle.std.specs.Option.{is_some};
 ghost use Rattle.jzon_base.specs.PairList.{find, put};
@@ -14,7 +14,7 @@ use std::marker::Model;
 /// How many entries there may be before they are merged for the first time.
 const FIRST_LIMIT: usize = 256;
 
-/// Entries that are put one after the other, of which some may repeat a key. A clause sees the list of pairs that they make.
+/// Entries that are put one after the other, of which some may repeat a key. A clause sees the list of entries after all merges.
 ///
 /// Entries of equal keys are merged whenever their count has doubled since the last time, so that few distinct keys take little memory. Where few keys are left
 /// by that, each later entry of such a key is put in its place at once, until another key comes.
@@ -100,7 +100,7 @@ impl<V: Drop> Builder<V> {
         self.add(key, value)
     }
 
-    /// The same behind all others.
+    /// Puts an entry last.
     #[inline(always)]
     fn add(&mut self, key: Key, value: V) -> Result<(), AllocError>
         ensures ok { OnOk result (self.new ≡ put key value self.old) }
@@ -125,7 +125,7 @@ impl<V: Drop> Builder<V> {
         notes::has_key(&mut self.notes, alloc, self.keys.as_slice(), key)
     }
 
-    /// The pairs. The error is a failed allocation.
+    /// The entries as `Pairs`. The error is a failed allocation.
     pub fn finish(self, alloc: Global) -> Result<Pairs<V>, AllocError>
         ensures { IfOk result (λ p. p ≡ self) }
     {

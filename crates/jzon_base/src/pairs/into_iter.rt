@@ -1,4 +1,4 @@
-//! The iterator that owns pairs.
+//! An iterator that owns the entries.
 ghost use Rattle.std.specs.Prelude.{◌≡◌, length, IfSome, Some};
 ghost use Rattle.std.specs.Iterator.{YieldsFirst, YieldsLast, item_count, at_most, UpTo};
 ghost use Rattle.std.specs.Iterator.SizeHint.{IsWithinCount};
@@ -10,7 +10,7 @@ use std::iter::FusedIterator;
 use std::marker::Model;
 use std::vec;
 
-/// The pairs, each as its key and its value. A clause sees the list of those that are left.
+/// The entries, each as its key and its value. A clause sees the list of those that are left.
 #[derive(Drop)]
 pub struct IntoIter<V> {
     keys: keys::IntoIter,

@@ -1,4 +1,4 @@
-//! The iterator that lends pairs.
+//! An iterator over entries.
 ghost use Rattle.std.specs.Prelude.{◌≡◌, [], length, IfSome, Some};
 ghost use Rattle.std.specs.Iterator.{YieldsFirstBy, YieldsLastBy, item_count, at_most, UpTo};
 ghost use Rattle.std.specs.Iterator.SizeHint.{IsWithinCount};
@@ -9,7 +9,7 @@ use std::iter::FusedIterator;
 use std::marker::Model;
 use std::slice;
 
-/// The pairs, each as its key's text and its value. A clause sees the list of those that are left.
+/// The entries, each as its key's text and its value. A clause sees the list of those that are left.
 #[derive(Drop)]
 pub struct Iter<'a, V> {
     keys: keys::Iter<'a>,
@@ -32,7 +32,7 @@ impl<'a, V> Model for Iter<'a, V> {
 }
 
 impl<'a, V> Iter<'a, V> {
-    /// No pair.
+    /// No entry.
     pub fn empty() -> Iter<'a, V>
         ensures { result ≡ [] }
     {
@@ -85,7 +85,7 @@ impl<'a, V> ExactSizeIterator for Iter<'a, V> {
 impl<'a, V> FusedIterator for Iter<'a, V> {}
 
 impl<V> Pairs<V> {
-    /// The pairs in their order, each as its key's text and its value.
+    /// The entries in their order, each as its key's text and its value.
     pub fn iter(&self) -> Iter<'_, V>
         ensures { result ≡ self.now }
     {

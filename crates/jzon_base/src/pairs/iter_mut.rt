@@ -1,4 +1,4 @@
-//! The iterator that lends the values of pairs to be written.
+//! An iterator over entries whose values may be written.
 ghost use Rattle.std.specs.Prelude.{◌≡◌, [], length, IfSome, Some};
 ghost use Rattle.std.specs.Iterator.{YieldsFirstBy, YieldsLastBy, item_count, at_most, UpTo};
 ghost use Rattle.std.specs.Iterator.SizeHint.{IsWithinCount};
@@ -9,21 +9,21 @@ use crate::keys;
 use std::iter::FusedIterator;
 use std::slice;
 
-/// The pairs, each as its key's text and its value, which may be written.
+/// The entries, each as its key's text and its value, which may be written.
 ///
 /// It has no model, so that a clause reads what it has left by `iter_mut_rest`.
 #[derive(Drop)]
 pub struct IterMut<'a, V> {
     keys: keys::Iter<'a>,
     values: slice::IterMut<'a, V>,
-    // As many values are left as keys, so that `next` asks nothing of its caller.
+    // As many values are left as keys, so that `next` requires nothing of its caller.
     ghost as_many: { length (slice_iter.iter_mut_rest values) ≡ length keys },
 }
 
 impl<'a, V> IterMut<'a, V> {
     ghost use Rattle.jzon_base.specs.IterMut.{iter_mut_rest};
 
-    /// No pair.
+    /// No entry.
     pub fn empty() -> IterMut<'a, V>
         ensures rest { iter_mut_rest result ≡ [] }
     {
@@ -82,7 +82,7 @@ impl<'a, V> FusedIterator for IterMut<'a, V> {}
 impl<V> Pairs<V> {
     ghost use Rattle.jzon_base.specs.IterMut.{iter_mut_rest};
 
-    /// The pairs in their order, each as its key's text and its value, which may be written.
+    /// The entries in their order, each as its key's text and its value, which may be written.
     pub fn iter_mut(&mut self) -> IterMut<'_, V>
         ensures rest { iter_mut_rest result ≡ self.old }
     {
