@@ -176,7 +176,10 @@ impl Table {
         ensures { result ≡ position (λ k. bytes_eq k name.now) self.now }
     {
         if self.index.is_empty() {
-            return self.keys.iter().position(|key| key.as_str() == name);
+            return self
+                .keys
+                .iter()
+                .position(|key| index::are_equal(key.as_str(), name));
         }
         self.index.find(self.keys.as_slice(), hash_of(name), name)
     }
