@@ -1,16 +1,10 @@
+-- to be believed: what public clauses cite
 pub mod Reading
-pub mod ReadingFields
 pub mod Grammar
 pub mod Spelling
 pub mod Meaning
 pub mod Fault
 pub mod Laws
-pub mod Classes
-pub mod Quote
-pub mod Machine
-pub mod Brackets
-pub mod Cursor
-pub mod Frames
 pub mod Answer
 -- the definitions that the contracts of this crate and of its re-exports cite
 pub use Rattle.jzon_base.specs.Decimal
@@ -51,3 +45,5 @@ pub use Rattle.jzon_tree.specs.View
 pub use Rattle.jzon_tree.specs.Writing
 pub use Rattle.jzon_tree.specs.declared.object.Object
 pub use Rattle.jzon_tree.specs.declared.value.JsonValue
+-- private
+pub mod Private

@@ -5,9 +5,9 @@ ghost use Rattle.std.specs.Prelude.{drop, false, slice_index, Err, IfOk, None, S
 ghost use Rattle.std.specs.Str.{IsCharBoundary, IsUtf8};
 ghost use Rattle.jzon_tree.specs.Value.{Value};
 ghost use Rattle.jzon_tree.specs.Writing.{is_whitespace};
-ghost use Rattle.jzon.specs.Brackets.{opener, closer, empty_container, innermost_bracket};
-ghost use Rattle.jzon.specs.Brackets.{after_opener, after_comma, after_closer};
-ghost use Rattle.jzon.specs.Machine.{Frames, frames_depth, value_mark, before, after_value, fault_here, Reports};
+ghost use Rattle.jzon.specs.Private.Brackets.{opener, closer, empty_container, innermost_bracket};
+ghost use Rattle.jzon.specs.Private.Brackets.{after_opener, after_comma, after_closer};
+ghost use Rattle.jzon.specs.Private.Machine.{Frames, frames_depth, value_mark, before, after_value, fault_here, Reports};
 ghost use Rattle.jzon_base.specs.Tokens.{begin_array, begin_object};
 
 use crate::fault::fault_at;
@@ -56,7 +56,7 @@ pub(crate) struct Cursor<'a> {
 }
 
 impl<'a> Cursor<'a> {
-    ghost use Rattle.jzon.specs.Cursor.{next_byte, IsPast, GoesOn};
+    ghost use Rattle.jzon.specs.Private.Cursor.{next_byte, IsPast, GoesOn};
 
     /// Before the first token of a text.
     pub(crate) fn new(source: &'a str, reading: Reading) -> Cursor<'a>

@@ -4,7 +4,7 @@ ghost use Rattle.std.specs.Prelude.{◌≡◌, ◌+◌, length, take, drop, char
 ghost use Rattle.std.specs.Str.{IsCharBoundary};
 ghost use Rattle.jzon_base.specs.declared.error.Error.TheVariants.{DuplicateKey};
 ghost use Rattle.jzon.specs.Fault.{line, column};
-ghost use Rattle.jzon.specs.Machine.{Reports, fault_here};
+ghost use Rattle.jzon.specs.Private.Machine.{Reports, fault_here};
 
 use jzon_base::error::Error;
 

@@ -13,9 +13,9 @@ ghost use Rattle.jzon_base.specs.declared.error.Error.TheVariants.{ExceededDepth
 ghost use Rattle.jzon_tree.specs.Value.{number};
 ghost use Rattle.jzon.specs.Reading.{Reading};
 ghost use Rattle.jzon.specs.Grammar.{is_exponent_letter};
-ghost use Rattle.jzon.specs.Classes.{lettered};
+ghost use Rattle.jzon.specs.Private.Classes.{lettered};
 ghost use Rattle.jzon_base.specs.Tokens.{zero_digit};
-ghost use Rattle.jzon.specs.Machine.{Frames, numeral, numeral_after_first, after_value, from, fault_here, Reports, Leads};
+ghost use Rattle.jzon.specs.Private.Machine.{Frames, numeral, numeral_after_first, after_value, from, fault_here, Reports, Leads};
 
 use crate::fault::fault_at;
 use crate::peek::has_byte;

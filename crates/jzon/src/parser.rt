@@ -6,12 +6,12 @@ ghost use Rattle.std.specs.Option.{is_some};
 ghost use Rattle.jzon_base.specs.PairList.{find};
 ghost use Rattle.jzon_tree.specs.Value.{Value, object, pairs_of};
 ghost use Rattle.jzon_tree.specs.View.{view, viewed};
-ghost use Rattle.jzon.specs.Brackets.{innermost_bracket, after_comma, after_closer};
+ghost use Rattle.jzon.specs.Private.Brackets.{innermost_bracket, after_comma, after_closer};
 ghost use Rattle.jzon.specs.Answer.{IsMeaningOf, IsReadable, IsErrorUnlessMemory, TakesMemory};
-ghost use Rattle.jzon.specs.Cursor.{left, next_byte, GoesOn, IsPast};
-ghost use Rattle.jzon.specs.Frames.{open_in, stack_view, state_of, is_open, IsReady, IsWholeValue};
-ghost use Rattle.jzon.specs.Machine.{Frames, no_frames, array_frame, object_frame, frames_depth, is_fresh, before};
-ghost use Rattle.jzon.specs.Machine.{before_key, after_value, key_mark, from, Reads};
+ghost use Rattle.jzon.specs.Private.Cursor.{left, next_byte, GoesOn, IsPast};
+ghost use Rattle.jzon.specs.Private.Frames.{open_in, stack_view, state_of, is_open, IsReady, IsWholeValue};
+ghost use Rattle.jzon.specs.Private.Machine.{Frames, no_frames, array_frame, object_frame, frames_depth, is_fresh, before};
+ghost use Rattle.jzon.specs.Private.Machine.{before_key, after_value, key_mark, from, Reads};
 ghost use Rattle.jzon.specs.Reading.{usual};
 ghost use Rattle.jzon_base.specs.Tokens.{end_array, end_object};
 

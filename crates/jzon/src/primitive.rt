@@ -8,9 +8,9 @@ ghost use Rattle.std.specs.Str.{IsCharBoundary};
 ghost use Rattle.jzon_tree.specs.Value.{Value, null, boolean};
 ghost use Rattle.jzon_tree.specs.View.{view};
 ghost use Rattle.jzon_tree.specs.Writing.{is_whitespace};
-ghost use Rattle.jzon.specs.Classes.{after_minus, letter_n, letter_t, letter_f};
-ghost use Rattle.jzon.specs.Machine.{numeral, numeral_after_first, string, as_value, between, Frames, is_fresh, before};
-ghost use Rattle.jzon.specs.Machine.{after_value, past_letter, value_mark, from, Reports, Leads, LeadsUnlessMemory, fault_here};
+ghost use Rattle.jzon.specs.Private.Classes.{after_minus, letter_n, letter_t, letter_f};
+ghost use Rattle.jzon.specs.Private.Machine.{numeral, numeral_after_first, string, as_value, between, Frames, is_fresh, before};
+ghost use Rattle.jzon.specs.Private.Machine.{after_value, past_letter, value_mark, from, Reports, Leads, LeadsUnlessMemory, fault_here};
 ghost use Rattle.jzon.specs.Reading.{Reading};
 ghost use Rattle.jzon_base.specs.Tokens.{begin_array, begin_object, end_array, quotation_mark};
 

@@ -19,7 +19,7 @@ pub struct Reading {
 impl Model for Reading {
     ghost use Rattle.std.specs.Prelude.{◌≤◌};
     ghost use Rattle.jzon.specs.Reading.{Reading as Limits};
-    ghost use Rattle.jzon.specs.ReadingFields.{fields_of};
+    ghost use Rattle.jzon.specs.Private.ReadingFields.{fields_of};
 
     ghost Value = { Limits };
 

@@ -6,16 +6,16 @@ ghost use Rattle.std.specs.Prelude.{slice_index, slice_range, string_bytes, enco
 ghost use Rattle.std.specs.Char.{is_ascii_hexdigit, digit_value};
 ghost use Rattle.std.specs.Str.{IsCharBoundary};
 ghost use Rattle.jzon_base.specs.declared.error.Error.TheVariants.{OutOfMemory};
-ghost use Rattle.jzon_base.specs.PlainBytes.{is_plain};
+ghost use Rattle.jzon_base.specs.Private.PlainBytes.{is_plain};
 ghost use Rattle.jzon_base.specs.Tokens.{escape};
 ghost use Rattle.jzon_tree.specs.Value.{text, kind_of};
 ghost use Rattle.jzon_tree.specs.View.{view};
 ghost use Rattle.jzon.specs.Reading.{Reading};
 ghost use Rattle.jzon.specs.Grammar.{is_simple, is_high, is_low, is_surrogate, code_unit};
 ghost use Rattle.jzon.specs.Meaning.{unescaped, pair_char};
-ghost use Rattle.jzon.specs.Quote.{EndsAtQuote};
-ghost use Rattle.jzon.specs.Machine.{Role, string, between, slash, code, second, second_code, after_unit, move_pair};
-ghost use Rattle.jzon.specs.Machine.{outcome_on, from, from_closed, Reports};
+ghost use Rattle.jzon.specs.Private.Quote.{EndsAtQuote};
+ghost use Rattle.jzon.specs.Private.Machine.{Role, string, between, slash, code, second, second_code, after_unit, move_pair};
+ghost use Rattle.jzon.specs.Private.Machine.{outcome_on, from, from_closed, Reports};
 
 use crate::fault::fault_at;
 use crate::peek::has_byte;

@@ -4,7 +4,7 @@ ghost use Rattle.std.specs.Prelude.{◌≡◌, IsTrue, ◌<◌, ◌≤◌, lengt
 ghost use Rattle.std.specs.List.{prefix_len};
 ghost use Rattle.std.specs.Str.{IsCharBoundary};
 ghost use Rattle.jzon_tree.specs.Writing.{is_whitespace};
-ghost use Rattle.jzon.specs.Machine.{State, allows_whitespace, from};
+ghost use Rattle.jzon.specs.Private.Machine.{State, allows_whitespace, from};
 
 use crate::peek::{has_byte, has_four};
 use crate::reading::Reading;

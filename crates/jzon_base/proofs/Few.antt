@@ -3,7 +3,7 @@ use Rattle.std.proofs.Common.{◌≡◌, ◌∙◌, ℕ, List, [], length, set, 
 use Rattle.std.proofs.lemmas.List.{length-set}
 use Rattle.std.specs.List.{position, zip, IsDistinct}
 use Rattle.std.specs.Str.{bytes_eq}
-use Rattle.jzon_base.specs.Keys.{IsSlotted}
+use Rattle.jzon_base.specs.Private.Keys.{IsSlotted}
 use Rattle.jzon_base.specs.PairList.{put, put_each}
 use Rattle.jzon_base.proofs.PairPlaces.{zip-put_placed}
 use Rattle.jzon_base.proofs.PutEach.{put_each-zip}

@@ -19,8 +19,8 @@ use Rattle.std.specs.List.Sorted.{IsPermutation, IsNonDecreasingBy}
 use Rattle.std.specs.Option.{is_some}
 use Rattle.std.specs.Str.{bytes_eq}
 use Rattle.std.specs.Prelude.{IfSome}
-use Rattle.jzon_base.specs.Handed.{numbered, is_at, is_found, AreHanded, IsIndexOf}
-use Rattle.jzon_base.specs.Keys.{lowered}
+use Rattle.jzon_base.specs.Private.Handed.{numbered, is_at, is_found, AreHanded, IsIndexOf}
+use Rattle.jzon_base.specs.Private.Keys.{lowered}
 use Rattle.jzon_base.proofs.Permutations.{IsPermutation-filter}
 use Rattle.jzon_base.proofs.Positions.{position-none}
 use Rattle.jzon_base.proofs.Indexes.{only_place, is_other, kept_by, lowered-lower, lowered-higher}

@@ -8,7 +8,7 @@ use Rattle.std.proofs.lemmas.List.Folds.{list_any_none}
 use Rattle.std.proofs.lemmas.Slice.Eq.{bytes_eq-Decides}
 use Rattle.std.specs.List.{list_any}
 use Rattle.std.specs.Str.{bytes_eq}
-use Rattle.jzon_base.specs.Marks.{is_marked, may_have, AreMarked}
+use Rattle.jzon_base.specs.Private.Marks.{is_marked, may_have, AreMarked}
 
 module _ (ss : List ℕ) (m i n : ℕ) where
   pub marked_empty : get_or ss i 1 ≡ 0 → is_marked ss m i (suc n) ≡ false

@@ -13,7 +13,7 @@ use Rattle.std.proofs.lemmas.List.Quantifiers.{position-Some}
 use Rattle.std.specs.List.{position, swap, zip, fold, AllByRecursion}
 use Rattle.std.proofs.lemmas.Slice.Zip.{length-zip, get_or-zip}
 use Rattle.std.specs.Str.{bytes_eq}
-use Rattle.jzon_base.specs.Keys.{AreFirsts}
+use Rattle.jzon_base.specs.Private.Keys.{AreFirsts}
 use Rattle.jzon_base.specs.PairList.{keys_of, put, put_each}
 use Rattle.jzon_base.proofs.PairPlaces.{zip-put_placed, zip-put_missing}
 use Rattle.jzon_base.proofs.Zips.{AreParts-zip}

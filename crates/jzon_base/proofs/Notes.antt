@@ -1,6 +1,6 @@
 -- What a growing list of keys keeps for lookups.
 use Rattle.std.proofs.Common.{◌≡◌, ℕ, List, []}
-use Rattle.jzon_base.specs.Notes.{AreNoted}
+use Rattle.jzon_base.specs.Private.Notes.{AreNoted}
 use Rattle.jzon_base.specs.declared.keys.notes.Notes.{Notes}
 use Rattle.jzon_base.proofs.Few.{IsSlotted-none}
 use Rattle.jzon_base.proofs.Marks.{AreMarked-none}

@@ -11,7 +11,7 @@ use Rattle.std.proofs.lemmas.Simd.{chunk-fits, first_set_mask_l, length-chunk, m
 use Rattle.std.proofs.lemmas.Simd.{zip2_splat}
 use lib.Count.{count_trailing_zeros}
 use lib.Lanes.{Each1, chunk, mask_l, top, zip2}
-use Rattle.jzon_base.specs.PlainBytes.{is_plain}
+use Rattle.jzon_base.specs.Private.PlainBytes.{is_plain}
 
 abbrev below : ℕ → ℕ → ℕ
 below a b = cond (ltb a b) 255 0

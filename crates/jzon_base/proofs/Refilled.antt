@@ -8,9 +8,9 @@ use Rattle.std.proofs.lemmas.List.Sorted.{IsPermutation-append, IsPermutation-re
 use Rattle.std.proofs.Math.ListN.{length-map}
 use Rattle.std.specs.List.{flat_map}
 use Rattle.std.specs.List.Sorted.{IsPermutation}
-use Rattle.jzon_base.specs.Handed.{IsIndexOf}
-use Rattle.jzon_base.specs.Hash.{hash_of}
-use Rattle.jzon_base.specs.Keys.{hashed_from, IsIndexed}
+use Rattle.jzon_base.specs.Private.Handed.{IsIndexOf}
+use Rattle.jzon_base.specs.Private.Hash.{hash_of}
+use Rattle.jzon_base.specs.Private.Keys.{hashed_from, IsIndexed}
 use Rattle.jzon_base.proofs.Indexes.{hashed_from-more, hashed_from-append, hashed_from-none}
 use Rattle.jzon_base.proofs.Handed.{length-numbered}
 use Rattle.jzon_base.proofs.Tables.{hashed_from-numbered, IsIndexOf-some}

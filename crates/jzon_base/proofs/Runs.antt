@@ -23,8 +23,8 @@ use Rattle.std.proofs.lemmas.List.Sorted.{searchable_from_sorted, All-permutatio
 use Rattle.std.proofs.lemmas.List.Sorted.{IsPermutation-refl, IsPermutation-trans, list_any-IsPermutation}
 use Rattle.std.proofs.lemmas.Map.Text.{is_eq-slice_cmp}
 use Rattle.std.proofs.lemmas.Slice.Eq.{bytes_eq-Decides}
-use Rattle.jzon_base.specs.Hash.{hash_of}
-use Rattle.jzon_base.specs.Keys.{beside, hashed_from, pair_cmp, AreRuns}
+use Rattle.jzon_base.specs.Private.Hash.{hash_of}
+use Rattle.jzon_base.specs.Private.Keys.{beside, hashed_from, pair_cmp, AreRuns}
 use Rattle.jzon_base.proofs.Indexes.{hashed_from-append, not_less}
 
 prefix : {X : Type 0} (xs ys zs : List X) → zs ≡ xs ++ ys → take (length xs) zs ≡ xs

@@ -10,9 +10,9 @@ use Rattle.std.specs.List.{position, remove, IsDistinct}
 use Rattle.std.specs.List.Sorted.{IsPermutation}
 use Rattle.std.specs.Option.{is_some}
 use Rattle.std.specs.Str.{bytes_eq}
-use Rattle.jzon_base.specs.Handed.{numbered, AreHanded, IsIndexOf}
-use Rattle.jzon_base.specs.Hash.{hash_of}
-use Rattle.jzon_base.specs.Keys.{hashed_from, lowered, IsIndex, IsIndexed, IsTable}
+use Rattle.jzon_base.specs.Private.Handed.{numbered, AreHanded, IsIndexOf}
+use Rattle.jzon_base.specs.Private.Hash.{hash_of}
+use Rattle.jzon_base.specs.Private.Keys.{hashed_from, lowered, IsIndex, IsIndexed, IsTable}
 use Rattle.jzon_base.proofs.Handed.{IsIndexOf-push, IsIndexOf-same, IsIndexOf-remove}
 use Rattle.jzon_base.proofs.Indexes.{is_other, none_of, IsDistinct-missing, IsDistinct-remove}
 

@@ -44,7 +44,7 @@ pub struct Keys {
 
 impl Model for Keys {
     ghost use Rattle.std.specs.Prelude.{List, ℕ};
-    ghost use Rattle.jzon_base.specs.Keys.{keys_in};
+    ghost use Rattle.jzon_base.specs.Private.Keys.{keys_in};
 
     ghost Value = { List (List ℕ) };
 

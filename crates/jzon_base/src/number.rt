@@ -34,7 +34,7 @@ impl Model for Number {
 
     ghost Value = { Decimal };
 
-    ghost use Rattle.jzon_base.specs.NumberFields.{value_at, HasNoParts, fields_of};
+    ghost use Rattle.jzon_base.specs.Private.NumberFields.{value_at, HasNoParts, fields_of};
 
     ghost view = { λ n. value_at n.category n.mantissa n.exponent };
 
@@ -138,7 +138,7 @@ impl std::ops::Neg for Number {
 
 impl PartialEq for Number {
     ghost use Rattle.std.specs.Cmp.{partial_equiv_from_equiv};
-    ghost use Rattle.jzon_base.specs.Same.{same_equiv};
+    ghost use Rattle.jzon_base.specs.Private.Same.{same_equiv};
 
     ghost eq = { same };
 
@@ -162,7 +162,7 @@ impl PartialEq for Number {
 }
 
 impl Eq for Number {
-    ghost use Rattle.jzon_base.specs.Same.{same_equiv};
+    ghost use Rattle.jzon_base.specs.Private.Same.{same_equiv};
 
     ghost laws = { same_equiv };
 }
@@ -183,7 +183,7 @@ impl fmt::Display for Number {
 }
 
 /// Whether two numbers with these parts are equal.
-#[tactic(auto, using(crate::specs::Same::zero_rules))]
+#[tactic(auto, using(crate::specs::Private::Same::zero_rules))]
 fn same_parts(
     positive: bool,
     mantissa: u64,

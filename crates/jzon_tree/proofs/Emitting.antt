@@ -6,7 +6,7 @@ use Rattle.std.specs.Prelude.{MatchResult, not, ◌==◌}
 use Rattle.std.specs.Result.{IsErr}
 use Rattle.jzon_tree.proofs.Sent.{adds_same, adds_then, adds_weaker, Sends-laid}
 use Rattle.jzon_tree.specs.Generator.{Adds, Begins, Just, Sends, Emitted, Added, Failed, Stopped, Emits, Counts, noted}
-use Rattle.jzon_tree.specs.Printing.{IsClosing, PrintsIf}
+use Rattle.jzon_tree.specs.Private.Printing.{IsClosing, PrintsIf}
 use Rattle.jzon_tree.specs.Writing.{Style}
 
 pub Added-nothing : (P : List ℕ → Type 0) (e : Emitted) → P [] → Added P e e

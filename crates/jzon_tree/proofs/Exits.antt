@@ -8,7 +8,7 @@ use Rattle.std.proofs.lemmas.Bool.{lt-ltb}
 use Rattle.jzon_base.specs.PairList.{keys_of}
 use Rattle.jzon_tree.specs.Generator.{Begins, Just, Emitted, Added, Failed, Stopped, Emits, noted, IsForm}
 use Rattle.jzon_tree.specs.Lawful.{IsValue, AreValues, ArePairs}
-use Rattle.jzon_tree.specs.Printing.{IsBetween, IsClosing, AreItems, IsEntry, pair_at, AreMembers, PrintsIf}
+use Rattle.jzon_tree.specs.Private.Printing.{IsBetween, IsClosing, AreItems, IsEntry, pair_at, AreMembers, PrintsIf}
 use Rattle.jzon_tree.specs.Text.{quoted}
 use Rattle.jzon_tree.specs.Value.{Value, array, object, values_of, pairs_of}
 use Rattle.jzon_tree.specs.Writing.{Style, IsStyle, IsOrder, Writes, colon_text}

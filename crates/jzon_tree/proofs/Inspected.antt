@@ -3,7 +3,7 @@ use Rattle.std.proofs.Common.{◌≡◌, ℕ, zero, suc, ◌+◌, ◌-◌, ◌<�
 use Rattle.std.proofs.Common.{Bool, true, false, refl, ap, arith}
 use Rattle.std.specs.Prelude.{slice_get, max, min, ◌||◌, ◌↔◌}
 use Rattle.std.proofs.Math.Nat.{max-le, le-max_left, le-max_right}
-use Rattle.jzon_tree.specs.Inspected.{IsInspected}
+use Rattle.jzon_tree.specs.Private.Inspected.{IsInspected}
 use Rattle.jzon_tree.specs.Lawful.{IsValue, AreValues, HasNoNan, HaveNoNan, PairsHaveNoNan}
 use Rattle.jzon_tree.specs.Value.{Value, Values, array, object, nest, most_nest, most_nest_under, values_of, pairs_of}
 use Rattle.jzon_tree.specs.View.{view, viewed}

@@ -13,7 +13,7 @@ use Rattle.jzon_tree.specs.Text.{quoted}
 use Rattle.jzon_tree.specs.Value.{Value, object, pairs_of}
 use Rattle.jzon_tree.specs.Writing.{Style, IsStyle, IsOrder, text_at, Writes, WritesPairs, colon_text}
 use Rattle.jzon_tree.specs.Lawful.{ArePairs}
-use Rattle.jzon_tree.specs.Printing.{IsBetween, IsClosing, IsEntry, pair_at, AreMembers}
+use Rattle.jzon_tree.specs.Private.Printing.{IsBetween, IsClosing, IsEntry, pair_at, AreMembers}
 use Rattle.jzon_tree.proofs.Orders.{order_occurs, order_within, order_differs}
 use Rattle.jzon_tree.proofs.Views.{list_of_pairs-pairs_of}
 use Rattle.jzon_tree.proofs.Writings.{some_between, some_writing, encloses, Items-append, needs_comma}

@@ -17,7 +17,7 @@ use Rattle.jzon_base.specs.PairList.{keys_of, values_of}
 use Rattle.jzon_tree.specs.declared.value.JsonValue.{JsonValue, size-JsonValue}
 use Rattle.jzon_tree.specs.Generator.{Emitted, Added, Just, Emits, IsAnswer, positions}
 use Rattle.jzon_tree.specs.Lawful.{IsValue, AreValues, ArePairs, IsPair}
-use Rattle.jzon_tree.specs.Printing.{pair_at, PrintsIf}
+use Rattle.jzon_tree.specs.Private.Printing.{pair_at, PrintsIf}
 use Rattle.jzon_tree.specs.StyleLaws.{IsOrder-insertion}
 use Rattle.jzon_tree.specs.Value.{Value, object, pairs_of}
 use Rattle.jzon_tree.specs.View.{view, viewed, view_values, view_pairs}

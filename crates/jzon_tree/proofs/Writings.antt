@@ -11,7 +11,7 @@ use Rattle.jzon_tree.specs.Value.{values_of, Pairs, no_pairs, pair, list_of_pair
 use Rattle.jzon_tree.specs.Writing.{Style, IsStyle, text_at, Joins, Encloses, Writes, WritesEach, WritesPairs}
 use Rattle.jzon_tree.specs.Writing.{colon_text}
 use Rattle.jzon_tree.specs.Lawful.{IsValue, AreValues, ArePairs}
-use Rattle.jzon_tree.specs.Printing.{IsBetween, IsClosing, Items, AreItems}
+use Rattle.jzon_tree.specs.Private.Printing.{IsBetween, IsClosing, Items, AreItems}
 
 -- ---- texts with whitespace and commas
 pub some_between : (s : Style) → IsStyle s → (d : ℕ) (comma : Bool) → (b : List ℕ) × IsBetween s d comma b

@@ -1,3 +1,4 @@
+-- to be believed: what public clauses cite
 pub mod Value
 pub mod Same
 pub mod SameLaws
@@ -9,10 +10,8 @@ pub mod Styles
 pub mod StyleLaws
 pub mod SortedStyle
 pub mod SortedStyleLaws
-pub mod Printing
 pub mod Generators
 pub mod Lawful
-pub mod Inspected
 pub mod Measure
 pub mod Entries
 pub mod IntoIter
@@ -23,3 +22,5 @@ pub mod Place
 pub mod Lent
 pub mod LentTypes
 pub mod IntoJson
+-- private
+pub mod Private

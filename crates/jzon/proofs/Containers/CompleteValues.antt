@@ -19,11 +19,11 @@ use Rattle.jzon.specs.Grammar.{IsWhitespace, IsKey, IsNode, AreElements, AreMemb
 use Rattle.jzon.specs.Spelling.{duplicate, Cell, cell, plain, breach_if, items_cells, items_length, duplicate_if}
 use Rattle.jzon.specs.Spelling.{key_cells, node_cells, elements_cells, members_cells, cells}
 use Rattle.jzon.specs.Meaning.{bytes_of, meaning, elements_meaning, members_meaning}
-use Rattle.jzon.specs.Machine.{Entries, Frames, no_frames, array_frame, object_frame, as_key, State, before, before_key}
-use Rattle.jzon.specs.Machine.{after_key, after_value, go, move, Outcome, meant, frames_depth, value_mark, key_mark}
-use Rattle.jzon.specs.Machine.{repeated_if}
-use Rattle.jzon.specs.Classes.{quote, opens_array, closes_array, opens_object, closes_object, comma, colon, begins_null}
-use Rattle.jzon.specs.Classes.{begins_true, begins_false}
+use Rattle.jzon.specs.Private.Machine.{Entries, Frames, no_frames, array_frame, object_frame, as_key, State, before, before_key}
+use Rattle.jzon.specs.Private.Machine.{after_key, after_value, go, move, Outcome, meant, frames_depth, value_mark, key_mark}
+use Rattle.jzon.specs.Private.Machine.{repeated_if}
+use Rattle.jzon.specs.Private.Classes.{quote, opens_array, closes_array, opens_object, closes_object, comma, colon, begins_null}
+use Rattle.jzon.specs.Private.Classes.{begins_true, begins_false}
 use Rattle.jzon.proofs.Texts.ClassesOfCharacters.{whitespace-class, class-char}
 use Rattle.jzon.proofs.Texts.Runs.{Follows}
 use Rattle.jzon.proofs.Numbers.CompleteNumbers.{complete_number}

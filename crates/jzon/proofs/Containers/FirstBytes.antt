@@ -8,11 +8,11 @@ use Rattle.std.proofs.lemmas.Bool.Decides.{nat_tests}
 use Rattle.jzon_tree.specs.Value as value
 use Rattle.jzon_tree.specs.Writing.{is_whitespace}
 use Rattle.jzon.specs.Reading.{Reading}
-use Rattle.jzon.specs.Classes.{Class, whitespace, digits, minus_char, quote, opens_array, closes_array, opens_object}
-use Rattle.jzon.specs.Classes.{begins_null, begins_true, begins_false, class_of, after_minus, after_first_digit}
-use Rattle.jzon.specs.Machine.{Frames, no_frames, array_frame, object_frame, is_fresh, as_value, between, string}
-use Rattle.jzon.specs.Machine.{numeral, past_letter, before, go, bad, bad_at, value_mark, move_before, move_empty_array}
-use Rattle.jzon.specs.Machine.{from}
+use Rattle.jzon.specs.Private.Classes.{Class, whitespace, digits, minus_char, quote, opens_array, closes_array, opens_object}
+use Rattle.jzon.specs.Private.Classes.{begins_null, begins_true, begins_false, class_of, after_minus, after_first_digit}
+use Rattle.jzon.specs.Private.Machine.{Frames, no_frames, array_frame, object_frame, is_fresh, as_value, between, string}
+use Rattle.jzon.specs.Private.Machine.{numeral, past_letter, before, go, bad, bad_at, value_mark, move_before, move_empty_array}
+use Rattle.jzon.specs.Private.Machine.{from}
 use Rattle.jzon.proofs.Texts.ClassesOfCharacters.{class-says, class-char, digits-class}
 use Rattle.jzon.proofs.Texts.AsciiRuns.{wide_is_no_space}
 use Rattle.jzon.proofs.Texts.StepsByByte.{StopsAt, from_step, stops_by, digit_is_ascii}

@@ -21,10 +21,10 @@ use Rattle.jzon_tree.specs.declared.value.JsonValue.{JsonValue}
 use Rattle.jzon_tree.proofs.Views.{find-viewed}
 use Rattle.jzon.specs.Reading.{Reading}
 use Rattle.jzon.specs.Spelling.{breach_if, deep}
-use Rattle.jzon.specs.Machine.{Entries, Frames, no_frames, array_frame, object_frame, frames_depth, is_fresh}
-use Rattle.jzon.specs.Machine.{State, after_value, value_mark, key_mark}
-use Rattle.jzon.specs.Cursor.{left, IsAfter, GoesOn}
-use Rattle.jzon.specs.Frames.{open_in, stack_view, state_of, is_open, IsReady, IsWholeValue}
+use Rattle.jzon.specs.Private.Machine.{Entries, Frames, no_frames, array_frame, object_frame, frames_depth, is_fresh}
+use Rattle.jzon.specs.Private.Machine.{State, after_value, value_mark, key_mark}
+use Rattle.jzon.specs.Private.Cursor.{left, IsAfter, GoesOn}
+use Rattle.jzon.specs.Private.Frames.{open_in, stack_view, state_of, is_open, IsReady, IsWholeValue}
 use Rattle.jzon.specs.declared.cursor.Cursor.{Cursor}
 use Rattle.jzon.specs.declared.frames.ValueStart.{ValueStart}
 use Rattle.jzon.specs.declared.frames.ValueStart.TheVariants.{Value as start_value, Array as start_array}

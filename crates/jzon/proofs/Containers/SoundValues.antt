@@ -15,14 +15,14 @@ use Rattle.jzon.specs.Grammar.{IsWhitespace, IsKey, IsNode, AreElements, AreMemb
 use Rattle.jzon.specs.Spelling.{Breach}
 use Rattle.jzon.specs.Meaning.{bytes_of, meaning, elements_meaning, members_meaning}
 use Rattle.jzon.specs.Fault.{Spells}
-use Rattle.jzon.specs.Classes.{Class, whitespace, digits, minus_char, quote, opens_array, closes_array, opens_object}
-use Rattle.jzon.specs.Classes.{closes_object, comma, colon, begins_null, begins_true, begins_false, class_of, after_first_digit}
-use Rattle.jzon.specs.Classes.{after_minus}
-use Rattle.jzon.specs.Machine.{Entries, Frames, no_frames, array_frame, object_frame, as_value, as_key, State, before}
-use Rattle.jzon.specs.Machine.{Role, Move, numeral, last, meant, meant_at, closed_string, before_key, word, string}
-use Rattle.jzon.specs.Machine.{after_key, after_value, between, go, bad, past_letter, value_mark, key_mark, bad_at}
-use Rattle.jzon.specs.Machine.{move_before, move_before_key, move_after_key, move_after_value, move_empty_array}
-use Rattle.jzon.specs.Machine.{move_empty_object}
+use Rattle.jzon.specs.Private.Classes.{Class, whitespace, digits, minus_char, quote, opens_array, closes_array, opens_object}
+use Rattle.jzon.specs.Private.Classes.{closes_object, comma, colon, begins_null, begins_true, begins_false, class_of, after_first_digit}
+use Rattle.jzon.specs.Private.Classes.{after_minus}
+use Rattle.jzon.specs.Private.Machine.{Entries, Frames, no_frames, array_frame, object_frame, as_value, as_key, State, before}
+use Rattle.jzon.specs.Private.Machine.{Role, Move, numeral, last, meant, meant_at, closed_string, before_key, word, string}
+use Rattle.jzon.specs.Private.Machine.{after_key, after_value, between, go, bad, past_letter, value_mark, key_mark, bad_at}
+use Rattle.jzon.specs.Private.Machine.{move_before, move_before_key, move_after_key, move_after_value, move_empty_array}
+use Rattle.jzon.specs.Private.Machine.{move_empty_object}
 use Rattle.jzon.proofs.Texts.ClassesOfCharacters.{class-says}
 use Rattle.jzon.proofs.Texts.Runs.{On, Goes}
 use Rattle.jzon.proofs.Texts.TreeCharacters.{items_chars, key_chars, node_chars, elements_chars, members_chars, spells}

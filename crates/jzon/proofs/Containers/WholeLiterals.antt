@@ -6,7 +6,7 @@ use Rattle.std.specs.Str.{IsCharBoundary}
 use Rattle.std.proofs.lemmas.Str.{IsCharBoundary-before_ascii, IsCharBoundary-after_ascii}
 use Rattle.jzon_tree.specs.Value.{Value, null, boolean}
 use Rattle.jzon.specs.Reading.{Reading}
-use Rattle.jzon.specs.Machine.{Frames, before, after_value, past_letter, value_mark, from}
+use Rattle.jzon.specs.Private.Machine.{Frames, before, after_value, past_letter, value_mark, from}
 use Rattle.jzon.proofs.Containers.FirstBytes.{begin_null, begin_true, begin_false}
 use Rattle.jzon.proofs.Containers.LiteralLetters.{three_read, four_read}
 

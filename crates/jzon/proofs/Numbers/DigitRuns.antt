@@ -8,8 +8,8 @@ use Rattle.jzon.specs.Reading.{Reading}
 use Rattle.jzon.specs.Grammar.{Sign, unsigned, AreDigits, IsDigits}
 use Rattle.jzon.specs.Spelling.{digit, breach_if, onto, drops_too_many, keeps_too_many}
 use Rattle.jzon.specs.Fault.{limit}
-use Rattle.jzon.specs.Classes.{whole, pointed, fraction, lettered, signed_exponent, exponent}
-use Rattle.jzon.specs.Machine.{Frames, State, numeral, go, move, refused, outcome_on, outcome}
+use Rattle.jzon.specs.Private.Classes.{whole, pointed, fraction, lettered, signed_exponent, exponent}
+use Rattle.jzon.specs.Private.Machine.{Frames, State, numeral, go, move, refused, outcome_on, outcome}
 use Rattle.jzon.proofs.Texts.ClassesOfCharacters.{digits-class}
 use Rattle.jzon.proofs.Numbers.NumberLimits.{AreUnmarked, IsFirstMarked, whole_unmarked, whole_marked}
 use Rattle.jzon.proofs.Numbers.NumberLimits.{fraction_unmarked, fraction_marked, never_marked}

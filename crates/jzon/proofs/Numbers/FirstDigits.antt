@@ -4,10 +4,10 @@ use Rattle.std.specs.Prelude.{IsUtf8, IsTrue, ◌==◌}
 use Rattle.std.specs.Char.{is_ascii_digit}
 use Rattle.std.specs.Str.{IsCharBoundary}
 use Rattle.jzon.specs.Reading.{Reading}
-use Rattle.jzon.specs.Classes.{Class, whitespace, digits, minus_char, plus_char, point, letter_e, quote, opens_array}
-use Rattle.jzon.specs.Classes.{closes_array, opens_object, closes_object, comma, colon, begins_null, begins_true}
-use Rattle.jzon.specs.Classes.{begins_false, other, class_of, after_minus, after_first_digit}
-use Rattle.jzon.specs.Machine.{Frames, numeral, bad, move_numeral, from}
+use Rattle.jzon.specs.Private.Classes.{Class, whitespace, digits, minus_char, plus_char, point, letter_e, quote, opens_array}
+use Rattle.jzon.specs.Private.Classes.{closes_array, opens_object, closes_object, comma, colon, begins_null, begins_true}
+use Rattle.jzon.specs.Private.Classes.{begins_false, other, class_of, after_minus, after_first_digit}
+use Rattle.jzon.specs.Private.Machine.{Frames, numeral, bad, move_numeral, from}
 use Rattle.jzon.proofs.Texts.ClassesOfCharacters.{class-says, digits-class}
 use Rattle.jzon.proofs.Texts.StepsByByte.{StopsAt, from_step, digit_is_ascii}
 

@@ -22,8 +22,8 @@ use Rattle.jzon.specs.Reading.{Reading, usual}
 use Rattle.jzon.specs.Grammar.{AreDigits, IsDigits, is_exponent_letter}
 use Rattle.jzon.specs.Spelling.{digit}
 use Rattle.jzon.specs.Fault.{limit}
-use Rattle.jzon.specs.Classes.{after_first_digit, pointed, lettered}
-use Rattle.jzon.specs.Machine.{Frames, numeral, after_value, Outcome, refused, outcome, from, fault_here, Reports}
+use Rattle.jzon.specs.Private.Classes.{after_first_digit, pointed, lettered}
+use Rattle.jzon.specs.Private.Machine.{Frames, numeral, after_value, Outcome, refused, outcome, from, fault_here, Reports}
 use Rattle.jzon.proofs.Numbers.DigitRuns.{refuse_fraction}
 use Rattle.jzon.proofs.Numbers.NumeralOutcomes.{NextFails, ReadsWhole, reads_zero, reads_digits, whole_to_point}
 use Rattle.jzon.proofs.Numbers.NumeralOutcomes.{whole_to_letter, whole_to_end, fraction_to_letter, fraction_to_end}

@@ -19,8 +19,8 @@ use Rattle.jzon_tree.specs.Value as value
 use Rattle.jzon.specs.Reading.{Reading}
 use Rattle.jzon.specs.Grammar.{Sign, plus, minus, AreDigits, IsDigits}
 use Rattle.jzon.specs.Meaning as meaning
-use Rattle.jzon.specs.Classes.{lettered, signed_exponent}
-use Rattle.jzon.specs.Machine.{Frames, numeral, after_value, outcome, from, fault_here}
+use Rattle.jzon.specs.Private.Classes.{lettered, signed_exponent}
+use Rattle.jzon.specs.Private.Machine.{Frames, numeral, after_value, outcome, from, fault_here}
 use Rattle.jzon.proofs.Texts.AsciiRuns.{chars-ascii, IsUtf8-past_ascii, stops_run}
 use Rattle.jzon.proofs.Texts.StepsByByte.{digit_is_ascii}
 use Rattle.jzon.proofs.Containers.LiteralLetters.{first_byte, some_byte}

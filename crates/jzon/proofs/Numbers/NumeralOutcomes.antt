@@ -8,11 +8,11 @@ use Rattle.jzon.specs.Reading.{Reading}
 use Rattle.jzon.specs.Grammar.{Sign, unsigned, plus, minus, AreDigits, IsDigits, is_exponent_letter}
 use Rattle.jzon.specs.Spelling.{digit, onto}
 use Rattle.jzon.specs.Fault.{limit}
-use Rattle.jzon.specs.Classes.{Class, digits, minus_char, plus_char, point, letter_e, class_of, NumberState, zero_read, whole}
-use Rattle.jzon.specs.Classes.{pointed, fraction, lettered, signed_exponent, exponent, after_first_digit}
-use Rattle.jzon.specs.Machine.{Frames, State, numeral, after_value, go, bad, move, move_after_value, move_after_whole}
-use Rattle.jzon.specs.Machine.{move_numeral, number_value, exponent_of, last, meant_at, refused, outcome_on, outcome}
-use Rattle.jzon.specs.Machine.{fault_here}
+use Rattle.jzon.specs.Private.Classes.{Class, digits, minus_char, plus_char, point, letter_e, class_of, NumberState, zero_read, whole}
+use Rattle.jzon.specs.Private.Classes.{pointed, fraction, lettered, signed_exponent, exponent, after_first_digit}
+use Rattle.jzon.specs.Private.Machine.{Frames, State, numeral, after_value, go, bad, move, move_after_value, move_after_whole}
+use Rattle.jzon.specs.Private.Machine.{move_numeral, number_value, exponent_of, last, meant_at, refused, outcome_on, outcome}
+use Rattle.jzon.specs.Private.Machine.{fault_here}
 use Rattle.jzon.proofs.Texts.ClassesOfCharacters.{letter_e-class, class-char, class-says}
 use Rattle.jzon.proofs.Numbers.NumberLimits.{onto-onto}
 use Rattle.jzon.proofs.Numbers.DigitRuns.{read_whole, refuse_whole, read_fraction, read_unsigned_exponent}

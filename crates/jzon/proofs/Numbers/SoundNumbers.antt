@@ -12,10 +12,10 @@ use Rattle.jzon.specs.Grammar.{Sign, unsigned, plus, minus, Exponent, Numeral, A
 use Rattle.jzon.specs.Grammar.{IsNumeral}
 use Rattle.jzon.specs.Spelling.{onto}
 use Rattle.jzon.specs.Meaning.{number_of}
-use Rattle.jzon.specs.Classes.{Class, digits, minus_char, plus_char, point, letter_e, class_of, NumberState, after_minus, zero_read}
-use Rattle.jzon.specs.Classes.{whole, pointed, fraction, lettered, signed_exponent, exponent, after_first_digit}
-use Rattle.jzon.specs.Machine.{Frames, numeral, number_value, exponent_of, move_after_value, meant_at, move_after_whole}
-use Rattle.jzon.specs.Machine.{move_numeral, last_numeral, meant}
+use Rattle.jzon.specs.Private.Classes.{Class, digits, minus_char, plus_char, point, letter_e, class_of, NumberState, after_minus, zero_read}
+use Rattle.jzon.specs.Private.Classes.{whole, pointed, fraction, lettered, signed_exponent, exponent, after_first_digit}
+use Rattle.jzon.specs.Private.Machine.{Frames, numeral, number_value, exponent_of, move_after_value, meant_at, move_after_whole}
+use Rattle.jzon.specs.Private.Machine.{move_numeral, last_numeral, meant}
 use Rattle.jzon.proofs.Texts.ClassesOfCharacters.{class-says}
 use Rattle.jzon.proofs.Texts.Runs.{On, Goes}
 use Rattle.jzon.proofs.Texts.TreeCharacters.{fraction_chars, sign_chars, exponent_chars, numeral_chars}

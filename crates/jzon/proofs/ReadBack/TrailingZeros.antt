@@ -14,7 +14,7 @@ use Rattle.jzon_base.specs.Digits.{add_digit, digits_number, kept_len, kept, dro
 use Rattle.jzon_base.specs.Digits.{clamp}
 use Rattle.jzon_base.specs.Decimal.{parts, same, scaled}
 use Rattle.jzon_base.specs.NumberText.{sign_text, number_text}
-use Rattle.jzon_base.specs.Same.{same_equiv}
+use Rattle.jzon_base.specs.Private.Same.{same_equiv}
 use Rattle.jzon_base.proofs.Kept.{kept_len-at}
 use Rattle.jzon_base.proofs.Scaled.{scaled-eq-fits}
 use Rattle.jzon.specs.Meaning.{number_of}

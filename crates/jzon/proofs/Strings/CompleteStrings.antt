@@ -15,9 +15,9 @@ use Rattle.jzon.specs.Grammar as grammar
 use Rattle.jzon.specs.Spelling.{Breach, pair, Cell, cell, plain, marked_last, breach_if, item_cells, items_cells}
 use Rattle.jzon.specs.Spelling.{items_length}
 use Rattle.jzon.specs.Meaning.{item_text, text_of, bytes_of, is_pair, pair_char}
-use Rattle.jzon.specs.Machine.{Frames, Role, as_value, before, string, after_value, between, code, second_code, Outcome}
-use Rattle.jzon.specs.Machine.{value_mark, after_unit, move_pair, add_hex}
-use Rattle.jzon.specs.Classes.{quote}
+use Rattle.jzon.specs.Private.Machine.{Frames, Role, as_value, before, string, after_value, between, code, second_code, Outcome}
+use Rattle.jzon.specs.Private.Machine.{value_mark, after_unit, move_pair, add_hex}
+use Rattle.jzon.specs.Private.Classes.{quote}
 use Rattle.jzon.proofs.Texts.ClassesOfCharacters.{class-char}
 use Rattle.jzon.proofs.Strings.StringCharacters.{plain_parts, simple_not_u}
 use Rattle.jzon.proofs.Texts.Runs.{Meets, Follows}

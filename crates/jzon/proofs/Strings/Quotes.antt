@@ -6,15 +6,15 @@ use Rattle.std.specs.Option.{is_some}
 use Rattle.std.specs.Str.{IsCharBoundary}
 use Rattle.std.proofs.lemmas.Bool.Decides.{nat_tests}
 use Rattle.std.proofs.lemmas.Str.{IsCharBoundary-after_ascii}
-use Rattle.jzon_base.specs.PlainBytes.{is_plain}
+use Rattle.jzon_base.specs.Private.PlainBytes.{is_plain}
 use Rattle.jzon_base.specs.PairList.{find}
 use Rattle.jzon.specs.Reading.{Reading}
 use Rattle.jzon.specs.Grammar.{is_unescaped}
 use Rattle.jzon.specs.Spelling.{duplicate, breach_if}
 use Rattle.jzon.specs.Fault.{limit}
-use Rattle.jzon.specs.Quote.{EndsAtQuote}
-use Rattle.jzon.specs.Machine.{Entries, Frames, Role, as_key, after_key, Move, go, refused, string, between, slash}
-use Rattle.jzon.specs.Machine.{closed_string, bad, move_between, outcome_on, from, from_closed, left_at, fault_here}
+use Rattle.jzon.specs.Private.Quote.{EndsAtQuote}
+use Rattle.jzon.specs.Private.Machine.{Entries, Frames, Role, as_key, after_key, Move, go, refused, string, between, slash}
+use Rattle.jzon.specs.Private.Machine.{closed_string, bad, move_between, outcome_on, from, from_closed, left_at, fault_here}
 use Rattle.jzon.proofs.Strings.StringSteps.{byte_moves, byte_stops}
 
 none_of : (a b t : Bool) (x y z w : Move) → a ≡ false → b ≡ false → t ≡ false → cond a x (cond b y (cond t z w)) ≡ w

@@ -13,17 +13,17 @@ use Rattle.jzon_tree.specs.Value as value
 use Rattle.jzon.specs.Reading.{Reading}
 use Rattle.jzon.specs.Grammar.{is_unescaped, is_simple, is_surrogate}
 use Rattle.jzon.specs.Spelling.{Breach, deep, pair, digit, breach_if, onto}
-use Rattle.jzon.specs.Classes.{Class, whitespace, digits, minus_char, plus_char, point, letter_e, quote, opens_array}
-use Rattle.jzon.specs.Classes.{closes_array, opens_object, closes_object, comma, colon, begins_null, begins_true}
-use Rattle.jzon.specs.Classes.{begins_false, class_of, NumberState, after_minus, zero_read, whole, pointed, fraction}
-use Rattle.jzon.specs.Classes.{lettered, signed_exponent, exponent}
-use Rattle.jzon.specs.Machine.{Entries, Frames, no_frames, array_frame, object_frame, Role, as_value, as_key, StringState}
-use Rattle.jzon.specs.Machine.{between, slash, code, second, second_slash, second_code, State, before, before_key, word}
-use Rattle.jzon.specs.Machine.{numeral, string, after_key, after_value, Move, go, bad, bad_deep, move, value_mark, key_mark}
-use Rattle.jzon.specs.Machine.{last, frames_depth, bad_at, move_empty_array, move_before, move_empty_object}
-use Rattle.jzon.specs.Machine.{move_before_key, move_after_key, move_after_value, move_after_whole, move_after_fraction}
-use Rattle.jzon.specs.Machine.{move_numeral, repeated_if, closed_string, move_string, add_hex, after_unit, move_code, move_pair}
-use Rattle.jzon.specs.Machine.{move_second_code, past_letter, number_value, exponent_of}
+use Rattle.jzon.specs.Private.Classes.{Class, whitespace, digits, minus_char, plus_char, point, letter_e, quote, opens_array}
+use Rattle.jzon.specs.Private.Classes.{closes_array, opens_object, closes_object, comma, colon, begins_null, begins_true}
+use Rattle.jzon.specs.Private.Classes.{begins_false, class_of, NumberState, after_minus, zero_read, whole, pointed, fraction}
+use Rattle.jzon.specs.Private.Classes.{lettered, signed_exponent, exponent}
+use Rattle.jzon.specs.Private.Machine.{Entries, Frames, no_frames, array_frame, object_frame, Role, as_value, as_key, StringState}
+use Rattle.jzon.specs.Private.Machine.{between, slash, code, second, second_slash, second_code, State, before, before_key, word}
+use Rattle.jzon.specs.Private.Machine.{numeral, string, after_key, after_value, Move, go, bad, bad_deep, move, value_mark, key_mark}
+use Rattle.jzon.specs.Private.Machine.{last, frames_depth, bad_at, move_empty_array, move_before, move_empty_object}
+use Rattle.jzon.specs.Private.Machine.{move_before_key, move_after_key, move_after_value, move_after_whole, move_after_fraction}
+use Rattle.jzon.specs.Private.Machine.{move_numeral, repeated_if, closed_string, move_string, add_hex, after_unit, move_code, move_pair}
+use Rattle.jzon.specs.Private.Machine.{move_second_code, past_letter, number_value, exponent_of}
 use Rattle.jzon.proofs.Texts.ClassesOfCharacters.{class-char}
 use Rattle.jzon.proofs.Texts.Closing.{closer}
 

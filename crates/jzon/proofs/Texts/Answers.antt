@@ -8,7 +8,7 @@ use Rattle.jzon_tree.specs.declared.value.JsonValue.{JsonValue}
 use Rattle.jzon.specs.Reading.{Reading}
 use Rattle.jzon.specs.Spelling.{deep, digit}
 use Rattle.jzon.specs.Fault.{Fault, limit, error_at, IsErrorOf}
-use Rattle.jzon.specs.Machine.{no_frames, before, Outcome, meant, refused, outcome, Reads}
+use Rattle.jzon.specs.Private.Machine.{no_frames, before, Outcome, meant, refused, outcome, Reads}
 use Rattle.std.specs.Prelude.{IfOk, IfErr}
 use Rattle.jzon.specs.Answer.{IsMeaningOf, IsReadable, IsErrorUnlessMemory}
 use Rattle.jzon.proofs.Texts.Verdict.{Verdict, answers}

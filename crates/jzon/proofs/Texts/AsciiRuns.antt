@@ -12,7 +12,7 @@ use Rattle.std.proofs.lemmas.Str.{IsCharBoundary-from_drop}
 use Rattle.jzon_tree.specs.Value.{Value}
 use Rattle.jzon_tree.specs.Writing.{is_whitespace}
 use Rattle.jzon.specs.Reading.{Reading}
-use Rattle.jzon.specs.Machine.{State, Frames, before, after_value, go, move, outcome, outcome_on, from}
+use Rattle.jzon.specs.Private.Machine.{State, Frames, before, after_value, go, move, outcome, outcome_on, from}
 use Rattle.jzon.proofs.Texts.ClassesOfCharacters.{whitespace-class}
 
 -- an ASCII byte is a character, and what follows it is text

@@ -7,12 +7,12 @@ use Rattle.jzon_tree.specs.Value as value
 use Rattle.jzon_tree.specs.Value.{Value, values_of, pairs_of, kind_of}
 use Rattle.jzon.specs.Reading.{Reading}
 use Rattle.jzon.specs.Grammar.{is_surrogate, is_high, is_low, unsigned}
-use Rattle.jzon.specs.Classes.{NumberState, after_minus, zero_read, whole, pointed, fraction, lettered, signed_exponent}
-use Rattle.jzon.specs.Classes.{exponent, digits, closes_array, closes_object, quote, colon, begins_null}
-use Rattle.jzon.specs.Machine.{Frames, no_frames, array_frame, object_frame, Role, as_value, as_key, StringState, between}
-use Rattle.jzon.specs.Machine.{slash, code, second, second_slash, second_code, State, before, before_key, word, numeral}
-use Rattle.jzon.specs.Machine.{string, after_key, after_value, add_hex, Entries, go, last_numeral, meant_at, move_numeral}
-use Rattle.jzon.specs.Machine.{move_after_value, move_pair, after_unit, past_letter}
+use Rattle.jzon.specs.Private.Classes.{NumberState, after_minus, zero_read, whole, pointed, fraction, lettered, signed_exponent}
+use Rattle.jzon.specs.Private.Classes.{exponent, digits, closes_array, closes_object, quote, colon, begins_null}
+use Rattle.jzon.specs.Private.Machine.{Frames, no_frames, array_frame, object_frame, Role, as_value, as_key, StringState, between}
+use Rattle.jzon.specs.Private.Machine.{slash, code, second, second_slash, second_code, State, before, before_key, word, numeral}
+use Rattle.jzon.specs.Private.Machine.{string, after_key, after_value, add_hex, Entries, go, last_numeral, meant_at, move_numeral}
+use Rattle.jzon.specs.Private.Machine.{move_after_value, move_pair, after_unit, past_letter}
 use Rattle.jzon.proofs.Texts.ClassesOfCharacters.{class-char, digits-class}
 use Rattle.jzon.proofs.Texts.Runs.{On, Goes}
 

@@ -5,8 +5,8 @@ use Rattle.std.specs.Prelude.{chars, IsUtf8}
 use Rattle.std.proofs.lemmas.Str.{IsUtf8-had}
 use Rattle.jzon_base.specs.declared.error.Error.{Error}
 use Rattle.jzon_tree.specs.declared.value.JsonValue.{JsonValue}
-use Rattle.jzon.specs.Cursor.{left, IsPast, IsAfter, GoesOn}
-use Rattle.jzon.specs.Machine.{State, Outcome, allows_whitespace, from, Reads, ReportsUnlessMemory}
+use Rattle.jzon.specs.Private.Cursor.{left, IsPast, IsAfter, GoesOn}
+use Rattle.jzon.specs.Private.Machine.{State, Outcome, allows_whitespace, from, Reads, ReportsUnlessMemory}
 use Rattle.jzon.specs.declared.cursor.Cursor.{Cursor}
 use Rattle.jzon.proofs.Texts.ReportedErrors.{reported_again}
 

@@ -9,7 +9,7 @@ use Rattle.std.proofs.Math.Seq.{get_or-append_seam, take-append_seam}
 use Rattle.jzon_base.specs.declared.error.Error.TheVariants.{UnexpectedCharacter, DuplicateKey}
 use Rattle.jzon.specs.Spelling.{duplicate}
 use Rattle.jzon.specs.Fault.{character, limit, line, column, error_at}
-use Rattle.jzon.specs.Machine.{Reports, refused, left_at, fault_here}
+use Rattle.jzon.specs.Private.Machine.{Reports, refused, left_at, fault_here}
 
 -- the characters of a text are those before a boundary and those after it
 pub chars_split : (bs : List ℕ) (i : ℕ) → IsUtf8 bs → IsCharBoundary bs i

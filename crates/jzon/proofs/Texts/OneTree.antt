@@ -14,9 +14,9 @@ use Rattle.jzon.specs.Grammar.{IsWhitespace, AreDigits, IsDigits, IsWhole, IsExp
 use Rattle.jzon.specs.Grammar.{IsKey, IsNode, AreElements, AreMembers, IsDocument, is_surrogate, code_unit}
 use Rattle.jzon.specs.Grammar as grammar
 use Rattle.jzon.specs.Fault.{Spells}
-use Rattle.jzon.specs.Classes.{Class, whitespace, digits, minus_char, plus_char, point, letter_e, quote, opens_array}
-use Rattle.jzon.specs.Classes.{closes_array, opens_object, closes_object, comma, colon, begins_null, begins_true}
-use Rattle.jzon.specs.Classes.{begins_false, class_of}
+use Rattle.jzon.specs.Private.Classes.{Class, whitespace, digits, minus_char, plus_char, point, letter_e, quote, opens_array}
+use Rattle.jzon.specs.Private.Classes.{closes_array, opens_object, closes_object, comma, colon, begins_null, begins_true}
+use Rattle.jzon.specs.Private.Classes.{begins_false, class_of}
 use Rattle.jzon.proofs.Texts.ClassesOfCharacters.{whitespace-class, digits-class, letter_e-class, class-char, char_of}
 use Rattle.jzon.proofs.Strings.StringCharacters.{plain_parts, simple_not_u}
 use Rattle.jzon.proofs.Texts.TreeCharacters.{fraction_chars, sign_chars, exponent_chars, magnitude_chars, numeral_chars}

@@ -15,7 +15,7 @@ use Rattle.jzon.specs.Grammar.{no_members, member, Document, Each, AreHex, IsIte
 use Rattle.jzon.specs.Grammar.{AreMembers, is_unescaped, is_simple, is_surrogate, code_unit}
 use Rattle.jzon.specs.Grammar as grammar
 use Rattle.jzon.specs.Fault.{Spells, Parses}
-use Rattle.jzon.specs.Machine.{no_frames, before, Outcome, meant, refused, outcome}
+use Rattle.jzon.specs.Private.Machine.{no_frames, before, Outcome, meant, refused, outcome}
 use Rattle.jzon.proofs.WorkedRows.Samples.{is_numeral, is_numeral-true}
 use Rattle.jzon.proofs.Texts.TreeCharacters.{document_chars, spells}
 use Rattle.jzon.proofs.Texts.OneTree.{same_tree}

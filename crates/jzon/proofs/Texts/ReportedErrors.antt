@@ -12,7 +12,7 @@ use Rattle.jzon_base.specs.declared.error.Error.TheVariants.{OutOfMemory, Unexpe
 use Rattle.jzon.specs.Reading.{Reading}
 use Rattle.jzon.specs.Spelling.{deep, pair, digit, duplicate}
 use Rattle.jzon.specs.Fault.{Fault, limit, character, error_at}
-use Rattle.jzon.specs.Machine.{State, Outcome, meant, refused, last, from, Reports, ReportsUnlessMemory}
+use Rattle.jzon.specs.Private.Machine.{State, Outcome, meant, refused, last, from, Reports, ReportsUnlessMemory}
 use Rattle.jzon.proofs.Texts.FaultOffsets.{chars_split}
 use Rattle.jzon.proofs.Texts.AsciiRuns.{chars-ascii}
 use Rattle.jzon.proofs.Texts.StepsByByte.{from_end}

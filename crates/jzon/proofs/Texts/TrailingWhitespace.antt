@@ -5,8 +5,8 @@ use Rattle.std.specs.Str.{IsCharBoundary}
 use Rattle.jzon_tree.specs.Value.{Value}
 use Rattle.jzon_tree.specs.Writing.{is_whitespace}
 use Rattle.jzon.specs.Reading.{Reading}
-use Rattle.jzon.specs.Classes.{Class, whitespace, class_of}
-use Rattle.jzon.specs.Machine.{no_frames, after_value, bad, move_after_value, outcome, outcome_on, from, fault_here}
+use Rattle.jzon.specs.Private.Classes.{Class, whitespace, class_of}
+use Rattle.jzon.specs.Private.Machine.{no_frames, after_value, bad, move_after_value, outcome, outcome_on, from, fault_here}
 use Rattle.jzon.proofs.Texts.ClassesOfCharacters.{class-says}
 use Rattle.jzon.proofs.Texts.AsciiRuns.{wide_is_no_space}
 use Rattle.jzon.proofs.Texts.StepsByByte.{byte_there, by_character, some_character}

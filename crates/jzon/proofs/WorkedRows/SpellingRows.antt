@@ -17,7 +17,7 @@ use Rattle.jzon.specs.Grammar.{unsigned, plus, minus, Numeral, plain, simple, No
 use Rattle.jzon.specs.Meaning.{meaning, bytes_of}
 use Rattle.jzon.specs.Spelling.{drops_too_many, keeps_too_many}
 use Rattle.jzon.specs.Fault.{Parses}
-use Rattle.jzon.specs.Classes.{class_of}
+use Rattle.jzon.specs.Private.Classes.{class_of}
 use Rattle.jzon.proofs.Texts.ReadTree.{is_read, read_tree}
 use Rattle.jzon.proofs.WorkedRows.Samples.{each_row, alone, plains, string, key, key_of, escape, surrogates, integer}
 use Rattle.jzon.proofs.WorkedRows.Samples.{decimal, power, negated, one, two, array, object, is_numeral, spaced, mixed}

@@ -21,7 +21,7 @@ use Rattle.jzon.specs.Grammar.{Node, no_elements, no_members, member, plain, sim
 use Rattle.jzon.specs.Meaning.{bytes_of}
 use Rattle.jzon.specs.Spelling.{drops_too_many, keeps_too_many}
 use Rattle.jzon.specs.Laws.{alone, IsReadAs}
-use Rattle.jzon.specs.Classes.{class_of}
+use Rattle.jzon.specs.Private.Classes.{class_of}
 use Rattle.jzon.proofs.Texts.ReadTree.{read_tree}
 use Rattle.jzon.proofs.WorkedRows.Samples.{key, decimal}
 

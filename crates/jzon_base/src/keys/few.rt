@@ -2,7 +2,7 @@
 ghost use Rattle.std.specs.Prelude.{◌≡◌, ◌<◌, [], true, IfOk, IfSome, IsSome, Some};
 ghost use Rattle.std.specs.List.{position, IsDistinct};
 ghost use Rattle.std.specs.Str.{bytes_eq};
-ghost use Rattle.jzon_base.specs.Keys.{IsSlotted};
+ghost use Rattle.jzon_base.specs.Private.Keys.{IsSlotted};
 
 use super::hash::hash_of;
 use crate::key::Key;

@@ -5,7 +5,7 @@ ghost use Rattle.std.specs.List.{list_any, All};
 ghost use Rattle.std.specs.List.Sorted.{IsPermutation, IsSorted};
 ghost use Rattle.std.specs.Ordering.{is_eq};
 ghost use Rattle.std.specs.Str.{bytes_eq};
-ghost use Rattle.jzon_base.specs.Keys.{beside, hashed_from, pair_cmp, AreRuns};
+ghost use Rattle.jzon_base.specs.Private.Keys.{beside, hashed_from, pair_cmp, AreRuns};
 
 use super::hash::hash_of;
 use super::index;

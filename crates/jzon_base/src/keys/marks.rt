@@ -1,7 +1,7 @@
 //! A filter: nearly every absent key is rejected without comparing keys. A strict reading uses it from the tenth key of an object on.
 ghost use Rattle.std.specs.Prelude.{◌≡◌, ◌≢◌, ◌+◌, ◌<◌, ◌%◌, length, bit_and, slice_index_or, true};
 ghost use Rattle.std.specs.Prelude.{OnOk};
-ghost use Rattle.jzon_base.specs.Marks.{is_marked, mark_of, may_have, AreMarked, StayMarked};
+ghost use Rattle.jzon_base.specs.Private.Marks.{is_marked, mark_of, may_have, AreMarked, StayMarked};
 
 use super::hash::hash_of;
 use crate::key::Key;

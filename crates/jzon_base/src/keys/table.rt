@@ -2,9 +2,9 @@
 ghost use Rattle.std.specs.Prelude.{◌≡◌, ◌<◌, ◌++◌, ◌∷◌, [], length, remove, slice_get, IfOk, OnOk, OnErr, MatchOption, None, Some, map};
 ghost use Rattle.std.specs.List.{position, zip, IsDistinct};
 ghost use Rattle.std.specs.Str.{bytes_eq};
-ghost use Rattle.jzon_base.specs.Keys.{IsIndex, IsIndexed};
-ghost use Rattle.jzon_base.specs.Handed.{IsIndexOf};
-ghost use Rattle.jzon_base.specs.Hash.{hash_of};
+ghost use Rattle.jzon_base.specs.Private.Keys.{IsIndex, IsIndexed};
+ghost use Rattle.jzon_base.specs.Private.Handed.{IsIndexOf};
+ghost use Rattle.jzon_base.specs.Private.Hash.{hash_of};
 ghost use Rattle.jzon_base.specs.PairList.{put_each};
 
 mod retain;
@@ -27,7 +27,7 @@ pub struct Table {
 
 impl Model for Table {
     ghost use Rattle.std.specs.Prelude.{List, ℕ};
-    ghost use Rattle.jzon_base.specs.Keys.{IsTable};
+    ghost use Rattle.jzon_base.specs.Private.Keys.{IsTable};
 
     ghost Value = { List (List ℕ) };
 

@@ -29,7 +29,7 @@ pub struct Builder<V> {
 impl<V> Model for Builder<V> {
     ghost use Rattle.std.specs.Prelude.{List, ℕ};
     ghost use Rattle.std.specs.List.{zip};
-    ghost use Rattle.jzon_base.specs.Notes.{IsBuilt};
+    ghost use Rattle.jzon_base.specs.Private.Notes.{IsBuilt};
     ghost use Rattle.std.specs.Coded.{coded_ℕ, coded_list, coded×};
     ghost use Rattle.jzon_base.specs.PairList.{put_each};
 

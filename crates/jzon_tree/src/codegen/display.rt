@@ -3,7 +3,7 @@
 ghost use Rattle.std.specs.Prelude.{◌≡◌, false};
 ghost use Rattle.std.specs.Fmt.{WritesOnOk};
 ghost use Rattle.jzon_base.specs.NumberText.{written_text};
-ghost use Rattle.jzon_base.specs.PlainBytes.{is_plain};
+ghost use Rattle.jzon_base.specs.Private.PlainBytes.{is_plain};
 ghost use Rattle.jzon_tree.specs.Displayed.{comma_text, member_text};
 ghost use Rattle.jzon_tree.specs.Text.{compact, escaped_byte, quoted};
 ghost use Rattle.jzon_tree.specs.Value.{array};

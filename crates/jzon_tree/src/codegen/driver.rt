@@ -5,7 +5,7 @@ ghost use Rattle.jzon_base.specs.PairList.{keys_of};
 ghost use Rattle.jzon_tree.specs.Entries.{entries_of};
 ghost use Rattle.jzon_tree.specs.Generator.{Added, Emits, Failed, IsAnswer, Just, Prints, noted, positions};
 ghost use Rattle.jzon_tree.specs.Lawful.{IsValue, AreValues, ArePairs, IsPair};
-ghost use Rattle.jzon_tree.specs.Printing.{IsBetween, IsClosing, AreItems, IsEntry, AreMembers, PrintsIf};
+ghost use Rattle.jzon_tree.specs.Private.Printing.{IsBetween, IsClosing, AreItems, IsEntry, AreMembers, PrintsIf};
 ghost use Rattle.jzon_tree.specs.Value.{array};
 ghost use Rattle.jzon_tree.specs.View.{view, view_object, view_values, view_pairs, viewed};
 ghost use Rattle.jzon_tree.specs.Writing.{Writes};

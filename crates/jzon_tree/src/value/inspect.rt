@@ -2,7 +2,7 @@
 //! part is read; after the walk it is known of all parts.
 
 ghost use Rattle.std.specs.Prelude.{◌≡◌, ◌<◌, ◌≤◌, ◌^◌, ◌∷◌, ◌++◌, ◌↔◌, [], List, IsTrue};
-ghost use Rattle.jzon_tree.specs.Inspected.{IsInspected};
+ghost use Rattle.jzon_tree.specs.Private.Inspected.{IsInspected};
 ghost use Rattle.jzon_tree.specs.Lawful.{IsValue, HasNoNan, InRange};
 ghost use Rattle.jzon_tree.specs.Value.{Value, array, nest, values_of};
 ghost use Rattle.jzon_tree.specs.View.{view, view_object, view_values};

@@ -6,9 +6,9 @@ use Rattle.jzon_base.specs.declared.error.Error.{Error}
 use Rattle.jzon_tree.specs.View.{view}
 use Rattle.jzon_tree.specs.declared.value.JsonValue.{JsonValue}
 use Rattle.jzon.specs.Answer.{TakesMemory}
-use Rattle.jzon.specs.Cursor.{left}
-use Rattle.jzon.specs.Frames.{state_of}
-use Rattle.jzon.specs.Machine.{no_frames, before, after_value, from, Reads}
+use Rattle.jzon.specs.Private.Cursor.{left}
+use Rattle.jzon.specs.Private.Frames.{state_of}
+use Rattle.jzon.specs.Private.Machine.{no_frames, before, after_value, from, Reads}
 use Rattle.jzon.specs.Reading.{Reading}
 use Rattle.jzon.proofs.Containers.FrameViews.{open_unless_value}
 use Rattle.jzon.proofs.Texts.Answers.{Answers, answers_of, value_of, readable_of, error_of}

@@ -2,7 +2,7 @@ use Rattle.std.proofs.Common.{◌≡◌, ◌+◌, suc, ◌∷◌, ◌∙◌, sym
 use Rattle.std.proofs.Common.{false}
 use Rattle.std.specs.Prelude.{chars}
 use Rattle.std.proofs.lemmas.Str.{IsCharBoundary-after_ascii}
-use Rattle.jzon.specs.Machine.{from, past_letter, Reports}
+use Rattle.jzon.specs.Private.Machine.{from, past_letter, Reports}
 use Rattle.jzon.proofs.Containers.LiteralLetters.{letter_read, letter_missing}
 use Rattle.jzon.proofs.primitive.read_letters.Goals as goal
 

@@ -2,7 +2,7 @@ use Rattle.std.proofs.Common.{◌≡◌, ◌≤◌, drop}
 use Rattle.std.specs.Str.{IsCharBoundary}
 use Rattle.jzon_tree.specs.Value.{Value}
 use Rattle.jzon.specs.Reading.{Reading}
-use Rattle.jzon.specs.Machine.{Frames, past_letter, from}
+use Rattle.jzon.specs.Private.Machine.{Frames, past_letter, from}
 use Rattle.jzon.proofs.primitive.read_letters.Given as goal
 
 abbrev pub invariant-loop-letter : goal.invariant-loop-letter

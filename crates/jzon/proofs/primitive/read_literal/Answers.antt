@@ -3,7 +3,7 @@ use Rattle.std.specs.Prelude.{chars, IsTrue}
 use Rattle.std.proofs.lemmas.Str.{IsCharBoundary-after_ascii}
 use Rattle.jzon_tree.specs.View.{view}
 use Rattle.jzon.specs.Reading.{Reading, usual}
-use Rattle.jzon.specs.Machine.{Frames, no_frames, value_mark}
+use Rattle.jzon.specs.Private.Machine.{Frames, no_frames, value_mark}
 use Rattle.jzon.proofs.Texts.StepsByByte.{same_outcome}
 use Rattle.jzon.proofs.Containers.WholeLiterals.{WordEnds, word_begins, word_ends}
 use Rattle.jzon.proofs.primitive.read_literal.Goals.{After-has_four}

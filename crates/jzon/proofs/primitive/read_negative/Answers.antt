@@ -1,7 +1,7 @@
 use Rattle.std.proofs.Common.{◌≡◌, true, false}
 use Rattle.std.specs.Prelude.{chars}
-use Rattle.jzon.specs.Machine.{numeral}
-use Rattle.jzon.specs.Classes.{after_minus}
+use Rattle.jzon.specs.Private.Machine.{numeral}
+use Rattle.jzon.specs.Private.Classes.{after_minus}
 use Rattle.jzon.proofs.Texts.StepsByByte.{from_stop, same_outcome}
 use Rattle.jzon.proofs.Texts.ReportedErrors.{fault_here_leads}
 use Rattle.jzon.proofs.Numbers.FirstDigits.{no_digit_stops, digit_goes}

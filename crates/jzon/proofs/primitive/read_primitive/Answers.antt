@@ -4,7 +4,7 @@ use Rattle.std.specs.Char.{is_ascii_digit}
 use Rattle.std.proofs.lemmas.Bool.Decides.{nat_tests}
 use Rattle.std.proofs.lemmas.Str.{IsCharBoundary-after_ascii}
 use Rattle.jzon.specs.Reading.{usual}
-use Rattle.jzon.specs.Machine.{no_frames, before}
+use Rattle.jzon.specs.Private.Machine.{no_frames, before}
 use Rattle.jzon.proofs.Containers.FirstBytes.{stops_before, begin_minus, begin_digit, begin_string}
 use Rattle.jzon.proofs.Containers.FrameViews.{byte_within}
 use Rattle.jzon.proofs.Texts.StepsByByte.{from_stop}

@@ -1,6 +1,6 @@
 use Rattle.std.proofs.Common.{◌∙◌, sym, ap}
 use Rattle.jzon_tree.specs.Value.{kind_of, text}
-use Rattle.jzon.specs.Machine.{as_value, after_value, from}
+use Rattle.jzon.specs.Private.Machine.{as_value, after_value, from}
 use Rattle.jzon.proofs.primitive.read_string_value.Goals as goal
 
 pub returns-clause-outcome : goal.returns-clause-outcome

@@ -1,6 +1,6 @@
 use Rattle.std.proofs.Common.{◌∙◌, ◌++◌, ap, sym}
 use Rattle.std.specs.String.{string_bytes}
-use Rattle.jzon.specs.Machine.{string, between, from}
+use Rattle.jzon.specs.Private.Machine.{string, between, from}
 use Rattle.jzon.proofs.string.push_run.Goals as goal
 
 pub returns-clause-outcome : goal.returns-clause-outcome

@@ -2,7 +2,7 @@ use Rattle.std.proofs.Common.{◌≡◌, ◌+◌, ◌++◌, ◌∙◌, ap, sym, 
 use Rattle.std.specs.Prelude.{chars, encode_utf8, MatchResult}
 use Rattle.std.proofs.lemmas.Bool.{iff_false}
 use Rattle.std.proofs.lemmas.Str.{IsCharBoundary-after_ascii}
-use Rattle.jzon.specs.Machine.{string, between, from, Reports}
+use Rattle.jzon.specs.Private.Machine.{string, between, from, Reports}
 use Rattle.jzon.proofs.Strings.Escapes.{simple_is_ascii, simple_read, digits_begin, escape_stops}
 use Rattle.jzon.proofs.string.read_escape.Goals as goal
 

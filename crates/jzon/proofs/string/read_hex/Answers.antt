@@ -1,6 +1,6 @@
 use Rattle.std.proofs.Common.{get_or, ◌+◌, ◌*◌, ap, sym, subst, arith}
 use Rattle.std.specs.Prelude.{chars}
-use Rattle.jzon.specs.Machine.{Reports}
+use Rattle.jzon.specs.Private.Machine.{Reports}
 use Rattle.jzon.proofs.Strings.HexDigits.{HexRead, hex_is_below_16, code_reads, second_code_reads, hex_begun, hex_more}
 use Rattle.jzon.proofs.Strings.HexDigits.{hex_stops, hex_end, hex_small, hex_spelled}
 use Rattle.jzon.proofs.string.read_hex.Goals as goal

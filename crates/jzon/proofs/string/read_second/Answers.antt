@@ -6,7 +6,7 @@ use Rattle.std.proofs.lemmas.Str.{IsCharBoundary-after_ascii}
 use Rattle.jzon_base.specs.declared.error.Error.TheVariants.{FailedUtf8Parsing}
 use Rattle.jzon.specs.Grammar.{is_high, is_low}
 use Rattle.jzon.specs.Meaning.{pair_char}
-use Rattle.jzon.specs.Machine.{string, between, move_pair, outcome_on, from, Reports}
+use Rattle.jzon.specs.Private.Machine.{string, between, move_pair, outcome_on, from, Reports}
 use Rattle.jzon.proofs.Strings.Escapes.{second_begins, second_digits_boundary, second_stops, second_u_stops}
 use Rattle.jzon.proofs.string.read_second.Goals as goal
 

@@ -1,7 +1,7 @@
 use Rattle.std.proofs.Common.{◌≡◌, ◌∙◌, ap, arith, drop, length, ◌+◌, ◌≤◌}
 use Rattle.std.specs.List.{prefix_len}
 use Rattle.jzon_tree.specs.Writing.{is_whitespace}
-use Rattle.jzon.specs.Machine.{no_frames}
+use Rattle.jzon.specs.Private.Machine.{no_frames}
 use Rattle.jzon.proofs.Containers.ContainerSteps.{whitespace_skips}
 use Rattle.jzon.proofs.Texts.AsciiRuns.{before_skips, space_alone, from_skip, boundary_skip, stops_run, within_run}
 use Rattle.jzon.proofs.whitespace.skip_whitespace.Goals as goal

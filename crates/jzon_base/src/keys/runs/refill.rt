@@ -2,9 +2,9 @@
 ghost use Rattle.std.specs.Prelude.{◌≡◌, ◌≤◌, ◌+◌, ◌-◌, drop, length, map, min, take};
 ghost use Rattle.std.specs.List.{flat_map};
 ghost use Rattle.std.specs.List.Sorted.{IsPermutation};
-ghost use Rattle.jzon_base.specs.Handed.{IsIndexOf};
-ghost use Rattle.jzon_base.specs.Hash.{hash_of};
-ghost use Rattle.jzon_base.specs.Keys.{hashed_from};
+ghost use Rattle.jzon_base.specs.Private.Handed.{IsIndexOf};
+ghost use Rattle.jzon_base.specs.Private.Hash.{hash_of};
+ghost use Rattle.jzon_base.specs.Private.Keys.{hashed_from};
 
 use super::{Run, Runs};
 use crate::key::Key;

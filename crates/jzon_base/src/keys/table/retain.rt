@@ -2,7 +2,7 @@
 ghost use Rattle.std.specs.Prelude.{◌≡◌, ◌≢◌, ◌≤◌, length};
 ghost use Rattle.std.specs.List.{zip};
 ghost use Rattle.std.specs.Map.Calls.{CalledAtPair, CallableOnEachPair, RetainsPairs, TakesPair};
-ghost use Rattle.jzon_base.specs.Keys.{IsIndexed};
+ghost use Rattle.jzon_base.specs.Private.Keys.{IsIndexed};
 
 use super::Table;
 use crate::key::Key;

@@ -1,6 +1,6 @@
 use Rattle.std.proofs.Common.{codes, refl}
 use Rattle.std.specs.Str.{chars}
-use Rattle.jzon.specs.Classes.{class_of}
+use Rattle.jzon.specs.Private.Classes.{class_of}
 use Rattle.jzon.specs.Digits.{kept_len}
 use Rattle.jzon.specs.Error.TheVariants.{UnexpectedCharacter}
 use Rattle.jzon.specs.Fault.{character, IsErrorOf}

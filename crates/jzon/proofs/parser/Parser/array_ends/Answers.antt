@@ -1,8 +1,8 @@
 use Rattle.std.proofs.Common.{◌∙◌, cond, ap}
 use Rattle.std.proofs.lemmas.Result.{err_from_is_err_and}
-use Rattle.jzon.specs.Brackets.{after_comma, after_closer}
-use Rattle.jzon.specs.Cursor.{left}
-use Rattle.jzon.specs.Machine.{after_value}
+use Rattle.jzon.specs.Private.Brackets.{after_comma, after_closer}
+use Rattle.jzon.specs.Private.Cursor.{left}
+use Rattle.jzon.specs.Private.Machine.{after_value}
 use Rattle.jzon.proofs.Texts.Cursors.{reached_start, fails_on}
 use Rattle.jzon.proofs.parser.Parser.array_ends.Goals as goal
 

@@ -1,6 +1,6 @@
 use Rattle.std.specs.Prelude.{chars}
 use Rattle.jzon_tree.specs.View.{view}
-use Rattle.jzon.specs.Machine.{no_frames, after_value}
+use Rattle.jzon.specs.Private.Machine.{no_frames, after_value}
 use Rattle.jzon.proofs.Texts.Cursors.{utf8_of}
 use Rattle.jzon.proofs.Texts.StepsByByte.{from_end}
 use Rattle.jzon.proofs.Texts.ReportedErrors.{reported}

@@ -4,9 +4,9 @@ use Rattle.jzon_base.specs.PairList.{put}
 use Rattle.jzon_tree.specs.Value.{Value, array, values_of, object, pairs_of}
 use Rattle.jzon_tree.specs.View.{view, viewed}
 use Rattle.jzon_tree.proofs.Views.{view-Array, viewed-put}
-use Rattle.jzon.specs.Cursor.{left}
-use Rattle.jzon.specs.Frames.{open_in, stack_view}
-use Rattle.jzon.specs.Machine.{Frames, array_frame, object_frame, before, before_key, after_value}
+use Rattle.jzon.specs.Private.Cursor.{left}
+use Rattle.jzon.specs.Private.Frames.{open_in, stack_view}
+use Rattle.jzon.specs.Private.Machine.{Frames, array_frame, object_frame, before, before_key, after_value}
 use Rattle.jzon.specs.declared.cursor.Cursor.{Cursor}
 use Rattle.jzon.specs.declared.frames.Frame.{Frame}
 use Rattle.jzon.proofs.Texts.Cursors.{Reached, reached, goes_after, goes_on}

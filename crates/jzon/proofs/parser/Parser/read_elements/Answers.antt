@@ -5,9 +5,9 @@ use Rattle.std.proofs.lemmas.Result.{err_from_is_err_and}
 use Rattle.jzon_tree.specs.Value.{Value, array, values_of}
 use Rattle.jzon_tree.specs.View.{view}
 use Rattle.jzon_tree.proofs.Views.{view-Array}
-use Rattle.jzon.specs.Cursor.{left, IsAfter}
-use Rattle.jzon.specs.Frames.{IsReady, state_of, stack_view}
-use Rattle.jzon.specs.Machine.{Frames, array_frame, frames_depth, before, after_value, value_mark}
+use Rattle.jzon.specs.Private.Cursor.{left, IsAfter}
+use Rattle.jzon.specs.Private.Frames.{IsReady, state_of, stack_view}
+use Rattle.jzon.specs.Private.Machine.{Frames, array_frame, frames_depth, before, after_value, value_mark}
 use Rattle.jzon.specs.Reading.{Reading}
 use Rattle.jzon.specs.declared.cursor.Cursor.{Cursor}
 use Rattle.jzon.specs.declared.frames.ValueStart.TheVariants.{Object as start_object}

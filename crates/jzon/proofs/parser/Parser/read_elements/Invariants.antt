@@ -1,8 +1,8 @@
 use Rattle.std.proofs.Common.{◌≡◌, ◌≢◌, ◌-◌, ◌<◌, [], length, map, vec_len}
 use Rattle.jzon_tree.specs.View.{view}
-use Rattle.jzon.specs.Cursor.{next_byte}
-use Rattle.jzon.specs.Frames.{stack_view}
-use Rattle.jzon.specs.Machine.{array_frame, before}
+use Rattle.jzon.specs.Private.Cursor.{next_byte}
+use Rattle.jzon.specs.Private.Frames.{stack_view}
+use Rattle.jzon.specs.Private.Machine.{array_frame, before}
 use Rattle.jzon_base.specs.Tokens.{end_array}
 use Rattle.jzon.proofs.Texts.Cursors.{Reached}
 use Rattle.jzon.proofs.parser.Parser.read_elements.Given as goal

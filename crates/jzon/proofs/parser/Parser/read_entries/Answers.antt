@@ -5,9 +5,9 @@ use Rattle.jzon_base.specs.PairList.{put}
 use Rattle.jzon_tree.specs.Value.{object, pairs_of}
 use Rattle.jzon_tree.specs.View.{view, viewed}
 use Rattle.jzon_tree.proofs.Views.{viewed-put}
-use Rattle.jzon.specs.Cursor.{left}
-use Rattle.jzon.specs.Frames.{IsReady, state_of, stack_view}
-use Rattle.jzon.specs.Machine.{array_frame, object_frame, frames_depth, before, before_key, after_value, key_mark}
+use Rattle.jzon.specs.Private.Cursor.{left}
+use Rattle.jzon.specs.Private.Frames.{IsReady, state_of, stack_view}
+use Rattle.jzon.specs.Private.Machine.{array_frame, object_frame, frames_depth, before, before_key, after_value, key_mark}
 use Rattle.jzon.proofs.Texts.Cursors.{Reached, reached_start, reached, goes_after, goes_on, fails_on}
 use Rattle.jzon.proofs.Containers.FrameViews.{frames_depth-stack, key_mark-shallow, some_put}
 use Rattle.jzon.proofs.Containers.FrameViews.{stack_view-push, closed_on, closed_ready}

@@ -1,8 +1,8 @@
 use Rattle.std.proofs.Common.{◌≡◌, ◌≢◌, ◌-◌, [], length}
 use Rattle.jzon_tree.specs.View.{viewed}
-use Rattle.jzon.specs.Cursor.{next_byte}
-use Rattle.jzon.specs.Frames.{stack_view}
-use Rattle.jzon.specs.Machine.{before_key}
+use Rattle.jzon.specs.Private.Cursor.{next_byte}
+use Rattle.jzon.specs.Private.Frames.{stack_view}
+use Rattle.jzon.specs.Private.Machine.{before_key}
 use Rattle.jzon_base.specs.Tokens.{end_object}
 use Rattle.jzon.proofs.Texts.Cursors.{Reached}
 use Rattle.jzon.proofs.parser.Parser.read_entries.Given as goal

@@ -5,8 +5,8 @@ use Rattle.std.proofs.lemmas.Result.{err_from_is_err_and}
 use Rattle.std.proofs.lemmas.Str.{IsCharBoundary-after_ascii}
 use Rattle.jzon_base.specs.PairList.{find}
 use Rattle.jzon_tree.specs.View.{viewed}
-use Rattle.jzon.specs.Cursor.{left, next_byte}
-use Rattle.jzon.specs.Machine.{Frames, as_key, left_at, before, before_key, after_key, object_frame, key_mark}
+use Rattle.jzon.specs.Private.Cursor.{left, next_byte}
+use Rattle.jzon.specs.Private.Machine.{Frames, as_key, left_at, before, before_key, after_key, object_frame, key_mark}
 use Rattle.jzon.proofs.Containers.ContainerSteps.{open_key}
 use Rattle.jzon.proofs.Containers.ContainerTokens.{key_closes, key_stands, key_missing, colon_read, colon_missing}
 use Rattle.jzon.proofs.Texts.Cursors.{Reached, utf8_of, reached_start, goes_after, reported_on, fails_on}

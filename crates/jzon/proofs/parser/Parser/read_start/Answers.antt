@@ -2,9 +2,9 @@ use Rattle.std.proofs.Common.{◌≡◌, ◌∙◌, refl, inl, inr, sym, arith, 
 use Rattle.std.proofs.lemmas.Result.{err_from_is_err_and}
 use Rattle.jzon_base.specs.declared.error.Error.TheVariants.{OutOfMemory}
 use Rattle.jzon_tree.specs.View.{view}
-use Rattle.jzon.specs.Cursor.{next_byte}
-use Rattle.jzon.specs.Frames.{state_of}
-use Rattle.jzon.specs.Machine.{before, after_value, value_mark}
+use Rattle.jzon.specs.Private.Cursor.{next_byte}
+use Rattle.jzon.specs.Private.Frames.{state_of}
+use Rattle.jzon.specs.Private.Machine.{before, after_value, value_mark}
 use Rattle.jzon.proofs.Texts.Cursors.{utf8_of, token_goes, reached_start, fails_on}
 use Rattle.jzon.proofs.Containers.FrameViews.{value_mark-shallow, byte_within}
 use Rattle.jzon.proofs.Texts.ReportedErrors.{has_character}

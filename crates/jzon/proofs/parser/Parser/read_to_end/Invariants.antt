@@ -1,6 +1,6 @@
 use Rattle.std.proofs.Common.{◌-◌, length, vec_len}
-use Rattle.jzon.specs.Frames.{IsReady, state_of, stack_view}
-use Rattle.jzon.specs.Machine.{no_frames}
+use Rattle.jzon.specs.Private.Frames.{IsReady, state_of, stack_view}
+use Rattle.jzon.specs.Private.Machine.{no_frames}
 use Rattle.jzon.proofs.Texts.Cursors.{Reached}
 use Rattle.jzon.proofs.parser.Parser.read_to_end.Given as goal
 

@@ -1,7 +1,7 @@
 use Rattle.std.proofs.Common.{◌≡◌, false, take}
 use Rattle.std.specs.List.{list_any}
 use Rattle.std.specs.Ordering.{is_eq}
-use Rattle.jzon_base.specs.Keys.{beside}
+use Rattle.jzon_base.specs.Private.Keys.{beside}
 use Rattle.jzon_base.proofs.keys.known.is_in.Given as goal
 
 abbrev pub invariant-loop-run : goal.invariant-loop-run

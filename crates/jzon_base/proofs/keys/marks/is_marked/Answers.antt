@@ -1,5 +1,5 @@
 use Rattle.std.proofs.Common.{◌∙◌, ◌+◌, ◌-◌, suc, sym, arith}
-use Rattle.jzon_base.specs.Marks.{is_marked}
+use Rattle.jzon_base.specs.Private.Marks.{is_marked}
 use Rattle.jzon_base.proofs.Marks.{marked_empty, marked_here, marked_on}
 use Rattle.jzon_base.proofs.keys.marks.is_marked.Goals as goal
 

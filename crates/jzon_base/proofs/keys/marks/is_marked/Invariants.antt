@@ -1,5 +1,5 @@
 use Rattle.std.proofs.Common.{◌≡◌, ℕ, ◌+◌}
-use Rattle.jzon_base.specs.Marks.{is_marked}
+use Rattle.jzon_base.specs.Private.Marks.{is_marked}
 use Rattle.jzon_base.proofs.keys.marks.is_marked.Given as goal
 
 abbrev pub invariant-loop-at : goal.invariant-loop-at

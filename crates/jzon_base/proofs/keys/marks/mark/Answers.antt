@@ -1,5 +1,5 @@
 use Rattle.std.proofs.Common.{◌≡◌, true, get_or, set, sym, subst, arith}
-use Rattle.jzon_base.specs.Marks.{is_marked}
+use Rattle.jzon_base.specs.Private.Marks.{is_marked}
 use Rattle.jzon_base.proofs.Marks.{full_marked, set_marked, stay_marked, empty_within}
 use Rattle.jzon_base.proofs.keys.marks.mark.Goals as goal
 

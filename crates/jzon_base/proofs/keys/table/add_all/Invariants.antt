@@ -1,6 +1,6 @@
 use Rattle.std.proofs.Common.{map, take}
-use Rattle.jzon_base.specs.Handed.{IsIndexOf}
-use Rattle.jzon_base.specs.Hash.{hash_of}
+use Rattle.jzon_base.specs.Private.Handed.{IsIndexOf}
+use Rattle.jzon_base.specs.Private.Hash.{hash_of}
 use Rattle.jzon_base.proofs.keys.table.add_all.Given as goal
 
 abbrev pub invariant-loop-at : goal.invariant-loop-at

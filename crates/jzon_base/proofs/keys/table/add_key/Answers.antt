@@ -2,8 +2,8 @@ use Rattle.std.proofs.Common.{◌∙◌, length, sym, refl}
 use Rattle.std.proofs.lemmas.Result.{on_ok_weaker, on_err_weaker}
 use Rattle.std.proofs.lemmas.List.{nil_from_length}
 use Rattle.std.proofs.lemmas.Bool.{eqb-false, eqb-true}
-use Rattle.jzon_base.specs.Handed.{IsIndexOf}
-use Rattle.jzon_base.specs.Hash.{hash_of}
+use Rattle.jzon_base.specs.Private.Handed.{IsIndexOf}
+use Rattle.jzon_base.specs.Private.Hash.{hash_of}
 use Rattle.std.proofs.Common.{map}
 use Rattle.jzon_base.proofs.Tables.{IsIndexed-key, IsIndexed-same, IsIndexOf-some}
 use Rattle.jzon_base.proofs.keys.table.add_key.Goals as goal

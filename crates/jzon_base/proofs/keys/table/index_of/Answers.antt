@@ -1,6 +1,6 @@
 use Rattle.std.proofs.Common.{◌≡◌}
 use Rattle.std.proofs.lemmas.Result.{IfOk-weaker}
-use Rattle.jzon_base.specs.Keys.{IsIndexed}
+use Rattle.jzon_base.specs.Private.Keys.{IsIndexed}
 use Rattle.jzon_base.proofs.Tables.{IsIndexed-none, IsIndexed-from_index}
 use Rattle.jzon_base.proofs.keys.table.index_of.Goals as goal
 

@@ -4,7 +4,7 @@ use Rattle.jzon_tree.specs.declared.value.JsonValue.{the_lemmas}
 use Rattle.jzon_tree.specs.Entries.{entries_of}
 use Rattle.jzon_tree.specs.Generator.{Just, IsForm, positions}
 use Rattle.jzon_tree.specs.Lawful.{IsPair}
-use Rattle.jzon_tree.specs.Printing.{IsEntry}
+use Rattle.jzon_tree.specs.Private.Printing.{IsEntry}
 use Rattle.jzon_tree.specs.Text.{quoted}
 use Rattle.jzon_tree.specs.Value.{Value}
 use Rattle.jzon_tree.specs.View.{view, view_object, viewed}

@@ -2,7 +2,7 @@ use Rattle.std.proofs.Common.{ℕ, ◌<◌, length, map, take, get_or}
 use Rattle.jzon_tree.specs.Entries.{entries_of}
 use Rattle.jzon_tree.specs.Generator.{Added, positions}
 use Rattle.jzon_tree.specs.Lawful.{AreValues, IsPair}
-use Rattle.jzon_tree.specs.Printing.{AreItems, AreMembers, pair_at}
+use Rattle.jzon_tree.specs.Private.Printing.{AreItems, AreMembers, pair_at}
 use Rattle.jzon_tree.specs.View.{view, view_values, viewed}
 use Rattle.jzon_tree.proofs.codegen.driver.+write_value.Given as goal
 

@@ -1,6 +1,6 @@
 use Rattle.std.proofs.Common.{[], ◌∷◌, refl}
 use Rattle.jzon_tree.specs.Generator.{Just}
-use Rattle.jzon_tree.specs.Printing.{IsBetween}
+use Rattle.jzon_tree.specs.Private.Printing.{IsBetween}
 use Rattle.jzon_tree.proofs.Emitting.{Failed-begins, Emits-at_err}
 use Rattle.jzon_tree.proofs.codegen.driver.begin_item.Goals as goal
 

@@ -1,6 +1,6 @@
 use Rattle.std.proofs.Common.{[], ◌∷◌, ◌++◌, ap, refl}
 use Rattle.jzon_tree.specs.Generator.{Just}
-use Rattle.jzon_tree.specs.Printing.{IsClosing}
+use Rattle.jzon_tree.specs.Private.Printing.{IsClosing}
 use Rattle.jzon_tree.specs.Writing.{IsAllowedWhitespace}
 use Rattle.jzon_tree.proofs.Emitting.{Failed-begins, Emits-at_err, Emits-after}
 use Rattle.jzon_tree.proofs.codegen.driver.close.Goals as goal

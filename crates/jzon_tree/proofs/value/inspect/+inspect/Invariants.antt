@@ -1,6 +1,6 @@
 use Rattle.std.proofs.Common.{take, map}
 use Rattle.jzon_tree.specs.Entries.{entries_of}
-use Rattle.jzon_tree.specs.Inspected.{IsInspected}
+use Rattle.jzon_tree.specs.Private.Inspected.{IsInspected}
 use Rattle.jzon_tree.specs.Lawful.{ArePairs}
 use Rattle.jzon_tree.specs.Value.{array, values_of}
 use Rattle.jzon_tree.specs.View.{view, view_pairs}

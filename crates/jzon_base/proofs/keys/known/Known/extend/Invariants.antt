@@ -1,5 +1,5 @@
 use Rattle.std.proofs.Common.{length}
-use Rattle.jzon_base.specs.Keys.{AreRuns}
+use Rattle.jzon_base.specs.Private.Keys.{AreRuns}
 use Rattle.jzon_base.proofs.keys.known.Known.extend.Given as goal
 
 abbrev pub invariant-loop-self : goal.invariant-loop-self

@@ -1,7 +1,7 @@
 use Rattle.std.proofs.Common.{◌∙◌, length, rules, subst}
 use Rattle.std.proofs.lemmas.Fn.{always_returns_same}
 use Rattle.std.specs.List.Sorted.{IsBinarySearchResult, IsSearchInRange}
-use Rattle.jzon_base.specs.Keys.{beside}
+use Rattle.jzon_base.specs.Private.Keys.{beside}
 use Rattle.jzon_base.proofs.Runs.{searched}
 use Rattle.jzon_base.proofs.keys.known.Run.has.Goals as goal
 

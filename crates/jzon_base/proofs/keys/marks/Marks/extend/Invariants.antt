@@ -1,5 +1,5 @@
 use Rattle.std.proofs.Common.{length, ◌-◌}
-use Rattle.jzon_base.specs.Marks.{AreMarked}
+use Rattle.jzon_base.specs.Private.Marks.{AreMarked}
 use Rattle.jzon_base.proofs.keys.marks.Marks.extend.Given as goal
 
 abbrev pub invariant-loop-self : goal.invariant-loop-self

@@ -1,5 +1,5 @@
 use Rattle.std.proofs.Common.{◌≡◌, take}
-use Rattle.jzon_base.specs.Keys.{hashed_from}
+use Rattle.jzon_base.specs.Private.Keys.{hashed_from}
 use Rattle.jzon_base.proofs.keys.runs.refill.put_hashed.Given as goal
 
 abbrev pub invariant-loop-at : goal.invariant-loop-at

@@ -1,6 +1,6 @@
 use Rattle.std.proofs.Common.{◌∙◌, map, sym}
 use Rattle.std.proofs.lemmas.Bool.{eqb-false}
-use Rattle.jzon_base.specs.Hash.{hash_of}
+use Rattle.jzon_base.specs.Private.Hash.{hash_of}
 use Rattle.jzon_base.proofs.Tables.{AreHanded-own, IsIndexOf-some}
 use Rattle.jzon_base.proofs.keys.table.Table.position.Goals as goal
 

@@ -2,7 +2,7 @@
 use Rattle.std.specs.Prelude.{◌≡◌, ◌==◌, ◌&&◌, ◌||◌, ◌+◌, ◌<◌, ◌≤◌, ◌%◌, ◌/◌, ℕ, zero, suc, Bool, true, not, max, List}
 use Rattle.std.specs.Prelude.{[]}
 use Rattle.std.specs.Prelude.{length, bit_and, slice_index_or}
-use Rattle.jzon_base.specs.Hash.{hash_of}
+use Rattle.jzon_base.specs.Private.Hash.{hash_of}
 
 -- whether one of n slots from position i on has the tag m before any empty slot, or none of the n is empty
 unfoldable pub is_marked : List ℕ → ℕ → ℕ → ℕ → Bool

@@ -20,11 +20,11 @@ use Rattle.jzon.specs.Spelling.{Breach, deep, pair, digit, duplicate, breach_if,
 use Rattle.jzon.specs.Spelling.{deep_if}
 use Rattle.jzon.specs.Meaning.{number_of, unescaped, pair_char}
 use Rattle.jzon.specs.Fault.{Fault, limit, character, error_at}
-use Rattle.jzon.specs.Classes.{Class, whitespace, digits, minus_char, plus_char, point, letter_e, quote, opens_array}
-use Rattle.jzon.specs.Classes.{closes_array}
-use Rattle.jzon.specs.Classes.{opens_object, closes_object, comma, colon, begins_null, begins_true, begins_false}
-use Rattle.jzon.specs.Classes.{class_of, NumberState, after_minus, zero_read, whole, pointed, fraction, lettered}
-use Rattle.jzon.specs.Classes.{signed_exponent, exponent, after_first_digit}
+use Rattle.jzon.specs.Private.Classes.{Class, whitespace, digits, minus_char, plus_char, point, letter_e, quote, opens_array}
+use Rattle.jzon.specs.Private.Classes.{closes_array}
+use Rattle.jzon.specs.Private.Classes.{opens_object, closes_object, comma, colon, begins_null, begins_true, begins_false}
+use Rattle.jzon.specs.Private.Classes.{class_of, NumberState, after_minus, zero_read, whole, pointed, fraction, lettered}
+use Rattle.jzon.specs.Private.Classes.{signed_exponent, exponent, after_first_digit}
 
 -- the entries of an object read so far
 abbrev pub Entries : Type 0

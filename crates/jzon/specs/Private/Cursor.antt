@@ -2,7 +2,7 @@
 use Rattle.std.specs.Prelude.{◌≡◌, ℕ, ◌<◌, ◌≤◌, List, true, chars, Result, MatchResult, slice_index}
 use Rattle.jzon_base.specs.declared.error.Error.{Error}
 use Rattle.jzon.specs.Reading.{Reading}
-use Rattle.jzon.specs.Machine.{State, Outcome, allows_whitespace, from, ReportsUnlessMemory}
+use Rattle.jzon.specs.Private.Machine.{State, Outcome, allows_whitespace, from, ReportsUnlessMemory}
 use Rattle.jzon.specs.declared.cursor.Cursor.{Cursor}
 
 -- the outcome of the rest of the text from this state of the automaton

@@ -2,8 +2,8 @@
 use Rattle.std.specs.Prelude.{◌≡◌, ℕ, List, length, Option, IfSome}
 use Rattle.std.specs.declared.alloc.Global.{Global}
 use Rattle.std.specs.declared.boxed.Box.{Box}
-use Rattle.jzon_base.specs.Keys.{AreRuns, IsSlotted}
-use Rattle.jzon_base.specs.Marks.{AreMarked}
+use Rattle.jzon_base.specs.Private.Keys.{AreRuns, IsSlotted}
+use Rattle.jzon_base.specs.Private.Marks.{AreMarked}
 use Rattle.jzon_base.specs.declared.keys.notes.Notes.{Notes}
 
 -- slots for few keys, the tags of the first keys, and runs of the first keys

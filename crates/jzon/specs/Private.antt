@@ -1,0 +1,8 @@
+-- Private definitions: how the code relates to those that public clauses cite. No public clause of `jzon` cites them.
+pub mod Classes
+pub mod Quote
+pub mod Machine
+pub mod Brackets
+pub mod Cursor
+pub mod Frames
+pub mod ReadingFields

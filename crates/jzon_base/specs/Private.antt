@@ -1,0 +1,10 @@
+-- Private definitions: how the code relates to those that public clauses cite. No public clause of `jzon` cites them.
+pub mod Handed
+pub mod Hash
+pub mod Keys
+pub mod Marks
+pub mod Notes
+pub mod NumberFields
+pub mod PlainBytes
+pub mod Same
+pub mod Slots

@@ -1,0 +1,3 @@
+-- Private definitions: how the code relates to those that public clauses cite. No public clause of `jzon` cites them.
+pub mod Printing
+pub mod Inspected
