@@ -1,4 +1,4 @@
-//! Canonical printer: a layout of one's own, which prints the pairs of each object in the order of their keys.
+//! Canonical printer: a layout of one's own, which prints the entries of each object in the order of their keys.
 //!
 //! `sorted_style` allows that order alone, so the contract says that what is printed is sorted; and each writing is read as an equal value, in whatever style.
 
@@ -20,7 +20,7 @@ use jzon::object::Object;
 use jzon::{JsonValue, Result};
 use std::alloc::{AllocError, Global};
 
-/// The canonical text of a value that was built: no whitespace, and the pairs of each object in the order of their keys.
+/// The canonical text of a value that was built: no whitespace, and the entries of each object in the order of their keys.
 pub fn canonical(alloc: Global, value: &JsonValue) -> Result<String>
     requires nan { HasNoNan (view value.now) }
     requires depth { nest (view value.now) ≤ 512 }
@@ -31,7 +31,7 @@ pub fn canonical(alloc: Global, value: &JsonValue) -> Result<String>
     value.lay_out(alloc, Sorted { alloc })
 }
 
-/// No whitespace, and the pairs of each object in the order of their keys.
+/// No whitespace, and the entries of each object in the order of their keys.
 #[derive(Drop)]
 pub struct Sorted {
     alloc: Global,
@@ -54,7 +54,7 @@ impl Layout for Sorted {
     ghost style_law = { λ _. IsStyle-sorted };
 }
 
-/// The positions of the object's pairs, in the order of their keys.
+/// The positions of the object's entries, in the order of their keys.
 pub fn sorted_positions(
     alloc: Global,
     object: &Object,
@@ -91,6 +91,8 @@ fn keys_in_order<'a>(
 #[cfg(test)]
 mod tests {
     use super::*;
+    use jzon::codegen::{Generator, TextGenerator, write_json};
+    use jzon_test_support::{MOST, Refusals};
     use std::test::Fail;
 
     /// The text of what the source means, and its dump.
@@ -116,6 +118,31 @@ mod tests {
             assert_eq!(rt; text.as_str(), sorted);
             assert_eq!(rt; dumped.as_str(), source);
         }
+        Ok(())
+    }
+
+    const SORTED: &str = "{\"a\":null,\"b\":null,\"c\":null}";
+
+    /// Each allocation fails in turn, those of `order` first.
+    #[test]
+    fn sorted_under_refusals(rt: HostRuntime) -> std::result::Result<(), Fail> {
+        let alloc = rt.alloc();
+        let value = jzon::parse(alloc, "{\"c\":null,\"b\":null,\"a\":null}")?;
+        let mut refusals = Refusals::new(alloc);
+        for _ in 0..MOST {
+            let mut generator = TextGenerator::in_memory(alloc, Sorted { alloc });
+            refusals.begin();
+            let result = write_json(&mut generator, &value);
+            if !refusals.was_refused() {
+                assert!(rt; result.is_ok());
+                assert_eq!(rt; generator.get_writer().as_slice(), SORTED.as_bytes());
+                break;
+            }
+            assert!(rt; result.is_err());
+            assert_eq!(rt; generator.faults(), 1);
+            assert!(rt; SORTED.as_bytes().starts_with(generator.get_writer()));
+        }
+        refusals.tell(&rt, "Sorted", 3)?;
         Ok(())
     }
 }
