@@ -10,7 +10,7 @@ ArePrinted-push [] l bytes more h p = (more, [], p, refl, ap (λ b. b ++ more) h
 ArePrinted-push (k ∷ ls) l bytes more (first, rest, q, h, e) p =
     (first, rest ++ more, q, ArePrinted-push ls l rest more h p, ap (λ b. b ++ more) e ∙ append_assoc first rest more)
 
--- the items of a run that came to its end are all that the iterator gives
+-- the items of a run that came to its end are all items of the iterator
 module _ {S A B : Type 0} (steps : S → Option A → S → Type 0) (v : A → B) where
   pub yielded-all : (s t u : S) (xs : List A) (ys : List B) → AlwaysYields steps v s ys → Yields steps s xs t
       → steps t None u → map v xs ≡ ys

@@ -9,12 +9,12 @@ use Rattle.jzon.specs.View.{view, viewed, view_object}
 use Rattle.jzon.proofs.ValueLaws.{view-Object, view-Null, entries-Object, list_of_pairs-pairs_of, viewed-put}
 use Rattle.jzon.proofs.ValueLaws.{viewed-cut, find-viewed}
 
--- objects that are seen as the same have the same pairs
+-- objects with the same view have the same members
 pub same_pairs : (o p : Object) → view_object o ≡ view_object p → viewed (entries_of o) ≡ viewed (entries_of p)
 same_pairs o p e =
     sym (list_of_pairs-pairs_of (viewed (entries_of o))) ∙ ap entries e ∙ list_of_pairs-pairs_of (viewed (entries_of p))
 
--- what is found among the pairs as they are seen
+-- what is found among the members as they are seen
 pub found-viewed : (k : List ℕ) (ps : List (List ℕ × JsonValue)) → find k (viewed ps) ≡ option_map view (find k ps)
 found-viewed k ps = sym (find-viewed k ps)
 

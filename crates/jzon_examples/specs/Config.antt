@@ -1,4 +1,4 @@
--- What a configuration holds, and what an error tells.
+-- What a configuration holds, and what an error reports.
 use Rattle.std.specs.Prelude.{◌≡◌, ◌⊎◌, ℕ, List, Option, Some, None, Result, MatchResult, codes}
 use Rattle.jzon.specs.Error.{Error}
 use Rattle.jzon.specs.Error.TheVariants.{OutOfMemory, UnexpectedCharacter, DuplicateKey}
@@ -14,11 +14,11 @@ abbrev pub port_value : Value → Value
 port_value v = member (codes "port") (member (codes "server") v)
 
 -- the line and the column
-abbrev pub place_told : Error → Option (ℕ × ℕ)
-place_told (UnexpectedCharacter c line column) = Some (line, column)
-place_told (DuplicateKey line column) = Some (line, column)
-place_told _ = None
+abbrev pub position_in : Error → Option (ℕ × ℕ)
+position_in (UnexpectedCharacter c line column) = Some (line, column)
+position_in (DuplicateKey line column) = Some (line, column)
+position_in _ = None
 
--- memory was refused, or it is this error
-abbrev pub Refuses : {T : Type 0} → Error → Result T Error → Type 0
-Refuses e r = MatchResult r (λ _. ⊥) (λ f. (f ≡ OutOfMemory) ⊎ (f ≡ e))
+-- an allocation failed, or it is this error
+abbrev pub Rejects : {T : Type 0} → Error → Result T Error → Type 0
+Rejects e r = MatchResult r (λ _. ⊥) (λ f. (f ≡ OutOfMemory) ⊎ (f ≡ e))

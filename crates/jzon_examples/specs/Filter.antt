@@ -6,7 +6,7 @@ use Rattle.jzon.specs.Meaning.{meaning}
 use Rattle.jzon.specs.Reading.{usual}
 use Rattle.jzon.specs.Text.{compact}
 
--- the compact text of the document on a line, and a newline
+-- the compact text of the value on a line, and a newline
 abbrev pub IsPrinted : List ℕ → List ℕ → Type 0
 IsPrinted line bytes =
     (d : Document) × Parses usual (chars line) d × (bytes ≡ compact (meaning d.node) ++ 10 ∷ [])

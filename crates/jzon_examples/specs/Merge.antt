@@ -1,5 +1,5 @@
--- What a merge patch makes of a value (RFC 7386, section 2). A member that is there keeps its place, and a new one
--- stands last.
+-- What a merge patch makes of a value (RFC 7386, section 2). A member that is there keeps its position, and a new one
+-- is last.
 use Rattle.std.specs.Prelude.{ℕ, List, cond}
 use Rattle.jzon.specs.PairList.{find, put, cut}
 use Rattle.jzon.specs.Readers.{entries, or_null, is_null}
@@ -19,6 +19,6 @@ abbrev mutual
   patched_pairs ts (pair k v ps) =
       patched_pairs (cond (is_null v) (cut k ts) (put k (patched (or_null (find k ts)) v) ts)) ps
 
--- the pairs after one member of a patch
+-- the members after one member of a patch
 abbrev pub patched_pair : List (List ℕ × Value) → List ℕ → Value → List (List ℕ × Value)
 patched_pair ts k v = cond (is_null v) (cut k ts) (put k (patched (or_null (find k ts)) v) ts)

@@ -1,6 +1,6 @@
 //! Builds a value by the macros, changes it, and knows what it is.
 //!
-//! A macro hands a refusal on with `?`, so it stands in a function that answers a `Result`.
+//! A macro propagates an error with `?`, so it is called in a function that returns a `Result`.
 
 ghost use Rattle.std.specs.Prelude.{◌≡◌, IfOk};
 ghost use Rattle.jzon.specs.View.{view};

@@ -1,4 +1,4 @@
-//! Reads a field, and tells a fault with its line and column.
+//! Reads a field, and reports an error with its line and column.
 
 ghost use Rattle.std.specs.Prelude.{◌≡◌, ◌<◌, ◌^◌, chars, IfOk, IfErr, Some, None};
 ghost use Rattle.jzon.specs.Answer.{IsErrorUnlessMemory};
@@ -8,25 +8,25 @@ ghost use Rattle.jzon.specs.Grammar.{Document};
 ghost use Rattle.jzon.specs.Meaning.{meaning};
 ghost use Rattle.jzon.specs.Reading.{usual};
 ghost use Rattle.jzon.specs.Readers.{unsigned_in};
-ghost use Rattle.jzon_examples.specs.Config.{port_value, place_told, Refuses};
+ghost use Rattle.jzon_examples.specs.Config.{port_value, position_in, Rejects};
 
 use jzon::{Error, Result};
 use std::alloc::Global;
 
-/// The port that the text configures, if it is a `u16`. A text with a fault is refused by the error of its first fault.
+/// The port that the text configures, if it is a `u16`. A text with a fault is rejected with the error of its first fault.
 pub fn port(alloc: Global, source: &str) -> Result<Option<u16>>
     ensures port { IfOk result (λ port. (d : Document) × Parses usual (chars source.now) d
         × SomeWhere (unsigned_in (port_value (meaning d.node))) (λ n. n < 2 ^ 16) port) }
     ensures error { IfErr result (IsErrorUnlessMemory usual (chars source.now)) }
-    ensures refused { (e : Error) → IsErrorOf usual (chars source.now) e → Refuses e result }
+    ensures rejected { (e : Error) → IsErrorOf usual (chars source.now) e → Rejects e result }
 {
     let value = jzon::parse(alloc, source)?;
     Ok(value.at("server").at("port").as_u16())
 }
 
-/// The line and the column that an error tells, if it has a place.
-pub fn place_of(error: &Error) -> Option<(usize, usize)>
-    ensures { result ≡ place_told error.now }
+/// The line and the column of an error, if it has them.
+pub fn position_of(error: &Error) -> Option<(usize, usize)>
+    ensures { result ≡ position_in error.now }
 {
     match error {
         Error::UnexpectedCharacter { line, column, .. } => Some((*line, *column)),
@@ -35,9 +35,9 @@ pub fn place_of(error: &Error) -> Option<(usize, usize)>
     }
 }
 
-/// The answer to one text, of which the checker computes the error: a comma too many.
+/// The port of a text with a comma too many, of which the checker computes the error.
 pub fn port_of_faulty(alloc: Global) -> Result<Option<u16>>
-    ensures { Refuses (Error.UnexpectedCharacter 125 1 22) result }
+    ensures { Rejects (Error.UnexpectedCharacter 125 1 22) result }
 {
     port(alloc, "{\"server\":{\"port\":80,}}")
 }
@@ -54,7 +54,7 @@ mod tests {
         assert_eq!(rt; port(alloc, "{\"server\":{\"port\":65536}}")?, None);
         assert_eq!(rt; port(alloc, "[]")?, None);
         match port_of_faulty(alloc) {
-            Err(error) => assert_eq!(rt; place_of(&error), Some((1, 22))),
+            Err(error) => assert_eq!(rt; position_of(&error), Some((1, 22))),
             Ok(_) => assert!(rt; false),
         }
         Ok(())

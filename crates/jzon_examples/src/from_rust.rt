@@ -3,7 +3,7 @@
 use jzon::{JsonValue, Result};
 use std::alloc::Global;
 
-/// Reads a document, prints it, looks into it, and builds another.
+/// Parses a text, prints its value, looks into it, and builds another.
 pub fn first_look(alloc: Global) -> Result<bool> {
     let value = jzon::parse(alloc, "[1, -12.50e3, {\"a\": null}]")?;
     let text = value.dump(alloc)?;
@@ -12,7 +12,7 @@ pub fn first_look(alloc: Global) -> Result<bool> {
     Ok(text.as_str() == "[1,-12500,{\"a\":null}]" && first == Some(1) && built.len() == 2)
 }
 
-/// Reads a document, looks into it, changes it, and prints it.
+/// Parses a text, looks into its value, changes it, and prints it.
 pub fn tour(alloc: Global, text: &str) -> Result<String> {
     let mut data = jzon::parse(alloc, text)?;
     let first = data.at("list").at_index(0).as_u64();
@@ -25,7 +25,7 @@ pub fn tour(alloc: Global, text: &str) -> Result<String> {
     data.dump(alloc)
 }
 
-/// Gives a document another name, where it has one.
+/// Changes the member `name`, where there is one.
 pub fn rename(data: &mut JsonValue, name: JsonValue) {
     if let Some(found) = data.get_mut("name") {
         *found = name;
@@ -39,7 +39,7 @@ fn built(alloc: Global) -> Result<JsonValue> {
     Ok(built)
 }
 
-/// Goes over the pairs of an object, and over the items of an array.
+/// Goes over the entries of an object, and over the elements of an array.
 pub fn longest(value: &JsonValue) -> usize {
     let mut most = 0;
     for (key, item) in value.entries() {

@@ -1,4 +1,4 @@
-//! Layered configuration: of two documents the later one wins, member by member.
+//! Layered configuration: of two values the later one wins, member by member.
 
 ghost use Rattle.std.specs.Prelude.{◌≡◌, ℕ, List, IfOk, true};
 ghost use Rattle.std.specs.Option.{option_or};
@@ -11,7 +11,7 @@ ghost use Rattle.jzon.specs.View.{view};
 use jzon::{JsonValue, Result};
 use std::alloc::Global;
 
-/// The members of both: a name that `later` has stands for what it has there. A value that is no object has no members.
+/// The members of both. A name in both has the value of `later`. A value that is no object has no members.
 pub fn layered(alloc: Global, base: &JsonValue, later: &JsonValue) -> Result<JsonValue>
     requires { IsReadable usual (view later.now) }
     ensures object { IfOk result (λ both. is_object (view both) ≡ true) }

@@ -1,4 +1,4 @@
-//! A filter of lines: one document a line in, its compact text a line out.
+//! A filter of lines: one JSON text a line in, the compact text of its value a line out.
 
 ghost use Rattle.std.specs.Prelude.{◌≡◌, ◌++◌, ℕ, List, IfOk, OnOk, string_bytes};
 ghost use Rattle.std.specs.Str.Lines.{lines};
@@ -7,7 +7,7 @@ ghost use Rattle.jzon_examples.specs.Filter.{IsPrinted, ArePrinted};
 use jzon::Result;
 use std::alloc::Global;
 
-/// The documents on the lines of the text, each printed compactly on a line of its own. A line without a document is refused by the error of its first fault.
+/// The compact text of each line's value, on a line of its own. A line that is no JSON text is rejected with the error of its first fault.
 pub fn compacted(alloc: Global, text: &str) -> Result<String>
     ensures { IfOk result (λ printed. ArePrinted (lines text.now) (string_bytes printed)) }
 {

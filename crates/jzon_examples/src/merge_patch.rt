@@ -1,4 +1,4 @@
-//! Merge patches (RFC 7386): a document that says what is changed of another one.
+//! Merge patches (RFC 7386): a value that says what is changed of another one.
 //!
 //! `patched` of specs/Merge.antt is the pseudocode of section 2, over values. The three functions call one another, so they share a cycle, and
 //! proofs/merge_patch/+merge says what gets smaller: the size of the patch.
@@ -13,7 +13,7 @@ use jzon::object::Object;
 use jzon::{Error, JsonValue, Result};
 use std::alloc::Global;
 
-/// Patches the target. Refused by `OutOfMemory` alone, and then nothing has changed.
+/// Patches the target. The only error is `OutOfMemory`, and then nothing has changed.
 pub fn merge(alloc: Global, target: &mut JsonValue, patch: &JsonValue) -> Result<()>
     ensures ok { OnOk result (view target.new ≡ patched (view target.old) (view patch.now)) }
     ensures err { OnErr result (target.new ≡ target.old) }
@@ -23,7 +23,7 @@ pub fn merge(alloc: Global, target: &mut JsonValue, patch: &JsonValue) -> Result
     Ok(())
 }
 
-/// The target with the patch applied. Refused by `OutOfMemory` alone.
+/// The target with the patch applied. The only error is `OutOfMemory`.
 #[cycle(merge)]
 #[tactic(auto, using(crate::proofs::Merges::merges))]
 pub fn merged(alloc: Global, target: &JsonValue, patch: &JsonValue) -> Result<JsonValue>

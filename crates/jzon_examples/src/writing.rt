@@ -12,7 +12,7 @@ ghost use Rattle.jzon.specs.View.{view};
 use jzon::{JsonValue, Result};
 use std::alloc::Global;
 
-/// Writes the port of an object. All other members are as before, and after a refusal the whole value is.
+/// Writes the port of an object. All other members are as before, and after an error the whole value is.
 pub fn set_port(alloc: Global, value: &mut JsonValue, port: u16) -> Result<()>
     ensures written { OnOk result (find (codes "port") (entries (view value.new))
         ≡ Some (number (integer_parts (pos port)))) }

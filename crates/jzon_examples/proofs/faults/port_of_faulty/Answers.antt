@@ -18,4 +18,4 @@ fault =
 
 pub returns : goal.returns
 unfolding chars
-returns c = c.port.ensures.refused (UnexpectedCharacter 125 1 22) fault
+returns c = c.port.ensures.rejected (UnexpectedCharacter 125 1 22) fault

@@ -5,7 +5,7 @@ use Rattle.jzon.specs.Readers.{entries, is_object}
 use Rattle.jzon.specs.View.{view, viewed}
 use Rattle.jzon_examples.proofs.layers.layered.Given as goal
 
--- what is left of the later document's pairs, put onto the members so far, makes the same as all of them put onto the
+-- what is left of the later value's members, put onto the members so far, makes the same as all of them put onto the
 -- base
 abbrev pub invariant-loop-key : goal.invariant-loop-key
 invariant-loop-key l =
