@@ -2,7 +2,11 @@
 
 use jzon::number::NAN;
 use jzon::{JsonValue, parse};
+use jzon_test_support::NEVER;
 use std::alloc::Global;
+use std::fmt;
+use std::fmt::Write;
+use std::process::Abort;
 use std::test::Fail;
 
 /// What is shown of the value that the text means.
@@ -52,5 +56,70 @@ fn not_a_number(alloc: Global, inside: bool) -> Result<String, Fail> {
 fn shows_not_a_number(rt: HostRuntime) -> Result<(), Fail> {
     assert_eq!(rt; not_a_number(rt.alloc(), false)?.as_str(), "nan");
     assert_eq!(rt; not_a_number(rt.alloc(), true)?.as_str(), "[null]");
+    Ok(())
+}
+
+/// Takes a piece a call, and fails at one call.
+#[derive(Drop)]
+struct FailingFormatter {
+    text: String,
+    calls: usize,
+    fails_at: usize,
+}
+
+impl fmt::Write for FailingFormatter {
+    fn write_str(&mut self, piece: &str) -> fmt::Result {
+        self.calls = self.calls.saturating_add(1);
+        if self.calls == self.fails_at {
+            return Err(fmt::Error);
+        }
+        match self.text.push_str(piece) {
+            Ok(()) => Ok(()),
+            Err(_) => Err(fmt::Error),
+        }
+    }
+}
+
+/// Shows the value to a formatter that fails at this call: whether that succeeds, and the formatter.
+fn show_failing(alloc: Global, value: &JsonValue, fails_at: usize) -> (bool, FailingFormatter) {
+    let mut formatter = FailingFormatter {
+        text: String::new(alloc),
+        calls: 0,
+        fails_at,
+    };
+    let is_shown = write!(formatter, "{value}").is_ok();
+    (is_shown, formatter)
+}
+
+/// At each call that fails there is an error, what was shown is a prefix, and nothing is shown after it.
+fn expect_failures(rt: &impl Abort, alloc: Global, value: &JsonValue, whole: &str) {
+    let (is_shown, formatter) = show_failing(alloc, value, NEVER);
+    assert!(rt; is_shown);
+    assert_eq!(rt; formatter.text.as_str(), whole);
+    for call in 1..=formatter.calls {
+        let (is_shown, formatter) = show_failing(alloc, value, call);
+        assert!(rt; !is_shown, "{whole}, call {call}");
+        assert_eq!(rt; formatter.calls, call, "{whole}");
+        assert!(rt;
+            whole.starts_with(formatter.text.as_str()),
+            "{whole}, call {call}"
+        );
+    }
+}
+
+#[test]
+fn stops_where_the_formatter_fails(rt: HostRuntime) -> Result<(), Fail> {
+    let rows = [
+        ("\"foobar\"", "foobar"),
+        ("42", "42"),
+        ("null", "null"),
+        (
+            "{\"a\\n\":[1.50,true,\"b\\u0001\\\"c\"],\"d\":{},\"e\":null}",
+            "{\"a\\n\":[1.50,true,\"b\\u0001\\\"c\"],\"d\":{},\"e\":null}",
+        ),
+    ];
+    for (source, whole) in rows {
+        expect_failures(&rt, rt.alloc(), &parse(rt.alloc(), source)?, whole);
+    }
     Ok(())
 }

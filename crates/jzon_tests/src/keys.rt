@@ -1,9 +1,10 @@
 //! Many keys, and keys that are hostile to an index over hashes.
 
-use crate::common::Tested;
-use jzon::parse;
+use crate::common::{Tested, is_pair};
+use jzon::object::Object;
+use jzon::{JsonValue, parse};
 use jzon_test_support::{keys_by_hash, keys_of_one_hash, object_text};
-use std::alloc::Global;
+use std::alloc::{AllocError, Global};
 use std::process::Abort;
 
 /// The object of these keys has each of them, and no other.
@@ -25,4 +26,58 @@ fn finds_keys_in_ascending_order_of_hash(rt: HostRuntime) -> Tested {
 #[test]
 fn finds_keys_of_one_hash(rt: HostRuntime) -> Tested {
     expect_keys(&rt, rt.alloc(), &keys_of_one_hash(rt.alloc(), 2000)?)
+}
+
+fn key(alloc: Global, number: u64) -> Result<String, AllocError> {
+    format!(in alloc; "k{number}")
+}
+
+/// The keys `k0` to `k999`, each with its number.
+fn a_thousand(alloc: Global) -> jzon::Result<Object> {
+    let mut object = Object::new(alloc);
+    for number in 0..1000 {
+        object.insert(alloc, key(alloc, number)?.as_str(), JsonValue::from(number))?;
+    }
+    Ok(object)
+}
+
+/// Removes those of even numbers, in ascending order.
+fn remove_even(rt: &impl Abort, alloc: Global, object: &mut Object) -> Tested {
+    for number in (0..1000).step_by(2) {
+        let removed = object.remove(key(alloc, number)?.as_str());
+        assert!(rt;
+            removed.is_some_and(|value| value.eq_u64(number)),
+            "{number}"
+        );
+    }
+    Ok(())
+}
+
+/// Those of odd numbers are left, in order, and found.
+fn expect_odd(rt: &impl Abort, alloc: Global, object: &Object) -> Tested {
+    let mut entries = object.iter();
+    for number in (1..1000).step_by(2) {
+        assert!(rt;
+            is_pair(entries.next(), key(alloc, number)?.as_str(), number),
+            "{number}"
+        );
+    }
+    assert!(rt; entries.next().is_none());
+    for number in 0..1000 {
+        let found = object.get(key(alloc, number)?.as_str());
+        assert_eq!(rt; found.is_some(), number % 2 == 1, "{number}");
+    }
+    Ok(())
+}
+
+#[test]
+fn keeps_a_thousand_keys(rt: HostRuntime) -> Tested {
+    let alloc = rt.alloc();
+    let mut object = a_thousand(alloc)?;
+    remove_even(&rt, alloc, &mut object)?;
+    expect_odd(&rt, alloc, &object)?;
+    object.insert(alloc, "k0", JsonValue::Null)?;
+    assert_eq!(rt; object.iter().next_back().map(|entry| entry.0), Some("k0"));
+    assert_eq!(rt; object.len(), 501);
+    Ok(())
 }

@@ -162,3 +162,25 @@ fn finds_nothing_in_what_is_no_container(rt: HostRuntime) -> Tested {
     find_nothing(&rt, &long(rt.alloc(), "a")?);
     Ok(())
 }
+
+#[test]
+fn contains_elements_of_each_kind(rt: HostRuntime) -> Tested {
+    let array = parse(rt.alloc(), "[true,null,3.14,\"foo\"]")?;
+    let rows = [
+        ("true", true),
+        ("null", true),
+        ("3.14", true),
+        ("\"foo\"", true),
+        ("false", false),
+        ("42", false),
+        ("\"bar\"", false),
+    ];
+    for (text, is_there) in rows {
+        assert_eq!(rt;
+            array.contains(&parse(rt.alloc(), text)?),
+            is_there,
+            "{text}"
+        );
+    }
+    Ok(())
+}

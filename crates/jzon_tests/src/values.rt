@@ -3,7 +3,8 @@
 use crate::common::{Tested, expect_dump, long, parts};
 use jzon::number::NAN;
 use jzon::short::Short;
-use jzon::{JsonValue, parse};
+use jzon::{JsonValue, Result, object, parse};
+use std::alloc::Global;
 use std::process::Abort;
 
 #[test]
@@ -74,6 +75,25 @@ fn equals_what_is_kept_otherwise(rt: HostRuntime) -> Tested {
     expect_equal(&rt, &JsonValue::Number(NAN), &JsonValue::Number(NAN), true);
     expect_equal(&rt, &JsonValue::Number(NAN), &JsonValue::Null, false);
     expect_equal(&rt, &JsonValue::Number(NAN), &parts(true, 0, 0), false);
+    Ok(())
+}
+
+/// `{"a":[TEXT,100,true]}`
+fn with_text(alloc: Global, text: JsonValue) -> Result<JsonValue> {
+    Ok(object! {alloc; a: [text, 100, true]})
+}
+
+#[test]
+fn equals_what_is_kept_otherwise_inside(rt: HostRuntime) -> Tested {
+    let alloc = rt.alloc();
+    let value = parse(alloc, "{\"a\":[\"bc\",100,true]}")?;
+    for (text, is_equal) in [("bc", true), ("bd", false)] {
+        let owned = with_text(alloc, long(alloc, text)?)?;
+        expect_equal(&rt, &value, &owned, is_equal);
+        let short = with_text(alloc, jzon::from(alloc, text)?)?;
+        expect_equal(&rt, &value, &short, is_equal);
+        expect_equal(&rt, &owned, &short, true);
+    }
     Ok(())
 }
 

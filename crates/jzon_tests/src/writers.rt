@@ -97,3 +97,17 @@ fn writes_whole_texts(rt: HostRuntime) -> Tested {
     }
     Ok(())
 }
+
+/// The bytes of the first three calls are there, and the error is the writer's.
+#[test]
+fn stops_at_the_fourth_call(rt: HostRuntime) -> Tested {
+    let value = parse(rt.alloc(), "[1,2,3]")?;
+    let mut writer = SlowWriter::new(rt.alloc(), 4, Trouble::Fails(ErrorKind::BrokenPipe));
+    match value.write(&mut writer) {
+        Ok(()) => assert!(rt; false),
+        Err(error) => assert_eq!(rt; error.kind(), ErrorKind::BrokenPipe),
+    }
+    assert_eq!(rt; writer.bytes.as_slice(), b"[1,".as_slice());
+    assert_eq!(rt; writer.calls, 4);
+    Ok(())
+}

@@ -35,7 +35,7 @@ fn dump_of(value: &JsonValue, alloc: Global) -> Result<String> {
 
 fn pretty_of(value: &JsonValue, alloc: Global) -> Result<String> {
     match value {
-        JsonValue::Object(object) => object.pretty(alloc, 1),
+        JsonValue::Object(object) => object.pretty(alloc, 2),
         _ => Ok(String::new(alloc)),
     }
 }
@@ -47,7 +47,7 @@ fn dumped(value: &JsonValue, alloc: Global) -> Result<String> {
 }
 
 fn prettified(value: &JsonValue, alloc: Global) -> Result<String> {
-    let mut generator = PrettyGenerator::new(alloc, 1);
+    let mut generator = PrettyGenerator::new(alloc, 2);
     of_memory(write_json(&mut generator, value))?;
     generator.consume()
 }
@@ -67,7 +67,7 @@ fn written(value: &JsonValue, alloc: Global) -> Result<String> {
 
 fn pretty_written(value: &JsonValue, alloc: Global) -> Result<String> {
     let mut bytes = Vec::new(alloc);
-    of_memory(value.write_pretty(&mut bytes, 1))?;
+    of_memory(value.write_pretty(&mut bytes, 2))?;
     text_of(bytes)
 }
 
@@ -75,7 +75,7 @@ impl Call for Writing {
     fn call(self, value: &mut JsonValue, alloc: Global) -> Result<()> {
         let text = match self {
             Writing::Dump => value.dump(alloc)?,
-            Writing::Pretty => value.pretty(alloc, 1)?,
+            Writing::Pretty => value.pretty(alloc, 2)?,
             Writing::ObjectDump => dump_of(value, alloc)?,
             Writing::ObjectPretty => pretty_of(value, alloc)?,
             Writing::DumpGenerator => dumped(value, alloc)?,
@@ -90,10 +90,10 @@ impl Call for Writing {
 
 const NUMBERS: &str = "{\"a\":[1]}";
 
-/// What dumps the text on one line, and that on lines, with a space for each open container.
+/// What dumps the text on one line, and that on lines, with two spaces for each open container.
 const ON_ONE_LINE: &str = "\"{\\\"a\\\":[1]}\"";
 
-const ON_LINES: &str = "\"{\\n \\\"a\\\": [\\n  1\\n ]\\n}\"";
+const ON_LINES: &str = "\"{\\n  \\\"a\\\": [\\n    1\\n  ]\\n}\"";
 
 #[test]
 fn written_under_refusals(rt: HostRuntime) -> Tested {
