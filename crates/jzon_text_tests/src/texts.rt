@@ -39,6 +39,18 @@ pub(crate) fn expect_read(
     Ok(())
 }
 
+/// What the text of each row means dumps the text beside it.
+pub(crate) fn expect_each_read(
+    rt: &impl Abort,
+    alloc: Global,
+    rows: &[(&str, &str)],
+) -> Result<(), Fail> {
+    for (text, dump) in rows {
+        expect_read(rt, alloc, text, dump)?;
+    }
+    Ok(())
+}
+
 fn parts_of(value: &JsonValue) -> Option<(bool, u64, i16)> {
     match value {
         JsonValue::Number(number) => Some(number.as_parts()),
