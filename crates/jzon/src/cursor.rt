@@ -101,7 +101,8 @@ impl<'a> Cursor<'a> {
 
     /// The error of a text that has no valid continuation from here.
     pub(crate) fn fault(&self) -> Error
-        ensures { Reports (chars self.now.source.now) result (fault_here (chars (drop self.now.index self.now.source.now))) }
+        ensures { Reports (chars self.now.source.now) result
+            (fault_here (chars (drop self.now.index self.now.source.now))) }
     {
         fault_at(self.source, self.index)
     }
@@ -114,11 +115,14 @@ impl<'a> Cursor<'a> {
         requires opening { next_byte self.old ≡ opener bracket }
         ensures reading { self.new.reading ≡ self.old.reading }
         ensures memory { result ≢ Err Error.OutOfMemory }
-        ensures filled { IfOk result (λ is_empty. is_empty ≡ false → (depth < self.old.reading.depth)
+        ensures filled { IfOk result (λ is_empty. is_empty ≡ false →
+            (depth < self.old.reading.depth)
             × (next_byte self.new ≢ closer bracket)) }
-        ensures outcome { (fs : Frames) → value_mark self.old.reading fs ≡ None → frames_depth fs ≡ depth →
+        ensures outcome { (fs : Frames) → value_mark self.old.reading fs ≡ None →
+            frames_depth fs ≡ depth →
             GoesOn self.old (before fs) result self.new
-            (λ is_empty. if is_empty then after_value fs (empty_container bracket) else after_opener bracket fs) }
+            (λ is_empty. if is_empty then after_value fs (empty_container bracket)
+            else after_opener bracket fs) }
     {
         self.bump();
         let first = self.peek();

@@ -35,7 +35,8 @@ fn column_after(prefix: &str) -> usize
 /// `DuplicateKey` for the key whose opening quote is at `start`.
 pub(crate) fn duplicate_at(source: &str, start: usize) -> Error
     requires { IsCharBoundary source.now start }
-    ensures { result ≡ DuplicateKey (line (chars (take start source.now))) (column (chars (take start source.now))) }
+    ensures { result ≡ DuplicateKey (line (chars (take start source.now)))
+        (column (chars (take start source.now))) }
 {
     let prefix = &source[..start];
     Error::DuplicateKey {

@@ -28,9 +28,11 @@ use jzon_base::number::Number;
 pub(crate) fn read_number(source: &str, start: usize, negative: bool) -> Result<(Number, usize)>
     requires within { start < length source.now }
     requires digit { IsTrue (is_ascii_digit (slice_index source.now start)) }
-    ensures end { IfOk result (λ r. (start < r.1) × (r.1 ≤ length source.now) × IsCharBoundary source.now r.1) }
+    ensures end { IfOk result
+        (λ r. (start < r.1) × (r.1 ≤ length source.now) × IsCharBoundary source.now r.1) }
     ensures outcome { (r : Reading) (fs : Frames) →
-        Leads r source.now (numeral_after_first fs negative (slice_index source.now start)) (start + 1) result
+        Leads r source.now (numeral_after_first fs negative (slice_index source.now start))
+        (start + 1) result
         (λ v. after_value fs (number v)) }
 {
     let spelling = spelling_at(source, start);
@@ -73,20 +75,25 @@ struct Spelling<'a> {
 fn spelling_at(source: &str, start: usize) -> Spelling<'_>
     requires within { start < length source.now }
     requires digit { IsTrue (is_ascii_digit (slice_index source.now start)) }
-    ensures end { (start < result.end) × (result.end ≤ length source.now) × IsCharBoundary source.now result.end }
+    ensures end { (start < result.end) × (result.end ≤ length source.now)
+        × IsCharBoundary source.now result.end }
     ensures number { AreFewEnough result.whole.now result.fraction.now → result.is_missing ≡ false
         → (r : Reading) (fs : Frames) (negative : Bool)
-        → from r source.now (numeral_after_first fs negative (slice_index source.now start)) (start + 1)
-        ≡ from r source.now (after_value fs (number (read_number (not negative) result.whole.now result.fraction.now
+        → from r source.now
+        (numeral_after_first fs negative (slice_index source.now start)) (start + 1)
+        ≡ from r source.now (after_value fs (number (read_number (not negative) result.whole.now
+        result.fraction.now
         (signed result.positive_exponent (digits_number result.exponent.now))))) result.end }
     ensures missing { AreFewEnough result.whole.now result.fraction.now → result.is_missing ≡ true
         → (r : Reading) (fs : Frames) (negative : Bool)
-        → from r source.now (numeral_after_first fs negative (slice_index source.now start)) (start + 1)
+        → from r source.now
+        (numeral_after_first fs negative (slice_index source.now start)) (start + 1)
         ≡ fault_here (chars (drop result.end source.now)) }
     ensures too_many { (f : DigitFault) → IsFirstTooMany result.whole.now result.fraction.now f
         → (r : Reading) (fs : Frames) (negative : Bool)
         → Reports (chars source.now) ExceededDepthLimit
-        (from r source.now (numeral_after_first fs negative (slice_index source.now start)) (start + 1)) }
+        (from r source.now
+        (numeral_after_first fs negative (slice_index source.now start)) (start + 1)) }
 {
     let magnitude = magnitude_at(source, start);
     if magnitude.is_missing || !has_exponent_letter(source, magnitude.end) {
@@ -109,28 +116,36 @@ fn spelling_at(source: &str, start: usize) -> Spelling<'_>
 fn magnitude_at(source: &str, start: usize) -> Spelling<'_>
     requires within { start < length source.now }
     requires digit { IsTrue (is_ascii_digit (slice_index source.now start)) }
-    ensures end { (start < result.end) × (result.end ≤ length source.now) × IsCharBoundary source.now result.end }
+    ensures end { (start < result.end) × (result.end ≤ length source.now)
+        × IsCharBoundary source.now result.end }
     ensures exponent { (result.positive_exponent ≡ true) × (result.exponent.now ≡ []) }
     ensures letter { AreFewEnough result.whole.now result.fraction.now → result.is_missing ≡ false
         → (r : Reading) (fs : Frames) (negative : Bool)
-        → result.end < length source.now → IsTrue (is_exponent_letter (slice_index source.now result.end))
-        → from r source.now (numeral_after_first fs negative (slice_index source.now start)) (start + 1)
+        → result.end < length source.now →
+        IsTrue (is_exponent_letter (slice_index source.now result.end))
+        → from r source.now
+        (numeral_after_first fs negative (slice_index source.now start)) (start + 1)
         ≡ from r source.now (numeral fs negative (lettered result.whole.now result.fraction.now
         (slice_index source.now result.end))) (result.end + 1) }
     ensures number { AreFewEnough result.whole.now result.fraction.now → result.is_missing ≡ false
         → (r : Reading) (fs : Frames) (negative : Bool)
-        → (result.end < length source.now → is_exponent_letter (slice_index source.now result.end) ≡ false)
-        → from r source.now (numeral_after_first fs negative (slice_index source.now start)) (start + 1)
-        ≡ from r source.now (after_value fs (number (read_number (not negative) result.whole.now result.fraction.now
+        → (result.end < length source.now → is_exponent_letter (slice_index source.now result.end)
+        ≡ false)
+        → from r source.now
+        (numeral_after_first fs negative (slice_index source.now start)) (start + 1)
+        ≡ from r source.now (after_value fs (number (read_number (not negative) result.whole.now
+        result.fraction.now
         (pos 0)))) result.end }
     ensures missing { AreFewEnough result.whole.now result.fraction.now → result.is_missing ≡ true
         → (r : Reading) (fs : Frames) (negative : Bool)
-        → from r source.now (numeral_after_first fs negative (slice_index source.now start)) (start + 1)
+        → from r source.now
+        (numeral_after_first fs negative (slice_index source.now start)) (start + 1)
         ≡ fault_here (chars (drop result.end source.now)) }
     ensures too_many { (f : DigitFault) → IsFirstTooMany result.whole.now result.fraction.now f
         → (r : Reading) (fs : Frames) (negative : Bool)
         → Reports (chars source.now) ExceededDepthLimit
-        (from r source.now (numeral_after_first fs negative (slice_index source.now start)) (start + 1)) }
+        (from r source.now
+        (numeral_after_first fs negative (slice_index source.now start)) (start + 1)) }
 {
     let (whole, before) = whole_at(source, start);
     let end = start + whole.len();
@@ -161,7 +176,8 @@ fn magnitude_at(source: &str, start: usize) -> Spelling<'_>
 #[inline(always)]
 fn whole_at(source: &str, start: usize) -> (&[u8], u64)
     requires { start < length source.now }
-    ensures digits { result.0.now ≡ (if slice_index source.now start == zero_digit then zero_digit ∷ []
+    ensures digits { result.0.now
+        ≡ (if slice_index source.now start == zero_digit then zero_digit ∷ []
         else take_while is_ascii_digit (drop start source.now)) }
     ensures number { result.1 ≡ digits_number result.0.now % 2 ^ 64 }
 {
@@ -177,7 +193,8 @@ fn whole_at(source: &str, start: usize) -> (&[u8], u64)
 fn digits_at(source: &str, start: usize, before: u64) -> (&[u8], u64)
     requires { start ≤ length source.now }
     ensures digits { result.0.now ≡ take_while is_ascii_digit (drop start source.now) }
-    ensures number { (n : ℕ) → before ≡ n % 2 ^ 64 → result.1 ≡ fold add_digit n result.0.now % 2 ^ 64 }
+    ensures number { (n : ℕ) → before ≡ n % 2 ^ 64 → result.1
+        ≡ fold add_digit n result.0.now % 2 ^ 64 }
 {
     let rest = &source.as_bytes()[start..];
     let (count, number) = scan(rest, before);
@@ -197,14 +214,17 @@ struct Exponent<'a> {
 #[inline(never)]
 fn exponent_after(source: &str, start: usize) -> Exponent<'_>
     requires { IsCharBoundary source.now start }
-    ensures end { (start ≤ result.end) × (result.end ≤ length source.now) × IsCharBoundary source.now result.end }
+    ensures end { (start ≤ result.end) × (result.end ≤ length source.now)
+        × IsCharBoundary source.now result.end }
     ensures digits { All IsDigit result.digits.now }
-    ensures number { 0 < length result.digits.now → (r : Reading) (fs : Frames) (negative : Bool) (ws ds : List ℕ)
+    ensures number { 0 < length result.digits.now →
+        (r : Reading) (fs : Frames) (negative : Bool) (ws ds : List ℕ)
         (l : ℕ)
         → from r source.now (numeral fs negative (lettered ws ds l)) start
         ≡ from r source.now (after_value fs (number (read_number (not negative) ws ds
         (signed result.is_positive (digits_number result.digits.now))))) result.end }
-    ensures missing { length result.digits.now ≡ 0 → (r : Reading) (fs : Frames) (negative : Bool) (ws ds : List ℕ)
+    ensures missing { length result.digits.now ≡ 0 →
+        (r : Reading) (fs : Frames) (negative : Bool) (ws ds : List ℕ)
         (l : ℕ)
         → from r source.now (numeral fs negative (lettered ws ds l)) start
         ≡ fault_here (chars (drop result.end source.now)) }

@@ -94,8 +94,10 @@ impl<'a> Parser<'a> {
         requires room { depth ≤ self.old.cursor.reading.depth }
         ensures stack { OnOk result (self.new.stack ≡ self.old.stack) }
         ensures ready { IfOk result (IsReady self.new.cursor depth) }
-        ensures memory { result ≡ Err Error.OutOfMemory → TakesMemory (chars self.old.cursor.source.now) }
-        ensures opened { IfOk result (λ b. is_open b ≡ true → TakesMemory (chars self.old.cursor.source.now)) }
+        ensures memory { result ≡ Err Error.OutOfMemory →
+            TakesMemory (chars self.old.cursor.source.now) }
+        ensures opened { IfOk result
+            (λ b. is_open b ≡ true → TakesMemory (chars self.old.cursor.source.now)) }
         ensures outcome { (fs : Frames) → frames_depth fs ≡ depth
             → (is_fresh fs ≡ true → next_byte self.old.cursor ≢ end_array) →
             GoesOn self.old.cursor (before fs) result self.new.cursor (λ b. state_of b fs) }
@@ -146,7 +148,8 @@ impl<'a> Parser<'a> {
     fn read_to_end(&mut self, value_start: ValueStart) -> Result<JsonValue>
         requires outmost { self.old.stack.items ≡ [] }
         requires ready { IsReady self.old.cursor 0 value_start }
-        ensures { Reads (chars self.old.cursor.source.now) result (left self.old.cursor (state_of value_start no_frames)) }
+        ensures { Reads (chars self.old.cursor.source.now) result
+            (left self.old.cursor (state_of value_start no_frames)) }
     {
         let mut value_start = value_start;
         loop {
@@ -168,7 +171,8 @@ impl<'a> Parser<'a> {
     fn read_after_item(&mut self, frame: Frame, item: JsonValue) -> Result<ValueStart>
         requires room { vec_len self.old.stack < self.old.cursor.reading.depth }
         ensures ready { IfOk result (IsReady self.new.cursor (vec_len self.new.stack)) }
-        ensures outcome { GoesOn self.old.cursor (after_value (open_in (stack_view self.old.stack.items) frame) (view item))
+        ensures outcome { GoesOn self.old.cursor
+            (after_value (open_in (stack_view self.old.stack.items) frame) (view item))
             result self.new.cursor
             (λ b. state_of b (stack_view self.new.stack.items)) }
     {
@@ -196,7 +200,8 @@ impl<'a> Parser<'a> {
         requires room { vec_len self.old.stack < self.old.cursor.reading.depth }
         requires element { next_byte self.old.cursor ≢ end_array }
         ensures ready { IfOk result (IsReady self.new.cursor (vec_len self.new.stack)) }
-        ensures outcome { GoesOn self.old.cursor (before (array_frame (stack_view self.old.stack.items) []))
+        ensures outcome { GoesOn self.old.cursor
+            (before (array_frame (stack_view self.old.stack.items) []))
             result self.new.cursor
             (λ b. state_of b (stack_view self.new.stack.items)) }
     {
@@ -210,8 +215,9 @@ impl<'a> Parser<'a> {
         requires room { vec_len self.old.stack < self.old.cursor.reading.depth }
         requires element { map view elements.items ≡ [] → next_byte self.old.cursor ≢ end_array }
         ensures ready { IfOk result (IsReady self.new.cursor (vec_len self.new.stack)) }
-        ensures outcome { GoesOn self.old.cursor (before (array_frame (stack_view self.old.stack.items)
-            (map view elements.items))) result self.new.cursor
+        ensures outcome { GoesOn self.old.cursor
+            (before (array_frame (stack_view self.old.stack.items) (map view elements.items)))
+            result self.new.cursor
             (λ b. state_of b (stack_view self.new.stack.items)) }
     {
         let mut elements = elements;
@@ -264,7 +270,8 @@ impl<'a> Parser<'a> {
         requires room { vec_len self.old.stack < self.old.cursor.reading.depth }
         requires key { viewed entries ≡ [] → next_byte self.old.cursor ≢ end_object }
         ensures ready { IfOk result (IsReady self.new.cursor (vec_len self.new.stack)) }
-        ensures outcome { GoesOn self.old.cursor (before_key (stack_view self.old.stack.items) (viewed entries))
+        ensures outcome { GoesOn self.old.cursor
+            (before_key (stack_view self.old.stack.items) (viewed entries))
             result self.new.cursor
             (λ b. state_of b (stack_view self.new.stack.items)) }
     {
@@ -324,10 +331,12 @@ impl<'a> Parser<'a> {
     fn read_key(&mut self, entries: &mut Builder) -> Result<Key>
         ensures kept { OnOk result (entries.new ≡ entries.old) }
         ensures stack { OnOk result (self.new.stack ≡ self.old.stack) }
-        ensures outcome { (fs : Frames) → let es = viewed entries.old in key_mark self.old.cursor.reading fs es
+        ensures outcome { (fs : Frames) →
+            let es = viewed entries.old in key_mark self.old.cursor.reading fs es
             ≡ None →
             (es ≡ [] → next_byte self.old.cursor ≢ end_object) →
-            GoesOn self.old.cursor (before_key fs es) result self.new.cursor (λ k. before (object_frame fs es k)) }
+            GoesOn self.old.cursor (before_key fs es) result self.new.cursor
+            (λ k. before (object_frame fs es k)) }
     {
         if self.cursor.peek() != b'"' {
             return Err(self.cursor.fault());

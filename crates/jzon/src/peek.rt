@@ -5,7 +5,8 @@ ghost use Rattle.std.specs.Char.{is_ascii_digit};
 
 /// Whether the byte at `index` is `byte`.
 pub(crate) fn has_byte(source: &str, index: usize, byte: u8) -> bool
-    ensures { IsTrue result ↔ ((index < length source.now) × (slice_index source.now index ≡ byte)) }
+    ensures { IsTrue result
+        ↔ ((index < length source.now) × (slice_index source.now index ≡ byte)) }
 {
     let bytes = source.as_bytes();
     index < bytes.len() && bytes[index] == byte
@@ -33,7 +34,8 @@ pub(crate) fn has_four(source: &str, index: usize, four: [u8; 4]) -> bool
 
 /// Whether the byte at `index` is a digit.
 pub(crate) fn has_digit(source: &str, index: usize) -> bool
-    ensures { IsTrue result ↔ ((index < length source.now) × IsTrue (is_ascii_digit (slice_index source.now index))) }
+    ensures { IsTrue result
+        ↔ ((index < length source.now) × IsTrue (is_ascii_digit (slice_index source.now index))) }
 {
     let bytes = source.as_bytes();
     index < bytes.len() && bytes[index].is_ascii_digit()

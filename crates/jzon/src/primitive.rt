@@ -38,7 +38,8 @@ pub(crate) fn read_primitive(
     ensures end { IfOk result (λ r. (start < r.1) × IsCharBoundary source.now r.1) }
     ensures memory { result ≡ Err Error.OutOfMemory → first ≡ quotation_mark }
     ensures outcome { (r : Reading) (fs : Frames) → value_mark r fs ≡ None
-        → (start < length source.now → is_whitespace r.strict (slice_index source.now start) ≡ false)
+        → (start < length source.now → is_whitespace r.strict (slice_index source.now start)
+        ≡ false)
         → (is_fresh fs ≡ true → slice_index source.now start ≢ end_array) →
         LeadsUnlessMemory r source.now (before fs) start result (λ v. after_value fs (view v)) }
 {
@@ -74,7 +75,8 @@ fn read_string_value(
     requires { IsCharBoundary source.now start }
     ensures end { IfOk result (λ r. (start < r.1) × IsCharBoundary source.now r.1) }
     ensures outcome { (r : Reading) (fs : Frames) →
-        LeadsUnlessMemory r source.now (string (as_value fs) [] between) start result (λ v. after_value fs (view v)) }
+        LeadsUnlessMemory r source.now (string (as_value fs) [] between) start result
+        (λ v. after_value fs (view v)) }
 {
     let spelled = read_string(source, start, buffer)?;
     let value = text_value(alloc, spelled.text(source, start, buffer))?;
@@ -87,7 +89,8 @@ fn read_negative(source: &str, start: usize) -> Result<(JsonValue, usize)>
     requires { IsCharBoundary source.now start }
     ensures end { IfOk result (λ r. (start < r.1) × IsCharBoundary source.now r.1) }
     ensures outcome { (r : Reading) (fs : Frames) →
-        Leads r source.now (numeral fs true after_minus) start result (λ v. after_value fs (view v)) }
+        Leads r source.now (numeral fs true after_minus) start result
+        (λ v. after_value fs (view v)) }
 {
     if !has_digit(source, start) {
         return stopped_at(source, start);
@@ -102,7 +105,8 @@ fn read_magnitude(source: &str, start: usize, negative: bool) -> Result<(JsonVal
     requires digit { IsTrue (is_ascii_digit (slice_index source.now start)) }
     ensures end { IfOk result (λ r. (start < r.1) × IsCharBoundary source.now r.1) }
     ensures outcome { (r : Reading) (fs : Frames) →
-        Leads r source.now (numeral_after_first fs negative (slice_index source.now start)) (start + 1) result
+        Leads r source.now (numeral_after_first fs negative (slice_index source.now start))
+        (start + 1) result
         (λ v. after_value fs (view v)) }
 {
     let (number, end) = read_number(source, start, negative)?;
@@ -192,7 +196,8 @@ fn read_literal_rest(
     requires ascii { IsAscii letters.now }
     ensures end { IfOk result (λ r. (start ≤ r.1) × IsCharBoundary source.now r.1) }
     ensures outcome { (r : Reading) (fs : Frames) →
-        Leads r source.now (past_letter fs (view value) letters.now) start result (λ v. after_value fs (view v)) }
+        Leads r source.now (past_letter fs (view value) letters.now) start result
+        (λ v. after_value fs (view v)) }
 {
     let end = read_letters(source, start, letters)?;
     Ok((value, end))
@@ -206,8 +211,10 @@ fn read_letters(source: &str, start: usize, letters: &[u8]) -> Result<usize>
     requires ascii { IsAscii letters.now }
     ensures end { IfOk result (λ end. (start ≤ end) × IsCharBoundary source.now end) }
     ensures outcome { (r : Reading) (fs : Frames) (v : Value) → MatchResult result
-        (λ end. from r source.now (past_letter fs v letters.now) start ≡ from r source.now (after_value fs v) end)
-        (λ e. Reports (chars source.now) e (from r source.now (past_letter fs v letters.now) start)) }
+        (λ end. from r source.now (past_letter fs v letters.now) start
+        ≡ from r source.now (after_value fs v) end)
+        (λ e. Reports (chars source.now) e (from r source.now
+        (past_letter fs v letters.now) start)) }
 {
     let mut index = start;
     for letter in letters {

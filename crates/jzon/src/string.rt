@@ -40,7 +40,8 @@ impl Spelled {
     pub(crate) fn text<'a>(self, source: &'a str, start: usize, buffer: &'a String) -> &'a str
         requires begin { IsCharBoundary source.now start }
         requires end { EndsAtQuote source.now start self.end }
-        ensures { result.now ≡ (if self.is_escaped then string_bytes buffer.now else slice_range source.now start
+        ensures { result.now
+            ≡ (if self.is_escaped then string_bytes buffer.now else slice_range source.now start
             (self.end - 1)) }
     {
         if self.is_escaped {
@@ -71,13 +72,17 @@ pub(crate) fn text_value(alloc: Global, content: &str) -> Result<JsonValue>
 pub(crate) fn read_string(source: &str, start: usize, buffer: &mut String) -> Result<Spelled>
     requires { IsCharBoundary source.now start }
     ensures quote { IfOk result (λ s. EndsAtQuote source.now start s.end) }
-    ensures escaped { IfOk result (λ s. IsTrue s.is_escaped ↔ Contains (slice_range source.now start (s.end - 1)) escape) }
-    ensures untouched { IfOk result (λ s. s.is_escaped ≡ false → string_bytes buffer.new ≡ string_bytes buffer.old) }
+    ensures escaped { IfOk result
+        (λ s. IsTrue s.is_escaped ↔ Contains (slice_range source.now start (s.end - 1)) escape) }
+    ensures untouched { IfOk result
+        (λ s. s.is_escaped ≡ false → string_bytes buffer.new ≡ string_bytes buffer.old) }
     ensures outcome { (r : Reading) (role : Role) → MatchResult result
         (λ s. from r source.now (string role [] between) start
-        ≡ from_closed r source.now role (if s.is_escaped then string_bytes buffer.new else slice_range source.now start
+        ≡ from_closed r source.now role
+        (if s.is_escaped then string_bytes buffer.new else slice_range source.now start
         (s.end - 1)) s.end)
-        (λ e. (e ≡ OutOfMemory) ⊎ Reports (chars source.now) e (from r source.now (string role [] between) start)) }
+        (λ e. (e ≡ OutOfMemory)
+        ⊎ Reports (chars source.now) e (from r source.now (string role [] between) start)) }
 {
     let stop = plain_end(source, start);
     if !has_byte(source, stop, b'\\') {
@@ -103,8 +108,10 @@ fn plain_end(source: &str, start: usize) -> usize
     ensures boundary { IsCharBoundary source.now result }
     ensures stop { result < length source.now → is_plain (slice_index source.now result) ≡ false }
     ensures no_escape { ¬ (Contains (slice_range source.now start result) escape) }
-    ensures outcome { (r : Reading) (role : Role) (bs : List ℕ) → from r source.now (string role bs between) start
-        ≡ from r source.now (string role (bs ++ slice_range source.now start result) between) result }
+    ensures outcome { (r : Reading) (role : Role) (bs : List ℕ) →
+        from r source.now (string role bs between) start
+        ≡ from r source.now (string role (bs ++ slice_range source.now start result) between)
+        result }
 {
     start + plain_len(&source.as_bytes()[start..])
 }
@@ -116,7 +123,8 @@ fn past_quote(source: &str, index: usize) -> Result<usize>
     requires no_escape { index < length source.now → slice_index source.now index ≡ escape → ⊥ }
     ensures quote { IfOk result (λ end. (end ≡ index + 1) × EndsAtQuote source.now index end) }
     ensures outcome { (r : Reading) (role : Role) (bs : List ℕ) → MatchResult result
-        (λ end. from r source.now (string role bs between) index ≡ from_closed r source.now role bs end)
+        (λ end. from r source.now (string role bs between) index
+        ≡ from_closed r source.now role bs end)
         (λ e. Reports (chars source.now) e (from r source.now (string role bs between) index)) }
 {
     if has_byte(source, index, b'"') {
@@ -154,7 +162,8 @@ fn push_run(source: &str, start: usize, buffer: &mut String) -> Result<usize>
     requires { IsCharBoundary source.now start }
     ensures within { IfOk result (λ end. start ≤ end) }
     ensures boundary { IfOk result (λ end. IsCharBoundary source.now end) }
-    ensures stop { IfOk result (λ end. end < length source.now → is_plain (slice_index source.now end) ≡ false) }
+    ensures stop { IfOk result
+        (λ end. end < length source.now → is_plain (slice_index source.now end) ≡ false) }
     ensures outcome { (r : Reading) (role : Role) → IfOk result (λ end.
         from r source.now (string role (string_bytes buffer.old) between) start
         ≡ from r source.now (string role (string_bytes buffer.new) between) end) }
@@ -219,7 +228,8 @@ fn read_second(source: &str, start: usize, first: u32) -> Result<(char, usize)>
     ensures outcome { (r : Reading) (role : Role) (bs : List ℕ) → MatchResult result
         (λ x. from r source.now (string role bs (second first)) start
         ≡ from r source.now (string role (bs ++ encode_utf8 x.0) between) x.1)
-        (λ e. Reports (chars source.now) e (from r source.now (string role bs (second first)) start)) }
+        (λ e. Reports (chars source.now) e (from r source.now (string role bs
+        (second first)) start)) }
 {
     if !has_byte(source, start, b'\\') {
         return Err(fault_at(source, start));
@@ -257,9 +267,11 @@ fn read_hex(source: &str, start: usize) -> Result<u32>
         (λ e. Reports (chars source.now) e (from r source.now (string role bs (code 3 0)) start)) }
     ensures second { (r : Reading) (role : Role) (bs : List ℕ) (h : ℕ) → MatchResult result
         (λ u. from r source.now (string role bs (second_code h 3 0)) start
-        ≡ outcome_on (move_pair (is_high h && is_low u) role bs h u) (λ p. from r source.now p (start + 4))
+        ≡ outcome_on (move_pair (is_high h && is_low u) role bs h u)
+        (λ p. from r source.now p (start + 4))
         (chars (drop (start + 3) source.now)))
-        (λ e. Reports (chars source.now) e (from r source.now (string role bs (second_code h 3 0)) start)) }
+        (λ e. Reports (chars source.now) e (from r source.now (string role bs
+        (second_code h 3 0)) start)) }
 {
     let mut unit = 0;
     for index in start..start + 4 {

@@ -17,7 +17,8 @@ pub(crate) fn skip_whitespace(source: &str, reading: Reading, start: usize) -> u
     ensures outcome { (p : State) → allows_whitespace p ≡ true →
         from reading source.now p start ≡ from reading source.now p result }
     ensures within { start ≤ result }
-    ensures stop { result < length source.now → is_whitespace reading.strict (slice_index source.now result) ≡ false }
+    ensures stop { result < length source.now →
+        is_whitespace reading.strict (slice_index source.now result) ≡ false }
 {
     if is_above_space(source, start) {
         return start;
