@@ -1,4 +1,4 @@
--- What a value lends for writing through `&mut` (docs/RULES.md, "Readers" and "Changers").
+-- What a `&mut` to a part of a value refers to (docs/RULES.md, "Readers" and "Changers").
 use Rattle.std.specs.Prelude.{◌≡◌, ℕ, min, ◌-◌, List, [], ◌∷◌, ◌++◌, length, nat_lt, nat_eq, if◌then◌else◌, Option}
 use Rattle.std.specs.Prelude.{None, Some}
 use Rattle.std.specs.Global.{Vec}
@@ -39,13 +39,13 @@ abbrev pub items_of : Value → Option (List Value)
 items_of (array vs) = Some (list_of_values vs)
 items_of _ = None
 
--- The elements of which index i lends one: the same if i is in range, else one null more; of a value that isn't an
--- array, one null for i = 0 and two for any other i.
+-- The elements once index i has one: the same if i is in range, else one null more; of a value that isn't an array, one
+-- null for i = 0 and two for any other i.
 abbrev pub with_place : {V : Type 0} → V → Option (List V) → ℕ → List V
 with_place null (Some xs) i = if nat_lt i (length xs) then xs else xs ++ null ∷ []
 with_place null None i = if nat_eq i 0 then null ∷ [] else null ∷ null ∷ []
 
--- the position that is lent: i if it is in range, else the last
+-- the position of that element: i if it is in range, else the last
 abbrev pub place_in : {V : Type 0} → V → Option (List V) → ℕ → ℕ
 place_in null xs i = min i (length (with_place null xs i) - 1)
 
@@ -53,7 +53,7 @@ place_in null xs i = min i (length (with_place null xs i) - 1)
 abbrev pub items_with_place : JsonValue → ℕ → List JsonValue
 items_with_place v i = with_place Null (items_in v) i
 
--- the position that it lends
+-- the position of the element that it returns
 abbrev pub place_made : JsonValue → ℕ → ℕ
 place_made v i = place_in Null (items_in v) i
 

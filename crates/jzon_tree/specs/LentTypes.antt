@@ -1,4 +1,4 @@
--- The types of what values lend, as the logic represents them, for clauses on what is written through a `&mut`.
+-- The types of the parts of values, as the logic represents them, for clauses on what is written through a `&mut`.
 use denote.RattleType.{RattleType}
 use Rattle.std.specs.contracts.alloc.Global as global
 use Rattle.std.specs.contracts.vec.Vec as vec

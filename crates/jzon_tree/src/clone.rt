@@ -29,7 +29,7 @@ impl Object {
     }
 }
 
-/// Inlined into the loop over elements, most of which are primitives.
+/// Inlined into the loop over elements, so that a level of containers takes one frame of the stack.
 #[inline(always)]
 #[cycle(copy)]
 #[tactic(auto, using(crate::proofs::Views::views))]

@@ -14,11 +14,11 @@ use std::alloc::AllocError;
 use std::io::Write;
 
 /// The most spaces that one write has.
-const BLANKS: [u8; 512] = [b' '; 512];
+const SPACES: [u8; 512] = [b' '; 512];
 
 /// The newline, and the spaces that are written with it.
 #[rattlefmt::skip]
-const LINE: [u8; 64] = [
+const NEWLINE_AND_SPACES: [u8; 64] = [
     b'\n', b' ', b' ', b' ', b' ', b' ', b' ', b' ', b' ', b' ', b' ', b' ', b' ', b' ', b' ', b' ',
     b' ', b' ', b' ', b' ', b' ', b' ', b' ', b' ', b' ', b' ', b' ', b' ', b' ', b' ', b' ', b' ',
     b' ', b' ', b' ', b' ', b' ', b' ', b' ', b' ', b' ', b' ', b' ', b' ', b' ', b' ', b' ', b' ',
@@ -129,7 +129,7 @@ pub(super) fn send_line<W: Write>(
     ensures { Sends (Just (10 ∷ replicate spaces 32)) (W.contents writer.old) (W.contents writer.new) result }
 {
     let first = spaces.min(63);
-    send(writer, &LINE[..=first as usize], slot)?;
+    send(writer, &NEWLINE_AND_SPACES[..=first as usize], slot)?;
     if first < spaces {
         return send_spaces(writer, spaces - first, slot);
     }
@@ -145,7 +145,7 @@ fn send_spaces<W: Write>(writer: &mut W, spaces: u128, slot: &mut ErrorSlot) -> 
     let mut left = spaces;
     while left > 0 {
         let count = left.min(512);
-        send(writer, &BLANKS[..count as usize], slot)?;
+        send(writer, &SPACES[..count as usize], slot)?;
         left -= count;
     }
     Ok(())
