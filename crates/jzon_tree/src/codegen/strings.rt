@@ -1,6 +1,6 @@
 //! Strings and their escapes (docs/RULES.md, "Printed values").
 
-ghost use Rattle.std.specs.Prelude.{◌≡◌, ◌≤◌, ◌++◌, ◌∷◌, [], false, length, take, drop, OnOk, OnErr};
+ghost use Rattle.std.specs.Prelude.{◌≡◌, ◌≤◌, ◌++◌, ◌∷◌, [], false, length, take, drop, OnOk, OnErr, Some};
 ghost use Rattle.std.specs.List.{prefix_len};
 ghost use Rattle.jzon_base.specs.Private.PlainBytes.{is_plain};
 ghost use Rattle.jzon_tree.specs.Generator.{Sends, Just};
@@ -66,6 +66,19 @@ pub(super) fn push_quoted(bytes: &mut Vec<u8>, string: &[u8]) -> Result<(), Allo
     bytes.extend_from_slice(string)?;
     bytes.push_reserved(b'"');
     Ok(())
+}
+
+/// Adds a string in quotes, escaped. Apart, so that `send_quoted` of memory saves no registers for it.
+#[cold]
+#[inline(never)]
+pub(super) fn send_escaped(
+    bytes: &mut Vec<u8>,
+    string: &[u8],
+    slot: &mut ErrorSlot,
+) -> SlotResult<()>
+    ensures { Sends (Just (quoted string.now)) (Some bytes.old.items) (Some bytes.new.items) result }
+{
+    send_string(bytes, b"\"", string, slot)
 }
 
 /// Writes the escape of a byte that needs one.

@@ -15,7 +15,7 @@ use crate::codegen::error_slot::{ErrorSlot, SlotResult, out_of_memory, send, tak
 use crate::codegen::generator::Generator;
 use crate::codegen::layout::{Compact, Layout, Pretty, send_line};
 use crate::codegen::numbers::send_number;
-use crate::codegen::strings::{push_quoted, send_string, send_string_from};
+use crate::codegen::strings::{push_quoted, send_escaped, send_string, send_string_from};
 use crate::object::Object;
 use jzon_base::error::{Error, Result};
 use jzon_base::number::Number;
@@ -79,7 +79,7 @@ impl Outlet for Memory {
     /// Room for a string that needs no escape is requested once.
     fn send_quoted(&mut self, string: &[u8], slot: &mut ErrorSlot) -> SlotResult<()> {
         if plain_len(string) < string.len() {
-            return send_string(&mut self.bytes, b"\"", string, slot);
+            return send_escaped(&mut self.bytes, string, slot);
         }
         match push_quoted(&mut self.bytes, string) {
             Ok(()) => Ok(()),
