@@ -12,6 +12,8 @@ mod fixed_point;
 #[cfg(test)]
 mod from_integer;
 #[cfg(test)]
+mod from_parts;
+#[cfg(test)]
 mod hash;
 #[cfg(test)]
 mod key;
