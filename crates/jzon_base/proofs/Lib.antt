@@ -1,5 +1,3 @@
-pub mod ByteTables
-pub mod Escapes
 pub mod Kept
 pub mod Laid
 pub mod Lists
