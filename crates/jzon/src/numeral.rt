@@ -9,13 +9,13 @@ ghost use Rattle.jzon_base.specs.Decimal.{signed};
 ghost use Rattle.jzon_base.specs.Digits.{IsDigit, add_digit, digits_number, read_number};
 ghost use Rattle.jzon_base.specs.DigitLimits.{AreFewEnough, IsFirstTooMany};
 ghost use Rattle.jzon_base.specs.declared.digits.DigitFault.{DigitFault};
-ghost use Rattle.jzon_base.specs.declared.error.Error.TheVariants.{ExceededDepthLimit};
 ghost use Rattle.jzon_tree.specs.Value.{number};
 ghost use Rattle.jzon.specs.Reading.{Reading};
 ghost use Rattle.jzon.specs.Grammar.{is_exponent_letter};
 ghost use Rattle.jzon.specs.Private.Classes.{lettered};
 ghost use Rattle.jzon_base.specs.Tokens.{zero_digit};
-ghost use Rattle.jzon.specs.Private.Machine.{Frames, numeral, numeral_after_first, after_value, from, fault_here, Reports, Leads};
+ghost use Rattle.jzon.specs.Private.Machine.{Frames, numeral, numeral_after_first, after_value, from, fault_here, Leads};
+ghost use Rattle.jzon.specs.Private.Numerals.{LeadsTo, MissesDigit, HasTooMany};
 
 use crate::fault::fault_at;
 use crate::peek::has_byte;
@@ -78,22 +78,13 @@ fn spelling_at(source: &str, start: usize) -> Spelling<'_>
     ensures end { (start < result.end) × (result.end ≤ length source.now)
         × IsCharBoundary source.now result.end }
     ensures number { AreFewEnough result.whole.now result.fraction.now → result.is_missing ≡ false
-        → (r : Reading) (fs : Frames) (negative : Bool)
-        → from r source.now
-        (numeral_after_first fs negative (slice_index source.now start)) (start + 1)
-        ≡ from r source.now (after_value fs (number (read_number (not negative) result.whole.now
-        result.fraction.now
-        (signed result.positive_exponent (digits_number result.exponent.now))))) result.end }
+        → LeadsTo source.now start result.end (λ fs negative. after_value fs (number (read_number
+        (not negative) result.whole.now result.fraction.now
+        (signed result.positive_exponent (digits_number result.exponent.now))))) }
     ensures missing { AreFewEnough result.whole.now result.fraction.now → result.is_missing ≡ true
-        → (r : Reading) (fs : Frames) (negative : Bool)
-        → from r source.now
-        (numeral_after_first fs negative (slice_index source.now start)) (start + 1)
-        ≡ fault_here (chars (drop result.end source.now)) }
+        → MissesDigit source.now start result.end }
     ensures too_many { (f : DigitFault) → IsFirstTooMany result.whole.now result.fraction.now f
-        → (r : Reading) (fs : Frames) (negative : Bool)
-        → Reports (chars source.now) ExceededDepthLimit
-        (from r source.now
-        (numeral_after_first fs negative (slice_index source.now start)) (start + 1)) }
+        → HasTooMany source.now start }
 {
     let magnitude = magnitude_at(source, start);
     if magnitude.is_missing || !has_exponent_letter(source, magnitude.end) {
@@ -120,32 +111,19 @@ fn magnitude_at(source: &str, start: usize) -> Spelling<'_>
         × IsCharBoundary source.now result.end }
     ensures exponent { (result.positive_exponent ≡ true) × (result.exponent.now ≡ []) }
     ensures letter { AreFewEnough result.whole.now result.fraction.now → result.is_missing ≡ false
-        → (r : Reading) (fs : Frames) (negative : Bool)
-        → result.end < length source.now →
-        IsTrue (is_exponent_letter (slice_index source.now result.end))
-        → from r source.now
-        (numeral_after_first fs negative (slice_index source.now start)) (start + 1)
-        ≡ from r source.now (numeral fs negative (lettered result.whole.now result.fraction.now
-        (slice_index source.now result.end))) (result.end + 1) }
+        → result.end < length source.now
+        → IsTrue (is_exponent_letter (slice_index source.now result.end))
+        → LeadsTo source.now start (result.end + 1) (λ fs negative. numeral fs negative
+        (lettered result.whole.now result.fraction.now (slice_index source.now result.end))) }
     ensures number { AreFewEnough result.whole.now result.fraction.now → result.is_missing ≡ false
-        → (r : Reading) (fs : Frames) (negative : Bool)
         → (result.end < length source.now → is_exponent_letter (slice_index source.now result.end)
         ≡ false)
-        → from r source.now
-        (numeral_after_first fs negative (slice_index source.now start)) (start + 1)
-        ≡ from r source.now (after_value fs (number (read_number (not negative) result.whole.now
-        result.fraction.now
-        (pos 0)))) result.end }
+        → LeadsTo source.now start result.end (λ fs negative. after_value fs (number (read_number
+        (not negative) result.whole.now result.fraction.now (pos 0)))) }
     ensures missing { AreFewEnough result.whole.now result.fraction.now → result.is_missing ≡ true
-        → (r : Reading) (fs : Frames) (negative : Bool)
-        → from r source.now
-        (numeral_after_first fs negative (slice_index source.now start)) (start + 1)
-        ≡ fault_here (chars (drop result.end source.now)) }
+        → MissesDigit source.now start result.end }
     ensures too_many { (f : DigitFault) → IsFirstTooMany result.whole.now result.fraction.now f
-        → (r : Reading) (fs : Frames) (negative : Bool)
-        → Reports (chars source.now) ExceededDepthLimit
-        (from r source.now
-        (numeral_after_first fs negative (slice_index source.now start)) (start + 1)) }
+        → HasTooMany source.now start }
 {
     let (whole, before) = whole_at(source, start);
     let end = start + whole.len();

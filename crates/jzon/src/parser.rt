@@ -11,9 +11,9 @@ ghost use Rattle.jzon.specs.Answer.{IsMeaningOf, IsReadable, IsErrorUnlessMemory
 ghost use Rattle.jzon.specs.Private.Cursor.{left, next_byte, GoesOn, IsPast};
 ghost use Rattle.jzon.specs.Private.Frames.{open_in, stack_view, state_of, is_open, IsReady, IsWholeValue};
 ghost use Rattle.jzon.specs.Private.Machine.{Frames, no_frames, array_frame, object_frame, frames_depth, is_fresh, before};
-ghost use Rattle.jzon.specs.Private.Machine.{before_key, after_value, key_mark, from, Reads};
+ghost use Rattle.jzon.specs.Private.Machine.{before_key, after_value, key_mark, value_mark, from, Reads};
 ghost use Rattle.jzon.specs.Reading.{usual};
-ghost use Rattle.jzon_base.specs.Tokens.{end_array, end_object};
+ghost use Rattle.jzon_base.specs.Tokens.{begin_array, begin_object, end_array, end_object};
 
 use crate::cursor::{Bracket, Cursor, opens_container};
 use crate::fault::duplicate_at;
@@ -88,6 +88,27 @@ impl<'a> Parser<'a> {
         }
     }
 
+    /// Reads the primitive that comes next, whose first byte is `first`.
+    #[inline(always)]
+    fn read_primitive(&mut self, first: u8) -> Result<JsonValue>
+        requires first { first ≡ next_byte self.old.cursor }
+        requires no_array { first ≢ begin_array }
+        requires no_object { first ≢ begin_object }
+        ensures kept { OnOk result ((self.new.stack ≡ self.old.stack)
+            × (self.new.cursor.reading ≡ self.old.cursor.reading)) }
+        ensures memory { result ≡ Err Error.OutOfMemory →
+            TakesMemory (chars self.old.cursor.source.now) }
+        ensures outcome { (fs : Frames) → value_mark self.old.cursor.reading fs ≡ None
+            → (is_fresh fs ≡ true → next_byte self.old.cursor ≢ end_array) →
+            GoesOn self.old.cursor (before fs) result self.new.cursor (λ v. after_value fs (view v)) }
+    {
+        let source = self.cursor.source;
+        let start = self.cursor.index;
+        let (value, end) = read_primitive(self.alloc, source, start, first, &mut self.buffer)?;
+        self.cursor.go_to(end);
+        Ok(value)
+    }
+
     /// Reads the value that comes next, inside of `depth` open containers; a container that isn't empty only up to its first element or key.
     #[inline(always)]
     fn read_start(&mut self, depth: usize) -> Result<ValueStart>
@@ -116,19 +137,7 @@ impl<'a> Parser<'a> {
                 }
                 Ok(ValueStart::Object)
             }
-            _ => {
-                let source = self.cursor.source;
-                let start = self.cursor.index;
-                let (value, end) = read_primitive(
-                    self.alloc,
-                    source,
-                    start,
-                    first,
-                    &mut self.buffer,
-                )?;
-                self.cursor.go_to(end);
-                Ok(ValueStart::Value(value))
-            }
+            _ => Ok(ValueStart::Value(self.read_primitive(first)?)),
         }
     }
 
@@ -247,17 +256,7 @@ impl<'a> Parser<'a> {
                 }
             } else {
                 // Not by `read_start`: each call that returns a value moves it.
-                let source = self.cursor.source;
-                let start = self.cursor.index;
-                let (value, end) = read_primitive(
-                    self.alloc,
-                    source,
-                    start,
-                    first,
-                    &mut self.buffer,
-                )?;
-                self.cursor.go_to(end);
-                elements.push(value)?;
+                elements.push(self.read_primitive(first)?)?;
             }
             if self.array_ends(&mut elements)? {
                 return Ok(ValueStart::Value(JsonValue::Array(elements)));

@@ -22,8 +22,9 @@ use Rattle.jzon.specs.Reading.{Reading, usual}
 use Rattle.jzon.specs.Grammar.{AreDigits, IsDigits, is_exponent_letter}
 use Rattle.jzon.specs.Spelling.{digit}
 use Rattle.jzon.specs.Fault.{limit}
-use Rattle.jzon.specs.Private.Classes.{after_first_digit, pointed, lettered}
-use Rattle.jzon.specs.Private.Machine.{Frames, numeral, after_value, Outcome, refused, outcome, from, fault_here, Reports}
+use Rattle.jzon.specs.Private.Classes.{pointed, lettered}
+use Rattle.jzon.specs.Private.Machine.{Frames, numeral, after_value, Outcome, refused, outcome, from, Reports}
+use Rattle.jzon.specs.Private.Numerals.{after_first, LeadsTo, MissesDigit, HasTooMany}
 use Rattle.jzon.proofs.Numbers.DigitRuns.{refuse_fraction}
 use Rattle.jzon.proofs.Numbers.NumeralOutcomes.{NextFails, ReadsWhole, reads_zero, reads_digits, whole_to_point}
 use Rattle.jzon.proofs.Numbers.NumeralOutcomes.{whole_to_letter, whole_to_end, fraction_to_letter, fraction_to_end}
@@ -88,20 +89,12 @@ pub record ReadsMagnitude (bs : List ℕ) (i : ℕ) (ws ds : List ℕ) (e : ℕ)
   pub boundary : IsCharBoundary bs e
   pub all_whole : All IsDigit ws
   pub all_fraction : All IsDigit ds
-  pub to_letter : AreFewEnough ws ds → missing ≡ false → (r : Reading) (fs : Frames) (negative : Bool) → e < length bs
-      → IsTrue (is_exponent_letter (get_or bs e 0))
-      → from r bs (numeral fs negative (after_first_digit (get_or bs i 0 == 48) (get_or bs i 0))) (i + 1)
-      ≡ from r bs (numeral fs negative (lettered ws ds (get_or bs e 0))) (e + 1)
-  pub to_end : AreFewEnough ws ds → missing ≡ false → (r : Reading) (fs : Frames) (negative : Bool)
-      → (e < length bs → is_exponent_letter (get_or bs e 0) ≡ false)
-      → from r bs (numeral fs negative (after_first_digit (get_or bs i 0 == 48) (get_or bs i 0))) (i + 1)
-      ≡ from r bs (after_value fs (value.number (read_number (not negative) ws ds (pos 0)))) e
-  pub stops : AreFewEnough ws ds → missing ≡ true → (r : Reading) (fs : Frames) (negative : Bool)
-      → from r bs (numeral fs negative (after_first_digit (get_or bs i 0 == 48) (get_or bs i 0))) (i + 1)
-      ≡ fault_here (chars (drop e bs))
-  pub refuses : (f : DigitFault) → IsFirstTooMany ws ds f → (r : Reading) (fs : Frames) (negative : Bool)
-      → Reports (chars bs) ExceededDepthLimit (from r bs (numeral fs negative
-      (after_first_digit (get_or bs i 0 == 48) (get_or bs i 0))) (i + 1))
+  pub to_letter : AreFewEnough ws ds → missing ≡ false → e < length bs → IsTrue (is_exponent_letter (get_or bs e 0))
+      → LeadsTo bs i (e + 1) (λ fs negative. numeral fs negative (lettered ws ds (get_or bs e 0)))
+  pub to_end : AreFewEnough ws ds → missing ≡ false → (e < length bs → is_exponent_letter (get_or bs e 0) ≡ false)
+      → LeadsTo bs i e (λ fs negative. after_value fs (value.number (read_number (not negative) ws ds (pos 0))))
+  pub stops : AreFewEnough ws ds → missing ≡ true → MissesDigit bs i e
+  pub refuses : (f : DigitFault) → IsFirstTooMany ws ds f → HasTooMany bs i
 
 -- this error reports a fault at a digit
 reports_digit : (t rest : List ℕ) (o : Outcome) → o ≡ refused (limit digit) rest → Reports t ExceededDepthLimit o
@@ -114,9 +107,7 @@ keeps_no_fraction : (ws : List ℕ) → kept_fraction ws [] ≡ 0
 keeps_no_fraction ws = omega (arith, (kept_len_is_longest (ws ++ [])).within, length-append ws [])
 
 whole_too_many : (bs : List ℕ) (i : ℕ) (ws ds : List ℕ) → WholeStands bs i ws → 32768 ≤ dropped ws ds
-    → (r : Reading) (fs : Frames) (negative : Bool)
-    → Reports (chars bs) ExceededDepthLimit (from r bs (numeral fs negative (after_first_digit (get_or bs i 0 == 48) (get_or bs i 0)))
-    (i + 1))
+    → HasTooMany bs i
 unfolding from
 whole_too_many bs i ws ds w many r fs negative =
     let k = (w.reads r).refuses fs negative ds many in
@@ -132,12 +123,12 @@ reads_whole_alone bs i ws u w no_point =
       boundary = w.boundary;
       all_whole = w.all;
       all_fraction = All-nil IsDigit;
-      to_letter = λ few has r fs negative lt letter. whole_to_letter r (get_or bs i 0) (get_or bs e 0) ws
+      to_letter = λ few has lt letter r fs negative. whole_to_letter r (get_or bs i 0) (get_or bs e 0) ws
           (chars (drop (i + 1) bs)) (chars (drop (e + 1) bs)) fs negative
           (subst (ReadsWhole r (get_or bs i 0) ws (chars (drop (i + 1) bs)))
           (next_is bs e (get_or bs e 0) u w.boundary lt refl (letter_is_ascii (get_or bs e 0) letter)) (w.reads r))
           (omega (arith, few)) letter;
-      to_end = λ few has r fs negative no_letter. whole_to_end r (get_or bs i 0) ws (chars (drop (i + 1) bs))
+      to_end = λ few has no_letter r fs negative. whole_to_end r (get_or bs i 0) ws (chars (drop (i + 1) bs))
           (chars (drop e bs)) fs negative (w.reads r) (omega (arith, few))
           (next_fails (λ c. c == 46) bs e (λ c h. omega (arith, eqb-true c 46 h)) u w.boundary
           (λ lt. ne_eqb (get_or bs e 0) 46 (λ same. no_point (lt, same))))
@@ -146,18 +137,14 @@ reads_whole_alone bs i ws u w no_point =
       refuses = too_many;
     }
   where
-    too_many : (f : DigitFault) → IsFirstTooMany ws [] f → (r : Reading) (fs : Frames) (negative : Bool)
-        → Reports (chars bs) ExceededDepthLimit (from r bs (numeral fs negative
-        (after_first_digit (get_or bs i 0 == 48) (get_or bs i 0))) (i + 1))
+    too_many : (f : DigitFault) → IsFirstTooMany ws [] f → HasTooMany bs i
     too_many (Whole k) h r fs negative = whole_too_many bs i ws [] w h.0 r fs negative
     too_many (Fraction k) h r fs negative = absurd (omega (arith, h.0, keeps_no_fraction ws))
 
 -- With a point at offset p: what is left is the text after it.
 to_point : (bs : List ℕ) (i p : ℕ) (ws ds : List ℕ) → IsUtf8 bs → WholeStands bs i ws → p ≡ i + length ws
     → p < length bs → get_or bs p 0 ≡ 46
-    → dropped ws ds < 32768 → (r : Reading) (fs : Frames) (negative : Bool)
-    → from r bs (numeral fs negative (after_first_digit (get_or bs i 0 == 48) (get_or bs i 0))) (i + 1)
-    ≡ from r bs (numeral fs negative (pointed ws)) (p + 1)
+    → dropped ws ds < 32768 → LeadsTo bs i (p + 1) (λ fs negative. numeral fs negative (pointed ws))
 unfolding from
 to_point bs i p ws ds u w at lt is_point few r fs negative =
     let reads : ReadsWhole r (get_or bs i 0) ws (chars (drop (i + 1) bs)) (chars (drop p bs)) =
@@ -189,8 +176,7 @@ reads_whole_and_fraction bs i p ws ds u w at lt is_point same =
     let there : (length ds == 0) ≡ false → IsDigits ds =
     λ has. some_digits ds k.digits (not_none (length ds) has) in
     let begins : dropped ws ds < 32768 → (r : Reading) (fs : Frames) (negative : Bool)
-    → from r bs (numeral fs negative (after_first_digit (get_or bs i 0 == 48) (get_or bs i 0))) (i + 1)
-    ≡ outcome r (ds ++ chars (drop e bs)) (numeral fs negative (pointed ws)) =
+    → after_first r fs negative bs i ≡ outcome r (ds ++ chars (drop e bs)) (numeral fs negative (pointed ws)) =
     λ few r fs negative. to_point bs i p ws ds u w at lt is_point few r fs negative
     ∙ ap (λ cs. outcome r cs (numeral fs negative (pointed ws))) k.split in
     record {
@@ -198,12 +184,12 @@ reads_whole_and_fraction bs i p ws ds u w at lt is_point same =
       boundary = k.boundary;
       all_whole = w.all;
       all_fraction = k.all;
-      to_letter = λ few has r fs negative below letter. begins (omega (arith, few)) r fs negative
+      to_letter = λ few has below letter r fs negative. begins (omega (arith, few)) r fs negative
           ∙ ap (λ cs. outcome r (ds ++ cs) (numeral fs negative (pointed ws)))
           (next_is bs e (get_or bs e 0) u k.boundary below refl (letter_is_ascii (get_or bs e 0) letter))
           ∙ fraction_to_letter r (get_or bs e 0) ws ds (chars (drop (e + 1) bs)) fs negative (there has)
           (omega (arith, few)) letter;
-      to_end = λ few has r fs negative no_letter. begins (omega (arith, few)) r fs negative
+      to_end = λ few has no_letter r fs negative. begins (omega (arith, few)) r fs negative
           ∙ fraction_to_end r ws ds (chars (drop e bs)) fs negative (there has) (omega (arith, few)) k.next
           (next_fails is_exponent_letter bs e letter_is_ascii u k.boundary no_letter);
       stops = λ few lacks r fs negative. begins (omega (arith, few)) r fs negative
@@ -216,10 +202,7 @@ reads_whole_and_fraction bs i p ws ds u w at lt is_point same =
     not_none : (n : ℕ) → (n == 0) ≡ false → 0 < n
     not_none n h = grind (arith, nat_tests)
 
-    too_many : AreDigitsAt bs (p + 1) ds → (f : DigitFault) → IsFirstTooMany ws ds f
-        → (r : Reading) (fs : Frames) (negative : Bool)
-        → Reports (chars bs) ExceededDepthLimit (from r bs (numeral fs negative
-        (after_first_digit (get_or bs i 0 == 48) (get_or bs i 0))) (i + 1))
+    too_many : AreDigitsAt bs (p + 1) ds → (f : DigitFault) → IsFirstTooMany ws ds f → HasTooMany bs i
     too_many k (Whole n) h r fs negative = whole_too_many bs i ws ds w h.0 r fs negative
     too_many k (Fraction n) h r fs negative =
         subst (Reports (chars bs) ExceededDepthLimit) (sym (to_point bs i p ws ds u w at lt is_point (omega (arith, h.0))

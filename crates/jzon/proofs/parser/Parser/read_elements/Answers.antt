@@ -12,12 +12,12 @@ use Rattle.jzon.specs.Reading.{Reading}
 use Rattle.jzon.specs.declared.cursor.Cursor.{Cursor}
 use Rattle.jzon.specs.declared.frames.ValueStart.TheVariants.{Object as start_object}
 use Rattle.jzon.specs.declared.frames.Frame.{Frame}
-use Rattle.jzon.proofs.Texts.Cursors.{Reached, reached_start, reached, token_goes, goes_after, fails_on}
+use Rattle.jzon.proofs.Texts.Cursors.{Reached, reached_start, reached, goes_after, fails_on}
 use Rattle.jzon.proofs.Containers.FrameViews.{frames_depth-stack, fresh_is_empty, some_more, stack_view-push}
 use Rattle.jzon.proofs.Containers.FrameViews.{value_mark-shallow}
 use Rattle.jzon.proofs.parser.Parser.read_elements.Goals.{After-len-depth, After-array_ends, In_ok-elements-in-Array}
 use Rattle.jzon.proofs.parser.Parser.read_elements.Goals.{then-opens_container+in_ok-value_start+in-Value+in_ok-push-in-Value}
-use Rattle.jzon.proofs.parser.Parser.read_elements.Goals.{else-opens_container+in_ok-value+in_ok-push}
+use Rattle.jzon.proofs.parser.Parser.read_elements.Goals.{else-opens_container+in_ok-read_primitive+in_ok-push}
 use Rattle.jzon.proofs.parser.Parser.read_elements.Goals as goal
 
 pub loop-self-init : goal.loop-self-init
@@ -130,17 +130,18 @@ no_mark : (r : Reading) (stack : List Frame) (vs : List Value) → length stack 
 no_mark r stack vs room =
     value_mark-shallow r (array_frame (stack_view stack) vs) (omega (arith, frames_depth-stack stack, room))
 
-pub returns-in_err-value-clause-outcome : goal.returns-in_err-value-clause-outcome
-returns-in_err-value-clause-outcome c =
+pub returns-in_err-read_primitive-clause-outcome : goal.returns-in_err-read_primitive-clause-outcome
+returns-in_err-read_primitive-clause-outcome c =
     let m = c.loop-self.self.cursor in
     let fs = stack_view c.loop-self.self.stack.items in
     let vs = map view c.loop-self.elements.items in
     let shallow = no_mark m.reading c.loop-self.self.stack.items vs
     (omega (arith, c.loop-self.self.stack.ok.0, c.loop-self.invariant.room)) in
-    let failed = err_from_is_err_and c.from_residual-in_err-value.result c.from_residual-in_err-value.ensures.1 in
-    fails_on c.args.self.now.cursor m _ _ (before (array_frame fs vs)) c.from_residual-in_err-value.result _ failed.0
-    failed.1 c.loop-self.invariant.came
-    (rw failed.2 (c.in_err-value.ensures.outcome m.reading (array_frame fs vs) shallow m.past_whitespace
+    let failed = err_from_is_err_and c.from_residual-in_err-read_primitive.result
+    c.from_residual-in_err-read_primitive.ensures.1 in
+    fails_on c.args.self.now.cursor m _ _ (before (array_frame fs vs)) c.from_residual-in_err-read_primitive.result _
+    failed.0 failed.1 c.loop-self.invariant.came
+    (rw failed.2 (c.in_err-read_primitive.ensures.outcome (array_frame fs vs) shallow
     (λ f. c.loop-self.invariant.element (fresh_is_empty fs vs f))))
 
 -- ---- after an element
@@ -182,16 +183,13 @@ more c =
                   w.in-Value.is,
             );
           })
-      | else-opens_container+in_ok-value+in_ok-push w ↦
+      | else-opens_container+in_ok-read_primitive+in_ok-push w ↦
           rw (w.self-is, w.elements-is) (record {
-            value = view w.in_ok-value.value;
+            value = view w.in_ok-read_primitive.field-0;
             grown = ap (map view) w.in_ok-push.ensures.items
-                ∙ map-append view c.loop-self.elements.items (w.in_ok-value.value ∷ []);
-            read = token_goes m w.go_to.new.self (before (array_frame fs vs))
-                (after_value (array_frame fs vs) (view w.in_ok-value.value)) w.in_ok-value.end w.go_to.ensures
-                w.in_ok-value.ensures.end.0 refl
-                (w.in_ok-value.ensures.outcome m.reading (array_frame fs vs) shallow m.past_whitespace
-                (λ f. c.loop-self.invariant.element (fresh_is_empty fs vs f)));
+                ∙ map-append view c.loop-self.elements.items (w.in_ok-read_primitive.field-0 ∷ []);
+            read = w.in_ok-read_primitive.ensures.outcome (array_frame fs vs) shallow
+                (λ f. c.loop-self.invariant.element (fresh_is_empty fs vs f));
           })
     ]
 
@@ -200,7 +198,8 @@ stack_kept c =
     elim c.if-opens_container.branch [
       | then-opens_container+in_ok-value_start+in-Value+in_ok-push-in-Value w ↦ ap (λ s. s.stack) w.self-is
           ∙ w.in_ok-value_start.ensures.stack
-      | else-opens_container+in_ok-value+in_ok-push w ↦ ap (λ s. s.stack) w.self-is
+      | else-opens_container+in_ok-read_primitive+in_ok-push w ↦ ap (λ s. s.stack) w.self-is
+          ∙ w.in_ok-read_primitive.ensures.kept.0
     ]
 
 came : (c : After-array_ends) →
