@@ -1,3 +1,4 @@
+pub mod ByteTables
 pub mod Kept
 pub mod Laid
 pub mod Lists

@@ -6,6 +6,30 @@ ghost use Rattle.std.specs.Char.{is_ascii_hexdigit, digit_char, digit_value};
 ghost use Rattle.std.specs.Option.{SomeIff};
 ghost use Rattle.jzon_base.specs.Escapes.{is_simple, unescaped, letter_of};
 
+/// The entry of a byte that is no digit.
+const NONE: u8 = 255;
+
+/// The value of each byte that is a hexadecimal digit, and `NONE` for all others.
+#[rattlefmt::skip]
+static VALUES: [u8; 256] = [
+    NONE, NONE, NONE, NONE, NONE, NONE, NONE, NONE, NONE, NONE, NONE, NONE, NONE, NONE, NONE, NONE,
+    NONE, NONE, NONE, NONE, NONE, NONE, NONE, NONE, NONE, NONE, NONE, NONE, NONE, NONE, NONE, NONE,
+    NONE, NONE, NONE, NONE, NONE, NONE, NONE, NONE, NONE, NONE, NONE, NONE, NONE, NONE, NONE, NONE,
+    0, 1, 2, 3, 4, 5, 6, 7, 8, 9, NONE, NONE, NONE, NONE, NONE, NONE,
+    NONE, 10, 11, 12, 13, 14, 15, NONE, NONE, NONE, NONE, NONE, NONE, NONE, NONE, NONE,
+    NONE, NONE, NONE, NONE, NONE, NONE, NONE, NONE, NONE, NONE, NONE, NONE, NONE, NONE, NONE, NONE,
+    NONE, 10, 11, 12, 13, 14, 15, NONE, NONE, NONE, NONE, NONE, NONE, NONE, NONE, NONE,
+    NONE, NONE, NONE, NONE, NONE, NONE, NONE, NONE, NONE, NONE, NONE, NONE, NONE, NONE, NONE, NONE,
+    NONE, NONE, NONE, NONE, NONE, NONE, NONE, NONE, NONE, NONE, NONE, NONE, NONE, NONE, NONE, NONE,
+    NONE, NONE, NONE, NONE, NONE, NONE, NONE, NONE, NONE, NONE, NONE, NONE, NONE, NONE, NONE, NONE,
+    NONE, NONE, NONE, NONE, NONE, NONE, NONE, NONE, NONE, NONE, NONE, NONE, NONE, NONE, NONE, NONE,
+    NONE, NONE, NONE, NONE, NONE, NONE, NONE, NONE, NONE, NONE, NONE, NONE, NONE, NONE, NONE, NONE,
+    NONE, NONE, NONE, NONE, NONE, NONE, NONE, NONE, NONE, NONE, NONE, NONE, NONE, NONE, NONE, NONE,
+    NONE, NONE, NONE, NONE, NONE, NONE, NONE, NONE, NONE, NONE, NONE, NONE, NONE, NONE, NONE, NONE,
+    NONE, NONE, NONE, NONE, NONE, NONE, NONE, NONE, NONE, NONE, NONE, NONE, NONE, NONE, NONE, NONE,
+    NONE, NONE, NONE, NONE, NONE, NONE, NONE, NONE, NONE, NONE, NONE, NONE, NONE, NONE, NONE, NONE,
+];
+
 /// The character that a backslash means before this letter.
 #[inline(always)]
 pub fn meant_by(letter: u8) -> Option<char>
@@ -44,7 +68,12 @@ pub fn letter_of(byte: u8) -> Option<u8>
 pub fn hex_value(byte: u8) -> Option<u32>
     ensures { SomeIff result (IsTrue (is_ascii_hexdigit byte)) (digit_value byte) }
 {
-    char::from(byte).to_digit(16)
+    let value = VALUES[byte as usize];
+    if value == NONE {
+        None
+    } else {
+        Some(u32::from(value))
+    }
 }
 
 /// The lower-case hexadecimal digit of this value.
