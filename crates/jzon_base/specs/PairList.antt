@@ -1,6 +1,6 @@
 -- A list of entries, each a key and a value, in the order in which they were put (docs/RULES.md, "Objects"). A key is
 -- its bytes.
-use Rattle.std.specs.Prelude.{ℕ, zero, suc, cond, List, [], ◌∷◌, Option, None, Some}
+use Rattle.std.specs.Prelude.{ℕ, zero, suc, if◌then◌else◌, List, [], ◌∷◌, Option, None, Some}
 use Rattle.std.specs.List.{fold}
 use Rattle.std.specs.Str.{bytes_eq}
 pub use Rattle.std.specs.Map.{keys_of, values_of}
@@ -8,12 +8,12 @@ pub use Rattle.std.specs.Map.{keys_of, values_of}
 -- the value at k, or none
 abbrev pub find : {V : Type 0} → List ℕ → List (List ℕ × V) → Option V
 find k [] = None
-find k (p ∷ ps) = cond (bytes_eq p.0 k) (Some p.1) (find k ps)
+find k (p ∷ ps) = if bytes_eq p.0 k then Some p.1 else find k ps
 
 -- the entry (k, v): at the position of k if it is present, else last
 abbrev pub put : {V : Type 0} → List ℕ → V → List (List ℕ × V) → List (List ℕ × V)
 put k v [] = (k, v) ∷ []
-put k v (p ∷ ps) = cond (bytes_eq p.0 k) ((p.0, v) ∷ ps) (p ∷ put k v ps)
+put k v (p ∷ ps) = if bytes_eq p.0 k then (p.0, v) ∷ ps else p ∷ put k v ps
 
 -- The entries put one after the other into an empty list: a repeated key keeps its first position and takes the last
 -- value.
@@ -23,7 +23,7 @@ put_each ps = fold (λ qs p. put p.0 p.1 qs) [] ps
 -- without the entry of k; the others keep their order
 abbrev pub cut : {V : Type 0} → List ℕ → List (List ℕ × V) → List (List ℕ × V)
 cut k [] = []
-cut k (p ∷ ps) = cond (bytes_eq p.0 k) ps (p ∷ cut k ps)
+cut k (p ∷ ps) = if bytes_eq p.0 k then ps else p ∷ cut k ps
 
 -- v as the value at position i
 abbrev pub set_value : {V : Type 0} → List (List ℕ × V) → ℕ → V → List (List ℕ × V)
@@ -34,4 +34,4 @@ set_value (p ∷ ps) (suc i) v = p ∷ set_value ps i v
 -- the entry (k, v) last, if k is missing
 abbrev pub with_default : {V : Type 0} → List ℕ → V → List (List ℕ × V) → List (List ℕ × V)
 with_default k v [] = (k, v) ∷ []
-with_default k v (p ∷ ps) = cond (bytes_eq p.0 k) (p ∷ ps) (p ∷ with_default k v ps)
+with_default k v (p ∷ ps) = if bytes_eq p.0 k then p ∷ ps else p ∷ with_default k v ps

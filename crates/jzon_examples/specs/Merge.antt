@@ -1,6 +1,6 @@
 -- What a merge patch makes of a value (RFC 7386, section 2). A member that is there keeps its position, and a new one
 -- is last.
-use Rattle.std.specs.Prelude.{ℕ, List, cond}
+use Rattle.std.specs.Prelude.{ℕ, List, if◌then◌else◌}
 use Rattle.jzon.specs.PairList.{find, put, cut}
 use Rattle.jzon.specs.Readers.{entries, or_null, is_null}
 use Rattle.jzon.specs.Value.{Value, null, boolean, text, number, array, object, Pairs, no_pairs, pair, pairs_of}
@@ -17,8 +17,8 @@ abbrev mutual
   pub patched_pairs : List (List ℕ × Value) → Pairs → List (List ℕ × Value)
   patched_pairs ts no_pairs = ts
   patched_pairs ts (pair k v ps) =
-      patched_pairs (cond (is_null v) (cut k ts) (put k (patched (or_null (find k ts)) v) ts)) ps
+      patched_pairs (if is_null v then cut k ts else put k (patched (or_null (find k ts)) v) ts) ps
 
 -- the members after one member of a patch
 abbrev pub patched_pair : List (List ℕ × Value) → List ℕ → Value → List (List ℕ × Value)
-patched_pair ts k v = cond (is_null v) (cut k ts) (put k (patched (or_null (find k ts)) v) ts)
+patched_pair ts k v = if is_null v then cut k ts else put k (patched (or_null (find k ts)) v) ts
