@@ -79,8 +79,8 @@ impl Object {
         }
     }
 
-    /// An object without pairs, with room for `capacity` of them: for keys, values and index. Up to 1,024 pairs of short keys then need no more memory. Refused by
-    /// `OutOfMemory` alone.
+    /// An object without pairs, with room for `capacity` of them: for keys, values and index. Up to 1,024 pairs of short keys then need no more memory. Fails
+    /// with `OutOfMemory` only.
     pub fn with_capacity(alloc: Global, capacity: usize) -> Result<Object>
         ensures empty { IfOk result (λ object. entries_of object ≡ []) }
         ensures memory { IsOkUnless result Error.OutOfMemory }
@@ -90,7 +90,7 @@ impl Object {
         })
     }
 
-    /// The object in which the pairs are put one after the other: a later pair of a key changes that key's value in its place. Refused by `OutOfMemory` alone.
+    /// The object in which the pairs are put one after the other: a later pair of a key changes that key's value in its place. Fails with `OutOfMemory` only.
     pub fn from_pairs<K: AsStr + Drop, V: IntoJson, I: Iterator<Item = (K, V)> + Drop>(
         alloc: Global,
         pairs: I,
@@ -110,7 +110,7 @@ impl Object {
         Object::from_builder(alloc, builder)
     }
 
-    /// The object of the builder's pairs. Refused by `OutOfMemory` alone.
+    /// The object of the builder's pairs. Fails with `OutOfMemory` only.
     pub fn from_builder(alloc: Global, builder: Builder) -> Result<Object>
         ensures pairs { IfOk result (λ object. entries_of object ≡ builder) }
         ensures memory { IsOkUnless result Error.OutOfMemory }
@@ -151,7 +151,7 @@ impl Object {
         self.pairs.get_mut(key)
     }
 
-    /// The value of the key, to be written. A missing key is first put last, with null. Nothing else changes. Refused by `OutOfMemory` alone, and then nothing has
+    /// The value of the key, to be written. A missing key is first put last, with null. Nothing else changes. Fails with `OutOfMemory` only, and then nothing has
     /// changed; a key that is there takes no memory.
     pub fn at_mut(&mut self, alloc: Global, key: &str) -> Result<&mut JsonValue>
         ensures* writes_back { sem 𝓛 (LendsIfOk the_row value_row self.entry result
@@ -164,7 +164,7 @@ impl Object {
         Ok(self.pairs.at_mut(alloc, key, JsonValue::Null)?)
     }
 
-    /// Puts the value under the key: in the place of the key where it is there, which takes no memory, else last. Refused by `OutOfMemory` alone, and then nothing
+    /// Puts the value under the key: at the position of the key if it is there, which takes no memory, else last. Fails with `OutOfMemory` only, and then nothing
     /// has changed.
     ///
     /// `n` calls with new keys take a time of about n log n; `from_pairs` is faster still.

@@ -12,7 +12,7 @@ const BLOCK: usize = 32;
 /// The bytes of half a block. Most strings end within as many.
 const HALF: usize = 16;
 
-/// The length of the longest prefix of bytes that stand in a string of a text as they are: from 32 on, and neither a quote nor a backslash.
+/// The length of the longest prefix of bytes that a string of a text has unescaped: from 32 on, and neither a quote nor a backslash.
 pub fn plain_len(bytes: &[u8]) -> usize
     ensures { result ≡ prefix_len is_plain bytes.now }
 {

@@ -150,7 +150,7 @@ fn push_magnitude(text: &mut NumberText, digits: &str, exponent: i16)
     }
 }
 
-/// The digits divided by `10 ^ places`: for up to 17 places without an exponent, else with one.
+/// The digits divided by `10 ^ places`: without an exponent if `places` is at most 17, else with one.
 fn push_negative_power(text: &mut NumberText, digits: &str, places: usize)
     requires ascii { IsAscii digits.now }
     requires some { 0 < length digits.now }
