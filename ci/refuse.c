@@ -1,14 +1,14 @@
 /*
- * Makes one chosen allocation of the program that it is loaded into fail, so that a test can see what the program makes of it.
+ * Makes one chosen allocation of a program fail, so that a test can check what the program does then.
  *
  * It is loaded before the C library (LD_PRELOAD) and replaces its malloc and realloc. Each call of one of them is an allocation, the growth of a block
- * too. A test speaks to it by allocations of marked sizes, for which no machine has memory: without this library they fail, which shows the test that it
- * isn't there. A marked allocation that succeeds gets a block of one byte, which the test frees and never touches.
+ * too. A test controls it by allocations of marked sizes, which no system can serve: without this library they fail, so the test knows that it isn't
+ * loaded. A marked allocation that succeeds gets a block of one byte, which the test frees and never touches.
  *
  *     MARK + n, for an n of 1 to LIMIT   succeeds. The nth allocation after it fails.
  *     MARK                               ends that. It fails if an allocation failed since, and succeeds if none did.
  *
- * A program without allocations of marked sizes gets all its memory from the C library as ever. One thread allocates at a time.
+ * Without allocations of marked sizes all memory comes from the C library. Only one thread may allocate at a time.
  */
 #include <stddef.h>
 
@@ -19,7 +19,7 @@ extern void *__libc_realloc(void *block, size_t size);
 static const size_t MARK = (size_t)1 << 62;
 static const size_t LIMIT = (size_t)1 << 32;
 
-/* How many allocations there are up to the one that fails, and it; 0: none is to fail. */
+/* The number of allocations up to and with the one that fails; 0: none fails. */
 static size_t allocations_left = 0;
 static int has_failed = 0;
 

@@ -1,4 +1,4 @@
-//! A key of an object: text that is stored inline if it is short (docs/RULES.md, "Short and long texts").
+//! A key of an object: text that is stored inline if it is short (docs/RULES.md, "Short and long strings").
 ghost use Rattle.std.specs.Prelude.{◌≡◌, ◌<◌, ◌≤◌, length, string_bytes, IfOk, IsOkUnless, OnErr};
 ghost use Rattle.std.specs.Str.{bytes_eq};
 ghost use Rattle.std.specs.Cmp.{partial_equiv_from_equiv};

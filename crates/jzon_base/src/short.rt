@@ -1,4 +1,4 @@
-//! Short strings, stored inline (docs/RULES.md, "Short and long texts").
+//! Short strings, stored inline (docs/RULES.md, "Short and long strings").
 
 ghost use Rattle.std.specs.Prelude.{◌≡◌, ◌≤◌, length, IfOk, IsOkUnless, IsUtf8, string_bytes};
 ghost use Rattle.std.specs.Str.{bytes_eq};
