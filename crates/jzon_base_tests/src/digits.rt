@@ -15,7 +15,7 @@ fn are_digits(text: &[u8]) -> bool
     text.iter().all(|byte| byte.is_ascii_digit())
 }
 
-/// `before`, then so many times the digit, then `after`.
+/// `before`, then the digit `count` times, then `after`.
 fn run_of(
     alloc: Global,
     before: &str,

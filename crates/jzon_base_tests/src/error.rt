@@ -1,10 +1,10 @@
-//! What errors say.
+//! The messages of errors.
 
 use jzon_base::error::Error;
 use std::test::Fail;
 
 #[test]
-fn words(rt: HostRuntime) -> std::result::Result<(), Fail> {
+fn messages(rt: HostRuntime) -> std::result::Result<(), Fail> {
     let rows = [
         (
             Error::UnexpectedCharacter {
@@ -35,8 +35,8 @@ fn words(rt: HostRuntime) -> std::result::Result<(), Fail> {
             "Wrong type, expected: Array",
         ),
     ];
-    for (error, words) in rows {
-        assert_eq!(rt; format!(in rt.alloc(); "{error}")?.as_str(), words);
+    for (error, message) in rows {
+        assert_eq!(rt; format!(in rt.alloc(); "{error}")?.as_str(), message);
     }
     Ok(())
 }

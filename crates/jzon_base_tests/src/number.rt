@@ -82,7 +82,7 @@ fn negates(rt: HostRuntime) {
 }
 
 #[test]
-fn tells_zero_and_nan(rt: HostRuntime) -> Result<(), Fail> {
+fn recognizes_zero_and_nan(rt: HostRuntime) -> Result<(), Fail> {
     // the number, whether its sign is positive, whether it is 0, whether it is NaN
     let rows = [
         (NAN, false, false, true),
@@ -107,8 +107,8 @@ fn tells_zero_and_nan(rt: HostRuntime) -> Result<(), Fail> {
         ),
     ];
     for (number, positive, zero, nan) in rows {
-        let told = (number.is_sign_positive(), number.is_zero(), number.is_nan());
-        assert_eq!(rt; told, (positive, zero, nan), "{number}");
+        let tests = (number.is_sign_positive(), number.is_zero(), number.is_nan());
+        assert_eq!(rt; tests, (positive, zero, nan), "{number}");
         assert_eq!(rt; number.is_empty(), zero || nan, "{number}");
     }
     assert_eq!(rt; NAN.as_parts(), (false, 0, 0));

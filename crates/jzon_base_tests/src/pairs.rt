@@ -3,7 +3,7 @@
 use jzon_base::key::Key;
 use jzon_base::keys::Keys;
 use jzon_base::pairs::{Builder, IntoIter, Iter, IterMut, Pairs};
-use jzon_test_support::{MOST, Refusals, keys_by_hash};
+use jzon_test_support::{RUNS_MAX, Refusals, keys_by_hash};
 use std::alloc::{AllocError, Global};
 use std::process::Abort;
 use std::test::Fail;
@@ -569,7 +569,7 @@ fn expect_room(
 ) {
     refusals.begin();
     let inserted = insert_each(pairs, alloc, keys);
-    assert!(rt; !refusals.was_refused());
+    assert!(rt; !refusals.has_failed());
     assert!(rt; inserted.is_ok());
     assert_eq!(rt; pairs.len(), keys.len());
 }
@@ -584,16 +584,16 @@ fn room_for_pairs_under_refusals(rt: HostRuntime) -> Result<(), Fail> {
     expect_room(&rt, alloc, &mut refusals, &mut pairs, keys.as_slice());
     pairs.clear();
     expect_room(&rt, alloc, &mut refusals, &mut pairs, keys.as_slice());
-    for _ in 0..MOST {
+    for _ in 0..RUNS_MAX {
         refusals.begin();
         let inserted = pairs.insert(alloc, "one more", 0);
-        if !refusals.was_refused() {
+        if !refusals.has_failed() {
             assert!(rt; inserted.is_ok());
             break;
         }
         assert!(rt; inserted.is_err());
         assert_eq!(rt; pairs.len(), 100);
     }
-    refusals.tell(&rt, "Pairs::insert past the room", 2)?;
+    refusals.report(&rt, "Pairs::insert past the room", 2)?;
     Ok(())
 }

@@ -18,22 +18,22 @@ fn short_runs(rt: HostRuntime) {
     }
 }
 
-/// A run of `byte` up to `stop` at each place: as far as the stop, also where nothing stands behind it, and where it doesn't stand there itself.
+/// A run of `byte` up to `stop` at each offset ends there, also where nothing follows the stop, and where the stop is missing.
 fn expect_runs(rt: &impl Abort, byte: u8, stop: u8) {
-    for place in 0..70 {
+    for offset in 0..70 {
         let mut bytes = [byte; 70];
-        bytes[place] = stop;
-        assert_eq!(rt; plain_len(&bytes), place);
+        bytes[offset] = stop;
+        assert_eq!(rt; plain_len(&bytes), offset);
         assert_eq!(rt;
-            bytes.get(..place + 1).map(|run| plain_len(run)),
-            Some(place)
+            bytes.get(..offset + 1).map(|run| plain_len(run)),
+            Some(offset)
         );
-        assert_eq!(rt; bytes.get(..place).map(|run| plain_len(run)), Some(place));
+        assert_eq!(rt; bytes.get(..offset).map(|run| plain_len(run)), Some(offset));
     }
 }
 
 #[test]
-fn runs_to_each_place(rt: HostRuntime) {
+fn runs_to_each_offset(rt: HostRuntime) {
     expect_runs(&rt, b'a', b'\\');
     expect_runs(&rt, b' ', b'"');
     expect_runs(&rt, 255, 31);

@@ -1,4 +1,4 @@
-//! The index of keys, by hashes that are handed in.
+//! The index of keys, by hashes that the caller gives.
 
 ghost use Rattle.std.specs.Prelude.{◌≡◌, ◌<◌, ◌++◌, ◌∷◌, [], length, remove, None, OnOk};
 ghost use Rattle.std.specs.List.{position};

@@ -1,10 +1,10 @@
-//! Short texts.
+//! Short strings.
 
 use jzon_base::short::{MAX_LEN, Short};
 use std::test::Fail;
 
 #[test]
-fn keeps_texts(rt: HostRuntime) -> std::result::Result<(), Fail> {
+fn keeps_strings(rt: HostRuntime) -> std::result::Result<(), Fail> {
     let texts = [
         "",
         "a\"b",
@@ -25,7 +25,7 @@ fn keeps_texts(rt: HostRuntime) -> std::result::Result<(), Fail> {
 }
 
 #[test]
-fn tells_texts_apart(rt: HostRuntime) {
+fn tells_strings_apart(rt: HostRuntime) {
     let short = Short::from_slice("abc");
     for other in ["", "ab", "abd", "abcd", "Abc", "abc\0"] {
         assert!(rt; other.len() <= MAX_LEN);

@@ -1,13 +1,14 @@
-//! The loop that writes, beside writers with faults.
+//! The write loop, with writers that fail.
 
 use jzon_base::util::{print_dec, write_bytes};
-use jzon_test_support::{NEVER, SlowWriter, Trouble};
+use jzon_test_support::{NO_FAILING_CALL, SlowWriter, Trouble};
 use std::io::ErrorKind;
 use std::test::Fail;
 
-/// The text of the longest number, written with a fault at each call in turn: the bytes before it stand, no byte follows, and the fault is handed back.
+/// The text of the longest number, to a writer that fails at each call in turn: the bytes before it are written, no byte
+/// follows, and the error is returned.
 #[test]
-fn hands_back_each_fault(rt: HostRuntime) -> Result<(), Fail> {
+fn returns_each_error(rt: HostRuntime) -> Result<(), Fail> {
     let text = b"-1.8446744073709551615e-32749";
     let rows = [
         (Trouble::TakesNothing, ErrorKind::WriteZero),
@@ -34,7 +35,7 @@ fn hands_back_each_fault(rt: HostRuntime) -> Result<(), Fail> {
 #[test]
 fn writes_all_bytes(rt: HostRuntime) -> Result<(), Fail> {
     for text in ["", "a", "\0\u{1F984}", "a longer text\n"] {
-        let mut writer = SlowWriter::new(rt.alloc(), NEVER, Trouble::TakesNothing);
+        let mut writer = SlowWriter::new(rt.alloc(), NO_FAILING_CALL, Trouble::TakesNothing);
         write_bytes(&mut writer, text.as_bytes())?;
         assert_eq!(rt; writer.bytes.as_slice(), text.as_bytes());
         assert_eq!(rt; writer.calls, text.len());

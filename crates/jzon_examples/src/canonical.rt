@@ -92,7 +92,7 @@ fn keys_in_order<'a>(
 mod tests {
     use super::*;
     use jzon::codegen::{Generator, TextGenerator, write_json};
-    use jzon_test_support::{MOST, Refusals};
+    use jzon_test_support::{RUNS_MAX, Refusals};
     use std::test::Fail;
 
     /// The text of what the source means, and its dump.
@@ -129,11 +129,11 @@ mod tests {
         let alloc = rt.alloc();
         let value = jzon::parse(alloc, "{\"c\":null,\"b\":null,\"a\":null}")?;
         let mut refusals = Refusals::new(alloc);
-        for _ in 0..MOST {
+        for _ in 0..RUNS_MAX {
             let mut generator = TextGenerator::in_memory(alloc, Sorted { alloc });
             refusals.begin();
             let result = write_json(&mut generator, &value);
-            if !refusals.was_refused() {
+            if !refusals.has_failed() {
                 assert!(rt; result.is_ok());
                 assert_eq!(rt; generator.get_writer().as_slice(), SORTED.as_bytes());
                 break;
@@ -142,7 +142,7 @@ mod tests {
             assert_eq!(rt; generator.faults(), 1);
             assert!(rt; SORTED.as_bytes().starts_with(generator.get_writer()));
         }
-        refusals.tell(&rt, "Sorted", 3)?;
+        refusals.report(&rt, "Sorted", 3)?;
         Ok(())
     }
 }

@@ -6,8 +6,8 @@ use std::alloc::Global;
 /// An allocation of this size or more is a signal to ci/refuse.c, and fails without it.
 const MARK: usize = 1 << 62;
 
-/// More runs than a test needs.
-pub const MOST: usize = 200;
+/// The largest number of runs of one call. No test needs as many.
+pub const RUNS_MAX: usize = 200;
 
 /// Runs of one call. In the first run the first allocation fails, in the next run the second, and so on, until in a run
 /// no allocation fails.
@@ -37,25 +37,25 @@ impl Refusals {
     }
 
     /// To be called right after the call: whether an allocation failed in it.
-    pub fn was_refused(&mut self) -> bool {
-        let was_refused = self.is_able && !is_granted(self.alloc, MARK);
-        if was_refused {
+    pub fn has_failed(&mut self) -> bool {
+        let has_failed = self.is_able && !is_granted(self.alloc, MARK);
+        if has_failed {
             self.count = self.count.saturating_add(1);
         }
-        self.is_done = !was_refused;
-        was_refused
+        self.is_done = !has_failed;
+        has_failed
     }
 
     /// To be called after the last run, in which no allocation may have failed. Prints how many runs had a failed
     /// allocation, in a line that bin/test reads, and returns an error if ci/refuse.c is loaded and there were fewer
     /// than `least`.
-    pub fn tell(&self, rt: &impl Eprint, test: &str, least: usize) -> Result<(), &'static str> {
+    pub fn report(&self, rt: &impl Eprint, test: &str, least: usize) -> Result<(), &'static str> {
         let _ = eprintln!(rt; "{test}: {} refusals", self.count);
         if !self.is_done {
-            return Err("each run met a refusal");
+            return Err("an allocation failed in each run");
         }
         if self.is_able && self.count < least {
-            return Err("there were too few refusals");
+            return Err("too few allocations failed");
         }
         Ok(())
     }

@@ -4,8 +4,8 @@ use std::alloc::Global;
 use std::io;
 use std::io::{ErrorKind, Write};
 
-/// The call number of a writer that never fails.
-pub const NEVER: usize = 0;
+/// The number of the failing call, for a writer that never fails: calls are counted from 1.
+pub const NO_FAILING_CALL: usize = 0;
 
 /// What a writer does at the failing call.
 #[derive(Clone, Copy, Debug, PartialEq, Eq)]

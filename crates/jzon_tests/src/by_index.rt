@@ -1,6 +1,6 @@
 //! The members of an object by their positions.
 
-use crate::common::{Tested, is_pair, number};
+use crate::common::{Tested, is_entry, number};
 use jzon::object::Object;
 use std::alloc::Global;
 
@@ -15,7 +15,7 @@ fn two_members(alloc: Global) -> jzon::Result<Object> {
 fn reads_by_position(rt: HostRuntime) -> Tested {
     let object = two_members(rt.alloc())?;
     for (index, key, value) in [(0, "b", 1), (1, "a", 2)] {
-        assert!(rt; is_pair(object.get_index(index), key, value));
+        assert!(rt; is_entry(object.get_index(index), key, value));
     }
     assert!(rt; object.get_index(2).is_none());
     Ok(())

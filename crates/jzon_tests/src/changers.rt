@@ -7,7 +7,7 @@ use jzon::{Error, IntoJson, JsonValue, Result, parse};
 use std::alloc::Global;
 use std::process::Abort;
 
-/// A value of this text becomes one of that text, and one that is kept in place stays so.
+/// `clear` makes the value one that dumps `after`. A `Short` stays a `Short`.
 fn expect_cleared(rt: &impl Abort, alloc: Global, mut value: JsonValue, after: &str) -> Tested {
     let is_short = matches!(value, JsonValue::Short(_));
     value.clear();
@@ -40,7 +40,7 @@ fn takes(rt: HostRuntime) -> Tested {
     expect_dump(&rt, rt.alloc(), &taken, "[1,2,3]")
 }
 
-/// What is taken of the value as a text, and the text of what is left.
+/// `take_string` returns `taken`, and what is left dumps `left`.
 fn expect_text(
     rt: &impl Abort,
     alloc: Global,
@@ -54,7 +54,7 @@ fn expect_text(
 }
 
 #[test]
-fn takes_texts(rt: HostRuntime) -> Tested {
+fn takes_strings(rt: HostRuntime) -> Tested {
     let rows = [
         ("\"abc\"", Some("abc"), "null"),
         ("null", None, "null"),
@@ -93,7 +93,7 @@ fn pops(rt: HostRuntime) -> Tested {
 }
 
 #[test]
-fn removes_items(rt: HostRuntime) -> Tested {
+fn removes_elements(rt: HostRuntime) -> Tested {
     let rows = [
         ("[1,2,3]", 0, "1", "[2,3]"),
         ("[1,2,3]", 1, "2", "[1,3]"),
@@ -110,7 +110,7 @@ fn removes_items(rt: HostRuntime) -> Tested {
 }
 
 #[test]
-fn removes_pairs(rt: HostRuntime) -> Tested {
+fn removes_members(rt: HostRuntime) -> Tested {
     let rows = [
         ("{\"a\":1,\"b\":2,\"c\":3}", "2", "{\"a\":1,\"c\":3}"),
         ("{\"a\":1}", "null", "{\"a\":1}"),
@@ -126,7 +126,7 @@ fn removes_pairs(rt: HostRuntime) -> Tested {
 }
 
 #[test]
-fn inserts_pairs(rt: HostRuntime) -> Tested {
+fn inserts_members(rt: HostRuntime) -> Tested {
     let rows = [
         ("{}", "{\"b\":null}"),
         ("{\"a\":1,\"c\":3}", "{\"a\":1,\"c\":3,\"b\":null}"),
@@ -140,11 +140,11 @@ fn inserts_pairs(rt: HostRuntime) -> Tested {
     Ok(())
 }
 
-/// What can't be turned into a value, for want of memory.
+/// Can't become a value: its conversion runs out of memory.
 #[derive(Drop)]
-struct Refused;
+struct Unconvertible;
 
-impl IntoJson for Refused {
+impl IntoJson for Unconvertible {
     ghost means = { λ _ v. v ≡ v };
 
     ghost is_free = { λ _. ⊥ };
@@ -154,18 +154,18 @@ impl IntoJson for Refused {
     }
 }
 
-/// The call was refused in these words, and the value is as it was.
-fn expect_refused(rt: &impl Abort, alloc: Global, refused: Result<()>, words: &str) -> Tested {
-    match refused {
-        Ok(()) => assert!(rt; false, "it isn't refused"),
-        Err(error) => assert_eq!(rt; error.to_string(alloc)?.as_str(), words),
+/// The call failed with this message.
+fn expect_failed(rt: &impl Abort, alloc: Global, outcome: Result<()>, message: &str) -> Tested {
+    match outcome {
+        Ok(()) => assert!(rt; false, "no error"),
+        Err(error) => assert_eq!(rt; error.to_string(alloc)?.as_str(), message),
     }
     Ok(())
 }
 
-/// The kind of the value is looked at before the memory for what is put into it.
+/// The kind of the value is tested before the conversion of what is put into it. A failed call changes nothing.
 #[test]
-fn refuses_another_kind(rt: HostRuntime) -> Tested {
+fn fails_on_another_kind(rt: HostRuntime) -> Tested {
     let rows = [
         (
             "null",
@@ -182,10 +182,10 @@ fn refuses_another_kind(rt: HostRuntime) -> Tested {
     ];
     for (text, pushed, inserted) in rows {
         let mut value = parse(rt.alloc(), text)?;
-        let refused = value.push(rt.alloc(), Refused);
-        expect_refused(&rt, rt.alloc(), refused, pushed)?;
-        let refused = value.insert(rt.alloc(), "a", Refused);
-        expect_refused(&rt, rt.alloc(), refused, inserted)?;
+        let result = value.push(rt.alloc(), Unconvertible);
+        expect_failed(&rt, rt.alloc(), result, pushed)?;
+        let result = value.insert(rt.alloc(), "a", Unconvertible);
+        expect_failed(&rt, rt.alloc(), result, inserted)?;
         expect_dump(&rt, rt.alloc(), &value, text)?;
     }
     Ok(())

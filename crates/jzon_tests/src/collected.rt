@@ -4,7 +4,7 @@ use crate::common::Tested;
 use jzon::object::Object;
 
 #[test]
-fn collects_pairs(rt: HostRuntime) -> Tested {
+fn collects_entries(rt: HostRuntime) -> Tested {
     let alloc = rt.alloc();
     let object: Object = [("b", 1u8), ("a", 2), ("b", 3)].into_iter().collect(alloc)?;
     assert_eq!(rt; object.dump(alloc)?.as_str(), "{\"b\":3,\"a\":2}");

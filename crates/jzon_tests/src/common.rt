@@ -18,7 +18,7 @@ pub fn number(mantissa: u64) -> JsonValue {
     parts(true, mantissa, 0)
 }
 
-/// A text in memory of its own, however short.
+/// An allocated string, however short.
 pub fn long(alloc: Global, text: &str) -> jzon::Result<JsonValue> {
     Ok(JsonValue::String(String::from_str(alloc, text)?))
 }
@@ -29,9 +29,9 @@ pub fn expect_dump(rt: &impl Abort, alloc: Global, value: &JsonValue, text: &str
     Ok(())
 }
 
-/// Whether it is there, with this key and this number.
-pub fn is_pair(pair: Option<(&str, &JsonValue)>, key: &str, number: u64) -> bool {
-    match pair {
+/// Whether it is an entry of this key and this number.
+pub fn is_entry(entry: Option<(&str, &JsonValue)>, key: &str, number: u64) -> bool {
+    match entry {
         Some((name, value)) => name == key && value.eq_u64(number),
         None => false,
     }

@@ -2,7 +2,7 @@
 
 use jzon::number::NAN;
 use jzon::{JsonValue, parse};
-use jzon_test_support::NEVER;
+use jzon_test_support::NO_FAILING_CALL;
 use std::alloc::Global;
 use std::fmt;
 use std::fmt::Write;
@@ -59,7 +59,7 @@ fn shows_not_a_number(rt: HostRuntime) -> Result<(), Fail> {
     Ok(())
 }
 
-/// Takes a piece a call, and fails at one call.
+/// Takes one piece a call, and fails at one call.
 #[derive(Drop)]
 struct FailingFormatter {
     text: String,
@@ -91,9 +91,9 @@ fn show_failing(alloc: Global, value: &JsonValue, fails_at: usize) -> (bool, Fai
     (is_shown, formatter)
 }
 
-/// At each call that fails there is an error, what was shown is a prefix, and nothing is shown after it.
+/// The formatter fails at each call in turn: there is an error, a prefix was shown, and nothing is shown after it.
 fn expect_failures(rt: &impl Abort, alloc: Global, value: &JsonValue, whole: &str) {
-    let (is_shown, formatter) = show_failing(alloc, value, NEVER);
+    let (is_shown, formatter) = show_failing(alloc, value, NO_FAILING_CALL);
     assert!(rt; is_shown);
     assert_eq!(rt; formatter.text.as_str(), whole);
     for call in 1..=formatter.calls {

@@ -4,7 +4,7 @@ use crate::common::Tested;
 use jzon::{JsonError, JsonResult, JsonValue, Reading, parse_as};
 use std::alloc::Global;
 
-/// The answer of a strict parse.
+/// Parses strictly.
 fn strictly(alloc: Global, text: &str) -> JsonResult<JsonValue> {
     match Reading::new(true, 512) {
         Some(reading) => parse_as(alloc, text, &reading),

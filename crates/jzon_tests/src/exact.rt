@@ -5,7 +5,7 @@ use jzon::number::NAN;
 use jzon::{JsonValue, View, parse};
 use std::process::Abort;
 
-/// What is read of it at the point, as an u64 and as an i64, through the value and through its place.
+/// What is read at the point as a `u64` and as an `i64`, from the value and from its `View`.
 fn expect_exact(
     rt: &impl Abort,
     value: &JsonValue,
@@ -53,7 +53,7 @@ fn reads_at_the_limits(rt: HostRuntime) {
 }
 
 #[test]
-fn reads_no_missing_place(rt: HostRuntime) {
+fn reads_nothing_of_a_missing_value(rt: HostRuntime) {
     let missing: View<'_> = JsonValue::Null.at("a");
     assert_eq!(rt; missing.as_exact_fixed_point_u64(0), None);
     assert_eq!(rt; missing.as_exact_fixed_point_i64(0), None);

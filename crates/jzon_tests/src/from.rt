@@ -1,4 +1,4 @@
-//! Values by `From`, which takes no memory.
+//! Values by `From`, which allocates nothing.
 
 use crate::common::{Tested, expect_dump, number, parts};
 use jzon::JsonValue;
@@ -6,7 +6,7 @@ use jzon::number::{NAN, Number};
 use jzon::object::Object;
 
 #[test]
-fn turns_integers(rt: HostRuntime) {
+fn converts_integers(rt: HostRuntime) {
     let negative = parts(false, 7, 0);
     assert!(rt; JsonValue::from(7u8) == number(7));
     assert!(rt; JsonValue::from(7u16) == number(7));
@@ -21,7 +21,7 @@ fn turns_integers(rt: HostRuntime) {
 }
 
 #[test]
-fn turns_what_is_no_integer(rt: HostRuntime) -> Tested {
+fn converts_what_is_no_integer(rt: HostRuntime) -> Tested {
     let alloc = rt.alloc();
     let value: JsonValue = true.into();
     assert_eq!(rt; value.as_bool(), Some(true));

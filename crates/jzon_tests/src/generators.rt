@@ -1,4 +1,4 @@
-//! A generator of a user's own, whose whitespace is vertical tabs.
+//! A user's own generator, whose whitespace is vertical tabs.
 
 ghost use Rattle.std.specs.Prelude.{◌∷◌, [], false, Some, None, refl};
 ghost use Rattle.jzon.specs.StyleLaws.{IsStyle-only};
@@ -11,7 +11,7 @@ use std::alloc::Global;
 use std::io;
 use std::test::Fail;
 
-/// Writes a vertical tab before each item and each closing bracket, in a style that allows this whitespace alone.
+/// Writes a vertical tab before each element and each closing bracket, in a style that allows no other whitespace.
 #[derive(Drop)]
 struct TabGenerator {
     code: Vec<u8>,
@@ -70,7 +70,7 @@ impl Generator for TabGenerator {
     ghost style_law = { λ _. IsStyle-only (λ dent. 11 ∷ []) false (λ dent. refl) };
 }
 
-/// What the generator writes for the value of a text, and whether it is read as that value.
+/// What the generator writes of a text's value, and whether it is read back equal.
 fn goes_round(alloc: Global, source: &str) -> Result<(Vec<u8>, bool), Fail> {
     let value = parse(alloc, source)?;
     let mut generator = TabGenerator {

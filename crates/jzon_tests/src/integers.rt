@@ -38,7 +38,7 @@ fn reads_each_width_of_words(rt: HostRuntime) {
     assert_eq!(rt; value.as_isize(), Some(4294967296));
 }
 
-/// What is read of it as an u64 and as an i64.
+/// What is read of it as a `u64` and as an `i64`.
 fn expect_integers(rt: &impl Abort, value: &JsonValue, unsigned: Option<u64>, signed: Option<i64>) {
     assert_eq!(rt; value.as_u64(), unsigned);
     assert_eq!(rt; value.as_i64(), signed);
@@ -80,7 +80,7 @@ fn equals_integers(rt: HostRuntime) {
 }
 
 /// It is `[-7,2.5]`.
-fn look_at_places(rt: &impl Abort, array: &JsonValue) {
+fn look_at_views(rt: &impl Abort, array: &JsonValue) {
     let integer = array.at_index(0);
     assert_eq!(rt; integer.as_i8(), Some(-7));
     assert_eq!(rt; integer.as_u8(), None);
@@ -93,7 +93,7 @@ fn look_at_places(rt: &impl Abort, array: &JsonValue) {
 }
 
 #[test]
-fn reads_places(rt: HostRuntime) -> Tested {
-    look_at_places(&rt, &parse(rt.alloc(), "[-7,2.5]")?);
+fn reads_views(rt: HostRuntime) -> Tested {
+    look_at_views(&rt, &parse(rt.alloc(), "[-7,2.5]")?);
     Ok(())
 }

@@ -1,6 +1,6 @@
 //! Many keys, and keys that are hostile to an index over hashes.
 
-use crate::common::{Tested, is_pair};
+use crate::common::{Tested, is_entry};
 use jzon::object::Object;
 use jzon::{JsonValue, parse};
 use jzon_test_support::{keys_by_hash, keys_of_one_hash, object_text};
@@ -58,7 +58,7 @@ fn expect_odd(rt: &impl Abort, alloc: Global, object: &Object) -> Tested {
     let mut entries = object.iter();
     for number in (1..1000).step_by(2) {
         assert!(rt;
-            is_pair(entries.next(), key(alloc, number)?.as_str(), number),
+            is_entry(entries.next(), key(alloc, number)?.as_str(), number),
             "{number}"
         );
     }

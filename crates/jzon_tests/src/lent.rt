@@ -1,4 +1,4 @@
-//! What a value lends to be written.
+//! Mutable references into a value.
 
 ghost use Rattle.std.specs.Prelude.{◌≡◌, slice_set, OnOk, OnErr};
 ghost use Rattle.jzon_base.specs.PairList.{put};
@@ -14,16 +14,16 @@ use jzon::{JsonValue, Result, parse};
 use std::alloc::Global;
 use std::process::Abort;
 
-/// The value under `a` is `lent`. It is written, and then the whole is `after`.
+/// The member `a` dumps `borrowed`. It is written, and then the whole dumps `after`.
 fn expect_key(
     rt: &impl Abort,
     alloc: Global,
     mut value: JsonValue,
-    lent: &str,
+    borrowed: &str,
     after: &str,
 ) -> Tested {
     let place = value.at_mut(alloc, "a")?;
-    expect_dump(rt, alloc, place, lent)?;
+    expect_dump(rt, alloc, place, borrowed)?;
     *place = number(7);
     expect_dump(rt, alloc, &value, after)
 }
@@ -38,8 +38,8 @@ fn makes_keys(rt: HostRuntime) -> Tested {
         ("5", "null", "{\"a\":7}"),
         ("[1,2]", "null", "{\"a\":7}"),
     ];
-    for (before, lent, after) in rows {
-        expect_key(&rt, rt.alloc(), parse(rt.alloc(), before)?, lent, after)?;
+    for (before, borrowed, after) in rows {
+        expect_key(&rt, rt.alloc(), parse(rt.alloc(), before)?, borrowed, after)?;
     }
     Ok(())
 }
@@ -51,20 +51,20 @@ fn makes_keys_of_keys(rt: HostRuntime) -> Tested {
     expect_dump(&rt, rt.alloc(), &value, "{\"foo\":{\"bar\":100}}")
 }
 
-/// The item at this index is `lent`, and the whole is then `made`.
+/// The element at this index dumps `borrowed`, and the whole then dumps `made`.
 fn expect_made(
     rt: &impl Abort,
     alloc: Global,
     mut value: JsonValue,
     index: usize,
-    lent: &str,
+    borrowed: &str,
     made: &str,
 ) -> Tested {
-    expect_dump(rt, alloc, value.at_index_mut(alloc, index)?, lent)?;
+    expect_dump(rt, alloc, value.at_index_mut(alloc, index)?, borrowed)?;
     expect_dump(rt, alloc, &value, made)
 }
 
-/// The item at this index is written, and the whole is then `after`.
+/// The element at this index is written, and the whole then dumps `after`.
 fn expect_written(
     rt: &impl Abort,
     alloc: Global,
@@ -77,7 +77,7 @@ fn expect_written(
 }
 
 #[test]
-fn makes_places(rt: HostRuntime) -> Tested {
+fn makes_elements(rt: HostRuntime) -> Tested {
     let alloc = rt.alloc();
     let rows = [
         ("5", 7, "null", "[null,null]", "[null,7]"),
@@ -89,15 +89,15 @@ fn makes_places(rt: HostRuntime) -> Tested {
         ("[1,2,3]", 1, "2", "[1,2,3]", "[1,7,3]"),
         ("[1,2,3]", 2, "3", "[1,2,3]", "[1,2,7]"),
     ];
-    for (before, index, lent, made, written) in rows {
-        expect_made(&rt, alloc, parse(alloc, before)?, index, lent, made)?;
+    for (before, index, borrowed, made, written) in rows {
+        expect_made(&rt, alloc, parse(alloc, before)?, index, borrowed, made)?;
         expect_written(&rt, alloc, parse(alloc, before)?, index, written)?;
     }
     Ok(())
 }
 
-/// It is no container, and so it lends nothing.
-fn lend_nothing(rt: &impl Abort, mut value: JsonValue) {
+/// It is no container: there is nothing in it to borrow.
+fn borrow_nothing(rt: &impl Abort, mut value: JsonValue) {
     assert!(rt; value.get_mut("a").is_none());
     assert!(rt; value.as_object_mut().is_none());
     assert!(rt; value.as_array_mut().is_none());
@@ -106,9 +106,9 @@ fn lend_nothing(rt: &impl Abort, mut value: JsonValue) {
 }
 
 #[test]
-fn lends_nothing_of_another_kind(rt: HostRuntime) -> Tested {
+fn borrows_nothing_of_another_kind(rt: HostRuntime) -> Tested {
     for text in ["null", "\"a\"", "1", "true"] {
-        lend_nothing(&rt, parse(rt.alloc(), text)?);
+        borrow_nothing(&rt, parse(rt.alloc(), text)?);
     }
     assert!(rt; parse(rt.alloc(), "[1]")?.get_mut("a").is_none());
     assert!(rt; parse(rt.alloc(), "[1]")?.as_object_mut().is_none());
@@ -116,7 +116,7 @@ fn lends_nothing_of_another_kind(rt: HostRuntime) -> Tested {
 }
 
 #[test]
-fn lends_what_is_there(rt: HostRuntime) -> Tested {
+fn borrows_what_is_there(rt: HostRuntime) -> Tested {
     let mut value = parse(rt.alloc(), "{\"a\":[1]}")?;
     assert!(rt; value.get_mut("b").is_none());
     assert!(rt; value.as_array_mut().is_none());
@@ -131,7 +131,7 @@ fn lends_what_is_there(rt: HostRuntime) -> Tested {
 }
 
 #[test]
-fn lends_items(rt: HostRuntime) -> Tested {
+fn borrows_elements(rt: HostRuntime) -> Tested {
     let mut value = parse(rt.alloc(), "[1]")?;
     if let Some(items) = value.as_array_mut() {
         items.clear();
@@ -139,7 +139,7 @@ fn lends_items(rt: HostRuntime) -> Tested {
     expect_dump(&rt, rt.alloc(), &value, "[]")
 }
 
-/// From the back, each member becomes the one that was taken before it, and the last null.
+/// From the back, each element becomes the one that was taken before it, and the last one null.
 fn move_members(value: &mut JsonValue) {
     let mut before = JsonValue::Null;
     for member in value.members_mut().rev() {
@@ -171,7 +171,7 @@ fn expect_entries(rt: &impl Abort, alloc: Global, mut value: JsonValue, after: &
 }
 
 #[test]
-fn lends_members_and_entries(rt: HostRuntime) -> Tested {
+fn borrows_members_and_entries(rt: HostRuntime) -> Tested {
     let rows = [
         ("[1,2,3]", "[2,3,null]", "[1,2,3]"),
         ("[]", "[]", "[]"),
@@ -202,17 +202,17 @@ fn writes(rt: HostRuntime) -> Tested {
     expect_dump(&rt, alloc, &value, "[null,4]")
 }
 
-/// The value under this key is `lent`, and is then this number.
-fn expect_lent(
+/// The value of this key dumps `borrowed`, and is then this number.
+fn expect_borrowed(
     rt: &impl Abort,
     alloc: Global,
     object: &mut Object,
     key: &str,
-    lent: &str,
+    borrowed: &str,
     written: u64,
 ) -> Tested {
     let place = object.at_mut(alloc, key)?;
-    expect_dump(rt, alloc, place, lent)?;
+    expect_dump(rt, alloc, place, borrowed)?;
     *place = number(written);
     Ok(())
 }
@@ -220,13 +220,13 @@ fn expect_lent(
 #[test]
 fn objects_make_keys(rt: HostRuntime) -> Tested {
     let mut object = Object::new(rt.alloc());
-    for (key, lent, written) in [
+    for (key, borrowed, written) in [
         ("a", "null", 0u64),
         ("b", "null", 1),
         ("b", "1", 1),
         ("a", "0", 2),
     ] {
-        expect_lent(&rt, rt.alloc(), &mut object, key, lent, written)?;
+        expect_borrowed(&rt, rt.alloc(), &mut object, key, borrowed, written)?;
     }
     expect_dump(
         &rt,
@@ -236,7 +236,7 @@ fn objects_make_keys(rt: HostRuntime) -> Tested {
     )
 }
 
-/// What a caller's proof knows of a value that was written.
+/// A caller's proof knows what was written.
 fn put_value(value: &mut JsonValue, alloc: Global, key: &str, written: JsonValue) -> Result<()>
     ensures ok { OnOk result (view value.new ≡
         object (pairs_of (put key.now (view written) (entries (view value.old))))) }

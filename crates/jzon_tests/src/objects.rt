@@ -1,6 +1,6 @@
 //! Objects.
 
-use crate::common::{Tested, expect_dump, is_pair, number, parts};
+use crate::common::{Tested, expect_dump, is_entry, number, parts};
 use jzon::object::{Iter, IterMut, Object};
 use jzon::{Error, JsonValue, Result, parse};
 use std::alloc::Global;
@@ -35,7 +35,7 @@ fn inserts(rt: HostRuntime) -> Tested {
     Ok(())
 }
 
-/// What is removed under `a`, null for nothing, and what is left.
+/// `remove` of `a` returns `removed`, or nothing where that is null, and leaves `left`.
 fn expect_removed(
     rt: &impl Abort,
     alloc: Global,
@@ -112,7 +112,7 @@ fn clears(rt: HostRuntime) -> Tested {
 }
 
 #[test]
-fn lends_its_values(rt: HostRuntime) -> Tested {
+fn borrows_its_values(rt: HostRuntime) -> Tested {
     let mut object = object_of(rt.alloc(), "{\"a\":1,\"b\":2,\"c\":3}")?;
     assert!(rt; object.get_mut("x").is_none());
     if let Some(value) = object.get_mut("b") {
@@ -131,13 +131,13 @@ fn lends_its_values(rt: HostRuntime) -> Tested {
 }
 
 #[test]
-fn goes_over_its_pairs_from_both_ends(rt: HostRuntime) -> Tested {
+fn goes_over_its_entries_from_both_ends(rt: HostRuntime) -> Tested {
     let object = object_of(rt.alloc(), "{\"a\":1,\"b\":2,\"c\":3}")?;
     let mut pairs = object.iter();
-    assert!(rt; is_pair(pairs.next(), "a", 1));
-    assert!(rt; is_pair(pairs.next_back(), "c", 3));
+    assert!(rt; is_entry(pairs.next(), "a", 1));
+    assert!(rt; is_entry(pairs.next_back(), "c", 3));
     assert_eq!(rt; pairs.len(), 1);
-    assert!(rt; is_pair(pairs.next(), "b", 2));
+    assert!(rt; is_entry(pairs.next(), "b", 2));
     assert!(rt; pairs.next_back().is_none());
     Ok(())
 }
@@ -148,12 +148,12 @@ fn has_empty_iterators(rt: HostRuntime) {
     assert!(rt; IterMut::empty().next().is_none());
 }
 
-/// The longest key that lies in place, and the shortest one that doesn't.
-const IN_PLACE: &str = "0123456789abcdef0123456789abcdef";
+/// The longest key that is kept inline, and the shortest one that isn't.
+const INLINE: &str = "0123456789abcdef0123456789abcdef";
 
-const IN_MEMORY: &str = "0123456789abcdef0123456789abcdef!";
+const OWNED: &str = "0123456789abcdef0123456789abcdef!";
 
-/// The keys from the back, with a comma behind each.
+/// The keys from the back, with a comma after each.
 fn keys_from_the_back(alloc: Global, object: Object) -> Result<String> {
     let mut keys = String::new(alloc);
     for (key, _) in object.into_iter().rev() {
@@ -166,11 +166,11 @@ fn keys_from_the_back(alloc: Global, object: Object) -> Result<String> {
 #[test]
 fn gives_its_keys_whole(rt: HostRuntime) -> Tested {
     let mut object = Object::with_capacity(rt.alloc(), 2)?;
-    object.insert(rt.alloc(), IN_PLACE, number(1))?;
-    object.insert(rt.alloc(), IN_MEMORY, number(2))?;
-    assert!(rt; object.get(IN_PLACE).is_some_and(|value| value.eq_u64(1)));
-    assert!(rt; object.get(IN_MEMORY).is_some_and(|value| value.eq_u64(2)));
-    assert!(rt; object.at(IN_MEMORY).eq_u64(2));
+    object.insert(rt.alloc(), INLINE, number(1))?;
+    object.insert(rt.alloc(), OWNED, number(2))?;
+    assert!(rt; object.get(INLINE).is_some_and(|value| value.eq_u64(1)));
+    assert!(rt; object.get(OWNED).is_some_and(|value| value.eq_u64(2)));
+    assert!(rt; object.at(OWNED).eq_u64(2));
     assert!(rt; object.at("x").value().is_none());
     let keys = keys_from_the_back(rt.alloc(), object)?;
     assert_eq!(rt;
@@ -194,7 +194,7 @@ fn equals_in_any_order(rt: HostRuntime) -> Tested {
 }
 
 #[test]
-fn shows_its_pairs(rt: HostRuntime) -> Tested {
+fn shows_its_entries(rt: HostRuntime) -> Tested {
     let object = object_of(rt.alloc(), "{\"a\\n\":1}")?;
     let text = format!(in rt.alloc(); "{object:?}")?;
     assert!(rt; text.as_str().contains("\"a\\n\""));

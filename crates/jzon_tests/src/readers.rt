@@ -1,14 +1,14 @@
 //! What is read of a value.
 
-use crate::common::{Tested, is_pair, long, number};
+use crate::common::{Tested, is_entry, long, number};
 use jzon::number::NAN;
 use jzon::object::Object;
 use jzon::{JsonValue, parse};
 use std::process::Abort;
 
-/// What the readers of kind, emptiness and length tell: null, boolean, number, string, object, array; empty; the length.
-fn expect_told(rt: &impl Abort, value: &JsonValue, kind: usize, empty: bool, len: usize) {
-    let told = [
+/// What is read of kind, emptiness and length. Kinds are counted: null, boolean, number, string, object, array.
+fn expect_kind(rt: &impl Abort, value: &JsonValue, kind: usize, empty: bool, len: usize) {
+    let kinds = [
         value.is_null(),
         value.is_boolean(),
         value.is_number(),
@@ -16,15 +16,15 @@ fn expect_told(rt: &impl Abort, value: &JsonValue, kind: usize, empty: bool, len
         value.is_object(),
         value.is_array(),
     ];
-    for (index, told) in told.iter().enumerate() {
-        assert_eq!(rt; *told, index == kind, "{index} of {kind}");
+    for (index, is_kind) in kinds.iter().enumerate() {
+        assert_eq!(rt; *is_kind, index == kind, "{index} of {kind}");
     }
     assert_eq!(rt; value.is_empty(), empty, "{kind}");
     assert_eq!(rt; value.len(), len, "{kind}");
 }
 
 #[test]
-fn tells_kind_emptiness_and_length(rt: HostRuntime) -> Tested {
+fn reads_kind_emptiness_and_length(rt: HostRuntime) -> Tested {
     let alloc = rt.alloc();
     let rows = [
         ("null", 0usize, true, 0usize),
@@ -41,44 +41,44 @@ fn tells_kind_emptiness_and_length(rt: HostRuntime) -> Tested {
         ("[1,\"x\"]", 5, false, 2),
     ];
     for (text, kind, empty, len) in rows {
-        expect_told(&rt, &parse(alloc, text)?, kind, empty, len);
+        expect_kind(&rt, &parse(alloc, text)?, kind, empty, len);
     }
-    expect_told(&rt, &JsonValue::Number(NAN), 2, true, 0);
-    expect_told(&rt, &long(alloc, "")?, 3, true, 0);
-    expect_told(&rt, &long(alloc, "a")?, 3, false, 0);
+    expect_kind(&rt, &JsonValue::Number(NAN), 2, true, 0);
+    expect_kind(&rt, &long(alloc, "")?, 3, true, 0);
+    expect_kind(&rt, &long(alloc, "a")?, 3, false, 0);
     Ok(())
 }
 
-/// The text, the mantissa and the truth that are read of it.
-fn expect_scalar(
+/// The string, the mantissa and the boolean that are read of it.
+fn expect_primitive(
     rt: &impl Abort,
     value: &JsonValue,
     text: Option<&str>,
     mantissa: Option<u64>,
-    truth: Option<bool>,
+    boolean: Option<bool>,
 ) {
     assert_eq!(rt; value.as_str(), text);
     assert_eq!(rt; value.as_number().map(|read| read.as_parts().1), mantissa);
     assert_eq!(rt; value.as_u64(), mantissa);
     assert_eq!(rt; value.as_fixed_point_u64(0), mantissa);
-    assert_eq!(rt; value.as_bool(), truth);
-    expect_equal(rt, value, text, truth);
+    assert_eq!(rt; value.as_bool(), boolean);
+    expect_equal(rt, value, text, boolean);
 }
 
-/// The text and the truth that it equals.
-fn expect_equal(rt: &impl Abort, value: &JsonValue, text: Option<&str>, truth: Option<bool>) {
+/// The string and the boolean that it equals.
+fn expect_equal(rt: &impl Abort, value: &JsonValue, text: Option<&str>, boolean: Option<bool>) {
     for other in ["a", "b", ""] {
         assert_eq!(rt; value.eq_str(other), text == Some(other), "{other}");
     }
     for other in [true, false] {
-        assert_eq!(rt; value.eq_bool(other), truth == Some(other), "{other}");
+        assert_eq!(rt; value.eq_bool(other), boolean == Some(other), "{other}");
     }
 }
 
 #[test]
-fn reads_texts_numbers_and_truth(rt: HostRuntime) -> Tested {
+fn reads_strings_numbers_and_booleans(rt: HostRuntime) -> Tested {
     let alloc = rt.alloc();
-    expect_scalar(&rt, &long(alloc, "b")?, Some("b"), None, None);
+    expect_primitive(&rt, &long(alloc, "b")?, Some("b"), None, None);
     let rows = [
         ("null", None, None, None),
         ("\"a\"", Some("a"), None, None),
@@ -87,8 +87,8 @@ fn reads_texts_numbers_and_truth(rt: HostRuntime) -> Tested {
         ("{\"a\":1}", None, None, None),
         ("[1]", None, None, None),
     ];
-    for (source, text, mantissa, truth) in rows {
-        expect_scalar(&rt, &parse(alloc, source)?, text, mantissa, truth);
+    for (source, text, mantissa, boolean) in rows {
+        expect_primitive(&rt, &parse(alloc, source)?, text, mantissa, boolean);
     }
     Ok(())
 }
@@ -113,8 +113,8 @@ fn look_into_an_object(rt: &impl Abort, object: &JsonValue) {
     assert!(rt; object.at_index(0).value().is_none());
     assert_eq!(rt; object.members().len(), 0);
     let mut entries = object.entries();
-    assert!(rt; is_pair(entries.next(), "a", 1));
-    assert!(rt; is_pair(entries.next_back(), "b", 2));
+    assert!(rt; is_entry(entries.next(), "a", 1));
+    assert!(rt; is_entry(entries.next_back(), "b", 2));
     assert!(rt; entries.next().is_none());
 }
 

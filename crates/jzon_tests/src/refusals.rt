@@ -1,4 +1,4 @@
-//! The calls that take memory, with each of their requests for memory refused in turn.
+//! The calls that allocate, with each of their allocations failing in turn.
 
 mod built;
 mod changed;
@@ -8,25 +8,25 @@ mod written;
 
 use crate::common::Tested;
 use jzon::{Error, JsonValue, Result, parse};
-use jzon_test_support::{MOST, Refusals};
+use jzon_test_support::{RUNS_MAX, Refusals};
 use std::alloc::Global;
 use std::process::Abort;
 
-/// A document with a key and a text that are too long to lie in place.
+/// A text with a key and a string that are too long to be kept inline.
 const LONG_DOCUMENT: &str =
     "{\"0123456789abcdef0123456789abcdef!\":[{\"b\":\"a text of more than thirty bytes\"},[true,{}]]}";
 
-/// A key of 40 bytes and a text of 31, which take memory of their own.
+/// A key of 40 bytes and a string of 31, each of which is allocated.
 const LONG_KEY: &str = "0123456789abcdef0123456789abcdef01234567";
 
 const LONG_TEXT: &str = "abcdefghijklmnopqrstuvwxyz01234";
 
-/// What is called of a value. What it answers becomes the value.
+/// A call on a value. What it returns becomes the value.
 trait Call: Copy {
     fn call(self, value: &mut JsonValue, alloc: Global) -> Result<()>;
 }
 
-/// A call, its name, the text of the value before it, the compact text after it, and how many refusals there are at least.
+/// A call, its name, the text of the value before it, the compact text after it, and the least number of its allocations.
 #[derive(Clone, Copy)]
 struct Row<C> {
     call: C,
@@ -52,50 +52,51 @@ fn case<C>(
     }
 }
 
-/// A refused run answered `OutOfMemory`, and its value is as it was.
-fn expect_refused(
+/// With a failed allocation the call returned `OutOfMemory`, and its value is as it was.
+fn expect_out_of_memory(
     rt: &impl Abort,
     alloc: Global,
-    answer: &Result<()>,
+    outcome: &Result<()>,
     value: &JsonValue,
     before: &JsonValue,
 ) -> Tested {
-    assert!(rt; matches!(answer, Err(Error::OutOfMemory)));
+    assert!(rt; matches!(outcome, Err(Error::OutOfMemory)));
     assert!(rt; value == before);
     let text = before.dump(alloc)?;
     assert_eq!(rt; value.dump(alloc)?.as_str(), text.as_str());
     Ok(())
 }
 
-/// A run without a refusal gave its answer.
-fn expect_answer(
+/// Without one the call succeeded, and its value dumps `after`.
+fn expect_success(
     rt: &impl Abort,
     alloc: Global,
-    answer: &Result<()>,
+    outcome: &Result<()>,
     value: &JsonValue,
     after: &str,
 ) -> Tested {
-    assert!(rt; answer.is_ok());
+    assert!(rt; outcome.is_ok());
     assert_eq!(rt; value.dump(alloc)?.as_str(), after);
     Ok(())
 }
 
-/// The call with its first request refused, then with its second, and so on, until a run meets no refusal.
-fn refuse<C: Call>(rt: &(impl Eprint + Abort), alloc: Global, row: &Row<C>) -> Tested {
+/// Runs the call with its first allocation failing, then with its second, and so on, until a run has no failed
+/// allocation.
+fn fail_each<C: Call>(rt: &(impl Eprint + Abort), alloc: Global, row: &Row<C>) -> Tested {
     let before = parse(alloc, row.before)?;
     let call = row.call;
     let mut refusals = Refusals::new(alloc);
-    for _ in 0..MOST {
+    for _ in 0..RUNS_MAX {
         // A copy has no room to spare.
         let mut value = before.clone(alloc)?;
         refusals.begin();
-        let answer = call.call(&mut value, alloc);
-        if !refusals.was_refused() {
-            expect_answer(rt, alloc, &answer, &value, row.after)?;
+        let outcome = call.call(&mut value, alloc);
+        if !refusals.has_failed() {
+            expect_success(rt, alloc, &outcome, &value, row.after)?;
             break;
         }
-        expect_refused(rt, alloc, &answer, &value, &before)?;
+        expect_out_of_memory(rt, alloc, &outcome, &value, &before)?;
     }
-    refusals.tell(rt, row.name, row.least)?;
+    refusals.report(rt, row.name, row.least)?;
     Ok(())
 }

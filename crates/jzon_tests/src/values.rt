@@ -8,7 +8,7 @@ use std::alloc::Global;
 use std::process::Abort;
 
 #[test]
-fn dumps_texts(rt: HostRuntime) -> Tested {
+fn dumps_strings(rt: HostRuntime) -> Tested {
     let rows = [
         ("\r\n\t\x08\x0c\\/\"", "\"\\r\\n\\t\\b\\f\\\\/\\\"\""),
         ("\x0b\x1a\x7f/", "\"\\u000b\\u001a\x7f/\""),
@@ -21,7 +21,7 @@ fn dumps_texts(rt: HostRuntime) -> Tested {
     Ok(())
 }
 
-/// `==` of what two texts mean, from both sides.
+/// `==` from both sides, and `!=`.
 fn expect_equal(rt: &impl Abort, left: &JsonValue, right: &JsonValue, is_equal: bool) {
     assert_eq!(rt; left == right, is_equal);
     assert_eq!(rt; right == left, is_equal);

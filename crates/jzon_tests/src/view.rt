@@ -1,4 +1,4 @@
-//! Places in a value.
+//! Views into a value.
 
 use crate::common::Tested;
 use jzon::object::Object;
@@ -7,7 +7,7 @@ use std::process::Abort;
 
 const NESTED: &str = "{\"list\":[null,\"world\",true,7],\"map\":{\"a\":null}}";
 
-fn look_at_items(rt: &impl Abort, list: View<'_>) {
+fn look_at_elements(rt: &impl Abort, list: View<'_>) {
     assert!(rt; list.at_index(0).is_null() && list.at_index(0).value().is_some());
     assert_eq!(rt; list.at_index(1).as_str(), Some("world"));
     assert!(rt; list.at_index(1).eq_str("world") && list.at_index(1).is_string());
@@ -42,9 +42,9 @@ fn look_at_the_map(rt: &impl Abort, map: View<'_>) {
 }
 
 #[test]
-fn goes_from_place_to_place(rt: HostRuntime) -> Tested {
+fn goes_from_view_to_view(rt: HostRuntime) -> Tested {
     let value = parse(rt.alloc(), NESTED)?;
-    look_at_items(&rt, value.at("list"));
+    look_at_elements(&rt, value.at("list"));
     look_at_the_list(&rt, value.at("list"));
     look_at_the_map(&rt, value.as_view().at("map"));
     Ok(())

@@ -1,9 +1,9 @@
-//! Writers that take one byte a call, and have trouble at one.
+//! Writers that take one byte a call, and fail at one call.
 
 use crate::common::Tested;
 use jzon::codegen::{PrettyWriterGenerator, WriterGenerator, write_json};
 use jzon::{JsonValue, parse};
-use jzon_test_support::{DOCUMENT, DUMP, NEVER, SlowWriter, Trouble};
+use jzon_test_support::{DOCUMENT, DUMP, NO_FAILING_CALL, SlowWriter, Trouble};
 use std::alloc::Global;
 use std::io;
 use std::io::ErrorKind;
@@ -47,7 +47,7 @@ fn expect_prefix(rt: &impl Abort, writer: &SlowWriter, text: &str, call: usize) 
     assert!(rt; text.as_bytes().starts_with(&writer.bytes));
 }
 
-/// At each call there is trouble once: the error has the writer's own kind, and nothing is written after it.
+/// The writer fails at each call in turn: the error has its kind, and nothing is written after it.
 fn expect_stops(rt: &impl Abort, alloc: Global, value: &JsonValue, how: How, trouble: Trouble) {
     let text = how.text();
     for call in 1..=text.len() {
@@ -55,14 +55,14 @@ fn expect_stops(rt: &impl Abort, alloc: Global, value: &JsonValue, how: How, tro
         match (how.write(value, &mut writer), trouble) {
             (Err(error), Trouble::Fails(kind)) => assert_eq!(rt; error.kind(), kind),
             (Err(_), Trouble::TakesNothing) => {}
-            (Ok(()), _) => assert!(rt; false, "no fault at call {call}"),
+            (Ok(()), _) => assert!(rt; false, "no error at call {call}"),
         }
         expect_prefix(rt, &writer, text, call);
     }
 }
 
 #[test]
-fn stops_at_the_trouble_of_each_call(rt: HostRuntime) -> Tested {
+fn stops_at_each_call_that_fails(rt: HostRuntime) -> Tested {
     let value = parse(rt.alloc(), DOCUMENT)?;
     let troubles = [
         Trouble::TakesNothing,
@@ -83,7 +83,7 @@ fn stops_at_the_trouble_of_each_call(rt: HostRuntime) -> Tested {
 }
 
 #[test]
-fn writes_whole_texts(rt: HostRuntime) -> Tested {
+fn writes_the_whole_text(rt: HostRuntime) -> Tested {
     let value = parse(rt.alloc(), DOCUMENT)?;
     for how in [
         How::Compact,
@@ -91,14 +91,14 @@ fn writes_whole_texts(rt: HostRuntime) -> Tested {
         How::Generator,
         How::PrettyGenerator,
     ] {
-        let mut writer = SlowWriter::new(rt.alloc(), NEVER, Trouble::TakesNothing);
+        let mut writer = SlowWriter::new(rt.alloc(), NO_FAILING_CALL, Trouble::TakesNothing);
         how.write(&value, &mut writer)?;
         assert_eq!(rt; writer.bytes.as_slice(), how.text().as_bytes());
     }
     Ok(())
 }
 
-/// The bytes of the first three calls are there, and the error is the writer's.
+/// The bytes of three calls were written, and the error is the writer's.
 #[test]
 fn stops_at_the_fourth_call(rt: HostRuntime) -> Tested {
     let value = parse(rt.alloc(), "[1,2,3]")?;

@@ -1,6 +1,6 @@
 //! Exponents with a sign, a point without a digit, nested texts, and texts of values that the macros build too.
 
-use crate::texts::{expect_each_read, expect_read, expect_refused};
+use crate::texts::{expect_each_read, expect_read, expect_rejected};
 use jzon::{JsonValue, Result, parse};
 use std::alloc::Global;
 use std::process::Abort;
@@ -14,7 +14,7 @@ fn reads_signed_exponents(rt: HostRuntime) -> std::result::Result<(), Fail> {
 
 #[test]
 fn rejects_a_point_without_a_digit(rt: HostRuntime) -> std::result::Result<(), Fail> {
-    expect_refused(&rt, rt.alloc(), "[1.]", "Unexpected character: ] at (1:4)")
+    expect_rejected(&rt, rt.alloc(), "[1.]", "Unexpected character: ] at (1:4)")
 }
 
 /// 19 arrays, one in another.

@@ -1,37 +1,35 @@
 //! Texts that only look like JSON, one with each form of the grammar, long ones, and escapes at each position of a string.
 
-use crate::texts::{expect_read, expect_refused};
+use crate::texts::{expect_each_rejected, expect_read, expect_rejected};
 use jzon_test_support::joined;
 use std::alloc::{AllocError, Global};
 use std::test::Fail;
 
+const LOOKALIKES: &[(&str, &str)] = &[
+    (r"[\bare]", "Unexpected character: \\ at (1:2)"),
+    (r#"["octal \017"]"#, "Unexpected character: 0 at (1:10)"),
+    (
+        r#"{"two colons":: null}"#,
+        "Unexpected character: : at (1:15)",
+    ),
+    (r#"{"a comma", null}"#, "Unexpected character: , at (1:11)"),
+    (r#"["a colon": false]"#, "Unexpected character: : at (1:11)"),
+    ("[\"\ttab\"]", "Unexpected character: \t at (1:3)"),
+    ("[\"tab\\\t\"]", "Unexpected character: \t at (1:7)"),
+    ("[\"line\\\nbreak\"]", "Unexpected character: \n at (1:8)"),
+    ("[0e]", "Unexpected character: ] at (1:4)"),
+    ("[0e+]", "Unexpected character: ] at (1:5)"),
+    (r#"["open""#, "Unexpected end of JSON"),
+    (r#"{"call": g()}"#, "Unexpected character: g at (1:10)"),
+    (r#"{"sum": 1 + 2}"#, "Unexpected character: + at (1:11)"),
+];
+
 #[test]
-fn refuses_what_looks_like_json(rt: HostRuntime) -> Result<(), Fail> {
-    let rows = [
-        (r"[\bare]", "Unexpected character: \\ at (1:2)"),
-        (r#"["octal \017"]"#, "Unexpected character: 0 at (1:10)"),
-        (
-            r#"{"two colons":: null}"#,
-            "Unexpected character: : at (1:15)",
-        ),
-        (r#"{"a comma", null}"#, "Unexpected character: , at (1:11)"),
-        (r#"["a colon": false]"#, "Unexpected character: : at (1:11)"),
-        ("[\"\ttab\"]", "Unexpected character: \t at (1:3)"),
-        ("[\"tab\\\t\"]", "Unexpected character: \t at (1:7)"),
-        ("[\"line\\\nbreak\"]", "Unexpected character: \n at (1:8)"),
-        ("[0e]", "Unexpected character: ] at (1:4)"),
-        ("[0e+]", "Unexpected character: ] at (1:5)"),
-        (r#"["open""#, "Unexpected end of JSON"),
-        (r#"{"call": g()}"#, "Unexpected character: g at (1:10)"),
-        (r#"{"sum": 1 + 2}"#, "Unexpected character: + at (1:11)"),
-    ];
-    for (text, words) in rows {
-        expect_refused(&rt, rt.alloc(), text, words)?;
-    }
-    Ok(())
+fn rejects_what_looks_like_json(rt: HostRuntime) -> Result<(), Fail> {
+    expect_each_rejected(&rt, rt.alloc(), LOOKALIKES)
 }
 
-/// A document with each form that the grammar has.
+/// A text with each form of the grammar.
 const EACH_FORM: &str = r#"
 [
   "a pattern", {"one member":["one item"]}, {}, [], -42, true, false, null,
@@ -68,7 +66,7 @@ fn reads_each_form(rt: HostRuntime) -> Result<(), Fail> {
 }
 
 #[test]
-fn refuses_texts_without_end(rt: HostRuntime) -> Result<(), Fail> {
+fn rejects_texts_without_end(rt: HostRuntime) -> Result<(), Fail> {
     let rows = [
         ("", "[{\"a\":", "Exceeded depth limit"),
         ("\"", "a", "Unexpected end of JSON"),
@@ -76,14 +74,14 @@ fn refuses_texts_without_end(rt: HostRuntime) -> Result<(), Fail> {
         ("[", "1,", "Unexpected end of JSON"),
         ("", " ", "Unexpected end of JSON"),
     ];
-    for (prefix, repeated, words) in rows {
+    for (prefix, repeated, message) in rows {
         let text = joined(rt.alloc(), &[(prefix, 1), (repeated, 100000)])?;
-        expect_refused(&rt, rt.alloc(), text.as_str(), words)?;
+        expect_rejected(&rt, rt.alloc(), text.as_str(), message)?;
     }
     Ok(())
 }
 
-/// A string with this escape after so many letters, and as many as make 70 behind it.
+/// A string with this escape after `position` letters, and with letters after it, 70 in all.
 fn with_escape(alloc: Global, escape: &str, position: usize) -> Result<String, AllocError> {
     let left = 70usize.saturating_sub(position);
     joined(
@@ -98,7 +96,7 @@ fn with_escape(alloc: Global, escape: &str, position: usize) -> Result<String, A
     )
 }
 
-/// The longest escape too stands at each place of the blocks in which plain bytes are looked for.
+/// Each offset in the blocks that plain bytes are looked for in has each escape, the longest one too.
 #[test]
 fn reads_and_prints_an_escape_at_each_position(rt: HostRuntime) -> Result<(), Fail> {
     let rows = [
@@ -119,14 +117,14 @@ fn reads_and_prints_an_escape_at_each_position(rt: HostRuntime) -> Result<(), Fa
 }
 
 #[test]
-fn refuses_a_control_at_each_position(rt: HostRuntime) -> Result<(), Fail> {
+fn rejects_a_control_at_each_position(rt: HostRuntime) -> Result<(), Fail> {
     for position in 0..=70usize {
         let text = with_escape(rt.alloc(), "\n", position)?;
-        let words = format!(in rt.alloc();
+        let message = format!(in rt.alloc();
             "Unexpected character: \n at (1:{})",
             position.saturating_add(2)
         )?;
-        expect_refused(&rt, rt.alloc(), text.as_str(), words.as_str())?;
+        expect_rejected(&rt, rt.alloc(), text.as_str(), message.as_str())?;
     }
     Ok(())
 }

@@ -72,7 +72,7 @@ fn duplicate(line: usize, column: usize) -> Error {
 }
 
 #[test]
-fn tells_the_first_fault(rt: HostRuntime) {
+fn reports_the_first_fault(rt: HostRuntime) {
     let rows = [
         (false, 0, "[1]", Error::ExceededDepthLimit),
         (false, 0, "[x", Error::ExceededDepthLimit),

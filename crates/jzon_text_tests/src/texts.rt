@@ -1,4 +1,4 @@
-//! Texts of each kind: the parts and the compact text of what is read, and the kind and place of each error.
+//! Texts of each kind: the parts and the compact text of what is read, and the kind and position of each error.
 ghost use Rattle.std.specs.Prelude.{◌≡◌, IfOk, string_bytes};
 ghost use Rattle.jzon_tree.specs.Text.{compact};
 ghost use Rattle.jzon.specs.Laws.{IsReadAs};
@@ -10,19 +10,31 @@ use std::alloc::Global;
 use std::process::Abort;
 use std::test::Fail;
 
-/// The text is refused in these words.
-pub(crate) fn expect_refused(
+/// The text is rejected with this message.
+pub(crate) fn expect_rejected(
     rt: &impl Abort,
     alloc: Global,
     text: &str,
-    words: &str,
+    expected: &str,
 ) -> Result<(), Fail> {
     match parse(alloc, text) {
         Ok(_) => assert!(rt; false, "{text} is read"),
         Err(e) => {
-            let told = e.to_string(alloc)?;
-            assert_eq!(rt; told.as_str(), words, "{text}");
+            let message = e.to_string(alloc)?;
+            assert_eq!(rt; message.as_str(), expected, "{text}");
         }
+    }
+    Ok(())
+}
+
+/// The text of each row is rejected with the message beside it.
+pub(crate) fn expect_each_rejected(
+    rt: &impl Abort,
+    alloc: Global,
+    rows: &[(&str, &str)],
+) -> Result<(), Fail> {
+    for (text, message) in rows {
+        expect_rejected(rt, alloc, text, message)?;
     }
     Ok(())
 }
@@ -142,7 +154,7 @@ fn reads_long_numbers(rt: HostRuntime) -> Result<(), Fail> {
 }
 
 #[test]
-fn refuses_digits_past_the_limits(rt: HostRuntime) -> Result<(), Fail> {
+fn rejects_digits_past_the_limits(rt: HostRuntime) -> Result<(), Fail> {
     let rows: [(&str, usize, &str); 6] = [
         ("8", 32786, ""),
         ("0.", 32769, ""),
@@ -153,154 +165,144 @@ fn refuses_digits_past_the_limits(rt: HostRuntime) -> Result<(), Fail> {
     ];
     for (prefix, count, back) in rows {
         let text = joined(rt.alloc(), &[(prefix, 1), ("0", count), (back, 1)])?;
-        let refused = parse(rt.alloc(), text.as_str());
+        let result = parse(rt.alloc(), text.as_str());
         assert!(rt;
-            matches!(refused, Err(Error::ExceededDepthLimit)),
+            matches!(result, Err(Error::ExceededDepthLimit)),
             "{prefix}, {count} zeros, {back}"
         );
     }
     Ok(())
 }
 
-#[test]
-fn tells_where_a_text_ends_early_or_goes_wrong(rt: HostRuntime) -> Result<(), Fail> {
-    let rows: [(&str, &str); 15] = [
-        ("", "Unexpected end of JSON"),
-        ("  ", "Unexpected end of JSON"),
-        ("-", "Unexpected end of JSON"),
-        ("1.", "Unexpected end of JSON"),
-        ("1e", "Unexpected end of JSON"),
-        ("1E+", "Unexpected end of JSON"),
-        ("tru", "Unexpected end of JSON"),
-        ("n", "Unexpected end of JSON"),
-        ("fals", "Unexpected end of JSON"),
-        ("\u{feff}1", "Unexpected character: \u{feff} at (1:1)"),
-        ("\n\nnulX\n", "Unexpected character: X at (3:4)"),
-        ("\n\nnul🦄\n", "Unexpected character: 🦄 at (3:4)"),
-        ("01", "Unexpected character: 1 at (1:2)"),
-        ("-01", "Unexpected character: 1 at (1:3)"),
-        ("1.e", "Unexpected character: e at (1:3)"),
-    ];
-    for (text, words) in rows {
-        expect_refused(&rt, rt.alloc(), text, words)?;
-    }
-    Ok(())
-}
+const ENDS_AND_WRONG_TURNS: &[(&str, &str)] = &[
+    ("", "Unexpected end of JSON"),
+    ("  ", "Unexpected end of JSON"),
+    ("-", "Unexpected end of JSON"),
+    ("1.", "Unexpected end of JSON"),
+    ("1e", "Unexpected end of JSON"),
+    ("1E+", "Unexpected end of JSON"),
+    ("tru", "Unexpected end of JSON"),
+    ("n", "Unexpected end of JSON"),
+    ("fals", "Unexpected end of JSON"),
+    ("\u{feff}1", "Unexpected character: \u{feff} at (1:1)"),
+    ("\n\nnulX\n", "Unexpected character: X at (3:4)"),
+    ("\n\nnul🦄\n", "Unexpected character: 🦄 at (3:4)"),
+    ("01", "Unexpected character: 1 at (1:2)"),
+    ("-01", "Unexpected character: 1 at (1:3)"),
+    ("1.e", "Unexpected character: e at (1:3)"),
+];
 
 #[test]
-fn tells_the_first_wrong_character(rt: HostRuntime) -> Result<(), Fail> {
-    let rows: [(&str, &str); 16] = [
-        ("1e+-", "Unexpected character: - at (1:4)"),
-        ("1ee", "Unexpected character: e at (1:3)"),
-        ("1 2", "Unexpected character: 2 at (1:3)"),
-        ("1.5.2", "Unexpected character: . at (1:4)"),
-        ("-a", "Unexpected character: a at (1:2)"),
-        ("+1", "Unexpected character: + at (1:1)"),
-        (".5", "Unexpected character: . at (1:1)"),
-        ("0x14", "Unexpected character: x at (1:2)"),
-        ("NULL", "Unexpected character: N at (1:1)"),
-        ("nullé", "Unexpected character: é at (1:5)"),
-        ("é", "Unexpected character: é at (1:1)"),
-        ("true\u{a0}", "Unexpected character: \u{a0} at (1:5)"),
-        ("\r}", "Unexpected character: } at (1:2)"),
-        ("\r\n}", "Unexpected character: } at (2:1)"),
-        ("]", "Unexpected character: ] at (1:1)"),
-        ("1,", "Unexpected character: , at (1:2)"),
-    ];
-    for (text, words) in rows {
-        expect_refused(&rt, rt.alloc(), text, words)?;
-    }
-    Ok(())
+fn reports_where_a_text_ends_early_or_goes_wrong(rt: HostRuntime) -> Result<(), Fail> {
+    expect_each_rejected(&rt, rt.alloc(), ENDS_AND_WRONG_TURNS)
 }
 
-#[test]
-fn tells_the_first_fault_of_a_string(rt: HostRuntime) -> Result<(), Fail> {
-    let rows: [(&str, &str); 19] = [
-        ("\"", "Unexpected end of JSON"),
-        ("\"ab", "Unexpected end of JSON"),
-        ("\"a\\", "Unexpected end of JSON"),
-        ("\"\\uD834\\uDD1", "Unexpected end of JSON"),
-        ("\"\\x\"", "Unexpected character: x at (1:3)"),
-        ("\"a\n\"", "Unexpected character: \n at (1:3)"),
-        ("\"\\uD834\"", "Unexpected character: \" at (1:8)"),
-        ("\"\\uD834 \\uDD1E\"", "Unexpected character:   at (1:8)"),
-        ("\"\\uDC00\\uDC00\"", "Failed to parse UTF-8 bytes"),
-        ("\"\\uD834\\u00\"", "Unexpected character: \" at (1:12)"),
-        ("\"\\uD834\\n\"", "Unexpected character: n at (1:9)"),
-        ("\"\\uDC00\\uDC0G\"", "Unexpected character: G at (1:13)"),
-        ("\"\\u12G4\"", "Unexpected character: G at (1:6)"),
-        ("\"é\" x", "Unexpected character: x at (1:5)"),
-        ("\"\\u12", "Unexpected end of JSON"),
-        ("\"\\uD834", "Unexpected end of JSON"),
-        ("\"\\né\n\"", "Unexpected character: \n at (1:5)"),
-        ("\"\\uDD1E\\uD834\"", "Failed to parse UTF-8 bytes"),
-        ("\"\\uD834\\u0041\"", "Failed to parse UTF-8 bytes"),
-    ];
-    for (text, words) in rows {
-        expect_refused(&rt, rt.alloc(), text, words)?;
-    }
-    Ok(())
-}
+const WRONG_CHARACTERS: &[(&str, &str)] = &[
+    ("1e+-", "Unexpected character: - at (1:4)"),
+    ("1ee", "Unexpected character: e at (1:3)"),
+    ("1 2", "Unexpected character: 2 at (1:3)"),
+    ("1.5.2", "Unexpected character: . at (1:4)"),
+    ("-a", "Unexpected character: a at (1:2)"),
+    ("+1", "Unexpected character: + at (1:1)"),
+    (".5", "Unexpected character: . at (1:1)"),
+    ("0x14", "Unexpected character: x at (1:2)"),
+    ("NULL", "Unexpected character: N at (1:1)"),
+    ("nullé", "Unexpected character: é at (1:5)"),
+    ("é", "Unexpected character: é at (1:1)"),
+    ("true\u{a0}", "Unexpected character: \u{a0} at (1:5)"),
+    ("\r}", "Unexpected character: } at (1:2)"),
+    ("\r\n}", "Unexpected character: } at (2:1)"),
+    ("]", "Unexpected character: ] at (1:1)"),
+    ("1,", "Unexpected character: , at (1:2)"),
+];
 
 #[test]
-fn tells_the_first_fault_of_a_container(rt: HostRuntime) -> Result<(), Fail> {
-    let rows: [(&str, &str); 16] = [
-        ("[", "Unexpected end of JSON"),
-        ("{", "Unexpected end of JSON"),
-        ("[1", "Unexpected end of JSON"),
-        ("[1,", "Unexpected end of JSON"),
-        ("{\"a\"", "Unexpected end of JSON"),
-        ("{\"a\":", "Unexpected end of JSON"),
-        ("{\"a\":1", "Unexpected end of JSON"),
-        ("{\"a\":1,", "Unexpected end of JSON"),
-        ("[\n}", "Unexpected character: } at (2:1)"),
-        (
-            "\n  [\n    null,\n  ]  \n",
-            "Unexpected character: ] at (4:3)",
-        ),
-        ("[}", "Unexpected character: } at (1:2)"),
-        ("[,]", "Unexpected character: , at (1:2)"),
-        ("[1,]", "Unexpected character: ] at (1:4)"),
-        ("[1,,2]", "Unexpected character: , at (1:4)"),
-        ("[1 2]", "Unexpected character: 2 at (1:4)"),
-        ("[1]]", "Unexpected character: ] at (1:4)"),
-    ];
-    for (text, words) in rows {
-        expect_refused(&rt, rt.alloc(), text, words)?;
-    }
-    Ok(())
+fn reports_the_first_wrong_character(rt: HostRuntime) -> Result<(), Fail> {
+    expect_each_rejected(&rt, rt.alloc(), WRONG_CHARACTERS)
 }
 
+const FAULTY_STRINGS: &[(&str, &str)] = &[
+    ("\"", "Unexpected end of JSON"),
+    ("\"ab", "Unexpected end of JSON"),
+    ("\"a\\", "Unexpected end of JSON"),
+    ("\"\\uD834\\uDD1", "Unexpected end of JSON"),
+    ("\"\\x\"", "Unexpected character: x at (1:3)"),
+    ("\"a\n\"", "Unexpected character: \n at (1:3)"),
+    ("\"\\uD834\"", "Unexpected character: \" at (1:8)"),
+    ("\"\\uD834 \\uDD1E\"", "Unexpected character:   at (1:8)"),
+    ("\"\\uDC00\\uDC00\"", "Failed to parse UTF-8 bytes"),
+    ("\"\\uD834\\u00\"", "Unexpected character: \" at (1:12)"),
+    ("\"\\uD834\\n\"", "Unexpected character: n at (1:9)"),
+    ("\"\\uDC00\\uDC0G\"", "Unexpected character: G at (1:13)"),
+    ("\"\\u12G4\"", "Unexpected character: G at (1:6)"),
+    ("\"é\" x", "Unexpected character: x at (1:5)"),
+    ("\"\\u12", "Unexpected end of JSON"),
+    ("\"\\uD834", "Unexpected end of JSON"),
+    ("\"\\né\n\"", "Unexpected character: \n at (1:5)"),
+    ("\"\\uDD1E\\uD834\"", "Failed to parse UTF-8 bytes"),
+    ("\"\\uD834\\u0041\"", "Failed to parse UTF-8 bytes"),
+];
+
 #[test]
-fn tells_the_first_fault_of_a_member(rt: HostRuntime) -> Result<(), Fail> {
-    let rows: [(&str, &str); 17] = [
-        ("[]1", "Unexpected character: 1 at (1:3)"),
-        ("[0x14]", "Unexpected character: x at (1:3)"),
-        ("['a']", "Unexpected character: ' at (1:2)"),
-        ("[+1]", "Unexpected character: + at (1:2)"),
-        ("[é]", "Unexpected character: é at (1:2)"),
-        ("[\"é\" x]", "Unexpected character: x at (1:6)"),
-        ("[\"\\uDC00\\uDC00\"}", "Failed to parse UTF-8 bytes"),
-        ("{]", "Unexpected character: ] at (1:2)"),
-        ("{,}", "Unexpected character: , at (1:2)"),
-        ("{1", "Unexpected character: 1 at (1:2)"),
-        ("{a:1}", "Unexpected character: a at (1:2)"),
-        ("{\"a\" 1}", "Unexpected character: 1 at (1:6)"),
-        ("{\"a\":}", "Unexpected character: } at (1:6)"),
-        ("{\"a\":1,}", "Unexpected character: } at (1:8)"),
-        ("{\"a\":1 \"b\"}", "Unexpected character: \" at (1:8)"),
-        ("{\"a\":[1}", "Unexpected character: } at (1:8)"),
-        ("{\"a\":1]", "Unexpected character: ] at (1:7)"),
-    ];
-    for (text, words) in rows {
-        expect_refused(&rt, rt.alloc(), text, words)?;
-    }
-    Ok(())
+fn reports_the_first_fault_of_a_string(rt: HostRuntime) -> Result<(), Fail> {
+    expect_each_rejected(&rt, rt.alloc(), FAULTY_STRINGS)
+}
+
+const FAULTY_CONTAINERS: &[(&str, &str)] = &[
+    ("[", "Unexpected end of JSON"),
+    ("{", "Unexpected end of JSON"),
+    ("[1", "Unexpected end of JSON"),
+    ("[1,", "Unexpected end of JSON"),
+    ("{\"a\"", "Unexpected end of JSON"),
+    ("{\"a\":", "Unexpected end of JSON"),
+    ("{\"a\":1", "Unexpected end of JSON"),
+    ("{\"a\":1,", "Unexpected end of JSON"),
+    ("[\n}", "Unexpected character: } at (2:1)"),
+    (
+        "\n  [\n    null,\n  ]  \n",
+        "Unexpected character: ] at (4:3)",
+    ),
+    ("[}", "Unexpected character: } at (1:2)"),
+    ("[,]", "Unexpected character: , at (1:2)"),
+    ("[1,]", "Unexpected character: ] at (1:4)"),
+    ("[1,,2]", "Unexpected character: , at (1:4)"),
+    ("[1 2]", "Unexpected character: 2 at (1:4)"),
+    ("[1]]", "Unexpected character: ] at (1:4)"),
+];
+
+#[test]
+fn reports_the_first_fault_of_a_container(rt: HostRuntime) -> Result<(), Fail> {
+    expect_each_rejected(&rt, rt.alloc(), FAULTY_CONTAINERS)
+}
+
+const FAULTY_MEMBERS: &[(&str, &str)] = &[
+    ("[]1", "Unexpected character: 1 at (1:3)"),
+    ("[0x14]", "Unexpected character: x at (1:3)"),
+    ("['a']", "Unexpected character: ' at (1:2)"),
+    ("[+1]", "Unexpected character: + at (1:2)"),
+    ("[é]", "Unexpected character: é at (1:2)"),
+    ("[\"é\" x]", "Unexpected character: x at (1:6)"),
+    ("[\"\\uDC00\\uDC00\"}", "Failed to parse UTF-8 bytes"),
+    ("{]", "Unexpected character: ] at (1:2)"),
+    ("{,}", "Unexpected character: , at (1:2)"),
+    ("{1", "Unexpected character: 1 at (1:2)"),
+    ("{a:1}", "Unexpected character: a at (1:2)"),
+    ("{\"a\" 1}", "Unexpected character: 1 at (1:6)"),
+    ("{\"a\":}", "Unexpected character: } at (1:6)"),
+    ("{\"a\":1,}", "Unexpected character: } at (1:8)"),
+    ("{\"a\":1 \"b\"}", "Unexpected character: \" at (1:8)"),
+    ("{\"a\":[1}", "Unexpected character: } at (1:8)"),
+    ("{\"a\":1]", "Unexpected character: ] at (1:7)"),
+];
+
+#[test]
+fn reports_the_first_fault_of_a_member(rt: HostRuntime) -> Result<(), Fail> {
+    expect_each_rejected(&rt, rt.alloc(), FAULTY_MEMBERS)
 }
 
 #[test]
 fn reads_strings(rt: HostRuntime) -> Result<(), Fail> {
-    // a text, whether its value is kept in place, its bytes, and its dump
+    // a text, whether its string is kept inline, its bytes, and its dump
     let rows: [(&str, bool, &str, &str); 17] = [
         ("\"\"", true, "", "\"\""),
         (
@@ -360,15 +362,15 @@ fn reads_strings(rt: HostRuntime) -> Result<(), Fail> {
         ("\"é\\né\"", true, "é\né", "\"é\\né\""),
         ("\"a\\u00E9b\\u00e9c\"", true, "aébéc", "\"aébéc\""),
     ];
-    for (text, in_place, content, dump) in &rows {
+    for (text, is_inline, content, dump) in &rows {
         let value = parse(rt.alloc(), text)?;
         match &value {
             JsonValue::Short(short) => {
-                assert!(rt; *in_place, "{text}");
+                assert!(rt; *is_inline, "{text}");
                 assert_eq!(rt; short.as_str(), *content, "{text}");
             }
             JsonValue::String(string) => {
-                assert!(rt; !*in_place, "{text}");
+                assert!(rt; !*is_inline, "{text}");
                 assert_eq!(rt; string.as_str(), *content, "{text}");
             }
             _ => assert!(rt; false, "{text} is no string"),
@@ -378,49 +380,47 @@ fn reads_strings(rt: HostRuntime) -> Result<(), Fail> {
     Ok(())
 }
 
+const ARRAYS_AND_OBJECTS: &[(&str, &str)] = &[
+    ("[]", "[]"),
+    ("{}", "{}"),
+    (" [ \t] ", "[]"),
+    ("{\n}", "{}"),
+    ("[1,true,\"three\"]", "[1,true,\"three\"]"),
+    (" [ 1 , 2 ] ", "[1,2]"),
+    ("[[],[[]],{},[{}]]", "[[],[[]],{},[{}]]"),
+    ("[[1],2]", "[[1],2]"),
+    ("{ \"a\" : 1 , \"b\" : [ null ] }", "{\"a\":1,\"b\":[null]}"),
+    ("{\"a\":{\"b\":{\"c\":-0}}}", "{\"a\":{\"b\":{\"c\":-0}}}"),
+    ("{\"\":0}", "{\"\":0}"),
+    ("{\"\\n\":\"\\t\"}", "{\"\\n\":\"\\t\"}"),
+    (
+        "{ \"foo\": 0, \"bar\": 1, \"foo\": 2 }",
+        "{\"foo\":2,\"bar\":1}",
+    ),
+    ("{\"a\":{\"a\":1},\"a\":[]}", "{\"a\":[]}"),
+    ("{\"a\":1,\"\\u0061\":2}", "{\"a\":2}"),
+    (
+        "{\"b\":1,\"a\":2,\"b\":3,\"c\":4,\"b\":5}",
+        "{\"b\":5,\"a\":2,\"c\":4}",
+    ),
+    (
+        "{\"abcdefghijklmnopqrstuvwxyz0123456\":1,\"abcdefghijklmnopqrstuvwxyz0123456\":2}",
+        "{\"abcdefghijklmnopqrstuvwxyz0123456\":2}",
+    ),
+    (
+        "{\"x\\ty\":\"z\",\"w\":\"\\u0041\"}",
+        "{\"x\\ty\":\"z\",\"w\":\"A\"}",
+    ),
+];
+
 #[test]
 fn reads_arrays_and_objects(rt: HostRuntime) -> Result<(), Fail> {
-    let rows: [(&str, &str); 18] = [
-        ("[]", "[]"),
-        ("{}", "{}"),
-        (" [ \t] ", "[]"),
-        ("{\n}", "{}"),
-        ("[1,true,\"three\"]", "[1,true,\"three\"]"),
-        (" [ 1 , 2 ] ", "[1,2]"),
-        ("[[],[[]],{},[{}]]", "[[],[[]],{},[{}]]"),
-        ("[[1],2]", "[[1],2]"),
-        ("{ \"a\" : 1 , \"b\" : [ null ] }", "{\"a\":1,\"b\":[null]}"),
-        ("{\"a\":{\"b\":{\"c\":-0}}}", "{\"a\":{\"b\":{\"c\":-0}}}"),
-        ("{\"\":0}", "{\"\":0}"),
-        ("{\"\\n\":\"\\t\"}", "{\"\\n\":\"\\t\"}"),
-        (
-            "{ \"foo\": 0, \"bar\": 1, \"foo\": 2 }",
-            "{\"foo\":2,\"bar\":1}",
-        ),
-        ("{\"a\":{\"a\":1},\"a\":[]}", "{\"a\":[]}"),
-        ("{\"a\":1,\"\\u0061\":2}", "{\"a\":2}"),
-        (
-            "{\"b\":1,\"a\":2,\"b\":3,\"c\":4,\"b\":5}",
-            "{\"b\":5,\"a\":2,\"c\":4}",
-        ),
-        (
-            "{\"abcdefghijklmnopqrstuvwxyz0123456\":1,\"abcdefghijklmnopqrstuvwxyz0123456\":2}",
-            "{\"abcdefghijklmnopqrstuvwxyz0123456\":2}",
-        ),
-        (
-            "{\"x\\ty\":\"z\",\"w\":\"\\u0041\"}",
-            "{\"x\\ty\":\"z\",\"w\":\"A\"}",
-        ),
-    ];
-    for (text, dump) in rows {
-        expect_read(&rt, rt.alloc(), text, dump)?;
-    }
-    Ok(())
+    expect_each_read(&rt, rt.alloc(), ARRAYS_AND_OBJECTS)
 }
 
 #[test]
 fn reads_512_open_containers(rt: HostRuntime) -> Result<(), Fail> {
-    // what opens and closes so many times, the value inside, and its dump
+    // the brackets, how many of each, the value inside, and its dump
     let rows: [(&str, &str, usize, &str, &str); 5] = [
         ("[", "]", 512, "null", "null"),
         ("[{\"a\":", "}]", 256, "null", "null"),
@@ -442,7 +442,7 @@ fn reads_512_open_containers(rt: HostRuntime) -> Result<(), Fail> {
 }
 
 #[test]
-fn refuses_another_open_container(rt: HostRuntime) -> Result<(), Fail> {
+fn rejects_another_open_container(rt: HostRuntime) -> Result<(), Fail> {
     let rows: [([(&str, usize); 3], &str); 11] = [
         (
             [("[", 513), ("null", 1), ("]", 513)],
@@ -471,14 +471,14 @@ fn refuses_another_open_container(rt: HostRuntime) -> Result<(), Fail> {
             "Unexpected character: x at (1:513)",
         ),
     ];
-    for (parts, words) in &rows {
+    for (parts, message) in &rows {
         let text = joined(rt.alloc(), parts)?;
-        expect_refused(&rt, rt.alloc(), text.as_str(), words)?;
+        expect_rejected(&rt, rt.alloc(), text.as_str(), message)?;
     }
     Ok(())
 }
 
-/// What a caller's proof knows of what is read and printed: the printed text is read again, as a value that prints this text.
+/// A caller's proof knows that the printed text is read again, as a value that prints this text.
 fn printed_again(alloc: Global, text: &str) -> jzon::Result<String>
     ensures { IfOk result (λ printed. IsReadAs usual (string_bytes printed) (λ v. compact v ≡ string_bytes printed)) }
 {

@@ -1,4 +1,4 @@
-//! Values that the tests take, and what they expect.
+//! Values and comparisons that the tests share.
 
 use jzon_base::error::Result;
 use jzon_base::number::Number;

@@ -1,4 +1,4 @@
-//! What turns into a value.
+//! What can be converted into a value.
 
 use crate::common::Tested;
 use jzon_base::number::{NAN, Number};
@@ -19,7 +19,7 @@ fn expect_dump<T: IntoJson>(rt: &impl Abort, alloc: Global, source: T, text: &st
 }
 
 #[test]
-fn turns_integers(rt: HostRuntime) -> Tested {
+fn converts_integers(rt: HostRuntime) -> Tested {
     let alloc = rt.alloc();
     expect_dump(&rt, alloc, 255u8, "255")?;
     expect_dump(&rt, alloc, 65535u16, "65535")?;
@@ -39,7 +39,7 @@ fn turns_integers(rt: HostRuntime) -> Tested {
 }
 
 #[test]
-fn turns_what_takes_no_memory(rt: HostRuntime) -> Tested {
+fn converts_without_allocating(rt: HostRuntime) -> Tested {
     let alloc = rt.alloc();
     expect_dump(&rt, alloc, true, "true")?;
     expect_dump(
@@ -53,14 +53,14 @@ fn turns_what_takes_no_memory(rt: HostRuntime) -> Tested {
     expect_dump(&rt, alloc, JsonValue::Boolean(false), "false")
 }
 
-/// It is a text that is kept so.
+/// It is this string, kept inline where it is short.
 fn expect_kept(rt: &impl Abort, value: &JsonValue, is_short: bool, text: &str) {
     assert_eq!(rt; matches!(value, JsonValue::Short(_)), is_short);
     assert_eq!(rt; value.as_str(), Some(text));
 }
 
 #[test]
-fn keeps_short_texts_in_place(rt: HostRuntime) -> Tested {
+fn keeps_short_strings_inline(rt: HostRuntime) -> Tested {
     let alloc = rt.alloc();
     expect_kept(&rt, &THIRTY.into_json(alloc)?, true, THIRTY);
     expect_kept(&rt, &THIRTY_ONE.into_json(alloc)?, false, THIRTY_ONE);
@@ -70,7 +70,7 @@ fn keeps_short_texts_in_place(rt: HostRuntime) -> Tested {
 }
 
 #[test]
-fn turns_lists(rt: HostRuntime) -> Tested {
+fn converts_lists(rt: HostRuntime) -> Tested {
     let alloc = rt.alloc();
     expect_dump(&rt, alloc, None::<u8>, "null")?;
     expect_dump(&rt, alloc, Some("a"), "\"a\"")?;
@@ -84,7 +84,7 @@ fn turns_lists(rt: HostRuntime) -> Tested {
 }
 
 #[test]
-fn turns_maps(rt: HostRuntime) -> Tested {
+fn converts_maps(rt: HostRuntime) -> Tested {
     let alloc = rt.alloc();
     let mut map = BTreeMap::new(alloc);
     map.insert("name", "Maciej".into_json(alloc)?)?;
@@ -97,7 +97,7 @@ fn turns_maps(rt: HostRuntime) -> Tested {
 }
 
 #[test]
-fn turns_hash_maps(rt: HostRuntime) -> Tested {
+fn converts_hash_maps(rt: HostRuntime) -> Tested {
     let alloc = rt.alloc();
     let mut map = HashMap::new(alloc);
     map.insert("b", Some(2u8))?;
@@ -109,7 +109,7 @@ fn turns_hash_maps(rt: HostRuntime) -> Tested {
 }
 
 #[test]
-fn turns_hash_maps_of_texts(rt: HostRuntime) -> Tested {
+fn converts_hash_maps_of_strings(rt: HostRuntime) -> Tested {
     let alloc = rt.alloc();
     let mut map = HashMap::new(alloc);
     map.insert(String::from_str(alloc, THIRTY_ONE)?, true)?;
@@ -118,7 +118,7 @@ fn turns_hash_maps_of_texts(rt: HostRuntime) -> Tested {
 }
 
 #[test]
-fn puts_pairs(rt: HostRuntime) -> Tested {
+fn puts_entries(rt: HostRuntime) -> Tested {
     let alloc = rt.alloc();
     let pairs = [("a", 1u8), ("b", 2), ("a", 3), ("c", 4), ("b", 5)];
     let object = Object::from_pairs(alloc, pairs.into_iter())?;

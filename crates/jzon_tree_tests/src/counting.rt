@@ -1,4 +1,4 @@
-//! A generator of a user's own that overrides `write` and `write_char`, to count.
+//! A user's own generator that overrides `write` and `write_char`, to count.
 
 ghost use Rattle.std.specs.Prelude.{◌≡◌};
 
@@ -11,7 +11,7 @@ use std::alloc::Global;
 use std::io;
 use std::process::Abort;
 
-/// Counts the bytes that a compact generator is given, but for those that its writer is given past it.
+/// Counts the bytes that are passed to a generator, but not those that go to its writer directly.
 #[derive(Drop)]
 struct Counting<G: Generator> {
     inner: G,

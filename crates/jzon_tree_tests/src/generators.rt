@@ -1,4 +1,4 @@
-//! Layouts of a user's own, and the orders of generators.
+//! A user's own layout, and the orders of generators.
 
 ghost use Rattle.std.specs.Prelude.{◌≡◌, length, true, IfOk};
 ghost use Rattle.jzon_base.specs.PairList.{keys_of};
@@ -8,7 +8,7 @@ ghost use Rattle.jzon_tree.specs.StyleLaws.{IsStyle-any};
 ghost use Rattle.jzon_tree.specs.Writing.{any_style, IsOrder};
 
 use crate::common::{Tested, expect_bytes};
-use jzon_test_support::{MOST, Refusals, SlowWriter, Trouble};
+use jzon_test_support::{RUNS_MAX, Refusals, SlowWriter, Trouble};
 use jzon_tree::codegen::{
     DumpGenerator, Generator, Layout, PrettyGenerator, PrettyWriterGenerator, TextGenerator,
     WriterGenerator, write_object,
@@ -71,26 +71,26 @@ fn unsorted(alloc: Global) -> jzon_base::error::Result<Object> {
 
 const SORTED: &str = "{\"a\":null,\"b\":null,\"c\":null}";
 
-/// Each request is refused in turn, the ones of `order` first.
+/// Each allocation fails in turn, those of `order` first.
 #[test]
 fn sorting_under_refusals(rt: HostRuntime) -> Tested {
     let object = unsorted(rt.alloc())?;
     let mut refusals = Refusals::new(rt.alloc());
-    for _ in 0..MOST {
+    for _ in 0..RUNS_MAX {
         let alloc = rt.alloc();
         let mut generator = TextGenerator::in_memory(alloc, Sorting { alloc });
         refusals.begin();
-        let answer = write_object(&mut generator, &object);
-        if !refusals.was_refused() {
-            assert!(rt; answer.is_ok());
+        let result = write_object(&mut generator, &object);
+        if !refusals.has_failed() {
+            assert!(rt; result.is_ok());
             expect_bytes(&rt, generator.get_writer(), SORTED);
             break;
         }
-        assert!(rt; answer.is_err());
+        assert!(rt; result.is_err());
         assert_eq!(rt; generator.faults(), 1);
         assert!(rt; SORTED.as_bytes().starts_with(generator.get_writer()));
     }
-    refusals.tell(&rt, "Sorting", 2)?;
+    refusals.report(&rt, "Sorting", 2)?;
     Ok(())
 }
 
@@ -109,13 +109,13 @@ fn propagates_the_error_of_the_writer_in_a_layout(rt: HostRuntime) -> Tested {
     let alloc = rt.alloc();
     let value = JsonValue::Object(unsorted(alloc)?);
     let mut writer = SlowWriter::new(alloc, 6, Trouble::Fails(ErrorKind::BrokenPipe));
-    let answer = value.write_layout(&mut writer, Sorting { alloc });
-    assert!(rt; answer.is_err_and(|error| error.kind() == ErrorKind::BrokenPipe));
+    let result = value.write_layout(&mut writer, Sorting { alloc });
+    assert!(rt; result.is_err_and(|error| error.kind() == ErrorKind::BrokenPipe));
     expect_bytes(&rt, &writer.bytes, "{\"a\":");
     Ok(())
 }
 
-/// A caller knows the answer before it looks at it.
+/// A caller's proof knows the order.
 fn dump_keeps_the_order(alloc: Global, object: &Object) -> bool
     ensures { result ≡ true }
 {

@@ -1,4 +1,4 @@
-//! Tests of `jzon_tree` by its public items alone, but for those of `jzon_tests`, which read what they take from texts.
+//! Tests of `jzon_tree` by its public items alone. Those that parse their values are in `jzon_tests`.
 #![tactic(auto)]
 
 #[cfg(test)]

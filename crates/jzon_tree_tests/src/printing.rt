@@ -51,7 +51,7 @@ fn expect_compact(rt: &impl Abort, alloc: Global, value: &JsonValue, text: &str)
     expect_layout(rt, alloc, value, Compact, text)
 }
 
-/// Each call prints this text of the value, with so many spaces for each open container.
+/// Each call prints this text of the value, with `spaces` spaces for each open container.
 fn expect_pretty(
     rt: &impl Abort,
     alloc: Global,
@@ -138,7 +138,7 @@ fn writes_the_rest_escaped_to_a_writer(rt: HostRuntime) -> Tested {
 }
 
 #[test]
-fn refuses_an_indent(rt: HostRuntime) {
+fn fails_at_an_indent_too_many(rt: HostRuntime) {
     let mut generator = DumpGenerator::new(rt.alloc());
     generator.set_dent(u64::MAX);
     assert!(rt; generator.indent().is_err());

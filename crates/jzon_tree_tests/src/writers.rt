@@ -16,18 +16,18 @@ fn broken_at(alloc: Global, call: usize) -> SlowWriter {
     SlowWriter::new(alloc, call, Trouble::Fails(ErrorKind::BrokenPipe))
 }
 
-/// The answer is the fault of the writer.
-fn is_broken(answer: io::Result<()>) -> bool {
-    answer.is_err_and(|error| error.kind() == ErrorKind::BrokenPipe)
+/// It is the writer's error.
+fn is_broken(outcome: io::Result<()>) -> bool {
+    outcome.is_err_and(|error| error.kind() == ErrorKind::BrokenPipe)
 }
 
 #[test]
-fn hands_the_fault_of_an_object_back(rt: HostRuntime) -> Tested {
+fn returns_the_error_of_an_object(rt: HostRuntime) -> Tested {
     let mut object = Object::new(rt.alloc());
     object.insert(rt.alloc(), "a", JsonValue::Null)?;
     let mut writer = broken_at(rt.alloc(), 3);
-    let answer = write_object(&mut WriterGenerator::new(&mut writer), &object);
-    assert!(rt; is_broken(answer));
+    let result = write_object(&mut WriterGenerator::new(&mut writer), &object);
+    assert!(rt; is_broken(result));
     expect_bytes(&rt, &writer.bytes, "{\"");
     Ok(())
 }

@@ -4,19 +4,19 @@
 use crate::engine;
 use crate::engine::{Layout, RunFault};
 use crate::tests::usual;
-use jzon_test_support::{DOCUMENT, DUMP, MOST, Refusals};
+use jzon_test_support::{DOCUMENT, DUMP, RUNS_MAX, Refusals};
 use std::test::Fail;
 
 #[test]
 fn run_under_refusals(rt: HostRuntime) -> Result<(), Fail> {
     let alloc = rt.alloc();
     let mut refusals = Refusals::new(alloc);
-    for _ in 0..MOST {
+    for _ in 0..RUNS_MAX {
         let mut reader = DOCUMENT.as_bytes();
         let mut writer: Vec<u8> = Vec::with_capacity(alloc, 256)?;
         refusals.begin();
         let result = engine::run(alloc, &mut reader, &mut writer, &usual(), Layout::Compact);
-        if refusals.was_refused() {
+        if refusals.has_failed() {
             assert!(rt; matches!(result, Err(RunFault::Memory)));
             assert!(rt; writer.is_empty());
         } else {
@@ -25,7 +25,7 @@ fn run_under_refusals(rt: HostRuntime) -> Result<(), Fail> {
             break;
         }
     }
-    refusals.tell(&rt, "run_under_refusals", 9)?;
+    refusals.report(&rt, "run_under_refusals", 9)?;
     Ok(())
 }
 
@@ -33,13 +33,13 @@ fn run_under_refusals(rt: HostRuntime) -> Result<(), Fail> {
 fn drive_under_refusals(rt: HostRuntime) -> Result<(), Fail> {
     let alloc = rt.alloc();
     let mut refusals = Refusals::new(alloc);
-    for _ in 0..MOST {
+    for _ in 0..RUNS_MAX {
         let mut reader: &[u8] = b"-12.50e3";
         let mut writer: Vec<u8> = Vec::with_capacity(alloc, 64)?;
         let mut faults: Vec<u8> = Vec::with_capacity(alloc, 64)?;
         refusals.begin();
         let status = engine::drive(alloc, &[], &mut reader, &mut writer, &mut faults);
-        if refusals.was_refused() {
+        if refusals.has_failed() {
             assert_eq!(rt; status, 3);
             assert_eq!(rt; faults.as_slice(), b"jzonfmt: Out of memory\n".as_slice());
             assert!(rt; writer.is_empty());
@@ -50,6 +50,6 @@ fn drive_under_refusals(rt: HostRuntime) -> Result<(), Fail> {
             break;
         }
     }
-    refusals.tell(&rt, "drive_under_refusals", 3)?;
+    refusals.report(&rt, "drive_under_refusals", 3)?;
     Ok(())
 }

@@ -1,4 +1,4 @@
-//! The program's lines and statuses, and readers and writers that fail.
+//! The program's output and statuses, and readers and writers that fail.
 
 ghost use Rattle.std.specs.Prelude.{Some};
 
@@ -6,7 +6,8 @@ use crate::engine;
 use crate::engine::{Layout, RunFault};
 use jzon::{Error, Reading};
 use jzon_test_support::{
-    DOCUMENT, NEVER, SlowWriter, Trouble, joined, keys_by_hash, keys_of_one_hash, object_text,
+    DOCUMENT, NO_FAILING_CALL, SlowWriter, Trouble, joined, keys_by_hash, keys_of_one_hash,
+    object_text,
 };
 use std::alloc::Global;
 use std::io;
@@ -53,7 +54,8 @@ impl Read for FailingReader {
     }
 }
 
-/// The words that follow the program's name, with a comma between them, the input, the status, and what is written on both sides.
+/// The arguments, with a comma between them, the input, the status, and what is written to standard output and to
+/// standard error.
 #[derive(Drop)]
 struct Row {
     words: Option<&'static str>,
@@ -73,7 +75,7 @@ fn done(input: &'static [u8], output: &'static str) -> Row {
     }
 }
 
-fn refused(input: &'static [u8], faults: &'static str) -> Row {
+fn rejected(input: &'static [u8], faults: &'static str) -> Row {
     Row {
         words: None,
         input,
@@ -118,7 +120,7 @@ pub(crate) fn usual() -> Reading {
     Reading::new(false, 512).unwrap()
 }
 
-/// What the program answers to the row's words and input is the row's.
+/// With the row's arguments and input the program gives the row's status and output.
 fn expect_row(rt: &impl Abort, alloc: Global, row: &Row) -> Result<(), Fail> {
     let words = words_of(alloc, row.words)?;
     let mut reader = row.input;
@@ -128,7 +130,7 @@ fn expect_row(rt: &impl Abort, alloc: Global, row: &Row) -> Result<(), Fail> {
     assert_eq!(rt; str::from_utf8(&faults)?, row.faults);
     assert_eq!(rt; status, row.status);
     assert_eq!(rt; str::from_utf8(&writer)?, row.output);
-    // Words are judged before anything is read.
+    // Arguments are tested before anything is read.
     let left = if row.status == 2 { row.input.len() } else { 0 };
     assert_eq!(rt; reader.len(), left);
     Ok(())
@@ -147,20 +149,20 @@ fn lines_and_statuses(rt: HostRuntime) -> Result<(), Fail> {
             "[1,[2,{\"b\":[]}],\"three\"]\n",
         ),
         done(b"18446744073709551615.5", "18446744073709551615\n"),
-        refused(b"", "jzonfmt: Unexpected end of JSON\n"),
-        refused(b"  ", "jzonfmt: Unexpected end of JSON\n"),
-        refused(b"tru", "jzonfmt: Unexpected end of JSON\n"),
-        refused(b"01", "jzonfmt: Unexpected character: 1 at (1:2)\n"),
-        refused(b"\n\nnulX\n", "jzonfmt: Unexpected character: X at (3:4)\n"),
-        refused(b"\xff", "jzonfmt: input is not UTF-8\n"),
-        refused(b"x\xc3", "jzonfmt: input is not UTF-8\n"),
-        refused(b"null\xed\xa0\x80", "jzonfmt: input is not UTF-8\n"),
-        refused(b"[\n}", "jzonfmt: Unexpected character: } at (2:1)\n"),
-        refused(
+        rejected(b"", "jzonfmt: Unexpected end of JSON\n"),
+        rejected(b"  ", "jzonfmt: Unexpected end of JSON\n"),
+        rejected(b"tru", "jzonfmt: Unexpected end of JSON\n"),
+        rejected(b"01", "jzonfmt: Unexpected character: 1 at (1:2)\n"),
+        rejected(b"\n\nnulX\n", "jzonfmt: Unexpected character: X at (3:4)\n"),
+        rejected(b"\xff", "jzonfmt: input is not UTF-8\n"),
+        rejected(b"x\xc3", "jzonfmt: input is not UTF-8\n"),
+        rejected(b"null\xed\xa0\x80", "jzonfmt: input is not UTF-8\n"),
+        rejected(b"[\n}", "jzonfmt: Unexpected character: } at (2:1)\n"),
+        rejected(
             b"\n\nnul\xf0\x9f\xa6\x84\n",
             "jzonfmt: Unexpected character: 🦄 at (3:4)\n",
         ),
-        refused(
+        rejected(
             b"[\"\\uDC00\\uDC00\"}",
             "jzonfmt: Failed to parse UTF-8 bytes\n",
         ),
@@ -233,18 +235,18 @@ fn reads_strictly(rt: HostRuntime) -> Result<(), Fail> {
     Ok(())
 }
 
-/// What `run` answers to the input, and what it writes.
+/// What `run` returns for the input, and what it writes.
 fn ran(alloc: Global, input: &[u8]) -> (Result<(), RunFault>, Vec<u8>) {
     let mut reader = input;
     let mut writer: Vec<u8> = Vec::new(alloc);
-    let answer = engine::run(alloc, &mut reader, &mut writer, &usual(), Layout::Compact);
-    (answer, writer)
+    let result = engine::run(alloc, &mut reader, &mut writer, &usual(), Layout::Compact);
+    (result, writer)
 }
 
 /// `run` prints this text of the input, and a newline.
 fn expect_printed(rt: &impl Abort, alloc: Global, input: &str, text: &str) -> Result<(), Fail> {
-    let (answer, written) = ran(alloc, input.as_bytes());
-    assert!(rt; answer.is_ok());
+    let (result, written) = ran(alloc, input.as_bytes());
+    assert!(rt; result.is_ok());
     assert_eq!(rt; str::from_utf8(&written)?.strip_suffix('\n'), Some(text));
     Ok(())
 }
@@ -254,9 +256,9 @@ fn every_prefix_of_a_document_ends_early(rt: HostRuntime) -> Result<(), Fail> {
     let document = DOCUMENT.as_bytes();
     assert_eq!(rt; document.len(), 48);
     for length in 0..document.len() {
-        let (answer, written) = ran(rt.alloc(), &document[..length]);
+        let (result, written) = ran(rt.alloc(), &document[..length]);
         assert!(rt;
-            matches!(answer, Err(RunFault::Json(Error::UnexpectedEndOfJson))),
+            matches!(result, Err(RunFault::Json(Error::UnexpectedEndOfJson))),
             "{length} bytes"
         );
         assert!(rt; written.is_empty());
@@ -299,7 +301,7 @@ fn prints_hostile_keys(rt: HostRuntime) -> Result<(), Fail> {
 }
 
 #[test]
-fn refuses_what_exceeds_the_limits(rt: HostRuntime) -> Result<(), Fail> {
+fn rejects_what_exceeds_the_limits(rt: HostRuntime) -> Result<(), Fail> {
     let alloc = rt.alloc();
     let rows = [
         ("8", "0", 32786, "", 0),
@@ -353,13 +355,13 @@ fn a_reader_fails_at_each_call(rt: HostRuntime) -> Result<(), Fail> {
             let mut writer: Vec<u8> = Vec::new(alloc);
             match engine::run(alloc, &mut reader, &mut writer, &usual(), Layout::Compact) {
                 Err(RunFault::Read(error)) => assert_eq!(rt; error.kind(), kind),
-                _ => assert!(rt; false, "no fault of the reader at call {call}"),
+                _ => assert!(rt; false, "no error of the reader at call {call}"),
             }
             assert_eq!(rt; reader.calls, call);
             assert!(rt; writer.is_empty());
         }
     }
-    let mut reader = FailingReader::new(TEXT, NEVER, ErrorKind::Other);
+    let mut reader = FailingReader::new(TEXT, NO_FAILING_CALL, ErrorKind::Other);
     let mut writer: Vec<u8> = Vec::new(alloc);
     assert!(rt; engine::run(alloc, &mut reader, &mut writer, &usual(), Layout::Compact).is_ok());
     assert_eq!(rt; writer.as_slice(), PRINTED);
@@ -384,20 +386,20 @@ fn a_writer_fails_at_each_call(rt: HostRuntime) -> Result<(), Fail> {
                         assert_eq!(rt; error.kind(), kind);
                     }
                 }
-                _ => assert!(rt; false, "no fault of the writer at call {call}"),
+                _ => assert!(rt; false, "no error of the writer at call {call}"),
             }
             assert_eq!(rt; writer.calls, call);
             assert_eq!(rt; writer.bytes.as_slice(), &PRINTED[..call - 1]);
         }
     }
     let mut reader = TEXT;
-    let mut writer = SlowWriter::new(alloc, NEVER, Trouble::TakesNothing);
+    let mut writer = SlowWriter::new(alloc, NO_FAILING_CALL, Trouble::TakesNothing);
     assert!(rt; engine::run(alloc, &mut reader, &mut writer, &usual(), Layout::Compact).is_ok());
     assert_eq!(rt; writer.bytes.as_slice(), PRINTED);
     Ok(())
 }
 
-/// A writer fails behind what is held, too.
+/// A writer fails after what was buffered, too.
 #[test]
 fn writes_texts_longer_than_the_buffer(rt: HostRuntime) -> Result<(), Fail> {
     let alloc = rt.alloc();
@@ -429,10 +431,10 @@ fn writes_texts_longer_than_the_buffer(rt: HostRuntime) -> Result<(), Fail> {
 }
 
 #[test]
-fn drive_tells_of_a_reader_that_fails(rt: HostRuntime) -> Result<(), Fail> {
+fn drive_reports_a_reader_that_fails(rt: HostRuntime) -> Result<(), Fail> {
     let alloc = rt.alloc();
     let mut reader = FailingReader::new(TEXT, 3, ErrorKind::IsADirectory);
-    let mut writer = SlowWriter::new(alloc, NEVER, Trouble::TakesNothing);
+    let mut writer = SlowWriter::new(alloc, NO_FAILING_CALL, Trouble::TakesNothing);
     let mut faults: Vec<u8> = Vec::new(alloc);
     let status = engine::drive(alloc, &[], &mut reader, &mut writer, &mut faults);
     assert_eq!(rt; status, 3);
@@ -442,7 +444,7 @@ fn drive_tells_of_a_reader_that_fails(rt: HostRuntime) -> Result<(), Fail> {
 }
 
 #[test]
-fn drive_tells_of_a_writer_that_fails(rt: HostRuntime) -> Result<(), Fail> {
+fn drive_reports_a_writer_that_fails(rt: HostRuntime) -> Result<(), Fail> {
     let alloc = rt.alloc();
     let mut reader = TEXT;
     let mut writer = SlowWriter::new(alloc, 3, Trouble::Fails(ErrorKind::StorageFull));
@@ -460,7 +462,7 @@ fn drive_flushes_what_it_wrote(rt: HostRuntime) -> Result<(), Fail> {
     let alloc = rt.alloc();
     for (can_flush, status, line) in [(true, 0, ""), (false, 3, "jzonfmt: writing failed\n")] {
         let mut reader = TEXT;
-        let mut writer = SlowWriter::new(alloc, NEVER, Trouble::TakesNothing);
+        let mut writer = SlowWriter::new(alloc, NO_FAILING_CALL, Trouble::TakesNothing);
         writer.can_flush = can_flush;
         let mut faults: Vec<u8> = Vec::new(alloc);
         assert_eq!(rt;
@@ -475,7 +477,7 @@ fn drive_flushes_what_it_wrote(rt: HostRuntime) -> Result<(), Fail> {
 }
 
 #[test]
-fn a_fault_of_the_line_is_passed_over(rt: HostRuntime) -> Result<(), Fail> {
+fn a_failed_message_is_ignored(rt: HostRuntime) -> Result<(), Fail> {
     let alloc = rt.alloc();
     for (words, input, status) in [
         (None, b"tru", 1),

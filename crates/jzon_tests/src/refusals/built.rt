@@ -1,4 +1,4 @@
-//! Values that are built of other things.
+//! Values that are made of others.
 
 use super::*;
 use jzon::IntoJson;
@@ -37,7 +37,7 @@ fn hash_map(alloc: Global) -> Result<JsonValue> {
     map.into_json(alloc)
 }
 
-fn value(alloc: Global) -> Result<JsonValue> {
+fn value_of_macro(alloc: Global) -> Result<JsonValue> {
     Ok(jzon::value!(alloc; [LONG_TEXT, null]))
 }
 
@@ -57,14 +57,14 @@ fn wrong_type(alloc: Global) -> Result<JsonValue> {
 }
 
 impl Call for Built {
-    fn call(self, lent: &mut JsonValue, alloc: Global) -> Result<()> {
-        *lent = match self {
+    fn call(self, value: &mut JsonValue, alloc: Global) -> Result<()> {
+        *value = match self {
             Built::From => jzon::from(alloc, LONG_TEXT)?,
             Built::Texts => texts(alloc)?,
             Built::Slice => [LONG_TEXT, ""].as_slice().into_json(alloc)?,
             Built::Map => map(alloc)?,
             Built::HashMap => hash_map(alloc)?,
-            Built::Value => value(alloc)?,
+            Built::Value => value_of_macro(alloc)?,
             Built::Array => array(alloc)?,
             Built::Object => object(alloc)?,
             Built::Stringify => JsonValue::String(jzon::stringify(
@@ -77,7 +77,7 @@ impl Call for Built {
                 2,
             )?),
             Built::WrongType => wrong_type(alloc)?,
-            Built::Short => JsonValue::String(Short::from_slice("in place").into_string(alloc)?),
+            Built::Short => JsonValue::String(Short::from_slice("inline").into_string(alloc)?),
         };
         Ok(())
     }
@@ -96,7 +96,7 @@ fn built_under_refusals(rt: HostRuntime) -> Tested {
         ),
         case(
             Built::Texts,
-            "into_json of texts",
+            "into_json of strings",
             "null",
             "[\"abcdefghijklmnopqrstuvwxyz01234\",\"\",\"abcdefghijklmnopqrstuvwxyz01234\"]",
             4,
@@ -140,16 +140,10 @@ fn built_under_refusals(rt: HostRuntime) -> Tested {
             2,
         ),
         case(Built::WrongType, "wrong_type", "null", "\"Array\"", 1),
-        case(
-            Built::Short,
-            "Short::into_string",
-            "null",
-            "\"in place\"",
-            1,
-        ),
+        case(Built::Short, "Short::into_string", "null", "\"inline\"", 1),
     ];
     for row in &rows {
-        refuse(&rt, rt.alloc(), row)?;
+        fail_each(&rt, rt.alloc(), row)?;
     }
     Ok(())
 }

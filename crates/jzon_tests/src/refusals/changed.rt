@@ -19,7 +19,7 @@ enum Changed {
     TakeString,
 }
 
-/// That the kind was wrong is no refusal of memory.
+/// A wrong kind is reported where no allocation failed.
 fn passed_over(answer: Result<()>) -> Result<()> {
     match answer {
         Err(Error::WrongType(_)) => Ok(()),
@@ -42,7 +42,7 @@ fn take_string(value: &mut JsonValue, alloc: Global) -> Result<()> {
     Ok(())
 }
 
-/// What is lent isn't kept.
+/// The reference isn't used.
 fn at_mut(value: &mut JsonValue, alloc: Global) -> Result<()> {
     value.at_mut(alloc, LONG_KEY)?;
     Ok(())
@@ -72,7 +72,7 @@ impl Call for Changed {
     }
 }
 
-/// The buffer of the escapes grows, and then the value's own memory is asked for.
+/// The buffer for the escapes grows, and then the value is allocated.
 const ESCAPED: &str = "\"\\u00e9 and a text of more than thirty bytes\\n\\uD834\\uDD1E\"";
 
 const UNESCAPED: &str = "\"é and a text of more than thirty bytes\\n\u{1d11e}\"";
@@ -85,7 +85,7 @@ const TEN_KEYS: &str =
 const REPEATED: &str =
     "{\"a\":1,\"b\":1,\"c\":2,\"d\":3,\"e\":4,\"f\":5,\"g\":6,\"h\":7,\"i\":8,\"j\":9,\"a\":0}";
 
-/// The second object gets room for as many entries as the first one had.
+/// The second object is allocated for as many entries as the first one has.
 const ALIKE: &str = "[{\"a\":[1,2]},{\"a\":[3,4]}]";
 
 const KEYED: &str = "{\"0123456789abcdef0123456789abcdef01234567\":null}";
@@ -96,7 +96,7 @@ fn changed_under_refusals(rt: HostRuntime) -> Tested {
         case(Changed::Parse(DOCUMENT), "parse", "null", DUMP, 6),
         case(
             Changed::Parse(ESCAPED),
-            "parse of a long text",
+            "parse of a long string",
             "null",
             UNESCAPED,
             2,
@@ -117,7 +117,7 @@ fn changed_under_refusals(rt: HostRuntime) -> Tested {
         ),
         case(
             Changed::Parse(ALIKE),
-            "parse of items that are alike",
+            "parse of elements that are alike",
             "null",
             ALIKE,
             10,
@@ -147,7 +147,7 @@ fn changed_under_refusals(rt: HostRuntime) -> Tested {
         case(Changed::Push, "push", "[]", "[true]", 1),
         case(
             Changed::PushLongText,
-            "push of a long text",
+            "push of a long string",
             "[]",
             "[\"abcdefghijklmnopqrstuvwxyz01234\"]",
             2,
@@ -186,13 +186,13 @@ fn changed_under_refusals(rt: HostRuntime) -> Tested {
         case(
             Changed::TakeString,
             "take_string",
-            "\"in place\"",
-            "\"in place\"",
+            "\"inline\"",
+            "\"inline\"",
             1,
         ),
     ];
     for row in &rows {
-        refuse(&rt, rt.alloc(), row)?;
+        fail_each(&rt, rt.alloc(), row)?;
     }
     Ok(())
 }

@@ -1,4 +1,4 @@
-//! Objects, and what they lend.
+//! Objects, and the references that they return.
 
 use super::*;
 use jzon::lent::{write_at, write_at_index};
@@ -99,15 +99,15 @@ fn objects_under_refusals(rt: HostRuntime) -> Tested {
             1,
         ),
         case(
-            OfObject::Key("in place"),
+            OfObject::Key("inline"),
             "Key::into_string",
             "null",
-            "\"in place\"",
+            "\"inline\"",
             1,
         ),
     ];
     for row in &rows {
-        refuse(&rt, rt.alloc(), row)?;
+        fail_each(&rt, rt.alloc(), row)?;
     }
     Ok(())
 }

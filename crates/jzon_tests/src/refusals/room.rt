@@ -1,4 +1,4 @@
-//! What is printed where there is room for it: no request for memory is made.
+//! What is printed into a sink that has room for it: nothing is allocated.
 
 use super::*;
 use crate::writers::PRETTY;
@@ -8,7 +8,7 @@ use std::fmt;
 use std::fmt::Write;
 use std::test::Fail;
 
-/// Memory with the room that it was made with. It grows where that doesn't suffice.
+/// A buffer of a fixed capacity, which grows where that doesn't suffice.
 #[derive(Drop)]
 struct Sink {
     bytes: Vec<u8>,
@@ -53,8 +53,9 @@ impl Print {
 /// A call, its name, the source of the value, and what is printed of it.
 type Row = (Print, &'static str, &'static str, &'static str);
 
-/// The runs of the call on a sink with this much room, with each request refused in turn. A run in which one is refused fails.
-fn refused(
+/// Runs the call on a sink with this much room, with each allocation failing in turn. A run with a failed allocation
+/// fails.
+fn fail_each_of(
     rt: &impl Abort,
     alloc: Global,
     row: Row,
@@ -63,13 +64,13 @@ fn refused(
     let (call, name, source, text) = row;
     let value = parse(alloc, source)?;
     let mut refusals = Refusals::new(alloc);
-    for _ in 0..MOST {
+    for _ in 0..RUNS_MAX {
         let mut sink = Sink {
             bytes: Vec::with_capacity(alloc, room)?,
         };
         refusals.begin();
         let is_printed = call.print(&value, &mut sink);
-        if !refusals.was_refused() {
+        if !refusals.has_failed() {
             assert!(rt; is_printed, "{name}");
             assert_eq!(rt; sink.bytes.as_slice(), text.as_bytes(), "{name}");
             break;
@@ -78,12 +79,12 @@ fn refused(
             !is_printed && text.as_bytes().starts_with(&sink.bytes),
             "{name}"
         );
-        assert_eq!(rt; room, 0, "{name} asks for memory where there is room");
+        assert_eq!(rt; room, 0, "{name} allocates where there is room");
     }
     Ok(refusals)
 }
 
-/// Without room the sink's own requests are refused, which shows that a request is seen; with room there is none.
+/// Without room the sink's own allocations fail, which shows that an allocation is seen; with room there is none.
 #[test]
 fn room_under_refusals(rt: HostRuntime) -> Tested {
     let long = "\"abcdefghijklmnopqrstuvwxyz01234\"";
@@ -98,12 +99,12 @@ fn room_under_refusals(rt: HostRuntime) -> Tested {
             PRETTY,
         ),
         (Print::Display, "Display", DOCUMENT, DUMP),
-        (Print::Display, "Display of a text", long, LONG_TEXT),
+        (Print::Display, "Display of a string", long, LONG_TEXT),
         (Print::Display, "Display of a number", "-12.50e3", "-12500"),
     ];
     for row in rows {
-        refused(&rt, rt.alloc(), row, 0)?.tell(&rt, row.1, 1)?;
-        refused(&rt, rt.alloc(), row, 256)?;
+        fail_each_of(&rt, rt.alloc(), row, 0)?.report(&rt, row.1, 1)?;
+        fail_each_of(&rt, rt.alloc(), row, 256)?;
     }
     Ok(())
 }

@@ -17,9 +17,9 @@ enum Writing {
     WritePretty,
 }
 
-/// What a writer in memory answers: its one error is that memory was refused.
-fn of_memory(answer: io::Result<()>) -> Result<()> {
-    match answer {
+/// The result of a writer in memory, whose one error is a failed allocation.
+fn of_memory(outcome: io::Result<()>) -> Result<()> {
+    match outcome {
         Ok(()) => Ok(()),
         Err(error) if error.kind() == ErrorKind::OutOfMemory => Err(Error::OutOfMemory),
         Err(_) => Err(Error::FailedUtf8Parsing),
@@ -126,7 +126,7 @@ fn written_under_refusals(rt: HostRuntime) -> Tested {
         case(Writing::WritePretty, "write_pretty", NUMBERS, ON_LINES, 1),
     ];
     for row in &rows {
-        refuse(&rt, rt.alloc(), row)?;
+        fail_each(&rt, rt.alloc(), row)?;
     }
     Ok(())
 }
