@@ -136,6 +136,19 @@ impl Keys {
         }
     }
 
+    /// Puts the first key. The error is a failed allocation.
+    #[inline(never)]
+    fn push_first(&mut self, alloc: Global, key: Key) -> Result<(), AllocError>
+        requires { self.old ≡ [] }
+        ensures ok { OnOk result (self.new ≡ key ∷ []) }
+        ensures err { OnErr result (self.new ≡ self.old) }
+    {
+        let mut table = Box::new(alloc, Table::new(alloc))?;
+        table.push(alloc, key)?;
+        self.table = Some(table);
+        Ok(())
+    }
+
     /// Puts a key that is not there, last. The error is a failed allocation.
     pub fn push(&mut self, alloc: Global, name: &str) -> Result<(), AllocError>
         requires { position (λ k. bytes_eq k name.now) self.old ≡ None }
@@ -146,10 +159,7 @@ impl Keys {
         if let Some(table) = &mut self.table {
             return table.push(alloc, key);
         }
-        let mut table = Box::new(alloc, Table::new(alloc))?;
-        table.push(alloc, key)?;
-        self.table = Some(table);
-        Ok(())
+        self.push_first(alloc, key)
     }
 
     /// The position of a key. A missing key is put last, and the result is `None`. The error is a failed allocation, and then nothing has changed.

@@ -13,6 +13,7 @@ mod iter_mut;
 
 use crate::key::Key;
 use crate::keys::Keys;
+use crate::util::fit::reserve_next;
 pub use builder::Builder;
 pub use into_iter::IntoIter;
 pub use iter::Iter;
@@ -173,7 +174,7 @@ impl<V> Pairs<V> {
         ensures ok { OnOk result (self.new ≡ self.old ++ (name.now, value) ∷ []) }
         ensures err { OnErr result (self.new ≡ self.old) }
     {
-        self.values.reserve(1)?;
+        reserve_next(&mut self.values)?;
         self.keys.push(alloc, name)?;
         self.values.push_reserved(value);
         Ok(())

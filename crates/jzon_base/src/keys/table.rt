@@ -13,6 +13,7 @@ use super::hash::hash_of;
 use super::runs::Runs;
 use super::{IntoIter, Iter, index, repeats};
 use crate::key::Key;
+use crate::util::fit::reserve_next;
 use std::alloc::{AllocError, Global};
 use std::marker::Model;
 
@@ -82,19 +83,30 @@ fn fill(alloc: Global, keys: &[Key], index: &mut Runs) -> Result<(), AllocError>
     Ok(())
 }
 
-/// Adds a key that is put after these keys to their index, which is filled first where it is empty and the keys are no longer few. The error is a failed allocation.
-fn add_key(alloc: Global, keys: &[Key], index: &mut Runs, name: &str) -> Result<(), AllocError>
+/// Adds a key that is put after these keys to their index, which is filled first where it is empty. The error is a failed allocation.
+#[inline(never)]
+fn add_entry(alloc: Global, keys: &[Key], index: &mut Runs, name: &str) -> Result<(), AllocError>
     requires { IsIndexed keys.now index.old }
     ensures ok { OnOk result (IsIndexed (keys.now ++ name.now ∷ []) index.new) }
     ensures err { OnErr result (IsIndexed keys.now index.new) }
 {
     if index.is_empty() {
-        if keys.len() < index::LINEAR_MAX {
-            return Ok(());
-        }
         fill(alloc, keys, index)?;
     }
     index.add(alloc, hash_of(name), keys.len())
+}
+
+/// Adds a key that is put after these keys to their index, if they have one or are no longer few. The error is a failed allocation.
+#[inline(always)]
+fn add_key(alloc: Global, keys: &[Key], index: &mut Runs, name: &str) -> Result<(), AllocError>
+    requires { IsIndexed keys.now index.old }
+    ensures ok { OnOk result (IsIndexed (keys.now ++ name.now ∷ []) index.new) }
+    ensures err { OnErr result (IsIndexed keys.now index.new) }
+{
+    if keys.len() < index::LINEAR_MAX && index.is_empty() {
+        return Ok(());
+    }
+    add_entry(alloc, keys, index, name)
 }
 
 impl Table {
@@ -193,12 +205,13 @@ impl Table {
     }
 
     /// Adds a key that is missing, last. The error is a failed allocation.
+    #[inline(always)]
     pub fn push(&mut self, alloc: Global, key: Key) -> Result<(), AllocError>
         requires { position (λ k. bytes_eq k key) self.old ≡ None }
         ensures ok { OnOk result (self.new ≡ self.old ++ key ∷ []) }
         ensures err { OnErr result (self.new ≡ self.old) }
     {
-        self.keys.reserve(1)?;
+        reserve_next(&mut self.keys)?;
         add_key(alloc, self.keys.as_slice(), &mut self.index, key.as_str())?;
         self.keys.push_reserved(key);
         Ok(())
