@@ -169,13 +169,23 @@ impl Keys {
             (self.new ≡ self.old ++ key ∷ []) (λ _. self.new ≡ self.old)) }
         ensures err { OnErr result (self.new ≡ self.old) }
     {
+        self.put(alloc, key.as_str())
+    }
+
+    /// The same, for a key of this name, which is made only where it is missing.
+    pub fn put(&mut self, alloc: Global, name: &str) -> Result<Option<usize>, AllocError>
+        ensures place { IfOk result (λ place. place ≡ position (λ k. bytes_eq k name.now) self.old) }
+        ensures ok { IfOk result (λ place. MatchOption place
+            (self.new ≡ self.old ++ name.now ∷ []) (λ _. self.new ≡ self.old)) }
+        ensures err { OnErr result (self.new ≡ self.old) }
+        ensures missing { OnErr result (position (λ k. bytes_eq k name.now) self.old ≡ None) }
+    {
         if let Some(table) = &mut self.table {
-            return table.place(alloc, key);
+            return table.put(alloc, name);
         }
-        let mut table = Table::new(alloc);
-        let place = table.place(alloc, key)?;
-        self.table = Some(Box::new(alloc, table)?);
-        Ok(place)
+        let key = Key::new(alloc, name)?;
+        self.push_first(alloc, key)?;
+        Ok(None)
     }
 
     /// Removes the key at a position. The others keep their order. Takes no memory.

@@ -109,6 +109,36 @@ fn add_key(alloc: Global, keys: &[Key], index: &mut Runs, name: &str) -> Result<
     add_entry(alloc, keys, index, name)
 }
 
+/// The position of a key by its index. A missing key is put last, and the result is `None`. The error is a failed allocation, and then the keys are those from before.
+#[inline(never)]
+fn put_indexed(
+    alloc: Global,
+    keys: &mut Vec<Key>,
+    index: &mut Runs,
+    name: &str,
+) -> Result<Option<usize>, AllocError>
+    requires distinct { IsDistinct bytes_eq keys.old.items }
+    requires index { IsIndexOf (map hash_of keys.old.items) index.old }
+    ensures place { IfOk result (λ place. place ≡ position (λ k. bytes_eq k name.now) keys.old.items) }
+    ensures ok { IfOk result (λ place. MatchOption place
+        (keys.new.items ≡ keys.old.items ++ name.now ∷ []) (λ _. keys.new.items ≡ keys.old.items)) }
+    ensures index { IsIndexOf (map hash_of keys.new.items) index.new }
+    ensures distinct { IsDistinct bytes_eq keys.new.items }
+    ensures err { OnErr result (keys.new.items ≡ keys.old.items) }
+    ensures missing { OnErr result (position (λ k. bytes_eq k name.now) keys.old.items ≡ None) }
+{
+    let hash = hash_of(name);
+    let guess = match index.search(keys.as_slice(), hash, name) {
+        Ok(position) => return Ok(Some(position)),
+        Err(guess) => guess,
+    };
+    reserve_next(keys)?;
+    let key = Key::new(alloc, name)?;
+    index.add_near(alloc, hash, keys.len(), guess)?;
+    keys.push_reserved(key);
+    Ok(None)
+}
+
 impl Table {
     /// No key. Takes no memory.
     pub fn new(alloc: Global) -> Table
@@ -188,10 +218,7 @@ impl Table {
         ensures { result ≡ position (λ k. bytes_eq k name.now) self.now }
     {
         if self.index.is_empty() {
-            return self
-                .keys
-                .iter()
-                .position(|key| index::are_equal(key.as_str(), name));
+            return index::position(self.keys.as_slice(), name);
         }
         self.index.find(self.keys.as_slice(), hash_of(name), name)
     }
@@ -218,16 +245,21 @@ impl Table {
     }
 
     /// The position of a key. A missing key is put last, and the result is `None`. The error is a failed allocation, and then nothing has changed.
-    pub fn place(&mut self, alloc: Global, key: Key) -> Result<Option<usize>, AllocError>
-        ensures place { IfOk result (λ place. place ≡ position (λ k. bytes_eq k key) self.old) }
+    pub fn put(&mut self, alloc: Global, name: &str) -> Result<Option<usize>, AllocError>
+        ensures place { IfOk result (λ place. place ≡ position (λ k. bytes_eq k name.now) self.old) }
         ensures ok { IfOk result (λ place. MatchOption place
-            (self.new ≡ self.old ++ key ∷ []) (λ _. self.new ≡ self.old)) }
+            (self.new ≡ self.old ++ name.now ∷ []) (λ _. self.new ≡ self.old)) }
         ensures err { OnErr result (self.new ≡ self.old) }
+        ensures missing { OnErr result (position (λ k. bytes_eq k name.now) self.old ≡ None) }
     {
-        let found = self.position(key.as_str());
+        if !self.index.is_empty() {
+            return put_indexed(alloc, &mut self.keys, &mut self.index, name);
+        }
+        let found = index::position(self.keys.as_slice(), name);
         if found.is_some() {
             return Ok(found);
         }
+        let key = Key::new(alloc, name)?;
         self.push(alloc, key)?;
         Ok(None)
     }
