@@ -138,13 +138,13 @@ impl Keys {
 
     /// Puts the first key. The error is a failed allocation.
     #[inline(never)]
-    fn push_first(&mut self, alloc: Global, key: Key) -> Result<(), AllocError>
+    fn push_first(&mut self, alloc: Global, name: &str) -> Result<(), AllocError>
         requires { self.old ≡ [] }
-        ensures ok { OnOk result (self.new ≡ key ∷ []) }
+        ensures ok { OnOk result (self.new ≡ name.now ∷ []) }
         ensures err { OnErr result (self.new ≡ self.old) }
     {
         let mut table = Box::new(alloc, Table::new(alloc))?;
-        table.push(alloc, key)?;
+        table.push(alloc, name)?;
         self.table = Some(table);
         Ok(())
     }
@@ -155,11 +155,10 @@ impl Keys {
         ensures ok { OnOk result (self.new ≡ self.old ++ name.now ∷ []) }
         ensures err { OnErr result (self.new ≡ self.old) }
     {
-        let key = Key::new(alloc, name)?;
         if let Some(table) = &mut self.table {
-            return table.push(alloc, key);
+            return table.push(alloc, name);
         }
-        self.push_first(alloc, key)
+        self.push_first(alloc, name)
     }
 
     /// The position of a key. A missing key is put last, and the result is `None`. The error is a failed allocation, and then nothing has changed.
@@ -183,8 +182,7 @@ impl Keys {
         if let Some(table) = &mut self.table {
             return table.put(alloc, name);
         }
-        let key = Key::new(alloc, name)?;
-        self.push_first(alloc, key)?;
+        self.push_first(alloc, name)?;
         Ok(None)
     }
 

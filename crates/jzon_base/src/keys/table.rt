@@ -233,13 +233,14 @@ impl Table {
 
     /// Adds a key that is missing, last. The error is a failed allocation.
     #[inline(always)]
-    pub fn push(&mut self, alloc: Global, key: Key) -> Result<(), AllocError>
-        requires { position (λ k. bytes_eq k key) self.old ≡ None }
-        ensures ok { OnOk result (self.new ≡ self.old ++ key ∷ []) }
+    pub fn push(&mut self, alloc: Global, name: &str) -> Result<(), AllocError>
+        requires { position (λ k. bytes_eq k name.now) self.old ≡ None }
+        ensures ok { OnOk result (self.new ≡ self.old ++ name.now ∷ []) }
         ensures err { OnErr result (self.new ≡ self.old) }
     {
         reserve_next(&mut self.keys)?;
-        add_key(alloc, self.keys.as_slice(), &mut self.index, key.as_str())?;
+        let key = Key::new(alloc, name)?;
+        add_key(alloc, self.keys.as_slice(), &mut self.index, name)?;
         self.keys.push_reserved(key);
         Ok(())
     }
@@ -259,8 +260,7 @@ impl Table {
         if found.is_some() {
             return Ok(found);
         }
-        let key = Key::new(alloc, name)?;
-        self.push(alloc, key)?;
+        self.push(alloc, name)?;
         Ok(None)
     }
 
