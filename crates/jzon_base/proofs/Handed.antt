@@ -1,6 +1,6 @@
 -- Keys found by hashes that the caller passes, and merged index entries.
 use Rattle.std.proofs.Common.{◌≡◌, ◌≢◌, ℕ, zero, suc, ◌+◌, ◌-◌, ◌<◌, ◌≤◌, Bool, true, false, ◌&&◌, ltb, eqb}
-use Rattle.std.proofs.Common.{◌||◌, List}
+use Rattle.std.proofs.Common.{◌||◌, List, Result, Ok, Err, IfOk, is_ok}
 use Rattle.std.proofs.Common.{[], ◌∷◌, ◌++◌, length, get_or, map, filter, Option, None, Some, take, take_all, refl}
 use Rattle.std.proofs.Common.{sym, ap, ◌∙◌}
 use Rattle.std.proofs.Common.{subst, inl, inr, arith, add-zero, zero-add, append_assoc}
@@ -17,6 +17,7 @@ use Rattle.std.proofs.lemmas.Bool.{cases_Bool, false≢true, eq-eqb, ne_eqb, lt-
 use Rattle.std.specs.List.{All, flat_map, position, remove, IsDistinct, list_any}
 use Rattle.std.specs.List.Sorted.{IsPermutation, IsNonDecreasingBy}
 use Rattle.std.specs.Option.{is_some}
+use Rattle.std.specs.Result.{result_ok}
 use Rattle.std.specs.Str.{bytes_eq}
 use Rattle.std.specs.Prelude.{IfSome}
 use Rattle.jzon_base.specs.Private.Handed.{numbered, is_at, is_found, AreHanded, IsIndexOf}
@@ -160,6 +161,14 @@ found_place hs ks ps h name None index handed distinct here any =
           absurd (false≢true (any ∙ sym (list_any-IsPermutation (is_found ks h name) (numbered 0 hs) ps index.whole)
           ∙ list_any_at (is_found ks h name) (numbered 0 hs) i (0, 0) (omega (arith, length-numbered 0 hs)) it)))
     ]))
+
+pub some_from_ok : (r : Result ℕ ℕ) (P : ℕ → Type 0) → IfOk r P → IfSome (result_ok r) P
+some_from_ok (Ok p) P h = h
+some_from_ok (Err p) P h = tt
+
+pub is_some_ok : (r : Result ℕ ℕ) → is_some (result_ok r) ≡ is_ok r
+is_some_ok (Ok p) = refl
+is_some_ok (Err p) = refl
 
 -- ---- one more hash
 

@@ -136,20 +136,29 @@ impl Keys {
         }
     }
 
+    /// Puts the first key. The error is a failed allocation.
+    #[inline(never)]
+    fn push_first(&mut self, alloc: Global, name: &str) -> Result<(), AllocError>
+        requires { self.old ≡ [] }
+        ensures ok { OnOk result (self.new ≡ name.now ∷ []) }
+        ensures err { OnErr result (self.new ≡ self.old) }
+    {
+        let mut table = Box::new(alloc, Table::new(alloc))?;
+        table.push(alloc, name)?;
+        self.table = Some(table);
+        Ok(())
+    }
+
     /// Puts a key that is not there, last. The error is a failed allocation.
     pub fn push(&mut self, alloc: Global, name: &str) -> Result<(), AllocError>
         requires { position (λ k. bytes_eq k name.now) self.old ≡ None }
         ensures ok { OnOk result (self.new ≡ self.old ++ name.now ∷ []) }
         ensures err { OnErr result (self.new ≡ self.old) }
     {
-        let key = Key::new(alloc, name)?;
         if let Some(table) = &mut self.table {
-            return table.push(alloc, key);
+            return table.push(alloc, name);
         }
-        let mut table = Box::new(alloc, Table::new(alloc))?;
-        table.push(alloc, key)?;
-        self.table = Some(table);
-        Ok(())
+        self.push_first(alloc, name)
     }
 
     /// The position of a key. A missing key is put last, and the result is `None`. The error is a failed allocation, and then nothing has changed.
@@ -159,13 +168,22 @@ impl Keys {
             (self.new ≡ self.old ++ key ∷ []) (λ _. self.new ≡ self.old)) }
         ensures err { OnErr result (self.new ≡ self.old) }
     {
+        self.put(alloc, key.as_str())
+    }
+
+    /// The same, for a key of this name, which is made only where it is missing.
+    pub fn put(&mut self, alloc: Global, name: &str) -> Result<Option<usize>, AllocError>
+        ensures place { IfOk result (λ place. place ≡ position (λ k. bytes_eq k name.now) self.old) }
+        ensures ok { IfOk result (λ place. MatchOption place
+            (self.new ≡ self.old ++ name.now ∷ []) (λ _. self.new ≡ self.old)) }
+        ensures err { OnErr result (self.new ≡ self.old) }
+        ensures missing { OnErr result (position (λ k. bytes_eq k name.now) self.old ≡ None) }
+    {
         if let Some(table) = &mut self.table {
-            return table.place(alloc, key);
+            return table.put(alloc, name);
         }
-        let mut table = Table::new(alloc);
-        let place = table.place(alloc, key)?;
-        self.table = Some(Box::new(alloc, table)?);
-        Ok(place)
+        self.push_first(alloc, name)?;
+        Ok(None)
     }
 
     /// Removes the key at a position. The others keep their order. Takes no memory.

@@ -1,6 +1,6 @@
 //! Keys and values side by side (docs/RULES.md, "Objects").
 ghost use Rattle.std.specs.Prelude.{◌≡◌, ◌<◌, ◌-◌, ◌++◌, ◌∷◌, ◌==◌, [], length, remove, slice_get, OnOk, OnErr, IfOk};
-ghost use Rattle.std.specs.Prelude.{IsSome, Some, None};
+ghost use Rattle.std.specs.Prelude.{IsSome, Some, None, vec_len, vec_capacity};
 ghost use Rattle.std.specs.List.{position, zip, IsDistinct};
 ghost use Rattle.std.specs.Map.Calls.{CalledAtPair, CallableOnEachPair, RetainsPairs, TakesPair};
 ghost use Rattle.std.specs.Str.{bytes_eq};
@@ -13,6 +13,7 @@ mod iter_mut;
 
 use crate::key::Key;
 use crate::keys::Keys;
+use crate::util::fit::reserve_next;
 pub use builder::Builder;
 pub use into_iter::IntoIter;
 pub use iter::Iter;
@@ -40,6 +41,20 @@ impl<V> Model for Pairs<V> {
     ghost view = { λ p. zip p.keys p.values.items };
 
     ghost invariant = { λ p. length p.values.items ≡ length p.keys };
+}
+
+/// Makes room for the value of this name, if no key has it. The error is a failed allocation.
+#[inline(always)]
+fn reserve_missing<V>(keys: &Keys, values: &mut Vec<V>, name: &str) -> Result<(), AllocError>
+    ensures items { values.new.items ≡ values.old.items }
+    ensures room { OnOk result (position (λ k. bytes_eq k name.now) keys.now ≡ None
+        → vec_len values.new < vec_capacity values.new) }
+    ensures missing { OnErr result (position (λ k. bytes_eq k name.now) keys.now ≡ None) }
+{
+    if values.len() < values.capacity() || keys.position(name).is_some() {
+        return Ok(());
+    }
+    reserve_next(values)
 }
 
 impl<V> Pairs<V> {
@@ -173,7 +188,7 @@ impl<V> Pairs<V> {
         ensures ok { OnOk result (self.new ≡ self.old ++ (name.now, value) ∷ []) }
         ensures err { OnErr result (self.new ≡ self.old) }
     {
-        self.values.reserve(1)?;
+        reserve_next(&mut self.values)?;
         self.keys.push(alloc, name)?;
         self.values.push_reserved(value);
         Ok(())
@@ -188,13 +203,12 @@ impl<V> Pairs<V> {
         ensures err { OnErr result (self.new ≡ self.old) }
         ensures present { OnErr result (find name.now self.old ≡ None) }
     {
-        match self.position(name) {
-            Some(index) => {
-                *self.value_mut(index) = value;
-                Ok(())
-            }
-            None => self.push(alloc, name, value),
+        reserve_missing(&self.keys, &mut self.values, name)?;
+        match self.keys.put(alloc, name)? {
+            Some(index) => self.values[index] = value,
+            None => self.values.push_reserved(value),
         }
+        Ok(())
     }
 
     /// The position of a key. Where the key is missing it is put last with `value`, and the error is a failed allocation.

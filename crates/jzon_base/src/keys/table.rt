@@ -13,6 +13,7 @@ use super::hash::hash_of;
 use super::runs::Runs;
 use super::{IntoIter, Iter, index, repeats};
 use crate::key::Key;
+use crate::util::fit::reserve_next;
 use std::alloc::{AllocError, Global};
 use std::marker::Model;
 
@@ -82,19 +83,60 @@ fn fill(alloc: Global, keys: &[Key], index: &mut Runs) -> Result<(), AllocError>
     Ok(())
 }
 
-/// Adds a key that is put after these keys to their index, which is filled first where it is empty and the keys are no longer few. The error is a failed allocation.
-fn add_key(alloc: Global, keys: &[Key], index: &mut Runs, name: &str) -> Result<(), AllocError>
+/// Adds a key that is put after these keys to their index, which is filled first where it is empty. The error is a failed allocation.
+#[inline(never)]
+fn add_entry(alloc: Global, keys: &[Key], index: &mut Runs, name: &str) -> Result<(), AllocError>
     requires { IsIndexed keys.now index.old }
     ensures ok { OnOk result (IsIndexed (keys.now ++ name.now ∷ []) index.new) }
     ensures err { OnErr result (IsIndexed keys.now index.new) }
 {
     if index.is_empty() {
-        if keys.len() < index::LINEAR_MAX {
-            return Ok(());
-        }
         fill(alloc, keys, index)?;
     }
     index.add(alloc, hash_of(name), keys.len())
+}
+
+/// Adds a key that is put after these keys to their index, if they have one or are no longer few. The error is a failed allocation.
+#[inline(always)]
+fn add_key(alloc: Global, keys: &[Key], index: &mut Runs, name: &str) -> Result<(), AllocError>
+    requires { IsIndexed keys.now index.old }
+    ensures ok { OnOk result (IsIndexed (keys.now ++ name.now ∷ []) index.new) }
+    ensures err { OnErr result (IsIndexed keys.now index.new) }
+{
+    if keys.len() < index::LINEAR_MAX && index.is_empty() {
+        return Ok(());
+    }
+    add_entry(alloc, keys, index, name)
+}
+
+/// The position of a key by its index. A missing key is put last, and the result is `None`. The error is a failed allocation, and then the keys are those from before.
+#[inline(never)]
+fn put_indexed(
+    alloc: Global,
+    keys: &mut Vec<Key>,
+    index: &mut Runs,
+    name: &str,
+) -> Result<Option<usize>, AllocError>
+    requires distinct { IsDistinct bytes_eq keys.old.items }
+    requires index { IsIndexOf (map hash_of keys.old.items) index.old }
+    ensures place { IfOk result (λ place. place ≡ position (λ k. bytes_eq k name.now) keys.old.items) }
+    ensures ok { IfOk result (λ place. MatchOption place
+        (keys.new.items ≡ keys.old.items ++ name.now ∷ []) (λ _. keys.new.items ≡ keys.old.items)) }
+    ensures index { IsIndexOf (map hash_of keys.new.items) index.new }
+    ensures distinct { IsDistinct bytes_eq keys.new.items }
+    ensures err { OnErr result (keys.new.items ≡ keys.old.items) }
+    ensures missing { OnErr result (position (λ k. bytes_eq k name.now) keys.old.items ≡ None) }
+{
+    let hash = hash_of(name);
+    let guess = match index.search(keys.as_slice(), hash, name) {
+        Ok(position) => return Ok(Some(position)),
+        Err(guess) => guess,
+    };
+    reserve_next(keys)?;
+    let key = Key::new(alloc, name)?;
+    index.add_near(alloc, hash, keys.len(), guess)?;
+    keys.push_reserved(key);
+    Ok(None)
 }
 
 impl Table {
@@ -176,10 +218,7 @@ impl Table {
         ensures { result ≡ position (λ k. bytes_eq k name.now) self.now }
     {
         if self.index.is_empty() {
-            return self
-                .keys
-                .iter()
-                .position(|key| index::are_equal(key.as_str(), name));
+            return index::position(self.keys.as_slice(), name);
         }
         self.index.find(self.keys.as_slice(), hash_of(name), name)
     }
@@ -193,29 +232,35 @@ impl Table {
     }
 
     /// Adds a key that is missing, last. The error is a failed allocation.
-    pub fn push(&mut self, alloc: Global, key: Key) -> Result<(), AllocError>
-        requires { position (λ k. bytes_eq k key) self.old ≡ None }
-        ensures ok { OnOk result (self.new ≡ self.old ++ key ∷ []) }
+    #[inline(always)]
+    pub fn push(&mut self, alloc: Global, name: &str) -> Result<(), AllocError>
+        requires { position (λ k. bytes_eq k name.now) self.old ≡ None }
+        ensures ok { OnOk result (self.new ≡ self.old ++ name.now ∷ []) }
         ensures err { OnErr result (self.new ≡ self.old) }
     {
-        self.keys.reserve(1)?;
-        add_key(alloc, self.keys.as_slice(), &mut self.index, key.as_str())?;
+        reserve_next(&mut self.keys)?;
+        let key = Key::new(alloc, name)?;
+        add_key(alloc, self.keys.as_slice(), &mut self.index, name)?;
         self.keys.push_reserved(key);
         Ok(())
     }
 
     /// The position of a key. A missing key is put last, and the result is `None`. The error is a failed allocation, and then nothing has changed.
-    pub fn place(&mut self, alloc: Global, key: Key) -> Result<Option<usize>, AllocError>
-        ensures place { IfOk result (λ place. place ≡ position (λ k. bytes_eq k key) self.old) }
+    pub fn put(&mut self, alloc: Global, name: &str) -> Result<Option<usize>, AllocError>
+        ensures place { IfOk result (λ place. place ≡ position (λ k. bytes_eq k name.now) self.old) }
         ensures ok { IfOk result (λ place. MatchOption place
-            (self.new ≡ self.old ++ key ∷ []) (λ _. self.new ≡ self.old)) }
+            (self.new ≡ self.old ++ name.now ∷ []) (λ _. self.new ≡ self.old)) }
         ensures err { OnErr result (self.new ≡ self.old) }
+        ensures missing { OnErr result (position (λ k. bytes_eq k name.now) self.old ≡ None) }
     {
-        let found = self.position(key.as_str());
+        if !self.index.is_empty() {
+            return put_indexed(alloc, &mut self.keys, &mut self.index, name);
+        }
+        let found = index::position(self.keys.as_slice(), name);
         if found.is_some() {
             return Ok(found);
         }
-        self.push(alloc, key)?;
+        self.push(alloc, name)?;
         Ok(None)
     }
 

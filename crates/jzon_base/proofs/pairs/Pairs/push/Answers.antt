@@ -14,6 +14,6 @@ push-requires g c =
 pub returns-clause-ok : goal.returns-clause-ok
 returns-clause-ok g c =
     (λ j. zip (c.in_ok-push.ensures.ok j) ((c.push_reserved.ensures.items
-    ∙ ap (λ vs. vs ++ c.args.value ∷ []) c.reserve.ensures.items) j))
+    ∙ ap (λ vs. vs ++ c.args.value ∷ []) c.reserve_next.ensures.items) j))
     ∙ zip-push c.self.inside.keys c.self.inside.values.items c.args.name.now c.args.value c.self.invariant
     ∙ ap (λ ps. ps ++ (c.args.name.now, c.args.value) ∷ []) c.self.view_is

@@ -7,7 +7,7 @@ use Rattle.jzon_base.proofs.keys.table.Table.position.Goals as goal
 pub find-requires-clause-handed : goal.find-requires-clause-handed
 find-requires-clause-handed c =
     let ks = c.self.inside.keys.items in
-    rw c.as_slice.ensures.value (
+    rw c.as_slice-2.ensures.value (
       map hash_of ks,
       IsIndexOf-some ks c.self.inside.index (eqb-false _ _ (sym c.is_empty.ensures ∙ c.if-is_empty.false))
           c.self.invariant.indexed,

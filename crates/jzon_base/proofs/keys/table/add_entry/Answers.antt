@@ -6,8 +6,8 @@ use Rattle.jzon_base.specs.Private.Handed.{IsIndexOf}
 use Rattle.jzon_base.specs.Private.Hash.{hash_of}
 use Rattle.std.proofs.Common.{map}
 use Rattle.jzon_base.proofs.Tables.{IsIndexed-key, IsIndexed-same, IsIndexOf-some}
-use Rattle.jzon_base.proofs.keys.table.add_key.Goals as goal
-use Rattle.jzon_base.proofs.keys.table.add_key.Goals.{then-is_empty+else-keys-lt-LINEAR_MAX+in_ok-fill, else-is_empty}
+use Rattle.jzon_base.proofs.keys.table.add_entry.Goals as goal
+use Rattle.jzon_base.proofs.keys.table.add_entry.Goals.{then-is_empty+in_ok-fill, else-is_empty}
 
 pub fill-requires : goal.fill-requires
 fill-requires c = nil_from_length c.args.index.now (eqb-true _ _ (sym c.is_empty.ensures ∙ c.if-is_empty.true))
@@ -16,7 +16,7 @@ pub returns : goal.returns
 returns c =
     let ks = c.args.keys.now in
     let index : IsIndexOf (map hash_of ks) c.if-is_empty.index = elim c.if-is_empty.branch [
-      | then-is_empty+else-keys-lt-LINEAR_MAX+in_ok-fill w ↦ rw w.index-is w.in_ok-fill.ensures.ok
+      | then-is_empty+in_ok-fill w ↦ rw w.index-is w.in_ok-fill.ensures.ok
       | else-is_empty w ↦ rw w.index-is (IsIndexOf-some ks c.args.index.now (eqb-false _ _
           (sym c.is_empty.ensures ∙ w.if-is_empty.false)) c.requires)
     ] in

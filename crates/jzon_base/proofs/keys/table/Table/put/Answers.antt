@@ -1,0 +1,17 @@
+use Rattle.std.proofs.Common.{◌≡◌, ◌∙◌, ap}
+use Rattle.std.proofs.lemmas.Result.{IfOk-weaker}
+use Rattle.std.specs.List.{position}
+use Rattle.std.specs.Str.{bytes_eq}
+use Rattle.jzon_base.proofs.keys.table.Table.put.Goals as goal
+
+pub invariant_of-self : goal.invariant_of-self
+invariant_of-self c = record {
+  indexed = record { index = λ _. c.put_indexed.ensures.index };
+  distinct = c.put_indexed.ensures.distinct;
+}
+
+pub returns-then-not-is_empty-clause-place : goal.returns-then-not-is_empty-clause-place
+returns-then-not-is_empty-clause-place c =
+    let at = position (λ k. bytes_eq k c.args.name.now) in
+    IfOk-weaker c.put_indexed.result (λ place. place ≡ at c.self.inside.keys.items)
+    (λ place. place ≡ at c.args.self.now) (λ place e. e ∙ ap at c.self.view_is) c.put_indexed.ensures.place
