@@ -1,5 +1,6 @@
 //! A key of an object: text that is stored inline if it is short (docs/RULES.md, "Short and long strings").
-ghost use Rattle.std.specs.Prelude.{◌≡◌, ◌-◌, ◌<◌, ◌≤◌, length, slice_index, string_bytes, IfOk, IsOkUnless, OnErr};
+ghost use Rattle.std.specs.Prelude.{◌≡◌, ◌+◌, ◌-◌, ◌<◌, ◌≤◌, ◌++◌, ◌∷◌, [], false, true, length, slice_index};
+ghost use Rattle.std.specs.Prelude.{string_bytes, vec_len, vec_capacity, IfOk, IsOkUnless, OnErr};
 ghost use Rattle.std.specs.Str.{bytes_eq};
 ghost use Rattle.std.specs.Cmp.{partial_equiv_from_equiv};
 ghost use Rattle.std.specs.Cmp.Lexicographic.{nat_list_eq_equiv};
@@ -89,6 +90,26 @@ impl Key {
                 text: Text::Inline(*inline),
             }),
             Text::Owned(owned) => Key::new(alloc, owned.as_str()),
+        }
+    }
+
+    /// Adds a copy to keys that have room where the text is stored inline, and returns whether it is. The copy is written where it stays.
+    #[inline(always)]
+    pub(crate) fn push_inline(&self, copies: &mut Vec<Key>) -> bool
+        requires { vec_len copies.old < vec_capacity copies.old }
+        ensures copy { result ≡ true → copies.new.items ≡ copies.old.items ++ self.now ∷ [] }
+        ensures other { result ≡ false → copies.new ≡ copies.old }
+        ensures room { vec_capacity copies.new ≡ vec_capacity copies.old }
+        ensures len { result ≡ true → vec_len copies.new ≡ vec_len copies.old + 1 }
+    {
+        match &self.text {
+            Text::Inline(inline) => {
+                copies.push_reserved(Key {
+                    text: Text::Inline(*inline),
+                });
+                true
+            }
+            Text::Owned(_) => false,
         }
     }
 

@@ -139,6 +139,19 @@ fn put_indexed(
     Ok(None)
 }
 
+/// A copy of each key. The error is a failed allocation.
+fn copy_each(alloc: Global, keys: &[Key]) -> Result<Vec<Key>, AllocError>
+    ensures { IfOk result (λ v. v.items ≡ keys.now) }
+{
+    let mut copies = Vec::with_capacity(alloc, keys.len())?;
+    for key in keys {
+        if !key.push_inline(&mut copies) {
+            copies.push_reserved(key.clone(alloc)?);
+        }
+    }
+    Ok(copies)
+}
+
 impl Table {
     /// No key. Takes no memory.
     pub fn new(alloc: Global) -> Table
@@ -285,12 +298,10 @@ impl Table {
     pub fn clone(&self, alloc: Global) -> Result<Table, AllocError>
         ensures { IfOk result (λ k. k ≡ self.now) }
     {
-        let mut keys = Vec::with_capacity(alloc, self.keys.len())?;
-        for key in &self.keys {
-            keys.push(key.clone(alloc)?)?;
-        }
-        let index = self.index.clone(alloc)?;
-        Ok(Table { keys, index })
+        Ok(Table {
+            keys: copy_each(alloc, self.keys.as_slice())?,
+            index: self.index.clone(alloc)?,
+        })
     }
 
     /// The keys in their order, each by its text.
