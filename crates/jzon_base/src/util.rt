@@ -1,5 +1,5 @@
-//! What the other modules share: the write loop, the text of a number, escapes, runs of plain bytes, and vectors without
-//! spare capacity.
+//! What the other modules share: the write loop, the text of a number, copies of numbers, escapes, runs of plain bytes,
+//! and vectors without spare capacity.
 
 ghost use Rattle.std.specs.Prelude.{OnOk, OnErr};
 ghost use Rattle.std.specs.Io.KnownBytes.{Appends};
@@ -8,6 +8,7 @@ ghost use Rattle.jzon_base.specs.Written.{AppendsBeginning};
 use std::io;
 use std::io::Write;
 
+pub mod copies;
 pub mod escapes;
 pub mod fit;
 pub mod plain;

@@ -7,6 +7,7 @@ use crate::object::Object;
 use crate::value::JsonValue;
 use jzon_base::error::{Error, Result};
 use jzon_base::pairs::Pairs;
+use jzon_base::util::copies::copy_number;
 use std::alloc::Global;
 
 impl JsonValue {
@@ -96,7 +97,7 @@ fn push_inline(copies: &mut Vec<JsonValue>, value: &JsonValue) -> bool
             true
         }
         JsonValue::Number(number) => {
-            copies.push_reserved(JsonValue::Number(*number));
+            copies.push_reserved(JsonValue::Number(copy_number(number)));
             true
         }
         JsonValue::Boolean(truth) => {
