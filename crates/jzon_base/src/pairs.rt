@@ -90,6 +90,14 @@ impl<V> Pairs<V> {
         Pairs { keys, values }
     }
 
+    /// The keys, and the values in the order of their keys.
+    pub fn into_parts(self) -> (Keys, Vec<V>)
+        ensures keys { result.0 ≡ keys_of self }
+        ensures values { result.1.items ≡ values_of self }
+    {
+        (self.keys, self.values)
+    }
+
     /// The allocator of the entries.
     pub fn allocator(&self) -> Global {
         *self.values.allocator()

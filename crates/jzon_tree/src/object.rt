@@ -59,7 +59,7 @@ pub type Builder = pairs::Builder<JsonValue>;
 ///
 /// Keys are compared by their bytes. Two objects are equal where they have the same keys, and equal values under each, in whatever order.
 #[cycle(json)]
-#[derive(Debug, Drop)]
+#[derive(Debug)]
 pub struct Object {
     pub(crate) pairs: Pairs<JsonValue>,
 }
@@ -248,6 +248,32 @@ impl Object {
     }
 }
 
+/// Most values are stored inline, and are passed over without a call.
+impl Drop for Object {
+    #[cycle(json)]
+    fn drop(self) {
+        let Object { pairs } = self;
+        let (keys, values) = pairs.into_parts();
+        drop(keys);
+        drop_values(values);
+    }
+}
+
+/// Drops values, the last one first.
+#[cycle(json)]
+fn drop_values(mut values: Vec<JsonValue>) {
+    while let Some(value) = values.pop() {
+        match value {
+            JsonValue::Null | JsonValue::Short(_) | JsonValue::Number(_) | JsonValue::Boolean(_) =>
+                {}
+            JsonValue::String(text) => drop(text),
+            JsonValue::Object(object) => drop(object),
+            JsonValue::Array(items) => drop_values(items),
+        }
+    }
+    values.destroy_empty();
+}
+
 impl<'a> IntoIterator for &'a Object {
     type Item = (&'a str, &'a JsonValue);
 
@@ -322,8 +348,9 @@ impl IntoIterator for Object {
     ghost into_iter_gives = { λ object it. entries_left it ≡ entries_of object };
 
     fn into_iter(self) -> IntoIter {
+        let Object { pairs } = self;
         IntoIter {
-            pairs: self.pairs.into_iter(),
+            pairs: pairs.into_iter(),
         }
     }
 }
