@@ -1,12 +1,12 @@
--- Tables with a number for each byte.
+-- Tables with a number for each byte, or for the first of them.
 use Rattle.std.proofs.Common.{◌≡◌, ℕ, ◌<◌, List, Bool, true, false, cond, map, get_or, refl, ap, ◌∙◌, arith, IsTrue}
 use Rattle.std.proofs.lemmas.List.FromFn.{get_or-map-range_with_len}
 use Rattle.std.specs.List.{range_with_len}
 
 -- an entry of the table of a function
-pub table_at : (f : ℕ → ℕ) (table : List ℕ) → table ≡ map f (range_with_len 0 256) → (b : ℕ) → b < 256
+pub table_at : (f : ℕ → ℕ) (n : ℕ) (table : List ℕ) → table ≡ map f (range_with_len 0 n) → (b : ℕ) → b < n
     → get_or table b 0 ≡ f b
-table_at f table e b h = ap (λ t. get_or t b 0) e ∙ get_or-map-range_with_len f 0 256 b b 0 h (omega arith)
+table_at f n table e b h = ap (λ t. get_or t b 0) e ∙ get_or-map-range_with_len f 0 n b b 0 h (omega arith)
 
 -- an entry equals the sentinel only where the test fails, if no other entry does
 pub marked : (test : Bool) (x mark : ℕ) → cond test x mark ≡ mark → (test ≡ true → x ≡ mark → ⊥) → IsTrue test → ⊥

@@ -1,4 +1,5 @@
 pub mod ByteTables
+pub mod Escapes
 pub mod Kept
 pub mod Laid
 pub mod Lists

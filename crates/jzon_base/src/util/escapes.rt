@@ -6,12 +6,44 @@ ghost use Rattle.std.specs.Char.{is_ascii_hexdigit, digit_char, digit_value};
 ghost use Rattle.std.specs.Option.{SomeIff};
 ghost use Rattle.jzon_base.specs.Escapes.{is_simple, unescaped, letter_of};
 
+/// The byte that a backslash means before each letter of a simple escape, and 0 for all others.
+#[rattlefmt::skip]
+static UNESCAPED: [u8; 256] = [
+    0, 0, 0, 0, 0, 0, 0, 0, 0, 0, 0, 0, 0, 0, 0, 0,
+    0, 0, 0, 0, 0, 0, 0, 0, 0, 0, 0, 0, 0, 0, 0, 0,
+    0, 0, b'"', 0, 0, 0, 0, 0, 0, 0, 0, 0, 0, 0, 0, b'/',
+    0, 0, 0, 0, 0, 0, 0, 0, 0, 0, 0, 0, 0, 0, 0, 0,
+    0, 0, 0, 0, 0, 0, 0, 0, 0, 0, 0, 0, 0, 0, 0, 0,
+    0, 0, 0, 0, 0, 0, 0, 0, 0, 0, 0, 0, b'\\', 0, 0, 0,
+    0, 0, 8, 0, 0, 0, 12, 0, 0, 0, 0, 0, 0, 0, 10, 0,
+    0, 0, 13, 0, 9, 0, 0, 0, 0, 0, 0, 0, 0, 0, 0, 0,
+    0, 0, 0, 0, 0, 0, 0, 0, 0, 0, 0, 0, 0, 0, 0, 0,
+    0, 0, 0, 0, 0, 0, 0, 0, 0, 0, 0, 0, 0, 0, 0, 0,
+    0, 0, 0, 0, 0, 0, 0, 0, 0, 0, 0, 0, 0, 0, 0, 0,
+    0, 0, 0, 0, 0, 0, 0, 0, 0, 0, 0, 0, 0, 0, 0, 0,
+    0, 0, 0, 0, 0, 0, 0, 0, 0, 0, 0, 0, 0, 0, 0, 0,
+    0, 0, 0, 0, 0, 0, 0, 0, 0, 0, 0, 0, 0, 0, 0, 0,
+    0, 0, 0, 0, 0, 0, 0, 0, 0, 0, 0, 0, 0, 0, 0, 0,
+    0, 0, 0, 0, 0, 0, 0, 0, 0, 0, 0, 0, 0, 0, 0, 0,
+];
+
+/// The letter of the short escape of each byte that has one, and 0 for all others. No byte from 96 on has one.
+#[rattlefmt::skip]
+static ESCAPE_LETTERS: [u8; 96] = [
+    0, 0, 0, 0, 0, 0, 0, 0, b'b', b't', b'n', 0, b'f', b'r', 0, 0,
+    0, 0, 0, 0, 0, 0, 0, 0, 0, 0, 0, 0, 0, 0, 0, 0,
+    0, 0, b'"', 0, 0, 0, 0, 0, 0, 0, 0, 0, 0, 0, 0, 0,
+    0, 0, 0, 0, 0, 0, 0, 0, 0, 0, 0, 0, 0, 0, 0, 0,
+    0, 0, 0, 0, 0, 0, 0, 0, 0, 0, 0, 0, 0, 0, 0, 0,
+    0, 0, 0, 0, 0, 0, 0, 0, 0, 0, 0, 0, b'\\', 0, 0, 0,
+];
+
 /// The entry of a byte that is no digit.
 const NONE: u8 = 255;
 
 /// The value of each byte that is a hexadecimal digit, and `NONE` for all others.
 #[rattlefmt::skip]
-static VALUES: [u8; 256] = [
+static DIGIT_VALUES: [u8; 256] = [
     NONE, NONE, NONE, NONE, NONE, NONE, NONE, NONE, NONE, NONE, NONE, NONE, NONE, NONE, NONE, NONE,
     NONE, NONE, NONE, NONE, NONE, NONE, NONE, NONE, NONE, NONE, NONE, NONE, NONE, NONE, NONE, NONE,
     NONE, NONE, NONE, NONE, NONE, NONE, NONE, NONE, NONE, NONE, NONE, NONE, NONE, NONE, NONE, NONE,
@@ -35,14 +67,11 @@ static VALUES: [u8; 256] = [
 pub fn meant_by(letter: u8) -> Option<char>
     ensures { SomeIff result (IsTrue (is_simple letter)) (unescaped letter) }
 {
-    match letter {
-        b'"' | b'\\' | b'/' => Some(char::from(letter)),
-        b'b' => Some('\u{8}'),
-        b'f' => Some('\u{c}'),
-        b'n' => Some('\n'),
-        b'r' => Some('\r'),
-        b't' => Some('\t'),
-        _ => None,
+    let meant = UNESCAPED[letter as usize];
+    if meant == 0 {
+        None
+    } else {
+        Some(char::from(meant))
     }
 }
 
@@ -52,15 +81,11 @@ pub fn letter_of(byte: u8) -> Option<u8>
     ensures letter { SomeIff result (0 < letter_of byte) (letter_of byte) }
     ensures read_back { IfSome result (λ letter. IsTrue (is_simple letter) × (unescaped letter ≡ byte)) }
 {
-    match byte {
-        b'"' | b'\\' => Some(byte),
-        8 => Some(b'b'),
-        b'\t' => Some(b't'),
-        b'\n' => Some(b'n'),
-        12 => Some(b'f'),
-        b'\r' => Some(b'r'),
-        _ => None,
+    if byte >= 96 {
+        return None;
     }
+    let letter = ESCAPE_LETTERS[byte as usize];
+    if letter == 0 { None } else { Some(letter) }
 }
 
 /// The value of the hexadecimal digit, of either case.
@@ -68,7 +93,7 @@ pub fn letter_of(byte: u8) -> Option<u8>
 pub fn hex_value(byte: u8) -> Option<u32>
     ensures { SomeIff result (IsTrue (is_ascii_hexdigit byte)) (digit_value byte) }
 {
-    let value = VALUES[byte as usize];
+    let value = DIGIT_VALUES[byte as usize];
     if value == NONE {
         None
     } else {
