@@ -2,7 +2,7 @@
 use Rattle.std.proofs.Common.{◌≡◌, ◌≢◌, ℕ, zero, suc, ◌+◌, ◌-◌, ◌<◌, ◌≤◌, Bool, true, false, ◌&&◌, ltb, eqb}
 use Rattle.std.proofs.Common.{◌||◌, List, Result, Ok, Err, IfOk, is_ok}
 use Rattle.std.proofs.Common.{[], ◌∷◌, ◌++◌, length, get_or, map, filter, Option, None, Some, take, take_all, refl}
-use Rattle.std.proofs.Common.{sym, ap, ◌∙◌}
+use Rattle.std.proofs.Common.{sym, ap, ◌∙◌, drop, take-append-drop}
 use Rattle.std.proofs.Common.{subst, inl, inr, arith, add-zero, zero-add, append_assoc}
 use Rattle.std.proofs.lemmas.List.{get_or_default, take_more}
 use Rattle.std.proofs.lemmas.List.Folds.{list_any_at, list_any-append}
@@ -161,6 +161,13 @@ found_place hs ks ps h name None index handed distinct here any =
           absurd (false≢true (any ∙ sym (list_any-IsPermutation (is_found ks h name) (numbered 0 hs) ps index.whole)
           ∙ list_any_at (is_found ks h name) (numbered 0 hs) i (0, 0) (omega (arith, length-numbered 0 hs)) it)))
     ]))
+
+-- what passes in the first elements
+pub any_taken : {X : Type 0} (test : X → Bool) (n : ℕ) (xs : List X)
+    → true ≡ list_any test (take n xs) → true ≡ list_any test xs
+any_taken test n xs found =
+    ap (λ b. b || list_any test (drop n xs)) found ∙ sym (list_any-append test (take n xs) (drop n xs))
+    ∙ ap (list_any test) (take-append-drop n xs)
 
 pub some_from_ok : (r : Result ℕ ℕ) (P : ℕ → Type 0) → IfOk r P → IfSome (result_ok r) P
 some_from_ok (Ok p) P h = h

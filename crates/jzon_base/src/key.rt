@@ -1,5 +1,5 @@
 //! A key of an object: text that is stored inline if it is short (docs/RULES.md, "Short and long strings").
-ghost use Rattle.std.specs.Prelude.{◌≡◌, ◌+◌, ◌-◌, ◌<◌, ◌≤◌, ◌++◌, ◌∷◌, [], false, true, length, slice_index};
+ghost use Rattle.std.specs.Prelude.{◌≡◌, ◌+◌, ◌<◌, ◌≤◌, ◌++◌, ◌∷◌, [], false, true, length};
 ghost use Rattle.std.specs.Prelude.{string_bytes, vec_len, vec_capacity, IfOk, IsOkUnless, OnErr};
 ghost use Rattle.std.specs.Str.{bytes_eq};
 ghost use Rattle.std.specs.Cmp.{partial_equiv_from_equiv};
@@ -10,34 +10,6 @@ use arrayvec::ArrayString;
 use std::alloc::{AllocError, Global};
 use std::fmt;
 use std::marker::Model;
-
-/// Whether texts have the same bytes.
-#[inline(never)]
-fn have_same_bytes(a: &str, b: &str) -> bool
-    ensures { result ≡ bytes_eq a.now b.now }
-{
-    a == b
-}
-
-/// The last byte of a text, and 0 for the empty text.
-#[inline(always)]
-fn last_byte(text: &str) -> u8
-    ensures { result ≡ slice_index text.now (length text.now - 1) }
-{
-    match text.as_bytes().last() {
-        Some(byte) => *byte,
-        None => 0,
-    }
-}
-
-/// Whether texts are equal. Most unequal ones differ in length or in the last byte, which are compared without a call.
-#[inline(always)]
-#[tactic(auto, using(crate::proofs::Indexes::other_last))]
-fn are_equal(a: &str, b: &str) -> bool
-    ensures { result ≡ bytes_eq a.now b.now }
-{
-    a.len() == b.len() && last_byte(a) == last_byte(b) && have_same_bytes(a, b)
-}
 
 /// A key of an object. In clauses a key is its bytes.
 ///
@@ -120,18 +92,6 @@ impl Key {
         match &self.text {
             Text::Inline(inline) => inline.as_str(),
             Text::Owned(owned) => owned.as_str(),
-        }
-    }
-
-    /// Whether this is the text of the key.
-    #[inline(always)]
-    pub fn has_text(&self, text: &str) -> bool
-        ensures { result ≡ bytes_eq self.now text.now }
-    {
-        match &self.text {
-            Text::Inline(inline) => are_equal(inline.as_str(), text),
-            Text::Owned(owned) => owned.len() == text.len()
-                && have_same_bytes(owned.as_str(), text),
         }
     }
 
