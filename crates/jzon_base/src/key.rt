@@ -5,8 +5,10 @@ ghost use Rattle.std.specs.Str.{bytes_eq};
 ghost use Rattle.std.specs.Cmp.{partial_equiv_from_equiv};
 ghost use Rattle.std.specs.Cmp.Lexicographic.{nat_list_eq_equiv};
 
+mod inline;
+
 use crate::error::{self, Error};
-use arrayvec::ArrayString;
+use inline::Inline;
 use std::alloc::{AllocError, Global};
 use std::fmt;
 use std::marker::Model;
@@ -21,7 +23,7 @@ pub struct Key {
 
 #[derive(Drop)]
 enum Text {
-    Inline(ArrayString<32>),
+    Inline(Inline),
     Owned(String),
 }
 
@@ -42,14 +44,14 @@ impl Key {
         ensures bytes { IfOk result (λ k. k ≡ text.now) }
         ensures long { OnErr result (32 < length text.now) }
     {
-        match ArrayString::from(text) {
-            Ok(inline) => Ok(Key {
-                text: Text::Inline(inline),
-            }),
-            Err(_) => Ok(Key {
-                text: Text::Owned(String::from_str(alloc, text)?),
-            }),
+        if text.len() <= inline::MAX_LEN {
+            return Ok(Key {
+                text: Text::Inline(Inline::new(text)),
+            });
         }
+        Ok(Key {
+            text: Text::Owned(String::from_str(alloc, text)?),
+        })
     }
 
     /// A copy. Text of up to 32 bytes allocates nothing; for longer text the error is a failed allocation.
@@ -59,7 +61,7 @@ impl Key {
     {
         match &self.text {
             Text::Inline(inline) => Ok(Key {
-                text: Text::Inline(*inline),
+                text: Text::Inline(inline.clone()),
             }),
             Text::Owned(owned) => Key::new(alloc, owned.as_str()),
         }
@@ -77,7 +79,7 @@ impl Key {
         match &self.text {
             Text::Inline(inline) => {
                 copies.push_reserved(Key {
-                    text: Text::Inline(*inline),
+                    text: Text::Inline(inline.clone()),
                 });
                 true
             }
