@@ -2,6 +2,7 @@ pub mod Chains
 pub mod Compared
 pub mod LentSteps
 pub mod Emitting
+pub mod Ends
 pub mod Escapes
 pub mod Exits
 pub mod Members

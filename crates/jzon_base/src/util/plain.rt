@@ -1,6 +1,7 @@
 //! Runs of bytes that need no escape (RFC 8259, section 7).
 
-ghost use Rattle.std.specs.Prelude.{◌≡◌, ◌+◌, ◌≤◌, drop, length, take};
+ghost use Rattle.std.specs.Prelude.{◌≡◌, ◌+◌, ◌≤◌, drop, length, take, IsTrue};
+ghost use Rattle.std.specs.Int.{w64, trailing_zeros};
 ghost use Rattle.std.specs.List.{prefix_len};
 ghost use Rattle.jzon_base.specs.Private.PlainBytes.{is_plain};
 
@@ -72,6 +73,19 @@ fn plain_by_blocks(bytes: &[u8]) -> usize
     last + plain_in_lanes::<32>(bytes, last)
 }
 
+/// Whether `N` to `2 * N` bytes need no escape: the first `N` and the last `N` are compared, which may overlap.
+#[inline(always)]
+pub fn is_plain_by_ends<const N: usize>(bytes: &[u8]) -> bool
+    requires few { N ≤ 32 }
+    requires room { N ≤ length bytes.now }
+    requires covered { length bytes.now ≤ N + N }
+    ensures { IsTrue result → length bytes.now ≤ prefix_len is_plain bytes.now }
+{
+    let first = escapes_in_lanes::<N>(bytes, 0) == 0;
+    let last = escapes_in_lanes::<N>(bytes, bytes.len() - N) == 0;
+    first & last
+}
+
 /// How many of the `N` bytes at an offset come before the first that needs an escape: all of them where none does.
 #[inline(always)]
 fn plain_in_lanes<const N: usize>(bytes: &[u8], start: usize) -> usize
@@ -79,14 +93,26 @@ fn plain_in_lanes<const N: usize>(bytes: &[u8], start: usize) -> usize
     requires room { start + N ≤ length bytes.now }
     ensures { result ≡ prefix_len is_plain (take N (drop start bytes.now)) }
 {
-    let lanes = Simd::<u8, N>::from_slice(&bytes[start..]);
-    let stops = lanes.simd_lt(Simd::splat(32))
-        | lanes.simd_eq(Simd::splat(b'"'))
-        | lanes.simd_eq(Simd::splat(b'\\'));
-    let mask = stops.to_bitmask();
+    let mask = escapes_in_lanes::<N>(bytes, start);
     if mask == 0 {
         N
     } else {
         mask.trailing_zeros() as usize
     }
+}
+
+/// Which of the `N` bytes at an offset need an escape, a bit for each.
+#[inline(always)]
+fn escapes_in_lanes<const N: usize>(bytes: &[u8], start: usize) -> u64
+    requires few { N ≤ 32 }
+    requires room { start + N ≤ length bytes.now }
+    ensures none { result ≡ 0 → N ≡ prefix_len is_plain (take N (drop start bytes.now)) }
+    ensures some { ¬ (result ≡ 0) → trailing_zeros w64 result
+        ≡ prefix_len is_plain (take N (drop start bytes.now)) }
+{
+    let lanes = Simd::<u8, N>::from_slice(&bytes[start..]);
+    let stops = lanes.simd_lt(Simd::splat(32))
+        | lanes.simd_eq(Simd::splat(b'"'))
+        | lanes.simd_eq(Simd::splat(b'\\'));
+    stops.to_bitmask()
 }

@@ -1,19 +1,27 @@
 //! Strings and their escapes (docs/RULES.md, "Printed values").
 
-ghost use Rattle.std.specs.Prelude.{◌≡◌, ◌≤◌, ◌++◌, ◌∷◌, [], false, length, take, drop, OnOk, OnErr, Some};
+ghost use Rattle.std.specs.Prelude.{◌≡◌, ◌+◌, ◌≤◌, ◌++◌, ◌∷◌, [], false, length, take, drop, OnOk, OnErr};
+ghost use Rattle.std.specs.Prelude.{◌-◌, IsTrue, Some, replicate, slice_index_or, vec_len, vec_capacity};
 ghost use Rattle.std.specs.List.{prefix_len};
 ghost use Rattle.jzon_base.specs.Private.PlainBytes.{is_plain};
 ghost use Rattle.jzon_tree.specs.Generator.{Sends, Just};
 ghost use Rattle.jzon_tree.specs.Text.{escaped, escaped_byte, quoted};
 
-use crate::codegen::error_slot::{ErrorSlot, SlotResult, send};
+use crate::codegen::error_slot::{ErrorSlot, SlotResult, out_of_memory, send};
 use jzon_base::util::escapes::{hex_digit, letter_of};
-use jzon_base::util::plain::plain_len;
+use jzon_base::util::plain::{is_plain_by_ends, plain_len};
 use std::alloc::AllocError;
 use std::io::Write;
+use std::simd::Simd;
 
 /// The length of the longest escape.
 pub(super) const ESCAPE_MAX_LEN: usize = 6;
+
+/// The most bytes of a string that is added by its first and last bytes.
+const SHORT_MAX_LEN: usize = 32;
+
+/// The room that any of these takes with its quotes.
+const SHORT_ROOM: usize = SHORT_MAX_LEN + 2;
 
 /// Writes the bytes of the string before `start` as they are, those from `start` on escaped, and the closing quote.
 pub(super) fn send_string_from<W: Write>(
@@ -54,9 +62,133 @@ pub(super) fn send_string<W: Write>(
     send(writer, b"\"", slot)
 }
 
+/// Adds a string in quotes, escaped. Most strings are short and need no escape, and most times there is room.
+#[inline(always)]
+pub(super) fn push_string(
+    bytes: &mut Vec<u8>,
+    string: &[u8],
+    slot: &mut ErrorSlot,
+) -> SlotResult<()>
+    ensures { Sends (Just (quoted string.now)) (Some bytes.old.items) (Some bytes.new.items) result }
+{
+    let is_short = string.len() <= SHORT_MAX_LEN;
+    if is_short && bytes.capacity() - bytes.len() >= SHORT_ROOM && push_short(bytes, string) {
+        return Ok(());
+    }
+    push_any(bytes, string, slot)
+}
+
+/// Adds a short string in quotes if it needs no escape: it is put over quotes, of which those that are too many are cut off. Otherwise nothing is added, and the
+/// result is false.
+#[inline(always)]
+fn push_short(bytes: &mut Vec<u8>, string: &[u8]) -> bool
+    requires short { length string.now ≤ SHORT_MAX_LEN }
+    requires reserved { vec_len bytes.old + SHORT_ROOM ≤ vec_capacity bytes.old }
+    ensures done { IsTrue result → bytes.new.items ≡ bytes.old.items ++ quoted string.now }
+    ensures left { result ≡ false → bytes.new.items ≡ bytes.old.items }
+{
+    let start = bytes.len();
+    push_quotes(bytes, SHORT_ROOM);
+    if put_if_plain(bytes.as_mut_slice(), start + 1, string) {
+        bytes.truncate(start + (string.len() + 2));
+        return true;
+    }
+    bytes.truncate(start);
+    false
+}
+
+/// Adds quotes, for which there is room.
+#[inline(always)]
+fn push_quotes(bytes: &mut Vec<u8>, count: usize)
+    requires { vec_len bytes.old + count ≤ vec_capacity bytes.old }
+    ensures { bytes.new.items ≡ bytes.old.items ++ replicate count 34 }
+{
+    let len = bytes.len() + count;
+    let Ok(()) = bytes.resize(len, b'"') else {
+        unreachable!()
+    };
+}
+
+/// Puts a short string at an offset if it needs no escape. Otherwise nothing is put, and the result is false.
+#[inline(always)]
+fn put_if_plain(bytes: &mut [u8], offset: usize, string: &[u8]) -> bool
+    requires short { length string.now ≤ SHORT_MAX_LEN }
+    requires within { offset + length string.now ≤ length bytes.old }
+    ensures plain { IsTrue result → length string.now ≤ prefix_len is_plain string.now }
+    ensures text { IsTrue result → take (offset + length string.now) bytes.new
+        ≡ take offset bytes.old ++ string.now }
+    ensures next { IsTrue result → slice_index_or bytes.new (offset + length string.now) 0
+        ≡ slice_index_or bytes.old (offset + length string.now) 0 }
+    ensures left { result ≡ false → bytes.new ≡ bytes.old }
+    ensures len { length bytes.new ≡ length bytes.old }
+{
+    match string.len() {
+        0 => true,
+        1 => put_plain_ends::<1>(bytes, offset, string),
+        2..=3 => put_plain_ends::<2>(bytes, offset, string),
+        4..=7 => put_plain_ends::<4>(bytes, offset, string),
+        8..=15 => put_plain_ends::<8>(bytes, offset, string),
+        _ => put_plain_ends::<16>(bytes, offset, string),
+    }
+}
+
+/// The same, for `N` to `2 * N` bytes.
+#[inline(always)]
+fn put_plain_ends<const N: usize>(bytes: &mut [u8], offset: usize, string: &[u8]) -> bool
+    requires lanes { N ≤ 16 }
+    requires few { N ≤ length string.now }
+    requires covered { length string.now ≤ N + N }
+    requires within { offset + length string.now ≤ length bytes.old }
+    ensures plain { IsTrue result → length string.now ≤ prefix_len is_plain string.now }
+    ensures text { IsTrue result → take (offset + length string.now) bytes.new
+        ≡ take offset bytes.old ++ string.now }
+    ensures next { IsTrue result → slice_index_or bytes.new (offset + length string.now) 0
+        ≡ slice_index_or bytes.old (offset + length string.now) 0 }
+    ensures left { result ≡ false → bytes.new ≡ bytes.old }
+    ensures len { length bytes.new ≡ length bytes.old }
+{
+    let is_plain = is_plain_by_ends::<N>(string);
+    if is_plain {
+        put_ends::<N>(bytes, offset, string);
+    }
+    is_plain
+}
+
+/// Puts `N` to `2 * N` bytes at an offset: the first `N` and the last `N`, which may overlap.
+#[inline(always)]
+fn put_ends<const N: usize>(bytes: &mut [u8], offset: usize, text: &[u8])
+    requires few { N ≤ length text.now }
+    requires covered { length text.now ≤ N + N }
+    requires within { offset + length text.now ≤ length bytes.old }
+    ensures text { take (offset + length text.now) bytes.new ≡ take offset bytes.old ++ text.now }
+    ensures next { slice_index_or bytes.new (offset + length text.now) 0
+        ≡ slice_index_or bytes.old (offset + length text.now) 0 }
+    ensures len { length bytes.new ≡ length bytes.old }
+{
+    let start = text.len() - N;
+    let first = Simd::<u8, N>::from_slice(text);
+    let last = Simd::<u8, N>::from_slice(&text[start..]);
+    first.copy_to_slice(&mut bytes[offset..]);
+    last.copy_to_slice(&mut bytes[offset + start..]);
+}
+
+/// Adds any string in quotes, escaped. Apart, so that what is inlined for short strings makes no call.
+#[inline(never)]
+fn push_any(bytes: &mut Vec<u8>, string: &[u8], slot: &mut ErrorSlot) -> SlotResult<()>
+    ensures { Sends (Just (quoted string.now)) (Some bytes.old.items) (Some bytes.new.items) result }
+{
+    if plain_len(string) < string.len() {
+        return send_escaped(bytes, string, slot);
+    }
+    match push_quoted(bytes, string) {
+        Ok(()) => Ok(()),
+        Err(_) => out_of_memory(slot),
+    }
+}
+
 /// Adds a string that needs no escape in quotes, with one request for room. After an error nothing is added.
 #[inline(always)]
-pub(super) fn push_quoted(bytes: &mut Vec<u8>, string: &[u8]) -> Result<(), AllocError>
+fn push_quoted(bytes: &mut Vec<u8>, string: &[u8]) -> Result<(), AllocError>
     requires { length string.now ≤ prefix_len is_plain string.now }
     ensures ok { OnOk result (bytes.new.items ≡ bytes.old.items ++ quoted string.now) }
     ensures err { OnErr result (bytes.new.items ≡ bytes.old.items) }
@@ -68,14 +200,10 @@ pub(super) fn push_quoted(bytes: &mut Vec<u8>, string: &[u8]) -> Result<(), Allo
     Ok(())
 }
 
-/// Adds a string in quotes, escaped. Apart, so that `send_quoted` of memory saves no registers for it.
+/// Adds a string in quotes, escaped. Apart, so that `push_any` saves no registers for it.
 #[cold]
 #[inline(never)]
-pub(super) fn send_escaped(
-    bytes: &mut Vec<u8>,
-    string: &[u8],
-    slot: &mut ErrorSlot,
-) -> SlotResult<()>
+fn send_escaped(bytes: &mut Vec<u8>, string: &[u8], slot: &mut ErrorSlot) -> SlotResult<()>
     ensures { Sends (Just (quoted string.now)) (Some bytes.old.items) (Some bytes.new.items) result }
 {
     send_string(bytes, b"\"", string, slot)

@@ -11,15 +11,14 @@ ghost use Rattle.jzon_tree.specs.Generators.{bytes_in, with_bytes};
 ghost use Rattle.jzon_tree.specs.Styles.{compact_style, pretty_style};
 ghost use Rattle.jzon_tree.specs.Text.{quoted};
 
-use crate::codegen::error_slot::{ErrorSlot, SlotResult, out_of_memory, send, take_result};
+use crate::codegen::error_slot::{ErrorSlot, SlotResult, send, take_result};
 use crate::codegen::generator::Generator;
 use crate::codegen::layout::{Compact, Layout, Pretty, send_line};
 use crate::codegen::numbers::send_number;
-use crate::codegen::strings::{push_quoted, send_escaped, send_string, send_string_from};
+use crate::codegen::strings::{push_string, send_string, send_string_from};
 use crate::object::Object;
 use jzon_base::error::{Error, Result};
 use jzon_base::number::Number;
-use jzon_base::util::plain::plain_len;
 use std::alloc::Global;
 use std::io;
 use std::io::{ErrorKind, Write};
@@ -76,15 +75,10 @@ impl Outlet for Memory {
         &mut self.bytes
     }
 
-    /// Room for a string that needs no escape is requested once.
+    /// Short strings that need no escape are put into the vector by their first and last bytes.
+    #[inline(always)]
     fn send_quoted(&mut self, string: &[u8], slot: &mut ErrorSlot) -> SlotResult<()> {
-        if plain_len(string) < string.len() {
-            return send_escaped(&mut self.bytes, string, slot);
-        }
-        match push_quoted(&mut self.bytes, string) {
-            Ok(()) => Ok(()),
-            Err(_) => out_of_memory(slot),
-        }
+        push_string(&mut self.bytes, string, slot)
     }
 
     ghost out_law = { λ _ _. refl };
