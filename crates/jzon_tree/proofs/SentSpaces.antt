@@ -1,12 +1,13 @@
 -- Spaces that are sent run by run.
-use Rattle.std.proofs.Common.{◌≡◌, ℕ, suc, ◌+◌, ◌-◌, ◌≤◌, List, ◌∷◌, ◌++◌, take, replicate, Option, refl, ap}
+use Rattle.std.proofs.Common.{◌≡◌, ℕ, suc, ◌+◌, ◌-◌, ◌≤◌, List, ◌∷◌, ◌++◌, length, take, replicate, Option, refl, ap}
 use Rattle.std.proofs.Common.{◌∙◌, arith, Result}
 use Rattle.std.proofs.lemmas.List.{replicate-append-replicate, take-replicate}
 use Rattle.jzon_tree.specs.Generator.{Adds, Begins, Just, Sends}
+use Rattle.jzon_tree.proofs.Ends.{front_kept}
 use Rattle.jzon_tree.proofs.Sent.{adds_then, adds_weaker, Begins-after, Begins-early, Sends-after}
 
 -- a newline and n spaces
-abbrev line : ℕ → List ℕ
+abbrev pub line : ℕ → List ℕ
 line n = 10 ∷ replicate n 32
 
 pub take-line : (n k : ℕ) → k ≤ n → take (k + 1) (line n) ≡ line k
@@ -53,3 +54,9 @@ module _ (n left k : ℕ) (run : List ℕ) (p : run ≡ replicate k 32) (hk : k 
   spaces_stopped j = Begins-early (Just (replicate (n - (left - k)) 32)) (Just (replicate n 32)) a c
       (replicate (left - k) 32) closes
       (Begins-after (Just (replicate (n - left) 32)) (Just run) (Just (replicate (n - (left - k)) 32)) a b c joins h j)
+
+-- the start of a long line is added, and cut to k spaces
+pub line_cut : (old : List ℕ) (s n k : ℕ) → s ≡ length old → k ≤ n → take (s + (k + 1)) (old ++ line n) ≡ old ++ line k
+line_cut old s n k at few =
+    ap (λ (j : ℕ). take (j + (k + 1)) (old ++ line n)) at ∙ front_kept old (line n) (k + 1)
+    ∙ ap (λ (l : List ℕ). old ++ l) (take-line n k few)

@@ -1,6 +1,7 @@
 //! Layouts: the whitespace of a text, which is written here, and the order of an object's entries (docs/RULES.md, "Layouts of one's own").
 
-ghost use Rattle.std.specs.Prelude.{◌≡◌, ◌∷◌, Bool, true, false, IsTrue, IfOk, Ok, None, replicate};
+ghost use Rattle.std.specs.Prelude.{◌≡◌, ◌+◌, ◌≤◌, ◌<◌, ◌∷◌, ◌++◌, Bool, true, false, IsTrue, IfOk, Ok, None};
+ghost use Rattle.std.specs.Prelude.{replicate, vec_len, vec_capacity};
 ghost use Rattle.jzon_base.specs.PairList.{keys_of};
 ghost use Rattle.jzon_tree.specs.Entries.{entries_of};
 ghost use Rattle.jzon_tree.specs.Generator.{IsAnswer, Sends, Just};
@@ -15,6 +16,9 @@ use std::io::Write;
 
 /// The most spaces that one write has.
 const SPACES: [u8; 512] = [b' '; 512];
+
+/// The most bytes of a line's start that are copied at once into memory.
+pub(super) const SHORT_LINE: usize = 8;
 
 /// The newline, and the spaces that are written with it.
 #[rattlefmt::skip]
@@ -134,6 +138,20 @@ pub(super) fn send_line<W: Write>(
         return send_spaces(writer, spaces - first, slot);
     }
     Ok(())
+}
+
+/// Adds a newline and fewer than `SHORT_LINE` spaces: as many as a short line may have, of which those that are too many are cut off.
+#[inline(always)]
+pub(super) fn push_line(bytes: &mut Vec<u8>, spaces: usize)
+    requires few { spaces < SHORT_LINE }
+    requires reserved { vec_len bytes.old + SHORT_LINE ≤ vec_capacity bytes.old }
+    ensures { bytes.new.items ≡ bytes.old.items ++ 10 ∷ replicate spaces 32 }
+{
+    let end = bytes.len() + (spaces + 1);
+    let Ok(()) = bytes.extend_from_slice(&NEWLINE_AND_SPACES[..SHORT_LINE]) else {
+        unreachable!()
+    };
+    bytes.truncate(end);
 }
 
 /// Writes `spaces` spaces.

@@ -1,7 +1,7 @@
 //! The generators of the crate: they write a text in a layout, into memory of their own or to a borrowed writer.
 
-ghost use Rattle.std.specs.Prelude.{◌≡◌, ℕ, List, [], Option, Ok, None, Some, IsTrue, IsUtf8, MatchResult, refl};
-ghost use Rattle.std.specs.Prelude.{string_bytes};
+ghost use Rattle.std.specs.Prelude.{◌≡◌, ◌∷◌, ℕ, List, [], Option, Ok, None, Some, IsTrue, IsUtf8, MatchResult, refl};
+ghost use Rattle.std.specs.Prelude.{replicate, string_bytes};
 ghost use Rattle.std.specs.Borrow.{GName, sem, Lends};
 ghost use Rattle.jzon_base.specs.PairList.{keys_of};
 ghost use Rattle.jzon_tree.specs.Entries.{entries_of};
@@ -13,7 +13,7 @@ ghost use Rattle.jzon_tree.specs.Text.{quoted};
 
 use crate::codegen::error_slot::{ErrorSlot, SlotResult, send, take_result};
 use crate::codegen::generator::Generator;
-use crate::codegen::layout::{Compact, Layout, Pretty, send_line};
+use crate::codegen::layout::{Compact, Layout, Pretty, SHORT_LINE, push_line, send_line};
 use crate::codegen::numbers::send_number;
 use crate::codegen::strings::{push_string, send_string, send_string_from};
 use crate::object::Object;
@@ -50,6 +50,11 @@ pub trait Outlet {
         send_string(self.writer(), b"\"", string, slot)
     }
 
+    /// Writes a newline and `spaces` spaces.
+    fn send_line(&mut self, spaces: u128, slot: &mut ErrorSlot) -> SlotResult<()>
+        ensures bytes { Sends (Just (10 ∷ replicate spaces 32)) (out self.old) (out self.new) result }
+        ensures lender { lender self.new ≡ lender self.old };
+
     // Another writer changes the bytes alone.
     ghost out_law: { (o : Self) (w : Self.T) → out (with_writer o w) ≡ Self.T.contents w };
 
@@ -81,6 +86,16 @@ impl Outlet for Memory {
         push_string(&mut self.bytes, string, slot)
     }
 
+    #[inline(always)]
+    fn send_line(&mut self, spaces: u128, slot: &mut ErrorSlot) -> SlotResult<()> {
+        let bytes = &mut self.bytes;
+        if spaces < SHORT_LINE as u128 && SHORT_LINE <= bytes.capacity() - bytes.len() {
+            push_line(bytes, spaces as usize);
+            return Ok(());
+        }
+        send_line(bytes, spaces, slot)
+    }
+
     ghost out_law = { λ _ _. refl };
 
     ghost lender_law = { λ _ _. refl };
@@ -98,6 +113,11 @@ impl<'a, W: Write> Outlet for &'a mut W {
 
     fn writer(&mut self) -> &mut W {
         &mut **self
+    }
+
+    #[inline(always)]
+    fn send_line(&mut self, spaces: u128, slot: &mut ErrorSlot) -> SlotResult<()> {
+        send_line(&mut **self, spaces, slot)
     }
 
     ghost out_law = { λ _ _. refl };
@@ -267,7 +287,7 @@ impl<O: Outlet, L: Layout> Generator for TextGenerator<O, L> {
             return Ok(());
         };
         let spaces = self.dent as u128 * spaces as u128;
-        let step = send_line(self.outlet.writer(), spaces, slot);
+        let step = self.outlet.send_line(spaces, slot);
         self.count(step)
     }
 

@@ -1,4 +1,4 @@
-use Rattle.std.proofs.Common.{◌*◌, Some, false}
+use Rattle.std.proofs.Common.{◌*◌, Some, false, refl}
 use Rattle.jzon_tree.specs.Generators.{text_meaning, same_emitted}
 use Rattle.jzon_tree.specs.StyleLaws.{spaces_are_whitespace}
 use Rattle.jzon_tree.specs.Styles.{LaysOut}
@@ -13,9 +13,7 @@ returns g c =
     let style = g.L.Layout.style s.layout in
     let n = c.in-Some.spaces in
     let laid : LaysOut style (Some n) = rw c.in-Some.is at c.spaces.ensures in
-    let w = c.send_line-step.new.writer in
     Emits-counted (IsAllowedWhitespace style s.dent) ((pretty_layout n).line s.dent)
     (text_meaning g.O.Outlet.out g.O.Outlet.lender g.L.Layout.style s) _ _ _ _ _ _
-    (spaces_are_whitespace false (s.dent * n), laid.0 s.dent) c.writer.ensures.bytes c.send_line-step.ensures
-    (same_emitted (g.met.O.Outlet.out_law s.outlet w) (g.met.O.Outlet.lender_law s.outlet w)) c.count.ensures.same
-    c.count.ensures.faults
+    (spaces_are_whitespace false (s.dent * n), laid.0 s.dent) refl c.send_line-step.ensures.bytes
+    (same_emitted refl c.send_line-step.ensures.lender) c.count.ensures.same c.count.ensures.faults
