@@ -14,8 +14,8 @@ use jzon_tree::into_json::IntoJson;
 use jzon_tree::value::JsonValue;
 use std::alloc::Global;
 
-/// Converts `value` into a JSON value. Fails with `OutOfMemory` only, and never if the conversion is free, as for
-/// integers and booleans.
+/// Converts `value` into a JSON value. Fails with `OutOfMemory` only, and never if the conversion
+/// is free, as for integers and booleans.
 pub fn from<T: IntoJson>(alloc: Global, value: T) -> Result<JsonValue>
     ensures meant { IfOk result (λ v. T.means value (view v)) }
     ensures memory { IsOkUnless result Error.OutOfMemory }
@@ -26,15 +26,16 @@ pub fn from<T: IntoJson>(alloc: Global, value: T) -> Result<JsonValue>
 
 /// The compact text of the value that `root` converts into. Fails as `dump` does.
 pub fn stringify<T: IntoJson>(alloc: Global, root: T) -> Result<String>
-    ensures text { IfOk result (λ text. (v : Value) × T.means root v × IsValue v × (string_bytes text ≡ compact v)
+    ensures text { IfOk result (λ text. (v : Value) × T.means root v × IsValue v
+        × (string_bytes text ≡ compact v)
         × Writes compact_style 0 v (string_bytes text)) }
     ensures refusal { IfErr result (IsTextRefusal (T.means root)) }
 {
     root.into_json(alloc)?.dump(alloc)
 }
 
-/// The text of the value that `root` converts into, with a line for each element or member and `spaces` spaces for each
-/// container around it. Fails as `dump` does.
+/// The text of the value that `root` converts into, with a line for each element or member and
+/// `spaces` spaces for each container around it. Fails as `dump` does.
 pub fn stringify_pretty<T: IntoJson>(alloc: Global, root: T, spaces: u16) -> Result<String>
     ensures text { IfOk result
         (λ text. (v : Value) × T.means root v × IsValue v × (string_bytes text ≡ pretty v spaces 0)

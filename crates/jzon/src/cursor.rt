@@ -7,7 +7,8 @@ ghost use Rattle.jzon_tree.specs.Value.{Value};
 ghost use Rattle.jzon_tree.specs.Writing.{is_whitespace};
 ghost use Rattle.jzon.specs.Private.Brackets.{opener, closer, empty_container, innermost_bracket};
 ghost use Rattle.jzon.specs.Private.Brackets.{after_opener, after_comma, after_closer};
-ghost use Rattle.jzon.specs.Private.Machine.{Frames, frames_depth, value_mark, before, after_value, fault_here, Reports};
+ghost use Rattle.jzon.specs.Private.Machine.{Frames, frames_depth, value_mark, before, after_value};
+ghost use Rattle.jzon.specs.Private.Machine.{fault_here, Reports};
 ghost use Rattle.jzon_base.specs.Tokens.{begin_array, begin_object};
 
 use crate::fault::fault_at;
@@ -43,7 +44,8 @@ pub(crate) fn opens_container(first: u8) -> bool
     first == b'[' || first == b'{'
 }
 
-/// A text, the offset up to which it is read, and how it is read. The offset is that of a token or of the end.
+/// A text, the offset up to which it is read, and how it is read. The offset is that of a token or
+/// of the end.
 #[derive(Clone, Copy)]
 pub(crate) struct Cursor<'a> {
     pub(crate) source: &'a str,
@@ -51,7 +53,8 @@ pub(crate) struct Cursor<'a> {
     pub(crate) reading: Reading,
     ghost utf8: { ∥ IsUtf8 source.now ∥₁ },
     ghost boundary: { IsCharBoundary source.now index },
-    ghost past_whitespace: { index < length source.now → is_whitespace reading.strict (slice_index source.now index)
+    ghost past_whitespace: { index < length source.now
+        → is_whitespace reading.strict (slice_index source.now index)
         ≡ false },
 }
 
@@ -107,8 +110,9 @@ impl<'a> Cursor<'a> {
         fault_at(self.source, self.index)
     }
 
-    /// Moves past the opening bracket that comes next, inside of `depth` containers. Whether the container is empty; then it moves past the closing bracket too.
-    /// `ExceededDepthLimit` where it isn't and `depth` is what the reading allows.
+    /// Moves past the opening bracket that comes next, inside of `depth` containers. Whether the
+    /// container is empty; then it moves past the closing bracket too. `ExceededDepthLimit` where
+    /// it isn't and `depth` is what the reading allows.
     #[inline(always)]
     pub(crate) fn open_container(&mut self, bracket: Bracket, depth: usize) -> Result<bool>
         requires room { depth ≤ self.old.reading.depth }
@@ -139,7 +143,8 @@ impl<'a> Cursor<'a> {
         Ok(false)
     }
 
-    /// After an element or an entry: whether the container ends. Moves past its closing bracket or the comma.
+    /// After an element or an entry: whether the container ends. Moves past its closing bracket or
+    /// the comma.
     #[inline(always)]
     pub(crate) fn container_ends(&mut self, bracket: Bracket) -> Result<bool>
         ensures { (fs : Frames) (v : Value) → innermost_bracket fs ≡ Some bracket →

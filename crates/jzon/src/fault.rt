@@ -1,4 +1,5 @@
-//! The error of a text at an offset, with its line and column (docs/RULES.md, "Which error is reported").
+//! The error of a text at an offset, with its line and column (docs/RULES.md, "Which error is
+//! reported").
 
 ghost use Rattle.std.specs.Prelude.{◌≡◌, ◌+◌, length, take, drop, chars};
 ghost use Rattle.std.specs.Str.{IsCharBoundary};
@@ -45,7 +46,8 @@ pub(crate) fn duplicate_at(source: &str, start: usize) -> Error
     }
 }
 
-/// The error of a text that has no valid continuation at `index`: `UnexpectedEndOfJson` at its end, else `UnexpectedCharacter`.
+/// The error of a text that has no valid continuation at `index`: `UnexpectedEndOfJson` at its end,
+/// else `UnexpectedCharacter`.
 pub(crate) fn fault_at(source: &str, index: usize) -> Error
     requires { IsCharBoundary source.now index }
     ensures { Reports (chars source.now) result (fault_here (chars (drop index source.now))) }

@@ -1,5 +1,5 @@
-//! Laws on texts, their trees and their values, for every reading: RFC 8259 with the project's own rules
-//! (`docs/RULES.md`, "Laws"). These functions do nothing; each law is a function's contract.
+//! Laws on texts, their trees and their values, for every reading: RFC 8259 with the project's own
+//! rules (`docs/RULES.md`, "Laws"). These functions do nothing; each law is a function's contract.
 
 ghost use Rattle.jzon.specs.Laws.{OneReading, OneText, OneBreach, OneFault, NumberText, Redump, StrictStyles};
 ghost use Rattle.jzon.specs.Laws.{ReadsBack};
@@ -9,37 +9,39 @@ pub fn one_reading()
     ensures { OneReading }
 {}
 
-/// The text of a tree is the same in each reading, and each of its characters has at most one breach.
+/// The text of a tree is the same in each reading, and each of its characters has at most one
+/// breach.
 pub fn one_spelling()
     ensures text { OneText }
     ensures breach { OneBreach }
 {}
 
-/// Each text has exactly one tree, which breaks no limit, and no fault; or it has no tree within the limits, and
-/// exactly one fault is its first.
+/// Each text has exactly one tree, which breaks no limit, and no fault; or it has no tree within
+/// the limits, and exactly one fault is its first.
 pub fn one_fault()
     ensures { OneFault }
 {}
 
-/// The printed text of a number is read as the same number, which prints as this text again, and has at most 29 bytes.
+/// The printed text of a number is read as the same number, which prints as this text again, and
+/// has at most 29 bytes.
 pub fn number_text()
     ensures { NumberText }
 {}
 
-/// The compact text of a value that nests no deeper than the reading allows, and may contain NaN, is read as a value
-/// with the same compact text.
+/// The compact text of a value that nests no deeper than the reading allows, and may contain NaN,
+/// is read as a value with the same compact text.
 pub fn redump()
     ensures { Redump }
 {}
 
-/// The styles of the four generators allow only whitespace of a strict reading, so that `reads_back` applies to them in
-/// each reading.
+/// The styles of the four generators allow only whitespace of a strict reading, so that
+/// `reads_back` applies to them in each reading.
 pub fn strict_styles()
     ensures { StrictStyles }
 {}
 
-/// Each text that is written for a value without NaN that nests no deeper than the reading allows is read as an equal
-/// value; for a strict reading, if its style allows strict whitespace only.
+/// Each text that is written for a value without NaN that nests no deeper than the reading allows
+/// is read as an equal value; for a strict reading, if its style allows strict whitespace only.
 pub fn reads_back()
     ensures { ReadsBack }
 {}

@@ -1,5 +1,6 @@
-//! Macros that write a value in the form of its text (docs/RULES.md, "Conversions"). They pass the value from call to
-//! call, so a function that builds one holds nothing of it to drop when a call fails, and is cheaper to prove.
+//! Macros that write a value in the form of its text (docs/RULES.md, "Conversions"). They pass the
+//! value from call to call, so a function that builds one holds nothing of it to drop when a call
+//! fails, and is cheaper to prove.
 
 ghost use Rattle.std.specs.Prelude.{◌≡◌, true, IfOk, IfErr, OnOk, codes};
 ghost use Rattle.jzon_tree.specs.Changers.{IsRefusal, with_item, with_entry};
@@ -34,7 +35,8 @@ pub fn with_entry<T: IntoJson>(
     value: T,
 ) -> Result<JsonValue>
     ensures ok { IfOk result
-        (λ after. (v : Value) × T.means value v × (view after ≡ with_entry key.now v (view object))) }
+        (λ after. (v : Value) × T.means value v
+        × (view after ≡ with_entry key.now v (view object))) }
     ensures object { OnOk result (is_object (view object) ≡ true) }
     ensures refusal { IfErr result (IsRefusal (is_object (view object)) (codes "Object")) }
 {
@@ -43,7 +45,8 @@ pub fn with_entry<T: IntoJson>(
     Ok(object)
 }
 
-/// A value: `null`, `[..]`, `{..}`, or an expression of a type that is `IntoJson`. An error is propagated with `?`.
+/// A value: `null`, `[..]`, `{..}`, or an expression of a type that is `IntoJson`. An error is
+/// propagated with `?`.
 #[macro_export]
 macro_rules! value {
     ($alloc:expr; null) => {
@@ -60,7 +63,8 @@ macro_rules! value {
     };
 }
 
-/// An array of elements separated by commas; a trailing comma is allowed. An element is anything that `value!` takes.
+/// An array of elements separated by commas; a trailing comma is allowed. An element is anything
+/// that `value!` takes.
 ///
 /// ```rust
 /// let list = jzon::array![alloc; 1u8, "two", null];
@@ -75,9 +79,10 @@ macro_rules! array {
     }};
 }
 
-/// An object of members separated by commas; a trailing comma is allowed. A member is a key, `:` and anything that
-/// `value!` takes, where a key is an identifier, a string literal or `[expression]`; or it is `key => value`, where the
-/// key is an expression. Key expressions are of type `&str`.
+/// An object of members separated by commas; a trailing comma is allowed. A member is a key, `:`
+/// and anything that `value!` takes, where a key is an identifier, a string literal or
+/// `[expression]`; or it is `key => value`, where the key is an expression. Key expressions are of
+/// type `&str`.
 ///
 /// ```rust
 /// let built = jzon::object! {alloc; a: 5u8, "b": [true, null], c: list};
@@ -92,8 +97,8 @@ macro_rules! object {
     }};
 }
 
-/// The value of an element or member: as by `value!` for `null`, `[..]` and `{..}`; any other expression is left as it
-/// is, for `with_item` and `with_entry` to convert.
+/// The value of an element or member: as by `value!` for `null`, `[..]` and `{..}`; any other
+/// expression is left as it is, for `with_item` and `with_entry` to convert.
 #[doc(hidden)]
 #[macro_export]
 macro_rules! source {

@@ -14,7 +14,8 @@ ghost use Rattle.jzon.specs.Reading.{Reading};
 ghost use Rattle.jzon.specs.Grammar.{is_exponent_letter};
 ghost use Rattle.jzon.specs.Private.Classes.{lettered};
 ghost use Rattle.jzon_base.specs.Tokens.{zero_digit};
-ghost use Rattle.jzon.specs.Private.Machine.{Frames, numeral, numeral_after_first, after_value, from, fault_here, Leads};
+ghost use Rattle.jzon.specs.Private.Machine.{Frames, numeral, numeral_after_first, after_value};
+ghost use Rattle.jzon.specs.Private.Machine.{from, fault_here, Leads};
 ghost use Rattle.jzon.specs.Private.Numerals.{LeadsTo, MissesDigit, HasTooMany};
 
 use crate::fault::fault_at;
@@ -102,7 +103,8 @@ fn spelling_at(source: &str, start: usize) -> Spelling<'_>
     }
 }
 
-/// The digits up to the exponent, which is empty in the result. Three clauses say what follows them: an exponent's letter, no letter, or a missing digit.
+/// The digits up to the exponent, which is empty in the result. Three clauses say what follows
+/// them: an exponent's letter, no letter, or a missing digit.
 #[inline(always)]
 fn magnitude_at(source: &str, start: usize) -> Spelling<'_>
     requires within { start < length source.now }
@@ -150,7 +152,8 @@ fn magnitude_at(source: &str, start: usize) -> Spelling<'_>
     }
 }
 
-/// The digits before the point, a single `0` or all digits from `start` on, and their number modulo 2^64.
+/// The digits before the point, a single `0` or all digits from `start` on, and their number modulo
+/// 2^64.
 #[inline(always)]
 fn whole_at(source: &str, start: usize) -> (&[u8], u64)
     requires { start < length source.now }
@@ -166,7 +169,8 @@ fn whole_at(source: &str, start: usize) -> (&[u8], u64)
     }
 }
 
-/// The digits from `start` on, and the number that they make when appended to the digits of `before`, both modulo 2^64.
+/// The digits from `start` on, and the number that they make when appended to the digits of
+/// `before`, both modulo 2^64.
 #[inline(always)]
 fn digits_at(source: &str, start: usize, before: u64) -> (&[u8], u64)
     requires { start ≤ length source.now }

@@ -10,7 +10,8 @@ ghost use Rattle.jzon.specs.Private.Brackets.{innermost_bracket, after_comma, af
 ghost use Rattle.jzon.specs.Answer.{IsMeaningOf, IsReadable, IsErrorUnlessMemory, TakesMemory};
 ghost use Rattle.jzon.specs.Private.Cursor.{left, next_byte, GoesOn, IsPast};
 ghost use Rattle.jzon.specs.Private.Frames.{open_in, stack_view, state_of, is_open, IsReady, IsWholeValue};
-ghost use Rattle.jzon.specs.Private.Machine.{Frames, no_frames, array_frame, object_frame, frames_depth, is_fresh, before};
+ghost use Rattle.jzon.specs.Private.Machine.{Frames, no_frames, array_frame, object_frame};
+ghost use Rattle.jzon.specs.Private.Machine.{frames_depth, is_fresh, before};
 ghost use Rattle.jzon.specs.Private.Machine.{before_key, after_value, key_mark, value_mark, from, Reads};
 ghost use Rattle.jzon.specs.Reading.{usual};
 ghost use Rattle.jzon_base.specs.Tokens.{begin_array, begin_object, end_array, end_object};
@@ -29,8 +30,9 @@ use jzon_tree::object::{Builder, Object};
 use jzon_tree::value::JsonValue;
 use std::alloc::Global;
 
-/// The value that a text means (RFC 8259; docs/RULES.md, "Texts"), or the error of its first fault, or `OutOfMemory` if an allocation fails. A text without
-/// strings, arrays and objects takes no memory.
+/// The value that a text means (RFC 8259; docs/RULES.md, "Texts"), or the error of its first fault,
+/// or `OutOfMemory` if an allocation fails. A text without strings, arrays and objects takes no
+/// memory.
 ///
 /// ```rust
 /// let value = jzon::parse(alloc, "[1, -12.50e3, {\"a\": null}]")?;
@@ -46,7 +48,8 @@ pub fn parse(alloc: Global, source: &str) -> Result<JsonValue>
     parse_as(alloc, source, &USUAL)
 }
 
-/// Parses by `reading` (docs/RULES.md, "Readings"), which sets the depth limit and the whitespace; a strict one rejects a repeated key by `DuplicateKey`.
+/// Parses by `reading` (docs/RULES.md, "Readings"), which sets the depth limit and the whitespace;
+/// a strict one rejects a repeated key by `DuplicateKey`.
 pub fn parse_as(alloc: Global, source: &str, reading: &Reading) -> Result<JsonValue>
     ensures value { IfOk result (IsMeaningOf reading.now (chars source.now)) }
     ensures readable { IfOk result (λ v. IsReadable reading.now (view v)) }
@@ -100,7 +103,8 @@ impl<'a> Parser<'a> {
             TakesMemory (chars self.old.cursor.source.now) }
         ensures outcome { (fs : Frames) → value_mark self.old.cursor.reading fs ≡ None
             → (is_fresh fs ≡ true → next_byte self.old.cursor ≢ end_array) →
-            GoesOn self.old.cursor (before fs) result self.new.cursor (λ v. after_value fs (view v)) }
+            GoesOn self.old.cursor (before fs) result self.new.cursor
+            (λ v. after_value fs (view v)) }
     {
         let source = self.cursor.source;
         let start = self.cursor.index;
@@ -109,7 +113,8 @@ impl<'a> Parser<'a> {
         Ok(value)
     }
 
-    /// Reads the value that comes next, inside of `depth` open containers; a container that isn't empty only up to its first element or key.
+    /// Reads the value that comes next, inside of `depth` open containers; a container that isn't
+    /// empty only up to its first element or key.
     #[inline(always)]
     fn read_start(&mut self, depth: usize) -> Result<ValueStart>
         requires room { depth ≤ self.old.cursor.reading.depth }
@@ -176,7 +181,8 @@ impl<'a> Parser<'a> {
         }
     }
 
-    /// Reads on after `item`, the last element or value of an open container, as `read_elements` and `read_entries` do.
+    /// Reads on after `item`, the last element or value of an open container, as `read_elements`
+    /// and `read_entries` do.
     fn read_after_item(&mut self, frame: Frame, item: JsonValue) -> Result<ValueStart>
         requires room { vec_len self.old.stack < self.old.cursor.reading.depth }
         ensures ready { IfOk result (IsReady self.new.cursor (vec_len self.new.stack)) }
@@ -219,7 +225,8 @@ impl<'a> Parser<'a> {
         self.read_elements(elements)
     }
 
-    /// Reads elements of an open array, and of the arrays in it: to the end of one of them, or to an object that isn't empty.
+    /// Reads elements of an open array, and of the arrays in it: to the end of one of them, or to
+    /// an object that isn't empty.
     fn read_elements(&mut self, elements: Vec<JsonValue>) -> Result<ValueStart>
         requires room { vec_len self.old.stack < self.old.cursor.reading.depth }
         requires element { map view elements.items ≡ [] → next_byte self.old.cursor ≢ end_array }
@@ -238,7 +245,8 @@ impl<'a> Parser<'a> {
                 match value_start {
                     ValueStart::Value(value) => elements.push(value)?,
                     ValueStart::Array => {
-                        // Read here: going back to the loop over containers costs as much as an array of one element.
+                        // Read here: going back to the loop over containers costs as much as an
+                        // array of one element.
                         self.stack.push(Frame::Array(elements))?;
                         let depth = self.stack.len();
                         elements = room_for_elements(
@@ -264,7 +272,8 @@ impl<'a> Parser<'a> {
         }
     }
 
-    /// Reads entries of an open object, and a value that is an array: to the end of either, or to an object that isn't empty.
+    /// Reads entries of an open object, and a value that is an array: to the end of either, or to
+    /// an object that isn't empty.
     fn read_entries(&mut self, entries: Builder) -> Result<ValueStart>
         requires room { vec_len self.old.stack < self.old.cursor.reading.depth }
         requires key { viewed entries ≡ [] → next_byte self.old.cursor ≢ end_object }
@@ -294,7 +303,8 @@ impl<'a> Parser<'a> {
         }
     }
 
-    /// After an element: whether the array ends. Moves past the comma or the closing bracket; at the end frees unused capacity, and sets the hint to the length.
+    /// After an element: whether the array ends. Moves past the comma or the closing bracket; at
+    /// the end frees unused capacity, and sets the hint to the length.
     #[inline(always)]
     fn array_ends(&mut self, elements: &mut Vec<JsonValue>) -> Result<bool>
         ensures items { elements.new.items ≡ elements.old.items }
@@ -313,7 +323,8 @@ impl<'a> Parser<'a> {
         Ok(false)
     }
 
-    /// The object of these entries, which ends; sets the hint to their number. The error is `OutOfMemory`.
+    /// The object of these entries, which ends; sets the hint to their number. The error is
+    /// `OutOfMemory`.
     #[inline(always)]
     fn close_object(&mut self, entries: Builder) -> Result<ValueStart>
         ensures cursor { self.new.cursor ≡ self.old.cursor }
@@ -358,8 +369,9 @@ impl<'a> Parser<'a> {
     }
 }
 
-/// An empty vector for the elements of an array inside of `depth` containers, whose first is at the cursor. Without a hint it has room for one where that is
-/// a container, since containers often nest alone, and else for four. The error is `OutOfMemory`.
+/// An empty vector for the elements of an array inside of `depth` containers, whose first is at the
+/// cursor. Without a hint it has room for one where that is a container, since containers often
+/// nest alone, and else for four. The error is `OutOfMemory`.
 #[inline(always)]
 fn room_for_elements(
     alloc: Global,
@@ -381,7 +393,8 @@ fn room_for_elements(
     Ok(Vec::with_capacity(alloc, capacity)?)
 }
 
-/// Frees unused capacity. Not inlined, so that the loop over elements stays small. The error is `OutOfMemory`.
+/// Frees unused capacity. Not inlined, so that the loop over elements stays small. The error is
+/// `OutOfMemory`.
 #[cold]
 #[inline(never)]
 fn fit_elements(alloc: Global, elements: &mut Vec<JsonValue>) -> Result<()>
@@ -392,7 +405,8 @@ fn fit_elements(alloc: Global, elements: &mut Vec<JsonValue>) -> Result<()>
     Ok(())
 }
 
-/// Whether the reading rejects `name` after these entries: it is strict, and they have it. The error is `OutOfMemory`.
+/// Whether the reading rejects `name` after these entries: it is strict, and they have it. The
+/// error is `OutOfMemory`.
 #[tactic(auto, using(crate::proofs::Containers::FrameViews::known_view))]
 fn is_refused(alloc: Global, reading: Reading, entries: &mut Builder, name: &str) -> Result<bool>
     ensures kept { entries.new ≡ entries.old }

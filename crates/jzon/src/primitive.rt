@@ -1,4 +1,5 @@
-//! Reads primitives: numbers, strings and literals (RFC 8259, section 3). What each of them calls is inlined, so that no value is moved from call to call.
+//! Reads primitives: numbers, strings and literals (RFC 8259, section 3). What each of them calls
+//! is inlined, so that no value is moved from call to call.
 
 ghost use Rattle.std.specs.Prelude.{◌≡◌, ◌≢◌, ◌⊎◌, ◌==◌, ◌<◌, ◌≤◌, ◌+◌, [], length, chars, IsTrue};
 ghost use Rattle.std.specs.Prelude.{IfOk, Err, MatchResult, codes, ◌^◌, drop};
@@ -9,8 +10,10 @@ ghost use Rattle.jzon_tree.specs.Value.{Value, null, boolean};
 ghost use Rattle.jzon_tree.specs.View.{view};
 ghost use Rattle.jzon_tree.specs.Writing.{is_whitespace};
 ghost use Rattle.jzon.specs.Private.Classes.{after_minus, letter_n, letter_t, letter_f};
-ghost use Rattle.jzon.specs.Private.Machine.{numeral, numeral_after_first, string, as_value, between, Frames, is_fresh, before};
-ghost use Rattle.jzon.specs.Private.Machine.{after_value, past_letter, value_mark, from, Reports, Leads, LeadsUnlessMemory, fault_here};
+ghost use Rattle.jzon.specs.Private.Machine.{numeral, numeral_after_first, string, as_value};
+ghost use Rattle.jzon.specs.Private.Machine.{between, Frames, is_fresh, before};
+ghost use Rattle.jzon.specs.Private.Machine.{after_value, past_letter, value_mark, from, Reports};
+ghost use Rattle.jzon.specs.Private.Machine.{Leads, LeadsUnlessMemory, fault_here};
 ghost use Rattle.jzon.specs.Reading.{Reading};
 ghost use Rattle.jzon_base.specs.Tokens.{begin_array, begin_object, end_array, quotation_mark};
 
@@ -22,7 +25,8 @@ use jzon_base::error::{Error, Result};
 use jzon_tree::value::JsonValue;
 use std::alloc::Global;
 
-/// The primitive at `start`, whose first byte is `first` (0 at the end of the text), and the offset after it.
+/// The primitive at `start`, whose first byte is `first` (0 at the end of the text), and the offset
+/// after it.
 #[inline(always)]
 pub(crate) fn read_primitive(
     alloc: Global,
@@ -54,7 +58,8 @@ pub(crate) fn read_primitive(
     }
 }
 
-/// The error of a text that has no valid continuation at `index`. Inlined, so that the stack slot of an error is cleared only where one is reported.
+/// The error of a text that has no valid continuation at `index`. Inlined, so that the stack slot
+/// of an error is cleared only where one is reported.
 #[inline(always)]
 fn stopped_at(source: &str, index: usize) -> Result<(JsonValue, usize)>
     requires { IsCharBoundary source.now index }
@@ -113,8 +118,9 @@ fn read_magnitude(source: &str, start: usize, negative: bool) -> Result<(JsonVal
     Ok((JsonValue::Number(number), end))
 }
 
-/// The literal whose first letter, `first`, is at `start`, and the offset after it. Its last four letters are compared at once, and there is no branch for each of the
-/// three literals, since processors can't predict which comes next.
+/// The literal whose first letter, `first`, is at `start`, and the offset after it. Its last four
+/// letters are compared at once, and there is no branch for each of the three literals, since
+/// processors can't predict which comes next.
 #[inline(always)]
 fn read_literal(source: &str, start: usize, first: u8) -> Result<(JsonValue, usize)>
     requires within { start < length source.now }
@@ -203,7 +209,8 @@ fn read_literal_rest(
     Ok((value, end))
 }
 
-/// The offset after these letters, the rest of a literal, compared one by one, so that the error is at the first wrong one.
+/// The offset after these letters, the rest of a literal, compared one by one, so that the error is
+/// at the first wrong one.
 #[cold]
 #[inline(never)]
 fn read_letters(source: &str, start: usize, letters: &[u8]) -> Result<usize>

@@ -8,8 +8,8 @@ use jzon_tree::codegen::is_readable;
 use jzon_tree::value::JsonValue;
 use std::marker::Model;
 
-/// How a text is read: whether strictly, and how many non-empty containers may be open. A strict reading accepts only
-/// the whitespace of RFC 8259 and rejects a repeated key.
+/// How a text is read: whether strictly, and how many non-empty containers may be open. A strict
+/// reading accepts only the whitespace of RFC 8259 and rejects a repeated key.
 #[derive(Clone, Copy, Debug)]
 pub struct Reading {
     strict: bool,
@@ -62,8 +62,9 @@ impl Reading {
         self.depth
     }
 
-    /// Whether the value contains no NaN and nests no deeper than this reading allows. If so, its dumped text is read
-    /// back by this reading as an equal value (`laws::reads_back`). Allocates nothing.
+    /// Whether the value contains no NaN and nests no deeper than this reading allows. If so, its
+    /// dumped text is read back by this reading as an equal value (`laws::reads_back`). Allocates
+    /// nothing.
     pub fn admits(&self, value: &JsonValue) -> bool
         ensures { IsTrue result ↔ IsReadable self.now (view value.now) }
     {

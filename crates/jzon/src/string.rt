@@ -14,7 +14,8 @@ ghost use Rattle.jzon.specs.Reading.{Reading};
 ghost use Rattle.jzon.specs.Grammar.{is_simple, is_high, is_low, is_surrogate, code_unit};
 ghost use Rattle.jzon.specs.Meaning.{unescaped, pair_char};
 ghost use Rattle.jzon.specs.Private.Quote.{EndsAtQuote};
-ghost use Rattle.jzon.specs.Private.Machine.{Role, string, between, slash, code, second, second_code, after_unit, move_pair};
+ghost use Rattle.jzon.specs.Private.Machine.{Role, string, between, slash, code, second};
+ghost use Rattle.jzon.specs.Private.Machine.{second_code, after_unit, move_pair};
 ghost use Rattle.jzon.specs.Private.Machine.{outcome_on, from, from_closed, Reports};
 
 use crate::fault::fault_at;
@@ -31,7 +32,8 @@ use std::alloc::Global;
 pub(crate) struct Spelled {
     /// The offset after the closing quote.
     pub(crate) end: usize,
-    /// Whether the contents are in the buffer, unescaped. Else they are in the source, up to the closing quote.
+    /// Whether the contents are in the buffer, unescaped. Else they are in the source, up to the
+    /// closing quote.
     pub(crate) is_escaped: bool,
 }
 
@@ -52,7 +54,8 @@ impl Spelled {
     }
 }
 
-/// A string value: up to 30 bytes in place, which never fails, and longer ones on the heap. The error is `OutOfMemory`.
+/// A string value: up to 30 bytes in place, which never fails, and longer ones on the heap. The
+/// error is `OutOfMemory`.
 #[inline(always)]
 pub(crate) fn text_value(alloc: Global, content: &str) -> Result<JsonValue>
     ensures value { IfOk result (λ v. view v ≡ text (kind_of content.now) content.now) }
@@ -66,8 +69,8 @@ pub(crate) fn text_value(alloc: Global, content: &str) -> Result<JsonValue>
     }
 }
 
-/// Reads the string whose opening quote is before `start`. A string without escapes is not copied, and leaves the buffer as it was. After an error the buffer
-/// is unspecified.
+/// Reads the string whose opening quote is before `start`. A string without escapes is not copied,
+/// and leaves the buffer as it was. After an error the buffer is unspecified.
 #[inline(always)]
 pub(crate) fn read_string(source: &str, start: usize, buffer: &mut String) -> Result<Spelled>
     requires { IsCharBoundary source.now start }
@@ -134,7 +137,8 @@ fn past_quote(source: &str, index: usize) -> Result<usize>
     }
 }
 
-/// Adds the rest of the string, unescaped, to the buffer; returns the offset after the closing quote.
+/// Adds the rest of the string, unescaped, to the buffer; returns the offset after the closing
+/// quote.
 #[inline(never)]
 fn read_escapes(source: &str, start: usize, buffer: &mut String) -> Result<usize>
     requires boundary { IsCharBoundary source.now start }
@@ -155,8 +159,9 @@ fn read_escapes(source: &str, start: usize, buffer: &mut String) -> Result<usize
     past_quote(source, index)
 }
 
-/// Adds the unescaped characters from `start` on to the buffer; returns the offset after them. The error is `OutOfMemory`. An escape at `start` is tested first,
-/// since escapes often follow one another.
+/// Adds the unescaped characters from `start` on to the buffer; returns the offset after them. The
+/// error is `OutOfMemory`. An escape at `start` is tested first, since escapes often follow one
+/// another.
 #[inline(always)]
 fn push_run(source: &str, start: usize, buffer: &mut String) -> Result<usize>
     requires { IsCharBoundary source.now start }
@@ -205,7 +210,8 @@ fn simple_escape(source: &str, index: usize) -> Option<char>
     meant_by(*letter)
 }
 
-/// The character of the `\u` escape whose digits are at `start`, or of a surrogate pair that begins there, and the offset after it.
+/// The character of the `\u` escape whose digits are at `start`, or of a surrogate pair that begins
+/// there, and the offset after it.
 fn read_unicode(source: &str, start: usize) -> Result<(char, usize)>
     requires { IsCharBoundary source.now start }
     ensures end { IfOk result (λ r. (start < r.1) × IsCharBoundary source.now r.1) }
@@ -221,7 +227,8 @@ fn read_unicode(source: &str, start: usize) -> Result<(char, usize)>
     }
 }
 
-/// The character of the surrogate `first` and of the one that must follow at `start`, and the offset after both.
+/// The character of the surrogate `first` and of the one that must follow at `start`, and the
+/// offset after both.
 fn read_second(source: &str, start: usize, first: u32) -> Result<(char, usize)>
     requires { IsCharBoundary source.now start }
     ensures end { IfOk result (λ r. (start < r.1) × IsCharBoundary source.now r.1) }
@@ -255,7 +262,8 @@ fn paired_char(high: u32, low: u32) -> Option<char>
     }
 }
 
-/// The code unit that the four hexadecimal digits at `start`, of either case, spell: in a first escape, and in the second of a surrogate pair.
+/// The code unit that the four hexadecimal digits at `start`, of either case, spell: in a first
+/// escape, and in the second of a surrogate pair.
 fn read_hex(source: &str, start: usize) -> Result<u32>
     requires { IsCharBoundary source.now start }
     ensures value { IfOk result (λ u. u ≡ code_unit (slice_range source.now start (start + 4))) }

@@ -40,7 +40,8 @@ fn is_above_space(source: &str, index: usize) -> bool
     index < bytes.len() && bytes[index] > b' '
 }
 
-/// How many bytes at the start are whitespace. A newline and the spaces after it are tried first: they are most of the whitespace of an indented text.
+/// How many bytes at the start are whitespace. A newline and the spaces after it are tried first:
+/// they are most of the whitespace of an indented text.
 #[inline(never)]
 fn whitespace_length(text: &str, strict: bool) -> usize
     ensures { result ≡ prefix_len (is_whitespace strict) text.now }
@@ -63,7 +64,8 @@ fn whitespace_by_bytes(bytes: &[u8], strict: bool) -> usize
         .count()
 }
 
-/// Whether the byte is whitespace: tab, newline, carriage return or space; if not `strict`, vertical tab and form feed too.
+/// Whether the byte is whitespace: tab, newline, carriage return or space; if not `strict`,
+/// vertical tab and form feed too.
 fn is_whitespace(byte: u8, strict: bool) -> bool
     ensures { result ≡ is_whitespace strict byte }
 {

@@ -1,5 +1,5 @@
-//! The digits of a number in a text, and the number that they mean (RFC 8259, section 6; docs/RULES.md, "What digits
-//! mean" and "Digit limits").
+//! The digits of a number in a text, and the number that they mean (RFC 8259, section 6;
+//! docs/RULES.md, "What digits mean" and "Digit limits").
 
 ghost use Rattle.std.specs.Prelude.{◌≡◌, ℕ, pos, ◌+◌, ◌%◌, ◌<◌, ◌≤◌, ◌^◌, ◌-ℤ◌, ◌+ℤ◌, ◌++◌, length, take, min, IfErr};
 ghost use Rattle.std.specs.Prelude.{OkIff};
@@ -37,9 +37,10 @@ pub enum DigitFault {
     Fraction(usize),
 }
 
-/// The number written with the digits before the point, those after it and those of the exponent, and the signs of
-/// both. `number` is what `scan` returns for the digits before and after the point, one after the other. A missing part
-/// is empty; a missing exponent is 0. Returns a `DigitFault` if there are too many digits, whatever the exponent is.
+/// The number written with the digits before the point, those after it and those of the exponent,
+/// and the signs of both. `number` is what `scan` returns for the digits before and after the
+/// point, one after the other. A missing part is empty; a missing exponent is 0. Returns a
+/// `DigitFault` if there are too many digits, whatever the exponent is.
 pub fn read_scanned(
     positive: bool,
     whole: &[u8],
@@ -53,7 +54,8 @@ pub fn read_scanned(
     requires number { number ≡ digits_number (whole.now ++ fraction.now) % 2 ^ 64 }
     requires exponent { All IsDigit exponent.now }
     ensures number { OkIff result (AreFewEnough whole.now fraction.now)
-        (read_number positive whole.now fraction.now (signed positive_exponent (digits_number exponent.now))) }
+        (read_number positive whole.now fraction.now
+        (signed positive_exponent (digits_number exponent.now))) }
     ensures fault { IfErr result (IsFirstTooMany whole.now fraction.now) }
 {
     let prefix = kept_prefix(whole, fraction, number);
@@ -72,12 +74,13 @@ pub fn read_scanned(
     Ok(Number::from_parts_unchecked(positive, prefix.number, exponent))
 }
 
-/// The number of leading digits, and the number that they spell when appended to `before`, modulo 2^64. `before` is
-/// itself reduced modulo 2^64.
+/// The number of leading digits, and the number that they spell when appended to `before`, modulo
+/// 2^64. `before` is itself reduced modulo 2^64.
 #[inline]
 pub fn scan(bytes: &[u8], before: u64) -> (usize, u64)
     ensures count { result.0 ≡ prefix_len is_ascii_digit bytes.now }
-    ensures number { (n : ℕ) → before ≡ n % 2 ^ 64 → result.1 ≡ fold add_digit n (take result.0 bytes.now) % 2 ^ 64 }
+    ensures number { (n : ℕ) → before ≡ n % 2 ^ 64
+        → result.1 ≡ fold add_digit n (take result.0 bytes.now) % 2 ^ 64 }
 {
     let mut len = 0;
     let mut number = before;
@@ -96,7 +99,8 @@ pub fn scan(bytes: &[u8], before: u64) -> (usize, u64)
 /// The same, one byte at a time.
 fn scan_by_bytes(bytes: &[u8], before: u64) -> (usize, u64)
     ensures count { result.0 ≡ prefix_len is_ascii_digit bytes.now }
-    ensures number { (n : ℕ) → before ≡ n % 2 ^ 64 → result.1 ≡ fold add_digit n (take result.0 bytes.now) % 2 ^ 64 }
+    ensures number { (n : ℕ) → before ≡ n % 2 ^ 64
+        → result.1 ≡ fold add_digit n (take result.0 bytes.now) % 2 ^ 64 }
 {
     let mut number = before;
     for (i, byte) in bytes.iter().enumerate() {
@@ -160,13 +164,15 @@ fn searched_prefix(whole: &[u8], fraction: &[u8]) -> Prefix
     }
 }
 
-/// Appends digits to `before` as long as the number stays below 2^64: the number and how many digits were appended.
+/// Appends digits to `before` as long as the number stays below 2^64: the number and how many
+/// digits were appended.
 fn longest_prefix(before: u64, digits: &[u8]) -> (u64, usize)
     requires { All IsDigit digits.now }
     ensures number { result.0 ≡ fold add_digit before (take result.1 digits.now) }
     ensures fits { result.0 < 2 ^ 64 }
     ensures within { result.1 ≤ length digits.now }
-    ensures longest { result.1 < length digits.now → 2 ^ 64 ≤ fold add_digit before (take (result.1 + 1) digits.now) }
+    ensures longest { result.1 < length digits.now
+        → 2 ^ 64 ≤ fold add_digit before (take (result.1 + 1) digits.now) }
 {
     let mut number = before;
     for (i, digit) in digits.iter().enumerate() {
@@ -181,12 +187,14 @@ fn longest_prefix(before: u64, digits: &[u8]) -> (u64, usize)
     (number, digits.len())
 }
 
-/// The exponent from the dropped and kept digits and the written exponent, added exactly and clamped once.
+/// The exponent from the dropped and kept digits and the written exponent, added exactly and
+/// clamped once.
 fn clamped_exponent(dropped: usize, kept_fraction: usize, positive: bool, written: &[u8]) -> i16
     requires digits { All IsDigit written.now }
     requires dropped { dropped ≤ 32767 }
     requires kept { kept_fraction ≤ 32768 }
-    ensures { result ≡ clamp ((pos dropped -ℤ pos kept_fraction) +ℤ signed positive (digits_number written.now)) }
+    ensures { result ≡ clamp ((pos dropped -ℤ pos kept_fraction) +ℤ signed positive
+        (digits_number written.now)) }
 {
     let written = capped_number(written) as i32;
     let power = dropped as i32 - kept_fraction as i32;
@@ -215,8 +223,8 @@ fn clamped(sum: i32) -> i16
     sum.clamp(i32::from(i16::MIN), i32::from(i16::MAX)) as i16
 }
 
-/// A law on the definitions alone: the kept digits are the longest prefix that spells a number below 2^64, and each
-/// longer prefix spells 2^64 or more.
+/// A law on the definitions alone: the kept digits are the longest prefix that spells a number
+/// below 2^64, and each longer prefix spells 2^64 or more.
 pub fn keeps_longest_prefix()
     ensures { KeepsLongestPrefix }
 {}

@@ -10,7 +10,8 @@ use std::fmt;
 /// Why a text is rejected, or a call on a value fails.
 #[derive(Debug, PartialEq, Eq, Drop)]
 pub enum Error {
-    /// The character `ch` isn't allowed at its offset. Lines and columns are counted from 1, columns in characters.
+    /// The character `ch` isn't allowed at its offset. Lines and columns are counted from 1,
+    /// columns in characters.
     UnexpectedCharacter {
         ch: char,
         line: usize,
@@ -26,8 +27,8 @@ pub enum Error {
     WrongType(String),
     /// An allocation failed.
     OutOfMemory,
-    /// A strict reading found a key for the second time in an object: the line and column of the second one's opening
-    /// quote, counted from 1, the column in characters.
+    /// A strict reading found a key for the second time in an object: the line and column of the
+    /// second one's opening quote, counted from 1, the column in characters.
     DuplicateKey {
         line: usize,
         column: usize,
@@ -41,8 +42,8 @@ pub type Result<T> = std::result::Result<T, Error>;
 pub type JsonResult<T> = Result<T>;
 
 impl Error {
-    /// The error for a value that isn't of the kind `expected`. Its text is allocated, so the call itself can fail with
-    /// `OutOfMemory`.
+    /// The error for a value that isn't of the kind `expected`. Its text is allocated, so the call
+    /// itself can fail with `OutOfMemory`.
     pub fn wrong_type(alloc: Global, expected: &str) -> Result<Error>
         ensures words { IfOk result (IsWrongType expected.now) }
         ensures memory { IsOkUnless result Error.OutOfMemory }
@@ -50,7 +51,8 @@ impl Error {
         Ok(Error::WrongType(String::from_str(alloc, expected)?))
     }
 
-    /// The line of the text, counted from 1, at which it was rejected. `None` for an error without a position.
+    /// The line of the text, counted from 1, at which it was rejected. `None` for an error without
+    /// a position.
     pub fn line(&self) -> Option<usize>
         ensures { result ≡ line_in self.now }
     {
@@ -61,8 +63,8 @@ impl Error {
         }
     }
 
-    /// The column of the text, counted from 1 in characters, at which it was rejected. `None` for an error without a
-    /// position.
+    /// The column of the text, counted from 1 in characters, at which it was rejected. `None` for
+    /// an error without a position.
     pub fn column(&self) -> Option<usize>
         ensures { result ≡ column_in self.now }
     {

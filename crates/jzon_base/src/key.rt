@@ -1,4 +1,5 @@
-//! A key of an object: text that is stored inline if it is short (docs/RULES.md, "Short and long strings").
+//! A key of an object: text that is stored inline if it is short (docs/RULES.md, "Short and long
+//! strings").
 ghost use Rattle.std.specs.Prelude.{◌≡◌, ◌+◌, ◌<◌, ◌≤◌, ◌++◌, ◌∷◌, [], false, true, length};
 ghost use Rattle.std.specs.Prelude.{string_bytes, vec_len, vec_capacity, IfOk, IsOkUnless, OnErr};
 ghost use Rattle.std.specs.Str.{bytes_eq};
@@ -38,8 +39,8 @@ impl Model for Key {
 }
 
 impl Key {
-    /// The key with this text. Text of up to 32 bytes allocates nothing; for longer text the error is a failed
-    /// allocation.
+    /// The key with this text. Text of up to 32 bytes allocates nothing; for longer text the error
+    /// is a failed allocation.
     pub fn new(alloc: Global, text: &str) -> Result<Key, AllocError>
         ensures bytes { IfOk result (λ k. k ≡ text.now) }
         ensures long { OnErr result (32 < length text.now) }
@@ -54,7 +55,8 @@ impl Key {
         })
     }
 
-    /// A copy. Text of up to 32 bytes allocates nothing; for longer text the error is a failed allocation.
+    /// A copy. Text of up to 32 bytes allocates nothing; for longer text the error is a failed
+    /// allocation.
     pub fn clone(&self, alloc: Global) -> Result<Key, AllocError>
         ensures bytes { IfOk result (λ k. k ≡ self.now) }
         ensures long { OnErr result (32 < length self.now) }
@@ -67,7 +69,8 @@ impl Key {
         }
     }
 
-    /// Adds a copy to keys that have room where the text is stored inline, and returns whether it is. The copy is written where it stays.
+    /// Adds a copy to keys that have room where the text is stored inline, and returns whether it
+    /// is. The copy is written where it stays.
     #[inline(always)]
     pub(crate) fn push_inline(&self, copies: &mut Vec<Key>) -> bool
         requires { vec_len copies.old < vec_capacity copies.old }
@@ -97,8 +100,8 @@ impl Key {
         }
     }
 
-    /// The text as a `String`. Only text of up to 32 bytes, which was stored inline, is allocated here. Fails with
-    /// `OutOfMemory` only.
+    /// The text as a `String`. Only text of up to 32 bytes, which was stored inline, is allocated
+    /// here. Fails with `OutOfMemory` only.
     pub fn into_string(self, alloc: Global) -> error::Result<String>
         ensures bytes { IfOk result (λ s. string_bytes s ≡ self) }
         ensures short { OnErr result (length self ≤ 32) }

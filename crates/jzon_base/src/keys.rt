@@ -1,11 +1,16 @@
-//! The keys of an object in the order in which they were put, and the position of each (docs/RULES.md, "Objects").
+//! The keys of an object in the order in which they were put, and the position of each
+//! (docs/RULES.md, "Objects").
 //!
 //! How a key is found, by what holds the keys:
 //! - `Table`, of an object: up to eight keys are compared one by one.
-//! - `Runs`, in a `Table` from the ninth key on: entries of hash and position in few sorted runs, each asked by binary search.
-//! - `Few`, in a builder after a merge that leaves at most 64 keys: slots by the hash, by which an entry of a repeated key finds its position.
-//! - `Marks`, in a builder that is asked for keys, from the tenth on: a filter that rejects nearly every new key.
-//! - `Known`, in such a builder, for a key that `Marks` doesn't reject: runs sorted by hash and text.
+//! - `Runs`, in a `Table` from the ninth key on: entries of hash and position in few sorted runs,
+//!   each asked by binary search.
+//! - `Few`, in a builder after a merge that leaves at most 64 keys: slots by the hash, by which an
+//!   entry of a repeated key finds its position.
+//! - `Marks`, in a builder that is asked for keys, from the tenth on: a filter that rejects nearly
+//!   every new key.
+//! - `Known`, in such a builder, for a key that `Marks` doesn't reject: runs sorted by hash and
+//!   text.
 //! - `Notes` has the last three of one builder, in a box that small objects never need.
 ghost use Rattle.std.specs.Prelude.{◌≡◌, ◌<◌, ◌++◌, ◌∷◌, ◌==◌, [], length, remove, slice_get, IfOk, OnOk, OnErr};
 ghost use Rattle.std.specs.Prelude.{MatchOption, None, Some, false, true};
@@ -35,7 +40,8 @@ use table::Table;
 
 /// Distinct keys in the order in which they were put. A clause sees the list of their bytes.
 ///
-/// They are in a box; there is none where no key was put and no room asked for. How the position of a key is found is private to this type.
+/// They are in a box; there is none where no key was put and no room asked for. How the position of
+/// a key is found is private to this type.
 #[derive(Drop)]
 pub struct Keys {
     alloc: Global,
@@ -69,7 +75,8 @@ impl Keys {
         })
     }
 
-    /// No key, with room for `capacity` of them and for their index. The error is a failed allocation.
+    /// No key, with room for `capacity` of them and for their index. The error is a failed
+    /// allocation.
     pub fn with_capacity(alloc: Global, capacity: usize) -> Result<Keys, AllocError>
         ensures { IfOk result (λ k. k ≡ []) }
     {
@@ -79,8 +86,9 @@ impl Keys {
         Keys::boxed(alloc, Table::with_capacity(alloc, capacity)?)
     }
 
-    /// The keys of entries: those of equal keys become one, with the last value at the position of the first. Where no key repeats, the keys are taken over as they are.
-    /// The error is a failed allocation, and then what is in `values` is unspecified.
+    /// The keys of entries: those of equal keys become one, with the last value at the position of
+    /// the first. Where no key repeats, the keys are taken over as they are. The error is a failed
+    /// allocation, and then what is in `values` is unspecified.
     pub fn from_entries<V: Drop>(
         alloc: Global,
         keys: Vec<Key>,
@@ -88,7 +96,8 @@ impl Keys {
     ) -> Result<Keys, AllocError>
         requires { length values.old.items ≡ length keys.items }
         ensures even { IfOk result (λ k. length values.new.items ≡ length k) }
-        ensures merged { IfOk result (λ k. zip k values.new.items ≡ put_each (zip keys.items values.old.items)) }
+        ensures merged { IfOk result (λ k. zip k values.new.items
+            ≡ put_each (zip keys.items values.old.items)) }
     {
         if keys.is_empty() {
             return Ok(Keys::new(alloc));
@@ -161,9 +170,10 @@ impl Keys {
         self.push_first(alloc, name)
     }
 
-    /// The position of a key. A missing key is put last, and the result is `None`. The error is a failed allocation, and then nothing has changed.
+    /// The position of a key. A missing key is put last, and the result is `None`. The error is a
+    /// failed allocation, and then nothing has changed.
     pub fn place(&mut self, alloc: Global, key: Key) -> Result<Option<usize>, AllocError>
-        ensures place { IfOk result (λ place. place ≡ position (λ k. bytes_eq k key) self.old) }
+        ensures position { IfOk result (λ place. place ≡ position (λ k. bytes_eq k key) self.old) }
         ensures ok { IfOk result (λ place. MatchOption place
             (self.new ≡ self.old ++ key ∷ []) (λ _. self.new ≡ self.old)) }
         ensures err { OnErr result (self.new ≡ self.old) }
@@ -173,7 +183,8 @@ impl Keys {
 
     /// The same, for a key of this name, which is made only where it is missing.
     pub fn put(&mut self, alloc: Global, name: &str) -> Result<Option<usize>, AllocError>
-        ensures place { IfOk result (λ place. place ≡ position (λ k. bytes_eq k name.now) self.old) }
+        ensures position { IfOk result (λ place. place
+            ≡ position (λ k. bytes_eq k name.now) self.old) }
         ensures ok { IfOk result (λ place. MatchOption place
             (self.new ≡ self.old ++ name.now ∷ []) (λ _. self.new ≡ self.old)) }
         ensures err { OnErr result (self.new ≡ self.old) }
@@ -197,7 +208,8 @@ impl Keys {
         }
     }
 
-    /// Keeps the keys and the values for which `keep` returns `true`, in their order. Takes no memory.
+    /// Keeps the keys and the values for which `keep` returns `true`, in their order. Takes no
+    /// memory.
     pub fn retain<V: Drop, F: FnMut(&str, &mut V) -> bool>(&mut self, values: &mut Vec<V>, keep: F)
         requires even { length values.old.items ≡ length self.old }
         requires callable { CallableOnEachPair (CalledAtPair F.FnMut) (TakesPair F.FnMut) keep
@@ -241,8 +253,9 @@ impl Keys {
     }
 }
 
-/// Makes the entries of equal keys one, with the last value at the position of the first. `false` where no two keys have one hash: then nothing has changed. The error
-/// is a failed allocation, and then nothing has changed.
+/// Makes the entries of equal keys one, with the last value at the position of the first. `false`
+/// where no two keys have one hash: then nothing has changed. The error is a failed allocation, and
+/// then nothing has changed.
 pub(crate) fn merge<V: Drop>(
     alloc: Global,
     keys: &mut Vec<Key>,
@@ -250,11 +263,13 @@ pub(crate) fn merge<V: Drop>(
 ) -> Result<bool, AllocError>
     requires { length values.old.items ≡ length keys.old.items }
     ensures even { length values.new.items ≡ length keys.new.items }
-    ensures same { put_each (zip keys.new.items values.new.items) ≡ put_each (zip keys.old.items values.old.items) }
+    ensures entries { put_each (zip keys.new.items values.new.items)
+        ≡ put_each (zip keys.old.items values.old.items) }
     ensures kept { IfOk result (λ merged. merged ≡ false → (keys.new.items ≡ keys.old.items)
         × (values.new.items ≡ values.old.items)) }
     ensures distinct { IfOk result (λ _. IsDistinct bytes_eq keys.new.items) }
-    ensures err { OnErr result ((keys.new.items ≡ keys.old.items) × (values.new.items ≡ values.old.items)) }
+    ensures err { OnErr result ((keys.new.items ≡ keys.old.items)
+        × (values.new.items ≡ values.old.items)) }
 {
     let mut index = index::of(alloc, keys.as_slice())?;
     if !index::has_tie(index.as_slice()) {

@@ -1,4 +1,5 @@
-//! What JSON values and their parser are built on: errors, numbers, short strings, keys, and lists of entries.
+//! What JSON values and their parser are built on: errors, numbers, short strings, keys, and lists
+//! of entries.
 #![tactic(auto)]
 
 pub mod digits;

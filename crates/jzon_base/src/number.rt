@@ -20,8 +20,8 @@ enum Category {
     Nan,
 }
 
-/// A number: `mantissa * 10 ^ exponent` with a sign, or NaN. It keeps its parts as they were set: `1.50` and `1.5` have
-/// different parts but are equal.
+/// A number: `mantissa * 10 ^ exponent` with a sign, or NaN. It keeps its parts as they were set:
+/// `1.50` and `1.5` have different parts but are equal.
 #[derive(Clone, Copy, Debug)]
 pub struct Number {
     category: Category,
@@ -67,8 +67,9 @@ impl Number {
         }
     }
 
-    /// The number with this sign and decimal. Trailing zeros of the mantissa are stripped, one at a time, while the
-    /// exponent is negative, so a mantissa 0 with a negative exponent ends at exponent 0.
+    /// The number with this sign and decimal. Trailing zeros of the mantissa are stripped, one at a
+    /// time, while the exponent is negative, so a mantissa 0 with a negative exponent ends at
+    /// exponent 0.
     pub fn from_parts(positive: bool, mantissa: u64, exponent: i16) -> Number
         ensures { StripsTo positive mantissa exponent result }
     {
@@ -121,7 +122,8 @@ impl Number {
     }
 }
 
-/// A copy, made field by field: `*number` would go through a slot of the stack on its way into a list.
+/// A copy, made field by field: `*number` would go through a slot of the stack on its way into a
+/// list.
 #[inline(always)]
 pub(crate) fn copy_fields(number: &Number) -> Number
     ensures { result ≡ number.now }
@@ -204,7 +206,8 @@ fn same_parts(
     other_mantissa: u64,
     other_exponent: i16,
 ) -> bool
-    ensures { result ≡ same (parts positive mantissa exponent) (parts other_positive other_mantissa other_exponent) }
+    ensures { result ≡ same (parts positive mantissa exponent)
+        (parts other_positive other_mantissa other_exponent) }
 {
     if mantissa == 0 || other_mantissa == 0 {
         return mantissa == other_mantissa;

@@ -22,7 +22,8 @@ use std::alloc::{AllocError, Global};
 use std::fmt;
 use std::marker::Model;
 
-/// Values under distinct keys, in the order in which the keys were put. A clause sees the list of entries.
+/// Values under distinct keys, in the order in which the keys were put. A clause sees the list of
+/// entries.
 #[derive(Drop)]
 pub struct Pairs<V> {
     keys: Keys,
@@ -72,7 +73,8 @@ impl<V> Pairs<V> {
         }
     }
 
-    /// No entry, with room for the keys, the values and the index of `capacity` entries. The error is a failed allocation.
+    /// No entry, with room for the keys, the values and the index of `capacity` entries. The error
+    /// is a failed allocation.
     pub fn with_capacity(alloc: Global, capacity: usize) -> Result<Pairs<V>, AllocError>
         ensures { IfOk result (λ p. p ≡ []) }
     {
@@ -150,7 +152,8 @@ impl<V> Pairs<V> {
     /// The value at a position, to be written: nothing else changes.
     pub fn value_mut(&mut self, index: usize) -> &mut V
         requires { index < length self.old }
-        ensures* writes_back { sem 𝓛 (Lends (the_row V.row) V.row self.entry result (set_value self.old index)) }
+        ensures* writes_back { sem 𝓛 (Lends (the_row V.row) V.row self.entry result
+            (set_value self.old index)) }
         ensures value { slice_get (values_of self.old) index ≡ Some result.now }
     {
         &mut self.values[index]
@@ -167,7 +170,8 @@ impl<V> Pairs<V> {
     /// The value of a key, to be written: nothing else changes.
     #[tactic(auto, using(crate::proofs::PairPlaces::places))]
     pub fn get_mut(&mut self, name: &str) -> Option<&mut V>
-        ensures* writes_back { sem 𝓛 (LendsIf (the_row V.row) V.row self.entry result (λ w. put name.now w self.old)
+        ensures* writes_back { sem 𝓛 (LendsIf (the_row V.row) V.row self.entry result
+            (λ w. put name.now w self.old)
             self.old) }
         ensures value { option_copied_mut result ≡ find name.now self.old }
     {
@@ -179,7 +183,8 @@ impl<V> Pairs<V> {
     #[tactic(auto, using(crate::proofs::PairPlaces::places))]
     pub fn member_mut(&mut self, name: &str) -> &mut V
         requires { IsSome (find name.now self.old) }
-        ensures* writes_back { sem 𝓛 (Lends (the_row V.row) V.row self.entry result (λ w. put name.now w self.old)) }
+        ensures* writes_back { sem 𝓛 (Lends (the_row V.row) V.row self.entry result
+            (λ w. put name.now w self.old)) }
         ensures value { Some result.now ≡ find name.now self.old }
     {
         match self.position(name) {
@@ -202,7 +207,8 @@ impl<V> Pairs<V> {
         Ok(())
     }
 
-    /// Puts a value under a key: in its place where the key is there, which takes no memory, else last. The error is a failed allocation.
+    /// Puts a value under a key: in its place where the key is there, which takes no memory, else
+    /// last. The error is a failed allocation.
     #[tactic(auto, using(crate::proofs::PairPlaces::places))]
     pub fn insert(&mut self, alloc: Global, name: &str, value: V) -> Result<(), AllocError>
     where
@@ -219,12 +225,14 @@ impl<V> Pairs<V> {
         Ok(())
     }
 
-    /// The position of a key. Where the key is missing it is put last with `value`, and the error is a failed allocation.
+    /// The position of a key. Where the key is missing it is put last with `value`, and the error
+    /// is a failed allocation.
     #[tactic(auto, using(crate::proofs::PairPlaces::places))]
     pub fn place(&mut self, alloc: Global, name: &str, value: V) -> Result<usize, AllocError>
     where
         V: Drop,
-        ensures place { IfOk result (λ i. position (λ k. bytes_eq k name.now) (keys_of self.new) ≡ Some i) }
+        ensures position { IfOk result (λ i. position (λ k. bytes_eq k name.now) (keys_of self.new)
+            ≡ Some i) }
         ensures ok { OnOk result (self.new ≡ with_default name.now value self.old) }
         ensures err { OnErr result (self.new ≡ self.old) }
         ensures present { OnErr result (find name.now self.old ≡ None) }
@@ -239,14 +247,17 @@ impl<V> Pairs<V> {
         }
     }
 
-    /// The value of a key, to be written. Where the key is missing it is put last with `value`, and the error is a failed allocation.
+    /// The value of a key, to be written. Where the key is missing it is put last with `value`, and
+    /// the error is a failed allocation.
     #[tactic(auto, using(crate::proofs::PairPlaces::places))]
     pub fn at_mut(&mut self, alloc: Global, name: &str, value: V) -> Result<&mut V, AllocError>
     where
         V: Drop,
-        ensures* writes_back { sem 𝓛 (LendsIfOk (the_row V.row) V.row self.entry result (λ w. put name.now w self.old)
+        ensures* writes_back { sem 𝓛 (LendsIfOk (the_row V.row) V.row self.entry result
+            (λ w. put name.now w self.old)
             self.old) }
-        ensures value { IfOk result (λ x. Some x.now ≡ find name.now (with_default name.now value self.old)) }
+        ensures value { IfOk result (λ x. Some x.now
+            ≡ find name.now (with_default name.now value self.old)) }
         ensures present { OnErr result (find name.now self.old ≡ None) }
     {
         let index = self.place(alloc, name, value)?;
@@ -275,7 +286,8 @@ impl<V> Pairs<V> {
         self.values.remove(index)
     }
 
-    /// Removes the entry of a key, and returns its value. The others keep their order. Takes no memory.
+    /// Removes the entry of a key, and returns its value. The others keep their order. Takes no
+    /// memory.
     #[tactic(auto, using(crate::proofs::PairPlaces::places))]
     pub fn remove(&mut self, name: &str) -> Option<V>
         ensures value { result ≡ find name.now self.old }
@@ -285,7 +297,8 @@ impl<V> Pairs<V> {
         Some(self.remove_at(index))
     }
 
-    /// Keeps the entries for which `keep` returns `true`, in their order. `keep` is called once for each entry, in order, and may change the value. Takes no memory.
+    /// Keeps the entries for which `keep` returns `true`, in their order. `keep` is called once for
+    /// each entry, in order, and may change the value. Takes no memory.
     pub fn retain<F: FnMut(&str, &mut V) -> bool>(&mut self, keep: F)
     where
         V: Drop,

@@ -1,5 +1,5 @@
-//! What the other modules share: the write loop, the text of a number, copies of numbers, escapes, runs of plain bytes,
-//! and vectors without spare capacity.
+//! What the other modules share: the write loop, the text of a number, copies of numbers, escapes,
+//! runs of plain bytes, and vectors without spare capacity.
 
 ghost use Rattle.std.specs.Prelude.{OnOk, OnErr};
 ghost use Rattle.std.specs.Io.KnownBytes.{Appends};
@@ -14,8 +14,8 @@ pub mod fit;
 pub mod plain;
 pub mod print_dec;
 
-/// Writes all bytes, and returns each error of the writer: also `Interrupted`, and `WriteZero` for a write of 0 bytes.
-/// After an error a prefix of the bytes is written.
+/// Writes all bytes, and returns each error of the writer: also `Interrupted`, and `WriteZero` for
+/// a write of 0 bytes. After an error a prefix of the bytes is written.
 pub fn write_bytes<W: Write>(writer: &mut W, bytes: &[u8]) -> io::Result<()>
     ensures ok { OnOk result (Appends (W.contents writer.old) (W.contents writer.new) bytes.now) }
     ensures err { OnErr result

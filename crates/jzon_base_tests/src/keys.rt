@@ -1,4 +1,4 @@
-//! Keys and their places.
+//! Keys and their positions.
 
 use jzon_base::key::Key;
 use jzon_base::keys::hash::hash_of;
@@ -69,7 +69,7 @@ fn places_a_removed_key(rt: HostRuntime) -> Result<(), AllocError> {
     Ok(())
 }
 
-/// Each of these keys stands at its place, or nowhere.
+/// Each of these keys is at its position, or missing.
 fn expect_places(rt: &impl Abort, keys: &Keys, rows: &[(&str, Option<usize>)]) {
     for (name, want) in rows {
         assert_eq!(rt; keys.position(name), *want, "of {name}");

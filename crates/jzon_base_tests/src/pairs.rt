@@ -109,7 +109,8 @@ fn gives_from_both_ends(rt: HostRuntime) -> Result<(), AllocError> {
     Ok(())
 }
 
-/// Sets the first and the last value to 0: `next` and `next_back` ask nothing of who is lent the iterator.
+/// Sets the first and the last value to 0: `next` and `next_back` require nothing of who borrows
+/// the iterator.
 fn clear_ends(lent: &mut IterMut<'_, u32>) {
     if let Some((_, first)) = lent.next() {
         *first = 0;
@@ -201,7 +202,7 @@ fn numbered(alloc: Global, count: u32) -> Result<Pairs<u32>, AllocError> {
     Ok(pairs)
 }
 
-/// Removes k0, k2 to k998, and tells whether each was there.
+/// Removes k0, k2 to k998, and returns whether each was there.
 fn remove_even(alloc: Global, pairs: &mut Pairs<u32>) -> Result<bool, AllocError> {
     let mut were_there = true;
     for number in 0..1000u32 {
@@ -263,7 +264,8 @@ fn goes_over_a_thousand_keys(rt: HostRuntime) -> Result<(), AllocError> {
     Ok(())
 }
 
-/// Of the pairs k0 0, k1 1 and so on, `count` of them, every `step`th is left, in order: its position is found, and no other key is.
+/// Of the pairs k0 0, k1 1 and so on, `count` of them, every `step`th is left, in order: its
+/// position is found, and no other key is.
 fn expect_every(
     rt: &impl Abort,
     alloc: Global,
@@ -288,7 +290,8 @@ fn expect_every(
     Ok(())
 }
 
-/// Few keys and many, in one run of the index and in several: all are kept, none, every second and every hundredth. What is left can be put to.
+/// Few keys and many, in one run of the index and in several: all are kept, none, every second and
+/// every hundredth. What is left can be put to.
 #[test]
 fn finds_what_is_retained(rt: HostRuntime) -> Result<(), AllocError> {
     for (count, step) in [
@@ -376,7 +379,7 @@ fn builds_pairs_of_few_keys(rt: HostRuntime) -> Result<(), AllocError> {
     expect_shown(&rt, rt.alloc(), &pairs, "c999 a7 b999 d7 ")
 }
 
-/// A text of the hash 0. What stands behind it keeps the hash: zero bytes, and `BLOCK` among them.
+/// A text of the hash 0. What comes after it keeps the hash: zero bytes, and `BLOCK` among them.
 const ZERO: &str = "77kepQFQ8Kl";
 
 const BLOCK: &str = "GhL ,\u{8}\u{1b}s\u{5}\u{18}";
@@ -397,7 +400,7 @@ fn name_of(alloc: Global, number: usize) -> Result<String, AllocError> {
     Ok(name)
 }
 
-/// The pairs of so many keys of one hash, and their numbers.
+/// Entries of `count` keys of one hash, and their numbers.
 fn of_one_hash(alloc: Global, count: usize) -> Result<Pairs<usize>, AllocError> {
     let mut built = Builder::new(alloc);
     for number in 0..count {
@@ -417,7 +420,7 @@ fn place_of(
     Ok(pairs.position(name.as_str()))
 }
 
-/// Each of these keys is found at its place, or nowhere.
+/// Each of these keys is found at its position, or not at all.
 fn expect_places(
     rt: &impl Abort,
     alloc: Global,
@@ -444,7 +447,7 @@ fn finds_many_keys_of_one_hash(rt: HostRuntime) -> Result<(), AllocError> {
     expect_places(&rt, rt.alloc(), &pairs, &[(20_000, None)])
 }
 
-/// Removes this one of the keys, and tells its value.
+/// Removes this one of the keys, and returns its value.
 fn remove(
     alloc: Global,
     pairs: &mut Pairs<usize>,
@@ -454,7 +457,7 @@ fn remove(
     Ok(pairs.remove(name.as_str()))
 }
 
-/// Keys of one hash in the order d, b, a, c, and behind them so many others that there is an index.
+/// Keys of one hash in the order d, b, a, c, and after them others, so that there is an index.
 const LETTERS: [usize; 9] = [3, 1, 0, 2, 10, 11, 12, 13, 14];
 
 fn of_letters(alloc: Global) -> Result<Pairs<usize>, AllocError> {
@@ -559,7 +562,8 @@ fn insert_each(pairs: &mut Pairs<u32>, alloc: Global, keys: &[String]) -> Result
     Ok(())
 }
 
-/// Fills pairs that have room for these keys. Not one request for memory is made: the first would be refused.
+/// Fills pairs that have room for these keys. No memory is requested: the first allocation would
+/// fail.
 fn expect_room(
     rt: &impl Abort,
     alloc: Global,
@@ -574,7 +578,8 @@ fn expect_room(
     assert_eq!(rt; pairs.len(), keys.len());
 }
 
-/// `with_capacity` gives keys, values and index their room, and `clear` keeps it. One key more takes memory.
+/// `with_capacity` gives keys, values and index their room, and `clear` keeps it. One key more
+/// takes memory.
 #[test]
 fn room_for_pairs_under_refusals(rt: HostRuntime) -> Result<(), Fail> {
     let alloc = rt.alloc();

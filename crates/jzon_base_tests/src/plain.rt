@@ -18,7 +18,8 @@ fn short_runs(rt: HostRuntime) {
     }
 }
 
-/// A run of `byte` up to `stop` at each offset ends there, also where nothing follows the stop, and where the stop is missing.
+/// A run of `byte` up to `stop` at each offset ends there, also where nothing follows the stop, and
+/// where the stop is missing.
 fn expect_runs(rt: &impl Abort, byte: u8, stop: u8) {
     for offset in 0..70 {
         let mut bytes = [byte; 70];

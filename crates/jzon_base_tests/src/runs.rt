@@ -27,7 +27,8 @@ impl Model for Sevens {
 
     ghost view = { λ s. s.keys.items };
 
-    ghost invariant = { λ s. IsIndexOf (map (λ _. 7) s.keys.items) s.index × IsDistinct bytes_eq s.keys.items };
+    ghost invariant = { λ s. IsIndexOf (map (λ _. 7) s.keys.items) s.index
+        × IsDistinct bytes_eq s.keys.items };
 }
 
 impl Sevens {

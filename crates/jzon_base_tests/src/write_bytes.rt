@@ -5,8 +5,8 @@ use jzon_test_support::{NO_FAILING_CALL, SlowWriter, Trouble};
 use std::io::ErrorKind;
 use std::test::Fail;
 
-/// The text of the longest number, to a writer that fails at each call in turn: the bytes before it are written, no byte
-/// follows, and the error is returned.
+/// The text of the longest number, to a writer that fails at each call in turn: the bytes before it
+/// are written, no byte follows, and the error is returned.
 #[test]
 fn returns_each_error(rt: HostRuntime) -> Result<(), Fail> {
     let text = b"-1.8446744073709551615e-32749";

@@ -1,6 +1,8 @@
-//! Canonical printer: a layout of one's own, which prints the entries of each object in the order of their keys.
+//! Canonical printer: a layout of one's own, which prints the entries of each object in the order
+//! of their keys.
 //!
-//! `sorted_style` allows that order alone, so the contract says that what is printed is sorted; and each writing is read as an equal value, in whatever style.
+//! `sorted_style` allows that order alone, so the contract says that what is printed is sorted; and
+//! each writing is read as an equal value, in whatever style.
 
 ghost use Rattle.std.specs.Prelude.{◌≡◌, ◌≤◌, IfOk, IsTrue, map, slice_get, Some, string_bytes};
 ghost use Rattle.jzon.specs.Entries.{entries_of};
@@ -20,11 +22,13 @@ use jzon::object::Object;
 use jzon::{JsonValue, Result};
 use std::alloc::{AllocError, Global};
 
-/// The canonical text of a value that was built: no whitespace, and the entries of each object in the order of their keys.
+/// The canonical text of a value that was built: no whitespace, and the entries of each object in
+/// the order of their keys.
 pub fn canonical(alloc: Global, value: &JsonValue) -> Result<String>
     requires nan { HasNoNan (view value.now) }
     requires depth { nest (view value.now) ≤ 512 }
-    ensures sorted { IfOk result (λ text. Writes sorted_style 0 (view value.now) (string_bytes text)) }
+    ensures sorted { IfOk result (λ text. Writes sorted_style 0 (view value.now)
+        (string_bytes text)) }
     ensures read { IfOk result (λ text. IsReadAs usual (string_bytes text)
         (λ again. IsTrue (same again (view value.now)))) }
 {
@@ -59,7 +63,8 @@ pub fn sorted_positions(
     alloc: Global,
     object: &Object,
 ) -> std::result::Result<Vec<usize>, AllocError>
-    ensures { IfOk result (λ positions. IsAnswer sorted_style (keys_of (entries_of object.now)) (Some positions)) }
+    ensures { IfOk result (λ positions. IsAnswer sorted_style (keys_of (entries_of object.now))
+        (Some positions)) }
 {
     let keys = keys_in_order(alloc, object)?;
     let mut positions = Vec::new(alloc);
@@ -79,7 +84,8 @@ fn keys_in_order<'a>(
     alloc: Global,
     object: &'a Object,
 ) -> std::result::Result<Vec<&'a str>, AllocError>
-    ensures { IfOk result (λ keys. map (λ key. key.now) keys.items ≡ keys_of (entries_of object.now)) }
+    ensures { IfOk result (λ keys. map (λ key. key.now) keys.items
+        ≡ keys_of (entries_of object.now)) }
 {
     let mut keys = Vec::new(alloc);
     for (key, _) in object.iter() {

@@ -1,6 +1,7 @@
 //! Chains of iterator calls over a value's members and elements.
 //!
-//! `YieldsList-from_entries` and `YieldsList-from_elements` say what such a chain goes over, as it is seen; std has a lemma for each call that ends one.
+//! `YieldsList-from_entries` and `YieldsList-from_elements` say what such a chain goes over, as it
+//! is seen; std has a lemma for each call that ends one.
 
 ghost use Rattle.std.specs.Prelude.{◌≡◌, ◌||◌, codes, position};
 ghost use Rattle.std.specs.List.{list_all};
@@ -13,7 +14,8 @@ use jzon::JsonValue;
 /// Whether a value has no member but `name` and `port`.
 pub fn has_only_known_names(value: &JsonValue) -> bool
     ensures { result ≡ list_all
-        (λ p. bytes_eq p.0 (codes "name") || bytes_eq p.0 (codes "port")) (entries (view value.now)) }
+        (λ p. bytes_eq p.0 (codes "name") || bytes_eq p.0 (codes "port"))
+        (entries (view value.now)) }
 {
     value
         .entries()

@@ -13,7 +13,8 @@ ghost use Rattle.jzon_examples.specs.Config.{port_value, position_in, Rejects};
 use jzon::{Error, Result};
 use std::alloc::Global;
 
-/// The port that the text configures, if it is a `u16`. A text with a fault is rejected with the error of its first fault.
+/// The port that the text configures, if it is a `u16`. A text with a fault is rejected with the
+/// error of its first fault.
 pub fn port(alloc: Global, source: &str) -> Result<Option<u16>>
     ensures port { IfOk result (λ port. (d : Document) × Parses usual (chars source.now) d
         × SomeWhere (unsigned_in (port_value (meaning d.node))) (λ n. n < 2 ^ 16) port) }

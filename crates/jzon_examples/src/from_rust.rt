@@ -1,4 +1,5 @@
-//! What a user of the Rust crate writes, in the form that it has here (docs/FROM_RUST.md quotes these lines).
+//! What a user of the Rust crate writes, in the form that it has here (docs/FROM_RUST.md quotes
+//! these lines).
 
 use jzon::{JsonValue, Result};
 use std::alloc::Global;

@@ -11,7 +11,8 @@ ghost use Rattle.jzon.specs.View.{view};
 use jzon::{JsonValue, Result};
 use std::alloc::Global;
 
-/// The members of both. A name in both has the value of `later`. A value that is no object has no members.
+/// The members of both. A name in both has the value of `later`. A value that is no object has no
+/// members.
 pub fn layered(alloc: Global, base: &JsonValue, later: &JsonValue) -> Result<JsonValue>
     requires { IsReadable usual (view later.now) }
     ensures object { IfOk result (λ both. is_object (view both) ≡ true) }

@@ -1,7 +1,8 @@
 //! Merge patches (RFC 7386): a value that says what is changed of another one.
 //!
-//! `patched` of specs/Merge.antt is the pseudocode of section 2, over values. The three functions call one another, so they share a cycle, and
-//! proofs/merge_patch/+merge says what gets smaller: the size of the patch.
+//! `patched` of specs/Merge.antt is the pseudocode of section 2, over values. The three functions
+//! call one another, so they share a cycle, and proofs/merge_patch/+merge says what gets smaller:
+//! the size of the patch.
 
 ghost use Rattle.std.specs.Prelude.{◌≡◌, IfOk, OnOk, OnErr, IsOkUnless};
 ghost use Rattle.jzon.specs.Entries.{entries_of};

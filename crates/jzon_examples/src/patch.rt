@@ -1,7 +1,8 @@
 //! Operations of a JSON patch (RFC 6902): add, remove, replace and test.
 //!
-//! `patched` of specs/Patch.antt says what each makes of a value, and which error it has. A path is the reference tokens of a pointer, as
-//! `pointer::tokens_of` gives them, and leads through members of objects.
+//! `patched` of specs/Patch.antt says what each makes of a value, and which error it has. A path is
+//! the reference tokens of a pointer, as `pointer::tokens_of` gives them, and leads through members
+//! of objects.
 
 ghost use Rattle.std.specs.Prelude.{◌≡◌, ◌⊎◌, map, string_bytes, OnOk, OnErr, IfErr, Ok, Err, true, false};
 ghost use Rattle.jzon.specs.Same.{same};
@@ -151,7 +152,8 @@ fn change_member(
 
 fn test(found: &JsonValue, expected: &JsonValue) -> Result<(), PatchError>
     ensures ok { OnOk result (same (view found.now) (view expected.now) ≡ true) }
-    ensures error { IfErr result (λ e. (e ≡ TestFailed) × (same (view found.now) (view expected.now) ≡ false)) }
+    ensures error { IfErr result (λ e. (e ≡ TestFailed)
+        × (same (view found.now) (view expected.now) ≡ false)) }
 {
     if found == expected {
         Ok(())

@@ -1,6 +1,7 @@
 //! JSON pointers (RFC 6901): what the tokens of a pointer lead to.
 //!
-//! `value_at` of specs/Pointer.antt says it over values; a `JsonValue` is read by `at_index` and `get`, whose contracts speak of the same values.
+//! `value_at` of specs/Pointer.antt says it over values; a `JsonValue` is read by `at_index` and
+//! `get`, whose contracts speak of the same values.
 
 ghost use Rattle.std.specs.Prelude.{◌≡◌, ◌&&◌, ◌==◌, nat_lt, length, slice_index, map, option_map, string_bytes};
 ghost use Rattle.std.specs.Char.{is_ascii_digit};

@@ -1,7 +1,9 @@
-//! Redaction: the value of each member with one of some names is replaced by a fixed string, at any depth, in place.
+//! Redaction: the value of each member with one of some names is replaced by a fixed string, at any
+//! depth, in place.
 //!
-//! `redacted` of specs/Redact.antt says it over values. A loop writes the members of an object by their positions, and the elements of an array by
-//! `iter_mut`: of both a contract can say what is written. Nothing is copied or allocated.
+//! `redacted` of specs/Redact.antt says it over values. A loop writes the members of an object by
+//! their positions, and the elements of an array by `iter_mut`: of both a contract can say what is
+//! written. Nothing is copied or allocated.
 
 ghost use Rattle.std.specs.Prelude.{◌≡◌, map, slice_get, if◌then◌else◌};
 ghost use Rattle.jzon.specs.Entries.{entries_of};
@@ -12,7 +14,8 @@ use jzon::JsonValue;
 use jzon::object::Object;
 use jzon::short::Short;
 
-/// Replaces the value of each member whose name is one of `names` by the string `***`, at any depth.
+/// Replaces the value of each member whose name is one of `names` by the string `***`, at any
+/// depth.
 #[cycle(redact)]
 #[tactic(auto, using(crate::proofs::RedactSteps::redaction))]
 pub fn redact(value: &mut JsonValue, names: &[&str])

@@ -1,7 +1,9 @@
 //! Round trip: what is printed is read again.
 //!
-//! `IsReadable usual v` says that `parse` can read what is printed of `v`: it holds no NaN and nests at most 512 deep. Each value that `parse` returns is so. Of
-//! a value that calls built, no more has to be known than these two: the call that prints it ensures the other premises of the laws.
+//! `IsReadable usual v` says that `parse` can read what is printed of `v`: it holds no NaN and
+//! nests at most 512 deep. Each value that `parse` returns is so. Of a value that calls built, no
+//! more has to be known than these two: the call that prints it ensures the other premises of the
+//! laws.
 
 ghost use Rattle.std.specs.Prelude.{◌≡◌, ◌≤◌, IfOk, IsOkUnless, IsTrue, string_bytes};
 ghost use Rattle.jzon.specs.Answer.{IsReadable};
@@ -18,28 +20,30 @@ use std::alloc::Global;
 /// Prints the value and reads the text: an equal value, or `OutOfMemory`.
 pub fn reread(alloc: Global, value: &JsonValue) -> Result<JsonValue>
     requires { IsReadable usual (view value.now) }
-    ensures same { IfOk result (λ again. IsTrue (same (view again) (view value.now))) }
+    ensures equal { IfOk result (λ again. IsTrue (same (view again) (view value.now))) }
     ensures memory { IsOkUnless result Error.OutOfMemory }
 {
     let text = value.dump(alloc)?;
     jzon::parse(alloc, text.as_str())
 }
 
-/// Prints any value that was built, with `spaces` spaces for each open container, and reads the text: an equal value, or `OutOfMemory`.
+/// Prints any value that was built, with `spaces` spaces for each open container, and reads the
+/// text: an equal value, or `OutOfMemory`.
 pub fn reread_lines(alloc: Global, value: &JsonValue, spaces: u16) -> Result<JsonValue>
     requires nan { HasNoNan (view value.now) }
     requires depth { nest (view value.now) ≤ 512 }
-    ensures same { IfOk result (λ again. IsTrue (same (view again) (view value.now))) }
+    ensures equal { IfOk result (λ again. IsTrue (same (view again) (view value.now))) }
     ensures memory { IsOkUnless result Error.OutOfMemory }
 {
     let text = value.pretty(alloc, spaces)?;
     jzon::parse(alloc, text.as_str())
 }
 
-/// Dumps what is read of the dump of any value that was built, NaN or not: the same bytes, or `OutOfMemory`.
+/// Dumps what is read of the dump of any value that was built, NaN or not: the same bytes, or
+/// `OutOfMemory`.
 pub fn redump(alloc: Global, value: &JsonValue) -> Result<String>
     requires depth { nest (view value.now) ≤ 512 }
-    ensures same { IfOk result (λ text. string_bytes text ≡ compact (view value.now)) }
+    ensures text { IfOk result (λ text. string_bytes text ≡ compact (view value.now)) }
     ensures memory { IsOkUnless result Error.OutOfMemory }
 {
     let text = value.dump(alloc)?;

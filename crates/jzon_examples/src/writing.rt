@@ -1,6 +1,7 @@
 //! Writes under a key.
 //!
-//! `insert` says of the value what it is after the call, `with_entry`; the laws of values say what is found in it.
+//! `insert` says of the value what it is after the call, `with_entry`; the laws of values say what
+//! is found in it.
 
 ghost use Rattle.std.specs.Prelude.{◌≡◌, ◌≢◌, ℕ, List, codes, Some, OnOk, OnErr, pos};
 ghost use Rattle.jzon.specs.Decimal.{integer_parts};
@@ -12,7 +13,8 @@ ghost use Rattle.jzon.specs.View.{view};
 use jzon::{JsonValue, Result};
 use std::alloc::Global;
 
-/// Writes the port of an object. All other members are as before, and after an error the whole value is.
+/// Writes the port of an object. All other members are as before, and after an error the whole
+/// value is.
 pub fn set_port(alloc: Global, value: &mut JsonValue, port: u16) -> Result<()>
     ensures written { OnOk result (find (codes "port") (entries (view value.new))
         ≡ Some (number (integer_parts (pos port)))) }

@@ -24,7 +24,8 @@ pub fn keys_of_one_hash(alloc: Global, count: usize) -> Result<Vec<String>, Allo
     Ok(keys)
 }
 
-/// The compact text of an object with these keys, each with null. Zero bytes are the only ones escaped in it.
+/// The compact text of an object with these keys, each with null. Zero bytes are the only ones
+/// escaped in it.
 pub fn object_text(alloc: Global, keys: &[String]) -> Result<String, AllocError> {
     let mut text = String::new(alloc);
     for key in keys {

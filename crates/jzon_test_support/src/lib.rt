@@ -1,5 +1,5 @@
-//! Shared by the tests of several crates: runs with failing allocations, a writer that fails, long texts, hostile keys,
-//! and a sample text.
+//! Shared by the tests of several crates: runs with failing allocations, a writer that fails, long
+//! texts, hostile keys, and a sample text.
 #![tactic(auto)]
 
 mod keys;

@@ -1,5 +1,5 @@
-//! Repeats a call with its allocations failing in turn. ci/refuse.c makes them fail: bin/test runs these tests once
-//! more with it. Without it each test runs its call once, with enough memory.
+//! Repeats a call with its allocations failing in turn. ci/refuse.c makes them fail: bin/test runs
+//! these tests once more with it. Without it each test runs its call once, with enough memory.
 
 use std::alloc::Global;
 
@@ -9,8 +9,8 @@ const MARK: usize = 1 << 62;
 /// The largest number of runs of one call. No test needs as many.
 pub const RUNS_MAX: usize = 200;
 
-/// Runs of one call. In the first run the first allocation fails, in the next run the second, and so on, until in a run
-/// no allocation fails.
+/// Runs of one call. In the first run the first allocation fails, in the next run the second, and
+/// so on, until in a run no allocation fails.
 #[derive(Drop)]
 pub struct Refusals {
     alloc: Global,
@@ -46,9 +46,9 @@ impl Refusals {
         has_failed
     }
 
-    /// To be called after the last run, in which no allocation may have failed. Prints how many runs had a failed
-    /// allocation, in a line that bin/test reads, and returns an error if ci/refuse.c is loaded and there were fewer
-    /// than `least`.
+    /// To be called after the last run, in which no allocation may have failed. Prints how many
+    /// runs had a failed allocation, in a line that bin/test reads, and returns an error if
+    /// ci/refuse.c is loaded and there were fewer than `least`.
     pub fn report(&self, rt: &impl Eprint, test: &str, least: usize) -> Result<(), &'static str> {
         let _ = eprintln!(rt; "{test}: {} refusals", self.count);
         if !self.is_done {

@@ -14,7 +14,8 @@ pub enum Trouble {
     Fails(ErrorKind),
 }
 
-/// Accepts one byte per call, except at one call, where it fails or accepts nothing. A flush may fail too.
+/// Accepts one byte per call, except at one call, where it fails or accepts nothing. A flush may
+/// fail too.
 #[derive(Drop)]
 pub struct SlowWriter {
     /// The bytes accepted so far.

@@ -1,5 +1,5 @@
-//! Changes to values (docs/RULES.md, "Changers"). A call that fails leaves the value's meaning unchanged and drops the
-//! value that was passed to it.
+//! Changes to values (docs/RULES.md, "Changers"). A call that fails leaves the value's meaning
+//! unchanged and drops the value that was passed to it.
 
 ghost use Rattle.std.specs.Prelude.{◌≡◌, ◌-◌, codes, true, string_bytes, option_map, slice_get, remove, IfOk, IfErr};
 ghost use Rattle.std.specs.Prelude.{OnOk, OnErr, IsOkUnless};
@@ -43,8 +43,9 @@ impl JsonValue {
         mem::replace(self, JsonValue::Null)
     }
 
-    /// Returns the string and leaves null; any other value is left as it is. A string that is stored inline is copied
-    /// to an allocated `String`, the only case that can fail with `OutOfMemory`.
+    /// Returns the string and leaves null; any other value is left as it is. A string that is
+    /// stored inline is copied to an allocated `String`, the only case that can fail with
+    /// `OutOfMemory`.
     pub fn take_string(&mut self, alloc: Global) -> Result<Option<String>>
         ensures value { IfOk result (λ s. option_map string_bytes s ≡ text_in (view self.old)) }
         ensures after { OnOk result (view self.new ≡ without_text (view self.old)) }
@@ -66,10 +67,12 @@ impl JsonValue {
         }
     }
 
-    /// Appends an element to an array. Fails with `WrongType` if the value isn't an array, and with `OutOfMemory`.
+    /// Appends an element to an array. Fails with `WrongType` if the value isn't an array, and with
+    /// `OutOfMemory`.
     #[tactic(auto, using(crate::proofs::Views::views, crate::proofs::Seen::seen))]
     pub fn push<T: IntoJson>(&mut self, alloc: Global, value: T) -> Result<()>
-        ensures ok { OnOk result ((v : Value) × T.means value v × (view self.new ≡ with_item v (view self.old))) }
+        ensures ok { OnOk result ((v : Value) × T.means value v
+            × (view self.new ≡ with_item v (view self.old))) }
         ensures array { OnOk result (is_array (view self.old) ≡ true) }
         ensures err { OnErr result (view self.new ≡ view self.old) }
         ensures refusal { IfErr result (IsRefusal (is_array (view self.old)) (codes "Array")) }
@@ -86,15 +89,16 @@ impl JsonValue {
     /// Removes the last element of an array and returns it, or null if there is none.
     #[tactic(auto, using(crate::proofs::Views::views, crate::proofs::Seen::seen))]
     pub fn pop(&mut self) -> JsonValue
-        ensures value { view result ≡ or_null (slice_get (items (view self.old)) (count (view self.old) - 1)) }
+        ensures value { view result ≡ or_null
+            (slice_get (items (view self.old)) (count (view self.old) - 1)) }
         ensures after { view self.new ≡ without_item (count (view self.old) - 1) (view self.old) }
     {
         let last = self.len().saturating_sub(1);
         self.array_remove(last)
     }
 
-    /// Sets the member `key` of an object: at its position if the key is present, else last. Fails with `WrongType` if
-    /// the value isn't an object, and with `OutOfMemory`.
+    /// Sets the member `key` of an object: at its position if the key is present, else last. Fails
+    /// with `WrongType` if the value isn't an object, and with `OutOfMemory`.
     ///
     /// ```rust
     /// data.insert(alloc, "first", first)?;
@@ -113,8 +117,8 @@ impl JsonValue {
         }
     }
 
-    /// Removes the member `key` of an object and returns its value, or null if there is none. The others keep their
-    /// order.
+    /// Removes the member `key` of an object and returns its value, or null if there is none. The
+    /// others keep their order.
     #[tactic(auto, using(crate::proofs::Views::views, crate::proofs::Seen::seen))]
     pub fn remove(&mut self, key: &str) -> JsonValue
         ensures value { view result ≡ or_null (find key.now (entries (view self.old))) }
@@ -126,8 +130,8 @@ impl JsonValue {
         }
     }
 
-    /// Removes the element at a position of an array and returns it, or null if there is none. The others keep their
-    /// order.
+    /// Removes the element at a position of an array and returns it, or null if there is none. The
+    /// others keep their order.
     #[tactic(auto, using(crate::proofs::Views::views, crate::proofs::Seen::seen))]
     pub fn array_remove(&mut self, index: usize) -> JsonValue
         ensures value { view result ≡ or_null (slice_get (items (view self.old)) index) }
@@ -139,7 +143,8 @@ impl JsonValue {
         }
     }
 
-    /// Empties a string, which stays inline or allocated, or a container; any other value becomes null.
+    /// Empties a string, which stays inline or allocated, or a container; any other value becomes
+    /// null.
     #[tactic(auto, using(crate::proofs::Views::views, crate::proofs::Seen::seen))]
     pub fn clear(&mut self)
         ensures { view self.new ≡ cleared (view self.old) }

@@ -1,6 +1,7 @@
 //! Copies of values and of objects. They allocate, so each can fail with `OutOfMemory` only.
 
-ghost use Rattle.std.specs.Prelude.{◌≡◌, ◌+◌, ◌<◌, ◌++◌, ◌∷◌, [], map, true, false, IfOk, IsOkUnless, vec_len, vec_capacity};
+ghost use Rattle.std.specs.Prelude.{◌≡◌, ◌+◌, ◌<◌, ◌++◌, ◌∷◌, [], map, true, false, IfOk};
+ghost use Rattle.std.specs.Prelude.{IsOkUnless, vec_len, vec_capacity};
 ghost use Rattle.jzon_tree.specs.View.{view, view_object};
 
 use crate::object::Object;
@@ -77,12 +78,14 @@ fn copy_items(alloc: Global, items: &[JsonValue]) -> Result<Vec<JsonValue>>
     Ok(copies)
 }
 
-/// Adds a copy of a value that is stored inline, and returns whether it is. Each arm writes its copy where it stays: through `copy_value` it would be moved there.
+/// Adds a copy of a value that is stored inline, and returns whether it is. Each arm writes its
+/// copy where it stays: through `copy_value` it would be moved there.
 #[inline(always)]
 #[tactic(auto, using(crate::proofs::Views::views))]
 fn push_inline(copies: &mut Vec<JsonValue>, value: &JsonValue) -> bool
     requires { vec_len copies.old < vec_capacity copies.old }
-    ensures copy { result ≡ true → map view copies.new.items ≡ map view copies.old.items ++ view value.now ∷ [] }
+    ensures copy { result ≡ true → map view copies.new.items
+        ≡ map view copies.old.items ++ view value.now ∷ [] }
     ensures other { result ≡ false → copies.new ≡ copies.old }
     ensures room { vec_capacity copies.new ≡ vec_capacity copies.old }
     ensures len { result ≡ true → vec_len copies.new ≡ vec_len copies.old + 1 }

@@ -1,4 +1,5 @@
-//! std's `Clone`, for `derive(Clone)` and for `clone` of lists. The copy uses the allocator of the value.
+//! std's `Clone`, for `derive(Clone)` and for `clone` of lists. The copy uses the allocator of the
+//! value.
 
 ghost use Rattle.std.specs.Prelude.{◌≡◌};
 ghost use Rattle.jzon_tree.specs.View.{view, view_object};
@@ -8,7 +9,8 @@ use crate::value::JsonValue;
 use jzon_base::short::Short;
 use std::alloc::AllocError;
 
-/// A copy of the value, with the parts of its numbers and the order of its keys. The error is a failed allocation.
+/// A copy of the value, with the parts of its numbers and the order of its keys. The error is a
+/// failed allocation.
 impl Clone for JsonValue {
     ghost is_clone = { λ v w. view w ≡ view v };
 
@@ -29,7 +31,8 @@ impl Clone for JsonValue {
     }
 }
 
-/// A copy of the object, with the parts of its numbers and the order of its keys. The error is a failed allocation.
+/// A copy of the object, with the parts of its numbers and the order of its keys. The error is a
+/// failed allocation.
 impl Clone for Object {
     ghost is_clone = { λ o p. view_object p ≡ view_object o };
 

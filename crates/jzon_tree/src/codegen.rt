@@ -1,5 +1,6 @@
-//! Printing: generators and layouts (docs/RULES.md, "Generators"). `driver` goes over a value and calls the hooks of a `generator`; `text_generator` has the generators
-//! of the crate, which write by `strings`, `numbers` and `layout`.
+//! Printing: generators and layouts (docs/RULES.md, "Generators"). `driver` goes over a value and
+//! calls the hooks of a `generator`; `text_generator` has the generators of the crate, which write
+//! by `strings`, `numbers` and `layout`.
 
 mod display;
 mod driver;

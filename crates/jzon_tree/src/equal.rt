@@ -1,5 +1,5 @@
-//! Equality of values and of objects by meaning: the order of an object's members, how a string is stored and how a
-//! decimal is written don't matter.
+//! Equality of values and of objects by meaning: the order of an object's members, how a string is
+//! stored and how a decimal is written don't matter.
 
 ghost use Rattle.std.specs.Prelude.{◌≡◌, Some, option_map};
 ghost use Rattle.std.specs.Option.{option_copied};
@@ -76,7 +76,8 @@ fn same_array(items: &[JsonValue], others: &[JsonValue]) -> bool
     true
 }
 
-/// The same number of members, and the same value for each key of the first: so the second has no other key.
+/// The same number of members, and the same value for each key of the first: so the second has no
+/// other key.
 #[cycle(same)]
 fn same_object(object: &Object, other: &Object) -> bool
     ensures { result ≡ same (view_object object.now) (view_object other.now) }
@@ -102,8 +103,8 @@ fn same_found(value: &JsonValue, found: Option<&JsonValue>) -> bool
     }
 }
 
-/// The value of the key. Equal objects mostly have their keys in the same order, so the entry at the same position is
-/// tried first.
+/// The value of the key. Equal objects mostly have their keys in the same order, so the entry at
+/// the same position is tried first.
 #[inline(always)]
 fn find_from<'a>(
     object: &'a Object,

@@ -13,14 +13,15 @@ use crate::value::JsonValue;
 use jzon_base::error::{Error, Result};
 use std::alloc::Global;
 
-/// Types that convert into a value. Each implementation defines by a relation which values a source means; an `Ok` is
-/// one of them.
+/// Types that convert into a value. Each implementation defines by a relation which values a source
+/// means; an `Ok` is one of them.
 pub trait IntoJson: Drop {
     ghost means: { Self → Value → Type 0 };
 
     ghost is_free: { Self → Type 0 };
 
-    /// Converts into a value. Fails with `OutOfMemory` only, and never if the conversion is free (`is_free`).
+    /// Converts into a value. Fails with `OutOfMemory` only, and never if the conversion is free
+    /// (`is_free`).
     fn into_json(self, alloc: Global) -> Result<JsonValue>
         ensures meant { IfOk result (λ v. means self (view v)) }
         ensures memory { IsOkUnless result Error.OutOfMemory }

@@ -36,7 +36,8 @@ impl JsonValue {
 
     /// The object that the value is.
     pub fn as_object_mut(&mut self) -> Option<&mut Object>
-        ensures* writes_back { sem 𝓛 (LendsIf the_row object_row self.entry result object_value self.old) }
+        ensures* writes_back { sem 𝓛 (LendsIf the_row object_row self.entry result object_value
+            self.old) }
         ensures value { option_copied_mut result ≡ object_in self.old }
     {
         if let JsonValue::Object(object) = self {
@@ -48,7 +49,8 @@ impl JsonValue {
 
     /// The elements of the array that the value is.
     pub fn as_array_mut(&mut self) -> Option<&mut Vec<JsonValue>>
-        ensures* writes_back { sem 𝓛 (LendsIf the_row (vec_row the_row) self.entry result array_value self.old) }
+        ensures* writes_back { sem 𝓛 (LendsIf the_row
+            (vec_row the_row) self.entry result array_value self.old) }
         ensures value { option_map (λ items. items.now.items) result ≡ items_in self.old }
     {
         if let JsonValue::Array(items) = self {
@@ -68,7 +70,8 @@ impl JsonValue {
         }
     }
 
-    /// The members of an object in their order, from both ends. Their values may be changed, their keys not. Another value has none.
+    /// The members of an object in their order, from both ends. Their values may be changed, their
+    /// keys not. Another value has none.
     pub fn entries_mut(&mut self) -> EntriesMut<'_>
         ensures { iter_mut_rest result ≡ entries_in self.old }
     {
@@ -78,8 +81,8 @@ impl JsonValue {
         EntriesMut::empty()
     }
 
-    /// The value of an object's key. A write through it changes nothing else. A caller's proof learns of the write by `as_object_mut`, or calls
-    /// `lent::write_present` instead.
+    /// The value of an object's key. A write through it changes nothing else. A caller's proof
+    /// learns of the write by `as_object_mut`, or calls `lent::write_present` instead.
     ///
     /// ```rust
     /// if let Some(found) = data.get_mut("name") {
@@ -94,9 +97,10 @@ impl JsonValue {
         self.get_in(key)
     }
 
-    /// The value of an object's key. A missing key is first put last, with null, and a value that isn't an object first becomes an empty one. A write through it changes
-    /// nothing else. Fails only with `OutOfMemory`, and then nothing has changed; a key that is there needs no allocation. A caller's proof that needs the write calls
-    /// `lent::write_at` instead.
+    /// The value of an object's key. A missing key is first put last, with null, and a value that
+    /// isn't an object first becomes an empty one. A write through it changes nothing else. Fails
+    /// only with `OutOfMemory`, and then nothing has changed; a key that is there needs no
+    /// allocation. A caller's proof that needs the write calls `lent::write_at` instead.
     ///
     /// ```rust
     /// *data.at_mut(alloc, "count")? = jzon::from(alloc, 1u8)?;
@@ -113,16 +117,22 @@ impl JsonValue {
         self.at_in(alloc, key)
     }
 
-    /// The element of an array at an index. Past the end the array first gains one null, whatever the index, and that null is returned. A value that isn't an array
-    /// first becomes one of a null for index 0, and of two for any other index, and the last null is returned. Fails only with `OutOfMemory`, and then the value
-    /// means what it meant; an index in range of an array needs no allocation. A caller's proof that needs the write calls `lent::write_at_index` instead.
+    /// The element of an array at an index. Past the end the array first gains one null, whatever
+    /// the index, and that null is returned. A value that isn't an array first becomes one of a
+    /// null for index 0, and of two for any other index, and the last null is returned. Fails only
+    /// with `OutOfMemory`, and then the value means what it meant; an index in range of an array
+    /// needs no allocation. A caller's proof that needs the write calls `lent::write_at_index`
+    /// instead.
     pub fn at_index_mut(&mut self, alloc: Global, index: usize) -> Result<&mut JsonValue>
         ensures* writes_back { sem 𝓛 (LendsSoOk the_row the_row self.entry result
-            (λ n w. items_in n ≡ Some (slice_set (items_with_place self.old index) (place_made self.old index) w))
+            (λ n w. items_in n ≡ Some (slice_set (items_with_place self.old index)
+            (place_made self.old index) w))
             (λ n. view n ≡ view self.old)) }
         ensures value { IfOk result (λ place.
-            slice_get (items_with_place self.old index) (place_made self.old index) ≡ Some place.now) }
-        ensures present { OnErr result (IfSome (items_in self.old) (λ items. length items ≤ index)) }
+            slice_get (items_with_place self.old index) (place_made self.old index)
+            ≡ Some place.now) }
+        ensures present { OnErr result (IfSome (items_in self.old)
+            (λ items. length items ≤ index)) }
         ensures memory { IsOkUnless result Error.OutOfMemory }
     {
         self.at_index_in(alloc, index)

@@ -31,13 +31,15 @@ use std::convert::AsStr;
 use std::iter::FusedIterator;
 use std::slice;
 
-/// The most pairs that `from_pairs` makes room for ahead of reading them: what an iterator expects may be far more than there are distinct keys.
+/// The most pairs that `from_pairs` makes room for ahead of reading them: what an iterator expects
+/// may be far more than there are distinct keys.
 const ROOM_MAX: usize = 256;
 
 /// The pairs of an object that are left, each as its key's text and its value.
 pub type Iter<'a> = pairs::Iter<'a, JsonValue>;
 
-/// The pairs of an object that are left, each as its key's text and its value, which may be written.
+/// The pairs of an object that are left, each as its key's text and its value, which may be
+/// written.
 pub type IterMut<'a> = pairs::IterMut<'a, JsonValue>;
 
 /// The keys of an object that are left, each by its text.
@@ -52,12 +54,15 @@ pub struct IntoIter {
     pairs: pairs::IntoIter<JsonValue>,
 }
 
-/// The entries of an object that is being made. A clause sees the pairs of the object so far: a later entry of a key changes that key's value in its place.
+/// The entries of an object that is being made. A clause sees the pairs of the object so far: a
+/// later entry of a key changes that key's value in its place.
 pub type Builder = pairs::Builder<JsonValue>;
 
-/// The pairs of a JSON object (RFC 8259, section 4), in the order in which their keys were put. No key is there twice.
+/// The pairs of a JSON object (RFC 8259, section 4), in the order in which their keys were put. No
+/// key is there twice.
 ///
-/// Keys are compared by their bytes. Two objects are equal where they have the same keys, and equal values under each, in whatever order.
+/// Keys are compared by their bytes. Two objects are equal where they have the same keys, and equal
+/// values under each, in whatever order.
 #[cycle(json)]
 #[derive(Debug)]
 pub struct Object {
@@ -79,8 +84,8 @@ impl Object {
         }
     }
 
-    /// An object without pairs, with room for `capacity` of them: for keys, values and index. Up to 1,024 pairs of short keys then need no more memory. Fails
-    /// with `OutOfMemory` only.
+    /// An object without pairs, with room for `capacity` of them: for keys, values and index. Up to
+    /// 1,024 pairs of short keys then need no more memory. Fails with `OutOfMemory` only.
     pub fn with_capacity(alloc: Global, capacity: usize) -> Result<Object>
         ensures empty { IfOk result (λ object. entries_of object ≡ []) }
         ensures memory { IsOkUnless result Error.OutOfMemory }
@@ -90,7 +95,8 @@ impl Object {
         })
     }
 
-    /// The object in which the pairs are put one after the other: a later pair of a key changes that key's value in its place. Fails with `OutOfMemory` only.
+    /// The object in which the pairs are put one after the other: a later pair of a key changes
+    /// that key's value in its place. Fails with `OutOfMemory` only.
     pub fn from_pairs<K: AsStr + Drop, V: IntoJson, I: Iterator<Item = (K, V)> + Drop>(
         alloc: Global,
         pairs: I,
@@ -151,8 +157,9 @@ impl Object {
         self.pairs.get_mut(key)
     }
 
-    /// The value of the key, to be written. A missing key is first put last, with null. Nothing else changes. Fails with `OutOfMemory` only, and then nothing has
-    /// changed; a key that is there takes no memory.
+    /// The value of the key, to be written. A missing key is first put last, with null. Nothing
+    /// else changes. Fails with `OutOfMemory` only, and then nothing has changed; a key that is
+    /// there takes no memory.
     pub fn at_mut(&mut self, alloc: Global, key: &str) -> Result<&mut JsonValue>
         ensures* writes_back { sem 𝓛 (LendsIfOk the_row value_row self.entry result
             (λ w. with_entries (put key.now w (entries_of self.old))) self.old) }
@@ -164,8 +171,8 @@ impl Object {
         Ok(self.pairs.at_mut(alloc, key, JsonValue::Null)?)
     }
 
-    /// Puts the value under the key: at the position of the key if it is there, which takes no memory, else last. Fails with `OutOfMemory` only, and then nothing
-    /// has changed.
+    /// Puts the value under the key: at the position of the key if it is there, which takes no
+    /// memory, else last. Fails with `OutOfMemory` only, and then nothing has changed.
     ///
     /// `n` calls with new keys take a time of about n log n; `from_pairs` is faster still.
     pub fn insert(&mut self, alloc: Global, key: &str, value: JsonValue) -> Result<()>
@@ -186,7 +193,8 @@ impl Object {
         self.pairs.override_last(value);
     }
 
-    /// Removes the pair of the key, and gives its value. The others keep their order. It takes no memory.
+    /// Removes the pair of the key, and gives its value. The others keep their order. It takes no
+    /// memory.
     pub fn remove(&mut self, key: &str) -> Option<JsonValue>
         ensures value { result ≡ find key.now (entries_of self.old) }
         ensures after { entries_of self.new ≡ cut key.now (entries_of self.old) }
@@ -194,13 +202,16 @@ impl Object {
         self.pairs.remove(key)
     }
 
-    /// Keeps the members for which `keep(key, value)` returns `true`, in their order. `keep` is called once for each member, in order, and may change the value.
-    /// Takes no memory.
+    /// Keeps the members for which `keep(key, value)` returns `true`, in their order. `keep` is
+    /// called once for each member, in order, and may change the value. Takes no memory.
     ///
-    /// For `n` members it takes a time of about n log n, and of n where all are kept or `n` is at most 8.
+    /// For `n` members it takes a time of about n log n, and of n where all are kept or `n` is at
+    /// most 8.
     pub fn retain<F: FnMut(&str, &mut JsonValue) -> bool>(&mut self, keep: F)
-        requires { CallableOnEachPair (CalledAtPair F.FnMut) (TakesPair F.FnMut) keep (entries_of self.old) }
-        ensures { RetainsPairs (CalledAtPair F.FnMut) keep (entries_of self.old) (entries_of self.new) }
+        requires { CallableOnEachPair (CalledAtPair F.FnMut) (TakesPair F.FnMut) keep
+            (entries_of self.old) }
+        ensures { RetainsPairs (CalledAtPair F.FnMut) keep (entries_of self.old)
+            (entries_of self.new) }
     {
         self.pairs.retain(keep);
     }

@@ -140,7 +140,8 @@ impl JsonValue {
     /// The elements of the array.
     #[tactic(auto, using(crate::proofs::Views::views, crate::proofs::Seen::seen))]
     pub fn as_array(&self) -> Option<&Vec<JsonValue>>
-        ensures { option_map (λ vs. array (view_values vs.now.items)) result ≡ array_of (view self.now) }
+        ensures { option_map (λ vs. array (view_values vs.now.items)) result
+            ≡ array_of (view self.now) }
     {
         match self {
             JsonValue::Array(items) => Some(items),
@@ -166,7 +167,8 @@ impl JsonValue {
         self.get(key).is_some()
     }
 
-    /// Iterates over the elements of an array in order, from both ends; over nothing for any other value.
+    /// Iterates over the elements of an array in order, from both ends; over nothing for any other
+    /// value.
     #[tactic(auto, using(crate::proofs::Views::views, crate::proofs::Seen::seen))]
     pub fn members(&self) -> Members<'_>
         ensures { map view (iter_rest result) ≡ items (view self.now) }
@@ -177,7 +179,8 @@ impl JsonValue {
         }
     }
 
-    /// Iterates over the members of an object in order, from both ends; over nothing for any other value.
+    /// Iterates over the members of an object in order, from both ends; over nothing for any other
+    /// value.
     #[tactic(auto, using(crate::proofs::Views::views, crate::proofs::Seen::seen))]
     pub fn entries(&self) -> Entries<'_>
         ensures { viewed result ≡ entries (view self.now) }

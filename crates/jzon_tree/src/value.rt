@@ -1,5 +1,6 @@
-//! JSON values. The methods of `JsonValue` are in `readers` (what it holds), `changers` and `lent` (changes), `clone` and `cloned` (copies), `equal` (`==`), `print`
-//! (texts) and `codegen::display`.
+//! JSON values. The methods of `JsonValue` are in `readers` (what it holds), `changers` and `lent`
+//! (changes), `clone` and `cloned` (copies), `equal` (`==`), `print` (texts) and
+//! `codegen::display`.
 
 pub(crate) mod inspect;
 mod print;
@@ -10,8 +11,8 @@ use jzon_base::short::Short;
 
 /// A JSON value (RFC 8259, section 3).
 ///
-/// Two values are equal if they mean the same: a `Short` and a `String` of the same text are equal, and so are numbers
-/// that are the same decimal. NaN equals NaN.
+/// Two values are equal if they mean the same: a `Short` and a `String` of the same text are equal,
+/// and so are numbers that are the same decimal. NaN equals NaN.
 #[cycle(json)]
 #[derive(Debug, Drop)]
 pub enum JsonValue {
@@ -21,7 +22,8 @@ pub enum JsonValue {
     Short(Short),
     /// An allocated string.
     String(String),
-    /// A number, with its parts as they were parsed or set. NaN, which no text means, is written as `null`.
+    /// A number, with its parts as they were parsed or set. NaN, which no text means, is written as
+    /// `null`.
     Number(Number),
     /// `true` or `false`.
     Boolean(bool),

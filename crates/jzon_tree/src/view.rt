@@ -153,7 +153,8 @@ impl<'a> View<'a> {
         self.value.is_none_or(JsonValue::is_empty)
     }
 
-    /// The number of members of an object or of elements of an array, and 0 for any other value or none.
+    /// The number of members of an object or of elements of an array, and 0 for any other value or
+    /// none.
     pub fn len(self) -> usize
         ensures { result ≡ count (seen self.entry) }
     {
@@ -190,7 +191,8 @@ impl<'a> View<'a> {
 
     /// The elements of the array.
     pub fn as_array(self) -> Option<&'a Vec<JsonValue>>
-        ensures { option_map (λ vs. array (view_values vs.now.items)) result ≡ array_of (seen self.entry) }
+        ensures { option_map (λ vs. array (view_values vs.now.items)) result
+            ≡ array_of (seen self.entry) }
     {
         self.value?.as_array()
     }
@@ -202,14 +204,16 @@ impl<'a> View<'a> {
         self.at(key).value.is_some()
     }
 
-    /// Iterates over the elements of an array in order, from both ends; over nothing for any other value or none.
+    /// Iterates over the elements of an array in order, from both ends; over nothing for any other
+    /// value or none.
     pub fn members(self) -> Members<'a>
         ensures { map view (iter_rest result) ≡ items (seen self.entry) }
     {
         self.value.map_or([].iter(), JsonValue::members)
     }
 
-    /// Iterates over the members of an object in order, from both ends; over nothing for any other value or none.
+    /// Iterates over the members of an object in order, from both ends; over nothing for any other
+    /// value or none.
     pub fn entries(self) -> Entries<'a>
         ensures { viewed result ≡ entries (seen self.entry) }
     {
@@ -307,7 +311,8 @@ impl<'a> View<'a> {
         self.value?.as_isize()
     }
 
-    /// `mantissa * 10 ^ (exponent + point)`, truncated to an integer, if the sign is positive and it fits.
+    /// `mantissa * 10 ^ (exponent + point)`, truncated to an integer, if the sign is positive and
+    /// it fits.
     pub fn as_fixed_point_u64(self, point: u16) -> Option<u64>
         ensures { SomeWhere (unsigned_fixed_point_in (seen self.entry) point)
             (λ n. n < 2 ^ 64) result }
@@ -322,8 +327,8 @@ impl<'a> View<'a> {
         self.value?.as_fixed_point_i64(point)
     }
 
-    /// `mantissa * 10 ^ (exponent + point)`, if that is an integer, the sign is positive and it fits. `None` if a digit
-    /// would be lost.
+    /// `mantissa * 10 ^ (exponent + point)`, if that is an integer, the sign is positive and it
+    /// fits. `None` if a digit would be lost.
     pub fn as_exact_fixed_point_u64(self, point: u16) -> Option<u64>
         ensures { SomeWhere (exact_unsigned_fixed_point_in (seen self.entry) point)
             (λ n. n < 2 ^ 64) result }
@@ -331,8 +336,8 @@ impl<'a> View<'a> {
         self.value?.as_exact_fixed_point_u64(point)
     }
 
-    /// `mantissa * 10 ^ (exponent + point)` with its sign, if that is an integer and fits. `None` if a digit would be
-    /// lost.
+    /// `mantissa * 10 ^ (exponent + point)` with its sign, if that is an integer and fits. `None`
+    /// if a digit would be lost.
     pub fn as_exact_fixed_point_i64(self, point: u16) -> Option<i64>
         ensures { SomeWhere (exact_fixed_point_in (seen self.entry) point) (FitsSigned w64) result }
     {

@@ -39,7 +39,8 @@ fn insertion_order(alloc: Global, count: usize) -> Result<Vec<usize>, AllocError
 }
 
 fn sorted_order(alloc: Global, object: &Object) -> Result<Vec<usize>, AllocError>
-    ensures { IfOk result (λ positions. IsOrder (length (keys_of (entries_of object.now))) positions.items) }
+    ensures { IfOk result (λ positions. IsOrder
+        (length (keys_of (entries_of object.now))) positions.items) }
 {
     let mut positions = insertion_order(alloc, object.len())?;
     positions.sort_by_key(|position| key_at(object, *position))?;

@@ -61,8 +61,8 @@ fn assert_order(order: Option<Vec<usize>>) -> io::Result<()> {
     }
 }
 
-/// A hook, what it appends in the compact layout and in the pretty one of one space, and the counts of indents and of
-/// faults after it, where two indents were open before.
+/// A hook, what it appends in the compact layout and in the pretty one of one space, and the counts
+/// of indents and of faults after it, where two indents were open before.
 type Row = (Hook, &'static str, &'static str, u64, u64);
 
 const ROWS: [Row; 13] = [

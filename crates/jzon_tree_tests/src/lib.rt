@@ -1,4 +1,5 @@
-//! Tests of `jzon_tree` by its public items alone. Those that parse their values are in `jzon_tests`.
+//! Tests of `jzon_tree` by its public items alone. Those that parse their values are in
+//! `jzon_api_tests`.
 #![tactic(auto)]
 
 #[cfg(test)]

@@ -16,8 +16,8 @@ impl Start for Brand {
     ghost start = { 0 };
 }
 
-/// Collects bytes in memory that it is given, and writes them in order when they fill it. It never allocates. After an error of the
-/// writer, the bytes that it didn't accept are kept.
+/// Collects bytes in memory that it is given, and writes them in order when they fill it. It never
+/// allocates. After an error of the writer, the bytes that it didn't accept are kept.
 #[derive(Drop)]
 pub struct Buffered<'a, W, S> {
     inner: &'a mut W,
@@ -61,7 +61,8 @@ impl<'a, W: Write, S: Start> Buffered<'a, W, S> {
     #[cold]
     #[inline(never)]
     pub fn write_out(&mut self) -> io::Result<()>
-        ensures bytes { Keeps (held W.contents S.start self.old) (held W.contents S.start self.new) }
+        ensures bytes { Keeps (held W.contents S.start self.old)
+            (held W.contents S.start self.new) }
         ensures all { OnOk result (left self.new ≡ []) }
     {
         while self.taken < self.bytes.len() {
@@ -76,14 +77,17 @@ impl<'a, W: Write, S: Start> Buffered<'a, W, S> {
         Ok(())
     }
 
-    /// Writes all bytes, and then holds as many of `buf` as there is room for. An error is stored in the slot: an `io::Error` takes 88 bytes,
-    /// which the caller would reserve and clear even where there is room for all.
+    /// Writes all bytes, and then holds as many of `buf` as there is room for. An error is stored
+    /// in the slot: an `io::Error` takes 88 bytes, which the caller would reserve and clear even
+    /// where there is room for all.
     #[cold]
     #[inline(never)]
     fn write_out_and_hold(&mut self, buf: &[u8]) -> Option<usize>
-        ensures { MatchOption result (Keeps (held W.contents S.start self.old) (held W.contents S.start self.new))
+        ensures { MatchOption result (Keeps (held W.contents S.start self.old)
+            (held W.contents S.start self.new))
             (λ count. (count ≤ length buf.now)
-            × Appends (held W.contents S.start self.old) (held W.contents S.start self.new) (take count buf.now)) }
+            × Appends (held W.contents S.start self.old) (held W.contents S.start self.new)
+            (take count buf.now)) }
     {
         if let Err(error) = self.write_out() {
             self.error = Some(error);
@@ -98,7 +102,8 @@ impl<'a, W: Write, S: Start> Buffered<'a, W, S> {
     #[inline(always)]
     fn hold(&mut self, bytes: &[u8])
         requires { vec_len self.old.bytes + length bytes.now ≤ vec_capacity self.old.bytes }
-        ensures { Appends (held W.contents S.start self.old) (held W.contents S.start self.new) bytes.now }
+        ensures { Appends (held W.contents S.start self.old)
+            (held W.contents S.start self.new) bytes.now }
     {
         let Ok(()) = self.bytes.extend_from_slice(bytes) else {
             unreachable!()

@@ -21,7 +21,8 @@ use std::{fmt, io, mem};
 pub enum Layout {
     /// Without whitespace.
     Compact,
-    /// With each element, member and closing bracket on its own line, after this many spaces for each open container.
+    /// With each element, member and closing bracket on its own line, after this many spaces for
+    /// each open container.
     Pretty(u16),
 }
 
@@ -108,8 +109,8 @@ const CHUNK_SIZE: usize = 65536;
 /// How many bytes of the printed text are collected before they are written.
 const BUFFER_SIZE: usize = 65536;
 
-/// Reads one text by `reading`, and writes its value in `layout` and a newline. The reader is read to its end before anything is written,
-/// and its first error ends the run.
+/// Reads one text by `reading`, and writes its value in `layout` and a newline. The reader is read
+/// to its end before anything is written, and its first error ends the run.
 pub fn run<R: Read, W: Write>(
     alloc: Global,
     reader: &mut R,
@@ -130,7 +131,8 @@ fn read_input<R: Read>(alloc: Global, reader: &mut R) -> Result<Vec<u8>, RunFaul
     ensures all { IfOk result
         (λ input. Reads result (R.remaining reader.old) (R.remaining reader.new) input.items) }
     ensures fault { IfErr result IsReadFault }
-    ensures some { (input : List ℕ) × Consumes (R.remaining reader.old) (R.remaining reader.new) input }
+    ensures some { (input : List ℕ) × Consumes (R.remaining reader.old)
+        (R.remaining reader.new) input }
 {
     let mut input = Vec::new(alloc);
     let mut chunk = zeros(alloc, CHUNK_SIZE)?;
@@ -158,7 +160,8 @@ fn print_input<W: Write>(
     reading: &Reading,
     layout: Layout,
 ) -> Result<(), RunFault>
-    ensures { Answers reading.now layout input.now result (W.contents writer.old) (W.contents writer.new) }
+    ensures { Answers reading.now layout input.now result (W.contents writer.old)
+        (W.contents writer.new) }
 {
     let Ok(source) = str::from_utf8(input) else {
         return Err(RunFault::NotUtf8);
@@ -171,7 +174,8 @@ fn print_input<W: Write>(
     answer.map_err(RunFault::Write)
 }
 
-/// Writes the text of the value in the layout and a newline, buffered in `memory`. After an error a prefix of them is written.
+/// Writes the text of the value in the layout and a newline, buffered in `memory`. After an error a
+/// prefix of them is written.
 fn write_line<W: Write, S: Start>(
     writer: &mut W,
     memory: Vec<u8>,
@@ -183,7 +187,8 @@ fn write_line<W: Write, S: Start>(
     ensures ok { OnOk result
         (Appends (W.contents writer.old) (W.contents writer.new) (line layout (view value.now))) }
     ensures err { OnErr result
-        (AppendsBeginning (W.contents writer.old) (W.contents writer.new) (line layout (view value.now))) }
+        (AppendsBeginning (W.contents writer.old) (W.contents writer.new)
+        (line layout (view value.now))) }
 {
     let mut buffered: Buffered<'_, W, S> = Buffered::new(writer, memory);
     let answer = write_held(&mut buffered, value, layout);
@@ -200,9 +205,11 @@ fn write_held<W: Write, S: Start>(
     layout: Layout,
 ) -> io::Result<()>
     ensures ok { OnOk result
-        (Appends (held W.contents S.start buffered.old) (held W.contents S.start buffered.new) (line layout (view value.now))) }
+        (Appends (held W.contents S.start buffered.old) (held W.contents S.start buffered.new)
+        (line layout (view value.now))) }
     ensures err { OnErr result
-        (AppendsBeginning (held W.contents S.start buffered.old) (held W.contents S.start buffered.new)
+        (AppendsBeginning (held W.contents S.start buffered.old)
+        (held W.contents S.start buffered.new)
         (line layout (view value.now))) }
     ensures all { OnOk result (left buffered.new ≡ []) }
 {
@@ -216,7 +223,8 @@ fn write_text<W: Write>(writer: &mut W, value: &JsonValue, layout: Layout) -> io
     ensures ok { OnOk result
         (Appends (W.contents writer.old) (W.contents writer.new) (text layout (view value.now))) }
     ensures err { OnErr result
-        (AppendsBeginning (W.contents writer.old) (W.contents writer.new) (text layout (view value.now))) }
+        (AppendsBeginning (W.contents writer.old) (W.contents writer.new)
+        (text layout (view value.now))) }
 {
     match layout {
         Layout::Compact => value.write(writer),
@@ -224,8 +232,9 @@ fn write_text<W: Write>(writer: &mut W, value: &JsonValue, layout: Layout) -> io
     }
 }
 
-/// The program, apart from where its arguments and streams come from: reads the arguments, runs, flushes the writer, reports a fault in
-/// one line on `faults`, and returns the exit status. A failed write of that line is ignored.
+/// The program, apart from where its arguments and streams come from: reads the arguments, runs,
+/// flushes the writer, reports a fault in one line on `faults`, and returns the exit status. A
+/// failed write of that line is ignored.
 pub fn drive<R: Read, W: Write, F: Write>(
     alloc: Global,
     words: &[String],
@@ -303,7 +312,8 @@ fn run_and_flush<R: Read, W: Write>(
     }
 }
 
-/// Reports the fault in one line, and returns its exit status. A failed write of that line is ignored.
+/// Reports the fault in one line, and returns its exit status. A failed write of that line is
+/// ignored.
 pub fn report<F: Write>(faults: &mut F, fault: &RunFault) -> u8
     ensures { result ≡ fault_status fault.now }
 {

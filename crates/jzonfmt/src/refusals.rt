@@ -1,5 +1,5 @@
-//! The program with each of its allocations failing in turn. ci/refuse.c makes them fail: bin/test runs these tests
-//! once more with it.
+//! The program with each of its allocations failing in turn. ci/refuse.c makes them fail: bin/test
+//! runs these tests once more with it.
 
 use crate::engine;
 use crate::engine::{Layout, RunFault};

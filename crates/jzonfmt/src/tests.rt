@@ -54,8 +54,8 @@ impl Read for FailingReader {
     }
 }
 
-/// The arguments, with a comma between them, the input, the status, and what is written to standard output and to
-/// standard error.
+/// The arguments, with a comma between them, the input, the status, and what is written to standard
+/// output and to standard error.
 #[derive(Drop)]
 struct Row {
     words: Option<&'static str>,

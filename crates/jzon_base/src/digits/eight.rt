@@ -59,11 +59,12 @@ fn last_bytes(word: u64, count: u32) -> u64
     word << 8 << (56 - 8 * count)
 }
 
-/// The number that eight digits spell, given by their values in the bytes of a word, the first in the lowest byte:
-/// digits are joined two by two, then four by four, then all eight.
+/// The number that eight digits spell, given by their values in the bytes of a word, the first in
+/// the lowest byte: digits are joined two by two, then four by four, then all eight.
 #[inline(always)]
 fn number_of_eight(word: u64) -> u64
-    ensures { (ds : List ℕ) → length ds ≡ 8 → All (λ d. d < 10) ds → word ≡ number_l 256 ds → result ≡ values_number ds }
+    ensures { (ds : List ℕ) → length ds ≡ 8 → All (λ d. d < 10) ds → word ≡ number_l 256 ds
+        → result ≡ values_number ds }
 {
     let pairs = (word.wrapping_mul(10 * 0x100 + 1) >> 8) & 0x00ff_00ff_00ff_00ff;
     let fours = (pairs.wrapping_mul(100 * 0x1_0000 + 1) >> 16) & 0x0000_ffff_0000_ffff;

@@ -1,4 +1,5 @@
-//! Slots for the positions of at most 64 keys. A builder uses them after a merge that leaves so few keys, to find the entry that a repeated key changes.
+//! Slots for the positions of at most 64 keys. A builder uses them after a merge that leaves so few
+//! keys, to find the entry that a repeated key changes.
 ghost use Rattle.std.specs.Prelude.{◌≡◌, ◌<◌, [], true, IfOk, IfSome, IsSome, Some};
 ghost use Rattle.std.specs.List.{position, IsDistinct};
 ghost use Rattle.std.specs.Str.{bytes_eq};
@@ -20,11 +21,13 @@ const SLOTS: usize = 256 + STEPS;
 /// The value of an empty slot: no position of few keys.
 const EMPTY: u8 = 255;
 
-/// The positions of few distinct keys, each in a slot near the one that its hash names; or no slots. A look-up goes through eight at most.
+/// The positions of few distinct keys, each in a slot near the one that its hash names; or no
+/// slots. A look-up goes through eight at most.
 #[derive(Drop)]
 pub struct Few {
     slots: Vec<u8>,
-    /// The position after that of the key found last, which is looked at first: keys mostly repeat in one order.
+    /// The position after that of the key found last, which is looked at first: keys mostly repeat
+    /// in one order.
     next: usize,
 }
 
@@ -39,7 +42,8 @@ impl Few {
         }
     }
 
-    /// The slots of these keys, or none where they are not few or where one of them finds no slot. The error is a failed allocation.
+    /// The slots of these keys, or none where they are not few or where one of them finds no slot.
+    /// The error is a failed allocation.
     pub fn of(alloc: Global, keys: &[Key]) -> Result<Few, AllocError>
         requires { IsDistinct bytes_eq keys.now }
         ensures { IfOk result (λ few. IsSlotted keys.now few.slots.items) }
@@ -68,7 +72,8 @@ impl Few {
     pub fn find(&mut self, keys: &[Key], name: &str) -> Option<usize>
         requires { IsSlotted keys.now self.old.slots.items }
         ensures slots { self.new.slots ≡ self.old.slots }
-        ensures place { IfSome result (λ place. position (λ k. bytes_eq k name.now) keys.now ≡ Some place) }
+        ensures position { IfSome result (λ place. position (λ k. bytes_eq k name.now) keys.now
+            ≡ Some place) }
         ensures distinct { IsSome result → IsDistinct bytes_eq keys.now }
     {
         if self.slots.is_empty() {

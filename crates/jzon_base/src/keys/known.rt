@@ -1,4 +1,5 @@
-//! Sorted runs of index entries, in which binary search finds a name whatever the hashes are. A strict reading uses them for a key that the filter doesn't reject.
+//! Sorted runs of index entries, in which binary search finds a name whatever the hashes are. A
+//! strict reading uses them for a key that the filter doesn't reject.
 ghost use Rattle.std.specs.Prelude.{◌≡◌, ◌++◌, ◌≤◌, ◌<◌, [], drop, length, IfOk, OnOk};
 ghost use Rattle.std.specs.Bool.{OnTrue};
 ghost use Rattle.std.specs.List.{list_any, All};
@@ -76,7 +77,8 @@ impl Run {
 /// Whether a run has an entry of this hash whose key has this name.
 fn is_in(runs: &[Run], keys: &[Key], hash: u64, name: &str) -> bool
     requires { All (IsSorted (pair_cmp keys.now)) runs.now }
-    ensures { result ≡ list_any (λ r. list_any (λ p. is_eq (beside keys.now hash name.now p)) r) runs.now }
+    ensures { result ≡ list_any (λ r. list_any
+        (λ p. is_eq (beside keys.now hash name.now p)) r) runs.now }
 {
     for run in runs {
         if run.has(keys, hash, name) {
@@ -140,7 +142,8 @@ impl Known {
         }
     }
 
-    /// Makes the keys after those of the runs a run, once they are no longer few. The error is a failed allocation.
+    /// Makes the keys after those of the runs a run, once they are no longer few. The error is a
+    /// failed allocation.
     fn extend(&mut self, alloc: Global, keys: &[Key]) -> Result<(), AllocError>
         requires { AreRuns keys.now self.old.runs.items self.old.count }
         ensures { OnOk result (AreRuns keys.now self.new.runs.items self.new.count) }
@@ -172,7 +175,8 @@ impl Known {
     pub fn has(&mut self, alloc: Global, keys: &[Key], name: &str) -> Result<bool, AllocError>
         requires { AreRuns keys.now self.old.runs.items self.old.count }
         ensures runs { AreRuns keys.now self.new.runs.items self.new.count }
-        ensures known { IfOk result (λ known. known ≡ list_any (λ k. bytes_eq k name.now) keys.now) }
+        ensures known { IfOk result (λ known. known
+            ≡ list_any (λ k. bytes_eq k name.now) keys.now) }
     {
         if let Err(error) = self.extend(alloc, keys) {
             self.clear();

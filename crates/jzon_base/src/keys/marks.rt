@@ -1,4 +1,5 @@
-//! A filter: nearly every absent key is rejected without comparing keys. A strict reading uses it from the tenth key of an object on.
+//! A filter: nearly every absent key is rejected without comparing keys. A strict reading uses it
+//! from the tenth key of an object on.
 ghost use Rattle.std.specs.Prelude.{◌≡◌, ◌≢◌, ◌+◌, ◌<◌, ◌%◌, length, bit_and, slice_index_or, true};
 ghost use Rattle.std.specs.Prelude.{OnOk};
 ghost use Rattle.jzon_base.specs.Private.Marks.{is_marked, mark_of, may_have, AreMarked, StayMarked};
@@ -22,8 +23,9 @@ const SLOTS_FOR_EACH: usize = 8;
 /// What a look-up reads past the last slot.
 const TAKEN: u32 = 1;
 
-/// Slots with the tags of the first keys of a list, each in one of the sixteen slots from the one on that its hash names. Where those were taken, the key has no tag,
-/// and the filter rejects no key of such a hash.
+/// Slots with the tags of the first keys of a list, each in one of the sixteen slots from the one
+/// on that its hash names. Where those were taken, the key has no tag, and the filter rejects no
+/// key of such a hash.
 #[derive(Drop)]
 pub struct Marks {
     slots: Vec<u32>,

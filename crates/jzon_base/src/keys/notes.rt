@@ -1,4 +1,5 @@
-//! The slots, the filter and the runs of one builder, in a box. A builder has it once it needs one of them.
+//! The slots, the filter and the runs of one builder, in a box. A builder has it once it needs one
+//! of them.
 ghost use Rattle.std.specs.Prelude.{◌≡◌, ◌++◌, ◌∷◌, [], List, ℕ, Some, IfOk, IfSome, IsSome};
 ghost use Rattle.std.specs.List.{list_any, position, IsDistinct};
 ghost use Rattle.std.specs.Str.{bytes_eq};
@@ -11,7 +12,8 @@ use super::marks::Marks;
 use crate::key::Key;
 use std::alloc::{AllocError, Global};
 
-/// What a builder keeps to find a repeated key before it is put: slots for few keys, tags, and sorted runs.
+/// What a builder keeps to find a repeated key before it is put: slots for few keys, tags, and
+/// sorted runs.
 #[derive(Drop)]
 pub struct Notes {
     few: Few,
@@ -46,7 +48,8 @@ impl Notes {
     pub fn find(&mut self, keys: &[Key], name: &str) -> Option<usize>
         requires { AreNoted keys.now self.old }
         ensures noted { AreNoted keys.now self.new }
-        ensures place { IfSome result (λ place. position (λ k. bytes_eq k name.now) keys.now ≡ Some place) }
+        ensures position { IfSome result (λ place. position (λ k. bytes_eq k name.now) keys.now
+            ≡ Some place) }
         ensures distinct { IsSome result → IsDistinct bytes_eq keys.now }
     {
         self.few.find(keys, name)
@@ -55,7 +58,8 @@ impl Notes {
     /// Drops the slots, since the list gets another key.
     #[inline(always)]
     pub fn go_on(&mut self)
-        ensures { (ks : List (List ℕ)) (k : List ℕ) → AreNoted ks self.old → AreNoted (ks ++ k ∷ []) self.new }
+        ensures { (ks : List (List ℕ)) (k : List ℕ) → AreNoted ks self.old
+            → AreNoted (ks ++ k ∷ []) self.new }
     {
         self.few.clear();
     }
@@ -64,7 +68,8 @@ impl Notes {
     pub fn has(&mut self, alloc: Global, keys: &[Key], name: &str) -> Result<bool, AllocError>
         requires { AreNoted keys.now self.old }
         ensures noted { AreNoted keys.now self.new }
-        ensures known { IfOk result (λ known. known ≡ list_any (λ k. bytes_eq k name.now) keys.now) }
+        ensures known { IfOk result (λ known. known
+            ≡ list_any (λ k. bytes_eq k name.now) keys.now) }
     {
         self.marks.extend(alloc, keys)?;
         if !self.marks.may_have(name) {
@@ -74,7 +79,8 @@ impl Notes {
     }
 }
 
-/// Whether one of the keys has this name. Few keys are compared one by one, and then nothing is noted. The error is a failed allocation.
+/// Whether one of the keys has this name. Few keys are compared one by one, and then nothing is
+/// noted. The error is a failed allocation.
 pub fn has_key(
     notes: &mut Option<Box<Notes>>,
     alloc: Global,

@@ -1,5 +1,6 @@
 //! Keys beside their index.
-ghost use Rattle.std.specs.Prelude.{◌≡◌, ◌<◌, ◌++◌, ◌∷◌, [], length, remove, slice_get, IfOk, OnOk, OnErr, MatchOption, None, Some, map};
+ghost use Rattle.std.specs.Prelude.{◌≡◌, ◌<◌, ◌++◌, ◌∷◌, [], length, remove, slice_get, IfOk, OnOk};
+ghost use Rattle.std.specs.Prelude.{OnErr, MatchOption, None, Some, map};
 ghost use Rattle.std.specs.List.{position, zip, IsDistinct};
 ghost use Rattle.std.specs.Str.{bytes_eq};
 ghost use Rattle.jzon_base.specs.Private.Keys.{IsIndex, IsIndexed};
@@ -17,9 +18,11 @@ use crate::util::fit::reserve_next;
 use std::alloc::{AllocError, Global};
 use std::marker::Model;
 
-/// Distinct keys in the order in which they were put, and the index in which the position of each is found. A clause sees the list of their bytes.
+/// Distinct keys in the order in which they were put, and the index in which the position of each
+/// is found. A clause sees the list of their bytes.
 ///
-/// Few keys need no index: a look-up compares them one by one. The hash of a key is computed here and passed to the index.
+/// Few keys need no index: a look-up compares them one by one. The hash of a key is computed here
+/// and passed to the index.
 #[derive(Drop)]
 pub struct Table {
     keys: Vec<Key>,
@@ -37,7 +40,8 @@ impl Model for Table {
     ghost invariant = { λ k. IsTable k.keys.items k.index };
 }
 
-/// No entry, with room for those of `capacity` keys, or none where `capacity` keys need no index. The error is a failed allocation.
+/// No entry, with room for those of `capacity` keys, or none where `capacity` keys need no index.
+/// The error is a failed allocation.
 fn room_for(alloc: Global, capacity: usize) -> Result<Runs, AllocError>
     ensures { IfOk result (λ r. r ≡ []) }
 {
@@ -83,7 +87,8 @@ fn fill(alloc: Global, keys: &[Key], index: &mut Runs) -> Result<(), AllocError>
     Ok(())
 }
 
-/// Adds a key that is put after these keys to their index, which is filled first where it is empty. The error is a failed allocation.
+/// Adds a key that is put after these keys to their index, which is filled first where it is empty.
+/// The error is a failed allocation.
 #[inline(never)]
 fn add_entry(alloc: Global, keys: &[Key], index: &mut Runs, name: &str) -> Result<(), AllocError>
     requires { IsIndexed keys.now index.old }
@@ -96,7 +101,8 @@ fn add_entry(alloc: Global, keys: &[Key], index: &mut Runs, name: &str) -> Resul
     index.add(alloc, hash_of(name), keys.len())
 }
 
-/// Adds a key that is put after these keys to their index, if they have one or are no longer few. The error is a failed allocation.
+/// Adds a key that is put after these keys to their index, if they have one or are no longer few.
+/// The error is a failed allocation.
 #[inline(always)]
 fn add_key(alloc: Global, keys: &[Key], index: &mut Runs, name: &str) -> Result<(), AllocError>
     requires { IsIndexed keys.now index.old }
@@ -109,7 +115,8 @@ fn add_key(alloc: Global, keys: &[Key], index: &mut Runs, name: &str) -> Result<
     add_entry(alloc, keys, index, name)
 }
 
-/// The position of a key by its index. A missing key is put last, and the result is `None`. The error is a failed allocation, and then the keys are those from before.
+/// The position of a key by its index. A missing key is put last, and the result is `None`. The
+/// error is a failed allocation, and then the keys are those from before.
 #[inline(never)]
 fn put_indexed(
     alloc: Global,
@@ -119,7 +126,8 @@ fn put_indexed(
 ) -> Result<Option<usize>, AllocError>
     requires distinct { IsDistinct bytes_eq keys.old.items }
     requires index { IsIndexOf (map hash_of keys.old.items) index.old }
-    ensures place { IfOk result (λ place. place ≡ position (λ k. bytes_eq k name.now) keys.old.items) }
+    ensures position { IfOk result (λ place. place
+        ≡ position (λ k. bytes_eq k name.now) keys.old.items) }
     ensures ok { IfOk result (λ place. MatchOption place
         (keys.new.items ≡ keys.old.items ++ name.now ∷ []) (λ _. keys.new.items ≡ keys.old.items)) }
     ensures index { IsIndexOf (map hash_of keys.new.items) index.new }
@@ -163,7 +171,8 @@ impl Table {
         }
     }
 
-    /// No key, with room for `capacity` of them and for their index. The error is a failed allocation.
+    /// No key, with room for `capacity` of them and for their index. The error is a failed
+    /// allocation.
     pub fn with_capacity(alloc: Global, capacity: usize) -> Result<Table, AllocError>
         ensures { IfOk result (λ k. k ≡ []) }
     {
@@ -173,8 +182,9 @@ impl Table {
         })
     }
 
-    /// The keys of entries of which some may repeat, and their index: the entries of equal keys become one, with the last value at the position of the first. The error
-    /// is a failed allocation, and then what is in `values` is unspecified.
+    /// The keys of entries of which some may repeat, and their index: the entries of equal keys
+    /// become one, with the last value at the position of the first. The error is a failed
+    /// allocation, and then what is in `values` is unspecified.
     fn from_repeats<V: Drop>(
         alloc: Global,
         mut keys: Vec<Key>,
@@ -184,7 +194,8 @@ impl Table {
         requires even { length values.old.items ≡ length keys.items }
         requires index { IsIndex keys.items index.items }
         ensures even { IfOk result (λ k. length values.new.items ≡ length k) }
-        ensures merged { IfOk result (λ k. zip k values.new.items ≡ put_each (zip keys.items values.old.items)) }
+        ensures merged { IfOk result (λ k. zip k values.new.items
+            ≡ put_each (zip keys.items values.old.items)) }
     {
         let firsts = repeats::firsts(alloc, keys.as_slice(), index.as_mut_slice())?;
         drop(index);
@@ -193,8 +204,9 @@ impl Table {
         Ok(Table { keys, index })
     }
 
-    /// The keys of entries: those of equal keys become one, with the last value at the position of the first. Where no key repeats, the keys are taken over as they are.
-    /// The error is a failed allocation, and then what is in `values` is unspecified.
+    /// The keys of entries: those of equal keys become one, with the last value at the position of
+    /// the first. Where no key repeats, the keys are taken over as they are. The error is a failed
+    /// allocation, and then what is in `values` is unspecified.
     pub fn from_entries<V: Drop>(
         alloc: Global,
         keys: Vec<Key>,
@@ -202,7 +214,8 @@ impl Table {
     ) -> Result<Table, AllocError>
         requires { length values.old.items ≡ length keys.items }
         ensures even { IfOk result (λ k. length values.new.items ≡ length k) }
-        ensures merged { IfOk result (λ k. zip k values.new.items ≡ put_each (zip keys.items values.old.items)) }
+        ensures merged { IfOk result (λ k. zip k values.new.items
+            ≡ put_each (zip keys.items values.old.items)) }
     {
         if keys.len() <= index::LINEAR_MAX && index::are_distinct(keys.as_slice()) {
             return Ok(Table {
@@ -258,9 +271,11 @@ impl Table {
         Ok(())
     }
 
-    /// The position of a key. A missing key is put last, and the result is `None`. The error is a failed allocation, and then nothing has changed.
+    /// The position of a key. A missing key is put last, and the result is `None`. The error is a
+    /// failed allocation, and then nothing has changed.
     pub fn put(&mut self, alloc: Global, name: &str) -> Result<Option<usize>, AllocError>
-        ensures place { IfOk result (λ place. place ≡ position (λ k. bytes_eq k name.now) self.old) }
+        ensures position { IfOk result (λ place. place
+            ≡ position (λ k. bytes_eq k name.now) self.old) }
         ensures ok { IfOk result (λ place. MatchOption place
             (self.new ≡ self.old ++ name.now ∷ []) (λ _. self.new ≡ self.old)) }
         ensures err { OnErr result (self.new ≡ self.old) }

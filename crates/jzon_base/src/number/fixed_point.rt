@@ -5,15 +5,16 @@ ghost use Rattle.std.specs.Prelude.{IfSome, IsTrue, true};
 ghost use Rattle.std.specs.Int.{w64};
 ghost use Rattle.std.specs.Option.{SomeIff};
 ghost use Rattle.jzon_base.specs.Decimal.{fixed_point, unsigned_fixed_point, whole_part, SomeWhere};
-ghost use Rattle.jzon_base.specs.Decimal.{exact_fixed_point, exact_unsigned_fixed_point, is_whole, is_whole_at, integer_at};
+ghost use Rattle.jzon_base.specs.Decimal.{exact_fixed_point, exact_unsigned_fixed_point, is_whole};
+ghost use Rattle.jzon_base.specs.Decimal.{is_whole_at, integer_at};
 ghost use Rattle.jzon_base.specs.Decimal.{same, IsExactAt};
 
 use super::to_integer::with_sign;
 use super::{Number, times_power};
 
 impl Number {
-    /// `mantissa * 10 ^ (exponent + point)`, truncated to an integer. `None` for NaN, for a negative sign, even of -0,
-    /// and if it doesn't fit.
+    /// `mantissa * 10 ^ (exponent + point)`, truncated to an integer. `None` for NaN, for a
+    /// negative sign, even of -0, and if it doesn't fit.
     pub fn as_fixed_point_u64(&self, point: u16) -> Option<u64>
         ensures { SomeWhere (unsigned_fixed_point self.now point) (λ n. n < 2 ^ 64) result }
     {
@@ -24,8 +25,8 @@ impl Number {
         whole_part(mantissa, exponent, point)
     }
 
-    /// `mantissa * 10 ^ (exponent + point)`, truncated to an integer before the sign is applied. `None` for NaN, and if
-    /// it doesn't fit.
+    /// `mantissa * 10 ^ (exponent + point)`, truncated to an integer before the sign is applied.
+    /// `None` for NaN, and if it doesn't fit.
     pub fn as_fixed_point_i64(&self, point: u16) -> Option<i64>
         ensures { SomeWhere (fixed_point self.now point) (FitsSigned w64) result }
     {
@@ -36,11 +37,14 @@ impl Number {
         with_sign(positive, whole_part(mantissa, exponent, point)?)
     }
 
-    /// `mantissa * 10 ^ (exponent + point)`, if that is an integer: 12.30 at 2 is 1230, and 12.301 at 2 is `None`,
-    /// since a digit would be lost. `None` also for NaN, for a negative sign, even of -0, and if it doesn't fit.
+    /// `mantissa * 10 ^ (exponent + point)`, if that is an integer: 12.30 at 2 is 1230, and 12.301
+    /// at 2 is `None`, since a digit would be lost. `None` also for NaN, for a negative sign, even
+    /// of -0, and if it doesn't fit.
     pub fn as_exact_fixed_point_u64(&self, point: u16) -> Option<u64>
-        ensures number { SomeWhere (exact_unsigned_fixed_point self.now point) (λ n. n < 2 ^ 64) result }
-        ensures same { IfSome result (λ n. point ≤ 32768 → IsTrue (same self.now (integer_at (pos n) point))) }
+        ensures number { SomeWhere (exact_unsigned_fixed_point self.now point)
+            (λ n. n < 2 ^ 64) result }
+        ensures equal { IfSome result (λ n. point ≤ 32768
+            → IsTrue (same self.now (integer_at (pos n) point))) }
     {
         if self.is_exact_at(point) {
             self.as_fixed_point_u64(point)
@@ -49,11 +53,12 @@ impl Number {
         }
     }
 
-    /// `mantissa * 10 ^ (exponent + point)` with the sign, if that is an integer. `None` if a digit would be lost, for
-    /// NaN, and if it doesn't fit.
+    /// `mantissa * 10 ^ (exponent + point)` with the sign, if that is an integer. `None` if a digit
+    /// would be lost, for NaN, and if it doesn't fit.
     pub fn as_exact_fixed_point_i64(&self, point: u16) -> Option<i64>
         ensures number { SomeWhere (exact_fixed_point self.now point) (FitsSigned w64) result }
-        ensures same { IfSome result (λ n. point ≤ 32768 → IsTrue (same self.now (integer_at n point))) }
+        ensures equal { IfSome result (λ n. point ≤ 32768
+            → IsTrue (same self.now (integer_at n point))) }
     {
         if self.is_exact_at(point) {
             self.as_fixed_point_i64(point)
@@ -65,7 +70,7 @@ impl Number {
     /// Whether the fixed-point readings at this point lose no digit.
     fn is_exact_at(&self, point: u16) -> bool
         ensures whole { result ≡ is_whole_at self.now point }
-        ensures same { result ≡ true → IsExactAt self.now point }
+        ensures exact { result ≡ true → IsExactAt self.now point }
     {
         if self.is_nan() {
             return false;

@@ -1,4 +1,5 @@
-//! Numbers as integers (docs/RULES.md, "Integer readings"). Only a number of exponent 0 is one: `5e2` isn't.
+//! Numbers as integers (docs/RULES.md, "Integer readings"). Only a number of exponent 0 is one:
+//! `5e2` isn't.
 
 ghost use Rattle.std.specs.Prelude.{◌≡◌, ◌<◌, ◌^◌, FitsSigned};
 ghost use Rattle.std.specs.Int.{w8, w16, w32, w64};

@@ -14,10 +14,12 @@ use std::marker::Model;
 /// How many entries there may be before they are merged for the first time.
 const FIRST_LIMIT: usize = 256;
 
-/// Entries that are put one after the other, of which some may repeat a key. A clause sees the list of entries after all merges.
+/// Entries that are put one after the other, of which some may repeat a key. A clause sees the list
+/// of entries after all merges.
 ///
-/// Entries of equal keys are merged whenever their count has doubled since the last time, so that few distinct keys take little memory. Where few keys are left
-/// by that, each later entry of such a key is put in its place at once, until another key comes.
+/// Entries of equal keys are merged whenever their count has doubled since the last time, so that
+/// few distinct keys take little memory. Where few keys are left by that, each later entry of such
+/// a key is put in its place at once, until another key comes.
 #[derive(Drop)]
 pub struct Builder<V> {
     keys: Vec<Key>,
@@ -116,10 +118,11 @@ impl<V: Drop> Builder<V> {
         Ok(())
     }
 
-    /// Whether an entry has this key. Calls before each of n entries take about n comparisons in all for most keys, and about n (log n)^2 whatever the keys are.
-    /// The error is a failed allocation.
+    /// Whether an entry has this key. Calls before each of n entries take about n comparisons in
+    /// all for most keys, and about n (log n)^2 whatever the keys are. The error is a failed
+    /// allocation.
     pub fn has_key(&mut self, alloc: Global, key: &str) -> Result<bool, AllocError>
-        ensures same { self.new ≡ self.old }
+        ensures kept { self.new ≡ self.old }
         ensures known { IfOk result (λ known. known ≡ is_some (find key.now self.old)) }
     {
         notes::has_key(&mut self.notes, alloc, self.keys.as_slice(), key)

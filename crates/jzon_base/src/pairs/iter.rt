@@ -9,7 +9,8 @@ use std::iter::FusedIterator;
 use std::marker::Model;
 use std::slice;
 
-/// The entries, each as its key's text and its value. A clause sees the list of those that are left.
+/// The entries, each as its key's text and its value. A clause sees the list of those that are
+/// left.
 #[derive(Drop)]
 pub struct Iter<'a, V> {
     keys: keys::Iter<'a>,

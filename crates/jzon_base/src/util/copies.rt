@@ -4,7 +4,8 @@ ghost use Rattle.std.specs.Prelude.{◌≡◌};
 
 use crate::number::{Number, copy_fields};
 
-/// A copy of a number, made field by field: `*number` would go through a slot of the stack on its way into a list.
+/// A copy of a number, made field by field: `*number` would go through a slot of the stack on its
+/// way into a list.
 #[inline(always)]
 pub fn copy_number(number: &Number) -> Number
     ensures { result ≡ number.now }

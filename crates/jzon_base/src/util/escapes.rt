@@ -1,5 +1,5 @@
-//! Escapes in strings (RFC 8259, section 7): the letters of short escapes and hexadecimal digits, as they are read and as they are printed. What is printed is
-//! read back: the clauses `read_back`.
+//! Escapes in strings (RFC 8259, section 7): the letters of short escapes and hexadecimal digits,
+//! as they are read and as they are printed. What is printed is read back: the clauses `read_back`.
 
 ghost use Rattle.std.specs.Prelude.{◌≡◌, ◌<◌, IsTrue, IfSome};
 ghost use Rattle.std.specs.Char.{is_ascii_hexdigit, digit_char, digit_value};
@@ -27,7 +27,8 @@ static UNESCAPED: [u8; 256] = [
     0, 0, 0, 0, 0, 0, 0, 0, 0, 0, 0, 0, 0, 0, 0, 0,
 ];
 
-/// The letter of the short escape of each byte that has one, and 0 for all others. No byte from 96 on has one.
+/// The letter of the short escape of each byte that has one, and 0 for all others. No byte from 96
+/// on has one.
 #[rattlefmt::skip]
 static ESCAPE_LETTERS: [u8; 96] = [
     0, 0, 0, 0, 0, 0, 0, 0, b'b', b't', b'n', 0, b'f', b'r', 0, 0,
@@ -79,7 +80,8 @@ pub fn meant_by(letter: u8) -> Option<char>
 #[inline(always)]
 pub fn letter_of(byte: u8) -> Option<u8>
     ensures letter { SomeIff result (0 < letter_of byte) (letter_of byte) }
-    ensures read_back { IfSome result (λ letter. IsTrue (is_simple letter) × (unescaped letter ≡ byte)) }
+    ensures read_back { IfSome result (λ letter. IsTrue (is_simple letter)
+        × (unescaped letter ≡ byte)) }
 {
     if byte >= 96 {
         return None;

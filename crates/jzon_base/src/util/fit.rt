@@ -4,8 +4,8 @@ ghost use Rattle.std.specs.Prelude.{◌≡◌, ◌<◌, vec_len, vec_capacity, O
 
 use std::alloc::{AllocError, Global};
 
-/// A vector of more capacity than this keeps it: its spare part is mostly pages that are never touched, and a copy
-/// would touch as many again.
+/// A vector of more capacity than this keeps it: its spare part is mostly pages that are never
+/// touched, and a copy would touch as many again.
 const FITTED_MAX: usize = 128;
 
 /// Room for how many elements a vector gets first, if it grows one by one.
@@ -21,8 +21,8 @@ pub fn reserve_next<T>(items: &mut Vec<T>) -> Result<(), AllocError>
     items.reserve(room)
 }
 
-/// Moves the elements to a block of their exact size if the vector is small and more than a fifth of it is unused. The
-/// error is a failed allocation.
+/// Moves the elements to a block of their exact size if the vector is small and more than a fifth
+/// of it is unused. The error is a failed allocation.
 #[inline(always)]
 pub fn fit<T: Drop>(alloc: Global, items: &mut Vec<T>) -> Result<(), AllocError>
     ensures { items.new.items ≡ items.old.items }

@@ -13,7 +13,8 @@ const BLOCK: usize = 32;
 /// The bytes of half a block. Most strings end within as many.
 const HALF: usize = 16;
 
-/// The length of the longest prefix of bytes that a string of a text has unescaped: from 32 on, and neither a quote nor a backslash.
+/// The length of the longest prefix of bytes that a string of a text has unescaped: from 32 on, and
+/// neither a quote nor a backslash.
 pub fn plain_len(bytes: &[u8]) -> usize
     ensures { result ≡ prefix_len is_plain bytes.now }
 {
@@ -36,7 +37,8 @@ fn plain_by_bytes(bytes: &[u8]) -> usize
         .count()
 }
 
-/// The same length, for `N` to `2 * N` bytes: the first `N` and the last `N` are compared, which may overlap.
+/// The same length, for `N` to `2 * N` bytes: the first `N` and the last `N` are compared, which
+/// may overlap.
 #[inline(always)]
 fn plain_by_ends<const N: usize>(bytes: &[u8]) -> usize
     requires few { N ≤ 32 }
@@ -52,7 +54,8 @@ fn plain_by_ends<const N: usize>(bytes: &[u8]) -> usize
     last + plain_in_lanes::<N>(bytes, last)
 }
 
-/// The same length, for a block or more: in half a block, within which most strings end, and then block by block, of which the last may overlap the one before.
+/// The same length, for a block or more: in half a block, within which most strings end, and then
+/// block by block, of which the last may overlap the one before.
 fn plain_by_blocks(bytes: &[u8]) -> usize
     requires { BLOCK ≤ length bytes.now }
     ensures { result ≡ prefix_len is_plain bytes.now }
@@ -73,7 +76,8 @@ fn plain_by_blocks(bytes: &[u8]) -> usize
     last + plain_in_lanes::<32>(bytes, last)
 }
 
-/// Whether `N` to `2 * N` bytes need no escape: the first `N` and the last `N` are compared, which may overlap.
+/// Whether `N` to `2 * N` bytes need no escape: the first `N` and the last `N` are compared, which
+/// may overlap.
 #[inline(always)]
 pub fn is_plain_by_ends<const N: usize>(bytes: &[u8]) -> bool
     requires few { N ≤ 32 }
@@ -86,7 +90,8 @@ pub fn is_plain_by_ends<const N: usize>(bytes: &[u8]) -> bool
     first & last
 }
 
-/// How many of the `N` bytes at an offset come before the first that needs an escape: all of them where none does.
+/// How many of the `N` bytes at an offset come before the first that needs an escape: all of them
+/// where none does.
 #[inline(always)]
 fn plain_in_lanes<const N: usize>(bytes: &[u8], start: usize) -> usize
     requires few { N ≤ 32 }

@@ -19,21 +19,22 @@ pub const MAX_LEN: usize = 29;
 
 type NumberText = ArrayString<MAX_LEN>;
 
-/// Writes the text of the number `n * 10 ^ exponent` with its sign. An error of the writer is returned; a prefix of the
-/// text is then written.
+/// Writes the text of the number `n * 10 ^ exponent` with its sign. An error of the writer is
+/// returned; a prefix of the text is then written.
 pub fn write<W: Write>(wr: &mut W, positive: bool, n: u64, exponent: i16) -> io::Result<()>
     ensures ok { OnOk result
         (Appends (W.contents wr.old) (W.contents wr.new) (number_text positive n exponent)) }
     ensures err { OnErr result
-        (AppendsBeginning (W.contents wr.old) (W.contents wr.new) (number_text positive n exponent)) }
+        (AppendsBeginning (W.contents wr.old) (W.contents wr.new)
+        (number_text positive n exponent)) }
 {
     let mut room = [0; MAX_LEN];
     let start = put(&mut room, positive, n, exponent);
     write_bytes(wr, &room[start..])
 }
 
-/// Puts the text of the number `n * 10 ^ exponent` with its sign at the end of the buffer, and returns the offset at
-/// which it begins.
+/// Puts the text of the number `n * 10 ^ exponent` with its sign at the end of the buffer, and
+/// returns the offset at which it begins.
 #[inline(always)]
 pub fn put(room: &mut [u8; MAX_LEN], positive: bool, n: u64, exponent: i16) -> usize
     ensures start { result ≤ MAX_LEN }
@@ -58,8 +59,8 @@ fn put_any(room: &mut [u8; MAX_LEN], positive: bool, n: u64, exponent: i16) -> u
     start
 }
 
-/// As `put` for the common case, in which the text is the mantissa's digits with at most a sign and a point; `None` in
-/// other cases and for 0.
+/// As `put` for the common case, in which the text is the mantissa's digits with at most a sign and
+/// a point; `None` in other cases and for 0.
 fn put_whole(
     room: &mut [u8; MAX_LEN],
     positive: bool,
@@ -67,7 +68,8 @@ fn put_whole(
     exponent: i16,
 ) -> Option<usize>
     ensures { IfSome result
-        (λ start. (start ≤ MAX_LEN) × (drop start room.new ≡ number_text positive mantissa exponent)) }
+        (λ start. (start ≤ MAX_LEN) × (drop start room.new
+        ≡ number_text positive mantissa exponent)) }
 {
     if mantissa == 0 || exponent > 0 || exponent < -17 {
         return None;
@@ -150,7 +152,8 @@ fn push_magnitude(text: &mut NumberText, digits: &str, exponent: i16)
     }
 }
 
-/// The digits divided by `10 ^ places`: without an exponent if `places` is at most 17, else with one.
+/// The digits divided by `10 ^ places`: without an exponent if `places` is at most 17, else with
+/// one.
 fn push_negative_power(text: &mut NumberText, digits: &str, places: usize)
     requires ascii { IsAscii digits.now }
     requires some { 0 < length digits.now }

@@ -1,4 +1,5 @@
-//! `Display` of a value (docs/RULES.md, "Layouts"). It writes to the formatter as it goes, and allocates nothing.
+//! `Display` of a value (docs/RULES.md, "Layouts"). It writes to the formatter as it goes, and
+//! allocates nothing.
 
 ghost use Rattle.std.specs.Prelude.{◌≡◌, false};
 ghost use Rattle.std.specs.Fmt.{WritesOnOk};
@@ -16,7 +17,8 @@ use jzon_base::number::Number;
 use jzon_base::util::plain::plain_len;
 use std::{fmt, str};
 
-/// A string without quotes, a number as `Number` shows it, and all else as in the compact layout. An error is the formatter's.
+/// A string without quotes, a number as `Number` shows it, and all else as in the compact layout.
+/// An error is the formatter's.
 impl fmt::Display for JsonValue {
     ghost use Rattle.std.specs.Prelude.{Some};
     ghost use Rattle.jzon_tree.specs.Displayed.{displayed};
@@ -53,7 +55,8 @@ fn show<W: fmt::Write>(value: &JsonValue, f: &mut fmt::Formatter<W>) -> fmt::Res
 
 #[cycle(show)]
 fn show_array<W: fmt::Write>(items: &[JsonValue], f: &mut fmt::Formatter<W>) -> fmt::Result
-    ensures { WritesOnOk W.write_str_gives f.old result (compact (array (view_values items.now))) f.new }
+    ensures { WritesOnOk W.write_str_gives f.old result
+        (compact (array (view_values items.now))) f.new }
 {
     f.write_str("[")?;
     for (index, item) in items.iter().enumerate() {
@@ -82,7 +85,8 @@ fn show_member<W: fmt::Write>(
     value: &JsonValue,
     f: &mut fmt::Formatter<W>,
 ) -> fmt::Result
-    ensures { WritesOnOk W.write_str_gives f.old result (member_text (key.now, view value.now)) f.new }
+    ensures { WritesOnOk W.write_str_gives f.old result
+        (member_text (key.now, view value.now)) f.new }
 {
     show_text(key, f)?;
     f.write_str(":")?;

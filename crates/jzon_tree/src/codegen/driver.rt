@@ -17,10 +17,11 @@ use crate::value::JsonValue;
 use crate::value::inspect::{inspect, inspect_object, see_number};
 use std::io;
 
-/// Writes the value in the generator's style, counted from the indents that are open. The entries of each object are in the order that `order` returned for it.
+/// Writes the value in the generator's style, counted from the indents that are open. The entries
+/// of each object are in the order that `order` returned for it.
 ///
-/// An `Err` is that of a hook. Nothing is written after it: the bytes added are a prefix of a writing of the value, and the indents that were open then stay
-/// open.
+/// An `Err` is that of a hook. Nothing is written after it: the bytes added are a prefix of a
+/// writing of the value, and the indents that were open then stay open.
 pub fn write_json<G: Generator>(g: &mut G, json: &JsonValue) -> io::Result<()>
     ensures written { Prints (Writes (G.meaning g.old).style (G.meaning g.old).dent (view json.now))
         (G.meaning g.old) (G.meaning g.new) result }
@@ -38,7 +39,8 @@ pub fn write_json<G: Generator>(g: &mut G, json: &JsonValue) -> io::Result<()>
 
 /// Writes the object in the generator's style, as `write_json` writes a value.
 pub fn write_object<G: Generator>(g: &mut G, object: &Object) -> io::Result<()>
-    ensures written { Prints (Writes (G.meaning g.old).style (G.meaning g.old).dent (view_object object.now))
+    ensures written { Prints (Writes (G.meaning g.old).style (G.meaning g.old).dent
+        (view_object object.now))
         (G.meaning g.old) (G.meaning g.new) result }
     ensures value { IsValue (view_object object.now) }
 {

@@ -1,4 +1,5 @@
-//! Keeps an 88-byte `io::Error` out of return values: it is stored in a slot, and a one-byte `Failed` is returned.
+//! Keeps an 88-byte `io::Error` out of return values: it is stored in a slot, and a one-byte
+//! `Failed` is returned.
 
 ghost use Rattle.std.specs.Prelude.{◌≡◌, ◌≤◌, Ok, IsErr, MatchResult, length, drop};
 ghost use Rattle.jzon_tree.specs.Generator.{Sends, Just};
@@ -60,7 +61,8 @@ pub(super) fn out_of_memory(slot: &mut ErrorSlot) -> SlotResult<()>
     Err(Failed)
 }
 
-/// Writes the bytes, of which a prefix is written where the writer fails. Most writers take them all at once.
+/// Writes the bytes, of which a prefix is written where the writer fails. Most writers take them
+/// all at once.
 #[inline(always)]
 #[tactic(auto, using(crate::proofs::Sent::sent))]
 pub(super) fn send<W: Write>(writer: &mut W, bytes: &[u8], slot: &mut ErrorSlot) -> SlotResult<()>
@@ -87,7 +89,8 @@ fn send_rest<W: Write>(
     slot: &mut ErrorSlot,
 ) -> SlotResult<()>
     requires { count ≤ length bytes.now }
-    ensures { Sends (Just (drop count bytes.now)) (W.contents writer.old) (W.contents writer.new) result }
+    ensures { Sends (Just (drop count bytes.now)) (W.contents writer.old)
+        (W.contents writer.new) result }
 {
     if count == 0 {
         *slot = Some(io::Error::from(ErrorKind::WriteZero));

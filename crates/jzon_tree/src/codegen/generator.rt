@@ -21,16 +21,20 @@ use std::io::{ErrorKind, Write};
 
 /// Writes values, piece by piece, to a writer.
 ///
-/// It has the bytes written so far, the number of open indents, the number of faults so far, and two things that no hook changes: a style, and the reference that
-/// is written through, if there is one. An `Ok` of a hook adds exactly the hook's bytes. An `Err` adds a prefix of them, counts one fault (saturating at
-/// `u64::MAX`), and leaves the open indents. Where the contract of the writer doesn't fix its bytes, that of a hook doesn't either.
+/// It has the bytes written so far, the number of open indents, the number of faults so far, and
+/// two things that no hook changes: a style, and the reference that is written through, if there is
+/// one. An `Ok` of a hook adds exactly the hook's bytes. An `Err` adds a prefix of them, counts one
+/// fault (saturating at `u64::MAX`), and leaves the open indents. Where the contract of the writer
+/// doesn't fix its bytes, that of a hook doesn't either.
 ///
-/// Where only whitespace or the order of entries differ from the generators of the crate, a `Layout` is enough.
+/// Where only whitespace or the order of entries differ from the generators of the crate, a
+/// `Layout` is enough.
 pub trait Generator {
     /// The writer.
     type T: Write;
 
-    // The bytes written so far, the open indents, the faults so far, the style, and the reference that is written through, if there is one.
+    // The bytes written so far, the open indents, the faults so far, the style, and the reference
+    // that is written through, if there is one.
     ghost meaning: { Self → Emitted };
 
     // The generator with this writer instead of its own.
@@ -38,10 +42,12 @@ pub trait Generator {
 
     /// Lends the writer. Its bytes are the bytes written, before and after.
     fn get_writer(&mut self) -> &mut Self::T
-        ensures* writes_back { sem 𝓛 (Lends Self.row Self.T.row self.entry result (with_writer self.old)) }
+        ensures* writes_back { sem 𝓛 (Lends Self.row Self.T.row self.entry result
+            (with_writer self.old)) }
         ensures bytes { Self.T.contents result.now ≡ (meaning self.old).out };
 
-    /// Adds `slice`, which is a colon and a space, or the one byte `min`, which is a colon, as the style allows.
+    /// Adds `slice`, which is a colon and a space, or the one byte `min`, which is a colon, as the
+    /// style allows.
     fn write_min(&mut self, slice: &[u8], min: u8) -> io::Result<()>
         ensures { Emits (IsForm (meaning self.old).style slice.now min)
             (meaning self.old) (meaning self.new) result };
@@ -62,10 +68,11 @@ pub trait Generator {
     fn set_dent(&mut self, dent: u64)
         ensures { meaning self.new ≡ record (meaning self.old) { dent = dent } };
 
-    /// Returns `answer`, the result of a call of the writer, and counts a fault where it is an error.
+    /// Returns `answer`, the result of a call of the writer, and counts a fault where it is an
+    /// error.
     #[inline]
     fn hand_on(&mut self, answer: io::Result<()>) -> io::Result<()>
-        ensures same { result ≡ answer }
+        ensures result { result ≡ answer }
         ensures faults { Counts answer (meaning self.old) (meaning self.new) }
     {
         if answer.is_err() {
@@ -130,10 +137,12 @@ pub trait Generator {
         self.write_string_complex(string, plain_len(string.as_bytes()))
     }
 
-    /// Adds the bytes before `start` as they are, those from `start` on escaped, and the closing quote. The bytes go through `write` and `write_char`.
+    /// Adds the bytes before `start` as they are, those from `start` on escaped, and the closing
+    /// quote. The bytes go through `write` and `write_char`.
     fn write_string_complex(&mut self, string: &str, start: usize) -> io::Result<()>
         requires { start ≤ length string.now }
-        ensures { Emits (Just (take start string.now ++ (escaped (drop start string.now) ++ 34 ∷ [])))
+        ensures { Emits (Just (take start string.now
+            ++ (escaped (drop start string.now) ++ 34 ∷ [])))
             (meaning self.old) (meaning self.new) result }
     {
         let (prefix, text) = string.as_bytes().split_at(start);
@@ -161,15 +170,17 @@ pub trait Generator {
         self.write(text_of_number(&mut room, num))
     }
 
-    /// The order in which the entries of the object are written, as their positions, each exactly once; `None` is the order of insertion. It is an order
-    /// that the style allows of the keys. No byte is added.
+    /// The order in which the entries of the object are written, as their positions, each exactly
+    /// once; `None` is the order of insertion. It is an order that the style allows of the keys. No
+    /// byte is added.
     fn order(&mut self, object: &Object) -> io::Result<Option<Vec<usize>>>
         ensures { MatchResult result
             (λ answer. Added (Just []) (meaning self.old) (meaning self.new)
             × IsAnswer (meaning self.old).style (keys_of (entries_of object.now)) answer)
             (λ _. Failed (Just []) (meaning self.old) (meaning self.new)) };
 
-    /// `write`, as `write_json` calls it: an error is stored in the slot. A generator that has its errors there already may override it, and those below.
+    /// `write`, as `write_json` calls it: an error is stored in the slot. A generator that has its
+    /// errors there already may override it, and those below.
     #[doc(hidden)]
     fn try_write(&mut self, slice: &[u8], slot: &mut ErrorSlot) -> SlotResult<()>
         ensures { Emits (Just slice.now) (meaning self.old) (meaning self.new) result }

@@ -1,4 +1,5 @@
-//! Layouts: the whitespace of a text, which is written here, and the order of an object's entries (docs/RULES.md, "Layouts of one's own").
+//! Layouts: the whitespace of a text, which is written here, and the order of an object's entries
+//! (docs/RULES.md, "Layouts of one's own").
 
 ghost use Rattle.std.specs.Prelude.{◌≡◌, ◌+◌, ◌≤◌, ◌<◌, ◌∷◌, ◌++◌, Bool, true, false, IsTrue, IfOk, Ok, None};
 ghost use Rattle.std.specs.Prelude.{replicate, vec_len, vec_capacity};
@@ -29,7 +30,8 @@ const NEWLINE_AND_SPACES: [u8; 64] = [
     b' ', b' ', b' ', b' ', b' ', b' ', b' ', b' ', b' ', b' ', b' ', b' ', b' ', b' ', b' ', b' ',
 ];
 
-/// The layout of the text that a `TextGenerator` writes. One of a user's own has a style and two methods:
+/// The layout of the text that a `TextGenerator` writes. One of a user's own has a style and two
+/// methods:
 ///
 /// ```rust
 /// fn spaces(&self) -> Option<u16> {
@@ -47,13 +49,16 @@ pub trait Layout {
     // Whether `order` always returns `None`.
     ghost keeps_order: { Self → Bool } = { λ _. false };
 
-    /// The number of spaces for each open indent, where each element and entry has its own line and a space follows each colon; `None` for no whitespace at all.
+    /// The number of spaces for each open indent, where each element and entry has its own line and
+    /// a space follows each colon; `None` for no whitespace at all.
     fn spaces(&self) -> Option<u16>
         ensures { LaysOut (style self.now) result };
 
-    /// The order of the object's entries, as their positions, each exactly once; `None` is the order of insertion.
+    /// The order of the object's entries, as their positions, each exactly once; `None` is the
+    /// order of insertion.
     fn order(&self, object: &Object) -> Result<Option<Vec<usize>>, AllocError>
-        ensures allowed { IfOk result (IsAnswer (style self.now) (keys_of (entries_of object.now))) }
+        ensures allowed { IfOk result (IsAnswer (style self.now)
+            (keys_of (entries_of object.now))) }
         ensures insertion { IsTrue (keeps_order self.now) → result ≡ Ok None };
 
     // The style allows some whitespace, one form of the colon, and one order of distinct keys.
@@ -101,7 +106,8 @@ impl Layout for Compact {
     ghost style_law = { λ _. IsStyle-compact };
 }
 
-/// A line for each element and entry: a newline and this number of spaces for each open indent, and a space after each colon. Entries are written in the order of insertion.
+/// A line for each element and entry: a newline and this number of spaces for each open indent, and
+/// a space after each colon. Entries are written in the order of insertion.
 #[derive(Clone, Copy, Debug)]
 pub struct Pretty(pub u16);
 
@@ -123,14 +129,16 @@ impl Layout for Pretty {
     ghost style_law = { λ l. IsStyle-pretty l.0 };
 }
 
-/// Writes a newline and `spaces` spaces. Most lines begin with few, which are written with the newline.
+/// Writes a newline and `spaces` spaces. Most lines begin with few, which are written with the
+/// newline.
 #[inline(always)]
 pub(super) fn send_line<W: Write>(
     writer: &mut W,
     spaces: u128,
     slot: &mut ErrorSlot,
 ) -> SlotResult<()>
-    ensures { Sends (Just (10 ∷ replicate spaces 32)) (W.contents writer.old) (W.contents writer.new) result }
+    ensures { Sends (Just (10 ∷ replicate spaces 32)) (W.contents writer.old)
+        (W.contents writer.new) result }
 {
     let first = spaces.min(63);
     send(writer, &NEWLINE_AND_SPACES[..=first as usize], slot)?;
@@ -140,7 +148,8 @@ pub(super) fn send_line<W: Write>(
     Ok(())
 }
 
-/// Adds a newline and fewer than `SHORT_LINE` spaces: as many as a short line may have, of which those that are too many are cut off.
+/// Adds a newline and fewer than `SHORT_LINE` spaces: as many as a short line may have, of which
+/// those that are too many are cut off.
 #[inline(always)]
 pub(super) fn push_line(bytes: &mut Vec<u8>, spaces: usize)
     requires few { spaces < SHORT_LINE }
@@ -158,7 +167,8 @@ pub(super) fn push_line(bytes: &mut Vec<u8>, spaces: usize)
 #[cold]
 #[inline(never)]
 fn send_spaces<W: Write>(writer: &mut W, spaces: u128, slot: &mut ErrorSlot) -> SlotResult<()>
-    ensures { Sends (Just (replicate spaces 32)) (W.contents writer.old) (W.contents writer.new) result }
+    ensures { Sends (Just (replicate spaces 32)) (W.contents writer.old)
+        (W.contents writer.new) result }
 {
     let mut left = spaces;
     while left > 0 {

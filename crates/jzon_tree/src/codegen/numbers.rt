@@ -15,7 +15,8 @@ pub(super) fn send_number<W: Write>(
     number: &Number,
     slot: &mut ErrorSlot,
 ) -> SlotResult<()>
-    ensures { Sends (Just (written_text number.now)) (W.contents writer.old) (W.contents writer.new) result }
+    ensures { Sends (Just (written_text number.now)) (W.contents writer.old)
+        (W.contents writer.new) result }
 {
     let mut room = [0; print_dec::MAX_LEN];
     send(writer, text_of_number(&mut room, number), slot)

@@ -23,7 +23,8 @@ const SHORT_MAX_LEN: usize = 32;
 /// The room that any of these takes with its quotes.
 const SHORT_ROOM: usize = SHORT_MAX_LEN + 2;
 
-/// Writes the bytes of the string before `start` as they are, those from `start` on escaped, and the closing quote.
+/// Writes the bytes of the string before `start` as they are, those from `start` on escaped, and
+/// the closing quote.
 pub(super) fn send_string_from<W: Write>(
     writer: &mut W,
     string: &str,
@@ -38,7 +39,8 @@ pub(super) fn send_string_from<W: Write>(
     send_string(writer, prefix, text, slot)
 }
 
-/// Writes the prefix as it is, the text escaped, and the closing quote. Runs of bytes that need no escape are written whole.
+/// Writes the prefix as it is, the text escaped, and the closing quote. Runs of bytes that need no
+/// escape are written whole.
 pub(super) fn send_string<W: Write>(
     writer: &mut W,
     prefix: &[u8],
@@ -62,14 +64,16 @@ pub(super) fn send_string<W: Write>(
     send(writer, b"\"", slot)
 }
 
-/// Adds a string in quotes, escaped. Most strings are short and need no escape, and most times there is room.
+/// Adds a string in quotes, escaped. Most strings are short and need no escape, and most times
+/// there is room.
 #[inline(always)]
 pub(super) fn push_string(
     bytes: &mut Vec<u8>,
     string: &[u8],
     slot: &mut ErrorSlot,
 ) -> SlotResult<()>
-    ensures { Sends (Just (quoted string.now)) (Some bytes.old.items) (Some bytes.new.items) result }
+    ensures { Sends (Just (quoted string.now)) (Some bytes.old.items)
+        (Some bytes.new.items) result }
 {
     let is_short = string.len() <= SHORT_MAX_LEN;
     if is_short && bytes.capacity() - bytes.len() >= SHORT_ROOM && push_short(bytes, string) {
@@ -78,8 +82,8 @@ pub(super) fn push_string(
     push_any(bytes, string, slot)
 }
 
-/// Adds a short string in quotes if it needs no escape: it is put over quotes, of which those that are too many are cut off. Otherwise nothing is added, and the
-/// result is false.
+/// Adds a short string in quotes if it needs no escape: it is put over quotes, of which those that
+/// are too many are cut off. Otherwise nothing is added, and the result is false.
 #[inline(always)]
 fn push_short(bytes: &mut Vec<u8>, string: &[u8]) -> bool
     requires short { length string.now ≤ SHORT_MAX_LEN }
@@ -109,7 +113,8 @@ fn push_quotes(bytes: &mut Vec<u8>, count: usize)
     };
 }
 
-/// Puts a short string at an offset if it needs no escape. Otherwise nothing is put, and the result is false.
+/// Puts a short string at an offset if it needs no escape. Otherwise nothing is put, and the result
+/// is false.
 #[inline(always)]
 fn put_if_plain(bytes: &mut [u8], offset: usize, string: &[u8]) -> bool
     requires short { length string.now ≤ SHORT_MAX_LEN }
@@ -172,10 +177,12 @@ fn put_ends<const N: usize>(bytes: &mut [u8], offset: usize, text: &[u8])
     last.copy_to_slice(&mut bytes[offset + start..]);
 }
 
-/// Adds any string in quotes, escaped. Apart, so that what is inlined for short strings makes no call.
+/// Adds any string in quotes, escaped. Apart, so that what is inlined for short strings makes no
+/// call.
 #[inline(never)]
 fn push_any(bytes: &mut Vec<u8>, string: &[u8], slot: &mut ErrorSlot) -> SlotResult<()>
-    ensures { Sends (Just (quoted string.now)) (Some bytes.old.items) (Some bytes.new.items) result }
+    ensures { Sends (Just (quoted string.now)) (Some bytes.old.items)
+        (Some bytes.new.items) result }
 {
     if plain_len(string) < string.len() {
         return send_escaped(bytes, string, slot);
@@ -186,7 +193,8 @@ fn push_any(bytes: &mut Vec<u8>, string: &[u8], slot: &mut ErrorSlot) -> SlotRes
     }
 }
 
-/// Adds a string that needs no escape in quotes, with one request for room. After an error nothing is added.
+/// Adds a string that needs no escape in quotes, with one request for room. After an error nothing
+/// is added.
 #[inline(always)]
 fn push_quoted(bytes: &mut Vec<u8>, string: &[u8]) -> Result<(), AllocError>
     requires { length string.now ≤ prefix_len is_plain string.now }
@@ -204,7 +212,8 @@ fn push_quoted(bytes: &mut Vec<u8>, string: &[u8]) -> Result<(), AllocError>
 #[cold]
 #[inline(never)]
 fn send_escaped(bytes: &mut Vec<u8>, string: &[u8], slot: &mut ErrorSlot) -> SlotResult<()>
-    ensures { Sends (Just (quoted string.now)) (Some bytes.old.items) (Some bytes.new.items) result }
+    ensures { Sends (Just (quoted string.now)) (Some bytes.old.items)
+        (Some bytes.new.items) result }
 {
     send_string(bytes, b"\"", string, slot)
 }
@@ -212,7 +221,8 @@ fn send_escaped(bytes: &mut Vec<u8>, string: &[u8], slot: &mut ErrorSlot) -> Slo
 /// Writes the escape of a byte that needs one.
 fn send_escape<W: Write>(writer: &mut W, byte: u8, slot: &mut ErrorSlot) -> SlotResult<()>
     requires { is_plain byte ≡ false }
-    ensures { Sends (Just (escaped_byte byte)) (W.contents writer.old) (W.contents writer.new) result }
+    ensures { Sends (Just (escaped_byte byte)) (W.contents writer.old)
+        (W.contents writer.new) result }
 {
     let mut room = [0; ESCAPE_MAX_LEN];
     let start = put_escape(&mut room, byte);

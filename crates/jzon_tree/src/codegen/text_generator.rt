@@ -1,4 +1,5 @@
-//! The generators of the crate: they write a text in a layout, into memory of their own or to a borrowed writer.
+//! The generators of the crate: they write a text in a layout, into memory of their own or to a
+//! borrowed writer.
 
 ghost use Rattle.std.specs.Prelude.{◌≡◌, ◌∷◌, ℕ, List, [], Option, Ok, None, Some, IsTrue, IsUtf8, MatchResult, refl};
 ghost use Rattle.std.specs.Prelude.{replicate, string_bytes};
@@ -39,7 +40,8 @@ pub trait Outlet {
 
     /// Lends the writer.
     fn writer(&mut self) -> &mut Self::T
-        ensures* writes_back { sem 𝓛 (Lends Self.row Self.T.row self.entry result (with_writer self.old)) }
+        ensures* writes_back { sem 𝓛 (Lends Self.row Self.T.row self.entry result
+            (with_writer self.old)) }
         ensures bytes { Self.T.contents result.now ≡ out self.old };
 
     /// Writes the string in quotes, escaped.
@@ -52,7 +54,8 @@ pub trait Outlet {
 
     /// Writes a newline and `spaces` spaces.
     fn send_line(&mut self, spaces: u128, slot: &mut ErrorSlot) -> SlotResult<()>
-        ensures bytes { Sends (Just (10 ∷ replicate spaces 32)) (out self.old) (out self.new) result }
+        ensures bytes { Sends (Just (10 ∷ replicate spaces 32)) (out self.old)
+            (out self.new) result }
         ensures lender { lender self.new ≡ lender self.old };
 
     // Another writer changes the bytes alone.
@@ -150,7 +153,7 @@ impl<O: Outlet, L: Layout> TextGenerator<O, L> {
     /// Returns the result of a call, and counts a fault where it failed.
     #[inline(always)]
     fn count(&mut self, step: SlotResult<()>) -> SlotResult<()>
-        ensures same { result ≡ step }
+        ensures result { result ≡ step }
         ensures faults { Counts step (text_meaning O.out O.lender L.style self.old)
             (text_meaning O.out O.lender L.style self.new) }
     {
@@ -230,7 +233,8 @@ impl<O: Outlet, L: Layout> Generator for TextGenerator<O, L> {
         take_result(step, slot)
     }
 
-    /// The order of the layout. Where that is the order of insertion, it is `None`, and nothing of the generator changes.
+    /// The order of the layout. Where that is the order of insertion, it is `None`, and nothing of
+    /// the generator changes.
     #[inline(always)]
     fn order(&mut self, object: &Object) -> io::Result<Option<Vec<usize>>>
         ensures answer { MatchResult result
@@ -239,7 +243,8 @@ impl<O: Outlet, L: Layout> Generator for TextGenerator<O, L> {
             × IsAnswer (L.style self.old.layout) (keys_of (entries_of object.now)) answer)
             (λ _. Failed (Just []) (text_meaning O.out O.lender L.style self.old)
             (text_meaning O.out O.lender L.style self.new)) }
-        ensures insertion { IsTrue (L.keeps_order self.old.layout) → (result ≡ Ok None) × (self.new ≡ self.old) }
+        ensures insertion { IsTrue (L.keeps_order self.old.layout) → (result ≡ Ok None)
+            × (self.new ≡ self.old) }
     {
         match self.layout.order(object) {
             Ok(answer) => Ok(answer),
@@ -296,17 +301,20 @@ impl<O: Outlet, L: Layout> Generator for TextGenerator<O, L> {
     ghost style_law = { λ g. L.style_law g.layout };
 }
 
-/// Writes compact text into memory: no whitespace, and a colon alone after a key. The entries of an object are in the order of insertion.
+/// Writes compact text into memory: no whitespace, and a colon alone after a key. The entries of an
+/// object are in the order of insertion.
 pub type DumpGenerator = TextGenerator<Memory, Compact>;
 
-/// Writes text with a line for each element and entry into memory: a newline and `spaces` spaces for each open indent, and a space after each colon. The
-/// entries of an object are in the order of insertion.
+/// Writes text with a line for each element and entry into memory: a newline and `spaces` spaces
+/// for each open indent, and a space after each colon. The entries of an object are in the order of
+/// insertion.
 pub type PrettyGenerator = TextGenerator<Memory, Pretty>;
 
 impl DumpGenerator {
     /// A generator that has written nothing. It allocates nothing.
     pub fn new(alloc: Global) -> DumpGenerator
-        ensures { ⟦<DumpGenerator as Generator>⟧.meaning result ≡ fresh (Some []) compact_style None }
+        ensures { ⟦<DumpGenerator as Generator>⟧.meaning result
+            ≡ fresh (Some []) compact_style None }
     {
         TextGenerator::in_memory(alloc, Compact)
     }
@@ -315,7 +323,8 @@ impl DumpGenerator {
 impl PrettyGenerator {
     /// A generator that has written nothing. It allocates nothing.
     pub fn new(alloc: Global, spaces: u16) -> PrettyGenerator
-        ensures { ⟦<PrettyGenerator as Generator>⟧.meaning result ≡ fresh (Some []) (pretty_style spaces) None }
+        ensures { ⟦<PrettyGenerator as Generator>⟧.meaning result
+            ≡ fresh (Some []) (pretty_style spaces) None }
     {
         TextGenerator::in_memory(alloc, Pretty(spaces))
     }
@@ -324,7 +333,8 @@ impl PrettyGenerator {
 impl<L: Layout> TextGenerator<Memory, L> {
     /// A generator of this layout that has written nothing. It allocates nothing.
     pub fn in_memory(alloc: Global, layout: L) -> TextGenerator<Memory, L>
-        ensures { ⟦<TextGenerator<Memory, L> as Generator>⟧.meaning result ≡ fresh (Some []) (L.style layout) None }
+        ensures { ⟦<TextGenerator<Memory, L> as Generator>⟧.meaning result
+            ≡ fresh (Some []) (L.style layout) None }
     {
         let bytes = Vec::new(alloc);
         TextGenerator::over(Memory { bytes }, layout)
@@ -332,7 +342,8 @@ impl<L: Layout> TextGenerator<Memory, L> {
 }
 
 impl<L: Layout + Drop> TextGenerator<Memory, L> {
-    /// The bytes that were written, as a string. It allocates nothing, and fails with `FailedUtf8Parsing` exactly if they are not UTF-8.
+    /// The bytes that were written, as a string. It allocates nothing, and fails with
+    /// `FailedUtf8Parsing` exactly if they are not UTF-8.
     pub fn consume(self) -> Result<String>
         ensures { IsConsumed (⟦<TextGenerator<Memory, L> as Generator>⟧.meaning self).out result }
     {
@@ -348,11 +359,13 @@ impl<L: Layout + Drop> TextGenerator<Memory, L> {
     }
 }
 
-/// Writes compact text to a writer: no whitespace, and a colon alone after a key. The entries of an object are in the order of insertion.
+/// Writes compact text to a writer: no whitespace, and a colon alone after a key. The entries of an
+/// object are in the order of insertion.
 pub type WriterGenerator<'a, W> = TextGenerator<&'a mut W, Compact>;
 
-/// Writes text with a line for each element and entry to a writer: a newline and `spaces` spaces for each open indent, and a space after each colon. The entries
-/// of an object are in the order of insertion.
+/// Writes text with a line for each element and entry to a writer: a newline and `spaces` spaces
+/// for each open indent, and a space after each colon. The entries of an object are in the order of
+/// insertion.
 pub type PrettyWriterGenerator<'a, W> = TextGenerator<&'a mut W, Pretty>;
 
 impl<'a, W: Write> WriterGenerator<'a, W> {

@@ -1,5 +1,7 @@
-//! Mutable references into a tree whose own type and whose nodes' type are two parameters. Of such a `&mut` the checker proves what is written back through it; of one
-//! from a type to itself it makes no proof (docs/DECISIONS.md, "What is written back through a lent value of the same type").
+//! Mutable references into a tree whose own type and whose nodes' type are two parameters. Of such
+//! a `&mut` the checker proves what is written back through it; of one from a type to itself it
+//! makes no proof (docs/DECISIONS.md,
+//! "What is written back through a lent value of the same type").
 
 ghost use Rattle.std.specs.Prelude.{◌≡◌, ◌≤◌, ◌<◌, List, ℕ, [], length, slice_get, slice_set, IfOk, IfSome, OnOk};
 ghost use Rattle.std.specs.Prelude.{OnErr, IsOkUnless, IsSome, MatchOption, Option, None, Some};
@@ -22,7 +24,8 @@ use jzon_base::error::{Error, Result};
 use jzon_base::pairs::Pairs;
 use std::alloc::Global;
 
-/// A value that may be an object or an array of nodes, as a `JsonValue` is of values. `get_in`, `at_in` and `at_index_in` return mutable references to its nodes.
+/// A value that may be an object or an array of nodes, as a `JsonValue` is of values. `get_in`,
+/// `at_in` and `at_index_in` return mutable references to its nodes.
 pub trait Tree {
     type Node;
 
@@ -48,12 +51,14 @@ pub trait Tree {
 
     /// The entries of an object.
     fn pairs_mut(&mut self) -> Option<&mut Pairs<Self::Node>>
-        ensures* writes_back { sem 𝓛 (LendsIf Self.row (pairs_row Self.Node.row) self.entry result object self.old) }
+        ensures* writes_back { sem 𝓛 (LendsIf Self.row
+            (pairs_row Self.Node.row) self.entry result object self.old) }
         ensures value { MatchOption result (pairs self.old ≡ [])
             (λ lent. (lent.now ≡ pairs self.old) × (object (pairs self.old) ≡ self.old)) };
 
-    /// Makes the value an object that has the key: what isn't an object becomes an empty one, and then a missing key is put last, with null. Fails only with
-    /// `OutOfMemory`, and then nothing has changed.
+    /// Makes the value an object that has the key: what isn't an object becomes an empty one, and
+    /// then a missing key is put last, with null. Fails only with `OutOfMemory`, and then nothing
+    /// has changed.
     fn make_key(&mut self, alloc: Global, key: &str) -> Result<()>
         ensures ok { OnOk result (self.new ≡ object (with_default key.now null (pairs self.old))) }
         ensures err { OnErr result (self.new ≡ self.old) }
@@ -63,10 +68,12 @@ pub trait Tree {
     /// The entries of a value that is an object.
     fn object_pairs(&mut self) -> &mut Pairs<Self::Node>
         requires { object (pairs self.old) ≡ self.old }
-        ensures* writes_back { sem 𝓛 (Lends Self.row (pairs_row Self.Node.row) self.entry result object) }
+        ensures* writes_back { sem 𝓛 (Lends Self.row
+            (pairs_row Self.Node.row) self.entry result object) }
         ensures value { result.now ≡ pairs self.old };
 
-    /// Makes the value an array that has an element for the index. Fails only with `OutOfMemory`, and then the value means what it meant.
+    /// Makes the value an array that has an element for the index. Fails only with `OutOfMemory`,
+    /// and then the value means what it meant.
     fn make_place(&mut self, alloc: Global, index: usize) -> Result<()>
         ensures ok { OnOk result (items self.new ≡ Some (with_place null (items self.old) index)) }
         ensures err { OnErr result (meaning self.new ≡ meaning self.old) }
@@ -76,7 +83,8 @@ pub trait Tree {
     /// The elements of a value that is an array.
     fn array_items(&mut self) -> &mut Vec<Self::Node>
         requires { IsSome (items self.old) }
-        ensures* writes_back { sem 𝓛 (Lends Self.row (vec_row Self.Node.row) self.entry result array) }
+        ensures* writes_back { sem 𝓛 (Lends Self.row
+            (vec_row Self.Node.row) self.entry result array) }
         ensures value { Some result.now.items ≡ items self.old };
 
     /// The node of an object's key. A write through it changes nothing else.
@@ -89,8 +97,8 @@ pub trait Tree {
         pairs.get_mut(key)
     }
 
-    /// The node of an object's key, which is added if it is missing. A write through it changes nothing else. Fails only with `OutOfMemory`, and then nothing has
-    /// changed.
+    /// The node of an object's key, which is added if it is missing. A write through it changes
+    /// nothing else. Fails only with `OutOfMemory`, and then nothing has changed.
     final fn at_in(&mut self, alloc: Global, key: &str) -> Result<&mut Self::Node>
         ensures* writes_back { sem 𝓛 (LendsIfOk Self.row Self.Node.row self.entry result
             (λ w. object (put key.now w (pairs self.old))) self.old) }
@@ -104,7 +112,8 @@ pub trait Tree {
         Ok(pairs.member_mut(key))
     }
 
-    /// The element of an array for an index, which is added if it is missing. Fails only with `OutOfMemory`, and then the value means what it meant.
+    /// The element of an array for an index, which is added if it is missing. Fails only with
+    /// `OutOfMemory`, and then the value means what it meant.
     final fn at_index_in(&mut self, alloc: Global, index: usize) -> Result<&mut Self::Node>
         ensures* writes_back { sem 𝓛 (LendsSoOk Self.row Self.Node.row self.entry result
             (λ n w. items n ≡ Some (slice_set (with_place null (items self.old) index)
@@ -182,7 +191,8 @@ impl Tree for JsonValue {
 
 /// Adds one null if the index is past the end. Fails only with `OutOfMemory`.
 fn add_place(items: &mut Vec<JsonValue>, index: usize) -> Result<()>
-    ensures ok { OnOk result (items.new.items ≡ with_place null_value (Some items.old.items) index) }
+    ensures ok { OnOk result (items.new.items
+        ≡ with_place null_value (Some items.old.items) index) }
     ensures err { OnErr result (items.new.items ≡ items.old.items) }
     ensures present { OnErr result (length items.old.items ≤ index) }
     ensures memory { IsOkUnless result Error.OutOfMemory }

@@ -13,7 +13,8 @@ use crate::value::JsonValue;
 use jzon_base::error::{Error, Result};
 use std::alloc::Global;
 
-/// Writes the value of an object's key, and returns whether the key is there. If it isn't, nothing changes.
+/// Writes the value of an object's key, and returns whether the key is there. If it isn't, nothing
+/// changes.
 #[tactic(auto, using(crate::proofs::WrittenViews::written))]
 pub fn write_present(value: &mut JsonValue, key: &str, item: JsonValue) -> bool
     ensures found { result ≡ is_some (find key.now (entries (view value.old))) }
@@ -24,8 +25,8 @@ pub fn write_present(value: &mut JsonValue, key: &str, item: JsonValue) -> bool
     write_present_in(value, key, item)
 }
 
-/// Writes the value of an object's key, which is the value that `at_mut` returns. Fails only with `OutOfMemory`, and then nothing has changed; a key that is there
-/// needs no allocation.
+/// Writes the value of an object's key, which is the value that `at_mut` returns. Fails only with
+/// `OutOfMemory`, and then nothing has changed; a key that is there needs no allocation.
 #[tactic(auto, using(crate::proofs::WrittenViews::written))]
 pub fn write_at(value: &mut JsonValue, alloc: Global, key: &str, item: JsonValue) -> Result<()>
     ensures ok { OnOk result (view value.new ≡
@@ -37,8 +38,9 @@ pub fn write_at(value: &mut JsonValue, alloc: Global, key: &str, item: JsonValue
     write_at_in(value, alloc, key, item)
 }
 
-/// Writes the element of an array for an index, which is the element that `at_index_mut` returns. Fails only with `OutOfMemory`, and then the value means what it
-/// meant; an index in range of an array needs no allocation.
+/// Writes the element of an array for an index, which is the element that `at_index_mut` returns.
+/// Fails only with `OutOfMemory`, and then the value means what it meant; an index in range of an
+/// array needs no allocation.
 #[tactic(auto, using(crate::proofs::WrittenViews::written))]
 pub fn write_at_index(
     value: &mut JsonValue,
@@ -50,7 +52,8 @@ pub fn write_at_index(
         array (values_of (slice_set (with_place null (items_of (view value.old)) index)
         (place_in null (items_of (view value.old)) index) (view item)))) }
     ensures err { OnErr result (view value.new ≡ view value.old) }
-    ensures present { OnErr result (IfSome (items_of (view value.old)) (λ items. length items ≤ index)) }
+    ensures present { OnErr result (IfSome (items_of (view value.old))
+        (λ items. length items ≤ index)) }
     ensures memory { IsOkUnless result Error.OutOfMemory }
 {
     write_at_index_in(value, alloc, index, item)
@@ -95,7 +98,8 @@ fn write_at_index_in<T: Tree>(
 ) -> Result<()>
 where
     T::Node: Drop,
-    ensures ok { OnOk result (T.items tree.new ≡ Some (slice_set (with_place T.null (T.items tree.old) index)
+    ensures ok { OnOk result (T.items tree.new
+        ≡ Some (slice_set (with_place T.null (T.items tree.old) index)
         (place_in T.null (T.items tree.old) index) value)) }
     ensures err { OnErr result (T.meaning tree.new ≡ T.meaning tree.old) }
     ensures present { OnErr result (IfSome (T.items tree.old) (λ items. length items ≤ index)) }

@@ -15,7 +15,8 @@ impl Object {
 
     /// The member at a position, counted from 0 in the order of the members: its key and its value.
     pub fn get_index(&self, index: usize) -> Option<(&str, &JsonValue)>
-        ensures { option_map (λ p. (p.0.now, p.1.now)) result ≡ slice_get (entries_of self.now) index }
+        ensures { option_map (λ p. (p.0.now, p.1.now)) result
+            ≡ slice_get (entries_of self.now) index }
     {
         if index < self.len() {
             Some(self.pairs.get_at(index))
@@ -24,7 +25,8 @@ impl Object {
         }
     }
 
-    /// The value of the member at a position, counted from 0 in the order of the members. A write through it changes nothing else.
+    /// The value of the member at a position, counted from 0 in the order of the members. A write
+    /// through it changes nothing else.
     pub fn get_index_mut(&mut self, index: usize) -> Option<&mut JsonValue>
         ensures* writes_back { sem 𝓛 (LendsIf the_row value_row self.entry result
             (λ w. with_entries (set_value (entries_of self.old) index w)) self.old) }

@@ -15,13 +15,17 @@ use jzon_base::error::{Error, Result};
 use std::alloc::Global;
 
 impl Object {
-    /// The compact text of the object, with no whitespace outside of its strings. Fails as `JsonValue::dump`.
+    /// The compact text of the object, with no whitespace outside of its strings. Fails as
+    /// `JsonValue::dump`.
     pub fn dump(&self, alloc: Global) -> Result<String>
         ensures text { IfOk result (λ text. string_bytes text ≡ compact (view_object self.now)) }
-        ensures writing { IfOk result (λ text. Writes compact_style 0 (view_object self.now) (string_bytes text)) }
+        ensures writing { IfOk result (λ text. Writes compact_style 0 (view_object self.now)
+            (string_bytes text)) }
         ensures value { IsValue (view_object self.now) }
-        ensures memory { nest (view_object self.now) < 2 ^ 64 → IsOkUnless result Error.OutOfMemory }
-        ensures depth { 2 ^ 64 ≤ nest (view_object self.now) → IsOkUnless result Error.ExceededDepthLimit }
+        ensures memory { nest (view_object self.now) < 2 ^ 64
+            → IsOkUnless result Error.OutOfMemory }
+        ensures depth { 2 ^ 64 ≤ nest (view_object self.now)
+            → IsOkUnless result Error.ExceededDepthLimit }
     {
         let mut generator = DumpGenerator::new(alloc);
         match write_object(&mut generator, self) {
@@ -30,14 +34,18 @@ impl Object {
         }
     }
 
-    /// The text of the object with a line for each member, as by `JsonValue::pretty`. Fails as `dump`.
+    /// The text of the object with a line for each member, as by `JsonValue::pretty`. Fails as
+    /// `dump`.
     pub fn pretty(&self, alloc: Global, spaces: u16) -> Result<String>
-        ensures text { IfOk result (λ text. string_bytes text ≡ pretty (view_object self.now) spaces 0) }
+        ensures text { IfOk result (λ text. string_bytes text
+            ≡ pretty (view_object self.now) spaces 0) }
         ensures writing { IfOk result
             (λ text. Writes (pretty_style spaces) 0 (view_object self.now) (string_bytes text)) }
         ensures value { IsValue (view_object self.now) }
-        ensures memory { nest (view_object self.now) < 2 ^ 64 → IsOkUnless result Error.OutOfMemory }
-        ensures depth { 2 ^ 64 ≤ nest (view_object self.now) → IsOkUnless result Error.ExceededDepthLimit }
+        ensures memory { nest (view_object self.now) < 2 ^ 64
+            → IsOkUnless result Error.OutOfMemory }
+        ensures depth { 2 ^ 64 ≤ nest (view_object self.now)
+            → IsOkUnless result Error.ExceededDepthLimit }
     {
         let mut generator = PrettyGenerator::new(alloc, spaces);
         match write_object(&mut generator, self) {

@@ -82,7 +82,8 @@ impl JsonValue {
         isize::try_from(self.as_number()?).ok()
     }
 
-    /// `mantissa * 10 ^ (exponent + point)`, truncated to an integer, if the sign is positive and it fits.
+    /// `mantissa * 10 ^ (exponent + point)`, truncated to an integer, if the sign is positive and
+    /// it fits.
     pub fn as_fixed_point_u64(&self, point: u16) -> Option<u64>
         ensures { SomeWhere (unsigned_fixed_point_in (view self.now) point)
             (λ n. n < 2 ^ 64) result }
@@ -97,8 +98,8 @@ impl JsonValue {
         self.as_number()?.as_fixed_point_i64(point)
     }
 
-    /// `mantissa * 10 ^ (exponent + point)`, if that is an integer, the sign is positive and it fits. `None` if a digit
-    /// would be lost.
+    /// `mantissa * 10 ^ (exponent + point)`, if that is an integer, the sign is positive and it
+    /// fits. `None` if a digit would be lost.
     pub fn as_exact_fixed_point_u64(&self, point: u16) -> Option<u64>
         ensures { SomeWhere (exact_unsigned_fixed_point_in (view self.now) point)
             (λ n. n < 2 ^ 64) result }
@@ -106,8 +107,8 @@ impl JsonValue {
         self.as_number()?.as_exact_fixed_point_u64(point)
     }
 
-    /// `mantissa * 10 ^ (exponent + point)` with its sign, if that is an integer and fits. `None` if a digit would be
-    /// lost.
+    /// `mantissa * 10 ^ (exponent + point)` with its sign, if that is an integer and fits. `None`
+    /// if a digit would be lost.
     pub fn as_exact_fixed_point_i64(&self, point: u16) -> Option<i64>
         ensures { SomeWhere (exact_fixed_point_in (view self.now) point) (FitsSigned w64) result }
     {

@@ -1,5 +1,6 @@
-//! Goes over all parts of a value. The type of each part promises something (a number in range, a string of UTF-8, distinct keys), and the proof learns it where the
-//! part is read; after the walk it is known of all parts.
+//! Goes over all parts of a value. The type of each part promises something (a number in range, a
+//! string of UTF-8, distinct keys), and the proof learns it where the part is read; after the walk
+//! it is known of all parts.
 
 ghost use Rattle.std.specs.Prelude.{◌≡◌, ◌<◌, ◌≤◌, ◌^◌, ◌∷◌, ◌++◌, ◌↔◌, [], List, IsTrue};
 ghost use Rattle.jzon_tree.specs.Private.Inspected.{IsInspected};
@@ -30,7 +31,8 @@ impl Inspection {
 
     /// What is found in a container with one more element or entry.
     fn with(self, item: Inspection) -> Inspection
-        ensures { (vs : List Value) (v : Value) → IsInspected (array (values_of vs)) self.has_nan self.nest
+        ensures { (vs : List Value) (v : Value)
+            → IsInspected (array (values_of vs)) self.has_nan self.nest
             → IsInspected v item.has_nan item.nest
             → IsInspected (array (values_of (vs ++ v ∷ []))) result.has_nan result.nest }
     {
@@ -55,10 +57,12 @@ impl Inspection {
     }
 }
 
-/// Whether no number in the value is NaN, and at most `depth` non-empty containers nest in it. Allocates nothing.
+/// Whether no number in the value is NaN, and at most `depth` non-empty containers nest in it.
+/// Allocates nothing.
 pub fn is_readable(value: &JsonValue, depth: u16) -> bool
     ensures value { IsValue (view value.now) }
-    ensures readable { IsTrue result ↔ (HasNoNan (view value.now) × (nest (view value.now) ≤ depth)) }
+    ensures readable { IsTrue result ↔ (HasNoNan (view value.now)
+        × (nest (view value.now) ≤ depth)) }
 {
     let found = inspect(value);
     !found.has_nan && found.nest <= u128::from(depth)

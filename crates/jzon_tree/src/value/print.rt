@@ -23,8 +23,9 @@ use std::io;
 use std::io::Write;
 
 impl JsonValue {
-    /// The compact text of the value, with no whitespace outside of its strings. Fails with `OutOfMemory` where an allocation fails, and with `ExceededDepthLimit`
-    /// where non-empty containers nest 2^64 deep or deeper.
+    /// The compact text of the value, with no whitespace outside of its strings. Fails with
+    /// `OutOfMemory` where an allocation fails, and with `ExceededDepthLimit` where non-empty
+    /// containers nest 2^64 deep or deeper.
     ///
     /// ```rust
     /// let value = jzon::parse(alloc, "[1, -12.50e3, {\"a\": null}]")?;
@@ -32,7 +33,8 @@ impl JsonValue {
     /// ```
     pub fn dump(&self, alloc: Global) -> Result<String>
         ensures text { IfOk result (λ text. string_bytes text ≡ compact (view self.now)) }
-        ensures writing { IfOk result (λ text. Writes compact_style 0 (view self.now) (string_bytes text)) }
+        ensures writing { IfOk result (λ text. Writes compact_style 0 (view self.now)
+            (string_bytes text)) }
         ensures value { IsValue (view self.now) }
         ensures memory { nest (view self.now) < 2 ^ 64 → IsOkUnless result Error.OutOfMemory }
         ensures depth { 2 ^ 64 ≤ nest (view self.now) → IsOkUnless result Error.ExceededDepthLimit }
@@ -44,11 +46,13 @@ impl JsonValue {
         }
     }
 
-    /// The text of the value with a line for each element and entry: a newline, and `spaces` spaces for each container around it, before each element, each name
-    /// and each closing bracket of a container that is not empty. Fails as `dump`.
+    /// The text of the value with a line for each element and entry: a newline, and `spaces` spaces
+    /// for each container around it, before each element, each name and each closing bracket of a
+    /// container that is not empty. Fails as `dump`.
     pub fn pretty(&self, alloc: Global, spaces: u16) -> Result<String>
         ensures text { IfOk result (λ text. string_bytes text ≡ pretty (view self.now) spaces 0) }
-        ensures writing { IfOk result (λ text. Writes (pretty_style spaces) 0 (view self.now) (string_bytes text)) }
+        ensures writing { IfOk result (λ text. Writes (pretty_style spaces) 0 (view self.now)
+            (string_bytes text)) }
         ensures value { IsValue (view self.now) }
         ensures memory { nest (view self.now) < 2 ^ 64 → IsOkUnless result Error.OutOfMemory }
         ensures depth { 2 ^ 64 ≤ nest (view self.now) → IsOkUnless result Error.ExceededDepthLimit }
@@ -60,9 +64,11 @@ impl JsonValue {
         }
     }
 
-    /// The text of the value in a layout of the caller's. Fails as `dump`, and with `OutOfMemory` where the layout's `order` does.
+    /// The text of the value in a layout of the caller's. Fails as `dump`, and with `OutOfMemory`
+    /// where the layout's `order` does.
     pub fn lay_out<L: Layout + Drop>(&self, alloc: Global, layout: L) -> Result<String>
-        ensures writing { IfOk result (λ text. Writes (L.style layout) 0 (view self.now) (string_bytes text)) }
+        ensures writing { IfOk result (λ text. Writes (L.style layout) 0 (view self.now)
+            (string_bytes text)) }
         ensures value { IsValue (view self.now) }
     {
         let mut generator = TextGenerator::in_memory(alloc, layout);
@@ -72,33 +78,40 @@ impl JsonValue {
         }
     }
 
-    /// Writes the compact text of the value, with no whitespace outside of its strings. It allocates nothing. After an error of the writer, which is
-    /// returned, a prefix of the text is written.
+    /// Writes the compact text of the value, with no whitespace outside of its strings. It
+    /// allocates nothing. After an error of the writer, which is returned, a prefix of the text is
+    /// written.
     pub fn write<W: Write>(&self, writer: &mut W) -> io::Result<()>
-        ensures ok { OnOk result (Appends (W.contents writer.old) (W.contents writer.new) (compact (view self.now))) }
+        ensures ok { OnOk result (Appends (W.contents writer.old) (W.contents writer.new)
+            (compact (view self.now))) }
         ensures err { OnErr result
-            (AppendsBeginning (W.contents writer.old) (W.contents writer.new) (compact (view self.now))) }
+            (AppendsBeginning (W.contents writer.old) (W.contents writer.new)
+            (compact (view self.now))) }
         ensures value { IsValue (view self.now) }
     {
         let mut generator = WriterGenerator::new(writer);
         write_json(&mut generator, self)
     }
 
-    /// Writes the text of the value with a line for each element and entry: a newline, and `spaces` spaces for each container around it. It allocates nothing. After
-    /// an error of the writer, which is returned, a prefix of the text is written.
+    /// Writes the text of the value with a line for each element and entry: a newline, and `spaces`
+    /// spaces for each container around it. It allocates nothing. After an error of the writer,
+    /// which is returned, a prefix of the text is written.
     pub fn write_pretty<W: Write>(&self, writer: &mut W, spaces: u16) -> io::Result<()>
         ensures ok { OnOk result
-            (Appends (W.contents writer.old) (W.contents writer.new) (pretty (view self.now) spaces 0)) }
+            (Appends (W.contents writer.old) (W.contents writer.new)
+            (pretty (view self.now) spaces 0)) }
         ensures err { OnErr result
-            (AppendsBeginning (W.contents writer.old) (W.contents writer.new) (pretty (view self.now) spaces 0)) }
+            (AppendsBeginning (W.contents writer.old) (W.contents writer.new)
+            (pretty (view self.now) spaces 0)) }
         ensures value { IsValue (view self.now) }
     {
         let mut generator = PrettyWriterGenerator::new(writer, spaces);
         write_json(&mut generator, self)
     }
 
-    /// Writes the text of the value in a layout of the caller's. Only the layout may allocate. An error is the writer's, or reports that the layout's `order` ran
-    /// out of memory; a prefix of the text is then written.
+    /// Writes the text of the value in a layout of the caller's. Only the layout may allocate. An
+    /// error is the writer's, or reports that the layout's `order` ran out of memory; a prefix of
+    /// the text is then written.
     pub fn write_layout<W: Write, L: Layout + Drop>(
         &self,
         writer: &mut W,

@@ -22,11 +22,13 @@ fn put_hashed(entries: &mut [(u64, usize)], keys: &[Key], from: usize)
 }
 
 impl Run {
-    /// Replaces the entries by those of the keys from a position on, as many as fit, and returns the position after them. Takes no memory.
+    /// Replaces the entries by those of the keys from a position on, as many as fit, and returns
+    /// the position after them. Takes no memory.
     fn refill(&mut self, keys: &[Key], from: usize) -> usize
         requires { from ≤ length keys.now }
         ensures end { result ≡ min (from + length self.old) (length keys.now) }
-        ensures entries { IsPermutation (hashed_from from (take (result - from) (drop from keys.now))) self.new }
+        ensures entries { IsPermutation (hashed_from from
+            (take (result - from) (drop from keys.now))) self.new }
     {
         self.entries.truncate(keys.len() - from);
         put_hashed(self.entries.as_mut_slice(), keys, from);

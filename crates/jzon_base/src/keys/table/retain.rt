@@ -54,7 +54,8 @@ fn reindex(keys: &[Key], index: &mut Runs)
 }
 
 impl Table {
-    /// Keeps the keys and the values for which `keep` returns `true`, in their order. Takes no memory.
+    /// Keeps the keys and the values for which `keep` returns `true`, in their order. Takes no
+    /// memory.
     pub fn retain<V: Drop, F: FnMut(&str, &mut V) -> bool>(&mut self, values: &mut Vec<V>, keep: F)
         requires even { length values.old.items ≡ length self.old }
         requires callable { CallableOnEachPair (CalledAtPair F.FnMut) (TakesPair F.FnMut) keep

@@ -23,8 +23,8 @@ returns-in_err-again-clause-memory c =
     c.in_err-again.ensures.error in
     rw (failed.1, failed.2) memory
 
-pub returns-clause-same : goal.returns-clause-same
-returns-clause-same c =
+pub returns-clause-text : goal.returns-clause-text
+returns-clause-text c =
     let v = view c.args.value.now in
     let read : IsReadAs usual c.as_str.result.now (HasText v) =
     reads-redump usual v c.as_str.result.now c.in_ok-text.ensures.value c.requires.depth

@@ -16,8 +16,8 @@ read c =
     reads-compact usual (view c.args.value.now) c.as_str.result.now c.requires
     (c.as_str.ensures.value ∙ c.in_ok-text.ensures.text)
 
-pub returns-clause-same : goal.returns-clause-same
-returns-clause-same c =
+pub returns-clause-equal : goal.returns-clause-equal
+returns-clause-equal c =
     answer-value usual (IsSame c) c.as_str.result.now c.parse.result (read c) c.parse.ensures.value
 
 pub returns-clause-memory : goal.returns-clause-memory

@@ -10,10 +10,10 @@ returns g c =
       λ j. inl (
         c.value_mut.result.ghost_name,
         λ w. default_written name c.args.value c.args.self.now c.place.new.self
-            at c.in_ok-index.ensures.ok c.in_ok-index.ensures.place w j,
+            at c.in_ok-index.ensures.ok c.in_ok-index.ensures.position w j,
       ),
       (
-        sym (find_placed name c.place.new.self at c.value_mut.result.now c.in_ok-index.ensures.place
+        sym (find_placed name c.place.new.self at c.value_mut.result.now c.in_ok-index.ensures.position
             c.value_mut.ensures.value) ∙ ap (find name) c.in_ok-index.ensures.ok,
         tt,
       ),

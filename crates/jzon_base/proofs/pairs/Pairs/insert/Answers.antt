@@ -28,7 +28,7 @@ returns-in-Some-clause-ok g c =
     let kept : c.put.new.self ≡ inside.keys = rw c.in-Some.is at c.in_ok-index.ensures.ok in
     (λ i. zip (kept i) (set (c.reserve_missing.ensures.items i) c.in-Some.index c.args.value))
     ∙ zip-put_placed c.args.name.now c.args.value inside.keys inside.values.items c.args.self.now c.self.view_is
-    c.self.invariant c.in-Some.index (sym c.in-Some.is ∙ c.in_ok-index.ensures.place)
+    c.self.invariant c.in-Some.index (sym c.in-Some.is ∙ c.in_ok-index.ensures.position)
 
 pub returns-in-None-clause-ok : goal.returns-in-None-clause-ok
 returns-in-None-clause-ok g c =
@@ -37,4 +37,4 @@ returns-in-None-clause-ok g c =
     (λ i. zip (added i) ((c.push_reserved.ensures.items
     ∙ ap (λ vs. vs ++ c.args.value ∷ []) c.reserve_missing.ensures.items) i))
     ∙ zip-put_missing c.args.name.now c.args.value inside.keys inside.values.items c.args.self.now c.self.view_is
-    c.self.invariant (sym c.in-None.is ∙ c.in_ok-index.ensures.place)
+    c.self.invariant (sym c.in-None.is ∙ c.in_ok-index.ensures.position)

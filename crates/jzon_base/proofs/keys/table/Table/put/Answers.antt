@@ -10,8 +10,8 @@ invariant_of-self c = record {
   distinct = c.put_indexed.ensures.distinct;
 }
 
-pub returns-then-not-is_empty-clause-place : goal.returns-then-not-is_empty-clause-place
-returns-then-not-is_empty-clause-place c =
+pub returns-then-not-is_empty-clause-position : goal.returns-then-not-is_empty-clause-position
+returns-then-not-is_empty-clause-position c =
     let at = position (λ k. bytes_eq k c.args.name.now) in
     IfOk-weaker c.put_indexed.result (λ place. place ≡ at c.self.inside.keys.items)
-    (λ place. place ≡ at c.args.self.now) (λ place e. e ∙ ap at c.self.view_is) c.put_indexed.ensures.place
+    (λ place. place ≡ at c.args.self.now) (λ place e. e ∙ ap at c.self.view_is) c.put_indexed.ensures.position

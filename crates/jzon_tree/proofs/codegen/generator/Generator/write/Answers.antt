@@ -7,5 +7,5 @@ pub returns : goal.returns
 returns g c =
     Emits-handed (Just (c.args.slice.now)) (c.args.slice.now) (g.Self.Generator.meaning c.args.self.now) _ _ _ _ _ _ _
     refl c.get_writer.ensures.bytes c.send-step.ensures c.take_result.ensures
-    (g.met.Self.Generator.writer_law c.args.self.now c.send-step.new.writer) c.hand_on.ensures.same
+    (g.met.Self.Generator.writer_law c.args.self.now c.send-step.new.writer) c.hand_on.ensures.result
     c.hand_on.ensures.faults

@@ -16,4 +16,4 @@ returns g c =
     Emits-counted (IsAllowedWhitespace style s.dent) ((pretty_layout n).line s.dent)
     (text_meaning g.O.Outlet.out g.O.Outlet.lender g.L.Layout.style s) _ _ _ _ _ _
     (spaces_are_whitespace false (s.dent * n), laid.0 s.dent) refl c.send_line-step.ensures.bytes
-    (same_emitted refl c.send_line-step.ensures.lender) c.count.ensures.same c.count.ensures.faults
+    (same_emitted refl c.send_line-step.ensures.lender) c.count.ensures.result c.count.ensures.faults

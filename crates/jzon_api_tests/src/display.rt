@@ -80,7 +80,8 @@ impl fmt::Write for FailingFormatter {
     }
 }
 
-/// Shows the value to a formatter that fails at this call: whether that succeeds, and the formatter.
+/// Shows the value to a formatter that fails at this call: whether that succeeds, and the
+/// formatter.
 fn show_failing(alloc: Global, value: &JsonValue, fails_at: usize) -> (bool, FailingFormatter) {
     let mut formatter = FailingFormatter {
         text: String::new(alloc),
@@ -91,7 +92,8 @@ fn show_failing(alloc: Global, value: &JsonValue, fails_at: usize) -> (bool, Fai
     (is_shown, formatter)
 }
 
-/// The formatter fails at each call in turn: there is an error, a prefix was shown, and nothing is shown after it.
+/// The formatter fails at each call in turn: there is an error, a prefix was shown, and nothing is
+/// shown after it.
 fn expect_failures(rt: &impl Abort, alloc: Global, value: &JsonValue, whole: &str) {
     let (is_shown, formatter) = show_failing(alloc, value, NO_FAILING_CALL);
     assert!(rt; is_shown);

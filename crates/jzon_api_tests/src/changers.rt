@@ -163,7 +163,8 @@ fn expect_failed(rt: &impl Abort, alloc: Global, outcome: Result<()>, message: &
     Ok(())
 }
 
-/// The kind of the value is tested before the conversion of what is put into it. A failed call changes nothing.
+/// The kind of the value is tested before the conversion of what is put into it. A failed call
+/// changes nothing.
 #[test]
 fn fails_on_another_kind(rt: HostRuntime) -> Tested {
     let rows = [

@@ -2,7 +2,7 @@ use Rattle.std.specs.Prelude.{string_bytes}
 use Rattle.jzon_tree.specs.View.{view}
 use Rattle.jzon.specs.Reading.{usual}
 use Rattle.jzon.proofs.ReadBack.MeaningHeld.{dumped_reads}
-use Rattle.jzon_text_tests.proofs.texts.printed_again.Goals as goal
+use Rattle.jzon_parse_tests.proofs.texts.printed_again.Goals as goal
 
 pub returns : goal.returns
 returns c =

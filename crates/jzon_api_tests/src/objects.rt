@@ -71,7 +71,8 @@ fn removes(rt: HostRuntime) -> Tested {
     Ok(())
 }
 
-/// Of these objects the members with other keys than `b` are left, in order, and each value is what the closure wrote.
+/// Of these objects the members with other keys than `b` are left, in order, and each value is what
+/// the closure wrote.
 #[test]
 fn retains(rt: HostRuntime) -> Tested {
     let rows = [

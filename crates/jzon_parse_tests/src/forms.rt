@@ -1,4 +1,5 @@
-//! Exponents with a sign, a point without a digit, nested texts, and texts of values that the macros build too.
+//! Exponents with a sign, a point without a digit, nested texts, and texts of values that the
+//! macros build too.
 
 use crate::texts::{expect_each_read, expect_read, expect_rejected};
 use jzon::{JsonValue, Result, parse};

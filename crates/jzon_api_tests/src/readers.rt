@@ -6,7 +6,8 @@ use jzon::object::Object;
 use jzon::{JsonValue, parse};
 use std::process::Abort;
 
-/// What is read of kind, emptiness and length. Kinds are counted: null, boolean, number, string, object, array.
+/// What is read of kind, emptiness and length. Kinds are counted: null, boolean, number, string,
+/// object, array.
 fn expect_kind(rt: &impl Abort, value: &JsonValue, kind: usize, empty: bool, len: usize) {
     let kinds = [
         value.is_null(),

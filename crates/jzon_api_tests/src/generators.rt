@@ -11,7 +11,8 @@ use std::alloc::Global;
 use std::io;
 use std::test::Fail;
 
-/// Writes a vertical tab before each element and each closing bracket, in a style that allows no other whitespace.
+/// Writes a vertical tab before each element and each closing bracket, in a style that allows no
+/// other whitespace.
 #[derive(Drop)]
 struct TabGenerator {
     code: Vec<u8>,

@@ -26,7 +26,8 @@ trait Call: Copy {
     fn call(self, value: &mut JsonValue, alloc: Global) -> Result<()>;
 }
 
-/// A call, its name, the text of the value before it, the compact text after it, and the least number of its allocations.
+/// A call, its name, the text of the value before it, the compact text after it, and the least
+/// number of its allocations.
 #[derive(Clone, Copy)]
 struct Row<C> {
     call: C,
@@ -80,8 +81,8 @@ fn expect_success(
     Ok(())
 }
 
-/// Runs the call with its first allocation failing, then with its second, and so on, until a run has no failed
-/// allocation.
+/// Runs the call with its first allocation failing, then with its second, and so on, until a run
+/// has no failed allocation.
 fn fail_each<C: Call>(rt: &(impl Eprint + Abort), alloc: Global, row: &Row<C>) -> Tested {
     let before = parse(alloc, row.before)?;
     let call = row.call;

@@ -1,4 +1,5 @@
-//! Texts that only look like JSON, one with each form of the grammar, long ones, and escapes at each position of a string.
+//! Texts that only look like JSON, one with each form of the grammar, long ones, and escapes at
+//! each position of a string.
 
 use crate::texts::{expect_each_rejected, expect_read, expect_rejected};
 use jzon_test_support::joined;
@@ -96,7 +97,8 @@ fn with_escape(alloc: Global, escape: &str, position: usize) -> Result<String, A
     )
 }
 
-/// Each offset in the blocks that plain bytes are looked for in has each escape, the longest one too.
+/// Each offset in the blocks that plain bytes are looked for in has each escape, the longest one
+/// too.
 #[test]
 fn reads_and_prints_an_escape_at_each_position(rt: HostRuntime) -> Result<(), Fail> {
     let rows = [

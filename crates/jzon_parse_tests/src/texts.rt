@@ -1,4 +1,5 @@
-//! Texts of each kind: the parts and the compact text of what is read, and the kind and position of each error.
+//! Texts of each kind: the parts and the compact text of what is read, and the kind and position of
+//! each error.
 ghost use Rattle.std.specs.Prelude.{◌≡◌, IfOk, string_bytes};
 ghost use Rattle.jzon_tree.specs.Text.{compact};
 ghost use Rattle.jzon.specs.Laws.{IsReadAs};
@@ -480,7 +481,8 @@ fn rejects_another_open_container(rt: HostRuntime) -> Result<(), Fail> {
 
 /// A caller's proof knows that the printed text is read again, as a value that prints this text.
 fn printed_again(alloc: Global, text: &str) -> jzon::Result<String>
-    ensures { IfOk result (λ printed. IsReadAs usual (string_bytes printed) (λ v. compact v ≡ string_bytes printed)) }
+    ensures { IfOk result (λ printed. IsReadAs usual (string_bytes printed)
+        (λ v. compact v ≡ string_bytes printed)) }
 {
     let value = parse(alloc, text)?;
     laws::redump();

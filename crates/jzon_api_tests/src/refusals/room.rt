@@ -53,8 +53,8 @@ impl Print {
 /// A call, its name, the source of the value, and what is printed of it.
 type Row = (Print, &'static str, &'static str, &'static str);
 
-/// Runs the call on a sink with this much room, with each allocation failing in turn. A run with a failed allocation
-/// fails.
+/// Runs the call on a sink with this much room, with each allocation failing in turn. A run with a
+/// failed allocation fails.
 fn fail_each_of(
     rt: &impl Abort,
     alloc: Global,
@@ -84,7 +84,8 @@ fn fail_each_of(
     Ok(refusals)
 }
 
-/// Without room the sink's own allocations fail, which shows that an allocation is seen; with room there is none.
+/// Without room the sink's own allocations fail, which shows that an allocation is seen; with room
+/// there is none.
 #[test]
 fn room_under_refusals(rt: HostRuntime) -> Tested {
     let long = "\"abcdefghijklmnopqrstuvwxyz01234\"";
