@@ -124,14 +124,14 @@ fn put_indexed(
     index: &mut Runs,
     name: &str,
 ) -> Result<Option<usize>, AllocError>
-    requires distinct { IsDistinct bytes_eq keys.old.items }
-    requires index { IsIndexOf (map hash_of keys.old.items) index.old }
+    requires table { IsDistinct bytes_eq keys.old.items
+        × IsIndexOf (map hash_of keys.old.items) index.old }
+    ensures table { IsDistinct bytes_eq keys.new.items
+        × IsIndexOf (map hash_of keys.new.items) index.new }
     ensures position { IfOk result (λ place. place
         ≡ position (λ k. bytes_eq k name.now) keys.old.items) }
     ensures ok { IfOk result (λ place. MatchOption place
         (keys.new.items ≡ keys.old.items ++ name.now ∷ []) (λ _. keys.new.items ≡ keys.old.items)) }
-    ensures index { IsIndexOf (map hash_of keys.new.items) index.new }
-    ensures distinct { IsDistinct bytes_eq keys.new.items }
     ensures err { OnErr result (keys.new.items ≡ keys.old.items) }
     ensures missing { OnErr result (position (λ k. bytes_eq k name.now) keys.old.items ≡ None) }
 {

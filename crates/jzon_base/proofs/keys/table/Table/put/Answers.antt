@@ -6,8 +6,8 @@ use Rattle.jzon_base.proofs.keys.table.Table.put.Goals as goal
 
 pub invariant_of-self : goal.invariant_of-self
 invariant_of-self c = record {
-  indexed = record { index = λ _. c.put_indexed.ensures.index };
-  distinct = c.put_indexed.ensures.distinct;
+  indexed = record { index = λ _. c.put_indexed.ensures.table.1 };
+  distinct = c.put_indexed.ensures.table.0;
 }
 
 pub returns-then-not-is_empty-clause-position : goal.returns-then-not-is_empty-clause-position
