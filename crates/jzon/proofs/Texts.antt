@@ -1,5 +1,5 @@
--- Whole texts (RFC 8259, section 2): how the automaton of specs/Private/Machine, which goes from a state and a character to the
--- next state, relates to trees that spell texts. The four statements on which everything rests:
+-- Whole texts (RFC 8259, section 2): how the automaton of specs/Private/Machine, which goes from a state and a
+-- character to the next state, relates to trees that spell texts. The four statements on which everything rests:
 -- complete: over the cells of a tree the automaton goes from before it to after its meaning, each move with its cell's
 --   mark (`complete`: Containers/CompleteValues)
 -- sound: if the automaton reads a text to a value, ignoring marks, some tree spells the text and means it (`sound`:

@@ -19,11 +19,11 @@ use Rattle.jzon.specs.Grammar.{IsWhitespace, IsKey, IsNode, AreElements, AreMemb
 use Rattle.jzon.specs.Spelling.{duplicate, Cell, cell, plain, breach_if, items_cells, items_length, duplicate_if}
 use Rattle.jzon.specs.Spelling.{key_cells, node_cells, elements_cells, members_cells, cells}
 use Rattle.jzon.specs.Meaning.{bytes_of, meaning, elements_meaning, members_meaning}
-use Rattle.jzon.specs.Private.Machine.{Entries, Frames, no_frames, array_frame, object_frame, as_key, State, before, before_key}
-use Rattle.jzon.specs.Private.Machine.{after_key, after_value, go, move, Outcome, meant, frames_depth, value_mark, key_mark}
-use Rattle.jzon.specs.Private.Machine.{repeated_if}
-use Rattle.jzon.specs.Private.Classes.{quote, opens_array, closes_array, opens_object, closes_object, comma, colon, begins_null}
-use Rattle.jzon.specs.Private.Classes.{begins_true, begins_false}
+use Rattle.jzon.specs.Private.Machine.{Entries, Frames, no_frames, array_frame, object_frame, as_key, State, before}
+use Rattle.jzon.specs.Private.Machine.{before_key, after_key, after_value, go, move, Outcome, meant, frames_depth}
+use Rattle.jzon.specs.Private.Machine.{value_mark, key_mark, repeated_if}
+use Rattle.jzon.specs.Private.Classes.{quote, opens_array, closes_array, opens_object, closes_object, comma, colon}
+use Rattle.jzon.specs.Private.Classes.{begins_null, begins_true, begins_false}
 use Rattle.jzon.proofs.Texts.ClassesOfCharacters.{whitespace-class, class-char}
 use Rattle.jzon.proofs.Texts.Runs.{Follows}
 use Rattle.jzon.proofs.Numbers.CompleteNumbers.{complete_number}
@@ -173,7 +173,8 @@ module _ (r : Reading) (G : Outcome → Type 0) where
 
     complete_members : (ms : Members) (fs : Frames) (es : Entries) (key : List ℕ) (v : Value) (seen : List (List ℕ))
         (k : List Cell) → Knows seen (put key v es) → AreMembers r ms
-        → F k (after_value fs (value.object (pairs_of (fold (λ qs p. put p.0 p.1 qs) (put key v es) (members_meaning ms)))))
+        → F k (after_value fs
+        (value.object (pairs_of (fold (λ qs p. put p.0 p.1 qs) (put key v es) (members_meaning ms)))))
         → F (members_cells r ms seen (suc (frames_depth fs)) k) (after_value (object_frame fs es key) v)
     complete_members no_members fs es key v seen k knows ok h = rw (class-char r.strict closes_object) (refl, h)
     complete_members (member key' b n c ms) fs es key v seen k knows ok h =

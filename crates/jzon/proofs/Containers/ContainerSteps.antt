@@ -10,12 +10,14 @@ use Rattle.jzon_tree.specs.Writing.{is_whitespace}
 use Rattle.jzon.specs.Reading.{Reading}
 use Rattle.jzon.specs.Spelling.{Breach, deep, breach_if}
 use Rattle.jzon.specs.Fault.{limit}
-use Rattle.jzon.specs.Private.Classes.{Class, whitespace, digits, minus_char, quote, opens_array, closes_array, opens_object}
-use Rattle.jzon.specs.Private.Classes.{closes_object, comma, colon, begins_null, begins_true, begins_false, class_of}
-use Rattle.jzon.specs.Private.Machine.{Entries, Frames, frames_depth, array_frame, object_frame, as_key, between, State, before}
-use Rattle.jzon.specs.Private.Machine.{before_key, word, numeral, string, after_key, after_value, allows_whitespace, go, bad, bad_at}
-use Rattle.jzon.specs.Private.Machine.{value_mark, key_mark, move_before, move_before_key, move_after_key, move_empty_object}
-use Rattle.jzon.specs.Private.Machine.{move_after_value, refused, outcome_on, from, left_at}
+use Rattle.jzon.specs.Private.Classes.{Class, whitespace, digits, minus_char, quote, opens_array, closes_array}
+use Rattle.jzon.specs.Private.Classes.{opens_object, closes_object, comma, colon, begins_null, begins_true}
+use Rattle.jzon.specs.Private.Classes.{begins_false, class_of}
+use Rattle.jzon.specs.Private.Machine.{Entries, Frames, frames_depth, array_frame, object_frame, as_key, between, State}
+use Rattle.jzon.specs.Private.Machine.{before, before_key, word, numeral, string, after_key, after_value}
+use Rattle.jzon.specs.Private.Machine.{allows_whitespace, go, bad, bad_at, value_mark, key_mark, move_before}
+use Rattle.jzon.specs.Private.Machine.{move_before_key, move_after_key, move_empty_object, move_after_value, refused}
+use Rattle.jzon.specs.Private.Machine.{outcome_on, from, left_at}
 use Rattle.jzon.proofs.Texts.ClassesOfCharacters.{class-says, class-char, whitespace-class}
 use Rattle.jzon.proofs.Texts.AsciiRuns.{Skips, before_skips, after_skips, space_is_ascii, wide_is_no_space}
 use Rattle.jzon.proofs.Texts.StepsByByte.{StopsAt, from_step, stops_by, IsDeep, from_deep}

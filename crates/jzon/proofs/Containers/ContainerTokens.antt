@@ -6,12 +6,12 @@ use Rattle.std.specs.Option.{is_some}
 use Rattle.jzon_base.specs.PairList.{find}
 use Rattle.jzon_base.specs.declared.error.Error.TheVariants.{UnexpectedEndOfJson, ExceededDepthLimit}
 use Rattle.jzon_tree.specs.Value.{Value, array, no_values, object, no_pairs}
-use Rattle.jzon.specs.Private.Brackets.{opener, closer, empty_container, innermost_bracket, after_opener, after_comma, after_closer}
+use Rattle.jzon.specs.Private.Brackets.{opener, closer, empty_container, innermost_bracket, after_opener, after_comma}
+use Rattle.jzon.specs.Private.Brackets.{after_closer}
 use Rattle.jzon.specs.Private.Cursor.{left, next_byte, IsPast, IsAfter}
 use Rattle.jzon.specs.Private.Machine.{Entries, Frames, no_frames, array_frame, object_frame, as_key, between, before}
-use Rattle.jzon.specs.Private.Machine.{before_key, string}
-use Rattle.jzon.specs.Private.Machine.{after_key, after_value, frames_depth, value_mark, key_mark, from, from_closed, left_at}
-use Rattle.jzon.specs.Private.Machine.{fault_here, ReportsUnlessMemory}
+use Rattle.jzon.specs.Private.Machine.{before_key, string, after_key, after_value, frames_depth, value_mark, key_mark}
+use Rattle.jzon.specs.Private.Machine.{from, from_closed, left_at, fault_here, ReportsUnlessMemory}
 use Rattle.jzon.specs.declared.cursor.Bracket.{Bracket}
 use Rattle.jzon.specs.declared.cursor.Bracket.TheVariants.{Array, Object}
 use Rattle.jzon.specs.declared.cursor.Cursor.{Cursor}

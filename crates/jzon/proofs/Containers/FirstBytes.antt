@@ -8,11 +8,12 @@ use Rattle.std.proofs.lemmas.Bool.Decides.{nat_tests}
 use Rattle.jzon_tree.specs.Value as value
 use Rattle.jzon_tree.specs.Writing.{is_whitespace}
 use Rattle.jzon.specs.Reading.{Reading}
-use Rattle.jzon.specs.Private.Classes.{Class, whitespace, digits, minus_char, quote, opens_array, closes_array, opens_object}
-use Rattle.jzon.specs.Private.Classes.{begins_null, begins_true, begins_false, class_of, after_minus, after_first_digit}
-use Rattle.jzon.specs.Private.Machine.{Frames, no_frames, array_frame, object_frame, is_fresh, as_value, between, string}
-use Rattle.jzon.specs.Private.Machine.{numeral, past_letter, before, go, bad, bad_at, value_mark, move_before, move_empty_array}
-use Rattle.jzon.specs.Private.Machine.{from}
+use Rattle.jzon.specs.Private.Classes.{Class, whitespace, digits, minus_char, quote, opens_array, closes_array}
+use Rattle.jzon.specs.Private.Classes.{opens_object, begins_null, begins_true, begins_false, class_of, after_minus}
+use Rattle.jzon.specs.Private.Classes.{after_first_digit}
+use Rattle.jzon.specs.Private.Machine.{Frames, no_frames, array_frame, object_frame, is_fresh, as_value, between}
+use Rattle.jzon.specs.Private.Machine.{string, numeral, past_letter, before, go, bad, bad_at, value_mark, move_before}
+use Rattle.jzon.specs.Private.Machine.{move_empty_array, from}
 use Rattle.jzon.proofs.Texts.ClassesOfCharacters.{class-says, class-char, digits-class}
 use Rattle.jzon.proofs.Texts.AsciiRuns.{wide_is_no_space}
 use Rattle.jzon.proofs.Texts.StepsByByte.{StopsAt, from_step, stops_by, digit_is_ascii}
@@ -101,14 +102,16 @@ begin_false r bs i fs u at lt e m =
     (λ b. go b (past_letter fs (value.boolean false) (97 ∷ 108 ∷ 115 ∷ 101 ∷ []))) m)
 
 pub begin_minus : (r : Reading) (bs : List ℕ) (i : ℕ) (fs : Frames) → IsUtf8 bs → IsCharBoundary bs i → i < length bs
-    → get_or bs i 0 ≡ 45 → value_mark r fs ≡ None → from r bs (before fs) i ≡ from r bs (numeral fs true after_minus) (i + 1)
+    → get_or bs i 0 ≡ 45 → value_mark r fs ≡ None
+    → from r bs (before fs) i ≡ from r bs (numeral fs true after_minus) (i + 1)
 begin_minus r bs i fs u at lt e m =
     from_step r bs i (before fs) _ 45 u at lt e (lit< tt)
     (ap (λ k. move_before r k fs 45) (class-char r.strict minus_char) ∙ ap (λ b. go b (numeral fs true after_minus)) m)
 
 pub begin_digit : (r : Reading) (bs : List ℕ) (i : ℕ) (fs : Frames) → IsUtf8 bs → IsCharBoundary bs i → i < length bs
     → IsTrue (is_ascii_digit (get_or bs i 0)) → value_mark r fs ≡ None
-    → from r bs (before fs) i ≡ from r bs (numeral fs false (after_first_digit (get_or bs i 0 == 48) (get_or bs i 0))) (i + 1)
+    → from r bs (before fs) i
+    ≡ from r bs (numeral fs false (after_first_digit (get_or bs i 0 == 48) (get_or bs i 0))) (i + 1)
 begin_digit r bs i fs u at lt d m =
     from_step r bs i (before fs) _ (get_or bs i 0) u at lt refl (digit_is_ascii (get_or bs i 0) d)
     (ap (λ k. move_before r k fs (get_or bs i 0)) (digits-class r.strict (get_or bs i 0) d)

@@ -7,7 +7,8 @@ use Rattle.std.proofs.lemmas.List.{length-drop, get_or-drop}
 use Rattle.std.proofs.lemmas.Str.{chars-nil, encodes-chars, byte_from_char, IsUtf8-drop, IsCharBoundary-after_ascii}
 use Rattle.jzon_tree.specs.Value.{Value}
 use Rattle.jzon.specs.Reading.{Reading}
-use Rattle.jzon.specs.Private.Machine.{Frames, word, go, bad, past_letter, after_value, outcome, outcome_on, from, fault_here}
+use Rattle.jzon.specs.Private.Machine.{Frames, word, go, bad, past_letter, after_value, outcome, outcome_on, from}
+use Rattle.jzon.specs.Private.Machine.{fault_here}
 use Rattle.jzon.proofs.Texts.AsciiRuns.{chars-ascii}
 
 -- a text, by its first character

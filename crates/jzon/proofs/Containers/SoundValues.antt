@@ -15,14 +15,14 @@ use Rattle.jzon.specs.Grammar.{IsWhitespace, IsKey, IsNode, AreElements, AreMemb
 use Rattle.jzon.specs.Spelling.{Breach}
 use Rattle.jzon.specs.Meaning.{bytes_of, meaning, elements_meaning, members_meaning}
 use Rattle.jzon.specs.Fault.{Spells}
-use Rattle.jzon.specs.Private.Classes.{Class, whitespace, digits, minus_char, quote, opens_array, closes_array, opens_object}
-use Rattle.jzon.specs.Private.Classes.{closes_object, comma, colon, begins_null, begins_true, begins_false, class_of, after_first_digit}
-use Rattle.jzon.specs.Private.Classes.{after_minus}
-use Rattle.jzon.specs.Private.Machine.{Entries, Frames, no_frames, array_frame, object_frame, as_value, as_key, State, before}
-use Rattle.jzon.specs.Private.Machine.{Role, Move, numeral, last, meant, meant_at, closed_string, before_key, word, string}
-use Rattle.jzon.specs.Private.Machine.{after_key, after_value, between, go, bad, past_letter, value_mark, key_mark, bad_at}
-use Rattle.jzon.specs.Private.Machine.{move_before, move_before_key, move_after_key, move_after_value, move_empty_array}
-use Rattle.jzon.specs.Private.Machine.{move_empty_object}
+use Rattle.jzon.specs.Private.Classes.{Class, whitespace, digits, minus_char, quote, opens_array, closes_array}
+use Rattle.jzon.specs.Private.Classes.{opens_object, closes_object, comma, colon, begins_null, begins_true}
+use Rattle.jzon.specs.Private.Classes.{begins_false, class_of, after_first_digit, after_minus}
+use Rattle.jzon.specs.Private.Machine.{Entries, Frames, no_frames, array_frame, object_frame, as_value, as_key, State}
+use Rattle.jzon.specs.Private.Machine.{before, Role, Move, numeral, last, meant, meant_at, closed_string, before_key}
+use Rattle.jzon.specs.Private.Machine.{word, string, after_key, after_value, between, go, bad, past_letter, value_mark}
+use Rattle.jzon.specs.Private.Machine.{key_mark, bad_at, move_before, move_before_key, move_after_key, move_after_value}
+use Rattle.jzon.specs.Private.Machine.{move_empty_array, move_empty_object}
 use Rattle.jzon.proofs.Texts.ClassesOfCharacters.{class-says}
 use Rattle.jzon.proofs.Texts.Runs.{On, Goes}
 use Rattle.jzon.proofs.Texts.TreeCharacters.{items_chars, key_chars, node_chars, elements_chars, members_chars, spells}
@@ -36,10 +36,12 @@ module _ (r : Reading) (v : Value) where
   -- after a value: the rest of its container, and so on; at the top the value is the result
   abbrev AfterValue : Frames → Value → List ℕ → Type 0
   AfterValue no_frames x t = IsWhitespace r t × (x ≡ v)
-  AfterValue (array_frame fs vs) x t = (w : List ℕ) × (es : Elements) × (u : List ℕ) × IsWhitespace r w × AreElements r es
+  AfterValue (array_frame fs vs) x t = (w : List ℕ) × (es : Elements) × (u : List ℕ) × IsWhitespace r w
+      × AreElements r es
       × (t ≡ w ++ elements_chars es u)
       × AfterValue fs (value.array (with_prefix vs (value.value x (elements_meaning es)))) u
-  AfterValue (object_frame fs es k) x t = (w : List ℕ) × (ms : Members) × (u : List ℕ) × IsWhitespace r w × AreMembers r ms
+  AfterValue (object_frame fs es k) x t = (w : List ℕ) × (ms : Members) × (u : List ℕ) × IsWhitespace r w
+      × AreMembers r ms
       × (t ≡ w ++ members_chars ms u)
       × AfterValue fs (value.object (pairs_of (fold (λ qs p. put p.0 p.1 qs) (put k x es) (members_meaning ms)))) u
 
@@ -147,7 +149,8 @@ module _ (r : Reading) (v : Value) where
         no_close [] h = h
         no_close (p ∷ ps) h = by_test (bytes_eq p.0 k) _ _ _ _ h
 
-    after_more : (fs : Frames) (x : Value) → class_of r.strict c ≡ whitespace → AfterValue fs x cs → AfterValue fs x (c ∷ cs)
+    after_more : (fs : Frames) (x : Value)
+        → class_of r.strict c ≡ whitespace → AfterValue fs x cs → AfterValue fs x (c ∷ cs)
     after_more no_frames x e (w_ok, f) = ((class-says r.strict c e, w_ok), f)
     after_more (array_frame fs vs) x e (w, es, u, w_ok, es_ok, f, h) =
         (c ∷ w, es, u, (class-says r.strict c e, w_ok), es_ok, ap (λ z. c ∷ z) f, h)

@@ -11,10 +11,11 @@ use Rattle.jzon.specs.Grammar.{IsNumeral}
 use Rattle.jzon.specs.Spelling.{Breach, Cell, plain, onto, digits_cells, drops_too_many, keeps_too_many, sign_cells}
 use Rattle.jzon.specs.Spelling.{exponent_cells, fraction_cells, numeral_cells}
 use Rattle.jzon.specs.Meaning.{number_of}
-use Rattle.jzon.specs.Private.Classes.{Class, digits, point, letter_e, class_of, NumberState, zero_read, whole, fraction}
-use Rattle.jzon.specs.Private.Classes.{lettered, exponent, after_first_digit, minus_char, plus_char}
-use Rattle.jzon.specs.Private.Machine.{Frames, State, before, numeral, after_value, Outcome, meant_at, last_numeral, value_mark}
-use Rattle.jzon.specs.Private.Machine.{number_value, exponent_of, move_after_value, move_after_whole, move_numeral}
+use Rattle.jzon.specs.Private.Classes.{Class, digits, point, letter_e, class_of, NumberState, zero_read, whole}
+use Rattle.jzon.specs.Private.Classes.{fraction, lettered, exponent, after_first_digit, minus_char, plus_char}
+use Rattle.jzon.specs.Private.Machine.{Frames, State, before, numeral, after_value, Outcome, meant_at, last_numeral}
+use Rattle.jzon.specs.Private.Machine.{value_mark, number_value, exponent_of, move_after_value, move_after_whole}
+use Rattle.jzon.specs.Private.Machine.{move_numeral}
 use Rattle.jzon.proofs.Texts.ClassesOfCharacters.{digits-class, letter_e-class, class-char}
 use Rattle.jzon.proofs.Numbers.NumberLimits.{onto-onto}
 use Rattle.jzon.proofs.Texts.Runs.{Meets, Follows}

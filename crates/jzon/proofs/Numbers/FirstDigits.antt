@@ -4,9 +4,10 @@ use Rattle.std.specs.Prelude.{IsUtf8, IsTrue, ◌==◌}
 use Rattle.std.specs.Char.{is_ascii_digit}
 use Rattle.std.specs.Str.{IsCharBoundary}
 use Rattle.jzon.specs.Reading.{Reading}
-use Rattle.jzon.specs.Private.Classes.{Class, whitespace, digits, minus_char, plus_char, point, letter_e, quote, opens_array}
-use Rattle.jzon.specs.Private.Classes.{closes_array, opens_object, closes_object, comma, colon, begins_null, begins_true}
-use Rattle.jzon.specs.Private.Classes.{begins_false, other, class_of, after_minus, after_first_digit}
+use Rattle.jzon.specs.Private.Classes.{Class, whitespace, digits, minus_char, plus_char, point, letter_e, quote}
+use Rattle.jzon.specs.Private.Classes.{opens_array, closes_array, opens_object, closes_object, comma, colon}
+use Rattle.jzon.specs.Private.Classes.{begins_null, begins_true, begins_false, other, class_of, after_minus}
+use Rattle.jzon.specs.Private.Classes.{after_first_digit}
 use Rattle.jzon.specs.Private.Machine.{Frames, numeral, bad, move_numeral, from}
 use Rattle.jzon.proofs.Texts.ClassesOfCharacters.{class-says, digits-class}
 use Rattle.jzon.proofs.Texts.StepsByByte.{StopsAt, from_step, digit_is_ascii}
@@ -41,7 +42,8 @@ no_digit_stops r bs i fs none = record {
 
 pub digit_goes : (r : Reading) (bs : List ℕ) (i : ℕ) (fs : Frames) → IsUtf8 bs → IsCharBoundary bs i → (i < length bs)
     × IsTrue (is_ascii_digit (get_or bs i 0))
-    → from r bs (numeral fs true after_minus) i ≡ from r bs (numeral fs true (after_first_digit (get_or bs i 0 == 48) (get_or bs i 0)))
+    → from r bs (numeral fs true after_minus) i
+    ≡ from r bs (numeral fs true (after_first_digit (get_or bs i 0 == 48) (get_or bs i 0)))
     (i + 1)
 digit_goes r bs i fs u at (lt, d) =
     from_step r bs i (numeral fs true after_minus) _ (get_or bs i 0) u at lt refl (digit_is_ascii (get_or bs i 0) d)

@@ -205,6 +205,7 @@ reads_whole_and_fraction bs i p ws ds u w at lt is_point same =
     too_many : AreDigitsAt bs (p + 1) ds → (f : DigitFault) → IsFirstTooMany ws ds f → HasTooMany bs i
     too_many k (Whole n) h r fs negative = whole_too_many bs i ws ds w h.0 r fs negative
     too_many k (Fraction n) h r fs negative =
-        subst (Reports (chars bs) ExceededDepthLimit) (sym (to_point bs i p ws ds u w at lt is_point (omega (arith, h.0))
+        subst (Reports (chars bs) ExceededDepthLimit)
+        (sym (to_point bs i p ws ds u w at lt is_point (omega (arith, h.0))
         r fs negative))
         (fraction_too_many bs (p + 1) ws ds k h.0 r fs negative)

@@ -126,7 +126,8 @@ pub record ReadsExponent (bs : List ℕ) (i : ℕ) (positive : Bool) (xs : List 
   pub all : All IsDigit xs
   pub number : 0 < length xs → (r : Reading) (fs : Frames) (negative : Bool) (ws ds : List ℕ) (l : ℕ)
       → from r bs (numeral fs negative (lettered ws ds l)) i
-      ≡ from r bs (after_value fs (value.number (read_number (not negative) ws ds (signed positive (digits_number xs))))) e
+      ≡ from r bs
+      (after_value fs (value.number (read_number (not negative) ws ds (signed positive (digits_number xs))))) e
   pub missing : length xs ≡ 0 → (r : Reading) (fs : Frames) (negative : Bool) (ws ds : List ℕ) (l : ℕ)
       → from r bs (numeral fs negative (lettered ws ds l)) i ≡ fault_here (chars (drop e bs))
 

@@ -8,11 +8,12 @@ use Rattle.jzon.specs.Reading.{Reading}
 use Rattle.jzon.specs.Grammar.{Sign, unsigned, plus, minus, AreDigits, IsDigits, is_exponent_letter}
 use Rattle.jzon.specs.Spelling.{digit, onto}
 use Rattle.jzon.specs.Fault.{limit}
-use Rattle.jzon.specs.Private.Classes.{Class, digits, minus_char, plus_char, point, letter_e, class_of, NumberState, zero_read, whole}
-use Rattle.jzon.specs.Private.Classes.{pointed, fraction, lettered, signed_exponent, exponent, after_first_digit}
-use Rattle.jzon.specs.Private.Machine.{Frames, State, numeral, after_value, go, bad, move, move_after_value, move_after_whole}
-use Rattle.jzon.specs.Private.Machine.{move_numeral, number_value, exponent_of, last, meant_at, refused, outcome_on, outcome}
-use Rattle.jzon.specs.Private.Machine.{fault_here}
+use Rattle.jzon.specs.Private.Classes.{Class, digits, minus_char, plus_char, point, letter_e, class_of, NumberState}
+use Rattle.jzon.specs.Private.Classes.{zero_read, whole, pointed, fraction, lettered, signed_exponent, exponent}
+use Rattle.jzon.specs.Private.Classes.{after_first_digit}
+use Rattle.jzon.specs.Private.Machine.{Frames, State, numeral, after_value, go, bad, move, move_after_value}
+use Rattle.jzon.specs.Private.Machine.{move_after_whole, move_numeral, number_value, exponent_of, last, meant_at}
+use Rattle.jzon.specs.Private.Machine.{refused, outcome_on, outcome, fault_here}
 use Rattle.jzon.proofs.Texts.ClassesOfCharacters.{letter_e-class, class-char, class-says}
 use Rattle.jzon.proofs.Numbers.NumberLimits.{onto-onto}
 use Rattle.jzon.proofs.Numbers.DigitRuns.{read_whole, refuse_whole, read_fraction, read_unsigned_exponent}
@@ -127,7 +128,8 @@ pub record ReadsWhole (r : Reading) (d : ℕ) (ws cs rest : List ℕ) : Type 0 w
   reads : (fs : Frames) (negative : Bool) (gs : List ℕ) → dropped ws gs < 32768
       → outcome r cs (numeral fs negative (after_first_digit (d == 48) d)) ≡ outcome r rest (numeral fs negative place)
   pub refuses : (fs : Frames) (negative : Bool) (gs : List ℕ) → 32768 ≤ dropped ws gs
-      → (left : List ℕ) × (outcome r cs (numeral fs negative (after_first_digit (d == 48) d)) ≡ refused (limit digit) left)
+      → (left : List ℕ)
+      × (outcome r cs (numeral fs negative (after_first_digit (d == 48) d)) ≡ refused (limit digit) left)
 
 pub reads_zero : (r : Reading) (d : ℕ) (cs : List ℕ) → (d == 48) ≡ true → ReadsWhole r d (48 ∷ []) cs cs
 reads_zero r d cs zero = record {
@@ -168,7 +170,8 @@ after_point fs negative ws k c e = rw e refl
 
 pub whole_to_point : (r : Reading) (d : ℕ) (ws cs rest gs : List ℕ) (fs : Frames) (negative : Bool)
     → ReadsWhole r d ws cs (46 ∷ rest) → dropped ws gs < 32768
-    → outcome r cs (numeral fs negative (after_first_digit (d == 48) d)) ≡ outcome r rest (numeral fs negative (pointed ws))
+    → outcome r cs (numeral fs negative (after_first_digit (d == 48) d))
+    ≡ outcome r rest (numeral fs negative (pointed ws))
 whole_to_point r d ws cs rest gs fs negative h few =
     h.reads fs negative gs few
     ∙ read_one r (numeral fs negative h.place) (numeral fs negative (pointed ws)) 46 rest
@@ -181,7 +184,8 @@ after_letter fs negative ws k l e = rw e refl
 
 pub whole_to_letter : (r : Reading) (d l : ℕ) (ws cs rest : List ℕ) (fs : Frames) (negative : Bool)
     → ReadsWhole r d ws cs (l ∷ rest) → dropped ws [] < 32768 → IsTrue (is_exponent_letter l)
-    → outcome r cs (numeral fs negative (after_first_digit (d == 48) d)) ≡ outcome r rest (numeral fs negative (lettered ws [] l))
+    → outcome r cs (numeral fs negative (after_first_digit (d == 48) d))
+    ≡ outcome r rest (numeral fs negative (lettered ws [] l))
 whole_to_letter r d l ws cs rest fs negative h few letter =
     h.reads fs negative [] few
     ∙ read_one r (numeral fs negative h.place) (numeral fs negative (lettered ws [] l)) l rest

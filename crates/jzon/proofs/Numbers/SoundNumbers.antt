@@ -12,10 +12,11 @@ use Rattle.jzon.specs.Grammar.{Sign, unsigned, plus, minus, Exponent, Numeral, A
 use Rattle.jzon.specs.Grammar.{IsNumeral}
 use Rattle.jzon.specs.Spelling.{onto}
 use Rattle.jzon.specs.Meaning.{number_of}
-use Rattle.jzon.specs.Private.Classes.{Class, digits, minus_char, plus_char, point, letter_e, class_of, NumberState, after_minus, zero_read}
-use Rattle.jzon.specs.Private.Classes.{whole, pointed, fraction, lettered, signed_exponent, exponent, after_first_digit}
-use Rattle.jzon.specs.Private.Machine.{Frames, numeral, number_value, exponent_of, move_after_value, meant_at, move_after_whole}
-use Rattle.jzon.specs.Private.Machine.{move_numeral, last_numeral, meant}
+use Rattle.jzon.specs.Private.Classes.{Class, digits, minus_char, plus_char, point, letter_e, class_of, NumberState}
+use Rattle.jzon.specs.Private.Classes.{after_minus, zero_read, whole, pointed, fraction, lettered, signed_exponent}
+use Rattle.jzon.specs.Private.Classes.{exponent, after_first_digit}
+use Rattle.jzon.specs.Private.Machine.{Frames, numeral, number_value, exponent_of, move_after_value, meant_at}
+use Rattle.jzon.specs.Private.Machine.{move_after_whole, move_numeral, last_numeral, meant}
 use Rattle.jzon.proofs.Texts.ClassesOfCharacters.{class-says}
 use Rattle.jzon.proofs.Texts.Runs.{On, Goes}
 use Rattle.jzon.proofs.Texts.TreeCharacters.{fraction_chars, sign_chars, exponent_chars, numeral_chars}
@@ -190,7 +191,8 @@ module _ (r : Reading) (v : Value) (fs : Frames) (Beh : Value → List ℕ → T
   NumberLeft t = (n : Numeral) × (u : List ℕ) × IsNumeral n × (t ≡ numeral_chars n.negative n u)
       × Beh (value.number (number_of n)) u
 
-  pub digit_sound : (c : ℕ) (cs : List ℕ) → class_of r.strict c ≡ digits → InNumeral false (after_first_digit (c == 48) c) cs
+  pub digit_sound : (c : ℕ) (cs : List ℕ) → class_of r.strict c ≡ digits
+      → InNumeral false (after_first_digit (c == 48) c) cs
       → NumberLeft (c ∷ cs)
   digit_sound c cs e h =
       let (es, u, ok, f, (ds, x, u', ds_ok, x_ok, g, k)) =

@@ -15,8 +15,8 @@ use Rattle.jzon.specs.Grammar as grammar
 use Rattle.jzon.specs.Spelling.{Breach, pair, Cell, cell, plain, marked_last, breach_if, item_cells, items_cells}
 use Rattle.jzon.specs.Spelling.{items_length}
 use Rattle.jzon.specs.Meaning.{item_text, text_of, bytes_of, is_pair, pair_char}
-use Rattle.jzon.specs.Private.Machine.{Frames, Role, as_value, before, string, after_value, between, code, second_code, Outcome}
-use Rattle.jzon.specs.Private.Machine.{value_mark, after_unit, move_pair, add_hex}
+use Rattle.jzon.specs.Private.Machine.{Frames, Role, as_value, before, string, after_value, between, code, second_code}
+use Rattle.jzon.specs.Private.Machine.{Outcome, value_mark, after_unit, move_pair, add_hex}
 use Rattle.jzon.specs.Private.Classes.{quote}
 use Rattle.jzon.proofs.Texts.ClassesOfCharacters.{class-char}
 use Rattle.jzon.proofs.Strings.StringCharacters.{plain_parts, simple_not_u}
@@ -85,7 +85,8 @@ module _ (r : Reading) (G : Outcome → Type 0) (role : Role) (bs : List ℕ) wh
   read_code (suc n) u (c ∷ es) q ok h = rw (ok.0) (refl, read_code n (add_hex u c) es q ok.1 h)
 
   read_second : (u n v : ℕ) (es : List ℕ) (m : Option Breach) (q : List Cell) → AreHex (suc n) es
-      → Meets (move_pair (is_high u && is_low (fold add_hex v es)) role bs u (fold add_hex v es)) m (λ p. Follows r G q p)
+      → Meets (move_pair (is_high u && is_low (fold add_hex v es)) role bs u (fold add_hex v es)) m
+      (λ p. Follows r G q p)
       → Follows r G (marked_last es m q) (string role bs (second_code u n v))
   read_second u n v [] m q ok h = absurd ok
   read_second u zero v (c ∷ []) m q ok h = rw (ok.0) h

@@ -9,8 +9,8 @@ use Rattle.std.proofs.lemmas.Str.{IsCharBoundary-after_ascii}
 use Rattle.jzon.specs.Reading.{Reading}
 use Rattle.jzon.specs.Grammar.{is_simple}
 use Rattle.jzon.specs.Meaning.{unescaped}
-use Rattle.jzon.specs.Private.Machine.{Role, Move, string, between, slash, code, second, second_slash, second_code, go, bad}
-use Rattle.jzon.specs.Private.Machine.{move_slash, outcome_on, from, fault_here}
+use Rattle.jzon.specs.Private.Machine.{Role, Move, string, between, slash, code, second, second_slash, second_code, go}
+use Rattle.jzon.specs.Private.Machine.{bad, move_slash, outcome_on, from, fault_here}
 use Rattle.jzon.proofs.Strings.StringSteps.{Expects, byte_moves, byte_stops, expected_byte, unexpected_byte}
 
 -- ---- after a backslash

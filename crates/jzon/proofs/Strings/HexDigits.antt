@@ -15,8 +15,9 @@ use Rattle.std.proofs.lemmas.Str.{IsCharBoundary-after_ascii}
 use Rattle.jzon.specs.Reading.{Reading}
 use Rattle.jzon.specs.Grammar.{is_high, is_low, is_surrogate, code_unit}
 use Rattle.jzon.specs.Fault as fault
-use Rattle.jzon.specs.Private.Machine.{Role, State, Move, string, code, second_code, go, bad, move, last, refused, add_hex}
-use Rattle.jzon.specs.Private.Machine.{after_unit, move_pair, move_code, move_second_code, Outcome, outcome_on, from, left_at, fault_here}
+use Rattle.jzon.specs.Private.Machine.{Role, State, Move, string, code, second_code, go, bad, move, last, refused}
+use Rattle.jzon.specs.Private.Machine.{add_hex, after_unit, move_pair, move_code, move_second_code, Outcome, outcome_on}
+use Rattle.jzon.specs.Private.Machine.{from, left_at, fault_here}
 use Rattle.jzon.proofs.Strings.StringSteps.{byte_moves, byte_stops}
 
 -- States that read hexadecimal digits, by the count of digits missing after the next one and the number so far; and

@@ -13,8 +13,9 @@ use Rattle.jzon.specs.Grammar.{is_unescaped}
 use Rattle.jzon.specs.Spelling.{duplicate, breach_if}
 use Rattle.jzon.specs.Fault.{limit}
 use Rattle.jzon.specs.Private.Quote.{EndsAtQuote}
-use Rattle.jzon.specs.Private.Machine.{Entries, Frames, Role, as_key, after_key, Move, go, refused, string, between, slash}
-use Rattle.jzon.specs.Private.Machine.{closed_string, bad, move_between, outcome_on, from, from_closed, left_at, fault_here}
+use Rattle.jzon.specs.Private.Machine.{Entries, Frames, Role, as_key, after_key, Move, go, refused, string, between}
+use Rattle.jzon.specs.Private.Machine.{slash, closed_string, bad, move_between, outcome_on, from, from_closed, left_at}
+use Rattle.jzon.specs.Private.Machine.{fault_here}
 use Rattle.jzon.proofs.Strings.StringSteps.{byte_moves, byte_stops}
 
 none_of : (a b t : Bool) (x y z w : Move) → a ≡ false → b ≡ false → t ≡ false → cond a x (cond b y (cond t z w)) ≡ w
@@ -54,7 +55,8 @@ no_quote r role xs c left h no34 no92 =
 
 pub string_stops : (r : Reading) (role : Role) (xs bs : List ℕ) (i : ℕ) → IsUtf8 bs → IsCharBoundary bs i
     → (i < length bs → is_plain (get_or bs i 0) ≡ false) → (i < length bs → get_or bs i 0 ≡ 92 → ⊥)
-    → ((i < length bs) × (get_or bs i 0 ≡ 34) → ⊥) → from r bs (string role xs between) i ≡ fault_here (chars (drop i bs))
+    → ((i < length bs) × (get_or bs i 0 ≡ 34) → ⊥)
+    → from r bs (string role xs between) i ≡ fault_here (chars (drop i bs))
 string_stops r role xs bs i u at no_plain no_escape no_end =
     byte_stops r (string role xs between) bs i u at refl (λ c b.
     let plain : is_plain (get_or bs i 0) ≡ false = no_plain b.within in

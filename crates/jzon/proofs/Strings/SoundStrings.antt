@@ -13,8 +13,9 @@ use Rattle.jzon.specs.Grammar.{Item, simple, single, double, AreHex, AreItems, I
 use Rattle.jzon.specs.Grammar.{is_low, is_unescaped, is_simple}
 use Rattle.jzon.specs.Grammar as grammar
 use Rattle.jzon.specs.Meaning.{item_text, bytes_of, pair_char, unescaped}
-use Rattle.jzon.specs.Private.Machine.{Role, StringState, between, slash, code, second, second_slash, second_code, string, go}
-use Rattle.jzon.specs.Private.Machine.{bad, closed_string, after_unit, move_pair, add_hex, move_code, move_second_code}
+use Rattle.jzon.specs.Private.Machine.{Role, StringState, between, slash, code, second, second_slash, second_code}
+use Rattle.jzon.specs.Private.Machine.{string, go, bad, closed_string, after_unit, move_pair, add_hex, move_code}
+use Rattle.jzon.specs.Private.Machine.{move_second_code}
 use Rattle.jzon.proofs.Texts.Runs.{On, Goes}
 use Rattle.jzon.proofs.Texts.TreeCharacters.{item_chars, items_chars}
 use Rattle.jzon.proofs.Strings.CompleteStrings.{bytes-more, bytes-none, bytes-one}

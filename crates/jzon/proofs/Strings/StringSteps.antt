@@ -10,7 +10,8 @@ use Rattle.std.proofs.lemmas.Str.{byte_from_char, char_from_byte, IsUtf8-drop, l
 use Rattle.jzon.specs.Reading.{Reading}
 use Rattle.jzon.specs.Fault.{Fault}
 use Rattle.jzon.specs.Fault as fault
-use Rattle.jzon.specs.Private.Machine.{State, go, move, bad, last, refused, outcome, outcome_on, from, left_at, fault_here}
+use Rattle.jzon.specs.Private.Machine.{State, go, move, bad, last, refused, outcome, outcome_on, from, left_at}
+use Rattle.jzon.specs.Private.Machine.{fault_here}
 use Rattle.jzon.proofs.Texts.AsciiRuns.{chars-ascii}
 use Rattle.jzon.proofs.Texts.StepsByByte.{stop_on}
 use Rattle.jzon.proofs.Containers.LiteralLetters.{text_of_first}

@@ -13,17 +13,18 @@ use Rattle.jzon_tree.specs.Value as value
 use Rattle.jzon.specs.Reading.{Reading}
 use Rattle.jzon.specs.Grammar.{is_unescaped, is_simple, is_surrogate}
 use Rattle.jzon.specs.Spelling.{Breach, deep, pair, digit, breach_if, onto}
-use Rattle.jzon.specs.Private.Classes.{Class, whitespace, digits, minus_char, plus_char, point, letter_e, quote, opens_array}
-use Rattle.jzon.specs.Private.Classes.{closes_array, opens_object, closes_object, comma, colon, begins_null, begins_true}
-use Rattle.jzon.specs.Private.Classes.{begins_false, class_of, NumberState, after_minus, zero_read, whole, pointed, fraction}
-use Rattle.jzon.specs.Private.Classes.{lettered, signed_exponent, exponent}
-use Rattle.jzon.specs.Private.Machine.{Entries, Frames, no_frames, array_frame, object_frame, Role, as_value, as_key, StringState}
-use Rattle.jzon.specs.Private.Machine.{between, slash, code, second, second_slash, second_code, State, before, before_key, word}
-use Rattle.jzon.specs.Private.Machine.{numeral, string, after_key, after_value, Move, go, bad, bad_deep, move, value_mark, key_mark}
-use Rattle.jzon.specs.Private.Machine.{last, frames_depth, bad_at, move_empty_array, move_before, move_empty_object}
-use Rattle.jzon.specs.Private.Machine.{move_before_key, move_after_key, move_after_value, move_after_whole, move_after_fraction}
-use Rattle.jzon.specs.Private.Machine.{move_numeral, repeated_if, closed_string, move_string, add_hex, after_unit, move_code, move_pair}
-use Rattle.jzon.specs.Private.Machine.{move_second_code, past_letter, number_value, exponent_of}
+use Rattle.jzon.specs.Private.Classes.{Class, whitespace, digits, minus_char, plus_char, point, letter_e, quote}
+use Rattle.jzon.specs.Private.Classes.{opens_array, closes_array, opens_object, closes_object, comma, colon}
+use Rattle.jzon.specs.Private.Classes.{begins_null, begins_true, begins_false, class_of, NumberState, after_minus}
+use Rattle.jzon.specs.Private.Classes.{zero_read, whole, pointed, fraction, lettered, signed_exponent, exponent}
+use Rattle.jzon.specs.Private.Machine.{Entries, Frames, no_frames, array_frame, object_frame, Role, as_value, as_key}
+use Rattle.jzon.specs.Private.Machine.{StringState, between, slash, code, second, second_slash, second_code, State}
+use Rattle.jzon.specs.Private.Machine.{before, before_key, word, numeral, string, after_key, after_value, Move, go, bad}
+use Rattle.jzon.specs.Private.Machine.{bad_deep, move, value_mark, key_mark, last, frames_depth, bad_at}
+use Rattle.jzon.specs.Private.Machine.{move_empty_array, move_before, move_empty_object, move_before_key}
+use Rattle.jzon.specs.Private.Machine.{move_after_key, move_after_value, move_after_whole, move_after_fraction}
+use Rattle.jzon.specs.Private.Machine.{move_numeral, repeated_if, closed_string, move_string, add_hex, after_unit}
+use Rattle.jzon.specs.Private.Machine.{move_code, move_pair, move_second_code, past_letter, number_value, exponent_of}
 use Rattle.jzon.proofs.Texts.ClassesOfCharacters.{class-char}
 use Rattle.jzon.proofs.Texts.Closing.{closer}
 
@@ -137,7 +138,8 @@ before_reports r begins_true fs c = (λ e. e, tt)
 before_reports r begins_false fs c = (λ e. e, tt)
 before_reports r _ fs c = value_bad r fs
 
-object_reports : (r : Reading) (fs : Frames) (es : Entries) → Reports (λ p. ⊤) (key_mark r fs es) (move_empty_object fs es)
+object_reports : (r : Reading) (fs : Frames) (es : Entries)
+    → Reports (λ p. ⊤) (key_mark r fs es) (move_empty_object fs es)
 object_reports r fs [] = (unmarked _, tt)
 object_reports r fs (e ∷ es) = λ e. cc
 

@@ -21,7 +21,8 @@ Answers r t (Err e) = IsErrorUnlessMemory r t e
 
 answers_by : (r : Reading) (t : List ℕ) (result : Result JsonValue Error) (o : Outcome) → Verdict r t o
     → Reads t result o → Answers r t result
-answers_by r t (Ok v) (meant w) reported read = let same : w ≡ view v = cc in (reported.0, reported.1, sym (reported.2 ∙ same))
+answers_by r t (Ok v) (meant w) reported read =
+    let same : w ≡ view v = cc in (reported.0, reported.1, sym (reported.2 ∙ same))
 answers_by r t (Ok v) (refused f rest) reported read = absurd (cc)
 answers_by r t (Err e) o reported (inl memory) = inl memory
 answers_by r t (Err e) (meant w) reported (inr reports) = absurd reports

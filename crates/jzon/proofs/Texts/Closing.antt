@@ -7,12 +7,14 @@ use Rattle.jzon_tree.specs.Value as value
 use Rattle.jzon_tree.specs.Value.{Value, values_of, pairs_of, kind_of}
 use Rattle.jzon.specs.Reading.{Reading}
 use Rattle.jzon.specs.Grammar.{is_surrogate, is_high, is_low, unsigned}
-use Rattle.jzon.specs.Private.Classes.{NumberState, after_minus, zero_read, whole, pointed, fraction, lettered, signed_exponent}
-use Rattle.jzon.specs.Private.Classes.{exponent, digits, closes_array, closes_object, quote, colon, begins_null}
-use Rattle.jzon.specs.Private.Machine.{Frames, no_frames, array_frame, object_frame, Role, as_value, as_key, StringState, between}
-use Rattle.jzon.specs.Private.Machine.{slash, code, second, second_slash, second_code, State, before, before_key, word, numeral}
-use Rattle.jzon.specs.Private.Machine.{string, after_key, after_value, add_hex, Entries, go, last_numeral, meant_at, move_numeral}
-use Rattle.jzon.specs.Private.Machine.{move_after_value, move_pair, after_unit, past_letter}
+use Rattle.jzon.specs.Private.Classes.{NumberState, after_minus, zero_read, whole, pointed, fraction, lettered}
+use Rattle.jzon.specs.Private.Classes.{signed_exponent, exponent, digits, closes_array, closes_object, quote, colon}
+use Rattle.jzon.specs.Private.Classes.{begins_null}
+use Rattle.jzon.specs.Private.Machine.{Frames, no_frames, array_frame, object_frame, Role, as_value, as_key}
+use Rattle.jzon.specs.Private.Machine.{StringState, between, slash, code, second, second_slash, second_code, State}
+use Rattle.jzon.specs.Private.Machine.{before, before_key, word, numeral, string, after_key, after_value, add_hex}
+use Rattle.jzon.specs.Private.Machine.{Entries, go, last_numeral, meant_at, move_numeral, move_after_value, move_pair}
+use Rattle.jzon.specs.Private.Machine.{after_unit, past_letter}
 use Rattle.jzon.proofs.Texts.ClassesOfCharacters.{class-char, digits-class}
 use Rattle.jzon.proofs.Texts.Runs.{On, Goes}
 
@@ -112,7 +114,8 @@ module _ (r : Reading) where
   ends_numeral : (fs : Frames) (negative : Bool) (x : NumberState)
       → Ends (digit_closer x (brackets fs)) (numeral fs negative x)
   ends_numeral fs negative after_minus =
-      ends_zero fs negative after_minus (numeral fs true zero_read) refl (ends_number fs true zero_read _ refl refl refl)
+      ends_zero fs negative after_minus (numeral fs true zero_read) refl
+      (ends_number fs true zero_read _ refl refl refl)
   ends_numeral fs negative zero_read = ends_number fs negative zero_read _ refl refl refl
   ends_numeral fs negative (whole ds) = ends_number fs negative (whole ds) _ refl refl refl
   ends_numeral fs negative (pointed ws) =

@@ -58,7 +58,8 @@ goes_on t m u o p (Err e) next h k = reported_on t m o p e h k
 
 -- an error that is propagated
 pub fails_on : {A : Type 0} (t m u : Cursor) (o p : State) (result : Result A Error) (next : A → State) (e : Error)
-    → result ≡ Err e → Reached t o m p → ReportsUnlessMemory (chars m.source.now) e (left m p) → GoesOn t o result u next
+    → result ≡ Err e → Reached t o m p → ReportsUnlessMemory (chars m.source.now) e (left m p)
+    → GoesOn t o result u next
 fails_on t m u o p result next e is h k = subst (λ z. GoesOn t o z u next) (sym is) (reported_on t m o p e h k)
 
 pub reads_from : (bytes : List ℕ) (o : Outcome) (m : Cursor) (p : State) (result : Result JsonValue Error)

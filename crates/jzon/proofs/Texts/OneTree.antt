@@ -14,9 +14,9 @@ use Rattle.jzon.specs.Grammar.{IsWhitespace, AreDigits, IsDigits, IsWhole, IsExp
 use Rattle.jzon.specs.Grammar.{IsKey, IsNode, AreElements, AreMembers, IsDocument, is_surrogate, code_unit}
 use Rattle.jzon.specs.Grammar as grammar
 use Rattle.jzon.specs.Fault.{Spells}
-use Rattle.jzon.specs.Private.Classes.{Class, whitespace, digits, minus_char, plus_char, point, letter_e, quote, opens_array}
-use Rattle.jzon.specs.Private.Classes.{closes_array, opens_object, closes_object, comma, colon, begins_null, begins_true}
-use Rattle.jzon.specs.Private.Classes.{begins_false, class_of}
+use Rattle.jzon.specs.Private.Classes.{Class, whitespace, digits, minus_char, plus_char, point, letter_e, quote}
+use Rattle.jzon.specs.Private.Classes.{opens_array, closes_array, opens_object, closes_object, comma, colon}
+use Rattle.jzon.specs.Private.Classes.{begins_null, begins_true, begins_false, class_of}
 use Rattle.jzon.proofs.Texts.ClassesOfCharacters.{whitespace-class, digits-class, letter_e-class, class-char, char_of}
 use Rattle.jzon.proofs.Strings.StringCharacters.{plain_parts, simple_not_u}
 use Rattle.jzon.proofs.Texts.TreeCharacters.{fraction_chars, sign_chars, exponent_chars, magnitude_chars, numeral_chars}
@@ -133,7 +133,8 @@ module _ (r : Reading) where
   same_exponent None (Some y) t u ok ko h k e =
       absurd (begins letter_e t _ y.letter (fault_here letter_e t refl h) e (letter_e-class r.strict y.letter ko.0))
   same_exponent (Some x) None t u ok ko h k e =
-      absurd (begins letter_e u _ x.letter (fault_here letter_e u refl k) (sym e) (letter_e-class r.strict x.letter ok.0))
+      absurd (begins letter_e u _ x.letter (fault_here letter_e u refl k) (sym e)
+      (letter_e-class r.strict x.letter ok.0))
   same_exponent (Some x) (Some y) t u ok ko h k e =
       let letter : x.letter ≡ y.letter = cc in
       let rest : sign_chars x.sign (x.digits ++ t) ≡ sign_chars y.sign (y.digits ++ u) = cc in

@@ -21,13 +21,15 @@ use Rattle.jzon.proofs.Texts.StepsByByte.{from_end}
 pub reported : (t : List ℕ) (e : Error) (o p : Outcome) → o ≡ p → Reports t e p → ReportsUnlessMemory t e o
 reported t e o p q h = inr (subst (Reports t e) (sym q) h)
 
-pub reported_again : (t : List ℕ) (e : Error) (o p : Outcome) → o ≡ p → ReportsUnlessMemory t e p → ReportsUnlessMemory t e o
+pub reported_again : (t : List ℕ) (e : Error) (o p : Outcome) → o ≡ p → ReportsUnlessMemory t e p
+    → ReportsUnlessMemory t e o
 reported_again t e o p q h = subst (ReportsUnlessMemory t e) (sym q) h
 
 -- the end of a text, where it may not end
 pub reported_end : (r : Reading) (bs : List ℕ) (i : ℕ) (p : State) (o : Outcome) → o ≡ from r bs p i → length bs ≤ i
     → last p ≡ refused Fault.end [] → ReportsUnlessMemory (chars bs) UnexpectedEndOfJson o
-reported_end r bs i p o q le h = reported (chars bs) UnexpectedEndOfJson o (refused Fault.end []) (q ∙ from_end r bs i p le ∙ h)
+reported_end r bs i p o q le h = reported (chars bs) UnexpectedEndOfJson o (refused Fault.end [])
+    (q ∙ from_end r bs i p le ∙ h)
     refl
 
 pub reported_deep : (t rest : List ℕ) (o : Outcome) → o ≡ refused (limit deep) rest
@@ -43,7 +45,8 @@ fault_here_leads t o p f (Ok v) q h = absurd h
 fault_here_leads t o p f (Err e) q h = subst (Reports t e) (sym q) h
 
 pub fault_here_reported : {T : Type 0} (t : List ℕ) (o p : Outcome) (f : T → Outcome) (result : Result T Error) → o ≡ p
-    → MatchResult result (λ v. ⊥) (λ e. Reports t e p) → MatchResult result (λ v. o ≡ f v) (λ e. ReportsUnlessMemory t e o)
+    → MatchResult result (λ v. ⊥) (λ e. Reports t e p)
+    → MatchResult result (λ v. o ≡ f v) (λ e. ReportsUnlessMemory t e o)
 fault_here_reported t o p f (Ok v) q h = absurd h
 fault_here_reported t o p f (Err e) q h = reported t e o p q h
 

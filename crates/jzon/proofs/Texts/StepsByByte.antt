@@ -13,8 +13,8 @@ use Rattle.jzon_base.specs.declared.error.Error.{Error}
 use Rattle.jzon.specs.Reading.{Reading}
 use Rattle.jzon.specs.Spelling.{deep}
 use Rattle.jzon.specs.Fault.{Fault, limit}
-use Rattle.jzon.specs.Private.Machine.{State, Move, go, bad, move, last, outcome, outcome_on, from, left_at, fault_here, Outcome}
-use Rattle.jzon.specs.Private.Machine.{refused, Reports}
+use Rattle.jzon.specs.Private.Machine.{State, Move, go, bad, move, last, outcome, outcome_on, from, left_at, fault_here}
+use Rattle.jzon.specs.Private.Machine.{Outcome, refused, Reports}
 use Rattle.jzon.proofs.Texts.AsciiRuns.{chars-ascii}
 use Rattle.jzon.proofs.Containers.LiteralLetters.{first_byte, some_byte}
 

@@ -6,7 +6,8 @@ use Rattle.jzon_tree.specs.Value.{Value}
 use Rattle.jzon_tree.specs.Writing.{is_whitespace}
 use Rattle.jzon.specs.Reading.{Reading}
 use Rattle.jzon.specs.Private.Classes.{Class, whitespace, class_of}
-use Rattle.jzon.specs.Private.Machine.{no_frames, after_value, bad, move_after_value, outcome, outcome_on, from, fault_here}
+use Rattle.jzon.specs.Private.Machine.{no_frames, after_value, bad, move_after_value, outcome, outcome_on, from}
+use Rattle.jzon.specs.Private.Machine.{fault_here}
 use Rattle.jzon.proofs.Texts.ClassesOfCharacters.{class-says}
 use Rattle.jzon.proofs.Texts.AsciiRuns.{wide_is_no_space}
 use Rattle.jzon.proofs.Texts.StepsByByte.{byte_there, by_character, some_character}
@@ -25,7 +26,8 @@ fault_here_on r (c ∷ cs) v some h =
 
 -- another character after the value of a text
 pub trailing_stops : (r : Reading) (bs : List ℕ) (i : ℕ) (v : Value) → IsUtf8 bs → IsCharBoundary bs i → i < length bs
-    → is_whitespace r.strict (get_or bs i 0) ≡ false → from r bs (after_value no_frames v) i ≡ fault_here (chars (drop i bs))
+    → is_whitespace r.strict (get_or bs i 0) ≡ false
+    → from r bs (after_value no_frames v) i ≡ fault_here (chars (drop i bs))
 unfolding from
 trailing_stops r bs i v u at lt h =
     fault_here_on r (chars (drop i bs)) v (some_character bs i u at lt)

@@ -13,8 +13,8 @@ use Rattle.jzon.specs.Grammar.{Document}
 use Rattle.jzon.specs.Meaning.{meaning}
 use Rattle.jzon.specs.Spelling.{Breach, deep, Cell, cell, plain, cells}
 use Rattle.jzon.specs.Private.Classes.{NumberState, zero_read, whole, fraction, exponent}
-use Rattle.jzon.specs.Private.Machine.{Frames, no_frames, State, before, numeral, after_value, Move, go, bad, bad_deep, move}
-use Rattle.jzon.specs.Private.Machine.{Outcome, meant, refused, meant_at, last_numeral, last, outcome_on, outcome}
+use Rattle.jzon.specs.Private.Machine.{Frames, no_frames, State, before, numeral, after_value, Move, go, bad, bad_deep}
+use Rattle.jzon.specs.Private.Machine.{move, Outcome, meant, refused, meant_at, last_numeral, last, outcome_on, outcome}
 use Rattle.jzon.specs.Fault.{Spells, Completes, HasCompletion, AllBreakAt, Parses, Fault, limit, character}
 use Rattle.jzon.specs.Fault.{IsDepthFault, IsFault, IsFirstFault}
 use Rattle.jzon.specs.Laws.{HasOneTree, HasOneFault}

@@ -1,7 +1,7 @@
 -- The automaton: maps the rest of a text to a value or a fault, one character at a time. A `Place` is its state: no
 -- tree and no whitespace, only the contents so far of the open containers, and the position within a token.
-use Rattle.std.specs.Prelude.{◌≡◌, ◌⊎◌, ℕ, zero, suc, ◌+◌, ◌-◌, ◌*◌, if◌then◌else◌, List, [], ◌∷◌, ◌++◌, length, drop, Bool}
-use Rattle.std.specs.Prelude.{true, false, ◌&&◌, ◌==◌, Option, Some, None, Result, Ok, Err, MatchResult, chars}
+use Rattle.std.specs.Prelude.{◌≡◌, ◌⊎◌, ℕ, zero, suc, ◌+◌, ◌-◌, ◌*◌, if◌then◌else◌, List, [], ◌∷◌, ◌++◌, length, drop}
+use Rattle.std.specs.Prelude.{Bool, true, false, ◌&&◌, ◌==◌, Option, Some, None, Result, Ok, Err, MatchResult, chars}
 use Rattle.std.specs.Prelude.{encode_utf8}
 use Rattle.std.specs.Char.{is_ascii_hexdigit, digit_value}
 use Rattle.std.specs.Option.{is_some}
@@ -20,11 +20,11 @@ use Rattle.jzon.specs.Spelling.{Breach, deep, pair, digit, duplicate, breach_if,
 use Rattle.jzon.specs.Spelling.{deep_if}
 use Rattle.jzon.specs.Meaning.{number_of, unescaped, pair_char}
 use Rattle.jzon.specs.Fault.{Fault, limit, character, error_at}
-use Rattle.jzon.specs.Private.Classes.{Class, whitespace, digits, minus_char, plus_char, point, letter_e, quote, opens_array}
-use Rattle.jzon.specs.Private.Classes.{closes_array}
-use Rattle.jzon.specs.Private.Classes.{opens_object, closes_object, comma, colon, begins_null, begins_true, begins_false}
-use Rattle.jzon.specs.Private.Classes.{class_of, NumberState, after_minus, zero_read, whole, pointed, fraction, lettered}
-use Rattle.jzon.specs.Private.Classes.{signed_exponent, exponent, after_first_digit}
+use Rattle.jzon.specs.Private.Classes.{Class, whitespace, digits, minus_char, plus_char, point, letter_e, quote}
+use Rattle.jzon.specs.Private.Classes.{opens_array, closes_array, opens_object, closes_object, comma, colon}
+use Rattle.jzon.specs.Private.Classes.{begins_null, begins_true, begins_false, class_of, NumberState, after_minus}
+use Rattle.jzon.specs.Private.Classes.{zero_read, whole, pointed, fraction, lettered, signed_exponent, exponent}
+use Rattle.jzon.specs.Private.Classes.{after_first_digit}
 
 -- the entries of an object read so far
 abbrev pub Entries : Type 0

@@ -210,7 +210,8 @@ fn try_indent<G: Generator>(g: &mut G, slot: &mut ErrorSlot) -> SlotResult<()>
     ensures { MatchResult result
         (λ _. G.meaning g.new ≡ record (G.meaning g.old) { dent = (G.meaning g.old).dent + 1 })
         (λ _. ((G.meaning g.old).dent ≡ 2 ^ 64 - 1)
-        × (G.meaning g.new ≡ record (G.meaning g.old) { faults = noted (G.meaning g.old).faults })) }
+        × (G.meaning g.new
+        ≡ record (G.meaning g.old) { faults = noted (G.meaning g.old).faults })) }
 {
     store(g.indent(), slot)
 }

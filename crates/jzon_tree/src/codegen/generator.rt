@@ -62,7 +62,8 @@ pub trait Generator {
 
     /// Counts one more fault, saturating at `u64::MAX`.
     fn note_fault(&mut self)
-        ensures { meaning self.new ≡ record (meaning self.old) { faults = noted (meaning self.old).faults } };
+        ensures { meaning self.new
+            ≡ record (meaning self.old) { faults = noted (meaning self.old).faults } };
 
     /// Opens or closes indents, so that `dent` of them are open.
     fn set_dent(&mut self, dent: u64)
@@ -107,9 +108,11 @@ pub trait Generator {
     /// Opens an indent. Fails only where `u64::MAX` of them are open, and then counts a fault.
     fn indent(&mut self) -> io::Result<()>
         ensures { MatchResult result
-            (λ _. meaning self.new ≡ record (meaning self.old) { dent = (meaning self.old).dent + 1 })
+            (λ _. meaning self.new
+            ≡ record (meaning self.old) { dent = (meaning self.old).dent + 1 })
             (λ _. ((meaning self.old).dent ≡ 2 ^ 64 - 1)
-            × (meaning self.new ≡ record (meaning self.old) { faults = noted (meaning self.old).faults })) }
+            × (meaning self.new
+            ≡ record (meaning self.old) { faults = noted (meaning self.old).faults })) }
     {
         let dent = self.dent();
         if dent == u64::MAX {
@@ -123,7 +126,8 @@ pub trait Generator {
     /// Closes an indent.
     fn dedent(&mut self)
         requires { 0 < (meaning self.old).dent }
-        ensures { meaning self.new ≡ record (meaning self.old) { dent = (meaning self.old).dent - 1 } }
+        ensures { meaning self.new
+            ≡ record (meaning self.old) { dent = (meaning self.old).dent - 1 } }
     {
         let dent = self.dent();
         self.set_dent(dent - 1);

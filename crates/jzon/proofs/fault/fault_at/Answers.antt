@@ -12,7 +12,8 @@ returns-in-Some c =
     ap (λ s. slice_get (chars s) 0) (sym rest) ∙ sym c.in-Some.ensures.steps.2 in
     let prefix : c.range-prefix.result.now ≡ take c.args.index c.args.source.now = c.range-prefix.ensures.value
     ∙ grind arith in
-    reports_character c.args.source.now c.args.index c.in-Some.ch c.line_after.result c.column_after.result c.utf8.source
+    reports_character c.args.source.now c.args.index c.in-Some.ch c.line_after.result c.column_after.result
+    c.utf8.source
     c.requires next
     (c.line_after.ensures ∙ ap (λ s. line (chars s)) prefix)
     (c.column_after.ensures ∙ ap (λ s. column (chars s)) prefix)

@@ -52,14 +52,16 @@ whole c =
     c.expect_end.ensures.outcome)
 
 pub returns-in-Value-clause-value : goal.returns-in-Value-clause-value
-returns-in-Value-clause-value c = value_of c.args.reading.now (chars c.args.source.now) c.expect_end.result (whole (goal.at.returns-in-Value-clause-value c).After-expect_end)
+returns-in-Value-clause-value c = value_of c.args.reading.now (chars c.args.source.now) c.expect_end.result
+    (whole (goal.at.returns-in-Value-clause-value c).After-expect_end)
 
 pub returns-in-Value-clause-readable : goal.returns-in-Value-clause-readable
 returns-in-Value-clause-readable c = readable_of c.args.reading.now (chars c.args.source.now) c.expect_end.result
     (whole (goal.at.returns-in-Value-clause-readable c).After-expect_end)
 
 pub returns-in-Value-clause-error : goal.returns-in-Value-clause-error
-returns-in-Value-clause-error c = error_of c.args.reading.now (chars c.args.source.now) c.expect_end.result (whole (goal.at.returns-in-Value-clause-error c).After-expect_end)
+returns-in-Value-clause-error c = error_of c.args.reading.now (chars c.args.source.now) c.expect_end.result
+    (whole (goal.at.returns-in-Value-clause-error c).After-expect_end)
 
 -- ---- a container is opened
 
@@ -73,13 +75,16 @@ opened c =
     (c.new-parser.ensures.cursor.same (before no_frames) refl ∙ read.1) c.read_to_end.ensures)
 
 pub returns-clause-value : goal.returns-clause-value
-returns-clause-value c = value_of c.args.reading.now (chars c.args.source.now) c.read_to_end.result (opened (goal.at.returns-clause-value c).After-read_to_end)
+returns-clause-value c = value_of c.args.reading.now (chars c.args.source.now) c.read_to_end.result
+    (opened (goal.at.returns-clause-value c).After-read_to_end)
 
 pub returns-clause-readable : goal.returns-clause-readable
-returns-clause-readable c = readable_of c.args.reading.now (chars c.args.source.now) c.read_to_end.result (opened (goal.at.returns-clause-readable c).After-read_to_end)
+returns-clause-readable c = readable_of c.args.reading.now (chars c.args.source.now) c.read_to_end.result
+    (opened (goal.at.returns-clause-readable c).After-read_to_end)
 
 pub returns-clause-error : goal.returns-clause-error
-returns-clause-error c = error_of c.args.reading.now (chars c.args.source.now) c.read_to_end.result (opened (goal.at.returns-clause-error c).After-read_to_end)
+returns-clause-error c = error_of c.args.reading.now (chars c.args.source.now) c.read_to_end.result
+    (opened (goal.at.returns-clause-error c).After-read_to_end)
 
 pub returns-clause-memory : goal.returns-clause-memory
 returns-clause-memory c e =

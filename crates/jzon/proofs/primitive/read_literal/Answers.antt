@@ -11,7 +11,8 @@ use Rattle.jzon.proofs.primitive.read_literal.Goals as goal
 
 -- if the last four letters are there, the literal ends after them
 ends : (c : After-has_four) (r : Reading) (fs : Frames) → value_mark r fs ≡ None → IsTrue c.has_four.result
-    → WordEnds r c.args.source.now c.args.start (c.last_four_at-prefix.result + 4) fs (view c.literal_value-value.result)
+    → WordEnds r c.args.source.now c.args.start (c.last_four_at-prefix.result + 4) fs
+    (view c.literal_value-value.result)
 ends c r fs m all =
     let four = c.has_four.ensures in
     word_ends r c.args.source.now c.args.start c.args.first

@@ -78,7 +78,8 @@ returns-in_default-clause-outcome c r fs shallow stop ends =
     (from_stop r c.args.source.now c.args.start (before fs) c.utf8.source c.requires.boundary
     (stops_before r c.args.source.now c.args.start fs shallow (λ lt. record {
       no_space = stop lt;
-      no_digit = subst (λ b. is_ascii_digit b ≡ false) first (sym c.is_ascii_digit.ensures.value ∙ c.if-is_ascii_digit.false);
+      no_digit = subst (λ b. is_ascii_digit b ≡ false) first
+          (sym c.is_ascii_digit.ensures.value ∙ c.if-is_ascii_digit.false);
       no_minus = λ e. absurd (omega (arith, e, first));
       no_quote = λ e. absurd (omega (arith, e, first));
       no_array = λ e. c.requires.no_array (first ∙ e);

@@ -21,7 +21,8 @@ returns-in_err-ch-clause-outcome c r role =
     let escape = c.loop-start.invariant.same r role
     ∙ backslash_begins r role read text c.loop-start.index c.utf8.source c.loop-start.invariant.boundary here.0 here.1
     in
-    rw (reported.1, reported.2) (inr (subst (Reports (chars text) _) (sym escape) (c.in_err-ch.ensures.outcome r role read)))
+    rw (reported.1, reported.2) (inr (subst (Reports (chars text) _) (sym escape)
+    (c.in_err-ch.ensures.outcome r role read)))
 
 pub loop-start-preserved : goal.loop-start-preserved
 loop-start-preserved c =

@@ -52,7 +52,8 @@ returns-in-Some-clause-outcome c r role bs =
     (c.has_byte.ensures.0 c.if-not-has_byte.false)
     (c.has_byte-2.ensures.0 c.if-not-has_byte-2.false) in
     digits ∙ c.in_ok-unit.ensures.second r role bs c.args.first
-    ∙ ap (λ t. outcome_on (move_pair t role bs c.args.first c.in_ok-unit.unit) (λ p. from r text p (c.args.start + 2 + 4))
+    ∙ ap (λ t. outcome_on (move_pair t role bs c.args.first c.in_ok-unit.unit)
+    (λ p. from r text p (c.args.start + 2 + 4))
     rest) pair.0
     ∙ ap (λ n. from r text (string role (bs ++ encode_utf8 (pair_char c.args.first c.in_ok-unit.unit)) between) n)
     (let e : c.args.start + 2 + 4 ≡ c.args.start + 6 = omega arith in e)
@@ -68,6 +69,7 @@ returns-in-None-clause-outcome c r role bs =
     (c.has_byte-2.ensures.0 c.if-not-has_byte-2.false) in
     subst (Reports (chars text) FailedUtf8Parsing)
     (sym (digits ∙ c.in_ok-unit.ensures.second r role bs c.args.first
-    ∙ ap (λ t. outcome_on (move_pair t role bs c.args.first c.in_ok-unit.unit) (λ p. from r text p (c.args.start + 2 + 4))
+    ∙ ap (λ t. outcome_on (move_pair t role bs c.args.first c.in_ok-unit.unit)
+    (λ p. from r text p (c.args.start + 2 + 4))
     rest) no_pair))
     refl

@@ -41,7 +41,8 @@ returns-then-depth-from-clause-outcome c fs mark depth =
     let b = c.args.bracket in
     let m = c.bump.new.self in
     let lt : m.index < length m.source.now = omega (arith, m.boundary.0) in
-    let other : next_byte m ≢ closer b = λ f. c.if-first-closer.false (c.peek-first.ensures ∙ f ∙ sym c.closer.ensures) in
+    let other : next_byte m ≢ closer b = λ f. c.if-first-closer.false
+    (c.peek-first.ensures ∙ f ∙ sym c.closer.ensures) in
     reported_on c.args.self.now m (before fs) (after_opener b fs) ExceededDepthLimit
     (at_first (goal.at.returns-then-depth-from-clause-outcome c).After-bump fs mark)
     (item_too_deep b m fs lt other

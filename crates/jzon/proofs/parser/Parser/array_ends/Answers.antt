@@ -10,7 +10,8 @@ pub returns-in_err-container_ends-clause-outcome : goal.returns-in_err-container
 returns-in_err-container_ends-clause-outcome c fs v here =
     let t = c.args.self.now.cursor in
     let failed = err_from_is_err_and c.from_residual.result c.from_residual.ensures.1 in
-    fails_on t t _ (after_value fs v) (after_value fs v) c.from_residual.result _ failed.0 failed.1 (reached_start t (after_value fs v))
+    fails_on t t _ (after_value fs v) (after_value fs v) c.from_residual.result _ failed.0 failed.1
+    (reached_start t (after_value fs v))
     (rw failed.2 (c.in_err-container_ends.ensures fs v here))
 
 pub returns-then-branch-clause-outcome : goal.returns-then-branch-clause-outcome

@@ -65,7 +65,8 @@ returns-then-branch-clause-outcome c =
           (before (array_frame fs (vs ++ v ∷ []))))) c.if-branch.true
           ∙ ap (λ s. left n.cursor (after_value (stack_view s.items) (array (values_of (vs ++ v ∷ [])))))
           (sym c.in_ok-array_ends-in-Array.ensures.stack)
-          ∙ ap (λ x. left n.cursor (after_value (stack_view n.stack.items) x)) (sym (view-Array c.array_ends.new.elements
+          ∙ ap (λ x. left n.cursor (after_value (stack_view n.stack.items) x))
+          (sym (view-Array c.array_ends.new.elements
           ∙ ap (λ xs. array (values_of (map view xs))) c.in_ok-array_ends-in-Array.ensures.items
           ∙ ap (λ xs. array (values_of xs)) (elements_pushed at))),
     )

@@ -221,9 +221,11 @@ returns-in_err-array_ends-clause-outcome c =
     let at = (goal.at.returns-in_err-array_ends-clause-outcome c).After-array_ends in
     let failed = err_from_is_err_and c.from_residual-in_err-array_ends.result
     c.from_residual-in_err-array_ends.ensures.1 in
-    fails_on c.args.self.now.cursor c.if-opens_container.self.cursor _ _ (after_value (array_frame fs vs) (more at).value)
+    fails_on c.args.self.now.cursor c.if-opens_container.self.cursor _ _
+    (after_value (array_frame fs vs) (more at).value)
     c.from_residual-in_err-array_ends.result _
-    failed.0 failed.1 (came at) (rw failed.2 (c.in_err-array_ends.ensures.outcome (array_frame fs vs) (more at).value refl))
+    failed.0 failed.1 (came at)
+    (rw failed.2 (c.in_err-array_ends.ensures.outcome (array_frame fs vs) (more at).value refl))
 
 pub returns-then-branch-clause-ready : goal.returns-then-branch-clause-ready
 returns-then-branch-clause-ready c =
@@ -254,7 +256,8 @@ returns-then-branch-clause-outcome c =
           (before (array_frame fs (vs ++ v ∷ []))))) c.if-branch.true
           ∙ ap (λ s. left n.cursor (after_value (stack_view s.items) (array (values_of (vs ++ v ∷ [])))))
           (sym (c.in_ok-array_ends.ensures.stack ∙ stack_kept at))
-          ∙ ap (λ x. left n.cursor (after_value (stack_view n.stack.items) x)) (sym (view-Array c.array_ends.new.elements
+          ∙ ap (λ x. left n.cursor (after_value (stack_view n.stack.items) x))
+          (sym (view-Array c.array_ends.new.elements
           ∙ ap (λ xs. array (values_of (map view xs))) c.in_ok-array_ends.ensures.items
           ∙ ap (λ xs. array (values_of xs)) (more at).grown)),
     )

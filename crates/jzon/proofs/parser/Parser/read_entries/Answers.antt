@@ -7,11 +7,13 @@ use Rattle.jzon_tree.specs.View.{view, viewed}
 use Rattle.jzon_tree.proofs.Views.{viewed-put}
 use Rattle.jzon.specs.Private.Cursor.{left}
 use Rattle.jzon.specs.Private.Frames.{IsReady, state_of, stack_view}
-use Rattle.jzon.specs.Private.Machine.{array_frame, object_frame, frames_depth, before, before_key, after_value, key_mark}
+use Rattle.jzon.specs.Private.Machine.{array_frame, object_frame, frames_depth, before, before_key, after_value}
+use Rattle.jzon.specs.Private.Machine.{key_mark}
 use Rattle.jzon.proofs.Texts.Cursors.{Reached, reached_start, reached, goes_after, goes_on, fails_on}
 use Rattle.jzon.proofs.Containers.FrameViews.{frames_depth-stack, key_mark-shallow, some_put}
 use Rattle.jzon.proofs.Containers.FrameViews.{stack_view-push, closed_on, closed_ready}
-use Rattle.jzon.proofs.parser.Parser.read_entries.Goals.{After-read_key, In_ok-key, After-len-depth, After-container_ends}
+use Rattle.jzon.proofs.parser.Parser.read_entries.Goals.{After-read_key, In_ok-key, After-len-depth}
+use Rattle.jzon.proofs.parser.Parser.read_entries.Goals.{After-container_ends}
 use Rattle.jzon.proofs.parser.Parser.read_entries.Goals as goal
 
 pub loop-entries-init : goal.loop-entries-init
@@ -101,10 +103,13 @@ returns-in_err-value_start-clause-outcome c =
     let here = object_frame (stack_view c.args.self.now.stack.items) (viewed c.loop-entries.entries)
     c.in_ok-key.key in
     let at = goal.at.returns-in_err-value_start-clause-outcome c in
-    let failed = err_from_is_err_and c.from_residual-in_err-value_start.result c.from_residual-in_err-value_start.ensures.1 in
-    fails_on c.args.self.now.cursor c.read_key.new.self.cursor _ _ (before here) c.from_residual-in_err-value_start.result _
+    let failed = err_from_is_err_and c.from_residual-in_err-value_start.result
+    c.from_residual-in_err-value_start.ensures.1 in
+    fails_on c.args.self.now.cursor c.read_key.new.self.cursor _ _ (before here)
+    c.from_residual-in_err-value_start.result _
     failed.0 failed.1 (keyed at.In_ok-key)
-    (rw failed.2 (c.in_err-value_start.ensures.outcome here (depth_here at.After-len-depth) (λ f. absurd (true≢false (sym f)))))
+    (rw failed.2 (c.in_err-value_start.ensures.outcome here (depth_here at.After-len-depth)
+    (λ f. absurd (true≢false (sym f)))))
 
 -- ---- the value is a container that isn't empty
 
@@ -226,7 +231,8 @@ returns-then-branch-clause-ready c =
     let fs = stack_view c.args.self.now.stack.items in
     let es = viewed c.loop-entries.entries in
     let at = goal.at.returns-then-branch-clause-ready c in
-    let reading = (c.in_ok-container_ends.ensures (object_frame fs es c.in_ok-key.key) (view c.in-Value.value) refl).0.reading
+    let reading = (
+    c.in_ok-container_ends.ensures (object_frame fs es c.in_ok-key.key) (view c.in-Value.value) refl).0.reading
     ∙ (came at.After-container_ends (keyed at.In_ok-key)).reading in
     closed_ready c.close_object.new.self.cursor (vec_len c.close_object.new.self.stack)
     (object (pairs_of (viewed c.push.new.self))) c.close_object.result c.close_object.ensures.value
@@ -270,7 +276,8 @@ loop-entries-smaller c =
     let here = object_frame fs es c.in_ok-key.key in
     let at = goal.at.loop-entries-smaller c in
     let key = c.in_ok-key.ensures.outcome fs (mark_here at.After-read_key) c.loop-entries.invariant.key in
-    let read = c.in_ok-value_start.ensures.outcome here (depth_here at.After-len-depth) (λ f. absurd (true≢false (sym f))) in
+    let read = c.in_ok-value_start.ensures.outcome here (depth_here at.After-len-depth)
+    (λ f. absurd (true≢false (sym f))) in
     let ends = c.in_ok-container_ends.ensures (object_frame fs es c.in_ok-key.key) (view c.in-Value.value) refl in
     omega (
       arith,
@@ -299,7 +306,8 @@ loop-entries-preserved c =
       key = λ none. absurd (some_put k v es (sym more ∙ none));
       came = reached t u _ (before_key fs (viewed c.push.new.self)) (
         read.0,
-        read.1 ∙ ap (λ b. left u (cond b (after_value fs (object (pairs_of (put k v es)))) (before_key fs (put k v es))))
+        read.1 ∙ ap (λ b. left u (cond b (after_value fs (object (pairs_of (put k v es))))
+            (before_key fs (put k v es))))
             c.if-branch.false
             ∙ ap (λ xs. left u (before_key fs xs)) (sym more),
       );
