@@ -3,6 +3,8 @@
 use Rattle.std.specs.Prelude.{ℕ, zero, suc, if◌then◌else◌, List, [], ◌∷◌, Option, None, Some}
 use Rattle.std.specs.List.{fold}
 use Rattle.std.specs.Str.{bytes_eq}
+use Rattle.std.specs.declared.alloc.Global.{Global}
+use Rattle.std.specs.declared.boxed.Box.{Box}
 pub use Rattle.std.specs.Map.{keys_of, values_of}
 
 -- the value at k, or none
@@ -35,3 +37,8 @@ set_value (p ∷ ps) (suc i) v = p ∷ set_value ps i v
 abbrev pub with_default : {V : Type 0} → List ℕ → V → List (List ℕ × V) → List (List ℕ × V)
 with_default k v [] = (k, v) ∷ []
 with_default k v (p ∷ ps) = if bytes_eq p.0 k then p ∷ ps else p ∷ with_default k v ps
+
+-- the entries in a box, and none if there is no box
+abbrev pub entries_in : {V : Type 0} → Option (Box (List (List ℕ × V)) Global) → List (List ℕ × V)
+entries_in None = []
+entries_in (Some b) = b.value

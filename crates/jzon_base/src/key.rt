@@ -6,13 +6,14 @@ ghost use Rattle.std.specs.Str.{bytes_eq};
 ghost use Rattle.std.specs.Cmp.{partial_equiv_from_equiv};
 ghost use Rattle.std.specs.Cmp.Lexicographic.{nat_list_eq_equiv};
 
-mod inline;
-
 use crate::error::{self, Error};
-use inline::Inline;
+use crate::inline::Inline;
 use std::alloc::{AllocError, Global};
 use std::fmt;
 use std::marker::Model;
+
+/// The most bytes of text that is stored inline.
+const INLINE_MAX: usize = 32;
 
 /// A key of an object. In clauses a key is its bytes.
 ///
@@ -24,7 +25,7 @@ pub struct Key {
 
 #[derive(Drop)]
 enum Text {
-    Inline(Inline),
+    Inline(Inline<INLINE_MAX>),
     Owned(String),
 }
 
@@ -45,7 +46,7 @@ impl Key {
         ensures bytes { IfOk result (λ k. k ≡ text.now) }
         ensures long { OnErr result (32 < length text.now) }
     {
-        if text.len() <= inline::MAX_LEN {
+        if text.len() <= INLINE_MAX {
             return Ok(Key {
                 text: Text::Inline(Inline::new(text)),
             });

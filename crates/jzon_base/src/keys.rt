@@ -2,8 +2,8 @@
 //! (docs/RULES.md, "Objects").
 //!
 //! How a key is found, by what holds the keys:
-//! - `Table`, of an object: up to eight keys are compared one by one.
-//! - `Runs`, in a `Table` from the ninth key on: entries of hash and position in few sorted runs,
+//! - `Keys`, of an object: up to eight keys are compared one by one.
+//! - `Runs`, in `Keys` from the ninth key on: entries of hash and position in few sorted runs,
 //!   each asked by binary search.
 //! - `Few`, in a builder after a merge that leaves at most 64 keys: slots by the hash, by which an
 //!   entry of a repeated key finds its position.
@@ -12,12 +12,14 @@
 //! - `Known`, in such a builder, for a key that `Marks` doesn't reject: runs sorted by hash and
 //!   text.
 //! - `Notes` has the last three of one builder, in a box that small objects never need.
-ghost use Rattle.std.specs.Prelude.{◌≡◌, ◌<◌, ◌++◌, ◌∷◌, ◌==◌, [], length, remove, slice_get, IfOk, OnOk, OnErr};
-ghost use Rattle.std.specs.Prelude.{MatchOption, None, Some, false, true};
+ghost use Rattle.std.specs.Prelude.{◌≡◌, ◌<◌, ◌++◌, ◌∷◌, ◌==◌, [], length, remove, slice_get, map};
+ghost use Rattle.std.specs.Prelude.{IfOk, OnOk, OnErr, MatchOption, None, Some, false};
 ghost use Rattle.std.specs.List.{position, zip, IsDistinct};
-ghost use Rattle.std.specs.Map.Calls.{CalledAtPair, CallableOnEachPair, RetainsPairs, TakesPair};
 ghost use Rattle.std.specs.Str.{bytes_eq};
 ghost use Rattle.jzon_base.specs.PairList.{put_each};
+ghost use Rattle.jzon_base.specs.Private.Handed.{IsIndexOf};
+ghost use Rattle.jzon_base.specs.Private.Hash.{hash_of};
+ghost use Rattle.jzon_base.specs.Private.Keys.{IsIndex, IsIndexed};
 
 mod few;
 pub mod hash;
@@ -28,33 +30,158 @@ mod known;
 mod marks;
 pub(crate) mod notes;
 mod repeats;
+mod retain;
 pub mod runs;
-mod table;
 
 use crate::key::Key;
+use crate::util::fit::reserve_next;
+use hash::hash_of;
 pub use into_iter::IntoIter;
 pub use iter::Iter;
+use runs::Runs;
 use std::alloc::{AllocError, Global};
 use std::marker::Model;
-use table::Table;
 
-/// Distinct keys in the order in which they were put. A clause sees the list of their bytes.
+/// Distinct keys in the order in which they were put, and the index in which the position of each
+/// is found. A clause sees the list of their bytes.
 ///
-/// They are in a box; there is none where no key was put and no room asked for. How the position of
-/// a key is found is private to this type.
+/// Few keys need no index: a look-up compares them one by one. The hash of a key is computed here
+/// and passed to the index.
 #[derive(Drop)]
 pub struct Keys {
-    alloc: Global,
-    table: Option<Box<Table>>,
+    keys: Vec<Key>,
+    index: Runs,
 }
 
 impl Model for Keys {
     ghost use Rattle.std.specs.Prelude.{List, ℕ};
-    ghost use Rattle.jzon_base.specs.Private.Keys.{keys_in};
+    ghost use Rattle.jzon_base.specs.Private.Keys.{IsTable};
 
     ghost Value = { List (List ℕ) };
 
-    ghost view = { λ k. keys_in k.table };
+    ghost view = { λ k. k.keys.items };
+
+    ghost invariant = { λ k. IsTable k.keys.items k.index };
+}
+
+/// No entry, with room for those of `capacity` keys, or none where `capacity` keys need no index.
+/// The error is a failed allocation.
+fn room_for(alloc: Global, capacity: usize) -> Result<Runs, AllocError>
+    ensures { IfOk result (λ r. r ≡ []) }
+{
+    if capacity <= index::LINEAR_MAX {
+        return Ok(Runs::new(alloc));
+    }
+    let entries = Vec::with_capacity(alloc, capacity)?;
+    Runs::of(alloc, entries)
+}
+
+/// The index of keys, or none where they are few. The error is a failed allocation.
+fn index_of(alloc: Global, keys: &[Key]) -> Result<Runs, AllocError>
+    ensures { IfOk result (λ r. IsIndexed keys.now r) }
+{
+    if keys.len() <= index::LINEAR_MAX {
+        return Ok(Runs::new(alloc));
+    }
+    let entries = index::of(alloc, keys)?;
+    Runs::of(alloc, entries)
+}
+
+/// Adds all keys to an empty index. The error is a failed allocation.
+fn add_all(alloc: Global, keys: &[Key], index: &mut Runs) -> Result<(), AllocError>
+    requires { index.old ≡ [] }
+    ensures { OnOk result (IsIndexOf (map hash_of keys.now) index.new) }
+{
+    for (at, key) in keys.iter().enumerate() {
+        index.add(alloc, hash_of(key.as_str()), at)?;
+    }
+    Ok(())
+}
+
+/// Adds all keys to an empty index. The error is a failed allocation, and then the index is empty.
+fn fill(alloc: Global, keys: &[Key], index: &mut Runs) -> Result<(), AllocError>
+    requires { index.old ≡ [] }
+    ensures ok { OnOk result (IsIndexOf (map hash_of keys.now) index.new) }
+    ensures err { OnErr result (index.new ≡ []) }
+{
+    if let Err(error) = add_all(alloc, keys, index) {
+        index.clear();
+        return Err(error);
+    }
+    Ok(())
+}
+
+/// Adds a key that is put after these keys to their index, which is filled first where it is empty.
+/// The error is a failed allocation.
+#[inline(never)]
+fn add_entry(alloc: Global, keys: &[Key], index: &mut Runs, name: &str) -> Result<(), AllocError>
+    requires { IsIndexed keys.now index.old }
+    ensures ok { OnOk result (IsIndexed (keys.now ++ name.now ∷ []) index.new) }
+    ensures err { OnErr result (IsIndexed keys.now index.new) }
+{
+    if index.is_empty() {
+        fill(alloc, keys, index)?;
+    }
+    index.add(alloc, hash_of(name), keys.len())
+}
+
+/// Adds a key that is put after these keys to their index, if they have one or are no longer few.
+/// The error is a failed allocation.
+#[inline(always)]
+fn add_key(alloc: Global, keys: &[Key], index: &mut Runs, name: &str) -> Result<(), AllocError>
+    requires { IsIndexed keys.now index.old }
+    ensures ok { OnOk result (IsIndexed (keys.now ++ name.now ∷ []) index.new) }
+    ensures err { OnErr result (IsIndexed keys.now index.new) }
+{
+    if keys.len() < index::LINEAR_MAX && index.is_empty() {
+        return Ok(());
+    }
+    add_entry(alloc, keys, index, name)
+}
+
+/// The position of a key by its index. A missing key is put last, and the result is `None`. The
+/// error is a failed allocation, and then the keys are those from before.
+#[inline(never)]
+fn put_indexed(
+    alloc: Global,
+    keys: &mut Vec<Key>,
+    index: &mut Runs,
+    name: &str,
+) -> Result<Option<usize>, AllocError>
+    requires table { IsDistinct bytes_eq keys.old.items
+        × IsIndexOf (map hash_of keys.old.items) index.old }
+    ensures table { IsDistinct bytes_eq keys.new.items
+        × IsIndexOf (map hash_of keys.new.items) index.new }
+    ensures position { IfOk result (λ place. place
+        ≡ position (λ k. bytes_eq k name.now) keys.old.items) }
+    ensures ok { IfOk result (λ place. MatchOption place
+        (keys.new.items ≡ keys.old.items ++ name.now ∷ []) (λ _. keys.new.items ≡ keys.old.items)) }
+    ensures err { OnErr result (keys.new.items ≡ keys.old.items) }
+    ensures missing { OnErr result (position (λ k. bytes_eq k name.now) keys.old.items ≡ None) }
+{
+    let hash = hash_of(name);
+    let guess = match index.search(keys.as_slice(), hash, name) {
+        Ok(position) => return Ok(Some(position)),
+        Err(guess) => guess,
+    };
+    reserve_next(keys)?;
+    let key = Key::new(alloc, name)?;
+    index.add_near(alloc, hash, keys.len(), guess)?;
+    keys.push_reserved(key);
+    Ok(None)
+}
+
+/// A copy of each key. The error is a failed allocation.
+fn copy_each(alloc: Global, keys: &[Key]) -> Result<Vec<Key>, AllocError>
+    ensures { IfOk result (λ v. v.items ≡ keys.now) }
+{
+    let mut copies = Vec::with_capacity(alloc, keys.len())?;
+    for key in keys {
+        if !key.push_inline(&mut copies) {
+            copies.push_reserved(key.clone(alloc)?);
+        }
+    }
+    Ok(copies)
 }
 
 impl Keys {
@@ -62,17 +189,10 @@ impl Keys {
     pub fn new(alloc: Global) -> Keys
         ensures { result ≡ [] }
     {
-        Keys { alloc, table: None }
-    }
-
-    /// The keys of a table. The error is a failed allocation.
-    fn boxed(alloc: Global, table: Table) -> Result<Keys, AllocError>
-        ensures { IfOk result (λ k. k ≡ table) }
-    {
-        Ok(Keys {
-            alloc,
-            table: Some(Box::new(alloc, table)?),
-        })
+        Keys {
+            keys: Vec::new(alloc),
+            index: Runs::new(alloc),
+        }
     }
 
     /// No key, with room for `capacity` of them and for their index. The error is a failed
@@ -80,10 +200,32 @@ impl Keys {
     pub fn with_capacity(alloc: Global, capacity: usize) -> Result<Keys, AllocError>
         ensures { IfOk result (λ k. k ≡ []) }
     {
-        if capacity == 0 {
-            return Ok(Keys::new(alloc));
-        }
-        Keys::boxed(alloc, Table::with_capacity(alloc, capacity)?)
+        Ok(Keys {
+            keys: Vec::with_capacity(alloc, capacity)?,
+            index: room_for(alloc, capacity)?,
+        })
+    }
+
+    /// The keys of entries of which some may repeat, and their index: the entries of equal keys
+    /// become one, with the last value at the position of the first. The error is a failed
+    /// allocation, and then what is in `values` is unspecified.
+    fn from_repeats<V: Drop>(
+        alloc: Global,
+        mut keys: Vec<Key>,
+        values: &mut Vec<V>,
+        mut index: Vec<(u64, usize)>,
+    ) -> Result<Keys, AllocError>
+        requires even { length values.old.items ≡ length keys.items }
+        requires index { IsIndex keys.items index.items }
+        ensures even { IfOk result (λ k. length values.new.items ≡ length k) }
+        ensures merged { IfOk result (λ k. zip k values.new.items
+            ≡ put_each (zip keys.items values.old.items)) }
+    {
+        let firsts = repeats::firsts(alloc, keys.as_slice(), index.as_mut_slice())?;
+        drop(index);
+        repeats::merge(&mut keys, values, firsts);
+        let index = index_of(alloc, keys.as_slice())?;
+        Ok(Keys { keys, index })
     }
 
     /// The keys of entries: those of equal keys become one, with the last value at the position of
@@ -99,11 +241,18 @@ impl Keys {
         ensures merged { IfOk result (λ k. zip k values.new.items
             ≡ put_each (zip keys.items values.old.items)) }
     {
-        if keys.is_empty() {
-            return Ok(Keys::new(alloc));
+        if keys.len() <= index::LINEAR_MAX && index::are_distinct(keys.as_slice()) {
+            return Ok(Keys {
+                keys,
+                index: Runs::new(alloc),
+            });
         }
-        let table = Table::from_entries(alloc, keys, values)?;
-        Keys::boxed(alloc, table)
+        let index = index::of(alloc, keys.as_slice())?;
+        if index::has_tie(index.as_slice()) {
+            return Keys::from_repeats(alloc, keys, values, index);
+        }
+        let index = Runs::of(alloc, index)?;
+        Ok(Keys { keys, index })
     }
 
     /// How many keys there are.
@@ -111,10 +260,7 @@ impl Keys {
         ensures len { result ≡ length self.now }
         ensures distinct { IsDistinct bytes_eq self.now }
     {
-        match &self.table {
-            Some(table) => table.len(),
-            None => 0,
-        }
+        self.keys.len()
     }
 
     /// Whether there is no key.
@@ -128,10 +274,10 @@ impl Keys {
     pub fn position(&self, name: &str) -> Option<usize>
         ensures { result ≡ position (λ k. bytes_eq k name.now) self.now }
     {
-        match &self.table {
-            Some(table) => table.position(name),
-            None => None,
+        if self.index.is_empty() {
+            return index::position(self.keys.as_slice(), name);
         }
+        self.index.find(self.keys.as_slice(), hash_of(name), name)
     }
 
     /// The key at a position.
@@ -139,35 +285,42 @@ impl Keys {
         requires { index < length self.now }
         ensures { slice_get self.now index ≡ Some result.now }
     {
-        match &self.table {
-            Some(table) => table.get(index),
-            None => unreachable!(),
-        }
+        self.keys[index].as_str()
     }
 
-    /// Puts the first key. The error is a failed allocation.
-    #[inline(never)]
-    fn push_first(&mut self, alloc: Global, name: &str) -> Result<(), AllocError>
-        requires { self.old ≡ [] }
-        ensures ok { OnOk result (self.new ≡ name.now ∷ []) }
-        ensures err { OnErr result (self.new ≡ self.old) }
-    {
-        let mut table = Box::new(alloc, Table::new(alloc))?;
-        table.push(alloc, name)?;
-        self.table = Some(table);
-        Ok(())
-    }
-
-    /// Puts a key that is not there, last. The error is a failed allocation.
+    /// Adds a key that is missing, last. The error is a failed allocation.
+    #[inline(always)]
     pub fn push(&mut self, alloc: Global, name: &str) -> Result<(), AllocError>
         requires { position (λ k. bytes_eq k name.now) self.old ≡ None }
         ensures ok { OnOk result (self.new ≡ self.old ++ name.now ∷ []) }
         ensures err { OnErr result (self.new ≡ self.old) }
     {
-        if let Some(table) = &mut self.table {
-            return table.push(alloc, name);
+        reserve_next(&mut self.keys)?;
+        let key = Key::new(alloc, name)?;
+        add_key(alloc, self.keys.as_slice(), &mut self.index, name)?;
+        self.keys.push_reserved(key);
+        Ok(())
+    }
+
+    /// The position of a key. A missing key is put last, and the result is `None`. The error is a
+    /// failed allocation, and then nothing has changed.
+    pub fn put(&mut self, alloc: Global, name: &str) -> Result<Option<usize>, AllocError>
+        ensures position { IfOk result (λ place. place
+            ≡ position (λ k. bytes_eq k name.now) self.old) }
+        ensures ok { IfOk result (λ place. MatchOption place
+            (self.new ≡ self.old ++ name.now ∷ []) (λ _. self.new ≡ self.old)) }
+        ensures err { OnErr result (self.new ≡ self.old) }
+        ensures missing { OnErr result (position (λ k. bytes_eq k name.now) self.old ≡ None) }
+    {
+        if !self.index.is_empty() {
+            return put_indexed(alloc, &mut self.keys, &mut self.index, name);
         }
-        self.push_first(alloc, name)
+        let found = index::position(self.keys.as_slice(), name);
+        if found.is_some() {
+            return Ok(found);
+        }
+        self.push(alloc, name)?;
+        Ok(None)
     }
 
     /// The position of a key. A missing key is put last, and the result is `None`. The error is a
@@ -181,75 +334,38 @@ impl Keys {
         self.put(alloc, key.as_str())
     }
 
-    /// The same, for a key of this name, which is made only where it is missing.
-    pub fn put(&mut self, alloc: Global, name: &str) -> Result<Option<usize>, AllocError>
-        ensures position { IfOk result (λ place. place
-            ≡ position (λ k. bytes_eq k name.now) self.old) }
-        ensures ok { IfOk result (λ place. MatchOption place
-            (self.new ≡ self.old ++ name.now ∷ []) (λ _. self.new ≡ self.old)) }
-        ensures err { OnErr result (self.new ≡ self.old) }
-        ensures missing { OnErr result (position (λ k. bytes_eq k name.now) self.old ≡ None) }
-    {
-        if let Some(table) = &mut self.table {
-            return table.put(alloc, name);
-        }
-        self.push_first(alloc, name)?;
-        Ok(None)
-    }
-
     /// Removes the key at a position. The others keep their order. Takes no memory.
     pub fn remove(&mut self, index: usize)
         requires { index < length self.old }
         ensures { self.new ≡ remove self.old index }
     {
-        match &mut self.table {
-            Some(table) => table.remove(index),
-            None => unreachable!(),
-        }
-    }
-
-    /// Keeps the keys and the values for which `keep` returns `true`, in their order. Takes no
-    /// memory.
-    pub fn retain<V: Drop, F: FnMut(&str, &mut V) -> bool>(&mut self, values: &mut Vec<V>, keep: F)
-        requires even { length values.old.items ≡ length self.old }
-        requires callable { CallableOnEachPair (CalledAtPair F.FnMut) (TakesPair F.FnMut) keep
-            (zip self.old values.old.items) }
-        ensures even { length values.new.items ≡ length self.new }
-        ensures kept { RetainsPairs (CalledAtPair F.FnMut) keep (zip self.old values.old.items)
-            (zip self.new values.new.items) }
-    {
-        if let Some(table) = &mut self.table {
-            table.retain(values, keep);
-        }
+        drop(self.keys.remove(index));
+        self.index.cut(index);
     }
 
     /// Removes all keys.
     pub fn clear(&mut self)
         ensures { self.new ≡ [] }
     {
-        if let Some(table) = &mut self.table {
-            table.clear();
-        }
+        self.keys.clear();
+        self.index.clear();
     }
 
     /// A copy. Its error is a failed allocation.
     pub fn clone(&self, alloc: Global) -> Result<Keys, AllocError>
         ensures { IfOk result (λ k. k ≡ self.now) }
     {
-        match &self.table {
-            Some(table) => Keys::boxed(alloc, table.as_ref().clone(alloc)?),
-            None => Ok(Keys::new(alloc)),
-        }
+        Ok(Keys {
+            keys: copy_each(alloc, self.keys.as_slice())?,
+            index: self.index.clone(alloc)?,
+        })
     }
 
     /// The keys in their order, each by its text.
     pub fn iter(&self) -> Iter<'_>
         ensures { result ≡ self.now }
     {
-        if let Some(table) = &self.table {
-            return table.iter();
-        }
-        Iter::empty()
+        Iter::new(self.keys.as_slice())
     }
 }
 
@@ -300,9 +416,6 @@ impl IntoIterator for Keys {
     ghost into_iter_gives = { λ k it. it ≡ k };
 
     fn into_iter(self) -> IntoIter {
-        match self.table {
-            Some(table) => Box::into_inner(table).into_iter(),
-            None => Table::new(self.alloc).into_iter(),
-        }
+        IntoIter::new(self.keys)
     }
 }

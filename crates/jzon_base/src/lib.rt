@@ -4,6 +4,7 @@
 
 pub mod digits;
 pub mod error;
+mod inline;
 pub mod key;
 pub mod keys;
 pub mod number;

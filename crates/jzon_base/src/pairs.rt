@@ -1,20 +1,22 @@
 //! Keys and values side by side (docs/RULES.md, "Objects").
-ghost use Rattle.std.specs.Prelude.{◌≡◌, ◌<◌, ◌-◌, ◌++◌, ◌∷◌, ◌==◌, [], length, remove, slice_get, OnOk, OnErr, IfOk};
-ghost use Rattle.std.specs.Prelude.{IsSome, Some, None, vec_len, vec_capacity};
+ghost use Rattle.std.specs.Prelude.{◌≡◌, ◌<◌, ◌-◌, ◌++◌, ◌∷◌, ◌==◌, [], length, remove, slice_get};
+ghost use Rattle.std.specs.Prelude.{IsSome, Some, None, OnOk, OnErr, IfOk, MatchOption};
 ghost use Rattle.std.specs.List.{position, zip, IsDistinct};
 ghost use Rattle.std.specs.Map.Calls.{CalledAtPair, CallableOnEachPair, RetainsPairs, TakesPair};
 ghost use Rattle.std.specs.Str.{bytes_eq};
 ghost use Rattle.std.specs.Option.{option_copied, option_copied_mut};
+ghost use Rattle.jzon_base.specs.PairList.{put_each};
 
 mod builder;
+mod entries;
 mod into_iter;
 mod iter;
 mod iter_mut;
 
 use crate::key::Key;
-use crate::keys::Keys;
-use crate::util::fit::reserve_next;
+use crate::keys::{self, Keys};
 pub use builder::Builder;
+use entries::Entries;
 pub use into_iter::IntoIter;
 pub use iter::Iter;
 pub use iter_mut::IterMut;
@@ -24,72 +26,101 @@ use std::marker::Model;
 
 /// Values under distinct keys, in the order in which the keys were put. A clause sees the list of
 /// entries.
+///
+/// The entries are in a box, so that what holds `Pairs` is small; there is no box where no entry
+/// was put and no room asked for.
 #[derive(Drop)]
 pub struct Pairs<V> {
-    keys: Keys,
-    values: Vec<V>,
+    alloc: Global,
+    entries: Option<Box<Entries<V>>>,
 }
 
 impl<V> Model for Pairs<V> {
-    ghost use Rattle.std.specs.Prelude.{◌≡◌, List, ℕ, length};
-    ghost use Rattle.std.specs.List.{zip};
+    ghost use Rattle.std.specs.Prelude.{List, ℕ};
     ghost use Rattle.std.specs.Coded.{coded_ℕ, coded_list, coded×};
+    ghost use Rattle.jzon_base.specs.PairList.{entries_in};
 
     ghost Value = { List (List ℕ × V) };
 
     ghost coded = { coded_list (coded× (coded_list coded_ℕ) V.code) };
 
-    ghost view = { λ p. zip p.keys p.values.items };
-
-    ghost invariant = { λ p. length p.values.items ≡ length p.keys };
-}
-
-/// Makes room for the value of this name, if no key has it. The error is a failed allocation.
-#[inline(always)]
-fn reserve_missing<V>(keys: &Keys, values: &mut Vec<V>, name: &str) -> Result<(), AllocError>
-    ensures items { values.new.items ≡ values.old.items }
-    ensures room { OnOk result (position (λ k. bytes_eq k name.now) keys.now ≡ None
-        → vec_len values.new < vec_capacity values.new) }
-    ensures missing { OnErr result (position (λ k. bytes_eq k name.now) keys.now ≡ None) }
-{
-    if values.len() < values.capacity() || keys.position(name).is_some() {
-        return Ok(());
-    }
-    reserve_next(values)
+    ghost view = { λ p. entries_in p.entries };
 }
 
 impl<V> Pairs<V> {
     ghost use Rattle.std.specs.Borrow.{sem, Lends, LendsIf, LendsIfOk};
     ghost use Rattle.jzon_base.specs.contracts.pairs.Pairs.{the_row};
-    ghost use Rattle.jzon_base.specs.PairList.{find, put, cut, set_value, keys_of, values_of, with_default};
+    ghost use Rattle.jzon_base.specs.contracts.pairs.entries.Entries.{the_row as entries_row};
+    ghost use Rattle.jzon_base.specs.PairList.{find, put, cut, set_value, keys_of, values_of};
+    ghost use Rattle.jzon_base.specs.PairList.{with_default};
 
     /// No entry. Takes no memory.
     pub fn new(alloc: Global) -> Pairs<V>
         ensures { result ≡ [] }
     {
         Pairs {
-            keys: Keys::new(alloc),
-            values: Vec::new(alloc),
+            alloc,
+            entries: None,
         }
+    }
+
+    /// These entries. The error is a failed allocation.
+    fn boxed(alloc: Global, entries: Entries<V>) -> Result<Pairs<V>, AllocError>
+    where
+        V: Drop,
+        ensures { IfOk result (λ p. p ≡ entries) }
+    {
+        Ok(Pairs {
+            alloc,
+            entries: Some(Box::new(alloc, entries)?),
+        })
     }
 
     /// No entry, with room for the keys, the values and the index of `capacity` entries. The error
     /// is a failed allocation.
     pub fn with_capacity(alloc: Global, capacity: usize) -> Result<Pairs<V>, AllocError>
+    where
+        V: Drop,
         ensures { IfOk result (λ p. p ≡ []) }
     {
-        Ok(Pairs {
-            keys: Keys::with_capacity(alloc, capacity)?,
-            values: Vec::with_capacity(alloc, capacity)?,
-        })
+        if capacity == 0 {
+            return Ok(Pairs::new(alloc));
+        }
+        let keys = Keys::with_capacity(alloc, capacity)?;
+        let values = Vec::with_capacity(alloc, capacity)?;
+        Pairs::boxed(alloc, Entries::from_parts(keys, values))
     }
 
-    /// The entries of keys and as many values.
-    pub fn from_parts(keys: Keys, values: Vec<V>) -> Pairs<V>
-        requires { length values.items ≡ length keys }
-        ensures { result ≡ zip keys values.items }
+    /// The entries that are put one after the other: those of equal keys become one, with the last
+    /// value at the position of the first. The error is a failed allocation.
+    fn from_entries(alloc: Global, keys: Vec<Key>, values: Vec<V>) -> Result<Pairs<V>, AllocError>
+    where
+        V: Drop,
+        requires { length values.items ≡ length keys.items }
+        ensures { IfOk result (λ p. p ≡ put_each (zip keys.items values.items)) }
     {
-        Pairs { keys, values }
+        if keys.is_empty() {
+            return Ok(Pairs::new(alloc));
+        }
+        let mut values = values;
+        let keys = Keys::from_entries(alloc, keys, &mut values)?;
+        Pairs::boxed(alloc, Entries::from_parts(keys, values))
+    }
+
+    /// A copy of the keys, with these values. The error is a failed allocation.
+    pub fn with_values(&self, alloc: Global, values: Vec<V>) -> Result<Pairs<V>, AllocError>
+    where
+        V: Drop,
+        requires { length values.items ≡ length self.now }
+        ensures { IfOk result (λ p. p ≡ zip (keys_of self.now) values.items) }
+    {
+        match &self.entries {
+            Some(entries) => {
+                let keys = entries.keys().clone(alloc)?;
+                Pairs::boxed(alloc, Entries::from_parts(keys, values))
+            }
+            None => Ok(Pairs::new(alloc)),
+        }
     }
 
     /// The keys, and the values in the order of their keys.
@@ -97,12 +128,15 @@ impl<V> Pairs<V> {
         ensures keys { result.0 ≡ keys_of self }
         ensures values { result.1.items ≡ values_of self }
     {
-        (self.keys, self.values)
+        match self.entries {
+            Some(entries) => Box::into_inner(entries).into_parts(),
+            None => (Keys::new(self.alloc), Vec::new(self.alloc)),
+        }
     }
 
     /// The allocator of the entries.
     pub fn allocator(&self) -> Global {
-        *self.values.allocator()
+        self.alloc
     }
 
     /// The number of entries.
@@ -110,7 +144,10 @@ impl<V> Pairs<V> {
         ensures len { result ≡ length self.now }
         ensures distinct { IsDistinct bytes_eq (keys_of self.now) }
     {
-        self.keys.len()
+        match &self.entries {
+            Some(entries) => entries.len(),
+            None => 0,
+        }
     }
 
     /// Whether there is no entry.
@@ -120,25 +157,34 @@ impl<V> Pairs<V> {
         self.len() == 0
     }
 
-    /// The keys in their order.
-    pub fn keys(&self) -> &Keys
-        ensures { result.now ≡ keys_of self.now }
+    /// The keys in their order, each by its text.
+    pub fn keys(&self) -> keys::Iter<'_>
+        ensures { result ≡ keys_of self.now }
     {
-        &self.keys
+        if let Some(entries) = &self.entries {
+            return entries.keys().iter();
+        }
+        keys::Iter::empty()
     }
 
     /// The values in the order of their keys.
     pub fn values(&self) -> &[V]
         ensures { result.now ≡ values_of self.now }
     {
-        self.values.as_slice()
+        if let Some(entries) = &self.entries {
+            return entries.values();
+        }
+        &[]
     }
 
     /// The position of a key.
     pub fn position(&self, name: &str) -> Option<usize>
         ensures { result ≡ position (λ k. bytes_eq k name.now) (keys_of self.now) }
     {
-        self.keys.position(name)
+        match &self.entries {
+            Some(entries) => entries.position(name),
+            None => None,
+        }
     }
 
     /// The entry at a position.
@@ -146,7 +192,23 @@ impl<V> Pairs<V> {
         requires { index < length self.now }
         ensures { slice_get self.now index ≡ Some (result.0.now, result.1.now) }
     {
-        (self.keys.get(index), &self.values[index])
+        match &self.entries {
+            Some(entries) => entries.get_at(index),
+            None => unreachable!(),
+        }
+    }
+
+    /// The entries in their box, to be written.
+    fn entries_mut(&mut self) -> Option<&mut Entries<V>>
+        ensures* writes_back { sem 𝓛 (LendsIf (the_row V.row) (entries_row V.row) self.entry result
+            (λ es. es) []) }
+        ensures value { MatchOption result (self.old ≡ [])
+            (λ entries. entries.now ≡ self.old) }
+    {
+        match &mut self.entries {
+            Some(entries) => Some(entries.as_mut()),
+            None => None,
+        }
     }
 
     /// The value at a position, to be written: nothing else changes.
@@ -156,7 +218,10 @@ impl<V> Pairs<V> {
             (set_value self.old index)) }
         ensures value { slice_get (values_of self.old) index ≡ Some result.now }
     {
-        &mut self.values[index]
+        match self.entries_mut() {
+            Some(entries) => entries.value_mut(index),
+            None => unreachable!(),
+        }
     }
 
     /// The value of a key.
@@ -193,6 +258,22 @@ impl<V> Pairs<V> {
         }
     }
 
+    /// Puts the first entry, in a box that is asked for before the room of keys and values. The
+    /// error is a failed allocation.
+    #[inline(never)]
+    fn push_first(&mut self, alloc: Global, name: &str, value: V) -> Result<(), AllocError>
+    where
+        V: Drop,
+        requires { self.old ≡ [] }
+        ensures ok { OnOk result (self.new ≡ (name.now, value) ∷ []) }
+        ensures err { OnErr result (self.new ≡ self.old) }
+    {
+        let mut entries = Box::new(alloc, Entries::new(alloc))?;
+        entries.push(alloc, name, value)?;
+        self.entries = Some(entries);
+        Ok(())
+    }
+
     /// Puts an entry last whose key is missing. The error is a failed allocation.
     fn push(&mut self, alloc: Global, name: &str, value: V) -> Result<(), AllocError>
     where
@@ -201,15 +282,14 @@ impl<V> Pairs<V> {
         ensures ok { OnOk result (self.new ≡ self.old ++ (name.now, value) ∷ []) }
         ensures err { OnErr result (self.new ≡ self.old) }
     {
-        reserve_next(&mut self.values)?;
-        self.keys.push(alloc, name)?;
-        self.values.push_reserved(value);
-        Ok(())
+        if let Some(entries) = &mut self.entries {
+            return entries.push(alloc, name, value);
+        }
+        self.push_first(alloc, name, value)
     }
 
     /// Puts a value under a key: in its place where the key is there, which takes no memory, else
     /// last. The error is a failed allocation.
-    #[tactic(auto, using(crate::proofs::PairPlaces::places))]
     pub fn insert(&mut self, alloc: Global, name: &str, value: V) -> Result<(), AllocError>
     where
         V: Drop,
@@ -217,12 +297,10 @@ impl<V> Pairs<V> {
         ensures err { OnErr result (self.new ≡ self.old) }
         ensures present { OnErr result (find name.now self.old ≡ None) }
     {
-        reserve_missing(&self.keys, &mut self.values, name)?;
-        match self.keys.put(alloc, name)? {
-            Some(index) => self.values[index] = value,
-            None => self.values.push_reserved(value),
+        if let Some(entries) = &mut self.entries {
+            return entries.insert(alloc, name, value);
         }
-        Ok(())
+        self.push_first(alloc, name, value)
     }
 
     /// The position of a key. Where the key is missing it is put last with `value`, and the error
@@ -282,8 +360,10 @@ impl<V> Pairs<V> {
         ensures value { slice_get (values_of self.old) index ≡ Some result }
         ensures after { self.new ≡ remove self.old index }
     {
-        self.keys.remove(index);
-        self.values.remove(index)
+        match &mut self.entries {
+            Some(entries) => entries.remove_at(index),
+            None => unreachable!(),
+        }
     }
 
     /// Removes the entry of a key, and returns its value. The others keep their order. Takes no
@@ -305,7 +385,9 @@ impl<V> Pairs<V> {
         requires { CallableOnEachPair (CalledAtPair F.FnMut) (TakesPair F.FnMut) keep self.old }
         ensures { RetainsPairs (CalledAtPair F.FnMut) keep self.old self.new }
     {
-        self.keys.retain(&mut self.values, keep);
+        if let Some(entries) = &mut self.entries {
+            entries.retain(keep);
+        }
     }
 
     /// Removes all entries.
@@ -314,8 +396,9 @@ impl<V> Pairs<V> {
         V: Drop,
         ensures { self.new ≡ [] }
     {
-        self.keys.clear();
-        self.values.clear();
+        if let Some(entries) = &mut self.entries {
+            entries.clear();
+        }
     }
 }
 

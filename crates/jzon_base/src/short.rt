@@ -5,7 +5,7 @@ ghost use Rattle.std.specs.Str.{bytes_eq};
 ghost use Rattle.jzon_base.specs.declared.error.Error.TheVariants.{OutOfMemory};
 
 use crate::error::Result;
-use arrayvec::ArrayString;
+use crate::inline::Inline;
 use std::alloc::Global;
 use std::fmt;
 use std::marker::Model;
@@ -16,7 +16,7 @@ pub const MAX_LEN: usize = 30;
 /// A string of at most `MAX_LEN` bytes, stored in the value itself, so that it allocates nothing.
 #[derive(Drop)]
 pub struct Short {
-    text: ArrayString<MAX_LEN>,
+    text: Inline<MAX_LEN>,
 }
 
 impl Model for Short {
@@ -24,7 +24,7 @@ impl Model for Short {
 
     ghost Value = { List ℕ };
 
-    ghost view = { λ s. s.text.bytes };
+    ghost view = { λ s. s.text };
 }
 
 impl Short {
@@ -33,16 +33,18 @@ impl Short {
         requires { length slice.now ≤ MAX_LEN }
         ensures { result ≡ slice.now }
     {
-        let mut text = ArrayString::new();
-        text.push_str(slice);
-        Short { text }
+        Short {
+            text: Inline::new(slice),
+        }
     }
 
     /// A copy. It allocates nothing.
     pub fn clone(&self) -> Short
         ensures { result ≡ self.now }
     {
-        Short { text: self.text }
+        Short {
+            text: self.text.clone(),
+        }
     }
 
     /// The string.

@@ -1,7 +1,6 @@
 //! Pairs, and pairs that are built of entries.
 
 use jzon_base::key::Key;
-use jzon_base::keys::Keys;
 use jzon_base::pairs::{Builder, IntoIter, Iter, IterMut, Pairs};
 use jzon_test_support::{RUNS_MAX, Refusals, keys_by_hash};
 use std::alloc::{AllocError, Global};
@@ -169,26 +168,33 @@ fn finds_values_and_places(rt: HostRuntime) -> Result<(), AllocError> {
     for (name, value, place) in [("b", Some(3u32), Some(1usize)), ("c", None, None)] {
         assert_eq!(rt; pairs.get(name).copied(), value);
         assert_eq!(rt; pairs.position(name), place);
-        assert_eq!(rt; pairs.keys().position(name), place);
     }
     Ok(())
 }
 
-/// The text of the pairs of keys and values, or none where they aren't as many.
-fn joined(alloc: Global, keys: Keys, values: Vec<u32>) -> Result<Option<String>, AllocError> {
-    if keys.len() != values.len() {
+/// The text of the keys with these values, or none where they aren't as many.
+fn joined(
+    alloc: Global,
+    pairs: &Pairs<u32>,
+    values: Vec<u32>,
+) -> Result<Option<String>, AllocError> {
+    if pairs.len() != values.len() {
         return Ok(None);
     }
-    let text = shown(alloc, &Pairs::from_parts(keys, values))?;
+    let text = shown(alloc, &pairs.with_values(alloc, values)?)?;
     Ok(Some(text))
 }
 
 #[test]
 fn joins_keys_and_values(rt: HostRuntime) -> Result<(), AllocError> {
     let pairs = of_pairs(rt.alloc(), &[("a", 1), ("b", 2)])?;
-    let keys = pairs.keys().clone(rt.alloc())?;
-    let text = joined(rt.alloc(), keys, vec![in rt.alloc(); 8, 9]?)?;
+    let text = joined(rt.alloc(), &pairs, vec![in rt.alloc(); 8, 9]?)?;
     assert!(rt; text.is_some_and(|text| text.as_str() == "a8 b9 "));
+    let none = Pairs::new(rt.alloc());
+    assert_eq!(rt;
+        joined(rt.alloc(), &none, Vec::new(rt.alloc()))?.map(|text| text.len()),
+        Some(0)
+    );
     Ok(())
 }
 

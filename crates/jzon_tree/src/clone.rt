@@ -7,7 +7,6 @@ ghost use Rattle.jzon_tree.specs.View.{view, view_object};
 use crate::object::Object;
 use crate::value::JsonValue;
 use jzon_base::error::{Error, Result};
-use jzon_base::pairs::Pairs;
 use jzon_base::util::copies::copy_number;
 use std::alloc::Global;
 
@@ -57,9 +56,8 @@ fn copy_object(alloc: Global, object: &Object) -> Result<Object>
     ensures memory { IsOkUnless result Error.OutOfMemory }
 {
     let values = copy_items(alloc, object.pairs.values())?;
-    let keys = object.pairs.keys().clone(alloc)?;
     Ok(Object {
-        pairs: Pairs::from_parts(keys, values),
+        pairs: object.pairs.with_values(alloc, values)?,
     })
 }
 

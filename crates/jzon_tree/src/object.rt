@@ -234,7 +234,7 @@ impl Object {
     pub fn keys(&self) -> Keys<'_>
         ensures { result ≡ keys_of (entries_of self.now) }
     {
-        self.pairs.keys().iter()
+        self.pairs.keys()
     }
 
     /// The values in the order of their keys, from both ends.
@@ -327,7 +327,8 @@ impl Iterator for IntoIter {
     fn size_hint(&self) -> (usize, Option<usize>)
         ensures lower { IsWithinCount result.0 (at_most (length (entries_left self.now))) }
         ensures upper { IfSome result.1 (UpTo (at_most (length (entries_left self.now)))) }
-        ensures exact { result ≡ (length (entries_left self.now), Some (length (entries_left self.now))) }
+        ensures exact { result
+            ≡ (length (entries_left self.now), Some (length (entries_left self.now))) }
     {
         self.pairs.size_hint()
     }

@@ -5,8 +5,8 @@ ghost use Rattle.jzon_base.specs.PairList.{find, put};
 
 use super::Pairs;
 use crate::key::Key;
+use crate::keys;
 use crate::keys::notes::{self, Notes};
-use crate::keys::{self, Keys};
 use crate::util::fit::fit;
 use std::alloc::{AllocError, Global};
 use std::marker::Model;
@@ -136,7 +136,6 @@ impl<V: Drop> Builder<V> {
         let mut values = self.values;
         fit(alloc, &mut keys)?;
         fit(alloc, &mut values)?;
-        let keys = Keys::from_entries(alloc, keys, &mut values)?;
-        Ok(Pairs { keys, values })
+        Pairs::from_entries(alloc, keys, values)
     }
 }

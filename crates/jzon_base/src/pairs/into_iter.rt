@@ -4,6 +4,7 @@ ghost use Rattle.std.specs.Iterator.{YieldsFirst, YieldsLast, item_count, at_mos
 ghost use Rattle.std.specs.Iterator.SizeHint.{IsWithinCount};
 
 use super::Pairs;
+use super::entries::Entries;
 use crate::key::Key;
 use crate::keys;
 use std::iter::FusedIterator;
@@ -73,6 +74,19 @@ impl<V: Drop> ExactSizeIterator for IntoIter<V> {
 
 impl<V: Drop> FusedIterator for IntoIter<V> {}
 
+impl<V> Entries<V> {
+    /// The entries, each as its key and its value.
+    fn into_entries(self) -> IntoIter<V>
+        ensures { result ≡ self }
+    {
+        let Entries { keys, values } = self;
+        IntoIter {
+            keys: keys.into_iter(),
+            values: values.into_iter(),
+        }
+    }
+}
+
 impl<V: Drop> IntoIterator for Pairs<V> {
     type Item = (Key, V);
 
@@ -81,10 +95,9 @@ impl<V: Drop> IntoIterator for Pairs<V> {
     ghost into_iter_gives = { λ p it. it ≡ p };
 
     fn into_iter(self) -> IntoIter<V> {
-        let Pairs { keys, values } = self;
-        IntoIter {
-            keys: keys.into_iter(),
-            values: values.into_iter(),
+        match self.entries {
+            Some(entries) => Box::into_inner(entries).into_entries(),
+            None => Entries::new(self.alloc).into_entries(),
         }
     }
 }

@@ -4,6 +4,7 @@ ghost use Rattle.std.specs.Iterator.{YieldsFirstBy, YieldsLastBy, item_count, at
 ghost use Rattle.std.specs.Iterator.SizeHint.{IsWithinCount};
 
 use super::Pairs;
+use super::entries::Entries;
 use crate::keys;
 use std::iter::FusedIterator;
 use std::marker::Model;
@@ -85,15 +86,27 @@ impl<'a, V> ExactSizeIterator for Iter<'a, V> {
 
 impl<'a, V> FusedIterator for Iter<'a, V> {}
 
-impl<V> Pairs<V> {
+impl<V> Entries<V> {
     /// The entries in their order, each as its key's text and its value.
-    pub fn iter(&self) -> Iter<'_, V>
+    fn iter(&self) -> Iter<'_, V>
         ensures { result ≡ self.now }
     {
         Iter {
             keys: self.keys.iter(),
             values: self.values.iter(),
         }
+    }
+}
+
+impl<V> Pairs<V> {
+    /// The entries in their order, each as its key's text and its value.
+    pub fn iter(&self) -> Iter<'_, V>
+        ensures { result ≡ self.now }
+    {
+        if let Some(entries) = &self.entries {
+            return entries.iter();
+        }
+        Iter::empty()
     }
 }
 

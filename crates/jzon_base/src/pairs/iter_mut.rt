@@ -5,6 +5,7 @@ ghost use Rattle.std.specs.Iterator.SizeHint.{IsWithinCount};
 ghost use Rattle.std.specs.Slice.Iter as slice_iter;
 
 use super::Pairs;
+use super::entries::Entries;
 use crate::keys;
 use std::iter::FusedIterator;
 use std::slice;
@@ -52,7 +53,8 @@ impl<'a, V> Iterator for IterMut<'a, V> {
     fn size_hint(&self) -> (usize, Option<usize>)
         ensures lower { IsWithinCount result.0 (at_most (length (iter_mut_rest self.now))) }
         ensures upper { IfSome result.1 (UpTo (at_most (length (iter_mut_rest self.now)))) }
-        ensures exact { result ≡ (length (iter_mut_rest self.now), Some (length (iter_mut_rest self.now))) }
+        ensures exact { result
+            ≡ (length (iter_mut_rest self.now), Some (length (iter_mut_rest self.now))) }
     {
         let len = self.len();
         (len, Some(len))
@@ -79,6 +81,20 @@ impl<'a, V> ExactSizeIterator for IterMut<'a, V> {
 
 impl<'a, V> FusedIterator for IterMut<'a, V> {}
 
+impl<V> Entries<V> {
+    ghost use Rattle.jzon_base.specs.IterMut.{iter_mut_rest};
+
+    /// The entries in their order, each as its key's text and its value, which may be written.
+    fn iter_mut(&mut self) -> IterMut<'_, V>
+        ensures rest { iter_mut_rest result ≡ self.old }
+    {
+        IterMut {
+            keys: self.keys.iter(),
+            values: self.values.iter_mut(),
+        }
+    }
+}
+
 impl<V> Pairs<V> {
     ghost use Rattle.jzon_base.specs.IterMut.{iter_mut_rest};
 
@@ -86,10 +102,10 @@ impl<V> Pairs<V> {
     pub fn iter_mut(&mut self) -> IterMut<'_, V>
         ensures rest { iter_mut_rest result ≡ self.old }
     {
-        IterMut {
-            keys: self.keys.iter(),
-            values: self.values.iter_mut(),
+        if let Some(entries) = &mut self.entries {
+            return entries.iter_mut();
         }
+        IterMut::empty()
     }
 }
 

@@ -1,101 +1,136 @@
--- `Pairs` as a type former, for recursive types, by its values.
-use Rattle.std.specs.Prelude.{◌≡◌, ℕ, max, List, [], ◌∷◌, map, length}
-use mathlib.Core.Path.{refl, sym, ap, ◌∙◌}
-use mathlib.Core.Former.{Former, Count, Row, one_more, this, const, pair, list, list_count, list_put, via, children}
-use native.Mathlib.Nat.{ℕ_set}
-use native.Mathlib.Omega.{arith}
-use lib.ListN.{length-map}
+-- `Pairs` as a type former, for recursive types, by the values of the entries in its box.
+use Rattle.std.specs.Prelude.{◌≡◌, ℕ, List, [], ◌∷◌, map, Option, None, Some}
+use mathlib.Core.Path.{refl, sym}
+use mathlib.Core.Logic.{◌⊎◌, inl, inr}
+use mathlib.Core.Former.{Former, this, const, pair, or, via, children}
+use base.Stored.{gnil}
+use base.Fml.{ftrue}
 use denote.RattleType.{RattleType}
+use denote.RawPtr.{Ptr}
+use denote.Memory.{part_of}
+use denote.Sharing.{nothing}
 use denote.HoleLaws.{Alike}
-use denote.HolePlaces.{Recodes, struct_places, laid}
+use denote.HolePlaces.{Recodes, struct_places, enum_places, eachs, laid, one_value}
 use denote.Hole.Carrier.{listed}
 use denote.Hole.Fix.{over}
-use denote.Param.Weighed.{Weighed, most, none_max, List-puts, w_pair, w_const}
-use denote.Param.Nested.{deepest}
-use denote.Model.Placed.{held, view_places_where}
-use Rattle.std.specs.List.{zip}
-use Rattle.std.specs.formers.vec.Vec as vec
+use denote.Param.Weighed.{Weighed}
+use denote.Model.Placed.{held, view_places}
+use Rattle.std.specs.declared.boxed.Box.{Box}
+use Rattle.std.specs.contracts.boxed.Box as box
+use Rattle.std.specs.contracts.option.Option as option
 use Rattle.std.specs.declared.alloc.Global.{Global}
 use Rattle.std.specs.contracts.alloc.Global as heap
 use Rattle.std.specs.contracts.impls.GlobalAllocator.TheImpl.{ghosts}
-use base.Stored.{code_map, coded×, coded_list, coded_ℕ, gcons}
+use Rattle.jzon_base.specs.PairList.{entries_in}
 use Rattle.jzon_base.specs.declared.pairs.Pairs.TheInside.{Inside}
 use Rattle.jzon_base.specs.declared.pairs.Pairs.TheView.{view, invariant}
 use Rattle.jzon_base.specs.contracts.pairs.Pairs as C
 use Rattle.jzon_base.specs.contracts.pairs.Pairs.TheInside as I
-use Rattle.jzon_base.specs.PairList.{values_of}
-
--- a key with one of g's values
-abbrev entry : Former {0} → Former {0}
-entry g = pair (const (List ℕ)) g
-
--- the entry, with h applied to its value
-abbrev on_value : {X Y : Type 0} → (X → Y) → List ℕ × X → List ℕ × Y
-on_value h p = (p.0, h p.1)
+use Rattle.jzon_base.specs.contracts.pairs.entries.Entries as T
+use Rattle.jzon_base.specs.formers.pairs.entries.Entries as entries
 
 abbrev pub the_former : Former {0} → Former {0}
-the_former g = list (entry g)
-
-most_values : {K Y : Type 0} (f : Y → ℕ) (es : List (K × Y)) → most (λ p. max 0 (f p.1)) es ≡ most f (map (λ p. p.1) es)
-most_values f [] = refl
-most_values f (e ∷ es) = λ i. max (sym (none_max (f e.1)) i) (most_values f es i)
-
-pub entries_puts : {g : Former {0}} (w : Weighed g) (X : Type 0) (μ : X → ℕ) (es : List (List ℕ × g.Of X)) (n : Count)
-    (t : Row X n)
-    → deepest μ (list_count (entry g) (map ((entry g).shape X) es) n) (list_put (entry g) X es n t)
-    ≡ max (most (w.weight X μ) (values_of es)) (deepest μ n t)
-entries_puts w X μ es n t = List-puts (w_pair (w_const (List ℕ)) w) X μ es n t
-    ∙ ap (λ a. max a (deepest μ n t)) (most_values (w.weight X μ) es)
+the_former = entries.the_former
 
 abbrev pub the_weighed : {g : Former {0}} → Weighed g → Weighed (the_former g)
-the_weighed w = record { weight = λ X μ c. most (w.weight X μ) (values_of c); puts = λ X μ c. entries_puts w X μ c }
+the_weighed = entries.the_weighed
 
 pub the_empty : List (List ℕ × ⊥)
 the_empty = []
 
 abbrev pub the_items : (X : Type 0) → List (List ℕ × X) → List X
-the_items X ps = values_of ps
+the_items = entries.the_items
 
-pub the_items_listed : (X : Type 0) (ps : List (List ℕ × X))
-    → listed _ (children (the_former this) X ps) ≡ the_items X ps
-the_items_listed X [] = refl
-the_items_listed X (p ∷ ps) = ap (λ l. p.1 ∷ l) (the_items_listed X ps)
+pub the_items_listed : (X : Type 0) (ps : List (List ℕ × X)) → listed _ (children (the_former this) X ps) ≡ the_items X ps
+the_items_listed = entries.the_items_listed
+
+abbrev BoxOf : Type 0 → Type 0
+BoxOf X = Box (List (List ℕ × X)) Global
+
+module _ {X : Type 0} where
+  abbrev split : Option (BoxOf X) → Unit {0} ⊎ ((Ptr × Global) × List (List ℕ × X))
+  split None = inl tt
+  split (Some b) = inr ((b.ptr, b.alloc), b.value)
+
+  abbrev join : Unit {0} ⊎ ((Ptr × Global) × List (List ℕ × X)) → Option (BoxOf X)
+  join (inl u) = None
+  join (inr v) = Some (record { ptr = v.0.0; alloc = v.0.1; value = v.1 })
+
+  join-split : (o : Option (BoxOf X)) → join (split o) ≡ o
+  join-split None = refl
+  join-split (Some b) = refl
+
+  split-join : (o : Unit {0} ⊎ ((Ptr × Global) × List (List ℕ × X))) → split (join o) ≡ o
+  split-join (inl u) = refl
+  split-join (inr v) = refl
+
+-- the box, where there is one
+abbrev boxes : Former {0}
+boxes = via (or (const (Unit {0})) (pair (const (Ptr × Global)) (entries.the_former this))) (λ X. Option (BoxOf X)) (λ X. split) (λ X. join) (λ X. join-split) (λ X. split-join)
 
 abbrev fields : Former {0}
-fields = via (pair (const (List (List ℕ))) (vec.the_former this Global)) Inside (λ X a. (a.keys, a.values))
-    (λ X v. record { keys = v.0; values = v.1 }) (λ X a. refl) (λ X v. refl)
+fields = via (pair (const Global) boxes) Inside (λ X a. (a.alloc, a.entries)) (λ X v. record { alloc = v.0; entries = v.1 }) (λ X a. refl) (λ X v. refl)
 
-zip-map : {X Y : Type 0} (h : X → Y) (ks : List (List ℕ)) (vs : List X)
-    → zip ks (map h vs) ≡ map (on_value h) (zip ks vs)
-zip-map h [] vs = refl
-zip-map h (k ∷ ks) [] = refl
-zip-map h (k ∷ ks) (v ∷ vs) = ap (λ l. (k, h v) ∷ l) (zip-map h ks vs)
+module _ (X : Type 0) where
+  abbrev with_entries : Inside X → Option (BoxOf X) → Inside X
+  with_entries u o = record { alloc = u.alloc; entries = o }
 
-zip-held : (X : Type 0) (ks : List (List ℕ)) (vs : List X) → length vs ≡ length ks
-    → held (list (entry this)) X (zip ks vs) ≡ held (list this) X vs
-zip-held X [] [] e = refl
-zip-held X [] (v ∷ vs) e = absurd (omega arith)
-zip-held X (k ∷ ks) [] e = absurd (omega arith)
-zip-held X (k ∷ ks) (v ∷ vs) e = λ i. (
-  one_more (zip-held X ks vs (omega arith) i).0,
-  (v, (zip-held X ks vs (omega arith) i).1),
-)
+  keeps : (u : Inside X) (o : Option (BoxOf X)) → held (the_former this) X (entries_in o) ≡ held fields X (with_entries u o)
+  keeps u None = refl
+  keeps u (Some b) = refl
 
-module _ (R R' : RattleType) (h : R.Denot → R'.Denot) where
-  pub the_places : Alike R R' h → Alike (C.the_row R) (C.the_row R') ((the_former this).map R.Denot R'.Denot h)
-  the_places a = view_places_where fields (the_former this) view
-      (λ X Y k u. zip-map k u.keys u.values.items)
-      (λ X u. length u.values.items ≡ length u.keys) (λ X Y k u e. sym (length-map u.values.items k) ∙ e)
-      (λ X u e. zip-held X u.keys u.values.items e)
-      R.Denot R'.Denot h (C.the_row R).coded (C.the_row R').coded
-      (invariant R.Denot) (invariant R'.Denot) (λ u. ℕ_set _ _) (λ u. ℕ_set _ _)
-      (λ u e. length-map u.values.items h ∙ e) (λ u e. sym (length-map u.values.items h) ∙ e) (λ u e. e)
-      (over (I.the_row R)) (over (I.the_row R'))
-      (struct_places (I.the_type R) (I.the_type R') (λ n. n, (vec.mapped h, tt)) _ (λ d. refl) refl
-      ((refl, (λ n. refl, λ n. refl)), (laid _ _ _ (vec.the_places heap.the_row ghosts R R' h a), tt)))
+abbrev with_value : {X Y : Type 0} → BoxOf X → List (List ℕ × Y) → BoxOf Y
+with_value b y = record { ptr = b.ptr; alloc = b.alloc; value = y }
 
-  pub the_codes_placed : Recodes R R' h → Recodes (C.the_row R) (C.the_row R')
-      ((the_former this).map R.Denot R'.Denot h)
-  the_codes_placed e c = sym (code_map (coded× (coded_list coded_ℕ) R.coded).code
-      (coded× (coded_list coded_ℕ) R'.coded).code (on_value h)
-      (λ x i. gcons ((coded_list coded_ℕ).code x.0) (sym (e x.1) i)) c)
+module _ (X Y : Type 0) (h : X → Y) where
+  abbrev over_list : List (List ℕ × X) → List (List ℕ × Y)
+  over_list = (the_former this).map X Y h
+
+  abbrev over_box : BoxOf X → BoxOf Y
+  over_box b = with_value b (over_list b.value)
+
+  abbrev over_boxes : Option (BoxOf X) → Option (BoxOf Y)
+  over_boxes None = None
+  over_boxes (Some b) = Some (over_box b)
+
+  mapped : (o : Option (BoxOf X)) → boxes.map X Y h o ≡ over_boxes o
+  mapped None = refl
+  mapped (Some b) = refl
+
+  natural : (u : Inside X) (o : Option (BoxOf X)) → entries_in (fields.map X Y h (with_entries X u o)).entries ≡ over_list (entries_in o)
+  natural u None = refl
+  natural u (Some b) = refl
+
+abbrev box_of : RattleType → RattleType
+box_of R = box.the_row (T.the_row R) heap.the_row ghosts
+
+module _ (R S : RattleType) (h : R.Denot → S.Denot) where
+  box_places : Alike R S h → Alike (box_of R) (box_of S) (over_box R.Denot S.Denot h)
+  unfolding part_of
+  box_places a =
+      let t = entries.the_places R S h a in record {
+        mir_same = λ i. (box.the_row (one_value (T.the_row R) (t.mir_same i) (λ _. ftrue) (λ _ _. nothing) gnil) heap.the_row ghosts).mir;
+        own_same = λ b i. (box.the_row (one_value (T.the_row R) (t.mir_same i) (t.own_same b.value i) (t.shr_same b.value i) gnil) heap.the_row ghosts).own_val (record { ptr = b.ptr; alloc = b.alloc; value = tt });
+        shr_same = λ b i. (box.the_row (one_value (T.the_row R) (t.mir_same i) (t.own_same b.value i) (t.shr_same b.value i) gnil) heap.the_row ghosts).shr_at (record { ptr = b.ptr; alloc = b.alloc; value = tt });
+      }
+
+  variant : (o : Option (BoxOf R.Denot))
+      → (option.enum (box_of S)).as_values (over_boxes R.Denot S.Denot h o)
+      ≡ eachs (option.enum (box_of R)).parts (option.enum (box_of S)).parts (tt, ((over_box R.Denot S.Denot h, tt), tt)) ((option.enum (box_of R)).as_values o)
+  variant None = refl
+  variant (Some b) = refl
+
+  boxes_places : Alike R S h → Alike (option.the_row (box_of R)) (option.the_row (box_of S)) (over_boxes R.Denot S.Denot h)
+  boxes_places a = enum_places (option.enum (box_of R)) (option.enum (box_of S)) (tt, ((over_box R.Denot S.Denot h, tt), tt)) (over_boxes R.Denot S.Denot h) variant refl (tt, ((laid _ _ _ (box_places a), tt), tt))
+
+  pub the_places : Alike R S h → Alike (C.the_row R) (C.the_row S) ((the_former this).map R.Denot S.Denot h)
+  the_places a = view_places fields (the_former this) view
+      (λ X Y k u. natural X Y k u u.entries) (λ X u. keeps X u u.entries)
+      R.Denot S.Denot h (C.the_row R).coded (C.the_row S).coded
+      (invariant R.Denot) (invariant S.Denot) (λ u p q. refl) (λ u p q. refl) (λ u e. tt) (λ u e. tt)
+      (over (I.the_row R)) (over (I.the_row S))
+      (struct_places (I.the_type R) (I.the_type S) (λ n. n, (over_boxes R.Denot S.Denot h, tt)) _ (λ d i. (d.alloc, (mapped R.Denot S.Denot h d.entries i, tt))) refl
+      ((refl, (λ n. refl, λ n. refl)), (laid _ _ _ (boxes_places a), tt)))
+
+  pub the_codes_placed : Recodes R S h → Recodes (C.the_row R) (C.the_row S) ((the_former this).map R.Denot S.Denot h)
+  the_codes_placed e c = entries.the_codes_placed R S h e c

@@ -1,12 +1,17 @@
-use Rattle.std.proofs.Common.{◌≡◌, ◌∙◌, ap, rules}
+use Rattle.std.proofs.Common.{◌≡◌, ◌∙◌, ap}
 use Rattle.std.proofs.lemmas.Result.{IfOk-weaker}
 use Rattle.std.specs.List.{position}
 use Rattle.std.specs.Str.{bytes_eq}
 use Rattle.jzon_base.proofs.keys.Keys.put.Goals as goal
 
-pub returns-in-Some-clause-position : goal.returns-in-Some-clause-position
-returns-in-Some-clause-position c =
+pub invariant_of-self : goal.invariant_of-self
+invariant_of-self c = record {
+  indexed = record { index = λ _. c.put_indexed.ensures.table.1 };
+  distinct = c.put_indexed.ensures.table.0;
+}
+
+pub returns-then-not-is_empty-clause-position : goal.returns-then-not-is_empty-clause-position
+returns-then-not-is_empty-clause-position c =
     let at = position (λ k. bytes_eq k c.args.name.now) in
-    let same : c.deref_mut.result.now ≡ c.args.self.now = search rules in
-    IfOk-weaker c.put.result (λ place. place ≡ at c.deref_mut.result.now) (λ place. place ≡ at c.args.self.now)
-    (λ place e. e ∙ ap at same) c.put.ensures.position
+    IfOk-weaker c.put_indexed.result (λ place. place ≡ at c.self.inside.keys.items)
+    (λ place. place ≡ at c.args.self.now) (λ place e. e ∙ ap at c.self.view_is) c.put_indexed.ensures.position

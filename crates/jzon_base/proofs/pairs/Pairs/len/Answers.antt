@@ -1,9 +1,6 @@
-use Rattle.std.proofs.Common.{◌∙◌}
-use Rattle.jzon_base.proofs.Zips.{AreParts-zip}
+use Rattle.std.specs.List.{IsDistinct}
 use Rattle.jzon_base.proofs.pairs.Pairs.len.Goals as goal
 
-pub returns : goal.returns
-returns g c =
-    let parts = AreParts-zip c.self.inside.keys c.self.inside.values.items c.args.self.now c.self.view_is
-    c.self.invariant in
-    record { len = c.len.ensures.len ∙ parts.keys_length; distinct = rw (← parts.keys) c.len.ensures.distinct }
+pub returns-in-None-clause-distinct : goal.returns-in-None-clause-distinct
+unfolding IsDistinct
+returns-in-None-clause-distinct g c = rw (← c.self.view_is, c.in-None.is) tt

@@ -1,0 +1,25 @@
+use Rattle.std.proofs.Common.{◌∙◌, ap, refl, arith}
+use Rattle.std.proofs.lemmas.Option.{slice_get_read}
+use Rattle.jzon_base.specs.PairList.{set_value}
+use Rattle.jzon_base.proofs.Zips.{AreParts-zip, zip-set}
+use Rattle.jzon_base.proofs.pairs.entries.Entries.value_mut.Goals as goal
+
+pub index_mut-requires : goal.index_mut-requires
+index_mut-requires g c =
+    let parts = AreParts-zip c.self.inside.keys c.self.inside.values.items c.args.self.now c.self.view_is
+    c.self.invariant in
+    omega (arith, c.self.inside.values.ok.0, parts.values_length)
+
+pub returns : goal.returns
+returns g c =
+    let parts = AreParts-zip c.self.inside.keys c.self.inside.values.items c.args.self.now c.self.view_is
+    c.self.invariant in
+    let keys = c.self.inside.keys in
+    let values = c.self.inside.values in (
+      (refl, λ w. zip-set keys values.items c.args.index w ∙ ap (λ ps. set_value ps c.args.index w) c.self.view_is),
+      record {
+        writes_back = tt;
+        value = rw (← parts.values) (slice_get_read values.items _ c.args.index _ values.ok.0
+            (omega (arith, values.ok.0, parts.values_length)) c.index_mut.ensures.value);
+      },
+    )

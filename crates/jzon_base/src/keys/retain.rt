@@ -1,0 +1,73 @@
+//! Keys and values that are kept, and the index of the keys that are left.
+ghost use Rattle.std.specs.Prelude.{◌≡◌, ◌≢◌, ◌≤◌, length};
+ghost use Rattle.std.specs.List.{zip};
+ghost use Rattle.std.specs.Map.Calls.{CalledAtPair, CallableOnEachPair, RetainsPairs, TakesPair};
+ghost use Rattle.jzon_base.specs.Private.Keys.{IsIndexed};
+
+use super::Keys;
+use crate::key::Key;
+use crate::keys::runs::Runs;
+
+/// Whether `keep` keeps this entry. It may change the value.
+#[inline(always)]
+fn keeps<V: Drop, F: FnMut(&str, &mut V) -> bool>(keep: &mut F, key: &str, value: &mut V) -> bool
+    requires { TakesPair F.FnMut keep.old key.now value.old }
+    ensures { CalledAtPair F.FnMut keep.old key.now value.old result value.new keep.new }
+{
+    keep(key, value)
+}
+
+/// Keeps the keys and the values for which `keep` returns `true`, in their order. Takes no memory.
+fn retain_entries<V: Drop, F: FnMut(&str, &mut V) -> bool>(
+    keys: &mut Vec<Key>,
+    values: &mut Vec<V>,
+    mut keep: F,
+)
+    requires even { length values.old.items ≡ length keys.old.items }
+    requires callable { CallableOnEachPair (CalledAtPair F.FnMut) (TakesPair F.FnMut) keep
+        (zip keys.old.items values.old.items) }
+    ensures even { length values.new.items ≡ length keys.new.items }
+    ensures kept { RetainsPairs (CalledAtPair F.FnMut) keep (zip keys.old.items values.old.items)
+        (zip keys.new.items values.new.items) }
+{
+    let mut kept = 0;
+    for at in 0..keys.len() {
+        if keeps(&mut keep, keys[at].as_str(), &mut values[at]) {
+            keys.swap(kept, at);
+            values.swap(kept, at);
+            kept += 1;
+        }
+    }
+    keys.truncate(kept);
+    values.truncate(kept);
+}
+
+/// Makes the index that of the keys that are left, in the room that it has. Takes no memory.
+fn reindex(keys: &[Key], index: &mut Runs)
+    requires { length index.old ≢ 0 → length keys.now ≤ length index.old }
+    ensures { IsIndexed keys.now index.new }
+{
+    if index.is_empty() {
+        return;
+    }
+    index.refill(keys);
+}
+
+impl Keys {
+    /// Keeps the keys and the values for which `keep` returns `true`, in their order. Takes no
+    /// memory.
+    pub fn retain<V: Drop, F: FnMut(&str, &mut V) -> bool>(&mut self, values: &mut Vec<V>, keep: F)
+        requires even { length values.old.items ≡ length self.old }
+        requires callable { CallableOnEachPair (CalledAtPair F.FnMut) (TakesPair F.FnMut) keep
+            (zip self.old values.old.items) }
+        ensures even { length values.new.items ≡ length self.new }
+        ensures kept { RetainsPairs (CalledAtPair F.FnMut) keep (zip self.old values.old.items)
+            (zip self.new values.new.items) }
+    {
+        let count = self.keys.len();
+        retain_entries(&mut self.keys, values, keep);
+        if self.keys.len() < count {
+            reindex(self.keys.as_slice(), &mut self.index);
+        }
+    }
+}

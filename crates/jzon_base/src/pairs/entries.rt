@@ -1,0 +1,188 @@
+//! The entries of `Pairs` that have any.
+ghost use Rattle.std.specs.Prelude.{◌≡◌, ◌<◌, ◌++◌, ◌∷◌, [], length, remove, slice_get};
+ghost use Rattle.std.specs.Prelude.{Some, None, OnOk, OnErr, IfOk, vec_len, vec_capacity};
+ghost use Rattle.std.specs.List.{position, zip, IsDistinct};
+ghost use Rattle.std.specs.Map.Calls.{CalledAtPair, CallableOnEachPair, RetainsPairs, TakesPair};
+ghost use Rattle.std.specs.Str.{bytes_eq};
+
+use crate::keys::Keys;
+use crate::util::fit::reserve_next;
+use std::alloc::{AllocError, Global};
+use std::marker::Model;
+
+/// Distinct keys, and as many values in the order of their keys. A clause sees the list of entries.
+#[derive(Drop)]
+pub struct Entries<V> {
+    pub(super) keys: Keys,
+    pub(super) values: Vec<V>,
+}
+
+impl<V> Model for Entries<V> {
+    ghost use Rattle.std.specs.Prelude.{◌≡◌, List, ℕ, length};
+    ghost use Rattle.std.specs.List.{zip};
+    ghost use Rattle.std.specs.Coded.{coded_ℕ, coded_list, coded×};
+
+    ghost Value = { List (List ℕ × V) };
+
+    ghost coded = { coded_list (coded× (coded_list coded_ℕ) V.code) };
+
+    ghost view = { λ p. zip p.keys p.values.items };
+
+    ghost invariant = { λ p. length p.values.items ≡ length p.keys };
+}
+
+/// Makes room for the value of this name, if no key has it. The error is a failed allocation.
+#[inline(always)]
+fn reserve_missing<V>(keys: &Keys, values: &mut Vec<V>, name: &str) -> Result<(), AllocError>
+    ensures items { values.new.items ≡ values.old.items }
+    ensures room { OnOk result (position (λ k. bytes_eq k name.now) keys.now ≡ None
+        → vec_len values.new < vec_capacity values.new) }
+    ensures missing { OnErr result (position (λ k. bytes_eq k name.now) keys.now ≡ None) }
+{
+    if values.len() < values.capacity() || keys.position(name).is_some() {
+        return Ok(());
+    }
+    reserve_next(values)
+}
+
+impl<V> Entries<V> {
+    ghost use Rattle.std.specs.Borrow.{sem, Lends};
+    ghost use Rattle.jzon_base.specs.contracts.pairs.entries.Entries.{the_row};
+    ghost use Rattle.jzon_base.specs.PairList.{find, put, set_value, keys_of, values_of};
+
+    /// No entry. Takes no memory.
+    pub fn new(alloc: Global) -> Entries<V>
+        ensures { result ≡ [] }
+    {
+        Entries {
+            keys: Keys::new(alloc),
+            values: Vec::new(alloc),
+        }
+    }
+
+    /// The entries of keys and as many values.
+    pub fn from_parts(keys: Keys, values: Vec<V>) -> Entries<V>
+        requires { length values.items ≡ length keys }
+        ensures { result ≡ zip keys values.items }
+    {
+        Entries { keys, values }
+    }
+
+    /// The keys, and the values in the order of their keys.
+    pub fn into_parts(self) -> (Keys, Vec<V>)
+        ensures keys { result.0 ≡ keys_of self }
+        ensures values { result.1.items ≡ values_of self }
+    {
+        (self.keys, self.values)
+    }
+
+    /// The number of entries.
+    pub fn len(&self) -> usize
+        ensures len { result ≡ length self.now }
+        ensures distinct { IsDistinct bytes_eq (keys_of self.now) }
+    {
+        self.keys.len()
+    }
+
+    /// The keys in their order.
+    pub fn keys(&self) -> &Keys
+        ensures { result.now ≡ keys_of self.now }
+    {
+        &self.keys
+    }
+
+    /// The values in the order of their keys.
+    pub fn values(&self) -> &[V]
+        ensures { result.now ≡ values_of self.now }
+    {
+        self.values.as_slice()
+    }
+
+    /// The position of a key.
+    pub fn position(&self, name: &str) -> Option<usize>
+        ensures { result ≡ position (λ k. bytes_eq k name.now) (keys_of self.now) }
+    {
+        self.keys.position(name)
+    }
+
+    /// The entry at a position.
+    pub fn get_at(&self, index: usize) -> (&str, &V)
+        requires { index < length self.now }
+        ensures { slice_get self.now index ≡ Some (result.0.now, result.1.now) }
+    {
+        (self.keys.get(index), &self.values[index])
+    }
+
+    /// The value at a position, to be written: nothing else changes.
+    pub fn value_mut(&mut self, index: usize) -> &mut V
+        requires { index < length self.old }
+        ensures* writes_back { sem 𝓛 (Lends (the_row V.row) V.row self.entry result
+            (set_value self.old index)) }
+        ensures value { slice_get (values_of self.old) index ≡ Some result.now }
+    {
+        &mut self.values[index]
+    }
+
+    /// Puts an entry last whose key is missing. The error is a failed allocation.
+    pub fn push(&mut self, alloc: Global, name: &str, value: V) -> Result<(), AllocError>
+    where
+        V: Drop,
+        requires { position (λ k. bytes_eq k name.now) (keys_of self.old) ≡ None }
+        ensures ok { OnOk result (self.new ≡ self.old ++ (name.now, value) ∷ []) }
+        ensures err { OnErr result (self.new ≡ self.old) }
+    {
+        reserve_next(&mut self.values)?;
+        self.keys.push(alloc, name)?;
+        self.values.push_reserved(value);
+        Ok(())
+    }
+
+    /// Puts a value under a key: in its place where the key is there, which takes no memory, else
+    /// last. The error is a failed allocation.
+    #[tactic(auto, using(crate::proofs::PairPlaces::places))]
+    pub fn insert(&mut self, alloc: Global, name: &str, value: V) -> Result<(), AllocError>
+    where
+        V: Drop,
+        ensures ok { OnOk result (self.new ≡ put name.now value self.old) }
+        ensures err { OnErr result (self.new ≡ self.old) }
+        ensures present { OnErr result (find name.now self.old ≡ None) }
+    {
+        reserve_missing(&self.keys, &mut self.values, name)?;
+        match self.keys.put(alloc, name)? {
+            Some(index) => self.values[index] = value,
+            None => self.values.push_reserved(value),
+        }
+        Ok(())
+    }
+
+    /// Removes the entry at a position. The others keep their order. Takes no memory.
+    pub fn remove_at(&mut self, index: usize) -> V
+        requires { index < length self.old }
+        ensures value { slice_get (values_of self.old) index ≡ Some result }
+        ensures after { self.new ≡ remove self.old index }
+    {
+        self.keys.remove(index);
+        self.values.remove(index)
+    }
+
+    /// Keeps the entries for which `keep` returns `true`, in their order. `keep` is called once for
+    /// each entry, in order, and may change the value. Takes no memory.
+    pub fn retain<F: FnMut(&str, &mut V) -> bool>(&mut self, keep: F)
+    where
+        V: Drop,
+        requires { CallableOnEachPair (CalledAtPair F.FnMut) (TakesPair F.FnMut) keep self.old }
+        ensures { RetainsPairs (CalledAtPair F.FnMut) keep self.old self.new }
+    {
+        self.keys.retain(&mut self.values, keep);
+    }
+
+    /// Removes all entries.
+    pub fn clear(&mut self)
+    where
+        V: Drop,
+        ensures { self.new ≡ [] }
+    {
+        self.keys.clear();
+        self.values.clear();
+    }
+}
