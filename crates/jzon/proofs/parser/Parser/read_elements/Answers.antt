@@ -16,7 +16,6 @@ use Rattle.jzon.proofs.Texts.Cursors.{Reached, reached_start, reached, goes_afte
 use Rattle.jzon.proofs.Containers.FrameViews.{frames_depth-stack, fresh_is_empty, some_more, stack_view-push}
 use Rattle.jzon.proofs.Containers.FrameViews.{value_mark-shallow}
 use Rattle.jzon.proofs.parser.Parser.read_elements.Goals.{After-len-depth, After-array_ends, In_ok-elements-in-Array}
-use Rattle.jzon.proofs.parser.Parser.read_elements.Goals.{then-opens_container+in_ok-value_start+in-Value+in_ok-push-in-Value}
 use Rattle.jzon.proofs.parser.Parser.read_elements.Goals.{else-opens_container+in_ok-read_primitive+in_ok-push}
 use Rattle.jzon.proofs.parser.Parser.read_elements.Goals as goal
 
@@ -163,7 +162,7 @@ more c =
     let shallow = no_mark m.reading c.loop-self.self.stack.items vs
     (omega (arith, c.loop-self.self.stack.ok.0, c.loop-self.invariant.room)) in
     elim c.if-opens_container.branch [
-      | then-opens_container+in_ok-value_start+in-Value+in_ok-push-in-Value w ↦
+      | goal.then-opens_container+in_ok-value_start+in-Value+in_ok-push-in-Value w ↦
           let depth : frames_depth (array_frame fs vs) ≡ w.len-depth.result + 1 =
           omega (
             arith,
@@ -196,7 +195,7 @@ more c =
 stack_kept : (c : After-array_ends) → c.if-opens_container.self.stack ≡ c.loop-self.self.stack
 stack_kept c =
     elim c.if-opens_container.branch [
-      | then-opens_container+in_ok-value_start+in-Value+in_ok-push-in-Value w ↦ ap (λ s. s.stack) w.self-is
+      | goal.then-opens_container+in_ok-value_start+in-Value+in_ok-push-in-Value w ↦ ap (λ s. s.stack) w.self-is
           ∙ w.in_ok-value_start.ensures.stack
       | else-opens_container+in_ok-read_primitive+in_ok-push w ↦ ap (λ s. s.stack) w.self-is
           ∙ w.in_ok-read_primitive.ensures.kept.0
