@@ -1,6 +1,6 @@
 # Prints the public contracts of sources in short form, as crates/jzon/CALLING.md quotes them: each `pub fn`, and each `fn` of a `pub trait`, with its clauses; of
 # an implementation of a trait what its ghost members promise. `S` is what `self` points to at the call, and `S'` at the return.
-# Of a file of specs (.antt) all lines but those that begin with `use` or `pub use`.
+# Of a file of specs (.antt) all lines but empty ones and those that begin with `use` or `pub use`.
 function squeezed(text) {
     gsub(/[ \t]+/, " ", text)
     sub(/^ /, "", text)
@@ -100,6 +100,14 @@ holding == "ghost" {
     }
     next
 }
+holding == "member" {
+    held = held " " $0
+    if ($0 ~ /;$/) {
+        print_member()
+        holding = ""
+    }
+    next
+}
 holding == "fn" {
     if ($0 ~ /^ *(\{|\{\})$/ || ($0 ~ /;$/ && is_trait)) {
         if ($0 ~ /;$/) held = held " " $0
@@ -116,9 +124,9 @@ in_impl_of_trait && /^    ghost (output|eq|from_gives|try_from_gives|neg_gives|i
     next
 }
 is_trait && /^    ghost [a-z_]+: / {
-    line = shortened($0)
-    sub(/;$/, "", line)
-    if (line ~ /\{ .* \}/) emit("ghost " type "::" substr(line, 7))
+    held = $0
+    if ($0 ~ /;$/) print_member()
+    else holding = "member"
     next
 }
 # A function with its contract begins. One of one line with its body has no clause.
@@ -130,6 +138,13 @@ is_trait && /^    ghost [a-z_]+: / {
     next
 }
 /^(    )?(pub )?(struct|enum|type|const|mod|use|fn) / { is_hidden = "" }
+
+# A ghost member of a trait.
+function print_member(    line) {
+    line = shortened(held)
+    sub(/;$/, "", line)
+    if (line ~ /\{ .* \}/) emit("ghost " type "::" substr(line, 7))
+}
 
 function print_ghost(    line) {
     if (!has_head) emit(impl_head)

@@ -1,8 +1,8 @@
 -- What is printed reads back. The main statements:
--- `read_back` (ReadsBack): each text written for a value without NaN is read as the same value
+-- `read_back` (ReadsBack): each text written for a value without NaN is read as an equal value
 -- `redumped` (Redump): the compact text of a value is read as a value with the same compact text
 -- `meaning_held` (MeaningHeld): what is read is a value that both laws apply to
--- `number_read_back` (NumbersReadBack): the text of a number is read as the same number
+-- `number_read_back` (NumbersReadBack): the text of a number is read as an equal number
 -- Letters: Texts.antt, and
 --   s style   dent indentation   high how many more containers may be opened   b bytes that are written   m mantissa
 --   e exponent   ms, ns nodes or members

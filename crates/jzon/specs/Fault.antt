@@ -69,11 +69,11 @@ IsFirstFault r t i f = IsFault r t i f × ((j : ℕ) (g : Fault) → IsFault r t
 
 -- ---- errors
 
--- the line of the character after a prefix: 1 and the newlines of the prefix
+-- the line of the character after a prefix: 1 plus the newlines of the prefix
 abbrev pub line : List ℕ → ℕ
 line prefix = count_by (λ c. c == 10) prefix + 1
 
--- its column: 1 and the characters of the prefix after the last newline
+-- its column: 1 plus the characters of the prefix after the last newline
 abbrev pub column : List ℕ → ℕ
 column prefix = suffix_len (λ c. not (c == 10)) prefix + 1
 

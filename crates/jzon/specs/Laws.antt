@@ -51,7 +51,7 @@ abbrev pub alone : Node → Document
 alone n = record { before = []; node = n; after = [] }
 
 -- The printed text of a sign, a mantissa and an exponent is a number of the grammar within the limits on digits. It
--- means the same number, which prints this text again. The text has at most 29 bytes.
+-- means an equal number, which prints this text again. The text has at most 29 bytes.
 abbrev pub NumberText : Type 0
 NumberText =
     (positive : Bool) (m : ℕ) (e : ℤ) → m < 2 ^ 64 → FitsSigned w16 e
@@ -77,7 +77,7 @@ AllowsStrictAlone s = (dent : ℕ) (w : List ℕ) → IsAllowedWhitespace s dent
 abbrev pub StrictStyles : Type 0
 StrictStyles = AllowsStrictAlone compact_style × ((spaces : ℕ) → AllowsStrictAlone (pretty_style spaces))
 
--- Each text that is written for a value without NaN, in whatever style, is read as the same value. For a strict reading
+-- Each text that is written for a value without NaN, in whatever style, is read as an equal value. For a strict reading
 -- the style must allow strict whitespace only.
 abbrev pub ReadsBack : Type 0
 ReadsBack =

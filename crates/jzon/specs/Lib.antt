@@ -1,4 +1,4 @@
--- to be believed: what public clauses cite
+-- what public clauses cite, to be read and trusted
 pub mod Reading
 pub mod Grammar
 pub mod Spelling

@@ -44,8 +44,7 @@ pub(crate) fn opens_container(first: u8) -> bool
     first == b'[' || first == b'{'
 }
 
-/// A text, the offset up to which it is read, and how it is read. The offset is that of a token or
-/// of the end.
+/// A text, the offset up to which it is read, and how it is read. No whitespace is at the offset.
 #[derive(Clone, Copy)]
 pub(crate) struct Cursor<'a> {
     pub(crate) source: &'a str,
@@ -111,8 +110,8 @@ impl<'a> Cursor<'a> {
     }
 
     /// Moves past the opening bracket that comes next, inside of `depth` containers. Whether the
-    /// container is empty; then it moves past the closing bracket too. `ExceededDepthLimit` where
-    /// it isn't and `depth` is what the reading allows.
+    /// container is empty; then it moves past the closing bracket too. Else `UnexpectedEndOfJson`
+    /// at the end of the text, or `ExceededDepthLimit` if `depth` is what the reading allows.
     #[inline(always)]
     pub(crate) fn open_container(&mut self, bracket: Bracket, depth: usize) -> Result<bool>
         requires room { depth ≤ self.old.reading.depth }

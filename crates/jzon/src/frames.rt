@@ -4,7 +4,7 @@ use jzon_base::key::Key;
 use jzon_tree::object::Builder;
 use jzon_tree::value::JsonValue;
 
-/// An open container other than the innermost, with what it holds so far.
+/// An open container on the parser's stack, with what it holds so far.
 #[derive(Drop)]
 pub(crate) enum Frame {
     /// The elements.

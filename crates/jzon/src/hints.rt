@@ -5,8 +5,8 @@ use std::mem;
 /// How many depths have a hint of their own. Deeper ones share them.
 const DEPTHS: usize = 8;
 
-/// For each depth, the length of the last container that ended there. A hint is taken once, so all
-/// capacity allocated ahead is for fewer elements and entries than were read.
+/// For each depth, the length of the last non-empty container that ended there, until it is taken.
+/// What hints allocate ahead is for fewer elements and entries than were read.
 #[derive(Drop)]
 pub(crate) struct Hints {
     capacities: [usize; DEPTHS],

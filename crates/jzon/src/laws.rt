@@ -22,8 +22,8 @@ pub fn one_fault()
     ensures { OneFault }
 {}
 
-/// The printed text of a number is read as the same number, which prints as this text again, and
-/// has at most 29 bytes.
+/// The printed text of a number has at most 29 bytes, and is read as an equal number, which prints
+/// as this text again.
 pub fn number_text()
     ensures { NumberText }
 {}

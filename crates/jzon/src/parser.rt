@@ -68,7 +68,7 @@ pub fn parse_as(alloc: Global, source: &str, reading: &Reading) -> Result<JsonVa
 struct Parser<'a> {
     alloc: Global,
     cursor: Cursor<'a>,
-    /// The open containers except the innermost, the outermost first.
+    /// The open containers around what is being read, the outermost first.
     stack: Vec<Frame>,
     /// The last string that had escapes, unescaped.
     buffer: String,
@@ -181,8 +181,8 @@ impl<'a> Parser<'a> {
         }
     }
 
-    /// Reads on after `item`, the last element or value of an open container, as `read_elements`
-    /// and `read_entries` do.
+    /// Adds `item` to the open container `frame`, and reads on as `read_elements` and
+    /// `read_entries` do.
     fn read_after_item(&mut self, frame: Frame, item: JsonValue) -> Result<ValueStart>
         requires room { vec_len self.old.stack < self.old.cursor.reading.depth }
         ensures ready { IfOk result (IsReady self.new.cursor (vec_len self.new.stack)) }
@@ -209,7 +209,7 @@ impl<'a> Parser<'a> {
         }
     }
 
-    /// Reads an array, whose first element comes next.
+    /// Reads on in an array, whose first element comes next, as `read_elements` does.
     #[inline(always)]
     fn read_array(&mut self) -> Result<ValueStart>
         requires room { vec_len self.old.stack < self.old.cursor.reading.depth }
@@ -272,8 +272,8 @@ impl<'a> Parser<'a> {
         }
     }
 
-    /// Reads entries of an open object, and a value that is an array: to the end of either, or to
-    /// an object that isn't empty.
+    /// Reads entries of an open object: to its end, to an object that isn't empty, or, where a value
+    /// is a non-empty array, as `read_array` does.
     fn read_entries(&mut self, entries: Builder) -> Result<ValueStart>
         requires room { vec_len self.old.stack < self.old.cursor.reading.depth }
         requires key { viewed entries ≡ [] → next_byte self.old.cursor ≢ end_object }
@@ -370,8 +370,8 @@ impl<'a> Parser<'a> {
 }
 
 /// An empty vector for the elements of an array inside of `depth` containers, whose first is at the
-/// cursor. Without a hint it has room for one where that is a container, since containers often
-/// nest alone, and else for four. The error is `OutOfMemory`.
+/// cursor. Without a hint it has room for one where that is a container, since such an array often
+/// has just one, and else for four. The error is `OutOfMemory`.
 #[inline(always)]
 fn room_for_elements(
     alloc: Global,

@@ -1,5 +1,5 @@
-//! Reads primitives: numbers, strings and literals (RFC 8259, section 3). What each of them calls
-//! is inlined, so that no value is moved from call to call.
+//! Reads primitives: numbers, strings and literals (RFC 8259, section 3). All functions that return
+//! a value are inlined, so that no value is moved from call to call.
 
 ghost use Rattle.std.specs.Prelude.{◌≡◌, ◌≢◌, ◌⊎◌, ◌==◌, ◌<◌, ◌≤◌, ◌+◌, [], length, chars, IsTrue};
 ghost use Rattle.std.specs.Prelude.{IfOk, Err, MatchResult, codes, ◌^◌, drop};

@@ -1,4 +1,4 @@
-//! What is changed of a value.
+//! Calls that change a value.
 
 ghost use Rattle.std.specs.Prelude.{◌≡◌};
 

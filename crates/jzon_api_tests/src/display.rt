@@ -125,3 +125,13 @@ fn stops_where_the_formatter_fails(rt: HostRuntime) -> Result<(), Fail> {
     }
     Ok(())
 }
+
+#[test]
+fn ignores_width_fill_and_the_alternate_form(rt: HostRuntime) -> Result<(), Fail> {
+    let alloc = rt.alloc();
+    let value = parse(alloc, "[1]")?;
+    assert_eq!(rt; format!(in alloc; "{value:#}")?.as_str(), "[1]");
+    assert_eq!(rt; format!(in alloc; "{value:>9}")?.as_str(), "[1]");
+    assert_eq!(rt; format!(in alloc; "{value:*<9}")?.as_str(), "[1]");
+    Ok(())
+}

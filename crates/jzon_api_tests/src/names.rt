@@ -1,4 +1,4 @@
-//! Public names of `jzon` that no other test uses.
+//! Public names of `jzon`, many of which no other test uses.
 
 use crate::common::{Tested, expect_dump};
 use jzon::codegen::{Compact, Pretty, WriterGenerator, write_object};
@@ -181,7 +181,7 @@ fn expect_large_unsigned(rt: &impl Abort, view: View<'_>) {
     assert!(rt; view.as_u8().is_none());
 }
 
-/// No signed integer is it.
+/// No signed integer type has it.
 fn expect_no_signed(rt: &impl Abort, view: View<'_>) {
     assert!(rt; view.as_i64().is_none() && view.as_isize().is_none());
     assert!(rt; view.as_i32().is_none() && view.as_i16().is_none());
@@ -199,6 +199,7 @@ fn names_integer_readers(rt: HostRuntime) -> Tested {
     Ok(())
 }
 
+/// Nothing is asserted: the laws have no effect when they run.
 #[test]
 fn names_laws(_rt: HostRuntime) {
     laws::one_reading();

@@ -1,4 +1,4 @@
-//! The calls that allocate, with each of their allocations failing in turn.
+//! Calls that allocate, with each of their allocations failing in turn.
 
 mod built;
 mod changed;

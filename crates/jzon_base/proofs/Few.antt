@@ -1,4 +1,4 @@
--- Few keys, each with its position.
+-- Empty slots suit any keys, and a value put at the position of a distinct key.
 use Rattle.std.proofs.Common.{◌≡◌, ◌∙◌, ℕ, List, [], length, set, Some, refl, sym}
 use Rattle.std.proofs.lemmas.List.{length-set}
 use Rattle.std.specs.List.{position, zip, IsDistinct}

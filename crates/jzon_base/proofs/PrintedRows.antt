@@ -1,4 +1,4 @@
--- Worked rows of docs/RULES.md, "Printed numbers", computed from the definition.
+-- The texts of some numbers (docs/RULES.md, "Printed numbers"), computed from the definition.
 use Rattle.std.proofs.Common.{◌≡◌, pos, negsuc, true, false, codes, refl}
 use Rattle.std.specs.Fmt.{digits}
 use Rattle.jzon_base.specs.NumberText.{number_text}

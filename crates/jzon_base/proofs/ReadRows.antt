@@ -1,4 +1,4 @@
--- Worked rows of docs/RULES.md, "Numbers", computed from the definitions.
+-- What some digits mean (docs/RULES.md, "Numbers"), computed from the definitions.
 use Rattle.std.proofs.Common.{◌≡◌, ℕ, ℤ, pos, negsuc, ◌-◌, ◌≤◌, ◌+ℤ◌, ◌-ℤ◌, Bool, true, false, List, [], ◌++◌, length}
 use Rattle.std.proofs.Common.{take, replicate, codes, refl, ap, lit<, lit≤, arith}
 use Rattle.std.proofs.lemmas.Int.{ints, clamps}

@@ -1,6 +1,7 @@
 -- An index of fewer keys in the room of the index of more.
-use Rattle.std.proofs.Common.{◌≡◌, ◌≢◌, ◌∙◌, ℕ, ◌+◌, ◌-◌, ◌<◌, ◌≤◌, min, List, [], ◌∷◌, ◌++◌, length, get_or, set, take, drop}
-use Rattle.std.proofs.Common.{map, sym, ap, subst, arith, zero-add, take_all, append-nil, length-append}
+use Rattle.std.proofs.Common.{◌≡◌, ◌≢◌, ◌∙◌, ℕ, ◌+◌, ◌-◌, ◌<◌, ◌≤◌, min, List, [], ◌∷◌, ◌++◌, length, get_or}
+use Rattle.std.proofs.Common.{set, take, drop, map, sym, ap, subst, arith, zero-add, take_all, append-nil}
+use Rattle.std.proofs.Common.{length-append}
 use Rattle.std.proofs.Math.Seq.{take-add}
 use Rattle.std.proofs.lemmas.List.{take_more_set, drop-set-lt, drop_more, drop_all, length-take-le}
 use Rattle.std.proofs.lemmas.List.Concat.{flat_map-append}
@@ -70,7 +71,8 @@ AreRefilled-all ks rs n i le before =
     let all : take n ks ≡ ks = take_all n ks (omega (arith, before.room, none)) in
     record {
       whole = subst (λ ps. IsPermutation ps (flat_map (λ r. r) rs)) (ap (hashed_from 0) all ∙ hashed_from-numbered 0 ks)
-          (subst (λ us. IsPermutation (hashed_from 0 (take n ks)) (flat_map (λ r. r) us)) (take_all i rs le) before.whole);
+          (subst (λ us. IsPermutation (hashed_from 0 (take n ks)) (flat_map (λ r. r) us))
+          (take_all i rs le) before.whole);
     }
 
 -- an index with entries has room for fewer keys

@@ -56,7 +56,8 @@ module _ {F V : Type 0} (T : F → List ℕ → V → Bool → V → F → Type 
   all_kept f (p ∷ ps) qs r e = whole_or_less r.0 (p.0, r.1) r.3 qs ps p.0 refl (all_kept r.2 ps r.3 r.5)
       (length-retained r.2 ps r.3 r.5) r.6 e
 
-  module _ (f : F) (ks ls : List (List ℕ)) (vs ws : List V) (even : length vs ≡ length ks) (left : length ws ≡ length ls)
+  module _ (f : F) (ks ls : List (List ℕ)) (vs ws : List V)
+      (even : length vs ≡ length ks) (left : length ws ≡ length ls)
       (r : RetainsPairs T f (zip ks vs) (zip ls ws)) where
     pub IsDistinct-retained : IsDistinct bytes_eq ks → IsDistinct bytes_eq ls
     IsDistinct-retained d =

@@ -1,4 +1,4 @@
--- Worked rows of docs/RULES.md, "Numbers", on equal numbers, computed from the definition.
+-- Equality of some numbers (docs/RULES.md, "Numbers"), computed from the definition.
 use Rattle.std.proofs.Common.{◌≡◌, pos, negsuc, true, false, refl}
 use Rattle.jzon_base.specs.Decimal.{nan, parts, same, scaled}
 

@@ -3,7 +3,7 @@ use Rattle.std.specs.Prelude.{ℕ, Bool, ◌||◌, ◌==◌, if◌then◌else◌
 use Rattle.std.specs.List.{list_any}
 use Rattle.jzon_base.specs.Tokens.{escape, quotation_mark}
 
--- the letters of the simple escapes
+-- the letters of the short escapes
 abbrev pub is_simple : ℕ → Bool
 is_simple c = list_any (λ l. l == c) (codes "\"\\/bfnrt")
 

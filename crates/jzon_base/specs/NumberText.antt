@@ -1,5 +1,4 @@
--- The text of a number: the table of docs/RULES.md, "Printed numbers". The table is normative, whatever another printer
--- does.
+-- The text of a number, as docs/RULES.md, "Printed numbers", has it. That is normative, whatever another printer does.
 use Rattle.std.specs.Prelude.{ℕ, ℤ, pos, negsuc, ◌+◌, ◌-◌, Bool, nat_le, nat_lt, ◌==◌, if◌then◌else◌, List, [], ◌++◌}
 use Rattle.std.specs.Prelude.{length, take, drop, replicate, codes, decimal}
 use Rattle.jzon_base.specs.Decimal.{Decimal, nan, parts}
@@ -22,7 +21,7 @@ fraction_text ds k =
     if nat_lt k (length ds) then point_after (length ds - k) ds
     else codes "0." ++ replicate (k - length ds) 48 ++ ds
 
--- the exponent after the first of d digits, for digits divided by 10 ^ k
+-- the exponent of d digits divided by 10 ^ k, of which one is before the point; nothing where it is 0
 abbrev pub small_exponent_text : ℕ → ℕ → List ℕ
 small_exponent_text d k =
     if d == k + 1 then []

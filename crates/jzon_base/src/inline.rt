@@ -1,4 +1,4 @@
-//! Text that is stored in its owner itself.
+//! Text stored inline, in its owner.
 ghost use Rattle.std.specs.Prelude.{◌≡◌, ◌<◌, ◌≤◌, length, IsUtf8};
 
 use std::marker::Model;

@@ -70,8 +70,8 @@ impl Key {
         }
     }
 
-    /// Adds a copy to keys that have room where the text is stored inline, and returns whether it
-    /// is. The copy is written where it stays.
+    /// Where the text is stored inline, appends a copy to `copies`, which have room, and returns
+    /// `true`. The copy is made in place.
     #[inline(always)]
     pub(crate) fn push_inline(&self, copies: &mut Vec<Key>) -> bool
         requires { vec_len copies.old < vec_capacity copies.old }

@@ -2,9 +2,9 @@
 //! (docs/RULES.md, "Objects").
 //!
 //! How a key is found, by what holds the keys:
-//! - `Keys`, of an object: up to eight keys are compared one by one.
-//! - `Runs`, in `Keys` from the ninth key on: entries of hash and position in few sorted runs,
-//!   each asked by binary search.
+//! - `Keys`, of an object: up to eight keys that have no index are compared one by one.
+//! - `Runs`, in `Keys` from the ninth key on, and still after removals: entries of hash and
+//!   position in few sorted runs, each asked by binary search.
 //! - `Few`, in a builder after a merge that leaves at most 64 keys: slots by the hash, by which an
 //!   entry of a repeated key finds its position.
 //! - `Marks`, in a builder that is asked for keys, from the tenth on: a filter that rejects nearly
@@ -45,8 +45,8 @@ use std::marker::Model;
 /// Distinct keys in the order in which they were put, and the index in which the position of each
 /// is found. A clause sees the list of their bytes.
 ///
-/// Few keys need no index: a look-up compares them one by one. The hash of a key is computed here
-/// and passed to the index.
+/// A look-up compares keys without an index one by one. The hashes of others are passed to the
+/// index, except by `retain`, whose `refill` computes them.
 #[derive(Drop)]
 pub struct Keys {
     keys: Vec<Key>,
@@ -195,8 +195,8 @@ impl Keys {
         }
     }
 
-    /// No key, with room for `capacity` of them and for their index. The error is a failed
-    /// allocation.
+    /// No key, with room for `capacity` of them, and for their index up to 1,024. The error is a
+    /// failed allocation.
     pub fn with_capacity(alloc: Global, capacity: usize) -> Result<Keys, AllocError>
         ensures { IfOk result (λ k. k ≡ []) }
     {
@@ -323,17 +323,6 @@ impl Keys {
         Ok(None)
     }
 
-    /// The position of a key. A missing key is put last, and the result is `None`. The error is a
-    /// failed allocation, and then nothing has changed.
-    pub fn place(&mut self, alloc: Global, key: Key) -> Result<Option<usize>, AllocError>
-        ensures position { IfOk result (λ place. place ≡ position (λ k. bytes_eq k key) self.old) }
-        ensures ok { IfOk result (λ place. MatchOption place
-            (self.new ≡ self.old ++ key ∷ []) (λ _. self.new ≡ self.old)) }
-        ensures err { OnErr result (self.new ≡ self.old) }
-    {
-        self.put(alloc, key.as_str())
-    }
-
     /// Removes the key at a position. The others keep their order. Takes no memory.
     pub fn remove(&mut self, index: usize)
         requires { index < length self.old }
@@ -394,18 +383,6 @@ pub(crate) fn merge<V: Drop>(
     let firsts = repeats::firsts(alloc, keys.as_slice(), index.as_mut_slice())?;
     repeats::merge(keys, values, firsts);
     Ok(true)
-}
-
-impl<'a> IntoIterator for &'a Keys {
-    type Item = &'a str;
-
-    type IntoIter = Iter<'a>;
-
-    ghost into_iter_gives = { λ k it. it ≡ k.now };
-
-    fn into_iter(self) -> Iter<'a> {
-        self.iter()
-    }
 }
 
 impl IntoIterator for Keys {

@@ -1,4 +1,4 @@
-//! Keys and values side by side (docs/RULES.md, "Objects").
+//! Values under distinct keys, in a box (docs/RULES.md, "Objects").
 ghost use Rattle.std.specs.Prelude.{◌≡◌, ◌<◌, ◌-◌, ◌++◌, ◌∷◌, ◌==◌, [], length, remove, slice_get};
 ghost use Rattle.std.specs.Prelude.{IsSome, Some, None, OnOk, OnErr, IfOk, MatchOption};
 ghost use Rattle.std.specs.List.{position, zip, IsDistinct};
@@ -76,8 +76,8 @@ impl<V> Pairs<V> {
         })
     }
 
-    /// No entry, with room for the keys, the values and the index of `capacity` entries. The error
-    /// is a failed allocation.
+    /// No entry, with room for keys and values of `capacity` entries, and for their index up to
+    /// 1,024. The error is a failed allocation.
     pub fn with_capacity(alloc: Global, capacity: usize) -> Result<Pairs<V>, AllocError>
     where
         V: Drop,
@@ -93,7 +93,11 @@ impl<V> Pairs<V> {
 
     /// The entries that are put one after the other: those of equal keys become one, with the last
     /// value at the position of the first. The error is a failed allocation.
-    fn from_entries(alloc: Global, keys: Vec<Key>, values: Vec<V>) -> Result<Pairs<V>, AllocError>
+    fn from_entries(
+        alloc: Global,
+        keys: Vec<Key>,
+        mut values: Vec<V>,
+    ) -> Result<Pairs<V>, AllocError>
     where
         V: Drop,
         requires { length values.items ≡ length keys.items }
@@ -102,7 +106,6 @@ impl<V> Pairs<V> {
         if keys.is_empty() {
             return Ok(Pairs::new(alloc));
         }
-        let mut values = values;
         let keys = Keys::from_entries(alloc, keys, &mut values)?;
         Pairs::boxed(alloc, Entries::from_parts(keys, values))
     }

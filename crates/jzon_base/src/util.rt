@@ -1,5 +1,5 @@
-//! What the other modules share: the write loop, the text of a number, copies of numbers, escapes,
-//! runs of plain bytes, and vectors without spare capacity.
+//! What the crates share: the write loop, the text of a number, copies of numbers, escapes, runs of
+//! plain bytes, and the spare capacity of vectors.
 
 ghost use Rattle.std.specs.Prelude.{OnOk, OnErr};
 ghost use Rattle.std.specs.Io.KnownBytes.{Appends};

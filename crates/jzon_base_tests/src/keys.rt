@@ -63,7 +63,7 @@ fn places_a_removed_key(rt: HostRuntime) -> Result<(), AllocError> {
     keys.remove(1);
     assert_eq!(rt; keys.position("a"), None);
     for want in [None, Some(3usize)] {
-        assert_eq!(rt; keys.place(rt.alloc(), Key::new(rt.alloc(), "a")?)?, want);
+        assert_eq!(rt; keys.put(rt.alloc(), "a")?, want);
     }
     assert_eq!(rt; keys.len(), 4);
     Ok(())
@@ -111,7 +111,7 @@ fn places_keys_of_one_hash(rt: HostRuntime) -> Result<(), AllocError> {
     assert_eq!(rt; keys.len(), 4);
     keys.remove(1);
     for (name, want) in [(ONE, Some(1usize)), (OTHER, None)] {
-        assert_eq!(rt; keys.place(rt.alloc(), Key::new(rt.alloc(), name)?)?, want);
+        assert_eq!(rt; keys.put(rt.alloc(), name)?, want);
     }
     assert_eq!(rt; keys.position(OTHER), Some(3));
     Ok(())
@@ -190,7 +190,7 @@ fn finds_keys_in_several_runs(rt: HostRuntime) -> Result<(), AllocError> {
     let mut keys = Keys::new(rt.alloc());
     for name in &names {
         assert_eq!(rt;
-            keys.place(rt.alloc(), Key::new(rt.alloc(), name.as_str())?)?,
+            keys.put(rt.alloc(), name.as_str())?,
             None
         );
     }

@@ -297,7 +297,7 @@ fn expect_every(
 }
 
 /// Few keys and many, in one run of the index and in several: all are kept, none, every second and
-/// every hundredth. What is left can be put to.
+/// every hundredth. An entry can be added to what is left.
 #[test]
 fn finds_what_is_retained(rt: HostRuntime) -> Result<(), AllocError> {
     for (count, step) in [

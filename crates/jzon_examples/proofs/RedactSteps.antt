@@ -7,7 +7,8 @@ use Rattle.jzon.specs.Value.{Value, values_of, pairs_of, value, pair}
 use Rattle.jzon.specs.View.{view}
 use Rattle.jzon.proofs.InPlace.{IsWrittenBelow, seen_member, written-next_member}
 use Rattle.jzon.proofs.ValueLaws.{view-Array, view-Object, view-Short}
-use Rattle.jzon_examples.specs.Redact.{hidden, is_among, names_among, redacted, redacted_values, redacted_pairs, redacted_member}
+use Rattle.jzon_examples.specs.Redact.{hidden, is_among, names_among, redacted, redacted_values}
+use Rattle.jzon_examples.specs.Redact.{redacted_pairs, redacted_member}
 
 pub values-redacted : (names : List (List ℕ)) (vs : List Value)
     → redacted_values names (values_of vs) ≡ values_of (map (redacted names) vs)

@@ -1,4 +1,4 @@
-//! Builds a value by the macros, changes it, and knows what it is.
+//! Builds a value by a macro, changes it, and proves what it is.
 //!
 //! A macro propagates an error with `?`, so it is called in a function that returns a `Result`.
 

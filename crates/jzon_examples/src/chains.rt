@@ -1,7 +1,7 @@
 //! Chains of iterator calls over a value's members and elements.
 //!
-//! `YieldsList-from_entries` and `YieldsList-from_elements` say what such a chain goes over, as it
-//! is seen; std has a lemma for each call that ends one.
+//! `YieldsList-from_entries` and `YieldsList-from_elements` say over which list of values such a
+//! chain goes; std has a lemma for each call that ends one.
 
 ghost use Rattle.std.specs.Prelude.{◌≡◌, ◌||◌, codes, position};
 ghost use Rattle.std.specs.List.{list_all};

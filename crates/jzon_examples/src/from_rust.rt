@@ -52,7 +52,7 @@ pub fn longest(value: &JsonValue) -> usize {
     most
 }
 
-/// A copy with the text in both layouts.
+/// The compact and the pretty text of a copy, and a text by `stringify`.
 pub fn printed(alloc: Global, value: &JsonValue) -> Result<JsonValue> {
     let copy = value.clone(alloc)?;
     let compact = copy.dump(alloc)?;

@@ -26,7 +26,7 @@ pub fn layered(alloc: Global, base: &JsonValue, later: &JsonValue) -> Result<Jso
     Ok(both)
 }
 
-/// A copy of an object, and an empty one of another value.
+/// A copy of an object; for any other value an empty object.
 fn copied(alloc: Global, value: &JsonValue) -> Result<JsonValue>
     ensures object { IfOk result (λ copy. is_object (view copy) ≡ true) }
     ensures members { IfOk result (λ copy. entries (view copy) ≡ entries (view value.now)) }

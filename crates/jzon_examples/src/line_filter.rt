@@ -7,8 +7,8 @@ ghost use Rattle.jzon_examples.specs.Filter.{IsPrinted, ArePrinted};
 use jzon::Result;
 use std::alloc::Global;
 
-/// The compact text of each line's value, on a line of its own. A line that is no JSON text is
-/// rejected with the error of its first fault.
+/// The compact text of each line's value, on a line of its own. Fails at the first line that is no
+/// JSON text, with the error of its first fault.
 pub fn compacted(alloc: Global, text: &str) -> Result<String>
     ensures { IfOk result (λ printed. ArePrinted (lines text.now) (string_bytes printed)) }
 {

@@ -69,7 +69,7 @@ fn merge_member(alloc: Global, made: &mut Object, key: &str, value: &JsonValue) 
     made.insert(alloc, key, new)
 }
 
-/// A copy of an object, and an empty one of another value.
+/// A copy of an object; for any other value an empty object.
 #[tactic(auto, using(crate::proofs::Merges::merges))]
 fn members_of(alloc: Global, value: &JsonValue) -> Result<Object>
     ensures members { IfOk result (λ o. viewed (entries_of o) ≡ entries (view value.now)) }
@@ -86,7 +86,7 @@ mod tests {
     use super::*;
     use std::test::Fail;
 
-    /// The appendix of RFC 7386.
+    /// Rows of the appendix of RFC 7386.
     #[test]
     fn merges(rt: HostRuntime) -> std::result::Result<(), Fail> {
         let alloc = rt.alloc();

@@ -169,7 +169,7 @@ mod tests {
     use std::process::Abort;
     use std::test::Fail;
 
-    /// The appendix of RFC 6902, where a path leads through objects alone.
+    /// Examples of the appendix of RFC 6902 whose paths lead through objects alone.
     #[test]
     fn applies(rt: HostRuntime) -> Result<(), Fail> {
         let alloc = rt.alloc();

@@ -1,9 +1,8 @@
 //! Round trip: what is printed is read again.
 //!
 //! `IsReadable usual v` says that `parse` can read what is printed of `v`: it holds no NaN and
-//! nests at most 512 deep. Each value that `parse` returns is so. Of a value that calls built, no
-//! more has to be known than these two: the call that prints it ensures the other premises of the
-//! laws.
+//! nests at most 512 deep. Each value that `parse` returns is so. For a value built by calls these
+//! two are enough: the call that prints it ensures the other premises of the laws.
 
 ghost use Rattle.std.specs.Prelude.{◌≡◌, ◌≤◌, IfOk, IsOkUnless, IsTrue, string_bytes};
 ghost use Rattle.jzon.specs.Answer.{IsReadable};

@@ -1,7 +1,7 @@
 //! Writes under a key.
 //!
-//! `insert` says of the value what it is after the call, `with_entry`; the laws of values say what
-//! is found in it.
+//! By the contract of `insert` the value is then `with_entry`; the laws of values say what is found
+//! in it.
 
 ghost use Rattle.std.specs.Prelude.{◌≡◌, ◌≢◌, ℕ, List, codes, Some, OnOk, OnErr, pos};
 ghost use Rattle.jzon.specs.Decimal.{integer_parts};

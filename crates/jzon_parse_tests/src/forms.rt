@@ -21,7 +21,7 @@ fn rejects_a_point_without_a_digit(rt: HostRuntime) -> std::result::Result<(), F
 /// 19 arrays, one in another.
 const NESTED: &str = "[[[[[[[[[[[[[[[[[[[\"innermost\"]]]]]]]]]]]]]]]]]]]";
 
-/// An object in an object, with an empty line before and after it.
+/// An object in an object, with empty lines before and after it.
 const OUTER: &str =
     "\n\n{\n    \"outer\": {\n        \"a\": \"an object.\",\n        \"b c\": \"It ends.\"\n    }\n}\n\n";
 

@@ -1,4 +1,4 @@
-//! Texts that only look like JSON, one with each form of the grammar, long ones, and escapes at
+//! Texts that only look like JSON, one with nearly each form of the grammar, long ones, and escapes at
 //! each position of a string.
 
 use crate::texts::{expect_each_rejected, expect_read, expect_rejected};
@@ -30,7 +30,7 @@ fn rejects_what_looks_like_json(rt: HostRuntime) -> Result<(), Fail> {
     expect_each_rejected(&rt, rt.alloc(), LOOKALIKES)
 }
 
-/// A text with each form of the grammar.
+/// A text with each form of the grammar but surrogate pairs.
 const EACH_FORM: &str = r#"
 [
   "a pattern", {"one member":["one item"]}, {}, [], -42, true, false, null,
@@ -97,8 +97,7 @@ fn with_escape(alloc: Global, escape: &str, position: usize) -> Result<String, A
     )
 }
 
-/// Each offset in the blocks that plain bytes are looked for in has each escape, the longest one
-/// too.
+/// Each escape, and `é`, at each offset of the 32-byte blocks in which plain bytes are looked for.
 #[test]
 fn reads_and_prints_an_escape_at_each_position(rt: HostRuntime) -> Result<(), Fail> {
     let rows = [

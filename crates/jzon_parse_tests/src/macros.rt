@@ -3,7 +3,7 @@
 use jzon::{JsonValue, Result};
 use std::alloc::Global;
 
-/// An object with each form of a key and of a value, and a key twice.
+/// An object with each form of a key, and a key twice.
 fn each_form(alloc: Global, key: &str) -> Result<JsonValue> {
     Ok(
         jzon::object! {alloc; foo: false, "bar": null, [key]: 42, list: [null, "world", true], "a" => 1, "a" => 2,},

@@ -1,4 +1,4 @@
-//! Texts by each reading.
+//! Readings: which exist, what they accept and reject, and what they admit.
 
 use jzon::number::NAN;
 use jzon::{Error, JsonValue, Reading, parse, parse_as};

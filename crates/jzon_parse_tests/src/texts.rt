@@ -276,7 +276,7 @@ fn reports_the_first_fault_of_a_container(rt: HostRuntime) -> Result<(), Fail> {
     expect_each_rejected(&rt, rt.alloc(), FAULTY_CONTAINERS)
 }
 
-const FAULTY_MEMBERS: &[(&str, &str)] = &[
+const FAULTY_ITEMS: &[(&str, &str)] = &[
     ("[]1", "Unexpected character: 1 at (1:3)"),
     ("[0x14]", "Unexpected character: x at (1:3)"),
     ("['a']", "Unexpected character: ' at (1:2)"),
@@ -297,8 +297,8 @@ const FAULTY_MEMBERS: &[(&str, &str)] = &[
 ];
 
 #[test]
-fn reports_the_first_fault_of_a_member(rt: HostRuntime) -> Result<(), Fail> {
-    expect_each_rejected(&rt, rt.alloc(), FAULTY_MEMBERS)
+fn reports_the_first_fault_of_an_element_or_member(rt: HostRuntime) -> Result<(), Fail> {
+    expect_each_rejected(&rt, rt.alloc(), FAULTY_ITEMS)
 }
 
 #[test]

@@ -11,7 +11,7 @@ pub use refusals::{RUNS_MAX, Refusals};
 pub use slow_writer::{NO_FAILING_CALL, SlowWriter, Trouble};
 use std::alloc::{AllocError, Global};
 
-/// A JSON text with a value of each kind.
+/// A JSON text with a value of each kind but a boolean.
 pub const DOCUMENT: &str = "{\"a\":[1,-0.5e+2,\"x\\u00e9\\uD834\\uDD1E\"],\"b\":null}";
 
 /// What its value dumps as.

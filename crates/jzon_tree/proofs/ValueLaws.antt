@@ -57,7 +57,8 @@ pub find-view : (k : List ℕ) (v : JsonValue) → find k (entries (view v)) ≡
 find-view k v = ap (find k) (entries-view v) ∙ sym (find-viewed k (entries_in v))
 
 -- the members of an object, as it is seen
-pub find-view_object : (k : List ℕ) (o : Object) → find k (entries (view_object o)) ≡ option_map view (find k (entries_of o))
+pub find-view_object : (k : List ℕ) (o : Object)
+    → find k (entries (view_object o)) ≡ option_map view (find k (entries_of o))
 find-view_object k o =
     ap (find k) (list_of_pairs-pairs_of (viewed (entries_of o))) ∙ sym (find-viewed k (entries_of o))
 

@@ -1,4 +1,4 @@
--- The states of the four generators.
+-- The state of a `TextGenerator`, over any outlet and in any layout.
 use Rattle.std.specs.Prelude.{◌≡◌, ℕ, List, Option, Some, None, Result, MatchResult, IsUtf8, string_bytes}
 use Rattle.std.specs.Borrow.{GName}
 use Rattle.std.specs.declared.string.String.{String}

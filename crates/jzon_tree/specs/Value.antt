@@ -2,7 +2,7 @@
 use Rattle.std.specs.Prelude.{ℕ, suc, max, List, [], ◌∷◌, length, nat_le, Bool, if◌then◌else◌}
 use Rattle.jzon_base.specs.Decimal.{Decimal}
 
--- how a string is stored: inline or allocated; no other rule depends on it
+-- how a string is stored: inline or allocated; equality and texts don't depend on it
 pub data Kind : Type 0 where
   short : Kind
   long : Kind

@@ -30,7 +30,7 @@ impl Object {
     }
 }
 
-/// Inlined into the loop over elements, so that a level of containers takes one frame of the stack.
+/// Inlined into the loop over elements: an array in an array takes one frame of the stack.
 #[inline(always)]
 #[cycle(copy)]
 #[tactic(auto, using(crate::proofs::Views::views))]
@@ -76,8 +76,8 @@ fn copy_items(alloc: Global, items: &[JsonValue]) -> Result<Vec<JsonValue>>
     Ok(copies)
 }
 
-/// Adds a copy of a value that is stored inline, and returns whether it is. Each arm writes its
-/// copy where it stays: through `copy_value` it would be moved there.
+/// Adds a copy of a value that is stored inline, and returns whether it is. Each arm makes its copy
+/// in place: through `copy_value` it would be moved there.
 #[inline(always)]
 #[tactic(auto, using(crate::proofs::Views::views))]
 fn push_inline(copies: &mut Vec<JsonValue>, value: &JsonValue) -> bool

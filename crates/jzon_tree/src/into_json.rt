@@ -7,7 +7,7 @@ ghost use Rattle.jzon_tree.specs.View.{view};
 mod containers;
 mod integers;
 mod maps;
-mod scalars;
+mod primitives;
 
 use crate::value::JsonValue;
 use jzon_base::error::{Error, Result};

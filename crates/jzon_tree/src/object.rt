@@ -35,10 +35,10 @@ use std::slice;
 /// may be far more than there are distinct keys.
 const ROOM_MAX: usize = 256;
 
-/// The pairs of an object that are left, each as its key's text and its value.
+/// The members of an object that are left, each as its key's text and its value.
 pub type Iter<'a> = pairs::Iter<'a, JsonValue>;
 
-/// The pairs of an object that are left, each as its key's text and its value, which may be
+/// The members of an object that are left, each as its key's text and its value, which may be
 /// written.
 pub type IterMut<'a> = pairs::IterMut<'a, JsonValue>;
 
@@ -48,18 +48,18 @@ pub type Keys<'a> = keys::Iter<'a>;
 /// The values of an object that are left.
 pub type Values<'a> = slice::Iter<'a, JsonValue>;
 
-/// The pairs of an object that are left, each as its key and its value.
+/// The members of an object that are left, each as its key and its value.
 #[derive(Drop)]
 pub struct IntoIter {
     pairs: pairs::IntoIter<JsonValue>,
 }
 
-/// The entries of an object that is being made. A clause sees the pairs of the object so far: a
+/// The entries of an object that is being made. A clause sees the members of the object so far: a
 /// later entry of a key changes that key's value in its place.
 pub type Builder = pairs::Builder<JsonValue>;
 
-/// The pairs of a JSON object (RFC 8259, section 4), in the order in which their keys were put. No
-/// key is there twice.
+/// The members of a JSON object (RFC 8259, section 4), in the order in which their keys were put.
+/// No key is there twice.
 ///
 /// Keys are compared by their bytes. Two objects are equal where they have the same keys, and equal
 /// values under each, in whatever order.
@@ -75,7 +75,7 @@ impl Object {
     ghost use Rattle.jzon_tree.specs.contracts.value.JsonValue.{the_row as value_row};
     ghost use Rattle.jzon_tree.specs.Entries.{entries_of, with_entries};
 
-    /// An object without pairs. It takes no memory.
+    /// An object without members. It takes no memory.
     pub fn new(alloc: Global) -> Object
         ensures { entries_of result ≡ [] }
     {
@@ -84,8 +84,9 @@ impl Object {
         }
     }
 
-    /// An object without pairs, with room for `capacity` of them: for keys, values and index. Up to
-    /// 1,024 pairs of short keys then need no more memory. Fails with `OutOfMemory` only.
+    /// An object without members, with room for `capacity` of them: for keys, values and index. Up
+    /// to 1,024 members with keys of up to 32 bytes then need no more memory. Fails with
+    /// `OutOfMemory` only.
     pub fn with_capacity(alloc: Global, capacity: usize) -> Result<Object>
         ensures empty { IfOk result (λ object. entries_of object ≡ []) }
         ensures memory { IsOkUnless result Error.OutOfMemory }
@@ -116,7 +117,7 @@ impl Object {
         Object::from_builder(alloc, builder)
     }
 
-    /// The object of the builder's pairs. Fails with `OutOfMemory` only.
+    /// The object of the builder's entries. Fails with `OutOfMemory` only.
     pub fn from_builder(alloc: Global, builder: Builder) -> Result<Object>
         ensures pairs { IfOk result (λ object. entries_of object ≡ builder) }
         ensures memory { IsOkUnless result Error.OutOfMemory }
@@ -126,7 +127,7 @@ impl Object {
         })
     }
 
-    /// How many pairs there are.
+    /// How many members there are.
     pub fn len(&self) -> usize
         ensures len { result ≡ length (entries_of self.now) }
         ensures distinct { IsDistinct bytes_eq (keys_of (entries_of self.now)) }
@@ -134,7 +135,7 @@ impl Object {
         self.pairs.len()
     }
 
-    /// Whether there is no pair.
+    /// Whether there is no member.
     pub fn is_empty(&self) -> bool
         ensures { result ≡ (length (entries_of self.now) == 0) }
     {
@@ -174,7 +175,7 @@ impl Object {
     /// Puts the value under the key: at the position of the key if it is there, which takes no
     /// memory, else last. Fails with `OutOfMemory` only, and then nothing has changed.
     ///
-    /// `n` calls with new keys take a time of about n log n; `from_pairs` is faster still.
+    /// `n` calls with new keys take a time of at most about n (log n)^2; `from_pairs` is faster.
     pub fn insert(&mut self, alloc: Global, key: &str, value: JsonValue) -> Result<()>
         ensures ok { OnOk result (entries_of self.new ≡ put key.now value (entries_of self.old)) }
         ensures err { OnErr result (self.new ≡ self.old) }
@@ -185,7 +186,7 @@ impl Object {
         Ok(())
     }
 
-    /// Changes the value of the last pair alone, and nothing where there is no pair.
+    /// Changes the value of the last member alone, and nothing where there is none.
     pub fn override_last(&mut self, value: JsonValue)
         ensures { entries_of self.new ≡
             set_value (entries_of self.old) (length (entries_of self.old) - 1) value }
@@ -193,8 +194,8 @@ impl Object {
         self.pairs.override_last(value);
     }
 
-    /// Removes the pair of the key, and gives its value. The others keep their order. It takes no
-    /// memory.
+    /// Removes the member of the key, and returns its value. The others keep their order. It takes
+    /// no memory.
     pub fn remove(&mut self, key: &str) -> Option<JsonValue>
         ensures value { result ≡ find key.now (entries_of self.old) }
         ensures after { entries_of self.new ≡ cut key.now (entries_of self.old) }
@@ -216,14 +217,14 @@ impl Object {
         self.pairs.retain(keep);
     }
 
-    /// Removes all pairs.
+    /// Removes all members.
     pub fn clear(&mut self)
         ensures { entries_of self.new ≡ [] }
     {
         self.pairs.clear();
     }
 
-    /// Whether there is an entry of the key. It takes no memory.
+    /// Whether there is a member of the key. It takes no memory.
     pub fn contains_key(&self, key: &str) -> bool
         ensures { result ≡ is_some (find key.now (entries_of self.now)) }
     {
@@ -244,14 +245,14 @@ impl Object {
         self.pairs.values().iter()
     }
 
-    /// The pairs in their order, from both ends.
+    /// The members in their order, from both ends.
     pub fn iter(&self) -> Iter<'_>
         ensures { result ≡ entries_of self.now }
     {
         self.pairs.iter()
     }
 
-    /// The pairs in their order, from both ends. Their values may be written.
+    /// The members in their order, from both ends. Their values may be written.
     pub fn iter_mut(&mut self) -> IterMut<'_>
         ensures { iter_mut_rest result ≡ entries_of self.old }
     {
@@ -259,7 +260,7 @@ impl Object {
     }
 }
 
-/// Most values are stored inline, and are passed over without a call.
+/// Drops values in a loop, so that those stored inline cost no call.
 impl Drop for Object {
     #[cycle(json)]
     fn drop(self) {

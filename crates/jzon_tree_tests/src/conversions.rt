@@ -53,7 +53,7 @@ fn converts_without_allocating(rt: HostRuntime) -> Tested {
     expect_dump(&rt, alloc, JsonValue::Boolean(false), "false")
 }
 
-/// It is this string, kept inline where it is short.
+/// It is this string, stored inline if `is_short`.
 fn expect_kept(rt: &impl Abort, value: &JsonValue, is_short: bool, text: &str) {
     assert_eq!(rt; matches!(value, JsonValue::Short(_)), is_short);
     assert_eq!(rt; value.as_str(), Some(text));

@@ -11,7 +11,7 @@ use std::alloc::Global;
 use std::io;
 use std::process::Abort;
 
-/// Counts the bytes that are passed to a generator, but not those that go to its writer directly.
+/// Counts the bytes passed to a compact generator, not those that go to its writer directly.
 #[derive(Drop)]
 struct Counting<G: Generator> {
     inner: G,

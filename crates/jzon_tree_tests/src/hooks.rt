@@ -28,7 +28,7 @@ enum Hook {
     NoteFault,
 }
 
-/// Calls the hook once. Before it, `dedent` alone sets the open indents.
+/// Calls the hook once; before `dedent` it sets 7 open indents.
 fn call<G: Generator>(generator: &mut G, hook: Hook, object: &Object) -> io::Result<()> {
     match hook {
         Hook::Write => generator.write(b"ab")?,

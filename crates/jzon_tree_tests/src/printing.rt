@@ -1,4 +1,4 @@
-//! What is printed, by each of the calls that print.
+//! What is printed, by several calls that print.
 
 use crate::common::{Tested, empty_containers, expect_bytes, numbers};
 use jzon_base::error::Error;
@@ -109,7 +109,7 @@ fn prettifies_an_object(rt: HostRuntime) -> Tested {
     Ok(())
 }
 
-/// A string of which the first bytes are known to be plain, twice.
+/// A string whose first 2 bytes, and then 3, are written as they are.
 fn write_complex<G: Generator>(generator: &mut G) -> io::Result<()> {
     generator.write_string_complex("ab\"c", 2)?;
     generator.write_string_complex("ab\"c", 3)

@@ -1,4 +1,4 @@
-//! A buffered writer whose contract names the writer after it.
+//! A buffered writer whose contract says that its writer stays the same.
 
 ghost use Rattle.std.specs.Prelude.{◌≡◌, ℕ, ◌+◌, ◌≤◌, [], length, take, vec_len, vec_capacity, MatchOption, OnOk};
 ghost use Rattle.std.specs.Io.KnownBytes.{Appends, Keeps};
@@ -16,8 +16,8 @@ impl Start for Brand {
     ghost start = { 0 };
 }
 
-/// Collects bytes in memory that it is given, and writes them in order when they fill it. It never
-/// allocates. After an error of the writer, the bytes that it didn't accept are kept.
+/// Collects bytes in memory that it is given, and writes them in order when the next don't fit. It
+/// never allocates. After an error of the writer, the bytes that it didn't accept are kept.
 #[derive(Drop)]
 pub struct Buffered<'a, W, S> {
     inner: &'a mut W,

@@ -16,7 +16,7 @@ use std::io::{Read, Write};
 use std::marker::Brand;
 use std::{fmt, io, mem};
 
-/// How a document is printed.
+/// How a text is printed.
 #[derive(Clone, Copy, Debug, PartialEq, Eq)]
 pub enum Layout {
     /// Without whitespace.
@@ -26,7 +26,7 @@ pub enum Layout {
     Pretty(u16),
 }
 
-/// How a document is read and printed.
+/// How a text is read and printed.
 #[derive(Clone, Copy, Debug)]
 pub struct Options {
     /// How it is read.
@@ -35,7 +35,7 @@ pub struct Options {
     pub layout: Layout,
 }
 
-/// Why a document was not printed, or only in part.
+/// Why a text was not printed, or only in part.
 #[derive(Debug, Drop)]
 pub enum RunFault {
     /// The reader failed with this error; an interruption counts.
@@ -198,7 +198,7 @@ fn write_line<W: Write, S: Start>(
     answer
 }
 
-/// Writes them after what is held, and writes out the buffer.
+/// Writes the text and a newline after what is held, and writes out the buffer.
 fn write_held<W: Write, S: Start>(
     buffered: &mut Buffered<'_, W, S>,
     value: &JsonValue,
@@ -233,8 +233,8 @@ fn write_text<W: Write>(writer: &mut W, value: &JsonValue, layout: Layout) -> io
 }
 
 /// The program, apart from where its arguments and streams come from: reads the arguments, runs,
-/// flushes the writer, reports a fault in one line on `faults`, and returns the exit status. A
-/// failed write of that line is ignored.
+/// flushes the writer after an `Ok`, writes the message of a fault to `faults`, and returns the
+/// exit status. A failed write of that message is ignored.
 pub fn drive<R: Read, W: Write, F: Write>(
     alloc: Global,
     words: &[String],
@@ -257,7 +257,7 @@ pub fn drive<R: Read, W: Write, F: Write>(
     }
 }
 
-/// The options that the arguments name: a layout, with `--strict` before or after it.
+/// The options that the arguments name: a layout, and maybe `--strict` before or after it.
 fn options_of(words: &[String]) -> Option<Options>
     ensures { result ≡ asked_options (map string_bytes words.now) }
 {
@@ -294,7 +294,7 @@ fn spaces_of(word: &str) -> Option<u16>
     word.parse().ok()
 }
 
-/// Runs, and then flushes the writer.
+/// Runs, and after an `Ok` flushes the writer.
 fn run_and_flush<R: Read, W: Write>(
     alloc: Global,
     reader: &mut R,
@@ -312,7 +312,7 @@ fn run_and_flush<R: Read, W: Write>(
     }
 }
 
-/// Reports the fault in one line, and returns its exit status. A failed write of that line is
+/// Writes the fault's message and a newline, and returns its exit status. A failed write is
 /// ignored.
 pub fn report<F: Write>(faults: &mut F, fault: &RunFault) -> u8
     ensures { result ≡ fault_status fault.now }

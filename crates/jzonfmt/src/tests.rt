@@ -399,9 +399,9 @@ fn a_writer_fails_at_each_call(rt: HostRuntime) -> Result<(), Fail> {
     Ok(())
 }
 
-/// A writer fails after what was buffered, too.
+/// Also with a writer that fails at the last byte of a full buffer, or at the next.
 #[test]
-fn writes_texts_longer_than_the_buffer(rt: HostRuntime) -> Result<(), Fail> {
+fn writes_texts_round_a_full_buffer(rt: HostRuntime) -> Result<(), Fail> {
     let alloc = rt.alloc();
     // With 8191 items the newline is the byte 65536.
     for items in [8190, 8191, 8192, 20000] {

@@ -1,4 +1,4 @@
--- The text of a number is read as the same number.
+-- The text of a number is read as an equal number.
 use Rattle.std.proofs.Common.{◌≡◌, ◌∙◌, ℕ, suc, zero, ℤ, pos, negsuc, ◌+◌, ◌*◌, ◌^◌, ◌≤◌, ◌<◌, None, List, [], length}
 use Rattle.std.proofs.Common.{Bool, sym, ap, subst, arith, decimal, FitsSigned, inl, inr, chars}
 use Rattle.std.specs.Int.{w16}

@@ -1,4 +1,4 @@
--- Each text that is written for a value without NaN is read as the same value.
+-- Each text that is written for a value without NaN is read as an equal value.
 use Rattle.std.proofs.Common.{◌≡◌, ◌∙◌, ◌≢◌, ℕ, suc, ◌≤◌, max, List, [], ◌∷◌, ◌++◌, length, map, Bool, true, false}
 use Rattle.std.proofs.Common.{cond, Option, Some, refl, sym, ap, subst, arith}
 use Rattle.std.specs.Prelude.{IsUtf8, IsTrue, AllPairs}

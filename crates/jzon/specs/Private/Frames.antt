@@ -18,7 +18,7 @@ abbrev pub open_in : Frames → Frame → Frames
 open_in fs (Array elements) = array_frame fs (map view elements.items)
 open_in fs (Object entries key) = object_frame fs (viewed entries) key
 
--- the open containers; the innermost is the last of the stack
+-- the containers of the stack; the innermost is the last
 abbrev pub stack_view : List Frame → Frames
 stack_view stack = fold open_in no_frames stack
 

@@ -1,5 +1,5 @@
--- The automaton: maps the rest of a text to a value or a fault, one character at a time. A `Place` is its state: no
--- tree and no whitespace, only the contents so far of the open containers, and the position within a token.
+-- The automaton: maps the rest of a text to a value or a fault, one character at a time. A `State` has no tree and no
+-- whitespace, only the contents so far of the open containers, and how far a token is read.
 use Rattle.std.specs.Prelude.{◌≡◌, ◌⊎◌, ℕ, zero, suc, ◌+◌, ◌-◌, ◌*◌, if◌then◌else◌, List, [], ◌∷◌, ◌++◌, length, drop}
 use Rattle.std.specs.Prelude.{Bool, true, false, ◌&&◌, ◌==◌, Option, Some, None, Result, Ok, Err, MatchResult, chars}
 use Rattle.std.specs.Prelude.{encode_utf8}

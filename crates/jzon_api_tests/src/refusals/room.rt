@@ -8,7 +8,7 @@ use std::fmt;
 use std::fmt::Write;
 use std::test::Fail;
 
-/// A buffer of a fixed capacity, which grows where that doesn't suffice.
+/// A buffer with an initial capacity, which grows where that doesn't suffice.
 #[derive(Drop)]
 struct Sink {
     bytes: Vec<u8>,

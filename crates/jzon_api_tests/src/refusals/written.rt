@@ -90,7 +90,7 @@ impl Call for Writing {
 
 const NUMBERS: &str = "{\"a\":[1]}";
 
-/// What dumps the text on one line, and that on lines, with two spaces for each open container.
+/// The compact text as a JSON string, and the pretty one, with two spaces for each open container.
 const ON_ONE_LINE: &str = "\"{\\\"a\\\":[1]}\"";
 
 const ON_LINES: &str = "\"{\\n  \\\"a\\\": [\\n    1\\n  ]\\n}\"";

@@ -60,7 +60,7 @@ impl Few {
         Ok(Few { slots, next: 0 })
     }
 
-    /// Drops the slots.
+    /// Empties the slots.
     pub fn clear(&mut self)
         ensures { self.new.slots.items ≡ [] }
     {
@@ -109,7 +109,7 @@ fn fill(slots: &mut [u8], place: u8, name: &str) -> bool {
 
 /// Whether the key of this name is at this position.
 #[inline(always)]
-fn stands_at(keys: &[Key], place: usize, name: &str) -> bool
+fn has_name_at(keys: &[Key], place: usize, name: &str) -> bool
     requires { IsDistinct bytes_eq keys.now }
     ensures { result ≡ true → position (λ k. bytes_eq k name.now) keys.now ≡ Some place }
 {
@@ -122,7 +122,7 @@ fn look_up(keys: &[Key], slots: &[u8], first: usize, name: &str) -> Option<usize
     requires { IsDistinct bytes_eq keys.now }
     ensures { IfSome result (λ place. position (λ k. bytes_eq k name.now) keys.now ≡ Some place) }
 {
-    if stands_at(keys, first, name) {
+    if has_name_at(keys, first, name) {
         return Some(first);
     }
     let start = first_slot(name);
@@ -131,7 +131,7 @@ fn look_up(keys: &[Key], slots: &[u8], first: usize, name: &str) -> Option<usize
         if keys.len() <= place {
             return None;
         }
-        if stands_at(keys, place, name) {
+        if has_name_at(keys, place, name) {
             return Some(place);
         }
     }

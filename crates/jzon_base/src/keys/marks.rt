@@ -17,14 +17,14 @@ const HALF: u64 = 0x1_0000_0000;
 /// The value of an empty slot: no tag.
 const EMPTY: u32 = 0;
 
-/// How many slots a key gets at least when the slots are made. They are made anew for half as many.
+/// How many slots a key gets at least when the slots are made. With half as many they are remade.
 const SLOTS_FOR_EACH: usize = 8;
 
 /// What a look-up reads past the last slot.
 const TAKEN: u32 = 1;
 
-/// Slots with the tags of the first keys of a list, each in one of the sixteen slots from the one
-/// on that its hash names. Where those were taken, the key has no tag, and the filter rejects no
+/// Slots with the tags of the first keys of a list, each in one of the sixteen slots that begin at
+/// the one its hash names. Where those were taken, the key has no tag, and the filter rejects no
 /// key of such a hash.
 #[derive(Drop)]
 pub struct Marks {
@@ -141,7 +141,7 @@ fn slot_at(slots: &[u32], place: usize) -> u32
     }
 }
 
-/// Whether this tag is in a slot from the first on before an empty one, or sixteen other tags are.
+/// Whether one of sixteen slots has this tag before any empty one, or none of them is empty.
 fn is_marked(slots: &[u32], first: u32, mark: u32) -> bool
     ensures { result ≡ is_marked slots.now mark first 16 }
 {

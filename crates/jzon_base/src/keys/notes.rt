@@ -55,7 +55,7 @@ impl Notes {
         self.few.find(keys, name)
     }
 
-    /// Drops the slots, since the list gets another key.
+    /// Empties the slots, since the list gets another key.
     #[inline(always)]
     pub fn go_on(&mut self)
         ensures { (ks : List (List ℕ)) (k : List ℕ) → AreNoted ks self.old

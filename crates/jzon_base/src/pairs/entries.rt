@@ -1,4 +1,4 @@
-//! The entries of `Pairs` that have any.
+//! The keys and the values of `Pairs`, which are in its box.
 ghost use Rattle.std.specs.Prelude.{◌≡◌, ◌<◌, ◌++◌, ◌∷◌, [], length, remove, slice_get};
 ghost use Rattle.std.specs.Prelude.{Some, None, OnOk, OnErr, IfOk, vec_len, vec_capacity};
 ghost use Rattle.std.specs.List.{position, zip, IsDistinct};

@@ -1,4 +1,4 @@
-//! Copies that are made where they stay.
+//! Copies of numbers, made field by field.
 
 ghost use Rattle.std.specs.Prelude.{◌≡◌};
 

@@ -6,7 +6,7 @@ ghost use Rattle.std.specs.Char.{is_ascii_hexdigit, digit_char, digit_value};
 ghost use Rattle.std.specs.Option.{SomeIff};
 ghost use Rattle.jzon_base.specs.Escapes.{is_simple, unescaped, letter_of};
 
-/// The byte that a backslash means before each letter of a simple escape, and 0 for all others.
+/// The byte that a backslash means before each letter of a short escape, and 0 for all others.
 #[rattlefmt::skip]
 static UNESCAPED: [u8; 256] = [
     0, 0, 0, 0, 0, 0, 0, 0, 0, 0, 0, 0, 0, 0, 0, 0,

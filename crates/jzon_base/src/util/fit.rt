@@ -8,7 +8,7 @@ use std::alloc::{AllocError, Global};
 /// touched, and a copy would touch as many again.
 const FITTED_MAX: usize = 128;
 
-/// Room for how many elements a vector gets first, if it grows one by one.
+/// How many elements a vector that grows one by one first has room for.
 const FIRST_ROOM: usize = 8;
 
 /// Makes room for one more element. The error is a failed allocation.

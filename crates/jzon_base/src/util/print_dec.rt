@@ -46,7 +46,7 @@ pub fn put(room: &mut [u8; MAX_LEN], positive: bool, n: u64, exponent: i16) -> u
     }
 }
 
-/// The same, for any number.
+/// The same, without the fast path.
 #[cold]
 #[inline(never)]
 fn put_any(room: &mut [u8; MAX_LEN], positive: bool, n: u64, exponent: i16) -> usize
@@ -152,8 +152,8 @@ fn push_magnitude(text: &mut NumberText, digits: &str, exponent: i16)
     }
 }
 
-/// The digits divided by `10 ^ places`: without an exponent if `places` is at most 17, else with
-/// one.
+/// The digits divided by `10 ^ places`: with an exponent if `places` is above 17 and the exponent
+/// isn't 0.
 fn push_negative_power(text: &mut NumberText, digits: &str, places: usize)
     requires ascii { IsAscii digits.now }
     requires some { 0 < length digits.now }
@@ -189,7 +189,8 @@ fn push_fraction(text: &mut NumberText, digits: &str, places: usize)
     }
 }
 
-/// The exponent after the first of `count` digits, for digits divided by `10 ^ places`.
+/// The exponent of `count` digits divided by `10 ^ places`, of which one is before the point;
+/// nothing where it is 0.
 fn push_small_exponent(text: &mut NumberText, count: usize, places: usize)
     requires count { count ≤ 20 }
     requires small { 18 ≤ places }

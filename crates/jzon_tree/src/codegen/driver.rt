@@ -54,7 +54,7 @@ pub fn write_object<G: Generator>(g: &mut G, object: &Object) -> io::Result<()>
     }
 }
 
-/// Inlined into the loops over elements and entries, so that only a container costs a call.
+/// Inlined into the loops over elements and entries, so that only containers recurse.
 #[inline(always)]
 #[cycle(write_value)]
 #[tactic(auto, using(crate::proofs::Views::views))]

@@ -27,8 +27,8 @@ use std::io::{ErrorKind, Write};
 /// fault (saturating at `u64::MAX`), and leaves the open indents. Where the contract of the writer
 /// doesn't fix its bytes, that of a hook doesn't either.
 ///
-/// Where only whitespace or the order of entries differ from the generators of the crate, a
-/// `Layout` is enough.
+/// Where only the number of spaces or the order of entries differs from the generators of the
+/// crate, a `Layout` is enough.
 pub trait Generator {
     /// The writer.
     type T: Write;
@@ -133,7 +133,7 @@ pub trait Generator {
         self.set_dent(dent - 1);
     }
 
-    /// Adds the text in quotes, escaped. The bytes go through `write` and `write_char`.
+    /// Adds the string in quotes, escaped. The bytes go through `write` and `write_char`.
     fn write_string(&mut self, string: &str) -> io::Result<()>
         ensures { Emits (Just (quoted string.now)) (meaning self.old) (meaning self.new) result }
     {
@@ -238,6 +238,6 @@ pub trait Generator {
     ghost writer_law: { (g : Self) (w : Self.T)
         → meaning (with_writer g w) ≡ record (meaning g) { out = Self.T.contents w } };
 
-    // The style allows some whitespace, one form of the colon, and one order of distinct keys.
+    // The style allows some whitespace, some form of the colon, and some order of distinct keys.
     ghost style_law: { (g : Self) → IsStyle (meaning g).style };
 }

@@ -61,7 +61,7 @@ pub trait Layout {
             (keys_of (entries_of object.now))) }
         ensures insertion { IsTrue (keeps_order self.now) → result ≡ Ok None };
 
-    // The style allows some whitespace, one form of the colon, and one order of distinct keys.
+    // The style allows some whitespace, some form of the colon, and some order of distinct keys.
     ghost style_law: { (l : Self) → IsStyle (style l) };
 }
 
@@ -148,8 +148,8 @@ pub(super) fn send_line<W: Write>(
     Ok(())
 }
 
-/// Adds a newline and fewer than `SHORT_LINE` spaces: as many as a short line may have, of which
-/// those that are too many are cut off.
+/// Adds a newline and fewer than `SHORT_LINE` spaces: `SHORT_LINE` bytes are copied, and the rest
+/// is truncated.
 #[inline(always)]
 pub(super) fn push_line(bytes: &mut Vec<u8>, spaces: usize)
     requires few { spaces < SHORT_LINE }

@@ -82,8 +82,8 @@ pub(super) fn push_string(
     push_any(bytes, string, slot)
 }
 
-/// Adds a short string in quotes if it needs no escape: it is put over quotes, of which those that
-/// are too many are cut off. Otherwise nothing is added, and the result is false.
+/// Adds a short string in quotes if it needs no escape: it overwrites quotes added first, and the
+/// rest is truncated. Otherwise nothing is added, and the result is `false`.
 #[inline(always)]
 fn push_short(bytes: &mut Vec<u8>, string: &[u8]) -> bool
     requires short { length string.now ≤ SHORT_MAX_LEN }
@@ -177,8 +177,8 @@ fn put_ends<const N: usize>(bytes: &mut [u8], offset: usize, text: &[u8])
     last.copy_to_slice(&mut bytes[offset + start..]);
 }
 
-/// Adds any string in quotes, escaped. Apart, so that what is inlined for short strings makes no
-/// call.
+/// Adds any string in quotes, escaped. Not inlined, so that what is inlined for short strings makes
+/// no call.
 #[inline(never)]
 fn push_any(bytes: &mut Vec<u8>, string: &[u8], slot: &mut ErrorSlot) -> SlotResult<()>
     ensures { Sends (Just (quoted string.now)) (Some bytes.old.items)
@@ -193,7 +193,7 @@ fn push_any(bytes: &mut Vec<u8>, string: &[u8], slot: &mut ErrorSlot) -> SlotRes
     }
 }
 
-/// Adds a string that needs no escape in quotes, with one request for room. After an error nothing
+/// Adds in quotes a string that needs no escape, with one request for room. After an error nothing
 /// is added.
 #[inline(always)]
 fn push_quoted(bytes: &mut Vec<u8>, string: &[u8]) -> Result<(), AllocError>
@@ -208,7 +208,7 @@ fn push_quoted(bytes: &mut Vec<u8>, string: &[u8]) -> Result<(), AllocError>
     Ok(())
 }
 
-/// Adds a string in quotes, escaped. Apart, so that `push_any` saves no registers for it.
+/// Adds a string in quotes, escaped. Not inlined, so that `push_any` saves no registers for it.
 #[cold]
 #[inline(never)]
 fn send_escaped(bytes: &mut Vec<u8>, string: &[u8], slot: &mut ErrorSlot) -> SlotResult<()>

@@ -233,8 +233,8 @@ impl<O: Outlet, L: Layout> Generator for TextGenerator<O, L> {
         take_result(step, slot)
     }
 
-    /// The order of the layout. Where that is the order of insertion, it is `None`, and nothing of
-    /// the generator changes.
+    /// The order of the layout. Where its `keeps_order` holds, that is `None`, and nothing of the
+    /// generator changes.
     #[inline(always)]
     fn order(&mut self, object: &Object) -> io::Result<Option<Vec<usize>>>
         ensures answer { MatchResult result
@@ -350,7 +350,7 @@ impl<L: Layout + Drop> TextGenerator<Memory, L> {
         String::from_utf8(self.outlet.bytes).map_err(|_| Error::FailedUtf8Parsing)
     }
 
-    /// The bytes that were written, which are UTF-8, as a string. They aren't tested again.
+    /// The bytes that were written, which are UTF-8, as a string. They aren't tested.
     pub(crate) fn into_text(self) -> String
         requires { IsUtf8 self.outlet.bytes.items }
         ensures { string_bytes result ≡ self.outlet.bytes.items }

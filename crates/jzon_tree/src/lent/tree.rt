@@ -1,7 +1,6 @@
-//! Mutable references into a tree whose own type and whose nodes' type are two parameters. Of such
-//! a `&mut` the checker proves what is written back through it; of one from a type to itself it
-//! makes no proof (docs/DECISIONS.md,
-//! "What is written back through a lent value of the same type").
+//! Mutable references from a type to nodes of another: the checker proves what is written back
+//! through these, but not through one from a type to itself (docs/DECISIONS.md, "What can't be had
+//! today").
 
 ghost use Rattle.std.specs.Prelude.{◌≡◌, ◌≤◌, ◌<◌, List, ℕ, [], length, slice_get, slice_set, IfOk, IfSome, OnOk};
 ghost use Rattle.std.specs.Prelude.{OnErr, IsOkUnless, IsSome, MatchOption, Option, None, Some};

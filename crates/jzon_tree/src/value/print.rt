@@ -109,9 +109,9 @@ impl JsonValue {
         write_json(&mut generator, self)
     }
 
-    /// Writes the text of the value in a layout of the caller's. Only the layout may allocate. An
-    /// error is the writer's, or reports that the layout's `order` ran out of memory; a prefix of
-    /// the text is then written.
+    /// Writes the text of the value in a layout of the caller's. Only the layout and the writer may
+    /// allocate. An error is the writer's, or reports that the layout's `order` ran out of memory
+    /// or that 2^64 indents would be open; a prefix of the text is then written.
     pub fn write_layout<W: Write, L: Layout + Drop>(
         &self,
         writer: &mut W,

@@ -41,7 +41,8 @@ the_empty = []
 abbrev pub the_items : (X : Type 0) → List (List ℕ × X) → List X
 the_items = entries.the_items
 
-pub the_items_listed : (X : Type 0) (ps : List (List ℕ × X)) → listed _ (children (the_former this) X ps) ≡ the_items X ps
+pub the_items_listed : (X : Type 0) (ps : List (List ℕ × X))
+    → listed _ (children (the_former this) X ps) ≡ the_items X ps
 the_items_listed = entries.the_items_listed
 
 abbrev BoxOf : Type 0 → Type 0
@@ -66,20 +67,23 @@ module _ {X : Type 0} where
 
 -- the box, where there is one
 abbrev boxes : Former {0}
-boxes = via (or (const (Unit {0})) (pair (const (Ptr × Global)) (entries.the_former this))) (λ X. Option (BoxOf X)) (λ X. split) (λ X. join) (λ X. join-split) (λ X. split-join)
+boxes = via (or (const (Unit {0})) (pair (const (Ptr × Global)) (entries.the_former this)))
+    (λ X. Option (BoxOf X)) (λ X. split) (λ X. join) (λ X. join-split) (λ X. split-join)
 
 abbrev fields : Former {0}
-fields = via (pair (const Global) boxes) Inside (λ X a. (a.alloc, a.entries)) (λ X v. record { alloc = v.0; entries = v.1 }) (λ X a. refl) (λ X v. refl)
+fields = via (pair (const Global) boxes) Inside (λ X a. (a.alloc, a.entries))
+    (λ X v. record { alloc = v.0; entries = v.1 }) (λ X a. refl) (λ X v. refl)
 
 module _ (X : Type 0) where
   abbrev with_entries : Inside X → Option (BoxOf X) → Inside X
   with_entries u o = record { alloc = u.alloc; entries = o }
 
-  keeps : (u : Inside X) (o : Option (BoxOf X)) → held (the_former this) X (entries_in o) ≡ held fields X (with_entries u o)
+  keeps : (u : Inside X) (o : Option (BoxOf X))
+      → held (the_former this) X (entries_in o) ≡ held fields X (with_entries u o)
   keeps u None = refl
   keeps u (Some b) = refl
 
-abbrev with_value : {X Y : Type 0} → BoxOf X → List (List ℕ × Y) → BoxOf Y
+abbrev with_value : {A B : Type 0} → Box A Global → B → Box B Global
 with_value b y = record { ptr = b.ptr; alloc = b.alloc; value = y }
 
 module _ (X Y : Type 0) (h : X → Y) where
@@ -97,31 +101,45 @@ module _ (X Y : Type 0) (h : X → Y) where
   mapped None = refl
   mapped (Some b) = refl
 
-  natural : (u : Inside X) (o : Option (BoxOf X)) → entries_in (fields.map X Y h (with_entries X u o)).entries ≡ over_list (entries_in o)
+  natural : (u : Inside X) (o : Option (BoxOf X))
+      → entries_in (fields.map X Y h (with_entries X u o)).entries ≡ over_list (entries_in o)
   natural u None = refl
   natural u (Some b) = refl
 
+-- the row of a box for the row of what is in it
+abbrev boxed : RattleType → RattleType
+boxed E = box.the_row E heap.the_row ghosts
+
 abbrev box_of : RattleType → RattleType
-box_of R = box.the_row (T.the_row R) heap.the_row ghosts
+box_of R = boxed (T.the_row R)
 
 module _ (R S : RattleType) (h : R.Denot → S.Denot) where
   box_places : Alike R S h → Alike (box_of R) (box_of S) (over_box R.Denot S.Denot h)
   unfolding part_of
   box_places a =
+      let E = T.the_row R in
       let t = entries.the_places R S h a in record {
-        mir_same = λ i. (box.the_row (one_value (T.the_row R) (t.mir_same i) (λ _. ftrue) (λ _ _. nothing) gnil) heap.the_row ghosts).mir;
-        own_same = λ b i. (box.the_row (one_value (T.the_row R) (t.mir_same i) (t.own_same b.value i) (t.shr_same b.value i) gnil) heap.the_row ghosts).own_val (record { ptr = b.ptr; alloc = b.alloc; value = tt });
-        shr_same = λ b i. (box.the_row (one_value (T.the_row R) (t.mir_same i) (t.own_same b.value i) (t.shr_same b.value i) gnil) heap.the_row ghosts).shr_at (record { ptr = b.ptr; alloc = b.alloc; value = tt });
+        mir_same = λ i. (boxed (one_value E (t.mir_same i) (λ _. ftrue) (λ _ _. nothing) gnil)).mir;
+        own_same = λ b i.
+            (boxed (one_value E (t.mir_same i) (t.own_same b.value i) (t.shr_same b.value i) gnil)).own_val
+            (with_value b tt);
+        shr_same = λ b i.
+            (boxed (one_value E (t.mir_same i) (t.own_same b.value i) (t.shr_same b.value i) gnil)).shr_at
+            (with_value b tt);
       }
 
   variant : (o : Option (BoxOf R.Denot))
       → (option.enum (box_of S)).as_values (over_boxes R.Denot S.Denot h o)
-      ≡ eachs (option.enum (box_of R)).parts (option.enum (box_of S)).parts (tt, ((over_box R.Denot S.Denot h, tt), tt)) ((option.enum (box_of R)).as_values o)
+      ≡ eachs (option.enum (box_of R)).parts (option.enum (box_of S)).parts
+      (tt, ((over_box R.Denot S.Denot h, tt), tt)) ((option.enum (box_of R)).as_values o)
   variant None = refl
   variant (Some b) = refl
 
-  boxes_places : Alike R S h → Alike (option.the_row (box_of R)) (option.the_row (box_of S)) (over_boxes R.Denot S.Denot h)
-  boxes_places a = enum_places (option.enum (box_of R)) (option.enum (box_of S)) (tt, ((over_box R.Denot S.Denot h, tt), tt)) (over_boxes R.Denot S.Denot h) variant refl (tt, ((laid _ _ _ (box_places a), tt), tt))
+  boxes_places : Alike R S h
+      → Alike (option.the_row (box_of R)) (option.the_row (box_of S)) (over_boxes R.Denot S.Denot h)
+  boxes_places a = enum_places (option.enum (box_of R)) (option.enum (box_of S))
+      (tt, ((over_box R.Denot S.Denot h, tt), tt)) (over_boxes R.Denot S.Denot h) variant refl
+      (tt, ((laid _ _ _ (box_places a), tt), tt))
 
   pub the_places : Alike R S h → Alike (C.the_row R) (C.the_row S) ((the_former this).map R.Denot S.Denot h)
   the_places a = view_places fields (the_former this) view
@@ -129,7 +147,8 @@ module _ (R S : RattleType) (h : R.Denot → S.Denot) where
       R.Denot S.Denot h (C.the_row R).coded (C.the_row S).coded
       (invariant R.Denot) (invariant S.Denot) (λ u p q. refl) (λ u p q. refl) (λ u e. tt) (λ u e. tt)
       (over (I.the_row R)) (over (I.the_row S))
-      (struct_places (I.the_type R) (I.the_type S) (λ n. n, (over_boxes R.Denot S.Denot h, tt)) _ (λ d i. (d.alloc, (mapped R.Denot S.Denot h d.entries i, tt))) refl
+      (struct_places (I.the_type R) (I.the_type S) (λ n. n, (over_boxes R.Denot S.Denot h, tt)) _
+      (λ d i. (d.alloc, (mapped R.Denot S.Denot h d.entries i, tt))) refl
       ((refl, (λ n. refl, λ n. refl)), (laid _ _ _ (boxes_places a), tt)))
 
   pub the_codes_placed : Recodes R S h → Recodes (C.the_row R) (C.the_row S) ((the_former this).map R.Denot S.Denot h)

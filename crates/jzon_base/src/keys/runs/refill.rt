@@ -22,7 +22,7 @@ fn put_hashed(entries: &mut [(u64, usize)], keys: &[Key], from: usize)
 }
 
 impl Run {
-    /// Replaces the entries by those of the keys from a position on, as many as fit, and returns
+    /// Replaces the entries by those of the keys from a position on, at most as many, and returns
     /// the position after them. Takes no memory.
     fn refill(&mut self, keys: &[Key], from: usize) -> usize
         requires { from ≤ length keys.now }

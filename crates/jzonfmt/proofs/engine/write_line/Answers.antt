@@ -7,7 +7,8 @@ use Rattle.jzonfmt.proofs.engine.write_line.Goals.{After-new-buffered}
 use Rattle.jzonfmt.proofs.engine.write_line.Goals as goal
 
 -- nothing is left yet
-nothing_left : (g : _) (c : After-new-buffered g) → drop c.new-buffered.result.taken c.new-buffered.result.bytes.items ≡ []
+nothing_left : (g : _) (c : After-new-buffered g)
+    → drop c.new-buffered.result.taken c.new-buffered.result.bytes.items ≡ []
 nothing_left g c =
     ap (λ (k : ℕ). drop k c.new-buffered.result.bytes.items) c.new-buffered.ensures.taken
     ∙ ap (λ v. v.items) c.new-buffered.ensures.bytes

@@ -4,5 +4,6 @@ use Rattle.jzon_tree.proofs.codegen.strings.send_escape.Goals as goal
 
 pub returns : goal.returns
 returns g c =
-    let same = rw c.put_escape-start.array_long at (take_rest c.put_escape-start.new.room c.put_escape-start.result ∙ c.put_escape-start.ensures.text) in
+    let same = rw c.put_escape-start.array_long at
+    (take_rest c.put_escape-start.new.room c.put_escape-start.result ∙ c.put_escape-start.ensures.text) in
     rw same at c.send.ensures

@@ -4,7 +4,8 @@ use Rattle.std.proofs.lemmas.List.{nil_from_length, take_rest}
 use Rattle.jzon_base.specs.Private.PlainBytes.{is_plain}
 use Rattle.jzon_tree.specs.Generator.{Just}
 use Rattle.jzon_tree.specs.Text.{escaped}
-use Rattle.jzon_tree.proofs.Emitting.{Added-chain, Failed-chain, Added-chained, Failed-chained, Emits-at_err, Emits-after}
+use Rattle.jzon_tree.proofs.Emitting.{Added-chain, Failed-chain, Added-chained, Failed-chained}
+use Rattle.jzon_tree.proofs.Emitting.{Emits-at_err, Emits-after}
 use Rattle.jzon_tree.proofs.SentStrings.{any_run_stopped, escape_stopped, escape_sent, last_sent, needs_escape, whole}
 use Rattle.jzon_tree.proofs.codegen.generator.Generator.write_string_complex.Goals as goal
 
@@ -25,7 +26,8 @@ put_escape-at-requires g c = needs_escape c.loop-byte.rest.now c.in-Some.others.
 
 pub returns-in_err-write-3 : goal.returns-in_err-write-3
 returns-in_err-write-3 g c =
-    let same = rw c.put_escape-at.array_long at (take_rest c.put_escape-at.new.room c.put_escape-at.result ∙ c.put_escape-at.ensures.text) in
+    let same = rw c.put_escape-at.array_long at
+    (take_rest c.put_escape-at.new.room c.put_escape-at.result ∙ c.put_escape-at.ensures.text) in
     let escape = rw same at c.in_err-write-3.ensures in
     Emits-at_err _ _ _ _ c.from_residual-in_err-write-3.ensures.0
     (Failed-chained _ _ _ _ _ _ _ _ c.loop-byte.invariant c.in_ok-write-2.ensures escape
@@ -36,7 +38,8 @@ returns-in_err-write-3 g c =
 
 pub loop-byte-preserved : goal.loop-byte-preserved
 loop-byte-preserved g c =
-    let same = rw c.put_escape-at.array_long at (take_rest c.put_escape-at.new.room c.put_escape-at.result ∙ c.put_escape-at.ensures.text) in
+    let same = rw c.put_escape-at.array_long at
+    (take_rest c.put_escape-at.new.room c.put_escape-at.result ∙ c.put_escape-at.ensures.text) in
     let escape = rw same at c.in_ok-write-3.ensures in
     Added-chained _ _ _ _ _ _ _ _ c.loop-byte.invariant c.in_ok-write-2.ensures escape
     (escape_sent (take c.args.start c.args.string.now) (drop c.args.start c.args.string.now) c.loop-byte.rest.now

@@ -9,6 +9,7 @@ pub returns : goal.returns
 returns g c =
     let s = c.args.self.now in
     Emits-counted (Just (quoted c.args.string.now)) (quoted c.as_bytes.result.now)
-    (text_meaning g.O.Outlet.out g.O.Outlet.lender g.L.Layout.style s) _ _ _ _ _ _ (ap quoted c.as_bytes.ensures.value) refl
+    (text_meaning g.O.Outlet.out g.O.Outlet.lender g.L.Layout.style s) _ _ _ _ _ _
+    (ap quoted c.as_bytes.ensures.value) refl
     c.send_quoted-step.ensures.bytes (same_emitted refl c.send_quoted-step.ensures.lender) c.count.ensures.result
     c.count.ensures.faults

@@ -1,6 +1,6 @@
 use Rattle.std.proofs.Common.{◌<◌, length, sym, ◌∙◌, arith}
 use Rattle.jzon_base.proofs.Indexes.{only_place, read_equal}
-use Rattle.jzon_base.proofs.keys.few.stands_at.Goals as goal
+use Rattle.jzon_base.proofs.keys.few.has_name_at.Goals as goal
 
 pub returns-then-place-keys : goal.returns-then-place-keys
 returns-then-place-keys c same =
