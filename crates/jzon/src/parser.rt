@@ -354,12 +354,12 @@ impl<'a> Parser<'a> {
         let source = self.cursor.source;
         let start = self.cursor.index;
         let spelled = read_string(source, start + 1, &mut self.buffer)?;
-        let name = spelled.text(source, start + 1, &self.buffer);
+        let (name, wide) = spelled.text(source, start + 1, &self.buffer);
         let refused = is_refused(self.alloc, self.cursor.reading, entries, name)?;
         if refused {
             return Err(duplicate_at(source, start));
         }
-        let key = Key::new(self.alloc, name)?;
+        let key = Key::from_wide(self.alloc, name, wide)?;
         self.cursor.go_to(spelled.end);
         if self.cursor.peek() != b':' {
             return Err(self.cursor.fault());

@@ -84,7 +84,8 @@ fn read_string_value(
         (λ v. after_value fs (view v)) }
 {
     let spelled = read_string(source, start, buffer)?;
-    let value = text_value(alloc, spelled.text(source, start, buffer))?;
+    let (content, wide) = spelled.text(source, start, buffer);
+    let value = text_value(alloc, content, wide)?;
     Ok((value, spelled.end))
 }
 

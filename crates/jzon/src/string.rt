@@ -1,7 +1,7 @@
 //! Reads strings (RFC 8259, section 7; docs/RULES.md, "Strings").
 
 ghost use Rattle.std.specs.Prelude.{◌≡◌, ◌==◌, ◌<◌, ◌≤◌, ◌+◌, ◌-◌, ◌++◌, ◌&&◌, ◌⊎◌, ◌↔◌, Contains, ℕ, List, [], length};
-ghost use Rattle.std.specs.Prelude.{drop, chars, IsTrue, IfOk, IsOk, IsOkUnless, SomeIff, MatchResult, OnOk};
+ghost use Rattle.std.specs.Prelude.{drop, take, chars, IsTrue, IfOk, IsOk, IsOkUnless, SomeIff, MatchResult, OnOk};
 ghost use Rattle.std.specs.Prelude.{slice_index, slice_range, string_bytes, encode_utf8, if◌then◌else◌, false};
 ghost use Rattle.std.specs.Char.{is_ascii_hexdigit, digit_value};
 ghost use Rattle.std.specs.Str.{IsCharBoundary};
@@ -38,32 +38,40 @@ pub(crate) struct Spelled {
 }
 
 impl Spelled {
-    /// The contents of the string whose opening quote is before `start`.
-    pub(crate) fn text<'a>(self, source: &'a str, start: usize, buffer: &'a String) -> &'a str
+    /// The contents of the string whose opening quote is before `start`, and all bytes from these
+    /// contents on.
+    pub(crate) fn text<'a>(
+        self,
+        source: &'a str,
+        start: usize,
+        buffer: &'a String,
+    ) -> (&'a str, &'a [u8])
         requires begin { IsCharBoundary source.now start }
         requires end { EndsAtQuote source.now start self.end }
-        ensures { result.now
+        ensures text { result.0.now
             ≡ (if self.is_escaped then string_bytes buffer.now else slice_range source.now start
             (self.end - 1)) }
+        ensures wide { take (length result.0.now) result.1.now ≡ result.0.now }
     {
         if self.is_escaped {
-            buffer.as_str()
+            (buffer.as_str(), buffer.as_bytes())
         } else {
-            &source[start..self.end - 1]
+            (&source[start..self.end - 1], &source.as_bytes()[start..])
         }
     }
 }
 
-/// A string value: up to 30 bytes in place, which never fails, and longer ones on the heap. The
-/// error is `OutOfMemory`.
+/// A string value, with whose string `wide` begins: up to 30 bytes are stored inline, which never
+/// fails, and more are allocated. The error is `OutOfMemory`.
 #[inline(always)]
-pub(crate) fn text_value(alloc: Global, content: &str) -> Result<JsonValue>
+pub(crate) fn text_value(alloc: Global, content: &str, wide: &[u8]) -> Result<JsonValue>
+    requires { take (length content.now) wide.now ≡ content.now }
     ensures value { IfOk result (λ v. view v ≡ text (kind_of content.now) content.now) }
     ensures memory { IsOkUnless result OutOfMemory }
     ensures in_place { length content.now ≤ 30 → IsOk result }
 {
     if content.len() <= MAX_LEN {
-        Ok(JsonValue::Short(Short::from_slice(content)))
+        Ok(JsonValue::Short(Short::from_wide(content, wide)))
     } else {
         Ok(JsonValue::String(String::from_str(alloc, content)?))
     }

@@ -1,5 +1,5 @@
 //! Text stored inline, in its owner.
-ghost use Rattle.std.specs.Prelude.{◌≡◌, ◌<◌, ◌≤◌, length, IsUtf8};
+ghost use Rattle.std.specs.Prelude.{◌≡◌, ◌<◌, ◌≤◌, length, take, IsUtf8};
 
 use std::marker::Model;
 use std::str;
@@ -34,6 +34,26 @@ impl<const MAX: usize> Inline<MAX> {
     {
         let mut bytes = [0; MAX];
         bytes[..text.len()].copy_from_slice(text.as_bytes());
+        Inline {
+            bytes,
+            len: text.len() as u8,
+        }
+    }
+
+    /// The text, with which `wide` begins. Where `wide` is long enough, `MAX` bytes of it are copied,
+    /// which takes no call; those after the text are never read.
+    #[inline(always)]
+    pub fn from_wide(text: &str, wide: &[u8]) -> Inline<MAX>
+        requires short { length text.now ≤ MAX }
+        requires max { MAX < 256 }
+        requires wide { take (length text.now) wide.now ≡ text.now }
+        ensures { result ≡ text.now }
+    {
+        if wide.len() < MAX {
+            return Inline::new(text);
+        }
+        let mut bytes = [0; MAX];
+        bytes.copy_from_slice(&wide[..MAX]);
         Inline {
             bytes,
             len: text.len() as u8,

@@ -1,6 +1,6 @@
 //! A key of an object: text that is stored inline if it is short (docs/RULES.md, "Short and long
 //! strings").
-ghost use Rattle.std.specs.Prelude.{◌≡◌, ◌+◌, ◌<◌, ◌≤◌, ◌++◌, ◌∷◌, [], false, true, length};
+ghost use Rattle.std.specs.Prelude.{◌≡◌, ◌+◌, ◌<◌, ◌≤◌, ◌++◌, ◌∷◌, [], false, true, length, take};
 ghost use Rattle.std.specs.Prelude.{string_bytes, vec_len, vec_capacity, IfOk, IsOkUnless, OnErr};
 ghost use Rattle.std.specs.Str.{bytes_eq};
 ghost use Rattle.std.specs.Cmp.{partial_equiv_from_equiv};
@@ -54,6 +54,23 @@ impl Key {
         Ok(Key {
             text: Text::Owned(String::from_str(alloc, text)?),
         })
+    }
+
+    /// The key with this text, with which `wide` begins: as `new`, and faster where `wide` has 32
+    /// bytes.
+    #[doc(hidden)]
+    #[inline(always)]
+    pub fn from_wide(alloc: Global, text: &str, wide: &[u8]) -> Result<Key, AllocError>
+        requires wide { take (length text.now) wide.now ≡ text.now }
+        ensures bytes { IfOk result (λ k. k ≡ text.now) }
+        ensures long { OnErr result (32 < length text.now) }
+    {
+        if text.len() <= INLINE_MAX {
+            return Ok(Key {
+                text: Text::Inline(Inline::from_wide(text, wide)),
+            });
+        }
+        Key::new(alloc, text)
     }
 
     /// A copy. Text of up to 32 bytes allocates nothing; for longer text the error is a failed

@@ -1,6 +1,6 @@
 //! Short strings, stored inline (docs/RULES.md, "Short and long strings").
 
-ghost use Rattle.std.specs.Prelude.{◌≡◌, ◌≤◌, length, IfOk, IsOkUnless, IsUtf8, string_bytes};
+ghost use Rattle.std.specs.Prelude.{◌≡◌, ◌≤◌, length, take, IfOk, IsOkUnless, IsUtf8, string_bytes};
 ghost use Rattle.std.specs.Str.{bytes_eq};
 ghost use Rattle.jzon_base.specs.declared.error.Error.TheVariants.{OutOfMemory};
 
@@ -35,6 +35,20 @@ impl Short {
     {
         Short {
             text: Inline::new(slice),
+        }
+    }
+
+    /// A copy of the string, with which `wide` begins: as `from_slice`, and faster where `wide` has
+    /// 30 bytes.
+    #[doc(hidden)]
+    #[inline(always)]
+    pub fn from_wide(slice: &str, wide: &[u8]) -> Short
+        requires short { length slice.now ≤ MAX_LEN }
+        requires wide { take (length slice.now) wide.now ≡ slice.now }
+        ensures { result ≡ slice.now }
+    {
+        Short {
+            text: Inline::from_wide(slice, wide),
         }
     }
 

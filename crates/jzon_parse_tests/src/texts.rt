@@ -301,9 +301,35 @@ fn reports_the_first_fault_of_an_element_or_member(rt: HostRuntime) -> Result<()
     expect_each_rejected(&rt, rt.alloc(), FAULTY_ITEMS)
 }
 
+/// After these a string isn't among the last bytes of a text.
+const SPACES: &str = "                                        ";
+
+/// The text is a string of these bytes, stored inline if `is_inline`, with this dump.
+fn expect_string(
+    rt: &impl Abort,
+    alloc: Global,
+    text: &str,
+    (is_inline, content, dump): (bool, &str, &str),
+) -> Result<(), Fail> {
+    let value = parse(alloc, text)?;
+    match &value {
+        JsonValue::Short(short) => {
+            assert!(rt; is_inline, "{text}");
+            assert_eq!(rt; short.as_str(), content, "{text}");
+        }
+        JsonValue::String(string) => {
+            assert!(rt; !is_inline, "{text}");
+            assert_eq!(rt; string.as_str(), content, "{text}");
+        }
+        _ => assert!(rt; false, "{text} is no string"),
+    }
+    assert_eq!(rt; value.dump(alloc)?.as_str(), dump, "{text}");
+    Ok(())
+}
+
 #[test]
 fn reads_strings(rt: HostRuntime) -> Result<(), Fail> {
-    // a text, whether its string is kept inline, its bytes, and its dump
+    // a text, whether its string is stored inline, its bytes, and its dump
     let rows: [(&str, bool, &str, &str); 17] = [
         ("\"\"", true, "", "\"\""),
         (
@@ -364,19 +390,10 @@ fn reads_strings(rt: HostRuntime) -> Result<(), Fail> {
         ("\"a\\u00E9b\\u00e9c\"", true, "aébéc", "\"aébéc\""),
     ];
     for (text, is_inline, content, dump) in &rows {
-        let value = parse(rt.alloc(), text)?;
-        match &value {
-            JsonValue::Short(short) => {
-                assert!(rt; *is_inline, "{text}");
-                assert_eq!(rt; short.as_str(), *content, "{text}");
-            }
-            JsonValue::String(string) => {
-                assert!(rt; !*is_inline, "{text}");
-                assert_eq!(rt; string.as_str(), *content, "{text}");
-            }
-            _ => assert!(rt; false, "{text} is no string"),
-        }
-        assert_eq!(rt; value.dump(rt.alloc())?.as_str(), *dump, "{text}");
+        let want = (*is_inline, *content, *dump);
+        expect_string(&rt, rt.alloc(), text, want)?;
+        let longer = format!(in rt.alloc(); "{text}{SPACES}")?;
+        expect_string(&rt, rt.alloc(), longer.as_str(), want)?;
     }
     Ok(())
 }

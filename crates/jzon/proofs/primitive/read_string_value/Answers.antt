@@ -7,4 +7,4 @@ pub returns-clause-outcome : goal.returns-clause-outcome
 returns-clause-outcome c r fs =
     c.in_ok-spelled.ensures.outcome r (as_value fs)
     ∙ ap (λ v. from r c.args.source.now (after_value fs v) c.in_ok-spelled.spelled.end)
-    (sym (c.in_ok-value.ensures.value ∙ ap (λ bs. text (kind_of bs) bs) c.text.ensures))
+    (sym (c.in_ok-value.ensures.value ∙ ap (λ bs. text (kind_of bs) bs) c.text.ensures.text))

@@ -44,8 +44,8 @@ returns-in_err-spelled-clause-outcome c fs h n =
     (byte_within t.source.now t.index 34 quote (lit< tt)) quote h)
     (rw failed.2 (c.in_err-spelled.ensures.outcome t.reading (as_key fs es (left_at t.source.now t.index)))))
 
-pub text-name-requires-clause-begin : goal.text-name-requires-clause-begin
-text-name-requires-clause-begin c =
+pub text-requires-clause-begin : goal.text-requires-clause-begin
+text-requires-clause-begin c =
     let t = c.args.self.now.cursor in
     let quote : next_byte t ≡ 34 = sym c.peek.ensures ∙ c.if-peek-ne34.false in
     IsCharBoundary-after_ascii t.source.now t.index (utf8_of t) (byte_within t.source.now t.index 34 quote (lit< tt))
@@ -59,7 +59,7 @@ returns-then-refused-clause-outcome c fs h n =
     let text = if c.in_ok-spelled.spelled.is_escaped then string_bytes c.read_string.new.buffer else slice_range
     t.source.now (t.index + 1) (end - 1) in
     let known : (t.reading.strict && is_some (find text es)) ≡ true =
-    ap (λ k. t.reading.strict && is_some (find k es)) (sym c.text-name.ensures) ∙ sym c.in_ok-refused.ensures.refused
+    ap (λ k. t.reading.strict && is_some (find k es)) (sym c.text.ensures.text) ∙ sym c.in_ok-refused.ensures.refused
     ∙ c.if-refused.true in
     reported (chars t.source.now) c.duplicate_at.result _ _
     (key_closes t fs es text end (sym c.peek.ensures ∙ c.if-peek-ne34.false) h
@@ -87,7 +87,7 @@ key_read c fs h =
     let text = if c.in_ok-spelled.spelled.is_escaped then string_bytes c.read_string.new.buffer else slice_range
     t.source.now (t.index + 1) (end - 1) in
     let new : (t.reading.strict && is_some (find text es)) ≡ false =
-    ap (λ k. t.reading.strict && is_some (find k es)) (sym c.text-name.ensures) ∙ sym c.in_ok-refused.ensures.refused
+    ap (λ k. t.reading.strict && is_some (find k es)) (sym c.text.ensures.text) ∙ sym c.in_ok-refused.ensures.refused
     ∙ c.if-refused.false in
     key_stands t u fs es text end
     (key_closes t fs es text end (sym c.peek.ensures ∙ c.if-peek-ne34.false) h
@@ -118,5 +118,5 @@ returns-clause-outcome c fs h n =
     (colon_read u c.bump.new.self fs es (key_text at) c.bump.ensures (sym c.peek-2.ensures ∙ c.if-peek-ne58.false)) in (
       read.0,
       read.1 ∙ ap (λ k. left c.bump.new.self (before (object_frame fs es k)))
-          (sym (c.in_ok-key.ensures.bytes ∙ c.text-name.ensures)),
+          (sym (c.in_ok-key.ensures.bytes ∙ c.text.ensures.text)),
     )
