@@ -189,10 +189,7 @@ fn finds_keys_in_several_runs(rt: HostRuntime) -> Result<(), AllocError> {
     let names = numbers(rt.alloc(), 3000)?;
     let mut keys = Keys::new(rt.alloc());
     for name in &names {
-        assert_eq!(rt;
-            keys.put(rt.alloc(), name.as_str())?,
-            None
-        );
+        assert_eq!(rt; keys.put(rt.alloc(), name.as_str())?, None);
     }
     expect_without(&rt, &keys, names.as_slice(), 3000);
     assert_eq!(rt; keys.len(), 3000);

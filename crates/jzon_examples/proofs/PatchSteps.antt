@@ -48,7 +48,7 @@ within-member o k (s ∷ ss) p j r some found e =
     let seen : find k (entries (view_object p)) ≡ Some (view j) =
     find-view_object k p ∙ ap (option_map view) (sym found) in
     ap (λ m. with_changed k (view_object p)
-        (option_map (λ w. patched_within o (string_bytes s) (map string_bytes ss) w) m)) seen
+    (option_map (λ w. patched_within o (string_bytes s) (map string_bytes ss) w) m)) seen
     ∙ ap (λ x. with_changed k (view_object p) (Some x)) e
 
 pub within-ok : (o : Operation) (k : List ℕ) (rest : List (String Global)) (p : Object) (j new : JsonValue)
@@ -73,6 +73,6 @@ within-missing o k [] p some found = absurd (some refl)
 within-missing o k (s ∷ ss) p some found =
     let seen : find k (entries (view_object p)) ≡ None = find-view_object k p ∙ ap (option_map view) (sym found) in
     ap (λ m. with_changed k (view_object p)
-        (option_map (λ w. patched_within o (string_bytes s) (map string_bytes ss) w) m)) seen
+    (option_map (λ w. patched_within o (string_bytes s) (map string_bytes ss) w) m)) seen
 
 pub ruleset patching = (view-Object, entries-Object, list_of_pairs-pairs_of, viewed-put, viewed-cut, find-view_object)

@@ -16,6 +16,10 @@ pub use crate::value::inspect::is_readable;
 pub use driver::{write_json, write_object};
 pub use generator::Generator;
 pub use layout::{Compact, Layout, Pretty};
+#[doc(hidden)]
+pub use strings::push_short;
+#[doc(hidden)]
+pub use text_generator::StringWrite;
 pub use text_generator::{
     DumpGenerator, PrettyGenerator, PrettyWriterGenerator, TextGenerator, WriterGenerator,
 };

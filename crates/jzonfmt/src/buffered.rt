@@ -3,6 +3,7 @@
 ghost use Rattle.std.specs.Prelude.{◌≡◌, ℕ, ◌+◌, ◌≤◌, [], length, take, vec_len, vec_capacity, MatchOption, OnOk};
 ghost use Rattle.std.specs.Io.KnownBytes.{Appends, Keeps};
 
+use jzon_tree::codegen::{StringWrite, push_short};
 use std::io;
 use std::io::{ErrorKind, Write};
 use std::marker::{Brand, PhantomData};
@@ -142,5 +143,14 @@ impl<W: Write, S: Start> Write for Buffered<'_, W, S> {
     fn flush(&mut self) -> io::Result<()> {
         self.write_out()?;
         self.inner.flush()
+    }
+}
+
+/// A string of up to 32 bytes is added at once where there is room for 34.
+impl<W: Write, S: Start> StringWrite for Buffered<'_, W, S> {
+    #[inline(always)]
+    fn write_short(&mut self, string: &[u8]) -> bool {
+        let room = self.bytes.capacity() - self.bytes.len();
+        string.len() <= 32 && 34 <= room && push_short(&mut self.bytes, string)
     }
 }

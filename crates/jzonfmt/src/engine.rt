@@ -11,6 +11,7 @@ ghost use Rattle.jzonfmt.specs.Drive.{fault_status};
 
 use crate::buffered::{Buffered, Start};
 use jzon::{Error, JsonValue, Reading, util};
+use jzon_tree::codegen::StringWrite;
 use std::alloc::{AllocError, Global};
 use std::io::{Read, Write};
 use std::marker::Brand;
@@ -219,16 +220,15 @@ fn write_held<W: Write, S: Start>(
 }
 
 /// Writes the text of the value in the layout.
-fn write_text<W: Write>(writer: &mut W, value: &JsonValue, layout: Layout) -> io::Result<()>
-    ensures ok { OnOk result
-        (Appends (W.contents writer.old) (W.contents writer.new) (text layout (view value.now))) }
-    ensures err { OnErr result
-        (AppendsBeginning (W.contents writer.old) (W.contents writer.new)
-        (text layout (view value.now))) }
+fn write_text<W: StringWrite>(writer: &mut W, value: &JsonValue, layout: Layout) -> io::Result<()>
+    ensures ok { OnOk result (Appends (W.Write.contents writer.old)
+        (W.Write.contents writer.new) (text layout (view value.now))) }
+    ensures err { OnErr result (AppendsBeginning (W.Write.contents writer.old)
+        (W.Write.contents writer.new) (text layout (view value.now))) }
 {
     match layout {
-        Layout::Compact => value.write(writer),
-        Layout::Pretty(spaces) => value.write_pretty(writer, spaces),
+        Layout::Compact => value.write_quickly(writer),
+        Layout::Pretty(spaces) => value.write_pretty_quickly(writer, spaces),
     }
 }
 

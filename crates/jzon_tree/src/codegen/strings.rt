@@ -84,10 +84,11 @@ pub(super) fn push_string(
 
 /// Adds a short string in quotes if it needs no escape: it overwrites quotes added first, and the
 /// rest is truncated. Otherwise nothing is added, and the result is `false`.
+#[doc(hidden)]
 #[inline(always)]
-fn push_short(bytes: &mut Vec<u8>, string: &[u8]) -> bool
-    requires short { length string.now ≤ SHORT_MAX_LEN }
-    requires reserved { vec_len bytes.old + SHORT_ROOM ≤ vec_capacity bytes.old }
+pub fn push_short(bytes: &mut Vec<u8>, string: &[u8]) -> bool
+    requires short { length string.now ≤ 32 }
+    requires reserved { vec_len bytes.old + 34 ≤ vec_capacity bytes.old }
     ensures done { IsTrue result → bytes.new.items ≡ bytes.old.items ++ quoted string.now }
     ensures left { result ≡ false → bytes.new.items ≡ bytes.old.items }
 {

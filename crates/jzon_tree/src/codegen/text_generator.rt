@@ -2,11 +2,11 @@
 //! borrowed writer.
 
 ghost use Rattle.std.specs.Prelude.{◌≡◌, ◌∷◌, ℕ, List, [], Option, Ok, None, Some, IsTrue, IsUtf8, MatchResult, refl};
-ghost use Rattle.std.specs.Prelude.{replicate, string_bytes};
+ghost use Rattle.std.specs.Prelude.{false, replicate, string_bytes};
 ghost use Rattle.std.specs.Borrow.{GName, sem, Lends};
 ghost use Rattle.jzon_base.specs.PairList.{keys_of};
 ghost use Rattle.jzon_tree.specs.Entries.{entries_of};
-ghost use Rattle.jzon_tree.specs.Generator.{Added, Failed, Counts, Just, IsAnswer, Sends};
+ghost use Rattle.jzon_tree.specs.Generator.{Added, Adds, Failed, Counts, Just, IsAnswer, Sends};
 ghost use Rattle.jzon_tree.specs.Generators.{text_meaning, with_writer_in, same_emitted, fresh, IsConsumed};
 ghost use Rattle.jzon_tree.specs.Generators.{bytes_in, with_bytes};
 ghost use Rattle.jzon_tree.specs.Styles.{compact_style, pretty_style};
@@ -121,6 +121,56 @@ impl<'a, W: Write> Outlet for &'a mut W {
     #[inline(always)]
     fn send_line(&mut self, spaces: u128, slot: &mut ErrorSlot) -> SlotResult<()> {
         send_line(&mut **self, spaces, slot)
+    }
+
+    ghost out_law = { λ _ _. refl };
+
+    ghost lender_law = { λ _ _. refl };
+}
+
+/// A writer that takes a short string at once, as it has memory for it.
+#[doc(hidden)]
+pub trait StringWrite: Write {
+    /// Writes the string in quotes if it is short, needs no escape, and there is room for it, and
+    /// returns whether it did. Otherwise nothing is written.
+    fn write_short(&mut self, string: &[u8]) -> bool
+        ensures done { IsTrue result → Adds (Just (quoted string.now)) (Self.Write.contents self.old)
+            (Self.Write.contents self.new) }
+        ensures left { result ≡ false → Self.Write.contents self.new
+            ≡ Self.Write.contents self.old };
+}
+
+/// A borrowed writer that takes short strings at once.
+#[doc(hidden)]
+#[derive(Drop)]
+pub struct Quick<'a, W> {
+    writer: &'a mut W,
+}
+
+impl<'a, W: StringWrite> Outlet for Quick<'a, W> {
+    type T = W;
+
+    ghost out = { λ o. W.Write.contents o.writer.now };
+
+    ghost lender = { λ o. Some o.writer.ghost_name };
+
+    ghost with_writer = { λ o w. record o { writer = record o.writer { now = w } } };
+
+    fn writer(&mut self) -> &mut W {
+        &mut *self.writer
+    }
+
+    #[inline(always)]
+    fn send_quoted(&mut self, string: &[u8], slot: &mut ErrorSlot) -> SlotResult<()> {
+        if self.writer.write_short(string) {
+            return Ok(());
+        }
+        send_string(&mut *self.writer, b"\"", string, slot)
+    }
+
+    #[inline(always)]
+    fn send_line(&mut self, spaces: u128, slot: &mut ErrorSlot) -> SlotResult<()> {
+        send_line(&mut *self.writer, spaces, slot)
     }
 
     ghost out_law = { λ _ _. refl };
@@ -395,5 +445,26 @@ impl<'a, W: Write, L: Layout> TextGenerator<&'a mut W, L> {
             ≡ fresh (W.contents writer.old) (L.style layout) (Some writer.entry.ghost_name) }
     {
         TextGenerator::over(writer, layout)
+    }
+}
+
+impl<'a, W: StringWrite, L: Layout> TextGenerator<Quick<'a, W>, L> {
+    /// As `to_writer`, for a writer that takes short strings at once.
+    pub(crate) fn to_quick_writer(writer: &'a mut W, layout: L) -> TextGenerator<Quick<'a, W>, L>
+        ensures { ⟦<TextGenerator<Quick<'a, W>, L> as Generator>⟧.meaning result
+            ≡ fresh (W.Write.contents writer.old) (L.style layout) (Some writer.entry.ghost_name) }
+    {
+        TextGenerator::over(Quick { writer }, layout)
+    }
+
+    /// The writer.
+    pub(crate) fn into_writer(self) -> &'a mut W
+    where
+        L: Drop,
+        ensures same_reference { result.ghost_name ≡ self.entry.outlet.writer.ghost_name }
+        ensures writer { result.now ≡ self.entry.outlet.writer.now }
+    {
+        let Quick { writer } = self.outlet;
+        writer
     }
 }

@@ -12,8 +12,8 @@ ghost use Rattle.jzon_tree.specs.View.{view};
 ghost use Rattle.jzon_tree.specs.Writing.{Writes};
 
 use crate::codegen::{
-    DumpGenerator, Layout, PrettyGenerator, PrettyWriterGenerator, TextGenerator, WriterGenerator,
-    write_json,
+    Compact, DumpGenerator, Layout, Pretty, PrettyGenerator, PrettyWriterGenerator, StringWrite,
+    TextGenerator, WriterGenerator, write_json,
 };
 use crate::value::JsonValue;
 use crate::value::inspect::inspect;
@@ -123,5 +123,41 @@ impl JsonValue {
     {
         let mut generator = TextGenerator::to_writer(writer, &layout);
         write_json(&mut generator, self)
+    }
+
+    /// As `write`, to a writer that takes short strings at once.
+    #[doc(hidden)]
+    pub fn write_quickly<W: StringWrite>(&self, writer: &mut W) -> io::Result<()>
+        ensures ok { OnOk result (Appends (W.Write.contents writer.old)
+            (W.Write.contents writer.new) (compact (view self.now))) }
+        ensures err { OnErr result (AppendsBeginning (W.Write.contents writer.old)
+            (W.Write.contents writer.new) (compact (view self.now))) }
+    {
+        let mut generator = TextGenerator::to_quick_writer(writer, Compact);
+        let answer = write_json(&mut generator, self);
+        let inner = generator.into_writer();
+        // No effect at run time. From this use the proof learns what the writer holds.
+        let _ = &*inner;
+        answer
+    }
+
+    /// As `write_pretty`, to a writer that takes short strings at once.
+    #[doc(hidden)]
+    pub fn write_pretty_quickly<W: StringWrite>(
+        &self,
+        writer: &mut W,
+        spaces: u16,
+    ) -> io::Result<()>
+        ensures ok { OnOk result (Appends (W.Write.contents writer.old)
+            (W.Write.contents writer.new) (pretty (view self.now) spaces 0)) }
+        ensures err { OnErr result (AppendsBeginning (W.Write.contents writer.old)
+            (W.Write.contents writer.new) (pretty (view self.now) spaces 0)) }
+    {
+        let mut generator = TextGenerator::to_quick_writer(writer, Pretty(spaces));
+        let answer = write_json(&mut generator, self);
+        let inner = generator.into_writer();
+        // No effect at run time. From this use the proof learns what the writer holds.
+        let _ = &*inner;
+        answer
     }
 }
