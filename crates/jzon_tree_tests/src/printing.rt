@@ -5,7 +5,7 @@ use jzon_base::error::Error;
 use jzon_base::number::NAN;
 use jzon_tree::codegen::{
     Compact, DumpGenerator, Generator, Layout, Pretty, PrettyGenerator, PrettyWriterGenerator,
-    WriterGenerator, write_json,
+    WriterGenerator, push_short, write_json,
 };
 use jzon_tree::object::Object;
 use jzon_tree::value::JsonValue;
@@ -134,6 +134,27 @@ fn writes_the_rest_escaped_to_a_writer(rt: HostRuntime) -> Tested {
     write_complex(&mut WriterGenerator::new(&mut bytes))?;
     write_complex(&mut PrettyWriterGenerator::new(&mut bytes, 2))?;
     expect_bytes(&rt, &bytes, "ab\\\"c\"ab\"c\"ab\\\"c\"ab\"c\"");
+    Ok(())
+}
+
+/// Strings of up to 32 bytes are added at once where there is room for 34.
+#[test]
+fn adds_short_strings_where_there_is_room(rt: HostRuntime) -> Tested {
+    for (len, room, is_added) in [
+        (0, 33, false),
+        (0, 34, true),
+        (32, 33, false),
+        (32, 34, true),
+        (33, 100, false),
+    ] {
+        let mut bytes = Vec::with_capacity(rt.alloc(), room)?;
+        assert_eq!(rt; push_short(&mut bytes, &[b'a'; 33][..len]), is_added);
+        assert_eq!(rt; bytes.is_empty(), !is_added);
+    }
+    let mut bytes = Vec::with_capacity(rt.alloc(), 100)?;
+    assert!(rt; push_short(&mut bytes, b"ab"));
+    assert!(rt; !push_short(&mut bytes, b"a\n"));
+    expect_bytes(&rt, &bytes, "\"ab\"");
     Ok(())
 }
 

@@ -146,11 +146,10 @@ impl<W: Write, S: Start> Write for Buffered<'_, W, S> {
     }
 }
 
-/// A string of up to 32 bytes is added at once where there is room for 34.
+/// A short string is added to the buffer at once where there is room.
 impl<W: Write, S: Start> StringWrite for Buffered<'_, W, S> {
     #[inline(always)]
     fn write_short(&mut self, string: &[u8]) -> bool {
-        let room = self.bytes.capacity() - self.bytes.len();
-        string.len() <= 32 && 34 <= room && push_short(&mut self.bytes, string)
+        push_short(&mut self.bytes, string)
     }
 }

@@ -11,7 +11,7 @@ ghost use Rattle.jzonfmt.specs.Drive.{fault_status};
 
 use crate::buffered::{Buffered, Start};
 use jzon::{Error, JsonValue, Reading, util};
-use jzon_tree::codegen::StringWrite;
+use jzon_tree::codegen::{Compact, Pretty, StringWrite};
 use std::alloc::{AllocError, Global};
 use std::io::{Read, Write};
 use std::marker::Brand;
@@ -227,8 +227,8 @@ fn write_text<W: StringWrite>(writer: &mut W, value: &JsonValue, layout: Layout)
         (W.Write.contents writer.new) (text layout (view value.now))) }
 {
     match layout {
-        Layout::Compact => value.write_quickly(writer),
-        Layout::Pretty(spaces) => value.write_pretty_quickly(writer, spaces),
+        Layout::Compact => value.write_quickly(writer, Compact),
+        Layout::Pretty(spaces) => value.write_quickly(writer, Pretty(spaces)),
     }
 }
 

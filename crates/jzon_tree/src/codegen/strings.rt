@@ -75,20 +75,30 @@ pub(super) fn push_string(
     ensures { Sends (Just (quoted string.now)) (Some bytes.old.items)
         (Some bytes.new.items) result }
 {
-    let is_short = string.len() <= SHORT_MAX_LEN;
-    if is_short && bytes.capacity() - bytes.len() >= SHORT_ROOM && push_short(bytes, string) {
+    if push_short(bytes, string) {
         return Ok(());
     }
     push_any(bytes, string, slot)
 }
 
-/// Adds a short string in quotes if it needs no escape: it overwrites quotes added first, and the
-/// rest is truncated. Otherwise nothing is added, and the result is `false`.
+/// Adds a string in quotes if it is short, needs no escape, and there is room for it, and returns
+/// whether it did. Otherwise nothing is added.
 #[doc(hidden)]
 #[inline(always)]
 pub fn push_short(bytes: &mut Vec<u8>, string: &[u8]) -> bool
-    requires short { length string.now ≤ 32 }
-    requires reserved { vec_len bytes.old + 34 ≤ vec_capacity bytes.old }
+    ensures done { IsTrue result → bytes.new.items ≡ bytes.old.items ++ quoted string.now }
+    ensures left { result ≡ false → bytes.new.items ≡ bytes.old.items }
+{
+    let is_short = string.len() <= SHORT_MAX_LEN;
+    is_short && bytes.capacity() - bytes.len() >= SHORT_ROOM && push_if_plain(bytes, string)
+}
+
+/// Adds a short string in quotes if it needs no escape: it overwrites quotes added first, and the
+/// rest is truncated. Otherwise nothing is added, and the result is `false`.
+#[inline(always)]
+fn push_if_plain(bytes: &mut Vec<u8>, string: &[u8]) -> bool
+    requires short { length string.now ≤ SHORT_MAX_LEN }
+    requires reserved { vec_len bytes.old + SHORT_ROOM ≤ vec_capacity bytes.old }
     ensures done { IsTrue result → bytes.new.items ≡ bytes.old.items ++ quoted string.now }
     ensures left { result ≡ false → bytes.new.items ≡ bytes.old.items }
 {

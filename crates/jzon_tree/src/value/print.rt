@@ -12,8 +12,8 @@ ghost use Rattle.jzon_tree.specs.View.{view};
 ghost use Rattle.jzon_tree.specs.Writing.{Writes};
 
 use crate::codegen::{
-    Compact, DumpGenerator, Layout, Pretty, PrettyGenerator, PrettyWriterGenerator, StringWrite,
-    TextGenerator, WriterGenerator, write_json,
+    DumpGenerator, Layout, PrettyGenerator, PrettyWriterGenerator, StringWrite, TextGenerator,
+    WriterGenerator, write_json,
 };
 use crate::value::JsonValue;
 use crate::value::inspect::inspect;
@@ -125,35 +125,17 @@ impl JsonValue {
         write_json(&mut generator, self)
     }
 
-    /// As `write`, to a writer that takes short strings at once.
+    /// As `write_layout`, to a writer that takes short strings at once.
     #[doc(hidden)]
-    pub fn write_quickly<W: StringWrite>(&self, writer: &mut W) -> io::Result<()>
-        ensures ok { OnOk result (Appends (W.Write.contents writer.old)
-            (W.Write.contents writer.new) (compact (view self.now))) }
-        ensures err { OnErr result (AppendsBeginning (W.Write.contents writer.old)
-            (W.Write.contents writer.new) (compact (view self.now))) }
-    {
-        let mut generator = TextGenerator::to_quick_writer(writer, Compact);
-        let answer = write_json(&mut generator, self);
-        let inner = generator.into_writer();
-        // No effect at run time. From this use the proof learns what the writer holds.
-        let _ = &*inner;
-        answer
-    }
-
-    /// As `write_pretty`, to a writer that takes short strings at once.
-    #[doc(hidden)]
-    pub fn write_pretty_quickly<W: StringWrite>(
+    pub fn write_quickly<W: StringWrite, L: Layout + Drop>(
         &self,
         writer: &mut W,
-        spaces: u16,
+        layout: L,
     ) -> io::Result<()>
-        ensures ok { OnOk result (Appends (W.Write.contents writer.old)
-            (W.Write.contents writer.new) (pretty (view self.now) spaces 0)) }
-        ensures err { OnErr result (AppendsBeginning (W.Write.contents writer.old)
-            (W.Write.contents writer.new) (pretty (view self.now) spaces 0)) }
+        ensures { Sends (Writes (L.style layout) 0 (view self.now))
+            (W.Write.contents writer.old) (W.Write.contents writer.new) result }
     {
-        let mut generator = TextGenerator::to_quick_writer(writer, Pretty(spaces));
+        let mut generator = TextGenerator::to_quick_writer(writer, layout);
         let answer = write_json(&mut generator, self);
         let inner = generator.into_writer();
         // No effect at run time. From this use the proof learns what the writer holds.

@@ -1,15 +1,9 @@
-use Rattle.std.proofs.Common.{refl, false, rules}
-use Rattle.jzon_tree.specs.Text.{compact_layout}
+use Rattle.std.proofs.Common.{refl, rules}
 use Rattle.jzon_tree.specs.View.{view}
-use Rattle.jzon_tree.proofs.Unique.{given_back_ok, given_back_err}
+use Rattle.jzon_tree.proofs.Unique.{given_back}
 use Rattle.jzon_tree.proofs.value.JsonValue.write_quickly.Goals as goal
 
-pub returns-clause-ok : goal.returns-clause-ok
-returns-clause-ok g c = given_back_ok compact_layout.line false (view c.args.self.now) g.W.Write.contents _ _ _ _
-    c.write_json-answer.result _ _ _ _ c.to_quick_writer-generator.ensures c.write_json-answer.ensures.written refl refl
-    (λ name. search rules) refl
-
-pub returns-clause-err : goal.returns-clause-err
-returns-clause-err g c = given_back_err compact_layout.line false (view c.args.self.now) g.W.Write.contents _ _ _ _
+pub returns : goal.returns
+returns g c = given_back (g.L.Layout.style c.args.layout) (view c.args.self.now) g.W.Write.contents _ _ _ _
     c.write_json-answer.result _ _ _ _ c.to_quick_writer-generator.ensures c.write_json-answer.ensures.written refl refl
     (λ name. search rules) refl

@@ -1,7 +1,7 @@
 use Rattle.std.proofs.Common.{◌≡◌, ◌+◌, ◌++◌, ◌∷◌, [], length, ap, ◌∙◌, sym, arith}
 use Rattle.jzon_tree.proofs.Ends.{cut_back, put_in_quotes}
 use Rattle.jzon_tree.proofs.Plain.{escaped-plain}
-use Rattle.jzon_tree.proofs.codegen.strings.push_short.Goals as goal
+use Rattle.jzon_tree.proofs.codegen.strings.push_if_plain.Goals as goal
 
 pub returns-then-put_if_plain-clause-done : goal.returns-then-put_if_plain-clause-done
 returns-then-put_if_plain-clause-done c = λ _.
