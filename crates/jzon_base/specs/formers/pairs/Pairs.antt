@@ -1,6 +1,6 @@
 -- `Pairs` as a type former, for recursive types, by the values of the entries in its box.
-use Rattle.std.specs.Prelude.{◌≡◌, ℕ, List, [], ◌∷◌, map, Option, None, Some}
-use mathlib.Core.Path.{refl, sym}
+use Rattle.std.specs.Prelude.{◌≡◌, ℕ, List, [], Option, None, Some}
+use mathlib.Core.Path.{refl}
 use mathlib.Core.Logic.{◌⊎◌, inl, inr}
 use mathlib.Core.Former.{Former, this, const, pair, or, via, children}
 use base.Stored.{gnil}
