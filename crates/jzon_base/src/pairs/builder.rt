@@ -1,4 +1,4 @@
-//! Builds `Pairs` in bulk; entries of equal keys are merged each time the count doubles.
+//! Builds `Pairs` in bulk; entries of equal keys are merged now and then as their count grows.
 ghost use Rattle.std.specs.Prelude.{◌≡◌, [], IfOk, OnOk, OnErr};
 ghost use Rattle.std.specs.Option.{is_some};
 ghost use Rattle.jzon_base.specs.PairList.{find, put};
@@ -14,12 +14,18 @@ use std::marker::Model;
 /// How many entries there may be before they are merged for the first time.
 const FIRST_LIMIT: usize = 256;
 
+/// By how much the count grows from one merge to the next where a key repeated, and where none did.
+const REPEATED_GROWTH: usize = 2;
+
+const DISTINCT_GROWTH: usize = 4;
+
 /// Entries that are put one after the other, of which some may repeat a key. A clause sees the list
 /// of entries after all merges.
 ///
-/// Entries of equal keys are merged whenever their count has doubled since the last time, so that
-/// few distinct keys take little memory. Where few keys are left by that, each later entry of such
-/// a key is put in its place at once, until another key comes.
+/// Entries of equal keys are merged at 256 entries, then whenever their count has doubled since the
+/// last merge, or grown fourfold where that found no repeated key. So few distinct keys take little
+/// memory. Where few keys are left by a merge, each later entry of such a key is put in its place
+/// at once, until another key comes.
 #[derive(Drop)]
 pub struct Builder<V> {
     keys: Vec<Key>,
@@ -75,12 +81,14 @@ impl<V: Drop> Builder<V> {
     fn merge(&mut self, alloc: Global) -> Result<(), AllocError>
         ensures { self.new ≡ self.old }
     {
+        let mut growth = DISTINCT_GROWTH;
         if keys::merge(alloc, &mut self.keys, &mut self.values)? {
+            growth = REPEATED_GROWTH;
             self.notes = None;
             let notes = Notes::of(alloc, self.keys.as_slice())?;
             self.notes = Some(Box::new(alloc, notes)?);
         }
-        self.limit = self.keys.len().saturating_mul(2).max(FIRST_LIMIT);
+        self.limit = self.keys.len().saturating_mul(growth).max(FIRST_LIMIT);
         Ok(())
     }
 
