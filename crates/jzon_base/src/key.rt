@@ -40,6 +40,25 @@ impl Model for Key {
 }
 
 impl Key {
+    /// Whether a text is stored inline.
+    #[inline(always)]
+    pub(crate) fn is_short(text: &str) -> bool
+        ensures { result ≡ true → length text.now ≤ 32 }
+    {
+        text.len() <= INLINE_MAX
+    }
+
+    /// The key with this text, which is stored inline.
+    #[inline(always)]
+    pub(crate) fn short(text: &str) -> Key
+        requires { length text.now ≤ 32 }
+        ensures { result ≡ text.now }
+    {
+        Key {
+            text: Text::Inline(Inline::new(text)),
+        }
+    }
+
     /// The key with this text. Text of up to 32 bytes allocates nothing; for longer text the error
     /// is a failed allocation.
     pub fn new(alloc: Global, text: &str) -> Result<Key, AllocError>
@@ -47,9 +66,7 @@ impl Key {
         ensures long { OnErr result (32 < length text.now) }
     {
         if text.len() <= INLINE_MAX {
-            return Ok(Key {
-                text: Text::Inline(Inline::new(text)),
-            });
+            return Ok(Key::short(text));
         }
         Ok(Key {
             text: Text::Owned(String::from_str(alloc, text)?),

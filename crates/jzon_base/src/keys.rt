@@ -165,6 +165,12 @@ fn put_indexed(
         Err(guess) => guess,
     };
     reserve_next(keys)?;
+    if Key::is_short(name) {
+        // Made in place: a key made before could only be moved there.
+        index.add_near(alloc, hash, keys.len(), guess)?;
+        keys.push_reserved(Key::short(name));
+        return Ok(None);
+    }
     let key = Key::new(alloc, name)?;
     index.add_near(alloc, hash, keys.len(), guess)?;
     keys.push_reserved(key);
