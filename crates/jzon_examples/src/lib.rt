@@ -1,5 +1,5 @@
-//! Proved callers of `jzon`, each a page (crates/jzon/CALLING.md). Of this repository's definitions
-//! they name only those of `jzon`.
+//! Proved callers of `jzon`, each a page (crates/jzon/CALLING.md). Of the library's definitions they
+//! name only those of `jzon`.
 #![tactic(auto)]
 
 pub mod building;

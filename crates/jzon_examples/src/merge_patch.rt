@@ -1,4 +1,4 @@
-//! Merge patches (RFC 7386): a value that says what is changed of another one.
+//! Merge patches (RFC 7396): a value that says what is changed of another one.
 //!
 //! `patched` of specs/Merge.antt is the pseudocode of section 2, over values. The three functions
 //! call one another, so they share a cycle, and proofs/merge_patch/+merge says what gets smaller:
@@ -86,7 +86,7 @@ mod tests {
     use super::*;
     use std::test::Fail;
 
-    /// Rows of the appendix of RFC 7386.
+    /// Rows of the appendix of RFC 7396.
     #[test]
     fn merges(rt: HostRuntime) -> std::result::Result<(), Fail> {
         let alloc = rt.alloc();

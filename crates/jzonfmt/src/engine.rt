@@ -22,8 +22,8 @@ use std::{fmt, io, mem};
 pub enum Layout {
     /// Without whitespace.
     Compact,
-    /// With each element, member and closing bracket on its own line, after this many spaces for
-    /// each open container.
+    /// With a new line before each element, each member and the closing bracket of a container that
+    /// isn't empty, and on it this many spaces for each container around.
     Pretty(u16),
 }
 

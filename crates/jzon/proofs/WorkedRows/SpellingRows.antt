@@ -1,5 +1,5 @@
--- Worked rows of docs/RULES.md, "Texts" and "Numbers": a text, its tree, what that means and how it is printed, all
--- computed from the definitions; then printed, equal and changed values.
+-- Worked rows of docs/RULES.md, "Texts" and "Numbers": a text, its tree, what that means and how it is printed, by the
+-- definitions; then printed, equal and changed values.
 use Prim.Native.String.{String}
 use Rattle.std.proofs.Common.{◌≡◌, pos, negsuc, ℕ, List, [], ◌∷◌, ◌++◌, map, replicate, Bool, true, false, All, codes}
 use Rattle.std.proofs.Common.{encode_utf8_all, refl, ap}

@@ -1,5 +1,5 @@
 -- A text that a loose style allows for an object, with its members in another order: it is a text of the object, and
--- what it is read as is computed from the definitions.
+-- what it is read as is so by the definitions.
 use Rattle.std.proofs.Common.{◌≡◌, ◌≢◌, ℕ, zero, suc, ◌<◌, List, [], ◌∷◌, count_by, ◌==◌, true, false, codes, negsuc}
 use Rattle.std.proofs.Common.{refl, arith}
 use Rattle.std.specs.Prelude.{IsTrue, AllPairs}

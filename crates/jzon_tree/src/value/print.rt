@@ -78,9 +78,9 @@ impl JsonValue {
         }
     }
 
-    /// Writes the compact text of the value, with no whitespace outside of its strings. It
-    /// allocates nothing. After an error of the writer, which is returned, a prefix of the text is
-    /// written.
+    /// Writes the compact text of the value, with no whitespace outside of its strings. Only the
+    /// writer may allocate. An error is the writer's, or reports that 2^64 indents would be open; a
+    /// prefix of the text is then written.
     pub fn write<W: Write>(&self, writer: &mut W) -> io::Result<()>
         ensures ok { OnOk result (Appends (W.contents writer.old) (W.contents writer.new)
             (compact (view self.now))) }
@@ -94,8 +94,8 @@ impl JsonValue {
     }
 
     /// Writes the text of the value with a line for each element and entry: a newline, and `spaces`
-    /// spaces for each container around it. It allocates nothing. After an error of the writer,
-    /// which is returned, a prefix of the text is written.
+    /// spaces for each container around it. Only the writer may allocate. An error is the writer's,
+    /// or reports that 2^64 indents would be open; a prefix of the text is then written.
     pub fn write_pretty<W: Write>(&self, writer: &mut W, spaces: u16) -> io::Result<()>
         ensures ok { OnOk result
             (Appends (W.contents writer.old) (W.contents writer.new)
