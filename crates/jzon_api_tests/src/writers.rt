@@ -52,10 +52,9 @@ fn expect_stops(rt: &impl Abort, alloc: Global, value: &JsonValue, how: How, tro
     let text = how.text();
     for call in 1..=text.len() {
         let mut writer = SlowWriter::new(alloc, call, trouble);
-        match (how.write(value, &mut writer), trouble) {
-            (Err(error), Trouble::Fails(kind)) => assert_eq!(rt; error.kind(), kind),
-            (Err(_), Trouble::TakesNothing) => {}
-            (Ok(()), _) => assert!(rt; false, "no error at call {call}"),
+        match how.write(value, &mut writer) {
+            Err(error) => assert_eq!(rt; error.kind(), trouble.kind()),
+            Ok(()) => assert!(rt; false, "no error at call {call}"),
         }
         expect_prefix(rt, &writer, text, call);
     }

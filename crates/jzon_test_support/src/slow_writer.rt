@@ -14,6 +14,16 @@ pub enum Trouble {
     Fails(ErrorKind),
 }
 
+impl Trouble {
+    /// The kind of the error that a caller should return: `WriteZero` where nothing is accepted.
+    pub fn kind(self) -> ErrorKind {
+        match self {
+            Trouble::TakesNothing => ErrorKind::WriteZero,
+            Trouble::Fails(kind) => kind,
+        }
+    }
+}
+
 /// Accepts one byte per call, except at one call, where it fails or accepts nothing. A flush may
 /// fail too.
 #[derive(Drop)]

@@ -381,11 +381,7 @@ fn a_writer_fails_at_each_call(rt: HostRuntime) -> Result<(), Fail> {
             let mut reader = TEXT;
             let mut writer = SlowWriter::new(alloc, call, trouble);
             match engine::run(alloc, &mut reader, &mut writer, &usual(), Layout::Compact) {
-                Err(RunFault::Write(error)) => {
-                    if let Trouble::Fails(kind) = trouble {
-                        assert_eq!(rt; error.kind(), kind);
-                    }
-                }
+                Err(RunFault::Write(error)) => assert_eq!(rt; error.kind(), trouble.kind()),
                 _ => assert!(rt; false, "no error of the writer at call {call}"),
             }
             assert_eq!(rt; writer.calls, call);
