@@ -1,7 +1,10 @@
--- Products with powers of ten.
-use Rattle.std.proofs.Common.{◌≡◌, ℕ, ◌*◌, ◌/◌, ◌^◌, ◌≤◌, ◌<◌, ◌==◌, inl, inr, sym, ap, ◌∙◌, arith}
-use Rattle.std.proofs.Math.Nat.{one-le-pow, mul-le-mul_right, mul-div_cancel}
-use Rattle.std.proofs.lemmas.Bool.{cases_eq, eq-eqb, ne_eqb}
+-- Products with powers of ten, and how many digits a number has.
+use Rattle.std.proofs.Common.{◌≡◌, ℕ, suc, ◌+◌, length, ◌*◌, ◌/◌, ◌^◌, ◌≤◌, ◌<◌, ◌==◌, inl, inr, sym, ap, ◌∙◌, arith}
+use Rattle.std.proofs.Math.Nat.{one-le-pow, mul-le-mul_right, mul-div_cancel, pow-le-pow_right, pow-suc}
+use Rattle.std.proofs.lemmas.Bool.{cases_eq, cases_lt, eq-eqb, ne_eqb}
+use Rattle.std.proofs.lemmas.Fmt.{length-decimal-le, decimal_is_IsNumeral}
+use Rattle.std.proofs.lemmas.Int.Digits.{digits_value-lt}
+use Rattle.std.specs.Fmt.{decimal}
 
 -- a multiple of a number that is too large is too large
 pub too_large : (m p : ℕ) → 0 < m → 2 ^ 64 ≤ p → 2 ^ 64 ≤ m * p
@@ -19,4 +22,18 @@ eq-times a b t h =
     elim (cases_eq a b) [
       | inl e ↦ eq-eqb (a * t) (b * t) (ap (λ x. x * t) e) ∙ sym (eq-eqb a b e)
       | inr apart ↦ ne_eqb (a * t) (b * t) (λ e. apart (cancel a b t h e)) ∙ sym (ne_eqb a b apart)
+    ]
+
+-- a number has one digit more than the exponent of the largest power of ten that it reaches
+pub length-decimal : (k n : ℕ) → n < 2 ^ 64 → 10 ^ k ≤ n → n < 10 * 10 ^ k → length (decimal n) ≡ k + 1
+length-decimal k n fits reached below =
+    let numeral = decimal_is_IsNumeral n fits in
+    let most : length (decimal n) ≤ suc k =
+    length-decimal-le (suc k) n (omega arith) (omega (arith, pow-suc 10 k, below)) fits in
+    let value : n < 10 ^ length (decimal n) = rw numeral.1 at (digits_value-lt 10 (decimal n) numeral.0.1) in
+    elim (cases_lt k (length (decimal n))) [
+      | inl more ↦ omega (arith, most, more)
+      | inr few ↦
+          let less : 10 ^ length (decimal n) ≤ 10 ^ k = pow-le-pow_right (omega arith) few in
+          absurd (omega (arith, value, reached, less))
     ]

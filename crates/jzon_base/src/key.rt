@@ -1,6 +1,6 @@
 //! A key of an object: text that is stored inline if it is short (docs/RULES.md, "Short and long
 //! strings").
-ghost use Rattle.std.specs.Prelude.{◌≡◌, ◌+◌, ◌<◌, ◌≤◌, ◌++◌, ◌∷◌, [], false, true, length, take};
+ghost use Rattle.std.specs.Prelude.{◌≡◌, ◌↔◌, ◌+◌, ◌<◌, ◌≤◌, ◌++◌, ◌∷◌, [], IsTrue, false, true, length, take};
 ghost use Rattle.std.specs.Prelude.{string_bytes, vec_len, vec_capacity, IfOk, IsOkUnless, OnErr};
 ghost use Rattle.std.specs.Str.{bytes_eq};
 ghost use Rattle.std.specs.Cmp.{partial_equiv_from_equiv};
@@ -43,7 +43,7 @@ impl Key {
     /// Whether a text is stored inline.
     #[inline(always)]
     pub(crate) fn is_short(text: &str) -> bool
-        ensures { result ≡ true → length text.now ≤ 32 }
+        ensures { IsTrue result ↔ length text.now ≤ 32 }
     {
         text.len() <= INLINE_MAX
     }
@@ -59,13 +59,40 @@ impl Key {
         }
     }
 
+    /// Makes this the key with this text, which is stored inline.
+    #[inline(always)]
+    fn fill(&mut self, text: &str)
+        requires { length text.now ≤ 32 }
+        ensures { self.new ≡ text.now }
+    {
+        match &mut self.text {
+            Text::Inline(inline) => inline.fill(text),
+            Text::Owned(_) => *self = Key::short(text),
+        }
+    }
+
+    /// Appends the key with this text, which is stored inline, to keys that have room. It is made
+    /// in place: to move one there, the processor would wait for the bytes just stored.
+    #[inline(always)]
+    pub(crate) fn push_short(keys: &mut Vec<Key>, text: &str)
+        requires short { length text.now ≤ 32 }
+        requires reserved { vec_len keys.old < vec_capacity keys.old }
+        ensures { keys.new.items ≡ keys.old.items ++ text.now ∷ [] }
+    {
+        let at = keys.len();
+        keys.push_reserved(Key {
+            text: Text::Inline(Inline::empty()),
+        });
+        keys[at].fill(text);
+    }
+
     /// The key with this text. Text of up to 32 bytes allocates nothing; for longer text the error
     /// is a failed allocation.
     pub fn new(alloc: Global, text: &str) -> Result<Key, AllocError>
         ensures bytes { IfOk result (λ k. k ≡ text.now) }
         ensures long { OnErr result (32 < length text.now) }
     {
-        if text.len() <= INLINE_MAX {
+        if Key::is_short(text) {
             return Ok(Key::short(text));
         }
         Ok(Key {
@@ -82,7 +109,7 @@ impl Key {
         ensures bytes { IfOk result (λ k. k ≡ text.now) }
         ensures long { OnErr result (32 < length text.now) }
     {
-        if text.len() <= INLINE_MAX {
+        if Key::is_short(text) {
             return Ok(Key {
                 text: Text::Inline(Inline::from_wide(text, wide)),
             });

@@ -166,9 +166,8 @@ fn put_indexed(
     };
     reserve_next(keys)?;
     if Key::is_short(name) {
-        // Made in place: a key made before could only be moved there.
         index.add_near(alloc, hash, keys.len(), guess)?;
-        keys.push_reserved(Key::short(name));
+        Key::push_short(keys, name);
         return Ok(None);
     }
     let key = Key::new(alloc, name)?;
@@ -302,6 +301,12 @@ impl Keys {
         ensures err { OnErr result (self.new ≡ self.old) }
     {
         reserve_next(&mut self.keys)?;
+        if Key::is_short(name) {
+            let keys = self.keys.as_slice();
+            add_key(alloc, keys, &mut self.index, name)?;
+            Key::push_short(&mut self.keys, name);
+            return Ok(());
+        }
         let key = Key::new(alloc, name)?;
         add_key(alloc, self.keys.as_slice(), &mut self.index, name)?;
         self.keys.push_reserved(key);

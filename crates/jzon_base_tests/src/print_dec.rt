@@ -1,7 +1,7 @@
 //! Printed numbers.
 
 use jzon_base::number::Number;
-use jzon_base::util::print_dec::write;
+use jzon_base::util::print_dec::{push_digits, write};
 use std::alloc::Global;
 use std::process::Abort;
 use std::test::Fail;
@@ -78,6 +78,66 @@ fn prints(rt: HostRuntime) -> Result<(), Fail> {
     for (positive, mantissa, exponent, text) in rows {
         expect_shown(&rt, rt.alloc(), (positive, mantissa, exponent), text)?;
         expect_written(&rt, rt.alloc(), (positive, mantissa, exponent), text)?;
+    }
+    Ok(())
+}
+
+/// Digits with at most a minus and a point, where there is room for 32 bytes. Otherwise nothing is
+/// added.
+#[test]
+fn pushes_digits(rt: HostRuntime) -> Result<(), Fail> {
+    let rows = [
+        (true, 1, 0, 32, Some("1")),
+        (false, 9, 0, 32, Some("-9")),
+        (true, 10, 0, 100, Some("10")),
+        (false, 99999999, 0, 32, Some("-99999999")),
+        (
+            true,
+            10000000000000000000,
+            0,
+            32,
+            Some("10000000000000000000"),
+        ),
+        (
+            false,
+            18446744073709551615,
+            0,
+            32,
+            Some("-18446744073709551615"),
+        ),
+        (true, 15, -1, 32, Some("1.5")),
+        (false, 1250, -2, 32, Some("-12.50")),
+        (
+            false,
+            18446744073709551615,
+            -17,
+            32,
+            Some("-184.46744073709551615"),
+        ),
+        (
+            true,
+            123456789012345678,
+            -17,
+            32,
+            Some("1.23456789012345678"),
+        ),
+        (true, 1, 0, 31, None),
+        (true, 15, -1, 31, None),
+        (true, 0, 0, 32, None),
+        (true, 0, -1, 32, None),
+        (true, 12, 1, 32, None),
+        (true, 12, -2, 32, None),
+        (true, 1234567890123456789, -18, 32, None),
+    ];
+    for (positive, mantissa, exponent, room, text) in rows {
+        let mut bytes = Vec::with_capacity(rt.alloc(), room)?;
+        let is_added = push_digits(&mut bytes, positive, mantissa, exponent);
+        assert_eq!(rt; is_added, text.is_some(), "{mantissa}");
+        assert_eq!(rt;
+            bytes.as_slice(),
+            text.unwrap_or("").as_bytes(),
+            "{mantissa}"
+        );
     }
     Ok(())
 }

@@ -1,17 +1,11 @@
 -- Bytes that are put by their first and last ones, which may overlap.
-use Rattle.std.proofs.Common.{◌≡◌, ℕ, suc, ◌+◌, ◌-◌, ◌≤◌, List, [], ◌∷◌, ◌++◌, length, take, drop, get_or}
+use Rattle.std.proofs.Common.{◌≡◌, ℕ, ◌+◌, ◌-◌, ◌≤◌, List, [], ◌∷◌, ◌++◌, length, take, drop, get_or}
 use Rattle.std.proofs.Common.{sym, ap, ◌∙◌, append_assoc, take-append-drop, replicate, arith}
 use Rattle.std.proofs.lemmas.List.{length-append, length-drop, length-replicate, length-take-le, take-take, take_all}
-use Rattle.std.proofs.lemmas.List.{append-nil, drop_all}
 use Rattle.std.proofs.lemmas.List.{take_more, take-replicate, get_or-append-add, get_or-replicate}
+use Rattle.std.proofs.Math.Seq.{take-append-add}
 use Rattle.std.proofs.lemmas.Simd.{take_more_put_chunk, length-put_chunk, get_or-put_chunk_above}
 use lib.Lanes.{chunk, put_chunk}
-
-pub front_kept : (xs ys : List ℕ) (k : ℕ) → take (length xs + k) (xs ++ ys) ≡ xs ++ take k ys
-front_kept [] ys k = let e : 0 + k ≡ k = omega arith in ap (λ j. take j ys) e
-front_kept (x ∷ xs) ys k =
-    let e : suc (length xs) + k ≡ suc (length xs + k) = omega arith in
-    ap (λ j. take j (x ∷ (xs ++ ys))) e ∙ ap (λ (l : List ℕ). x ∷ l) (front_kept xs ys k)
 
 -- the first n bytes of a text are put at a position, and then its last n where they belong
 module _ (old text : List ℕ) (at n : ℕ) (fits : at + length text ≤ length old) (few : n ≤ length text)
@@ -48,7 +42,7 @@ module _ (old text : List ℕ) (at n : ℕ) (fits : at + length text ≤ length 
       take_more_put_chunk at old (chunk 0 n text) (at + n) (omega (arith, long_front)) (omega arith) in
       let cut : take (at + k) one ≡ take at old ++ take k text =
       sym (take-take (at + k) (at + n) one (omega arith)) ∙ ap (take (at + k)) first
-      ∙ ap (λ j. take (j + k) (take at old ++ take n text)) (sym before) ∙ front_kept (take at old) (take n text) k
+      ∙ ap (λ j. take (j + k) (take at old ++ take n text)) (sym before) ∙ take-append-add (take at old) (take n text) k
       ∙ ap (λ (l : List ℕ). take at old ++ l) (take-take k n text (omega arith)) in
       let last : chunk k n text ≡ drop k text = take_all n (drop k text) (omega (arith, length-drop k text)) in
       take_more_put_chunk (at + k) one (chunk k n text) (at + length text) (omega (arith, long_back))
@@ -56,13 +50,6 @@ module _ (old text : List ℕ) (at n : ℕ) (fits : at + length text ≤ length 
       ∙ ap (λ (l : List ℕ). l ++ chunk k n text) cut ∙ ap (λ (l : List ℕ). (take at old ++ take k text) ++ l) last
       ∙ append_assoc (take at old) (take k text) (drop k text)
       ∙ ap (λ (l : List ℕ). take at old ++ l) (take-append-drop k text)
-
--- all bytes are written back, and then cut
-pub cut_back : (p v : List ℕ) (m k : ℕ) → length p ≡ length v → m ≡ length v
-    → take k (take m (p ++ drop (length p) v)) ≡ take k p
-cut_back p v m k same long =
-    ap (λ (l : List ℕ). take k (take m (p ++ l))) (drop_all (length p) v (omega arith))
-    ∙ ap (λ (l : List ℕ). take k (take m l)) (append-nil p) ∙ ap (take k) (take_all m p (omega arith))
 
 -- a text is put between the first two of many quotes, so that the second is after it
 pub put_in_quotes : (old text items new : List ℕ) (s m : ℕ) → s ≡ length old
@@ -82,7 +69,7 @@ put_in_quotes old text items new s m at quotes room put left same =
     ∙ get_or-append-add old (replicate m 34) (1 + length text) 0
     ∙ get_or-replicate m (1 + length text) 34 0 (omega arith) in
     let opening : take (s + 1) items ≡ old ++ 34 ∷ [] =
-    ap (λ j. take j items) next ∙ ap (take (length old + 1)) quotes ∙ front_kept old (replicate m 34) 1
+    ap (λ j. take j items) next ∙ ap (take (length old + 1)) quotes ∙ take-append-add old (replicate m 34) 1
     ∙ ap (λ (l : List ℕ). old ++ l) (take-replicate 1 m 34 (omega arith)) in
     ap (λ j. take j new) end ∙ take_more new k 0 (omega (arith, many, same))
     ∙ ap (λ (l : List ℕ). l ++ get_or new k 0 ∷ []) (put ∙ ap (λ (l : List ℕ). l ++ text) opening)

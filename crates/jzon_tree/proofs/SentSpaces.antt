@@ -3,7 +3,7 @@ use Rattle.std.proofs.Common.{◌≡◌, ℕ, suc, ◌+◌, ◌-◌, ◌≤◌, 
 use Rattle.std.proofs.Common.{◌∙◌, arith, Result}
 use Rattle.std.proofs.lemmas.List.{replicate-append-replicate, take-replicate}
 use Rattle.jzon_tree.specs.Generator.{Adds, Begins, Just, Sends}
-use Rattle.jzon_tree.proofs.Ends.{front_kept}
+use Rattle.std.proofs.Math.Seq.{take-append-add}
 use Rattle.jzon_tree.proofs.Sent.{adds_then, adds_weaker, Begins-after, Begins-early, Sends-after}
 
 -- a newline and n spaces
@@ -58,5 +58,5 @@ module _ (n left k : ℕ) (run : List ℕ) (p : run ≡ replicate k 32) (hk : k 
 -- the start of a long line is added, and cut to k spaces
 pub line_cut : (old : List ℕ) (s n k : ℕ) → s ≡ length old → k ≤ n → take (s + (k + 1)) (old ++ line n) ≡ old ++ line k
 line_cut old s n k at few =
-    ap (λ (j : ℕ). take (j + (k + 1)) (old ++ line n)) at ∙ front_kept old (line n) (k + 1)
+    ap (λ (j : ℕ). take (j + (k + 1)) (old ++ line n)) at ∙ take-append-add old (line n) (k + 1)
     ∙ ap (λ (l : List ℕ). old ++ l) (take-line n k few)

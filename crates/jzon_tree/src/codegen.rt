@@ -17,9 +17,11 @@ pub use driver::{write_json, write_object};
 pub use generator::Generator;
 pub use layout::{Compact, Layout, Pretty};
 #[doc(hidden)]
+pub use numbers::push_digits;
+#[doc(hidden)]
 pub use strings::push_short;
 #[doc(hidden)]
-pub use text_generator::StringWrite;
+pub use text_generator::QuickWrite;
 pub use text_generator::{
     DumpGenerator, PrettyGenerator, PrettyWriterGenerator, TextGenerator, WriterGenerator,
 };

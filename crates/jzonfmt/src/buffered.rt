@@ -3,7 +3,8 @@
 ghost use Rattle.std.specs.Prelude.{◌≡◌, ℕ, ◌+◌, ◌≤◌, [], length, take, vec_len, vec_capacity, MatchOption, OnOk};
 ghost use Rattle.std.specs.Io.KnownBytes.{Appends, Keeps};
 
-use jzon_tree::codegen::{StringWrite, push_short};
+use jzon::number::Number;
+use jzon_tree::codegen::{QuickWrite, push_digits, push_short};
 use std::io;
 use std::io::{ErrorKind, Write};
 use std::marker::{Brand, PhantomData};
@@ -146,10 +147,15 @@ impl<W: Write, S: Start> Write for Buffered<'_, W, S> {
     }
 }
 
-/// A short string is added to the buffer at once where there is room.
-impl<W: Write, S: Start> StringWrite for Buffered<'_, W, S> {
+/// A short string or a number's digits are added to the buffer at once where there is room.
+impl<W: Write, S: Start> QuickWrite for Buffered<'_, W, S> {
     #[inline(always)]
     fn write_short(&mut self, string: &[u8]) -> bool {
         push_short(&mut self.bytes, string)
+    }
+
+    #[inline(always)]
+    fn write_digits(&mut self, number: &Number) -> bool {
+        push_digits(&mut self.bytes, number)
     }
 }

@@ -1,7 +1,7 @@
 //! The text of a number (docs/RULES.md, "Printed numbers"; RFC 8259, section 6).
 
-ghost use Rattle.std.specs.Prelude.{◌≡◌, negsuc, ◌+◌, ◌-◌, ◌≤◌, ◌<◌, ◌++◌, length, drop, replicate};
-ghost use Rattle.std.specs.Prelude.{IsAscii, IfSome, OnOk, OnErr};
+ghost use Rattle.std.specs.Prelude.{◌≡◌, negsuc, ◌+◌, ◌-◌, ◌≤◌, ◌<◌, ◌++◌, length, take, drop, replicate, decimal};
+ghost use Rattle.std.specs.Prelude.{IsAscii, IsTrue, false, IfSome, OnOk, OnErr, vec_len, vec_capacity};
 ghost use Rattle.std.specs.Io.KnownBytes.{Appends};
 ghost use Rattle.arrayvec.specs.ArrayString.{array_string_len};
 ghost use Rattle.jzon_base.specs.NumberText.{sign_text, point_after, point_after_first, fraction_text};
@@ -17,6 +17,10 @@ use std::io::Write;
 /// The most bytes in the text of a number.
 pub const MAX_LEN: usize = 29;
 
+/// The room that `push_digits` takes: more than a sign, 20 digits and a point, so that it is filled
+/// by two stores.
+const DIGITS_ROOM: usize = 32;
+
 type NumberText = ArrayString<MAX_LEN>;
 
 /// Writes the text of the number `n * 10 ^ exponent` with its sign. An error of the writer is
@@ -31,6 +35,75 @@ pub fn write<W: Write>(wr: &mut W, positive: bool, n: u64, exponent: i16) -> io:
     let mut room = [0; MAX_LEN];
     let start = put(&mut room, positive, n, exponent);
     write_bytes(wr, &room[start..])
+}
+
+/// Adds the text of the number if it is digits with at most a minus before them and a point among
+/// them, as most are, and there is room, and returns whether it did. Otherwise, and for 0, nothing
+/// is added.
+#[doc(hidden)]
+#[inline(always)]
+pub fn push_digits(bytes: &mut Vec<u8>, positive: bool, mantissa: u64, exponent: i16) -> bool
+    ensures done { IsTrue result → bytes.new.items
+        ≡ bytes.old.items ++ number_text positive mantissa exponent }
+    ensures some { IsTrue result → 0 < mantissa }
+    ensures left { result ≡ false → bytes.new.items ≡ bytes.old.items }
+{
+    let is_common = mantissa != 0 && exponent <= 0 && -17 <= exponent;
+    if !is_common || bytes.capacity() - bytes.len() < DIGITS_ROOM {
+        return false;
+    }
+    if exponent == 0 {
+        push_after_minuses(bytes, usize::from(!positive), mantissa);
+        return true;
+    }
+    push_decimal(bytes, positive, mantissa, exponent.unsigned_abs() as usize)
+}
+
+/// Adds a sign and the digits of a number with a point before the last `places`, if there is a digit
+/// before it, and returns whether it did. Otherwise nothing is added.
+fn push_decimal(bytes: &mut Vec<u8>, positive: bool, n: u64, places: usize) -> bool
+    requires some { 0 < n }
+    requires places { (0 < places) × (places ≤ 17) }
+    requires reserved { vec_len bytes.old + DIGITS_ROOM ≤ vec_capacity bytes.old }
+    ensures done { IsTrue result → bytes.new.items
+        ≡ bytes.old.items ++ (sign_text positive ++ fraction_text (decimal n) places) }
+    ensures left { result ≡ false → bytes.new.items ≡ bytes.old.items }
+{
+    if n.ilog10() as usize + 1 <= places {
+        return false;
+    }
+    let start = bytes.len() + usize::from(!positive);
+    push_after_minuses(bytes, usize::from(!positive) + 1, n);
+    let point = bytes.len() - places;
+    put_point(bytes.as_mut_slice(), start + 1, point);
+    true
+}
+
+/// Adds minuses and the digits of a number: these overwrite other minuses, and the rest is
+/// truncated.
+#[inline(always)]
+fn push_after_minuses(bytes: &mut Vec<u8>, minuses: usize, n: u64)
+    requires some { 0 < n }
+    requires minuses { minuses ≤ 2 }
+    requires reserved { vec_len bytes.old + DIGITS_ROOM ≤ vec_capacity bytes.old }
+    ensures { bytes.new.items ≡ bytes.old.items ++ (replicate minuses 45 ++ decimal n) }
+{
+    let end = bytes.len() + minuses + n.ilog10() as usize + 1;
+    push_minuses(bytes, DIGITS_ROOM);
+    write_digits(n, bytes.as_mut_slice(), end);
+    bytes.truncate(end);
+}
+
+/// Adds minuses, for which there is room.
+#[inline(always)]
+fn push_minuses(bytes: &mut Vec<u8>, count: usize)
+    requires { vec_len bytes.old + count ≤ vec_capacity bytes.old }
+    ensures { bytes.new.items ≡ bytes.old.items ++ replicate count 45 }
+{
+    let len = bytes.len() + count;
+    let Ok(()) = bytes.resize(len, b'-') else {
+        unreachable!()
+    };
 }
 
 /// Puts the text of the number `n * 10 ^ exponent` with its sign at the end of the buffer, and
@@ -87,11 +160,13 @@ fn put_whole(
 }
 
 /// Moves the bytes from `start` up to `point` one byte to the left, and puts a point after them.
-fn put_point(room: &mut [u8; MAX_LEN], start: usize, point: usize)
+fn put_point(room: &mut [u8], start: usize, point: usize)
     requires some { 0 < start }
     requires order { start < point }
-    requires within { point ≤ MAX_LEN }
-    ensures { drop (start - 1) room.new ≡ point_after (point - start) (drop start room.old) }
+    requires within { point ≤ length room.old }
+    ensures before { take (start - 1) room.new ≡ take (start - 1) room.old }
+    ensures point { drop (start - 1) room.new ≡ point_after (point - start) (drop start room.old) }
+    ensures len { length room.new ≡ length room.old }
 {
     room.copy_within(start..point, start - 1);
     room[point - 1] = b'.';

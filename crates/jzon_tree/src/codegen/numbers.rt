@@ -1,6 +1,6 @@
 //! The texts of numbers (docs/RULES.md, "Printed numbers").
 
-ghost use Rattle.std.specs.Prelude.{◌≡◌};
+ghost use Rattle.std.specs.Prelude.{◌≡◌, ◌++◌, Some, IsTrue, false};
 ghost use Rattle.jzon_base.specs.NumberText.{number_text, written_text};
 ghost use Rattle.jzon_tree.specs.Generator.{Sends, Just};
 
@@ -20,6 +20,35 @@ pub(super) fn send_number<W: Write>(
 {
     let mut room = [0; print_dec::MAX_LEN];
     send(writer, text_of_number(&mut room, number), slot)
+}
+
+/// Adds the text of the number, or `null` for NaN. Most texts are digits with at most a minus and a
+/// point, and most times there is room.
+#[inline(always)]
+pub(super) fn push_number(
+    bytes: &mut Vec<u8>,
+    number: &Number,
+    slot: &mut ErrorSlot,
+) -> SlotResult<()>
+    ensures { Sends (Just (written_text number.now)) (Some bytes.old.items)
+        (Some bytes.new.items) result }
+{
+    if push_digits(bytes, number) {
+        return Ok(());
+    }
+    send_number(bytes, number, slot)
+}
+
+/// Adds the text of the number if it is digits with at most a minus before them and a point among
+/// them, and there is room, and returns whether it did. Otherwise, and for 0, nothing is added.
+#[doc(hidden)]
+#[inline(always)]
+pub fn push_digits(bytes: &mut Vec<u8>, number: &Number) -> bool
+    ensures done { IsTrue result → bytes.new.items ≡ bytes.old.items ++ written_text number.now }
+    ensures left { result ≡ false → bytes.new.items ≡ bytes.old.items }
+{
+    let (positive, mantissa, exponent) = number.as_parts();
+    print_dec::push_digits(bytes, positive, mantissa, exponent)
 }
 
 /// The text of the number, or `null` for NaN, for which `room` may be used.

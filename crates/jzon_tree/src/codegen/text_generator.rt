@@ -4,6 +4,7 @@
 ghost use Rattle.std.specs.Prelude.{◌≡◌, ◌∷◌, ℕ, List, [], Option, Ok, None, Some, IsTrue, IsUtf8, MatchResult, refl};
 ghost use Rattle.std.specs.Prelude.{false, replicate, string_bytes};
 ghost use Rattle.std.specs.Borrow.{GName, sem, Lends};
+ghost use Rattle.jzon_base.specs.NumberText.{written_text};
 ghost use Rattle.jzon_base.specs.PairList.{keys_of};
 ghost use Rattle.jzon_tree.specs.Entries.{entries_of};
 ghost use Rattle.jzon_tree.specs.Generator.{Added, Adds, Failed, Counts, Just, IsAnswer, Sends};
@@ -15,7 +16,7 @@ ghost use Rattle.jzon_tree.specs.Text.{quoted};
 use crate::codegen::error_slot::{ErrorSlot, SlotResult, send, take_result};
 use crate::codegen::generator::Generator;
 use crate::codegen::layout::{Compact, Layout, Pretty, SHORT_LINE, push_line, send_line};
-use crate::codegen::numbers::send_number;
+use crate::codegen::numbers::{push_number, send_number};
 use crate::codegen::strings::{push_string, send_string, send_string_from};
 use crate::object::Object;
 use jzon_base::error::{Error, Result};
@@ -50,6 +51,15 @@ pub trait Outlet {
         ensures lender { lender self.new ≡ lender self.old }
     {
         send_string(self.writer(), b"\"", string, slot)
+    }
+
+    /// Writes the text of the number, or `null` for NaN.
+    fn send_number(&mut self, number: &Number, slot: &mut ErrorSlot) -> SlotResult<()>
+        ensures bytes { Sends (Just (written_text number.now)) (out self.old) (out self.new)
+            result }
+        ensures lender { lender self.new ≡ lender self.old }
+    {
+        send_number(self.writer(), number, slot)
     }
 
     /// Writes a newline and `spaces` spaces.
@@ -87,6 +97,12 @@ impl Outlet for Memory {
     #[inline(always)]
     fn send_quoted(&mut self, string: &[u8], slot: &mut ErrorSlot) -> SlotResult<()> {
         push_string(&mut self.bytes, string, slot)
+    }
+
+    /// Digits are put into the vector where they stay.
+    #[inline(always)]
+    fn send_number(&mut self, number: &Number, slot: &mut ErrorSlot) -> SlotResult<()> {
+        push_number(&mut self.bytes, number, slot)
     }
 
     #[inline(always)]
@@ -128,9 +144,9 @@ impl<'a, W: Write> Outlet for &'a mut W {
     ghost lender_law = { λ _ _. refl };
 }
 
-/// A writer that takes a short string at once, as it has memory for it.
+/// A writer that takes a short string or a number's digits at once, as it has memory for them.
 #[doc(hidden)]
-pub trait StringWrite: Write {
+pub trait QuickWrite: Write {
     /// Writes the string in quotes if it is short, needs no escape, and there is room for it, and
     /// returns whether it did. Otherwise nothing is written.
     fn write_short(&mut self, string: &[u8]) -> bool
@@ -138,16 +154,25 @@ pub trait StringWrite: Write {
             (Self.Write.contents self.new) }
         ensures left { result ≡ false → Self.Write.contents self.new
             ≡ Self.Write.contents self.old };
+
+    /// Writes the text of the number if it is digits with at most a minus before them and a point
+    /// among them, and there is room for it, and returns whether it did. Otherwise, and for 0,
+    /// nothing is written.
+    fn write_digits(&mut self, number: &Number) -> bool
+        ensures done { IsTrue result → Adds (Just (written_text number.now))
+            (Self.Write.contents self.old) (Self.Write.contents self.new) }
+        ensures left { result ≡ false → Self.Write.contents self.new
+            ≡ Self.Write.contents self.old };
 }
 
-/// A borrowed writer that takes short strings at once.
+/// A borrowed writer that takes short strings and digits at once.
 #[doc(hidden)]
 #[derive(Drop)]
 pub struct Quick<'a, W> {
     writer: &'a mut W,
 }
 
-impl<'a, W: StringWrite> Outlet for Quick<'a, W> {
+impl<'a, W: QuickWrite> Outlet for Quick<'a, W> {
     type T = W;
 
     ghost out = { λ o. W.Write.contents o.writer.now };
@@ -166,6 +191,14 @@ impl<'a, W: StringWrite> Outlet for Quick<'a, W> {
             return Ok(());
         }
         send_string(&mut *self.writer, b"\"", string, slot)
+    }
+
+    #[inline(always)]
+    fn send_number(&mut self, number: &Number, slot: &mut ErrorSlot) -> SlotResult<()> {
+        if self.writer.write_digits(number) {
+            return Ok(());
+        }
+        send_number(&mut *self.writer, number, slot)
     }
 
     #[inline(always)]
@@ -332,7 +365,7 @@ impl<O: Outlet, L: Layout> Generator for TextGenerator<O, L> {
     }
 
     fn try_write_number(&mut self, num: &Number, slot: &mut ErrorSlot) -> SlotResult<()> {
-        let step = send_number(self.outlet.writer(), num, slot);
+        let step = self.outlet.send_number(num, slot);
         self.count(step)
     }
 
@@ -448,8 +481,8 @@ impl<'a, W: Write, L: Layout> TextGenerator<&'a mut W, L> {
     }
 }
 
-impl<'a, W: StringWrite, L: Layout> TextGenerator<Quick<'a, W>, L> {
-    /// As `to_writer`, for a writer that takes short strings at once.
+impl<'a, W: QuickWrite, L: Layout> TextGenerator<Quick<'a, W>, L> {
+    /// As `to_writer`, for a writer that takes short strings and digits at once.
     pub(crate) fn to_quick_writer(writer: &'a mut W, layout: L) -> TextGenerator<Quick<'a, W>, L>
         ensures { ⟦<TextGenerator<Quick<'a, W>, L> as Generator>⟧.meaning result
             ≡ fresh (W.Write.contents writer.old) (L.style layout) (Some writer.entry.ghost_name) }

@@ -12,7 +12,7 @@ ghost use Rattle.jzon_tree.specs.View.{view};
 ghost use Rattle.jzon_tree.specs.Writing.{Writes};
 
 use crate::codegen::{
-    DumpGenerator, Layout, PrettyGenerator, PrettyWriterGenerator, StringWrite, TextGenerator,
+    DumpGenerator, Layout, PrettyGenerator, PrettyWriterGenerator, QuickWrite, TextGenerator,
     WriterGenerator, write_json,
 };
 use crate::value::JsonValue;
@@ -125,9 +125,9 @@ impl JsonValue {
         write_json(&mut generator, self)
     }
 
-    /// As `write_layout`, to a writer that takes short strings at once.
+    /// As `write_layout`, to a writer that takes short strings and digits at once.
     #[doc(hidden)]
-    pub fn write_quickly<W: StringWrite, L: Layout + Drop>(
+    pub fn write_quickly<W: QuickWrite, L: Layout + Drop>(
         &self,
         writer: &mut W,
         layout: L,

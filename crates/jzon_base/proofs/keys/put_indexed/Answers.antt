@@ -30,7 +30,7 @@ returns-in_err-add_near-2-clause-table c = rw c.reserve_next.ensures.items (
 
 pub returns-then-is_short-clause-table : goal.returns-then-is_short-clause-table
 returns-then-is_short-clause-table c =
-    rw (c.push_reserved.ensures.items, c.reserve_next.ensures.items, c.short.ensures) (
+    rw (c.push_short.ensures, c.reserve_next.ensures.items) (
       IsDistinct-missing c.args.name.now c.args.keys.now.items c.requires.table.0
           (sym (rw c.as_slice.ensures.value at c.in-Err.ensures)),
       IsIndexOf-key hash_of c.args.keys.now.items c.args.name.now c.hash_of-hash.result c.len.result c.args.index.now
@@ -41,7 +41,7 @@ returns-then-is_short-clause-table c =
 
 pub returns-clause-table : goal.returns-clause-table
 returns-clause-table c =
-    rw (c.push_reserved-2.ensures.items, c.reserve_next.ensures.items, c.in_ok-key.ensures.bytes) (
+    rw (c.push_reserved.ensures.items, c.reserve_next.ensures.items, c.in_ok-key.ensures.bytes) (
       IsDistinct-missing c.args.name.now c.args.keys.now.items c.requires.table.0
           (sym (rw c.as_slice.ensures.value at c.in-Err.ensures)),
       IsIndexOf-key hash_of c.args.keys.now.items c.args.name.now c.hash_of-hash.result c.len-2.result c.args.index.now
