@@ -14,17 +14,18 @@ use std::marker::Model;
 /// How many entries there may be before they are merged for the first time.
 const FIRST_LIMIT: usize = 256;
 
-/// By how much the count grows from one merge to the next where a key repeated, and where none did.
-const REPEATED_GROWTH: usize = 2;
+/// By how much the count grows to the next merge, where one found two keys of one hash.
+const TIED_GROWTH: usize = 2;
 
+/// By how much it grows where one found none.
 const DISTINCT_GROWTH: usize = 4;
 
 /// Entries that are put one after the other, of which some may repeat a key. A clause sees the list
 /// of entries after all merges.
 ///
 /// Entries of equal keys are merged at 256 entries, then whenever their count has doubled since the
-/// last merge, or grown fourfold where that found no repeated key. So few distinct keys take little
-/// memory. Where few keys are left by a merge, each later entry of such a key is put in its place
+/// last merge, or grown fourfold where no two keys had one hash, but never below 256. So few
+/// distinct keys take little memory. Where few keys are left by a merge, each later entry of such a key is put in its place
 /// at once, until another key comes.
 #[derive(Drop)]
 pub struct Builder<V> {
@@ -83,7 +84,7 @@ impl<V: Drop> Builder<V> {
     {
         let mut growth = DISTINCT_GROWTH;
         if keys::merge(alloc, &mut self.keys, &mut self.values)? {
-            growth = REPEATED_GROWTH;
+            growth = TIED_GROWTH;
             self.notes = None;
             let notes = Notes::of(alloc, self.keys.as_slice())?;
             self.notes = Some(Box::new(alloc, notes)?);
