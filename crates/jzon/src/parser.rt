@@ -272,8 +272,8 @@ impl<'a> Parser<'a> {
         }
     }
 
-    /// Reads entries of an open object: to its end, to an object that isn't empty, or, where a value
-    /// is a non-empty array, as `read_array` does.
+    /// Reads entries of an open object: to its end, to an object that isn't empty, or, where a
+    /// value is a non-empty array, as `read_array` does.
     fn read_entries(&mut self, entries: Builder) -> Result<ValueStart>
         requires room { vec_len self.old.stack < self.old.cursor.reading.depth }
         requires key { viewed entries ≡ [] → next_byte self.old.cursor ≢ end_object }

@@ -2,8 +2,9 @@
 use Rattle.std.proofs.Common.{◌≡◌, ℕ, suc, ◌+◌, ◌-◌, ◌≤◌, ◌<◌, List, [], ◌∷◌, ◌++◌, length, take, drop, set, get_or}
 use Rattle.std.proofs.Common.{arith, ap, sym, ◌∙◌, length-drop, length-append, replicate}
 use Rattle.std.specs.List.{copy_within}
-use Rattle.std.proofs.lemmas.List.{append-nil, drop-drop, drop_all, length-take-le, append_assoc, take-replicate, take-set-le}
-use Rattle.std.proofs.lemmas.List.{take-append-drop, length-replicate, take_all, length-set, take-append-le}
+use Rattle.std.proofs.lemmas.List.{append-nil, drop-drop, drop_all, length-take-le, append_assoc, take-replicate}
+use Rattle.std.proofs.lemmas.List.{take-set-le, take-append-drop, length-replicate, take_all, length-set}
+use Rattle.std.proofs.lemmas.List.{take-append-le}
 use Rattle.std.proofs.lemmas.List.Edits.{length-paste}
 use Rattle.std.proofs.Math.Seq.{append_snoc, drop-append_seam, drop-cons, take-append-add, take-append_seam}
 use Rattle.jzon_base.specs.NumberText.{point_after}

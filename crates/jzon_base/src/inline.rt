@@ -25,7 +25,7 @@ impl<const MAX: usize> Model for Inline<MAX> {
 }
 
 impl<const MAX: usize> Inline<MAX> {
-    /// No text.
+    /// The empty text.
     #[inline(always)]
     pub fn empty() -> Inline<MAX>
         ensures { result ≡ [] }
@@ -36,7 +36,7 @@ impl<const MAX: usize> Inline<MAX> {
         }
     }
 
-    /// Makes this the text, which must have at most `MAX` bytes.
+    /// Becomes this text, which must have at most `MAX` bytes.
     #[inline(always)]
     pub fn fill(&mut self, text: &str)
         requires short { length text.now ≤ MAX }
@@ -62,8 +62,8 @@ impl<const MAX: usize> Inline<MAX> {
         }
     }
 
-    /// The text, with which `wide` begins. Where `wide` is long enough, `MAX` bytes of it are copied,
-    /// which takes no call; those after the text are never read.
+    /// The text, with which `wide` begins. Where `wide` is long enough, `MAX` bytes of it are
+    /// copied, which takes no call; those after the text are never read.
     #[inline(always)]
     pub fn from_wide(text: &str, wide: &[u8]) -> Inline<MAX>
         requires short { length text.now ≤ MAX }

@@ -59,7 +59,7 @@ impl Key {
         }
     }
 
-    /// Makes this the key with this text, which is stored inline.
+    /// Becomes the key with this text, which is stored inline.
     #[inline(always)]
     fn fill(&mut self, text: &str)
         requires { length text.now ≤ 32 }
@@ -72,7 +72,7 @@ impl Key {
     }
 
     /// Appends the key with this text, which is stored inline, to keys that have room. It is made
-    /// in place: to move one there, the processor would wait for the bytes just stored.
+    /// in place: a move would wait until the bytes just stored can be read.
     #[inline(always)]
     pub(crate) fn push_short(keys: &mut Vec<Key>, text: &str)
         requires short { length text.now ≤ 32 }

@@ -82,8 +82,8 @@ fn prints(rt: HostRuntime) -> Result<(), Fail> {
     Ok(())
 }
 
-/// Digits with at most a minus and a point, where there is room for 32 bytes. Otherwise nothing is
-/// added.
+/// The mantissa's digits, with at most a minus and a point, where there is room for 32 bytes.
+/// Otherwise nothing is added.
 #[test]
 fn pushes_digits(rt: HostRuntime) -> Result<(), Fail> {
     let rows = [

@@ -14,19 +14,19 @@ use std::marker::Model;
 /// How many entries there may be before they are merged for the first time.
 const FIRST_LIMIT: usize = 256;
 
-/// By how much the count grows to the next merge, where one found two keys of one hash.
+/// The growth of the count until the next merge, where a merge found two equal hashes.
 const TIED_GROWTH: usize = 2;
 
-/// By how much it grows where one found none.
+/// The same, where it found none.
 const DISTINCT_GROWTH: usize = 4;
 
 /// Entries that are put one after the other, of which some may repeat a key. A clause sees the list
 /// of entries after all merges.
 ///
 /// Entries of equal keys are merged at 256 entries, then whenever their count has doubled since the
-/// last merge, or grown fourfold where no two keys had one hash, but never below 256. So few
-/// distinct keys take little memory. Where few keys are left by a merge, each later entry of such a key is put in its place
-/// at once, until another key comes.
+/// last merge, or grown fourfold if that found no equal hashes, but never below 256. So few
+/// distinct keys take little memory. Where few keys are left by a merge, each later entry of such a
+/// key is put in its place at once, until another key comes.
 #[derive(Drop)]
 pub struct Builder<V> {
     keys: Vec<Key>,

@@ -17,8 +17,7 @@ use std::io::Write;
 /// The most bytes in the text of a number.
 pub const MAX_LEN: usize = 29;
 
-/// The room that `push_digits` takes: more than a sign, 20 digits and a point, so that it is filled
-/// by two stores.
+/// The room that `push_digits` needs: two stores fill it; a sign, 20 digits and a point take 22.
 const DIGITS_ROOM: usize = 32;
 
 type NumberText = ArrayString<MAX_LEN>;
@@ -37,9 +36,9 @@ pub fn write<W: Write>(wr: &mut W, positive: bool, n: u64, exponent: i16) -> io:
     write_bytes(wr, &room[start..])
 }
 
-/// Adds the text of the number if it is digits with at most a minus before them and a point among
-/// them, as most are, and there is room, and returns whether it did. Otherwise, and for 0, nothing
-/// is added.
+/// Adds the text of the number if it is the mantissa's digits, with at most a minus before them and
+/// a point before the last 1 to 17, and there is room, and returns whether it did. Otherwise, and
+/// for 0, nothing is added.
 #[doc(hidden)]
 #[inline(always)]
 pub fn push_digits(bytes: &mut Vec<u8>, positive: bool, mantissa: u64, exponent: i16) -> bool
@@ -59,8 +58,8 @@ pub fn push_digits(bytes: &mut Vec<u8>, positive: bool, mantissa: u64, exponent:
     push_decimal(bytes, positive, mantissa, exponent.unsigned_abs() as usize)
 }
 
-/// Adds a sign and the digits of a number with a point before the last `places`, if there is a digit
-/// before it, and returns whether it did. Otherwise nothing is added.
+/// Adds the sign and the digits of a number, with a point before the last `places`, if a digit
+/// precedes it, and returns whether it did. Otherwise nothing is added.
 fn push_decimal(bytes: &mut Vec<u8>, positive: bool, n: u64, places: usize) -> bool
     requires some { 0 < n }
     requires places { (0 < places) × (places ≤ 17) }
@@ -79,7 +78,7 @@ fn push_decimal(bytes: &mut Vec<u8>, positive: bool, n: u64, places: usize) -> b
     true
 }
 
-/// Adds minuses and the digits of a number: these overwrite other minuses, and the rest is
+/// Adds `minuses` minuses and the digits of `n`, which overwrite more minuses; the rest is
 /// truncated.
 #[inline(always)]
 fn push_after_minuses(bytes: &mut Vec<u8>, minuses: usize, n: u64)
@@ -94,7 +93,7 @@ fn push_after_minuses(bytes: &mut Vec<u8>, minuses: usize, n: u64)
     bytes.truncate(end);
 }
 
-/// Adds minuses, for which there is room.
+/// Adds `count` minuses, for which there is room.
 #[inline(always)]
 fn push_minuses(bytes: &mut Vec<u8>, count: usize)
     requires { vec_len bytes.old + count ≤ vec_capacity bytes.old }
@@ -132,8 +131,8 @@ fn put_any(room: &mut [u8; MAX_LEN], positive: bool, n: u64, exponent: i16) -> u
     start
 }
 
-/// As `put` for the common case, in which the text is the mantissa's digits with at most a sign and
-/// a point; `None` in other cases and for 0.
+/// As `put` for the common case, in which the text is the mantissa's digits, with at most a minus
+/// before them and a point before the last 1 to 17; `None` in other cases and for 0.
 fn put_whole(
     room: &mut [u8; MAX_LEN],
     positive: bool,

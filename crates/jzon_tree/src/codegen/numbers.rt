@@ -22,8 +22,8 @@ pub(super) fn send_number<W: Write>(
     send(writer, text_of_number(&mut room, number), slot)
 }
 
-/// Adds the text of the number, or `null` for NaN. Most texts are digits with at most a minus and a
-/// point, and most times there is room.
+/// Adds the text of the number, or `null` for NaN. Most are the mantissa's digits with at most a
+/// minus and a point, and most times there is room.
 #[inline(always)]
 pub(super) fn push_number(
     bytes: &mut Vec<u8>,
@@ -39,8 +39,8 @@ pub(super) fn push_number(
     send_number(bytes, number, slot)
 }
 
-/// Adds the text of the number if it is digits with at most a minus before them and a point among
-/// them, and there is room, and returns whether it did. Otherwise, and for 0, nothing is added.
+/// Adds the text of the number where `print_dec::push_digits` adds it, and returns whether it did.
+/// Otherwise, and for NaN, nothing is added.
 #[doc(hidden)]
 #[inline(always)]
 pub fn push_digits(bytes: &mut Vec<u8>, number: &Number) -> bool

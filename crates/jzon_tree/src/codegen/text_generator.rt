@@ -99,7 +99,7 @@ impl Outlet for Memory {
         push_string(&mut self.bytes, string, slot)
     }
 
-    /// Digits are put into the vector where they stay.
+    /// Most numbers are put into the vector directly.
     #[inline(always)]
     fn send_number(&mut self, number: &Number, slot: &mut ErrorSlot) -> SlotResult<()> {
         push_number(&mut self.bytes, number, slot)
@@ -150,14 +150,13 @@ pub trait QuickWrite: Write {
     /// Writes the string in quotes if it is short, needs no escape, and there is room for it, and
     /// returns whether it did. Otherwise nothing is written.
     fn write_short(&mut self, string: &[u8]) -> bool
-        ensures done { IsTrue result → Adds (Just (quoted string.now)) (Self.Write.contents self.old)
-            (Self.Write.contents self.new) }
+        ensures done { IsTrue result → Adds (Just (quoted string.now))
+            (Self.Write.contents self.old) (Self.Write.contents self.new) }
         ensures left { result ≡ false → Self.Write.contents self.new
             ≡ Self.Write.contents self.old };
 
-    /// Writes the text of the number if it is digits with at most a minus before them and a point
-    /// among them, and there is room for it, and returns whether it did. Otherwise, and for 0,
-    /// nothing is written.
+    /// Writes the text of the number where that takes no more than putting digits into room that is
+    /// there, and returns whether it did. Otherwise nothing is written.
     fn write_digits(&mut self, number: &Number) -> bool
         ensures done { IsTrue result → Adds (Just (written_text number.now))
             (Self.Write.contents self.old) (Self.Write.contents self.new) }

@@ -1,5 +1,5 @@
-use Rattle.std.proofs.Common.{◌≡◌, ◌+◌, ◌-◌, ◌≤◌, ◌<◌, ◌++◌, ◌∙◌, ℕ, List, Bool, true, false, not, length, replicate, refl}
-use Rattle.std.proofs.Common.{ap, sym, arith, length-append}
+use Rattle.std.proofs.Common.{◌≡◌, ◌+◌, ◌-◌, ◌≤◌, ◌<◌, ◌++◌, ◌∙◌, ℕ, List, Bool, true, false, not, length, replicate}
+use Rattle.std.proofs.Common.{refl, ap, sym, arith, length-append}
 use Rattle.std.proofs.lemmas.List.{length-replicate}
 use Rattle.std.specs.Fmt.{decimal}
 use Rattle.std.specs.Int.{from_bool}
@@ -25,15 +25,26 @@ pub overflow_sub-point : goal.overflow_sub-point
 overflow_sub-point c =
     let count = length-decimal c.ilog10.result c.args.n c.ranges.n.fits c.ilog10.ensures.power_le
     c.ilog10.ensures.next_power_gt in
-    let all = length-added c.args.bytes.now.items c.push_after_minuses.new.bytes.items (decimal c.args.n) _ c.push_after_minuses.ensures in
+    let all = length-added c.args.bytes.now.items c.push_after_minuses.new.bytes.items (decimal c.args.n) _
+    c.push_after_minuses.ensures in
     omega (arith, count, all, c.len-2.ensures, c.if-ilog10-places.false)
 
 pub put_point-requires-clause-order : goal.put_point-requires-clause-order
 put_point-requires-clause-order c =
     let count = length-decimal c.ilog10.result c.args.n c.ranges.n.fits c.ilog10.ensures.power_le
     c.ilog10.ensures.next_power_gt in
-    let all = length-added c.args.bytes.now.items c.push_after_minuses.new.bytes.items (decimal c.args.n) _ c.push_after_minuses.ensures in
-    omega (arith, count, all, c.len.ensures, c.len-2.ensures, c.from.ensures, c.from-2.ensures, c.if-ilog10-places.false)
+    let all = length-added c.args.bytes.now.items c.push_after_minuses.new.bytes.items (decimal c.args.n) _
+    c.push_after_minuses.ensures in
+    omega (
+      arith,
+      count,
+      all,
+      c.len.ensures,
+      c.len-2.ensures,
+      c.from.ensures,
+      c.from-2.ensures,
+      c.if-ilog10-places.false,
+    )
 
 pub returns-clause-done : goal.returns-clause-done
 returns-clause-done c = λ _.
