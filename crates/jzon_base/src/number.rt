@@ -22,14 +22,18 @@ enum Category {
 
 /// A number: `mantissa * 10 ^ exponent` with a sign, or NaN. It keeps its parts as they were set:
 /// `1.50` and `1.5` have different parts but are equal.
-#[derive(Clone, Copy, Debug)]
+// The gaps are 0. As fields they leave no padding, so that a copy field by field is one move.
+#[derive(Clone, Copy)]
 pub struct Number {
     category: Category,
+    narrow_gap: u8,
     exponent: i16,
+    wide_gap: u32,
     mantissa: u64,
 }
 
 impl Model for Number {
+    ghost use Rattle.std.specs.Prelude.{◌≡◌};
     ghost use Rattle.jzon_base.specs.Decimal.{Decimal};
 
     ghost Value = { Decimal };
@@ -38,7 +42,8 @@ impl Model for Number {
 
     ghost view = { λ n. value_at n.category n.mantissa n.exponent };
 
-    ghost invariant = { λ n. HasNoParts n.category n.mantissa n.exponent };
+    ghost invariant = { λ n. HasNoParts n.category n.mantissa n.exponent
+        × (n.narrow_gap ≡ 0) × (n.wide_gap ≡ 0) };
 
     ghost inverse = { fields_of };
 }
@@ -46,7 +51,9 @@ impl Model for Number {
 /// Not a number. Its parts are returned as `(false, 0, 0)`.
 pub const NAN: Number = Number {
     category: Category::Nan,
+    narrow_gap: 0,
     exponent: 0,
+    wide_gap: 0,
     mantissa: 0,
 };
 
@@ -62,7 +69,9 @@ impl Number {
         };
         Number {
             category,
+            narrow_gap: 0,
             exponent,
+            wide_gap: 0,
             mantissa,
         }
     }
@@ -130,7 +139,9 @@ pub(crate) fn copy_fields(number: &Number) -> Number
 {
     Number {
         category: number.category,
+        narrow_gap: number.narrow_gap,
         exponent: number.exponent,
+        wide_gap: number.wide_gap,
         mantissa: number.mantissa,
     }
 }
@@ -179,6 +190,16 @@ impl Eq for Number {
     ghost use Rattle.jzon_base.specs.Private.Same.{same_equiv};
 
     ghost laws = { same_equiv };
+}
+
+impl fmt::Debug for Number {
+    fn fmt<W: fmt::Write>(&self, f: &mut fmt::Formatter<W>) -> fmt::Result {
+        f.debug_struct("Number")
+            .field("category", &self.category)
+            .field("exponent", &self.exponent)
+            .field("mantissa", &self.mantissa)
+            .finish()
+    }
 }
 
 impl fmt::Display for Number {

@@ -34,6 +34,17 @@ fn strips_zeros(rt: HostRuntime) -> Result<(), Fail> {
 }
 
 #[test]
+fn shows_its_parts_where_debugged(rt: HostRuntime) -> Result<(), Fail> {
+    let number = Number::from_parts_unchecked(true, 15, -1);
+    let shown = format!(in rt.alloc(); "{number:?}")?;
+    assert_eq!(rt;
+        shown.as_str(),
+        "Number { category: Positive, exponent: -1, mantissa: 15 }"
+    );
+    Ok(())
+}
+
+#[test]
 fn compares(rt: HostRuntime) {
     let rows = [
         ((true, 10, 32767), (true, 100, 32766), true),

@@ -17,6 +17,8 @@ HasNoParts Positive m e = Unit {0}
 HasNoParts Nan m e = (m ≡ 0) × (e ≡ pos 0)
 
 abbrev pub fields_of : Decimal → Inside
-fields_of nan = record { category = Nan; exponent = pos 0; mantissa = 0 }
-fields_of (parts true m e) = record { category = Positive; exponent = e; mantissa = m }
-fields_of (parts false m e) = record { category = Negative; exponent = e; mantissa = m }
+fields_of nan = record { category = Nan; narrow_gap = 0; exponent = pos 0; wide_gap = 0; mantissa = 0 }
+fields_of (parts true m e) =
+    record { category = Positive; narrow_gap = 0; exponent = e; wide_gap = 0; mantissa = m }
+fields_of (parts false m e) =
+    record { category = Negative; narrow_gap = 0; exponent = e; wide_gap = 0; mantissa = m }
