@@ -35,12 +35,20 @@ fn strips_zeros(rt: HostRuntime) -> Result<(), Fail> {
 
 #[test]
 fn shows_its_parts_where_debugged(rt: HostRuntime) -> Result<(), Fail> {
-    let number = Number::from_parts_unchecked(true, 15, -1);
-    let shown = format!(in rt.alloc(); "{number:?}")?;
-    assert_eq!(rt;
-        shown.as_str(),
-        "Number { category: Positive, exponent: -1, mantissa: 15 }"
-    );
+    let rows = [
+        (
+            Number::from_parts_unchecked(true, 15, -1),
+            "Number { category: Positive, exponent: -1, mantissa: 15 }",
+        ),
+        (
+            Number::from_parts_unchecked(false, 7, 300),
+            "Number { category: Negative, exponent: 300, mantissa: 7 }",
+        ),
+        (NAN, "Number { category: Nan, exponent: 0, mantissa: 0 }"),
+    ];
+    for (number, shown) in rows {
+        assert_eq!(rt; format!(in rt.alloc(); "{number:?}")?.as_str(), shown);
+    }
     Ok(())
 }
 

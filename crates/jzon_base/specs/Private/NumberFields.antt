@@ -16,9 +16,10 @@ HasNoParts Negative m e = Unit {0}
 HasNoParts Positive m e = Unit {0}
 HasNoParts Nan m e = (m ≡ 0) × (e ≡ pos 0)
 
+abbrev pub fields_at : Category → ℕ → ℤ → Inside
+fields_at c m e = record { category = c; narrow_gap = 0; exponent = e; wide_gap = 0; mantissa = m }
+
 abbrev pub fields_of : Decimal → Inside
-fields_of nan = record { category = Nan; narrow_gap = 0; exponent = pos 0; wide_gap = 0; mantissa = 0 }
-fields_of (parts true m e) =
-    record { category = Positive; narrow_gap = 0; exponent = e; wide_gap = 0; mantissa = m }
-fields_of (parts false m e) =
-    record { category = Negative; narrow_gap = 0; exponent = e; wide_gap = 0; mantissa = m }
+fields_of nan = fields_at Nan 0 (pos 0)
+fields_of (parts true m e) = fields_at Positive m e
+fields_of (parts false m e) = fields_at Negative m e
