@@ -38,8 +38,6 @@ mod printed;
 #[cfg(test)]
 mod readers;
 #[cfg(test)]
-mod refusals;
-#[cfg(test)]
 mod values;
 #[cfg(test)]
 mod view;

@@ -3,15 +3,11 @@
 use crate::common::Tested;
 use jzon::codegen::{PrettyWriterGenerator, WriterGenerator, write_json};
 use jzon::{JsonValue, parse};
-use jzon_test_support::{DOCUMENT, DUMP, NO_FAILING_CALL, SlowWriter, Trouble};
+use jzon_test_support::{DOCUMENT, DUMP, NO_FAILING_CALL, PRETTY, SlowWriter, Trouble};
 use std::alloc::Global;
 use std::io;
 use std::io::ErrorKind;
 use std::process::Abort;
-
-/// What `DOCUMENT` means, on lines, with two spaces for each open container.
-pub(crate) const PRETTY: &str =
-    "{\n  \"a\": [\n    1,\n    -50,\n    \"xé\u{1d11e}\"\n  ],\n  \"b\": null\n}";
 
 /// How a value is written.
 #[derive(Clone, Copy)]

@@ -6,11 +6,13 @@ mod objects;
 mod room;
 mod written;
 
-use crate::common::Tested;
 use jzon::{Error, JsonValue, Result, parse};
 use jzon_test_support::{RUNS_MAX, Refusals};
 use std::alloc::Global;
 use std::process::Abort;
+use std::test::Fail;
+
+type Tested = std::result::Result<(), Fail>;
 
 /// A text with a key and a string that are too long to be kept inline.
 const LONG_DOCUMENT: &str =

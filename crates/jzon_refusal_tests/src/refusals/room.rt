@@ -1,9 +1,8 @@
 //! What is printed into a sink that has room for it: nothing is allocated.
 
 use super::*;
-use crate::writers::PRETTY;
 use jzon::codegen::{PrettyWriterGenerator, WriterGenerator, write_json};
-use jzon_test_support::{DOCUMENT, DUMP};
+use jzon_test_support::{DOCUMENT, DUMP, PRETTY};
 use std::fmt;
 use std::fmt::Write;
 use std::test::Fail;
