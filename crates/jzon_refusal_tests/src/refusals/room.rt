@@ -5,7 +5,6 @@ use jzon::codegen::{PrettyWriterGenerator, WriterGenerator, write_json};
 use jzon_test_support::{DOCUMENT, DUMP, PRETTY};
 use std::fmt;
 use std::fmt::Write;
-use std::test::Fail;
 
 /// A buffer with an initial capacity, which grows where that doesn't suffice.
 #[derive(Drop)]
