@@ -17,7 +17,7 @@ pub const DOCUMENT: &str = "{\"a\":[1,-0.5e+2,\"x\\u00e9\\uD834\\uDD1E\"],\"b\":
 /// What its value dumps as.
 pub const DUMP: &str = "{\"a\":[1,-50,\"xé\u{1d11e}\"],\"b\":null}";
 
-/// What it prints on lines, with two spaces for each open container.
+/// What its value prints on lines, with two spaces for each open container.
 pub const PRETTY: &str =
     "{\n  \"a\": [\n    1,\n    -50,\n    \"xé\u{1d11e}\"\n  ],\n  \"b\": null\n}";
 
