@@ -4,7 +4,4 @@ pub mod Hash
 pub mod Keys
 pub mod Marks
 pub mod Notes
-pub mod NumberFields
-pub mod PlainBytes
-pub mod Same
 pub mod Slots

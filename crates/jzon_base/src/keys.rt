@@ -33,8 +33,8 @@ mod repeats;
 mod retain;
 pub mod runs;
 
+use crate::fit::reserve_next;
 use crate::key::Key;
-use crate::util::fit::reserve_next;
 use hash::hash_of;
 pub use into_iter::IntoIter;
 pub use iter::Iter;

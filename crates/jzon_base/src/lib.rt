@@ -1,13 +1,11 @@
-//! What JSON values and their parser are built on: errors, numbers, short strings, keys, and lists
-//! of entries.
+//! What JSON values and their parser are built on: errors, short strings, keys, and lists of
+//! entries.
 #![tactic(auto)]
 
-pub mod digits;
 pub mod error;
+pub mod fit;
 mod inline;
 pub mod key;
 pub mod keys;
-pub mod number;
 pub mod pairs;
 pub mod short;
-pub mod util;

@@ -1,18 +1,8 @@
-//! Tests of `jzon_base` by its public items alone.
+//! Tests of `jzon_base` by its public items alone, and of `write_bytes` of `jzon_tokens`.
 #![tactic(auto)]
 
 #[cfg(test)]
-mod digits;
-#[cfg(test)]
 mod error;
-#[cfg(test)]
-mod escapes;
-#[cfg(test)]
-mod fixed_point;
-#[cfg(test)]
-mod from_integer;
-#[cfg(test)]
-mod from_parts;
 #[cfg(test)]
 mod hash;
 #[cfg(test)]
@@ -20,18 +10,10 @@ mod key;
 #[cfg(test)]
 mod keys;
 #[cfg(test)]
-mod number;
-#[cfg(test)]
 mod pairs;
-#[cfg(test)]
-mod plain;
-#[cfg(test)]
-mod print_dec;
 #[cfg(test)]
 mod runs;
 #[cfg(test)]
 mod short;
-#[cfg(test)]
-mod to_integer;
 #[cfg(test)]
 mod write_bytes;

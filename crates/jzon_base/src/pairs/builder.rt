@@ -4,10 +4,10 @@ ghost use Rattle.std.specs.Option.{is_some};
 ghost use Rattle.jzon_base.specs.PairList.{find, put};
 
 use super::Pairs;
+use crate::fit::fit;
 use crate::key::Key;
 use crate::keys;
 use crate::keys::notes::{self, Notes};
-use crate::util::fit::fit;
 use std::alloc::{AllocError, Global};
 use std::marker::Model;
 

@@ -5,8 +5,8 @@ ghost use Rattle.std.specs.List.{position, zip, IsDistinct};
 ghost use Rattle.std.specs.Map.Calls.{CalledAtPair, CallableOnEachPair, RetainsPairs, TakesPair};
 ghost use Rattle.std.specs.Str.{bytes_eq};
 
+use crate::fit::reserve_next;
 use crate::keys::Keys;
-use crate::util::fit::reserve_next;
 use std::alloc::{AllocError, Global};
 use std::marker::Model;
 

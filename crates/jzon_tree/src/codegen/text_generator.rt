@@ -4,7 +4,7 @@
 ghost use Rattle.std.specs.Prelude.{◌≡◌, ◌∷◌, ℕ, List, [], Option, Ok, None, Some, IsTrue, IsUtf8, MatchResult, refl};
 ghost use Rattle.std.specs.Prelude.{false, replicate, string_bytes};
 ghost use Rattle.std.specs.Borrow.{GName, sem, Lends};
-ghost use Rattle.jzon_base.specs.NumberText.{written_text};
+ghost use Rattle.jzon_tokens.specs.NumberText.{written_text};
 ghost use Rattle.jzon_base.specs.PairList.{keys_of};
 ghost use Rattle.jzon_tree.specs.Entries.{entries_of};
 ghost use Rattle.jzon_tree.specs.Generator.{Added, Adds, Failed, Counts, Just, IsAnswer, Sends};
@@ -20,7 +20,7 @@ use crate::codegen::numbers::{push_number, send_number};
 use crate::codegen::strings::{push_string, send_string, send_string_from};
 use crate::object::Object;
 use jzon_base::error::{Error, Result};
-use jzon_base::number::Number;
+use jzon_tokens::number::Number;
 use std::alloc::Global;
 use std::io;
 use std::io::{ErrorKind, Write};

@@ -1,4 +1,4 @@
-use Rattle.jzon_base.specs.NumberText.{written_text}
+use Rattle.jzon_tokens.specs.NumberText.{written_text}
 use Rattle.jzon_tree.specs.Generator.{Just}
 use Rattle.jzon_tree.proofs.Sent.{Sends-moved}
 use Rattle.jzon_tree.proofs.codegen.text_generator.Outlet.send_number.Goals as goal

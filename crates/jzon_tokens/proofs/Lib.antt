@@ -1,0 +1,15 @@
+pub mod ByteTables
+pub mod EightDigits
+pub mod Escapes
+pub mod ExactPoints
+pub mod Kept
+pub mod Laid
+pub mod LeadingDigits
+pub mod PlainBlocks
+pub mod Powers
+pub mod PrintedRows
+pub mod ReadRows
+pub mod SameRows
+pub mod Scaled
+pub mod Scanned
+pub mod Written
