@@ -10,9 +10,6 @@ pub mod Merged
 pub mod PutEach
 pub mod KnownKeys
 pub mod Runs
-pub mod Few
-pub mod Marks
-pub mod Notes
 pub mod Handed
 pub mod FlatRuns
 pub mod Tables

@@ -1,19 +1,23 @@
 -- Merging the entries of repeated keys in place.
 use Rattle.std.proofs.Common.{◌≡◌, ℕ, zero, suc, ◌+◌, ◌<◌, ◌≤◌, Bool, true, false, eqb, List, [], ◌∷◌, ◌++◌, length}
 use Rattle.std.proofs.Common.{get_or, set, take, drop, None, Some, cond, length-append, refl, sym, ap, ◌∙◌, inl, inr}
-use Rattle.std.proofs.Common.{arith, add-one}
+use Rattle.std.proofs.Common.{map, filter, append-nil, take_all, arith, add-one, zero-add}
 use Rattle.std.proofs.lemmas.List.{get_or_default, get_or_append_left, get_or-set_same, get_or-set_other, length-set}
 use Rattle.std.proofs.lemmas.List.{take_more, drop_more, length-take-le}
 use Rattle.std.proofs.Math.Seq.{get_or-append_seam}
 use Rattle.std.proofs.lemmas.List.Edits.{swap_is, length-swap}
+use Rattle.std.proofs.lemmas.List.Elements.{filter-append}
 use Rattle.std.proofs.lemmas.List.Sums.{fold-append}
-use Rattle.std.proofs.lemmas.Bool.{cases_Bool, cases_lt, false≢true, eqb-true, eqb-false}
+use Rattle.std.proofs.lemmas.Bool.{cases_Bool, cases_lt, false≢true, eqb-true, eqb-false, eq-eqb, ne_eqb}
 use Rattle.std.proofs.lemmas.Slice.Eq.{bytes_eq-Decides}
 use Rattle.std.proofs.lemmas.List.Quantifiers.{position-Some}
 use Rattle.std.specs.List.{position, swap, zip, fold, AllByRecursion}
 use Rattle.std.proofs.lemmas.Slice.Zip.{length-zip, get_or-zip}
 use Rattle.std.specs.Str.{bytes_eq}
-use Rattle.jzon_base.specs.Private.Keys.{AreFirsts}
+use Rattle.jzon_base.specs.Private.Hash.{hash_of}
+use Rattle.jzon_base.specs.Private.Keys.{hashed_from, is_first, moved, AreFirsts, AreMoved}
+use Rattle.jzon_base.proofs.FlatRuns.{mapped}
+use Rattle.jzon_base.proofs.Indexes.{hashed_from-push}
 use Rattle.jzon_base.specs.PairList.{keys_of, put, put_each}
 use Rattle.jzon_base.proofs.PairPlaces.{zip-put_placed, zip-put_missing}
 use Rattle.jzon_base.proofs.Zips.{AreParts-zip}
@@ -160,6 +164,25 @@ module _ {V : Type 0} where
     missing_each ps h = position-none (λ x. bytes_eq x k) (keys_of (put_each ps)) []
         (other_at (put_each ps) (other_each [] ps tt h))
 
+-- ---- index entries whose keys are moved
+
+kept_same : (f g : ℕ × ℕ → ℕ × ℕ) (b : Bool) (p : ℕ × ℕ) (ps : List (ℕ × ℕ)) → f p ≡ g p → map f ps ≡ map g ps
+    → map f (cond b (p ∷ ps) ps) ≡ map g (cond b (p ∷ ps) ps)
+kept_same f g true p ps e h = λ i. e i ∷ h i
+kept_same f g false p ps e h = h
+
+-- a later key moves none of these
+moved_before : (fs0 fs : List ℕ) (i v n : ℕ) (ks : List (List ℕ)) → n + length ks ≤ i
+    → map (moved (set fs i v)) (filter (is_first fs0) (hashed_from n ks))
+    ≡ map (moved fs) (filter (is_first fs0) (hashed_from n ks))
+unfolding hashed_from
+moved_before fs0 fs i v n [] l = refl
+moved_before fs0 fs i v n (k ∷ ks) l =
+    kept_same (moved (set fs i v)) (moved fs) (is_first fs0 (hash_of k, n)) (hash_of k, n)
+    (filter (is_first fs0) (hashed_from (n + 1) ks))
+    (ap (λ (m : ℕ). (hash_of k, m)) (get_or-set_other fs i n v 0 (λ e. absurd (omega arith))))
+    (moved_before fs0 fs i v (n + 1) ks (omega arith))
+
 -- ---- the loop
 
 module _ {V : Type 0} (ks0 : List (List ℕ)) (vs0 : List V) (fs0 : List ℕ) where
@@ -176,6 +199,22 @@ module _ {V : Type 0} (ks0 : List (List ℕ)) (vs0 : List V) (fs0 : List ℕ) wh
     pub slots : (j : ℕ) → j < at → get_or fs0 j 0 ≡ j → position (λ k. bytes_eq k (get_or ks0 j [])) (take kept ks)
         ≡ Some (get_or fs j 0)
     pub later : (j : ℕ) → at ≤ j → get_or fs j 0 ≡ get_or fs0 j 0
+    pub entries : map (moved fs) (filter (is_first fs0) (hashed_from 0 (take at ks0))) ≡ hashed_from 0 (take kept ks)
+
+  pub IsMerged-none : IsMerged ks0 vs0 fs0 0 0
+  unfolding hashed_from
+  IsMerged-none = record {
+    keys_even = refl;
+    values_even = refl;
+    places_even = refl;
+    behind = omega arith;
+    keys_left = refl;
+    values_left = refl;
+    merged = refl;
+    slots = λ j h own. absurd (omega arith);
+    later = λ j h. refl;
+    entries = refl;
+  }
 
   module _ (even : length vs0 ≡ length ks0) (firsts : AreFirsts ks0 fs0) (ks : List (List ℕ)) (vs : List V)
       (fs : List ℕ) (kept at : ℕ) (m : IsMerged ks vs fs kept at) (l : at < length ks0) where
@@ -201,6 +240,17 @@ module _ {V : Type 0} (ks0 : List (List ℕ)) (vs0 : List V) (fs0 : List ℕ) wh
 
     entry_more : put_each (take (at + 1) (zip ks0 vs0)) ≡ put key value.0 (put_each (take at (zip ks0 vs0)))
     entry_more = put_each-more ks0 vs0 at value.0 l even value.1
+
+    -- the index entries of one more key
+    entries_more : (b : Bool) → eqb (get_or fs0 at 0) at ≡ b → filter (is_first fs0) (hashed_from 0 (take (at + 1) ks0))
+        ≡ filter (is_first fs0) (hashed_from 0 (take at ks0)) ++ cond b ((hash_of key, at) ∷ []) []
+    entries_more b e =
+        let long : length (take at ks0) ≡ at = length-take-le at ks0 (omega arith) in
+        ap (λ xs. filter (is_first fs0) (hashed_from 0 xs)) (take_more ks0 at [] l)
+        ∙ ap (filter (is_first fs0)) (hashed_from-push 0 (take at ks0) key
+        ∙ ap (λ (n : ℕ). hashed_from 0 (take at ks0) ++ (hash_of key, n) ∷ []) (zero-add (length (take at ks0)) ∙ long))
+        ∙ filter-append (is_first fs0) (hashed_from 0 (take at ks0)) ((hash_of key, at) ∷ [])
+        ∙ ap (λ (t : Bool). filter (is_first fs0) (hashed_from 0 (take at ks0)) ++ cond t ((hash_of key, at) ∷ []) []) e
 
     -- ---- a key that occurs for the first time
 
@@ -241,6 +291,20 @@ module _ {V : Type 0} (ks0 : List (List ℕ)) (vs0 : List V) (fs0 : List ℕ) wh
                 (m.slots j (omega arith) own) ∙ ap Some (sym (get_or-set_other fs at j kept 0 ne)))
           ]
 
+      entries_new : map (moved (set fs at kept)) (filter (is_first fs0) (hashed_from 0 (take (at + 1) ks0)))
+          ≡ hashed_from 0 (take (kept + 1) (swap ks kept at))
+      entries_new =
+          let gs = set fs at kept in
+          let own : eqb (get_or fs0 at 0) at ≡ true = eq-eqb _ _ (sym (m.later at (omega arith)) ∙ new) in
+          let place : get_or gs at 0 ≡ kept = get_or-set_same fs at kept 0
+          (omega (arith, m.places_even, firsts.even)) in
+          ap (map (moved gs)) (entries_more true own)
+          ∙ mapped (moved gs) (filter (is_first fs0) (hashed_from 0 (take at ks0))) ((hash_of key, at) ∷ [])
+          ∙ (λ i. moved_before fs0 fs at kept 0 (take at ks0) (omega (arith, length-take-le at ks0 (omega arith))) i
+          ++ (hash_of key, place i) ∷ [])
+          ∙ (λ i. m.entries i ++ (hash_of key, (sym prefix_keys ∙ sym (zero-add (length (take kept ks)))) i) ∷ [])
+          ∙ sym (hashed_from-push 0 (take kept ks) key) ∙ ap (hashed_from 0) (sym keys_prefix)
+
       pub IsMerged-new : IsMerged (swap ks kept at) (swap vs kept at) (set fs at kept) (kept + 1) (at + 1)
       IsMerged-new = record {
         keys_even = length-swap ks kept at ∙ m.keys_even;
@@ -256,6 +320,7 @@ module _ {V : Type 0} (ks0 : List (List ℕ)) (vs0 : List V) (fs0 : List ℕ) wh
             (put_each (take at (zip ks0 vs0))) m.merged prefix_values (sym missing) ∙ sym entry_more;
         slots = λ j h own. ap (position (λ k. bytes_eq k (get_or ks0 j []))) keys_prefix ∙ slot_of j h own;
         later = λ j h. get_or-set_other fs at j kept 0 (λ e. absurd (omega arith)) ∙ m.later j (omega arith);
+        entries = entries_new;
       }
 
     -- ---- a key that occurred before
@@ -314,4 +379,18 @@ module _ {V : Type 0} (ks0 : List (List ℕ)) (vs0 : List V) (fs0 : List ℕ) wh
             in
             m.slots j (omega arith) own;
         later = λ j h. m.later j (omega arith);
+        entries =
+            (let other : eqb (get_or fs0 at 0) at ≡ false = ne_eqb _ _ (λ e. old (m.later at (omega arith) ∙ e)) in
+            ap (map (moved fs)) (entries_more false other ∙ append-nil _) ∙ m.entries);
       }
+
+  -- all entries are merged
+  pub AreMoved-merged : (ks : List (List ℕ)) (vs : List V) (fs : List ℕ) (kept at : ℕ) → IsMerged ks vs fs kept at
+      → length ks0 ≤ at → AreMoved ks0 fs0 (take kept ks) fs
+  AreMoved-merged ks vs fs kept at m all = record {
+    entries = ap (λ xs. map (moved fs) (filter (is_first fs0) (hashed_from 0 xs))) (sym (take_all at ks0 all))
+        ∙ m.entries;
+    texts = λ i l own. (bytes_eq-Decides _ _).0
+        (position-Some (λ k. bytes_eq k (get_or ks0 i [])) (take kept ks) (get_or fs i 0) []
+        (m.slots i (omega arith) own)).1;
+  }

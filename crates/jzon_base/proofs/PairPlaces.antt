@@ -2,7 +2,7 @@
 use Rattle.std.proofs.Common.{◌≡◌, ℕ, zero, suc, ◌<◌, Bool, true, false, List, [], ◌∷◌, ◌++◌, length, get_or, set, None}
 use Rattle.std.proofs.Common.{Some, IsSome, refl, sym, ap, ◌∙◌, arith}
 use Rattle.std.proofs.lemmas.List.Quantifiers.{position-Some}
-use Rattle.std.proofs.lemmas.Option.{slice_get-map}
+use Rattle.std.proofs.lemmas.Option.{none-some, same_Some, slice_get-map}
 use Rattle.std.specs.Cmp.Lexicographic.{nat_list_eq_equiv}
 use Rattle.std.specs.Option.{option_map}
 use Rattle.std.specs.List.{position, remove, slice_get, zip}
@@ -162,6 +162,13 @@ module _ {V : Type 0} (k : List ℕ) (ps : List (List ℕ × V)) where
       → position (λ x. bytes_eq x k) (keys_of (ps ++ (k, v) ∷ [])) ≡ Some (length ps)
   last_placed v e = let p = place-last k ps v (absent k (keys_of ps) e) in position-first (λ x. bytes_eq x k)
       (keys_of (ps ++ (k, v) ∷ [])) (length ps) [] p.within p.here p.before
+
+-- the key that is read at a position
+pub key_at : {V : Type 0} (ps : List (List ℕ × V)) (i : ℕ) (k : List ℕ) (v : V) → slice_get ps i ≡ Some (k, v)
+    → (i < length (keys_of ps)) × (get_or (keys_of ps) i [] ≡ k)
+key_at [] i k v e = absurd (none-some (k, v) e)
+key_at (p ∷ ps) zero k v e = (omega arith, ap (λ q. q.0) (same_Some p (k, v) e))
+key_at (p ∷ ps) (suc i) k v e = let h = key_at ps i k v e in (omega (arith, h.0), h.1)
 
 -- a value that is written at the position where a default was put
 pub default_written : {V : Type 0} (k : List ℕ) (v : V) (ps qs : List (List ℕ × V)) (i : ℕ) → qs ≡ with_default k v ps

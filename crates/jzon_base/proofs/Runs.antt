@@ -24,7 +24,7 @@ use Rattle.std.proofs.lemmas.List.Sorted.{IsPermutation-refl, IsPermutation-tran
 use Rattle.std.proofs.lemmas.Map.Text.{is_eq-slice_cmp}
 use Rattle.std.proofs.lemmas.Slice.Eq.{bytes_eq-Decides}
 use Rattle.jzon_base.specs.Private.Hash.{hash_of}
-use Rattle.jzon_base.specs.Private.Keys.{beside, hashed_from, pair_cmp, AreRuns}
+use Rattle.jzon_base.specs.Private.Keys.{beside, hashed_from, pair_cmp}
 use Rattle.jzon_base.proofs.Indexes.{hashed_from-append, not_less}
 
 prefix : {X : Type 0} (xs ys zs : List X) → zs ≡ xs ++ ys → take (length xs) zs ≡ xs
@@ -100,89 +100,6 @@ any_hashed ks name n (x ∷ xs) read =
     (λ j. is_eq (ordering_then (nat_cmp (hash_of x) (hash_of name)) (slice_cmp nat_cmp (here j) name)) || more j)
     ∙ ap (λ (b : Bool). b || list_any (λ k. bytes_eq k name) xs) (same_test x name)
 
-pub known_in_runs : (ks : List (List ℕ)) (rs : List (List (ℕ × ℕ))) (n : ℕ) (name : List ℕ) → AreRuns ks rs n
-    → list_any (λ r. list_any (is_it ks (hash_of name) name) r) rs ≡ list_any (λ k. bytes_eq k name) (take n ks)
-known_in_runs ks rs n name runs =
-    any_run ks (hash_of name) name rs
-    ∙ sym (list_any-IsPermutation (is_it ks (hash_of name) name) (hashed_from 0 (take n ks)) (flat_map (λ r. r) rs)
-    runs.whole)
-    ∙ any_hashed ks name 0 (take n ks) (λ i l. ap (λ (m : ℕ). get_or ks m []) (zero-add i)
-    ∙ sym (get_or-take n ks i [] (omega (arith, length-take-le n ks runs.within))))
-
-module _ (ks : List (List ℕ)) (rs ss : List (List (ℕ × ℕ))) (n h : ℕ) (name : List ℕ) (runs : AreRuns ks rs n)
-    (own : h ≡ hash_of name) (same : ss ≡ rs) where
-  abbrev is_known : List ℕ → Bool
-  is_known k = bytes_eq k name
-
-  known_first : list_any (λ r. list_any (λ p. is_eq (beside ks h name p)) r) ss ≡ list_any is_known (take n ks)
-  known_first = (λ i. list_any (λ r. list_any (λ p. is_eq (beside ks (own i) name p)) r) (same i))
-      ∙ known_in_runs ks rs n name runs
-
-  known_parts : list_any is_known ks ≡ (list_any is_known (take n ks) || list_any is_known (drop n ks))
-  known_parts = ap (list_any is_known) (sym (take-append-drop n ks)) ∙ list_any-append is_known (take n ks) (drop n ks)
-
-  pub known_some : true ≡ list_any (λ r. list_any (λ p. is_eq (beside ks h name p)) r) ss → true ≡ list_any is_known ks
-  known_some e = sym (known_parts ∙ ap (λ (b : Bool). b || list_any is_known (drop n ks)) (sym (e ∙ known_first)))
-
-  pub known_rest : (b : Bool) → false ≡ list_any (λ r. list_any (λ p. is_eq (beside ks h name p)) r) ss
-      → b ≡ list_any is_known (take (length ks - n) (drop n ks)) → b ≡ list_any is_known ks
-  known_rest b e f =
-      f ∙ ap (list_any is_known) (take_rest ks n) ∙ sym (known_parts
-      ∙ ap (λ (b : Bool). b || list_any is_known (drop n ks)) (sym (e ∙ known_first)))
-
--- ---- adding and joining runs
-
-pub AreRuns-none : (ks : List (List ℕ)) → AreRuns ks [] 0
-unfolding hashed_from
-AreRuns-none ks = record {
-  within = omega arith;
-  whole = IsPermutation-refl [];
-  sorted = All-nil
-      (IsSorted (pair_cmp ks));
-}
-
-flat_map-last : (rs : List (List (ℕ × ℕ))) (r : List (ℕ × ℕ))
-    → flat_map (λ r. r) (rs ++ r ∷ []) ≡ flat_map (λ r. r) rs ++ r
-flat_map-last rs r = flat_map-append (λ (r : List (ℕ × ℕ)). r) rs (r ∷ [])
-    ∙ ap (λ x. flat_map (λ r. r) rs ++ x) (append-nil r)
-
-pub AreRuns-more : (ks : List (List ℕ)) (rs : List (List (ℕ × ℕ))) (n : ℕ) (r : List (ℕ × ℕ)) → AreRuns ks rs n
-    → IsPermutation (hashed_from n (drop n ks)) r
-    → IsSorted (pair_cmp ks) r → AreRuns ks (rs ++ r ∷ []) (length ks)
-AreRuns-more ks rs n r runs moved up = record {
-  within = omega arith;
-  whole =
-      (let long : length (take n ks) ≡ n = length-take-le n ks runs.within in
-      let split : hashed_from 0 (take (length ks) ks) ≡ hashed_from 0 (take n ks) ++ hashed_from n (drop n ks) =
-      ap (hashed_from 0) (take_all (length ks) ks (omega arith) ∙ sym (take-append-drop n ks))
-      ∙ hashed_from-append 0 (take n ks) (drop n ks)
-      ∙ ap (λ (m : ℕ). hashed_from 0 (take n ks) ++ hashed_from m (drop n ks)) (zero-add (length (take n ks)) ∙ long) in
-      rw (split, flat_map-last rs r) (IsPermutation-append (hashed_from 0 (take n ks)) (flat_map (λ r. r) rs)
-      (hashed_from n (drop n ks)) r runs.whole moved));
-  sorted = All-push (IsSorted (pair_cmp ks)) rs r runs.sorted up;
-}
-
-pub AreRuns-join : (ks : List (List ℕ)) (us : List (List (ℕ × ℕ))) (a b c : List (ℕ × ℕ)) (n : ℕ)
-    → AreRuns ks ((us ++ a ∷ []) ++ b ∷ []) n → IsPermutation (a ++ b) c
-    → IsSorted (pair_cmp ks) c → AreRuns ks (us ++ c ∷ []) n
-AreRuns-join ks us a b c n runs moved up = record {
-  within = runs.within;
-  whole =
-      (let split : flat_map (λ r. r) ((us ++ a ∷ []) ++ b ∷ []) ≡ flat_map (λ r. r) us ++ (a ++ b) =
-      flat_map-last (us ++ a ∷ []) b ∙ ap (λ x. x ++ b) (flat_map-last us a)
-      ∙ append_assoc (flat_map (λ r. r) us) a b in
-      IsPermutation-trans (hashed_from 0 (take n ks)) (flat_map (λ r. r) us ++ (a ++ b))
-      (flat_map (λ r. r) (us ++ c ∷ [])) (subst (λ x. IsPermutation (hashed_from 0 (take n ks)) x) split runs.whole)
-      (subst (λ x. IsPermutation (flat_map (λ r. r) us ++ (a ++ b)) x) (sym (flat_map-last us c))
-      (IsPermutation-append (flat_map (λ r. r) us) (flat_map (λ r. r) us) (a ++ b) c
-      (IsPermutation-refl (flat_map (λ r. r) us)) moved)));
-  sorted =
-      (let all = All-take (IsSorted (pair_cmp ks)) (length us) ((us ++ a ∷ []) ++ b ∷ []) runs.sorted in
-      All-push (IsSorted (pair_cmp ks)) us c (All-same (IsSorted (pair_cmp ks)) us
-      (take (length us) ((us ++ a ∷ []) ++ b ∷ [])) (sym
-      (prefix us (a ∷ b ∷ []) ((us ++ a ∷ []) ++ b ∷ []) (append_assoc us (a ∷ []) (b ∷ [])))) all) up);
-}
-
 -- ---- one more key
 
 All-places : (n : ℕ) (ks : List (List ℕ)) → All (λ p. p.1 < n + length ks) (hashed_from n ks)
@@ -206,27 +123,3 @@ same_order : (ks ls : List (List ℕ)) (p q : ℕ × ℕ) → get_or ks p.1 [] �
     → get_or ks q.1 [] ≡ get_or ls q.1 [] → is_lt (pair_cmp ks p q) ≡ is_lt (pair_cmp ls p q)
 same_order ks ls p q e f = λ i. is_lt (ordering_then (ordering_then (nat_cmp p.0 q.0) (slice_cmp nat_cmp (e i) (f i)))
     (nat_cmp p.1 q.1))
-
-pub AreRuns-push : (ks : List (List ℕ)) (k : List ℕ) (rs : List (List (ℕ × ℕ))) (n : ℕ) → AreRuns ks rs n
-    → AreRuns (ks ++ k ∷ []) rs n
-AreRuns-push ks k rs n runs =
-    let long : length (take n ks) ≡ n = length-take-le n ks runs.within in
-    let places : All (λ p. p.1 < 0 + length (take n ks)) (flat_map (λ r. r) rs) =
-    All-permutation (λ p. p.1 < 0 + length (take n ks)) (hashed_from 0 (take n ks)) (flat_map (λ r. r) rs) runs.whole
-    (All-places 0 (take n ks)) in
-    let each : All (λ r. All (λ p. p.1 < 0 + length (take n ks)) r) rs = each_run (λ p. p.1 < 0 + length (take n ks)) rs
-    places in
-    let read : (i : ℕ) → i < n → get_or ks i [] ≡ get_or (ks ++ k ∷ []) i [] = λ i l. sym
-    (get_or_append_left ks (k ∷ []) [] i (omega (arith, runs.within))) in
-    record {
-      within = omega (arith, runs.within, length_push ks k);
-      whole = subst (λ x. IsPermutation (hashed_from 0 x) (flat_map (λ r. r) rs))
-          (sym (take-append-le n ks (k ∷ []) runs.within)) runs.whole;
-      sorted = λ i d l j e low m.
-          let r = get_or rs i d in
-          let p = get_or r (j + 1) e in
-          let q = get_or r j e in
-          sym (same_order ks (ks ++ k ∷ []) p q (read p.1 (omega (arith, each i d l (j + 1) e (omega arith), long)))
-          (read q.1 (omega (arith, each i d l j e (omega arith), long))))
-          ∙ runs.sorted i d l j e low m;
-    }

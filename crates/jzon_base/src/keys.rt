@@ -5,35 +5,25 @@
 //! - `Keys`, of an object: up to eight keys that have no index are compared one by one.
 //! - `Runs`, in `Keys` from the ninth key on, and still after removals: entries of hash and
 //!   position in few sorted runs, each asked by binary search.
-//! - `Few`, in a builder after a merge that leaves at most 64 keys: slots by the hash, by which an
-//!   entry of a repeated key finds its position.
-//! - `Marks`, in a builder that is asked for keys, from the tenth on: a filter that rejects nearly
-//!   every new key.
-//! - `Known`, in such a builder, for a key that `Marks` doesn't reject: runs sorted by hash and
-//!   text.
-//! - `Notes` has the last three of one builder, in a box that small objects never need.
+//! - `pairs::Builder` finds repeated keys by one sort of such entries, and later ones in `Keys`.
 ghost use Rattle.std.specs.Prelude.{◌≡◌, ◌<◌, ◌++◌, ◌∷◌, ◌==◌, [], length, remove, slice_get, map};
-ghost use Rattle.std.specs.Prelude.{IfOk, OnOk, OnErr, MatchOption, None, Some, false};
+ghost use Rattle.std.specs.Prelude.{IfOk, OnOk, OnErr, MatchOption, None, Some};
 ghost use Rattle.std.specs.List.{position, zip, IsDistinct};
 ghost use Rattle.std.specs.Str.{bytes_eq};
 ghost use Rattle.jzon_base.specs.PairList.{put_each};
 ghost use Rattle.jzon_base.specs.Private.Handed.{IsIndexOf};
 ghost use Rattle.jzon_base.specs.Private.Hash.{hash_of};
-ghost use Rattle.jzon_base.specs.Private.Keys.{IsIndex, IsIndexed};
+ghost use Rattle.jzon_base.specs.Private.Keys.{IsIndexed, IsTable};
 
-mod few;
 pub mod hash;
-mod index;
+pub(crate) mod index;
 mod into_iter;
 mod iter;
-mod known;
-mod marks;
-pub(crate) mod notes;
 mod repeats;
 mod retain;
 pub mod runs;
 
-use crate::fit::reserve_next;
+use crate::fit::{fit, reserve_next};
 use crate::key::Key;
 use hash::hash_of;
 pub use into_iter::IntoIter;
@@ -41,6 +31,7 @@ pub use iter::Iter;
 use runs::Runs;
 use std::alloc::{AllocError, Global};
 use std::marker::Model;
+use std::mem;
 
 /// Distinct keys in the order in which they were put, and the index in which the position of each
 /// is found. A clause sees the list of their bytes.
@@ -76,15 +67,27 @@ fn room_for(alloc: Global, capacity: usize) -> Result<Runs, AllocError>
     Runs::of(alloc, entries)
 }
 
-/// The index of keys, or none where they are few. The error is a failed allocation.
-fn index_of(alloc: Global, keys: &[Key]) -> Result<Runs, AllocError>
-    ensures { IfOk result (λ r. IsIndexed keys.now r) }
+/// Merges the entries of equal keys: the last value at the position of the first. Returns the index
+/// of the keys that are left, or none where they are few. The error is a failed allocation.
+fn merge<V: Drop>(
+    alloc: Global,
+    keys: &mut Vec<Key>,
+    values: &mut Vec<V>,
+) -> Result<Runs, AllocError>
+    requires { length values.old.items ≡ length keys.old.items }
+    ensures even { length values.new.items ≡ length keys.new.items }
+    ensures merged { put_each (zip keys.new.items values.new.items)
+        ≡ put_each (zip keys.old.items values.old.items) }
+    ensures table { IfOk result (λ r. IsTable keys.new.items r) }
 {
+    if keys.len() <= index::LINEAR_MAX && index::are_distinct(keys.as_slice()) {
+        return Ok(Runs::new(alloc));
+    }
+    let index = repeats::merge(alloc, keys, values)?;
     if keys.len() <= index::LINEAR_MAX {
         return Ok(Runs::new(alloc));
     }
-    let entries = index::of(alloc, keys)?;
-    Runs::of(alloc, entries)
+    Runs::of(alloc, index)
 }
 
 /// Adds all keys to an empty index. The error is a failed allocation.
@@ -211,53 +214,36 @@ impl Keys {
         })
     }
 
-    /// The keys of entries of which some may repeat, and their index: the entries of equal keys
-    /// become one, with the last value at the position of the first. The error is a failed
-    /// allocation, and then what is in `values` is unspecified.
-    fn from_repeats<V: Drop>(
-        alloc: Global,
-        mut keys: Vec<Key>,
-        values: &mut Vec<V>,
-        mut index: Vec<(u64, usize)>,
-    ) -> Result<Keys, AllocError>
-        requires even { length values.old.items ≡ length keys.items }
-        requires index { IsIndex keys.items index.items }
-        ensures even { IfOk result (λ k. length values.new.items ≡ length k) }
-        ensures merged { IfOk result (λ k. zip k values.new.items
-            ≡ put_each (zip keys.items values.old.items)) }
-    {
-        let firsts = repeats::firsts(alloc, keys.as_slice(), index.as_mut_slice())?;
-        drop(index);
-        repeats::merge(&mut keys, values, firsts);
-        let index = index_of(alloc, keys.as_slice())?;
-        Ok(Keys { keys, index })
-    }
-
-    /// The keys of entries: those of equal keys become one, with the last value at the position of
-    /// the first. Where no key repeats, the keys are taken over as they are. The error is a failed
-    /// allocation, and then what is in `values` is unspecified.
+    /// The keys of entries, which are taken over: the entries of equal keys become one, with the
+    /// last value at the position of the first. The error is a failed allocation, and then the
+    /// entries, put one after the other, are those from before.
     pub fn from_entries<V: Drop>(
         alloc: Global,
-        keys: Vec<Key>,
+        keys: &mut Vec<Key>,
         values: &mut Vec<V>,
     ) -> Result<Keys, AllocError>
-        requires { length values.old.items ≡ length keys.items }
+        requires { length values.old.items ≡ length keys.old.items }
         ensures even { IfOk result (λ k. length values.new.items ≡ length k) }
         ensures merged { IfOk result (λ k. zip k values.new.items
-            ≡ put_each (zip keys.items values.old.items)) }
+            ≡ put_each (zip keys.old.items values.old.items)) }
+        ensures taken { OnOk result (keys.new.items ≡ []) }
+        ensures left { OnErr result (length values.new.items ≡ length keys.new.items) }
+        ensures err { OnErr result (put_each (zip keys.new.items values.new.items)
+            ≡ put_each (zip keys.old.items values.old.items)) }
     {
-        if keys.len() <= index::LINEAR_MAX && index::are_distinct(keys.as_slice()) {
-            return Ok(Keys {
-                keys,
-                index: Runs::new(alloc),
-            });
-        }
-        let index = index::of(alloc, keys.as_slice())?;
-        if index::has_tie(index.as_slice()) {
-            return Keys::from_repeats(alloc, keys, values, index);
-        }
-        let index = Runs::of(alloc, index)?;
-        Ok(Keys { keys, index })
+        let index = merge(alloc, keys, values)?;
+        Ok(Keys {
+            keys: mem::replace(keys, Vec::new(alloc)),
+            index,
+        })
+    }
+
+    /// The keys, without their index.
+    pub fn into_vec(self) -> Vec<Key>
+        ensures keys { result.items ≡ self }
+        ensures distinct { IsDistinct bytes_eq self }
+    {
+        self.keys
     }
 
     /// How many keys there are.
@@ -334,6 +320,13 @@ impl Keys {
         Ok(None)
     }
 
+    /// Frees unused room of the keys. The error is a failed allocation.
+    pub fn fit(&mut self, alloc: Global) -> Result<(), AllocError>
+        ensures { self.new ≡ self.old }
+    {
+        fit(alloc, &mut self.keys)
+    }
+
     /// Removes the key at a position. The others keep their order. Takes no memory.
     pub fn remove(&mut self, index: usize)
         requires { index < length self.old }
@@ -367,33 +360,6 @@ impl Keys {
     {
         Iter::new(self.keys.as_slice())
     }
-}
-
-/// Makes the entries of equal keys one, with the last value at the position of the first. `false`
-/// where no two keys have one hash: then nothing has changed. The error is a failed allocation, and
-/// then nothing has changed.
-pub(crate) fn merge<V: Drop>(
-    alloc: Global,
-    keys: &mut Vec<Key>,
-    values: &mut Vec<V>,
-) -> Result<bool, AllocError>
-    requires { length values.old.items ≡ length keys.old.items }
-    ensures even { length values.new.items ≡ length keys.new.items }
-    ensures entries { put_each (zip keys.new.items values.new.items)
-        ≡ put_each (zip keys.old.items values.old.items) }
-    ensures kept { IfOk result (λ merged. merged ≡ false → (keys.new.items ≡ keys.old.items)
-        × (values.new.items ≡ values.old.items)) }
-    ensures distinct { IfOk result (λ _. IsDistinct bytes_eq keys.new.items) }
-    ensures err { OnErr result ((keys.new.items ≡ keys.old.items)
-        × (values.new.items ≡ values.old.items)) }
-{
-    let mut index = index::of(alloc, keys.as_slice())?;
-    if !index::has_tie(index.as_slice()) {
-        return Ok(false);
-    }
-    let firsts = repeats::firsts(alloc, keys.as_slice(), index.as_mut_slice())?;
-    repeats::merge(keys, values, firsts);
-    Ok(true)
 }
 
 impl IntoIterator for Keys {

@@ -21,8 +21,8 @@ pub use into_iter::IntoIter;
 pub use iter::Iter;
 pub use iter_mut::IterMut;
 use std::alloc::{AllocError, Global};
-use std::fmt;
 use std::marker::Model;
+use std::{fmt, mem};
 
 /// Values under distinct keys, in the order in which the keys were put. A clause sees the list of
 /// entries.
@@ -91,23 +91,32 @@ impl<V> Pairs<V> {
         Pairs::boxed(alloc, Entries::from_parts(keys, values))
     }
 
-    /// The entries that are put one after the other: those of equal keys become one, with the last
-    /// value at the position of the first. The error is a failed allocation.
+    /// Entries that are put one after the other, and taken over: those of equal keys become one,
+    /// with the last value at the position of the first. The error is a failed allocation, and then
+    /// the entries, put one after the other, are those from before.
     fn from_entries(
         alloc: Global,
-        keys: Vec<Key>,
-        mut values: Vec<V>,
+        keys: &mut Vec<Key>,
+        values: &mut Vec<V>,
     ) -> Result<Pairs<V>, AllocError>
     where
         V: Drop,
-        requires { length values.items ≡ length keys.items }
-        ensures { IfOk result (λ p. p ≡ put_each (zip keys.items values.items)) }
+        requires { length values.old.items ≡ length keys.old.items }
+        ensures even { length values.new.items ≡ length keys.new.items }
+        ensures ok { IfOk result (λ p. p ≡ put_each (zip keys.old.items values.old.items)) }
+        ensures err { OnErr result (put_each (zip keys.new.items values.new.items)
+            ≡ put_each (zip keys.old.items values.old.items)) }
     {
         if keys.is_empty() {
             return Ok(Pairs::new(alloc));
         }
-        let keys = Keys::from_entries(alloc, keys, &mut values)?;
-        Pairs::boxed(alloc, Entries::from_parts(keys, values))
+        let mut entries = Box::new(alloc, Entries::new(alloc))?;
+        let keys = Keys::from_entries(alloc, keys, values)?;
+        *entries = Entries::from_parts(keys, mem::replace(values, Vec::new(alloc)));
+        Ok(Pairs {
+            alloc,
+            entries: Some(entries),
+        })
     }
 
     /// A copy of the keys, with these values. The error is a failed allocation.
@@ -304,6 +313,29 @@ impl<V> Pairs<V> {
             return entries.insert(alloc, name, value);
         }
         self.push_first(alloc, name, value)
+    }
+
+    /// Puts a value under a key: in its place where the key is there, else last. The error is a
+    /// failed allocation.
+    pub fn insert_owned(&mut self, alloc: Global, key: Key, value: V) -> Result<(), AllocError>
+    where
+        V: Drop,
+        ensures ok { OnOk result (self.new ≡ put key value self.old) }
+        ensures err { OnErr result (self.new ≡ self.old) }
+    {
+        self.insert(alloc, key.as_str(), value)
+    }
+
+    /// Frees unused room of keys and values. The error is a failed allocation.
+    fn fit(&mut self, alloc: Global) -> Result<(), AllocError>
+    where
+        V: Drop,
+        ensures { self.new ≡ self.old }
+    {
+        if let Some(entries) = &mut self.entries {
+            return entries.fit(alloc);
+        }
+        Ok(())
     }
 
     /// The position of a key. Where the key is missing it is put last with `value`, and the error

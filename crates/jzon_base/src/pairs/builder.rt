@@ -1,44 +1,43 @@
-//! Builds `Pairs` in bulk; entries of equal keys are merged now and then as their count grows.
-ghost use Rattle.std.specs.Prelude.{◌≡◌, [], IfOk, OnOk, OnErr};
+//! Builds `Pairs` of entries that come one after the other, of which some may repeat a key. A
+//! builder gathers them until a key repeats: at 256 entries, then whenever their count has grown
+//! fourfold, one sort looks for a repeated key, and the last is at the end. From then on it puts
+//! each entry into `Pairs` at once. So few distinct keys take little memory.
+//!
+//! A strict reading asks for each key before it puts the entry: more than eight keys are then in
+//! `Pairs`, and n entries take about n log n comparisons whatever the keys are. Such a reading of
+//! one object of 100 keys takes up to 1.3 times as long as the usual one, of 100,000 up to 5 times.
+ghost use Rattle.std.specs.Prelude.{◌≡◌, ◌<◌, [], length, Some, IfOk, IfSome, OnOk, OnErr};
+ghost use Rattle.std.specs.List.{position};
 ghost use Rattle.std.specs.Option.{is_some};
-ghost use Rattle.jzon_base.specs.PairList.{find, put};
+ghost use Rattle.std.specs.Str.{bytes_eq};
+ghost use Rattle.jzon_base.specs.PairList.{find, keys_of, put};
 
 use super::Pairs;
 use crate::fit::fit;
 use crate::key::Key;
-use crate::keys;
-use crate::keys::notes::{self, Notes};
+use crate::keys::index;
 use std::alloc::{AllocError, Global};
 use std::marker::Model;
 
-/// How many entries there may be before they are merged for the first time.
+/// The count of gathered entries at which a repeated key is looked for first.
 const FIRST_LIMIT: usize = 256;
 
-/// The growth of the count until the next merge, where a merge found two equal hashes.
-const TIED_GROWTH: usize = 2;
+/// The growth of that count where none is found.
+const GROWTH: usize = 4;
 
-/// The same, where it found none.
-const DISTINCT_GROWTH: usize = 4;
-
-/// Entries that are put one after the other, of which some may repeat a key. A clause sees the list
-/// of entries after all merges.
-///
-/// Entries of equal keys are merged at 256 entries, then whenever their count has doubled since the
-/// last merge, or grown fourfold if that found no equal hashes, but never below 256. So few
-/// distinct keys take little memory. Where few keys are left by a merge, each later entry of such a
-/// key is put in its place at once, until another key comes.
+/// Keys and values in the order in which they came, of which some may repeat a key. A clause sees
+/// the list of entries after all merges.
 #[derive(Drop)]
-pub struct Builder<V> {
+struct Gathered<V> {
     keys: Vec<Key>,
     values: Vec<V>,
-    notes: Option<Box<Notes>>,
+    /// The count at which a repeated key is looked for.
     limit: usize,
 }
 
-impl<V> Model for Builder<V> {
-    ghost use Rattle.std.specs.Prelude.{List, ℕ};
+impl<V> Model for Gathered<V> {
+    ghost use Rattle.std.specs.Prelude.{◌≡◌, List, ℕ, length};
     ghost use Rattle.std.specs.List.{zip};
-    ghost use Rattle.jzon_base.specs.Private.Notes.{IsBuilt};
     ghost use Rattle.std.specs.Coded.{coded_ℕ, coded_list, coded×};
     ghost use Rattle.jzon_base.specs.PairList.{put_each};
 
@@ -46,9 +45,149 @@ impl<V> Model for Builder<V> {
 
     ghost coded = { coded_list (coded× (coded_list coded_ℕ) V.code) };
 
-    ghost view = { λ b. put_each (zip b.keys.items b.values.items) };
+    ghost view = { λ g. put_each (zip g.keys.items g.values.items) };
 
-    ghost invariant = { λ b. IsBuilt b.keys.items b.values.items b.notes };
+    ghost invariant = { λ g. length g.values.items ≡ length g.keys.items };
+}
+
+impl<V: Drop> Gathered<V> {
+    /// These entries, with the next limit.
+    fn of(pairs: Pairs<V>) -> Gathered<V>
+        ensures { result ≡ pairs }
+    {
+        let (keys, values) = pairs.into_parts();
+        let limit = values.len().saturating_mul(GROWTH).max(FIRST_LIMIT);
+        Gathered {
+            keys: keys.into_vec(),
+            values,
+            limit,
+        }
+    }
+
+    /// Puts an entry. The error is a failed allocation.
+    #[inline(always)]
+    fn push(&mut self, key: Key, value: V) -> Result<(), AllocError>
+        ensures ok { OnOk result (self.new ≡ put key value self.old) }
+        ensures err { OnErr result (self.new ≡ self.old) }
+    {
+        self.keys.reserve(1)?;
+        self.values.reserve(1)?;
+        self.keys.push_reserved(key);
+        self.values.push_reserved(value);
+        Ok(())
+    }
+
+    /// Whether an entry has this key. The keys are compared one by one.
+    fn has_key(&self, key: &str) -> bool
+        ensures { result ≡ is_some (find key.now self.now) }
+    {
+        index::has_name(self.keys.as_slice(), key)
+    }
+
+    /// The entries as `Pairs`, which take them over. The error is a failed allocation, and then
+    /// they stay.
+    fn settle(&mut self, alloc: Global) -> Result<Pairs<V>, AllocError>
+        ensures ok { IfOk result (λ p. p ≡ self.old) }
+        ensures err { OnErr result (self.new ≡ self.old) }
+    {
+        Pairs::from_entries(alloc, &mut self.keys, &mut self.values)
+    }
+
+    /// The entries as `Pairs`, without unused room. The error is a failed allocation.
+    fn finish(mut self, alloc: Global) -> Result<Pairs<V>, AllocError>
+        ensures { IfOk result (λ p. p ≡ self) }
+    {
+        fit(alloc, &mut self.keys)?;
+        fit(alloc, &mut self.values)?;
+        self.settle(alloc)
+    }
+}
+
+/// Entries of distinct keys. A clause sees the list of entries.
+#[derive(Drop)]
+struct Put<V> {
+    pairs: Pairs<V>,
+    /// The position that is looked at first: after that of the key found last, as keys mostly
+    /// repeat in one order. It is the count where the last key was found elsewhere.
+    next: usize,
+}
+
+impl<V> Model for Put<V> {
+    ghost use Rattle.std.specs.Prelude.{List, ℕ};
+    ghost use Rattle.std.specs.Coded.{coded_ℕ, coded_list, coded×};
+
+    ghost Value = { List (List ℕ × V) };
+
+    ghost coded = { coded_list (coded× (coded_list coded_ℕ) V.code) };
+
+    ghost view = { λ p. p.pairs };
+}
+
+impl<V: Drop> Put<V> {
+    /// These entries.
+    fn of(pairs: Pairs<V>) -> Put<V>
+        ensures { result ≡ pairs }
+    {
+        let next = pairs.len();
+        Put { pairs, next }
+    }
+
+    /// The position of a key, where it is the next one, or it is unknown which is.
+    #[inline(always)]
+    fn find(&self, key: &str) -> Option<usize>
+        ensures { IfSome result (λ at. position (λ k. bytes_eq k key.now) (keys_of self.now)
+            ≡ Some at) }
+    {
+        if self.pairs.len() <= self.next {
+            return self.pairs.position(key);
+        }
+        if index::are_equal(self.pairs.get_at(self.next).0, key) {
+            return Some(self.next);
+        }
+        None
+    }
+
+    /// Puts an entry. The error is a failed allocation.
+    #[tactic(auto, using(crate::proofs::PairPlaces::places))]
+    fn push(&mut self, alloc: Global, key: Key, value: V) -> Result<(), AllocError>
+        ensures ok { OnOk result (self.new ≡ put key value self.old) }
+        ensures err { OnErr result (self.new ≡ self.old) }
+    {
+        let count = self.pairs.len();
+        if let Some(at) = self.find(key.as_str()) {
+            *self.pairs.value_mut(at) = value;
+            self.next = at + 1;
+            return Ok(());
+        }
+        self.pairs.insert_owned(alloc, key, value)?;
+        self.next = if count < self.pairs.len() { 0 } else { count };
+        Ok(())
+    }
+}
+
+#[derive(Drop)]
+enum State<V> {
+    Gathered(Gathered<V>),
+    Put(Put<V>),
+}
+
+/// Entries that are put one after the other, of which some may repeat a key. A clause sees the list
+/// of entries after all merges.
+#[derive(Drop)]
+pub struct Builder<V> {
+    state: State<V>,
+}
+
+impl<V> Model for Builder<V> {
+    ghost use Rattle.std.specs.Prelude.{List, ℕ};
+    ghost use Rattle.std.specs.Coded.{coded_ℕ, coded_list, coded×};
+    ghost use Rattle.jzon_base.specs.Private.Built.{built_in};
+
+    ghost Value = { List (List ℕ × V) };
+
+    ghost coded = { coded_list (coded× (coded_list coded_ℕ) V.code) };
+
+    ghost view = { λ b. built_in b.state };
 }
 
 impl<V: Drop> Builder<V> {
@@ -57,10 +196,11 @@ impl<V: Drop> Builder<V> {
         ensures { result ≡ [] }
     {
         Builder {
-            keys: Vec::new(alloc),
-            values: Vec::new(alloc),
-            notes: None,
-            limit: FIRST_LIMIT,
+            state: State::Gathered(Gathered {
+                keys: Vec::new(alloc),
+                values: Vec::new(alloc),
+                limit: FIRST_LIMIT,
+            }),
         }
     }
 
@@ -69,27 +209,39 @@ impl<V: Drop> Builder<V> {
         ensures { IfOk result (λ b. b ≡ []) }
     {
         Ok(Builder {
-            keys: Vec::with_capacity(alloc, capacity)?,
-            values: Vec::with_capacity(alloc, capacity)?,
-            notes: None,
-            limit: FIRST_LIMIT,
+            state: State::Gathered(Gathered {
+                keys: Vec::with_capacity(alloc, capacity)?,
+                values: Vec::with_capacity(alloc, capacity)?,
+                limit: FIRST_LIMIT,
+            }),
         })
     }
 
-    /// Merges the entries of equal keys. The error is a failed allocation.
+    /// Whether as many entries are gathered as the limit allows.
+    #[inline(always)]
+    fn is_at_limit(&self) -> bool {
+        match &self.state {
+            State::Gathered(gathered) => gathered.limit <= gathered.keys.len(),
+            State::Put(_) => false,
+        }
+    }
+
+    /// Merges gathered entries, and goes on gathering where no key repeats. The error is a failed
+    /// allocation.
     #[cold]
     #[inline(never)]
-    fn merge(&mut self, alloc: Global) -> Result<(), AllocError>
+    fn look_over(&mut self, alloc: Global) -> Result<(), AllocError>
         ensures { self.new ≡ self.old }
     {
-        let mut growth = DISTINCT_GROWTH;
-        if keys::merge(alloc, &mut self.keys, &mut self.values)? {
-            growth = TIED_GROWTH;
-            self.notes = None;
-            let notes = Notes::of(alloc, self.keys.as_slice())?;
-            self.notes = Some(Box::new(alloc, notes)?);
+        if let State::Gathered(gathered) = &mut self.state {
+            let count = gathered.keys.len();
+            let pairs = gathered.settle(alloc)?;
+            self.state = if pairs.len() < count {
+                State::Put(Put::of(pairs))
+            } else {
+                State::Gathered(Gathered::of(pairs))
+            };
         }
-        self.limit = self.keys.len().saturating_mul(growth).max(FIRST_LIMIT);
         Ok(())
     }
 
@@ -99,52 +251,59 @@ impl<V: Drop> Builder<V> {
         ensures ok { OnOk result (self.new ≡ put key value self.old) }
         ensures err { OnErr result (self.new ≡ self.old) }
     {
-        if self.limit <= self.keys.len() {
-            self.merge(alloc)?;
+        if self.is_at_limit() {
+            self.look_over(alloc)?;
         }
-        if let Some(notes) = &mut self.notes {
-            if let Some(place) = notes.find(self.keys.as_slice(), key.as_str()) {
-                self.values[place] = value;
-                return Ok(());
-            }
+        match &mut self.state {
+            State::Gathered(gathered) => gathered.push(key, value),
+            State::Put(put) => put.push(alloc, key, value),
         }
-        self.add(key, value)
     }
 
-    /// Puts an entry last.
-    #[inline(always)]
-    fn add(&mut self, key: Key, value: V) -> Result<(), AllocError>
-        ensures ok { OnOk result (self.new ≡ put key value self.old) }
-        ensures err { OnErr result (self.new ≡ self.old) }
+    /// Puts gathered entries, if they are not few. The error is a failed allocation.
+    fn settle(&mut self, alloc: Global) -> Result<(), AllocError>
+        ensures { self.new ≡ self.old }
     {
-        self.keys.reserve(1)?;
-        self.values.reserve(1)?;
-        if let Some(notes) = &mut self.notes {
-            notes.go_on();
+        if let State::Gathered(gathered) = &mut self.state {
+            if index::LINEAR_MAX < gathered.keys.len() {
+                let pairs = gathered.settle(alloc)?;
+                self.state = State::Put(Put::of(pairs));
+            }
         }
-        self.keys.push_reserved(key);
-        self.values.push_reserved(value);
         Ok(())
     }
 
-    /// Whether an entry has this key. Calls before each of n entries take about n comparisons in
-    /// all for most keys, and about n (log n)^2 whatever the keys are. The error is a failed
-    /// allocation.
+    /// Whether an entry has this key.
+    fn is_known(&self, key: &str) -> bool
+        ensures { result ≡ is_some (find key.now self.now) }
+    {
+        match &self.state {
+            State::Gathered(gathered) => gathered.has_key(key),
+            State::Put(put) => put.pairs.get(key).is_some(),
+        }
+    }
+
+    /// Whether an entry has this key. Calls before each of n entries take about n log n comparisons
+    /// in all, whatever the keys are. The error is a failed allocation.
     pub fn has_key(&mut self, alloc: Global, key: &str) -> Result<bool, AllocError>
         ensures kept { self.new ≡ self.old }
         ensures known { IfOk result (λ known. known ≡ is_some (find key.now self.old)) }
     {
-        notes::has_key(&mut self.notes, alloc, self.keys.as_slice(), key)
+        self.settle(alloc)?;
+        Ok(self.is_known(key))
     }
 
     /// The entries as `Pairs`. The error is a failed allocation.
     pub fn finish(self, alloc: Global) -> Result<Pairs<V>, AllocError>
         ensures { IfOk result (λ p. p ≡ self) }
     {
-        let mut keys = self.keys;
-        let mut values = self.values;
-        fit(alloc, &mut keys)?;
-        fit(alloc, &mut values)?;
-        Pairs::from_entries(alloc, keys, values)
+        match self.state {
+            State::Gathered(gathered) => gathered.finish(alloc),
+            State::Put(put) => {
+                let mut pairs = put.pairs;
+                pairs.fit(alloc)?;
+                Ok(pairs)
+            }
+        }
     }
 }

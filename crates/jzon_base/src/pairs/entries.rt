@@ -5,7 +5,7 @@ ghost use Rattle.std.specs.List.{position, zip, IsDistinct};
 ghost use Rattle.std.specs.Map.Calls.{CalledAtPair, CallableOnEachPair, RetainsPairs, TakesPair};
 ghost use Rattle.std.specs.Str.{bytes_eq};
 
-use crate::fit::reserve_next;
+use crate::fit::{fit, reserve_next};
 use crate::keys::Keys;
 use std::alloc::{AllocError, Global};
 use std::marker::Model;
@@ -153,6 +153,16 @@ impl<V> Entries<V> {
             None => self.values.push_reserved(value),
         }
         Ok(())
+    }
+
+    /// Frees unused room of keys and values. The error is a failed allocation.
+    pub fn fit(&mut self, alloc: Global) -> Result<(), AllocError>
+    where
+        V: Drop,
+        ensures { self.new ≡ self.old }
+    {
+        self.keys.fit(alloc)?;
+        fit(alloc, &mut self.values)
     }
 
     /// Removes the entry at a position. The others keep their order. Takes no memory.

@@ -1,0 +1,15 @@
+use Rattle.std.proofs.Common.{◌∙◌, ap, sym}
+use Rattle.std.specs.List.{list_any}
+use Rattle.std.specs.Option.{is_some}
+use Rattle.std.specs.Str.{bytes_eq}
+use Rattle.jzon_base.specs.PairList.{find}
+use Rattle.jzon_base.proofs.KnownKeys.{known-put_each}
+use Rattle.jzon_base.proofs.pairs.builder.Gathered.has_key.Goals as goal
+
+pub returns : goal.returns
+returns g c =
+    let inside = c.self.inside in
+    let name = c.args.key.now in
+    c.has_name.ensures ∙ ap (list_any (λ x. bytes_eq x name)) c.as_slice.ensures.value
+    ∙ sym (known-put_each name inside.keys.items inside.values.items c.self.invariant)
+    ∙ ap (λ ps. is_some (find name ps)) c.self.view_is
