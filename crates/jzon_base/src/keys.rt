@@ -214,9 +214,9 @@ impl Keys {
         })
     }
 
-    /// The keys of entries, which are taken over: the entries of equal keys become one, with the
-    /// last value at the position of the first. The error is a failed allocation, and then the
-    /// entries, put one after the other, are those from before.
+    /// The keys of entries: those of equal keys become one, with the last value at the position of
+    /// the first. The keys are taken over. The error is a failed allocation, and then at most merges
+    /// have been made.
     pub fn from_entries<V: Drop>(
         alloc: Global,
         keys: &mut Vec<Key>,

@@ -91,9 +91,9 @@ impl<V> Pairs<V> {
         Pairs::boxed(alloc, Entries::from_parts(keys, values))
     }
 
-    /// Entries that are put one after the other, and taken over: those of equal keys become one,
-    /// with the last value at the position of the first. The error is a failed allocation, and then
-    /// the entries, put one after the other, are those from before.
+    /// The entries that are put one after the other: those of equal keys become one, with the last
+    /// value at the position of the first. Keys and values are taken over. The error is a failed
+    /// allocation, and then at most merges have been made. The box is allocated before them.
     fn from_entries(
         alloc: Global,
         keys: &mut Vec<Key>,

@@ -385,6 +385,71 @@ fn builds_pairs_of_few_keys(rt: HostRuntime) -> Result<(), AllocError> {
     expect_shown(&rt, rt.alloc(), &pairs, "c999 a7 b999 d7 ")
 }
 
+/// One of 40 names, of which each comes once in 40 numbers: in one order, and in the next 40 in
+/// another.
+fn shuffled(alloc: Global, number: usize) -> Result<String, AllocError> {
+    let step = if number / 40 % 2 == 0 { 7 } else { 11 };
+    let name = number % 40 * step % 40;
+    format!(in alloc; "k{name}")
+}
+
+/// Puts each number under its name, and after it 300 names once each.
+fn push_shuffled(alloc: Global, built: &mut Builder<usize>) -> Result<(), AllocError> {
+    for number in 0..2_000 {
+        let name = shuffled(alloc, number)?;
+        built.push(alloc, Key::new(alloc, name.as_str())?, number)?;
+    }
+    for number in 0..300 {
+        let name = format!(in alloc; "n{number}")?;
+        built.push(alloc, Key::new(alloc, name.as_str())?, number)?;
+    }
+    Ok(())
+}
+
+/// A name has the position of its first entry and the value of its last.
+#[test]
+fn builds_pairs_of_shuffled_keys(rt: HostRuntime) -> Result<(), AllocError> {
+    let mut built = Builder::new(rt.alloc());
+    push_shuffled(rt.alloc(), &mut built)?;
+    let pairs = built.finish(rt.alloc())?;
+    for number in 0..40 {
+        let first = shuffled(rt.alloc(), number)?;
+        assert_eq!(rt; pairs.position(first.as_str()), Some(number), "of {first}");
+        let last = shuffled(rt.alloc(), 1_960 + number)?;
+        assert_eq!(rt;
+            pairs.get(last.as_str()).copied(),
+            Some(1_960 + number),
+            "of {last}"
+        );
+    }
+    assert_eq!(rt; pairs.position("n299"), Some(339));
+    assert_eq!(rt; pairs.len(), 340);
+    Ok(())
+}
+
+/// Of 1,500 entries the last 300 repeat the keys of the first, in one object.
+#[test]
+fn builds_pairs_of_late_repeats(rt: HostRuntime) -> Result<(), AllocError> {
+    let mut built = Builder::new(rt.alloc());
+    for number in 0..1_500 {
+        let name = number % 1_200;
+        let name = format!(in rt.alloc(); "k{name}")?;
+        built.push(rt.alloc(), Key::new(rt.alloc(), name.as_str())?, number)?;
+    }
+    let pairs = built.finish(rt.alloc())?;
+    assert_eq!(rt; pairs.len(), 1_200);
+    for (name, place, value) in [
+        ("k0", 0usize, 1_200usize),
+        ("k299", 299, 1_499),
+        ("k300", 300, 300),
+        ("k1199", 1_199, 1_199),
+    ] {
+        assert_eq!(rt; pairs.position(name), Some(place), "of {name}");
+        assert_eq!(rt; pairs.get(name).copied(), Some(value), "of {name}");
+    }
+    Ok(())
+}
+
 /// A text of the hash 0. What comes after it keeps the hash: zero bytes, and `BLOCK` among them.
 const ZERO: &str = "77kepQFQ8Kl";
 

@@ -1,11 +1,14 @@
 //! Builds `Pairs` of entries that come one after the other, of which some may repeat a key. A
-//! builder gathers them until a key repeats: at 256 entries, then whenever their count has grown
-//! fourfold, one sort looks for a repeated key, and the last is at the end. From then on it puts
-//! each entry into `Pairs` at once. So few distinct keys take little memory.
+//! builder is in one of two states:
+//! - gathered: keys and values in the order in which they came. One sort looks for a repeated key
+//!   at 256 entries, then whenever their count has grown fourfold, and at the end.
+//! - put: `Pairs`, once a key has repeated. Each entry is put at once, so few distinct keys take
+//!   little memory.
 //!
-//! A strict reading asks for each key before it puts the entry: more than eight keys are then in
-//! `Pairs`, and n entries take about n log n comparisons whatever the keys are. Such a reading of
-//! one object of 100 keys takes up to 1.3 times as long as the usual one, of 100,000 up to 5 times.
+//! A strict reading asks for each key before it puts the entry. Up to eight keys are compared one
+//! by one; more are put. Then n entries take about n log n comparisons, whatever the keys are: one
+//! object of up to 100 keys may take 1.3 times as long as in the usual reading, and one of 100,000
+//! up to 5 times.
 ghost use Rattle.std.specs.Prelude.{◌≡◌, ◌<◌, [], length, Some, IfOk, IfSome, OnOk, OnErr};
 ghost use Rattle.std.specs.List.{position};
 ghost use Rattle.std.specs.Option.{is_some};
@@ -107,8 +110,8 @@ impl<V: Drop> Gathered<V> {
 #[derive(Drop)]
 struct Put<V> {
     pairs: Pairs<V>,
-    /// The position that is looked at first: after that of the key found last, as keys mostly
-    /// repeat in one order. It is the count where the last key was found elsewhere.
+    /// The position whose key is compared first: that after the key found last, because keys mostly
+    /// repeat in one order. If it isn't known, it is the count of keys, and the key is searched for.
     next: usize,
 }
 
@@ -132,7 +135,8 @@ impl<V: Drop> Put<V> {
         Put { pairs, next }
     }
 
-    /// The position of a key, where it is the next one, or it is unknown which is.
+    /// The position of a key, if it is the next one. If the next one isn't known, the position of
+    /// any key.
     #[inline(always)]
     fn find(&self, key: &str) -> Option<usize>
         ensures { IfSome result (λ at. position (λ k. bytes_eq k key.now) (keys_of self.now)
@@ -165,6 +169,7 @@ impl<V: Drop> Put<V> {
     }
 }
 
+/// The two states.
 #[derive(Drop)]
 enum State<V> {
     Gathered(Gathered<V>),
@@ -226,7 +231,7 @@ impl<V: Drop> Builder<V> {
         }
     }
 
-    /// Merges gathered entries, and goes on gathering where no key repeats. The error is a failed
+    /// Merges gathered entries, which stay gathered if no key repeats. The error is a failed
     /// allocation.
     #[cold]
     #[inline(never)]
@@ -260,7 +265,8 @@ impl<V: Drop> Builder<V> {
         }
     }
 
-    /// Puts gathered entries, if they are not few. The error is a failed allocation.
+    /// Puts gathered entries, unless they are so few that keys are compared one by one. The error
+    /// is a failed allocation.
     fn settle(&mut self, alloc: Global) -> Result<(), AllocError>
         ensures { self.new ≡ self.old }
     {

@@ -1,4 +1,4 @@
-use Rattle.std.proofs.Common.{◌≡◌, ◌∙◌, ◌++◌, ◌∷◌, [], ap}
+use Rattle.std.proofs.Common.{◌∙◌, ◌++◌, ◌∷◌, [], ap}
 use Rattle.std.specs.List.{zip}
 use Rattle.jzon_base.specs.PairList.{put, put_each}
 use Rattle.jzon_base.proofs.PutEach.{put_each-push}
