@@ -1,113 +1,136 @@
--- Keys found by hashes that the caller passes, and merged index entries.
-use Rattle.std.proofs.Common.{◌≡◌, ◌≢◌, ℕ, zero, suc, ◌+◌, ◌-◌, ◌<◌, ◌≤◌, Bool, true, false, ◌&&◌, ltb, eqb}
-use Rattle.std.proofs.Common.{◌||◌, List, Result, Ok, Err, IfOk, is_ok}
-use Rattle.std.proofs.Common.{[], ◌∷◌, ◌++◌, length, get_or, map, filter, Option, None, Some, take, take_all, refl}
-use Rattle.std.proofs.Common.{sym, ap, ◌∙◌, drop, take-append-drop}
-use Rattle.std.proofs.Common.{subst, inl, inr, arith, add-zero, zero-add, append_assoc}
-use Rattle.std.proofs.lemmas.List.{get_or_default, take_more}
-use Rattle.std.proofs.lemmas.List.Folds.{list_any_at, list_any-append}
-use Rattle.std.proofs.lemmas.List.Elements.{All-nil, All-push, All-weaker}
+-- An index of keys by hashes that the caller passes: an entry is found, added and removed.
+use Rattle.std.proofs.Common.{◌≡◌, ◌≢◌, ℕ, zero, suc, ◌+◌, ◌-◌, ◌<◌, ◌≤◌, Bool, true, false, ◌||◌, eqb}
+use Rattle.std.proofs.Common.{List, Result, Ok, Err, IfOk, IfErr}
+use Rattle.std.proofs.Common.{[], ◌∷◌, ◌++◌, length, get_or, map, filter, set, take, drop, take_all, refl}
+use Rattle.std.proofs.Common.{sym, ap, ◌∙◌}
+use Rattle.std.proofs.Common.{subst, inl, inr, arith, add-zero, zero-add}
+use Rattle.std.proofs.lemmas.List.{get_or_default, get_or_append_left, get_or_push, get_or-map, length_push, take-append-drop}
+use Rattle.std.proofs.lemmas.List.Folds.{list_any_at, list_any_none, list_any-append}
+use Rattle.std.proofs.lemmas.List.Edits.{length-insert, get_or-insert_below, get_or-insert_at, get_or-insert_above}
+use Rattle.std.proofs.lemmas.List.Edits.{length-remove, get_or-remove_below, get_or-remove_above}
+use Rattle.std.proofs.lemmas.List.Elements.{All-nil, All-cons, All-push, All-same, All-take, All-drop, All-weaker}
+use Rattle.std.proofs.lemmas.List.Elements.{All-map, All-set, All-contains, filter_passes}
+use Rattle.std.proofs.lemmas.List.Elements.{Contains-append_left, Contains-append_right}
+use Rattle.std.proofs.lemmas.List.Kept.{IsSortedBy-filter}
 use Rattle.std.proofs.lemmas.List.Sorted.{IsPermutation-map, IsPermutation-push_more, IsPermutation-refl}
-use Rattle.std.proofs.lemmas.List.Sorted.{IsPermutation-trans}
-use Rattle.std.proofs.lemmas.List.Sorted.{IsPermutation-sym, IsPermutation-cons, IsPermutation-middle}
-use Rattle.std.proofs.lemmas.List.Sorted.{IsPermutation-to_front}
-use Rattle.std.proofs.lemmas.List.Sorted.{IsPermutation-append_comm, IsNonDecreasingBy-short, IsNonDecreasingBy-push}
-use Rattle.std.proofs.lemmas.List.Sorted.{list_any-IsPermutation}
-use Rattle.std.proofs.lemmas.Bool.{cases_Bool, false≢true, eq-eqb, ne_eqb, lt-ltb, ltb-true}
-use Rattle.std.specs.List.{All, flat_map, position, remove, IsDistinct, list_any}
-use Rattle.std.specs.List.Sorted.{IsPermutation, IsNonDecreasingBy}
-use Rattle.std.specs.Option.{is_some}
+use Rattle.std.proofs.lemmas.List.Sorted.{IsPermutation-trans, IsPermutation-insert, IsPermutation-cons}
+use Rattle.std.proofs.lemmas.List.Sorted.{IsPermutation-sym, IsPermutation-to_front, IsPermutation-append_right}
+use Rattle.std.proofs.lemmas.List.Sorted.{ranks_by}
+use Rattle.std.proofs.lemmas.List.Concat.{flat_map-append}
+use Rattle.std.proofs.lemmas.List.Sorted.{list_any-IsPermutation, All-permutation, searchable_from_sorted}
+use Rattle.std.proofs.lemmas.Bool.{cases_Bool, cases_lt, false≢true, eq-eqb, eqb-false, not-true}
+use Rattle.std.proofs.Math.ListN.{length-map}
+use Rattle.std.proofs.lemmas.Cmp.{nat_cmp_total, nat_list_cmp_total, on_total, then_total, tied_itself}
+use Rattle.std.proofs.lemmas.Map.Lookups.{exact_pairs, exact_unsigned, exact_bytes}
+use Rattle.std.proofs.lemmas.Slice.Eq.{bytes_eq-Decides}
+use Rattle.std.proofs.Math.Seq.{take-append_seam, drop-append_seam}
+use Rattle.std.specs.Cmp.{IsTotalOrder, IsStrictWeakOrder}
+use Rattle.std.specs.Cmp.Lexicographic.{slice_cmp}
+use Rattle.std.specs.List.{All, Contains, insert, position, remove, IsDistinct, list_any}
+use Rattle.std.specs.List.Sorted.{IsBinarySearchResult, IsNonDecreasingBy, IsPermutation, IsSorted, IsSortedBy}
+use Rattle.std.specs.Ordering.{nat_cmp, ordering_then, ordering_index, ordering_reverse, is_eq, is_lt}
 use Rattle.std.specs.Result.{result_ok}
 use Rattle.std.specs.Str.{bytes_eq}
-use Rattle.std.specs.Prelude.{IfSome}
-use Rattle.jzon_base.specs.Private.Handed.{numbered, is_at, is_found, AreHanded, IsIndexOf}
-use Rattle.jzon_base.specs.Private.Keys.{lowered}
+use Rattle.std.specs.declared.cmp.Ordering.{Ordering}
+use Rattle.std.specs.declared.cmp.Ordering.TheVariants.{Equal}
+use Rattle.jzon_base.specs.Private.Handed.{numbered, entries_of, AreHanded, AreSorted, IsBegun, IsIndexOf, IsPlace}
+use Rattle.jzon_base.specs.Private.Handed.{IsSpot}
+use Rattle.jzon_base.specs.Private.Keys.{beside, entry_cmp, lowered, pair_cmp}
+use Rattle.jzon_base.proofs.FlatRuns.{flat_add, flat_cut, flat_last, taken_more}
 use Rattle.jzon_base.proofs.Permutations.{IsPermutation-filter}
 use Rattle.jzon_base.proofs.Positions.{position-none}
-use Rattle.jzon_base.proofs.Indexes.{only_place, is_other, kept_by, lowered-lower, lowered-higher}
+use Rattle.jzon_base.proofs.Indexes.{only_place, is_other, kept_by, lowered-lower, lowered-higher, lowered-then}
+use Rattle.jzon_base.proofs.Indexes.{lowered-else, not_less}
 
--- ---- merging two runs
+-- ---- the order of entries by hash and key
 
--- the first i of the one and the first j of the other are merged, and the rest of both isn't lower
-pub record IsMerging (xs ys ms : List (ℕ × ℕ)) (i j : ℕ) : Type 0 where
-  pub left : i ≤ length xs
-  pub right : j ≤ length ys
-  pub whole : IsPermutation (take i xs ++ take j ys) ms
-  pub rising : IsNonDecreasingBy (λ p. p.0) ms
-  pub low_left : i < length xs → All (λ p. p.0 ≤ (get_or xs i (0, 0)).0) ms
-  pub low_right : j < length ys → All (λ p. p.0 ≤ (get_or ys j (0, 0)).0) ms
+abbrev name_cmp : ℕ × List ℕ → ℕ × List ℕ → Ordering
+name_cmp a b = ordering_then (nat_cmp a.0 b.0) (slice_cmp nat_cmp a.1 b.1)
 
-pub merging_none : (xs ys : List (ℕ × ℕ)) → IsMerging xs ys [] 0 0
-merging_none xs ys = record {
-  left = omega arith;
-  right = omega arith;
-  whole = IsPermutation-refl [];
-  rising = IsNonDecreasingBy-short (λ (p : ℕ × ℕ). p.0) [] (omega arith);
-  low_left = λ l. All-nil (λ p. p.0 ≤ (get_or xs 0 (0, 0)).0);
-  low_right = λ l. All-nil (λ p. p.0 ≤ (get_or ys 0 (0, 0)).0);
-}
+name_total : IsTotalOrder name_cmp
+name_total = then_total (on_total (λ (a : ℕ × List ℕ). a.0) nat_cmp_total)
+    (on_total (λ (a : ℕ × List ℕ). a.1) nat_list_cmp_total)
 
-flipped : (xs ys ms : List (ℕ × ℕ)) (i j : ℕ) → IsMerging xs ys ms i j → IsMerging ys xs ms j i
-flipped xs ys ms i j m = record {
-  left = m.right;
-  right = m.left;
-  whole = IsPermutation-trans _ _ _ (IsPermutation-append_comm (take j ys) (take i xs)) m.whole;
-  rising = m.rising;
-  low_left = m.low_right;
-  low_right = m.low_left;
-}
+abbrev named : List (List ℕ) → ℕ × ℕ → ℕ × List ℕ
+named ks p = (p.0, get_or ks p.1 [])
 
-pub merging_left : (xs ys ms : List (ℕ × ℕ)) (i j : ℕ) (x : ℕ × ℕ) → IsNonDecreasingBy (λ p. p.0) xs
-    → IsMerging xs ys ms i j → i < length xs → (j < length ys → x.0 ≤ (get_or ys j (0, 0)).0) → x ≡ get_or xs i x
-    → IsMerging xs ys (ms ++ x ∷ []) (i + 1) j
-merging_left xs ys ms i j x up m l small is =
-    let at : (d : ℕ × ℕ) → (get_or xs i d).0 ≡ x.0 = λ d. ap (λ (p : ℕ × ℕ). p.0)
-    (get_or_default xs i d x l ∙ sym is) in
-    let zeroth = at (0, 0) in
-    let e : take (i + 1) xs ++ take j ys ≡ take i xs ++ x ∷ take j ys =
-    ap (λ us. us ++ take j ys) (take_more xs i x l ∙ ap (λ y. take i xs ++ y ∷ []) (sym is))
-    ∙ append_assoc (take i xs) (x ∷ []) (take j ys) in
-    record {
-      left = omega arith;
-      right = m.right;
-      whole = subst (λ us. IsPermutation us (ms ++ x ∷ [])) (sym e)
-          (IsPermutation-trans _ _ _ (IsPermutation-middle (take i xs) x (take j ys))
-          (IsPermutation-trans _ _ _ (IsPermutation-cons x _ _ m.whole)
-          (IsPermutation-sym _ _ (IsPermutation-to_front ms x))));
-      rising = IsNonDecreasingBy-push (λ (p : ℕ × ℕ). p.0) ms x m.rising
-          (λ d pos. omega (arith, m.low_left l (length ms - 1) d (omega arith), zeroth));
-      low_left = λ more.
-          let next = up i (i + 1) (0, 0) (omega arith) more in
-          All-push (λ p. p.0 ≤ (get_or xs (i + 1) (0, 0)).0) ms x
-          (All-weaker (λ p. p.0 ≤ (get_or xs i (0, 0)).0) (λ p. p.0 ≤ (get_or xs (i + 1) (0, 0)).0)
-          (λ p le. omega (arith, next)) ms (m.low_left l)) (omega (arith, next, zeroth));
-      low_right = λ more. All-push (λ p. p.0 ≤ (get_or ys j (0, 0)).0) ms x (m.low_right more) (small more);
-    }
+entry_weak : (ks : List (List ℕ)) → IsStrictWeakOrder (λ x y. is_lt (entry_cmp ks x y))
+entry_weak ks = ranks_by name_total (named ks)
 
-pub merging_right : (xs ys ms : List (ℕ × ℕ)) (i j : ℕ) (x : ℕ × ℕ) → IsNonDecreasingBy (λ p. p.0) ys
-    → IsMerging xs ys ms i j → j < length ys → (i < length xs → x.0 ≤ (get_or xs i (0, 0)).0) → x ≡ get_or ys j x
-    → IsMerging xs ys (ms ++ x ∷ []) i (j + 1)
-merging_right xs ys ms i j x up m l small is =
-    flipped ys xs (ms ++ x ∷ []) (j + 1) i (merging_left ys xs ms j i x up (flipped xs ys ms i j m) l small is)
+-- what is sorted by position too is sorted by hash and key
+pub sorted_by_key : (ks : List (List ℕ)) (r : List (ℕ × ℕ)) → IsSorted (pair_cmp ks) r → IsSorted (entry_cmp ks) r
+sorted_by_key ks r up k d low l = not_less (entry_cmp ks (get_or r (k + 1) d) (get_or r k d))
+    (nat_cmp (get_or r (k + 1) d).1 (get_or r k d).1) (up k d low l)
 
-pub merging_done : (xs ys ms : List (ℕ × ℕ)) (i j : ℕ) → IsMerging xs ys ms i j → length xs ≤ i → length ys ≤ j
-    → IsPermutation (xs ++ ys) ms
-merging_done xs ys ms i j m l r =
-    subst (λ us. IsPermutation us ms) ((λ k. take_all i xs l k ++ take_all j ys r k)) m.whole
+-- an order between elements that have the same hash and key under other keys
+moved : (ks ls : List (List ℕ)) (p q u v : ℕ × ℕ) → named ks p ≡ named ls u → named ks q ≡ named ls v
+    → is_lt (entry_cmp ks p q) ≡ is_lt (entry_cmp ls u v)
+moved ks ls p q u v e f = λ i. is_lt (name_cmp (e i) (f i))
 
--- ---- a lookup
+-- ---- a search in one run
 
--- none of the first n index entries is that of the hash and the name
-abbrev pub NoneYet : List (List ℕ) → ℕ → List ℕ → List (ℕ × ℕ) → ℕ → Type 0
-NoneYet ks h name ps n = (j : ℕ) → j < n → is_found ks h name (get_or ps j (0, 0)) ≡ false
+module _ (ks : List (List ℕ)) (h : ℕ) (name : List ℕ) where
+  abbrev pub is_it : ℕ × ℕ → Bool
+  is_it p = is_eq (beside ks h name p)
 
-and_left : (a b : Bool) → (a && b) ≡ true → a ≡ true
-and_left true b e = refl
-and_left false b e = e
+  rises : (r : List (ℕ × ℕ)) → IsSorted (entry_cmp ks) r
+      → IsNonDecreasingBy (λ p. ordering_index (beside ks h name p)) r
+  rises r up = searchable_from_sorted name_total (named ks) r (h, name) up
 
-and_right : (a b : Bool) → (a && b) ≡ true → b ≡ true
-and_right true b e = e
-and_right false b e = absurd (false≢true e)
+  pub placed : (r : List (ℕ × ℕ)) (at : ℕ) → IsSorted (entry_cmp ks) r → at ≤ length r
+      → IsBinarySearchResult (beside ks h name) r (Err at) → IsPlace ks h name r at
+  placed r at up bound found = record { within = bound; point = found (rises r up) }
+
+  -- the entry that a search finds
+  pub found_entry : (r : List (ℕ × ℕ)) (at : ℕ) (p : ℕ × ℕ) → at < length r → p ≡ get_or r at p
+      → beside ks h name (get_or r at p) ≡ Equal → Contains r (h, p.1) × (get_or ks p.1 [] ≡ name)
+  found_entry r at p l is e =
+      let same : named ks p ≡ (h, name) = exact_pairs nat_cmp (slice_cmp nat_cmp) exact_unsigned exact_bytes
+      (named ks p) (h, name) (ap (λ (q : ℕ × ℕ). beside ks h name q) is ∙ e) in
+      let own : (h, p.1) ≡ p = λ i. ((sym same i).0, p.1) in
+      ((at, l, get_or_default r at (h, p.1) p l ∙ sym is ∙ sym own), ap (λ (q : ℕ × List ℕ). q.1) same)
+
+  pub none_here : (r : List (ℕ × ℕ)) (at : ℕ) → IsPlace ks h name r at → list_any is_it r ≡ false
+  none_here r at place = list_any_none is_it r (λ j d l. elim (cases_lt j at) [
+    | inl lt ↦ ap is_eq (place.point.0 j d (omega arith) lt)
+    | inr ge ↦ ap is_eq (place.point.1 j d ge l)
+  ])
+
+  -- none of the first i runs has the entry, and it belongs there in the last of them
+  pub record IsSearched (rs : List (List (ℕ × ℕ))) (i at : ℕ) : Type 0 where
+    pub none : list_any is_it (entries_of (take i rs)) ≡ false
+    pub spot : 0 < i → IsPlace ks h name (get_or rs (i - 1) []) at
+
+  pub searched_none : (rs : List (List (ℕ × ℕ))) → IsSearched rs 0 0
+  searched_none rs = record { none = refl; spot = λ l. absurd (omega arith) }
+
+  pub searched_more : (rs : List (List (ℕ × ℕ))) (i at b : ℕ) (r : List (ℕ × ℕ)) → i < length rs → r ≡ get_or rs i r
+      → IsSearched rs i at → IsPlace ks h name r b → IsSearched rs (i + 1) b
+  searched_more rs i at b r l is before place = record {
+    none = ap (list_any is_it) (taken_more rs i r l is) ∙ list_any-append is_it (entries_of (take i rs)) r
+        ∙ (λ j. before.none j || none_here r b place j);
+    spot = λ _.
+        let e : i + 1 - 1 ≡ i = omega arith in
+        subst (λ n. IsPlace ks h name (get_or rs n []) b) (sym e)
+        (subst (λ u. IsPlace ks h name u b) (is ∙ get_or_default rs i r [] l) place);
+  }
+
+  pub searched_all : (rs : List (List (ℕ × ℕ))) (i at : ℕ) → i ≡ length rs → IsSearched rs i at
+      → (list_any is_it (entries_of rs) ≡ false) × IsSpot ks h name rs at
+  searched_all rs i at e done = (
+    ap (λ us. list_any is_it (entries_of us)) (sym (take_all i rs (omega arith))) ∙ done.none,
+    λ l. subst (λ n. IsPlace ks h name (get_or rs (n - 1) []) at) e (done.spot (omega arith)),
+  )
+
+-- the entry of a run is among those of all runs
+pub in_runs : (rs : List (List (ℕ × ℕ))) (i : ℕ) (r : List (ℕ × ℕ)) (p : ℕ × ℕ) → i < length rs → r ≡ get_or rs i r
+    → Contains r p → Contains (entries_of rs) p
+in_runs [] i r p l is has = absurd (omega arith)
+in_runs (u ∷ rs) zero r p l is has = Contains-append_left u (entries_of rs) p (subst (λ v. Contains v p) is has)
+in_runs (u ∷ rs) (suc i) r p l is has = Contains-append_right u (entries_of rs) p
+    (in_runs rs i r p (omega arith) is has)
+
+-- ---- each hash with its position
 
 pub length-numbered : (n : ℕ) (hs : List ℕ) → length (numbered n hs) ≡ length hs
 unfolding numbered
@@ -123,59 +146,49 @@ get_or-numbered (h ∷ hs) n (suc i) d l =
     let e : n + 1 + i ≡ n + suc i = omega arith in
     get_or-numbered hs (n + 1) i d (omega arith) ∙ ap (λ (m : ℕ). (get_or hs i 0, m)) e
 
-pub apart_by : (ks : List (List ℕ)) (h : ℕ) (name : List ℕ) (p : ℕ × ℕ) → p.0 ≢ h → is_found ks h name p ≡ false
-apart_by ks h name p ne = ap (λ (b : Bool). b && is_at ks name p.1) (ne_eqb p.0 h ne)
+All-places : (n : ℕ) (hs : List ℕ) → All (λ p. p.1 < n + length hs) (numbered n hs)
+unfolding numbered
+All-places n [] = All-nil (λ (p : ℕ × ℕ). p.1 < n + 0)
+All-places n (h ∷ hs) =
+    All-cons (λ (p : ℕ × ℕ). p.1 < n + suc (length hs)) (h, n) (numbered (n + 1) hs) (omega arith)
+    (All-weaker (λ (p : ℕ × ℕ). p.1 < n + 1 + length hs) (λ (p : ℕ × ℕ). p.1 < n + suc (length hs)) (λ p l. omega arith)
+    (numbered (n + 1) hs) (All-places (n + 1) hs))
 
--- the index entries of lower hashes
-pub none_start : (ks : List (List ℕ)) (h : ℕ) (name : List ℕ) (ps : List (ℕ × ℕ)) (start : ℕ)
-    → ((j : ℕ) (d : ℕ × ℕ) → j < start → (get_or ps j d).0 < h) → NoneYet ks h name ps start
-none_start ks h name ps start lower j l = apart_by ks h name (get_or ps j (0, 0))
-    (λ e. absurd (omega (arith, lower j (0, 0) l, e)))
+-- each entry has the position of a key
+pub places : (hs : List ℕ) (ks : List (List ℕ)) (rs : List (List (ℕ × ℕ))) → IsIndexOf hs ks rs
+    → All (λ p. p.1 < length ks) (entries_of rs)
+places hs ks rs index =
+    All-weaker (λ (p : ℕ × ℕ). p.1 < 0 + length hs) (λ (p : ℕ × ℕ). p.1 < length ks)
+    (λ p l. omega (arith, index.even)) (entries_of rs)
+    (All-permutation (λ (p : ℕ × ℕ). p.1 < 0 + length hs) (numbered 0 hs) (entries_of rs) index.whole (All-places 0 hs))
 
--- if some run has it, so has their concatenation
-pub any_flat : (test : ℕ × ℕ → Bool) (rs : List (List (ℕ × ℕ)))
-    → list_any (λ r. list_any test r) rs ≡ list_any test (flat_map (λ r. r) rs)
-any_flat test [] = refl
-any_flat test (r ∷ rs) = ap (λ (b : Bool). list_any test r || b) (any_flat test rs)
-    ∙ sym (list_any-append test r (flat_map (λ r. r) rs))
+-- ---- a search in all runs
 
 -- the position that the index entries give is that of the key of this name
-pub found_place : (hs : List ℕ) (ks : List (List ℕ)) (ps : List (ℕ × ℕ)) (h : ℕ) (name : List ℕ) (o : Option ℕ)
-    → IsIndexOf hs ps → AreHanded hs ks h name → IsDistinct bytes_eq ks
-    → IfSome o (λ p. is_at ks name p ≡ true) → is_some o ≡ list_any (is_found ks h name) ps
-    → o ≡ position (λ k. bytes_eq k name) ks
-found_place hs ks ps h name (Some p) index handed distinct here any =
-    sym (only_place name ks p distinct (ltb-true p (length ks) (and_left _ (bytes_eq (get_or ks p []) name) here))
-    (and_right (ltb p (length ks)) (bytes_eq (get_or ks p []) name) here))
-found_place hs ks ps h name None index handed distinct here any =
+pub found_place : (hs : List ℕ) (ks : List (List ℕ)) (rs : List (List (ℕ × ℕ))) (h : ℕ) (name : List ℕ)
+    (o : Result ℕ ℕ) → IsIndexOf hs ks rs → AreHanded hs ks h name → IsDistinct bytes_eq ks
+    → IfOk o (λ p. Contains (entries_of rs) (h, p) × (get_or ks p [] ≡ name))
+    → IfErr o (λ _. list_any (is_it ks h name) (entries_of rs) ≡ false)
+    → result_ok o ≡ position (λ k. bytes_eq k name) ks
+found_place hs ks rs h name (Ok p) index handed distinct here none =
+    sym (only_place name ks p distinct
+    (All-contains (λ (q : ℕ × ℕ). q.1 < length ks) (entries_of rs) (h, p) (places hs ks rs index) here.0)
+    ((bytes_eq-Decides (get_or ks p []) name).1 here.1))
+found_place hs ks rs h name (Err at) index handed distinct here none =
     sym (position-none (λ k. bytes_eq k name) ks [] (λ i l. elim (cases_Bool (bytes_eq (get_or ks i []) name)) [
       | inr other ↦ other
       | inl same ↦
-          (let within : i < length hs = omega (arith, handed.even) in
+          (let within : i < length hs = omega (arith, index.even) in
           let e : get_or (numbered 0 hs) i (0, 0) ≡ (h, i) = get_or-numbered hs 0 i (0, 0) within
           ∙ (λ k. (handed.own i l same k, zero-add i k)) in
-          let hash : eqb h h ≡ true = eq-eqb h h refl in
-          let low : ltb i (length ks) ≡ true = lt-ltb i (length ks) l in
-          let it : is_found ks h name (get_or (numbered 0 hs) i (0, 0)) ≡ true =
-          ap (is_found ks h name) e ∙ (λ k. hash k && (low k && same k)) in
-          absurd (false≢true (any ∙ sym (list_any-IsPermutation (is_found ks h name) (numbered 0 hs) ps index.whole)
-          ∙ list_any_at (is_found ks h name) (numbered 0 hs) i (0, 0) (omega (arith, length-numbered 0 hs)) it)))
+          let text : get_or ks i [] ≡ name = (bytes_eq-Decides (get_or ks i []) name).0 same in
+          let it : is_it ks h name (get_or (numbered 0 hs) i (0, 0)) ≡ true =
+          ap (is_it ks h name) e ∙ (λ k. is_eq (name_cmp (h, text k) (h, name)))
+          ∙ ap is_eq (tied_itself name_total (h, name)) in
+          absurd (false≢true (sym none
+          ∙ sym (list_any-IsPermutation (is_it ks h name) (numbered 0 hs) (entries_of rs) index.whole)
+          ∙ list_any_at (is_it ks h name) (numbered 0 hs) i (0, 0) (omega (arith, length-numbered 0 hs)) it)))
     ]))
-
--- what passes in the first elements
-pub any_taken : {X : Type 0} (test : X → Bool) (n : ℕ) (xs : List X)
-    → true ≡ list_any test (take n xs) → true ≡ list_any test xs
-any_taken test n xs found =
-    ap (λ b. b || list_any test (drop n xs)) found ∙ sym (list_any-append test (take n xs) (drop n xs))
-    ∙ ap (list_any test) (take-append-drop n xs)
-
-pub some_from_ok : (r : Result ℕ ℕ) (P : ℕ → Type 0) → IfOk r P → IfSome (result_ok r) P
-some_from_ok (Ok p) P h = h
-some_from_ok (Err p) P h = tt
-
-pub is_some_ok : (r : Result ℕ ℕ) → is_some (result_ok r) ≡ is_ok r
-is_some_ok (Ok p) = refl
-is_some_ok (Err p) = refl
 
 -- ---- one more hash
 
@@ -186,16 +199,160 @@ numbered-push n (x ∷ hs) h =
     let e : n + 1 + length hs ≡ n + suc (length hs) = omega arith in
     ap (λ ps. (x, n) ∷ ps) (numbered-push (n + 1) hs h ∙ ap (λ (m : ℕ). numbered (n + 1) hs ++ (h, m) ∷ []) e)
 
-pub IsIndexOf-push : (hs : List ℕ) (h : ℕ) (ps qs : List (ℕ × ℕ)) → IsIndexOf hs ps
-    → IsPermutation ((h, length hs) ∷ ps) qs → IsIndexOf (hs ++ h ∷ []) qs
-IsIndexOf-push hs h ps qs index added =
-    let e : numbered 0 (hs ++ h ∷ []) ≡ numbered 0 hs ++ (h, length hs) ∷ [] = numbered-push 0 hs h
-    ∙ ap (λ (m : ℕ). numbered 0 hs ++ (h, m) ∷ []) (zero-add (length hs)) in
-    record { whole = rw e (IsPermutation-push_more (numbered 0 hs) ps qs (h, length hs) index.whole added) }
+-- a list stays sorted with an element between what isn't above it and what isn't below it
+module _ {X : Type 0} (lt : X → X → Bool) where
+  sorted-insert : (xs : List X) (at : ℕ) (y : X) → IsSortedBy lt xs → at ≤ length xs
+      → ((k : ℕ) (d : X) → k < at → lt y (get_or xs k d) ≡ false)
+      → ((k : ℕ) (d : X) → at ≤ k → k < length xs → lt (get_or xs k d) y ≡ false) → IsSortedBy lt (insert xs at y)
+  sorted-insert xs at y up l low high k d from within =
+      let long = length-insert xs at y l in
+      elim (cases_lt (k + 1) at) [
+        | inl before ↦ rw (
+          get_or-insert_below xs at y d (k + 1) before l,
+          get_or-insert_below xs at y d k (omega arith) l,
+        ) (up k d from (omega arith))
+        | inr ge ↦ elim (cases_lt k at) [
+          | inl here ↦
+              (let e : k + 1 ≡ at = omega arith in
+              rw (
+                get_or-insert_below xs at y d k here l,
+                ap (λ n. get_or (insert xs at y) n d) e ∙ get_or-insert_at xs at y d l,
+              ) (low k d here))
+          | inr past ↦ elim (cases_lt at k) [
+            | inl later ↦
+                (let e : k ≡ k - 1 + 1 = omega arith in
+                let f : k - 1 + 1 ≡ k = omega arith in
+                let above = get_or-insert_above xs at y d k past l in
+                let own : get_or (insert xs at y) k d ≡ get_or xs (k - 1) d =
+                ap (λ n. get_or (insert xs at y) n d) e
+                ∙ get_or-insert_above xs at y d (k - 1) (omega arith) l in
+                rw (above, own) (subst (λ n. lt (get_or xs n d) (get_or xs (k - 1) d) ≡ false) f
+                (up (k - 1) d (omega arith) (omega arith))))
+            | inr same ↦
+                (let e : k ≡ at = omega arith in
+                rw (
+                  get_or-insert_above xs at y d k past l,
+                  ap (λ n. get_or (insert xs at y) n d) e ∙ get_or-insert_at xs at y d l,
+                )
+                (high k d past (omega arith)))
+          ]
+        ]
+      ]
 
--- index entries in another order, as after a merge
-pub IsIndexOf-same : (hs : List ℕ) (ps qs : List (ℕ × ℕ)) → IsIndexOf hs ps → IsPermutation ps qs → IsIndexOf hs qs
-IsIndexOf-same hs ps qs index moved = record { whole = IsPermutation-trans _ ps qs index.whole moved }
+each_run : (P : ℕ × ℕ → Type 0) (rs : List (List (ℕ × ℕ))) → All P (entries_of rs) → All (λ r. All P r) rs
+each_run P [] all = All-nil (λ r. All P r)
+each_run P (r ∷ rs) all =
+    let front : take (length r) (r ++ entries_of rs) ≡ r = take-append_seam r (entries_of rs) in
+    All-cons (λ r. All P r) r rs
+    (All-same P r (take (length r) (r ++ entries_of rs)) (sym front) (All-take P (length r) (r ++ entries_of rs) all))
+    (each_run P rs (All-same P (entries_of rs) (drop (length r) (r ++ entries_of rs))
+    (sym (drop-append_seam r (entries_of rs))) (All-drop P (length r) (r ++ entries_of rs) all)))
+
+module _ (ks : List (List ℕ)) (name : List ℕ) where
+  -- the key of an entry is read in the longer list too
+  named-push : (p : ℕ × ℕ) → p.1 < length ks → named (ks ++ name ∷ []) p ≡ named ks p
+  named-push p l = ap (λ (k : List ℕ). (p.0, k)) (get_or_append_left ks (name ∷ []) [] p.1 l)
+
+  sorted-push : (r : List (ℕ × ℕ)) → All (λ p. p.1 < length ks) r → IsSorted (entry_cmp ks) r
+      → IsSorted (entry_cmp (ks ++ name ∷ [])) r
+  sorted-push r within up k d low l =
+      moved (ks ++ name ∷ []) ks (get_or r (k + 1) d) (get_or r k d) (get_or r (k + 1) d) (get_or r k d)
+      (named-push (get_or r (k + 1) d) (within (k + 1) d l)) (named-push (get_or r k d) (within k d (omega arith)))
+      ∙ up k d low l
+
+  all-push : (rs : List (List (ℕ × ℕ))) → All (λ p. p.1 < length ks) (entries_of rs) → AreSorted ks rs
+      → AreSorted (ks ++ name ∷ []) rs
+  all-push rs within up i d l = sorted-push (get_or rs i d) (each_run (λ p. p.1 < length ks) rs within i d l) (up i d l)
+
+  -- the entry of the new key is inserted where it belongs
+  sorted-place : (h at : ℕ) (r : List (ℕ × ℕ)) → All (λ p. p.1 < length ks) r → IsSorted (entry_cmp ks) r
+      → IsPlace ks h name r at → IsSorted (entry_cmp (ks ++ name ∷ [])) (insert r at (h, length ks))
+  sorted-place h at r within up place =
+      let ls = ks ++ name ∷ [] in
+      let new : named ls (h, length ks) ≡ (h, name) = ap (λ (k : List ℕ). (h, k)) (get_or_push ks name [] (length ks)
+      refl) in
+      let le = place.within in
+      sorted-insert (λ x y. is_lt (entry_cmp ls x y)) r at (h, length ks) (sorted-push r within up) le
+      (λ k d lt.
+      let p = get_or r k d in
+      (λ i. is_lt (name_cmp (new i) (named-push p (within k d (omega arith)) i)))
+      ∙ ap is_lt (name_total.antisymm (h, name) (named ks p) ∙ ap ordering_reverse (place.point.0 k d (omega arith) lt)))
+      (λ k d ge lt.
+      let p = get_or r k d in
+      (λ i. is_lt (name_cmp (named-push p (within k d lt) i) (new i)))
+      ∙ ap is_lt (place.point.1 k d ge lt))
+
+-- the entries of one more key, which are in sorted runs
+index-more : (hs : List ℕ) (ks : List (List ℕ)) (rs ss : List (List (ℕ × ℕ))) (h : ℕ) (name : List ℕ)
+    → IsIndexOf hs ks rs → IsPermutation ((h, length ks) ∷ entries_of rs) (entries_of ss)
+    → AreSorted (ks ++ name ∷ []) ss → IsIndexOf (hs ++ h ∷ []) (ks ++ name ∷ []) ss
+index-more hs ks rs ss h name index added up =
+    let e : numbered 0 (hs ++ h ∷ []) ≡ numbered 0 hs ++ (h, length ks) ∷ [] = numbered-push 0 hs h
+    ∙ ap (λ (m : ℕ). numbered 0 hs ++ (h, m) ∷ []) (zero-add (length hs) ∙ index.even) in
+    record {
+      even = omega (arith, index.even, length_push hs h, length_push ks name);
+      whole = rw e (IsPermutation-push_more (numbered 0 hs) (entries_of rs) (entries_of ss) (h, length ks) index.whole
+          added);
+      sorted = up;
+    }
+
+-- the last run gets the entry
+pub added_last : (hs : List ℕ) (ks : List (List ℕ)) (rs : List (List (ℕ × ℕ))) (h at n : ℕ) (name : List ℕ)
+    (r : List (ℕ × ℕ)) → IsIndexOf hs ks rs → IsSpot ks h name rs at → n + 1 ≡ length rs
+    → r ≡ insert (get_or rs n []) at (h, length ks) → IsIndexOf (hs ++ h ∷ []) (ks ++ name ∷ []) (set rs n r)
+added_last hs ks rs h at n name r index spot last is =
+    let e : length rs - 1 ≡ n = omega arith in
+    let u = get_or rs n [] in
+    let l : n < length rs = omega arith in
+    let place : IsPlace ks h name u at = subst (λ m. IsPlace ks h name (get_or rs m []) at) e (spot (omega arith)) in
+    let within = places hs ks rs index in
+    index-more hs ks rs (set rs n r) h name index
+    (flat_add rs n (h, length ks) r l (rw is (IsPermutation-insert u at (h, length ks))))
+    (All-set (IsSorted (entry_cmp (ks ++ name ∷ []))) rs n r (rw is (sorted-place ks name h at u
+    (each_run (λ p. p.1 < length ks) rs within n [] l) (index.sorted n [] l) place))
+    (all-push ks name rs within index.sorted))
+
+-- the runs from some one on are joined
+pub begun-joined : (ks : List (List ℕ)) (rs us : List (List (ℕ × ℕ))) (from : ℕ) (j : List (ℕ × ℕ)) (p : ℕ × ℕ)
+    → us ≡ drop from rs → IsPermutation (entries_of us) j → IsSorted (entry_cmp ks) j
+    → IsBegun ks rs ((take from rs ++ j ∷ []) ++ (p ∷ []) ∷ []) p
+begun-joined ks rs us from j p rest whole up =
+    let parts : entries_of rs ≡ entries_of (take from rs) ++ entries_of us =
+    ap entries_of (sym (take-append-drop from rs))
+    ∙ flat_map-append (λ (r : List (ℕ × ℕ)). r) (take from rs) (drop from rs)
+    ∙ ap (λ vs. entries_of (take from rs) ++ entries_of vs) (sym rest) in
+    record {
+      before = take from rs ++ j ∷ [];
+      split = refl;
+      whole = rw (parts, flat_last (take from rs) j)
+          (IsPermutation-append_right (entries_of (take from rs)) (entries_of us) j whole);
+      sorted = λ sorted. All-push (IsSorted (entry_cmp ks)) (take from rs) j
+          (All-take (IsSorted (entry_cmp ks)) from rs sorted) up;
+    }
+
+-- none are joined
+pub begun-alone : (ks : List (List ℕ)) (rs : List (List (ℕ × ℕ))) (p : ℕ × ℕ) → IsBegun ks rs (rs ++ (p ∷ []) ∷ []) p
+begun-alone ks rs p = record {
+  before = rs;
+  split = refl;
+  whole = IsPermutation-refl (entries_of rs);
+  sorted = λ sorted. sorted;
+}
+
+-- a run begins with the entry
+pub added_run : (hs : List ℕ) (ks : List (List ℕ)) (rs ss : List (List (ℕ × ℕ))) (h : ℕ) (name : List ℕ)
+    → IsIndexOf hs ks rs → IsBegun ks rs ss (h, length ks) → IsIndexOf (hs ++ h ∷ []) (ks ++ name ∷ []) ss
+added_run hs ks rs ss h name index begun =
+    let p : ℕ × ℕ = (h, length ks) in
+    let us = begun.before in
+    let one : IsSorted (entry_cmp (ks ++ name ∷ [])) (p ∷ []) = λ k d low l. absurd (omega arith) in
+    let within : All (λ p. p.1 < length ks) (entries_of us) = All-permutation (λ p. p.1 < length ks) (entries_of rs)
+    (entries_of us) begun.whole (places hs ks rs index) in
+    rw begun.split (index-more hs ks rs (us ++ (p ∷ []) ∷ []) h name index
+    (rw (flat_last us (p ∷ [])) (IsPermutation-trans _ _ _ (IsPermutation-cons p (entries_of rs) (entries_of us)
+    begun.whole) (IsPermutation-sym _ _ (IsPermutation-to_front (entries_of us) p))))
+    (All-push (IsSorted (entry_cmp (ks ++ name ∷ []))) us (p ∷ []) (all-push ks name us within
+    (begun.sorted index.sorted)) one))
 
 -- ---- one position less
 
@@ -222,9 +379,43 @@ numbered-remove (h ∷ hs) n (suc i) j e l =
     (lowered-lower j h n (omega arith))
     ∙ ap (λ ps. (h, n) ∷ ps) (numbered-remove hs (n + 1) i j (omega arith) (omega arith))
 
-pub IsIndexOf-remove : (hs : List ℕ) (ps : List (ℕ × ℕ)) (i : ℕ) → i < length hs → IsIndexOf hs ps
-    → IsIndexOf (remove hs i) (map (lowered i) (filter (is_other i) ps))
-IsIndexOf-remove hs ps i l index = record {
-  whole = rw (← numbered-remove hs 0 i i (omega arith) l) (IsPermutation-map (lowered i) _ _
-      (IsPermutation-filter (is_other i) (numbered 0 hs) ps index.whole));
-}
+module _ (ks : List (List ℕ)) (i : ℕ) (l : i < length ks) where
+  named-lowered : (p : ℕ × ℕ) → p.1 ≢ i → named (remove ks i) (lowered i p) ≡ named ks p
+  named-lowered p ne = elim (cases_lt p.1 i) [
+    | inl lt ↦ ap (named (remove ks i)) (sym (lowered-else i p (omega arith)))
+        ∙ ap (λ (k : List ℕ). (p.0, k)) (get_or-remove_below ks i [] p.1 lt l)
+    | inr ge ↦
+        (let e : p.1 - 1 + 1 ≡ p.1 = omega arith in
+        ap (named (remove ks i)) (sym (lowered-then i p (omega arith)))
+        ∙ ap (λ (k : List ℕ). (p.0, k)) (get_or-remove_above ks i [] (p.1 - 1) (omega arith) l
+        ∙ ap (λ n. get_or ks n []) e))
+  ]
+
+  sorted-cut : (r : List (ℕ × ℕ)) → IsSorted (entry_cmp ks) r
+      → IsSorted (entry_cmp (remove ks i)) (map (lowered i) (filter (is_other i) r))
+  sorted-cut r up k d low within =
+      let qs = filter (is_other i) r in
+      let bound : k + 1 < length qs = omega (arith, length-map qs (lowered i)) in
+      let left = IsSortedBy-filter (λ x y. is_lt (entry_cmp ks x y)) (entry_weak ks) (is_other i) r up in
+      let other = filter_passes (is_other i) r in
+      let p = get_or qs k d in
+      let q = get_or qs (k + 1) d in
+      rw (get_or-map (lowered i) qs (k + 1) d d bound, get_or-map (lowered i) qs k d d (omega arith))
+      (moved (remove ks i) ks (lowered i q) (lowered i p) q p
+      (named-lowered q (eqb-false q.1 i (not-true _ (other (k + 1) d bound))))
+      (named-lowered p (eqb-false p.1 i (not-true _ (other k d (omega arith))))) ∙ left k d low bound)
+
+  pub IsIndexOf-remove : (hs : List ℕ) (rs : List (List (ℕ × ℕ))) → IsIndexOf hs ks rs
+      → IsIndexOf (remove hs i) (remove ks i) (map (λ r. map (lowered i) (filter (is_other i) r)) rs)
+  IsIndexOf-remove hs rs index =
+      let m : i < length hs = omega (arith, index.even) in
+      record {
+        even = omega (arith, index.even, length-remove hs i m, length-remove ks i l);
+        whole = rw (← numbered-remove hs 0 i i (omega arith) m, flat_cut i rs)
+            (IsPermutation-map (lowered i) _ _
+            (IsPermutation-filter (is_other i) (numbered 0 hs) (entries_of rs) index.whole));
+        sorted = All-map (IsSorted (entry_cmp (remove ks i))) (λ r. map (lowered i) (filter (is_other i) r)) rs
+            (All-weaker (IsSorted (entry_cmp ks))
+            (λ r. IsSorted (entry_cmp (remove ks i)) (map (lowered i) (filter (is_other i) r))) sorted-cut rs
+            index.sorted);
+      }

@@ -186,6 +186,24 @@ module _ {V : Type 0} (k : List ℕ) (v : V) (ks : List (List ℕ)) (vs : List V
   zip-put_missing e = zip-push ks vs k v even ∙ ap (λ qs. qs ++ (k, v) ∷ []) seen
       ∙ sym (put_missing k ps v (rw (AreParts-zip ks vs ps seen even).keys at (sym e)))
 
+  -- the same where a present value stays
+  pub zip-placed : (i : ℕ) → Some i ≡ position (λ x. bytes_eq x k) ks
+      → (position (λ x. bytes_eq x k) (keys_of ps) ≡ Some i) × (ps ≡ with_default k v ps)
+  zip-placed i e =
+      let at : position (λ x. bytes_eq x k) (keys_of ps) ≡ Some i =
+      rw (AreParts-zip ks vs ps seen even).keys at (sym e) in
+      (at, sym (default_placed k ps i v at))
+
+  pub zip-default : None ≡ position (λ x. bytes_eq x k) ks
+      → (zip (ks ++ k ∷ []) (vs ++ v ∷ []) ≡ with_default k v ps)
+      × (position (λ x. bytes_eq x k) (keys_of (with_default k v ps)) ≡ Some (length vs))
+  zip-default e =
+      let parts = AreParts-zip ks vs ps seen even in
+      let none : position (λ x. bytes_eq x k) (keys_of ps) ≡ None = rw parts.keys at (sym e) in (
+        zip-push ks vs k v even ∙ ap (λ qs. qs ++ (k, v) ∷ []) seen ∙ sym (default_missing k ps v none),
+        rw (default_missing k ps v none, parts.values_length) (last_placed k ps v none),
+      )
+
 pub ruleset places = (
   find_placed,
   find_pair,

@@ -9,12 +9,14 @@ use Rattle.std.proofs.lemmas.List.Sorted.{IsPermutation-append, IsPermutation-re
 use Rattle.std.proofs.Math.ListN.{length-map}
 use Rattle.std.specs.List.{flat_map}
 use Rattle.std.specs.List.Sorted.{IsPermutation}
-use Rattle.jzon_base.specs.Private.Handed.{IsIndexOf}
+use Rattle.std.specs.List.Sorted.{IsSorted}
+use Rattle.std.proofs.lemmas.List.Elements.{All-nil, All-push, All-same}
+use Rattle.jzon_base.specs.Private.Handed.{entries_of, AreSorted, IsIndexOf, IsIndexed}
 use Rattle.jzon_base.specs.Private.Hash.{hash_of}
-use Rattle.jzon_base.specs.Private.Keys.{hashed_from, IsIndexed}
+use Rattle.jzon_base.specs.Private.Keys.{entry_cmp, hashed_from}
 use Rattle.jzon_base.proofs.Indexes.{hashed_from-more, hashed_from-append, hashed_from-none}
 use Rattle.jzon_base.proofs.Handed.{length-numbered}
-use Rattle.jzon_base.proofs.Tables.{hashed_from-numbered, IsIndexOf-some}
+use Rattle.jzon_base.proofs.Tables.{hashed_from-numbered}
 
 -- one entry more is replaced
 pub hashed_from-set : (from : ℕ) (ks : List (List ℕ)) (n : ℕ) (ps : List (ℕ × ℕ)) (h : ℕ) (x y : List ℕ)
@@ -27,6 +29,7 @@ hashed_from-set from ks n ps h x y l m before is same own =
 pub record AreRefilled (ks : List (List ℕ)) (rs : List (List (ℕ × ℕ))) (n i : ℕ) : Type 0 where
   pub within : n ≤ length ks
   pub whole : IsPermutation (hashed_from 0 (take n ks)) (flat_map (λ r. r) (take i rs))
+  pub sorted : AreSorted ks (take i rs)
   pub room : length ks ≤ n + length (flat_map (λ r. r) (drop i rs))
 
 pub AreRefilled-none : (ks : List (List ℕ)) (rs : List (List (ℕ × ℕ))) → length ks ≤ length (flat_map (λ r. r) rs)
@@ -34,13 +37,15 @@ pub AreRefilled-none : (ks : List (List ℕ)) (rs : List (List (ℕ × ℕ))) �
 AreRefilled-none ks rs room = record {
   within = omega arith;
   whole = subst (λ ps. IsPermutation ps []) (sym (hashed_from-none 0)) (IsPermutation-refl []);
+  sorted = All-nil (IsSorted (entry_cmp ks));
   room = omega (arith, room);
 }
 
 pub AreRefilled-more : (ks : List (List ℕ)) (rs : List (List (ℕ × ℕ))) (n m i : ℕ) (r s : List (ℕ × ℕ)) → i < length rs
     → r ≡ get_or rs i r → AreRefilled ks rs n i → m ≡ min (n + length r) (length ks)
-    → IsPermutation (hashed_from n (take (m - n) (drop n ks))) s → AreRefilled ks (set rs i s) m (i + 1)
-AreRefilled-more ks rs n m i r s l is before end refilled =
+    → IsPermutation (hashed_from n (take (m - n) (drop n ks))) s → IsSorted (entry_cmp ks) s
+    → AreRefilled ks (set rs i s) m (i + 1)
+AreRefilled-more ks rs n m i r s l is before end refilled up =
     let w = before.within in
     let split : m ≡ n + (m - n) = omega arith in
     let long = length-take-le n ks w in
@@ -60,28 +65,32 @@ AreRefilled-more ks rs n m i r s l is before end refilled =
       within = omega arith;
       whole = rw (keys, runs) (IsPermutation-append (hashed_from 0 (take n ks)) (flat_map (λ r. r) (take i rs))
           (hashed_from n (take (m - n) (drop n ks))) s before.whole refilled);
+      sorted = All-same (IsSorted (entry_cmp ks)) (take (i + 1) (set rs i s)) (take i rs ++ s ∷ [])
+          (take_more_set rs i s l) (All-push (IsSorted (entry_cmp ks)) (take i rs) s before.sorted up);
       room = rw left (omega (arith, room, ap length rest, lengths, end));
     }
 
 pub AreRefilled-all : (ks : List (List ℕ)) (rs : List (List (ℕ × ℕ))) (n i : ℕ) → length rs ≤ i → AreRefilled ks rs n i
-    → IsIndexOf (map hash_of ks) (flat_map (λ r. r) rs)
+    → IsIndexOf (map hash_of ks) ks rs
 AreRefilled-all ks rs n i le before =
     let none : length (flat_map (λ r. r) (drop i rs)) ≡ 0 =
     ap (λ us. length (flat_map (λ r. r) us)) (drop_all i rs le) in
     let all : take n ks ≡ ks = take_all n ks (omega (arith, before.room, none)) in
     record {
+      even = length-map ks hash_of;
+      sorted = All-same (IsSorted (entry_cmp ks)) rs (take i rs) (sym (take_all i rs le)) before.sorted;
       whole = subst (λ ps. IsPermutation ps (flat_map (λ r. r) rs)) (ap (hashed_from 0) all ∙ hashed_from-numbered 0 ks)
           (subst (λ us. IsPermutation (hashed_from 0 (take n ks)) (flat_map (λ r. r) us))
           (take_all i rs le) before.whole);
     }
 
 -- an index with entries has room for fewer keys
-pub room_for_fewer : (ks ls : List (List ℕ)) (ps : List (ℕ × ℕ)) → IsIndexed ks ps → length ls ≤ length ks
-    → length ps ≢ 0 → length ls ≤ length ps
-room_for_fewer ks ls ps indexed fewer some = omega (
+pub room_for_fewer : (ks ls : List (List ℕ)) (rs : List (List (ℕ × ℕ))) → IsIndexed ks rs → length ls ≤ length ks
+    → length (entries_of rs) ≢ 0 → length ls ≤ length (entries_of rs)
+room_for_fewer ks ls rs indexed fewer some = omega (
   arith,
   fewer,
-  length_permutation _ ps (IsIndexOf-some ks ps some indexed).whole,
+  length_permutation _ (entries_of rs) (indexed.index some).whole,
   length-numbered 0 (map hash_of ks),
   length-map ks hash_of,
 )

@@ -1,19 +1,19 @@
 //! The keys of an object in the order in which they were put, and the position of each
 //! (docs/RULES.md, "Objects").
 //!
-//! How a key is found, by what holds the keys:
-//! - `Keys`, of an object: up to eight keys that have no index are compared one by one.
-//! - `Runs`, in `Keys` from the ninth key on, and still after removals: entries of hash and
-//!   position in few sorted runs, each asked by binary search.
-//! - `pairs::Builder` finds repeated keys by one sort of such entries, and later ones in `Keys`.
+//! How a key is found: up to eight keys that have no index are compared one by one. From the ninth
+//! key on, and still after removals, `Runs` has an entry of hash and position for each key, in few
+//! runs in the order of hashes and texts; each is asked by one binary search, so that the time
+//! doesn't depend on which hashes the keys have.
+//!
+//! `pairs::Builder` finds repeated keys by one sort of such entries, and later ones in `Keys`.
 ghost use Rattle.std.specs.Prelude.{◌≡◌, ◌<◌, ◌++◌, ◌∷◌, ◌==◌, [], length, remove, slice_get, map};
-ghost use Rattle.std.specs.Prelude.{IfOk, OnOk, OnErr, MatchOption, None, Some};
+ghost use Rattle.std.specs.Prelude.{IfOk, IfErr, OnOk, OnErr, MatchOption, None, Some, vec_len, vec_capacity};
 ghost use Rattle.std.specs.List.{position, zip, IsDistinct};
+ghost use Rattle.std.specs.Result.{result_ok};
 ghost use Rattle.std.specs.Str.{bytes_eq};
 ghost use Rattle.jzon_base.specs.PairList.{put_each};
-ghost use Rattle.jzon_base.specs.Private.Handed.{IsIndexOf};
-ghost use Rattle.jzon_base.specs.Private.Hash.{hash_of};
-ghost use Rattle.jzon_base.specs.Private.Keys.{IsIndexed, IsTable};
+ghost use Rattle.jzon_base.specs.Private.Handed.{entries_of, IsIndexed, IsSpotFor, IsTable};
 
 pub mod hash;
 pub(crate) mod index;
@@ -46,7 +46,7 @@ pub struct Keys {
 
 impl Model for Keys {
     ghost use Rattle.std.specs.Prelude.{List, ℕ};
-    ghost use Rattle.jzon_base.specs.Private.Keys.{IsTable};
+    ghost use Rattle.jzon_base.specs.Private.Handed.{IsTable};
 
     ghost Value = { List (List ℕ) };
 
@@ -55,16 +55,22 @@ impl Model for Keys {
     ghost invariant = { λ k. IsTable k.keys.items k.index };
 }
 
+/// Where the index entry of a missing key belongs.
+#[derive(Drop)]
+struct Spot {
+    hash: u64,
+    at: usize,
+}
+
 /// No entry, with room for those of `capacity` keys, or none where `capacity` keys need no index.
 /// The error is a failed allocation.
 fn room_for(alloc: Global, capacity: usize) -> Result<Runs, AllocError>
-    ensures { IfOk result (λ r. r ≡ []) }
+    ensures { IfOk result (λ r. length (entries_of r) ≡ 0) }
 {
     if capacity <= index::LINEAR_MAX {
         return Ok(Runs::new(alloc));
     }
-    let entries = Vec::with_capacity(alloc, capacity)?;
-    Runs::of(alloc, entries)
+    Runs::with_capacity(alloc, capacity)
 }
 
 /// Merges the entries of equal keys: the last value at the position of the first. Returns the index
@@ -90,93 +96,89 @@ fn merge<V: Drop>(
     Runs::of(alloc, index)
 }
 
-/// Adds all keys to an empty index. The error is a failed allocation.
-fn add_all(alloc: Global, keys: &[Key], index: &mut Runs) -> Result<(), AllocError>
-    requires { index.old ≡ [] }
-    ensures { OnOk result (IsIndexOf (map hash_of keys.now) index.new) }
+/// The position of a key. The error is where the entry of a missing key belongs, if the keys have
+/// an index.
+#[inline(always)]
+fn search(keys: &[Key], index: &Runs, name: &str) -> Result<usize, Spot>
+    requires { IsTable keys.now index.now }
+    ensures position { result_ok result ≡ position (λ k. bytes_eq k name.now) keys.now }
+    ensures spot { IfErr result (λ s. IsSpotFor keys.now index.now name.now s.hash s.at) }
 {
-    for (at, key) in keys.iter().enumerate() {
-        index.add(alloc, hash_of(key.as_str()), at)?;
+    if index.is_empty() {
+        return match index::position(keys, name) {
+            Some(position) => Ok(position),
+            None => Err(Spot { hash: 0, at: 0 }),
+        };
     }
-    Ok(())
+    let hash = hash_of(name);
+    match index.search(keys, hash, name) {
+        Ok(position) => Ok(position),
+        Err(at) => Err(Spot { hash, at }),
+    }
 }
 
-/// Adds all keys to an empty index. The error is a failed allocation, and then the index is empty.
-fn fill(alloc: Global, keys: &[Key], index: &mut Runs) -> Result<(), AllocError>
-    requires { index.old ≡ [] }
-    ensures ok { OnOk result (IsIndexOf (map hash_of keys.now) index.new) }
-    ensures err { OnErr result (index.new ≡ []) }
-{
-    if let Err(error) = add_all(alloc, keys, index) {
-        index.clear();
-        return Err(error);
-    }
-    Ok(())
-}
-
-/// Adds a key that is put after these keys to their index, which is filled first where it is empty.
-/// The error is a failed allocation.
+/// Makes the index of keys and a missing key that is put after them. The error is a failed
+/// allocation, and then nothing or the index of the keys is there.
 #[inline(never)]
-fn add_entry(alloc: Global, keys: &[Key], index: &mut Runs, name: &str) -> Result<(), AllocError>
-    requires { IsIndexed keys.now index.old }
+fn begin_index(alloc: Global, keys: &[Key], index: &mut Runs, name: &str) -> Result<(), AllocError>
+    requires distinct { IsDistinct bytes_eq keys.now }
+    requires missing { position (λ k. bytes_eq k name.now) keys.now ≡ None }
+    ensures ok { OnOk result (IsIndexed (keys.now ++ name.now ∷ []) index.new) }
+    ensures err { OnErr result (IsIndexed keys.now index.new) }
+{
+    index.fill(alloc, keys)?;
+    let hash = hash_of(name);
+    match index.search(keys, hash, name) {
+        Ok(_) => unreachable!(),
+        Err(at) => index.add(alloc, keys, hash, at),
+    }
+}
+
+/// Adds the entry of a missing key that is put after these keys to their index, if they have one or
+/// are no longer few. The error is a failed allocation.
+#[inline(always)]
+fn add_entry(
+    alloc: Global,
+    keys: &[Key],
+    index: &mut Runs,
+    name: &str,
+    spot: Spot,
+) -> Result<(), AllocError>
+    requires table { IsTable keys.now index.old }
+    requires missing { position (λ k. bytes_eq k name.now) keys.now ≡ None }
+    requires spot { IsSpotFor keys.now index.old name.now spot.hash spot.at }
     ensures ok { OnOk result (IsIndexed (keys.now ++ name.now ∷ []) index.new) }
     ensures err { OnErr result (IsIndexed keys.now index.new) }
 {
     if index.is_empty() {
-        fill(alloc, keys, index)?;
+        if keys.len() < index::LINEAR_MAX {
+            return Ok(());
+        }
+        return begin_index(alloc, keys, index, name);
     }
-    index.add(alloc, hash_of(name), keys.len())
+    index.add(alloc, keys, spot.hash, spot.at)
 }
 
-/// Adds a key that is put after these keys to their index, if they have one or are no longer few.
-/// The error is a failed allocation.
+/// Puts a missing key last. The error is a failed allocation, and then nothing has changed.
 #[inline(always)]
-fn add_key(alloc: Global, keys: &[Key], index: &mut Runs, name: &str) -> Result<(), AllocError>
-    requires { IsIndexed keys.now index.old }
-    ensures ok { OnOk result (IsIndexed (keys.now ++ name.now ∷ []) index.new) }
-    ensures err { OnErr result (IsIndexed keys.now index.new) }
-{
-    if keys.len() < index::LINEAR_MAX && index.is_empty() {
-        return Ok(());
-    }
-    add_entry(alloc, keys, index, name)
-}
-
-/// The position of a key by its index. A missing key is put last, and the result is `None`. The
-/// error is a failed allocation, and then the keys are those from before.
-#[inline(never)]
-fn put_indexed(
+fn push_at(
     alloc: Global,
     keys: &mut Vec<Key>,
     index: &mut Runs,
-    name: &str,
-) -> Result<Option<usize>, AllocError>
-    requires table { IsDistinct bytes_eq keys.old.items
-        × IsIndexOf (map hash_of keys.old.items) index.old }
-    ensures table { IsDistinct bytes_eq keys.new.items
-        × IsIndexOf (map hash_of keys.new.items) index.new }
-    ensures position { IfOk result (λ place. place
-        ≡ position (λ k. bytes_eq k name.now) keys.old.items) }
-    ensures ok { IfOk result (λ place. MatchOption place
-        (keys.new.items ≡ keys.old.items ++ name.now ∷ []) (λ _. keys.new.items ≡ keys.old.items)) }
+    spot: Spot,
+    key: Key,
+) -> Result<(), AllocError>
+    requires table { IsTable keys.old.items index.old }
+    requires missing { position (λ k. bytes_eq k key) keys.old.items ≡ None }
+    requires spot { IsSpotFor keys.old.items index.old key spot.hash spot.at }
+    ensures table { IsTable keys.new.items index.new }
+    ensures ok { OnOk result (keys.new.items ≡ keys.old.items ++ key ∷ []) }
     ensures err { OnErr result (keys.new.items ≡ keys.old.items) }
-    ensures missing { OnErr result (position (λ k. bytes_eq k name.now) keys.old.items ≡ None) }
 {
-    let hash = hash_of(name);
-    let guess = match index.search(keys.as_slice(), hash, name) {
-        Ok(position) => return Ok(Some(position)),
-        Err(guess) => guess,
-    };
     reserve_next(keys)?;
-    if Key::is_short(name) {
-        index.add_near(alloc, hash, keys.len(), guess)?;
-        Key::push_short(keys, name);
-        return Ok(None);
-    }
-    let key = Key::new(alloc, name)?;
-    index.add_near(alloc, hash, keys.len(), guess)?;
+    add_entry(alloc, keys.as_slice(), index, key.as_str(), spot)?;
     keys.push_reserved(key);
-    Ok(None)
+    Ok(())
 }
 
 /// A copy of each key. The error is a failed allocation.
@@ -265,10 +267,7 @@ impl Keys {
     pub fn position(&self, name: &str) -> Option<usize>
         ensures { result ≡ position (λ k. bytes_eq k name.now) self.now }
     {
-        if self.index.is_empty() {
-            return index::position(self.keys.as_slice(), name);
-        }
-        self.index.find(self.keys.as_slice(), hash_of(name), name)
+        search(self.keys.as_slice(), &self.index, name).ok()
     }
 
     /// The key at a position.
@@ -279,29 +278,18 @@ impl Keys {
         self.keys[index].as_str()
     }
 
-    /// Adds a key that is missing, last. The error is a failed allocation.
+    /// The position of a key. A missing key is put last, and the result is `None`: then `values`
+    /// have room for one more. The error is a failed allocation, and then nothing has changed.
     #[inline(always)]
-    pub fn push(&mut self, alloc: Global, name: &str) -> Result<(), AllocError>
-        requires { position (λ k. bytes_eq k name.now) self.old ≡ None }
-        ensures ok { OnOk result (self.new ≡ self.old ++ name.now ∷ []) }
-        ensures err { OnErr result (self.new ≡ self.old) }
-    {
-        reserve_next(&mut self.keys)?;
-        if Key::is_short(name) {
-            let keys = self.keys.as_slice();
-            add_key(alloc, keys, &mut self.index, name)?;
-            Key::push_short(&mut self.keys, name);
-            return Ok(());
-        }
-        let key = Key::new(alloc, name)?;
-        add_key(alloc, self.keys.as_slice(), &mut self.index, name)?;
-        self.keys.push_reserved(key);
-        Ok(())
-    }
-
-    /// The position of a key. A missing key is put last, and the result is `None`. The error is a
-    /// failed allocation, and then nothing has changed.
-    pub fn put(&mut self, alloc: Global, name: &str) -> Result<Option<usize>, AllocError>
+    pub fn put<V>(
+        &mut self,
+        alloc: Global,
+        values: &mut Vec<V>,
+        name: &str,
+    ) -> Result<Option<usize>, AllocError>
+        ensures items { values.new.items ≡ values.old.items }
+        ensures room { IfOk result (λ place. place ≡ None
+            → vec_len values.new < vec_capacity values.new) }
         ensures position { IfOk result (λ place. place
             ≡ position (λ k. bytes_eq k name.now) self.old) }
         ensures ok { IfOk result (λ place. MatchOption place
@@ -309,14 +297,39 @@ impl Keys {
         ensures err { OnErr result (self.new ≡ self.old) }
         ensures missing { OnErr result (position (λ k. bytes_eq k name.now) self.old ≡ None) }
     {
-        if !self.index.is_empty() {
-            return put_indexed(alloc, &mut self.keys, &mut self.index, name);
-        }
-        let found = index::position(self.keys.as_slice(), name);
-        if found.is_some() {
-            return Ok(found);
-        }
-        self.push(alloc, name)?;
+        let spot = match search(self.keys.as_slice(), &self.index, name) {
+            Ok(position) => return Ok(Some(position)),
+            Err(spot) => spot,
+        };
+        reserve_next(values)?;
+        let key = Key::new(alloc, name)?;
+        push_at(alloc, &mut self.keys, &mut self.index, spot, key)?;
+        Ok(None)
+    }
+
+    /// The same with a key that is moved in.
+    #[inline(always)]
+    pub fn put_owned<V>(
+        &mut self,
+        alloc: Global,
+        values: &mut Vec<V>,
+        key: Key,
+    ) -> Result<Option<usize>, AllocError>
+        ensures items { values.new.items ≡ values.old.items }
+        ensures room { IfOk result (λ place. place ≡ None
+            → vec_len values.new < vec_capacity values.new) }
+        ensures position { IfOk result (λ place. place ≡ position (λ k. bytes_eq k key) self.old) }
+        ensures ok { IfOk result (λ place. MatchOption place
+            (self.new ≡ self.old ++ key ∷ []) (λ _. self.new ≡ self.old)) }
+        ensures err { OnErr result (self.new ≡ self.old) }
+        ensures missing { OnErr result (position (λ k. bytes_eq k key) self.old ≡ None) }
+    {
+        let spot = match search(self.keys.as_slice(), &self.index, key.as_str()) {
+            Ok(position) => return Ok(Some(position)),
+            Err(spot) => spot,
+        };
+        reserve_next(values)?;
+        push_at(alloc, &mut self.keys, &mut self.index, spot, key)?;
         Ok(None)
     }
 

@@ -1,5 +1,5 @@
 //! Values under distinct keys, in a box (docs/RULES.md, "Objects").
-ghost use Rattle.std.specs.Prelude.{◌≡◌, ◌<◌, ◌-◌, ◌++◌, ◌∷◌, ◌==◌, [], length, remove, slice_get};
+ghost use Rattle.std.specs.Prelude.{◌≡◌, ◌<◌, ◌-◌, ◌∷◌, ◌==◌, [], length, remove, slice_get};
 ghost use Rattle.std.specs.Prelude.{IsSome, Some, None, OnOk, OnErr, IfOk, MatchOption};
 ghost use Rattle.std.specs.List.{position, zip, IsDistinct};
 ghost use Rattle.std.specs.Map.Calls.{CalledAtPair, CallableOnEachPair, RetainsPairs, TakesPair};
@@ -273,31 +273,17 @@ impl<V> Pairs<V> {
     /// Puts the first entry, in a box that is asked for before the room of keys and values. The
     /// error is a failed allocation.
     #[inline(never)]
-    fn push_first(&mut self, alloc: Global, name: &str, value: V) -> Result<(), AllocError>
+    fn insert_first(&mut self, alloc: Global, key: Key, value: V) -> Result<(), AllocError>
     where
         V: Drop,
         requires { self.old ≡ [] }
-        ensures ok { OnOk result (self.new ≡ (name.now, value) ∷ []) }
+        ensures ok { OnOk result (self.new ≡ (key, value) ∷ []) }
         ensures err { OnErr result (self.new ≡ self.old) }
     {
         let mut entries = Box::new(alloc, Entries::new(alloc))?;
-        entries.push(alloc, name, value)?;
+        entries.insert_owned(alloc, key, value)?;
         self.entries = Some(entries);
         Ok(())
-    }
-
-    /// Puts an entry last whose key is missing. The error is a failed allocation.
-    fn push(&mut self, alloc: Global, name: &str, value: V) -> Result<(), AllocError>
-    where
-        V: Drop,
-        requires { position (λ k. bytes_eq k name.now) (keys_of self.old) ≡ None }
-        ensures ok { OnOk result (self.new ≡ self.old ++ (name.now, value) ∷ []) }
-        ensures err { OnErr result (self.new ≡ self.old) }
-    {
-        if let Some(entries) = &mut self.entries {
-            return entries.push(alloc, name, value);
-        }
-        self.push_first(alloc, name, value)
     }
 
     /// Puts a value under a key: in its place where the key is there, which takes no memory, else
@@ -312,18 +298,25 @@ impl<V> Pairs<V> {
         if let Some(entries) = &mut self.entries {
             return entries.insert(alloc, name, value);
         }
-        self.push_first(alloc, name, value)
+        self.insert_first(alloc, Key::new(alloc, name)?, value)
     }
 
-    /// Puts a value under a key: in its place where the key is there, else last. The error is a
-    /// failed allocation.
-    pub fn insert_owned(&mut self, alloc: Global, key: Key, value: V) -> Result<(), AllocError>
+    /// The same with a key that is moved in.
+    pub(crate) fn insert_owned(
+        &mut self,
+        alloc: Global,
+        key: Key,
+        value: V,
+    ) -> Result<(), AllocError>
     where
         V: Drop,
         ensures ok { OnOk result (self.new ≡ put key value self.old) }
         ensures err { OnErr result (self.new ≡ self.old) }
     {
-        self.insert(alloc, key.as_str(), value)
+        if let Some(entries) = &mut self.entries {
+            return entries.insert_owned(alloc, key, value);
+        }
+        self.insert_first(alloc, key, value)
     }
 
     /// Frees unused room of keys and values. The error is a failed allocation.
@@ -340,7 +333,6 @@ impl<V> Pairs<V> {
 
     /// The position of a key. Where the key is missing it is put last with `value`, and the error
     /// is a failed allocation.
-    #[tactic(auto, using(crate::proofs::PairPlaces::places))]
     pub fn place(&mut self, alloc: Global, name: &str, value: V) -> Result<usize, AllocError>
     where
         V: Drop,
@@ -350,14 +342,11 @@ impl<V> Pairs<V> {
         ensures err { OnErr result (self.new ≡ self.old) }
         ensures present { OnErr result (find name.now self.old ≡ None) }
     {
-        match self.position(name) {
-            Some(index) => Ok(index),
-            None => {
-                let index = self.len();
-                self.push(alloc, name, value)?;
-                Ok(index)
-            }
+        if let Some(entries) = &mut self.entries {
+            return entries.place(alloc, name, value);
         }
+        self.insert_first(alloc, Key::new(alloc, name)?, value)?;
+        Ok(0)
     }
 
     /// The value of a key, to be written. Where the key is missing it is put last with `value`, and

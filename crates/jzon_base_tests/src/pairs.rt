@@ -504,18 +504,33 @@ fn expect_places(
     Ok(())
 }
 
-#[test]
-fn finds_many_keys_of_one_hash(rt: HostRuntime) -> Result<(), AllocError> {
-    let pairs = of_one_hash(rt.alloc(), 20_000)?;
+/// The keys have their numbers as values, and each hundredth is found.
+fn expect_numbered(rt: &impl Abort, alloc: Global, pairs: &Pairs<usize>) -> Result<(), AllocError> {
     assert_eq!(rt; pairs.len(), 20_000);
     for (place, number) in pairs.values().iter().enumerate() {
         assert_eq!(rt; *number, place);
     }
     for hundred in 0..200 {
         let number = 100 * hundred + 99;
-        expect_places(&rt, rt.alloc(), &pairs, &[(number, Some(number))])?;
+        expect_places(rt, alloc, pairs, &[(number, Some(number))])?;
     }
-    expect_places(&rt, rt.alloc(), &pairs, &[(20_000, None)])
+    expect_places(rt, alloc, pairs, &[(20_000, None)])
+}
+
+#[test]
+fn finds_many_keys_of_one_hash(rt: HostRuntime) -> Result<(), AllocError> {
+    let pairs = of_one_hash(rt.alloc(), 20_000)?;
+    expect_numbered(&rt, rt.alloc(), &pairs)
+}
+
+#[test]
+fn inserts_many_keys_of_one_hash(rt: HostRuntime) -> Result<(), AllocError> {
+    let mut pairs = Pairs::new(rt.alloc());
+    for number in 0..20_000 {
+        let name = name_of(rt.alloc(), number)?;
+        pairs.insert(rt.alloc(), name.as_str(), number)?;
+    }
+    expect_numbered(&rt, rt.alloc(), &pairs)
 }
 
 /// Removes this one of the keys, and returns its value.

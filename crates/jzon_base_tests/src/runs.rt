@@ -27,7 +27,7 @@ impl Model for Sevens {
 
     ghost view = { λ s. s.keys.items };
 
-    ghost invariant = { λ s. IsIndexOf (map (λ _. 7) s.keys.items) s.index
+    ghost invariant = { λ s. IsIndexOf (map (λ _. 7) s.keys.items) s.keys.items s.index
         × IsDistinct bytes_eq s.keys.items };
 }
 
@@ -50,7 +50,7 @@ impl Sevens {
     fn find(&self, name: &str) -> Option<usize>
         ensures { result ≡ position (λ k. bytes_eq k name.now) self.now }
     {
-        self.index.find(self.keys.as_slice(), 7, name)
+        self.index.search(self.keys.as_slice(), 7, name).ok()
     }
 
     fn add(&mut self, alloc: Global, name: &str) -> Result<(), AllocError>
@@ -59,7 +59,10 @@ impl Sevens {
     {
         let key = Key::new(alloc, name)?;
         self.keys.reserve(1)?;
-        self.index.add(alloc, 7, self.keys.len())?;
+        match self.index.search(self.keys.as_slice(), 7, name) {
+            Ok(_) => unreachable!(),
+            Err(spot) => self.index.add(alloc, self.keys.as_slice(), 7, spot)?,
+        }
         self.keys.push_reserved(key);
         Ok(())
     }

@@ -1,26 +1,61 @@
--- An index of keys by hashes that the caller passes, whatever they are.
-use Rattle.std.specs.Prelude.{◌≡◌, ◌==◌, ◌&&◌, ◌+◌, ◌<◌, ℕ, nat_lt, Bool, true, List, [], ◌∷◌, length, slice_index_or}
-use Rattle.std.specs.List.Sorted.{IsPermutation}
+-- An index of keys by hashes that the caller passes, whatever they are: runs of entries, each a hash and a position.
+use Rattle.std.specs.Prelude.{◌≡◌, ◌≢◌, ◌+◌, ◌-◌, ◌<◌, ◌≤◌, ℕ, true, List, [], ◌∷◌, ◌++◌, map, length, slice_index_or}
+use Rattle.std.specs.List.{flat_map, All, IsDistinct}
+use Rattle.std.specs.List.Sorted.{IsPartitionPoint, IsPermutation, IsSorted}
 use Rattle.std.specs.Str.{bytes_eq}
+use Rattle.std.specs.declared.cmp.Ordering.TheVariants.{Less, Greater}
+use Rattle.jzon_base.specs.Private.Hash.{hash_of}
+use Rattle.jzon_base.specs.Private.Keys.{beside, entry_cmp}
 
 -- each hash with its position, from n on
 unfoldable pub numbered : ℕ → List ℕ → List (ℕ × ℕ)
 numbered n [] = []
 numbered n (h ∷ hs) = (h, n) ∷ numbered (n + 1) hs
 
--- the entries are the hashes with their positions, in any order
-pub record IsIndexOf (hs : List ℕ) (ps : List (ℕ × ℕ)) : Type 0 where
-  pub whole : IsPermutation (numbered 0 hs) ps
+-- all entries, run after run
+abbrev pub entries_of : List (List (ℕ × ℕ)) → List (ℕ × ℕ)
+entries_of rs = flat_map (λ r. r) rs
 
--- each key has a hash, and a key equal to `name` has the hash h
-pub record AreHanded (hs : List ℕ) (ks : List (List ℕ)) (h : ℕ) (name : List ℕ) : Type 0 where
+-- each run is in the order of hashes and, for one hash, of keys
+abbrev pub AreSorted : List (List ℕ) → List (List (ℕ × ℕ)) → Type 0
+AreSorted ks rs = All (IsSorted (entry_cmp ks)) rs
+
+-- the entries are the hashes with their positions, in runs that are sorted
+pub record IsIndexOf (hs : List ℕ) (ks : List (List ℕ)) (rs : List (List (ℕ × ℕ))) : Type 0 where
   pub even : length hs ≡ length ks
+  pub whole : IsPermutation (numbered 0 hs) (entries_of rs)
+  pub sorted : AreSorted ks rs
+
+-- a key equal to `name` has the hash h
+pub record AreHanded (hs : List ℕ) (ks : List (List ℕ)) (h : ℕ) (name : List ℕ) : Type 0 where
   pub own : (i : ℕ) → i < length ks → bytes_eq (slice_index_or ks i []) name ≡ true → slice_index_or hs i 0 ≡ h
 
--- whether the key at this position has this name
-abbrev pub is_at : List (List ℕ) → List ℕ → ℕ → Bool
-is_at ks name i = nat_lt i (length ks) && bytes_eq (slice_index_or ks i []) name
+-- a run has no entry of this hash and name, and one belongs at this position
+pub record IsPlace (ks : List (List ℕ)) (h : ℕ) (name : List ℕ) (r : List (ℕ × ℕ)) (at : ℕ) : Type 0 where
+  pub within : at ≤ length r
+  pub point : IsPartitionPoint (λ p. beside ks h name p ≡ Less) (λ p. beside ks h name p ≡ Greater) r at
 
--- whether an entry has this hash and its key has this name
-abbrev pub is_found : List (List ℕ) → ℕ → List ℕ → ℕ × ℕ → Bool
-is_found ks h name p = (p.0 == h) && is_at ks name p.1
+-- the same of the last run
+abbrev pub IsSpot : List (List ℕ) → ℕ → List ℕ → List (List (ℕ × ℕ)) → ℕ → Type 0
+IsSpot ks h name rs at = 0 < length rs → IsPlace ks h name (slice_index_or rs (length rs - 1) []) at
+
+-- the runs ss are those of rs, of which the last may be joined, and then a run of one entry
+pub record IsBegun (ks : List (List ℕ)) (rs ss : List (List (ℕ × ℕ))) (p : ℕ × ℕ) : Type 0 where
+  pub before : List (List (ℕ × ℕ))
+  pub split : ss ≡ before ++ (p ∷ []) ∷ []
+  pub whole : IsPermutation (entries_of rs) (entries_of before)
+  pub sorted : AreSorted ks rs → AreSorted ks before
+
+-- if there are index entries, they are those of all keys
+pub record IsIndexed (ks : List (List ℕ)) (rs : List (List (ℕ × ℕ))) : Type 0 where
+  pub index : length (entries_of rs) ≢ 0 → IsIndexOf (map hash_of ks) ks rs
+
+-- distinct keys, and their index if there is one
+pub record IsTable (ks : List (List ℕ)) (rs : List (List (ℕ × ℕ))) : Type 0 where
+  pub indexed : IsIndexed ks rs
+  pub distinct : IsDistinct bytes_eq ks
+
+-- if there are index entries, the entry of a name has this hash, and belongs there in the last run
+pub record IsSpotFor (ks : List (List ℕ)) (rs : List (List (ℕ × ℕ))) (name : List ℕ) (h at : ℕ) : Type 0 where
+  pub own : length (entries_of rs) ≢ 0 → h ≡ hash_of name
+  pub spot : length (entries_of rs) ≢ 0 → IsSpot ks h name rs at

@@ -2,7 +2,7 @@
 ghost use Rattle.std.specs.Prelude.{◌≡◌, ◌≢◌, ◌≤◌, length};
 ghost use Rattle.std.specs.List.{zip};
 ghost use Rattle.std.specs.Map.Calls.{CalledAtPair, CallableOnEachPair, RetainsPairs, TakesPair};
-ghost use Rattle.jzon_base.specs.Private.Keys.{IsIndexed};
+ghost use Rattle.jzon_base.specs.Private.Handed.{entries_of, IsIndexed};
 
 use super::Keys;
 use crate::key::Key;
@@ -44,7 +44,8 @@ fn retain_entries<V: Drop, F: FnMut(&str, &mut V) -> bool>(
 
 /// Makes the index that of the keys that are left, in the room that it has. Takes no memory.
 fn reindex(keys: &[Key], index: &mut Runs)
-    requires { length index.old ≢ 0 → length keys.now ≤ length index.old }
+    requires { length (entries_of index.old) ≢ 0
+        → length keys.now ≤ length (entries_of index.old) }
     ensures { IsIndexed keys.now index.new }
 {
     if index.is_empty() {

@@ -1,11 +1,12 @@
 //! The keys and the values of `Pairs`, which are in its box.
-ghost use Rattle.std.specs.Prelude.{◌≡◌, ◌<◌, ◌++◌, ◌∷◌, [], length, remove, slice_get};
-ghost use Rattle.std.specs.Prelude.{Some, None, OnOk, OnErr, IfOk, vec_len, vec_capacity};
+ghost use Rattle.std.specs.Prelude.{◌≡◌, ◌<◌, [], length, remove, slice_get};
+ghost use Rattle.std.specs.Prelude.{Some, None, OnOk, OnErr, IfOk};
 ghost use Rattle.std.specs.List.{position, zip, IsDistinct};
 ghost use Rattle.std.specs.Map.Calls.{CalledAtPair, CallableOnEachPair, RetainsPairs, TakesPair};
 ghost use Rattle.std.specs.Str.{bytes_eq};
 
-use crate::fit::{fit, reserve_next};
+use crate::fit::fit;
+use crate::key::Key;
 use crate::keys::Keys;
 use std::alloc::{AllocError, Global};
 use std::marker::Model;
@@ -31,24 +32,11 @@ impl<V> Model for Entries<V> {
     ghost invariant = { λ p. length p.values.items ≡ length p.keys };
 }
 
-/// Makes room for the value of this name, if no key has it. The error is a failed allocation.
-#[inline(always)]
-fn reserve_missing<V>(keys: &Keys, values: &mut Vec<V>, name: &str) -> Result<(), AllocError>
-    ensures items { values.new.items ≡ values.old.items }
-    ensures room { OnOk result (position (λ k. bytes_eq k name.now) keys.now ≡ None
-        → vec_len values.new < vec_capacity values.new) }
-    ensures missing { OnErr result (position (λ k. bytes_eq k name.now) keys.now ≡ None) }
-{
-    if values.len() < values.capacity() || keys.position(name).is_some() {
-        return Ok(());
-    }
-    reserve_next(values)
-}
-
 impl<V> Entries<V> {
     ghost use Rattle.std.specs.Borrow.{sem, Lends};
     ghost use Rattle.jzon_base.specs.contracts.pairs.entries.Entries.{the_row};
     ghost use Rattle.jzon_base.specs.PairList.{find, put, set_value, keys_of, values_of};
+    ghost use Rattle.jzon_base.specs.PairList.{with_default};
 
     /// No entry. Takes no memory.
     pub fn new(alloc: Global) -> Entries<V>
@@ -123,20 +111,6 @@ impl<V> Entries<V> {
         &mut self.values[index]
     }
 
-    /// Puts an entry last whose key is missing. The error is a failed allocation.
-    pub fn push(&mut self, alloc: Global, name: &str, value: V) -> Result<(), AllocError>
-    where
-        V: Drop,
-        requires { position (λ k. bytes_eq k name.now) (keys_of self.old) ≡ None }
-        ensures ok { OnOk result (self.new ≡ self.old ++ (name.now, value) ∷ []) }
-        ensures err { OnErr result (self.new ≡ self.old) }
-    {
-        reserve_next(&mut self.values)?;
-        self.keys.push(alloc, name)?;
-        self.values.push_reserved(value);
-        Ok(())
-    }
-
     /// Puts a value under a key: in its place where the key is there, which takes no memory, else
     /// last. The error is a failed allocation.
     #[tactic(auto, using(crate::proofs::PairPlaces::places))]
@@ -147,12 +121,48 @@ impl<V> Entries<V> {
         ensures err { OnErr result (self.new ≡ self.old) }
         ensures present { OnErr result (find name.now self.old ≡ None) }
     {
-        reserve_missing(&self.keys, &mut self.values, name)?;
-        match self.keys.put(alloc, name)? {
+        match self.keys.put(alloc, &mut self.values, name)? {
             Some(index) => self.values[index] = value,
             None => self.values.push_reserved(value),
         }
         Ok(())
+    }
+
+    /// The same with a key that is moved in.
+    #[tactic(auto, using(crate::proofs::PairPlaces::places))]
+    pub fn insert_owned(&mut self, alloc: Global, key: Key, value: V) -> Result<(), AllocError>
+    where
+        V: Drop,
+        ensures ok { OnOk result (self.new ≡ put key value self.old) }
+        ensures err { OnErr result (self.new ≡ self.old) }
+    {
+        match self.keys.put_owned(alloc, &mut self.values, key)? {
+            Some(index) => self.values[index] = value,
+            None => self.values.push_reserved(value),
+        }
+        Ok(())
+    }
+
+    /// The position of a key. Where the key is missing it is put last with `value`, and the error
+    /// is a failed allocation.
+    #[tactic(auto, using(crate::proofs::PairPlaces::places))]
+    pub fn place(&mut self, alloc: Global, name: &str, value: V) -> Result<usize, AllocError>
+    where
+        V: Drop,
+        ensures position { IfOk result (λ i. position (λ k. bytes_eq k name.now) (keys_of self.new)
+            ≡ Some i) }
+        ensures ok { OnOk result (self.new ≡ with_default name.now value self.old) }
+        ensures err { OnErr result (self.new ≡ self.old) }
+        ensures present { OnErr result (find name.now self.old ≡ None) }
+    {
+        match self.keys.put(alloc, &mut self.values, name)? {
+            Some(index) => Ok(index),
+            None => {
+                let index = self.values.len();
+                self.values.push_reserved(value);
+                Ok(index)
+            }
+        }
     }
 
     /// Frees unused room of keys and values. The error is a failed allocation.

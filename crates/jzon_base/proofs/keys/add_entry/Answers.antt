@@ -1,29 +1,15 @@
-use Rattle.std.proofs.Common.{◌∙◌, length, sym, refl}
-use Rattle.std.proofs.lemmas.Result.{on_ok_weaker, on_err_weaker}
-use Rattle.std.proofs.lemmas.List.{nil_from_length}
-use Rattle.std.proofs.lemmas.Bool.{eqb-false, eqb-true}
-use Rattle.jzon_base.specs.Private.Handed.{IsIndexOf}
+use Rattle.std.proofs.Common.{◌∙◌, map, sym}
+use Rattle.std.proofs.lemmas.Bool.{eqb-false}
+use Rattle.std.proofs.lemmas.Result.{on_ok_weaker}
 use Rattle.jzon_base.specs.Private.Hash.{hash_of}
-use Rattle.std.proofs.Common.{map}
-use Rattle.jzon_base.proofs.Tables.{IsIndexed-key, IsIndexed-same, IsIndexOf-some}
+use Rattle.jzon_base.proofs.Tables.{IsIndexOf-key}
 use Rattle.jzon_base.proofs.keys.add_entry.Goals as goal
-use Rattle.jzon_base.proofs.keys.add_entry.Goals.{then-is_empty+in_ok-fill, else-is_empty}
 
-pub fill-requires : goal.fill-requires
-fill-requires c = nil_from_length c.args.index.now (eqb-true _ _ (sym c.is_empty.ensures ∙ c.if-is_empty.true))
-
-pub returns : goal.returns
-returns c =
+pub returns-clause-ok : goal.returns-clause-ok
+returns-clause-ok c =
     let ks = c.args.keys.now in
-    let index : IsIndexOf (map hash_of ks) c.if-is_empty.index = elim c.if-is_empty.branch [
-      | then-is_empty+in_ok-fill w ↦ rw w.index-is w.in_ok-fill.ensures.ok
-      | else-is_empty w ↦ rw w.index-is (IsIndexOf-some ks c.args.index.now (eqb-false _ _
-          (sym c.is_empty.ensures ∙ w.if-is_empty.false)) c.requires)
-    ] in
-    record {
-      ok = on_ok_weaker c.add.result (λ added. IsIndexed-key ks c.args.name.now c.hash_of.result (length ks)
-          c.if-is_empty.index c.add.new.self index c.hash_of.ensures refl added)
-          c.add.ensures.ok;
-      err = on_err_weaker c.add.result (λ moved. IsIndexed-same ks c.if-is_empty.index c.add.new.self
-          (record { index = λ _. index }) moved) c.add.ensures.err;
-    }
+    let name = c.args.name.now in
+    let some = eqb-false _ _ (sym c.is_empty.ensures ∙ c.if-is_empty.false) in
+    on_ok_weaker c.add.result (λ index. record {
+      index = λ _. IsIndexOf-key hash_of ks name c.args.spot.hash c.add.new.self (c.requires.spot.own some) index;
+    }) (c.add.ensures.ok (map hash_of ks) name (c.requires.table.indexed.index some) (c.requires.spot.spot some))

@@ -1,14 +1,14 @@
 //! The index of fewer keys, in the room of the index of more.
 ghost use Rattle.std.specs.Prelude.{◌≡◌, ◌≤◌, ◌+◌, ◌-◌, drop, length, map, min, take};
-ghost use Rattle.std.specs.List.{flat_map};
-ghost use Rattle.std.specs.List.Sorted.{IsPermutation};
-ghost use Rattle.jzon_base.specs.Private.Handed.{IsIndexOf};
+ghost use Rattle.std.specs.List.Sorted.{IsPermutation, IsSorted};
+ghost use Rattle.jzon_base.specs.Private.Handed.{entries_of, IsIndexOf};
 ghost use Rattle.jzon_base.specs.Private.Hash.{hash_of};
-ghost use Rattle.jzon_base.specs.Private.Keys.{hashed_from};
+ghost use Rattle.jzon_base.specs.Private.Keys.{entry_cmp, hashed_from};
 
 use super::{Run, Runs};
 use crate::key::Key;
 use crate::keys::hash::hash_of;
+use crate::keys::repeats;
 
 /// Replaces entries by those of as many keys from a position on.
 fn put_hashed(entries: &mut [(u64, usize)], keys: &[Key], from: usize)
@@ -29,10 +29,12 @@ impl Run {
         ensures end { result ≡ min (from + length self.old) (length keys.now) }
         ensures entries { IsPermutation (hashed_from from
             (take (result - from) (drop from keys.now))) self.new }
+        ensures sorted { IsSorted (entry_cmp keys.now) self.new }
     {
         self.entries.truncate(keys.len() - from);
-        put_hashed(self.entries.as_mut_slice(), keys, from);
-        self.entries.sort_unstable();
+        let entries = self.entries.as_mut_slice();
+        put_hashed(entries, keys, from);
+        repeats::sort(keys, entries);
         from + self.entries.len()
     }
 }
@@ -40,8 +42,8 @@ impl Run {
 impl Runs {
     /// Replaces the entries by those of at most as many keys. Takes no memory.
     pub fn refill(&mut self, keys: &[Key])
-        requires { length keys.now ≤ length self.old }
-        ensures { IsIndexOf (map hash_of keys.now) self.new }
+        requires { length keys.now ≤ length (entries_of self.old) }
+        ensures { IsIndexOf (map hash_of keys.now) keys.now self.new }
     {
         let mut from = 0;
         for at in 0..self.runs.len() {

@@ -1,6 +1,6 @@
 use Rattle.std.proofs.Common.{◌≡◌, ◌≤◌, length, sym, subst, ap, arith}
 use Rattle.std.specs.Map.Calls.{CalledAtPair}
-use Rattle.jzon_base.specs.Private.Keys.{IsTable}
+use Rattle.jzon_base.specs.Private.Handed.{IsTable}
 use Rattle.jzon_base.proofs.Refilled.{room_for_fewer}
 use Rattle.jzon_base.proofs.Retained.{IsDistinct-retained, fewer_retained, same_retained}
 use Rattle.jzon_base.proofs.keys.Keys.retain.Goals as goal

@@ -1,12 +1,16 @@
 use Rattle.std.proofs.Common.{◌∙◌, length, refl, ap, arith}
 use Rattle.std.proofs.lemmas.List.{length-set}
+use Rattle.jzon_base.specs.Private.Handed.{entries_of}
 use Rattle.jzon_base.proofs.Refilled.{AreRefilled-none, AreRefilled-more, AreRefilled-all}
 use Rattle.jzon_base.proofs.keys.runs.Runs.refill.Goals as goal
 
 pub loop-at-init : goal.loop-at-init
 loop-at-init c = record {
   count = refl;
-  refilled = AreRefilled-none c.args.keys.now c.self.inside.runs.items (omega (arith, ap length c.self.view_is));
+  refilled = AreRefilled-none c.args.keys.now c.self.inside.runs.items (omega (
+    arith,
+    ap (λ rs. length (entries_of rs)) c.self.view_is,
+  ));
 }
 
 pub refill-from-requires : goal.refill-from-requires
@@ -20,7 +24,7 @@ loop-at-preserved c =
       refilled = AreRefilled-more c.args.keys.now rs c.loop-at.from c.refill-from.result c.loop-at.at
           c.index_mut.result.now c.refill-from.new.self (omega (arith, c.loop-at.invariant.count))
           c.index_mut.ensures.value c.loop-at.invariant.refilled c.refill-from.ensures.end
-          c.refill-from.ensures.entries;
+          c.refill-from.ensures.entries c.refill-from.ensures.sorted;
     }
 
 pub returns : goal.returns

@@ -6,14 +6,6 @@ use Rattle.jzon_base.proofs.PairPlaces.{find_missing, zip-put_placed, zip-put_mi
 use Rattle.jzon_base.proofs.Zips.{AreParts-zip}
 use Rattle.jzon_base.proofs.pairs.entries.Entries.insert.Goals as goal
 
-pub returns-in_err-reserve_missing-clause-present : goal.returns-in_err-reserve_missing-clause-present
-returns-in_err-reserve_missing-clause-present g c =
-    let parts = AreParts-zip c.self.inside.keys c.self.inside.values.items c.args.self.now c.self.view_is
-    c.self.invariant in
-    let missing : find c.args.name.now c.args.self.now ≡ None = find_missing c.args.name.now c.args.self.now
-    (ap (position (λ k. bytes_eq k c.args.name.now)) (sym parts.keys) ∙ c.in_err-reserve_missing.ensures.missing) in
-    search (rules, missing)
-
 pub returns-in_err-index-clause-present : goal.returns-in_err-index-clause-present
 returns-in_err-index-clause-present g c =
     let parts = AreParts-zip c.self.inside.keys c.self.inside.values.items c.args.self.now c.self.view_is
@@ -26,7 +18,7 @@ pub returns-in-Some-clause-ok : goal.returns-in-Some-clause-ok
 returns-in-Some-clause-ok g c =
     let inside = c.self.inside in
     let kept : c.put.new.self ≡ inside.keys = rw c.in-Some.is at c.in_ok-index.ensures.ok in
-    (λ i. zip (kept i) (set (c.reserve_missing.ensures.items i) c.in-Some.index c.args.value))
+    (λ i. zip (kept i) (set (c.put.ensures.items i) c.in-Some.index c.args.value))
     ∙ zip-put_placed c.args.name.now c.args.value inside.keys inside.values.items c.args.self.now c.self.view_is
     c.self.invariant c.in-Some.index (sym c.in-Some.is ∙ c.in_ok-index.ensures.position)
 
@@ -35,6 +27,6 @@ returns-in-None-clause-ok g c =
     let inside = c.self.inside in
     let added : c.put.new.self ≡ inside.keys ++ c.args.name.now ∷ [] = rw c.in-None.is at c.in_ok-index.ensures.ok in
     (λ i. zip (added i) ((c.push_reserved.ensures.items
-    ∙ ap (λ vs. vs ++ c.args.value ∷ []) c.reserve_missing.ensures.items) i))
+    ∙ ap (λ vs. vs ++ c.args.value ∷ []) c.put.ensures.items) i))
     ∙ zip-put_missing c.args.name.now c.args.value inside.keys inside.values.items c.args.self.now c.self.view_is
     c.self.invariant (sym c.in-None.is ∙ c.in_ok-index.ensures.position)
