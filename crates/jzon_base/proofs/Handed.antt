@@ -1,7 +1,7 @@
 -- An index of keys by hashes that the caller passes: an entry is found, added and removed.
 use Rattle.std.proofs.Common.{◌≡◌, ◌≢◌, ℕ, zero, suc, ◌+◌, ◌-◌, ◌<◌, ◌≤◌, Bool, true, false, ◌||◌, eqb}
 use Rattle.std.proofs.Common.{List, Result, Ok, Err, IfOk, IfErr}
-use Rattle.std.proofs.Common.{[], ◌∷◌, ◌++◌, length, get_or, map, filter, set, take, drop, take_all, refl}
+use Rattle.std.proofs.Common.{[], ◌∷◌, ◌++◌, length, get_or, map, filter, set, take, drop, refl}
 use Rattle.std.proofs.Common.{sym, ap, ◌∙◌}
 use Rattle.std.proofs.Common.{subst, inl, inr, arith, add-zero, zero-add}
 use Rattle.std.proofs.lemmas.List.{get_or_default, get_or_append_left, get_or_push, get_or-map, length_push, take-append-drop}
@@ -101,9 +101,6 @@ module _ (ks : List (List ℕ)) (h : ℕ) (name : List ℕ) where
     pub none : list_any is_it (entries_of (take i rs)) ≡ false
     pub spot : 0 < i → IsPlace ks h name (get_or rs (i - 1) []) at
 
-  pub searched_none : (rs : List (List (ℕ × ℕ))) → IsSearched rs 0 0
-  searched_none rs = record { none = refl; spot = λ l. absurd (omega arith) }
-
   pub searched_more : (rs : List (List (ℕ × ℕ))) (i at b : ℕ) (r : List (ℕ × ℕ)) → i < length rs → r ≡ get_or rs i r
       → IsSearched rs i at → IsPlace ks h name r b → IsSearched rs (i + 1) b
   searched_more rs i at b r l is before place = record {
@@ -114,13 +111,6 @@ module _ (ks : List (List ℕ)) (h : ℕ) (name : List ℕ) where
         subst (λ n. IsPlace ks h name (get_or rs n []) b) (sym e)
         (subst (λ u. IsPlace ks h name u b) (is ∙ get_or_default rs i r [] l) place);
   }
-
-  pub searched_all : (rs : List (List (ℕ × ℕ))) (i at : ℕ) → i ≡ length rs → IsSearched rs i at
-      → (list_any is_it (entries_of rs) ≡ false) × IsSpot ks h name rs at
-  searched_all rs i at e done = (
-    ap (λ us. list_any is_it (entries_of us)) (sym (take_all i rs (omega arith))) ∙ done.none,
-    λ l. subst (λ n. IsPlace ks h name (get_or rs (n - 1) []) at) e (done.spot (omega arith)),
-  )
 
 -- the entry of a run is among those of all runs
 pub in_runs : (rs : List (List (ℕ × ℕ))) (i : ℕ) (r : List (ℕ × ℕ)) (p : ℕ × ℕ) → i < length rs → r ≡ get_or rs i r

@@ -10,7 +10,6 @@ use Rattle.std.specs.List.{position, remove, IsDistinct}
 use Rattle.std.specs.List.Sorted.{IsPermutation, IsSorted}
 use Rattle.std.specs.Str.{bytes_eq}
 use Rattle.jzon_base.specs.Private.Handed.{numbered, entries_of, AreHanded, IsIndexOf, IsIndexed, IsTable}
-use Rattle.jzon_base.specs.Private.Handed.{IsSpotFor}
 use Rattle.jzon_base.specs.Private.Hash.{hash_of}
 use Rattle.jzon_base.specs.Private.Keys.{entry_cmp, hashed_from, lowered}
 use Rattle.jzon_base.proofs.FlatRuns.{flat_cut}
@@ -80,13 +79,6 @@ IsIndexed-empty ks rs none = record { index = λ some. absurd (some none) }
 pub IsTable-none : (rs : List (List (ℕ × ℕ))) → length (entries_of rs) ≡ 0 → IsTable [] rs
 unfolding IsDistinct
 IsTable-none rs none = record { indexed = IsIndexed-empty [] rs none; distinct = tt }
-
-pub IsSpotFor-none : (ks : List (List ℕ)) (rs : List (List (ℕ × ℕ))) (name : List ℕ) (h at : ℕ)
-    → length (entries_of rs) ≡ 0 → IsSpotFor ks rs name h at
-IsSpotFor-none ks rs name h at none = record {
-  own = λ some. absurd (some none);
-  spot = λ some. absurd (some none);
-}
 
 pub IsTable-push : (ks : List (List ℕ)) (k : List ℕ) (rs : List (List (ℕ × ℕ))) → IsDistinct bytes_eq ks
     → position (λ x. bytes_eq x k) ks ≡ None → IsIndexed (ks ++ k ∷ []) rs → IsTable (ks ++ k ∷ []) rs

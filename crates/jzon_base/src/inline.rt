@@ -1,5 +1,5 @@
 //! Text stored inline, in its owner.
-ghost use Rattle.std.specs.Prelude.{◌≡◌, ◌<◌, ◌≤◌, [], length, take, IsUtf8};
+ghost use Rattle.std.specs.Prelude.{◌≡◌, ◌<◌, ◌≤◌, length, take, IsUtf8};
 
 use std::marker::Model;
 use std::str;
@@ -25,28 +25,6 @@ impl<const MAX: usize> Model for Inline<MAX> {
 }
 
 impl<const MAX: usize> Inline<MAX> {
-    /// The empty text.
-    #[inline(always)]
-    pub fn empty() -> Inline<MAX>
-        ensures { result ≡ [] }
-    {
-        Inline {
-            bytes: [0; MAX],
-            len: 0,
-        }
-    }
-
-    /// Becomes this text, which must have at most `MAX` bytes.
-    #[inline(always)]
-    pub fn fill(&mut self, text: &str)
-        requires short { length text.now ≤ MAX }
-        requires max { MAX < 256 }
-        ensures { self.new ≡ text.now }
-    {
-        self.bytes[..text.len()].copy_from_slice(text.as_bytes());
-        self.len = text.len() as u8;
-    }
-
     /// The text, which must have at most `MAX` bytes.
     #[inline]
     pub fn new(text: &str) -> Inline<MAX>

@@ -42,7 +42,7 @@ impl Model for Key {
 impl Key {
     /// Whether a text is stored inline.
     #[inline(always)]
-    pub(crate) fn is_short(text: &str) -> bool
+    fn is_short(text: &str) -> bool
         ensures { IsTrue result ↔ length text.now ≤ 32 }
     {
         text.len() <= INLINE_MAX
@@ -50,40 +50,13 @@ impl Key {
 
     /// The key with this text, which is stored inline.
     #[inline(always)]
-    pub(crate) fn short(text: &str) -> Key
+    fn short(text: &str) -> Key
         requires { length text.now ≤ 32 }
         ensures { result ≡ text.now }
     {
         Key {
             text: Text::Inline(Inline::new(text)),
         }
-    }
-
-    /// Becomes the key with this text, which is stored inline.
-    #[inline(always)]
-    fn fill(&mut self, text: &str)
-        requires { length text.now ≤ 32 }
-        ensures { self.new ≡ text.now }
-    {
-        match &mut self.text {
-            Text::Inline(inline) => inline.fill(text),
-            Text::Owned(_) => *self = Key::short(text),
-        }
-    }
-
-    /// Appends the key with this text, which is stored inline, to keys that have room. It is made
-    /// in place: a move would wait until the bytes just stored can be read.
-    #[inline(always)]
-    pub(crate) fn push_short(keys: &mut Vec<Key>, text: &str)
-        requires short { length text.now ≤ 32 }
-        requires reserved { vec_len keys.old < vec_capacity keys.old }
-        ensures { keys.new.items ≡ keys.old.items ++ text.now ∷ [] }
-    {
-        let at = keys.len();
-        keys.push_reserved(Key {
-            text: Text::Inline(Inline::empty()),
-        });
-        keys[at].fill(text);
     }
 
     /// The key with this text. Text of up to 32 bytes allocates nothing; for longer text the error
