@@ -1,7 +1,7 @@
 //! The text of a number (docs/RULES.md, "Printed numbers"; RFC 8259, section 6).
 
 ghost use Rattle.std.specs.Prelude.{◌≡◌, negsuc, ◌+◌, ◌-◌, ◌≤◌, ◌<◌, ◌++◌, length, take, drop, replicate, decimal};
-ghost use Rattle.std.specs.Prelude.{IsAscii, IsTrue, false, IfSome, OnOk, OnErr, vec_len, vec_capacity};
+ghost use Rattle.std.specs.Prelude.{IsAscii, IsTrue, false, OnOk, OnErr, vec_len, vec_capacity};
 ghost use Rattle.std.specs.Io.KnownBytes.{Appends};
 ghost use Rattle.arrayvec.specs.ArrayString.{array_string_len};
 ghost use Rattle.jzon_tokens.specs.NumberText.{sign_text, point_after, point_after_first, fraction_text};
@@ -107,21 +107,7 @@ fn push_minuses(bytes: &mut Vec<u8>, count: usize)
 
 /// Puts the text of the number `n * 10 ^ exponent` with its sign at the end of the buffer, and
 /// returns the offset at which it begins.
-#[inline(always)]
 pub fn put(room: &mut [u8; MAX_LEN], positive: bool, n: u64, exponent: i16) -> usize
-    ensures start { result ≤ MAX_LEN }
-    ensures text { drop result room.new ≡ number_text positive n exponent }
-{
-    match put_whole(room, positive, n, exponent) {
-        Some(start) => start,
-        None => put_any(room, positive, n, exponent),
-    }
-}
-
-/// The same, without the fast path.
-#[cold]
-#[inline(never)]
-fn put_any(room: &mut [u8; MAX_LEN], positive: bool, n: u64, exponent: i16) -> usize
     ensures start { result ≤ MAX_LEN }
     ensures text { drop result room.new ≡ number_text positive n exponent }
 {
@@ -129,33 +115,6 @@ fn put_any(room: &mut [u8; MAX_LEN], positive: bool, n: u64, exponent: i16) -> u
     let start = MAX_LEN - text.len();
     room[start..].copy_from_slice(text.as_str().as_bytes());
     start
-}
-
-/// As `put` for the common case, in which the text is the mantissa's digits, with at most a minus
-/// before them and a point before the last 1 to 17; `None` in other cases and for 0.
-fn put_whole(
-    room: &mut [u8; MAX_LEN],
-    positive: bool,
-    mantissa: u64,
-    exponent: i16,
-) -> Option<usize>
-    ensures { IfSome result
-        (λ start. (start ≤ MAX_LEN) × (drop start room.new
-        ≡ number_text positive mantissa exponent)) }
-{
-    if mantissa == 0 || exponent > 0 || exponent < -17 {
-        return None;
-    }
-    let start = write_digits(mantissa, room, MAX_LEN);
-    if exponent == 0 {
-        return Some(put_sign(room, start, positive));
-    }
-    let places = exponent.unsigned_abs() as usize;
-    if MAX_LEN - start <= places {
-        return None;
-    }
-    put_point(room, start, MAX_LEN - places);
-    Some(put_sign(room, start - 1, positive))
 }
 
 /// Moves the bytes from `start` up to `point` one byte to the left, and puts a point after them.
@@ -169,20 +128,6 @@ fn put_point(room: &mut [u8], start: usize, point: usize)
 {
     room.copy_within(start..point, start - 1);
     room[point - 1] = b'.';
-}
-
-/// Puts the sign before the bytes from `start` on, and returns the offset at which the text begins.
-fn put_sign(room: &mut [u8; MAX_LEN], start: usize, positive: bool) -> usize
-    requires some { 0 < start }
-    requires within { start ≤ MAX_LEN }
-    ensures start { result ≤ MAX_LEN }
-    ensures text { drop result room.new ≡ sign_text positive ++ drop start room.old }
-{
-    if positive {
-        return start;
-    }
-    room[start - 1] = b'-';
-    start - 1
 }
 
 /// The whole text of a number.

@@ -1,7 +1,7 @@
 use Rattle.std.proofs.Common.{◌∙◌, ◌-◌, w16, arith}
 use Rattle.std.proofs.lemmas.Int.{to_z-of_z}
 use Rattle.jzon_tokens.proofs.Laid.{put_last}
-use Rattle.jzon_tokens.proofs.util.print_dec.put_any.Goals as goal
+use Rattle.jzon_tokens.proofs.util.print_dec.put.Goals as goal
 
 pub returns-clause-text : goal.returns-clause-text
 returns-clause-text c =
