@@ -32,3 +32,4 @@ pub mod KeptByChanges
 pub mod KeptByConversions
 pub mod InPlace
 pub mod PlainWritings
+pub mod Places

@@ -1,10 +1,10 @@
--- The text of a value is UTF-8: its strings are, and all its other bytes are below 128.
+-- A text of a value, in whatever style, is UTF-8: its strings are, and all its other bytes are below 128.
 use Rattle.std.proofs.Common.{◌≡◌, ◌∙◌, ℕ, zero, suc, ℤ, pos, negsuc, ◌+◌, ◌-◌, ◌^◌, ◌<◌, ◌≤◌, List, [], ◌∷◌, ◌++◌}
 use Rattle.std.proofs.Common.{length, take, drop, replicate, get_or, Bool, true, false, ◌&&◌, ◌==◌, nat_le, nat_lt}
 use Rattle.std.proofs.Common.{if◌then◌else◌, decimal, FitsSigned, codes, refl, sym, ap, subst, append-nil, inl, inr}
 use Rattle.std.proofs.Common.{arith, rules}
 use Rattle.std.specs.Int.{w16}
-use Rattle.std.specs.Prelude.{IsUtf8, encode_utf8, encode_utf8_all}
+use Rattle.std.specs.Prelude.{⊤, IsUtf8, IsTrue, map, encode_utf8, encode_utf8_all}
 use Rattle.std.specs.Str.{IsAscii}
 use Rattle.std.proofs.Math.Utf8.{scalar, scalars}
 use Rattle.std.proofs.lemmas.Bool.{cases_lt, and_parts, ltb-true}
@@ -18,9 +18,11 @@ use Rattle.jzon_tokens.specs.Decimal.{Decimal, nan, parts}
 use Rattle.jzon_tokens.specs.NumberText.{sign_text, point_after, point_after_first, fraction_text, small_exponent_text}
 use Rattle.jzon_tokens.specs.NumberText.{magnitude_text, written_text}
 use Rattle.jzon_tree.specs.Lawful.{InRange, IsText, IsValue, AreValues, ArePairs}
-use Rattle.jzon_tree.specs.Text.{escaped_byte, escaped, quoted, Layout, layout_text, more_values_text, more_pairs_text}
+use Rattle.jzon_tree.specs.Text.{escaped_byte, escaped, quoted}
 use Rattle.jzon_tree.specs.Value.{Value, null, boolean, text, number, array, object, Values, no_values, value, Pairs}
 use Rattle.jzon_tree.specs.Value.{no_pairs, pair, Kind, short, long}
+use Rattle.jzon_tree.specs.Writing.{Style, is_whitespace, is_all_whitespace, text_at, Joins, Encloses, Writes, WritesEach}
+use Rattle.jzon_tree.specs.Writing.{WritesPairs, colon_text}
 
 -- ---- bytes below 128
 pub IsAscii-one : (c : ℕ) → c < 128 → IsAscii (c ∷ [])
@@ -157,49 +159,83 @@ IsUtf8-quoted s u =
     (IsUtf8-append (escaped s) (34 ∷ []) (IsUtf8-escaped s u) IsUtf8-quote)
 
 -- ---- values
-one : (c : ℕ) (bs : List ℕ) → c < 128 → IsUtf8 bs → IsUtf8 (c ∷ bs)
-one c bs h u = IsUtf8-append (c ∷ []) bs (IsUtf8-from_ascii (c ∷ []) (IsAscii-one c h)) u
-
 pub text_utf8 : (k : Kind) (s : List ℕ) → IsText k s → IsUtf8 s
 text_utf8 short s h = h.0
 text_utf8 long s h = h
 
-module _ (l : Layout) (line : (depth : ℕ) → IsAscii (l.line depth)) (colon : IsAscii l.colon) where
-  line_utf8 : (depth : ℕ) → IsUtf8 (l.line depth)
-  line_utf8 depth = IsUtf8-from_ascii _ (line depth)
+ascii_utf8 : (bs : List ℕ) → are_ascii bs ≡ true → IsUtf8 bs
+ascii_utf8 bs h = IsUtf8-from_ascii bs (IsAscii-true bs h)
 
-  pair_utf8 : (depth : ℕ) (k : List ℕ) (v : Value) → IsUtf8 k → IsUtf8 (layout_text l (suc depth) v)
-      → IsUtf8 (l.line (suc depth) ++ quoted k ++ l.colon ++ layout_text l (suc depth) v)
-  pair_utf8 depth k v u h =
-      IsUtf8-append _ _ (IsUtf8-append _ _ (IsUtf8-append _ _ (line_utf8 (suc depth)) (IsUtf8-quoted k u))
-      (IsUtf8-from_ascii _ colon)) h
+whitespace_small : (c : ℕ) → is_whitespace false c ≡ true → c < 128
+whitespace_small c h = grind (arith, nat_tests)
 
-  mutual
-    pub IsUtf8-text : (depth : ℕ) (v : Value) → IsValue v → IsUtf8 (layout_text l depth v)
-    IsUtf8-text depth null h = IsUtf8-from_ascii (codes "null") (IsAscii-true (codes "null") refl)
-    IsUtf8-text depth (boolean true) h = IsUtf8-from_ascii (codes "true") (IsAscii-true (codes "true") refl)
-    IsUtf8-text depth (boolean false) h = IsUtf8-from_ascii (codes "false") (IsAscii-true (codes "false") refl)
-    IsUtf8-text depth (text k s) h = IsUtf8-quoted s (text_utf8 k s h)
-    IsUtf8-text depth (number n) h = IsUtf8-from_ascii (written_text n) (IsAscii-written n h)
-    IsUtf8-text depth (array no_values) h = IsUtf8-from_ascii (codes "[]") (IsAscii-true (codes "[]") refl)
-    IsUtf8-text depth (array (value v vs)) h =
-        one 91 _ (omega arith) (IsUtf8-append _ _ (IsUtf8-append _ _ (line_utf8 (suc depth))
-        (IsUtf8-text (suc depth) v h.0)) (more_values_utf8 depth vs h.1))
-    IsUtf8-text depth (object no_pairs) h = IsUtf8-from_ascii (codes "{}") (IsAscii-true (codes "{}") refl)
-    IsUtf8-text depth (object (pair k v ps)) h =
-        one 123 _ (omega arith) (IsUtf8-append _ _ (pair_utf8 depth k v h.0.0 (IsUtf8-text (suc depth) v h.0.1))
-        (more_pairs_utf8 depth ps h.0.2))
+whitespace_ascii : (w : List ℕ) → is_all_whitespace false w ≡ true → IsAscii w
+whitespace_ascii [] h = IsAscii-nil
+whitespace_ascii (c ∷ cs) h =
+    let t = and_parts (is_whitespace false c) (is_all_whitespace false cs) h in
+    IsAscii-cons c cs (whitespace_small c t.0) (whitespace_ascii cs t.1)
 
-    more_values_utf8 : (depth : ℕ) (vs : Values) → AreValues vs → IsUtf8 (more_values_text l depth vs)
-    more_values_utf8 depth no_values h = IsUtf8-append _ _ (line_utf8 depth)
-        (IsUtf8-from_ascii (93 ∷ []) (IsAscii-true (93 ∷ []) refl))
-    more_values_utf8 depth (value v vs) h =
-        one 44 _ (omega arith) (IsUtf8-append _ _ (IsUtf8-append _ _ (line_utf8 (suc depth))
-        (IsUtf8-text (suc depth) v h.0)) (more_values_utf8 depth vs h.1))
+whitespace_utf8 : (w : List ℕ) → IsTrue (is_all_whitespace false w) → IsUtf8 w
+whitespace_utf8 w h = IsUtf8-from_ascii w (whitespace_ascii w (search (rules, h)))
 
-    more_pairs_utf8 : (depth : ℕ) (ps : Pairs) → ArePairs ps → IsUtf8 (more_pairs_text l depth ps)
-    more_pairs_utf8 depth no_pairs h = IsUtf8-append _ _ (line_utf8 depth)
-        (IsUtf8-from_ascii (125 ∷ []) (IsAscii-true (125 ∷ []) refl))
-    more_pairs_utf8 depth (pair k v ps) h =
-        one 44 _ (omega arith) (IsUtf8-append _ _ (pair_utf8 depth k v h.0 (IsUtf8-text (suc depth) v h.1))
-        (more_pairs_utf8 depth ps h.2))
+colon_utf8 : (wide : Bool) → IsUtf8 (colon_text wide)
+colon_utf8 true = ascii_utf8 (colon_text true) refl
+colon_utf8 false = ascii_utf8 (colon_text false) refl
+
+abbrev AreUtf8 : List (List ℕ) → Type 0
+AreUtf8 [] = ⊤
+AreUtf8 (t ∷ ts) = IsUtf8 t × AreUtf8 ts
+
+utf8_at : (ts : List (List ℕ)) → AreUtf8 ts → (i : ℕ) → IsUtf8 (text_at ts i)
+utf8_at [] h i = IsUtf8-nil
+utf8_at (t ∷ ts) h zero = h.0
+utf8_at (t ∷ ts) h (suc i) = utf8_at ts h.1 i
+
+utf8_in_order : (ts : List (List ℕ)) → AreUtf8 ts → (positions : List ℕ) → AreUtf8 (map (text_at ts) positions)
+utf8_in_order ts h [] = tt
+utf8_in_order ts h (p ∷ ps) = (utf8_at ts h p, utf8_in_order ts h ps)
+
+utf8_joined : (s : Style) (d : ℕ) (ts : List (List ℕ)) (b : List ℕ) → AreUtf8 ts → Joins s d ts b → IsUtf8 b
+utf8_joined s d [] b h j = absurd j
+utf8_joined s d (t ∷ []) b h (w, a, e) = subst IsUtf8 (sym e) (IsUtf8-append _ _ (whitespace_utf8 w a.0) h.0)
+utf8_joined s d (t ∷ u ∷ ts) b h (w, more, a, j, e) =
+    subst IsUtf8 (sym e) (IsUtf8-append _ _ (whitespace_utf8 w a.0) (IsUtf8-append _ _ h.0
+    (IsUtf8-append (44 ∷ []) _ (ascii_utf8 (44 ∷ []) refl) (utf8_joined s d (u ∷ ts) more h.1 j))))
+
+utf8_enclosed : (s : Style) (d opening closing : ℕ) (ts : List (List ℕ)) (b : List ℕ) → opening < 128 → closing < 128
+    → AreUtf8 ts → Encloses s d opening ts closing b → IsUtf8 b
+utf8_enclosed s d opening closing ts b o c h (inside, w, j, a, e) =
+    subst IsUtf8 (sym e) (IsUtf8-append (opening ∷ []) _ (IsUtf8-from_ascii _ (IsAscii-one opening o))
+    (IsUtf8-append _ _ (utf8_joined s (suc d) ts inside h j) (IsUtf8-append _ _ (whitespace_utf8 w a.0)
+    (IsUtf8-from_ascii _ (IsAscii-one closing c)))))
+
+mutual
+  pub IsUtf8-writing : (s : Style) (d : ℕ) (v : Value) (b : List ℕ) → IsValue v → Writes s d v b → IsUtf8 b
+  IsUtf8-writing s d null b h e = subst IsUtf8 (sym e) (ascii_utf8 (codes "null") refl)
+  IsUtf8-writing s d (boolean true) b h e = subst IsUtf8 (sym e) (ascii_utf8 (codes "true") refl)
+  IsUtf8-writing s d (boolean false) b h e = subst IsUtf8 (sym e) (ascii_utf8 (codes "false") refl)
+  IsUtf8-writing s d (text k t) b h e = subst IsUtf8 (sym e) (IsUtf8-quoted t (text_utf8 k t h))
+  IsUtf8-writing s d (number n) b h e = subst IsUtf8 (sym e) (IsUtf8-from_ascii (written_text n) (IsAscii-written n h))
+  IsUtf8-writing s d (array no_values) b h e = subst IsUtf8 (sym e) (ascii_utf8 (codes "[]") refl)
+  IsUtf8-writing s d (array (value v vs)) b h (ts, each, k) =
+      utf8_enclosed s d 91 93 ts b (omega arith) (omega arith) (utf8_each s (suc d) (value v vs) ts h each) k
+  IsUtf8-writing s d (object no_pairs) b h e = subst IsUtf8 (sym e) (ascii_utf8 (codes "{}") refl)
+  IsUtf8-writing s d (object (pair k v ps)) b h (ts, positions, each, order, allowed, e) =
+      utf8_enclosed s d 123 125 (map (text_at ts) positions) b (omega arith) (omega arith)
+      (utf8_in_order ts (utf8_pairs s (suc d) (pair k v ps) ts h.0 each) positions) e
+
+  utf8_each : (s : Style) (d : ℕ) (vs : Values) (ts : List (List ℕ)) → AreValues vs → WritesEach s d vs ts → AreUtf8 ts
+  utf8_each s d no_values [] h e = tt
+  utf8_each s d no_values (t ∷ ts) h e = absurd e
+  utf8_each s d (value v vs) [] h e = absurd e
+  utf8_each s d (value v vs) (t ∷ ts) h e = (IsUtf8-writing s d v t h.0 e.0, utf8_each s d vs ts h.1 e.1)
+
+  utf8_pairs : (s : Style) (d : ℕ) (ps : Pairs) (ts : List (List ℕ)) → ArePairs ps → WritesPairs s d ps ts → AreUtf8 ts
+  utf8_pairs s d no_pairs [] h e = tt
+  utf8_pairs s d no_pairs (t ∷ ts) h e = absurd e
+  utf8_pairs s d (pair k v ps) [] h e = absurd e
+  utf8_pairs s d (pair k v ps) (t ∷ ts) h ((wide, x, c, w, e), rest) = (
+    subst IsUtf8 (sym e) (IsUtf8-append _ _ (IsUtf8-quoted k h.0)
+        (IsUtf8-append _ _ (colon_utf8 wide) (IsUtf8-writing s d v x h.1 w))),
+    utf8_pairs s d ps ts h.2 rest,
+  )

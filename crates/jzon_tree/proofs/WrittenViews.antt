@@ -1,5 +1,5 @@
 -- The view of a value after a write into it: to a member of an object, and to an element of an array.
-use Rattle.std.proofs.Common.{◌≡◌, ℕ, ◌-◌, min, List, [], ◌∷◌, ◌++◌, map, length, refl, sym, ap, subst, ◌∙◌, rules}
+use Rattle.std.proofs.Common.{◌≡◌, ℕ, List, [], ◌∷◌, ◌++◌, map, length, refl, sym, ap, subst, ◌∙◌, rules}
 use Rattle.std.proofs.Common.{Bool, true, false, if◌then◌else◌, nat_lt, nat_eq, Option, Some, None, option_map}
 use Rattle.std.specs.Prelude.{slice_set, ◌≤◌, IfSome, OnErr, Result, Ok, Err}
 use Rattle.jzon_base.specs.declared.error.Error.{Error}
@@ -74,8 +74,8 @@ with_place-view (Some vs) i =
 
 place_in-view : (o : Option (List JsonValue)) (i : ℕ)
     → place_in null (option_map (map view) o) i ≡ place_in Null o i
-place_in-view o i = ap (λ (n : ℕ). min i (n - 1))
-    (ap length (with_place-view o i) ∙ length-map (with_place Null o i) view)
+place_in-view None i = refl
+place_in-view (Some vs) i = ap (λ (n : ℕ). if nat_lt i n then i else n) (length-map vs view)
 
 some_same : {A : Type 0} (x y : A) → Some x ≡ Some y → x ≡ y
 some_same x y e = cc

@@ -1,4 +1,4 @@
--- The state of a `TextGenerator`, over any outlet and in any layout.
+-- The state of a `TextGenerator`, over any place and in any layout.
 use Rattle.std.specs.Prelude.{◌≡◌, ℕ, List, Option, Some, None, Result, MatchResult, IsUtf8, string_bytes}
 use Rattle.std.specs.Borrow.{GName}
 use Rattle.std.specs.declared.string.String.{String}
@@ -9,27 +9,27 @@ use Rattle.jzon_base.specs.declared.error.Error.{Error}
 use Rattle.jzon_base.specs.declared.error.Error.TheVariants.{FailedUtf8Parsing}
 use Rattle.jzon_tree.specs.Generator.{Emitted}
 use Rattle.jzon_tree.specs.Writing.{Style}
-use Rattle.jzon_tree.specs.declared.codegen.text_generator.Memory.{Memory}
+use Rattle.jzon_tree.specs.declared.codegen.outlet.Memory.{Memory}
 use Rattle.jzon_tree.specs.declared.codegen.text_generator.TextGenerator.{TextGenerator}
 
 -- these bytes, no open indent and no fault
 abbrev pub fresh : Option (List ℕ) → Style → Option GName → Emitted
 fresh out style lender = record { out = out; dent = 0; faults = 0; style = style; lender = lender }
 
--- the state of a generator over an outlet in a layout, from the outlet's bytes and reference and the layout's style
+-- the state of a generator over a place in a layout, from its bytes and reference and the layout's style
 abbrev pub text_meaning : {O L T : Type 0} → (O → Option (List ℕ)) → (O → Option GName) → (L → Style)
     → TextGenerator O L T → Emitted
 text_meaning out lender style g = record {
-  out = out g.outlet;
+  out = out g.place;
   dent = g.dent;
   faults = g.faults;
   style = style g.layout;
-  lender = lender g.outlet;
+  lender = lender g.place;
 }
 
--- the generator with this writer in its outlet
+-- the generator with this writer in its place
 abbrev pub with_writer_in : {O L T : Type 0} → (O → T → O) → TextGenerator O L T → T → TextGenerator O L T
-with_writer_in with_writer g w = record g { outlet = with_writer g.outlet w }
+with_writer_in with_writer g w = record g { place = with_writer g.place w }
 
 -- a generator that writes to memory: its bytes, and the same with other bytes
 abbrev pub bytes_in : Memory → Option (List ℕ)

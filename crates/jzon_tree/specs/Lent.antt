@@ -1,5 +1,5 @@
 -- What a `&mut` to a part of a value refers to (docs/RULES.md, "Readers" and "Changers").
-use Rattle.std.specs.Prelude.{◌≡◌, ℕ, min, ◌-◌, List, [], ◌∷◌, ◌++◌, length, nat_lt, nat_eq, if◌then◌else◌, Option}
+use Rattle.std.specs.Prelude.{◌≡◌, ℕ, List, [], ◌∷◌, ◌++◌, length, nat_lt, nat_eq, if◌then◌else◌, Option}
 use Rattle.std.specs.Prelude.{None, Some}
 use Rattle.std.specs.Global.{Vec}
 use Rattle.std.proofs.Common.{rules}
@@ -45,9 +45,11 @@ abbrev pub with_place : {V : Type 0} → V → Option (List V) → ℕ → List 
 with_place null (Some xs) i = if nat_lt i (length xs) then xs else xs ++ null ∷ []
 with_place null None i = if nat_eq i 0 then null ∷ [] else null ∷ null ∷ []
 
--- the position of that element: i if it is in range, else the last
+-- The position of that element: i if it is in range, else that of the appended null; in an array made anew 0 for i = 0,
+-- and 1 for any other i.
 abbrev pub place_in : {V : Type 0} → V → Option (List V) → ℕ → ℕ
-place_in null xs i = min i (length (with_place null xs i) - 1)
+place_in null (Some xs) i = if nat_lt i (length xs) then i else length xs
+place_in null None i = if nat_eq i 0 then 0 else 1
 
 -- the elements after `at_index_mut`
 abbrev pub items_with_place : JsonValue → ℕ → List JsonValue

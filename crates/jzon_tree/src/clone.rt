@@ -76,8 +76,7 @@ fn copy_items(alloc: Global, items: &[JsonValue]) -> Result<Vec<JsonValue>>
     Ok(copies)
 }
 
-/// Adds a copy of a value that is stored inline, and returns whether it is. Each arm makes its copy
-/// in place: through `copy_value` it would be moved there.
+/// Adds a copy of a value that is stored inline, and returns whether it is.
 #[inline(always)]
 #[tactic(auto, using(crate::proofs::Views::views))]
 fn push_inline(copies: &mut Vec<JsonValue>, value: &JsonValue) -> bool

@@ -1,13 +1,14 @@
 //! Printing: generators and layouts (docs/RULES.md, "Generators"). `driver` goes over a value and
 //! calls the hooks of a `generator`; `text_generator` has the generators of the crate, which write
-//! by `strings`, `numbers` and `layout`.
+//! to an `outlet` by `strings`, `numbers` and `layout`.
 
 mod display;
-mod driver;
+pub(crate) mod driver;
 mod error_slot;
 mod generator;
 mod layout;
 mod numbers;
+mod outlet;
 mod strings;
 mod text_generator;
 
@@ -15,13 +16,10 @@ mod text_generator;
 pub use crate::value::inspect::is_readable;
 pub use driver::{write_json, write_object};
 pub use generator::Generator;
-pub use layout::{Compact, Layout, Pretty};
-#[doc(hidden)]
+pub use layout::{Compact, Layout, Pretty, push_line};
 pub use numbers::push_digits;
-#[doc(hidden)]
+pub use outlet::Outlet;
 pub use strings::push_short;
-#[doc(hidden)]
-pub use text_generator::QuickWrite;
 pub use text_generator::{
     DumpGenerator, PrettyGenerator, PrettyWriterGenerator, TextGenerator, WriterGenerator,
 };

@@ -84,9 +84,8 @@ impl Object {
         }
     }
 
-    /// An object without members, with room for `capacity` of them: for keys, values and index. Up
-    /// to 1,024 members with keys of up to 32 bytes then need no more memory. Fails with
-    /// `OutOfMemory` only.
+    /// An object without members, with room for `capacity` of them: for keys, values and index.
+    /// Fails with `OutOfMemory` only.
     pub fn with_capacity(alloc: Global, capacity: usize) -> Result<Object>
         ensures empty { IfOk result (λ object. entries_of object ≡ []) }
         ensures memory { IsOkUnless result Error.OutOfMemory }
@@ -175,7 +174,8 @@ impl Object {
     /// Puts the value under the key: at the position of the key if it is there, which takes no
     /// memory, else last. Fails with `OutOfMemory` only, and then nothing has changed.
     ///
-    /// `n` calls with new keys take a time of at most about n (log n)^2; `from_pairs` is faster.
+    /// `n` calls with new keys take a time of about n log n, and `from_pairs` less (measured, not
+    /// proved: docs/MEASURED.md).
     pub fn insert(&mut self, alloc: Global, key: &str, value: JsonValue) -> Result<()>
         ensures ok { OnOk result (entries_of self.new ≡ put key.now value (entries_of self.old)) }
         ensures err { OnErr result (self.new ≡ self.old) }
@@ -205,9 +205,6 @@ impl Object {
 
     /// Keeps the members for which `keep(key, value)` returns `true`, in their order. `keep` is
     /// called once for each member, in order, and may change the value. Takes no memory.
-    ///
-    /// For `n` members it takes a time of about n log n, and of n where all are kept or `n` is at
-    /// most 8.
     pub fn retain<F: FnMut(&str, &mut JsonValue) -> bool>(&mut self, keep: F)
         requires { CallableOnEachPair (CalledAtPair F.FnMut) (TakesPair F.FnMut) keep
             (entries_of self.old) }

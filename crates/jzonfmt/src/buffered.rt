@@ -3,8 +3,8 @@
 ghost use Rattle.std.specs.Prelude.{◌≡◌, ℕ, ◌+◌, ◌≤◌, [], length, take, vec_len, vec_capacity, MatchOption, OnOk};
 ghost use Rattle.std.specs.Io.KnownBytes.{Appends, Keeps};
 
+use jzon::codegen::{Outlet, push_digits, push_line, push_short};
 use jzon::number::Number;
-use jzon_tree::codegen::{QuickWrite, push_digits, push_short};
 use std::io;
 use std::io::{ErrorKind, Write};
 use std::marker::{Brand, PhantomData};
@@ -147,15 +147,20 @@ impl<W: Write, S: Start> Write for Buffered<'_, W, S> {
     }
 }
 
-/// A short string or a number's digits are added to the buffer at once where there is room.
-impl<W: Write, S: Start> QuickWrite for Buffered<'_, W, S> {
+/// Where there is room, short strings, digits and short lines are added to the buffer at once.
+impl<W: Write, S: Start> Outlet for Buffered<'_, W, S> {
     #[inline(always)]
-    fn write_short(&mut self, string: &[u8]) -> bool {
+    fn put_string(&mut self, string: &[u8]) -> bool {
         push_short(&mut self.bytes, string)
     }
 
     #[inline(always)]
-    fn write_digits(&mut self, number: &Number) -> bool {
+    fn put_number(&mut self, number: &Number) -> bool {
         push_digits(&mut self.bytes, number)
+    }
+
+    #[inline(always)]
+    fn put_line(&mut self, spaces: u128) -> bool {
+        push_line(&mut self.bytes, spaces)
     }
 }

@@ -10,8 +10,8 @@ ghost use Rattle.jzonfmt.specs.Drive.{Drives, asked_layout, asked_options, asked
 ghost use Rattle.jzonfmt.specs.Drive.{fault_status};
 
 use crate::buffered::{Buffered, Start};
+use jzon::codegen::{Compact, Outlet, Pretty};
 use jzon::{Error, JsonValue, Reading, util};
-use jzon_tree::codegen::{Compact, Pretty, QuickWrite};
 use std::alloc::{AllocError, Global};
 use std::io::{Read, Write};
 use std::marker::Brand;
@@ -220,15 +220,15 @@ fn write_held<W: Write, S: Start>(
 }
 
 /// Writes the text of the value in the layout.
-fn write_text<W: QuickWrite>(writer: &mut W, value: &JsonValue, layout: Layout) -> io::Result<()>
+fn write_text<W: Outlet>(writer: &mut W, value: &JsonValue, layout: Layout) -> io::Result<()>
     ensures ok { OnOk result (Appends (W.Write.contents writer.old)
         (W.Write.contents writer.new) (text layout (view value.now))) }
     ensures err { OnErr result (AppendsBeginning (W.Write.contents writer.old)
         (W.Write.contents writer.new) (text layout (view value.now))) }
 {
     match layout {
-        Layout::Compact => value.write_quickly(writer, Compact),
-        Layout::Pretty(spaces) => value.write_quickly(writer, Pretty(spaces)),
+        Layout::Compact => value.write_outlet(writer, Compact),
+        Layout::Pretty(spaces) => value.write_outlet(writer, Pretty(spaces)),
     }
 }
 

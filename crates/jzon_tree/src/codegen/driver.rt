@@ -1,10 +1,12 @@
 //! Goes over a value or an object, and calls the hooks of a generator.
 
 ghost use Rattle.std.specs.Prelude.{◌≡◌, ◌+◌, ◌-◌, ◌<◌, ◌^◌, [], length, map, slice_index_or, MatchResult, OnOk};
+ghost use Rattle.std.specs.Prelude.{OnErr, IfErr, IsSome};
 ghost use Rattle.jzon_base.specs.PairList.{keys_of};
 ghost use Rattle.jzon_tree.specs.Entries.{entries_of};
 ghost use Rattle.jzon_tree.specs.Generator.{Added, Emits, Failed, IsAnswer, Just, Prints, noted, positions};
 ghost use Rattle.jzon_tree.specs.Lawful.{IsValue, AreValues, ArePairs, IsPair};
+ghost use Rattle.jzon_tree.specs.Private.Inspected.{IsInspected};
 ghost use Rattle.jzon_tree.specs.Private.Printing.{IsBetween, IsClosing, AreItems, IsEntry, AreMembers, PrintsIf};
 ghost use Rattle.jzon_tree.specs.Value.{array};
 ghost use Rattle.jzon_tree.specs.View.{view, view_object, view_values, view_pairs, viewed};
@@ -14,7 +16,7 @@ use crate::codegen::error_slot::{ErrorSlot, SlotResult, store, take_error};
 use crate::codegen::generator::Generator;
 use crate::object::Object;
 use crate::value::JsonValue;
-use crate::value::inspect::{inspect, inspect_object, see_number};
+use crate::value::inspect::{Inspection, inspect, inspect_object, see_number};
 use std::io;
 
 /// Writes the value in the generator's style, counted from the indents that are open. The entries
@@ -27,13 +29,9 @@ pub fn write_json<G: Generator>(g: &mut G, json: &JsonValue) -> io::Result<()>
         (G.meaning g.old) (G.meaning g.new) result }
     ensures value { IsValue (view json.now) }
 {
-    let mut slot = None;
-    match write_value(g, json, &mut slot) {
+    match print_value(g, json) {
         Ok(()) => Ok(()),
-        Err(_) => {
-            let _found = inspect(json);
-            Err(take_error(slot))
-        }
+        Err(fault) => Err(fault.error),
     }
 }
 
@@ -44,13 +42,55 @@ pub fn write_object<G: Generator>(g: &mut G, object: &Object) -> io::Result<()>
         (G.meaning g.old) (G.meaning g.new) result }
     ensures value { IsValue (view_object object.now) }
 {
+    match print_object(g, object) {
+        Ok(()) => Ok(()),
+        Err(fault) => Err(fault.error),
+    }
+}
+
+/// Why a value wasn't written.
+#[derive(Drop)]
+pub(crate) struct Unwritten {
+    /// The error of a hook.
+    error: io::Error,
+    /// What the value contains.
+    pub(crate) found: Inspection,
+}
+
+/// `write_json`, and after an error what the value contains.
+pub(crate) fn print_value<G: Generator>(g: &mut G, json: &JsonValue) -> Result<(), Unwritten>
+    ensures written { Prints (Writes (G.meaning g.old).style (G.meaning g.old).dent (view json.now))
+        (G.meaning g.old) (G.meaning g.new) result }
+    ensures value { IsValue (view json.now) }
+    ensures found { IfErr result (λ fault. IsInspected (view json.now) fault.found.has_nan
+        fault.found.nest) }
+{
+    let mut slot = None;
+    match write_value(g, json, &mut slot) {
+        Ok(()) => Ok(()),
+        Err(_) => Err(Unwritten {
+            error: take_error(slot),
+            found: inspect(json),
+        }),
+    }
+}
+
+/// `write_object`, and after an error what the object contains.
+pub(crate) fn print_object<G: Generator>(g: &mut G, object: &Object) -> Result<(), Unwritten>
+    ensures written { Prints (Writes (G.meaning g.old).style (G.meaning g.old).dent
+        (view_object object.now))
+        (G.meaning g.old) (G.meaning g.new) result }
+    ensures value { IsValue (view_object object.now) }
+    ensures found { IfErr result (λ fault. IsInspected (view_object object.now)
+        fault.found.has_nan fault.found.nest) }
+{
     let mut slot = None;
     match write_pairs(g, object, &mut slot) {
         Ok(()) => Ok(()),
-        Err(_) => {
-            let _found = inspect_object(object);
-            Err(take_error(slot))
-        }
+        Err(_) => Err(Unwritten {
+            error: take_error(slot),
+            found: inspect_object(object),
+        }),
     }
 }
 
@@ -62,6 +102,7 @@ fn write_value<G: Generator>(g: &mut G, json: &JsonValue, slot: &mut ErrorSlot) 
     ensures written { PrintsIf (IsValue (view json.now))
         (Writes (G.meaning g.old).style (G.meaning g.old).dent (view json.now))
         (G.meaning g.old) (G.meaning g.new) result }
+    ensures slot { OnErr result (IsSome slot.new) }
     ensures value { OnOk result (IsValue (view json.now)) }
 {
     match json {
@@ -85,6 +126,7 @@ fn write_array<G: Generator>(g: &mut G, items: &[JsonValue], slot: &mut ErrorSlo
     ensures written { PrintsIf (AreValues (view_values items.now))
         (Writes (G.meaning g.old).style (G.meaning g.old).dent (array (view_values items.now)))
         (G.meaning g.old) (G.meaning g.new) result }
+    ensures slot { OnErr result (IsSome slot.new) }
     ensures value { OnOk result (AreValues (view_values items.now)) }
 {
     if items.is_empty() {
@@ -102,6 +144,7 @@ fn write_items<G: Generator>(g: &mut G, items: &[JsonValue], slot: &mut ErrorSlo
     ensures written { PrintsIf (AreValues (view_values items.now))
         (AreItems (G.meaning g.old).style (G.meaning g.old).dent (map view items.now))
         (G.meaning g.old) (G.meaning g.new) result }
+    ensures slot { OnErr result (IsSome slot.new) }
     ensures value { OnOk result (AreValues (view_values items.now)) }
 {
     for (index, item) in items.iter().enumerate() {
@@ -117,6 +160,7 @@ fn write_pairs<G: Generator>(g: &mut G, object: &Object, slot: &mut ErrorSlot) -
     ensures written { PrintsIf (IsValue (view_object object.now))
         (Writes (G.meaning g.old).style (G.meaning g.old).dent (view_object object.now))
         (G.meaning g.old) (G.meaning g.new) result }
+    ensures slot { OnErr result (IsSome slot.new) }
     ensures value { OnOk result (IsValue (view_object object.now)) }
 {
     let order = try_order(g, object, slot)?;
@@ -142,6 +186,7 @@ fn write_members<G: Generator>(
         (AreMembers (G.meaning g.old).style (G.meaning g.old).dent
         (viewed (entries_of object.now)) (positions (length (entries_of object.now)) order.now))
         (G.meaning g.old) (G.meaning g.new) result }
+    ensures slot { OnErr result (IsSome slot.new) }
     ensures value { OnOk result (IsValue (view_object object.now)) }
 {
     for index in 0..object.len() {
@@ -174,6 +219,7 @@ fn write_pair<G: Generator>(
     ensures written { PrintsIf (IsValue (view value.now))
         (IsEntry (G.meaning g.old).style (G.meaning g.old).dent (key.now, view value.now))
         (G.meaning g.old) (G.meaning g.new) result }
+    ensures slot { OnErr result (IsSome slot.new) }
     ensures value { OnOk result (IsPair (key.now, view value.now)) }
 {
     g.try_write_string(key, slot)?;
@@ -184,8 +230,9 @@ fn write_pair<G: Generator>(
 /// Writes what is before an element or entry: a comma, unless it is the first, and whitespace.
 #[inline(always)]
 fn begin_item<G: Generator>(g: &mut G, comma: bool, slot: &mut ErrorSlot) -> SlotResult<()>
-    ensures { Emits (IsBetween (G.meaning g.old).style (G.meaning g.old).dent comma)
+    ensures bytes { Emits (IsBetween (G.meaning g.old).style (G.meaning g.old).dent comma)
         (G.meaning g.old) (G.meaning g.new) result }
+    ensures slot { OnErr result (IsSome slot.new) }
 {
     if comma {
         g.try_write_char(b',', slot)?;
@@ -197,8 +244,9 @@ fn begin_item<G: Generator>(g: &mut G, comma: bool, slot: &mut ErrorSlot) -> Slo
 #[inline(always)]
 fn close<G: Generator>(g: &mut G, bracket: u8, slot: &mut ErrorSlot) -> SlotResult<()>
     requires { 0 < (G.meaning g.old).dent }
-    ensures { Emits (IsClosing (G.meaning g.old).style ((G.meaning g.old).dent - 1) bracket)
+    ensures bytes { Emits (IsClosing (G.meaning g.old).style ((G.meaning g.old).dent - 1) bracket)
         (record (G.meaning g.old) { dent = (G.meaning g.old).dent - 1 }) (G.meaning g.new) result }
+    ensures slot { OnErr result (IsSome slot.new) }
 {
     g.dedent();
     g.try_new_line(slot)?;
@@ -207,11 +255,12 @@ fn close<G: Generator>(g: &mut G, bracket: u8, slot: &mut ErrorSlot) -> SlotResu
 
 /// `indent`, whose error is stored.
 fn try_indent<G: Generator>(g: &mut G, slot: &mut ErrorSlot) -> SlotResult<()>
-    ensures { MatchResult result
+    ensures dent { MatchResult result
         (λ _. G.meaning g.new ≡ record (G.meaning g.old) { dent = (G.meaning g.old).dent + 1 })
         (λ _. ((G.meaning g.old).dent ≡ 2 ^ 64 - 1)
         × (G.meaning g.new
         ≡ record (G.meaning g.old) { faults = noted (G.meaning g.old).faults })) }
+    ensures slot { OnErr result (IsSome slot.new) }
 {
     store(g.indent(), slot)
 }
@@ -222,10 +271,11 @@ fn try_order<G: Generator>(
     object: &Object,
     slot: &mut ErrorSlot,
 ) -> SlotResult<Option<Vec<usize>>>
-    ensures { MatchResult result
+    ensures order { MatchResult result
         (λ answer. Added (Just []) (G.meaning g.old) (G.meaning g.new)
         × IsAnswer (G.meaning g.old).style (keys_of (entries_of object.now)) answer)
         (λ _. Failed (Just []) (G.meaning g.old) (G.meaning g.new)) }
+    ensures slot { OnErr result (IsSome slot.new) }
 {
     store(g.order(object), slot)
 }

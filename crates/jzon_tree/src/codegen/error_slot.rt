@@ -1,7 +1,7 @@
 //! Keeps an 88-byte `io::Error` out of return values: it is stored in a slot, and a one-byte
 //! `Failed` is returned.
 
-ghost use Rattle.std.specs.Prelude.{◌≡◌, ◌≤◌, Ok, IsErr, MatchResult, length, drop};
+ghost use Rattle.std.specs.Prelude.{◌≡◌, ◌≤◌, Some, Ok, IfErr, IsErr, IsSome, OnOk, OnErr, MatchResult, length, drop};
 ghost use Rattle.jzon_tree.specs.Generator.{Sends, Just};
 
 use jzon_tokens::util::write_bytes;
@@ -21,7 +21,9 @@ pub type SlotResult<T> = Result<T, Failed>;
 /// Stores an error in the slot.
 #[inline]
 pub(super) fn store<T>(answer: io::Result<T>, slot: &mut ErrorSlot) -> SlotResult<T>
-    ensures { MatchResult answer (λ x. result ≡ Ok x) (λ _. IsErr result) }
+    ensures answer { MatchResult answer (λ x. result ≡ Ok x) (λ _. IsErr result) }
+    ensures slot { MatchResult answer (λ _. slot.new ≡ slot.old)
+        (λ error. slot.new ≡ Some error) }
 {
     match answer {
         Ok(value) => Ok(value),
@@ -35,7 +37,9 @@ pub(super) fn store<T>(answer: io::Result<T>, slot: &mut ErrorSlot) -> SlotResul
 /// The result with the stored error.
 #[inline]
 pub(super) fn take_result(step: SlotResult<()>, slot: ErrorSlot) -> io::Result<()>
-    ensures { MatchResult step (λ x. result ≡ Ok x) (λ _. IsErr result) }
+    requires { OnErr step (IsSome slot) }
+    ensures answer { MatchResult step (λ x. result ≡ Ok x) (λ _. IsErr result) }
+    ensures error { IfErr result (λ error. slot ≡ Some error) }
 {
     match step {
         Ok(()) => Ok(()),
@@ -43,22 +47,16 @@ pub(super) fn take_result(step: SlotResult<()>, slot: ErrorSlot) -> io::Result<(
     }
 }
 
-/// The stored error. There is one wherever a call failed.
+/// The stored error.
 #[cold]
-pub(super) fn take_error(slot: ErrorSlot) -> io::Error {
+pub(super) fn take_error(slot: ErrorSlot) -> io::Error
+    requires { IsSome slot }
+    ensures { slot ≡ Some result }
+{
     match slot {
         Some(error) => error,
-        None => io::Error::from(ErrorKind::Other),
+        None => unreachable!(),
     }
-}
-
-/// Stores that an allocation failed.
-#[cold]
-pub(super) fn out_of_memory(slot: &mut ErrorSlot) -> SlotResult<()>
-    ensures { IsErr result }
-{
-    *slot = Some(io::Error::from(ErrorKind::OutOfMemory));
-    Err(Failed)
 }
 
 /// Writes the bytes, of which a prefix is written where the writer fails. Most writers take them
@@ -66,7 +64,9 @@ pub(super) fn out_of_memory(slot: &mut ErrorSlot) -> SlotResult<()>
 #[inline(always)]
 #[tactic(auto, using(crate::proofs::Sent::sent))]
 pub(super) fn send<W: Write>(writer: &mut W, bytes: &[u8], slot: &mut ErrorSlot) -> SlotResult<()>
-    ensures { Sends (Just bytes.now) (W.contents writer.old) (W.contents writer.new) result }
+    ensures bytes { Sends (Just bytes.now) (W.contents writer.old) (W.contents writer.new) result }
+    ensures kept { OnOk result (slot.new ≡ slot.old) }
+    ensures slot { OnErr result (IsSome slot.new) }
 {
     if bytes.is_empty() {
         return Ok(());
@@ -89,8 +89,10 @@ fn send_rest<W: Write>(
     slot: &mut ErrorSlot,
 ) -> SlotResult<()>
     requires { count ≤ length bytes.now }
-    ensures { Sends (Just (drop count bytes.now)) (W.contents writer.old)
+    ensures bytes { Sends (Just (drop count bytes.now)) (W.contents writer.old)
         (W.contents writer.new) result }
+    ensures kept { OnOk result (slot.new ≡ slot.old) }
+    ensures slot { OnErr result (IsSome slot.new) }
 {
     if count == 0 {
         *slot = Some(io::Error::from(ErrorKind::WriteZero));

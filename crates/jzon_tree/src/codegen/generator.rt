@@ -1,6 +1,7 @@
 //! The trait `Generator`: its hooks, and the provided methods.
 
 ghost use Rattle.std.specs.Prelude.{◌≡◌, ◌+◌, ◌-◌, ◌<◌, ◌≤◌, ◌^◌, ◌∷◌, ◌++◌, [], length, take, drop, MatchResult};
+ghost use Rattle.std.specs.Prelude.{OnErr, IsSome};
 ghost use Rattle.std.specs.Borrow.{sem, Lends};
 ghost use Rattle.jzon_tokens.specs.NumberText.{written_text};
 ghost use Rattle.jzon_base.specs.PairList.{keys_of};
@@ -183,11 +184,12 @@ pub trait Generator {
             × IsAnswer (meaning self.old).style (keys_of (entries_of object.now)) answer)
             (λ _. Failed (Just []) (meaning self.old) (meaning self.new)) };
 
-    /// `write`, as `write_json` calls it: an error is stored in the slot. A generator that has its
-    /// errors there already may override it, and those below.
+    /// `write`, as `write_json` calls it: an error is stored in the slot. This hook and those below
+    /// are not for overriding: the types of the slot are private.
     #[doc(hidden)]
     fn try_write(&mut self, slice: &[u8], slot: &mut ErrorSlot) -> SlotResult<()>
-        ensures { Emits (Just slice.now) (meaning self.old) (meaning self.new) result }
+        ensures bytes { Emits (Just slice.now) (meaning self.old) (meaning self.new) result }
+        ensures slot { OnErr result (IsSome slot.new) }
     {
         store(self.write(slice), slot)
     }
@@ -195,7 +197,8 @@ pub trait Generator {
     /// `write_char`, as `write_json` calls it.
     #[doc(hidden)]
     fn try_write_char(&mut self, ch: u8, slot: &mut ErrorSlot) -> SlotResult<()>
-        ensures { Emits (Just (ch ∷ [])) (meaning self.old) (meaning self.new) result }
+        ensures bytes { Emits (Just (ch ∷ [])) (meaning self.old) (meaning self.new) result }
+        ensures slot { OnErr result (IsSome slot.new) }
     {
         store(self.write_char(ch), slot)
     }
@@ -203,8 +206,9 @@ pub trait Generator {
     /// `write_min`, as `write_json` calls it.
     #[doc(hidden)]
     fn try_write_min(&mut self, slice: &[u8], min: u8, slot: &mut ErrorSlot) -> SlotResult<()>
-        ensures { Emits (IsForm (meaning self.old).style slice.now min)
+        ensures bytes { Emits (IsForm (meaning self.old).style slice.now min)
             (meaning self.old) (meaning self.new) result }
+        ensures slot { OnErr result (IsSome slot.new) }
     {
         store(self.write_min(slice, min), slot)
     }
@@ -212,7 +216,8 @@ pub trait Generator {
     /// `write_string`, as `write_json` calls it.
     #[doc(hidden)]
     fn try_write_string(&mut self, string: &str, slot: &mut ErrorSlot) -> SlotResult<()>
-        ensures { Emits (Just (quoted string.now)) (meaning self.old) (meaning self.new) result }
+        ensures bytes { Emits (Just (quoted string.now)) (meaning self.old) (meaning self.new) result }
+        ensures slot { OnErr result (IsSome slot.new) }
     {
         store(self.write_string(string), slot)
     }
@@ -220,7 +225,8 @@ pub trait Generator {
     /// `write_number`, as `write_json` calls it.
     #[doc(hidden)]
     fn try_write_number(&mut self, num: &Number, slot: &mut ErrorSlot) -> SlotResult<()>
-        ensures { Emits (Just (written_text num.now)) (meaning self.old) (meaning self.new) result }
+        ensures bytes { Emits (Just (written_text num.now)) (meaning self.old) (meaning self.new) result }
+        ensures slot { OnErr result (IsSome slot.new) }
     {
         store(self.write_number(num), slot)
     }
@@ -228,8 +234,9 @@ pub trait Generator {
     /// `new_line`, as `write_json` calls it.
     #[doc(hidden)]
     fn try_new_line(&mut self, slot: &mut ErrorSlot) -> SlotResult<()>
-        ensures { Emits (IsAllowedWhitespace (meaning self.old).style (meaning self.old).dent)
+        ensures bytes { Emits (IsAllowedWhitespace (meaning self.old).style (meaning self.old).dent)
             (meaning self.old) (meaning self.new) result }
+        ensures slot { OnErr result (IsSome slot.new) }
     {
         store(self.new_line(), slot)
     }

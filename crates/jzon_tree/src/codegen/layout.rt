@@ -2,7 +2,7 @@
 //! (docs/RULES.md, "Layouts of one's own").
 
 ghost use Rattle.std.specs.Prelude.{◌≡◌, ◌+◌, ◌≤◌, ◌<◌, ◌∷◌, ◌++◌, Bool, true, false, IsTrue, IfOk, Ok, None};
-ghost use Rattle.std.specs.Prelude.{replicate, vec_len, vec_capacity};
+ghost use Rattle.std.specs.Prelude.{OnErr, IsSome, replicate, vec_len, vec_capacity};
 ghost use Rattle.jzon_base.specs.PairList.{keys_of};
 ghost use Rattle.jzon_tree.specs.Entries.{entries_of};
 ghost use Rattle.jzon_tree.specs.Generator.{IsAnswer, Sends, Just};
@@ -19,7 +19,7 @@ use std::io::Write;
 const SPACES: [u8; 512] = [b' '; 512];
 
 /// The most bytes of a line's start that are copied at once into memory.
-pub(super) const SHORT_LINE: usize = 8;
+const SHORT_LINE: usize = 8;
 
 /// The newline, and the spaces that are written with it.
 #[rattlefmt::skip]
@@ -137,8 +137,9 @@ pub(super) fn send_line<W: Write>(
     spaces: u128,
     slot: &mut ErrorSlot,
 ) -> SlotResult<()>
-    ensures { Sends (Just (10 ∷ replicate spaces 32)) (W.contents writer.old)
+    ensures bytes { Sends (Just (10 ∷ replicate spaces 32)) (W.contents writer.old)
         (W.contents writer.new) result }
+    ensures slot { OnErr result (IsSome slot.new) }
 {
     let first = spaces.min(63);
     send(writer, &NEWLINE_AND_SPACES[..=first as usize], slot)?;
@@ -148,10 +149,24 @@ pub(super) fn send_line<W: Write>(
     Ok(())
 }
 
+/// Adds a newline and `spaces` spaces if there are fewer than 8 of them and there is room for 8
+/// bytes, and returns whether it did. Otherwise nothing is added.
+#[inline(always)]
+pub fn push_line(bytes: &mut Vec<u8>, spaces: u128) -> bool
+    ensures done { IsTrue result → bytes.new.items ≡ bytes.old.items ++ 10 ∷ replicate spaces 32 }
+    ensures left { result ≡ false → bytes.new.items ≡ bytes.old.items }
+{
+    let is_short = spaces < SHORT_LINE as u128 && SHORT_LINE <= bytes.capacity() - bytes.len();
+    if is_short {
+        push_few(bytes, spaces as usize);
+    }
+    is_short
+}
+
 /// Adds a newline and fewer than `SHORT_LINE` spaces: `SHORT_LINE` bytes are copied, and the rest
 /// is truncated.
 #[inline(always)]
-pub(super) fn push_line(bytes: &mut Vec<u8>, spaces: usize)
+fn push_few(bytes: &mut Vec<u8>, spaces: usize)
     requires few { spaces < SHORT_LINE }
     requires reserved { vec_len bytes.old + SHORT_LINE ≤ vec_capacity bytes.old }
     ensures { bytes.new.items ≡ bytes.old.items ++ 10 ∷ replicate spaces 32 }
@@ -167,8 +182,9 @@ pub(super) fn push_line(bytes: &mut Vec<u8>, spaces: usize)
 #[cold]
 #[inline(never)]
 fn send_spaces<W: Write>(writer: &mut W, spaces: u128, slot: &mut ErrorSlot) -> SlotResult<()>
-    ensures { Sends (Just (replicate spaces 32)) (W.contents writer.old)
+    ensures bytes { Sends (Just (replicate spaces 32)) (W.contents writer.old)
         (W.contents writer.new) result }
+    ensures slot { OnErr result (IsSome slot.new) }
 {
     let mut left = spaces;
     while left > 0 {

@@ -1,6 +1,6 @@
 //! The texts of numbers (docs/RULES.md, "Printed numbers").
 
-ghost use Rattle.std.specs.Prelude.{◌≡◌, ◌++◌, Some, IsTrue, false};
+ghost use Rattle.std.specs.Prelude.{◌≡◌, ◌++◌, IsTrue, false, OnErr, IsSome};
 ghost use Rattle.jzon_tokens.specs.NumberText.{number_text, written_text};
 ghost use Rattle.jzon_tree.specs.Generator.{Sends, Just};
 
@@ -15,33 +15,17 @@ pub(super) fn send_number<W: Write>(
     number: &Number,
     slot: &mut ErrorSlot,
 ) -> SlotResult<()>
-    ensures { Sends (Just (written_text number.now)) (W.contents writer.old)
+    ensures bytes { Sends (Just (written_text number.now)) (W.contents writer.old)
         (W.contents writer.new) result }
+    ensures slot { OnErr result (IsSome slot.new) }
 {
     let mut room = [0; print_dec::MAX_LEN];
     send(writer, text_of_number(&mut room, number), slot)
 }
 
-/// Adds the text of the number, or `null` for NaN. Most are the mantissa's digits with at most a
-/// minus and a point, and most times there is room.
-#[inline(always)]
-pub(super) fn push_number(
-    bytes: &mut Vec<u8>,
-    number: &Number,
-    slot: &mut ErrorSlot,
-) -> SlotResult<()>
-    ensures { Sends (Just (written_text number.now)) (Some bytes.old.items)
-        (Some bytes.new.items) result }
-{
-    if push_digits(bytes, number) {
-        return Ok(());
-    }
-    send_number(bytes, number, slot)
-}
-
-/// Adds the text of the number where `print_dec::push_digits` adds it, and returns whether it did.
-/// Otherwise, and for NaN, nothing is added.
-#[doc(hidden)]
+/// Adds the text of the number if it is the mantissa's digits, with at most a minus before them and
+/// a point before the last 1 to 17, and there is room, and returns whether it did. Otherwise, and
+/// for 0 and NaN, nothing is added.
 #[inline(always)]
 pub fn push_digits(bytes: &mut Vec<u8>, number: &Number) -> bool
     ensures done { IsTrue result → bytes.new.items ≡ bytes.old.items ++ written_text number.now }
@@ -52,7 +36,6 @@ pub fn push_digits(bytes: &mut Vec<u8>, number: &Number) -> bool
 }
 
 /// The text of the number, or `null` for NaN, for which `room` may be used.
-#[inline(always)]
 pub(super) fn text_of_number<'a>(
     room: &'a mut [u8; print_dec::MAX_LEN],
     number: &Number,
@@ -66,7 +49,6 @@ pub(super) fn text_of_number<'a>(
     text_of_parts(room, positive, mantissa, exponent)
 }
 
-#[inline(always)]
 fn text_of_parts<'a>(
     room: &'a mut [u8; print_dec::MAX_LEN],
     positive: bool,

@@ -1,13 +1,13 @@
 //! Strings and their escapes (docs/RULES.md, "Printed values").
 
-ghost use Rattle.std.specs.Prelude.{◌≡◌, ◌+◌, ◌≤◌, ◌++◌, ◌∷◌, [], false, length, take, drop, OnOk, OnErr};
-ghost use Rattle.std.specs.Prelude.{◌-◌, IsTrue, Some, replicate, slice_index_or, vec_len, vec_capacity};
+ghost use Rattle.std.specs.Prelude.{◌≡◌, ◌+◌, ◌≤◌, ◌++◌, ◌∷◌, [], false, length, take, drop, OnOk, OnErr, IsSome};
+ghost use Rattle.std.specs.Prelude.{IsTrue, replicate, slice_index_or, vec_len, vec_capacity};
 ghost use Rattle.std.specs.List.{prefix_len};
 ghost use Rattle.jzon_tokens.specs.Private.PlainBytes.{is_plain};
 ghost use Rattle.jzon_tree.specs.Generator.{Sends, Just};
 ghost use Rattle.jzon_tree.specs.Text.{escaped, escaped_byte, quoted};
 
-use crate::codegen::error_slot::{ErrorSlot, SlotResult, out_of_memory, send};
+use crate::codegen::error_slot::{ErrorSlot, SlotResult, send};
 use jzon_tokens::util::escapes::{hex_digit, letter_of};
 use jzon_tokens::util::plain::{is_plain_by_ends, plain_len};
 use std::alloc::AllocError;
@@ -23,22 +23,6 @@ const SHORT_MAX_LEN: usize = 32;
 /// The room that any of these takes with its quotes.
 const SHORT_ROOM: usize = SHORT_MAX_LEN + 2;
 
-/// Writes the bytes of the string before `start` as they are, those from `start` on escaped, and
-/// the closing quote.
-pub(super) fn send_string_from<W: Write>(
-    writer: &mut W,
-    string: &str,
-    start: usize,
-    slot: &mut ErrorSlot,
-) -> SlotResult<()>
-    requires { start ≤ length string.now }
-    ensures { Sends (Just (take start string.now ++ (escaped (drop start string.now) ++ 34 ∷ [])))
-        (W.contents writer.old) (W.contents writer.new) result }
-{
-    let (prefix, text) = string.as_bytes().split_at(start);
-    send_string(writer, prefix, text, slot)
-}
-
 /// Writes the prefix as it is, the text escaped, and the closing quote. Runs of bytes that need no
 /// escape are written whole.
 pub(super) fn send_string<W: Write>(
@@ -47,8 +31,9 @@ pub(super) fn send_string<W: Write>(
     text: &[u8],
     slot: &mut ErrorSlot,
 ) -> SlotResult<()>
-    ensures { Sends (Just (prefix.now ++ (escaped text.now ++ 34 ∷ [])))
+    ensures bytes { Sends (Just (prefix.now ++ (escaped text.now ++ 34 ∷ [])))
         (W.contents writer.old) (W.contents writer.new) result }
+    ensures slot { OnErr result (IsSome slot.new) }
 {
     send(writer, prefix, slot)?;
     let mut rest = text;
@@ -64,26 +49,8 @@ pub(super) fn send_string<W: Write>(
     send(writer, b"\"", slot)
 }
 
-/// Adds a string in quotes, escaped. Most strings are short and need no escape, and most times
-/// there is room.
-#[inline(always)]
-pub(super) fn push_string(
-    bytes: &mut Vec<u8>,
-    string: &[u8],
-    slot: &mut ErrorSlot,
-) -> SlotResult<()>
-    ensures { Sends (Just (quoted string.now)) (Some bytes.old.items)
-        (Some bytes.new.items) result }
-{
-    if push_short(bytes, string) {
-        return Ok(());
-    }
-    push_any(bytes, string, slot)
-}
-
 /// Adds a string in quotes if it is short, needs no escape, and there is room for it, and returns
 /// whether it did. Otherwise nothing is added.
-#[doc(hidden)]
 #[inline(always)]
 pub fn push_short(bytes: &mut Vec<u8>, string: &[u8]) -> bool
     ensures done { IsTrue result → bytes.new.items ≡ bytes.old.items ++ quoted string.now }
@@ -148,7 +115,7 @@ fn put_if_plain(bytes: &mut [u8], offset: usize, string: &[u8]) -> bool
     }
 }
 
-/// The same, for `N` to `2 * N` bytes.
+/// The same, for `N` to `2 * N` bytes: the first `N` and the last `N`, which may overlap.
 #[inline(always)]
 fn put_plain_ends<const N: usize>(bytes: &mut [u8], offset: usize, string: &[u8]) -> bool
     requires lanes { N ≤ 16 }
@@ -163,45 +130,25 @@ fn put_plain_ends<const N: usize>(bytes: &mut [u8], offset: usize, string: &[u8]
     ensures left { result ≡ false → bytes.new ≡ bytes.old }
     ensures len { length bytes.new ≡ length bytes.old }
 {
-    let is_plain = is_plain_by_ends::<N>(string);
-    if is_plain {
-        put_ends::<N>(bytes, offset, string);
+    if !is_plain_by_ends::<N>(string) {
+        return false;
     }
-    is_plain
-}
-
-/// Puts `N` to `2 * N` bytes at an offset: the first `N` and the last `N`, which may overlap.
-#[inline(always)]
-fn put_ends<const N: usize>(bytes: &mut [u8], offset: usize, text: &[u8])
-    requires few { N ≤ length text.now }
-    requires covered { length text.now ≤ N + N }
-    requires within { offset + length text.now ≤ length bytes.old }
-    ensures text { take (offset + length text.now) bytes.new ≡ take offset bytes.old ++ text.now }
-    ensures next { slice_index_or bytes.new (offset + length text.now) 0
-        ≡ slice_index_or bytes.old (offset + length text.now) 0 }
-    ensures len { length bytes.new ≡ length bytes.old }
-{
-    let start = text.len() - N;
-    let first = Simd::<u8, N>::from_slice(text);
-    let last = Simd::<u8, N>::from_slice(&text[start..]);
+    let start = string.len() - N;
+    let first = Simd::<u8, N>::from_slice(string);
+    let last = Simd::<u8, N>::from_slice(&string[start..]);
     first.copy_to_slice(&mut bytes[offset..]);
     last.copy_to_slice(&mut bytes[offset + start..]);
+    true
 }
 
-/// Adds any string in quotes, escaped. Not inlined, so that what is inlined for short strings makes
-/// no call.
+/// Adds a string in quotes if it needs no escape and no allocation fails, and returns whether it
+/// did. Otherwise nothing is added.
 #[inline(never)]
-fn push_any(bytes: &mut Vec<u8>, string: &[u8], slot: &mut ErrorSlot) -> SlotResult<()>
-    ensures { Sends (Just (quoted string.now)) (Some bytes.old.items)
-        (Some bytes.new.items) result }
+pub(super) fn push_plain(bytes: &mut Vec<u8>, string: &[u8]) -> bool
+    ensures done { IsTrue result → bytes.new.items ≡ bytes.old.items ++ quoted string.now }
+    ensures left { result ≡ false → bytes.new.items ≡ bytes.old.items }
 {
-    if plain_len(string) < string.len() {
-        return send_escaped(bytes, string, slot);
-    }
-    match push_quoted(bytes, string) {
-        Ok(()) => Ok(()),
-        Err(_) => out_of_memory(slot),
-    }
+    plain_len(string) == string.len() && push_quoted(bytes, string).is_ok()
 }
 
 /// Adds in quotes a string that needs no escape, with one request for room. After an error nothing
@@ -219,21 +166,12 @@ fn push_quoted(bytes: &mut Vec<u8>, string: &[u8]) -> Result<(), AllocError>
     Ok(())
 }
 
-/// Adds a string in quotes, escaped. Not inlined, so that `push_any` saves no registers for it.
-#[cold]
-#[inline(never)]
-fn send_escaped(bytes: &mut Vec<u8>, string: &[u8], slot: &mut ErrorSlot) -> SlotResult<()>
-    ensures { Sends (Just (quoted string.now)) (Some bytes.old.items)
-        (Some bytes.new.items) result }
-{
-    send_string(bytes, b"\"", string, slot)
-}
-
 /// Writes the escape of a byte that needs one.
 fn send_escape<W: Write>(writer: &mut W, byte: u8, slot: &mut ErrorSlot) -> SlotResult<()>
     requires { is_plain byte ≡ false }
-    ensures { Sends (Just (escaped_byte byte)) (W.contents writer.old)
+    ensures bytes { Sends (Just (escaped_byte byte)) (W.contents writer.old)
         (W.contents writer.new) result }
+    ensures slot { OnErr result (IsSome slot.new) }
 {
     let mut room = [0; ESCAPE_MAX_LEN];
     let start = put_escape(&mut room, byte);

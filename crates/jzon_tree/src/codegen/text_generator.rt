@@ -1,23 +1,18 @@
 //! The generators of the crate: they write a text in a layout, into memory of their own or to a
 //! borrowed writer.
 
-ghost use Rattle.std.specs.Prelude.{◌≡◌, ◌∷◌, ℕ, List, [], Option, Ok, None, Some, IsTrue, IsUtf8, MatchResult, refl};
-ghost use Rattle.std.specs.Prelude.{false, replicate, string_bytes};
-ghost use Rattle.std.specs.Borrow.{GName, sem, Lends};
-ghost use Rattle.jzon_tokens.specs.NumberText.{written_text};
+ghost use Rattle.std.specs.Prelude.{◌≡◌, [], Ok, None, Some, IsTrue, IsUtf8, IfErr, MatchResult, string_bytes};
+ghost use Rattle.std.specs.IoError.{error_kind};
 ghost use Rattle.jzon_base.specs.PairList.{keys_of};
 ghost use Rattle.jzon_tree.specs.Entries.{entries_of};
-ghost use Rattle.jzon_tree.specs.Generator.{Added, Adds, Failed, Counts, Just, IsAnswer, Sends};
+ghost use Rattle.jzon_tree.specs.Generator.{Added, Failed, Counts, Just, IsAnswer};
 ghost use Rattle.jzon_tree.specs.Generators.{text_meaning, with_writer_in, same_emitted, fresh, IsConsumed};
-ghost use Rattle.jzon_tree.specs.Generators.{bytes_in, with_bytes};
 ghost use Rattle.jzon_tree.specs.Styles.{compact_style, pretty_style};
-ghost use Rattle.jzon_tree.specs.Text.{quoted};
 
 use crate::codegen::error_slot::{ErrorSlot, SlotResult, send, take_result};
 use crate::codegen::generator::Generator;
-use crate::codegen::layout::{Compact, Layout, Pretty, SHORT_LINE, push_line, send_line};
-use crate::codegen::numbers::{push_number, send_number};
-use crate::codegen::strings::{push_string, send_string, send_string_from};
+use crate::codegen::layout::{Compact, Layout, Pretty};
+use crate::codegen::outlet::{Memory, Outlet, Place, Through, line_to, number_to, string_to};
 use crate::object::Object;
 use jzon_base::error::{Error, Result};
 use jzon_tokens::number::Number;
@@ -25,207 +20,23 @@ use std::alloc::Global;
 use std::io;
 use std::io::{ErrorKind, Write};
 
-/// Where a generator writes: memory of its own, or a borrowed writer.
-#[doc(hidden)]
-pub trait Outlet {
-    /// The writer.
-    type T: Write;
-
-    // The bytes written so far, and the reference that is written through, if one is.
-    ghost out: { Self → Option (List ℕ) };
-
-    ghost lender: { Self → Option GName };
-
-    // The outlet with this writer instead of its own.
-    ghost with_writer: { Self → Self.T → Self };
-
-    /// Lends the writer.
-    fn writer(&mut self) -> &mut Self::T
-        ensures* writes_back { sem 𝓛 (Lends Self.row Self.T.row self.entry result
-            (with_writer self.old)) }
-        ensures bytes { Self.T.contents result.now ≡ out self.old };
-
-    /// Writes the string in quotes, escaped.
-    fn send_quoted(&mut self, string: &[u8], slot: &mut ErrorSlot) -> SlotResult<()>
-        ensures bytes { Sends (Just (quoted string.now)) (out self.old) (out self.new) result }
-        ensures lender { lender self.new ≡ lender self.old }
-    {
-        send_string(self.writer(), b"\"", string, slot)
-    }
-
-    /// Writes the text of the number, or `null` for NaN.
-    fn send_number(&mut self, number: &Number, slot: &mut ErrorSlot) -> SlotResult<()>
-        ensures bytes { Sends (Just (written_text number.now)) (out self.old) (out self.new)
-            result }
-        ensures lender { lender self.new ≡ lender self.old }
-    {
-        send_number(self.writer(), number, slot)
-    }
-
-    /// Writes a newline and `spaces` spaces.
-    fn send_line(&mut self, spaces: u128, slot: &mut ErrorSlot) -> SlotResult<()>
-        ensures bytes { Sends (Just (10 ∷ replicate spaces 32)) (out self.old)
-            (out self.new) result }
-        ensures lender { lender self.new ≡ lender self.old };
-
-    // Another writer changes the bytes alone.
-    ghost out_law: { (o : Self) (w : Self.T) → out (with_writer o w) ≡ Self.T.contents w };
-
-    ghost lender_law: { (o : Self) (w : Self.T) → lender (with_writer o w) ≡ lender o };
-}
-
-/// Memory of its own.
+/// Writes text to its place in a layout.
 #[derive(Debug, Drop)]
-pub struct Memory {
-    pub(super) bytes: Vec<u8>,
-}
-
-impl Outlet for Memory {
-    type T = Vec<u8>;
-
-    ghost out = { bytes_in };
-
-    ghost lender = { λ _. None };
-
-    ghost with_writer = { with_bytes };
-
-    fn writer(&mut self) -> &mut Vec<u8> {
-        &mut self.bytes
-    }
-
-    /// Short strings that need no escape are put into the vector by their first and last bytes.
-    #[inline(always)]
-    fn send_quoted(&mut self, string: &[u8], slot: &mut ErrorSlot) -> SlotResult<()> {
-        push_string(&mut self.bytes, string, slot)
-    }
-
-    /// Most numbers are put into the vector directly.
-    #[inline(always)]
-    fn send_number(&mut self, number: &Number, slot: &mut ErrorSlot) -> SlotResult<()> {
-        push_number(&mut self.bytes, number, slot)
-    }
-
-    #[inline(always)]
-    fn send_line(&mut self, spaces: u128, slot: &mut ErrorSlot) -> SlotResult<()> {
-        let bytes = &mut self.bytes;
-        if spaces < SHORT_LINE as u128 && SHORT_LINE <= bytes.capacity() - bytes.len() {
-            push_line(bytes, spaces as usize);
-            return Ok(());
-        }
-        send_line(bytes, spaces, slot)
-    }
-
-    ghost out_law = { λ _ _. refl };
-
-    ghost lender_law = { λ _ _. refl };
-}
-
-/// A borrowed writer.
-impl<'a, W: Write> Outlet for &'a mut W {
-    type T = W;
-
-    ghost out = { λ o. W.contents o.now };
-
-    ghost lender = { λ o. Some o.ghost_name };
-
-    ghost with_writer = { λ o w. record o { now = w } };
-
-    fn writer(&mut self) -> &mut W {
-        &mut **self
-    }
-
-    #[inline(always)]
-    fn send_line(&mut self, spaces: u128, slot: &mut ErrorSlot) -> SlotResult<()> {
-        send_line(&mut **self, spaces, slot)
-    }
-
-    ghost out_law = { λ _ _. refl };
-
-    ghost lender_law = { λ _ _. refl };
-}
-
-/// A writer that takes a short string or a number's digits at once, as it has memory for them.
-#[doc(hidden)]
-pub trait QuickWrite: Write {
-    /// Writes the string in quotes if it is short, needs no escape, and there is room for it, and
-    /// returns whether it did. Otherwise nothing is written.
-    fn write_short(&mut self, string: &[u8]) -> bool
-        ensures done { IsTrue result → Adds (Just (quoted string.now))
-            (Self.Write.contents self.old) (Self.Write.contents self.new) }
-        ensures left { result ≡ false → Self.Write.contents self.new
-            ≡ Self.Write.contents self.old };
-
-    /// Writes the text of the number where that takes no more than putting digits into room that is
-    /// there, and returns whether it did. Otherwise nothing is written.
-    fn write_digits(&mut self, number: &Number) -> bool
-        ensures done { IsTrue result → Adds (Just (written_text number.now))
-            (Self.Write.contents self.old) (Self.Write.contents self.new) }
-        ensures left { result ≡ false → Self.Write.contents self.new
-            ≡ Self.Write.contents self.old };
-}
-
-/// A borrowed writer that takes short strings and digits at once.
-#[doc(hidden)]
-#[derive(Drop)]
-pub struct Quick<'a, W> {
-    writer: &'a mut W,
-}
-
-impl<'a, W: QuickWrite> Outlet for Quick<'a, W> {
-    type T = W;
-
-    ghost out = { λ o. W.Write.contents o.writer.now };
-
-    ghost lender = { λ o. Some o.writer.ghost_name };
-
-    ghost with_writer = { λ o w. record o { writer = record o.writer { now = w } } };
-
-    fn writer(&mut self) -> &mut W {
-        &mut *self.writer
-    }
-
-    #[inline(always)]
-    fn send_quoted(&mut self, string: &[u8], slot: &mut ErrorSlot) -> SlotResult<()> {
-        if self.writer.write_short(string) {
-            return Ok(());
-        }
-        send_string(&mut *self.writer, b"\"", string, slot)
-    }
-
-    #[inline(always)]
-    fn send_number(&mut self, number: &Number, slot: &mut ErrorSlot) -> SlotResult<()> {
-        if self.writer.write_digits(number) {
-            return Ok(());
-        }
-        send_number(&mut *self.writer, number, slot)
-    }
-
-    #[inline(always)]
-    fn send_line(&mut self, spaces: u128, slot: &mut ErrorSlot) -> SlotResult<()> {
-        send_line(&mut *self.writer, spaces, slot)
-    }
-
-    ghost out_law = { λ _ _. refl };
-
-    ghost lender_law = { λ _ _. refl };
-}
-
-/// Writes text to its outlet in a layout.
-#[derive(Debug, Drop)]
-pub struct TextGenerator<O: Outlet, L: Layout> {
-    pub(super) outlet: O,
+pub struct TextGenerator<P: Place, L: Layout> {
+    pub(super) place: P,
     layout: L,
     dent: u64,
     faults: u64,
 }
 
-impl<O: Outlet, L: Layout> TextGenerator<O, L> {
-    /// Without an open indent and without a fault.
-    pub(super) fn over(outlet: O, layout: L) -> TextGenerator<O, L>
-        ensures { result ≡ record { outlet = outlet; layout = layout; dent = 0; faults = 0 } }
+impl<P: Place, L: Layout> TextGenerator<P, L> {
+    /// A generator of this layout that adds to what was written there.
+    pub(super) fn over(place: P, layout: L) -> TextGenerator<P, L>
+        ensures { ⟦<TextGenerator<P, L> as Generator>⟧.meaning result
+            ≡ fresh (P.out place) (L.style layout) (P.lender place) }
     {
         TextGenerator {
-            outlet,
+            place,
             layout,
             dent: 0,
             faults: 0,
@@ -236,8 +47,8 @@ impl<O: Outlet, L: Layout> TextGenerator<O, L> {
     #[inline(always)]
     fn count(&mut self, step: SlotResult<()>) -> SlotResult<()>
         ensures result { result ≡ step }
-        ensures faults { Counts step (text_meaning O.out O.lender L.style self.old)
-            (text_meaning O.out O.lender L.style self.new) }
+        ensures faults { Counts step (text_meaning P.out P.lender L.style self.old)
+            (text_meaning P.out P.lender L.style self.new) }
     {
         if step.is_err() {
             self.note_fault();
@@ -246,15 +57,15 @@ impl<O: Outlet, L: Layout> TextGenerator<O, L> {
     }
 }
 
-impl<O: Outlet, L: Layout> Generator for TextGenerator<O, L> {
-    type T = O::T;
+impl<P: Place, L: Layout> Generator for TextGenerator<P, L> {
+    type T = P::T;
 
-    ghost meaning = { text_meaning O.out O.lender L.style };
+    ghost meaning = { text_meaning P.out P.lender L.style };
 
-    ghost with_writer = { with_writer_in O.with_writer };
+    ghost with_writer = { with_writer_in P.with_writer };
 
-    fn get_writer(&mut self) -> &mut O::T {
-        self.outlet.writer()
+    fn get_writer(&mut self) -> &mut P::T {
+        self.place.writer()
     }
 
     fn write(&mut self, slice: &[u8]) -> io::Result<()> {
@@ -279,12 +90,6 @@ impl<O: Outlet, L: Layout> Generator for TextGenerator<O, L> {
         let mut slot = None;
         let step = self.try_write_string(string, &mut slot);
         take_result(step, slot)
-    }
-
-    fn write_string_complex(&mut self, string: &str, start: usize) -> io::Result<()> {
-        let mut slot = None;
-        let step = send_string_from(self.outlet.writer(), string, start, &mut slot);
-        take_result(self.count(step), slot)
     }
 
     fn write_number(&mut self, num: &Number) -> io::Result<()> {
@@ -320,13 +125,14 @@ impl<O: Outlet, L: Layout> Generator for TextGenerator<O, L> {
     #[inline(always)]
     fn order(&mut self, object: &Object) -> io::Result<Option<Vec<usize>>>
         ensures answer { MatchResult result
-            (λ answer. Added (Just []) (text_meaning O.out O.lender L.style self.old)
-            (text_meaning O.out O.lender L.style self.new)
+            (λ answer. Added (Just []) (text_meaning P.out P.lender L.style self.old)
+            (text_meaning P.out P.lender L.style self.new)
             × IsAnswer (L.style self.old.layout) (keys_of (entries_of object.now)) answer)
-            (λ _. Failed (Just []) (text_meaning O.out O.lender L.style self.old)
-            (text_meaning O.out O.lender L.style self.new)) }
+            (λ _. Failed (Just []) (text_meaning P.out P.lender L.style self.old)
+            (text_meaning P.out P.lender L.style self.new)) }
         ensures insertion { IsTrue (L.keeps_order self.old.layout) → (result ≡ Ok None)
             × (self.new ≡ self.old) }
+        ensures memory { IfErr result (λ error. error_kind error ≡ ErrorKind.OutOfMemory) }
     {
         match self.layout.order(object) {
             Ok(answer) => Ok(answer),
@@ -339,13 +145,13 @@ impl<O: Outlet, L: Layout> Generator for TextGenerator<O, L> {
 
     #[inline(always)]
     fn try_write(&mut self, slice: &[u8], slot: &mut ErrorSlot) -> SlotResult<()> {
-        let step = send(self.outlet.writer(), slice, slot);
+        let step = send(self.place.writer(), slice, slot);
         self.count(step)
     }
 
     #[inline(always)]
     fn try_write_char(&mut self, ch: u8, slot: &mut ErrorSlot) -> SlotResult<()> {
-        let step = send(self.outlet.writer(), &[ch], slot);
+        let step = send(self.place.writer(), &[ch], slot);
         self.count(step)
     }
 
@@ -359,12 +165,12 @@ impl<O: Outlet, L: Layout> Generator for TextGenerator<O, L> {
     }
 
     fn try_write_string(&mut self, string: &str, slot: &mut ErrorSlot) -> SlotResult<()> {
-        let step = self.outlet.send_quoted(string.as_bytes(), slot);
+        let step = string_to(&mut self.place, string.as_bytes(), slot);
         self.count(step)
     }
 
     fn try_write_number(&mut self, num: &Number, slot: &mut ErrorSlot) -> SlotResult<()> {
-        let step = self.outlet.send_number(num, slot);
+        let step = number_to(&mut self.place, num, slot);
         self.count(step)
     }
 
@@ -374,11 +180,11 @@ impl<O: Outlet, L: Layout> Generator for TextGenerator<O, L> {
             return Ok(());
         };
         let spaces = self.dent as u128 * spaces as u128;
-        let step = self.outlet.send_line(spaces, slot);
+        let step = line_to(&mut self.place, spaces, slot);
         self.count(step)
     }
 
-    ghost writer_law = { λ g w. same_emitted (O.out_law g.outlet w) (O.lender_law g.outlet w) };
+    ghost writer_law = { λ g w. same_emitted (P.out_law g.place w) (P.lender_law g.place w) };
 
     ghost style_law = { λ g. L.style_law g.layout };
 }
@@ -429,15 +235,15 @@ impl<L: Layout + Drop> TextGenerator<Memory, L> {
     pub fn consume(self) -> Result<String>
         ensures { IsConsumed (⟦<TextGenerator<Memory, L> as Generator>⟧.meaning self).out result }
     {
-        String::from_utf8(self.outlet.bytes).map_err(|_| Error::FailedUtf8Parsing)
+        String::from_utf8(self.place.bytes).map_err(|_| Error::FailedUtf8Parsing)
     }
 
     /// The bytes that were written, which are UTF-8, as a string. They aren't tested.
     pub(crate) fn into_text(self) -> String
-        requires { IsUtf8 self.outlet.bytes.items }
-        ensures { string_bytes result ≡ self.outlet.bytes.items }
+        requires { IsUtf8 self.place.bytes.items }
+        ensures { string_bytes result ≡ self.place.bytes.items }
     {
-        unsafe { String::from_utf8_unchecked(self.outlet.bytes) }
+        unsafe { String::from_utf8_unchecked(self.place.bytes) }
     }
 }
 
@@ -480,23 +286,23 @@ impl<'a, W: Write, L: Layout> TextGenerator<&'a mut W, L> {
     }
 }
 
-impl<'a, W: QuickWrite, L: Layout> TextGenerator<Quick<'a, W>, L> {
-    /// As `to_writer`, for a writer that takes short strings and digits at once.
-    pub(crate) fn to_quick_writer(writer: &'a mut W, layout: L) -> TextGenerator<Quick<'a, W>, L>
-        ensures { ⟦<TextGenerator<Quick<'a, W>, L> as Generator>⟧.meaning result
-            ≡ fresh (W.Write.contents writer.old) (L.style layout) (Some writer.entry.ghost_name) }
+impl<'a, W: Outlet, L: Layout> TextGenerator<Through<'a, W>, L> {
+    /// A generator of this layout that appends to what was written to the outlet.
+    pub(crate) fn to_outlet(outlet: &'a mut W, layout: L) -> TextGenerator<Through<'a, W>, L>
+        ensures { ⟦<TextGenerator<Through<'a, W>, L> as Generator>⟧.meaning result
+            ≡ fresh (W.Write.contents outlet.old) (L.style layout) (Some outlet.entry.ghost_name) }
     {
-        TextGenerator::over(Quick { writer }, layout)
+        TextGenerator::over(Through { outlet }, layout)
     }
 
-    /// The writer.
-    pub(crate) fn into_writer(self) -> &'a mut W
+    /// The outlet.
+    pub(crate) fn into_outlet(self) -> &'a mut W
     where
         L: Drop,
-        ensures same_reference { result.ghost_name ≡ self.entry.outlet.writer.ghost_name }
-        ensures writer { result.now ≡ self.entry.outlet.writer.now }
+        ensures same_reference { result.ghost_name ≡ self.entry.place.outlet.ghost_name }
+        ensures outlet { result.now ≡ self.entry.place.outlet.now }
     {
-        let Quick { writer } = self.outlet;
-        writer
+        let Through { outlet } = self.place;
+        outlet
     }
 }

@@ -8,9 +8,9 @@ ghost use Rattle.jzon_tree.specs.Value.{nest};
 ghost use Rattle.jzon_tree.specs.View.{view_object};
 ghost use Rattle.jzon_tree.specs.Writing.{Writes};
 
-use crate::codegen::{DumpGenerator, PrettyGenerator, write_object};
+use crate::codegen::driver::print_object;
+use crate::codegen::{DumpGenerator, PrettyGenerator};
 use crate::object::Object;
-use crate::value::inspect::inspect_object;
 use jzon_base::error::{Error, Result};
 use std::alloc::Global;
 
@@ -28,9 +28,9 @@ impl Object {
             → IsOkUnless result Error.ExceededDepthLimit }
     {
         let mut generator = DumpGenerator::new(alloc);
-        match write_object(&mut generator, self) {
+        match print_object(&mut generator, self) {
             Ok(()) => Ok(generator.into_text()),
-            Err(_) => Err(inspect_object(self).refusal()),
+            Err(fault) => Err(fault.found.refusal()),
         }
     }
 
@@ -48,9 +48,9 @@ impl Object {
             → IsOkUnless result Error.ExceededDepthLimit }
     {
         let mut generator = PrettyGenerator::new(alloc, spaces);
-        match write_object(&mut generator, self) {
+        match print_object(&mut generator, self) {
             Ok(()) => Ok(generator.into_text()),
-            Err(_) => Err(inspect_object(self).refusal()),
+            Err(fault) => Err(fault.found.refusal()),
         }
     }
 }

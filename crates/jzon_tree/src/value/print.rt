@@ -11,12 +11,12 @@ ghost use Rattle.jzon_tree.specs.Value.{nest};
 ghost use Rattle.jzon_tree.specs.View.{view};
 ghost use Rattle.jzon_tree.specs.Writing.{Writes};
 
+use crate::codegen::driver::print_value;
 use crate::codegen::{
-    DumpGenerator, Layout, PrettyGenerator, PrettyWriterGenerator, QuickWrite, TextGenerator,
+    DumpGenerator, Layout, Outlet, PrettyGenerator, PrettyWriterGenerator, TextGenerator,
     WriterGenerator, write_json,
 };
 use crate::value::JsonValue;
-use crate::value::inspect::inspect;
 use jzon_base::error::{Error, Result};
 use std::alloc::Global;
 use std::io;
@@ -40,9 +40,9 @@ impl JsonValue {
         ensures depth { 2 ^ 64 ≤ nest (view self.now) → IsOkUnless result Error.ExceededDepthLimit }
     {
         let mut generator = DumpGenerator::new(alloc);
-        match write_json(&mut generator, self) {
+        match print_value(&mut generator, self) {
             Ok(()) => Ok(generator.into_text()),
-            Err(_) => Err(inspect(self).refusal()),
+            Err(fault) => Err(fault.found.refusal()),
         }
     }
 
@@ -58,9 +58,9 @@ impl JsonValue {
         ensures depth { 2 ^ 64 ≤ nest (view self.now) → IsOkUnless result Error.ExceededDepthLimit }
     {
         let mut generator = PrettyGenerator::new(alloc, spaces);
-        match write_json(&mut generator, self) {
+        match print_value(&mut generator, self) {
             Ok(()) => Ok(generator.into_text()),
-            Err(_) => Err(inspect(self).refusal()),
+            Err(fault) => Err(fault.found.refusal()),
         }
     }
 
@@ -70,11 +70,13 @@ impl JsonValue {
         ensures writing { IfOk result (λ text. Writes (L.style layout) 0 (view self.now)
             (string_bytes text)) }
         ensures value { IsValue (view self.now) }
+        ensures memory { nest (view self.now) < 2 ^ 64 → IsOkUnless result Error.OutOfMemory }
+        ensures depth { 2 ^ 64 ≤ nest (view self.now) → IsOkUnless result Error.ExceededDepthLimit }
     {
         let mut generator = TextGenerator::in_memory(alloc, layout);
-        match write_json(&mut generator, self) {
-            Ok(()) => generator.consume(),
-            Err(_) => Err(inspect(self).refusal()),
+        match print_value(&mut generator, self) {
+            Ok(()) => Ok(generator.into_text()),
+            Err(fault) => Err(fault.found.refusal()),
         }
     }
 
@@ -125,20 +127,20 @@ impl JsonValue {
         write_json(&mut generator, self)
     }
 
-    /// As `write_layout`, to a writer that takes short strings and digits at once.
-    #[doc(hidden)]
-    pub fn write_quickly<W: QuickWrite, L: Layout + Drop>(
+    /// As `write_layout`, to an outlet, which may take strings, numbers and lines at once.
+    pub fn write_outlet<W: Outlet, L: Layout + Drop>(
         &self,
-        writer: &mut W,
+        outlet: &mut W,
         layout: L,
     ) -> io::Result<()>
-        ensures { Sends (Writes (L.style layout) 0 (view self.now))
-            (W.Write.contents writer.old) (W.Write.contents writer.new) result }
+        ensures writing { Sends (Writes (L.style layout) 0 (view self.now))
+            (W.Write.contents outlet.old) (W.Write.contents outlet.new) result }
+        ensures value { IsValue (view self.now) }
     {
-        let mut generator = TextGenerator::to_quick_writer(writer, layout);
+        let mut generator = TextGenerator::to_outlet(outlet, layout);
         let answer = write_json(&mut generator, self);
-        let inner = generator.into_writer();
-        // No effect at run time. From this use the proof learns what the writer holds.
+        let inner = generator.into_outlet();
+        // No effect at run time. From this use the proof learns what the outlet holds.
         let _ = &*inner;
         answer
     }

@@ -28,26 +28,26 @@ pub write_array-returns-in_err-try_write_char-clause-written :
 write_array-returns-in_err-try_write_char-clause-written g t c =
     array_at_opening _ (g.met.G.Generator.style_law c.args.g.now) (map view c.args.items.now)
     (not_empty c.args.items.now c.is_empty.result c.is_empty.ensures c.if-is_empty.false) _ _
-    c.from_residual.ensures.0 c.in_err-try_write_char.ensures
+    c.from_residual.ensures.0 c.in_err-try_write_char.ensures.bytes
 
 pub write_array-returns-in_err-try_indent-clause-written : goal.write_array-returns-in_err-try_indent-clause-written
 write_array-returns-in_err-try_indent-clause-written g t c =
     array_at_indent _ (g.met.G.Generator.style_law c.args.g.now) (map view c.args.items.now)
     (not_empty c.args.items.now c.is_empty.result c.is_empty.ensures c.if-is_empty.false) _ _ _
-    c.in_ok-try_write_char.ensures c.from_residual-in_err-try_indent.ensures.0 c.in_err-try_indent.ensures.1
+    c.in_ok-try_write_char.ensures.bytes c.from_residual-in_err-try_indent.ensures.0 c.in_err-try_indent.ensures.dent.1
 
 pub write_array-returns-in_err-write_items-clause-written : goal.write_array-returns-in_err-write_items-clause-written
 write_array-returns-in_err-write_items-clause-written g t c =
     array_at_items _ (g.met.G.Generator.style_law c.args.g.now) (map view c.args.items.now)
     (not_empty c.args.items.now c.is_empty.result c.is_empty.ensures c.if-is_empty.false) _ _ _
-    c.in_ok-try_write_char.ensures _ c.in_ok-try_indent.ensures c.from_residual-in_err-write_items.ensures.0
+    c.in_ok-try_write_char.ensures.bytes _ c.in_ok-try_indent.ensures.dent c.from_residual-in_err-write_items.ensures.0
     c.in_err-write_items.ensures.written
 
 pub write_array-returns-clause-written : goal.write_array-returns-clause-written
 write_array-returns-clause-written g t c =
     array_at_close _ (g.met.G.Generator.style_law c.args.g.now) (map view c.args.items.now)
     (not_empty c.args.items.now c.is_empty.result c.is_empty.ensures c.if-is_empty.false) _ _ _
-    c.in_ok-try_write_char.ensures _ c.in_ok-try_indent.ensures _ c.in_ok-write_items.ensures.written c.close.ensures
+    c.in_ok-try_write_char.ensures.bytes _ c.in_ok-try_indent.ensures.dent _ c.in_ok-write_items.ensures.written c.close.ensures.bytes
 
 pub write_items-returns-in_err-begin_item-clause-written : goal.write_items-returns-in_err-begin_item-clause-written
 write_items-returns-in_err-begin_item-clause-written g t c =
@@ -57,7 +57,7 @@ write_items-returns-in_err-begin_item-clause-written g t c =
     rw (map-at view items i x (omega arith) c.index-items-index.is)
     (items_at_begin _ (g.met.G.Generator.style_law c.args.g.now) (map view (take i items)) (view x)
     (map view (drop (i + 1) items)) _ _ c.loop-index.invariant.0 _ c.from_residual.ensures.0
-    (rw (length-map-take view items i (omega arith)) c.in_err-begin_item.ensures))
+    (rw (length-map-take view items i (omega arith)) c.in_err-begin_item.ensures.bytes))
 
 pub write_items-returns-in_err-write_value-clause-written : goal.write_items-returns-in_err-write_value-clause-written
 write_items-returns-in_err-write_value-clause-written g t c =
@@ -67,7 +67,7 @@ write_items-returns-in_err-write_value-clause-written g t c =
     rw (map-at view items i x (omega arith) c.index-items-index.is)
     (items_at_item _ (g.met.G.Generator.style_law c.args.g.now) (map view (take i items)) (view x)
     (map view (drop (i + 1) items)) _ _ c.loop-index.invariant.0 _
-    (rw (length-map-take view items i (omega arith)) c.in_ok-begin_item.ensures) _
+    (rw (length-map-take view items i (omega arith)) c.in_ok-begin_item.ensures.bytes) _
     c.from_residual-in_err-write_value.ensures.0 c.in_err-write_value.ensures.written)
 
 pub write_items-loop-index-preserved : goal.write_items-loop-index-preserved
@@ -78,7 +78,7 @@ write_items-loop-index-preserved g t c =
       rw (map-take_more view items i x (omega arith) c.index-items-index.is)
           (items_more _ (g.met.G.Generator.style_law c.args.g.now) (map view (take i items)) (view x)
           (map view (drop (i + 1) items)) _ _ c.loop-index.invariant.0 _
-          (rw (length-map-take view items i (omega arith)) c.in_ok-begin_item.ensures)
+          (rw (length-map-take view items i (omega arith)) c.in_ok-begin_item.ensures.bytes)
           c.in_ok-write_value.ensures.written),
       keyed_more items i x (omega arith) c.index-items-index.is c.loop-index.invariant.1
           c.in_ok-write_value.ensures.value,
@@ -91,7 +91,7 @@ write_pair-returns-in_err-try_write_string-clause-written g t c =
     let e : List ℕ × Value = (c.args.key.now, view c.args.value.now) in
     PrintsIf-at_err _ _ _ _ _ c.from_residual.ensures.0 (λ keyed. Stopped-failed _ _ _
     (Failed-begins (Just (quoted e.0)) (IsEntry a.style a.dent e) _ _
-    (after_key a.style a.dent e (g.met.G.Generator.style_law c.args.g.now) keyed) c.in_err-try_write_string.ensures))
+    (after_key a.style a.dent e (g.met.G.Generator.style_law c.args.g.now) keyed) c.in_err-try_write_string.ensures.bytes))
 
 pub write_pair-returns-in_err-try_write_min-clause-written : goal.write_pair-returns-in_err-try_write_min-clause-written
 write_pair-returns-in_err-try_write_min-clause-written g t c =
@@ -101,14 +101,14 @@ write_pair-returns-in_err-try_write_min-clause-written g t c =
     (Failed-begins (AfterColon a.style a.dent e) (IsEntry a.style a.dent e) _ _
     (after_colon a.style a.dent e (g.met.G.Generator.style_law c.args.g.now) keyed)
     (Failed-after (Just (quoted e.0)) (λ s d. IsForm s (58 ∷ 32 ∷ []) 58) (AfterColon a.style a.dent e) _ _ _
-    (pair_colon a.style a.dent e) c.in_ok-try_write_string.ensures c.in_err-try_write_min.ensures)))
+    (pair_colon a.style a.dent e) c.in_ok-try_write_string.ensures.bytes c.in_err-try_write_min.ensures.bytes)))
 
 pub write_pair-returns-clause-written : goal.write_pair-returns-clause-written
 write_pair-returns-clause-written g t c =
     let a = g.G.Generator.meaning c.args.g.now in
     let e : List ℕ × Value = (c.args.key.now, view c.args.value.now) in
     let k = Added-after (Just (quoted e.0)) (λ s d. IsForm s (58 ∷ 32 ∷ []) 58) (AfterColon a.style a.dent e) _ _ _
-    (pair_colon a.style a.dent e) c.in_ok-try_write_string.ensures c.in_ok-try_write_min.ensures in
+    (pair_colon a.style a.dent e) c.in_ok-try_write_string.ensures.bytes c.in_ok-try_write_min.ensures.bytes in
     PrintsIf-after (AfterColon a.style a.dent e) (λ s d. Writes s d e.1) (IsEntry a.style a.dent e) _ _ _
     (pair_value a.style a.dent e) k _ _ c.write_value.ensures.written
 
@@ -155,7 +155,7 @@ write_members-returns-in_err-begin_item-clause-written g t c =
     c.loop-index.index _ (rw length_is (rw c.len-index-end.ensures.len at c.loop-index-test.true))
     (entry_named entries c.position_of-position.result _ c.get_at.result.0.now c.get_at.result.1.now
     (rw c.len.ensures.len at c.position_of-position.ensures) c.get_at.ensures)
-    _ _ c.loop-index.invariant.0 _ c.from_residual.ensures.0 c.in_err-begin_item.ensures
+    _ _ c.loop-index.invariant.0 _ c.from_residual.ensures.0 c.in_err-begin_item.ensures.bytes
 
 pub write_members-returns-in_err-write_pair-clause-written : goal.write_members-returns-in_err-write_pair-clause-written
 write_members-returns-in_err-write_pair-clause-written g t c =
@@ -167,7 +167,7 @@ write_members-returns-in_err-write_pair-clause-written g t c =
     c.loop-index.index _ (rw length_is (rw c.len-index-end.ensures.len at c.loop-index-test.true))
     (entry_named entries c.position_of-position.result _ c.get_at.result.0.now c.get_at.result.1.now
     (rw c.len.ensures.len at c.position_of-position.ensures) c.get_at.ensures)
-    _ _ c.loop-index.invariant.0 _ c.in_ok-begin_item.ensures _ c.from_residual-in_err-write_pair.ensures.0
+    _ _ c.loop-index.invariant.0 _ c.in_ok-begin_item.ensures.bytes _ c.from_residual-in_err-write_pair.ensures.0
     c.in_err-write_pair.ensures.written
 
 pub write_members-loop-index-preserved : goal.write_members-loop-index-preserved
@@ -180,7 +180,7 @@ write_members-loop-index-preserved g t c =
       members_more a (g.met.G.Generator.style_law c.args.g.now) (viewed entries)
           (positions (length entries) c.args.order.now) (answer_order a.style entries c.args.order.now c.requires)
           c.loop-index.index _ (rw length_is (rw c.len-index-end.ensures.len at c.loop-index-test.true)) here
-          _ _ c.loop-index.invariant.0 _ c.in_ok-begin_item.ensures c.in_ok-write_pair.ensures.written,
+          _ _ c.loop-index.invariant.0 _ c.in_ok-begin_item.ensures.bytes c.in_ok-write_pair.ensures.written,
       named_more (viewed entries) (positions (length entries) c.args.order.now) c.loop-index.index
           (subst IsPair (sym here) c.in_ok-write_pair.ensures.value) c.loop-index.invariant.1,
     )
@@ -198,59 +198,59 @@ write_pairs-returns-in_err-order-clause-written g t c =
     let v = view_object c.args.object.now in
     PrintsIf-at_err _ _ _ _ _ c.from_residual.ensures.0 (λ keyed. Stopped-failed _ _ _
     (Failed-begins (Just []) (Writes a.style a.dent v) _ _ (λ x e. rw e
-    (some_writing a.style (g.met.G.Generator.style_law c.args.g.now) a.dent v keyed)) c.in_err-order.ensures))
+    (some_writing a.style (g.met.G.Generator.style_law c.args.g.now) a.dent v keyed)) c.in_err-order.ensures.order))
 
 pub write_pairs-returns-then-is_empty-clause-written : goal.write_pairs-returns-then-is_empty-clause-written
 write_pairs-returns-then-is_empty-clause-written g t c =
-    after_order _ _ _ (view_object c.args.object.now) _ _ c.in_ok-order.ensures.0
+    after_order _ _ _ (view_object c.args.object.now) _ _ c.in_ok-order.ensures.order.0
     (no_pair _ _ (entries_of c.args.object.now) c.is_empty.result _ _ c.is_empty.ensures c.if-is_empty.true
-    c.try_write.ensures)
+    c.try_write.ensures.bytes)
 
 pub write_pairs-returns-in_err-try_write_char-clause-written :
     goal.write_pairs-returns-in_err-try_write_char-clause-written
 write_pairs-returns-in_err-try_write_char-clause-written g t c =
     let s = (g.G.Generator.meaning c.args.g.now).style in
     let es = entries_of c.args.object.now in
-    after_order _ _ _ (view_object c.args.object.now) _ _ c.in_ok-order.ensures.0
+    after_order _ _ _ (view_object c.args.object.now) _ _ c.in_ok-order.ensures.order.0
     (object_at_opening _ (g.met.G.Generator.style_law c.try_order.new.g) (viewed es)
-    (positions (length es) c.in_ok-order.order) (answer_order s es c.in_ok-order.order c.in_ok-order.ensures.1)
-    (rw c.in_ok-order.ensures.0.style (answer_allowed s es c.in_ok-order.order c.in_ok-order.ensures.1))
+    (positions (length es) c.in_ok-order.order) (answer_order s es c.in_ok-order.order c.in_ok-order.ensures.order.1)
+    (rw c.in_ok-order.ensures.order.0.style (answer_allowed s es c.in_ok-order.order c.in_ok-order.ensures.order.1))
     (some_pair es c.is_empty.result c.is_empty.ensures c.if-is_empty.false) _ _
-    c.from_residual-in_err-try_write_char.ensures.0 c.in_err-try_write_char.ensures)
+    c.from_residual-in_err-try_write_char.ensures.0 c.in_err-try_write_char.ensures.bytes)
 
 pub write_pairs-returns-in_err-try_indent-clause-written : goal.write_pairs-returns-in_err-try_indent-clause-written
 write_pairs-returns-in_err-try_indent-clause-written g t c =
     let s = (g.G.Generator.meaning c.args.g.now).style in
     let es = entries_of c.args.object.now in
-    after_order _ _ _ (view_object c.args.object.now) _ _ c.in_ok-order.ensures.0
+    after_order _ _ _ (view_object c.args.object.now) _ _ c.in_ok-order.ensures.order.0
     (object_at_indent _ (g.met.G.Generator.style_law c.try_order.new.g) (viewed es)
-    (positions (length es) c.in_ok-order.order) (answer_order s es c.in_ok-order.order c.in_ok-order.ensures.1)
-    (rw c.in_ok-order.ensures.0.style (answer_allowed s es c.in_ok-order.order c.in_ok-order.ensures.1))
-    (some_pair es c.is_empty.result c.is_empty.ensures c.if-is_empty.false) _ _ _ c.in_ok-try_write_char.ensures
-    c.from_residual-in_err-try_indent.ensures.0 c.in_err-try_indent.ensures.1)
+    (positions (length es) c.in_ok-order.order) (answer_order s es c.in_ok-order.order c.in_ok-order.ensures.order.1)
+    (rw c.in_ok-order.ensures.order.0.style (answer_allowed s es c.in_ok-order.order c.in_ok-order.ensures.order.1))
+    (some_pair es c.is_empty.result c.is_empty.ensures c.if-is_empty.false) _ _ _ c.in_ok-try_write_char.ensures.bytes
+    c.from_residual-in_err-try_indent.ensures.0 c.in_err-try_indent.ensures.dent.1)
 
 pub write_pairs-returns-in_err-write_members-clause-written :
     goal.write_pairs-returns-in_err-write_members-clause-written
 write_pairs-returns-in_err-write_members-clause-written g t c =
     let s = (g.G.Generator.meaning c.args.g.now).style in
     let es = entries_of c.args.object.now in
-    after_order _ _ _ (view_object c.args.object.now) _ _ c.in_ok-order.ensures.0
+    after_order _ _ _ (view_object c.args.object.now) _ _ c.in_ok-order.ensures.order.0
     (object_at_members _ (g.met.G.Generator.style_law c.try_order.new.g) (viewed es)
-    (positions (length es) c.in_ok-order.order) (answer_order s es c.in_ok-order.order c.in_ok-order.ensures.1)
-    (rw c.in_ok-order.ensures.0.style (answer_allowed s es c.in_ok-order.order c.in_ok-order.ensures.1))
-    (some_pair es c.is_empty.result c.is_empty.ensures c.if-is_empty.false) _ _ _ c.in_ok-try_write_char.ensures _
-    c.in_ok-try_indent.ensures c.from_residual-in_err-write_members.ensures.0 c.in_err-write_members.ensures.written)
+    (positions (length es) c.in_ok-order.order) (answer_order s es c.in_ok-order.order c.in_ok-order.ensures.order.1)
+    (rw c.in_ok-order.ensures.order.0.style (answer_allowed s es c.in_ok-order.order c.in_ok-order.ensures.order.1))
+    (some_pair es c.is_empty.result c.is_empty.ensures c.if-is_empty.false) _ _ _ c.in_ok-try_write_char.ensures.bytes _
+    c.in_ok-try_indent.ensures.dent c.from_residual-in_err-write_members.ensures.0 c.in_err-write_members.ensures.written)
 
 pub write_pairs-returns-clause-written : goal.write_pairs-returns-clause-written
 write_pairs-returns-clause-written g t c =
     let s = (g.G.Generator.meaning c.args.g.now).style in
     let es = entries_of c.args.object.now in
-    after_order _ _ _ (view_object c.args.object.now) _ _ c.in_ok-order.ensures.0
+    after_order _ _ _ (view_object c.args.object.now) _ _ c.in_ok-order.ensures.order.0
     (object_at_close _ (g.met.G.Generator.style_law c.try_order.new.g) (viewed es)
-    (positions (length es) c.in_ok-order.order) (answer_order s es c.in_ok-order.order c.in_ok-order.ensures.1)
-    (rw c.in_ok-order.ensures.0.style (answer_allowed s es c.in_ok-order.order c.in_ok-order.ensures.1))
-    (some_pair es c.is_empty.result c.is_empty.ensures c.if-is_empty.false) _ _ _ c.in_ok-try_write_char.ensures _
-    c.in_ok-try_indent.ensures _ c.in_ok-write_members.ensures.written c.close.ensures)
+    (positions (length es) c.in_ok-order.order) (answer_order s es c.in_ok-order.order c.in_ok-order.ensures.order.1)
+    (rw c.in_ok-order.ensures.order.0.style (answer_allowed s es c.in_ok-order.order c.in_ok-order.ensures.order.1))
+    (some_pair es c.is_empty.result c.is_empty.ensures c.if-is_empty.false) _ _ _ c.in_ok-try_write_char.ensures.bytes _
+    c.in_ok-try_indent.ensures.dent _ c.in_ok-write_members.ensures.written c.close.ensures.bytes)
 
 pub write_members-returns-clause-value : goal.write_members-returns-clause-value
 write_members-returns-clause-value g t c =

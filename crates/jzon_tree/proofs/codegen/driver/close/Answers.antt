@@ -5,17 +5,17 @@ use Rattle.jzon_tree.specs.Writing.{IsAllowedWhitespace}
 use Rattle.jzon_tree.proofs.Emitting.{Failed-begins, Emits-at_err, Emits-after}
 use Rattle.jzon_tree.proofs.codegen.driver.close.Goals as goal
 
-pub returns-in_err-try_new_line : goal.returns-in_err-try_new_line
-returns-in_err-try_new_line g c =
+pub returns-in_err-try_new_line-clause-bytes : goal.returns-in_err-try_new_line-clause-bytes
+returns-in_err-try_new_line-clause-bytes g c =
     let a = g.G.Generator.meaning c.dedent.new.self in
     Emits-at_err _ _ _ _ c.from_residual.ensures.0
     (rw c.dedent.ensures at (Failed-begins (IsAllowedWhitespace a.style a.dent)
     (IsClosing a.style a.dent c.args.bracket) a _
-    (λ x b. (c.args.bracket ∷ [], (x, b, refl))) c.in_err-try_new_line.ensures))
+    (λ x b. (c.args.bracket ∷ [], (x, b, refl))) c.in_err-try_new_line.ensures.bytes))
 
-pub returns : goal.returns
-returns g c =
+pub returns-clause-bytes : goal.returns-clause-bytes
+returns-clause-bytes g c =
     let a = g.G.Generator.meaning c.dedent.new.self in
     rw c.dedent.ensures at (Emits-after (IsAllowedWhitespace a.style a.dent) (λ _ _. Just (c.args.bracket ∷ []))
-    (IsClosing a.style a.dent c.args.bracket) a _ _ (λ x y b e. (x, b, ap (λ w. x ++ w) e)) c.in_ok-try_new_line.ensures
-    _ c.try_write_char.ensures)
+    (IsClosing a.style a.dent c.args.bracket) a _ _ (λ x y b e. (x, b, ap (λ w. x ++ w) e)) c.in_ok-try_new_line.ensures.bytes
+    _ c.try_write_char.ensures.bytes)

@@ -9,33 +9,33 @@ use Rattle.jzon_tree.proofs.codegen.strings.send_string.Goals as goal
 pub split_at-requires : goal.split_at-requires
 split_at-requires g c = rw c.plain_len.ensures (prefix_len-le-length is_plain c.loop-byte.rest.now)
 
-pub returns-in_err-send-2 : goal.returns-in_err-send-2
-returns-in_err-send-2 g c =
+pub returns-in_err-send-2-clause-bytes : goal.returns-in_err-send-2-clause-bytes
+returns-in_err-send-2-clause-bytes g c =
     Sends-at_err _ _ _ _ c.from_residual-in_err-send-2.ensures.0
     (any_run_stopped c.args.prefix.now c.args.text.now c.loop-byte.rest.now _ _ c.split_at.ensures.front
-    c.plain_len.ensures _ _ c.loop-byte.invariant _ c.in_err-send-2.ensures)
+    c.plain_len.ensures _ _ c.loop-byte.invariant _ c.in_err-send-2.ensures.bytes)
 
 pub send_escape-requires : goal.send_escape-requires
 send_escape-requires g c = needs_escape c.loop-byte.rest.now c.in-Some.others.now _ _ c.plain_len.ensures
     (sym c.split_at.ensures.back ∙ c.in-Some.ensures.cases.0)
 
-pub returns-in_err-send_escape : goal.returns-in_err-send_escape
-returns-in_err-send_escape g c =
+pub returns-in_err-send_escape-clause-bytes : goal.returns-in_err-send_escape-clause-bytes
+returns-in_err-send_escape-clause-bytes g c =
     Sends-at_err _ _ _ _ c.from_residual-in_err-send_escape.ensures.0
     (escape_stopped c.args.prefix.now c.args.text.now c.loop-byte.rest.now _ c.in-Some.others.now _ _
     c.split_at.ensures.front c.plain_len.ensures (sym c.split_at.ensures.back ∙ c.in-Some.ensures.cases.0) _ _
-    c.loop-byte.invariant _ c.in_ok-send-2.ensures _ c.in_err-send_escape.ensures)
+    c.loop-byte.invariant _ c.in_ok-send-2.ensures.bytes _ c.in_err-send_escape.ensures.bytes)
 
 pub loop-byte-preserved : goal.loop-byte-preserved
 loop-byte-preserved g c =
     escape_sent c.args.prefix.now c.args.text.now c.loop-byte.rest.now _ c.in-Some.others.now _ _
     c.split_at.ensures.front c.plain_len.ensures (sym c.split_at.ensures.back ∙ c.in-Some.ensures.cases.0) _ _
-    c.loop-byte.invariant _ c.in_ok-send-2.ensures _ c.in_ok-send_escape.ensures
+    c.loop-byte.invariant _ c.in_ok-send-2.ensures.bytes _ c.in_ok-send_escape.ensures.bytes
 
-pub returns : goal.returns
-returns g c =
+pub returns-clause-bytes : goal.returns-clause-bytes
+returns-clause-bytes g c =
     closes c.args.prefix.now c.args.text.now _ _ _ _
     (last_sent c.args.prefix.now c.args.text.now c.loop-byte.rest.now _ _ c.split_at.ensures.front c.plain_len.ensures _
     _ c.loop-byte.invariant (sym c.split_at.ensures.back ∙ nil_from_length _ c.in_default.ensures.cases) _
-    c.in_ok-send-2.ensures)
-    c.send-2.ensures
+    c.in_ok-send-2.ensures.bytes)
+    c.send-2.ensures.bytes

@@ -12,7 +12,7 @@ into_text-requires c =
     c.new-generator.ensures c.in-Ok.ensures.value c.in-Ok.ensures.written refl).0
 
 printed : (c : goal.After-into_text) → IsPrinted (pretty (view_object c.args.self.now) c.args.spaces 0)
-    (pretty_style c.args.spaces) (view_object c.args.self.now) c.write_object.new.g.outlet.bytes.items
+    (pretty_style c.args.spaces) (view_object c.args.self.now) c.print_object.new.g.place.bytes.items
 printed c = pretty_printed c.args.spaces (view_object c.args.self.now) _ _ _ c.new-generator.ensures
     c.in-Ok.ensures.value c.in-Ok.ensures.written refl
 
@@ -24,7 +24,7 @@ returns-in-Ok-clause-writing c = subst (Writes (pretty_style c.args.spaces) 0 (v
     (sym c.into_text.ensures) (printed c).2
 
 pub returns-in-Err-clause-memory : goal.returns-in-Err-clause-memory
-returns-in-Err-clause-memory c = c.refusal.ensures.memory (view_object c.args.self.now) c.inspect_object.ensures
+returns-in-Err-clause-memory c = c.refusal.ensures.memory (view_object c.args.self.now) c.in-Err.ensures.found
 
 pub returns-in-Err-clause-depth : goal.returns-in-Err-clause-depth
-returns-in-Err-clause-depth c = c.refusal.ensures.depth (view_object c.args.self.now) c.inspect_object.ensures
+returns-in-Err-clause-depth c = c.refusal.ensures.depth (view_object c.args.self.now) c.in-Err.ensures.found

@@ -12,7 +12,7 @@ into_text-requires c =
     c.in-Ok.ensures.value c.in-Ok.ensures.written refl).0
 
 printed : (c : goal.After-into_text) → IsPrinted (compact (view c.args.self.now)) compact_style (view c.args.self.now)
-    c.write_json.new.g.outlet.bytes.items
+    c.print_value.new.g.place.bytes.items
 printed c = compact_printed (view c.args.self.now) _ _ _ c.new-generator.ensures c.in-Ok.ensures.value
     c.in-Ok.ensures.written refl
 

@@ -12,7 +12,7 @@ into_text-requires c =
     c.in-Ok.ensures.value c.in-Ok.ensures.written refl).0
 
 printed : (c : goal.After-into_text) → IsPrinted (pretty (view c.args.self.now) c.args.spaces 0)
-    (pretty_style c.args.spaces) (view c.args.self.now) c.write_json.new.g.outlet.bytes.items
+    (pretty_style c.args.spaces) (view c.args.self.now) c.print_value.new.g.place.bytes.items
 printed c = pretty_printed c.args.spaces (view c.args.self.now) _ _ _ c.new-generator.ensures c.in-Ok.ensures.value
     c.in-Ok.ensures.written refl
 

@@ -6,6 +6,6 @@ use Rattle.jzon_tree.proofs.codegen.generator.Generator.write.Goals as goal
 pub returns : goal.returns
 returns g c =
     Emits-handed (Just (c.args.slice.now)) (c.args.slice.now) (g.Self.Generator.meaning c.args.self.now) _ _ _ _ _ _ _
-    refl c.get_writer.ensures.bytes c.send-step.ensures c.take_result.ensures
+    refl c.get_writer.ensures.bytes c.send-step.ensures.bytes c.take_result.ensures.answer
     (g.met.Self.Generator.writer_law c.args.self.now c.send-step.new.writer) c.hand_on.ensures.result
     c.hand_on.ensures.faults

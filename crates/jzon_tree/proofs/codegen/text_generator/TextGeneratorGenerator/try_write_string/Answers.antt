@@ -5,11 +5,11 @@ use Rattle.jzon_tree.specs.Text.{quoted}
 use Rattle.jzon_tree.proofs.Emitting.{Emits-counted}
 use Rattle.jzon_tree.proofs.codegen.text_generator.TextGeneratorGenerator.try_write_string.Goals as goal
 
-pub returns : goal.returns
-returns g c =
+pub returns-clause-bytes : goal.returns-clause-bytes
+returns-clause-bytes g c =
     let s = c.args.self.now in
     Emits-counted (Just (quoted c.args.string.now)) (quoted c.as_bytes.result.now)
-    (text_meaning g.O.Outlet.out g.O.Outlet.lender g.L.Layout.style s) _ _ _ _ _ _
+    (text_meaning g.P.Place.out g.P.Place.lender g.L.Layout.style s) _ _ _ _ _ _
     (ap quoted c.as_bytes.ensures.value) refl
-    c.send_quoted-step.ensures.bytes (same_emitted refl c.send_quoted-step.ensures.lender) c.count.ensures.result
+    c.string_to-step.ensures.bytes (same_emitted refl c.string_to-step.ensures.lender) c.count.ensures.result
     c.count.ensures.faults

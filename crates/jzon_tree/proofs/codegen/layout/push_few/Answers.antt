@@ -1,6 +1,6 @@
 use Rattle.std.proofs.Common.{◌+◌, ap, ◌∙◌, take, arith}
 use Rattle.jzon_tree.proofs.SentSpaces.{line_cut}
-use Rattle.jzon_tree.proofs.codegen.layout.push_line.Goals as goal
+use Rattle.jzon_tree.proofs.codegen.layout.push_few.Goals as goal
 
 pub returns : goal.returns
 returns c =

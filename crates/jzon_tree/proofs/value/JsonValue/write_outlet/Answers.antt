@@ -1,0 +1,9 @@
+use Rattle.std.proofs.Common.{refl, rules}
+use Rattle.jzon_tree.specs.View.{view}
+use Rattle.jzon_tree.proofs.Unique.{given_back}
+use Rattle.jzon_tree.proofs.value.JsonValue.write_outlet.Goals as goal
+
+pub returns-clause-writing : goal.returns-clause-writing
+returns-clause-writing g c = given_back (g.L.Layout.style c.args.layout) (view c.args.self.now) g.W.Write.contents _ _ _ _
+    c.write_json-answer.result _ _ _ _ c.to_outlet-generator.ensures c.write_json-answer.ensures.written refl refl
+    (λ name. search rules) refl

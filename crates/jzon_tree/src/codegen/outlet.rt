@@ -1,0 +1,257 @@
+//! Where a `TextGenerator` writes (docs/RULES.md, "Generators").
+
+ghost use Rattle.std.specs.Prelude.{◌≡◌, ◌∷◌, ℕ, List, [], Option, None, Some, IsTrue, false, OnErr, IsSome, refl};
+ghost use Rattle.std.specs.Prelude.{replicate};
+ghost use Rattle.std.specs.Borrow.{GName, sem, Lends};
+ghost use Rattle.jzon_tokens.specs.NumberText.{written_text};
+ghost use Rattle.jzon_tree.specs.Generator.{Adds, Just, Sends};
+ghost use Rattle.jzon_tree.specs.Generators.{bytes_in, with_bytes};
+ghost use Rattle.jzon_tree.specs.Text.{quoted};
+
+use crate::codegen::error_slot::{ErrorSlot, SlotResult};
+use crate::codegen::layout::{push_line, send_line};
+use crate::codegen::numbers::{push_digits, send_number};
+use crate::codegen::strings::{push_plain, push_short, send_string};
+use jzon_tokens::number::Number;
+use std::io::Write;
+
+/// A writer that may take a string, a number or the start of a line at once, as a buffer does that
+/// has room for it. `JsonValue::write_outlet` asks it before it writes, which saves a buffer the
+/// calls of `Write::write`. A hook adds all that it names and returns `true`, by `push_short`,
+/// `push_digits` and `push_line` say; or it adds nothing and returns `false`, as those given do.
+pub trait Outlet: Write {
+    /// Adds the string in quotes, escaped, or nothing.
+    #[inline(always)]
+    fn put_string(&mut self, _string: &[u8]) -> bool
+        ensures done { IsTrue result → Adds (Just (quoted _string.now))
+            (Self.Write.contents self.old) (Self.Write.contents self.new) }
+        ensures left { result ≡ false → Self.Write.contents self.new
+            ≡ Self.Write.contents self.old }
+    {
+        false
+    }
+
+    /// Adds the text of the number, `null` for NaN, or nothing.
+    #[inline(always)]
+    fn put_number(&mut self, _number: &Number) -> bool
+        ensures done { IsTrue result → Adds (Just (written_text _number.now))
+            (Self.Write.contents self.old) (Self.Write.contents self.new) }
+        ensures left { result ≡ false → Self.Write.contents self.new
+            ≡ Self.Write.contents self.old }
+    {
+        false
+    }
+
+    /// Adds a newline and `spaces` spaces, or nothing.
+    #[inline(always)]
+    fn put_line(&mut self, _spaces: u128) -> bool
+        ensures done { IsTrue result → Adds (Just (10 ∷ replicate _spaces 32))
+            (Self.Write.contents self.old) (Self.Write.contents self.new) }
+        ensures left { result ≡ false → Self.Write.contents self.new
+            ≡ Self.Write.contents self.old }
+    {
+        false
+    }
+}
+
+/// Where a `TextGenerator` writes: memory of its own, a borrowed writer, or a borrowed outlet.
+pub trait Place {
+    /// The writer.
+    type T: Write;
+
+    // The bytes written so far, and the reference that is written through, if one is.
+    ghost out: { Self → Option (List ℕ) };
+
+    ghost lender: { Self → Option GName } = { λ _. None };
+
+    // The place with this writer instead of its own.
+    ghost with_writer: { Self → Self.T → Self };
+
+    /// Lends the writer.
+    fn writer(&mut self) -> &mut Self::T
+        ensures* writes_back { sem 𝓛 (Lends Self.row Self.T.row self.entry result
+            (with_writer self.old)) }
+        ensures bytes { Self.T.contents result.now ≡ out self.old };
+
+    /// As `Outlet::put_string`.
+    #[inline(always)]
+    fn put_string(&mut self, _string: &[u8]) -> bool
+        ensures done { IsTrue result → Adds (Just (quoted _string.now)) (out self.old)
+            (out self.new) }
+        ensures left { result ≡ false → out self.new ≡ out self.old }
+        ensures lender { lender self.new ≡ lender self.old }
+    {
+        false
+    }
+
+    /// As `Outlet::put_number`.
+    #[inline(always)]
+    fn put_number(&mut self, _number: &Number) -> bool
+        ensures done { IsTrue result → Adds (Just (written_text _number.now)) (out self.old)
+            (out self.new) }
+        ensures left { result ≡ false → out self.new ≡ out self.old }
+        ensures lender { lender self.new ≡ lender self.old }
+    {
+        false
+    }
+
+    /// As `Outlet::put_line`.
+    #[inline(always)]
+    fn put_line(&mut self, _spaces: u128) -> bool
+        ensures done { IsTrue result → Adds (Just (10 ∷ replicate _spaces 32)) (out self.old)
+            (out self.new) }
+        ensures left { result ≡ false → out self.new ≡ out self.old }
+        ensures lender { lender self.new ≡ lender self.old }
+    {
+        false
+    }
+
+    // Another writer changes the bytes alone.
+    ghost out_law: { (o : Self) (w : Self.T) → out (with_writer o w) ≡ Self.T.contents w };
+
+    ghost lender_law: { (o : Self) (w : Self.T) → lender (with_writer o w) ≡ lender o };
+}
+
+/// Memory of its own.
+#[derive(Debug, Drop)]
+pub struct Memory {
+    pub(super) bytes: Vec<u8>,
+}
+
+impl Place for Memory {
+    type T = Vec<u8>;
+
+    ghost out = { bytes_in };
+
+    ghost with_writer = { with_bytes };
+
+    fn writer(&mut self) -> &mut Vec<u8> {
+        &mut self.bytes
+    }
+
+    #[inline(always)]
+    fn put_string(&mut self, string: &[u8]) -> bool {
+        push_short(&mut self.bytes, string) || push_plain(&mut self.bytes, string)
+    }
+
+    #[inline(always)]
+    fn put_number(&mut self, number: &Number) -> bool {
+        push_digits(&mut self.bytes, number)
+    }
+
+    #[inline(always)]
+    fn put_line(&mut self, spaces: u128) -> bool {
+        push_line(&mut self.bytes, spaces)
+    }
+
+    ghost out_law = { λ _ _. refl };
+
+    ghost lender_law = { λ _ _. refl };
+}
+
+/// A borrowed writer.
+impl<'a, W: Write> Place for &'a mut W {
+    type T = W;
+
+    ghost out = { λ o. W.contents o.now };
+
+    ghost lender = { λ o. Some o.ghost_name };
+
+    ghost with_writer = { λ o w. record o { now = w } };
+
+    fn writer(&mut self) -> &mut W {
+        &mut **self
+    }
+
+    ghost out_law = { λ _ _. refl };
+
+    ghost lender_law = { λ _ _. refl };
+}
+
+/// A borrowed outlet.
+#[derive(Drop)]
+pub struct Through<'a, W> {
+    pub(super) outlet: &'a mut W,
+}
+
+impl<'a, W: Outlet> Place for Through<'a, W> {
+    type T = W;
+
+    ghost out = { λ p. W.Write.contents p.outlet.now };
+
+    ghost lender = { λ p. Some p.outlet.ghost_name };
+
+    ghost with_writer = { λ p w. record p { outlet = record p.outlet { now = w } } };
+
+    fn writer(&mut self) -> &mut W {
+        &mut *self.outlet
+    }
+
+    #[inline(always)]
+    fn put_string(&mut self, string: &[u8]) -> bool {
+        self.outlet.put_string(string)
+    }
+
+    #[inline(always)]
+    fn put_number(&mut self, number: &Number) -> bool {
+        self.outlet.put_number(number)
+    }
+
+    #[inline(always)]
+    fn put_line(&mut self, spaces: u128) -> bool {
+        self.outlet.put_line(spaces)
+    }
+
+    ghost out_law = { λ _ _. refl };
+
+    ghost lender_law = { λ _ _. refl };
+}
+
+/// Writes the string in quotes, escaped: at once where it is taken so, else by the writer.
+#[inline(always)]
+pub(super) fn string_to<P: Place>(
+    place: &mut P,
+    string: &[u8],
+    slot: &mut ErrorSlot,
+) -> SlotResult<()>
+    ensures bytes { Sends (Just (quoted string.now)) (P.out place.old) (P.out place.new) result }
+    ensures lender { P.lender place.new ≡ P.lender place.old }
+    ensures slot { OnErr result (IsSome slot.new) }
+{
+    if place.put_string(string) {
+        return Ok(());
+    }
+    send_string(place.writer(), b"\"", string, slot)
+}
+
+/// Writes the text of the number, or `null` for NaN, likewise.
+#[inline(always)]
+pub(super) fn number_to<P: Place>(
+    place: &mut P,
+    number: &Number,
+    slot: &mut ErrorSlot,
+) -> SlotResult<()>
+    ensures bytes { Sends (Just (written_text number.now)) (P.out place.old) (P.out place.new)
+        result }
+    ensures lender { P.lender place.new ≡ P.lender place.old }
+    ensures slot { OnErr result (IsSome slot.new) }
+{
+    if place.put_number(number) {
+        return Ok(());
+    }
+    send_number(place.writer(), number, slot)
+}
+
+/// Writes a newline and `spaces` spaces, likewise.
+#[inline(always)]
+pub(super) fn line_to<P: Place>(place: &mut P, spaces: u128, slot: &mut ErrorSlot) -> SlotResult<()>
+    ensures bytes { Sends (Just (10 ∷ replicate spaces 32)) (P.out place.old) (P.out place.new)
+        result }
+    ensures lender { P.lender place.new ≡ P.lender place.old }
+    ensures slot { OnErr result (IsSome slot.new) }
+{
+    if place.put_line(spaces) {
+        return Ok(());
+    }
+    send_line(place.writer(), spaces, slot)
+}
