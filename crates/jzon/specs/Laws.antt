@@ -1,6 +1,6 @@
 -- Laws on the definitions alone.
-use Rattle.std.specs.Prelude.{◌≡◌, ◌⊎◌, ℕ, ℤ, ◌≤◌, ◌<◌, ◌^◌, List, [], length, Bool, true, IsTrue, IsUtf8, chars}
-use Rattle.std.specs.Prelude.{FitsSigned}
+use Rattle.std.specs.Prelude.{◌≡◌, ◌⊎◌, ℕ, ℤ, ◌≤◌, ◌<◌, ◌^◌, List, [], ◌∷◌, length, Bool, true, IsTrue, IsUtf8, chars}
+use Rattle.std.specs.Prelude.{FitsSigned, suc, map, take, false, Option, Some, slice_get}
 use Rattle.std.specs.Int.{w16}
 use Rattle.jzon_tokens.specs.Decimal.{parts}
 use Rattle.jzon_tokens.specs.Decimal as decimal
@@ -13,7 +13,7 @@ use Rattle.jzon_tree.specs.Styles.{compact_style, pretty_style}
 use Rattle.jzon_tree.specs.Writing.{Style, IsAllowedWhitespace, Writes, is_all_whitespace}
 use Rattle.jzon.specs.Reading.{Reading}
 use Rattle.jzon.specs.Grammar.{Numeral, Node, Document}
-use Rattle.jzon.specs.Spelling.{Breach, spell, BreachAt}
+use Rattle.jzon.specs.Spelling.{Breach, digit, Cell, spell, drops_too_many, keeps_too_many, whole_cells, fraction_cells}
 use Rattle.jzon.specs.Meaning.{number_of, meaning}
 use Rattle.jzon.specs.Fault.{Spells, Parses, Fault, IsFault, IsFirstFault}
 
@@ -25,9 +25,20 @@ OneReading = (r : Reading) (t : List ℕ) (d e : Document) → Spells r t d → 
 abbrev pub OneText : Type 0
 OneText = (r s : Reading) (d : Document) → spell r d ≡ spell s d
 
--- each character has at most one breach
-abbrev pub OneBreach : Type 0
-OneBreach = (r : Reading) (d : Document) (i : ℕ) (b c : Breach) → BreachAt r b d i → BreachAt r c d i → b ≡ c
+-- the mark of the cell at an index
+abbrev pub mark_at : List Cell → ℕ → Option (Option Breach)
+mark_at cs i = slice_get (map (λ c. c.mark) cs) i
+
+-- A cell has one mark, and the first digit of a number may have that of a container too many. It hides no other: one
+-- digit is never too many, and where the digits up to a later one are, the mark there is `digit`.
+abbrev pub DigitBreaches : Type 0
+DigitBreaches =
+    ((d : ℕ) → drops_too_many (d ∷ []) ≡ false)
+    × ((whole : List ℕ) (m : Option Breach) (k : List Cell) (i : ℕ) → suc i < length whole
+    → drops_too_many (take (suc (suc i)) whole) ≡ true → mark_at (whole_cells whole m k) (suc i) ≡ Some (Some digit))
+    × ((whole fraction : List ℕ) (k : List Cell) (i : ℕ) → i < length fraction
+    → keeps_too_many whole (take (suc i) fraction) ≡ true
+    → mark_at (fraction_cells whole fraction k) (suc i) ≡ Some (Some digit))
 
 -- one tree spells the text, it breaks no limit, and the text has no fault
 abbrev pub HasOneTree : Reading → List ℕ → Type 0

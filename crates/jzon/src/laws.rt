@@ -1,7 +1,7 @@
 //! Laws on texts, their trees and their values, for every reading: RFC 8259 with the project's own
 //! rules (`docs/RULES.md`, "Laws"). These functions do nothing; each law is a function's contract.
 
-ghost use Rattle.jzon.specs.Laws.{OneReading, OneText, OneBreach, OneFault, NumberText, Redump, StrictStyles};
+ghost use Rattle.jzon.specs.Laws.{OneReading, OneText, DigitBreaches, OneFault, NumberText, Redump, StrictStyles};
 ghost use Rattle.jzon.specs.Laws.{ReadsBack};
 
 /// Two trees that spell the same text are equal.
@@ -9,11 +9,11 @@ pub fn one_reading()
     ensures { OneReading }
 {}
 
-/// The text of a tree is the same in each reading, and each of its characters has at most one
-/// breach.
+/// The text of a tree is the same in each reading. Each of its characters has at most one breach by
+/// definition, and no breach of a number's digits is lost by that.
 pub fn one_spelling()
     ensures text { OneText }
-    ensures breach { OneBreach }
+    ensures breach { DigitBreaches }
 {}
 
 /// Each text has exactly one tree, which breaks no limit, and no fault; or it has no tree within
