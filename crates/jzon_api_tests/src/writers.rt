@@ -1,7 +1,9 @@
 //! Writers that take one byte a call, and fail at one call.
 
 use crate::common::Tested;
-use jzon::codegen::{PrettyWriterGenerator, WriterGenerator, write_json};
+use jzon::codegen::{
+    Compact, Pretty, PrettyWriterGenerator, WriterGenerator, write_json, write_object,
+};
 use jzon::{JsonValue, parse};
 use jzon_test_support::{DOCUMENT, DUMP, NO_FAILING_CALL, PRETTY, SlowWriter, Trouble};
 use std::alloc::Global;
@@ -14,15 +16,28 @@ use std::process::Abort;
 enum How {
     Compact,
     Pretty,
+    Layout,
+    PrettyLayout,
     Generator,
     PrettyGenerator,
+    Object,
 }
+
+const HOWS: [How; 7] = [
+    How::Compact,
+    How::Pretty,
+    How::Layout,
+    How::PrettyLayout,
+    How::Generator,
+    How::PrettyGenerator,
+    How::Object,
+];
 
 impl How {
     fn text(self) -> &'static str {
         match self {
-            How::Compact | How::Generator => DUMP,
-            How::Pretty | How::PrettyGenerator => PRETTY,
+            How::Compact | How::Layout | How::Generator | How::Object => DUMP,
+            How::Pretty | How::PrettyLayout | How::PrettyGenerator => PRETTY,
         }
     }
 
@@ -30,8 +45,14 @@ impl How {
         match self {
             How::Compact => value.write(writer),
             How::Pretty => value.write_pretty(writer, 2),
+            How::Layout => value.write_layout(writer, Compact),
+            How::PrettyLayout => value.write_layout(writer, Pretty(2)),
             How::Generator => write_json(&mut WriterGenerator::new(writer), value),
             How::PrettyGenerator => write_json(&mut PrettyWriterGenerator::new(writer, 2), value),
+            How::Object => match value.as_object() {
+                Some(object) => write_object(&mut WriterGenerator::new(writer), object),
+                None => Ok(()),
+            },
         }
     }
 }
@@ -43,17 +64,24 @@ fn expect_prefix(rt: &impl Abort, writer: &SlowWriter, text: &str, call: usize) 
     assert!(rt; text.as_bytes().starts_with(&writer.bytes));
 }
 
-/// The writer fails at each call in turn: the error has its kind, and nothing is written after it.
-fn expect_stops(rt: &impl Abort, alloc: Global, value: &JsonValue, how: How, trouble: Trouble) {
+/// The writer fails at each call in turn: the error is its own, and nothing is written after it.
+fn expect_stops(
+    rt: &impl Abort,
+    alloc: Global,
+    value: &JsonValue,
+    how: How,
+    trouble: Trouble,
+) -> Tested {
     let text = how.text();
     for call in 1..=text.len() {
         let mut writer = SlowWriter::new(alloc, call, trouble);
         match how.write(value, &mut writer) {
-            Err(error) => assert_eq!(rt; error.kind(), trouble.kind()),
+            Err(error) => assert!(rt; trouble.is_returned(alloc, &error)?, "call {call}"),
             Ok(()) => assert!(rt; false, "no error at call {call}"),
         }
         expect_prefix(rt, &writer, text, call);
     }
+    Ok(())
 }
 
 #[test]
@@ -63,15 +91,11 @@ fn stops_at_each_call_that_fails(rt: HostRuntime) -> Tested {
         Trouble::TakesNothing,
         Trouble::Fails(ErrorKind::BrokenPipe),
         Trouble::Fails(ErrorKind::Interrupted),
+        Trouble::FailsBySystem(28),
     ];
-    for how in [
-        How::Compact,
-        How::Pretty,
-        How::Generator,
-        How::PrettyGenerator,
-    ] {
+    for how in HOWS {
         for trouble in troubles {
-            expect_stops(&rt, rt.alloc(), &value, how, trouble);
+            expect_stops(&rt, rt.alloc(), &value, how, trouble)?;
         }
     }
     Ok(())
@@ -80,12 +104,7 @@ fn stops_at_each_call_that_fails(rt: HostRuntime) -> Tested {
 #[test]
 fn writes_the_whole_text(rt: HostRuntime) -> Tested {
     let value = parse(rt.alloc(), DOCUMENT)?;
-    for how in [
-        How::Compact,
-        How::Pretty,
-        How::Generator,
-        How::PrettyGenerator,
-    ] {
+    for how in HOWS {
         let mut writer = SlowWriter::new(rt.alloc(), NO_FAILING_CALL, Trouble::TakesNothing);
         how.write(&value, &mut writer)?;
         assert_eq!(rt; writer.bytes.as_slice(), how.text().as_bytes());
@@ -97,10 +116,11 @@ fn writes_the_whole_text(rt: HostRuntime) -> Tested {
 #[test]
 fn stops_at_the_fourth_call(rt: HostRuntime) -> Tested {
     let value = parse(rt.alloc(), "[1,2,3]")?;
-    let mut writer = SlowWriter::new(rt.alloc(), 4, Trouble::Fails(ErrorKind::BrokenPipe));
+    let trouble = Trouble::Fails(ErrorKind::BrokenPipe);
+    let mut writer = SlowWriter::new(rt.alloc(), 4, trouble);
     match value.write(&mut writer) {
         Ok(()) => assert!(rt; false),
-        Err(error) => assert_eq!(rt; error.kind(), ErrorKind::BrokenPipe),
+        Err(error) => assert!(rt; trouble.is_returned(rt.alloc(), &error)?),
     }
     assert_eq!(rt; writer.bytes.as_slice(), b"[1,".as_slice());
     assert_eq!(rt; writer.calls, 4);

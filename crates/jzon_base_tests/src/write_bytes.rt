@@ -14,13 +14,17 @@ fn returns_each_error(rt: HostRuntime) -> Result<(), Fail> {
         Trouble::TakesNothing,
         Trouble::Fails(ErrorKind::Interrupted),
         Trouble::Fails(ErrorKind::BrokenPipe),
+        Trouble::FailsBySystem(28),
     ];
     for trouble in troubles {
         for call in 1..=text.len() {
             let mut writer = SlowWriter::new(rt.alloc(), call, trouble);
             match print_dec::write(&mut writer, false, 18446744073709551615, -32768) {
                 Ok(()) => assert!(rt; false, "{trouble:?} at {call}"),
-                Err(e) => assert_eq!(rt; e.kind(), trouble.kind(), "{trouble:?} at {call}"),
+                Err(error) => assert!(rt;
+                    trouble.is_returned(rt.alloc(), &error)?,
+                    "{trouble:?} at {call}"
+                ),
             }
             assert_eq!(rt; writer.bytes.as_slice(), &text[..call - 1]);
             assert_eq!(rt; writer.calls, call);

@@ -1,8 +1,11 @@
 //! A writer that accepts one byte per call, and fails at one call.
 
-use std::alloc::Global;
+use std::alloc::{AllocError, Global};
 use std::io;
 use std::io::{ErrorKind, Write};
+
+/// The words of the errors of a writer or a reader that fails with a kind.
+pub const WORDS: &str = "words of its own";
 
 /// The number of the failing call, for a writer that never fails: calls are counted from 1.
 pub const NO_FAILING_CALL: usize = 0;
@@ -11,17 +14,46 @@ pub const NO_FAILING_CALL: usize = 0;
 #[derive(Clone, Copy, Debug, PartialEq, Eq)]
 pub enum Trouble {
     TakesNothing,
+    /// Fails with this kind, and with `WORDS`.
     Fails(ErrorKind),
+    /// Fails with this error of the system.
+    FailsBySystem(i32),
 }
 
 impl Trouble {
-    /// The kind of the error that a caller should return: `WriteZero` where nothing is accepted.
-    pub fn kind(self) -> ErrorKind {
+    /// The error at the failing call. A writer that takes nothing has none of its own; a caller
+    /// then makes one of the kind `WriteZero`.
+    pub fn error(self) -> io::Error {
         match self {
-            Trouble::TakesNothing => ErrorKind::WriteZero,
-            Trouble::Fails(kind) => kind,
+            Trouble::TakesNothing => io::Error::from(ErrorKind::WriteZero),
+            Trouble::Fails(kind) => io::Error::new(kind, WORDS),
+            Trouble::FailsBySystem(code) => io::Error::from_raw_os_error(code),
         }
     }
+
+    /// Whether it is the error that a caller should return: the writer's own, by its kind, its code
+    /// and its words, or any error of the kind `WriteZero`.
+    pub fn is_returned(self, alloc: Global, error: &io::Error) -> Result<bool, AllocError> {
+        match self {
+            Trouble::TakesNothing => Ok(error.kind() == ErrorKind::WriteZero),
+            _ => is_same_error(alloc, error, &self.error()),
+        }
+    }
+}
+
+/// Whether both errors have the same kind, the same code and the same words.
+pub fn is_same_error(
+    alloc: Global,
+    one: &io::Error,
+    other: &io::Error,
+) -> Result<bool, AllocError> {
+    let words = format!(in alloc; "{one}")?;
+    let same_words = format!(in alloc; "{other}")?;
+    Ok(
+        one.kind() == other.kind()
+            && one.raw_os_error() == other.raw_os_error()
+            && words == same_words,
+    )
 }
 
 /// Accepts one byte per call, except at one call, where it fails or accepts nothing. A flush may
@@ -64,7 +96,7 @@ impl Write for SlowWriter {
         if self.calls == self.trouble_at {
             return match self.trouble {
                 Trouble::TakesNothing => Ok(0),
-                Trouble::Fails(kind) => Err(io::Error::from(kind)),
+                trouble => Err(trouble.error()),
             };
         }
         let Some(first) = buf.first() else {
@@ -79,7 +111,7 @@ impl Write for SlowWriter {
         if self.can_flush {
             Ok(())
         } else {
-            Err(io::Error::from(ErrorKind::StorageFull))
+            Err(io::Error::new(ErrorKind::StorageFull, WORDS))
         }
     }
 }

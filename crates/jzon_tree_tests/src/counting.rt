@@ -13,9 +13,9 @@ use std::process::Abort;
 
 /// Counts the bytes passed to a compact generator, not those that go to its writer directly.
 #[derive(Drop)]
-struct Counting<G: Generator> {
-    inner: G,
-    count: usize,
+pub struct Counting<G: Generator> {
+    pub inner: G,
+    pub count: usize,
 }
 
 impl<G: Generator> Counting<G> {

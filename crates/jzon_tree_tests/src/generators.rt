@@ -8,14 +8,16 @@ ghost use Rattle.jzon_tree.specs.StyleLaws.{IsStyle-any};
 ghost use Rattle.jzon_tree.specs.Writing.{any_style, IsOrder};
 
 use crate::common::{Tested, expect_bytes};
+use jzon_base::error::Error;
 use jzon_test_support::{RUNS_MAX, Refusals, SlowWriter, Trouble};
 use jzon_tree::codegen::{
     DumpGenerator, Generator, Layout, PrettyGenerator, PrettyWriterGenerator, TextGenerator,
-    WriterGenerator, write_object,
+    WriterGenerator, write_json, write_object,
 };
 use jzon_tree::object::Object;
 use jzon_tree::value::JsonValue;
 use std::alloc::{AllocError, Global};
+use std::io;
 use std::io::ErrorKind;
 
 /// A user's layout: the entries of each object are in the order of their keys.
@@ -87,7 +89,7 @@ fn sorting_under_refusals(rt: HostRuntime) -> Tested {
             expect_bytes(&rt, generator.get_writer(), SORTED);
             break;
         }
-        assert!(rt; result.is_err());
+        assert!(rt; result.is_err_and(|error| error.kind() == ErrorKind::OutOfMemory));
         assert_eq!(rt; generator.faults(), 1);
         assert!(rt; SORTED.as_bytes().starts_with(generator.get_writer()));
     }
@@ -109,10 +111,55 @@ fn writes_in_a_layout(rt: HostRuntime) -> Tested {
 fn propagates_the_error_of_the_writer_in_a_layout(rt: HostRuntime) -> Tested {
     let alloc = rt.alloc();
     let value = JsonValue::Object(unsorted(alloc)?);
-    let mut writer = SlowWriter::new(alloc, 6, Trouble::Fails(ErrorKind::BrokenPipe));
-    let result = value.write_layout(&mut writer, Sorting { alloc });
-    assert!(rt; result.is_err_and(|error| error.kind() == ErrorKind::BrokenPipe));
+    let trouble = Trouble::Fails(ErrorKind::BrokenPipe);
+    let mut writer = SlowWriter::new(alloc, 6, trouble);
+    match value.write_layout(&mut writer, Sorting { alloc }) {
+        Ok(()) => assert!(rt; false),
+        Err(error) => assert!(rt; trouble.is_returned(alloc, &error)?),
+    }
     expect_bytes(&rt, &writer.bytes, "{\"a\":");
+    Ok(())
+}
+
+/// A layout whose `order` always fails.
+#[derive(Clone, Copy)]
+struct Orderless;
+
+impl Layout for Orderless {
+    ghost style = { λ _. any_style };
+
+    fn spaces(&self) -> Option<u16> {
+        None
+    }
+
+    fn order(&self, _object: &Object) -> Result<Option<Vec<usize>>, AllocError> {
+        Err(AllocError)
+    }
+
+    ghost style_law = { λ _. IsStyle-any };
+}
+
+fn is_out_of_memory(outcome: io::Result<()>) -> bool {
+    outcome.is_err_and(|error| error.kind() == ErrorKind::OutOfMemory)
+}
+
+/// Each call that prints returns the error of a failed allocation where `order` fails, after what
+/// was written before that object.
+#[test]
+fn propagates_a_failed_order(rt: HostRuntime) -> Tested {
+    let alloc = rt.alloc();
+    let object = unsorted(alloc)?;
+    let mut generator = TextGenerator::in_memory(alloc, Orderless);
+    assert!(rt; is_out_of_memory(write_object(&mut generator, &object)));
+    assert_eq!(rt; generator.faults(), 1);
+    let value = JsonValue::Array(vec![in alloc; JsonValue::Object(object)]?);
+    assert!(rt; is_out_of_memory(write_json(&mut generator, &value)));
+    assert_eq!(rt; generator.faults(), 2);
+    expect_bytes(&rt, generator.get_writer(), "[");
+    let mut bytes: Vec<u8> = Vec::new(alloc);
+    assert!(rt; is_out_of_memory(value.write_layout(&mut bytes, Orderless)));
+    expect_bytes(&rt, &bytes, "[");
+    assert!(rt; matches!(value.lay_out(alloc, Orderless), Err(Error::OutOfMemory)));
     Ok(())
 }
 

@@ -12,7 +12,7 @@ use std::process::Abort;
 
 /// A hook, with the arguments of `call`.
 #[derive(Clone, Copy)]
-enum Hook {
+pub enum Hook {
     Write,
     WriteChar,
     WriteMin,
@@ -29,7 +29,7 @@ enum Hook {
 }
 
 /// Calls the hook once; before `dedent` it sets 7 open indents.
-fn call<G: Generator>(generator: &mut G, hook: Hook, object: &Object) -> io::Result<()> {
+pub fn call<G: Generator>(generator: &mut G, hook: Hook, object: &Object) -> io::Result<()> {
     match hook {
         Hook::Write => generator.write(b"ab")?,
         Hook::WriteChar => generator.write_char(b'c')?,
@@ -63,9 +63,9 @@ fn assert_order(order: Option<Vec<usize>>) -> io::Result<()> {
 
 /// A hook, what it appends in the compact layout and in the pretty one of one space, and the counts
 /// of indents and of faults after it, where two indents were open before.
-type Row = (Hook, &'static str, &'static str, u64, u64);
+pub type Row = (Hook, &'static str, &'static str, u64, u64);
 
-const ROWS: [Row; 13] = [
+pub const ROWS: [Row; 13] = [
     (Hook::Write, "ab", "ab", 2, 0),
     (Hook::WriteChar, "c", "c", 2, 0),
     (Hook::WriteMin, ":", ": ", 2, 0),

@@ -9,6 +9,8 @@ mod conversions;
 #[cfg(test)]
 mod counting;
 #[cfg(test)]
+mod failing_hooks;
+#[cfg(test)]
 mod generators;
 #[cfg(test)]
 mod hooks;

@@ -7,18 +7,23 @@ use jzon_tree::codegen::{
 };
 use jzon_tree::object::Object;
 use jzon_tree::value::JsonValue;
-use std::alloc::Global;
+use std::alloc::{AllocError, Global};
 use std::io;
 use std::io::ErrorKind;
 
+const BROKEN: Trouble = Trouble::Fails(ErrorKind::BrokenPipe);
+
 /// A writer that fails at this call.
 fn broken_at(alloc: Global, call: usize) -> SlowWriter {
-    SlowWriter::new(alloc, call, Trouble::Fails(ErrorKind::BrokenPipe))
+    SlowWriter::new(alloc, call, BROKEN)
 }
 
 /// It is the writer's error.
-fn is_broken(outcome: io::Result<()>) -> bool {
-    outcome.is_err_and(|error| error.kind() == ErrorKind::BrokenPipe)
+fn is_broken(alloc: Global, outcome: io::Result<()>) -> Result<bool, AllocError> {
+    match outcome {
+        Ok(()) => Ok(false),
+        Err(error) => BROKEN.is_returned(alloc, &error),
+    }
 }
 
 #[test]
@@ -27,7 +32,7 @@ fn returns_the_error_of_an_object(rt: HostRuntime) -> Tested {
     object.insert(rt.alloc(), "a", JsonValue::Null)?;
     let mut writer = broken_at(rt.alloc(), 3);
     let result = write_object(&mut WriterGenerator::new(&mut writer), &object);
-    assert!(rt; is_broken(result));
+    assert!(rt; is_broken(rt.alloc(), result)?);
     expect_bytes(&rt, &writer.bytes, "{\"");
     Ok(())
 }
@@ -37,7 +42,8 @@ fn notes_one_fault(rt: HostRuntime) -> Tested {
     let value = numbers(rt.alloc(), &[1])?;
     let mut writer = broken_at(rt.alloc(), 4);
     let mut generator = PrettyWriterGenerator::new(&mut writer, 2);
-    assert!(rt; is_broken(write_json(&mut generator, &value)));
+    let result = write_json(&mut generator, &value);
+    assert!(rt; is_broken(rt.alloc(), result)?);
     assert_eq!(rt; generator.dent(), 1);
     assert_eq!(rt; generator.faults(), 1);
     expect_bytes(&rt, &writer.bytes, "[\n ");

@@ -19,22 +19,22 @@ const TEXT: &[u8] = b"-12.50e3";
 
 const PRINTED: &[u8] = b"-12500\n";
 
-/// Gives one byte a call, and fails at one call.
+/// Gives one byte a call, and fails at one call with the error of this trouble.
 #[derive(Drop)]
 struct FailingReader {
     rest: &'static [u8],
     calls: usize,
     fails_at: usize,
-    kind: ErrorKind,
+    trouble: Trouble,
 }
 
 impl FailingReader {
-    fn new(rest: &'static [u8], fails_at: usize, kind: ErrorKind) -> FailingReader {
+    fn new(rest: &'static [u8], fails_at: usize, trouble: Trouble) -> FailingReader {
         FailingReader {
             rest,
             calls: 0,
             fails_at,
-            kind,
+            trouble,
         }
     }
 }
@@ -45,7 +45,7 @@ impl Read for FailingReader {
     fn read(&mut self, buf: &mut [u8]) -> io::Result<usize> {
         self.calls = self.calls.saturating_add(1);
         if self.calls == self.fails_at {
-            return Err(io::Error::from(self.kind));
+            return Err(self.trouble.error());
         }
         if buf.is_empty() {
             return Ok(0);
@@ -312,6 +312,9 @@ fn rejects_what_exceeds_the_limits(rt: HostRuntime) -> Result<(), Fail> {
     for (prefix, repeated, count, back, closing) in rows {
         let parts = [(prefix, 1), (repeated, count), (back, 1), ("]", closing)];
         let text = joined(alloc, &parts)?;
+        let (result, written) = ran(alloc, text.as_bytes());
+        assert!(rt; matches!(result, Err(RunFault::Json(Error::ExceededDepthLimit))));
+        assert!(rt; written.is_empty());
         let mut reader = text.as_bytes();
         let mut writer: Vec<u8> = Vec::new(alloc);
         let mut faults: Vec<u8> = Vec::new(alloc);
@@ -348,20 +351,26 @@ fn reads_inputs_round_a_chunk(rt: HostRuntime) -> Result<(), Fail> {
 #[test]
 fn a_reader_fails_at_each_call(rt: HostRuntime) -> Result<(), Fail> {
     let alloc = rt.alloc();
-    for kind in [ErrorKind::Interrupted, ErrorKind::UnexpectedEof] {
+    for trouble in [
+        Trouble::Fails(ErrorKind::Interrupted),
+        Trouble::Fails(ErrorKind::UnexpectedEof),
+        Trouble::FailsBySystem(5),
+    ] {
         // One call more than there are bytes, since the last one finds the end.
         for call in 1..=TEXT.len() + 1 {
-            let mut reader = FailingReader::new(TEXT, call, kind);
+            let mut reader = FailingReader::new(TEXT, call, trouble);
             let mut writer: Vec<u8> = Vec::new(alloc);
             match engine::run(alloc, &mut reader, &mut writer, &usual(), Layout::Compact) {
-                Err(RunFault::Read(error)) => assert_eq!(rt; error.kind(), kind),
+                Err(RunFault::Read(error)) => {
+                    assert!(rt; trouble.is_returned(alloc, &error)?, "call {call}")
+                }
                 _ => assert!(rt; false, "no error of the reader at call {call}"),
             }
             assert_eq!(rt; reader.calls, call);
             assert!(rt; writer.is_empty());
         }
     }
-    let mut reader = FailingReader::new(TEXT, NO_FAILING_CALL, ErrorKind::Other);
+    let mut reader = FailingReader::new(TEXT, NO_FAILING_CALL, Trouble::TakesNothing);
     let mut writer: Vec<u8> = Vec::new(alloc);
     assert!(rt; engine::run(alloc, &mut reader, &mut writer, &usual(), Layout::Compact).is_ok());
     assert_eq!(rt; writer.as_slice(), PRINTED);
@@ -371,14 +380,18 @@ fn a_reader_fails_at_each_call(rt: HostRuntime) -> Result<(), Fail> {
 /// Fails unless the outcome is the error of the writer that this trouble gives.
 fn expect_write_error(
     rt: &impl Abort,
+    alloc: Global,
     outcome: &Result<(), RunFault>,
     trouble: Trouble,
     call: usize,
-) {
+) -> Result<(), Fail> {
     match outcome {
-        Err(RunFault::Write(error)) => assert_eq!(rt; error.kind(), trouble.kind()),
+        Err(RunFault::Write(error)) => {
+            assert!(rt; trouble.is_returned(alloc, error)?, "call {call}")
+        }
         _ => assert!(rt; false, "no error of the writer at call {call}"),
     }
+    Ok(())
 }
 
 #[test]
@@ -388,13 +401,14 @@ fn a_writer_fails_at_each_call(rt: HostRuntime) -> Result<(), Fail> {
         Trouble::TakesNothing,
         Trouble::Fails(ErrorKind::Interrupted),
         Trouble::Fails(ErrorKind::BrokenPipe),
+        Trouble::FailsBySystem(28),
     ];
     for trouble in troubles {
         for call in 1..=PRINTED.len() {
             let mut reader = TEXT;
             let mut writer = SlowWriter::new(alloc, call, trouble);
             let outcome = engine::run(alloc, &mut reader, &mut writer, &usual(), Layout::Compact);
-            expect_write_error(&rt, &outcome, trouble, call);
+            expect_write_error(&rt, alloc, &outcome, trouble, call)?;
             assert_eq!(rt; writer.calls, call);
             assert_eq!(rt; writer.bytes.as_slice(), &PRINTED[..call - 1]);
         }
@@ -428,7 +442,7 @@ fn writes_texts_round_a_full_buffer(rt: HostRuntime) -> Result<(), Fail> {
             let mut reader = text.as_bytes();
             let mut slow = SlowWriter::new(alloc, call, Trouble::TakesNothing);
             let outcome = engine::run(alloc, &mut reader, &mut slow, &usual(), Layout::Compact);
-            expect_write_error(&rt, &outcome, Trouble::TakesNothing, call);
+            expect_write_error(&rt, alloc, &outcome, Trouble::TakesNothing, call)?;
             assert!(rt; writer.starts_with(&slow.bytes));
             assert_eq!(rt; slow.bytes.len() + 1, call);
             assert_eq!(rt; slow.calls, call);
@@ -437,10 +451,35 @@ fn writes_texts_round_a_full_buffer(rt: HostRuntime) -> Result<(), Fail> {
     Ok(())
 }
 
+/// Strings of more plain bytes than the buffer holds, at its start and after other bytes, and a
+/// writer that fails in the second buffer.
+#[test]
+fn prints_strings_longer_than_the_buffer(rt: HostRuntime) -> Result<(), Fail> {
+    let alloc = rt.alloc();
+    for (before, count, after) in [
+        ("\"", 65536, "\""),
+        ("\"", 200000, "\""),
+        ("[1,\"\\n", 65534, "\",2]"),
+        ("{\"a\":[\"", 200000, "\\u0001\",true]}"),
+    ] {
+        let text = joined(alloc, &[(before, 1), ("p", count), (after, 1)])?;
+        expect_printed(&rt, alloc, text.as_str(), text.as_str())?;
+        let trouble = Trouble::Fails(ErrorKind::BrokenPipe);
+        for call in [1, 65536, 65538] {
+            let mut reader = text.as_bytes();
+            let mut slow = SlowWriter::new(alloc, call, trouble);
+            let outcome = engine::run(alloc, &mut reader, &mut slow, &usual(), Layout::Compact);
+            expect_write_error(&rt, alloc, &outcome, trouble, call)?;
+            assert!(rt; slow.calls == call && text.as_bytes().starts_with(&slow.bytes));
+        }
+    }
+    Ok(())
+}
+
 #[test]
 fn drive_reports_a_reader_that_fails(rt: HostRuntime) -> Result<(), Fail> {
     let alloc = rt.alloc();
-    let mut reader = FailingReader::new(TEXT, 3, ErrorKind::IsADirectory);
+    let mut reader = FailingReader::new(TEXT, 3, Trouble::Fails(ErrorKind::IsADirectory));
     let mut writer = SlowWriter::new(alloc, NO_FAILING_CALL, Trouble::TakesNothing);
     let mut faults: Vec<u8> = Vec::new(alloc);
     let status = engine::drive(alloc, &[], &mut reader, &mut writer, &mut faults);
