@@ -14,4 +14,5 @@ pub mod patch;
 pub mod pointer;
 pub mod redact;
 pub mod round_trip;
+pub mod sorted_generator;
 pub mod writing;
