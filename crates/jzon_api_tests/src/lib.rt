@@ -26,6 +26,8 @@ mod integers;
 #[cfg(test)]
 mod keys;
 #[cfg(test)]
+mod large;
+#[cfg(test)]
 mod lent;
 #[cfg(test)]
 mod listed;

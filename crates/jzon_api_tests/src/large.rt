@@ -1,0 +1,225 @@
+//! Values far beyond what is kept inline, compared in place, or made room for in advance: each call
+//! that may run out of memory succeeds at a thousand elements or members, and at long strings.
+
+use crate::common::Tested;
+use jzon::codegen::{Compact, Pretty};
+use jzon::object::Object;
+use jzon::{IntoJson, JsonValue, Reading, Result, parse, parse_as};
+use jzon_test_support::joined;
+use std::alloc::{AllocError, Global};
+use std::collections::{BTreeMap, HashMap};
+use std::process::Abort;
+
+const COUNT: u32 = 1000;
+
+/// The numbers from 0 on, as texts of four digits, so that they are in the order of their bytes.
+fn names(alloc: Global) -> std::result::Result<Vec<String>, AllocError> {
+    let mut names = Vec::new(alloc);
+    for number in 0..COUNT {
+        names.push(format!(in alloc; "{number:04}")?)?;
+    }
+    Ok(names)
+}
+
+/// `[0,1,2` and so on, up to 999.
+fn array_text(alloc: Global) -> std::result::Result<String, AllocError> {
+    let mut text = String::from_str(alloc, "[0")?;
+    for number in 1..COUNT {
+        text.push_str(format!(in alloc; ",{number}")?.as_str())?;
+    }
+    text.push(']')?;
+    Ok(text)
+}
+
+/// `{"0000":0,"0001":1` and so on, up to 999.
+fn object_text(alloc: Global) -> std::result::Result<String, AllocError> {
+    let mut text = String::from_str(alloc, "{\"0000\":0")?;
+    for number in 1..COUNT {
+        text.push_str(format!(in alloc; ",\"{number:04}\":{number}")?.as_str())?;
+    }
+    text.push('}')?;
+    Ok(text)
+}
+
+/// The strings: 200,000 bytes that are written as they are, and 200 with an escape in every four.
+fn strings(alloc: Global) -> std::result::Result<[(String, String); 2], AllocError> {
+    Ok([
+        (
+            joined(alloc, &[("plain", 40000)])?,
+            joined(alloc, &[("\"", 1), ("plain", 40000), ("\"", 1)])?,
+        ),
+        (
+            joined(alloc, &[("ab\né", 40)])?,
+            joined(alloc, &[("\"", 1), ("ab\\né", 40), ("\"", 1)])?,
+        ),
+    ])
+}
+
+/// What prints a value in the compact layout prints this text.
+fn expect_printed(rt: &impl Abort, alloc: Global, value: &JsonValue, text: &str) -> Tested {
+    assert!(rt; value.dump(alloc)?.as_str() == text);
+    assert!(rt; value.lay_out(alloc, Compact)?.as_str() == text);
+    let mut bytes: Vec<u8> = Vec::new(alloc);
+    value.write(&mut bytes)?;
+    assert!(rt; bytes.as_slice() == text.as_bytes());
+    let pretty = value.pretty(alloc, 2)?;
+    assert!(rt; value.lay_out(alloc, Pretty(2))?.as_str() == pretty.as_str());
+    let mut bytes: Vec<u8> = Vec::new(alloc);
+    value.write_pretty(&mut bytes, 2)?;
+    assert!(rt; bytes.as_slice() == pretty.as_bytes());
+    Ok(())
+}
+
+/// The value prints this text, `shown` by `Display`, and equals what the text and its pretty text
+/// mean, and its copies.
+fn expect_whole(
+    rt: &impl Abort,
+    alloc: Global,
+    value: &JsonValue,
+    text: &str,
+    shown: &str,
+) -> Tested {
+    expect_printed(rt, alloc, value, text)?;
+    assert!(rt; format!(in alloc; "{value}")?.as_str() == shown);
+    assert!(rt; *value == parse(alloc, text)?);
+    assert!(rt; *value == parse(alloc, value.pretty(alloc, 2)?.as_str())?);
+    let strict = Reading::new(true, 512).unwrap();
+    assert!(rt; *value == parse_as(alloc, text, &strict)?);
+    let copy = value.clone(alloc)?;
+    expect_printed(rt, alloc, &copy, text)?;
+    assert!(rt; *value == copy);
+    assert!(rt; *value == Clone::clone(&copy)?);
+    Ok(())
+}
+
+#[test]
+fn long_strings(rt: HostRuntime) -> Tested {
+    let alloc = rt.alloc();
+    for (string, text) in &strings(alloc)? {
+        let string = string.as_str();
+        expect_whole(&rt, alloc, &string.into_json(alloc)?, text, string)?;
+        let owned = String::from_str(alloc, string)?;
+        expect_whole(&rt, alloc, &owned.into_json(alloc)?, text, string)?;
+        let mut value = parse(alloc, text)?;
+        let taken = value.take_string(alloc)?;
+        assert!(rt; taken.is_some_and(|taken| taken.as_str() == string));
+    }
+    Ok(())
+}
+
+/// By `push`, one after the other.
+fn pushed(alloc: Global) -> Result<JsonValue> {
+    let mut array = JsonValue::new_array(alloc);
+    for number in 0..COUNT {
+        array.push(alloc, number)?;
+    }
+    Ok(array)
+}
+
+/// By the conversion of a list.
+fn listed(alloc: Global) -> Result<JsonValue> {
+    let numbers: Vec<u32> = (0..COUNT).collect(alloc)?;
+    numbers.into_json(alloc)
+}
+
+#[test]
+fn long_arrays(rt: HostRuntime) -> Tested {
+    let alloc = rt.alloc();
+    let text = array_text(alloc)?;
+    for mut array in [pushed(alloc)?, listed(alloc)?] {
+        expect_whole(&rt, alloc, &array, text.as_str(), text.as_str())?;
+        assert!(rt; array.pop().eq_u64(999) && array.array_remove(500).eq_u64(500));
+        assert!(rt; array.len() == 998 && array.at_index(500).eq_u64(501));
+    }
+    Ok(())
+}
+
+/// How a large object is made.
+#[derive(Clone, Copy)]
+enum Made {
+    ByInsert,
+    ByAtMut,
+    FromPairs,
+    Collected,
+    FromMap,
+    FromHashMap,
+}
+
+const MADE: [Made; 6] = [
+    Made::ByInsert,
+    Made::ByAtMut,
+    Made::FromPairs,
+    Made::Collected,
+    Made::FromMap,
+    Made::FromHashMap,
+];
+
+fn inserted(alloc: Global, names: &[String]) -> Result<JsonValue> {
+    let mut object = JsonValue::new_object(alloc);
+    for (name, number) in names.iter().zip(0u32..) {
+        object.insert(alloc, name, number)?;
+    }
+    Ok(object)
+}
+
+fn borrowed(alloc: Global, names: &[String]) -> Result<JsonValue> {
+    let mut object = JsonValue::Null;
+    for (name, number) in names.iter().zip(0u32..) {
+        *object.at_mut(alloc, name)? = jzon::from(alloc, number)?;
+    }
+    Ok(object)
+}
+
+fn mapped(alloc: Global, names: &[String]) -> Result<JsonValue> {
+    let mut map = BTreeMap::new(alloc);
+    for (name, number) in names.iter().zip(0u32..) {
+        map.insert(name.as_str(), number)?;
+    }
+    map.into_json(alloc)
+}
+
+fn hash_mapped(alloc: Global, names: &[String]) -> Result<JsonValue> {
+    let mut map = HashMap::new(alloc);
+    for (name, number) in names.iter().zip(0u32..) {
+        map.insert(name.as_str(), number)?;
+    }
+    map.into_json(alloc)
+}
+
+impl Made {
+    fn make(self, alloc: Global, names: &[String]) -> Result<JsonValue> {
+        let pairs = names.iter().map(|name| name.as_str()).zip(0u32..);
+        match self {
+            Made::ByInsert => inserted(alloc, names),
+            Made::ByAtMut => borrowed(alloc, names),
+            Made::FromPairs => Ok(JsonValue::Object(Object::from_pairs(alloc, pairs)?)),
+            Made::Collected => {
+                let object: Object = pairs.collect(alloc)?;
+                Ok(JsonValue::Object(object))
+            }
+            Made::FromMap => mapped(alloc, names),
+            Made::FromHashMap => hash_mapped(alloc, names),
+        }
+    }
+}
+
+/// That of a hash map has its members in any order.
+#[test]
+fn large_objects(rt: HostRuntime) -> Tested {
+    let alloc = rt.alloc();
+    let names = names(alloc)?;
+    let text = object_text(alloc)?;
+    let whole = parse(alloc, text.as_str())?;
+    for made in MADE {
+        let mut object = made.make(alloc, &names)?;
+        assert!(rt; object == whole && object.len() == 1000);
+        if matches!(made, Made::FromHashMap) {
+            assert!(rt; object.dump(alloc)?.len() == text.len());
+        } else {
+            expect_whole(&rt, alloc, &object, text.as_str(), text.as_str())?;
+        }
+        assert!(rt; object.remove("0500").eq_u64(500) && !object.has_key("0500"));
+        assert!(rt; object.at("0999").eq_u64(999));
+    }
+    Ok(())
+}
