@@ -1,4 +1,5 @@
-//! Tests of `jzon_base` by its public items alone, and of `write_bytes` of `jzon_tokens`.
+//! Tests of `jzon_base` by its public items alone, and of the write loop and the runs of plain
+//! bytes of `jzon_tokens`.
 #![tactic(auto)]
 
 #[cfg(test)]
@@ -11,6 +12,8 @@ mod key;
 mod keys;
 #[cfg(test)]
 mod pairs;
+#[cfg(test)]
+mod plain_runs;
 #[cfg(test)]
 mod runs;
 #[cfg(test)]
