@@ -1,9 +1,13 @@
-//! Calls that allocate, with each of their allocations failing in turn.
+//! Calls that allocate, with each of their allocations failing in turn. Each run must free all that
+//! it allocates, the argument of a call that fails too.
 
 mod built;
 mod changed;
+mod hints;
 mod objects;
+mod owned;
 mod room;
+mod sizes;
 mod written;
 
 use jzon::{Error, JsonValue, Result, parse};
@@ -83,22 +87,40 @@ fn expect_success(
     Ok(())
 }
 
+/// One run of the call, on a copy of `before`, which has no room to spare. Whether an allocation
+/// failed.
+fn run<C: Call>(
+    rt: &impl Abort,
+    alloc: Global,
+    row: &Row<C>,
+    before: &JsonValue,
+    refusals: &mut Refusals,
+) -> std::result::Result<bool, Fail> {
+    let call = row.call;
+    let mut value = before.clone(alloc)?;
+    refusals.begin();
+    let outcome = call.call(&mut value, alloc);
+    let has_failed = refusals.has_failed();
+    if has_failed {
+        expect_out_of_memory(rt, alloc, &outcome, &value, before)?;
+    } else {
+        expect_success(rt, alloc, &outcome, &value, row.after)?;
+    }
+    Ok(has_failed)
+}
+
 /// Runs the call with its first allocation failing, then with its second, and so on, until a run
-/// has no failed allocation.
+/// has no failed allocation. Each run frees all that it allocates.
 fn fail_each<C: Call>(rt: &(impl Eprint + Abort), alloc: Global, row: &Row<C>) -> Tested {
     let before = parse(alloc, row.before)?;
-    let call = row.call;
     let mut refusals = Refusals::new(alloc);
     for _ in 0..RUNS_MAX {
-        // A copy has no room to spare.
-        let mut value = before.clone(alloc)?;
-        refusals.begin();
-        let outcome = call.call(&mut value, alloc);
-        if !refusals.has_failed() {
-            expect_success(rt, alloc, &outcome, &value, row.after)?;
+        refusals.open();
+        let has_failed = run(rt, alloc, row, &before, &mut refusals)?;
+        refusals.close();
+        if !has_failed {
             break;
         }
-        expect_out_of_memory(rt, alloc, &outcome, &value, &before)?;
     }
     refusals.report(rt, row.name, row.least)?;
     Ok(())

@@ -1,10 +1,20 @@
-//! Repeats a call with its allocations failing in turn. ci/refuse.c makes them fail: bin/test runs
-//! these tests once more with it. Without it each test runs its call once, with enough memory.
+//! Repeats a call with its allocations failing in turn, and checks that each block it allocates is
+//! freed. ci/refuse.c makes allocations fail and counts them: bin/test runs these tests once more
+//! with it. Without it each test runs its call once, with enough memory.
 
 use std::alloc::Global;
 
 /// An allocation of this size or more is a signal to ci/refuse.c, and fails without it.
 const MARK: usize = 1 << 62;
+
+/// Begins to count blocks and bytes.
+const COUNT: usize = (1 << 62) + (1 << 40);
+
+/// Fails unless as many blocks were freed as allocated.
+const IS_EVEN: usize = (1 << 62) + (2 << 40);
+
+/// With a number of bytes added, fails if more were requested.
+const IS_WITHIN: usize = (1 << 62) + (3 << 40);
 
 /// The largest number of runs of one call. No test needs as many.
 pub const RUNS_MAX: usize = 200;
@@ -15,6 +25,8 @@ pub const RUNS_MAX: usize = 200;
 pub struct Refusals {
     alloc: Global,
     count: usize,
+    opened: usize,
+    evened: usize,
     is_able: bool,
     is_done: bool,
 }
@@ -25,8 +37,24 @@ impl Refusals {
         Refusals {
             alloc,
             count: 0,
+            opened: 0,
+            evened: 0,
             is_able: false,
             is_done: false,
+        }
+    }
+
+    /// To be called before a run, when nothing of it is allocated. `close` ends the run.
+    pub fn open(&mut self) {
+        self.opened = self.opened.saturating_add(1);
+        self.is_able = is_granted(self.alloc, COUNT);
+    }
+
+    /// To be called after a run, when all that it allocated is dropped. If a block is left, `report`
+    /// returns an error.
+    pub fn close(&mut self) {
+        if !self.is_able || is_granted(self.alloc, IS_EVEN) {
+            self.evened = self.evened.saturating_add(1);
         }
     }
 
@@ -48,7 +76,7 @@ impl Refusals {
 
     /// To be called after the last run, in which no allocation may have failed. Prints how many
     /// runs had a failed allocation, in a line that bin/test reads, and returns an error if
-    /// ci/refuse.c is loaded and there were fewer than `least`.
+    /// ci/refuse.c is loaded and there were fewer than `least`, or a run left a block.
     pub fn report(&self, rt: &impl Eprint, test: &str, least: usize) -> Result<(), &'static str> {
         let _ = eprintln!(rt; "{test}: {} refusals", self.count);
         if !self.is_done {
@@ -56,6 +84,32 @@ impl Refusals {
         }
         if self.is_able && self.count < least {
             return Err("too few allocations failed");
+        }
+        self.expect_even()
+    }
+
+    /// An error if a run left a block.
+    pub fn expect_even(&self) -> Result<(), &'static str> {
+        if self.opened != self.evened {
+            return Err("a run left a block, or freed one too many");
+        }
+        Ok(())
+    }
+
+    /// To be called after a call between `open` and `close`. Prints that bytes were counted, in a
+    /// line that bin/test reads, and returns an error if more than `most` were requested. Without
+    /// ci/refuse.c it does neither.
+    pub fn expect_within(
+        &self,
+        rt: &impl Eprint,
+        test: &str,
+        most: usize,
+    ) -> Result<(), &'static str> {
+        if self.is_able {
+            let _ = eprintln!(rt; "{test}: bytes counted");
+            if !is_granted(self.alloc, IS_WITHIN.saturating_add(most)) {
+                return Err("more bytes were requested");
+            }
         }
         Ok(())
     }
