@@ -1,0 +1,141 @@
+#!/usr/bin/env python3
+"""Makes the texts that are measured: `texts.py FOLDER BYTES NAME..` writes FOLDER/NAME.json of about BYTES bytes each, and for the names of hard keys
+`KIND-COUNT` an object of COUNT members. The same arguments make the same texts. It runs in a process of its own, so that the measuring one stays small."""
+import json
+import os
+import random
+import sys
+
+WORDS = "amber basil cedar delta ember fjord grove heath inlet jetty knoll ledge mound north ocean".split()
+
+# In FNV-1a of 64 bits a key of hash 0, which a zero byte leaves at 0, and ten bytes that do so too.
+OF_HASH_0 = "77kepQFQ8Kl"
+LEAVES_0 = "GhL ,\x08\x1bs\x05\x18"
+
+
+def hash_of(key):
+    """The hash by which an object finds a key."""
+    value = 0xCBF29CE484222325
+    for byte in key.encode():
+        value = ((value ^ byte) * 0x100000001B3) % 2**64
+    return value
+
+
+def phrase(random_, least, most):
+    return " ".join(random_.choice(WORDS) for _ in range(random_.randint(least, most)))
+
+
+def record(random_, number):
+    """An object as one of a list of users."""
+    name = random_.choice(WORDS)
+    return {
+        "id": number,
+        "name": f"{name} {number}",
+        "email": f"{name}{number}@example.org",
+        "is_active": number % 3 == 0,
+        "balance": round(random_.uniform(0, 5000), 2),
+        "tags": random_.sample(WORDS, 3),
+        "address": {"street": f"{random_.choice(WORDS)} {number % 97}", "city": random_.choice(WORDS), "zip": str(10000 + number % 89999)},
+    }
+
+
+def message(random_, number):
+    """Objects of 40, 25, 5 and 2 keys in one another."""
+    def members(count, prefix):
+        kinds = (None, False, number, phrase(random_, 1, 4))
+        return {f"{prefix}_{index}": kinds[index % 4] for index in range(count)}
+    innermost = {"indices": [0, number % 100], "text": phrase(random_, 1, 2)}
+    user = {**members(24, "user"), "entities": {**members(4, "entity"), "hashtag": innermost}}
+    return {**members(39, "message"), "user": user}
+
+
+def integer(random_):
+    return random_.randrange(10 ** random_.randint(1, 18)) * random_.choice((1, -1))
+
+
+def decimal(random_):
+    return f"{random_.uniform(-180, 180):.{random_.randint(4, 14)}f}"
+
+
+def escaped(random_):
+    return "".join(random_.choice('ab"\\\n\té漢\U0001f984/') for _ in range(random_.randint(10, 60)))
+
+
+def elements(random_, name):
+    """Endless texts of elements, of which an array is made."""
+    make = {
+        "integers": lambda number: str(integer(random_)),
+        "decimals": lambda number: decimal(random_),
+        "strings": lambda number: json.dumps(phrase(random_, 3, 60)),
+        "escapes": lambda number: json.dumps(escaped(random_)),
+        "records": lambda number: json.dumps(record(random_, number)),
+        "indented": lambda number: json.dumps(record(random_, number), indent=4),
+        "messages": lambda number: json.dumps(message(random_, number)),
+        "deep": lambda number: "[" * 100 + "1" + "]" * 100,
+        "pairs": lambda number: f"[{decimal(random_)},{decimal(random_)}]",
+        "literals": lambda number: random_.choice(("true", "false", "null")),
+        "wide": lambda number: f'"key{number:07}":{number}',
+        "repeated": lambda number: f'"k{number % 50}":{number}',
+        "keys": lambda number: f'"key{number}"',
+    }[name]
+    number = 0
+    while True:
+        yield make(number)
+        number += 1
+
+
+NAMES = "integers decimals strings escapes records indented messages wide repeated deep pairs literals".split()
+
+
+def text(name, size):
+    """A text of about this many bytes; an object of wide or repeated, else an array."""
+    brackets = "{}" if name in ("wide", "repeated") else "[]"
+    parts, length = [], 0
+    for element in elements(random.Random(name), name):
+        parts.append(element)
+        length += len(element.encode()) + 1
+        if length >= size:
+            return brackets[0] + ",".join(parts) + brackets[1]
+
+
+def of_one_hash(count):
+    keys = [OF_HASH_0 + "".join(LEAVES_0 if index >> bit & 1 else "\0" for bit in range(count.bit_length())) for index in range(count)]
+    if any(hash_of(key) for key in keys[-3:]):
+        sys.exit("texts.py: the keys of one hash have others")
+    random.Random(count).shuffle(keys)
+    return keys
+
+
+def shuffled(keys):
+    random.Random(len(keys)).shuffle(keys)
+    return keys
+
+
+HARD = {
+    "one-hash": of_one_hash,
+    "rising": lambda count: sorted((f"k{index}" for index in range(count)), key=hash_of),
+    "falling": lambda count: sorted((f"k{index}" for index in range(count)), key=hash_of, reverse=True),
+    "random": lambda count: shuffled([f"k{index}" for index in range(count)]),
+    "repeated-keys": lambda count: [f"k{index % 50}" for index in range(count)],
+    "long": lambda count: ["x" * 200 + str(index) for index in range(count)],
+    "plain": lambda count: [f"key{index}" for index in range(count)],
+}
+
+
+def hard(kind, count):
+    """An object of this many members."""
+    return "{" + ",".join(f"{json.dumps(key)}:1" for key in HARD[kind](count)) + "}"
+
+
+def main():
+    folder, size, *names = sys.argv[1:]
+    for name in names:
+        path = os.path.join(folder, name + ".json")
+        kind, _, count = name.rpartition("-")
+        made = hard(kind, int(count)) if kind in HARD else text(name, int(size))
+        with open(path, "w", encoding="utf-8") as file:
+            file.write(made)
+
+
+if __name__ == "__main__":
+    main()
