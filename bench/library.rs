@@ -41,14 +41,15 @@ mod rust_crate {
             return (0..repeats).map(|_| read().len()).sum();
         }
         let (value, other) = (read(), read());
-        let keys: Vec<String> = value.entries().map(|(key, _)| key.to_string()).collect();
+        let keys: Vec<String> = value.members().filter_map(|item| item.as_str().map(String::from)).collect();
+        let object = inserted(&keys);
         let once = || match call {
             "clone" => value.clone().len(),
             "eq" => usize::from(value == other),
             "dump" => value.dump().len(),
             "pretty" => value.pretty(2).len(),
             "entries" => visited(&value),
-            "get" => keys.iter().filter(|key| value.has_key(key)).count(),
+            "get" => keys.iter().filter(|key| object.get(key).is_some()).count(),
             "insert" => inserted(&keys).len(),
             "from_pairs" => of_pairs(&keys).len(),
             "remove" => half_removed(&keys),
@@ -105,14 +106,16 @@ mod serde {
             return (0..repeats).map(|_| len(&read())).sum();
         }
         let (value, other) = (read(), read());
-        let keys: Vec<String> = value.as_object().map_or_else(Vec::new, |object| object.keys().cloned().collect());
+        let items = value.as_array().map_or(&[][..], |items| items.as_slice());
+        let keys: Vec<String> = items.iter().filter_map(|item| item.as_str().map(String::from)).collect();
+        let object = inserted(&keys, Value::Null);
         let once = || match call {
             "clone" => len(&value.clone()),
             "eq" => usize::from(value == other),
             "dump" => to_string(&value).expect("text").len(),
             "pretty" => to_string_pretty(&value).expect("text").len(),
             "entries" => visited(&value),
-            "get" => keys.iter().filter(|key| value.get(key.as_str()).is_some()).count(),
+            "get" => keys.iter().filter(|key| object.get(key.as_str()).is_some()).count(),
             "insert" => inserted(&keys, Value::Null).len(),
             "from_pairs" => inserted(&keys, Value::from(7u64)).len(),
             "remove" => half_removed(&keys),

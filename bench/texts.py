@@ -1,6 +1,6 @@
 #!/usr/bin/env python3
 """Makes the texts that are measured: `texts.py FOLDER BYTES NAME..` writes FOLDER/NAME.json of about BYTES bytes each, and for the names of hard keys
-`KIND-COUNT` an object of COUNT members. The same arguments make the same texts. It runs in a process of its own, so that the measuring one stays small."""
+`KIND-COUNT` an object of COUNT members, for `KIND-COUNT-list` an array of its keys. The same arguments make the same texts. It runs in a process of its own, so that the measuring one stays small."""
 import json
 import os
 import random
@@ -76,7 +76,6 @@ def elements(random_, name):
         "literals": lambda number: random_.choice(("true", "false", "null")),
         "wide": lambda number: f'"key{number:07}":{number}',
         "repeated": lambda number: f'"k{number % 50}":{number}',
-        "keys": lambda number: f'"key{number}"',
     }[name]
     number = 0
     while True:
@@ -122,17 +121,18 @@ HARD = {
 }
 
 
-def hard(kind, count):
-    """An object of this many members."""
-    return "{" + ",".join(f"{json.dumps(key)}:1" for key in HARD[kind](count)) + "}"
+def hard(kind, count, is_list):
+    """An object of this many members, or an array of their keys."""
+    keys = [json.dumps(key) for key in HARD[kind](count)]
+    return "[" + ",".join(keys) + "]" if is_list else "{" + ",".join(f"{key}:1" for key in keys) + "}"
 
 
 def main():
     folder, size, *names = sys.argv[1:]
     for name in names:
         path = os.path.join(folder, name + ".json")
-        kind, _, count = name.rpartition("-")
-        made = hard(kind, int(count)) if kind in HARD else text(name, int(size))
+        kind, _, count = name.removesuffix("-list").rpartition("-")
+        made = hard(kind, int(count), name.endswith("-list")) if kind in HARD else text(name, int(size))
         with open(path, "w", encoding="utf-8") as file:
             file.write(made)
 
