@@ -76,7 +76,7 @@ class Table:
 
     def __init__(self, heads, is_markdown):
         self.widths, self.is_markdown = [max(len(head), 9) for head in heads], is_markdown
-        self.widths[0] = 34
+        self.widths[0] = 48
         self.row(heads)
         if is_markdown:
             print("|" + "---|" * len(heads))

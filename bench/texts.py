@@ -83,7 +83,30 @@ def elements(random_, name):
         number += 1
 
 
-NAMES = "integers decimals strings escapes records indented messages wide repeated deep pairs literals".split()
+# The names of texts, and what docs/MEASURED.md calls them and the hard keys.
+TITLES = {
+    "integers": "integers",
+    "decimals": "decimals",
+    "strings": "strings",
+    "escapes": "strings with escapes",
+    "records": "records",
+    "indented": "indented records",
+    "wide": "one wide object",
+    "repeated": "few keys, each often repeated",
+    "deep": "deep arrays",
+    "messages": "objects of 40, 25, 5 and 2 keys in one another",
+    "pairs": "pairs of decimals",
+    "literals": "literals",
+}
+NAMES = list(TITLES)
+KEY_TITLES = {
+    "rising": "in ascending order of hash",
+    "falling": "in descending order of hash",
+    "one-hash": "of one hash",
+    "random": "in random order",
+    "repeated-keys": "repeated",
+    "long": "long",
+}
 
 
 def text(name, size):
