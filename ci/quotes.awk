@@ -1,6 +1,6 @@
-# Prints each code line that a page quotes and that isn't in the examples. The examples come first on the command line, then the pages, and the other
-# sources, of which the lines of "///" are a page. A quoted line is one between "```rust" and "```", without its comment, or in the right column of the table
-# "What one writes".
+# Prints each code line that a page quotes and that isn't in the examples: the crates jzon_examples and jzon_example_config. The examples come first on the
+# command line, then the pages, and the other sources, of which the lines of "///" are a page. A quoted line is one between "```rust" or "```antt" and
+# "```", without its comment, or in the right column of the table "What one writes".
 # Spaces at both ends don't count. The status is 0 only if something is quoted and all of it is there.
 function trimmed(text) {
     gsub(/^[ \t]+|[ \t]+$/, "", text)
@@ -16,7 +16,7 @@ function look_for(text, is_part) {
     }
 }
 
-FILENAME ~ /jzon_examples.*\.rt$/ {
+FILENAME ~ /jzon_example(s|_config)\/.*\.(rt|antt)$/ {
     is_there[trimmed($0)] = 1
     code = code "\n" $0
     next
@@ -26,7 +26,7 @@ FILENAME ~ /\.rt$/ {
     if (!sub(/^ *\/\/\/ ?/, "")) next
 }
 /^```/ { fence = fence == "" ? $0 : ""; next }
-fence == "```rust" {
+fence == "```rust" || fence == "```antt" {
     line = $0
     sub(/[ \t]+\/\/ .*$/, "", line)
     if (trimmed(line) != "") look_for(trimmed(line), 0)

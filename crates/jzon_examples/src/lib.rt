@@ -5,6 +5,7 @@
 pub mod building;
 pub mod canonical;
 pub mod chains;
+pub mod cookbook;
 pub mod faults;
 pub mod from_rust;
 pub mod layers;

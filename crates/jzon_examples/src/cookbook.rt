@@ -1,0 +1,10 @@
+//! What users of a JSON library want to do. docs/COOKBOOK.md quotes these functions, file by file,
+//! and the tests beside them run each.
+
+pub mod building;
+pub mod changing;
+pub mod looking;
+pub mod printing;
+pub mod proved;
+pub mod reading;
+pub mod tabs;

@@ -1,0 +1,201 @@
+//! What is in a value.
+
+use crate::cookbook::building::Server;
+use jzon::{Error, JsonValue, Result, View};
+use std::alloc::Global;
+
+/// Seconds to wait: 30 if the setting is missing or no `u64`.
+pub fn timeout(config: &JsonValue) -> u64 {
+    config.at("limits").at("timeout").as_u64().unwrap_or(30)
+}
+
+/// Sums up the amounts of a list of orders, if all are integers and the sum fits.
+pub fn total(orders: &JsonValue) -> Option<u64> {
+    let mut sum = 0u64;
+    for order in orders.members() {
+        sum = sum.checked_add(order.at("amount").as_u64()?)?;
+    }
+    Some(sum)
+}
+
+/// The names of the entries whose value is null.
+pub fn unset(alloc: Global, config: &JsonValue) -> Result<Vec<String>> {
+    let mut names = Vec::new(alloc);
+    for (name, value) in config.entries() {
+        if value.is_null() {
+            names.push(String::from_str(alloc, name)?)?;
+        }
+    }
+    Ok(names)
+}
+
+/// The server that an object describes. A missing port is 80, missing tags are an empty list.
+/// `None` without a host, or if the port is no `u16`.
+pub fn server_of(alloc: Global, value: &JsonValue) -> Result<Option<Server>> {
+    let Some(host) = value.at("host").as_str() else {
+        return Ok(None);
+    };
+    let Some(port) = port_of(value) else {
+        return Ok(None);
+    };
+    Ok(Some(Server {
+        host: String::from_str(alloc, host)?,
+        port,
+        tags: strings_of(alloc, value.at("tags"))?,
+    }))
+}
+
+/// The port: 80 if there is none, `None` if it is no `u16`.
+fn port_of(value: &JsonValue) -> Option<u16> {
+    match value.get("port") {
+        Some(port) => port.as_u16(),
+        None => Some(80),
+    }
+}
+
+/// The strings of an array. Other elements are skipped.
+pub fn strings_of(alloc: Global, list: View<'_>) -> Result<Vec<String>> {
+    let mut strings = Vec::new(alloc);
+    for element in list.members() {
+        if let Some(text) = element.as_str() {
+            strings.push(String::from_str(alloc, text)?)?;
+        }
+    }
+    Ok(strings)
+}
+
+/// The numbers of an array. `WrongType` if it is none, or an element is no `u64`.
+pub fn numbers_of(alloc: Global, value: &JsonValue) -> Result<Vec<u64>> {
+    let Some(elements) = value.as_array() else {
+        return Err(Error::wrong_type(alloc, "Array")?);
+    };
+    let mut numbers = Vec::new(alloc);
+    for element in elements {
+        match element.as_u64() {
+            Some(number) => numbers.push(number)?,
+            None => return Err(Error::wrong_type(alloc, "u64")?),
+        }
+    }
+    Ok(numbers)
+}
+
+/// The integer that a number is, however it is written: `100`, `1e2` or `100.0`.
+pub fn integer(value: &JsonValue) -> Option<u64> {
+    value.as_exact_fixed_point_u64(0)
+}
+
+/// A price in cents. `None` if it has parts of a cent, is no number, or is missing.
+pub fn cents(order: &JsonValue) -> Option<i64> {
+    order.at("price").as_exact_fixed_point_i64(2)
+}
+
+/// An identifier of any length, written as a string.
+pub fn identifier(value: &JsonValue) -> Option<&str> {
+    value.get("id")?.as_str()
+}
+
+/// Whether two texts mean equal values.
+pub fn means_the_same(alloc: Global, one: &str, other: &str) -> Result<bool> {
+    Ok(jzon::parse(alloc, one)? == jzon::parse(alloc, other)?)
+}
+
+#[cfg(test)]
+mod tests {
+    use super::*;
+    use std::test::Fail;
+
+    #[test]
+    fn goes_over(rt: HostRuntime) -> std::result::Result<(), Fail> {
+        let alloc = rt.alloc();
+        let orders = jzon::parse(alloc, r#"[{"amount": 2}, {"amount": 3}]"#)?;
+        assert_eq!(rt; total(&orders), Some(5));
+        assert_eq!(rt; total(&jzon::parse(alloc, r#"[{"amount": -2}]"#)?), None);
+        let config = jzon::parse(alloc, r#"{"a": null, "b": 1, "c": null}"#)?;
+        let names = unset(alloc, &config)?;
+        assert_eq!(rt; jzon::stringify(alloc, names)?.as_str(), r#"["a","c"]"#);
+        Ok(())
+    }
+
+    #[test]
+    fn finds_servers(rt: HostRuntime) -> std::result::Result<(), Fail> {
+        let alloc = rt.alloc();
+        let value = jzon::parse(alloc, r#"{"host": "a", "tags": ["x", 1, "y"]}"#)?;
+        let server = server_of(alloc, &value)?.ok_or("no server")?;
+        assert_eq!(rt;
+            jzon::stringify(alloc, server)?.as_str(),
+            r#"{"host":"a","port":80,"tags":["x","y"]}"#
+        );
+        for text in [r#"{"port": 80}"#, r#"{"host": "a", "port": 65536}"#, "null"] {
+            assert!(rt; server_of(alloc, &jzon::parse(alloc, text)?)?.is_none());
+        }
+        Ok(())
+    }
+
+    #[test]
+    fn reads_lists_and_defaults(rt: HostRuntime) -> std::result::Result<(), Fail> {
+        let alloc = rt.alloc();
+        let numbers = numbers_of(alloc, &jzon::parse(alloc, "[1, 20, 300]")?)?;
+        assert_eq!(rt; numbers.as_slice(), [1, 20, 300].as_slice());
+        let negative = numbers_of(alloc, &jzon::parse(alloc, "[1, -2]")?);
+        assert!(rt; negative == Err(Error::wrong_type(alloc, "u64")?));
+        let config = jzon::parse(alloc, r#"{"limits": {"timeout": 5}}"#)?;
+        assert_eq!(rt; timeout(&config), 5);
+        assert_eq!(rt; timeout(&JsonValue::Null), 30);
+        Ok(())
+    }
+
+    #[test]
+    fn reads_numbers(rt: HostRuntime) -> std::result::Result<(), Fail> {
+        let alloc = rt.alloc();
+        let rows = [
+            ("100", Some(100), Some(100)),
+            ("1e2", None, Some(100)),
+            ("100.0", None, Some(100)),
+            ("100.5", None, None),
+            ("-1", None, None),
+        ];
+        for (text, by_parts, by_value) in rows {
+            let value = jzon::parse(alloc, text)?;
+            assert_eq!(rt; value.as_u64(), by_parts);
+            assert_eq!(rt; integer(&value), by_value);
+        }
+        Ok(())
+    }
+
+    #[test]
+    fn reads_prices(rt: HostRuntime) -> std::result::Result<(), Fail> {
+        let alloc = rt.alloc();
+        let rows = [
+            (r#"{"price": 19.99}"#, Some(1999)),
+            (r#"{"price": 20}"#, Some(2000)),
+            (r#"{"price": -0.5}"#, Some(-50)),
+            (r#"{"price": 0.001}"#, None),
+            (r#"{"price": "20"}"#, None),
+        ];
+        for (text, expected) in rows {
+            assert_eq!(rt; cents(&jzon::parse(alloc, text)?), expected);
+        }
+        Ok(())
+    }
+
+    #[test]
+    fn keeps_long_digits_in_strings(rt: HostRuntime) -> std::result::Result<(), Fail> {
+        let alloc = rt.alloc();
+        let cut = jzon::parse(alloc, r#"{"id": 123456789012345678901234567890}"#)?;
+        assert_eq!(rt;
+            cut.dump(alloc)?.as_str(),
+            r#"{"id":1.2345678901234567890e29}"#
+        );
+        let whole = jzon::parse(alloc, r#"{"id": "123456789012345678901234567890"}"#)?;
+        assert_eq!(rt; identifier(&whole), Some("123456789012345678901234567890"));
+        Ok(())
+    }
+
+    #[test]
+    fn compares(rt: HostRuntime) -> std::result::Result<(), Fail> {
+        let alloc = rt.alloc();
+        assert!(rt; means_the_same(alloc, r#"{"a": 1.50, "b": []}"#, r#"{"b":[],"a":15e-1}"#)?);
+        assert!(rt; !means_the_same(alloc, "[1, 2]", "[2, 1]")?);
+        Ok(())
+    }
+}

@@ -1,0 +1,75 @@
+//! From values to files and texts.
+
+use jzon::{JsonValue, Result};
+use std::alloc::Global;
+use std::fs::File;
+use std::io;
+use std::io::{BufWriter, Write};
+
+/// Writes a value into a file, on lines.
+pub fn save(rt: &HostRuntime, path: &str, value: &JsonValue) -> io::Result<()> {
+    write_line(rt.alloc(), File::create(rt, path)?, value)
+}
+
+/// Writes a value and a newline, in large pieces.
+pub fn write_line<W: Write + Drop>(alloc: Global, writer: W, value: &JsonValue) -> io::Result<()> {
+    let mut buffered = BufWriter::new(alloc, writer)?;
+    value.write_pretty(&mut buffered, 2)?;
+    buffered.write_all(b"\n")?;
+    buffered.flush()
+}
+
+/// The compact text of a value in ASCII alone. Outside of strings each text is ASCII, so an escape
+/// may replace every other character.
+pub fn ascii(alloc: Global, value: &JsonValue) -> Result<String> {
+    let text = value.dump(alloc)?;
+    let mut escaped = String::new(alloc);
+    for character in text.chars() {
+        if character.is_ascii() {
+            escaped.push(character)?;
+        } else {
+            push_escape(alloc, &mut escaped, character)?;
+        }
+    }
+    Ok(escaped)
+}
+
+/// Adds one escape for each of the one or two UTF-16 units of the character.
+fn push_escape(alloc: Global, text: &mut String, character: char) -> Result<()> {
+    let mut room = [0u16; 2];
+    for unit in character.encode_utf16(&mut room).iter() {
+        let escape = format!(in alloc; "\\u{unit:04x}")?;
+        text.push_str(escape.as_str())?;
+    }
+    Ok(())
+}
+
+#[cfg(test)]
+mod tests {
+    use super::*;
+    use std::test::Fail;
+
+    #[test]
+    fn writes(rt: HostRuntime) -> std::result::Result<(), Fail> {
+        let alloc = rt.alloc();
+        let mut bytes = Vec::new(alloc);
+        let value = jzon::parse(alloc, r#"{"a":[],"b":[1]}"#)?;
+        save(&rt, "/dev/null", &value)?;
+        write_line(alloc, &mut bytes, &value)?;
+        assert_eq!(rt;
+            str::from_utf8(&bytes)?,
+            "{\n  \"a\": [],\n  \"b\": [\n    1\n  ]\n}\n"
+        );
+        Ok(())
+    }
+
+    #[test]
+    fn escapes(rt: HostRuntime) -> std::result::Result<(), Fail> {
+        let alloc = rt.alloc();
+        let value = jzon::parse(alloc, r#"["é", "🦄", "a"]"#)?;
+        let text = ascii(alloc, &value)?;
+        assert_eq!(rt; text.as_str(), r#"["\u00e9","\ud83e\udd84","a"]"#);
+        assert!(rt; jzon::parse(alloc, text.as_str())? == value);
+        Ok(())
+    }
+}
