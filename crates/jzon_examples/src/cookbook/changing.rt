@@ -32,7 +32,7 @@ pub fn remove_nulls(config: &mut JsonValue) {
     }
 }
 
-/// Moves the entry `old` to the name `new`, at the end.
+/// Moves the value of the key `old` to the key `new`, at the end.
 pub fn rename(alloc: Global, config: &mut JsonValue) -> Result<()> {
     if config.has_key("old") {
         let value = config.remove("old");

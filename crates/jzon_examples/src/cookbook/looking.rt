@@ -18,15 +18,15 @@ pub fn total(orders: &JsonValue) -> Option<u64> {
     Some(sum)
 }
 
-/// The names of the entries whose value is null.
+/// The keys whose value is null.
 pub fn unset(alloc: Global, config: &JsonValue) -> Result<Vec<String>> {
-    let mut names = Vec::new(alloc);
-    for (name, value) in config.entries() {
+    let mut keys = Vec::new(alloc);
+    for (key, value) in config.entries() {
         if value.is_null() {
-            names.push(String::from_str(alloc, name)?)?;
+            keys.push(String::from_str(alloc, key)?)?;
         }
     }
-    Ok(names)
+    Ok(keys)
 }
 
 /// The server that an object describes. A missing port is 80, missing tags are an empty list.
@@ -111,8 +111,8 @@ mod tests {
         assert_eq!(rt; total(&orders), Some(5));
         assert_eq!(rt; total(&jzon::parse(alloc, r#"[{"amount": -2}]"#)?), None);
         let config = jzon::parse(alloc, r#"{"a": null, "b": 1, "c": null}"#)?;
-        let names = unset(alloc, &config)?;
-        assert_eq!(rt; jzon::stringify(alloc, names)?.as_str(), r#"["a","c"]"#);
+        let keys = unset(alloc, &config)?;
+        assert_eq!(rt; jzon::stringify(alloc, keys)?.as_str(), r#"["a","c"]"#);
         Ok(())
     }
 

@@ -19,8 +19,7 @@ pub fn write_line<W: Write + Drop>(alloc: Global, writer: W, value: &JsonValue) 
     buffered.flush()
 }
 
-/// The compact text of a value in ASCII alone. Outside of strings each text is ASCII, so an escape
-/// may replace every other character.
+/// The compact text of a value, with an escape for each character that isn't ASCII.
 pub fn ascii(alloc: Global, value: &JsonValue) -> Result<String> {
     let text = value.dump(alloc)?;
     let mut escaped = String::new(alloc);

@@ -1,6 +1,5 @@
-use Rattle.std.proofs.Common.{List, ℕ, ◌≡◌, ◌++◌, ◌∙◌, ap, subst, sym, Global, String, Result, Ok, Err, string_bytes, IsTrue}
+use Rattle.std.proofs.Common.{◌≡◌, ◌++◌, ◌∙◌, ap, subst, sym, Global, String, Result, Ok, Err, IsTrue}
 use Rattle.std.specs.Prelude.{IfOk, MatchResult, is_ok}
-use Rattle.std.specs.String.{string_vec}
 use Rattle.jzon.specs.Laws.{IsReadAs}
 use Rattle.jzon.specs.Reading.{usual}
 use Rattle.jzon.specs.Same.{same}
