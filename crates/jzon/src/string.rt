@@ -38,14 +38,14 @@ pub(crate) struct Spelled {
 }
 
 impl Spelled {
-    /// The contents of the string whose opening quote is before `start`, and all bytes from these
+    /// The contents of the string whose opening quote is before `start`, and all text from these
     /// contents on.
     pub(crate) fn text<'a>(
         self,
         source: &'a str,
         start: usize,
         buffer: &'a String,
-    ) -> (&'a str, &'a [u8])
+    ) -> (&'a str, &'a str)
         requires begin { IsCharBoundary source.now start }
         requires end { EndsAtQuote source.now start self.end }
         ensures text { result.0.now
@@ -54,9 +54,9 @@ impl Spelled {
         ensures wide { take (length result.0.now) result.1.now ≡ result.0.now }
     {
         if self.is_escaped {
-            (buffer.as_str(), buffer.as_bytes())
+            (buffer.as_str(), buffer.as_str())
         } else {
-            (&source[start..self.end - 1], &source.as_bytes()[start..])
+            (&source[start..self.end - 1], &source[start..])
         }
     }
 }
@@ -64,7 +64,7 @@ impl Spelled {
 /// A string value, with whose string `wide` begins: up to 30 bytes are stored inline, which never
 /// fails, and more are allocated. The error is `OutOfMemory`.
 #[inline(always)]
-pub(crate) fn text_value(alloc: Global, content: &str, wide: &[u8]) -> Result<JsonValue>
+pub(crate) fn text_value(alloc: Global, content: &str, wide: &str) -> Result<JsonValue>
     requires { take (length content.now) wide.now ≡ content.now }
     ensures value { IfOk result (λ v. view v ≡ text (kind_of content.now) content.now) }
     ensures memory { IsOkUnless result OutOfMemory }

@@ -17,3 +17,4 @@ pub mod Retained
 pub mod Refilled
 pub mod Cut
 pub mod Slots
+pub mod Fronts

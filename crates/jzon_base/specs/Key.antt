@@ -5,5 +5,5 @@ use Rattle.jzon_base.specs.declared.key.Text.TheVariants.{Inline, Owned}
 
 -- its bytes, wherever they are stored
 abbrev pub text_of : Text → List ℕ
-text_of (Inline text) = text
+text_of (Inline text) = text.bytes
 text_of (Owned text) = string_bytes text

@@ -1,83 +1,33 @@
-//! Text stored inline, in its owner.
-ghost use Rattle.std.specs.Prelude.{◌≡◌, ◌<◌, ◌≤◌, length, take, IsUtf8};
+//! Text stored inline, in its owner: the kit's `ArrayString`.
+ghost use Rattle.std.specs.Prelude.{◌≡◌, ◌≤◌, length, take};
 
-use std::marker::Model;
-use std::str;
+use arrayvec::ArrayString;
 
-/// A text of at most `MAX` bytes. A clause sees the list of its bytes.
-///
-/// Its length takes one byte, so that it needs no alignment: a JSON value takes 32 bytes and a key
-/// 40, not the 48 of both with the kit's `ArrayString`.
-#[derive(Drop)]
-pub(crate) struct Inline<const MAX: usize> {
-    bytes: [u8; MAX],
-    len: u8,
+/// The text, which must have at most `MAX` bytes.
+#[inline(always)]
+pub(crate) fn text_in<const MAX: usize>(text: &str) -> ArrayString<MAX>
+    requires { length text.now ≤ MAX }
+    ensures { result.bytes ≡ text.now }
+{
+    let mut inline = ArrayString::new();
+    inline.push_str(text);
+    inline
 }
 
-impl<const MAX: usize> Model for Inline<MAX> {
-    ghost use Rattle.std.specs.Prelude.{◌≤◌, List, ℕ, IsUtf8, take};
-
-    ghost Value = { List ℕ };
-
-    ghost view = { λ t. take t.len t.bytes };
-
-    ghost invariant = { λ t. (t.len ≤ MAX) × IsUtf8 (take t.len t.bytes) };
-}
-
-impl<const MAX: usize> Inline<MAX> {
-    /// The text, which must have at most `MAX` bytes.
-    #[inline]
-    pub fn new(text: &str) -> Inline<MAX>
-        requires short { length text.now ≤ MAX }
-        requires max { MAX < 256 }
-        ensures { result ≡ text.now }
-    {
-        let mut bytes = [0; MAX];
-        bytes[..text.len()].copy_from_slice(text.as_bytes());
-        Inline {
-            bytes,
-            len: text.len() as u8,
-        }
+/// The text, with which `wide` begins. Where `wide` can be cut after `MAX` bytes, these are copied,
+/// which takes no call, and those after the text are dropped.
+#[inline(always)]
+#[tactic(auto, using(crate::proofs::Fronts::splits_front))]
+pub(crate) fn front_of<const MAX: usize>(text: &str, wide: &str) -> ArrayString<MAX>
+    requires short { length text.now ≤ MAX }
+    requires wide { take (length text.now) wide.now ≡ text.now }
+    ensures { result.bytes ≡ text.now }
+{
+    if !wide.is_char_boundary(MAX) {
+        return text_in(text);
     }
-
-    /// The text, with which `wide` begins. Where `wide` is long enough, `MAX` bytes of it are
-    /// copied, which takes no call; those after the text are never read.
-    #[inline(always)]
-    pub fn from_wide(text: &str, wide: &[u8]) -> Inline<MAX>
-        requires short { length text.now ≤ MAX }
-        requires max { MAX < 256 }
-        requires wide { take (length text.now) wide.now ≡ text.now }
-        ensures { result ≡ text.now }
-    {
-        if wide.len() < MAX {
-            return Inline::new(text);
-        }
-        let mut bytes = [0; MAX];
-        bytes.copy_from_slice(&wide[..MAX]);
-        Inline {
-            bytes,
-            len: text.len() as u8,
-        }
-    }
-
-    /// A copy. It allocates nothing.
-    #[inline(always)]
-    pub fn clone(&self) -> Inline<MAX>
-        ensures { result ≡ self.now }
-    {
-        Inline {
-            bytes: self.bytes,
-            len: self.len,
-        }
-    }
-
-    /// The text.
-    #[inline]
-    pub fn as_str(&self) -> &str
-        ensures text { result.now ≡ self.now }
-        ensures short { length self.now ≤ MAX }
-        ensures utf8 { IsUtf8 self.now }
-    {
-        unsafe { str::from_utf8_unchecked(&self.bytes[..usize::from(self.len)]) }
-    }
+    let mut inline = ArrayString::new();
+    inline.push_str(&wide[..MAX]);
+    inline.truncate(text.len());
+    inline
 }

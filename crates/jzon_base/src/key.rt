@@ -7,7 +7,8 @@ ghost use Rattle.std.specs.Cmp.{partial_equiv_from_equiv};
 ghost use Rattle.std.specs.Cmp.Lexicographic.{nat_list_eq_equiv};
 
 use crate::error::{self, Error};
-use crate::inline::Inline;
+use crate::inline;
+use arrayvec::ArrayString;
 use std::alloc::{AllocError, Global};
 use std::fmt;
 use std::marker::Model;
@@ -25,7 +26,7 @@ pub struct Key {
 
 #[derive(Drop)]
 enum Text {
-    Inline(Inline<INLINE_MAX>),
+    Inline(ArrayString<INLINE_MAX>),
     Owned(String),
 }
 
@@ -55,7 +56,7 @@ impl Key {
         ensures { result ≡ text.now }
     {
         Key {
-            text: Text::Inline(Inline::new(text)),
+            text: Text::Inline(inline::text_in(text)),
         }
     }
 
@@ -77,14 +78,14 @@ impl Key {
     /// bytes.
     #[doc(hidden)]
     #[inline(always)]
-    pub fn from_wide(alloc: Global, text: &str, wide: &[u8]) -> Result<Key, AllocError>
+    pub fn from_wide(alloc: Global, text: &str, wide: &str) -> Result<Key, AllocError>
         requires wide { take (length text.now) wide.now ≡ text.now }
         ensures bytes { IfOk result (λ k. k ≡ text.now) }
         ensures long { OnErr result (32 < length text.now) }
     {
         if Key::is_short(text) {
             return Ok(Key {
-                text: Text::Inline(Inline::from_wide(text, wide)),
+                text: Text::Inline(inline::front_of(text, wide)),
             });
         }
         Key::new(alloc, text)
@@ -98,7 +99,7 @@ impl Key {
     {
         match &self.text {
             Text::Inline(inline) => Ok(Key {
-                text: Text::Inline(inline.clone()),
+                text: Text::Inline(*inline),
             }),
             Text::Owned(owned) => Key::new(alloc, owned.as_str()),
         }
@@ -117,7 +118,7 @@ impl Key {
         match &self.text {
             Text::Inline(inline) => {
                 copies.push_reserved(Key {
-                    text: Text::Inline(inline.clone()),
+                    text: Text::Inline(*inline),
                 });
                 true
             }

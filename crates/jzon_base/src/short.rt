@@ -5,7 +5,8 @@ ghost use Rattle.std.specs.Str.{bytes_eq};
 ghost use Rattle.jzon_base.specs.declared.error.Error.TheVariants.{OutOfMemory};
 
 use crate::error::Result;
-use crate::inline::Inline;
+use crate::inline;
+use arrayvec::ArrayString;
 use std::alloc::Global;
 use std::fmt;
 use std::marker::Model;
@@ -16,7 +17,7 @@ pub const MAX_LEN: usize = 30;
 /// A string of at most `MAX_LEN` bytes, stored in the value itself, so that it allocates nothing.
 #[derive(Drop)]
 pub struct Short {
-    text: Inline<MAX_LEN>,
+    text: ArrayString<MAX_LEN>,
 }
 
 impl Model for Short {
@@ -24,7 +25,7 @@ impl Model for Short {
 
     ghost Value = { List ℕ };
 
-    ghost view = { λ s. s.text };
+    ghost view = { λ s. s.text.bytes };
 }
 
 impl Short {
@@ -34,7 +35,7 @@ impl Short {
         ensures { result ≡ slice.now }
     {
         Short {
-            text: Inline::new(slice),
+            text: inline::text_in(slice),
         }
     }
 
@@ -42,13 +43,13 @@ impl Short {
     /// 30 bytes.
     #[doc(hidden)]
     #[inline(always)]
-    pub fn from_wide(slice: &str, wide: &[u8]) -> Short
+    pub fn from_wide(slice: &str, wide: &str) -> Short
         requires short { length slice.now ≤ MAX_LEN }
         requires wide { take (length slice.now) wide.now ≡ slice.now }
         ensures { result ≡ slice.now }
     {
         Short {
-            text: Inline::from_wide(slice, wide),
+            text: inline::front_of(slice, wide),
         }
     }
 
@@ -56,9 +57,7 @@ impl Short {
     pub fn clone(&self) -> Short
         ensures { result ≡ self.now }
     {
-        Short {
-            text: self.text.clone(),
-        }
+        Short { text: self.text }
     }
 
     /// The string.
