@@ -2,7 +2,7 @@
 use Rattle.std.specs.Prelude.{◌≡◌, ◌⊎◌, ℕ, ◌≤◌, List, Contains}
 use Rattle.jzon_base.specs.declared.error.Error.{Error}
 use Rattle.jzon_base.specs.declared.error.Error.TheVariants.{OutOfMemory}
-use Rattle.jzon_tokens.specs.Tokens.{begin_array, begin_object, quotation_mark}
+use Rattle.jzon_base.specs.Tokens.{begin_array, begin_object, quotation_mark}
 use Rattle.jzon_tree.specs.Value.{Value, nest}
 use Rattle.jzon_tree.specs.Lawful.{IsValue, HasNoNan}
 use Rattle.jzon_tree.specs.View.{view}

@@ -4,8 +4,8 @@ use Rattle.std.specs.Prelude.{◌≡◌, ℕ, zero, suc, ◌+◌, ◌*◌, List,
 use Rattle.std.specs.Prelude.{nat_lt, Option, Some, None, IsTrue, ⊤}
 use Rattle.std.specs.Char.{is_ascii_digit, is_ascii_hexdigit, digit_value}
 use Rattle.std.specs.List.{fold}
-pub use Rattle.jzon_tokens.specs.Escapes.{is_simple}
-use Rattle.jzon_tokens.specs.Tokens.{escape, quotation_mark, zero_digit}
+pub use Rattle.jzon_base.specs.Escapes.{is_simple}
+use Rattle.jzon_base.specs.Tokens.{escape, quotation_mark, zero_digit}
 use lib.Utf8.{scalar}
 use Rattle.jzon_tree.specs.Writing.{is_whitespace}
 use Rattle.jzon.specs.Reading.{Reading}

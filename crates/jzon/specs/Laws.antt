@@ -2,9 +2,9 @@
 use Rattle.std.specs.Prelude.{◌≡◌, ◌⊎◌, ℕ, ℤ, ◌≤◌, ◌<◌, ◌^◌, List, [], ◌∷◌, length, Bool, true, IsTrue, IsUtf8, chars}
 use Rattle.std.specs.Prelude.{FitsSigned, suc, map, take, false, Option, Some, slice_get}
 use Rattle.std.specs.Int.{w16}
-use Rattle.jzon_tokens.specs.Decimal.{parts}
-use Rattle.jzon_tokens.specs.Decimal as decimal
-use Rattle.jzon_tokens.specs.NumberText.{number_text, decimal_text}
+use Rattle.jzon_base.specs.Decimal.{parts}
+use Rattle.jzon_base.specs.Decimal as decimal
+use Rattle.jzon_base.specs.NumberText.{number_text, decimal_text}
 use Rattle.jzon_tree.specs.Value.{Value, nest}
 use Rattle.jzon_tree.specs.Text.{compact}
 use Rattle.jzon_tree.specs.Same.{same}

@@ -7,18 +7,18 @@ pub mod Fault
 pub mod Laws
 pub mod Answer
 -- the definitions that the contracts of this crate and of its re-exports cite
-pub use Rattle.jzon_tokens.specs.Decimal
-pub use Rattle.jzon_tokens.specs.DigitLimits
-pub use Rattle.jzon_tokens.specs.Digits
+pub use Rattle.jzon_base.specs.Decimal
+pub use Rattle.jzon_base.specs.DigitLimits
+pub use Rattle.jzon_base.specs.Digits
 pub use Rattle.jzon_base.specs.ErrorPlace
 pub use Rattle.jzon_base.specs.ErrorText
-pub use Rattle.jzon_tokens.specs.Escapes
+pub use Rattle.jzon_base.specs.Escapes
 pub use Rattle.jzon_base.specs.IterMut
 pub use Rattle.jzon_base.specs.Key
-pub use Rattle.jzon_tokens.specs.NumberText
+pub use Rattle.jzon_base.specs.NumberText
 pub use Rattle.jzon_base.specs.PairList
-pub use Rattle.jzon_tokens.specs.Tokens
-pub use Rattle.jzon_tokens.specs.Written
+pub use Rattle.jzon_base.specs.Tokens
+pub use Rattle.jzon_base.specs.Written
 pub use Rattle.jzon_base.specs.declared.error.Error
 pub use Rattle.jzon_tree.specs.Changers
 pub use Rattle.jzon_tree.specs.Displayed

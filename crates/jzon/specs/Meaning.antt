@@ -1,9 +1,9 @@
 -- What a tree means: a value (docs/RULES.md, "Texts").
 use Rattle.std.specs.Prelude.{ℕ, ◌+◌, ◌-◌, ◌*◌, List, [], ◌∷◌, ◌++◌, Bool, not, ◌&&◌, if◌then◌else◌, Option, Some}
 use Rattle.std.specs.Prelude.{None, ℤ, pos, neg_ℤ, encode_utf8_all}
-use Rattle.jzon_tokens.specs.Decimal.{Decimal}
-use Rattle.jzon_tokens.specs.Digits.{digits_number, read_number}
-pub use Rattle.jzon_tokens.specs.Escapes.{unescaped}
+use Rattle.jzon_base.specs.Decimal.{Decimal}
+use Rattle.jzon_base.specs.Digits.{digits_number, read_number}
+pub use Rattle.jzon_base.specs.Escapes.{unescaped}
 use Rattle.jzon_base.specs.PairList.{put_each}
 use Rattle.jzon_tree.specs.Value.{Value, null, boolean, text, number, array, object, no_values, Values, value, no_pairs}
 use Rattle.jzon_tree.specs.Value.{pairs_of, kind_of}

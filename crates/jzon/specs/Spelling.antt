@@ -1,9 +1,9 @@
 -- The text of a tree, and where it exceeds a limit.
 use Rattle.std.specs.Prelude.{◌≡◌, ℕ, suc, ◌+◌, List, [], ◌∷◌, length, map, Bool, true, false, not, ◌&&◌, ◌==◌, nat_le}
 use Rattle.std.specs.Prelude.{if◌then◌else◌, Option, Some, None, codes, slice_get}
-use Rattle.jzon_tokens.specs.Digits.{dropped, kept_fraction}
-use Rattle.jzon_tokens.specs.Tokens.{begin_array, begin_object, decimal_point, end_array, end_object, escape, minus_sign}
-use Rattle.jzon_tokens.specs.Tokens.{name_separator, plus_sign, quotation_mark, value_separator}
+use Rattle.jzon_base.specs.Digits.{dropped, kept_fraction}
+use Rattle.jzon_base.specs.Tokens.{begin_array, begin_object, decimal_point, end_array, end_object, escape, minus_sign}
+use Rattle.jzon_base.specs.Tokens.{name_separator, plus_sign, quotation_mark, value_separator}
 use Rattle.jzon_tree.specs.Same.{is_known}
 use Rattle.jzon.specs.Reading.{Reading}
 use Rattle.jzon.specs.Grammar.{Sign, unsigned, plus, minus, Exponent, Numeral, Item, simple, single, double, Key, Node}

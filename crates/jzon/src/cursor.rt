@@ -9,7 +9,7 @@ ghost use Rattle.jzon.specs.Private.Brackets.{opener, closer, empty_container, i
 ghost use Rattle.jzon.specs.Private.Brackets.{after_opener, after_comma, after_closer};
 ghost use Rattle.jzon.specs.Private.Machine.{Frames, frames_depth, value_mark, before, after_value};
 ghost use Rattle.jzon.specs.Private.Machine.{fault_here, Reports};
-ghost use Rattle.jzon_tokens.specs.Tokens.{begin_array, begin_object};
+ghost use Rattle.jzon_base.specs.Tokens.{begin_array, begin_object};
 
 use crate::fault::fault_at;
 use crate::reading::Reading;

@@ -18,8 +18,7 @@ mod whitespace;
 
 pub use conversions::{from, stringify, stringify_pretty};
 pub use jzon_base::error::{Error, Error as JsonError, JsonResult, Result};
-pub use jzon_base::short;
-pub use jzon_tokens::number;
+pub use jzon_base::{number, short};
 pub use jzon_tree::into_json::IntoJson;
 pub use jzon_tree::value::JsonValue;
 pub use jzon_tree::value::JsonValue::Null;
@@ -47,5 +46,5 @@ pub mod object {
 
 /// The text of a number, and the loop that writes bytes.
 pub mod util {
-    pub use jzon_tokens::util::{print_dec, write_bytes};
+    pub use jzon_base::util::{print_dec, write_bytes};
 }

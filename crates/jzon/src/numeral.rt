@@ -5,24 +5,24 @@ ghost use Rattle.std.specs.Prelude.{not, Bool, true, false, ◌==◌, ◌↔◌,
 ghost use Rattle.std.specs.Char.{is_ascii_digit};
 ghost use Rattle.std.specs.List.{All, fold, take_while};
 ghost use Rattle.std.specs.Str.{IsCharBoundary};
-ghost use Rattle.jzon_tokens.specs.Decimal.{signed};
-ghost use Rattle.jzon_tokens.specs.Digits.{IsDigit, add_digit, digits_number, read_number};
-ghost use Rattle.jzon_tokens.specs.DigitLimits.{AreFewEnough, IsFirstTooMany};
-ghost use Rattle.jzon_tokens.specs.declared.digits.DigitFault.{DigitFault};
+ghost use Rattle.jzon_base.specs.Decimal.{signed};
+ghost use Rattle.jzon_base.specs.Digits.{IsDigit, add_digit, digits_number, read_number};
+ghost use Rattle.jzon_base.specs.DigitLimits.{AreFewEnough, IsFirstTooMany};
+ghost use Rattle.jzon_base.specs.declared.digits.DigitFault.{DigitFault};
 ghost use Rattle.jzon_tree.specs.Value.{number};
 ghost use Rattle.jzon.specs.Reading.{Reading};
 ghost use Rattle.jzon.specs.Grammar.{is_exponent_letter};
 ghost use Rattle.jzon.specs.Private.Classes.{lettered};
-ghost use Rattle.jzon_tokens.specs.Tokens.{zero_digit};
+ghost use Rattle.jzon_base.specs.Tokens.{zero_digit};
 ghost use Rattle.jzon.specs.Private.Machine.{Frames, numeral, numeral_after_first, after_value};
 ghost use Rattle.jzon.specs.Private.Machine.{from, fault_here, Leads};
 ghost use Rattle.jzon.specs.Private.Numerals.{LeadsTo, MissesDigit, HasTooMany};
 
 use crate::fault::fault_at;
 use crate::peek::has_byte;
+use jzon_base::digits::{read_scanned, scan};
 use jzon_base::error::{Error, Result};
-use jzon_tokens::digits::{read_scanned, scan};
-use jzon_tokens::number::Number;
+use jzon_base::number::Number;
 
 /// The number whose first digit is at `start`, and the offset after it.
 #[inline(always)]

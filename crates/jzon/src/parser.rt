@@ -14,7 +14,7 @@ ghost use Rattle.jzon.specs.Private.Machine.{Frames, no_frames, array_frame, obj
 ghost use Rattle.jzon.specs.Private.Machine.{frames_depth, is_fresh, before};
 ghost use Rattle.jzon.specs.Private.Machine.{before_key, after_value, key_mark, value_mark, from, Reads};
 ghost use Rattle.jzon.specs.Reading.{usual};
-ghost use Rattle.jzon_tokens.specs.Tokens.{begin_array, begin_object, end_array, end_object};
+ghost use Rattle.jzon_base.specs.Tokens.{begin_array, begin_object, end_array, end_object};
 
 use crate::cursor::{Bracket, Cursor, opens_container};
 use crate::fault::duplicate_at;

@@ -15,7 +15,7 @@ ghost use Rattle.jzon.specs.Private.Machine.{between, Frames, is_fresh, before};
 ghost use Rattle.jzon.specs.Private.Machine.{after_value, past_letter, value_mark, from, Reports};
 ghost use Rattle.jzon.specs.Private.Machine.{Leads, LeadsUnlessMemory, fault_here};
 ghost use Rattle.jzon.specs.Reading.{Reading};
-ghost use Rattle.jzon_tokens.specs.Tokens.{begin_array, begin_object, end_array, quotation_mark};
+ghost use Rattle.jzon_base.specs.Tokens.{begin_array, begin_object, end_array, quotation_mark};
 
 use crate::fault::fault_at;
 use crate::numeral::read_number;

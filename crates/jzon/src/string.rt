@@ -6,8 +6,8 @@ ghost use Rattle.std.specs.Prelude.{slice_index, slice_range, string_bytes, enco
 ghost use Rattle.std.specs.Char.{is_ascii_hexdigit, digit_value};
 ghost use Rattle.std.specs.Str.{IsCharBoundary};
 ghost use Rattle.jzon_base.specs.declared.error.Error.TheVariants.{OutOfMemory};
-ghost use Rattle.jzon_tokens.specs.Private.PlainBytes.{is_plain};
-ghost use Rattle.jzon_tokens.specs.Tokens.{escape};
+ghost use Rattle.jzon_base.specs.Private.PlainBytes.{is_plain};
+ghost use Rattle.jzon_base.specs.Tokens.{escape};
 ghost use Rattle.jzon_tree.specs.Value.{text, kind_of};
 ghost use Rattle.jzon_tree.specs.View.{view};
 ghost use Rattle.jzon.specs.Reading.{Reading};
@@ -22,8 +22,8 @@ use crate::fault::fault_at;
 use crate::peek::has_byte;
 use jzon_base::error::{Error, Result};
 use jzon_base::short::{MAX_LEN, Short};
-use jzon_tokens::util::escapes::{hex_value, meant_by};
-use jzon_tokens::util::plain::plain_len;
+use jzon_base::util::escapes::{hex_value, meant_by};
+use jzon_base::util::plain::plain_len;
 use jzon_tree::value::JsonValue;
 use std::alloc::Global;
 

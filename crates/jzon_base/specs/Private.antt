@@ -3,4 +3,7 @@ pub mod Built
 pub mod Handed
 pub mod Hash
 pub mod Keys
+pub mod NumberFields
+pub mod PlainBytes
+pub mod Same
 pub mod Slots

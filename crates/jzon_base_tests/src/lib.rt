@@ -1,9 +1,18 @@
-//! Tests of `jzon_base` by its public items alone, and of the write loop and the runs of plain
-//! bytes of `jzon_tokens`.
+//! Tests of `jzon_base` by its public items alone, but for `write_bytes`.
 #![tactic(auto)]
 
 #[cfg(test)]
+mod digits;
+#[cfg(test)]
 mod error;
+#[cfg(test)]
+mod escapes;
+#[cfg(test)]
+mod fixed_point;
+#[cfg(test)]
+mod from_integer;
+#[cfg(test)]
+mod from_parts;
 #[cfg(test)]
 mod hash;
 #[cfg(test)]
@@ -11,12 +20,20 @@ mod key;
 #[cfg(test)]
 mod keys;
 #[cfg(test)]
+mod number;
+#[cfg(test)]
 mod pairs;
 #[cfg(test)]
+mod plain;
+#[cfg(test)]
 mod plain_runs;
+#[cfg(test)]
+mod print_dec;
 #[cfg(test)]
 mod runs;
 #[cfg(test)]
 mod short;
+#[cfg(test)]
+mod to_integer;
 #[cfg(test)]
 mod write_bytes;

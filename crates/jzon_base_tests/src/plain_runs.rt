@@ -1,6 +1,6 @@
 //! Runs of plain bytes, of the lengths at which blocks of lanes end, and with each stop inside one.
 
-use jzon_tokens::util::plain::plain_len;
+use jzon_base::util::plain::plain_len;
 
 const LENGTHS: [usize; 7] = [1, 31, 32, 33, 63, 64, 65];
 

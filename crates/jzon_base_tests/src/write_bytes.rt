@@ -1,7 +1,7 @@
 //! The write loop, with writers that fail.
 
+use jzon_base::util::{print_dec, write_bytes};
 use jzon_test_support::{NO_FAILING_CALL, SlowWriter, Trouble};
-use jzon_tokens::util::{print_dec, write_bytes};
 use std::io::ErrorKind;
 use std::test::Fail;
 

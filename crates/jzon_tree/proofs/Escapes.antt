@@ -1,7 +1,7 @@
 -- The short escapes and the others.
 use Rattle.std.proofs.Common.{◌≡◌, ℕ, ◌<◌, ◌∷◌, [], List, Bool, true, false, cond, refl, arith}
 use Rattle.std.specs.Prelude.{◌==◌, ◌||◌}
-use Rattle.jzon_tokens.specs.Escapes.{letter_of}
+use Rattle.jzon_base.specs.Escapes.{letter_of}
 use Rattle.jzon_tree.specs.Text.{escaped_byte}
 
 abbrev chosen : Bool → Bool → Bool → Bool → Bool → Bool → ℕ → ℕ

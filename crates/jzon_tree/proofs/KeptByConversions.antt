@@ -6,7 +6,7 @@ use Rattle.std.specs.Prelude.{IsUtf8}
 use Rattle.std.specs.List.{AllByRecursion, AllZip, fold}
 use Rattle.std.proofs.lemmas.Bool.Decides.{nat_tests}
 use Rattle.std.proofs.lemmas.Int.{ints}
-use Rattle.jzon_tokens.specs.Decimal.{integer_parts}
+use Rattle.jzon_base.specs.Decimal.{integer_parts}
 use Rattle.jzon_base.specs.PairList.{keys_of, put, put_each}
 use Rattle.jzon_base.proofs.PairLaws.{All-put}
 use Rattle.jzon_tree.specs.IntoJson.{OptionMeans, ListMeans, PairsMean, PutMeans, MapMeans}

@@ -14,9 +14,9 @@ use Rattle.std.proofs.lemmas.List.Concat.{flat_map-append}
 use Rattle.std.proofs.lemmas.Str.{encode_ascii, inside_one, IsAscii-append, IsAscii-take, IsAscii-drop}
 use Rattle.std.proofs.lemmas.Str.{IsUtf8-append, IsUtf8-from_ascii, IsUtf8-nil}
 use Rattle.std.proofs.lemmas.Str.Ascii.{IsAscii-nil, IsAscii-cons}
-use Rattle.jzon_tokens.specs.Decimal.{Decimal, nan, parts}
-use Rattle.jzon_tokens.specs.NumberText.{sign_text, point_after, point_after_first, fraction_text, small_exponent_text}
-use Rattle.jzon_tokens.specs.NumberText.{magnitude_text, written_text}
+use Rattle.jzon_base.specs.Decimal.{Decimal, nan, parts}
+use Rattle.jzon_base.specs.NumberText.{sign_text, point_after, point_after_first, fraction_text, small_exponent_text}
+use Rattle.jzon_base.specs.NumberText.{magnitude_text, written_text}
 use Rattle.jzon_tree.specs.Lawful.{InRange, IsText, IsValue, AreValues, ArePairs}
 use Rattle.jzon_tree.specs.Text.{escaped_byte, escaped, quoted}
 use Rattle.jzon_tree.specs.Value.{Value, null, boolean, text, number, array, object, Values, no_values, value, Pairs}

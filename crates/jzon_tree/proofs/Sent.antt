@@ -4,7 +4,7 @@ use Rattle.std.proofs.Common.{append_assoc, append-nil, take-append-drop, Result
 use Rattle.std.specs.Result.{IsErr}
 use Rattle.std.specs.Prelude.{◌≡◌, OnOk, OnErr, MatchResult}
 use Rattle.std.specs.Io.KnownBytes.{Appends}
-use Rattle.jzon_tokens.specs.Written.{AppendsBeginning}
+use Rattle.jzon_base.specs.Written.{AppendsBeginning}
 use Rattle.jzon_tree.specs.Generator.{Adds, Begins, Just, Sends}
 
 pub adds_same : (P : List ℕ → Type 0) (o : Option (List ℕ)) → P [] → Adds P o o

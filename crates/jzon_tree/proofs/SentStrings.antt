@@ -3,7 +3,7 @@ use Rattle.std.proofs.Common.{◌≡◌, ℕ, zero, suc, ◌<◌, false, List, [
 use Rattle.std.proofs.Common.{refl, sym, ap, ◌∙◌, append_assoc, append-nil, arith, Result}
 use Rattle.std.specs.List.{prefix_len}
 use Rattle.std.proofs.lemmas.List.{length-drop}
-use Rattle.jzon_tokens.specs.Private.PlainBytes.{is_plain}
+use Rattle.jzon_base.specs.Private.PlainBytes.{is_plain}
 use Rattle.jzon_tree.specs.Text.{escaped, escaped_byte}
 use Rattle.jzon_tree.specs.Generator.{Adds, Begins, Just, Sends}
 use Rattle.jzon_tree.proofs.Plain.{escaped-run, escape_stands}

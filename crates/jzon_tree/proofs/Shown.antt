@@ -7,7 +7,7 @@ use Rattle.std.specs.List.{prefix_len}
 use Rattle.std.proofs.Math.Seq.{drop-cons, take-append_seam}
 use Rattle.std.proofs.lemmas.Bool.{lt-ltb}
 use Rattle.std.proofs.lemmas.List.{length-take-le, nil_from_length, take-take}
-use Rattle.jzon_tokens.specs.Private.PlainBytes.{is_plain}
+use Rattle.jzon_base.specs.Private.PlainBytes.{is_plain}
 use Rattle.jzon_tree.specs.Displayed.{comma_text, member_text}
 use Rattle.jzon_tree.specs.Text.{escaped, escaped_byte, quoted, compact, compact_layout, layout_text, more_values_text}
 use Rattle.jzon_tree.specs.Text.{more_pairs_text}

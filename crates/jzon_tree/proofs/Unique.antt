@@ -8,7 +8,7 @@ use Rattle.std.specs.Borrow.{GName}
 use Rattle.std.specs.Io.KnownBytes.{Appends}
 use Rattle.std.proofs.Math.Seq.{get_or-append_seam, take-append_seam}
 use Rattle.std.proofs.lemmas.Slice.Eq.{bytes_eq-Decides}
-use Rattle.jzon_tokens.specs.Written.{AppendsBeginning}
+use Rattle.jzon_base.specs.Written.{AppendsBeginning}
 use Rattle.jzon_base.specs.PairList.{keys_of}
 use Rattle.jzon_tree.specs.Generator.{Adds, Begins, Sends, Emitted, Prints, insertion}
 use Rattle.jzon_tree.specs.Generators.{fresh}

@@ -10,7 +10,7 @@ use Rattle.std.proofs.Common.{refl, sym, ap, ◌∙◌, subst, rules, string_byt
 use Rattle.std.specs.Prelude.{AllPairs}
 use Rattle.std.specs.Str.{bytes_eq}
 use Rattle.std.proofs.lemmas.Option.{none-some}
-use Rattle.jzon_tokens.specs.Decimal.{Decimal}
+use Rattle.jzon_base.specs.Decimal.{Decimal}
 use Rattle.jzon_base.specs.PairList.{find, put, cut, keys_of}
 use Rattle.jzon_base.proofs.PairLaws.{find-put_same, find-put_other, find-cut_same, find-cut_other}
 use Rattle.jzon_tree.specs.Changers.{with_item, without_item, with_entry, without_entry}

@@ -1,7 +1,7 @@
 -- What `{}` shows of a value (docs/RULES.md, "Layouts").
 use Rattle.std.specs.Prelude.{ℕ, List, [], ◌∷◌, ◌++◌, Bool, if◌then◌else◌}
-use Rattle.jzon_tokens.specs.NumberText.{decimal_text}
-use Rattle.jzon_tokens.specs.Tokens.{name_separator, value_separator}
+use Rattle.jzon_base.specs.NumberText.{decimal_text}
+use Rattle.jzon_base.specs.Tokens.{name_separator, value_separator}
 use Rattle.jzon_tree.specs.Text.{compact, quoted}
 use Rattle.jzon_tree.specs.Value.{Value, text, number}
 

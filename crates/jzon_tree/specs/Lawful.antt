@@ -1,7 +1,7 @@
 -- Which values a program can hold: numbers within range, strings that are UTF-8, distinct keys.
 use Rattle.std.specs.Prelude.{◌≢◌, ℕ, ◌≤◌, ◌<◌, ◌^◌, List, length, IsUtf8, ⊤, AllPairs, FitsSigned}
 use Rattle.std.specs.Int.{w16}
-use Rattle.jzon_tokens.specs.Decimal.{Decimal, nan, parts}
+use Rattle.jzon_base.specs.Decimal.{Decimal, nan, parts}
 use Rattle.jzon_base.specs.PairList.{keys_of}
 use Rattle.jzon_tree.specs.Value.{Value, null, boolean, text, number, array, object, Values, no_values, value, Pairs}
 use Rattle.jzon_tree.specs.Value.{no_pairs, pair, list_of_pairs, Kind, short, long}

@@ -1,8 +1,8 @@
 -- What each reader returns for a value (docs/RULES.md, "Readers").
 use Rattle.std.specs.Prelude.{ℕ, ℤ, List, [], length, Bool, true, false, not, ◌||◌, ◌==◌, Option, None, Some}
 use Rattle.std.specs.Prelude.{option_and_then}
-use Rattle.jzon_tokens.specs.Decimal.{Decimal, is_zero, is_nan, integer_of, unsigned_of, fixed_point}
-use Rattle.jzon_tokens.specs.Decimal.{unsigned_fixed_point, exact_fixed_point, exact_unsigned_fixed_point}
+use Rattle.jzon_base.specs.Decimal.{Decimal, is_zero, is_nan, integer_of, unsigned_of, fixed_point}
+use Rattle.jzon_base.specs.Decimal.{unsigned_fixed_point, exact_fixed_point, exact_unsigned_fixed_point}
 use Rattle.jzon_tree.specs.Value.{Value, null, boolean, text, number, array, object, list_of_values, list_of_pairs}
 
 -- ---- the kind of a value

@@ -3,7 +3,7 @@
 use Rattle.std.specs.Prelude.{ℕ, Bool, true, false, ◌&&◌, ◌||◌, List, [], ◌∷◌, Option, None, Some, is_some}
 use Rattle.std.specs.Bool.{beq}
 use Rattle.std.specs.Str.{bytes_eq}
-use Rattle.jzon_tokens.specs.Decimal as decimal
+use Rattle.jzon_base.specs.Decimal as decimal
 use Rattle.jzon_base.specs.PairList.{find}
 use Rattle.jzon_tree.specs.Value.{Value, null, boolean, text, number, array, object, Values, no_values, value, Pairs}
 use Rattle.jzon_tree.specs.Value.{no_pairs, pair, list_of_pairs}

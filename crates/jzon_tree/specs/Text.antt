@@ -2,9 +2,9 @@
 use Rattle.std.specs.Prelude.{ℕ, suc, ◌*◌, ◌/◌, ◌%◌, List, [], ◌∷◌, ◌++◌, replicate, Bool, ◌||◌, ◌==◌, nat_lt}
 use Rattle.std.specs.Prelude.{if◌then◌else◌, flat_map, codes}
 use Rattle.std.specs.Char.{digit_char}
-use Rattle.jzon_tokens.specs.NumberText.{written_text}
-use Rattle.jzon_tokens.specs.Tokens.{begin_array, begin_object, end_array, end_object, escape, quotation_mark}
-use Rattle.jzon_tokens.specs.Tokens.{value_separator}
+use Rattle.jzon_base.specs.NumberText.{written_text}
+use Rattle.jzon_base.specs.Tokens.{begin_array, begin_object, end_array, end_object, escape, quotation_mark}
+use Rattle.jzon_base.specs.Tokens.{value_separator}
 use Rattle.jzon_tree.specs.Value.{Value, null, boolean, text, number, array, object, Values, no_values, value, Pairs}
 use Rattle.jzon_tree.specs.Value.{no_pairs, pair}
 

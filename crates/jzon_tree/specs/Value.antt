@@ -1,6 +1,6 @@
 -- JSON values (RFC 8259, sections 3 to 7). A string and a key are their bytes in UTF-8.
 use Rattle.std.specs.Prelude.{ℕ, suc, max, List, [], ◌∷◌, length, nat_le, Bool, if◌then◌else◌}
-use Rattle.jzon_tokens.specs.Decimal.{Decimal}
+use Rattle.jzon_base.specs.Decimal.{Decimal}
 
 -- how a string is stored: inline or allocated; equality and texts don't depend on it
 pub data Kind : Type 0 where

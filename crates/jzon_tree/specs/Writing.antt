@@ -3,9 +3,9 @@
 use Rattle.std.specs.Prelude.{◌≡◌, ℕ, suc, ◌<◌, List, [], ◌∷◌, ◌++◌, length, map, Bool, true, false, not, ◌&&◌}
 use Rattle.std.specs.Prelude.{◌||◌, ◌==◌, IsTrue, ⊤, codes, count_by, if◌then◌else◌, ◌≢◌, AllPairs, slice_index_or}
 use Rattle.std.specs.List.{list_all}
-use Rattle.jzon_tokens.specs.NumberText.{written_text}
+use Rattle.jzon_base.specs.NumberText.{written_text}
 use Rattle.jzon_base.specs.PairList.{keys_of}
-use Rattle.jzon_tokens.specs.Tokens.{begin_array, begin_object, end_array, end_object, value_separator}
+use Rattle.jzon_base.specs.Tokens.{begin_array, begin_object, end_array, end_object, value_separator}
 use Rattle.jzon_tree.specs.Value.{Value, null, boolean, text, number, array, object, Values, no_values, value, Pairs}
 use Rattle.jzon_tree.specs.Value.{no_pairs, pair, list_of_pairs}
 use Rattle.jzon_tree.specs.Text.{quoted, boolean_text}

@@ -7,7 +7,7 @@ ghost use Rattle.jzon_tree.specs.View.{view, view_object};
 use crate::object::Object;
 use crate::value::JsonValue;
 use jzon_base::error::{Error, Result};
-use jzon_tokens::util::copies::copy_number;
+use jzon_base::util::copies::copy_number;
 use std::alloc::Global;
 
 impl JsonValue {

@@ -1,13 +1,13 @@
 //! Values from types whose conversion allocates nothing (docs/RULES.md, "Conversions").
 
 ghost use Rattle.std.specs.Prelude.{◌≡◌, pos, string_bytes};
-ghost use Rattle.jzon_tokens.specs.Decimal.{integer_parts};
+ghost use Rattle.jzon_base.specs.Decimal.{integer_parts};
 ghost use Rattle.jzon_tree.specs.Value.{boolean, long, number, text};
 ghost use Rattle.jzon_tree.specs.View.{view, view_object};
 
 use crate::object::Object;
 use crate::value::JsonValue;
-use jzon_tokens::number::Number;
+use jzon_base::number::Number;
 
 impl From<u8> for JsonValue {
     ghost from_gives = { λ n v. view v ≡ number (integer_parts (pos n)) };

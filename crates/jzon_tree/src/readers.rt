@@ -15,7 +15,7 @@ mod integers;
 
 use crate::object::{self, Object};
 use crate::value::JsonValue;
-use jzon_tokens::number::Number;
+use jzon_base::number::Number;
 use std::slice;
 
 /// Iterator over the elements of an array.

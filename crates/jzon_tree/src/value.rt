@@ -6,8 +6,8 @@ pub(crate) mod inspect;
 mod print;
 
 use crate::object::Object;
+use jzon_base::number::Number;
 use jzon_base::short::Short;
-use jzon_tokens::number::Number;
 
 /// A JSON value (RFC 8259, section 3).
 ///

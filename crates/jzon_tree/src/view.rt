@@ -5,7 +5,7 @@ ghost use Rattle.std.specs.Int.{w8, w16, w32, w64};
 ghost use Rattle.std.specs.List.{list_any};
 ghost use Rattle.std.specs.Option.{option_copied};
 ghost use Rattle.std.specs.Slice.Iter.{iter_rest};
-ghost use Rattle.jzon_tokens.specs.Decimal.{integer_parts, SomeWhere};
+ghost use Rattle.jzon_base.specs.Decimal.{integer_parts, SomeWhere};
 ghost use Rattle.jzon_base.specs.PairList.{find};
 ghost use Rattle.jzon_tree.specs.Place.{shown, seen};
 ghost use Rattle.jzon_tree.specs.Readers.{is_null, is_boolean, is_number, is_text, is_object, is_array, is_empty};
@@ -20,7 +20,7 @@ ghost use Rattle.jzon_tree.specs.Entries.{entries_of};
 use crate::object::Object;
 use crate::readers::{Entries, Members};
 use crate::value::JsonValue;
-use jzon_tokens::number::Number;
+use jzon_base::number::Number;
 
 /// A value that may be missing. A missing value reads as null.
 #[derive(Clone, Copy)]

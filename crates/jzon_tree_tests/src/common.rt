@@ -1,7 +1,7 @@
 //! Values and comparisons that the tests share.
 
 use jzon_base::error::Result;
-use jzon_tokens::number::Number;
+use jzon_base::number::Number;
 use jzon_tree::object::Object;
 use jzon_tree::value::JsonValue;
 use std::alloc::Global;

@@ -1,7 +1,7 @@
 //! What can be converted into a value.
 
 use crate::common::Tested;
-use jzon_tokens::number::{NAN, Number};
+use jzon_base::number::{NAN, Number};
 use jzon_tree::into_json::IntoJson;
 use jzon_tree::object::Object;
 use jzon_tree::value::JsonValue;

@@ -3,7 +3,7 @@
 ghost use Rattle.std.specs.Prelude.{◌≡◌};
 
 use crate::common::{Tested, empty_containers, expect_bytes, numbers};
-use jzon_tokens::number::{NAN, Number};
+use jzon_base::number::{NAN, Number};
 use jzon_tree::codegen::{DumpGenerator, Generator, write_json};
 use jzon_tree::object::Object;
 use jzon_tree::value::JsonValue;

@@ -1,7 +1,7 @@
 //! Each hook of the four generators, called directly.
 
 use crate::common::{Tested, expect_bytes};
-use jzon_tokens::number::Number;
+use jzon_base::number::Number;
 use jzon_tree::codegen::{
     DumpGenerator, Generator, PrettyGenerator, PrettyWriterGenerator, WriterGenerator,
 };

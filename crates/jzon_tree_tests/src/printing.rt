@@ -2,7 +2,7 @@
 
 use crate::common::{Tested, empty_containers, expect_bytes, numbers};
 use jzon_base::error::Error;
-use jzon_tokens::number::NAN;
+use jzon_base::number::NAN;
 use jzon_tree::codegen::{
     Compact, DumpGenerator, Generator, Layout, Pretty, PrettyGenerator, PrettyWriterGenerator,
     WriterGenerator, push_short, write_json,

@@ -3,7 +3,7 @@ use Rattle.std.proofs.Common.{◌≡◌, ◌∙◌, ℕ, zero, suc, ◌+◌, ◌
 use Rattle.std.proofs.Common.{false, refl, ap}
 use Rattle.std.specs.Prelude.{IsTrue}
 use Rattle.std.specs.Char.{is_ascii_digit}
-use Rattle.jzon_tokens.specs.Digits.{kept_len, dropped, kept_fraction}
+use Rattle.jzon_base.specs.Digits.{kept_len, dropped, kept_fraction}
 use Rattle.jzon.specs.Reading.{Reading}
 use Rattle.jzon.specs.Grammar.{Sign, unsigned, AreDigits, IsDigits}
 use Rattle.jzon.specs.Spelling.{digit, breach_if, onto, drops_too_many, keeps_too_many}

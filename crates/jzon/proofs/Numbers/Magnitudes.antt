@@ -11,12 +11,12 @@ use Rattle.std.proofs.lemmas.Bool.{ne_eqb}
 use Rattle.std.proofs.lemmas.Bool.Decides.{nat_tests}
 use Rattle.std.proofs.lemmas.List.Elements.{All-nil, All-cons}
 use Rattle.std.proofs.lemmas.Str.{IsCharBoundary-before_ascii, IsCharBoundary-after_ascii}
-use Rattle.jzon_tokens.specs.Digits.{IsDigit, dropped, kept_fraction, read_number}
-use Rattle.jzon_tokens.specs.DigitLimits.{AreFewEnough, IsFirstTooMany}
-use Rattle.jzon_tokens.specs.declared.digits.DigitFault.{DigitFault}
-use Rattle.jzon_tokens.specs.declared.digits.DigitFault.TheVariants.{Whole, Fraction}
+use Rattle.jzon_base.specs.Digits.{IsDigit, dropped, kept_fraction, read_number}
+use Rattle.jzon_base.specs.DigitLimits.{AreFewEnough, IsFirstTooMany}
+use Rattle.jzon_base.specs.declared.digits.DigitFault.{DigitFault}
+use Rattle.jzon_base.specs.declared.digits.DigitFault.TheVariants.{Whole, Fraction}
 use Rattle.jzon_base.specs.declared.error.Error.TheVariants.{ExceededDepthLimit}
-use Rattle.jzon_tokens.proofs.Kept.{kept_len_is_longest}
+use Rattle.jzon_base.proofs.Kept.{kept_len_is_longest}
 use Rattle.jzon_tree.specs.Value as value
 use Rattle.jzon.specs.Reading.{Reading, usual}
 use Rattle.jzon.specs.Grammar.{AreDigits, IsDigits, is_exponent_letter}

@@ -13,8 +13,8 @@ use Rattle.std.proofs.lemmas.List.Elements.{All-nil, All-cons}
 use Rattle.std.proofs.lemmas.List.Folds.{length-prefix_len}
 use Rattle.std.proofs.lemmas.List.Sums.{prefix_len-le-length}
 use Rattle.std.proofs.lemmas.Str.{IsUtf8-drop, IsCharBoundary-from_drop, IsCharBoundary-after_ascii}
-use Rattle.jzon_tokens.specs.Decimal.{signed}
-use Rattle.jzon_tokens.specs.Digits.{IsDigit, digits_number, read_number}
+use Rattle.jzon_base.specs.Decimal.{signed}
+use Rattle.jzon_base.specs.Digits.{IsDigit, digits_number, read_number}
 use Rattle.jzon_tree.specs.Value as value
 use Rattle.jzon.specs.Reading.{Reading}
 use Rattle.jzon.specs.Grammar.{Sign, plus, minus, AreDigits, IsDigits}

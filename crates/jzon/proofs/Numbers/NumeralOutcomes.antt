@@ -3,7 +3,7 @@ use Rattle.std.proofs.Common.{◌≡◌, ◌∙◌, ℕ, ◌+◌, ◌<◌, ◌�
 use Rattle.std.proofs.Common.{None, refl, sym, ap, arith, true≢false, append-nil, eq-eqb}
 use Rattle.std.specs.Prelude.{IsTrue, ⊤}
 use Rattle.std.specs.Char.{is_ascii_digit}
-use Rattle.jzon_tokens.specs.Digits.{kept_len, dropped, kept_fraction}
+use Rattle.jzon_base.specs.Digits.{kept_len, dropped, kept_fraction}
 use Rattle.jzon.specs.Reading.{Reading}
 use Rattle.jzon.specs.Grammar.{Sign, unsigned, plus, minus, AreDigits, IsDigits, is_exponent_letter}
 use Rattle.jzon.specs.Spelling.{digit, onto}

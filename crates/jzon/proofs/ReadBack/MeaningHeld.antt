@@ -13,9 +13,9 @@ use Rattle.std.proofs.lemmas.Int.{ints, clamps}
 use Rattle.std.proofs.lemmas.Map.Made.{AllPairs-from_IsDistinct}
 use Rattle.std.proofs.lemmas.Slice.Eq.{bytes_eq-Decides}
 use Rattle.std.proofs.lemmas.Str.{encodes-append, IsUtf8-append, IsUtf8-nil}
-use Rattle.jzon_tokens.specs.Digits.{dropped, kept_fraction, clamp}
+use Rattle.jzon_base.specs.Digits.{dropped, kept_fraction, clamp}
 use Rattle.jzon_base.specs.PairList.{keys_of, put, put_each}
-use Rattle.jzon_tokens.proofs.Kept.{kept_len_is_longest}
+use Rattle.jzon_base.proofs.Kept.{kept_len_is_longest}
 use Rattle.jzon_base.proofs.PairLaws.{All-put}
 use Rattle.jzon_base.proofs.PutEach.{IsDistinct-put_each}
 use Rattle.jzon_tree.specs.Value.{Value, object, Values, pairs_of, nest, most_nest, most_nest_under}

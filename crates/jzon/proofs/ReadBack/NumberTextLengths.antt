@@ -6,8 +6,8 @@ use Rattle.std.proofs.lemmas.List.{length-replicate}
 use Rattle.std.specs.Int.{w16}
 use Rattle.std.proofs.lemmas.Fmt.{length-decimal-le}
 use Rattle.std.proofs.lemmas.Bool.Decides.{nat_tests}
-use Rattle.jzon_tokens.specs.NumberText.{sign_text, point_after, point_after_first, fraction_text, small_exponent_text}
-use Rattle.jzon_tokens.specs.NumberText.{magnitude_text, number_text}
+use Rattle.jzon_base.specs.NumberText.{sign_text, point_after, point_after_first, fraction_text, small_exponent_text}
+use Rattle.jzon_base.specs.NumberText.{magnitude_text, number_text}
 
 length-if : (b : Bool) (xs ys : List ℕ) (n : ℕ) → (b ≡ true → length xs ≤ n) → (b ≡ false → length ys ≤ n)
     → length (if b then xs else ys) ≤ n

@@ -5,8 +5,8 @@ use Rattle.std.specs.Int.{w16}
 use Rattle.std.specs.Str.{IsAscii}
 use Rattle.std.proofs.lemmas.Bool.{cases_lt}
 use Rattle.std.proofs.lemmas.Str.{chars-IsAscii}
-use Rattle.jzon_tokens.specs.Decimal.{parts}
-use Rattle.jzon_tokens.specs.NumberText.{number_text}
+use Rattle.jzon_base.specs.Decimal.{parts}
+use Rattle.jzon_base.specs.NumberText.{number_text}
 use Rattle.jzon_tree.proofs.PrintedUtf8.{IsAscii-written}
 use Rattle.jzon.specs.Reading.{Reading}
 use Rattle.jzon.specs.Grammar.{Numeral, Node}

@@ -9,10 +9,10 @@ use Rattle.std.proofs.lemmas.Int.{ints}
 use Rattle.std.proofs.lemmas.Bool.{cases_eq}
 use Rattle.std.proofs.lemmas.List.Sums.{fold-append}
 use Rattle.std.proofs.lemmas.List.{length-replicate, take-append-drop}
-use Rattle.jzon_tokens.specs.Digits.{add_digit, digits_number}
-use Rattle.jzon_tokens.specs.Decimal.{parts}
-use Rattle.jzon_tokens.specs.NumberText.{point_after, point_after_first, small_exponent_text, magnitude_text, number_text}
-use Rattle.jzon_tokens.proofs.Kept.{if-lt, if-ge}
+use Rattle.jzon_base.specs.Digits.{add_digit, digits_number}
+use Rattle.jzon_base.specs.Decimal.{parts}
+use Rattle.jzon_base.specs.NumberText.{point_after, point_after_first, small_exponent_text, magnitude_text, number_text}
+use Rattle.jzon_base.proofs.Kept.{if-lt, if-ge}
 use Rattle.jzon.specs.Grammar.{unsigned, plus, minus, Exponent}
 use Rattle.jzon.specs.Grammar as grammar
 use Rattle.jzon.specs.Meaning.{written_exponent}

@@ -14,12 +14,12 @@ use Rattle.std.proofs.lemmas.Fmt.{digits_value-decimal}
 use Rattle.std.proofs.lemmas.Bool.Decides.{nat_tests}
 use Rattle.std.proofs.lemmas.List.{take_all}
 use Rattle.std.proofs.lemmas.List.Elements.{All-append, All-take, All-drop, All-from_recursion, recursion_from_All}
-use Rattle.jzon_tokens.specs.Digits.{IsDigit, add_digit, digits_number, kept_len, kept, dropped, kept_fraction}
-use Rattle.jzon_tokens.specs.Digits.{read_exponent, clamp}
-use Rattle.jzon_tokens.specs.Decimal.{Decimal, parts, same}
-use Rattle.jzon_tokens.specs.NumberText.{sign_text, magnitude_text, number_text, decimal_text}
-use Rattle.jzon_tokens.specs.Private.Same.{same_equiv}
-use Rattle.jzon_tokens.proofs.Kept.{kept_all}
+use Rattle.jzon_base.specs.Digits.{IsDigit, add_digit, digits_number, kept_len, kept, dropped, kept_fraction}
+use Rattle.jzon_base.specs.Digits.{read_exponent, clamp}
+use Rattle.jzon_base.specs.Decimal.{Decimal, parts, same}
+use Rattle.jzon_base.specs.NumberText.{sign_text, magnitude_text, number_text, decimal_text}
+use Rattle.jzon_base.specs.Private.Same.{same_equiv}
+use Rattle.jzon_base.proofs.Kept.{kept_all}
 use Rattle.jzon.specs.Grammar.{Sign, Exponent, Numeral, AreDigits}
 use Rattle.jzon.specs.Grammar as grammar
 use Rattle.jzon.specs.Meaning.{written_exponent, number_of}

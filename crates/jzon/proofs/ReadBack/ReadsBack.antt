@@ -8,7 +8,7 @@ use Rattle.std.proofs.Math.Nat.{le-max_left, le-max_right}
 use Rattle.std.proofs.lemmas.Bool.{and_parts, and_from}
 use Rattle.std.proofs.lemmas.List.{length-map}
 use Rattle.std.proofs.lemmas.Slice.Eq.{bytes_eq-Decides}
-use Rattle.jzon_tokens.specs.Decimal.{nan, parts}
+use Rattle.jzon_base.specs.Decimal.{nan, parts}
 use Rattle.jzon_base.specs.PairList.{keys_of, find, put_each}
 use Rattle.jzon_base.proofs.PutEach.{put_each-distinct}
 use Rattle.jzon_tree.specs.Value.{Value, null, boolean, text, number, array, object, Values, no_values, value}

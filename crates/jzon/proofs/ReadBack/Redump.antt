@@ -6,7 +6,7 @@ use Rattle.std.specs.List.{IsDistinct}
 use Rattle.std.specs.Str.{bytes_eq}
 use Rattle.std.proofs.lemmas.Map.Made.{IsDistinct-from_AllPairs}
 use Rattle.std.proofs.lemmas.Slice.Eq.{bytes_eq-Decides}
-use Rattle.jzon_tokens.specs.Decimal.{nan, parts}
+use Rattle.jzon_base.specs.Decimal.{nan, parts}
 use Rattle.jzon_base.specs.PairList.{keys_of, put_each}
 use Rattle.jzon_base.proofs.PutEach.{put_each-distinct}
 use Rattle.jzon_tree.specs.Value.{Value, null, boolean, text, number, array, object, Values, no_values, value, Pairs}

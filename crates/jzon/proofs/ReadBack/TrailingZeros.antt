@@ -10,13 +10,13 @@ use Rattle.std.proofs.Math.Bool.{not-not, or-true}
 use Rattle.std.proofs.Math.Nat.{pow-suc, one-le-mul, one-le-pow, mul-le-mul_right, pow-le-pow_right}
 use Rattle.std.proofs.lemmas.List.Sums.{fold-append}
 use Rattle.std.proofs.lemmas.List.{length-replicate, take_at, take_all}
-use Rattle.jzon_tokens.specs.Digits.{add_digit, digits_number, kept_len, kept, dropped, kept_fraction, read_exponent}
-use Rattle.jzon_tokens.specs.Digits.{clamp}
-use Rattle.jzon_tokens.specs.Decimal.{parts, same, scaled}
-use Rattle.jzon_tokens.specs.NumberText.{sign_text, number_text}
-use Rattle.jzon_tokens.specs.Private.Same.{same_equiv}
-use Rattle.jzon_tokens.proofs.Kept.{kept_len-at}
-use Rattle.jzon_tokens.proofs.Scaled.{scaled-eq-fits}
+use Rattle.jzon_base.specs.Digits.{add_digit, digits_number, kept_len, kept, dropped, kept_fraction, read_exponent}
+use Rattle.jzon_base.specs.Digits.{clamp}
+use Rattle.jzon_base.specs.Decimal.{parts, same, scaled}
+use Rattle.jzon_base.specs.NumberText.{sign_text, number_text}
+use Rattle.jzon_base.specs.Private.Same.{same_equiv}
+use Rattle.jzon_base.proofs.Kept.{kept_len-at}
+use Rattle.jzon_base.proofs.Scaled.{scaled-eq-fits}
 use Rattle.jzon.specs.Meaning.{number_of}
 use Rattle.jzon.proofs.ReadBack.NumeralTexts.{numeral_spelled, minus_spelled}
 use Rattle.jzon.proofs.ReadBack.PrintedParts.{HasNumeral, numeral, AllDigits, IsWholePart, whole_test, all-zeros}

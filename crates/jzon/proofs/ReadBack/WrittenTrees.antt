@@ -8,7 +8,7 @@ use Rattle.std.proofs.Math.Bool.{and-false}
 use Rattle.std.proofs.lemmas.Bool.Decides.{nat_tests}
 use Rattle.std.proofs.lemmas.Str.{chars-append, chars-IsAscii, IsUtf8-append, IsUtf8-from_ascii}
 use Rattle.std.proofs.lemmas.Str.Ascii.{IsAscii-nil, IsAscii-cons}
-use Rattle.jzon_tokens.specs.NumberText.{number_text}
+use Rattle.jzon_base.specs.NumberText.{number_text}
 use Rattle.jzon_tree.specs.Same.{is_known}
 use Rattle.jzon_tree.specs.Text.{quoted}
 use Rattle.jzon_tree.proofs.PrintedUtf8.{IsAscii-one, IsAscii-true, IsUtf8-quoted}

@@ -12,7 +12,7 @@ use Rattle.std.proofs.lemmas.Bool.Decides.{nat_tests}
 use Rattle.std.proofs.lemmas.List.{drop-drop, length-take-le, get_or-append-add, get_or-take, get_or_default}
 use Rattle.std.proofs.lemmas.List.Sums.{prefix_len-le-length, prefix_len_passes}
 use Rattle.std.proofs.lemmas.Str.{chars-append, encode_ascii, encodes-chars, scalars-chars, IsUtf8-between}
-use Rattle.jzon_tokens.specs.Private.PlainBytes.{is_plain}
+use Rattle.jzon_base.specs.Private.PlainBytes.{is_plain}
 use Rattle.jzon.specs.Reading.{Reading}
 use Rattle.jzon.specs.Grammar.{is_unescaped}
 use Rattle.jzon.specs.Private.Machine.{Role, Move, string, between, go, move_between, outcome, outcome_on, from}

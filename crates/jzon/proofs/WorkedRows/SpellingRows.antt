@@ -5,9 +5,9 @@ use Rattle.std.proofs.Common.{◌≡◌, pos, negsuc, ℕ, List, [], ◌∷◌, 
 use Rattle.std.proofs.Common.{encode_utf8_all, refl, ap}
 use Rattle.std.specs.Fmt.{digits}
 use Rattle.std.specs.Char.{encode_utf8}
-use Rattle.jzon_tokens.specs.Decimal.{Decimal, nan, parts, scaled}
+use Rattle.jzon_base.specs.Decimal.{Decimal, nan, parts, scaled}
 use Rattle.jzon_base.specs.PairList.{put, cut}
-use Rattle.jzon_tokens.specs.Digits.{kept_len}
+use Rattle.jzon_base.specs.Digits.{kept_len}
 use Rattle.jzon_tree.specs.Value.{Value, Kind, short, long, values_of, pairs_of}
 use Rattle.jzon_tree.specs.Value as value
 use Rattle.jzon_tree.specs.Text.{compact, pretty}

@@ -10,8 +10,8 @@ use Rattle.std.specs.Str.{chars}
 use Rattle.std.proofs.lemmas.Int.{ints}
 use Rattle.std.proofs.lemmas.Map.Made.{AllPairs-from_IsDistinct}
 use Rattle.std.proofs.lemmas.Slice.Eq.{bytes_eq-Decides}
-use Rattle.jzon_tokens.specs.Decimal.{parts, scaled}
-use Rattle.jzon_tokens.specs.Digits.{kept_len}
+use Rattle.jzon_base.specs.Decimal.{parts, scaled}
+use Rattle.jzon_base.specs.Digits.{kept_len}
 use Rattle.jzon_tree.specs.Value.{Value, text, number, array, object, short, no_values, value, no_pairs, pair}
 use Rattle.jzon_tree.specs.Same.{same}
 use Rattle.jzon_tree.specs.Lawful.{IsValue, HasNoNan}

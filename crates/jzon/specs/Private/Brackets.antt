@@ -1,7 +1,7 @@
 -- The brackets of arrays and objects: where the automaton is after each.
 use Rattle.std.specs.Prelude.{ℕ, Option, Some, None, ◌++◌, ◌∷◌, []}
 use Rattle.jzon_base.specs.PairList.{put}
-use Rattle.jzon_tokens.specs.Tokens.{begin_array, end_array, begin_object, end_object}
+use Rattle.jzon_base.specs.Tokens.{begin_array, end_array, begin_object, end_object}
 use Rattle.jzon_tree.specs.Value.{Value, no_values, values_of, no_pairs, pairs_of}
 use Rattle.jzon_tree.specs.Value as value
 use Rattle.jzon.specs.Private.Machine.{Frames, no_frames, array_frame, object_frame, State, before, before_key}

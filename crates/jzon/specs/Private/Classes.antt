@@ -1,8 +1,8 @@
 -- The classes of characters that the automaton of Machine distinguishes, and its states inside a number.
 use Rattle.std.specs.Prelude.{ℕ, if◌then◌else◌, List, [], ◌∷◌, Bool, true, false, ◌==◌}
 use Rattle.std.specs.Char.{is_ascii_digit}
-use Rattle.jzon_tokens.specs.Tokens.{begin_array, begin_object, decimal_point, end_array, end_object, minus_sign}
-use Rattle.jzon_tokens.specs.Tokens.{name_separator, plus_sign, quotation_mark, value_separator}
+use Rattle.jzon_base.specs.Tokens.{begin_array, begin_object, decimal_point, end_array, end_object, minus_sign}
+use Rattle.jzon_base.specs.Tokens.{name_separator, plus_sign, quotation_mark, value_separator}
 use Rattle.jzon_tree.specs.Writing.{is_whitespace}
 use Rattle.jzon.specs.Grammar.{Sign, is_exponent_letter}
 

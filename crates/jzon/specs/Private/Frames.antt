@@ -6,7 +6,7 @@ use Rattle.jzon_tree.specs.View.{view, viewed}
 use Rattle.jzon.specs.Private.Cursor.{next_byte}
 use Rattle.jzon.specs.Private.Machine.{Frames, no_frames, array_frame, object_frame, State, before, before_key}
 use Rattle.jzon.specs.Private.Machine.{after_value}
-use Rattle.jzon_tokens.specs.Tokens.{end_array, end_object}
+use Rattle.jzon_base.specs.Tokens.{end_array, end_object}
 use Rattle.jzon.specs.declared.cursor.Cursor.{Cursor}
 use Rattle.jzon.specs.declared.frames.ValueStart.{ValueStart}
 use Rattle.jzon.specs.declared.frames.ValueStart.TheVariants.{Value, Array as start_array, Object as start_object}

@@ -8,7 +8,7 @@ use Rattle.std.specs.Option.{is_some}
 use Rattle.jzon_base.specs.PairList.{find, put}
 use Rattle.jzon_base.specs.declared.error.Error.{Error}
 use Rattle.jzon_base.specs.declared.error.Error.TheVariants.{OutOfMemory}
-use Rattle.jzon_tokens.specs.Tokens.{escape, quotation_mark, zero_digit}
+use Rattle.jzon_base.specs.Tokens.{escape, quotation_mark, zero_digit}
 use Rattle.jzon_tree.specs.Value.{Value, values_of, pairs_of, kind_of}
 use Rattle.jzon_tree.specs.Value as value
 use Rattle.jzon_tree.specs.View.{view}

@@ -1,7 +1,7 @@
 -- The quotes of a string, by the bytes of a text.
 use Rattle.std.specs.Prelude.{◌≡◌, ℕ, ◌-◌, ◌<◌, List, slice_index}
 use Rattle.std.specs.Str.{IsCharBoundary}
-use Rattle.jzon_tokens.specs.Tokens.{quotation_mark}
+use Rattle.jzon_base.specs.Tokens.{quotation_mark}
 
 -- the byte before `end` is a quote, at `start` or after it
 abbrev pub EndsAtQuote : List ℕ → ℕ → ℕ → Type 0

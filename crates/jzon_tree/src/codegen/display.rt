@@ -3,8 +3,8 @@
 
 ghost use Rattle.std.specs.Prelude.{◌≡◌, false};
 ghost use Rattle.std.specs.Fmt.{WritesOnOk};
-ghost use Rattle.jzon_tokens.specs.NumberText.{written_text};
-ghost use Rattle.jzon_tokens.specs.Private.PlainBytes.{is_plain};
+ghost use Rattle.jzon_base.specs.NumberText.{written_text};
+ghost use Rattle.jzon_base.specs.Private.PlainBytes.{is_plain};
 ghost use Rattle.jzon_tree.specs.Displayed.{comma_text, member_text};
 ghost use Rattle.jzon_tree.specs.Text.{compact, escaped_byte, quoted};
 ghost use Rattle.jzon_tree.specs.Value.{array};
@@ -13,8 +13,8 @@ ghost use Rattle.jzon_tree.specs.View.{view, view_object, view_values};
 use crate::codegen::strings::{ESCAPE_MAX_LEN, put_escape};
 use crate::object::Object;
 use crate::value::JsonValue;
-use jzon_tokens::number::Number;
-use jzon_tokens::util::plain::plain_len;
+use jzon_base::number::Number;
+use jzon_base::util::plain::plain_len;
 use std::{fmt, str};
 
 /// A string without quotes, a number as `Number` shows it, and all else as in the compact layout.

@@ -4,7 +4,7 @@
 ghost use Rattle.std.specs.Prelude.{◌≡◌, ◌≤◌, Some, Ok, IfErr, IsErr, IsSome, OnOk, OnErr, MatchResult, length, drop};
 ghost use Rattle.jzon_tree.specs.Generator.{Sends, Just};
 
-use jzon_tokens::util::write_bytes;
+use jzon_base::util::write_bytes;
 use std::io;
 use std::io::{ErrorKind, Write};
 

@@ -3,7 +3,7 @@
 ghost use Rattle.std.specs.Prelude.{◌≡◌, ◌+◌, ◌-◌, ◌<◌, ◌≤◌, ◌^◌, ◌∷◌, ◌++◌, [], length, take, drop, MatchResult};
 ghost use Rattle.std.specs.Prelude.{OnErr, IsSome};
 ghost use Rattle.std.specs.Borrow.{sem, Lends};
-ghost use Rattle.jzon_tokens.specs.NumberText.{written_text};
+ghost use Rattle.jzon_base.specs.NumberText.{written_text};
 ghost use Rattle.jzon_base.specs.PairList.{keys_of};
 ghost use Rattle.jzon_tree.specs.Entries.{entries_of};
 ghost use Rattle.jzon_tree.specs.Generator.{Emitted, Added, Failed, Emits, Counts, Just, IsForm, IsAnswer, noted};
@@ -14,9 +14,9 @@ use crate::codegen::error_slot::{ErrorSlot, SlotResult, send, store, take_result
 use crate::codegen::numbers::text_of_number;
 use crate::codegen::strings::{ESCAPE_MAX_LEN, put_escape};
 use crate::object::Object;
-use jzon_tokens::number::Number;
-use jzon_tokens::util::plain::plain_len;
-use jzon_tokens::util::print_dec;
+use jzon_base::number::Number;
+use jzon_base::util::plain::plain_len;
+use jzon_base::util::print_dec;
 use std::io;
 use std::io::{ErrorKind, Write};
 

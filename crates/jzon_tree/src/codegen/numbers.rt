@@ -1,12 +1,12 @@
 //! The texts of numbers (docs/RULES.md, "Printed numbers").
 
 ghost use Rattle.std.specs.Prelude.{◌≡◌, ◌++◌, IsTrue, false, OnErr, IsSome};
-ghost use Rattle.jzon_tokens.specs.NumberText.{number_text, written_text};
+ghost use Rattle.jzon_base.specs.NumberText.{number_text, written_text};
 ghost use Rattle.jzon_tree.specs.Generator.{Sends, Just};
 
 use crate::codegen::error_slot::{ErrorSlot, SlotResult, send};
-use jzon_tokens::number::Number;
-use jzon_tokens::util::print_dec;
+use jzon_base::number::Number;
+use jzon_base::util::print_dec;
 use std::io::Write;
 
 /// Writes the text of the number, or `null` for NaN.

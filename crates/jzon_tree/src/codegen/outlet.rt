@@ -3,7 +3,7 @@
 ghost use Rattle.std.specs.Prelude.{◌≡◌, ◌∷◌, ℕ, List, [], Option, None, Some, IsTrue, false, OnErr, IsSome, refl};
 ghost use Rattle.std.specs.Prelude.{replicate};
 ghost use Rattle.std.specs.Borrow.{GName, sem, Lends};
-ghost use Rattle.jzon_tokens.specs.NumberText.{written_text};
+ghost use Rattle.jzon_base.specs.NumberText.{written_text};
 ghost use Rattle.jzon_tree.specs.Generator.{Adds, Just, Sends};
 ghost use Rattle.jzon_tree.specs.Generators.{bytes_in, with_bytes};
 ghost use Rattle.jzon_tree.specs.Text.{quoted};
@@ -12,7 +12,7 @@ use crate::codegen::error_slot::{ErrorSlot, SlotResult};
 use crate::codegen::layout::{push_line, send_line};
 use crate::codegen::numbers::{push_digits, send_number};
 use crate::codegen::strings::{push_plain, push_short, send_string};
-use jzon_tokens::number::Number;
+use jzon_base::number::Number;
 use std::io::Write;
 
 /// A writer that may take a string, a number or the start of a line at once, as a buffer does that

@@ -3,13 +3,13 @@
 ghost use Rattle.std.specs.Prelude.{◌≡◌, ◌+◌, ◌≤◌, ◌++◌, ◌∷◌, [], false, length, take, drop, OnOk, OnErr, IsSome};
 ghost use Rattle.std.specs.Prelude.{IsTrue, replicate, slice_index_or, vec_len, vec_capacity};
 ghost use Rattle.std.specs.List.{prefix_len};
-ghost use Rattle.jzon_tokens.specs.Private.PlainBytes.{is_plain};
+ghost use Rattle.jzon_base.specs.Private.PlainBytes.{is_plain};
 ghost use Rattle.jzon_tree.specs.Generator.{Sends, Just};
 ghost use Rattle.jzon_tree.specs.Text.{escaped, escaped_byte, quoted};
 
 use crate::codegen::error_slot::{ErrorSlot, SlotResult, send};
-use jzon_tokens::util::escapes::{hex_digit, letter_of};
-use jzon_tokens::util::plain::{is_plain_by_ends, plain_len};
+use jzon_base::util::escapes::{hex_digit, letter_of};
+use jzon_base::util::plain::{is_plain_by_ends, plain_len};
 use std::alloc::AllocError;
 use std::io::Write;
 use std::simd::Simd;

@@ -15,7 +15,7 @@ use crate::codegen::layout::{Compact, Layout, Pretty};
 use crate::codegen::outlet::{Memory, Outlet, Place, Through, line_to, number_to, string_to};
 use crate::object::Object;
 use jzon_base::error::{Error, Result};
-use jzon_tokens::number::Number;
+use jzon_base::number::Number;
 use std::alloc::Global;
 use std::io;
 use std::io::{ErrorKind, Write};

@@ -1,14 +1,14 @@
 //! Integers as values. They allocate nothing.
 
 ghost use Rattle.std.specs.Prelude.{◌≡◌, ⊤, pos, IfOk, IsOk, IsOkUnless};
-ghost use Rattle.jzon_tokens.specs.Decimal.{integer_parts};
+ghost use Rattle.jzon_base.specs.Decimal.{integer_parts};
 ghost use Rattle.jzon_tree.specs.Value.{number};
 ghost use Rattle.jzon_tree.specs.View.{view};
 
 use super::IntoJson;
 use crate::value::JsonValue;
 use jzon_base::error::{Error, Result};
-use jzon_tokens::number::Number;
+use jzon_base::number::Number;
 use std::alloc::Global;
 
 impl IntoJson for u8 {

@@ -7,8 +7,8 @@ ghost use Rattle.jzon_tree.specs.View.{view};
 use super::IntoJson;
 use crate::value::JsonValue;
 use jzon_base::error::{Error, Result};
+use jzon_base::number::Number;
 use jzon_base::short::{MAX_LEN, Short};
-use jzon_tokens::number::Number;
 use std::alloc::Global;
 
 /// It allocates nothing.

@@ -11,7 +11,7 @@ ghost use Rattle.jzon_tree.specs.View.{view, view_object, view_values};
 use crate::object::Object;
 use crate::value::JsonValue;
 use jzon_base::error::Error;
-use jzon_tokens::number::Number;
+use jzon_base::number::Number;
 
 /// What was found in a value.
 #[derive(Clone, Copy)]

@@ -2,7 +2,7 @@
 
 ghost use Rattle.std.specs.Prelude.{◌≡◌, ◌<◌, ◌≤◌, ◌^◌, OnOk, OnErr, IfOk, IsOkUnless, string_bytes};
 ghost use Rattle.std.specs.Io.KnownBytes.{Appends};
-ghost use Rattle.jzon_tokens.specs.Written.{AppendsBeginning};
+ghost use Rattle.jzon_base.specs.Written.{AppendsBeginning};
 ghost use Rattle.jzon_tree.specs.Generator.{Sends};
 ghost use Rattle.jzon_tree.specs.Lawful.{IsValue};
 ghost use Rattle.jzon_tree.specs.Styles.{compact_style, pretty_style};

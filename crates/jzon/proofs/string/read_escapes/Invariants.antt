@@ -1,7 +1,7 @@
 use Rattle.std.proofs.Common.{◌≡◌, ◌-◌, ◌<◌, ◌≤◌, length, false, slice_index}
 use Rattle.std.specs.Str.{IsCharBoundary}
 use Rattle.std.specs.String.{string_bytes}
-use Rattle.jzon_tokens.specs.Private.PlainBytes.{is_plain}
+use Rattle.jzon_base.specs.Private.PlainBytes.{is_plain}
 use Rattle.jzon.specs.Reading.{Reading}
 use Rattle.jzon.specs.Private.Machine.{Role, string, between, from}
 use Rattle.jzon.proofs.string.read_escapes.Given as goal

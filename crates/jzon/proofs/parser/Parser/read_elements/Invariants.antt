@@ -3,7 +3,7 @@ use Rattle.jzon_tree.specs.View.{view}
 use Rattle.jzon.specs.Private.Cursor.{next_byte}
 use Rattle.jzon.specs.Private.Frames.{stack_view}
 use Rattle.jzon.specs.Private.Machine.{array_frame, before}
-use Rattle.jzon_tokens.specs.Tokens.{end_array}
+use Rattle.jzon_base.specs.Tokens.{end_array}
 use Rattle.jzon.proofs.Texts.Cursors.{Reached}
 use Rattle.jzon.proofs.parser.Parser.read_elements.Given as goal
 

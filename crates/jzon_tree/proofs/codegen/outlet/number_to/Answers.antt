@@ -1,5 +1,5 @@
 use Rattle.std.proofs.Common.{◌∙◌}
-use Rattle.jzon_tokens.specs.NumberText.{written_text}
+use Rattle.jzon_base.specs.NumberText.{written_text}
 use Rattle.jzon_tree.specs.Generator.{Just}
 use Rattle.jzon_tree.proofs.Sent.{Sends-moved}
 use Rattle.jzon_tree.proofs.codegen.outlet.number_to.Goals as goal

@@ -1,5 +1,5 @@
 use Rattle.std.proofs.Common.{◌≡◌, ◌+◌, ◌++◌, ◌∷◌, [], length, ap, ◌∙◌, sym, arith}
-use Rattle.jzon_tokens.proofs.Laid.{cut_back}
+use Rattle.jzon_base.proofs.Laid.{cut_back}
 use Rattle.jzon_tree.proofs.Ends.{put_in_quotes}
 use Rattle.jzon_tree.proofs.Plain.{escaped-plain}
 use Rattle.jzon_tree.proofs.codegen.strings.push_if_plain.Goals as goal

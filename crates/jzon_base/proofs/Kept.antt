@@ -1,0 +1,157 @@
+-- The longest prefix of digits that spells a number below 2 ^ 64.
+use Rattle.std.proofs.Common.{◌≡◌, ℕ, zero, suc, ◌+◌, ◌-◌, ◌^◌, ◌≤◌, ◌<◌, List, [], ◌∷◌, ◌++◌, length, take, drop, ap}
+use Rattle.std.proofs.Common.{◌∙◌, subst, arith, inl, inr, length-append, add-zero, zero-add, add-suc, suc-add, pow-suc}
+use Rattle.std.proofs.Common.{nat_lt, if◌then◌else◌, lit<}
+use Rattle.std.specs.List.{fold, All}
+use Rattle.std.proofs.lemmas.List.Sums.{fold-append}
+use Rattle.std.proofs.lemmas.List.{take-append-le, take_all}
+use Rattle.std.proofs.lemmas.List.Elements.{All-head, All-tail}
+use Rattle.std.proofs.Math.Nat.{pow-le-pow_right}
+use Rattle.std.proofs.Math.Seq.{take-add, take-append-add}
+use Rattle.std.proofs.lemmas.Bool.{cases_lt}
+use Rattle.std.proofs.lemmas.Bool.Decides.{nat_tests}
+use Rattle.jzon_base.specs.DigitLimits.{IsLongestPrefix}
+use Rattle.jzon_base.specs.Digits.{IsDigit, add_digit, digits_number, longest_up_to, kept_len}
+
+-- ---- a longer prefix spells a number that is at least as large
+
+fold-ge : (v : ℕ) (ds : List ℕ) → v ≤ fold add_digit v ds
+fold-ge v [] = omega arith
+fold-ge v (d ∷ ds) = let h : add_digit v d ≤ fold add_digit (add_digit v d) ds = fold-ge (add_digit v d) ds in omega
+    (arith, h)
+
+fold-take-le : (v : ℕ) (ds : List ℕ) (i n : ℕ) → i ≤ n → fold add_digit v (take i ds) ≤ fold add_digit v (take n ds)
+fold-take-le v ds i n h =
+    let split : n ≡ i + (n - i) = omega arith in
+    let e : fold add_digit v (take n ds) ≡ fold add_digit (fold add_digit v (take i ds)) (take (n - i) (drop i ds)) =
+    ap (λ j. fold add_digit v (take j ds)) split ∙ ap (fold add_digit v) (take-add i (n - i) ds)
+    ∙ fold-append add_digit v (take i ds) (take (n - i) (drop i ds)) in
+    omega (arith, e, fold-ge (fold add_digit v (take i ds)) (take (n - i) (drop i ds)))
+
+-- ---- the kept digits are the longest prefix
+
+pub if-lt : {X : Type 0} (a b : ℕ) (x y : X) → a < b → (if nat_lt a b then x else y) ≡ x
+if-lt a b x y h = grind (arith, nat_tests)
+
+pub if-ge : {X : Type 0} (a b : ℕ) (x y : X) → b ≤ a → (if nat_lt a b then x else y) ≡ y
+if-ge a b x y h = grind (arith, nat_tests)
+
+longest_up_to-fits : (ds : List ℕ) (n : ℕ) → digits_number (take (suc n) ds) < 2 ^ 64 → longest_up_to (suc n) ds ≡ suc n
+longest_up_to-fits ds n fits = if-lt (digits_number (take (suc n) ds)) (2 ^ 64) (suc n) (longest_up_to n ds) fits
+
+longest_up_to-large : (ds : List ℕ) (n : ℕ) → 2 ^ 64 ≤ digits_number (take (suc n) ds)
+    → longest_up_to (suc n) ds ≡ longest_up_to n ds
+longest_up_to-large ds n large = if-ge (digits_number (take (suc n) ds)) (2 ^ 64) (suc n) (longest_up_to n ds) large
+
+-- k is the greatest number up to n of leading digits that spell a number below 2 ^ 64
+record IsLongestUpTo (ds : List ℕ) (n k : ℕ) : Type 0 where
+  within : k ≤ n
+  fits : digits_number (take k ds) < 2 ^ 64
+  longest : (j : ℕ) → k < j → j ≤ n → 2 ^ 64 ≤ digits_number (take j ds)
+
+-- one more digit, which is too many
+longest_and_one_more : (ds : List ℕ) (n k : ℕ) → IsLongestUpTo ds n k → 2 ^ 64 ≤ digits_number (take (suc n) ds)
+    → IsLongestUpTo ds (suc n) k
+longest_and_one_more ds n k before large = record {
+  within = omega (arith, before.within);
+  fits = before.fits;
+  longest = λ j above within. elim (cases_lt n j) [
+    | inl last ↦ (let e : suc n ≡ j = omega arith in subst (λ (i : ℕ). 2 ^ 64 ≤ digits_number (take i ds)) e large)
+    | inr earlier ↦ before.longest j above earlier
+  ];
+}
+
+longest_up_to_is : (ds : List ℕ) (n : ℕ) → IsLongestUpTo ds n (longest_up_to n ds)
+longest_up_to_is ds zero = record {
+  within = omega arith;
+  fits = lit< tt;
+  longest = λ j above within. absurd
+      (omega arith);
+}
+longest_up_to_is ds (suc n) =
+    elim (cases_lt (digits_number (take (suc n) ds)) (2 ^ 64)) [
+      | inl fits ↦
+          (rw (longest_up_to-fits ds n fits) (record {
+            within = omega arith;
+            fits = fits;
+            longest = λ j above within.
+                absurd (omega arith);
+          }))
+      | inr large ↦
+          (rw (longest_up_to-large ds n large) (longest_and_one_more ds n (longest_up_to n ds) (longest_up_to_is ds n)
+          large))
+    ]
+
+pub kept_len_is_longest : (ds : List ℕ) → IsLongestPrefix ds (kept_len ds)
+unfolding kept_len
+kept_len_is_longest ds = let k = longest_up_to_is ds (length ds) in record
+    { within = k.within; fits = k.fits; longest = k.longest }
+
+-- ---- a prefix that is too large with one more digit is the longest
+
+pub kept_len-at : (ds : List ℕ) (k : ℕ) → k ≤ length ds → digits_number (take k ds) < 2 ^ 64
+    → (k < length ds → 2 ^ 64 ≤ digits_number (take (k + 1) ds)) → kept_len ds ≡ k
+kept_len-at ds k within fits next =
+    let kept = kept_len_is_longest ds in
+    let at_least : k ≤ kept_len ds =
+    elim (cases_lt (kept_len ds) k) [ inl below ↦ absurd (omega (arith, kept.longest k below within)) | inr h ↦ h ] in
+    let at_most : kept_len ds ≤ k =
+    elim (cases_lt k (kept_len ds)) [
+      | inl above ↦ absurd (omega (
+        arith,
+        kept.fits,
+        next (omega (arith, kept.within)),
+        fold-take-le 0 ds (k + 1)
+            (kept_len ds) (omega arith),
+      ))
+      | inr h ↦ h
+    ] in
+    omega arith
+
+pub kept_len-within_whole : (whole fraction : List ℕ) (k : ℕ) → k < length whole → digits_number (take k whole) < 2 ^ 64
+    → 2 ^ 64 ≤ digits_number (take (k + 1) whole) → kept_len (whole ++ fraction) ≡ k
+kept_len-within_whole whole fraction k h fits large =
+    let prefix : take k (whole ++ fraction) ≡ take k whole = take-append-le k whole fraction (omega arith) in
+    let next : take (k + 1) (whole ++ fraction) ≡ take (k + 1) whole = take-append-le (k + 1) whole fraction
+    (omega arith) in
+    kept_len-at (whole ++ fraction) k (omega (arith, length-append whole fraction)) (rw prefix fits)
+    (λ _. rw next large)
+
+pub digits_number-take-append : (whole fraction : List ℕ) (n : ℕ)
+    → digits_number (take (length whole + n) (whole ++ fraction))
+    ≡ fold add_digit (digits_number whole) (take n fraction)
+digits_number-take-append whole fraction n = ap digits_number (take-append-add whole fraction n)
+    ∙ fold-append add_digit 0 whole (take n fraction)
+
+pub kept_len-past_whole : (whole fraction : List ℕ) (k : ℕ) → k ≤ length fraction
+    → fold add_digit (digits_number whole) (take k fraction) < 2 ^ 64
+    → (k < length fraction → 2 ^ 64 ≤ fold add_digit (digits_number whole) (take (k + 1) fraction))
+    → kept_len (whole ++ fraction) ≡ length whole + k
+kept_len-past_whole whole fraction k h fits next =
+    kept_len-at (whole ++ fraction) (length whole + k) (omega (arith, length-append whole fraction))
+    (omega (arith, digits_number-take-append whole fraction k, fits))
+    (λ below. let more : k < length fraction = omega (arith, below, length-append whole fraction) in
+    let e : length whole + k + 1 ≡ length whole + (k + 1) = omega arith in
+    rw e (rw digits_number-take-append (next more)))
+
+-- ---- all digits are kept if they fit, as up to 19 do
+
+pub kept_all : (ds : List ℕ) → digits_number ds < 2 ^ 64 → kept_len ds ≡ length ds
+kept_all ds h = kept_len-at ds (length ds) (omega arith) (rw (take_all (length ds) ds (omega arith)) h)
+    (λ below. absurd (omega arith))
+
+below_power : (v k : ℕ) (ds : List ℕ) → All IsDigit ds → v < 10 ^ k → fold add_digit v ds < 10 ^ (k + length ds)
+below_power v k [] all h = rw add-zero h
+below_power v k (d ∷ ds) all h =
+    let digit : IsDigit d = All-head IsDigit d ds all in
+    let next : add_digit v d < 10 ^ suc k = omega (arith, pow-suc 10 k, digit) in
+    rw (add-suc, ← suc-add k (length ds)) (below_power (add_digit v d) (suc k) ds (All-tail IsDigit d ds all) next)
+
+pub few_fit : (ds : List ℕ) → All IsDigit ds → length ds ≤ 19 → digits_number ds < 2 ^ 64
+few_fit ds all few =
+    let most : 10 ^ length ds ≤ 10 ^ 19 = pow-le-pow_right (omega arith) few in
+    let below : fold add_digit 0 ds < 10 ^ length ds = rw zero-add at (below_power 0 0 ds all (omega arith)) in
+    omega (arith, below, most)
+
+pub few_kept : (ds : List ℕ) → All IsDigit ds → length ds ≤ 19 → kept_len ds ≡ length ds
+few_kept ds all few = kept_all ds (few_fit ds all few)

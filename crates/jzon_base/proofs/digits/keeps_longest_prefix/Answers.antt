@@ -1,0 +1,5 @@
+use Rattle.jzon_base.proofs.Kept.{kept_len_is_longest}
+use Rattle.jzon_base.proofs.digits.keeps_longest_prefix.Goals as goal
+
+pub returns : goal.returns
+returns c = kept_len_is_longest

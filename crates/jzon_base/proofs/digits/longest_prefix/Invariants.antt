@@ -1,0 +1,7 @@
+use Rattle.std.proofs.Common.{◌≡◌, take, ◌<◌, ◌^◌}
+use Rattle.std.specs.List.{fold}
+use Rattle.jzon_base.specs.Digits.{add_digit}
+use Rattle.jzon_base.proofs.digits.longest_prefix.Given as goal
+
+abbrev pub invariant-loop-i : goal.invariant-loop-i
+invariant-loop-i l = (l.number ≡ fold add_digit l.before (take l.i l.digits)) × (l.number < 2 ^ 64)

@@ -1,0 +1,10 @@
+use Rattle.std.proofs.Common.{◌-◌, ◌≤◌}
+use Rattle.std.specs.List.{prefix_len}
+use Rattle.jzon_base.specs.Private.PlainBytes.{is_plain}
+use Rattle.jzon_base.proofs.util.plain.plain_by_blocks.Given as goal
+
+abbrev pub invariant-loop-start : goal.invariant-loop-start
+invariant-loop-start l = l.start ≤ prefix_len is_plain l.bytes
+
+abbrev pub decreases-loop-start : goal.decreases-loop-start
+decreases-loop-start l = l.last - l.start

@@ -1,0 +1,10 @@
+use Rattle.std.proofs.lemmas.Grind.{common_steps}
+use Rattle.std.proofs.Common.{arith}
+use Rattle.jzon_base.proofs.Written.{Appends-more}
+use Rattle.jzon_base.proofs.util.write_bytes.Goals as goal
+
+pub loop-written-preserved : goal.loop-written-preserved
+loop-written-preserved g c = (
+  grind (arith, common_steps),
+  Appends-more _ _ _ _ _ _ c.loop-written.invariant.1 c.in_ok-count.ensures.bytes,
+)

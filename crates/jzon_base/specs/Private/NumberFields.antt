@@ -1,0 +1,25 @@
+-- How the fields of a `Number` represent its decimal.
+use Rattle.std.specs.Prelude.{◌≡◌, ℕ, ℤ, pos, true, false}
+use Rattle.jzon_base.specs.Decimal.{Decimal, nan, parts}
+use Rattle.jzon_base.specs.declared.number.Category.{Category}
+use Rattle.jzon_base.specs.declared.number.Category.TheVariants.{Negative, Positive, Nan}
+use Rattle.jzon_base.specs.declared.number.Number.TheInside.{Inside}
+
+abbrev pub value_at : Category → ℕ → ℤ → Decimal
+value_at Negative m e = parts false m e
+value_at Positive m e = parts true m e
+value_at Nan m e = nan
+
+-- NaN has no parts: its fields are 0
+abbrev pub HasNoParts : Category → ℕ → ℤ → Type 0
+HasNoParts Negative m e = Unit {0}
+HasNoParts Positive m e = Unit {0}
+HasNoParts Nan m e = (m ≡ 0) × (e ≡ pos 0)
+
+abbrev pub fields_at : Category → ℕ → ℤ → Inside
+fields_at c m e = record { category = c; narrow_gap = 0; exponent = e; wide_gap = 0; mantissa = m }
+
+abbrev pub fields_of : Decimal → Inside
+fields_of nan = fields_at Nan 0 (pos 0)
+fields_of (parts true m e) = fields_at Positive m e
+fields_of (parts false m e) = fields_at Negative m e

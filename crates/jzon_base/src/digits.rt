@@ -1,0 +1,230 @@
+//! The digits of a number in a text, and the number that they mean (RFC 8259, section 6;
+//! docs/RULES.md, "What digits mean" and "Digit limits").
+
+ghost use Rattle.std.specs.Prelude.{◌≡◌, ℕ, pos, ◌+◌, ◌%◌, ◌<◌, ◌≤◌, ◌^◌, ◌-ℤ◌, ◌+ℤ◌, ◌++◌, length, take, min, IfErr};
+ghost use Rattle.std.specs.Prelude.{OkIff};
+ghost use Rattle.std.specs.Char.{is_ascii_digit};
+ghost use Rattle.std.specs.List.{fold, prefix_len, All};
+ghost use Rattle.jzon_base.specs.Decimal.{signed};
+ghost use Rattle.jzon_base.specs.Digits.{IsDigit, add_digit, digits_number, kept, dropped, kept_fraction, clamp};
+ghost use Rattle.jzon_base.specs.Digits.{read_number};
+ghost use Rattle.jzon_base.specs.DigitLimits.{AreFewEnough, IsFirstTooMany, KeepsLongestPrefix};
+
+use crate::number::Number;
+
+mod eight;
+
+use eight::{EIGHT, leading_digits, ten_to};
+
+/// Any 19 digits fit in a `u64`.
+const ALWAYS_KEPT: usize = 19;
+
+/// The most digits before the point that may be dropped.
+const MAX_DROPPED: usize = 32767;
+
+/// The most digits after the point that may be kept.
+const MAX_KEPT_FRACTION: usize = 32768;
+
+/// A written exponent above this is clamped, whatever the digits are.
+const MAX_WRITTEN: u32 = 65536;
+
+/// The digit that exceeds a limit, by its position among the digits before or after the point.
+#[derive(Clone, Copy, Debug, PartialEq, Eq)]
+pub enum DigitFault {
+    /// The 32768th digit before the point that is dropped.
+    Whole(usize),
+    /// The 32769th digit after the point that is kept.
+    Fraction(usize),
+}
+
+/// The number written with the digits before the point, those after it and those of the exponent,
+/// and the signs of both. `number` is what `scan` returns for the digits before and after the
+/// point, one after the other. A missing part is empty; a missing exponent is 0. Returns a
+/// `DigitFault` if there are too many digits, whatever the exponent is.
+pub fn read_scanned(
+    positive: bool,
+    whole: &[u8],
+    fraction: &[u8],
+    number: u64,
+    positive_exponent: bool,
+    exponent: &[u8],
+) -> Result<Number, DigitFault>
+    requires whole { All IsDigit whole.now }
+    requires fraction { All IsDigit fraction.now }
+    requires number { number ≡ digits_number (whole.now ++ fraction.now) % 2 ^ 64 }
+    requires exponent { All IsDigit exponent.now }
+    ensures number { OkIff result (AreFewEnough whole.now fraction.now)
+        (read_number positive whole.now fraction.now
+        (signed positive_exponent (digits_number exponent.now))) }
+    ensures fault { IfErr result (IsFirstTooMany whole.now fraction.now) }
+{
+    let prefix = kept_prefix(whole, fraction, number);
+    if prefix.dropped > MAX_DROPPED {
+        return Err(DigitFault::Whole(whole.len() - prefix.dropped + MAX_DROPPED));
+    }
+    if prefix.kept_fraction > MAX_KEPT_FRACTION {
+        return Err(DigitFault::Fraction(MAX_KEPT_FRACTION));
+    }
+    let exponent = clamped_exponent(
+        prefix.dropped,
+        prefix.kept_fraction,
+        positive_exponent,
+        exponent,
+    );
+    Ok(Number::from_parts_unchecked(positive, prefix.number, exponent))
+}
+
+/// The number of leading digits, and the number that they spell when appended to `before`, modulo
+/// 2^64. `before` is itself reduced modulo 2^64.
+#[inline]
+pub fn scan(bytes: &[u8], before: u64) -> (usize, u64)
+    ensures count { result.0 ≡ prefix_len is_ascii_digit bytes.now }
+    ensures number { (n : ℕ) → before ≡ n % 2 ^ 64
+        → result.1 ≡ fold add_digit n (take result.0 bytes.now) % 2 ^ 64 }
+{
+    let mut len = 0;
+    let mut number = before;
+    while bytes.len() - len >= EIGHT {
+        let (count, next) = leading_digits(bytes, len);
+        number = number.wrapping_mul(ten_to(count)).wrapping_add(next);
+        len += count;
+        if count < EIGHT {
+            return (len, number);
+        }
+    }
+    let (count, number) = scan_by_bytes(&bytes[len..], number);
+    (len + count, number)
+}
+
+/// The same, one byte at a time.
+fn scan_by_bytes(bytes: &[u8], before: u64) -> (usize, u64)
+    ensures count { result.0 ≡ prefix_len is_ascii_digit bytes.now }
+    ensures number { (n : ℕ) → before ≡ n % 2 ^ 64
+        → result.1 ≡ fold add_digit n (take result.0 bytes.now) % 2 ^ 64 }
+{
+    let mut number = before;
+    for (i, byte) in bytes.iter().enumerate() {
+        if !byte.is_ascii_digit() {
+            return (i, number);
+        }
+        number = number
+            .wrapping_mul(10)
+            .wrapping_add(u64::from(*byte - b'0'));
+    }
+    (bytes.len(), number)
+}
+
+/// The longest prefix of the digits before and after the point that spells a number below 2^64.
+#[derive(Clone, Copy)]
+struct Prefix {
+    number: u64,
+    dropped: usize,
+    kept_fraction: usize,
+}
+
+fn kept_prefix(whole: &[u8], fraction: &[u8], number: u64) -> Prefix
+    requires whole { All IsDigit whole.now }
+    requires fraction { All IsDigit fraction.now }
+    requires number { number ≡ digits_number (whole.now ++ fraction.now) % 2 ^ 64 }
+    ensures number { result.number ≡ digits_number (kept (whole.now ++ fraction.now)) }
+    ensures dropped { result.dropped ≡ dropped whole.now fraction.now }
+    ensures kept { result.kept_fraction ≡ kept_fraction whole.now fraction.now }
+{
+    if whole.len() + fraction.len() <= ALWAYS_KEPT {
+        return Prefix {
+            number,
+            dropped: 0,
+            kept_fraction: fraction.len(),
+        };
+    }
+    searched_prefix(whole, fraction)
+}
+
+/// The same prefix, computed digit by digit.
+fn searched_prefix(whole: &[u8], fraction: &[u8]) -> Prefix
+    requires whole { All IsDigit whole.now }
+    requires fraction { All IsDigit fraction.now }
+    ensures number { result.number ≡ digits_number (kept (whole.now ++ fraction.now)) }
+    ensures dropped { result.dropped ≡ dropped whole.now fraction.now }
+    ensures kept { result.kept_fraction ≡ kept_fraction whole.now fraction.now }
+{
+    let (number, count) = longest_prefix(0, whole);
+    if count < whole.len() {
+        return Prefix {
+            number,
+            dropped: whole.len() - count,
+            kept_fraction: 0,
+        };
+    }
+    let (number, kept_fraction) = longest_prefix(number, fraction);
+    Prefix {
+        number,
+        dropped: 0,
+        kept_fraction,
+    }
+}
+
+/// Appends digits to `before` as long as the number stays below 2^64: the number and how many
+/// digits were appended.
+fn longest_prefix(before: u64, digits: &[u8]) -> (u64, usize)
+    requires { All IsDigit digits.now }
+    ensures number { result.0 ≡ fold add_digit before (take result.1 digits.now) }
+    ensures fits { result.0 < 2 ^ 64 }
+    ensures within { result.1 ≤ length digits.now }
+    ensures longest { result.1 < length digits.now
+        → 2 ^ 64 ≤ fold add_digit before (take (result.1 + 1) digits.now) }
+{
+    let mut number = before;
+    for (i, digit) in digits.iter().enumerate() {
+        let more = number
+            .checked_mul(10)
+            .and_then(|n| n.checked_add(u64::from(*digit - b'0')));
+        match more {
+            Some(n) => number = n,
+            None => return (number, i),
+        }
+    }
+    (number, digits.len())
+}
+
+/// The exponent from the dropped and kept digits and the written exponent, added exactly and
+/// clamped once.
+fn clamped_exponent(dropped: usize, kept_fraction: usize, positive: bool, written: &[u8]) -> i16
+    requires digits { All IsDigit written.now }
+    requires dropped { dropped ≤ 32767 }
+    requires kept { kept_fraction ≤ 32768 }
+    ensures { result ≡ clamp ((pos dropped -ℤ pos kept_fraction) +ℤ signed positive
+        (digits_number written.now)) }
+{
+    let written = capped_number(written) as i32;
+    let power = dropped as i32 - kept_fraction as i32;
+    if positive {
+        clamped(power + written)
+    } else {
+        clamped(power - written)
+    }
+}
+
+/// The number that the digits spell, at most `MAX_WRITTEN`.
+fn capped_number(digits: &[u8]) -> u32
+    requires { All IsDigit digits.now }
+    ensures { result ≡ min (digits_number digits.now) MAX_WRITTEN }
+{
+    let mut number = 0;
+    for digit in digits {
+        number = (number * 10 + u32::from(*digit - b'0')).min(MAX_WRITTEN);
+    }
+    number
+}
+
+fn clamped(sum: i32) -> i16
+    ensures { result ≡ clamp sum }
+{
+    sum.clamp(i32::from(i16::MIN), i32::from(i16::MAX)) as i16
+}
+
+/// A law on the definitions alone: the kept digits are the longest prefix that spells a number
+/// below 2^64, and each longer prefix spells 2^64 or more.
+pub fn keeps_longest_prefix()
+    ensures { KeepsLongestPrefix }
+{}

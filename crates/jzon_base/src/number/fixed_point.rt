@@ -1,0 +1,125 @@
+//! Numbers as fixed-point integers (docs/RULES.md, "Fixed-point readings").
+
+ghost use Rattle.std.specs.Prelude.{◌≡◌, pos, ◌/◌, ◌%◌, ◌==◌, ◌+ℤ◌, ◌<◌, ◌≤◌, ◌^◌, FitsSigned};
+ghost use Rattle.std.specs.Prelude.{IfSome, IsTrue, true};
+ghost use Rattle.std.specs.Int.{w64};
+ghost use Rattle.std.specs.Option.{SomeIff};
+ghost use Rattle.jzon_base.specs.Decimal.{fixed_point, unsigned_fixed_point, whole_part, SomeWhere};
+ghost use Rattle.jzon_base.specs.Decimal.{exact_fixed_point, exact_unsigned_fixed_point, is_whole};
+ghost use Rattle.jzon_base.specs.Decimal.{is_whole_at, integer_at};
+ghost use Rattle.jzon_base.specs.Decimal.{same, IsExactAt};
+
+use super::to_integer::with_sign;
+use super::{Number, times_power};
+
+impl Number {
+    /// `mantissa * 10 ^ (exponent + point)`, truncated to an integer. `None` for NaN, for a
+    /// negative sign, even of -0, and if it doesn't fit.
+    pub fn as_fixed_point_u64(&self, point: u16) -> Option<u64>
+        ensures { SomeWhere (unsigned_fixed_point self.now point) (λ n. n < 2 ^ 64) result }
+    {
+        if !self.is_sign_positive() {
+            return None;
+        }
+        let (_, mantissa, exponent) = self.as_parts();
+        whole_part(mantissa, exponent, point)
+    }
+
+    /// `mantissa * 10 ^ (exponent + point)`, truncated to an integer before the sign is applied.
+    /// `None` for NaN, and if it doesn't fit.
+    pub fn as_fixed_point_i64(&self, point: u16) -> Option<i64>
+        ensures { SomeWhere (fixed_point self.now point) (FitsSigned w64) result }
+    {
+        if self.is_nan() {
+            return None;
+        }
+        let (positive, mantissa, exponent) = self.as_parts();
+        with_sign(positive, whole_part(mantissa, exponent, point)?)
+    }
+
+    /// `mantissa * 10 ^ (exponent + point)`, if that is an integer: 12.30 at 2 is 1230, and 12.301
+    /// at 2 is `None`, since a digit would be lost. `None` also for NaN, for a negative sign, even
+    /// of -0, and if it doesn't fit.
+    pub fn as_exact_fixed_point_u64(&self, point: u16) -> Option<u64>
+        ensures number { SomeWhere (exact_unsigned_fixed_point self.now point)
+            (λ n. n < 2 ^ 64) result }
+        ensures equal { IfSome result (λ n. point ≤ 32768
+            → IsTrue (same self.now (integer_at (pos n) point))) }
+    {
+        if self.is_exact_at(point) {
+            self.as_fixed_point_u64(point)
+        } else {
+            None
+        }
+    }
+
+    /// `mantissa * 10 ^ (exponent + point)` with the sign, if that is an integer. `None` if a digit
+    /// would be lost, for NaN, and if it doesn't fit.
+    pub fn as_exact_fixed_point_i64(&self, point: u16) -> Option<i64>
+        ensures number { SomeWhere (exact_fixed_point self.now point) (FitsSigned w64) result }
+        ensures equal { IfSome result (λ n. point ≤ 32768
+            → IsTrue (same self.now (integer_at n point))) }
+    {
+        if self.is_exact_at(point) {
+            self.as_fixed_point_i64(point)
+        } else {
+            None
+        }
+    }
+
+    /// Whether the fixed-point readings at this point lose no digit.
+    fn is_exact_at(&self, point: u16) -> bool
+        ensures whole { result ≡ is_whole_at self.now point }
+        ensures exact { result ≡ true → IsExactAt self.now point }
+    {
+        if self.is_nan() {
+            return false;
+        }
+        let (_, mantissa, exponent) = self.as_parts();
+        is_whole(mantissa, exponent, point)
+    }
+}
+
+/// Whether `mantissa * 10 ^ (exponent + point)` is an integer.
+fn is_whole(mantissa: u64, exponent: i16, point: u16) -> bool
+    ensures { result ≡ is_whole mantissa (exponent +ℤ pos point) }
+{
+    let power = i32::from(exponent) + i32::from(point);
+    power >= 0 || is_multiple(mantissa, power.unsigned_abs())
+}
+
+/// `mantissa * 10 ^ (exponent + point)`, truncated to an integer, if it fits.
+fn whole_part(mantissa: u64, exponent: i16, point: u16) -> Option<u64>
+    ensures { let n = whole_part mantissa (exponent +ℤ pos point) in SomeIff result (n < 2 ^ 64) n }
+{
+    if mantissa == 0 {
+        return Some(0);
+    }
+    let power = i32::from(exponent) + i32::from(point);
+    if power < 0 {
+        Some(over_power(mantissa, power.unsigned_abs()))
+    } else {
+        times_power(mantissa, power as u32)
+    }
+}
+
+/// Whether `10 ^ power` divides the mantissa.
+fn is_multiple(mantissa: u64, power: u32) -> bool
+    ensures { result ≡ (mantissa % 10 ^ power == 0) }
+{
+    match 10u64.checked_pow(power) {
+        Some(divisor) => mantissa % divisor == 0,
+        None => mantissa == 0,
+    }
+}
+
+/// `mantissa / 10 ^ power`, which is 0 if `10 ^ power` doesn't fit.
+#[tactic(auto, using(crate::proofs::Scaled::over_rules))]
+fn over_power(mantissa: u64, power: u32) -> u64
+    ensures { result ≡ mantissa / 10 ^ power }
+{
+    match 10u64.checked_pow(power) {
+        Some(divisor) => mantissa / divisor,
+        None => 0,
+    }
+}

@@ -1,0 +1,157 @@
+//! Numbers as integers (docs/RULES.md, "Integer readings"). Only a number of exponent 0 is one:
+//! `5e2` isn't.
+
+ghost use Rattle.std.specs.Prelude.{◌≡◌, ◌<◌, ◌^◌, FitsSigned};
+ghost use Rattle.std.specs.Int.{w8, w16, w32, w64};
+ghost use Rattle.std.specs.Option.{SomeIff};
+ghost use Rattle.jzon_base.specs.Decimal.{integer_of, signed, unsigned_of, OkWhere, SomeWhere};
+
+use super::Number;
+
+/// The number isn't an integer of the type.
+#[derive(Clone, Copy, Debug, PartialEq)]
+pub struct NumberOutOfScope;
+
+impl Number {
+    /// The mantissa, if the sign is positive and the exponent is 0.
+    fn unsigned(self) -> Option<u64>
+        ensures { result ≡ unsigned_of self }
+    {
+        match self.as_parts() {
+            (true, mantissa, 0) => Some(mantissa),
+            _ => None,
+        }
+    }
+
+    /// The mantissa with its sign, if the exponent is 0.
+    fn signed(self) -> Option<i64>
+        ensures { SomeWhere (integer_of self) (FitsSigned w64) result }
+    {
+        if self.is_nan() {
+            return None;
+        }
+        match self.as_parts() {
+            (positive, mantissa, 0) => with_sign(positive, mantissa),
+            _ => None,
+        }
+    }
+}
+
+/// The magnitude with a sign, if it fits.
+pub(super) fn with_sign(positive: bool, magnitude: u64) -> Option<i64>
+    ensures { let z = signed positive magnitude in SomeIff result (FitsSigned w64 z) z }
+{
+    if positive {
+        i64::try_from(magnitude).ok()
+    } else {
+        0i64.checked_sub_unsigned(magnitude)
+    }
+}
+
+impl TryFrom<Number> for u8 {
+    type Error = NumberOutOfScope;
+
+    ghost try_from_gives = { λ number r. OkWhere (unsigned_of number) (λ n. n < 2 ^ 8) r };
+
+    fn try_from(value: Number) -> Result<u8, NumberOutOfScope> {
+        let integer = value.unsigned().ok_or(NumberOutOfScope)?;
+        u8::try_from(integer).map_err(|_| NumberOutOfScope)
+    }
+}
+
+impl TryFrom<Number> for u16 {
+    type Error = NumberOutOfScope;
+
+    ghost try_from_gives = { λ number r. OkWhere (unsigned_of number) (λ n. n < 2 ^ 16) r };
+
+    fn try_from(value: Number) -> Result<u16, NumberOutOfScope> {
+        let integer = value.unsigned().ok_or(NumberOutOfScope)?;
+        u16::try_from(integer).map_err(|_| NumberOutOfScope)
+    }
+}
+
+impl TryFrom<Number> for u32 {
+    type Error = NumberOutOfScope;
+
+    ghost try_from_gives = { λ number r. OkWhere (unsigned_of number) (λ n. n < 2 ^ 32) r };
+
+    fn try_from(value: Number) -> Result<u32, NumberOutOfScope> {
+        let integer = value.unsigned().ok_or(NumberOutOfScope)?;
+        u32::try_from(integer).map_err(|_| NumberOutOfScope)
+    }
+}
+
+impl TryFrom<Number> for u64 {
+    type Error = NumberOutOfScope;
+
+    ghost try_from_gives = { λ number r. OkWhere (unsigned_of number) (λ n. n < 2 ^ 64) r };
+
+    fn try_from(value: Number) -> Result<u64, NumberOutOfScope> {
+        value.unsigned().ok_or(NumberOutOfScope)
+    }
+}
+
+impl TryFrom<Number> for usize {
+    type Error = NumberOutOfScope;
+
+    ghost try_from_gives = { λ number r. OkWhere (unsigned_of number) (λ n. n < 2 ^ 64) r };
+
+    fn try_from(value: Number) -> Result<usize, NumberOutOfScope> {
+        let integer = value.unsigned().ok_or(NumberOutOfScope)?;
+        usize::try_from(integer).map_err(|_| NumberOutOfScope)
+    }
+}
+
+impl TryFrom<Number> for i8 {
+    type Error = NumberOutOfScope;
+
+    ghost try_from_gives = { λ number r. OkWhere (integer_of number) (FitsSigned w8) r };
+
+    fn try_from(value: Number) -> Result<i8, NumberOutOfScope> {
+        let integer = value.signed().ok_or(NumberOutOfScope)?;
+        i8::try_from(integer).map_err(|_| NumberOutOfScope)
+    }
+}
+
+impl TryFrom<Number> for i16 {
+    type Error = NumberOutOfScope;
+
+    ghost try_from_gives = { λ number r. OkWhere (integer_of number) (FitsSigned w16) r };
+
+    fn try_from(value: Number) -> Result<i16, NumberOutOfScope> {
+        let integer = value.signed().ok_or(NumberOutOfScope)?;
+        i16::try_from(integer).map_err(|_| NumberOutOfScope)
+    }
+}
+
+impl TryFrom<Number> for i32 {
+    type Error = NumberOutOfScope;
+
+    ghost try_from_gives = { λ number r. OkWhere (integer_of number) (FitsSigned w32) r };
+
+    fn try_from(value: Number) -> Result<i32, NumberOutOfScope> {
+        let integer = value.signed().ok_or(NumberOutOfScope)?;
+        i32::try_from(integer).map_err(|_| NumberOutOfScope)
+    }
+}
+
+impl TryFrom<Number> for i64 {
+    type Error = NumberOutOfScope;
+
+    ghost try_from_gives = { λ number r. OkWhere (integer_of number) (FitsSigned w64) r };
+
+    fn try_from(value: Number) -> Result<i64, NumberOutOfScope> {
+        value.signed().ok_or(NumberOutOfScope)
+    }
+}
+
+impl TryFrom<Number> for isize {
+    type Error = NumberOutOfScope;
+
+    ghost try_from_gives = { λ number r. OkWhere (integer_of number) (FitsSigned w64) r };
+
+    fn try_from(value: Number) -> Result<isize, NumberOutOfScope> {
+        let integer = value.signed().ok_or(NumberOutOfScope)?;
+        isize::try_from(integer).map_err(|_| NumberOutOfScope)
+    }
+}

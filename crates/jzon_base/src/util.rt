@@ -1,0 +1,32 @@
+//! What the crates share: the write loop, the text of a number, copies of numbers, escapes, and runs
+//! of plain bytes.
+
+ghost use Rattle.std.specs.Prelude.{OnOk, OnErr};
+ghost use Rattle.std.specs.Io.KnownBytes.{Appends};
+ghost use Rattle.jzon_base.specs.Written.{AppendsBeginning};
+
+use std::io;
+use std::io::Write;
+
+pub mod copies;
+pub mod escapes;
+pub mod plain;
+pub mod print_dec;
+
+/// Writes all bytes, and returns each error of the writer: also `Interrupted`, and `WriteZero` for
+/// a write of 0 bytes. After an error a prefix of the bytes is written.
+pub fn write_bytes<W: Write>(writer: &mut W, bytes: &[u8]) -> io::Result<()>
+    ensures ok { OnOk result (Appends (W.contents writer.old) (W.contents writer.new) bytes.now) }
+    ensures err { OnErr result
+        (AppendsBeginning (W.contents writer.old) (W.contents writer.new) bytes.now) }
+{
+    let mut written = 0;
+    while written < bytes.len() {
+        let count = writer.write(&bytes[written..])?;
+        if count == 0 {
+            return Err(io::Error::from(io::ErrorKind::WriteZero));
+        }
+        written += count;
+    }
+    Ok(())
+}

@@ -1,0 +1,262 @@
+//! The text of a number (docs/RULES.md, "Printed numbers"; RFC 8259, section 6).
+
+ghost use Rattle.std.specs.Prelude.{◌≡◌, negsuc, ◌+◌, ◌-◌, ◌≤◌, ◌<◌, ◌++◌, length, take, drop, replicate, decimal};
+ghost use Rattle.std.specs.Prelude.{IsAscii, IsTrue, false, OnOk, OnErr, vec_len, vec_capacity};
+ghost use Rattle.std.specs.Io.KnownBytes.{Appends};
+ghost use Rattle.arrayvec.specs.ArrayString.{array_string_len};
+ghost use Rattle.jzon_base.specs.NumberText.{sign_text, point_after, point_after_first, fraction_text};
+ghost use Rattle.jzon_base.specs.NumberText.{small_exponent_text, magnitude_text, number_text};
+ghost use Rattle.jzon_base.specs.Written.{AppendsBeginning};
+
+use crate::util::write_bytes;
+use arrayvec::ArrayString;
+use itoa::{Buffer, write_digits};
+use std::io;
+use std::io::Write;
+
+/// The most bytes in the text of a number.
+pub const MAX_LEN: usize = 29;
+
+/// The room that `push_digits` needs: two stores fill it; a sign, 20 digits and a point take 22.
+const DIGITS_ROOM: usize = 32;
+
+type NumberText = ArrayString<MAX_LEN>;
+
+/// Writes the text of the number `n * 10 ^ exponent` with its sign. An error of the writer is
+/// returned; a prefix of the text is then written.
+pub fn write<W: Write>(wr: &mut W, positive: bool, n: u64, exponent: i16) -> io::Result<()>
+    ensures ok { OnOk result
+        (Appends (W.contents wr.old) (W.contents wr.new) (number_text positive n exponent)) }
+    ensures err { OnErr result
+        (AppendsBeginning (W.contents wr.old) (W.contents wr.new)
+        (number_text positive n exponent)) }
+{
+    let mut room = [0; MAX_LEN];
+    let start = put(&mut room, positive, n, exponent);
+    write_bytes(wr, &room[start..])
+}
+
+/// Adds the text of the number if it is the mantissa's digits, with at most a minus before them and
+/// a point before the last 1 to 17, and there is room, and returns whether it did. Otherwise, and
+/// for 0, nothing is added.
+#[doc(hidden)]
+#[inline(always)]
+pub fn push_digits(bytes: &mut Vec<u8>, positive: bool, mantissa: u64, exponent: i16) -> bool
+    ensures done { IsTrue result → bytes.new.items
+        ≡ bytes.old.items ++ number_text positive mantissa exponent }
+    ensures some { IsTrue result → 0 < mantissa }
+    ensures left { result ≡ false → bytes.new.items ≡ bytes.old.items }
+{
+    let is_common = mantissa != 0 && exponent <= 0 && -17 <= exponent;
+    if !is_common || bytes.capacity() - bytes.len() < DIGITS_ROOM {
+        return false;
+    }
+    if exponent == 0 {
+        push_after_minuses(bytes, usize::from(!positive), mantissa);
+        return true;
+    }
+    push_decimal(bytes, positive, mantissa, exponent.unsigned_abs() as usize)
+}
+
+/// Adds the sign and the digits of a number, with a point before the last `places`, if a digit
+/// precedes it, and returns whether it did. Otherwise nothing is added.
+fn push_decimal(bytes: &mut Vec<u8>, positive: bool, n: u64, places: usize) -> bool
+    requires some { 0 < n }
+    requires places { (0 < places) × (places ≤ 17) }
+    requires reserved { vec_len bytes.old + DIGITS_ROOM ≤ vec_capacity bytes.old }
+    ensures done { IsTrue result → bytes.new.items
+        ≡ bytes.old.items ++ (sign_text positive ++ fraction_text (decimal n) places) }
+    ensures left { result ≡ false → bytes.new.items ≡ bytes.old.items }
+{
+    if n.ilog10() as usize + 1 <= places {
+        return false;
+    }
+    let start = bytes.len() + usize::from(!positive);
+    push_after_minuses(bytes, usize::from(!positive) + 1, n);
+    let point = bytes.len() - places;
+    put_point(bytes.as_mut_slice(), start + 1, point);
+    true
+}
+
+/// Adds `minuses` minuses and the digits of `n`, which overwrite more minuses; the rest is
+/// truncated.
+#[inline(always)]
+fn push_after_minuses(bytes: &mut Vec<u8>, minuses: usize, n: u64)
+    requires some { 0 < n }
+    requires minuses { minuses ≤ 2 }
+    requires reserved { vec_len bytes.old + DIGITS_ROOM ≤ vec_capacity bytes.old }
+    ensures { bytes.new.items ≡ bytes.old.items ++ (replicate minuses 45 ++ decimal n) }
+{
+    let end = bytes.len() + minuses + n.ilog10() as usize + 1;
+    push_minuses(bytes, DIGITS_ROOM);
+    write_digits(n, bytes.as_mut_slice(), end);
+    bytes.truncate(end);
+}
+
+/// Adds `count` minuses, for which there is room.
+#[inline(always)]
+fn push_minuses(bytes: &mut Vec<u8>, count: usize)
+    requires { vec_len bytes.old + count ≤ vec_capacity bytes.old }
+    ensures { bytes.new.items ≡ bytes.old.items ++ replicate count 45 }
+{
+    let len = bytes.len() + count;
+    let Ok(()) = bytes.resize(len, b'-') else {
+        unreachable!()
+    };
+}
+
+/// Puts the text of the number `n * 10 ^ exponent` with its sign at the end of the buffer, and
+/// returns the offset at which it begins.
+pub fn put(room: &mut [u8; MAX_LEN], positive: bool, n: u64, exponent: i16) -> usize
+    ensures start { result ≤ MAX_LEN }
+    ensures text { drop result room.new ≡ number_text positive n exponent }
+{
+    let text = number_text(positive, n, exponent);
+    let start = MAX_LEN - text.len();
+    room[start..].copy_from_slice(text.as_str().as_bytes());
+    start
+}
+
+/// Moves the bytes from `start` up to `point` one byte to the left, and puts a point after them.
+fn put_point(room: &mut [u8], start: usize, point: usize)
+    requires some { 0 < start }
+    requires order { start < point }
+    requires within { point ≤ length room.old }
+    ensures before { take (start - 1) room.new ≡ take (start - 1) room.old }
+    ensures point { drop (start - 1) room.new ≡ point_after (point - start) (drop start room.old) }
+    ensures len { length room.new ≡ length room.old }
+{
+    room.copy_within(start..point, start - 1);
+    room[point - 1] = b'.';
+}
+
+/// The whole text of a number.
+#[tactic(auto, using(std::proofs::lemmas::Fmt::decimal_nonempty))]
+pub(crate) fn number_text(positive: bool, mantissa: u64, exponent: i16) -> NumberText
+    ensures { result.bytes ≡ number_text positive mantissa exponent }
+{
+    let mut text = NumberText::new();
+    if !positive {
+        text.push('-');
+    }
+    if mantissa == 0 {
+        text.push('0');
+    } else {
+        let mut buffer = Buffer::new();
+        push_magnitude(&mut text, buffer.format(mantissa), exponent);
+    }
+    text
+}
+
+fn push_magnitude(text: &mut NumberText, digits: &str, exponent: i16)
+    requires ascii { IsAscii digits.now }
+    requires some { 0 < length digits.now }
+    requires digits { length digits.now ≤ 20 }
+    requires start { array_string_len text.old ≤ 1 }
+    ensures { text.new.bytes ≡ text.old.bytes ++ magnitude_text digits.now exponent }
+{
+    let size = exponent.unsigned_abs() as usize;
+    if exponent < 0 {
+        push_negative_power(text, digits, size);
+    } else if exponent == 0 {
+        text.push_str(digits);
+    } else if digits.len() + size <= 20 {
+        text.push_str(digits);
+        push_zeros(text, size);
+    } else {
+        push_point_after_first(text, digits);
+        text.push('e');
+        let mut buffer = Buffer::new();
+        text.push_str(buffer.format((size + digits.len() - 1) as u16));
+    }
+}
+
+/// The digits divided by `10 ^ places`: with an exponent if `places` is above 17 and the exponent
+/// isn't 0.
+fn push_negative_power(text: &mut NumberText, digits: &str, places: usize)
+    requires ascii { IsAscii digits.now }
+    requires some { 0 < length digits.now }
+    requires digits { length digits.now ≤ 20 }
+    requires start { array_string_len text.old ≤ 1 }
+    requires negative { 0 < places }
+    requires places { places ≤ 32768 }
+    ensures { text.new.bytes ≡ text.old.bytes ++ magnitude_text digits.now (negsuc (places - 1)) }
+{
+    if places <= 17 {
+        push_fraction(text, digits, places);
+    } else {
+        push_point_after_first(text, digits);
+        push_small_exponent(text, digits.len(), places);
+    }
+}
+
+/// The digits divided by `10 ^ places`, without an exponent.
+fn push_fraction(text: &mut NumberText, digits: &str, places: usize)
+    requires ascii { IsAscii digits.now }
+    requires places { places ≤ 17 }
+    requires start { array_string_len text.old ≤ 1 }
+    requires digits { length digits.now ≤ 20 }
+    ensures { text.new.bytes ≡ text.old.bytes ++ fraction_text digits.now places }
+{
+    let count = digits.len();
+    if count > places {
+        push_point_after(text, digits, count - places);
+    } else {
+        text.push_str("0.");
+        push_zeros(text, places - count);
+        text.push_str(digits);
+    }
+}
+
+/// The exponent of `count` digits divided by `10 ^ places`, of which one is before the point;
+/// nothing where it is 0.
+fn push_small_exponent(text: &mut NumberText, count: usize, places: usize)
+    requires count { count ≤ 20 }
+    requires small { 18 ≤ places }
+    requires places { places ≤ 32768 }
+    requires room { array_string_len text.old + 7 ≤ 29 }
+    ensures { text.new.bytes ≡ text.old.bytes ++ small_exponent_text count places }
+{
+    if count == places + 1 {
+        return;
+    }
+    if count == places + 2 {
+        text.push_str("e+1");
+        return;
+    }
+    let mut buffer = Buffer::new();
+    text.push_str("e-");
+    text.push_str(buffer.format((places + 1 - count) as u16));
+}
+
+fn push_point_after_first(text: &mut NumberText, digits: &str)
+    requires ascii { IsAscii digits.now }
+    requires room { array_string_len text.old + length digits.now + 1 ≤ 29 }
+    ensures { text.new.bytes ≡ text.old.bytes ++ point_after_first digits.now }
+{
+    if digits.len() > 1 {
+        push_point_after(text, digits, 1);
+    } else {
+        text.push_str(digits);
+    }
+}
+
+fn push_point_after(text: &mut NumberText, digits: &str, whole: usize)
+    requires ascii { IsAscii digits.now }
+    requires within { whole ≤ length digits.now }
+    requires room { array_string_len text.old + length digits.now + 1 ≤ 29 }
+    ensures { text.new.bytes ≡ text.old.bytes ++ point_after whole digits.now }
+{
+    text.push_str(&digits[..whole]);
+    text.push('.');
+    text.push_str(&digits[whole..]);
+}
+
+fn push_zeros(text: &mut NumberText, count: usize)
+    requires { array_string_len text.old + count ≤ 29 }
+    ensures { text.new.bytes ≡ text.old.bytes ++ replicate count 48 }
+{
+    for _ in 0..count {
+        text.push('0');
+    }
+}

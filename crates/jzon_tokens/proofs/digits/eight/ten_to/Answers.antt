@@ -1,8 +1,0 @@
-use Rattle.std.proofs.Common.{◌^◌, eqb, get_or, true, refl, arith}
-use Rattle.std.proofs.lemmas.Bool.{agree_below_at, eqb-true}
-use Rattle.jzon_tokens.specs.declared.digits.eight.TheConstants.{POWERS_OF_TEN}
-use Rattle.jzon_tokens.proofs.digits.eight.ten_to.Goals as goal
-
-pub returns : goal.returns
-returns c = eqb-true _ _
-    (agree_below_at (λ n. eqb (get_or POWERS_OF_TEN n 0) (10 ^ n)) (λ _. true) 9 c.args.n refl (omega arith))

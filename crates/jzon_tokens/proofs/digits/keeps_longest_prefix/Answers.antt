@@ -1,5 +1,0 @@
-use Rattle.jzon_tokens.proofs.Kept.{kept_len_is_longest}
-use Rattle.jzon_tokens.proofs.digits.keeps_longest_prefix.Goals as goal
-
-pub returns : goal.returns
-returns c = kept_len_is_longest

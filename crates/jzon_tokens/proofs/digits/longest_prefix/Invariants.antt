@@ -1,7 +1,0 @@
-use Rattle.std.proofs.Common.{◌≡◌, take, ◌<◌, ◌^◌}
-use Rattle.std.specs.List.{fold}
-use Rattle.jzon_tokens.specs.Digits.{add_digit}
-use Rattle.jzon_tokens.proofs.digits.longest_prefix.Given as goal
-
-abbrev pub invariant-loop-i : goal.invariant-loop-i
-invariant-loop-i l = (l.number ≡ fold add_digit l.before (take l.i l.digits)) × (l.number < 2 ^ 64)

@@ -1,4 +1,0 @@
--- Private definitions: how the code relates to those that public clauses cite. No public clause of `jzon` cites them.
-pub mod NumberFields
-pub mod PlainBytes
-pub mod Same
