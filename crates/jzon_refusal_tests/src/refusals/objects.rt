@@ -3,6 +3,8 @@
 use super::*;
 use jzon::lent::{write_at, write_at_index};
 use jzon::object::{Key, Object};
+use jzon_tree::object::Builder;
+use std::alloc::AllocError;
 
 #[derive(Clone, Copy)]
 enum OfObject {
@@ -11,15 +13,20 @@ enum OfObject {
     AtMut,
     Clone,
     FromPairs,
+    FromBuilder,
+    Collected,
+    StdClone,
     WriteAt,
     WriteAtIndex,
     Key(&'static str),
+    KeyClone,
 }
 
 fn change(object: &mut Object, call: OfObject, alloc: Global) -> Result<()> {
     match call {
         OfObject::Insert => object.insert(alloc, LONG_KEY, JsonValue::Null)?,
         OfObject::Clone => *object = object.clone(alloc)?,
+        OfObject::StdClone => *object = Clone::clone(object)?,
         _ => {
             object.at_mut(alloc, LONG_KEY)?;
         }
@@ -32,6 +39,25 @@ fn pairs(alloc: Global) -> Result<JsonValue> {
     Ok(JsonValue::Object(Object::from_pairs(alloc, pairs.into_iter())?))
 }
 
+/// The builder has more room than its entries need, and fits it at the end.
+fn built(alloc: Global) -> Result<JsonValue> {
+    let mut builder = Builder::with_capacity(alloc, 4)?;
+    builder.push(alloc, Key::new(alloc, LONG_KEY)?, JsonValue::Null)?;
+    Ok(JsonValue::Object(Object::from_builder(alloc, builder)?))
+}
+
+fn collected(alloc: Global) -> std::result::Result<JsonValue, AllocError> {
+    let pairs = [("a", LONG_TEXT), ("b", ""), ("a", "")];
+    let object: Object = pairs.into_iter().collect(alloc)?;
+    Ok(JsonValue::Object(object))
+}
+
+fn cloned_key(alloc: Global) -> Result<JsonValue> {
+    let key = Key::new(alloc, LONG_KEY)?;
+    let copy = key.clone(alloc)?;
+    Ok(JsonValue::String(copy.into_string(alloc)?))
+}
+
 fn key_text(alloc: Global, text: &str) -> Result<JsonValue> {
     let key = Key::new(alloc, text)?;
     Ok(JsonValue::String(key.into_string(alloc)?))
@@ -42,10 +68,13 @@ impl Call for OfObject {
         match self {
             OfObject::WithCapacity => *value = JsonValue::Object(Object::with_capacity(alloc, 3)?),
             OfObject::FromPairs => *value = pairs(alloc)?,
+            OfObject::FromBuilder => *value = built(alloc)?,
+            OfObject::Collected => *value = collected(alloc)?,
+            OfObject::KeyClone => *value = cloned_key(alloc)?,
             OfObject::WriteAt => write_at(value, alloc, LONG_KEY, JsonValue::Null)?,
             OfObject::WriteAtIndex => write_at_index(value, alloc, 1, JsonValue::Null)?,
             OfObject::Key(text) => *value = key_text(alloc, text)?,
-            OfObject::Insert | OfObject::AtMut | OfObject::Clone => {
+            OfObject::Insert | OfObject::AtMut | OfObject::Clone | OfObject::StdClone => {
                 if let JsonValue::Object(object) = value {
                     change(object, self, alloc)?;
                 }
@@ -83,6 +112,27 @@ fn objects_under_refusals(rt: HostRuntime) -> Tested {
             "{\"a\":3,\"b\":2}",
             2,
         ),
+        case(
+            OfObject::StdClone,
+            "std's Clone of an object",
+            LONG_DOCUMENT,
+            LONG_DOCUMENT,
+            7,
+        ),
+        case(
+            OfObject::FromBuilder,
+            "Object::from_builder",
+            "null",
+            KEYED,
+            4,
+        ),
+        case(
+            OfObject::Collected,
+            "collect",
+            "null",
+            "{\"a\":\"\",\"b\":\"\"}",
+            3,
+        ),
         case(OfObject::WriteAt, "write_at", "5", KEYED, 3),
         case(
             OfObject::WriteAtIndex,
@@ -97,6 +147,13 @@ fn objects_under_refusals(rt: HostRuntime) -> Tested {
             "null",
             "\"0123456789abcdef0123456789abcdef01234567\"",
             1,
+        ),
+        case(
+            OfObject::KeyClone,
+            "Key::clone",
+            "null",
+            "\"0123456789abcdef0123456789abcdef01234567\"",
+            2,
         ),
         case(
             OfObject::Key("inline"),

@@ -1,8 +1,9 @@
-//! What is printed into a sink that has room for it: nothing is allocated.
+//! What is printed into a sink, or put into an object, that has room for it: nothing is allocated.
 
 use super::*;
 use jzon::codegen::{PrettyWriterGenerator, WriterGenerator, write_json};
-use jzon_test_support::{DOCUMENT, DUMP, PRETTY};
+use jzon::object::Object;
+use jzon_test_support::{DOCUMENT, DUMP, PRETTY, keys_by_hash};
 use std::fmt;
 use std::fmt::Write;
 
@@ -124,5 +125,37 @@ fn room_under_refusals(rt: HostRuntime) -> Tested {
         fail_each_of(&rt, rt.alloc(), row, 0)?.report(&rt, row.1, 1)?;
         fail_each_of(&rt, rt.alloc(), row, 256)?.expect_even()?;
     }
+    Ok(())
+}
+
+/// Puts each of these keys with null.
+fn fill(object: &mut Object, alloc: Global, keys: &[String]) -> Result<()> {
+    for key in keys {
+        object.insert(alloc, key.as_str(), JsonValue::Null)?;
+    }
+    Ok(())
+}
+
+/// An object with room for a hundred members takes them without an allocation, but not one more.
+#[test]
+fn capacity_under_refusals(rt: HostRuntime) -> Tested {
+    let alloc = rt.alloc();
+    let keys = keys_by_hash(alloc, 100)?;
+    let mut object = Object::with_capacity(alloc, 100)?;
+    let mut refusals = Refusals::new(alloc);
+    refusals.begin();
+    let filled = fill(&mut object, alloc, &keys);
+    assert!(rt; !refusals.has_failed() && filled.is_ok());
+    assert_eq!(rt; object.len(), 100);
+    for _ in 0..RUNS_MAX {
+        refusals.begin();
+        let result = object.insert(alloc, "one more", JsonValue::Null);
+        if !refusals.has_failed() {
+            assert!(rt; result.is_ok());
+            break;
+        }
+        assert!(rt; matches!(result, Err(Error::OutOfMemory)) && object.len() == 100);
+    }
+    refusals.report(&rt, "Object::insert past the room", 2)?;
     Ok(())
 }

@@ -1,7 +1,7 @@
 //! What is printed into memory.
 
 use super::*;
-use jzon::codegen::{DumpGenerator, PrettyGenerator, write_json};
+use jzon::codegen::{Compact, DumpGenerator, Pretty, PrettyGenerator, write_json};
 use std::io;
 use std::io::ErrorKind;
 
@@ -11,10 +11,13 @@ enum Writing {
     Pretty,
     ObjectDump,
     ObjectPretty,
+    LayOut,
+    PrettyLayOut,
     DumpGenerator,
     PrettyGenerator,
     Write,
     WritePretty,
+    WriteLayout,
 }
 
 /// The result of a writer in memory, whose one error is a failed allocation.
@@ -71,6 +74,12 @@ fn pretty_written(value: &JsonValue, alloc: Global) -> Result<String> {
     text_of(bytes)
 }
 
+fn laid_out(value: &JsonValue, alloc: Global) -> Result<String> {
+    let mut bytes = Vec::new(alloc);
+    of_memory(value.write_layout(&mut bytes, Pretty(2)))?;
+    text_of(bytes)
+}
+
 impl Call for Writing {
     fn call(self, value: &mut JsonValue, alloc: Global) -> Result<()> {
         let text = match self {
@@ -78,10 +87,13 @@ impl Call for Writing {
             Writing::Pretty => value.pretty(alloc, 2)?,
             Writing::ObjectDump => dump_of(value, alloc)?,
             Writing::ObjectPretty => pretty_of(value, alloc)?,
+            Writing::LayOut => value.lay_out(alloc, Compact)?,
+            Writing::PrettyLayOut => value.lay_out(alloc, Pretty(2))?,
             Writing::DumpGenerator => dumped(value, alloc)?,
             Writing::PrettyGenerator => prettified(value, alloc)?,
             Writing::Write => written(value, alloc)?,
             Writing::WritePretty => pretty_written(value, alloc)?,
+            Writing::WriteLayout => laid_out(value, alloc)?,
         };
         *value = JsonValue::String(text);
         Ok(())
@@ -108,6 +120,14 @@ fn written_under_refusals(rt: HostRuntime) -> Tested {
             ON_LINES,
             1,
         ),
+        case(Writing::LayOut, "lay_out", NUMBERS, ON_ONE_LINE, 1),
+        case(
+            Writing::PrettyLayOut,
+            "lay_out on lines",
+            NUMBERS,
+            ON_LINES,
+            1,
+        ),
         case(
             Writing::DumpGenerator,
             "DumpGenerator",
@@ -124,6 +144,7 @@ fn written_under_refusals(rt: HostRuntime) -> Tested {
         ),
         case(Writing::Write, "write", NUMBERS, ON_ONE_LINE, 1),
         case(Writing::WritePretty, "write_pretty", NUMBERS, ON_LINES, 1),
+        case(Writing::WriteLayout, "write_layout", NUMBERS, ON_LINES, 1),
     ];
     for row in &rows {
         fail_each(&rt, rt.alloc(), row)?;
