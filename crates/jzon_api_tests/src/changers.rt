@@ -98,6 +98,7 @@ fn removes_elements(rt: HostRuntime) -> Tested {
         ("[1,2,3]", 0, "1", "[2,3]"),
         ("[1,2,3]", 1, "2", "[1,3]"),
         ("[1,2]", 2, "null", "[1,2]"),
+        ("[1,2]", 5, "null", "[1,2]"),
         ("7", 0, "null", "7"),
         ("{\"a\":1}", 0, "null", "{\"a\":1}"),
     ];
@@ -190,4 +191,13 @@ fn fails_on_another_kind(rt: HostRuntime) -> Tested {
         expect_dump(&rt, rt.alloc(), &value, text)?;
     }
     Ok(())
+}
+
+#[test]
+fn pushes_to_arrays_alone(rt: HostRuntime) -> Tested {
+    let alloc = rt.alloc();
+    let mut value = parse(alloc, "5")?;
+    let result = value.push(alloc, 1);
+    expect_failed(&rt, alloc, result, "Wrong type, expected: Array")?;
+    expect_dump(&rt, alloc, &value, "5")
 }

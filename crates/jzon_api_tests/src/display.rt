@@ -126,12 +126,45 @@ fn stops_where_the_formatter_fails(rt: HostRuntime) -> Result<(), Fail> {
     Ok(())
 }
 
+/// What is shown with flags, a width, a fill or a precision: one text for each.
+fn shown_with_flags(alloc: Global, value: &JsonValue) -> Result<[String; 8], Fail> {
+    Ok([
+        format!(in alloc; "{value:#}")?,
+        format!(in alloc; "{value:+}")?,
+        format!(in alloc; "{value:40}")?,
+        format!(in alloc; "{value:>40}")?,
+        format!(in alloc; "{value:^40}")?,
+        format!(in alloc; "{value:*<40}")?,
+        format!(in alloc; "{value:040}")?,
+        format!(in alloc; "{value:.1}")?,
+    ])
+}
+
 #[test]
 fn ignores_width_fill_and_the_alternate_form(rt: HostRuntime) -> Result<(), Fail> {
     let alloc = rt.alloc();
-    let value = parse(alloc, "[1]")?;
-    assert_eq!(rt; format!(in alloc; "{value:#}")?.as_str(), "[1]");
-    assert_eq!(rt; format!(in alloc; "{value:>9}")?.as_str(), "[1]");
-    assert_eq!(rt; format!(in alloc; "{value:*<9}")?.as_str(), "[1]");
+    let texts = [
+        "null",
+        "true",
+        "false",
+        "0",
+        "7",
+        "-12.50",
+        "\"\"",
+        "\"ab\"",
+        "\"abcdefghijklmnopqrstuvwxyz01234\"",
+        "[]",
+        "[1]",
+        "[\"ab\",-7,null,true]",
+        "{}",
+        "{\"ab\":[1],\"c\":\"d\"}",
+    ];
+    for text in texts {
+        let value = parse(alloc, text)?;
+        let plain = shown(alloc, text)?;
+        for with_flags in &shown_with_flags(alloc, &value)? {
+            assert!(rt; with_flags.as_str() == plain.as_str(), "{text}");
+        }
+    }
     Ok(())
 }

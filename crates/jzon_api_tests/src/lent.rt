@@ -96,22 +96,43 @@ fn makes_elements(rt: HostRuntime) -> Tested {
     Ok(())
 }
 
-/// It is no container: there is nothing in it to borrow.
-fn borrow_nothing(rt: &impl Abort, mut value: JsonValue) {
-    assert!(rt; value.get_mut("a").is_none());
-    assert!(rt; value.as_object_mut().is_none());
-    assert!(rt; value.as_array_mut().is_none());
-    assert_eq!(rt; value.members_mut().len(), 0);
-    assert_eq!(rt; value.entries_mut().len(), 0);
+/// There is nothing of another kind in it to borrow: of an object no elements, of an array no
+/// entries, of any other value nothing. What isn't borrowed leaves the value as it was.
+fn borrow_nothing(rt: &impl Abort, alloc: Global, text: &str) -> Tested {
+    let mut value = parse(alloc, text)?;
+    if !value.is_object() {
+        assert!(rt; value.get_mut("a").is_none() && value.as_object_mut().is_none());
+        assert!(rt; value.entries_mut().next().is_none(), "{text}");
+    }
+    if !value.is_array() {
+        assert!(rt; value.as_array_mut().is_none());
+        assert!(rt; value.members_mut().next().is_none(), "{text}");
+    }
+    assert!(rt; value == parse(alloc, text)?, "{text}");
+    expect_dump(rt, alloc, &value, text)
 }
 
 #[test]
 fn borrows_nothing_of_another_kind(rt: HostRuntime) -> Tested {
-    for text in ["null", "\"a\"", "1", "true"] {
-        borrow_nothing(&rt, parse(rt.alloc(), text)?);
+    let texts = [
+        "null",
+        "true",
+        "false",
+        "1",
+        "-1.50",
+        "\"\"",
+        "\"a\"",
+        "\"abcdefghijklmnopqrstuvwxyz01234\"",
+        "[]",
+        "[1]",
+        "[true,[\"a\"]]",
+        "{}",
+        "{\"a\":1}",
+        "{\"b\":true,\"a\":[false]}",
+    ];
+    for text in texts {
+        borrow_nothing(&rt, rt.alloc(), text)?;
     }
-    assert!(rt; parse(rt.alloc(), "[1]")?.get_mut("a").is_none());
-    assert!(rt; parse(rt.alloc(), "[1]")?.as_object_mut().is_none());
     Ok(())
 }
 

@@ -71,6 +71,19 @@ fn removes(rt: HostRuntime) -> Tested {
     Ok(())
 }
 
+/// Of three members one that isn't there, and then the middle one, is removed and put again.
+#[test]
+fn puts_a_removed_key_last(rt: HostRuntime) -> Tested {
+    let alloc = rt.alloc();
+    let mut object = object_of(alloc, "{\"a\":1,\"b\":2,\"c\":3}")?;
+    assert!(rt; object.remove("x").is_none());
+    expect_text(&rt, alloc, &object, "{\"a\":1,\"b\":2,\"c\":3}")?;
+    assert!(rt; object.remove("b").is_some_and(|value| value.eq_u64(2)));
+    expect_text(&rt, alloc, &object, "{\"a\":1,\"c\":3}")?;
+    object.insert(alloc, "b", number(4))?;
+    expect_text(&rt, alloc, &object, "{\"a\":1,\"c\":3,\"b\":4}")
+}
+
 /// Of these objects the members with other keys than `b` are left, in order, and each value is what
 /// the closure wrote.
 #[test]
@@ -95,7 +108,10 @@ fn retains(rt: HostRuntime) -> Tested {
 
 #[test]
 fn overrides_the_last(rt: HostRuntime) -> Tested {
-    for (before, after) in [("{\"a\":1,\"b\":2}", "{\"a\":1,\"b\":9}"), ("{}", "{}")] {
+    for (before, after) in [
+        ("{\"a\":1,\"b\":2,\"c\":3}", "{\"a\":1,\"b\":2,\"c\":9}"),
+        ("{}", "{}"),
+    ] {
         let mut object = object_of(rt.alloc(), before)?;
         object.override_last(number(9));
         expect_text(&rt, rt.alloc(), &object, after)?;

@@ -67,5 +67,6 @@ fn writes_null_for_nan(rt: HostRuntime) -> Tested {
     let mut bytes: Vec<u8> = Vec::new(alloc);
     value.write(&mut bytes)?;
     assert_eq!(rt; bytes.as_slice(), b"[null]".as_slice());
+    assert_eq!(rt; value.dump(alloc)?.as_str(), "[null]");
     Ok(())
 }
