@@ -73,7 +73,7 @@ fn parts_of(value: &JsonValue) -> Option<(bool, u64, i16)> {
 
 #[test]
 fn reads_literals_and_numbers(rt: HostRuntime) -> Result<(), Fail> {
-    let rows: [(&str, Option<(bool, u64, i16)>, &str); 25] = [
+    let rows: [(&str, Option<(bool, u64, i16)>, &str); 28] = [
         ("null", None, "null"),
         ("true", None, "true"),
         ("false", None, "false"),
@@ -101,6 +101,11 @@ fn reads_literals_and_numbers(rt: HostRuntime) -> Result<(), Fail> {
             Some((true, 2225073858507201136, -326)),
             "2.225073858507201136e-308",
         ),
+        (
+            "18446744073709551616",
+            Some((true, 1844674407370955161, 1)),
+            "18446744073709551610",
+        ),
         ("1.2e32768", Some((true, 12, 32767)), "1.2e32768"),
         ("1e-32768", Some((true, 1, -32768)), "1e-32768"),
         ("1e-32769", Some((true, 1, -32768)), "1e-32768"),
@@ -114,6 +119,12 @@ fn reads_literals_and_numbers(rt: HostRuntime) -> Result<(), Fail> {
         ("5E2", Some((true, 5, 2)), "500"),
         ("5e+2", Some((true, 5, 2)), "500"),
         ("7e70", Some((true, 7, 70)), "7e70"),
+        ("5e19", Some((true, 5, 19)), "50000000000000000000"),
+        (
+            "50000000000000000000",
+            Some((true, 5000000000000000000, 1)),
+            "50000000000000000000",
+        ),
         ("1e-18", Some((true, 1, -18)), "1e-18"),
     ];
     for (text, parts, dump) in &rows {
@@ -151,6 +162,17 @@ fn reads_long_numbers(rt: HostRuntime) -> Result<(), Fail> {
         parts_of(&parse(rt.alloc(), text.as_str())?),
         Some((true, 0, 0))
     );
+    Ok(())
+}
+
+#[test]
+fn reads_one_number_from_several_texts(rt: HostRuntime) -> Result<(), Fail> {
+    let alloc = rt.alloc();
+    let text = joined(alloc, &[("8", 1), ("0", 32785), ("e-32767", 1)])?;
+    let number = parse(alloc, text.as_str())?;
+    assert!(rt; number.as_u64() == Some(8000000000000000000));
+    assert!(rt; number == parse(alloc, "8e18")?);
+    assert!(rt; parse(alloc, "50000000000000000000")? == parse(alloc, "5e19")?);
     Ok(())
 }
 
@@ -215,6 +237,8 @@ const WRONG_CHARACTERS: &[(&str, &str)] = &[
     ("\r\n}", "Unexpected character: } at (2:1)"),
     ("]", "Unexpected character: ] at (1:1)"),
     ("1,", "Unexpected character: , at (1:2)"),
+    ("å", "Unexpected character: å at (1:1)"),
+    ("[C3A9] <=> [é]", "Unexpected character: C at (1:2)"),
 ];
 
 #[test]
