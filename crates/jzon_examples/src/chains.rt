@@ -1,4 +1,4 @@
-//! Chains of iterator calls over a value's members and elements.
+//! Chains of iterator calls over a value's entries and elements.
 //!
 //! `YieldsList-from_entries` and `YieldsList-from_elements` say over which list of values such a
 //! chain goes; std has a lemma for each call that ends one.
@@ -11,7 +11,7 @@ ghost use Rattle.jzon.specs.View.{view};
 
 use jzon::JsonValue;
 
-/// Whether a value has no member but `name` and `port`.
+/// Whether a value has no entry but `name` and `port`.
 pub fn has_only_known_names(value: &JsonValue) -> bool
     ensures { result ≡ list_all
         (λ p. bytes_eq p.0 (codes "name") || bytes_eq p.0 (codes "port"))

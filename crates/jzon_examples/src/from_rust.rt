@@ -26,7 +26,7 @@ pub fn tour(alloc: Global, text: &str) -> Result<String> {
     data.dump(alloc)
 }
 
-/// Changes the member `name`, where there is one.
+/// Changes the entry `name`, where there is one.
 pub fn rename(data: &mut JsonValue, name: JsonValue) {
     if let Some(found) = data.get_mut("name") {
         *found = name;

@@ -1,4 +1,4 @@
-//! Layered configuration: of two values the later one wins, member by member.
+//! Layered configuration: of two values the later one wins, entry by entry.
 
 ghost use Rattle.std.specs.Prelude.{◌≡◌, ℕ, List, IfOk, true};
 ghost use Rattle.std.specs.Option.{option_or};
@@ -11,8 +11,8 @@ ghost use Rattle.jzon.specs.View.{view};
 use jzon::{JsonValue, Result};
 use std::alloc::Global;
 
-/// The members of both. A name in both has the value of `later`. A value that is no object has no
-/// members.
+/// The entries of both. A name in both has the value of `later`. A value that is no object has no
+/// entries.
 pub fn layered(alloc: Global, base: &JsonValue, later: &JsonValue) -> Result<JsonValue>
     requires { IsReadable usual (view later.now) }
     ensures object { IfOk result (λ both. is_object (view both) ≡ true) }

@@ -1,7 +1,7 @@
 //! Operations of a JSON patch (RFC 6902): add, remove, replace and test.
 //!
 //! `patched` of specs/Patch.antt says what each makes of a value, and which error it has. A path is
-//! the reference tokens of a pointer, as `pointer::tokens_of` gives them, and leads through members
+//! the reference tokens of a pointer, as `pointer::tokens_of` gives them, and leads through entries
 //! of objects.
 
 ghost use Rattle.std.specs.Prelude.{◌≡◌, ◌⊎◌, map, string_bytes, OnOk, OnErr, IfErr, Ok, Err, true, false};
@@ -17,20 +17,20 @@ use std::alloc::Global;
 /// What is done at the end of a path.
 #[derive(Debug, Drop)]
 pub enum Operation {
-    /// Adds a member, or replaces the one that is there.
+    /// Adds an entry, or replaces the one that is there.
     Add(JsonValue),
-    /// Removes the member.
+    /// Removes the entry.
     Remove,
-    /// Replaces the member's value.
+    /// Replaces the entry's value.
     Replace(JsonValue),
-    /// Succeeds where the member's value equals this one.
+    /// Succeeds where the entry's value equals this one.
     Test(JsonValue),
 }
 
 /// Why an operation fails. The value is then as it was.
 #[derive(Clone, Copy, Debug, PartialEq, Eq)]
 pub enum PatchError {
-    /// The path leads to no member.
+    /// The path leads to no entry.
     NoTarget,
     /// The value is another one than that of the test.
     TestFailed,
@@ -70,7 +70,7 @@ pub fn apply(
     }
 }
 
-/// Does the operation at the end of the path that begins with the member `key`.
+/// Does the operation at the end of the path that begins with the entry `key`.
 #[cycle(patch)]
 #[tactic(auto, using(crate::proofs::PatchSteps::patching))]
 fn apply_within(

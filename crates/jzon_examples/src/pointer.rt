@@ -24,7 +24,7 @@ pub fn walk<'a>(value: &'a JsonValue, tokens: &[String]) -> Option<&'a JsonValue
     Some(place)
 }
 
-/// The member or the element that a token names.
+/// The entry or the element that a token names.
 #[tactic(auto, using(crate::proofs::PointerSteps::children))]
 pub fn child<'a>(value: &'a JsonValue, token: &str) -> Option<&'a JsonValue>
     ensures { option_map (λ v. view v.now) result ≡ child_of (view value.now) token.now }

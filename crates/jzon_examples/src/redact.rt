@@ -1,7 +1,7 @@
-//! Redaction: the value of each member with one of some names is replaced by a fixed string, at any
+//! Redaction: the value of each entry with one of some names is replaced by a fixed string, at any
 //! depth, in place.
 //!
-//! `redacted` of specs/Redact.antt says it over values. A loop writes the members of an object by
+//! `redacted` of specs/Redact.antt says it over values. A loop writes the entries of an object by
 //! their positions, and the elements of an array by `iter_mut`: of both a contract can say what is
 //! written. Nothing is copied or allocated.
 
@@ -14,7 +14,7 @@ use jzon::JsonValue;
 use jzon::object::Object;
 use jzon::short::Short;
 
-/// Replaces the value of each member whose name is one of `names` by the string `***`, at any
+/// Replaces the value of each entry whose name is one of `names` by the string `***`, at any
 /// depth.
 #[cycle(redact)]
 #[tactic(auto, using(crate::proofs::RedactSteps::redaction))]
@@ -66,7 +66,7 @@ fn redact_member(value: &mut JsonValue, hides: bool, names: &[&str])
     }
 }
 
-/// Whether the name of the member at a position is one of `names`.
+/// Whether the name of the entry at a position is one of `names`.
 fn hides_member(object: &Object, index: usize, names: &[&str]) -> bool
     ensures { result ≡ names_among (map (λ n. n.now) names.now)
         (slice_get (entries_of object.now) index) }
