@@ -12,9 +12,9 @@ ghost use Rattle.jzon_base.specs.DigitLimits.{AreFewEnough, IsFirstTooMany, Keep
 
 use crate::number::Number;
 
-mod eight;
+mod eight_at_once;
 
-use eight::{EIGHT, leading_digits, ten_to};
+use eight_at_once::{EIGHT, leading_digits, ten_to};
 
 /// Any 19 digits fit in a `u64`.
 const ALWAYS_KEPT: usize = 19;

@@ -7,28 +7,33 @@ ghost use Rattle.jzon_base.specs.ErrorText.{error_text, IsWrongType};
 use std::alloc::{AllocError, AllocFailed, Global};
 use std::fmt;
 
-/// Why a text is rejected, or a call on a value fails.
+/// Why a text is rejected, or a call on a value fails. Below, `L` and `K` are the line and the
+/// column of a character in its text. Both are counted from 1, and a column in characters.
 #[derive(Debug, PartialEq, Eq, Drop)]
 pub enum Error {
-    /// The character `ch` isn't allowed at its offset. Lines and columns are counted from 1,
-    /// columns in characters.
+    /// The character `ch` isn't allowed here. Printed as `Unexpected character: C at (L:K)`, where
+    /// `C` is the character itself, not escaped: a newline is printed as a newline.
     UnexpectedCharacter {
         ch: char,
         line: usize,
         column: usize,
     },
-    /// The text ends inside a value or before one.
+    /// The text ends inside a value, or before one. Printed as `Unexpected end of JSON`.
     UnexpectedEndOfJson,
-    /// Too many containers are open, or a number has too many digits.
+    /// More than 512 containers that aren't empty are open in a text, or more than its `Reading`
+    /// allows. Or more than 32767 digits before a number's point are cut, or more than 32768 after
+    /// it are kept. Or a value that is printed nests 2^64 deep. Printed as `Exceeded depth limit`.
     ExceededDepthLimit,
-    /// An escape names no character, or bytes aren't UTF-8.
+    /// Two `\u` escapes of surrogates mean no character together, or the bytes that `consume` of a
+    /// generator takes aren't UTF-8. Printed as `Failed to parse UTF-8 bytes`.
     FailedUtf8Parsing,
-    /// The value isn't of the kind that is named.
+    /// The value of a `push` isn't an array, or that of an `insert` isn't an object. Printed as
+    /// `Wrong type, expected: X`, where `X` is the word here, `Array` or `Object`.
     WrongType(String),
-    /// An allocation failed.
+    /// An allocation failed. Printed as `Out of memory`.
     OutOfMemory,
-    /// A strict reading found a key for the second time in an object: the line and column of the
-    /// second one's opening quote, counted from 1, the column in characters.
+    /// A strict reading found a key for the second time in an object. Line and column are those of
+    /// its opening quote. Printed as `Duplicate key at (L:K)`.
     DuplicateKey {
         line: usize,
         column: usize,
@@ -42,8 +47,8 @@ pub type Result<T> = std::result::Result<T, Error>;
 pub type JsonResult<T> = Result<T>;
 
 impl Error {
-    /// The error for a value that isn't of the kind `expected`. Its text is allocated, so the call
-    /// itself can fail with `OutOfMemory`.
+    /// `WrongType` for a value that isn't of the kind `expected`. The word is allocated, so the
+    /// call itself can fail with `OutOfMemory`.
     pub fn wrong_type(alloc: Global, expected: &str) -> Result<Error>
         ensures words { IfOk result (IsWrongType expected.now) }
         ensures memory { IsOkUnless result Error.OutOfMemory }
@@ -76,6 +81,7 @@ impl Error {
     }
 }
 
+/// The words that are given at each variant. Widths and other flags are ignored.
 impl fmt::Display for Error {
     ghost output = { λ e. Some (error_text e) };
 
@@ -98,6 +104,7 @@ impl fmt::Display for Error {
 
 impl std::error::Error for Error {}
 
+/// `OutOfMemory`, so that `?` after a call of std returns it.
 impl From<AllocError> for Error {
     ghost use Rattle.std.specs.Prelude.{◌≡◌};
     ghost use Rattle.jzon_base.specs.declared.error.Error.TheVariants.{OutOfMemory};
@@ -109,6 +116,7 @@ impl From<AllocError> for Error {
     }
 }
 
+/// `OutOfMemory`. What was to be stored, and came back with the error, is dropped.
 impl<T: Drop> From<AllocFailed<T>> for Error {
     ghost use Rattle.std.specs.Prelude.{◌≡◌};
     ghost use Rattle.jzon_base.specs.declared.error.Error.TheVariants.{OutOfMemory};

@@ -1,6 +1,6 @@
 //! A key of an object: text that is stored inline if it is short (docs/RULES.md, "Short and long
 //! strings").
-ghost use Rattle.std.specs.Prelude.{◌≡◌, ◌↔◌, ◌+◌, ◌<◌, ◌≤◌, ◌++◌, ◌∷◌, [], IsTrue, false, true, length, take};
+ghost use Rattle.std.specs.Prelude.{◌≡◌, ◌+◌, ◌<◌, ◌≤◌, ◌++◌, ◌∷◌, [], false, true, length, take};
 ghost use Rattle.std.specs.Prelude.{string_bytes, vec_len, vec_capacity, IfOk, IsOkUnless, OnErr};
 ghost use Rattle.std.specs.Str.{bytes_eq};
 ghost use Rattle.std.specs.Cmp.{partial_equiv_from_equiv};
@@ -41,41 +41,24 @@ impl Model for Key {
 }
 
 impl Key {
-    /// Whether a text is stored inline.
-    #[inline(always)]
-    fn is_short(text: &str) -> bool
-        ensures { IsTrue result ↔ length text.now ≤ 32 }
-    {
-        text.len() <= INLINE_MAX
-    }
-
-    /// The key with this text, which is stored inline.
-    #[inline(always)]
-    fn short(text: &str) -> Key
-        requires { length text.now ≤ 32 }
-        ensures { result ≡ text.now }
-    {
-        Key {
-            text: Text::Inline(inline::text_in(text)),
-        }
-    }
-
     /// The key with this text. Text of up to 32 bytes allocates nothing; for longer text the error
     /// is a failed allocation.
     pub fn new(alloc: Global, text: &str) -> Result<Key, AllocError>
         ensures bytes { IfOk result (λ k. k ≡ text.now) }
         ensures long { OnErr result (32 < length text.now) }
     {
-        if Key::is_short(text) {
-            return Ok(Key::short(text));
+        if text.len() <= INLINE_MAX {
+            return Ok(Key {
+                text: Text::Inline(inline::text_in(text)),
+            });
         }
         Ok(Key {
             text: Text::Owned(String::from_str(alloc, text)?),
         })
     }
 
-    /// The key with this text, with which `wide` begins: as `new`, and faster where `wide` has 32
-    /// bytes.
+    /// The key with this text, with which `wide` begins. The same as `new`, and faster if `wide`
+    /// has 32 bytes.
     #[doc(hidden)]
     #[inline(always)]
     pub fn from_wide(alloc: Global, text: &str, wide: &str) -> Result<Key, AllocError>
@@ -83,7 +66,7 @@ impl Key {
         ensures bytes { IfOk result (λ k. k ≡ text.now) }
         ensures long { OnErr result (32 < length text.now) }
     {
-        if Key::is_short(text) {
+        if text.len() <= INLINE_MAX {
             return Ok(Key {
                 text: Text::Inline(inline::front_of(text, wide)),
             });
@@ -105,7 +88,7 @@ impl Key {
         }
     }
 
-    /// Where the text is stored inline, appends a copy to `copies`, which have room, and returns
+    /// If the text is stored inline, appends a copy to `copies`, which have room, and returns
     /// `true`. The copy is made in place.
     #[inline(always)]
     pub(crate) fn push_inline(&self, copies: &mut Vec<Key>) -> bool
@@ -165,6 +148,7 @@ impl Eq for Key {
     ghost laws = { nat_list_eq_equiv };
 }
 
+/// The text as std's `str` shows it: in quotes, with escapes.
 impl fmt::Debug for Key {
     fn fmt<W: fmt::Write>(&self, f: &mut fmt::Formatter<W>) -> fmt::Result {
         fmt::Debug::fmt(self.as_str(), f)

@@ -1,7 +1,7 @@
 //! Numbers: exact decimals, and NaN (docs/RULES.md, "Numbers").
 
 ghost use Rattle.std.specs.Prelude.{◌≡◌, ◌+◌, ◌*◌, ◌^◌, ◌<◌, ◌≤◌, ◌≤ℤ◌, ◌==◌, ◌||◌, MatchOption};
-ghost use Rattle.jzon_base.specs.Decimal.{nan, parts, parts_of, is_nan, is_zero, is_positive, negated, same, shifted};
+ghost use Rattle.jzon_base.specs.Decimal.{nan, parts, parts_of, is_nan, is_zero, is_positive, negated, same};
 ghost use Rattle.jzon_base.specs.Decimal.{scaled, StripsTo};
 
 mod fixed_point;
@@ -20,8 +20,10 @@ enum Category {
     Nan,
 }
 
-/// A number: `mantissa * 10 ^ exponent` with a sign, or NaN. It keeps its parts as they were set:
-/// `1.50` and `1.5` have different parts but are equal.
+/// A number: NaN, or the exact decimal `mantissa * 10 ^ exponent` with a sign. The mantissa is a
+/// `u64`, and the exponent an `i16`. The parts stay as they were read or set: `1.50` and `1.5` have
+/// different parts and are equal. Digits that make the mantissa too large are cut when a text is
+/// read, and no call returns whether some were.
 // The gaps are 0. As fields they leave no padding, so that a copy field by field is one move.
 #[derive(Clone, Copy)]
 pub struct Number {
@@ -48,7 +50,7 @@ impl Model for Number {
     ghost inverse = { fields_of };
 }
 
-/// Not a number. Its parts are returned as `(false, 0, 0)`.
+/// Not a number. No text means it, and in a value it is printed as `null`. It equals only itself.
 pub const NAN: Number = Number {
     category: Category::Nan,
     narrow_gap: 0,
@@ -58,7 +60,8 @@ pub const NAN: Number = Number {
 };
 
 impl Number {
-    /// The number with exactly these parts, including trailing zeros of the mantissa.
+    /// The number with exactly these parts, including trailing zeros of the mantissa. Nothing is
+    /// unsafe about it; the name is that of the Rust crate.
     pub fn from_parts_unchecked(positive: bool, mantissa: u64, exponent: i16) -> Number
         ensures { result ≡ parts positive mantissa exponent }
     {
@@ -77,8 +80,8 @@ impl Number {
     }
 
     /// The number with this sign and decimal. Trailing zeros of the mantissa are stripped, one at a
-    /// time, while the exponent is negative, so a mantissa 0 with a negative exponent ends at
-    /// exponent 0.
+    /// time, while the exponent is negative: `(true, 150, -2)` becomes `(true, 15, -1)`. A mantissa
+    /// 0 with a negative exponent ends at exponent 0.
     pub fn from_parts(positive: bool, mantissa: u64, exponent: i16) -> Number
         ensures { StripsTo positive mantissa exponent result }
     {
@@ -129,23 +132,25 @@ impl Number {
     {
         self.mantissa == 0 || self.is_nan()
     }
-}
 
-/// A copy, made field by field: `*number` would go through a slot of the stack on its way into a
-/// list.
-#[inline(always)]
-pub(crate) fn copy_fields(number: &Number) -> Number
-    ensures { result ≡ number.now }
-{
-    Number {
-        category: number.category,
-        narrow_gap: number.narrow_gap,
-        exponent: number.exponent,
-        wide_gap: number.wide_gap,
-        mantissa: number.mantissa,
+    /// A copy, made field by field: `*self` would go through a slot of the stack on its way into a
+    /// list.
+    #[doc(hidden)]
+    #[inline(always)]
+    pub fn copy_fields(&self) -> Number
+        ensures { result ≡ self.now }
+    {
+        Number {
+            category: self.category,
+            narrow_gap: self.narrow_gap,
+            exponent: self.exponent,
+            wide_gap: self.wide_gap,
+            mantissa: self.mantissa,
+        }
     }
 }
 
+/// The opposite sign, of 0 too. NaN stays NaN.
 impl std::ops::Neg for Number {
     type Output = Number;
 
@@ -161,6 +166,8 @@ impl std::ops::Neg for Number {
     }
 }
 
+/// Numbers are equal if their signs and exact decimals are, whatever their parts. All zeros are
+/// equal, and NaN equals only itself.
 impl PartialEq for Number {
     ghost use Rattle.std.specs.Cmp.{partial_equiv_from_equiv};
     ghost use Rattle.jzon_base.specs.Private.Same.{same_equiv};
@@ -169,20 +176,18 @@ impl PartialEq for Number {
 
     ghost laws = { partial_equiv_from_equiv same_equiv };
 
+    #[tactic(auto, using(crate::specs::Private::Same::zero_rules))]
     fn eq(&self, other: &Number) -> bool {
         if self.is_nan() || other.is_nan() {
             return self.is_nan() && other.is_nan();
         }
         let (positive, mantissa, exponent) = self.as_parts();
         let (other_positive, other_mantissa, other_exponent) = other.as_parts();
-        same_parts(
-            positive,
-            mantissa,
-            exponent,
-            other_positive,
-            other_mantissa,
-            other_exponent,
-        )
+        if mantissa == 0 || other_mantissa == 0 {
+            return mantissa == other_mantissa;
+        }
+        positive == other_positive
+            && same_magnitude(mantissa, exponent, other_mantissa, other_exponent)
     }
 }
 
@@ -192,6 +197,7 @@ impl Eq for Number {
     ghost laws = { same_equiv };
 }
 
+/// The fields, for debugging only.
 impl fmt::Debug for Number {
     fn fmt<W: fmt::Write>(&self, f: &mut fmt::Formatter<W>) -> fmt::Result {
         f.debug_struct("Number")
@@ -202,6 +208,8 @@ impl fmt::Debug for Number {
     }
 }
 
+/// The text of docs/RULES.md, "Printed numbers", in which a value prints it; `nan` for NaN. Widths
+/// and other flags are ignored.
 impl fmt::Display for Number {
     ghost use Rattle.std.specs.Prelude.{Some};
     ghost use Rattle.jzon_base.specs.NumberText.{decimal_text};
@@ -217,25 +225,7 @@ impl fmt::Display for Number {
     }
 }
 
-/// Whether two numbers with these parts are equal.
-#[tactic(auto, using(crate::specs::Private::Same::zero_rules))]
-fn same_parts(
-    positive: bool,
-    mantissa: u64,
-    exponent: i16,
-    other_positive: bool,
-    other_mantissa: u64,
-    other_exponent: i16,
-) -> bool
-    ensures { result ≡ same (parts positive mantissa exponent)
-        (parts other_positive other_mantissa other_exponent) }
-{
-    if mantissa == 0 || other_mantissa == 0 {
-        return mantissa == other_mantissa;
-    }
-    positive == other_positive && same_magnitude(mantissa, exponent, other_mantissa, other_exponent)
-}
-
+/// Whether two numbers of one sign, neither 0, with these mantissas and exponents are equal.
 fn same_magnitude(mantissa: u64, exponent: i16, other_mantissa: u64, other_exponent: i16) -> bool
     requires left { 0 < mantissa }
     requires right { 0 < other_mantissa }
@@ -255,14 +245,7 @@ fn is_scaled(mantissa: u64, exponent: i16, other_mantissa: u64, lower: i16) -> b
     requires order { lower ≤ℤ exponent }
     ensures { result ≡ (scaled mantissa exponent == scaled other_mantissa lower) }
 {
-    times_power(mantissa, steps_between(lower, exponent)) == Some(other_mantissa)
-}
-
-fn steps_between(low: i16, high: i16) -> u32
-    requires { low ≤ℤ high }
-    ensures { shifted high ≡ shifted low + result }
-{
-    u32::from(high.abs_diff(low))
+    times_power(mantissa, u32::from(exponent.abs_diff(lower))) == Some(other_mantissa)
 }
 
 /// `mantissa * 10 ^ power`, if it fits.

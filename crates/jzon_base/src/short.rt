@@ -14,7 +14,8 @@ use std::marker::Model;
 /// The most bytes that a `Short` holds.
 pub const MAX_LEN: usize = 30;
 
-/// A string of at most `MAX_LEN` bytes, stored in the value itself, so that it allocates nothing.
+/// A string of at most `MAX_LEN` bytes of UTF-8, stored in the value itself, so that it allocates
+/// nothing. `Short::from_slice(short.as_str())` is a copy. In clauses it is its bytes.
 #[derive(Drop)]
 pub struct Short {
     text: ArrayString<MAX_LEN>,
@@ -39,8 +40,8 @@ impl Short {
         }
     }
 
-    /// A copy of the string, with which `wide` begins: as `from_slice`, and faster where `wide` has
-    /// 30 bytes.
+    /// A copy of the string, with which `wide` begins. The same as `from_slice`, and faster if
+    /// `wide` has 30 bytes.
     #[doc(hidden)]
     #[inline(always)]
     pub fn from_wide(slice: &str, wide: &str) -> Short
@@ -85,6 +86,7 @@ impl Short {
     }
 }
 
+/// Short strings are equal if their bytes are.
 impl PartialEq for Short {
     ghost use Rattle.std.specs.Cmp.{partial_equiv_from_equiv};
     ghost use Rattle.std.specs.Cmp.Lexicographic.{nat_list_eq_equiv};
@@ -104,12 +106,14 @@ impl Eq for Short {
     ghost laws = { nat_list_eq_equiv };
 }
 
+/// The string as std's `str` shows it: in quotes, with escapes.
 impl fmt::Debug for Short {
     fn fmt<W: fmt::Write>(&self, f: &mut fmt::Formatter<W>) -> fmt::Result {
         fmt::Debug::fmt(&self.as_str(), f)
     }
 }
 
+/// The bare string. Widths and other flags are ignored.
 impl fmt::Display for Short {
     ghost use Rattle.std.specs.Prelude.{Some};
 

@@ -13,8 +13,8 @@ pub mod escapes;
 pub mod plain;
 pub mod print_dec;
 
-/// Writes all bytes, and returns each error of the writer: also `Interrupted`, and `WriteZero` for
-/// a write of 0 bytes. After an error a prefix of the bytes is written.
+/// Writes all bytes. Each error of the writer is returned, also `Interrupted`; a write of 0 bytes
+/// is `WriteZero`. After an error a prefix of the bytes is written. Doesn't flush.
 pub fn write_bytes<W: Write>(writer: &mut W, bytes: &[u8]) -> io::Result<()>
     ensures ok { OnOk result (Appends (W.contents writer.old) (W.contents writer.new) bytes.now) }
     ensures err { OnErr result

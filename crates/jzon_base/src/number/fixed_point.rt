@@ -1,4 +1,5 @@
-//! Numbers as fixed-point integers (docs/RULES.md, "Fixed-point readings").
+//! Numbers as fixed-point integers (docs/RULES.md, "Fixed-point readings"): `mantissa * 10 ^
+//! (exponent + point)`, so that `point` is the number of decimal places that are kept.
 
 ghost use Rattle.std.specs.Prelude.{◌≡◌, pos, ◌/◌, ◌%◌, ◌==◌, ◌+ℤ◌, ◌<◌, ◌≤◌, ◌^◌, FitsSigned};
 ghost use Rattle.std.specs.Prelude.{IfSome, IsTrue, true};
@@ -13,8 +14,9 @@ use super::to_integer::with_sign;
 use super::{Number, times_power};
 
 impl Number {
-    /// `mantissa * 10 ^ (exponent + point)`, truncated to an integer. `None` for NaN, for a
-    /// negative sign, even of -0, and if it doesn't fit.
+    /// The number times `10 ^ point`, truncated to an integer: at point 2, the number of decimal
+    /// places of an amount in euros, 5.99 is 599 and 12.301 is 1230. `None` for NaN, for a negative
+    /// sign, even of -0, and if it doesn't fit.
     pub fn as_fixed_point_u64(&self, point: u16) -> Option<u64>
         ensures { SomeWhere (unsigned_fixed_point self.now point) (λ n. n < 2 ^ 64) result }
     {
@@ -25,8 +27,8 @@ impl Number {
         whole_part(mantissa, exponent, point)
     }
 
-    /// `mantissa * 10 ^ (exponent + point)`, truncated to an integer before the sign is applied.
-    /// `None` for NaN, and if it doesn't fit.
+    /// The number times `10 ^ point`, truncated to an integer before the sign is applied: at point
+    /// 1, -12.39 is -123. `None` for NaN, and if it doesn't fit.
     pub fn as_fixed_point_i64(&self, point: u16) -> Option<i64>
         ensures { SomeWhere (fixed_point self.now point) (FitsSigned w64) result }
     {
@@ -37,9 +39,10 @@ impl Number {
         with_sign(positive, whole_part(mantissa, exponent, point)?)
     }
 
-    /// `mantissa * 10 ^ (exponent + point)`, if that is an integer: 12.30 at 2 is 1230, and 12.301
-    /// at 2 is `None`, since a digit would be lost. `None` also for NaN, for a negative sign, even
-    /// of -0, and if it doesn't fit.
+    /// The number times `10 ^ point`, if that is an integer: at point 2, 12.30 is 1230, and 12.301
+    /// is `None`, since a digit would be lost. At point 0 it is the integer that the number is,
+    /// however it is written: 100, 1e2 or 100.0. `None` also for NaN, for a negative sign, even of
+    /// -0, and if it doesn't fit.
     pub fn as_exact_fixed_point_u64(&self, point: u16) -> Option<u64>
         ensures number { SomeWhere (exact_unsigned_fixed_point self.now point)
             (λ n. n < 2 ^ 64) result }
@@ -53,8 +56,8 @@ impl Number {
         }
     }
 
-    /// `mantissa * 10 ^ (exponent + point)` with the sign, if that is an integer. `None` if a digit
-    /// would be lost, for NaN, and if it doesn't fit.
+    /// The number times `10 ^ point`, with its sign, if that is an integer: at point 2, -12.30 is
+    /// -1230. `None` if a digit would be lost, for NaN, and if it doesn't fit.
     pub fn as_exact_fixed_point_i64(&self, point: u16) -> Option<i64>
         ensures number { SomeWhere (exact_fixed_point self.now point) (FitsSigned w64) result }
         ensures equal { IfSome result (λ n. point ≤ 32768

@@ -1,4 +1,5 @@
-//! Integers as numbers (docs/RULES.md, "Calls on numbers").
+//! Integers as numbers (docs/RULES.md, "Calls on numbers"). The mantissa is the magnitude, and the
+//! exponent 0.
 
 ghost use Rattle.std.specs.Prelude.{◌≡◌, pos, true};
 ghost use Rattle.jzon_base.specs.Decimal.{integer_parts, same};
@@ -21,6 +22,7 @@ impl Number {
     }
 }
 
+/// The number that the integer is.
 impl From<u8> for Number {
     ghost from_gives = { λ n number. number ≡ integer_parts (pos n) };
 
@@ -29,6 +31,7 @@ impl From<u8> for Number {
     }
 }
 
+/// The number that the integer is.
 impl From<u16> for Number {
     ghost from_gives = { λ n number. number ≡ integer_parts (pos n) };
 
@@ -37,6 +40,7 @@ impl From<u16> for Number {
     }
 }
 
+/// The number that the integer is.
 impl From<u32> for Number {
     ghost from_gives = { λ n number. number ≡ integer_parts (pos n) };
 
@@ -45,6 +49,7 @@ impl From<u32> for Number {
     }
 }
 
+/// The number that the integer is.
 impl From<u64> for Number {
     ghost from_gives = { λ n number. number ≡ integer_parts (pos n) };
 
@@ -53,6 +58,7 @@ impl From<u64> for Number {
     }
 }
 
+/// The number that the integer is.
 impl From<usize> for Number {
     ghost from_gives = { λ n number. number ≡ integer_parts (pos n) };
 
@@ -61,6 +67,7 @@ impl From<usize> for Number {
     }
 }
 
+/// The number that the integer is. 0 is positive.
 impl From<i8> for Number {
     ghost from_gives = { λ n number. number ≡ integer_parts n };
 
@@ -69,6 +76,7 @@ impl From<i8> for Number {
     }
 }
 
+/// The number that the integer is. 0 is positive.
 impl From<i16> for Number {
     ghost from_gives = { λ n number. number ≡ integer_parts n };
 
@@ -77,6 +85,7 @@ impl From<i16> for Number {
     }
 }
 
+/// The number that the integer is. 0 is positive.
 impl From<i32> for Number {
     ghost from_gives = { λ n number. number ≡ integer_parts n };
 
@@ -85,6 +94,7 @@ impl From<i32> for Number {
     }
 }
 
+/// The number that the integer is. 0 is positive.
 impl From<i64> for Number {
     ghost from_gives = { λ n number. number ≡ integer_parts n };
 
@@ -93,6 +103,7 @@ impl From<i64> for Number {
     }
 }
 
+/// The number that the integer is. 0 is positive.
 impl From<isize> for Number {
     ghost from_gives = { λ n number. number ≡ integer_parts n };
 

@@ -1,5 +1,5 @@
 //! Numbers as integers (docs/RULES.md, "Integer readings"). Only a number of exponent 0 is one:
-//! `5e2` isn't.
+//! `1.0`, `5e2` and `100e-2` aren't. For these there is `as_exact_fixed_point_u64(0)`.
 
 ghost use Rattle.std.specs.Prelude.{◌≡◌, ◌<◌, ◌^◌, FitsSigned};
 ghost use Rattle.std.specs.Int.{w8, w16, w32, w64};
@@ -8,7 +8,8 @@ ghost use Rattle.jzon_base.specs.Decimal.{integer_of, signed, unsigned_of, OkWhe
 
 use super::Number;
 
-/// The number isn't an integer of the type.
+/// The number can't be converted into an integer of the type: it is NaN, its exponent isn't 0, as
+/// that of `1.0` and `1e2`, its sign is negative and the type is unsigned, or it doesn't fit.
 #[derive(Clone, Copy, Debug, PartialEq)]
 pub struct NumberOutOfScope;
 
@@ -48,6 +49,8 @@ pub(super) fn with_sign(positive: bool, magnitude: u64) -> Option<i64>
     }
 }
 
+/// `NumberOutOfScope` for NaN, a negative sign, even of -0, an exponent other than 0, and a number
+/// above `u8::MAX`.
 impl TryFrom<Number> for u8 {
     type Error = NumberOutOfScope;
 
@@ -59,6 +62,8 @@ impl TryFrom<Number> for u8 {
     }
 }
 
+/// `NumberOutOfScope` for NaN, a negative sign, even of -0, an exponent other than 0, and a number
+/// above `u16::MAX`.
 impl TryFrom<Number> for u16 {
     type Error = NumberOutOfScope;
 
@@ -70,6 +75,8 @@ impl TryFrom<Number> for u16 {
     }
 }
 
+/// `NumberOutOfScope` for NaN, a negative sign, even of -0, an exponent other than 0, and a number
+/// above `u32::MAX`.
 impl TryFrom<Number> for u32 {
     type Error = NumberOutOfScope;
 
@@ -81,6 +88,8 @@ impl TryFrom<Number> for u32 {
     }
 }
 
+/// `NumberOutOfScope` for NaN, a negative sign, even of -0, an exponent other than 0, and a number
+/// above `u64::MAX`.
 impl TryFrom<Number> for u64 {
     type Error = NumberOutOfScope;
 
@@ -91,6 +100,8 @@ impl TryFrom<Number> for u64 {
     }
 }
 
+/// `NumberOutOfScope` for NaN, a negative sign, even of -0, an exponent other than 0, and a number
+/// above `usize::MAX`.
 impl TryFrom<Number> for usize {
     type Error = NumberOutOfScope;
 
@@ -102,6 +113,7 @@ impl TryFrom<Number> for usize {
     }
 }
 
+/// `NumberOutOfScope` for NaN, an exponent other than 0, and a number that an `i8` can\'t hold.
 impl TryFrom<Number> for i8 {
     type Error = NumberOutOfScope;
 
@@ -113,6 +125,7 @@ impl TryFrom<Number> for i8 {
     }
 }
 
+/// `NumberOutOfScope` for NaN, an exponent other than 0, and a number that an `i16` can\'t hold.
 impl TryFrom<Number> for i16 {
     type Error = NumberOutOfScope;
 
@@ -124,6 +137,7 @@ impl TryFrom<Number> for i16 {
     }
 }
 
+/// `NumberOutOfScope` for NaN, an exponent other than 0, and a number that an `i32` can\'t hold.
 impl TryFrom<Number> for i32 {
     type Error = NumberOutOfScope;
 
@@ -135,6 +149,7 @@ impl TryFrom<Number> for i32 {
     }
 }
 
+/// `NumberOutOfScope` for NaN, an exponent other than 0, and a number that an `i64` can\'t hold.
 impl TryFrom<Number> for i64 {
     type Error = NumberOutOfScope;
 
@@ -145,6 +160,7 @@ impl TryFrom<Number> for i64 {
     }
 }
 
+/// `NumberOutOfScope` for NaN, an exponent other than 0, and a number that an `isize` can\'t hold.
 impl TryFrom<Number> for isize {
     type Error = NumberOutOfScope;
 

@@ -2,7 +2,7 @@
 
 ghost use Rattle.std.specs.Prelude.{◌≡◌};
 
-use crate::number::{Number, copy_fields};
+use crate::number::Number;
 
 /// A copy of a number, made field by field: `*number` would go through a slot of the stack on its
 /// way into a list.
@@ -10,5 +10,5 @@ use crate::number::{Number, copy_fields};
 pub fn copy_number(number: &Number) -> Number
     ensures { result ≡ number.now }
 {
-    copy_fields(number)
+    number.copy_fields()
 }

@@ -22,8 +22,8 @@ const DIGITS_ROOM: usize = 32;
 
 type NumberText = ArrayString<MAX_LEN>;
 
-/// Writes the text of the number `n * 10 ^ exponent` with its sign. An error of the writer is
-/// returned; a prefix of the text is then written.
+/// Writes the text of the number `n * 10 ^ exponent` with its sign, at most 29 bytes. An error of
+/// the writer is returned; a prefix of the text is then written.
 pub fn write<W: Write>(wr: &mut W, positive: bool, n: u64, exponent: i16) -> io::Result<()>
     ensures ok { OnOk result
         (Appends (W.contents wr.old) (W.contents wr.new) (number_text positive n exponent)) }
@@ -31,9 +31,8 @@ pub fn write<W: Write>(wr: &mut W, positive: bool, n: u64, exponent: i16) -> io:
         (AppendsBeginning (W.contents wr.old) (W.contents wr.new)
         (number_text positive n exponent)) }
 {
-    let mut room = [0; MAX_LEN];
-    let start = put(&mut room, positive, n, exponent);
-    write_bytes(wr, &room[start..])
+    let text = number_text(positive, n, exponent);
+    write_bytes(wr, text.as_str().as_bytes())
 }
 
 /// Adds the text of the number if it is the mantissa's digits, with at most a minus before them and
@@ -106,7 +105,7 @@ fn push_minuses(bytes: &mut Vec<u8>, count: usize)
 }
 
 /// Puts the text of the number `n * 10 ^ exponent` with its sign at the end of the buffer, and
-/// returns the offset at which it begins.
+/// returns the offset `start` at which it begins: the text is `room[start..]`.
 pub fn put(room: &mut [u8; MAX_LEN], positive: bool, n: u64, exponent: i16) -> usize
     ensures start { result ≤ MAX_LEN }
     ensures text { drop result room.new ≡ number_text positive n exponent }

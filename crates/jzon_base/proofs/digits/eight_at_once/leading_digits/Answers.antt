@@ -5,7 +5,7 @@ use Rattle.std.proofs.lemmas.List.Sums.{prefix_len-le-length}
 use Rattle.std.specs.Char.{is_ascii_digit}
 use Rattle.jzon_base.specs.Digits.{digits_number}
 use Rattle.jzon_base.proofs.LeadingDigits.{all_eight, first_other, first_below, spells_first}
-use Rattle.jzon_base.proofs.digits.eight.leading_digits.Goals as goal
+use Rattle.jzon_base.proofs.digits.eight_at_once.leading_digits.Goals as goal
 
 pub returns-then-others-eq0-clause-count : goal.returns-then-others-eq0-clause-count
 returns-then-others-eq0-clause-count c =
