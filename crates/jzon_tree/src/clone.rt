@@ -7,7 +7,7 @@ ghost use Rattle.jzon_tree.specs.View.{view, view_object};
 use crate::object::Object;
 use crate::value::JsonValue;
 use jzon_base::error::{Error, Result};
-use jzon_base::util::copies::copy_number;
+use jzon_base::short::Short;
 use std::alloc::Global;
 
 impl JsonValue {
@@ -40,7 +40,7 @@ fn copy_value(alloc: Global, value: &JsonValue) -> Result<JsonValue>
 {
     match value {
         JsonValue::Null => Ok(JsonValue::Null),
-        JsonValue::Short(text) => Ok(JsonValue::Short(text.clone())),
+        JsonValue::Short(text) => Ok(JsonValue::Short(Short::from_slice(text.as_str()))),
         JsonValue::String(text) => Ok(JsonValue::String(text.clone()?)),
         JsonValue::Number(number) => Ok(JsonValue::Number(*number)),
         JsonValue::Boolean(truth) => Ok(JsonValue::Boolean(*truth)),
@@ -93,11 +93,11 @@ fn push_inline(copies: &mut Vec<JsonValue>, value: &JsonValue) -> bool
             true
         }
         JsonValue::Short(text) => {
-            copies.push_reserved(JsonValue::Short(text.clone()));
+            copies.push_reserved(JsonValue::Short(Short::from_slice(text.as_str())));
             true
         }
         JsonValue::Number(number) => {
-            copies.push_reserved(JsonValue::Number(copy_number(number)));
+            copies.push_reserved(JsonValue::Number(number.copy_fields()));
             true
         }
         JsonValue::Boolean(truth) => {
