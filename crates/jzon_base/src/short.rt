@@ -54,13 +54,6 @@ impl Short {
         }
     }
 
-    /// A copy. It allocates nothing.
-    pub fn clone(&self) -> Short
-        ensures { result ≡ self.now }
-    {
-        Short { text: self.text }
-    }
-
     /// The string.
     pub fn as_str(&self) -> &str
         ensures text { result.now ≡ self.now }

@@ -1,5 +1,4 @@
-//! What the crates share: the write loop, the text of a number, copies of numbers, escapes, and runs
-//! of plain bytes.
+//! What the crates share: the write loop, the text of a number, escapes, and runs of plain bytes.
 
 ghost use Rattle.std.specs.Prelude.{OnOk, OnErr};
 ghost use Rattle.std.specs.Io.KnownBytes.{Appends};
@@ -8,7 +7,6 @@ ghost use Rattle.jzon_base.specs.Written.{AppendsBeginning};
 use std::io;
 use std::io::Write;
 
-pub mod copies;
 pub mod escapes;
 pub mod plain;
 pub mod print_dec;
