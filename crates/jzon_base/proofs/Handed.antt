@@ -35,32 +35,27 @@ use Rattle.std.specs.declared.cmp.Ordering.{Ordering}
 use Rattle.std.specs.declared.cmp.Ordering.TheVariants.{Equal}
 use Rattle.jzon_base.specs.Private.Handed.{numbered, entries_of, AreHanded, AreSorted, IsBegun, IsIndexOf, IsPlace}
 use Rattle.jzon_base.specs.Private.Handed.{IsSpot}
-use Rattle.jzon_base.specs.Private.Keys.{beside, entry_cmp, lowered, pair_cmp}
+use Rattle.jzon_base.specs.Private.Keys.{beside, entry_cmp, lowered}
 use Rattle.jzon_base.proofs.FlatRuns.{flat_add, flat_cut, flat_last, taken_more}
 use Rattle.jzon_base.proofs.Permutations.{IsPermutation-filter}
 use Rattle.jzon_base.proofs.Positions.{position-none}
 use Rattle.jzon_base.proofs.Indexes.{only_place, is_other, kept_by, lowered-lower, lowered-higher, lowered-then}
-use Rattle.jzon_base.proofs.Indexes.{lowered-else, not_less}
+use Rattle.jzon_base.proofs.Indexes.{lowered-else}
 
 -- ---- the order of entries by hash and key
 
-abbrev name_cmp : ℕ × List ℕ → ℕ × List ℕ → Ordering
+abbrev pub name_cmp : ℕ × List ℕ → ℕ × List ℕ → Ordering
 name_cmp a b = ordering_then (nat_cmp a.0 b.0) (slice_cmp nat_cmp a.1 b.1)
 
-name_total : IsTotalOrder name_cmp
+pub name_total : IsTotalOrder name_cmp
 name_total = then_total (on_total (λ (a : ℕ × List ℕ). a.0) nat_cmp_total)
     (on_total (λ (a : ℕ × List ℕ). a.1) nat_list_cmp_total)
 
-abbrev named : List (List ℕ) → ℕ × ℕ → ℕ × List ℕ
+abbrev pub named : List (List ℕ) → ℕ × ℕ → ℕ × List ℕ
 named ks p = (p.0, get_or ks p.1 [])
 
-entry_weak : (ks : List (List ℕ)) → IsStrictWeakOrder (λ x y. is_lt (entry_cmp ks x y))
+pub entry_weak : (ks : List (List ℕ)) → IsStrictWeakOrder (λ x y. is_lt (entry_cmp ks x y))
 entry_weak ks = ranks_by name_total (named ks)
-
--- what is sorted by position too is sorted by hash and key
-pub sorted_by_key : (ks : List (List ℕ)) (r : List (ℕ × ℕ)) → IsSorted (pair_cmp ks) r → IsSorted (entry_cmp ks) r
-sorted_by_key ks r up k d low l = not_less (entry_cmp ks (get_or r (k + 1) d) (get_or r k d))
-    (nat_cmp (get_or r (k + 1) d).1 (get_or r k d).1) (up k d low l)
 
 -- an order between elements that have the same hash and key under other keys
 moved : (ks ls : List (List ℕ)) (p q u v : ℕ × ℕ) → named ks p ≡ named ls u → named ks q ≡ named ls v

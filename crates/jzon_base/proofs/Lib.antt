@@ -20,11 +20,10 @@ pub mod Positions
 pub mod Zips
 pub mod Indexes
 pub mod Permutations
-pub mod Repeats
+pub mod Rising
 pub mod Merged
 pub mod PutEach
 pub mod KnownKeys
-pub mod Runs
 pub mod Handed
 pub mod FlatRuns
 pub mod Tables

@@ -88,8 +88,3 @@ module _ {V : Type 0} where
       → put_each (zip ks vs) ≡ zip ks vs
   put_each-zip ks vs even distinct = put_each-distinct (zip ks vs)
       (subst (IsDistinct bytes_eq) (AreParts-zip ks vs (zip ks vs) refl even).keys distinct)
-
-  pub IsDistinct-merged : (ks : List (List ℕ)) (vs : List V) (ps : List (List ℕ × V)) → length vs ≡ length ks
-      → zip ks vs ≡ put_each ps → IsDistinct bytes_eq ks
-  IsDistinct-merged ks vs ps even e = subst (IsDistinct bytes_eq) (sym (AreParts-zip ks vs (put_each ps) e even).keys)
-      (IsDistinct-put_each ps)

@@ -7,9 +7,9 @@
 //! doesn't depend on which hashes the keys have.
 //!
 //! `pairs::Builder` finds repeated keys by one sort of such entries, and later ones in `Keys`.
-ghost use Rattle.std.specs.Prelude.{◌≡◌, ◌<◌, ◌++◌, ◌∷◌, ◌==◌, [], length, remove, slice_get, map};
+ghost use Rattle.std.specs.Prelude.{◌≡◌, ◌<◌, ◌≤◌, ◌++◌, ◌∷◌, ◌==◌, [], length, remove, slice_get, map};
 ghost use Rattle.std.specs.Prelude.{IfOk, IfErr, OnOk, OnErr, MatchOption, None, Some, vec_len, vec_capacity};
-ghost use Rattle.std.specs.List.{position, zip, IsDistinct};
+ghost use Rattle.std.specs.List.{position, remove_range, zip, IsDistinct};
 ghost use Rattle.std.specs.Result.{result_ok};
 ghost use Rattle.std.specs.Str.{bytes_eq};
 ghost use Rattle.jzon_base.specs.PairList.{put_each};
@@ -19,7 +19,7 @@ pub mod hash;
 pub(crate) mod index;
 mod into_iter;
 mod iter;
-mod repeats;
+mod order;
 mod retain;
 pub mod runs;
 
@@ -71,29 +71,6 @@ fn room_for(alloc: Global, capacity: usize) -> Result<Runs, AllocError>
         return Ok(Runs::new(alloc));
     }
     Runs::with_capacity(alloc, capacity)
-}
-
-/// Merges the entries of equal keys: the last value at the position of the first. Returns the index
-/// of the keys that are left, or none where they are few. The error is a failed allocation.
-fn merge<V: Drop>(
-    alloc: Global,
-    keys: &mut Vec<Key>,
-    values: &mut Vec<V>,
-) -> Result<Runs, AllocError>
-    requires { length values.old.items ≡ length keys.old.items }
-    ensures even { length values.new.items ≡ length keys.new.items }
-    ensures merged { put_each (zip keys.new.items values.new.items)
-        ≡ put_each (zip keys.old.items values.old.items) }
-    ensures table { IfOk result (λ r. IsTable keys.new.items r) }
-{
-    if keys.len() <= index::LINEAR_MAX && index::are_distinct(keys.as_slice()) {
-        return Ok(Runs::new(alloc));
-    }
-    let index = repeats::merge(alloc, keys, values)?;
-    if keys.len() <= index::LINEAR_MAX {
-        return Ok(Runs::new(alloc));
-    }
-    Runs::of(alloc, index)
 }
 
 /// The position of a key. The error is where the entry of a missing key belongs, if the keys have
@@ -157,6 +134,76 @@ fn add_entry(
         return begin_index(alloc, keys, index, name);
     }
     index.add(alloc, keys, spot.hash, spot.at)
+}
+
+/// Removes keys and values at the positions `from..end`.
+fn cut_out<V: Drop>(keys: &mut Vec<Key>, values: &mut Vec<V>, from: usize, end: usize)
+    requires even { length values.old.items ≡ length keys.old.items }
+    requires within { (from ≤ end) × (end ≤ length keys.old.items) }
+    ensures keys { keys.new.items ≡ remove_range keys.old.items from end }
+    ensures values { values.new.items ≡ remove_range values.old.items from end }
+{
+    keys.drain(from..end);
+    values.drain(from..end);
+}
+
+/// Puts the entries one after the other, in place: of those with equal keys, the last value at the
+/// position of the first. Returns the index of the keys that are left. The error is a failed
+/// allocation, and then the first of them have been put.
+fn put_each<V: Drop>(
+    alloc: Global,
+    keys: &mut Vec<Key>,
+    values: &mut Vec<V>,
+) -> Result<Runs, AllocError>
+    requires { length values.old.items ≡ length keys.old.items }
+    ensures even { length values.new.items ≡ length keys.new.items }
+    ensures merged { put_each (zip keys.new.items values.new.items)
+        ≡ put_each (zip keys.old.items values.old.items) }
+    ensures table { IfOk result (λ r. IsTable keys.new.items r) }
+{
+    let mut index = Runs::new(alloc);
+    let mut kept = 0;
+    for at in 0..keys.len() {
+        let before = &keys[..kept];
+        let name = keys[at].as_str();
+        match search(before, &index, name) {
+            Ok(position) => values.swap(position, at),
+            Err(spot) => {
+                if let Err(error) = add_entry(alloc, before, &mut index, name, spot) {
+                    cut_out(keys, values, kept, at);
+                    return Err(error);
+                }
+                keys.swap(kept, at);
+                values.swap(kept, at);
+                kept += 1;
+            }
+        }
+    }
+    keys.truncate(kept);
+    values.truncate(kept);
+    Ok(index)
+}
+
+/// Merges the entries of equal keys: the last value at the position of the first. Returns the index
+/// of the keys that are left, or none where they are few. The error is a failed allocation.
+fn merge<V: Drop>(
+    alloc: Global,
+    keys: &mut Vec<Key>,
+    values: &mut Vec<V>,
+) -> Result<Runs, AllocError>
+    requires { length values.old.items ≡ length keys.old.items }
+    ensures even { length values.new.items ≡ length keys.new.items }
+    ensures merged { put_each (zip keys.new.items values.new.items)
+        ≡ put_each (zip keys.old.items values.old.items) }
+    ensures table { IfOk result (λ r. IsTable keys.new.items r) }
+{
+    if keys.len() <= index::LINEAR_MAX {
+        return put_each(alloc, keys, values);
+    }
+    match index::of(alloc, keys.as_slice())? {
+        Some(index) => Runs::of(alloc, index),
+        None => put_each(alloc, keys, values),
+    }
 }
 
 /// Puts a missing key last. The error is a failed allocation, and then nothing has changed.

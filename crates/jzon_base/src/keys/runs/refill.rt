@@ -8,7 +8,7 @@ ghost use Rattle.jzon_base.specs.Private.Keys.{entry_cmp, hashed_from};
 use super::{Run, Runs};
 use crate::key::Key;
 use crate::keys::hash::hash_of;
-use crate::keys::repeats;
+use crate::keys::order;
 
 /// Replaces entries by those of as many keys from a position on.
 fn put_hashed(entries: &mut [(u64, usize)], keys: &[Key], from: usize)
@@ -32,10 +32,10 @@ impl Run {
         ensures sorted { IsSorted (entry_cmp keys.now) self.new }
     {
         self.entries.truncate(keys.len() - from);
-        let entries = self.entries.as_mut_slice();
-        put_hashed(entries, keys, from);
-        repeats::sort(keys, entries);
-        from + self.entries.len()
+        let end = from + self.entries.len();
+        put_hashed(self.entries.as_mut_slice(), keys, from);
+        order::sort(keys, &mut self.entries);
+        end
     }
 }
 

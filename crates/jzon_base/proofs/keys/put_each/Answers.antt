@@ -1,0 +1,41 @@
+use Rattle.std.proofs.Common.{◌≡◌, ◌∙◌, ◌<◌, ◌++◌, ◌∷◌, [], get_or, length, take, ap, sym, arith}
+use Rattle.std.proofs.lemmas.List.{get_or_default}
+use Rattle.std.proofs.lemmas.Slice.Zip.{length-zip}
+use Rattle.std.specs.List.{position}
+use Rattle.std.specs.Result.{result_ok}
+use Rattle.std.specs.Str.{bytes_eq}
+use Rattle.jzon_base.specs.Private.Handed.{entries_of, IsIndexed}
+use Rattle.jzon_base.proofs.Merged.{merging_none, merging_old, merging_new}
+use Rattle.jzon_base.proofs.keys.put_each.Goals as goal
+use Rattle.jzon_base.proofs.keys.put_each.Goals.{in-Ok, in-Err+in_default}
+
+pub loop-at-init : goal.loop-at-init
+loop-at-init g c = merging_none c.args.keys.now.items c.args.values.now.items c.new-index.result c.requires
+    (ap (λ rs. length (entries_of rs)) c.new-index.ensures)
+
+pub loop-at-preserved : goal.loop-at-preserved
+loop-at-preserved g c =
+    let m = c.loop-at.invariant in
+    let ks = c.loop-at.keys.items in
+    let vs = c.loop-at.values.items in
+    let at = c.loop-at.at in
+    let l : at < length ks = omega (
+      arith,
+      m.counted,
+      length-zip c.args.keys.now.items c.args.values.now.items,
+      c.requires,
+      c.len-at-end.ensures,
+      c.args.keys.now.ok.0,
+    ) in
+    let own : c.as_str-name.result.now ≡ get_or ks at [] = c.as_str-name.ensures ∙ c.index.ensures ∙ get_or_default ks at _ [] l in
+    let place : result_ok c.search.result ≡ position (λ k. bytes_eq k (get_or ks at [])) (take c.loop-at.kept ks) =
+    c.search.ensures.position ∙ (λ i. position (λ k. bytes_eq k (own i)) (take c.loop-at.kept (c.deref.ensures.value i))) in
+    elim c.match-search.branch [
+      | in-Ok w ↦ rw (w.keys-is, w.values-is, w.index-is, w.kept-is, w.swap.ensures.items)
+          (merging_old _ ks vs c.loop-at.index c.loop-at.kept at m l _ (ap result_ok (sym w.in-Ok.is) ∙ place))
+      | in-Err+in_default w ↦
+          (let indexed : IsIndexed (take c.loop-at.kept ks ++ get_or ks at [] ∷ []) w.add_entry.new.index =
+          rw (own, c.deref.ensures.value) at w.in_default.ensures.ok in
+          rw (w.keys-is, w.values-is, w.index-is, w.kept-is, w.swap-in-Err.ensures.items, w.swap-in-Err-2.ensures.items)
+          (merging_new _ ks vs c.loop-at.index c.loop-at.kept at m l _ (ap result_ok (sym w.in-Err.is) ∙ place) indexed))
+    ]
