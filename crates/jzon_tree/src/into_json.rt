@@ -34,11 +34,7 @@ impl IntoJson for JsonValue {
 
     ghost is_free = { λ _. ⊤ };
 
-    fn into_json(self, _alloc: Global) -> Result<JsonValue>
-        ensures meant { IfOk result (λ v. view v ≡ view self) }
-        ensures memory { IsOkUnless result Error.OutOfMemory }
-        ensures free { IsOk result }
-    {
+    fn into_json(self, _alloc: Global) -> Result<JsonValue> {
         Ok(self)
     }
 }

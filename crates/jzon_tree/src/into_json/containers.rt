@@ -1,13 +1,13 @@
 //! Objects, options and lists as values.
 
-ghost use Rattle.std.specs.Prelude.{◌≡◌, ⊤, IfOk, IsOk, IsOkUnless, MatchOption};
+ghost use Rattle.std.specs.Prelude.{◌≡◌, ⊤, MatchOption};
 ghost use Rattle.jzon_tree.specs.IntoJson.{OptionMeans, ListMeans, CloneListMeans};
-ghost use Rattle.jzon_tree.specs.View.{view, view_object};
+ghost use Rattle.jzon_tree.specs.View.{view_object};
 
 use super::IntoJson;
 use crate::object::Object;
 use crate::value::JsonValue;
-use jzon_base::error::{Error, Result};
+use jzon_base::error::Result;
 use std::alloc::Global;
 
 /// It allocates nothing.
@@ -17,11 +17,7 @@ impl IntoJson for Object {
     ghost is_free = { λ _. ⊤ };
 
     #[tactic(auto, using(crate::proofs::Views::views))]
-    fn into_json(self, _alloc: Global) -> Result<JsonValue>
-        ensures meant { IfOk result (λ v. view v ≡ view_object self) }
-        ensures memory { IsOkUnless result Error.OutOfMemory }
-        ensures free { IsOk result }
-    {
+    fn into_json(self, _alloc: Global) -> Result<JsonValue> {
         Ok(JsonValue::Object(self))
     }
 }

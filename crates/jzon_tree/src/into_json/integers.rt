@@ -1,13 +1,12 @@
 //! Integers as values. They allocate nothing.
 
-ghost use Rattle.std.specs.Prelude.{◌≡◌, ⊤, pos, IfOk, IsOk, IsOkUnless};
+ghost use Rattle.std.specs.Prelude.{◌≡◌, ⊤, pos};
 ghost use Rattle.jzon_base.specs.Decimal.{integer_parts};
 ghost use Rattle.jzon_tree.specs.Value.{number};
-ghost use Rattle.jzon_tree.specs.View.{view};
 
 use super::IntoJson;
 use crate::value::JsonValue;
-use jzon_base::error::{Error, Result};
+use jzon_base::error::Result;
 use jzon_base::number::Number;
 use std::alloc::Global;
 
@@ -16,11 +15,7 @@ impl IntoJson for u8 {
 
     ghost is_free = { λ _. ⊤ };
 
-    fn into_json(self, _alloc: Global) -> Result<JsonValue>
-        ensures meant { IfOk result (λ v. view v ≡ number (integer_parts (pos self))) }
-        ensures memory { IsOkUnless result Error.OutOfMemory }
-        ensures free { IsOk result }
-    {
+    fn into_json(self, _alloc: Global) -> Result<JsonValue> {
         Ok(JsonValue::Number(Number::from(self)))
     }
 }
@@ -30,11 +25,7 @@ impl IntoJson for u16 {
 
     ghost is_free = { λ _. ⊤ };
 
-    fn into_json(self, _alloc: Global) -> Result<JsonValue>
-        ensures meant { IfOk result (λ v. view v ≡ number (integer_parts (pos self))) }
-        ensures memory { IsOkUnless result Error.OutOfMemory }
-        ensures free { IsOk result }
-    {
+    fn into_json(self, _alloc: Global) -> Result<JsonValue> {
         Ok(JsonValue::Number(Number::from(self)))
     }
 }
@@ -44,11 +35,7 @@ impl IntoJson for u32 {
 
     ghost is_free = { λ _. ⊤ };
 
-    fn into_json(self, _alloc: Global) -> Result<JsonValue>
-        ensures meant { IfOk result (λ v. view v ≡ number (integer_parts (pos self))) }
-        ensures memory { IsOkUnless result Error.OutOfMemory }
-        ensures free { IsOk result }
-    {
+    fn into_json(self, _alloc: Global) -> Result<JsonValue> {
         Ok(JsonValue::Number(Number::from(self)))
     }
 }
@@ -58,11 +45,7 @@ impl IntoJson for u64 {
 
     ghost is_free = { λ _. ⊤ };
 
-    fn into_json(self, _alloc: Global) -> Result<JsonValue>
-        ensures meant { IfOk result (λ v. view v ≡ number (integer_parts (pos self))) }
-        ensures memory { IsOkUnless result Error.OutOfMemory }
-        ensures free { IsOk result }
-    {
+    fn into_json(self, _alloc: Global) -> Result<JsonValue> {
         Ok(JsonValue::Number(Number::from(self)))
     }
 }
@@ -72,11 +55,7 @@ impl IntoJson for usize {
 
     ghost is_free = { λ _. ⊤ };
 
-    fn into_json(self, _alloc: Global) -> Result<JsonValue>
-        ensures meant { IfOk result (λ v. view v ≡ number (integer_parts (pos self))) }
-        ensures memory { IsOkUnless result Error.OutOfMemory }
-        ensures free { IsOk result }
-    {
+    fn into_json(self, _alloc: Global) -> Result<JsonValue> {
         Ok(JsonValue::Number(Number::from(self)))
     }
 }
@@ -86,11 +65,7 @@ impl IntoJson for i8 {
 
     ghost is_free = { λ _. ⊤ };
 
-    fn into_json(self, _alloc: Global) -> Result<JsonValue>
-        ensures meant { IfOk result (λ v. view v ≡ number (integer_parts self)) }
-        ensures memory { IsOkUnless result Error.OutOfMemory }
-        ensures free { IsOk result }
-    {
+    fn into_json(self, _alloc: Global) -> Result<JsonValue> {
         Ok(JsonValue::Number(Number::from(self)))
     }
 }
@@ -100,11 +75,7 @@ impl IntoJson for i16 {
 
     ghost is_free = { λ _. ⊤ };
 
-    fn into_json(self, _alloc: Global) -> Result<JsonValue>
-        ensures meant { IfOk result (λ v. view v ≡ number (integer_parts self)) }
-        ensures memory { IsOkUnless result Error.OutOfMemory }
-        ensures free { IsOk result }
-    {
+    fn into_json(self, _alloc: Global) -> Result<JsonValue> {
         Ok(JsonValue::Number(Number::from(self)))
     }
 }
@@ -114,11 +85,7 @@ impl IntoJson for i32 {
 
     ghost is_free = { λ _. ⊤ };
 
-    fn into_json(self, _alloc: Global) -> Result<JsonValue>
-        ensures meant { IfOk result (λ v. view v ≡ number (integer_parts self)) }
-        ensures memory { IsOkUnless result Error.OutOfMemory }
-        ensures free { IsOk result }
-    {
+    fn into_json(self, _alloc: Global) -> Result<JsonValue> {
         Ok(JsonValue::Number(Number::from(self)))
     }
 }
@@ -128,11 +95,7 @@ impl IntoJson for i64 {
 
     ghost is_free = { λ _. ⊤ };
 
-    fn into_json(self, _alloc: Global) -> Result<JsonValue>
-        ensures meant { IfOk result (λ v. view v ≡ number (integer_parts self)) }
-        ensures memory { IsOkUnless result Error.OutOfMemory }
-        ensures free { IsOk result }
-    {
+    fn into_json(self, _alloc: Global) -> Result<JsonValue> {
         Ok(JsonValue::Number(Number::from(self)))
     }
 }
@@ -142,11 +105,7 @@ impl IntoJson for isize {
 
     ghost is_free = { λ _. ⊤ };
 
-    fn into_json(self, _alloc: Global) -> Result<JsonValue>
-        ensures meant { IfOk result (λ v. view v ≡ number (integer_parts self)) }
-        ensures memory { IsOkUnless result Error.OutOfMemory }
-        ensures free { IsOk result }
-    {
+    fn into_json(self, _alloc: Global) -> Result<JsonValue> {
         Ok(JsonValue::Number(Number::from(self)))
     }
 }

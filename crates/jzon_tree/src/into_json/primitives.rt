@@ -1,12 +1,11 @@
 //! Booleans, numbers and strings as values.
 
-ghost use Rattle.std.specs.Prelude.{◌≡◌, ⊤, ◌≤◌, length, string_bytes, IfOk, IsOk, IsOkUnless};
+ghost use Rattle.std.specs.Prelude.{◌≡◌, ⊤, ◌≤◌, length, string_bytes};
 ghost use Rattle.jzon_tree.specs.Value.{boolean, number, text, kind_of, long};
-ghost use Rattle.jzon_tree.specs.View.{view};
 
 use super::IntoJson;
 use crate::value::JsonValue;
-use jzon_base::error::{Error, Result};
+use jzon_base::error::Result;
 use jzon_base::number::Number;
 use jzon_base::short::{MAX_LEN, Short};
 use std::alloc::Global;
@@ -17,11 +16,7 @@ impl IntoJson for bool {
 
     ghost is_free = { λ _. ⊤ };
 
-    fn into_json(self, _alloc: Global) -> Result<JsonValue>
-        ensures meant { IfOk result (λ v. view v ≡ boolean self) }
-        ensures memory { IsOkUnless result Error.OutOfMemory }
-        ensures free { IsOk result }
-    {
+    fn into_json(self, _alloc: Global) -> Result<JsonValue> {
         Ok(JsonValue::Boolean(self))
     }
 }
@@ -32,11 +27,7 @@ impl IntoJson for Number {
 
     ghost is_free = { λ _. ⊤ };
 
-    fn into_json(self, _alloc: Global) -> Result<JsonValue>
-        ensures meant { IfOk result (λ v. view v ≡ number self) }
-        ensures memory { IsOkUnless result Error.OutOfMemory }
-        ensures free { IsOk result }
-    {
+    fn into_json(self, _alloc: Global) -> Result<JsonValue> {
         Ok(JsonValue::Number(self))
     }
 }
@@ -47,11 +38,7 @@ impl IntoJson for &str {
 
     ghost is_free = { λ s. length s.now ≤ 30 };
 
-    fn into_json(self, alloc: Global) -> Result<JsonValue>
-        ensures meant { IfOk result (λ v. view v ≡ text (kind_of self.now) self.now) }
-        ensures memory { IsOkUnless result Error.OutOfMemory }
-        ensures free { length self.now ≤ 30 → IsOk result }
-    {
+    fn into_json(self, alloc: Global) -> Result<JsonValue> {
         if self.len() <= MAX_LEN {
             Ok(JsonValue::Short(Short::from_slice(self)))
         } else {
@@ -66,11 +53,7 @@ impl IntoJson for String {
 
     ghost is_free = { λ _. ⊤ };
 
-    fn into_json(self, _alloc: Global) -> Result<JsonValue>
-        ensures meant { IfOk result (λ v. view v ≡ text long (string_bytes self)) }
-        ensures memory { IsOkUnless result Error.OutOfMemory }
-        ensures free { IsOk result }
-    {
+    fn into_json(self, _alloc: Global) -> Result<JsonValue> {
         Ok(JsonValue::String(self))
     }
 }
