@@ -1,4 +1,5 @@
-//! Copies of values and of objects. They allocate, so each can fail with `OutOfMemory` only.
+//! Copies of values and of objects: `clone(alloc)`, and std's `Clone` for `derive(Clone)` and for
+//! `clone` of lists.
 
 ghost use Rattle.std.specs.Prelude.{◌≡◌, ◌+◌, ◌<◌, ◌++◌, ◌∷◌, [], map, true, false, IfOk};
 ghost use Rattle.std.specs.Prelude.{IsOkUnless, vec_len, vec_capacity};
@@ -8,57 +9,46 @@ use crate::object::Object;
 use crate::value::JsonValue;
 use jzon_base::error::{Error, Result};
 use jzon_base::short::Short;
-use std::alloc::Global;
+use std::alloc::{AllocError, Global};
 
 impl JsonValue {
-    /// A copy of the value, with the parts of its numbers and the order of its keys.
+    /// A copy of the value, with the parts of its numbers and the order of its keys. Fails with
+    /// `OutOfMemory` only.
+    ///
+    /// Inlined into the loop over elements: an array in an array takes one frame of the stack.
+    #[inline(always)]
+    #[cycle(copy)]
+    #[tactic(auto, using(crate::proofs::Views::views))]
     pub fn clone(&self, alloc: Global) -> Result<JsonValue>
         ensures copy { IfOk result (λ copy. view copy ≡ view self.now) }
         ensures memory { IsOkUnless result Error.OutOfMemory }
     {
-        copy_value(alloc, self)
+        match self {
+            JsonValue::Null => Ok(JsonValue::Null),
+            JsonValue::Short(text) => Ok(JsonValue::Short(Short::from_slice(text.as_str()))),
+            JsonValue::String(text) => Ok(JsonValue::String(text.clone()?)),
+            JsonValue::Number(number) => Ok(JsonValue::Number(*number)),
+            JsonValue::Boolean(truth) => Ok(JsonValue::Boolean(*truth)),
+            JsonValue::Object(object) => Ok(JsonValue::Object(object.clone(alloc)?)),
+            JsonValue::Array(items) => Ok(JsonValue::Array(copy_items(alloc, items)?)),
+        }
     }
 }
 
 impl Object {
-    /// A copy of the object, with the parts of its numbers and the order of its keys.
+    /// A copy of the object, with the parts of its numbers and the order of its keys. Fails with
+    /// `OutOfMemory` only.
+    #[inline(never)]
+    #[cycle(copy)]
     pub fn clone(&self, alloc: Global) -> Result<Object>
         ensures copy { IfOk result (λ copy. view_object copy ≡ view_object self.now) }
         ensures memory { IsOkUnless result Error.OutOfMemory }
     {
-        copy_object(alloc, self)
+        let values = copy_items(alloc, self.pairs.values())?;
+        Ok(Object {
+            pairs: self.pairs.with_values(alloc, values)?,
+        })
     }
-}
-
-/// Inlined into the loop over elements: an array in an array takes one frame of the stack.
-#[inline(always)]
-#[cycle(copy)]
-#[tactic(auto, using(crate::proofs::Views::views))]
-fn copy_value(alloc: Global, value: &JsonValue) -> Result<JsonValue>
-    ensures copy { IfOk result (λ copy. view copy ≡ view value.now) }
-    ensures memory { IsOkUnless result Error.OutOfMemory }
-{
-    match value {
-        JsonValue::Null => Ok(JsonValue::Null),
-        JsonValue::Short(text) => Ok(JsonValue::Short(Short::from_slice(text.as_str()))),
-        JsonValue::String(text) => Ok(JsonValue::String(text.clone()?)),
-        JsonValue::Number(number) => Ok(JsonValue::Number(*number)),
-        JsonValue::Boolean(truth) => Ok(JsonValue::Boolean(*truth)),
-        JsonValue::Object(object) => Ok(JsonValue::Object(copy_object(alloc, object)?)),
-        JsonValue::Array(items) => Ok(JsonValue::Array(copy_items(alloc, items)?)),
-    }
-}
-
-#[inline(never)]
-#[cycle(copy)]
-fn copy_object(alloc: Global, object: &Object) -> Result<Object>
-    ensures copy { IfOk result (λ copy. view_object copy ≡ view_object object.now) }
-    ensures memory { IsOkUnless result Error.OutOfMemory }
-{
-    let values = copy_items(alloc, object.pairs.values())?;
-    Ok(Object {
-        pairs: object.pairs.with_values(alloc, values)?,
-    })
 }
 
 #[inline(never)]
@@ -70,7 +60,7 @@ fn copy_items(alloc: Global, items: &[JsonValue]) -> Result<Vec<JsonValue>>
     let mut copies = Vec::with_capacity(alloc, items.len())?;
     for item in items {
         if !push_inline(&mut copies, item) {
-            copies.push_reserved(copy_value(alloc, item)?);
+            copies.push_reserved(item.clone(alloc)?);
         }
     }
     Ok(copies)
@@ -105,5 +95,40 @@ fn push_inline(copies: &mut Vec<JsonValue>, value: &JsonValue) -> bool
             true
         }
         _ => false,
+    }
+}
+
+/// A copy of the value, with the parts of its numbers and the order of its keys. The error is a
+/// failed allocation.
+impl Clone for JsonValue {
+    ghost is_clone = { λ v w. view w ≡ view v };
+
+    #[tactic(auto, using(crate::proofs::Views::views))]
+    fn clone(&self) -> std::result::Result<JsonValue, AllocError> {
+        match self {
+            JsonValue::Null => Ok(JsonValue::Null),
+            JsonValue::Short(text) => Ok(JsonValue::Short(Short::from_slice(text.as_str()))),
+            JsonValue::String(text) => Ok(JsonValue::String(text.clone()?)),
+            JsonValue::Number(number) => Ok(JsonValue::Number(*number)),
+            JsonValue::Boolean(boolean) => Ok(JsonValue::Boolean(*boolean)),
+            JsonValue::Object(object) => Ok(JsonValue::Object(Clone::clone(object)?)),
+            JsonValue::Array(items) => match self.clone(*items.allocator()) {
+                Ok(copy) => Ok(copy),
+                Err(_) => Err(AllocError),
+            },
+        }
+    }
+}
+
+/// A copy of the object, with the parts of its numbers and the order of its keys. The error is a
+/// failed allocation.
+impl Clone for Object {
+    ghost is_clone = { λ o p. view_object p ≡ view_object o };
+
+    fn clone(&self) -> std::result::Result<Object, AllocError> {
+        match self.clone(self.pairs.allocator()) {
+            Ok(copy) => Ok(copy),
+            Err(_) => Err(AllocError),
+        }
     }
 }

@@ -3,7 +3,6 @@
 
 mod changers;
 mod clone;
-mod cloned;
 pub mod codegen;
 mod equal;
 mod from;

@@ -1,5 +1,5 @@
 //! JSON values. The methods of `JsonValue` are in `readers` and `view` (what it holds), `changers`
-//! and `lent` (changes), `clone` and `cloned` (copies), `equal` (`==`), `print` (texts) and
+//! and `lent` (changes), `clone` (copies), `equal` (`==`), `print` (texts) and
 //! `codegen::display`.
 
 pub(crate) mod inspect;
