@@ -18,8 +18,21 @@ impl PartialEq for JsonValue {
 
     ghost laws = { on_per view (partial_equiv_from_equiv same_equiv) };
 
+    #[cycle(same)]
+    #[tactic(auto, using(crate::proofs::Views::views))]
     fn eq(&self, other: &JsonValue) -> bool {
-        same_value(self, other)
+        match (self, other) {
+            (JsonValue::Null, JsonValue::Null) => true,
+            (JsonValue::Short(text), JsonValue::Short(other)) => text == other,
+            (JsonValue::Short(text), JsonValue::String(other)) => text.eq_str(other),
+            (JsonValue::String(text), JsonValue::Short(other)) => other.eq_str(text),
+            (JsonValue::String(text), JsonValue::String(other)) => text == other,
+            (JsonValue::Number(number), JsonValue::Number(other)) => number == other,
+            (JsonValue::Boolean(truth), JsonValue::Boolean(other)) => truth == other,
+            (JsonValue::Object(object), JsonValue::Object(other)) => object.eq(other),
+            (JsonValue::Array(items), JsonValue::Array(others)) => same_array(items, others),
+            _ => false,
+        }
     }
 }
 
@@ -27,37 +40,29 @@ impl Eq for JsonValue {
     ghost laws = { on_equiv view same_equiv };
 }
 
+/// The same number of entries, and an equal value for each key of the first: so the second has no
+/// other key.
 impl PartialEq for Object {
     ghost eq = { λ v w. same (view_object v) (view_object w) };
 
     ghost laws = { on_per view_object (partial_equiv_from_equiv same_equiv) };
 
+    #[cycle(same)]
     fn eq(&self, other: &Object) -> bool {
-        same_object(self, other)
+        if self.len() != other.len() {
+            return false;
+        }
+        for ((key, value), entry) in self.iter().zip(other) {
+            if !same_found(value, find_from(other, key, entry)) {
+                return false;
+            }
+        }
+        true
     }
 }
 
 impl Eq for Object {
     ghost laws = { on_equiv view_object same_equiv };
-}
-
-#[cycle(same)]
-#[tactic(auto, using(crate::proofs::Views::views))]
-fn same_value(value: &JsonValue, other: &JsonValue) -> bool
-    ensures { result ≡ same (view value.now) (view other.now) }
-{
-    match (value, other) {
-        (JsonValue::Null, JsonValue::Null) => true,
-        (JsonValue::Short(text), JsonValue::Short(other)) => text == other,
-        (JsonValue::Short(text), JsonValue::String(other)) => text.eq_str(other),
-        (JsonValue::String(text), JsonValue::Short(other)) => other.eq_str(text),
-        (JsonValue::String(text), JsonValue::String(other)) => text == other,
-        (JsonValue::Number(number), JsonValue::Number(other)) => number == other,
-        (JsonValue::Boolean(truth), JsonValue::Boolean(other)) => truth == other,
-        (JsonValue::Object(object), JsonValue::Object(other)) => same_object(object, other),
-        (JsonValue::Array(items), JsonValue::Array(others)) => same_array(items, others),
-        _ => false,
-    }
 }
 
 /// Element by element.
@@ -69,24 +74,7 @@ fn same_array(items: &[JsonValue], others: &[JsonValue]) -> bool
         return false;
     }
     for (item, other) in items.iter().zip(others) {
-        if !same_value(item, other) {
-            return false;
-        }
-    }
-    true
-}
-
-/// The same number of members, and the same value for each key of the first: so the second has no
-/// other key.
-#[cycle(same)]
-fn same_object(object: &Object, other: &Object) -> bool
-    ensures { result ≡ same (view_object object.now) (view_object other.now) }
-{
-    if object.len() != other.len() {
-        return false;
-    }
-    for ((key, value), entry) in object.iter().zip(other) {
-        if !same_found(value, find_from(other, key, entry)) {
+        if !item.eq(other) {
             return false;
         }
     }
@@ -98,7 +86,7 @@ fn same_found(value: &JsonValue, found: Option<&JsonValue>) -> bool
     ensures { result ≡ passes (same (view value.now)) (option_map (λ w. view w.now) found.entry) }
 {
     match found {
-        Some(other) => same_value(value, other),
+        Some(other) => value.eq(other),
         None => false,
     }
 }

@@ -14,27 +14,27 @@ pub same_array-returns-then-items-others : goal.same_array-returns-then-items-ot
 same_array-returns-then-items-others t c = sym (lengths_differ c.args.items.now c.args.others.now
     c.if-items-others.true)
 
-pub same_object-returns-then-len : goal.same_object-returns-then-len
-same_object-returns-then-len t c =
-    sym (counts_differ (entries_of c.args.object.now) (entries_of c.args.other.now) c.len.ensures.distinct
+pub ObjectPartialEq::eq-returns-then-len : goal.ObjectPartialEq::eq-returns-then-len
+ObjectPartialEq::eq-returns-then-len t c =
+    sym (counts_differ (entries_of c.args.self.now) (entries_of c.args.other.now) c.len.ensures.distinct
     c.len-2.ensures.distinct (λ e. c.if-len.true (omega (arith, e))))
 
-pub same_object-find_from-requires : goal.same_object-find_from-requires
-same_object-find_from-requires t c =
+pub ObjectPartialEq::eq-find_from-requires : goal.ObjectPartialEq::eq-find_from-requires
+ObjectPartialEq::eq-find_from-requires t c =
     next_found (entries_of c.args.other.now) (zip_second c.loop-key.key-iterator) (zip_second c.next.new.self) _ _
     c.loop-key.invariant.1 c.in-Some.ensures.steps.1
 
-pub same_object-returns-then-not-same_found : goal.same_object-returns-then-not-same_found
-same_object-returns-then-not-same_found t c =
+pub ObjectPartialEq::eq-returns-then-not-same_found : goal.ObjectPartialEq::eq-returns-then-not-same_found
+ObjectPartialEq::eq-returns-then-not-same_found t c =
     let others = entries_of c.args.other.now in
     let found = ap (passes (same (view c.in-Some.value.now)))
     (view_found c.find_from.result (find c.in-Some.key.now others) c.find_from.ensures) in
-    sym (value_differs (entries_of c.args.object.now) others (zip_first c.loop-key.key-iterator)
+    sym (value_differs (entries_of c.args.self.now) others (zip_first c.loop-key.key-iterator)
     (zip_first c.next.new.self) _ _ c.loop-key.invariant.0 c.in-Some.ensures.steps.0
     (sym found ∙ sym c.if-not-same_found.ensures))
 
-pub same_object-loop-key-preserved : goal.same_object-loop-key-preserved
-same_object-loop-key-preserved t c =
+pub ObjectPartialEq::eq-loop-key-preserved : goal.ObjectPartialEq::eq-loop-key-preserved
+ObjectPartialEq::eq-loop-key-preserved t c =
     let others = entries_of c.args.other.now in
     let found = ap (passes (same (view c.in-Some.value.now)))
     (view_found c.find_from.result (find c.in-Some.key.now others) c.find_from.ensures) in
@@ -42,16 +42,16 @@ same_object-loop-key-preserved t c =
     let second = c.in-Some.ensures.steps.1 in
     let counted = ap (λ (xs : List (List ℕ × JsonValue)). length xs) first in
     let beside = ap (λ (xs : List (List ℕ × JsonValue)). length xs) second in (
-      compared_next (entries_of c.args.object.now) others (zip_first c.loop-key.key-iterator)
+      compared_next (entries_of c.args.self.now) others (zip_first c.loop-key.key-iterator)
           (zip_first c.next.new.self) _ _ c.loop-key.invariant.0 first (sym found ∙ sym c.if-not-same_found.ensures),
       left_next others (zip_second c.loop-key.key-iterator) (zip_second c.next.new.self) _ _
           c.loop-key.invariant.1 second,
       omega (arith, counted, beside),
     )
 
-pub same_object-returns : goal.same_object-returns
-same_object-returns t c =
-    sym (all_compared (entries_of c.args.object.now) (entries_of c.args.other.now) (zip_first c.loop-key.key-iterator)
+pub ObjectPartialEq::eq-returns : goal.ObjectPartialEq::eq-returns
+ObjectPartialEq::eq-returns t c =
+    sym (all_compared (entries_of c.args.self.now) (entries_of c.args.other.now) (zip_first c.loop-key.key-iterator)
     c.len.ensures.distinct (omega arith) c.loop-key.invariant.0 (elim c.in-None.ensures.steps [
       | inl ended ↦ ended.1.0
       | inr ended ↦ none_left (zip_first c.loop-key.key-iterator) (zip_second c.loop-key.key-iterator)
