@@ -64,13 +64,6 @@ pub trait Tree {
         ensures present { OnErr result (find key.now (pairs self.old) ≡ None) }
         ensures memory { IsOkUnless result Error.OutOfMemory };
 
-    /// The entries of a value that is an object.
-    fn object_pairs(&mut self) -> &mut Pairs<Self::Node>
-        requires { object (pairs self.old) ≡ self.old }
-        ensures* writes_back { sem 𝓛 (Lends Self.row
-            (pairs_row Self.Node.row) self.entry result object) }
-        ensures value { result.now ≡ pairs self.old };
-
     /// Makes the value an array that has an element for the index. Fails only with `OutOfMemory`,
     /// and then the value means what it meant.
     fn make_place(&mut self, alloc: Global, index: usize) -> Result<()>
@@ -107,8 +100,10 @@ pub trait Tree {
         ensures memory { IsOkUnless result Error.OutOfMemory }
     {
         self.make_key(alloc, key)?;
-        let pairs = self.object_pairs();
-        Ok(pairs.member_mut(key))
+        match self.get_in(key) {
+            Some(node) => Ok(node),
+            None => unreachable!(),
+        }
     }
 
     /// The element of an array for an index, which is added if it is missing. Fails only with
@@ -164,13 +159,6 @@ impl Tree for JsonValue {
         object.insert(alloc, key, JsonValue::Null)?;
         *self = JsonValue::Object(object);
         Ok(())
-    }
-
-    fn object_pairs(&mut self) -> &mut Pairs<JsonValue> {
-        match self {
-            JsonValue::Object(object) => &mut object.pairs,
-            _ => unreachable!(),
-        }
     }
 
     fn make_place(&mut self, alloc: Global, index: usize) -> Result<()> {

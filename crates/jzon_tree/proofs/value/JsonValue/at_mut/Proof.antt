@@ -83,7 +83,6 @@ at_mut_spec {M} 𝓤 𝓛 𝓜 𝓡 wired =
     (impl_met.passed 𝓡.env
     (code.calls-jzon_tree::lent::tree::JsonValueTree::pairs_mut 𝓡.env wired)
     (code.calls-jzon_tree::lent::tree::JsonValueTree::make_key 𝓡.env wired)
-    (code.calls-jzon_tree::lent::tree::JsonValueTree::object_pairs 𝓡.env wired)
     (code.calls-jzon_tree::lent::tree::JsonValueTree::make_place 𝓡.env wired)
     (code.calls-jzon_tree::lent::tree::JsonValueTree::array_items 𝓡.env wired)
     M 𝓤 𝓛 𝓜 𝓡)) z
