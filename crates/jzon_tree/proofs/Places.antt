@@ -21,6 +21,6 @@ first_or_second null zero false h = absurd (cc h)
 first_or_second null (suc i) false h = omega arith
 
 pub place_is : {V : Type 0} (null : V) (o : Option (List V)) (i : ℕ)
-    → min i (length (with_place null o i) - 1) ≡ place_in null o i
+    → min i (length (with_place null o i) - 1) ≡ place_in o i
 place_is null None i = first_or_second null i (nat_eq i 0) refl
 place_is null (Some xs) i = within_or_last null xs i (nat_lt i (length xs)) refl

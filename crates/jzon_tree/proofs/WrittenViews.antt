@@ -73,7 +73,7 @@ with_place-view (Some vs) i =
     ∙ sym (map-if (nat_lt i (length vs)) vs (vs ++ Null ∷ []))
 
 place_in-view : (o : Option (List JsonValue)) (i : ℕ)
-    → place_in null (option_map (map view) o) i ≡ place_in Null o i
+    → place_in (option_map (map view) o) i ≡ place_in o i
 place_in-view None i = refl
 place_in-view (Some vs) i = ap (λ (n : ℕ). if nat_lt i n then i else n) (length-map vs view)
 
@@ -90,15 +90,15 @@ array_of_items (array vs) ws h = subst (λ (us : List Value). array vs ≡ array
     (ap array (sym (values_of-list_of_values vs)))
 
 pub view-items : (i : ℕ) (w v u : JsonValue)
-    → items_in u ≡ Some (slice_set (with_place Null (items_in v) i) (place_in Null (items_in v) i) w)
-    → view u ≡ array (values_of (slice_set (with_place null (items_of (view v)) i) (place_in null (items_of (view v)) i)
+    → items_in u ≡ Some (slice_set (with_place Null (items_in v) i) (place_in (items_in v) i) w)
+    → view u ≡ array (values_of (slice_set (with_place null (items_of (view v)) i) (place_in (items_of (view v)) i)
     (view w)))
 view-items i w v u h =
     array_of_items (view u) _ (items_of-view u ∙ ap (option_map (map view)) h
-    ∙ ap (λ (ws : List Value). Some ws) (map-set view (with_place Null (items_in v) i) (place_in Null (items_in v) i) w
-    ∙ sym (ap (λ (o : Option (List Value)). slice_set (with_place null o i) (place_in null o i) (view w))
+    ∙ ap (λ (ws : List Value). Some ws) (map-set view (with_place Null (items_in v) i) (place_in (items_in v) i) w
+    ∙ sym (ap (λ (o : Option (List Value)). slice_set (with_place null o i) (place_in o i) (view w))
     (items_of-view v)
-    ∙ ap (λ (ws : List Value). slice_set ws (place_in null (option_map (map view) (items_in v)) i) (view w))
+    ∙ ap (λ (ws : List Value). slice_set ws (place_in (option_map (map view) (items_in v)) i) (view w))
     (with_place-view (items_in v) i)
     ∙ ap (λ (n : ℕ). slice_set (map view (with_place Null (items_in v) i)) n (view w)) (place_in-view (items_in v) i))))
 

@@ -47,9 +47,9 @@ with_place null None i = if nat_eq i 0 then null ∷ [] else null ∷ null ∷ [
 
 -- The position of that element: i if it is in range, else that of the appended null; in an array made anew 0 for i = 0,
 -- and 1 for any other i.
-abbrev pub place_in : {V : Type 0} → V → Option (List V) → ℕ → ℕ
-place_in null (Some xs) i = if nat_lt i (length xs) then i else length xs
-place_in null None i = if nat_eq i 0 then 0 else 1
+abbrev pub place_in : {V : Type 0} → Option (List V) → ℕ → ℕ
+place_in (Some xs) i = if nat_lt i (length xs) then i else length xs
+place_in None i = if nat_eq i 0 then 0 else 1
 
 -- the elements after `at_index_mut`
 abbrev pub items_with_place : JsonValue → ℕ → List JsonValue
@@ -57,7 +57,7 @@ items_with_place v i = with_place Null (items_in v) i
 
 -- the position of the element that it returns
 abbrev pub place_made : JsonValue → ℕ → ℕ
-place_made v i = place_in Null (items_in v) i
+place_made v i = place_in (items_in v) i
 
 -- ---- an object or array value has what it was built from
 

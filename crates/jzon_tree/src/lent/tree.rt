@@ -112,10 +112,10 @@ pub trait Tree {
     final fn at_index_in(&mut self, alloc: Global, index: usize) -> Result<&mut Self::Node>
         ensures* writes_back { sem 𝓛 (LendsSoOk Self.row Self.Node.row self.entry result
             (λ n w. items n ≡ Some (slice_set (with_place null (items self.old) index)
-            (place_in null (items self.old) index) w))
+            (place_in (items self.old) index) w))
             (λ n. meaning n ≡ meaning self.old)) }
         ensures value { IfOk result (λ place. slice_get (with_place null (items self.old) index)
-            (place_in null (items self.old) index) ≡ Some place.now) }
+            (place_in (items self.old) index) ≡ Some place.now) }
         ensures present { OnErr result (IfSome (items self.old) (λ xs. length xs ≤ index)) }
         ensures memory { IsOkUnless result Error.OutOfMemory }
     {

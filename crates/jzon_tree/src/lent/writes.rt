@@ -50,7 +50,7 @@ pub fn write_at_index(
 ) -> Result<()>
     ensures ok { OnOk result (view value.new ≡
         array (values_of (slice_set (with_place null (items_of (view value.old)) index)
-        (place_in null (items_of (view value.old)) index) (view item)))) }
+        (place_in (items_of (view value.old)) index) (view item)))) }
     ensures err { OnErr result (view value.new ≡ view value.old) }
     ensures present { OnErr result (IfSome (items_of (view value.old))
         (λ items. length items ≤ index)) }
@@ -100,7 +100,7 @@ where
     T::Node: Drop,
     ensures ok { OnOk result (T.items tree.new
         ≡ Some (slice_set (with_place T.null (T.items tree.old) index)
-        (place_in T.null (T.items tree.old) index) value)) }
+        (place_in (T.items tree.old) index) value)) }
     ensures err { OnErr result (T.meaning tree.new ≡ T.meaning tree.old) }
     ensures present { OnErr result (IfSome (T.items tree.old) (λ items. length items ≤ index)) }
     ensures memory { IsOkUnless result Error.OutOfMemory }
