@@ -269,7 +269,7 @@ fn put_value(value: &mut JsonValue, alloc: Global, key: &str, written: JsonValue
 fn put_item(value: &mut JsonValue, alloc: Global, index: usize, written: JsonValue) -> Result<()>
     ensures ok { OnOk result (view value.new ≡
         array (values_of (slice_set (with_place null (items_of (view value.old)) index)
-        (place_in null (items_of (view value.old)) index) (view written)))) }
+        (place_in (items_of (view value.old)) index) (view written)))) }
     ensures err { OnErr result (view value.new ≡ view value.old) }
 {
     write_at_index(value, alloc, index, written)
