@@ -1,7 +1,7 @@
 //! Strings and their escapes (docs/RULES.md, "Printed values").
 
-ghost use Rattle.std.specs.Prelude.{◌≡◌, ◌+◌, ◌≤◌, ◌++◌, ◌∷◌, [], false, length, take, drop, OnOk, OnErr, IsSome};
-ghost use Rattle.std.specs.Prelude.{IsTrue, replicate, slice_index_or, vec_len, vec_capacity};
+ghost use Rattle.std.specs.Prelude.{◌≡◌, ◌+◌, ◌≤◌, ◌++◌, ◌∷◌, [], false, length, take, drop, OnErr, IsSome};
+ghost use Rattle.std.specs.Prelude.{IsTrue, slice_index_or, vec_len, vec_capacity};
 ghost use Rattle.std.specs.List.{prefix_len};
 ghost use Rattle.jzon_base.specs.Private.PlainBytes.{is_plain};
 ghost use Rattle.jzon_tree.specs.Generator.{Sends, Just};
@@ -10,7 +10,6 @@ ghost use Rattle.jzon_tree.specs.Text.{escaped, escaped_byte, quoted};
 use crate::codegen::error_slot::{ErrorSlot, SlotResult, send};
 use jzon_base::util::escapes::{hex_digit, letter_of};
 use jzon_base::util::plain::{is_plain_by_ends, plain_len};
-use std::alloc::AllocError;
 use std::io::Write;
 use std::simd::Simd;
 
@@ -18,10 +17,10 @@ use std::simd::Simd;
 pub(super) const ESCAPE_MAX_LEN: usize = 6;
 
 /// The most bytes of a string that is added by its first and last bytes.
-const SHORT_MAX_LEN: usize = 32;
+const BY_ENDS_MAX_LEN: usize = 32;
 
 /// The room that any of these takes with its quotes.
-const SHORT_ROOM: usize = SHORT_MAX_LEN + 2;
+const BY_ENDS_ROOM: usize = BY_ENDS_MAX_LEN + 2;
 
 /// Writes the prefix as it is, the text escaped, and the closing quote. Runs of bytes that need no
 /// escape are written whole.
@@ -43,34 +42,29 @@ pub(super) fn send_string<W: Write>(
         let Some((byte, others)) = others.split_first() else {
             break;
         };
-        send_escape(writer, *byte, slot)?;
+        let mut room = [0; ESCAPE_MAX_LEN];
+        let start = put_escape(&mut room, *byte);
+        send(writer, &room[start..], slot)?;
         rest = others;
     }
     send(writer, b"\"", slot)
 }
 
-/// Adds a string in quotes if it is short, needs no escape, and there is room for it, and returns
-/// whether it did. Otherwise nothing is added.
+/// Adds a string of at most 32 bytes in quotes if it needs no escape and there is room for 34
+/// bytes, and returns whether it did. Otherwise nothing is added.
 #[inline(always)]
 pub fn push_short(bytes: &mut Vec<u8>, string: &[u8]) -> bool
     ensures done { IsTrue result → bytes.new.items ≡ bytes.old.items ++ quoted string.now }
     ensures left { result ≡ false → bytes.new.items ≡ bytes.old.items }
 {
-    let is_short = string.len() <= SHORT_MAX_LEN;
-    is_short && bytes.capacity() - bytes.len() >= SHORT_ROOM && push_if_plain(bytes, string)
-}
-
-/// Adds a short string in quotes if it needs no escape: it overwrites quotes added first, and the
-/// rest is truncated. Otherwise nothing is added, and the result is `false`.
-#[inline(always)]
-fn push_if_plain(bytes: &mut Vec<u8>, string: &[u8]) -> bool
-    requires short { length string.now ≤ SHORT_MAX_LEN }
-    requires reserved { vec_len bytes.old + SHORT_ROOM ≤ vec_capacity bytes.old }
-    ensures done { IsTrue result → bytes.new.items ≡ bytes.old.items ++ quoted string.now }
-    ensures left { result ≡ false → bytes.new.items ≡ bytes.old.items }
-{
     let start = bytes.len();
-    push_quotes(bytes, SHORT_ROOM);
+    if string.len() > BY_ENDS_MAX_LEN || bytes.capacity() - start < BY_ENDS_ROOM {
+        return false;
+    }
+    // The string is put over quotes, and the quotes after the second are cut off.
+    let Ok(()) = bytes.resize(start + BY_ENDS_ROOM, b'"') else {
+        unreachable!()
+    };
     if put_if_plain(bytes.as_mut_slice(), start + 1, string) {
         bytes.truncate(start + (string.len() + 2));
         return true;
@@ -79,23 +73,11 @@ fn push_if_plain(bytes: &mut Vec<u8>, string: &[u8]) -> bool
     false
 }
 
-/// Adds quotes, for which there is room.
-#[inline(always)]
-fn push_quotes(bytes: &mut Vec<u8>, count: usize)
-    requires { vec_len bytes.old + count ≤ vec_capacity bytes.old }
-    ensures { bytes.new.items ≡ bytes.old.items ++ replicate count 34 }
-{
-    let len = bytes.len() + count;
-    let Ok(()) = bytes.resize(len, b'"') else {
-        unreachable!()
-    };
-}
-
 /// Puts a short string at an offset if it needs no escape. Otherwise nothing is put, and the result
 /// is false.
 #[inline(always)]
 fn put_if_plain(bytes: &mut [u8], offset: usize, string: &[u8]) -> bool
-    requires short { length string.now ≤ SHORT_MAX_LEN }
+    requires few { length string.now ≤ BY_ENDS_MAX_LEN }
     requires within { offset + length string.now ≤ length bytes.old }
     ensures plain { IsTrue result → length string.now ≤ prefix_len is_plain string.now }
     ensures text { IsTrue result → take (offset + length string.now) bytes.new
@@ -142,40 +124,21 @@ fn put_plain_ends<const N: usize>(bytes: &mut [u8], offset: usize, string: &[u8]
 }
 
 /// Adds a string in quotes if it needs no escape and no allocation fails, and returns whether it
-/// did. Otherwise nothing is added.
+/// did. Otherwise nothing is added. Room is requested once.
 #[inline(never)]
 pub(super) fn push_plain(bytes: &mut Vec<u8>, string: &[u8]) -> bool
     ensures done { IsTrue result → bytes.new.items ≡ bytes.old.items ++ quoted string.now }
     ensures left { result ≡ false → bytes.new.items ≡ bytes.old.items }
 {
-    plain_len(string) == string.len() && push_quoted(bytes, string).is_ok()
-}
-
-/// Adds in quotes a string that needs no escape, with one request for room. After an error nothing
-/// is added.
-#[inline(always)]
-fn push_quoted(bytes: &mut Vec<u8>, string: &[u8]) -> Result<(), AllocError>
-    requires { length string.now ≤ prefix_len is_plain string.now }
-    ensures ok { OnOk result (bytes.new.items ≡ bytes.old.items ++ quoted string.now) }
-    ensures err { OnErr result (bytes.new.items ≡ bytes.old.items) }
-{
-    bytes.reserve(string.len() + 2)?;
+    if plain_len(string) < string.len() || bytes.reserve(string.len() + 2).is_err() {
+        return false;
+    }
     bytes.push_reserved(b'"');
-    bytes.extend_from_slice(string)?;
+    let Ok(()) = bytes.extend_from_slice(string) else {
+        unreachable!()
+    };
     bytes.push_reserved(b'"');
-    Ok(())
-}
-
-/// Writes the escape of a byte that needs one.
-fn send_escape<W: Write>(writer: &mut W, byte: u8, slot: &mut ErrorSlot) -> SlotResult<()>
-    requires { is_plain byte ≡ false }
-    ensures bytes { Sends (Just (escaped_byte byte)) (W.contents writer.old)
-        (W.contents writer.new) result }
-    ensures slot { OnErr result (IsSome slot.new) }
-{
-    let mut room = [0; ESCAPE_MAX_LEN];
-    let start = put_escape(&mut room, byte);
-    send(writer, &room[start..], slot)
+    true
 }
 
 /// Puts the escape of a byte that needs one at the end of `room`, and returns its start.

@@ -1,6 +1,6 @@
 use Rattle.std.proofs.Common.{◌∙◌, sym}
 use Rattle.std.proofs.lemmas.List.Sums.{prefix_len-le-length}
-use Rattle.std.proofs.lemmas.List.{nil_from_length}
+use Rattle.std.proofs.lemmas.List.{nil_from_length, take_rest}
 use Rattle.jzon_base.specs.Private.PlainBytes.{is_plain}
 use Rattle.jzon_tree.proofs.Sent.{Sends-at_err}
 use Rattle.jzon_tree.proofs.SentStrings.{any_run_stopped, escape_stopped, escape_sent, last_sent, needs_escape, closes}
@@ -15,22 +15,26 @@ returns-in_err-send-2-clause-bytes g c =
     (any_run_stopped c.args.prefix.now c.args.text.now c.loop-byte.rest.now _ _ c.split_at.ensures.front
     c.plain_len.ensures _ _ c.loop-byte.invariant _ c.in_err-send-2.ensures.bytes)
 
-pub send_escape-requires : goal.send_escape-requires
-send_escape-requires g c = needs_escape c.loop-byte.rest.now c.in-Some.others.now _ _ c.plain_len.ensures
+pub put_escape-start-requires : goal.put_escape-start-requires
+put_escape-start-requires g c = needs_escape c.loop-byte.rest.now c.in-Some.others.now _ _ c.plain_len.ensures
     (sym c.split_at.ensures.back ∙ c.in-Some.ensures.cases.0)
 
-pub returns-in_err-send_escape-clause-bytes : goal.returns-in_err-send_escape-clause-bytes
-returns-in_err-send_escape-clause-bytes g c =
-    Sends-at_err _ _ _ _ c.from_residual-in_err-send_escape.ensures.0
+pub returns-in_err-send-3-clause-bytes : goal.returns-in_err-send-3-clause-bytes
+returns-in_err-send-3-clause-bytes g c =
+    let same = rw c.put_escape-start.array_long at
+    (take_rest c.put_escape-start.new.room c.put_escape-start.result ∙ c.put_escape-start.ensures.text) in
+    Sends-at_err _ _ _ _ c.from_residual-in_err-send-3.ensures.0
     (escape_stopped c.args.prefix.now c.args.text.now c.loop-byte.rest.now _ c.in-Some.others.now _ _
     c.split_at.ensures.front c.plain_len.ensures (sym c.split_at.ensures.back ∙ c.in-Some.ensures.cases.0) _ _
-    c.loop-byte.invariant _ c.in_ok-send-2.ensures.bytes _ c.in_err-send_escape.ensures.bytes)
+    c.loop-byte.invariant _ c.in_ok-send-2.ensures.bytes _ (rw same at c.in_err-send-3.ensures.bytes))
 
 pub loop-byte-preserved : goal.loop-byte-preserved
 loop-byte-preserved g c =
+    let same = rw c.put_escape-start.array_long at
+    (take_rest c.put_escape-start.new.room c.put_escape-start.result ∙ c.put_escape-start.ensures.text) in
     escape_sent c.args.prefix.now c.args.text.now c.loop-byte.rest.now _ c.in-Some.others.now _ _
     c.split_at.ensures.front c.plain_len.ensures (sym c.split_at.ensures.back ∙ c.in-Some.ensures.cases.0) _ _
-    c.loop-byte.invariant _ c.in_ok-send-2.ensures.bytes _ c.in_ok-send_escape.ensures.bytes
+    c.loop-byte.invariant _ c.in_ok-send-2.ensures.bytes _ (rw same at c.in_ok-send-3.ensures.bytes)
 
 pub returns-clause-bytes : goal.returns-clause-bytes
 returns-clause-bytes g c =
