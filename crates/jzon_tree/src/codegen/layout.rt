@@ -2,7 +2,7 @@
 //! (docs/RULES.md, "Layouts of one's own").
 
 ghost use Rattle.std.specs.Prelude.{◌≡◌, ◌+◌, ◌≤◌, ◌<◌, ◌∷◌, ◌++◌, Bool, true, false, IsTrue, IfOk, Ok, None};
-ghost use Rattle.std.specs.Prelude.{OnErr, IsSome, replicate, vec_len, vec_capacity};
+ghost use Rattle.std.specs.Prelude.{OnErr, IsSome, replicate};
 ghost use Rattle.jzon_base.specs.PairList.{keys_of};
 ghost use Rattle.jzon_tree.specs.Entries.{entries_of};
 ghost use Rattle.jzon_tree.specs.Generator.{IsAnswer, Sends, Just};
@@ -18,8 +18,8 @@ use std::io::Write;
 /// The most spaces that one write has.
 const SPACES: [u8; 512] = [b' '; 512];
 
-/// The most bytes of a line's start that are copied at once into memory.
-const SHORT_LINE: usize = 8;
+/// How many bytes of a line's start are copied at once into memory.
+const LINE_ROOM: usize = 8;
 
 /// The newline, and the spaces that are written with it.
 #[rattlefmt::skip]
@@ -156,26 +156,15 @@ pub fn push_line(bytes: &mut Vec<u8>, spaces: u128) -> bool
     ensures done { IsTrue result → bytes.new.items ≡ bytes.old.items ++ 10 ∷ replicate spaces 32 }
     ensures left { result ≡ false → bytes.new.items ≡ bytes.old.items }
 {
-    let is_short = spaces < SHORT_LINE as u128 && SHORT_LINE <= bytes.capacity() - bytes.len();
-    if is_short {
-        push_few(bytes, spaces as usize);
+    if spaces >= LINE_ROOM as u128 || bytes.capacity() - bytes.len() < LINE_ROOM {
+        return false;
     }
-    is_short
-}
-
-/// Adds a newline and fewer than `SHORT_LINE` spaces: `SHORT_LINE` bytes are copied, and the rest
-/// is truncated.
-#[inline(always)]
-fn push_few(bytes: &mut Vec<u8>, spaces: usize)
-    requires few { spaces < SHORT_LINE }
-    requires reserved { vec_len bytes.old + SHORT_LINE ≤ vec_capacity bytes.old }
-    ensures { bytes.new.items ≡ bytes.old.items ++ 10 ∷ replicate spaces 32 }
-{
-    let end = bytes.len() + (spaces + 1);
-    let Ok(()) = bytes.extend_from_slice(&NEWLINE_AND_SPACES[..SHORT_LINE]) else {
+    let end = bytes.len() + (spaces as usize + 1);
+    let Ok(()) = bytes.extend_from_slice(&NEWLINE_AND_SPACES[..LINE_ROOM]) else {
         unreachable!()
     };
     bytes.truncate(end);
+    true
 }
 
 /// Writes `spaces` spaces.

@@ -1,7 +1,7 @@
 //! The texts of numbers (docs/RULES.md, "Printed numbers").
 
 ghost use Rattle.std.specs.Prelude.{◌≡◌, ◌++◌, IsTrue, false, OnErr, IsSome};
-ghost use Rattle.jzon_base.specs.NumberText.{number_text, written_text};
+ghost use Rattle.jzon_base.specs.NumberText.{written_text};
 ghost use Rattle.jzon_tree.specs.Generator.{Sends, Just};
 
 use crate::codegen::error_slot::{ErrorSlot, SlotResult, send};
@@ -46,17 +46,6 @@ pub(super) fn text_of_number<'a>(
         return b"null";
     }
     let (positive, mantissa, exponent) = number.as_parts();
-    text_of_parts(room, positive, mantissa, exponent)
-}
-
-fn text_of_parts<'a>(
-    room: &'a mut [u8; print_dec::MAX_LEN],
-    positive: bool,
-    mantissa: u64,
-    exponent: i16,
-) -> &'a [u8]
-    ensures { result.now ≡ number_text positive mantissa exponent }
-{
     let start = print_dec::put(room, positive, mantissa, exponent);
     &room[start..]
 }

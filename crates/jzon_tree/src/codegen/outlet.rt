@@ -1,17 +1,16 @@
 //! Where a `TextGenerator` writes (docs/RULES.md, "Generators").
 
-ghost use Rattle.std.specs.Prelude.{◌≡◌, ◌∷◌, ℕ, List, [], Option, None, Some, IsTrue, false, OnErr, IsSome, refl};
+ghost use Rattle.std.specs.Prelude.{◌≡◌, ◌∷◌, ℕ, List, [], Option, None, Some, IsTrue, false, refl};
 ghost use Rattle.std.specs.Prelude.{replicate};
 ghost use Rattle.std.specs.Borrow.{GName, sem, Lends};
 ghost use Rattle.jzon_base.specs.NumberText.{written_text};
-ghost use Rattle.jzon_tree.specs.Generator.{Adds, Just, Sends};
+ghost use Rattle.jzon_tree.specs.Generator.{Adds, Just};
 ghost use Rattle.jzon_tree.specs.Generators.{bytes_in, with_bytes};
 ghost use Rattle.jzon_tree.specs.Text.{quoted};
 
-use crate::codegen::error_slot::{ErrorSlot, SlotResult};
-use crate::codegen::layout::{push_line, send_line};
-use crate::codegen::numbers::{push_digits, send_number};
-use crate::codegen::strings::{push_plain, push_short, send_string};
+use crate::codegen::layout::push_line;
+use crate::codegen::numbers::push_digits;
+use crate::codegen::strings::{push_plain, push_short};
 use jzon_base::number::Number;
 use std::io::Write;
 
@@ -205,53 +204,4 @@ impl<'a, W: Outlet> Place for Through<'a, W> {
     ghost out_law = { λ _ _. refl };
 
     ghost lender_law = { λ _ _. refl };
-}
-
-/// Writes the string in quotes, escaped: at once where it is taken so, else by the writer.
-#[inline(always)]
-pub(super) fn string_to<P: Place>(
-    place: &mut P,
-    string: &[u8],
-    slot: &mut ErrorSlot,
-) -> SlotResult<()>
-    ensures bytes { Sends (Just (quoted string.now)) (P.out place.old) (P.out place.new) result }
-    ensures lender { P.lender place.new ≡ P.lender place.old }
-    ensures slot { OnErr result (IsSome slot.new) }
-{
-    if place.put_string(string) {
-        return Ok(());
-    }
-    send_string(place.writer(), b"\"", string, slot)
-}
-
-/// Writes the text of the number, or `null` for NaN, likewise.
-#[inline(always)]
-pub(super) fn number_to<P: Place>(
-    place: &mut P,
-    number: &Number,
-    slot: &mut ErrorSlot,
-) -> SlotResult<()>
-    ensures bytes { Sends (Just (written_text number.now)) (P.out place.old) (P.out place.new)
-        result }
-    ensures lender { P.lender place.new ≡ P.lender place.old }
-    ensures slot { OnErr result (IsSome slot.new) }
-{
-    if place.put_number(number) {
-        return Ok(());
-    }
-    send_number(place.writer(), number, slot)
-}
-
-/// Writes a newline and `spaces` spaces, likewise.
-#[inline(always)]
-pub(super) fn line_to<P: Place>(place: &mut P, spaces: u128, slot: &mut ErrorSlot) -> SlotResult<()>
-    ensures bytes { Sends (Just (10 ∷ replicate spaces 32)) (P.out place.old) (P.out place.new)
-        result }
-    ensures lender { P.lender place.new ≡ P.lender place.old }
-    ensures slot { OnErr result (IsSome slot.new) }
-{
-    if place.put_line(spaces) {
-        return Ok(());
-    }
-    send_line(place.writer(), spaces, slot)
 }

@@ -11,8 +11,10 @@ ghost use Rattle.jzon_tree.specs.Styles.{compact_style, pretty_style};
 
 use crate::codegen::error_slot::{ErrorSlot, SlotResult, send, take_result};
 use crate::codegen::generator::Generator;
-use crate::codegen::layout::{Compact, Layout, Pretty};
-use crate::codegen::outlet::{Memory, Outlet, Place, Through, line_to, number_to, string_to};
+use crate::codegen::layout::{Compact, Layout, Pretty, send_line};
+use crate::codegen::numbers::send_number;
+use crate::codegen::outlet::{Memory, Outlet, Place, Through};
+use crate::codegen::strings::send_string;
 use crate::object::Object;
 use jzon_base::error::{Error, Result};
 use jzon_base::number::Number;
@@ -66,18 +68,6 @@ impl<P: Place, L: Layout> Generator for TextGenerator<P, L> {
 
     fn get_writer(&mut self) -> &mut P::T {
         self.place.writer()
-    }
-
-    fn write(&mut self, slice: &[u8]) -> io::Result<()> {
-        let mut slot = None;
-        let step = self.try_write(slice, &mut slot);
-        take_result(step, slot)
-    }
-
-    fn write_char(&mut self, ch: u8) -> io::Result<()> {
-        let mut slot = None;
-        let step = self.try_write_char(ch, &mut slot);
-        take_result(step, slot)
     }
 
     fn write_min(&mut self, slice: &[u8], min: u8) -> io::Result<()> {
@@ -165,12 +155,19 @@ impl<P: Place, L: Layout> Generator for TextGenerator<P, L> {
     }
 
     fn try_write_string(&mut self, string: &str, slot: &mut ErrorSlot) -> SlotResult<()> {
-        let step = string_to(&mut self.place, string.as_bytes(), slot);
+        let bytes = string.as_bytes();
+        if self.place.put_string(bytes) {
+            return Ok(());
+        }
+        let step = send_string(self.place.writer(), b"\"", bytes, slot);
         self.count(step)
     }
 
     fn try_write_number(&mut self, num: &Number, slot: &mut ErrorSlot) -> SlotResult<()> {
-        let step = number_to(&mut self.place, num, slot);
+        if self.place.put_number(num) {
+            return Ok(());
+        }
+        let step = send_number(self.place.writer(), num, slot);
         self.count(step)
     }
 
@@ -180,7 +177,10 @@ impl<P: Place, L: Layout> Generator for TextGenerator<P, L> {
             return Ok(());
         };
         let spaces = self.dent as u128 * spaces as u128;
-        let step = line_to(&mut self.place, spaces, slot);
+        if self.place.put_line(spaces) {
+            return Ok(());
+        }
+        let step = send_line(self.place.writer(), spaces, slot);
         self.count(step)
     }
 

@@ -1,11 +1,28 @@
-use Rattle.std.proofs.Common.{◌*◌, Some, false, refl}
+use Rattle.std.proofs.Common.{◌∙◌, ◌*◌, Some, false, refl}
 use Rattle.jzon_tree.specs.Generators.{text_meaning, same_emitted}
 use Rattle.jzon_tree.specs.StyleLaws.{spaces_are_whitespace}
 use Rattle.jzon_tree.specs.Styles.{LaysOut}
 use Rattle.jzon_tree.specs.Text.{pretty_layout}
 use Rattle.jzon_tree.specs.Writing.{IsAllowedWhitespace}
 use Rattle.jzon_tree.proofs.Emitting.{Emits-counted}
+use Rattle.jzon_tree.proofs.Sent.{adds_weaker}
+use Rattle.jzon_tree.specs.Generator.{Just}
 use Rattle.jzon_tree.proofs.codegen.text_generator.TextGeneratorGenerator.try_new_line.Goals as goal
+
+pub returns-then-put_line-clause-bytes : goal.returns-then-put_line-clause-bytes
+returns-then-put_line-clause-bytes g c =
+    let s = c.args.self.now in
+    let style = g.L.Layout.style s.layout in
+    let n = c.in-Some.spaces in
+    let laid : LaysOut style (Some n) = rw c.in-Some.is at c.spaces.ensures in
+    record {
+      bytes = adds_weaker (Just ((pretty_layout n).line s.dent)) (IsAllowedWhitespace style s.dent) _ _
+          (λ x e. rw e (spaces_are_whitespace false (s.dent * n), laid.0 s.dent)) (c.put_line.ensures.done c.if-put_line.true);
+      dent = refl;
+      faults = refl;
+      style = refl;
+      lender = c.put_line.ensures.lender;
+    }
 
 pub returns-clause-bytes : goal.returns-clause-bytes
 returns-clause-bytes g c =
@@ -13,7 +30,12 @@ returns-clause-bytes g c =
     let style = g.L.Layout.style s.layout in
     let n = c.in-Some.spaces in
     let laid : LaysOut style (Some n) = rw c.in-Some.is at c.spaces.ensures in
+    let place = c.put_line.new.self in
+    let writer = c.send_line-step.new.writer in
     Emits-counted (IsAllowedWhitespace style s.dent) ((pretty_layout n).line s.dent)
     (text_meaning g.P.Place.out g.P.Place.lender g.L.Layout.style s) _ _ _ _ _ _
-    (spaces_are_whitespace false (s.dent * n), laid.0 s.dent) refl c.line_to-step.ensures.bytes
-    (same_emitted refl c.line_to-step.ensures.lender) c.count.ensures.result c.count.ensures.faults
+    (spaces_are_whitespace false (s.dent * n), laid.0 s.dent)
+    (c.writer.ensures.bytes ∙ c.put_line.ensures.left c.if-put_line.false) c.send_line-step.ensures.bytes
+    (same_emitted (g.met.P.Place.out_law place writer)
+    (g.met.P.Place.lender_law place writer ∙ c.put_line.ensures.lender))
+    c.count.ensures.result c.count.ensures.faults
