@@ -29,10 +29,7 @@ pub fn write_json<G: Generator>(g: &mut G, json: &JsonValue) -> io::Result<()>
         (G.meaning g.old) (G.meaning g.new) result }
     ensures value { IsValue (view json.now) }
 {
-    match print_value(g, json) {
-        Ok(()) => Ok(()),
-        Err(fault) => Err(fault.error),
-    }
+    print_value(g, json).map_err(|fault| fault.error)
 }
 
 /// Writes the object in the generator's style, as `write_json` writes a value.
@@ -42,10 +39,7 @@ pub fn write_object<G: Generator>(g: &mut G, object: &Object) -> io::Result<()>
         (G.meaning g.old) (G.meaning g.new) result }
     ensures value { IsValue (view_object object.now) }
 {
-    match print_object(g, object) {
-        Ok(()) => Ok(()),
-        Err(fault) => Err(fault.error),
-    }
+    print_object(g, object).map_err(|fault| fault.error)
 }
 
 /// Why a value wasn't written.

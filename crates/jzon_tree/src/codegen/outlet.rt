@@ -21,8 +21,8 @@ use std::io::Write;
 pub trait Outlet: Write {
     /// Adds the string in quotes, escaped, or nothing.
     #[inline(always)]
-    fn put_string(&mut self, _string: &[u8]) -> bool
-        ensures done { IsTrue result → Adds (Just (quoted _string.now))
+    fn put_string(&mut self, string: &[u8]) -> bool
+        ensures done { IsTrue result → Adds (Just (quoted string.now))
             (Self.Write.contents self.old) (Self.Write.contents self.new) }
         ensures left { result ≡ false → Self.Write.contents self.new
             ≡ Self.Write.contents self.old }
@@ -32,8 +32,8 @@ pub trait Outlet: Write {
 
     /// Adds the text of the number, `null` for NaN, or nothing.
     #[inline(always)]
-    fn put_number(&mut self, _number: &Number) -> bool
-        ensures done { IsTrue result → Adds (Just (written_text _number.now))
+    fn put_number(&mut self, number: &Number) -> bool
+        ensures done { IsTrue result → Adds (Just (written_text number.now))
             (Self.Write.contents self.old) (Self.Write.contents self.new) }
         ensures left { result ≡ false → Self.Write.contents self.new
             ≡ Self.Write.contents self.old }
@@ -43,8 +43,8 @@ pub trait Outlet: Write {
 
     /// Adds a newline and `spaces` spaces, or nothing.
     #[inline(always)]
-    fn put_line(&mut self, _spaces: u128) -> bool
-        ensures done { IsTrue result → Adds (Just (10 ∷ replicate _spaces 32))
+    fn put_line(&mut self, spaces: u128) -> bool
+        ensures done { IsTrue result → Adds (Just (10 ∷ replicate spaces 32))
             (Self.Write.contents self.old) (Self.Write.contents self.new) }
         ensures left { result ≡ false → Self.Write.contents self.new
             ≡ Self.Write.contents self.old }
@@ -74,8 +74,8 @@ pub trait Place {
 
     /// As `Outlet::put_string`.
     #[inline(always)]
-    fn put_string(&mut self, _string: &[u8]) -> bool
-        ensures done { IsTrue result → Adds (Just (quoted _string.now)) (out self.old)
+    fn put_string(&mut self, string: &[u8]) -> bool
+        ensures done { IsTrue result → Adds (Just (quoted string.now)) (out self.old)
             (out self.new) }
         ensures left { result ≡ false → out self.new ≡ out self.old }
         ensures lender { lender self.new ≡ lender self.old }
@@ -85,8 +85,8 @@ pub trait Place {
 
     /// As `Outlet::put_number`.
     #[inline(always)]
-    fn put_number(&mut self, _number: &Number) -> bool
-        ensures done { IsTrue result → Adds (Just (written_text _number.now)) (out self.old)
+    fn put_number(&mut self, number: &Number) -> bool
+        ensures done { IsTrue result → Adds (Just (written_text number.now)) (out self.old)
             (out self.new) }
         ensures left { result ≡ false → out self.new ≡ out self.old }
         ensures lender { lender self.new ≡ lender self.old }
@@ -96,8 +96,8 @@ pub trait Place {
 
     /// As `Outlet::put_line`.
     #[inline(always)]
-    fn put_line(&mut self, _spaces: u128) -> bool
-        ensures done { IsTrue result → Adds (Just (10 ∷ replicate _spaces 32)) (out self.old)
+    fn put_line(&mut self, spaces: u128) -> bool
+        ensures done { IsTrue result → Adds (Just (10 ∷ replicate spaces 32)) (out self.old)
             (out self.new) }
         ensures left { result ≡ false → out self.new ≡ out self.old }
         ensures lender { lender self.new ≡ lender self.old }
