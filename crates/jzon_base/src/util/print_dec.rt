@@ -86,22 +86,13 @@ fn push_after_minuses(bytes: &mut Vec<u8>, minuses: usize, n: u64)
     requires reserved { vec_len bytes.old + DIGITS_ROOM ≤ vec_capacity bytes.old }
     ensures { bytes.new.items ≡ bytes.old.items ++ (replicate minuses 45 ++ decimal n) }
 {
-    let end = bytes.len() + minuses + n.ilog10() as usize + 1;
-    push_minuses(bytes, DIGITS_ROOM);
-    write_digits(n, bytes.as_mut_slice(), end);
-    bytes.truncate(end);
-}
-
-/// Adds `count` minuses, for which there is room.
-#[inline(always)]
-fn push_minuses(bytes: &mut Vec<u8>, count: usize)
-    requires { vec_len bytes.old + count ≤ vec_capacity bytes.old }
-    ensures { bytes.new.items ≡ bytes.old.items ++ replicate count 45 }
-{
-    let len = bytes.len() + count;
-    let Ok(()) = bytes.resize(len, b'-') else {
+    let start = bytes.len();
+    let end = start + minuses + n.ilog10() as usize + 1;
+    let Ok(()) = bytes.resize(start + DIGITS_ROOM, b'-') else {
         unreachable!()
     };
+    write_digits(n, bytes.as_mut_slice(), end);
+    bytes.truncate(end);
 }
 
 /// Puts the text of the number `n * 10 ^ exponent` with its sign at the end of the buffer, and
