@@ -281,6 +281,18 @@ pub Emits-handed : {E F : Type 0} (P : List ℕ → Type 0) (bs : List ℕ) (old
 Emits-handed P bs old mid new lent o step answer r p l h s =
     Emits-counted P bs old mid new lent o answer r p l (Sends-laid (Just bs) lent o step answer s h)
 
+-- ---- the result of a call, from what is left of it once its error was stored
+pub stored_ok : {A E F : Type 0} (r : Result A E) (s : Result A F) (x : A) → s ≡ Ok x
+    → MatchResult r (λ y. s ≡ Ok y) (λ _. IsErr s) → r ≡ Ok x
+stored_ok (Ok y) s x k h = cc
+stored_ok (Err e) (Ok z) x k h = absurd (cc h)
+stored_ok (Err e) (Err f) x k h = absurd (cc k)
+
+pub stored_err : {A E F : Type 0} (r : Result A E) (s : Result A F) (f : F) → s ≡ Err f
+    → MatchResult r (λ y. s ≡ Ok y) (λ _. IsErr s) → (e : E) × (r ≡ Err e)
+stored_err (Ok y) s f k h = absurd (cc)
+stored_err (Err e) s f k h = (e, refl)
+
 -- a generator that returns `None` and stays as it is
 pub insertion_answered : {E A : Type 0} (K : Option A → Type 0) (old new : Emitted) (r : Result (Option A) E)
     → r ≡ Ok None → new ≡ old → K None

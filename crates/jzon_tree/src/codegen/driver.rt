@@ -127,7 +127,7 @@ fn write_array<G: Generator>(g: &mut G, items: &[JsonValue], slot: &mut ErrorSlo
         return g.try_write(b"[]", slot);
     }
     g.try_write_char(b'[', slot)?;
-    try_indent(g, slot)?;
+    store(g.indent(), slot)?;
     write_items(g, items, slot)?;
     close(g, b']', slot)
 }
@@ -157,12 +157,12 @@ fn write_pairs<G: Generator>(g: &mut G, object: &Object, slot: &mut ErrorSlot) -
     ensures slot { OnErr result (IsSome slot.new) }
     ensures value { OnOk result (IsValue (view_object object.now)) }
 {
-    let order = try_order(g, object, slot)?;
+    let order = store(g.order(object), slot)?;
     if object.is_empty() {
         return g.try_write(b"{}", slot);
     }
     g.try_write_char(b'{', slot)?;
-    try_indent(g, slot)?;
+    store(g.indent(), slot)?;
     write_members(g, object, &order, slot)?;
     close(g, b'}', slot)
 }
@@ -245,31 +245,4 @@ fn close<G: Generator>(g: &mut G, bracket: u8, slot: &mut ErrorSlot) -> SlotResu
     g.dedent();
     g.try_new_line(slot)?;
     g.try_write_char(bracket, slot)
-}
-
-/// `indent`, whose error is stored.
-fn try_indent<G: Generator>(g: &mut G, slot: &mut ErrorSlot) -> SlotResult<()>
-    ensures dent { MatchResult result
-        (λ _. G.meaning g.new ≡ record (G.meaning g.old) { dent = (G.meaning g.old).dent + 1 })
-        (λ _. ((G.meaning g.old).dent ≡ 2 ^ 64 - 1)
-        × (G.meaning g.new
-        ≡ record (G.meaning g.old) { faults = noted (G.meaning g.old).faults })) }
-    ensures slot { OnErr result (IsSome slot.new) }
-{
-    store(g.indent(), slot)
-}
-
-/// `order`, whose error is stored.
-fn try_order<G: Generator>(
-    g: &mut G,
-    object: &Object,
-    slot: &mut ErrorSlot,
-) -> SlotResult<Option<Vec<usize>>>
-    ensures order { MatchResult result
-        (λ answer. Added (Just []) (G.meaning g.old) (G.meaning g.new)
-        × IsAnswer (G.meaning g.old).style (keys_of (entries_of object.now)) answer)
-        (λ _. Failed (Just []) (G.meaning g.old) (G.meaning g.new)) }
-    ensures slot { OnErr result (IsSome slot.new) }
-{
-    store(g.order(object), slot)
 }

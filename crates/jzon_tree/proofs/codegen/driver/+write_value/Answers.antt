@@ -1,4 +1,4 @@
-use Rattle.std.proofs.Common.{ℕ, List, [], ◌∷◌, ◌+◌, sym, map, length, take, drop, arith, rules, subst}
+use Rattle.std.proofs.Common.{ℕ, List, [], ◌∷◌, ◌+◌, refl, sym, map, length, take, drop, arith, rules, subst}
 use Rattle.std.proofs.lemmas.List.{take_all}
 use Rattle.jzon_tree.specs.declared.value.JsonValue.{the_lemmas}
 use Rattle.jzon_tree.specs.Entries.{entries_of}
@@ -10,7 +10,7 @@ use Rattle.jzon_tree.specs.Value.{Value}
 use Rattle.jzon_tree.specs.View.{view, view_object, viewed}
 use Rattle.jzon_tree.specs.Writing.{Writes}
 use Rattle.jzon_tree.proofs.Emitting.{Added-nothing, Added-after, Failed-after, PrintsIf-after, Failed-begins}
-use Rattle.jzon_tree.proofs.Emitting.{Stopped-failed, PrintsIf-at_err}
+use Rattle.jzon_tree.proofs.Emitting.{Stopped-failed, PrintsIf-at_err, stored_ok, stored_err}
 use Rattle.jzon_tree.proofs.Exits.{array_at_opening, array_at_indent, array_at_items, array_at_close, items_at_begin}
 use Rattle.jzon_tree.proofs.Exits.{items_at_item, items_more, members_at_begin, members_at_entry, members_more}
 use Rattle.jzon_tree.proofs.Exits.{object_at_opening, object_at_indent, object_at_members, object_at_close, AfterColon}
@@ -30,24 +30,29 @@ write_array-returns-in_err-try_write_char-clause-written g t c =
     (not_empty c.args.items.now c.is_empty.result c.is_empty.ensures c.if-is_empty.false) _ _
     c.from_residual.ensures.0 c.in_err-try_write_char.ensures.bytes
 
-pub write_array-returns-in_err-try_indent-clause-written : goal.write_array-returns-in_err-try_indent-clause-written
-write_array-returns-in_err-try_indent-clause-written g t c =
+pub write_array-returns-in_err-store-clause-written : goal.write_array-returns-in_err-store-clause-written
+write_array-returns-in_err-store-clause-written g t c =
     array_at_indent _ (g.met.G.Generator.style_law c.args.g.now) (map view c.args.items.now)
     (not_empty c.args.items.now c.is_empty.result c.is_empty.ensures c.if-is_empty.false) _ _ _
-    c.in_ok-try_write_char.ensures.bytes c.from_residual-in_err-try_indent.ensures.0 c.in_err-try_indent.ensures.dent.1
+    c.in_ok-try_write_char.ensures.bytes c.from_residual-in_err-store.ensures.0
+    (rw (stored_err _ _ _ refl c.in_err-store.ensures.answer).1 at c.indent.ensures).1
 
 pub write_array-returns-in_err-write_items-clause-written : goal.write_array-returns-in_err-write_items-clause-written
 write_array-returns-in_err-write_items-clause-written g t c =
     array_at_items _ (g.met.G.Generator.style_law c.args.g.now) (map view c.args.items.now)
     (not_empty c.args.items.now c.is_empty.result c.is_empty.ensures c.if-is_empty.false) _ _ _
-    c.in_ok-try_write_char.ensures.bytes _ c.in_ok-try_indent.ensures.dent c.from_residual-in_err-write_items.ensures.0
+    c.in_ok-try_write_char.ensures.bytes _
+    (rw (stored_ok _ _ _ refl c.in_ok-store.ensures.answer) at c.indent.ensures)
+    c.from_residual-in_err-write_items.ensures.0
     c.in_err-write_items.ensures.written
 
 pub write_array-returns-clause-written : goal.write_array-returns-clause-written
 write_array-returns-clause-written g t c =
     array_at_close _ (g.met.G.Generator.style_law c.args.g.now) (map view c.args.items.now)
     (not_empty c.args.items.now c.is_empty.result c.is_empty.ensures c.if-is_empty.false) _ _ _
-    c.in_ok-try_write_char.ensures.bytes _ c.in_ok-try_indent.ensures.dent _ c.in_ok-write_items.ensures.written c.close.ensures.bytes
+    c.in_ok-try_write_char.ensures.bytes _
+    (rw (stored_ok _ _ _ refl c.in_ok-store.ensures.answer) at c.indent.ensures) _ c.in_ok-write_items.ensures.written
+    c.close.ensures.bytes
 
 pub write_items-returns-in_err-begin_item-clause-written : goal.write_items-returns-in_err-begin_item-clause-written
 write_items-returns-in_err-begin_item-clause-written g t c =
@@ -198,11 +203,13 @@ write_pairs-returns-in_err-order-clause-written g t c =
     let v = view_object c.args.object.now in
     PrintsIf-at_err _ _ _ _ _ c.from_residual.ensures.0 (λ keyed. Stopped-failed _ _ _
     (Failed-begins (Just []) (Writes a.style a.dent v) _ _ (λ x e. rw e
-    (some_writing a.style (g.met.G.Generator.style_law c.args.g.now) a.dent v keyed)) c.in_err-order.ensures.order))
+    (some_writing a.style (g.met.G.Generator.style_law c.args.g.now) a.dent v keyed))
+    (rw (stored_err _ _ _ refl c.in_err-order.ensures.answer).1 at c.order.ensures)))
 
 pub write_pairs-returns-then-is_empty-clause-written : goal.write_pairs-returns-then-is_empty-clause-written
 write_pairs-returns-then-is_empty-clause-written g t c =
-    after_order _ _ _ (view_object c.args.object.now) _ _ c.in_ok-order.ensures.order.0
+    let order = rw (stored_ok _ _ _ refl c.in_ok-order.ensures.answer) at c.order.ensures in
+    after_order _ _ _ (view_object c.args.object.now) _ _ order.0
     (no_pair _ _ (entries_of c.args.object.now) c.is_empty.result _ _ c.is_empty.ensures c.if-is_empty.true
     c.try_write.ensures.bytes)
 
@@ -211,46 +218,49 @@ pub write_pairs-returns-in_err-try_write_char-clause-written :
 write_pairs-returns-in_err-try_write_char-clause-written g t c =
     let s = (g.G.Generator.meaning c.args.g.now).style in
     let es = entries_of c.args.object.now in
-    after_order _ _ _ (view_object c.args.object.now) _ _ c.in_ok-order.ensures.order.0
-    (object_at_opening _ (g.met.G.Generator.style_law c.try_order.new.g) (viewed es)
-    (positions (length es) c.in_ok-order.order) (answer_order s es c.in_ok-order.order c.in_ok-order.ensures.order.1)
-    (rw c.in_ok-order.ensures.order.0.style (answer_allowed s es c.in_ok-order.order c.in_ok-order.ensures.order.1))
+    let order = rw (stored_ok _ _ _ refl c.in_ok-order.ensures.answer) at c.order.ensures in
+    after_order _ _ _ (view_object c.args.object.now) _ _ order.0
+    (object_at_opening _ (g.met.G.Generator.style_law c.order.new.self) (viewed es)
+    _ (answer_order s es _ order.1) (rw order.0.style (answer_allowed s es _ order.1))
     (some_pair es c.is_empty.result c.is_empty.ensures c.if-is_empty.false) _ _
     c.from_residual-in_err-try_write_char.ensures.0 c.in_err-try_write_char.ensures.bytes)
 
-pub write_pairs-returns-in_err-try_indent-clause-written : goal.write_pairs-returns-in_err-try_indent-clause-written
-write_pairs-returns-in_err-try_indent-clause-written g t c =
+pub write_pairs-returns-in_err-store-clause-written : goal.write_pairs-returns-in_err-store-clause-written
+write_pairs-returns-in_err-store-clause-written g t c =
     let s = (g.G.Generator.meaning c.args.g.now).style in
     let es = entries_of c.args.object.now in
-    after_order _ _ _ (view_object c.args.object.now) _ _ c.in_ok-order.ensures.order.0
-    (object_at_indent _ (g.met.G.Generator.style_law c.try_order.new.g) (viewed es)
-    (positions (length es) c.in_ok-order.order) (answer_order s es c.in_ok-order.order c.in_ok-order.ensures.order.1)
-    (rw c.in_ok-order.ensures.order.0.style (answer_allowed s es c.in_ok-order.order c.in_ok-order.ensures.order.1))
+    let order = rw (stored_ok _ _ _ refl c.in_ok-order.ensures.answer) at c.order.ensures in
+    after_order _ _ _ (view_object c.args.object.now) _ _ order.0
+    (object_at_indent _ (g.met.G.Generator.style_law c.order.new.self) (viewed es)
+    _ (answer_order s es _ order.1) (rw order.0.style (answer_allowed s es _ order.1))
     (some_pair es c.is_empty.result c.is_empty.ensures c.if-is_empty.false) _ _ _ c.in_ok-try_write_char.ensures.bytes
-    c.from_residual-in_err-try_indent.ensures.0 c.in_err-try_indent.ensures.dent.1)
+    c.from_residual-in_err-store.ensures.0
+    (rw (stored_err _ _ _ refl c.in_err-store.ensures.answer).1 at c.indent.ensures).1)
 
 pub write_pairs-returns-in_err-write_members-clause-written :
     goal.write_pairs-returns-in_err-write_members-clause-written
 write_pairs-returns-in_err-write_members-clause-written g t c =
     let s = (g.G.Generator.meaning c.args.g.now).style in
     let es = entries_of c.args.object.now in
-    after_order _ _ _ (view_object c.args.object.now) _ _ c.in_ok-order.ensures.order.0
-    (object_at_members _ (g.met.G.Generator.style_law c.try_order.new.g) (viewed es)
-    (positions (length es) c.in_ok-order.order) (answer_order s es c.in_ok-order.order c.in_ok-order.ensures.order.1)
-    (rw c.in_ok-order.ensures.order.0.style (answer_allowed s es c.in_ok-order.order c.in_ok-order.ensures.order.1))
+    let order = rw (stored_ok _ _ _ refl c.in_ok-order.ensures.answer) at c.order.ensures in
+    after_order _ _ _ (view_object c.args.object.now) _ _ order.0
+    (object_at_members _ (g.met.G.Generator.style_law c.order.new.self) (viewed es)
+    _ (answer_order s es _ order.1) (rw order.0.style (answer_allowed s es _ order.1))
     (some_pair es c.is_empty.result c.is_empty.ensures c.if-is_empty.false) _ _ _ c.in_ok-try_write_char.ensures.bytes _
-    c.in_ok-try_indent.ensures.dent c.from_residual-in_err-write_members.ensures.0 c.in_err-write_members.ensures.written)
+    (rw (stored_ok _ _ _ refl c.in_ok-store.ensures.answer) at c.indent.ensures)
+    c.from_residual-in_err-write_members.ensures.0 c.in_err-write_members.ensures.written)
 
 pub write_pairs-returns-clause-written : goal.write_pairs-returns-clause-written
 write_pairs-returns-clause-written g t c =
     let s = (g.G.Generator.meaning c.args.g.now).style in
     let es = entries_of c.args.object.now in
-    after_order _ _ _ (view_object c.args.object.now) _ _ c.in_ok-order.ensures.order.0
-    (object_at_close _ (g.met.G.Generator.style_law c.try_order.new.g) (viewed es)
-    (positions (length es) c.in_ok-order.order) (answer_order s es c.in_ok-order.order c.in_ok-order.ensures.order.1)
-    (rw c.in_ok-order.ensures.order.0.style (answer_allowed s es c.in_ok-order.order c.in_ok-order.ensures.order.1))
+    let order = rw (stored_ok _ _ _ refl c.in_ok-order.ensures.answer) at c.order.ensures in
+    after_order _ _ _ (view_object c.args.object.now) _ _ order.0
+    (object_at_close _ (g.met.G.Generator.style_law c.order.new.self) (viewed es)
+    _ (answer_order s es _ order.1) (rw order.0.style (answer_allowed s es _ order.1))
     (some_pair es c.is_empty.result c.is_empty.ensures c.if-is_empty.false) _ _ _ c.in_ok-try_write_char.ensures.bytes _
-    c.in_ok-try_indent.ensures.dent _ c.in_ok-write_members.ensures.written c.close.ensures.bytes)
+    (rw (stored_ok _ _ _ refl c.in_ok-store.ensures.answer) at c.indent.ensures) _ c.in_ok-write_members.ensures.written
+    c.close.ensures.bytes)
 
 pub write_members-returns-clause-value : goal.write_members-returns-clause-value
 write_members-returns-clause-value g t c =
