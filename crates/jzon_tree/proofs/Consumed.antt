@@ -1,7 +1,7 @@
 -- The bytes that a generator over memory writes for a value, if it was empty before: a text of the value in the
 -- generator's style, and in the style of a layout its text there.
-use Rattle.std.proofs.Common.{◌≡◌, ℕ, Bool, List, [], Some, None, sym, subst, true, false}
-use Rattle.std.specs.Prelude.{IsUtf8}
+use Rattle.std.proofs.Common.{◌≡◌, ℕ, Bool, List, [], Some, None, Result, Ok, Err, sym, subst, true, false}
+use Rattle.std.specs.Prelude.{IfOk, IsUtf8}
 use Rattle.jzon_tree.specs.Generator.{Adds, Emitted, Added}
 use Rattle.jzon_tree.specs.Generators.{fresh}
 use Rattle.jzon_tree.specs.Lawful.{IsValue}
@@ -36,6 +36,12 @@ module _ (line : ℕ → List ℕ) (wide : Bool) where
   printed v old new bytes e h a k =
       let p = laid_out (only line wide) v old new bytes e h a k in
       (p.0, written line wide 0 v bytes p.1, p.1)
+
+  -- what is laid out in this style is this text
+  pub only_text : {X E : Type 0} (bytes : X → List ℕ) (v : Value) (r : Result X E)
+      → IfOk r (λ x. Writes (only line wide) 0 v (bytes x)) → IfOk r (λ x. bytes x ≡ layout_text layout 0 v)
+  only_text bytes v (Ok x) w = written line wide 0 v (bytes x) w
+  only_text bytes v (Err e) w = w
 
 -- the compact and the pretty text
 pub compact_printed : (v : Value) (old new : Emitted) (bytes : List ℕ) → old ≡ fresh (Some []) compact_style None

@@ -13,8 +13,8 @@ ghost use Rattle.jzon_tree.specs.Writing.{Writes};
 
 use crate::codegen::driver::print_value;
 use crate::codegen::{
-    DumpGenerator, Layout, Outlet, PrettyGenerator, PrettyWriterGenerator, TextGenerator,
-    WriterGenerator, write_json,
+    Compact, Layout, Outlet, Pretty, PrettyWriterGenerator, TextGenerator, WriterGenerator,
+    write_json,
 };
 use crate::value::JsonValue;
 use jzon_base::error::{Error, Result};
@@ -24,8 +24,8 @@ use std::io::Write;
 
 impl JsonValue {
     /// The compact text of the value, with no whitespace outside of its strings. Fails with
-    /// `OutOfMemory` where an allocation fails, and with `ExceededDepthLimit` where non-empty
-    /// containers nest 2^64 deep or deeper.
+    /// `OutOfMemory`, and with `ExceededDepthLimit` if non-empty containers nest 2^64 deep or
+    /// deeper.
     ///
     /// ```rust
     /// let value = jzon::parse(alloc, "[1, -12.50e3, {\"a\": null}]")?;
@@ -39,15 +39,11 @@ impl JsonValue {
         ensures memory { nest (view self.now) < 2 ^ 64 → IsOkUnless result Error.OutOfMemory }
         ensures depth { 2 ^ 64 ≤ nest (view self.now) → IsOkUnless result Error.ExceededDepthLimit }
     {
-        let mut generator = DumpGenerator::new(alloc);
-        match print_value(&mut generator, self) {
-            Ok(()) => Ok(generator.into_text()),
-            Err(fault) => Err(fault.found.refusal()),
-        }
+        self.lay_out(alloc, Compact)
     }
 
     /// The text of the value with a line for each element and entry: a newline, and `spaces` spaces
-    /// for each container around it, before each element, each name and each closing bracket of a
+    /// for each container around it, before each element, each key and each closing bracket of a
     /// container that is not empty. Fails as `dump`.
     pub fn pretty(&self, alloc: Global, spaces: u16) -> Result<String>
         ensures text { IfOk result (λ text. string_bytes text ≡ pretty (view self.now) spaces 0) }
@@ -57,15 +53,15 @@ impl JsonValue {
         ensures memory { nest (view self.now) < 2 ^ 64 → IsOkUnless result Error.OutOfMemory }
         ensures depth { 2 ^ 64 ≤ nest (view self.now) → IsOkUnless result Error.ExceededDepthLimit }
     {
-        let mut generator = PrettyGenerator::new(alloc, spaces);
-        match print_value(&mut generator, self) {
-            Ok(()) => Ok(generator.into_text()),
-            Err(fault) => Err(fault.found.refusal()),
-        }
+        self.lay_out(alloc, Pretty(spaces))
     }
 
-    /// The text of the value in a layout of the caller's. Fails as `dump`, and with `OutOfMemory`
-    /// where the layout's `order` does.
+    /// The text of the value in a layout: `Compact`, `Pretty`, or one of the caller's. Fails as
+    /// `dump` does, and with `OutOfMemory` if the layout's `order` fails.
+    ///
+    /// ```rust
+    /// value.lay_out(alloc, Sorted { alloc })   // `Sorted` is the example of `codegen::Layout`
+    /// ```
     pub fn lay_out<L: Layout + Drop>(&self, alloc: Global, layout: L) -> Result<String>
         ensures writing { IfOk result (λ text. Writes (L.style layout) 0 (view self.now)
             (string_bytes text)) }
@@ -80,9 +76,12 @@ impl JsonValue {
         }
     }
 
-    /// Writes the compact text of the value, with no whitespace outside of its strings. Only the
-    /// writer may allocate. An error is the writer's, or reports that 2^64 indents would be open; a
-    /// prefix of the text is then written.
+    /// Writes the compact text of the value, with no whitespace outside of its strings. An error is
+    /// the writer's, or reports that 2^64 indents would be open; a prefix of the text is then
+    /// written. Only the writer may allocate.
+    ///
+    /// Nothing is buffered: each bracket, comma, key and value is at least one call of the writer,
+    /// so wrap a file in a `BufWriter`. No newline is written at the end, and `flush` isn't called.
     pub fn write<W: Write>(&self, writer: &mut W) -> io::Result<()>
         ensures ok { OnOk result (Appends (W.contents writer.old) (W.contents writer.new)
             (compact (view self.now))) }
@@ -95,9 +94,14 @@ impl JsonValue {
         write_json(&mut generator, self)
     }
 
-    /// Writes the text of the value with a line for each element and entry: a newline, and `spaces`
-    /// spaces for each container around it. Only the writer may allocate. An error is the writer's,
-    /// or reports that 2^64 indents would be open; a prefix of the text is then written.
+    /// Writes the text that `pretty` returns, and fails as `write` does. Nothing is buffered.
+    ///
+    /// ```rust
+    /// let mut buffered = BufWriter::new(alloc, writer)?;
+    /// value.write_pretty(&mut buffered, 2)?;
+    /// buffered.write_all(b"\n")?;
+    /// buffered.flush()
+    /// ```
     pub fn write_pretty<W: Write>(&self, writer: &mut W, spaces: u16) -> io::Result<()>
         ensures ok { OnOk result
             (Appends (W.contents writer.old) (W.contents writer.new)
@@ -111,9 +115,9 @@ impl JsonValue {
         write_json(&mut generator, self)
     }
 
-    /// Writes the text of the value in a layout of the caller's. Only the layout and the writer may
-    /// allocate. An error is the writer's, or reports that the layout's `order` ran out of memory
-    /// or that 2^64 indents would be open; a prefix of the text is then written.
+    /// Writes the text that `lay_out` returns. An error is the writer's, or reports that the
+    /// layout's `order` failed or that 2^64 indents would be open; a prefix of the text is then
+    /// written. Only the layout and the writer may allocate. Nothing is buffered.
     pub fn write_layout<W: Write, L: Layout + Drop>(
         &self,
         writer: &mut W,
@@ -127,7 +131,8 @@ impl JsonValue {
         write_json(&mut generator, self)
     }
 
-    /// As `write_layout`, to an outlet, which may take strings, numbers and lines at once.
+    /// As `write_layout`, to an outlet: a writer that takes strings, numbers and lines at once,
+    /// such as a buffer of the caller's.
     pub fn write_outlet<W: Outlet, L: Layout + Drop>(
         &self,
         outlet: &mut W,
