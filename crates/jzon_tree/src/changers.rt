@@ -19,7 +19,7 @@ use std::alloc::Global;
 use std::mem;
 
 impl JsonValue {
-    /// An empty object. It allocates nothing.
+    /// An object without entries. It allocates nothing.
     #[tactic(auto, using(crate::proofs::Views::views, crate::proofs::Seen::seen))]
     pub fn new_object(alloc: Global) -> JsonValue
         ensures { view result ≡ object no_pairs }
@@ -27,7 +27,7 @@ impl JsonValue {
         JsonValue::Object(Object::new(alloc))
     }
 
-    /// An empty array. It allocates nothing.
+    /// An array without elements. It allocates nothing.
     #[tactic(auto, using(crate::proofs::Views::views, crate::proofs::Seen::seen))]
     pub fn new_array(alloc: Global) -> JsonValue
         ensures { view result ≡ array no_values }
@@ -43,9 +43,9 @@ impl JsonValue {
         mem::replace(self, JsonValue::Null)
     }
 
-    /// Returns the string and leaves null; any other value is left as it is. A string that is
-    /// stored inline is copied to an allocated `String`, the only case that can fail with
-    /// `OutOfMemory`.
+    /// Returns the string and leaves null. `None` for any other value, which is left as it is. A
+    /// string that is stored inline is copied to an allocated `String`: only then the call can
+    /// fail, with `OutOfMemory`, and the value stays as it was.
     pub fn take_string(&mut self, alloc: Global) -> Result<Option<String>>
         ensures value { IfOk result (λ s. option_map string_bytes s ≡ text_in (view self.old)) }
         ensures after { OnOk result (view self.new ≡ without_text (view self.old)) }
@@ -67,8 +67,15 @@ impl JsonValue {
         }
     }
 
-    /// Appends an element to an array. Fails with `WrongType` if the value isn't an array, and with
-    /// `OutOfMemory`.
+    /// Appends an element to an array. Fails with `WrongType("Array")` if `self` isn't an array,
+    /// and with `OutOfMemory`; then `self` means what it meant, and `value` is dropped.
+    ///
+    /// ```rust
+    /// let mut list = JsonValue::new_array(alloc);
+    /// for name in names {
+    ///     list.push(alloc, *name)?;
+    /// }
+    /// ```
     #[tactic(auto, using(crate::proofs::Views::views, crate::proofs::Seen::seen))]
     pub fn push<T: IntoJson>(&mut self, alloc: Global, value: T) -> Result<()>
         ensures ok { OnOk result ((v : Value) × T.means value v
@@ -86,7 +93,8 @@ impl JsonValue {
         }
     }
 
-    /// Removes the last element of an array and returns it, or null if there is none.
+    /// Removes the last element of an array and returns it. Null if the array is empty, and for any
+    /// other value, which is left as it is.
     #[tactic(auto, using(crate::proofs::Views::views, crate::proofs::Seen::seen))]
     pub fn pop(&mut self) -> JsonValue
         ensures value { view result ≡ or_null
@@ -97,8 +105,9 @@ impl JsonValue {
         self.array_remove(last)
     }
 
-    /// Sets the member `key` of an object: at its position if the key is present, else last. Fails
-    /// with `WrongType` if the value isn't an object, and with `OutOfMemory`.
+    /// Puts the value under the key of an object: at the key's position if it is present, else
+    /// last. Fails with `WrongType("Object")` if `self` isn't an object, and with `OutOfMemory`;
+    /// then `self` is as it was, and `value` is dropped.
     ///
     /// ```rust
     /// data.insert(alloc, "first", first)?;
@@ -117,8 +126,8 @@ impl JsonValue {
         }
     }
 
-    /// Removes the member `key` of an object and returns its value, or null if there is none. The
-    /// others keep their order.
+    /// Removes the entry of the key of an object and returns its value, as `Object::remove` does.
+    /// Null if the key is missing, and for any other value, which is left as it is.
     #[tactic(auto, using(crate::proofs::Views::views, crate::proofs::Seen::seen))]
     pub fn remove(&mut self, key: &str) -> JsonValue
         ensures value { view result ≡ or_null (find key.now (entries (view self.old))) }
@@ -130,8 +139,9 @@ impl JsonValue {
         }
     }
 
-    /// Removes the element at a position of an array and returns it, or null if there is none. The
-    /// others keep their order.
+    /// Removes the element at a position of an array and returns it. Null past the end, and for any
+    /// other value, which is left as it is. The other elements keep their order: those after it
+    /// move up, so the time of a call grows with their number (measured, not proved).
     #[tactic(auto, using(crate::proofs::Views::views, crate::proofs::Seen::seen))]
     pub fn array_remove(&mut self, index: usize) -> JsonValue
         ensures value { view result ≡ or_null (slice_get (items (view self.old)) index) }
@@ -143,8 +153,8 @@ impl JsonValue {
         }
     }
 
-    /// Empties a string, which stays inline or allocated, or a container; any other value becomes
-    /// null.
+    /// Makes a string, an array or an object empty; a string stays inline or allocated. Any other
+    /// value becomes null.
     #[tactic(auto, using(crate::proofs::Views::views, crate::proofs::Seen::seen))]
     pub fn clear(&mut self)
         ensures { view self.new ≡ cleared (view self.old) }
@@ -159,7 +169,7 @@ impl JsonValue {
     }
 }
 
-/// Removes the element at a position of the list.
+/// Removes the element at a position. `None` past the end.
 fn remove_item(items: &mut Vec<JsonValue>, index: usize) -> Option<JsonValue>
     ensures value { result ≡ slice_get items.old.items index }
     ensures after { items.new.items ≡ remove items.old.items index }

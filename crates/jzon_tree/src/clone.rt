@@ -51,6 +51,7 @@ impl Object {
     }
 }
 
+/// Copies of the values, in order.
 #[inline(never)]
 #[cycle(copy)]
 fn copy_items(alloc: Global, items: &[JsonValue]) -> Result<Vec<JsonValue>>
@@ -66,7 +67,7 @@ fn copy_items(alloc: Global, items: &[JsonValue]) -> Result<Vec<JsonValue>>
     Ok(copies)
 }
 
-/// Adds a copy of a value that is stored inline, and returns whether it is.
+/// Adds a copy of the value if it is stored inline, and returns whether it is.
 #[inline(always)]
 #[tactic(auto, using(crate::proofs::Views::views))]
 fn push_inline(copies: &mut Vec<JsonValue>, value: &JsonValue) -> bool
@@ -98,8 +99,7 @@ fn push_inline(copies: &mut Vec<JsonValue>, value: &JsonValue) -> bool
     }
 }
 
-/// A copy of the value, with the parts of its numbers and the order of its keys. The error is a
-/// failed allocation.
+/// As `JsonValue::clone`, with the allocator of the value. The error is a failed allocation.
 impl Clone for JsonValue {
     ghost is_clone = { λ v w. view w ≡ view v };
 
@@ -120,8 +120,7 @@ impl Clone for JsonValue {
     }
 }
 
-/// A copy of the object, with the parts of its numbers and the order of its keys. The error is a
-/// failed allocation.
+/// As `Object::clone`, with the allocator of the object. The error is a failed allocation.
 impl Clone for Object {
     ghost is_clone = { λ o p. view_object p ≡ view_object o };
 

@@ -1,5 +1,4 @@
-//! Equality of values and of objects by meaning: the order of an object's members, how a string is
-//! stored and how a decimal is written don't matter.
+//! Equality of values and of objects (docs/RULES.md, "Equality").
 
 ghost use Rattle.std.specs.Prelude.{◌≡◌, Some, option_map};
 ghost use Rattle.std.specs.Option.{option_copied};
@@ -13,6 +12,8 @@ ghost use Rattle.jzon_tree.specs.View.{view, view_object, view_values};
 use crate::object::Object;
 use crate::value::JsonValue;
 
+/// Compares what the values mean: the order of an object's entries, how a string is stored and how
+/// a decimal is written don't count. NaN equals NaN.
 impl PartialEq for JsonValue {
     ghost eq = { λ v w. same (view v) (view w) };
 
@@ -40,8 +41,7 @@ impl Eq for JsonValue {
     ghost laws = { on_equiv view same_equiv };
 }
 
-/// The same number of entries, and an equal value for each key of the first: so the second has no
-/// other key.
+/// Whether both have the same keys, in any order, and equal values under each.
 impl PartialEq for Object {
     ghost eq = { λ v w. same (view_object v) (view_object w) };
 
@@ -49,6 +49,7 @@ impl PartialEq for Object {
 
     #[cycle(same)]
     fn eq(&self, other: &Object) -> bool {
+        // As many entries, and each key of `self` in `other`: so `other` has no further key.
         if self.len() != other.len() {
             return false;
         }
@@ -65,7 +66,7 @@ impl Eq for Object {
     ghost laws = { on_equiv view_object same_equiv };
 }
 
-/// Element by element.
+/// Whether there are as many elements, and those at the same position are equal.
 #[cycle(same)]
 fn same_array(items: &[JsonValue], others: &[JsonValue]) -> bool
     ensures { result ≡ same_items (view_values items.now) (view_values others.now) }
@@ -81,6 +82,7 @@ fn same_array(items: &[JsonValue], others: &[JsonValue]) -> bool
     true
 }
 
+/// Whether a value was found, and equals `value`.
 #[cycle(same)]
 fn same_found(value: &JsonValue, found: Option<&JsonValue>) -> bool
     ensures { result ≡ passes (same (view value.now)) (option_map (λ w. view w.now) found.entry) }

@@ -9,6 +9,7 @@ use crate::object::Object;
 use crate::value::JsonValue;
 use jzon_base::number::Number;
 
+/// The number of this integer, with the exponent 0.
 impl From<u8> for JsonValue {
     ghost from_gives = { λ n v. view v ≡ number (integer_parts (pos n)) };
 
@@ -17,6 +18,7 @@ impl From<u8> for JsonValue {
     }
 }
 
+/// The number of this integer, with the exponent 0.
 impl From<u16> for JsonValue {
     ghost from_gives = { λ n v. view v ≡ number (integer_parts (pos n)) };
 
@@ -25,6 +27,7 @@ impl From<u16> for JsonValue {
     }
 }
 
+/// The number of this integer, with the exponent 0.
 impl From<u32> for JsonValue {
     ghost from_gives = { λ n v. view v ≡ number (integer_parts (pos n)) };
 
@@ -33,6 +36,7 @@ impl From<u32> for JsonValue {
     }
 }
 
+/// The number of this integer, with the exponent 0.
 impl From<u64> for JsonValue {
     ghost from_gives = { λ n v. view v ≡ number (integer_parts (pos n)) };
 
@@ -41,6 +45,7 @@ impl From<u64> for JsonValue {
     }
 }
 
+/// The number of this integer, with the exponent 0.
 impl From<usize> for JsonValue {
     ghost from_gives = { λ n v. view v ≡ number (integer_parts (pos n)) };
 
@@ -49,6 +54,7 @@ impl From<usize> for JsonValue {
     }
 }
 
+/// The number of this integer, with the exponent 0.
 impl From<i8> for JsonValue {
     ghost from_gives = { λ n v. view v ≡ number (integer_parts n) };
 
@@ -57,6 +63,7 @@ impl From<i8> for JsonValue {
     }
 }
 
+/// The number of this integer, with the exponent 0.
 impl From<i16> for JsonValue {
     ghost from_gives = { λ n v. view v ≡ number (integer_parts n) };
 
@@ -65,6 +72,7 @@ impl From<i16> for JsonValue {
     }
 }
 
+/// The number of this integer, with the exponent 0.
 impl From<i32> for JsonValue {
     ghost from_gives = { λ n v. view v ≡ number (integer_parts n) };
 
@@ -73,6 +81,7 @@ impl From<i32> for JsonValue {
     }
 }
 
+/// The number of this integer, with the exponent 0.
 impl From<i64> for JsonValue {
     ghost from_gives = { λ n v. view v ≡ number (integer_parts n) };
 
@@ -81,6 +90,7 @@ impl From<i64> for JsonValue {
     }
 }
 
+/// The number of this integer, with the exponent 0.
 impl From<isize> for JsonValue {
     ghost from_gives = { λ n v. view v ≡ number (integer_parts n) };
 
@@ -89,6 +99,7 @@ impl From<isize> for JsonValue {
     }
 }
 
+/// A boolean.
 impl From<bool> for JsonValue {
     ghost from_gives = { λ b v. view v ≡ boolean b };
 
@@ -115,6 +126,7 @@ impl From<String> for JsonValue {
     }
 }
 
+/// An object, as it is.
 impl From<Object> for JsonValue {
     ghost from_gives = { λ o v. view v ≡ view_object o };
 

@@ -13,15 +13,34 @@ use crate::value::JsonValue;
 use jzon_base::error::{Error, Result};
 use std::alloc::Global;
 
-/// Types that convert into a value. Each implementation defines by a relation which values a source
-/// means; an `Ok` is one of them.
+/// Types that convert into a value. An implementation says by the relation `means` which values a
+/// source means, and an `Ok` is one of them; and by `is_free` for which sources it never fails.
+///
+/// Here `means` holds of each value, so that a caller learns nothing of it, and `is_free` of none:
+///
+/// ```rust
+/// impl IntoJson for Server {
+///     ghost use Rattle.std.specs.Prelude.{◌≡◌};
+///
+///     ghost means = { λ _ v. v ≡ v };
+///
+///     ghost is_free = { λ _. ⊥ };
+///
+///     fn into_json(self, alloc: Global) -> Result<JsonValue> {
+///         let mut value = JsonValue::new_object(alloc);
+///         value.insert(alloc, "host", self.host)?;
+///         value.insert(alloc, "port", self.port)?;
+///         value.insert(alloc, "tags", self.tags)?;
+///         Ok(value)
+///     }
+/// }
+/// ```
 pub trait IntoJson: Drop {
     ghost means: { Self → Value → Type 0 };
 
     ghost is_free: { Self → Type 0 };
 
-    /// Converts into a value. Fails with `OutOfMemory` only, and never if the conversion is free
-    /// (`is_free`).
+    /// Converts into a value. Fails with `OutOfMemory` only, and never if `is_free` holds.
     fn into_json(self, alloc: Global) -> Result<JsonValue>
         ensures meant { IfOk result (λ v. means self (view v)) }
         ensures memory { IsOkUnless result Error.OutOfMemory }

@@ -25,16 +25,17 @@ use std::slice;
 use tree::Tree;
 pub use writes::{write_at, write_at_index, write_present};
 
-/// The elements of an array that are left, as mutable references.
+/// Iterator over the elements of an array, as mutable references.
 pub type MembersMut<'a> = slice::IterMut<'a, JsonValue>;
 
-/// The members of an object that are left, each as its key and a mutable reference to its value.
+/// Iterator over the entries of an object, each as its key's text and a mutable reference to its
+/// value.
 pub type EntriesMut<'a> = object::IterMut<'a>;
 
 impl JsonValue {
     ghost use Rattle.jzon_tree.specs.contracts.value.JsonValue.{the_row};
 
-    /// The object that the value is.
+    /// A mutable reference to the object. `None` for any other value.
     pub fn as_object_mut(&mut self) -> Option<&mut Object>
         ensures* writes_back { sem 𝓛 (LendsIf the_row object_row self.entry result object_value
             self.old) }
@@ -47,7 +48,7 @@ impl JsonValue {
         }
     }
 
-    /// The elements of the array that the value is.
+    /// A mutable reference to the elements of the array. `None` for any other value.
     pub fn as_array_mut(&mut self) -> Option<&mut Vec<JsonValue>>
         ensures* writes_back { sem 𝓛 (LendsIf the_row
             (vec_row the_row) self.entry result array_value self.old) }
@@ -60,7 +61,16 @@ impl JsonValue {
         }
     }
 
-    /// The elements of an array in their order, from both ends. Another value has none.
+    /// Iterates over mutable references to the elements of an array in order, from both ends; over
+    /// nothing for any other value.
+    ///
+    /// ```rust
+    /// for element in list.members_mut() {
+    ///     if element.is_null() {
+    ///         *element = JsonValue::from(0u8);
+    ///     }
+    /// }
+    /// ```
     pub fn members_mut(&mut self) -> MembersMut<'_>
         ensures { items_left result ≡ unwrap_or (items_in self.old) [] }
     {
@@ -70,8 +80,8 @@ impl JsonValue {
         }
     }
 
-    /// The members of an object in their order, from both ends. Their values may be changed, their
-    /// keys not. Another value has none.
+    /// Iterates over the entries of an object in order, from both ends, with mutable references to
+    /// their values; over nothing for any other value.
     pub fn entries_mut(&mut self) -> EntriesMut<'_>
         ensures { iter_mut_rest result ≡ entries_in self.old }
     {
@@ -81,8 +91,9 @@ impl JsonValue {
         EntriesMut::empty()
     }
 
-    /// The value of an object's key. A write through it changes nothing else. A caller's proof
-    /// learns of the write by `as_object_mut`, or calls `lent::write_present` instead.
+    /// A mutable reference to the value of an object's key. `None` if the key is missing, and for
+    /// any other value. A write through it changes nothing else. A caller's proof learns of the
+    /// write by `as_object_mut`, or calls `lent::write_present` instead.
     ///
     /// ```rust
     /// if let Some(found) = data.get_mut("name") {
@@ -97,10 +108,11 @@ impl JsonValue {
         self.get_in(key)
     }
 
-    /// The value of an object's key. A missing key is first put last, with null, and a value that
-    /// isn't an object first becomes an empty one. A write through it changes nothing else. Fails
-    /// only with `OutOfMemory`, and then nothing has changed; a key that is there needs no
-    /// allocation. A caller's proof that needs the write calls `lent::write_at` instead.
+    /// A mutable reference to the value of an object's key. A missing key is first put last, with
+    /// null, and a value that isn't an object first becomes an empty one. A write through it
+    /// changes nothing else. Fails with `OutOfMemory` only, and then nothing has changed; a key
+    /// that is present needs no allocation. A caller's proof that needs the write calls
+    /// `lent::write_at` instead.
     ///
     /// ```rust
     /// *data.at_mut(alloc, "count")? = jzon::from(alloc, 1u8)?;
@@ -117,12 +129,12 @@ impl JsonValue {
         self.at_in(alloc, key)
     }
 
-    /// The element of an array at an index. Past the end the array first gains one null, whatever
-    /// the index, and that null is returned. A value that isn't an array first becomes one of a
-    /// null for index 0, and of two for any other index, and the last null is returned. Fails only
-    /// with `OutOfMemory`, and then the value means what it meant; an index in range of an array
-    /// needs no allocation. A caller's proof that needs the write calls `lent::write_at_index`
-    /// instead.
+    /// A mutable reference to the element of an array at an index. Past the end the array first
+    /// gains one null, whatever the index, and the reference is to that null. A value that isn't an
+    /// array first becomes `[null]` for index 0 and `[null,null]` for any other, and the reference
+    /// is to the last null. Fails with `OutOfMemory` only, and then the value means what it meant;
+    /// an index in range of an array needs no allocation. A caller's proof that needs the write
+    /// calls `lent::write_at_index` instead.
     pub fn at_index_mut(&mut self, alloc: Global, index: usize) -> Result<&mut JsonValue>
         ensures* writes_back { sem 𝓛 (LendsSoOk the_row the_row self.entry result
             (λ n w. items_in n ≡ Some (slice_set (items_with_place self.old index)

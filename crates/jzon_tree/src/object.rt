@@ -35,34 +35,35 @@ use std::slice;
 /// may be far more than there are distinct keys.
 const ROOM_MAX: usize = 256;
 
-/// The members of an object that are left, each as its key's text and its value.
+/// The entries of an object that are left, each as its key's text and its value.
 pub type Iter<'a> = pairs::Iter<'a, JsonValue>;
 
-/// The members of an object that are left, each as its key's text and its value, which may be
-/// written.
+/// The entries of an object that are left, each as its key's text and a mutable reference to its
+/// value.
 pub type IterMut<'a> = pairs::IterMut<'a, JsonValue>;
 
-/// The keys of an object that are left, each by its text.
+/// The keys of an object that are left, each as its text.
 pub type Keys<'a> = keys::Iter<'a>;
 
 /// The values of an object that are left.
 pub type Values<'a> = slice::Iter<'a, JsonValue>;
 
-/// The members of an object that are left, each as its key and its value.
+/// The entries of an object that are left, each as its key and its value.
+///
+/// Not another name, as `Iter` is: the toolchain doesn't finish the statement of `IntoIterator` for
+/// `Object` if the iterator is `pairs::IntoIter<JsonValue>` itself.
 #[derive(Drop)]
 pub struct IntoIter {
     pairs: pairs::IntoIter<JsonValue>,
 }
 
-/// The entries of an object that is being made. A clause sees the members of the object so far: a
-/// later entry of a key changes that key's value in its place.
+/// The entries of an object that is being made: `push` adds one, and `Object::from_builder` makes
+/// the object. A clause sees the entries so far: a later entry of a key replaces that key's value
+/// at its position.
 pub type Builder = pairs::Builder<JsonValue>;
 
-/// The members of a JSON object (RFC 8259, section 4), in the order in which their keys were put.
-/// No key is there twice.
-///
-/// Keys are compared by their bytes. Two objects are equal where they have the same keys, and equal
-/// values under each, in whatever order.
+/// A JSON object (RFC 8259, section 4): entries, each a key and a value, in the order in which
+/// their keys were first put. Keys are distinct, compared by their bytes.
 #[cycle(json)]
 #[derive(Debug)]
 pub struct Object {
@@ -75,7 +76,7 @@ impl Object {
     ghost use Rattle.jzon_tree.specs.contracts.value.JsonValue.{the_row as value_row};
     ghost use Rattle.jzon_tree.specs.Entries.{entries_of, with_entries};
 
-    /// An object without members. It takes no memory.
+    /// An object without entries. It allocates nothing.
     pub fn new(alloc: Global) -> Object
         ensures { entries_of result ≡ [] }
     {
@@ -84,8 +85,7 @@ impl Object {
         }
     }
 
-    /// An object without members, with room for `capacity` of them: for keys, values and index.
-    /// Fails with `OutOfMemory` only.
+    /// An object without entries, with room for `capacity` of them. Fails with `OutOfMemory` only.
     pub fn with_capacity(alloc: Global, capacity: usize) -> Result<Object>
         ensures empty { IfOk result (λ object. entries_of object ≡ []) }
         ensures memory { IsOkUnless result Error.OutOfMemory }
@@ -95,8 +95,12 @@ impl Object {
         })
     }
 
-    /// The object in which the pairs are put one after the other: a later pair of a key changes
-    /// that key's value in its place. Fails with `OutOfMemory` only.
+    /// The object of these pairs, put one after the other: a later pair of a key replaces that
+    /// key's value at its position. The iterator must end. Fails with `OutOfMemory` only.
+    ///
+    /// ```rust
+    /// let object = Object::from_pairs(alloc, pairs.into_iter())?;
+    /// ```
     pub fn from_pairs<K: AsStr + Drop, V: IntoJson, I: Iterator<Item = (K, V)> + Drop>(
         alloc: Global,
         pairs: I,
@@ -126,7 +130,7 @@ impl Object {
         })
     }
 
-    /// How many members there are.
+    /// The number of entries.
     pub fn len(&self) -> usize
         ensures len { result ≡ length (entries_of self.now) }
         ensures distinct { IsDistinct bytes_eq (keys_of (entries_of self.now)) }
@@ -134,21 +138,22 @@ impl Object {
         self.pairs.len()
     }
 
-    /// Whether there is no member.
+    /// Whether there is no entry.
     pub fn is_empty(&self) -> bool
         ensures { result ≡ (length (entries_of self.now) == 0) }
     {
         self.pairs.is_empty()
     }
 
-    /// The value of the key.
+    /// The value of the key. `None` if the key is missing.
     pub fn get(&self, key: &str) -> Option<&JsonValue>
         ensures { option_copied result ≡ find key.now (entries_of self.now) }
     {
         self.pairs.get(key)
     }
 
-    /// The value of the key, to be written. Nothing else changes.
+    /// A mutable reference to the value of the key. `None` if the key is missing. A write through
+    /// it changes nothing else.
     pub fn get_mut(&mut self, key: &str) -> Option<&mut JsonValue>
         ensures* writes_back { sem 𝓛 (LendsIf the_row value_row self.entry result
             (λ w. with_entries (put key.now w (entries_of self.old))) self.old) }
@@ -157,9 +162,9 @@ impl Object {
         self.pairs.get_mut(key)
     }
 
-    /// The value of the key, to be written. A missing key is first put last, with null. Nothing
-    /// else changes. Fails with `OutOfMemory` only, and then nothing has changed; a key that is
-    /// there takes no memory.
+    /// A mutable reference to the value of the key. A missing key is first put last, with null. A
+    /// write through it changes nothing else. Fails with `OutOfMemory` only, and then nothing has
+    /// changed; a key that is present needs no allocation.
     pub fn at_mut(&mut self, alloc: Global, key: &str) -> Result<&mut JsonValue>
         ensures* writes_back { sem 𝓛 (LendsIfOk the_row value_row self.entry result
             (λ w. with_entries (put key.now w (entries_of self.old))) self.old) }
@@ -171,8 +176,9 @@ impl Object {
         Ok(self.pairs.at_mut(alloc, key, JsonValue::Null)?)
     }
 
-    /// Puts the value under the key: at the position of the key if it is there, which takes no
-    /// memory, else last. Fails with `OutOfMemory` only, and then nothing has changed.
+    /// Puts the value under the key: at the key's position if it is present, which needs no
+    /// allocation, else last. Fails with `OutOfMemory` only; then the object is as it was, and
+    /// `value` is dropped.
     ///
     /// `n` calls with new keys take a time of about n log n, and `from_pairs` less (measured, not
     /// proved: docs/MEASURED.md).
@@ -186,7 +192,8 @@ impl Object {
         Ok(())
     }
 
-    /// Changes the value of the last member alone, and nothing where there is none.
+    /// Replaces the value of the last entry; an object without entries stays as it is. No key is
+    /// looked up, so this serves a caller that puts a key first and gets its value later.
     pub fn override_last(&mut self, value: JsonValue)
         ensures { entries_of self.new ≡
             set_value (entries_of self.old) (length (entries_of self.old) - 1) value }
@@ -194,8 +201,11 @@ impl Object {
         self.pairs.override_last(value);
     }
 
-    /// Removes the member of the key, and returns its value. The others keep their order. It takes
-    /// no memory.
+    /// Removes the entry of the key and returns its value. `None` if the key is missing. The other
+    /// entries keep their order. It allocates nothing.
+    ///
+    /// The entries after it move up, so the time of a call grows with the number of entries
+    /// (measured, not proved: docs/MEASURED.md).
     pub fn remove(&mut self, key: &str) -> Option<JsonValue>
         ensures value { result ≡ find key.now (entries_of self.old) }
         ensures after { entries_of self.new ≡ cut key.now (entries_of self.old) }
@@ -203,8 +213,13 @@ impl Object {
         self.pairs.remove(key)
     }
 
-    /// Keeps the members for which `keep(key, value)` returns `true`, in their order. `keep` is
-    /// called once for each member, in order, and may change the value. Takes no memory.
+    /// Keeps the entries for which `keep(key, value)` returns `true`, in their order. `keep` is
+    /// called once for each entry, in order, and may change the value. It must accept every entry,
+    /// as a closure without a `requires` does. It allocates nothing.
+    ///
+    /// ```rust
+    /// object.retain(|_key, value| !value.is_null());
+    /// ```
     pub fn retain<F: FnMut(&str, &mut JsonValue) -> bool>(&mut self, keep: F)
         requires { CallableOnEachPair (CalledAtPair F.FnMut) (TakesPair F.FnMut) keep
             (entries_of self.old) }
@@ -214,42 +229,42 @@ impl Object {
         self.pairs.retain(keep);
     }
 
-    /// Removes all members.
+    /// Removes all entries.
     pub fn clear(&mut self)
         ensures { entries_of self.new ≡ [] }
     {
         self.pairs.clear();
     }
 
-    /// Whether there is a member of the key. It takes no memory.
+    /// Whether the key is present.
     pub fn contains_key(&self, key: &str) -> bool
         ensures { result ≡ is_some (find key.now (entries_of self.now)) }
     {
         self.get(key).is_some()
     }
 
-    /// The keys in their order, from both ends.
+    /// Iterates over the keys in order, from both ends.
     pub fn keys(&self) -> Keys<'_>
         ensures { result ≡ keys_of (entries_of self.now) }
     {
         self.pairs.keys()
     }
 
-    /// The values in the order of their keys, from both ends.
+    /// Iterates over the values in the order of their keys, from both ends.
     pub fn values(&self) -> Values<'_>
         ensures { iter_rest result ≡ values_of (entries_of self.now) }
     {
         self.pairs.values().iter()
     }
 
-    /// The members in their order, from both ends.
+    /// Iterates over the entries in order, from both ends.
     pub fn iter(&self) -> Iter<'_>
         ensures { result ≡ entries_of self.now }
     {
         self.pairs.iter()
     }
 
-    /// The members in their order, from both ends. Their values may be written.
+    /// Iterates over the entries in order, from both ends, with mutable references to their values.
     pub fn iter_mut(&mut self) -> IterMut<'_>
         ensures { iter_mut_rest result ≡ entries_of self.old }
     {
@@ -257,7 +272,8 @@ impl Object {
     }
 }
 
-/// Drops values in a loop, so that those stored inline cost no call.
+/// Drops the values in a loop. The drop that the compiler writes would call a function for each
+/// value, even if the value owns nothing.
 impl Drop for Object {
     #[cycle(json)]
     fn drop(self) {
@@ -280,9 +296,11 @@ fn drop_values(mut values: Vec<JsonValue>) {
             JsonValue::Array(items) => drop_values(items),
         }
     }
+    // The vector is empty now: this frees its memory alone.
     values.destroy_empty();
 }
 
+/// Iterates as `iter` does.
 impl<'a> IntoIterator for &'a Object {
     type Item = (&'a str, &'a JsonValue);
 
@@ -297,6 +315,7 @@ impl<'a> IntoIterator for &'a Object {
     }
 }
 
+/// Iterates as `iter_mut` does.
 impl<'a> IntoIterator for &'a mut Object {
     type Item = (&'a str, &'a mut JsonValue);
 
@@ -348,6 +367,7 @@ impl ExactSizeIterator for IntoIter {
 
 impl FusedIterator for IntoIter {}
 
+/// Iterates over the entries in order, from both ends, and gives away their keys and values.
 impl IntoIterator for Object {
     type Item = (Key, JsonValue);
 

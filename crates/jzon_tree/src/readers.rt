@@ -21,7 +21,7 @@ use std::slice;
 /// Iterator over the elements of an array.
 pub type Members<'a> = slice::Iter<'a, JsonValue>;
 
-/// Iterator over the members of an object, each as its name and its value.
+/// Iterator over the entries of an object, each as its key's text and its value.
 pub type Entries<'a> = object::Iter<'a>;
 
 impl JsonValue {
@@ -83,7 +83,7 @@ impl JsonValue {
         }
     }
 
-    /// The number of members of an object or of elements of an array, and 0 for any other value.
+    /// The number of entries of an object or of elements of an array, and 0 for any other value.
     #[tactic(auto, using(crate::proofs::Views::views, crate::proofs::Seen::seen))]
     pub fn len(&self) -> usize
         ensures { result ≡ count (view self.now) }
@@ -95,7 +95,7 @@ impl JsonValue {
         }
     }
 
-    /// The string, however it is stored.
+    /// The string, however it is stored. `None` for any other value.
     pub fn as_str(&self) -> Option<&str>
         ensures { option_copied result ≡ text_in (view self.now) }
     {
@@ -106,7 +106,7 @@ impl JsonValue {
         }
     }
 
-    /// The number, with its parts as they were parsed or set.
+    /// The number, with its parts as they were parsed or set. `None` for any other value.
     pub fn as_number(&self) -> Option<Number>
         ensures { result ≡ number_in (view self.now) }
     {
@@ -116,7 +116,7 @@ impl JsonValue {
         }
     }
 
-    /// The boolean.
+    /// The boolean. `None` for any other value.
     pub fn as_bool(&self) -> Option<bool>
         ensures { result ≡ truth_in (view self.now) }
     {
@@ -126,7 +126,7 @@ impl JsonValue {
         }
     }
 
-    /// The object.
+    /// The object. `None` for any other value.
     #[tactic(auto, using(crate::proofs::Views::views, crate::proofs::Seen::seen))]
     pub fn as_object(&self) -> Option<&Object>
         ensures { option_map (λ o. view_object o.now) result ≡ object_of (view self.now) }
@@ -137,7 +137,7 @@ impl JsonValue {
         }
     }
 
-    /// The elements of the array.
+    /// The elements of the array. `None` for any other value.
     #[tactic(auto, using(crate::proofs::Views::views, crate::proofs::Seen::seen))]
     pub fn as_array(&self) -> Option<&Vec<JsonValue>>
         ensures { option_map (λ vs. array (view_values vs.now.items)) result
@@ -149,7 +149,7 @@ impl JsonValue {
         }
     }
 
-    /// The value of the key of an object.
+    /// The value of the key of an object. `None` if the key is missing, and for any other value.
     #[tactic(auto, using(crate::proofs::Views::views, crate::proofs::Seen::seen))]
     pub fn get(&self, key: &str) -> Option<&JsonValue>
         ensures { option_map (λ v. view v.now) result ≡ find key.now (entries (view self.now)) }
@@ -169,6 +169,12 @@ impl JsonValue {
 
     /// Iterates over the elements of an array in order, from both ends; over nothing for any other
     /// value.
+    ///
+    /// ```rust
+    /// for order in orders.members() {
+    ///     sum = sum.checked_add(order.at("amount").as_u64()?)?;
+    /// }
+    /// ```
     #[tactic(auto, using(crate::proofs::Views::views, crate::proofs::Seen::seen))]
     pub fn members(&self) -> Members<'_>
         ensures { map view (iter_rest result) ≡ items (view self.now) }
@@ -179,8 +185,16 @@ impl JsonValue {
         }
     }
 
-    /// Iterates over the members of an object in order, from both ends; over nothing for any other
+    /// Iterates over the entries of an object in order, from both ends; over nothing for any other
     /// value.
+    ///
+    /// ```rust
+    /// for (key, value) in config.entries() {
+    ///     if value.is_null() {
+    ///         keys.push(String::from_str(alloc, key)?)?;
+    ///     }
+    /// }
+    /// ```
     #[tactic(auto, using(crate::proofs::Views::views, crate::proofs::Seen::seen))]
     pub fn entries(&self) -> Entries<'_>
         ensures { viewed result ≡ entries (view self.now) }

@@ -11,8 +11,9 @@ use jzon_base::short::Short;
 
 /// A JSON value (RFC 8259, section 3).
 ///
-/// Two values are equal if they mean the same: a `Short` and a `String` of the same text are equal,
-/// and so are numbers that are the same decimal. NaN equals NaN.
+/// `==` compares what values mean: a `Short` equals a `String` of the same bytes, numbers are equal
+/// if they are the same decimal, NaN equals NaN, and the order of an object's entries doesn't
+/// count.
 #[cycle(json)]
 #[derive(Debug, Drop)]
 pub enum JsonValue {
@@ -27,7 +28,7 @@ pub enum JsonValue {
     Number(Number),
     /// `true` or `false`.
     Boolean(bool),
-    /// Members, each a name and a value, in their order.
+    /// Entries, each a key and a value, in their order.
     Object(Object),
     /// Elements, in their order.
     Array(Vec<JsonValue>),

@@ -22,7 +22,8 @@ use crate::readers::{Entries, Members};
 use crate::value::JsonValue;
 use jzon_base::number::Number;
 
-/// A value that may be missing. A missing value reads as null.
+/// A reference to a value in a value, or missing. A missing view reads as null, so a chain of `at`
+/// and `at_index` needs no test between its links.
 #[derive(Clone, Copy)]
 pub struct View<'a> {
     value: Option<&'a JsonValue>,
@@ -36,7 +37,7 @@ impl JsonValue {
         View { value: Some(self) }
     }
 
-    /// The member `key` of an object, or missing.
+    /// The value of the key of an object. Missing if the key is, and for any other value.
     ///
     /// ```rust
     /// let is_named = data.at("name").eq_str("x");
@@ -50,7 +51,7 @@ impl JsonValue {
         }
     }
 
-    /// The element at a position of an array, or missing.
+    /// The element at a position of an array. Missing past the end, and for any other value.
     #[tactic(auto, using(crate::proofs::Views::views, crate::proofs::Seen::seen))]
     pub fn at_index(&self, index: usize) -> View<'_>
         ensures { shown result ≡ slice_get (items (view self.now)) index }
@@ -65,7 +66,7 @@ impl JsonValue {
 }
 
 impl Object {
-    /// The value of the key, or missing.
+    /// The value of the key, or missing if the key is.
     #[tactic(auto, using(crate::proofs::Views::views, crate::proofs::Seen::seen))]
     pub fn at(&self, key: &str) -> View<'_>
         ensures { shown result ≡ find key.now (viewed (entries_of self.now)) }
@@ -77,14 +78,14 @@ impl Object {
 }
 
 impl<'a> View<'a> {
-    /// The value, if it isn't missing.
+    /// The value. `None` if it is missing.
     pub fn value(self) -> Option<&'a JsonValue>
         ensures { option_map (λ v. view v.now) result ≡ shown self.entry }
     {
         self.value
     }
 
-    /// The member `key` of an object, or missing.
+    /// The value of the key of an object. Missing if the key is, and for any other value.
     pub fn at(self, key: &str) -> View<'a>
         ensures { shown result ≡ find key.now (entries (seen self.entry)) }
     {
@@ -94,7 +95,7 @@ impl<'a> View<'a> {
         }
     }
 
-    /// The element at a position of an array, or missing.
+    /// The element at a position of an array. Missing past the end, and for any other value.
     pub fn at_index(self, index: usize) -> View<'a>
         ensures { shown result ≡ slice_get (items (seen self.entry)) index }
     {
@@ -153,7 +154,7 @@ impl<'a> View<'a> {
         self.value.is_none_or(JsonValue::is_empty)
     }
 
-    /// The number of members of an object or of elements of an array, and 0 for any other value or
+    /// The number of entries of an object or of elements of an array, and 0 for any other value or
     /// none.
     pub fn len(self) -> usize
         ensures { result ≡ count (seen self.entry) }
@@ -161,35 +162,35 @@ impl<'a> View<'a> {
         self.value.map_or(0, JsonValue::len)
     }
 
-    /// The string, however it is stored.
+    /// The string, however it is stored. `None` for any other value or none.
     pub fn as_str(self) -> Option<&'a str>
         ensures { option_copied result ≡ text_in (seen self.entry) }
     {
         self.value?.as_str()
     }
 
-    /// The number, with its parts as they were parsed or set.
+    /// The number, with its parts as they were parsed or set. `None` for any other value or none.
     pub fn as_number(self) -> Option<Number>
         ensures { result ≡ number_in (seen self.entry) }
     {
         self.value?.as_number()
     }
 
-    /// The boolean.
+    /// The boolean. `None` for any other value or none.
     pub fn as_bool(self) -> Option<bool>
         ensures { result ≡ truth_in (seen self.entry) }
     {
         self.value?.as_bool()
     }
 
-    /// The object.
+    /// The object. `None` for any other value or none.
     pub fn as_object(self) -> Option<&'a Object>
         ensures { option_map (λ o. view_object o.now) result ≡ object_of (seen self.entry) }
     {
         self.value?.as_object()
     }
 
-    /// The elements of the array.
+    /// The elements of the array. `None` for any other value or none.
     pub fn as_array(self) -> Option<&'a Vec<JsonValue>>
         ensures { option_map (λ vs. array (view_values vs.now.items)) result
             ≡ array_of (seen self.entry) }
@@ -212,7 +213,7 @@ impl<'a> View<'a> {
         self.value.map_or([].iter(), JsonValue::members)
     }
 
-    /// Iterates over the members of an object in order, from both ends; over nothing for any other
+    /// Iterates over the entries of an object in order, from both ends; over nothing for any other
     /// value or none.
     pub fn entries(self) -> Entries<'a>
         ensures { viewed result ≡ entries (seen self.entry) }
@@ -241,78 +242,77 @@ impl<'a> View<'a> {
         self.as_bool() == Some(other)
     }
 
-    /// The number as a `u64`, if its exponent is 0, its sign is positive, and it fits.
+    /// As `JsonValue::as_u64`. `None` if the value is missing.
     pub fn as_u64(self) -> Option<u64>
         ensures { SomeWhere (unsigned_in (seen self.entry)) (λ n. n < 2 ^ 64) result }
     {
         self.value?.as_u64()
     }
 
-    /// The number as a `u32`, if its exponent is 0, its sign is positive, and it fits.
+    /// As `JsonValue::as_u32`. `None` if the value is missing.
     pub fn as_u32(self) -> Option<u32>
         ensures { SomeWhere (unsigned_in (seen self.entry)) (λ n. n < 2 ^ 32) result }
     {
         self.value?.as_u32()
     }
 
-    /// The number as a `u16`, if its exponent is 0, its sign is positive, and it fits.
+    /// As `JsonValue::as_u16`. `None` if the value is missing.
     pub fn as_u16(self) -> Option<u16>
         ensures { SomeWhere (unsigned_in (seen self.entry)) (λ n. n < 2 ^ 16) result }
     {
         self.value?.as_u16()
     }
 
-    /// The number as a `u8`, if its exponent is 0, its sign is positive, and it fits.
+    /// As `JsonValue::as_u8`. `None` if the value is missing.
     pub fn as_u8(self) -> Option<u8>
         ensures { SomeWhere (unsigned_in (seen self.entry)) (λ n. n < 2 ^ 8) result }
     {
         self.value?.as_u8()
     }
 
-    /// The number as a `usize`, if its exponent is 0, its sign is positive, and it fits.
+    /// As `JsonValue::as_usize`. `None` if the value is missing.
     pub fn as_usize(self) -> Option<usize>
         ensures { SomeWhere (unsigned_in (seen self.entry)) (λ n. n < 2 ^ 64) result }
     {
         self.value?.as_usize()
     }
 
-    /// The number as an `i64`, if its exponent is 0 and it fits.
+    /// As `JsonValue::as_i64`. `None` if the value is missing.
     pub fn as_i64(self) -> Option<i64>
         ensures { SomeWhere (integer_in (seen self.entry)) (FitsSigned w64) result }
     {
         self.value?.as_i64()
     }
 
-    /// The number as an `i32`, if its exponent is 0 and it fits.
+    /// As `JsonValue::as_i32`. `None` if the value is missing.
     pub fn as_i32(self) -> Option<i32>
         ensures { SomeWhere (integer_in (seen self.entry)) (FitsSigned w32) result }
     {
         self.value?.as_i32()
     }
 
-    /// The number as an `i16`, if its exponent is 0 and it fits.
+    /// As `JsonValue::as_i16`. `None` if the value is missing.
     pub fn as_i16(self) -> Option<i16>
         ensures { SomeWhere (integer_in (seen self.entry)) (FitsSigned w16) result }
     {
         self.value?.as_i16()
     }
 
-    /// The number as an `i8`, if its exponent is 0 and it fits.
+    /// As `JsonValue::as_i8`. `None` if the value is missing.
     pub fn as_i8(self) -> Option<i8>
         ensures { SomeWhere (integer_in (seen self.entry)) (FitsSigned w8) result }
     {
         self.value?.as_i8()
     }
 
-    /// The number as an `isize`, if its exponent is 0 and it fits.
+    /// As `JsonValue::as_isize`. `None` if the value is missing.
     pub fn as_isize(self) -> Option<isize>
         ensures { SomeWhere (integer_in (seen self.entry)) (FitsSigned w64) result }
     {
         self.value?.as_isize()
     }
 
-    /// `mantissa * 10 ^ (exponent + point)`, truncated to an integer, if the sign is positive and
-    /// it fits.
+    /// As `JsonValue::as_fixed_point_u64`. `None` if the value is missing.
     pub fn as_fixed_point_u64(self, point: u16) -> Option<u64>
         ensures { SomeWhere (unsigned_fixed_point_in (seen self.entry) point)
             (λ n. n < 2 ^ 64) result }
@@ -320,15 +320,14 @@ impl<'a> View<'a> {
         self.value?.as_fixed_point_u64(point)
     }
 
-    /// `mantissa * 10 ^ (exponent + point)`, truncated to an integer, with its sign, if it fits.
+    /// As `JsonValue::as_fixed_point_i64`. `None` if the value is missing.
     pub fn as_fixed_point_i64(self, point: u16) -> Option<i64>
         ensures { SomeWhere (fixed_point_in (seen self.entry) point) (FitsSigned w64) result }
     {
         self.value?.as_fixed_point_i64(point)
     }
 
-    /// `mantissa * 10 ^ (exponent + point)`, if that is an integer, the sign is positive and it
-    /// fits. `None` if a digit would be lost.
+    /// As `JsonValue::as_exact_fixed_point_u64`. `None` if the value is missing.
     pub fn as_exact_fixed_point_u64(self, point: u16) -> Option<u64>
         ensures { SomeWhere (exact_unsigned_fixed_point_in (seen self.entry) point)
             (λ n. n < 2 ^ 64) result }
@@ -336,8 +335,7 @@ impl<'a> View<'a> {
         self.value?.as_exact_fixed_point_u64(point)
     }
 
-    /// `mantissa * 10 ^ (exponent + point)` with its sign, if that is an integer and fits. `None`
-    /// if a digit would be lost.
+    /// As `JsonValue::as_exact_fixed_point_i64`. `None` if the value is missing.
     pub fn as_exact_fixed_point_i64(self, point: u16) -> Option<i64>
         ensures { SomeWhere (exact_fixed_point_in (seen self.entry) point) (FitsSigned w64) result }
     {

@@ -10,7 +10,7 @@ use crate::value::JsonValue;
 use jzon_base::error::Result;
 use std::alloc::Global;
 
-/// It allocates nothing.
+/// An object means itself. It allocates nothing.
 impl IntoJson for Object {
     ghost means = { λ o v. v ≡ view_object o };
 
@@ -36,7 +36,7 @@ impl<T: IntoJson> IntoJson for Option<T> {
     }
 }
 
-/// The array of what the elements mean.
+/// The array of what the elements mean, in order.
 impl<T: IntoJson> IntoJson for Vec<T> {
     ghost means = { λ list v. ListMeans T.means list.items v };
 
@@ -51,7 +51,7 @@ impl<T: IntoJson> IntoJson for Vec<T> {
     }
 }
 
-/// The array of what clones of the elements mean.
+/// The array of what clones of the elements mean, in order.
 impl<T: IntoJson + Clone> IntoJson for &[T] {
     ghost means = { λ list v. CloneListMeans T.is_clone T.means list.now v };
 

@@ -10,6 +10,7 @@ use jzon_base::error::Result;
 use jzon_base::number::Number;
 use std::alloc::Global;
 
+/// The number of this integer, with the exponent 0.
 impl IntoJson for u8 {
     ghost means = { λ n v. v ≡ number (integer_parts (pos n)) };
 
@@ -20,6 +21,7 @@ impl IntoJson for u8 {
     }
 }
 
+/// The number of this integer, with the exponent 0.
 impl IntoJson for u16 {
     ghost means = { λ n v. v ≡ number (integer_parts (pos n)) };
 
@@ -30,6 +32,7 @@ impl IntoJson for u16 {
     }
 }
 
+/// The number of this integer, with the exponent 0.
 impl IntoJson for u32 {
     ghost means = { λ n v. v ≡ number (integer_parts (pos n)) };
 
@@ -40,6 +43,7 @@ impl IntoJson for u32 {
     }
 }
 
+/// The number of this integer, with the exponent 0.
 impl IntoJson for u64 {
     ghost means = { λ n v. v ≡ number (integer_parts (pos n)) };
 
@@ -50,6 +54,7 @@ impl IntoJson for u64 {
     }
 }
 
+/// The number of this integer, with the exponent 0.
 impl IntoJson for usize {
     ghost means = { λ n v. v ≡ number (integer_parts (pos n)) };
 
@@ -60,6 +65,7 @@ impl IntoJson for usize {
     }
 }
 
+/// The number of this integer, with the exponent 0.
 impl IntoJson for i8 {
     ghost means = { λ n v. v ≡ number (integer_parts n) };
 
@@ -70,6 +76,7 @@ impl IntoJson for i8 {
     }
 }
 
+/// The number of this integer, with the exponent 0.
 impl IntoJson for i16 {
     ghost means = { λ n v. v ≡ number (integer_parts n) };
 
@@ -80,6 +87,7 @@ impl IntoJson for i16 {
     }
 }
 
+/// The number of this integer, with the exponent 0.
 impl IntoJson for i32 {
     ghost means = { λ n v. v ≡ number (integer_parts n) };
 
@@ -90,6 +98,7 @@ impl IntoJson for i32 {
     }
 }
 
+/// The number of this integer, with the exponent 0.
 impl IntoJson for i64 {
     ghost means = { λ n v. v ≡ number (integer_parts n) };
 
@@ -100,6 +109,7 @@ impl IntoJson for i64 {
     }
 }
 
+/// The number of this integer, with the exponent 0.
 impl IntoJson for isize {
     ghost means = { λ n v. v ≡ number (integer_parts n) };
 

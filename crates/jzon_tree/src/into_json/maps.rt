@@ -1,4 +1,4 @@
-//! Maps as values. The text of a map's key is the member's name.
+//! Maps as values. The text of a map's key is the key of an entry.
 
 ghost use Rattle.std.specs.Prelude.{string_bytes};
 ghost use Rattle.jzon_tree.specs.IntoJson.{MapMeans, AnyOrderMeans};

@@ -10,7 +10,7 @@ use jzon_base::number::Number;
 use jzon_base::short::{MAX_LEN, Short};
 use std::alloc::Global;
 
-/// It allocates nothing.
+/// A boolean. It allocates nothing.
 impl IntoJson for bool {
     ghost means = { λ b v. v ≡ boolean b };
 

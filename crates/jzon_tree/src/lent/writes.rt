@@ -13,8 +13,8 @@ use crate::value::JsonValue;
 use jzon_base::error::{Error, Result};
 use std::alloc::Global;
 
-/// Writes the value of an object's key, and returns whether the key is there. If it isn't, nothing
-/// changes.
+/// Writes the value of an object's key, as through `get_mut`, and returns whether the key is
+/// present. If it isn't, nothing changes, and `item` is dropped.
 #[tactic(auto, using(crate::proofs::WrittenViews::written))]
 pub fn write_present(value: &mut JsonValue, key: &str, item: JsonValue) -> bool
     ensures found { result ≡ is_some (find key.now (entries (view value.old))) }
@@ -25,8 +25,8 @@ pub fn write_present(value: &mut JsonValue, key: &str, item: JsonValue) -> bool
     write_present_in(value, key, item)
 }
 
-/// Writes the value of an object's key, which is the value that `at_mut` returns. Fails only with
-/// `OutOfMemory`, and then nothing has changed; a key that is there needs no allocation.
+/// Writes the value of an object's key, as through `at_mut`. Fails with `OutOfMemory` only, and
+/// then nothing has changed; a key that is present needs no allocation.
 #[tactic(auto, using(crate::proofs::WrittenViews::written))]
 pub fn write_at(value: &mut JsonValue, alloc: Global, key: &str, item: JsonValue) -> Result<()>
     ensures ok { OnOk result (view value.new ≡
@@ -38,9 +38,8 @@ pub fn write_at(value: &mut JsonValue, alloc: Global, key: &str, item: JsonValue
     write_at_in(value, alloc, key, item)
 }
 
-/// Writes the element of an array for an index, which is the element that `at_index_mut` returns.
-/// Fails only with `OutOfMemory`, and then the value means what it meant; an index in range of an
-/// array needs no allocation.
+/// Writes the element of an array at an index, as through `at_index_mut`. Fails with `OutOfMemory`
+/// only, and then the value means what it meant; an index in range of an array needs no allocation.
 #[tactic(auto, using(crate::proofs::WrittenViews::written))]
 pub fn write_at_index(
     value: &mut JsonValue,

@@ -1,4 +1,4 @@
-//! The members of an object by their positions, so that a loop can write each value where it is.
+//! The entries of an object by their positions, so that a loop can change each value in place.
 
 ghost use Rattle.std.specs.Prelude.{◌≡◌, slice_get, option_map};
 ghost use Rattle.std.specs.Option.{option_copied_mut};
@@ -13,7 +13,7 @@ impl Object {
     ghost use Rattle.jzon_tree.specs.contracts.value.JsonValue.{the_row as value_row};
     ghost use Rattle.jzon_tree.specs.Entries.{entries_of, with_entries};
 
-    /// The member at a position, counted from 0 in the order of the members: its key and its value.
+    /// The entry at a position, counted from 0: its key's text and its value. `None` past the end.
     pub fn get_index(&self, index: usize) -> Option<(&str, &JsonValue)>
         ensures { option_map (λ p. (p.0.now, p.1.now)) result
             ≡ slice_get (entries_of self.now) index }
@@ -25,8 +25,17 @@ impl Object {
         }
     }
 
-    /// The value of the member at a position, counted from 0 in the order of the members. A write
-    /// through it changes nothing else.
+    /// A mutable reference to the value of the entry at a position, counted from 0. `None` past the
+    /// end. A write through it changes nothing else.
+    ///
+    /// ```rust
+    /// for index in 0..object.len() {
+    ///     let hides = hides_member(object, index, names);
+    ///     if let Some(value) = object.get_index_mut(index) {
+    ///         redact_member(value, hides, names);
+    ///     }
+    /// }
+    /// ```
     pub fn get_index_mut(&mut self, index: usize) -> Option<&mut JsonValue>
         ensures* writes_back { sem 𝓛 (LendsIf the_row value_row self.entry result
             (λ w. with_entries (set_value (entries_of self.old) index w)) self.old) }

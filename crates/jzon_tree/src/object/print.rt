@@ -34,8 +34,8 @@ impl Object {
         }
     }
 
-    /// The text of the object with a line for each member, as by `JsonValue::pretty`. Fails as
-    /// `dump`.
+    /// The text of the object with a line for each entry and element, as `JsonValue::pretty`
+    /// returns it. Fails as `JsonValue::dump`.
     pub fn pretty(&self, alloc: Global, spaces: u16) -> Result<String>
         ensures text { IfOk result (λ text. string_bytes text
             ≡ pretty (view_object self.now) spaces 0) }

@@ -12,78 +12,87 @@ ghost use Rattle.jzon_tree.specs.View.{view};
 use crate::value::JsonValue;
 
 impl JsonValue {
-    /// The number as a `u64`, if its exponent is 0, its sign is positive, and it fits.
+    /// The number as a `u64`, if its exponent is 0, its sign is positive, and it fits. `None` also
+    /// for an integer that is written with a point or an exponent, as `1.0`, `1e2` and `100e-2`:
+    /// `as_exact_fixed_point_u64(0)` returns these.
+    ///
+    /// ```rust
+    /// config.at("limits").at("timeout").as_u64().unwrap_or(30)
+    /// ```
     pub fn as_u64(&self) -> Option<u64>
         ensures { SomeWhere (unsigned_in (view self.now)) (λ n. n < 2 ^ 64) result }
     {
         u64::try_from(self.as_number()?).ok()
     }
 
-    /// The number as a `u32`, if its exponent is 0, its sign is positive, and it fits.
+    /// The number as a `u32`, as `as_u64` reads it, if it fits.
     pub fn as_u32(&self) -> Option<u32>
         ensures { SomeWhere (unsigned_in (view self.now)) (λ n. n < 2 ^ 32) result }
     {
         u32::try_from(self.as_number()?).ok()
     }
 
-    /// The number as a `u16`, if its exponent is 0, its sign is positive, and it fits.
+    /// The number as a `u16`, as `as_u64` reads it, if it fits.
     pub fn as_u16(&self) -> Option<u16>
         ensures { SomeWhere (unsigned_in (view self.now)) (λ n. n < 2 ^ 16) result }
     {
         u16::try_from(self.as_number()?).ok()
     }
 
-    /// The number as a `u8`, if its exponent is 0, its sign is positive, and it fits.
+    /// The number as a `u8`, as `as_u64` reads it, if it fits.
     pub fn as_u8(&self) -> Option<u8>
         ensures { SomeWhere (unsigned_in (view self.now)) (λ n. n < 2 ^ 8) result }
     {
         u8::try_from(self.as_number()?).ok()
     }
 
-    /// The number as a `usize`, if its exponent is 0, its sign is positive, and it fits.
+    /// The number as a `usize`, as `as_u64` reads it, if it fits.
     pub fn as_usize(&self) -> Option<usize>
         ensures { SomeWhere (unsigned_in (view self.now)) (λ n. n < 2 ^ 64) result }
     {
         usize::try_from(self.as_number()?).ok()
     }
 
-    /// The number as an `i64`, if its exponent is 0 and it fits.
+    /// The number as an `i64`, if its exponent is 0 and it fits. `None` also for an integer that is
+    /// written with a point or an exponent, as `1.0`, `1e2` and `100e-2`:
+    /// `as_exact_fixed_point_i64(0)` returns these.
     pub fn as_i64(&self) -> Option<i64>
         ensures { SomeWhere (integer_in (view self.now)) (FitsSigned w64) result }
     {
         i64::try_from(self.as_number()?).ok()
     }
 
-    /// The number as an `i32`, if its exponent is 0 and it fits.
+    /// The number as an `i32`, as `as_i64` reads it, if it fits.
     pub fn as_i32(&self) -> Option<i32>
         ensures { SomeWhere (integer_in (view self.now)) (FitsSigned w32) result }
     {
         i32::try_from(self.as_number()?).ok()
     }
 
-    /// The number as an `i16`, if its exponent is 0 and it fits.
+    /// The number as an `i16`, as `as_i64` reads it, if it fits.
     pub fn as_i16(&self) -> Option<i16>
         ensures { SomeWhere (integer_in (view self.now)) (FitsSigned w16) result }
     {
         i16::try_from(self.as_number()?).ok()
     }
 
-    /// The number as an `i8`, if its exponent is 0 and it fits.
+    /// The number as an `i8`, as `as_i64` reads it, if it fits.
     pub fn as_i8(&self) -> Option<i8>
         ensures { SomeWhere (integer_in (view self.now)) (FitsSigned w8) result }
     {
         i8::try_from(self.as_number()?).ok()
     }
 
-    /// The number as an `isize`, if its exponent is 0 and it fits.
+    /// The number as an `isize`, as `as_i64` reads it, if it fits.
     pub fn as_isize(&self) -> Option<isize>
         ensures { SomeWhere (integer_in (view self.now)) (FitsSigned w64) result }
     {
         isize::try_from(self.as_number()?).ok()
     }
 
-    /// `mantissa * 10 ^ (exponent + point)`, truncated to an integer, if the sign is positive and
-    /// it fits.
+    /// `mantissa * 10 ^ (exponent + point)`, truncated to an integer. `point` is a count of decimal
+    /// places: with 2, `5.99` and `5.999` are 599. `None` if the sign is negative, even that of
+    /// `-0`, if the result doesn't fit, and for NaN.
     pub fn as_fixed_point_u64(&self, point: u16) -> Option<u64>
         ensures { SomeWhere (unsigned_fixed_point_in (view self.now) point)
             (λ n. n < 2 ^ 64) result }
@@ -91,15 +100,22 @@ impl JsonValue {
         self.as_number()?.as_fixed_point_u64(point)
     }
 
-    /// `mantissa * 10 ^ (exponent + point)`, truncated to an integer, with its sign, if it fits.
+    /// `mantissa * 10 ^ (exponent + point)`, truncated to an integer, with its sign. `point` is a
+    /// count of decimal places: with 2, `-5.99` and `-5.999` are -599. `None` if the result doesn't
+    /// fit, and for NaN.
     pub fn as_fixed_point_i64(&self, point: u16) -> Option<i64>
         ensures { SomeWhere (fixed_point_in (view self.now) point) (FitsSigned w64) result }
     {
         self.as_number()?.as_fixed_point_i64(point)
     }
 
-    /// `mantissa * 10 ^ (exponent + point)`, if that is an integer, the sign is positive and it
-    /// fits. `None` if a digit would be lost.
+    /// As `as_fixed_point_u64`, and `None` if a digit other than 0 would be cut: with 2, `5.990` is
+    /// 599, and `5.999` is `None`. With 0 it is the integer that a number is, however it is
+    /// written.
+    ///
+    /// ```rust
+    /// value.as_exact_fixed_point_u64(0)   // Some(100) of 100, 1e2 and 100.0
+    /// ```
     pub fn as_exact_fixed_point_u64(&self, point: u16) -> Option<u64>
         ensures { SomeWhere (exact_unsigned_fixed_point_in (view self.now) point)
             (λ n. n < 2 ^ 64) result }
@@ -107,8 +123,11 @@ impl JsonValue {
         self.as_number()?.as_exact_fixed_point_u64(point)
     }
 
-    /// `mantissa * 10 ^ (exponent + point)` with its sign, if that is an integer and fits. `None`
-    /// if a digit would be lost.
+    /// As `as_fixed_point_i64`, and `None` if a digit other than 0 would be cut.
+    ///
+    /// ```rust
+    /// order.at("price").as_exact_fixed_point_i64(2)   // Some(1999) of 19.99
+    /// ```
     pub fn as_exact_fixed_point_i64(&self, point: u16) -> Option<i64>
         ensures { SomeWhere (exact_fixed_point_in (view self.now) point) (FitsSigned w64) result }
     {
