@@ -22,8 +22,16 @@ use std::io;
 /// Writes the value in the generator's style, counted from the indents that are open. The entries
 /// of each object are in the order that `order` returned for it.
 ///
-/// An `Err` is that of a hook. Nothing is written after it: the bytes added are a prefix of a
-/// writing of the value, and the indents that were open then stay open.
+/// An `Err` is that of the first hook that failed. Nothing is written after it: the bytes added are
+/// a prefix of a writing of the value, and the indents that were open then stay open. It is
+/// returned once the rest of the value was looked through.
+///
+/// ```rust
+/// match write_json(&mut generator, value) {
+///     Ok(()) => String::from_utf8(generator.text).map_err(|_| Error::FailedUtf8Parsing),
+///     Err(_) => Err(Error::OutOfMemory),
+/// }
+/// ```
 pub fn write_json<G: Generator>(g: &mut G, json: &JsonValue) -> io::Result<()>
     ensures written { Prints (Writes (G.meaning g.old).style (G.meaning g.old).dent (view json.now))
         (G.meaning g.old) (G.meaning g.new) result }

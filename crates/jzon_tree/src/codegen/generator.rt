@@ -20,16 +20,40 @@ use jzon_base::util::print_dec;
 use std::io;
 use std::io::{ErrorKind, Write};
 
-/// Writes values, piece by piece, to a writer.
-///
-/// It has the bytes written so far, the number of open indents, the number of faults so far, and
-/// two things that no hook changes: a style, and the reference that is written through, if there is
-/// one. An `Ok` of a hook adds exactly the hook's bytes. An `Err` adds a prefix of them, counts one
-/// fault (saturating at `u64::MAX`), and leaves the open indents. Where the contract of the writer
-/// doesn't fix its bytes, that of a hook doesn't either.
+/// Writes values, piece by piece, to a writer: `write_json` and `write_object` go over a value and
+/// call its hooks.
 ///
 /// Where only the number of spaces or the order of entries differs from the generators of the
-/// crate, a `Layout` is enough.
+/// crate, a `Layout` is enough. Write a generator for other whitespace, or for a writer that is
+/// part of a type of your own. This one begins lines with tabs:
+///
+/// ```rust
+/// fn write_min(&mut self, slice: &[u8], _min: u8) -> io::Result<()> {
+///     self.write(slice)
+/// }
+///
+/// fn new_line(&mut self) -> io::Result<()> {
+///     let tabs = self.dent.min(64) as usize;
+///     self.write(&LINE[..=tabs])
+/// }
+/// ```
+///
+/// | Hook | Is called for |
+/// |---|---|
+/// | `order` | an object, before anything of it is written |
+/// | `write` | `null`, `true`, `false`, `[]` and `{}` |
+/// | `write_string`, `write_number` | a string or a key; a number |
+/// | `write_min` | the colon after a key |
+/// | `write_char` | each comma, and the brackets of a container that isn't empty |
+/// | `new_line` | the whitespace before an element, an entry and such a closing bracket |
+/// | `indent`, `dedent` | after such an opening bracket, and before the `new_line` of the closing one |
+///
+/// A generator has the bytes written so far, the number of open indents, the number of faults so
+/// far, and two things that no hook changes: a style, and the reference that is written through, if
+/// there is one. An `Ok` of a hook adds exactly the hook's bytes. An `Err` is the writer's, or of a
+/// hook of your own. It adds a prefix of the bytes, counts one fault (saturating at `u64::MAX`), and
+/// leaves the open indents. Where the contract of the writer doesn't fix its bytes, that of a hook
+/// doesn't either.
 pub trait Generator {
     /// The writer.
     type T: Write;

@@ -30,8 +30,11 @@ const NEWLINE_AND_SPACES: [u8; 64] = [
     b' ', b' ', b' ', b' ', b' ', b' ', b' ', b' ', b' ', b' ', b' ', b' ', b' ', b' ', b' ', b' ',
 ];
 
-/// The layout of the text that a `TextGenerator` writes. One of a user's own has a style and two
-/// methods:
+/// The layout of a text: how many spaces begin its lines, if it has lines, and the order of an
+/// object's entries. `JsonValue::lay_out` and `write_layout` take one, and `TextGenerator`.
+///
+/// Write one for another order. It has a style and two methods; this one, the example `canonical`
+/// of `jzon_examples`, sorts by key:
 ///
 /// ```rust
 /// fn spaces(&self) -> Option<u16> {
@@ -42,6 +45,8 @@ const NEWLINE_AND_SPACES: [u8; 64] = [
 ///     Ok(Some(sorted_positions(self.alloc, object)?))
 /// }
 /// ```
+///
+/// It is used as `value.lay_out(alloc, Sorted { alloc })`.
 pub trait Layout {
     // The style of its texts.
     ghost style: { Self → Style };
@@ -55,7 +60,8 @@ pub trait Layout {
         ensures { LaysOut (style self.now) result };
 
     /// The order of the object's entries, as their positions, each exactly once; `None` is the
-    /// order of insertion.
+    /// order of insertion. It is asked once for each object, also an empty one, before anything of
+    /// it is written. An `Err` ends the writing; it is reported as out of memory.
     fn order(&self, object: &Object) -> Result<Option<Vec<usize>>, AllocError>
         ensures allowed { IfOk result (IsAnswer (style self.now)
             (keys_of (entries_of object.now))) }
@@ -84,7 +90,8 @@ impl<L: Layout> Layout for &L {
     ghost style_law = { λ l. L.style_law l.now };
 }
 
-/// No whitespace, and a colon alone after a key. Entries are written in the order of insertion.
+/// No whitespace, and a colon alone after a key, as `{"a":[1,2]}`. Entries are written in the order
+/// of insertion.
 #[derive(Clone, Copy, Debug)]
 pub struct Compact;
 
@@ -107,7 +114,15 @@ impl Layout for Compact {
 }
 
 /// A line for each element and entry: a newline and this number of spaces for each open indent, and
-/// a space after each colon. Entries are written in the order of insertion.
+/// a space after each colon. Entries are written in the order of insertion. `Pretty(2)` gives
+///
+/// ```text
+/// {
+///   "a": [
+///     1
+///   ]
+/// }
+/// ```
 #[derive(Clone, Copy, Debug)]
 pub struct Pretty(pub u16);
 
@@ -149,8 +164,8 @@ pub(super) fn send_line<W: Write>(
     Ok(())
 }
 
-/// Adds a newline and `spaces` spaces if there are fewer than 8 of them and there is room for 8
-/// bytes, and returns whether it did. Otherwise nothing is added.
+/// For an outlet's `put_line`: adds a newline and `spaces` spaces if there are fewer than 8 of them
+/// and there is room for 8 bytes, and returns whether it did. Otherwise nothing is added.
 #[inline(always)]
 pub fn push_line(bytes: &mut Vec<u8>, spaces: u128) -> bool
     ensures done { IsTrue result → bytes.new.items ≡ bytes.old.items ++ 10 ∷ replicate spaces 32 }

@@ -23,9 +23,9 @@ pub(super) fn send_number<W: Write>(
     send(writer, text_of_number(&mut room, number), slot)
 }
 
-/// Adds the text of the number if it is the mantissa's digits, with at most a minus before them and
-/// a point before the last 1 to 17, and there is room, and returns whether it did. Otherwise, and
-/// for 0 and NaN, nothing is added.
+/// For an outlet's `put_number`: adds the text of the number if it is the mantissa's digits, with
+/// at most a minus before them and a point before the last 1 to 17, and there is room for 32 bytes,
+/// and returns whether it did. Otherwise, and for 0 and NaN, nothing is added.
 #[inline(always)]
 pub fn push_digits(bytes: &mut Vec<u8>, number: &Number) -> bool
     ensures done { IsTrue result → bytes.new.items ≡ bytes.old.items ++ written_text number.now }

@@ -14,12 +14,16 @@ use crate::codegen::strings::{push_plain, push_short};
 use jzon_base::number::Number;
 use std::io::Write;
 
-/// A writer that may take a string, a number or the start of a line at once, as a buffer does that
-/// has room for it. `JsonValue::write_outlet` asks it before it writes, which saves a buffer the
-/// calls of `Write::write`. A hook adds all that it names and returns `true`, by `push_short`,
-/// `push_digits` and `push_line` say; or it adds nothing and returns `false`, as those given do.
+/// A writer that may take a string, a number or the start of a line at once. A buffer of your own
+/// does, while it has room; for any other writer there is `write_layout`.
+///
+/// `JsonValue::write_outlet` asks a hook first, and calls `Write::write` only if the hook returns
+/// `false`, which saves a buffer most of those calls (measured, not proved). A hook adds all that it
+/// names and returns `true`, or adds nothing and returns `false`, as the provided ones do. Over a
+/// vector, `push_short`, `push_digits` and `push_line` do so. No hook reports an error: what a
+/// writer can't take now is left to `write`.
 pub trait Outlet: Write {
-    /// Adds the string in quotes, escaped, or nothing.
+    /// Adds the string in quotes, escaped, or nothing. Keys come here too.
     #[inline(always)]
     fn put_string(&mut self, string: &[u8]) -> bool
         ensures done { IsTrue result → Adds (Just (quoted string.now))

@@ -50,8 +50,8 @@ pub(super) fn send_string<W: Write>(
     send(writer, b"\"", slot)
 }
 
-/// Adds a string of at most 32 bytes in quotes if it needs no escape and there is room for 34
-/// bytes, and returns whether it did. Otherwise nothing is added.
+/// For an outlet's `put_string`: adds a string of at most 32 bytes in quotes if it needs no escape
+/// and there is room for 34 bytes, and returns whether it did. Otherwise nothing is added.
 #[inline(always)]
 pub fn push_short(bytes: &mut Vec<u8>, string: &[u8]) -> bool
     ensures done { IsTrue result → bytes.new.items ≡ bytes.old.items ++ quoted string.now }

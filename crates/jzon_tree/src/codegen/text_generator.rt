@@ -22,7 +22,8 @@ use std::alloc::Global;
 use std::io;
 use std::io::{ErrorKind, Write};
 
-/// Writes text to its place in a layout.
+/// Writes text in a layout, to memory, a writer or an outlet. `in_memory` and `to_writer` make one;
+/// `consume` returns the text that is in memory.
 #[derive(Debug, Drop)]
 pub struct TextGenerator<P: Place, L: Layout> {
     pub(super) place: P,
@@ -248,12 +249,13 @@ impl<L: Layout + Drop> TextGenerator<Memory, L> {
 }
 
 /// Writes compact text to a writer: no whitespace, and a colon alone after a key. The entries of an
-/// object are in the order of insertion.
+/// object are in the order of insertion. Nothing is buffered: each bracket, string and number is a
+/// call of `Write::write`, or several.
 pub type WriterGenerator<'a, W> = TextGenerator<&'a mut W, Compact>;
 
 /// Writes text with a line for each element and entry to a writer: a newline and `spaces` spaces
 /// for each open indent, and a space after each colon. The entries of an object are in the order of
-/// insertion.
+/// insertion. Nothing is buffered, as with `WriterGenerator`.
 pub type PrettyWriterGenerator<'a, W> = TextGenerator<&'a mut W, Pretty>;
 
 impl<'a, W: Write> WriterGenerator<'a, W> {
