@@ -15,12 +15,13 @@ pub use types.ByLocal.{alloc_all, pass_all, free_all, look_at, get, through, set
 pub use denote.Builtin.{RefMutOf, usize}
 pub use denote.Text.{StrRefOf}
 pub use denote.Exit.{yes, no}
-pub use denote.RattleType.{RattleType, owns}
+pub use denote.RattleType.{RattleType, Valss, owns}
 pub use denote.Ref.{MutRef, mut_vals, mut_Tells}
 pub use denote.Enum.Loose.{row_lawful}
-pub use denote.Struct.Loose.{loosen}
-pub use denote.Struct.Field.{mut_ref_field}
-pub use denote.Struct.Laws.{mut_ref_laws, vals, tells}
+use denote.Struct.Loose.{Loose, loosen}
+use denote.Struct.Field.{mut_ref_field}
+use denote.Struct.Laws.{mut_ref_laws}
+pub use denote.Struct.Laws.{vals, tells}
 pub use denote.Slice.{shr_slice_vals}
 pub use denote.Signature.{plain, type_at, types_at}
 pub use denote.Steps.{nothing, peeks}
@@ -34,7 +35,13 @@ pub use mir.Syntax.{named, w64}
 pub use contract.Lifetimes.{Lfts, Shares}
 pub use denote.Param.Laws.{row_loose}
 pub use denote.Plain.{uint_vals, uint_Tells}
+use Rattle.jzon_tree.specs.contracts.value.JsonValue.{the_row as J}
 
 -- each lifetime is within [], which never ends
 pub within_static : (κ : Lft) → κ ⊑ []
 within_static κ a m = absurd (not-mem-nil m)
+
+-- a `&mut` to a value, as the field of an enum
+pub lent_field : (κ : Lft) → Loose (mut_ref_field (record { mir = named 0; lft = κ }) J tt)
+lent_field κ = loosen (mut_ref_field (record { mir = named 0; lft = κ }) J tt)
+    (mut_ref_laws (record { mir = named 0; lft = κ }) J tt)

@@ -4,11 +4,11 @@ use Rattle.jzon_tree.proofs.LentSteps.{[], ◌∷◌, refl, proved, leaves, full
 use Rattle.jzon_tree.proofs.LentSteps.{fact_i, tables, ‵, raw, ◌⊛◌, some, later, ◌$◌, ◌∵◌, !, qed, by, move, keep, drop}
 use Rattle.jzon_tree.proofs.LentSteps.{use0, use1, use2, split, join, fjoin, pick, await, enter, addr, stop, no_more}
 use Rattle.jzon_tree.proofs.LentSteps.{and_then, returns, alloc_all, pass_all, free_all, look_at, get, through, sets}
-use Rattle.jzon_tree.proofs.LentSteps.{lands_as, RefMutOf, StrRefOf, yes, no, RattleType, owns, MutRef, mut_vals}
-use Rattle.jzon_tree.proofs.LentSteps.{mut_Tells, row_lawful, loosen, mut_ref_field, mut_ref_laws, row_loose}
-use Rattle.jzon_tree.proofs.LentSteps.{shr_slice_vals, plain, type_at, types_at, nothing, peeks, Is, shows, calls_at}
-use Rattle.jzon_tree.proofs.LentSteps.{lasts, Lasts, at_exit, triple_of, framed, Stays, walk_of, stay_dropped}
-use Rattle.jzon_tree.proofs.LentSteps.{Goes-dropped, Goes-spent_ref, named, Lfts, Shares, vals, tells, within_static}
+use Rattle.jzon_tree.proofs.LentSteps.{lands_as, RefMutOf, StrRefOf, yes, no, RattleType, Valss, owns, MutRef, mut_vals}
+use Rattle.jzon_tree.proofs.LentSteps.{mut_Tells, row_lawful, lent_field, row_loose, shr_slice_vals, plain, type_at}
+use Rattle.jzon_tree.proofs.LentSteps.{types_at, nothing, peeks, Is, shows, calls_at, lasts, Lasts, at_exit, triple_of}
+use Rattle.jzon_tree.proofs.LentSteps.{framed, Stays, walk_of, stay_dropped, Goes-dropped, Goes-spent_ref, named, Lfts}
+use Rattle.jzon_tree.proofs.LentSteps.{Shares, vals, tells, within_static}
 use Rattle.std.specs.contracts.result.Result as result
 use Rattle.jzon_base.specs.contracts.error.Error as error
 use Rattle.jzon_base.proofs.error.Error.TheLaws as error_laws
@@ -50,17 +50,9 @@ at_mut_spec {M} 𝓤 𝓛 𝓜 𝓡 wired =
     let A = lts.arg-0-0 four in let B = lts.arg-0-1 four in
     let En = g.ended A B impl.ghosts impl.dict in let T = En.signature in
     let G = triple_of 𝓛 T (g.spec A B impl.ghosts impl.dict 𝓛 𝓜.mem 𝓡.returns) in
-    let y : (walk_of 𝓛 f.ended hs c).Ghost = (
-      (
-        κs,
-        qs,
-        bounds,
-        a,
-        (mut_vals a.0, (vals heap.the_type heap_laws.the_laws a.1.0, (shr_slice_vals a.1.1.0, tt))),
-      ),
-      tt,
-    ) in let vss =
-    y.0.4 in
+    let vss : Valss (types_at f.ended.signature.params κs) =
+    (mut_vals a.0, (vals heap.the_type heap_laws.the_laws a.1.0, (shr_slice_vals a.1.1.0, tt))) in
+    let y : (walk_of 𝓛 f.ended hs c).Ghost = ((κs, qs, bounds, a, vss), tt) in
     let z : G.Ghost = ((four, shares, (within_static κ, (within_static κ, tt)), a, vss), tt) in
     let toks = ‵ (flft κ q) ⊛ ‵ (flft κ' q') ⊛ ‵ ftrue in
     let owned = ‵ (owns (types_at f.ended.signature.params κs) a vss) in
@@ -97,14 +89,8 @@ at_mut_spec {M} 𝓤 𝓛 𝓜 𝓡 wired =
     (λ ws. split ! $ drop ! $ move ! (1 ∷ []) $ split ! $ move ! (1 ∷ []) $
     -- [the result; the tokens; what the callee ensures]
     peeks ! r-row (Is r-row) (shows 𝓛 r-row) r (v ∷ []) (λ is. lands_as ! refl refl
-    ((row_lawful 𝓛 (result.the_type (MutRef (named 0) κ J) error.the_row) (
-      (
-        loosen (mut_ref_field (record { mir = named 0; lft = κ }) J tt)
-            (mut_ref_laws (record { mir = named 0; lft = κ }) J tt),
-        tt,
-      ),
-      ((row_loose error.the_row error_laws.the_row_laws, tt), tt),
-    ) tt).typed r (v ∷ []) is).0 $
+    ((row_lawful 𝓛 (result.the_type (MutRef (named 0) κ J) error.the_row) 
+    ((lent_field κ, tt), ((row_loose error.the_row error_laws.the_row_laws, tt), tt)) tt).typed r (v ∷ []) is).0 $
     move ! (1 ∷ []) $ split ! $ move ! (1 ∷ []) $ split ! $ move ! (1 ∷ []) $ drop ! $ nothing ! $ move ! (1 ∷ 0 ∷ []) $
     join ! $ move ! (1 ∷ 0 ∷ []) $ join ! $
     nothing ! $ nothing ! $ fjoin ! $ nothing ! $ fjoin ! $ nothing ! $ fjoin ! $
