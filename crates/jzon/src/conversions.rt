@@ -14,8 +14,13 @@ use jzon_tree::into_json::IntoJson;
 use jzon_tree::value::JsonValue;
 use std::alloc::Global;
 
-/// Converts `value` into a JSON value. Fails with `OutOfMemory` only, and never if the conversion
-/// is free, as for integers and booleans.
+/// The JSON value that `value` converts into: a number, a string, a `bool`, an option, a vector, a
+/// map, or a type of your own that is `IntoJson`. Fails with `OutOfMemory` only, and never if the
+/// conversion is free, as for integers and booleans.
+///
+/// ```rust
+/// *data.at_mut(alloc, "count")? = jzon::from(alloc, 1u8)?;
+/// ```
 pub fn from<T: IntoJson>(alloc: Global, value: T) -> Result<JsonValue>
     ensures meant { IfOk result (λ v. T.means value (view v)) }
     ensures memory { IsOkUnless result Error.OutOfMemory }
@@ -24,7 +29,12 @@ pub fn from<T: IntoJson>(alloc: Global, value: T) -> Result<JsonValue>
     value.into_json(alloc)
 }
 
-/// The compact text of the value that `root` converts into. Fails as `dump` does.
+/// The compact text of the value that `root` converts into. Fails as `dump` does: with
+/// `OutOfMemory`, or with `ExceededDepthLimit` at a nesting of 2^64.
+///
+/// ```rust
+/// let text = jzon::stringify(alloc, "text")?;   // "text", in quotes
+/// ```
 pub fn stringify<T: IntoJson>(alloc: Global, root: T) -> Result<String>
     ensures text { IfOk result (λ text. (v : Value) × T.means root v × IsValue v
         × (string_bytes text ≡ compact v)
@@ -34,8 +44,8 @@ pub fn stringify<T: IntoJson>(alloc: Global, root: T) -> Result<String>
     root.into_json(alloc)?.dump(alloc)
 }
 
-/// The text of the value that `root` converts into, with a line for each element or member and
-/// `spaces` spaces for each container around it. Fails as `dump` does.
+/// The text of the value that `root` converts into, with a line for each element or entry and
+/// `spaces` spaces for each container around it. Fails as `stringify` does.
 pub fn stringify_pretty<T: IntoJson>(alloc: Global, root: T, spaces: u16) -> Result<String>
     ensures text { IfOk result
         (λ text. (v : Value) × T.means root v × IsValue v × (string_bytes text ≡ pretty v spaces 0)

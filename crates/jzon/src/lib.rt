@@ -32,7 +32,7 @@ pub use reading::Reading;
 /// The elements of an array.
 pub type Array = Vec<JsonValue>;
 
-/// The iterators over the elements of arrays and the members of objects (docs/RULES.md, "Public
+/// The iterators over the elements of arrays and the entries of objects (docs/RULES.md, "Public
 /// names").
 pub mod iterators {
     pub use jzon_tree::lent::{EntriesMut, MembersMut};

@@ -26,7 +26,7 @@ pub fn with_item<T: IntoJson>(alloc: Global, array: JsonValue, item: T) -> Resul
     Ok(array)
 }
 
-/// Sets a member of the object as `insert` does, and returns the object. Fails as `insert` does.
+/// Sets an entry of the object as `insert` does, and returns the object. Fails as `insert` does.
 #[doc(hidden)]
 pub fn with_entry<T: IntoJson>(
     alloc: Global,
@@ -45,8 +45,9 @@ pub fn with_entry<T: IntoJson>(
     Ok(object)
 }
 
-/// A value: `null`, `[..]`, `{..}`, or an expression of a type that is `IntoJson`. An error is
-/// propagated with `?`.
+/// A value: `null`, `[..]` as in `array!`, `{..}` as in `object!`, or an expression of a type that
+/// is `IntoJson`. A failed allocation is propagated with `?`, so the function around it must return
+/// a `Result`, of `Error` or of an error that is `From<Error>`.
 #[macro_export]
 macro_rules! value {
     ($alloc:expr; null) => {
@@ -64,7 +65,7 @@ macro_rules! value {
 }
 
 /// An array of elements separated by commas; a trailing comma is allowed. An element is anything
-/// that `value!` takes.
+/// that `value!` takes, and an error is propagated as there.
 ///
 /// ```rust
 /// let list = jzon::array![alloc; 1u8, "two", null];
@@ -79,10 +80,11 @@ macro_rules! array {
     }};
 }
 
-/// An object of members separated by commas; a trailing comma is allowed. A member is a key, `:`
+/// An object of entries separated by commas; a trailing comma is allowed. An entry is a key, `:`
 /// and anything that `value!` takes, where a key is an identifier, a string literal or
 /// `[expression]`; or it is `key => value`, where the key is an expression. Key expressions are of
-/// type `&str`.
+/// type `&str`. Of a repeated key the last value is kept, at the position of the first. An error is
+/// propagated as in `value!`.
 ///
 /// ```rust
 /// let built = jzon::object! {alloc; a: 5u8, "b": [true, null], c: list};
@@ -97,7 +99,7 @@ macro_rules! object {
     }};
 }
 
-/// The value of an element or member: as by `value!` for `null`, `[..]` and `{..}`; any other
+/// The value of an element or an entry: for `null`, `[..]` and `{..}` that of `value!`; any other
 /// expression is left as it is, for `with_item` and `with_entry` to convert.
 #[doc(hidden)]
 #[macro_export]
@@ -133,7 +135,7 @@ macro_rules! push_items {
     };
 }
 
-/// Inserts the members of `object!`.
+/// Inserts the entries of `object!`.
 #[doc(hidden)]
 #[macro_export]
 macro_rules! insert_pairs {
@@ -152,7 +154,7 @@ macro_rules! insert_pairs {
     };
 }
 
-/// Inserts a member, and then those after it.
+/// Inserts an entry, and then those after it.
 #[doc(hidden)]
 #[macro_export]
 macro_rules! insert_value {

@@ -30,9 +30,25 @@ use jzon_tree::object::{Builder, Object};
 use jzon_tree::value::JsonValue;
 use std::alloc::Global;
 
-/// The value that a text means (RFC 8259; docs/RULES.md, "Texts"), or the error of its first fault,
-/// or `OutOfMemory` if an allocation fails. A text without strings, arrays and objects takes no
-/// memory.
+/// The value that a text means (RFC 8259; docs/RULES.md, "Texts").
+///
+/// - A number keeps its digits as long as they fit in a `u64`. The others are cut, not rounded, and
+///   an exponent is clamped to -32768 to 32767; nothing reports this.
+/// - Of a repeated key the last value is kept, at the position of the first. A strict `Reading`
+///   rejects it.
+/// - Whitespace may also have vertical tabs and form feeds. A byte order mark isn't whitespace.
+///
+/// # Errors
+///
+/// The first error of the text (docs/RULES.md, "Which error is reported"):
+///
+/// - `UnexpectedCharacter`, with its line and column, if a character isn't allowed there;
+/// - `UnexpectedEndOfJson` if the text ends too early;
+/// - `ExceededDepthLimit` if more than 512 containers that aren't empty are open, or if more than
+///   32767 digits before a number's point are cut or more than 32768 after it are kept;
+/// - `FailedUtf8Parsing` if two `\u` escapes of surrogates mean no character together;
+/// - `OutOfMemory` if an allocation fails before that. A text without strings, arrays and objects
+///   allocates nothing.
 ///
 /// ```rust
 /// let value = jzon::parse(alloc, "[1, -12.50e3, {\"a\": null}]")?;
@@ -48,8 +64,17 @@ pub fn parse(alloc: Global, source: &str) -> Result<JsonValue>
     parse_as(alloc, source, &USUAL)
 }
 
-/// Parses by `reading` (docs/RULES.md, "Readings"), which sets the depth limit and the whitespace;
-/// a strict one rejects a repeated key by `DuplicateKey`.
+/// The value that a text means by `reading` (docs/RULES.md, "Readings"), which sets how many
+/// containers may be open, in place of 512. A strict one rejects vertical tabs and form feeds, and
+/// a repeated key with `DuplicateKey`, which has the line and column of the key's opening quote.
+/// All else is as with `parse`.
+///
+/// ```rust
+/// match Reading::new(true, 512) {
+///     Some(strict) => jzon::parse_as(alloc, text, &strict),
+///     None => Err(Error::ExceededDepthLimit),
+/// }
+/// ```
 pub fn parse_as(alloc: Global, source: &str, reading: &Reading) -> Result<JsonValue>
     ensures value { IfOk result (IsMeaningOf reading.now (chars source.now)) }
     ensures readable { IfOk result (λ v. IsReadable reading.now (view v)) }

@@ -8,8 +8,9 @@ use jzon_tree::codegen::is_readable;
 use jzon_tree::value::JsonValue;
 use std::marker::Model;
 
-/// How a text is read: whether strictly, and how many non-empty containers may be open. A strict
-/// reading accepts only the whitespace of RFC 8259 and rejects a repeated key.
+/// How `parse_as` reads a text: whether strictly, and how many containers that aren't empty may be
+/// open at once. A strict reading accepts only the whitespace of RFC 8259, and rejects a repeated
+/// key. `parse` isn't strict, and its depth is 512.
 #[derive(Clone, Copy, Debug)]
 pub struct Reading {
     strict: bool,
@@ -37,7 +38,9 @@ pub(crate) const USUAL: Reading = Reading {
 };
 
 impl Reading {
-    /// The reading with these settings; `None` if `depth` is above 512.
+    /// The reading with these settings; `None` if `depth` is above 512. At depth 0 a text may be a
+    /// primitive or an empty container; at depth 1 there may be primitives and empty containers in
+    /// a container.
     pub fn new(strict: bool, depth: u16) -> Option<Reading>
         ensures { SomeIff result (depth ≤ 512) (record { strict = strict; depth = depth }) }
     {
@@ -47,14 +50,14 @@ impl Reading {
         Some(Reading { strict, depth })
     }
 
-    /// Whether it is strict.
+    /// Whether the reading is strict.
     pub fn strict(&self) -> bool
         ensures { result ≡ self.now.strict }
     {
         self.strict
     }
 
-    /// How many non-empty containers may be open.
+    /// How many containers that aren't empty may be open at once, at most 512.
     pub fn depth(&self) -> u16
         ensures depth { result ≡ self.now.depth }
         ensures most { result ≤ 512 }
@@ -62,9 +65,9 @@ impl Reading {
         self.depth
     }
 
-    /// Whether the value contains no NaN and nests no deeper than this reading allows. If so, its
-    /// dumped text is read back by this reading as an equal value (`laws::reads_back`). Allocates
-    /// nothing.
+    /// Whether the value contains no NaN and nests no deeper than this reading allows. If so, this
+    /// reading reads its compact and pretty texts as equal values (`laws::reads_back`). It may go
+    /// over the whole value, and allocates nothing.
     pub fn admits(&self, value: &JsonValue) -> bool
         ensures { IsTrue result ↔ IsReadable self.now (view value.now) }
     {
