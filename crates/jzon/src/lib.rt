@@ -1,16 +1,16 @@
 //! Parses, holds, changes and prints JSON without typed structs: a port of the Rust crate `jzon`.
 #![tactic(auto)]
 
+mod bytes_at;
+mod capacity_hints;
 mod conversions;
 mod cursor;
 mod fault;
-mod frames;
-mod hints;
 pub mod laws;
 mod macros;
 mod numeral;
+mod open_containers;
 mod parser;
-mod peek;
 mod primitive;
 mod reading;
 mod string;

@@ -18,8 +18,8 @@ ghost use Rattle.jzon.specs.Private.Machine.{Frames, numeral, numeral_after_firs
 ghost use Rattle.jzon.specs.Private.Machine.{from, fault_here, Leads};
 ghost use Rattle.jzon.specs.Private.Numerals.{LeadsTo, MissesDigit, HasTooMany};
 
+use crate::bytes_at::has_byte;
 use crate::fault::fault_at;
-use crate::peek::has_byte;
 use jzon_base::digits::{read_scanned, scan};
 use jzon_base::error::{Error, Result};
 use jzon_base::number::Number;

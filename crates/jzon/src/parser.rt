@@ -16,10 +16,10 @@ ghost use Rattle.jzon.specs.Private.Machine.{before_key, after_value, key_mark, 
 ghost use Rattle.jzon.specs.Reading.{usual};
 ghost use Rattle.jzon_base.specs.Tokens.{begin_array, begin_object, end_array, end_object};
 
+use crate::capacity_hints::Hints;
 use crate::cursor::{Bracket, Cursor, opens_container};
 use crate::fault::duplicate_at;
-use crate::frames::{Frame, ValueStart};
-use crate::hints::Hints;
+use crate::open_containers::{Frame, ValueStart};
 use crate::primitive::read_primitive;
 use crate::reading::{Reading, USUAL};
 use crate::string::read_string;

@@ -17,9 +17,9 @@ ghost use Rattle.jzon.specs.Private.Machine.{Leads, LeadsUnlessMemory, fault_her
 ghost use Rattle.jzon.specs.Reading.{Reading};
 ghost use Rattle.jzon_base.specs.Tokens.{begin_array, begin_object, end_array, quotation_mark};
 
+use crate::bytes_at::{has_byte, has_digit, has_four};
 use crate::fault::fault_at;
 use crate::numeral::read_number;
-use crate::peek::{has_byte, has_digit, has_four};
 use crate::string::{read_string, text_value};
 use jzon_base::error::{Error, Result};
 use jzon_tree::value::JsonValue;

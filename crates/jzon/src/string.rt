@@ -18,8 +18,8 @@ ghost use Rattle.jzon.specs.Private.Machine.{Role, string, between, slash, code,
 ghost use Rattle.jzon.specs.Private.Machine.{second_code, after_unit, move_pair};
 ghost use Rattle.jzon.specs.Private.Machine.{outcome_on, from, from_closed, Reports};
 
+use crate::bytes_at::has_byte;
 use crate::fault::fault_at;
-use crate::peek::has_byte;
 use jzon_base::error::{Error, Result};
 use jzon_base::short::{MAX_LEN, Short};
 use jzon_base::util::escapes::{hex_value, meant_by};

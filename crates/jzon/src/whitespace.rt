@@ -6,7 +6,7 @@ ghost use Rattle.std.specs.Str.{IsCharBoundary};
 ghost use Rattle.jzon_tree.specs.Writing.{is_whitespace};
 ghost use Rattle.jzon.specs.Private.Machine.{State, allows_whitespace, from};
 
-use crate::peek::{has_byte, has_four};
+use crate::bytes_at::{has_byte, has_four};
 use crate::reading::Reading;
 
 /// The offset after the whitespace at `start`.

@@ -26,11 +26,11 @@ use Rattle.jzon.specs.Private.Machine.{State, after_value, value_mark, key_mark}
 use Rattle.jzon.specs.Private.Cursor.{left, IsAfter, GoesOn}
 use Rattle.jzon.specs.Private.Frames.{open_in, stack_view, state_of, is_open, IsReady, IsWholeValue}
 use Rattle.jzon.specs.declared.cursor.Cursor.{Cursor}
-use Rattle.jzon.specs.declared.frames.ValueStart.{ValueStart}
-use Rattle.jzon.specs.declared.frames.ValueStart.TheVariants.{Value as start_value, Array as start_array}
-use Rattle.jzon.specs.declared.frames.ValueStart.TheVariants.{Object as start_object}
-use Rattle.jzon.specs.declared.frames.Frame.{Frame}
-use Rattle.jzon.specs.declared.frames.Frame.TheVariants.{Array, Object as in_object}
+use Rattle.jzon.specs.declared.open_containers.ValueStart.{ValueStart}
+use Rattle.jzon.specs.declared.open_containers.ValueStart.TheVariants.{Value as start_value, Array as start_array}
+use Rattle.jzon.specs.declared.open_containers.ValueStart.TheVariants.{Object as start_object}
+use Rattle.jzon.specs.declared.open_containers.Frame.{Frame}
+use Rattle.jzon.specs.declared.open_containers.Frame.TheVariants.{Array, Object as in_object}
 
 -- ---- the stack
 

@@ -8,10 +8,10 @@ use Rattle.jzon.specs.Private.Machine.{Frames, no_frames, array_frame, object_fr
 use Rattle.jzon.specs.Private.Machine.{after_value}
 use Rattle.jzon_base.specs.Tokens.{end_array, end_object}
 use Rattle.jzon.specs.declared.cursor.Cursor.{Cursor}
-use Rattle.jzon.specs.declared.frames.ValueStart.{ValueStart}
-use Rattle.jzon.specs.declared.frames.ValueStart.TheVariants.{Value, Array as start_array, Object as start_object}
-use Rattle.jzon.specs.declared.frames.Frame.{Frame}
-use Rattle.jzon.specs.declared.frames.Frame.TheVariants.{Array, Object}
+use Rattle.jzon.specs.declared.open_containers.ValueStart.{ValueStart}
+use Rattle.jzon.specs.declared.open_containers.ValueStart.TheVariants.{Value, Array as start_array, Object as start_object}
+use Rattle.jzon.specs.declared.open_containers.Frame.{Frame}
+use Rattle.jzon.specs.declared.open_containers.Frame.TheVariants.{Array, Object}
 
 -- the containers fs with one more opened inside
 abbrev pub open_in : Frames → Frame → Frames

@@ -8,7 +8,7 @@ use Rattle.jzon.specs.Private.Cursor.{left}
 use Rattle.jzon.specs.Private.Frames.{open_in, stack_view}
 use Rattle.jzon.specs.Private.Machine.{Frames, array_frame, object_frame, before, before_key, after_value}
 use Rattle.jzon.specs.declared.cursor.Cursor.{Cursor}
-use Rattle.jzon.specs.declared.frames.Frame.{Frame}
+use Rattle.jzon.specs.declared.open_containers.Frame.{Frame}
 use Rattle.jzon.proofs.Texts.Cursors.{Reached, reached, goes_after, goes_on}
 use Rattle.jzon.proofs.Containers.FrameViews.{some_more, some_put, closed_on, closed_ready}
 use Rattle.jzon.proofs.parser.Parser.read_after_item.Goals.{After-array_ends, After-container_ends}

@@ -10,8 +10,8 @@ use Rattle.jzon.specs.Private.Frames.{IsReady, state_of, stack_view}
 use Rattle.jzon.specs.Private.Machine.{Frames, array_frame, frames_depth, before, after_value, value_mark}
 use Rattle.jzon.specs.Reading.{Reading}
 use Rattle.jzon.specs.declared.cursor.Cursor.{Cursor}
-use Rattle.jzon.specs.declared.frames.ValueStart.TheVariants.{Object as start_object}
-use Rattle.jzon.specs.declared.frames.Frame.{Frame}
+use Rattle.jzon.specs.declared.open_containers.ValueStart.TheVariants.{Object as start_object}
+use Rattle.jzon.specs.declared.open_containers.Frame.{Frame}
 use Rattle.jzon.proofs.Texts.Cursors.{Reached, reached_start, reached, goes_after, fails_on}
 use Rattle.jzon.proofs.Containers.FrameViews.{frames_depth-stack, fresh_is_empty, some_more, stack_view-push}
 use Rattle.jzon.proofs.Containers.FrameViews.{value_mark-shallow}

@@ -3,7 +3,7 @@ use Rattle.std.proofs.Common.{eqb-true, w32, ◌-◌, length, arith, lit<}
 use Rattle.std.specs.Int.{to_le_bytes}
 use Rattle.std.proofs.lemmas.List.{get_or-drop, take_rest}
 use Rattle.std.proofs.lemmas.Nat.{le_bytes_4}
-use Rattle.jzon.proofs.peek.has_four.Goals as goal
+use Rattle.jzon.proofs.bytes_at.has_four.Goals as goal
 
 four_fit : (a b c d : ℕ) → a < 256 → b < 256 → c < 256 → d < 256 → (i : ℕ) → get_or (a ∷ b ∷ c ∷ d ∷ []) i 0 < 256
 four_fit a b c d p q r s zero = p

@@ -1,4 +1,4 @@
-//! What is at an offset of a text.
+//! Which bytes are at an offset of a text.
 
 ghost use Rattle.std.specs.Prelude.{◌≡◌, ◌<◌, ◌≤◌, ◌+◌, ◌↔◌, length, IsTrue, slice_index};
 ghost use Rattle.std.specs.Char.{is_ascii_digit};
