@@ -86,16 +86,6 @@ inspected_more vs v a b m n h k = record {
       )));
 }
 
--- a value without parts
-pub inspected_plain : (v : Value) → IsValue v → HasNoNan v → nest v ≡ 0 → IsInspected v false 0
-inspected_plain v h k e = record {
-  value = h;
-  without = λ f. k;
-  free = λ f. refl;
-  within = λ r l f. rw e f;
-  reached = λ r l f. omega arith;
-}
-
 -- ---- the values of entries
 abbrev pub inside : List (List ℕ × JsonValue) → List Value
 inside ps = map (λ p. view p.1) ps
