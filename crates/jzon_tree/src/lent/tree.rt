@@ -163,9 +163,18 @@ impl Tree for JsonValue {
 
     fn make_place(&mut self, alloc: Global, index: usize) -> Result<()> {
         if let JsonValue::Array(items) = self {
-            return add_place(items, index);
+            if items.len() <= index {
+                items.reserve(1)?;
+                items.push_reserved(JsonValue::Null);
+            }
+            return Ok(());
         }
-        *self = JsonValue::Array(new_items(alloc, index)?);
+        let mut items = Vec::with_capacity(alloc, 2)?;
+        items.push_reserved(JsonValue::Null);
+        if index != 0 {
+            items.push_reserved(JsonValue::Null);
+        }
+        *self = JsonValue::Array(items);
         Ok(())
     }
 
@@ -175,32 +184,4 @@ impl Tree for JsonValue {
             _ => unreachable!(),
         }
     }
-}
-
-/// Adds one null if the index is past the end. Fails only with `OutOfMemory`.
-fn add_place(items: &mut Vec<JsonValue>, index: usize) -> Result<()>
-    ensures ok { OnOk result (items.new.items
-        ≡ with_place null_value (Some items.old.items) index) }
-    ensures err { OnErr result (items.new.items ≡ items.old.items) }
-    ensures present { OnErr result (length items.old.items ≤ index) }
-    ensures memory { IsOkUnless result Error.OutOfMemory }
-{
-    if items.len() <= index {
-        items.reserve(1)?;
-        items.push_reserved(JsonValue::Null);
-    }
-    Ok(())
-}
-
-/// One null for index 0, and two for any other. Fails only with `OutOfMemory`.
-fn new_items(alloc: Global, index: usize) -> Result<Vec<JsonValue>>
-    ensures items { IfOk result (λ items. items.items ≡ with_place null_value None index) }
-    ensures memory { IsOkUnless result Error.OutOfMemory }
-{
-    let mut items = Vec::with_capacity(alloc, 2)?;
-    items.push_reserved(JsonValue::Null);
-    if index != 0 {
-        items.push_reserved(JsonValue::Null);
-    }
-    Ok(items)
 }
