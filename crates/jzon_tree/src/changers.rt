@@ -1,11 +1,12 @@
 //! Changes to values (docs/RULES.md, "Changers"). A call that fails leaves the value's meaning
 //! unchanged and drops the value that was passed to it.
 
-ghost use Rattle.std.specs.Prelude.{◌≡◌, ◌-◌, codes, true, string_bytes, option_map, slice_get, remove, IfOk, IfErr};
-ghost use Rattle.std.specs.Prelude.{OnOk, OnErr, IsOkUnless};
+ghost use Rattle.std.specs.Prelude.{◌≡◌, ◌-◌, codes, true, false, string_bytes, option_map, slice_get, remove, IfOk, IfErr};
+ghost use Rattle.std.specs.Prelude.{OnOk, OnErr, IsOkUnless, None};
 ghost use Rattle.jzon_base.specs.PairList.{find};
 ghost use Rattle.jzon_tree.specs.Changers.{is_short, without_text, without_item, with_item, without_entry, with_entry};
 ghost use Rattle.jzon_tree.specs.Changers.{cleared, IsRefusal};
+ghost use Rattle.jzon_tree.specs.Lent.{entries_in};
 ghost use Rattle.jzon_tree.specs.Readers.{is_array, is_object, text_in, items, entries, count, or_null};
 ghost use Rattle.jzon_tree.specs.Value.{Value, null, array, no_values, object, no_pairs};
 ghost use Rattle.jzon_tree.specs.View.{view};
@@ -82,6 +83,7 @@ impl JsonValue {
             × (view self.new ≡ with_item v (view self.old))) }
         ensures array { OnOk result (is_array (view self.old) ≡ true) }
         ensures err { OnErr result (view self.new ≡ view self.old) }
+        ensures kept { is_array (view self.old) ≡ false → self.new ≡ self.old }
         ensures refusal { IfErr result (IsRefusal (is_array (view self.old)) (codes "Array")) }
     {
         match self {
@@ -118,6 +120,8 @@ impl JsonValue {
             × (view self.new ≡ with_entry key.now v (view self.old))) }
         ensures object { OnOk result (is_object (view self.old) ≡ true) }
         ensures err { OnErr result (self.new ≡ self.old) }
+        ensures present { T.is_free value → is_object (view self.old) ≡ true
+            → OnErr result (find key.now (entries_in self.old) ≡ None) }
         ensures refusal { IfErr result (IsRefusal (is_object (view self.old)) (codes "Object")) }
     {
         match self {
