@@ -136,7 +136,8 @@ fn read_literal(source: &str, start: usize, first: u8) -> Result<(JsonValue, usi
     if has_four(source, prefix, last_four(first)) {
         return Ok((value, prefix + 4));
     }
-    read_literal_rest(source, start + 1, letters_after(first), value)
+    let end = read_letters(source, prefix, &last_four(first))?;
+    Ok((value, end))
 }
 
 /// The value of the literal with this first letter.
@@ -166,6 +167,7 @@ fn last_four_at(start: usize, first: u8) -> usize
 /// The last four letters of the literal with this first letter.
 #[inline(always)]
 fn last_four(first: u8) -> [u8; 4]
+    ensures ascii { IsAscii result }
     ensures null { first ≡ letter_n → result ≡ codes "null" }
     ensures yes { first ≡ letter_t → result ≡ codes "true" }
     ensures no { first ≡ letter_f → result ≡ codes "alse" }
@@ -177,47 +179,15 @@ fn last_four(first: u8) -> [u8; 4]
     }
 }
 
-/// The letters after the first of the literal with this first letter.
-fn letters_after(first: u8) -> &'static [u8]
-    ensures ascii { IsAscii result.now }
-    ensures null { first ≡ letter_n → result.now ≡ codes "ull" }
-    ensures yes { first ≡ letter_t → result.now ≡ codes "rue" }
-    ensures no { first ≡ letter_f → result.now ≡ codes "alse" }
-{
-    match first {
-        b'n' => b"ull",
-        b't' => b"rue",
-        _ => b"alse",
-    }
-}
-
-/// The value of a literal, whose remaining letters must be at `start`, and the offset after it.
-#[inline(always)]
-fn read_literal_rest(
-    source: &str,
-    start: usize,
-    letters: &[u8],
-    value: JsonValue,
-) -> Result<(JsonValue, usize)>
-    requires boundary { IsCharBoundary source.now start }
-    requires ascii { IsAscii letters.now }
-    ensures end { IfOk result (λ r. (start ≤ r.1) × IsCharBoundary source.now r.1) }
-    ensures outcome { (r : Reading) (fs : Frames) →
-        Leads r source.now (past_letter fs (view value) letters.now) start result
-        (λ v. after_value fs (view v)) }
-{
-    let end = read_letters(source, start, letters)?;
-    Ok((value, end))
-}
-
-/// The offset after these letters, the rest of a literal, compared one by one, so that the error is
+/// The offset after these letters, the last of a literal, compared one by one, so that the error is
 /// at the first wrong one.
 #[cold]
 #[inline(never)]
 fn read_letters(source: &str, start: usize, letters: &[u8]) -> Result<usize>
     requires boundary { IsCharBoundary source.now start }
     requires ascii { IsAscii letters.now }
-    ensures end { IfOk result (λ end. (start ≤ end) × IsCharBoundary source.now end) }
+    ensures end { IfOk result (λ end. (end ≡ start + length letters.now)
+        × IsCharBoundary source.now end) }
     ensures outcome { (r : Reading) (fs : Frames) (v : Value) → MatchResult result
         (λ end. from r source.now (past_letter fs v letters.now) start
         ≡ from r source.now (after_value fs v) end)

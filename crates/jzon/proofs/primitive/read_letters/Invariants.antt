@@ -1,4 +1,4 @@
-use Rattle.std.proofs.Common.{◌≡◌, ◌≤◌, drop}
+use Rattle.std.proofs.Common.{◌≡◌, ◌+◌, drop}
 use Rattle.std.specs.Str.{IsCharBoundary}
 use Rattle.jzon_tree.specs.Value.{Value}
 use Rattle.jzon.specs.Reading.{Reading}
@@ -7,7 +7,7 @@ use Rattle.jzon.proofs.primitive.read_letters.Given as goal
 
 abbrev pub invariant-loop-letter : goal.invariant-loop-letter
 invariant-loop-letter l =
-    (l.start ≤ l.index)
+    (l.index ≡ l.start + l.letter-index)
     × IsCharBoundary l.source l.index
     × ((r : Reading) (fs : Frames) (v : Value) → from r l.source (past_letter fs v l.letters) l.start
     ≡ from r l.source (past_letter fs v (drop l.letter-index l.letters)) l.index)
