@@ -9,7 +9,7 @@
 //! `pairs::Builder` finds repeated keys by one sort of such entries, and later ones in `Keys`.
 ghost use Rattle.std.specs.Prelude.{◌≡◌, ◌<◌, ◌≤◌, ◌++◌, ◌∷◌, ◌==◌, [], length, remove, slice_get, map};
 ghost use Rattle.std.specs.Prelude.{IfOk, IfErr, OnOk, OnErr, MatchOption, None, Some, vec_len, vec_capacity};
-ghost use Rattle.std.specs.List.{position, remove_range, zip, IsDistinct};
+ghost use Rattle.std.specs.List.{position, zip, IsDistinct};
 ghost use Rattle.std.specs.Result.{result_ok};
 ghost use Rattle.std.specs.Str.{bytes_eq};
 ghost use Rattle.jzon_base.specs.PairList.{put_each};
@@ -17,7 +17,6 @@ ghost use Rattle.jzon_base.specs.Private.Handed.{entries_of, IsIndexed, IsSpotFo
 
 pub mod hash;
 pub(crate) mod index;
-mod into_iter;
 mod iter;
 mod order;
 mod retain;
@@ -26,7 +25,6 @@ pub mod runs;
 use crate::fit::{fit, reserve_next};
 use crate::key::Key;
 use hash::hash_of;
-pub use into_iter::IntoIter;
 pub use iter::Iter;
 use runs::Runs;
 use std::alloc::{AllocError, Global};
@@ -136,17 +134,6 @@ fn add_entry(
     index.add(alloc, keys, spot.hash, spot.at)
 }
 
-/// Removes keys and values at the positions `from..end`.
-fn cut_out<V: Drop>(keys: &mut Vec<Key>, values: &mut Vec<V>, from: usize, end: usize)
-    requires even { length values.old.items ≡ length keys.old.items }
-    requires within { (from ≤ end) × (end ≤ length keys.old.items) }
-    ensures keys { keys.new.items ≡ remove_range keys.old.items from end }
-    ensures values { values.new.items ≡ remove_range values.old.items from end }
-{
-    keys.drain(from..end);
-    values.drain(from..end);
-}
-
 /// Puts the entries one after the other, in place: of those with equal keys, the last value at the
 /// position of the first. Returns the index of the keys that are left. The error is a failed
 /// allocation, and then the first of them have been put.
@@ -170,7 +157,8 @@ fn put_each<V: Drop>(
             Ok(position) => values.swap(position, at),
             Err(spot) => {
                 if let Err(error) = add_entry(alloc, before, &mut index, name, spot) {
-                    cut_out(keys, values, kept, at);
+                    keys.drain(kept..at);
+                    values.drain(kept..at);
                     return Err(error);
                 }
                 keys.swap(kept, at);
@@ -197,8 +185,8 @@ fn merge<V: Drop>(
         ≡ put_each (zip keys.old.items values.old.items) }
     ensures table { IfOk result (λ r. IsTable keys.new.items r) }
 {
-    if keys.len() <= index::LINEAR_MAX {
-        return put_each(alloc, keys, values);
+    if keys.len() <= index::LINEAR_MAX && index::are_distinct(keys.as_slice()) {
+        return Ok(Runs::new(alloc));
     }
     match index::of(alloc, keys.as_slice())? {
         Some(index) => Runs::of(alloc, index),
@@ -419,17 +407,5 @@ impl Keys {
         ensures { result ≡ self.now }
     {
         Iter::new(self.keys.as_slice())
-    }
-}
-
-impl IntoIterator for Keys {
-    type Item = Key;
-
-    type IntoIter = IntoIter;
-
-    ghost into_iter_gives = { λ k it. it ≡ k };
-
-    fn into_iter(self) -> IntoIter {
-        IntoIter::new(self.keys)
     }
 }

@@ -6,7 +6,6 @@ ghost use Rattle.std.specs.Iterator.SizeHint.{IsWithinCount};
 use super::Pairs;
 use super::entries::Entries;
 use crate::key::Key;
-use crate::keys;
 use std::iter::FusedIterator;
 use std::marker::Model;
 use std::vec;
@@ -14,7 +13,7 @@ use std::vec;
 /// The entries, each as its key and its value. A clause sees the list of those that are left.
 #[derive(Drop)]
 pub struct IntoIter<V> {
-    keys: keys::IntoIter,
+    keys: vec::IntoIter<Key>,
     values: vec::IntoIter<V>,
 }
 
@@ -28,9 +27,9 @@ impl<V> Model for IntoIter<V> {
 
     ghost coded = { coded_list (coded× (coded_list coded_ℕ) V.code) };
 
-    ghost view = { λ a. zip a.keys (into_iter_items a.values) };
+    ghost view = { λ a. zip (into_iter_items a.keys) (into_iter_items a.values) };
 
-    ghost invariant = { λ a. length (into_iter_items a.values) ≡ length a.keys };
+    ghost invariant = { λ a. length (into_iter_items a.values) ≡ length (into_iter_items a.keys) };
 }
 
 impl<V: Drop> Iterator for IntoIter<V> {
@@ -81,7 +80,7 @@ impl<V> Entries<V> {
     {
         let Entries { keys, values } = self;
         IntoIter {
-            keys: keys.into_iter(),
+            keys: keys.into_vec().into_iter(),
             values: values.into_iter(),
         }
     }

@@ -6,9 +6,10 @@ use Rattle.jzon_base.proofs.pairs.into_iter.IntoIterExactSizeIterator.len.Goals 
 pub returns-clause-value : goal.returns-clause-value
 returns-clause-value g c = omega (
   arith,
-  c.len.ensures.value,
+  c.len.ensures,
+  c.self.inside.keys.rest.ok.0,
   c.self.invariant,
-  length-zip c.self.inside.keys
+  length-zip (into_iter_items c.self.inside.keys)
       (into_iter_items c.self.inside.values),
   ap length c.self.view_is,
 )

@@ -1,0 +1,31 @@
+use Rattle.std.proofs.Common.{arith, refl, subst}
+use Rattle.std.specs.List.{IsDistinct}
+use Rattle.std.specs.Str.{bytes_eq}
+use Rattle.std.proofs.lemmas.Bool.{false≢true}
+use Rattle.std.proofs.lemmas.List.{take_all}
+use Rattle.jzon_base.proofs.Indexes.{IsDistinct-more, repeated}
+use Rattle.jzon_base.proofs.keys.index.are_distinct.Goals as goal
+
+pub loop-at-init : goal.loop-at-init
+unfolding IsDistinct
+loop-at-init c = tt
+
+pub loop-at-preserved : goal.loop-at-preserved
+loop-at-preserved c =
+    IsDistinct-more c.args.keys.now c.loop-at.at _ c.index-keys-at.result c.as_str.result.now (omega arith)
+    (omega arith) c.loop-at.invariant c.index-keys-at.is c.as_str.ensures
+    c.if-has_name.ensures
+
+pub returns-then-has_name : goal.returns-then-has_name
+returns-then-has_name c = (
+  λ e. absurd (false≢true e),
+  λ distinct. absurd
+      (repeated c.args.keys.now c.loop-at.at _ c.index-keys-at.result c.as_str.result.now (omega arith) (omega arith)
+      c.index-keys-at.is c.as_str.ensures c.if-has_name.ensures distinct),
+)
+
+pub returns : goal.returns
+returns c = (
+  λ _. subst (IsDistinct bytes_eq) (take_all c.loop-at.at c.args.keys.now c.loop-at-test.false) c.loop-at.invariant,
+  λ _. refl,
+)
