@@ -1,6 +1,5 @@
 //! Keys and their positions.
 
-use jzon_base::key::Key;
 use jzon_base::keys::hash::hash_of;
 use jzon_base::keys::{Iter, Keys};
 use std::alloc::{AllocError, Global};
@@ -144,24 +143,6 @@ fn goes_over_keys_from_both_ends(rt: HostRuntime) -> Result<(), AllocError> {
         assert_eq!(rt; names.len(), left);
     }
     assert_eq!(rt; taken(&mut Iter::empty(), false), None);
-    Ok(())
-}
-
-fn is_key(taken: Option<Key>, want: &str) -> bool {
-    match taken {
-        Some(key) => key.as_str() == want,
-        None => false,
-    }
-}
-
-#[test]
-fn gives_keys_from_both_ends(rt: HostRuntime) -> Result<(), AllocError> {
-    let keys = of_names(rt.alloc(), &["a", "b", "c"])?;
-    let mut owned = keys.into_iter();
-    assert_eq!(rt; owned.len(), 3);
-    assert!(rt; is_key(owned.next_back(), "c"));
-    assert!(rt; is_key(owned.next(), "a"));
-    assert_eq!(rt; owned.len(), 1);
     Ok(())
 }
 
