@@ -60,17 +60,6 @@ struct Spot {
     at: usize,
 }
 
-/// No entry, with room for those of `capacity` keys, or none where `capacity` keys need no index.
-/// The error is a failed allocation.
-fn room_for(alloc: Global, capacity: usize) -> Result<Runs, AllocError>
-    ensures { IfOk result (λ r. length (entries_of r) ≡ 0) }
-{
-    if capacity <= index::LINEAR_MAX {
-        return Ok(Runs::new(alloc));
-    }
-    Runs::with_capacity(alloc, capacity)
-}
-
 /// The position of a key. The error is where the entry of a missing key belongs, if the keys have
 /// an index.
 #[inline(always)]
@@ -247,7 +236,7 @@ impl Keys {
     {
         Ok(Keys {
             keys: Vec::with_capacity(alloc, capacity)?,
-            index: room_for(alloc, capacity)?,
+            index: Runs::with_capacity(alloc, capacity)?,
         })
     }
 

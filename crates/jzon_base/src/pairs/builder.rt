@@ -5,10 +5,9 @@
 //! - put: `Pairs`, once a key has repeated. Each entry is put at once, so few distinct keys take
 //!   little memory.
 //!
-//! A strict reading asks for each key before it puts the entry. Up to eight keys are compared one
-//! by one; more are put. Then n entries take about n log n comparisons, whatever the keys are: one
-//! object of up to 100 keys may take 1.3 times as long as in the usual reading, and one of 100,000
-//! up to 5 times.
+//! A strict reading asks for each key before it puts the entry. Up to 32 gathered keys are compared
+//! one by one. More are put, and then each key is searched for twice: when it is asked for, and when
+//! its entry is put. So n entries take about n (log n)^2 comparisons, whatever the keys are.
 ghost use Rattle.std.specs.Prelude.{◌≡◌, ◌<◌, [], length, Some, IfOk, IfSome, OnOk, OnErr};
 ghost use Rattle.std.specs.List.{position};
 ghost use Rattle.std.specs.Option.{is_some};
@@ -24,6 +23,9 @@ use std::marker::Model;
 
 /// The count of gathered entries at which a repeated key is looked for first.
 const FIRST_LIMIT: usize = 256;
+
+/// Up to how many gathered keys are compared one by one to find one of them.
+const COMPARED_MAX: usize = 32;
 
 /// The growth of that count where none is found.
 const GROWTH: usize = 4;
@@ -271,7 +273,7 @@ impl<V: Drop> Builder<V> {
         ensures { self.new ≡ self.old }
     {
         if let State::Gathered(gathered) = &mut self.state {
-            if index::LINEAR_MAX < gathered.keys.len() {
+            if COMPARED_MAX < gathered.keys.len() {
                 let pairs = gathered.settle(alloc)?;
                 self.state = State::Put(Put::of(pairs));
             }
@@ -289,8 +291,8 @@ impl<V: Drop> Builder<V> {
         }
     }
 
-    /// Whether an entry has this key. Calls before each of n entries take about n log n comparisons
-    /// in all, whatever the keys are. The error is a failed allocation.
+    /// Whether an entry has this key. Calls before each of n entries take about n (log n)^2
+    /// comparisons in all, whatever the keys are. The error is a failed allocation.
     pub fn has_key(&mut self, alloc: Global, key: &str) -> Result<bool, AllocError>
         ensures kept { self.new ≡ self.old }
         ensures known { IfOk result (λ known. known ≡ is_some (find key.now self.old)) }
