@@ -14,8 +14,7 @@ use std::alloc::{AllocError, Global};
 impl JsonValue {
     /// A copy of the value, with the parts of its numbers and the order of its keys. Fails with
     /// `OutOfMemory` only.
-    ///
-    /// Inlined into the loop over elements: an array in an array takes one frame of the stack.
+    // Inlined into the loop over elements, so that an array in an array takes one stack frame.
     #[inline(always)]
     #[cycle(copy)]
     #[tactic(auto, using(crate::proofs::Views::views))]

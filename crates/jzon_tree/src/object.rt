@@ -49,9 +49,8 @@ pub type Keys<'a> = keys::Iter<'a>;
 pub type Values<'a> = slice::Iter<'a, JsonValue>;
 
 /// The entries of an object that are left, each as its key and its value.
-///
-/// Not another name, as `Iter` is: the toolchain doesn't finish the statement of `IntoIterator` for
-/// `Object` if the iterator is `pairs::IntoIter<JsonValue>` itself.
+// Not another name, as `Iter` is: the toolchain doesn't finish the statement of `IntoIterator` for
+// `Object` if the iterator is `pairs::IntoIter<JsonValue>` itself.
 #[derive(Drop)]
 pub struct IntoIter {
     pairs: pairs::IntoIter<JsonValue>,

@@ -89,7 +89,7 @@ at_mut_spec {M} 𝓤 𝓛 𝓜 𝓡 wired =
     (λ ws. split ! $ drop ! $ move ! (1 ∷ []) $ split ! $ move ! (1 ∷ []) $
     -- [the result; the tokens; what the callee ensures]
     peeks ! r-row (Is r-row) (shows 𝓛 r-row) r (v ∷ []) (λ is. lands_as ! refl refl
-    ((row_lawful 𝓛 (result.the_type (MutRef (named 0) κ J) error.the_row) 
+    ((row_lawful 𝓛 (result.the_type (MutRef (named 0) κ J) error.the_row)
     ((lent_field κ, tt), ((row_loose error.the_row error_laws.the_row_laws, tt), tt)) tt).typed r (v ∷ []) is).0 $
     move ! (1 ∷ []) $ split ! $ move ! (1 ∷ []) $ split ! $ move ! (1 ∷ []) $ drop ! $ nothing ! $ move ! (1 ∷ 0 ∷ []) $
     join ! $ move ! (1 ∷ 0 ∷ []) $ join ! $
