@@ -1,5 +1,6 @@
 //! The messages of errors.
 
+use crate::common::expect_eq;
 use jzon_base::error::Error;
 use std::test::Fail;
 
@@ -36,7 +37,8 @@ fn messages(rt: HostRuntime) -> std::result::Result<(), Fail> {
         ),
     ];
     for (error, message) in rows {
-        assert_eq!(rt; format!(in rt.alloc(); "{error}")?.as_str(), message);
+        let shown = format!(in rt.alloc(); "{error}")?;
+        expect_eq(&rt, message, shown.as_str(), message);
     }
     Ok(())
 }

@@ -2,6 +2,8 @@
 #![tactic(auto)]
 
 #[cfg(test)]
+mod common;
+#[cfg(test)]
 mod digits;
 #[cfg(test)]
 mod error;
@@ -11,8 +13,6 @@ mod escapes;
 mod fixed_point;
 #[cfg(test)]
 mod from_integer;
-#[cfg(test)]
-mod from_parts;
 #[cfg(test)]
 mod hash;
 #[cfg(test)]
@@ -25,8 +25,6 @@ mod number;
 mod pairs;
 #[cfg(test)]
 mod plain;
-#[cfg(test)]
-mod plain_runs;
 #[cfg(test)]
 mod print_dec;
 #[cfg(test)]

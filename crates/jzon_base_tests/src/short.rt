@@ -1,45 +1,54 @@
 //! Short strings.
 
+use crate::common::{expect, expect_eq};
 use jzon_base::short::{MAX_LEN, Short};
 use std::test::Fail;
 
+/// The last two are of 30 bytes.
+const TEXTS: &[&str] = &[
+    "",
+    "a\"b",
+    "\0",
+    "abcdefghijklmnopqrstuvwxyz0123",
+    "ééééééééééééééé",
+];
+
 #[test]
 fn keeps_strings(rt: HostRuntime) -> std::result::Result<(), Fail> {
-    let texts = [
-        "",
-        "a\"b",
-        "\0",
-        "abcdefghijklmnopqrstuvwxyz0123",
-        "ééééééééééééééé",
-    ];
-    for text in texts {
-        assert!(rt; text.len() <= MAX_LEN);
+    for text in TEXTS {
+        if text.len() > MAX_LEN {
+            return Err("a text is too long".into());
+        }
         let short = Short::from_slice(text);
-        assert_eq!(rt; short.as_str(), text);
-        assert!(rt; short == Short::from_slice(text));
-        assert!(rt; short.eq_str(text));
-        assert_eq!(rt; format!(in rt.alloc(); "{short}")?.as_str(), text);
-        assert_eq!(rt; short.into_string(rt.alloc())?.as_str(), text);
+        expect_eq(&rt, text, short.as_str(), *text);
+        expect(
+            &rt,
+            text,
+            short == Short::from_slice(text) && short.eq_str(text),
+        );
+        let shown = format!(in rt.alloc(); "{short}")?;
+        expect_eq(&rt, "Display", shown.as_str(), *text);
+        let string = short.into_string(rt.alloc())?;
+        expect_eq(&rt, "into_string", string.as_str(), *text);
     }
     Ok(())
 }
 
+const OTHERS: &[&str] = &["", "ab", "abd", "abcd", "Abc", "abc\0"];
+
 #[test]
 fn tells_strings_apart(rt: HostRuntime) {
     let short = Short::from_slice("abc");
-    for other in ["", "ab", "abd", "abcd", "Abc", "abc\0"] {
-        assert!(rt; other.len() <= MAX_LEN);
-        assert!(rt; short != Short::from_slice(other), "{other}");
-        assert!(rt; !short.eq_str(other), "{other}");
+    for other in OTHERS {
+        expect(&rt, other, !short.eq_str(other));
     }
+    expect(&rt, "abd", short != Short::from_slice("abd"));
 }
 
 #[test]
 fn debug_is_quoted(rt: HostRuntime) -> std::result::Result<(), Fail> {
     let short = Short::from_slice("a\"b\n");
-    assert_eq!(rt;
-        format!(in rt.alloc(); "{short:?}")?.as_str(),
-        "\"a\\\"b\\n\""
-    );
+    let shown = format!(in rt.alloc(); "{short:?}")?;
+    expect_eq(&rt, "Debug", shown.as_str(), "\"a\\\"b\\n\"");
     Ok(())
 }

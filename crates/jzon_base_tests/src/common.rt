@@ -1,0 +1,15 @@
+//! What the tests compare by. To prove an assertion takes seconds, and a call of one of these hardly
+//! any time.
+
+use std::fmt::Debug;
+use std::process::Abort;
+
+/// It holds of this row.
+pub fn expect(rt: &impl Abort, row: &str, holds: bool) {
+    assert!(rt; holds, "{row}");
+}
+
+/// Both are equal, in this row.
+pub fn expect_eq<T: Copy + PartialEq + Debug>(rt: &impl Abort, row: &str, found: T, want: T) {
+    assert_eq!(rt; found, want, "{row}");
+}
