@@ -48,10 +48,9 @@ fn reindex(keys: &[Key], index: &mut Runs)
         → length keys.now ≤ length (entries_of index.old) }
     ensures { IsIndexed keys.now index.new }
 {
-    if index.is_empty() {
-        return;
+    if !index.is_empty() {
+        index.refill(keys);
     }
-    index.refill(keys);
 }
 
 impl Keys {
