@@ -48,9 +48,6 @@ pub record HasScanned (bytes : List ℕ) (before at number : ℕ) : Type 0 where
   pub count : prefix_len is_ascii_digit bytes ≡ at + prefix_len is_ascii_digit (drop at bytes)
   pub number_is : (n : ℕ) → before ≡ n % 2 ^ 64 → number ≡ fold add_digit n (take at bytes) % 2 ^ 64
 
-pub has_none : (bytes : List ℕ) (before : ℕ) → HasScanned bytes before 0 before
-has_none bytes before = record { within = omega arith; count = omega arith; number_is = λ n h. h }
-
 pub number_more : (bytes : List ℕ) (before at number count next : ℕ) → HasScanned bytes before at number
     → at + count ≤ length bytes → next ≡ digits_number (take count (drop at bytes)) → (n : ℕ) → before ≡ n % 2 ^ 64
     → (number * 10 ^ count % 2 ^ 64 + next) % 2 ^ 64 ≡ fold add_digit n (take (at + count) bytes) % 2 ^ 64

@@ -1,6 +1,6 @@
 //! Values under distinct keys, in a box (docs/RULES.md, "Objects").
 ghost use Rattle.std.specs.Prelude.{◌≡◌, ◌<◌, ◌-◌, ◌∷◌, ◌==◌, [], length, remove, slice_get};
-ghost use Rattle.std.specs.Prelude.{IsSome, Some, None, OnOk, OnErr, IfOk, MatchOption};
+ghost use Rattle.std.specs.Prelude.{Some, None, OnOk, OnErr, IfOk, MatchOption};
 ghost use Rattle.std.specs.List.{position, zip, IsDistinct};
 ghost use Rattle.std.specs.Map.Calls.{CalledAtPair, CallableOnEachPair, RetainsPairs, TakesPair};
 ghost use Rattle.std.specs.Str.{bytes_eq};
@@ -254,20 +254,6 @@ impl<V> Pairs<V> {
     {
         let index = self.position(name)?;
         Some(self.value_mut(index))
-    }
-
-    /// The value of a key that is there, to be written: nothing else changes.
-    #[tactic(auto, using(crate::proofs::PairPlaces::places))]
-    pub fn member_mut(&mut self, name: &str) -> &mut V
-        requires { IsSome (find name.now self.old) }
-        ensures* writes_back { sem 𝓛 (Lends (the_row V.row) V.row self.entry result
-            (λ w. put name.now w self.old)) }
-        ensures value { Some result.now ≡ find name.now self.old }
-    {
-        match self.position(name) {
-            Some(index) => self.value_mut(index),
-            None => unreachable!(),
-        }
     }
 
     /// Puts the first entry, in a box that is asked for before the room of keys and values. The
