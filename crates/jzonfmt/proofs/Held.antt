@@ -1,7 +1,7 @@
 -- What a buffered writer holds, call by call.
 use Rattle.std.proofs.Common.{◌≡◌, ℕ, ◌+◌, ◌-◌, ◌≤◌, List, [], ◌∷◌, ◌++◌, length, take, drop, Option, None, Some, refl}
 use Rattle.std.proofs.Common.{sym, Bool, true, false, nat_le, if◌then◌else◌}
-use Rattle.std.proofs.Common.{Result, Ok, Err, OnOk, OnErr}
+use Rattle.std.proofs.Common.{Result, Ok, Err, OnOk}
 use Rattle.std.proofs.Common.{ap, ◌∙◌, append_assoc, append-nil, take-append-drop, arith, get_or}
 use Rattle.std.proofs.lemmas.Bool.{leb-true, le-leb}
 use Rattle.std.proofs.lemmas.List.{length-append, length-take-le, length-drop, take_all}
@@ -9,6 +9,7 @@ use Rattle.std.proofs.Math.Seq.{drop-drop, take-append_seam, take-append-add, ta
 use Rattle.std.specs.Io.KnownBytes.{Appends, Keeps}
 use Rattle.jzon.specs.Written.{AppendsBeginning}
 use Rattle.jzonfmt.specs.Buffered.{listed, held_since, count}
+use Rattle.jzonfmt.specs.Run.{WritesWhole}
 
 -- bytes that go from the buffer to the writer: what is held stays the same
 moved : (name : ℕ) (rest rest' x y : List ℕ) (p q : Bool) → (p ≡ true → q ≡ true) → y ++ rest' ≡ x ++ rest
@@ -116,16 +117,8 @@ module _ (start name name' : ℕ) (empty rest : List ℕ) (h : empty ≡ []) whe
       (k, omega (arith, within, l), rw (take-take k n bs within) at q)
 
   -- the same by the result of all calls
-  pub ok_appends : {E : Type 0} (r : Result (Unit {0}) E) (bs : List ℕ) (a b f : Option (List ℕ))
+  pub written : {E : Type 0} (r : Result (Unit {0}) E) (bs : List ℕ) (a b f : Option (List ℕ))
       → start ≡ count a → (name ≡ name' → f ≡ b) → OnOk r (rest ≡ [])
-      → OnOk r (Appends (held_since start name empty a) (held_since start name' rest b) bs)
-      → OnOk r (Appends a f bs)
-  ok_appends (Ok u) bs a b f s same l p = appends_all bs a b f s same l p
-  ok_appends (Err x) bs a b f s same l p = tt
-
-  pub err_appends : {E : Type 0} (r : Result (Unit {0}) E) (bs : List ℕ) (a b f : Option (List ℕ))
-      → start ≡ count a → (name ≡ name' → f ≡ b)
-      → OnErr r (AppendsBeginning (held_since start name empty a) (held_since start name' rest b) bs)
-      → OnErr r (AppendsBeginning a f bs)
-  err_appends (Ok u) bs a b f s same p = tt
-  err_appends (Err x) bs a b f s same p = appends_part bs a b f s same p
+      → WritesWhole bs r (held_since start name empty a) (held_since start name' rest b) → WritesWhole bs r a f
+  written (Ok u) bs a b f s same l p = appends_all bs a b f s same l p
+  written (Err x) bs a b f s same l p = appends_part bs a b f s same p

@@ -1,11 +1,10 @@
 //! What the program does, over any reader and any writers (docs/RULES.md, "The program jzonfmt").
 
-ghost use Rattle.std.specs.Prelude.{◌≡◌, ℕ, List, [], IfOk, IfErr, OnOk, OnErr, map, string_bytes, vec_len};
-ghost use Rattle.std.specs.Io.KnownBytes.{Appends, Consumes, Keeps};
+ghost use Rattle.std.specs.Prelude.{◌≡◌, ℕ, List, [], IfOk, IfErr, OnOk, map, string_bytes, vec_len};
+ghost use Rattle.std.specs.Io.KnownBytes.{Consumes, Keeps};
 ghost use Rattle.jzon.specs.View.{view};
-ghost use Rattle.jzon.specs.Written.{AppendsBeginning};
 ghost use Rattle.jzonfmt.specs.Buffered.{count, held, left};
-ghost use Rattle.jzonfmt.specs.Run.{Answers, IsReadFault, Reads, Runs, line, text};
+ghost use Rattle.jzonfmt.specs.Run.{Answers, IsReadFault, Reads, Runs, WritesWhole, line, text};
 ghost use Rattle.jzonfmt.specs.Drive.{Drives, asked_layout, asked_options, asked_spaces};
 ghost use Rattle.jzonfmt.specs.Drive.{fault_status};
 
@@ -17,12 +16,12 @@ use std::io::{Read, Write};
 use std::marker::Brand;
 use std::{fmt, io, mem};
 
-/// How a text is printed.
+/// The layouts that the arguments can choose.
 #[derive(Clone, Copy, Debug, PartialEq, Eq)]
-pub enum Layout {
+pub enum LayoutChoice {
     /// Without whitespace.
     Compact,
-    /// With a new line before each element, each member and the closing bracket of a container that
+    /// With a new line before each element, each entry and the closing bracket of a container that
     /// isn't empty, and on it this many spaces for each container around.
     Pretty(u16),
 }
@@ -33,7 +32,7 @@ pub struct Options {
     /// How it is read.
     pub reading: Reading,
     /// How it is printed.
-    pub layout: Layout,
+    pub layout: LayoutChoice,
 }
 
 /// Why a text was not printed, or only in part.
@@ -117,7 +116,7 @@ pub fn run<R: Read, W: Write>(
     reader: &mut R,
     writer: &mut W,
     reading: &Reading,
-    layout: Layout,
+    layout: LayoutChoice,
 ) -> Result<(), RunFault>
     ensures { Runs reading.now layout result
         (record { unread = R.remaining reader.old; written = W.contents writer.old })
@@ -159,7 +158,7 @@ fn print_input<W: Write>(
     input: &[u8],
     writer: &mut W,
     reading: &Reading,
-    layout: Layout,
+    layout: LayoutChoice,
 ) -> Result<(), RunFault>
     ensures { Answers reading.now layout input.now result (W.contents writer.old)
         (W.contents writer.new) }
@@ -181,15 +180,12 @@ fn write_line<W: Write, S: Start>(
     writer: &mut W,
     memory: Vec<u8>,
     value: &JsonValue,
-    layout: Layout,
+    layout: LayoutChoice,
 ) -> io::Result<()>
     requires empty { memory.items ≡ [] }
     requires start { S.start ≡ count (W.contents writer.old) }
-    ensures ok { OnOk result
-        (Appends (W.contents writer.old) (W.contents writer.new) (line layout (view value.now))) }
-    ensures err { OnErr result
-        (AppendsBeginning (W.contents writer.old) (W.contents writer.new)
-        (line layout (view value.now))) }
+    ensures { WritesWhole (line layout (view value.now)) result (W.contents writer.old)
+        (W.contents writer.new) }
 {
     let mut buffered: Buffered<'_, W, S> = Buffered::new(writer, memory);
     let answer = write_held(&mut buffered, value, layout);
@@ -203,15 +199,10 @@ fn write_line<W: Write, S: Start>(
 fn write_held<W: Write, S: Start>(
     buffered: &mut Buffered<'_, W, S>,
     value: &JsonValue,
-    layout: Layout,
+    layout: LayoutChoice,
 ) -> io::Result<()>
-    ensures ok { OnOk result
-        (Appends (held W.contents S.start buffered.old) (held W.contents S.start buffered.new)
-        (line layout (view value.now))) }
-    ensures err { OnErr result
-        (AppendsBeginning (held W.contents S.start buffered.old)
-        (held W.contents S.start buffered.new)
-        (line layout (view value.now))) }
+    ensures bytes { WritesWhole (line layout (view value.now)) result
+        (held W.contents S.start buffered.old) (held W.contents S.start buffered.new) }
     ensures all { OnOk result (left buffered.new ≡ []) }
 {
     write_text(buffered, value, layout)?;
@@ -220,15 +211,13 @@ fn write_held<W: Write, S: Start>(
 }
 
 /// Writes the text of the value in the layout.
-fn write_text<W: Outlet>(writer: &mut W, value: &JsonValue, layout: Layout) -> io::Result<()>
-    ensures ok { OnOk result (Appends (W.Write.contents writer.old)
-        (W.Write.contents writer.new) (text layout (view value.now))) }
-    ensures err { OnErr result (AppendsBeginning (W.Write.contents writer.old)
-        (W.Write.contents writer.new) (text layout (view value.now))) }
+fn write_text<W: Outlet>(writer: &mut W, value: &JsonValue, layout: LayoutChoice) -> io::Result<()>
+    ensures { WritesWhole (text layout (view value.now)) result (W.Write.contents writer.old)
+        (W.Write.contents writer.new) }
 {
     match layout {
-        Layout::Compact => value.write_outlet(writer, Compact),
-        Layout::Pretty(spaces) => value.write_outlet(writer, Pretty(spaces)),
+        LayoutChoice::Compact => value.write_outlet(writer, Compact),
+        LayoutChoice::Pretty(spaces) => value.write_outlet(writer, Pretty(spaces)),
     }
 }
 
@@ -272,13 +261,13 @@ fn options_of(words: &[String]) -> Option<Options>
 }
 
 /// The layout that the arguments name.
-fn layout_of(words: &[String]) -> Option<Layout>
+fn layout_of(words: &[String]) -> Option<LayoutChoice>
     ensures { result ≡ asked_layout (map string_bytes words.now) }
 {
     match words {
-        [] => Some(Layout::Compact),
+        [] => Some(LayoutChoice::Compact),
         [option, spaces] if option.as_str() == "--pretty" => {
-            Some(Layout::Pretty(spaces_of(spaces.as_str())?))
+            Some(LayoutChoice::Pretty(spaces_of(spaces.as_str())?))
         }
         _ => None,
     }
