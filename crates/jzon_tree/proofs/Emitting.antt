@@ -1,8 +1,7 @@
 -- The effect of several hooks, one after the other.
 use Rattle.std.proofs.Common.{◌≡◌, ℕ, suc, ◌+◌, ◌-◌, List, [], ◌∷◌, ◌++◌, refl, sym, ap, subst, ◌∙◌, append_assoc}
-use Rattle.std.proofs.Common.{append-nil, add-one, Result, Ok, Err, arith, Option, None, true}
-use Rattle.std.proofs.lemmas.Bool.{eqb-true, false_from_ne_true}
-use Rattle.std.specs.Prelude.{MatchResult, not, ◌==◌}
+use Rattle.std.proofs.Common.{append-nil, add-one, Result, Ok, Err, arith, Option}
+use Rattle.std.specs.Prelude.{MatchResult}
 use Rattle.std.specs.Result.{IsErr}
 use Rattle.jzon_tree.proofs.Sent.{adds_same, adds_then, adds_weaker, Sends-laid}
 use Rattle.jzon_tree.specs.Generator.{Adds, Begins, Just, Sends, Emitted, Added, Failed, Stopped, Emits, Counts, noted}
@@ -292,13 +291,3 @@ pub stored_err : {A E F : Type 0} (r : Result A E) (s : Result A F) (f : F) → 
     → MatchResult r (λ y. s ≡ Ok y) (λ _. IsErr s) → (e : E) × (r ≡ Err e)
 stored_err (Ok y) s f k h = absurd (cc)
 stored_err (Err e) s f k h = (e, refl)
-
--- a generator that returns `None` and stays as it is
-pub insertion_answered : {E A : Type 0} (K : Option A → Type 0) (old new : Emitted) (r : Result (Option A) E)
-    → r ≡ Ok None → new ≡ old → K None
-    → MatchResult r (λ answer. Added (Just []) old new × K answer) (λ _. Failed (Just []) old new)
-insertion_answered K old new r e same k = rw (e, same) (Added-nothing (Just []) old refl, k)
-
--- a boolean as the program computes it
-pub has_lines : (n : ℕ) → (n ≡ 0 → ⊥) → not (n == 0) ≡ true
-has_lines n h = ap not (false_from_ne_true (n == 0) (λ e. h (eqb-true n 0 e)))

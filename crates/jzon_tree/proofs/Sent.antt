@@ -1,5 +1,5 @@
 -- What several calls add to known bytes, one after the other.
-use Rattle.std.proofs.Common.{ℕ, List, [], ◌++◌, take, drop, Option, None, Some, refl, sym, ap, subst, ◌∙◌}
+use Rattle.std.proofs.Common.{ℕ, List, [], ◌++◌, take, drop, Option, None, Some, refl, sym, ap, ◌∙◌}
 use Rattle.std.proofs.Common.{append_assoc, append-nil, take-append-drop, Result, Ok, Err}
 use Rattle.std.specs.Result.{IsErr}
 use Rattle.std.specs.Prelude.{◌≡◌, OnOk, OnErr, MatchResult}
@@ -50,12 +50,6 @@ pub Sends-laid : {E F : Type 0} (P : List ℕ → Type 0) (a b : Option (List �
 Sends-laid P a b (Ok u) s k h = rw k h
 Sends-laid P a b (Err e) (Ok u) k h = absurd (cc k)
 Sends-laid P a b (Err e) (Err f) k h = h
-
--- the same of bytes that are known to be the same
-pub Sends-moved : {E : Type 0} (P : List ℕ → Type 0) (a b o p : Option (List ℕ)) (r : Result (Unit {0}) E) → a ≡ o
-    → p ≡ b → Sends P a b r → Sends P o p r
-Sends-moved P a b o p (Ok u) h k s = subst (λ x. Adds P x p) h (subst (λ x. Adds P a x) (sym k) s)
-Sends-moved P a b o p (Err e) h k s = subst (λ x. Adds (Begins P) x p) h (subst (λ x. Adds (Begins P) a x) (sym k) s)
 
 -- ---- two calls in sequence
 module _ (P Q R : List ℕ → Type 0) (a b c : Option (List ℕ)) (join : (x y : List ℕ) → P x → Q y → R (x ++ y))

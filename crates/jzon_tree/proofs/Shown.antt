@@ -1,12 +1,12 @@
 -- The pieces that a formatter shows of a value, joined.
-use Rattle.std.proofs.Common.{◌≡◌, ℕ, suc, ◌+◌, ◌-◌, ◌<◌, ◌≤◌, Bool, true, false, List, [], ◌∷◌, ◌++◌, length, take}
+use Rattle.std.proofs.Common.{◌≡◌, ℕ, suc, ◌+◌, ◌<◌, Bool, true, false, List, [], ◌∷◌, ◌++◌, length, take}
 use Rattle.std.proofs.Common.{drop, get_or, map, refl, sym, ap, ◌∙◌, append_assoc, append-nil, add-one, arith}
-use Rattle.std.proofs.Common.{length-append, length-drop}
+use Rattle.std.proofs.Common.{length-drop}
 use Rattle.std.specs.Prelude.{nat_lt}
 use Rattle.std.specs.List.{prefix_len}
-use Rattle.std.proofs.Math.Seq.{drop-cons, take-append_seam}
+use Rattle.std.proofs.Math.Seq.{drop-cons}
 use Rattle.std.proofs.lemmas.Bool.{lt-ltb}
-use Rattle.std.proofs.lemmas.List.{length-take-le, nil_from_length, take-take}
+use Rattle.std.proofs.lemmas.List.{nil_from_length}
 use Rattle.jzon_base.specs.Private.PlainBytes.{is_plain}
 use Rattle.jzon_tree.specs.Displayed.{comma_text, member_text}
 use Rattle.jzon_tree.specs.Text.{escaped, escaped_byte, quoted, compact, compact_layout, layout_text, more_values_text}
@@ -36,20 +36,6 @@ module _ (whole bs run : List ℕ) (n : ℕ) (p : run ≡ take n bs) (e : n ≡ 
   text_shown q x h =
       let all : escaped bs ≡ run = escaped-run bs n (omega (arith, e)) ∙ rw (sym p, q) (append-nil run) in
       ap (λ (w : List ℕ). w ++ 34 ∷ []) (ap (λ (w : List ℕ). x ++ w) (sym all) ∙ h)
-
--- ---- an escape, without the quote after it
-pub without_last : (n : ℕ) (bs xs : List ℕ) (c : ℕ) → n ≤ length bs → take n bs ≡ xs ++ c ∷ [] → take (n - 1) bs ≡ xs
-without_last n bs xs c h e =
-    let all : n ≡ length xs + 1 = omega (
-      arith,
-      ap (λ (l : List ℕ). length l) e,
-      length-take-le n bs h,
-      length-append xs
-          (c ∷ []),
-    ) in
-    let less : n - 1 ≡ length xs = omega arith in
-    sym (take-take (n - 1) n bs (omega arith)) ∙ ap (λ (l : List ℕ). take (n - 1) l) e
-    ∙ ap (λ (k : ℕ). take k (xs ++ c ∷ [])) less ∙ take-append_seam xs (c ∷ [])
 
 -- ---- the compact text of a container
 
