@@ -1,14 +1,26 @@
-//! Values and comparisons that the tests share.
+//! Values and comparisons that the tests share. To prove an assertion takes seconds, and a call of
+//! `expect` or `expect_eq` hardly any time.
 
 use jzon_base::error::Result;
 use jzon_base::number::Number;
 use jzon_tree::object::Object;
 use jzon_tree::value::JsonValue;
 use std::alloc::Global;
+use std::fmt::Debug;
 use std::process::Abort;
 use std::test::Fail;
 
 pub type Tested = std::result::Result<(), Fail>;
+
+/// It holds of this row.
+pub fn expect(rt: &impl Abort, row: &str, holds: bool) {
+    assert!(rt; holds, "{row}");
+}
+
+/// Both are equal, in this row.
+pub fn expect_eq<T: Copy + PartialEq + Debug>(rt: &impl Abort, row: &str, found: T, want: T) {
+    assert_eq!(rt; found, want, "{row}");
+}
 
 /// A whole number.
 pub fn number(mantissa: u64) -> JsonValue {
@@ -34,5 +46,5 @@ pub fn empty_containers(alloc: Global) -> Result<JsonValue> {
 
 /// The bytes are those of this text.
 pub fn expect_bytes(rt: &impl Abort, bytes: &[u8], text: &str) {
-    assert_eq!(rt; bytes, text.as_bytes());
+    expect_eq(rt, text, bytes, text.as_bytes());
 }

@@ -2,7 +2,7 @@
 
 ghost use Rattle.std.specs.Prelude.{◌≡◌};
 
-use crate::common::{Tested, empty_containers, expect_bytes, numbers};
+use crate::common::{Tested, empty_containers, expect_bytes, expect_eq, numbers};
 use jzon_base::number::{NAN, Number};
 use jzon_tree::codegen::{DumpGenerator, Generator, write_json};
 use jzon_tree::object::Object;
@@ -89,33 +89,30 @@ fn expect_counted(rt: &impl Abort, alloc: Global, value: &JsonValue, text: &str)
     };
     write_json(&mut generator, value)?;
     expect_bytes(rt, generator.get_writer(), text);
-    assert_eq!(rt; generator.count, text.len());
+    expect_eq(rt, text, generator.count, text.len());
     Ok(())
 }
 
-#[test]
-fn counts_strings(rt: HostRuntime) -> Tested {
-    for (string, text) in [
-        ("", "\"\""),
-        ("plain", "\"plain\""),
-        ("a\"b\\\n\u{1}é", "\"a\\\"b\\\\\\n\\u0001é\""),
-    ] {
-        let value = JsonValue::String(String::from_str(rt.alloc(), string)?);
-        expect_counted(&rt, rt.alloc(), &value, text)?;
-    }
-    Ok(())
-}
+const STRINGS: &[(&str, &str)] = &[
+    ("", "\"\""),
+    ("plain", "\"plain\""),
+    ("a\"b\\\n\u{1}é", "\"a\\\"b\\\\\\n\\u0001é\""),
+];
+
+const NUMBERS: &[(bool, u64, i16, &str)] = &[(false, 125, -1, "-12.5"), (true, 1, 30, "1e30")];
 
 #[test]
-fn counts_numbers(rt: HostRuntime) -> Tested {
-    for (number, text) in [
-        (Number::from_parts_unchecked(false, 125, -1), "-12.5"),
-        (Number::from_parts_unchecked(true, 1, 30), "1e30"),
-        (NAN, "null"),
-    ] {
-        expect_counted(&rt, rt.alloc(), &JsonValue::Number(number), text)?;
+fn counts_strings_and_numbers(rt: HostRuntime) -> Tested {
+    let alloc = rt.alloc();
+    for (string, text) in STRINGS {
+        let value = JsonValue::String(String::from_str(alloc, string)?);
+        expect_counted(&rt, alloc, &value, text)?;
     }
-    Ok(())
+    for (positive, mantissa, exponent, text) in NUMBERS {
+        let number = Number::from_parts_unchecked(*positive, *mantissa, *exponent);
+        expect_counted(&rt, alloc, &JsonValue::Number(number), text)?;
+    }
+    expect_counted(&rt, alloc, &JsonValue::Number(NAN), "null")
 }
 
 #[test]

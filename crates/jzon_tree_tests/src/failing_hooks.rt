@@ -5,7 +5,7 @@ ghost use Rattle.std.specs.Prelude.{None, refl};
 ghost use Rattle.jzon_tree.specs.StyleLaws.{IsStyle-compact};
 ghost use Rattle.jzon_tree.specs.Styles.{compact_style};
 
-use crate::common::{Tested, expect_bytes};
+use crate::common::{Tested, expect, expect_bytes, expect_eq};
 use crate::counting::Counting;
 use crate::hooks::{Hook, ROWS, Row, call};
 use jzon_test_support::{RUNS_MAX, Refusals, SlowWriter, Trouble};
@@ -121,14 +121,22 @@ impl Over {
 /// The error of a hook, if it failed.
 type Failure = Option<io::Error>;
 
-/// The error of the row's hook, after which two indents are open as before and one fault is
-/// counted, but for a write to the writer directly.
+/// Two indents are open as before, and one fault is counted, but for a write to the writer directly.
+fn expect_one_fault<G: Generator>(rt: &impl Abort, generator: &mut G, hook: Hook) {
+    let faults = if matches!(hook, Hook::GetWriter) {
+        0
+    } else {
+        1
+    };
+    expect_eq(rt, "the faults", generator.faults(), faults);
+    expect_eq(rt, "the indents", generator.dent(), 2);
+}
+
+/// The error of the row's hook.
 fn error_of<G: Generator>(rt: &impl Abort, alloc: Global, generator: &mut G, row: Row) -> Failure {
     generator.set_dent(2);
     let error = call(generator, row.0, &Object::new(alloc)).err();
-    let is_direct = matches!(row.0, Hook::GetWriter);
-    assert_eq!(rt; generator.faults(), if is_direct { 0 } else { 1 });
-    assert_eq!(rt; generator.dent(), 2);
+    expect_one_fault(rt, generator, row.0);
     error
 }
 
@@ -145,23 +153,29 @@ fn expect_failures(
     for call in 1..=text.len() {
         let mut writer = SlowWriter::new(alloc, call, trouble);
         match over.error(rt, alloc, &mut writer, row) {
-            Some(error) => assert!(rt; trouble.is_returned(alloc, &error)?, "call {call}"),
-            None => assert!(rt; false, "no error at call {call}"),
+            Some(error) => expect(rt, "the error", trouble.is_returned(alloc, &error)?),
+            None => expect(rt, "no error", false),
         }
-        assert!(rt; writer.bytes.as_slice() == &text[..call - 1]);
+        expect(
+            rt,
+            "the bytes",
+            writer.bytes.as_slice() == &text[..call - 1],
+        );
     }
     Ok(())
 }
+
+const TROUBLES: [Trouble; 2] = [
+    Trouble::Fails(ErrorKind::BrokenPipe),
+    Trouble::FailsBySystem(28),
+];
 
 /// A hook that appends nothing isn't called: `hooks` has its result.
 #[test]
 fn hooks_over_a_failing_writer(rt: HostRuntime) -> Tested {
     for over in OVERS {
         for row in ROWS {
-            for trouble in [
-                Trouble::Fails(ErrorKind::BrokenPipe),
-                Trouble::FailsBySystem(28),
-            ] {
+            for trouble in TROUBLES {
                 expect_failures(&rt, rt.alloc(), over, row, trouble)?;
             }
         }
@@ -169,37 +183,46 @@ fn hooks_over_a_failing_writer(rt: HostRuntime) -> Tested {
     Ok(())
 }
 
-/// Whether no allocation failed in the row's hook; else its error says so.
-fn is_spared<G: Generator>(
+/// One run of the row's hook, on a generator that is new. Whether no allocation failed in it; else
+/// its error says so, and nothing was appended.
+fn is_spared<G: Generator<T = Vec<u8>>>(
     rt: &impl Abort,
-    alloc: Global,
     refusals: &mut Refusals,
     generator: &mut G,
+    object: &Object,
     row: Row,
+    text: &str,
 ) -> bool {
     generator.set_dent(2);
-    let object = Object::new(alloc);
     refusals.begin();
-    let result = call(generator, row.0, &object);
-    if !refusals.has_failed() {
-        assert!(rt; result.is_ok());
-        return true;
+    let result = call(generator, row.0, object);
+    let is_spared = !refusals.has_failed();
+    match result {
+        Ok(()) => expect(rt, "no error", is_spared),
+        Err(error) => {
+            expect(
+                rt,
+                "the error",
+                !is_spared && error.kind() == ErrorKind::OutOfMemory,
+            );
+            expect_one_fault(rt, generator, row.0);
+        }
     }
-    assert!(rt; result.is_err_and(|error| error.kind() == ErrorKind::OutOfMemory));
-    let is_direct = matches!(row.0, Hook::GetWriter);
-    assert_eq!(rt; generator.faults(), if is_direct { 0 } else { 1 });
-    assert_eq!(rt; generator.dent(), 2);
-    false
+    expect_bytes(
+        rt,
+        generator.get_writer(),
+        if is_spared { text } else { "" },
+    );
+    is_spared
 }
 
 /// The row's hook of `DumpGenerator`, with each of its allocations failing in turn.
 fn fail_each_compact(rt: &(impl Eprint + Abort), alloc: Global, row: Row) -> Result<(), Fail> {
     let mut refusals = Refusals::new(alloc);
+    let object = Object::new(alloc);
     for _ in 0..RUNS_MAX {
         let mut generator = DumpGenerator::new(alloc);
-        let is_last = is_spared(rt, alloc, &mut refusals, &mut generator, row);
-        expect_bytes(rt, generator.get_writer(), if is_last { row.1 } else { "" });
-        if is_last {
+        if is_spared(rt, &mut refusals, &mut generator, &object, row, row.1) {
             break;
         }
     }
@@ -210,11 +233,10 @@ fn fail_each_compact(rt: &(impl Eprint + Abort), alloc: Global, row: Row) -> Res
 /// That of `PrettyGenerator`.
 fn fail_each_pretty(rt: &(impl Eprint + Abort), alloc: Global, row: Row) -> Result<(), Fail> {
     let mut refusals = Refusals::new(alloc);
+    let object = Object::new(alloc);
     for _ in 0..RUNS_MAX {
         let mut generator = PrettyGenerator::new(alloc, 1);
-        let is_last = is_spared(rt, alloc, &mut refusals, &mut generator, row);
-        expect_bytes(rt, generator.get_writer(), if is_last { row.2 } else { "" });
-        if is_last {
+        if is_spared(rt, &mut refusals, &mut generator, &object, row, row.2) {
             break;
         }
     }

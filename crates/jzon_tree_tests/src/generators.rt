@@ -1,19 +1,16 @@
 //! A user's own layout, and the orders of generators.
 
-ghost use Rattle.std.specs.Prelude.{◌≡◌, length, true, IfOk};
+ghost use Rattle.std.specs.Prelude.{◌≡◌, length, IfOk};
 ghost use Rattle.jzon_base.specs.PairList.{keys_of};
 ghost use Rattle.jzon_tree.specs.Entries.{entries_of};
 ghost use Rattle.jzon_tree.specs.Generator.{insertion};
 ghost use Rattle.jzon_tree.specs.StyleLaws.{IsStyle-any};
 ghost use Rattle.jzon_tree.specs.Writing.{any_style, IsOrder};
 
-use crate::common::{Tested, expect_bytes};
+use crate::common::{Tested, expect, expect_bytes, expect_eq};
 use jzon_base::error::Error;
 use jzon_test_support::{RUNS_MAX, Refusals, SlowWriter, Trouble};
-use jzon_tree::codegen::{
-    DumpGenerator, Generator, Layout, PrettyGenerator, PrettyWriterGenerator, TextGenerator,
-    WriterGenerator, write_json, write_object,
-};
+use jzon_tree::codegen::{Generator, Layout, TextGenerator, write_json, write_object};
 use jzon_tree::object::Object;
 use jzon_tree::value::JsonValue;
 use std::alloc::{AllocError, Global};
@@ -85,13 +82,14 @@ fn sorting_under_refusals(rt: HostRuntime) -> Tested {
         refusals.begin();
         let result = write_object(&mut generator, &object);
         if !refusals.has_failed() {
-            assert!(rt; result.is_ok());
+            expect(&rt, "no error", result.is_ok());
             expect_bytes(&rt, generator.get_writer(), SORTED);
             break;
         }
-        assert!(rt; result.is_err_and(|error| error.kind() == ErrorKind::OutOfMemory));
-        assert_eq!(rt; generator.faults(), 1);
-        assert!(rt; SORTED.as_bytes().starts_with(generator.get_writer()));
+        expect(&rt, "the error", is_out_of_memory(result));
+        expect_eq(&rt, "the faults", generator.faults(), 1);
+        let is_prefix = SORTED.as_bytes().starts_with(generator.get_writer());
+        expect(&rt, "a prefix", is_prefix);
     }
     refusals.report(&rt, "Sorting", 2)?;
     Ok(())
@@ -104,18 +102,11 @@ fn writes_in_a_layout(rt: HostRuntime) -> Tested {
     let mut bytes: Vec<u8> = Vec::new(alloc);
     value.write_layout(&mut bytes, Sorting { alloc })?;
     expect_bytes(&rt, &bytes, SORTED);
-    Ok(())
-}
-
-#[test]
-fn propagates_the_error_of_the_writer_in_a_layout(rt: HostRuntime) -> Tested {
-    let alloc = rt.alloc();
-    let value = JsonValue::Object(unsorted(alloc)?);
     let trouble = Trouble::Fails(ErrorKind::BrokenPipe);
     let mut writer = SlowWriter::new(alloc, 6, trouble);
     match value.write_layout(&mut writer, Sorting { alloc }) {
-        Ok(()) => assert!(rt; false),
-        Err(error) => assert!(rt; trouble.is_returned(alloc, &error)?),
+        Ok(()) => expect(&rt, "no error", false),
+        Err(error) => expect(&rt, "the error", trouble.is_returned(alloc, &error)?),
     }
     expect_bytes(&rt, &writer.bytes, "{\"a\":");
     Ok(())
@@ -150,37 +141,25 @@ fn propagates_a_failed_order(rt: HostRuntime) -> Tested {
     let alloc = rt.alloc();
     let object = unsorted(alloc)?;
     let mut generator = TextGenerator::in_memory(alloc, Orderless);
-    assert!(rt; is_out_of_memory(write_object(&mut generator, &object)));
-    assert_eq!(rt; generator.faults(), 1);
+    let result = write_object(&mut generator, &object);
+    expect(
+        &rt,
+        "write_object",
+        is_out_of_memory(result) && generator.faults() == 1,
+    );
     let value = JsonValue::Array(vec![in alloc; JsonValue::Object(object)]?);
-    assert!(rt; is_out_of_memory(write_json(&mut generator, &value)));
-    assert_eq!(rt; generator.faults(), 2);
+    let result = write_json(&mut generator, &value);
+    expect(
+        &rt,
+        "write_json",
+        is_out_of_memory(result) && generator.faults() == 2,
+    );
     expect_bytes(&rt, generator.get_writer(), "[");
     let mut bytes: Vec<u8> = Vec::new(alloc);
-    assert!(rt; is_out_of_memory(value.write_layout(&mut bytes, Orderless)));
+    let result = value.write_layout(&mut bytes, Orderless);
+    expect(&rt, "write_layout", is_out_of_memory(result));
     expect_bytes(&rt, &bytes, "[");
-    assert!(rt; matches!(value.lay_out(alloc, Orderless), Err(Error::OutOfMemory)));
-    Ok(())
-}
-
-/// A caller's proof knows the order.
-fn dump_keeps_the_order(alloc: Global, object: &Object) -> bool
-    ensures { result ≡ true }
-{
-    matches!(DumpGenerator::new(alloc).order(object), Ok(None))
-}
-
-fn keeps_the_order<G: Generator>(generator: &mut G, object: &Object) -> bool {
-    matches!(generator.order(object), Ok(None))
-}
-
-#[test]
-fn keep_the_order_of_insertion(rt: HostRuntime) -> Tested {
-    let object = unsorted(rt.alloc())?;
-    let mut bytes: Vec<u8> = Vec::new(rt.alloc());
-    assert!(rt; dump_keeps_the_order(rt.alloc(), &object));
-    assert!(rt; keeps_the_order(&mut PrettyGenerator::new(rt.alloc(), 2), &object));
-    assert!(rt; keeps_the_order(&mut WriterGenerator::new(&mut bytes), &object));
-    assert!(rt; keeps_the_order(&mut PrettyWriterGenerator::new(&mut bytes, 2), &object));
+    let result = value.lay_out(alloc, Orderless);
+    expect(&rt, "lay_out", matches!(result, Err(Error::OutOfMemory)));
     Ok(())
 }

@@ -1,6 +1,6 @@
 //! Each hook of the four generators, called directly.
 
-use crate::common::{Tested, expect_bytes};
+use crate::common::{Tested, expect_bytes, expect_eq};
 use jzon_base::number::Number;
 use jzon_tree::codegen::{
     DumpGenerator, Generator, PrettyGenerator, PrettyWriterGenerator, WriterGenerator,
@@ -91,8 +91,8 @@ fn expect_counts<G: Generator>(
     let (hook, _, _, dent, faults) = row;
     generator.set_dent(2);
     call(generator, hook, object)?;
-    assert_eq!(rt; generator.dent(), dent);
-    assert_eq!(rt; generator.faults(), faults);
+    expect_eq(rt, "the indents", generator.dent(), dent);
+    expect_eq(rt, "the faults", generator.faults(), faults);
     Ok(())
 }
 
@@ -102,10 +102,10 @@ fn hooks_over_memory(rt: HostRuntime) -> Tested {
     for row in ROWS {
         let mut generator = DumpGenerator::new(rt.alloc());
         expect_counts(&rt, &mut generator, row, &object)?;
-        assert_eq!(rt; generator.consume()?.as_str(), row.1);
+        expect_bytes(&rt, generator.consume()?.as_bytes(), row.1);
         let mut generator = PrettyGenerator::new(rt.alloc(), 1);
         expect_counts(&rt, &mut generator, row, &object)?;
-        assert_eq!(rt; generator.consume()?.as_str(), row.2);
+        expect_bytes(&rt, generator.consume()?.as_bytes(), row.2);
     }
     Ok(())
 }

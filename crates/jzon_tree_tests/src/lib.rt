@@ -15,6 +15,8 @@ mod generators;
 #[cfg(test)]
 mod hooks;
 #[cfg(test)]
+mod outlets;
+#[cfg(test)]
 mod printing;
 #[cfg(test)]
 mod writers;

@@ -1,6 +1,6 @@
 //! What is printed, by several calls that print.
 
-use crate::common::{Tested, empty_containers, expect_bytes, numbers};
+use crate::common::{Tested, empty_containers, expect, expect_bytes, expect_eq, numbers};
 use jzon_base::error::Error;
 use jzon_base::number::NAN;
 use jzon_tree::codegen::{
@@ -37,14 +37,14 @@ fn expect_layout<L: Layout + Copy>(
     let mut bytes = Vec::new(alloc);
     value.write_layout(&mut bytes, layout)?;
     expect_bytes(rt, &bytes, text);
-    assert_eq!(rt; value.lay_out(alloc, layout)?.as_str(), text);
+    expect_bytes(rt, value.lay_out(alloc, layout)?.as_bytes(), text);
     Ok(())
 }
 
 /// Each call prints this compact text of the value.
 fn expect_compact(rt: &impl Abort, alloc: Global, value: &JsonValue, text: &str) -> Tested {
-    assert_eq!(rt; value.dump(alloc)?.as_str(), text);
-    assert_eq!(rt; dumped(alloc, value)?.as_str(), text);
+    expect_bytes(rt, value.dump(alloc)?.as_bytes(), text);
+    expect_bytes(rt, dumped(alloc, value)?.as_bytes(), text);
     let mut bytes = Vec::new(alloc);
     value.write(&mut bytes)?;
     expect_bytes(rt, &bytes, text);
@@ -59,8 +59,8 @@ fn expect_pretty(
     spaces: u16,
     text: &str,
 ) -> Tested {
-    assert_eq!(rt; value.pretty(alloc, spaces)?.as_str(), text);
-    assert_eq!(rt; prettified(alloc, value, spaces)?.as_str(), text);
+    expect_bytes(rt, value.pretty(alloc, spaces)?.as_bytes(), text);
+    expect_bytes(rt, prettified(alloc, value, spaces)?.as_bytes(), text);
     let mut bytes = Vec::new(alloc);
     value.write_pretty(&mut bytes, spaces)?;
     expect_bytes(rt, &bytes, text);
@@ -91,11 +91,13 @@ fn prints_numbers(rt: HostRuntime) -> Tested {
 
 #[test]
 fn prints_the_most_spaces(rt: HostRuntime) -> Tested {
-    let value = numbers(rt.alloc(), &[1])?;
-    assert_eq!(rt; value.pretty(rt.alloc(), 65535)?.len(), 65540);
-    assert_eq!(rt; prettified(rt.alloc(), &value, 65535)?.len(), 65540);
-    let nested = JsonValue::Array(vec![in rt.alloc(); value]?);
-    assert_eq!(rt; nested.pretty(rt.alloc(), 65535)?.len(), 262149);
+    let alloc = rt.alloc();
+    let value = numbers(alloc, &[1])?;
+    expect_eq(&rt, "pretty", value.pretty(alloc, 65535)?.len(), 65540);
+    let text = prettified(alloc, &value, 65535)?;
+    expect_eq(&rt, "PrettyGenerator", text.len(), 65540);
+    let nested = JsonValue::Array(vec![in alloc; value]?);
+    expect_eq(&rt, "nested", nested.pretty(alloc, 65535)?.len(), 262149);
     Ok(())
 }
 
@@ -105,7 +107,11 @@ fn prettifies_an_object(rt: HostRuntime) -> Tested {
     object.insert(rt.alloc(), "a", JsonValue::Null)?;
     object.insert(rt.alloc(), "b", numbers(rt.alloc(), &[2])?)?;
     let text = object.pretty(rt.alloc(), 1)?;
-    assert_eq!(rt; text.as_str(), "{\n \"a\": null,\n \"b\": [\n  2\n ]\n}");
+    expect_bytes(
+        &rt,
+        text.as_bytes(),
+        "{\n \"a\": null,\n \"b\": [\n  2\n ]\n}",
+    );
     Ok(())
 }
 
@@ -121,10 +127,10 @@ const COMPLEX: &str = "ab\\\"c\"ab\"c\"";
 fn writes_the_rest_escaped(rt: HostRuntime) -> Tested {
     let mut generator = DumpGenerator::new(rt.alloc());
     write_complex(&mut generator)?;
-    assert_eq!(rt; generator.consume()?.as_str(), COMPLEX);
+    expect_bytes(&rt, generator.consume()?.as_bytes(), COMPLEX);
     let mut generator = PrettyGenerator::new(rt.alloc(), 2);
     write_complex(&mut generator)?;
-    assert_eq!(rt; generator.consume()?.as_str(), COMPLEX);
+    expect_bytes(&rt, generator.consume()?.as_bytes(), COMPLEX);
     Ok(())
 }
 
@@ -137,23 +143,27 @@ fn writes_the_rest_escaped_to_a_writer(rt: HostRuntime) -> Tested {
     Ok(())
 }
 
+/// The length of a string, the room for it, and whether it is added.
+const ADDED: &[(usize, usize, bool)] = &[
+    (0, 33, false),
+    (0, 34, true),
+    (32, 33, false),
+    (32, 34, true),
+    (33, 100, false),
+];
+
 /// Strings of up to 32 bytes are added at once where there is room for 34.
 #[test]
 fn adds_short_strings_where_there_is_room(rt: HostRuntime) -> Tested {
-    for (len, room, is_added) in [
-        (0, 33, false),
-        (0, 34, true),
-        (32, 33, false),
-        (32, 34, true),
-        (33, 100, false),
-    ] {
-        let mut bytes = Vec::with_capacity(rt.alloc(), room)?;
-        assert_eq!(rt; push_short(&mut bytes, &[b'a'; 33][..len]), is_added);
-        assert_eq!(rt; bytes.is_empty(), !is_added);
+    for (len, room, is_added) in ADDED {
+        let mut bytes = Vec::with_capacity(rt.alloc(), *room)?;
+        let string = [b'a'; 33].get(..*len).unwrap_or(b"");
+        expect_eq(&rt, "added", push_short(&mut bytes, string), *is_added);
+        expect_eq(&rt, "the bytes", bytes.is_empty(), !*is_added);
     }
     let mut bytes = Vec::with_capacity(rt.alloc(), 100)?;
-    assert!(rt; push_short(&mut bytes, b"ab"));
-    assert!(rt; !push_short(&mut bytes, b"a\n"));
+    expect(&rt, "ab", push_short(&mut bytes, b"ab"));
+    expect(&rt, "a newline", !push_short(&mut bytes, b"a\n"));
     expect_bytes(&rt, &bytes, "\"ab\"");
     Ok(())
 }
@@ -162,9 +172,9 @@ fn adds_short_strings_where_there_is_room(rt: HostRuntime) -> Tested {
 fn fails_at_an_indent_too_many(rt: HostRuntime) {
     let mut generator = DumpGenerator::new(rt.alloc());
     generator.set_dent(u64::MAX);
-    assert!(rt; generator.indent().is_err());
-    assert_eq!(rt; generator.dent(), u64::MAX);
-    assert_eq!(rt; generator.faults(), 1);
+    expect(&rt, "the result", generator.indent().is_err());
+    expect_eq(&rt, "the indents", generator.dent(), u64::MAX);
+    expect_eq(&rt, "the faults", generator.faults(), 1);
 }
 
 fn dump_of_bytes(alloc: Global, bytes: &[u8]) -> Result<Result<String, Error>, Fail> {
@@ -179,15 +189,34 @@ fn pretty_of_bytes(alloc: Global, bytes: &[u8]) -> Result<Result<String, Error>,
     Ok(generator.consume())
 }
 
+/// Bytes that aren't UTF-8.
+const FOREIGN: &[&[u8]] = &[b"\xff", b"\xc3", b"\xed\xa0\x80"];
+
 #[test]
 fn consumes_no_foreign_bytes(rt: HostRuntime) -> Tested {
-    for bytes in [b"\xff".as_slice(), b"\xc3", b"\xed\xa0\x80"] {
+    for bytes in FOREIGN {
         let dump = dump_of_bytes(rt.alloc(), bytes)?;
-        assert!(rt; matches!(dump, Err(Error::FailedUtf8Parsing)));
+        expect(
+            &rt,
+            "compact",
+            matches!(dump, Err(Error::FailedUtf8Parsing)),
+        );
         let pretty = pretty_of_bytes(rt.alloc(), bytes)?;
-        assert!(rt; matches!(pretty, Err(Error::FailedUtf8Parsing)));
+        expect(
+            &rt,
+            "pretty",
+            matches!(pretty, Err(Error::FailedUtf8Parsing)),
+        );
     }
-    assert_eq!(rt; dump_of_bytes(rt.alloc(), b"\xc3\xa9")??.as_str(), "é");
-    assert_eq!(rt; pretty_of_bytes(rt.alloc(), b"\xc3\xa9")??.as_str(), "é");
+    expect_bytes(
+        &rt,
+        dump_of_bytes(rt.alloc(), b"\xc3\xa9")??.as_bytes(),
+        "é",
+    );
+    expect_bytes(
+        &rt,
+        pretty_of_bytes(rt.alloc(), b"\xc3\xa9")??.as_bytes(),
+        "é",
+    );
     Ok(())
 }

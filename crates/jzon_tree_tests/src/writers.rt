@@ -1,6 +1,6 @@
 //! Writers that fail.
 
-use crate::common::{Tested, expect_bytes, numbers};
+use crate::common::{Tested, expect, expect_bytes, expect_eq, numbers};
 use jzon_test_support::{SlowWriter, Trouble};
 use jzon_tree::codegen::{
     Generator, PrettyWriterGenerator, WriterGenerator, write_json, write_object,
@@ -32,7 +32,7 @@ fn returns_the_error_of_an_object(rt: HostRuntime) -> Tested {
     object.insert(rt.alloc(), "a", JsonValue::Null)?;
     let mut writer = broken_at(rt.alloc(), 3);
     let result = write_object(&mut WriterGenerator::new(&mut writer), &object);
-    assert!(rt; is_broken(rt.alloc(), result)?);
+    expect(&rt, "the error", is_broken(rt.alloc(), result)?);
     expect_bytes(&rt, &writer.bytes, "{\"");
     Ok(())
 }
@@ -43,9 +43,9 @@ fn notes_one_fault(rt: HostRuntime) -> Tested {
     let mut writer = broken_at(rt.alloc(), 4);
     let mut generator = PrettyWriterGenerator::new(&mut writer, 2);
     let result = write_json(&mut generator, &value);
-    assert!(rt; is_broken(rt.alloc(), result)?);
-    assert_eq!(rt; generator.dent(), 1);
-    assert_eq!(rt; generator.faults(), 1);
+    expect(&rt, "the error", is_broken(rt.alloc(), result)?);
+    expect_eq(&rt, "the indents", generator.dent(), 1);
+    expect_eq(&rt, "the faults", generator.faults(), 1);
     expect_bytes(&rt, &writer.bytes, "[\n ");
     Ok(())
 }

@@ -1,0 +1,134 @@
+//! A user's own outlet: a buffer that takes what it has room for at once.
+
+use crate::common::{Tested, expect_bytes, expect_eq};
+use jzon_base::error::Result;
+use jzon_base::number::{NAN, Number};
+use jzon_tree::codegen::{Compact, Outlet, Pretty, push_digits, push_line, push_short};
+use jzon_tree::value::JsonValue;
+use std::alloc::Global;
+use std::io;
+use std::io::Write;
+
+/// Memory, and how many strings, numbers and starts of lines it took at once.
+#[derive(Drop)]
+struct Buffer {
+    bytes: Vec<u8>,
+    strings: usize,
+    numbers: usize,
+    lines: usize,
+}
+
+impl Buffer {
+    fn new(bytes: Vec<u8>) -> Buffer {
+        Buffer {
+            bytes,
+            strings: 0,
+            numbers: 0,
+            lines: 0,
+        }
+    }
+}
+
+impl Write for Buffer {
+    ghost use Rattle.std.specs.Prelude.{Some};
+
+    ghost contents = { λ buffer. Some buffer.bytes.items };
+
+    fn write(&mut self, buf: &[u8]) -> io::Result<usize> {
+        self.bytes.extend_from_slice(buf)?;
+        Ok(buf.len())
+    }
+
+    fn flush(&mut self) -> io::Result<()> {
+        Ok(())
+    }
+}
+
+impl Outlet for Buffer {
+    fn put_string(&mut self, string: &[u8]) -> bool {
+        let is_added = push_short(&mut self.bytes, string);
+        self.strings = self.strings.saturating_add(usize::from(is_added));
+        is_added
+    }
+
+    fn put_number(&mut self, number: &Number) -> bool {
+        let is_added = push_digits(&mut self.bytes, number);
+        self.numbers = self.numbers.saturating_add(usize::from(is_added));
+        is_added
+    }
+
+    fn put_line(&mut self, spaces: u128) -> bool {
+        let is_added = push_line(&mut self.bytes, spaces);
+        self.lines = self.lines.saturating_add(usize::from(is_added));
+        is_added
+    }
+}
+
+/// An outlet that takes nothing at once.
+#[derive(Drop)]
+struct Plain {
+    bytes: Vec<u8>,
+}
+
+impl Write for Plain {
+    ghost use Rattle.std.specs.Prelude.{Some};
+
+    ghost contents = { λ plain. Some plain.bytes.items };
+
+    fn write(&mut self, buf: &[u8]) -> io::Result<usize> {
+        self.bytes.extend_from_slice(buf)?;
+        Ok(buf.len())
+    }
+
+    fn flush(&mut self) -> io::Result<()> {
+        Ok(())
+    }
+}
+
+impl Outlet for Plain {}
+
+/// Strings and numbers of which one each is taken at once, NaN, and an empty array.
+fn mixed(alloc: Global) -> Result<JsonValue> {
+    let mut array = JsonValue::new_array(alloc);
+    array.push(alloc, "ab")?;
+    array.push(alloc, "a\n")?;
+    array.push(alloc, Number::from_parts_unchecked(false, 125, -1))?;
+    array.push(alloc, Number::from_parts_unchecked(true, 1, 30))?;
+    array.push(alloc, NAN)?;
+    array.push(alloc, JsonValue::new_array(alloc))?;
+    Ok(array)
+}
+
+const ON_ONE_LINE: &str = "[\"ab\",\"a\\n\",-12.5,1e30,null,[]]";
+
+const ON_LINES: &str = "[\n \"ab\",\n \"a\\n\",\n -12.5,\n 1e30,\n null,\n []\n]";
+
+#[test]
+fn writes_to_a_buffer_with_room(rt: HostRuntime) -> Tested {
+    let value = mixed(rt.alloc())?;
+    let mut buffer = Buffer::new(Vec::with_capacity(rt.alloc(), 200)?);
+    value.write_outlet(&mut buffer, Compact)?;
+    expect_bytes(&rt, &buffer.bytes, ON_ONE_LINE);
+    expect_eq(&rt, "the strings", buffer.strings, 1);
+    expect_eq(&rt, "the numbers", buffer.numbers, 1);
+    expect_eq(&rt, "the lines", buffer.lines, 0);
+    buffer.bytes.clear();
+    value.write_outlet(&mut buffer, Pretty(1))?;
+    expect_bytes(&rt, &buffer.bytes, ON_LINES);
+    expect_eq(&rt, "the lines", buffer.lines, 7);
+    Ok(())
+}
+
+#[test]
+fn writes_to_outlets_without_room(rt: HostRuntime) -> Tested {
+    let value = mixed(rt.alloc())?;
+    let mut buffer = Buffer::new(Vec::new(rt.alloc()));
+    value.write_outlet(&mut buffer, Pretty(1))?;
+    expect_bytes(&rt, &buffer.bytes, ON_LINES);
+    let mut plain = Plain {
+        bytes: Vec::new(rt.alloc()),
+    };
+    value.write_outlet(&mut plain, Compact)?;
+    expect_bytes(&rt, &plain.bytes, ON_ONE_LINE);
+    Ok(())
+}
