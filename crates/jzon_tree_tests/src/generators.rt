@@ -112,9 +112,37 @@ fn writes_in_a_layout(rt: HostRuntime) -> Tested {
     Ok(())
 }
 
+/// A layout whose style allows any whitespace, with two spaces an indent.
+#[derive(Clone, Copy)]
+struct Spacious;
+
+impl Layout for Spacious {
+    ghost style = { λ _. any_style };
+
+    fn spaces(&self) -> Option<u16> {
+        Some(2)
+    }
+
+    fn order(&self, _object: &Object) -> Result<Option<Vec<usize>>, AllocError> {
+        Ok(None)
+    }
+
+    ghost style_law = { λ _. IsStyle-any };
+}
+
+const SPACIOUS: &str = "{\n  \"c\": null,\n  \"b\": null,\n  \"a\": null\n}";
+
+#[test]
+fn writes_the_spaces_of_a_layout(rt: HostRuntime) -> Tested {
+    let value = JsonValue::Object(unsorted(rt.alloc())?);
+    let text = value.lay_out(rt.alloc(), Spacious)?;
+    expect_bytes(&rt, text.as_bytes(), SPACIOUS);
+    Ok(())
+}
+
 /// A layout whose `order` always fails.
 #[derive(Clone, Copy)]
-struct Orderless;
+pub struct Orderless;
 
 impl Layout for Orderless {
     ghost style = { λ _. any_style };
@@ -130,7 +158,8 @@ impl Layout for Orderless {
     ghost style_law = { λ _. IsStyle-any };
 }
 
-fn is_out_of_memory(outcome: io::Result<()>) -> bool {
+/// The error is that of a failed allocation.
+pub fn is_out_of_memory(outcome: io::Result<()>) -> bool {
     outcome.is_err_and(|error| error.kind() == ErrorKind::OutOfMemory)
 }
 

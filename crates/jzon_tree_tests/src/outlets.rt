@@ -1,6 +1,7 @@
 //! A user's own outlet: a buffer that takes what it has room for at once.
 
-use crate::common::{Tested, expect_bytes, expect_eq};
+use crate::common::{Tested, expect, expect_bytes, expect_eq};
+use crate::generators::{Orderless, is_out_of_memory};
 use jzon_base::error::Result;
 use jzon_base::number::{NAN, Number};
 use jzon_tree::codegen::{Compact, Outlet, Pretty, push_digits, push_line, push_short};
@@ -128,7 +129,23 @@ fn writes_to_outlets_without_room(rt: HostRuntime) -> Tested {
     let mut plain = Plain {
         bytes: Vec::new(rt.alloc()),
     };
+    let number = Number::from_parts_unchecked(true, 7, 0);
+    let is_taken = plain.put_string(b"a") || plain.put_number(&number) || plain.put_line(1);
+    expect(&rt, "nothing is taken", !is_taken && plain.bytes.is_empty());
     value.write_outlet(&mut plain, Compact)?;
     expect_bytes(&rt, &plain.bytes, ON_ONE_LINE);
+    Ok(())
+}
+
+#[test]
+fn returns_the_error_of_order(rt: HostRuntime) -> Tested {
+    let mut array = JsonValue::new_array(rt.alloc());
+    array.push(rt.alloc(), JsonValue::new_object(rt.alloc()))?;
+    let mut plain = Plain {
+        bytes: Vec::new(rt.alloc()),
+    };
+    let result = array.write_outlet(&mut plain, Orderless);
+    expect(&rt, "the error", is_out_of_memory(result));
+    expect_bytes(&rt, &plain.bytes, "[");
     Ok(())
 }

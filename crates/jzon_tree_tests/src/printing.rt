@@ -86,6 +86,8 @@ fn prints_numbers(rt: HostRuntime) -> Tested {
     expect_compact(&rt, rt.alloc(), &value, "[1,2]")?;
     expect_pretty(&rt, rt.alloc(), &value, 4, "[\n    1,\n    2\n]")?;
     expect_pretty(&rt, rt.alloc(), &value, 0, "[\n1,\n2\n]")?;
+    let one = numbers(rt.alloc(), &[1])?;
+    expect_pretty(&rt, rt.alloc(), &one, 0, "[\n1\n]")?;
     expect_compact(&rt, rt.alloc(), &JsonValue::Number(NAN), "null")
 }
 
@@ -189,6 +191,13 @@ fn pretty_of_bytes(alloc: Global, bytes: &[u8]) -> Result<Result<String, Error>,
     Ok(generator.consume())
 }
 
+/// The bytes are given to the writer itself.
+fn writer_of_bytes(alloc: Global, bytes: &[u8]) -> Result<Result<String, Error>, Fail> {
+    let mut generator = DumpGenerator::new(alloc);
+    generator.get_writer().extend_from_slice(bytes)?;
+    Ok(generator.consume())
+}
+
 /// Bytes that aren't UTF-8.
 const FOREIGN: &[&[u8]] = &[b"\xff", b"\xc3", b"\xed\xa0\x80"];
 
@@ -200,6 +209,12 @@ fn consumes_no_foreign_bytes(rt: HostRuntime) -> Tested {
             &rt,
             "compact",
             matches!(dump, Err(Error::FailedUtf8Parsing)),
+        );
+        let written = writer_of_bytes(rt.alloc(), bytes)?;
+        expect(
+            &rt,
+            "by the writer",
+            matches!(written, Err(Error::FailedUtf8Parsing)),
         );
         let pretty = pretty_of_bytes(rt.alloc(), bytes)?;
         expect(
