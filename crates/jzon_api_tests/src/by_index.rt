@@ -1,6 +1,6 @@
 //! The members of an object by their positions.
 
-use crate::common::{Tested, is_entry, number};
+use crate::common::{Tested, expect, expect_text, is_entry, number};
 use jzon::object::Object;
 use std::alloc::Global;
 
@@ -11,28 +11,26 @@ fn two_members(alloc: Global) -> jzon::Result<Object> {
     Ok(object)
 }
 
-#[test]
-fn reads_by_position(rt: HostRuntime) -> Tested {
-    let object = two_members(rt.alloc())?;
-    for (index, key, value) in [(0, "b", 1), (1, "a", 2)] {
-        assert!(rt; is_entry(object.get_index(index), key, value));
-    }
-    assert!(rt; object.get_index(2).is_none());
-    Ok(())
-}
+/// A position, and the text of the object after 9 is written there.
+const WRITTEN: &[(usize, &str)] = &[
+    (0, "{\"b\":9,\"a\":2}"),
+    (1, "{\"b\":1,\"a\":9}"),
+    (2, "{\"b\":1,\"a\":2}"),
+];
 
 #[test]
-fn writes_by_position(rt: HostRuntime) -> Tested {
-    for (index, expected) in [
-        (0, "{\"b\":9,\"a\":2}"),
-        (1, "{\"b\":1,\"a\":9}"),
-        (2, "{\"b\":1,\"a\":2}"),
-    ] {
-        let mut object = two_members(rt.alloc())?;
-        if let Some(value) = object.get_index_mut(index) {
+fn reads_and_writes_by_position(rt: HostRuntime) -> Tested {
+    let alloc = rt.alloc();
+    let object = two_members(alloc)?;
+    expect(&rt, "at 0", is_entry(object.get_index(0), "b", 1));
+    expect(&rt, "at 1", is_entry(object.get_index(1), "a", 2));
+    expect(&rt, "at 2", object.get_index(2).is_none());
+    for (index, text) in WRITTEN {
+        let mut object = two_members(alloc)?;
+        if let Some(value) = object.get_index_mut(*index) {
             *value = number(9);
         }
-        assert_eq!(rt; object.dump(rt.alloc())?.as_str(), expected);
+        expect_text(&rt, alloc, &object, text)?;
     }
     Ok(())
 }

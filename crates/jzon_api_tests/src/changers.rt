@@ -2,32 +2,31 @@
 
 ghost use Rattle.std.specs.Prelude.{◌≡◌};
 
-use crate::common::{Tested, expect_dump, long};
+use crate::common::{Tested, expect, expect_dump, expect_eq, long};
 use jzon::{Error, IntoJson, JsonValue, Result, parse};
 use std::alloc::Global;
 use std::process::Abort;
 
-/// `clear` makes the value one that dumps `after`. A `Short` stays a `Short`.
-fn expect_cleared(rt: &impl Abort, alloc: Global, mut value: JsonValue, after: &str) -> Tested {
-    let is_short = matches!(value, JsonValue::Short(_));
-    value.clear();
-    assert_eq!(rt; matches!(value, JsonValue::Short(_)), is_short);
-    expect_dump(rt, alloc, &value, after)
-}
+/// A value, and what `clear` leaves of it.
+const CLEARED: &[(&str, &str)] = &[
+    ("null", "null"),
+    ("true", "null"),
+    ("7", "null"),
+    ("\"abc\"", "\"\""),
+    ("\"abcdefghijklmnopqrstuvwxyz01234\"", "\"\""),
+    ("{\"a\":1,\"b\":2}", "{}"),
+    ("[1,2,3]", "[]"),
+];
 
+/// A `Short` stays a `Short`.
 #[test]
 fn clears(rt: HostRuntime) -> Tested {
-    let rows = [
-        ("null", "null"),
-        ("true", "null"),
-        ("7", "null"),
-        ("\"abc\"", "\"\""),
-        ("\"abcdefghijklmnopqrstuvwxyz01234\"", "\"\""),
-        ("{\"a\":1,\"b\":2}", "{}"),
-        ("[1,2,3]", "[]"),
-    ];
-    for (before, after) in rows {
-        expect_cleared(&rt, rt.alloc(), parse(rt.alloc(), before)?, after)?;
+    for (before, after) in CLEARED {
+        let mut value = parse(rt.alloc(), before)?;
+        let is_short = matches!(value, JsonValue::Short(_));
+        value.clear();
+        expect_eq(&rt, before, matches!(value, JsonValue::Short(_)), is_short);
+        expect_dump(&rt, rt.alloc(), &value, after)?;
     }
     Ok(())
 }
@@ -36,104 +35,107 @@ fn clears(rt: HostRuntime) -> Tested {
 fn takes(rt: HostRuntime) -> Tested {
     let mut value = parse(rt.alloc(), "[1,2,3]")?;
     let taken = value.take();
-    assert!(rt; value.is_null());
+    expect(&rt, "null is left", value.is_null());
     expect_dump(&rt, rt.alloc(), &taken, "[1,2,3]")
 }
 
 /// `take_string` returns `taken`, and what is left dumps `left`.
-fn expect_text(
+fn expect_taken(
     rt: &impl Abort,
     alloc: Global,
-    mut value: JsonValue,
+    value: &mut JsonValue,
     taken: Option<&str>,
     left: &str,
 ) -> Tested {
-    let text = value.take_string(alloc)?;
-    assert_eq!(rt; text.as_ref().map(|text| text.as_str()), taken);
-    expect_dump(rt, alloc, &value, left)
+    match value.take_string(alloc)? {
+        Some(text) => expect_eq(rt, left, Some(text.as_str()), taken),
+        None => expect(rt, left, taken.is_none()),
+    }
+    expect_dump(rt, alloc, value, left)
 }
+
+/// A value, and what `take_string` returns and leaves.
+const TAKEN: &[(&str, Option<&str>, &str)] = &[
+    ("\"abc\"", Some("abc"), "null"),
+    ("null", None, "null"),
+    ("7", None, "7"),
+    ("true", None, "true"),
+    ("{\"a\":1,\"b\":2}", None, "{\"a\":1,\"b\":2}"),
+    ("[1,2,3]", None, "[1,2,3]"),
+];
 
 #[test]
 fn takes_strings(rt: HostRuntime) -> Tested {
-    let rows = [
-        ("\"abc\"", Some("abc"), "null"),
-        ("null", None, "null"),
-        ("7", None, "7"),
-        ("true", None, "true"),
-        ("{\"a\":1,\"b\":2}", None, "{\"a\":1,\"b\":2}"),
-        ("[1,2,3]", None, "[1,2,3]"),
-    ];
-    for (before, taken, left) in rows {
-        expect_text(&rt, rt.alloc(), parse(rt.alloc(), before)?, taken, left)?;
+    let alloc = rt.alloc();
+    for (before, taken, left) in TAKEN {
+        expect_taken(&rt, alloc, &mut parse(alloc, before)?, *taken, left)?;
     }
-    expect_text(
-        &rt,
-        rt.alloc(),
-        long(rt.alloc(), "abc")?,
-        Some("abc"),
-        "null",
-    )
+    expect_taken(&rt, alloc, &mut long(alloc, "abc")?, Some("abc"), "null")
 }
 
+/// A call that removes.
+#[derive(Clone, Copy)]
+enum Removal {
+    Pop,
+    At(usize),
+    Key(&'static str),
+}
+
+impl Removal {
+    fn from(self, value: &mut JsonValue) -> JsonValue {
+        match self {
+            Removal::Pop => value.pop(),
+            Removal::At(index) => value.array_remove(index),
+            Removal::Key(key) => value.remove(key),
+        }
+    }
+}
+
+/// A call, the value before it, what is removed, and what is left.
+const REMOVED: &[(Removal, &str, &str, &str)] = &[
+    (Removal::Pop, "[1,2,3]", "3", "[1,2]"),
+    (Removal::Pop, "[1]", "1", "[]"),
+    (Removal::Pop, "[]", "null", "[]"),
+    (Removal::Pop, "7", "null", "7"),
+    (Removal::Pop, "{\"a\":1}", "null", "{\"a\":1}"),
+    (Removal::At(0), "[1,2,3]", "1", "[2,3]"),
+    (Removal::At(1), "[1,2,3]", "2", "[1,3]"),
+    (Removal::At(2), "[1,2]", "null", "[1,2]"),
+    (Removal::At(5), "[1,2]", "null", "[1,2]"),
+    (Removal::At(0), "7", "null", "7"),
+    (Removal::At(0), "{\"a\":1}", "null", "{\"a\":1}"),
+    (
+        Removal::Key("b"),
+        "{\"a\":1,\"b\":2,\"c\":3}",
+        "2",
+        "{\"a\":1,\"c\":3}",
+    ),
+    (Removal::Key("b"), "{\"a\":1}", "null", "{\"a\":1}"),
+    (Removal::Key("b"), "7", "null", "7"),
+    (Removal::Key("b"), "[1]", "null", "[1]"),
+];
+
 #[test]
-fn pops(rt: HostRuntime) -> Tested {
-    let rows = [
-        ("[1,2,3]", "3", "[1,2]"),
-        ("[1]", "1", "[]"),
-        ("[]", "null", "[]"),
-        ("7", "null", "7"),
-        ("{\"a\":1}", "null", "{\"a\":1}"),
-    ];
-    for (before, popped, left) in rows {
+fn removes(rt: HostRuntime) -> Tested {
+    for (removal, before, removed, left) in REMOVED {
         let mut value = parse(rt.alloc(), before)?;
-        expect_dump(&rt, rt.alloc(), &value.pop(), popped)?;
+        let taken = removal.from(&mut value);
+        expect_dump(&rt, rt.alloc(), &taken, removed)?;
         expect_dump(&rt, rt.alloc(), &value, left)?;
     }
     Ok(())
 }
 
-#[test]
-fn removes_elements(rt: HostRuntime) -> Tested {
-    let rows = [
-        ("[1,2,3]", 0, "1", "[2,3]"),
-        ("[1,2,3]", 1, "2", "[1,3]"),
-        ("[1,2]", 2, "null", "[1,2]"),
-        ("[1,2]", 5, "null", "[1,2]"),
-        ("7", 0, "null", "7"),
-        ("{\"a\":1}", 0, "null", "{\"a\":1}"),
-    ];
-    for (before, index, removed, left) in rows {
-        let mut value = parse(rt.alloc(), before)?;
-        expect_dump(&rt, rt.alloc(), &value.array_remove(index), removed)?;
-        expect_dump(&rt, rt.alloc(), &value, left)?;
-    }
-    Ok(())
-}
-
-#[test]
-fn removes_members(rt: HostRuntime) -> Tested {
-    let rows = [
-        ("{\"a\":1,\"b\":2,\"c\":3}", "2", "{\"a\":1,\"c\":3}"),
-        ("{\"a\":1}", "null", "{\"a\":1}"),
-        ("7", "null", "7"),
-        ("[1]", "null", "[1]"),
-    ];
-    for (before, removed, left) in rows {
-        let mut value = parse(rt.alloc(), before)?;
-        expect_dump(&rt, rt.alloc(), &value.remove("b"), removed)?;
-        expect_dump(&rt, rt.alloc(), &value, left)?;
-    }
-    Ok(())
-}
+/// An object, and what it is with null under `b`.
+const INSERTED: &[(&str, &str)] = &[
+    ("{}", "{\"b\":null}"),
+    ("{\"a\":1,\"c\":3}", "{\"a\":1,\"c\":3,\"b\":null}"),
+    ("{\"a\":1,\"b\":2,\"c\":3}", "{\"a\":1,\"b\":null,\"c\":3}"),
+];
 
 #[test]
 fn inserts_members(rt: HostRuntime) -> Tested {
-    let rows = [
-        ("{}", "{\"b\":null}"),
-        ("{\"a\":1,\"c\":3}", "{\"a\":1,\"c\":3,\"b\":null}"),
-        ("{\"a\":1,\"b\":2,\"c\":3}", "{\"a\":1,\"b\":null,\"c\":3}"),
-    ];
-    for (before, after) in rows {
+    for (before, after) in INSERTED {
         let mut value = parse(rt.alloc(), before)?;
         value.insert(rt.alloc(), "b", JsonValue::Null)?;
         expect_dump(&rt, rt.alloc(), &value, after)?;
@@ -158,44 +160,44 @@ impl IntoJson for Unconvertible {
 /// The call failed with this message.
 fn expect_failed(rt: &impl Abort, alloc: Global, outcome: Result<()>, message: &str) -> Tested {
     match outcome {
-        Ok(()) => assert!(rt; false, "no error"),
-        Err(error) => assert_eq!(rt; error.to_string(alloc)?.as_str(), message),
+        Ok(()) => expect(rt, "no error", false),
+        Err(error) => {
+            let text = error.to_string(alloc)?;
+            expect_eq(rt, message, text.as_str(), message);
+        }
     }
     Ok(())
 }
+
+/// A value, and the messages of a failed `push` and a failed `insert`.
+const FAILED: &[(&str, &str, &str)] = &[
+    (
+        "null",
+        "Wrong type, expected: Array",
+        "Wrong type, expected: Object",
+    ),
+    (
+        "5",
+        "Wrong type, expected: Array",
+        "Wrong type, expected: Object",
+    ),
+    ("[1]", "Out of memory", "Wrong type, expected: Object"),
+    ("{\"a\":1}", "Wrong type, expected: Array", "Out of memory"),
+];
 
 /// The kind of the value is tested before the conversion of what is put into it. A failed call
 /// changes nothing.
 #[test]
 fn fails_on_another_kind(rt: HostRuntime) -> Tested {
-    let rows = [
-        (
-            "null",
-            "Wrong type, expected: Array",
-            "Wrong type, expected: Object",
-        ),
-        (
-            "5",
-            "Wrong type, expected: Array",
-            "Wrong type, expected: Object",
-        ),
-        ("[1]", "Out of memory", "Wrong type, expected: Object"),
-        ("{\"a\":1}", "Wrong type, expected: Array", "Out of memory"),
-    ];
-    for (text, pushed, inserted) in rows {
-        let mut value = parse(rt.alloc(), text)?;
-        let result = value.push(rt.alloc(), Unconvertible);
-        expect_failed(&rt, rt.alloc(), result, pushed)?;
-        let result = value.insert(rt.alloc(), "a", Unconvertible);
-        expect_failed(&rt, rt.alloc(), result, inserted)?;
-        expect_dump(&rt, rt.alloc(), &value, text)?;
-    }
-    Ok(())
-}
-
-#[test]
-fn pushes_to_arrays_alone(rt: HostRuntime) -> Tested {
     let alloc = rt.alloc();
+    for (text, pushed, inserted) in FAILED {
+        let mut value = parse(alloc, text)?;
+        let result = value.push(alloc, Unconvertible);
+        expect_failed(&rt, alloc, result, pushed)?;
+        let result = value.insert(alloc, "a", Unconvertible);
+        expect_failed(&rt, alloc, result, inserted)?;
+        expect_dump(&rt, alloc, &value, text)?;
+    }
     let mut value = parse(alloc, "5")?;
     let result = value.push(alloc, 1);
     expect_failed(&rt, alloc, result, "Wrong type, expected: Array")?;

@@ -1,12 +1,25 @@
-//! What the tests share.
+//! What the tests share. To prove an assertion takes seconds, and a call of `expect` or `expect_eq`
+//! hardly any time.
 
 use jzon::JsonValue;
 use jzon::number::Number;
+use jzon::object::Object;
 use std::alloc::Global;
+use std::fmt::Debug;
 use std::process::Abort;
 use std::test::Fail;
 
 pub type Tested = std::result::Result<(), Fail>;
+
+/// It holds of this row.
+pub fn expect(rt: &impl Abort, row: &str, holds: bool) {
+    assert!(rt; holds, "{row}");
+}
+
+/// Both are equal, in this row.
+pub fn expect_eq<T: Copy + PartialEq + Debug>(rt: &impl Abort, row: &str, found: T, want: T) {
+    assert_eq!(rt; found, want, "{row}");
+}
 
 /// A number of these parts.
 pub fn parts(positive: bool, mantissa: u64, exponent: i16) -> JsonValue {
@@ -25,7 +38,16 @@ pub fn long(alloc: Global, text: &str) -> jzon::Result<JsonValue> {
 
 /// The value dumps this text.
 pub fn expect_dump(rt: &impl Abort, alloc: Global, value: &JsonValue, text: &str) -> Tested {
-    assert_eq!(rt; value.dump(alloc)?.as_str(), text);
+    let dump = value.dump(alloc)?;
+    expect_eq(rt, text, dump.as_str(), text);
+    Ok(())
+}
+
+/// The object dumps this text, and is empty only if that is `{}`.
+pub fn expect_text(rt: &impl Abort, alloc: Global, object: &Object, text: &str) -> Tested {
+    let dump = object.dump(alloc)?;
+    expect_eq(rt, text, dump.as_str(), text);
+    expect_eq(rt, text, object.is_empty(), text == "{}");
     Ok(())
 }
 

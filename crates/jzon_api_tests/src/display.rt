@@ -1,5 +1,6 @@
 //! What `{}` shows of a value.
 
+use crate::common::{expect, expect_eq};
 use jzon::number::NAN;
 use jzon::{JsonValue, parse};
 use jzon_test_support::NO_FAILING_CALL;
@@ -9,54 +10,43 @@ use std::fmt::Write;
 use std::process::Abort;
 use std::test::Fail;
 
-/// What is shown of the value that the text means.
-fn shown(alloc: Global, text: &str) -> Result<String, Fail> {
-    let value = parse(alloc, text)?;
-    Ok(format!(in alloc; "{value}")?)
+/// A text, and what is shown of its value.
+const SHOWN: &[(&str, &str)] = &[
+    ("\"foobar\"", "foobar"),
+    ("42", "42"),
+    ("true", "true"),
+    ("false", "false"),
+    ("null", "null"),
+    ("[1, true, \"three\"]", "[1,true,\"three\"]"),
+    (
+        "{\"foo\": \"bar\", \"answer\": 42}",
+        "{\"foo\":\"bar\",\"answer\":42}",
+    ),
+    ("\"a\\n\\\"\\u0001é\"", "a\n\"\u{1}é"),
+    ("[\"a\\n\\\"\\u001fé\"]", "[\"a\\n\\\"\\u001fé\"]"),
+    ("[[], {}, [[]]]", "[[],{},[[]]]"),
+    (
+        "\"a text of more than thirty bytes\\\\\"",
+        "a text of more than thirty bytes\\",
+    ),
+    ("-12.50e3", "-12500"),
+];
+
+fn expect_shown(rt: &impl Abort, alloc: Global, value: &JsonValue, text: &str) -> Result<(), Fail> {
+    let shown = format!(in alloc; "{value}")?;
+    expect_eq(rt, text, shown.as_str(), text);
+    Ok(())
 }
 
 #[test]
 fn shows(rt: HostRuntime) -> Result<(), Fail> {
-    let rows = [
-        ("\"foobar\"", "foobar"),
-        ("42", "42"),
-        ("true", "true"),
-        ("false", "false"),
-        ("null", "null"),
-        ("[1, true, \"three\"]", "[1,true,\"three\"]"),
-        (
-            "{\"foo\": \"bar\", \"answer\": 42}",
-            "{\"foo\":\"bar\",\"answer\":42}",
-        ),
-        ("\"a\\n\\\"\\u0001é\"", "a\n\"\u{1}é"),
-        ("[\"a\\n\\\"\\u001fé\"]", "[\"a\\n\\\"\\u001fé\"]"),
-        ("[[], {}, [[]]]", "[[],{},[[]]]"),
-        (
-            "\"a text of more than thirty bytes\\\\\"",
-            "a text of more than thirty bytes\\",
-        ),
-        ("-12.50e3", "-12500"),
-    ];
-    for (text, want) in rows {
-        assert_eq!(rt; shown(rt.alloc(), text)?.as_str(), want);
+    let alloc = rt.alloc();
+    for (source, text) in SHOWN {
+        expect_shown(&rt, alloc, &parse(alloc, source)?, text)?;
     }
-    Ok(())
-}
-
-fn not_a_number(alloc: Global, inside: bool) -> Result<String, Fail> {
-    let value = JsonValue::Number(NAN);
-    if inside {
-        let array = jzon::array![alloc; value];
-        return Ok(format!(in alloc; "{array}")?);
-    }
-    Ok(format!(in alloc; "{value}")?)
-}
-
-#[test]
-fn shows_not_a_number(rt: HostRuntime) -> Result<(), Fail> {
-    assert_eq!(rt; not_a_number(rt.alloc(), false)?.as_str(), "nan");
-    assert_eq!(rt; not_a_number(rt.alloc(), true)?.as_str(), "[null]");
-    Ok(())
+    expect_shown(&rt, alloc, &JsonValue::Number(NAN), "nan")?;
+    let array = jzon::array![alloc; JsonValue::Number(NAN)];
+    expect_shown(&rt, alloc, &array, "[null]")
 }
 
 /// Takes one piece a call, and fails at one call.
@@ -96,75 +86,67 @@ fn show_failing(alloc: Global, value: &JsonValue, fails_at: usize) -> (bool, Fai
 /// shown after it.
 fn expect_failures(rt: &impl Abort, alloc: Global, value: &JsonValue, whole: &str) {
     let (is_shown, formatter) = show_failing(alloc, value, NO_FAILING_CALL);
-    assert!(rt; is_shown);
-    assert_eq!(rt; formatter.text.as_str(), whole);
+    expect(rt, whole, is_shown);
+    expect_eq(rt, "the whole", formatter.text.as_str(), whole);
     for call in 1..=formatter.calls {
         let (is_shown, formatter) = show_failing(alloc, value, call);
-        assert!(rt; !is_shown, "{whole}, call {call}");
-        assert_eq!(rt; formatter.calls, call, "{whole}");
-        assert!(rt;
-            whole.starts_with(formatter.text.as_str()),
-            "{whole}, call {call}"
-        );
+        expect(rt, whole, !is_shown && formatter.calls == call);
+        expect(rt, whole, whole.starts_with(formatter.text.as_str()));
     }
 }
 
+/// A text, and what is shown of its value.
+const STOPPED: &[(&str, &str)] = &[
+    ("\"foobar\"", "foobar"),
+    ("42", "42"),
+    ("null", "null"),
+    (
+        "{\"a\\n\":[1.50,true,\"b\\u0001\\\"c\"],\"d\":{},\"e\":null}",
+        "{\"a\\n\":[1.50,true,\"b\\u0001\\\"c\"],\"d\":{},\"e\":null}",
+    ),
+];
+
 #[test]
 fn stops_where_the_formatter_fails(rt: HostRuntime) -> Result<(), Fail> {
-    let rows = [
-        ("\"foobar\"", "foobar"),
-        ("42", "42"),
-        ("null", "null"),
-        (
-            "{\"a\\n\":[1.50,true,\"b\\u0001\\\"c\"],\"d\":{},\"e\":null}",
-            "{\"a\\n\":[1.50,true,\"b\\u0001\\\"c\"],\"d\":{},\"e\":null}",
-        ),
-    ];
-    for (source, whole) in rows {
+    for (source, whole) in STOPPED {
         expect_failures(&rt, rt.alloc(), &parse(rt.alloc(), source)?, whole);
     }
     Ok(())
 }
 
-/// What is shown with flags, a width, a fill or a precision: one text for each.
-fn shown_with_flags(alloc: Global, value: &JsonValue) -> Result<[String; 8], Fail> {
-    Ok([
-        format!(in alloc; "{value:#}")?,
-        format!(in alloc; "{value:+}")?,
-        format!(in alloc; "{value:40}")?,
-        format!(in alloc; "{value:>40}")?,
-        format!(in alloc; "{value:^40}")?,
-        format!(in alloc; "{value:*<40}")?,
-        format!(in alloc; "{value:040}")?,
-        format!(in alloc; "{value:.1}")?,
-    ])
-}
+/// A value of each kind.
+const EACH_KIND: &[&str] = &[
+    "null",
+    "true",
+    "false",
+    "0",
+    "7",
+    "-12.50",
+    "\"\"",
+    "\"ab\"",
+    "\"abcdefghijklmnopqrstuvwxyz01234\"",
+    "[]",
+    "[1]",
+    "[\"ab\",-7,null,true]",
+    "{}",
+    "{\"ab\":[1],\"c\":\"d\"}",
+];
 
+/// Flags, a width, a fill and a precision change nothing.
 #[test]
 fn ignores_width_fill_and_the_alternate_form(rt: HostRuntime) -> Result<(), Fail> {
     let alloc = rt.alloc();
-    let texts = [
-        "null",
-        "true",
-        "false",
-        "0",
-        "7",
-        "-12.50",
-        "\"\"",
-        "\"ab\"",
-        "\"abcdefghijklmnopqrstuvwxyz01234\"",
-        "[]",
-        "[1]",
-        "[\"ab\",-7,null,true]",
-        "{}",
-        "{\"ab\":[1],\"c\":\"d\"}",
-    ];
-    for text in texts {
+    for text in EACH_KIND {
         let value = parse(alloc, text)?;
-        let plain = shown(alloc, text)?;
-        for with_flags in &shown_with_flags(alloc, &value)? {
-            assert!(rt; with_flags.as_str() == plain.as_str(), "{text}");
-        }
+        let plain = format!(in alloc; "{value}")?;
+        let alternate = format!(in alloc; "{value:#}")?;
+        expect_eq(&rt, text, alternate.as_str(), plain.as_str());
+        let right = format!(in alloc; "{value:>+40}")?;
+        expect_eq(&rt, text, right.as_str(), plain.as_str());
+        let filled = format!(in alloc; "{value:*^40}")?;
+        expect_eq(&rt, text, filled.as_str(), plain.as_str());
+        let cut = format!(in alloc; "{value:040.1}")?;
+        expect_eq(&rt, text, cut.as_str(), plain.as_str());
     }
     Ok(())
 }

@@ -4,6 +4,7 @@ ghost use Rattle.std.specs.Prelude.{◌∷◌, [], false, Some, None, refl};
 ghost use Rattle.jzon.specs.StyleLaws.{IsStyle-only};
 ghost use Rattle.jzon.specs.Styles.{only};
 
+use crate::common::{expect, expect_eq};
 use jzon::codegen::{Generator, write_json};
 use jzon::object::Object;
 use jzon::parse;
@@ -88,10 +89,8 @@ fn goes_round(alloc: Global, source: &str) -> Result<(Vec<u8>, bool), Fail> {
 #[test]
 fn reads_vertical_tabs(rt: HostRuntime) -> Result<(), Fail> {
     let (bytes, is_equal) = goes_round(rt.alloc(), "[1,2]")?;
-    assert_eq!(rt;
-        bytes.as_slice(),
-        [0x5b, 0x0b, 0x31, 0x2c, 0x0b, 0x32, 0x0b, 0x5d].as_slice()
-    );
-    assert!(rt; is_equal);
+    let expected = b"\x5b\x0b\x31\x2c\x0b\x32\x0b\x5d".as_slice();
+    expect_eq(&rt, "the bytes", bytes.as_slice(), expected);
+    expect(&rt, "read back", is_equal);
     Ok(())
 }

@@ -1,6 +1,6 @@
 //! Many keys, and keys that are hostile to an index over hashes.
 
-use crate::common::{Tested, is_entry};
+use crate::common::{Tested, expect, expect_eq, is_entry};
 use jzon::object::Object;
 use jzon::{JsonValue, parse};
 use jzon_test_support::{keys_by_hash, keys_of_one_hash, object_text};
@@ -10,11 +10,11 @@ use std::process::Abort;
 /// The object of these keys has each of them, and no other.
 fn expect_keys(rt: &impl Abort, alloc: Global, keys: &[String]) -> Tested {
     let value = parse(alloc, object_text(alloc, keys)?.as_str())?;
-    assert_eq!(rt; value.len(), keys.len());
+    expect_eq(rt, "the number of keys", value.len(), keys.len());
     for key in keys {
-        assert!(rt; value.has_key(key.as_str()));
+        expect(rt, key.as_str(), value.has_key(key.as_str()));
     }
-    assert!(rt; !value.has_key("another"));
+    expect(rt, "another", !value.has_key("another"));
     Ok(())
 }
 
@@ -44,11 +44,9 @@ fn a_thousand(alloc: Global) -> jzon::Result<Object> {
 /// Removes those of even numbers, in ascending order.
 fn remove_even(rt: &impl Abort, alloc: Global, object: &mut Object) -> Tested {
     for number in (0..1000).step_by(2) {
-        let removed = object.remove(key(alloc, number)?.as_str());
-        assert!(rt;
-            removed.is_some_and(|value| value.eq_u64(number)),
-            "{number}"
-        );
+        let name = key(alloc, number)?;
+        let removed = object.remove(name.as_str()).unwrap_or(JsonValue::Null);
+        expect(rt, name.as_str(), removed.eq_u64(number));
     }
     Ok(())
 }
@@ -57,15 +55,15 @@ fn remove_even(rt: &impl Abort, alloc: Global, object: &mut Object) -> Tested {
 fn expect_odd(rt: &impl Abort, alloc: Global, object: &Object) -> Tested {
     let mut entries = object.iter();
     for number in (1..1000).step_by(2) {
-        assert!(rt;
-            is_entry(entries.next(), key(alloc, number)?.as_str(), number),
-            "{number}"
-        );
+        let name = key(alloc, number)?;
+        let is_next = is_entry(entries.next(), name.as_str(), number);
+        expect(rt, name.as_str(), is_next);
     }
-    assert!(rt; entries.next().is_none());
+    expect(rt, "no more", entries.next().is_none());
     for number in 0..1000 {
-        let found = object.get(key(alloc, number)?.as_str());
-        assert_eq!(rt; found.is_some(), number % 2 == 1, "{number}");
+        let name = key(alloc, number)?;
+        let is_there = object.get(name.as_str()).is_some();
+        expect_eq(rt, name.as_str(), is_there, number % 2 == 1);
     }
     Ok(())
 }
@@ -77,7 +75,12 @@ fn keeps_a_thousand_keys(rt: HostRuntime) -> Tested {
     remove_even(&rt, alloc, &mut object)?;
     expect_odd(&rt, alloc, &object)?;
     object.insert(alloc, "k0", JsonValue::Null)?;
-    assert_eq!(rt; object.iter().next_back().map(|entry| entry.0), Some("k0"));
-    assert_eq!(rt; object.len(), 501);
+    let last = object.iter().next_back();
+    expect(
+        &rt,
+        "the last key",
+        matches!(last, Some(("k0", JsonValue::Null))),
+    );
+    expect_eq(&rt, "the number of keys", object.len(), 501);
     Ok(())
 }

@@ -1,10 +1,10 @@
 //! Values far beyond what is kept inline, compared in place, or made room for in advance: each call
 //! that may run out of memory succeeds at a thousand elements or members, and at long strings.
 
-use crate::common::Tested;
+use crate::common::{Tested, expect};
 use jzon::codegen::{Compact, Pretty};
 use jzon::object::Object;
-use jzon::{IntoJson, JsonValue, Reading, Result, parse, parse_as};
+use jzon::{IntoJson, JsonValue, Reading, Result, parse, parse_as, stringify, stringify_pretty};
 use jzon_test_support::joined;
 use std::alloc::{AllocError, Global};
 use std::collections::{BTreeMap, HashMap};
@@ -57,16 +57,21 @@ fn strings(alloc: Global) -> std::result::Result<[(String, String); 2], AllocErr
 
 /// What prints a value in the compact layout prints this text.
 fn expect_printed(rt: &impl Abort, alloc: Global, value: &JsonValue, text: &str) -> Tested {
-    assert!(rt; value.dump(alloc)?.as_str() == text);
-    assert!(rt; value.lay_out(alloc, Compact)?.as_str() == text);
+    expect(rt, "dump", value.dump(alloc)?.as_str() == text);
+    expect(
+        rt,
+        "lay_out",
+        value.lay_out(alloc, Compact)?.as_str() == text,
+    );
     let mut bytes: Vec<u8> = Vec::new(alloc);
     value.write(&mut bytes)?;
-    assert!(rt; bytes.as_slice() == text.as_bytes());
+    expect(rt, "write", bytes.as_slice() == text.as_bytes());
     let pretty = value.pretty(alloc, 2)?;
-    assert!(rt; value.lay_out(alloc, Pretty(2))?.as_str() == pretty.as_str());
+    let lines = value.lay_out(alloc, Pretty(2))?;
+    expect(rt, "lay_out on lines", lines.as_str() == pretty.as_str());
     let mut bytes: Vec<u8> = Vec::new(alloc);
     value.write_pretty(&mut bytes, 2)?;
-    assert!(rt; bytes.as_slice() == pretty.as_bytes());
+    expect(rt, "write_pretty", bytes.as_slice() == pretty.as_bytes());
     Ok(())
 }
 
@@ -80,15 +85,21 @@ fn expect_whole(
     shown: &str,
 ) -> Tested {
     expect_printed(rt, alloc, value, text)?;
-    assert!(rt; format!(in alloc; "{value}")?.as_str() == shown);
-    assert!(rt; *value == parse(alloc, text)?);
-    assert!(rt; *value == parse(alloc, value.pretty(alloc, 2)?.as_str())?);
+    let formatted = format!(in alloc; "{value}")?;
+    expect(rt, "Display", formatted.as_str() == shown);
+    expect(rt, "parse", *value == parse(alloc, text)?);
+    let lines = value.pretty(alloc, 2)?;
+    expect(
+        rt,
+        "parse of lines",
+        *value == parse(alloc, lines.as_str())?,
+    );
     let strict = Reading::new(true, 512).unwrap();
-    assert!(rt; *value == parse_as(alloc, text, &strict)?);
+    expect(rt, "parse_as", *value == parse_as(alloc, text, &strict)?);
     let copy = value.clone(alloc)?;
     expect_printed(rt, alloc, &copy, text)?;
-    assert!(rt; *value == copy);
-    assert!(rt; *value == Clone::clone(&copy)?);
+    expect(rt, "clone", *value == copy);
+    expect(rt, "std's clone", *value == Clone::clone(&copy)?);
     Ok(())
 }
 
@@ -102,7 +113,20 @@ fn long_strings(rt: HostRuntime) -> Tested {
         expect_whole(&rt, alloc, &owned.into_json(alloc)?, text, string)?;
         let mut value = parse(alloc, text)?;
         let taken = value.take_string(alloc)?;
-        assert!(rt; taken.is_some_and(|taken| taken.as_str() == string));
+        let taken = taken.unwrap_or(String::new(alloc));
+        expect(&rt, "take_string", taken.as_str() == string);
+    }
+    Ok(())
+}
+
+/// As elements, which `Display` too shows in quotes and escaped.
+#[test]
+fn long_strings_inside(rt: HostRuntime) -> Tested {
+    let alloc = rt.alloc();
+    for (_, text) in &strings(alloc)? {
+        let inside = joined(alloc, &[("[", 1), (text.as_str(), 1), ("]", 1)])?;
+        let array = parse(alloc, inside.as_str())?;
+        expect_whole(&rt, alloc, &array, inside.as_str(), inside.as_str())?;
     }
     Ok(())
 }
@@ -122,14 +146,40 @@ fn listed(alloc: Global) -> Result<JsonValue> {
     numbers.into_json(alloc)
 }
 
+/// By the conversion of a slice.
+fn sliced(alloc: Global) -> Result<JsonValue> {
+    let numbers: Vec<u32> = (0..COUNT).collect(alloc)?;
+    numbers.as_slice().into_json(alloc)
+}
+
+/// By an index past the end, again and again.
+fn indexed(alloc: Global) -> Result<JsonValue> {
+    let mut array = JsonValue::new_array(alloc);
+    for number in 0..COUNT {
+        *array.at_index_mut(alloc, usize::MAX)? = JsonValue::from(number);
+    }
+    Ok(array)
+}
+
 #[test]
 fn long_arrays(rt: HostRuntime) -> Tested {
     let alloc = rt.alloc();
     let text = array_text(alloc)?;
-    for mut array in [pushed(alloc)?, listed(alloc)?] {
+    let arrays = [
+        pushed(alloc)?,
+        listed(alloc)?,
+        sliced(alloc)?,
+        indexed(alloc)?,
+    ];
+    for mut array in arrays {
         expect_whole(&rt, alloc, &array, text.as_str(), text.as_str())?;
-        assert!(rt; array.pop().eq_u64(999) && array.array_remove(500).eq_u64(500));
-        assert!(rt; array.len() == 998 && array.at_index(500).eq_u64(501));
+        expect(&rt, "pop", array.pop().eq_u64(999));
+        expect(&rt, "array_remove", array.array_remove(500).eq_u64(500));
+        expect(
+            &rt,
+            "what is left",
+            array.len() == 998 && array.at_index(500).eq_u64(501),
+        );
     }
     Ok(())
 }
@@ -212,14 +262,41 @@ fn large_objects(rt: HostRuntime) -> Tested {
     let whole = parse(alloc, text.as_str())?;
     for made in MADE {
         let mut object = made.make(alloc, &names)?;
-        assert!(rt; object == whole && object.len() == 1000);
+        expect(&rt, "the whole", object == whole && object.len() == 1000);
         if matches!(made, Made::FromHashMap) {
-            assert!(rt; object.dump(alloc)?.len() == text.len());
+            expect(&rt, "the length", object.dump(alloc)?.len() == text.len());
         } else {
             expect_whole(&rt, alloc, &object, text.as_str(), text.as_str())?;
         }
-        assert!(rt; object.remove("0500").eq_u64(500) && !object.has_key("0500"));
-        assert!(rt; object.at("0999").eq_u64(999));
+        expect(&rt, "remove", object.remove("0500").eq_u64(500));
+        expect(&rt, "has_key", !object.has_key("0500"));
+        expect(&rt, "at", object.at("0999").eq_u64(999));
     }
+    Ok(())
+}
+
+/// Calls on an object itself, and those that turn a value into a text.
+#[test]
+fn calls_on_a_large_object(rt: HostRuntime) -> Tested {
+    let alloc = rt.alloc();
+    let text = object_text(alloc)?;
+    let value = parse(alloc, text.as_str())?;
+    let lines = value.pretty(alloc, 2)?;
+    if let Some(object) = value.as_object() {
+        expect(
+            &rt,
+            "Object::dump",
+            object.dump(alloc)?.as_str() == text.as_str(),
+        );
+        let printed = object.pretty(alloc, 2)?;
+        expect(&rt, "Object::pretty", printed.as_str() == lines.as_str());
+        expect(&rt, "Object::clone", object.clone(alloc)? == *object);
+    }
+    let printed = stringify(alloc, value.clone(alloc)?)?;
+    expect(&rt, "stringify", printed.as_str() == text.as_str());
+    let printed = stringify_pretty(alloc, value, 2)?;
+    expect(&rt, "stringify_pretty", printed.as_str() == lines.as_str());
+    let room = Object::with_capacity(alloc, 100_000)?;
+    expect(&rt, "with_capacity", room.is_empty());
     Ok(())
 }

@@ -7,39 +7,32 @@ ghost use Rattle.jzon_tree.specs.Readers.{entries};
 ghost use Rattle.jzon_tree.specs.Value.{null, array, object, values_of, pairs_of};
 ghost use Rattle.jzon_tree.specs.View.{view};
 
-use crate::common::{Tested, expect_dump, number};
+use crate::common::{Tested, expect, expect_dump, expect_text, number};
 use jzon::lent::{write_at, write_at_index, write_present};
 use jzon::object::Object;
 use jzon::{JsonValue, Result, parse};
 use std::alloc::Global;
 use std::process::Abort;
 
-/// The member `a` dumps `borrowed`. It is written, and then the whole dumps `after`.
-fn expect_key(
-    rt: &impl Abort,
-    alloc: Global,
-    mut value: JsonValue,
-    borrowed: &str,
-    after: &str,
-) -> Tested {
-    let place = value.at_mut(alloc, "a")?;
-    expect_dump(rt, alloc, place, borrowed)?;
-    *place = number(7);
-    expect_dump(rt, alloc, &value, after)
-}
+/// A value, what `at_mut` of `a` lends, and the whole after 7 is written there.
+const KEYS: &[(&str, &str, &str)] = &[
+    ("{\"a\":1}", "1", "{\"a\":7}"),
+    ("{\"b\":1}", "null", "{\"b\":1,\"a\":7}"),
+    ("{}", "null", "{\"a\":7}"),
+    ("null", "null", "{\"a\":7}"),
+    ("5", "null", "{\"a\":7}"),
+    ("[1,2]", "null", "{\"a\":7}"),
+];
 
 #[test]
 fn makes_keys(rt: HostRuntime) -> Tested {
-    let rows = [
-        ("{\"a\":1}", "1", "{\"a\":7}"),
-        ("{\"b\":1}", "null", "{\"b\":1,\"a\":7}"),
-        ("{}", "null", "{\"a\":7}"),
-        ("null", "null", "{\"a\":7}"),
-        ("5", "null", "{\"a\":7}"),
-        ("[1,2]", "null", "{\"a\":7}"),
-    ];
-    for (before, borrowed, after) in rows {
-        expect_key(&rt, rt.alloc(), parse(rt.alloc(), before)?, borrowed, after)?;
+    let alloc = rt.alloc();
+    for (before, borrowed, after) in KEYS {
+        let mut value = parse(alloc, before)?;
+        let place = value.at_mut(alloc, "a")?;
+        expect_dump(&rt, alloc, place, borrowed)?;
+        *place = number(7);
+        expect_dump(&rt, alloc, &value, after)?;
     }
     Ok(())
 }
@@ -51,47 +44,29 @@ fn makes_keys_of_keys(rt: HostRuntime) -> Tested {
     expect_dump(&rt, rt.alloc(), &value, "{\"foo\":{\"bar\":100}}")
 }
 
-/// The element at this index dumps `borrowed`, and the whole then dumps `made`.
-fn expect_made(
-    rt: &impl Abort,
-    alloc: Global,
-    mut value: JsonValue,
-    index: usize,
-    borrowed: &str,
-    made: &str,
-) -> Tested {
-    expect_dump(rt, alloc, value.at_index_mut(alloc, index)?, borrowed)?;
-    expect_dump(rt, alloc, &value, made)
-}
-
-/// The element at this index is written, and the whole then dumps `after`.
-fn expect_written(
-    rt: &impl Abort,
-    alloc: Global,
-    mut value: JsonValue,
-    index: usize,
-    after: &str,
-) -> Tested {
-    *value.at_index_mut(alloc, index)? = number(7);
-    expect_dump(rt, alloc, &value, after)
-}
+/// A value, an index, what `at_index_mut` lends there, the whole then, and the whole after 7 is
+/// written there.
+const ELEMENTS: &[(&str, usize, &str, &str, &str)] = &[
+    ("5", 7, "null", "[null,null]", "[null,7]"),
+    ("5", 0, "null", "[null]", "[7]"),
+    ("{\"a\":1}", 1, "null", "[null,null]", "[null,7]"),
+    ("[1]", 9, "null", "[1,null]", "[1,7]"),
+    ("[1]", 1, "null", "[1,null]", "[1,7]"),
+    ("[]", 0, "null", "[null]", "[7]"),
+    ("[1,2,3]", 1, "2", "[1,2,3]", "[1,7,3]"),
+    ("[1,2,3]", 2, "3", "[1,2,3]", "[1,2,7]"),
+];
 
 #[test]
 fn makes_elements(rt: HostRuntime) -> Tested {
     let alloc = rt.alloc();
-    let rows = [
-        ("5", 7, "null", "[null,null]", "[null,7]"),
-        ("5", 0, "null", "[null]", "[7]"),
-        ("{\"a\":1}", 1, "null", "[null,null]", "[null,7]"),
-        ("[1]", 9, "null", "[1,null]", "[1,7]"),
-        ("[1]", 1, "null", "[1,null]", "[1,7]"),
-        ("[]", 0, "null", "[null]", "[7]"),
-        ("[1,2,3]", 1, "2", "[1,2,3]", "[1,7,3]"),
-        ("[1,2,3]", 2, "3", "[1,2,3]", "[1,2,7]"),
-    ];
-    for (before, index, borrowed, made, written) in rows {
-        expect_made(&rt, alloc, parse(alloc, before)?, index, borrowed, made)?;
-        expect_written(&rt, alloc, parse(alloc, before)?, index, written)?;
+    for (before, index, borrowed, made, written) in ELEMENTS {
+        let mut value = parse(alloc, before)?;
+        expect_dump(&rt, alloc, value.at_index_mut(alloc, *index)?, borrowed)?;
+        expect_dump(&rt, alloc, &value, made)?;
+        let mut value = parse(alloc, before)?;
+        *value.at_index_mut(alloc, *index)? = number(7);
+        expect_dump(&rt, alloc, &value, written)?;
     }
     Ok(())
 }
@@ -101,36 +76,38 @@ fn makes_elements(rt: HostRuntime) -> Tested {
 fn borrow_nothing(rt: &impl Abort, alloc: Global, text: &str) -> Tested {
     let mut value = parse(alloc, text)?;
     if !value.is_object() {
-        assert!(rt; value.get_mut("a").is_none() && value.as_object_mut().is_none());
-        assert!(rt; value.entries_mut().next().is_none(), "{text}");
+        expect(rt, text, value.get_mut("a").is_none());
+        expect(rt, text, value.as_object_mut().is_none());
+        expect(rt, text, value.entries_mut().next().is_none());
     }
     if !value.is_array() {
-        assert!(rt; value.as_array_mut().is_none());
-        assert!(rt; value.members_mut().next().is_none(), "{text}");
+        expect(rt, text, value.as_array_mut().is_none());
+        expect(rt, text, value.members_mut().next().is_none());
     }
-    assert!(rt; value == parse(alloc, text)?, "{text}");
     expect_dump(rt, alloc, &value, text)
 }
 
+/// A value of each kind.
+const EACH_KIND: &[&str] = &[
+    "null",
+    "true",
+    "false",
+    "1",
+    "-1.50",
+    "\"\"",
+    "\"a\"",
+    "\"abcdefghijklmnopqrstuvwxyz01234\"",
+    "[]",
+    "[1]",
+    "[true,[\"a\"]]",
+    "{}",
+    "{\"a\":1}",
+    "{\"b\":true,\"a\":[false]}",
+];
+
 #[test]
 fn borrows_nothing_of_another_kind(rt: HostRuntime) -> Tested {
-    let texts = [
-        "null",
-        "true",
-        "false",
-        "1",
-        "-1.50",
-        "\"\"",
-        "\"a\"",
-        "\"abcdefghijklmnopqrstuvwxyz01234\"",
-        "[]",
-        "[1]",
-        "[true,[\"a\"]]",
-        "{}",
-        "{\"a\":1}",
-        "{\"b\":true,\"a\":[false]}",
-    ];
-    for text in texts {
+    for text in EACH_KIND {
         borrow_nothing(&rt, rt.alloc(), text)?;
     }
     Ok(())
@@ -138,26 +115,22 @@ fn borrows_nothing_of_another_kind(rt: HostRuntime) -> Tested {
 
 #[test]
 fn borrows_what_is_there(rt: HostRuntime) -> Tested {
-    let mut value = parse(rt.alloc(), "{\"a\":[1]}")?;
-    assert!(rt; value.get_mut("b").is_none());
-    assert!(rt; value.as_array_mut().is_none());
+    let alloc = rt.alloc();
+    let mut value = parse(alloc, "{\"a\":[1]}")?;
+    expect(&rt, "no b", value.get_mut("b").is_none());
     if let Some(place) = value.get_mut("a") {
-        place.push(rt.alloc(), 2)?;
+        place.push(alloc, 2)?;
     }
-    expect_dump(&rt, rt.alloc(), &value, "{\"a\":[1,2]}")?;
+    expect_dump(&rt, alloc, &value, "{\"a\":[1,2]}")?;
     if let Some(object) = value.as_object_mut() {
         object.clear();
     }
-    expect_dump(&rt, rt.alloc(), &value, "{}")
-}
-
-#[test]
-fn borrows_elements(rt: HostRuntime) -> Tested {
-    let mut value = parse(rt.alloc(), "[1]")?;
+    expect_dump(&rt, alloc, &value, "{}")?;
+    let mut value = parse(alloc, "[1]")?;
     if let Some(items) = value.as_array_mut() {
         items.clear();
     }
-    expect_dump(&rt, rt.alloc(), &value, "[]")
+    expect_dump(&rt, alloc, &value, "[]")
 }
 
 /// From the back, each element becomes the one that was taken before it, and the last one null.
@@ -181,31 +154,27 @@ fn move_entries(value: &mut JsonValue) {
     }
 }
 
-fn expect_members(rt: &impl Abort, alloc: Global, mut value: JsonValue, after: &str) -> Tested {
-    move_members(&mut value);
-    expect_dump(rt, alloc, &value, after)
-}
-
-fn expect_entries(rt: &impl Abort, alloc: Global, mut value: JsonValue, after: &str) -> Tested {
-    move_entries(&mut value);
-    expect_dump(rt, alloc, &value, after)
-}
+/// A value, and the whole after its members are moved, and after its entries are.
+const MOVED: &[(&str, &str, &str)] = &[
+    ("[1,2,3]", "[2,3,null]", "[1,2,3]"),
+    ("[]", "[]", "[]"),
+    (
+        "{\"a\":1,\"b\":2,\"c\":3}",
+        "{\"a\":1,\"b\":2,\"c\":3}",
+        "{\"a\":2,\"b\":null,\"c\":null}",
+    ),
+    ("7", "7", "7"),
+];
 
 #[test]
 fn borrows_members_and_entries(rt: HostRuntime) -> Tested {
-    let rows = [
-        ("[1,2,3]", "[2,3,null]", "[1,2,3]"),
-        ("[]", "[]", "[]"),
-        (
-            "{\"a\":1,\"b\":2,\"c\":3}",
-            "{\"a\":1,\"b\":2,\"c\":3}",
-            "{\"a\":2,\"b\":null,\"c\":null}",
-        ),
-        ("7", "7", "7"),
-    ];
-    for (before, members, entries) in rows {
-        expect_members(&rt, rt.alloc(), parse(rt.alloc(), before)?, members)?;
-        expect_entries(&rt, rt.alloc(), parse(rt.alloc(), before)?, entries)?;
+    for (before, members, entries) in MOVED {
+        let mut value = parse(rt.alloc(), before)?;
+        move_members(&mut value);
+        expect_dump(&rt, rt.alloc(), &value, members)?;
+        let mut value = parse(rt.alloc(), before)?;
+        move_entries(&mut value);
+        expect_dump(&rt, rt.alloc(), &value, entries)?;
     }
     Ok(())
 }
@@ -214,47 +183,24 @@ fn borrows_members_and_entries(rt: HostRuntime) -> Tested {
 fn writes(rt: HostRuntime) -> Tested {
     let alloc = rt.alloc();
     let mut value = JsonValue::Null;
-    assert!(rt; !write_present(&mut value, "a", number(1)));
+    expect(&rt, "no a", !write_present(&mut value, "a", number(1)));
     put_value(&mut value, alloc, "a", number(2))?;
     expect_dump(&rt, alloc, &value, "{\"a\":2}")?;
-    assert!(rt; write_present(&mut value, "a", number(3)));
+    expect(&rt, "a", write_present(&mut value, "a", number(3)));
     expect_dump(&rt, alloc, &value, "{\"a\":3}")?;
     put_item(&mut value, alloc, 1, number(4))?;
     expect_dump(&rt, alloc, &value, "[null,4]")
 }
 
-/// The value of this key dumps `borrowed`, and is then this number.
-fn expect_borrowed(
-    rt: &impl Abort,
-    alloc: Global,
-    object: &mut Object,
-    key: &str,
-    borrowed: &str,
-    written: u64,
-) -> Tested {
-    let place = object.at_mut(alloc, key)?;
-    expect_dump(rt, alloc, place, borrowed)?;
-    *place = number(written);
-    Ok(())
-}
-
 #[test]
 fn objects_make_keys(rt: HostRuntime) -> Tested {
-    let mut object = Object::new(rt.alloc());
-    for (key, borrowed, written) in [
-        ("a", "null", 0u64),
-        ("b", "null", 1),
-        ("b", "1", 1),
-        ("a", "0", 2),
-    ] {
-        expect_borrowed(&rt, rt.alloc(), &mut object, key, borrowed, written)?;
-    }
-    expect_dump(
-        &rt,
-        rt.alloc(),
-        &JsonValue::Object(object),
-        "{\"a\":2,\"b\":1}",
-    )
+    let alloc = rt.alloc();
+    let mut object = Object::new(alloc);
+    *object.at_mut(alloc, "a")? = number(1);
+    expect(&rt, "b", object.at_mut(alloc, "b")?.is_null());
+    expect(&rt, "a", object.at_mut(alloc, "a")?.eq_u64(1));
+    *object.at_mut(alloc, "a")? = number(2);
+    expect_text(&rt, alloc, &object, "{\"a\":2,\"b\":null}")
 }
 
 /// A caller's proof knows what was written.

@@ -1,6 +1,6 @@
 //! Objects.
 
-use crate::common::{Tested, expect_dump, is_entry, number, parts};
+use crate::common::{Tested, expect, expect_dump, expect_eq, expect_text, is_entry, number, parts};
 use jzon::object::{Iter, IterMut, Object};
 use jzon::{Error, JsonValue, Result, parse};
 use std::alloc::Global;
@@ -14,20 +14,16 @@ fn object_of(alloc: Global, text: &str) -> Result<Object> {
     }
 }
 
-fn expect_text(rt: &impl Abort, alloc: Global, object: &Object, text: &str) -> Tested {
-    assert_eq!(rt; object.dump(alloc)?.as_str(), text);
-    assert_eq!(rt; object.is_empty(), text == "{}");
-    Ok(())
-}
+/// An object, and what it is after 9 is inserted under `a`.
+const INSERTED: &[(&str, &str)] = &[
+    ("{}", "{\"a\":9}"),
+    ("{\"a\":1,\"b\":2}", "{\"a\":9,\"b\":2}"),
+    ("{\"b\":1,\"c\":2}", "{\"b\":1,\"c\":2,\"a\":9}"),
+];
 
 #[test]
 fn inserts(rt: HostRuntime) -> Tested {
-    let rows = [
-        ("{}", "{\"a\":9}"),
-        ("{\"a\":1,\"b\":2}", "{\"a\":9,\"b\":2}"),
-        ("{\"b\":1,\"c\":2}", "{\"b\":1,\"c\":2,\"a\":9}"),
-    ];
-    for (before, after) in rows {
+    for (before, after) in INSERTED {
         let mut object = object_of(rt.alloc(), before)?;
         object.insert(rt.alloc(), "a", number(9))?;
         expect_text(&rt, rt.alloc(), &object, after)?;
@@ -35,38 +31,24 @@ fn inserts(rt: HostRuntime) -> Tested {
     Ok(())
 }
 
-/// `remove` of `a` returns `removed`, and leaves `left`.
-fn expect_removed(
-    rt: &impl Abort,
-    alloc: Global,
-    mut object: Object,
-    removed: Option<&str>,
-    left: &str,
-) -> Tested {
-    match (object.remove("a"), removed) {
-        (Some(value), Some(removed)) => expect_dump(rt, alloc, &value, removed)?,
-        (value, _) => assert!(rt; value.is_none() && removed.is_none()),
-    }
-    expect_text(rt, alloc, &object, left)
-}
+/// An object, what `remove` of `a` returns, and what it leaves.
+const REMOVED: &[(&str, Option<&str>, &str)] = &[
+    ("{\"a\":1}", Some("1"), "{}"),
+    ("{\"a\":1,\"b\":2,\"c\":3}", Some("1"), "{\"b\":2,\"c\":3}"),
+    ("{\"b\":1,\"a\":2,\"c\":3}", Some("2"), "{\"b\":1,\"c\":3}"),
+    ("{\"b\":1}", None, "{\"b\":1}"),
+    ("{}", None, "{}"),
+];
 
 #[test]
 fn removes(rt: HostRuntime) -> Tested {
-    let rows = [
-        ("{\"a\":1}", Some("1"), "{}"),
-        ("{\"a\":1,\"b\":2,\"c\":3}", Some("1"), "{\"b\":2,\"c\":3}"),
-        ("{\"b\":1,\"a\":2,\"c\":3}", Some("2"), "{\"b\":1,\"c\":3}"),
-        ("{\"b\":1}", None, "{\"b\":1}"),
-        ("{}", None, "{}"),
-    ];
-    for (before, removed, left) in rows {
-        expect_removed(
-            &rt,
-            rt.alloc(),
-            object_of(rt.alloc(), before)?,
-            removed,
-            left,
-        )?;
+    for (before, removed, left) in REMOVED {
+        let mut object = object_of(rt.alloc(), before)?;
+        match (object.remove("a"), removed) {
+            (Some(value), Some(removed)) => expect_dump(&rt, rt.alloc(), &value, removed)?,
+            (value, _) => expect(&rt, before, value.is_none() && removed.is_none()),
+        }
+        expect_text(&rt, rt.alloc(), &object, left)?;
     }
     Ok(())
 }
@@ -76,26 +58,27 @@ fn removes(rt: HostRuntime) -> Tested {
 fn puts_a_removed_key_last(rt: HostRuntime) -> Tested {
     let alloc = rt.alloc();
     let mut object = object_of(alloc, "{\"a\":1,\"b\":2,\"c\":3}")?;
-    assert!(rt; object.remove("x").is_none());
+    expect(&rt, "no x", object.remove("x").is_none());
     expect_text(&rt, alloc, &object, "{\"a\":1,\"b\":2,\"c\":3}")?;
-    assert!(rt; object.remove("b").is_some_and(|value| value.eq_u64(2)));
+    let removed = object.remove("b").unwrap_or(JsonValue::Null);
+    expect(&rt, "2", removed.eq_u64(2));
     expect_text(&rt, alloc, &object, "{\"a\":1,\"c\":3}")?;
     object.insert(alloc, "b", number(4))?;
     expect_text(&rt, alloc, &object, "{\"a\":1,\"c\":3,\"b\":4}")
 }
 
-/// Of these objects the members with other keys than `b` are left, in order, and each value is what
-/// the closure wrote.
+/// An object, and its members with other keys than `b`, in order, each with what the closure wrote.
+const RETAINED: &[(&str, &str)] = &[
+    ("{\"a\":1,\"b\":2,\"c\":3}", "{\"a\":9,\"c\":9}"),
+    ("{\"b\":1,\"c\":2}", "{\"c\":9}"),
+    ("{\"a\":1}", "{\"a\":9}"),
+    ("{\"b\":1}", "{}"),
+    ("{}", "{}"),
+];
+
 #[test]
 fn retains(rt: HostRuntime) -> Tested {
-    let rows = [
-        ("{\"a\":1,\"b\":2,\"c\":3}", "{\"a\":9,\"c\":9}"),
-        ("{\"b\":1,\"c\":2}", "{\"c\":9}"),
-        ("{\"a\":1}", "{\"a\":9}"),
-        ("{\"b\":1}", "{}"),
-        ("{}", "{}"),
-    ];
-    for (before, after) in rows {
+    for (before, after) in RETAINED {
         let mut object = object_of(rt.alloc(), before)?;
         object.retain(|key, value| {
             *value = number(9);
@@ -108,30 +91,20 @@ fn retains(rt: HostRuntime) -> Tested {
 
 #[test]
 fn overrides_the_last(rt: HostRuntime) -> Tested {
-    for (before, after) in [
-        ("{\"a\":1,\"b\":2,\"c\":3}", "{\"a\":1,\"b\":2,\"c\":9}"),
-        ("{}", "{}"),
-    ] {
-        let mut object = object_of(rt.alloc(), before)?;
-        object.override_last(number(9));
-        expect_text(&rt, rt.alloc(), &object, after)?;
-    }
-    Ok(())
-}
-
-#[test]
-fn clears(rt: HostRuntime) -> Tested {
-    let mut object = object_of(rt.alloc(), "{\"a\":1,\"b\":2}")?;
-    assert_eq!(rt; object.len(), 2);
+    let mut object = object_of(rt.alloc(), "{\"a\":1,\"b\":2,\"c\":3}")?;
+    object.override_last(number(9));
+    expect_text(&rt, rt.alloc(), &object, "{\"a\":1,\"b\":2,\"c\":9}")?;
+    expect_eq(&rt, "the length", object.len(), 3);
     object.clear();
-    assert_eq!(rt; object.len(), 0);
+    object.override_last(number(9));
+    expect_eq(&rt, "the length", object.len(), 0);
     expect_text(&rt, rt.alloc(), &object, "{}")
 }
 
 #[test]
 fn borrows_its_values(rt: HostRuntime) -> Tested {
     let mut object = object_of(rt.alloc(), "{\"a\":1,\"b\":2,\"c\":3}")?;
-    assert!(rt; object.get_mut("x").is_none());
+    expect(&rt, "no x", object.get_mut("x").is_none());
     if let Some(value) = object.get_mut("b") {
         *value = JsonValue::Null;
     }
@@ -151,18 +124,14 @@ fn borrows_its_values(rt: HostRuntime) -> Tested {
 fn goes_over_its_entries_from_both_ends(rt: HostRuntime) -> Tested {
     let object = object_of(rt.alloc(), "{\"a\":1,\"b\":2,\"c\":3}")?;
     let mut pairs = object.iter();
-    assert!(rt; is_entry(pairs.next(), "a", 1));
-    assert!(rt; is_entry(pairs.next_back(), "c", 3));
-    assert_eq!(rt; pairs.len(), 1);
-    assert!(rt; is_entry(pairs.next(), "b", 2));
-    assert!(rt; pairs.next_back().is_none());
+    expect(&rt, "the first", is_entry(pairs.next(), "a", 1));
+    expect(&rt, "the last", is_entry(pairs.next_back(), "c", 3));
+    expect_eq(&rt, "how many are left", pairs.len(), 1);
+    expect(&rt, "the one between", is_entry(pairs.next(), "b", 2));
+    expect(&rt, "no more", pairs.next_back().is_none());
+    expect(&rt, "Iter::empty", Iter::empty().next().is_none());
+    expect(&rt, "IterMut::empty", IterMut::empty().next().is_none());
     Ok(())
-}
-
-#[test]
-fn has_empty_iterators(rt: HostRuntime) {
-    assert!(rt; Iter::empty().next().is_none());
-    assert!(rt; IterMut::empty().next().is_none());
 }
 
 /// The longest key that is kept inline, and the shortest one that isn't.
@@ -185,15 +154,20 @@ fn gives_its_keys_whole(rt: HostRuntime) -> Tested {
     let mut object = Object::with_capacity(rt.alloc(), 2)?;
     object.insert(rt.alloc(), INLINE, number(1))?;
     object.insert(rt.alloc(), OWNED, number(2))?;
-    assert!(rt; object.get(INLINE).is_some_and(|value| value.eq_u64(1)));
-    assert!(rt; object.get(OWNED).is_some_and(|value| value.eq_u64(2)));
-    assert!(rt; object.at(OWNED).eq_u64(2));
-    assert!(rt; object.at("x").value().is_none());
-    let keys = keys_from_the_back(rt.alloc(), object)?;
-    assert_eq!(rt;
-        keys.as_str(),
-        "0123456789abcdef0123456789abcdef!,0123456789abcdef0123456789abcdef,"
+    expect(&rt, "get", object.get(INLINE) == Some(&number(1)));
+    expect(
+        &rt,
+        "at",
+        object.at(INLINE).eq_u64(1) && object.at(OWNED).eq_u64(2),
     );
+    expect(
+        &rt,
+        "no x",
+        object.get("x").is_none() && object.at("x").value().is_none(),
+    );
+    let keys = keys_from_the_back(rt.alloc(), object)?;
+    let want = "0123456789abcdef0123456789abcdef!,0123456789abcdef0123456789abcdef,";
+    expect_eq(&rt, "the keys", keys.as_str(), want);
     Ok(())
 }
 
@@ -202,11 +176,11 @@ fn equals_in_any_order(rt: HostRuntime) -> Tested {
     let object = object_of(rt.alloc(), "{\"a\":1,\"b\":2}")?;
     let mut other = Object::with_capacity(rt.alloc(), 2)?;
     other.insert(rt.alloc(), "b", number(2))?;
-    assert!(rt; object != other);
+    expect(&rt, "another length", object != other);
     other.insert(rt.alloc(), "a", parts(true, 10, -1))?;
-    assert!(rt; object == other);
+    expect(&rt, "equal", object == other);
     let copy = other.clone(rt.alloc())?;
-    assert!(rt; object == copy);
+    expect(&rt, "the copy", object == copy);
     expect_text(&rt, rt.alloc(), &copy, "{\"b\":2,\"a\":1.0}")
 }
 
@@ -214,6 +188,6 @@ fn equals_in_any_order(rt: HostRuntime) -> Tested {
 fn shows_its_keys(rt: HostRuntime) -> Tested {
     let object = object_of(rt.alloc(), "{\"a\\n\":1}")?;
     let text = format!(in rt.alloc(); "{object:?}")?;
-    assert!(rt; text.as_str().contains("\"a\\n\""));
+    expect(&rt, "Debug", text.as_str().contains("\"a\\n\""));
     Ok(())
 }

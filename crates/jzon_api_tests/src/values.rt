@@ -1,63 +1,48 @@
 //! Printing, cloning and equality of values.
 
-use crate::common::{Tested, expect_dump, long, parts};
+use crate::common::{Tested, expect_dump, expect_eq, long, parts};
 use jzon::number::NAN;
 use jzon::short::Short;
 use jzon::{JsonValue, Result, object, parse};
 use std::alloc::Global;
 use std::process::Abort;
 
-#[test]
-fn dumps_strings(rt: HostRuntime) -> Tested {
-    let rows = [
-        ("\r\n\t\x08\x0c\\/\"", "\"\\r\\n\\t\\b\\f\\\\/\\\"\""),
-        ("\x0b\x1a\x7f/", "\"\\u000b\\u001a\x7f/\""),
-        ("\u{1d11e}\n\u{e9}", "\"\u{1d11e}\\n\u{e9}\""),
-    ];
-    for (content, text) in rows {
-        expect_dump(&rt, rt.alloc(), &long(rt.alloc(), content)?, text)?;
-        expect_dump(&rt, rt.alloc(), &jzon::from(rt.alloc(), content)?, text)?;
-    }
-    Ok(())
-}
-
 /// `==` from both sides, and `!=`.
 fn expect_equal(rt: &impl Abort, left: &JsonValue, right: &JsonValue, is_equal: bool) {
-    assert_eq!(rt; left == right, is_equal);
-    assert_eq!(rt; right == left, is_equal);
-    assert_eq!(rt; left != right, !is_equal);
+    expect_eq(rt, "left == right", left == right, is_equal);
+    expect_eq(rt, "right == left", right == left, is_equal);
+    expect_eq(rt, "left != right", left != right, !is_equal);
 }
+
+/// Two values, and whether they are equal.
+const EQUAL: &[(&str, &str, bool)] = &[
+    ("null", "null", true),
+    ("true", "true", true),
+    ("\"a\"", "\"a\"", true),
+    ("5e2", "500", true),
+    ("-0e7", "0", true),
+    ("[1,[]]", "[1.0,[]]", true),
+    ("{\"a\":1,\"b\":2}", "{\"b\":2,\"a\":1}", true),
+    ("null", "false", false),
+    ("true", "false", false),
+    ("\"a\"", "\"b\"", false),
+    ("\"null\"", "null", false),
+    ("\"a\"", "\"ab\"", false),
+    ("1e20", "1", false),
+    ("[]", "{}", false),
+    ("[1]", "[1,1]", false),
+    ("[1,2]", "[2,1]", false),
+    ("{\"a\":1}", "{\"a\":2}", false),
+    ("{\"a\":1}", "{\"b\":1}", false),
+    ("{\"a\":1}", "{\"a\":1,\"b\":1}", false),
+];
 
 #[test]
 fn equals(rt: HostRuntime) -> Tested {
-    let rows = [
-        ("null", "null", true),
-        ("true", "true", true),
-        ("\"a\"", "\"a\"", true),
-        ("5e2", "500", true),
-        ("-0e7", "0", true),
-        ("[1,[]]", "[1.0,[]]", true),
-        ("{\"a\":1,\"b\":2}", "{\"b\":2,\"a\":1}", true),
-        ("null", "false", false),
-        ("true", "false", false),
-        ("\"a\"", "\"b\"", false),
-        ("\"null\"", "null", false),
-        ("\"a\"", "\"ab\"", false),
-        ("1e20", "1", false),
-        ("[]", "{}", false),
-        ("[1]", "[1,1]", false),
-        ("[1,2]", "[2,1]", false),
-        ("{\"a\":1}", "{\"a\":2}", false),
-        ("{\"a\":1}", "{\"b\":1}", false),
-        ("{\"a\":1}", "{\"a\":1,\"b\":1}", false),
-    ];
-    for (left, right, is_equal) in rows {
-        expect_equal(
-            &rt,
-            &parse(rt.alloc(), left)?,
-            &parse(rt.alloc(), right)?,
-            is_equal,
-        );
+    for (left, right, is_equal) in EQUAL {
+        let one = parse(rt.alloc(), left)?;
+        let other = parse(rt.alloc(), right)?;
+        expect_equal(&rt, &one, &other, *is_equal);
     }
     Ok(())
 }
@@ -97,15 +82,17 @@ fn equals_what_is_kept_otherwise_inside(rt: HostRuntime) -> Tested {
     Ok(())
 }
 
+const CLONED: &[&str] = &[
+    "null",
+    "true",
+    "1.50",
+    "\"a\"",
+    "[[],{},[null,{\"a\":\"b\"}],true]",
+];
+
 #[test]
 fn clones(rt: HostRuntime) -> Tested {
-    for text in [
-        "null",
-        "true",
-        "1.50",
-        "\"a\"",
-        "[[],{},[null,{\"a\":\"b\"}],true]",
-    ] {
+    for text in CLONED {
         let value = parse(rt.alloc(), text)?;
         let copy = value.clone(rt.alloc())?;
         expect_equal(&rt, &copy, &value, true);

@@ -1,6 +1,6 @@
 //! Writers that take one byte a call, and fail at one call.
 
-use crate::common::Tested;
+use crate::common::{Tested, expect, expect_eq};
 use jzon::codegen::{
     Compact, Pretty, PrettyWriterGenerator, WriterGenerator, write_json, write_object,
 };
@@ -59,9 +59,9 @@ impl How {
 
 /// The writer holds the first bytes of the text, and this was its last call.
 fn expect_prefix(rt: &impl Abort, writer: &SlowWriter, text: &str, call: usize) {
-    assert_eq!(rt; writer.calls, call);
-    assert_eq!(rt; writer.bytes.len(), call.saturating_sub(1));
-    assert!(rt; text.as_bytes().starts_with(&writer.bytes));
+    expect_eq(rt, "the calls", writer.calls, call);
+    expect_eq(rt, "the bytes", writer.bytes.len(), call.saturating_sub(1));
+    expect(rt, "a prefix", text.as_bytes().starts_with(&writer.bytes));
 }
 
 /// The writer fails at each call in turn: the error is its own, and nothing is written after it.
@@ -76,25 +76,26 @@ fn expect_stops(
     for call in 1..=text.len() {
         let mut writer = SlowWriter::new(alloc, call, trouble);
         match how.write(value, &mut writer) {
-            Err(error) => assert!(rt; trouble.is_returned(alloc, &error)?, "call {call}"),
-            Ok(()) => assert!(rt; false, "no error at call {call}"),
+            Err(error) => expect(rt, "the error", trouble.is_returned(alloc, &error)?),
+            Ok(()) => expect(rt, "no error", false),
         }
         expect_prefix(rt, &writer, text, call);
     }
     Ok(())
 }
 
+const TROUBLES: [Trouble; 4] = [
+    Trouble::TakesNothing,
+    Trouble::Fails(ErrorKind::BrokenPipe),
+    Trouble::Fails(ErrorKind::Interrupted),
+    Trouble::FailsBySystem(28),
+];
+
 #[test]
 fn stops_at_each_call_that_fails(rt: HostRuntime) -> Tested {
     let value = parse(rt.alloc(), DOCUMENT)?;
-    let troubles = [
-        Trouble::TakesNothing,
-        Trouble::Fails(ErrorKind::BrokenPipe),
-        Trouble::Fails(ErrorKind::Interrupted),
-        Trouble::FailsBySystem(28),
-    ];
     for how in HOWS {
-        for trouble in troubles {
+        for trouble in TROUBLES {
             expect_stops(&rt, rt.alloc(), &value, how, trouble)?;
         }
     }
@@ -107,7 +108,11 @@ fn writes_the_whole_text(rt: HostRuntime) -> Tested {
     for how in HOWS {
         let mut writer = SlowWriter::new(rt.alloc(), NO_FAILING_CALL, Trouble::TakesNothing);
         how.write(&value, &mut writer)?;
-        assert_eq!(rt; writer.bytes.as_slice(), how.text().as_bytes());
+        expect(
+            &rt,
+            "the text",
+            writer.bytes.as_slice() == how.text().as_bytes(),
+        );
     }
     Ok(())
 }
@@ -119,10 +124,9 @@ fn stops_at_the_fourth_call(rt: HostRuntime) -> Tested {
     let trouble = Trouble::Fails(ErrorKind::BrokenPipe);
     let mut writer = SlowWriter::new(rt.alloc(), 4, trouble);
     match value.write(&mut writer) {
-        Ok(()) => assert!(rt; false),
-        Err(error) => assert!(rt; trouble.is_returned(rt.alloc(), &error)?),
+        Ok(()) => expect(&rt, "no error", false),
+        Err(error) => expect(&rt, "the error", trouble.is_returned(rt.alloc(), &error)?),
     }
-    assert_eq!(rt; writer.bytes.as_slice(), b"[1,".as_slice());
-    assert_eq!(rt; writer.calls, 4);
+    expect_prefix(&rt, &writer, "[1,", 4);
     Ok(())
 }
