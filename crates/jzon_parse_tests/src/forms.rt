@@ -1,20 +1,17 @@
 //! Exponents with a sign, a point without a digit, nested texts, and texts of values that the
 //! macros build too.
 
-use crate::texts::{expect_each_read, expect_read, expect_rejected};
+use crate::common::{expect, expect_each_read, expect_read, expect_rejected};
 use jzon::{JsonValue, Result, parse};
 use std::alloc::Global;
 use std::process::Abort;
 use std::test::Fail;
 
-#[test]
-fn reads_signed_exponents(rt: HostRuntime) -> std::result::Result<(), Fail> {
-    let rows = [("5E+2", "500"), ("5e-2", "0.05"), ("5E-2", "0.05")];
-    expect_each_read(&rt, rt.alloc(), &rows)
-}
+const SIGNED_EXPONENTS: &[(&str, &str)] = &[("5E+2", "500"), ("5e-2", "0.05"), ("5E-2", "0.05")];
 
 #[test]
-fn rejects_a_point_without_a_digit(rt: HostRuntime) -> std::result::Result<(), Fail> {
+fn reads_signed_exponents(rt: HostRuntime) -> std::result::Result<(), Fail> {
+    expect_each_read(&rt, rt.alloc(), SIGNED_EXPONENTS)?;
     expect_rejected(&rt, rt.alloc(), "[1.]", "Unexpected character: ] at (1:4)")
 }
 
@@ -45,16 +42,24 @@ fn deep(alloc: Global) -> Result<JsonValue> {
     Ok(jzon::object! {alloc; a: 1, b: {c: 2, d: {h: [{z: 1}, {y: 2, x: [{}, {}]}]}, j: []}})
 }
 
+fn array(alloc: Global) -> Result<JsonValue> {
+    Ok(jzon::array![alloc; 1, 2, 3, false, true, [], {}])
+}
+
+const BASIC: &str = "{\"a\":1,\"b\":true,\"c\":false,\"d\":null,\"e\":2}";
+
+const LISTED: &str = "{\"a\":1,\"f\":[1,2,3,false,true,[],{}]}";
+
+const DEEP: &str =
+    "{\"a\":1,\"b\":{\"c\":2,\"d\":{\"h\":[{\"z\":1},{\"y\":2,\"x\":[{},{}]}]},\"j\":[]}}";
+
 #[test]
 fn reads_what_macros_build(rt: HostRuntime) -> Result<()> {
-    let text = "{\"a\":1,\"b\":true,\"c\":false,\"d\":null,\"e\":2}";
-    assert!(rt; parse(rt.alloc(), text)? == basic(rt.alloc())?);
-    let text = "{\"a\":1,\"f\":[1,2,3,false,true,[],{}]}";
-    assert!(rt; parse(rt.alloc(), text)? == listed(rt.alloc())?);
-    let text =
-        "{\"a\":1,\"b\":{\"c\":2,\"d\":{\"h\":[{\"z\":1},{\"y\":2,\"x\":[{},{}]}]},\"j\":[]}}";
-    assert!(rt; parse(rt.alloc(), text)? == deep(rt.alloc())?);
-    let array = jzon::array![rt.alloc(); 1, 2, 3, false, true, [], {}];
-    assert!(rt; parse(rt.alloc(), "[1,2,3,false,true,[],{}]")? == array);
+    let alloc = rt.alloc();
+    expect(&rt, "basic", parse(alloc, BASIC)? == basic(alloc)?);
+    expect(&rt, "listed", parse(alloc, LISTED)? == listed(alloc)?);
+    expect(&rt, "deep", parse(alloc, DEEP)? == deep(alloc)?);
+    let text = "[1,2,3,false,true,[],{}]";
+    expect(&rt, text, parse(alloc, text)? == array(alloc)?);
     Ok(())
 }

@@ -1,7 +1,7 @@
 //! Texts that only look like JSON, one with nearly each form of the grammar, long ones, and escapes at
 //! each position of a string.
 
-use crate::texts::{expect_each_rejected, expect_read, expect_rejected};
+use crate::common::{expect_each_rejected, expect_read, expect_rejected};
 use jzon_test_support::joined;
 use std::alloc::{AllocError, Global};
 use std::test::Fail;
@@ -66,16 +66,18 @@ fn reads_each_form(rt: HostRuntime) -> Result<(), Fail> {
     expect_read(&rt, rt.alloc(), EACH_FORM, EACH_FORM_DUMPED)
 }
 
+/// A prefix, what is repeated after it, and the message.
+const WITHOUT_END: &[(&str, &str, &str)] = &[
+    ("", "[{\"a\":", "Exceeded depth limit"),
+    ("\"", "a", "Unexpected end of JSON"),
+    ("\"", "\\", "Unexpected end of JSON"),
+    ("[", "1,", "Unexpected end of JSON"),
+    ("", " ", "Unexpected end of JSON"),
+];
+
 #[test]
 fn rejects_texts_without_end(rt: HostRuntime) -> Result<(), Fail> {
-    let rows = [
-        ("", "[{\"a\":", "Exceeded depth limit"),
-        ("\"", "a", "Unexpected end of JSON"),
-        ("\"", "\\", "Unexpected end of JSON"),
-        ("[", "1,", "Unexpected end of JSON"),
-        ("", " ", "Unexpected end of JSON"),
-    ];
-    for (prefix, repeated, message) in rows {
+    for (prefix, repeated, message) in WITHOUT_END {
         let text = joined(rt.alloc(), &[(prefix, 1), (repeated, 100000)])?;
         expect_rejected(&rt, rt.alloc(), text.as_str(), message)?;
     }
@@ -97,17 +99,19 @@ fn with_escape(alloc: Global, escape: &str, position: usize) -> Result<String, A
     )
 }
 
-/// Each escape, and `é`, at each offset of the 32-byte blocks in which plain bytes are looked for.
+/// An escape, or `é`, and how it is printed.
+const WRITTEN: &[(&str, &str)] = &[
+    ("\\n", "\\n"),
+    ("\\u001f", "\\u001f"),
+    ("\\uD834\\uDD1E", "\u{1d11e}"),
+    ("\\/", "/"),
+    ("é", "é"),
+];
+
+/// At each offset of the 32-byte blocks in which plain bytes are looked for.
 #[test]
 fn reads_and_prints_an_escape_at_each_position(rt: HostRuntime) -> Result<(), Fail> {
-    let rows = [
-        ("\\n", "\\n"),
-        ("\\u001f", "\\u001f"),
-        ("\\uD834\\uDD1E", "\u{1d11e}"),
-        ("\\/", "/"),
-        ("é", "é"),
-    ];
-    for (written, printed) in rows {
+    for (written, printed) in WRITTEN {
         for position in 0..=70 {
             let text = with_escape(rt.alloc(), written, position)?;
             let dump = with_escape(rt.alloc(), printed, position)?;

@@ -1,24 +1,9 @@
 //! Values that macros write.
 
+use crate::common::{expect, expect_dump};
 use jzon::{JsonValue, Result};
 use std::alloc::Global;
-
-/// An object with each form of a key, and a key twice.
-fn each_form(alloc: Global, key: &str) -> Result<JsonValue> {
-    Ok(
-        jzon::object! {alloc; foo: false, "bar": null, [key]: 42, list: [null, "world", true], "a" => 1, "a" => 2,},
-    )
-}
-
-#[test]
-fn builds_each_form(rt: HostRuntime) -> Result<()> {
-    let built = each_form(rt.alloc(), "z")?;
-    assert_eq!(rt;
-        built.dump(rt.alloc())?.as_str(),
-        "{\"foo\":false,\"bar\":null,\"z\":42,\"list\":[null,\"world\",true],\"a\":2}"
-    );
-    Ok(())
-}
+use std::test::Fail;
 
 fn containers(alloc: Global) -> Result<JsonValue> {
     Ok(
@@ -27,15 +12,12 @@ fn containers(alloc: Global) -> Result<JsonValue> {
 }
 
 #[test]
-fn builds_containers(rt: HostRuntime) -> Result<()> {
-    assert_eq!(rt;
-        containers(rt.alloc())?.dump(rt.alloc())?.as_str(),
-        "[{},{\"a\":null},[null],[],null,null]"
-    );
-    Ok(())
+fn builds_containers(rt: HostRuntime) -> std::result::Result<(), Fail> {
+    let text = "[{},{\"a\":null},[null],[],null,null]";
+    expect_dump(&rt, rt.alloc(), &containers(rt.alloc())?, text)
 }
 
-/// The object without the key twice, one of that key alone, and arrays and objects of nothing.
+/// An object with each form of a key, one with a key twice, and arrays and objects of nothing.
 fn asked(alloc: Global, key: &str) -> Result<JsonValue> {
     Ok(jzon::array![alloc;
         jzon::object!{alloc; foo: false, "bar": null, [key]: 42, list: [null, "world", true],},
@@ -100,14 +82,13 @@ fn builds_expressions(rt: HostRuntime) -> Result<()> {
         forms(alloc, 1)?,
     ];
     for (value, text) in built.iter().zip(BUILT) {
-        assert!(rt; value.dump(alloc)?.as_str() == text, "{text}");
+        expect(&rt, text, value.dump(alloc)?.as_str() == text);
     }
     Ok(())
 }
 
 #[test]
-fn builds_values(rt: HostRuntime) -> Result<()> {
-    let built = values(rt.alloc(), 1)?;
-    assert!(rt; built.dump(rt.alloc())?.as_str() == "[1,true,-1,3,\"x\",2,-5]");
-    Ok(())
+fn builds_values(rt: HostRuntime) -> std::result::Result<(), Fail> {
+    let text = "[1,true,-1,3,\"x\",2,-5]";
+    expect_dump(&rt, rt.alloc(), &values(rt.alloc(), 1)?, text)
 }

@@ -5,64 +5,15 @@ ghost use Rattle.jzon_tree.specs.Text.{compact};
 ghost use Rattle.jzon.specs.Laws.{IsReadAs};
 ghost use Rattle.jzon.specs.Reading.{usual};
 
+use crate::common::{
+    expect, expect_dump, expect_each_read, expect_each_rejected, expect_eq, expect_read,
+    expect_rejected,
+};
 use jzon::{Error, JsonValue, laws, parse};
 use jzon_test_support::joined;
 use std::alloc::Global;
 use std::process::Abort;
 use std::test::Fail;
-
-/// The text is rejected with this message.
-pub(crate) fn expect_rejected(
-    rt: &impl Abort,
-    alloc: Global,
-    text: &str,
-    expected: &str,
-) -> Result<(), Fail> {
-    match parse(alloc, text) {
-        Ok(_) => assert!(rt; false, "{text} is read"),
-        Err(e) => {
-            let message = e.to_string(alloc)?;
-            assert_eq!(rt; message.as_str(), expected, "{text}");
-        }
-    }
-    Ok(())
-}
-
-/// The text of each row is rejected with the message beside it.
-pub(crate) fn expect_each_rejected(
-    rt: &impl Abort,
-    alloc: Global,
-    rows: &[(&str, &str)],
-) -> Result<(), Fail> {
-    for (text, message) in rows {
-        expect_rejected(rt, alloc, text, message)?;
-    }
-    Ok(())
-}
-
-/// What `text` means dumps `dump`.
-pub(crate) fn expect_read(
-    rt: &impl Abort,
-    alloc: Global,
-    text: &str,
-    dump: &str,
-) -> Result<(), Fail> {
-    let value = parse(alloc, text)?;
-    assert_eq!(rt; value.dump(alloc)?.as_str(), dump, "{text}");
-    Ok(())
-}
-
-/// What the text of each row means dumps the text beside it.
-pub(crate) fn expect_each_read(
-    rt: &impl Abort,
-    alloc: Global,
-    rows: &[(&str, &str)],
-) -> Result<(), Fail> {
-    for (text, dump) in rows {
-        expect_read(rt, alloc, text, dump)?;
-    }
-    Ok(())
-}
 
 fn parts_of(value: &JsonValue) -> Option<(bool, u64, i16)> {
     match value {
@@ -71,97 +22,107 @@ fn parts_of(value: &JsonValue) -> Option<(bool, u64, i16)> {
     }
 }
 
+/// A text, the parts of its number, and the dump of its value.
+const LITERALS_AND_NUMBERS: &[(&str, Option<(bool, u64, i16)>, &str)] = &[
+    ("null", None, "null"),
+    ("true", None, "true"),
+    ("false", None, "false"),
+    (" \t\r\n null \n", None, "null"),
+    ("\u{b}1", Some((true, 1, 0)), "1"),
+    ("\u{c}1\u{c}", Some((true, 1, 0)), "1"),
+    ("-12.50e3", Some((false, 1250, 1)), "-12500"),
+    (
+        "18446744073709551615",
+        Some((true, 18446744073709551615, 0)),
+        "18446744073709551615",
+    ),
+    (
+        "18446744073709551615.5",
+        Some((true, 18446744073709551615, 0)),
+        "18446744073709551615",
+    ),
+    (
+        "184467440737095516165",
+        Some((true, 1844674407370955161, 2)),
+        "1.844674407370955161e20",
+    ),
+    (
+        "2.22507385850720113605740979670913197593481954635164564e-308",
+        Some((true, 2225073858507201136, -326)),
+        "2.225073858507201136e-308",
+    ),
+    (
+        "18446744073709551616",
+        Some((true, 1844674407370955161, 1)),
+        "18446744073709551610",
+    ),
+    (
+        "184467440737095516.165",
+        Some((true, 1844674407370955161, -1)),
+        "184467440737095516.1",
+    ),
+    ("1.2e32768", Some((true, 12, 32767)), "1.2e32768"),
+    ("1e-32768", Some((true, 1, -32768)), "1e-32768"),
+    ("1e-32769", Some((true, 1, -32768)), "1e-32768"),
+    ("1e123456789012", Some((true, 1, 32767)), "1e32767"),
+    ("1e-123456789012", Some((true, 1, -32768)), "1e-32768"),
+    ("1e000000000000000000007", Some((true, 1, 7)), "10000000"),
+    ("1.50", Some((true, 150, -2)), "1.50"),
+    ("100e-2", Some((true, 100, -2)), "1.00"),
+    ("0e5", Some((true, 0, 5)), "0"),
+    ("-0", Some((false, 0, 0)), "-0"),
+    ("0.0", Some((true, 0, -1)), "0"),
+    ("5E2", Some((true, 5, 2)), "500"),
+    ("5e+2", Some((true, 5, 2)), "500"),
+    ("7e70", Some((true, 7, 70)), "7e70"),
+    ("5e19", Some((true, 5, 19)), "50000000000000000000"),
+    (
+        "50000000000000000000",
+        Some((true, 5000000000000000000, 1)),
+        "50000000000000000000",
+    ),
+    ("1e-18", Some((true, 1, -18)), "1e-18"),
+];
+
 #[test]
 fn reads_literals_and_numbers(rt: HostRuntime) -> Result<(), Fail> {
-    let rows: [(&str, Option<(bool, u64, i16)>, &str); 28] = [
-        ("null", None, "null"),
-        ("true", None, "true"),
-        ("false", None, "false"),
-        (" \t\r\n null \n", None, "null"),
-        ("\u{b}1", Some((true, 1, 0)), "1"),
-        ("\u{c}1\u{c}", Some((true, 1, 0)), "1"),
-        ("-12.50e3", Some((false, 1250, 1)), "-12500"),
-        (
-            "18446744073709551615",
-            Some((true, 18446744073709551615, 0)),
-            "18446744073709551615",
-        ),
-        (
-            "18446744073709551615.5",
-            Some((true, 18446744073709551615, 0)),
-            "18446744073709551615",
-        ),
-        (
-            "184467440737095516165",
-            Some((true, 1844674407370955161, 2)),
-            "1.844674407370955161e20",
-        ),
-        (
-            "2.22507385850720113605740979670913197593481954635164564e-308",
-            Some((true, 2225073858507201136, -326)),
-            "2.225073858507201136e-308",
-        ),
-        (
-            "18446744073709551616",
-            Some((true, 1844674407370955161, 1)),
-            "18446744073709551610",
-        ),
-        ("1.2e32768", Some((true, 12, 32767)), "1.2e32768"),
-        ("1e-32768", Some((true, 1, -32768)), "1e-32768"),
-        ("1e-32769", Some((true, 1, -32768)), "1e-32768"),
-        ("1e123456789012", Some((true, 1, 32767)), "1e32767"),
-        ("1e-123456789012", Some((true, 1, -32768)), "1e-32768"),
-        ("1.50", Some((true, 150, -2)), "1.50"),
-        ("100e-2", Some((true, 100, -2)), "1.00"),
-        ("0e5", Some((true, 0, 5)), "0"),
-        ("-0", Some((false, 0, 0)), "-0"),
-        ("0.0", Some((true, 0, -1)), "0"),
-        ("5E2", Some((true, 5, 2)), "500"),
-        ("5e+2", Some((true, 5, 2)), "500"),
-        ("7e70", Some((true, 7, 70)), "7e70"),
-        ("5e19", Some((true, 5, 19)), "50000000000000000000"),
-        (
-            "50000000000000000000",
-            Some((true, 5000000000000000000, 1)),
-            "50000000000000000000",
-        ),
-        ("1e-18", Some((true, 1, -18)), "1e-18"),
-    ];
-    for (text, parts, dump) in &rows {
+    for (text, parts, dump) in LITERALS_AND_NUMBERS {
         let value = parse(rt.alloc(), text)?;
-        assert_eq!(rt; parts_of(&value), *parts, "{text}");
-        assert_eq!(rt; value.dump(rt.alloc())?.as_str(), *dump, "{text}");
+        expect_eq(&rt, text, parts_of(&value), *parts);
+        expect_dump(&rt, rt.alloc(), &value, dump)?;
     }
     Ok(())
 }
 
+/// A prefix, what is repeated after it and how often, what comes last, and the parts of the number.
+type Long = (
+    &'static str,
+    &'static str,
+    usize,
+    &'static str,
+    (bool, u64, i16),
+);
+
+const LONG_NUMBERS: &[Long] = &[
+    ("1e", "9", 60, "", (true, 1, 32767)),
+    ("1e", "9", 1000000, "", (true, 1, 32767)),
+    ("1e-", "9", 1000000, "", (true, 1, -32768)),
+    ("8", "0", 32785, "", (true, 8000000000000000000, 32767)),
+    ("8", "0", 32785, "e-32767", (true, 8000000000000000000, 0)),
+    ("8", "0", 32785, "e1", (true, 8000000000000000000, 32767)),
+    ("0.", "0", 32768, "", (true, 0, -32768)),
+    ("0.", "0", 32767, "1", (true, 1, -32768)),
+    ("9.", "9", 40000, "", (true, 9999999999999999999, -18)),
+    ("0.", "0", 32768, "e32768", (true, 0, 0)),
+];
+
 #[test]
 fn reads_long_numbers(rt: HostRuntime) -> Result<(), Fail> {
-    let rows: [(&str, &str, usize, &str, (bool, u64, i16)); 9] = [
-        ("1e", "9", 60, "", (true, 1, 32767)),
-        ("1e", "9", 1000000, "", (true, 1, 32767)),
-        ("1e-", "9", 1000000, "", (true, 1, -32768)),
-        ("8", "0", 32785, "", (true, 8000000000000000000, 32767)),
-        ("8", "0", 32785, "e-32767", (true, 8000000000000000000, 0)),
-        ("8", "0", 32785, "e1", (true, 8000000000000000000, 32767)),
-        ("0.", "0", 32768, "", (true, 0, -32768)),
-        ("0.", "0", 32767, "1", (true, 1, -32768)),
-        ("9.", "9", 40000, "", (true, 9999999999999999999, -18)),
-    ];
-    for (prefix, repeated, count, back, parts) in rows {
-        let text = joined(rt.alloc(), &[(prefix, 1), (repeated, count), (back, 1)])?;
+    for (prefix, repeated, count, back, parts) in LONG_NUMBERS {
+        let text = joined(rt.alloc(), &[(prefix, 1), (repeated, *count), (back, 1)])?;
         let value = parse(rt.alloc(), text.as_str())?;
-        assert_eq!(rt;
-            parts_of(&value),
-            Some(parts),
-            "{prefix}, {count} times {repeated}, {back}"
-        );
+        expect_eq(&rt, back, parts_of(&value), Some(*parts));
     }
-    let text = joined(rt.alloc(), &[("0.", 1), ("0", 32768), ("e32768", 1)])?;
-    assert_eq!(rt;
-        parts_of(&parse(rt.alloc(), text.as_str())?),
-        Some((true, 0, 0))
-    );
     Ok(())
 }
 
@@ -170,29 +131,31 @@ fn reads_one_number_from_several_texts(rt: HostRuntime) -> Result<(), Fail> {
     let alloc = rt.alloc();
     let text = joined(alloc, &[("8", 1), ("0", 32785), ("e-32767", 1)])?;
     let number = parse(alloc, text.as_str())?;
-    assert!(rt; number.as_u64() == Some(8000000000000000000));
-    assert!(rt; number == parse(alloc, "8e18")?);
-    assert!(rt; parse(alloc, "50000000000000000000")? == parse(alloc, "5e19")?);
+    expect_eq(&rt, "as_u64", number.as_u64(), Some(8000000000000000000));
+    expect(&rt, "8e18", number == parse(alloc, "8e18")?);
+    let number = parse(alloc, "50000000000000000000")?;
+    expect(&rt, "5e19", number == parse(alloc, "5e19")?);
     Ok(())
 }
 
+/// A prefix, the number of zeros after it, and what comes last.
+const TOO_LONG: &[(&str, usize, &str)] = &[
+    ("8", 32786, ""),
+    ("8", 40000, "e-40000"),
+    ("0.", 32769, ""),
+    ("0.", 40000, ""),
+    ("0.", 40000, "e40000"),
+    ("8", 32786, "."),
+    ("8", 32786, ".e"),
+    ("-0.", 32769, "ex"),
+];
+
 #[test]
 fn rejects_digits_past_the_limits(rt: HostRuntime) -> Result<(), Fail> {
-    let rows: [(&str, usize, &str); 6] = [
-        ("8", 32786, ""),
-        ("0.", 32769, ""),
-        ("0.", 40000, ""),
-        ("8", 32786, "."),
-        ("8", 32786, ".e"),
-        ("-0.", 32769, "ex"),
-    ];
-    for (prefix, count, back) in rows {
-        let text = joined(rt.alloc(), &[(prefix, 1), ("0", count), (back, 1)])?;
+    for (prefix, count, back) in TOO_LONG {
+        let text = joined(rt.alloc(), &[(prefix, 1), ("0", *count), (back, 1)])?;
         let result = parse(rt.alloc(), text.as_str());
-        assert!(rt;
-            matches!(result, Err(Error::ExceededDepthLimit)),
-            "{prefix}, {count} zeros, {back}"
-        );
+        expect(&rt, back, matches!(result, Err(Error::ExceededDepthLimit)));
     }
     Ok(())
 }
@@ -333,91 +296,84 @@ fn expect_string(
     rt: &impl Abort,
     alloc: Global,
     text: &str,
-    (is_inline, content, dump): (bool, &str, &str),
+    is_inline: bool,
+    content: &str,
+    dump: &str,
 ) -> Result<(), Fail> {
     let value = parse(alloc, text)?;
-    match &value {
-        JsonValue::Short(short) => {
-            assert!(rt; is_inline, "{text}");
-            assert_eq!(rt; short.as_str(), content, "{text}");
-        }
-        JsonValue::String(string) => {
-            assert!(rt; !is_inline, "{text}");
-            assert_eq!(rt; string.as_str(), content, "{text}");
-        }
-        _ => assert!(rt; false, "{text} is no string"),
-    }
-    assert_eq!(rt; value.dump(alloc)?.as_str(), dump, "{text}");
-    Ok(())
+    let is_short = matches!(value, JsonValue::Short(_));
+    expect(rt, text, is_inline == is_short);
+    expect_eq(rt, text, value.as_str(), Some(content));
+    expect_dump(rt, alloc, &value, dump)
 }
+
+/// A text, whether its string is stored inline, its bytes, and its dump.
+const STRINGS: &[(&str, bool, &str, &str)] = &[
+    ("\"\"", true, "", "\"\""),
+    (
+        "\"\\r\\n\\t\\b\\f\\\\\\/\\\"\"",
+        true,
+        "\r\n\t\u{8}\u{c}\\/\"",
+        "\"\\r\\n\\t\\b\\f\\\\/\\\"\"",
+    ),
+    (
+        "\"\\u2764\\ufe0f\"",
+        true,
+        "\u{2764}\u{fe0f}",
+        "\"\u{2764}\u{fe0f}\"",
+    ),
+    ("\"\\u0000\"", true, "\u{0}", "\"\\u0000\""),
+    ("\"\\uD834\\uDD1E\"", true, "\u{1d11e}", "\"\u{1d11e}\""),
+    ("\"\\ud834\\udd1e\"", true, "\u{1d11e}", "\"\u{1d11e}\""),
+    ("\"\u{7f}/\"", true, "\u{7f}/", "\"\u{7f}/\""),
+    (
+        "\"foo\\u001fbar\\u0000baz\"",
+        true,
+        "foo\u{1f}bar\u{0}baz",
+        "\"foo\\u001fbar\\u0000baz\"",
+    ),
+    (" \"a\" ", true, "a", "\"a\""),
+    (
+        "\"abcdefghijklmnopqrstuvwxyz0123\"",
+        true,
+        "abcdefghijklmnopqrstuvwxyz0123",
+        "\"abcdefghijklmnopqrstuvwxyz0123\"",
+    ),
+    (
+        "\"abcdefghijklmnopqrstuvwxyz01234\"",
+        false,
+        "abcdefghijklmnopqrstuvwxyz01234",
+        "\"abcdefghijklmnopqrstuvwxyz01234\"",
+    ),
+    (
+        "\"abcdefghijklmnopqrstuvwxyz012\\n4\"",
+        false,
+        "abcdefghijklmnopqrstuvwxyz012\n4",
+        "\"abcdefghijklmnopqrstuvwxyz012\\n4\"",
+    ),
+    (
+        "\"ééééééééééééééé\"",
+        true,
+        "ééééééééééééééé",
+        "\"ééééééééééééééé\"",
+    ),
+    (
+        "\"éééééééééééééééé\"",
+        false,
+        "éééééééééééééééé",
+        "\"éééééééééééééééé\"",
+    ),
+    ("\"a\\u00e9\\\\b\"", true, "aé\\b", "\"aé\\\\b\""),
+    ("\"é\\né\"", true, "é\né", "\"é\\né\""),
+    ("\"a\\u00E9b\\u00e9c\"", true, "aébéc", "\"aébéc\""),
+];
 
 #[test]
 fn reads_strings(rt: HostRuntime) -> Result<(), Fail> {
-    // a text, whether its string is stored inline, its bytes, and its dump
-    let rows: [(&str, bool, &str, &str); 17] = [
-        ("\"\"", true, "", "\"\""),
-        (
-            "\"\\r\\n\\t\\b\\f\\\\\\/\\\"\"",
-            true,
-            "\r\n\t\u{8}\u{c}\\/\"",
-            "\"\\r\\n\\t\\b\\f\\\\/\\\"\"",
-        ),
-        (
-            "\"\\u2764\\ufe0f\"",
-            true,
-            "\u{2764}\u{fe0f}",
-            "\"\u{2764}\u{fe0f}\"",
-        ),
-        ("\"\\u0000\"", true, "\u{0}", "\"\\u0000\""),
-        ("\"\\uD834\\uDD1E\"", true, "\u{1d11e}", "\"\u{1d11e}\""),
-        ("\"\\ud834\\udd1e\"", true, "\u{1d11e}", "\"\u{1d11e}\""),
-        ("\"\u{7f}/\"", true, "\u{7f}/", "\"\u{7f}/\""),
-        (
-            "\"foo\\u001fbar\\u0000baz\"",
-            true,
-            "foo\u{1f}bar\u{0}baz",
-            "\"foo\\u001fbar\\u0000baz\"",
-        ),
-        (" \"a\" ", true, "a", "\"a\""),
-        (
-            "\"abcdefghijklmnopqrstuvwxyz0123\"",
-            true,
-            "abcdefghijklmnopqrstuvwxyz0123",
-            "\"abcdefghijklmnopqrstuvwxyz0123\"",
-        ),
-        (
-            "\"abcdefghijklmnopqrstuvwxyz01234\"",
-            false,
-            "abcdefghijklmnopqrstuvwxyz01234",
-            "\"abcdefghijklmnopqrstuvwxyz01234\"",
-        ),
-        (
-            "\"abcdefghijklmnopqrstuvwxyz012\\n4\"",
-            false,
-            "abcdefghijklmnopqrstuvwxyz012\n4",
-            "\"abcdefghijklmnopqrstuvwxyz012\\n4\"",
-        ),
-        (
-            "\"ééééééééééééééé\"",
-            true,
-            "ééééééééééééééé",
-            "\"ééééééééééééééé\"",
-        ),
-        (
-            "\"éééééééééééééééé\"",
-            false,
-            "éééééééééééééééé",
-            "\"éééééééééééééééé\"",
-        ),
-        ("\"a\\u00e9\\\\b\"", true, "aé\\b", "\"aé\\\\b\""),
-        ("\"é\\né\"", true, "é\né", "\"é\\né\""),
-        ("\"a\\u00E9b\\u00e9c\"", true, "aébéc", "\"aébéc\""),
-    ];
-    for (text, is_inline, content, dump) in &rows {
-        let want = (*is_inline, *content, *dump);
-        expect_string(&rt, rt.alloc(), text, want)?;
+    for (text, is_inline, content, dump) in STRINGS {
+        expect_string(&rt, rt.alloc(), text, *is_inline, content, dump)?;
         let longer = format!(in rt.alloc(); "{text}{SPACES}")?;
-        expect_string(&rt, rt.alloc(), longer.as_str(), want)?;
+        expect_string(&rt, rt.alloc(), longer.as_str(), *is_inline, content, dump)?;
     }
     Ok(())
 }
@@ -460,60 +416,58 @@ fn reads_arrays_and_objects(rt: HostRuntime) -> Result<(), Fail> {
     expect_each_read(&rt, rt.alloc(), ARRAYS_AND_OBJECTS)
 }
 
+/// The brackets, how many of each, the value inside, and its dump.
+const OPEN: &[(&str, &str, usize, &str, &str)] = &[
+    ("[", "]", 512, "null", "null"),
+    ("[{\"a\":", "}]", 256, "null", "null"),
+    ("[", "]", 512, "[]", "[]"),
+    ("[", "]", 512, "[ ]", "[]"),
+    ("{\"a\":", "}", 512, "{ }", "{}"),
+];
+
 #[test]
 fn reads_512_open_containers(rt: HostRuntime) -> Result<(), Fail> {
-    // the brackets, how many of each, the value inside, and its dump
-    let rows: [(&str, &str, usize, &str, &str); 5] = [
-        ("[", "]", 512, "null", "null"),
-        ("[{\"a\":", "}]", 256, "null", "null"),
-        ("[", "]", 512, "[]", "[]"),
-        ("[", "]", 512, "[ ]", "[]"),
-        ("{\"a\":", "}", 512, "{ }", "{}"),
-    ];
-    for (open, close, count, inside, dump) in rows {
-        let text = joined(rt.alloc(), &[(open, count), (inside, 1), (close, count)])?;
-        let value = parse(rt.alloc(), text.as_str())?;
-        let expected = joined(rt.alloc(), &[(open, count), (dump, 1), (close, count)])?;
-        assert_eq!(rt;
-            value.dump(rt.alloc())?.as_str(),
-            expected.as_str(),
-            "{open}, {inside}"
-        );
+    for (open, close, count, inside, dump) in OPEN {
+        let text = joined(rt.alloc(), &[(open, *count), (inside, 1), (close, *count)])?;
+        let printed = joined(rt.alloc(), &[(open, *count), (dump, 1), (close, *count)])?;
+        expect_read(&rt, rt.alloc(), text.as_str(), printed.as_str())?;
     }
     Ok(())
 }
 
+/// The parts of a text, each with how often it comes, and the message.
+const TOO_DEEP: &[([(&str, usize); 3], &str)] = &[
+    (
+        [("[", 513), ("null", 1), ("]", 513)],
+        "Exceeded depth limit",
+    ),
+    (
+        [("[{\"a\":", 5000), ("null", 1), ("}]", 5000)],
+        "Exceeded depth limit",
+    ),
+    (
+        [("[", 512), ("{\"a\":1}", 1), ("]", 512)],
+        "Exceeded depth limit",
+    ),
+    (
+        [("{\"a\":", 512), ("[1]", 1), ("}", 512)],
+        "Exceeded depth limit",
+    ),
+    ([("[", 513), ("}", 1), ("", 0)], "Exceeded depth limit"),
+    ([("[", 513), ("x", 1), ("", 0)], "Exceeded depth limit"),
+    ([("[", 100000), ("", 0), ("", 0)], "Exceeded depth limit"),
+    ([("[", 512), ("{1", 1), ("", 0)], "Exceeded depth limit"),
+    ([("[", 513), ("", 0), ("", 0)], "Unexpected end of JSON"),
+    ([("[", 512), ("{ ", 1), ("", 0)], "Unexpected end of JSON"),
+    (
+        [("[", 512), ("x", 1), ("", 0)],
+        "Unexpected character: x at (1:513)",
+    ),
+];
+
 #[test]
 fn rejects_another_open_container(rt: HostRuntime) -> Result<(), Fail> {
-    let rows: [([(&str, usize); 3], &str); 11] = [
-        (
-            [("[", 513), ("null", 1), ("]", 513)],
-            "Exceeded depth limit",
-        ),
-        (
-            [("[{\"a\":", 5000), ("null", 1), ("}]", 5000)],
-            "Exceeded depth limit",
-        ),
-        (
-            [("[", 512), ("{\"a\":1}", 1), ("]", 512)],
-            "Exceeded depth limit",
-        ),
-        (
-            [("{\"a\":", 512), ("[1]", 1), ("}", 512)],
-            "Exceeded depth limit",
-        ),
-        ([("[", 513), ("}", 1), ("", 0)], "Exceeded depth limit"),
-        ([("[", 513), ("x", 1), ("", 0)], "Exceeded depth limit"),
-        ([("[", 100000), ("", 0), ("", 0)], "Exceeded depth limit"),
-        ([("[", 512), ("{1", 1), ("", 0)], "Exceeded depth limit"),
-        ([("[", 513), ("", 0), ("", 0)], "Unexpected end of JSON"),
-        ([("[", 512), ("{ ", 1), ("", 0)], "Unexpected end of JSON"),
-        (
-            [("[", 512), ("x", 1), ("", 0)],
-            "Unexpected character: x at (1:513)",
-        ),
-    ];
-    for (parts, message) in &rows {
+    for (parts, message) in TOO_DEEP {
         let text = joined(rt.alloc(), parts)?;
         expect_rejected(&rt, rt.alloc(), text.as_str(), message)?;
     }
@@ -534,8 +488,8 @@ fn printed_again(alloc: Global, text: &str) -> jzon::Result<String>
 #[test]
 fn prints_what_is_read(rt: HostRuntime) -> Result<(), Fail> {
     let printed = printed_again(rt.alloc(), " { \"a\" : [ 1.50 ] } ")?;
-    assert_eq!(rt; printed.as_str(), "{\"a\":[1.50]}");
+    expect_eq(&rt, "printed", printed.as_str(), "{\"a\":[1.50]}");
     let again = printed_again(rt.alloc(), printed.as_str())?;
-    assert_eq!(rt; again.as_str(), printed.as_str());
+    expect_eq(&rt, "again", again.as_str(), printed.as_str());
     Ok(())
 }
