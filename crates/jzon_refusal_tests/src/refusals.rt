@@ -34,61 +34,23 @@ trait Call: Copy {
 
 /// A call, its name, the text of the value before it, the compact text after it, and the least
 /// number of its allocations.
-#[derive(Clone, Copy)]
-struct Row<C> {
-    call: C,
-    name: &'static str,
-    before: &'static str,
-    after: &'static str,
-    least: usize,
+type Row<C> = (C, &'static str, &'static str, &'static str, usize);
+
+/// It holds of this row. To prove an assertion takes seconds, and a call of this hardly any time.
+fn expect(rt: &impl Abort, row: &str, holds: bool) {
+    assert!(rt; holds, "{row}");
 }
 
-fn case<C>(
-    call: C,
-    name: &'static str,
-    before: &'static str,
-    after: &'static str,
-    least: usize,
-) -> Row<C> {
-    Row {
-        call,
-        name,
-        before,
-        after,
-        least,
-    }
-}
-
-/// With a failed allocation the call returned `OutOfMemory`, and its value is as it was.
-fn expect_out_of_memory(
-    rt: &impl Abort,
-    alloc: Global,
-    outcome: &Result<()>,
-    value: &JsonValue,
-    before: &JsonValue,
-) -> Tested {
-    assert!(rt; matches!(outcome, Err(Error::OutOfMemory)));
-    assert!(rt; value == before);
-    let text = before.dump(alloc)?;
-    assert_eq!(rt; value.dump(alloc)?.as_str(), text.as_str());
-    Ok(())
-}
-
-/// Without one the call succeeded, and its value dumps `after`.
-fn expect_success(
-    rt: &impl Abort,
-    alloc: Global,
-    outcome: &Result<()>,
-    value: &JsonValue,
-    after: &str,
-) -> Tested {
-    assert!(rt; outcome.is_ok());
-    assert_eq!(rt; value.dump(alloc)?.as_str(), after);
+/// The value dumps this text.
+fn expect_dump(rt: &impl Abort, alloc: Global, value: &JsonValue, text: &str) -> Tested {
+    let dump = value.dump(alloc)?;
+    expect(rt, text, dump.as_str() == text);
     Ok(())
 }
 
 /// One run of the call, on a copy of `before`, which has no room to spare. Whether an allocation
-/// failed.
+/// failed: then the call returned `OutOfMemory`, and its value is as it was. Otherwise it succeeded,
+/// and its value dumps what the row says.
 fn run<C: Call>(
     rt: &impl Abort,
     alloc: Global,
@@ -96,15 +58,17 @@ fn run<C: Call>(
     before: &JsonValue,
     refusals: &mut Refusals,
 ) -> std::result::Result<bool, Fail> {
-    let call = row.call;
     let mut value = before.clone(alloc)?;
     refusals.begin();
-    let outcome = call.call(&mut value, alloc);
+    let outcome = row.0.call(&mut value, alloc);
     let has_failed = refusals.has_failed();
     if has_failed {
-        expect_out_of_memory(rt, alloc, &outcome, &value, before)?;
+        expect(rt, row.1, matches!(outcome, Err(Error::OutOfMemory)));
+        let text = before.dump(alloc)?;
+        expect_dump(rt, alloc, &value, text.as_str())?;
     } else {
-        expect_success(rt, alloc, &outcome, &value, row.after)?;
+        expect(rt, row.1, outcome.is_ok());
+        expect_dump(rt, alloc, &value, row.3)?;
     }
     Ok(has_failed)
 }
@@ -112,7 +76,7 @@ fn run<C: Call>(
 /// Runs the call with its first allocation failing, then with its second, and so on, until a run
 /// has no failed allocation. Each run frees all that it allocates.
 fn fail_each<C: Call>(rt: &(impl Eprint + Abort), alloc: Global, row: &Row<C>) -> Tested {
-    let before = parse(alloc, row.before)?;
+    let before = parse(alloc, row.2)?;
     let mut refusals = Refusals::new(alloc);
     for _ in 0..RUNS_MAX {
         refusals.open();
@@ -122,6 +86,6 @@ fn fail_each<C: Call>(rt: &(impl Eprint + Abort), alloc: Global, row: &Row<C>) -
             break;
         }
     }
-    refusals.report(rt, row.name, row.least)?;
+    refusals.report(rt, row.1, row.4)?;
     Ok(())
 }

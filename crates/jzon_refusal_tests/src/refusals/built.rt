@@ -83,66 +83,68 @@ impl Call for Built {
     }
 }
 
+const MAPPED: &str = "{\"a\":\"abcdefghijklmnopqrstuvwxyz01234\"}";
+
+const BUILT: &[Row<Built>] = &[
+    (
+        Built::From,
+        "from",
+        "null",
+        "\"abcdefghijklmnopqrstuvwxyz01234\"",
+        1,
+    ),
+    (
+        Built::Texts,
+        "into_json of strings",
+        "null",
+        "[\"abcdefghijklmnopqrstuvwxyz01234\",\"\",\"abcdefghijklmnopqrstuvwxyz01234\"]",
+        4,
+    ),
+    (
+        Built::Slice,
+        "into_json of a slice",
+        "null",
+        "[\"abcdefghijklmnopqrstuvwxyz01234\",\"\"]",
+        2,
+    ),
+    (Built::Map, "into_json of a map", "null", MAPPED, 5),
+    (Built::HashMap, "into_json of a hash map", "null", MAPPED, 4),
+    (
+        Built::Value,
+        "value!",
+        "null",
+        "[\"abcdefghijklmnopqrstuvwxyz01234\",null]",
+        2,
+    ),
+    (
+        Built::Array,
+        "array!",
+        "null",
+        "[1,\"abcdefghijklmnopqrstuvwxyz01234\",{}]",
+        2,
+    ),
+    (
+        Built::Object,
+        "object!",
+        "null",
+        "{\"a\":[1],\"0123456789abcdef0123456789abcdef01234567\":true}",
+        4,
+    ),
+    (Built::Stringify, "stringify", "null", "\"[1,null]\"", 2),
+    (
+        Built::StringifyPretty,
+        "stringify_pretty",
+        "null",
+        "\"[\\n  1\\n]\"",
+        2,
+    ),
+    (Built::WrongType, "wrong_type", "null", "\"Array\"", 1),
+    (Built::Short, "Short::into_string", "null", "\"inline\"", 1),
+];
+
 #[test]
 fn built_under_refusals(rt: HostRuntime) -> Tested {
-    let mapped = "{\"a\":\"abcdefghijklmnopqrstuvwxyz01234\"}";
-    let rows = [
-        case(
-            Built::From,
-            "from",
-            "null",
-            "\"abcdefghijklmnopqrstuvwxyz01234\"",
-            1,
-        ),
-        case(
-            Built::Texts,
-            "into_json of strings",
-            "null",
-            "[\"abcdefghijklmnopqrstuvwxyz01234\",\"\",\"abcdefghijklmnopqrstuvwxyz01234\"]",
-            4,
-        ),
-        case(
-            Built::Slice,
-            "into_json of a slice",
-            "null",
-            "[\"abcdefghijklmnopqrstuvwxyz01234\",\"\"]",
-            2,
-        ),
-        case(Built::Map, "into_json of a map", "null", mapped, 5),
-        case(Built::HashMap, "into_json of a hash map", "null", mapped, 4),
-        case(
-            Built::Value,
-            "value!",
-            "null",
-            "[\"abcdefghijklmnopqrstuvwxyz01234\",null]",
-            2,
-        ),
-        case(
-            Built::Array,
-            "array!",
-            "null",
-            "[1,\"abcdefghijklmnopqrstuvwxyz01234\",{}]",
-            2,
-        ),
-        case(
-            Built::Object,
-            "object!",
-            "null",
-            "{\"a\":[1],\"0123456789abcdef0123456789abcdef01234567\":true}",
-            4,
-        ),
-        case(Built::Stringify, "stringify", "null", "\"[1,null]\"", 2),
-        case(
-            Built::StringifyPretty,
-            "stringify_pretty",
-            "null",
-            "\"[\\n  1\\n]\"",
-            2,
-        ),
-        case(Built::WrongType, "wrong_type", "null", "\"Array\"", 1),
-        case(Built::Short, "Short::into_string", "null", "\"inline\"", 1),
-    ];
-    for row in &rows {
+    for row in BUILT {
         fail_each(&rt, rt.alloc(), row)?;
     }
     Ok(())

@@ -92,115 +92,116 @@ const ALIKE: &str = "[{\"a\":[1,2]},{\"a\":[3,4]}]";
 
 const KEYED: &str = "{\"0123456789abcdef0123456789abcdef01234567\":null}";
 
+const CHANGED: &[Row<Changed>] = &[
+    (Changed::Parse(DOCUMENT), "parse", "null", DUMP, 6),
+    (
+        Changed::Parse(ESCAPED),
+        "parse of a long string",
+        "null",
+        UNESCAPED,
+        2,
+    ),
+    (
+        Changed::Parse(LONG_DOCUMENT),
+        "parse of a long key",
+        "null",
+        LONG_DOCUMENT,
+        9,
+    ),
+    (
+        Changed::Parse(REPEATED),
+        "parse of a repeated key among ten",
+        "null",
+        TEN_KEYS,
+        6,
+    ),
+    (
+        Changed::Parse(ALIKE),
+        "parse of elements that are alike",
+        "null",
+        ALIKE,
+        10,
+    ),
+    (
+        Changed::ParseStrictly(DOCUMENT),
+        "strict parse_as",
+        "null",
+        DUMP,
+        6,
+    ),
+    (
+        Changed::ParseStrictly(TEN_KEYS),
+        "strict parse_as of ten keys",
+        "null",
+        TEN_KEYS,
+        6,
+    ),
+    (Changed::Clone, "clone", DOCUMENT, DUMP, 3),
+    (
+        Changed::Clone,
+        "clone of a long key",
+        LONG_DOCUMENT,
+        LONG_DOCUMENT,
+        7,
+    ),
+    (
+        Changed::StdClone,
+        "std's Clone",
+        LONG_DOCUMENT,
+        LONG_DOCUMENT,
+        7,
+    ),
+    (Changed::Push, "push", "[]", "[true]", 1),
+    (
+        Changed::PushLongText,
+        "push of a long string",
+        "[]",
+        "[\"abcdefghijklmnopqrstuvwxyz01234\"]",
+        2,
+    ),
+    (Changed::PushOnNull, "push on null", "null", "null", 1),
+    (
+        Changed::Insert,
+        "insert",
+        "{\"a\":null}",
+        "{\"a\":null,\"0123456789abcdef0123456789abcdef01234567\":true}",
+        3,
+    ),
+    (
+        Changed::InsertOnArray,
+        "insert on an array",
+        "[1]",
+        "[1]",
+        1,
+    ),
+    (Changed::AtMut, "at_mut of a number", "5", KEYED, 3),
+    (Changed::AtMut, "at_mut", "{}", KEYED, 3),
+    (
+        Changed::AtIndexMut(0),
+        "at_index_mut of a number",
+        "5",
+        "[null]",
+        1,
+    ),
+    (
+        Changed::AtIndexMut(9),
+        "at_index_mut",
+        "[true]",
+        "[true,null]",
+        1,
+    ),
+    (
+        Changed::TakeString,
+        "take_string",
+        "\"inline\"",
+        "\"inline\"",
+        1,
+    ),
+];
+
 #[test]
 fn changed_under_refusals(rt: HostRuntime) -> Tested {
-    let rows = [
-        case(Changed::Parse(DOCUMENT), "parse", "null", DUMP, 6),
-        case(
-            Changed::Parse(ESCAPED),
-            "parse of a long string",
-            "null",
-            UNESCAPED,
-            2,
-        ),
-        case(
-            Changed::Parse(LONG_DOCUMENT),
-            "parse of a long key",
-            "null",
-            LONG_DOCUMENT,
-            9,
-        ),
-        case(
-            Changed::Parse(REPEATED),
-            "parse of a repeated key among ten",
-            "null",
-            TEN_KEYS,
-            6,
-        ),
-        case(
-            Changed::Parse(ALIKE),
-            "parse of elements that are alike",
-            "null",
-            ALIKE,
-            10,
-        ),
-        case(
-            Changed::ParseStrictly(DOCUMENT),
-            "strict parse_as",
-            "null",
-            DUMP,
-            6,
-        ),
-        case(
-            Changed::ParseStrictly(TEN_KEYS),
-            "strict parse_as of ten keys",
-            "null",
-            TEN_KEYS,
-            6,
-        ),
-        case(Changed::Clone, "clone", DOCUMENT, DUMP, 3),
-        case(
-            Changed::Clone,
-            "clone of a long key",
-            LONG_DOCUMENT,
-            LONG_DOCUMENT,
-            7,
-        ),
-        case(
-            Changed::StdClone,
-            "std's Clone",
-            LONG_DOCUMENT,
-            LONG_DOCUMENT,
-            7,
-        ),
-        case(Changed::Push, "push", "[]", "[true]", 1),
-        case(
-            Changed::PushLongText,
-            "push of a long string",
-            "[]",
-            "[\"abcdefghijklmnopqrstuvwxyz01234\"]",
-            2,
-        ),
-        case(Changed::PushOnNull, "push on null", "null", "null", 1),
-        case(
-            Changed::Insert,
-            "insert",
-            "{\"a\":null}",
-            "{\"a\":null,\"0123456789abcdef0123456789abcdef01234567\":true}",
-            3,
-        ),
-        case(
-            Changed::InsertOnArray,
-            "insert on an array",
-            "[1]",
-            "[1]",
-            1,
-        ),
-        case(Changed::AtMut, "at_mut of a number", "5", KEYED, 3),
-        case(Changed::AtMut, "at_mut", "{}", KEYED, 3),
-        case(
-            Changed::AtIndexMut(0),
-            "at_index_mut of a number",
-            "5",
-            "[null]",
-            1,
-        ),
-        case(
-            Changed::AtIndexMut(9),
-            "at_index_mut",
-            "[true]",
-            "[true,null]",
-            1,
-        ),
-        case(
-            Changed::TakeString,
-            "take_string",
-            "\"inline\"",
-            "\"inline\"",
-            1,
-        ),
-    ];
-    for row in &rows {
+    for row in CHANGED {
         fail_each(&rt, rt.alloc(), row)?;
     }
     Ok(())

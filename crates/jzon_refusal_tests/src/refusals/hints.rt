@@ -59,7 +59,7 @@ fn expect_parsed_within(
     refusals.open();
     let value = parse(alloc, text)?;
     refusals.expect_within(rt, name, most)?;
-    assert_eq!(rt; value.len(), 2);
+    expect(rt, name, value.len() == 2);
     Ok(())
 }
 

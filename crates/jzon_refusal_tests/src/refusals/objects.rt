@@ -86,84 +86,85 @@ impl Call for OfObject {
 
 const KEYED: &str = "{\"0123456789abcdef0123456789abcdef01234567\":null}";
 
+const OF_OBJECTS: &[Row<OfObject>] = &[
+    (
+        OfObject::WithCapacity,
+        "Object::with_capacity",
+        "null",
+        "{}",
+        1,
+    ),
+    (OfObject::Insert, "Object::insert", "{}", KEYED, 3),
+    (OfObject::AtMut, "Object::at_mut", "{}", KEYED, 3),
+    (
+        OfObject::Clone,
+        "Object::clone",
+        LONG_DOCUMENT,
+        LONG_DOCUMENT,
+        7,
+    ),
+    (
+        OfObject::FromPairs,
+        "Object::from_pairs",
+        "null",
+        "{\"a\":3,\"b\":2}",
+        2,
+    ),
+    (
+        OfObject::StdClone,
+        "std's Clone of an object",
+        LONG_DOCUMENT,
+        LONG_DOCUMENT,
+        7,
+    ),
+    (
+        OfObject::FromBuilder,
+        "Object::from_builder",
+        "null",
+        KEYED,
+        4,
+    ),
+    (
+        OfObject::Collected,
+        "collect",
+        "null",
+        "{\"a\":\"\",\"b\":\"\"}",
+        3,
+    ),
+    (OfObject::WriteAt, "write_at", "5", KEYED, 3),
+    (
+        OfObject::WriteAtIndex,
+        "write_at_index",
+        "[true]",
+        "[true,null]",
+        1,
+    ),
+    (
+        OfObject::Key(LONG_KEY),
+        "Key::new",
+        "null",
+        "\"0123456789abcdef0123456789abcdef01234567\"",
+        1,
+    ),
+    (
+        OfObject::KeyClone,
+        "Key::clone",
+        "null",
+        "\"0123456789abcdef0123456789abcdef01234567\"",
+        2,
+    ),
+    (
+        OfObject::Key("inline"),
+        "Key::into_string",
+        "null",
+        "\"inline\"",
+        1,
+    ),
+];
+
 #[test]
 fn objects_under_refusals(rt: HostRuntime) -> Tested {
-    let rows = [
-        case(
-            OfObject::WithCapacity,
-            "Object::with_capacity",
-            "null",
-            "{}",
-            1,
-        ),
-        case(OfObject::Insert, "Object::insert", "{}", KEYED, 3),
-        case(OfObject::AtMut, "Object::at_mut", "{}", KEYED, 3),
-        case(
-            OfObject::Clone,
-            "Object::clone",
-            LONG_DOCUMENT,
-            LONG_DOCUMENT,
-            7,
-        ),
-        case(
-            OfObject::FromPairs,
-            "Object::from_pairs",
-            "null",
-            "{\"a\":3,\"b\":2}",
-            2,
-        ),
-        case(
-            OfObject::StdClone,
-            "std's Clone of an object",
-            LONG_DOCUMENT,
-            LONG_DOCUMENT,
-            7,
-        ),
-        case(
-            OfObject::FromBuilder,
-            "Object::from_builder",
-            "null",
-            KEYED,
-            4,
-        ),
-        case(
-            OfObject::Collected,
-            "collect",
-            "null",
-            "{\"a\":\"\",\"b\":\"\"}",
-            3,
-        ),
-        case(OfObject::WriteAt, "write_at", "5", KEYED, 3),
-        case(
-            OfObject::WriteAtIndex,
-            "write_at_index",
-            "[true]",
-            "[true,null]",
-            1,
-        ),
-        case(
-            OfObject::Key(LONG_KEY),
-            "Key::new",
-            "null",
-            "\"0123456789abcdef0123456789abcdef01234567\"",
-            1,
-        ),
-        case(
-            OfObject::KeyClone,
-            "Key::clone",
-            "null",
-            "\"0123456789abcdef0123456789abcdef01234567\"",
-            2,
-        ),
-        case(
-            OfObject::Key("inline"),
-            "Key::into_string",
-            "null",
-            "\"inline\"",
-            1,
-        ),
-    ];
-    for row in &rows {
+    for row in OF_OBJECTS {
         fail_each(&rt, rt.alloc(), row)?;
     }
     Ok(())

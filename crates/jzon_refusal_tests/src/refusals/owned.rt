@@ -84,102 +84,111 @@ impl Call for Owned {
     }
 }
 
+const KEYED: &str =
+    "{\"0123456789abcdef0123456789abcdef01234567\":\"abcdefghijklmnopqrstuvwxyz01234\"}";
+
+const LISTED: &str = "[true,\"abcdefghijklmnopqrstuvwxyz01234\"]";
+
+const PAIRED: &str = "{\"abcdefghijklmnopqrstuvwxyz01234\":\"abcdefghijklmnopqrstuvwxyz01234\",\
+                  \"b\":\"abcdefghijklmnopqrstuvwxyz01234\"}";
+
+const IN_ARRAY: &str = "[\"abcdefghijklmnopqrstuvwxyz01234\",]";
+
+const IN_OBJECT: &str = "{\"0123456789abcdef0123456789abcdef01234567\":[1],}";
+
+const AFTER_KEY: &str =
+    "{\"a\":\"abcdefghijklmnopqrstuvwxyz01234\",\"0123456789abcdef0123456789abcdef01234567\" 1";
+
+const NESTED: &str = "[{\"a\":[{\"b\":\"abcdefghijklmnopqrstuvwxyz01234\",\"c\":[[1],[2";
+
+const AFTER_END: &str = "{\"a\":[\"abcdefghijklmnopqrstuvwxyz01234\"]}]";
+
+const OWNED: &[Row<Owned>] = &[
+    (Owned::Push, "push of an owned string", "[true]", LISTED, 2),
+    (
+        Owned::PushOnNull,
+        "push of an owned string on null",
+        "null",
+        "null",
+        2,
+    ),
+    (Owned::Insert, "insert of an owned string", "{}", KEYED, 3),
+    (
+        Owned::InsertOnArray,
+        "insert of an owned string on an array",
+        "[1]",
+        "[1]",
+        2,
+    ),
+    (
+        Owned::ObjectInsert,
+        "Object::insert of an owned string",
+        "{}",
+        KEYED,
+        3,
+    ),
+    (
+        Owned::FromPairs,
+        "Object::from_pairs of owned strings",
+        "null",
+        PAIRED,
+        7,
+    ),
+    (Owned::WriteAt, "write_at of an owned string", "5", KEYED, 3),
+    (
+        Owned::WriteAtIndex,
+        "write_at_index of an owned string",
+        "[true]",
+        LISTED,
+        2,
+    ),
+    (
+        Owned::WritePresent,
+        "write_present where nothing is present",
+        "[1]",
+        "[1]",
+        1,
+    ),
+    (
+        Owned::Rejected(IN_ARRAY),
+        "parse rejects in an array",
+        "null",
+        "null",
+        2,
+    ),
+    (
+        Owned::Rejected(IN_OBJECT),
+        "parse rejects in an object",
+        "null",
+        "null",
+        2,
+    ),
+    (
+        Owned::Rejected(AFTER_KEY),
+        "parse rejects after a key",
+        "null",
+        "null",
+        3,
+    ),
+    (
+        Owned::Rejected(NESTED),
+        "parse rejects in NESTED containers",
+        "null",
+        "null",
+        6,
+    ),
+    (
+        Owned::Rejected(AFTER_END),
+        "parse rejects after the end",
+        "null",
+        "null",
+        3,
+    ),
+];
+
 #[test]
 fn owned_under_refusals(rt: HostRuntime) -> Tested {
-    let keyed =
-        "{\"0123456789abcdef0123456789abcdef01234567\":\"abcdefghijklmnopqrstuvwxyz01234\"}";
-    let listed = "[true,\"abcdefghijklmnopqrstuvwxyz01234\"]";
-    let paired = "{\"abcdefghijklmnopqrstuvwxyz01234\":\"abcdefghijklmnopqrstuvwxyz01234\",\
-                  \"b\":\"abcdefghijklmnopqrstuvwxyz01234\"}";
-    let in_array = "[\"abcdefghijklmnopqrstuvwxyz01234\",]";
-    let in_object = "{\"0123456789abcdef0123456789abcdef01234567\":[1],}";
-    let after_key =
-        "{\"a\":\"abcdefghijklmnopqrstuvwxyz01234\",\"0123456789abcdef0123456789abcdef01234567\" 1";
-    let nested = "[{\"a\":[{\"b\":\"abcdefghijklmnopqrstuvwxyz01234\",\"c\":[[1],[2";
-    let after_end = "{\"a\":[\"abcdefghijklmnopqrstuvwxyz01234\"]}]";
-    let rows = [
-        case(Owned::Push, "push of an owned string", "[true]", listed, 2),
-        case(
-            Owned::PushOnNull,
-            "push of an owned string on null",
-            "null",
-            "null",
-            2,
-        ),
-        case(Owned::Insert, "insert of an owned string", "{}", keyed, 3),
-        case(
-            Owned::InsertOnArray,
-            "insert of an owned string on an array",
-            "[1]",
-            "[1]",
-            2,
-        ),
-        case(
-            Owned::ObjectInsert,
-            "Object::insert of an owned string",
-            "{}",
-            keyed,
-            3,
-        ),
-        case(
-            Owned::FromPairs,
-            "Object::from_pairs of owned strings",
-            "null",
-            paired,
-            7,
-        ),
-        case(Owned::WriteAt, "write_at of an owned string", "5", keyed, 3),
-        case(
-            Owned::WriteAtIndex,
-            "write_at_index of an owned string",
-            "[true]",
-            listed,
-            2,
-        ),
-        case(
-            Owned::WritePresent,
-            "write_present where nothing is present",
-            "[1]",
-            "[1]",
-            1,
-        ),
-        case(
-            Owned::Rejected(in_array),
-            "parse rejects in an array",
-            "null",
-            "null",
-            2,
-        ),
-        case(
-            Owned::Rejected(in_object),
-            "parse rejects in an object",
-            "null",
-            "null",
-            2,
-        ),
-        case(
-            Owned::Rejected(after_key),
-            "parse rejects after a key",
-            "null",
-            "null",
-            3,
-        ),
-        case(
-            Owned::Rejected(nested),
-            "parse rejects in nested containers",
-            "null",
-            "null",
-            6,
-        ),
-        case(
-            Owned::Rejected(after_end),
-            "parse rejects after the end",
-            "null",
-            "null",
-            3,
-        ),
-    ];
-    for row in &rows {
+    for row in OWNED {
         fail_each(&rt, rt.alloc(), row)?;
     }
     Ok(())

@@ -50,14 +50,14 @@ impl Print {
 }
 
 /// A call, its name, the source of the value, and what is printed of it.
-type Row = (Print, &'static str, &'static str, &'static str);
+type Printed = (Print, &'static str, &'static str, &'static str);
 
 /// One run of the call on a sink with this much room. A run with a failed allocation fails. Whether
 /// one failed.
 fn print_once(
     rt: &impl Abort,
     alloc: Global,
-    row: Row,
+    row: Printed,
     value: &JsonValue,
     room: usize,
     refusals: &mut Refusals,
@@ -70,14 +70,14 @@ fn print_once(
     let is_printed = call.print(value, &mut sink);
     let has_failed = refusals.has_failed();
     if has_failed {
-        assert!(rt;
-            !is_printed && text.as_bytes().starts_with(&sink.bytes),
-            "{name}"
-        );
-        assert_eq!(rt; room, 0, "{name} allocates where there is room");
+        expect(rt, name, !is_printed && room == 0);
+        expect(rt, name, text.as_bytes().starts_with(&sink.bytes));
     } else {
-        assert!(rt; is_printed, "{name}");
-        assert_eq!(rt; sink.bytes.as_slice(), text.as_bytes(), "{name}");
+        expect(
+            rt,
+            name,
+            is_printed && sink.bytes.as_slice() == text.as_bytes(),
+        );
     }
     Ok(has_failed)
 }
@@ -86,7 +86,7 @@ fn print_once(
 fn fail_each_of(
     rt: &impl Abort,
     alloc: Global,
-    row: Row,
+    row: Printed,
     room: usize,
 ) -> std::result::Result<Refusals, Fail> {
     let value = parse(alloc, row.2)?;
@@ -102,28 +102,35 @@ fn fail_each_of(
     Ok(refusals)
 }
 
+const LONG_STRING: &str = "\"abcdefghijklmnopqrstuvwxyz01234\"";
+
+const PRINTED: &[Printed] = &[
+    (Print::Write, "write", DOCUMENT, DUMP),
+    (Print::WritePretty, "write_pretty", DOCUMENT, PRETTY),
+    (Print::Generator, "WriterGenerator", DOCUMENT, DUMP),
+    (
+        Print::PrettyGenerator,
+        "PrettyWriterGenerator",
+        DOCUMENT,
+        PRETTY,
+    ),
+    (Print::Display, "Display", DOCUMENT, DUMP),
+    (
+        Print::Display,
+        "Display of a string",
+        LONG_STRING,
+        LONG_TEXT,
+    ),
+    (Print::Display, "Display of a number", "-12.50e3", "-12500"),
+];
+
 /// Without room the sink's own allocations fail, which shows that an allocation is seen; with room
 /// there is none.
 #[test]
 fn room_under_refusals(rt: HostRuntime) -> Tested {
-    let long = "\"abcdefghijklmnopqrstuvwxyz01234\"";
-    let rows: [Row; 7] = [
-        (Print::Write, "write", DOCUMENT, DUMP),
-        (Print::WritePretty, "write_pretty", DOCUMENT, PRETTY),
-        (Print::Generator, "WriterGenerator", DOCUMENT, DUMP),
-        (
-            Print::PrettyGenerator,
-            "PrettyWriterGenerator",
-            DOCUMENT,
-            PRETTY,
-        ),
-        (Print::Display, "Display", DOCUMENT, DUMP),
-        (Print::Display, "Display of a string", long, LONG_TEXT),
-        (Print::Display, "Display of a number", "-12.50e3", "-12500"),
-    ];
-    for row in rows {
-        fail_each_of(&rt, rt.alloc(), row, 0)?.report(&rt, row.1, 1)?;
-        fail_each_of(&rt, rt.alloc(), row, 256)?.expect_even()?;
+    for row in PRINTED {
+        fail_each_of(&rt, rt.alloc(), *row, 0)?.report(&rt, row.1, 1)?;
+        fail_each_of(&rt, rt.alloc(), *row, 256)?.expect_even()?;
     }
     Ok(())
 }
@@ -145,16 +152,18 @@ fn capacity_under_refusals(rt: HostRuntime) -> Tested {
     let mut refusals = Refusals::new(alloc);
     refusals.begin();
     let filled = fill(&mut object, alloc, &keys);
-    assert!(rt; !refusals.has_failed() && filled.is_ok());
-    assert_eq!(rt; object.len(), 100);
+    let has_failed = refusals.has_failed();
+    expect(&rt, "no allocation", !has_failed && filled.is_ok());
+    expect(&rt, "the length", object.len() == 100);
     for _ in 0..RUNS_MAX {
         refusals.begin();
         let result = object.insert(alloc, "one more", JsonValue::Null);
         if !refusals.has_failed() {
-            assert!(rt; result.is_ok());
+            expect(&rt, "one more", result.is_ok());
             break;
         }
-        assert!(rt; matches!(result, Err(Error::OutOfMemory)) && object.len() == 100);
+        expect(&rt, "the error", result == Err(Error::OutOfMemory));
+        expect(&rt, "the length", object.len() == 100);
     }
     refusals.report(&rt, "Object::insert past the room", 2)?;
     Ok(())

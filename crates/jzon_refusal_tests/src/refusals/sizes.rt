@@ -30,27 +30,28 @@ fn fail_each_at(rt: &(impl Eprint + Abort), alloc: Global, size: Size) -> Tested
         let has_failed = refusals.has_failed();
         refusals.close();
         if !has_failed {
-            assert!(rt; matches!(outcome, Ok(count) if count == left));
+            expect(rt, "what is left", outcome == Ok(left));
             break;
         }
-        assert!(rt; matches!(outcome, Err(Error::OutOfMemory)));
+        expect(rt, "the error", outcome == Err(Error::OutOfMemory));
     }
     refusals.report(rt, "parse, retain and drop", least)?;
     Ok(())
 }
 
+const SIZES: &[Size] = &[
+    (1, "[1]", 0, 2),
+    (8, "[1]", 0, 9),
+    (9, "[1]", 0, 10),
+    (11, "[1]", 1, 12),
+    (65, "[1]", 55, 66),
+    (300, "null", 290, 5),
+];
+
 #[test]
 fn sizes_under_refusals(rt: HostRuntime) -> Tested {
-    let sizes: [Size; 6] = [
-        (1, "[1]", 0, 2),
-        (8, "[1]", 0, 9),
-        (9, "[1]", 0, 10),
-        (11, "[1]", 1, 12),
-        (65, "[1]", 55, 66),
-        (300, "null", 290, 5),
-    ];
-    for size in sizes {
-        fail_each_at(&rt, rt.alloc(), size)?;
+    for size in SIZES {
+        fail_each_at(&rt, rt.alloc(), *size)?;
     }
     Ok(())
 }

@@ -107,46 +107,47 @@ const ON_ONE_LINE: &str = "\"{\\\"a\\\":[1]}\"";
 
 const ON_LINES: &str = "\"{\\n  \\\"a\\\": [\\n    1\\n  ]\\n}\"";
 
+const WRITTEN: &[Row<Writing>] = &[
+    (Writing::Dump, "dump", NUMBERS, ON_ONE_LINE, 1),
+    (Writing::Pretty, "pretty", NUMBERS, ON_LINES, 1),
+    (Writing::ObjectDump, "Object::dump", NUMBERS, ON_ONE_LINE, 1),
+    (
+        Writing::ObjectPretty,
+        "Object::pretty",
+        NUMBERS,
+        ON_LINES,
+        1,
+    ),
+    (Writing::LayOut, "lay_out", NUMBERS, ON_ONE_LINE, 1),
+    (
+        Writing::PrettyLayOut,
+        "lay_out on lines",
+        NUMBERS,
+        ON_LINES,
+        1,
+    ),
+    (
+        Writing::DumpGenerator,
+        "DumpGenerator",
+        NUMBERS,
+        ON_ONE_LINE,
+        1,
+    ),
+    (
+        Writing::PrettyGenerator,
+        "PrettyGenerator",
+        NUMBERS,
+        ON_LINES,
+        1,
+    ),
+    (Writing::Write, "write", NUMBERS, ON_ONE_LINE, 1),
+    (Writing::WritePretty, "write_pretty", NUMBERS, ON_LINES, 1),
+    (Writing::WriteLayout, "write_layout", NUMBERS, ON_LINES, 1),
+];
+
 #[test]
 fn written_under_refusals(rt: HostRuntime) -> Tested {
-    let rows = [
-        case(Writing::Dump, "dump", NUMBERS, ON_ONE_LINE, 1),
-        case(Writing::Pretty, "pretty", NUMBERS, ON_LINES, 1),
-        case(Writing::ObjectDump, "Object::dump", NUMBERS, ON_ONE_LINE, 1),
-        case(
-            Writing::ObjectPretty,
-            "Object::pretty",
-            NUMBERS,
-            ON_LINES,
-            1,
-        ),
-        case(Writing::LayOut, "lay_out", NUMBERS, ON_ONE_LINE, 1),
-        case(
-            Writing::PrettyLayOut,
-            "lay_out on lines",
-            NUMBERS,
-            ON_LINES,
-            1,
-        ),
-        case(
-            Writing::DumpGenerator,
-            "DumpGenerator",
-            NUMBERS,
-            ON_ONE_LINE,
-            1,
-        ),
-        case(
-            Writing::PrettyGenerator,
-            "PrettyGenerator",
-            NUMBERS,
-            ON_LINES,
-            1,
-        ),
-        case(Writing::Write, "write", NUMBERS, ON_ONE_LINE, 1),
-        case(Writing::WritePretty, "write_pretty", NUMBERS, ON_LINES, 1),
-        case(Writing::WriteLayout, "write_layout", NUMBERS, ON_LINES, 1),
-    ];
-    for row in &rows {
+    for row in WRITTEN {
         fail_each(&rt, rt.alloc(), row)?;
     }
     Ok(())
