@@ -57,6 +57,20 @@ fn goes_from_view_to_view(rt: HostRuntime) -> Tested {
     Ok(())
 }
 
+#[test]
+fn reads_what_is_there_and_what_is_missing(rt: HostRuntime) -> Tested {
+    let value = parse(rt.alloc(), "{\"list\":[null,\"world\"]}")?;
+    let text = value.at("list").at_index(1).as_str();
+    expect_eq(&rt, "as_str", text, Some("world"));
+    let missing = value.at("this").at("does");
+    expect(
+        &rt,
+        "is_null",
+        missing.is_null() && missing.value().is_none(),
+    );
+    Ok(())
+}
+
 fn look_at_what_is_missing(rt: &impl Abort, missing: View<'_>) {
     expect(rt, "value", missing.value().is_none());
     expect(rt, "is_null", missing.is_null());

@@ -10,10 +10,10 @@ const COUNT: u32 = 2000;
 /// How deep the containers after it are in one another.
 const DEPTH: usize = 500;
 
-/// Ten times the 32 bytes of each value, and for an object also the 40 of each key.
-const MOST_OF_ARRAY: usize = 10 * 32 * 2000;
+/// Eight times the 48 bytes of each value, and for an object also the 48 of each key.
+const MOST_OF_ARRAY: usize = 8 * 48 * 2000;
 
-const MOST_OF_OBJECT: usize = 10 * 72 * 2000;
+const MOST_OF_OBJECT: usize = 8 * 96 * 2000;
 
 /// An array of two: a large one, and small ones in one another.
 fn arrays(alloc: Global) -> Result<String> {
