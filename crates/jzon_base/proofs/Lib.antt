@@ -25,6 +25,7 @@ pub mod Merged
 pub mod PutEach
 pub mod KnownKeys
 pub mod Handed
+pub mod HashedNames
 pub mod FlatRuns
 pub mod Tables
 pub mod Retained

@@ -5,9 +5,10 @@
 //! - put: `Pairs`, once a key has repeated. Each entry is put at once, so few distinct keys take
 //!   little memory.
 //!
-//! A strict reading asks for each key before it puts the entry. Up to 32 gathered keys are compared
-//! one by one. More are put, and then each key is searched for twice: when it is asked for, and when
-//! its entry is put. So n entries take about n (log n)^2 comparisons, whatever the keys are.
+//! A strict reading asks for each key before it puts the entry. Up to 128 gathered keys are scanned,
+//! by their hashes if there are more than 8. More are put, and then each key is searched for twice:
+//! when it is asked for, and when its entry is put. So n entries take about n (log n)^2 comparisons,
+//! whatever the keys are.
 ghost use Rattle.std.specs.Prelude.{◌≡◌, ◌<◌, [], length, Some, IfOk, IfSome, OnOk, OnErr};
 ghost use Rattle.std.specs.List.{position};
 ghost use Rattle.std.specs.Option.{is_some};
@@ -24,8 +25,8 @@ use std::marker::Model;
 /// The count of gathered entries at which a repeated key is looked for first.
 const FIRST_LIMIT: usize = 256;
 
-/// Up to how many gathered keys are compared one by one to find one of them.
-const COMPARED_MAX: usize = 32;
+/// Up to how many gathered keys are scanned to find one of them.
+const SCANNED_MAX: usize = 128;
 
 /// The growth of that count where none is found.
 const GROWTH: usize = 4;
@@ -36,6 +37,8 @@ const GROWTH: usize = 4;
 struct Gathered<V> {
     keys: Vec<Key>,
     values: Vec<V>,
+    /// The hashes of the first keys: of those that were there when a key was asked for last.
+    hashes: Vec<u64>,
     /// The count at which a repeated key is looked for.
     limit: usize,
 }
@@ -45,6 +48,7 @@ impl<V> Model for Gathered<V> {
     ghost use Rattle.std.specs.List.{zip};
     ghost use Rattle.std.specs.Coded.{coded_ℕ, coded_list, coded×};
     ghost use Rattle.jzon_base.specs.PairList.{put_each};
+    ghost use Rattle.jzon_base.specs.Private.Keys.{HasHashes};
 
     ghost Value = { List (List ℕ × V) };
 
@@ -52,12 +56,13 @@ impl<V> Model for Gathered<V> {
 
     ghost view = { λ g. put_each (zip g.keys.items g.values.items) };
 
-    ghost invariant = { λ g. length g.values.items ≡ length g.keys.items };
+    ghost invariant = { λ g. (length g.values.items ≡ length g.keys.items)
+        × HasHashes g.hashes.items g.keys.items };
 }
 
 impl<V: Drop> Gathered<V> {
     /// These entries, with the next limit.
-    fn of(pairs: Pairs<V>) -> Gathered<V>
+    fn of(alloc: Global, pairs: Pairs<V>) -> Gathered<V>
         ensures { result ≡ pairs }
     {
         let (keys, values) = pairs.into_parts();
@@ -65,6 +70,7 @@ impl<V: Drop> Gathered<V> {
         Gathered {
             keys: keys.into_vec(),
             values,
+            hashes: Vec::new(alloc),
             limit,
         }
     }
@@ -82,11 +88,18 @@ impl<V: Drop> Gathered<V> {
         Ok(())
     }
 
-    /// Whether an entry has this key. The keys are compared one by one.
-    fn has_key(&self, key: &str) -> bool
-        ensures { result ≡ is_some (find key.now self.now) }
+    /// Whether an entry has this key. Few keys are compared one by one, others by their hashes. The
+    /// error is a failed allocation.
+    fn has_key(&mut self, key: &str) -> Result<bool, AllocError>
+        ensures kept { self.new ≡ self.old }
+        ensures known { IfOk result (λ known. known ≡ is_some (find key.now self.old)) }
     {
-        index::has_name(self.keys.as_slice(), key)
+        let keys = self.keys.as_slice();
+        if keys.len() <= index::LINEAR_MAX {
+            return Ok(index::has_name(keys, key));
+        }
+        index::add_hashes(&mut self.hashes, keys)?;
+        Ok(index::has_hashed_name(self.hashes.as_slice(), keys, key))
     }
 
     /// The entries as `Pairs`, which take them over. The error is a failed allocation, and then
@@ -95,6 +108,7 @@ impl<V: Drop> Gathered<V> {
         ensures ok { IfOk result (λ p. p ≡ self.old) }
         ensures err { OnErr result (self.new ≡ self.old) }
     {
+        self.hashes.clear();
         Pairs::from_entries(alloc, &mut self.keys, &mut self.values)
     }
 
@@ -153,6 +167,13 @@ impl<V: Drop> Put<V> {
         None
     }
 
+    /// Whether an entry has this key.
+    fn has_key(&self, key: &str) -> bool
+        ensures { result ≡ is_some (find key.now self.now) }
+    {
+        self.pairs.get(key).is_some()
+    }
+
     /// Puts an entry. The error is a failed allocation.
     #[tactic(auto, using(crate::proofs::PairPlaces::places))]
     fn push(&mut self, alloc: Global, key: Key, value: V) -> Result<(), AllocError>
@@ -206,6 +227,7 @@ impl<V: Drop> Builder<V> {
             state: State::Gathered(Gathered {
                 keys: Vec::new(alloc),
                 values: Vec::new(alloc),
+                hashes: Vec::new(alloc),
                 limit: FIRST_LIMIT,
             }),
         }
@@ -219,6 +241,7 @@ impl<V: Drop> Builder<V> {
             state: State::Gathered(Gathered {
                 keys: Vec::with_capacity(alloc, capacity)?,
                 values: Vec::with_capacity(alloc, capacity)?,
+                hashes: Vec::new(alloc),
                 limit: FIRST_LIMIT,
             }),
         })
@@ -246,7 +269,7 @@ impl<V: Drop> Builder<V> {
             self.state = if pairs.len() < count {
                 State::Put(Put::of(pairs))
             } else {
-                State::Gathered(Gathered::of(pairs))
+                State::Gathered(Gathered::of(alloc, pairs))
             };
         }
         Ok(())
@@ -267,28 +290,18 @@ impl<V: Drop> Builder<V> {
         }
     }
 
-    /// Puts gathered entries, unless they are so few that keys are compared one by one. The error
-    /// is a failed allocation.
+    /// Puts gathered entries, unless they are so few that their keys are scanned. The error is a
+    /// failed allocation.
     fn settle(&mut self, alloc: Global) -> Result<(), AllocError>
         ensures { self.new ≡ self.old }
     {
         if let State::Gathered(gathered) = &mut self.state {
-            if COMPARED_MAX < gathered.keys.len() {
+            if SCANNED_MAX < gathered.keys.len() {
                 let pairs = gathered.settle(alloc)?;
                 self.state = State::Put(Put::of(pairs));
             }
         }
         Ok(())
-    }
-
-    /// Whether an entry has this key.
-    fn is_known(&self, key: &str) -> bool
-        ensures { result ≡ is_some (find key.now self.now) }
-    {
-        match &self.state {
-            State::Gathered(gathered) => gathered.has_key(key),
-            State::Put(put) => put.pairs.get(key).is_some(),
-        }
     }
 
     /// Whether an entry has this key. Calls before each of n entries take about n (log n)^2
@@ -298,7 +311,10 @@ impl<V: Drop> Builder<V> {
         ensures known { IfOk result (λ known. known ≡ is_some (find key.now self.old)) }
     {
         self.settle(alloc)?;
-        Ok(self.is_known(key))
+        match &mut self.state {
+            State::Gathered(gathered) => gathered.has_key(key),
+            State::Put(put) => Ok(put.has_key(key)),
+        }
     }
 
     /// The entries as `Pairs`. The error is a failed allocation.

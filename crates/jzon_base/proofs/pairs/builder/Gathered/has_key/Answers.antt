@@ -6,10 +6,18 @@ use Rattle.jzon_base.specs.PairList.{find}
 use Rattle.jzon_base.proofs.KnownKeys.{known-put_each}
 use Rattle.jzon_base.proofs.pairs.builder.Gathered.has_key.Goals as goal
 
-pub returns : goal.returns
-returns g c =
+pub returns-then-keys-le-LINEAR_MAX-clause-known : goal.returns-then-keys-le-LINEAR_MAX-clause-known
+returns-then-keys-le-LINEAR_MAX-clause-known g c =
     let inside = c.self.inside in
     let name = c.args.key.now in
-    c.has_name.ensures ∙ ap (list_any (λ x. bytes_eq x name)) c.as_slice.ensures.value
-    ∙ sym (known-put_each name inside.keys.items inside.values.items c.self.invariant)
+    c.has_name.ensures ∙ ap (list_any (λ x. bytes_eq x name)) c.as_slice-keys.ensures.value
+    ∙ sym (known-put_each name inside.keys.items inside.values.items c.self.invariant.0)
+    ∙ ap (λ ps. is_some (find name ps)) c.self.view_is
+
+pub returns-clause-known : goal.returns-clause-known
+returns-clause-known g c =
+    let inside = c.self.inside in
+    let name = c.args.key.now in
+    c.has_hashed_name.ensures ∙ ap (list_any (λ x. bytes_eq x name)) c.as_slice-keys.ensures.value
+    ∙ sym (known-put_each name inside.keys.items inside.values.items c.self.invariant.0)
     ∙ ap (λ ps. is_some (find name ps)) c.self.view_is

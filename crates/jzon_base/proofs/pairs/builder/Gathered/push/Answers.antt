@@ -13,5 +13,5 @@ returns-clause-ok g c =
     let vs = c.self.inside.values.items in
     (λ i. put_each (zip ((c.push_reserved.ensures.items ∙ ap (λ xs. xs ++ k ∷ []) c.reserve.ensures.items) i)
     ((c.push_reserved-2.ensures.items ∙ ap (λ xs. xs ++ v ∷ []) c.reserve-2.ensures.items) i)))
-    ∙ ap put_each (zip-push ks vs k v c.self.invariant) ∙ put_each-push (zip ks vs) k v
+    ∙ ap put_each (zip-push ks vs k v c.self.invariant.0) ∙ put_each-push (zip ks vs) k v
     ∙ ap (put k v) c.self.view_is
