@@ -5,10 +5,10 @@
 //! - put: `Pairs`, once a key has repeated. Each entry is put at once, so few distinct keys take
 //!   little memory.
 //!
-//! A strict reading asks for each key before it puts the entry. Up to 128 gathered keys are scanned,
-//! by their hashes if there are more than 8. More are put, and then each key is searched for twice:
-//! when it is asked for, and when its entry is put. So n entries take about n (log n)^2 comparisons,
-//! whatever the keys are.
+//! A strict reading asks for each key before it puts the entry. Up to 128 gathered keys are
+//! scanned, by their hashes if there are more than 8. More are put, and then each key is searched
+//! for twice: when it is asked for, and when its entry is put. So n entries take about n (log n)^2
+//! comparisons, whatever the keys are.
 ghost use Rattle.std.specs.Prelude.{◌≡◌, ◌<◌, [], length, Some, IfOk, IfSome, OnOk, OnErr};
 ghost use Rattle.std.specs.List.{position};
 ghost use Rattle.std.specs.Option.{is_some};
