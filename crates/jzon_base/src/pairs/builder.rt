@@ -5,10 +5,10 @@
 //! - put: `Pairs`, once a key has repeated. Each entry is put at once, so few distinct keys take
 //!   little memory.
 //!
-//! A strict reading asks for each key before it puts the entry. Up to 128 gathered keys are
-//! scanned, by their hashes if there are more than 8. More are put, and then each key is searched
-//! for twice: when it is asked for, and when its entry is put. So n entries take about n (log n)^2
-//! comparisons, whatever the keys are.
+//! A strict reading asks for each key before it puts the entry. Up to 32 gathered keys are compared
+//! one by one, and up to 128 by their hashes. More are put, and then each key is searched for twice:
+//! when it is asked for, and when its entry is put. So n entries take about n (log n)^2 comparisons,
+//! whatever the keys are.
 ghost use Rattle.std.specs.Prelude.{◌≡◌, ◌<◌, [], length, Some, IfOk, IfSome, OnOk, OnErr};
 ghost use Rattle.std.specs.List.{position};
 ghost use Rattle.std.specs.Option.{is_some};
@@ -25,7 +25,10 @@ use std::marker::Model;
 /// The count of gathered entries at which a repeated key is looked for first.
 const FIRST_LIMIT: usize = 256;
 
-/// Up to how many gathered keys are scanned to find one of them.
+/// Up to how many gathered keys are compared one by one to find one of them.
+const COMPARED_MAX: usize = 32;
+
+/// Up to how many gathered keys are scanned by their hashes to find one of them.
 const SCANNED_MAX: usize = 128;
 
 /// The growth of that count where none is found.
@@ -95,7 +98,7 @@ impl<V: Drop> Gathered<V> {
         ensures known { IfOk result (λ known. known ≡ is_some (find key.now self.old)) }
     {
         let keys = self.keys.as_slice();
-        if keys.len() <= index::LINEAR_MAX {
+        if keys.len() <= COMPARED_MAX {
             return Ok(index::has_name(keys, key));
         }
         index::add_hashes(&mut self.hashes, keys)?;

@@ -6,8 +6,8 @@ use Rattle.jzon_base.specs.PairList.{find}
 use Rattle.jzon_base.proofs.KnownKeys.{known-put_each}
 use Rattle.jzon_base.proofs.pairs.builder.Gathered.has_key.Goals as goal
 
-pub returns-then-keys-le-LINEAR_MAX-clause-known : goal.returns-then-keys-le-LINEAR_MAX-clause-known
-returns-then-keys-le-LINEAR_MAX-clause-known g c =
+pub returns-then-keys-le-COMPARED_MAX-clause-known : goal.returns-then-keys-le-COMPARED_MAX-clause-known
+returns-then-keys-le-COMPARED_MAX-clause-known g c =
     let inside = c.self.inside in
     let name = c.args.key.now in
     c.has_name.ensures ∙ ap (list_any (λ x. bytes_eq x name)) c.as_slice-keys.ensures.value
