@@ -436,31 +436,31 @@ fn reads_512_open_containers(rt: HostRuntime) -> Result<(), Fail> {
 }
 
 /// The parts of a text, each with how often it comes, and the message.
-const TOO_DEEP: &[([(&str, usize); 3], &str)] = &[
+const TOO_DEEP: &[(&[(&str, usize)], &str)] = &[
     (
-        [("[", 513), ("null", 1), ("]", 513)],
+        &[("[", 513), ("null", 1), ("]", 513)],
         "Exceeded depth limit",
     ),
     (
-        [("[{\"a\":", 5000), ("null", 1), ("}]", 5000)],
+        &[("[{\"a\":", 5000), ("null", 1), ("}]", 5000)],
         "Exceeded depth limit",
     ),
     (
-        [("[", 512), ("{\"a\":1}", 1), ("]", 512)],
+        &[("[", 512), ("{\"a\":1}", 1), ("]", 512)],
         "Exceeded depth limit",
     ),
     (
-        [("{\"a\":", 512), ("[1]", 1), ("}", 512)],
+        &[("{\"a\":", 512), ("[1]", 1), ("}", 512)],
         "Exceeded depth limit",
     ),
-    ([("[", 513), ("}", 1), ("", 0)], "Exceeded depth limit"),
-    ([("[", 513), ("x", 1), ("", 0)], "Exceeded depth limit"),
-    ([("[", 100000), ("", 0), ("", 0)], "Exceeded depth limit"),
-    ([("[", 512), ("{1", 1), ("", 0)], "Exceeded depth limit"),
-    ([("[", 513), ("", 0), ("", 0)], "Unexpected end of JSON"),
-    ([("[", 512), ("{ ", 1), ("", 0)], "Unexpected end of JSON"),
+    (&[("[", 513), ("}", 1)], "Exceeded depth limit"),
+    (&[("[", 513), ("x", 1)], "Exceeded depth limit"),
+    (&[("[", 100000)], "Exceeded depth limit"),
+    (&[("[", 512), ("{1", 1)], "Exceeded depth limit"),
+    (&[("[", 513)], "Unexpected end of JSON"),
+    (&[("[", 512), ("{ ", 1)], "Unexpected end of JSON"),
     (
-        [("[", 512), ("x", 1), ("", 0)],
+        &[("[", 512), ("x", 1)],
         "Unexpected character: x at (1:513)",
     ),
 ];
