@@ -10,11 +10,11 @@ use Rattle.jzon.specs.Error.TheVariants.{FailedUtf8Parsing, WrongType, OutOfMemo
 use Rattle.jzon.specs.Reading.{Reading}
 use Rattle.jzon.specs.Answer.{IsErrorUnlessMemory}
 use Rattle.jzonfmt.specs.Run.{fault_of, Reads, Answers}
-use Rattle.jzonfmt.specs.declared.engine.LayoutChoice.{LayoutChoice}
+use Rattle.jzonfmt.specs.declared.engine.Layout.{Layout}
 use Rattle.jzonfmt.specs.declared.engine.RunFault.{RunFault}
 use Rattle.jzonfmt.specs.declared.engine.RunFault.TheVariants.{Read, NotUtf8, Json, Write, Memory}
 
-answers_fault : (T : Type 0) (reading : Reading) (layout : LayoutChoice) (input : List ℕ) (e : Error) (w : Option (List ℕ))
+answers_fault : (T : Type 0) (reading : Reading) (layout : Layout) (input : List ℕ) (e : Error) (w : Option (List ℕ))
     → IsUtf8 input → IsErrorUnlessMemory reading (chars input) e
     → Answers {T = T} reading layout input (Err (fault_of e)) w w
 answers_fault T reading layout input OutOfMemory w u h = Keeps-refl w
@@ -32,7 +32,7 @@ answers_fault T reading layout input (DuplicateKey l k) w u (inl e) = absurd (cc
 answers_fault T reading layout input (DuplicateKey l k) w u (inr h) = ((u, h), Keeps-refl w)
 
 -- the error of the text, reported as a fault
-pub answers_error : {T : Type 0} (reading : Reading) (layout : LayoutChoice) (input : List ℕ) (e : Error)
+pub answers_error : {T : Type 0} (reading : Reading) (layout : Layout) (input : List ℕ) (e : Error)
     (result : Result T RunFault) (w : Option (List ℕ)) → IsUtf8 input
     → IsErrorUnlessMemory reading (chars input) e → IsErrAnd result (λ f. f ≡ fault_of e)
     → Answers reading layout input result w w

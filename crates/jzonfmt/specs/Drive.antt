@@ -8,8 +8,8 @@ use Rattle.std.specs.Str.Parse.{digits_value}
 use Rattle.std.specs.Io.KnownBytes.{Keeps}
 use Rattle.jzon.specs.ErrorText.{error_text}
 use Rattle.jzon.specs.Reading.{Reading, usual}
-use Rattle.jzonfmt.specs.declared.engine.LayoutChoice.{LayoutChoice}
-use Rattle.jzonfmt.specs.declared.engine.LayoutChoice.TheVariants.{Compact, Pretty}
+use Rattle.jzonfmt.specs.declared.engine.Layout.{Layout}
+use Rattle.jzonfmt.specs.declared.engine.Layout.TheVariants.{Compact, Pretty}
 use Rattle.jzonfmt.specs.declared.engine.Options.{Options}
 use Rattle.jzonfmt.specs.declared.engine.RunFault.{RunFault}
 use Rattle.jzonfmt.specs.declared.engine.RunFault.TheVariants.{Read, NotUtf8, Json, Write, Memory}
@@ -41,7 +41,7 @@ asked_spaces n =
 
 -- The layout that the arguments name, if they name one: none for the compact layout, and `--pretty N` for the pretty
 -- one with N spaces.
-abbrev pub asked_layout : List (List ℕ) → Option LayoutChoice
+abbrev pub asked_layout : List (List ℕ) → Option Layout
 asked_layout [] = Some Compact
 asked_layout (option ∷ spaces ∷ []) =
     if bytes_eq option (codes "--pretty") then option_map Pretty (asked_spaces spaces) else None
@@ -50,7 +50,7 @@ asked_layout _ = None
 abbrev pub reading_of : Bool → Reading
 reading_of strict = record usual { strict = strict }
 
-abbrev pub asking : Bool → LayoutChoice → Options
+abbrev pub asking : Bool → Layout → Options
 asking strict layout = record { reading = reading_of strict; layout = layout }
 
 -- a layout's arguments, with `--strict` after them or without it

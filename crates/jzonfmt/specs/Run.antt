@@ -10,8 +10,8 @@ use Rattle.jzon.specs.Reading.{Reading}
 use Rattle.jzon.specs.Grammar.{Document}
 use Rattle.jzon.specs.Meaning.{meaning}
 use Rattle.jzon.specs.Fault.{Parses, IsErrorOf}
-use Rattle.jzonfmt.specs.declared.engine.LayoutChoice.{LayoutChoice}
-use Rattle.jzonfmt.specs.declared.engine.LayoutChoice.TheVariants.{Compact, Pretty}
+use Rattle.jzonfmt.specs.declared.engine.Layout.{Layout}
+use Rattle.jzonfmt.specs.declared.engine.Layout.TheVariants.{Compact, Pretty}
 use Rattle.jzonfmt.specs.declared.engine.RunFault.{RunFault}
 use Rattle.jzonfmt.specs.declared.engine.RunFault.TheVariants.{Read, NotUtf8, Json, Write, Memory}
 
@@ -41,16 +41,16 @@ abbrev pub IsTextOf : Reading → List ℕ → Document → Type 0
 IsTextOf reading input d = IsUtf8 input × Parses reading (chars input) d
 
 -- the text of a value in the layout
-abbrev pub text : LayoutChoice → Value → List ℕ
+abbrev pub text : Layout → Value → List ℕ
 text Compact v = compact v
 text (Pretty spaces) v = pretty v spaces 0
 
 -- the same and a newline
-abbrev pub line : LayoutChoice → Value → List ℕ
+abbrev pub line : Layout → Value → List ℕ
 line layout v = text layout v ++ 10 ∷ []
 
 -- the line printed for a tree: that of the value it means
-abbrev pub printed : LayoutChoice → Document → List ℕ
+abbrev pub printed : Layout → Document → List ℕ
 printed layout d = line layout (meaning d.node)
 
 -- these bytes are written, or after an error a prefix of them
@@ -61,7 +61,7 @@ WritesWhole bs r old new = MatchResult r (λ _. Appends old new bs) (λ _. Appen
 
 -- The result for the input, and what the writer holds before and after. After a fault nothing is written, except after
 -- a fault of the writer: then a prefix of what was to be printed is.
-abbrev pub Answers : {T : Type 0} → Reading → LayoutChoice → List ℕ → Result T RunFault → Option (List ℕ) → Option (List ℕ)
+abbrev pub Answers : {T : Type 0} → Reading → Layout → List ℕ → Result T RunFault → Option (List ℕ) → Option (List ℕ)
     → Type 0
 Answers reading layout input (Ok _) old new = (d : Document) × IsTextOf reading input d
     × Appends old new (printed layout d)
@@ -77,7 +77,7 @@ pub record Streams : Type 0 where
   pub written : Option (List ℕ)
 
 -- some bytes are read, and the result is the one for them
-abbrev pub Runs : {T : Type 0} → Reading → LayoutChoice → Result T RunFault → Streams → Streams → Type 0
+abbrev pub Runs : {T : Type 0} → Reading → Layout → Result T RunFault → Streams → Streams → Type 0
 Runs reading layout result before after =
     (input : List ℕ) × Reads result before.unread after.unread input
     × Answers reading layout input result before.written after.written

@@ -18,7 +18,7 @@ use std::{fmt, io, mem};
 
 /// The layouts that the arguments can choose.
 #[derive(Clone, Copy, Debug, PartialEq, Eq)]
-pub enum LayoutChoice {
+pub enum Layout {
     /// Without whitespace.
     Compact,
     /// With a new line before each element, each entry and the closing bracket of a container that
@@ -32,7 +32,7 @@ pub struct Options {
     /// How it is read.
     pub reading: Reading,
     /// How it is printed.
-    pub layout: LayoutChoice,
+    pub layout: Layout,
 }
 
 /// Why a text was not printed, or only in part.
@@ -116,7 +116,7 @@ pub fn run<R: Read, W: Write>(
     reader: &mut R,
     writer: &mut W,
     reading: &Reading,
-    layout: LayoutChoice,
+    layout: Layout,
 ) -> Result<(), RunFault>
     ensures { Runs reading.now layout result
         (record { unread = R.remaining reader.old; written = W.contents writer.old })
@@ -158,7 +158,7 @@ fn print_input<W: Write>(
     input: &[u8],
     writer: &mut W,
     reading: &Reading,
-    layout: LayoutChoice,
+    layout: Layout,
 ) -> Result<(), RunFault>
     ensures { Answers reading.now layout input.now result (W.contents writer.old)
         (W.contents writer.new) }
@@ -180,7 +180,7 @@ fn write_line<W: Write, S: Start>(
     writer: &mut W,
     memory: Vec<u8>,
     value: &JsonValue,
-    layout: LayoutChoice,
+    layout: Layout,
 ) -> io::Result<()>
     requires empty { memory.items ≡ [] }
     requires start { S.start ≡ count (W.contents writer.old) }
@@ -199,7 +199,7 @@ fn write_line<W: Write, S: Start>(
 fn write_held<W: Write, S: Start>(
     buffered: &mut Buffered<'_, W, S>,
     value: &JsonValue,
-    layout: LayoutChoice,
+    layout: Layout,
 ) -> io::Result<()>
     ensures bytes { WritesWhole (line layout (view value.now)) result
         (held W.contents S.start buffered.old) (held W.contents S.start buffered.new) }
@@ -211,13 +211,13 @@ fn write_held<W: Write, S: Start>(
 }
 
 /// Writes the text of the value in the layout.
-fn write_text<W: Outlet>(writer: &mut W, value: &JsonValue, layout: LayoutChoice) -> io::Result<()>
+fn write_text<W: Outlet>(writer: &mut W, value: &JsonValue, layout: Layout) -> io::Result<()>
     ensures { WritesWhole (text layout (view value.now)) result (W.Write.contents writer.old)
         (W.Write.contents writer.new) }
 {
     match layout {
-        LayoutChoice::Compact => value.write_outlet(writer, Compact),
-        LayoutChoice::Pretty(spaces) => value.write_outlet(writer, Pretty(spaces)),
+        Layout::Compact => value.write_outlet(writer, Compact),
+        Layout::Pretty(spaces) => value.write_outlet(writer, Pretty(spaces)),
     }
 }
 
@@ -261,13 +261,13 @@ fn options_of(words: &[String]) -> Option<Options>
 }
 
 /// The layout that the arguments name.
-fn layout_of(words: &[String]) -> Option<LayoutChoice>
+fn layout_of(words: &[String]) -> Option<Layout>
     ensures { result ≡ asked_layout (map string_bytes words.now) }
 {
     match words {
-        [] => Some(LayoutChoice::Compact),
+        [] => Some(Layout::Compact),
         [option, spaces] if option.as_str() == "--pretty" => {
-            Some(LayoutChoice::Pretty(spaces_of(spaces.as_str())?))
+            Some(Layout::Pretty(spaces_of(spaces.as_str())?))
         }
         _ => None,
     }

@@ -2,7 +2,7 @@
 //! counts blocks: bin/test runs these tests once more with it.
 
 use crate::engine;
-use crate::engine::{LayoutChoice, RunFault};
+use crate::engine::{Layout, RunFault};
 use crate::tests::usual;
 use jzon_test_support::{DOCUMENT, DUMP, RUNS_MAX, Refusals};
 use std::alloc::Global;
@@ -18,13 +18,7 @@ fn run_under_refusals(rt: HostRuntime) -> Result<(), Fail> {
         let mut reader = DOCUMENT.as_bytes();
         let mut writer: Vec<u8> = Vec::with_capacity(alloc, 256)?;
         refusals.begin();
-        let result = engine::run(
-            alloc,
-            &mut reader,
-            &mut writer,
-            &usual(),
-            LayoutChoice::Compact,
-        );
+        let result = engine::run(alloc, &mut reader, &mut writer, &usual(), Layout::Compact);
         if refusals.has_failed() {
             assert!(rt; matches!(result, Err(RunFault::Memory)));
             assert!(rt; writer.is_empty());

@@ -3,7 +3,7 @@
 ghost use Rattle.std.specs.Prelude.{Some};
 
 use crate::engine;
-use crate::engine::{LayoutChoice, RunFault};
+use crate::engine::{Layout, RunFault};
 use jzon::{Error, Reading};
 use jzon_test_support::{
     DOCUMENT, NO_FAILING_CALL, SlowWriter, Trouble, joined, keys_by_hash, keys_of_one_hash,
@@ -239,13 +239,7 @@ fn reads_strictly(rt: HostRuntime) -> Result<(), Fail> {
 fn ran(alloc: Global, input: &[u8]) -> (Result<(), RunFault>, Vec<u8>) {
     let mut reader = input;
     let mut writer: Vec<u8> = Vec::new(alloc);
-    let result = engine::run(
-        alloc,
-        &mut reader,
-        &mut writer,
-        &usual(),
-        LayoutChoice::Compact,
-    );
+    let result = engine::run(alloc, &mut reader, &mut writer, &usual(), Layout::Compact);
     (result, writer)
 }
 
@@ -345,14 +339,7 @@ fn reads_inputs_round_a_chunk(rt: HostRuntime) -> Result<(), Fail> {
         let mut reader = input.as_slice();
         let mut writer: Vec<u8> = Vec::new(alloc);
         assert!(rt;
-            engine::run(
-                alloc,
-                &mut reader,
-                &mut writer,
-                &usual(),
-                LayoutChoice::Compact
-            )
-            .is_ok(),
+            engine::run(alloc, &mut reader, &mut writer, &usual(), Layout::Compact).is_ok(),
             "{spaces} spaces"
         );
         assert_eq!(rt; writer.as_slice(), b"null\n".as_slice());
@@ -373,13 +360,7 @@ fn a_reader_fails_at_each_call(rt: HostRuntime) -> Result<(), Fail> {
         for call in 1..=TEXT.len() + 1 {
             let mut reader = FailingReader::new(TEXT, call, trouble);
             let mut writer: Vec<u8> = Vec::new(alloc);
-            match engine::run(
-                alloc,
-                &mut reader,
-                &mut writer,
-                &usual(),
-                LayoutChoice::Compact,
-            ) {
+            match engine::run(alloc, &mut reader, &mut writer, &usual(), Layout::Compact) {
                 Err(RunFault::Read(error)) => {
                     assert!(rt; trouble.is_returned(alloc, &error)?, "call {call}")
                 }
@@ -391,16 +372,7 @@ fn a_reader_fails_at_each_call(rt: HostRuntime) -> Result<(), Fail> {
     }
     let mut reader = FailingReader::new(TEXT, NO_FAILING_CALL, Trouble::TakesNothing);
     let mut writer: Vec<u8> = Vec::new(alloc);
-    assert!(rt;
-        engine::run(
-            alloc,
-            &mut reader,
-            &mut writer,
-            &usual(),
-            LayoutChoice::Compact
-        )
-        .is_ok()
-    );
+    assert!(rt; engine::run(alloc, &mut reader, &mut writer, &usual(), Layout::Compact).is_ok());
     assert_eq!(rt; writer.as_slice(), PRINTED);
     Ok(())
 }
@@ -435,13 +407,7 @@ fn a_writer_fails_at_each_call(rt: HostRuntime) -> Result<(), Fail> {
         for call in 1..=PRINTED.len() {
             let mut reader = TEXT;
             let mut writer = SlowWriter::new(alloc, call, trouble);
-            let outcome = engine::run(
-                alloc,
-                &mut reader,
-                &mut writer,
-                &usual(),
-                LayoutChoice::Compact,
-            );
+            let outcome = engine::run(alloc, &mut reader, &mut writer, &usual(), Layout::Compact);
             expect_write_error(&rt, alloc, &outcome, trouble, call)?;
             assert_eq!(rt; writer.calls, call);
             assert_eq!(rt; writer.bytes.as_slice(), &PRINTED[..call - 1]);
@@ -449,16 +415,7 @@ fn a_writer_fails_at_each_call(rt: HostRuntime) -> Result<(), Fail> {
     }
     let mut reader = TEXT;
     let mut writer = SlowWriter::new(alloc, NO_FAILING_CALL, Trouble::TakesNothing);
-    assert!(rt;
-        engine::run(
-            alloc,
-            &mut reader,
-            &mut writer,
-            &usual(),
-            LayoutChoice::Compact
-        )
-        .is_ok()
-    );
+    assert!(rt; engine::run(alloc, &mut reader, &mut writer, &usual(), Layout::Compact).is_ok());
     assert_eq!(rt; writer.bytes.as_slice(), PRINTED);
     Ok(())
 }
@@ -473,14 +430,7 @@ fn writes_texts_round_a_full_buffer(rt: HostRuntime) -> Result<(), Fail> {
         let mut reader = text.as_bytes();
         let mut writer: Vec<u8> = Vec::new(alloc);
         assert!(rt;
-            engine::run(
-                alloc,
-                &mut reader,
-                &mut writer,
-                &usual(),
-                LayoutChoice::Compact
-            )
-            .is_ok(),
+            engine::run(alloc, &mut reader, &mut writer, &usual(), Layout::Compact).is_ok(),
             "{items} items"
         );
         assert_eq!(rt;
@@ -491,13 +441,7 @@ fn writes_texts_round_a_full_buffer(rt: HostRuntime) -> Result<(), Fail> {
         for call in [1, 65536.min(whole), 65537.min(whole), whole] {
             let mut reader = text.as_bytes();
             let mut slow = SlowWriter::new(alloc, call, Trouble::TakesNothing);
-            let outcome = engine::run(
-                alloc,
-                &mut reader,
-                &mut slow,
-                &usual(),
-                LayoutChoice::Compact,
-            );
+            let outcome = engine::run(alloc, &mut reader, &mut slow, &usual(), Layout::Compact);
             expect_write_error(&rt, alloc, &outcome, Trouble::TakesNothing, call)?;
             assert!(rt; writer.starts_with(&slow.bytes));
             assert_eq!(rt; slow.bytes.len() + 1, call);
@@ -524,13 +468,7 @@ fn prints_strings_longer_than_the_buffer(rt: HostRuntime) -> Result<(), Fail> {
         for call in [1, 65536, 65538] {
             let mut reader = text.as_bytes();
             let mut slow = SlowWriter::new(alloc, call, trouble);
-            let outcome = engine::run(
-                alloc,
-                &mut reader,
-                &mut slow,
-                &usual(),
-                LayoutChoice::Compact,
-            );
+            let outcome = engine::run(alloc, &mut reader, &mut slow, &usual(), Layout::Compact);
             expect_write_error(&rt, alloc, &outcome, trouble, call)?;
             assert!(rt; slow.calls == call && text.as_bytes().starts_with(&slow.bytes));
         }
