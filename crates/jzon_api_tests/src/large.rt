@@ -1,5 +1,5 @@
 //! Values far beyond what is kept inline, compared in place, or made room for in advance: each call
-//! that may run out of memory succeeds at a thousand elements or members, and at long strings.
+//! that may run out of memory succeeds at a thousand elements or entries, and at long strings.
 
 use crate::common::{Tested, expect};
 use jzon::codegen::{Compact, Pretty};
@@ -253,7 +253,7 @@ impl Made {
     }
 }
 
-/// That of a hash map has its members in any order.
+/// That of a hash map has its entries in any order.
 #[test]
 fn large_objects(rt: HostRuntime) -> Tested {
     let alloc = rt.alloc();

@@ -1,4 +1,4 @@
-//! Escapes: the letters of short escapes, and hexadecimal digits.
+//! Escapes: the letters of simple escapes, and hexadecimal digits.
 
 use crate::common::expect_eq;
 use jzon_base::util::escapes::{hex_digit, hex_value, letter_of, meant_by};
@@ -20,7 +20,7 @@ const MEANT: &[(u8, Option<char>)] = &[
     (255, None),
 ];
 
-/// A byte, and the letter of its short escape.
+/// A byte, and the letter of its simple escape.
 const LETTERS: &[(u8, Option<u8>)] = &[
     (b'"', Some(b'"')),
     (b'\\', Some(b'\\')),

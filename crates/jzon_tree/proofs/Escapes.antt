@@ -1,4 +1,4 @@
--- The short escapes and the others.
+-- The simple escapes and the others.
 use Rattle.std.proofs.Common.{◌≡◌, ℕ, ◌<◌, ◌∷◌, [], List, Bool, true, false, cond, refl, arith}
 use Rattle.std.specs.Prelude.{◌==◌, ◌||◌}
 use Rattle.jzon_base.specs.Escapes.{letter_of}

@@ -8,7 +8,7 @@ use Rattle.jzon_base.specs.Tokens.{value_separator}
 use Rattle.jzon_tree.specs.Value.{Value, null, boolean, text, number, array, object, Values, no_values, value, Pairs}
 use Rattle.jzon_tree.specs.Value.{no_pairs, pair}
 
--- The escaped form of byte c in a string: a short escape if there is one, `\u00` and two lower-case digits for the
+-- The escaped form of byte c in a string: a simple escape if there is one, `\u00` and two lower-case digits for the
 -- other bytes below 32, else the byte itself.
 abbrev pub escaped_byte : ℕ → List ℕ
 escaped_byte c =

@@ -1,4 +1,4 @@
--- The value that a `JsonValue` is.
+-- The value that a `JsonValue` stands for.
 use Rattle.std.specs.Prelude.{ℕ, List, map, string_bytes}
 use Rattle.jzon_tree.specs.Value.{Value, Values, Pairs, null, boolean, number, text, array, object, short, long}
 use Rattle.jzon_tree.specs.Value.{values_of, pairs_of}
@@ -33,6 +33,6 @@ viewed ps = map (λ p. (p.0, view p.1)) ps
 abbrev pub view_pairs : List (List ℕ × JsonValue) → Pairs
 view_pairs ps = pairs_of (viewed ps)
 
--- the value that an `Object` is
+-- the value that an `Object` stands for
 abbrev pub view_object : Object → Value
 view_object o = object (view_pairs (entries_of o))

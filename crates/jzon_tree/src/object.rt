@@ -180,8 +180,8 @@ impl Object {
     /// allocation, else last. Fails with `OutOfMemory` only; then the object is as it was, and
     /// `value` is dropped.
     ///
-    /// `n` calls with new keys take a time of about n log n, and `from_pairs` less (measured, not
-    /// proved: docs/MEASURED.md).
+    /// `n` calls with new keys take a time of about n (log n)^2 at most, and `from_pairs` less
+    /// (measured, not proved: docs/MEASURED.md).
     pub fn insert(&mut self, alloc: Global, key: &str, value: JsonValue) -> Result<()>
         ensures ok { OnOk result (entries_of self.new ≡ put key.now value (entries_of self.old)) }
         ensures err { OnErr result (self.new ≡ self.old) }

@@ -25,7 +25,7 @@ use Rattle.jzon.proofs.Strings.PlainRuns.{plain_wide}
 
 -- ---- what is written for a character
 
--- as an item: a short escape if there is one, `\u` and four digits for the other characters below 32, else the
+-- as an item: a simple escape if there is one, `\u` and four digits for the other characters below 32, else the
 -- character itself
 abbrev pub item_of : ℕ → Item
 item_of c =

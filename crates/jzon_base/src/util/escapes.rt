@@ -1,4 +1,4 @@
-//! Escapes in strings (RFC 8259, section 7): the letters of short escapes and hexadecimal digits,
+//! Escapes in strings (RFC 8259, section 7): the letters of simple escapes and hexadecimal digits,
 //! as they are read and as they are printed. What is printed is read back: the clauses `read_back`.
 
 ghost use Rattle.std.specs.Prelude.{◌≡◌, ◌<◌, IsTrue, IfSome};
@@ -6,7 +6,7 @@ ghost use Rattle.std.specs.Char.{is_ascii_hexdigit, digit_char, digit_value};
 ghost use Rattle.std.specs.Option.{SomeIff};
 ghost use Rattle.jzon_base.specs.Escapes.{is_simple, unescaped, letter_of};
 
-/// The byte that a backslash means before each letter of a short escape, and 0 for all others.
+/// The byte that a backslash means before each letter of a simple escape, and 0 for all others.
 #[rattlefmt::skip]
 static UNESCAPED: [u8; 256] = [
     0, 0, 0, 0, 0, 0, 0, 0, 0, 0, 0, 0, 0, 0, 0, 0,
@@ -27,7 +27,7 @@ static UNESCAPED: [u8; 256] = [
     0, 0, 0, 0, 0, 0, 0, 0, 0, 0, 0, 0, 0, 0, 0, 0,
 ];
 
-/// The letter of the short escape of each byte that has one, and 0 for all others. No byte from 96
+/// The letter of the simple escape of each byte that has one, and 0 for all others. No byte from 96
 /// on has one.
 #[rattlefmt::skip]
 static ESCAPE_LETTERS: [u8; 96] = [
@@ -76,7 +76,7 @@ pub fn meant_by(letter: u8) -> Option<char>
     }
 }
 
-/// The letter of the short escape of this byte.
+/// The letter of the simple escape of this byte.
 #[inline(always)]
 pub fn letter_of(byte: u8) -> Option<u8>
     ensures letter { SomeIff result (0 < letter_of byte) (letter_of byte) }

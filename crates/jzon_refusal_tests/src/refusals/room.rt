@@ -143,7 +143,7 @@ fn fill(object: &mut Object, alloc: Global, keys: &[String]) -> Result<()> {
     Ok(())
 }
 
-/// An object with room for a hundred members takes them without an allocation, but not one more.
+/// An object with room for a hundred entries takes them without an allocation, but not one more.
 #[test]
 fn capacity_under_refusals(rt: HostRuntime) -> Tested {
     let alloc = rt.alloc();

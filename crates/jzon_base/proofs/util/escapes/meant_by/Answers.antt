@@ -5,7 +5,7 @@ use Rattle.jzon_base.specs.Escapes.{is_simple, unescaped}
 use Rattle.jzon_base.specs.declared.util.escapes.TheConstants.{UNESCAPED}
 use Rattle.jzon_base.proofs.util.escapes.meant_by.Goals as goal
 
--- what a letter of a short escape means, and 0 for any other byte
+-- what a letter of a simple escape means, and 0 for any other byte
 abbrev mark : ℕ → ℕ
 mark b = cond (is_simple b) (unescaped b) 0
 
