@@ -25,7 +25,7 @@ pub mod Merged
 pub mod PutEach
 pub mod KnownKeys
 pub mod Handed
-pub mod HashedNames
+pub mod TaggedNames
 pub mod FlatRuns
 pub mod Tables
 pub mod Retained

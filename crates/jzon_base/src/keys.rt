@@ -1,10 +1,10 @@
 //! The keys of an object in the order in which they were put, and the position of each
 //! (docs/RULES.md, "Objects").
 //!
-//! How a key is found: up to eight keys that have no index are compared one by one. From the ninth
-//! key on, and still after removals, `Runs` has an entry of hash and position for each key, in few
-//! runs in the order of hashes and texts; each is asked by one binary search, so that the time
-//! doesn't depend on which hashes the keys have.
+//! How a key is found: up to 16 keys that have no index are compared one by one. From the 17th key
+//! on, and still after removals, `Runs` has an entry of hash and position for each key, in few runs
+//! in the order of hashes and texts; each is asked by one binary search, so that the time doesn't
+//! depend on which hashes the keys have.
 //!
 //! `pairs::Builder` finds repeated keys by one sort of such entries, and later ones in `Keys`.
 ghost use Rattle.std.specs.Prelude.{◌≡◌, ◌<◌, ◌≤◌, ◌++◌, ◌∷◌, ◌==◌, [], length, remove, slice_get, map};
@@ -21,6 +21,7 @@ mod iter;
 mod order;
 mod retain;
 pub mod runs;
+pub(crate) mod tags;
 
 use crate::fit::{fit, reserve_next};
 use crate::key::Key;

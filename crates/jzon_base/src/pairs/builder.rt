@@ -5,10 +5,10 @@
 //! - put: `Pairs`, once a key has repeated. Each entry is put at once, so few distinct keys take
 //!   little memory.
 //!
-//! A strict reading asks for each key before it puts the entry. Up to 32 gathered keys are compared
-//! one by one, and up to 128 by their hashes. More are put, and then each key is searched for twice:
-//! when it is asked for, and when its entry is put. So n entries take about n (log n)^2 comparisons,
-//! whatever the keys are.
+//! A strict reading asks for each key before it puts the entry. Up to 16 gathered keys are compared
+//! one by one, and others up to 256 by their tags. More are put, and then each key is searched for
+//! twice: when it is asked for, and when its entry is put. So n entries take about n (log n)^2
+//! comparisons, whatever the keys are.
 ghost use Rattle.std.specs.Prelude.{◌≡◌, ◌<◌, [], length, Some, IfOk, IfSome, OnOk, OnErr};
 ghost use Rattle.std.specs.List.{position};
 ghost use Rattle.std.specs.Option.{is_some};
@@ -19,20 +19,19 @@ use super::Pairs;
 use crate::fit::fit;
 use crate::key::Key;
 use crate::keys::index;
+use crate::keys::tags::Tags;
 use std::alloc::{AllocError, Global};
 use std::marker::Model;
 
-/// The count of gathered entries at which a repeated key is looked for first.
+/// The count of gathered entries at which a repeated key is looked for first, and at which a strict
+/// reading puts them.
 const FIRST_LIMIT: usize = 256;
 
-/// Up to how many gathered keys are compared one by one to find one of them.
-const COMPARED_MAX: usize = 32;
-
-/// Up to how many gathered keys are scanned by their hashes to find one of them.
-const SCANNED_MAX: usize = 128;
-
-/// The growth of that count where none is found.
-const GROWTH: usize = 4;
+/// Whether a count is a power of four. Not inlined, because only one count in 256 is looked at.
+#[inline(never)]
+fn is_power_of_four(count: usize) -> bool {
+    count.is_power_of_two() && count.trailing_zeros() % 2 == 0
+}
 
 /// Keys and values in the order in which they came, of which some may repeat a key. A clause sees
 /// the list of entries after all merges.
@@ -40,10 +39,9 @@ const GROWTH: usize = 4;
 struct Gathered<V> {
     keys: Vec<Key>,
     values: Vec<V>,
-    /// The hashes of the first keys: of those that were there when a key was asked for last.
-    hashes: Vec<u64>,
-    /// The count at which a repeated key is looked for.
-    limit: usize,
+    /// The tags of the first keys, if a key was asked for: of those that were there then. In a box,
+    /// because only a strict reading asks.
+    tags: Option<Box<Tags>>,
 }
 
 impl<V> Model for Gathered<V> {
@@ -51,7 +49,7 @@ impl<V> Model for Gathered<V> {
     ghost use Rattle.std.specs.List.{zip};
     ghost use Rattle.std.specs.Coded.{coded_ℕ, coded_list, coded×};
     ghost use Rattle.jzon_base.specs.PairList.{put_each};
-    ghost use Rattle.jzon_base.specs.Private.Keys.{HasHashes};
+    ghost use Rattle.jzon_base.specs.Private.Keys.{tags_in, HasTags};
 
     ghost Value = { List (List ℕ × V) };
 
@@ -60,21 +58,19 @@ impl<V> Model for Gathered<V> {
     ghost view = { λ g. put_each (zip g.keys.items g.values.items) };
 
     ghost invariant = { λ g. (length g.values.items ≡ length g.keys.items)
-        × HasHashes g.hashes.items g.keys.items };
+        × HasTags (tags_in g.tags) g.keys.items };
 }
 
 impl<V: Drop> Gathered<V> {
-    /// These entries, with the next limit.
-    fn of(alloc: Global, pairs: Pairs<V>) -> Gathered<V>
+    /// These entries.
+    fn of(pairs: Pairs<V>) -> Gathered<V>
         ensures { result ≡ pairs }
     {
         let (keys, values) = pairs.into_parts();
-        let limit = values.len().saturating_mul(GROWTH).max(FIRST_LIMIT);
         Gathered {
             keys: keys.into_vec(),
             values,
-            hashes: Vec::new(alloc),
-            limit,
+            tags: None,
         }
     }
 
@@ -91,18 +87,23 @@ impl<V: Drop> Gathered<V> {
         Ok(())
     }
 
-    /// Whether an entry has this key. Few keys are compared one by one, others by their hashes. The
+    /// Whether an entry has this key. Few keys are compared one by one, others by their tags. The
     /// error is a failed allocation.
-    fn has_key(&mut self, key: &str) -> Result<bool, AllocError>
+    fn has_key(&mut self, alloc: Global, key: &str) -> Result<bool, AllocError>
         ensures kept { self.new ≡ self.old }
         ensures known { IfOk result (λ known. known ≡ is_some (find key.now self.old)) }
     {
         let keys = self.keys.as_slice();
-        if keys.len() <= COMPARED_MAX {
+        if keys.len() <= index::LINEAR_MAX {
             return Ok(index::has_name(keys, key));
         }
-        index::add_hashes(&mut self.hashes, keys)?;
-        Ok(index::has_hashed_name(self.hashes.as_slice(), keys, key))
+        let mut tags = match self.tags.take() {
+            Some(tags) => tags,
+            None => Box::new(alloc, Tags::new(alloc)?)?,
+        };
+        let known = tags.has_name(keys, key);
+        self.tags = Some(tags);
+        known
     }
 
     /// The entries as `Pairs`, which take them over. The error is a failed allocation, and then
@@ -111,7 +112,7 @@ impl<V: Drop> Gathered<V> {
         ensures ok { IfOk result (λ p. p ≡ self.old) }
         ensures err { OnErr result (self.new ≡ self.old) }
     {
-        self.hashes.clear();
+        self.tags = None;
         Pairs::from_entries(alloc, &mut self.keys, &mut self.values)
     }
 
@@ -230,8 +231,7 @@ impl<V: Drop> Builder<V> {
             state: State::Gathered(Gathered {
                 keys: Vec::new(alloc),
                 values: Vec::new(alloc),
-                hashes: Vec::new(alloc),
-                limit: FIRST_LIMIT,
+                tags: None,
             }),
         }
     }
@@ -244,35 +244,38 @@ impl<V: Drop> Builder<V> {
             state: State::Gathered(Gathered {
                 keys: Vec::with_capacity(alloc, capacity)?,
                 values: Vec::with_capacity(alloc, capacity)?,
-                hashes: Vec::new(alloc),
-                limit: FIRST_LIMIT,
+                tags: None,
             }),
         })
     }
 
-    /// Whether as many entries are gathered as the limit allows.
+    /// Whether a repeated key is looked for before another entry is gathered: at 256 of them, 1,024,
+    /// 4,096 and so on.
     #[inline(always)]
     fn is_at_limit(&self) -> bool {
         match &self.state {
-            State::Gathered(gathered) => gathered.limit <= gathered.keys.len(),
+            State::Gathered(gathered) => {
+                let count = gathered.keys.len();
+                count % FIRST_LIMIT == 0 && is_power_of_four(count)
+            }
             State::Put(_) => false,
         }
     }
 
-    /// Merges gathered entries, which stay gathered if no key repeats. The error is a failed
-    /// allocation.
+    /// Merges gathered entries. They stay gathered if no key repeats and they may stay, else they
+    /// are put. The error is a failed allocation.
     #[cold]
     #[inline(never)]
-    fn look_over(&mut self, alloc: Global) -> Result<(), AllocError>
+    fn look_over(&mut self, alloc: Global, may_stay: bool) -> Result<(), AllocError>
         ensures { self.new ≡ self.old }
     {
         if let State::Gathered(gathered) = &mut self.state {
             let count = gathered.keys.len();
             let pairs = gathered.settle(alloc)?;
-            self.state = if pairs.len() < count {
-                State::Put(Put::of(pairs))
+            self.state = if may_stay && pairs.len() == count {
+                State::Gathered(Gathered::of(pairs))
             } else {
-                State::Gathered(Gathered::of(alloc, pairs))
+                State::Put(Put::of(pairs))
             };
         }
         Ok(())
@@ -285,7 +288,7 @@ impl<V: Drop> Builder<V> {
         ensures err { OnErr result (self.new ≡ self.old) }
     {
         if self.is_at_limit() {
-            self.look_over(alloc)?;
+            self.look_over(alloc, true)?;
         }
         match &mut self.state {
             State::Gathered(gathered) => gathered.push(key, value),
@@ -293,29 +296,28 @@ impl<V: Drop> Builder<V> {
         }
     }
 
-    /// Puts gathered entries, unless they are so few that their keys are scanned. The error is a
-    /// failed allocation.
-    fn settle(&mut self, alloc: Global) -> Result<(), AllocError>
-        ensures { self.new ≡ self.old }
-    {
-        if let State::Gathered(gathered) = &mut self.state {
-            if SCANNED_MAX < gathered.keys.len() {
-                let pairs = gathered.settle(alloc)?;
-                self.state = State::Put(Put::of(pairs));
-            }
+    /// How many entries are gathered.
+    fn gathered(&self) -> usize {
+        match &self.state {
+            State::Gathered(gathered) => gathered.keys.len(),
+            State::Put(_) => 0,
         }
-        Ok(())
     }
 
     /// Whether an entry has this key. Calls before each of n entries take about n (log n)^2
     /// comparisons in all, whatever the keys are. The error is a failed allocation.
+    ///
+    /// Not inlined, so that the parser's loop over entries stays small.
+    #[inline(never)]
     pub fn has_key(&mut self, alloc: Global, key: &str) -> Result<bool, AllocError>
         ensures kept { self.new ≡ self.old }
         ensures known { IfOk result (λ known. known ≡ is_some (find key.now self.old)) }
     {
-        self.settle(alloc)?;
+        if FIRST_LIMIT <= self.gathered() {
+            self.look_over(alloc, false)?;
+        }
         match &mut self.state {
-            State::Gathered(gathered) => gathered.has_key(key),
+            State::Gathered(gathered) => gathered.has_key(alloc, key),
             State::Put(put) => Ok(put.has_key(key)),
         }
     }
