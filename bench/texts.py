@@ -133,6 +133,9 @@ def shuffled(keys):
     return keys
 
 
+# Keys as records have them, for objects of few keys.
+RECORD_KEYS = ["id", "name", "email", "is_active", "balance", "tags", "address", "created_at", "updated_at", "phone", "company", "notes"]
+
 HARD = {
     "one-hash": of_one_hash,
     "rising": lambda count: sorted((f"k{index}" for index in range(count)), key=hash_of),
@@ -140,7 +143,7 @@ HARD = {
     "random": lambda count: shuffled([f"k{index}" for index in range(count)]),
     "repeated-keys": lambda count: [f"k{index % 50}" for index in range(count)],
     "long": lambda count: ["x" * 200 + str(index) for index in range(count)],
-    "plain": lambda count: [f"key{index}" for index in range(count)],
+    "plain": lambda count: RECORD_KEYS[:count] if count <= len(RECORD_KEYS) else [f"key{index}" for index in range(count)],
 }
 
 
