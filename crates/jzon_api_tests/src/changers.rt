@@ -57,6 +57,16 @@ fn expect_taken(
 /// A value, and what `take_string` returns and leaves.
 const TAKEN: &[(&str, Option<&str>, &str)] = &[
     ("\"abc\"", Some("abc"), "null"),
+    (
+        "\"abcdefghijklmnopqrstuvwxyz0123\"",
+        Some("abcdefghijklmnopqrstuvwxyz0123"),
+        "null",
+    ),
+    (
+        "\"abcdefghijklmnopqrstuvwxyz01234\"",
+        Some("abcdefghijklmnopqrstuvwxyz01234"),
+        "null",
+    ),
     ("null", None, "null"),
     ("7", None, "7"),
     ("true", None, "true"),

@@ -3,9 +3,10 @@
 
 use crate::common::{Tested, expect};
 use jzon::codegen::{Compact, Pretty};
+use jzon::lent::{write_at, write_at_index};
 use jzon::object::Object;
 use jzon::{IntoJson, JsonValue, Reading, Result, parse, parse_as, stringify, stringify_pretty};
-use jzon_test_support::joined;
+use jzon_test_support::{joined, keys_by_hash};
 use std::alloc::{AllocError, Global};
 use std::collections::{BTreeMap, HashMap};
 use std::process::Abort;
@@ -131,6 +132,42 @@ fn long_strings_inside(rt: HostRuntime) -> Tested {
     Ok(())
 }
 
+/// By each call that puts a missing key: the object of this key and 1.
+fn keyed(alloc: Global, key: &str) -> Result<[JsonValue; 6]> {
+    let mut inserted = JsonValue::new_object(alloc);
+    inserted.insert(alloc, key, 1)?;
+    let mut borrowed = JsonValue::Null;
+    *borrowed.at_mut(alloc, key)? = JsonValue::from(1);
+    let mut written = JsonValue::Null;
+    write_at(&mut written, alloc, key, JsonValue::from(1))?;
+    let mut object = Object::new(alloc);
+    *object.at_mut(alloc, key)? = JsonValue::from(1);
+    let mut put = Object::new(alloc);
+    put.insert(alloc, key, JsonValue::from(1))?;
+    let pairs = Object::from_pairs(alloc, [(key, 1)].into_iter())?;
+    Ok([
+        inserted,
+        borrowed,
+        written,
+        JsonValue::Object(object),
+        JsonValue::Object(put),
+        JsonValue::Object(pairs),
+    ])
+}
+
+#[test]
+fn long_keys(rt: HostRuntime) -> Tested {
+    let alloc = rt.alloc();
+    for (key, text) in &strings(alloc)? {
+        let text = joined(alloc, &[("{", 1), (text.as_str(), 1), (":1}", 1)])?;
+        for mut object in keyed(alloc, key.as_str())? {
+            expect_whole(&rt, alloc, &object, text.as_str(), text.as_str())?;
+            expect(&rt, "remove", object.remove(key.as_str()).eq_u64(1));
+        }
+    }
+    Ok(())
+}
+
 /// By `push`, one after the other.
 fn pushed(alloc: Global) -> Result<JsonValue> {
     let mut array = JsonValue::new_array(alloc);
@@ -161,6 +198,15 @@ fn indexed(alloc: Global) -> Result<JsonValue> {
     Ok(array)
 }
 
+/// By writes past the end.
+fn written_past_the_end(alloc: Global) -> Result<JsonValue> {
+    let mut array = JsonValue::new_array(alloc);
+    for number in 0..COUNT {
+        write_at_index(&mut array, alloc, usize::MAX, JsonValue::from(number))?;
+    }
+    Ok(array)
+}
+
 #[test]
 fn long_arrays(rt: HostRuntime) -> Tested {
     let alloc = rt.alloc();
@@ -170,6 +216,7 @@ fn long_arrays(rt: HostRuntime) -> Tested {
         listed(alloc)?,
         sliced(alloc)?,
         indexed(alloc)?,
+        written_past_the_end(alloc)?,
     ];
     for mut array in arrays {
         expect_whole(&rt, alloc, &array, text.as_str(), text.as_str())?;
@@ -184,6 +231,29 @@ fn long_arrays(rt: HostRuntime) -> Tested {
     Ok(())
 }
 
+/// Of each length up to that from which unused room is kept.
+#[test]
+fn arrays_and_objects_of_each_length(rt: HostRuntime) -> Tested {
+    let alloc = rt.alloc();
+    for count in 1..=130u32 {
+        let text = joined(
+            alloc,
+            &[
+                ("[0", 1),
+                (",0", (count as usize).saturating_sub(1)),
+                ("]", 1),
+            ],
+        )?;
+        let array = parse(alloc, text.as_str())?;
+        expect(&rt, "the array", array.len() == count as usize);
+        let keys = keys_by_hash(alloc, count)?;
+        let text = jzon_test_support::object_text(alloc, keys.as_slice())?;
+        let object = parse(alloc, text.as_str())?;
+        expect(&rt, "the object", object.len() == count as usize);
+    }
+    Ok(())
+}
+
 /// How a large object is made.
 #[derive(Clone, Copy)]
 enum Made {
@@ -193,15 +263,23 @@ enum Made {
     Collected,
     FromMap,
     FromHashMap,
+    FromOwnedMap,
+    FromOwnedHashMap,
+    ByObjectAtMut,
+    ByWriteAt,
 }
 
-const MADE: [Made; 6] = [
+const MADE: [Made; 10] = [
     Made::ByInsert,
     Made::ByAtMut,
     Made::FromPairs,
     Made::Collected,
     Made::FromMap,
     Made::FromHashMap,
+    Made::FromOwnedMap,
+    Made::FromOwnedHashMap,
+    Made::ByObjectAtMut,
+    Made::ByWriteAt,
 ];
 
 fn inserted(alloc: Global, names: &[String]) -> Result<JsonValue> {
@@ -236,6 +314,38 @@ fn hash_mapped(alloc: Global, names: &[String]) -> Result<JsonValue> {
     map.into_json(alloc)
 }
 
+fn owned_mapped(alloc: Global, names: &[String]) -> Result<JsonValue> {
+    let mut map = BTreeMap::new(alloc);
+    for (name, number) in names.iter().zip(0u32..) {
+        map.insert(name.clone()?, number)?;
+    }
+    map.into_json(alloc)
+}
+
+fn owned_hash_mapped(alloc: Global, names: &[String]) -> Result<JsonValue> {
+    let mut map = HashMap::new(alloc);
+    for (name, number) in names.iter().zip(0u32..) {
+        map.insert(name.clone()?, number)?;
+    }
+    map.into_json(alloc)
+}
+
+fn borrowed_of_object(alloc: Global, names: &[String]) -> Result<JsonValue> {
+    let mut object = Object::new(alloc);
+    for (name, number) in names.iter().zip(0u32..) {
+        *object.at_mut(alloc, name)? = JsonValue::from(number);
+    }
+    Ok(JsonValue::Object(object))
+}
+
+fn written(alloc: Global, names: &[String]) -> Result<JsonValue> {
+    let mut object = JsonValue::Null;
+    for (name, number) in names.iter().zip(0u32..) {
+        write_at(&mut object, alloc, name, JsonValue::from(number))?;
+    }
+    Ok(object)
+}
+
 impl Made {
     fn make(self, alloc: Global, names: &[String]) -> Result<JsonValue> {
         let pairs = names.iter().map(|name| name.as_str()).zip(0u32..);
@@ -249,6 +359,10 @@ impl Made {
             }
             Made::FromMap => mapped(alloc, names),
             Made::FromHashMap => hash_mapped(alloc, names),
+            Made::FromOwnedMap => owned_mapped(alloc, names),
+            Made::FromOwnedHashMap => owned_hash_mapped(alloc, names),
+            Made::ByObjectAtMut => borrowed_of_object(alloc, names),
+            Made::ByWriteAt => written(alloc, names),
         }
     }
 }
@@ -263,7 +377,7 @@ fn large_objects(rt: HostRuntime) -> Tested {
     for made in MADE {
         let mut object = made.make(alloc, &names)?;
         expect(&rt, "the whole", object == whole && object.len() == 1000);
-        if matches!(made, Made::FromHashMap) {
+        if matches!(made, Made::FromHashMap | Made::FromOwnedHashMap) {
             expect(&rt, "the length", object.dump(alloc)?.len() == text.len());
         } else {
             expect_whole(&rt, alloc, &object, text.as_str(), text.as_str())?;

@@ -22,6 +22,9 @@ const KEYS: &[(&str, &str, &str)] = &[
     ("null", "null", "{\"a\":7}"),
     ("5", "null", "{\"a\":7}"),
     ("[1,2]", "null", "{\"a\":7}"),
+    ("true", "null", "{\"a\":7}"),
+    ("\"ab\"", "null", "{\"a\":7}"),
+    ("\"abcdefghijklmnopqrstuvwxyz01234\"", "null", "{\"a\":7}"),
 ];
 
 #[test]
@@ -50,6 +53,16 @@ const ELEMENTS: &[(&str, usize, &str, &str, &str)] = &[
     ("5", 7, "null", "[null,null]", "[null,7]"),
     ("5", 0, "null", "[null]", "[7]"),
     ("{\"a\":1}", 1, "null", "[null,null]", "[null,7]"),
+    ("null", 1, "null", "[null,null]", "[null,7]"),
+    ("true", 1, "null", "[null,null]", "[null,7]"),
+    ("\"ab\"", 0, "null", "[null]", "[7]"),
+    (
+        "\"abcdefghijklmnopqrstuvwxyz01234\"",
+        0,
+        "null",
+        "[null]",
+        "[7]",
+    ),
     ("[1]", 9, "null", "[1,null]", "[1,7]"),
     ("[1]", 1, "null", "[1,null]", "[1,7]"),
     ("[]", 0, "null", "[null]", "[7]"),
@@ -158,6 +171,11 @@ fn move_entries(value: &mut JsonValue) {
 const MOVED: &[(&str, &str, &str)] = &[
     ("[1,2,3]", "[2,3,null]", "[1,2,3]"),
     ("[]", "[]", "[]"),
+    (
+        "[1,2,3,4,5,6,7,8,9]",
+        "[2,3,4,5,6,7,8,9,null]",
+        "[1,2,3,4,5,6,7,8,9]",
+    ),
     (
         "{\"a\":1,\"b\":2,\"c\":3}",
         "{\"a\":1,\"b\":2,\"c\":3}",

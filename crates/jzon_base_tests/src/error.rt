@@ -1,7 +1,8 @@
 //! The messages of errors.
 
-use crate::common::expect_eq;
+use crate::common::{expect, expect_eq};
 use jzon_base::error::Error;
+use jzon_test_support::joined;
 use std::test::Fail;
 
 #[test]
@@ -39,6 +40,21 @@ fn messages(rt: HostRuntime) -> std::result::Result<(), Fail> {
     for (error, message) in rows {
         let shown = format!(in rt.alloc(); "{error}")?;
         expect_eq(&rt, message, shown.as_str(), message);
+        // Flags, a width, a fill and a precision change nothing.
+        let shown = format!(in rt.alloc(); "{error:*>+80.1}")?;
+        expect_eq(&rt, message, shown.as_str(), message);
+    }
+    Ok(())
+}
+
+/// The word of `WrongType` may be any.
+#[test]
+fn keeps_a_long_word(rt: HostRuntime) -> std::result::Result<(), Fail> {
+    let word = joined(rt.alloc(), &[("Number or null", 1000)])?;
+    let error = Error::wrong_type(rt.alloc(), word.as_str())?;
+    match error {
+        Error::WrongType(words) => expect(&rt, "the word", words.as_str() == word.as_str()),
+        _ => expect(&rt, "another error", false),
     }
     Ok(())
 }

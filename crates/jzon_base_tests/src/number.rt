@@ -44,6 +44,17 @@ fn strips_zeros(rt: HostRuntime) -> Result<(), Fail> {
     Ok(())
 }
 
+/// Flags, a width, a fill and a precision change nothing.
+#[test]
+fn ignores_flags_and_width(rt: HostRuntime) -> Result<(), Fail> {
+    let number = Number::from_parts_unchecked(false, 125, -1);
+    for (number, text) in [(NAN, "nan"), (number, "-12.5")] {
+        let shown = format!(in rt.alloc(); "{number:*>+40.1}")?;
+        expect_eq(&rt, text, shown.as_str(), text);
+    }
+    Ok(())
+}
+
 /// The parts of two numbers, and whether they are equal.
 const COMPARED: &[(Parts, Parts, bool)] = &[
     ((true, 10, 32767), (true, 100, 32766), true),

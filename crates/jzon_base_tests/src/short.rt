@@ -34,6 +34,15 @@ fn keeps_strings(rt: HostRuntime) -> std::result::Result<(), Fail> {
     Ok(())
 }
 
+/// Flags, a width, a fill and a precision change nothing.
+#[test]
+fn ignores_flags_and_width(rt: HostRuntime) -> std::result::Result<(), Fail> {
+    let short = Short::from_slice("ab");
+    let shown = format!(in rt.alloc(); "{short:*>+40.1}")?;
+    expect_eq(&rt, "Display", shown.as_str(), "ab");
+    Ok(())
+}
+
 const OTHERS: &[&str] = &["", "ab", "abd", "abcd", "Abc", "abc\0"];
 
 #[test]

@@ -63,6 +63,30 @@ fn values(alloc: Global, one: u8) -> Result<JsonValue> {
     ])
 }
 
+/// The key, and one call more.
+fn counted<'a>(calls: &mut usize, key: &'a str) -> &'a str {
+    *calls = calls.saturating_add(1);
+    key
+}
+
+/// Keys that are counted, before values of one token and of several.
+fn with_counted_keys(alloc: Global, calls: &mut usize) -> Result<JsonValue> {
+    Ok(
+        jzon::object! {alloc; [counted(calls, "a")]: 1, [counted(calls, "b")]: 1 + 2, counted(calls, "c") => -4, counted(calls, "d") => null},
+    )
+}
+
+/// Each expression is evaluated once.
+#[test]
+fn evaluates_keys_once(rt: HostRuntime) -> std::result::Result<(), Fail> {
+    let mut calls = 0;
+    let value = with_counted_keys(rt.alloc(), &mut calls)?;
+    let text = "{\"a\":1,\"b\":3,\"c\":-4,\"d\":null}";
+    expect_dump(&rt, rt.alloc(), &value, text)?;
+    expect(&rt, "the calls", calls == 4);
+    Ok(())
+}
+
 const BUILT: [&str; 5] = [
     "[{\"foo\":false,\"bar\":null,\"z\":42,\"list\":[null,\"world\",true]},{\"a\":2},[],{},[],{}]",
     "[-1,3,1,2,true,[-2,2],{\"a\":-3}]",

@@ -119,5 +119,9 @@ fn puts_entries(rt: HostRuntime) -> Tested {
     expect_dump(&rt, alloc, object, "{\"a\":3,\"b\":5,\"c\":4}")?;
     let items = vec![in alloc; "x", "y"]?;
     let object = Object::from_pairs(alloc, items.iter().copied().zip(0u64..))?;
-    expect_dump(&rt, alloc, object, "{\"x\":0,\"y\":1}")
+    expect_dump(&rt, alloc, object, "{\"x\":0,\"y\":1}")?;
+    // Of these the iterator doesn't know how many there are.
+    let kept = pairs.into_iter().filter(|pair| pair.0 != "b");
+    let object = Object::from_pairs(alloc, kept)?;
+    expect_dump(&rt, alloc, object, "{\"a\":3,\"c\":4}")
 }

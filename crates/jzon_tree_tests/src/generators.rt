@@ -9,7 +9,7 @@ ghost use Rattle.jzon_tree.specs.Writing.{any_style, IsOrder};
 
 use crate::common::{Tested, expect, expect_bytes, expect_eq};
 use jzon_base::error::Error;
-use jzon_test_support::{RUNS_MAX, Refusals, SlowWriter, Trouble};
+use jzon_test_support::{RUNS_MAX, Refusals, SlowWriter, Trouble, keys_of_one_hash, object_text};
 use jzon_tree::codegen::{Generator, Layout, TextGenerator, write_json, write_object};
 use jzon_tree::object::Object;
 use jzon_tree::value::JsonValue;
@@ -109,6 +109,20 @@ fn writes_in_a_layout(rt: HostRuntime) -> Tested {
         Err(error) => expect(&rt, "the error", trouble.is_returned(alloc, &error)?),
     }
     expect_bytes(&rt, &writer.bytes, "{\"a\":");
+    Ok(())
+}
+
+/// An object of a thousand keys, each but the first longer than the one before it.
+#[test]
+fn sorts_a_large_object(rt: HostRuntime) -> Tested {
+    let alloc = rt.alloc();
+    let mut object = Object::new(alloc);
+    for key in keys_of_one_hash(alloc, 1000)?.iter().rev() {
+        object.insert(alloc, key.as_str(), JsonValue::Null)?;
+    }
+    let text = JsonValue::Object(object).lay_out(alloc, Sorting { alloc })?;
+    let sorted = object_text(alloc, keys_of_one_hash(alloc, 1000)?.as_slice())?;
+    expect(&rt, "the text", text.as_str() == sorted.as_str());
     Ok(())
 }
 

@@ -5,7 +5,7 @@ use jzon_base::error::Error;
 use jzon_base::number::NAN;
 use jzon_tree::codegen::{
     Compact, DumpGenerator, Generator, Layout, Pretty, PrettyGenerator, PrettyWriterGenerator,
-    WriterGenerator, push_short, write_json,
+    WriterGenerator, push_line, push_short, write_json,
 };
 use jzon_tree::object::Object;
 use jzon_tree::value::JsonValue;
@@ -167,6 +167,30 @@ fn adds_short_strings_where_there_is_room(rt: HostRuntime) -> Tested {
     expect(&rt, "ab", push_short(&mut bytes, b"ab"));
     expect(&rt, "a newline", !push_short(&mut bytes, b"a\n"));
     expect_bytes(&rt, &bytes, "\"ab\"");
+    Ok(())
+}
+
+/// Up to 7 spaces are added at once where there is room for 8 bytes.
+#[test]
+fn adds_short_lines_where_there_is_room(rt: HostRuntime) -> Tested {
+    let line = "\n       ";
+    for spaces in 0..9usize {
+        for room in [7, 8] {
+            let mut bytes = Vec::with_capacity(rt.alloc(), room)?;
+            let is_added = push_line(&mut bytes, spaces as u128);
+            expect_eq(&rt, "added", is_added, spaces < 8 && room == 8);
+            let len = if is_added {
+                spaces.saturating_add(1)
+            } else {
+                0
+            };
+            expect(
+                &rt,
+                "the bytes",
+                line.as_bytes().get(..len) == Some(bytes.as_slice()),
+            );
+        }
+    }
     Ok(())
 }
 

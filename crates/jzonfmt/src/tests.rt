@@ -451,6 +451,75 @@ fn writes_texts_round_a_full_buffer(rt: HostRuntime) -> Result<(), Fail> {
     Ok(())
 }
 
+/// Lines of 15 bytes, of which each part is at the end of a full buffer in some run.
+#[test]
+fn prints_more_lines_than_the_buffer_holds(rt: HostRuntime) -> Result<(), Fail> {
+    let alloc = rt.alloc();
+    for spaces in 0..16 {
+        let first = joined(alloc, &[("  \"", 1), ("p", spaces), ("\"", 1)])?;
+        let parts = [
+            ("[\n", 1),
+            (first.as_str(), 1),
+            (",\n  12345678901", 10000),
+            ("\n]", 1),
+        ];
+        let text = joined(alloc, &parts)?;
+        let mut reader = text.as_bytes();
+        let mut writer: Vec<u8> = Vec::new(alloc);
+        let layout = Layout::Pretty(2);
+        let outcome = engine::run(alloc, &mut reader, &mut writer, &usual(), layout);
+        assert!(rt; outcome.is_ok(), "{spaces}");
+        assert!(rt;
+            str::from_utf8(&writer)?.strip_suffix('\n') == Some(text.as_str()),
+            "{spaces}"
+        );
+    }
+    Ok(())
+}
+
+/// Takes all bytes, and counts the calls.
+#[derive(Drop)]
+struct CountingWriter {
+    bytes: Vec<u8>,
+    calls: usize,
+}
+
+impl io::Write for CountingWriter {
+    ghost contents = { λ writer. Some writer.bytes.items };
+
+    fn write(&mut self, buf: &[u8]) -> io::Result<usize> {
+        self.calls = self.calls.saturating_add(1);
+        self.bytes.extend_from_slice(buf)?;
+        Ok(buf.len())
+    }
+
+    fn flush(&mut self) -> io::Result<()> {
+        Ok(())
+    }
+}
+
+/// Many bytes are written at once.
+#[test]
+fn writes_seldom(rt: HostRuntime) -> Result<(), Fail> {
+    let alloc = rt.alloc();
+    let text = joined(alloc, &[("[1", 1), (",1", 100000), ("]", 1)])?;
+    let mut reader = text.as_bytes();
+    let mut writer = CountingWriter {
+        bytes: Vec::new(alloc),
+        calls: 0,
+    };
+    let layout = Layout::Compact;
+    let outcome = engine::run(alloc, &mut reader, &mut writer, &usual(), layout);
+    assert!(rt; outcome.is_ok());
+    assert_eq!(rt;
+        str::from_utf8(&writer.bytes)?.strip_suffix('\n'),
+        Some(text.as_str())
+    );
+    // 200,004 bytes by 65,536.
+    assert!(rt; writer.calls <= 4, "{} calls", writer.calls);
+    Ok(())
+}
+
 /// Strings of more plain bytes than the buffer holds, at its start and after other bytes, and a
 /// writer that fails in the second buffer.
 #[test]

@@ -15,6 +15,10 @@ const MOST_OF_ARRAY: usize = 8 * 48 * 2000;
 
 const MOST_OF_OBJECT: usize = 8 * 96 * 2000;
 
+/// Eight times the 48 bytes of each of the four values that an array first has room for, or of as
+/// many keys and values.
+const MOST_OF_TWO: usize = 8 * 96 * 4;
+
 /// An array of two: a large one, and small ones in one another.
 fn arrays(alloc: Global) -> Result<String> {
     Ok(joined(
@@ -83,4 +87,30 @@ fn hints_counted(rt: HostRuntime) -> Tested {
         MOST_OF_OBJECT,
     )?;
     Ok(())
+}
+
+/// Where no container of the same depth has ended, little is requested.
+#[test]
+fn first_room_counted(rt: HostRuntime) -> Tested {
+    for (name, text) in [
+        ("parse of two elements", "[1,2]"),
+        ("parse of two members", "{\"a\":1,\"b\":2}"),
+    ] {
+        expect_parsed_within(&rt, rt.alloc(), name, text, MOST_OF_TWO)?;
+    }
+    Ok(())
+}
+
+/// Eight times the 48 bytes of each key and each value that are gathered before one sort looks for
+/// a repeated key.
+const MOST_OF_GATHERED: usize = 8 * 96 * 256;
+
+/// A key that is repeated again and again takes no memory for each time.
+#[test]
+fn repeated_keys_counted(rt: HostRuntime) -> Tested {
+    let alloc = rt.alloc();
+    let parts = [("[{\"a\":0", 1), (",\"a\":0", 100000), ("},1]", 1)];
+    let text = joined(alloc, &parts)?;
+    let name = "parse of a repeated key";
+    expect_parsed_within(&rt, alloc, name, text.as_str(), MOST_OF_GATHERED)
 }

@@ -2,6 +2,7 @@
 //! rejected inside containers: what was read of them is dropped.
 
 use super::*;
+use jzon::codegen::{DumpGenerator, Generator};
 use jzon::lent::{write_at, write_at_index, write_present};
 use jzon::object::Object;
 
@@ -16,6 +17,10 @@ enum Owned {
     WriteAt,
     WriteAtIndex,
     WritePresent,
+    Remove,
+    OverrideLast,
+    Clear,
+    Consume,
     Rejected(&'static str),
 }
 
@@ -53,6 +58,42 @@ fn from_pairs(alloc: Global) -> Result<JsonValue> {
     Ok(JsonValue::Object(Object::from_pairs(alloc, pairs.into_iter())?))
 }
 
+/// A long key and a long text are put, and removed again.
+fn removed(value: &mut JsonValue, alloc: Global) -> Result<()> {
+    value.insert(alloc, LONG_KEY, text(alloc)?)?;
+    drop(value.remove(LONG_KEY));
+    Ok(())
+}
+
+fn override_last(value: &mut JsonValue, alloc: Global) -> Result<()> {
+    let item = item(alloc)?;
+    if let JsonValue::Object(object) = value {
+        object.override_last(item);
+    }
+    Ok(())
+}
+
+/// `clear` itself allocates nothing.
+fn cleared(value: &mut JsonValue, alloc: Global) -> Result<()> {
+    value.insert(alloc, LONG_KEY, text(alloc)?)?;
+    if let JsonValue::Object(object) = value {
+        object.clear();
+    }
+    Ok(())
+}
+
+/// Bytes that aren't UTF-8 are dropped.
+fn consumed(alloc: Global) -> Result<()> {
+    let mut generator = DumpGenerator::new(alloc);
+    match generator.write(b"\xff") {
+        Err(_) => Err(Error::OutOfMemory),
+        Ok(()) => match generator.consume() {
+            Err(Error::FailedUtf8Parsing) => Ok(()),
+            _ => Err(Error::UnexpectedEndOfJson),
+        },
+    }
+}
+
 fn rejected(alloc: Global, text: &str) -> Result<()> {
     parse(alloc, text)?;
     Ok(())
@@ -78,6 +119,10 @@ impl Call for Owned {
             Owned::WritePresent => {
                 write_present(value, "a", item(alloc)?);
             }
+            Owned::Remove => removed(value, alloc)?,
+            Owned::OverrideLast => override_last(value, alloc)?,
+            Owned::Clear => cleared(value, alloc)?,
+            Owned::Consume => consumed(alloc)?,
             Owned::Rejected(text) => passed_over(rejected(alloc, text))?,
         }
         Ok(())
@@ -147,6 +192,34 @@ const OWNED: &[Row<Owned>] = &[
         "write_present where nothing is present",
         "[1]",
         "[1]",
+        1,
+    ),
+    (
+        Owned::Remove,
+        "remove of a long key and its string",
+        "{}",
+        "{}",
+        3,
+    ),
+    (
+        Owned::OverrideLast,
+        "override_last of a long string",
+        "{\"a\":\"a text of more than thirty bytes\"}",
+        "{\"a\":\"abcdefghijklmnopqrstuvwxyz01234\"}",
+        1,
+    ),
+    (
+        Owned::Clear,
+        "Object::clear of a long key and its string",
+        "{}",
+        "{}",
+        3,
+    ),
+    (
+        Owned::Consume,
+        "consume of bytes that aren't UTF-8",
+        "null",
+        "null",
         1,
     ),
     (
