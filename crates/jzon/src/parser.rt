@@ -1,14 +1,15 @@
 //! Parses texts (RFC 8259, section 2; docs/RULES.md, "Texts").
 
 ghost use Rattle.std.specs.Prelude.{◌≡◌, ◌≢◌, ◌&&◌, [], ◌<◌, ◌≤◌, map, chars, true, IfOk, IfErr, OnOk};
-ghost use Rattle.std.specs.Prelude.{Err, None, Some, IsOkUnless, vec_len, if◌then◌else◌};
+ghost use Rattle.std.specs.Prelude.{Err, None, Some, IsOkUnless, vec_len, if◌then◌else◌, false};
+ghost use Rattle.std.specs.Prelude.{MatchOption};
 ghost use Rattle.std.specs.Option.{is_some};
 ghost use Rattle.jzon_base.specs.PairList.{find};
-ghost use Rattle.jzon_tree.specs.Value.{Value, object, pairs_of};
+ghost use Rattle.jzon_tree.specs.Value.{Value, array, values_of, object, pairs_of};
 ghost use Rattle.jzon_tree.specs.View.{view, viewed};
 ghost use Rattle.jzon.specs.Private.Brackets.{innermost_bracket, after_comma, after_closer};
 ghost use Rattle.jzon.specs.Answer.{IsMeaningOf, IsReadable, IsErrorUnlessMemory, TakesMemory};
-ghost use Rattle.jzon.specs.Private.Cursor.{left, next_byte, GoesOn, IsPast};
+ghost use Rattle.jzon.specs.Private.Cursor.{left, next_byte, GoesOn, PassesOn, IsPast};
 ghost use Rattle.jzon.specs.Private.Frames.{open_in, stack_view, state_of, is_open, IsReady, IsWholeValue};
 ghost use Rattle.jzon.specs.Private.Machine.{Frames, no_frames, array_frame, object_frame};
 ghost use Rattle.jzon.specs.Private.Machine.{frames_depth, is_fresh, before};
@@ -29,6 +30,7 @@ use jzon_base::key::Key;
 use jzon_tree::object::{Builder, Object};
 use jzon_tree::value::JsonValue;
 use std::alloc::Global;
+use std::mem;
 
 /// The value that a text means (RFC 8259; docs/RULES.md, "Texts").
 ///
@@ -250,8 +252,8 @@ impl<'a> Parser<'a> {
         self.read_elements(elements)
     }
 
-    /// Reads elements of an open array, and of the arrays in it: to the end of one of them, or to
-    /// an object that isn't empty.
+    /// Reads elements of an open array, and of the arrays in it and around it: to the end of one
+    /// that isn't in an array, or to an object that isn't empty.
     fn read_elements(&mut self, elements: Vec<JsonValue>) -> Result<ValueStart>
         requires room { vec_len self.old.stack < self.old.cursor.reading.depth }
         requires element { map view elements.items ≡ [] → next_byte self.old.cursor ≢ end_array }
@@ -291,7 +293,10 @@ impl<'a> Parser<'a> {
                 // Not by `read_start`: each call that returns a value moves it.
                 elements.push(self.read_primitive(first)?)?;
             }
-            if self.array_ends(&mut elements)? {
+            if !self.array_ends(&mut elements)? {
+                continue;
+            }
+            if self.close_arrays(&mut elements)? {
                 return Ok(ValueStart::Value(JsonValue::Array(elements)));
             }
         }
@@ -346,6 +351,46 @@ impl<'a> Parser<'a> {
             return Ok(true);
         }
         Ok(false)
+    }
+
+    /// After the end of an array: as long as one that ended is in another array, makes it the next
+    /// element there, and these elements those of the other one. Whether the last one ended.
+    #[inline(always)]
+    fn close_arrays(&mut self, elements: &mut Vec<JsonValue>) -> Result<bool>
+        ensures depth { OnOk result (vec_len self.new.stack ≤ vec_len self.old.stack) }
+        ensures some { IfOk result (λ ends. ends ≡ false → map view elements.new.items ≢ []) }
+        ensures outcome { PassesOn self.old.cursor (after_value
+            (stack_view self.old.stack.items) (array (values_of (map view elements.old.items))))
+            result self.new.cursor (λ ends. let fs = stack_view self.new.stack.items in
+            let ws = map view elements.new.items in
+            if ends then after_value fs (array (values_of ws)) else before (array_frame fs ws)) }
+    {
+        while let Some(mut outer) = self.take_array() {
+            mem::swap(elements, &mut outer);
+            elements.push(JsonValue::Array(outer))?;
+            if !self.array_ends(elements)? {
+                return Ok(false);
+            }
+        }
+        Ok(true)
+    }
+
+    /// Takes the innermost open container off the stack if it is an array; its elements.
+    #[inline(always)]
+    fn take_array(&mut self) -> Option<Vec<JsonValue>>
+        ensures cursor { self.new.cursor ≡ self.old.cursor }
+        ensures depth { vec_len self.new.stack ≤ vec_len self.old.stack }
+        ensures taken { MatchOption result (self.new.stack ≡ self.old.stack)
+            (λ outer. stack_view self.old.stack.items
+            ≡ array_frame (stack_view self.new.stack.items) (map view outer.items)) }
+    {
+        if !matches!(self.stack.last(), Some(Frame::Array(_))) {
+            return None;
+        }
+        match self.stack.pop() {
+            Some(Frame::Array(outer)) => Some(outer),
+            _ => unreachable!(),
+        }
     }
 
     /// The object of these entries, which ends; sets the hint to their number. The error is

@@ -32,3 +32,8 @@ abbrev pub GoesOn : {A : Type 0} → Cursor → State → Result A Error → Cur
 GoesOn t p result u next =
     MatchResult result (λ x. IsAfter t u × (left t p ≡ left u (next x)))
     (λ e. ReportsUnlessMemory (chars t.source.now) e (left t p))
+
+-- What goes on to cursor t in state p goes on by this result too.
+abbrev pub PassesOn : {A : Type 0} → Cursor → State → Result A Error → Cursor → (A → State) → Type 0
+PassesOn t p result u next =
+    (s : Cursor) (o : State) → IsAfter s t × (left s o ≡ left t p) → GoesOn s o result u next

@@ -1,11 +1,12 @@
 use Rattle.std.proofs.Common.{◌≡◌, ◌∙◌, ◌+◌, ◌<◌, ◌++◌, refl, cond, [], ◌∷◌, List, length, map, sym, ap, subst, arith}
-use Rattle.std.proofs.Common.{None, vec_len}
+use Rattle.std.proofs.Common.{None, Ok, true, vec_len}
+use Rattle.std.specs.Prelude.{OnOk}
 use Rattle.std.proofs.lemmas.List.{map-append}
 use Rattle.std.proofs.lemmas.Result.{err_from_is_err_and}
 use Rattle.jzon_tree.specs.Value.{Value, array, values_of}
 use Rattle.jzon_tree.specs.View.{view}
 use Rattle.jzon_tree.proofs.Views.{view-Array}
-use Rattle.jzon.specs.Private.Cursor.{left, IsAfter}
+use Rattle.jzon.specs.Private.Cursor.{left, IsAfter, GoesOn}
 use Rattle.jzon.specs.Private.Frames.{IsReady, state_of, stack_view}
 use Rattle.jzon.specs.Private.Machine.{Frames, array_frame, frames_depth, before, after_value, value_mark}
 use Rattle.jzon.specs.Reading.{Reading}
@@ -226,46 +227,119 @@ returns-in_err-array_ends-clause-outcome c =
     failed.0 failed.1 (came at)
     (rw failed.2 (c.in_err-array_ends.ensures.outcome (array_frame fs vs) (more at).value refl))
 
-pub returns-then-branch-clause-ready : goal.returns-then-branch-clause-ready
-returns-then-branch-clause-ready c =
+-- the array ends
+ended : (c : After-array_ends) → c.array_ends.result ≡ Ok true →
+    IsAfter c.loop-self.self.cursor c.array_ends.new.self.cursor
+    × (left c.loop-self.self.cursor (before (array_frame (stack_view c.loop-self.self.stack.items)
+    (map view c.loop-self.elements.items))) ≡ left c.array_ends.new.self.cursor
+    (after_value (stack_view c.array_ends.new.self.stack.items)
+    (array (values_of (map view c.array_ends.new.elements.items)))))
+ended c is =
+    let m = c.loop-self.self.cursor in
+    let u = c.if-opens_container.self.cursor in
+    let n = c.array_ends.new.self in
     let fs = stack_view c.loop-self.self.stack.items in
     let vs = map view c.loop-self.elements.items in
+    let v = (more c).value in
+    let kept : n.stack ≡ c.if-opens_container.self.stack = subst (λ z. OnOk z (n.stack ≡ c.if-opens_container.self.stack))
+    is c.array_ends.ensures.stack in
+    let closed : GoesOn u (after_value (array_frame fs vs) v) (Ok true) n.cursor
+    (λ ends. cond ends (after_value fs (array (values_of (vs ++ v ∷ [])))) (before (array_frame fs (vs ++ v ∷ [])))) =
+    subst (λ z. GoesOn u (after_value (array_frame fs vs) v) z n.cursor
+    (λ ends. cond ends (after_value fs (array (values_of (vs ++ v ∷ [])))) (before (array_frame fs (vs ++ v ∷ [])))))
+    is (c.array_ends.ensures.outcome (array_frame fs vs) v refl) in
+    let read = goes_after m u n.cursor (before (array_frame fs vs)) (after_value (array_frame fs vs) v) _
+    (reached m u (before (array_frame fs vs)) _ (more c).read) closed in (
+      read.0,
+      read.1 ∙ ap (λ s. left n.cursor (after_value (stack_view s.items) (array (values_of (vs ++ v ∷ [])))))
+          (sym (kept ∙ stack_kept c))
+          ∙ ap (λ xs. left n.cursor (after_value (stack_view n.stack.items) (array (values_of xs))))
+          (sym (ap (map view) c.array_ends.ensures.items ∙ (more c).grown)),
+    )
+
+pub returns-in_err-close_arrays-clause-outcome : goal.returns-in_err-close_arrays-clause-outcome
+returns-in_err-close_arrays-clause-outcome c =
+    let m = c.loop-self.self.cursor in
+    let p = before (array_frame (stack_view c.loop-self.self.stack.items) (map view c.loop-self.elements.items)) in
+    let at = (goal.at.returns-in_err-close_arrays-clause-outcome c).After-array_ends in
+    let is = c.in_ok-array_ends.was ∙ ap Ok c.if-not-branch.false in
+    let failed = err_from_is_err_and c.from_residual-in_err-close_arrays.result
+    c.from_residual-in_err-close_arrays.ensures.1 in
+    fails_on c.args.self.now.cursor m _ _ p c.from_residual-in_err-close_arrays.result _ failed.0 failed.1
+    c.loop-self.invariant.came (rw failed.2 (c.in_err-close_arrays.ensures.outcome m p (ended at is)))
+
+pub returns-then-branch-clause-ready : goal.returns-then-branch-clause-ready
+returns-then-branch-clause-ready c =
+    let m = c.loop-self.self.cursor in
+    let p = before (array_frame (stack_view c.loop-self.self.stack.items) (map view c.loop-self.elements.items)) in
     let at = (goal.at.returns-then-branch-clause-ready c).After-array_ends in
-    let reading = (c.in_ok-array_ends.ensures.outcome (array_frame fs vs) (more at).value refl).0.reading
-    ∙ (more at).read.0.reading in
+    let is = c.in_ok-array_ends.was ∙ ap Ok c.if-not-branch.false in
     omega (
       arith,
       c.loop-self.invariant.room,
-      ap (λ r. r.depth) reading,
+      ap (λ r. r.depth) (c.in_ok-close_arrays.ensures.outcome m p (ended at is)).0.reading,
+      c.in_ok-close_arrays.ensures.depth,
       ap (λ s. vec_len s) (c.in_ok-array_ends.ensures.stack ∙ stack_kept at),
     )
 
 pub returns-then-branch-clause-outcome : goal.returns-then-branch-clause-outcome
 returns-then-branch-clause-outcome c =
-    let t = c.args.self.now.cursor in
-    let n = c.array_ends.new.self in
-    let fs = stack_view c.loop-self.self.stack.items in
-    let vs = map view c.loop-self.elements.items in
+    let n = c.close_arrays.new.self in
+    let m = c.loop-self.self.cursor in
+    let p = before (array_frame (stack_view c.loop-self.self.stack.items) (map view c.loop-self.elements.items)) in
+    let fs = stack_view n.stack.items in
+    let ws = map view c.close_arrays.new.elements.items in
     let at = (goal.at.returns-then-branch-clause-outcome c).After-array_ends in
-    let v = (more at).value in
-    let read = goes_after t c.if-opens_container.self.cursor n.cursor _ (after_value (array_frame fs vs) v) _ (came at)
-    (c.in_ok-array_ends.ensures.outcome (array_frame fs vs) v refl) in (
+    let is = c.in_ok-array_ends.was ∙ ap Ok c.if-not-branch.false in
+    let read = goes_after c.args.self.now.cursor m n.cursor _ p _ c.loop-self.invariant.came
+    (c.in_ok-close_arrays.ensures.outcome m p (ended at is)) in (
       read.0,
-      read.1 ∙ ap (λ b. left n.cursor (cond b (after_value fs (array (values_of (vs ++ v ∷ []))))
-          (before (array_frame fs (vs ++ v ∷ []))))) c.if-branch.true
-          ∙ ap (λ s. left n.cursor (after_value (stack_view s.items) (array (values_of (vs ++ v ∷ [])))))
-          (sym (c.in_ok-array_ends.ensures.stack ∙ stack_kept at))
-          ∙ ap (λ x. left n.cursor (after_value (stack_view n.stack.items) x))
-          (sym (view-Array c.array_ends.new.elements
-          ∙ ap (λ xs. array (values_of (map view xs))) c.in_ok-array_ends.ensures.items
-          ∙ ap (λ xs. array (values_of xs)) (more at).grown)),
+      read.1 ∙ ap (λ b. left n.cursor (cond b (after_value fs (array (values_of ws))) (before (array_frame fs ws))))
+          c.if-branch.true
+          ∙ ap (λ x. left n.cursor (after_value fs x)) (sym (view-Array c.close_arrays.new.elements)),
     )
 
 pub loop-self-smaller : goal.loop-self-smaller
 loop-self-smaller c =
+    let m = c.loop-self.self.cursor in
+    let p = before (array_frame (stack_view c.loop-self.self.stack.items) (map view c.loop-self.elements.items)) in
+    let at = (goal.at.loop-self-smaller c).After-array_ends in
+    let is = c.in_ok-array_ends.was ∙ ap Ok c.if-not-branch.false in
+    let read = c.in_ok-close_arrays.ensures.outcome m p (ended at is) in
+    omega (arith, read.0.index, ap length read.0.text, c.close_arrays.new.self.cursor.boundary.0)
+
+pub loop-self-preserved : goal.loop-self-preserved
+loop-self-preserved c =
+    let n = c.close_arrays.new.self in
+    let m = c.loop-self.self.cursor in
+    let p = before (array_frame (stack_view c.loop-self.self.stack.items) (map view c.loop-self.elements.items)) in
+    let fs = stack_view n.stack.items in
+    let ws = map view c.close_arrays.new.elements.items in
+    let at = (goal.at.loop-self-preserved c).After-array_ends in
+    let is = c.in_ok-array_ends.was ∙ ap Ok c.if-not-branch.false in
+    let closed = c.in_ok-close_arrays.ensures.outcome m p (ended at is) in
+    let read = goes_after c.args.self.now.cursor m n.cursor _ p _ c.loop-self.invariant.came closed in
+    record {
+      room = omega (
+        arith,
+        c.loop-self.invariant.room,
+        ap (λ r. r.depth) closed.0.reading,
+        c.in_ok-close_arrays.ensures.depth,
+        ap (λ s. vec_len s) (c.in_ok-array_ends.ensures.stack ∙ stack_kept at),
+      );
+      element = λ none. absurd (c.in_ok-close_arrays.ensures.some c.if-branch.false none);
+      came = reached c.args.self.now.cursor n.cursor _ (before (array_frame fs ws)) (
+        read.0,
+        read.1 ∙ ap (λ b. left n.cursor (cond b (after_value fs (array (values_of ws))) (before (array_frame fs ws))))
+            c.if-branch.false,
+      );
+    }
+
+pub loop-self-smaller-then-not-branch : goal.loop-self-smaller-then-not-branch
+loop-self-smaller-then-not-branch c =
     let fs = stack_view c.loop-self.self.stack.items in
     let vs = map view c.loop-self.elements.items in
-    let at = (goal.at.loop-self-smaller c).After-array_ends in
+    let at = (goal.at.loop-self-smaller-then-not-branch c).After-array_ends in
     let read = (more at).read in
     let ends = c.in_ok-array_ends.ensures.outcome (array_frame fs vs) (more at).value refl in
     omega (
@@ -276,13 +350,13 @@ loop-self-smaller c =
       c.array_ends.new.self.cursor.boundary.0,
     )
 
-pub loop-self-preserved : goal.loop-self-preserved
-loop-self-preserved c =
+pub loop-self-preserved-then-not-branch : goal.loop-self-preserved-then-not-branch
+loop-self-preserved-then-not-branch c =
     let t = c.args.self.now.cursor in
     let n = c.array_ends.new.self in
     let fs = stack_view c.loop-self.self.stack.items in
     let vs = map view c.loop-self.elements.items in
-    let at = (goal.at.loop-self-preserved c).After-array_ends in
+    let at = (goal.at.loop-self-preserved-then-not-branch c).After-array_ends in
     let v = (more at).value in
     let ends = c.in_ok-array_ends.ensures.outcome (array_frame fs vs) v refl in
     let kept = c.in_ok-array_ends.ensures.stack ∙ stack_kept at in
@@ -297,7 +371,7 @@ loop-self-preserved c =
           (map view c.array_ends.new.elements.items))) (
             read.0,
             read.1 ∙ ap (λ b. left n.cursor (cond b (after_value fs (array (values_of (vs ++ v ∷ []))))
-                (before (array_frame fs (vs ++ v ∷ []))))) c.if-branch.false
+                (before (array_frame fs (vs ++ v ∷ []))))) c.if-not-branch.true
                 ∙ ap (λ xs. left n.cursor (before (array_frame fs xs))) (sym grown)
                 ∙ ap (λ s. left n.cursor (before (array_frame (stack_view s.items)
                 (map view c.array_ends.new.elements.items)))) (sym kept),
