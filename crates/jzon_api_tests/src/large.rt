@@ -1,5 +1,5 @@
 //! Values far beyond what is kept inline, compared in place, or made room for in advance: each call
-//! that may run out of memory succeeds at a thousand elements or entries, and at long strings.
+//! that may run out of memory succeeds at eleven hundred elements or entries, and at long strings.
 
 use crate::common::{Tested, expect};
 use jzon::codegen::{Compact, Pretty};
@@ -11,7 +11,9 @@ use std::alloc::{AllocError, Global};
 use std::collections::{BTreeMap, HashMap};
 use std::process::Abort;
 
-const COUNT: u32 = 1000;
+/// More than the 1,024 up to which an index has its room in advance, and at which a repeated key is
+/// looked for again.
+const COUNT: u32 = 1100;
 
 /// The numbers from 0 on, as texts of four digits, so that they are in the order of their bytes.
 fn names(alloc: Global) -> std::result::Result<Vec<String>, AllocError> {
@@ -22,7 +24,7 @@ fn names(alloc: Global) -> std::result::Result<Vec<String>, AllocError> {
     Ok(names)
 }
 
-/// `[0,1,2` and so on, up to 999.
+/// `[0,1,2` and so on, up to 1099.
 fn array_text(alloc: Global) -> std::result::Result<String, AllocError> {
     let mut text = String::from_str(alloc, "[0")?;
     for number in 1..COUNT {
@@ -32,7 +34,7 @@ fn array_text(alloc: Global) -> std::result::Result<String, AllocError> {
     Ok(text)
 }
 
-/// `{"0000":0,"0001":1` and so on, up to 999.
+/// `{"0000":0,"0001":1` and so on, up to 1099.
 fn object_text(alloc: Global) -> std::result::Result<String, AllocError> {
     let mut text = String::from_str(alloc, "{\"0000\":0")?;
     for number in 1..COUNT {
@@ -220,12 +222,12 @@ fn long_arrays(rt: HostRuntime) -> Tested {
     ];
     for mut array in arrays {
         expect_whole(&rt, alloc, &array, text.as_str(), text.as_str())?;
-        expect(&rt, "pop", array.pop().eq_u64(999));
+        expect(&rt, "pop", array.pop().eq_u64(1099));
         expect(&rt, "array_remove", array.array_remove(500).eq_u64(500));
         expect(
             &rt,
             "what is left",
-            array.len() == 998 && array.at_index(500).eq_u64(501),
+            array.len() == 1098 && array.at_index(500).eq_u64(501),
         );
     }
     Ok(())
@@ -376,7 +378,11 @@ fn large_objects(rt: HostRuntime) -> Tested {
     let whole = parse(alloc, text.as_str())?;
     for made in MADE {
         let mut object = made.make(alloc, &names)?;
-        expect(&rt, "the whole", object == whole && object.len() == 1000);
+        expect(
+            &rt,
+            "the whole",
+            object == whole && object.len() == COUNT as usize,
+        );
         if matches!(made, Made::FromHashMap | Made::FromOwnedHashMap) {
             expect(&rt, "the length", object.dump(alloc)?.len() == text.len());
         } else {
@@ -384,7 +390,7 @@ fn large_objects(rt: HostRuntime) -> Tested {
         }
         expect(&rt, "remove", object.remove("0500").eq_u64(500));
         expect(&rt, "has_key", !object.has_key("0500"));
-        expect(&rt, "at", object.at("0999").eq_u64(999));
+        expect(&rt, "at", object.at("1099").eq_u64(1099));
     }
     Ok(())
 }

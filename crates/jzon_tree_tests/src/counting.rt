@@ -4,6 +4,7 @@ ghost use Rattle.std.specs.Prelude.{◌≡◌};
 
 use crate::common::{Tested, empty_containers, expect_bytes, expect_eq, numbers};
 use jzon_base::number::{NAN, Number};
+use jzon_test_support::joined;
 use jzon_tree::codegen::{DumpGenerator, Generator, write_json};
 use jzon_tree::object::Object;
 use jzon_tree::value::JsonValue;
@@ -113,6 +114,15 @@ fn counts_strings_and_numbers(rt: HostRuntime) -> Tested {
         expect_counted(&rt, alloc, &JsonValue::Number(number), text)?;
     }
     expect_counted(&rt, alloc, &JsonValue::Number(NAN), "null")
+}
+
+/// The provided hooks take a string of any length.
+#[test]
+fn counts_a_long_string(rt: HostRuntime) -> Tested {
+    let alloc = rt.alloc();
+    let string = joined(alloc, &[("plain", 40000)])?;
+    let text = joined(alloc, &[("\"", 1), ("plain", 40000), ("\"", 1)])?;
+    expect_counted(&rt, alloc, &JsonValue::String(string), text.as_str())
 }
 
 #[test]

@@ -16,6 +16,7 @@ use jzon_tree::value::JsonValue;
 use std::alloc::{AllocError, Global};
 use std::io;
 use std::io::ErrorKind;
+use std::process::Abort;
 
 /// A user's layout: the entries of each object are in the order of their keys.
 #[derive(Drop)]
@@ -71,25 +72,36 @@ fn unsorted(alloc: Global) -> jzon_base::error::Result<Object> {
 
 const SORTED: &str = "{\"a\":null,\"b\":null,\"c\":null}";
 
-/// Each allocation fails in turn, those of `order` first.
+/// One run of `write_object` by `Sorting`. Whether an allocation failed in it.
+fn sort_once(rt: &impl Abort, alloc: Global, object: &Object, refusals: &mut Refusals) -> bool {
+    let mut generator = TextGenerator::in_memory(alloc, Sorting { alloc });
+    refusals.begin();
+    let result = write_object(&mut generator, object);
+    let has_failed = refusals.has_failed();
+    if has_failed {
+        expect(rt, "the error", is_out_of_memory(result));
+        expect_eq(rt, "the faults", generator.faults(), 1);
+        let is_prefix = SORTED.as_bytes().starts_with(generator.get_writer());
+        expect(rt, "a prefix", is_prefix);
+    } else {
+        expect(rt, "no error", result.is_ok());
+        expect_bytes(rt, generator.get_writer(), SORTED);
+    }
+    has_failed
+}
+
+/// Each allocation fails in turn, those of `order` first. Each run frees all that it allocates.
 #[test]
 fn sorting_under_refusals(rt: HostRuntime) -> Tested {
     let object = unsorted(rt.alloc())?;
     let mut refusals = Refusals::new(rt.alloc());
     for _ in 0..RUNS_MAX {
-        let alloc = rt.alloc();
-        let mut generator = TextGenerator::in_memory(alloc, Sorting { alloc });
-        refusals.begin();
-        let result = write_object(&mut generator, &object);
-        if !refusals.has_failed() {
-            expect(&rt, "no error", result.is_ok());
-            expect_bytes(&rt, generator.get_writer(), SORTED);
+        refusals.open();
+        let has_failed = sort_once(&rt, rt.alloc(), &object, &mut refusals);
+        refusals.close();
+        if !has_failed {
             break;
         }
-        expect(&rt, "the error", is_out_of_memory(result));
-        expect_eq(&rt, "the faults", generator.faults(), 1);
-        let is_prefix = SORTED.as_bytes().starts_with(generator.get_writer());
-        expect(&rt, "a prefix", is_prefix);
     }
     refusals.report(&rt, "Sorting", 2)?;
     Ok(())
@@ -120,9 +132,13 @@ fn sorts_a_large_object(rt: HostRuntime) -> Tested {
     for key in keys_of_one_hash(alloc, 1000)?.iter().rev() {
         object.insert(alloc, key.as_str(), JsonValue::Null)?;
     }
-    let text = JsonValue::Object(object).lay_out(alloc, Sorting { alloc })?;
+    let value = JsonValue::Object(object);
+    let text = value.lay_out(alloc, Sorting { alloc })?;
     let sorted = object_text(alloc, keys_of_one_hash(alloc, 1000)?.as_slice())?;
     expect(&rt, "the text", text.as_str() == sorted.as_str());
+    let mut bytes: Vec<u8> = Vec::new(alloc);
+    value.write_layout(&mut bytes, Sorting { alloc })?;
+    expect(&rt, "write_layout", bytes.as_slice() == sorted.as_bytes());
     Ok(())
 }
 

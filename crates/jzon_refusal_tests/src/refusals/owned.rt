@@ -5,6 +5,7 @@ use super::*;
 use jzon::codegen::{DumpGenerator, Generator};
 use jzon::lent::{write_at, write_at_index, write_present};
 use jzon::object::Object;
+use jzon_test_support::joined;
 
 #[derive(Clone, Copy)]
 enum Owned {
@@ -21,6 +22,14 @@ enum Owned {
     OverrideLast,
     Clear,
     Consume,
+    InsertPresent,
+    WritePresentPresent,
+    WriteAtIndexPresent,
+    AtMut,
+    AtIndexMut,
+    ClearArray,
+    Retain,
+    Repeated,
     Rejected(&'static str),
 }
 
@@ -94,6 +103,29 @@ fn consumed(alloc: Global) -> Result<()> {
     }
 }
 
+/// The long key is put, and no entry is kept.
+fn retained(value: &mut JsonValue, alloc: Global) -> Result<()> {
+    value.insert(alloc, LONG_KEY, text(alloc)?)?;
+    if let JsonValue::Object(object) = value {
+        object.retain(|_key, _value| false);
+    }
+    Ok(())
+}
+
+/// More entries than are gathered, of one key; then a long key and its string, five times.
+fn repeated(alloc: Global) -> Result<JsonValue> {
+    let entries = [
+        ("{\"a\":0", 1),
+        (",\"a\":0", 256),
+        (
+            ",\"0123456789abcdef0123456789abcdef01234567\":\"abcdefghijklmnopqrstuvwxyz01234\"",
+            5,
+        ),
+        ("}", 1),
+    ];
+    parse(alloc, joined(alloc, &entries)?.as_str())
+}
+
 fn rejected(alloc: Global, text: &str) -> Result<()> {
     parse(alloc, text)?;
     Ok(())
@@ -123,6 +155,23 @@ impl Call for Owned {
             Owned::OverrideLast => override_last(value, alloc)?,
             Owned::Clear => cleared(value, alloc)?,
             Owned::Consume => consumed(alloc)?,
+            Owned::InsertPresent => value.insert(alloc, "a", text(alloc)?)?,
+            Owned::WritePresentPresent => {
+                write_present(value, "a", item(alloc)?);
+            }
+            Owned::WriteAtIndexPresent => write_at_index(value, alloc, 1, item(alloc)?)?,
+            Owned::AtMut => {
+                value.at_mut(alloc, "a")?;
+            }
+            Owned::AtIndexMut => {
+                value.at_index_mut(alloc, 1)?;
+            }
+            Owned::ClearArray => {
+                value.push(alloc, text(alloc)?)?;
+                value.clear();
+            }
+            Owned::Retain => retained(value, alloc)?,
+            Owned::Repeated => *value = repeated(alloc)?,
             Owned::Rejected(text) => passed_over(rejected(alloc, text))?,
         }
         Ok(())
@@ -221,6 +270,62 @@ const OWNED: &[Row<Owned>] = &[
         "null",
         "null",
         1,
+    ),
+    (
+        Owned::InsertPresent,
+        "insert over a long string",
+        "{\"a\":\"a text of more than thirty bytes\"}",
+        "{\"a\":\"abcdefghijklmnopqrstuvwxyz01234\"}",
+        1,
+    ),
+    (
+        Owned::WritePresentPresent,
+        "write_present over a long string",
+        "{\"a\":\"a text of more than thirty bytes\"}",
+        "{\"a\":\"abcdefghijklmnopqrstuvwxyz01234\"}",
+        1,
+    ),
+    (
+        Owned::WriteAtIndexPresent,
+        "write_at_index over a long string",
+        "[true,\"a text of more than thirty bytes\"]",
+        LISTED,
+        1,
+    ),
+    (
+        Owned::AtIndexMut,
+        "at_index_mut of a long string",
+        "\"a text of more than thirty bytes\"",
+        "[null,null]",
+        1,
+    ),
+    (
+        Owned::AtMut,
+        "at_mut of a long string",
+        "\"a text of more than thirty bytes\"",
+        "{\"a\":null}",
+        1,
+    ),
+    (
+        Owned::ClearArray,
+        "clear of an array and its string",
+        "[]",
+        "[]",
+        2,
+    ),
+    (
+        Owned::Retain,
+        "retain of a long key and its string",
+        "{}",
+        "{}",
+        3,
+    ),
+    (
+        Owned::Repeated,
+        "parse of long keys repeated among many",
+        "null",
+        "{\"a\":0,\"0123456789abcdef0123456789abcdef01234567\":\"abcdefghijklmnopqrstuvwxyz01234\"}",
+        20,
     ),
     (
         Owned::Rejected(IN_ARRAY),
