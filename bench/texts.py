@@ -49,6 +49,29 @@ def message(random_, number):
     return {**members(39, "message"), "user": user}
 
 
+def log_entry(random_, number):
+    """Objects of 4 and 3 keys."""
+    context = {"host": f"node-{number % 12}", "thread": number % 64, "request": f"{random_.getrandbits(64):016x}"}
+    return {"time": f"2026-03-{number % 28 + 1:02}T12:{number % 60:02}:00Z", "level": random_.choice(("debug", "info", "warning")), "text": phrase(random_, 4, 12), "context": context}
+
+
+def configuration(random_, number):
+    """Objects of 6 and 12 keys with short strings."""
+    keys = "host port user group path mode owner level theme format locale zone".split()
+    settings = {key: random_.choice(WORDS) for key in keys}
+    return {"name": f"service-{number}", "version": f"{number % 9}.{number % 31}", "enabled": number % 2 == 0, "retries": number % 5, "owner": random_.choice(WORDS), "settings": settings}
+
+
+def polygon(random_):
+    ring = [[round(random_.uniform(-180, 180), 6), round(random_.uniform(-90, 90), 6)] for _ in range(random_.randint(4, 60))]
+    return [[*ring, ring[0]]]
+
+
+def reading(random_, number):
+    """An object of 4 keys, one of them with an array of 6 decimals."""
+    return {"sensor": f"s{number % 400}", "at": 1700000000 + number, "unit": random_.choice(("C", "hPa", "lx")), "values": [round(random_.uniform(0, 100), 3) for _ in range(6)]}
+
+
 def integer(random_):
     return random_.randrange(10 ** random_.randint(1, 18)) * random_.choice((1, -1))
 
@@ -76,6 +99,12 @@ def elements(random_, name):
         "literals": lambda number: random_.choice(("true", "false", "null")),
         "wide": lambda number: f'"key{number:07}":{number}',
         "repeated": lambda number: f'"k{number % 50}":{number}',
+        "logs": lambda number: json.dumps(log_entry(random_, number)),
+        "configurations": lambda number: json.dumps(configuration(random_, number)),
+        "polygons": lambda number: json.dumps(polygon(random_)),
+        "rows": lambda number: json.dumps([random_.randrange(1000) for _ in range(100)]),
+        "articles": lambda number: json.dumps({"title": phrase(random_, 4, 9), "text": phrase(random_, 300, 900)}),
+        "readings": lambda number: json.dumps(reading(random_, number)),
     }[name]
     number = 0
     while True:
@@ -99,6 +128,14 @@ TITLES = {
     "literals": "literals",
 }
 NAMES = list(TITLES)
+OTHER_TITLES = {
+    "logs": "log entries, objects of 4 and 3 keys",
+    "configurations": "configurations, objects of 6 and 12 keys with short strings",
+    "polygons": "polygons of coordinates",
+    "rows": "rows of 100 small integers",
+    "articles": "articles of long strings",
+    "readings": "readings of sensors, objects of 4 keys and arrays of 6 decimals",
+}
 KEY_TITLES = {
     "rising": "in ascending order of hash",
     "falling": "in descending order of hash",
@@ -121,7 +158,9 @@ def text(name, size):
 
 
 def of_one_hash(count):
-    keys = [OF_HASH_0 + "".join(LEAVES_0 if index >> bit & 1 else "\0" for bit in range(count.bit_length())) for index in range(count)]
+    """Keys of 28 to 181 bytes, up to 131,072 of them; more are longer."""
+    bits = max(17, (count - 1).bit_length())
+    keys = [OF_HASH_0 + "".join(LEAVES_0 if index >> bit & 1 else "\0" for bit in range(bits)) for index in range(count)]
     if any(hash_of(key) for key in keys[-3:]):
         sys.exit("texts.py: the keys of one hash have others")
     random.Random(count).shuffle(keys)
