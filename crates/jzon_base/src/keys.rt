@@ -230,8 +230,8 @@ impl Keys {
         }
     }
 
-    /// No key, with room for `capacity` of them, and for their index up to 1,024. The error is a
-    /// failed allocation.
+    /// No key, with room for `capacity` of them. More than 16 have an index, with room for up to
+    /// 1,024 of them. The error is a failed allocation.
     pub fn with_capacity(alloc: Global, capacity: usize) -> Result<Keys, AllocError>
         ensures { IfOk result (λ k. k ≡ []) }
     {

@@ -76,8 +76,8 @@ impl<V> Pairs<V> {
         })
     }
 
-    /// No entry, with room for keys and values of `capacity` entries, and for their index up to
-    /// 1,024. The error is a failed allocation.
+    /// No entry, with room for keys and values of `capacity` entries. More than 16 have an index,
+    /// with room for up to 1,024 of them. The error is a failed allocation.
     pub fn with_capacity(alloc: Global, capacity: usize) -> Result<Pairs<V>, AllocError>
     where
         V: Drop,

@@ -143,7 +143,7 @@ fn push_shuffled(alloc: Global, built: &mut Builder<usize>) -> Result<(), AllocE
 /// A name has the position of its first entry and the value of its last.
 #[test]
 fn builds_pairs_of_shuffled_keys(rt: HostRuntime) -> Result<(), AllocError> {
-    let mut built = Builder::new(rt.alloc());
+    let mut built = Builder::with_capacity(rt.alloc(), 0)?;
     push_shuffled(rt.alloc(), &mut built)?;
     let pairs = built.finish(rt.alloc())?;
     for number in 0..40 {
@@ -183,7 +183,7 @@ fn name_of(alloc: Global, number: usize) -> Result<String, AllocError> {
 
 /// Entries of `count` keys of one hash, and their numbers.
 fn of_one_hash(alloc: Global, count: usize) -> Result<Pairs<usize>, AllocError> {
-    let mut built = Builder::new(alloc);
+    let mut built = Builder::with_capacity(alloc, 0)?;
     for number in 0..count {
         let name = name_of(alloc, number)?;
         built.push(alloc, Key::new(alloc, name.as_str())?, number)?;
@@ -238,7 +238,7 @@ fn push_new(
 
 #[test]
 fn knows_the_keys_of_one_hash(rt: HostRuntime) -> Result<(), AllocError> {
-    let mut built = Builder::new(rt.alloc());
+    let mut built = Builder::with_capacity(rt.alloc(), 0)?;
     for number in 0..300 {
         let name = name_of(rt.alloc(), number)?;
         push_new(&rt, rt.alloc(), &mut built, name.as_str())?;

@@ -223,20 +223,8 @@ impl<V> Model for Builder<V> {
 }
 
 impl<V: Drop> Builder<V> {
-    /// No entry. Takes no memory.
-    pub fn new(alloc: Global) -> Builder<V>
-        ensures { result ≡ [] }
-    {
-        Builder {
-            state: State::Gathered(Gathered {
-                keys: Vec::new(alloc),
-                values: Vec::new(alloc),
-                tags: None,
-            }),
-        }
-    }
-
-    /// No entry, with room for `capacity` of them. The error is a failed allocation.
+    /// No entry, with room for `capacity` of them; 0 takes no memory. The error is a failed
+    /// allocation.
     pub fn with_capacity(alloc: Global, capacity: usize) -> Result<Builder<V>, AllocError>
         ensures { IfOk result (λ b. b ≡ []) }
     {
@@ -253,13 +241,8 @@ impl<V: Drop> Builder<V> {
     /// 4,096 and so on.
     #[inline(always)]
     fn is_at_limit(&self) -> bool {
-        match &self.state {
-            State::Gathered(gathered) => {
-                let count = gathered.keys.len();
-                count % FIRST_LIMIT == 0 && is_power_of_four(count)
-            }
-            State::Put(_) => false,
-        }
+        matches!(&self.state, State::Gathered(gathered)
+            if gathered.keys.len() % FIRST_LIMIT == 0 && is_power_of_four(gathered.keys.len()))
     }
 
     /// Merges gathered entries. They stay gathered if no key repeats and they may stay, else they
@@ -296,14 +279,6 @@ impl<V: Drop> Builder<V> {
         }
     }
 
-    /// How many entries are gathered.
-    fn gathered(&self) -> usize {
-        match &self.state {
-            State::Gathered(gathered) => gathered.keys.len(),
-            State::Put(_) => 0,
-        }
-    }
-
     /// Whether an entry has this key. Calls before each of n entries take about n (log n)^2
     /// comparisons in all, whatever the keys are. The error is a failed allocation.
     ///
@@ -313,7 +288,7 @@ impl<V: Drop> Builder<V> {
         ensures kept { self.new ≡ self.old }
         ensures known { IfOk result (λ known. known ≡ is_some (find key.now self.old)) }
     {
-        if FIRST_LIMIT <= self.gathered() {
+        if matches!(&self.state, State::Gathered(gathered) if FIRST_LIMIT <= gathered.keys.len()) {
             self.look_over(alloc, false)?;
         }
         match &mut self.state {
