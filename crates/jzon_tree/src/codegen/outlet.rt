@@ -1,7 +1,7 @@
 //! Where a `TextGenerator` writes (docs/RULES.md, "Generators").
 
 ghost use Rattle.std.specs.Prelude.{◌≡◌, ◌∷◌, ℕ, List, [], Option, None, Some, IsTrue, false, refl};
-ghost use Rattle.std.specs.Prelude.{replicate};
+ghost use Rattle.std.specs.Prelude.{replicate, IfOk, OnErr};
 ghost use Rattle.std.specs.Borrow.{GName, sem, Lends};
 ghost use Rattle.jzon_base.specs.NumberText.{written_text};
 ghost use Rattle.jzon_tree.specs.Generator.{Adds, Just};
@@ -12,6 +12,7 @@ use crate::codegen::layout::push_line;
 use crate::codegen::numbers::push_digits;
 use crate::codegen::strings::{push_plain, push_short};
 use jzon_base::number::Number;
+use std::alloc::AllocError;
 use std::io::Write;
 
 /// A writer that may take a string, a number or the start of a line at once. A buffer of your own
@@ -76,15 +77,16 @@ pub trait Place {
             (with_writer self.old)) }
         ensures bytes { Self.T.contents result.now ≡ out self.old };
 
-    /// As `Outlet::put_string`.
+    /// As `Outlet::put_string`. The error is a failed allocation, and then nothing is added.
     #[inline(always)]
-    fn put_string(&mut self, string: &[u8]) -> bool
-        ensures done { IsTrue result → Adds (Just (quoted string.now)) (out self.old)
-            (out self.new) }
-        ensures left { result ≡ false → out self.new ≡ out self.old }
+    fn put_string(&mut self, string: &[u8]) -> Result<bool, AllocError>
+        ensures done { IfOk result (λ done. IsTrue done
+            → Adds (Just (quoted string.now)) (out self.old) (out self.new)) }
+        ensures left { IfOk result (λ done. done ≡ false → out self.new ≡ out self.old) }
+        ensures err { OnErr result (out self.new ≡ out self.old) }
         ensures lender { lender self.new ≡ lender self.old }
     {
-        false
+        Ok(false)
     }
 
     /// As `Outlet::put_number`.
@@ -133,8 +135,11 @@ impl Place for Memory {
     }
 
     #[inline(always)]
-    fn put_string(&mut self, string: &[u8]) -> bool {
-        push_short(&mut self.bytes, string) || push_plain(&mut self.bytes, string)
+    fn put_string(&mut self, string: &[u8]) -> Result<bool, AllocError> {
+        if push_short(&mut self.bytes, string) {
+            return Ok(true);
+        }
+        push_plain(&mut self.bytes, string)
     }
 
     #[inline(always)]
@@ -191,8 +196,8 @@ impl<'a, W: Outlet> Place for Through<'a, W> {
     }
 
     #[inline(always)]
-    fn put_string(&mut self, string: &[u8]) -> bool {
-        self.outlet.put_string(string)
+    fn put_string(&mut self, string: &[u8]) -> Result<bool, AllocError> {
+        Ok(self.outlet.put_string(string))
     }
 
     #[inline(always)]

@@ -1,7 +1,7 @@
 //! Strings and their escapes (docs/RULES.md, "Printed values").
 
 ghost use Rattle.std.specs.Prelude.{◌≡◌, ◌+◌, ◌≤◌, ◌++◌, ◌∷◌, [], false, length, take, drop, OnErr, IsSome};
-ghost use Rattle.std.specs.Prelude.{IsTrue, slice_index_or, vec_len, vec_capacity};
+ghost use Rattle.std.specs.Prelude.{IfOk, IsTrue, slice_index_or, vec_len, vec_capacity};
 ghost use Rattle.std.specs.List.{prefix_len};
 ghost use Rattle.jzon_base.specs.Private.PlainBytes.{is_plain};
 ghost use Rattle.jzon_tree.specs.Generator.{Sends, Just};
@@ -10,6 +10,7 @@ ghost use Rattle.jzon_tree.specs.Text.{escaped, escaped_byte, quoted};
 use crate::codegen::error_slot::{ErrorSlot, SlotResult, send};
 use jzon_base::util::escapes::{hex_digit, letter_of};
 use jzon_base::util::plain::{is_plain_by_ends, plain_len};
+use std::alloc::AllocError;
 use std::io::Write;
 use std::simd::Simd;
 
@@ -123,22 +124,25 @@ fn put_plain_ends<const N: usize>(bytes: &mut [u8], offset: usize, string: &[u8]
     true
 }
 
-/// Adds a string in quotes if it needs no escape and no allocation fails, and returns whether it
-/// did. Otherwise nothing is added. Room is requested once.
+/// Adds a string in quotes if it needs no escape, and returns whether it did. Otherwise nothing is
+/// added. Room is requested once; the error is a failed allocation, and then nothing is added.
 #[inline(never)]
-pub(super) fn push_plain(bytes: &mut Vec<u8>, string: &[u8]) -> bool
-    ensures done { IsTrue result → bytes.new.items ≡ bytes.old.items ++ quoted string.now }
-    ensures left { result ≡ false → bytes.new.items ≡ bytes.old.items }
+pub(super) fn push_plain(bytes: &mut Vec<u8>, string: &[u8]) -> Result<bool, AllocError>
+    ensures done { IfOk result (λ done. IsTrue done
+        → bytes.new.items ≡ bytes.old.items ++ quoted string.now) }
+    ensures left { IfOk result (λ done. done ≡ false → bytes.new.items ≡ bytes.old.items) }
+    ensures err { OnErr result (bytes.new.items ≡ bytes.old.items) }
 {
-    if plain_len(string) < string.len() || bytes.reserve(string.len() + 2).is_err() {
-        return false;
+    if plain_len(string) < string.len() {
+        return Ok(false);
     }
+    bytes.reserve(string.len() + 2)?;
     bytes.push_reserved(b'"');
     let Ok(()) = bytes.extend_from_slice(string) else {
         unreachable!()
     };
     bytes.push_reserved(b'"');
-    true
+    Ok(true)
 }
 
 /// Puts the escape of a byte that needs one at the end of `room`, and returns its start.

@@ -9,7 +9,7 @@ ghost use Rattle.jzon_tree.specs.Generator.{Added, Failed, Counts, Just, IsAnswe
 ghost use Rattle.jzon_tree.specs.Generators.{text_meaning, with_writer_in, same_emitted, fresh, IsConsumed};
 ghost use Rattle.jzon_tree.specs.Styles.{compact_style, pretty_style};
 
-use crate::codegen::error_slot::{ErrorSlot, SlotResult, send, take_result};
+use crate::codegen::error_slot::{ErrorSlot, SlotResult, send, store, take_result};
 use crate::codegen::generator::Generator;
 use crate::codegen::layout::{Compact, Layout, Pretty, send_line};
 use crate::codegen::numbers::send_number;
@@ -157,10 +157,11 @@ impl<P: Place, L: Layout> Generator for TextGenerator<P, L> {
 
     fn try_write_string(&mut self, string: &str, slot: &mut ErrorSlot) -> SlotResult<()> {
         let bytes = string.as_bytes();
-        if self.place.put_string(bytes) {
-            return Ok(());
-        }
-        let step = send_string(self.place.writer(), b"\"", bytes, slot);
+        let step = match self.place.put_string(bytes) {
+            Ok(true) => return Ok(()),
+            Ok(false) => send_string(self.place.writer(), b"\"", bytes, slot),
+            Err(error) => store(Err(io::Error::from(error)), slot),
+        };
         self.count(step)
     }
 
