@@ -1,8 +1,7 @@
 //! Parses texts (RFC 8259, section 2; docs/RULES.md, "Texts").
 
 ghost use Rattle.std.specs.Prelude.{◌≡◌, ◌≢◌, ◌&&◌, [], ◌<◌, ◌≤◌, map, chars, true, IfOk, IfErr, OnOk};
-ghost use Rattle.std.specs.Prelude.{Err, None, Some, IsOkUnless, vec_len, if◌then◌else◌, false};
-ghost use Rattle.std.specs.Prelude.{MatchOption};
+ghost use Rattle.std.specs.Prelude.{Err, None, Some, IsOkUnless, MatchOption, vec_len, if◌then◌else◌, false};
 ghost use Rattle.std.specs.Option.{is_some};
 ghost use Rattle.jzon_base.specs.PairList.{find};
 ghost use Rattle.jzon_tree.specs.Value.{Value, array, values_of, object, pairs_of};
