@@ -60,7 +60,8 @@ module _ {V : Type 0} (k : List ℕ) where
   known_keys (x ∷ ks) [] e = absurd (omega arith)
   known_keys (x ∷ ks) (v ∷ vs) e = ap (λ (b : Bool). bytes_eq x k || b) (known_keys ks vs (omega arith))
 
-  -- a key is known if some entry has it
-  pub known-put_each : (ks : List (List ℕ)) (vs : List V) → length vs ≡ length ks
-      → is_some (find k (put_each (zip ks vs))) ≡ list_any (λ x. bytes_eq x k) ks
-  known-put_each ks vs e = known_onto [] (zip ks vs) ∙ known_keys ks vs e
+  -- some entry has a key if it is among the keys
+  pub known-put_each : (ks xs : List (List ℕ)) (vs : List V) (ps : List (List ℕ × V)) → put_each (zip ks vs) ≡ ps
+      → length vs ≡ length ks → xs ≡ ks → list_any (λ x. bytes_eq x k) xs ≡ is_some (find k ps)
+  known-put_each ks xs vs ps view even same = ap (list_any (λ x. bytes_eq x k)) same ∙ sym (known_keys ks vs even)
+      ∙ sym (known_onto [] (zip ks vs)) ∙ ap (λ qs. is_some (find k qs)) view

@@ -5,21 +5,15 @@ use Rattle.jzon_base.proofs.Zips.{AreParts-zip, slice_get-zip}
 use Rattle.jzon_base.proofs.pairs.entries.Entries.get_at.Goals as goal
 
 pub get-requires : goal.get-requires
-get-requires g c =
-    let parts = AreParts-zip c.self.inside.keys c.self.inside.values.items c.args.self.now c.self.view_is
-    c.self.invariant in
-    omega (arith, parts.keys_length)
+get-requires g c = omega (arith, (AreParts-zip _ _ _ c.self.view_is c.self.invariant).keys_length)
 
 pub index-requires : goal.index-requires
 index-requires g c =
-    let parts = AreParts-zip c.self.inside.keys c.self.inside.values.items c.args.self.now c.self.view_is
-    c.self.invariant in
-    omega (arith, c.self.inside.values.ok.0, parts.values_length)
+    omega (arith, c.self.inside.values.ok.0, (AreParts-zip _ _ _ c.self.view_is c.self.invariant).values_length)
 
 pub returns : goal.returns
 returns g c =
-    let parts = AreParts-zip c.self.inside.keys c.self.inside.values.items c.args.self.now c.self.view_is
-    c.self.invariant in
+    let parts = AreParts-zip _ _ _ c.self.view_is c.self.invariant in
     let keys = c.self.inside.keys in
     let values = c.self.inside.values in
     ap (λ ps. slice_get ps c.args.index) (sym c.self.view_is)

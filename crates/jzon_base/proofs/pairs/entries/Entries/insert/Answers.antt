@@ -8,8 +8,7 @@ use Rattle.jzon_base.proofs.pairs.entries.Entries.insert.Goals as goal
 
 pub returns-in_err-index-clause-present : goal.returns-in_err-index-clause-present
 returns-in_err-index-clause-present g c =
-    let parts = AreParts-zip c.self.inside.keys c.self.inside.values.items c.args.self.now c.self.view_is
-    c.self.invariant in
+    let parts = AreParts-zip _ _ _ c.self.view_is c.self.invariant in
     let missing : find c.args.name.now c.args.self.now ≡ None = find_missing c.args.name.now c.args.self.now
     (ap (position (λ k. bytes_eq k c.args.name.now)) (sym parts.keys) ∙ c.in_err-index.ensures.missing) in
     search (rules, missing)

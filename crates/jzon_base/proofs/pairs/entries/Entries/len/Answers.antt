@@ -4,6 +4,5 @@ use Rattle.jzon_base.proofs.pairs.entries.Entries.len.Goals as goal
 
 pub returns : goal.returns
 returns g c =
-    let parts = AreParts-zip c.self.inside.keys c.self.inside.values.items c.args.self.now c.self.view_is
-    c.self.invariant in
+    let parts = AreParts-zip _ _ _ c.self.view_is c.self.invariant in
     record { len = c.len.ensures.len ∙ parts.keys_length; distinct = rw (← parts.keys) c.len.ensures.distinct }

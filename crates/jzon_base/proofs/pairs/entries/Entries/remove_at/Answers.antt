@@ -5,21 +5,15 @@ use Rattle.jzon_base.proofs.Zips.{AreParts-zip, zip-remove}
 use Rattle.jzon_base.proofs.pairs.entries.Entries.remove_at.Goals as goal
 
 pub remove-requires : goal.remove-requires
-remove-requires g c =
-    let parts = AreParts-zip c.self.inside.keys c.self.inside.values.items c.args.self.now c.self.view_is
-    c.self.invariant in
-    omega (arith, parts.keys_length)
+remove-requires g c = omega (arith, (AreParts-zip _ _ _ c.self.view_is c.self.invariant).keys_length)
 
 pub remove-requires-2 : goal.remove-requires-2
 remove-requires-2 g c =
-    let parts = AreParts-zip c.self.inside.keys c.self.inside.values.items c.args.self.now c.self.view_is
-    c.self.invariant in
-    omega (arith, c.self.inside.values.ok.0, parts.values_length)
+    omega (arith, c.self.inside.values.ok.0, (AreParts-zip _ _ _ c.self.view_is c.self.invariant).values_length)
 
 pub returns-clause-value : goal.returns-clause-value
 returns-clause-value g c =
-    let parts = AreParts-zip c.self.inside.keys c.self.inside.values.items c.args.self.now c.self.view_is
-    c.self.invariant in
+    let parts = AreParts-zip _ _ _ c.self.view_is c.self.invariant in
     let values = c.self.inside.values in
     rw (← parts.values) (slice_get_read values.items _ c.args.index _ values.ok.0
     (omega (arith, values.ok.0, parts.values_length)) c.remove-2.ensures.value)

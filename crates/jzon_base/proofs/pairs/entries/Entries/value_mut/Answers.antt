@@ -6,14 +6,11 @@ use Rattle.jzon_base.proofs.pairs.entries.Entries.value_mut.Goals as goal
 
 pub index_mut-requires : goal.index_mut-requires
 index_mut-requires g c =
-    let parts = AreParts-zip c.self.inside.keys c.self.inside.values.items c.args.self.now c.self.view_is
-    c.self.invariant in
-    omega (arith, c.self.inside.values.ok.0, parts.values_length)
+    omega (arith, c.self.inside.values.ok.0, (AreParts-zip _ _ _ c.self.view_is c.self.invariant).values_length)
 
 pub returns : goal.returns
 returns g c =
-    let parts = AreParts-zip c.self.inside.keys c.self.inside.values.items c.args.self.now c.self.view_is
-    c.self.invariant in
+    let parts = AreParts-zip _ _ _ c.self.view_is c.self.invariant in
     let keys = c.self.inside.keys in
     let values = c.self.inside.values in (
       (refl, λ w. zip-set keys values.items c.args.index w ∙ ap (λ ps. set_value ps c.args.index w) c.self.view_is),

@@ -3,7 +3,4 @@ use Rattle.jzon_base.proofs.Zips.{AreParts-zip}
 use Rattle.jzon_base.proofs.pairs.entries.Entries.values.Goals as goal
 
 pub returns : goal.returns
-returns g c =
-    let parts = AreParts-zip c.self.inside.keys c.self.inside.values.items c.args.self.now c.self.view_is
-    c.self.invariant in
-    c.as_slice.ensures.value ∙ parts.values
+returns g c = c.as_slice.ensures.value ∙ (AreParts-zip _ _ _ c.self.view_is c.self.invariant).values
