@@ -5,6 +5,7 @@ pub mod Texts
 pub mod ReadBack
 pub mod WorkedRows
 pub mod AnswerLaws
+mod PrintedTexts
 -- the lower crates' laws, for callers (crates/jzon/CALLING.md)
 pub use Rattle.jzon_base.proofs.PairLaws
 pub use Rattle.jzon_tree.proofs.ValueLaws

@@ -13,7 +13,7 @@ use Rattle.std.proofs.Math.ListN.{get_or-eq_default}
 use Rattle.jzon_base.specs.PairList.{find, put}
 use Rattle.jzon_base.specs.declared.error.Error.{Error}
 use Rattle.jzon_base.specs.declared.error.Error.TheVariants.{OutOfMemory}
-use Rattle.jzon_tree.specs.Value.{Value, object, pairs_of}
+use Rattle.jzon_tree.specs.Value.{Value, array, values_of, object, pairs_of}
 use Rattle.jzon_tree.specs.View.{view, view_object, viewed}
 use Rattle.jzon_tree.specs.Entries.{entries_of}
 use Rattle.jzon_tree.specs.declared.object.Object.{Object}
@@ -22,7 +22,7 @@ use Rattle.jzon_tree.proofs.Views.{find-viewed}
 use Rattle.jzon.specs.Reading.{Reading}
 use Rattle.jzon.specs.Spelling.{breach_if, deep}
 use Rattle.jzon.specs.Private.Machine.{Entries, Frames, no_frames, array_frame, object_frame, frames_depth, is_fresh}
-use Rattle.jzon.specs.Private.Machine.{State, after_value, value_mark, key_mark}
+use Rattle.jzon.specs.Private.Machine.{State, before, before_key, after_value, value_mark, key_mark}
 use Rattle.jzon.specs.Private.Cursor.{left, IsAfter, GoesOn}
 use Rattle.jzon.specs.Private.Frames.{open_in, stack_view, state_of, is_open, IsReady, IsWholeValue}
 use Rattle.jzon.specs.declared.cursor.Cursor.{Cursor}
@@ -31,6 +31,7 @@ use Rattle.jzon.specs.declared.open_containers.ValueStart.TheVariants.{Value as 
 use Rattle.jzon.specs.declared.open_containers.ValueStart.TheVariants.{Object as start_object}
 use Rattle.jzon.specs.declared.open_containers.Frame.{Frame}
 use Rattle.jzon.specs.declared.open_containers.Frame.TheVariants.{Array, Object as in_object}
+use Rattle.jzon.proofs.Texts.Cursors.{Reached, goes_after}
 
 -- ---- the stack
 
@@ -91,6 +92,34 @@ is_some-map (Some v) = refl
 -- the same keys are known
 pub known_view : (k : List ℕ) (ps : List (List ℕ × JsonValue)) → is_some (find k ps) ≡ is_some (find k (viewed ps))
 known_view k ps = is_some-map (find k ps) ∙ ap is_some (find-viewed k ps)
+
+-- after an element the array ends, or the next element comes
+pub after_element : {t u n : Cursor} {o : State} {fs gs : Frames} {vs ws : List Value} {v : Value} {b d : Bool}
+    → Reached t o u (after_value (array_frame fs vs) v)
+    → IsAfter u n × (left u (after_value (array_frame fs vs) v)
+    ≡ left n (cond b (after_value fs (array (values_of (vs ++ v ∷ [])))) (before (array_frame fs (vs ++ v ∷ [])))))
+    → b ≡ d → gs ≡ fs → ws ≡ vs ++ v ∷ []
+    → IsAfter t n × (left t o ≡ left n (cond d (after_value gs (array (values_of ws))) (before (array_frame gs ws))))
+after_element {n = n} h k e f g =
+    let read = goes_after _ h k in (
+      read.0,
+      read.1 ∙ (λ i. let hs = sym f i in let us = sym g i in
+          left n (cond (e i) (after_value hs (array (values_of us))) (before (array_frame hs us)))),
+    )
+
+-- after an entry the object ends, or the next key comes
+pub after_entry : {t u n : Cursor} {o : State} {fs : Frames} {es qs : Entries} {k : List ℕ} {v : Value} {b d : Bool}
+    → Reached t o u (after_value (object_frame fs es k) v)
+    → IsAfter u n × (left u (after_value (object_frame fs es k) v)
+    ≡ left n (cond b (after_value fs (object (pairs_of (put k v es)))) (before_key fs (put k v es))))
+    → b ≡ d → qs ≡ put k v es
+    → IsAfter t n × (left t o ≡ left n (cond d (after_value fs (object (pairs_of qs))) (before_key fs qs)))
+after_entry {n = n} {fs = fs} h k e g =
+    let read = goes_after _ h k in (
+      read.0,
+      read.1 ∙ (λ i. let ps = sym g i in
+          left n (cond (e i) (after_value fs (object (pairs_of ps))) (before_key fs ps))),
+    )
 
 -- ---- what was read at the beginning of a value
 

@@ -1,7 +1,7 @@
 -- From one offset of the parser's cursor to a later one: the outcome of the rest of the text in the old state is the
 -- outcome of what is left now in the new state.
 use Rattle.std.proofs.Common.{◌≡◌, ℕ, ◌+◌, ◌<◌, ◌≤◌, List, true, refl, sym, subst, ◌∙◌, arith, Result, Ok, Err}
-use Rattle.std.specs.Prelude.{chars, IsUtf8}
+use Rattle.std.specs.Prelude.{chars, IsErrAnd, IsUtf8}
 use Rattle.std.proofs.lemmas.Str.{IsUtf8-had}
 use Rattle.jzon_base.specs.declared.error.Error.{Error}
 use Rattle.jzon_tree.specs.declared.value.JsonValue.{JsonValue}
@@ -32,35 +32,36 @@ pub record Reached (t : Cursor) (o : State) (m : Cursor) (p : State) : Type 0 wh
   pub within : t.index ≤ m.index
   pub same : left t o ≡ left m p
 
-pub reached_start : (t : Cursor) (o : State) → Reached t o t o
-reached_start t o = record { text = refl; reading = refl; within = omega arith; same = refl }
+pub reached_start : {t : Cursor} {o : State} → Reached t o t o
+reached_start = record { text = refl; reading = refl; within = omega arith; same = refl }
 
-pub reached : (t m : Cursor) (o p : State) → IsAfter t m × (left t o ≡ left m p) → Reached t o m p
-reached t m o p h = record { text = h.0.text; reading = h.0.reading; within = omega (arith, h.0.index); same = h.1 }
+pub reached : {t m : Cursor} {o p : State} → IsAfter t m × (left t o ≡ left m p) → Reached t o m p
+reached h = record { text = h.0.text; reading = h.0.reading; within = omega (arith, h.0.index); same = h.1 }
 
 -- one more step
-pub goes_after : (t m u : Cursor) (o p q : State) → Reached t o m p → IsAfter m u × (left m p ≡ left u q)
+pub goes_after : {t m u : Cursor} {o p : State} (q : State) → Reached t o m p → IsAfter m u × (left m p ≡ left u q)
     → IsAfter t u × (left t o ≡ left u q)
-goes_after t m u o p q h k = (
+goes_after q h k = (
   record { text = k.0.text ∙ h.text; reading = k.0.reading ∙ h.reading; index = omega (arith, h.within, k.0.index) },
   h.same ∙ k.1,
 )
 
-pub reported_on : (t m : Cursor) (o p : State) (e : Error) → Reached t o m p
+pub reported_on : {t m : Cursor} {o p : State} (e : Error) → Reached t o m p
     → ReportsUnlessMemory (chars m.source.now) e (left m p) → ReportsUnlessMemory (chars t.source.now) e (left t o)
-reported_on t m o p e h k = reported_again (chars t.source.now) e _ _ h.same
+reported_on {t} {m} {o} {p} e h k = reported_again (chars t.source.now) e _ _ h.same
     (subst (λ bs. ReportsUnlessMemory (chars bs) e (left m p)) h.text k)
 
-pub goes_on : {A : Type 0} (t m u : Cursor) (o p : State) (result : Result A Error) (next : A → State) → Reached t o m p
-    → GoesOn m p result u next → GoesOn t o result u next
-goes_on t m u o p (Ok x) next h k = goes_after t m u o p (next x) h k
-goes_on t m u o p (Err e) next h k = reported_on t m o p e h k
+pub goes_on : {A : Type 0} {t m : Cursor} {o p : State} (u : Cursor) (result : Result A Error) (next : A → State)
+    → Reached t o m p → GoesOn m p result u next → GoesOn t o result u next
+goes_on u (Ok x) next h k = goes_after (next x) h k
+goes_on u (Err e) next h k = reported_on e h k
 
 -- an error that is propagated
-pub fails_on : {A : Type 0} (t m u : Cursor) (o p : State) (result : Result A Error) (next : A → State) (e : Error)
-    → result ≡ Err e → Reached t o m p → ReportsUnlessMemory (chars m.source.now) e (left m p)
-    → GoesOn t o result u next
-fails_on t m u o p result next e is h k = subst (λ z. GoesOn t o z u next) (sym is) (reported_on t m o p e h k)
+pub fails_on : {A : Type 0} {t m : Cursor} {o p : State} {e : Error} (u : Cursor) (result : Result A Error)
+    (next : A → State) → IsErrAnd result (λ x. x ≡ e) → Reached t o m p
+    → ReportsUnlessMemory (chars m.source.now) e (left m p) → GoesOn t o result u next
+fails_on u (Ok x) next is h k = absurd is
+fails_on u (Err x) next is h k = rw is (reported_on _ h k)
 
 pub reads_from : (bytes : List ℕ) (o : Outcome) (m : Cursor) (p : State) (result : Result JsonValue Error)
     → m.source.now ≡ bytes → o ≡ left m p → Reads (chars m.source.now) result (left m p) → Reads (chars bytes) result o

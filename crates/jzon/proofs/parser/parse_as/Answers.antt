@@ -38,6 +38,12 @@ returns-in_err-value_start-clause-error c =
     (answer r bytes c.from_residual.result
     (subst (λ z. Reads (chars bytes) z (from r bytes (before no_frames) 0)) (sym failed.1) reported))
 
+pub returns-in_err-value_start-clause-memory : goal.returns-in_err-value_start-clause-memory
+returns-in_err-value_start-clause-memory c e =
+    let failed = err_from_is_err_and c.from_residual.result c.from_residual.ensures.1 in
+    subst (λ bs. TakesMemory (chars bs)) c.new-parser.ensures.cursor.text
+    (c.in_err-value_start.ensures.memory (cc (failed.1, failed.2, e)))
+
 -- ---- the whole value is read
 
 whole : (c : After-expect_end) → Answers c.args.reading.now (chars c.args.source.now) c.expect_end.result
@@ -62,6 +68,9 @@ returns-in-Value-clause-readable c = readable_of c.args.reading.now (chars c.arg
 pub returns-in-Value-clause-error : goal.returns-in-Value-clause-error
 returns-in-Value-clause-error c = error_of c.args.reading.now (chars c.args.source.now) c.expect_end.result
     (whole (goal.at.returns-in-Value-clause-error c).After-expect_end)
+
+pub returns-in-Value-clause-memory : goal.returns-in-Value-clause-memory
+returns-in-Value-clause-memory c e = absurd (c.expect_end.ensures.memory e)
 
 -- ---- a container is opened
 

@@ -16,23 +16,18 @@ bump-requires c =
 -- the opening bracket was read
 at_first : (c : After-bump) (fs : Frames) → value_mark c.args.self.now.reading fs ≡ None
     → Reached c.args.self.now (before fs) c.bump.new.self (after_opener c.args.bracket fs)
-at_first c fs mark = reached c.args.self.now c.bump.new.self _ _
+at_first c fs mark = reached
     (opens c.args.bracket c.args.self.now c.bump.new.self fs c.bump.ensures c.requires.opening mark)
 
 pub returns-then-first-closer-clause-outcome : goal.returns-then-first-closer-clause-outcome
 returns-then-first-closer-clause-outcome c fs mark depth =
-    let b = c.args.bracket in
-    let t = c.args.self.now in
-    let m = c.bump.new.self in
-    let u = c.bump-then-first-closer.new.self in
-    goes_after t m u (before fs) (after_opener b fs) (after_value fs (empty_container b))
-    (at_first (goal.at.returns-then-first-closer-clause-outcome c).After-bump fs mark)
-    (empty_closes b m u fs c.bump-then-first-closer.ensures
+    goes_after _ (at_first (goal.at.returns-then-first-closer-clause-outcome c).After-bump fs mark)
+    (empty_closes c.args.bracket c.bump.new.self c.bump-then-first-closer.new.self fs c.bump-then-first-closer.ensures
     (sym c.peek-first.ensures ∙ c.if-first-closer.true ∙ c.closer.ensures))
 
 pub returns-then-self-clause-outcome : goal.returns-then-self-clause-outcome
 returns-then-self-clause-outcome c fs mark depth =
-    reported_on c.args.self.now c.bump.new.self (before fs) (after_opener c.args.bracket fs) UnexpectedEndOfJson
+    reported_on UnexpectedEndOfJson
     (at_first (goal.at.returns-then-self-clause-outcome c).After-bump fs mark)
     (left_open c.args.bracket c.bump.new.self fs (omega arith))
 
@@ -43,7 +38,7 @@ returns-then-depth-from-clause-outcome c fs mark depth =
     let lt : m.index < length m.source.now = omega (arith, m.boundary.0) in
     let other : next_byte m ≢ closer b = λ f. c.if-first-closer.false
     (c.peek-first.ensures ∙ f ∙ sym c.closer.ensures) in
-    reported_on c.args.self.now m (before fs) (after_opener b fs) ExceededDepthLimit
+    reported_on ExceededDepthLimit
     (at_first (goal.at.returns-then-depth-from-clause-outcome c).After-bump fs mark)
     (item_too_deep b m fs lt other
     (omega (arith, depth, c.if-depth-from.true, c.from.ensures, c.depth.ensures.depth)))

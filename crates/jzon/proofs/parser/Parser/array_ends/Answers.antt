@@ -1,18 +1,13 @@
 use Rattle.std.proofs.Common.{◌∙◌, cond, ap}
-use Rattle.std.proofs.lemmas.Result.{err_from_is_err_and}
 use Rattle.jzon.specs.Private.Brackets.{after_comma, after_closer}
 use Rattle.jzon.specs.Private.Cursor.{left}
-use Rattle.jzon.specs.Private.Machine.{after_value}
 use Rattle.jzon.proofs.Texts.Cursors.{reached_start, fails_on}
 use Rattle.jzon.proofs.parser.Parser.array_ends.Goals as goal
 
 pub returns-in_err-container_ends-clause-outcome : goal.returns-in_err-container_ends-clause-outcome
 returns-in_err-container_ends-clause-outcome c fs v here =
-    let t = c.args.self.now.cursor in
-    let failed = err_from_is_err_and c.from_residual.result c.from_residual.ensures.1 in
-    fails_on t t _ (after_value fs v) (after_value fs v) c.from_residual.result _ failed.0 failed.1
-    (reached_start t (after_value fs v))
-    (rw failed.2 (c.in_err-container_ends.ensures fs v here))
+    fails_on _ c.from_residual.result _ c.from_residual.ensures.1 reached_start
+    (c.in_err-container_ends.ensures fs v here)
 
 pub returns-then-branch-clause-outcome : goal.returns-then-branch-clause-outcome
 returns-then-branch-clause-outcome c fs v here =

@@ -1,6 +1,5 @@
-use Rattle.std.proofs.Common.{◌≡◌, ◌∙◌, ◌++◌, refl, cond, [], ◌∷◌, length, map, sym, ap, subst, arith, vec_len}
+use Rattle.std.proofs.Common.{◌≡◌, ◌∙◌, ◌++◌, refl, [], ◌∷◌, length, map, sym, ap, subst, arith, rules, vec_len}
 use Rattle.std.proofs.lemmas.List.{map-append}
-use Rattle.std.proofs.lemmas.Result.{err_from_is_err_and}
 use Rattle.jzon_tree.specs.Value.{null, array, values_of}
 use Rattle.jzon_tree.specs.declared.value.JsonValue.TheVariants.{Array}
 use Rattle.jzon_tree.specs.View.{view}
@@ -8,15 +7,16 @@ use Rattle.jzon_tree.proofs.Views.{view-Array}
 use Rattle.jzon.specs.Private.Cursor.{left, IsAfter}
 use Rattle.jzon.specs.Private.Frames.{stack_view}
 use Rattle.jzon.specs.declared.cursor.Cursor.{Cursor}
-use Rattle.jzon.specs.Private.Machine.{State, no_frames, array_frame, before, after_value}
-use Rattle.jzon.proofs.Texts.Cursors.{Reached, reached_start, reached, goes_after, fails_on}
+use Rattle.jzon.specs.Private.Machine.{State, no_frames, array_frame, after_value}
+use Rattle.jzon.proofs.Texts.Cursors.{Reached, reached_start, reached, fails_on}
+use Rattle.jzon.proofs.Containers.FrameViews.{after_element}
 use Rattle.jzon.proofs.parser.Parser.close_arrays.Goals.{After-array_ends}
 use Rattle.jzon.proofs.parser.Parser.close_arrays.Goals as goal
 
 pub loop-outer-init : goal.loop-outer-init
 loop-outer-init c = record {
   depth = omega arith;
-  came = reached_start _ _;
+  came = reached_start;
 }
 
 pushed : (c : After-array_ends) → map view c.push.new.self.items
@@ -41,26 +41,35 @@ came c =
     (subst (λ fs. Reached t o c.loop-outer.self.cursor (after_value fs w)) c.in-Some.ensures.taken
     c.loop-outer.invariant.came)
 
--- what goes on to the start, has reached what the start reaches
-pub goes_to : (s t u : Cursor) (o p q : State) → IsAfter s t × (left s o ≡ left t p) → Reached t p u q
+-- what goes on to the start, goes on to what the start reaches
+goes_to : {s t u : Cursor} {p q : State} (o : State) → IsAfter s t × (left s o ≡ left t p) → Reached t p u q
     → IsAfter s u × (left s o ≡ left u q)
-goes_to s t u o p q h k = (
+goes_to o h k = (
   record { text = k.text ∙ h.0.text; reading = k.reading ∙ h.0.reading; index = omega (arith, h.0.index, k.within) },
   h.1 ∙ k.same,
 )
 
 pub returns-in_err-array_ends-clause-outcome : goal.returns-in_err-array_ends-clause-outcome
 returns-in_err-array_ends-clause-outcome c s o h =
-    let m = c.take_array.new.self in
-    let fs = array_frame (stack_view m.stack.items) (map view c.in-Some.outer.items) in
+    let fs = array_frame (stack_view c.take_array.new.self.stack.items) (map view c.in-Some.outer.items) in
     let w = array (values_of (map view c.loop-outer.elements.items)) in
     let at = (goal.at.returns-in_err-array_ends-clause-outcome c).After-array_ends in
-    let failed = err_from_is_err_and c.from_residual-in_err-array_ends.result
-    c.from_residual-in_err-array_ends.ensures.1 in
-    fails_on s m.cursor _ o (after_value fs w) c.from_residual-in_err-array_ends.result _ failed.0 failed.1
-    (reached s m.cursor o (after_value fs w) (goes_to s c.args.self.now.cursor m.cursor o _ (after_value fs w) h
-    (came at)))
-    (rw failed.2 (c.in_err-array_ends.ensures.outcome fs w refl))
+    fails_on _ c.from_residual-in_err-array_ends.result _ c.from_residual-in_err-array_ends.ensures.1
+    (reached (goes_to o h (came at))) (c.in_err-array_ends.ensures.outcome fs w refl)
+
+pub returns-then-not-branch-clause-outcome : goal.returns-then-not-branch-clause-outcome
+returns-then-not-branch-clause-outcome c s o h =
+    let fs = array_frame (stack_view c.take_array.new.self.stack.items) (map view c.in-Some.outer.items) in
+    let w = array (values_of (map view c.loop-outer.elements.items)) in
+    let at = (goal.at.returns-then-not-branch-clause-outcome c).After-array_ends in
+    after_element (reached (goes_to o h (came at))) (c.in_ok-array_ends.ensures.outcome fs w refl)
+    c.if-not-branch.true (ap (λ s. stack_view s.items) c.in_ok-array_ends.ensures.stack)
+    (ap (map view) c.in_ok-array_ends.ensures.items ∙ pushed at)
+
+pub returns-clause-outcome : goal.returns-clause-outcome
+returns-clause-outcome c s o h =
+    let kept : c.take_array.new.self.stack ≡ c.loop-outer.self.stack = search (rules, c.in_default.ensures.taken) in
+    goes_to o h (rw (c.in_default.ensures.cursor, kept) c.loop-outer.invariant.came)
 
 pub loop-outer-smaller : goal.loop-outer-smaller
 loop-outer-smaller c =
@@ -76,17 +85,10 @@ loop-outer-smaller c =
 
 pub loop-outer-preserved : goal.loop-outer-preserved
 loop-outer-preserved c =
-    let t = c.args.self.now.cursor in
-    let m = c.take_array.new.self in
-    let n = c.array_ends.new.self in
-    let gs = stack_view m.stack.items in
+    let gs = stack_view c.take_array.new.self.stack.items in
     let vs = map view c.in-Some.outer.items in
     let w = array (values_of (map view c.loop-outer.elements.items)) in
     let at = (goal.at.loop-outer-preserved c).After-array_ends in
-    let o = after_value (stack_view c.args.self.now.stack.items)
-    (array (values_of (map view c.args.elements.now.items))) in
-    let read = goes_after t m.cursor n.cursor o (after_value (array_frame gs vs) w) _ (came at)
-    (c.in_ok-array_ends.ensures.outcome (array_frame gs vs) w refl) in
     record {
       depth = omega (
         arith,
@@ -94,13 +96,7 @@ loop-outer-preserved c =
         c.take_array.ensures.depth,
         ap (λ s. vec_len s) c.in_ok-array_ends.ensures.stack,
       );
-      came = reached t n.cursor o _ (
-        read.0,
-        read.1 ∙ ap (λ b. left n.cursor (cond b (after_value gs (array (values_of (vs ++ w ∷ []))))
-            (before (array_frame gs (vs ++ w ∷ []))))) c.if-not-branch.false
-            ∙ ap (λ s. left n.cursor (after_value (stack_view s.items) (array (values_of (vs ++ w ∷ [])))))
-            (sym c.in_ok-array_ends.ensures.stack)
-            ∙ ap (λ xs. left n.cursor (after_value (stack_view n.stack.items) (array (values_of xs))))
-            (sym (ap (map view) c.in_ok-array_ends.ensures.items ∙ pushed at)),
-      );
+      came = reached (after_element (came at) (c.in_ok-array_ends.ensures.outcome (array_frame gs vs) w refl)
+          c.if-not-branch.false (ap (λ s. stack_view s.items) c.in_ok-array_ends.ensures.stack)
+          (ap (map view) c.in_ok-array_ends.ensures.items ∙ pushed at));
     }

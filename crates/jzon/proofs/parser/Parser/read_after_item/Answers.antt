@@ -1,16 +1,16 @@
-use Rattle.std.proofs.Common.{◌≡◌, ◌∙◌, ◌++◌, refl, cond, [], ◌∷◌, map, sym, ap, arith, vec_len}
+use Rattle.std.proofs.Common.{◌≡◌, ◌∙◌, ◌++◌, refl, [], ◌∷◌, map, sym, ap, arith, vec_len}
 use Rattle.std.proofs.lemmas.List.{map-append}
 use Rattle.jzon_base.specs.PairList.{put}
-use Rattle.jzon_tree.specs.Value.{Value, array, values_of, object, pairs_of}
+use Rattle.jzon_tree.specs.Value.{Value, object, pairs_of}
 use Rattle.jzon_tree.specs.View.{view, viewed}
 use Rattle.jzon_tree.proofs.Views.{view-Array, viewed-put}
 use Rattle.jzon.specs.Private.Cursor.{left}
 use Rattle.jzon.specs.Private.Frames.{open_in, stack_view}
-use Rattle.jzon.specs.Private.Machine.{Frames, array_frame, object_frame, before, before_key, after_value}
+use Rattle.jzon.specs.Private.Machine.{Frames, array_frame, object_frame, after_value}
 use Rattle.jzon.specs.declared.cursor.Cursor.{Cursor}
 use Rattle.jzon.specs.declared.open_containers.Frame.{Frame}
-use Rattle.jzon.proofs.Texts.Cursors.{Reached, reached, goes_after, goes_on}
-use Rattle.jzon.proofs.Containers.FrameViews.{some_more, some_put, closed_on, closed_ready}
+use Rattle.jzon.proofs.Texts.Cursors.{Reached, reached, goes_on}
+use Rattle.jzon.proofs.Containers.FrameViews.{after_element, after_entry, some_more, some_put, closed_on, closed_ready}
 use Rattle.jzon.proofs.parser.Parser.read_after_item.Goals.{After-array_ends, After-container_ends}
 use Rattle.jzon.proofs.parser.Parser.read_after_item.Goals as goal
 
@@ -52,23 +52,17 @@ returns-then-branch-clause-ready c =
 
 pub returns-then-branch-clause-outcome : goal.returns-then-branch-clause-outcome
 returns-then-branch-clause-outcome c =
-    let t = c.args.self.now.cursor in
     let n = c.array_ends.new.self in
-    let fs = stack_view c.args.self.now.stack.items in
     let vs = map view c.in-Array.elements.items in
-    let v = view c.args.item in
     let at = (goal.at.returns-then-branch-clause-outcome c).After-array_ends in
-    let read = goes_after t t n.cursor _ (after_value (array_frame fs vs) v) _ (in_array at)
-    (c.in_ok-array_ends-in-Array.ensures.outcome (array_frame fs vs) v refl) in (
+    let read = after_element (in_array at)
+    (c.in_ok-array_ends-in-Array.ensures.outcome (array_frame (stack_view c.args.self.now.stack.items) vs)
+    (view c.args.item) refl)
+    c.if-branch.true (ap (λ s. stack_view s.items) c.in_ok-array_ends-in-Array.ensures.stack)
+    (ap (map view) c.in_ok-array_ends-in-Array.ensures.items ∙ elements_pushed at) in (
       read.0,
-      read.1 ∙ ap (λ b. left n.cursor (cond b (after_value fs (array (values_of (vs ++ v ∷ []))))
-          (before (array_frame fs (vs ++ v ∷ []))))) c.if-branch.true
-          ∙ ap (λ s. left n.cursor (after_value (stack_view s.items) (array (values_of (vs ++ v ∷ [])))))
-          (sym c.in_ok-array_ends-in-Array.ensures.stack)
-          ∙ ap (λ x. left n.cursor (after_value (stack_view n.stack.items) x))
-          (sym (view-Array c.array_ends.new.elements
-          ∙ ap (λ xs. array (values_of (map view xs))) c.in_ok-array_ends-in-Array.ensures.items
-          ∙ ap (λ xs. array (values_of xs)) (elements_pushed at))),
+      read.1 ∙ ap (λ x. left n.cursor (after_value (stack_view n.stack.items) x))
+          (sym (view-Array c.array_ends.new.elements)),
     )
 
 pub read_elements-requires-clause-room : goal.read_elements-requires-clause-room
@@ -91,25 +85,14 @@ read_elements-requires-clause-element c none =
 
 pub returns-else-branch-clause-outcome : goal.returns-else-branch-clause-outcome
 returns-else-branch-clause-outcome c =
-    let t = c.args.self.now.cursor in
-    let n = c.array_ends.new.self in
-    let fs = stack_view c.args.self.now.stack.items in
     let vs = map view c.in-Array.elements.items in
-    let v = view c.args.item in
-    let inside = before (array_frame (stack_view n.stack.items) (map view c.array_ends.new.elements.items)) in
     let at = (goal.at.returns-else-branch-clause-outcome c).After-array_ends in
-    let read = goes_after t t n.cursor _ (after_value (array_frame fs vs) v) _ (in_array at)
-    (c.in_ok-array_ends-in-Array.ensures.outcome (array_frame fs vs) v refl) in
-    goes_on t n.cursor _ _ inside c.read_elements.result _
-    (reached t n.cursor _ inside (
-      read.0,
-      read.1 ∙ ap (λ b. left n.cursor (cond b (after_value fs (array (values_of (vs ++ v ∷ []))))
-          (before (array_frame fs (vs ++ v ∷ []))))) c.if-branch.false
-          ∙ ap (λ xs. left n.cursor (before (array_frame fs xs)))
-          (sym (ap (map view) c.in_ok-array_ends-in-Array.ensures.items ∙ elements_pushed at))
-          ∙ ap (λ s. left n.cursor (before (array_frame (stack_view s.items)
-          (map view c.array_ends.new.elements.items)))) (sym c.in_ok-array_ends-in-Array.ensures.stack),
-    ))
+    goes_on _ c.read_elements.result _
+    (reached (after_element (in_array at)
+    (c.in_ok-array_ends-in-Array.ensures.outcome (array_frame (stack_view c.args.self.now.stack.items) vs)
+    (view c.args.item) refl)
+    c.if-branch.false (ap (λ s. stack_view s.items) c.in_ok-array_ends-in-Array.ensures.stack)
+    (ap (map view) c.in_ok-array_ends-in-Array.ensures.items ∙ elements_pushed at)))
     c.read_elements.ensures.outcome
 
 -- ---- in an object
@@ -143,24 +126,16 @@ returns-then-branch-2-clause-ready c =
 
 pub returns-then-branch-2-clause-outcome : goal.returns-then-branch-2-clause-outcome
 returns-then-branch-2-clause-outcome c =
-    let t = c.args.self.now.cursor in
-    let u = c.container_ends.new.self in
     let n = c.close_object.new.self in
     let fs = stack_view c.args.self.now.stack.items in
-    let es = viewed c.in-Object.entries in
-    let k = c.in-Object.key in
-    let v = view c.args.item in
     let at = (goal.at.returns-then-branch-2-clause-outcome c).After-container_ends in
-    let read = goes_after t t u _ (after_value (object_frame fs es k) v) _ (in_object at)
-    (c.in_ok-container_ends-in-Object.ensures (object_frame fs es k) v refl) in
-    closed_on t u n.cursor _ fs (stack_view n.stack.items) (object (pairs_of (viewed c.push-in-Object.new.self)))
+    closed_on c.args.self.now.cursor c.container_ends.new.self n.cursor _ fs (stack_view n.stack.items)
+    (object (pairs_of (viewed c.push-in-Object.new.self)))
     c.close_object.result c.close_object.ensures.cursor (ap (λ s. stack_view s.items) c.close_object.ensures.stack)
-    c.close_object.ensures.value c.close_object.ensures.memory (
-      read.0,
-      read.1 ∙ ap (λ b. left u (cond b (after_value fs (object (pairs_of (put k v es)))) (before_key fs (put k v es))))
-          c.if-branch-2.true
-          ∙ ap (λ xs. left u (after_value fs (object (pairs_of xs)))) (sym (entry_pushed at)),
-    )
+    c.close_object.ensures.value c.close_object.ensures.memory
+    (after_entry (in_object at) (c.in_ok-container_ends-in-Object.ensures
+    (object_frame fs (viewed c.in-Object.entries) c.in-Object.key) (view c.args.item) refl)
+    c.if-branch-2.true (entry_pushed at))
 
 pub read_entries-requires-clause-room : goal.read_entries-requires-clause-room
 read_entries-requires-clause-room c =
@@ -176,20 +151,10 @@ read_entries-requires-clause-key c none =
 
 pub returns-else-branch-2-clause-outcome : goal.returns-else-branch-2-clause-outcome
 returns-else-branch-2-clause-outcome c =
-    let t = c.args.self.now.cursor in
-    let u = c.container_ends.new.self in
     let fs = stack_view c.args.self.now.stack.items in
-    let es = viewed c.in-Object.entries in
-    let k = c.in-Object.key in
-    let v = view c.args.item in
     let at = (goal.at.returns-else-branch-2-clause-outcome c).After-container_ends in
-    let read = goes_after t t u _ (after_value (object_frame fs es k) v) _ (in_object at)
-    (c.in_ok-container_ends-in-Object.ensures (object_frame fs es k) v refl) in
-    goes_on t u _ _ (before_key fs (viewed c.push-in-Object.new.self)) c.read_entries.result _
-    (reached t u _ (before_key fs (viewed c.push-in-Object.new.self)) (
-      read.0,
-      read.1 ∙ ap (λ b. left u (cond b (after_value fs (object (pairs_of (put k v es)))) (before_key fs (put k v es))))
-          c.if-branch-2.false
-          ∙ ap (λ xs. left u (before_key fs xs)) (sym (entry_pushed at)),
-    ))
+    goes_on _ c.read_entries.result _
+    (reached (after_entry (in_object at) (c.in_ok-container_ends-in-Object.ensures
+    (object_frame fs (viewed c.in-Object.entries) c.in-Object.key) (view c.args.item) refl)
+    c.if-branch-2.false (entry_pushed at)))
     c.read_entries.ensures.outcome

@@ -2,7 +2,6 @@ use Rattle.std.proofs.Common.{◌≡◌, ◌∙◌, ◌+◌, ◌<◌, ◌++◌, 
 use Rattle.std.proofs.Common.{None, Ok, true, vec_len}
 use Rattle.std.specs.Prelude.{OnOk}
 use Rattle.std.proofs.lemmas.List.{map-append}
-use Rattle.std.proofs.lemmas.Result.{err_from_is_err_and}
 use Rattle.jzon_tree.specs.Value.{Value, array, values_of}
 use Rattle.jzon_tree.specs.View.{view}
 use Rattle.jzon_tree.proofs.Views.{view-Array}
@@ -14,8 +13,8 @@ use Rattle.jzon.specs.declared.cursor.Cursor.{Cursor}
 use Rattle.jzon.specs.declared.open_containers.ValueStart.TheVariants.{Object as start_object}
 use Rattle.jzon.specs.declared.open_containers.Frame.{Frame}
 use Rattle.jzon.proofs.Texts.Cursors.{Reached, reached_start, reached, goes_after, fails_on}
-use Rattle.jzon.proofs.Containers.FrameViews.{frames_depth-stack, fresh_is_empty, some_more, stack_view-push}
-use Rattle.jzon.proofs.Containers.FrameViews.{value_mark-shallow}
+use Rattle.jzon.proofs.Containers.FrameViews.{after_element, frames_depth-stack, fresh_is_empty, some_more}
+use Rattle.jzon.proofs.Containers.FrameViews.{stack_view-push, value_mark-shallow}
 use Rattle.jzon.proofs.parser.Parser.read_elements.Goals.{After-len-depth, After-array_ends, In_ok-elements-in-Array}
 use Rattle.jzon.proofs.parser.Parser.read_elements.Goals.{else-opens_container+in_ok-read_primitive+in_ok-push}
 use Rattle.jzon.proofs.parser.Parser.read_elements.Goals as goal
@@ -24,8 +23,7 @@ pub loop-self-init : goal.loop-self-init
 loop-self-init c = record {
   room = c.requires.room;
   element = c.requires.element;
-  came = reached_start c.args.self.now.cursor (before (array_frame (stack_view c.args.self.now.stack.items)
-      (map view c.args.elements.items)));
+  came = reached_start;
 }
 
 -- the number of open containers around the next element
@@ -40,11 +38,9 @@ returns-in_err-value_start-clause-outcome c =
     let fs = stack_view c.loop-self.self.stack.items in
     let vs = map view c.loop-self.elements.items in
     let at = goal.at.returns-in_err-value_start-clause-outcome c in
-    let failed = err_from_is_err_and c.from_residual.result c.from_residual.ensures.1 in
-    fails_on c.args.self.now.cursor c.loop-self.self.cursor _ _ (before (array_frame fs vs)) c.from_residual.result _
-    failed.0 failed.1 c.loop-self.invariant.came
-    (rw failed.2 (c.in_err-value_start.ensures.outcome (array_frame fs vs) (depth_here at.After-len-depth)
-    (λ f. c.loop-self.invariant.element (fresh_is_empty fs vs f))))
+    fails_on _ c.from_residual.result _ c.from_residual.ensures.1 c.loop-self.invariant.came
+    (c.in_err-value_start.ensures.outcome (array_frame fs vs) (depth_here at.After-len-depth)
+    (λ f. c.loop-self.invariant.element (fresh_is_empty fs vs f)))
 
 pub returns-in-Object-clause-ready : goal.returns-in-Object-clause-ready
 returns-in-Object-clause-ready c =
@@ -69,8 +65,7 @@ returns-in-Object-clause-outcome c =
     let stack = stack_view-push c.read_start.new.self.stack.items c.push-in-Object.new.self.items _
     c.in_ok-push-in-Object.ensures.items
     ∙ ap (λ s. array_frame (stack_view s.items) vs) c.in_ok-value_start.ensures.stack in
-    goes_after c.args.self.now.cursor c.loop-self.self.cursor n _ (before (array_frame fs vs)) _
-    c.loop-self.invariant.came (
+    goes_after _ c.loop-self.invariant.came (
       read.0,
       read.1 ∙ ap (λ b. left n (state_of b (array_frame fs vs))) c.in-Object.is
           ∙ ap (λ gs. left n (state_of start_object gs)) (sym stack),
@@ -119,9 +114,7 @@ loop-self-preserved-in-Array c =
         ap (λ s. vec_len s) c.in_ok-value_start.ensures.stack,
       );
       element = λ none. ready.1;
-      came = reached c.args.self.now.cursor c.read_start.new.self.cursor _ _
-          (goes_after c.args.self.now.cursor c.loop-self.self.cursor c.read_start.new.self.cursor _ _ _
-          c.loop-self.invariant.came (nested c));
+      came = reached (goes_after _ c.loop-self.invariant.came (nested c));
     }
 
 -- the next element has no mark
@@ -132,17 +125,13 @@ no_mark r stack vs room =
 
 pub returns-in_err-read_primitive-clause-outcome : goal.returns-in_err-read_primitive-clause-outcome
 returns-in_err-read_primitive-clause-outcome c =
-    let m = c.loop-self.self.cursor in
     let fs = stack_view c.loop-self.self.stack.items in
     let vs = map view c.loop-self.elements.items in
-    let shallow = no_mark m.reading c.loop-self.self.stack.items vs
+    let shallow = no_mark c.loop-self.self.cursor.reading c.loop-self.self.stack.items vs
     (omega (arith, c.loop-self.self.stack.ok.0, c.loop-self.invariant.room)) in
-    let failed = err_from_is_err_and c.from_residual-in_err-read_primitive.result
-    c.from_residual-in_err-read_primitive.ensures.1 in
-    fails_on c.args.self.now.cursor m _ _ (before (array_frame fs vs)) c.from_residual-in_err-read_primitive.result _
-    failed.0 failed.1 c.loop-self.invariant.came
-    (rw failed.2 (c.in_err-read_primitive.ensures.outcome (array_frame fs vs) shallow
-    (λ f. c.loop-self.invariant.element (fresh_is_empty fs vs f))))
+    fails_on _ c.from_residual-in_err-read_primitive.result _ c.from_residual-in_err-read_primitive.ensures.1
+    c.loop-self.invariant.came (c.in_err-read_primitive.ensures.outcome (array_frame fs vs) shallow
+    (λ f. c.loop-self.invariant.element (fresh_is_empty fs vs f)))
 
 -- ---- after an element
 
@@ -207,25 +196,14 @@ came : (c : After-array_ends) →
     (map view c.args.elements.items))) c.if-opens_container.self.cursor
     (after_value (array_frame (stack_view c.loop-self.self.stack.items) (map view c.loop-self.elements.items))
     (more c).value)
-came c =
-    let fs = stack_view c.loop-self.self.stack.items in
-    let vs = map view c.loop-self.elements.items in
-    reached c.args.self.now.cursor c.if-opens_container.self.cursor _ (after_value (array_frame fs vs) (more c).value)
-    (goes_after c.args.self.now.cursor c.loop-self.self.cursor c.if-opens_container.self.cursor _
-    (before (array_frame fs vs)) _ c.loop-self.invariant.came (more c).read)
+came c = reached (goes_after _ c.loop-self.invariant.came (more c).read)
 
 pub returns-in_err-array_ends-clause-outcome : goal.returns-in_err-array_ends-clause-outcome
 returns-in_err-array_ends-clause-outcome c =
-    let fs = stack_view c.loop-self.self.stack.items in
-    let vs = map view c.loop-self.elements.items in
     let at = (goal.at.returns-in_err-array_ends-clause-outcome c).After-array_ends in
-    let failed = err_from_is_err_and c.from_residual-in_err-array_ends.result
-    c.from_residual-in_err-array_ends.ensures.1 in
-    fails_on c.args.self.now.cursor c.if-opens_container.self.cursor _ _
-    (after_value (array_frame fs vs) (more at).value)
-    c.from_residual-in_err-array_ends.result _
-    failed.0 failed.1 (came at)
-    (rw failed.2 (c.in_err-array_ends.ensures.outcome (array_frame fs vs) (more at).value refl))
+    fails_on _ c.from_residual-in_err-array_ends.result _ c.from_residual-in_err-array_ends.ensures.1 (came at)
+    (c.in_err-array_ends.ensures.outcome (array_frame (stack_view c.loop-self.self.stack.items)
+    (map view c.loop-self.elements.items)) (more at).value refl)
 
 -- the array ends
 ended : (c : After-array_ends) → c.array_ends.result ≡ Ok true →
@@ -235,38 +213,27 @@ ended : (c : After-array_ends) → c.array_ends.result ≡ Ok true →
     (after_value (stack_view c.array_ends.new.self.stack.items)
     (array (values_of (map view c.array_ends.new.elements.items)))))
 ended c is =
-    let m = c.loop-self.self.cursor in
-    let u = c.if-opens_container.self.cursor in
     let n = c.array_ends.new.self in
     let fs = stack_view c.loop-self.self.stack.items in
     let vs = map view c.loop-self.elements.items in
     let v = (more c).value in
-    let kept : n.stack ≡ c.if-opens_container.self.stack = subst (λ z. OnOk z (n.stack ≡ c.if-opens_container.self.stack))
-    is c.array_ends.ensures.stack in
-    let closed : GoesOn u (after_value (array_frame fs vs) v) (Ok true) n.cursor
+    let kept : n.stack ≡ c.if-opens_container.self.stack =
+    subst (λ z. OnOk z (n.stack ≡ c.if-opens_container.self.stack)) is c.array_ends.ensures.stack in
+    let closed : GoesOn c.if-opens_container.self.cursor (after_value (array_frame fs vs) v) (Ok true) n.cursor
     (λ ends. cond ends (after_value fs (array (values_of (vs ++ v ∷ [])))) (before (array_frame fs (vs ++ v ∷ [])))) =
-    subst (λ z. GoesOn u (after_value (array_frame fs vs) v) z n.cursor
+    subst (λ z. GoesOn c.if-opens_container.self.cursor (after_value (array_frame fs vs) v) z n.cursor
     (λ ends. cond ends (after_value fs (array (values_of (vs ++ v ∷ [])))) (before (array_frame fs (vs ++ v ∷ [])))))
     is (c.array_ends.ensures.outcome (array_frame fs vs) v refl) in
-    let read = goes_after m u n.cursor (before (array_frame fs vs)) (after_value (array_frame fs vs) v) _
-    (reached m u (before (array_frame fs vs)) _ (more c).read) closed in (
-      read.0,
-      read.1 ∙ ap (λ s. left n.cursor (after_value (stack_view s.items) (array (values_of (vs ++ v ∷ [])))))
-          (sym (kept ∙ stack_kept c))
-          ∙ ap (λ xs. left n.cursor (after_value (stack_view n.stack.items) (array (values_of xs))))
-          (sym (ap (map view) c.array_ends.ensures.items ∙ (more c).grown)),
-    )
+    after_element {b = true} (reached (more c).read) closed refl (ap (λ s. stack_view s.items) (kept ∙ stack_kept c))
+    (ap (map view) c.array_ends.ensures.items ∙ (more c).grown)
 
 pub returns-in_err-close_arrays-clause-outcome : goal.returns-in_err-close_arrays-clause-outcome
 returns-in_err-close_arrays-clause-outcome c =
-    let m = c.loop-self.self.cursor in
     let p = before (array_frame (stack_view c.loop-self.self.stack.items) (map view c.loop-self.elements.items)) in
     let at = (goal.at.returns-in_err-close_arrays-clause-outcome c).After-array_ends in
     let is = c.in_ok-array_ends.was ∙ ap Ok c.if-not-branch.false in
-    let failed = err_from_is_err_and c.from_residual-in_err-close_arrays.result
-    c.from_residual-in_err-close_arrays.ensures.1 in
-    fails_on c.args.self.now.cursor m _ _ p c.from_residual-in_err-close_arrays.result _ failed.0 failed.1
-    c.loop-self.invariant.came (rw failed.2 (c.in_err-close_arrays.ensures.outcome m p (ended at is)))
+    fails_on _ c.from_residual-in_err-close_arrays.result _ c.from_residual-in_err-close_arrays.ensures.1
+    c.loop-self.invariant.came (c.in_err-close_arrays.ensures.outcome c.loop-self.self.cursor p (ended at is))
 
 pub returns-then-branch-clause-ready : goal.returns-then-branch-clause-ready
 returns-then-branch-clause-ready c =
@@ -291,8 +258,7 @@ returns-then-branch-clause-outcome c =
     let ws = map view c.close_arrays.new.elements.items in
     let at = (goal.at.returns-then-branch-clause-outcome c).After-array_ends in
     let is = c.in_ok-array_ends.was ∙ ap Ok c.if-not-branch.false in
-    let read = goes_after c.args.self.now.cursor m n.cursor _ p _ c.loop-self.invariant.came
-    (c.in_ok-close_arrays.ensures.outcome m p (ended at is)) in (
+    let read = goes_after _ c.loop-self.invariant.came (c.in_ok-close_arrays.ensures.outcome m p (ended at is)) in (
       read.0,
       read.1 ∙ ap (λ b. left n.cursor (cond b (after_value fs (array (values_of ws))) (before (array_frame fs ws))))
           c.if-branch.true
@@ -318,7 +284,7 @@ loop-self-preserved c =
     let at = (goal.at.loop-self-preserved c).After-array_ends in
     let is = c.in_ok-array_ends.was ∙ ap Ok c.if-not-branch.false in
     let closed = c.in_ok-close_arrays.ensures.outcome m p (ended at is) in
-    let read = goes_after c.args.self.now.cursor m n.cursor _ p _ c.loop-self.invariant.came closed in
+    let read = goes_after _ c.loop-self.invariant.came closed in
     record {
       room = omega (
         arith,
@@ -328,7 +294,7 @@ loop-self-preserved c =
         ap (λ s. vec_len s) (c.in_ok-array_ends.ensures.stack ∙ stack_kept at),
       );
       element = λ none. absurd (c.in_ok-close_arrays.ensures.some c.if-branch.false none);
-      came = reached c.args.self.now.cursor n.cursor _ (before (array_frame fs ws)) (
+      came = reached (
         read.0,
         read.1 ∙ ap (λ b. left n.cursor (cond b (after_value fs (array (values_of ws))) (before (array_frame fs ws))))
             c.if-branch.false,
@@ -352,8 +318,6 @@ loop-self-smaller-then-not-branch c =
 
 pub loop-self-preserved-then-not-branch : goal.loop-self-preserved-then-not-branch
 loop-self-preserved-then-not-branch c =
-    let t = c.args.self.now.cursor in
-    let n = c.array_ends.new.self in
     let fs = stack_view c.loop-self.self.stack.items in
     let vs = map view c.loop-self.elements.items in
     let at = (goal.at.loop-self-preserved-then-not-branch c).After-array_ends in
@@ -361,19 +325,9 @@ loop-self-preserved-then-not-branch c =
     let ends = c.in_ok-array_ends.ensures.outcome (array_frame fs vs) v refl in
     let kept = c.in_ok-array_ends.ensures.stack ∙ stack_kept at in
     let grown = ap (map view) c.in_ok-array_ends.ensures.items ∙ (more at).grown in
-    let read = goes_after t c.if-opens_container.self.cursor n.cursor _ (after_value (array_frame fs vs) v) _ (came at)
-    ends in
+    let reading = ends.0.reading ∙ (more at).read.0.reading in
     record {
-      room = let reading = ends.0.reading ∙ (more at).read.0.reading in
-          omega (arith, c.loop-self.invariant.room, ap (λ r. r.depth) reading, ap (λ s. vec_len s) kept);
+      room = omega (arith, c.loop-self.invariant.room, ap (λ r. r.depth) reading, ap (λ s. vec_len s) kept);
       element = λ none. absurd (some_more vs v (sym grown ∙ none));
-      came = reached t n.cursor _ (before (array_frame (stack_view n.stack.items)
-          (map view c.array_ends.new.elements.items))) (
-            read.0,
-            read.1 ∙ ap (λ b. left n.cursor (cond b (after_value fs (array (values_of (vs ++ v ∷ []))))
-                (before (array_frame fs (vs ++ v ∷ []))))) c.if-not-branch.true
-                ∙ ap (λ xs. left n.cursor (before (array_frame fs xs))) (sym grown)
-                ∙ ap (λ s. left n.cursor (before (array_frame (stack_view s.items)
-                (map view c.array_ends.new.elements.items)))) (sym kept),
-          );
+      came = reached (after_element (came at) ends c.if-not-branch.true (ap (λ s. stack_view s.items) kept) grown);
     }

@@ -1,7 +1,6 @@
 use Rattle.std.proofs.Common.{◌≡◌, ◌∙◌, ℕ, ◌+◌, ◌-◌, ◌&&◌, List, None, sym, ap, arith, true, false, lit<}
 use Rattle.std.specs.Prelude.{chars, slice_range, string_bytes, if◌then◌else◌}
 use Rattle.std.specs.Option.{is_some}
-use Rattle.std.proofs.lemmas.Result.{err_from_is_err_and}
 use Rattle.std.proofs.lemmas.Str.{IsCharBoundary-after_ascii}
 use Rattle.jzon_base.specs.PairList.{find}
 use Rattle.jzon_tree.specs.View.{viewed}
@@ -36,13 +35,11 @@ returns-in_err-spelled-clause-outcome c fs h n =
     let t = c.args.self.now.cursor in
     let es = viewed c.args.entries.now in
     let quote : next_byte t ≡ 34 = sym c.peek.ensures ∙ c.if-peek-ne34.false in
-    let failed = err_from_is_err_and c.from_residual.result c.from_residual.ensures.1 in
-    fails_on t t _ (before_key fs es) (before_key fs es) c.from_residual.result (λ k. before (object_frame fs es k))
-    failed.0 failed.1 (reached_start t (before_key fs es))
-    (reported_again (chars t.source.now) failed.0 _ _
+    fails_on _ c.from_residual.result _ c.from_residual.ensures.1 reached_start
+    (reported_again (chars t.source.now) _ _ _
     (open_key t.reading t.source.now t.index fs es (utf8_of t) t.boundary
     (byte_within t.source.now t.index 34 quote (lit< tt)) quote h)
-    (rw failed.2 (c.in_err-spelled.ensures.outcome t.reading (as_key fs es (left_at t.source.now t.index)))))
+    (c.in_err-spelled.ensures.outcome t.reading (as_key fs es (left_at t.source.now t.index))))
 
 pub text-requires-clause-begin : goal.text-requires-clause-begin
 text-requires-clause-begin c =
@@ -96,25 +93,20 @@ key_read c fs h =
 
 pub returns-then-peek-ne58-clause-outcome : goal.returns-then-peek-ne58-clause-outcome
 returns-then-peek-ne58-clause-outcome c fs h n =
-    let t = c.args.self.now.cursor in
     let u = c.go_to.new.self in
     let es = viewed c.args.entries.now in
     let at = (goal.at.returns-then-peek-ne58-clause-outcome c).After-go_to in
-    reported_on t u (before_key fs es) (after_key fs es (key_text at)) c.fault-then-peek-ne58.result
-    (key_read at fs h)
+    reported_on c.fault-then-peek-ne58.result (key_read at fs h)
     (reported (chars u.source.now) c.fault-then-peek-ne58.result _ _
     (colon_missing u fs es (key_text at) (λ e. c.if-peek-ne58.true (c.peek-2.ensures ∙ e)))
     c.fault-then-peek-ne58.ensures)
 
 pub returns-clause-outcome : goal.returns-clause-outcome
 returns-clause-outcome c fs h n =
-    let t = c.args.self.now.cursor in
     let u = c.go_to.new.self in
     let es = viewed c.args.entries.now in
     let at = (goal.at.returns-clause-outcome c).After-go_to in
-    let read = goes_after t u c.bump.new.self (before_key fs es) (after_key fs es (key_text at))
-    (before (object_frame fs es (key_text at)))
-    (key_read at fs h)
+    let read = goes_after _ (key_read at fs h)
     (colon_read u c.bump.new.self fs es (key_text at) c.bump.ensures (sym c.peek-2.ensures ∙ c.if-peek-ne58.false)) in (
       read.0,
       read.1 ∙ ap (λ k. left c.bump.new.self (before (object_frame fs es k)))

@@ -21,10 +21,8 @@ returns-in_err-value-clause-memory c e =
 pub returns-in_err-value-clause-outcome : goal.returns-in_err-value-clause-outcome
 returns-in_err-value-clause-outcome c fs shallow fresh =
     let t = c.args.self.now.cursor in
-    let failed = err_from_is_err_and c.from_residual.result c.from_residual.ensures.1 in
-    fails_on t t _ (before fs) (before fs) c.from_residual.result (λ v. after_value fs (view v)) failed.0
-    failed.1 (reached_start t (before fs))
-    (rw failed.2 (c.in_err-value.ensures.outcome t.reading fs shallow t.past_whitespace fresh))
+    fails_on _ c.from_residual.result _ c.from_residual.ensures.1 reached_start
+    (c.in_err-value.ensures.outcome t.reading fs shallow t.past_whitespace fresh)
 
 pub returns-clause-outcome : goal.returns-clause-outcome
 returns-clause-outcome c fs shallow fresh =
