@@ -31,12 +31,12 @@ equal c same =
     let small : (k : ℕ) → get_or (rest c) k 0 < 256 = λ k.
     let e = read c k in let f = c.type_inv.source (c.args.index + k) in
     omega (arith, e, f.fits) in
-    let first = le_bytes_4 _ c.from_le_bytes.result (omega arith)
+    let wanted = le_bytes_4 c.args.four c.from_le_bytes-in-len4-up.result (search rules) (search rules)
+    c.from_le_bytes-in-len4-up.ensures in
+    let here = le_bytes_4 _ c.from_le_bytes.result (omega arith)
     (four_fit (get_or (rest c) 0 0) (get_or (rest c) 1 0) (get_or (rest c) 2 0) (get_or (rest c) 3 0) (small 0)
     (small 1) (small 2) (small 3)) c.from_le_bytes.ensures in
-    let second = le_bytes_4 c.args.four c.from_le_bytes-in-len4-up.result (search rules) (search rules)
-    c.from_le_bytes-in-len4-up.ensures in
-    sym first ∙ ap (to_le_bytes w32) (eqb-true _ _ same) ∙ second
+    sym here ∙ ap (to_le_bytes w32) (eqb-true _ _ same) ∙ wanted
 
 pub returns-in-len4-up-clause-first : goal.returns-in-len4-up-clause-first
 returns-in-len4-up-clause-first c same =

@@ -1,8 +1,8 @@
 use Rattle.std.proofs.Common.{◌≡◌, ◌≢◌, ◌∙◌, ◌<◌, None, length, sym, arith}
 use Rattle.jzon_base.specs.declared.error.Error.TheVariants.{UnexpectedEndOfJson, ExceededDepthLimit}
-use Rattle.jzon.specs.Private.Brackets.{closer, empty_container, after_opener}
+use Rattle.jzon.specs.Private.Brackets.{closer, after_opener}
 use Rattle.jzon.specs.Private.Cursor.{next_byte}
-use Rattle.jzon.specs.Private.Machine.{Frames, before, after_value, value_mark}
+use Rattle.jzon.specs.Private.Machine.{Frames, before, value_mark}
 use Rattle.jzon.proofs.Containers.ContainerTokens.{opener_bounds, opens, empty_closes, left_open, item_too_deep}
 use Rattle.jzon.proofs.Texts.Cursors.{Reached, reached, goes_after, reported_on}
 use Rattle.jzon.proofs.cursor.Cursor.open_container.Goals.{After-bump}

@@ -1,4 +1,4 @@
-use Rattle.std.proofs.Common.{◌≡◌, ◌∙◌, ◌+◌, refl, cond, [], length, sym, ap, subst, arith, vec_len, None}
+use Rattle.std.proofs.Common.{◌≡◌, ◌∙◌, ◌+◌, refl, [], length, sym, ap, subst, arith, vec_len, None}
 use Rattle.std.proofs.lemmas.Bool.{true≢false}
 use Rattle.jzon_base.specs.PairList.{put}
 use Rattle.jzon_tree.specs.Value.{object, pairs_of}
