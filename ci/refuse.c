@@ -11,6 +11,8 @@
  *     MARK + STEP                           succeeds. From here on blocks and requested bytes are counted.
  *     MARK + 2 * STEP                       succeeds if as many blocks were freed as allocated since MARK + STEP, and fails otherwise.
  *     MARK + 3 * STEP + n                   succeeds if at most n bytes were requested since MARK + STEP, and fails otherwise.
+ *     MARK + 4 * STEP + n                   succeeds if the blocks that were allocated since MARK + STEP and not freed have at most n bytes, and fails
+ *                                           otherwise. The C library makes a block up to 24 bytes larger than requested.
  *
  * A block that grows counts as one, and its whole new size as requested. An allocation that fails counts in neither. Without allocations of marked sizes
  * all memory comes from the C library. Only one thread may allocate at a time.
@@ -23,6 +25,9 @@ extern void *__libc_calloc(size_t count, size_t size);
 extern void *__libc_realloc(void *block, size_t size);
 extern void __libc_free(void *block);
 
+/* The bytes that a block has; 0 for NULL. */
+extern size_t malloc_usable_size(void *block);
+
 static const size_t MARK = (size_t)1 << 62;
 static const size_t STEP = (size_t)1 << 40;
 
@@ -30,8 +35,9 @@ static const size_t STEP = (size_t)1 << 40;
 static size_t allocations_left = 0;
 static int has_failed = 0;
 
-/* Blocks allocated less those freed, and bytes requested, since they are counted. */
+/* Blocks allocated less those freed, their bytes, and bytes requested, since they are counted. */
 static long blocks = 0;
+static long held = 0;
 static size_t bytes = 0;
 
 /* What a marked allocation gets. */
@@ -61,6 +67,7 @@ static int set_failing(size_t n)
 static int set_counting(void)
 {
     blocks = 0;
+    held = 0;
     bytes = 0;
     return 1;
 }
@@ -68,8 +75,25 @@ static int set_counting(void)
 /* The result of an allocation of a marked size. */
 static void *marked(size_t kind, size_t n)
 {
-    int is_yes = kind == 0 ? set_failing(n) : kind == 1 ? set_counting() : kind == 2 ? blocks == 0 : bytes <= n;
+    int is_yes = 0;
 
+    switch (kind) {
+    case 0:
+        is_yes = set_failing(n);
+        break;
+    case 1:
+        is_yes = set_counting();
+        break;
+    case 2:
+        is_yes = blocks == 0;
+        break;
+    case 3:
+        is_yes = bytes <= n;
+        break;
+    case 4:
+        is_yes = held <= (long)n;
+        break;
+    }
     return is_yes ? &granted : NULL;
 }
 
@@ -78,6 +102,7 @@ static void *counted(void *block, size_t size, int is_new)
 {
     if (block != NULL) {
         blocks += is_new;
+        held += (long)malloc_usable_size(block);
         bytes += size;
     }
     return block;
@@ -85,7 +110,7 @@ static void *counted(void *block, size_t size, int is_new)
 
 void *malloc(size_t size)
 {
-    if (size >= MARK && size - MARK < 4 * STEP)
+    if (size >= MARK && size - MARK < 5 * STEP)
         return marked((size - MARK) / STEP, (size - MARK) % STEP);
     return fails() ? NULL : counted(__libc_malloc(size), size, 1);
 }
@@ -97,7 +122,12 @@ void *calloc(size_t count, size_t size)
 
 void *realloc(void *block, size_t size)
 {
-    return fails() ? NULL : counted(__libc_realloc(block, size), size, block == NULL);
+    size_t before = malloc_usable_size(block);
+    void *grown = fails() ? NULL : __libc_realloc(block, size);
+
+    if (grown != NULL)
+        held -= (long)before;
+    return counted(grown, size, block == NULL);
 }
 
 void free(void *block)
@@ -105,5 +135,6 @@ void free(void *block)
     if (block == NULL || block == &granted)
         return;
     blocks--;
+    held -= (long)malloc_usable_size(block);
     __libc_free(block);
 }

@@ -1,6 +1,7 @@
 //! Keys and their positions.
 
 use crate::common::{expect, expect_eq};
+use jzon_base::key::Key;
 use jzon_base::keys::hash::hash_of;
 use jzon_base::keys::{Iter, Keys};
 use std::alloc::{AllocError, Global};
@@ -93,5 +94,49 @@ fn goes_over_keys_from_both_ends(rt: HostRuntime) -> Result<(), AllocError> {
     expect_eq(&rt, "the one between", names.next(), Some("b"));
     expect_eq(&rt, "no more", names.next_back(), None);
     expect_eq(&rt, "none", Iter::empty().next(), None);
+    Ok(())
+}
+
+/// More than 16 bits count.
+const MANY: usize = 70_000;
+
+fn digits_of(alloc: Global, number: usize) -> Result<String, AllocError> {
+    format!(in alloc; "{number}")
+}
+
+/// The digits of the numbers below `MANY`, put by copies or moved in, with values that get room.
+fn put_many(alloc: Global, is_moved: bool) -> Result<Keys, AllocError> {
+    let mut keys = Keys::new(alloc);
+    let mut values: Vec<u8> = Vec::new(alloc);
+    for number in 0..MANY {
+        let name = digits_of(alloc, number)?;
+        if is_moved {
+            keys.put_owned(alloc, &mut values, Key::new(alloc, name.as_str())?)?;
+        } else {
+            keys.put(alloc, &mut values, name.as_str())?;
+        }
+    }
+    Ok(keys)
+}
+
+/// They are all there, at the positions of their numbers.
+fn expect_many(rt: &impl Abort, alloc: Global, keys: &Keys) -> Result<(), AllocError> {
+    expect_eq(rt, "the number of keys", keys.len(), MANY);
+    for number in 0..MANY {
+        let name = digits_of(alloc, number)?;
+        let position = keys.position(name.as_str());
+        expect_eq(rt, name.as_str(), position, Some(number));
+    }
+    Ok(())
+}
+
+#[test]
+fn puts_many_keys(rt: HostRuntime) -> Result<(), AllocError> {
+    for is_moved in [false, true] {
+        let mut keys = put_many(rt.alloc(), is_moved)?;
+        expect_many(&rt, rt.alloc(), &keys)?;
+        keys.fit(rt.alloc())?;
+        expect_many(&rt, rt.alloc(), &keys.clone(rt.alloc())?)?;
+    }
     Ok(())
 }

@@ -272,27 +272,141 @@ fn expect_room(
     expect_eq(rt, "the number of pairs", pairs.len(), keys.len());
 }
 
+/// How many pairs there is room for: the index has room for up to 1,024.
+const ROOMS: [u32; 3] = [16, 100, 1024];
+
 /// `with_capacity` gives keys, values and index their room, and `clear` keeps it. One key more
 /// takes memory.
-#[test]
-fn room_for_pairs_under_refusals(rt: HostRuntime) -> Result<(), Fail> {
-    let alloc = rt.alloc();
-    let keys = keys_by_hash(alloc, 100)?;
+fn expect_capacity(rt: &impl Abort, alloc: Global, count: u32) -> Result<Refusals, Fail> {
+    let keys = keys_by_hash(alloc, count)?;
     let mut refusals = Refusals::new(alloc);
-    let mut pairs = Pairs::with_capacity(alloc, 100)?;
-    expect_room(&rt, alloc, &mut refusals, &mut pairs, keys.as_slice());
+    let mut pairs = Pairs::with_capacity(alloc, keys.len())?;
+    expect_room(rt, alloc, &mut refusals, &mut pairs, keys.as_slice());
     pairs.clear();
-    expect_room(&rt, alloc, &mut refusals, &mut pairs, keys.as_slice());
+    expect_room(rt, alloc, &mut refusals, &mut pairs, keys.as_slice());
     for _ in 0..RUNS_MAX {
         refusals.begin();
         let inserted = pairs.insert(alloc, "one more", 0);
         let has_failed = refusals.has_failed();
-        expect(&rt, "the result", inserted.is_err() == has_failed);
+        expect(rt, "the result", inserted.is_err() == has_failed);
         if !has_failed {
             break;
         }
-        expect_eq(&rt, "the number of pairs", pairs.len(), 100);
+        expect_eq(rt, "the number of pairs", pairs.len(), keys.len());
     }
-    refusals.report(&rt, "Pairs::insert past the room", 2)?;
+    Ok(refusals)
+}
+
+#[test]
+fn room_for_pairs_under_refusals(rt: HostRuntime) -> Result<(), Fail> {
+    for count in ROOMS {
+        let refusals = expect_capacity(&rt, rt.alloc(), count)?;
+        refusals.report(&rt, "Pairs::insert past the room", 2)?;
+    }
+    Ok(())
+}
+
+/// More than 16 bits count.
+const MANY: usize = 70_000;
+
+/// How pairs of the numbers below `MANY` are made, each under its digits.
+#[derive(Clone, Copy)]
+enum Made {
+    Insert,
+    Place,
+    AtMut,
+    Reserve,
+    Build,
+    BuildWithRoom,
+    StrictlyBuild,
+    RepeatEach,
+    RepeatAll,
+}
+
+const MADE: [Made; 9] = [
+    Made::Insert,
+    Made::Place,
+    Made::AtMut,
+    Made::Reserve,
+    Made::Build,
+    Made::BuildWithRoom,
+    Made::StrictlyBuild,
+    Made::RepeatEach,
+    Made::RepeatAll,
+];
+
+fn digits_of(alloc: Global, number: usize) -> Result<String, AllocError> {
+    format!(in alloc; "{number}")
+}
+
+/// One by one; what was there before is found.
+fn put_each(made: Made, alloc: Global, pairs: &mut Pairs<usize>) -> Result<(), AllocError> {
+    for number in 0..MANY {
+        let name = digits_of(alloc, number)?;
+        match made {
+            Made::Place => {
+                pairs.place(alloc, name.as_str(), number)?;
+            }
+            Made::AtMut => *pairs.at_mut(alloc, name.as_str(), 0)? = number,
+            _ => pairs.insert(alloc, name.as_str(), number)?,
+        }
+    }
+    Ok(())
+}
+
+/// An entry of each number. A strict caller asks for each key before.
+fn push_each(made: Made, alloc: Global, built: &mut Builder<usize>) -> Result<(), AllocError> {
+    for number in 0..MANY {
+        let name = digits_of(alloc, number)?;
+        if matches!(made, Made::StrictlyBuild) && built.has_key(alloc, name.as_str())? {
+            return Err(AllocError);
+        }
+        if matches!(made, Made::RepeatEach) {
+            built.push(alloc, Key::new(alloc, name.as_str())?, 0)?;
+        }
+        built.push(alloc, Key::new(alloc, name.as_str())?, number)?;
+    }
+    Ok(())
+}
+
+impl Made {
+    fn make(self, alloc: Global) -> Result<Pairs<usize>, AllocError> {
+        let mut pairs = match self {
+            Made::Reserve => Pairs::with_capacity(alloc, MANY)?,
+            _ => Pairs::new(alloc),
+        };
+        if matches!(
+            self,
+            Made::Insert | Made::Place | Made::AtMut | Made::Reserve
+        ) {
+            put_each(self, alloc, &mut pairs)?;
+            return Ok(pairs);
+        }
+        let mut built = match self {
+            Made::BuildWithRoom => Builder::with_capacity(alloc, MANY)?,
+            _ => Builder::new(alloc),
+        };
+        push_each(self, alloc, &mut built)?;
+        if matches!(self, Made::RepeatAll) {
+            push_each(self, alloc, &mut built)?;
+        }
+        built.finish(alloc)
+    }
+}
+
+#[test]
+fn makes_many_pairs(rt: HostRuntime) -> Result<(), AllocError> {
+    for made in MADE {
+        let pairs = made.make(rt.alloc())?;
+        expect_eq(&rt, "the number of pairs", pairs.len(), MANY);
+        for number in 0..MANY {
+            let name = digits_of(rt.alloc(), number)?;
+            let position = pairs.position(name.as_str());
+            expect_eq(&rt, name.as_str(), position, Some(number));
+        }
+        for (number, value) in pairs.values().iter().enumerate() {
+            expect_eq(&rt, "a value", *value, number);
+        }
+    }
     Ok(())
 }

@@ -2,6 +2,9 @@
 
 use crate::common::{expect, expect_eq};
 use jzon_base::short::{MAX_LEN, Short};
+use jzon_test_support::joined;
+use std::alloc::Global;
+use std::process::Abort;
 use std::test::Fail;
 
 /// The last two are of 30 bytes.
@@ -13,23 +16,30 @@ const TEXTS: &[&str] = &[
     "ééééééééééééééé",
 ];
 
+/// The string is kept, shown and given whole.
+fn expect_kept(rt: &impl Abort, alloc: Global, text: &str) -> std::result::Result<(), Fail> {
+    if text.len() > MAX_LEN {
+        return Err("a text is too long".into());
+    }
+    let short = Short::from_slice(text);
+    expect_eq(rt, text, short.as_str(), text);
+    let is_same = short == Short::from_slice(text) && short.eq_str(text);
+    expect(rt, text, is_same);
+    let shown = format!(in alloc; "{short}")?;
+    expect_eq(rt, "Display", shown.as_str(), text);
+    let string = short.into_string(alloc)?;
+    expect_eq(rt, "into_string", string.as_str(), text);
+    Ok(())
+}
+
 #[test]
 fn keeps_strings(rt: HostRuntime) -> std::result::Result<(), Fail> {
     for text in TEXTS {
-        if text.len() > MAX_LEN {
-            return Err("a text is too long".into());
-        }
-        let short = Short::from_slice(text);
-        expect_eq(&rt, text, short.as_str(), *text);
-        expect(
-            &rt,
-            text,
-            short == Short::from_slice(text) && short.eq_str(text),
-        );
-        let shown = format!(in rt.alloc(); "{short}")?;
-        expect_eq(&rt, "Display", shown.as_str(), *text);
-        let string = short.into_string(rt.alloc())?;
-        expect_eq(&rt, "into_string", string.as_str(), *text);
+        expect_kept(&rt, rt.alloc(), text)?;
+    }
+    for len in 0..=MAX_LEN {
+        let text = joined(rt.alloc(), &[("s", len)])?;
+        expect_kept(&rt, rt.alloc(), text.as_str())?;
     }
     Ok(())
 }

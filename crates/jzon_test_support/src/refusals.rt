@@ -16,6 +16,9 @@ const IS_EVEN: usize = (1 << 62) + (2 << 40);
 /// With a number of bytes added, fails if more were requested.
 const IS_WITHIN: usize = (1 << 62) + (3 << 40);
 
+/// With a number of bytes added, fails if the blocks that are left have more.
+const IS_HELD: usize = (1 << 62) + (4 << 40);
+
 /// The largest number of runs of one call. No test needs as many.
 pub const RUNS_MAX: usize = 200;
 
@@ -105,13 +108,37 @@ impl Refusals {
         test: &str,
         most: usize,
     ) -> Result<(), &'static str> {
-        if self.is_able {
-            let _ = eprintln!(rt; "{test}: bytes counted");
-            if !is_granted(self.alloc, IS_WITHIN.saturating_add(most)) {
-                return Err("more bytes were requested");
-            }
+        if self.expect_counted(rt, test, IS_WITHIN.saturating_add(most)) {
+            Ok(())
+        } else {
+            Err("more bytes were requested")
         }
-        Ok(())
+    }
+
+    /// The same for the blocks that are left: an error if they have more than `most` bytes, where a
+    /// block has up to 24 bytes more than were requested.
+    pub fn expect_held(
+        &self,
+        rt: &impl Eprint,
+        test: &str,
+        most: usize,
+    ) -> Result<(), &'static str> {
+        if self.expect_counted(rt, test, IS_HELD.saturating_add(most)) {
+            Ok(())
+        } else {
+            Err("the blocks that are left have more bytes")
+        }
+    }
+
+    /// Whether an allocation of this size succeeds, or nothing is counted. The line is printed
+    /// after it, because printing may allocate.
+    fn expect_counted(&self, rt: &impl Eprint, test: &str, signal: usize) -> bool {
+        if !self.is_able {
+            return true;
+        }
+        let is_granted = is_granted(self.alloc, signal);
+        let _ = eprintln!(rt; "{test}: bytes counted");
+        is_granted
     }
 }
 
