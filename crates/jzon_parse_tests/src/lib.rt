@@ -8,6 +8,8 @@ mod forms;
 #[cfg(test)]
 mod hostile;
 #[cfg(test)]
+mod large;
+#[cfg(test)]
 mod macros;
 #[cfg(test)]
 mod readings;

@@ -87,6 +87,31 @@ fn evaluates_keys_once(rt: HostRuntime) -> std::result::Result<(), Fail> {
     Ok(())
 }
 
+/// The number of the call, counted from 1.
+fn next(calls: &mut u8) -> u8 {
+    *calls = calls.saturating_add(1);
+    *calls
+}
+
+/// Elements and values that are counted, of one token and of several.
+fn with_counted_values(alloc: Global, calls: &mut u8) -> Result<JsonValue> {
+    Ok(jzon::array![alloc;
+        next(calls), (next(calls)), [next(calls), (next(calls))], {a: next(calls), "b" => (next(calls))},
+        jzon::object!{alloc; c: next(calls), "d" => (next(calls))}, jzon::value!(alloc; next(calls)),
+    ])
+}
+
+/// In order, and each once.
+#[test]
+fn evaluates_values_once(rt: HostRuntime) -> std::result::Result<(), Fail> {
+    let mut calls = 0;
+    let value = with_counted_values(rt.alloc(), &mut calls)?;
+    let text = "[1,2,[3,4],{\"a\":5,\"b\":6},{\"c\":7,\"d\":8},9]";
+    expect_dump(&rt, rt.alloc(), &value, text)?;
+    expect(&rt, "the calls", calls == 9);
+    Ok(())
+}
+
 const BUILT: [&str; 5] = [
     "[{\"foo\":false,\"bar\":null,\"z\":42,\"list\":[null,\"world\",true]},{\"a\":2},[],{},[],{}]",
     "[-1,3,1,2,true,[-2,2],{\"a\":-3}]",

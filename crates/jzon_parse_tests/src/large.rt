@@ -1,0 +1,378 @@
+//! Large texts, faults late in them, each depth, and what is left of a text that is rejected.
+
+use crate::common::{expect, expect_dump, expect_eq};
+use jzon::{Error, Reading, parse, parse_as};
+use jzon_test_support::{RUNS_MAX, Refusals, joined, keys_by_hash, object_text};
+use std::alloc::Global;
+use std::process::Abort;
+use std::test::Fail;
+
+/// Pieces of a text, each with how often it comes.
+type Parts = &'static [(&'static str, usize)];
+
+/// A text, and its dump.
+const READ: &[(Parts, Parts)] = &[
+    (
+        &[("\"", 1), ("\\uD834\\uDD1E", 70000), ("\"", 1)],
+        &[("\"", 1), ("\u{1d11e}", 70000), ("\"", 1)],
+    ),
+    (
+        &[("\"", 1), ("p", 200000), ("\\u0001\\u0041\"", 1)],
+        &[("\"", 1), ("p", 200000), ("\\u0001A\"", 1)],
+    ),
+    (
+        &[
+            ("{\"", 1),
+            ("\\n", 200000),
+            ("\":\"", 1),
+            ("\\u00e9", 70000),
+            ("\"}", 1),
+        ],
+        &[
+            ("{\"", 1),
+            ("\\n", 200000),
+            ("\":\"", 1),
+            ("é", 70000),
+            ("\"}", 1),
+        ],
+    ),
+    (
+        &[
+            (" ", 70000),
+            ("[", 1),
+            ("\t", 70000),
+            ("1", 1),
+            ("\n", 70000),
+            (",2]", 1),
+        ],
+        &[("[1,2]", 1)],
+    ),
+    (
+        &[
+            ("{", 1),
+            ("\n ", 70000),
+            ("\"a\"", 1),
+            (" ", 70000),
+            (":", 1),
+            ("\r", 70000),
+            ("{}}", 1),
+        ],
+        &[("{\"a\":{}}", 1)],
+    ),
+    (
+        &[("[", 1), (" ", 70000), ("]", 1), ("\r\n", 70000)],
+        &[("[]", 1)],
+    ),
+    (
+        &[
+            ("[9.", 1),
+            ("9", 200000),
+            (",1e", 1),
+            ("9", 200000),
+            (",1e-", 1),
+            ("9", 200000),
+            ("]", 1),
+        ],
+        &[("[9.999999999999999999,1e32767,1e-32768]", 1)],
+    ),
+    (
+        &[
+            ("[8", 1),
+            ("0", 32785),
+            (",0.", 1),
+            ("0", 32767),
+            ("1,0.", 1),
+            ("0", 32768),
+            ("]", 1),
+        ],
+        &[("[8.000000000000000000e32785,1e-32768,0]", 1)],
+    ),
+    (
+        &[
+            ("[{}", 1),
+            (",[[[{\"a\":[{},null]}]],\"é\"]", 70000),
+            ("]", 1),
+        ],
+        &[
+            ("[{}", 1),
+            (",[[[{\"a\":[{},null]}]],\"é\"]", 70000),
+            ("]", 1),
+        ],
+    ),
+];
+
+/// By both readings.
+#[test]
+fn reads_large_texts(rt: HostRuntime) -> Result<(), Fail> {
+    let alloc = rt.alloc();
+    for (parts, dumped) in READ {
+        let text = joined(alloc, parts)?;
+        let dump = joined(alloc, dumped)?;
+        let value = parse(alloc, text.as_str())?;
+        expect_dump(&rt, alloc, &value, dump.as_str())?;
+        let strict = read(alloc, true, 512, text.as_str())?;
+        expect(&rt, "strictly", strict == value);
+    }
+    Ok(())
+}
+
+/// What the text means by a reading of this strictness and depth.
+fn read(alloc: Global, strict: bool, depth: u16, text: &str) -> jzon::Result<jzon::JsonValue> {
+    match Reading::new(strict, depth) {
+        Some(reading) => parse_as(alloc, text, &reading),
+        None => Err(Error::FailedUtf8Parsing),
+    }
+}
+
+/// Whether the reading is strict, a text, and the message of its first fault.
+const REJECTED: &[(bool, Parts, &str)] = &[
+    (
+        false,
+        &[("[\n", 1), ("1,\n", 70000), ("x", 1)],
+        "Unexpected character: x at (70002:1)",
+    ),
+    (
+        true,
+        &[("[", 1), ("1,", 35000), ("x", 1)],
+        "Unexpected character: x at (1:70002)",
+    ),
+    (
+        false,
+        &[("[\"", 1), ("é", 70000), ("\" x", 1)],
+        "Unexpected character: x at (1:70005)",
+    ),
+    (
+        true,
+        &[("[", 1), ("\n", 70000), ("é", 1)],
+        "Unexpected character: é at (70001:1)",
+    ),
+    (
+        false,
+        &[("\"", 1), ("p", 200000), ("\\x", 1)],
+        "Unexpected character: x at (1:200003)",
+    ),
+    (
+        false,
+        &[("\"", 1), ("\\n", 70000), ("\n", 1)],
+        "Unexpected character: \n at (1:140002)",
+    ),
+    (
+        false,
+        &[("{\"a\":1", 1), (",\"a\":1", 70000), (",}", 1)],
+        "Unexpected character: } at (1:420008)",
+    ),
+    (
+        false,
+        &[("\"", 1), ("p", 200000), ("\\uDC00\\uDC00", 1)],
+        "Failed to parse UTF-8 bytes",
+    ),
+    (
+        true,
+        &[("{\"", 1), ("\\n", 70000), ("\\ud800\\u0041", 1)],
+        "Failed to parse UTF-8 bytes",
+    ),
+    (
+        false,
+        &[("[0", 1), (",0", 70000), (",", 1), ("[", 512), ("1", 1)],
+        "Exceeded depth limit",
+    ),
+    (
+        true,
+        &[("[8", 1), ("0", 32786), ("]", 1)],
+        "Exceeded depth limit",
+    ),
+    (
+        false,
+        &[("[0.", 1), ("0", 32769), ("]", 1)],
+        "Exceeded depth limit",
+    ),
+    (
+        true,
+        &[("[8", 1), ("0", 200000), (",", 1)],
+        "Exceeded depth limit",
+    ),
+    (
+        false,
+        &[("[0", 1), (",0", 70000), (",", 1), ("[", 512)],
+        "Unexpected end of JSON",
+    ),
+    (
+        true,
+        &[("{\"a\":[", 1), ("\"b\",", 70000)],
+        "Unexpected end of JSON",
+    ),
+    (
+        true,
+        &[("[", 1), (" ", 70000), ("\u{c}", 1)],
+        "Unexpected character: \u{c} at (1:70002)",
+    ),
+    (
+        true,
+        &[
+            ("{\"", 1),
+            ("k", 200000),
+            ("\":1,\"", 1),
+            ("k", 200000),
+            ("\":2}", 1),
+        ],
+        "Duplicate key at (1:200007)",
+    ),
+    (
+        true,
+        &[("{\"a\":1,", 1), ("\n", 70000), ("\"\\u0061\"", 1)],
+        "Duplicate key at (70001:1)",
+    ),
+    (
+        true,
+        &[("{\"a\":1,\"b\":\"", 1), ("é", 70000), ("\",\"a\":2}", 1)],
+        "Duplicate key at (1:70015)",
+    ),
+    (
+        true,
+        &[("[", 1), ("{\"a\":1},", 70000), ("{\"a\":1,\"a\"", 1)],
+        "Duplicate key at (1:560009)",
+    ),
+];
+
+#[test]
+fn rejects_late_faults(rt: HostRuntime) -> Result<(), Fail> {
+    for (strict, parts, message) in REJECTED {
+        let text = joined(rt.alloc(), parts)?;
+        match read(rt.alloc(), *strict, 512, text.as_str()) {
+            Ok(_) => expect(&rt, message, false),
+            Err(error) => {
+                let words = error.to_string(rt.alloc())?;
+                expect_eq(&rt, message, words.as_str(), *message);
+            }
+        }
+    }
+    Ok(())
+}
+
+/// Whether the reading is strict, how a container is opened and closed, and how many open
+/// containers that is.
+const OPENED: [(bool, &str, &str, usize); 3] = [
+    (true, "[", "]", 1),
+    (false, "{\"a\":", "}", 1),
+    (true, "[{\"a\":", "}]", 2),
+];
+
+/// A text with as many open containers as a reading of this depth accepts is read; with one more
+/// it is rejected.
+fn expect_depth(rt: &impl Abort, alloc: Global, depth: u16) -> Result<(), Fail> {
+    for (strict, open, close, count) in OPENED {
+        let repeated = usize::from(depth).checked_div(count).unwrap_or(0);
+        let inside = [(open, repeated), ("1", 1), (close, repeated)];
+        let text = joined(alloc, &inside)?;
+        let value = read(alloc, strict, depth, text.as_str())?;
+        expect(rt, open, value.dump(alloc)?.as_str() == text.as_str());
+        let text = joined(alloc, &[("[", 1), (open, repeated), ("[1", 1)])?;
+        let outcome = read(alloc, strict, depth, text.as_str());
+        expect(rt, open, matches!(outcome, Err(Error::ExceededDepthLimit)));
+    }
+    Ok(())
+}
+
+#[test]
+fn reads_each_depth(rt: HostRuntime) -> Result<(), Fail> {
+    for depth in 0..=512 {
+        expect_depth(&rt, rt.alloc(), depth)?;
+    }
+    Ok(())
+}
+
+/// A text with containers in one another, and with long keys and strings.
+const NESTED: &str = concat!(
+    r#"[{"0123456789abcdef0123456789abcdef!":[{"b":"a text of more than thirty bytes"},"#,
+    r#"[true,[],{}]],"c":{"d":[["more than thirty bytes, \u00e9 and \n"]],"#,
+    r#""another key of more than thirty bytes":[{"a\nb":{"c":{}}},"a text of more than thirty bytes"]}}]"#
+);
+
+/// Each allocation fails in turn; then the text is accepted, or rejected with an error of its own.
+/// Each run drops all that it read.
+fn fail_each(rt: &impl Abort, alloc: Global, text: &str) -> Result<Refusals, Fail> {
+    let mut refusals = Refusals::new(alloc);
+    for _ in 0..RUNS_MAX {
+        refusals.open();
+        refusals.begin();
+        let outcome = read(alloc, true, 512, text);
+        let has_failed = refusals.has_failed();
+        let is_of_memory = matches!(outcome, Err(Error::OutOfMemory));
+        drop(outcome);
+        refusals.close();
+        expect(rt, text, is_of_memory == has_failed);
+        if !has_failed {
+            break;
+        }
+    }
+    refusals.expect_even()?;
+    Ok(refusals)
+}
+
+/// Wherever a text ends or goes wrong.
+#[test]
+fn prefixes_under_refusals(rt: HostRuntime) -> Result<(), Fail> {
+    let alloc = rt.alloc();
+    for len in 0..NESTED.len() {
+        let prefix = NESTED.get(..len).unwrap_or("");
+        fail_each(&rt, alloc, prefix)?;
+        let text = joined(alloc, &[(prefix, 1), ("?", 1)])?;
+        fail_each(&rt, alloc, text.as_str())?;
+    }
+    fail_each(&rt, alloc, NESTED)?.report(&rt, "parse_as of each prefix", 12)?;
+    Ok(())
+}
+
+/// Texts that are rejected in many or deep containers, or for a key that is repeated in one.
+const DROPPED: &[Parts] = &[
+    &[
+        ("[0", 1),
+        (",\"a text of more than thirty bytes\"", 5000),
+        (",]", 1),
+    ],
+    &[("[\"a text of more than thirty bytes\",", 512)],
+    &[("{\"0123456789abcdef0123456789abcdef!\":", 512), ("x", 1)],
+    &[
+        ("[\"a text of more than thirty bytes\",{\"a\":", 256),
+        ("]", 1),
+    ],
+    &[
+        ("{\"0123456789abcdef0123456789abcdef!\":[[\"a\"],", 256),
+        ("[1", 1),
+    ],
+    &[("[[1],[{\"a\":\"a text of more than thirty bytes\",\"a\"", 1)],
+    &[
+        (
+            "{\"a\":[1],\"b\":[{\"0123456789abcdef0123456789abcdef!\":[1],",
+            1,
+        ),
+        ("\"0123456789abcdef0123456789abcdef!\":[", 1),
+    ],
+];
+
+/// More than the rejected texts take.
+const MOST_OF_REJECTED: usize = 1 << 30;
+
+/// A rejected text leaves nothing.
+fn expect_nothing_left(rt: &(impl Eprint + Abort), alloc: Global, text: &str) -> Result<(), Fail> {
+    let mut refusals = Refusals::new(alloc);
+    refusals.open();
+    let is_rejected = read(alloc, true, 512, text).is_err();
+    refusals.close();
+    refusals.expect_within(rt, "a rejected text", MOST_OF_REJECTED)?;
+    refusals.expect_even()?;
+    expect(rt, text, is_rejected);
+    Ok(())
+}
+
+#[test]
+fn rejections_counted(rt: HostRuntime) -> Result<(), Fail> {
+    let alloc = rt.alloc();
+    for parts in DROPPED {
+        expect_nothing_left(&rt, alloc, joined(alloc, parts)?.as_str())?;
+    }
+    let text = object_text(alloc, keys_by_hash(alloc, 5000)?.as_slice())?;
+    let text = text.replace(alloc, "null", "\"a text of more than thirty bytes\"")?;
+    let text = text.replace(alloc, "}", ",\"0\"")?;
+    expect_nothing_left(&rt, alloc, text.as_str())
+}
