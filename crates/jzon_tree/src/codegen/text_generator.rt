@@ -1,7 +1,8 @@
 //! The generators of the crate: they write a text in a layout, into memory of their own or to a
 //! borrowed writer.
 
-ghost use Rattle.std.specs.Prelude.{◌≡◌, [], Ok, None, Some, IsTrue, IsUtf8, IfErr, MatchResult, string_bytes};
+ghost use Rattle.std.specs.Prelude.{◌≡◌, [], Ok, None, Some, IsTrue, IsUtf8, IfErr, IfOk, MatchResult};
+ghost use Rattle.std.specs.Prelude.{string_bytes};
 ghost use Rattle.std.specs.IoError.{error_kind};
 ghost use Rattle.jzon_base.specs.PairList.{keys_of};
 ghost use Rattle.jzon_tree.specs.Entries.{entries_of};
@@ -18,9 +19,12 @@ use crate::codegen::strings::send_string;
 use crate::object::Object;
 use jzon_base::error::{Error, Result};
 use jzon_base::number::Number;
-use std::alloc::Global;
+use std::alloc::{AllocError, Global};
 use std::io;
 use std::io::{ErrorKind, Write};
+
+/// How many bytes a text that is written into memory first has room for.
+const FIRST_ROOM: usize = 1024;
 
 /// Writes text in a layout, to memory, a writer or an outlet. `in_memory` and `to_writer` make one;
 /// `consume` returns the text that is in memory.
@@ -232,6 +236,19 @@ impl<L: Layout> TextGenerator<Memory, L> {
 }
 
 impl<L: Layout + Drop> TextGenerator<Memory, L> {
+    /// The same with room for 1,024 bytes, so that a small text needs one allocation. The error is
+    /// a failed one.
+    pub(crate) fn with_room(
+        alloc: Global,
+        layout: L,
+    ) -> std::result::Result<TextGenerator<Memory, L>, AllocError>
+        ensures { IfOk result (λ g. ⟦<TextGenerator<Memory, L> as Generator>⟧.meaning g
+            ≡ fresh (Some []) (L.style layout) None) }
+    {
+        let bytes = Vec::with_capacity(alloc, FIRST_ROOM)?;
+        Ok(TextGenerator::over(Memory { bytes }, layout))
+    }
+
     /// The bytes that were written, as a string. It allocates nothing, and fails with
     /// `FailedUtf8Parsing` exactly if they are not UTF-8.
     pub fn consume(self) -> Result<String>

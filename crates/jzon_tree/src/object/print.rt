@@ -9,8 +9,9 @@ ghost use Rattle.jzon_tree.specs.View.{view_object};
 ghost use Rattle.jzon_tree.specs.Writing.{Writes};
 
 use crate::codegen::driver::print_object;
-use crate::codegen::{DumpGenerator, PrettyGenerator};
+use crate::codegen::{Compact, DumpGenerator, Pretty, PrettyGenerator};
 use crate::object::Object;
+use crate::value::inspect::inspect_object;
 use jzon_base::error::{Error, Result};
 use std::alloc::Global;
 
@@ -27,7 +28,9 @@ impl Object {
         ensures depth { 2 ^ 64 ≤ nest (view_object self.now)
             → IsOkUnless result Error.ExceededDepthLimit }
     {
-        let mut generator = DumpGenerator::new(alloc);
+        let Ok(mut generator) = DumpGenerator::with_room(alloc, Compact) else {
+            return Err(inspect_object(self).refusal());
+        };
         match print_object(&mut generator, self) {
             Ok(()) => Ok(generator.into_text()),
             Err(fault) => Err(fault.found.refusal()),
@@ -47,7 +50,9 @@ impl Object {
         ensures depth { 2 ^ 64 ≤ nest (view_object self.now)
             → IsOkUnless result Error.ExceededDepthLimit }
     {
-        let mut generator = PrettyGenerator::new(alloc, spaces);
+        let Ok(mut generator) = PrettyGenerator::with_room(alloc, Pretty(spaces)) else {
+            return Err(inspect_object(self).refusal());
+        };
         match print_object(&mut generator, self) {
             Ok(()) => Ok(generator.into_text()),
             Err(fault) => Err(fault.found.refusal()),

@@ -17,6 +17,7 @@ use crate::codegen::{
     write_json,
 };
 use crate::value::JsonValue;
+use crate::value::inspect::inspect;
 use jzon_base::error::{Error, Result};
 use std::alloc::Global;
 use std::io;
@@ -69,7 +70,9 @@ impl JsonValue {
         ensures memory { nest (view self.now) < 2 ^ 64 → IsOkUnless result Error.OutOfMemory }
         ensures depth { 2 ^ 64 ≤ nest (view self.now) → IsOkUnless result Error.ExceededDepthLimit }
     {
-        let mut generator = TextGenerator::in_memory(alloc, layout);
+        let Ok(mut generator) = TextGenerator::with_room(alloc, layout) else {
+            return Err(inspect(self).refusal());
+        };
         match print_value(&mut generator, self) {
             Ok(()) => Ok(generator.into_text()),
             Err(fault) => Err(fault.found.refusal()),

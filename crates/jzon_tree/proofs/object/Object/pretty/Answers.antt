@@ -9,22 +9,28 @@ use Rattle.jzon_tree.proofs.object.Object.pretty.Goals as goal
 pub into_text-requires : goal.into_text-requires
 into_text-requires c =
     (pretty_printed c.args.spaces (view_object c.args.self.now) _ _ _
-    c.new-generator.ensures c.in-Ok.ensures.value c.in-Ok.ensures.written refl).0
+    c.in-Ok.ensures c.in-Ok-print_object.ensures.value c.in-Ok-print_object.ensures.written refl).0
 
 printed : (c : goal.After-into_text) → IsPrinted (pretty (view_object c.args.self.now) c.args.spaces 0)
     (pretty_style c.args.spaces) (view_object c.args.self.now) c.print_object.new.g.place.bytes.items
-printed c = pretty_printed c.args.spaces (view_object c.args.self.now) _ _ _ c.new-generator.ensures
-    c.in-Ok.ensures.value c.in-Ok.ensures.written refl
+printed c = pretty_printed c.args.spaces (view_object c.args.self.now) _ _ _ c.in-Ok.ensures
+    c.in-Ok-print_object.ensures.value c.in-Ok-print_object.ensures.written refl
 
-pub returns-in-Ok-clause-text : goal.returns-in-Ok-clause-text
-returns-in-Ok-clause-text c = c.into_text.ensures ∙ (printed c).1
+pub returns-in-Ok-print_object-clause-text : goal.returns-in-Ok-print_object-clause-text
+returns-in-Ok-print_object-clause-text c = c.into_text.ensures ∙ (printed c).1
 
-pub returns-in-Ok-clause-writing : goal.returns-in-Ok-clause-writing
-returns-in-Ok-clause-writing c = subst (Writes (pretty_style c.args.spaces) 0 (view_object c.args.self.now))
+pub returns-in-Ok-print_object-clause-writing : goal.returns-in-Ok-print_object-clause-writing
+returns-in-Ok-print_object-clause-writing c = subst (Writes (pretty_style c.args.spaces) 0 (view_object c.args.self.now))
     (sym c.into_text.ensures) (printed c).2
 
 pub returns-in-Err-clause-memory : goal.returns-in-Err-clause-memory
-returns-in-Err-clause-memory c = c.refusal.ensures.memory (view_object c.args.self.now) c.in-Err.ensures.found
+returns-in-Err-clause-memory c = c.refusal-in-Err.ensures.memory (view_object c.args.self.now) c.in-Err.ensures.found
 
 pub returns-in-Err-clause-depth : goal.returns-in-Err-clause-depth
-returns-in-Err-clause-depth c = c.refusal.ensures.depth (view_object c.args.self.now) c.in-Err.ensures.found
+returns-in-Err-clause-depth c = c.refusal-in-Err.ensures.depth (view_object c.args.self.now) c.in-Err.ensures.found
+
+pub returns-in_default-clause-memory : goal.returns-in_default-clause-memory
+returns-in_default-clause-memory c = c.refusal.ensures.memory (view_object c.args.self.now) c.inspect_object.ensures
+
+pub returns-in_default-clause-depth : goal.returns-in_default-clause-depth
+returns-in_default-clause-depth c = c.refusal.ensures.depth (view_object c.args.self.now) c.inspect_object.ensures

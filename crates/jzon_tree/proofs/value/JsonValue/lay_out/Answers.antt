@@ -6,11 +6,11 @@ use Rattle.jzon_tree.proofs.value.JsonValue.lay_out.Goals as goal
 
 pub into_text-requires : goal.into_text-requires
 into_text-requires g c =
-    (laid_out (g.L.Layout.style c.args.layout) (view c.args.self.now) _ _ _ c.in_memory-generator.ensures
-    c.in-Ok.ensures.value c.in-Ok.ensures.written refl).0
+    (laid_out (g.L.Layout.style c.args.layout) (view c.args.self.now) _ _ _ c.in-Ok.ensures
+    c.in-Ok-print_value.ensures.value c.in-Ok-print_value.ensures.written refl).0
 
-pub returns-in-Ok-clause-writing : goal.returns-in-Ok-clause-writing
-returns-in-Ok-clause-writing g c =
+pub returns-in-Ok-print_value-clause-writing : goal.returns-in-Ok-print_value-clause-writing
+returns-in-Ok-print_value-clause-writing g c =
     subst (Writes (g.L.Layout.style c.args.layout) 0 (view c.args.self.now)) (sym c.into_text.ensures)
-    (laid_out (g.L.Layout.style c.args.layout) (view c.args.self.now) _ _ _ c.in_memory-generator.ensures
-    c.in-Ok.ensures.value c.in-Ok.ensures.written refl).1
+    (laid_out (g.L.Layout.style c.args.layout) (view c.args.self.now) _ _ _ c.in-Ok.ensures
+    c.in-Ok-print_value.ensures.value c.in-Ok-print_value.ensures.written refl).1
