@@ -29,7 +29,7 @@ fn passed_over(answer: Result<()>) -> Result<()> {
     }
 }
 
-fn parse_strictly(alloc: Global, text: &str) -> Result<JsonValue> {
+pub(super) fn parse_strictly(alloc: Global, text: &str) -> Result<JsonValue> {
     match Reading::new(true, 512) {
         Some(reading) => parse_as(alloc, text, &reading),
         None => Ok(JsonValue::Null),
@@ -79,13 +79,29 @@ const ESCAPED: &str = "\"\\u00e9 and a text of more than thirty bytes\\n\\uD834\
 
 const UNESCAPED: &str = "\"é and a text of more than thirty bytes\\n\u{1d11e}\"";
 
+/// The most keys that have no index, and are compared one by one.
+const SIXTEEN_KEYS: &str = "{\"a\":0,\"b\":1,\"c\":2,\"d\":3,\"e\":4,\"f\":5,\"g\":6,\"h\":7,\
+    \"i\":8,\"j\":9,\"k\":10,\"l\":11,\"m\":12,\"n\":13,\"o\":14,\"p\":15}";
+
+/// With another key, with which they have an index.
+const SEVENTEEN_KEYS: &str = "{\"a\":0,\"b\":1,\"c\":2,\"d\":3,\"e\":4,\"f\":5,\"g\":6,\"h\":7,\
+    \"i\":8,\"j\":9,\"k\":10,\"l\":11,\"m\":12,\"n\":13,\"o\":14,\"p\":15,\
+    \"0123456789abcdef0123456789abcdef01234567\":true}";
+
+/// The same, but the value of the last key is null.
+const SEVENTEENTH_NULL: &str = "{\"a\":0,\"b\":1,\"c\":2,\"d\":3,\"e\":4,\"f\":5,\"g\":6,\"h\":7,\
+    \"i\":8,\"j\":9,\"k\":10,\"l\":11,\"m\":12,\"n\":13,\"o\":14,\"p\":15,\
+    \"0123456789abcdef0123456789abcdef01234567\":null}";
+
 /// More keys than are compared one by one.
-const TEN_KEYS: &str =
-    "{\"a\":0,\"b\":1,\"c\":2,\"d\":3,\"e\":4,\"f\":5,\"g\":6,\"h\":7,\"i\":8,\"j\":9}";
+const TWENTY_KEYS: &str = "{\"a\":0,\"b\":1,\"c\":2,\"d\":3,\"e\":4,\"f\":5,\"g\":6,\"h\":7,\
+    \"i\":8,\"j\":9,\"k\":10,\"l\":11,\"m\":12,\"n\":13,\"o\":14,\"p\":15,\"q\":16,\"r\":17,\
+    \"s\":18,\"t\":19}";
 
 /// One of them twice.
-const REPEATED: &str =
-    "{\"a\":1,\"b\":1,\"c\":2,\"d\":3,\"e\":4,\"f\":5,\"g\":6,\"h\":7,\"i\":8,\"j\":9,\"a\":0}";
+const REPEATED: &str = "{\"a\":1,\"b\":1,\"c\":2,\"d\":3,\"e\":4,\"f\":5,\"g\":6,\"h\":7,\"i\":8,\
+    \"j\":9,\"k\":10,\"l\":11,\"m\":12,\"n\":13,\"o\":14,\"p\":15,\"q\":16,\"r\":17,\"s\":18,\
+    \"t\":19,\"a\":0}";
 
 /// The second object is allocated for as many entries as the first one has.
 const ALIKE: &str = "[{\"a\":[1,2]},{\"a\":[3,4]}]";
@@ -110,10 +126,10 @@ const CHANGED: &[Row<Changed>] = &[
     ),
     (
         Changed::Parse(REPEATED),
-        "parse of a repeated key among ten",
+        "parse of a repeated key among twenty",
         "null",
-        TEN_KEYS,
-        6,
+        TWENTY_KEYS,
+        14,
     ),
     (
         Changed::Parse(ALIKE),
@@ -130,11 +146,11 @@ const CHANGED: &[Row<Changed>] = &[
         6,
     ),
     (
-        Changed::ParseStrictly(TEN_KEYS),
-        "strict parse_as of ten keys",
+        Changed::ParseStrictly(TWENTY_KEYS),
+        "strict parse_as of twenty keys",
         "null",
-        TEN_KEYS,
-        6,
+        TWENTY_KEYS,
+        15,
     ),
     (Changed::Clone, "clone", DOCUMENT, DUMP, 3),
     (
@@ -168,6 +184,13 @@ const CHANGED: &[Row<Changed>] = &[
         3,
     ),
     (
+        Changed::Insert,
+        "insert of the 17th key",
+        SIXTEEN_KEYS,
+        SEVENTEEN_KEYS,
+        5,
+    ),
+    (
         Changed::InsertOnArray,
         "insert on an array",
         "[1]",
@@ -176,6 +199,13 @@ const CHANGED: &[Row<Changed>] = &[
     ),
     (Changed::AtMut, "at_mut of a number", "5", KEYED, 3),
     (Changed::AtMut, "at_mut", "{}", KEYED, 3),
+    (
+        Changed::AtMut,
+        "at_mut of the 17th key",
+        SIXTEEN_KEYS,
+        SEVENTEENTH_NULL,
+        5,
+    ),
     (
         Changed::AtIndexMut(0),
         "at_index_mut of a number",

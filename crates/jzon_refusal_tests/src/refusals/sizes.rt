@@ -1,11 +1,17 @@
 //! Objects of many sizes: each is read, loses members, and is dropped.
 
+use super::changed::parse_strictly;
 use super::*;
 use jzon_test_support::{keys_by_hash, object_text};
 
 /// Reads an object, removes its keys of one digit, and drops the rest. Returns how many were left.
-fn reduced(alloc: Global, text: &str) -> Result<usize> {
-    match parse(alloc, text)? {
+fn reduced(alloc: Global, text: &str, is_strict: bool) -> Result<usize> {
+    let value = if is_strict {
+        parse_strictly(alloc, text)?
+    } else {
+        parse(alloc, text)?
+    };
+    match value {
         JsonValue::Object(object) => {
             let mut object = object;
             object.retain(|key, _| key.len() != 1);
@@ -15,18 +21,19 @@ fn reduced(alloc: Global, text: &str) -> Result<usize> {
     }
 }
 
-/// The number of members, the text of each, what is left, and the least number of allocations.
-type Size = (u32, &'static str, usize, usize);
+/// The number of members, the text of each, whether the reading is strict, what is left, and the
+/// least number of allocations.
+type Size = (u32, &'static str, bool, usize, usize);
 
 fn fail_each_at(rt: &(impl Eprint + Abort), alloc: Global, size: Size) -> Tested {
-    let (count, value, left, least) = size;
+    let (count, value, is_strict, left, least) = size;
     let keys = keys_by_hash(alloc, count)?;
     let text = object_text(alloc, keys.as_slice())?.replace(alloc, "null", value)?;
     let mut refusals = Refusals::new(alloc);
     for _ in 0..RUNS_MAX {
         refusals.open();
         refusals.begin();
-        let outcome = reduced(alloc, text.as_str());
+        let outcome = reduced(alloc, text.as_str(), is_strict);
         let has_failed = refusals.has_failed();
         refusals.close();
         if !has_failed {
@@ -39,13 +46,16 @@ fn fail_each_at(rt: &(impl Eprint + Abort), alloc: Global, size: Size) -> Tested
     Ok(())
 }
 
+/// Up to 16 keys have no index. A strict reading compares more of them by tags, for which there is
+/// more room from the 65th on.
 const SIZES: &[Size] = &[
-    (1, "[1]", 0, 2),
-    (8, "[1]", 0, 9),
-    (9, "[1]", 0, 10),
-    (11, "[1]", 1, 12),
-    (65, "[1]", 55, 66),
-    (300, "null", 290, 5),
+    (1, "[1]", false, 0, 2),
+    (11, "[1]", false, 1, 12),
+    (16, "[1]", false, 6, 25),
+    (17, "[1]", false, 7, 32),
+    (65, "[1]", false, 55, 66),
+    (70, "null", true, 60, 20),
+    (300, "null", false, 290, 5),
 ];
 
 #[test]
