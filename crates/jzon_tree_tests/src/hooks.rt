@@ -17,6 +17,7 @@ pub enum Hook {
     WriteChar,
     WriteMin,
     WriteString,
+    WritePlainString,
     WriteStringComplex,
     WriteNumber,
     GetWriter,
@@ -28,6 +29,11 @@ pub enum Hook {
     NoteFault,
 }
 
+/// A string without escapes, longer than those that are added by their first and last bytes.
+const PLAIN: &str = "0123456789abcdef0123456789abcdef01234567";
+
+const QUOTED: &str = "\"0123456789abcdef0123456789abcdef01234567\"";
+
 /// Calls the hook once; before `dedent` it sets 7 open indents.
 pub fn call<G: Generator>(generator: &mut G, hook: Hook, object: &Object) -> io::Result<()> {
     match hook {
@@ -35,6 +41,7 @@ pub fn call<G: Generator>(generator: &mut G, hook: Hook, object: &Object) -> io:
         Hook::WriteChar => generator.write_char(b'c')?,
         Hook::WriteMin => generator.write_min(b": ", b':')?,
         Hook::WriteString => generator.write_string("d\n")?,
+        Hook::WritePlainString => generator.write_string(PLAIN)?,
         Hook::WriteStringComplex => generator.write_string_complex("e\"f", 1)?,
         Hook::WriteNumber => {
             generator.write_number(&Number::from_parts_unchecked(false, 125, -1))?
@@ -65,11 +72,12 @@ fn assert_order(order: Option<Vec<usize>>) -> io::Result<()> {
 /// of indents and of faults after it, where two indents were open before.
 pub type Row = (Hook, &'static str, &'static str, u64, u64);
 
-pub const ROWS: [Row; 13] = [
+pub const ROWS: [Row; 14] = [
     (Hook::Write, "ab", "ab", 2, 0),
     (Hook::WriteChar, "c", "c", 2, 0),
     (Hook::WriteMin, ":", ": ", 2, 0),
     (Hook::WriteString, "\"d\\n\"", "\"d\\n\"", 2, 0),
+    (Hook::WritePlainString, QUOTED, QUOTED, 2, 0),
     (Hook::WriteStringComplex, "e\\\"f\"", "e\\\"f\"", 2, 0),
     (Hook::WriteNumber, "-12.5", "-12.5", 2, 0),
     (Hook::GetWriter, "g", "g", 2, 0),

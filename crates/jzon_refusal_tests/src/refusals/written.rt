@@ -2,6 +2,7 @@
 
 use super::*;
 use jzon::codegen::{Compact, DumpGenerator, Pretty, PrettyGenerator, write_json};
+use jzon_test_support::DOCUMENT;
 use std::io;
 use std::io::ErrorKind;
 
@@ -100,49 +101,65 @@ impl Call for Writing {
     }
 }
 
-const NUMBERS: &str = "{\"a\":[1]}";
+/// A text with a string of 40 bytes, none of which is escaped.
+const LISTED: &str = "{\"a\":[1,\"0123456789abcdef0123456789abcdef01234567\"]}";
 
 /// The compact text as a JSON string, and the pretty one, with two spaces for each open container.
-const ON_ONE_LINE: &str = "\"{\\\"a\\\":[1]}\"";
+const ON_ONE_LINE: &str = "\"{\\\"a\\\":[1,\\\"0123456789abcdef0123456789abcdef01234567\\\"]}\"";
 
-const ON_LINES: &str = "\"{\\n  \\\"a\\\": [\\n    1\\n  ]\\n}\"";
+const ON_LINES: &str = "\"{\\n  \\\"a\\\": [\\n    1,\\n    \
+    \\\"0123456789abcdef0123456789abcdef01234567\\\"\\n  ]\\n}\"";
+
+/// The compact text and the pretty one of `DOCUMENT`, as JSON strings.
+const DOCUMENT_ON_ONE_LINE: &str = "\"{\\\"a\\\":[1,-50,\\\"xé\u{1d11e}\\\"],\\\"b\\\":null}\"";
+
+const DOCUMENT_ON_LINES: &str = "\"{\\n  \\\"a\\\": [\\n    1,\\n    -50,\\n    \
+    \\\"xé\u{1d11e}\\\"\\n  ],\\n  \\\"b\\\": null\\n}\"";
 
 const WRITTEN: &[Row<Writing>] = &[
-    (Writing::Dump, "dump", NUMBERS, ON_ONE_LINE, 1),
-    (Writing::Pretty, "pretty", NUMBERS, ON_LINES, 1),
-    (Writing::ObjectDump, "Object::dump", NUMBERS, ON_ONE_LINE, 1),
+    (Writing::Dump, "dump", DOCUMENT, DOCUMENT_ON_ONE_LINE, 2),
+    (Writing::Pretty, "pretty", DOCUMENT, DOCUMENT_ON_LINES, 2),
     (
-        Writing::ObjectPretty,
-        "Object::pretty",
-        NUMBERS,
-        ON_LINES,
-        1,
+        Writing::Dump,
+        "dump of a long string",
+        LISTED,
+        ON_ONE_LINE,
+        2,
     ),
-    (Writing::LayOut, "lay_out", NUMBERS, ON_ONE_LINE, 1),
+    (
+        Writing::Pretty,
+        "pretty of a long string",
+        LISTED,
+        ON_LINES,
+        2,
+    ),
+    (Writing::ObjectDump, "Object::dump", LISTED, ON_ONE_LINE, 2),
+    (Writing::ObjectPretty, "Object::pretty", LISTED, ON_LINES, 2),
+    (Writing::LayOut, "lay_out", LISTED, ON_ONE_LINE, 2),
     (
         Writing::PrettyLayOut,
         "lay_out on lines",
-        NUMBERS,
+        LISTED,
         ON_LINES,
-        1,
+        2,
     ),
     (
         Writing::DumpGenerator,
         "DumpGenerator",
-        NUMBERS,
+        LISTED,
         ON_ONE_LINE,
-        1,
+        2,
     ),
     (
         Writing::PrettyGenerator,
         "PrettyGenerator",
-        NUMBERS,
+        LISTED,
         ON_LINES,
-        1,
+        2,
     ),
-    (Writing::Write, "write", NUMBERS, ON_ONE_LINE, 1),
-    (Writing::WritePretty, "write_pretty", NUMBERS, ON_LINES, 1),
-    (Writing::WriteLayout, "write_layout", NUMBERS, ON_LINES, 1),
+    (Writing::Write, "write", LISTED, ON_ONE_LINE, 2),
+    (Writing::WritePretty, "write_pretty", LISTED, ON_LINES, 2),
+    (Writing::WriteLayout, "write_layout", LISTED, ON_LINES, 2),
 ];
 
 #[test]
