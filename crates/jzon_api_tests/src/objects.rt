@@ -157,6 +157,11 @@ fn gives_its_keys_whole(rt: HostRuntime) -> Tested {
     expect(&rt, "get", object.get(INLINE) == Some(&number(1)));
     expect(
         &rt,
+        "get of a longer key",
+        object.get(OWNED) == Some(&number(2)),
+    );
+    expect(
+        &rt,
         "at",
         object.at(INLINE).eq_u64(1) && object.at(OWNED).eq_u64(2),
     );

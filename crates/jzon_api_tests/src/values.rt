@@ -22,7 +22,7 @@ const EQUAL: &[(&str, &str, bool)] = &[
     ("5e2", "500", true),
     ("-0e7", "0", true),
     ("[1,[]]", "[1.0,[]]", true),
-    ("{\"a\":1,\"b\":2}", "{\"b\":2,\"a\":1}", true),
+    ("{\"a\":1,\"b\":2}", "{\"b\":2,\"a\":1.0}", true),
     ("null", "false", false),
     ("true", "false", false),
     ("\"a\"", "\"b\"", false),
