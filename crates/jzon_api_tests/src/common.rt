@@ -1,11 +1,16 @@
 //! What the tests share. To prove an assertion takes seconds, and a call of `expect` or `expect_eq`
 //! hardly any time.
 
+ghost use Rattle.std.specs.Prelude.{Some};
+
 use jzon::JsonValue;
+use jzon::codegen::Outlet;
 use jzon::number::Number;
 use jzon::object::Object;
 use std::alloc::Global;
 use std::fmt::Debug;
+use std::io;
+use std::io::Write;
 use std::process::Abort;
 use std::test::Fail;
 
@@ -58,3 +63,32 @@ pub fn is_entry(entry: Option<(&str, &JsonValue)>, key: &str, number: u64) -> bo
         None => false,
     }
 }
+
+/// An outlet that takes nothing at once.
+#[derive(Drop)]
+pub struct Plain {
+    pub bytes: Vec<u8>,
+}
+
+impl Plain {
+    pub fn new(alloc: Global) -> Plain {
+        Plain {
+            bytes: Vec::new(alloc),
+        }
+    }
+}
+
+impl Write for Plain {
+    ghost contents = { λ plain. Some plain.bytes.items };
+
+    fn write(&mut self, buf: &[u8]) -> io::Result<usize> {
+        self.bytes.extend_from_slice(buf)?;
+        Ok(buf.len())
+    }
+
+    fn flush(&mut self) -> io::Result<()> {
+        Ok(())
+    }
+}
+
+impl Outlet for Plain {}

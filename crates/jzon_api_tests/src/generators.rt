@@ -1,25 +1,35 @@
-//! A user's own generator, whose whitespace is vertical tabs.
+//! A user's own generator, whose whitespace is vertical tabs, and long arguments of each hook.
 
 ghost use Rattle.std.specs.Prelude.{◌∷◌, [], false, Some, None, refl};
-ghost use Rattle.jzon.specs.StyleLaws.{IsStyle-only};
+ghost use Rattle.jzon.specs.StyleLaws.{IsStyle-any, IsStyle-only};
 ghost use Rattle.jzon.specs.Styles.{only};
+ghost use Rattle.jzon.specs.Writing.{any_style};
 
-use crate::common::{expect, expect_eq};
-use jzon::codegen::{Generator, write_json};
+use crate::common::{Plain, Tested, expect, expect_eq};
+use jzon::codegen::{
+    DumpGenerator, Generator, Layout, PrettyGenerator, PrettyWriterGenerator, TextGenerator,
+    WriterGenerator, write_json, write_object,
+};
+use jzon::number::Number;
 use jzon::object::Object;
-use jzon::parse;
-use std::alloc::Global;
+use jzon::{JsonValue, parse};
+use jzon_test_support::{Refusals, SlowWriter, Trouble, joined};
+use std::alloc::{AllocError, Global};
 use std::io;
+use std::process::Abort;
 use std::test::Fail;
 
 /// Writes a vertical tab before each element and each closing bracket, in a style that allows no
-/// other whitespace.
+/// other whitespace. Its `order` may fail with an error of its own.
 #[derive(Drop)]
 struct TabGenerator {
     code: Vec<u8>,
     dent: u64,
     faults: u64,
+    has_order: bool,
 }
+
+const ORDERLESS: Trouble = Trouble::FailsBySystem(5);
 
 impl Generator for TabGenerator {
     type T = Vec<u8>;
@@ -64,7 +74,11 @@ impl Generator for TabGenerator {
     }
 
     fn order(&mut self, _object: &Object) -> io::Result<Option<Vec<usize>>> {
-        Ok(None)
+        if self.has_order {
+            return Ok(None);
+        }
+        self.note_fault();
+        Err(ORDERLESS.error())
     }
 
     ghost writer_law = { λ _ _. refl };
@@ -72,14 +86,22 @@ impl Generator for TabGenerator {
     ghost style_law = { λ _. IsStyle-only (λ dent. 11 ∷ []) false (λ dent. refl) };
 }
 
+impl TabGenerator {
+    /// One that has written nothing.
+    fn new(alloc: Global) -> TabGenerator {
+        TabGenerator {
+            code: Vec::new(alloc),
+            dent: 0,
+            faults: 0,
+            has_order: true,
+        }
+    }
+}
+
 /// What the generator writes of a text's value, and whether it is read back equal.
 fn goes_round(alloc: Global, source: &str) -> Result<(Vec<u8>, bool), Fail> {
     let value = parse(alloc, source)?;
-    let mut generator = TabGenerator {
-        code: Vec::new(alloc),
-        dent: 0,
-        faults: 0,
-    };
+    let mut generator = TabGenerator::new(alloc);
     write_json(&mut generator, &value)?;
     let text = String::from_utf8(generator.code)?;
     let is_equal = parse(alloc, text.as_str())? == value;
@@ -92,5 +114,190 @@ fn reads_vertical_tabs(rt: HostRuntime) -> Result<(), Fail> {
     let expected = b"\x5b\x0b\x31\x2c\x0b\x32\x0b\x5d".as_slice();
     expect_eq(&rt, "the bytes", bytes.as_slice(), expected);
     expect(&rt, "read back", is_equal);
+    Ok(())
+}
+
+/// The parts of texts: many elements, many entries in many objects, and many escapes.
+const LARGE: [[(&str, usize); 3]; 3] = [
+    [("[0", 1), (",0", 70000), ("]", 1)],
+    [("[{}", 1), (",{\"a\":[],\"b\":{}}", 70000), ("]", 1)],
+    [("{\"\\n\":\"", 1), ("a\\u0001", 70000), ("\"}", 1)],
+];
+
+#[test]
+fn reads_back_large_values(rt: HostRuntime) -> Result<(), Fail> {
+    for parts in LARGE {
+        let text = joined(rt.alloc(), &parts)?;
+        let (_, is_equal) = goes_round(rt.alloc(), text.as_str())?;
+        expect(&rt, "read back", is_equal);
+    }
+    Ok(())
+}
+
+/// A string that is written as it is, with three quotes after it.
+fn quotes_last(alloc: Global) -> Result<String, AllocError> {
+    joined(alloc, &[("plain", 40000), ("\"\"\"", 1)])
+}
+
+/// Appends this string by each hook that takes one, whole, and from the second of its quotes on;
+/// then, with 70,000 indents open, the whitespace of a line.
+fn append_all<G: Generator>(generator: &mut G, string: &str) -> io::Result<()> {
+    generator.write(string.as_bytes())?;
+    generator.write_string(string)?;
+    generator.write_string_complex(string, string.len().min(200001))?;
+    generator.set_dent(69999);
+    generator.indent()?;
+    generator.new_line()?;
+    generator.set_dent(u64::MAX - 1);
+    generator.indent()?;
+    generator.write_number(&Number::from_parts_unchecked(true, u64::MAX, 32767))?;
+    generator.write_char(b'.')
+}
+
+/// They append what the rules say, where a line has these parts.
+fn expect_all<G: Generator<T = Vec<u8>>>(
+    rt: &impl Abort,
+    alloc: Global,
+    generator: &mut G,
+    line: &[(&str, usize)],
+) -> Result<(), Fail> {
+    append_all(generator, quotes_last(alloc)?.as_str())?;
+    let strings = [
+        ("plain", 40000),
+        ("\"\"\"\"", 1),
+        ("plain", 40000),
+        ("\\\"\\\"\\\"\"", 1),
+        ("plain", 40000),
+        ("\"\\\"\\\"\"", 1),
+    ];
+    let mut text = joined(alloc, &strings)?;
+    text.push_str(joined(alloc, line)?.as_str())?;
+    text.push_str("1.8446744073709551615e32786.")?;
+    let written = generator.get_writer().as_slice() == text.as_bytes();
+    expect(rt, "the bytes", written);
+    expect(rt, "the indents", generator.dent() == u64::MAX);
+    expect(rt, "the faults", generator.faults() == 0);
+    Ok(())
+}
+
+#[test]
+fn hooks_take_long_arguments(rt: HostRuntime) -> Result<(), Fail> {
+    let alloc = rt.alloc();
+    expect_all(&rt, alloc, &mut DumpGenerator::new(alloc), &[])?;
+    let line = [("\n", 1), (" ", 210000)];
+    expect_all(&rt, alloc, &mut PrettyGenerator::new(alloc, 3), &line)?;
+    expect_all(&rt, alloc, &mut TabGenerator::new(alloc), &[("\u{b}", 1)])?;
+    let mut bytes: Vec<u8> = Vec::new(alloc);
+    expect_all(&rt, alloc, &mut WriterGenerator::new(&mut bytes), &[])?;
+    let mut bytes: Vec<u8> = Vec::new(alloc);
+    expect_all(
+        &rt,
+        alloc,
+        &mut PrettyWriterGenerator::new(&mut bytes, 3),
+        &line,
+    )
+}
+
+/// A value is written where one indent more may be open, and not where none may.
+#[test]
+fn writes_below_the_most_indents(rt: HostRuntime) -> Result<(), Fail> {
+    let value = parse(rt.alloc(), "[1]")?;
+    for (dent, text, faults) in [(u64::MAX - 1, "[1]", 0), (u64::MAX, "[", 1)] {
+        let mut generator = DumpGenerator::new(rt.alloc());
+        generator.set_dent(dent);
+        let outcome = write_json(&mut generator, &value);
+        expect_eq(&rt, text, outcome.is_ok(), faults == 0);
+        expect_eq(&rt, text, generator.faults(), faults);
+        expect_eq(&rt, text, generator.dent(), dent);
+        expect(
+            &rt,
+            text,
+            generator.get_writer().as_slice() == text.as_bytes(),
+        );
+    }
+    Ok(())
+}
+
+/// What was written before the object stays, and one fault is counted.
+#[test]
+fn returns_the_error_of_order(rt: HostRuntime) -> Tested {
+    let alloc = rt.alloc();
+    let mut generator = TabGenerator::new(alloc);
+    generator.has_order = false;
+    match write_json(&mut generator, &parse(alloc, "[[1,{}]]")?) {
+        Ok(()) => expect(&rt, "no error", false),
+        Err(error) => expect(&rt, "the error", ORDERLESS.is_returned(alloc, &error)?),
+    }
+    let written = b"[\x0b[\x0b1,\x0b".as_slice();
+    expect_eq(&rt, "the bytes", generator.code.as_slice(), written);
+    expect_eq(&rt, "the indents", generator.dent, 2);
+    expect_eq(&rt, "the faults", generator.faults, 1);
+    match write_object(&mut generator, &Object::new(alloc)) {
+        Ok(()) => expect(&rt, "no error", false),
+        Err(error) => expect(&rt, "the error", ORDERLESS.is_returned(alloc, &error)?),
+    }
+    expect_eq(&rt, "the faults", generator.faults, 2);
+    Ok(())
+}
+
+/// A layout that owns memory. A space is before each element for each open container.
+#[derive(Drop)]
+struct Owning {
+    _words: String,
+}
+
+impl Layout for Owning {
+    ghost style = { λ _. any_style };
+
+    fn spaces(&self) -> Option<u16> {
+        Some(1)
+    }
+
+    fn order(&self, _object: &Object) -> Result<Option<Vec<usize>>, AllocError> {
+        Ok(None)
+    }
+
+    ghost style_law = { λ _. IsStyle-any };
+}
+
+fn new_layout(alloc: Global) -> Result<Owning, AllocError> {
+    Ok(Owning {
+        _words: String::from_str(alloc, "words of a layout")?,
+    })
+}
+
+/// Each call that takes a layout, to memory, to a writer that fails, and to an outlet.
+fn lay_out(rt: &impl Abort, alloc: Global, value: &JsonValue) -> Tested {
+    let text = value.lay_out(alloc, new_layout(alloc)?)?;
+    expect(rt, "lay_out", text.as_str() == "[\n 1\n]");
+    let mut writer = SlowWriter::new(alloc, 3, Trouble::TakesNothing);
+    let outcome = value.write_layout(&mut writer, new_layout(alloc)?);
+    expect(rt, "write_layout", outcome.is_err());
+    let mut outlet = Plain::new(alloc);
+    value.write_outlet(&mut outlet, new_layout(alloc)?)?;
+    expect(
+        rt,
+        "write_outlet",
+        outlet.bytes.as_slice() == b"[\n 1\n]".as_slice(),
+    );
+    let mut generator = TextGenerator::in_memory(alloc, new_layout(alloc)?);
+    write_json(&mut generator, value)?;
+    expect(rt, "consume", generator.consume()?.as_str() == "[\n 1\n]");
+    Ok(())
+}
+
+/// More than these texts and layouts take.
+const MOST_OF_LAYOUTS: usize = 1 << 20;
+
+/// Each call drops the layout that it is passed.
+#[test]
+fn layouts_counted(rt: HostRuntime) -> Tested {
+    let value = parse(rt.alloc(), "[1]")?;
+    let mut refusals = Refusals::new(rt.alloc());
+    refusals.open();
+    lay_out(&rt, rt.alloc(), &value)?;
+    refusals.close();
+    refusals.expect_within(&rt, "layouts", MOST_OF_LAYOUTS)?;
+    refusals.expect_even()?;
     Ok(())
 }
