@@ -3,6 +3,8 @@
 
 mod built;
 mod changed;
+mod counted;
+mod frugal;
 mod hints;
 mod objects;
 mod owned;

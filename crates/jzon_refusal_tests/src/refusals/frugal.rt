@@ -1,0 +1,380 @@
+//! Calls that request no memory, on values of 70,000 entries or elements; and how much room copies
+//! and built objects hold.
+
+use super::*;
+use jzon::IntoJson;
+use jzon::codegen::{DumpGenerator, Pretty, PrettyGenerator};
+use jzon::lent::{write_at, write_at_index, write_present};
+use jzon::object::{Key, Object};
+use jzon::short::Short;
+use jzon_test_support::keys_by_hash;
+use jzon_tree::object::Builder;
+use std::fmt::Write;
+use std::{fmt, io};
+
+const COUNT: u32 = 70_000;
+
+/// The key of this number.
+fn named(alloc: Global, number: u32) -> Result<String> {
+    Ok(format!(in alloc; "{number}")?)
+}
+
+/// Keys of up to five digits, and a long one, with their numbers and a long string.
+fn numbered(alloc: Global) -> Result<JsonValue> {
+    let mut object = Object::new(alloc);
+    for number in 0..COUNT {
+        object.insert(
+            alloc,
+            named(alloc, number)?.as_str(),
+            JsonValue::from(number),
+        )?;
+    }
+    object.insert(alloc, LONG_KEY, LONG_TEXT.into_json(alloc)?)?;
+    Ok(JsonValue::Object(object))
+}
+
+fn numbers(alloc: Global) -> Result<JsonValue> {
+    let numbers: Vec<u32> = (0..COUNT).collect(alloc)?;
+    numbers.into_json(alloc)
+}
+
+/// Takes all that is written, and keeps nothing.
+#[derive(Drop)]
+struct Sink;
+
+impl io::Write for Sink {
+    fn write(&mut self, buf: &[u8]) -> io::Result<usize> {
+        Ok(buf.len())
+    }
+
+    fn flush(&mut self) -> io::Result<()> {
+        Ok(())
+    }
+}
+
+impl fmt::Write for Sink {
+    fn write_str(&mut self, _text: &str) -> fmt::Result {
+        Ok(())
+    }
+}
+
+#[derive(Clone, Copy)]
+enum Frugal {
+    Insert,
+    AtMut,
+    WriteAt,
+    WritePresent,
+    GetMut,
+    Remove,
+    ArrayRemove,
+    Pop,
+    AtIndexMut,
+    WriteAtIndex,
+    Clear,
+    Take,
+    Read,
+    Equal,
+    Write,
+    Display,
+    IntoJson,
+    ObjectInsert,
+    ObjectAtMut,
+    OverrideLast,
+    Retain,
+    IntoIter,
+    New,
+    Inline,
+}
+
+/// Calls that read it, from both ends.
+fn read(value: &JsonValue) -> bool {
+    let whole = value.as_view();
+    let is_there = whole.at("1").eq_u64(1) || whole.at_index(1).eq_u64(1);
+    let has_null = value.contains(&JsonValue::Null) || value.has_key("null");
+    let last = value.members().rev().next().is_some() || value.entries().rev().next().is_some();
+    is_there && last && !has_null && !value.eq_str("1") && value.len() >= COUNT as usize
+}
+
+/// Half of the entries, and the last one.
+fn half_read(value: JsonValue) {
+    if let JsonValue::Object(object) = value {
+        let half = object.len() / 2;
+        let mut entries = object.into_iter();
+        for _ in 0..half {
+            drop(entries.next());
+        }
+        drop(entries.next_back());
+    }
+}
+
+/// `Ok` if it holds.
+fn of_truth(holds: bool) -> Result<()> {
+    if holds {
+        Ok(())
+    } else {
+        Err(Error::UnexpectedEndOfJson)
+    }
+}
+
+fn write(value: &JsonValue) -> Result<()> {
+    let mut sink = Sink;
+    of_truth(
+        value.write(&mut sink).is_ok()
+            && value.write_pretty(&mut sink, 2).is_ok()
+            && value.write_layout(&mut sink, Pretty(0)).is_ok(),
+    )
+}
+
+fn show(value: &JsonValue) -> Result<()> {
+    let mut sink = Sink;
+    of_truth(write!(sink, "{value}").is_ok())
+}
+
+/// What makes something empty.
+fn make_empty(alloc: Global) {
+    drop((
+        Object::new(alloc),
+        JsonValue::new_object(alloc),
+        JsonValue::new_array(alloc),
+    ));
+    drop((DumpGenerator::new(alloc), PrettyGenerator::new(alloc, 2)));
+    drop(Builder::new(alloc));
+}
+
+/// What is stored inline.
+fn make_inline(alloc: Global) -> Result<()> {
+    let key = Key::new(alloc, "0123456789abcdef0123456789abcdef")?;
+    drop((key.clone(alloc)?, key));
+    drop(Short::from_slice("abcdefghijklmnopqrstuvwxyz0123"));
+    drop("abcdefghijklmnopqrstuvwxyz0123".into_json(alloc)?);
+    drop((Some(5u64).into_json(alloc)?, true.into_json(alloc)?));
+    Ok(())
+}
+
+impl Frugal {
+    fn change(self, object: &mut Object, alloc: Global) -> Result<()> {
+        match self {
+            Frugal::ObjectInsert => object.insert(alloc, "69999", JsonValue::Null)?,
+            Frugal::ObjectAtMut => *object.at_mut(alloc, "69999")? = JsonValue::Null,
+            Frugal::OverrideLast => object.override_last(JsonValue::Null),
+            Frugal::Retain => object.retain(|key, _value| key.ends_with("9")),
+            _ => {}
+        }
+        Ok(())
+    }
+
+    /// Calls on a value of any kind, and those that take none.
+    fn use_up(self, value: &mut JsonValue, alloc: Global) -> Result<()> {
+        match self {
+            Frugal::Clear => value.clear(),
+            Frugal::Take => drop(value.take()),
+            Frugal::Read => return of_truth(read(value)),
+            Frugal::Equal => {
+                let whole = &*value;
+                return of_truth(*whole == *whole);
+            }
+            Frugal::Write => return write(value),
+            Frugal::Display => return show(value),
+            Frugal::IntoJson => drop(value.take().into_json(alloc)?),
+            Frugal::IntoIter => half_read(value.take()),
+            Frugal::New => make_empty(alloc),
+            Frugal::Inline => return make_inline(alloc),
+            _ => {
+                if let JsonValue::Object(object) = value {
+                    return self.change(object, alloc);
+                }
+            }
+        }
+        Ok(())
+    }
+}
+
+impl Call for Frugal {
+    fn call(self, value: &mut JsonValue, alloc: Global) -> Result<()> {
+        match self {
+            Frugal::Insert => value.insert(alloc, "69999", "short")?,
+            Frugal::AtMut => *value.at_mut(alloc, LONG_KEY)? = JsonValue::Null,
+            Frugal::WriteAt => write_at(value, alloc, "1", JsonValue::Null)?,
+            Frugal::WritePresent => return of_truth(write_present(value, "1", JsonValue::Null)),
+            Frugal::GetMut => return of_truth(value.get_mut("1").is_some()),
+            Frugal::Remove => drop(value.remove("1")),
+            Frugal::ArrayRemove => drop(value.array_remove(1)),
+            Frugal::Pop => drop(value.pop()),
+            Frugal::AtIndexMut => *value.at_index_mut(alloc, 69999)? = JsonValue::Null,
+            Frugal::WriteAtIndex => write_at_index(value, alloc, 69999, JsonValue::Null)?,
+            _ => self.use_up(value, alloc)?,
+        }
+        Ok(())
+    }
+}
+
+/// The calls on an object.
+const OF_OBJECT: &[(Frugal, &str)] = &[
+    (Frugal::Insert, "insert of a present key"),
+    (Frugal::AtMut, "at_mut of a present key"),
+    (Frugal::WriteAt, "write_at of a present key"),
+    (Frugal::WritePresent, "write_present"),
+    (Frugal::GetMut, "get_mut"),
+    (Frugal::Remove, "remove"),
+    (Frugal::ObjectInsert, "Object::insert of a present key"),
+    (Frugal::ObjectAtMut, "Object::at_mut of a present key"),
+    (Frugal::OverrideLast, "Object::override_last"),
+    (Frugal::Retain, "Object::retain"),
+    (Frugal::IntoIter, "into_iter"),
+    (Frugal::Clear, "clear of an object"),
+    (Frugal::Take, "take of an object"),
+    (Frugal::Read, "readers of an object"),
+    (Frugal::Equal, "== of objects"),
+    (Frugal::Write, "what writes an object"),
+    (Frugal::Display, "Display of an object"),
+    (Frugal::IntoJson, "into_json of an object"),
+    (Frugal::New, "what makes something empty"),
+    (Frugal::Inline, "what is stored inline"),
+];
+
+/// The calls on an array.
+const OF_ARRAY: &[(Frugal, &str)] = &[
+    (Frugal::ArrayRemove, "array_remove"),
+    (Frugal::Pop, "pop"),
+    (Frugal::AtIndexMut, "at_index_mut in range"),
+    (Frugal::WriteAtIndex, "write_at_index in range"),
+    (Frugal::Clear, "clear of an array"),
+    (Frugal::Take, "take of an array"),
+    (Frugal::Read, "readers of an array"),
+    (Frugal::Equal, "== of arrays"),
+    (Frugal::Write, "what writes an array"),
+    (Frugal::Display, "Display of an array"),
+    (Frugal::IntoJson, "into_json of an array"),
+];
+
+/// Each call succeeds on a copy of the value, and requests no byte.
+fn expect_frugal(
+    rt: &(impl Eprint + Abort),
+    alloc: Global,
+    whole: &JsonValue,
+    calls: &[(Frugal, &str)],
+) -> Tested {
+    for (call, name) in calls {
+        let mut value = whole.clone(alloc)?;
+        let mut refusals = Refusals::new(alloc);
+        refusals.open();
+        let outcome = call.call(&mut value, alloc);
+        refusals.expect_within(rt, name, 0)?;
+        expect(rt, name, outcome.is_ok());
+    }
+    Ok(())
+}
+
+#[test]
+fn no_memory_counted(rt: HostRuntime) -> Tested {
+    let alloc = rt.alloc();
+    expect_frugal(&rt, alloc, &numbered(alloc)?, OF_OBJECT)?;
+    expect_frugal(&rt, alloc, &numbers(alloc)?, OF_ARRAY)
+}
+
+/// What holds no more room than its parts need.
+#[derive(Clone, Copy)]
+enum Held {
+    Clone,
+    StdClone,
+    ObjectClone,
+    Build,
+    List,
+    Text,
+    TextClone,
+}
+
+/// Five nulls in an array with room for a thousand.
+fn roomy_array(alloc: Global) -> Result<JsonValue> {
+    let mut items = Vec::with_capacity(alloc, 1000)?;
+    for _ in 0..5 {
+        items.push(JsonValue::Null)?;
+    }
+    Ok(JsonValue::Array(items))
+}
+
+/// Five nulls in an object with room for a thousand.
+fn roomy_object(alloc: Global) -> Result<Object> {
+    let mut object = Object::with_capacity(alloc, 1000)?;
+    for key in ["a", "b", "c", "d", "e"] {
+        object.insert(alloc, key, JsonValue::Null)?;
+    }
+    Ok(object)
+}
+
+/// Five nulls of a builder with room for a hundred.
+fn built(alloc: Global) -> Result<Object> {
+    let mut builder = Builder::with_capacity(alloc, 100)?;
+    for key in ["a", "b", "c", "d", "e"] {
+        builder.push(alloc, Key::new(alloc, key)?, JsonValue::Null)?;
+    }
+    Object::from_builder(alloc, builder)
+}
+
+impl Held {
+    fn make(self, alloc: Global) -> Result<JsonValue> {
+        match self {
+            Held::Clone => roomy_array(alloc)?.clone(alloc),
+            Held::StdClone => Ok(Clone::clone(&roomy_array(alloc)?)?),
+            Held::ObjectClone => Ok(JsonValue::Object(roomy_object(alloc)?.clone(alloc)?)),
+            Held::Build => Ok(JsonValue::Object(built(alloc)?)),
+            Held::List => vec![in alloc; 1u8, 2, 3, 4, 5]?.into_json(alloc),
+            Held::Text => LONG_TEXT.into_json(alloc),
+            Held::TextClone => {
+                let mut text = String::with_capacity(alloc, 1000)?;
+                text.push_str(LONG_TEXT)?;
+                JsonValue::String(text).clone(alloc)
+            }
+        }
+    }
+}
+
+/// A call, its name, and the most bytes that its value holds: those of its parts, and up to 24
+/// more for each block.
+const HELD: &[(Held, &str, usize)] = &[
+    (Held::Clone, "clone of an array with room", 5 * 48 + 24),
+    (
+        Held::StdClone,
+        "std's Clone of an array with room",
+        5 * 48 + 24,
+    ),
+    (Held::ObjectClone, "Object::clone with room", 5 * 96 + 224),
+    (Held::Build, "Object::from_builder with room", 5 * 96 + 224),
+    (Held::List, "into_json of a list", 5 * 48 + 24),
+    (Held::Text, "into_json of a long string", 31 + 24),
+    (Held::TextClone, "clone of a string with room", 31 + 24),
+];
+
+#[test]
+fn room_counted(rt: HostRuntime) -> Tested {
+    let alloc = rt.alloc();
+    for (call, name, most) in HELD {
+        let mut refusals = Refusals::new(alloc);
+        refusals.open();
+        let value = call.make(alloc)?;
+        refusals.expect_held(&rt, name, *most)?;
+        drop(value);
+        refusals.close();
+        refusals.expect_even()?;
+    }
+    Ok(())
+}
+
+/// The most bytes that the index of `COUNT` keys requests while it grows. Keys and values that grow
+/// once request 96 more bytes for each key.
+const MOST_OF_INDEX: usize = 256 * COUNT as usize;
+
+/// An object with room for all keys requests memory for its index alone.
+#[test]
+fn capacity_counted(rt: HostRuntime) -> Tested {
+    let alloc = rt.alloc();
+    let keys = keys_by_hash(alloc, COUNT)?;
+    let mut object = Object::with_capacity(alloc, keys.len())?;
+    let mut refusals = Refusals::new(alloc);
+    refusals.open();
+    for key in &keys {
+        object.insert(alloc, key.as_str(), JsonValue::Null)?;
+    }
+    refusals.expect_within(&rt, "Object::with_capacity", MOST_OF_INDEX)?;
+    Ok(())
+}
