@@ -5,6 +5,7 @@ mod built;
 mod changed;
 mod counted;
 mod frugal;
+mod grown;
 mod hints;
 mod objects;
 mod owned;
