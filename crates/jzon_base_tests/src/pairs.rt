@@ -410,3 +410,18 @@ fn makes_many_pairs(rt: HostRuntime) -> Result<(), AllocError> {
     }
     Ok(())
 }
+
+/// A builder with room for nine entries takes them without an allocation.
+#[test]
+fn room_for_entries_counted(rt: HostRuntime) -> Result<(), Fail> {
+    let alloc = rt.alloc();
+    let names = ["a", "b", "c", "d", "e", "f", "g", "h", "i"];
+    let mut refusals = Refusals::new(alloc);
+    let mut built = Builder::with_capacity(alloc, 9)?;
+    refusals.open();
+    push_names(alloc, &mut built, names.as_slice(), 0)?;
+    refusals.expect_within(&rt, "Builder::push into its room", 0)?;
+    let pairs = built.finish(alloc)?;
+    expect_eq(&rt, "the number of pairs", pairs.len(), names.len());
+    Ok(())
+}
