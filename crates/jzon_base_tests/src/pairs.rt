@@ -248,12 +248,22 @@ fn knows_the_keys_of_one_hash(rt: HostRuntime) -> Result<(), AllocError> {
     Ok(())
 }
 
-/// Puts each of these keys with 0.
-fn insert_each(pairs: &mut Pairs<u32>, alloc: Global, keys: &[String]) -> Result<(), AllocError> {
-    for key in keys {
+/// Puts each of the first `count` keys with 0.
+fn insert_first(
+    pairs: &mut Pairs<u32>,
+    alloc: Global,
+    keys: &[String],
+    count: usize,
+) -> Result<(), AllocError> {
+    for key in keys.iter().take(count) {
         pairs.insert(alloc, key.as_str(), 0)?;
     }
     Ok(())
+}
+
+/// Puts each of these keys with 0.
+fn insert_each(pairs: &mut Pairs<u32>, alloc: Global, keys: &[String]) -> Result<(), AllocError> {
+    insert_first(pairs, alloc, keys, keys.len())
 }
 
 /// Fills pairs that have room for these keys. No memory is requested: the first allocation would
@@ -423,5 +433,26 @@ fn room_for_entries_counted(rt: HostRuntime) -> Result<(), Fail> {
     refusals.expect_within(&rt, "Builder::push into its room", 0)?;
     let pairs = built.finish(alloc)?;
     expect_eq(&rt, "the number of pairs", pairs.len(), names.len());
+    Ok(())
+}
+
+/// How many pairs there is room for, after how many inserted keys the index has begun a run, and to
+/// how many that run has room.
+const BEGUN: [(usize, usize, usize); 2] = [(16, 17, 32), (1152, 1025, 1152)];
+
+/// A run that the index has begun takes entries without an allocation.
+#[test]
+fn room_of_runs_counted(rt: HostRuntime) -> Result<(), Fail> {
+    let alloc = rt.alloc();
+    let keys = keys_by_hash(alloc, 1152)?;
+    for (capacity, begun, full) in BEGUN {
+        let mut pairs = Pairs::with_capacity(alloc, capacity)?;
+        let mut refusals = Refusals::new(alloc);
+        insert_first(&mut pairs, alloc, keys.as_slice(), begun)?;
+        refusals.open();
+        insert_first(&mut pairs, alloc, keys.as_slice(), full)?;
+        refusals.expect_within(&rt, "Pairs::insert into a run's room", 0)?;
+        expect_eq(&rt, "the number of pairs", pairs.len(), full);
+    }
     Ok(())
 }
