@@ -392,10 +392,11 @@ impl Made {
             put_each(self, alloc, &mut pairs)?;
             return Ok(pairs);
         }
-        let mut built = match self {
-            Made::BuildWithRoom => Builder::with_capacity(alloc, MANY)?,
-            _ => Builder::new(alloc),
+        let room = match self {
+            Made::BuildWithRoom => MANY,
+            _ => 0,
         };
+        let mut built = Builder::with_capacity(alloc, room)?;
         push_each(self, alloc, &mut built)?;
         if matches!(self, Made::RepeatAll) {
             push_each(self, alloc, &mut built)?;

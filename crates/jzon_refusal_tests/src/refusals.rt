@@ -51,44 +51,60 @@ fn expect_dump(rt: &impl Abort, alloc: Global, value: &JsonValue, text: &str) ->
     Ok(())
 }
 
+/// What a call is named, the compact text of its value after it, and the least number of its
+/// allocations.
+type Expected<'a> = (&'a str, &'a str, usize);
+
 /// One run of the call, on a copy of `before`, which has no room to spare. Whether an allocation
 /// failed: then the call returned `OutOfMemory`, and its value is as it was. Otherwise it succeeded,
-/// and its value dumps what the row says.
+/// and its value dumps what is expected.
 fn run<C: Call>(
     rt: &impl Abort,
     alloc: Global,
-    row: &Row<C>,
+    call: C,
+    expected: Expected<'_>,
     before: &JsonValue,
     refusals: &mut Refusals,
 ) -> std::result::Result<bool, Fail> {
     let mut value = before.clone(alloc)?;
     refusals.begin();
-    let outcome = row.0.call(&mut value, alloc);
+    let outcome = call.call(&mut value, alloc);
     let has_failed = refusals.has_failed();
     if has_failed {
-        expect(rt, row.1, matches!(outcome, Err(Error::OutOfMemory)));
+        expect(rt, expected.0, matches!(outcome, Err(Error::OutOfMemory)));
         let text = before.dump(alloc)?;
         expect_dump(rt, alloc, &value, text.as_str())?;
     } else {
-        expect(rt, row.1, outcome.is_ok());
-        expect_dump(rt, alloc, &value, row.3)?;
+        expect(rt, expected.0, outcome.is_ok());
+        expect_dump(rt, alloc, &value, expected.1)?;
     }
     Ok(has_failed)
 }
 
 /// Runs the call with its first allocation failing, then with its second, and so on, until a run
 /// has no failed allocation. Each run frees all that it allocates.
-fn fail_each<C: Call>(rt: &(impl Eprint + Abort), alloc: Global, row: &Row<C>) -> Tested {
-    let before = parse(alloc, row.2)?;
+fn fail_each_on<C: Call>(
+    rt: &(impl Eprint + Abort),
+    alloc: Global,
+    call: C,
+    expected: Expected<'_>,
+    before: &JsonValue,
+) -> Tested {
     let mut refusals = Refusals::new(alloc);
     for _ in 0..RUNS_MAX {
         refusals.open();
-        let has_failed = run(rt, alloc, row, &before, &mut refusals)?;
+        let has_failed = run(rt, alloc, call, expected, before, &mut refusals)?;
         refusals.close();
         if !has_failed {
             break;
         }
     }
-    refusals.report(rt, row.1, row.4)?;
+    refusals.report(rt, expected.0, expected.2)?;
     Ok(())
+}
+
+/// The same on the value of the row's text.
+fn fail_each<C: Call>(rt: &(impl Eprint + Abort), alloc: Global, row: &Row<C>) -> Tested {
+    let before = parse(alloc, row.2)?;
+    fail_each_on(rt, alloc, row.0, (row.1, row.3, row.4), &before)
 }

@@ -120,7 +120,7 @@ fn insert_each(call: Freed, alloc: Global, count: u32) -> Result<()> {
 
 /// Each key twice.
 fn builder(alloc: Global, count: u32) -> Result<Builder> {
-    let mut builder = Builder::new(alloc);
+    let mut builder = Builder::with_capacity(alloc, 0)?;
     for number in (0..count).chain(0..count) {
         let key = Key::new(alloc, long_text(alloc, number)?.as_str())?;
         builder.push(alloc, key, long_item(alloc)?)?;

@@ -138,7 +138,7 @@ fn make_empty(alloc: Global) {
         JsonValue::new_array(alloc),
     ));
     drop((DumpGenerator::new(alloc), PrettyGenerator::new(alloc, 2)));
-    drop(Builder::new(alloc));
+    drop(Builder::with_capacity(alloc, 0));
 }
 
 /// What is stored inline.

@@ -65,7 +65,7 @@ fn push(call: Grown, alloc: Global, builder: &mut Builder, key: &str) -> Result<
 
 /// By a builder, with each key twice if they are repeated.
 fn built(call: Grown, alloc: Global, keys: &[String]) -> Result<Object> {
-    let mut builder = Builder::new(alloc);
+    let mut builder = Builder::with_capacity(alloc, 0)?;
     for key in keys {
         push(call, alloc, &mut builder, key.as_str())?;
     }

@@ -2,7 +2,7 @@
 
 use super::*;
 use jzon::codegen::{Compact, DumpGenerator, Pretty, PrettyGenerator, write_json};
-use jzon_test_support::DOCUMENT;
+use jzon_test_support::{DOCUMENT, joined};
 use std::io;
 use std::io::ErrorKind;
 
@@ -116,56 +116,47 @@ const DOCUMENT_ON_ONE_LINE: &str = "\"{\\\"a\\\":[1,-50,\\\"xé\u{1d11e}\\\"],\\
 const DOCUMENT_ON_LINES: &str = "\"{\\n  \\\"a\\\": [\\n    1,\\n    -50,\\n    \
     \\\"xé\u{1d11e}\\\"\\n  ],\\n  \\\"b\\\": null\\n}\"";
 
+/// The calls that give their text room for 1,024 bytes at once, and the others.
 const WRITTEN: &[Row<Writing>] = &[
-    (Writing::Dump, "dump", DOCUMENT, DOCUMENT_ON_ONE_LINE, 2),
-    (Writing::Pretty, "pretty", DOCUMENT, DOCUMENT_ON_LINES, 2),
-    (
-        Writing::Dump,
-        "dump of a long string",
-        LISTED,
-        ON_ONE_LINE,
-        2,
-    ),
-    (
-        Writing::Pretty,
-        "pretty of a long string",
-        LISTED,
-        ON_LINES,
-        2,
-    ),
-    (Writing::ObjectDump, "Object::dump", LISTED, ON_ONE_LINE, 2),
-    (Writing::ObjectPretty, "Object::pretty", LISTED, ON_LINES, 2),
-    (Writing::LayOut, "lay_out", LISTED, ON_ONE_LINE, 2),
-    (
-        Writing::PrettyLayOut,
-        "lay_out on lines",
-        LISTED,
-        ON_LINES,
-        2,
-    ),
-    (
-        Writing::DumpGenerator,
-        "DumpGenerator",
-        LISTED,
-        ON_ONE_LINE,
-        2,
-    ),
-    (
-        Writing::PrettyGenerator,
-        "PrettyGenerator",
-        LISTED,
-        ON_LINES,
-        2,
-    ),
+    (Writing::Dump, "dump", DOCUMENT, DOCUMENT_ON_ONE_LINE, 1),
+    (Writing::Pretty, "pretty", DOCUMENT, DOCUMENT_ON_LINES, 1),
+    (Writing::ObjectDump, "Object::dump", LISTED, ON_ONE_LINE, 1),
+    (Writing::ObjectPretty, "Object::pretty", LISTED, ON_LINES, 1),
+    (Writing::LayOut, "lay_out", LISTED, ON_ONE_LINE, 1),
+    (Writing::PrettyLayOut, "lay_out 2", LISTED, ON_LINES, 1),
+    (Writing::DumpGenerator, "generator", LISTED, ON_ONE_LINE, 2),
+    (Writing::PrettyGenerator, "generator 2", LISTED, ON_LINES, 2),
     (Writing::Write, "write", LISTED, ON_ONE_LINE, 2),
     (Writing::WritePretty, "write_pretty", LISTED, ON_LINES, 2),
     (Writing::WriteLayout, "write_layout", LISTED, ON_LINES, 2),
+];
+
+/// The calls that give their text room at once, which a string of 2,000 bytes exceeds.
+const GROWING: &[(Writing, &str)] = &[
+    (Writing::Dump, "dump of 2,000 bytes"),
+    (Writing::ObjectDump, "Object::dump of 2,000 bytes"),
+    (Writing::LayOut, "lay_out of 2,000 bytes"),
 ];
 
 #[test]
 fn written_under_refusals(rt: HostRuntime) -> Tested {
     for row in WRITTEN {
         fail_each(&rt, rt.alloc(), row)?;
+    }
+    Ok(())
+}
+
+#[test]
+fn grown_texts_under_refusals(rt: HostRuntime) -> Tested {
+    let alloc = rt.alloc();
+    let source = joined(alloc, &[("{\"a\":\"", 1), ("x", 2_000), ("\"}", 1)])?;
+    let text = joined(
+        alloc,
+        &[("\"{\\\"a\\\":\\\"", 1), ("x", 2_000), ("\\\"}\"", 1)],
+    )?;
+    let before = parse(alloc, source.as_str())?;
+    for (call, name) in GROWING {
+        fail_each_on(&rt, alloc, *call, (name, text.as_str(), 2), &before)?;
     }
     Ok(())
 }
