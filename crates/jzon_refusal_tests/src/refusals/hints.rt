@@ -89,6 +89,90 @@ fn hints_counted(rt: HostRuntime) -> Tested {
     Ok(())
 }
 
+/// Reads an array or an object, and adds one element or entry.
+#[derive(Clone, Copy)]
+struct Extended(&'static str);
+
+impl Call for Extended {
+    fn call(self, value: &mut JsonValue, alloc: Global) -> Result<()> {
+        let mut read = parse(alloc, self.0)?;
+        if read.is_array() {
+            read.push(alloc, true)?;
+        } else {
+            read.insert(alloc, "d", true)?;
+        }
+        *value = read;
+        Ok(())
+    }
+}
+
+/// With unused room there would be fewer allocations: at the end of a container each of its vectors
+/// is moved to a block of its size, and grows for what is added.
+const EXTENDED: &[Row<Extended>] = &[
+    (
+        Extended("[1,2,3]"),
+        "push onto what was parsed",
+        "null",
+        "[1,2,3,true]",
+        3,
+    ),
+    (
+        Extended("{\"a\":1,\"b\":2,\"c\":3}"),
+        "insert into what was parsed",
+        "null",
+        "{\"a\":1,\"b\":2,\"c\":3,\"d\":true}",
+        7,
+    ),
+];
+
+#[test]
+fn extended_under_refusals(rt: HostRuntime) -> Tested {
+    for row in EXTENDED {
+        fail_each(&rt, rt.alloc(), row)?;
+    }
+    Ok(())
+}
+
+/// Five elements and five entries.
+const FIVE_ELEMENTS: &str = "[0,1,2,3,4]";
+
+const FIVE_ENTRIES: &str = "{\"a\":0,\"b\":1,\"c\":2,\"d\":3,\"e\":4}";
+
+/// Twice the 48 bytes of each value in a thousand such arrays, and of each key and each value in as
+/// many objects. Without hints each container would request three times its bytes.
+const MOST_OF_ALIKE_ARRAYS: usize = 2 * 48 * 5 * 1000;
+
+const MOST_OF_ALIKE_OBJECTS: usize = 2 * 96 * 5 * 1000;
+
+/// An array of a thousand such containers, and 1.
+fn alike(alloc: Global, container: &str) -> Result<String> {
+    let mut text = String::from_str(alloc, "[[")?;
+    for _ in 1..1000 {
+        text.push_str(container)?;
+        text.push(',')?;
+    }
+    text.push_str(container)?;
+    text.push_str("],1]")?;
+    Ok(text)
+}
+
+/// Containers that are as long as the ones before them get their room at once.
+#[test]
+fn alike_counted(rt: HostRuntime) -> Tested {
+    for (name, container, most) in [
+        ("parse of alike arrays", FIVE_ELEMENTS, MOST_OF_ALIKE_ARRAYS),
+        (
+            "parse of alike objects",
+            FIVE_ENTRIES,
+            MOST_OF_ALIKE_OBJECTS,
+        ),
+    ] {
+        let text = alike(rt.alloc(), container)?;
+        expect_parsed_within(&rt, rt.alloc(), name, text.as_str(), most)?;
+    }
+    Ok(())
+}
+
 /// Where no container of the same depth has ended, little is requested.
 #[test]
 fn first_room_counted(rt: HostRuntime) -> Tested {
