@@ -23,7 +23,7 @@ mod retain;
 pub mod runs;
 pub(crate) mod tags;
 
-use crate::fit::{fit, reserve_next};
+use crate::fit::reserve_next;
 use crate::key::Key;
 use hash::hash_of;
 pub use iter::Iter;
@@ -356,13 +356,6 @@ impl Keys {
         reserve_next(values)?;
         push_at(alloc, &mut self.keys, &mut self.index, spot, key)?;
         Ok(None)
-    }
-
-    /// Frees unused room of the keys. The error is a failed allocation.
-    pub fn fit(&mut self, alloc: Global) -> Result<(), AllocError>
-        ensures { self.new ≡ self.old }
-    {
-        fit(alloc, &mut self.keys)
     }
 
     /// Removes the key at a position. The others keep their order. Takes no memory.

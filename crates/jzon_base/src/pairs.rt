@@ -305,18 +305,6 @@ impl<V> Pairs<V> {
         self.insert_first(alloc, key, value)
     }
 
-    /// Frees unused room of keys and values. The error is a failed allocation.
-    fn fit(&mut self, alloc: Global) -> Result<(), AllocError>
-    where
-        V: Drop,
-        ensures { self.new ≡ self.old }
-    {
-        if let Some(entries) = &mut self.entries {
-            return entries.fit(alloc);
-        }
-        Ok(())
-    }
-
     /// The position of a key. Where the key is missing it is put last with `value`, and the error
     /// is a failed allocation.
     pub fn place(&mut self, alloc: Global, name: &str, value: V) -> Result<usize, AllocError>

@@ -133,9 +133,8 @@ fn expect_many(rt: &impl Abort, alloc: Global, keys: &Keys) -> Result<(), AllocE
 #[test]
 fn puts_many_keys(rt: HostRuntime) -> Result<(), AllocError> {
     for is_moved in [false, true] {
-        let mut keys = put_many(rt.alloc(), is_moved)?;
+        let keys = put_many(rt.alloc(), is_moved)?;
         expect_many(&rt, rt.alloc(), &keys)?;
-        keys.fit(rt.alloc())?;
         expect_many(&rt, rt.alloc(), &keys.clone(rt.alloc())?)?;
     }
     Ok(())

@@ -303,11 +303,7 @@ impl<V: Drop> Builder<V> {
     {
         match self.state {
             State::Gathered(gathered) => gathered.finish(alloc),
-            State::Put(put) => {
-                let mut pairs = put.pairs;
-                pairs.fit(alloc)?;
-                Ok(pairs)
-            }
+            State::Put(put) => Ok(put.pairs),
         }
     }
 }

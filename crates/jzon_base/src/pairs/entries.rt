@@ -5,7 +5,6 @@ ghost use Rattle.std.specs.List.{position, zip, IsDistinct};
 ghost use Rattle.std.specs.Map.Calls.{CalledAtPair, CallableOnEachPair, RetainsPairs, TakesPair};
 ghost use Rattle.std.specs.Str.{bytes_eq};
 
-use crate::fit::fit;
 use crate::key::Key;
 use crate::keys::Keys;
 use std::alloc::{AllocError, Global};
@@ -163,16 +162,6 @@ impl<V> Entries<V> {
                 Ok(index)
             }
         }
-    }
-
-    /// Frees unused room of keys and values. The error is a failed allocation.
-    pub fn fit(&mut self, alloc: Global) -> Result<(), AllocError>
-    where
-        V: Drop,
-        ensures { self.new ≡ self.old }
-    {
-        self.keys.fit(alloc)?;
-        fit(alloc, &mut self.values)
     }
 
     /// Removes the entry at a position. The others keep their order. Takes no memory.
