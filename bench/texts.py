@@ -92,6 +92,7 @@ def elements(random_, name):
         "strings": lambda number: json.dumps(phrase(random_, 3, 60)),
         "escapes": lambda number: json.dumps(escaped(random_)),
         "records": lambda number: json.dumps(record(random_, number)),
+        "record": lambda number: json.dumps(record(random_, number)),
         "indented": lambda number: json.dumps(record(random_, number), indent=4),
         "messages": lambda number: json.dumps(message(random_, number)),
         "deep": lambda number: "[" * 100 + "1" + "]" * 100,
