@@ -50,7 +50,7 @@ fn messages(rt: HostRuntime) -> std::result::Result<(), Fail> {
 /// The word of `WrongType` may be any.
 #[test]
 fn keeps_a_long_word(rt: HostRuntime) -> std::result::Result<(), Fail> {
-    let word = joined(rt.alloc(), &[("Number or null", 1000)])?;
+    let word = joined(rt.alloc(), &[("Number or null", 10_000)])?;
     let error = Error::wrong_type(rt.alloc(), word.as_str())?;
     match error {
         Error::WrongType(words) => expect(&rt, "the word", words.as_str() == word.as_str()),

@@ -2,7 +2,7 @@
 
 use crate::common::{expect, expect_eq};
 use jzon_base::util::{print_dec, write_bytes};
-use jzon_test_support::{NO_FAILING_CALL, SlowWriter, Trouble};
+use jzon_test_support::{NO_FAILING_CALL, SlowWriter, Trouble, joined};
 use std::io::ErrorKind;
 use std::test::Fail;
 
@@ -44,7 +44,8 @@ fn returns_each_error(rt: HostRuntime) -> Result<(), Fail> {
 
 #[test]
 fn writes_all_bytes(rt: HostRuntime) -> Result<(), Fail> {
-    for text in ["", "a", "\0\u{1F984}", "a longer text\n"] {
+    let long = joined(rt.alloc(), &[("a longer text\n", 10_000)])?;
+    for text in ["", "a", "\0\u{1F984}", "a longer text\n", long.as_str()] {
         let mut writer = SlowWriter::new(rt.alloc(), NO_FAILING_CALL, Trouble::TakesNothing);
         write_bytes(&mut writer, text.as_bytes())?;
         expect(&rt, text, writer.bytes.as_slice() == text.as_bytes());
