@@ -114,6 +114,10 @@ fn long_strings(rt: HostRuntime) -> Tested {
         expect_whole(&rt, alloc, &string.into_json(alloc)?, text, string)?;
         let owned = String::from_str(alloc, string)?;
         expect_whole(&rt, alloc, &owned.into_json(alloc)?, text, string)?;
+        let printed = stringify(alloc, string)?;
+        expect(&rt, "stringify", printed.as_str() == text.as_str());
+        let printed = stringify_pretty(alloc, string, 2)?;
+        expect(&rt, "stringify_pretty", printed.as_str() == text.as_str());
         let mut value = parse(alloc, text)?;
         let taken = value.take_string(alloc)?;
         let taken = taken.unwrap_or(String::new(alloc));

@@ -60,6 +60,7 @@ impl How {
 /// The writer holds the first bytes of the text, and this was its last call.
 fn expect_prefix(rt: &impl Abort, writer: &SlowWriter, text: &str, call: usize) {
     expect_eq(rt, "the calls", writer.calls, call);
+    expect_eq(rt, "the flushes", writer.flushes, 0);
     expect_eq(rt, "the bytes", writer.bytes.len(), call.saturating_sub(1));
     expect(rt, "a prefix", text.as_bytes().starts_with(&writer.bytes));
 }
@@ -113,6 +114,7 @@ fn writes_the_whole_text(rt: HostRuntime) -> Tested {
             "the text",
             writer.bytes.as_slice() == how.text().as_bytes(),
         );
+        expect_eq(&rt, "the flushes", writer.flushes, 0);
     }
     Ok(())
 }
