@@ -87,6 +87,44 @@ fn evaluates_keys_once(rt: HostRuntime) -> std::result::Result<(), Fail> {
     Ok(())
 }
 
+/// The allocator, and one call more.
+fn counted_alloc(calls: &mut usize, alloc: Global) -> Global {
+    *calls = calls.saturating_add(1);
+    alloc
+}
+
+/// Each form of each macro, with an allocator that is counted.
+fn with_counted_allocs(alloc: Global, calls: &mut usize) -> std::result::Result<JsonValue, Fail> {
+    let mut values = JsonValue::new_array(alloc);
+    values.push(
+        alloc,
+        jzon::array![counted_alloc(calls, alloc); 1, -2, [3], {a: 4}],
+    )?;
+    values.push(
+        alloc,
+        jzon::object! {counted_alloc(calls, alloc); a: 1, "b" => -2, c: [3], d: {}},
+    )?;
+    values.push(alloc, jzon::value!(counted_alloc(calls, alloc); [1, -2]))?;
+    values.push(
+        alloc,
+        jzon::value!(counted_alloc(calls, alloc); {a: 1, "b" => -2}),
+    )?;
+    values.push(alloc, jzon::value!(counted_alloc(calls, alloc); -5))?;
+    Ok(values)
+}
+
+/// The allocator is evaluated once too, and the error may be another one that is `From<Error>`.
+#[test]
+fn evaluates_allocators_once(rt: HostRuntime) -> std::result::Result<(), Fail> {
+    let mut calls = 0;
+    let values = with_counted_allocs(rt.alloc(), &mut calls)?;
+    let text =
+        "[[1,-2,[3],{\"a\":4}],{\"a\":1,\"b\":-2,\"c\":[3],\"d\":{}},[1,-2],{\"a\":1,\"b\":-2},-5]";
+    expect_dump(&rt, rt.alloc(), &values, text)?;
+    expect(&rt, "the calls", calls == 5);
+    Ok(())
+}
+
 /// The number of the call, counted from 1.
 fn next(calls: &mut u8) -> u8 {
     *calls = calls.saturating_add(1);
