@@ -12,14 +12,27 @@ use std::alloc::Global;
 use std::io;
 use std::process::Abort;
 
-/// Counts the bytes passed to a compact generator, not those that go to its writer directly.
+/// Counts the bytes passed to a generator, not those that go to its writer directly, and the calls
+/// of `write_char`.
 #[derive(Drop)]
 pub struct Counting<G: Generator> {
-    pub inner: G,
-    pub count: usize,
+    inner: G,
+    count: usize,
+    chars: usize,
 }
 
 impl<G: Generator> Counting<G> {
+    /// One that has counted nothing.
+    pub fn new(inner: G) -> Counting<G>
+        ensures { result.inner ≡ inner }
+    {
+        Counting {
+            inner,
+            count: 0,
+            chars: 0,
+        }
+    }
+
     fn add(&mut self, count: usize)
         ensures { self.new ≡ record self.old { count = self.new.count } }
     {
@@ -45,6 +58,7 @@ impl<G: Generator> Generator for Counting<G> {
 
     fn write_char(&mut self, ch: u8) -> io::Result<()> {
         self.add(1);
+        self.chars = self.chars.saturating_add(1);
         self.inner.write_char(ch)
     }
 
@@ -84,10 +98,7 @@ impl<G: Generator> Generator for Counting<G> {
 
 /// The value has this text, each byte of which is counted.
 fn expect_counted(rt: &impl Abort, alloc: Global, value: &JsonValue, text: &str) -> Tested {
-    let mut generator = Counting {
-        inner: DumpGenerator::new(alloc),
-        count: 0,
-    };
+    let mut generator = Counting::new(DumpGenerator::new(alloc));
     write_json(&mut generator, value)?;
     expect_bytes(rt, generator.get_writer(), text);
     expect_eq(rt, text, generator.count, text.len());
@@ -125,10 +136,14 @@ fn counts_a_long_string(rt: HostRuntime) -> Tested {
     expect_counted(&rt, alloc, &JsonValue::String(string), text.as_str())
 }
 
+/// Each comma and each bracket is a call of `write_char`.
 #[test]
 fn counts_containers(rt: HostRuntime) -> Tested {
     let array = numbers(rt.alloc(), &[1, 20])?;
     expect_counted(&rt, rt.alloc(), &array, "[1,20]")?;
+    let mut generator = Counting::new(DumpGenerator::new(rt.alloc()));
+    write_json(&mut generator, &array)?;
+    expect_eq(&rt, "write_char", generator.chars, 3);
     let object = empty_containers(rt.alloc())?;
     expect_counted(&rt, rt.alloc(), &object, "{\"a\":[],\"b\":{}}")
 }

@@ -5,14 +5,15 @@ ghost use Rattle.std.specs.Prelude.{None, refl};
 ghost use Rattle.jzon_tree.specs.StyleLaws.{IsStyle-compact};
 ghost use Rattle.jzon_tree.specs.Styles.{compact_style};
 
-use crate::common::{Tested, expect, expect_bytes, expect_eq};
+use crate::common::{Tested, expect, expect_bytes, expect_eq, numbers};
 use crate::counting::Counting;
 use crate::hooks::{Hook, ROWS, Row, call};
 use jzon_test_support::{RUNS_MAX, Refusals, SlowWriter, Trouble};
 use jzon_tree::codegen::{
-    DumpGenerator, Generator, PrettyGenerator, PrettyWriterGenerator, WriterGenerator,
+    DumpGenerator, Generator, PrettyGenerator, PrettyWriterGenerator, WriterGenerator, write_json,
 };
 use jzon_tree::object::Object;
+use jzon_tree::value::JsonValue;
 use std::alloc::Global;
 use std::io;
 use std::io::{ErrorKind, Write};
@@ -104,7 +105,7 @@ impl Over {
             Over::Pretty => error_of(rt, alloc, &mut PrettyWriterGenerator::new(writer, 1), row),
             Over::Counting => {
                 let inner = WriterGenerator::new(writer);
-                error_of(rt, alloc, &mut Counting { inner, count: 0 }, row)
+                error_of(rt, alloc, &mut Counting::new(inner), row)
             }
             Over::Plain => {
                 let mut plain = Plain {
@@ -179,6 +180,33 @@ fn hooks_over_a_failing_writer(rt: HostRuntime) -> Tested {
                 expect_failures(&rt, rt.alloc(), over, row, trouble)?;
             }
         }
+    }
+    Ok(())
+}
+
+const ON_LINES: &str = "{\n  \"a\": [\n    1,\n    20\n  ],\n  \"b\\n\": null\n}";
+
+fn on_lines(alloc: Global) -> jzon_base::error::Result<JsonValue> {
+    let mut object = JsonValue::new_object(alloc);
+    object.insert(alloc, "a", numbers(alloc, &[1, 20])?)?;
+    object.insert(alloc, "b\n", JsonValue::Null)?;
+    Ok(object)
+}
+
+/// Over a user's own generator `write_json` returns the writer's own error too, whichever hook
+/// fails.
+#[test]
+fn write_json_over_a_failing_writer(rt: HostRuntime) -> Tested {
+    let value = on_lines(rt.alloc())?;
+    let trouble = Trouble::Fails(ErrorKind::BrokenPipe);
+    for call in 1..=ON_LINES.len() {
+        let mut writer = SlowWriter::new(rt.alloc(), call, trouble);
+        let inner = PrettyWriterGenerator::new(&mut writer, 2);
+        match write_json(&mut Counting::new(inner), &value) {
+            Ok(()) => expect(&rt, "no error", false),
+            Err(error) => expect(&rt, "the error", trouble.is_returned(rt.alloc(), &error)?),
+        }
+        expect_bytes(&rt, &writer.bytes, ON_LINES.get(..call - 1).unwrap_or(""));
     }
     Ok(())
 }
