@@ -60,9 +60,9 @@ impl fmt::Write for Sink {
 
 #[derive(Clone, Copy)]
 enum Frugal {
-    Insert,
-    AtMut,
-    WriteAt,
+    Insert(&'static str),
+    AtMut(&'static str),
+    WriteAt(&'static str),
     WritePresent,
     GetMut,
     Remove,
@@ -77,13 +77,14 @@ enum Frugal {
     Write,
     Display,
     IntoJson,
-    ObjectInsert,
-    ObjectAtMut,
+    ObjectInsert(&'static str),
+    ObjectAtMut(&'static str),
     OverrideLast,
     Retain,
     IntoIter,
     New,
     Inline,
+    Parse,
 }
 
 /// Calls that read it, from both ends.
@@ -151,11 +152,28 @@ fn make_inline(alloc: Global) -> Result<()> {
     Ok(())
 }
 
+/// Texts without strings and containers, read or rejected.
+fn parse_primitives(alloc: Global) -> Result<()> {
+    for text in [
+        "null",
+        " true ",
+        "-12.50e3",
+        "1e99999",
+        "18446744073709551616",
+    ] {
+        parse(alloc, text)?;
+    }
+    for text in ["", "nul", "01", "-x", "1 2"] {
+        of_truth(parse(alloc, text).is_err())?;
+    }
+    Ok(())
+}
+
 impl Frugal {
     fn change(self, object: &mut Object, alloc: Global) -> Result<()> {
         match self {
-            Frugal::ObjectInsert => object.insert(alloc, "69999", JsonValue::Null)?,
-            Frugal::ObjectAtMut => *object.at_mut(alloc, "69999")? = JsonValue::Null,
+            Frugal::ObjectInsert(key) => object.insert(alloc, key, JsonValue::Null)?,
+            Frugal::ObjectAtMut(key) => *object.at_mut(alloc, key)? = JsonValue::Null,
             Frugal::OverrideLast => object.override_last(JsonValue::Null),
             Frugal::Retain => object.retain(|key, _value| key.ends_with("9")),
             _ => {}
@@ -179,6 +197,7 @@ impl Frugal {
             Frugal::IntoIter => half_read(value.take()),
             Frugal::New => make_empty(alloc),
             Frugal::Inline => return make_inline(alloc),
+            Frugal::Parse => return parse_primitives(alloc),
             _ => {
                 if let JsonValue::Object(object) = value {
                     return self.change(object, alloc);
@@ -192,9 +211,9 @@ impl Frugal {
 impl Call for Frugal {
     fn call(self, value: &mut JsonValue, alloc: Global) -> Result<()> {
         match self {
-            Frugal::Insert => value.insert(alloc, "69999", "short")?,
-            Frugal::AtMut => *value.at_mut(alloc, LONG_KEY)? = JsonValue::Null,
-            Frugal::WriteAt => write_at(value, alloc, "1", JsonValue::Null)?,
+            Frugal::Insert(key) => value.insert(alloc, key, "short")?,
+            Frugal::AtMut(key) => *value.at_mut(alloc, key)? = JsonValue::Null,
+            Frugal::WriteAt(key) => write_at(value, alloc, key, JsonValue::Null)?,
             Frugal::WritePresent => return of_truth(write_present(value, "1", JsonValue::Null)),
             Frugal::GetMut => return of_truth(value.get_mut("1").is_some()),
             Frugal::Remove => drop(value.remove("1")),
@@ -210,14 +229,31 @@ impl Call for Frugal {
 
 /// The calls on an object.
 const OF_OBJECT: &[(Frugal, &str)] = &[
-    (Frugal::Insert, "insert of a present key"),
-    (Frugal::AtMut, "at_mut of a present key"),
-    (Frugal::WriteAt, "write_at of a present key"),
+    (Frugal::Insert("69999"), "insert of a present key"),
+    (Frugal::Insert(LONG_KEY), "insert of a present long key"),
+    (Frugal::AtMut("69999"), "at_mut of a present key"),
+    (Frugal::AtMut(LONG_KEY), "at_mut of a present long key"),
+    (Frugal::WriteAt("1"), "write_at of a present key"),
+    (Frugal::WriteAt(LONG_KEY), "write_at of a present long key"),
     (Frugal::WritePresent, "write_present"),
     (Frugal::GetMut, "get_mut"),
     (Frugal::Remove, "remove"),
-    (Frugal::ObjectInsert, "Object::insert of a present key"),
-    (Frugal::ObjectAtMut, "Object::at_mut of a present key"),
+    (
+        Frugal::ObjectInsert("69999"),
+        "Object::insert of a present key",
+    ),
+    (
+        Frugal::ObjectInsert(LONG_KEY),
+        "Object::insert of a present long key",
+    ),
+    (
+        Frugal::ObjectAtMut("69999"),
+        "Object::at_mut of a present key",
+    ),
+    (
+        Frugal::ObjectAtMut(LONG_KEY),
+        "Object::at_mut of a present long key",
+    ),
     (Frugal::OverrideLast, "Object::override_last"),
     (Frugal::Retain, "Object::retain"),
     (Frugal::IntoIter, "into_iter"),
@@ -230,6 +266,7 @@ const OF_OBJECT: &[(Frugal, &str)] = &[
     (Frugal::IntoJson, "into_json of an object"),
     (Frugal::New, "what makes something empty"),
     (Frugal::Inline, "what is stored inline"),
+    (Frugal::Parse, "parse of primitives"),
 ];
 
 /// The calls on an array.

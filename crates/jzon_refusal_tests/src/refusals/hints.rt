@@ -2,6 +2,7 @@
 //! length serves one container, and not each that opens until another ends.
 
 use super::*;
+use jzon::object::Object;
 use jzon_test_support::{joined, keys_by_hash, object_text};
 
 /// The length of the large container.
@@ -197,4 +198,17 @@ fn repeated_keys_counted(rt: HostRuntime) -> Tested {
     let text = joined(alloc, &parts)?;
     let name = "parse of a repeated key";
     expect_parsed_within(&rt, alloc, name, text.as_str(), MOST_OF_GATHERED)
+}
+
+/// `from_pairs` makes room for few pairs, even if its iterator expects many.
+#[test]
+fn repeated_pairs_counted(rt: HostRuntime) -> Tested {
+    let alloc = rt.alloc();
+    let mut refusals = Refusals::new(alloc);
+    refusals.open();
+    let pairs = (0..100000u32).map(|number| ("a", number));
+    let object = Object::from_pairs(alloc, pairs)?;
+    refusals.expect_within(&rt, "from_pairs of a repeated key", MOST_OF_GATHERED)?;
+    expect(&rt, "the length", object.len() == 1);
+    Ok(())
 }

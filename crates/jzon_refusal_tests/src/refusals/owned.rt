@@ -30,6 +30,7 @@ enum Owned {
     ClearArray,
     Retain,
     Repeated,
+    Emptied,
     Rejected(&'static str),
 }
 
@@ -126,6 +127,15 @@ fn repeated(alloc: Global) -> Result<JsonValue> {
     parse(alloc, joined(alloc, &entries)?.as_str())
 }
 
+/// Containers in an object that keep their room when they are emptied.
+fn emptied(alloc: Global) -> Result<JsonValue> {
+    let mut object = parse(alloc, "{\"a\":[1],\"b\":{\"c\":1},\"d\":[{\"e\":[[1]]}]}")?;
+    for (_, value) in object.entries_mut() {
+        value.clear();
+    }
+    Ok(object)
+}
+
 fn rejected(alloc: Global, text: &str) -> Result<()> {
     parse(alloc, text)?;
     Ok(())
@@ -172,6 +182,7 @@ impl Call for Owned {
             }
             Owned::Retain => retained(value, alloc)?,
             Owned::Repeated => *value = repeated(alloc)?,
+            Owned::Emptied => *value = emptied(alloc)?,
             Owned::Rejected(text) => passed_over(rejected(alloc, text))?,
         }
         Ok(())
@@ -326,6 +337,13 @@ const OWNED: &[Row<Owned>] = &[
         "null",
         "{\"a\":0,\"0123456789abcdef0123456789abcdef01234567\":\"abcdefghijklmnopqrstuvwxyz01234\"}",
         20,
+    ),
+    (
+        Owned::Emptied,
+        "clear of containers in an object",
+        "null",
+        "{\"a\":[],\"b\":{},\"d\":[]}",
+        10,
     ),
     (
         Owned::Rejected(IN_ARRAY),
