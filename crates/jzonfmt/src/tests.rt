@@ -373,6 +373,8 @@ fn a_reader_fails_at_each_call(rt: HostRuntime) -> Result<(), Fail> {
     let mut reader = FailingReader::new(TEXT, NO_FAILING_CALL, Trouble::TakesNothing);
     let mut writer: Vec<u8> = Vec::new(alloc);
     assert!(rt; engine::run(alloc, &mut reader, &mut writer, &usual(), Layout::Compact).is_ok());
+    // The end is found once.
+    assert_eq!(rt; reader.calls, TEXT.len() + 1);
     assert_eq!(rt; writer.as_slice(), PRINTED);
     Ok(())
 }
