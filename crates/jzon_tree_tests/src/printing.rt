@@ -145,23 +145,18 @@ fn writes_the_rest_escaped_to_a_writer(rt: HostRuntime) -> Tested {
     Ok(())
 }
 
-/// The length of a string, the room for it, and whether it is added.
-const ADDED: &[(usize, usize, bool)] = &[
-    (0, 33, false),
-    (0, 34, true),
-    (32, 33, false),
-    (32, 34, true),
-    (33, 100, false),
-];
-
 /// Strings of up to 32 bytes are added at once where there is room for 34.
 #[test]
 fn adds_short_strings_where_there_is_room(rt: HostRuntime) -> Tested {
-    for (len, room, is_added) in ADDED {
-        let mut bytes = Vec::with_capacity(rt.alloc(), *room)?;
-        let string = [b'a'; 33].get(..*len).unwrap_or(b"");
-        expect_eq(&rt, "added", push_short(&mut bytes, string), *is_added);
-        expect_eq(&rt, "the bytes", bytes.is_empty(), !*is_added);
+    let text = [b'a'; 40];
+    for len in 0..40usize {
+        for room in [33, 34, 100] {
+            let mut bytes = Vec::with_capacity(rt.alloc(), room)?;
+            let string = text.get(..len).unwrap_or(b"");
+            let is_added = push_short(&mut bytes, string);
+            expect_eq(&rt, "added", is_added, len <= 32 && room >= 34);
+            expect_eq(&rt, "the bytes", bytes.is_empty(), !is_added);
+        }
     }
     let mut bytes = Vec::with_capacity(rt.alloc(), 100)?;
     expect(&rt, "ab", push_short(&mut bytes, b"ab"));
