@@ -98,7 +98,7 @@ fn keys_in_order<'a>(
 mod tests {
     use super::*;
     use jzon::codegen::{Generator, TextGenerator, write_json};
-    use jzon_test_support::{RUNS_MAX, Refusals};
+    use jzon_test_support::{RUNS_MAX, Refusals, keys_by_hash, object_text};
     use std::test::Fail;
 
     /// The text of what the source means, and its dump.
@@ -124,6 +124,22 @@ mod tests {
             assert_eq!(rt; text.as_str(), sorted);
             assert_eq!(rt; dumped.as_str(), source);
         }
+        Ok(())
+    }
+
+    /// An object with more entries than 16 bits can count.
+    #[test]
+    fn sorts_many(rt: HostRuntime) -> std::result::Result<(), Fail> {
+        let alloc = rt.alloc();
+        let mut keys = keys_by_hash(alloc, 70000)?;
+        let text = object_text(alloc, keys.as_slice())?;
+        let value = jzon::parse(alloc, text.as_str())?;
+        keys.sort()?;
+        let sorted = object_text(alloc, keys.as_slice())?;
+        assert!(rt; canonical(alloc, &value)?.as_str() == sorted.as_str());
+        let mut bytes: Vec<u8> = Vec::new(alloc);
+        value.write_layout(&mut bytes, Sorted { alloc })?;
+        assert!(rt; bytes.as_slice() == sorted.as_bytes());
         Ok(())
     }
 
