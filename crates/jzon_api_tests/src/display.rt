@@ -3,7 +3,7 @@
 use crate::common::{expect, expect_eq};
 use jzon::number::NAN;
 use jzon::{JsonValue, parse};
-use jzon_test_support::NO_FAILING_CALL;
+use jzon_test_support::{NO_FAILING_CALL, joined};
 use std::alloc::Global;
 use std::fmt;
 use std::fmt::Write;
@@ -82,17 +82,19 @@ fn show_failing(alloc: Global, value: &JsonValue, fails_at: usize) -> (bool, Fai
     (is_shown, formatter)
 }
 
-/// The formatter fails at each call in turn: there is an error, a prefix was shown, and nothing is
-/// shown after it.
-fn expect_failures(rt: &impl Abort, alloc: Global, value: &JsonValue, whole: &str) {
+/// The formatter fails at this call: there is an error, a prefix was shown, and nothing is shown
+/// after it.
+fn expect_failure(rt: &impl Abort, alloc: Global, value: &JsonValue, whole: &str, call: usize) {
+    let (is_shown, formatter) = show_failing(alloc, value, call);
+    expect(rt, whole, !is_shown && formatter.calls == call);
+    expect(rt, whole, whole.starts_with(formatter.text.as_str()));
+}
+
+/// The value is shown whole by this many calls of the formatter.
+fn calls_of(rt: &impl Abort, alloc: Global, value: &JsonValue, whole: &str) -> usize {
     let (is_shown, formatter) = show_failing(alloc, value, NO_FAILING_CALL);
-    expect(rt, whole, is_shown);
-    expect_eq(rt, "the whole", formatter.text.as_str(), whole);
-    for call in 1..=formatter.calls {
-        let (is_shown, formatter) = show_failing(alloc, value, call);
-        expect(rt, whole, !is_shown && formatter.calls == call);
-        expect(rt, whole, whole.starts_with(formatter.text.as_str()));
-    }
+    expect(rt, whole, is_shown && formatter.text.as_str() == whole);
+    formatter.calls
 }
 
 /// A text, and what is shown of its value.
@@ -108,8 +110,33 @@ const STOPPED: &[(&str, &str)] = &[
 
 #[test]
 fn stops_where_the_formatter_fails(rt: HostRuntime) -> Result<(), Fail> {
+    let alloc = rt.alloc();
     for (source, whole) in STOPPED {
-        expect_failures(&rt, rt.alloc(), &parse(rt.alloc(), source)?, whole);
+        let value = parse(alloc, source)?;
+        for call in 1..=calls_of(&rt, alloc, &value, whole) {
+            expect_failure(&rt, alloc, &value, whole, call);
+        }
+    }
+    Ok(())
+}
+
+/// The parts of compact texts: many elements, and many escapes.
+const LARGE: [[(&str, usize); 3]; 2] = [
+    [("[0", 1), (",0", 70000), ("]", 1)],
+    [("[\"", 1), ("a\\n", 70000), ("\"]", 1)],
+];
+
+/// The formatter fails at its last calls.
+#[test]
+fn stops_late_where_the_formatter_fails(rt: HostRuntime) -> Result<(), Fail> {
+    let alloc = rt.alloc();
+    for parts in LARGE {
+        let whole = joined(alloc, &parts)?;
+        let value = parse(alloc, whole.as_str())?;
+        let calls = calls_of(&rt, alloc, &value, whole.as_str());
+        for call in [calls.saturating_sub(1), calls] {
+            expect_failure(&rt, alloc, &value, whole.as_str(), call);
+        }
     }
     Ok(())
 }
