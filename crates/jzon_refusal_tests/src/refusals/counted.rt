@@ -12,9 +12,10 @@ use std::collections::{BTreeMap, HashMap};
 /// Few, more than are compared one by one, and more than 16 bits count.
 const COUNTS: [u32; 3] = [3, 300, 70_000];
 
-/// The most bytes that each run requests: so many for each entry, and some more.
+/// The most bytes that a call requests for each element or entry.
 const MOST_OF_ENTRY: usize = 4096;
 
+/// The most bytes that it requests besides.
 const MOST_OF_NONE: usize = 65536;
 
 /// A text of more than 32 bytes with this number.
