@@ -1,4 +1,4 @@
-"""What both benches share: texts made in another process, runs of a program with their processor time and peak memory, and the Rust crate's side."""
+"""What both benches share: texts that another process makes, runs of a program with their processor time and peak memory, and the build of the Rust crate's side."""
 import os
 import resource
 import subprocess

@@ -1,6 +1,7 @@
 #!/usr/bin/env python3
-"""Makes the texts that are measured: `texts.py FOLDER BYTES NAME..` writes FOLDER/NAME.json of about BYTES bytes each, and for the names of hard keys
-`KIND-COUNT` an object of COUNT members, for `KIND-COUNT-list` an array of its keys. The same arguments make the same texts. It runs in a process of its own, so that the measuring one stays small."""
+"""Makes the texts that are measured. `texts.py FOLDER BYTES NAME..` writes a file FOLDER/NAME.json of about BYTES bytes for each name. The names of hard keys are
+`KIND-COUNT`, for an object of COUNT members, and `KIND-COUNT-list`, for an array of the keys of these members; BYTES doesn't matter for them. The same arguments
+make the same texts. The benches run this script in a process of its own, so that their own process stays small."""
 import json
 import os
 import random
