@@ -3,7 +3,7 @@ use Rattle.std.proofs.Common.{◌≡◌, ◌≢◌, ℕ, zero, suc, ◌+◌, ◌
 use Rattle.std.proofs.Common.{List, Result, Ok, Err, IfOk, IfErr}
 use Rattle.std.proofs.Common.{[], ◌∷◌, ◌++◌, length, get_or, map, filter, set, take, drop, refl}
 use Rattle.std.proofs.Common.{sym, ap, ◌∙◌}
-use Rattle.std.proofs.Common.{subst, inl, inr, arith, add-zero, zero-add}
+use Rattle.std.proofs.Common.{subst, inl, inr, arith, add-zero, zero-add, cond, ltb}
 use Rattle.std.proofs.lemmas.List.{get_or_default, get_or_append_left, get_or_push, get_or-map, length_push, take-append-drop}
 use Rattle.std.proofs.lemmas.List.Folds.{list_any_at, list_any_none, list_any-append}
 use Rattle.std.proofs.lemmas.List.Edits.{length-insert, get_or-insert_below, get_or-insert_at, get_or-insert_above}
@@ -15,7 +15,7 @@ use Rattle.std.proofs.lemmas.List.Kept.{IsSortedBy-filter}
 use Rattle.std.proofs.lemmas.List.Sorted.{IsPermutation-map, IsPermutation-push_more, IsPermutation-refl}
 use Rattle.std.proofs.lemmas.List.Sorted.{IsPermutation-trans, IsPermutation-insert, IsPermutation-cons}
 use Rattle.std.proofs.lemmas.List.Sorted.{IsPermutation-sym, IsPermutation-to_front, IsPermutation-append_right}
-use Rattle.std.proofs.lemmas.List.Sorted.{ranks_by}
+use Rattle.std.proofs.lemmas.List.Sorted.{ranks_by, IsNonDecreasingBy-from_sort}
 use Rattle.std.proofs.lemmas.List.Concat.{flat_map-append}
 use Rattle.std.proofs.lemmas.List.Sorted.{list_any-IsPermutation, All-permutation, searchable_from_sorted}
 use Rattle.std.proofs.lemmas.Bool.{cases_Bool, cases_lt, false≢true, eq-eqb, eqb-false, not-true}
@@ -27,12 +27,12 @@ use Rattle.std.proofs.Math.Seq.{take-append_seam, drop-append_seam}
 use Rattle.std.specs.Cmp.{IsTotalOrder, IsStrictWeakOrder}
 use Rattle.std.specs.Cmp.Lexicographic.{slice_cmp}
 use Rattle.std.specs.List.{All, Contains, insert, position, remove, IsDistinct, list_any}
-use Rattle.std.specs.List.Sorted.{IsBinarySearchResult, IsNonDecreasingBy, IsPermutation, IsSorted, IsSortedBy}
+use Rattle.std.specs.List.Sorted.{IsBinarySearchResult, IsNonDecreasingBy, IsPartitionPoint, IsPermutation, IsSorted, IsSortedBy}
 use Rattle.std.specs.Ordering.{nat_cmp, ordering_then, ordering_index, ordering_reverse, is_eq, is_lt}
 use Rattle.std.specs.Result.{result_ok}
 use Rattle.std.specs.Str.{bytes_eq}
 use Rattle.std.specs.declared.cmp.Ordering.{Ordering}
-use Rattle.std.specs.declared.cmp.Ordering.TheVariants.{Equal}
+use Rattle.std.specs.declared.cmp.Ordering.TheVariants.{Less, Equal, Greater}
 use Rattle.jzon_base.specs.Private.Handed.{numbered, entries_of, AreHanded, AreSorted, IsBegun, IsIndexOf, IsPlace}
 use Rattle.jzon_base.specs.Private.Handed.{IsSpot}
 use Rattle.jzon_base.specs.Private.Keys.{beside, entry_cmp, lowered}
@@ -64,6 +64,20 @@ moved ks ls p q u v e f = λ i. is_lt (name_cmp (e i) (f i))
 
 -- ---- a search in one run
 
+-- the order of entries is one of hashes
+first_decides : (o u : Ordering) → is_lt (ordering_then o u) ≡ false → is_lt o ≡ false
+first_decides Less u h = h
+first_decides Equal u h = refl
+first_decides Greater u h = refl
+
+pub hashes_rise : (ks : List (List ℕ)) (r : List (ℕ × ℕ)) → IsSorted (entry_cmp ks) r → IsNonDecreasingBy (λ p. p.0) r
+hashes_rise ks r up = IsNonDecreasingBy-from_sort (λ (p : ℕ × ℕ). p.0) r (λ k d low l. first_decides _ _ (up k d low l))
+
+is_top : (o : Ordering) → ordering_index Greater ≤ ordering_index o → o ≡ Greater
+is_top Less l = absurd (omega arith)
+is_top Equal l = absurd (omega arith)
+is_top Greater l = refl
+
 module _ (ks : List (List ℕ)) (h : ℕ) (name : List ℕ) where
   abbrev pub is_it : ℕ × ℕ → Bool
   is_it p = is_eq (beside ks h name p)
@@ -75,6 +89,21 @@ module _ (ks : List (List ℕ)) (h : ℕ) (name : List ℕ) where
   pub placed : (r : List (ℕ × ℕ)) (at : ℕ) → IsSorted (entry_cmp ks) r → at ≤ length r
       → IsBinarySearchResult (beside ks h name) r (Err at) → IsPlace ks h name r at
   placed r at up bound found = record { within = bound; point = found (rises r up) }
+
+  -- entries of lesser hashes come before that one, and if there is one there, its text is greater or its hash
+  pub placed_first : (r : List (ℕ × ℕ)) (at : ℕ) → IsSorted (entry_cmp ks) r → at ≤ length r
+      → IsPartitionPoint (λ p. ltb p.0 h ≡ true) (λ p. ltb p.0 h ≡ false) r at
+      → (at < length r → (d : ℕ × ℕ) → beside ks h name (get_or r at d) ≡ Greater) → IsPlace ks h name r at
+  placed_first r at up bound parted above = record {
+    within = bound;
+    point = (
+      λ j d ge lt. (λ i. ordering_then (cond (parted.0 j d ge lt i) Less (cond (eqb (get_or r j d).0 h) Equal Greater))
+          (slice_cmp nat_cmp (get_or ks (get_or r j d).1 []) name)),
+      λ j d ge lt. is_top (beside ks h name (get_or r j d))
+          (subst (λ o. ordering_index o ≤ ordering_index (beside ks h name (get_or r j d))) (above (omega arith) d)
+          (rises r up at j d ge lt)),
+    );
+  }
 
   -- the entry that a search finds
   pub found_entry : (r : List (ℕ × ℕ)) (at : ℕ) (p : ℕ × ℕ) → at < length r → p ≡ get_or r at p

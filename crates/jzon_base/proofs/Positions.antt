@@ -21,10 +21,7 @@ module _ {X : Type 0} (test : X → Bool) (xs : List X) where
   position-none d fails = past (position_or_len test xs) (length xs)
       (position_or_len_is test xs (length xs) d (omega arith) fails (λ l. absurd (omega arith)))
 
-past-none : (p n j : ℕ) → ◌≡◌ {A = Option ℕ} (cond (nat_lt p n) (Some p) None) None → j < n → j < p
-past-none p n j e h = grind (arith, nat_tests)
-
 pub position-None-before : {X : Type 0} (test : X → Bool) (xs : List X) (j : ℕ) (d : X) → position test xs ≡ None
     → j < length xs → test (get_or xs j d) ≡ false
 position-None-before test xs j d e l = fails_before_first test xs j d
-    (past-none (position_or_len test xs) (length xs) j e l)
+    (grind (arith, nat_tests))

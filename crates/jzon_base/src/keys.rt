@@ -3,7 +3,7 @@
 //!
 //! How a key is found: up to 16 keys that have no index are compared one by one. From the 17th key
 //! on, and still after removals, `Runs` has an entry of hash and position for each key, in few runs
-//! in the order of hashes and texts; each is asked by one binary search, so that the time doesn't
+//! in the order of hashes and texts; each is asked by binary search, so that the time doesn't
 //! depend on which hashes the keys have.
 //!
 //! `pairs::Builder` finds repeated keys by one sort of such entries, and later ones in `Keys`.
