@@ -1,11 +1,12 @@
 //! What the program does, over any reader and any writers (docs/RULES.md, "The program jzonfmt").
 
-ghost use Rattle.std.specs.Prelude.{◌≡◌, ℕ, List, [], IfOk, IfErr, OnOk, map, string_bytes, vec_len};
+ghost use Rattle.std.specs.Prelude.{◌≡◌, ℕ, List, [], IfOk, IfErr, OnOk, map, option_map, string_bytes};
+ghost use Rattle.std.specs.Prelude.{vec_len};
 ghost use Rattle.std.specs.Io.KnownBytes.{Consumes, Keeps};
 ghost use Rattle.jzon.specs.View.{view};
 ghost use Rattle.jzonfmt.specs.Buffered.{count, held, left};
 ghost use Rattle.jzonfmt.specs.Run.{Answers, IsReadFault, Reads, Runs, WritesWhole, line, text};
-ghost use Rattle.jzonfmt.specs.Drive.{Drives, asked_layout, asked_options, asked_spaces};
+ghost use Rattle.jzonfmt.specs.Drive.{Drives, asked_layout, asked_options, asked_spaces, asking};
 ghost use Rattle.jzonfmt.specs.Drive.{fault_status};
 
 use crate::buffered::{Buffered, Start};
@@ -250,14 +251,22 @@ pub fn drive<R: Read, W: Write, F: Write>(
 fn options_of(words: &[String]) -> Option<Options>
     ensures { result ≡ asked_options (map string_bytes words.now) }
 {
-    let (strict, words) = match words {
-        [option, rest @ ..] if option.as_str() == "--strict" => (true, rest),
-        [_, _, option] if option.as_str() == "--strict" => (true, &words[..2]),
-        _ => (false, words),
-    };
+    let (strict, words) = split_strict(words);
     let layout = layout_of(words)?;
     let reading = Reading::new(strict, 512)?;
     Some(Options { reading, layout })
+}
+
+/// Whether `--strict` is the first argument, or the last of three; and the other arguments.
+fn split_strict(words: &[String]) -> (bool, &[String])
+    ensures { asked_options (map string_bytes words.now)
+        ≡ option_map (asking result.0) (asked_layout (map string_bytes result.1.now)) }
+{
+    match words {
+        [option, rest @ ..] if option.as_str() == "--strict" => (true, rest),
+        [_, _, option] if option.as_str() == "--strict" => (true, &words[..2]),
+        _ => (false, words),
+    }
 }
 
 /// The layout that the arguments name.
