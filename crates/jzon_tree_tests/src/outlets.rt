@@ -10,10 +10,12 @@ use std::alloc::Global;
 use std::io;
 use std::io::Write;
 
-/// Memory, and how many strings, numbers and starts of lines it took at once.
+/// Memory, how often it was asked to take something at once, and how many strings, numbers and
+/// starts of lines it took.
 #[derive(Drop)]
 struct Buffer {
     bytes: Vec<u8>,
+    asked: usize,
     strings: usize,
     numbers: usize,
     lines: usize,
@@ -23,6 +25,7 @@ impl Buffer {
     fn new(bytes: Vec<u8>) -> Buffer {
         Buffer {
             bytes,
+            asked: 0,
             strings: 0,
             numbers: 0,
             lines: 0,
@@ -47,18 +50,21 @@ impl Write for Buffer {
 
 impl Outlet for Buffer {
     fn put_string(&mut self, string: &[u8]) -> bool {
+        self.asked = self.asked.saturating_add(1);
         let is_added = push_short(&mut self.bytes, string);
         self.strings = self.strings.saturating_add(usize::from(is_added));
         is_added
     }
 
     fn put_number(&mut self, number: &Number) -> bool {
+        self.asked = self.asked.saturating_add(1);
         let is_added = push_digits(&mut self.bytes, number);
         self.numbers = self.numbers.saturating_add(usize::from(is_added));
         is_added
     }
 
     fn put_line(&mut self, spaces: u128) -> bool {
+        self.asked = self.asked.saturating_add(1);
         let is_added = push_line(&mut self.bytes, spaces);
         self.lines = self.lines.saturating_add(usize::from(is_added));
         is_added
@@ -117,6 +123,33 @@ fn writes_to_a_buffer_with_room(rt: HostRuntime) -> Tested {
     value.write_outlet(&mut buffer, Pretty(1))?;
     expect_bytes(&rt, &buffer.bytes, ON_LINES);
     expect_eq(&rt, "the lines", buffer.lines, 7);
+    Ok(())
+}
+
+/// A key and a string of more bytes than are added at once, NaN, and 0.
+fn untaken(alloc: Global) -> Result<JsonValue> {
+    let long = "0123456789abcdef0123456789abcdef01234567";
+    let mut array = JsonValue::new_array(alloc);
+    array.push(alloc, long)?;
+    array.push(alloc, NAN)?;
+    array.push(alloc, 0)?;
+    let mut object = JsonValue::new_object(alloc);
+    object.insert(alloc, long, array)?;
+    Ok(object)
+}
+
+/// An outlet is asked for each key, string, number and start of a line, whatever it takes.
+#[test]
+fn asks_for_each_piece(rt: HostRuntime) -> Tested {
+    let value = untaken(rt.alloc())?;
+    let mut buffer = Buffer::new(Vec::new(rt.alloc()));
+    value.write_outlet(&mut buffer, Compact)?;
+    expect_eq(&rt, "on one line", buffer.asked, 4);
+    for spaces in [0, 1, 9] {
+        buffer.asked = 0;
+        value.write_outlet(&mut buffer, Pretty(spaces))?;
+        expect_eq(&rt, "on lines", buffer.asked, 10);
+    }
     Ok(())
 }
 
