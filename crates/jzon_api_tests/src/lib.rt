@@ -4,6 +4,8 @@
 #[cfg(test)]
 mod by_index;
 #[cfg(test)]
+mod called_hooks;
+#[cfg(test)]
 mod changers;
 #[cfg(test)]
 mod cloned;
