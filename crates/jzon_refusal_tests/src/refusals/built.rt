@@ -13,6 +13,7 @@ enum Built {
     Map,
     HashMap,
     Value,
+    Expression,
     Array,
     Object,
     Stringify,
@@ -65,6 +66,7 @@ impl Call for Built {
             Built::Map => map(alloc)?,
             Built::HashMap => hash_map(alloc)?,
             Built::Value => value_of_macro(alloc)?,
+            Built::Expression => jzon::value!(alloc; LONG_TEXT),
             Built::Array => array(alloc)?,
             Built::Object => object(alloc)?,
             Built::Stringify => JsonValue::String(jzon::stringify(
@@ -115,6 +117,13 @@ const BUILT: &[Row<Built>] = &[
         "null",
         "[\"abcdefghijklmnopqrstuvwxyz01234\",null]",
         2,
+    ),
+    (
+        Built::Expression,
+        "value! of an expression",
+        "null",
+        "\"abcdefghijklmnopqrstuvwxyz01234\"",
+        1,
     ),
     (
         Built::Array,
