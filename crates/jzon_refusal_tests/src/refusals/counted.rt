@@ -69,6 +69,7 @@ enum Freed {
     DropBuilder,
     Map,
     HashMap,
+    Print,
 }
 
 /// Reads half of the entries, and the last one.
@@ -164,6 +165,7 @@ impl Freed {
             Freed::OverrideLast => object.override_last(long_item(alloc)?),
             Freed::Clone => drop(object.clone(alloc)?),
             Freed::StdClone => drop(Clone::clone(&object)?),
+            Freed::Print => drop((object.dump(alloc)?, object.pretty(alloc, 2)?)),
             _ => {}
         }
         Ok(())
@@ -341,6 +343,7 @@ const FREED: &[(Freed, &str)] = &[
     (Freed::DropBuilder, "drop of a builder"),
     (Freed::Map, "into_json of a map"),
     (Freed::HashMap, "into_json of a hash map"),
+    (Freed::Print, "texts of an object"),
 ];
 
 const FREED_OF_ARRAY: &[(FreedOfArray, &str)] = &[

@@ -7,7 +7,7 @@ use jzon::codegen::{DumpGenerator, Pretty, PrettyGenerator};
 use jzon::lent::{write_at, write_at_index, write_present};
 use jzon::object::{Key, Object};
 use jzon::short::Short;
-use jzon_test_support::keys_by_hash;
+use jzon_test_support::{joined, keys_by_hash};
 use jzon_tree::object::Builder;
 use std::fmt::Write;
 use std::{fmt, io};
@@ -319,6 +319,7 @@ enum Held {
     List,
     Text,
     TextClone,
+    Dump,
 }
 
 /// Five nulls in an array with room for a thousand.
@@ -362,6 +363,10 @@ impl Held {
                 text.push_str(LONG_TEXT)?;
                 JsonValue::String(text).clone(alloc)
             }
+            Held::Dump => {
+                let text = JsonValue::String(joined(alloc, &[("plain", 40000)])?);
+                Ok(JsonValue::String(text.dump(alloc)?))
+            }
         }
     }
 }
@@ -380,6 +385,8 @@ const HELD: &[(Held, &str, usize)] = &[
     (Held::List, "into_json of a list", 5 * 48 + 24),
     (Held::Text, "into_json of a long string", 31 + 24),
     (Held::TextClone, "clone of a string with room", 31 + 24),
+    // A text that grows may have as much room again.
+    (Held::Dump, "dump of a long string", 2 * 200_002 + 24),
 ];
 
 #[test]
