@@ -51,6 +51,7 @@ fn makes_keys_of_keys(rt: HostRuntime) -> Tested {
 /// written there.
 const ELEMENTS: &[(&str, usize, &str, &str, &str)] = &[
     ("5", 7, "null", "[null,null]", "[null,7]"),
+    ("5", usize::MAX, "null", "[null,null]", "[null,7]"),
     ("5", 0, "null", "[null]", "[7]"),
     ("{\"a\":1}", 1, "null", "[null,null]", "[null,7]"),
     ("null", 1, "null", "[null,null]", "[null,7]"),
