@@ -1,6 +1,7 @@
 //! A buffered writer whose contract says that its writer stays the same.
 
 ghost use Rattle.std.specs.Prelude.{◌≡◌, ℕ, ◌+◌, ◌≤◌, [], length, take, vec_len, vec_capacity, MatchOption, OnOk};
+ghost use Rattle.std.specs.Prelude.{IfNone, IfSome, IsSome};
 ghost use Rattle.std.specs.Io.KnownBytes.{Appends, Keeps};
 
 use jzon::codegen::{Outlet, push_digits, push_line, push_short};
@@ -85,11 +86,12 @@ impl<'a, W: Write, S: Start> Buffered<'a, W, S> {
     #[cold]
     #[inline(never)]
     fn write_out_and_hold(&mut self, buf: &[u8]) -> Option<usize>
-        ensures { MatchOption result (Keeps (held W.contents S.start self.old)
+        ensures bytes { MatchOption result (Keeps (held W.contents S.start self.old)
             (held W.contents S.start self.new))
             (λ count. (count ≤ length buf.now)
             × Appends (held W.contents S.start self.old) (held W.contents S.start self.new)
             (take count buf.now)) }
+        ensures stored { IfNone result (IsSome self.new.error) }
     {
         if let Err(error) = self.write_out() {
             self.error = Some(error);
@@ -115,7 +117,9 @@ impl<'a, W: Write, S: Start> Buffered<'a, W, S> {
     /// Takes the stored error. There is one after each failed call.
     #[inline(always)]
     fn take_error(&mut self) -> io::Error
-        ensures { Keeps (held W.contents S.start self.old) (held W.contents S.start self.new) }
+        ensures bytes { Keeps (held W.contents S.start self.old)
+            (held W.contents S.start self.new) }
+        ensures error { IfSome self.old.error (λ error. result ≡ error) }
     {
         match self.error.take() {
             Some(error) => error,
