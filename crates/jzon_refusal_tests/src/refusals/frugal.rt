@@ -2,11 +2,14 @@
 //! and built objects hold.
 
 use super::*;
-use jzon::IntoJson;
-use jzon::codegen::{DumpGenerator, Pretty, PrettyGenerator};
+use jzon::codegen::{
+    DumpGenerator, Generator, Pretty, PrettyGenerator, PrettyWriterGenerator, WriterGenerator,
+    write_json, write_object,
+};
 use jzon::lent::{write_at, write_at_index, write_present};
 use jzon::object::{Key, Object};
 use jzon::short::Short;
+use jzon::{IntoJson, Reading, parse_as};
 use jzon_test_support::{joined, keys_by_hash};
 use jzon_tree::object::Builder;
 use std::fmt::Write;
@@ -75,6 +78,9 @@ enum Frugal {
     Read,
     Equal,
     Write,
+    Generate,
+    Order,
+    Admits,
     Display,
     IntoJson,
     ObjectInsert(&'static str),
@@ -126,6 +132,33 @@ fn write(value: &JsonValue) -> Result<()> {
     )
 }
 
+/// By the generators over a writer.
+fn generate(value: &JsonValue) -> Result<()> {
+    let mut sink = Sink;
+    of_truth(
+        write_json(&mut WriterGenerator::new(&mut sink), value).is_ok()
+            && write_json(&mut PrettyWriterGenerator::new(&mut sink, 100), value).is_ok(),
+    )?;
+    match value.as_object() {
+        Some(object) => {
+            of_truth(write_object(&mut WriterGenerator::new(&mut sink), object).is_ok())
+        }
+        None => Ok(()),
+    }
+}
+
+/// The hook `order` of an object, if the value is one.
+fn order(value: &JsonValue, alloc: Global) -> Result<()> {
+    match value.as_object() {
+        Some(object) => of_truth(matches!(DumpGenerator::new(alloc).order(object), Ok(None))),
+        None => Ok(()),
+    }
+}
+
+fn admits(value: &JsonValue) -> Result<()> {
+    of_truth(Reading::new(true, 512).is_some_and(|reading| reading.admits(value)))
+}
+
 fn show(value: &JsonValue) -> Result<()> {
     let mut sink = Sink;
     of_truth(write!(sink, "{value}").is_ok())
@@ -152,19 +185,37 @@ fn make_inline(alloc: Global) -> Result<()> {
     Ok(())
 }
 
-/// Texts without strings and containers, read or rejected.
+/// Texts without strings and containers.
+const PRIMITIVES: [&str; 6] = [
+    "null",
+    " true ",
+    "-12.50e3",
+    "1e99999",
+    "18446744073709551616",
+    "-9.99999999999999999999999999999999999999999999999999999999999999999999e1 ",
+];
+
+/// Texts without strings and containers that are rejected.
+const NO_PRIMITIVES: [&str; 6] = [
+    "",
+    "nul",
+    "01",
+    "-x",
+    "1 2",
+    "1111111111111111111111111111111111111111111111111111111111111111111111x",
+];
+
+/// By both readings.
 fn parse_primitives(alloc: Global) -> Result<()> {
-    for text in [
-        "null",
-        " true ",
-        "-12.50e3",
-        "1e99999",
-        "18446744073709551616",
-    ] {
+    let Some(strict) = Reading::new(true, 512) else {
+        return of_truth(false);
+    };
+    for text in PRIMITIVES {
         parse(alloc, text)?;
+        parse_as(alloc, text, &strict)?;
     }
-    for text in ["", "nul", "01", "-x", "1 2"] {
-        of_truth(parse(alloc, text).is_err())?;
+    for text in NO_PRIMITIVES {
+        of_truth(parse(alloc, text).is_err() && parse_as(alloc, text, &strict).is_err())?;
     }
     Ok(())
 }
@@ -192,6 +243,9 @@ impl Frugal {
                 return of_truth(*whole == *whole);
             }
             Frugal::Write => return write(value),
+            Frugal::Generate => return generate(value),
+            Frugal::Order => return order(value, alloc),
+            Frugal::Admits => return admits(value),
             Frugal::Display => return show(value),
             Frugal::IntoJson => drop(value.take().into_json(alloc)?),
             Frugal::IntoIter => half_read(value.take()),
@@ -262,6 +316,9 @@ const OF_OBJECT: &[(Frugal, &str)] = &[
     (Frugal::Read, "readers of an object"),
     (Frugal::Equal, "== of objects"),
     (Frugal::Write, "what writes an object"),
+    (Frugal::Generate, "generators of an object"),
+    (Frugal::Order, "order of an object"),
+    (Frugal::Admits, "admits of an object"),
     (Frugal::Display, "Display of an object"),
     (Frugal::IntoJson, "into_json of an object"),
     (Frugal::New, "what makes something empty"),
@@ -280,6 +337,8 @@ const OF_ARRAY: &[(Frugal, &str)] = &[
     (Frugal::Read, "readers of an array"),
     (Frugal::Equal, "== of arrays"),
     (Frugal::Write, "what writes an array"),
+    (Frugal::Generate, "generators of an array"),
+    (Frugal::Admits, "admits of an array"),
     (Frugal::Display, "Display of an array"),
     (Frugal::IntoJson, "into_json of an array"),
 ];
