@@ -1,12 +1,15 @@
 //! Values far beyond what is kept inline, compared in place, or made room for in advance: each call
-//! that may run out of memory succeeds at eleven hundred elements or entries, and at long strings.
+//! that may run out of memory succeeds at eleven hundred elements or entries, some at 70,000, at
+//! long strings, and at arrays a thousand deep.
 
-use crate::common::{Tested, expect};
-use jzon::codegen::{Compact, Pretty};
+use crate::common::{Plain, Tested, expect};
+use jzon::codegen::{Compact, DumpGenerator, Pretty, PrettyGenerator, write_json};
 use jzon::lent::{write_at, write_at_index};
 use jzon::object::Object;
-use jzon::{IntoJson, JsonValue, Reading, Result, parse, parse_as, stringify, stringify_pretty};
-use jzon_test_support::{joined, keys_by_hash};
+use jzon::{
+    Error, IntoJson, JsonValue, Reading, Result, parse, parse_as, stringify, stringify_pretty,
+};
+use jzon_test_support::{joined, keys_by_hash, object_text};
 use std::alloc::{AllocError, Global};
 use std::collections::{BTreeMap, HashMap};
 use std::process::Abort;
@@ -15,30 +18,33 @@ use std::process::Abort;
 /// looked for again.
 const COUNT: u32 = 1100;
 
-/// The numbers from 0 on, as texts of four digits, so that they are in the order of their bytes.
-fn names(alloc: Global) -> std::result::Result<Vec<String>, AllocError> {
+/// More than 16 bits can count.
+const MANY: u32 = 70_000;
+
+/// The numbers from 0 on, as texts of five digits, so that they are in the order of their bytes.
+fn names(alloc: Global, count: u32) -> std::result::Result<Vec<String>, AllocError> {
     let mut names = Vec::new(alloc);
-    for number in 0..COUNT {
-        names.push(format!(in alloc; "{number:04}")?)?;
+    for number in 0..count {
+        names.push(format!(in alloc; "{number:05}")?)?;
     }
     Ok(names)
 }
 
-/// `[0,1,2` and so on, up to 1099.
-fn array_text(alloc: Global) -> std::result::Result<String, AllocError> {
+/// `[0,1,2` and so on, `count` elements.
+fn array_text(alloc: Global, count: u32) -> std::result::Result<String, AllocError> {
     let mut text = String::from_str(alloc, "[0")?;
-    for number in 1..COUNT {
+    for number in 1..count {
         text.push_str(format!(in alloc; ",{number}")?.as_str())?;
     }
     text.push(']')?;
     Ok(text)
 }
 
-/// `{"0000":0,"0001":1` and so on, up to 1099.
-fn object_text(alloc: Global) -> std::result::Result<String, AllocError> {
-    let mut text = String::from_str(alloc, "{\"0000\":0")?;
-    for number in 1..COUNT {
-        text.push_str(format!(in alloc; ",\"{number:04}\":{number}")?.as_str())?;
+/// `{"00000":0,"00001":1` and so on, `count` entries.
+fn numbers_by_name(alloc: Global, count: u32) -> std::result::Result<String, AllocError> {
+    let mut text = String::from_str(alloc, "{\"00000\":0")?;
+    for number in 1..count {
+        text.push_str(format!(in alloc; ",\"{number:05}\":{number}")?.as_str())?;
     }
     text.push('}')?;
     Ok(text)
@@ -78,6 +84,24 @@ fn expect_printed(rt: &impl Abort, alloc: Global, value: &JsonValue, text: &str)
     Ok(())
 }
 
+/// So do an outlet that takes nothing at once, and the generators over memory, of which one prints
+/// on lines.
+fn expect_generated(rt: &impl Abort, alloc: Global, value: &JsonValue, text: &str) -> Tested {
+    let mut plain = Plain::new(alloc);
+    value.write_outlet(&mut plain, Compact)?;
+    let bytes = plain.bytes.as_slice();
+    expect(rt, "write_outlet", bytes == text.as_bytes());
+    let mut generator = DumpGenerator::new(alloc);
+    write_json(&mut generator, value)?;
+    expect(rt, "DumpGenerator", generator.consume()?.as_str() == text);
+    let mut generator = PrettyGenerator::new(alloc, 2);
+    write_json(&mut generator, value)?;
+    let pretty = value.pretty(alloc, 2)?;
+    let lines = generator.consume()?;
+    expect(rt, "PrettyGenerator", lines.as_str() == pretty.as_str());
+    Ok(())
+}
+
 /// The value prints this text, `shown` by `Display`, and equals what the text and its pretty text
 /// mean, and its copies.
 fn expect_whole(
@@ -88,6 +112,7 @@ fn expect_whole(
     shown: &str,
 ) -> Tested {
     expect_printed(rt, alloc, value, text)?;
+    expect_generated(rt, alloc, value, text)?;
     let formatted = format!(in alloc; "{value}")?;
     expect(rt, "Display", formatted.as_str() == shown);
     expect(rt, "parse", *value == parse(alloc, text)?);
@@ -175,56 +200,60 @@ fn long_keys(rt: HostRuntime) -> Tested {
 }
 
 /// By `push`, one after the other.
-fn pushed(alloc: Global) -> Result<JsonValue> {
+fn pushed(alloc: Global, count: u32) -> Result<JsonValue> {
     let mut array = JsonValue::new_array(alloc);
-    for number in 0..COUNT {
+    for number in 0..count {
         array.push(alloc, number)?;
     }
     Ok(array)
 }
 
 /// By the conversion of a list.
-fn listed(alloc: Global) -> Result<JsonValue> {
-    let numbers: Vec<u32> = (0..COUNT).collect(alloc)?;
+fn listed(alloc: Global, count: u32) -> Result<JsonValue> {
+    let numbers: Vec<u32> = (0..count).collect(alloc)?;
     numbers.into_json(alloc)
 }
 
 /// By the conversion of a slice.
-fn sliced(alloc: Global) -> Result<JsonValue> {
-    let numbers: Vec<u32> = (0..COUNT).collect(alloc)?;
+fn sliced(alloc: Global, count: u32) -> Result<JsonValue> {
+    let numbers: Vec<u32> = (0..count).collect(alloc)?;
     numbers.as_slice().into_json(alloc)
 }
 
 /// By an index past the end, again and again.
-fn indexed(alloc: Global) -> Result<JsonValue> {
+fn indexed(alloc: Global, count: u32) -> Result<JsonValue> {
     let mut array = JsonValue::new_array(alloc);
-    for number in 0..COUNT {
+    for number in 0..count {
         *array.at_index_mut(alloc, usize::MAX)? = JsonValue::from(number);
     }
     Ok(array)
 }
 
 /// By writes past the end.
-fn written_past_the_end(alloc: Global) -> Result<JsonValue> {
+fn written_past_the_end(alloc: Global, count: u32) -> Result<JsonValue> {
     let mut array = JsonValue::new_array(alloc);
-    for number in 0..COUNT {
+    for number in 0..count {
         write_at_index(&mut array, alloc, usize::MAX, JsonValue::from(number))?;
     }
     Ok(array)
 }
 
+/// By each of these calls.
+fn arrays(alloc: Global, count: u32) -> Result<[JsonValue; 5]> {
+    Ok([
+        pushed(alloc, count)?,
+        listed(alloc, count)?,
+        sliced(alloc, count)?,
+        indexed(alloc, count)?,
+        written_past_the_end(alloc, count)?,
+    ])
+}
+
 #[test]
 fn long_arrays(rt: HostRuntime) -> Tested {
     let alloc = rt.alloc();
-    let text = array_text(alloc)?;
-    let arrays = [
-        pushed(alloc)?,
-        listed(alloc)?,
-        sliced(alloc)?,
-        indexed(alloc)?,
-        written_past_the_end(alloc)?,
-    ];
-    for mut array in arrays {
+    let text = array_text(alloc, COUNT)?;
+    for mut array in arrays(alloc, COUNT)? {
         expect_whole(&rt, alloc, &array, text.as_str(), text.as_str())?;
         expect(&rt, "pop", array.pop().eq_u64(1099));
         expect(&rt, "array_remove", array.array_remove(500).eq_u64(500));
@@ -237,26 +266,63 @@ fn long_arrays(rt: HostRuntime) -> Tested {
     Ok(())
 }
 
-/// Of each length up to that from which unused room is kept.
+/// Texts of an array and an object of this length are read, also strictly.
+fn expect_length(rt: &impl Abort, alloc: Global, count: u32) -> Tested {
+    let strict = Reading::new(true, 512).unwrap();
+    let len = count as usize;
+    let array = joined(alloc, &[("[0", 1), (",0", len.saturating_sub(1)), ("]", 1)])?;
+    let object = object_text(alloc, keys_by_hash(alloc, count)?.as_slice())?;
+    for text in [array.as_str(), object.as_str()] {
+        expect(rt, "parse", parse(alloc, text)?.len() == len);
+        expect(rt, "parse_as", parse_as(alloc, text, &strict)?.len() == len);
+    }
+    Ok(())
+}
+
+/// At these lengths room may double, or a count may need another byte.
+const LENGTHS: [u32; 5] = [512, 513, 1024, 1025, 65537];
+
 #[test]
 fn arrays_and_objects_of_each_length(rt: HostRuntime) -> Tested {
     let alloc = rt.alloc();
-    for count in 1..=130u32 {
-        let text = joined(
-            alloc,
-            &[
-                ("[0", 1),
-                (",0", (count as usize).saturating_sub(1)),
-                ("]", 1),
-            ],
-        )?;
-        let array = parse(alloc, text.as_str())?;
-        expect(&rt, "the array", array.len() == count as usize);
-        let keys = keys_by_hash(alloc, count)?;
-        let text = jzon_test_support::object_text(alloc, keys.as_slice())?;
-        let object = parse(alloc, text.as_str())?;
-        expect(&rt, "the object", object.len() == count as usize);
+    for count in 1..=300 {
+        expect_length(&rt, alloc, count)?;
     }
+    for count in LENGTHS {
+        expect_length(&rt, alloc, count)?;
+    }
+    Ok(())
+}
+
+/// An array in an array, and so on.
+fn nested(alloc: Global, depth: usize) -> Result<JsonValue> {
+    let mut value = JsonValue::from(1);
+    for _ in 0..depth {
+        value = JsonValue::Array(vec![in alloc; value]?);
+    }
+    Ok(value)
+}
+
+/// Deeper than any text that is read.
+#[test]
+fn deep_values(rt: HostRuntime) -> Tested {
+    let alloc = rt.alloc();
+    let value = nested(alloc, 1000)?;
+    let text = joined(alloc, &[("[", 1000), ("1", 1), ("]", 1000)])?;
+    expect_printed(&rt, alloc, &value, text.as_str())?;
+    expect_generated(&rt, alloc, &value, text.as_str())?;
+    let shown = format!(in alloc; "{value}")?;
+    expect(&rt, "Display", shown.as_str() == text.as_str());
+    let printed = stringify(alloc, value.clone(alloc)?)?;
+    expect(&rt, "stringify", printed.as_str() == text.as_str());
+    expect(&rt, "clone", value.clone(alloc)? == value);
+    expect(&rt, "std's clone", Clone::clone(&value)? == value);
+    let outcome = parse(alloc, text.as_str());
+    expect(
+        &rt,
+        "parse",
+        matches!(outcome, Err(Error::ExceededDepthLimit)),
+    );
     Ok(())
 }
 
@@ -266,6 +332,7 @@ enum Made {
     ByInsert,
     ByAtMut,
     FromPairs,
+    FromPairsOfUnknownLength,
     Collected,
     FromMap,
     FromHashMap,
@@ -275,10 +342,11 @@ enum Made {
     ByWriteAt,
 }
 
-const MADE: [Made; 10] = [
+const MADE: [Made; 11] = [
     Made::ByInsert,
     Made::ByAtMut,
     Made::FromPairs,
+    Made::FromPairsOfUnknownLength,
     Made::Collected,
     Made::FromMap,
     Made::FromHashMap,
@@ -359,6 +427,10 @@ impl Made {
             Made::ByInsert => inserted(alloc, names),
             Made::ByAtMut => borrowed(alloc, names),
             Made::FromPairs => Ok(JsonValue::Object(Object::from_pairs(alloc, pairs)?)),
+            Made::FromPairsOfUnknownLength => {
+                let pairs = pairs.filter(|pair| !pair.0.is_empty());
+                Ok(JsonValue::Object(Object::from_pairs(alloc, pairs)?))
+            }
             Made::Collected => {
                 let object: Object = pairs.collect(alloc)?;
                 Ok(JsonValue::Object(object))
@@ -377,8 +449,8 @@ impl Made {
 #[test]
 fn large_objects(rt: HostRuntime) -> Tested {
     let alloc = rt.alloc();
-    let names = names(alloc)?;
-    let text = object_text(alloc)?;
+    let names = names(alloc, COUNT)?;
+    let text = numbers_by_name(alloc, COUNT)?;
     let whole = parse(alloc, text.as_str())?;
     for made in MADE {
         let mut object = made.make(alloc, &names)?;
@@ -392,9 +464,9 @@ fn large_objects(rt: HostRuntime) -> Tested {
         } else {
             expect_whole(&rt, alloc, &object, text.as_str(), text.as_str())?;
         }
-        expect(&rt, "remove", object.remove("0500").eq_u64(500));
-        expect(&rt, "has_key", !object.has_key("0500"));
-        expect(&rt, "at", object.at("1099").eq_u64(1099));
+        expect(&rt, "remove", object.remove("00500").eq_u64(500));
+        expect(&rt, "has_key", !object.has_key("00500"));
+        expect(&rt, "at", object.at("01099").eq_u64(1099));
     }
     Ok(())
 }
@@ -403,7 +475,7 @@ fn large_objects(rt: HostRuntime) -> Tested {
 #[test]
 fn calls_on_a_large_object(rt: HostRuntime) -> Tested {
     let alloc = rt.alloc();
-    let text = object_text(alloc)?;
+    let text = numbers_by_name(alloc, MANY)?;
     let value = parse(alloc, text.as_str())?;
     let lines = value.pretty(alloc, 2)?;
     if let Some(object) = value.as_object() {
