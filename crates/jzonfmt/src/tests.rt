@@ -21,15 +21,15 @@ const PRINTED: &[u8] = b"-12500\n";
 
 /// Gives one byte a call, and fails at one call with the error of this trouble.
 #[derive(Drop)]
-struct FailingReader {
-    rest: &'static [u8],
+struct FailingReader<'a> {
+    rest: &'a [u8],
     calls: usize,
     fails_at: usize,
     trouble: Trouble,
 }
 
-impl FailingReader {
-    fn new(rest: &'static [u8], fails_at: usize, trouble: Trouble) -> FailingReader {
+impl<'a> FailingReader<'a> {
+    fn new(rest: &'a [u8], fails_at: usize, trouble: Trouble) -> FailingReader<'a> {
         FailingReader {
             rest,
             calls: 0,
@@ -39,7 +39,7 @@ impl FailingReader {
     }
 }
 
-impl Read for FailingReader {
+impl Read for FailingReader<'_> {
     ghost remaining = { λ reader. Some reader.rest.now };
 
     fn read(&mut self, buf: &mut [u8]) -> io::Result<usize> {
@@ -113,6 +113,11 @@ fn words_of(alloc: Global, words: Option<&'static str>) -> Result<Vec<String>, F
         }
     }
     Ok(all)
+}
+
+/// It holds of this row. To prove an assertion takes seconds, and a call of this hardly any time.
+pub(crate) fn expect(rt: &impl Abort, row: &str, holds: bool) {
+    assert!(rt; holds, "{row}");
 }
 
 /// The reading of `parse`.
@@ -500,25 +505,33 @@ impl io::Write for CountingWriter {
     }
 }
 
+/// A layout, how a text of it begins, what comes again and again, how it ends, and the most calls
+/// of the writer: 200,004 bytes by 65,536, and 400,008.
+const SELDOM: [(Layout, &str, &str, &str, usize); 2] = [
+    (Layout::Compact, "[1", ",1", "]", 4),
+    (Layout::Pretty(1), "[\n 1", ",\n 1", "\n]", 7),
+];
+
 /// Many bytes are written at once.
 #[test]
 fn writes_seldom(rt: HostRuntime) -> Result<(), Fail> {
     let alloc = rt.alloc();
-    let text = joined(alloc, &[("[1", 1), (",1", 100000), ("]", 1)])?;
-    let mut reader = text.as_bytes();
-    let mut writer = CountingWriter {
-        bytes: Vec::new(alloc),
-        calls: 0,
-    };
-    let layout = Layout::Compact;
-    let outcome = engine::run(alloc, &mut reader, &mut writer, &usual(), layout);
-    assert!(rt; outcome.is_ok());
-    assert_eq!(rt;
-        str::from_utf8(&writer.bytes)?.strip_suffix('\n'),
-        Some(text.as_str())
-    );
-    // 200,004 bytes by 65,536.
-    assert!(rt; writer.calls <= 4, "{} calls", writer.calls);
+    for (layout, open, next, close, most) in SELDOM {
+        let text = joined(alloc, &[(open, 1), (next, 100000), (close, 1)])?;
+        let mut reader = text.as_bytes();
+        let mut writer = CountingWriter {
+            bytes: Vec::new(alloc),
+            calls: 0,
+        };
+        let outcome = engine::run(alloc, &mut reader, &mut writer, &usual(), layout);
+        let written = str::from_utf8(&writer.bytes)?.strip_suffix('\n');
+        expect(
+            &rt,
+            "the text",
+            outcome.is_ok() && written == Some(text.as_str()),
+        );
+        expect(&rt, "the calls", writer.calls <= most);
+    }
     Ok(())
 }
 
@@ -611,6 +624,147 @@ fn a_failed_message_is_ignored(rt: HostRuntime) -> Result<(), Fail> {
         );
         assert_eq!(rt; faults.bytes.as_slice(), b"jzo".as_slice());
         assert!(rt; writer.is_empty());
+    }
+    Ok(())
+}
+
+/// The reader fails at this call: its own error is returned, and nothing is written.
+fn expect_late_failure(
+    rt: &impl Abort,
+    alloc: Global,
+    text: &str,
+    call: usize,
+    trouble: Trouble,
+) -> Result<(), Fail> {
+    let mut reader = FailingReader::new(text.as_bytes(), call, trouble);
+    let mut writer: Vec<u8> = Vec::new(alloc);
+    match engine::run(alloc, &mut reader, &mut writer, &usual(), Layout::Compact) {
+        Err(RunFault::Read(error)) => expect(rt, "the error", trouble.is_returned(alloc, &error)?),
+        _ => expect(rt, "no error of the reader", false),
+    }
+    expect(rt, "the calls", reader.calls == call);
+    expect(rt, "the output", writer.is_empty());
+    Ok(())
+}
+
+/// More bytes than 16 bits can count are read one by one, also by a reader that fails late.
+#[test]
+fn reads_long_inputs_byte_by_byte(rt: HostRuntime) -> Result<(), Fail> {
+    let alloc = rt.alloc();
+    let text = joined(alloc, &[("[0", 1), (",0", 70000), ("]", 1)])?;
+    for call in [65536, 65537, text.len(), text.len() + 1] {
+        for trouble in [
+            Trouble::Fails(ErrorKind::Interrupted),
+            Trouble::FailsBySystem(5),
+        ] {
+            expect_late_failure(&rt, alloc, text.as_str(), call, trouble)?;
+        }
+    }
+    let mut reader = FailingReader::new(text.as_bytes(), NO_FAILING_CALL, Trouble::TakesNothing);
+    let mut writer: Vec<u8> = Vec::new(alloc);
+    let outcome = engine::run(alloc, &mut reader, &mut writer, &usual(), Layout::Compact);
+    let written = str::from_utf8(&writer)?.strip_suffix('\n');
+    expect(
+        &rt,
+        "the text",
+        outcome.is_ok() && written == Some(text.as_str()),
+    );
+    Ok(())
+}
+
+/// Pieces, each with how often it comes.
+type Parts = &'static [(&'static [u8], usize)];
+
+fn joined_bytes(alloc: Global, parts: Parts) -> Result<Vec<u8>, Fail> {
+    let mut bytes = Vec::new(alloc);
+    for (piece, count) in parts {
+        for _ in 0..*count {
+            bytes.extend_from_slice(piece)?;
+        }
+    }
+    Ok(bytes)
+}
+
+/// The arguments, the input, the output, the status, and what is written to standard error.
+type Large = (&'static str, Parts, Parts, u8, &'static str);
+
+const LARGE: &[Large] = &[
+    (
+        "--strict",
+        &[(b"[0", 1), (b" ,0", 70000), (b"]", 1)],
+        &[(b"[0", 1), (b",0", 70000), (b"]\n", 1)],
+        0,
+        "",
+    ),
+    (
+        "--pretty,65535",
+        &[(b"[[0]]", 1)],
+        &[
+            (b"[\n", 1),
+            (b" ", 65535),
+            (b"[\n", 1),
+            (b" ", 131070),
+            (b"0\n", 1),
+            (b" ", 65535),
+            (b"]\n]\n", 1),
+        ],
+        0,
+        "",
+    ),
+    (
+        "--pretty,0,--strict",
+        &[(b"[", 512), (b"{}", 1), (b"]", 512)],
+        &[(b"[\n", 512), (b"{}", 1), (b"\n]", 512), (b"\n", 1)],
+        0,
+        "",
+    ),
+    (
+        "--pretty,9",
+        &[(b"{\"\\u0001", 1), (b"\\\"", 70000), (b"\":[]}", 1)],
+        &[
+            (b"{\n         \"\\u0001", 1),
+            (b"\\\"", 70000),
+            (b"\": []\n}\n", 1),
+        ],
+        0,
+        "",
+    ),
+    (
+        "--pretty,1",
+        &[(b"[\n", 1), (b"1,\n", 70000), (b"x", 1)],
+        &[],
+        1,
+        "jzonfmt: Unexpected character: x at (70002:1)\n",
+    ),
+    (
+        "--strict",
+        &[(b"[\"", 1), (b"p", 200000), (b"\xff\"]", 1)],
+        &[],
+        1,
+        "jzonfmt: input is not UTF-8\n",
+    ),
+];
+
+/// The message goes to a writer that accepts one byte a call.
+fn expect_driven(rt: &impl Abort, alloc: Global, row: &Large) -> Result<(), Fail> {
+    let (words, input, output, status, message) = *row;
+    let words = words_of(alloc, Some(words))?;
+    let input = joined_bytes(alloc, input)?;
+    let mut reader = input.as_slice();
+    let mut writer: Vec<u8> = Vec::new(alloc);
+    let mut faults = SlowWriter::new(alloc, NO_FAILING_CALL, Trouble::TakesNothing);
+    let found = engine::drive(alloc, &words, &mut reader, &mut writer, &mut faults);
+    expect(rt, message, found == status && reader.is_empty());
+    expect(rt, message, faults.bytes.as_slice() == message.as_bytes());
+    let output = joined_bytes(alloc, output)?;
+    expect(rt, "the output", writer.as_slice() == output.as_slice());
+    Ok(())
+}
+
+#[test]
+fn drives_large_texts(rt: HostRuntime) -> Result<(), Fail> {
+    for row in LARGE {
+        expect_driven(&rt, rt.alloc(), row)?;
     }
     Ok(())
 }
