@@ -77,9 +77,21 @@ pub trait Place {
             (with_writer self.old)) }
         ensures bytes { Self.T.contents result.now ≡ out self.old };
 
-    /// As `Outlet::put_string`. The error is a failed allocation, and then nothing is added.
+    /// As `Outlet::put_string`.
     #[inline(always)]
-    fn put_string(&mut self, string: &[u8]) -> Result<bool, AllocError>
+    fn put_string(&mut self, string: &[u8]) -> bool
+        ensures done { IsTrue result → Adds (Just (quoted string.now)) (out self.old)
+            (out self.new) }
+        ensures left { result ≡ false → out self.new ≡ out self.old }
+        ensures lender { lender self.new ≡ lender self.old }
+    {
+        false
+    }
+
+    /// The same for a string that `put_string` doesn't add. The error is a failed allocation, and
+    /// then nothing is added.
+    #[inline(always)]
+    fn put_long(&mut self, string: &[u8]) -> Result<bool, AllocError>
         ensures done { IfOk result (λ done. IsTrue done
             → Adds (Just (quoted string.now)) (out self.old) (out self.new)) }
         ensures left { IfOk result (λ done. done ≡ false → out self.new ≡ out self.old) }
@@ -135,10 +147,12 @@ impl Place for Memory {
     }
 
     #[inline(always)]
-    fn put_string(&mut self, string: &[u8]) -> Result<bool, AllocError> {
-        if push_short(&mut self.bytes, string) {
-            return Ok(true);
-        }
+    fn put_string(&mut self, string: &[u8]) -> bool {
+        push_short(&mut self.bytes, string)
+    }
+
+    #[inline(always)]
+    fn put_long(&mut self, string: &[u8]) -> Result<bool, AllocError> {
         push_plain(&mut self.bytes, string)
     }
 
@@ -196,8 +210,8 @@ impl<'a, W: Outlet> Place for Through<'a, W> {
     }
 
     #[inline(always)]
-    fn put_string(&mut self, string: &[u8]) -> Result<bool, AllocError> {
-        Ok(self.outlet.put_string(string))
+    fn put_string(&mut self, string: &[u8]) -> bool {
+        self.outlet.put_string(string)
     }
 
     #[inline(always)]

@@ -1,14 +1,15 @@
 //! The generators of the crate: they write a text in a layout, into memory of their own or to a
 //! borrowed writer.
 
-ghost use Rattle.std.specs.Prelude.{◌≡◌, [], Ok, None, Some, IsTrue, IsUtf8, IfErr, IfOk, MatchResult};
+ghost use Rattle.std.specs.Prelude.{◌≡◌, [], Ok, None, Some, IsSome, IsTrue, IsUtf8, IfErr, IfOk, MatchResult, OnErr};
 ghost use Rattle.std.specs.Prelude.{string_bytes};
 ghost use Rattle.std.specs.IoError.{error_kind};
 ghost use Rattle.jzon_base.specs.PairList.{keys_of};
 ghost use Rattle.jzon_tree.specs.Entries.{entries_of};
-ghost use Rattle.jzon_tree.specs.Generator.{Added, Failed, Counts, Just, IsAnswer};
+ghost use Rattle.jzon_tree.specs.Generator.{Added, Failed, Counts, Emits, Just, IsAnswer};
 ghost use Rattle.jzon_tree.specs.Generators.{text_meaning, with_writer_in, same_emitted, fresh, IsConsumed};
 ghost use Rattle.jzon_tree.specs.Styles.{compact_style, pretty_style};
+ghost use Rattle.jzon_tree.specs.Text.{quoted};
 
 use crate::codegen::error_slot::{ErrorSlot, SlotResult, send, store, take_result};
 use crate::codegen::generator::Generator;
@@ -61,6 +62,23 @@ impl<P: Place, L: Layout> TextGenerator<P, L> {
             self.note_fault();
         }
         step
+    }
+
+    /// Writes a string that isn't put at once. It is a function of its own so that
+    /// `try_write_string` saves no registers for a short string.
+    #[inline(never)]
+    fn write_long(&mut self, string: &str, slot: &mut ErrorSlot) -> SlotResult<()>
+        ensures bytes { Emits (Just (quoted string.now)) (text_meaning P.out P.lender L.style self.old)
+            (text_meaning P.out P.lender L.style self.new) result }
+        ensures slot { OnErr result (IsSome slot.new) }
+    {
+        let bytes = string.as_bytes();
+        let step = match self.place.put_long(bytes) {
+            Ok(true) => return Ok(()),
+            Ok(false) => send_string(self.place.writer(), b"\"", bytes, slot),
+            Err(error) => store(Err(io::Error::from(error)), slot),
+        };
+        self.count(step)
     }
 }
 
@@ -160,13 +178,10 @@ impl<P: Place, L: Layout> Generator for TextGenerator<P, L> {
     }
 
     fn try_write_string(&mut self, string: &str, slot: &mut ErrorSlot) -> SlotResult<()> {
-        let bytes = string.as_bytes();
-        let step = match self.place.put_string(bytes) {
-            Ok(true) => return Ok(()),
-            Ok(false) => send_string(self.place.writer(), b"\"", bytes, slot),
-            Err(error) => store(Err(io::Error::from(error)), slot),
-        };
-        self.count(step)
+        if self.place.put_string(string.as_bytes()) {
+            return Ok(());
+        }
+        self.write_long(string, slot)
     }
 
     fn try_write_number(&mut self, num: &Number, slot: &mut ErrorSlot) -> SlotResult<()> {
