@@ -2,14 +2,17 @@
 
 ghost use Rattle.std.specs.Prelude.{◌≡◌};
 
-use crate::common::{Tested, expect_eq};
+use crate::common::{Tested, expect, expect_eq};
 use jzon::codegen::{DumpGenerator, Generator, write_json, write_object};
 use jzon::number::Number;
 use jzon::object::Object;
 use jzon::parse;
+use jzon_test_support::Trouble;
 use std::alloc::Global;
 use std::io;
 use std::process::Abort;
+
+const TOO_DEEP: Trouble = Trouble::FailsBySystem(5);
 
 /// Notes a character for each hook that is called, and passes the call on.
 #[derive(Drop)]
@@ -79,9 +82,13 @@ impl<G: Generator> Generator for Noting<G> {
         self.inner.new_line()
     }
 
+    /// Its error is one of its own.
     fn indent(&mut self) -> io::Result<()> {
         self.note('+');
-        self.inner.indent()
+        match self.inner.indent() {
+            Ok(()) => Ok(()),
+            Err(_) => Err(TOO_DEEP.error()),
+        }
     }
 
     fn dedent(&mut self) {
@@ -145,6 +152,22 @@ fn expect_called(rt: &impl Abort, alloc: Global, text: &str, hooks: &str) -> Tes
 fn calls_hooks_in_order(rt: HostRuntime) -> Tested {
     for (text, hooks) in CALLED {
         expect_called(&rt, rt.alloc(), text, hooks)?;
+    }
+    Ok(())
+}
+
+/// Where no indent more may be open, the error is that of the hook, and no hook is called after it.
+#[test]
+fn returns_the_error_of_indent(rt: HostRuntime) -> Tested {
+    let alloc = rt.alloc();
+    for (text, hooks) in [("[1]", "[+"), ("{\"a\":1}", "o{+")] {
+        let mut generator = Noting::new(alloc, DumpGenerator::new(alloc));
+        generator.set_dent(u64::MAX);
+        match write_json(&mut generator, &parse(alloc, text)?) {
+            Ok(()) => expect(&rt, text, false),
+            Err(error) => expect(&rt, text, TOO_DEEP.is_returned(alloc, &error)?),
+        }
+        expect_eq(&rt, text, generator.calls.as_str(), hooks);
     }
     Ok(())
 }

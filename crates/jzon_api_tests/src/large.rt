@@ -487,6 +487,8 @@ fn calls_on_a_large_object(rt: HostRuntime) -> Tested {
         let printed = object.pretty(alloc, 2)?;
         expect(&rt, "Object::pretty", printed.as_str() == lines.as_str());
         expect(&rt, "Object::clone", object.clone(alloc)? == *object);
+        let collected: Object = object.keys().zip(0u32..).collect(alloc)?;
+        expect(&rt, "collect", collected == *object);
     }
     let printed = stringify(alloc, value.clone(alloc)?)?;
     expect(&rt, "stringify", printed.as_str() == text.as_str());

@@ -2,14 +2,32 @@
 
 use crate::common::{Tested, expect, expect_eq};
 use jzon::codegen::{
-    Compact, Pretty, PrettyWriterGenerator, WriterGenerator, write_json, write_object,
+    Compact, Outlet, Pretty, PrettyWriterGenerator, WriterGenerator, write_json, write_object,
 };
 use jzon::{JsonValue, parse};
 use jzon_test_support::{DOCUMENT, DUMP, NO_FAILING_CALL, PRETTY, SlowWriter, Trouble};
 use std::alloc::Global;
 use std::io;
-use std::io::ErrorKind;
+use std::io::{ErrorKind, Write};
 use std::process::Abort;
+
+/// An outlet that takes nothing at once, over a writer.
+#[derive(Drop)]
+struct Over<'a> {
+    writer: &'a mut SlowWriter,
+}
+
+impl Write for Over<'_> {
+    fn write(&mut self, buf: &[u8]) -> io::Result<usize> {
+        self.writer.write(buf)
+    }
+
+    fn flush(&mut self) -> io::Result<()> {
+        self.writer.flush()
+    }
+}
+
+impl Outlet for Over<'_> {}
 
 /// How a value is written.
 #[derive(Clone, Copy)]
@@ -18,16 +36,20 @@ enum How {
     Pretty,
     Layout,
     PrettyLayout,
+    Outlet,
+    PrettyOutlet,
     Generator,
     PrettyGenerator,
     Object,
 }
 
-const HOWS: [How; 7] = [
+const HOWS: [How; 9] = [
     How::Compact,
     How::Pretty,
     How::Layout,
     How::PrettyLayout,
+    How::Outlet,
+    How::PrettyOutlet,
     How::Generator,
     How::PrettyGenerator,
     How::Object,
@@ -36,8 +58,8 @@ const HOWS: [How; 7] = [
 impl How {
     fn text(self) -> &'static str {
         match self {
-            How::Compact | How::Layout | How::Generator | How::Object => DUMP,
-            How::Pretty | How::PrettyLayout | How::PrettyGenerator => PRETTY,
+            How::Compact | How::Layout | How::Outlet | How::Generator | How::Object => DUMP,
+            How::Pretty | How::PrettyLayout | How::PrettyOutlet | How::PrettyGenerator => PRETTY,
         }
     }
 
@@ -47,6 +69,8 @@ impl How {
             How::Pretty => value.write_pretty(writer, 2),
             How::Layout => value.write_layout(writer, Compact),
             How::PrettyLayout => value.write_layout(writer, Pretty(2)),
+            How::Outlet => value.write_outlet(&mut Over { writer }, Compact),
+            How::PrettyOutlet => value.write_outlet(&mut Over { writer }, Pretty(2)),
             How::Generator => write_json(&mut WriterGenerator::new(writer), value),
             How::PrettyGenerator => write_json(&mut PrettyWriterGenerator::new(writer, 2), value),
             How::Object => match value.as_object() {
