@@ -1,11 +1,13 @@
 //! What can be converted into a value.
 
 use crate::common::{Tested, expect, expect_eq};
+use jzon_base::error::Result;
 use jzon_base::number::{NAN, Number};
 use jzon_tree::into_json::IntoJson;
 use jzon_tree::object::Object;
 use jzon_tree::value::JsonValue;
 use std::alloc::Global;
+use std::cell::Cell;
 use std::collections::{BTreeMap, HashMap};
 use std::process::Abort;
 
@@ -124,4 +126,44 @@ fn puts_entries(rt: HostRuntime) -> Tested {
     let kept = pairs.into_iter().filter(|pair| pair.0 != "b");
     let object = Object::from_pairs(alloc, kept)?;
     expect_dump(&rt, alloc, object, "{\"a\":3,\"c\":4}")
+}
+
+/// Becomes the number of conversions before its own.
+#[derive(Clone, Copy, Drop)]
+struct Counted<'a> {
+    count: &'a Cell<u64>,
+}
+
+impl IntoJson for Counted<'_> {
+    ghost use Rattle.std.specs.Prelude.{◌≡◌};
+
+    ghost means = { λ _ v. v ≡ v };
+
+    ghost is_free = { λ _. ⊥ };
+
+    fn into_json(self, alloc: Global) -> Result<JsonValue> {
+        let count = self.count.get();
+        self.count.set(count.saturating_add(1));
+        count.into_json(alloc)
+    }
+}
+
+/// Elements and entries are converted in their order, each once.
+#[test]
+fn converts_in_order(rt: HostRuntime) -> Tested {
+    let alloc = rt.alloc();
+    let count = Cell::new(0);
+    let counted = Counted { count: &count };
+    let list = vec![in alloc; counted, counted, counted]?;
+    expect_dump(&rt, alloc, list.as_slice(), "[0,1,2]")?;
+    expect_dump(&rt, alloc, list, "[3,4,5]")?;
+    let pairs = [("b", counted), ("a", counted), ("b", counted)];
+    let object = Object::from_pairs(alloc, pairs.into_iter())?;
+    expect_dump(&rt, alloc, object, "{\"b\":8,\"a\":7}")?;
+    let mut map = BTreeMap::new(alloc);
+    map.insert("b", counted)?;
+    map.insert("a", counted)?;
+    expect_dump(&rt, alloc, map, "{\"a\":9,\"b\":10}")?;
+    expect_eq(&rt, "the conversions", count.get(), 11);
+    Ok(())
 }
