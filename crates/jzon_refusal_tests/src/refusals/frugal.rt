@@ -467,13 +467,18 @@ fn room_counted(rt: HostRuntime) -> Tested {
 /// once request 96 more bytes for each key.
 const MOST_OF_INDEX: usize = 256 * COUNT as usize;
 
+/// The bytes of `COUNT` keys and values, and of an index of up to 1,024 of them with what is beside.
+const MOST_OF_CAPACITY: usize = 96 * COUNT as usize + 32 * 1024;
+
 /// An object with room for all keys requests memory for its index alone.
 #[test]
 fn capacity_counted(rt: HostRuntime) -> Tested {
     let alloc = rt.alloc();
     let keys = keys_by_hash(alloc, COUNT)?;
-    let mut object = Object::with_capacity(alloc, keys.len())?;
     let mut refusals = Refusals::new(alloc);
+    refusals.open();
+    let mut object = Object::with_capacity(alloc, keys.len())?;
+    refusals.expect_within(&rt, "room for many entries", MOST_OF_CAPACITY)?;
     refusals.open();
     for key in &keys {
         object.insert(alloc, key.as_str(), JsonValue::Null)?;

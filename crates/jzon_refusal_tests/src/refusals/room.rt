@@ -143,12 +143,14 @@ fn fill(object: &mut Object, alloc: Global, keys: &[String]) -> Result<()> {
     Ok(())
 }
 
-/// An object with room for a hundred entries takes them without an allocation, but not one more.
+/// An object with room for a hundred entries takes them without an allocation, but not one more. It
+/// keeps the room where it is read while it is empty.
 #[test]
 fn capacity_under_refusals(rt: HostRuntime) -> Tested {
     let alloc = rt.alloc();
     let keys = keys_by_hash(alloc, 100)?;
     let mut object = Object::with_capacity(alloc, 100)?;
+    expect(&rt, "no entry", object.iter_mut().next().is_none());
     let mut refusals = Refusals::new(alloc);
     refusals.begin();
     let filled = fill(&mut object, alloc, &keys);
