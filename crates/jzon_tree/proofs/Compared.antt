@@ -28,9 +28,8 @@ pub record ComparedItems (items others vs ws : List JsonValue) : Type 0 where
 pub lengths_differ : (vs ws : List JsonValue) → (length vs ≡ length ws → ⊥)
     → same_items (view_values vs) (view_values ws) ≡ false
 lengths_differ [] [] h = absurd (h refl)
-lengths_differ [] (w ∷ ws) h = refl
-lengths_differ (v ∷ vs) [] h = refl
 lengths_differ (v ∷ vs) (w ∷ ws) h = and_right _ _ (lengths_differ vs ws (λ e. h (ap suc e)))
+lengths_differ _ _ h = refl
 
 -- ---- objects
 
@@ -77,9 +76,8 @@ looked_up ps qs h k = rw (view-find k ps, view-find k qs) (object-elim (view_pai
 
 same_at-some : (o p : Option JsonValue) → same_at (option_map view o) (option_map view p) ≡ true → is_some o ≡ is_some p
 same_at-some None None h = refl
-same_at-some None (Some w) h = absurd (false≢true h)
-same_at-some (Some v) None h = absurd (false≢true h)
 same_at-some (Some v) (Some w) h = refl
+same_at-some _ _ h = absurd (false≢true h)
 
 same_keys : (ps qs : List (List ℕ × JsonValue)) → same_pairs ps qs ≡ true → (k : List ℕ)
     → is_some (find k ps) ≡ is_some (find k qs)

@@ -1,7 +1,7 @@
 -- What the changers of values preserve: that a program can hold the value, that it contains no NaN, and its nesting
 -- depth.
-use Rattle.std.proofs.Common.{◌≡◌, ◌≢◌, ℕ, zero, suc, ◌<◌, ◌≤◌, List, [], ◌∷◌, ◌++◌, remove, slice_get}
-use Rattle.std.proofs.Common.{Some, refl, subst, arith}
+use Rattle.std.proofs.Common.{◌≡◌, ◌≢◌, ℕ, zero, suc, ◌<◌, ◌≤◌, List, [], ◌∷◌, ◌++◌, remove, slice_get, Some, refl}
+use Rattle.std.proofs.Common.{subst, arith}
 use Rattle.std.specs.Prelude.{⊤, AllPairs, IsUtf8}
 use Rattle.std.specs.List.{AllByRecursion}
 use Rattle.std.proofs.lemmas.Option.{none-some, same_Some}
@@ -10,9 +10,9 @@ use Rattle.jzon_base.proofs.PairLaws.{All-put, All-cut, All-found, distinct-put,
 use Rattle.jzon_tree.specs.Changers.{without_text, with_item, without_item, with_entry, without_entry, cleared}
 use Rattle.jzon_tree.specs.Lawful.{IsText, IsValue, AreValues, ArePairs, HasNoNan, HaveNoNan, PairsHaveNoNan}
 use Rattle.jzon_tree.specs.Readers.{items, entries}
-use Rattle.jzon_tree.specs.Value.{Value, null, boolean, text, number, array, object, Kind, short, long, Values}
-use Rattle.jzon_tree.specs.Value.{no_values, value, Pairs, no_pairs, pair}
-use Rattle.jzon_tree.specs.Value.{values_of, pairs_of, list_of_values, list_of_pairs, nest, most_nest, most_nest_under}
+use Rattle.jzon_tree.specs.Value.{Value, null, text, array, object, Kind, short, long, Values, no_values, value, Pairs}
+use Rattle.jzon_tree.specs.Value.{no_pairs, pair, values_of, pairs_of, list_of_values, list_of_pairs, nest, most_nest}
+use Rattle.jzon_tree.specs.Value.{most_nest_under}
 use Rattle.jzon_tree.proofs.Views.{list_of_pairs-pairs_of}
 
 -- ---- lists
@@ -53,77 +53,47 @@ pub record GoesInside (P Q : Value → Type 0) (K : List ℕ → Type 0) (D : Li
 
 module _ {P Q : Value → Type 0} {K : List ℕ → Type 0} {D : List (List ℕ) → Type 0} (inside : GoesInside P Q K D) where
   keeps_with_item : (v w : Value) → Q v → P w → P (with_item v w)
-  keeps_with_item v null one all = all
-  keeps_with_item v (boolean b) one all = all
-  keeps_with_item v (text k s) one all = all
-  keeps_with_item v (number n) one all = all
   keeps_with_item v (array vs) one all =
       inside.array-from (list_of_values vs ++ v ∷ []) (All-push Q (list_of_values vs) v (inside.array-to vs all) one)
-  keeps_with_item v (object ps) one all = all
+  keeps_with_item v _ one all = all
 
   keeps_without_item : (i : ℕ) (w : Value) → P w → P (without_item i w)
-  keeps_without_item i null all = all
-  keeps_without_item i (boolean b) all = all
-  keeps_without_item i (text k s) all = all
-  keeps_without_item i (number n) all = all
   keeps_without_item i (array vs) all =
       inside.array-from (remove (list_of_values vs) i) (All-remove Q (list_of_values vs) i (inside.array-to vs all))
-  keeps_without_item i (object ps) all = all
+  keeps_without_item i _ all = all
 
   keeps_with_entry : (k : List ℕ) (v w : Value) → K k → Q v → P w → P (with_entry k v w)
-  keeps_with_entry k v null key one all = all
-  keeps_with_entry k v (boolean b) key one all = all
-  keeps_with_entry k v (text j s) key one all = all
-  keeps_with_entry k v (number n) key one all = all
-  keeps_with_entry k v (array vs) key one all = all
   keeps_with_entry k v (object ps) key one all =
       let held = inside.object-to ps all in
       inside.object-from (put k v (list_of_pairs ps))
       (All-put (λ p. K p.0 × Q p.1) k v (list_of_pairs ps) (key, one) held.0) (inside.put k v (list_of_pairs ps) held.1)
+  keeps_with_entry k v _ key one all = all
 
   keeps_without_entry : (k : List ℕ) (w : Value) → P w → P (without_entry k w)
-  keeps_without_entry k null all = all
-  keeps_without_entry k (boolean b) all = all
-  keeps_without_entry k (text j s) all = all
-  keeps_without_entry k (number n) all = all
-  keeps_without_entry k (array vs) all = all
   keeps_without_entry k (object ps) all =
       let held = inside.object-to ps all in
       inside.object-from (cut k (list_of_pairs ps)) (All-cut (λ p. K p.0 × Q p.1) k (list_of_pairs ps) held.0)
       (inside.cut k (list_of_pairs ps) held.1)
+  keeps_without_entry k _ all = all
 
   keeps_cleared : (w : Value) → P w → P (cleared w)
-  keeps_cleared null all = inside.null
-  keeps_cleared (boolean b) all = inside.null
   keeps_cleared (text k s) all = inside.empty_text k s all
-  keeps_cleared (number n) all = inside.null
   keeps_cleared (array vs) all = inside.array-from [] tt
   keeps_cleared (object ps) all = inside.object-from [] tt inside.none
+  keeps_cleared _ all = inside.null
 
   keeps_without_text : (w : Value) → P w → P (without_text w)
-  keeps_without_text null all = all
-  keeps_without_text (boolean b) all = all
   keeps_without_text (text k s) all = inside.null
-  keeps_without_text (number n) all = all
-  keeps_without_text (array vs) all = all
-  keeps_without_text (object ps) all = all
+  keeps_without_text _ all = all
 
   keeps_item : (i : ℕ) (v w : Value) → P w → slice_get (items w) i ≡ Some v → Q v
-  keeps_item i v null all got = All-slice_get Q [] i v tt got
-  keeps_item i v (boolean b) all got = All-slice_get Q [] i v tt got
-  keeps_item i v (text k s) all got = All-slice_get Q [] i v tt got
-  keeps_item i v (number n) all got = All-slice_get Q [] i v tt got
   keeps_item i v (array vs) all got = All-slice_get Q (list_of_values vs) i v (inside.array-to vs all) got
-  keeps_item i v (object ps) all got = All-slice_get Q [] i v tt got
+  keeps_item i v _ all got = All-slice_get Q [] i v tt got
 
   keeps_found : (k : List ℕ) (v w : Value) → P w → find k (entries w) ≡ Some v → Q v
-  keeps_found k v null all found = absurd (none-some v found)
-  keeps_found k v (boolean b) all found = absurd (none-some v found)
-  keeps_found k v (text j s) all found = absurd (none-some v found)
-  keeps_found k v (number n) all found = absurd (none-some v found)
-  keeps_found k v (array vs) all found = absurd (none-some v found)
   keeps_found k v (object ps) all found =
       (All-found (λ p. K p.0 × Q p.1) k v (list_of_pairs ps) (inside.object-to ps all).0 found).1
+  keeps_found k v _ all found = absurd (none-some v found)
 
 -- ---- a value that a program can hold
 
@@ -261,12 +231,8 @@ nests h = record {
 
 -- the keys of a value that a program can hold
 pub distinct-entries : (v : Value) → IsValue v → AllPairs (λ j k. j ≢ k) (keys_of (entries v))
-distinct-entries null h = held.none
-distinct-entries (boolean b) h = held.none
-distinct-entries (text k s) h = held.none
-distinct-entries (number n) h = held.none
-distinct-entries (array vs) h = held.none
 distinct-entries (object ps) h = h.1
+distinct-entries _ h = held.none
 
 pub IsValue-with_item : (v w : Value) → IsValue v → IsValue w → IsValue (with_item v w)
 IsValue-with_item = keeps_with_item held

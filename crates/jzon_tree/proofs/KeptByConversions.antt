@@ -41,9 +41,8 @@ module _ {P Q : Value → Type 0} {K : List ℕ → Type 0} {D : List (List ℕ)
   each_item : {X : Type 0} (means : X → Value → Type 0) → ((x : X) (v : Value) → means x v → Q v)
       → (xs : List X) (vs : List Value) → AllZip means xs vs → AllByRecursion Q vs
   each_item means each [] [] all = tt
-  each_item means each [] (v ∷ vs) all = absurd all
-  each_item means each (x ∷ xs) [] all = absurd all
   each_item means each (x ∷ xs) (v ∷ vs) all = (each x v all.0, each_item means each xs vs all.1)
+  each_item means each _ _ all = absurd all
 
   pub keeps_list : {X : Type 0} (means : X → Value → Type 0) → ((x : X) (v : Value) → means x v → Q v)
       → (xs : List X) (v : Value) → ListMeans means xs v → P v
@@ -54,10 +53,9 @@ module _ {P Q : Value → Type 0} {K : List ℕ → Type 0} {D : List (List ℕ)
     each_pair : (ps : List (N × X)) (qs : List (List ℕ × Value)) → PairsMean name means ps qs
         → AllByRecursion (λ q. K q.0 × Q q.1) qs
     each_pair [] [] all = tt
-    each_pair [] (q ∷ qs) all = absurd all
-    each_pair (p ∷ ps) [] all = absurd all
     each_pair (p ∷ ps) (q ∷ qs) all =
         ((subst K (sym all.0.0) (named p.0), each p.1 q.1 all.0.1), each_pair ps qs all.1)
+    each_pair _ _ all = absurd all
 
     put_all : (rs qs : List (List ℕ × Value)) → AllByRecursion (λ q. K q.0 × Q q.1) rs
         → AllByRecursion (λ q. K q.0 × Q q.1) qs

@@ -8,9 +8,8 @@ use Rattle.std.specs.List.{AllZip}
 pub AllZip-push : {X Y : Type 0} (R : X → Y → Type 0) (xs : List X) (ys : List Y) (x : X) (y : Y) → AllZip R xs ys
     → R x y → AllZip R (xs ++ x ∷ []) (ys ++ y ∷ [])
 AllZip-push R [] [] x y each here = (here, tt)
-AllZip-push R [] (z ∷ ys) x y each here = absurd each
-AllZip-push R (w ∷ xs) [] x y each here = absurd each
 AllZip-push R (w ∷ xs) (z ∷ ys) x y each here = (each.0, AllZip-push R xs ys x y each.1 here)
+AllZip-push R _ _ x y each here = absurd each
 
 -- the same for a list to which a function is applied
 pub AllZip-push_map : {X Y Z : Type 0} (R : X → Y → Type 0) (f : Z → Y) (xs : List X) (zs ws : List Z) (x : X) (z : Z)

@@ -11,8 +11,8 @@ use Rattle.std.proofs.lemmas.Bool.{cases_lt, and_parts, ltb-true}
 use Rattle.std.proofs.lemmas.Bool.Decides.{nat_tests}
 use Rattle.std.proofs.lemmas.Fmt.{IsAscii-decimal, length-decimal-le}
 use Rattle.std.proofs.lemmas.List.Concat.{flat_map-append}
-use Rattle.std.proofs.lemmas.Str.{encode_ascii, inside_one, IsAscii-append, IsAscii-take, IsAscii-drop}
-use Rattle.std.proofs.lemmas.Str.{IsUtf8-append, IsUtf8-from_ascii, IsUtf8-nil}
+use Rattle.std.proofs.lemmas.Str.{encode_ascii, inside_one, IsAscii-append, IsAscii-take, IsAscii-drop, IsUtf8-append}
+use Rattle.std.proofs.lemmas.Str.{IsUtf8-from_ascii, IsUtf8-nil}
 use Rattle.std.proofs.lemmas.Str.Ascii.{IsAscii-nil, IsAscii-cons}
 use Rattle.jzon_base.specs.Decimal.{Decimal, nan, parts}
 use Rattle.jzon_base.specs.NumberText.{sign_text, point_after, point_after_first, fraction_text, small_exponent_text}
@@ -21,8 +21,8 @@ use Rattle.jzon_tree.specs.Lawful.{InRange, IsText, IsValue, AreValues, ArePairs
 use Rattle.jzon_tree.specs.Text.{escaped_byte, escaped, quoted}
 use Rattle.jzon_tree.specs.Value.{Value, null, boolean, text, number, array, object, Values, no_values, value, Pairs}
 use Rattle.jzon_tree.specs.Value.{no_pairs, pair, Kind, short, long}
-use Rattle.jzon_tree.specs.Writing.{Style, is_whitespace, is_all_whitespace, text_at, Joins, Encloses, Writes, WritesEach}
-use Rattle.jzon_tree.specs.Writing.{WritesPairs, colon_text}
+use Rattle.jzon_tree.specs.Writing.{Style, is_whitespace, is_all_whitespace, text_at, Joins, Encloses, Writes}
+use Rattle.jzon_tree.specs.Writing.{WritesEach, WritesPairs, colon_text}
 
 -- ---- bytes below 128
 pub IsAscii-one : (c : ℕ) → c < 128 → IsAscii (c ∷ [])
@@ -226,16 +226,14 @@ mutual
 
   utf8_each : (s : Style) (d : ℕ) (vs : Values) (ts : List (List ℕ)) → AreValues vs → WritesEach s d vs ts → AreUtf8 ts
   utf8_each s d no_values [] h e = tt
-  utf8_each s d no_values (t ∷ ts) h e = absurd e
-  utf8_each s d (value v vs) [] h e = absurd e
   utf8_each s d (value v vs) (t ∷ ts) h e = (IsUtf8-writing s d v t h.0 e.0, utf8_each s d vs ts h.1 e.1)
+  utf8_each s d _ _ h e = absurd e
 
   utf8_pairs : (s : Style) (d : ℕ) (ps : Pairs) (ts : List (List ℕ)) → ArePairs ps → WritesPairs s d ps ts → AreUtf8 ts
   utf8_pairs s d no_pairs [] h e = tt
-  utf8_pairs s d no_pairs (t ∷ ts) h e = absurd e
-  utf8_pairs s d (pair k v ps) [] h e = absurd e
   utf8_pairs s d (pair k v ps) (t ∷ ts) h ((wide, x, c, w, e), rest) = (
     subst IsUtf8 (sym e) (IsUtf8-append _ _ (IsUtf8-quoted k h.0)
         (IsUtf8-append _ _ (colon_utf8 wide) (IsUtf8-writing s d v x h.1 w))),
     utf8_pairs s d ps ts h.2 rest,
   )
+  utf8_pairs s d _ _ h e = absurd e

@@ -43,10 +43,9 @@ module _ {K : Type 0} (text : K → List ℕ) (e : K → K → Bool) (by_text : 
       meant_keys : (ps : List (K × X)) (qs : List (List ℕ × Value)) → PairsMean text means ps qs
           → keys_of qs ≡ map text (map (λ p. p.0) ps)
       meant_keys [] [] each = refl
-      meant_keys [] (q ∷ qs) each = absurd each
-      meant_keys (p ∷ ps) [] each = absurd each
       meant_keys (p ∷ ps) (q ∷ qs) each = ap (λ k. k ∷ keys_of qs) each.0.0
           ∙ ap (λ ks. text p.0 ∷ ks) (meant_keys ps qs each.1)
+      meant_keys _ _ each = absurd each
 
       -- an object into which a map's entries were put one after the other
       pub map_put : (ps left : List (K × X)) (o : Object) → left ≡ ps → IsDistinct e (map (λ p. p.0) ps)

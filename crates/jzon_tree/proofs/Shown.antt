@@ -1,7 +1,6 @@
 -- The pieces that a formatter shows of a value, joined.
-use Rattle.std.proofs.Common.{◌≡◌, ℕ, suc, ◌+◌, ◌<◌, Bool, true, false, List, [], ◌∷◌, ◌++◌, length, take}
-use Rattle.std.proofs.Common.{drop, get_or, map, refl, sym, ap, ◌∙◌, append_assoc, append-nil, add-one, arith}
-use Rattle.std.proofs.Common.{length-drop}
+use Rattle.std.proofs.Common.{◌≡◌, ℕ, suc, ◌+◌, ◌<◌, Bool, true, false, List, [], ◌∷◌, ◌++◌, length, take, drop, get_or}
+use Rattle.std.proofs.Common.{map, refl, sym, ap, ◌∙◌, append_assoc, append-nil, add-one, arith, length-drop}
 use Rattle.std.specs.Prelude.{nat_lt}
 use Rattle.std.specs.List.{prefix_len}
 use Rattle.std.proofs.Math.Seq.{drop-cons}
@@ -11,8 +10,7 @@ use Rattle.jzon_base.specs.Private.PlainBytes.{is_plain}
 use Rattle.jzon_tree.specs.Displayed.{comma_text, member_text}
 use Rattle.jzon_tree.specs.Text.{escaped, escaped_byte, quoted, compact, compact_layout, layout_text, more_values_text}
 use Rattle.jzon_tree.specs.Text.{more_pairs_text}
-use Rattle.jzon_tree.specs.Value.{Value, null, boolean, text, number, array, object, Values, no_values, value, Pairs}
-use Rattle.jzon_tree.specs.Value.{no_pairs, pair}
+use Rattle.jzon_tree.specs.Value.{Value, array, object, Values, no_values, value, Pairs, no_pairs, pair}
 use Rattle.jzon_tree.specs.View.{view, view_values, view_pairs}
 use Rattle.jzon_tree.specs.declared.value.JsonValue.{JsonValue}
 use Rattle.jzon_tree.proofs.Plain.{escaped-run}
@@ -42,15 +40,10 @@ module _ (whole bs run : List ℕ) (n : ℕ) (p : run ≡ take n bs) (e : n ≡ 
 mutual
   -- it is the same at each depth
   same_depth : (d e : ℕ) (v : Value) → layout_text compact_layout d v ≡ layout_text compact_layout e v
-  same_depth d e null = refl
-  same_depth d e (boolean b) = refl
-  same_depth d e (text k s) = refl
-  same_depth d e (number n) = refl
-  same_depth d e (array no_values) = refl
   same_depth d e (array (value v vs)) = λ i. 91 ∷ (same_depth (suc d) (suc e) v i ++ same_values d e vs i)
-  same_depth d e (object no_pairs) = refl
   same_depth d e (object (pair k v ps)) =
       λ i. 123 ∷ (((quoted k ++ 58 ∷ []) ++ same_depth (suc d) (suc e) v i) ++ same_pairs d e ps i)
+  same_depth d e _ = refl
 
   same_values : (d e : ℕ) (vs : Values) → more_values_text compact_layout d vs ≡ more_values_text compact_layout e vs
   same_values d e no_values = refl

@@ -14,8 +14,7 @@ use Rattle.jzon_tree.specs.Generator.{Adds, Begins, Sends, Emitted, Prints, inse
 use Rattle.jzon_tree.specs.Generators.{fresh}
 use Rattle.jzon_tree.specs.Styles.{only, same_form}
 use Rattle.jzon_tree.specs.Text.{Layout, layout_text, more_values_text, more_pairs_text, quoted}
-use Rattle.jzon_tree.specs.Value.{Value, null, boolean, text, number, array, object, Values, no_values, value, Pairs}
-use Rattle.jzon_tree.specs.Value.{no_pairs, pair, list_of_pairs}
+use Rattle.jzon_tree.specs.Value.{Value, array, object, Values, no_values, value, Pairs, no_pairs, pair, list_of_pairs}
 use Rattle.jzon_tree.specs.Writing.{Style, IsAllowedWhitespace, text_at, Joins, Writes, WritesEach, WritesPairs}
 use Rattle.jzon_tree.specs.Writing.{colon_text}
 
@@ -24,9 +23,8 @@ same_list xs ys e = (bytes_eq-Decides xs ys).0 e
 
 form_is : (form wide : Bool) → IsTrue (same_form form wide) → form ≡ wide
 form_is true true h = refl
-form_is true false h = absurd (cc h)
-form_is false true h = absurd (cc h)
 form_is false false h = refl
+form_is _ _ h = absurd (cc h)
 
 -- ---- the order of insertion
 in_order : (ts prefix : List (List ℕ)) → map (text_at (prefix ++ ts)) (range_with_len (length prefix) (length ts)) ≡ ts
@@ -94,15 +92,9 @@ module _ (line : ℕ → List ℕ) (wide : Bool) where
 
   mutual
     pub written : (d : ℕ) (v : Value) (b : List ℕ) → Writes style d v b → b ≡ layout_text layout d v
-    written d null b e = e
-    written d (boolean t) b e = e
-    written d (text k t) b e = e
-    written d (number n) b e = e
-    written d (array no_values) b e = e
     written d (array (value v vs)) b (ts, each, (inside, w, j, h, e)) =
         e ∙ ap (λ x. 91 ∷ x) (values_inside d v vs inside w (subst (λ xs. Joins style (suc d) xs inside)
         (written_values (suc d) (value v vs) ts each) j) (whitespace_is d w h))
-    written d (object no_pairs) b e = e
     written d (object (pair k v ps)) b (ts, positions, each, order, allowed, (inside, w, j, h, e)) =
         let same : ts ≡ pair_texts (suc d) (pair k v ps) = written_pairs (suc d) (pair k v ps) ts each in
         let as_many : length (keys_of (list_of_pairs (pair k v ps)))
@@ -111,19 +103,18 @@ module _ (line : ℕ → List ℕ) (wide : Bool) where
         ap (map (text_at ts)) (same_list positions _ allowed ∙ ap insertion as_many) ∙ in_order ts [] ∙ same in
         e ∙ ap (λ x. 123 ∷ x) (pairs_inside d k v ps inside w (subst (λ xs. Joins style (suc d) xs inside) ordered j)
         (whitespace_is d w h))
+    written d _ b e = e
 
     written_values : (d : ℕ) (vs : Values) (ts : List (List ℕ)) → WritesEach style d vs ts → ts ≡ value_texts d vs
     written_values d no_values [] h = refl
-    written_values d no_values (t ∷ ts) h = absurd h
-    written_values d (value v vs) [] h = absurd h
     written_values d (value v vs) (t ∷ ts) h = rw (written d v t h.0, written_values d vs ts h.1) refl
+    written_values d _ _ h = absurd h
 
     written_pairs : (d : ℕ) (ps : Pairs) (ts : List (List ℕ)) → WritesPairs style d ps ts → ts ≡ pair_texts d ps
     written_pairs d no_pairs [] h = refl
-    written_pairs d no_pairs (t ∷ ts) h = absurd h
-    written_pairs d (pair k v ps) [] h = absurd h
     written_pairs d (pair k v ps) (t ∷ ts) ((form, x, c, i, e), h) = rw
         (e, form_is form wide c, written d v x i, written_pairs d ps ts h) refl
+    written_pairs d _ _ h = absurd h
 
 -- ---- the final state of a writer that a generator borrowed
 adds-appended : (P : List ℕ → Type 0) (bs : List ℕ) (a b : Option (List ℕ)) → ((x : List ℕ) → P x → x ≡ bs) → Adds P a b

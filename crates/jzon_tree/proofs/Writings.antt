@@ -66,9 +66,8 @@ some_enclosed s lawful d opening closing t ts =
 length-texts : (s : Style) (d : ℕ) (ps : Pairs) (ts : List (List ℕ)) → WritesPairs s d ps ts
     → length ts ≡ length (keys_of (list_of_pairs ps))
 length-texts s d no_pairs [] h = refl
-length-texts s d no_pairs (t ∷ ts) h = absurd h
-length-texts s d (pair k v ps) [] h = absurd h
 length-texts s d (pair k v ps) (t ∷ ts) h = ap suc (length-texts s d ps ts h.1)
+length-texts s d _ _ h = absurd h
 
 enclosed_order : (s : Style) → IsStyle s → (d opening closing n : ℕ) (ts : List (List ℕ)) (positions : List ℕ)
     → length positions ≡ suc n → (b : List ℕ) × Encloses s d opening (map (text_at ts) positions) closing b
@@ -143,16 +142,14 @@ Items-append s d comma (t ∷ ts) us b z (w, r, hw, hr, e) h = (
 WritesEach-append : (s : Style) (d : ℕ) (us vs : List Value) (xs ys : List (List ℕ)) → WritesEach s d (values_of us) xs
     → WritesEach s d (values_of vs) ys → WritesEach s d (values_of (us ++ vs)) (xs ++ ys)
 WritesEach-append s d [] vs [] ys h k = k
-WritesEach-append s d [] vs (x ∷ xs) ys h k = absurd h
-WritesEach-append s d (u ∷ us) vs [] ys h k = absurd h
 WritesEach-append s d (u ∷ us) vs (x ∷ xs) ys h k = (h.0, WritesEach-append s d us vs xs ys h.1 k)
+WritesEach-append s d _ vs _ ys h k = absurd h
 
 WritesEach-length : (s : Style) (d : ℕ) (us : List Value) (xs : List (List ℕ)) → WritesEach s d (values_of us) xs
     → length xs ≡ length us
 WritesEach-length s d [] [] h = refl
-WritesEach-length s d [] (x ∷ xs) h = absurd h
-WritesEach-length s d (u ∷ us) [] h = absurd h
 WritesEach-length s d (u ∷ us) (x ∷ xs) h = ap suc (WritesEach-length s d us xs h.1)
+WritesEach-length s d _ _ h = absurd h
 
 -- the values in sequence, where a comma may precede the first too
 abbrev pub MoreItems : Style → ℕ → Bool → List Value → List ℕ → Type 0
