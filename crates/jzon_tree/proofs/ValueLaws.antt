@@ -4,9 +4,9 @@ pub use Rattle.jzon_tree.proofs.Views.{view-Null, view-Boolean, view-Array, view
 pub use Rattle.jzon_tree.proofs.Views.{list_of_pairs-pairs_of, find-viewed, viewed-put, viewed-cut}
 pub use Rattle.jzon_tree.proofs.Ordered.{keys-viewed}
 pub use Rattle.jzon_tree.proofs.Seen.{list_of_values-values_of, items-Array, entries-Object, count-Array, count-Object}
-use Rattle.std.proofs.Common.{◌≡◌, ◌≢◌, ℕ, zero, suc, List, [], ◌∷◌, ◌++◌, map, remove, Bool, true, false, cond}
-use Rattle.std.proofs.Common.{Some, None, option_map, unwrap_or}
-use Rattle.std.proofs.Common.{refl, sym, ap, ◌∙◌, subst, rules, string_bytes, String, Global}
+use Rattle.std.proofs.Common.{◌≡◌, ◌≢◌, ℕ, zero, suc, List, [], ◌∷◌, ◌++◌, map, remove, Bool, true, false, cond, Some}
+use Rattle.std.proofs.Common.{None, option_map, unwrap_or, refl, sym, ap, ◌∙◌, subst, rules, string_bytes, String}
+use Rattle.std.proofs.Common.{Global}
 use Rattle.std.specs.Prelude.{AllPairs}
 use Rattle.std.specs.Str.{bytes_eq}
 use Rattle.std.proofs.lemmas.Option.{none-some}
@@ -17,12 +17,12 @@ use Rattle.jzon_tree.specs.Changers.{with_item, without_item, with_entry, withou
 use Rattle.jzon_tree.specs.Entries.{entries_of, with_entries}
 use Rattle.jzon_tree.specs.Lent.{object_in, entries_in, items_in}
 use Rattle.jzon_tree.specs.Readers.{items, entries, is_array, is_object, object_of, array_of}
-use Rattle.jzon_tree.specs.Value.{Value, null, boolean, text, number, array, object, short, long, list_of_values}
-use Rattle.jzon_tree.specs.Value.{list_of_pairs, Values, Pairs, no_values, value, no_pairs, pair, values_of, pairs_of}
+use Rattle.jzon_tree.specs.Value.{Value, null, text, number, array, object, short, long, list_of_values, list_of_pairs}
+use Rattle.jzon_tree.specs.Value.{Values, Pairs, no_values, value, no_pairs, pair, values_of, pairs_of}
 use Rattle.jzon_tree.specs.View.{view, viewed, view_object}
 use Rattle.jzon_tree.specs.declared.object.Object.{Object}
-use Rattle.jzon_tree.specs.declared.value.JsonValue.{JsonValue, out-JsonValue, roll-JsonValue, the_lemmas}
-use Rattle.jzon_tree.specs.declared.value.JsonValue.{Short, String as in_memory, Number, Object as object_value}
+use Rattle.jzon_tree.specs.declared.value.JsonValue.{JsonValue, out-JsonValue, roll-JsonValue, the_lemmas, Short}
+use Rattle.jzon_tree.specs.declared.value.JsonValue.{String as in_memory, Number, Object as object_value}
 use Rattle.jzon_tree.specs.declared.value.JsonValue.TheOpen.{JsonValue-F}
 
 -- ---- each kind
@@ -36,22 +36,21 @@ view-String s = search (rules, the_lemmas)
 pub view-Number : (n : Decimal) → view (Number n) ≡ number n
 view-Number n = search (rules, the_lemmas)
 
+-- what holds of each kind of `JsonValue` holds of every one
+pub by_kind : (P : JsonValue → Type 0) → ((l : JsonValue-F JsonValue Object) → P (roll-JsonValue l)) → (v : JsonValue)
+    → P v
+by_kind P each v =
+    let same : roll-JsonValue (out-JsonValue v) ≡ v = search (rules, the_lemmas) in subst P same (each (out-JsonValue v))
+
 -- ---- the entries and the elements of any value
 
 rolled_entries : (l : JsonValue-F JsonValue Object)
     → entries (view (roll-JsonValue l)) ≡ viewed (entries_in (roll-JsonValue l))
-rolled_entries JsonValue-F.Null = search (rules, the_lemmas)
-rolled_entries (JsonValue-F.Short s) = search (rules, the_lemmas)
-rolled_entries (JsonValue-F.String s) = search (rules, the_lemmas)
-rolled_entries (JsonValue-F.Number n) = search (rules, the_lemmas)
-rolled_entries (JsonValue-F.Boolean b) = search (rules, the_lemmas)
 rolled_entries (JsonValue-F.Object o) = search (rules, the_lemmas, entries-Object)
-rolled_entries (JsonValue-F.Array vs) = search (rules, the_lemmas)
+rolled_entries _ = search (rules, the_lemmas)
 
 pub entries-view : (v : JsonValue) → entries (view v) ≡ viewed (entries_in v)
-entries-view v =
-    let same : roll-JsonValue (out-JsonValue v) ≡ v = search (rules, the_lemmas) in
-    subst (λ w. entries (view w) ≡ viewed (entries_in w)) same (rolled_entries (out-JsonValue v))
+entries-view v = by_kind (λ w. entries (view w) ≡ viewed (entries_in w)) rolled_entries v
 
 pub find-view : (k : List ℕ) (v : JsonValue) → find k (entries (view v)) ≡ option_map view (find k (entries_in v))
 find-view k v = ap (find k) (entries-view v) ∙ sym (find-viewed k (entries_in v))
@@ -70,81 +69,46 @@ view_object-put k v o =
 
 rolled_items : (l : JsonValue-F JsonValue Object)
     → items (view (roll-JsonValue l)) ≡ map view (unwrap_or (items_in (roll-JsonValue l)) [])
-rolled_items JsonValue-F.Null = search (rules, the_lemmas)
-rolled_items (JsonValue-F.Short s) = search (rules, the_lemmas)
-rolled_items (JsonValue-F.String s) = search (rules, the_lemmas)
-rolled_items (JsonValue-F.Number n) = search (rules, the_lemmas)
-rolled_items (JsonValue-F.Boolean b) = search (rules, the_lemmas)
-rolled_items (JsonValue-F.Object o) = search (rules, the_lemmas)
 rolled_items (JsonValue-F.Array vs) = search (rules, the_lemmas, items-Array)
+rolled_items _ = search (rules, the_lemmas)
 
 pub items-view : (v : JsonValue) → items (view v) ≡ map view (unwrap_or (items_in v) [])
-items-view v =
-    let same : roll-JsonValue (out-JsonValue v) ≡ v = search (rules, the_lemmas) in
-    subst (λ w. items (view w) ≡ map view (unwrap_or (items_in w) [])) same (rolled_items (out-JsonValue v))
+items-view v = by_kind (λ w. items (view w) ≡ map view (unwrap_or (items_in w) [])) rolled_items v
 
 pub entries-other : (v : Value) → is_object v ≡ false → entries v ≡ []
-entries-other null h = refl
-entries-other (boolean b) h = refl
-entries-other (text k s) h = refl
-entries-other (number n) h = refl
-entries-other (array vs) h = refl
 entries-other (object ps) h = absurd (cc)
+entries-other _ h = refl
 
 pub items-other : (v : Value) → is_array v ≡ false → items v ≡ []
-items-other null h = refl
-items-other (boolean b) h = refl
-items-other (text k s) h = refl
-items-other (number n) h = refl
 items-other (array vs) h = absurd (cc)
-items-other (object ps) h = refl
+items-other _ h = refl
 
 -- ---- the entries and the elements after a change
 
 pub entries-with_entry : (k : List ℕ) (v w : Value) → is_object w ≡ true
     → entries (with_entry k v w) ≡ put k v (entries w)
-entries-with_entry k v null h = absurd (cc)
-entries-with_entry k v (boolean b) h = absurd (cc)
-entries-with_entry k v (text j s) h = absurd (cc)
-entries-with_entry k v (number n) h = absurd (cc)
-entries-with_entry k v (array vs) h = absurd (cc)
 entries-with_entry k v (object ps) h = list_of_pairs-pairs_of (put k v (list_of_pairs ps))
+entries-with_entry k v _ h = absurd (cc)
 
 pub is_object-with_entry : (k : List ℕ) (v w : Value) → is_object (with_entry k v w) ≡ is_object w
 is_object-with_entry k v null = refl
-is_object-with_entry k v (boolean b) = refl
-is_object-with_entry k v (text j s) = refl
-is_object-with_entry k v (number n) = refl
-is_object-with_entry k v (array vs) = refl
-is_object-with_entry k v (object ps) = refl
+is_object-with_entry k v _ = refl
 
 pub entries-without_entry : (k : List ℕ) (w : Value) → entries (without_entry k w) ≡ cut k (entries w)
-entries-without_entry k null = refl
-entries-without_entry k (boolean b) = refl
-entries-without_entry k (text j s) = refl
-entries-without_entry k (number n) = refl
-entries-without_entry k (array vs) = refl
 entries-without_entry k (object ps) = list_of_pairs-pairs_of (cut k (list_of_pairs ps))
+entries-without_entry k _ = refl
 
 pub items-with_item : (v w : Value) → is_array w ≡ true → items (with_item v w) ≡ items w ++ v ∷ []
-items-with_item v null h = absurd (cc)
-items-with_item v (boolean b) h = absurd (cc)
-items-with_item v (text j s) h = absurd (cc)
-items-with_item v (number n) h = absurd (cc)
 items-with_item v (array vs) h = list_of_values-values_of (list_of_values vs ++ v ∷ [])
-items-with_item v (object ps) h = absurd (cc)
+items-with_item v _ h = absurd (cc)
 
 nothing_removed : (i : ℕ) → ◌≡◌ {A = List Value} [] (remove [] i)
 nothing_removed zero = refl
 nothing_removed (suc i) = refl
 
 pub items-without_item : (i : ℕ) (w : Value) → items (without_item i w) ≡ remove (items w) i
-items-without_item i null = nothing_removed i
-items-without_item i (boolean b) = nothing_removed i
-items-without_item i (text j s) = nothing_removed i
-items-without_item i (number n) = nothing_removed i
 items-without_item i (array vs) = list_of_values-values_of (remove (list_of_values vs) i)
-items-without_item i (object ps) = nothing_removed i
+items-without_item i _ = nothing_removed i
 
 -- ---- what is found after a change
 
@@ -154,13 +118,9 @@ find-with_entry_same k v w h = ap (find k) (entries-with_entry k v w h) ∙ find
 
 pub find-with_entry_other : (j k : List ℕ) (v w : Value) → j ≢ k
     → find j (entries (with_entry k v w)) ≡ find j (entries w)
-find-with_entry_other j k v null apart = refl
-find-with_entry_other j k v (boolean b) apart = refl
-find-with_entry_other j k v (text l s) apart = refl
-find-with_entry_other j k v (number n) apart = refl
-find-with_entry_other j k v (array vs) apart = refl
 find-with_entry_other j k v (object ps) apart =
     ap (find j) (entries-with_entry k v (object ps) refl) ∙ find-put_other j k v (list_of_pairs ps) apart
+find-with_entry_other j k v _ apart = refl
 
 pub find-without_entry_same : (k : List ℕ) (w : Value) → AllPairs (λ i j. i ≢ j) (keys_of (entries w))
     → find k (entries (without_entry k w)) ≡ None
@@ -198,57 +158,31 @@ viewed-put_same k v w (p ∷ ps) found same =
 
 -- ---- values that are no object, and values that are no array
 
-rolled-no_object : (l : JsonValue-F JsonValue Object) → object_in (roll-JsonValue l) ≡ None
-    → is_object (view (roll-JsonValue l)) ≡ false
-rolled-no_object JsonValue-F.Null h = search (rules, the_lemmas)
-rolled-no_object (JsonValue-F.Short s) h = search (rules, the_lemmas)
-rolled-no_object (JsonValue-F.String s) h = search (rules, the_lemmas)
-rolled-no_object (JsonValue-F.Number n) h = search (rules, the_lemmas)
-rolled-no_object (JsonValue-F.Boolean b) h = search (rules, the_lemmas)
-rolled-no_object (JsonValue-F.Object o) h =
-    let is : object_in (roll-JsonValue (JsonValue-F.Object o)) ≡ Some o = search (rules, the_lemmas) in
-    absurd (none-some o (sym h ∙ is))
-rolled-no_object (JsonValue-F.Array vs) h = search (rules, the_lemmas)
-
-pub is_object-no_object_in : (v : JsonValue) → object_in v ≡ None → is_object (view v) ≡ false
-is_object-no_object_in v =
-    let same : roll-JsonValue (out-JsonValue v) ≡ v = search (rules, the_lemmas) in
-    subst (λ w. object_in w ≡ None → is_object (view w) ≡ false) same (rolled-no_object (out-JsonValue v))
-
--- the same by what a match on `JsonValue::Object` leaves to its last arm
+-- by what a match on `JsonValue::Object` leaves to its last arm
 rolled-not_Object : (l : JsonValue-F JsonValue Object) → ((o : Object) → roll-JsonValue l ≡ object_value o → ⊥)
     → is_object (view (roll-JsonValue l)) ≡ false
-rolled-not_Object JsonValue-F.Null h = search (rules, the_lemmas)
-rolled-not_Object (JsonValue-F.Short s) h = search (rules, the_lemmas)
-rolled-not_Object (JsonValue-F.String s) h = search (rules, the_lemmas)
-rolled-not_Object (JsonValue-F.Number n) h = search (rules, the_lemmas)
-rolled-not_Object (JsonValue-F.Boolean b) h = search (rules, the_lemmas)
 rolled-not_Object (JsonValue-F.Object o) h =
     let is : roll-JsonValue (JsonValue-F.Object o) ≡ object_value o = search (rules, the_lemmas) in absurd (h o is)
-rolled-not_Object (JsonValue-F.Array vs) h = search (rules, the_lemmas)
+rolled-not_Object _ h = search (rules, the_lemmas)
 
 pub is_object-not_Object : (v : JsonValue) → ((o : Object) → v ≡ object_value o → ⊥) → is_object (view v) ≡ false
 is_object-not_Object v =
-    let same : roll-JsonValue (out-JsonValue v) ≡ v = search (rules, the_lemmas) in
-    subst (λ w. ((o : Object) → w ≡ object_value o → ⊥) → is_object (view w) ≡ false) same
-    (rolled-not_Object (out-JsonValue v))
+    by_kind (λ w. ((o : Object) → w ≡ object_value o → ⊥) → is_object (view w) ≡ false) rolled-not_Object v
+
+pub is_object-no_object_in : (v : JsonValue) → object_in v ≡ None → is_object (view v) ≡ false
+is_object-no_object_in v none = is_object-not_Object v (λ o e.
+    let is : object_in (object_value o) ≡ Some o = search (rules, the_lemmas) in
+    none-some o (sym none ∙ ap object_in e ∙ is))
 
 rolled-no_array : (l : JsonValue-F JsonValue Object) → items_in (roll-JsonValue l) ≡ None
     → is_array (view (roll-JsonValue l)) ≡ false
-rolled-no_array JsonValue-F.Null h = search (rules, the_lemmas)
-rolled-no_array (JsonValue-F.Short s) h = search (rules, the_lemmas)
-rolled-no_array (JsonValue-F.String s) h = search (rules, the_lemmas)
-rolled-no_array (JsonValue-F.Number n) h = search (rules, the_lemmas)
-rolled-no_array (JsonValue-F.Boolean b) h = search (rules, the_lemmas)
-rolled-no_array (JsonValue-F.Object o) h = search (rules, the_lemmas)
 rolled-no_array (JsonValue-F.Array vs) h =
     let is : items_in (roll-JsonValue (JsonValue-F.Array vs)) ≡ Some vs.items = search (rules, the_lemmas) in
     absurd (none-some vs.items (sym h ∙ is))
+rolled-no_array _ h = search (rules, the_lemmas)
 
 pub is_array-no_items_in : (v : JsonValue) → items_in v ≡ None → is_array (view v) ≡ false
-is_array-no_items_in v =
-    let same : roll-JsonValue (out-JsonValue v) ≡ v = search (rules, the_lemmas) in
-    subst (λ w. items_in w ≡ None → is_array (view w) ≡ false) same (rolled-no_array (out-JsonValue v))
+is_array-no_items_in v = by_kind (λ w. items_in w ≡ None → is_array (view w) ≡ false) rolled-no_array v
 
 pub entries-no_object_in : (v : JsonValue) → object_in v ≡ None → entries (view v) ≡ []
 entries-no_object_in v none = entries-other (view v) (is_object-no_object_in v none)
@@ -258,20 +192,12 @@ items-no_items_in v none = items-other (view v) (is_array-no_items_in v none)
 
 -- the same, from what `as_object` and `as_array` return
 pub is_object-no_object_of : (v : Value) → object_of v ≡ None → is_object v ≡ false
-is_object-no_object_of null h = refl
-is_object-no_object_of (boolean b) h = refl
-is_object-no_object_of (text k s) h = refl
-is_object-no_object_of (number n) h = refl
-is_object-no_object_of (array vs) h = refl
 is_object-no_object_of (object ps) h = absurd (cc)
+is_object-no_object_of _ h = refl
 
 pub is_array-no_array_of : (v : Value) → array_of v ≡ None → is_array v ≡ false
-is_array-no_array_of null h = refl
-is_array-no_array_of (boolean b) h = refl
-is_array-no_array_of (text k s) h = refl
-is_array-no_array_of (number n) h = refl
 is_array-no_array_of (array vs) h = absurd (cc)
-is_array-no_array_of (object ps) h = refl
+is_array-no_array_of _ h = refl
 
 pub ruleset changed_parts = (entries-with_entry, entries-without_entry, items-with_item, items-without_item)
 

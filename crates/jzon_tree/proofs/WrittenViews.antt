@@ -1,23 +1,23 @@
 -- The view of a value after a write into it: to a member of an object, and to an element of an array.
-use Rattle.std.proofs.Common.{◌≡◌, ℕ, List, [], ◌∷◌, ◌++◌, map, length, refl, sym, ap, subst, ◌∙◌, rules}
-use Rattle.std.proofs.Common.{Bool, true, false, if◌then◌else◌, nat_lt, nat_eq, Option, Some, None, option_map}
+use Rattle.std.proofs.Common.{◌≡◌, ℕ, List, [], ◌∷◌, ◌++◌, map, length, refl, sym, ap, subst, ◌∙◌, rules, Bool, true}
+use Rattle.std.proofs.Common.{false, if◌then◌else◌, nat_lt, nat_eq, Option, Some, None, option_map}
 use Rattle.std.specs.Prelude.{slice_set, ◌≤◌, IfSome, OnErr, Result, Ok, Err}
 use Rattle.jzon_base.specs.declared.error.Error.{Error}
 use Rattle.std.proofs.lemmas.List.{length-map, map-append, map-set}
+use Rattle.std.proofs.lemmas.Option.{same_Some}
 use Rattle.jzon_base.specs.PairList.{put}
 use Rattle.jzon_tree.specs.Entries.{entries_of, with_entries}
 use Rattle.jzon_tree.specs.Lent.{entries_in, items_in, items_of, with_place, place_in}
 use Rattle.jzon_tree.specs.Readers.{entries}
-use Rattle.jzon_tree.specs.Value.{Value, null, boolean, text, number, array, object, Values, no_values, value, pairs_of}
-use Rattle.jzon_tree.specs.Value.{values_of, list_of_values}
+use Rattle.jzon_tree.specs.Value.{Value, null, array, object, pairs_of, values_of}
 use Rattle.jzon_tree.specs.View.{view, viewed}
 use Rattle.jzon_tree.specs.declared.object.Object.{Object}
-use Rattle.jzon_tree.specs.declared.value.JsonValue.{JsonValue, out-JsonValue, roll-JsonValue, the_lemmas, Null}
+use Rattle.jzon_tree.specs.declared.value.JsonValue.{JsonValue, roll-JsonValue, the_lemmas, Null}
 use Rattle.jzon_tree.specs.declared.value.JsonValue.{Object as object_value}
 use Rattle.jzon_tree.specs.declared.value.JsonValue.TheOpen.{JsonValue-F}
 use Rattle.jzon_tree.proofs.Views.{view-Null, view-Object, viewed-put}
 use Rattle.jzon_tree.proofs.Seen.{list_of_values-values_of}
-use Rattle.jzon_tree.proofs.ValueLaws.{entries-view, find-view}
+use Rattle.jzon_tree.proofs.ValueLaws.{by_kind, entries-view, find-view, values_of-list_of_values}
 
 -- ---- a member
 
@@ -37,22 +37,11 @@ view-put k w v =
 
 rolled_items_of : (l : JsonValue-F JsonValue Object)
     → items_of (view (roll-JsonValue l)) ≡ option_map (map view) (items_in (roll-JsonValue l))
-rolled_items_of JsonValue-F.Null = search (rules, the_lemmas)
-rolled_items_of (JsonValue-F.Short s) = search (rules, the_lemmas)
-rolled_items_of (JsonValue-F.String s) = search (rules, the_lemmas)
-rolled_items_of (JsonValue-F.Number n) = search (rules, the_lemmas)
-rolled_items_of (JsonValue-F.Boolean b) = search (rules, the_lemmas)
-rolled_items_of (JsonValue-F.Object o) = search (rules, the_lemmas)
 rolled_items_of (JsonValue-F.Array vs) = search (rules, the_lemmas, list_of_values-values_of)
+rolled_items_of _ = search (rules, the_lemmas)
 
 pub items_of-view : (v : JsonValue) → items_of (view v) ≡ option_map (map view) (items_in v)
-items_of-view v =
-    let same : roll-JsonValue (out-JsonValue v) ≡ v = search (rules, the_lemmas) in
-    subst (λ w. items_of (view w) ≡ option_map (map view) (items_in w)) same (rolled_items_of (out-JsonValue v))
-
-values_of-list_of_values : (vs : Values) → values_of (list_of_values vs) ≡ vs
-values_of-list_of_values no_values = refl
-values_of-list_of_values (value v vs) = ap (value v) (values_of-list_of_values vs)
+items_of-view v = by_kind (λ w. items_of (view w) ≡ option_map (map view) (items_in w)) rolled_items_of v
 
 with_null : (vs : List JsonValue) → map view (vs ++ Null ∷ []) ≡ map view vs ++ null ∷ []
 with_null vs = map-append view vs (Null ∷ []) ∙ ap (λ (v : Value). map view vs ++ v ∷ []) view-Null
@@ -77,17 +66,10 @@ place_in-view : (o : Option (List JsonValue)) (i : ℕ)
 place_in-view None i = refl
 place_in-view (Some vs) i = ap (λ (n : ℕ). if nat_lt i n then i else n) (length-map vs view)
 
-some_same : {A : Type 0} (x y : A) → Some x ≡ Some y → x ≡ y
-some_same x y e = cc
-
 array_of_items : (v : Value) (ws : List Value) → items_of v ≡ Some ws → v ≡ array (values_of ws)
-array_of_items null ws h = absurd (cc)
-array_of_items (boolean b) ws h = absurd (cc)
-array_of_items (text k s) ws h = absurd (cc)
-array_of_items (number n) ws h = absurd (cc)
-array_of_items (object ps) ws h = absurd (cc)
-array_of_items (array vs) ws h = subst (λ (us : List Value). array vs ≡ array (values_of us)) (some_same _ _ h)
+array_of_items (array vs) ws h = subst (λ (us : List Value). array vs ≡ array (values_of us)) (same_Some _ _ h)
     (ap array (sym (values_of-list_of_values vs)))
+array_of_items _ ws h = absurd (cc)
 
 pub view-items : (i : ℕ) (w v u : JsonValue)
     → items_in u ≡ Some (slice_set (with_place Null (items_in v) i) (place_in (items_in v) i) w)
