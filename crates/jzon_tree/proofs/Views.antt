@@ -69,20 +69,15 @@ pub view_found : (r : Option (Bor JsonValue)) (o : Option JsonValue) → option_
     → option_map (λ x. view x.now) r ≡ option_map view o
 view_found r o e = view_of_ref r ∙ ap (option_map view) e
 
-cons_parts : {A : Type 0} (x y : A) (xs ys : List A) → x ∷ xs ≡ y ∷ ys → (x ≡ y) × (xs ≡ ys)
-cons_parts x y xs ys e = (cc, cc)
-
-nil_cons : {A : Type 0} (x : A) (xs : List A) → ◌≡◌ {A = List A} [] (x ∷ xs) → ⊥
-nil_cons x xs e = cc
-
 -- the keys of an object with other values that have the same views
 pub view_pairs-zip : (ps : List (List ℕ × JsonValue)) (vs : List JsonValue) → map view vs ≡ map view (values_of ps)
     → view_pairs (zip (keys_of ps) vs) ≡ view_pairs ps
 view_pairs-zip [] vs e = refl
-view_pairs-zip (p ∷ ps) [] e = absurd (nil_cons (view p.1) (map view (values_of ps)) e)
+view_pairs-zip (p ∷ ps) [] e = absurd (cc)
 view_pairs-zip (p ∷ ps) (v ∷ vs) e =
-    let parts = cons_parts (view v) (view p.1) (map view vs) (map view (values_of ps)) e in
-    rw (parts.0, view_pairs-zip ps vs parts.1) refl
+    let first : view v ≡ view p.1 = cc in
+    let rest : map view vs ≡ map view (values_of ps) = cc in
+    rw (first, view_pairs-zip ps vs rest) refl
 
 -- no value of the entries that are left is larger than all of them
 pub most-rest : (ps rest : List (List ℕ × JsonValue)) (p : List ℕ × JsonValue) → ps ≡ p ∷ rest
