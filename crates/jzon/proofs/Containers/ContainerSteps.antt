@@ -1,80 +1,30 @@
 -- Moves of the automaton at the tokens of arrays and objects, by the byte at an offset of a text.
-use Rattle.std.proofs.Common.{◌≡◌, ◌≢◌, ℕ, ◌+◌, ◌<◌, true, false, List, [], ◌∷◌, ◌++◌, length, drop, get_or, refl, ap}
-use Rattle.std.proofs.Common.{◌∙◌, arith, Option, Some, None, lit<}
+use Rattle.std.proofs.Common.{◌≡◌, ◌≢◌, ℕ, ◌+◌, ◌<◌, true, false, List, [], ◌∷◌, length, drop, get_or, refl, ap, ◌∙◌}
+use Rattle.std.proofs.Common.{arith, Some, None, lit<}
 use Rattle.std.specs.Prelude.{chars, IsUtf8, IsTrue, nat_le}
 use Rattle.std.specs.Str.{IsCharBoundary}
-use Rattle.jzon_base.specs.PairList.{put}
-use Rattle.jzon_tree.specs.Value.{Value, values_of, pairs_of}
-use Rattle.jzon_tree.specs.Value as value
+use Rattle.jzon_tree.specs.Value.{Value}
 use Rattle.jzon_tree.specs.Writing.{is_whitespace}
 use Rattle.jzon.specs.Reading.{Reading}
-use Rattle.jzon.specs.Spelling.{Breach, deep, breach_if}
+use Rattle.jzon.specs.Spelling.{deep, breach_if}
 use Rattle.jzon.specs.Fault.{limit}
-use Rattle.jzon.specs.Private.Classes.{Class, whitespace, digits, minus_char, quote, opens_array, closes_array}
-use Rattle.jzon.specs.Private.Classes.{opens_object, closes_object, comma, colon, begins_null, begins_true}
-use Rattle.jzon.specs.Private.Classes.{begins_false, class_of}
+use Rattle.jzon.specs.Private.Classes.{Class, whitespace, quote, closes_array, closes_object, comma, colon, class_of}
 use Rattle.jzon.specs.Private.Machine.{Entries, Frames, frames_depth, array_frame, object_frame, as_key, between, State}
 use Rattle.jzon.specs.Private.Machine.{before, before_key, word, numeral, string, after_key, after_value}
 use Rattle.jzon.specs.Private.Machine.{allows_whitespace, go, bad, bad_at, value_mark, key_mark, move_before}
 use Rattle.jzon.specs.Private.Machine.{move_before_key, move_after_key, move_empty_object, move_after_value, refused}
-use Rattle.jzon.specs.Private.Machine.{outcome_on, from, left_at}
-use Rattle.jzon.proofs.Texts.ClassesOfCharacters.{class-says, class-char, whitespace-class}
+use Rattle.jzon.specs.Private.Machine.{from, left_at}
+use Rattle.jzon.proofs.Texts.ClassesOfCharacters.{class-says, class-char, whitespace-class, no_space}
 use Rattle.jzon.proofs.Texts.AsciiRuns.{Skips, before_skips, after_skips, space_is_ascii, wide_is_no_space}
 use Rattle.jzon.proofs.Texts.StepsByByte.{StopsAt, from_step, stops_by, IsDeep, from_deep}
 
--- ---- opening brackets
-
-pub open_array : (r : Reading) (bs : List ℕ) (i : ℕ) (fs : Frames) → IsUtf8 bs → IsCharBoundary bs i → i < length bs
-    → get_or bs i 0 ≡ 91
-    → value_mark r fs ≡ None → from r bs (before fs) i ≡ from r bs (before (array_frame fs [])) (i + 1)
-open_array r bs i fs u at lt e h =
-    from_step r bs i (before fs) _ 91 u at lt e (lit< tt)
-    (ap (λ k. move_before r k fs 91) (class-char r.strict opens_array) ∙ ap (λ m. go m (before (array_frame fs []))) h)
-
-pub open_object : (r : Reading) (bs : List ℕ) (i : ℕ) (fs : Frames) → IsUtf8 bs → IsCharBoundary bs i → i < length bs
-    → get_or bs i 0 ≡ 123 → value_mark r fs ≡ None → from r bs (before fs) i ≡ from r bs (before_key fs []) (i + 1)
-open_object r bs i fs u at lt e h =
-    from_step r bs i (before fs) _ 123 u at lt e (lit< tt)
-    (ap (λ k. move_before r k fs 123) (class-char r.strict opens_object) ∙ ap (λ m. go m (before_key fs [])) h)
-
--- ---- empty containers
-
-pub close_empty_array : (r : Reading) (bs : List ℕ) (i : ℕ) (fs : Frames) → IsUtf8 bs → IsCharBoundary bs i
-    → i < length bs → get_or bs i 0 ≡ 93
-    → from r bs (before (array_frame fs [])) i ≡ from r bs (after_value fs (value.array value.no_values)) (i + 1)
-close_empty_array r bs i fs u at lt e =
-    from_step r bs i (before (array_frame fs [])) _ 93 u at lt e (lit< tt)
-    (ap (λ k. move_before r k (array_frame fs []) 93) (class-char r.strict closes_array))
-
-pub close_empty_object : (r : Reading) (bs : List ℕ) (i : ℕ) (fs : Frames) → IsUtf8 bs → IsCharBoundary bs i
-    → i < length bs → get_or bs i 0 ≡ 125
-    → from r bs (before_key fs []) i ≡ from r bs (after_value fs (value.object value.no_pairs)) (i + 1)
-close_empty_object r bs i fs u at lt e =
-    from_step r bs i (before_key fs []) _ 125 u at lt e (lit< tt)
-    (ap (λ k. move_before_key r k fs [] (left_at bs i)) (class-char r.strict closes_object))
-
 -- ---- a container too many
-
-deep_go : (m : Option Breach) (p : State) → m ≡ Some deep → IsDeep (go m p)
-deep_go m p h f rest = ap (λ n. outcome_on (go n p) f rest) h
-
-deep_bad : (m : Option Breach) → m ≡ Some deep → IsDeep (bad_at m)
-deep_bad m h f rest = ap (λ n. outcome_on (bad_at n) f rest) h
 
 deep_element_on : (r : Reading) (fs : Frames) (c : ℕ) (k : Class) → value_mark r fs ≡ Some deep
     → is_whitespace r.strict c ≡ false → c ≢ 93 → class_of r.strict c ≡ k → IsDeep (move_before r k fs c)
-deep_element_on r fs c whitespace h s n e = let yes : is_whitespace r.strict c
-    ≡ true = class-says r.strict c e in absurd (cc)
+deep_element_on r fs c whitespace h s n e = absurd (no_space r.strict c s e)
 deep_element_on r fs c closes_array h s n e = absurd (n (class-says r.strict c e))
-deep_element_on r fs c digits h s n e = deep_go (value_mark r fs) _ h
-deep_element_on r fs c minus_char h s n e = deep_go (value_mark r fs) _ h
-deep_element_on r fs c quote h s n e = deep_go (value_mark r fs) _ h
-deep_element_on r fs c opens_array h s n e = deep_go (value_mark r fs) _ h
-deep_element_on r fs c opens_object h s n e = deep_go (value_mark r fs) _ h
-deep_element_on r fs c begins_null h s n e = deep_go (value_mark r fs) _ h
-deep_element_on r fs c begins_true h s n e = deep_go (value_mark r fs) _ h
-deep_element_on r fs c begins_false h s n e = deep_go (value_mark r fs) _ h
-deep_element_on r fs c _ h s n e = deep_bad (value_mark r fs) h
+deep_element_on r fs c _ h s n e = λ f rest. rw h refl
 
 -- a first element where it would open one container too many
 pub deep_element : (r : Reading) (bs : List ℕ) (i : ℕ) (fs : Frames) → IsUtf8 bs → IsCharBoundary bs i → i < length bs
@@ -89,11 +39,9 @@ deep_element r bs i fs u at lt s n h =
 
 deep_key_on : (r : Reading) (fs : Frames) (c n : ℕ) (k : Class) → key_mark r fs [] ≡ Some deep
     → is_whitespace r.strict c ≡ false → c ≢ 125 → class_of r.strict c ≡ k → IsDeep (move_before_key r k fs [] n)
-deep_key_on r fs c left whitespace h s n e = let yes : is_whitespace r.strict c
-    ≡ true = class-says r.strict c e in absurd (cc)
+deep_key_on r fs c left whitespace h s n e = absurd (no_space r.strict c s e)
 deep_key_on r fs c left closes_object h s n e = absurd (n (class-says r.strict c e))
-deep_key_on r fs c left quote h s n e = deep_go (key_mark r fs []) _ h
-deep_key_on r fs c left _ h s n e = deep_bad (key_mark r fs []) h
+deep_key_on r fs c left _ h s n e = λ f rest. rw h refl
 
 -- a first key where it would open one container too many
 pub deep_key : (r : Reading) (bs : List ℕ) (i : ℕ) (fs : Frames) → IsUtf8 bs → IsCharBoundary bs i → i < length bs
@@ -123,8 +71,7 @@ no_pairs_on fs (e ∷ es) h = refl
 no_key_on : (r : Reading) (fs : Frames) (es : Entries) (c left : ℕ) (k : Class) → key_mark r fs es ≡ None
     → is_whitespace r.strict c ≡ false → c ≢ 34
     → (es ≡ [] → c ≢ 125) → class_of r.strict c ≡ k → move_before_key r k fs es left ≡ bad
-no_key_on r fs es c left whitespace h s q n e = let yes : is_whitespace r.strict c
-    ≡ true = class-says r.strict c e in absurd (cc)
+no_key_on r fs es c left whitespace h s q n e = absurd (no_space r.strict c s e)
 no_key_on r fs es c left quote h s q n e = absurd (q (class-says r.strict c e))
 no_key_on r fs es c left closes_object h s q n e = no_pairs_on fs es (λ f. n f (class-says r.strict c e))
 no_key_on r fs es c left _ h s q n e = ap bad_at h
@@ -155,13 +102,6 @@ after_key_skips r fs es k = record {
       (λ x. move_after_key x fs es k) (whitespace-class r c e);
 }
 
-pub colon_goes : (r : Reading) (bs : List ℕ) (i : ℕ) (fs : Frames) (es : Entries) (k : List ℕ) → IsUtf8 bs
-    → IsCharBoundary bs i → i < length bs
-    → get_or bs i 0 ≡ 58 → from r bs (after_key fs es k) i ≡ from r bs (before (object_frame fs es k)) (i + 1)
-colon_goes r bs i fs es k u at lt e =
-    from_step r bs i (after_key fs es k) _ 58 u at lt e (lit< tt)
-    (ap (λ x. move_after_key x fs es k) (class-char r.strict colon))
-
 -- where whitespace is allowed, it is skipped
 pub whitespace_skips : (r : Reading) (p : State) → allows_whitespace p ≡ true → Skips r p (is_whitespace r.strict)
 whitespace_skips r (before fs) e = before_skips r fs
@@ -174,8 +114,7 @@ whitespace_skips r (string role bs x) e = absurd (cc)
 
 no_colon_on : (r : Reading) (fs : Frames) (es : Entries) (k : List ℕ) (c : ℕ) (x : Class)
     → is_whitespace r.strict c ≡ false → c ≢ 58 → class_of r.strict c ≡ x → move_after_key x fs es k ≡ bad
-no_colon_on r fs es k c whitespace s n e = let yes : is_whitespace r.strict c
-    ≡ true = class-says r.strict c e in absurd (cc)
+no_colon_on r fs es k c whitespace s n e = absurd (no_space r.strict c s e)
 no_colon_on r fs es k c colon s n e = absurd (n (class-says r.strict c e))
 no_colon_on r fs es k c _ s n e = refl
 
@@ -191,26 +130,10 @@ no_colon r bs i fs es k s n =
 
 -- ---- after an element
 
-pub element_comma : (r : Reading) (bs : List ℕ) (i : ℕ) (fs : Frames) (vs : List Value) (v : Value) → IsUtf8 bs
-    → IsCharBoundary bs i → i < length bs → get_or bs i 0 ≡ 44
-    → from r bs (after_value (array_frame fs vs) v) i ≡ from r bs (before (array_frame fs (vs ++ v ∷ []))) (i + 1)
-element_comma r bs i fs vs v u at lt e =
-    from_step r bs i (after_value (array_frame fs vs) v) _ 44 u at lt e (lit< tt)
-    (ap (λ x. move_after_value x (array_frame fs vs) v) (class-char r.strict comma))
-
-pub close_array : (r : Reading) (bs : List ℕ) (i : ℕ) (fs : Frames) (vs : List Value) (v : Value) → IsUtf8 bs
-    → IsCharBoundary bs i → i < length bs
-    → get_or bs i 0 ≡ 93 → from r bs (after_value (array_frame fs vs) v) i
-    ≡ from r bs (after_value fs (value.array (values_of (vs ++ v ∷ [])))) (i + 1)
-close_array r bs i fs vs v u at lt e =
-    from_step r bs i (after_value (array_frame fs vs) v) _ 93 u at lt e (lit< tt)
-    (ap (λ x. move_after_value x (array_frame fs vs) v) (class-char r.strict closes_array))
-
 no_element_on : (r : Reading) (fs : Frames) (vs : List Value) (v : Value) (c : ℕ) (x : Class)
     → is_whitespace r.strict c ≡ false → c ≢ 44 → c ≢ 93
     → class_of r.strict c ≡ x → move_after_value x (array_frame fs vs) v ≡ bad
-no_element_on r fs vs v c whitespace s m n e = let yes : is_whitespace r.strict c
-    ≡ true = class-says r.strict c e in absurd (cc)
+no_element_on r fs vs v c whitespace s m n e = absurd (no_space r.strict c s e)
 no_element_on r fs vs v c comma s m n e = absurd (m (class-says r.strict c e))
 no_element_on r fs vs v c closes_array s m n e = absurd (n (class-says r.strict c e))
 no_element_on r fs vs v c _ s m n e = refl
@@ -228,26 +151,10 @@ no_element r bs i fs vs v s m n =
 
 -- ---- after a member's value
 
-pub entry_comma : (r : Reading) (bs : List ℕ) (i : ℕ) (fs : Frames) (es : Entries) (k : List ℕ) (v : Value) → IsUtf8 bs
-    → IsCharBoundary bs i → i < length bs → get_or bs i 0 ≡ 44
-    → from r bs (after_value (object_frame fs es k) v) i ≡ from r bs (before_key fs (put k v es)) (i + 1)
-entry_comma r bs i fs es k v u at lt e =
-    from_step r bs i (after_value (object_frame fs es k) v) _ 44 u at lt e (lit< tt)
-    (ap (λ x. move_after_value x (object_frame fs es k) v) (class-char r.strict comma))
-
-pub close_object : (r : Reading) (bs : List ℕ) (i : ℕ) (fs : Frames) (es : Entries) (k : List ℕ) (v : Value) → IsUtf8 bs
-    → IsCharBoundary bs i → i < length bs
-    → get_or bs i 0 ≡ 125 → from r bs (after_value (object_frame fs es k) v) i
-    ≡ from r bs (after_value fs (value.object (pairs_of (put k v es)))) (i + 1)
-close_object r bs i fs es k v u at lt e =
-    from_step r bs i (after_value (object_frame fs es k) v) _ 125 u at lt e (lit< tt)
-    (ap (λ x. move_after_value x (object_frame fs es k) v) (class-char r.strict closes_object))
-
 no_entry_on : (r : Reading) (fs : Frames) (es : Entries) (k : List ℕ) (v : Value) (c : ℕ) (x : Class)
     → is_whitespace r.strict c ≡ false → c ≢ 44 → c ≢ 125
     → class_of r.strict c ≡ x → move_after_value x (object_frame fs es k) v ≡ bad
-no_entry_on r fs es k v c whitespace s m n e = let yes : is_whitespace r.strict c
-    ≡ true = class-says r.strict c e in absurd (cc)
+no_entry_on r fs es k v c whitespace s m n e = absurd (no_space r.strict c s e)
 no_entry_on r fs es k v c comma s m n e = absurd (m (class-says r.strict c e))
 no_entry_on r fs es k v c closes_object s m n e = absurd (n (class-says r.strict c e))
 no_entry_on r fs es k v c _ s m n e = refl

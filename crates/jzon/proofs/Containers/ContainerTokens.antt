@@ -1,6 +1,6 @@
 -- The tokens of arrays and objects, by the offset of the parser's cursor.
-use Rattle.std.proofs.Common.{◌≡◌, ◌≢◌, ◌∙◌, ℕ, ◌+◌, ◌<◌, ◌≤◌, ◌&&◌, false, List, [], length, drop, refl}
-use Rattle.std.proofs.Common.{arith, None, Some, sym, lit<}
+use Rattle.std.proofs.Common.{◌≡◌, ◌≢◌, ◌∙◌, ℕ, ◌+◌, ◌<◌, ◌≤◌, ◌&&◌, false, List, [], length, drop, refl, arith, None}
+use Rattle.std.proofs.Common.{Some, sym, ap, true, lit<}
 use Rattle.std.specs.Prelude.{chars}
 use Rattle.std.specs.Option.{is_some}
 use Rattle.jzon_base.specs.PairList.{find}
@@ -8,21 +8,24 @@ use Rattle.jzon_base.specs.declared.error.Error.TheVariants.{UnexpectedEndOfJson
 use Rattle.jzon_tree.specs.Value.{Value, array, no_values, object, no_pairs}
 use Rattle.jzon.specs.Private.Brackets.{opener, closer, empty_container, innermost_bracket, after_opener, after_comma}
 use Rattle.jzon.specs.Private.Brackets.{after_closer}
+use Rattle.jzon.specs.Private.Classes.{Class, opens_array, closes_array, opens_object, closes_object, comma, colon}
+use Rattle.jzon.specs.Private.Classes.{class_of}
 use Rattle.jzon.specs.Private.Cursor.{left, next_byte, IsPast, IsAfter}
 use Rattle.jzon.specs.Private.Machine.{Entries, Frames, no_frames, array_frame, object_frame, as_key, between, before}
 use Rattle.jzon.specs.Private.Machine.{before_key, string, after_key, after_value, frames_depth, value_mark, key_mark}
-use Rattle.jzon.specs.Private.Machine.{from, from_closed, left_at, fault_here, ReportsUnlessMemory}
+use Rattle.jzon.specs.Private.Machine.{from, from_closed, left_at, fault_here, ReportsUnlessMemory, State, Move, go}
+use Rattle.jzon.specs.Private.Machine.{move, allows_whitespace, move_before, move_before_key, move_after_key}
+use Rattle.jzon.specs.Private.Machine.{move_after_value}
 use Rattle.jzon.specs.declared.cursor.Bracket.{Bracket}
 use Rattle.jzon.specs.declared.cursor.Bracket.TheVariants.{Array, Object}
 use Rattle.jzon.specs.declared.cursor.Cursor.{Cursor}
-use Rattle.jzon.proofs.Containers.ContainerSteps.{open_array, open_object, close_empty_array, close_empty_object}
-use Rattle.jzon.proofs.Containers.ContainerSteps.{deep_element, deep_key, element_comma, close_array, no_element}
-use Rattle.jzon.proofs.Containers.ContainerSteps.{entry_comma, close_object, no_entry, open_key, no_key, colon_goes}
+use Rattle.jzon.proofs.Containers.ContainerSteps.{deep_element, deep_key, no_element, no_entry, open_key, no_key}
 use Rattle.jzon.proofs.Containers.ContainerSteps.{no_colon}
+use Rattle.jzon.proofs.Texts.ClassesOfCharacters.{char_of, class-char}
 use Rattle.jzon.proofs.Texts.Cursors.{Reached, utf8_of, byte_goes}
 use Rattle.jzon.proofs.Containers.FrameViews.{byte_within, too_deep}
 use Rattle.jzon.proofs.Strings.Quotes.{key_goes}
-use Rattle.jzon.proofs.Texts.StepsByByte.{from_stop}
+use Rattle.jzon.proofs.Texts.StepsByByte.{from_step, from_stop}
 use Rattle.jzon.proofs.Texts.ReportedErrors.{reported_deep, reported_end}
 
 -- ---- brackets
@@ -34,30 +37,38 @@ opener_bounds Object = (omega arith, omega arith)
 same_closer : (b d : Bracket) → Some b ≡ Some d → closer d ≡ closer b
 same_closer b d e = cc
 
+-- ---- one character
+
+-- the next byte is the character of class k, which leads from p to q
+leads : (k : Class) (t u : Cursor) (p q : State) (moves : Class → Move)
+    → move t.reading p (char_of k) (left_at t.source.now t.index) ≡ moves (class_of t.reading.strict (char_of k))
+    → moves k ≡ go None q → 0 < char_of k → char_of k < 128 → allows_whitespace q ≡ true
+    → IsPast t.reading t.source.now (t.index + 1) u → next_byte t ≡ char_of k → IsAfter t u × (left t p ≡ left u q)
+leads k t u p q moves by goes some ascii allows past e =
+    byte_goes t u p q past allows (from_step t.reading t.source.now t.index p q (char_of k) (utf8_of t) t.boundary
+    (byte_within t.source.now t.index (char_of k) e some) e ascii
+    (by ∙ ap moves (class-char t.reading.strict k) ∙ goes))
+
 -- ---- after the opening bracket
 
 pub opens : (b : Bracket) (t u : Cursor) (fs : Frames) → IsPast t.reading t.source.now (t.index + 1) u
     → next_byte t ≡ opener b → value_mark t.reading fs ≡ None
     → IsAfter t u × (left t (before fs) ≡ left u (after_opener b fs))
 opens Array t u fs past e mark =
-    byte_goes t u (before fs) (before (array_frame fs [])) past refl
-    (open_array t.reading t.source.now t.index fs (utf8_of t) t.boundary
-    (byte_within t.source.now t.index 91 e (lit< tt)) e mark)
+    leads opens_array t u (before fs) (before (array_frame fs [])) (λ k. move_before t.reading k fs 91) refl
+    (ap (λ m. go m (before (array_frame fs []))) mark) (lit< tt) (lit< tt) refl past e
 opens Object t u fs past e mark =
-    byte_goes t u (before fs) (before_key fs []) past refl
-    (open_object t.reading t.source.now t.index fs (utf8_of t) t.boundary
-    (byte_within t.source.now t.index 123 e (lit< tt)) e mark)
+    leads opens_object t u (before fs) (before_key fs []) (λ k. move_before t.reading k fs 123) refl
+    (ap (λ m. go m (before_key fs [])) mark) (lit< tt) (lit< tt) refl past e
 
 pub empty_closes : (b : Bracket) (t u : Cursor) (fs : Frames) → IsPast t.reading t.source.now (t.index + 1) u
     → next_byte t ≡ closer b → IsAfter t u × (left t (after_opener b fs) ≡ left u (after_value fs (empty_container b)))
 empty_closes Array t u fs past e =
-    byte_goes t u (before (array_frame fs [])) (after_value fs (array no_values)) past refl
-    (close_empty_array t.reading t.source.now t.index fs (utf8_of t) t.boundary
-    (byte_within t.source.now t.index 93 e (lit< tt)) e)
+    leads closes_array t u (before (array_frame fs [])) (after_value fs (array no_values))
+    (λ k. move_before t.reading k (array_frame fs []) 93) refl refl (lit< tt) (lit< tt) refl past e
 empty_closes Object t u fs past e =
-    byte_goes t u (before_key fs []) (after_value fs (object no_pairs)) past refl
-    (close_empty_object t.reading t.source.now t.index fs (utf8_of t) t.boundary
-    (byte_within t.source.now t.index 125 e (lit< tt)) e)
+    leads closes_object t u (before_key fs []) (after_value fs (object no_pairs))
+    (λ k. move_before_key t.reading k fs [] (left_at t.source.now t.index)) refl refl (lit< tt) (lit< tt) refl past e
 
 pub left_open : (b : Bracket) (t : Cursor) (fs : Frames) → length t.source.now ≤ t.index
     → ReportsUnlessMemory (chars t.source.now) UnexpectedEndOfJson (left t (after_opener b fs))
@@ -83,28 +94,24 @@ pub closes : (b : Bracket) (t u : Cursor) (fs : Frames) (v : Value) → innermos
     → IsAfter t u × (left t (after_value fs v) ≡ left u (after_closer fs v))
 closes b t u no_frames v here past e = absurd (cc)
 closes b t u (array_frame fs vs) v here past e =
-    let next : next_byte t ≡ 93 = e ∙ same_closer Array b here in
-    byte_goes t u (after_value (array_frame fs vs) v) (after_closer (array_frame fs vs) v) past refl
-    (close_array t.reading t.source.now t.index fs vs v (utf8_of t) t.boundary
-    (byte_within t.source.now t.index 93 next (lit< tt)) next)
+    leads closes_array t u (after_value (array_frame fs vs) v) (after_closer (array_frame fs vs) v)
+    (λ k. move_after_value k (array_frame fs vs) v) refl refl (lit< tt) (lit< tt) refl past
+    (e ∙ same_closer Array b here)
 closes b t u (object_frame fs es k) v here past e =
-    let next : next_byte t ≡ 125 = e ∙ same_closer Object b here in
-    byte_goes t u (after_value (object_frame fs es k) v) (after_closer (object_frame fs es k) v) past refl
-    (close_object t.reading t.source.now t.index fs es k v (utf8_of t) t.boundary
-    (byte_within t.source.now t.index 125 next (lit< tt)) next)
+    leads closes_object t u (after_value (object_frame fs es k) v) (after_closer (object_frame fs es k) v)
+    (λ x. move_after_value x (object_frame fs es k) v) refl refl (lit< tt) (lit< tt) refl past
+    (e ∙ same_closer Object b here)
 
 pub comma_goes : (b : Bracket) (t u : Cursor) (fs : Frames) (v : Value) → innermost_bracket fs ≡ Some b
     → IsPast t.reading t.source.now (t.index + 1) u → next_byte t ≡ 44
     → IsAfter t u × (left t (after_value fs v) ≡ left u (after_comma fs v))
 comma_goes b t u no_frames v here past e = absurd (cc)
 comma_goes b t u (array_frame fs vs) v here past e =
-    byte_goes t u (after_value (array_frame fs vs) v) (after_comma (array_frame fs vs) v) past refl
-    (element_comma t.reading t.source.now t.index fs vs v (utf8_of t) t.boundary
-    (byte_within t.source.now t.index 44 e (lit< tt)) e)
+    leads comma t u (after_value (array_frame fs vs) v) (after_comma (array_frame fs vs) v)
+    (λ k. move_after_value k (array_frame fs vs) v) refl refl (lit< tt) (lit< tt) refl past e
 comma_goes b t u (object_frame fs es k) v here past e =
-    byte_goes t u (after_value (object_frame fs es k) v) (after_comma (object_frame fs es k) v) past refl
-    (entry_comma t.reading t.source.now t.index fs es k v (utf8_of t) t.boundary
-    (byte_within t.source.now t.index 44 e (lit< tt)) e)
+    leads comma t u (after_value (object_frame fs es k) v) (after_comma (object_frame fs es k) v)
+    (λ x. move_after_value x (object_frame fs es k) v) refl refl (lit< tt) (lit< tt) refl past e
 
 pub item_stops : (b : Bracket) (t : Cursor) (fs : Frames) (v : Value) → innermost_bracket fs ≡ Some b → next_byte t ≢ 44
     → next_byte t ≢ closer b → left t (after_value fs v) ≡ fault_here (chars (drop t.index t.source.now))
@@ -155,9 +162,8 @@ pub colon_read : (t u : Cursor) (fs : Frames) (es : Entries) (k : List ℕ)
     → IsPast t.reading t.source.now (t.index + 1) u → next_byte t ≡ 58
     → IsAfter t u × (left t (after_key fs es k) ≡ left u (before (object_frame fs es k)))
 colon_read t u fs es k past e =
-    byte_goes t u (after_key fs es k) (before (object_frame fs es k)) past refl
-    (colon_goes t.reading t.source.now t.index fs es k (utf8_of t) t.boundary
-    (byte_within t.source.now t.index 58 e (lit< tt)) e)
+    leads colon t u (after_key fs es k) (before (object_frame fs es k)) (λ x. move_after_key x fs es k) refl refl
+    (lit< tt) (lit< tt) refl past e
 
 pub colon_missing : (t : Cursor) (fs : Frames) (es : Entries) (k : List ℕ) → next_byte t ≢ 58
     → left t (after_key fs es k) ≡ fault_here (chars (drop t.index t.source.now))

@@ -1,13 +1,14 @@
 -- `null`, `true` and `false`, four letters of which the code compares at once.
 use Rattle.std.proofs.Common.{◌≡◌, ◌≢◌, ◌⊎◌, inl, inr, ℕ, ◌+◌, ◌<◌, ◌≤◌, true, false, List, [], ◌∷◌, length, get_or}
-use Rattle.std.proofs.Common.{sym, ap, subst, ◌∙◌, arith, None, lit<}
+use Rattle.std.proofs.Common.{refl, sym, ap, subst, ◌∙◌, arith, None, lit<}
 use Rattle.std.specs.Prelude.{IsUtf8}
 use Rattle.std.specs.Str.{IsCharBoundary}
 use Rattle.std.proofs.lemmas.Str.{IsCharBoundary-before_ascii, IsCharBoundary-after_ascii}
 use Rattle.jzon_tree.specs.Value.{Value, null, boolean}
 use Rattle.jzon.specs.Reading.{Reading}
+use Rattle.jzon.specs.Private.Classes.{begins_null, begins_true, begins_false}
 use Rattle.jzon.specs.Private.Machine.{Frames, before, after_value, past_letter, value_mark, from}
-use Rattle.jzon.proofs.Containers.FirstBytes.{begin_null, begin_true, begin_false}
+use Rattle.jzon.proofs.Containers.FirstBytes.{begin_by}
 use Rattle.jzon.proofs.Containers.LiteralLetters.{letter_read, four_read}
 
 abbrev pub IsFirst : ℕ → Type 0
@@ -51,19 +52,22 @@ pub word_begins : (r : Reading) (bs : List ℕ) (i b k : ℕ) (fs : Frames) (v :
 word_begins r bs i b k fs v four u lt h m (inl e) means spells short long =
     anew r bs i k 110 (117 ∷ 108 ∷ 108 ∷ []) fs v four u lt (h ∙ e) (lit< tt) (short (λ f. absurd (omega (arith, e, f))))
     (spells.null e)
-    (begin_null r bs i fs u (IsCharBoundary-before_ascii bs i lt (omega (arith, e, h))) lt (h ∙ e) m
+    (begin_by r bs i fs begins_null _ refl u (IsCharBoundary-before_ascii bs i lt (omega (arith, e, h))) lt (h ∙ e)
+    (lit< tt) m
     ∙ ap (λ w. from r bs (past_letter fs w (117 ∷ 108 ∷ 108 ∷ [])) (i + 1)) (sym (means.null e)))
 word_begins r bs i b k fs v four u lt h m (inr (inl e)) means spells short long =
     anew r bs i k 116 (114 ∷ 117 ∷ 101 ∷ []) fs v four u lt (h ∙ e) (lit< tt) (short (λ f. absurd (omega (arith, e, f))))
     (spells.yes e)
-    (begin_true r bs i fs u (IsCharBoundary-before_ascii bs i lt (omega (arith, e, h))) lt (h ∙ e) m
+    (begin_by r bs i fs begins_true _ refl u (IsCharBoundary-before_ascii bs i lt (omega (arith, e, h))) lt (h ∙ e)
+    (lit< tt) m
     ∙ ap (λ w. from r bs (past_letter fs w (114 ∷ 117 ∷ 101 ∷ [])) (i + 1)) (sym (means.yes e)))
 word_begins r bs i b k fs v four u lt h m (inr (inr e)) means spells short long =
     let here : k ≡ i + 1 = long e in record {
       not_before = omega (arith, here);
       boundary = subst (IsCharBoundary bs) (sym here) (IsCharBoundary-after_ascii bs i u lt (omega (arith, h, e)));
       same =
-          begin_false r bs i fs u (IsCharBoundary-before_ascii bs i lt (omega (arith, e, h))) lt (h ∙ e) m
+          begin_by r bs i fs begins_false _ refl u (IsCharBoundary-before_ascii bs i lt (omega (arith, e, h))) lt (h ∙ e)
+          (lit< tt) m
           ∙ ap (λ w. from r bs (past_letter fs w (97 ∷ 108 ∷ 115 ∷ 101 ∷ [])) (i + 1)) (sym (means.no e))
           ∙ ap (λ l. from r bs (past_letter fs v l) (i + 1)) (sym (spells.no e))
           ∙ ap (λ n. from r bs (past_letter fs v four) n) (sym here);

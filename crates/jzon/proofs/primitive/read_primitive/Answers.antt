@@ -4,8 +4,9 @@ use Rattle.std.specs.Char.{is_ascii_digit}
 use Rattle.std.proofs.lemmas.Bool.Decides.{nat_tests}
 use Rattle.std.proofs.lemmas.Str.{IsCharBoundary-after_ascii}
 use Rattle.jzon.specs.Reading.{usual}
+use Rattle.jzon.specs.Private.Classes.{minus_char, quote}
 use Rattle.jzon.specs.Private.Machine.{no_frames, before}
-use Rattle.jzon.proofs.Containers.FirstBytes.{stops_before, begin_minus, begin_digit, begin_string}
+use Rattle.jzon.proofs.Containers.FirstBytes.{stops_before, begin_by, begin_digit}
 use Rattle.jzon.proofs.Containers.FrameViews.{byte_within}
 use Rattle.jzon.proofs.Texts.StepsByByte.{from_stop}
 use Rattle.jzon.proofs.Texts.ReportedErrors.{fault_here_reported, same_or_memory, same_unless_memory, never_memory}
@@ -55,16 +56,16 @@ pub returns-in-45-clause-outcome : goal.returns-in-45-clause-outcome
 returns-in-45-clause-outcome c r fs shallow stop ends =
     let e : get_or c.args.source.now c.args.start 0 ≡ 45 = sym c.requires.first ∙ c.in-45.is in
     same_or_memory _ _ _ (chars c.args.source.now) c.read_negative.result
-    (begin_minus r c.args.source.now c.args.start fs c.utf8.source c.requires.boundary
-    (byte_within c.args.source.now c.args.start 45 e (lit< tt)) e shallow)
+    (begin_by r c.args.source.now c.args.start fs minus_char _ refl c.utf8.source c.requires.boundary
+    (byte_within c.args.source.now c.args.start 45 e (lit< tt)) e (lit< tt) shallow)
     (c.read_negative.ensures.outcome r fs)
 
 pub returns-in-34-clause-outcome : goal.returns-in-34-clause-outcome
 returns-in-34-clause-outcome c r fs shallow stop ends =
     let e : get_or c.args.source.now c.args.start 0 ≡ 34 = sym c.requires.first ∙ c.in-34.is in
     same_unless_memory _ _ _ (chars c.args.source.now) c.read_string_value.result
-    (begin_string r c.args.source.now c.args.start fs c.utf8.source c.requires.boundary
-    (byte_within c.args.source.now c.args.start 34 e (lit< tt)) e shallow)
+    (begin_by r c.args.source.now c.args.start fs quote _ refl c.utf8.source c.requires.boundary
+    (byte_within c.args.source.now c.args.start 34 e (lit< tt)) e (lit< tt) shallow)
     (c.read_string_value.ensures.outcome r fs)
 
 pub returns-in-110-clause-memory : goal.returns-in-110-clause-memory
