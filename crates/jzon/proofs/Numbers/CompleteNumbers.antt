@@ -1,7 +1,7 @@
 -- Complete, for numbers (`complete_number`): over the cells of a number the automaton goes from before it to after it,
 -- each move with its cell's mark. The end of a number is decided by what follows it, so nothing is required of that.
-use Rattle.std.proofs.Common.{◌≡◌, ◌∙◌, ℕ, List, [], ◌∷◌, Bool, true, false, not, ◌&&◌, ◌==◌, Option, Some, None, refl}
-use Rattle.std.proofs.Common.{sym, subst, ap, eqb-true, append-nil}
+use Rattle.std.proofs.Common.{◌≡◌, ℕ, List, [], ◌∷◌, Bool, true, false, not, ◌&&◌, ◌==◌, Option, Some, None, refl, sym}
+use Rattle.std.proofs.Common.{subst, eqb-true}
 use Rattle.std.specs.Prelude.{IsTrue}
 use Rattle.std.specs.Char.{is_ascii_digit}
 use Rattle.jzon_tree.specs.Value as value
@@ -17,7 +17,7 @@ use Rattle.jzon.specs.Private.Machine.{Frames, State, before, numeral, after_val
 use Rattle.jzon.specs.Private.Machine.{value_mark, number_value, exponent_of, move_after_value, move_after_whole}
 use Rattle.jzon.specs.Private.Machine.{move_numeral}
 use Rattle.jzon.proofs.Texts.ClassesOfCharacters.{digits-class, letter_e-class, class-char}
-use Rattle.jzon.proofs.Numbers.NumberLimits.{onto-onto}
+use Rattle.jzon.proofs.Numbers.NumberLimits.{in_order}
 use Rattle.jzon.proofs.Texts.Runs.{Meets, Follows}
 
 module _ (r : Reading) (G : Outcome → Type 0) (fs : Frames) (negative : Bool) where
@@ -127,9 +127,6 @@ module _ (r : Reading) (G : Outcome → Type 0) (fs : Frames) (negative : Bool) 
       → F (digits_cells drops_too_many ds es k) (whole ds)
   read_whole ds [] k ok h = h
   read_whole ds (e ∷ es) k ok h = rw (digits-class r.strict e ok.0) (refl, read_whole (e ∷ ds) es k ok.1 h)
-
-  in_order : (d : ℕ) (es : List ℕ) → onto (onto es (d ∷ [])) [] ≡ d ∷ es
-  in_order d es = onto-onto es (d ∷ []) [] ∙ ap (λ l. d ∷ l) (append-nil es)
 
   read_first : (is_zero : Bool) (d : ℕ) (es : List ℕ) (k : List Cell) → d == 48 ≡ is_zero → IsWhole (d ∷ es)
       → ((x : NumberState) → EndsWhole x (d ∷ es) → F k x)

@@ -17,7 +17,7 @@ use Rattle.jzon.proofs.Numbers.NumberLimits.{fraction_unmarked, fraction_marked,
 -- ---- digits in a state that collects them
 
 -- Each digit is put before those that the state has, and has a breach if the digits up to it are too many.
-Collects : Reading → (List ℕ → State) → (List ℕ → Bool) → Type 0
+abbrev Collects : Reading → (List ℕ → State) → (List ℕ → Bool) → Type 0
 Collects r at too_many =
     (ds : List ℕ) (c left : ℕ) → IsTrue (is_ascii_digit c) → move r (at ds) c left
     ≡ go (breach_if (too_many (onto (c ∷ ds) [])) digit) (at (c ∷ ds))
@@ -27,7 +27,6 @@ collect_one : (r : Reading) (at : List ℕ → State) (too_many : List ℕ → B
     → IsTrue (is_ascii_digit c) → too_many (onto (c ∷ ds) []) ≡ v
     → outcome r (c ∷ rest) (at ds) ≡ outcome_on (go (breach_if v digit) (at (c ∷ ds))) (λ p. outcome r rest p)
     (c ∷ rest)
-unfolding Collects
 collect_one r at too_many v collects ds c rest ok e =
     ap (λ m. outcome_on m (λ p. outcome r rest p) (c ∷ rest))
     (collects ds c (length (c ∷ rest)) ok ∙ ap (λ t. go (breach_if t digit) (at (c ∷ ds))) e)
@@ -50,21 +49,6 @@ collect_up_to r at too_many collects ds (e ∷ es) rest (suc i) ok h =
     collect_one r at too_many false collects ds e (es ++ rest) ok.0 h.0
     ∙ collect_up_to r at too_many collects (e ∷ ds) es rest i ok.1 h.1
 
-whole_collects : (r : Reading) (fs : Frames) (negative : Bool)
-    → Collects r (λ ds. numeral fs negative (whole ds)) drops_too_many
-unfolding Collects
-whole_collects r fs negative ds c left h = rw (digits-class r.strict c h) refl
-
-fraction_collects : (r : Reading) (fs : Frames) (negative : Bool) (ws : List ℕ)
-    → Collects r (λ ds. numeral fs negative (fraction ws ds)) (keeps_too_many ws)
-unfolding Collects
-fraction_collects r fs negative ws ds c left h = rw (digits-class r.strict c h) refl
-
-exponent_collects : (r : Reading) (fs : Frames) (negative : Bool) (ws gs : List ℕ) (l : ℕ) (s : Sign)
-    → Collects r (λ ds. numeral fs negative (exponent ws gs l s ds)) (λ ds. false)
-unfolding Collects
-exponent_collects r fs negative ws gs l s ds c left h = rw (digits-class r.strict c h) refl
-
 -- ---- whole digits
 
 -- They are read if fewer than 32768 of them are dropped, whatever digits the fraction has.
@@ -73,7 +57,7 @@ pub read_whole : (r : Reading) (fs : Frames) (negative : Bool) (ds es rest gs : 
     → outcome r (es ++ rest) (numeral fs negative (whole ds))
     ≡ outcome r rest (numeral fs negative (whole (onto es ds)))
 read_whole r fs negative ds es rest gs ok few =
-    collect_all r (λ ds. numeral fs negative (whole ds)) drops_too_many (whole_collects r fs negative) ds es rest ok
+    collect_all r (λ ds. numeral fs negative (whole ds)) drops_too_many (λ xs c left h. rw (digits-class r.strict c h) refl) ds es rest ok
     (whole_unmarked ds es gs few)
 
 -- The 32768th that is dropped is a fault.
@@ -81,7 +65,7 @@ pub refuse_whole : (r : Reading) (fs : Frames) (negative : Bool) (ds es rest gs 
     → 32768 ≤ dropped (onto ds es) gs → length ds + i ≡ kept_len (onto ds es ++ gs) + 32767
     → outcome r (es ++ rest) (numeral fs negative (whole ds)) ≡ refused (limit digit) (drop i es ++ rest)
 refuse_whole r fs negative ds es rest gs i ok many at =
-    collect_up_to r (λ ds. numeral fs negative (whole ds)) drops_too_many (whole_collects r fs negative) ds es rest i ok
+    collect_up_to r (λ ds. numeral fs negative (whole ds)) drops_too_many (λ xs c left h. rw (digits-class r.strict c h) refl) ds es rest i ok
     (whole_marked ds es gs i many at)
 
 -- ---- fraction digits
@@ -102,7 +86,7 @@ read_fraction r fs negative ws [] rest ok few = absurd ok
 read_fraction r fs negative ws (e ∷ es) rest ok few =
     at_point r fs negative ws e (es ++ rest) ok.0
     ∙ collect_all r (λ ds. numeral fs negative (fraction ws ds)) (keeps_too_many ws)
-    (fraction_collects r fs negative ws) [] (e ∷ es) rest ok
+    (λ xs c left h. rw (digits-class r.strict c h) refl) [] (e ∷ es) rest ok
     (fraction_unmarked ws [] (e ∷ es) few)
 
 -- The 32769th that is kept is a fault.
@@ -113,7 +97,7 @@ refuse_fraction r fs negative ws [] rest ok many = absurd ok
 refuse_fraction r fs negative ws (e ∷ es) rest ok many =
     at_point r fs negative ws e (es ++ rest) ok.0
     ∙ collect_up_to r (λ ds. numeral fs negative (fraction ws ds)) (keeps_too_many ws)
-    (fraction_collects r fs negative ws) [] (e ∷ es) rest 32768 ok
+    (λ xs c left h. rw (digits-class r.strict c h) refl) [] (e ∷ es) rest 32768 ok
     (fraction_marked ws [] (e ∷ es) 32768 many refl)
 
 -- ---- exponent digits
@@ -124,7 +108,7 @@ pub read_more_exponent : (r : Reading) (fs : Frames) (negative : Bool) (ws gs : 
     ≡ outcome r rest (numeral fs negative (exponent ws gs l s (onto es ds)))
 read_more_exponent r fs negative ws gs l s ds es rest ok =
     collect_all r (λ ds. numeral fs negative (exponent ws gs l s ds)) (λ xs. false)
-    (exponent_collects r fs negative ws gs l s) ds es rest ok
+    (λ xs c left h. rw (digits-class r.strict c h) refl) ds es rest ok
     (never_marked ds es)
 
 -- after the letter, and after a sign

@@ -4,10 +4,7 @@ use Rattle.std.specs.Prelude.{IsUtf8, IsTrue, ◌==◌}
 use Rattle.std.specs.Char.{is_ascii_digit}
 use Rattle.std.specs.Str.{IsCharBoundary}
 use Rattle.jzon.specs.Reading.{Reading}
-use Rattle.jzon.specs.Private.Classes.{Class, whitespace, digits, minus_char, plus_char, point, letter_e, quote}
-use Rattle.jzon.specs.Private.Classes.{opens_array, closes_array, opens_object, closes_object, comma, colon}
-use Rattle.jzon.specs.Private.Classes.{begins_null, begins_true, begins_false, other, class_of, after_minus}
-use Rattle.jzon.specs.Private.Classes.{after_first_digit}
+use Rattle.jzon.specs.Private.Classes.{Class, digits, class_of, after_minus, after_first_digit}
 use Rattle.jzon.specs.Private.Machine.{Frames, numeral, bad, move_numeral, from}
 use Rattle.jzon.proofs.Texts.ClassesOfCharacters.{class-says, digits-class}
 use Rattle.jzon.proofs.Texts.StepsByByte.{StopsAt, from_step, digit_is_ascii}
@@ -15,22 +12,7 @@ use Rattle.jzon.proofs.Texts.StepsByByte.{StopsAt, from_step, digit_is_ascii}
 no_digit_on : (r : Reading) (fs : Frames) (c : ℕ) (k : Class) → (IsTrue (is_ascii_digit c) → ⊥)
     → class_of r.strict c ≡ k → move_numeral after_minus k fs true c ≡ bad
 no_digit_on r fs c digits h e = absurd (h (class-says r.strict c e))
-no_digit_on r fs c whitespace h e = refl
-no_digit_on r fs c minus_char h e = refl
-no_digit_on r fs c plus_char h e = refl
-no_digit_on r fs c point h e = refl
-no_digit_on r fs c letter_e h e = refl
-no_digit_on r fs c quote h e = refl
-no_digit_on r fs c opens_array h e = refl
-no_digit_on r fs c closes_array h e = refl
-no_digit_on r fs c opens_object h e = refl
-no_digit_on r fs c closes_object h e = refl
-no_digit_on r fs c comma h e = refl
-no_digit_on r fs c colon h e = refl
-no_digit_on r fs c begins_null h e = refl
-no_digit_on r fs c begins_true h e = refl
-no_digit_on r fs c begins_false h e = refl
-no_digit_on r fs c other h e = refl
+no_digit_on r fs c _ h e = refl
 
 pub no_digit_stops : (r : Reading) (bs : List ℕ) (i : ℕ) (fs : Frames)
     → ((i < length bs) × IsTrue (is_ascii_digit (get_or bs i 0)) → ⊥) → StopsAt r (numeral fs true after_minus) bs i

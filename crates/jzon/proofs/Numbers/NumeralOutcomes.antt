@@ -14,8 +14,8 @@ use Rattle.jzon.specs.Private.Classes.{after_first_digit}
 use Rattle.jzon.specs.Private.Machine.{Frames, State, numeral, after_value, go, bad, move, move_after_value}
 use Rattle.jzon.specs.Private.Machine.{move_after_whole, move_numeral, number_value, exponent_of, last, meant_at}
 use Rattle.jzon.specs.Private.Machine.{refused, outcome_on, outcome, fault_here}
-use Rattle.jzon.proofs.Texts.ClassesOfCharacters.{letter_e-class, class-char, class-says}
-use Rattle.jzon.proofs.Numbers.NumberLimits.{onto-onto}
+use Rattle.jzon.proofs.Texts.ClassesOfCharacters.{letter_e-class, class-char, class-says, no_digit}
+use Rattle.jzon.proofs.Numbers.NumberLimits.{onto-onto, in_order}
 use Rattle.jzon.proofs.Numbers.DigitRuns.{read_whole, refuse_whole, read_fraction, read_unsigned_exponent}
 use Rattle.jzon.proofs.Numbers.DigitRuns.{read_signed_exponent}
 
@@ -29,9 +29,6 @@ read_one : (r : Reading) (p q : State) (c : ℕ) (cs : List ℕ) → move r p c 
 read_one r p q c cs e = ap (λ m. outcome_on m (λ x. outcome r cs x) (c ∷ cs)) e
 
 -- ---- characters that aren't in a class
-
-no_digit : (s : Bool) (c : ℕ) → is_ascii_digit c ≡ false → class_of s c ≡ digits → ⊥
-no_digit s c fails e = true≢false (sym (class-says s c e) ∙ fails)
 
 no_letter : (s : Bool) (c : ℕ) → is_exponent_letter c ≡ false → class_of s c ≡ letter_e → ⊥
 no_letter s c fails e = true≢false (sym (class-says s c e) ∙ fails)
@@ -96,18 +93,10 @@ record IsAfterWhole (r : Reading) (fs : Frames) (negative : Bool) (x : NumberSta
       ≡ move_after_whole (class_of r.strict c) fs negative ws c
   ends : last (numeral fs negative x) ≡ meant_at fs (number_value negative ws [] None)
 
-zero_is_after : (r : Reading) (fs : Frames) (negative : Bool)
-    → IsAfterWhole r fs negative zero_read (48 ∷ []) (λ c. false)
-zero_is_after r fs negative = record { moves = λ c fails. refl; ends = refl }
-
 whole_moves : (k : Class) (fs : Frames) (negative : Bool) (ds : List ℕ) (c : ℕ) → (k ≡ digits → ⊥)
     → move_numeral (whole ds) k fs negative c ≡ move_after_whole k fs negative (onto ds []) c
 whole_moves digits fs negative ds c fails = absurd (fails refl)
 whole_moves k fs negative ds c fails = refl
-
--- the digits in their order
-in_order : (d : ℕ) (es : List ℕ) → onto (onto es (d ∷ [])) [] ≡ d ∷ es
-in_order d es = onto-onto es (d ∷ []) [] ∙ ap (λ l. d ∷ l) (append-nil es)
 
 whole_is_after : (r : Reading) (fs : Frames) (negative : Bool) (d : ℕ) (es : List ℕ)
     → IsAfterWhole r fs negative (whole (onto es (d ∷ []))) (d ∷ es) is_ascii_digit
@@ -136,7 +125,7 @@ reads_zero r d cs zero = record {
   some = omega arith;
   place = zero_read;
   more = λ c. false;
-  is_after = λ fs negative. zero_is_after r fs negative;
+  is_after = λ fs negative. record { moves = λ c fails. refl; ends = refl };
   next = nothing cs;
   reads = λ fs negative gs few. ap (λ t. outcome r cs (numeral fs negative (after_first_digit t d))) zero;
   refuses = λ fs negative gs many. absurd (omega arith);
@@ -164,10 +153,6 @@ reads_digits r d es rest some ok stop = record {
   );
 }
 
-after_point : (fs : Frames) (negative : Bool) (ws : List ℕ) (k : Class) (c : ℕ) → k ≡ point
-    → move_after_whole k fs negative ws c ≡ go None (numeral fs negative (pointed ws))
-after_point fs negative ws k c e = rw e refl
-
 pub whole_to_point : (r : Reading) (d : ℕ) (ws cs rest gs : List ℕ) (fs : Frames) (negative : Bool)
     → ReadsWhole r d ws cs (46 ∷ rest) → dropped ws gs < 32768
     → outcome r cs (numeral fs negative (after_first_digit (d == 48) d))
@@ -175,12 +160,8 @@ pub whole_to_point : (r : Reading) (d : ℕ) (ws cs rest gs : List ℕ) (fs : Fr
 whole_to_point r d ws cs rest gs fs negative h few =
     h.reads fs negative gs few
     ∙ read_one r (numeral fs negative h.place) (numeral fs negative (pointed ws)) 46 rest
-    ((h.is_after fs negative).moves 46 h.next ∙ after_point fs negative ws (class_of r.strict 46) 46
+    ((h.is_after fs negative).moves 46 h.next ∙ ap (λ k. move_after_whole k fs negative ws 46)
     (class-char r.strict point))
-
-after_letter : (fs : Frames) (negative : Bool) (ws : List ℕ) (k : Class) (l : ℕ) → k ≡ letter_e
-    → move_after_whole k fs negative ws l ≡ go None (numeral fs negative (lettered ws [] l))
-after_letter fs negative ws k l e = rw e refl
 
 pub whole_to_letter : (r : Reading) (d l : ℕ) (ws cs rest : List ℕ) (fs : Frames) (negative : Bool)
     → ReadsWhole r d ws cs (l ∷ rest) → dropped ws [] < 32768 → IsTrue (is_exponent_letter l)
@@ -189,7 +170,7 @@ pub whole_to_letter : (r : Reading) (d l : ℕ) (ws cs rest : List ℕ) (fs : Fr
 whole_to_letter r d l ws cs rest fs negative h few letter =
     h.reads fs negative [] few
     ∙ read_one r (numeral fs negative h.place) (numeral fs negative (lettered ws [] l)) l rest
-    ((h.is_after fs negative).moves l h.next ∙ after_letter fs negative ws (class_of r.strict l) l
+    ((h.is_after fs negative).moves l h.next ∙ ap (λ k. move_after_whole k fs negative ws l)
     (letter_e-class r.strict l letter))
 
 whole_ends : (k : Class) (fs : Frames) (negative : Bool) (ws : List ℕ) (c : ℕ) → (k ≡ point → ⊥) → (k ≡ letter_e → ⊥)
@@ -248,10 +229,6 @@ fraction_to_end r ws ds rest fs negative ok few stop no_e =
     read_fraction r fs negative ws ds rest ok few ∙ after_fraction r fs negative ws (onto ds []) rest stop no_e
     ∙ ap (λ xs. outcome r rest (after_value fs (number_value negative ws xs None))) (same_order ds)
 
-fraction_letter : (fs : Frames) (negative : Bool) (ws ds : List ℕ) (k : Class) (l : ℕ) → k ≡ letter_e
-    → move_numeral (fraction ws ds) k fs negative l ≡ go None (numeral fs negative (lettered ws (onto ds []) l))
-fraction_letter fs negative ws ds k l e = rw e refl
-
 pub fraction_to_letter : (r : Reading) (l : ℕ) (ws ds rest : List ℕ) (fs : Frames) (negative : Bool) → IsDigits ds
     → kept_fraction ws ds < 32769
     → IsTrue (is_exponent_letter l)
@@ -261,7 +238,7 @@ fraction_to_letter r l ws ds rest fs negative ok few letter =
     read_fraction r fs negative ws ds (l ∷ rest) ok few
     ∙ read_one r (numeral fs negative (fraction ws (onto ds [])))
     (numeral fs negative (lettered ws (onto (onto ds []) []) l)) l rest
-    (fraction_letter fs negative ws (onto ds []) (class_of r.strict l) l (letter_e-class r.strict l letter))
+    (ap (λ k. move_numeral (fraction ws (onto ds [])) k fs negative l) (letter_e-class r.strict l letter))
     ∙ ap (λ xs. outcome r rest (numeral fs negative (lettered ws xs l))) (same_order ds)
 
 -- ---- exponent digits
