@@ -61,17 +61,12 @@ record ReadEntries (r : Reading) (ps : Pairs) (ts : List (List ℕ)) : Type 0 wh
 each_raised : (r : Reading) (h g : ℕ) (ts : List (List ℕ)) (ns : List Node) → h ≤ g → EachSpells r h ts ns
     → EachSpells r g ts ns
 each_raised r h g [] [] le e = tt
-each_raised r h g [] (n ∷ ns) le e = e
-each_raised r h g (t ∷ ts) [] le e = e
 each_raised r h g (t ∷ ts) (n ∷ ns) le e = (node_raised r h g t n le e.0, each_raised r h g ts ns le e.1)
+each_raised r h g _ _ le e = e
 
 entry_raised : (r : Reading) (h g : ℕ) (e : Entry) → h ≤ g → EntrySpells r h e → EntrySpells r g e
-entry_raised r h g e le k = record {
-  utf8 = k.utf8;
-  whitespace = k.whitespace;
-  spells = node_raised r h g e.text e.node le
-      k.spells;
-}
+entry_raised r h g e le k =
+    record { utf8 = k.utf8; whitespace = k.whitespace; spells = node_raised r h g e.text e.node le k.spells }
 
 entries_raised : (r : Reading) (h g : ℕ) (es : List Entry) → h ≤ g → AllByRecursion (EntrySpells r h) es
     → AllByRecursion (EntrySpells r g) es
@@ -203,61 +198,35 @@ same_pair false m v f g here later = later
 same_text : (s t : List ℕ) → s ≡ t → bytes_eq s t ≡ true
 same_text s t e = (bytes_eq-Decides s t).1 e
 
+-- a value with nothing inside it
+leaf : (r : Reading) (v : Value) (b t : List ℕ) (n : Node) → b ≡ t → NodeSpells r (nest v) t n
+    → same (meaning n) v ≡ true → ReadNode r v b
+leaf r v b t n e spells alike =
+    record { node = n; spells = subst (λ x. NodeSpells r (nest v) x n) (sym e) spells; alike = alike }
+
 mutual
   read_node : (r : Reading) (s : Style) (dent : ℕ) (v : Value) (b : List ℕ) → AllowsWhitespaceOf r s → IsValue v
       → HasNoNan v → Writes s dent v b → ReadNode r v b
-  read_node r s dent null b fit h no_nan w = record {
-    node = Node.null;
-    spells = subst (λ x. NodeSpells r 0 x Node.null)
-        (sym w) (null_spells r);
-    alike = refl;
-  }
+  read_node r s dent null b fit h no_nan w = leaf r null b _ Node.null w (null_spells r) refl
   read_node r s dent (boolean true) b fit h no_nan w =
-      record {
-        node = Node.boolean true;
-        spells = subst (λ x. NodeSpells r 0 x (Node.boolean true)) (sym w)
-            (true_spells r);
-        alike = refl;
-      }
+      leaf r (boolean true) b _ (Node.boolean true) w (true_spells r) refl
   read_node r s dent (boolean false) b fit h no_nan w =
-      record {
-        node = Node.boolean false;
-        spells = subst (λ x. NodeSpells r 0 x (Node.boolean false)) (sym w)
-            (false_spells r);
-        alike = refl;
-      }
+      leaf r (boolean false) b _ (Node.boolean false) w (false_spells r) refl
   read_node r s dent (text k t) b fit h no_nan w =
       let u : IsUtf8 t = text_utf8 k t h in
-      record {
-        node = Node.string (items_for t);
-        spells = subst (λ x. NodeSpells r 0 x (Node.string (items_for t))) (sym w) (string_spells r t u);
-        alike = same_text (bytes_of (items_for t)) t (bytes_of-items_for t u);
-      }
+      leaf r (text k t) b _ (Node.string (items_for t)) w (string_spells r t u)
+      (same_text (bytes_of (items_for t)) t (bytes_of-items_for t u))
   read_node r s dent (number nan) b fit h no_nan w = absurd no_nan
   read_node r s dent (number (parts p m x)) b fit h no_nan w =
       let n = printed_numeral p m x h.0 h.1 in
-      record {
-        node = Node.number n.0;
-        spells = subst (λ y. NodeSpells r 0 y (Node.number n.0)) (sym w) (number_spells r p m x n.0 h.0 h.1 n.1);
-        alike = n.1.alike;
-      }
+      leaf r (number (parts p m x)) b _ (Node.number n.0) w (number_spells r p m x n.0 h.0 h.1 n.1) n.1.alike
   read_node r s dent (array no_values) b fit h no_nan w =
-      record {
-        node = Node.empty_array [];
-        spells = subst (λ x. NodeSpells r 0 x (Node.empty_array [])) (sym w)
-            (empty_array_spells r);
-        alike = refl;
-      }
+      leaf r (array no_values) b _ (Node.empty_array []) w (empty_array_spells r) refl
   read_node r s dent (array (value v vs)) b fit h no_nan w =
       let e = read_nodes r s (suc dent) (value v vs) w.0 fit h no_nan w.1 in array_from r s dent v vs b w.0 e.nodes fit
       e.spell e.alike w.2
   read_node r s dent (object no_pairs) b fit h no_nan w =
-      record {
-        node = Node.empty_object [];
-        spells = subst (λ x. NodeSpells r 0 x (Node.empty_object [])) (sym w)
-            (empty_object_spells r);
-        alike = refl;
-      }
+      leaf r (object no_pairs) b _ (Node.empty_object []) w (empty_object_spells r) refl
   read_node r s dent (object (pair k v ps)) b fit h no_nan w =
       let e = read_entries r s (suc dent) (pair k v ps) w.0 fit h.0 no_nan w.2 in
       object_read r s dent k v ps b w.0 w.1 e.entries fit h.1 e.texts e.spell e.keys e.alike w.3 w.5
@@ -265,8 +234,6 @@ mutual
   read_nodes : (r : Reading) (s : Style) (dent : ℕ) (vs : Values) (ts : List (List ℕ)) → AllowsWhitespaceOf r s
       → AreValues vs → HaveNoNan vs → WritesEach s dent vs ts → ReadNodes r vs ts
   read_nodes r s dent no_values [] fit h no_nan w = record { nodes = []; spell = tt; alike = refl }
-  read_nodes r s dent no_values (t ∷ ts) fit h no_nan w = absurd w
-  read_nodes r s dent (value v vs) [] fit h no_nan w = absurd w
   read_nodes r s dent (value v vs) (t ∷ ts) fit h no_nan w =
       let one = read_node r s dent v t fit h.0 no_nan.0 w.0 in
       let more = read_nodes r s dent vs ts fit h.1 no_nan.1 w.1 in
@@ -280,18 +247,12 @@ mutual
         );
         alike = and_from _ _ one.alike more.alike;
       }
+  read_nodes r s dent _ _ fit h no_nan w = absurd w
 
   read_entries : (r : Reading) (s : Style) (dent : ℕ) (ps : Pairs) (ts : List (List ℕ)) → AllowsWhitespaceOf r s
       → ArePairs ps → PairsHaveNoNan ps → WritesPairs s dent ps ts → ReadEntries r ps ts
-  read_entries r s dent no_pairs [] fit h no_nan w = record {
-    entries = [];
-    texts = refl;
-    spell = tt;
-    keys = refl;
-    alike = λ q. refl;
-  }
-  read_entries r s dent no_pairs (t ∷ ts) fit h no_nan w = absurd w
-  read_entries r s dent (pair k v ps) [] fit h no_nan w = absurd w
+  read_entries r s dent no_pairs [] fit h no_nan w =
+      record { entries = []; texts = refl; spell = tt; keys = refl; alike = λ q. refl }
   read_entries r s dent (pair k v ps) (t ∷ ts) fit h no_nan w =
       let wide : Bool = w.0.0 in
       let x : List ℕ = w.0.1 in
@@ -320,6 +281,7 @@ mutual
             same_pair (bytes_eq k q) (meaning one.node) v (find q (map entry_meaning more.entries))
             (find q (list_of_pairs ps)) one.alike (more.alike q);
       }
+  read_entries r s dent _ _ fit h no_nan w = absurd w
 
 -- ---- the law
 
