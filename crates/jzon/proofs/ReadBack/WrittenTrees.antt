@@ -124,13 +124,12 @@ no_elements_spell r = record {
 abbrev pub run_text : List ℕ → List ℕ → List ℕ → List ℕ → List ℕ
 run_text w x c b = w ++ (x ++ (c ++ b))
 
-run-plain : (r : Reading) (h high depth : ℕ) (w x c b : List ℕ) (n : Node) (es : Elements) (k : List Cell)
-    → IsWhitespace r w → IsWhitespace r c → NodeSpells r h x n → ElementsSpell r high b es
-    → depth + max h high ≤ r.depth
-    → plain w (node_cells r n depth None (plain c (elements_cells r es depth k))) ≡ plain (chars (run_text w x c b)) k
-run-plain r h high depth w x c b n es k whitespace space node more few =
-    ap (λ q. plain w (node_cells r n depth None (plain c q))) (more.unbroken depth k (omega arith))
-    ∙ ap (λ q. plain w q) (node.unbroken depth (plain c (plain (chars b) k)) (omega arith)
+run-plain : (r : Reading) (h depth : ℕ) (w x c b : List ℕ) (n : Node) (rest k : List Cell)
+    → IsWhitespace r w → IsWhitespace r c → NodeSpells r h x n → depth + h ≤ r.depth → rest ≡ plain (chars b) k
+    → plain w (node_cells r n depth None (plain c rest)) ≡ plain (chars (run_text w x c b)) k
+run-plain r h depth w x c b n rest k whitespace space node few more =
+    ap (λ q. plain w (node_cells r n depth None (plain c q))) more
+    ∙ ap (λ q. plain w q) (node.unbroken depth (plain c (plain (chars b) k)) few
     ∙ ap (λ q. plain (chars x) q) (sym (text-ascii c b k (IsAscii-whitespace r c space)))
     ∙ sym (text-append x (c ++ b) k node.utf8))
     ∙ sym (text-ascii w (x ++ (c ++ b)) k (IsAscii-whitespace r w whitespace))
@@ -149,7 +148,8 @@ element_spells r h high w x c b n es whitespace space node more = record {
       (IsUtf8-run r w x c b whitespace space node.utf8 more.utf8);
   in_grammar = (whitespace, node.in_grammar, space, more.in_grammar);
   unbroken = λ depth k few.
-      ap (λ q. cell 44 None ∷ q) (run-plain r h high depth w x c b n es k whitespace space node more few)
+      ap (λ q. cell 44 None ∷ q) (run-plain r h depth w x c b n _ k whitespace space node (omega arith)
+      (more.unbroken depth k (omega arith)))
       ∙ sym (text-ascii (44 ∷ []) (run_text w x c b) k (IsAscii-one 44 (omega arith)));
 }
 
@@ -164,8 +164,8 @@ array_spells r h high w x c b n es whitespace space node more = record {
       ap (λ t. cell 91 None ∷ plain w (node_cells r n (suc depth) (breach_if t deep)
       (plain c (elements_cells r es (suc depth) k))))
       (not_deep depth (max h high) r.depth few)
-      ∙ ap (λ q. cell 91 None ∷ q) (run-plain r h high (suc depth) w x c b n es k whitespace space node more
-      (omega arith))
+      ∙ ap (λ q. cell 91 None ∷ q) (run-plain r h (suc depth) w x c b n _ k whitespace space node (omega arith)
+      (more.unbroken (suc depth) k (omega arith)))
       ∙ sym (text-ascii (91 ∷ []) (run_text w x c b) k (IsAscii-one 91 (omega arith)));
 }
 
@@ -211,11 +211,8 @@ pair-plain r h high depth seen keys w key g x c b n ms k whitespace u gap space 
     ∙ ap (λ q. plain w (plain (chars (quoted key)) (cell 58 None ∷ q)))
     (ap (λ y. plain g (node_cells r n depth None (plain c (members_cells r ms (y ∷ seen) depth k))))
     (bytes_of-items_for key u)
-    ∙ ap (λ q. plain g (node_cells r n depth None (plain c q))) (more.unbroken (key ∷ seen) depth k new.1 (omega arith))
-    ∙ ap (λ q. plain g q) (node.unbroken depth (plain c (plain (chars b) k)) (omega arith)
-    ∙ ap (λ q. plain (chars x) q) (sym (text-ascii c b k (IsAscii-whitespace r c space)))
-    ∙ sym (text-append x (c ++ b) k node.utf8))
-    ∙ sym (text-ascii g (x ++ (c ++ b)) k (IsAscii-whitespace r g gap)))
+    ∙ run-plain r h depth g x c b n _ k gap space node (omega arith)
+    (more.unbroken (key ∷ seen) depth k new.1 (omega arith)))
     ∙ ap (λ q. plain w (plain (chars (quoted key)) q)) (sym (text-ascii (58 ∷ []) (run_text g x c b) k
     (IsAscii-one 58 (omega arith))))
     ∙ ap (λ q. plain w q) (sym (text-append (quoted key) (58 ∷ run_text g x c b) k (IsUtf8-quoted key u)))
