@@ -1,9 +1,9 @@
 -- A written string is a string of the grammar, and means the string that was written.
-use Rattle.std.proofs.Common.{◌≡◌, ◌∙◌, ℕ, zero, suc, ◌/◌, ◌%◌, ◌≤◌, List, [], ◌∷◌, ◌++◌, map, Bool, true, false, not}
-use Rattle.std.proofs.Common.{◌&&◌, ◌||◌, ◌==◌, nat_lt, if◌then◌else◌, refl, sym, ap, subst, arith, inl, inr}
-use Rattle.std.proofs.Common.{append-nil, chars, None}
+use Rattle.std.proofs.Common.{◌≡◌, ◌∙◌, ℕ, ◌/◌, ◌%◌, ◌≤◌, List, [], ◌∷◌, ◌++◌, map, Bool, true, false, not, ◌&&◌, ◌||◌}
+use Rattle.std.proofs.Common.{◌==◌, nat_lt, if◌then◌else◌, refl, sym, ap, subst, arith, inl, inr, append-nil, chars}
+use Rattle.std.proofs.Common.{None}
 use Rattle.std.specs.Prelude.{IsUtf8, encode_utf8, encode_utf8_all}
-use Rattle.std.specs.Char.{digit_char, is_ascii_hexdigit}
+use Rattle.std.specs.Char.{digit_char}
 use Rattle.std.specs.Str.{IsAscii, bytes_eq}
 use Rattle.std.proofs.Math.Utf8.{scalar, scalars}
 use Rattle.std.proofs.lemmas.Bool.{cases_lt, and_parts, not-true}
@@ -15,13 +15,14 @@ use Rattle.std.proofs.lemmas.Str.{encode_ascii, IsUtf8-from_ascii, encodes-IsAsc
 use Rattle.jzon_tree.specs.Text.{escaped_byte, escaped, quoted}
 use Rattle.jzon_tree.proofs.PrintedUtf8.{all_below, at_below, large_escaped, escaped_large, encode_large, IsAscii-one}
 use Rattle.jzon_tree.proofs.PrintedUtf8.{IsAscii-escaped_byte, IsUtf8-escaped}
-use Rattle.jzon.specs.Grammar.{Item, simple, single, double, AreHex, IsItem, AreItems, is_unescaped, is_simple}
-use Rattle.jzon.specs.Grammar.{is_surrogate, code_unit}
+use Rattle.jzon.specs.Grammar.{Item, simple, single, double, IsItem, AreItems, is_unescaped, is_simple, is_surrogate}
+use Rattle.jzon.specs.Grammar.{code_unit}
 use Rattle.jzon.specs.Grammar as grammar
 use Rattle.jzon.specs.Spelling.{Cell, cell, plain, item_cells, items_cells}
 use Rattle.jzon.specs.Meaning.{item_text, text_of, bytes_of}
 use Rattle.jzon.proofs.Texts.Cells.{plain-append}
 use Rattle.jzon.proofs.Strings.PlainRuns.{plain_wide}
+use Rattle.jzon.proofs.Strings.StringCharacters.{are_hex, hex-true}
 
 -- ---- what is written for a character
 
@@ -56,18 +57,6 @@ record IsWritten (c : ℕ) (i : Item) : Type 0 where
 
 -- ---- characters below 128, one by one
 
-abbrev are_hex : ℕ → List ℕ → Bool
-are_hex zero [] = true
-are_hex zero (c ∷ cs) = false
-are_hex (suc n) [] = false
-are_hex (suc n) (c ∷ cs) = is_ascii_hexdigit c && are_hex n cs
-
-are_hex-true : (n : ℕ) (cs : List ℕ) → are_hex n cs ≡ true → AreHex n cs
-are_hex-true zero [] h = tt
-are_hex-true zero (c ∷ cs) h = absurd (cc)
-are_hex-true (suc n) [] h = absurd (cc)
-are_hex-true (suc n) (c ∷ cs) h = let t = and_parts _ _ h in (t.0, are_hex-true n cs t.1)
-
 abbrev is_item : Item → Bool
 is_item (grammar.plain c) = is_unescaped c
 is_item (simple c) = is_simple c
@@ -77,14 +66,12 @@ is_item (double u v) = false
 is_item-true : (i : Item) → is_item i ≡ true → IsItem i
 is_item-true (grammar.plain c) h = h
 is_item-true (simple c) h = h
-is_item-true (single u) h = let t = and_parts _ _ h in (are_hex-true 4 u t.0, not-true _ t.1)
+is_item-true (single u) h = let t = and_parts _ _ h in (hex-true 4 u t.0, not-true _ t.1)
 is_item-true (double u v) h = absurd (cc)
 
 item-plain : (i : Item) → is_item i ≡ true → (k : List Cell) → item_cells i k ≡ plain (item_spelled i) k
-item-plain (grammar.plain c) h k = refl
-item-plain (simple c) h k = refl
-item-plain (single u) h k = refl
 item-plain (double u v) h k = absurd (cc)
+item-plain _ h k = refl
 
 -- the item is in the grammar, is spelled as the character is written, and means it
 abbrev is_written : ℕ → Bool

@@ -1,8 +1,7 @@
 -- The tree of one text, by computation (`read_tree`): the automaton accepts the text, and a tree of the grammar spells
 -- it.
-use Rattle.std.proofs.Common.{◌≡◌, ◌∙◌, ℕ, zero, suc, List, [], ◌∷◌, Bool, true, false, not, ◌&&◌, refl, subst}
+use Rattle.std.proofs.Common.{◌≡◌, ◌∙◌, ℕ, List, [], ◌∷◌, Bool, true, false, not, ◌&&◌, refl, subst}
 use Rattle.std.specs.Prelude.{IsTrue}
-use Rattle.std.specs.Char.{is_ascii_hexdigit}
 use Rattle.std.specs.List.{list_all}
 use Rattle.std.specs.Str.{bytes_eq}
 use Rattle.std.proofs.lemmas.Bool.{and_parts, not-true}
@@ -11,23 +10,18 @@ use Rattle.jzon_tree.specs.Value.{Value}
 use Rattle.jzon_tree.specs.Writing.{is_whitespace}
 use Rattle.jzon.specs.Reading.{Reading}
 use Rattle.jzon.specs.Grammar.{Item, simple, single, double, Key, Node, Elements, no_elements, element, Members}
-use Rattle.jzon.specs.Grammar.{no_members, member, Document, Each, AreHex, IsItem, AreItems, IsKey, IsNode, AreElements}
+use Rattle.jzon.specs.Grammar.{no_members, member, Document, Each, IsItem, AreItems, IsKey, IsNode, AreElements}
 use Rattle.jzon.specs.Grammar.{AreMembers, is_unescaped, is_simple, is_surrogate, code_unit}
 use Rattle.jzon.specs.Grammar as grammar
 use Rattle.jzon.specs.Fault.{Spells, Parses}
 use Rattle.jzon.specs.Private.Machine.{no_frames, before, Outcome, meant, refused, outcome}
+use Rattle.jzon.proofs.Strings.StringCharacters.{are_hex, hex-true}
 use Rattle.jzon.proofs.WorkedRows.Samples.{is_numeral, is_numeral-true}
 use Rattle.jzon.proofs.Texts.TreeCharacters.{document_chars, spells}
 use Rattle.jzon.proofs.Texts.OneTree.{same_tree}
 use Rattle.jzon.proofs.Texts.Verdict.{Verdict, answers}
 
 -- ---- trees of the grammar
-
-abbrev are_hex : ℕ → List ℕ → Bool
-are_hex zero [] = true
-are_hex zero (c ∷ cs) = false
-are_hex (suc n) [] = false
-are_hex (suc n) (c ∷ cs) = is_ascii_hexdigit c && are_hex n cs
 
 abbrev is_item : Item → Bool
 is_item (grammar.plain c) = is_unescaped c
@@ -68,12 +62,6 @@ is_document r d = is_blank r d.before && (is_node r d.node && is_blank r d.after
 each-true : (test : ℕ → Bool) (w : List ℕ) → IsTrue (list_all test w) → Each test w
 each-true test [] h = tt
 each-true test (c ∷ w) h = let t = and_parts _ _ h in (t.0, each-true test w t.1)
-
-hex-true : (n : ℕ) (u : List ℕ) → IsTrue (are_hex n u) → AreHex n u
-hex-true zero [] h = tt
-hex-true zero (c ∷ u) h = absurd (cc)
-hex-true (suc n) [] h = absurd (cc)
-hex-true (suc n) (c ∷ u) h = let t = and_parts _ _ h in (t.0, hex-true n u t.1)
 
 item-true : (i : Item) → IsTrue (is_item i) → IsItem i
 item-true (grammar.plain c) h = h
