@@ -20,21 +20,13 @@ AllowsWhitespaceOf r s = (dent : ℕ) (w : List ℕ) → IsAllowedWhitespace s d
 -- ---- higher bounds
 
 pub node_raised : (r : Reading) (h g : ℕ) (b : List ℕ) (n : Node) → h ≤ g → NodeSpells r h b n → NodeSpells r g b n
-node_raised r h g b n le e = record {
-  utf8 = e.utf8;
-  in_grammar = e.in_grammar;
-  unbroken = λ depth k few. e.unbroken
-      depth k (omega arith);
-}
+node_raised r h g b n le e =
+    record { utf8 = e.utf8; in_grammar = e.in_grammar; unbroken = λ depth k few. e.unbroken depth k (omega arith) }
 
 elements_raised : (r : Reading) (h g : ℕ) (b : List ℕ) (es : Elements) → h ≤ g → ElementsSpell r h b es
     → ElementsSpell r g b es
-elements_raised r h g b es le e = record {
-  utf8 = e.utf8;
-  in_grammar = e.in_grammar;
-  unbroken = λ depth k few.
-      e.unbroken depth k (omega arith);
-}
+elements_raised r h g b es le e =
+    record { utf8 = e.utf8; in_grammar = e.in_grammar; unbroken = λ depth k few. e.unbroken depth k (omega arith) }
 
 members_raised : (r : Reading) (h g : ℕ) (keys : List (List ℕ)) (b : List ℕ) (ms : Members) → h ≤ g
     → MembersSpell r h keys b ms → MembersSpell r g keys b ms
@@ -42,8 +34,7 @@ members_raised r h g keys b ms le e =
     record {
       utf8 = e.utf8;
       in_grammar = e.in_grammar;
-      unbroken = λ seen depth k new few. e.unbroken seen depth k new
-          (omega arith);
+      unbroken = λ seen depth k new few. e.unbroken seen depth k new (omega arith);
     }
 
 -- ---- values
@@ -52,8 +43,7 @@ members_raised r h g keys b ms le e =
 abbrev pub EachSpells : Reading → ℕ → List (List ℕ) → List Node → Type 0
 EachSpells r high [] [] = ⊤
 EachSpells r high (t ∷ ts) (n ∷ ns) = NodeSpells r high t n × EachSpells r high ts ns
-EachSpells r high [] (n ∷ ns) = ⊥
-EachSpells r high (t ∷ ts) [] = ⊥
+EachSpells r high _ _ = ⊥
 
 -- The text `inside` of the values, followed by the whitespace w and the bracket, splits into whitespace, the first
 -- value, whitespace and the elements after it.

@@ -36,7 +36,7 @@ use Rattle.jzon.specs.Fault.{Parses}
 use Rattle.jzon.specs.Laws.{IsReadAs, Redump}
 use Rattle.jzon.specs.Answer.{IsReadable}
 use Rattle.jzon.proofs.Strings.HexDigits.{hex_is_below_16}
-use Rattle.jzon.proofs.ReadBack.UnmarkedCells.{HaveNoMarks, unmarked, plain_rest, numeral_first, items_rest, key_first}
+use Rattle.jzon.proofs.ReadBack.UnmarkedCells.{HaveNoMarks, unmarked, plain_rest, signed_first, items_rest, key_first}
 
 -- ---- numbers
 
@@ -182,20 +182,14 @@ deeper a depth room h l = omega arith
 mutual
   node_held : (r : Reading) (n : Node) (depth : ℕ) (m : Option Breach) (k : List Cell) → IsNode r n
       → HaveNoMarks (node_cells r n depth m k) → NodeHeld r depth m k (meaning n)
-  node_held r Node.null depth m k ok h = record {
-    lawful = tt;
-    no_nan = tt;
-    few = omega arith;
-    mark = h.0;
-    rest =
-        plain_rest (codes "ull") k h.1;
-  }
+  node_held r Node.null depth m k ok h =
+      record { lawful = tt; no_nan = tt; few = omega arith; mark = h.0; rest = plain_rest (codes "ull") k h.1 }
   node_held r (Node.boolean true) depth m k ok h =
       record { lawful = tt; no_nan = tt; few = omega arith; mark = h.0; rest = plain_rest (codes "rue") k h.1 }
   node_held r (Node.boolean false) depth m k ok h =
       record { lawful = tt; no_nan = tt; few = omega arith; mark = h.0; rest = plain_rest (codes "alse") k h.1 }
   node_held r (Node.number n) depth m k ok h =
-      let first = numeral_first n m k ok.0 h in
+      let first = signed_first n.negative n m k ok.0 h in
       record { lawful = number_in_range n; no_nan = tt; few = omega arith; mark = first.0; rest = first.1 }
   node_held r (Node.string is) depth m k ok h =
       record {

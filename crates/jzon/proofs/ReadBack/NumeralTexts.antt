@@ -56,8 +56,7 @@ fraction-plain ws (d ∷ ds) k h =
 
 sign-plain : (s : Sign) (k : List Cell) → sign_cells s k ≡ plain (sign_spelled s) k
 sign-plain unsigned k = refl
-sign-plain plus k = refl
-sign-plain minus k = refl
+sign-plain _ k = refl
 
 exponent-plain : (e : Option Exponent) (k : List Cell) → exponent_cells e k ≡ plain (exponent_spelled e) k
 exponent-plain None k = refl

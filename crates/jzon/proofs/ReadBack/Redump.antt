@@ -58,18 +58,14 @@ mutual
       record {
         node = Node.string (items_for s);
         spells = string_spells r s u;
-        again = λ e. ap quoted
-            (bytes_of-items_for s u);
+        again = λ e. ap quoted (bytes_of-items_for s u);
       }
   dumped r d (number nan) h = record { node = Node.null; spells = null_spells r; again = λ e. refl }
   dumped r d (number (parts p m x)) h =
       let n = printed_numeral p m x h.0 h.1 in
       record { node = Node.number n.0; spells = number_spells r p m x n.0 h.0 h.1 n.1; again = λ e. n.1.prints }
-  dumped r d (array no_values) h = record {
-    node = Node.empty_array [];
-    spells = empty_array_spells r;
-    again = λ e. refl;
-  }
+  dumped r d (array no_values) h =
+      record { node = Node.empty_array []; spells = empty_array_spells r; again = λ e. refl }
   dumped r d (array (value v vs)) h =
       let one = dumped r (suc d) v h.0 in
       let more = dumped_values r d vs h.1 in
@@ -78,12 +74,8 @@ mutual
         spells = array_spells r (nest v) (most_nest vs) [] _ [] _ one.node more.elements tt tt one.spells more.spell;
         again = λ e. rw (one.again (suc e), more.again e) refl;
       }
-  dumped r d (object no_pairs) h = record {
-    node = Node.empty_object [];
-    spells = empty_object_spells r;
-    again = λ e.
-        refl;
-  }
+  dumped r d (object no_pairs) h =
+      record { node = Node.empty_object []; spells = empty_object_spells r; again = λ e. refl }
   dumped r d (object (pair k v ps)) h =
       let one = dumped r (suc d) v h.0.1 in
       let more = dumped_pairs r d ps h.0.2 in
@@ -121,13 +113,8 @@ mutual
       }
 
   dumped_pairs : (r : Reading) (d : ℕ) (ps : Pairs) → ArePairs ps → DumpedPairs r d ps
-  dumped_pairs r d no_pairs h = record {
-    members = no_members;
-    spell = no_members_spell r;
-    keys = refl;
-    again = λ e.
-        refl;
-  }
+  dumped_pairs r d no_pairs h =
+      record { members = no_members; spell = no_members_spell r; keys = refl; again = λ e. refl }
   dumped_pairs r d (pair k v ps) h =
       let one = dumped r (suc d) v h.1 in
       let more = dumped_pairs r d ps h.2 in

@@ -7,8 +7,8 @@ use Rattle.jzon.specs.Grammar.{Sign, unsigned, plus, minus, Exponent, Numeral, I
 use Rattle.jzon.specs.Grammar.{IsWhole}
 use Rattle.jzon.specs.Grammar as grammar
 use Rattle.jzon.specs.Spelling.{Breach, Cell, cell, plain, marked_last, drops_too_many, keeps_too_many, digits_cells}
-use Rattle.jzon.specs.Spelling.{whole_cells, fraction_cells, sign_cells, exponent_cells, magnitude_cells, numeral_cells}
-use Rattle.jzon.specs.Spelling.{item_cells, items_cells, key_cells}
+use Rattle.jzon.specs.Spelling.{whole_cells, fraction_cells, sign_cells, exponent_cells, magnitude_cells, item_cells}
+use Rattle.jzon.specs.Spelling.{items_cells, key_cells}
 use Rattle.jzon.proofs.Texts.Cells.{marks_of}
 
 abbrev pub HaveNoMarks : List Cell → Type 0
@@ -65,15 +65,11 @@ magnitude_first n m k ok h =
     let w = whole_first n.whole m (fraction_cells n.whole n.fraction (exponent_cells n.exponent k)) ok h in
     (w.0, exponent_rest n.exponent k (fraction_rest n.whole n.fraction (exponent_cells n.exponent k) w.1))
 
-signed_first : (negative : Bool) (n : Numeral) (m : Option Breach) (k : List Cell) → IsWhole n.whole
+pub signed_first : (negative : Bool) (n : Numeral) (m : Option Breach) (k : List Cell) → IsWhole n.whole
     → HaveNoMarks (if negative then cell 45 m ∷ magnitude_cells n None k else magnitude_cells n m k) → (m ≡ None)
     × HaveNoMarks k
 signed_first true n m k ok h = (h.0, (magnitude_first n None k ok h.1).1)
 signed_first false n m k ok h = magnitude_first n m k ok h
-
-pub numeral_first : (n : Numeral) (m : Option Breach) (k : List Cell) → IsWhole n.whole
-    → HaveNoMarks (numeral_cells n m k) → (m ≡ None) × HaveNoMarks k
-numeral_first n m k ok h = signed_first n.negative n m k ok h
 
 -- ---- strings
 
