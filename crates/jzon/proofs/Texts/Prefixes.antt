@@ -115,14 +115,9 @@ next_bad_deep r prefix c rest left z d n e =
     subst (λ x. Meets x n.mark (λ s. Follows r (λ o. o ≡ meant (meaning d.node)) n.cells_left s)) w n.meets
 
 -- after one more character, with any mark
-pub record Onto (r : Reading) (prefix : List ℕ) (c left : ℕ) (s : State) (other : ℕ) : Type 0 where
-  pub place : State
-  pub alike : Alike left other s place
-  pub goes : (t : List ℕ) (v : Value) → length t ≡ other → Goes r v t place
-      → Goes r v (prefix ++ (c ∷ t)) (before no_frames)
-
-pub onto_next : (r : Reading) (prefix : List ℕ) (c left : ℕ) (p s : State) (m : Option Breach)
-    → Reaches r prefix (suc left) p → move r p c (suc left) ≡ go m s → (other : ℕ) → Onto r prefix c left s other
+onto_next : (r : Reading) (prefix : List ℕ) (c left : ℕ) (p s : State) (m : Option Breach)
+    → Reaches r prefix (suc left) p → move r p c (suc left) ≡ go m s → (other : ℕ)
+    → Reached r (prefix ++ (c ∷ [])) left s other
 onto_next r prefix c left p s m reached e other =
     let b = reached.back (suc other) in
     let a : AlikeMove left other (go m s) (move r b.place c (suc other)) =
@@ -131,15 +126,16 @@ onto_next r prefix c left p s m reached e other =
     record {
       place = a.0;
       alike = a.2;
-      goes = λ t v l h. b.goes (c ∷ t) v (ap suc l)
-          (subst (λ n. On (move r b.place c (suc n)) (λ x. Goes r v t x)) (sym l)
-          (subst (λ z. On z (λ x. Goes r v t x)) (sym a.1) h));
+      goes = λ t v l h. subst (λ z. Goes r v z (before no_frames)) (sym (append_assoc prefix (c ∷ []) t))
+          (b.goes (c ∷ t) v (ap suc l) (subst (λ n. On (move r b.place c (suc n)) (λ x. Goes r v t x)) (sym l)
+          (subst (λ z. On z (λ x. Goes r v t x)) (sym a.1) h)));
     }
 
 -- one more character, without a breach
 pub reaches_next : (r : Reading) (prefix : List ℕ) (c left : ℕ) (p s : State) → Reaches r prefix (suc left) p
     → move r p c (suc left) ≡ go None s → Reaches r (prefix ++ (c ∷ [])) left s
-reaches_next r prefix c left p s reached e = record { onward = onward; back = back }
+reaches_next r prefix c left p s reached e =
+    record { onward = onward; back = λ other. onto_next r prefix c left p s None reached e other }
   where
     onward : (d : Document) (h : Completes r (prefix ++ (c ∷ [])) d) → Followed r (prefix ++ (c ∷ [])) h.1 left s d
     onward d h =
@@ -155,33 +151,23 @@ reaches_next r prefix c left p s reached e = record { onward = onward; back = ba
           follows = g.3;
         }
 
-    back : (other : ℕ) → Reached r (prefix ++ (c ∷ [])) left s other
-    back other =
-        let o = onto_next r prefix c left p s None reached e other in
-        record {
-          place = o.place;
-          alike = o.alike;
-          goes = λ t v l h. subst (λ z. Goes r v z (before no_frames)) (sym (append_assoc prefix (c ∷ []) t))
-              (o.goes t v l h);
-        }
-
 -- the prefix, closed, is a text of the grammar
-pub closed : (r : Reading) (prefix : List ℕ) (left : ℕ) (p : State) → Reaches r prefix left p
+closed_at : (r : Reading) (prefix : List ℕ) (left : ℕ) (p : State) → Reached r prefix left p (length (closer p))
     → (d : Document) × Spells r (prefix ++ closer p) d
-closed r prefix left p reached =
-    let b = reached.back (length (closer p)) in
+closed_at r prefix left p b =
     let g = closes r b.place in
     let d = sound r g.0 (prefix ++ closer p) (b.goes (closer p) g.0 refl
     (subst (λ t. Goes r g.0 t b.place) (sym (closer-alike left (length (closer p)) p b.place b.alike)) g.1)) in
     (d.0, d.1)
+
+pub closed : (r : Reading) (prefix : List ℕ) (left : ℕ) (p : State) → Reaches r prefix left p
+    → (d : Document) × Spells r (prefix ++ closer p) d
+closed r prefix left p reached = closed_at r prefix left p (reached.back (length (closer p)))
 
 -- so is the prefix with the character, if the automaton goes on with it, with any mark
 pub closed_next : (r : Reading) (prefix : List ℕ) (c left : ℕ) (p s : State) (m : Option Breach)
     → Reaches r prefix (suc left) p → move r p c (suc left) ≡ go m s
     → (d : Document) × Spells r (prefix ++ (c ∷ closer s)) d
 closed_next r prefix c left p s m reached e =
-    let o = onto_next r prefix c left p s m reached e (length (closer s)) in
-    let g = closes r o.place in
-    let d = sound r g.0 (prefix ++ (c ∷ closer s)) (o.goes (closer s) g.0 refl
-    (subst (λ t. Goes r g.0 t o.place) (sym (closer-alike left (length (closer s)) s o.place o.alike)) g.1)) in
-    (d.0, d.1)
+    let d = closed_at r (prefix ++ (c ∷ [])) left s (onto_next r prefix c left p s m reached e (length (closer s))) in
+    (d.0, subst (λ t. Spells r t d.0) (append_assoc prefix (c ∷ []) (closer s)) d.1)
