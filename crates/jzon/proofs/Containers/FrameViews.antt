@@ -27,8 +27,7 @@ use Rattle.jzon.specs.Private.Cursor.{left, IsAfter, GoesOn}
 use Rattle.jzon.specs.Private.Frames.{open_in, stack_view, state_of, is_open, IsReady, IsWholeValue}
 use Rattle.jzon.specs.declared.cursor.Cursor.{Cursor}
 use Rattle.jzon.specs.declared.open_containers.ValueStart.{ValueStart}
-use Rattle.jzon.specs.declared.open_containers.ValueStart.TheVariants.{Value as start_value, Array as start_array}
-use Rattle.jzon.specs.declared.open_containers.ValueStart.TheVariants.{Object as start_object}
+use Rattle.jzon.specs.declared.open_containers.ValueStart.TheVariants.{Value as start_value}
 use Rattle.jzon.specs.declared.open_containers.Frame.{Frame}
 use Rattle.jzon.specs.declared.open_containers.Frame.TheVariants.{Array, Object as in_object}
 use Rattle.jzon.proofs.Texts.Cursors.{Reached, goes_after}
@@ -58,10 +57,8 @@ pub too_deep : (m n : ℕ) → m ≤ n → nat_le m n ≡ true
 too_deep m n le = grind (arith, nat_tests)
 
 pub value_mark-shallow : (r : Reading) (fs : Frames) → frames_depth fs ≤ r.depth → value_mark r fs ≡ None
-value_mark-shallow r no_frames le = refl
 value_mark-shallow r (array_frame fs []) le = not_too_deep r.depth (frames_depth fs) (omega arith)
-value_mark-shallow r (array_frame fs (v ∷ vs)) le = refl
-value_mark-shallow r (object_frame fs es k) le = refl
+value_mark-shallow r _ le = refl
 
 pub key_mark-shallow : (r : Reading) (fs : Frames) (es : Entries) → frames_depth fs < r.depth → key_mark r fs es ≡ None
 key_mark-shallow r fs [] lt = not_too_deep r.depth (frames_depth fs) lt
@@ -125,8 +122,7 @@ after_entry {n = n} {fs = fs} h k e g =
 
 pub open_unless_value : (b : ValueStart) → ((v : JsonValue) → b ≡ start_value v → ⊥) → is_open b ≡ true
 open_unless_value (start_value v) h = absurd (h v refl)
-open_unless_value start_array h = refl
-open_unless_value start_object h = refl
+open_unless_value _ h = refl
 
 -- a container that was closed was read whole, from an earlier offset
 pub closed_on : (t u n : Cursor) (o : State) (fs gs : Frames) (w : Value) (result : Result ValueStart Error)
@@ -137,16 +133,14 @@ closed_on t u n o fs gs w (Ok (start_value v)) at kept whole memory h =
       h.0,
       h.1 ∙ ap (λ ks. left u (after_value ks w)) (sym kept) ∙ ap (λ x. left u (after_value gs x)) (sym whole),
     )
-closed_on t u n o fs gs w (Ok start_array) at kept whole memory h = absurd whole
-closed_on t u n o fs gs w (Ok start_object) at kept whole memory h = absurd whole
 closed_on t u n o fs gs w (Err e) at kept whole memory h = inl memory
+closed_on t u n o fs gs w (Ok _) at kept whole memory h = absurd whole
 
 pub closed_ready : (t : Cursor) (depth : ℕ) (w : Value) (result : Result ValueStart Error)
     → IfOk result (λ b. IsWholeValue b w) → depth ≤ t.reading.depth → IfOk result (IsReady t depth)
 closed_ready t depth w (Ok (start_value v)) whole le = le
-closed_ready t depth w (Ok start_array) whole le = absurd whole
-closed_ready t depth w (Ok start_object) whole le = absurd whole
 closed_ready t depth w (Err e) whole le = tt
+closed_ready t depth w (Ok _) whole le = absurd whole
 
 -- the object of these entries
 pub view_object-entries : (o : Object) (ps : List (List ℕ × JsonValue)) → entries_of o ≡ ps

@@ -89,8 +89,7 @@ module _ (r : Reading) (v : Value) where
 
   after_ends : (fs : Frames) (x : Value) → meant_at fs x ≡ meant v → AfterValue fs x []
   after_ends no_frames x e = (tt, let f : x ≡ v = cc in f)
-  after_ends (array_frame fs vs) x e = absurd (cc)
-  after_ends (object_frame fs es k) x e = absurd (cc)
+  after_ends _ x e = absurd (cc)
 
   ends : (p : State) → last p ≡ meant v → Left p []
   ends (numeral fs negative x) e = number_ends r v fs (AfterValue fs) (after_ends fs) x negative e
@@ -160,7 +159,6 @@ module _ (r : Reading) (v : Value) where
     after_on : (k : Class) (fs : Frames) (x : Value) → class_of r.strict c ≡ k → M (move_after_value k fs x)
         → AfterValue fs x (c ∷ cs)
     after_on whitespace fs x e h = after_more fs x e (ih (after_value fs x) h)
-    after_on comma no_frames x e h = absurd h
     after_on comma (array_frame fs vs) x e h =
         element_on fs vs x (class-says r.strict c e) (ih (before (array_frame fs (vs ++ x ∷ []))) h)
     after_on comma (object_frame fs es k) x e h =
@@ -175,8 +173,6 @@ module _ (r : Reading) (v : Value) where
       subst (λ z. AfterValue fs (value.array z) cs) (closed-values vs x)
           (ih (after_value fs (value.array (values_of (vs ++ x ∷ [])))) h),
     )
-    after_on closes_array no_frames x e h = absurd h
-    after_on closes_array (object_frame fs es k) x e h = absurd h
     after_on closes_object (object_frame fs es k) x e h = (
       [],
       no_members,
@@ -186,8 +182,6 @@ module _ (r : Reading) (v : Value) where
       ap (λ z. z ∷ cs) (class-says r.strict c e),
       ih (after_value fs (value.object (pairs_of (put k x es)))) h,
     )
-    after_on closes_object no_frames x e h = absurd h
-    after_on closes_object (array_frame fs vs) x e h = absurd h
     after_on _ fs x e h = absurd h
 
     -- before a value
@@ -202,9 +196,7 @@ module _ (r : Reading) (v : Value) where
     array_closes : (fs : Frames) → c ≡ 93 → M (move_empty_array fs) → ArrayCloses fs (c ∷ cs)
     array_closes (array_frame fs []) e h =
         ([], cs, tt, ap (λ z. z ∷ cs) e, ih (after_value fs (value.array value.no_values)) h)
-    array_closes (array_frame fs (x ∷ vs)) e h = absurd h
-    array_closes no_frames e h = absurd h
-    array_closes (object_frame fs es k) e h = absurd h
+    array_closes _ e h = absurd h
 
     array_on : (fs : Frames) → c ≡ 91 → Left (before (array_frame fs [])) cs → ValueLeft fs (c ∷ cs)
     array_on fs e (inl (b, x, u, b_ok, x_ok, f, (w, es, u', w_ok, es_ok, g, h))) = (

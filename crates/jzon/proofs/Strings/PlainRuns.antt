@@ -24,9 +24,6 @@ use Rattle.jzon.proofs.Texts.AsciiRuns.{within_run, stops_run}
 abbrev ArePlain : List ℕ → Type 0
 ArePlain xs = (k : ℕ) → k < length xs → is_plain (get_or xs k 0) ≡ true
 
-plain_ascii : (c : ℕ) → scalar c ≡ true → is_plain c ≡ true → is_unescaped c ≡ true
-plain_ascii c s h = rw s h
-
 pub plain_wide : (c : ℕ) → scalar c ≡ true → 128 ≤ c → is_unescaped c ≡ true
 plain_wide c s h = rw s (grind (arith, nat_tests))
 
@@ -37,7 +34,7 @@ plain_first c xs s h =
       | inl lt ↦
           (let e : encode_utf8 c ++ xs ≡ c ∷ xs = ap (λ z. z ++ xs) (encode_ascii c lt) in
           let some : 0 < length (encode_utf8 c ++ xs) = subst (λ z. 0 < length z) (sym e) (omega arith) in
-          plain_ascii c s (subst (λ z. is_plain (get_or z 0 0) ≡ true) e (h 0 some)))
+          rw s (subst (λ z. is_plain (get_or z 0 0) ≡ true) e (h 0 some)))
       | inr ge ↦ plain_wide c s ge
     ]
 

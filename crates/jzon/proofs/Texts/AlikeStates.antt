@@ -17,9 +17,9 @@ use Rattle.jzon.specs.Private.Classes.{Class, whitespace, digits, minus_char, pl
 use Rattle.jzon.specs.Private.Classes.{opens_array, closes_array, opens_object, closes_object, comma, colon}
 use Rattle.jzon.specs.Private.Classes.{begins_null, begins_true, begins_false, class_of, NumberState, after_minus}
 use Rattle.jzon.specs.Private.Classes.{zero_read, whole, pointed, fraction, lettered, signed_exponent, exponent}
-use Rattle.jzon.specs.Private.Machine.{Entries, Frames, no_frames, array_frame, object_frame, Role, as_value, as_key}
-use Rattle.jzon.specs.Private.Machine.{StringState, between, slash, code, second, second_slash, second_code, State}
-use Rattle.jzon.specs.Private.Machine.{before, before_key, word, numeral, string, after_key, after_value, Move, go, bad}
+use Rattle.jzon.specs.Private.Machine.{Entries, Frames, array_frame, object_frame, Role, as_value, as_key, StringState}
+use Rattle.jzon.specs.Private.Machine.{between, slash, code, second, second_slash, second_code, State, before}
+use Rattle.jzon.specs.Private.Machine.{before_key, word, numeral, string, after_key, after_value, Move, go, bad}
 use Rattle.jzon.specs.Private.Machine.{bad_deep, move, value_mark, key_mark, last, frames_depth, bad_at}
 use Rattle.jzon.specs.Private.Machine.{move_empty_array, move_before, move_empty_object, move_before_key}
 use Rattle.jzon.specs.Private.Machine.{move_after_key, move_after_value, move_after_whole, move_after_fraction}
@@ -108,10 +108,8 @@ bad_reports K true = refl
 bad_reports K false = λ e. cc
 
 value_bad : (r : Reading) (fs : Frames) → Reports Keyless (value_mark r fs) (bad_at (value_mark r fs))
-value_bad r no_frames = λ e. cc
 value_bad r (array_frame fs []) = bad_reports Keyless (nat_le r.depth (frames_depth fs))
-value_bad r (array_frame fs (v ∷ vs)) = λ e. cc
-value_bad r (object_frame fs es k) = λ e. cc
+value_bad r _ = λ e. cc
 
 key_bad : (r : Reading) (fs : Frames) (es : Entries) → Reports (λ p. ⊤) (key_mark r fs es) (bad_at (key_mark r fs es))
 key_bad r fs [] = bad_reports (λ p. ⊤) (nat_le r.depth (frames_depth fs))
@@ -119,10 +117,8 @@ key_bad r fs (e ∷ es) = λ e. cc
 
 -- an empty array may close where a value may begin
 array_reports : (r : Reading) (fs : Frames) → Reports Keyless (value_mark r fs) (move_empty_array fs)
-array_reports r no_frames = λ e. cc
 array_reports r (array_frame fs []) = (unmarked _, tt)
-array_reports r (array_frame fs (v ∷ vs)) = λ e. cc
-array_reports r (object_frame fs es k) = λ e. cc
+array_reports r _ = λ e. cc
 
 before_reports : (r : Reading) (class : Class) (fs : Frames) (c : ℕ)
     → Reports Keyless (value_mark r fs) (move_before r class fs c)
@@ -158,15 +154,10 @@ after_key_reports _ fs es k = shut
 
 after_reports : (class : Class) (fs : Frames) (v : Value) → Reports Keyless None (move_after_value class fs v)
 after_reports whitespace fs v = (unmarked _, tt)
-after_reports comma no_frames v = shut
 after_reports comma (array_frame fs vs) v = (unmarked _, tt)
 after_reports comma (object_frame fs es k) v = (unmarked _, tt)
 after_reports closes_array (array_frame fs vs) v = (unmarked _, tt)
-after_reports closes_array no_frames v = shut
-after_reports closes_array (object_frame fs es k) v = shut
 after_reports closes_object (object_frame fs es k) v = (unmarked _, tt)
-after_reports closes_object no_frames v = shut
-after_reports closes_object (array_frame fs vs) v = shut
 after_reports _ fs v = shut
 
 whole_reports : (class : Class) (fs : Frames) (negative : Bool) (ws : List ℕ) (c : ℕ)
@@ -364,13 +355,7 @@ key_alike r i j _ fs es = bad_alike i j (key_mark r fs es)
 alike_value_string : (r : Reading) (i j : ℕ) (fs : Frames) (x : StringState) (bs : List ℕ) (c : ℕ)
     → AlikeMove i j (move_string r x (as_value fs) bs c (suc i)) (move_string r x (as_value fs) bs c (suc j))
 alike_value_string r i j fs between bs c = same_move i j None _ (value_string_reports r fs between bs c 0)
-alike_value_string r i j fs slash bs c = same_move i j None _ (value_string_reports r fs slash bs c 0)
-alike_value_string r i j fs (code n u) bs c = same_move i j None _ (value_string_reports r fs (code n u) bs c 0)
-alike_value_string r i j fs (second u) bs c = same_move i j None _ (value_string_reports r fs (second u) bs c 0)
-alike_value_string r i j fs (second_slash u) bs c =
-    same_move i j None _ (value_string_reports r fs (second_slash u) bs c 0)
-alike_value_string r i j fs (second_code u n v) bs c =
-    same_move i j None _ (value_string_reports r fs (second_code u n v) bs c 0)
+alike_value_string r i j fs x bs c = same_move i j None _ (value_string_reports r fs x bs c 0)
 
 same_alike : (r : Reading) (i j c : ℕ) (p : State) → Keyless p → AlikeMove i j (move r p c (suc i)) (move r p c (suc j))
 same_alike r i j c (before fs) h = same_move i j (value_mark r fs) _ (before_reports r (class_of r.strict c) fs c)

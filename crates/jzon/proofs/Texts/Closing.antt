@@ -25,13 +25,10 @@ brackets (object_frame fs es k) = 125 ∷ brackets fs
 
 abbrev pub digit_closer : NumberState → List ℕ → List ℕ
 digit_closer after_minus t = 48 ∷ t
-digit_closer zero_read t = t
-digit_closer (whole ds) t = t
 digit_closer (pointed ws) t = 48 ∷ t
-digit_closer (fraction ws ds) t = t
 digit_closer (lettered ws ds l) t = 48 ∷ t
 digit_closer (signed_exponent ws ds l s) t = 48 ∷ t
-digit_closer (exponent ws ds l s xs) t = t
+digit_closer _ t = t
 
 -- n zeros
 abbrev pub zeros : ℕ → List ℕ → List ℕ

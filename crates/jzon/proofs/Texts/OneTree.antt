@@ -85,14 +85,10 @@ module _ (r : Reading) where
 
   -- ---- numbers
 
-  letter_not : (k : Class) (x : Exponent) (t : List ℕ) → (letter_e ≡ k → ⊥) → IsExponent (Some x)
-      → Not k (exponent_chars (Some x) t)
-  letter_not k x t apart ok = λ e. apart (sym (letter_e-class r.strict x.letter ok.0) ∙ e)
-
   exponent_not : (k : Class) (x : Option Exponent) (t : List ℕ) → stops k ≡ false → (letter_e ≡ k → ⊥) → IsExponent x
       → Stops t → Not k (exponent_chars x t)
   exponent_not k None t apart other ok h = fault_here k t apart h
-  exponent_not k (Some x) t apart other ok h = letter_not k x t other ok
+  exponent_not k (Some x) t apart other ok h = λ e. other (sym (letter_e-class r.strict x.letter ok.0) ∙ e)
 
   fraction_not : (ds : List ℕ) (x : Option Exponent) (t : List ℕ) → IsExponent x → Stops t
       → Not digits (fraction_chars ds (exponent_chars x t))
@@ -223,17 +219,13 @@ module _ (r : Reading) where
   items_shape (grammar.plain c ∷ is) = 3
 
   shaped : (is : List Item) (t : List ℕ) → AreItems is → shape (items_chars is (34 ∷ t)) ≡ items_shape is
-  shaped [] t ok = refl
   shaped (grammar.plain c ∷ is) t ok = let p = plain_parts c ok.0 in rw (p.0, p.1) refl
   shaped (simple c ∷ is) t ok = rw (simple_not_u c ok.0) refl
-  shaped (single u ∷ is) t ok = refl
-  shaped (double u v ∷ is) t ok = refl
+  shaped _ t ok = refl
 
   goes_on : (i : Item) (is : List Item) → items_shape (i ∷ is) ≡ 0 → ⊥
   goes_on (grammar.plain c) is e = omega (arith, e)
-  goes_on (simple c) is e = omega (arith, e)
-  goes_on (single u) is e = omega (arith, e)
-  goes_on (double u v) is e = omega (arith, e)
+  goes_on _ is e = omega (arith, e)
 
   same_hex : (n : ℕ) (u v s t : List ℕ) → AreHex n u → AreHex n v → u ++ s ≡ v ++ t → (u ≡ v) × (s ≡ t)
   same_hex zero [] [] s t ok ko e = (refl, e)
@@ -341,13 +333,7 @@ module _ (r : Reading) where
 
   kind_begins : (n : Node) → begins_value (kind n) ≡ true
   kind_begins Node.null = refl
-  kind_begins (Node.boolean b) = refl
-  kind_begins (Node.number n) = refl
-  kind_begins (Node.string is) = refl
-  kind_begins (Node.empty_array b) = refl
-  kind_begins (Node.array b n c es) = refl
-  kind_begins (Node.empty_object b) = refl
-  kind_begins (Node.object key b n c ms) = refl
+  kind_begins _ = refl
 
   -- a value begins with no character of another class
   not_value : (k : Class) (t : List ℕ) (n : Node) → begins_value (merged k) ≡ false → first t ≡ Some (kind n) → Not k t

@@ -10,8 +10,8 @@ use Rattle.std.proofs.lemmas.Str.{IsUtf8-drop, IsCharBoundary-before_ascii}
 use Rattle.jzon_base.specs.declared.error.Error.{Error}
 use Rattle.jzon_base.specs.declared.error.Error.TheVariants.{OutOfMemory, UnexpectedEndOfJson, ExceededDepthLimit}
 use Rattle.jzon.specs.Reading.{Reading}
-use Rattle.jzon.specs.Spelling.{deep, pair, digit, duplicate}
-use Rattle.jzon.specs.Fault.{Fault, limit, character, error_at}
+use Rattle.jzon.specs.Spelling.{deep}
+use Rattle.jzon.specs.Fault.{Fault, limit, error_at}
 use Rattle.jzon.specs.Private.Machine.{State, Outcome, meant, refused, last, from, Reports, ReportsUnlessMemory}
 use Rattle.jzon.proofs.Texts.FaultOffsets.{chars_split}
 use Rattle.jzon.proofs.Texts.AsciiRuns.{chars-ascii}
@@ -68,11 +68,7 @@ same_or_memory o p f t (Err e) q h = reported t e o p q h
 -- the error of a text is never `OutOfMemory`
 error_at_memory : (t : List ℕ) (i : ℕ) (f : Fault) → OutOfMemory ≡ error_at t i f → ⊥
 error_at_memory t i (limit deep) e = cc
-error_at_memory t i (limit pair) e = cc
-error_at_memory t i (limit digit) e = cc
-error_at_memory t i (limit (duplicate back)) e = cc
-error_at_memory t i character e = cc
-error_at_memory t i Fault.end e = cc
+error_at_memory t i _ e = cc
 
 reports_no_memory : (t : List ℕ) (o : Outcome) → Reports t OutOfMemory o → ⊥
 reports_no_memory t (meant v) h = h

@@ -73,11 +73,8 @@ by_character P bs i c here wide there = either (cases_lt c 128)
 pub stops_by : (r : Reading) (p : State) (bs : List ℕ) (i : ℕ) → last p ≡ refused Fault.end []
     → (i < length bs → move r p (get_or bs i 0) (left_at bs i) ≡ bad)
     → ((c : ℕ) → 128 ≤ c → move r p c (left_at bs i) ≡ bad) → StopsAt r p bs i
-stops_by r p bs i e here wide = record {
-  ends = e;
-  bad = λ c there. by_character (λ x. move r p x (left_at bs i) ≡ bad)
-      bs i c here wide there;
-}
+stops_by r p bs i e here wide =
+    record { ends = e; bad = λ c there. by_character (λ x. move r p x (left_at bs i) ≡ bad) bs i c here wide there }
 
 pub from_stop : (r : Reading) (bs : List ℕ) (i : ℕ) (p : State) → IsUtf8 bs → IsCharBoundary bs i → StopsAt r p bs i
     → from r bs p i ≡ fault_here (chars (drop i bs))

@@ -92,8 +92,7 @@ chars-fraction ws (d ∷ ds) k = ap (λ z. 46 ∷ z) (chars-digits (keeps_too_ma
 
 chars-sign : (s : Sign) (k : List Cell) → chars_of (sign_cells s k) ≡ sign_chars s (chars_of k)
 chars-sign unsigned k = refl
-chars-sign plus k = refl
-chars-sign minus k = refl
+chars-sign _ k = refl
 
 chars-exponent : (x : Option Exponent) (k : List Cell) → chars_of (exponent_cells x k) ≡ exponent_chars x (chars_of k)
 chars-exponent None k = refl
