@@ -121,13 +121,8 @@ module _ (P R : List ℕ → Type 0) (a b : Emitted) (more : (x : List ℕ) → 
   }
 
 pub Stopped-failed : (P : List ℕ → Type 0) (a b : Emitted) → Failed P a b → Stopped P a b
-Stopped-failed P a b h = record {
-  bytes = h.bytes;
-  dent = rw h.dent (omega arith);
-  faults = h.faults;
-  style = h.style;
-  lender = h.lender;
-}
+Stopped-failed P a b h =
+    record { bytes = h.bytes; dent = rw h.dent (omega arith); faults = h.faults; style = h.style; lender = h.lender }
 
 pub Emits-at_err : {E : Type 0} (P : List ℕ → Type 0) (a b : Emitted) (r : Result (Unit {0}) E) → IsErr r → Failed P a b
     → Emits P a b r

@@ -252,12 +252,5 @@ module _ (s : Style) (d : ℕ) (e : List ℕ × Value) where
     after_key x p =
         let y : (b : List ℕ) × Writes s d e.1 b = some_writing s lawful d e.1 keyed in (
           colon_text lawful.colon.0 ++ y.0,
-          (
-            lawful.colon.0,
-            y.0,
-            lawful.colon.1,
-            y.1,
-            ap
-                (λ w. w ++ (colon_text lawful.colon.0 ++ y.0)) p,
-          ),
+          (lawful.colon.0, y.0, lawful.colon.1, y.1, ap (λ w. w ++ (colon_text lawful.colon.0 ++ y.0)) p),
         )

@@ -108,11 +108,8 @@ each_pair : (s : Style) (d : ℕ) (es : List (List ℕ × Value)) (ts : List (Li
 each_pair s d [] [] l h = tt
 each_pair s d [] (t ∷ ts) l h = absurd (omega (arith, l))
 each_pair s d (e ∷ es) [] l h = absurd (omega (arith, l))
-each_pair s d (e ∷ es) (t ∷ ts) l h = (
-  h 0 (omega arith),
-  each_pair s d es ts (omega (arith, l))
-      (λ p g. h (suc p) (omega arith)),
-)
+each_pair s d (e ∷ es) (t ∷ ts) l h =
+    (h 0 (omega arith), each_pair s d es ts (omega (arith, l)) (λ p g. h (suc p) (omega arith)))
 
 named : (s : Style) (d : ℕ) (es : List (List ℕ × Value)) (ps : List ℕ) (ts : List (List ℕ)) → IsOrder (length es) ps
     → ((k : ℕ) → k < length ps → IsEntry s d (pair_at es (get_or ps k 0)) (text_at ts (get_or ps k 0)))

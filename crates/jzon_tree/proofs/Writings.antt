@@ -21,11 +21,8 @@ some_between s lawful d comma = (
 )
 
 pub some_closing : (s : Style) → IsStyle s → (d bracket : ℕ) → (b : List ℕ) × IsClosing s d bracket b
-some_closing s lawful d bracket = (
-  (lawful.whitespace d).0 ++ bracket
-      ∷ [],
-  ((lawful.whitespace d).0, (lawful.whitespace d).1, refl),
-)
+some_closing s lawful d bracket =
+    ((lawful.whitespace d).0 ++ bracket ∷ [], ((lawful.whitespace d).0, (lawful.whitespace d).1, refl))
 
 pub some_items : (s : Style) → IsStyle s → (d : ℕ) (comma : Bool) (ts : List (List ℕ)) → (b : List ℕ)
     × Items s d comma ts b

@@ -118,15 +118,8 @@ module _ {V : Type 0} where
   found_at : (q : List ℕ) (d x : List ℕ × V) (xs : List (List ℕ × V)) (v : V) (b : Bool) → bytes_eq x.0 q ≡ b
       → (find q xs ≡ Some v → (i : ℕ) × IsFound q d xs v i)
       → cond b (Some x.1) (find q xs) ≡ Some v → (i : ℕ) × IsFound q d (x ∷ xs) v i
-  found_at q d x xs v true t more f = (
-    0,
-    record {
-      within = omega arith;
-      key = (bytes_eq-Decides x.0 q).0 t;
-      value =
-          same_Some x.1 v f;
-    },
-  )
+  found_at q d x xs v true t more f =
+      (0, record { within = omega arith; key = (bytes_eq-Decides x.0 q).0 t; value = same_Some x.1 v f })
   found_at q d x xs v false t more f =
       let later = more f in
       (suc later.0, record { within = omega (arith, later.1.within); key = later.1.key; value = later.1.value })

@@ -108,18 +108,11 @@ module _ (r : Reading) (G : Outcome → Type 0) (role : Role) (bs : List ℕ) wh
   read_item (grammar.plain c) q ok h =
       let t = plain_parts c ok in
       rw (ok, t.0, t.1) (refl, subst (λ b. Follows r G q (string role b between)) (bytes-one bs c) h)
-  read_item (simple c) q ok h = (
-    refl,
-    rw (simple_not_u c ok, ok)
-        (refl, subst (λ b. Follows r G q (string role b between)) (bytes-one bs _) h),
-  )
+  read_item (simple c) q ok h =
+      (refl, rw (simple_not_u c ok, ok) (refl, subst (λ b. Follows r G q (string role b between)) (bytes-one bs _) h))
   read_item (single u) q ok h = (
     refl,
-    (
-      refl,
-      read_code 3 0 u q ok.0 (rw (ok.1)
-          (subst (λ b. Follows r G q (string role b between)) (bytes-one bs _) h)),
-    ),
+    (refl, read_code 3 0 u q ok.0 (rw (ok.1) (subst (λ b. Follows r G q (string role b between)) (bytes-one bs _) h))),
   )
   read_item (double u v) q ok h = (
     refl,
@@ -127,11 +120,7 @@ module _ (r : Reading) (G : Outcome → Type 0) (role : Role) (bs : List ℕ) wh
       refl,
       read_code 3 0 u _ ok.0 (rw (ok.1) (
         refl,
-        (
-          refl,
-          read_second (code_unit u) 3 0 v _ q ok.2
-              (meets_pair (is_pair u v) (code_unit u) (code_unit v) q h),
-        ),
+        (refl, read_second (code_unit u) 3 0 v _ q ok.2 (meets_pair (is_pair u v) (code_unit u) (code_unit v) q h)),
       )),
     ),
   )

@@ -99,13 +99,8 @@ module _ (r : Reading) (v : Value) (role : Role) (Closed : List ℕ → List ℕ
       → On (cond a (closed_string r role bs (suc (length cs))) (cond b (go None (string role bs slash))
       (cond d (go None (string role (bs ++ encode_utf8 c) between)) bad))) (λ p. Goes r v cs p)
       → Rest cs → Closing cs → ItemsLeft bs (c ∷ cs)
-  between_on true b d bs c cs e f g h ih after = (
-    [],
-    cs,
-    tt,
-    rw (eqb-true c 34 e) refl,
-    subst (λ z. Closed z cs) (sym (bytes-none bs)) (after bs h),
-  )
+  between_on true b d bs c cs e f g h ih after =
+      ([], cs, tt, rw (eqb-true c 34 e) refl, subst (λ z. Closed z cs) (sym (bytes-none bs)) (after bs h))
   between_on false true d bs c cs e f g h ih after =
       subst (λ z. ItemsLeft bs (z ∷ cs)) (sym (eqb-true c 92 f)) (escaped bs cs (ih slash bs h))
   between_on false false true bs c cs e f g h ih after = char_more (grammar.plain c) c bs cs g refl (ih between _ h)

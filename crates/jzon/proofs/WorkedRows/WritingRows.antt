@@ -73,11 +73,7 @@ writes = (
         true,
         codes "[\"x\\n\"\t]",
         refl,
-        (
-          codes "\"x\\n\"" ∷ [],
-          (refl, tt),
-          (codes "\"x\\n\"", 9 ∷ [], ([], (refl, refl), refl), (refl, refl), refl),
-        ),
+        (codes "\"x\\n\"" ∷ [], (refl, tt), (codes "\"x\\n\"", 9 ∷ [], ([], (refl, refl), refl), (refl, refl), refl)),
         refl,
       ),
       tt,
