@@ -5,14 +5,18 @@ use Rattle.std.proofs.lemmas.List.Sums.{fold-append}
 use Rattle.jzon_base.specs.Digits.{IsDigit, add_digit, digits_number}
 use Rattle.jzon.proofs.Numbers.Magnitudes.{WholeStands, whole_stands, ReadsMagnitude, reads_whole_alone}
 use Rattle.jzon.proofs.Numbers.Magnitudes.{reads_whole_and_fraction}
+use Rattle.jzon.proofs.numeral.magnitude_at.Goals.{After-whole_at-before}
 use Rattle.jzon.proofs.numeral.magnitude_at.Goals as goal
+
+-- the digits before the point
+whole_digits : (c : After-whole_at-before) → WholeStands c.args.source.now c.args.start c.whole_at-before.result.0.now
+whole_digits c = whole_stands c.args.source.now c.args.start c.whole_at-before.result.0.now c.utf8.source
+    c.requires.within c.requires.digit c.whole_at-before.ensures.digits
 
 -- without a point
 pub invariant_of-result : goal.invariant_of-result
 invariant_of-result c =
-    let whole : WholeStands c.args.source.now c.args.start c.whole_at-before.result.0.now =
-    whole_stands c.args.source.now c.args.start c.whole_at-before.result.0.now c.utf8.source c.requires.within
-    c.requires.digit c.whole_at-before.ensures.digits in
+    let whole = whole_digits (goal.at.invariant_of-result c).After-whole_at-before in
     record {
       whole_digits = whole.all;
       fraction_digits = All-nil IsDigit;
@@ -23,9 +27,7 @@ invariant_of-result c =
 pub returns-then-not-has_byte : goal.returns-then-not-has_byte
 returns-then-not-has_byte c =
     let end = c.args.start + length c.whole_at-before.result.0.now in
-    let whole : WholeStands c.args.source.now c.args.start c.whole_at-before.result.0.now =
-    whole_stands c.args.source.now c.args.start c.whole_at-before.result.0.now c.utf8.source c.requires.within
-    c.requires.digit c.whole_at-before.ensures.digits in
+    let whole = whole_digits (goal.at.returns-then-not-has_byte c).After-whole_at-before in
     let k : ReadsMagnitude c.args.source.now c.args.start c.whole_at-before.result.0.now [] end false =
     reads_whole_alone c.args.source.now c.args.start c.whole_at-before.result.0.now c.utf8.source whole
     (λ h. true≢false (sym (c.has_byte.ensures.1 h) ∙ c.if-not-has_byte.true)) in
@@ -41,9 +43,7 @@ returns-then-not-has_byte c =
 -- with a point
 pub invariant_of-result-2 : goal.invariant_of-result-2
 invariant_of-result-2 c =
-    let whole : WholeStands c.args.source.now c.args.start c.whole_at-before.result.0.now =
-    whole_stands c.args.source.now c.args.start c.whole_at-before.result.0.now c.utf8.source c.requires.within
-    c.requires.digit c.whole_at-before.ensures.digits in
+    let whole = whole_digits (goal.at.invariant_of-result-2 c).After-whole_at-before in
     let fraction = c.digits_at-number.result.0.now in
     let here = c.has_byte.ensures.0 c.if-not-has_byte.false in
     let k = reads_whole_and_fraction c.args.source.now c.args.start _ c.whole_at-before.result.0.now fraction
@@ -60,9 +60,7 @@ invariant_of-result-2 c =
 pub returns : goal.returns
 returns c =
     let end = c.args.start + length c.whole_at-before.result.0.now in
-    let whole : WholeStands c.args.source.now c.args.start c.whole_at-before.result.0.now =
-    whole_stands c.args.source.now c.args.start c.whole_at-before.result.0.now c.utf8.source c.requires.within
-    c.requires.digit c.whole_at-before.ensures.digits in
+    let whole = whole_digits (goal.at.returns c).After-whole_at-before in
     let fraction = c.digits_at-number.result.0.now in
     let here = c.has_byte.ensures.0 c.if-not-has_byte.false in
     let k : ReadsMagnitude c.args.source.now c.args.start c.whole_at-before.result.0.now fraction
