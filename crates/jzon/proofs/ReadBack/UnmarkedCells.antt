@@ -47,8 +47,7 @@ fraction_rest whole (d ∷ ds) k h = digits_rest (keeps_too_many whole) [] (d �
 
 sign_rest : (s : Sign) (k : List Cell) → HaveNoMarks (sign_cells s k) → HaveNoMarks k
 sign_rest unsigned k h = h
-sign_rest plus k h = h.1
-sign_rest minus k h = h.1
+sign_rest _ k h = h.1
 
 exponent_rest : (e : Option Exponent) (k : List Cell) → HaveNoMarks (exponent_cells e k) → HaveNoMarks k
 exponent_rest None k h = h

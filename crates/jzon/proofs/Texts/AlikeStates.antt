@@ -237,8 +237,7 @@ word_reports false fs v ls = shut
 
 loose : (K : State → Type 0) (m : Option Breach) (z : Move) → Reports K m z → Reports (λ p. ⊤) m z
 loose K m (go v p) h = (h.0, tt)
-loose K m bad h = h
-loose K m bad_deep h = h
+loose K m _ h = h
 
 reports : (r : Reading) (p : State) (c left : ℕ) → Reports (λ q. ⊤) (next_mark r p) (move r p c left)
 reports r (before fs) c left = loose _ _ _ (before_reports r (class_of r.strict c) fs c)
@@ -275,13 +274,11 @@ deep_some r _ left h = absurd (cc)
 
 keyless_alike : (i j : ℕ) (p : State) → Keyless p → Alike i j p p
 keyless_alike i j (string (as_key fs es opened) bs x) h = absurd h
-keyless_alike i j (string (as_value fs) bs x) h = refl
 keyless_alike i j _ h = refl
 
 same_move : (i j : ℕ) (m : Option Breach) (z : Move) → Reports Keyless m z → AlikeMove i j z z
 same_move i j m (go v p) h = (p, refl, keyless_alike i j p h.1)
-same_move i j m bad h = refl
-same_move i j m bad_deep h = refl
+same_move i j m _ h = refl
 
 if_alike : (i j : ℕ) (t : Bool) (x y z w : Move) → AlikeMove i j x z → AlikeMove i j y w
     → AlikeMove i j (cond t x y) (cond t z w)

@@ -136,8 +136,7 @@ no_depth_fault r f u c left p reached e (lt, (d, g, b), all) =
     meets_deep : (s : State) (x left : ℕ) (v : Option Breach) (F : State → Type 0) (z : Move) → move r s x left ≡ z
         → Meets z v F → v ≡ Some deep → IsDeep r s
     meets_deep s x left v F (go m q) e h k = deep_of_go r s q x left (e ∙ ap (λ y. go y q) (h.0 ∙ k))
-    meets_deep s x left v F bad e h k = absurd h
-    meets_deep s x left v F bad_deep e h k = absurd h
+    meets_deep s x left v F _ e h k = absurd h
 
     on : (G : Outcome → Type 0) (q : List Cell) (s : State) → Follows r G q s
         → slice_get (marks_of q) 0 ≡ Some (Some deep) → IsDeep r s
