@@ -44,11 +44,9 @@ module _ (s : Style) (d : ℕ) (es : List (List ℕ × Value)) (ps : List ℕ) (
         | inl f ↦ rw
             (get_or-set_other ts (get_or ps i 0) (get_or ps k 0) x [] (order_differs (length es) ps o k i f h))
             (rw (get_or-take i ps k 0 f) at (each k (omega (arith, length-take-le i ps (omega arith)))))
-        | inr f ↦ let same : k ≡ i = omega arith in rw (
-          same,
-          get_or-set_same ts (get_or ps i 0) x []
-              (omega (arith, order_within (length es) ps o i h)),
-        ) e
+        | inr f ↦
+            let same : k ≡ i = omega arith in
+            rw (same, get_or-set_same ts (get_or ps i 0) x [] (omega (arith, order_within (length es) ps o i h))) e
       ])
 
   pub members_push : (i : ℕ) (u w x : List ℕ) → i < length ps → AreMembers s d es (take i ps) u

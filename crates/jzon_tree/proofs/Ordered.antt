@@ -82,11 +82,9 @@ after_order a b c v K r h k = PrintsIf-after (Just []) (λ s d. Writes s d v) (W
 -- its keys are distinct
 pub whole_object : (ps : List (List ℕ × JsonValue)) → IsDistinct bytes_eq (keys_of ps) → ArePairs (view_pairs ps)
     → IsValue (object (view_pairs ps))
-whole_object ps h k = (
-  k,
-  rw (list_of_pairs-pairs_of (viewed ps), keys-viewed ps)
-      (AllPairs-from_IsDistinct bytes_eq-Decides (keys_of ps) h),
-)
+whole_object ps h k =
+    let distinct = AllPairs-from_IsDistinct bytes_eq-Decides (keys_of ps) h in
+    (k, rw (list_of_pairs-pairs_of (viewed ps), keys-viewed ps) distinct)
 
 -- one more visited entry
 pub pairs_more : (ps : List (List ℕ × JsonValue)) (i : ℕ) (k : List ℕ) (v : JsonValue) → slice_get ps i ≡ Some (k, v)

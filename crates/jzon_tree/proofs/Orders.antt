@@ -45,14 +45,8 @@ one_more-at x n = elim (cases_lt x n) [
 
 one_more : (n : ℕ) (ps : List ℕ) → below (suc n) ps ≡ below n ps + times n ps
 one_more n [] = refl
-one_more n (x ∷ xs) = omega (
-  arith,
-  below-cons (suc n) x xs,
-  below-cons n x xs,
-  times-cons n x xs,
-  one_more-at x n,
-  one_more n xs,
-)
+one_more n (x ∷ xs) =
+    omega (arith, below-cons (suc n) x xs, below-cons n x xs, times-cons n x xs, one_more-at x n, one_more n xs)
 
 none_below : (ps : List ℕ) → below 0 ps ≡ 0
 none_below [] = refl
@@ -91,18 +85,10 @@ occurs_twice (x ∷ xs) i zero v h g e f = absurd (omega arith)
 occurs_twice (x ∷ xs) zero (suc j) v h g e f = let t : cond (x == v) 1 0
     ≡ 1 = ap {B = ℕ} (λ b. cond b 1 0) (eq-eqb x v e) in omega
     (arith, times-cons v x xs, t, occurs_once xs j v (omega arith) f)
-occurs_twice (x ∷ xs) (suc i) (suc j) v h g e f = omega (
-  arith,
-  times-cons v x xs,
-  occurs_twice xs i j v (omega arith)
-      (omega arith) e f,
-)
+occurs_twice (x ∷ xs) (suc i) (suc j) v h g e f =
+    omega (arith, times-cons v x xs, occurs_twice xs i j v (omega arith) (omega arith) e f)
 
 pub order_differs : (n : ℕ) (ps : List ℕ) → IsOrder n ps → (i j : ℕ) → i < j → j < length ps
     → get_or ps i 0 ≢ get_or ps j 0
-order_differs n ps o i j h g e = omega (
-  arith,
-  occurs_twice ps i j (get_or ps j 0) h g e refl,
-  o.once (get_or ps j 0)
-      (order_within n ps o j g),
-)
+order_differs n ps o i j h g e =
+    omega (arith, occurs_twice ps i j (get_or ps j 0) h g e refl, o.once (get_or ps j 0) (order_within n ps o j g))

@@ -15,14 +15,11 @@ use Rattle.jzon_tree.specs.Private.Printing.{IsBetween, IsClosing, Items, AreIte
 
 -- ---- texts with whitespace and commas
 pub some_between : (s : Style) → IsStyle s → (d : ℕ) (comma : Bool) → (b : List ℕ) × IsBetween s d comma b
-some_between s lawful d comma = (
-  (if comma then 44 ∷ [] else []) ++ (lawful.whitespace d).0,
-  ((lawful.whitespace d).0, (lawful.whitespace d).1, refl),
-)
+some_between s lawful d comma =
+    let w = lawful.whitespace d in ((if comma then 44 ∷ [] else []) ++ w.0, (w.0, w.1, refl))
 
 pub some_closing : (s : Style) → IsStyle s → (d bracket : ℕ) → (b : List ℕ) × IsClosing s d bracket b
-some_closing s lawful d bracket =
-    ((lawful.whitespace d).0 ++ bracket ∷ [], ((lawful.whitespace d).0, (lawful.whitespace d).1, refl))
+some_closing s lawful d bracket = let w = lawful.whitespace d in (w.0 ++ bracket ∷ [], (w.0, w.1, refl))
 
 pub some_items : (s : Style) → IsStyle s → (d : ℕ) (comma : Bool) (ts : List (List ℕ)) → (b : List ℕ)
     × Items s d comma ts b

@@ -88,19 +88,13 @@ no_key r bs i fs es h s q n =
     (λ e. absurd (omega (arith, e))) (λ f e. absurd (omega (arith, e))) refl)
 
 pub before_key_skips : (r : Reading) (fs : Frames) (es : Entries) → Skips r (before_key fs es) (is_whitespace r.strict)
-before_key_skips r fs es = record {
-  ascii = space_is_ascii r.strict;
-  stays = λ c n e. ap
-      (λ x. move_before_key r x fs es n) (whitespace-class r c e);
-}
+before_key_skips r fs es =
+    record { ascii = space_is_ascii r.strict; stays = λ c n e. rw (whitespace-class r c e) refl }
 
 pub after_key_skips : (r : Reading) (fs : Frames) (es : Entries) (k : List ℕ)
     → Skips r (after_key fs es k) (is_whitespace r.strict)
-after_key_skips r fs es k = record {
-  ascii = space_is_ascii r.strict;
-  stays = λ c n e. ap
-      (λ x. move_after_key x fs es k) (whitespace-class r c e);
-}
+after_key_skips r fs es k =
+    record { ascii = space_is_ascii r.strict; stays = λ c n e. rw (whitespace-class r c e) refl }
 
 -- where whitespace is allowed, it is skipped
 pub whitespace_skips : (r : Reading) (p : State) → allows_whitespace p ≡ true → Skips r p (is_whitespace r.strict)
@@ -108,9 +102,7 @@ whitespace_skips r (before fs) e = before_skips r fs
 whitespace_skips r (before_key fs es) e = before_key_skips r fs es
 whitespace_skips r (after_key fs es k) e = after_key_skips r fs es k
 whitespace_skips r (after_value fs v) e = after_skips r fs v
-whitespace_skips r (word fs v l ls) e = absurd (cc)
-whitespace_skips r (numeral fs negative x) e = absurd (cc)
-whitespace_skips r (string role bs x) e = absurd (cc)
+whitespace_skips r _ e = absurd (cc)
 
 no_colon_on : (r : Reading) (fs : Frames) (es : Entries) (k : List ℕ) (c : ℕ) (x : Class)
     → is_whitespace r.strict c ≡ false → c ≢ 58 → class_of r.strict c ≡ x → move_after_key x fs es k ≡ bad

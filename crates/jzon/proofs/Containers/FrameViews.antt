@@ -129,10 +129,8 @@ pub closed_on : (t u n : Cursor) (o : State) (fs gs : Frames) (w : Value) (resul
     → n ≡ u → gs ≡ fs → IfOk result (λ b. IsWholeValue b w) → IsOkUnless result OutOfMemory
     → IsAfter t u × (left t o ≡ left u (after_value fs w)) → GoesOn t o result n (λ b. state_of b gs)
 closed_on t u n o fs gs w (Ok (start_value v)) at kept whole memory h =
-    subst (λ x. IsAfter t x × (left t o ≡ left x (after_value gs (view v)))) (sym at) (
-      h.0,
-      h.1 ∙ ap (λ ks. left u (after_value ks w)) (sym kept) ∙ ap (λ x. left u (after_value gs x)) (sym whole),
-    )
+    subst (λ x. IsAfter t x × (left t o ≡ left x (after_value gs (view v)))) (sym at)
+    (h.0, h.1 ∙ ap (λ ks. left u (after_value ks w)) (sym kept) ∙ ap (λ x. left u (after_value gs x)) (sym whole))
 closed_on t u n o fs gs w (Err e) at kept whole memory h = inl memory
 closed_on t u n o fs gs w (Ok _) at kept whole memory h = absurd whole
 

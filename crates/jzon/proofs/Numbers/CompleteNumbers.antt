@@ -51,17 +51,11 @@ module _ (r : Reading) (G : Outcome → Type 0) (fs : Frames) (negative : Bool) 
   read_letter ws ds l unsigned (e ∷ es) k ok h =
       rw (digits-class r.strict e ok.0) (refl, read_exponent ws ds l unsigned (e ∷ []) es k ok.1 h)
   read_letter ws ds l plus (e ∷ es) k ok h =
-      rw (class-char r.strict plus_char) (
-        refl,
-        rw (digits-class r.strict e ok.0)
-            (refl, read_exponent ws ds l plus (e ∷ []) es k ok.1 h),
-      )
+      rw (class-char r.strict plus_char)
+      (refl, rw (digits-class r.strict e ok.0) (refl, read_exponent ws ds l plus (e ∷ []) es k ok.1 h))
   read_letter ws ds l minus (e ∷ es) k ok h =
-      rw (class-char r.strict minus_char) (
-        refl,
-        rw (digits-class r.strict e ok.0)
-            (refl, read_exponent ws ds l minus (e ∷ []) es k ok.1 h),
-      )
+      rw (class-char r.strict minus_char)
+      (refl, rw (digits-class r.strict e ok.0) (refl, read_exponent ws ds l minus (e ∷ []) es k ok.1 h))
 
   -- ---- the fraction
 

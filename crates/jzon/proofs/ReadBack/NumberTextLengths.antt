@@ -39,12 +39,8 @@ length-small d k near =
     length-if (d == k + 1) [] (if d == k + 2 then codes "e+1" else codes "e-" ++ decimal (k + 1 - d)) 7
     (λ _. omega arith)
     (λ _. length-if (d == k + 2) (codes "e+1") (codes "e-" ++ decimal (k + 1 - d)) 7 (λ _. omega arith)
-    (λ _. omega (
-      arith,
-      length-append (codes "e-") (decimal (k + 1 - d)),
-      length-decimal-le 5 (k + 1 - d) (omega arith)
-          (omega arith) (omega arith),
-    )))
+    (λ _. let short = length-decimal-le 5 (k + 1 - d) (omega arith) (omega arith) (omega arith) in
+    omega (arith, length-append (codes "e-") (decimal (k + 1 - d)), short)))
 
 pub length-magnitude : (ds : List ℕ) (e : ℤ) → length ds ≤ 20 → FitsSigned w16 e → length (magnitude_text ds e) ≤ 28
 length-magnitude ds (pos k) few fits =
@@ -53,22 +49,15 @@ length-magnitude ds (pos k) few fits =
     (λ _. length-if (nat_le (length ds + k) 20) (ds ++ replicate k 48)
     (point_after_first ds ++ codes "e" ++ decimal (k + length ds - 1)) 28
     (λ t. simp (length-append, length-replicate) (omega (arith, le_of_test (length ds + k) 20 t)))
-    (λ _. simp length-append (omega (
-      arith,
-      length-first ds,
-      length-decimal-le 5 (k + length ds - 1) (omega arith)
-          (omega (arith, fits.sfits)) (omega (arith, fits.sfits)),
-    ))))
+    (λ _. let short = length-decimal-le 5 (k + length ds - 1) (omega arith) (omega (arith, fits.sfits))
+    (omega (arith, fits.sfits)) in
+    simp length-append (omega (arith, length-first ds, short))))
 length-magnitude ds (negsuc k) few fits =
     length-if (nat_le (k + 1) 17) (fraction_text ds (k + 1))
     (point_after_first ds ++ small_exponent_text (length ds) (k + 1)) 28
     (λ t. length-fraction ds (k + 1) few (le_of_test (k + 1) 17 t))
-    (λ _. simp length-append (omega (
-      arith,
-      length-first ds,
-      length-small (length ds) (k + 1)
-          (omega (arith, fits.sfits)),
-    )))
+    (λ _. simp length-append
+    (omega (arith, length-first ds, length-small (length ds) (k + 1) (omega (arith, fits.sfits)))))
 
 pub length-number : (s : Bool) (m : ℕ) (e : ℤ) → m < 2 ^ 64 → FitsSigned w16 e → length (number_text s m e) ≤ 29
 length-number s m e h fits =

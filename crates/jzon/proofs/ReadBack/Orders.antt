@@ -99,12 +99,8 @@ unfolding IsDistinct
 distinct_picked ks d [] distinct below once = tt
 distinct_picked ks d (p ∷ ps) distinct below once =
     IsDistinct-cons bytes_eq (get_or ks p d) (picked d ks ps)
-    (apart_from ks d p ps distinct below.0 below.1 (omega (
-      arith,
-      once p below.0,
-      count-cons p p ps,
-      tally_here p p refl,
-    )))
+    (apart_from ks d p ps distinct below.0 below.1
+    (omega (arith, once p below.0, count-cons p p ps, tally_here p p refl)))
     (distinct_picked ks d ps distinct below.1 (λ i h. omega (arith, once i h, count-cons i p ps)))
 
 -- ---- lookups don't depend on the order

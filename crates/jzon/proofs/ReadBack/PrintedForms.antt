@@ -88,12 +88,8 @@ after_zeros s m k above fits small near out =
     let is : IsMantissa m (decimal m) = mantissa m above fits in
     let n : ℕ = k + 1 - length (decimal m) in
     let f : List ℕ = replicate n 48 ++ decimal m in
-    let size : length f ≡ k + 1 = omega (
-      arith,
-      length-append (replicate n 48) (decimal m),
-      length-replicate {A = ℕ} n
-          48,
-    ) in
+    let size : length f ≡ k + 1 =
+    omega (arith, length-append (replicate n 48) (decimal m), length-replicate {A = ℕ} n 48) in
     means_exactly s m (negsuc k) (48 ∷ []) f None above fits small
     (((omega arith, omega arith), tt), omega arith, λ _. refl)
     (digits-append (replicate n 48) (decimal m) (all-zeros n) is.digits) tt

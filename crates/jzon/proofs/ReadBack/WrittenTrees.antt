@@ -107,8 +107,7 @@ pub string_spells : (r : Reading) (s : List ℕ) → IsUtf8 s → NodeSpells r 0
 string_spells r s u = record {
   utf8 = IsUtf8-quoted s u;
   in_grammar = items_for_in_grammar s u;
-  unbroken = λ depth k h.
-      quoted-plain s k u;
+  unbroken = λ depth k h. quoted-plain s k u;
 }
 
 -- ---- arrays

@@ -77,11 +77,8 @@ plain_boundary bs i n le e = (
 
 run_is_plain : (bs : List ℕ) (i n : ℕ) → n ≡ prefix_len is_plain (drop i bs) → ArePlain (take n (drop i bs))
 run_is_plain bs i n e = λ k lt.
-    let less : k < n = omega (
-      arith,
-      length-take-le n (drop i bs)
-          (omega (arith, e, prefix_len-le-length is_plain (drop i bs))),
-    ) in
+    let less : k < n =
+    omega (arith, length-take-le n (drop i bs) (omega (arith, e, prefix_len-le-length is_plain (drop i bs)))) in
     subst (λ z. is_plain z ≡ true) (sym (get_or-take n (drop i bs) k 0 less))
     (prefix_len_passes is_plain (drop i bs) k 0 (omega (arith, less, e)))
 

@@ -14,10 +14,8 @@ use Rattle.jzon.proofs.parser.Parser.close_arrays.Goals.{After-array_ends}
 use Rattle.jzon.proofs.parser.Parser.close_arrays.Goals as goal
 
 pub loop-outer-init : goal.loop-outer-init
-loop-outer-init c = record {
-  depth = omega arith;
-  came = reached_start;
-}
+loop-outer-init c =
+    record { depth = omega arith; came = reached_start }
 
 pushed : (c : After-array_ends) → map view c.push.new.self.items
     ≡ map view c.in-Some.outer.items ++ array (values_of (map view c.loop-outer.elements.items)) ∷ []

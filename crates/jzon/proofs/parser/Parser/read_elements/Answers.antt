@@ -20,11 +20,8 @@ use Rattle.jzon.proofs.parser.Parser.read_elements.Goals.{else-opens_container+i
 use Rattle.jzon.proofs.parser.Parser.read_elements.Goals as goal
 
 pub loop-self-init : goal.loop-self-init
-loop-self-init c = record {
-  room = c.requires.room;
-  element = c.requires.element;
-  came = reached_start;
-}
+loop-self-init c =
+    record { room = c.requires.room; element = c.requires.element; came = reached_start }
 
 -- the number of open containers around the next element
 depth_here : (c : After-len-depth) →

@@ -16,11 +16,8 @@ use Rattle.jzon.proofs.parser.Parser.read_entries.Goals.{After-container_ends}
 use Rattle.jzon.proofs.parser.Parser.read_entries.Goals as goal
 
 pub loop-entries-init : goal.loop-entries-init
-loop-entries-init c = record {
-  stack = refl;
-  key = c.requires.key;
-  came = reached_start;
-}
+loop-entries-init c =
+    record { stack = refl; key = c.requires.key; came = reached_start }
 
 -- one more container may be opened
 mark_here : (c : After-read_key) →
