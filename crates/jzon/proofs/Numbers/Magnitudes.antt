@@ -29,8 +29,8 @@ use Rattle.jzon.proofs.Numbers.DigitRuns.{refuse_fraction}
 use Rattle.jzon.proofs.Numbers.NumeralOutcomes.{NextFails, ReadsWhole, reads_zero, reads_digits, whole_to_point}
 use Rattle.jzon.proofs.Numbers.NumeralOutcomes.{whole_to_letter, whole_to_end, fraction_to_letter, fraction_to_end}
 use Rattle.jzon.proofs.Numbers.NumeralOutcomes.{stop_pointed}
-use Rattle.jzon.proofs.Texts.StepsByByte.{digit_is_ascii}
-use Rattle.jzon.proofs.Numbers.NumeralOffsets.{next_is, next_fails, AreDigitsAt, digits_stand, some_digits, no_digits}
+use Rattle.jzon.proofs.Texts.StepsByByte.{digit_is_ascii, next_is}
+use Rattle.jzon.proofs.Numbers.NumeralOffsets.{next_fails, AreDigitsAt, digits_stand, some_digits, no_digits}
 
 -- ---- whole digits
 

@@ -1,14 +1,13 @@
 -- The digits of a number and its exponent, by offsets of the text's bytes.
 use Rattle.std.proofs.Common.{◌≡◌, ◌∙◌, ℕ, suc, ◌+◌, ◌<◌, ◌≤◌, Bool, true, false, cond, ◌==◌, List, [], ◌∷◌, ◌++◌}
-use Rattle.std.proofs.Common.{length, take, drop, get_or, refl, sym, ap, subst, arith, drop-cons, add-one, eqb-true}
-use Rattle.std.proofs.Common.{not}
+use Rattle.std.proofs.Common.{length, take, drop, get_or, refl, sym, ap, subst, arith, eqb-true, not}
 use Rattle.std.specs.Prelude.{chars, IsUtf8}
 use Rattle.std.specs.Char.{is_ascii_digit}
 use Rattle.std.specs.Str.{IsCharBoundary}
 use Rattle.std.specs.List.{All, take_while, prefix_len}
 use Rattle.std.proofs.lemmas.Bool.{ne_eqb}
 use Rattle.std.proofs.lemmas.Bool.Decides.{nat_tests}
-use Rattle.std.proofs.lemmas.List.{drop-drop, length-drop, get_or-drop}
+use Rattle.std.proofs.lemmas.List.{drop-drop, length-drop}
 use Rattle.std.proofs.lemmas.List.Elements.{All-nil, All-cons}
 use Rattle.std.proofs.lemmas.List.Folds.{length-prefix_len}
 use Rattle.std.proofs.lemmas.List.Sums.{prefix_len-le-length}
@@ -22,20 +21,11 @@ use Rattle.jzon.specs.Meaning as meaning
 use Rattle.jzon.specs.Private.Classes.{lettered, signed_exponent}
 use Rattle.jzon.specs.Private.Machine.{Frames, numeral, after_value, outcome, from, fault_here}
 use Rattle.jzon.proofs.Texts.AsciiRuns.{chars-ascii, IsUtf8-past_ascii, stops_run}
-use Rattle.jzon.proofs.Texts.StepsByByte.{digit_is_ascii}
-use Rattle.jzon.proofs.Containers.LiteralLetters.{first_byte, some_byte}
+use Rattle.jzon.proofs.Texts.StepsByByte.{digit_is_ascii, next_is, byte_there}
 use Rattle.jzon.proofs.Numbers.NumeralOutcomes.{NextFails, stop_lettered, stop_signed, unsigned_to_end, signed_to_end}
 use Rattle.jzon.proofs.Numbers.NumeralOutcomes.{letter_to_plus, letter_to_minus}
 
 -- ---- one byte
-
--- an ASCII byte is the next character
-pub next_is : (bs : List ℕ) (i b : ℕ) → IsUtf8 bs → IsCharBoundary bs i → i < length bs → get_or bs i 0 ≡ b → b < 128
-    → chars (drop i bs) ≡ b ∷ chars (drop (i + 1) bs)
-next_is bs i b u at lt e ascii =
-    let split : drop i bs ≡ b ∷ drop (i + 1) bs = drop-cons bs i 0 lt ∙ ap (λ z. z ∷ drop (suc i) bs) e
-    ∙ ap (λ n. b ∷ drop n bs) (sym (add-one i)) in
-    ap chars split ∙ chars-ascii b (drop (i + 1) bs) (subst IsUtf8 split (IsUtf8-drop bs i u at)) ascii
 
 -- A test that only ASCII characters pass fails for the next character if it fails for the next byte.
 pub next_fails : (test : ℕ → Bool) (bs : List ℕ) (i : ℕ) → ((c : ℕ) → test c ≡ true → c < 128) → IsUtf8 bs
@@ -45,12 +35,7 @@ next_fails test bs i ascii u at h = over (chars (drop i bs)) refl
     at_first : (v : Bool) (c : ℕ) (cs : List ℕ) → chars (drop i bs) ≡ c ∷ cs → test c ≡ v → v ≡ false
     at_first false c cs e t = refl
     at_first true c cs e t =
-        let w = IsUtf8-drop bs i u at in
-        let some : 0 < length (drop i bs) = some_byte (drop i bs) c cs e in
-        let here : get_or bs i 0 ≡ c =
-        ap (λ n. get_or bs n 0) (omega arith) ∙ sym (get_or-drop i bs 0 0)
-        ∙ first_byte (drop i bs) c cs w e (ascii c t) in
-        sym t ∙ ap test (sym here) ∙ h (omega (arith, some, length-drop i bs))
+        let k = byte_there bs i c cs u at e (ascii c t) in sym t ∙ ap test (sym k.1) ∙ h k.0
 
     over : (cs : List ℕ) → chars (drop i bs) ≡ cs → NextFails test cs
     over [] e = tt

@@ -1,25 +1,17 @@
 -- One move by the character at an offset, which may be past ASCII: it goes on with an ASCII character (`byte_moves`),
 -- with the only one that the state expects (`expected_byte`), or with none (`byte_stops`).
-use Rattle.std.proofs.Common.{◌≡◌, ℕ, suc, ◌+◌, ◌<◌, cond, List, [], ◌∷◌, length, drop, get_or, refl, ap, subst, sym}
-use Rattle.std.proofs.Common.{◌∙◌, arith, drop-cons, add-one, None, eq-eqb, eqb-true}
+use Rattle.std.proofs.Common.{◌≡◌, ℕ, ◌+◌, ◌<◌, cond, List, [], ◌∷◌, length, drop, get_or, refl, ap, subst, sym, ◌∙◌}
+use Rattle.std.proofs.Common.{arith, None, eq-eqb, eqb-true}
 use Rattle.std.specs.Prelude.{chars, IsUtf8, encode_utf8, encode_utf8_all, ◌++◌, ◌==◌}
 use Rattle.std.specs.Str.{IsCharBoundary}
 use Rattle.std.proofs.lemmas.Bool.{false_from_ne_true}
 use Rattle.std.proofs.lemmas.List.{length-append, length-drop, get_or-drop}
 use Rattle.std.proofs.lemmas.Str.{byte_from_char, char_from_byte, IsUtf8-drop, length-encode, len_utf8_bounds}
 use Rattle.jzon.specs.Reading.{Reading}
-use Rattle.jzon.specs.Fault.{Fault}
 use Rattle.jzon.specs.Fault as fault
-use Rattle.jzon.specs.Private.Machine.{State, go, move, bad, last, refused, outcome, outcome_on, from, left_at}
-use Rattle.jzon.specs.Private.Machine.{fault_here}
-use Rattle.jzon.proofs.Texts.AsciiRuns.{chars-ascii}
-use Rattle.jzon.proofs.Texts.StepsByByte.{stop_on}
-use Rattle.jzon.proofs.Containers.LiteralLetters.{text_of_first}
-
--- the rest from a byte on
-pub drop_byte : (bs : List ℕ) (i b : ℕ) → i < length bs → get_or bs i 0 ≡ b → drop i bs ≡ b ∷ drop (i + 1) bs
-drop_byte bs i b lt e = drop-cons bs i 0 lt ∙ ap (λ z. z ∷ drop (suc i) bs) e
-    ∙ ap (λ n. b ∷ drop n bs) (sym (add-one i))
+use Rattle.jzon.specs.Private.Machine.{State, go, move, bad, last, refused, outcome_on, from, left_at, fault_here}
+pub use Rattle.jzon.proofs.Texts.StepsByByte.{byte_moves}
+use Rattle.jzon.proofs.Texts.StepsByByte.{stop_on, text_of_first}
 
 -- the character that begins at byte i, by that byte
 pub record Begins (bs : List ℕ) (i c : ℕ) : Type 0 where
@@ -47,18 +39,6 @@ begins bs i c cs u at e =
       char = λ lt. char_from_byte (drop i bs) (encode_utf8_all cs) c text (subst (λ z. z < 128) (sym here) lt) some
           ∙ here;
     }
-
--- the byte is an ASCII character, and the automaton moves by it
-pub byte_moves : (r : Reading) (p : State) (bs : List ℕ) (i b : ℕ) → IsUtf8 bs → IsCharBoundary bs i → i < length bs
-    → get_or bs i 0 ≡ b → b < 128
-    → from r bs p i ≡ outcome_on (move r p b (left_at bs i)) (λ q. from r bs q (i + 1)) (chars (drop i bs))
-unfolding from
-byte_moves r p bs i b u at lt e ascii =
-    let split : drop i bs ≡ b ∷ drop (i + 1) bs = drop_byte bs i b lt e in
-    let first : chars (drop i bs) ≡ b ∷ chars (drop (i + 1) bs) =
-    ap chars split ∙ chars-ascii b (drop (i + 1) bs) (subst IsUtf8 split (IsUtf8-drop bs i u at)) ascii in
-    ap (λ cs. outcome r cs p) first ∙ ap (λ rest. outcome_on (move r p b (length rest))
-    (λ q. outcome r (chars (drop (i + 1) bs)) q) rest) (sym first)
 
 -- no character that may begin there lets the text go on
 pub byte_stops : (r : Reading) (p : State) (bs : List ℕ) (i : ℕ) → IsUtf8 bs → IsCharBoundary bs i

@@ -2,13 +2,13 @@
 -- ends.
 use Rattle.std.proofs.Common.{◌≡◌, ◌⊎◌, inl, inr, ℕ, suc, ◌+◌, ◌<◌, ◌≤◌, List, [], ◌∷◌, length, drop, get_or, refl, sym}
 use Rattle.std.proofs.Common.{ap, subst, ◌∙◌, arith, drop-cons, add-one, None, Result}
-use Rattle.std.specs.Prelude.{chars, IsUtf8, encode_utf8_all, IsTrue, MatchResult}
+use Rattle.std.specs.Prelude.{chars, IsUtf8, encode_utf8, encode_utf8_all, ◌++◌, IsTrue, MatchResult}
 use Rattle.std.specs.Char.{is_ascii_digit}
 use Rattle.std.specs.Str.{IsCharBoundary}
 use Rattle.std.proofs.lemmas.Bool.{cases_lt}
 use Rattle.std.proofs.lemmas.Bool.Decides.{nat_tests}
 use Rattle.std.proofs.lemmas.List.{length-drop, get_or-drop, nil_from_length}
-use Rattle.std.proofs.lemmas.Str.{IsUtf8-drop, chars-nil, encodes-chars}
+use Rattle.std.proofs.lemmas.Str.{IsUtf8-drop, chars-nil, encodes-chars, byte_from_char}
 use Rattle.jzon_base.specs.declared.error.Error.{Error}
 use Rattle.jzon.specs.Reading.{Reading}
 use Rattle.jzon.specs.Spelling.{deep}
@@ -16,29 +16,47 @@ use Rattle.jzon.specs.Fault.{Fault, limit}
 use Rattle.jzon.specs.Private.Machine.{State, Move, go, bad, move, last, outcome, outcome_on, from, left_at, fault_here}
 use Rattle.jzon.specs.Private.Machine.{Outcome, refused, Reports}
 use Rattle.jzon.proofs.Texts.AsciiRuns.{chars-ascii}
-use Rattle.jzon.proofs.Containers.LiteralLetters.{first_byte, some_byte}
 
 pub digit_is_ascii : (c : ℕ) → IsTrue (is_ascii_digit c) → c < 128
 digit_is_ascii c h = grind (arith, nat_tests)
 
-step_on : (r : Reading) (bs : List ℕ) (p q : State) (c : ℕ) → IsUtf8 (c ∷ bs) → c < 128
-    → move r p c (length (c ∷ chars bs)) ≡ go None q → outcome r (chars (c ∷ bs)) p ≡ outcome r (chars bs) q
-step_on r bs p q c u lt e = ap (λ cs. outcome r cs p) (chars-ascii c bs u lt)
-    ∙ ap (λ m. outcome_on m (λ x. outcome r (chars bs) x) (c ∷ chars bs)) e
+-- a text, by its first character
+pub text_of_first : (bs : List ℕ) (c : ℕ) (cs : List ℕ) → IsUtf8 bs → chars bs ≡ c ∷ cs
+    → bs ≡ encode_utf8 c ++ encode_utf8_all cs
+text_of_first bs c cs u e = sym (encodes-chars bs u) ∙ ap encode_utf8_all e
+
+-- an ASCII character is the byte there
+pub first_byte : (bs : List ℕ) (c : ℕ) (cs : List ℕ) → IsUtf8 bs → chars bs ≡ c ∷ cs → c < 128 → get_or bs 0 0 ≡ c
+first_byte bs c cs u e lt = byte_from_char bs (encode_utf8_all cs) c (text_of_first bs c cs u e) lt
+
+pub some_byte : (bs : List ℕ) (c : ℕ) (cs : List ℕ) → chars bs ≡ c ∷ cs → 0 < length bs
+some_byte [] c cs e = let none : [] ≡ c ∷ cs = sym chars-nil ∙ e in absurd (cc)
+some_byte (b ∷ bs) c cs e = omega arith
+
+-- an ASCII byte is the next character
+pub next_is : (bs : List ℕ) (i b : ℕ) → IsUtf8 bs → IsCharBoundary bs i → i < length bs → get_or bs i 0 ≡ b → b < 128
+    → chars (drop i bs) ≡ b ∷ chars (drop (i + 1) bs)
+next_is bs i b u at lt e ascii =
+    let split : drop i bs ≡ b ∷ drop (i + 1) bs = drop-cons bs i 0 lt ∙ ap (λ z. z ∷ drop (suc i) bs) e
+    ∙ ap (λ n. b ∷ drop n bs) (sym (add-one i)) in
+    ap chars split ∙ chars-ascii b (drop (i + 1) bs) (subst IsUtf8 split (IsUtf8-drop bs i u at)) ascii
+
+-- and the automaton moves by it
+pub byte_moves : (r : Reading) (p : State) (bs : List ℕ) (i b : ℕ) → IsUtf8 bs → IsCharBoundary bs i → i < length bs
+    → get_or bs i 0 ≡ b → b < 128
+    → from r bs p i ≡ outcome_on (move r p b (left_at bs i)) (λ q. from r bs q (i + 1)) (chars (drop i bs))
+unfolding from
+byte_moves r p bs i b u at lt e ascii =
+    let first = next_is bs i b u at lt e ascii in
+    ap (λ cs. outcome r cs p) first ∙ ap (λ rest. outcome_on (move r p b (length rest))
+    (λ q. outcome r (chars (drop (i + 1) bs)) q) rest) (sym first)
 
 -- an ASCII byte with which the automaton goes on
 pub from_step : (r : Reading) (bs : List ℕ) (i : ℕ) (p q : State) (c : ℕ) → IsUtf8 bs → IsCharBoundary bs i
     → i < length bs → get_or bs i 0 ≡ c → c < 128
     → move r p c (left_at bs i) ≡ go None q → from r bs p i ≡ from r bs q (i + 1)
-unfolding from
 from_step r bs i p q c u at lt e ascii m =
-    let split : drop i bs ≡ c ∷ drop (i + 1) bs = drop-cons bs i 0 lt ∙ ap (λ z. z ∷ drop (suc i) bs) e
-    ∙ ap (λ n. c ∷ drop n bs) (sym (add-one i)) in
-    let text : IsUtf8 (c ∷ drop (i + 1) bs) = subst IsUtf8 split (IsUtf8-drop bs i u at) in
-    let left : left_at bs i ≡ length (c ∷ chars (drop (i + 1) bs)) = ap (λ s. length (chars s)) split
-    ∙ ap length (chars-ascii c (drop (i + 1) bs) text ascii) in
-    ap (λ s. outcome r (chars s) p) split ∙ step_on r (drop (i + 1) bs) p q c text ascii
-    (ap (move r p c) (sym left) ∙ m)
+    byte_moves r p bs i c u at lt e ascii ∙ ap (λ z. outcome_on z (λ x. from r bs x (i + 1)) (chars (drop i bs))) m
 
 -- A state in which no text goes on with the character c or ends.
 pub record StopsAt (r : Reading) (p : State) (bs : List ℕ) (i : ℕ) : Type 0 where
