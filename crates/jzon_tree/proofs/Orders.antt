@@ -6,13 +6,13 @@ use Rattle.std.proofs.lemmas.Bool.{eq-eqb, eqb-true, ne_eqb, ltb-true, lt-ltb, l
 use Rattle.std.proofs.lemmas.List.Sums.{sum_by-cons, count_by-le-length}
 use Rattle.jzon_tree.specs.Writing.{IsOrder}
 
-abbrev times : ℕ → List ℕ → ℕ
+abbrev pub times : ℕ → List ℕ → ℕ
 times v ps = count_by (λ j. j == v) ps
 
 abbrev below : ℕ → List ℕ → ℕ
 below n ps = count_by (λ j. nat_lt j n) ps
 
-times-cons : (v x : ℕ) (xs : List ℕ) → times v (x ∷ xs) ≡ cond (x == v) 1 0 + times v xs
+pub times-cons : (v x : ℕ) (xs : List ℕ) → times v (x ∷ xs) ≡ cond (x == v) 1 0 + times v xs
 times-cons v x xs = sum_by-cons (λ j. cond (j == v) 1 0) x xs
 
 below-cons : (n x : ℕ) (xs : List ℕ) → below n (x ∷ xs) ≡ cond (nat_lt x n) 1 0 + below n xs

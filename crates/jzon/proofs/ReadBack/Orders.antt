@@ -1,6 +1,6 @@
 -- Lists in another order, by their positions.
-use Rattle.std.proofs.Common.{◌≡◌, ◌∙◌, ◌≢◌, ℕ, zero, suc, ◌+◌, ◌<◌, ◌≤◌, ◌==◌, List, [], ◌∷◌, length, map, get_or}
-use Rattle.std.proofs.Common.{count_by, Bool, true, false, cond, Option, Some, None, refl, sym, ap, arith, inl, inr}
+use Rattle.std.proofs.Common.{◌≡◌, ◌∙◌, ◌≢◌, ℕ, zero, suc, ◌<◌, ◌≤◌, ◌==◌, List, [], ◌∷◌, length, map, get_or, Bool}
+use Rattle.std.proofs.Common.{true, false, cond, Option, Some, None, refl, sym, ap, arith, inl, inr}
 use Rattle.std.specs.Prelude.{AllPairs}
 use Rattle.std.specs.List.{AllByRecursion, IsDistinct}
 use Rattle.std.specs.Str.{bytes_eq}
@@ -9,14 +9,13 @@ use Rattle.std.proofs.lemmas.Bool.{cases_lt, cases_eq}
 use Rattle.std.proofs.lemmas.Bool.Decides.{nat_tests}
 use Rattle.std.proofs.lemmas.List.{length-map, get_or_default}
 use Rattle.std.proofs.lemmas.List.Elements.{All-from_get_or, recursion_from_All}
-use Rattle.std.proofs.lemmas.List.Sums.{sum_by-cons}
 use Rattle.std.proofs.lemmas.Map.Keys.{IsDistinct-cons}
 use Rattle.std.proofs.lemmas.Option.{same_Some, none-some}
 use Rattle.std.proofs.lemmas.Slice.Eq.{bytes_eq-Decides}
 use Rattle.jzon_base.specs.PairList.{keys_of, find}
 use Rattle.jzon_base.proofs.PairLaws.{bytes_eq-other}
 use Rattle.jzon_tree.specs.Writing.{IsOrder, text_at}
-use Rattle.jzon_tree.proofs.Orders.{order_within}
+use Rattle.jzon_tree.proofs.Orders.{times, times-cons, order_within}
 
 -- the elements at these positions, and d for one past the end of the list
 abbrev pub picked : {X : Type 0} → X → List X → List ℕ → List X
@@ -48,15 +47,9 @@ pub AreBelow-order : (n : ℕ) (ps : List ℕ) → IsOrder n ps → AreBelow n p
 AreBelow-order n ps o =
     recursion_from_All (λ i. i < n) ps (All-from_get_or (λ i. i < n) ps 0 (order_within n ps o))
 
-abbrev count : ℕ → List ℕ → ℕ
-count i ps = count_by (λ j. j == i) ps
-
 -- what an element adds to a count
 abbrev tally : Bool → ℕ
 tally b = cond b 1 0
-
-count-cons : (i p : ℕ) (ps : List ℕ) → count i (p ∷ ps) ≡ tally (p == i) + count i ps
-count-cons i p ps = sum_by-cons (λ x. tally (x == i)) p ps
 
 tally_here : (p i : ℕ) → p ≡ i → tally (p == i) ≡ 1
 tally_here p i h = grind (arith, nat_tests)
@@ -82,11 +75,11 @@ apart_keys ks d i j distinct h k ne e =
     ]
 
 apart_from : (ks : List (List ℕ)) (d : List ℕ) (i : ℕ) (ps : List ℕ) → AllPairs (λ x y. x ≢ y) ks → i < length ks
-    → AreBelow (length ks) ps → count i ps ≡ 0
+    → AreBelow (length ks) ps → times i ps ≡ 0
     → AllByRecursion (λ y. bytes_eq (get_or ks i d) y ≡ false) (picked d ks ps)
 apart_from ks d i [] distinct h below none = tt
 apart_from ks d i (p ∷ ps) distinct h below none =
-    let cons = count-cons i p ps in
+    let cons = times-cons i p ps in
     let ne : (i ≡ p → ⊥) = λ e. omega (arith, none, cons, tally_here p i (sym e)) in (
       bytes_eq-other _ _ (apart_keys ks d i p distinct h below.0 ne),
       apart_from ks d i ps distinct h below.1
@@ -94,14 +87,14 @@ apart_from ks d i (p ∷ ps) distinct h below none =
     )
 
 pub distinct_picked : (ks : List (List ℕ)) (d : List ℕ) (ps : List ℕ) → AllPairs (λ x y. x ≢ y) ks
-    → AreBelow (length ks) ps → ((i : ℕ) → i < length ks → count i ps ≤ 1) → IsDistinct bytes_eq (picked d ks ps)
+    → AreBelow (length ks) ps → ((i : ℕ) → i < length ks → times i ps ≤ 1) → IsDistinct bytes_eq (picked d ks ps)
 unfolding IsDistinct
 distinct_picked ks d [] distinct below once = tt
 distinct_picked ks d (p ∷ ps) distinct below once =
     IsDistinct-cons bytes_eq (get_or ks p d) (picked d ks ps)
     (apart_from ks d p ps distinct below.0 below.1
-    (omega (arith, once p below.0, count-cons p p ps, tally_here p p refl)))
-    (distinct_picked ks d ps distinct below.1 (λ i h. omega (arith, once i h, count-cons i p ps)))
+    (omega (arith, once p below.0, times-cons p p ps, tally_here p p refl)))
+    (distinct_picked ks d ps distinct below.1 (λ i h. omega (arith, once i h, times-cons i p ps)))
 
 -- ---- lookups don't depend on the order
 
@@ -147,7 +140,7 @@ module _ {V : Type 0} where
 
   picked_found : (q : List ℕ) (d : List ℕ × V) (xs : List (List ℕ × V)) (v : V) (i : ℕ) (ps : List ℕ)
       → AllPairs (λ x y. x ≢ y) (keys_of xs)
-      → IsFound q d xs v i → AreBelow (length xs) ps → 1 ≤ count i ps → find q (picked d xs ps) ≡ Some v
+      → IsFound q d xs v i → AreBelow (length xs) ps → 1 ≤ times i ps → find q (picked d xs ps) ≡ Some v
   picked_found q d xs v i [] distinct f below some = absurd (omega arith)
   picked_found q d xs v i (p ∷ ps) distinct f below some =
       elim (cases_eq p i) [
@@ -162,7 +155,7 @@ module _ {V : Type 0} where
             (omega (arith, f.within)) ne
             (key_at d xs p ∙ e ∙ sym f.key ∙ sym (key_at d xs i))) in
             rw no (picked_found q d xs v i ps distinct f below.1
-            (omega (arith, some, count-cons i p ps, tally_elsewhere p i ne))))
+            (omega (arith, some, times-cons i p ps, tally_elsewhere p i ne))))
       ]
 
   pub find-picked : (q : List ℕ) (d : List ℕ × V) (xs : List (List ℕ × V)) (ps : List ℕ)

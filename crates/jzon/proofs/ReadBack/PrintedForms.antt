@@ -78,7 +78,7 @@ pointed s m k above fits small near inside =
 
 -- ---- a point before the digits
 
-zeros_number : (n : ℕ) → fold add_digit 0 (replicate n 48) ≡ 0
+pub zeros_number : (n : ℕ) → fold add_digit 0 (replicate n 48) ≡ 0
 zeros_number zero = refl
 zeros_number (suc n) = zeros_number n
 

@@ -2,16 +2,16 @@
 -- with the only one that the state expects (`expected_byte`), or with none (`byte_stops`).
 use Rattle.std.proofs.Common.{◌≡◌, ℕ, ◌+◌, ◌<◌, cond, List, [], ◌∷◌, length, drop, get_or, refl, ap, subst, sym, ◌∙◌}
 use Rattle.std.proofs.Common.{arith, None, eq-eqb, eqb-true}
-use Rattle.std.specs.Prelude.{chars, IsUtf8, encode_utf8, encode_utf8_all, ◌++◌, ◌==◌}
+use Rattle.std.specs.Prelude.{chars, IsUtf8, encode_utf8_all, ◌==◌}
 use Rattle.std.specs.Str.{IsCharBoundary}
 use Rattle.std.proofs.lemmas.Bool.{false_from_ne_true}
-use Rattle.std.proofs.lemmas.List.{length-append, length-drop, get_or-drop}
-use Rattle.std.proofs.lemmas.Str.{byte_from_char, char_from_byte, IsUtf8-drop, length-encode, len_utf8_bounds}
+use Rattle.std.proofs.lemmas.List.{length-drop, get_or-drop}
+use Rattle.std.proofs.lemmas.Str.{char_from_byte, IsUtf8-drop}
 use Rattle.jzon.specs.Reading.{Reading}
 use Rattle.jzon.specs.Fault as fault
 use Rattle.jzon.specs.Private.Machine.{State, go, move, bad, last, refused, outcome_on, from, left_at, fault_here}
 pub use Rattle.jzon.proofs.Texts.StepsByByte.{byte_moves}
-use Rattle.jzon.proofs.Texts.StepsByByte.{stop_on, text_of_first}
+use Rattle.jzon.proofs.Texts.StepsByByte.{stop_on, text_of_first, some_byte, byte_there}
 
 -- the character that begins at byte i, by that byte
 pub record Begins (bs : List ℕ) (i c : ℕ) : Type 0 where
@@ -22,20 +22,12 @@ pub record Begins (bs : List ℕ) (i c : ℕ) : Type 0 where
 begins : (bs : List ℕ) (i c : ℕ) (cs : List ℕ) → IsUtf8 bs → IsCharBoundary bs i → chars (drop i bs) ≡ c ∷ cs
     → Begins bs i c
 begins bs i c cs u at e =
-    let text : drop i bs ≡ encode_utf8 c ++ encode_utf8_all cs = text_of_first (drop i bs) c cs (IsUtf8-drop bs i u at)
-    e in
-    let some : 0 < length (drop i bs) =
-    omega (
-      arith,
-      ap length text,
-      length-append (encode_utf8 c) (encode_utf8_all cs),
-      length-encode c,
-      (len_utf8_bounds c).0,
-    ) in
+    let text = text_of_first (drop i bs) c cs (IsUtf8-drop bs i u at) e in
+    let some : 0 < length (drop i bs) = some_byte (drop i bs) c cs e in
     let here : get_or (drop i bs) 0 0 ≡ get_or bs i 0 = get_or-drop i bs 0 0 ∙ ap (λ n. get_or bs n 0) (omega arith) in
     record {
       within = omega (arith, some, length-drop i bs);
-      byte = λ lt. sym here ∙ byte_from_char (drop i bs) (encode_utf8_all cs) c text lt;
+      byte = λ lt. (byte_there bs i c cs u at e lt).1;
       char = λ lt. char_from_byte (drop i bs) (encode_utf8_all cs) c text (subst (λ z. z < 128) (sym here) lt) some
           ∙ here;
     }
