@@ -18,12 +18,12 @@ use Rattle.jzon_tree.specs.Value as value
 use Rattle.jzon.specs.Reading.{Reading}
 use Rattle.jzon.specs.Grammar.{Sign, plus, minus, AreDigits, IsDigits}
 use Rattle.jzon.specs.Meaning as meaning
-use Rattle.jzon.specs.Private.Classes.{lettered, signed_exponent}
+use Rattle.jzon.specs.Private.Classes.{lettered, signed_exponent, plus_char, minus_char}
 use Rattle.jzon.specs.Private.Machine.{Frames, numeral, after_value, outcome, from, fault_here}
+use Rattle.jzon.proofs.Texts.ClassesOfCharacters.{class-char}
 use Rattle.jzon.proofs.Texts.AsciiRuns.{chars-ascii, IsUtf8-past_ascii, stops_run}
 use Rattle.jzon.proofs.Texts.StepsByByte.{digit_is_ascii, next_is, byte_there}
 use Rattle.jzon.proofs.Numbers.NumeralOutcomes.{NextFails, stop_lettered, stop_signed, unsigned_to_end, signed_to_end}
-use Rattle.jzon.proofs.Numbers.NumeralOutcomes.{letter_to_plus, letter_to_minus}
 
 -- ---- one byte
 
@@ -185,12 +185,12 @@ pub reads_minus : (bs : List ℕ) (i : ℕ) (xs : List ℕ) → IsUtf8 bs → Is
     → get_or bs i 0 ≡ 45
     → xs ≡ take_while is_ascii_digit (drop (i + 1) bs) → ReadsExponent bs i false xs (i + 1 + length xs)
 reads_minus bs i xs u at lt here e =
-    reads_signed bs i xs minus 45 false u at lt here (omega arith) (λ ws ds l cs r. letter_to_minus r ws ds l cs)
-    (λ n. refl) e
+    reads_signed bs i xs minus 45 false u at lt here (omega arith)
+    (λ ws ds l cs r fs negative. rw (class-char r.strict minus_char) refl) (λ n. refl) e
 
 pub reads_plus : (bs : List ℕ) (i : ℕ) (xs : List ℕ) → IsUtf8 bs → IsCharBoundary bs i → i < length bs
     → get_or bs i 0 ≡ 43
     → xs ≡ take_while is_ascii_digit (drop (i + 1) bs) → ReadsExponent bs i true xs (i + 1 + length xs)
 reads_plus bs i xs u at lt here e =
-    reads_signed bs i xs plus 43 true u at lt here (omega arith) (λ ws ds l cs r. letter_to_plus r ws ds l cs)
-    (λ n. refl) e
+    reads_signed bs i xs plus 43 true u at lt here (omega arith)
+    (λ ws ds l cs r fs negative. rw (class-char r.strict plus_char) refl) (λ n. refl) e

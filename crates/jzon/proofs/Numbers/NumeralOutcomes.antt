@@ -1,11 +1,12 @@
 -- The outcome of the rest of the text after each part of a number: another part, the end, or a missing digit.
 use Rattle.std.proofs.Common.{◌≡◌, ◌∙◌, ℕ, ◌+◌, ◌<◌, ◌≤◌, List, [], ◌∷◌, ◌++◌, length, drop, Bool, true, false, ◌==◌}
-use Rattle.std.proofs.Common.{None, refl, sym, ap, arith, true≢false, append-nil, eq-eqb}
+use Rattle.std.proofs.Common.{None, refl, sym, ap, arith, true≢false, append-nil}
 use Rattle.std.specs.Prelude.{IsTrue, ⊤}
 use Rattle.std.specs.Char.{is_ascii_digit}
+use Rattle.std.proofs.lemmas.Bool.{eqb-false}
 use Rattle.jzon_base.specs.Digits.{kept_len, dropped, kept_fraction}
 use Rattle.jzon.specs.Reading.{Reading}
-use Rattle.jzon.specs.Grammar.{Sign, unsigned, plus, minus, AreDigits, IsDigits, is_exponent_letter}
+use Rattle.jzon.specs.Grammar.{Sign, unsigned, AreDigits, IsDigits, is_exponent_letter}
 use Rattle.jzon.specs.Spelling.{digit, onto}
 use Rattle.jzon.specs.Fault.{limit}
 use Rattle.jzon.specs.Private.Classes.{Class, digits, minus_char, plus_char, point, letter_e, class_of, NumberState}
@@ -32,15 +33,6 @@ read_one r p q c cs e = ap (λ m. outcome_on m (λ x. outcome r cs x) (c ∷ cs)
 
 no_letter : (s : Bool) (c : ℕ) → is_exponent_letter c ≡ false → class_of s c ≡ letter_e → ⊥
 no_letter s c fails e = true≢false (sym (class-says s c e) ∙ fails)
-
-no_point : (s : Bool) (c : ℕ) → (c == 46) ≡ false → class_of s c ≡ point → ⊥
-no_point s c fails e = true≢false (sym (eq-eqb c 46 (class-says s c e)) ∙ fails)
-
-no_plus : (s : Bool) (c : ℕ) → (c == 43) ≡ false → class_of s c ≡ plus_char → ⊥
-no_plus s c fails e = true≢false (sym (eq-eqb c 43 (class-says s c e)) ∙ fails)
-
-no_minus : (s : Bool) (c : ℕ) → (c == 45) ≡ false → class_of s c ≡ minus_char → ⊥
-no_minus s c fails e = true≢false (sym (eq-eqb c 45 (class-says s c e)) ∙ fails)
 
 -- ---- a missing digit
 
@@ -69,8 +61,8 @@ pub stop_lettered : (r : Reading) (fs : Frames) (negative : Bool) (ws ds : List 
 stop_lettered r fs negative ws ds l [] h p m = refl
 stop_lettered r fs negative ws ds l (c ∷ cs) h p m =
     ap (λ m. outcome_on m (λ x. outcome r cs x) (c ∷ cs))
-    (lettered_stops (class_of r.strict c) fs negative ws ds l c (no_digit r.strict c h) (no_plus r.strict c p)
-    (no_minus r.strict c m))
+    (lettered_stops (class_of r.strict c) fs negative ws ds l c (no_digit r.strict c h)
+    (λ e. eqb-false c 43 p (class-says r.strict c e)) (λ e. eqb-false c 45 m (class-says r.strict c e)))
 
 signed_stops : (k : Class) (fs : Frames) (negative : Bool) (ws ds : List ℕ) (l : ℕ) (s : Sign) (c : ℕ)
     → (k ≡ digits → ⊥) → move_numeral (signed_exponent ws ds l s) k fs negative c ≡ bad
@@ -187,8 +179,8 @@ after_whole : (r : Reading) (fs : Frames) (negative : Bool) (x : NumberState) (w
 after_whole r fs negative x ws more [] h stop no_dot no_e = h.ends
 after_whole r fs negative x ws more (c ∷ cs) h stop no_dot no_e =
     ap (λ m. outcome_on m (λ p. outcome r cs p) (c ∷ cs))
-    (h.moves c stop ∙ whole_ends (class_of r.strict c) fs negative ws c (no_point r.strict c no_dot)
-    (no_letter r.strict c no_e))
+    (h.moves c stop ∙ whole_ends (class_of r.strict c) fs negative ws c
+    (λ e. eqb-false c 46 no_dot (class-says r.strict c e)) (no_letter r.strict c no_e))
 
 pub whole_to_end : (r : Reading) (d : ℕ) (ws cs rest : List ℕ) (fs : Frames) (negative : Bool)
     → ReadsWhole r d ws cs rest → dropped ws [] < 32768
@@ -281,13 +273,3 @@ pub signed_to_end : (r : Reading) (ws ds : List ℕ) (l : ℕ) (s : Sign) (xs re
     ≡ outcome r rest (after_value fs (number_value negative ws ds (exponent_of l s xs)))
 signed_to_end r ws ds l s xs rest fs negative ok stop =
     read_signed_exponent r fs negative ws ds l s xs rest ok ∙ collected_to_end r fs negative ws ds l s xs rest stop
-
-pub letter_to_plus : (r : Reading) (ws ds : List ℕ) (l : ℕ) (cs : List ℕ) (fs : Frames) (negative : Bool)
-    → outcome r (43 ∷ cs) (numeral fs negative (lettered ws ds l))
-    ≡ outcome r cs (numeral fs negative (signed_exponent ws ds l plus))
-letter_to_plus r ws ds l cs fs negative = rw (class-char r.strict plus_char) refl
-
-pub letter_to_minus : (r : Reading) (ws ds : List ℕ) (l : ℕ) (cs : List ℕ) (fs : Frames) (negative : Bool)
-    → outcome r (45 ∷ cs) (numeral fs negative (lettered ws ds l))
-    ≡ outcome r cs (numeral fs negative (signed_exponent ws ds l minus))
-letter_to_minus r ws ds l cs fs negative = rw (class-char r.strict minus_char) refl
