@@ -1,8 +1,9 @@
 -- What an inspection finds of a container, one element or entry after the other.
 use Rattle.std.proofs.Common.{◌≡◌, ℕ, zero, suc, ◌+◌, ◌-◌, ◌<◌, ◌≤◌, ◌^◌, List, [], ◌∷◌, ◌++◌, map, take, Some, add-one}
-use Rattle.std.proofs.Common.{Bool, true, false, refl, ap, arith}
+use Rattle.std.proofs.Common.{Bool, refl, ap, arith}
 use Rattle.std.specs.Prelude.{slice_get, max, min, ◌||◌, ◌↔◌}
 use Rattle.std.proofs.Math.Nat.{max-le, le-max_left, le-max_right}
+use Rattle.std.proofs.lemmas.Bool.{or_parts, or_from}
 use Rattle.jzon_tree.specs.Private.Inspected.{IsInspected}
 use Rattle.jzon_tree.specs.Lawful.{IsValue, AreValues, HasNoNan, HaveNoNan, PairsHaveNoNan}
 use Rattle.jzon_tree.specs.Value.{Value, Values, array, object, nest, most_nest, most_nest_under, values_of, pairs_of}
@@ -49,13 +50,6 @@ nest_parts : (vs : List Value) (v : Value) (r : ℕ) → nest (array (end vs v))
 nest_parts [] v r h = (omega arith, omega (arith, h, most_last [] v))
 nest_parts (w ∷ vs) v r h = (omega (arith, h, most_start (w ∷ vs) v), omega (arith, h, most_last (w ∷ vs) v))
 
-neither : (a b : Bool) → (a || b) ≡ false → (a ≡ false) × (b ≡ false)
-neither false b h = (refl, h)
-neither true b h = absurd (cc h)
-
-none : (a b : Bool) → a ≡ false → b ≡ false → (a || b) ≡ false
-none a b h k = rw (h, k) refl
-
 -- one more, saturating
 below : (n r : ℕ) → r < 2 ^ 128 - 1 → min (n + 1) (2 ^ 128 - 1) ≤ r → n < r
 below n r h k = omega (arith, h, k)
@@ -67,8 +61,8 @@ pub inspected_more : (vs : List Value) (v : Value) (a b : Bool) (m n : ℕ) → 
     → IsInspected v b n → IsInspected (array (end vs v)) (a || b) (max m (min (n + 1) (2 ^ 128 - 1)))
 inspected_more vs v a b m n h k = record {
   value = values_more vs v h.value k.value;
-  without = λ e. nan_more vs v (h.without (neither a b e).0) (k.without (neither a b e).1);
-  free = λ e. none a b (h.free (nan_parts vs v e).0) (k.free (nan_parts vs v e).1);
+  without = λ e. nan_more vs v (h.without (or_parts a b e).0) (k.without (or_parts a b e).1);
+  free = λ e. or_from a b (h.free (nan_parts vs v e).0) (k.free (nan_parts vs v e).1);
   within = λ r l e. nest_more vs v r (h.within r l (omega (arith, e, le-max_left m (min (n + 1) (2 ^ 128 - 1)))))
       (omega (
         arith,

@@ -4,8 +4,8 @@ use Rattle.std.proofs.Common.{◌≡◌, ℕ, ◌<◌, ◌≤◌, ◌^◌, pos, 
 use Rattle.std.proofs.Common.{if◌then◌else◌, Option, Some, None, refl, subst, sym, arith}
 use Rattle.std.specs.Prelude.{IsUtf8}
 use Rattle.std.specs.List.{AllByRecursion, AllZip, fold}
-use Rattle.std.proofs.lemmas.Bool.Decides.{nat_tests}
 use Rattle.std.proofs.lemmas.Int.{ints}
+use Rattle.std.proofs.lemmas.Bool.{leb-true}
 use Rattle.jzon_base.specs.Decimal.{integer_parts}
 use Rattle.jzon_base.specs.PairList.{keys_of, put, put_each}
 use Rattle.jzon_base.proofs.PairLaws.{All-put}
@@ -17,10 +17,7 @@ use Rattle.jzon_tree.proofs.KeptByChanges.{GoesInside, held, no_nan, nests}
 -- ---- primitives
 
 kind_fits : (b : Bool) (s : List ℕ) → nat_le (length s) 30 ≡ b → IsUtf8 s → IsText (if b then short else long) s
-kind_fits true s e u = (u, below (length s) e)
-  where
-    below : (n : ℕ) → nat_le n 30 ≡ true → n ≤ 30
-    below n e = grind (arith, nat_tests)
+kind_fits true s e u = (u, leb-true (length s) 30 e)
 kind_fits false s e u = u
 
 pub IsValue-text : (s : List ℕ) → IsUtf8 s → IsValue (text (kind_of s) s)

@@ -1,8 +1,8 @@
 -- A string that is sent run by run.
-use Rattle.std.proofs.Common.{◌≡◌, ℕ, zero, suc, ◌<◌, false, List, [], ◌∷◌, ◌++◌, length, get_or, take, drop, Option}
-use Rattle.std.proofs.Common.{refl, sym, ap, ◌∙◌, append_assoc, append-nil, arith, Result}
+use Rattle.std.proofs.Common.{◌≡◌, ℕ, ◌<◌, false, List, [], ◌∷◌, ◌++◌, length, get_or, take, drop, Option, refl, sym}
+use Rattle.std.proofs.Common.{ap, ◌∙◌, append_assoc, append-nil, arith, Result}
 use Rattle.std.specs.List.{prefix_len}
-use Rattle.std.proofs.lemmas.List.{length-drop}
+use Rattle.std.proofs.lemmas.List.{length-drop, get_or-drop}
 use Rattle.jzon_base.specs.Private.PlainBytes.{is_plain}
 use Rattle.jzon_tree.specs.Text.{escaped, escaped_byte}
 use Rattle.jzon_tree.specs.Generator.{Adds, Begins, Just, Sends}
@@ -22,10 +22,8 @@ left_closed prefix text rest x h = sym (append_assoc x (escaped rest) (34 ∷ []
     ∙ append_assoc prefix (escaped text) (34 ∷ [])
 
 drop-head : (bs : List ℕ) (n c : ℕ) (rest : List ℕ) → drop n bs ≡ c ∷ rest → get_or bs n 0 ≡ c
-drop-head [] zero c rest q = absurd (cc q)
-drop-head [] (suc n) c rest q = absurd (cc q)
-drop-head (b ∷ bs) zero c rest q = cc q
-drop-head (b ∷ bs) (suc n) c rest q = drop-head bs n c rest q
+drop-head bs n c rest q =
+    ap (λ m. get_or bs m 0) (omega arith) ∙ sym (get_or-drop n bs 0 0) ∙ ap (λ (xs : List ℕ). get_or xs 0 0) q
 
 -- ---- a run of plain bytes, and the byte after it, which needs an escape
 module _ (prefix text bs run rest : List ℕ) (n c : ℕ) (p : run ≡ take n bs) (e : n ≡ prefix_len is_plain bs)

@@ -3,6 +3,7 @@ use Rattle.std.proofs.Common.{◌≡◌, ◌≢◌, ◌∙◌, ℕ, ◌+◌, ◌
 use Rattle.std.proofs.Common.{Some, sym, ap, true, lit<}
 use Rattle.std.specs.Prelude.{chars}
 use Rattle.std.specs.Option.{is_some}
+use Rattle.std.proofs.lemmas.Bool.{le-leb}
 use Rattle.jzon_base.specs.PairList.{find}
 use Rattle.jzon_base.specs.declared.error.Error.TheVariants.{UnexpectedEndOfJson, ExceededDepthLimit}
 use Rattle.jzon_tree.specs.Value.{Value, array, no_values, object, no_pairs}
@@ -23,7 +24,7 @@ use Rattle.jzon.proofs.Containers.ContainerSteps.{deep_element, deep_key, no_ele
 use Rattle.jzon.proofs.Containers.ContainerSteps.{no_colon}
 use Rattle.jzon.proofs.Texts.ClassesOfCharacters.{char_of, class-char}
 use Rattle.jzon.proofs.Texts.Cursors.{Reached, utf8_of, byte_goes}
-use Rattle.jzon.proofs.Containers.FrameViews.{byte_within, too_deep}
+use Rattle.jzon.proofs.Containers.FrameViews.{byte_within}
 use Rattle.jzon.proofs.Strings.Quotes.{key_goes}
 use Rattle.jzon.proofs.Texts.StepsByByte.{from_step, from_stop}
 use Rattle.jzon.proofs.Texts.ReportedErrors.{reported_deep, reported_end}
@@ -81,11 +82,11 @@ pub item_too_deep : (b : Bracket) (t : Cursor) (fs : Frames) → t.index < lengt
 item_too_deep Array t fs lt n le =
     reported_deep (chars t.source.now) (chars (drop t.index t.source.now)) _
     (deep_element t.reading t.source.now t.index fs (utf8_of t) t.boundary lt (t.past_whitespace lt) n
-    (too_deep t.reading.depth (frames_depth fs) le))
+    (le-leb t.reading.depth (frames_depth fs) le))
 item_too_deep Object t fs lt n le =
     reported_deep (chars t.source.now) (chars (drop t.index t.source.now)) _
     (deep_key t.reading t.source.now t.index fs (utf8_of t) t.boundary lt (t.past_whitespace lt) n
-    (too_deep t.reading.depth (frames_depth fs) le))
+    (le-leb t.reading.depth (frames_depth fs) le))
 
 -- ---- after an item
 

@@ -6,8 +6,7 @@ use Rattle.std.specs.Prelude.{nat_le, IfOk, IsOkUnless}
 use Rattle.std.specs.List.{fold}
 use Rattle.std.specs.Option.{is_some}
 use Rattle.std.specs.Str.{bytes_eq}
-use Rattle.std.proofs.lemmas.Bool.{cases_lt}
-use Rattle.std.proofs.lemmas.Bool.Decides.{nat_tests}
+use Rattle.std.proofs.lemmas.Bool.{cases_lt, lt-leb}
 use Rattle.std.proofs.lemmas.List.Sums.{fold-append}
 use Rattle.std.proofs.Math.ListN.{get_or-eq_default}
 use Rattle.jzon_base.specs.PairList.{find, put}
@@ -51,10 +50,7 @@ frames_depth-stack s = let d = depth_on no_frames s in omega arith
 -- ---- the depth
 
 pub not_too_deep : (m n : ℕ) → n < m → breach_if (nat_le m n) deep ≡ None
-not_too_deep m n lt = let no : nat_le m n ≡ false = grind (arith, nat_tests) in ap (λ t. breach_if t deep) no
-
-pub too_deep : (m n : ℕ) → m ≤ n → nat_le m n ≡ true
-too_deep m n le = grind (arith, nat_tests)
+not_too_deep m n lt = ap (λ t. breach_if t deep) (lt-leb m n lt)
 
 pub value_mark-shallow : (r : Reading) (fs : Frames) → frames_depth fs ≤ r.depth → value_mark r fs ≡ None
 value_mark-shallow r (array_frame fs []) le = not_too_deep r.depth (frames_depth fs) (omega arith)

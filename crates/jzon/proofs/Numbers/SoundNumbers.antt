@@ -1,10 +1,11 @@
 -- Sound, for numbers (`number_on`, `number_ends`): if the automaton goes to a value from inside a number, the rest of
 -- the text begins with the rest of a number, `InNumeral`, and continues with what is allowed after it. Shown for one
 -- more character, given the statement for the text after it.
-use Rattle.std.proofs.Common.{◌≡◌, ◌∙◌, ℕ, List, [], ◌∷◌, ◌++◌, Bool, true, false, not, ◌&&◌, ◌==◌, Option, None, refl}
-use Rattle.std.proofs.Common.{sym, subst, ap, eqb-true}
+use Rattle.std.proofs.Common.{◌≡◌, ◌∙◌, ℕ, List, [], ◌∷◌, ◌++◌, Bool, true, false, not, ◌==◌, Option, None, refl, sym}
+use Rattle.std.proofs.Common.{subst, ap, eqb-true}
 use Rattle.std.specs.Prelude.{IsTrue}
 use Rattle.std.specs.Char.{is_ascii_digit}
+use Rattle.std.proofs.lemmas.Bool.{and_from}
 use Rattle.jzon_tree.specs.Value.{Value}
 use Rattle.jzon_tree.specs.Value as value
 use Rattle.jzon.specs.Reading.{Reading}
@@ -57,14 +58,11 @@ module _ (r : Reading) (v : Value) (fs : Frames) (Beh : Value → List ℕ → T
 
   -- ---- the first digit
 
-  and_not : (a b : Bool) → IsTrue a → b ≡ false → IsTrue (a && not b)
-  and_not a b h e = rw (h, e) refl
-
   first_whole : (negative : Bool) (c : ℕ) (t : List ℕ) → IsTrue (is_ascii_digit c) → c == 48 ≡ false
       → InNumeral negative (whole (c ∷ [])) t → MagnitudeLeft negative c t
   first_whole negative c t ok e ([], u, es_ok, f, h) = ([], u, ok, f, h)
   first_whole negative c t ok e (x ∷ es, u, es_ok, f, h) =
-      (x ∷ es, u, (and_not (is_ascii_digit c) (c == 48) ok e, es_ok), f, h)
+      (x ∷ es, u, (and_from _ _ ok (ap not e), es_ok), f, h)
 
   pub magnitude_left : (is_zero negative : Bool) (c : ℕ) (t : List ℕ) → IsTrue (is_ascii_digit c) → c == 48 ≡ is_zero
       → InNumeral negative (after_first_digit is_zero c) t → MagnitudeLeft negative c t

@@ -7,7 +7,7 @@ use Rattle.std.specs.Int.{w16}
 use Rattle.std.specs.List.{fold, AllByRecursion, IsDistinct}
 use Rattle.std.specs.Str.{bytes_eq}
 use Rattle.std.proofs.Math.Utf8.{scalar, scalars}
-use Rattle.std.proofs.lemmas.Bool.{and_parts}
+use Rattle.std.proofs.lemmas.Bool.{and_parts, leb-false}
 use Rattle.std.proofs.lemmas.Bool.Decides.{nat_tests}
 use Rattle.std.proofs.lemmas.Int.{ints, clamps}
 use Rattle.std.proofs.lemmas.Map.Made.{AllPairs-from_IsDistinct}
@@ -167,10 +167,7 @@ not_deep false e = refl
 
 -- a value after an opening bracket is read only if one more container may be opened
 room_inside : (r : Reading) (depth : ℕ) → deep_if r depth ≡ None → depth < r.depth
-room_inside r depth e = above r.depth depth (not_deep (nat_le r.depth depth) e)
-  where
-    above : (a b : ℕ) → nat_le a b ≡ false → b < a
-    above a b e = grind (arith, nat_tests)
+room_inside r depth e = leb-false r.depth depth (not_deep (nat_le r.depth depth) e)
 
 one_deeper : (a b depth room : ℕ) → a ≤ room - suc depth → b ≤ room - suc depth → depth < room
     → suc (max a b) ≤ room - depth

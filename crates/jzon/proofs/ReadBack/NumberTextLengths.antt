@@ -5,7 +5,7 @@ use Rattle.std.proofs.Common.{length-append, length-take, length-drop}
 use Rattle.std.proofs.lemmas.List.{length-replicate}
 use Rattle.std.specs.Int.{w16}
 use Rattle.std.proofs.lemmas.Fmt.{length-decimal-le}
-use Rattle.std.proofs.lemmas.Bool.Decides.{nat_tests}
+use Rattle.std.proofs.lemmas.Bool.{leb-true, ltb-false}
 use Rattle.jzon_base.specs.NumberText.{sign_text, point_after, point_after_first, fraction_text, small_exponent_text}
 use Rattle.jzon_base.specs.NumberText.{magnitude_text, number_text}
 
@@ -13,12 +13,6 @@ length-if : (b : Bool) (xs ys : List ℕ) (n : ℕ) → (b ≡ true → length x
     → length (if b then xs else ys) ≤ n
 length-if true xs ys n p q = p refl
 length-if false xs ys n p q = q refl
-
-le_of_test : (a b : ℕ) → nat_le a b ≡ true → a ≤ b
-le_of_test a b h = grind (arith, nat_tests)
-
-not_lt : (a b : ℕ) → nat_lt a b ≡ false → b ≤ a
-not_lt a b h = grind (arith, nat_tests)
 
 length-point : (k : ℕ) (ds : List ℕ) → length (point_after k ds) ≤ length ds + 1
 length-point k ds = simp (length-append, length-take, length-drop) (omega arith)
@@ -32,7 +26,7 @@ length-fraction ds k few near =
     length-if (nat_lt k (length ds)) (point_after (length ds - k) ds) (codes "0." ++ replicate (k - length ds) 48 ++ ds)
     28
     (λ t. omega (arith, length-point (length ds - k) ds))
-    (λ f. simp (length-append, length-replicate) (omega (arith, not_lt k (length ds) f)))
+    (λ f. simp (length-append, length-replicate) (omega (arith, ltb-false k (length ds) f)))
 
 length-small : (d k : ℕ) → k ≤ 32768 → length (small_exponent_text d k) ≤ 7
 length-small d k near =
@@ -48,14 +42,14 @@ length-magnitude ds (pos k) few fits =
     ++ decimal (k + length ds - 1)) 28 (λ _. omega arith)
     (λ _. length-if (nat_le (length ds + k) 20) (ds ++ replicate k 48)
     (point_after_first ds ++ codes "e" ++ decimal (k + length ds - 1)) 28
-    (λ t. simp (length-append, length-replicate) (omega (arith, le_of_test (length ds + k) 20 t)))
+    (λ t. simp (length-append, length-replicate) (omega (arith, leb-true (length ds + k) 20 t)))
     (λ _. let short = length-decimal-le 5 (k + length ds - 1) (omega arith) (omega (arith, fits.sfits))
     (omega (arith, fits.sfits)) in
     simp length-append (omega (arith, length-first ds, short))))
 length-magnitude ds (negsuc k) few fits =
     length-if (nat_le (k + 1) 17) (fraction_text ds (k + 1))
     (point_after_first ds ++ small_exponent_text (length ds) (k + 1)) 28
-    (λ t. length-fraction ds (k + 1) few (le_of_test (k + 1) 17 t))
+    (λ t. length-fraction ds (k + 1) few (leb-true (k + 1) 17 t))
     (λ _. simp length-append
     (omega (arith, length-first ds, length-small (length ds) (k + 1) (omega (arith, fits.sfits)))))
 

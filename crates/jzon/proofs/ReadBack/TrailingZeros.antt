@@ -2,14 +2,14 @@
 -- mantissa has no room for it.
 use Rattle.std.proofs.Common.{◌≡◌, ℕ, suc, zero, ℤ, pos, ◌+ℤ◌, ◌-ℤ◌, ◌+◌, ◌*◌, ◌/◌, ◌%◌, ◌^◌, ◌&&◌, ◌≤◌, ◌<◌, ◌==◌}
 use Rattle.std.proofs.Common.{None, List, [], ◌∷◌, ◌++◌, length, take, replicate, Bool, true, false, not, refl, sym, ap}
-use Rattle.std.proofs.Common.{◌∙◌, arith, decimal, get_or, length-append, append_assoc, append-nil, pow-add, eq-eqb}
+use Rattle.std.proofs.Common.{◌∙◌, arith, decimal, length-append, append_assoc, append-nil, pow-add, eq-eqb}
 use Rattle.std.specs.List.{fold}
 use Rattle.std.proofs.lemmas.Int.{ints}
 use Rattle.std.proofs.lemmas.Fmt.{decimal_step}
 use Rattle.std.proofs.Math.Bool.{not-not, or-true}
 use Rattle.std.proofs.Math.Nat.{pow-suc, one-le-mul, one-le-pow, mul-le-mul_right, pow-le-pow_right}
 use Rattle.std.proofs.lemmas.List.Sums.{fold-append}
-use Rattle.std.proofs.lemmas.List.{length-replicate, take_at, take_all}
+use Rattle.std.proofs.lemmas.List.{length-replicate, take_at, take_all, get_or_append_left}
 use Rattle.jzon_base.specs.Digits.{add_digit, digits_number, kept_len, kept, dropped, kept_fraction, read_exponent}
 use Rattle.jzon_base.specs.Digits.{clamp}
 use Rattle.jzon_base.specs.Decimal.{parts, same, scaled}
@@ -67,16 +67,12 @@ digits_number-zeros m k fits =
     fold-append add_digit 0 (decimal m) (replicate k 48) ∙ ap (λ v. fold add_digit v (replicate k 48))
     (number_decimal m fits) ∙ zeros_after m k
 
-first_of_two : (xs ys : List ℕ) → 0 < length xs → get_or (xs ++ ys) 0 0 ≡ get_or xs 0 0
-first_of_two [] ys h = absurd (omega arith)
-first_of_two (c ∷ cs) ys h = refl
-
 zeros_whole : (m k : ℕ) → 0 < m → m < 2 ^ 64 → IsWholePart (decimal m ++ replicate k 48)
 zeros_whole m k above fits =
     let is : IsMantissa m (decimal m) = mantissa m above fits in (
       digits-append (decimal m) (replicate k 48) is.digits (all-zeros k),
       omega (arith, length-append (decimal m) (replicate k 48), is.some),
-      λ z. absurd (omega (arith, is.first, first_of_two (decimal m) (replicate k 48) is.some)),
+      λ z. absurd (omega (arith, is.first, get_or_append_left (decimal m) (replicate k 48) 0 0 is.some)),
     )
 
 -- ---- the text

@@ -1,13 +1,13 @@
 -- Trees of written texts: a tree that breaks no limit, with the bytes that it spells.
 use Rattle.std.proofs.Common.{◌≡◌, ◌∙◌, ℕ, suc, ◌+◌, ◌<◌, ◌≤◌, ◌^◌, max, ℤ, List, [], ◌∷◌, ◌++◌, Bool, true, false}
-use Rattle.std.proofs.Common.{◌&&◌, nat_le, codes, None, refl, sym, ap, arith, chars, FitsSigned}
+use Rattle.std.proofs.Common.{◌&&◌, codes, None, refl, sym, ap, arith, chars, FitsSigned}
 use Rattle.std.specs.Prelude.{IsUtf8}
 use Rattle.std.specs.Int.{w16}
 use Rattle.std.specs.Str.{IsAscii}
 use Rattle.std.proofs.Math.Bool.{and-false}
-use Rattle.std.proofs.lemmas.Bool.Decides.{nat_tests}
 use Rattle.std.proofs.lemmas.Str.{chars-append, chars-IsAscii, IsUtf8-append, IsUtf8-from_ascii}
 use Rattle.std.proofs.lemmas.Str.Ascii.{IsAscii-nil, IsAscii-cons}
+use Rattle.std.proofs.lemmas.Bool.{lt-leb}
 use Rattle.jzon_base.specs.NumberText.{number_text}
 use Rattle.jzon_tree.specs.Same.{is_known}
 use Rattle.jzon_tree.specs.Text.{quoted}
@@ -63,9 +63,6 @@ IsUtf8-ascii_append xs ys h u = IsUtf8-append xs ys (IsUtf8-from_ascii xs h) u
 IsAscii-whitespace : (r : Reading) (w : List ℕ) → IsWhitespace r w → IsAscii w
 IsAscii-whitespace r [] h = IsAscii-nil
 IsAscii-whitespace r (c ∷ w) h = IsAscii-cons c w (space_is_ascii r.strict c h.0) (IsAscii-whitespace r w h.1)
-
-not_deep : (depth high limit : ℕ) → depth + suc high ≤ limit → nat_le limit depth ≡ false
-not_deep depth high limit h = grind (arith, nat_tests)
 
 -- A text below 128 whose cells have no mark.
 ascii_spells : (r : Reading) (b : List ℕ) (n : Node) → IsAscii b → IsNode r n
@@ -162,7 +159,7 @@ array_spells r h high w x c b n es whitespace space node more = record {
   unbroken = λ depth k few.
       ap (λ t. cell 91 None ∷ plain w (node_cells r n (suc depth) (breach_if t deep)
       (plain c (elements_cells r es (suc depth) k))))
-      (not_deep depth (max h high) r.depth few)
+      (lt-leb r.depth depth (omega arith))
       ∙ ap (λ q. cell 91 None ∷ q) (run-plain r h (suc depth) w x c b n _ k whitespace space node (omega arith)
       (more.unbroken (suc depth) k (omega arith)))
       ∙ sym (text-ascii (91 ∷ []) (run_text w x c b) k (IsAscii-one 91 (omega arith)));
@@ -251,7 +248,7 @@ object_spells r h high keys w key g x c b n ms whitespace u gap space node more 
       ap (λ t. cell 123 None ∷ key_cells r [] (key_for w key) (breach_if t deep)
       (plain g (node_cells r n (suc depth) None (plain c (members_cells r ms (bytes_of (items_for key) ∷ []) (suc depth)
       k)))))
-      (not_deep depth (max h high) r.depth few)
+      (lt-leb r.depth depth (omega arith))
       ∙ ap (λ q. cell 123 None ∷ q) (pair-plain r h high
       (suc depth) [] keys w key g x c b n ms k whitespace u gap space node
       more new (omega arith))
