@@ -10,7 +10,7 @@ use Rattle.jzon.specs.Spelling.{deep, breach_if}
 use Rattle.jzon.specs.Fault.{limit}
 use Rattle.jzon.specs.Private.Classes.{Class, whitespace, quote, closes_array, closes_object, comma, colon, class_of}
 use Rattle.jzon.specs.Private.Machine.{Entries, Frames, frames_depth, array_frame, object_frame, as_key, between, State}
-use Rattle.jzon.specs.Private.Machine.{before, before_key, word, numeral, string, after_key, after_value}
+use Rattle.jzon.specs.Private.Machine.{before, before_key, string, after_key, after_value}
 use Rattle.jzon.specs.Private.Machine.{allows_whitespace, go, bad, bad_at, value_mark, key_mark, move_before}
 use Rattle.jzon.specs.Private.Machine.{move_before_key, move_after_key, move_empty_object, move_after_value, refused}
 use Rattle.jzon.specs.Private.Machine.{from, left_at}
