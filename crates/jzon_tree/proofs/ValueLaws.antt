@@ -40,7 +40,8 @@ view-Number n = search (rules, the_lemmas)
 pub by_kind : (P : JsonValue → Type 0) → ((l : JsonValue-F JsonValue Object) → P (roll-JsonValue l)) → (v : JsonValue)
     → P v
 by_kind P each v =
-    let same : roll-JsonValue (out-JsonValue v) ≡ v = search (rules, the_lemmas) in subst P same (each (out-JsonValue v))
+    let same : roll-JsonValue (out-JsonValue v) ≡ v = search (rules, the_lemmas) in
+    subst P same (each (out-JsonValue v))
 
 -- ---- the entries and the elements of any value
 

@@ -66,8 +66,8 @@ word_begins r bs i b k fs v four u lt h m (inr (inr e)) means spells short long 
       not_before = omega (arith, here);
       boundary = subst (IsCharBoundary bs) (sym here) (IsCharBoundary-after_ascii bs i u lt (omega (arith, h, e)));
       same =
-          begin_by r bs i fs begins_false _ refl u (IsCharBoundary-before_ascii bs i lt (omega (arith, e, h))) lt (h ∙ e)
-          (lit< tt) m
+          begin_by r bs i fs begins_false _ refl u (IsCharBoundary-before_ascii bs i lt (omega (arith, e, h))) lt
+          (h ∙ e) (lit< tt) m
           ∙ ap (λ w. from r bs (past_letter fs w (97 ∷ 108 ∷ 115 ∷ 101 ∷ [])) (i + 1)) (sym (means.no e))
           ∙ ap (λ l. from r bs (past_letter fs v l) (i + 1)) (sym (spells.no e))
           ∙ ap (λ n. from r bs (past_letter fs v four) n) (sym here);

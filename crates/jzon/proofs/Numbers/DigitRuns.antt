@@ -57,16 +57,16 @@ pub read_whole : (r : Reading) (fs : Frames) (negative : Bool) (ds es rest gs : 
     → outcome r (es ++ rest) (numeral fs negative (whole ds))
     ≡ outcome r rest (numeral fs negative (whole (onto es ds)))
 read_whole r fs negative ds es rest gs ok few =
-    collect_all r (λ ds. numeral fs negative (whole ds)) drops_too_many (λ xs c left h. rw (digits-class r.strict c h) refl) ds es rest ok
-    (whole_unmarked ds es gs few)
+    collect_all r (λ ds. numeral fs negative (whole ds)) drops_too_many
+    (λ xs c left h. rw (digits-class r.strict c h) refl) ds es rest ok (whole_unmarked ds es gs few)
 
 -- The 32768th that is dropped is a fault.
 pub refuse_whole : (r : Reading) (fs : Frames) (negative : Bool) (ds es rest gs : List ℕ) (i : ℕ) → AreDigits es
     → 32768 ≤ dropped (onto ds es) gs → length ds + i ≡ kept_len (onto ds es ++ gs) + 32767
     → outcome r (es ++ rest) (numeral fs negative (whole ds)) ≡ refused (limit digit) (drop i es ++ rest)
 refuse_whole r fs negative ds es rest gs i ok many at =
-    collect_up_to r (λ ds. numeral fs negative (whole ds)) drops_too_many (λ xs c left h. rw (digits-class r.strict c h) refl) ds es rest i ok
-    (whole_marked ds es gs i many at)
+    collect_up_to r (λ ds. numeral fs negative (whole ds)) drops_too_many
+    (λ xs c left h. rw (digits-class r.strict c h) refl) ds es rest i ok (whole_marked ds es gs i many at)
 
 -- ---- fraction digits
 
