@@ -64,12 +64,12 @@ moved ks ls p q u v e f = λ i. is_lt (name_cmp (e i) (f i))
 
 -- ---- a search in one run
 
--- the order of entries is one of hashes
 first_decides : (o u : Ordering) → is_lt (ordering_then o u) ≡ false → is_lt o ≡ false
 first_decides Less u h = h
 first_decides Equal u h = refl
 first_decides Greater u h = refl
 
+-- the order of entries is one of hashes
 pub hashes_rise : (ks : List (List ℕ)) (r : List (ℕ × ℕ)) → IsSorted (entry_cmp ks) r → IsNonDecreasingBy (λ p. p.0) r
 hashes_rise ks r up = IsNonDecreasingBy-from_sort (λ (p : ℕ × ℕ). p.0) r (λ k d low l. first_decides _ _ (up k d low l))
 
@@ -90,7 +90,7 @@ module _ (ks : List (List ℕ)) (h : ℕ) (name : List ℕ) where
       → IsBinarySearchResult (beside ks h name) r (Err at) → IsPlace ks h name r at
   placed r at up bound found = record { within = bound; point = found (rises r up) }
 
-  -- entries of lesser hashes come before that one, and if there is one there, its text is greater or its hash
+  -- entries of lesser hashes come before that position, and the entry there, if there is one, comes after this hash and name
   pub placed_first : (r : List (ℕ × ℕ)) (at : ℕ) → IsSorted (entry_cmp ks) r → at ≤ length r
       → IsPartitionPoint (λ p. ltb p.0 h ≡ true) (λ p. ltb p.0 h ≡ false) r at
       → (at < length r → (d : ℕ × ℕ) → beside ks h name (get_or r at d) ≡ Greater) → IsPlace ks h name r at
@@ -328,7 +328,7 @@ added_last hs ks rs h at n name r index spot last is =
 
 -- the runs from some one on are joined
 pub begun-joined : (ks : List (List ℕ)) (rs us : List (List (ℕ × ℕ))) (from : ℕ) (j : List (ℕ × ℕ)) (p : ℕ × ℕ)
-    → us ≡ drop from rs → IsPermutation (entries_of us) j → IsSorted (entry_cmp ks) j
+    → us ≡ drop from rs → IsPermutation (entries_of us) j → (AreSorted ks us → IsSorted (entry_cmp ks) j)
     → IsBegun ks rs ((take from rs ++ j ∷ []) ++ (p ∷ []) ∷ []) p
 begun-joined ks rs us from j p rest whole up =
     let parts : entries_of rs ≡ entries_of (take from rs) ++ entries_of us =
@@ -341,7 +341,8 @@ begun-joined ks rs us from j p rest whole up =
       whole = rw (parts, flat_last (take from rs) j)
           (IsPermutation-append_right (entries_of (take from rs)) (entries_of us) j whole);
       sorted = λ sorted. All-push (IsSorted (entry_cmp ks)) (take from rs) j
-          (All-take (IsSorted (entry_cmp ks)) from rs sorted) up;
+          (All-take (IsSorted (entry_cmp ks)) from rs sorted)
+          (up (rw rest (All-drop (IsSorted (entry_cmp ks)) from rs sorted)));
     }
 
 -- none are joined

@@ -22,6 +22,7 @@ pub mod Indexes
 pub mod Permutations
 pub mod Rising
 pub mod Merged
+pub mod MergedRuns
 pub mod PutEach
 pub mod KnownKeys
 pub mod Handed
