@@ -127,6 +127,7 @@ fn add_entry(
 /// Puts the entries one after the other, in place: of those with equal keys, the last value at the
 /// position of the first. Returns the index of the keys that are left. The error is a failed
 /// allocation, and then the first of them have been put.
+#[inline(never)]
 fn put_each<V: Drop>(
     alloc: Global,
     keys: &mut Vec<Key>,
@@ -164,6 +165,7 @@ fn put_each<V: Drop>(
 
 /// Merges the entries of equal keys: the last value at the position of the first. Returns the index
 /// of the keys that are left, or none where they are few. The error is a failed allocation.
+#[inline(always)]
 fn merge<V: Drop>(
     alloc: Global,
     keys: &mut Vec<Key>,
@@ -182,28 +184,6 @@ fn merge<V: Drop>(
         Some(index) => Runs::of(alloc, index),
         None => put_each(alloc, keys, values),
     }
-}
-
-/// Puts a missing key last. The error is a failed allocation, and then nothing has changed.
-#[inline(always)]
-fn push_at(
-    alloc: Global,
-    keys: &mut Vec<Key>,
-    index: &mut Runs,
-    spot: Spot,
-    key: Key,
-) -> Result<(), AllocError>
-    requires table { IsTable keys.old.items index.old }
-    requires missing { position (λ k. bytes_eq k key) keys.old.items ≡ None }
-    requires spot { IsSpotFor keys.old.items index.old key spot.hash spot.at }
-    ensures table { IsTable keys.new.items index.new }
-    ensures ok { OnOk result (keys.new.items ≡ keys.old.items ++ key ∷ []) }
-    ensures err { OnErr result (keys.new.items ≡ keys.old.items) }
-{
-    reserve_next(keys)?;
-    add_entry(alloc, keys.as_slice(), index, key.as_str(), spot)?;
-    keys.push_reserved(key);
-    Ok(())
 }
 
 /// A copy of each key. The error is a failed allocation.
@@ -244,6 +224,7 @@ impl Keys {
     /// The keys of entries: those of equal keys become one, with the last value at the position of
     /// the first. The keys are taken over. The error is a failed allocation, and then at most merges
     /// have been made.
+    #[inline(always)]
     pub fn from_entries<V: Drop>(
         alloc: Global,
         keys: &mut Vec<Key>,
@@ -327,8 +308,10 @@ impl Keys {
             Err(spot) => spot,
         };
         reserve_next(values)?;
-        let key = Key::new(alloc, name)?;
-        push_at(alloc, &mut self.keys, &mut self.index, spot, key)?;
+        reserve_next(&mut self.keys)?;
+        let long = Key::long(alloc, name)?;
+        add_entry(alloc, self.keys.as_slice(), &mut self.index, name, spot)?;
+        Key::push(&mut self.keys, name, long);
         Ok(None)
     }
 
@@ -354,7 +337,10 @@ impl Keys {
             Err(spot) => spot,
         };
         reserve_next(values)?;
-        push_at(alloc, &mut self.keys, &mut self.index, spot, key)?;
+        reserve_next(&mut self.keys)?;
+        let keys = self.keys.as_slice();
+        add_entry(alloc, keys, &mut self.index, key.as_str(), spot)?;
+        self.keys.push_reserved(key);
         Ok(None)
     }
 

@@ -94,6 +94,7 @@ impl<V> Pairs<V> {
     /// The entries that are put one after the other: those of equal keys become one, with the last
     /// value at the position of the first. Keys and values are taken over. The error is a failed
     /// allocation, and then at most merges have been made. The box is allocated before them.
+    #[inline(always)]
     fn from_entries(
         alloc: Global,
         keys: &mut Vec<Key>,
@@ -259,15 +260,15 @@ impl<V> Pairs<V> {
     /// Puts the first entry, in a box that is asked for before the room of keys and values. The
     /// error is a failed allocation.
     #[inline(never)]
-    fn insert_first(&mut self, alloc: Global, key: Key, value: V) -> Result<(), AllocError>
+    fn insert_first(&mut self, alloc: Global, name: &str, value: V) -> Result<(), AllocError>
     where
         V: Drop,
         requires { self.old ≡ [] }
-        ensures ok { OnOk result (self.new ≡ (key, value) ∷ []) }
+        ensures ok { OnOk result (self.new ≡ (name.now, value) ∷ []) }
         ensures err { OnErr result (self.new ≡ self.old) }
     {
         let mut entries = Box::new(alloc, Entries::new(alloc))?;
-        entries.insert_owned(alloc, key, value)?;
+        entries.insert(alloc, name, value)?;
         self.entries = Some(entries);
         Ok(())
     }
@@ -284,7 +285,7 @@ impl<V> Pairs<V> {
         if let Some(entries) = &mut self.entries {
             return entries.insert(alloc, name, value);
         }
-        self.insert_first(alloc, Key::new(alloc, name)?, value)
+        self.insert_first(alloc, name, value)
     }
 
     /// The same with a key that is moved in.
@@ -302,7 +303,10 @@ impl<V> Pairs<V> {
         if let Some(entries) = &mut self.entries {
             return entries.insert_owned(alloc, key, value);
         }
-        self.insert_first(alloc, key, value)
+        let mut entries = Box::new(alloc, Entries::new(alloc))?;
+        entries.insert_owned(alloc, key, value)?;
+        self.entries = Some(entries);
+        Ok(())
     }
 
     /// The position of a key. Where the key is missing it is put last with `value`, and the error
@@ -319,7 +323,7 @@ impl<V> Pairs<V> {
         if let Some(entries) = &mut self.entries {
             return entries.place(alloc, name, value);
         }
-        self.insert_first(alloc, Key::new(alloc, name)?, value)?;
+        self.insert_first(alloc, name, value)?;
         Ok(0)
     }
 

@@ -112,6 +112,7 @@ impl<V> Entries<V> {
 
     /// Puts a value under a key: in its place where the key is there, which takes no memory, else
     /// last. The error is a failed allocation.
+    #[inline(always)]
     #[tactic(auto, using(crate::proofs::PairPlaces::places))]
     pub fn insert(&mut self, alloc: Global, name: &str, value: V) -> Result<(), AllocError>
     where
