@@ -54,6 +54,15 @@ impl Short {
         }
     }
 
+    /// A copy. It takes no call of a function that copies bytes, as `from_slice` does.
+    #[doc(hidden)]
+    #[inline(always)]
+    pub fn copy_fields(&self) -> Short
+        ensures { result ≡ self.now }
+    {
+        Short { text: self.text }
+    }
+
     /// The string.
     pub fn as_str(&self) -> &str
         ensures text { result.now ≡ self.now }

@@ -8,7 +8,6 @@ ghost use Rattle.jzon_tree.specs.View.{view, view_object};
 use crate::object::Object;
 use crate::value::JsonValue;
 use jzon_base::error::{Error, Result};
-use jzon_base::short::Short;
 use std::alloc::{AllocError, Global};
 
 impl JsonValue {
@@ -24,7 +23,7 @@ impl JsonValue {
     {
         match self {
             JsonValue::Null => Ok(JsonValue::Null),
-            JsonValue::Short(text) => Ok(JsonValue::Short(Short::from_slice(text.as_str()))),
+            JsonValue::Short(text) => Ok(JsonValue::Short(text.copy_fields())),
             JsonValue::String(text) => Ok(JsonValue::String(text.clone()?)),
             JsonValue::Number(number) => Ok(JsonValue::Number(*number)),
             JsonValue::Boolean(truth) => Ok(JsonValue::Boolean(*truth)),
@@ -83,7 +82,7 @@ fn push_inline(copies: &mut Vec<JsonValue>, value: &JsonValue) -> bool
             true
         }
         JsonValue::Short(text) => {
-            copies.push_reserved(JsonValue::Short(Short::from_slice(text.as_str())));
+            copies.push_reserved(JsonValue::Short(text.copy_fields()));
             true
         }
         JsonValue::Number(number) => {
@@ -106,7 +105,7 @@ impl Clone for JsonValue {
     fn clone(&self) -> std::result::Result<JsonValue, AllocError> {
         match self {
             JsonValue::Null => Ok(JsonValue::Null),
-            JsonValue::Short(text) => Ok(JsonValue::Short(Short::from_slice(text.as_str()))),
+            JsonValue::Short(text) => Ok(JsonValue::Short(text.copy_fields())),
             JsonValue::String(text) => Ok(JsonValue::String(text.clone()?)),
             JsonValue::Number(number) => Ok(JsonValue::Number(*number)),
             JsonValue::Boolean(boolean) => Ok(JsonValue::Boolean(*boolean)),

@@ -47,6 +47,9 @@ impl PartialEq for Object {
 
     ghost laws = { on_per view_object (partial_equiv_from_equiv same_equiv) };
 
+    // Not inlined, as `same_array` isn't: the comparison of values without parts then saves no
+    // registers.
+    #[inline(never)]
     #[cycle(same)]
     fn eq(&self, other: &Object) -> bool {
         // As many entries, and each key of `self` in `other`: so `other` has no further key.
@@ -67,6 +70,7 @@ impl Eq for Object {
 }
 
 /// Whether there are as many elements, and those at the same position are equal.
+#[inline(never)]
 #[cycle(same)]
 fn same_array(items: &[JsonValue], others: &[JsonValue]) -> bool
     ensures { result ≡ same_items (view_values items.now) (view_values others.now) }

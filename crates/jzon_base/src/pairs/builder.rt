@@ -108,6 +108,7 @@ impl<V: Drop> Gathered<V> {
 
     /// The entries as `Pairs`, which take them over. The error is a failed allocation, and then
     /// they stay.
+    #[inline(always)]
     fn settle(&mut self, alloc: Global) -> Result<Pairs<V>, AllocError>
         ensures ok { IfOk result (λ p. p ≡ self.old) }
         ensures err { OnErr result (self.new ≡ self.old) }
@@ -147,14 +148,6 @@ impl<V> Model for Put<V> {
 }
 
 impl<V: Drop> Put<V> {
-    /// These entries.
-    fn of(pairs: Pairs<V>) -> Put<V>
-        ensures { result ≡ pairs }
-    {
-        let next = pairs.len();
-        Put { pairs, next }
-    }
-
     /// The position of a key, if it is the next one. If the next one isn't known, the position of
     /// any key.
     #[inline(always)]
@@ -255,10 +248,11 @@ impl<V: Drop> Builder<V> {
         if let State::Gathered(gathered) = &mut self.state {
             let count = gathered.keys.len();
             let pairs = gathered.settle(alloc)?;
-            self.state = if may_stay && pairs.len() == count {
+            let next = pairs.len();
+            self.state = if may_stay && next == count {
                 State::Gathered(Gathered::of(pairs))
             } else {
-                State::Put(Put::of(pairs))
+                State::Put(Put { pairs, next })
             };
         }
         Ok(())

@@ -1,4 +1,4 @@
-use Rattle.std.proofs.Common.{arith, refl, subst}
+use Rattle.std.proofs.Common.{ℕ, List, [], ◌∷◌, take, arith, refl, subst}
 use Rattle.std.specs.List.{IsDistinct}
 use Rattle.std.specs.Str.{bytes_eq}
 use Rattle.std.proofs.lemmas.Bool.{false≢true}
@@ -6,9 +6,13 @@ use Rattle.std.proofs.lemmas.List.{take_all}
 use Rattle.jzon_base.proofs.Indexes.{IsDistinct-more, repeated}
 use Rattle.jzon_base.proofs.keys.index.are_distinct.Goals as goal
 
-pub loop-at-init : goal.loop-at-init
+first : (ks : List (List ℕ)) → IsDistinct bytes_eq (take 1 ks)
 unfolding IsDistinct
-loop-at-init c = tt
+first [] = tt
+first (k ∷ ks) = (tt, tt)
+
+pub loop-at-init : goal.loop-at-init
+loop-at-init c = first c.args.keys.now
 
 pub loop-at-preserved : goal.loop-at-preserved
 loop-at-preserved c =
