@@ -14,6 +14,7 @@ use jzon_tree::codegen::{Generator, Layout, TextGenerator, write_json, write_obj
 use jzon_tree::object::Object;
 use jzon_tree::value::JsonValue;
 use std::alloc::{AllocError, Global};
+use std::cell::Cell;
 use std::io;
 use std::io::ErrorKind;
 use std::process::Abort;
@@ -167,6 +168,47 @@ fn writes_the_spaces_of_a_layout(rt: HostRuntime) -> Tested {
     let value = JsonValue::Object(unsorted(rt.alloc())?);
     let text = value.lay_out(rt.alloc(), Spacious)?;
     expect_bytes(&rt, text.as_bytes(), SPACIOUS);
+    Ok(())
+}
+
+/// A layout that counts how often its `order` is called.
+#[derive(Clone, Copy, Drop)]
+struct Asked<'a> {
+    count: &'a Cell<u64>,
+}
+
+impl Layout for Asked<'_> {
+    ghost style = { λ _. any_style };
+
+    fn spaces(&self) -> Option<u16> {
+        None
+    }
+
+    fn order(&self, _object: &Object) -> Result<Option<Vec<usize>>, AllocError> {
+        self.count.set(self.count.get().saturating_add(1));
+        Ok(None)
+    }
+
+    ghost style_law = { λ _. IsStyle-any };
+}
+
+/// The order is asked for once for each of two objects, of which one is empty, by each call that
+/// takes a layout.
+#[test]
+fn asks_for_each_order_once(rt: HostRuntime) -> Tested {
+    let alloc = rt.alloc();
+    let mut object = Object::new(alloc);
+    object.insert(alloc, "a", JsonValue::Object(Object::new(alloc)))?;
+    let value = JsonValue::Object(object);
+    let count = Cell::new(0);
+    let asked = Asked { count: &count };
+    value.lay_out(alloc, asked)?;
+    expect_eq(&rt, "lay_out", count.get(), 2);
+    let mut bytes: Vec<u8> = Vec::new(alloc);
+    value.write_layout(&mut bytes, asked)?;
+    expect_eq(&rt, "write_layout", count.get(), 4);
+    write_json(&mut TextGenerator::in_memory(alloc, asked), &value)?;
+    expect_eq(&rt, "TextGenerator", count.get(), 6);
     Ok(())
 }
 

@@ -126,11 +126,12 @@ fn writes_to_a_buffer_with_room(rt: HostRuntime) -> Tested {
     Ok(())
 }
 
-/// A key and a string of more bytes than are added at once, NaN, and 0.
+/// A key and a string of more bytes than are added at once, one with an escape, NaN, and 0.
 fn untaken(alloc: Global) -> Result<JsonValue> {
     let long = "0123456789abcdef0123456789abcdef01234567";
     let mut array = JsonValue::new_array(alloc);
     array.push(alloc, long)?;
+    array.push(alloc, "a\n")?;
     array.push(alloc, NAN)?;
     array.push(alloc, 0)?;
     let mut object = JsonValue::new_object(alloc);
@@ -144,11 +145,11 @@ fn asks_for_each_piece(rt: HostRuntime) -> Tested {
     let value = untaken(rt.alloc())?;
     let mut buffer = Buffer::new(Vec::new(rt.alloc()));
     value.write_outlet(&mut buffer, Compact)?;
-    expect_eq(&rt, "on one line", buffer.asked, 4);
+    expect_eq(&rt, "on one line", buffer.asked, 5);
     for spaces in [0, 1, 9] {
         buffer.asked = 0;
         value.write_outlet(&mut buffer, Pretty(spaces))?;
-        expect_eq(&rt, "on lines", buffer.asked, 10);
+        expect_eq(&rt, "on lines", buffer.asked, 12);
     }
     Ok(())
 }
