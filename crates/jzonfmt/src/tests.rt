@@ -129,12 +129,18 @@ pub(crate) fn usual() -> Reading {
 fn expect_row(rt: &impl Abort, alloc: Global, row: &Row) -> Result<(), Fail> {
     let words = words_of(alloc, row.words)?;
     let mut reader = row.input;
-    let mut writer: Vec<u8> = Vec::new(alloc);
+    let mut writer = SlowWriter::new(alloc, NO_FAILING_CALL, Trouble::TakesNothing);
     let mut faults: Vec<u8> = Vec::new(alloc);
     let status = engine::drive(alloc, &words, &mut reader, &mut writer, &mut faults);
     assert_eq!(rt; str::from_utf8(&faults)?, row.faults);
     assert_eq!(rt; status, row.status);
-    assert_eq!(rt; str::from_utf8(&writer)?, row.output);
+    assert_eq!(rt; str::from_utf8(&writer.bytes)?, row.output);
+    // Only what was written whole is flushed.
+    expect(
+        rt,
+        "the flushes",
+        writer.flushes == usize::from(row.status == 0),
+    );
     // Arguments are tested before anything is read.
     let left = if row.status == 2 { row.input.len() } else { 0 };
     assert_eq!(rt; reader.len(), left);
