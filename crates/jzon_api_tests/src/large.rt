@@ -303,27 +303,51 @@ fn nested(alloc: Global, depth: usize) -> Result<JsonValue> {
     Ok(value)
 }
 
-/// Deeper than any text that is read.
-#[test]
-fn deep_values(rt: HostRuntime) -> Tested {
-    let alloc = rt.alloc();
-    let value = nested(alloc, 1000)?;
-    let text = joined(alloc, &[("[", 1000), ("1", 1), ("]", 1000)])?;
-    expect_printed(&rt, alloc, &value, text.as_str())?;
-    expect_generated(&rt, alloc, &value, text.as_str())?;
+/// An object in an object, and so on.
+fn nested_objects(alloc: Global, depth: usize) -> Result<JsonValue> {
+    let mut value = JsonValue::from(1);
+    for _ in 0..depth {
+        let mut object = Object::new(alloc);
+        object.insert(alloc, "a", value)?;
+        value = JsonValue::Object(object);
+    }
+    Ok(value)
+}
+
+/// The value of this text is copied and printed, but the text isn't read.
+fn expect_deep(rt: &impl Abort, alloc: Global, value: &JsonValue, text: &str) -> Tested {
+    expect_printed(rt, alloc, value, text)?;
+    expect_generated(rt, alloc, value, text)?;
     let shown = format!(in alloc; "{value}")?;
-    expect(&rt, "Display", shown.as_str() == text.as_str());
+    expect(rt, "Display", shown.as_str() == text);
     let printed = stringify(alloc, value.clone(alloc)?)?;
-    expect(&rt, "stringify", printed.as_str() == text.as_str());
-    expect(&rt, "clone", value.clone(alloc)? == value);
-    expect(&rt, "std's clone", Clone::clone(&value)? == value);
-    let outcome = parse(alloc, text.as_str());
+    expect(rt, "stringify", printed.as_str() == text);
+    expect(rt, "clone", value.clone(alloc)? == *value);
+    expect(rt, "std's clone", Clone::clone(value)? == *value);
+    let outcome = parse(alloc, text);
     expect(
-        &rt,
+        rt,
         "parse",
         matches!(outcome, Err(Error::ExceededDepthLimit)),
     );
     Ok(())
+}
+
+/// More than 1,024, and deeper than any text that is read.
+const DEPTH: usize = 1100;
+
+#[test]
+fn deep_values(rt: HostRuntime) -> Tested {
+    let alloc = rt.alloc();
+    let text = joined(alloc, &[("[", DEPTH), ("1", 1), ("]", DEPTH)])?;
+    expect_deep(&rt, alloc, &nested(alloc, DEPTH)?, text.as_str())
+}
+
+#[test]
+fn deep_objects(rt: HostRuntime) -> Tested {
+    let alloc = rt.alloc();
+    let text = joined(alloc, &[("{\"a\":", DEPTH), ("1", 1), ("}", DEPTH)])?;
+    expect_deep(&rt, alloc, &nested_objects(alloc, DEPTH)?, text.as_str())
 }
 
 /// How a large object is made.
