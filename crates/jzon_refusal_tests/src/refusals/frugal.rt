@@ -91,6 +91,7 @@ enum Frugal {
     New,
     Inline,
     Parse,
+    TakeString,
 }
 
 /// Calls that read it, from both ends.
@@ -252,6 +253,7 @@ impl Frugal {
             Frugal::New => make_empty(alloc),
             Frugal::Inline => return make_inline(alloc),
             Frugal::Parse => return parse_primitives(alloc),
+            Frugal::TakeString => return of_truth(value.take_string(alloc)?.is_some()),
             _ => {
                 if let JsonValue::Object(object) = value {
                     return self.change(object, alloc);
@@ -343,6 +345,19 @@ const OF_ARRAY: &[(Frugal, &str)] = &[
     (Frugal::IntoJson, "into_json of an array"),
 ];
 
+/// The calls on a string that is allocated.
+const OF_STRING: &[(Frugal, &str)] = &[
+    (Frugal::TakeString, "take_string of an allocated string"),
+    (Frugal::Clear, "clear of a string"),
+    (Frugal::Take, "take of a string"),
+    (Frugal::Equal, "== of strings"),
+    (Frugal::Write, "what writes a string"),
+    (Frugal::Generate, "generators of a string"),
+    (Frugal::Admits, "admits of a string"),
+    (Frugal::Display, "Display of a string"),
+    (Frugal::IntoJson, "into_json of a string"),
+];
+
 /// Each call succeeds on a copy of the value, and requests no byte.
 fn expect_frugal(
     rt: &(impl Eprint + Abort),
@@ -365,7 +380,52 @@ fn expect_frugal(
 fn no_memory_counted(rt: HostRuntime) -> Tested {
     let alloc = rt.alloc();
     expect_frugal(&rt, alloc, &numbered(alloc)?, OF_OBJECT)?;
-    expect_frugal(&rt, alloc, &numbers(alloc)?, OF_ARRAY)
+    expect_frugal(&rt, alloc, &numbers(alloc)?, OF_ARRAY)?;
+    let long = JsonValue::String(joined(alloc, &[("plain\n", 20000)])?);
+    expect_frugal(&rt, alloc, &long, OF_STRING)
+}
+
+/// What makes an array of `COUNT` elements.
+#[derive(Clone, Copy)]
+enum Made {
+    OfList,
+    OfSlice,
+    Clone,
+    StdClone,
+}
+
+impl Made {
+    fn make(self, alloc: Global, list: Vec<u32>, array: &JsonValue) -> Result<JsonValue> {
+        match self {
+            Made::OfList => list.into_json(alloc),
+            Made::OfSlice => list.as_slice().into_json(alloc),
+            Made::Clone => array.clone(alloc),
+            Made::StdClone => Ok(Clone::clone(array)?),
+        }
+    }
+}
+
+const MADE: [(Made, &str); 4] = [
+    (Made::OfList, "into_json of a long list"),
+    (Made::OfSlice, "into_json of a long slice"),
+    (Made::Clone, "clone of a long array"),
+    (Made::StdClone, "std's Clone of a long array"),
+];
+
+/// Each requests the 48 bytes of each element, once.
+#[test]
+fn made_counted(rt: HostRuntime) -> Tested {
+    let alloc = rt.alloc();
+    let array = numbers(alloc)?;
+    for (call, name) in MADE {
+        let list: Vec<u32> = (0..COUNT).collect(alloc)?;
+        let mut refusals = Refusals::new(alloc);
+        refusals.open();
+        let made = call.make(alloc, list, &array)?;
+        refusals.expect_within(&rt, name, 48 * COUNT as usize)?;
+        expect(&rt, name, made == array);
+    }
+    Ok(())
 }
 
 /// What holds no more room than its parts need.

@@ -186,6 +186,15 @@ fn first_room_counted(rt: HostRuntime) -> Tested {
     Ok(())
 }
 
+/// An escape takes no memory for the text after its string.
+#[test]
+fn escapes_counted(rt: HostRuntime) -> Tested {
+    let alloc = rt.alloc();
+    let text = joined(alloc, &[("[\"\\n\",", 1), (" ", 100000), ("1]", 1)])?;
+    let name = "parse of an escape in a long text";
+    expect_parsed_within(&rt, alloc, name, text.as_str(), MOST_OF_TWO)
+}
+
 /// Eight times the 48 bytes of each key and each value that are gathered before one sort looks for
 /// a repeated key.
 const MOST_OF_GATHERED: usize = 8 * 96 * 256;
