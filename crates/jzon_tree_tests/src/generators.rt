@@ -192,8 +192,7 @@ impl Layout for Asked<'_> {
     ghost style_law = { λ _. IsStyle-any };
 }
 
-/// The order is asked for once for each of two objects, of which one is empty, by each call that
-/// takes a layout.
+/// The order is asked for once for each of two objects, of which one is empty.
 #[test]
 fn asks_for_each_order_once(rt: HostRuntime) -> Tested {
     let alloc = rt.alloc();
