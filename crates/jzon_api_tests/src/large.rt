@@ -1,6 +1,6 @@
 //! Values far beyond what is kept inline, compared in place, or made room for in advance: each call
 //! that may run out of memory succeeds at eleven hundred elements or entries, some at 70,000, at
-//! long strings, and at arrays a thousand deep.
+//! long strings, at 70,000 escapes, and at arrays a thousand deep.
 
 use crate::common::{Plain, Tested, expect};
 use jzon::codegen::{Compact, DumpGenerator, Pretty, PrettyGenerator, write_json};
@@ -159,6 +159,42 @@ fn long_strings_inside(rt: HostRuntime) -> Tested {
         let inside = joined(alloc, &[("[", 1), (text.as_str(), 1), ("]", 1)])?;
         let array = parse(alloc, inside.as_str())?;
         expect_whole(&rt, alloc, &array, inside.as_str(), inside.as_str())?;
+    }
+    Ok(())
+}
+
+/// A piece, how often a string has it, what comes after it, and both as they are printed.
+const ESCAPED: [(&str, usize, &str, &str, &str); 2] = [
+    ("ab\né", 70000, "", "ab\\né", ""),
+    ("plain", 40000, "\u{1}é\"", "plain", "\\u0001é\\\""),
+];
+
+/// The string prints this text, also as a key and its value in an object.
+fn expect_escaped(rt: &impl Abort, alloc: Global, string: &str, text: &str) -> Tested {
+    let value = string.into_json(alloc)?;
+    expect_printed(rt, alloc, &value, text)?;
+    expect_generated(rt, alloc, &value, text)?;
+    let printed = stringify(alloc, string)?;
+    expect(rt, "stringify", printed.as_str() == text);
+    let mut object = JsonValue::new_object(alloc);
+    object.insert(alloc, string, value)?;
+    let parts = [("{", 1), (text, 1), (":", 1), (text, 1), ("}", 1)];
+    let whole = joined(alloc, &parts)?;
+    expect_printed(rt, alloc, &object, whole.as_str())?;
+    let shown = format!(in alloc; "{object}")?;
+    expect(rt, "Display", shown.as_str() == whole.as_str());
+    Ok(())
+}
+
+/// 70,000 escapes, and escapes after 200,000 bytes.
+#[test]
+fn many_escapes(rt: HostRuntime) -> Tested {
+    let alloc = rt.alloc();
+    for (piece, count, end, printed, printed_end) in ESCAPED {
+        let string = joined(alloc, &[(piece, count), (end, 1)])?;
+        let parts = [("\"", 1), (printed, count), (printed_end, 1), ("\"", 1)];
+        let text = joined(alloc, &parts)?;
+        expect_escaped(&rt, alloc, string.as_str(), text.as_str())?;
     }
     Ok(())
 }
