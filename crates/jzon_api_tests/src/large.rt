@@ -1,6 +1,7 @@
-//! Values far beyond what is kept inline, compared in place, or made room for in advance: each call
-//! that may run out of memory succeeds at eleven hundred elements or entries, some at 70,000, at
-//! long strings, at 70,000 escapes, and at arrays a thousand deep.
+//! Values far beyond what is kept inline, compared in place, made room for in advance, or counted
+//! in 16 bits: each call that may run out of memory succeeds at eleven hundred elements or entries,
+//! those that make or print a value also at 70,000, at long strings, at 70,000 escapes, and at
+//! arrays a thousand deep.
 
 use crate::common::{Plain, Tested, expect};
 use jzon::codegen::{Compact, DumpGenerator, Pretty, PrettyGenerator, write_json};
@@ -302,6 +303,19 @@ fn long_arrays(rt: HostRuntime) -> Tested {
     Ok(())
 }
 
+#[test]
+fn many_elements(rt: HostRuntime) -> Tested {
+    let alloc = rt.alloc();
+    let text = array_text(alloc, MANY)?;
+    let whole = parse(alloc, text.as_str())?;
+    expect_printed(&rt, alloc, &whole, text.as_str())?;
+    expect_generated(&rt, alloc, &whole, text.as_str())?;
+    for array in arrays(alloc, MANY)? {
+        expect(&rt, "the whole", array == whole);
+    }
+    Ok(())
+}
+
 /// Texts of an array and an object of this length are read, also strictly.
 fn expect_length(rt: &impl Abort, alloc: Global, count: u32) -> Tested {
     let strict = Reading::new(true, 512).unwrap();
@@ -527,6 +541,20 @@ fn large_objects(rt: HostRuntime) -> Tested {
         expect(&rt, "remove", object.remove("00500").eq_u64(500));
         expect(&rt, "has_key", !object.has_key("00500"));
         expect(&rt, "at", object.at("01099").eq_u64(1099));
+    }
+    Ok(())
+}
+
+#[test]
+fn many_entries(rt: HostRuntime) -> Tested {
+    let alloc = rt.alloc();
+    let names = names(alloc, MANY)?;
+    let text = numbers_by_name(alloc, MANY)?;
+    let whole = parse(alloc, text.as_str())?;
+    expect_printed(&rt, alloc, &whole, text.as_str())?;
+    expect_generated(&rt, alloc, &whole, text.as_str())?;
+    for made in MADE {
+        expect(&rt, "the whole", made.make(alloc, &names)? == whole);
     }
     Ok(())
 }
