@@ -1,7 +1,7 @@
 //! Values far beyond what is kept inline, compared in place, made room for in advance, or counted
 //! in 16 bits: each call that may run out of memory succeeds at eleven hundred elements or entries,
-//! those that make or print a value also at 70,000, at long strings, at 70,000 escapes, and at
-//! arrays a thousand deep.
+//! those that make or print a value also at 70,000, at long strings, at 70,000 escapes, at arrays
+//! and objects 1,100 deep, and at the widest indents.
 
 use crate::common::{Plain, Tested, expect};
 use jzon::codegen::{Compact, DumpGenerator, Pretty, PrettyGenerator, write_json};
@@ -398,6 +398,43 @@ fn deep_objects(rt: HostRuntime) -> Tested {
     let alloc = rt.alloc();
     let text = joined(alloc, &[("{\"a\":", DEPTH), ("1", 1), ("}", DEPTH)])?;
     expect_deep(&rt, alloc, &nested_objects(alloc, DEPTH)?, text.as_str())
+}
+
+/// The parts of the text of `[[[1]]]` with the most spaces for each open container.
+const WIDE: [(&str, usize); 11] = [
+    ("[\n", 1),
+    (" ", 65535),
+    ("[\n", 1),
+    (" ", 131070),
+    ("[\n", 1),
+    (" ", 196605),
+    ("1\n", 1),
+    (" ", 131070),
+    ("]\n", 1),
+    (" ", 65535),
+    ("]\n]", 1),
+];
+
+#[test]
+fn the_widest_indents(rt: HostRuntime) -> Tested {
+    let alloc = rt.alloc();
+    let value = nested(alloc, 3)?;
+    let text = joined(alloc, &WIDE)?;
+    let text = text.as_str();
+    expect(&rt, "pretty", value.pretty(alloc, 65535)?.as_str() == text);
+    let laid_out = value.lay_out(alloc, Pretty(65535))?;
+    expect(&rt, "lay_out", laid_out.as_str() == text);
+    let mut bytes: Vec<u8> = Vec::new(alloc);
+    value.write_pretty(&mut bytes, 65535)?;
+    expect(&rt, "write_pretty", bytes.as_slice() == text.as_bytes());
+    let mut plain = Plain::new(alloc);
+    value.write_outlet(&mut plain, Pretty(65535))?;
+    let bytes = plain.bytes.as_slice();
+    expect(&rt, "write_outlet", bytes == text.as_bytes());
+    expect(&rt, "parse", parse(alloc, text)? == value);
+    let printed = stringify_pretty(alloc, value, 65535)?;
+    expect(&rt, "stringify_pretty", printed.as_str() == text);
+    Ok(())
 }
 
 /// How a large object is made.
