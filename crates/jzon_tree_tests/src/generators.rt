@@ -9,7 +9,9 @@ ghost use Rattle.jzon_tree.specs.Writing.{any_style, IsOrder};
 
 use crate::common::{Tested, expect, expect_bytes, expect_eq};
 use jzon_base::error::Error;
-use jzon_test_support::{RUNS_MAX, Refusals, SlowWriter, Trouble, keys_of_one_hash, object_text};
+use jzon_test_support::{
+    RUNS_MAX, Refusals, SlowWriter, Trouble, keys_by_hash, keys_of_one_hash, object_text,
+};
 use jzon_tree::codegen::{Generator, Layout, TextGenerator, write_json, write_object};
 use jzon_tree::object::Object;
 use jzon_tree::value::JsonValue;
@@ -18,6 +20,7 @@ use std::cell::Cell;
 use std::io;
 use std::io::ErrorKind;
 use std::process::Abort;
+use std::test::Fail;
 
 /// A user's layout: the entries of each object are in the order of their keys.
 #[derive(Drop)]
@@ -140,6 +143,66 @@ fn sorts_a_large_object(rt: HostRuntime) -> Tested {
     let mut bytes: Vec<u8> = Vec::new(alloc);
     value.write_layout(&mut bytes, Sorting { alloc })?;
     expect(&rt, "write_layout", bytes.as_slice() == sorted.as_bytes());
+    Ok(())
+}
+
+/// The order in which the last entry is first.
+fn reversed_order(alloc: Global, object: &Object) -> Result<Vec<usize>, AllocError>
+    ensures { IfOk result (λ positions. IsOrder
+        (length (keys_of (entries_of object.now))) positions.items) }
+{
+    let mut positions = insertion_order(alloc, object.len())?;
+    positions.reverse();
+    Ok(positions)
+}
+
+/// A layout in this order.
+#[derive(Clone, Copy)]
+pub struct Reversing {
+    pub alloc: Global,
+}
+
+impl Layout for Reversing {
+    ghost style = { λ _. any_style };
+
+    fn spaces(&self) -> Option<u16> {
+        None
+    }
+
+    fn order(&self, object: &Object) -> Result<Option<Vec<usize>>, AllocError> {
+        Ok(Some(reversed_order(self.alloc, object)?))
+    }
+
+    ghost style_law = { λ _. IsStyle-any };
+}
+
+/// An object of as many entries, and its text in this order.
+pub fn reversed_entries(alloc: Global, count: u32) -> Result<(Object, String), Fail> {
+    let mut keys = keys_by_hash(alloc, count)?;
+    let mut object = Object::new(alloc);
+    for key in &keys {
+        object.insert(alloc, key.as_str(), JsonValue::Null)?;
+    }
+    keys.reverse();
+    Ok((object, object_text(alloc, keys.as_slice())?))
+}
+
+/// An order has more positions than 16 bits can count.
+#[test]
+fn writes_many_entries_in_an_order(rt: HostRuntime) -> Tested {
+    let alloc = rt.alloc();
+    let layout = Reversing { alloc };
+    let (object, text) = reversed_entries(alloc, 70_000)?;
+    let mut generator = TextGenerator::in_memory(alloc, layout);
+    write_object(&mut generator, &object)?;
+    let written = generator.consume()?;
+    expect(&rt, "write_object", written.as_str() == text.as_str());
+    let value = JsonValue::Object(object);
+    let mut bytes: Vec<u8> = Vec::new(alloc);
+    write_json(&mut TextGenerator::to_writer(&mut bytes, layout), &value)?;
+    expect(&rt, "write_json", bytes.as_slice() == text.as_bytes());
+    let laid_out = value.lay_out(alloc, layout)?;
+    expect(&rt, "lay_out", laid_out.as_str() == text.as_str());
     Ok(())
 }
 

@@ -1,7 +1,7 @@
 //! A user's own outlet: a buffer that takes what it has room for at once.
 
 use crate::common::{Tested, expect, expect_bytes, expect_eq};
-use crate::generators::{Orderless, is_out_of_memory};
+use crate::generators::{Orderless, Reversing, is_out_of_memory, reversed_entries};
 use jzon_base::error::Result;
 use jzon_base::number::{NAN, Number};
 use jzon_tree::codegen::{Compact, Outlet, Pretty, push_digits, push_line, push_short};
@@ -181,5 +181,21 @@ fn returns_the_error_of_order(rt: HostRuntime) -> Tested {
     let result = array.write_outlet(&mut plain, Orderless);
     expect(&rt, "the error", is_out_of_memory(result));
     expect_bytes(&rt, &plain.bytes, "[");
+    Ok(())
+}
+
+/// In an order with more positions than 16 bits can count, also to a buffer with room.
+#[test]
+fn writes_many_entries_to_an_outlet(rt: HostRuntime) -> Tested {
+    let alloc = rt.alloc();
+    let (object, text) = reversed_entries(alloc, 70_000)?;
+    let value = JsonValue::Object(object);
+    for room in [0, text.len().saturating_add(34)] {
+        let mut buffer = Buffer::new(Vec::with_capacity(alloc, room)?);
+        value.write_outlet(&mut buffer, Reversing { alloc })?;
+        let bytes = buffer.bytes.as_slice();
+        expect(&rt, "the text", bytes == text.as_bytes());
+        expect_eq(&rt, "the keys", buffer.asked, 70_000);
+    }
     Ok(())
 }
