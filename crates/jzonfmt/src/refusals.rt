@@ -3,9 +3,10 @@
 
 use crate::engine;
 use crate::engine::{Layout, RunFault};
-use crate::tests::usual;
-use jzon_test_support::{DOCUMENT, DUMP, RUNS_MAX, Refusals};
+use crate::tests::{expect, usual};
+use jzon_test_support::{DOCUMENT, DUMP, RUNS_MAX, Refusals, SlowWriter, Trouble};
 use std::alloc::Global;
+use std::io::ErrorKind;
 use std::process::Abort;
 use std::test::Fail;
 
@@ -32,37 +33,97 @@ fn run_under_refusals(rt: HostRuntime) -> Result<(), Fail> {
     Ok(())
 }
 
+/// An input whose value takes no memory, or that is rejected; the status, what is written to
+/// standard output and to standard error, and the least number of allocations.
+type Driven = (&'static [u8], u8, &'static [u8], &'static [u8], usize);
+
+const DRIVEN: &[Driven] = &[
+    (b"-12.50e3", 0, b"-12500\n", b"", 3),
+    (
+        b"[\"a text of more than thirty bytes\",{\"a\":[1,]}]",
+        1,
+        b"",
+        b"jzonfmt: Unexpected character: ] at (1:45)\n",
+        6,
+    ),
+    (b"[\"\xff\"]", 1, b"", b"jzonfmt: input is not UTF-8\n", 2),
+];
+
 /// One run of `engine::drive`. Whether an allocation failed.
-fn drive(rt: &impl Abort, alloc: Global, refusals: &mut Refusals) -> Result<bool, Fail> {
-    let mut reader: &[u8] = b"-12.50e3";
+fn drive(
+    rt: &impl Abort,
+    alloc: Global,
+    refusals: &mut Refusals,
+    row: &Driven,
+) -> Result<bool, Fail> {
+    let mut reader = row.0;
     let mut writer: Vec<u8> = Vec::with_capacity(alloc, 64)?;
     let mut faults: Vec<u8> = Vec::with_capacity(alloc, 64)?;
     refusals.begin();
     let status = engine::drive(alloc, &[], &mut reader, &mut writer, &mut faults);
     let has_failed = refusals.has_failed();
     if has_failed {
-        assert_eq!(rt; status, 3);
-        assert_eq!(rt; faults.as_slice(), b"jzonfmt: Out of memory\n".as_slice());
-        assert!(rt; writer.is_empty());
+        expect(rt, "the status", status == 3);
+        let message = b"jzonfmt: Out of memory\n".as_slice();
+        expect(rt, "the message", faults.as_slice() == message);
+        expect(rt, "the output", writer.is_empty());
     } else {
-        assert_eq!(rt; status, 0);
-        assert!(rt; faults.is_empty());
-        assert_eq!(rt; writer.as_slice(), b"-12500\n".as_slice());
+        expect(rt, "the status", status == row.1);
+        expect(rt, "the message", faults.as_slice() == row.3);
+        expect(rt, "the output", writer.as_slice() == row.2);
     }
     Ok(has_failed)
 }
 
-#[test]
-fn drive_under_refusals(rt: HostRuntime) -> Result<(), Fail> {
-    let mut refusals = Refusals::new(rt.alloc());
+fn drive_each(rt: &(impl Eprint + Abort), alloc: Global, row: &Driven) -> Result<(), Fail> {
+    let mut refusals = Refusals::new(alloc);
     for _ in 0..RUNS_MAX {
         refusals.open();
-        let has_failed = drive(&rt, rt.alloc(), &mut refusals)?;
+        let has_failed = drive(rt, alloc, &mut refusals, row)?;
         refusals.close();
         if !has_failed {
             break;
         }
     }
-    refusals.report(&rt, "drive_under_refusals", 3)?;
+    refusals.report(rt, "drive", row.4)?;
+    Ok(())
+}
+
+/// Each run drops all that it allocates.
+#[test]
+fn drive_under_refusals(rt: HostRuntime) -> Result<(), Fail> {
+    for row in DRIVEN {
+        drive_each(&rt, rt.alloc(), row)?;
+    }
+    Ok(())
+}
+
+/// More than the input, the chunk and the buffer of a run take.
+const MOST_OF_FAILED: usize = 1 << 20;
+
+/// A run on a writer that fails at this call, and drops all.
+fn fail_at(rt: &impl Abort, alloc: Global, call: usize) {
+    let mut reader: &[u8] = b"-12.50e3";
+    let mut writer = SlowWriter::new(alloc, call, Trouble::Fails(ErrorKind::BrokenPipe));
+    let mut faults: Vec<u8> = Vec::new(alloc);
+    let status = engine::drive(alloc, &[], &mut reader, &mut writer, &mut faults);
+    expect(
+        rt,
+        "a writer that fails",
+        status == 3 && writer.calls == call,
+    );
+}
+
+/// A run whose writer fails drops all that it allocates.
+#[test]
+fn failed_writes_counted(rt: HostRuntime) -> Result<(), Fail> {
+    for call in 1..8 {
+        let mut refusals = Refusals::new(rt.alloc());
+        refusals.open();
+        fail_at(&rt, rt.alloc(), call);
+        refusals.close();
+        refusals.expect_within(&rt, "a run whose writer fails", MOST_OF_FAILED)?;
+        refusals.expect_even()?;
+    }
     Ok(())
 }
