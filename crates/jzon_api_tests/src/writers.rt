@@ -5,11 +5,12 @@ use jzon::codegen::{
     Compact, Outlet, Pretty, PrettyWriterGenerator, WriterGenerator, write_json, write_object,
 };
 use jzon::{JsonValue, parse};
-use jzon_test_support::{DOCUMENT, DUMP, NO_FAILING_CALL, PRETTY, SlowWriter, Trouble};
+use jzon_test_support::{DOCUMENT, DUMP, NO_FAILING_CALL, PRETTY, SlowWriter, Trouble, joined};
 use std::alloc::Global;
 use std::io;
 use std::io::{ErrorKind, Write};
 use std::process::Abort;
+use std::test::Fail;
 
 /// An outlet that takes nothing at once, over a writer.
 #[derive(Drop)]
@@ -55,24 +56,86 @@ const HOWS: [How; 9] = [
     How::Object,
 ];
 
+/// A value, its compact text, and its pretty text with this number of spaces.
+#[derive(Drop)]
+struct Sample {
+    value: JsonValue,
+    compact: String,
+    pretty: String,
+    spaces: u16,
+}
+
+/// A small one with a value of nearly each kind.
+fn small(alloc: Global) -> std::result::Result<Sample, Fail> {
+    Ok(Sample {
+        value: parse(alloc, DOCUMENT)?,
+        compact: String::from_str(alloc, DUMP)?,
+        pretty: String::from_str(alloc, PRETTY)?,
+        spaces: 2,
+    })
+}
+
+/// One with 40,000 elements, so that even its compact text is longer than 16 bits can count.
+fn large(alloc: Global) -> std::result::Result<Sample, Fail> {
+    let compact = joined(alloc, &[("{\"a\":[0", 1), (",0", 39999), ("]}", 1)])?;
+    let parts = [
+        ("{\n  \"a\": [\n    0", 1),
+        (",\n    0", 39999),
+        ("\n  ]\n}", 1),
+    ];
+    Ok(Sample {
+        value: parse(alloc, compact.as_str())?,
+        compact,
+        pretty: joined(alloc, &parts)?,
+        spaces: 2,
+    })
+}
+
+/// One whose lines begin with more spaces than are written at once.
+fn wide(alloc: Global) -> std::result::Result<Sample, Fail> {
+    let parts = [
+        ("{\n", 1),
+        (" ", 600),
+        ("\"a\": [\n", 1),
+        (" ", 1200),
+        ("0\n", 1),
+        (" ", 600),
+        ("]\n}", 1),
+    ];
+    Ok(Sample {
+        value: parse(alloc, "{\"a\":[0]}")?,
+        compact: String::from_str(alloc, "{\"a\":[0]}")?,
+        pretty: joined(alloc, &parts)?,
+        spaces: 600,
+    })
+}
+
 impl How {
-    fn text(self) -> &'static str {
+    fn text(self, sample: &Sample) -> &str {
         match self {
-            How::Compact | How::Layout | How::Outlet | How::Generator | How::Object => DUMP,
-            How::Pretty | How::PrettyLayout | How::PrettyOutlet | How::PrettyGenerator => PRETTY,
+            How::Compact | How::Layout | How::Outlet | How::Generator | How::Object => {
+                sample.compact.as_str()
+            }
+            How::Pretty | How::PrettyLayout | How::PrettyOutlet | How::PrettyGenerator => {
+                sample.pretty.as_str()
+            }
         }
     }
 
-    fn write(self, value: &JsonValue, writer: &mut SlowWriter) -> io::Result<()> {
+    fn write(self, sample: &Sample, writer: &mut SlowWriter) -> io::Result<()> {
+        let value = &sample.value;
+        let spaces = sample.spaces;
         match self {
             How::Compact => value.write(writer),
-            How::Pretty => value.write_pretty(writer, 2),
+            How::Pretty => value.write_pretty(writer, spaces),
             How::Layout => value.write_layout(writer, Compact),
-            How::PrettyLayout => value.write_layout(writer, Pretty(2)),
+            How::PrettyLayout => value.write_layout(writer, Pretty(spaces)),
             How::Outlet => value.write_outlet(&mut Over { writer }, Compact),
-            How::PrettyOutlet => value.write_outlet(&mut Over { writer }, Pretty(2)),
+            How::PrettyOutlet => value.write_outlet(&mut Over { writer }, Pretty(spaces)),
             How::Generator => write_json(&mut WriterGenerator::new(writer), value),
-            How::PrettyGenerator => write_json(&mut PrettyWriterGenerator::new(writer, 2), value),
+            How::PrettyGenerator => {
+                write_json(&mut PrettyWriterGenerator::new(writer, spaces), value)
+            }
             How::Object => match value.as_object() {
                 Some(object) => write_object(&mut WriterGenerator::new(writer), object),
                 None => Ok(()),
@@ -89,22 +152,34 @@ fn expect_prefix(rt: &impl Abort, writer: &SlowWriter, text: &str, call: usize) 
     expect(rt, "a prefix", text.as_bytes().starts_with(&writer.bytes));
 }
 
-/// The writer fails at each call in turn: the error is its own, and nothing is written after it.
+/// The writer fails at this call: the error is its own, and nothing is written after it.
+fn expect_stop(
+    rt: &impl Abort,
+    alloc: Global,
+    sample: &Sample,
+    how: How,
+    trouble: Trouble,
+    call: usize,
+) -> Tested {
+    let mut writer = SlowWriter::new(alloc, call, trouble);
+    match how.write(sample, &mut writer) {
+        Err(error) => expect(rt, "the error", trouble.is_returned(alloc, &error)?),
+        Ok(()) => expect(rt, "no error", false),
+    }
+    expect_prefix(rt, &writer, how.text(sample), call);
+    Ok(())
+}
+
+/// The writer fails at each call in turn.
 fn expect_stops(
     rt: &impl Abort,
     alloc: Global,
-    value: &JsonValue,
+    sample: &Sample,
     how: How,
     trouble: Trouble,
 ) -> Tested {
-    let text = how.text();
-    for call in 1..=text.len() {
-        let mut writer = SlowWriter::new(alloc, call, trouble);
-        match how.write(value, &mut writer) {
-            Err(error) => expect(rt, "the error", trouble.is_returned(alloc, &error)?),
-            Ok(()) => expect(rt, "no error", false),
-        }
-        expect_prefix(rt, &writer, text, call);
+    for call in 1..=how.text(sample).len() {
+        expect_stop(rt, alloc, sample, how, trouble, call)?;
     }
     Ok(())
 }
@@ -118,27 +193,63 @@ const TROUBLES: [Trouble; 4] = [
 
 #[test]
 fn stops_at_each_call_that_fails(rt: HostRuntime) -> Tested {
-    let value = parse(rt.alloc(), DOCUMENT)?;
+    let sample = small(rt.alloc())?;
     for how in HOWS {
         for trouble in TROUBLES {
-            expect_stops(&rt, rt.alloc(), &value, how, trouble)?;
+            expect_stops(&rt, rt.alloc(), &sample, how, trouble)?;
         }
+    }
+    Ok(())
+}
+
+/// The writer fails where 16 bits no longer count its calls, and at its last call.
+fn expect_late_stops(
+    rt: &impl Abort,
+    alloc: Global,
+    sample: &Sample,
+    how: How,
+    trouble: Trouble,
+) -> Tested {
+    for call in [65535, 65536, 65537, how.text(sample).len()] {
+        expect_stop(rt, alloc, sample, how, trouble, call)?;
+    }
+    Ok(())
+}
+
+#[test]
+fn stops_late(rt: HostRuntime) -> Tested {
+    let sample = large(rt.alloc())?;
+    for how in HOWS {
+        for trouble in [Trouble::TakesNothing, Trouble::Fails(ErrorKind::BrokenPipe)] {
+            expect_late_stops(&rt, rt.alloc(), &sample, how, trouble)?;
+        }
+    }
+    Ok(())
+}
+
+/// Also among the spaces of a line.
+#[test]
+fn stops_in_wide_lines(rt: HostRuntime) -> Tested {
+    let sample = wide(rt.alloc())?;
+    let trouble = Trouble::Fails(ErrorKind::BrokenPipe);
+    for how in HOWS {
+        expect_stops(&rt, rt.alloc(), &sample, how, trouble)?;
     }
     Ok(())
 }
 
 #[test]
 fn writes_the_whole_text(rt: HostRuntime) -> Tested {
-    let value = parse(rt.alloc(), DOCUMENT)?;
-    for how in HOWS {
-        let mut writer = SlowWriter::new(rt.alloc(), NO_FAILING_CALL, Trouble::TakesNothing);
-        how.write(&value, &mut writer)?;
-        expect(
-            &rt,
-            "the text",
-            writer.bytes.as_slice() == how.text().as_bytes(),
-        );
-        expect_eq(&rt, "the flushes", writer.flushes, 0);
+    let alloc = rt.alloc();
+    let samples = [small(alloc)?, large(alloc)?, wide(alloc)?];
+    for sample in &samples {
+        for how in HOWS {
+            let mut writer = SlowWriter::new(alloc, NO_FAILING_CALL, Trouble::TakesNothing);
+            how.write(sample, &mut writer)?;
+            let text = how.text(sample).as_bytes();
+            expect(&rt, "the text", writer.bytes.as_slice() == text);
+            expect_eq(&rt, "the flushes", writer.flushes, 0);
+        }
     }
     Ok(())
 }
