@@ -5,7 +5,9 @@ use jzon::codegen::{
     Compact, Outlet, Pretty, PrettyWriterGenerator, WriterGenerator, write_json, write_object,
 };
 use jzon::{JsonValue, parse};
-use jzon_test_support::{DOCUMENT, DUMP, NO_FAILING_CALL, PRETTY, SlowWriter, Trouble, joined};
+use jzon_test_support::{
+    DOCUMENT, DUMP, NO_FAILING_CALL, PRETTY, Refusals, SlowWriter, Trouble, joined,
+};
 use std::alloc::Global;
 use std::io;
 use std::io::{ErrorKind, Write};
@@ -234,6 +236,25 @@ fn stops_in_wide_lines(rt: HostRuntime) -> Tested {
     let trouble = Trouble::Fails(ErrorKind::BrokenPipe);
     for how in HOWS {
         expect_stops(&rt, rt.alloc(), &sample, how, trouble)?;
+    }
+    Ok(())
+}
+
+/// More than what was written before each failing call takes, with the words of the errors.
+const MOST_OF_FAILED: usize = 1 << 20;
+
+/// A write that fails drops all that it allocates, its error too.
+#[test]
+fn failed_writes_counted(rt: HostRuntime) -> Tested {
+    let sample = small(rt.alloc())?;
+    let trouble = Trouble::Fails(ErrorKind::BrokenPipe);
+    for how in HOWS {
+        let mut refusals = Refusals::new(rt.alloc());
+        refusals.open();
+        expect_stops(&rt, rt.alloc(), &sample, how, trouble)?;
+        refusals.close();
+        refusals.expect_within(&rt, "writes that fail", MOST_OF_FAILED)?;
+        refusals.expect_even()?;
     }
     Ok(())
 }
