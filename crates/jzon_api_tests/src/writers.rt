@@ -205,25 +205,13 @@ fn stops_at_each_call_that_fails(rt: HostRuntime) -> Tested {
 }
 
 /// The writer fails where 16 bits no longer count its calls, and at its last call.
-fn expect_late_stops(
-    rt: &impl Abort,
-    alloc: Global,
-    sample: &Sample,
-    how: How,
-    trouble: Trouble,
-) -> Tested {
-    for call in [65535, 65536, 65537, how.text(sample).len()] {
-        expect_stop(rt, alloc, sample, how, trouble, call)?;
-    }
-    Ok(())
-}
-
 #[test]
 fn stops_late(rt: HostRuntime) -> Tested {
     let sample = large(rt.alloc())?;
+    let trouble = Trouble::Fails(ErrorKind::BrokenPipe);
     for how in HOWS {
-        for trouble in [Trouble::TakesNothing, Trouble::Fails(ErrorKind::BrokenPipe)] {
-            expect_late_stops(&rt, rt.alloc(), &sample, how, trouble)?;
+        for call in [65535, 65536, 65537, how.text(&sample).len()] {
+            expect_stop(&rt, rt.alloc(), &sample, how, trouble, call)?;
         }
     }
     Ok(())
