@@ -2,7 +2,11 @@
 
 use crate::common::{expect, expect_eq};
 use jzon_base::error::Error;
-use jzon_test_support::joined;
+use jzon_test_support::{NO_FAILING_CALL, joined};
+use std::alloc::Global;
+use std::fmt;
+use std::fmt::Write;
+use std::process::Abort;
 use std::test::Fail;
 
 #[test]
@@ -55,6 +59,79 @@ fn keeps_a_long_word(rt: HostRuntime) -> std::result::Result<(), Fail> {
     match error {
         Error::WrongType(words) => expect(&rt, "the word", words.as_str() == word.as_str()),
         _ => expect(&rt, "another error", false),
+    }
+    Ok(())
+}
+
+/// Takes one piece a call, and fails at one call.
+#[derive(Drop)]
+struct FailingFormatter {
+    text: String,
+    calls: usize,
+    fails_at: usize,
+}
+
+impl fmt::Write for FailingFormatter {
+    fn write_str(&mut self, piece: &str) -> fmt::Result {
+        self.calls = self.calls.saturating_add(1);
+        if self.calls == self.fails_at {
+            return Err(fmt::Error);
+        }
+        match self.text.push_str(piece) {
+            Ok(()) => Ok(()),
+            Err(_) => Err(fmt::Error),
+        }
+    }
+}
+
+/// Shows the error to a formatter that fails at this call: whether that succeeds, and the
+/// formatter.
+fn show_failing(alloc: Global, error: &Error, fails_at: usize) -> (bool, FailingFormatter) {
+    let mut formatter = FailingFormatter {
+        text: String::new(alloc),
+        calls: 0,
+        fails_at,
+    };
+    let is_shown = write!(formatter, "{error}").is_ok();
+    (is_shown, formatter)
+}
+
+/// The formatter fails at each call in turn: there is an error, a prefix of the message was shown,
+/// and nothing is shown after it.
+fn expect_stops(rt: &impl Abort, alloc: Global, error: &Error, message: &str) {
+    let (is_shown, formatter) = show_failing(alloc, error, NO_FAILING_CALL);
+    expect(rt, message, is_shown && formatter.text.as_str() == message);
+    for call in 1..=formatter.calls {
+        let (is_shown, stopped) = show_failing(alloc, error, call);
+        expect(rt, message, !is_shown && stopped.calls == call);
+        expect(rt, message, message.starts_with(stopped.text.as_str()));
+    }
+}
+
+#[test]
+fn stops_where_the_formatter_fails(rt: HostRuntime) -> std::result::Result<(), Fail> {
+    let alloc = rt.alloc();
+    let rows = [
+        (
+            Error::UnexpectedCharacter {
+                ch: 'X',
+                line: 3,
+                column: 4,
+            },
+            "Unexpected character: X at (3:4)",
+        ),
+        (Error::UnexpectedEndOfJson, "Unexpected end of JSON"),
+        (
+            Error::DuplicateKey { line: 1, column: 8 },
+            "Duplicate key at (1:8)",
+        ),
+        (
+            Error::wrong_type(alloc, "Array")?,
+            "Wrong type, expected: Array",
+        ),
+    ];
+    for (error, message) in &rows {
+        expect_stops(&rt, alloc, error, message);
     }
     Ok(())
 }
