@@ -266,20 +266,48 @@ fn insert_each(pairs: &mut Pairs<u32>, alloc: Global, keys: &[String]) -> Result
     insert_first(pairs, alloc, keys, keys.len())
 }
 
-/// Fills pairs that have room for these keys. No memory is requested: the first allocation would
-/// fail.
+/// The same by `place`.
+fn place_each(pairs: &mut Pairs<u32>, alloc: Global, keys: &[String]) -> Result<(), AllocError> {
+    for key in keys {
+        pairs.place(alloc, key.as_str(), 0)?;
+    }
+    Ok(())
+}
+
+/// Fills pairs that have room for these keys, by `place` or by `insert`. No memory is requested: the
+/// first allocation would fail.
 fn expect_room(
     rt: &impl Abort,
     alloc: Global,
     refusals: &mut Refusals,
     pairs: &mut Pairs<u32>,
     keys: &[String],
+    are_placed: bool,
 ) {
     refusals.begin();
-    let inserted = insert_each(pairs, alloc, keys);
+    let outcome = if are_placed {
+        place_each(pairs, alloc, keys)
+    } else {
+        insert_each(pairs, alloc, keys)
+    };
     let has_failed = refusals.has_failed();
-    expect(rt, "no allocation", !has_failed && inserted.is_ok());
+    expect(rt, "no allocation", !has_failed && outcome.is_ok());
     expect_eq(rt, "the number of pairs", pairs.len(), keys.len());
+}
+
+/// Pairs of these keys, in room that they got by `with_capacity` and that `clear` kept.
+fn in_room(
+    rt: &impl Abort,
+    alloc: Global,
+    refusals: &mut Refusals,
+    keys: &[String],
+    are_placed: bool,
+) -> Result<Pairs<u32>, AllocError> {
+    let mut pairs = Pairs::with_capacity(alloc, keys.len())?;
+    expect_room(rt, alloc, refusals, &mut pairs, keys, are_placed);
+    pairs.clear();
+    expect_room(rt, alloc, refusals, &mut pairs, keys, are_placed);
+    Ok(pairs)
 }
 
 /// How many pairs there is room for: the index has room for up to 1,024.
@@ -290,10 +318,8 @@ const ROOMS: [u32; 3] = [16, 100, 1024];
 fn expect_capacity(rt: &impl Abort, alloc: Global, count: u32) -> Result<Refusals, Fail> {
     let keys = keys_by_hash(alloc, count)?;
     let mut refusals = Refusals::new(alloc);
-    let mut pairs = Pairs::with_capacity(alloc, keys.len())?;
-    expect_room(rt, alloc, &mut refusals, &mut pairs, keys.as_slice());
-    pairs.clear();
-    expect_room(rt, alloc, &mut refusals, &mut pairs, keys.as_slice());
+    drop(in_room(rt, alloc, &mut refusals, keys.as_slice(), true)?);
+    let mut pairs = in_room(rt, alloc, &mut refusals, keys.as_slice(), false)?;
     for _ in 0..RUNS_MAX {
         refusals.begin();
         let inserted = pairs.insert(alloc, "one more", 0);
