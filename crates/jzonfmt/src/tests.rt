@@ -169,6 +169,9 @@ fn lines_and_statuses(rt: HostRuntime) -> Result<(), Fail> {
         rejected(b"x\xc3", "jzonfmt: input is not UTF-8\n"),
         rejected(b"null\xed\xa0\x80", "jzonfmt: input is not UTF-8\n"),
         rejected(b"[\n}", "jzonfmt: Unexpected character: } at (2:1)\n"),
+        // Control characters are printed as they are.
+        rejected(b"[\x1b", "jzonfmt: Unexpected character: \u{1b} at (1:2)\n"),
+        rejected(b"\"a\n\"", "jzonfmt: Unexpected character: \n at (1:3)\n"),
         rejected(
             b"\n\nnul\xf0\x9f\xa6\x84\n",
             "jzonfmt: Unexpected character: 🦄 at (3:4)\n",
@@ -609,6 +612,50 @@ fn drive_flushes_what_it_wrote(rt: HostRuntime) -> Result<(), Fail> {
         assert_eq!(rt; writer.bytes.as_slice(), PRINTED);
         assert_eq!(rt; writer.flushes, 1);
     }
+    Ok(())
+}
+
+/// Takes all bytes, and its first flush is interrupted.
+#[derive(Drop)]
+struct InterruptedWriter {
+    bytes: Vec<u8>,
+    flushes: usize,
+}
+
+impl io::Write for InterruptedWriter {
+    ghost contents = { λ writer. Some writer.bytes.items };
+
+    fn write(&mut self, buf: &[u8]) -> io::Result<usize> {
+        self.bytes.extend_from_slice(buf)?;
+        Ok(buf.len())
+    }
+
+    fn flush(&mut self) -> io::Result<()> {
+        self.flushes = self.flushes.saturating_add(1);
+        if self.flushes == 1 {
+            Err(io::Error::from(ErrorKind::Interrupted))
+        } else {
+            Ok(())
+        }
+    }
+}
+
+/// A flush that is interrupted has failed too: there is no other one.
+#[test]
+fn drive_flushes_once(rt: HostRuntime) -> Result<(), Fail> {
+    let alloc = rt.alloc();
+    let mut reader = TEXT;
+    let mut writer = InterruptedWriter {
+        bytes: Vec::new(alloc),
+        flushes: 0,
+    };
+    let mut faults: Vec<u8> = Vec::new(alloc);
+    let status = engine::drive(alloc, &[], &mut reader, &mut writer, &mut faults);
+    expect(&rt, "the status", status == 3);
+    let message = b"jzonfmt: writing failed\n".as_slice();
+    expect(&rt, "the message", faults.as_slice() == message);
+    expect(&rt, "the output", writer.bytes.as_slice() == PRINTED);
+    expect(&rt, "the flushes", writer.flushes == 1);
     Ok(())
 }
 
