@@ -7,7 +7,7 @@ ghost use Rattle.jzon_tree.specs.Readers.{entries};
 ghost use Rattle.jzon_tree.specs.Value.{null, array, object, values_of, pairs_of};
 ghost use Rattle.jzon_tree.specs.View.{view};
 
-use crate::common::{Tested, expect, expect_dump, expect_text, number};
+use crate::common::{Tested, expect, expect_dump, expect_text, long, number};
 use jzon::lent::{write_at, write_at_index, write_present};
 use jzon::object::Object;
 use jzon::{JsonValue, Result, parse};
@@ -123,6 +123,18 @@ const EACH_KIND: &[&str] = &[
 fn borrows_nothing_of_another_kind(rt: HostRuntime) -> Tested {
     for text in EACH_KIND {
         borrow_nothing(&rt, rt.alloc(), text)?;
+    }
+    Ok(())
+}
+
+/// A short string that is allocated stays so.
+#[test]
+fn borrows_nothing_of_an_allocated_string(rt: HostRuntime) -> Tested {
+    for text in ["", "a", "abcdefghijklmnopqrstuvwxyz0123"] {
+        let mut value = long(rt.alloc(), text)?;
+        let has_none = value.members_mut().next().is_none() && value.entries_mut().next().is_none();
+        expect(&rt, text, has_none && value.eq_str(text));
+        expect(&rt, text, matches!(value, JsonValue::String(_)));
     }
     Ok(())
 }

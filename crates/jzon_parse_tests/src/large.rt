@@ -132,6 +132,26 @@ fn reads_large_texts(rt: HostRuntime) -> Result<(), Fail> {
     Ok(())
 }
 
+/// A container after one of its depth that has more elements or entries than 16 bits can count.
+#[test]
+fn reads_containers_after_large_ones(rt: HostRuntime) -> Result<(), Fail> {
+    let alloc = rt.alloc();
+    let object = object_text(alloc, keys_by_hash(alloc, 70000)?.as_slice())?;
+    let parts = [
+        ("[[0", 1),
+        (",0", 70000),
+        ("],[1],", 1),
+        (object.as_str(), 1),
+        (",{\"a\":null},[{}]]", 1),
+    ];
+    let text = joined(alloc, &parts)?;
+    for strict in [false, true] {
+        let value = read(alloc, strict, 512, text.as_str())?;
+        expect_dump(&rt, alloc, &value, text.as_str())?;
+    }
+    Ok(())
+}
+
 /// What the text means by a reading of this strictness and depth.
 fn read(alloc: Global, strict: bool, depth: u16, text: &str) -> jzon::Result<jzon::JsonValue> {
     match Reading::new(strict, depth) {

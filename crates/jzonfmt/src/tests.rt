@@ -544,12 +544,14 @@ fn writes_seldom(rt: HostRuntime) -> Result<(), Fail> {
     Ok(())
 }
 
-/// Strings of more plain bytes than the buffer holds, at its start and after other bytes, and a
-/// writer that fails in the second buffer.
+/// Strings of more plain bytes than the buffer holds, at its start and after other bytes, and one
+/// whose text fills it, so that only the newline has no room; and a writer that fails in the second
+/// buffer.
 #[test]
 fn prints_strings_longer_than_the_buffer(rt: HostRuntime) -> Result<(), Fail> {
     let alloc = rt.alloc();
     for (before, count, after) in [
+        ("\"", 65534, "\""),
         ("\"", 65536, "\""),
         ("\"", 200000, "\""),
         ("[1,\"\\n", 65534, "\",2]"),
@@ -558,7 +560,7 @@ fn prints_strings_longer_than_the_buffer(rt: HostRuntime) -> Result<(), Fail> {
         let text = joined(alloc, &[(before, 1), ("p", count), (after, 1)])?;
         expect_printed(&rt, alloc, text.as_str(), text.as_str())?;
         let trouble = Trouble::Fails(ErrorKind::BrokenPipe);
-        for call in [1, 65536, 65538] {
+        for call in [1, 65536, 65538.min(text.len() + 1)] {
             let mut reader = text.as_bytes();
             let mut slow = SlowWriter::new(alloc, call, trouble);
             let outcome = engine::run(alloc, &mut reader, &mut slow, &usual(), Layout::Compact);

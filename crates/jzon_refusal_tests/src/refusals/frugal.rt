@@ -76,6 +76,7 @@ enum Frugal {
     Clear,
     Take,
     Read,
+    Lend,
     Equal,
     Write,
     Generate,
@@ -101,6 +102,18 @@ fn read(value: &JsonValue) -> bool {
     let has_null = value.contains(&JsonValue::Null) || value.has_key("null");
     let last = value.members().rev().next().is_some() || value.entries().rev().next().is_some();
     is_there && last && !has_null && !value.eq_str("1") && value.len() >= COUNT as usize
+}
+
+/// Calls that lend its parts, also from the back.
+fn lend(value: &mut JsonValue) -> bool {
+    let has_members = value.members_mut().rev().next().is_some() && value.as_array_mut().is_some();
+    let has_entries = value.entries_mut().rev().next().is_some();
+    if let Some(object) = value.as_object_mut() {
+        return has_entries
+            && object.iter_mut().next().is_some()
+            && object.get_index_mut(1).is_some();
+    }
+    has_members == value.is_array()
 }
 
 /// Half of the entries, and the last one.
@@ -239,6 +252,7 @@ impl Frugal {
             Frugal::Clear => value.clear(),
             Frugal::Take => drop(value.take()),
             Frugal::Read => return of_truth(read(value)),
+            Frugal::Lend => return of_truth(lend(value)),
             Frugal::Equal => {
                 let whole = &*value;
                 return of_truth(*whole == *whole);
@@ -316,6 +330,7 @@ const OF_OBJECT: &[(Frugal, &str)] = &[
     (Frugal::Clear, "clear of an object"),
     (Frugal::Take, "take of an object"),
     (Frugal::Read, "readers of an object"),
+    (Frugal::Lend, "what lends parts of an object"),
     (Frugal::Equal, "== of objects"),
     (Frugal::Write, "what writes an object"),
     (Frugal::Generate, "generators of an object"),
@@ -337,6 +352,7 @@ const OF_ARRAY: &[(Frugal, &str)] = &[
     (Frugal::Clear, "clear of an array"),
     (Frugal::Take, "take of an array"),
     (Frugal::Read, "readers of an array"),
+    (Frugal::Lend, "what lends parts of an array"),
     (Frugal::Equal, "== of arrays"),
     (Frugal::Write, "what writes an array"),
     (Frugal::Generate, "generators of an array"),
@@ -350,6 +366,7 @@ const OF_STRING: &[(Frugal, &str)] = &[
     (Frugal::TakeString, "take_string of an allocated string"),
     (Frugal::Clear, "clear of a string"),
     (Frugal::Take, "take of a string"),
+    (Frugal::Lend, "what lends parts of a string"),
     (Frugal::Equal, "== of strings"),
     (Frugal::Write, "what writes a string"),
     (Frugal::Generate, "generators of a string"),
@@ -457,6 +474,31 @@ fn roomy_object(alloc: Global) -> Result<Object> {
         object.insert(alloc, key, JsonValue::Null)?;
     }
     Ok(object)
+}
+
+/// What removes elements or entries that have far more room than they need.
+fn remove_each(array: &mut JsonValue, object: &mut Object) {
+    drop(array.array_remove(1));
+    drop(object.remove("c"));
+    object.retain(|key, _value| key != "d");
+    for key in ["e", "a", "b"] {
+        drop(array.pop());
+        drop(object.remove(key));
+    }
+    drop(array.array_remove(0));
+}
+
+/// The room stays as it is: nothing is requested.
+#[test]
+fn removals_counted(rt: HostRuntime) -> Tested {
+    let mut array = roomy_array(rt.alloc())?;
+    let mut object = roomy_object(rt.alloc())?;
+    let mut refusals = Refusals::new(rt.alloc());
+    refusals.open();
+    remove_each(&mut array, &mut object);
+    refusals.expect_within(&rt, "removals from much room", 0)?;
+    expect(&rt, "what is left", array.is_empty() && object.is_empty());
+    Ok(())
 }
 
 /// Five nulls of a builder with room for a hundred.
