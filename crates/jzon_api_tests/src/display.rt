@@ -3,10 +3,8 @@
 use crate::common::{expect, expect_eq};
 use jzon::number::NAN;
 use jzon::{JsonValue, parse};
-use jzon_test_support::{NO_FAILING_CALL, joined};
+use jzon_test_support::{NO_FAILING_CALL, joined, show_failing};
 use std::alloc::Global;
-use std::fmt;
-use std::fmt::Write;
 use std::process::Abort;
 use std::test::Fail;
 
@@ -47,39 +45,6 @@ fn shows(rt: HostRuntime) -> Result<(), Fail> {
     expect_shown(&rt, alloc, &JsonValue::Number(NAN), "nan")?;
     let array = jzon::array![alloc; JsonValue::Number(NAN)];
     expect_shown(&rt, alloc, &array, "[null]")
-}
-
-/// Takes one piece a call, and fails at one call.
-#[derive(Drop)]
-struct FailingFormatter {
-    text: String,
-    calls: usize,
-    fails_at: usize,
-}
-
-impl fmt::Write for FailingFormatter {
-    fn write_str(&mut self, piece: &str) -> fmt::Result {
-        self.calls = self.calls.saturating_add(1);
-        if self.calls == self.fails_at {
-            return Err(fmt::Error);
-        }
-        match self.text.push_str(piece) {
-            Ok(()) => Ok(()),
-            Err(_) => Err(fmt::Error),
-        }
-    }
-}
-
-/// Shows the value to a formatter that fails at this call: whether that succeeds, and the
-/// formatter.
-fn show_failing(alloc: Global, value: &JsonValue, fails_at: usize) -> (bool, FailingFormatter) {
-    let mut formatter = FailingFormatter {
-        text: String::new(alloc),
-        calls: 0,
-        fails_at,
-    };
-    let is_shown = write!(formatter, "{value}").is_ok();
-    (is_shown, formatter)
 }
 
 /// The formatter fails at this call: there is an error, a prefix was shown, and nothing is shown

@@ -303,10 +303,7 @@ impl<V> Pairs<V> {
         if let Some(entries) = &mut self.entries {
             return entries.insert_owned(alloc, key, value);
         }
-        let mut entries = Box::new(alloc, Entries::new(alloc))?;
-        entries.insert_owned(alloc, key, value)?;
-        self.entries = Some(entries);
-        Ok(())
+        self.insert_first(alloc, key.as_str(), value)
     }
 
     /// The position of a key. Where the key is missing it is put last with `value`, and the error

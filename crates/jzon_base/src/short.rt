@@ -54,7 +54,7 @@ impl Short {
         }
     }
 
-    /// A copy. It takes no call of a function that copies bytes, as `from_slice` does.
+    /// A copy, with its unused bytes. Unlike `from_slice`, it calls no function that copies bytes.
     #[doc(hidden)]
     #[inline(always)]
     pub fn copy_fields(&self) -> Short

@@ -2,10 +2,8 @@
 
 use crate::common::{expect, expect_eq};
 use jzon_base::error::Error;
-use jzon_test_support::{NO_FAILING_CALL, joined};
+use jzon_test_support::{NO_FAILING_CALL, joined, show_failing};
 use std::alloc::Global;
-use std::fmt;
-use std::fmt::Write;
 use std::process::Abort;
 use std::test::Fail;
 
@@ -61,39 +59,6 @@ fn keeps_a_long_word(rt: HostRuntime) -> std::result::Result<(), Fail> {
         _ => expect(&rt, "another error", false),
     }
     Ok(())
-}
-
-/// Takes one piece a call, and fails at one call.
-#[derive(Drop)]
-struct FailingFormatter {
-    text: String,
-    calls: usize,
-    fails_at: usize,
-}
-
-impl fmt::Write for FailingFormatter {
-    fn write_str(&mut self, piece: &str) -> fmt::Result {
-        self.calls = self.calls.saturating_add(1);
-        if self.calls == self.fails_at {
-            return Err(fmt::Error);
-        }
-        match self.text.push_str(piece) {
-            Ok(()) => Ok(()),
-            Err(_) => Err(fmt::Error),
-        }
-    }
-}
-
-/// Shows the error to a formatter that fails at this call: whether that succeeds, and the
-/// formatter.
-fn show_failing(alloc: Global, error: &Error, fails_at: usize) -> (bool, FailingFormatter) {
-    let mut formatter = FailingFormatter {
-        text: String::new(alloc),
-        calls: 0,
-        fails_at,
-    };
-    let is_shown = write!(formatter, "{error}").is_ok();
-    (is_shown, formatter)
 }
 
 /// The formatter fails at each call in turn: there is an error, a prefix of the message was shown,

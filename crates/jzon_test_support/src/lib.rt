@@ -1,11 +1,13 @@
-//! Shared by the tests of several crates: runs with failing allocations, a writer that fails, long
-//! texts, hostile keys, and a sample text.
+//! Shared by the tests of several crates: runs with failing allocations, a writer and a formatter
+//! that fail, long texts, hostile keys, and a sample text.
 #![tactic(auto)]
 
+mod failing_formatter;
 mod keys;
 mod refusals;
 mod slow_writer;
 
+pub use failing_formatter::{FailingFormatter, show_failing};
 pub use keys::{keys_by_hash, keys_of_one_hash, object_text};
 pub use refusals::{RUNS_MAX, Refusals};
 pub use slow_writer::{NO_FAILING_CALL, SlowWriter, Trouble, WORDS, is_same_error};

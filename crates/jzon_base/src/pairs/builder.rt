@@ -108,6 +108,8 @@ impl<V: Drop> Gathered<V> {
 
     /// The entries as `Pairs`, which take them over. The error is a failed allocation, and then
     /// they stay.
+    ///
+    /// Inlined with what it calls for few keys, because each small object ends here.
     #[inline(always)]
     fn settle(&mut self, alloc: Global) -> Result<Pairs<V>, AllocError>
         ensures ok { IfOk result (λ p. p ≡ self.old) }

@@ -565,9 +565,9 @@ fn room_counted(rt: HostRuntime) -> Tested {
     Ok(())
 }
 
-/// The most bytes that the index of `COUNT` keys requests while it grows: its 16 bytes of each key
-/// up to 18 times. Keys and values that grow once request 96 more bytes for each key.
-const MOST_OF_INDEX: usize = 288 * COUNT as usize;
+/// The most bytes that the index of `COUNT` keys requests while it grows. Keys and values that grow
+/// once request 96 more bytes for each key.
+const MOST_OF_INDEX: usize = 256 * COUNT as usize;
 
 /// The bytes of `COUNT` keys and values, and of an index of up to 1,024 of them with what is beside.
 const MOST_OF_CAPACITY: usize = 96 * COUNT as usize + 32 * 1024;
