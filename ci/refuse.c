@@ -1,6 +1,7 @@
 /*
  * Makes one chosen allocation of a program fail, so that a test can check what the program does then, and counts what the program has allocated, so that a
- * test can check that it frees all of it, and how much it requests.
+ * test can check that it frees all of it, and how much it requests. A program that ends and hasn't freed each of its blocks says so, and has the status 3, unless
+ * the environment has a variable KEEPS.
  *
  * It is loaded before the C library (LD_PRELOAD) and replaces its malloc, calloc, realloc and free. Each call of one of the first three is an allocation,
  * the growth of a block too. A test controls it by allocations of marked sizes, which no system can serve: without this library they fail, so the test knows
@@ -18,6 +19,9 @@
  * all memory comes from the C library. Only one thread may allocate at a time.
  */
 #include <stddef.h>
+#include <stdio.h>
+#include <stdlib.h>
+#include <unistd.h>
 
 /* The C library's own functions, under their second names. */
 extern void *__libc_malloc(size_t size);
@@ -39,6 +43,9 @@ static int has_failed = 0;
 static long blocks = 0;
 static long held = 0;
 static size_t bytes = 0;
+
+/* Blocks allocated less those freed, since the program began. */
+static long left = 0;
 
 /* What a marked allocation gets. */
 static char granted;
@@ -102,6 +109,7 @@ static void *counted(void *block, size_t size, int is_new)
 {
     if (block != NULL) {
         blocks += is_new;
+        left += is_new;
         held += (long)malloc_usable_size(block);
         bytes += size;
     }
@@ -135,6 +143,15 @@ void free(void *block)
     if (block == NULL || block == &granted)
         return;
     blocks--;
+    left--;
     held -= (long)malloc_usable_size(block);
     __libc_free(block);
+}
+
+__attribute__((destructor)) static void expect_all_freed(void)
+{
+    if (left == 0 || getenv("KEEPS") != NULL)
+        return;
+    dprintf(STDERR_FILENO, "ci/refuse.c: %ld blocks weren't freed\n", left);
+    _exit(3);
 }

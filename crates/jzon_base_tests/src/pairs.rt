@@ -337,7 +337,7 @@ fn expect_capacity(rt: &impl Abort, alloc: Global, count: u32) -> Result<Refusal
 fn room_for_pairs_under_refusals(rt: HostRuntime) -> Result<(), Fail> {
     for count in ROOMS {
         let refusals = expect_capacity(&rt, rt.alloc(), count)?;
-        refusals.report(&rt, "Pairs::insert past the room", 2)?;
+        refusals.report_from(&rt, "Pairs::insert past the room", 2)?;
     }
     Ok(())
 }

@@ -1,6 +1,6 @@
 //! Large texts, faults late in them, each depth, and what is left of a text that is rejected.
 
-use crate::common::{expect, expect_dump, expect_eq};
+use crate::common::{expect, expect_dump, expect_eq, expect_rejected};
 use jzon::{Error, Reading, parse, parse_as};
 use jzon_test_support::{RUNS_MAX, Refusals, joined, keys_by_hash, object_text};
 use std::alloc::Global;
@@ -152,6 +152,18 @@ fn reads_containers_after_large_ones(rt: HostRuntime) -> Result<(), Fail> {
     Ok(())
 }
 
+/// An array after a large object of its depth gets room for few elements.
+#[test]
+fn makes_little_room_after_a_large_object(rt: HostRuntime) -> Result<(), Fail> {
+    let alloc = rt.alloc();
+    let object = object_text(alloc, keys_by_hash(alloc, 1000)?.as_slice())?;
+    let text = joined(alloc, &[("[", 1), (object.as_str(), 1), (",[1]]", 1)])?;
+    let value = parse(alloc, text.as_str())?;
+    let room = value.at_index(1).as_array().map(|items| items.capacity());
+    expect(&rt, "the room", room.is_some_and(|room| room <= 4));
+    Ok(())
+}
+
 /// What the text means by a reading of this strictness and depth.
 fn read(alloc: Global, strict: bool, depth: u16, text: &str) -> jzon::Result<jzon::JsonValue> {
     match Reading::new(strict, depth) {
@@ -270,10 +282,14 @@ const REJECTED: &[(bool, Parts, &str)] = &[
     ),
 ];
 
+/// Also by `parse`, if the reading isn't strict.
 #[test]
 fn rejects_late_faults(rt: HostRuntime) -> Result<(), Fail> {
     for (strict, parts, message) in REJECTED {
         let text = joined(rt.alloc(), parts)?;
+        if !*strict {
+            expect_rejected(&rt, rt.alloc(), text.as_str(), message)?;
+        }
         match read(rt.alloc(), *strict, 512, text.as_str()) {
             Ok(_) => expect(&rt, message, false),
             Err(error) => {
@@ -355,7 +371,7 @@ fn prefixes_under_refusals(rt: HostRuntime) -> Result<(), Fail> {
         let text = joined(alloc, &[(prefix, 1), ("?", 1)])?;
         fail_each(&rt, alloc, text.as_str())?;
     }
-    fail_each(&rt, alloc, NESTED)?.report(&rt, "parse_as of each prefix", 12)?;
+    fail_each(&rt, alloc, NESTED)?.report_from(&rt, "parse_as of each prefix", 12)?;
     Ok(())
 }
 

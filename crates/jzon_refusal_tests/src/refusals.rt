@@ -35,8 +35,8 @@ trait Call: Copy {
     fn call(self, value: &mut JsonValue, alloc: Global) -> Result<()>;
 }
 
-/// A call, its name, the text of the value before it, the compact text after it, and the least
-/// number of its allocations.
+/// A call, its name, the text of the value before it, the compact text after it, and the number of
+/// its allocations.
 type Row<C> = (C, &'static str, &'static str, &'static str, usize);
 
 /// It holds of this row. To prove an assertion takes seconds, and a call of this hardly any time.
@@ -51,8 +51,7 @@ fn expect_dump(rt: &impl Abort, alloc: Global, value: &JsonValue, text: &str) ->
     Ok(())
 }
 
-/// What a call is named, the compact text of its value after it, and the least number of its
-/// allocations.
+/// What a call is named, the compact text of its value after it, and the number of its allocations.
 type Expected<'a> = (&'a str, &'a str, usize);
 
 /// One run of the call, on a copy of `before`, which has no room to spare. Whether an allocation

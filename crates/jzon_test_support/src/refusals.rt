@@ -79,8 +79,23 @@ impl Refusals {
 
     /// To be called after the last run, in which no allocation may have failed. Prints how many
     /// runs had a failed allocation, in a line that bin/test reads, and returns an error if
-    /// ci/refuse.c is loaded and there were fewer than `least`, or a run left a block.
-    pub fn report(&self, rt: &impl Eprint, test: &str, least: usize) -> Result<(), &'static str> {
+    /// ci/refuse.c is loaded and there weren't `count` of them, as many as the call has
+    /// allocations, or a run left a block.
+    pub fn report(&self, rt: &impl Eprint, test: &str, count: usize) -> Result<(), &'static str> {
+        self.report_from(rt, test, count)?;
+        if self.is_able && self.count > count {
+            return Err("too many allocations failed");
+        }
+        Ok(())
+    }
+
+    /// The same, but more than `least` runs may have had a failed allocation.
+    pub fn report_from(
+        &self,
+        rt: &impl Eprint,
+        test: &str,
+        least: usize,
+    ) -> Result<(), &'static str> {
         let _ = eprintln!(rt; "{test}: {} refusals", self.count);
         if !self.is_done {
             return Err("an allocation failed in each run");

@@ -107,7 +107,7 @@ fn sorting_under_refusals(rt: HostRuntime) -> Tested {
             break;
         }
     }
-    refusals.report(&rt, "Sorting", 2)?;
+    refusals.report(&rt, "Sorting", 4)?;
     Ok(())
 }
 

@@ -43,11 +43,12 @@ fn value_of_macro(alloc: Global) -> Result<JsonValue> {
 }
 
 fn array(alloc: Global) -> Result<JsonValue> {
-    Ok(jzon::array![alloc; 1, LONG_TEXT, {}])
+    Ok(jzon::array![alloc; 1, LONG_TEXT, {}, Some(LONG_TEXT)])
 }
 
+/// Its last value has several tokens, as the last element of `array` has.
 fn object(alloc: Global) -> Result<JsonValue> {
-    Ok(jzon::object! {alloc; a: [1], LONG_KEY => true})
+    Ok(jzon::object! {alloc; a: [1], LONG_KEY => true, b: Some(LONG_TEXT)})
 }
 
 fn wrong_type(alloc: Global) -> Result<JsonValue> {
@@ -109,8 +110,8 @@ const BUILT: &[Row<Built>] = &[
         "[\"abcdefghijklmnopqrstuvwxyz01234\",\"\"]",
         2,
     ),
-    (Built::Map, "into_json of a map", "null", MAPPED, 5),
-    (Built::HashMap, "into_json of a hash map", "null", MAPPED, 4),
+    (Built::Map, "into_json of a map", "null", MAPPED, 6),
+    (Built::HashMap, "into_json of a hash map", "null", MAPPED, 8),
     (
         Built::Value,
         "value!",
@@ -129,15 +130,16 @@ const BUILT: &[Row<Built>] = &[
         Built::Array,
         "array!",
         "null",
-        "[1,\"abcdefghijklmnopqrstuvwxyz01234\",{}]",
-        2,
+        "[1,\"abcdefghijklmnopqrstuvwxyz01234\",{},\"abcdefghijklmnopqrstuvwxyz01234\"]",
+        3,
     ),
     (
         Built::Object,
         "object!",
         "null",
-        "{\"a\":[1],\"0123456789abcdef0123456789abcdef01234567\":true}",
-        4,
+        "{\"a\":[1],\"0123456789abcdef0123456789abcdef01234567\":true,\
+          \"b\":\"abcdefghijklmnopqrstuvwxyz01234\"}",
+        6,
     ),
     (
         Built::Stringify,

@@ -109,20 +109,20 @@ const ALIKE: &str = "[{\"a\":[1,2]},{\"a\":[3,4]}]";
 const KEYED: &str = "{\"0123456789abcdef0123456789abcdef01234567\":null}";
 
 const CHANGED: &[Row<Changed>] = &[
-    (Changed::Parse(DOCUMENT), "parse", "null", DUMP, 6),
+    (Changed::Parse(DOCUMENT), "parse", "null", DUMP, 9),
     (
         Changed::Parse(ESCAPED),
         "parse of a long string",
         "null",
         UNESCAPED,
-        2,
+        4,
     ),
     (
         Changed::Parse(LONG_DOCUMENT),
         "parse of a long key",
         "null",
         LONG_DOCUMENT,
-        9,
+        18,
     ),
     (
         Changed::Parse(REPEATED),
@@ -136,14 +136,14 @@ const CHANGED: &[Row<Changed>] = &[
         "parse of elements that are alike",
         "null",
         ALIKE,
-        10,
+        15,
     ),
     (
         Changed::ParseStrictly(DOCUMENT),
         "strict parse_as",
         "null",
         DUMP,
-        6,
+        9,
     ),
     (
         Changed::ParseStrictly(TWENTY_KEYS),
@@ -152,20 +152,20 @@ const CHANGED: &[Row<Changed>] = &[
         TWENTY_KEYS,
         15,
     ),
-    (Changed::Clone, "clone", DOCUMENT, DUMP, 3),
+    (Changed::Clone, "clone", DOCUMENT, DUMP, 4),
     (
         Changed::Clone,
         "clone of a long key",
         LONG_DOCUMENT,
         LONG_DOCUMENT,
-        7,
+        10,
     ),
     (
         Changed::StdClone,
         "std's Clone",
         LONG_DOCUMENT,
         LONG_DOCUMENT,
-        7,
+        10,
     ),
     (Changed::Push, "push", "[]", "[true]", 1),
     (
@@ -197,8 +197,8 @@ const CHANGED: &[Row<Changed>] = &[
         "[1]",
         1,
     ),
-    (Changed::AtMut, "at_mut of a number", "5", KEYED, 3),
-    (Changed::AtMut, "at_mut", "{}", KEYED, 3),
+    (Changed::AtMut, "at_mut of a number", "5", KEYED, 4),
+    (Changed::AtMut, "at_mut", "{}", KEYED, 4),
     (
         Changed::AtMut,
         "at_mut of the 17th key",

@@ -28,6 +28,7 @@ enum Owned {
     AtMut,
     AtIndexMut,
     ClearArray,
+    ClearString,
     Retain,
     Repeated,
     Emptied,
@@ -180,6 +181,10 @@ impl Call for Owned {
                 value.push(alloc, text(alloc)?)?;
                 value.clear();
             }
+            Owned::ClearString => {
+                *value = item(alloc)?;
+                value.clear();
+            }
             Owned::Retain => retained(value, alloc)?,
             Owned::Repeated => *value = repeated(alloc)?,
             Owned::Emptied => *value = emptied(alloc)?,
@@ -217,7 +222,7 @@ const OWNED: &[Row<Owned>] = &[
         "null",
         2,
     ),
-    (Owned::Insert, "insert of an owned string", "{}", KEYED, 3),
+    (Owned::Insert, "insert of an owned string", "{}", KEYED, 5),
     (
         Owned::InsertOnArray,
         "insert of an owned string on an array",
@@ -230,16 +235,16 @@ const OWNED: &[Row<Owned>] = &[
         "Object::insert of an owned string",
         "{}",
         KEYED,
-        3,
+        5,
     ),
     (
         Owned::FromPairs,
         "Object::from_pairs of owned strings",
         "null",
         PAIRED,
-        7,
+        10,
     ),
-    (Owned::WriteAt, "write_at of an owned string", "5", KEYED, 3),
+    (Owned::WriteAt, "write_at of an owned string", "5", KEYED, 5),
     (
         Owned::WriteAtIndex,
         "write_at_index of an owned string",
@@ -259,7 +264,7 @@ const OWNED: &[Row<Owned>] = &[
         "remove of a long key and its string",
         "{}",
         "{}",
-        3,
+        5,
     ),
     (
         Owned::OverrideLast,
@@ -273,7 +278,7 @@ const OWNED: &[Row<Owned>] = &[
         "Object::clear of a long key and its string",
         "{}",
         "{}",
-        3,
+        5,
     ),
     (
         Owned::Consume,
@@ -315,7 +320,7 @@ const OWNED: &[Row<Owned>] = &[
         "at_mut of a long string",
         "\"a text of more than thirty bytes\"",
         "{\"a\":null}",
-        1,
+        3,
     ),
     (
         Owned::ClearArray,
@@ -325,25 +330,32 @@ const OWNED: &[Row<Owned>] = &[
         2,
     ),
     (
+        Owned::ClearString,
+        "clear of an allocated string",
+        "null",
+        "\"\"",
+        1,
+    ),
+    (
         Owned::Retain,
         "retain of a long key and its string",
         "{}",
         "{}",
-        3,
+        5,
     ),
     (
         Owned::Repeated,
         "parse of long keys repeated among many",
         "null",
         "{\"a\":0,\"0123456789abcdef0123456789abcdef01234567\":\"abcdefghijklmnopqrstuvwxyz01234\"}",
-        20,
+        35,
     ),
     (
         Owned::Emptied,
         "clear of containers in an object",
         "null",
         "{\"a\":[],\"b\":{},\"d\":[]}",
-        10,
+        22,
     ),
     (
         Owned::Rejected(IN_ARRAY),
@@ -357,28 +369,28 @@ const OWNED: &[Row<Owned>] = &[
         "parse rejects in an object",
         "null",
         "null",
-        2,
+        6,
     ),
     (
         Owned::Rejected(AFTER_KEY),
         "parse rejects after a key",
         "null",
         "null",
-        3,
+        4,
     ),
     (
         Owned::Rejected(NESTED),
         "parse rejects in NESTED containers",
         "null",
         "null",
-        6,
+        11,
     ),
     (
         Owned::Rejected(AFTER_END),
         "parse rejects after the end",
         "null",
         "null",
-        3,
+        9,
     ),
 ];
 

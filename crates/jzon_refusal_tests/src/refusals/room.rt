@@ -129,7 +129,7 @@ const PRINTED: &[Printed] = &[
 #[test]
 fn room_under_refusals(rt: HostRuntime) -> Tested {
     for row in PRINTED {
-        fail_each_of(&rt, rt.alloc(), *row, 0)?.report(&rt, row.1, 1)?;
+        fail_each_of(&rt, rt.alloc(), *row, 0)?.report_from(&rt, row.1, 1)?;
         fail_each_of(&rt, rt.alloc(), *row, 256)?.expect_even()?;
     }
     Ok(())

@@ -124,11 +124,11 @@ const WRITTEN: &[Row<Writing>] = &[
     (Writing::ObjectPretty, "Object::pretty", LISTED, ON_LINES, 1),
     (Writing::LayOut, "lay_out", LISTED, ON_ONE_LINE, 1),
     (Writing::PrettyLayOut, "lay_out 2", LISTED, ON_LINES, 1),
-    (Writing::DumpGenerator, "generator", LISTED, ON_ONE_LINE, 2),
-    (Writing::PrettyGenerator, "generator 2", LISTED, ON_LINES, 2),
-    (Writing::Write, "write", LISTED, ON_ONE_LINE, 2),
-    (Writing::WritePretty, "write_pretty", LISTED, ON_LINES, 2),
-    (Writing::WriteLayout, "write_layout", LISTED, ON_LINES, 2),
+    (Writing::DumpGenerator, "generator", LISTED, ON_ONE_LINE, 3),
+    (Writing::PrettyGenerator, "generator 2", LISTED, ON_LINES, 5),
+    (Writing::Write, "write", LISTED, ON_ONE_LINE, 4),
+    (Writing::WritePretty, "write_pretty", LISTED, ON_LINES, 5),
+    (Writing::WriteLayout, "write_layout", LISTED, ON_LINES, 5),
 ];
 
 /// The calls that give their text room at once, which a string of 2,000 bytes exceeds.
