@@ -1,6 +1,6 @@
 //! What `{}` shows of a value.
 
-use crate::common::{expect, expect_eq};
+use crate::common::{EACH_KIND, expect, expect_eq};
 use jzon::number::NAN;
 use jzon::{JsonValue, parse};
 use jzon_test_support::{NO_FAILING_CALL, joined, show_failing};
@@ -105,24 +105,6 @@ fn stops_late_where_the_formatter_fails(rt: HostRuntime) -> Result<(), Fail> {
     }
     Ok(())
 }
-
-/// A value of each kind.
-const EACH_KIND: &[&str] = &[
-    "null",
-    "true",
-    "false",
-    "0",
-    "7",
-    "-12.50",
-    "\"\"",
-    "\"ab\"",
-    "\"abcdefghijklmnopqrstuvwxyz01234\"",
-    "[]",
-    "[1]",
-    "[\"ab\",-7,null,true]",
-    "{}",
-    "{\"ab\":[1],\"c\":\"d\"}",
-];
 
 /// Flags, a width, a fill and a precision change nothing.
 #[test]

@@ -4,7 +4,8 @@
 //! and objects 1,100 deep, and at the widest indents.
 
 use crate::common::{Plain, Tested, expect};
-use jzon::codegen::{Compact, DumpGenerator, Pretty, PrettyGenerator, write_json};
+use crate::whole::{expect_generated, expect_printed, expect_whole};
+use jzon::codegen::Pretty;
 use jzon::lent::{write_at, write_at_index};
 use jzon::object::Object;
 use jzon::{
@@ -63,73 +64,6 @@ fn strings(alloc: Global) -> std::result::Result<[(String, String); 2], AllocErr
             joined(alloc, &[("\"", 1), ("ab\\né", 40), ("\"", 1)])?,
         ),
     ])
-}
-
-/// What prints a value in the compact layout prints this text.
-fn expect_printed(rt: &impl Abort, alloc: Global, value: &JsonValue, text: &str) -> Tested {
-    expect(rt, "dump", value.dump(alloc)?.as_str() == text);
-    expect(
-        rt,
-        "lay_out",
-        value.lay_out(alloc, Compact)?.as_str() == text,
-    );
-    let mut bytes: Vec<u8> = Vec::new(alloc);
-    value.write(&mut bytes)?;
-    expect(rt, "write", bytes.as_slice() == text.as_bytes());
-    let pretty = value.pretty(alloc, 2)?;
-    let lines = value.lay_out(alloc, Pretty(2))?;
-    expect(rt, "lay_out on lines", lines.as_str() == pretty.as_str());
-    let mut bytes: Vec<u8> = Vec::new(alloc);
-    value.write_pretty(&mut bytes, 2)?;
-    expect(rt, "write_pretty", bytes.as_slice() == pretty.as_bytes());
-    Ok(())
-}
-
-/// So do an outlet that takes nothing at once, and the generators over memory, of which one prints
-/// on lines.
-fn expect_generated(rt: &impl Abort, alloc: Global, value: &JsonValue, text: &str) -> Tested {
-    let mut plain = Plain::new(alloc);
-    value.write_outlet(&mut plain, Compact)?;
-    let bytes = plain.bytes.as_slice();
-    expect(rt, "write_outlet", bytes == text.as_bytes());
-    let mut generator = DumpGenerator::new(alloc);
-    write_json(&mut generator, value)?;
-    expect(rt, "DumpGenerator", generator.consume()?.as_str() == text);
-    let mut generator = PrettyGenerator::new(alloc, 2);
-    write_json(&mut generator, value)?;
-    let pretty = value.pretty(alloc, 2)?;
-    let lines = generator.consume()?;
-    expect(rt, "PrettyGenerator", lines.as_str() == pretty.as_str());
-    Ok(())
-}
-
-/// The value prints this text, `shown` by `Display`, and equals what the text and its pretty text
-/// mean, and its copies.
-fn expect_whole(
-    rt: &impl Abort,
-    alloc: Global,
-    value: &JsonValue,
-    text: &str,
-    shown: &str,
-) -> Tested {
-    expect_printed(rt, alloc, value, text)?;
-    expect_generated(rt, alloc, value, text)?;
-    let formatted = format!(in alloc; "{value}")?;
-    expect(rt, "Display", formatted.as_str() == shown);
-    expect(rt, "parse", *value == parse(alloc, text)?);
-    let lines = value.pretty(alloc, 2)?;
-    expect(
-        rt,
-        "parse of lines",
-        *value == parse(alloc, lines.as_str())?,
-    );
-    let strict = Reading::new(true, 512).unwrap();
-    expect(rt, "parse_as", *value == parse_as(alloc, text, &strict)?);
-    let copy = value.clone(alloc)?;
-    expect_printed(rt, alloc, &copy, text)?;
-    expect(rt, "clone", *value == copy);
-    expect(rt, "std's clone", *value == Clone::clone(&copy)?);
-    Ok(())
 }
 
 #[test]

@@ -7,7 +7,7 @@ ghost use Rattle.jzon_tree.specs.Readers.{entries};
 ghost use Rattle.jzon_tree.specs.Value.{null, array, object, values_of, pairs_of};
 ghost use Rattle.jzon_tree.specs.View.{view};
 
-use crate::common::{Tested, expect, expect_dump, expect_text, long, number};
+use crate::common::{EACH_KIND, Tested, each_unread, expect, expect_dump, expect_text, number};
 use jzon::lent::{write_at, write_at_index, write_present};
 use jzon::object::Object;
 use jzon::{JsonValue, Result, parse};
@@ -86,9 +86,11 @@ fn makes_elements(rt: HostRuntime) -> Tested {
 }
 
 /// There is nothing of another kind in it to borrow: of an object no elements, of an array no
-/// entries, of any other value nothing. What isn't borrowed leaves the value as it was.
-fn borrow_nothing(rt: &impl Abort, alloc: Global, text: &str) -> Tested {
-    let mut value = parse(alloc, text)?;
+/// entries, of any other value nothing. What isn't borrowed leaves the value as it was, and an
+/// allocated string allocated.
+fn borrow_nothing(rt: &impl Abort, alloc: Global, text: &str, mut value: JsonValue) -> Tested {
+    let before = value.clone(alloc)?;
+    let is_allocated = matches!(value, JsonValue::String(_));
     if !value.is_object() {
         expect(rt, text, value.get_mut("a").is_none());
         expect(rt, text, value.as_object_mut().is_none());
@@ -98,43 +100,22 @@ fn borrow_nothing(rt: &impl Abort, alloc: Global, text: &str) -> Tested {
         expect(rt, text, value.as_array_mut().is_none());
         expect(rt, text, value.members_mut().next().is_none());
     }
+    expect(
+        rt,
+        text,
+        value == before && matches!(value, JsonValue::String(_)) == is_allocated,
+    );
     expect_dump(rt, alloc, &value, text)
 }
 
-/// A value of each kind.
-const EACH_KIND: &[&str] = &[
-    "null",
-    "true",
-    "false",
-    "1",
-    "-1.50",
-    "\"\"",
-    "\"a\"",
-    "\"abcdefghijklmnopqrstuvwxyz01234\"",
-    "[]",
-    "[1]",
-    "[true,[\"a\"]]",
-    "{}",
-    "{\"a\":1}",
-    "{\"b\":true,\"a\":[false]}",
-];
-
 #[test]
 fn borrows_nothing_of_another_kind(rt: HostRuntime) -> Tested {
+    let alloc = rt.alloc();
     for text in EACH_KIND {
-        borrow_nothing(&rt, rt.alloc(), text)?;
+        borrow_nothing(&rt, alloc, text, parse(alloc, text)?)?;
     }
-    Ok(())
-}
-
-/// A short string that is allocated stays so.
-#[test]
-fn borrows_nothing_of_an_allocated_string(rt: HostRuntime) -> Tested {
-    for text in ["", "a", "abcdefghijklmnopqrstuvwxyz0123"] {
-        let mut value = long(rt.alloc(), text)?;
-        let has_none = value.members_mut().next().is_none() && value.entries_mut().next().is_none();
-        expect(&rt, text, has_none && value.eq_str(text));
-        expect(&rt, text, matches!(value, JsonValue::String(_)));
+    for (text, value) in each_unread(alloc)? {
+        borrow_nothing(&rt, alloc, text, value)?;
     }
     Ok(())
 }
@@ -184,6 +165,7 @@ fn move_entries(value: &mut JsonValue) {
 const MOVED: &[(&str, &str, &str)] = &[
     ("[1,2,3]", "[2,3,null]", "[1,2,3]"),
     ("[]", "[]", "[]"),
+    ("{}", "{}", "{}"),
     (
         "[1,2,3,4,5,6,7,8,9]",
         "[2,3,4,5,6,7,8,9,null]",

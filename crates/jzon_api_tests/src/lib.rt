@@ -22,11 +22,15 @@ mod exact;
 #[cfg(test)]
 mod from;
 #[cfg(test)]
+mod generated;
+#[cfg(test)]
 mod generators;
 #[cfg(test)]
 mod integers;
 #[cfg(test)]
 mod keys;
+#[cfg(test)]
+mod kinds;
 #[cfg(test)]
 mod large;
 #[cfg(test)]
@@ -45,5 +49,7 @@ mod readers;
 mod values;
 #[cfg(test)]
 mod view;
+#[cfg(test)]
+mod whole;
 #[cfg(test)]
 mod writers;
