@@ -6,7 +6,7 @@ use jzon::codegen::{
 };
 use jzon::{JsonValue, parse};
 use jzon_test_support::{
-    DOCUMENT, DUMP, NO_FAILING_CALL, PRETTY, Refusals, SlowWriter, Trouble, joined,
+    DOCUMENT, DUMP, FAILURES, NO_FAILING_CALL, PRETTY, Refusals, SlowWriter, Trouble, joined,
 };
 use std::alloc::Global;
 use std::io;
@@ -186,20 +186,14 @@ fn expect_stops(
     Ok(())
 }
 
-const TROUBLES: [Trouble; 4] = [
-    Trouble::TakesNothing,
-    Trouble::Fails(ErrorKind::BrokenPipe),
-    Trouble::Fails(ErrorKind::Interrupted),
-    Trouble::FailsBySystem(28),
-];
-
 #[test]
 fn stops_at_each_call_that_fails(rt: HostRuntime) -> Tested {
     let sample = small(rt.alloc())?;
     for how in HOWS {
-        for trouble in TROUBLES {
+        for trouble in FAILURES {
             expect_stops(&rt, rt.alloc(), &sample, how, trouble)?;
         }
+        expect_stops(&rt, rt.alloc(), &sample, how, Trouble::TakesNothing)?;
     }
     Ok(())
 }

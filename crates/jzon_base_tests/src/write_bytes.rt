@@ -2,44 +2,37 @@
 
 use crate::common::{expect, expect_eq};
 use jzon_base::util::{print_dec, write_bytes};
-use jzon_test_support::{NO_FAILING_CALL, SlowWriter, Trouble, joined};
-use std::io::ErrorKind;
+use jzon_test_support::{FAILURES, NO_FAILING_CALL, SlowWriter, Trouble, joined};
+use std::alloc::Global;
+use std::process::Abort;
 use std::test::Fail;
-
-const TROUBLES: [Trouble; 4] = [
-    Trouble::TakesNothing,
-    Trouble::Fails(ErrorKind::Interrupted),
-    Trouble::Fails(ErrorKind::BrokenPipe),
-    Trouble::FailsBySystem(28),
-];
 
 /// The text of the longest number, to a writer that fails at each call in turn: the bytes before it
 /// are written, no byte follows, and the error is returned.
-#[test]
-fn returns_each_error(rt: HostRuntime) -> Result<(), Fail> {
+fn expect_returned(rt: &impl Abort, alloc: Global, trouble: Trouble) -> Result<(), Fail> {
     let text = b"-1.8446744073709551615e-32749";
-    for trouble in TROUBLES {
-        for call in 1..=text.len() {
-            let mut writer = SlowWriter::new(rt.alloc(), call, trouble);
-            let is_returned = match print_dec::write(
-                &mut writer,
-                false,
-                18446744073709551615,
-                -32768,
-            ) {
-                Ok(()) => false,
-                Err(error) => trouble.is_returned(rt.alloc(), &error)?,
-            };
-            expect(&rt, "the error", is_returned);
-            expect(
-                &rt,
-                "the bytes",
-                writer.bytes.as_slice() == &text[..call - 1],
-            );
-            expect_eq(&rt, "the calls", writer.calls, call);
-        }
+    for call in 1..=text.len() {
+        let mut writer = SlowWriter::new(alloc, call, trouble);
+        let outcome = print_dec::write(&mut writer, false, 18446744073709551615, -32768);
+        let is_returned = match outcome {
+            Ok(()) => false,
+            Err(error) => trouble.is_returned(alloc, &error)?,
+        };
+        expect(rt, "the error", is_returned);
+        let is_prefix = writer.bytes.as_slice() == &text[..call - 1];
+        expect(rt, "the bytes", is_prefix);
+        expect_eq(rt, "the calls", writer.calls, call);
+        expect_eq(rt, "the flushes", writer.flushes, 0);
     }
     Ok(())
+}
+
+#[test]
+fn returns_each_error(rt: HostRuntime) -> Result<(), Fail> {
+    for trouble in FAILURES {
+        expect_returned(&rt, rt.alloc(), trouble)?;
+    }
+    expect_returned(&rt, rt.alloc(), Trouble::TakesNothing)
 }
 
 #[test]
@@ -50,6 +43,22 @@ fn writes_all_bytes(rt: HostRuntime) -> Result<(), Fail> {
         write_bytes(&mut writer, text.as_bytes())?;
         expect(&rt, text, writer.bytes.as_slice() == text.as_bytes());
         expect_eq(&rt, text, writer.calls, text.len());
+        expect_eq(&rt, text, writer.flushes, 0);
     }
+    Ok(())
+}
+
+/// The text of a number is appended, and the writer isn't flushed.
+#[test]
+fn writes_a_number(rt: HostRuntime) -> Result<(), Fail> {
+    let mut writer = SlowWriter::new(rt.alloc(), NO_FAILING_CALL, Trouble::TakesNothing);
+    print_dec::write(&mut writer, false, 125, -1)?;
+    expect(
+        &rt,
+        "the text",
+        writer.bytes.as_slice() == b"-12.5".as_slice(),
+    );
+    expect_eq(&rt, "the calls", writer.calls, 5);
+    expect_eq(&rt, "the flushes", writer.flushes, 0);
     Ok(())
 }

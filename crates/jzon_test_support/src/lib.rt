@@ -10,7 +10,7 @@ mod slow_writer;
 pub use failing_formatter::{FailingFormatter, show_failing};
 pub use keys::{keys_by_hash, keys_of_one_hash, object_text};
 pub use refusals::{RUNS_MAX, Refusals};
-pub use slow_writer::{NO_FAILING_CALL, SlowWriter, Trouble, WORDS, is_same_error};
+pub use slow_writer::{FAILURES, NO_FAILING_CALL, SlowWriter, Trouble, WORDS, is_same_error};
 use std::alloc::{AllocError, Global};
 
 /// A JSON text with a value of each kind but a boolean.

@@ -41,6 +41,55 @@ impl Trouble {
     }
 }
 
+/// Every kind of error that a reader or a writer may have, and some errors of the system: of input
+/// and output, an interruption, a full device and a broken pipe.
+pub const FAILURES: [Trouble; 44] = [
+    Trouble::Fails(ErrorKind::NotFound),
+    Trouble::Fails(ErrorKind::PermissionDenied),
+    Trouble::Fails(ErrorKind::ConnectionRefused),
+    Trouble::Fails(ErrorKind::ConnectionReset),
+    Trouble::Fails(ErrorKind::HostUnreachable),
+    Trouble::Fails(ErrorKind::NetworkUnreachable),
+    Trouble::Fails(ErrorKind::ConnectionAborted),
+    Trouble::Fails(ErrorKind::NotConnected),
+    Trouble::Fails(ErrorKind::AddrInUse),
+    Trouble::Fails(ErrorKind::AddrNotAvailable),
+    Trouble::Fails(ErrorKind::NetworkDown),
+    Trouble::Fails(ErrorKind::BrokenPipe),
+    Trouble::Fails(ErrorKind::AlreadyExists),
+    Trouble::Fails(ErrorKind::WouldBlock),
+    Trouble::Fails(ErrorKind::NotADirectory),
+    Trouble::Fails(ErrorKind::IsADirectory),
+    Trouble::Fails(ErrorKind::DirectoryNotEmpty),
+    Trouble::Fails(ErrorKind::ReadOnlyFilesystem),
+    Trouble::Fails(ErrorKind::FilesystemLoop),
+    Trouble::Fails(ErrorKind::StaleNetworkFileHandle),
+    Trouble::Fails(ErrorKind::InvalidInput),
+    Trouble::Fails(ErrorKind::InvalidData),
+    Trouble::Fails(ErrorKind::TimedOut),
+    Trouble::Fails(ErrorKind::WriteZero),
+    Trouble::Fails(ErrorKind::StorageFull),
+    Trouble::Fails(ErrorKind::NotSeekable),
+    Trouble::Fails(ErrorKind::QuotaExceeded),
+    Trouble::Fails(ErrorKind::FileTooLarge),
+    Trouble::Fails(ErrorKind::ResourceBusy),
+    Trouble::Fails(ErrorKind::ExecutableFileBusy),
+    Trouble::Fails(ErrorKind::Deadlock),
+    Trouble::Fails(ErrorKind::CrossesDevices),
+    Trouble::Fails(ErrorKind::TooManyLinks),
+    Trouble::Fails(ErrorKind::InvalidFilename),
+    Trouble::Fails(ErrorKind::ArgumentListTooLong),
+    Trouble::Fails(ErrorKind::Interrupted),
+    Trouble::Fails(ErrorKind::Unsupported),
+    Trouble::Fails(ErrorKind::UnexpectedEof),
+    Trouble::Fails(ErrorKind::OutOfMemory),
+    Trouble::Fails(ErrorKind::Other),
+    Trouble::FailsBySystem(4),
+    Trouble::FailsBySystem(5),
+    Trouble::FailsBySystem(28),
+    Trouble::FailsBySystem(32),
+];
+
 /// Whether both errors have the same kind, the same code and the same words.
 pub fn is_same_error(
     alloc: Global,

@@ -8,7 +8,7 @@ ghost use Rattle.jzon_tree.specs.Styles.{compact_style};
 use crate::common::{Tested, expect, expect_bytes, expect_eq, numbers};
 use crate::counting::Counting;
 use crate::hooks::{Hook, ROWS, Row, call};
-use jzon_test_support::{RUNS_MAX, Refusals, SlowWriter, Trouble};
+use jzon_test_support::{FAILURES, RUNS_MAX, Refusals, SlowWriter, Trouble};
 use jzon_tree::codegen::{
     DumpGenerator, Generator, PrettyGenerator, PrettyWriterGenerator, WriterGenerator, write_json,
 };
@@ -166,17 +166,12 @@ fn expect_failures(
     Ok(())
 }
 
-const TROUBLES: [Trouble; 2] = [
-    Trouble::Fails(ErrorKind::BrokenPipe),
-    Trouble::FailsBySystem(28),
-];
-
 /// A hook that appends nothing isn't called: `hooks` has its result.
 #[test]
 fn hooks_over_a_failing_writer(rt: HostRuntime) -> Tested {
     for over in OVERS {
         for row in ROWS {
-            for trouble in TROUBLES {
+            for trouble in FAILURES {
                 expect_failures(&rt, rt.alloc(), over, row, trouble)?;
             }
         }

@@ -2,12 +2,12 @@
 
 use crate::common::{Tested, expect_bytes, expect_eq};
 use jzon_base::number::Number;
+use jzon_base::util::write_bytes;
 use jzon_tree::codegen::{
     DumpGenerator, Generator, PrettyGenerator, PrettyWriterGenerator, WriterGenerator,
 };
 use jzon_tree::object::Object;
 use std::io;
-use std::io::Write;
 use std::process::Abort;
 
 /// A hook, with the arguments of `call`.
@@ -46,7 +46,7 @@ pub fn call<G: Generator>(generator: &mut G, hook: Hook, object: &Object) -> io:
         Hook::WriteNumber => {
             generator.write_number(&Number::from_parts_unchecked(false, 125, -1))?
         }
-        Hook::GetWriter => generator.get_writer().write_all(b"g")?,
+        Hook::GetWriter => write_bytes(generator.get_writer(), b"g")?,
         Hook::NewLine => generator.new_line()?,
         Hook::Order => assert_order(generator.order(object)?)?,
         Hook::Indent => generator.indent()?,

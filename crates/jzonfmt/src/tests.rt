@@ -6,8 +6,8 @@ use crate::engine;
 use crate::engine::{Layout, RunFault};
 use jzon::{Error, Reading};
 use jzon_test_support::{
-    DOCUMENT, NO_FAILING_CALL, SlowWriter, Trouble, joined, keys_by_hash, keys_of_one_hash,
-    object_text,
+    DOCUMENT, FAILURES, NO_FAILING_CALL, SlowWriter, Trouble, joined, keys_by_hash,
+    keys_of_one_hash, object_text,
 };
 use std::alloc::Global;
 use std::io;
@@ -365,11 +365,7 @@ fn reads_inputs_round_a_chunk(rt: HostRuntime) -> Result<(), Fail> {
 #[test]
 fn a_reader_fails_at_each_call(rt: HostRuntime) -> Result<(), Fail> {
     let alloc = rt.alloc();
-    for trouble in [
-        Trouble::Fails(ErrorKind::Interrupted),
-        Trouble::Fails(ErrorKind::UnexpectedEof),
-        Trouble::FailsBySystem(5),
-    ] {
+    for trouble in FAILURES {
         // One call more than there are bytes, since the last one finds the end.
         for call in 1..=TEXT.len() + 1 {
             let mut reader = FailingReader::new(TEXT, call, trouble);
@@ -410,25 +406,26 @@ fn expect_write_error(
     Ok(())
 }
 
+/// The writer fails at each call in turn.
+fn expect_write_errors(rt: &impl Abort, alloc: Global, trouble: Trouble) -> Result<(), Fail> {
+    for call in 1..=PRINTED.len() {
+        let mut reader = TEXT;
+        let mut writer = SlowWriter::new(alloc, call, trouble);
+        let outcome = engine::run(alloc, &mut reader, &mut writer, &usual(), Layout::Compact);
+        expect_write_error(rt, alloc, &outcome, trouble, call)?;
+        assert_eq!(rt; writer.calls, call);
+        assert_eq!(rt; writer.bytes.as_slice(), &PRINTED[..call - 1]);
+    }
+    Ok(())
+}
+
 #[test]
 fn a_writer_fails_at_each_call(rt: HostRuntime) -> Result<(), Fail> {
     let alloc = rt.alloc();
-    let troubles = [
-        Trouble::TakesNothing,
-        Trouble::Fails(ErrorKind::Interrupted),
-        Trouble::Fails(ErrorKind::BrokenPipe),
-        Trouble::FailsBySystem(28),
-    ];
-    for trouble in troubles {
-        for call in 1..=PRINTED.len() {
-            let mut reader = TEXT;
-            let mut writer = SlowWriter::new(alloc, call, trouble);
-            let outcome = engine::run(alloc, &mut reader, &mut writer, &usual(), Layout::Compact);
-            expect_write_error(&rt, alloc, &outcome, trouble, call)?;
-            assert_eq!(rt; writer.calls, call);
-            assert_eq!(rt; writer.bytes.as_slice(), &PRINTED[..call - 1]);
-        }
+    for trouble in FAILURES {
+        expect_write_errors(&rt, alloc, trouble)?;
     }
+    expect_write_errors(&rt, alloc, Trouble::TakesNothing)?;
     let mut reader = TEXT;
     let mut writer = SlowWriter::new(alloc, NO_FAILING_CALL, Trouble::TakesNothing);
     assert!(rt; engine::run(alloc, &mut reader, &mut writer, &usual(), Layout::Compact).is_ok());
@@ -617,14 +614,15 @@ fn drive_flushes_what_it_wrote(rt: HostRuntime) -> Result<(), Fail> {
     Ok(())
 }
 
-/// Takes all bytes, and its first flush is interrupted.
+/// Takes all bytes, and its first flush fails.
 #[derive(Drop)]
-struct InterruptedWriter {
+struct UnflushedWriter {
     bytes: Vec<u8>,
     flushes: usize,
+    trouble: Trouble,
 }
 
-impl io::Write for InterruptedWriter {
+impl io::Write for UnflushedWriter {
     ghost contents = { λ writer. Some writer.bytes.items };
 
     fn write(&mut self, buf: &[u8]) -> io::Result<usize> {
@@ -635,29 +633,37 @@ impl io::Write for InterruptedWriter {
     fn flush(&mut self) -> io::Result<()> {
         self.flushes = self.flushes.saturating_add(1);
         if self.flushes == 1 {
-            Err(io::Error::from(ErrorKind::Interrupted))
+            Err(self.trouble.error())
         } else {
             Ok(())
         }
     }
 }
 
-/// A flush that is interrupted has failed too: there is no other one.
-#[test]
-fn drive_flushes_once(rt: HostRuntime) -> Result<(), Fail> {
-    let alloc = rt.alloc();
+/// The flush fails, and there is no other one.
+fn expect_one_flush(rt: &impl Abort, alloc: Global, trouble: Trouble) {
     let mut reader = TEXT;
-    let mut writer = InterruptedWriter {
+    let mut writer = UnflushedWriter {
         bytes: Vec::new(alloc),
         flushes: 0,
+        trouble,
     };
     let mut faults: Vec<u8> = Vec::new(alloc);
     let status = engine::drive(alloc, &[], &mut reader, &mut writer, &mut faults);
-    expect(&rt, "the status", status == 3);
+    expect(rt, "the status", status == 3);
     let message = b"jzonfmt: writing failed\n".as_slice();
-    expect(&rt, "the message", faults.as_slice() == message);
-    expect(&rt, "the output", writer.bytes.as_slice() == PRINTED);
-    expect(&rt, "the flushes", writer.flushes == 1);
+    expect(rt, "the message", faults.as_slice() == message);
+    expect(rt, "the output", writer.bytes.as_slice() == PRINTED);
+    expect(rt, "the flushes", writer.flushes == 1);
+}
+
+/// A flush that fails is a failed write, whatever its error: also an interruption, or the end of a
+/// pipe.
+#[test]
+fn drive_flushes_once(rt: HostRuntime) -> Result<(), Fail> {
+    for trouble in FAILURES {
+        expect_one_flush(&rt, rt.alloc(), trouble);
+    }
     Ok(())
 }
 
