@@ -57,6 +57,7 @@ fn expect_taken(
 /// A value, and what `take_string` returns and leaves.
 const TAKEN: &[(&str, Option<&str>, &str)] = &[
     ("\"abc\"", Some("abc"), "null"),
+    ("\"\"", Some(""), "null"),
     (
         "\"abcdefghijklmnopqrstuvwxyz0123\"",
         Some("abcdefghijklmnopqrstuvwxyz0123"),

@@ -1,6 +1,6 @@
 //! Copies by std's `Clone`.
 
-use crate::common::{Tested, expect, expect_dump, expect_eq};
+use crate::common::{Tested, expect, expect_dump, expect_eq, long};
 use jzon::object::Object;
 use jzon::{IntoJson, JsonValue, parse};
 
@@ -25,6 +25,22 @@ fn derives_clone(rt: HostRuntime) -> Tested {
     expect(&rt, "the object", copy.fallback.is_some());
     expect(&rt, "the value", copy.value == setting.value);
     expect_dump(&rt, alloc, &copy.value, text)
+}
+
+/// The empty string, a short one and one of 31 bytes.
+const STRINGS: &[&str] = &["", "a", "abcdefghijklmnopqrstuvwxyz01234"];
+
+/// A string that is allocated stays so in the copy, however short it is.
+#[test]
+fn clones_allocated_strings(rt: HostRuntime) -> Tested {
+    for text in STRINGS {
+        let value = long(rt.alloc(), text)?;
+        for copy in [Clone::clone(&value)?, value.clone(rt.alloc())?] {
+            let is_same = matches!(copy, JsonValue::String(_)) && copy.eq_str(text);
+            expect(&rt, text, is_same);
+        }
+    }
+    Ok(())
 }
 
 #[test]

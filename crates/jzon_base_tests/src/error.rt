@@ -38,6 +38,7 @@ fn messages(rt: HostRuntime) -> std::result::Result<(), Fail> {
             Error::wrong_type(rt.alloc(), "Array")?,
             "Wrong type, expected: Array",
         ),
+        (Error::wrong_type(rt.alloc(), "")?, "Wrong type, expected: "),
     ];
     for (error, message) in rows {
         let shown = format!(in rt.alloc(); "{error}")?;
@@ -54,6 +55,12 @@ fn messages(rt: HostRuntime) -> std::result::Result<(), Fail> {
 fn keeps_a_long_word(rt: HostRuntime) -> std::result::Result<(), Fail> {
     let word = joined(rt.alloc(), &[("Number or null", 10_000)])?;
     let error = Error::wrong_type(rt.alloc(), word.as_str())?;
+    let shown = format!(in rt.alloc(); "{error}")?;
+    let message = joined(
+        rt.alloc(),
+        &[("Wrong type, expected: ", 1), (word.as_str(), 1)],
+    )?;
+    expect(&rt, "Display", shown.as_str() == message.as_str());
     match error {
         Error::WrongType(words) => expect(&rt, "the word", words.as_str() == word.as_str()),
         _ => expect(&rt, "another error", false),

@@ -2,7 +2,7 @@
 
 use crate::common::{expect, expect_eq};
 use jzon_base::short::{MAX_LEN, Short};
-use jzon_test_support::joined;
+use jzon_test_support::{NO_FAILING_CALL, joined, show_failing};
 use std::alloc::Global;
 use std::process::Abort;
 use std::test::Fail;
@@ -51,6 +51,18 @@ fn ignores_flags_and_width(rt: HostRuntime) -> std::result::Result<(), Fail> {
     let shown = format!(in rt.alloc(); "{short:*>+40.1}")?;
     expect_eq(&rt, "Display", shown.as_str(), "ab");
     Ok(())
+}
+
+/// The bare string is one piece: it is shown whole, or the formatter fails at it.
+#[test]
+fn stops_where_the_formatter_fails(rt: HostRuntime) {
+    let short = Short::from_slice("ab");
+    for (fails_at, whole) in [(NO_FAILING_CALL, "ab"), (1, "")] {
+        let (is_shown, formatter) = show_failing(rt.alloc(), &short, fails_at);
+        expect_eq(&rt, whole, is_shown, !whole.is_empty());
+        expect_eq(&rt, whole, formatter.text.as_str(), whole);
+        expect_eq(&rt, whole, formatter.calls, 1);
+    }
 }
 
 const OTHERS: &[&str] = &["", "ab", "abd", "abcd", "Abc", "abc\0"];

@@ -1,7 +1,9 @@
 //! Values that macros write.
 
+ghost use Rattle.std.specs.Prelude.{◌≡◌};
+
 use crate::common::{expect, expect_dump};
-use jzon::{JsonValue, Result};
+use jzon::{Error, IntoJson, JsonValue, Result};
 use std::alloc::Global;
 use std::test::Fail;
 
@@ -148,6 +150,64 @@ fn evaluates_values_once(rt: HostRuntime) -> std::result::Result<(), Fail> {
     expect_dump(&rt, rt.alloc(), &value, text)?;
     expect(&rt, "the calls", calls == 9);
     Ok(())
+}
+
+/// Can't become a value: its conversion runs out of memory.
+#[derive(Drop)]
+struct Unconvertible;
+
+impl IntoJson for Unconvertible {
+    ghost means = { λ _ v. v ≡ v };
+
+    ghost is_free = { λ _. ⊥ };
+
+    fn into_json(self, _alloc: Global) -> Result<JsonValue> {
+        Err(Error::OutOfMemory)
+    }
+}
+
+/// A macro, and an expression of one token or of several, whose conversion fails.
+#[derive(Clone, Copy)]
+enum Failing {
+    Item,
+    LongItem,
+    Entry,
+    LongEntry,
+    LongEntryLast,
+    Value,
+    LongValue,
+}
+
+impl Failing {
+    fn build(self, alloc: Global) -> Result<JsonValue> {
+        let item = Unconvertible;
+        Ok(match self {
+            Failing::Item => jzon::array![alloc; 1, item, 2],
+            Failing::LongItem => jzon::array![alloc; 1, Some(item), 2],
+            Failing::Entry => jzon::object! {alloc; a: item, b: 1},
+            Failing::LongEntry => jzon::object! {alloc; a: Some(item), b: 1},
+            Failing::LongEntryLast => jzon::object! {alloc; a: [1], "b" => Some(item)},
+            Failing::Value => jzon::value!(alloc; item),
+            Failing::LongValue => jzon::value!(alloc; [[Some(item)]]),
+        })
+    }
+}
+
+/// The error is propagated.
+#[test]
+fn fails_where_a_conversion_fails(rt: HostRuntime) {
+    for failing in [
+        Failing::Item,
+        Failing::LongItem,
+        Failing::Entry,
+        Failing::LongEntry,
+        Failing::LongEntryLast,
+        Failing::Value,
+        Failing::LongValue,
+    ] {
+        let outcome = failing.build(rt.alloc());
+        expect(&rt, "the error", matches!(outcome, Err(Error::OutOfMemory)));
+    }
 }
 
 const BUILT: [&str; 5] = [

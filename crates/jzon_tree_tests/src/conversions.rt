@@ -6,7 +6,7 @@ use jzon_base::number::{NAN, Number};
 use jzon_tree::into_json::IntoJson;
 use jzon_tree::object::Object;
 use jzon_tree::value::JsonValue;
-use std::alloc::Global;
+use std::alloc::{AllocError, Global};
 use std::cell::Cell;
 use std::collections::{BTreeMap, HashMap};
 use std::process::Abort;
@@ -78,6 +78,8 @@ fn converts_lists(rt: HostRuntime) -> Tested {
     expect_dump(&rt, alloc, None::<u8>, "null")?;
     expect_dump(&rt, alloc, Some("a"), "\"a\"")?;
     expect_dump(&rt, alloc, Vec::<u8>::new(alloc), "[]")?;
+    let nothing: &[u8] = &[];
+    expect_dump(&rt, alloc, nothing, "[]")?;
     let texts = vec![in alloc; THIRTY_ONE, "", THIRTY_ONE]?;
     let text = "[\"abcdefghijklmnopqrstuvwxyz01234\",\"\",\"abcdefghijklmnopqrstuvwxyz01234\"]";
     expect_dump(&rt, alloc, texts.as_slice(), text)?;
@@ -87,6 +89,8 @@ fn converts_lists(rt: HostRuntime) -> Tested {
 #[test]
 fn converts_maps(rt: HostRuntime) -> Tested {
     let alloc = rt.alloc();
+    expect_dump(&rt, alloc, BTreeMap::<&str, u8>::new(alloc), "{}")?;
+    expect_dump(&rt, alloc, HashMap::<String, u8>::new(alloc), "{}")?;
     let mut map = BTreeMap::new(alloc);
     map.insert("name", "Maciej".into_json(alloc)?)?;
     map.insert("age", 30u8.into_json(alloc)?)?;
@@ -146,6 +150,43 @@ impl IntoJson for Counted<'_> {
         self.count.set(count.saturating_add(1));
         count.into_json(alloc)
     }
+}
+
+/// Counts its clones.
+#[derive(Drop)]
+struct Cloned<'a> {
+    count: &'a Cell<u64>,
+}
+
+impl Clone for Cloned<'_> {
+    fn clone(&self) -> std::result::Result<Self, AllocError> {
+        self.count.set(self.count.get().saturating_add(1));
+        Ok(Cloned { count: self.count })
+    }
+}
+
+impl IntoJson for Cloned<'_> {
+    ghost use Rattle.std.specs.Prelude.{◌≡◌};
+
+    ghost means = { λ _ v. v ≡ v };
+
+    ghost is_free = { λ _. ⊥ };
+
+    fn into_json(self, _alloc: Global) -> Result<JsonValue> {
+        Ok(JsonValue::Null)
+    }
+}
+
+/// The elements of a slice are cloned once each, and those of a list aren't.
+#[test]
+fn clones_the_elements_of_slices(rt: HostRuntime) -> Tested {
+    let count = Cell::new(0);
+    let list = vec![in rt.alloc(); Cloned { count: &count }, Cloned { count: &count }]?;
+    expect_dump(&rt, rt.alloc(), list.as_slice(), "[null,null]")?;
+    expect_eq(&rt, "of a slice", count.get(), 2);
+    expect_dump(&rt, rt.alloc(), list, "[null,null]")?;
+    expect_eq(&rt, "of a list", count.get(), 2);
+    Ok(())
 }
 
 /// Elements and entries are converted in their order, each once.

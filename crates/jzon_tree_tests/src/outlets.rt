@@ -146,7 +146,7 @@ fn asks_for_each_piece(rt: HostRuntime) -> Tested {
     let mut buffer = Buffer::new(Vec::new(rt.alloc()));
     value.write_outlet(&mut buffer, Compact)?;
     expect_eq(&rt, "on one line", buffer.asked, 5);
-    for spaces in [0, 1, 9] {
+    for spaces in [0, 1, 9, 600, 65535] {
         buffer.asked = 0;
         value.write_outlet(&mut buffer, Pretty(spaces))?;
         expect_eq(&rt, "on lines", buffer.asked, 12);

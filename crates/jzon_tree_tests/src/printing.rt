@@ -88,7 +88,12 @@ fn prints_numbers(rt: HostRuntime) -> Tested {
     expect_pretty(&rt, rt.alloc(), &value, 0, "[\n1,\n2\n]")?;
     let one = numbers(rt.alloc(), &[1])?;
     expect_pretty(&rt, rt.alloc(), &one, 0, "[\n1\n]")?;
-    expect_compact(&rt, rt.alloc(), &JsonValue::Number(NAN), "null")
+    let nan = JsonValue::Number(NAN);
+    expect_compact(&rt, rt.alloc(), &nan, "null")?;
+    expect_pretty(&rt, rt.alloc(), &nan, 2, "null")?;
+    let inside = JsonValue::Array(vec![in rt.alloc(); nan]?);
+    expect_compact(&rt, rt.alloc(), &inside, "[null]")?;
+    expect_pretty(&rt, rt.alloc(), &inside, 2, "[\n  null\n]")
 }
 
 #[test]

@@ -9,7 +9,7 @@ use jzon::codegen::{
 use jzon::lent::{write_at, write_at_index, write_present};
 use jzon::object::{Key, Object};
 use jzon::short::Short;
-use jzon::{IntoJson, Reading, parse_as};
+use jzon::{IntoJson, Reading, parse_as, stringify, stringify_pretty};
 use jzon_test_support::{joined, keys_by_hash};
 use jzon_tree::object::Builder;
 use std::fmt::Write;
@@ -84,6 +84,7 @@ enum Frugal {
     Admits,
     Display,
     IntoJson,
+    From,
     ObjectInsert(&'static str),
     ObjectAtMut(&'static str),
     OverrideLast,
@@ -178,6 +179,15 @@ fn show(value: &JsonValue) -> Result<()> {
     of_truth(write!(sink, "{value}").is_ok())
 }
 
+/// By `From`, if it is a string or an object.
+fn convert(value: JsonValue) -> JsonValue {
+    match value {
+        JsonValue::String(text) => JsonValue::from(text),
+        JsonValue::Object(object) => JsonValue::from(object),
+        other => other,
+    }
+}
+
 /// What makes something empty.
 fn make_empty(alloc: Global) {
     drop((
@@ -263,6 +273,7 @@ impl Frugal {
             Frugal::Admits => return admits(value),
             Frugal::Display => return show(value),
             Frugal::IntoJson => drop(value.take().into_json(alloc)?),
+            Frugal::From => drop(convert(value.take())),
             Frugal::IntoIter => half_read(value.take()),
             Frugal::New => make_empty(alloc),
             Frugal::Inline => return make_inline(alloc),
@@ -338,6 +349,7 @@ const OF_OBJECT: &[(Frugal, &str)] = &[
     (Frugal::Admits, "admits of an object"),
     (Frugal::Display, "Display of an object"),
     (Frugal::IntoJson, "into_json of an object"),
+    (Frugal::From, "From of an object"),
     (Frugal::New, "what makes something empty"),
     (Frugal::Inline, "what is stored inline"),
     (Frugal::Parse, "parse of primitives"),
@@ -373,6 +385,27 @@ const OF_STRING: &[(Frugal, &str)] = &[
     (Frugal::Admits, "admits of a string"),
     (Frugal::Display, "Display of a string"),
     (Frugal::IntoJson, "into_json of a string"),
+    (Frugal::From, "From of a string"),
+];
+
+/// The calls on what is empty, or is no container.
+const OF_EMPTY: &[(Frugal, &str)] = &[
+    (Frugal::Remove, "remove from nothing"),
+    (Frugal::ArrayRemove, "array_remove from nothing"),
+    (Frugal::Pop, "pop of nothing"),
+    (Frugal::OverrideLast, "Object::override_last of nothing"),
+    (Frugal::Retain, "Object::retain of nothing"),
+    (Frugal::IntoIter, "into_iter of nothing"),
+    (Frugal::Clear, "clear of nothing"),
+    (Frugal::Take, "take of nothing"),
+    (Frugal::Equal, "== of nothing"),
+    (Frugal::Write, "what writes nothing"),
+    (Frugal::Generate, "generators of nothing"),
+    (Frugal::Order, "order of nothing"),
+    (Frugal::Admits, "admits of nothing"),
+    (Frugal::Display, "Display of nothing"),
+    (Frugal::IntoJson, "into_json of nothing"),
+    (Frugal::From, "From of nothing"),
 ];
 
 /// Each call succeeds on a copy of the value, and requests no byte.
@@ -400,6 +433,24 @@ fn no_memory_counted(rt: HostRuntime) -> Tested {
     expect_frugal(&rt, alloc, &numbers(alloc)?, OF_ARRAY)?;
     let long = JsonValue::String(joined(alloc, &[("plain\n", 20000)])?);
     expect_frugal(&rt, alloc, &long, OF_STRING)
+}
+
+/// Also on what is empty, and on an object that was emptied.
+#[test]
+fn no_memory_for_nothing_counted(rt: HostRuntime) -> Tested {
+    let alloc = rt.alloc();
+    let mut emptied = parse(alloc, "{\"a\":1}")?;
+    drop(emptied.remove("a"));
+    for value in [
+        JsonValue::Null,
+        JsonValue::new_array(alloc),
+        JsonValue::new_object(alloc),
+        JsonValue::String(String::new(alloc)),
+        emptied,
+    ] {
+        expect_frugal(&rt, alloc, &value, OF_EMPTY)?;
+    }
+    Ok(())
 }
 
 /// What makes an array of `COUNT` elements.
@@ -445,6 +496,65 @@ fn made_counted(rt: HostRuntime) -> Tested {
     Ok(())
 }
 
+/// What prints a short text into memory.
+#[derive(Clone, Copy)]
+enum Text {
+    Dump,
+    Pretty,
+    LayOut,
+    ObjectDump,
+    ObjectPretty,
+    Stringify,
+    StringifyPretty,
+}
+
+impl Text {
+    fn print(self, alloc: Global, value: JsonValue) -> Result<String> {
+        match self {
+            Text::Dump => value.dump(alloc),
+            Text::Pretty => value.pretty(alloc, 2),
+            Text::LayOut => value.lay_out(alloc, Pretty(2)),
+            Text::Stringify => stringify(alloc, value),
+            Text::StringifyPretty => stringify_pretty(alloc, value, 2),
+            Text::ObjectDump | Text::ObjectPretty => self.print_object(alloc, &value),
+        }
+    }
+
+    fn print_object(self, alloc: Global, value: &JsonValue) -> Result<String> {
+        match (self, value.as_object()) {
+            (Text::ObjectDump, Some(object)) => object.dump(alloc),
+            (_, Some(object)) => object.pretty(alloc, 2),
+            _ => Err(Error::UnexpectedEndOfJson),
+        }
+    }
+}
+
+const TEXTS: [(Text, &str); 7] = [
+    (Text::Dump, "dump of a short text"),
+    (Text::Pretty, "pretty of a short text"),
+    (Text::LayOut, "lay_out of a short text"),
+    (Text::ObjectDump, "Object::dump of a short text"),
+    (Text::ObjectPretty, "Object::pretty of a short text"),
+    (Text::Stringify, "stringify of a short text"),
+    (Text::StringifyPretty, "stringify_pretty of a short text"),
+];
+
+/// Each requests room for 1,024 bytes, once.
+#[test]
+fn texts_counted(rt: HostRuntime) -> Tested {
+    let alloc = rt.alloc();
+    for (call, name) in TEXTS {
+        let value = parse(alloc, LONG_DOCUMENT)?;
+        let mut refusals = Refusals::new(alloc);
+        refusals.open();
+        let text = call.print(alloc, value)?;
+        refusals.expect_within(&rt, name, 1024)?;
+        let has_string = text.as_str().contains("a text of more than thirty bytes");
+        expect(&rt, name, has_string);
+    }
+    Ok(())
+}
+
 /// What holds no more room than its parts need.
 #[derive(Clone, Copy)]
 enum Held {
@@ -455,6 +565,8 @@ enum Held {
     List,
     Text,
     TextClone,
+    Key,
+    KeyClone,
     Dump,
 }
 
@@ -524,6 +636,11 @@ impl Held {
                 text.push_str(LONG_TEXT)?;
                 JsonValue::String(text).clone(alloc)
             }
+            Held::Key => Ok(JsonValue::String(Key::new(alloc, LONG_KEY)?.into_string(alloc)?)),
+            Held::KeyClone => {
+                let copy = Key::new(alloc, LONG_KEY)?.clone(alloc)?;
+                Ok(JsonValue::String(copy.into_string(alloc)?))
+            }
             Held::Dump => {
                 let text = JsonValue::String(joined(alloc, &[("plain", 40000)])?);
                 Ok(JsonValue::String(text.dump(alloc)?))
@@ -546,6 +663,8 @@ const HELD: &[(Held, &str, usize)] = &[
     (Held::List, "into_json of a list", 5 * 48 + 24),
     (Held::Text, "into_json of a long string", 31 + 24),
     (Held::TextClone, "clone of a string with room", 31 + 24),
+    (Held::Key, "Key::new of a long key", 40 + 24),
+    (Held::KeyClone, "Key::clone of a long key", 40 + 24),
     // A text that grows may have as much room again.
     (Held::Dump, "dump of a long string", 2 * 200_002 + 24),
 ];
@@ -561,6 +680,33 @@ fn room_counted(rt: HostRuntime) -> Tested {
         drop(value);
         refusals.close();
         refusals.expect_even()?;
+    }
+    Ok(())
+}
+
+/// The most bytes of the box of an object, which is all that it needs besides its entries.
+const MOST_OF_BOX: usize = 152;
+
+/// A builder of this many of five nulls, with room for them and no more.
+fn exact_builder(alloc: Global, count: usize) -> Result<Builder> {
+    let mut builder = Builder::with_capacity(alloc, count)?;
+    for key in ["a", "b", "c", "d", "e"].iter().take(count) {
+        builder.push(alloc, Key::new(alloc, key)?, JsonValue::Null)?;
+    }
+    Ok(builder)
+}
+
+/// An object takes over what its builder holds, and requests a box alone; without entries, nothing.
+#[test]
+fn built_counted(rt: HostRuntime) -> Tested {
+    let alloc = rt.alloc();
+    for (count, most) in [(0, 0), (1, MOST_OF_BOX), (5, MOST_OF_BOX)] {
+        let builder = exact_builder(alloc, count)?;
+        let mut refusals = Refusals::new(alloc);
+        refusals.open();
+        let object = Object::from_builder(alloc, builder)?;
+        refusals.expect_within(&rt, "Object::from_builder without spare room", most)?;
+        expect(&rt, "the length", object.len() == count);
     }
     Ok(())
 }
