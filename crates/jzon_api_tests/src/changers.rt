@@ -2,7 +2,7 @@
 
 ghost use Rattle.std.specs.Prelude.{◌≡◌};
 
-use crate::common::{Tested, expect, expect_dump, expect_eq, long};
+use crate::common::{Tested, each_unread, expect, expect_dump, expect_eq, long};
 use jzon::{Error, IntoJson, JsonValue, Result, parse};
 use std::alloc::Global;
 use std::process::Abort;
@@ -137,6 +137,23 @@ fn removes(rt: HostRuntime) -> Tested {
     Ok(())
 }
 
+/// There is nothing in it to remove, and it stays as it was.
+fn remove_nothing(rt: &impl Abort, alloc: Global, text: &str, mut value: JsonValue) -> Tested {
+    for removal in [Removal::Pop, Removal::At(0), Removal::Key("a")] {
+        expect(rt, text, removal.from(&mut value).is_null());
+    }
+    expect_dump(rt, alloc, &value, text)
+}
+
+/// An empty array and empty objects that have room are among these values.
+#[test]
+fn removes_nothing(rt: HostRuntime) -> Tested {
+    for (text, value) in each_unread(rt.alloc())? {
+        remove_nothing(&rt, rt.alloc(), text, value)?;
+    }
+    Ok(())
+}
+
 /// An object, and what it is with null under `b`.
 const INSERTED: &[(&str, &str)] = &[
     ("{}", "{\"b\":null}"),
@@ -189,6 +206,21 @@ const FAILED: &[(&str, &str, &str)] = &[
     ),
     (
         "5",
+        "Wrong type, expected: Array",
+        "Wrong type, expected: Object",
+    ),
+    (
+        "true",
+        "Wrong type, expected: Array",
+        "Wrong type, expected: Object",
+    ),
+    (
+        "\"ab\"",
+        "Wrong type, expected: Array",
+        "Wrong type, expected: Object",
+    ),
+    (
+        "\"abcdefghijklmnopqrstuvwxyz01234\"",
         "Wrong type, expected: Array",
         "Wrong type, expected: Object",
     ),

@@ -140,7 +140,7 @@ fn quotes_last(alloc: Global) -> Result<String, AllocError> {
 }
 
 /// Appends this string by each hook that takes one, whole, and from the second of its quotes on;
-/// then, with 70,000 indents open, the whitespace of a line.
+/// then, with 70,000 indents open, the whitespace of a line and the colon after a key.
 fn append_all<G: Generator>(generator: &mut G, string: &str) -> io::Result<()> {
     generator.write(string.as_bytes())?;
     generator.write_string(string)?;
@@ -148,13 +148,14 @@ fn append_all<G: Generator>(generator: &mut G, string: &str) -> io::Result<()> {
     generator.set_dent(69999);
     generator.indent()?;
     generator.new_line()?;
+    generator.write_min(b": ", b':')?;
     generator.set_dent(u64::MAX - 1);
     generator.indent()?;
     generator.write_number(&Number::from_parts_unchecked(true, u64::MAX, 32767))?;
     generator.write_char(b'.')
 }
 
-/// They append what the rules say, where a line has these parts.
+/// They append what the rules say, where a line and the colon have these parts.
 fn expect_all<G: Generator<T = Vec<u8>>>(
     rt: &impl Abort,
     alloc: Global,
@@ -183,12 +184,13 @@ fn expect_all<G: Generator<T = Vec<u8>>>(
 #[test]
 fn hooks_take_long_arguments(rt: HostRuntime) -> Result<(), Fail> {
     let alloc = rt.alloc();
-    expect_all(&rt, alloc, &mut DumpGenerator::new(alloc), &[])?;
-    let line = [("\n", 1), (" ", 210000)];
+    let colon = [(":", 1)];
+    expect_all(&rt, alloc, &mut DumpGenerator::new(alloc), &colon)?;
+    let line = [("\n", 1), (" ", 210000), (": ", 1)];
     expect_all(&rt, alloc, &mut PrettyGenerator::new(alloc, 3), &line)?;
-    expect_all(&rt, alloc, &mut TabGenerator::new(alloc), &[("\u{b}", 1)])?;
+    expect_all(&rt, alloc, &mut TabGenerator::new(alloc), &[("\u{b}:", 1)])?;
     let mut bytes: Vec<u8> = Vec::new(alloc);
-    expect_all(&rt, alloc, &mut WriterGenerator::new(&mut bytes), &[])?;
+    expect_all(&rt, alloc, &mut WriterGenerator::new(&mut bytes), &colon)?;
     let mut bytes: Vec<u8> = Vec::new(alloc);
     expect_all(
         &rt,

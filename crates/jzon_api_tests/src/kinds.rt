@@ -29,11 +29,11 @@ fn prints_and_copies_each_kind(rt: HostRuntime) -> Tested {
     Ok(())
 }
 
-/// By each call that adds an element: the array of this value alone.
+/// By each call that adds an element: the array of this value alone. One had room before.
 fn arrays_of(alloc: Global, value: &JsonValue) -> Result<[JsonValue; 7]> {
     let mut pushed = JsonValue::new_array(alloc);
     pushed.push(alloc, value.clone(alloc)?)?;
-    let mut borrowed = JsonValue::new_array(alloc);
+    let mut borrowed = JsonValue::Array(Vec::with_capacity(alloc, 5)?);
     *borrowed.at_index_mut(alloc, 0)? = value.clone(alloc)?;
     let mut written = JsonValue::new_array(alloc);
     write_at_index(&mut written, alloc, 0, value.clone(alloc)?)?;
@@ -75,11 +75,11 @@ fn values_of(alloc: Global, key: &str, value: &JsonValue) -> Result<[JsonValue; 
     ])
 }
 
-/// The same by the calls of objects and of maps.
+/// The same by the calls of objects and of maps. One object had room before.
 fn objects_of(alloc: Global, key: &str, value: &JsonValue) -> Result<[Object; 5]> {
     let mut inserted = Object::new(alloc);
     inserted.insert(alloc, key, value.clone(alloc)?)?;
-    let mut borrowed = Object::new(alloc);
+    let mut borrowed = Object::with_capacity(alloc, 5)?;
     *borrowed.at_mut(alloc, key)? = value.clone(alloc)?;
     let pairs = Object::from_pairs(alloc, [(key, value.clone(alloc)?)].into_iter())?;
     let collected: Object = [(key, value.clone(alloc)?)].into_iter().collect(alloc)?;

@@ -86,18 +86,22 @@ fn makes_elements(rt: HostRuntime) -> Tested {
 }
 
 /// There is nothing of another kind in it to borrow: of an object no elements, of an array no
-/// entries, of any other value nothing. What isn't borrowed leaves the value as it was, and an
-/// allocated string allocated.
+/// entries, of any other value nothing. In an empty container there is nothing either, even if it
+/// has room. What isn't borrowed leaves the value as it was, and an allocated string allocated.
 fn borrow_nothing(rt: &impl Abort, alloc: Global, text: &str, mut value: JsonValue) -> Tested {
     let before = value.clone(alloc)?;
     let is_allocated = matches!(value, JsonValue::String(_));
     if !value.is_object() {
         expect(rt, text, value.get_mut("a").is_none());
         expect(rt, text, value.as_object_mut().is_none());
+    }
+    if !value.is_object() || value.is_empty() {
         expect(rt, text, value.entries_mut().next().is_none());
     }
     if !value.is_array() {
         expect(rt, text, value.as_array_mut().is_none());
+    }
+    if !value.is_array() || value.is_empty() {
         expect(rt, text, value.members_mut().next().is_none());
     }
     expect(
@@ -205,15 +209,21 @@ fn writes(rt: HostRuntime) -> Tested {
     expect_dump(&rt, alloc, &value, "[null,4]")
 }
 
+/// An object without entries lends the values of two keys.
+fn make_keys(rt: &impl Abort, alloc: Global, mut object: Object) -> Tested {
+    *object.at_mut(alloc, "a")? = number(1);
+    expect(rt, "b", object.at_mut(alloc, "b")?.is_null());
+    expect(rt, "a", object.at_mut(alloc, "a")?.eq_u64(1));
+    *object.at_mut(alloc, "a")? = number(2);
+    expect_text(rt, alloc, &object, "{\"a\":2,\"b\":null}")
+}
+
+/// Also one that has room.
 #[test]
 fn objects_make_keys(rt: HostRuntime) -> Tested {
     let alloc = rt.alloc();
-    let mut object = Object::new(alloc);
-    *object.at_mut(alloc, "a")? = number(1);
-    expect(&rt, "b", object.at_mut(alloc, "b")?.is_null());
-    expect(&rt, "a", object.at_mut(alloc, "a")?.eq_u64(1));
-    *object.at_mut(alloc, "a")? = number(2);
-    expect_text(&rt, alloc, &object, "{\"a\":2,\"b\":null}")
+    make_keys(&rt, alloc, Object::new(alloc))?;
+    make_keys(&rt, alloc, Object::with_capacity(alloc, 5)?)
 }
 
 /// A caller's proof knows what was written.

@@ -141,8 +141,8 @@ fn error_of<G: Generator>(rt: &impl Abort, alloc: Global, generator: &mut G, row
     error
 }
 
-/// The writer fails at each of the hook's calls in turn: its own error is returned, and the bytes
-/// before that call were written.
+/// The writer fails at each of the hook's calls in turn: its own error is returned, the bytes
+/// before that call were written, and the writer isn't flushed.
 fn expect_failures(
     rt: &impl Abort,
     alloc: Global,
@@ -162,6 +162,7 @@ fn expect_failures(
             "the bytes",
             writer.bytes.as_slice() == &text[..call - 1],
         );
+        expect_eq(rt, "the flushes", writer.flushes, 0);
     }
     Ok(())
 }
