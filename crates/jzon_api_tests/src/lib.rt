@@ -46,6 +46,8 @@ mod printed;
 #[cfg(test)]
 mod readers;
 #[cfg(test)]
+mod receivers;
+#[cfg(test)]
 mod values;
 #[cfg(test)]
 mod view;
