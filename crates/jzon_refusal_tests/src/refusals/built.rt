@@ -11,7 +11,9 @@ enum Built {
     Texts,
     Slice,
     Map,
+    BorrowedMap,
     HashMap,
+    OwnedHashMap,
     Value,
     Expression,
     Array,
@@ -32,9 +34,21 @@ fn map(alloc: Global) -> Result<JsonValue> {
     map.into_json(alloc)
 }
 
+fn borrowed_map(alloc: Global) -> Result<JsonValue> {
+    let mut map = BTreeMap::new(alloc);
+    map.insert("a", LONG_TEXT)?;
+    map.into_json(alloc)
+}
+
 fn hash_map(alloc: Global) -> Result<JsonValue> {
     let mut map = HashMap::new(alloc);
     map.insert("a", LONG_TEXT)?;
+    map.into_json(alloc)
+}
+
+fn owned_hash_map(alloc: Global) -> Result<JsonValue> {
+    let mut map = HashMap::new(alloc);
+    map.insert(String::from_str(alloc, "a")?, Some(LONG_TEXT))?;
     map.into_json(alloc)
 }
 
@@ -65,7 +79,9 @@ impl Call for Built {
             Built::Texts => texts(alloc)?,
             Built::Slice => [LONG_TEXT, ""].as_slice().into_json(alloc)?,
             Built::Map => map(alloc)?,
+            Built::BorrowedMap => borrowed_map(alloc)?,
             Built::HashMap => hash_map(alloc)?,
+            Built::OwnedHashMap => owned_hash_map(alloc)?,
             Built::Value => value_of_macro(alloc)?,
             Built::Expression => jzon::value!(alloc; LONG_TEXT),
             Built::Array => array(alloc)?,
@@ -111,7 +127,21 @@ const BUILT: &[Row<Built>] = &[
         2,
     ),
     (Built::Map, "into_json of a map", "null", MAPPED, 6),
+    (
+        Built::BorrowedMap,
+        "into_json of a map of borrowed keys",
+        "null",
+        MAPPED,
+        5,
+    ),
     (Built::HashMap, "into_json of a hash map", "null", MAPPED, 8),
+    (
+        Built::OwnedHashMap,
+        "into_json of a hash map of owned keys",
+        "null",
+        MAPPED,
+        9,
+    ),
     (
         Built::Value,
         "value!",
