@@ -3,7 +3,8 @@
 ghost use Rattle.std.specs.Prelude.{◌≡◌};
 
 use crate::common::{expect, expect_dump};
-use jzon::{Error, IntoJson, JsonValue, Result};
+use jzon::{Error, IntoJson, JsonValue, Result, parse};
+use jzon_test_support::{joined, keys_by_hash, object_text};
 use std::alloc::Global;
 use std::test::Fail;
 
@@ -238,4 +239,48 @@ fn builds_expressions(rt: HostRuntime) -> Result<()> {
 fn builds_values(rt: HostRuntime) -> std::result::Result<(), Fail> {
     let text = "[1,true,-1,3,\"x\",2,-5]";
     expect_dump(&rt, rt.alloc(), &values(rt.alloc(), 1)?, text)
+}
+
+/// The value by `value!`, of one token and of several, as an element, and as the value of an entry.
+fn held(alloc: Global, large: &JsonValue) -> Result<JsonValue> {
+    let whole = large.clone(alloc)?;
+    let first = large.clone(alloc)?;
+    let named = large.clone(alloc)?;
+    Ok(jzon::array![alloc;
+        jzon::value!(alloc; whole), jzon::value!(alloc; large.clone(alloc)?),
+        jzon::value!(alloc; [first, large.clone(alloc)?]),
+        jzon::value!(alloc; {a: named, "b" => large.clone(alloc)?}),
+    ])
+}
+
+/// More elements, entries and bytes than 16 bits can count.
+#[test]
+fn builds_large_values(rt: HostRuntime) -> std::result::Result<(), Fail> {
+    let alloc = rt.alloc();
+    let texts = [
+        joined(alloc, &[("[0", 1), (",0", 70000), ("]", 1)])?,
+        object_text(alloc, keys_by_hash(alloc, 70000)?.as_slice())?,
+        joined(alloc, &[("\"", 1), ("plain", 40000), ("\"", 1)])?,
+    ];
+    for text in &texts {
+        let value = held(alloc, &parse(alloc, text.as_str())?)?;
+        let text = text.as_str();
+        let parts = [
+            ("[", 1),
+            (text, 1),
+            (",", 1),
+            (text, 1),
+            (",[", 1),
+            (text, 1),
+            (",", 1),
+            (text, 1),
+            ("],{\"a\":", 1),
+            (text, 1),
+            (",\"b\":", 1),
+            (text, 1),
+            ("}]", 1),
+        ];
+        expect_dump(&rt, alloc, &value, joined(alloc, &parts)?.as_str())?;
+    }
+    Ok(())
 }
