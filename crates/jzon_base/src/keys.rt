@@ -177,8 +177,11 @@ fn merge<V: Drop>(
         ≡ put_each (zip keys.old.items values.old.items) }
     ensures table { IfOk result (λ r. IsTable keys.new.items r) }
 {
-    if keys.len() <= index::LINEAR_MAX && index::are_distinct(keys.as_slice()) {
-        return Ok(Runs::new(alloc));
+    if keys.len() <= index::LINEAR_MAX {
+        if index::are_distinct(keys.as_slice()) {
+            return Ok(Runs::new(alloc));
+        }
+        return put_each(alloc, keys, values);
     }
     match index::of(alloc, keys.as_slice())? {
         Some(index) => Runs::of(alloc, index),
