@@ -163,10 +163,11 @@ fn put_each<V: Drop>(
     Ok(index)
 }
 
-/// Merges the entries of equal keys: the last value at the position of the first. Returns the index
-/// of the keys that are left, or none where they are few. The error is a failed allocation.
+/// Merges the entries of equal keys, in place: the last value at the position of the first. Returns
+/// the index of the keys that are left, or none if they were few. The error is a failed allocation,
+/// and then some of the merges have been made.
 #[inline(always)]
-fn merge<V: Drop>(
+pub fn merge<V: Drop>(
     alloc: Global,
     keys: &mut Vec<Key>,
     values: &mut Vec<V>,

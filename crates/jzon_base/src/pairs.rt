@@ -95,7 +95,7 @@ impl<V> Pairs<V> {
     /// value at the position of the first. Keys and values are taken over. The error is a failed
     /// allocation, and then at most merges have been made. The box is allocated before them.
     #[inline(always)]
-    fn from_entries(
+    fn take_entries(
         alloc: Global,
         keys: &mut Vec<Key>,
         values: &mut Vec<V>,
@@ -118,6 +118,22 @@ impl<V> Pairs<V> {
             alloc,
             entries: Some(entries),
         })
+    }
+
+    /// The entries of keys and as many values, put one after the other: those of equal keys become
+    /// one, with the last value at the position of the first. The error is a failed allocation.
+    #[inline(always)]
+    pub fn from_entries(
+        alloc: Global,
+        mut keys: Vec<Key>,
+        mut values: Vec<V>,
+    ) -> Result<Pairs<V>, AllocError>
+    where
+        V: Drop,
+        requires { length values.items ≡ length keys.items }
+        ensures { IfOk result (λ p. p ≡ put_each (zip keys.items values.items)) }
+    {
+        Pairs::take_entries(alloc, &mut keys, &mut values)
     }
 
     /// A copy of the keys, with these values. The error is a failed allocation.

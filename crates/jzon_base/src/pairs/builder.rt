@@ -116,7 +116,7 @@ impl<V: Drop> Gathered<V> {
         ensures err { OnErr result (self.new ≡ self.old) }
     {
         self.tags = None;
-        Pairs::from_entries(alloc, &mut self.keys, &mut self.values)
+        Pairs::take_entries(alloc, &mut self.keys, &mut self.values)
     }
 
     /// The entries as `Pairs`, without unused room. The error is a failed allocation.
