@@ -18,6 +18,7 @@ ghost use Rattle.jzon_base.specs.Private.Handed.{entries_of, IsIndexed, IsSpotFo
 pub mod hash;
 pub(crate) mod index;
 mod iter;
+mod known;
 mod order;
 mod retain;
 pub mod runs;
@@ -27,6 +28,7 @@ use crate::fit::reserve_next;
 use crate::key::Key;
 use hash::hash_of;
 pub use iter::Iter;
+pub use known::KnownKeys;
 use runs::Runs;
 use std::alloc::{AllocError, Global};
 use std::marker::Model;
