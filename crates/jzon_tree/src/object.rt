@@ -5,12 +5,12 @@ ghost use Rattle.std.specs.Prelude.{Some, is_some};
 ghost use Rattle.std.specs.Option.{option_copied, option_copied_mut};
 ghost use Rattle.std.specs.Iterator.{Drains, IsFinite, YieldsFirstBy, YieldsLastBy, item_count, at_most, UpTo};
 ghost use Rattle.std.specs.Iterator.SizeHint.{IsWithinCount};
-ghost use Rattle.std.specs.List.{IsDistinct};
+ghost use Rattle.std.specs.List.{zip, IsDistinct};
 ghost use Rattle.std.specs.Map.Calls.{CalledAtPair, CallableOnEachPair, RetainsPairs, TakesPair};
 ghost use Rattle.std.specs.Slice.Iter.{iter_rest};
 ghost use Rattle.std.specs.Str.{bytes_eq};
 ghost use Rattle.jzon_base.specs.IterMut.{iter_mut_rest};
-ghost use Rattle.jzon_base.specs.PairList.{find, put, cut, set_value, with_default, keys_of, values_of};
+ghost use Rattle.jzon_base.specs.PairList.{find, put, put_each, cut, set_value, with_default, keys_of, values_of};
 ghost use Rattle.jzon_tree.specs.IntoIter.{entries_left};
 ghost use Rattle.jzon_tree.specs.IntoJson.{PutMeans};
 ghost use Rattle.jzon_tree.specs.Entries.{entries_of};
@@ -118,6 +118,21 @@ impl Object {
             builder.push(alloc, key, value.into_json(alloc)?)?;
         }
         Object::from_builder(alloc, builder)
+    }
+
+    /// The object of the entries of keys and as many values, put one after the other, as by
+    /// `from_pairs`. Fails with `OutOfMemory` only.
+    #[doc(hidden)]
+    #[inline(always)]
+    pub fn from_entries(alloc: Global, keys: Vec<Key>, values: Vec<JsonValue>) -> Result<Object>
+        requires even { length values.items ≡ length keys.items }
+        ensures pairs { IfOk result (λ object. entries_of object
+            ≡ put_each (zip keys.items values.items)) }
+        ensures memory { IsOkUnless result Error.OutOfMemory }
+    {
+        Ok(Object {
+            pairs: Pairs::from_entries(alloc, keys, values)?,
+        })
     }
 
     /// The object of the builder's entries. Fails with `OutOfMemory` only.
