@@ -11,3 +11,4 @@ pub mod FirstBytes
 pub mod ContainerSteps
 pub mod FrameViews
 pub mod ContainerTokens
+pub mod PutValues

@@ -2,6 +2,7 @@
 pub mod Classes
 pub mod Quote
 pub mod Machine
+pub mod Places
 pub mod Numerals
 pub mod Brackets
 pub mod Cursor

@@ -3,6 +3,17 @@
 ghost use Rattle.std.specs.Prelude.{◌≡◌, ◌<◌, ◌≤◌, ◌+◌, ◌↔◌, length, IsTrue, slice_index};
 ghost use Rattle.std.specs.Char.{is_ascii_digit};
 
+/// The byte at `index`, or 0 past the end of the text. No token begins with 0.
+#[inline(always)]
+pub(crate) fn byte_at(source: &str, index: usize) -> u8
+    ensures { result ≡ slice_index source.now index }
+{
+    match source.as_bytes().get(index) {
+        Some(byte) => *byte,
+        None => 0,
+    }
+}
+
 /// Whether the byte at `index` is `byte`.
 pub(crate) fn has_byte(source: &str, index: usize, byte: u8) -> bool
     ensures { IsTrue result

@@ -1,16 +1,18 @@
 //! A text and the offset up to which it is read.
 
-ghost use Rattle.std.specs.Prelude.{◌≡◌, ◌≢◌, ◌⊎◌, ◌↔◌, IsTrue, ◌<◌, ◌≤◌, ◌+◌, length, chars};
+ghost use Rattle.std.specs.Prelude.{◌≡◌, ◌≢◌, ◌⊎◌, ◌↔◌, IsTrue, ◌<◌, ◌≤◌, ◌+◌, ℕ, List, length, chars};
 ghost use Rattle.std.specs.Prelude.{drop, false, slice_index, Err, IfOk, None, Some, if◌then◌else◌};
 ghost use Rattle.std.specs.Str.{IsCharBoundary, IsUtf8};
 ghost use Rattle.jzon_tree.specs.Value.{Value};
 ghost use Rattle.jzon_tree.specs.Writing.{is_whitespace};
 ghost use Rattle.jzon.specs.Private.Brackets.{opener, closer, empty_container, innermost_bracket};
 ghost use Rattle.jzon.specs.Private.Brackets.{after_opener, after_comma, after_closer};
-ghost use Rattle.jzon.specs.Private.Machine.{Frames, frames_depth, value_mark, before, after_value};
+ghost use Rattle.jzon.specs.Private.Machine.{Entries, Frames, object_frame, frames_depth, value_mark};
+ghost use Rattle.jzon.specs.Private.Machine.{State, before, after_key, after_value, from};
 ghost use Rattle.jzon.specs.Private.Machine.{fault_here, Reports};
 ghost use Rattle.jzon_base.specs.Tokens.{begin_array, begin_object};
 
+use crate::bytes_at::byte_at;
 use crate::fault::fault_at;
 use crate::reading::Reading;
 use crate::whitespace::skip_whitespace;
@@ -58,7 +60,7 @@ pub(crate) struct Cursor<'a> {
 }
 
 impl<'a> Cursor<'a> {
-    ghost use Rattle.jzon.specs.Private.Cursor.{next_byte, IsPast, GoesOn};
+    ghost use Rattle.jzon.specs.Private.Cursor.{left, next_byte, IsPast, GoesOn};
 
     /// Before the first token of a text.
     pub(crate) fn new(source: &'a str, reading: Reading) -> Cursor<'a>
@@ -71,15 +73,12 @@ impl<'a> Cursor<'a> {
         }
     }
 
-    /// The next byte, or 0 at the end. No token begins with 0.
+    /// The next byte, or 0 at the end.
     #[inline(always)]
     pub(crate) fn peek(&self) -> u8
         ensures { result ≡ next_byte self.now }
     {
-        match self.source.as_bytes().get(self.index) {
-            Some(byte) => *byte,
-            None => 0,
-        }
+        byte_at(self.source, self.index)
     }
 
     /// Moves past the token that ends at `end`, and the whitespace after it.
@@ -160,5 +159,76 @@ impl<'a> Cursor<'a> {
             return Ok(false);
         }
         Err(self.fault())
+    }
+
+    /// The same after the item that ends at `end`. Most texts have no whitespace there, so the comma
+    /// and the closing bracket are looked for before it is skipped.
+    #[inline(always)]
+    pub(crate) fn container_ends_at(&mut self, end: usize, bracket: Bracket) -> Result<bool>
+        requires boundary { IsCharBoundary self.old.source.now end }
+        requires further { self.old.index < end }
+        ensures { (p : State) (fs : Frames) (v : Value) → innermost_bracket fs ≡ Some bracket →
+            left self.old p ≡ from self.old.reading self.old.source.now (after_value fs v) end →
+            GoesOn self.old p result self.new
+            (λ ends. if ends then after_closer fs v else after_comma fs v) }
+    {
+        let next = byte_at(self.source, end);
+        if next == b',' {
+            self.go_to(end + 1);
+            return Ok(false);
+        }
+        if next == bracket.closer() {
+            self.go_to(end + 1);
+            return Ok(true);
+        }
+        self.container_ends_later(end, bracket)
+    }
+
+    /// The same where whitespace may come first.
+    #[inline(never)]
+    fn container_ends_later(&mut self, end: usize, bracket: Bracket) -> Result<bool>
+        requires boundary { IsCharBoundary self.old.source.now end }
+        requires further { self.old.index < end }
+        ensures { (p : State) (fs : Frames) (v : Value) → innermost_bracket fs ≡ Some bracket →
+            left self.old p ≡ from self.old.reading self.old.source.now (after_value fs v) end →
+            GoesOn self.old p result self.new
+            (λ ends. if ends then after_closer fs v else after_comma fs v) }
+    {
+        self.go_to(end);
+        self.container_ends(bracket)
+    }
+
+    /// After the key that ends at `end`: moves past the colon, which is looked for before whitespace
+    /// is skipped.
+    #[inline(always)]
+    pub(crate) fn colon_at(&mut self, end: usize) -> Result<()>
+        requires boundary { IsCharBoundary self.old.source.now end }
+        requires further { self.old.index < end }
+        ensures { (p : State) (fs : Frames) (es : Entries) (k : List ℕ) →
+            left self.old p ≡ from self.old.reading self.old.source.now (after_key fs es k) end →
+            GoesOn self.old p result self.new (λ _. before (object_frame fs es k)) }
+    {
+        if byte_at(self.source, end) == b':' {
+            self.go_to(end + 1);
+            return Ok(());
+        }
+        self.colon_later(end)
+    }
+
+    /// The same where whitespace may come first.
+    #[inline(never)]
+    fn colon_later(&mut self, end: usize) -> Result<()>
+        requires boundary { IsCharBoundary self.old.source.now end }
+        requires further { self.old.index < end }
+        ensures { (p : State) (fs : Frames) (es : Entries) (k : List ℕ) →
+            left self.old p ≡ from self.old.reading self.old.source.now (after_key fs es k) end →
+            GoesOn self.old p result self.new (λ _. before (object_frame fs es k)) }
+    {
+        self.go_to(end);
+        if self.peek() != b':' {
+            return Err(self.fault());
+        }
+        self.bump();
+        Ok(())
     }
 }

@@ -11,6 +11,7 @@ mod macros;
 mod numeral;
 mod open_containers;
 mod parser;
+mod place;
 mod primitive;
 mod reading;
 mod string;

@@ -20,7 +20,7 @@ use crate::capacity_hints::Hints;
 use crate::cursor::{Bracket, Cursor, opens_container};
 use crate::fault::duplicate_at;
 use crate::open_containers::{Frame, ValueStart};
-use crate::primitive::read_primitive;
+use crate::primitive::put_primitive;
 use crate::reading::{Reading, USUAL};
 use crate::string::read_string;
 use jzon_base::error::{Error, Result};
@@ -134,7 +134,15 @@ impl<'a> Parser<'a> {
     {
         let source = self.cursor.source;
         let start = self.cursor.index;
-        let (value, end) = read_primitive(self.alloc, source, start, first, &mut self.buffer)?;
+        let mut value = JsonValue::Null;
+        let end = put_primitive(
+            self.alloc,
+            source,
+            start,
+            first,
+            &mut self.buffer,
+            &mut value,
+        )?;
         self.cursor.go_to(end);
         Ok(value)
     }

@@ -1,143 +1,179 @@
-//! Reads primitives: numbers, strings and literals (RFC 8259, section 3). All functions that return
-//! a value are inlined, so that no value is moved from call to call.
+//! Reads primitives: numbers, strings and literals (RFC 8259, section 3). Each is put where it is to
+//! stay by the function that makes it, so that no value is moved from call to call.
 
-ghost use Rattle.std.specs.Prelude.{◌≡◌, ◌≢◌, ◌⊎◌, ◌==◌, ◌<◌, ◌≤◌, ◌+◌, [], length, chars, IsTrue};
-ghost use Rattle.std.specs.Prelude.{IfOk, Err, MatchResult, codes, ◌^◌, drop};
-ghost use Rattle.std.specs.Prelude.{slice_index, None, true, false, IsAscii};
+ghost use Rattle.std.specs.Prelude.{◌≡◌, ◌≢◌, ◌⊎◌, ◌<◌, ◌+◌, ◌^◌, ◌∷◌, ◌++◌, [], length, chars, IsTrue};
+ghost use Rattle.std.specs.Prelude.{IfOk, Err, MatchResult, codes, drop, vec_len, vec_capacity};
+ghost use Rattle.std.specs.Prelude.{slice_index, None, true, false, IsAscii, ⊤};
 ghost use Rattle.std.specs.Char.{is_ascii_digit};
 ghost use Rattle.std.specs.Str.{IsCharBoundary};
 ghost use Rattle.jzon_tree.specs.Value.{Value, null, boolean};
 ghost use Rattle.jzon_tree.specs.View.{view};
-ghost use Rattle.jzon_tree.specs.Writing.{is_whitespace};
 ghost use Rattle.jzon.specs.Private.Classes.{after_minus, letter_n, letter_t, letter_f};
 ghost use Rattle.jzon.specs.Private.Machine.{numeral, numeral_after_first, string, as_value};
-ghost use Rattle.jzon.specs.Private.Machine.{between, Frames, is_fresh, before};
+ghost use Rattle.jzon.specs.Private.Machine.{between, before, Frames};
 ghost use Rattle.jzon.specs.Private.Machine.{after_value, past_letter, value_mark, from, Reports};
-ghost use Rattle.jzon.specs.Private.Machine.{Leads, LeadsUnlessMemory, fault_here};
+ghost use Rattle.jzon.specs.Private.Machine.{fault_here};
+ghost use Rattle.jzon.specs.Private.Places.{MayBegin, Puts};
 ghost use Rattle.jzon.specs.Reading.{Reading};
-ghost use Rattle.jzon_base.specs.Tokens.{begin_array, begin_object, end_array, quotation_mark};
+ghost use Rattle.jzon_base.specs.Tokens.{begin_array, begin_object, quotation_mark};
 
 use crate::bytes_at::{has_byte, has_digit, has_four};
 use crate::fault::fault_at;
 use crate::numeral::read_number;
-use crate::string::{read_string, text_value};
+use crate::place::Place;
+use crate::string::{put_text, read_string};
 use jzon_base::error::{Error, Result};
 use jzon_tree::value::JsonValue;
 use std::alloc::Global;
 
-/// The primitive at `start`, whose first byte is `first` (0 at the end of the text), and the offset
-/// after it.
+/// Puts the primitive at `start`, whose first byte is `first` (0 at the end of the text). Returns
+/// the offset after it.
 #[inline(always)]
-pub(crate) fn read_primitive(
+pub(crate) fn put_primitive<P: Place>(
     alloc: Global,
     source: &str,
     start: usize,
     first: u8,
     buffer: &mut String,
-) -> Result<(JsonValue, usize)>
+    place: &mut P,
+) -> Result<usize>
     requires boundary { IsCharBoundary source.now start }
     requires first { first ≡ slice_index source.now start }
     requires no_array { first ≢ begin_array }
     requires no_object { first ≢ begin_object }
-    ensures end { IfOk result (λ r. (start < r.1) × IsCharBoundary source.now r.1) }
+    requires room { P.has_room place.old }
+    ensures end { IfOk result (λ end. (start < end) × IsCharBoundary source.now end) }
     ensures memory { result ≡ Err Error.OutOfMemory → first ≡ quotation_mark }
-    ensures outcome { (r : Reading) (fs : Frames) → value_mark r fs ≡ None
-        → (start < length source.now → is_whitespace r.strict (slice_index source.now start)
-        ≡ false)
-        → (is_fresh fs ≡ true → slice_index source.now start ≢ end_array) →
-        LeadsUnlessMemory r source.now (before fs) start result (λ v. after_value fs (view v)) }
+    ensures outcome { Puts (P.takes place.old) place.old place.new result source.now start before
+        (λ r fs. MayBegin r fs source.now start) }
 {
     if first.is_ascii_digit() {
-        return read_magnitude(source, start, false);
+        return put_magnitude(source, start, false, place);
     }
     match first {
-        b'-' => read_negative(source, start + 1),
-        b'"' => read_string_value(alloc, source, start + 1, buffer),
-        b'n' | b't' | b'f' => read_literal(source, start, first),
+        b'-' => put_negative(source, start + 1, place),
+        b'"' => put_string(alloc, source, start + 1, buffer, place),
+        b'n' | b't' | b'f' => put_literal(source, start, first, place),
         _ => stopped_at(source, start),
     }
+}
+
+/// Pushes the primitive at `start`, whose first byte is `first` (0 at the end of the text), onto
+/// `values`. Returns the offset after it.
+#[inline(always)]
+pub(crate) fn push_primitive(
+    alloc: Global,
+    source: &str,
+    start: usize,
+    first: u8,
+    buffer: &mut String,
+    values: &mut Vec<JsonValue>,
+) -> Result<usize>
+    requires boundary { IsCharBoundary source.now start }
+    requires first { first ≡ slice_index source.now start }
+    requires no_array { first ≢ begin_array }
+    requires no_object { first ≢ begin_object }
+    requires room { vec_len values.old < vec_capacity values.old }
+    ensures end { IfOk result (λ end. (start < end) × IsCharBoundary source.now end) }
+    ensures memory { result ≡ Err Error.OutOfMemory → first ≡ quotation_mark }
+    ensures outcome { Puts (λ v new. new.items ≡ values.old.items ++ v ∷ []) values.old values.new
+        result source.now start before (λ r fs. MayBegin r fs source.now start) }
+{
+    put_primitive(alloc, source, start, first, buffer, values)
 }
 
 /// The error of a text that has no valid continuation at `index`. Inlined, so that the stack slot
 /// of an error is cleared only where one is reported.
 #[inline(always)]
-fn stopped_at(source: &str, index: usize) -> Result<(JsonValue, usize)>
+fn stopped_at(source: &str, index: usize) -> Result<usize>
     requires { IsCharBoundary source.now index }
-    ensures { MatchResult result (λ r. ⊥)
+    ensures { MatchResult result (λ _. ⊥)
         (λ e. Reports (chars source.now) e (fault_here (chars (drop index source.now)))) }
 {
     Err(fault_at(source, index))
 }
 
-/// The string whose opening quote is before `start`, as a value, and the offset after it.
+/// Puts the string whose opening quote is before `start`. Returns the offset after it.
 #[inline(always)]
-fn read_string_value(
+fn put_string<P: Place>(
     alloc: Global,
     source: &str,
     start: usize,
     buffer: &mut String,
-) -> Result<(JsonValue, usize)>
-    requires { IsCharBoundary source.now start }
-    ensures end { IfOk result (λ r. (start < r.1) × IsCharBoundary source.now r.1) }
-    ensures outcome { (r : Reading) (fs : Frames) →
-        LeadsUnlessMemory r source.now (string (as_value fs) [] between) start result
-        (λ v. after_value fs (view v)) }
+    place: &mut P,
+) -> Result<usize>
+    requires boundary { IsCharBoundary source.now start }
+    requires room { P.has_room place.old }
+    ensures end { IfOk result (λ end. (start < end) × IsCharBoundary source.now end) }
+    ensures outcome { Puts (P.takes place.old) place.old place.new result source.now start
+        (λ fs. string (as_value fs) [] between) (λ r fs. ⊤) }
 {
     let spelled = read_string(source, start, buffer)?;
     let (content, wide) = spelled.text(source, start, buffer);
-    let value = text_value(alloc, content, wide)?;
-    Ok((value, spelled.end))
+    put_text(alloc, content, wide, place)?;
+    Ok(spelled.end)
 }
 
-/// The number whose minus is before `start`, and the offset after it.
+/// Puts the number whose minus is before `start`. Returns the offset after it.
 #[inline(always)]
-fn read_negative(source: &str, start: usize) -> Result<(JsonValue, usize)>
-    requires { IsCharBoundary source.now start }
-    ensures end { IfOk result (λ r. (start < r.1) × IsCharBoundary source.now r.1) }
-    ensures outcome { (r : Reading) (fs : Frames) →
-        Leads r source.now (numeral fs true after_minus) start result
-        (λ v. after_value fs (view v)) }
+fn put_negative<P: Place>(source: &str, start: usize, place: &mut P) -> Result<usize>
+    requires boundary { IsCharBoundary source.now start }
+    requires room { P.has_room place.old }
+    ensures end { IfOk result (λ end. (start < end) × IsCharBoundary source.now end) }
+    ensures memory { result ≢ Err Error.OutOfMemory }
+    ensures outcome { Puts (P.takes place.old) place.old place.new result source.now start
+        (λ fs. numeral fs true after_minus) (λ r fs. ⊤) }
 {
     if !has_digit(source, start) {
         return stopped_at(source, start);
     }
-    read_magnitude(source, start, true)
+    put_magnitude(source, start, true, place)
 }
 
-/// The number whose first digit is at `start`, and the offset after it.
+/// Puts the number whose first digit is at `start`. Returns the offset after it.
 #[inline(always)]
-fn read_magnitude(source: &str, start: usize, negative: bool) -> Result<(JsonValue, usize)>
+fn put_magnitude<P: Place>(
+    source: &str,
+    start: usize,
+    negative: bool,
+    place: &mut P,
+) -> Result<usize>
     requires within { start < length source.now }
     requires digit { IsTrue (is_ascii_digit (slice_index source.now start)) }
-    ensures end { IfOk result (λ r. (start < r.1) × IsCharBoundary source.now r.1) }
-    ensures outcome { (r : Reading) (fs : Frames) →
-        Leads r source.now (numeral_after_first fs negative (slice_index source.now start))
-        (start + 1) result
-        (λ v. after_value fs (view v)) }
+    requires room { P.has_room place.old }
+    ensures end { IfOk result (λ end. (start < end) × IsCharBoundary source.now end) }
+    ensures memory { result ≢ Err Error.OutOfMemory }
+    ensures outcome { Puts (P.takes place.old) place.old place.new result source.now (start + 1)
+        (λ fs. numeral_after_first fs negative (slice_index source.now start)) (λ r fs. ⊤) }
 {
     let (number, end) = read_number(source, start, negative)?;
-    Ok((JsonValue::Number(number), end))
+    place.put(JsonValue::Number(number));
+    Ok(end)
 }
 
-/// The literal whose first letter, `first`, is at `start`, and the offset after it. Its last four
-/// letters are compared at once, and there is no branch for each of the three literals, since
-/// processors can't predict which comes next.
+/// Puts the literal whose first letter, `first`, is at `start`. Returns the offset after it. Its
+/// last four letters are compared at once, and there is no branch for each of the three literals,
+/// since processors can't predict which comes next.
 #[inline(always)]
-fn read_literal(source: &str, start: usize, first: u8) -> Result<(JsonValue, usize)>
+fn put_literal<P: Place>(source: &str, start: usize, first: u8, place: &mut P) -> Result<usize>
     requires within { start < length source.now }
     requires first { first ≡ slice_index source.now start }
     requires word { (first ≡ letter_n) ⊎ (first ≡ letter_t) ⊎ (first ≡ letter_f) }
-    ensures end { IfOk result (λ r. (start < r.1) × IsCharBoundary source.now r.1) }
-    ensures outcome { (r : Reading) (fs : Frames) → value_mark r fs ≡ None →
-        Leads r source.now (before fs) start result (λ v. after_value fs (view v)) }
+    requires room { P.has_room place.old }
+    ensures end { IfOk result (λ end. (start < end) × IsCharBoundary source.now end) }
+    ensures memory { result ≢ Err Error.OutOfMemory }
+    ensures outcome { Puts (P.takes place.old) place.old place.new result source.now start before
+        (λ r fs. value_mark r fs ≡ None) }
 {
     let prefix = last_four_at(start, first);
     let value = literal_value(first);
     if has_four(source, prefix, last_four(first)) {
-        return Ok((value, prefix + 4));
+        place.put(value);
+        return Ok(prefix + 4);
     }
     let end = read_letters(source, prefix, &last_four(first))?;
-    Ok((value, end))
+    place.put(value);
+    Ok(end)
 }
 
 /// The value of the literal with this first letter.

@@ -1,7 +1,7 @@
 //! Reads strings (RFC 8259, section 7; docs/RULES.md, "Strings").
 
 ghost use Rattle.std.specs.Prelude.{◌≡◌, ◌==◌, ◌<◌, ◌≤◌, ◌+◌, ◌-◌, ◌++◌, ◌&&◌, ◌⊎◌, ◌↔◌, Contains, ℕ, List, [], length};
-ghost use Rattle.std.specs.Prelude.{drop, take, chars, IsTrue, IfOk, IsOk, IsOkUnless, SomeIff, MatchResult, OnOk};
+ghost use Rattle.std.specs.Prelude.{drop, take, chars, IsTrue, IfOk, IsOk, IsOkUnless, SomeIff, MatchResult, OnOk, OnErr};
 ghost use Rattle.std.specs.Prelude.{slice_index, slice_range, string_bytes, encode_utf8, if◌then◌else◌, false};
 ghost use Rattle.std.specs.Char.{is_ascii_hexdigit, digit_value};
 ghost use Rattle.std.specs.Str.{IsCharBoundary};
@@ -20,6 +20,7 @@ ghost use Rattle.jzon.specs.Private.Machine.{outcome_on, from, from_closed, Repo
 
 use crate::bytes_at::has_byte;
 use crate::fault::fault_at;
+use crate::place::Place;
 use jzon_base::error::{Error, Result};
 use jzon_base::short::{MAX_LEN, Short};
 use jzon_base::util::escapes::{hex_value, meant_by};
@@ -61,20 +62,29 @@ impl Spelled {
     }
 }
 
-/// A string value, with whose string `wide` begins: up to 30 bytes are stored inline, which never
-/// fails, and more are allocated. The error is `OutOfMemory`.
+/// Puts a string value, with whose string `wide` begins: up to 30 bytes are stored inline, which
+/// never fails, and more are allocated. The error is `OutOfMemory`.
 #[inline(always)]
-pub(crate) fn text_value(alloc: Global, content: &str, wide: &str) -> Result<JsonValue>
-    requires { take (length content.now) wide.now ≡ content.now }
-    ensures value { IfOk result (λ v. view v ≡ text (kind_of content.now) content.now) }
+pub(crate) fn put_text<P: Place>(
+    alloc: Global,
+    content: &str,
+    wide: &str,
+    place: &mut P,
+) -> Result<()>
+    requires wide { take (length content.now) wide.now ≡ content.now }
+    requires room { P.has_room place.old }
+    ensures value { IfOk result (λ _. (v : JsonValue) × P.takes place.old v place.new
+        × (view v ≡ text (kind_of content.now) content.now)) }
+    ensures kept { OnErr result (place.new ≡ place.old) }
     ensures memory { IsOkUnless result OutOfMemory }
     ensures in_place { length content.now ≤ 30 → IsOk result }
 {
     if content.len() <= MAX_LEN {
-        Ok(JsonValue::Short(Short::from_wide(content, wide)))
+        place.put(JsonValue::Short(Short::from_wide(content, wide)));
     } else {
-        Ok(JsonValue::String(String::from_str(alloc, content)?))
+        place.put(JsonValue::String(String::from_str(alloc, content)?));
     }
+    Ok(())
 }
 
 /// Reads the string whose opening quote is before `start`. A string without escapes is not copied,

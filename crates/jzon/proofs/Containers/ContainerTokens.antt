@@ -1,5 +1,5 @@
 -- The tokens of arrays and objects, by the offset of the parser's cursor.
-use Rattle.std.proofs.Common.{◌≡◌, ◌≢◌, ◌∙◌, ℕ, ◌+◌, ◌<◌, ◌≤◌, ◌&&◌, false, List, [], length, drop, refl, arith, None}
+use Rattle.std.proofs.Common.{◌≡◌, ◌≢◌, ◌∙◌, ℕ, ◌+◌, ◌<◌, ◌≤◌, ◌&&◌, false, List, [], length, drop, get_or, refl, arith, None}
 use Rattle.std.proofs.Common.{Some, sym, ap, true, lit<}
 use Rattle.std.specs.Prelude.{chars}
 use Rattle.std.specs.Option.{is_some}
@@ -23,7 +23,7 @@ use Rattle.jzon.specs.declared.cursor.Cursor.{Cursor}
 use Rattle.jzon.proofs.Containers.ContainerSteps.{deep_element, deep_key, no_element, no_entry, open_key, no_key}
 use Rattle.jzon.proofs.Containers.ContainerSteps.{no_colon}
 use Rattle.jzon.proofs.Texts.ClassesOfCharacters.{char_of, class-char}
-use Rattle.jzon.proofs.Texts.Cursors.{Reached, utf8_of, byte_goes}
+use Rattle.jzon.proofs.Texts.Cursors.{Reached, ReadTo, read_to_here, utf8_of, token_goes}
 use Rattle.jzon.proofs.Containers.FrameViews.{byte_within}
 use Rattle.jzon.proofs.Strings.Quotes.{key_goes}
 use Rattle.jzon.proofs.Texts.StepsByByte.{from_step, from_stop}
@@ -35,20 +35,34 @@ pub opener_bounds : (b : Bracket) → (0 < opener b) × (opener b < 128)
 opener_bounds Array = (omega arith, omega arith)
 opener_bounds Object = (omega arith, omega arith)
 
+pub closer_bounds : (b : Bracket) → (0 < closer b) × (closer b < 128)
+closer_bounds Array = (omega arith, omega arith)
+closer_bounds Object = (omega arith, omega arith)
+
 same_closer : (b d : Bracket) → Some b ≡ Some d → closer d ≡ closer b
 same_closer b d e = cc
 
 -- ---- one character
 
--- the next byte is the character of class k, which leads from p to q
+-- the byte at the end of what was read is the character of class k, which leads from p to q
+leads_at : (k : Class) (t u : Cursor) (o p q : State) (end : ℕ) (moves : Class → Move)
+    → move t.reading p (char_of k) (left_at t.source.now end) ≡ moves (class_of t.reading.strict (char_of k))
+    → moves k ≡ go None q → 0 < char_of k → char_of k < 128 → allows_whitespace q ≡ true → ReadTo t o p end
+    → IsPast t.reading t.source.now (end + 1) u → get_or t.source.now end 0 ≡ char_of k
+    → IsAfter t u × (left t o ≡ left u q)
+leads_at k t u o p q end moves by goes some ascii allows read past e =
+    token_goes t u o q (end + 1) past (omega (arith, read.within)) allows
+    (read.same ∙ from_step t.reading t.source.now end p q (char_of k) (utf8_of t) read.boundary
+    (byte_within t.source.now end (char_of k) e some) e ascii
+    (by ∙ ap moves (class-char t.reading.strict k) ∙ goes))
+
+-- the next byte is
 leads : (k : Class) (t u : Cursor) (p q : State) (moves : Class → Move)
     → move t.reading p (char_of k) (left_at t.source.now t.index) ≡ moves (class_of t.reading.strict (char_of k))
     → moves k ≡ go None q → 0 < char_of k → char_of k < 128 → allows_whitespace q ≡ true
     → IsPast t.reading t.source.now (t.index + 1) u → next_byte t ≡ char_of k → IsAfter t u × (left t p ≡ left u q)
 leads k t u p q moves by goes some ascii allows past e =
-    byte_goes t u p q past allows (from_step t.reading t.source.now t.index p q (char_of k) (utf8_of t) t.boundary
-    (byte_within t.source.now t.index (char_of k) e some) e ascii
-    (by ∙ ap moves (class-char t.reading.strict k) ∙ goes))
+    leads_at k t u p p q t.index moves by goes some ascii allows (read_to_here t p) past e
 
 -- ---- after the opening bracket
 
@@ -90,29 +104,29 @@ item_too_deep Object t fs lt n le =
 
 -- ---- after an item
 
-pub closes : (b : Bracket) (t u : Cursor) (fs : Frames) (v : Value) → innermost_bracket fs ≡ Some b
-    → IsPast t.reading t.source.now (t.index + 1) u → next_byte t ≡ closer b
-    → IsAfter t u × (left t (after_value fs v) ≡ left u (after_closer fs v))
-closes b t u no_frames v here past e = absurd (cc)
-closes b t u (array_frame fs vs) v here past e =
-    leads closes_array t u (after_value (array_frame fs vs) v) (after_closer (array_frame fs vs) v)
-    (λ k. move_after_value k (array_frame fs vs) v) refl refl (lit< tt) (lit< tt) refl past
+pub closes : (b : Bracket) (t u : Cursor) (o : State) (end : ℕ) (fs : Frames) (v : Value)
+    → innermost_bracket fs ≡ Some b → ReadTo t o (after_value fs v) end → IsPast t.reading t.source.now (end + 1) u
+    → get_or t.source.now end 0 ≡ closer b → IsAfter t u × (left t o ≡ left u (after_closer fs v))
+closes b t u o end no_frames v here read past e = absurd (cc)
+closes b t u o end (array_frame fs vs) v here read past e =
+    leads_at closes_array t u o (after_value (array_frame fs vs) v) (after_closer (array_frame fs vs) v) end
+    (λ k. move_after_value k (array_frame fs vs) v) refl refl (lit< tt) (lit< tt) refl read past
     (e ∙ same_closer Array b here)
-closes b t u (object_frame fs es k) v here past e =
-    leads closes_object t u (after_value (object_frame fs es k) v) (after_closer (object_frame fs es k) v)
-    (λ x. move_after_value x (object_frame fs es k) v) refl refl (lit< tt) (lit< tt) refl past
+closes b t u o end (object_frame fs es k) v here read past e =
+    leads_at closes_object t u o (after_value (object_frame fs es k) v) (after_closer (object_frame fs es k) v) end
+    (λ x. move_after_value x (object_frame fs es k) v) refl refl (lit< tt) (lit< tt) refl read past
     (e ∙ same_closer Object b here)
 
-pub comma_goes : (b : Bracket) (t u : Cursor) (fs : Frames) (v : Value) → innermost_bracket fs ≡ Some b
-    → IsPast t.reading t.source.now (t.index + 1) u → next_byte t ≡ 44
-    → IsAfter t u × (left t (after_value fs v) ≡ left u (after_comma fs v))
-comma_goes b t u no_frames v here past e = absurd (cc)
-comma_goes b t u (array_frame fs vs) v here past e =
-    leads comma t u (after_value (array_frame fs vs) v) (after_comma (array_frame fs vs) v)
-    (λ k. move_after_value k (array_frame fs vs) v) refl refl (lit< tt) (lit< tt) refl past e
-comma_goes b t u (object_frame fs es k) v here past e =
-    leads comma t u (after_value (object_frame fs es k) v) (after_comma (object_frame fs es k) v)
-    (λ x. move_after_value x (object_frame fs es k) v) refl refl (lit< tt) (lit< tt) refl past e
+pub comma_goes : (b : Bracket) (t u : Cursor) (o : State) (end : ℕ) (fs : Frames) (v : Value)
+    → innermost_bracket fs ≡ Some b → ReadTo t o (after_value fs v) end → IsPast t.reading t.source.now (end + 1) u
+    → get_or t.source.now end 0 ≡ 44 → IsAfter t u × (left t o ≡ left u (after_comma fs v))
+comma_goes b t u o end no_frames v here read past e = absurd (cc)
+comma_goes b t u o end (array_frame fs vs) v here read past e =
+    leads_at comma t u o (after_value (array_frame fs vs) v) (after_comma (array_frame fs vs) v) end
+    (λ k. move_after_value k (array_frame fs vs) v) refl refl (lit< tt) (lit< tt) refl read past e
+comma_goes b t u o end (object_frame fs es k) v here read past e =
+    leads_at comma t u o (after_value (object_frame fs es k) v) (after_comma (object_frame fs es k) v) end
+    (λ x. move_after_value x (object_frame fs es k) v) refl refl (lit< tt) (lit< tt) refl read past e
 
 pub item_stops : (b : Bracket) (t : Cursor) (fs : Frames) (v : Value) → innermost_bracket fs ≡ Some b → next_byte t ≢ 44
     → next_byte t ≢ closer b → left t (after_value fs v) ≡ fault_here (chars (drop t.index t.source.now))
@@ -159,12 +173,12 @@ key_missing t fs es mark no_quote no_end =
     from_stop t.reading t.source.now t.index (before_key fs es) (utf8_of t) t.boundary
     (no_key t.reading t.source.now t.index fs es mark t.past_whitespace (λ here. no_quote here.1) no_end)
 
-pub colon_read : (t u : Cursor) (fs : Frames) (es : Entries) (k : List ℕ)
-    → IsPast t.reading t.source.now (t.index + 1) u → next_byte t ≡ 58
-    → IsAfter t u × (left t (after_key fs es k) ≡ left u (before (object_frame fs es k)))
-colon_read t u fs es k past e =
-    leads colon t u (after_key fs es k) (before (object_frame fs es k)) (λ x. move_after_key x fs es k) refl refl
-    (lit< tt) (lit< tt) refl past e
+pub colon_read : (t u : Cursor) (o : State) (end : ℕ) (fs : Frames) (es : Entries) (k : List ℕ)
+    → ReadTo t o (after_key fs es k) end → IsPast t.reading t.source.now (end + 1) u → get_or t.source.now end 0 ≡ 58
+    → IsAfter t u × (left t o ≡ left u (before (object_frame fs es k)))
+colon_read t u o end fs es k read past e =
+    leads_at colon t u o (after_key fs es k) (before (object_frame fs es k)) end (λ x. move_after_key x fs es k) refl
+    refl (lit< tt) (lit< tt) refl read past e
 
 pub colon_missing : (t : Cursor) (fs : Frames) (es : Entries) (k : List ℕ) → next_byte t ≢ 58
     → left t (after_key fs es k) ≡ fault_here (chars (drop t.index t.source.now))

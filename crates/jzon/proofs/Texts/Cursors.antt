@@ -2,6 +2,7 @@
 -- outcome of what is left now in the new state.
 use Rattle.std.proofs.Common.{◌≡◌, ℕ, ◌+◌, ◌<◌, ◌≤◌, List, true, refl, sym, subst, ◌∙◌, arith, Result, Ok, Err}
 use Rattle.std.specs.Prelude.{chars, IsErrAnd, IsUtf8}
+use Rattle.std.specs.Str.{IsCharBoundary}
 use Rattle.std.proofs.lemmas.Str.{IsUtf8-had}
 use Rattle.jzon_base.specs.declared.error.Error.{Error}
 use Rattle.jzon_tree.specs.declared.value.JsonValue.{JsonValue}
@@ -18,6 +19,15 @@ pub token_goes : (t u : Cursor) (p q : State) (end : ℕ) → IsPast t.reading t
     → allows_whitespace q ≡ true → left t p ≡ from t.reading t.source.now q end → IsAfter t u × (left t p ≡ left u q)
 token_goes t u p q end past lt allows e =
     (record { text = past.text; reading = past.reading; index = omega (arith, past.within) }, e ∙ past.same q allows)
+
+-- The outcome of what was left of a text in state o is the outcome from `end` on in state p.
+pub record ReadTo (t : Cursor) (o p : State) (end : ℕ) : Type 0 where
+  pub boundary : IsCharBoundary t.source.now end
+  pub within : t.index ≤ end
+  pub same : left t o ≡ from t.reading t.source.now p end
+
+pub read_to_here : (t : Cursor) (p : State) → ReadTo t p p t.index
+read_to_here t p = record { boundary = t.boundary; within = omega arith; same = refl }
 
 -- the same for one byte
 pub byte_goes : (t u : Cursor) (p q : State) → IsPast t.reading t.source.now (t.index + 1) u

@@ -2,7 +2,7 @@
 -- returned if an allocation fails.
 use Rattle.std.proofs.Common.{◌≡◌, ◌≢◌, inr, ℕ, suc, ◌-◌, ◌<◌, ◌≤◌, List, [], ◌∷◌, ◌++◌, length, take, drop, drop-cons}
 use Rattle.std.proofs.Common.{get_or, refl, sym, ap, subst, ◌∙◌, arith, Result, Ok, Err}
-use Rattle.std.specs.Prelude.{Contains, chars, IsUtf8, MatchResult}
+use Rattle.std.specs.Prelude.{Contains, chars, IsErrAnd, IsUtf8, MatchResult}
 use Rattle.std.specs.Str.{IsCharBoundary}
 use Rattle.std.proofs.Math.Seq.{get_or-append_seam}
 use Rattle.std.proofs.lemmas.List.{length-append}
@@ -79,6 +79,12 @@ pub never_memory : {T : Type 0} (P : T → Type 0) (t : List ℕ) (o : Outcome) 
 never_memory P t o (Ok v) h e = cc
 never_memory P t o (Err x) h e = let same : x ≡ OutOfMemory = cc in reports_no_memory t o
     (subst (λ z. Reports t z o) same h)
+
+-- an error that is propagated
+pub fails_without_memory : {T : Type 0} (t : List ℕ) (o : Outcome) (e : Error) (result : Result T Error)
+    → IsErrAnd result (λ x. x ≡ e) → Reports t e o → result ≢ Err OutOfMemory
+fails_without_memory t o e (Ok v) is h = absurd is
+fails_without_memory t o e (Err x) is h = never_memory (λ _. ⊥) t o (Err x) (rw is h)
 
 -- an ASCII byte of a text is one of its characters
 pub has_character : (bs : List ℕ) (i b : ℕ) → IsUtf8 bs → i < length bs → get_or bs i 0 ≡ b → b < 128

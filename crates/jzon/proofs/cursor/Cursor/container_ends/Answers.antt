@@ -1,15 +1,20 @@
 use Rattle.std.proofs.Common.{◌∙◌, sym}
 use Rattle.std.specs.Prelude.{chars}
 use Rattle.jzon.proofs.Containers.ContainerTokens.{closes, comma_goes, item_stops}
+use Rattle.jzon.proofs.Texts.Cursors.{read_to_here}
 use Rattle.jzon.proofs.Texts.ReportedErrors.{reported}
 use Rattle.jzon.proofs.cursor.Cursor.container_ends.Goals as goal
 
 pub returns-then-next-closer : goal.returns-then-next-closer
-returns-then-next-closer c fs v here = closes c.args.bracket c.args.self.now c.bump.new.self fs v here
-    c.bump.ensures (sym c.peek-next.ensures ∙ c.if-next-closer.true ∙ c.closer.ensures)
+returns-then-next-closer c fs v here =
+    let t = c.args.self.now in
+    closes c.args.bracket t c.bump.new.self _ t.index fs v here (read_to_here t _) c.bump.ensures
+    (sym c.peek-next.ensures ∙ c.if-next-closer.true ∙ c.closer.ensures)
 
 pub returns-then-next-eq44 : goal.returns-then-next-eq44
-returns-then-next-eq44 c fs v here = comma_goes c.args.bracket c.args.self.now c.bump-then-next-eq44.new.self fs v here
+returns-then-next-eq44 c fs v here =
+    let t = c.args.self.now in
+    comma_goes c.args.bracket t c.bump-then-next-eq44.new.self _ t.index fs v here (read_to_here t _)
     c.bump-then-next-eq44.ensures (sym c.peek-next.ensures ∙ c.if-next-eq44.true)
 
 pub returns : goal.returns

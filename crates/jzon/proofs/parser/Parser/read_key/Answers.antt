@@ -8,7 +8,7 @@ use Rattle.jzon.specs.Private.Cursor.{left, next_byte}
 use Rattle.jzon.specs.Private.Machine.{Frames, as_key, left_at, before, before_key, after_key, object_frame, key_mark}
 use Rattle.jzon.proofs.Containers.ContainerSteps.{open_key}
 use Rattle.jzon.proofs.Containers.ContainerTokens.{key_closes, key_stands, key_missing, colon_read, colon_missing}
-use Rattle.jzon.proofs.Texts.Cursors.{Reached, utf8_of, reached_start, goes_after, reported_on, fails_on}
+use Rattle.jzon.proofs.Texts.Cursors.{Reached, read_to_here, utf8_of, reached_start, goes_after, reported_on, fails_on}
 use Rattle.jzon.proofs.Texts.FaultOffsets.{reports_duplicate}
 use Rattle.jzon.proofs.Containers.FrameViews.{byte_within}
 use Rattle.jzon.proofs.Strings.Quotes.{key_refused}
@@ -107,7 +107,7 @@ returns-clause-outcome c fs h n =
     let es = viewed c.args.entries.now in
     let at = (goal.at.returns-clause-outcome c).After-go_to in
     let read = goes_after _ (key_read at fs h)
-    (colon_read u c.bump.new.self fs es (key_text at) c.bump.ensures (sym c.peek-2.ensures ∙ c.if-peek-ne58.false)) in (
+    (colon_read u c.bump.new.self _ u.index fs es (key_text at) (read_to_here u _) c.bump.ensures (sym c.peek-2.ensures ∙ c.if-peek-ne58.false)) in (
       read.0,
       read.1 ∙ ap (λ k. left c.bump.new.self (before (object_frame fs es k)))
           (sym (c.in_ok-key.ensures.bytes ∙ c.text.ensures.text)),
