@@ -1,4 +1,4 @@
-//! Tests of `jzon_base` by its public items alone, but for `write_bytes`.
+//! Tests of `jzon_base` by its public items alone.
 #![tactic(auto)]
 
 #[cfg(test)]
