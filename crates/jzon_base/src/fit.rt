@@ -13,7 +13,7 @@ const FIRST_ROOM: usize = 8;
 
 /// Makes room for one more element. The error is a failed allocation.
 #[inline(always)]
-pub fn reserve_next<T>(items: &mut Vec<T>) -> Result<(), AllocError>
+pub(crate) fn reserve_next<T>(items: &mut Vec<T>) -> Result<(), AllocError>
     ensures items { items.new.items ≡ items.old.items }
     ensures room { OnOk result (vec_len items.new < vec_capacity items.new) }
 {
