@@ -1,72 +1,80 @@
 -- `same` is an equivalence: two decimals are the same if and only if their keys are equal. (These are proofs; they are
 -- here because the laws of `PartialEq` and `Eq` cite them.)
-use Rattle.std.specs.Prelude.{◌≡◌, ℕ, ℤ, ◌+◌, ◌*◌, ◌<◌, true, false, ◌==◌, ◌&&◌, ◌||◌, if◌then◌else◌, refl}
-use Rattle.std.specs.Cmp.{IsEquivalence, nat_eq_equiv, on_equiv}
-use Rattle.std.proofs.Common.{sym, subst, arith}
-use Rattle.std.proofs.Math.Nat.{one-le-pow, one-le-mul}
-use Rattle.std.proofs.lemmas.Bool.Decides.{nat_tests}
+use Rattle.std.specs.Prelude.{◌≡◌, ℕ, zero, suc, ℤ, ◌<◌, ◌^◌, ◌*◌, Bool, true, false, ◌&&◌, ◌||◌, Option, None, Some, refl}
+use Rattle.std.specs.Prelude.{nat_eq}
+use Rattle.std.specs.Bool.{beq}
+use Rattle.std.specs.Option.{option_eq}
+use Rattle.std.specs.Cmp.{IsEquivalence, nat_eq_equiv, bool_eq_equiv, on_equiv, and_equiv}
+use Rattle.std.specs.Cmp.Lexicographic.{options_equiv}
+use Rattle.std.proofs.Common.{ap, ◌∙◌, sym, subst}
+use Rattle.std.proofs.Math.Dec.{lit≤}
+use Rattle.std.proofs.Math.Nat.{lt_irrefl, one-le-mul, one-le-pow, suc-ne-zero, zero-lt-suc, zero-mul}
+use Rattle.std.proofs.lemmas.Bool.{ne_eqb}
 use Rattle.jzon_base.specs.Decimal.{Decimal, nan, parts, same, scaled, shifted}
-
--- a number for each class of equal decimals: for NaN, for the zeros, and else from a sign and an exact decimal
-abbrev pub key : Decimal → ℕ
-key nan = 0
-key (parts true m e) = 1 + 2 * scaled m e
-key (parts false m e) = if m == 0 then 1 else 2 * scaled m e
 
 pub scaled-zero : (m : ℕ) (e : ℤ) → m ≡ 0 → scaled m e ≡ 0
 unfolding scaled
-scaled-zero m e h = rw h (omega arith)
+scaled-zero m e h = ap (λ n. n * 10 ^ shifted e) h ∙ zero-mul (10 ^ shifted e)
 
 pub scaled-pos : (m : ℕ) (e : ℤ) → 0 < m → 0 < scaled m e
 unfolding scaled
-scaled-pos m e h = one-le-mul h (one-le-pow (shifted e) 10 (omega arith))
+scaled-pos m e h = one-le-mul h (one-le-pow (shifted e) 10 (lit≤ tt))
 
 pub ruleset zero_rules = (scaled-zero, scaled-pos)
 
--- a is 0 if and only if m is
-record IsZeroWith (m a : ℕ) : Type 0 where
-  zero : m ≡ 0 → a ≡ 0
-  above : 0 < m → 0 < a
+-- one key for each class of equal decimals: for NaN, for the zeros, and else a sign and an exact decimal
+abbrev Key : Type 0
+Key = Option (Option (Bool × ℕ))
 
-scaled_is_zero : (m : ℕ) (e : ℤ) → IsZeroWith m (scaled m e)
-scaled_is_zero m e = record { zero = scaled-zero m e; above = scaled-pos m e }
+abbrev key : Decimal → Key
+key nan = None
+key (parts s zero e) = Some None
+key (parts s (suc m) e) = Some (Some (s, scaled (suc m) e))
 
-same-plus-plus : (m n a b : ℕ) → IsZeroWith m a → IsZeroWith n b
-    → (((m == 0) && (n == 0)) || (true && (a == b))) ≡ (1 + 2 * a == 1 + 2 * b)
-same-plus-plus m n a b p q = grind (arith, nat_tests)
+abbrev alike : Bool × ℕ → Bool × ℕ → Bool
+alike x y = beq x.0 y.0 && nat_eq x.1 y.1
 
-same-plus-minus : (m n a b : ℕ) → IsZeroWith m a → IsZeroWith n b
-    → (((m == 0) && (n == 0)) || (false && (a == b))) ≡ (1 + 2 * a == (if n == 0 then 1 else 2 * b))
-same-plus-minus m n a b p q = grind (arith, nat_tests)
+abbrev same_key : Key → Key → Bool
+same_key = option_eq (option_eq alike)
 
-same-minus-plus : (m n a b : ℕ) → IsZeroWith m a → IsZeroWith n b
-    → (((m == 0) && (n == 0)) || (false && (a == b))) ≡ ((if m == 0 then 1 else 2 * a) == 1 + 2 * b)
-same-minus-plus m n a b p q = grind (arith, nat_tests)
+same_key_equiv : IsEquivalence same_key
+same_key_equiv = options_equiv (options_equiv (and_equiv (on_equiv (λ (x : Bool × ℕ). x.0) bool_eq_equiv)
+    (on_equiv (λ (x : Bool × ℕ). x.1) nat_eq_equiv)))
 
-same-minus-minus : (m n a b : ℕ) → IsZeroWith m a → IsZeroWith n b
-    → (((m == 0) && (n == 0)) || (true && (a == b))) ≡ ((if m == 0 then 1 else 2 * a) == (if n == 0 then 1 else 2 * b))
-same-minus-minus m n a b p q = grind (arith, nat_tests)
+-- a number above 0 isn't 0
+apart : (a b : ℕ) → a ≡ 0 → 0 < b → nat_eq a b ≡ false
+apart a b h p = ne_eqb a b (λ e. lt_irrefl zero (subst (λ n. 0 < n) (sym e ∙ h) p))
 
-same-nan-minus : (m a : ℕ) → IsZeroWith m a → false ≡ (0 == (if m == 0 then 1 else 2 * a))
-same-nan-minus m a p = grind (arith, nat_tests)
+not_zero : (n : ℕ) → nat_eq (suc n) 0 ≡ false
+not_zero n = ne_eqb (suc n) 0 (suc-ne-zero n)
 
-same-minus-nan : (m a : ℕ) → IsZeroWith m a → false ≡ ((if m == 0 then 1 else 2 * a) == 0)
-same-minus-nan m a p = grind (arith, nat_tests)
+and-false : (t u : Bool) → u ≡ false → (t && u) ≡ false
+and-false true u h = h
+and-false false u h = refl
 
-same-key : (x y : Decimal) → same x y ≡ (key x == key y)
-same-key nan nan = refl
-same-key nan (parts true n f) = grind (arith, nat_tests)
-same-key nan (parts false n f) = same-nan-minus n (scaled n f) (scaled_is_zero n f)
-same-key (parts true m e) nan = grind (arith, nat_tests)
-same-key (parts false m e) nan = same-minus-nan m (scaled m e) (scaled_is_zero m e)
-same-key (parts true m e) (parts true n f) = same-plus-plus m n (scaled m e) (scaled n f) (scaled_is_zero m e)
-    (scaled_is_zero n f)
-same-key (parts true m e) (parts false n f) = same-plus-minus m n (scaled m e) (scaled n f) (scaled_is_zero m e)
-    (scaled_is_zero n f)
-same-key (parts false m e) (parts true n f) = same-minus-plus m n (scaled m e) (scaled n f) (scaled_is_zero m e)
-    (scaled_is_zero n f)
-same-key (parts false m e) (parts false n f) = same-minus-minus m n (scaled m e) (scaled n f) (scaled_is_zero m e)
-    (scaled_is_zero n f)
+-- the exact decimals of a zero and of another number differ
+zero-apart : (s t : Bool) (e : ℤ) (n : ℕ) (f : ℤ) → (beq s t && nat_eq (scaled 0 e) (scaled (suc n) f)) ≡ false
+zero-apart s t e n f = and-false (beq s t) (nat_eq (scaled 0 e) (scaled (suc n) f))
+    (apart (scaled 0 e) (scaled (suc n) f) (scaled-zero 0 e refl) (scaled-pos (suc n) f (zero-lt-suc n)))
+
+apart-zero : (s t : Bool) (m : ℕ) (e : ℤ) (f : ℤ) → (beq s t && nat_eq (scaled (suc m) e) (scaled 0 f)) ≡ false
+apart-zero s t m e f = and-false (beq s t) (nat_eq (scaled (suc m) e) (scaled 0 f))
+    (nat_eq_equiv.symm (scaled (suc m) e) (scaled 0 f)
+    ∙ apart (scaled 0 f) (scaled (suc m) e) (scaled-zero 0 f refl) (scaled-pos (suc m) e (zero-lt-suc m)))
+
+same-by-key : (x y : Decimal) → same x y ≡ same_key (key x) (key y)
+same-by-key nan nan = refl
+same-by-key nan (parts t zero f) = refl
+same-by-key nan (parts t (suc n) f) = refl
+same-by-key (parts s zero e) nan = refl
+same-by-key (parts s (suc m) e) nan = refl
+same-by-key (parts s zero e) (parts t zero f) = refl
+same-by-key (parts s zero e) (parts t (suc n) f) =
+    ap (λ z. z || (beq s t && nat_eq (scaled 0 e) (scaled (suc n) f))) (not_zero n) ∙ zero-apart s t e n f
+same-by-key (parts s (suc m) e) (parts t zero f) =
+    ap (λ z. (z && true) || (beq s t && nat_eq (scaled (suc m) e) (scaled 0 f))) (not_zero m) ∙ apart-zero s t m e f
+same-by-key (parts s (suc m) e) (parts t (suc n) f) =
+    ap (λ z. (z && nat_eq (suc n) 0) || (beq s t && nat_eq (scaled (suc m) e) (scaled (suc n) f))) (not_zero m)
 
 pub same_equiv : IsEquivalence same
-same_equiv = subst IsEquivalence (λ i x y. sym (same-key x y) i) (on_equiv key nat_eq_equiv)
+same_equiv = subst IsEquivalence (λ i x y. sym (same-by-key x y) i) (on_equiv key same_key_equiv)

@@ -2,8 +2,7 @@
 use Rattle.std.specs.Prelude.{◌≡◌, ℕ, max, List, [], ◌∷◌, map, length}
 use mathlib.Core.Path.{refl, sym, ap, ◌∙◌}
 use mathlib.Core.Former.{Former, Count, Row, one_more, this, const, pair, list, list_count, list_put, via, children}
-use native.Mathlib.Nat.{ℕ_set}
-use native.Mathlib.Omega.{arith}
+use native.Mathlib.Nat.{ℕ_set, suc-ne-zero, suc_inj}
 use lib.ListN.{length-map}
 use denote.RattleType.{RattleType}
 use denote.HoleLaws.{Alike}
@@ -74,11 +73,11 @@ zip-map h (k ∷ ks) (v ∷ vs) = ap (λ l. (k, h v) ∷ l) (zip-map h ks vs)
 zip-held : (X : Type 0) (ks : List (List ℕ)) (vs : List X) → length vs ≡ length ks
     → held (list (entry this)) X (zip ks vs) ≡ held (list this) X vs
 zip-held X [] [] e = refl
-zip-held X [] (v ∷ vs) e = absurd (omega arith)
-zip-held X (k ∷ ks) [] e = absurd (omega arith)
+zip-held X [] (v ∷ vs) e = absurd (suc-ne-zero (length vs) e)
+zip-held X (k ∷ ks) [] e = absurd (suc-ne-zero (length ks) (sym e))
 zip-held X (k ∷ ks) (v ∷ vs) e = λ i. (
-  one_more (zip-held X ks vs (omega arith) i).0,
-  (v, (zip-held X ks vs (omega arith) i).1),
+  one_more (zip-held X ks vs (suc_inj e) i).0,
+  (v, (zip-held X ks vs (suc_inj e) i).1),
 )
 
 module _ (R R' : RattleType) (h : R.Denot → R'.Denot) where
