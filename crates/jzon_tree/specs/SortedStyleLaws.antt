@@ -2,7 +2,8 @@
 -- generators cite them.)
 use Rattle.std.specs.Prelude.{◌≡◌, ℕ, suc, ◌+◌, ◌==◌, Bool, true, false, not, if◌then◌else◌, List}
 use Rattle.std.specs.Prelude.{[], ◌∷◌, length, map, count_by, cond, refl}
-use Rattle.std.proofs.Common.{ap, ◌∙◌, arith}
+use Rattle.std.proofs.Common.{ap, ◌∙◌, sym}
+use Rattle.std.proofs.Math.Nat.{add_left_comm}
 use Rattle.std.proofs.lemmas.Bool.{and_parts}
 use Rattle.std.proofs.lemmas.Cmp.{nat_list_cmp_total}
 use Rattle.std.proofs.lemmas.List.Sorted.{ranks_by}
@@ -54,7 +55,10 @@ module _ (keys : List (List ℕ)) where
   -- inserting p adds one occurrence of p
   times-put_if : (b : Bool) (i p q : ℕ) (more qs : List ℕ) → times i more ≡ cond (p == i) 1 0 + times i qs
       → times i (put_if b p q more qs) ≡ cond (p == i) 1 0 + times i (q ∷ qs)
-  times-put_if true i p q more qs h = omega (arith, times-cons i q more, times-cons i q qs, h)
+  times-put_if true i p q more qs h = times-cons i q more
+      ∙ ap (λ n. cond (q == i) 1 0 + n) h
+      ∙ add_left_comm (cond (q == i) 1 0) (cond (p == i) 1 0) (times i qs)
+      ∙ sym (ap (λ n. cond (p == i) 1 0 + n) (times-cons i q qs))
   times-put_if false i p q more qs h = times-cons i p (q ∷ qs)
 
   times-put : (i p : ℕ) (qs : List ℕ) → times i (put p qs) ≡ cond (p == i) 1 0 + times i qs
@@ -64,7 +68,9 @@ module _ (keys : List (List ℕ)) where
 
   times-sorted : (i : ℕ) (ps : List ℕ) → times i (sorted ps) ≡ times i ps
   times-sorted i [] = refl
-  times-sorted i (p ∷ ps) = omega (arith, times-put i p (sorted ps), times-sorted i ps, times-cons i p ps)
+  times-sorted i (p ∷ ps) = times-put i p (sorted ps)
+      ∙ ap (λ n. cond (p == i) 1 0 + n) (times-sorted i ps)
+      ∙ sym (times-cons i p ps)
 
   length-put_if : (b : Bool) (p q : ℕ) (more qs : List ℕ) → length more ≡ suc (length qs)
       → length (put_if b p q more qs) ≡ suc (length (q ∷ qs))
