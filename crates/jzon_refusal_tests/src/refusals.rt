@@ -73,6 +73,7 @@ fn run<C: Call>(
         expect(rt, expected.0, matches!(outcome, Err(Error::OutOfMemory)));
         let text = before.dump(alloc)?;
         expect_dump(rt, alloc, &value, text.as_str())?;
+        expect(rt, expected.0, value == *before);
     } else {
         expect(rt, expected.0, outcome.is_ok());
         expect_dump(rt, alloc, &value, expected.1)?;
