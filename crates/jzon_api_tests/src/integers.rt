@@ -5,41 +5,104 @@ use jzon::number::NAN;
 use jzon::{JsonValue, View, parse};
 use std::process::Abort;
 
-/// 200 is an integer of each type but `i8`.
-fn expect_200(rt: &impl Abort, value: &JsonValue) {
-    expect_eq(rt, "u8", value.as_u8(), Some(200));
-    expect_eq(rt, "u16", value.as_u16(), Some(200));
-    expect_eq(rt, "u32", value.as_u32(), Some(200));
-    expect_eq(rt, "u64", value.as_u64(), Some(200));
-    expect_eq(rt, "usize", value.as_usize(), Some(200));
-    expect_eq(rt, "i8", value.as_i8(), None);
-    expect_eq(rt, "i16", value.as_i16(), Some(200));
-    expect_eq(rt, "i32", value.as_i32(), Some(200));
-    expect_eq(rt, "i64", value.as_i64(), Some(200));
-    expect_eq(rt, "isize", value.as_isize(), Some(200));
+/// What is read as each unsigned type, from `u8` to `u64`, and then `usize`.
+type Unsigned = (
+    Option<u8>,
+    Option<u16>,
+    Option<u32>,
+    Option<u64>,
+    Option<usize>,
+);
+
+/// The same for the signed types.
+type Signed = (
+    Option<i8>,
+    Option<i16>,
+    Option<i32>,
+    Option<i64>,
+    Option<isize>,
+);
+
+fn unsigned(view: View<'_>) -> Unsigned {
+    (
+        view.as_u8(),
+        view.as_u16(),
+        view.as_u32(),
+        view.as_u64(),
+        view.as_usize(),
+    )
 }
 
-fn expect_200_of_view(rt: &impl Abort, view: View<'_>) {
-    expect_eq(rt, "u8", view.as_u8(), Some(200));
-    expect_eq(rt, "u16", view.as_u16(), Some(200));
-    expect_eq(rt, "u32", view.as_u32(), Some(200));
-    expect_eq(rt, "u64", view.as_u64(), Some(200));
-    expect_eq(rt, "usize", view.as_usize(), Some(200));
-    expect_eq(rt, "i8", view.as_i8(), None);
-    expect_eq(rt, "i16", view.as_i16(), Some(200));
-    expect_eq(rt, "i32", view.as_i32(), Some(200));
-    expect_eq(rt, "i64", view.as_i64(), Some(200));
-    expect_eq(rt, "isize", view.as_isize(), Some(200));
+fn signed(view: View<'_>) -> Signed {
+    (
+        view.as_i8(),
+        view.as_i16(),
+        view.as_i32(),
+        view.as_i64(),
+        view.as_isize(),
+    )
 }
+
+fn unsigned_of_value(value: &JsonValue) -> Unsigned {
+    (
+        value.as_u8(),
+        value.as_u16(),
+        value.as_u32(),
+        value.as_u64(),
+        value.as_usize(),
+    )
+}
+
+fn signed_of_value(value: &JsonValue) -> Signed {
+    (
+        value.as_i8(),
+        value.as_i16(),
+        value.as_i32(),
+        value.as_i64(),
+        value.as_isize(),
+    )
+}
+
+const NO_UNSIGNED: Unsigned = (None, None, None, None, None);
+
+const NO_SIGNED: Signed = (None, None, None, None, None);
+
+/// The parts of a number, and what is read of it.
+const WIDTHS: &[((bool, u64, i16), Unsigned, Signed)] = &[
+    (
+        (true, 200, 0),
+        (Some(200), Some(200), Some(200), Some(200), Some(200)),
+        (None, Some(200), Some(200), Some(200), Some(200)),
+    ),
+    (
+        (false, 1, 0),
+        NO_UNSIGNED,
+        (Some(-1), Some(-1), Some(-1), Some(-1), Some(-1)),
+    ),
+    (
+        (true, 40000, 0),
+        (None, Some(40000), Some(40000), Some(40000), Some(40000)),
+        (None, None, Some(40000), Some(40000), Some(40000)),
+    ),
+    ((true, 4, 4), NO_UNSIGNED, NO_SIGNED),
+    ((false, 55, -1), NO_UNSIGNED, NO_SIGNED),
+    (
+        (false, 32768, 0),
+        NO_UNSIGNED,
+        (None, Some(-32768), Some(-32768), Some(-32768), Some(-32768)),
+    ),
+];
 
 #[test]
 fn reads_each_width(rt: HostRuntime) {
-    let value = number(200);
-    expect_200(&rt, &value);
-    expect_200_of_view(&rt, value.as_view());
-    let negative = parts(false, 32768, 0);
-    expect_eq(&rt, "u16", negative.as_u16(), None);
-    expect_eq(&rt, "i16", negative.as_i16(), Some(-32768));
+    for ((positive, mantissa, exponent), of_unsigned, of_signed) in WIDTHS {
+        let value = parts(*positive, *mantissa, *exponent);
+        expect_eq(&rt, "unsigned", unsigned_of_value(&value), *of_unsigned);
+        expect_eq(&rt, "signed", signed_of_value(&value), *of_signed);
+        let view = value.as_view();
+        expect_eq(&rt, "unsigned", unsigned(view), *of_unsigned);
+        expect_eq(&rt, "signed", signed(view), *of_signed);
+    }
 }
 
 /// What is read of it as a `u64` and as an `i64`.
