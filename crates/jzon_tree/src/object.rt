@@ -84,8 +84,8 @@ impl Object {
         }
     }
 
-    /// An object without entries, with room for the keys and values of `capacity` entries. More than
-    /// 16 have an index, with room for up to 1,024 of them. Fails with `OutOfMemory` only.
+    /// An object without entries, with room for about `capacity` of them; how much isn't promised.
+    /// Fails with `OutOfMemory` only.
     pub fn with_capacity(alloc: Global, capacity: usize) -> Result<Object>
         ensures empty { IfOk result (λ object. entries_of object ≡ []) }
         ensures memory { IsOkUnless result Error.OutOfMemory }
