@@ -127,6 +127,7 @@ fn goes_over_its_entries_from_both_ends(rt: HostRuntime) -> Tested {
     expect(&rt, "the first", is_entry(pairs.next(), "a", 1));
     expect(&rt, "the last", is_entry(pairs.next_back(), "c", 3));
     expect_eq(&rt, "how many are left", pairs.len(), 1);
+    expect_eq(&rt, "size_hint", pairs.size_hint(), (1, Some(1)));
     expect(&rt, "the one between", is_entry(pairs.next(), "b", 2));
     expect(&rt, "no more", pairs.next_back().is_none());
     expect(&rt, "Iter::empty", Iter::empty().next().is_none());

@@ -15,6 +15,7 @@ const CUT: &[Row] = &[
     ((true, 19, -1), 0, Some(1), Some(1)),
     ((false, 1, -1), 0, None, Some(0)),
     ((true, 5, -20), 0, Some(0), Some(0)),
+    ((true, 50, -21), 0, Some(0), Some(0)),
     ((true, 5, 19), 0, None, None),
     ((true, 5, 0), 19, None, None),
     ((true, 1, 0), 19, Some(10000000000000000000), None),

@@ -62,6 +62,7 @@ const COMPARED: &[(Parts, Parts, bool)] = &[
     ((false, 0, 7), (true, 0, 0), true),
     ((true, 0, -32768), (true, 0, 32767), true),
     ((true, 1, 20), (true, 1, 0), false),
+    ((true, 1, 21), (true, 10, 0), false),
     ((true, 1, 64), (true, 0, 0), false),
     ((true, 5, 2), (true, 500, 0), true),
     ((true, 1, 0), (true, 10, -1), true),

@@ -13,11 +13,12 @@ use std::io;
 use std::process::Abort;
 
 /// Counts the bytes passed to a generator, not those that go to its writer directly, and the calls
-/// of `write_char`.
+/// of `write` and of `write_char`.
 #[derive(Drop)]
 pub struct Counting<G: Generator> {
     inner: G,
     count: usize,
+    writes: usize,
     chars: usize,
 }
 
@@ -29,6 +30,7 @@ impl<G: Generator> Counting<G> {
         Counting {
             inner,
             count: 0,
+            writes: 0,
             chars: 0,
         }
     }
@@ -53,6 +55,7 @@ impl<G: Generator> Generator for Counting<G> {
 
     fn write(&mut self, slice: &[u8]) -> io::Result<()> {
         self.add(slice.len());
+        self.writes = self.writes.saturating_add(1);
         self.inner.write(slice)
     }
 
@@ -96,19 +99,28 @@ impl<G: Generator> Generator for Counting<G> {
     ghost style_law = { λ g. G.style_law g.inner };
 }
 
-/// The value has this text, each byte of which is counted.
-fn expect_counted(rt: &impl Abort, alloc: Global, value: &JsonValue, text: &str) -> Tested {
+/// The value has this text, each byte of which is counted, and `write` is called `writes` times.
+fn expect_counted(
+    rt: &impl Abort,
+    alloc: Global,
+    value: &JsonValue,
+    text: &str,
+    writes: usize,
+) -> Tested {
     let mut generator = Counting::new(DumpGenerator::new(alloc));
     write_json(&mut generator, value)?;
     expect_bytes(rt, generator.get_writer(), text);
     expect_eq(rt, text, generator.count, text.len());
+    expect_eq(rt, text, generator.writes, writes);
     Ok(())
 }
 
-const STRINGS: &[(&str, &str)] = &[
-    ("", "\"\""),
-    ("plain", "\"plain\""),
-    ("a\"b\\\n\u{1}é", "\"a\\\"b\\\\\\n\\u0001é\""),
+/// A string, its text, and the calls of `write`: the bytes before the first escape, then in turn
+/// those before an escape and the escape, and those after the last.
+const STRINGS: &[(&str, &str, usize)] = &[
+    ("", "\"\"", 2),
+    ("plain", "\"plain\"", 2),
+    ("a\"b\\\n\u{1}é", "\"a\\\"b\\\\\\n\\u0001é\"", 10),
 ];
 
 const NUMBERS: &[(bool, u64, i16, &str)] = &[(false, 125, -1, "-12.5"), (true, 1, 30, "1e30")];
@@ -116,15 +128,15 @@ const NUMBERS: &[(bool, u64, i16, &str)] = &[(false, 125, -1, "-12.5"), (true, 1
 #[test]
 fn counts_strings_and_numbers(rt: HostRuntime) -> Tested {
     let alloc = rt.alloc();
-    for (string, text) in STRINGS {
+    for (string, text, writes) in STRINGS {
         let value = JsonValue::String(String::from_str(alloc, string)?);
-        expect_counted(&rt, alloc, &value, text)?;
+        expect_counted(&rt, alloc, &value, text, *writes)?;
     }
     for (positive, mantissa, exponent, text) in NUMBERS {
         let number = Number::from_parts_unchecked(*positive, *mantissa, *exponent);
-        expect_counted(&rt, alloc, &JsonValue::Number(number), text)?;
+        expect_counted(&rt, alloc, &JsonValue::Number(number), text, 1)?;
     }
-    expect_counted(&rt, alloc, &JsonValue::Number(NAN), "null")
+    expect_counted(&rt, alloc, &JsonValue::Number(NAN), "null", 1)
 }
 
 /// The provided hooks take a string of any length.
@@ -133,17 +145,17 @@ fn counts_a_long_string(rt: HostRuntime) -> Tested {
     let alloc = rt.alloc();
     let string = joined(alloc, &[("plain", 40000)])?;
     let text = joined(alloc, &[("\"", 1), ("plain", 40000), ("\"", 1)])?;
-    expect_counted(&rt, alloc, &JsonValue::String(string), text.as_str())
+    expect_counted(&rt, alloc, &JsonValue::String(string), text.as_str(), 2)
 }
 
 /// Each comma and each bracket is a call of `write_char`.
 #[test]
 fn counts_containers(rt: HostRuntime) -> Tested {
     let array = numbers(rt.alloc(), &[1, 20])?;
-    expect_counted(&rt, rt.alloc(), &array, "[1,20]")?;
+    expect_counted(&rt, rt.alloc(), &array, "[1,20]", 2)?;
     let mut generator = Counting::new(DumpGenerator::new(rt.alloc()));
     write_json(&mut generator, &array)?;
     expect_eq(&rt, "write_char", generator.chars, 3);
     let object = empty_containers(rt.alloc())?;
-    expect_counted(&rt, rt.alloc(), &object, "{\"a\":[],\"b\":{}}")
+    expect_counted(&rt, rt.alloc(), &object, "{\"a\":[],\"b\":{}}", 6)
 }
