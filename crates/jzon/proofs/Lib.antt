@@ -16,3 +16,4 @@ pub use Rattle.jzon_tree.proofs.InPlace
 pub use Rattle.jzon_tree.proofs.PlainWritings
 pub use Rattle.jzon_tree.proofs.Sorted
 pub use Rattle.jzon_tree.proofs.KeyOrder
+pub use Rattle.jzon_tree.proofs.Unique

@@ -1,7 +1,7 @@
 use Rattle.std.proofs.Common.{true, false}
 use Rattle.jzon.specs.View.{view}
 use Rattle.jzon.specs.Text.{compact_layout, pretty_layout}
-use Rattle.jzon_tree.proofs.Unique.{sent_ok, sent_err}
+use Rattle.jzon.proofs.Unique.{sent_ok, sent_err}
 use Rattle.jzonfmt.proofs.Added.{written}
 use Rattle.jzonfmt.proofs.engine.write_text.Goals as goal
 
