@@ -2,12 +2,12 @@
 use Rattle.std.specs.Prelude.{◌≡◌, ℕ, List, [], ◌∷◌, ◌++◌, length, nat_lt, nat_eq, if◌then◌else◌, Option}
 use Rattle.std.specs.Prelude.{None, Some}
 use Rattle.std.specs.Global.{Vec}
-use Rattle.std.proofs.Common.{ap}
+use Rattle.std.proofs.Common.{rules}
 use Rattle.jzon_tree.specs.Entries.{entries_of, with_entries}
 use Rattle.jzon_tree.specs.Value.{Value, array, list_of_values}
 use Rattle.jzon_tree.specs.declared.object.Object.{Object}
 use Rattle.jzon_tree.specs.declared.value.JsonValue.{JsonValue, out-JsonValue, Null, Object as object_value}
-use Rattle.jzon_tree.specs.declared.value.JsonValue.{Array as array_value, out-roll-JsonValue}
+use Rattle.jzon_tree.specs.declared.value.JsonValue.{Array as array_value, the_lemmas}
 use Rattle.jzon_tree.specs.declared.value.JsonValue.TheOpen.{JsonValue-F}
 
 abbrev object_at : JsonValue-F JsonValue Object → Option Object
@@ -62,7 +62,7 @@ place_made v i = place_in (items_in v) i
 -- ---- an object or array value has what it was built from
 
 pub entries_in-object : (ps : List (List ℕ × JsonValue)) → entries_in (object_value (with_entries ps)) ≡ ps
-entries_in-object ps = ap entries_at (out-roll-JsonValue (JsonValue-F.Object (with_entries ps)))
+entries_in-object ps = search (rules, the_lemmas)
 
 pub items_in-array : (vs : Vec JsonValue) → items_in (array_value vs) ≡ Some vs.items
-items_in-array vs = ap items_at (out-roll-JsonValue (JsonValue-F.Array vs))
+items_in-array vs = search (rules, the_lemmas)
