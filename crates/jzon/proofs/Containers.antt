@@ -10,5 +10,7 @@ pub mod WholeLiterals
 pub mod FirstBytes
 pub mod ContainerSteps
 pub mod FrameViews
+pub mod StackParts
+pub mod OpenItems
 pub mod ContainerTokens
 pub mod PutValues

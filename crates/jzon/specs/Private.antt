@@ -6,5 +6,7 @@ pub mod Places
 pub mod Numerals
 pub mod Brackets
 pub mod Cursor
-pub mod Frames
 pub mod ReadingFields
+pub mod OpenContainers
+pub mod Stacks
+pub mod Read

@@ -1,9 +1,10 @@
 //! A text and the offset up to which it is read.
 
-ghost use Rattle.std.specs.Prelude.{◌≡◌, ◌≢◌, ◌⊎◌, ◌↔◌, IsTrue, ◌<◌, ◌≤◌, ◌+◌, ℕ, List, length, chars};
-ghost use Rattle.std.specs.Prelude.{drop, false, slice_index, Err, IfOk, None, Some, if◌then◌else◌};
+ghost use Rattle.std.specs.Prelude.{◌≡◌, ◌≢◌, ◌<◌, ◌≤◌, ◌+◌, ℕ, List, length, chars};
+ghost use Rattle.std.specs.Prelude.{drop, false, slice_index, Err, IfOk, None, Some, if◌then◌else◌, MatchOption};
 ghost use Rattle.std.specs.Str.{IsCharBoundary, IsUtf8};
 ghost use Rattle.jzon_tree.specs.Value.{Value};
+ghost use Rattle.jzon_tree.specs.View.{view};
 ghost use Rattle.jzon_tree.specs.Writing.{is_whitespace};
 ghost use Rattle.jzon.specs.Private.Brackets.{opener, closer, empty_container, innermost_bracket};
 ghost use Rattle.jzon.specs.Private.Brackets.{after_opener, after_comma, after_closer};
@@ -17,6 +18,9 @@ use crate::fault::fault_at;
 use crate::reading::Reading;
 use crate::whitespace::skip_whitespace;
 use jzon_base::error::{Error, Result};
+use jzon_tree::object::Object;
+use jzon_tree::value::JsonValue;
+use std::alloc::Global;
 
 /// The brackets of one kind of container.
 #[derive(Clone, Copy)]
@@ -26,6 +30,30 @@ pub(crate) enum Bracket {
 }
 
 impl Bracket {
+    /// The brackets of the container whose first byte this is, if it is one.
+    #[inline(always)]
+    pub(crate) fn opened_by(first: u8) -> Option<Bracket>
+        ensures { MatchOption result ((first ≢ begin_array) × (first ≢ begin_object))
+            (λ b. first ≡ opener b) }
+    {
+        match first {
+            b'[' => Some(Bracket::Array),
+            b'{' => Some(Bracket::Object),
+            _ => None,
+        }
+    }
+
+    /// An empty container.
+    #[inline(always)]
+    pub(crate) fn empty(self, alloc: Global) -> JsonValue
+        ensures { view result ≡ empty_container self }
+    {
+        match self {
+            Bracket::Array => JsonValue::Array(Vec::new(alloc)),
+            Bracket::Object => JsonValue::Object(Object::new(alloc)),
+        }
+    }
+
     /// The closing bracket.
     #[inline(always)]
     fn closer(self) -> u8
@@ -36,14 +64,6 @@ impl Bracket {
             Bracket::Object => b'}',
         }
     }
-}
-
-/// Whether this is the first byte of an array or an object.
-#[inline(always)]
-pub(crate) fn opens_container(first: u8) -> bool
-    ensures { IsTrue result ↔ ((first ≡ begin_array) ⊎ (first ≡ begin_object)) }
-{
-    first == b'[' || first == b'{'
 }
 
 /// A text, the offset up to which it is read, and how it is read. No whitespace is at the offset.

@@ -2,18 +2,17 @@
 #![tactic(auto)]
 
 mod bytes_at;
-mod capacity_hints;
 mod conversions;
 mod cursor;
 mod fault;
 pub mod laws;
 mod macros;
 mod numeral;
-mod open_containers;
 mod parser;
 mod place;
 mod primitive;
 mod reading;
+mod stacks;
 mod string;
 mod whitespace;
 

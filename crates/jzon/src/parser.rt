@@ -1,35 +1,29 @@
 //! Parses texts (RFC 8259, section 2; docs/RULES.md, "Texts").
 
-ghost use Rattle.std.specs.Prelude.{◌≡◌, ◌≢◌, ◌&&◌, [], ◌<◌, ◌≤◌, map, chars, true, IfOk, IfErr, OnOk};
-ghost use Rattle.std.specs.Prelude.{Err, None, Some, IsOkUnless, MatchOption, vec_len, if◌then◌else◌, false};
-ghost use Rattle.std.specs.Option.{is_some};
-ghost use Rattle.jzon_base.specs.PairList.{find};
-ghost use Rattle.jzon_tree.specs.Value.{Value, array, values_of, object, pairs_of};
-ghost use Rattle.jzon_tree.specs.View.{view, viewed};
-ghost use Rattle.jzon.specs.Private.Brackets.{innermost_bracket, after_comma, after_closer};
+ghost use Rattle.std.specs.Prelude.{◌≡◌, ◌≢◌, ◌&&◌, ◌<◌, ◌+◌, [], length, chars, IfOk, IfErr, Err, None, Some};
+ghost use Rattle.std.specs.Prelude.{OnOk, IsOkUnless, true, false};
+ghost use Rattle.jzon_tree.specs.View.{view};
 ghost use Rattle.jzon.specs.Answer.{IsMeaningOf, IsReadable, IsErrorUnlessMemory, TakesMemory};
-ghost use Rattle.jzon.specs.Private.Cursor.{left, next_byte, GoesOn, PassesOn, IsPast};
-ghost use Rattle.jzon.specs.Private.Frames.{open_in, stack_view, state_of, is_open, IsReady, IsWholeValue};
-ghost use Rattle.jzon.specs.Private.Machine.{Frames, no_frames, array_frame, object_frame};
-ghost use Rattle.jzon.specs.Private.Machine.{frames_depth, is_fresh, before};
-ghost use Rattle.jzon.specs.Private.Machine.{before_key, after_value, key_mark, value_mark, from, Reads};
+ghost use Rattle.jzon.specs.Private.Cursor.{left, next_byte, GoesOn, PassesOn};
+ghost use Rattle.jzon.specs.Private.Brackets.{opener};
+ghost use Rattle.jzon.specs.Private.Machine.{no_frames, is_fresh, before, after_value, Reads};
+ghost use Rattle.jzon.specs.Private.OpenContainers.{entries_so_far, frames_around, frames_here};
+ghost use Rattle.jzon.specs.Private.OpenContainers.{before_item, after_items, after_end, whole};
+ghost use Rattle.jzon.specs.Private.OpenContainers.{IsEven, AwaitsValue, IsBeforeItem, IsAfterItems, IsAfterEnd};
+ghost use Rattle.jzon.specs.Private.OpenContainers.{KeepsAround, new_container};
+ghost use Rattle.jzon.specs.Private.Read.{after_read, IsAfterValue};
 ghost use Rattle.jzon.specs.Reading.{usual};
-ghost use Rattle.jzon_base.specs.Tokens.{begin_array, begin_object, end_array, end_object};
+ghost use Rattle.jzon_base.specs.Tokens.{begin_array, begin_object, end_array};
 
-use crate::capacity_hints::Hints;
-use crate::cursor::{Bracket, Cursor, opens_container};
+use crate::cursor::{Bracket, Cursor};
 use crate::fault::duplicate_at;
-use crate::open_containers::{Frame, ValueStart};
 use crate::primitive::put_primitive;
 use crate::reading::{Reading, USUAL};
+use crate::stacks::Stacks;
 use crate::string::read_string;
 use jzon_base::error::{Error, Result};
-use jzon_base::fit::fit;
-use jzon_base::key::Key;
-use jzon_tree::object::{Builder, Object};
 use jzon_tree::value::JsonValue;
 use std::alloc::Global;
-use std::mem;
 
 /// The value that a text means (RFC 8259; docs/RULES.md, "Texts").
 ///
@@ -82,348 +76,156 @@ pub fn parse_as(alloc: Global, source: &str, reading: &Reading) -> Result<JsonVa
     ensures error { IfErr result (IsErrorUnlessMemory reading.now (chars source.now)) }
     ensures memory { result ≡ Err Error.OutOfMemory → TakesMemory (chars source.now) }
 {
-    let mut parser = Parser::new(alloc, source, *reading);
-    match parser.read_start(0)? {
-        ValueStart::Value(value) => parser.expect_end(value),
-        value_start => parser.read_to_end(value_start),
+    let mut cursor = Cursor::new(source, *reading);
+    let first = cursor.peek();
+    let bracket = match Bracket::opened_by(first) {
+        None => {
+            let mut buffer = String::new(alloc);
+            let mut value = JsonValue::Null;
+            let end = put_primitive(
+                alloc,
+                cursor.source,
+                cursor.index,
+                first,
+                &mut buffer,
+                &mut value,
+            )?;
+            cursor.go_to(end);
+            return expect_end(&cursor, value);
+        }
+        Some(bracket) => bracket,
+    };
+    if cursor.open_container(bracket, 0)? {
+        return expect_end(&cursor, bracket.empty(alloc));
     }
+    let stacks = Stacks::new(alloc, reading.strict(), bracket)?;
+    let mut parser = Parser {
+        cursor,
+        stacks,
+        buffer: String::new(alloc),
+    };
+    parser.read_to_end()
 }
 
-/// A text that is being parsed. After an error its fields are unspecified.
+/// What was read of a value in a container.
+#[derive(Clone, Copy)]
+enum Next {
+    /// The value, and the comma after it.
+    Item,
+    /// The opening bracket of a container that isn't empty.
+    Opened(Bracket),
+    /// The value, and the closing bracket after it.
+    End,
+}
+
+/// Expects the end of the text, whose value this is.
+fn expect_end(cursor: &Cursor<'_>, value: JsonValue) -> Result<JsonValue>
+    ensures memory { result ≢ Err Error.OutOfMemory }
+    ensures outcome { Reads (chars cursor.now.source.now) result
+        (left cursor.now (after_value no_frames (view value))) }
+{
+    if cursor.index < cursor.source.len() {
+        return Err(cursor.fault());
+    }
+    Ok(value)
+}
+
+/// A text that is being parsed, in a container that isn't empty. After an error its fields are
+/// unspecified.
 #[derive(Drop)]
 struct Parser<'a> {
-    alloc: Global,
     cursor: Cursor<'a>,
-    /// The open containers around what is being read, the outermost first.
-    stack: Vec<Frame>,
+    stacks: Stacks,
     /// The last string that had escapes, unescaped.
     buffer: String,
-    array_hints: Hints,
-    object_hints: Hints,
 }
 
 impl<'a> Parser<'a> {
-    fn new(alloc: Global, source: &'a str, reading: Reading) -> Parser<'a>
-        ensures cursor { IsPast reading source.now 0 result.cursor }
-        ensures stack { result.stack.items ≡ [] }
-    {
-        Parser {
-            alloc,
-            cursor: Cursor::new(source, reading),
-            stack: Vec::new(alloc),
-            buffer: String::new(alloc),
-            array_hints: Hints::new(),
-            object_hints: Hints::new(),
-        }
-    }
-
-    /// Reads the primitive that comes next, whose first byte is `first`.
-    #[inline(always)]
-    fn read_primitive(&mut self, first: u8) -> Result<JsonValue>
-        requires first { first ≡ next_byte self.old.cursor }
-        requires no_array { first ≢ begin_array }
-        requires no_object { first ≢ begin_object }
-        ensures kept { OnOk result ((self.new.stack ≡ self.old.stack)
-            × (self.new.cursor.reading ≡ self.old.cursor.reading)) }
-        ensures memory { result ≡ Err Error.OutOfMemory →
-            TakesMemory (chars self.old.cursor.source.now) }
-        ensures outcome { (fs : Frames) → value_mark self.old.cursor.reading fs ≡ None
-            → (is_fresh fs ≡ true → next_byte self.old.cursor ≢ end_array) →
-            GoesOn self.old.cursor (before fs) result self.new.cursor
-            (λ v. after_value fs (view v)) }
-    {
-        let source = self.cursor.source;
-        let start = self.cursor.index;
-        let mut value = JsonValue::Null;
-        let end = put_primitive(
-            self.alloc,
-            source,
-            start,
-            first,
-            &mut self.buffer,
-            &mut value,
-        )?;
-        self.cursor.go_to(end);
-        Ok(value)
-    }
-
-    /// Reads the value that comes next, inside of `depth` open containers; a container that isn't
-    /// empty only up to its first element or key.
-    #[inline(always)]
-    fn read_start(&mut self, depth: usize) -> Result<ValueStart>
-        requires room { depth ≤ self.old.cursor.reading.depth }
-        ensures stack { OnOk result (self.new.stack ≡ self.old.stack) }
-        ensures ready { IfOk result (IsReady self.new.cursor depth) }
-        ensures memory { result ≡ Err Error.OutOfMemory →
-            TakesMemory (chars self.old.cursor.source.now) }
-        ensures opened { IfOk result
-            (λ b. is_open b ≡ true → TakesMemory (chars self.old.cursor.source.now)) }
-        ensures outcome { (fs : Frames) → frames_depth fs ≡ depth
-            → (is_fresh fs ≡ true → next_byte self.old.cursor ≢ end_array) →
-            GoesOn self.old.cursor (before fs) result self.new.cursor (λ b. state_of b fs) }
-    {
-        let first = self.cursor.peek();
-        match first {
-            b'[' => {
-                if self.cursor.open_container(Bracket::Array, depth)? {
-                    return Ok(ValueStart::Value(JsonValue::Array(Vec::new(self.alloc))));
-                }
-                Ok(ValueStart::Array)
-            }
-            b'{' => {
-                if self.cursor.open_container(Bracket::Object, depth)? {
-                    return Ok(ValueStart::Value(JsonValue::Object(Object::new(self.alloc))));
-                }
-                Ok(ValueStart::Object)
-            }
-            _ => Ok(ValueStart::Value(self.read_primitive(first)?)),
-        }
-    }
-
-    /// Expects the end of the text, whose value this is.
-    fn expect_end(&self, value: JsonValue) -> Result<JsonValue>
-        ensures memory { result ≢ Err Error.OutOfMemory }
-        ensures outcome { Reads (chars self.now.cursor.source.now) result
-            (left self.now.cursor (after_value no_frames (view value))) }
-    {
-        if self.cursor.index < self.cursor.source.len() {
-            return Err(self.cursor.fault());
-        }
-        Ok(value)
-    }
-
     /// Reads the rest of the text: all that the containers hold, and the end.
-    fn read_to_end(&mut self, value_start: ValueStart) -> Result<JsonValue>
-        requires outmost { self.old.stack.items ≡ [] }
-        requires ready { IsReady self.old.cursor 0 value_start }
+    fn read_to_end(&mut self) -> Result<JsonValue>
+        requires before { IsBeforeItem self.old.cursor self.old.stacks }
+        requires strict { self.old.stacks.strict ≡ self.old.cursor.reading.strict }
         ensures { Reads (chars self.old.cursor.source.now) result
-            (left self.old.cursor (state_of value_start no_frames)) }
+            (left self.old.cursor (before_item self.old.stacks)) }
     {
-        let mut value_start = value_start;
         loop {
-            match value_start {
-                ValueStart::Array => value_start = self.read_array()?,
-                ValueStart::Object => {
-                    let capacity = self.object_hints.take(self.stack.len());
-                    value_start = self.read_entries(Builder::with_capacity(self.alloc, capacity)?)?;
-                }
-                ValueStart::Value(value) => match self.stack.pop() {
-                    None => return self.expect_end(value),
-                    Some(frame) => value_start = self.read_after_item(frame, value)?,
-                },
-            }
-        }
-    }
-
-    /// Adds `item` to the open container `frame`, and reads on as `read_elements` and
-    /// `read_entries` do.
-    fn read_after_item(&mut self, frame: Frame, item: JsonValue) -> Result<ValueStart>
-        requires room { vec_len self.old.stack < self.old.cursor.reading.depth }
-        ensures ready { IfOk result (IsReady self.new.cursor (vec_len self.new.stack)) }
-        ensures outcome { GoesOn self.old.cursor
-            (after_value (open_in (stack_view self.old.stack.items) frame) (view item))
-            result self.new.cursor
-            (λ b. state_of b (stack_view self.new.stack.items)) }
-    {
-        match frame {
-            Frame::Array(mut elements) => {
-                elements.push(item)?;
-                if self.array_ends(&mut elements)? {
-                    return Ok(ValueStart::Value(JsonValue::Array(elements)));
-                }
-                self.read_elements(elements)
-            }
-            Frame::Object(mut entries, key) => {
-                entries.push(self.alloc, key, item)?;
-                if self.cursor.container_ends(Bracket::Object)? {
-                    return self.close_object(entries);
-                }
-                self.read_entries(entries)
-            }
-        }
-    }
-
-    /// Reads on in an array, whose first element comes next, as `read_elements` does.
-    #[inline(always)]
-    fn read_array(&mut self) -> Result<ValueStart>
-        requires room { vec_len self.old.stack < self.old.cursor.reading.depth }
-        requires element { next_byte self.old.cursor ≢ end_array }
-        ensures ready { IfOk result (IsReady self.new.cursor (vec_len self.new.stack)) }
-        ensures outcome { GoesOn self.old.cursor
-            (before (array_frame (stack_view self.old.stack.items) []))
-            result self.new.cursor
-            (λ b. state_of b (stack_view self.new.stack.items)) }
-    {
-        let depth = self.stack.len();
-        let elements = room_for_elements(self.alloc, &self.cursor, &mut self.array_hints, depth)?;
-        self.read_elements(elements)
-    }
-
-    /// Reads elements of an open array, and of the arrays in it and around it: to the end of one
-    /// that isn't in an array, or to an object that isn't empty.
-    fn read_elements(&mut self, elements: Vec<JsonValue>) -> Result<ValueStart>
-        requires room { vec_len self.old.stack < self.old.cursor.reading.depth }
-        requires element { map view elements.items ≡ [] → next_byte self.old.cursor ≢ end_array }
-        ensures ready { IfOk result (IsReady self.new.cursor (vec_len self.new.stack)) }
-        ensures outcome { GoesOn self.old.cursor
-            (before (array_frame (stack_view self.old.stack.items) (map view elements.items)))
-            result self.new.cursor
-            (λ b. state_of b (stack_view self.new.stack.items)) }
-    {
-        let mut elements = elements;
-        loop {
-            let first = self.cursor.peek();
-            if opens_container(first) {
-                let depth = self.stack.len() + 1;
-                let value_start = self.read_start(depth)?;
-                match value_start {
-                    ValueStart::Value(value) => elements.push(value)?,
-                    ValueStart::Array => {
-                        // Read here: going back to the loop over containers costs as much as an
-                        // array of one element.
-                        self.stack.push(Frame::Array(elements))?;
-                        let depth = self.stack.len();
-                        elements = room_for_elements(
-                            self.alloc,
-                            &self.cursor,
-                            &mut self.array_hints,
-                            depth,
-                        )?;
-                        continue;
-                    }
-                    ValueStart::Object => {
-                        self.stack.push(Frame::Array(elements))?;
-                        return Ok(ValueStart::Object);
-                    }
-                }
-            } else {
-                // Not by `read_start`: each call that returns a value moves it.
-                elements.push(self.read_primitive(first)?)?;
-            }
-            if !self.array_ends(&mut elements)? {
+            if let Some(bracket) = self.read_items()? {
+                self.stacks.open(bracket)?;
                 continue;
             }
-            if self.close_arrays(&mut elements)? {
-                return Ok(ValueStart::Value(JsonValue::Array(elements)));
+            if let Some(value) = self.end_containers()? {
+                return expect_end(&self.cursor, value);
             }
         }
     }
 
-    /// Reads entries of an open object: to its end, to an object that isn't empty, or, where a
-    /// value is a non-empty array, as `read_array` does.
-    fn read_entries(&mut self, entries: Builder) -> Result<ValueStart>
-        requires room { vec_len self.old.stack < self.old.cursor.reading.depth }
-        requires key { viewed entries ≡ [] → next_byte self.old.cursor ≢ end_object }
-        ensures ready { IfOk result (IsReady self.new.cursor (vec_len self.new.stack)) }
-        ensures outcome { GoesOn self.old.cursor
-            (before_key (stack_view self.old.stack.items) (viewed entries))
-            result self.new.cursor
-            (λ b. state_of b (stack_view self.new.stack.items)) }
+    /// Reads items of the innermost container: to its end, or to a container in it that isn't empty,
+    /// of which it reads the opening bracket.
+    #[inline(always)]
+    fn read_items(&mut self) -> Result<Option<Bracket>>
+        requires before { IsBeforeItem self.old.cursor self.old.stacks }
+        requires strict { self.old.stacks.strict ≡ self.old.cursor.reading.strict }
+        ensures kept { OnOk result (KeepsAround self.old.stacks self.new.stacks) }
+        ensures after { IfOk result (IsAfterItems self.new.cursor self.new.stacks) }
+        ensures outcome { GoesOn self.old.cursor (before_item self.old.stacks) result self.new.cursor
+            (after_items self.new.stacks) }
     {
-        let mut entries = entries;
+        match self.stacks.bracket() {
+            Bracket::Array => self.read_elements(),
+            Bracket::Object => self.read_entries(),
+        }
+    }
+
+    /// The same in an array.
+    #[inline(always)]
+    fn read_elements(&mut self) -> Result<Option<Bracket>>
+        requires array { self.old.stacks.innermost.bracket ≡ Bracket.Array }
+        requires before { IsBeforeItem self.old.cursor self.old.stacks }
+        ensures kept { OnOk result (KeepsAround self.old.stacks self.new.stacks) }
+        ensures after { IfOk result (IsAfterItems self.new.cursor self.new.stacks) }
+        ensures outcome { GoesOn self.old.cursor (before_item self.old.stacks) result self.new.cursor
+            (after_items self.new.stacks) }
+    {
         loop {
-            let key = self.read_key(&mut entries)?;
-            let depth = self.stack.len() + 1;
-            match self.read_start(depth)? {
-                ValueStart::Value(value) => entries.push(self.alloc, key, value)?,
-                value_start => {
-                    self.stack.push(Frame::Object(entries, key))?;
-                    match value_start {
-                        ValueStart::Array => return self.read_array(),
-                        start => return Ok(start),
-                    }
-                }
-            }
-            if self.cursor.container_ends(Bracket::Object)? {
-                return self.close_object(entries);
+            match self.read_value(Bracket::Array)? {
+                Next::Item => {}
+                Next::Opened(bracket) => return Ok(Some(bracket)),
+                Next::End => return Ok(None),
             }
         }
     }
 
-    /// After an element: whether the array ends. Moves past the comma or the closing bracket; at
-    /// the end frees unused capacity, and sets the hint to the length.
+    /// The same in an object.
     #[inline(always)]
-    fn array_ends(&mut self, elements: &mut Vec<JsonValue>) -> Result<bool>
-        ensures items { elements.new.items ≡ elements.old.items }
-        ensures stack { OnOk result (self.new.stack ≡ self.old.stack) }
-        ensures outcome { (fs : Frames) (v : Value) → innermost_bracket fs ≡ Some Bracket.Array →
-            GoesOn self.old.cursor (after_value fs v) result self.new.cursor
-            (λ ends. if ends then after_closer fs v else after_comma fs v) }
+    fn read_entries(&mut self) -> Result<Option<Bracket>>
+        requires object { self.old.stacks.innermost.bracket ≡ Bracket.Object }
+        requires before { IsBeforeItem self.old.cursor self.old.stacks }
+        requires strict { self.old.stacks.strict ≡ self.old.cursor.reading.strict }
+        ensures kept { OnOk result (KeepsAround self.old.stacks self.new.stacks) }
+        ensures after { IfOk result (IsAfterItems self.new.cursor self.new.stacks) }
+        ensures outcome { GoesOn self.old.cursor (before_item self.old.stacks) result self.new.cursor
+            (after_items self.new.stacks) }
     {
-        if self.cursor.container_ends(Bracket::Array)? {
-            self.array_hints.set(self.stack.len(), elements.len());
-            if elements.len() < elements.capacity() {
-                fit_elements(self.alloc, elements)?;
-            }
-            return Ok(true);
-        }
-        Ok(false)
-    }
-
-    /// After the end of an array: as long as one that ended is in another array, makes it the next
-    /// element there, and these elements those of the other one. Whether the last one ended.
-    #[inline(always)]
-    fn close_arrays(&mut self, elements: &mut Vec<JsonValue>) -> Result<bool>
-        ensures depth { OnOk result (vec_len self.new.stack ≤ vec_len self.old.stack) }
-        ensures some { IfOk result (λ ends. ends ≡ false → map view elements.new.items ≢ []) }
-        ensures outcome { PassesOn self.old.cursor (after_value
-            (stack_view self.old.stack.items) (array (values_of (map view elements.old.items))))
-            result self.new.cursor (λ ends. let fs = stack_view self.new.stack.items in
-            let ws = map view elements.new.items in
-            if ends then after_value fs (array (values_of ws)) else before (array_frame fs ws)) }
-    {
-        while let Some(mut outer) = self.take_array() {
-            mem::swap(elements, &mut outer);
-            elements.push(JsonValue::Array(outer))?;
-            if !self.array_ends(elements)? {
-                return Ok(false);
+        loop {
+            self.read_key()?;
+            match self.read_value(Bracket::Object)? {
+                Next::Item => {}
+                Next::Opened(bracket) => return Ok(Some(bracket)),
+                Next::End => return Ok(None),
             }
         }
-        Ok(true)
     }
 
-    /// Takes the innermost open container off the stack if it is an array; its elements.
+    /// Reads the next key of the innermost container, and the colon.
     #[inline(always)]
-    fn take_array(&mut self) -> Option<Vec<JsonValue>>
-        ensures cursor { self.new.cursor ≡ self.old.cursor }
-        ensures depth { vec_len self.new.stack ≤ vec_len self.old.stack }
-        ensures taken { MatchOption result (self.new.stack ≡ self.old.stack)
-            (λ outer. stack_view self.old.stack.items
-            ≡ array_frame (stack_view self.new.stack.items) (map view outer.items)) }
-    {
-        if !matches!(self.stack.last(), Some(Frame::Array(_))) {
-            return None;
-        }
-        match self.stack.pop() {
-            Some(Frame::Array(outer)) => Some(outer),
-            _ => unreachable!(),
-        }
-    }
-
-    /// The object of these entries, which ends; sets the hint to their number. The error is
-    /// `OutOfMemory`.
-    #[inline(always)]
-    fn close_object(&mut self, entries: Builder) -> Result<ValueStart>
-        ensures cursor { self.new.cursor ≡ self.old.cursor }
-        ensures stack { self.new.stack ≡ self.old.stack }
-        ensures value { IfOk result (λ b. IsWholeValue b (object (pairs_of (viewed entries)))) }
-        ensures memory { IsOkUnless result Error.OutOfMemory }
-    {
-        let object = Object::from_builder(self.alloc, entries)?;
-        self.object_hints.set(self.stack.len(), object.len());
-        Ok(ValueStart::Value(JsonValue::Object(object)))
-    }
-
-    /// Reads a key of an object with these entries, and the colon.
-    fn read_key(&mut self, entries: &mut Builder) -> Result<Key>
-        ensures kept { OnOk result (entries.new ≡ entries.old) }
-        ensures stack { OnOk result (self.new.stack ≡ self.old.stack) }
-        ensures outcome { (fs : Frames) →
-            let es = viewed entries.old in key_mark self.old.cursor.reading fs es
-            ≡ None →
-            (es ≡ [] → next_byte self.old.cursor ≢ end_object) →
-            GoesOn self.old.cursor (before_key fs es) result self.new.cursor
-            (λ k. before (object_frame fs es k)) }
+    fn read_key(&mut self) -> Result<()>
+        requires object { self.old.stacks.innermost.bracket ≡ Bracket.Object }
+        requires before { IsBeforeItem self.old.cursor self.old.stacks }
+        requires strict { self.old.stacks.strict ≡ self.old.cursor.reading.strict }
+        ensures kept { OnOk result (KeepsAround self.old.stacks self.new.stacks) }
+        ensures awaits { OnOk result (AwaitsValue Bracket.Object self.new.stacks.innermost) }
+        ensures outcome { GoesOn self.old.cursor (before_item self.old.stacks) result self.new.cursor
+            (λ _. before (frames_here self.new.stacks)) }
     {
         if self.cursor.peek() != b'"' {
             return Err(self.cursor.fault());
@@ -432,67 +234,105 @@ impl<'a> Parser<'a> {
         let start = self.cursor.index;
         let spelled = read_string(source, start + 1, &mut self.buffer)?;
         let (name, wide) = spelled.text(source, start + 1, &self.buffer);
-        let refused = is_refused(self.alloc, self.cursor.reading, entries, name)?;
-        if refused {
+        if self.stacks.push_key(name, wide)? {
             return Err(duplicate_at(source, start));
         }
-        let key = Key::from_wide(self.alloc, name, wide)?;
-        self.cursor.go_to(spelled.end);
-        if self.cursor.peek() != b':' {
-            return Err(self.cursor.fault());
+        self.cursor.colon_at(spelled.end)
+    }
+
+    /// Reads the next value of the innermost container, of which these are the brackets; a container
+    /// that isn't empty only up to its opening bracket. Else also the comma or the closing bracket
+    /// after the value.
+    #[inline(always)]
+    fn read_value(&mut self, container: Bracket) -> Result<Next>
+        requires bracket { self.old.stacks.innermost.bracket ≡ container }
+        requires awaits { AwaitsValue container self.old.stacks.innermost }
+        requires room { length self.old.stacks.around < self.old.cursor.reading.depth }
+        requires some { is_fresh (frames_here self.old.stacks) ≡ true →
+            next_byte self.old.cursor ≢ end_array }
+        ensures kept { OnOk result (KeepsAround self.old.stacks self.new.stacks) }
+        ensures after { IfOk result (IsAfterValue self.new.cursor self.new.stacks) }
+        ensures outcome { GoesOn self.old.cursor (before (frames_here self.old.stacks)) result
+            self.new.cursor (after_read self.new.stacks) }
+    {
+        let first = self.cursor.peek();
+        match Bracket::opened_by(first) {
+            None => self.read_primitive(container, first),
+            Some(opened) => self.read_opened(container, opened),
         }
-        self.cursor.bump();
-        Ok(key)
     }
-}
 
-/// An empty vector for the elements of an array inside of `depth` containers, whose first is at the
-/// cursor. Without a hint it has room for one where that is a container, since such an array often
-/// has just one, and else for four. The error is `OutOfMemory`.
-#[inline(always)]
-fn room_for_elements(
-    alloc: Global,
-    cursor: &Cursor<'_>,
-    hints: &mut Hints,
-    depth: usize,
-) -> Result<Vec<JsonValue>>
-    ensures empty { IfOk result (λ elements. elements.items ≡ []) }
-    ensures memory { IsOkUnless result Error.OutOfMemory }
-{
-    let hint = hints.take(depth);
-    let capacity = if hint > 0 {
-        hint
-    } else if opens_container(cursor.peek()) {
-        1
-    } else {
-        4
-    };
-    Ok(Vec::with_capacity(alloc, capacity)?)
-}
-
-/// Frees unused capacity. Not inlined, so that the loop over elements stays small. The error is
-/// `OutOfMemory`.
-#[cold]
-#[inline(never)]
-fn fit_elements(alloc: Global, elements: &mut Vec<JsonValue>) -> Result<()>
-    ensures items { elements.new.items ≡ elements.old.items }
-    ensures memory { IsOkUnless result Error.OutOfMemory }
-{
-    fit(alloc, elements)?;
-    Ok(())
-}
-
-/// Whether the reading rejects `name` after these entries: it is strict, and they have it. The
-/// error is `OutOfMemory`.
-#[tactic(auto, using(crate::proofs::Containers::FrameViews::known_view))]
-fn is_refused(alloc: Global, reading: Reading, entries: &mut Builder, name: &str) -> Result<bool>
-    ensures kept { entries.new ≡ entries.old }
-    ensures refused { IfOk result (λ refused. refused ≡ (reading.strict && is_some
-        (find name.now (viewed entries.old)))) }
-    ensures memory { IsOkUnless result Error.OutOfMemory }
-{
-    if !reading.strict() {
-        return Ok(false);
+    /// The same of a primitive, whose first byte is `first` (0 at the end of the text).
+    #[inline(always)]
+    fn read_primitive(&mut self, container: Bracket, first: u8) -> Result<Next>
+        requires first { first ≡ next_byte self.old.cursor }
+        requires no_array { first ≢ begin_array }
+        requires no_object { first ≢ begin_object }
+        requires bracket { self.old.stacks.innermost.bracket ≡ container }
+        requires awaits { AwaitsValue container self.old.stacks.innermost }
+        requires room { length self.old.stacks.around < self.old.cursor.reading.depth }
+        requires some { is_fresh (frames_here self.old.stacks) ≡ true →
+            next_byte self.old.cursor ≢ end_array }
+        ensures kept { OnOk result (KeepsAround self.old.stacks self.new.stacks) }
+        ensures after { IfOk result (IsAfterValue self.new.cursor self.new.stacks) }
+        ensures outcome { GoesOn self.old.cursor (before (frames_here self.old.stacks)) result
+            self.new.cursor (after_read self.new.stacks) }
+    {
+        let source = self.cursor.source;
+        let start = self.cursor.index;
+        let end = self
+            .stacks
+            .push_primitive(source, start, first, &mut self.buffer)?;
+        if self.cursor.container_ends_at(end, container)? {
+            return Ok(Next::End);
+        }
+        Ok(Next::Item)
     }
-    Ok(entries.has_key(alloc, name)?)
+
+    /// The same of a container whose opening bracket comes next.
+    #[inline(always)]
+    fn read_opened(&mut self, container: Bracket, opened: Bracket) -> Result<Next>
+        requires opening { next_byte self.old.cursor ≡ opener opened }
+        requires bracket { self.old.stacks.innermost.bracket ≡ container }
+        requires awaits { AwaitsValue container self.old.stacks.innermost }
+        requires room { length self.old.stacks.around < self.old.cursor.reading.depth }
+        ensures kept { OnOk result (KeepsAround self.old.stacks self.new.stacks) }
+        ensures after { IfOk result (IsAfterValue self.new.cursor self.new.stacks) }
+        ensures outcome { GoesOn self.old.cursor (before (frames_here self.old.stacks)) result
+            self.new.cursor (after_read self.new.stacks) }
+    {
+        let depth = self.stacks.depth();
+        if !self.cursor.open_container(opened, depth)? {
+            return Ok(Next::Opened(opened));
+        }
+        self.stacks.push_empty(opened)?;
+        if self.cursor.container_ends(container)? {
+            return Ok(Next::End);
+        }
+        Ok(Next::Item)
+    }
+
+    /// After the end of the innermost container: makes its value, and reads on after it, as long as
+    /// containers end. The value of the outermost one, if it ended.
+    #[inline(always)]
+    fn end_containers(&mut self) -> Result<Option<JsonValue>>
+        requires even { IsEven self.old.stacks.innermost.bracket self.old.stacks.innermost }
+        requires room { length self.old.stacks.around < self.old.cursor.reading.depth }
+        ensures strict { IfOk result (λ v. v ≡ None
+            → self.new.stacks.strict ≡ self.old.stacks.strict) }
+        ensures after { IfOk result (IsAfterEnd self.new.cursor self.new.stacks) }
+        ensures outcome { PassesOn self.old.cursor (after_value (frames_around self.old.stacks)
+            (whole self.old.stacks.innermost)) result self.new.cursor (after_end self.new.stacks) }
+    {
+        loop {
+            match self.stacks.close()? {
+                Some(value) => return Ok(Some(value)),
+                None => {}
+            }
+            let container = self.stacks.bracket();
+            if !self.cursor.container_ends(container)? {
+                return Ok(None);
+            }
+        }
+    }
 }

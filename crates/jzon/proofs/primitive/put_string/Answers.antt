@@ -1,5 +1,5 @@
 use Rattle.std.proofs.Common.{◌∙◌, sym, ap, refl, []}
-use Rattle.std.specs.Prelude.{⊤, chars}
+use Rattle.std.specs.Prelude.{⊤}
 use Rattle.jzon_tree.specs.Value.{kind_of, text}
 use Rattle.jzon.specs.Private.Machine.{as_value, after_value, between, from, string}
 use Rattle.jzon.proofs.Containers.PutValues.{puts_none}

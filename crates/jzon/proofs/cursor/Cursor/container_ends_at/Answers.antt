@@ -1,4 +1,4 @@
-use Rattle.std.proofs.Common.{◌≡◌, ◌∙◌, ◌<◌, get_or, length, sym, arith, lit<}
+use Rattle.std.proofs.Common.{◌≡◌, ◌∙◌, get_or, sym, arith, lit<}
 use Rattle.std.proofs.lemmas.Str.{IsCharBoundary-after_ascii}
 use Rattle.jzon.proofs.Containers.ContainerTokens.{closes, comma_goes, closer_bounds}
 use Rattle.jzon.proofs.Containers.FrameViews.{byte_within}

@@ -1,15 +1,14 @@
-use Rattle.std.proofs.Common.{◌-◌, length, vec_len}
-use Rattle.jzon.specs.Private.Frames.{IsReady, state_of, stack_view}
-use Rattle.jzon.specs.Private.Machine.{no_frames}
+use Rattle.std.proofs.Common.{◌≡◌, ◌-◌, length}
+use Rattle.jzon.specs.Private.OpenContainers.{before_item, IsBeforeItem}
 use Rattle.jzon.proofs.Texts.Cursors.{Reached}
 use Rattle.jzon.proofs.parser.Parser.read_to_end.Given as goal
 
-abbrev pub invariant-loop-value_start : goal.invariant-loop-value_start
-invariant-loop-value_start l = record {
-  ready : IsReady l.self.cursor (vec_len l.self.stack) l.value_start;
-  came : Reached l.initial.self.cursor (state_of l.fn.value_start no_frames) l.self.cursor
-      (state_of l.value_start (stack_view l.self.stack.items));
+abbrev pub invariant-loop-bracket : goal.invariant-loop-bracket
+invariant-loop-bracket l = record {
+  strict : l.self.stacks.strict ≡ l.self.cursor.reading.strict;
+  before : IsBeforeItem l.self.cursor l.self.stacks;
+  came : Reached l.initial.self.cursor (before_item l.initial.self.stacks) l.self.cursor (before_item l.self.stacks);
 }
 
-abbrev pub decreases-loop-value_start : goal.decreases-loop-value_start
-decreases-loop-value_start l = length l.self.cursor.source.now - l.self.cursor.index
+abbrev pub decreases-loop-bracket : goal.decreases-loop-bracket
+decreases-loop-bracket l = length l.self.cursor.source.now - l.self.cursor.index

@@ -1,0 +1,80 @@
+use Rattle.std.proofs.Common.{◌∙◌, ap, arith, length}
+use Rattle.jzon_tree.specs.View.{view}
+use Rattle.jzon.specs.Private.Cursor.{left}
+use Rattle.jzon.specs.Private.Machine.{after_value}
+use Rattle.jzon.specs.Private.OpenContainers.{frames_around, frames_here, whole, IsClosed}
+use Rattle.jzon.proofs.Containers.OpenItems.{added_before, added_even, ended_here, goes_to_item, outer_of, closed_in}
+use Rattle.jzon.proofs.Containers.OpenItems.{outer_brackets, goes_to}
+use Rattle.jzon.proofs.Texts.Cursors.{Reached, reached, goes_after, fails_on}
+use Rattle.jzon.proofs.parser.Parser.end_containers.Goals.{After-container_ends}
+use Rattle.jzon.proofs.parser.Parser.end_containers.Goals as goal
+
+closed : (c : After-container_ends) → IsClosed c.loop-value.self.stacks c.close.new.self
+closed c = c.in_ok-value.ensures.inner c.in-None.is
+
+came : (c : After-container_ends) → Reached c.args.self.now.cursor
+    (after_value (frames_around c.args.self.now.stacks) (whole c.args.self.now.stacks.innermost))
+    c.loop-value.self.cursor (after_value (frames_here (outer_of (closed c))) (view (closed c).value))
+came c = record {
+  text = c.loop-value.invariant.came.text;
+  reading = c.loop-value.invariant.came.reading;
+  within = c.loop-value.invariant.came.within;
+  same = c.loop-value.invariant.came.same ∙ ap (left c.loop-value.self.cursor) (closed_in (closed c));
+}
+
+pub returns-in_err-container_ends-clause-outcome : goal.returns-in_err-container_ends-clause-outcome
+returns-in_err-container_ends-clause-outcome c s o h =
+    let at = (goal.at.returns-in_err-container_ends-clause-outcome c).After-container_ends in
+    fails_on _ c.from_residual-in_err-container_ends.result _ c.from_residual-in_err-container_ends.ensures.1
+    (reached (goes_to o h (came at)))
+    (c.in_err-container_ends.ensures (frames_here (outer_of (closed at))) (view (closed at).value)
+    (outer_brackets (closed at) _ c.bracket-container.ensures))
+
+-- the bracket or the comma after the container was read
+pub returns-then-not-branch-clause-after : goal.returns-then-not-branch-clause-after
+returns-then-not-branch-clause-after c =
+    let at = (goal.at.returns-then-not-branch-clause-after c).After-container_ends in
+    let ends = c.in_ok-container_ends.ensures (frames_here (outer_of (closed at))) (view (closed at).value)
+    (outer_brackets (closed at) _ c.bracket-container.ensures) in
+    added_before _ (outer_of (closed at)) _ (closed at).value (closed at).awaits (closed at).closed
+    (omega (
+      arith,
+      c.loop-value.invariant.room,
+      ap length (closed at).around,
+      ap (λ r. r.depth) ends.0.reading,
+    ))
+
+pub returns-then-not-branch-clause-outcome : goal.returns-then-not-branch-clause-outcome
+returns-then-not-branch-clause-outcome c s o h =
+    let at = (goal.at.returns-then-not-branch-clause-outcome c).After-container_ends in
+    goes_to_item s _ o (outer_of (closed at)) _ (closed at).value _ (closed at).awaits (closed at).closed
+    c.if-not-branch.true
+    (goes_after _ (reached (goes_to o h (came at)))
+    (c.in_ok-container_ends.ensures (frames_here (outer_of (closed at))) (view (closed at).value)
+    (outer_brackets (closed at) _ c.bracket-container.ensures)))
+
+pub loop-value-smaller : goal.loop-value-smaller
+loop-value-smaller c =
+    let at = (goal.at.loop-value-smaller c).After-container_ends in
+    let ends = c.in_ok-container_ends.ensures (frames_here (outer_of (closed at))) (view (closed at).value)
+    (outer_brackets (closed at) _ c.bracket-container.ensures) in
+    omega (arith, ends.0.index, ap length ends.0.text, c.container_ends.new.self.boundary.0)
+
+pub loop-value-preserved : goal.loop-value-preserved
+loop-value-preserved c =
+    let at = (goal.at.loop-value-preserved c).After-container_ends in
+    let ends = c.in_ok-container_ends.ensures (frames_here (outer_of (closed at))) (view (closed at).value)
+    (outer_brackets (closed at) _ c.bracket-container.ensures) in
+    record {
+      strict = ap (λ z. z.strict) (closed at).closed ∙ c.loop-value.invariant.strict;
+      even = added_even (outer_of (closed at)) _ (closed at).value (closed at).awaits (closed at).closed;
+      room = omega (
+        arith,
+        c.loop-value.invariant.room,
+        ap length (closed at).around,
+        ap (λ z. length z.around) (closed at).closed,
+        ap (λ r. r.depth) ends.0.reading,
+      );
+      came = reached (ended_here c.args.self.now.cursor _ _ (outer_of (closed at)) _ (closed at).value _
+          (closed at).awaits (closed at).closed c.if-not-branch.false (goes_after _ (came at) ends));
+    }

@@ -1,0 +1,19 @@
+use Rattle.std.proofs.Common.{◌≡◌, ◌<◌, ◌-◌, length}
+use Rattle.jzon.specs.Private.Machine.{after_value}
+use Rattle.jzon.specs.Private.OpenContainers.{frames_around, whole, IsEven}
+use Rattle.jzon.proofs.Texts.Cursors.{Reached}
+use Rattle.jzon.proofs.parser.Parser.end_containers.Given as goal
+
+abbrev pub invariant-loop-value : goal.invariant-loop-value
+invariant-loop-value l = record {
+  strict : l.self.stacks.strict ≡ l.initial.self.stacks.strict;
+  even : IsEven l.self.stacks.innermost.bracket l.self.stacks.innermost;
+  room : length l.self.stacks.around < l.self.cursor.reading.depth;
+  came :
+      Reached l.initial.self.cursor (after_value (frames_around l.initial.self.stacks)
+      (whole l.initial.self.stacks.innermost)) l.self.cursor
+      (after_value (frames_around l.self.stacks) (whole l.self.stacks.innermost));
+}
+
+abbrev pub decreases-loop-value : goal.decreases-loop-value
+decreases-loop-value l = length l.self.cursor.source.now - l.self.cursor.index
