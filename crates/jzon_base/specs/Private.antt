@@ -1,5 +1,4 @@
 -- Private definitions: how the code relates to those that public clauses cite. No public clause of `jzon` cites them.
-pub mod Built
 pub mod Handed
 pub mod Hash
 pub mod Keys

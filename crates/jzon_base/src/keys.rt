@@ -6,7 +6,7 @@
 //! in the order of hashes and texts; each is asked by binary search, so that the time doesn't
 //! depend on which hashes the keys have.
 //!
-//! `pairs::Builder` finds repeated keys by one sort of such entries, and later ones in `Keys`.
+//! `merge` finds repeated keys by one sort of such entries.
 ghost use Rattle.std.specs.Prelude.{◌≡◌, ◌<◌, ◌≤◌, ◌++◌, ◌∷◌, ◌==◌, [], length, remove, slice_get, map};
 ghost use Rattle.std.specs.Prelude.{IfOk, IfErr, OnOk, OnErr, MatchOption, None, Some, vec_len, vec_capacity};
 ghost use Rattle.std.specs.List.{position, zip, IsDistinct};
@@ -22,7 +22,6 @@ mod known;
 mod order;
 mod retain;
 pub mod runs;
-pub(crate) mod tags;
 
 use crate::fit::reserve_next;
 use crate::key::Key;
@@ -228,28 +227,20 @@ impl Keys {
     }
 
     /// The keys of entries: those of equal keys become one, with the last value at the position of
-    /// the first. The keys are taken over. The error is a failed allocation, and then at most merges
-    /// have been made.
+    /// the first. The error is a failed allocation.
     #[inline(always)]
     pub fn from_entries<V: Drop>(
         alloc: Global,
-        keys: &mut Vec<Key>,
+        mut keys: Vec<Key>,
         values: &mut Vec<V>,
     ) -> Result<Keys, AllocError>
-        requires { length values.old.items ≡ length keys.old.items }
+        requires { length values.old.items ≡ length keys.items }
         ensures even { IfOk result (λ k. length values.new.items ≡ length k) }
         ensures merged { IfOk result (λ k. zip k values.new.items
-            ≡ put_each (zip keys.old.items values.old.items)) }
-        ensures taken { OnOk result (keys.new.items ≡ []) }
-        ensures left { OnErr result (length values.new.items ≡ length keys.new.items) }
-        ensures err { OnErr result (put_each (zip keys.new.items values.new.items)
-            ≡ put_each (zip keys.old.items values.old.items)) }
+            ≡ put_each (zip keys.items values.old.items)) }
     {
-        let index = merge(alloc, keys, values)?;
-        Ok(Keys {
-            keys: mem::replace(keys, Vec::new(alloc)),
-            index,
-        })
+        let index = merge(alloc, &mut keys, values)?;
+        Ok(Keys { keys, index })
     }
 
     /// The keys, without their index.
@@ -318,35 +309,6 @@ impl Keys {
         let long = Key::long(alloc, name)?;
         add_entry(alloc, self.keys.as_slice(), &mut self.index, name, spot)?;
         Key::push(&mut self.keys, name, long);
-        Ok(None)
-    }
-
-    /// The same with a key that is moved in.
-    #[inline(always)]
-    pub fn put_owned<V>(
-        &mut self,
-        alloc: Global,
-        values: &mut Vec<V>,
-        key: Key,
-    ) -> Result<Option<usize>, AllocError>
-        ensures items { values.new.items ≡ values.old.items }
-        ensures room { IfOk result (λ place. place ≡ None
-            → vec_len values.new < vec_capacity values.new) }
-        ensures position { IfOk result (λ place. place ≡ position (λ k. bytes_eq k key) self.old) }
-        ensures ok { IfOk result (λ place. MatchOption place
-            (self.new ≡ self.old ++ key ∷ []) (λ _. self.new ≡ self.old)) }
-        ensures err { OnErr result (self.new ≡ self.old) }
-        ensures missing { OnErr result (position (λ k. bytes_eq k key) self.old ≡ None) }
-    {
-        let spot = match search(self.keys.as_slice(), &self.index, key.as_str()) {
-            Ok(position) => return Ok(Some(position)),
-            Err(spot) => spot,
-        };
-        reserve_next(values)?;
-        reserve_next(&mut self.keys)?;
-        let keys = self.keys.as_slice();
-        add_entry(alloc, keys, &mut self.index, key.as_str(), spot)?;
-        self.keys.push_reserved(key);
         Ok(None)
     }
 

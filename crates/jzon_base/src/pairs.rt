@@ -21,8 +21,8 @@ pub use into_iter::IntoIter;
 pub use iter::Iter;
 pub use iter_mut::IterMut;
 use std::alloc::{AllocError, Global};
+use std::fmt;
 use std::marker::Model;
-use std::{fmt, mem};
 
 /// Values under distinct keys, in the order in which the keys were put. A clause sees the list of
 /// entries.
@@ -91,41 +91,15 @@ impl<V> Pairs<V> {
         Pairs::boxed(alloc, Entries::from_parts(keys, values))
     }
 
-    /// The entries that are put one after the other: those of equal keys become one, with the last
-    /// value at the position of the first. Keys and values are taken over. The error is a failed
-    /// allocation, and then at most merges have been made. The box is allocated before them.
-    #[inline(always)]
-    fn take_entries(
-        alloc: Global,
-        keys: &mut Vec<Key>,
-        values: &mut Vec<V>,
-    ) -> Result<Pairs<V>, AllocError>
-    where
-        V: Drop,
-        requires { length values.old.items ≡ length keys.old.items }
-        ensures even { length values.new.items ≡ length keys.new.items }
-        ensures ok { IfOk result (λ p. p ≡ put_each (zip keys.old.items values.old.items)) }
-        ensures err { OnErr result (put_each (zip keys.new.items values.new.items)
-            ≡ put_each (zip keys.old.items values.old.items)) }
-    {
-        if keys.is_empty() {
-            return Ok(Pairs::new(alloc));
-        }
-        let mut entries = Box::new(alloc, Entries::new(alloc))?;
-        let keys = Keys::from_entries(alloc, keys, values)?;
-        *entries = Entries::from_parts(keys, mem::replace(values, Vec::new(alloc)));
-        Ok(Pairs {
-            alloc,
-            entries: Some(entries),
-        })
-    }
-
     /// The entries of keys and as many values, put one after the other: those of equal keys become
-    /// one, with the last value at the position of the first. The error is a failed allocation.
+    /// one, with the last value at the position of the first. The error is a failed allocation. The
+    /// box is allocated before anything is merged.
+    ///
+    /// Inlined with what it calls for few keys, because each small object of a text is made here.
     #[inline(always)]
     pub fn from_entries(
         alloc: Global,
-        mut keys: Vec<Key>,
+        keys: Vec<Key>,
         mut values: Vec<V>,
     ) -> Result<Pairs<V>, AllocError>
     where
@@ -133,7 +107,16 @@ impl<V> Pairs<V> {
         requires { length values.items ≡ length keys.items }
         ensures { IfOk result (λ p. p ≡ put_each (zip keys.items values.items)) }
     {
-        Pairs::take_entries(alloc, &mut keys, &mut values)
+        if keys.is_empty() {
+            return Ok(Pairs::new(alloc));
+        }
+        let mut entries = Box::new(alloc, Entries::new(alloc))?;
+        let keys = Keys::from_entries(alloc, keys, &mut values)?;
+        *entries = Entries::from_parts(keys, values);
+        Ok(Pairs {
+            alloc,
+            entries: Some(entries),
+        })
     }
 
     /// A copy of the keys, with these values. The error is a failed allocation.
@@ -302,24 +285,6 @@ impl<V> Pairs<V> {
             return entries.insert(alloc, name, value);
         }
         self.insert_first(alloc, name, value)
-    }
-
-    /// The same with a key that is moved in.
-    pub(crate) fn insert_owned(
-        &mut self,
-        alloc: Global,
-        key: Key,
-        value: V,
-    ) -> Result<(), AllocError>
-    where
-        V: Drop,
-        ensures ok { OnOk result (self.new ≡ put key value self.old) }
-        ensures err { OnErr result (self.new ≡ self.old) }
-    {
-        if let Some(entries) = &mut self.entries {
-            return entries.insert_owned(alloc, key, value);
-        }
-        self.insert_first(alloc, key.as_str(), value)
     }
 
     /// The position of a key. Where the key is missing it is put last with `value`, and the error

@@ -104,17 +104,12 @@ fn digits_of(alloc: Global, number: usize) -> Result<String, AllocError> {
     format!(in alloc; "{number}")
 }
 
-/// The digits of the numbers below `MANY`, put by copies or moved in, with values that get room.
-fn put_many(alloc: Global, is_moved: bool) -> Result<Keys, AllocError> {
+/// The digits of the numbers below `MANY`.
+fn put_many(alloc: Global) -> Result<Keys, AllocError> {
     let mut keys = Keys::new(alloc);
-    let mut values: Vec<u8> = Vec::new(alloc);
     for number in 0..MANY {
         let name = digits_of(alloc, number)?;
-        if is_moved {
-            keys.put_owned(alloc, &mut values, Key::new(alloc, name.as_str())?)?;
-        } else {
-            keys.put(alloc, &mut values, name.as_str())?;
-        }
+        put(alloc, &mut keys, name.as_str())?;
     }
     Ok(keys)
 }
@@ -132,10 +127,7 @@ fn expect_many(rt: &impl Abort, alloc: Global, keys: &Keys) -> Result<(), AllocE
 
 #[test]
 fn puts_many_keys(rt: HostRuntime) -> Result<(), AllocError> {
-    for is_moved in [false, true] {
-        let keys = put_many(rt.alloc(), is_moved)?;
-        expect_many(&rt, rt.alloc(), &keys)?;
-        expect_many(&rt, rt.alloc(), &keys.clone(rt.alloc())?)?;
-    }
-    Ok(())
+    let keys = put_many(rt.alloc())?;
+    expect_many(&rt, rt.alloc(), &keys)?;
+    expect_many(&rt, rt.alloc(), &keys.clone(rt.alloc())?)
 }

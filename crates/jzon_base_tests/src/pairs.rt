@@ -1,7 +1,11 @@
 //! Pairs, and pairs that are built of entries.
 
+ghost use Rattle.std.specs.Prelude.{OnOk};
+ghost use Rattle.jzon_base.specs.Private.Handed.{IsTable};
+
 use crate::common::{expect, expect_eq};
 use jzon_base::key::Key;
+use jzon_base::keys::KnownKeys;
 use jzon_base::pairs::{Builder, IterMut, Pairs};
 use jzon_test_support::{RUNS_MAX, Refusals, keys_by_hash};
 use std::alloc::{AllocError, Global};
@@ -223,28 +227,32 @@ fn inserts_many_keys_of_one_hash(rt: HostRuntime) -> Result<(), AllocError> {
     expect_numbered(&rt, rt.alloc(), &pairs)
 }
 
-/// The builder knows the key once an entry of it is there, and not before.
+/// Adds a key that isn't known yet.
 fn push_new(
-    rt: &impl Abort,
     alloc: Global,
-    built: &mut Builder<u32>,
+    known: &mut KnownKeys,
+    keys: &mut Vec<Key>,
     name: &str,
-) -> Result<(), AllocError> {
-    expect(rt, "not yet known", !built.has_key(alloc, name)?);
-    built.push(alloc, Key::new(alloc, name)?, 0)?;
-    expect(rt, "known", built.has_key(alloc, name)?);
+) -> Result<(), AllocError>
+    requires { IsTable keys.old.items known.old }
+    ensures { OnOk result (IsTable keys.new.items known.new) }
+{
+    if !known.has_or_adds(alloc, keys.as_slice(), name)? {
+        keys.push(Key::new(alloc, name)?)?;
+    }
     Ok(())
 }
 
+/// Each comes twice.
 #[test]
 fn knows_the_keys_of_one_hash(rt: HostRuntime) -> Result<(), AllocError> {
-    let mut built = Builder::with_capacity(rt.alloc(), 0)?;
-    for number in 0..300 {
-        let name = name_of(rt.alloc(), number)?;
-        push_new(&rt, rt.alloc(), &mut built, name.as_str())?;
+    let mut known = KnownKeys::new();
+    let mut keys = Vec::new(rt.alloc());
+    for number in 0..600 {
+        let name = name_of(rt.alloc(), number % 300)?;
+        push_new(rt.alloc(), &mut known, &mut keys, name.as_str())?;
     }
-    let pairs = built.finish(rt.alloc())?;
-    expect_eq(&rt, "the number of pairs", pairs.len(), 300);
+    expect_eq(&rt, "the number of keys", keys.len(), 300);
     Ok(())
 }
 
@@ -354,19 +362,17 @@ enum Made {
     Reserve,
     Build,
     BuildWithRoom,
-    StrictlyBuild,
     RepeatEach,
     RepeatAll,
 }
 
-const MADE: [Made; 9] = [
+const MADE: [Made; 8] = [
     Made::Insert,
     Made::Place,
     Made::AtMut,
     Made::Reserve,
     Made::Build,
     Made::BuildWithRoom,
-    Made::StrictlyBuild,
     Made::RepeatEach,
     Made::RepeatAll,
 ];
@@ -390,13 +396,10 @@ fn put_each(made: Made, alloc: Global, pairs: &mut Pairs<usize>) -> Result<(), A
     Ok(())
 }
 
-/// An entry of each number. A strict caller asks for each key before.
+/// An entry of each number.
 fn push_each(made: Made, alloc: Global, built: &mut Builder<usize>) -> Result<(), AllocError> {
     for number in 0..MANY {
         let name = digits_of(alloc, number)?;
-        if matches!(made, Made::StrictlyBuild) && built.has_key(alloc, name.as_str())? {
-            return Err(AllocError);
-        }
         if matches!(made, Made::RepeatEach) {
             built.push(alloc, Key::new(alloc, name.as_str())?, 0)?;
         }

@@ -128,21 +128,6 @@ impl<V> Entries<V> {
         Ok(())
     }
 
-    /// The same with a key that is moved in.
-    #[tactic(auto, using(crate::proofs::PairPlaces::places))]
-    pub fn insert_owned(&mut self, alloc: Global, key: Key, value: V) -> Result<(), AllocError>
-    where
-        V: Drop,
-        ensures ok { OnOk result (self.new ≡ put key value self.old) }
-        ensures err { OnErr result (self.new ≡ self.old) }
-    {
-        match self.keys.put_owned(alloc, &mut self.values, key)? {
-            Some(index) => self.values[index] = value,
-            None => self.values.push_reserved(value),
-        }
-        Ok(())
-    }
-
     /// The position of a key. Where the key is missing it is put last with `value`, and the error
     /// is a failed allocation.
     #[tactic(auto, using(crate::proofs::PairPlaces::places))]

@@ -15,7 +15,6 @@ enum Grown {
     Reserve,
     Clone,
     Build,
-    StrictlyBuild,
     Repeat,
     Pairs,
     Collect,
@@ -54,10 +53,7 @@ fn inserted(call: Grown, alloc: Global, keys: &[String], mut object: Object) -> 
     Ok(object)
 }
 
-fn push(call: Grown, alloc: Global, builder: &mut Builder, key: &str) -> Result<()> {
-    if matches!(call, Grown::StrictlyBuild) && builder.has_key(alloc, key)? {
-        return Err(Error::UnexpectedEndOfJson);
-    }
+fn push(alloc: Global, builder: &mut Builder, key: &str) -> Result<()> {
     let item = text_for(key).into_json(alloc)?;
     builder.push(alloc, Key::new(alloc, key)?, item)?;
     Ok(())
@@ -67,11 +63,11 @@ fn push(call: Grown, alloc: Global, builder: &mut Builder, key: &str) -> Result<
 fn built(call: Grown, alloc: Global, keys: &[String]) -> Result<Object> {
     let mut builder = Builder::with_capacity(alloc, 0)?;
     for key in keys {
-        push(call, alloc, &mut builder, key.as_str())?;
+        push(alloc, &mut builder, key.as_str())?;
     }
     if matches!(call, Grown::Repeat) {
         for key in keys {
-            push(call, alloc, &mut builder, key.as_str())?;
+            push(alloc, &mut builder, key.as_str())?;
         }
     }
     Object::from_builder(alloc, builder)
@@ -158,13 +154,6 @@ const GROWN: &[GrownRow] = &[
     ),
     (Grown::Clone, "Object::clone of 1,100 keys", 1100, 124),
     (Grown::Build, "Builder of 1,100 keys", 1100, 71),
-    (Grown::StrictlyBuild, "strict Builder of 40 keys", 40, 57),
-    (
-        Grown::StrictlyBuild,
-        "strict Builder of 1,100 keys",
-        1100,
-        81,
-    ),
     (Grown::Repeat, "Builder of 40 repeated keys", 40, 99),
     (Grown::Repeat, "Builder of 300 repeated keys", 300, 110),
     (Grown::Pairs, "from_pairs of 1,100 keys", 1100, 59),

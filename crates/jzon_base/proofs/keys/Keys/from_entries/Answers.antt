@@ -1,5 +1,4 @@
-use Rattle.std.proofs.Common.{◌∙◌, ap, sym}
-use Rattle.std.specs.List.{zip}
+use Rattle.std.proofs.Common.{◌∙◌, sym}
 use Rattle.jzon_base.proofs.PutEach.{put_each-zip}
 use Rattle.jzon_base.proofs.keys.Keys.from_entries.Goals as goal
 
@@ -7,6 +6,4 @@ pub returns-clause-merged : goal.returns-clause-merged
 returns-clause-merged g c =
     let ks = c.merge.new.keys.items in
     let vs = c.merge.new.values.items in
-    ap (λ v. zip v.items vs) c.replace.ensures.value
-    ∙ sym (put_each-zip ks vs c.merge.ensures.even c.in_ok-index.ensures.table.distinct)
-    ∙ c.merge.ensures.merged
+    sym (put_each-zip ks vs c.merge.ensures.even c.in_ok-index.ensures.table.distinct) ∙ c.merge.ensures.merged
