@@ -9,7 +9,6 @@ ghost use Rattle.jzon_base.specs.PairList.{put_each};
 
 mod builder;
 mod entries;
-mod into_iter;
 mod iter;
 mod iter_mut;
 
@@ -17,7 +16,6 @@ use crate::key::Key;
 use crate::keys::{self, Keys};
 pub use builder::Builder;
 use entries::Entries;
-pub use into_iter::IntoIter;
 pub use iter::Iter;
 pub use iter_mut::IterMut;
 use std::alloc::{AllocError, Global};

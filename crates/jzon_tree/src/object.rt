@@ -9,9 +9,9 @@ ghost use Rattle.std.specs.List.{zip, IsDistinct};
 ghost use Rattle.std.specs.Map.Calls.{CalledAtPair, CallableOnEachPair, RetainsPairs, TakesPair};
 ghost use Rattle.std.specs.Slice.Iter.{iter_rest};
 ghost use Rattle.std.specs.Str.{bytes_eq};
+ghost use Rattle.std.specs.Vec.Iter.{into_iter_items};
 ghost use Rattle.jzon_base.specs.IterMut.{iter_mut_rest};
 ghost use Rattle.jzon_base.specs.PairList.{find, put, put_each, cut, set_value, with_default, keys_of, values_of};
-ghost use Rattle.jzon_tree.specs.IntoIter.{entries_left};
 ghost use Rattle.jzon_tree.specs.IntoJson.{PutMeans};
 ghost use Rattle.jzon_tree.specs.Entries.{entries_of};
 ghost use Rattle.jzon_tree.specs.View.{view_object};
@@ -29,7 +29,7 @@ use jzon_base::pairs::{self, Pairs};
 use std::alloc::Global;
 use std::convert::AsStr;
 use std::iter::FusedIterator;
-use std::slice;
+use std::{slice, vec};
 
 /// The most pairs that `from_pairs` makes room for ahead of reading them: what an iterator expects
 /// may be far more than there are distinct keys.
@@ -49,11 +49,12 @@ pub type Keys<'a> = keys::Iter<'a>;
 pub type Values<'a> = slice::Iter<'a, JsonValue>;
 
 /// The entries of an object that are left, each as its key and its value.
-// Not another name, as `Iter` is: the toolchain doesn't finish the statement of `IntoIterator` for
-// `Object` if the iterator is `pairs::IntoIter<JsonValue>` itself.
 #[derive(Drop)]
 pub struct IntoIter {
-    pairs: pairs::IntoIter<JsonValue>,
+    keys: vec::IntoIter<Key>,
+    values: vec::IntoIter<JsonValue>,
+    // As many values are left as keys, so that `next` requires nothing of its caller.
+    ghost as_many: { length (into_iter_items values) ≡ length (into_iter_items keys) },
 }
 
 /// The entries of an object that is being made: `push` adds one, and `Object::from_builder` makes
@@ -346,6 +347,8 @@ impl<'a> IntoIterator for &'a mut Object {
 }
 
 impl Iterator for IntoIter {
+    ghost use Rattle.jzon_tree.specs.IntoIter.{entries_left};
+
     type Item = (Key, JsonValue);
 
     ghost next_gives = { YieldsFirstBy (λ x. x) entries_left };
@@ -353,7 +356,9 @@ impl Iterator for IntoIter {
     ghost remaining = { item_count entries_left };
 
     fn next(&mut self) -> Option<(Key, JsonValue)> {
-        self.pairs.next()
+        let key = self.keys.next()?;
+        let value = self.values.next()?;
+        Some((key, value))
     }
 
     fn size_hint(&self) -> (usize, Option<usize>)
@@ -362,21 +367,26 @@ impl Iterator for IntoIter {
         ensures exact { result
             ≡ (length (entries_left self.now), Some (length (entries_left self.now))) }
     {
-        self.pairs.size_hint()
+        let len = self.len();
+        (len, Some(len))
     }
 }
 
 impl DoubleEndedIterator for IntoIter {
+    ghost use Rattle.jzon_tree.specs.IntoIter.{entries_left};
+
     ghost next_back_gives = { YieldsLastBy (λ x. x) entries_left };
 
     fn next_back(&mut self) -> Option<(Key, JsonValue)> {
-        self.pairs.next_back()
+        let key = self.keys.next_back()?;
+        let value = self.values.next_back()?;
+        Some((key, value))
     }
 }
 
 impl ExactSizeIterator for IntoIter {
     fn len(&self) -> usize {
-        self.pairs.len()
+        self.keys.len()
     }
 }
 
@@ -389,13 +399,16 @@ impl IntoIterator for Object {
     type IntoIter = IntoIter;
 
     ghost use Rattle.jzon_tree.specs.Entries.{entries_of};
+    ghost use Rattle.jzon_tree.specs.IntoIter.{entries_left};
 
     ghost into_iter_gives = { λ object it. entries_left it ≡ entries_of object };
 
     fn into_iter(self) -> IntoIter {
         let Object { pairs } = self;
+        let (keys, values) = pairs.into_parts();
         IntoIter {
-            pairs: pairs.into_iter(),
+            keys: keys.into_vec().into_iter(),
+            values: values.into_iter(),
         }
     }
 }

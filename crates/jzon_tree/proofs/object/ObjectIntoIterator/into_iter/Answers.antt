@@ -1,0 +1,13 @@
+use Rattle.std.proofs.Common.{◌∙◌}
+use Rattle.std.specs.List.{zip}
+use Rattle.jzon_base.proofs.Zips.{zip-parts}
+use Rattle.jzon_tree.specs.Entries.{entries_of}
+use Rattle.jzon_tree.proofs.object.ObjectIntoIterator.into_iter.Goals as goal
+
+pub returns : goal.returns
+returns c = record {
+  into_iter_gives =
+      (λ i. zip ((c.into_iter.ensures.rest ∙ c.into_vec.ensures.keys ∙ c.into_parts-keys.ensures.keys) i)
+      ((c.into_iter-2.ensures.rest ∙ c.into_parts-keys.ensures.values) i))
+      ∙ zip-parts (entries_of c.args.self);
+}
