@@ -1,12 +1,12 @@
 -- The bytes that a generator over memory writes for a value, if it was empty before: a text of the value in the
 -- generator's style, and in the style of a layout its text there.
-use Rattle.std.proofs.Common.{◌≡◌, ℕ, Bool, List, [], Some, None, Result, Ok, Err, sym, subst, true, false}
+use Rattle.std.proofs.Common.{◌≡◌, ℕ, Bool, List, [], Some, None, Result, Ok, Err, sym, subst}
 use Rattle.std.specs.Prelude.{IfOk, IsUtf8}
 use Rattle.jzon_tree.specs.Generator.{Adds, Emitted, Added}
 use Rattle.jzon_tree.specs.Generators.{fresh}
 use Rattle.jzon_tree.specs.Lawful.{IsValue}
-use Rattle.jzon_tree.specs.Styles.{only, compact_style, pretty_style}
-use Rattle.jzon_tree.specs.Text.{Layout, layout_text, compact_layout, pretty_layout, compact, pretty}
+use Rattle.jzon_tree.specs.Styles.{only}
+use Rattle.jzon_tree.specs.Text.{Layout, layout_text}
 use Rattle.jzon_tree.specs.Value.{Value}
 use Rattle.jzon_tree.specs.Writing.{Style, Writes, colon_text}
 use Rattle.jzon_tree.proofs.PrintedUtf8.{IsUtf8-writing}
@@ -22,35 +22,12 @@ laid_out style v old new bytes e h a k =
     let w : Writes style 0 v bytes = subst (Writes style 0 v) (sym added.1) added.2 in
     (IsUtf8-writing style 0 v bytes h w, w)
 
--- the bytes are UTF-8, are this text, and are a text of the value in the style
-abbrev pub IsPrinted : List ℕ → Style → Value → List ℕ → Type 0
-IsPrinted t s v bytes = IsUtf8 bytes × (bytes ≡ t) × Writes s 0 v bytes
-
 module _ (line : ℕ → List ℕ) (wide : Bool) where
   abbrev layout : Layout
   layout = record { line = line; colon = colon_text wide }
-
-  pub printed : (v : Value) (old new : Emitted) (bytes : List ℕ) → old ≡ fresh (Some []) (only line wide) None
-      → IsValue v → Added (Writes old.style old.dent v) old new → new.out ≡ Some bytes
-      → IsPrinted (layout_text layout 0 v) (only line wide) v bytes
-  printed v old new bytes e h a k =
-      let p = laid_out (only line wide) v old new bytes e h a k in
-      (p.0, written line wide 0 v bytes p.1, p.1)
 
   -- what is laid out in this style is this text
   pub only_text : {X E : Type 0} (bytes : X → List ℕ) (v : Value) (r : Result X E)
       → IfOk r (λ x. Writes (only line wide) 0 v (bytes x)) → IfOk r (λ x. bytes x ≡ layout_text layout 0 v)
   only_text bytes v (Ok x) w = written line wide 0 v (bytes x) w
   only_text bytes v (Err e) w = w
-
--- the compact and the pretty text
-pub compact_printed : (v : Value) (old new : Emitted) (bytes : List ℕ) → old ≡ fresh (Some []) compact_style None
-    → IsValue v → Added (Writes old.style old.dent v) old new → new.out ≡ Some bytes
-    → IsPrinted (compact v) compact_style v bytes
-compact_printed = printed compact_layout.line false
-
-pub pretty_printed : (spaces : ℕ) (v : Value) (old new : Emitted) (bytes : List ℕ)
-    → old ≡ fresh (Some []) (pretty_style spaces) None → IsValue v → Added (Writes old.style old.dent v) old new
-    → new.out ≡ Some bytes
-    → IsPrinted (pretty v spaces 0) (pretty_style spaces) v bytes
-pretty_printed spaces = printed (pretty_layout spaces).line true

@@ -9,7 +9,7 @@ ghost use Rattle.jzon_tree.specs.View.{view_object};
 ghost use Rattle.jzon_tree.specs.Writing.{Writes};
 
 use crate::codegen::driver::print_object;
-use crate::codegen::{Compact, DumpGenerator, Pretty, PrettyGenerator};
+use crate::codegen::{Compact, Layout, Pretty, TextGenerator};
 use crate::object::Object;
 use crate::value::inspect::inspect_object;
 use jzon_base::error::{Error, Result};
@@ -28,13 +28,7 @@ impl Object {
         ensures depth { 2 ^ 64 ≤ nest (view_object self.now)
             → IsOkUnless result Error.ExceededDepthLimit }
     {
-        let Ok(mut generator) = DumpGenerator::with_room(alloc, Compact) else {
-            return Err(inspect_object(self).refusal());
-        };
-        match print_object(&mut generator, self) {
-            Ok(()) => Ok(generator.into_text()),
-            Err(fault) => Err(fault.found.refusal()),
-        }
+        self.lay_out(alloc, Compact)
     }
 
     /// The text of the object with a line for each entry and element, as `JsonValue::pretty`
@@ -50,7 +44,20 @@ impl Object {
         ensures depth { 2 ^ 64 ≤ nest (view_object self.now)
             → IsOkUnless result Error.ExceededDepthLimit }
     {
-        let Ok(mut generator) = PrettyGenerator::with_room(alloc, Pretty(spaces)) else {
+        self.lay_out(alloc, Pretty(spaces))
+    }
+
+    /// The text of the object in a layout.
+    fn lay_out<L: Layout + Drop>(&self, alloc: Global, layout: L) -> Result<String>
+        ensures writing { IfOk result (λ text. Writes (L.style layout) 0 (view_object self.now)
+            (string_bytes text)) }
+        ensures value { IsValue (view_object self.now) }
+        ensures memory { nest (view_object self.now) < 2 ^ 64
+            → IsOkUnless result Error.OutOfMemory }
+        ensures depth { 2 ^ 64 ≤ nest (view_object self.now)
+            → IsOkUnless result Error.ExceededDepthLimit }
+    {
+        let Ok(mut generator) = TextGenerator::with_room(alloc, layout) else {
             return Err(inspect_object(self).refusal());
         };
         match print_object(&mut generator, self) {
