@@ -1,6 +1,12 @@
 //! Mutable references from a type to nodes of another: the checker proves what is written back
 //! through these, but not through one from a type to itself (docs/DECISIONS.md, "What can't be had
 //! today").
+//!
+//! A clause `writes_back` says what the tree is once the returned reference is no longer used.
+//! `Lends R S tree result after` says that it is `after w`, where `w` is the last value to which
+//! the reference refers; `R` and `S` are the types of the tree and of that value, each named by its
+//! `row`. `LendsIf` and `LendsIfOk` say this of `Some` and of `Ok`. Their last argument is what the
+//! tree is at `None` or at `Err`. `LendsSoOk` has relations in place of `after` and of this value.
 
 ghost use Rattle.std.specs.Prelude.{◌≡◌, ◌≤◌, ◌<◌, List, ℕ, [], length, slice_get, slice_set, IfOk, IfSome, OnOk};
 ghost use Rattle.std.specs.Prelude.{OnErr, IsOkUnless, IsSome, MatchOption, Option, None, Some};

@@ -75,7 +75,7 @@ where
     }
 }
 
-/// `write_at` of any tree.
+/// `write_at` of any `Tree`: an object of `T.pairs` is `T.object` of them.
 fn write_at_in<T: Tree>(tree: &mut T, alloc: Global, key: &str, value: T::Node) -> Result<()>
 where
     T::Node: Drop,
