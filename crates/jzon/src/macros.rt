@@ -159,13 +159,11 @@ macro_rules! insert_pairs {
 #[macro_export]
 macro_rules! insert_value {
     ($alloc:ident $object:ident ($key:expr) $value:tt $(, $($rest:tt)*)?) => {
-        let value = $crate::source!($alloc; $value);
-        let $object = $crate::with_entry($alloc, $object, $key, value)?;
+        let $object = $crate::with_entry($alloc, $object, $key, $crate::source!($alloc; $value))?;
         $crate::insert_pairs!($alloc $object $($($rest)*)?);
     };
     ($alloc:ident $object:ident ($key:expr) $value:expr $(, $($rest:tt)*)?) => {
-        let value = $value;
-        let $object = $crate::with_entry($alloc, $object, $key, value)?;
+        let $object = $crate::with_entry($alloc, $object, $key, $value)?;
         $crate::insert_pairs!($alloc $object $($($rest)*)?);
     };
 }

@@ -66,27 +66,43 @@ fn values(alloc: Global, one: u8) -> Result<JsonValue> {
     ])
 }
 
-/// The key, and one call more.
-fn counted<'a>(calls: &mut usize, key: &'a str) -> &'a str {
+/// The number of the call, counted from 1.
+fn next(calls: &mut u8) -> u8 {
     *calls = calls.saturating_add(1);
-    key
+    *calls
 }
 
-/// Keys that are counted, before values of one token and of several.
-fn with_counted_keys(alloc: Global, calls: &mut usize) -> Result<JsonValue> {
-    Ok(
-        jzon::object! {alloc; [counted(calls, "a")]: 1, [counted(calls, "b")]: 1 + 2, counted(calls, "c") => -4, counted(calls, "d") => null},
-    )
+/// The number of the call as a key.
+fn next_key(calls: &mut u8) -> &'static str {
+    match next(calls) {
+        1 => "1",
+        3 => "3",
+        5 => "5",
+        7 => "7",
+        _ => "another",
+    }
 }
 
-/// Each expression is evaluated once.
+/// Keys and values that are counted together, values of one token and of several.
+fn with_counted_entries(alloc: Global, calls: &mut u8) -> Result<JsonValue> {
+    Ok(jzon::object! {alloc;
+        [next_key(calls)]: (next(calls)), [next_key(calls)]: next(calls),
+        next_key(calls) => [next(calls)], next_key(calls) => next(calls),
+    })
+}
+
+/// Each expression is evaluated once, and a key before its value.
 #[test]
-fn evaluates_keys_once(rt: HostRuntime) -> std::result::Result<(), Fail> {
+fn evaluates_keys_before_values(rt: HostRuntime) -> std::result::Result<(), Fail> {
     let mut calls = 0;
-    let value = with_counted_keys(rt.alloc(), &mut calls)?;
-    let text = "{\"a\":1,\"b\":3,\"c\":-4,\"d\":null}";
-    expect_dump(&rt, rt.alloc(), &value, text)?;
-    expect(&rt, "the calls", calls == 4);
+    let value = with_counted_entries(rt.alloc(), &mut calls)?;
+    expect_dump(
+        &rt,
+        rt.alloc(),
+        &value,
+        "{\"1\":2,\"3\":4,\"5\":[6],\"7\":8}",
+    )?;
+    expect(&rt, "the calls", calls == 8);
     Ok(())
 }
 
@@ -126,12 +142,6 @@ fn evaluates_allocators_once(rt: HostRuntime) -> std::result::Result<(), Fail> {
     expect_dump(&rt, rt.alloc(), &values, text)?;
     expect(&rt, "the calls", calls == 5);
     Ok(())
-}
-
-/// The number of the call, counted from 1.
-fn next(calls: &mut u8) -> u8 {
-    *calls = calls.saturating_add(1);
-    *calls
 }
 
 /// Elements and values that are counted, of one token and of several.
