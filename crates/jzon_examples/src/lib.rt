@@ -2,7 +2,6 @@
 //! name only those of `jzon`.
 #![tactic(auto)]
 
-pub mod building;
 pub mod canonical;
 pub mod chains;
 pub mod cookbook;
@@ -15,5 +14,6 @@ pub mod patch;
 pub mod pointer;
 pub mod redact;
 pub mod round_trip;
+pub mod server_record;
 pub mod sorted_generator;
 pub mod writing;
