@@ -1,22 +1,24 @@
 //! From files, bytes and lines to values, and what to do with an error.
 
 use jzon::{Error, JsonValue, Reading, Result};
-use std::alloc::Global;
+use std::alloc::{AllocError, Global};
 use std::{fs, io};
 
 /// Why a file was not read.
-#[derive(Debug, Drop)]
+#[derive(Debug, Drop, thiserror::Error)]
 pub enum LoadError {
     /// It can't be read, or isn't UTF-8.
-    Io(io::Error),
+    #[error("can't read the file: {0}")]
+    Io(#[from] io::Error),
     /// Its text is rejected.
-    Json(Error),
+    #[error("{0}")]
+    Json(#[from] Error),
 }
 
 /// The value of a file.
 pub fn load(rt: &HostRuntime, path: &str) -> std::result::Result<JsonValue, LoadError> {
-    let text = fs::read_to_string(rt, path).map_err(LoadError::Io)?;
-    jzon::parse(rt.alloc(), text.as_str()).map_err(LoadError::Json)
+    let text = fs::read_to_string(rt, path)?;
+    Ok(jzon::parse(rt.alloc(), text.as_str())?)
 }
 
 /// The value of a text in bytes.
@@ -57,12 +59,25 @@ pub fn explained(alloc: Global, text: &str, error: &Error) -> Result<String> {
     Ok(format!(in alloc; "{error}\n{line}")?)
 }
 
+/// Why the lines of a text were not read.
+#[derive(Debug, Drop, thiserror::Error)]
+pub enum LinesError {
+    /// The line with this number, counted from 1, is rejected.
+    #[error("line {0}: {1}")]
+    Line(usize, Error),
+    /// An allocation failed.
+    #[error("out of memory")]
+    Memory(#[from(alloc)] AllocError),
+}
+
 /// The values of a text that has one JSON text on each line. Empty lines are skipped.
-pub fn parse_lines(alloc: Global, text: &str) -> Result<Vec<JsonValue>> {
+pub fn parse_lines(alloc: Global, text: &str) -> std::result::Result<Vec<JsonValue>, LinesError> {
     let mut values = Vec::new(alloc);
-    for line in text.lines() {
+    for (index, line) in text.lines().enumerate() {
         if !line.trim().is_empty() {
-            values.push(jzon::parse(alloc, line)?)?;
+            let number = index.saturating_add(1);
+            let value = jzon::parse(alloc, line).map_err(|error| LinesError::Line(number, error))?;
+            values.push(value)?;
         }
     }
     Ok(values)
@@ -79,6 +94,8 @@ mod tests {
         assert!(rt; matches!(empty, Err(LoadError::Json(Error::UnexpectedEndOfJson))));
         let missing = load(&rt, "/dev/null/none.json");
         assert!(rt; matches!(missing, Err(LoadError::Io(_))));
+        let message = format!(in rt.alloc(); "{}", empty.err().ok_or("no error")?)?;
+        assert_eq!(rt; message.as_str(), "Unexpected end of JSON");
         Ok(())
     }
 
@@ -94,6 +111,11 @@ mod tests {
         assert_eq!(rt;
             jzon::stringify(alloc, values)?.as_str(),
             r#"[{"a":1},[2]]"#
+        );
+        let error = parse_lines(alloc, "1\n\n[2,]\n").err().ok_or("no error")?;
+        assert_eq!(rt;
+            format!(in alloc; "{error}")?.as_str(),
+            "line 3: Unexpected character: ] at (1:4)"
         );
         Ok(())
     }
