@@ -1,8 +1,9 @@
 //! What is in a value.
 
-use crate::cookbook::building::Server;
+use crate::cookbook::building::{Server, Shape};
 use jzon::{Error, JsonValue, Result, View};
-use std::alloc::Global;
+use std::alloc::{AllocError, Global};
+use std::collections::BTreeMap;
 
 /// Seconds to wait: 30 if the setting is missing or no `u64`.
 pub fn timeout(config: &JsonValue) -> u64 {
@@ -29,27 +30,80 @@ pub fn unset(alloc: Global, config: &JsonValue) -> Result<Vec<String>> {
     Ok(keys)
 }
 
-/// The server that an object describes. A missing port is 80, missing tags are an empty list.
-/// `None` without a host, or if the port is no `u16`.
-pub fn server_of(alloc: Global, value: &JsonValue) -> Result<Option<Server>> {
-    let Some(host) = value.at("host").as_str() else {
-        return Ok(None);
-    };
-    let Some(port) = port_of(value) else {
-        return Ok(None);
-    };
-    Ok(Some(Server {
-        host: String::from_str(alloc, host)?,
-        port,
-        tags: strings_of(alloc, value.at("tags"))?,
-    }))
+/// The value and all values inside it, at any depth: a container before what is in it.
+pub fn all_values(alloc: Global, value: &JsonValue) -> Result<Vec<&JsonValue>> {
+    let mut values = vec![in alloc; value]?;
+    for position in 0..usize::MAX {
+        match values.get(position).copied() {
+            Some(container) => push_children(&mut values, container)?,
+            None => break,
+        }
+    }
+    Ok(values)
 }
 
-/// The port: 80 if there is none, `None` if it is no `u16`.
-fn port_of(value: &JsonValue) -> Option<u16> {
+/// Adds the elements of an array, or the values of an object's entries.
+fn push_children<'a>(values: &mut Vec<&'a JsonValue>, container: &'a JsonValue) -> Result<()> {
+    for element in container.members() {
+        values.push(element)?;
+    }
+    for (_key, value) in container.entries() {
+        values.push(value)?;
+    }
+    Ok(())
+}
+
+/// The strings in a value, at any depth. Keys aren't among them.
+pub fn strings_inside(alloc: Global, value: &JsonValue) -> Result<Vec<&str>> {
+    let mut strings = Vec::new(alloc);
+    for found in all_values(alloc, value)? {
+        if let Some(text) = found.as_str() {
+            strings.push(text)?;
+        }
+    }
+    Ok(strings)
+}
+
+/// Why a value is no server.
+#[derive(Debug, Drop, thiserror::Error)]
+pub enum ServerError {
+    /// The text is rejected, or memory ran out.
+    #[error("{0}")]
+    Json(#[from] Error),
+    /// A string couldn't be copied.
+    #[error("out of memory")]
+    Memory(#[from(alloc)] AllocError),
+    /// This key is missing.
+    #[error("`{0}` is missing")]
+    Missing(&'static str),
+    /// The value of this key isn't of this kind.
+    #[error("`{0}` is no {1}")]
+    WrongKind(&'static str, &'static str),
+}
+
+/// The server that a text describes.
+pub fn parse_server(alloc: Global, text: &str) -> std::result::Result<Server, ServerError> {
+    server_of(alloc, &jzon::parse(alloc, text)?)
+}
+
+/// The server that an object describes. A missing port is 80, missing tags are an empty list.
+pub fn server_of(alloc: Global, value: &JsonValue) -> std::result::Result<Server, ServerError> {
+    let host = value.get("host").ok_or(ServerError::Missing("host"))?;
+    let host = host
+        .as_str()
+        .ok_or(ServerError::WrongKind("host", "string"))?;
+    Ok(Server {
+        host: String::from_str(alloc, host)?,
+        port: port_of(value)?,
+        tags: strings_of(alloc, value.at("tags"))?,
+    })
+}
+
+/// The port: 80 if there is none.
+fn port_of(value: &JsonValue) -> std::result::Result<u16, ServerError> {
     match value.get("port") {
-        Some(port) => port.as_u16(),
-        None => Some(80),
+        Some(port) => port.as_u16().ok_or(ServerError::WrongKind("port", "u16")),
+        None => Ok(80),
     }
 }
 
@@ -77,6 +131,31 @@ pub fn numbers_of(alloc: Global, value: &JsonValue) -> Result<Vec<u64>> {
         }
     }
     Ok(numbers)
+}
+
+/// The entries of an object as a map. Entries whose value is no `u16` are skipped.
+pub fn ports(alloc: Global, value: &JsonValue) -> Result<BTreeMap<String, u16>> {
+    let mut ports = BTreeMap::new(alloc);
+    for (key, value) in value.entries() {
+        if let Some(port) = value.as_u16() {
+            ports.insert(String::from_str(alloc, key)?, port)?;
+        }
+    }
+    Ok(ports)
+}
+
+/// The shape that an object describes.
+pub fn shape_of(value: &JsonValue) -> Option<Shape> {
+    match value.at("type").as_str()? {
+        "circle" => Some(Shape::Circle {
+            radius: value.at("radius").as_u32()?,
+        }),
+        "rectangle" => Some(Shape::Rectangle {
+            width: value.at("width").as_u32()?,
+            height: value.at("height").as_u32()?,
+        }),
+        _ => None,
+    }
 }
 
 /// The integer that a number is, however it is written: `100`, `1e2` or `100.0`.
@@ -113,6 +192,12 @@ mod tests {
         let config = jzon::parse(alloc, r#"{"a": null, "b": 1, "c": null}"#)?;
         let keys = unset(alloc, &config)?;
         assert_eq!(rt; jzon::stringify(alloc, keys)?.as_str(), r#"["a","c"]"#);
+        let nested = jzon::parse(alloc, r#"["a", {"b": ["c", 1]}, "d"]"#)?;
+        let strings = strings_inside(alloc, &nested)?;
+        assert_eq!(rt;
+            jzon::stringify(alloc, strings)?.as_str(),
+            r#"["a","d","c"]"#
+        );
         Ok(())
     }
 
@@ -120,13 +205,19 @@ mod tests {
     fn finds_servers(rt: HostRuntime) -> std::result::Result<(), Fail> {
         let alloc = rt.alloc();
         let value = jzon::parse(alloc, r#"{"host": "a", "tags": ["x", 1, "y"]}"#)?;
-        let server = server_of(alloc, &value)?.ok_or("no server")?;
         assert_eq!(rt;
-            jzon::stringify(alloc, server)?.as_str(),
+            jzon::stringify(alloc, server_of(alloc, &value)?)?.as_str(),
             r#"{"host":"a","port":80,"tags":["x","y"]}"#
         );
-        for text in [r#"{"port": 80}"#, r#"{"host": "a", "port": 65536}"#, "null"] {
-            assert!(rt; server_of(alloc, &jzon::parse(alloc, text)?)?.is_none());
+        let rows = [
+            ("[1", "Unexpected end of JSON"),
+            ("[1]", "`host` is missing"),
+            (r#"{"host": null}"#, "`host` is no string"),
+            (r#"{"host": "a", "port": 65536}"#, "`port` is no u16"),
+        ];
+        for (text, message) in rows {
+            let error = parse_server(alloc, text).err().ok_or("no error")?;
+            assert_eq!(rt; format!(in alloc; "{error}")?.as_str(), message);
         }
         Ok(())
     }
@@ -141,6 +232,9 @@ mod tests {
         let config = jzon::parse(alloc, r#"{"limits": {"timeout": 5}}"#)?;
         assert_eq!(rt; timeout(&config), 5);
         assert_eq!(rt; timeout(&JsonValue::Null), 30);
+        let object = jzon::parse(alloc, r#"{"b": 2, "c": null, "a": 1}"#)?;
+        let map = ports(alloc, &object)?;
+        assert_eq!(rt; jzon::stringify(alloc, map)?.as_str(), r#"{"a":1,"b":2}"#);
         Ok(())
     }
 
