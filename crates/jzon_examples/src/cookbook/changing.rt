@@ -16,6 +16,20 @@ pub fn set_port(alloc: Global, config: &mut JsonValue, port: u16) -> Result<()> 
     Ok(())
 }
 
+/// Changes the port, if it is there. `None` if it isn't: then nothing has changed.
+pub fn change_port(config: &mut JsonValue, port: u16) -> Option<()> {
+    *config.get_mut("server")?.get_mut("port")? = JsonValue::from(port);
+    Some(())
+}
+
+/// Sorts a list by the field `name`. Elements without a name come first.
+pub fn sort_by_name(list: &mut JsonValue) -> Result<()> {
+    if let Some(elements) = list.as_array_mut() {
+        elements.sort_by(|one, other| one.at("name").as_str().cmp(&other.at("name").as_str()))?;
+    }
+    Ok(())
+}
+
 /// Replaces each null in a list by 0.
 pub fn fill(list: &mut JsonValue) {
     for element in list.members_mut() {
@@ -61,6 +75,15 @@ mod tests {
         let mut list = jzon::parse(alloc, "[null, 1, null]")?;
         fill(&mut list);
         assert_eq!(rt; list.dump(alloc)?.as_str(), "[0,1,0]");
+        let mut people = jzon::parse(alloc, r#"[{"name": "b", "age": 1}, {"name": "a"}, {}]"#)?;
+        sort_by_name(&mut people)?;
+        assert_eq!(rt;
+            people.dump(alloc)?.as_str(),
+            r#"[{},{"name":"a"},{"name":"b","age":1}]"#
+        );
+        assert!(rt; change_port(&mut people, 81).is_none());
+        assert!(rt; change_port(&mut config, 81).is_some());
+        assert!(rt; config.at("server").at("port").eq_u64(81));
         Ok(())
     }
 }
