@@ -1,5 +1,6 @@
-//! Reads a configuration from standard input, sets its port, and prints it on lines. README.md
-//! quotes this file as a first program.
+//! Reads a configuration from standard input, changes the port of its server, and prints it on
+//! lines. It rejects a configuration without a server. README.md quotes this file as a first
+//! program.
 #![tactic(auto)]
 
 use jzon::JsonValue;
@@ -12,7 +13,11 @@ fn main(rt: HostRuntime) -> io::Result<ExitCode> {
     let alloc = rt.alloc();
     let text = io::read_to_string(alloc, rt.stdin())?;
     let config = match with_port(alloc, text.as_str(), 8080) {
-        Ok(config) => config,
+        Ok(Some(config)) => config,
+        Ok(None) => {
+            eprintln!(rt; "config: there is no object \"server\"")?;
+            return Ok(ExitCode::FAILURE);
+        }
         Err(error) => {
             eprintln!(rt; "config: {error}")?;
             return Ok(ExitCode::FAILURE);
@@ -25,9 +30,13 @@ fn main(rt: HostRuntime) -> io::Result<ExitCode> {
     Ok(ExitCode::SUCCESS)
 }
 
-/// The configuration that the text has, with the port of its server changed.
-fn with_port(alloc: Global, text: &str, port: u16) -> jzon::Result<JsonValue> {
+/// The configuration that the text has, with the port of its server changed. `None` if the text
+/// has no object `server`.
+fn with_port(alloc: Global, text: &str, port: u16) -> jzon::Result<Option<JsonValue>> {
     let mut config = jzon::parse(alloc, text)?;
+    if !config.at("server").is_object() {
+        return Ok(None);
+    }
     *config.at_mut(alloc, "server")?.at_mut(alloc, "port")? = JsonValue::from(port);
-    Ok(config)
+    Ok(Some(config))
 }
