@@ -1,6 +1,7 @@
-"""What both benches share: texts that another process makes, runs of a program with their processor time and peak memory, and the build of the Rust crate's side."""
+"""What the benches share: texts that another process makes, runs of a program with their processor time and peak memory, and the builds of our programs and of the Rust crate's."""
 import os
 import resource
+import shutil
 import subprocess
 import sys
 import tempfile
@@ -99,6 +100,27 @@ def mean(ratios):
 def ratio_text(above, below):
     """A ratio, or a minus where one side has no figure."""
     return f"{above / below:.2f}" if above and below else "-"
+
+
+def rattle_build(room, name, source):
+    """Proves and builds a program of one file over the library, in a copy. Without arguments it ends with the status 1. Its path."""
+    folder = os.path.join(room, "ours")
+    home = os.path.join(folder, "crates", name)
+    shutil.rmtree(folder, ignore_errors=True)
+    shutil.copytree(os.path.join(TOP, "crates"), os.path.join(folder, "crates"), ignore=shutil.ignore_patterns("out", "must-fail*"))
+    os.makedirs(os.path.join(home, "src"))
+    os.mkdir(os.path.join(folder, ".git"))
+    shutil.copy(os.path.join(TOP, "HANDLES"), folder)
+    shutil.copy(os.path.join(HERE, source), os.path.join(home, "src", "main.rt"))
+    with open(os.path.join(TOP, "crates.txt"), encoding="utf-8") as of, open(os.path.join(folder, "crates.txt"), "w", encoding="utf-8") as to:
+        to.write(of.read() + f"{name}: jzon\n")
+    print("bench: proving and building ours, which takes minutes where its library isn't proved yet", file=sys.stderr, flush=True)
+    ran = subprocess.run(["rt", "run"], cwd=home, stdin=subprocess.DEVNULL, capture_output=True, text=True)
+    program = os.path.join(home, "out", name)
+    if ran.returncode != 1 or not os.access(program, os.X_OK):
+        lines = [line for line in (ran.stdout + ran.stderr).splitlines() if "error" in line or line.startswith("rt:")]
+        sys.exit("bench: ours doesn't build:\n" + "\n".join(lines[-20:]))
+    return program
 
 
 def cargo_build(room, checkout, source, serde):

@@ -107,6 +107,11 @@ def elements(random_, name):
         "rows": lambda number: json.dumps([random_.randrange(1000) for _ in range(100)]),
         "articles": lambda number: json.dumps({"title": phrase(random_, 4, 9), "text": phrase(random_, 300, 900)}),
         "readings": lambda number: json.dumps(reading(random_, number)),
+        "letters": lambda number: '"' + "x" * 10_000 + '"',
+        "short-entries": lambda number: '{"id":1,"ok":true,"n":"x1"}',
+        "digits": lambda number: "1",
+        "smallest": lambda number: '{"":1}',
+        "nested": lambda number: '{"":' * 511 + "1" + "}" * 511,
     }[name]
     number = 0
     while True:
@@ -137,6 +142,15 @@ OTHER_TITLES = {
     "rows": "rows of 100 small integers",
     "articles": "articles of long strings",
     "readings": "readings of sensors, objects of 4 keys and arrays of 6 decimals",
+}
+# The last three take much memory for their length.
+MEMORY_TITLES = {
+    "letters": "strings of 10,000 letters",
+    "records": "records",
+    "short-entries": '`{"id":1,"ok":true,"n":"x1"}`',
+    "digits": "`1`",
+    "smallest": '`{"":1}`',
+    "nested": '`{"":{"":..1..}}`, 511 objects in one another',
 }
 KEY_TITLES = {
     "rising": "in ascending order of hash",
