@@ -85,8 +85,9 @@ fn objects_of(alloc: Global, key: &str, value: &JsonValue) -> Result<[Object; 5]
     let collected: Object = [(key, value.clone(alloc)?)].into_iter().collect(alloc)?;
     let mut map = BTreeMap::new(alloc);
     map.insert(String::from_str(alloc, key)?, value.clone(alloc)?)?;
-    let JsonValue::Object(mapped) = map.into_json(alloc)? else {
-        return Ok([inserted, borrowed, pairs, collected, Object::new(alloc)]);
+    let mapped = match map.into_json(alloc)? {
+        JsonValue::Object(object) => object,
+        _ => Object::new(alloc),
     };
     Ok([inserted, borrowed, pairs, collected, mapped])
 }

@@ -318,8 +318,9 @@ fn in_room(
     Ok(pairs)
 }
 
-/// How many pairs there is room for: the index has room for up to 1,024.
-const ROOMS: [u32; 3] = [16, 100, 1024];
+/// How many pairs there is room for, and the number of allocations of one more. Keys and values grow,
+/// and so does the index, which begins after 16 keys and has room for up to 1,024.
+const ROOMS: [(u32, usize); 3] = [(16, 3), (100, 2), (1024, 3)];
 
 /// `with_capacity` gives keys, values and index their room, and `clear` keeps it. One key more
 /// takes memory.
@@ -343,9 +344,9 @@ fn expect_capacity(rt: &impl Abort, alloc: Global, count: u32) -> Result<Refusal
 
 #[test]
 fn room_for_pairs_under_refusals(rt: HostRuntime) -> Result<(), Fail> {
-    for count in ROOMS {
+    for (count, allocations) in ROOMS {
         let refusals = expect_capacity(&rt, rt.alloc(), count)?;
-        refusals.report_from(&rt, "Pairs::insert past the room", 2)?;
+        refusals.report(&rt, "Pairs::insert past the room", allocations)?;
     }
     Ok(())
 }

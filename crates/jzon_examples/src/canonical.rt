@@ -164,7 +164,7 @@ mod tests {
             assert_eq!(rt; generator.faults(), 1);
             assert!(rt; SORTED.as_bytes().starts_with(generator.get_writer()));
         }
-        refusals.report_from(&rt, "Sorted", 3)?;
+        refusals.report(&rt, "Sorted", 5)?;
         Ok(())
     }
 }

@@ -216,8 +216,8 @@ mod tests {
 
     #[test]
     fn generator_under_refusals(rt: HostRuntime) -> Tested {
-        fail_each(&rt, rt.alloc(), false)?.report_from(&rt, "write_json, SortedGenerator", 7)?;
-        fail_each(&rt, rt.alloc(), true)?.report_from(&rt, "write_object, SortedGenerator", 7)?;
+        fail_each(&rt, rt.alloc(), false)?.report(&rt, "write_json, SortedGenerator", 8)?;
+        fail_each(&rt, rt.alloc(), true)?.report(&rt, "write_object, SortedGenerator", 8)?;
         Ok(())
     }
 }

@@ -82,26 +82,12 @@ impl Refusals {
     /// ci/refuse.c is loaded and there weren't `count` of them, as many as the call has
     /// allocations, or a run left a block.
     pub fn report(&self, rt: &impl Eprint, test: &str, count: usize) -> Result<(), &'static str> {
-        self.report_from(rt, test, count)?;
-        if self.is_able && self.count > count {
-            return Err("too many allocations failed");
-        }
-        Ok(())
-    }
-
-    /// The same, but more than `least` runs may have had a failed allocation.
-    pub fn report_from(
-        &self,
-        rt: &impl Eprint,
-        test: &str,
-        least: usize,
-    ) -> Result<(), &'static str> {
         let _ = eprintln!(rt; "{test}: {} refusals", self.count);
         if !self.is_done {
             return Err("an allocation failed in each run");
         }
-        if self.is_able && self.count < least {
-            return Err("too few allocations failed");
+        if self.is_able && self.count != count {
+            return Err("another number of allocations failed");
         }
         self.expect_even()
     }

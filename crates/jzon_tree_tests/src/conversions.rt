@@ -1,7 +1,7 @@
 //! What can be converted into a value.
 
 use crate::common::{Tested, expect, expect_eq};
-use jzon_base::error::Result;
+use jzon_base::error::{Error, Result};
 use jzon_base::number::{NAN, Number};
 use jzon_tree::into_json::IntoJson;
 use jzon_tree::object::Object;
@@ -132,10 +132,11 @@ fn puts_entries(rt: HostRuntime) -> Tested {
     expect_dump(&rt, alloc, object, "{\"a\":3,\"c\":4}")
 }
 
-/// Becomes the number of conversions before its own.
+/// Becomes the number of conversions before its own, unless its own is the one that fails.
 #[derive(Clone, Copy, Drop)]
 struct Counted<'a> {
     count: &'a Cell<u64>,
+    fails_after: u64,
 }
 
 impl IntoJson for Counted<'_> {
@@ -148,6 +149,9 @@ impl IntoJson for Counted<'_> {
     fn into_json(self, alloc: Global) -> Result<JsonValue> {
         let count = self.count.get();
         self.count.set(count.saturating_add(1));
+        if count == self.fails_after {
+            return Err(Error::OutOfMemory);
+        }
         count.into_json(alloc)
     }
 }
@@ -194,7 +198,10 @@ fn clones_the_elements_of_slices(rt: HostRuntime) -> Tested {
 fn converts_in_order(rt: HostRuntime) -> Tested {
     let alloc = rt.alloc();
     let count = Cell::new(0);
-    let counted = Counted { count: &count };
+    let counted = Counted {
+        count: &count,
+        fails_after: u64::MAX,
+    };
     let list = vec![in alloc; counted, counted, counted]?;
     expect_dump(&rt, alloc, list.as_slice(), "[0,1,2]")?;
     expect_dump(&rt, alloc, list, "[3,4,5]")?;
@@ -206,5 +213,40 @@ fn converts_in_order(rt: HostRuntime) -> Tested {
     map.insert("a", counted)?;
     expect_dump(&rt, alloc, map, "{\"a\":9,\"b\":10}")?;
     expect_eq(&rt, "the conversions", count.get(), 11);
+    Ok(())
+}
+
+/// The second of three conversions fails, and there is no third.
+fn expect_stop<T: IntoJson>(rt: &impl Abort, alloc: Global, source: T, count: &Cell<u64>) {
+    count.set(0);
+    let outcome = source.into_json(alloc);
+    expect(rt, "the error", matches!(outcome, Err(Error::OutOfMemory)));
+    expect_eq(rt, "the conversions", count.get(), 2);
+}
+
+#[test]
+fn converts_until_one_fails(rt: HostRuntime) -> Tested {
+    let alloc = rt.alloc();
+    let count = Cell::new(0);
+    let counted = Counted {
+        count: &count,
+        fails_after: 1,
+    };
+    let list = vec![in alloc; counted, counted, counted]?;
+    expect_stop(&rt, alloc, list.as_slice(), &count);
+    expect_stop(&rt, alloc, list, &count);
+    let mut map = BTreeMap::new(alloc);
+    let mut hash_map = HashMap::new(alloc);
+    for key in ["a", "b", "c"] {
+        map.insert(key, counted)?;
+        hash_map.insert(String::from_str(alloc, key)?, counted)?;
+    }
+    expect_stop(&rt, alloc, map, &count);
+    expect_stop(&rt, alloc, hash_map, &count);
+    count.set(0);
+    let pairs = [("a", counted), ("b", counted), ("c", counted)];
+    let outcome = Object::from_pairs(alloc, pairs.into_iter());
+    expect(&rt, "the error", matches!(outcome, Err(Error::OutOfMemory)));
+    expect_eq(&rt, "the conversions", count.get(), 2);
     Ok(())
 }

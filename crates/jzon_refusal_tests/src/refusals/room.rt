@@ -49,8 +49,9 @@ impl Print {
     }
 }
 
-/// A call, its name, the source of the value, and what is printed of it.
-type Printed = (Print, &'static str, &'static str, &'static str);
+/// A call, its name, the source of the value, what is printed of it, and how often a sink without
+/// room grows then.
+type Printed = (Print, &'static str, &'static str, &'static str, usize);
 
 /// One run of the call on a sink with this much room. A run with a failed allocation fails. Whether
 /// one failed.
@@ -62,7 +63,7 @@ fn print_once(
     room: usize,
     refusals: &mut Refusals,
 ) -> std::result::Result<bool, Fail> {
-    let (call, name, _, text) = row;
+    let (call, name, _, text, _) = row;
     let mut sink = Sink {
         bytes: Vec::with_capacity(alloc, room)?,
     };
@@ -105,23 +106,31 @@ fn fail_each_of(
 const LONG_STRING: &str = "\"abcdefghijklmnopqrstuvwxyz01234\"";
 
 const PRINTED: &[Printed] = &[
-    (Print::Write, "write", DOCUMENT, DUMP),
-    (Print::WritePretty, "write_pretty", DOCUMENT, PRETTY),
-    (Print::Generator, "WriterGenerator", DOCUMENT, DUMP),
+    (Print::Write, "write", DOCUMENT, DUMP, 3),
+    (Print::WritePretty, "write_pretty", DOCUMENT, PRETTY, 4),
+    (Print::Generator, "WriterGenerator", DOCUMENT, DUMP, 3),
     (
         Print::PrettyGenerator,
         "PrettyWriterGenerator",
         DOCUMENT,
         PRETTY,
+        4,
     ),
-    (Print::Display, "Display", DOCUMENT, DUMP),
+    (Print::Display, "Display", DOCUMENT, DUMP, 3),
     (
         Print::Display,
         "Display of a string",
         LONG_STRING,
         LONG_TEXT,
+        1,
     ),
-    (Print::Display, "Display of a number", "-12.50e3", "-12500"),
+    (
+        Print::Display,
+        "Display of a number",
+        "-12.50e3",
+        "-12500",
+        1,
+    ),
 ];
 
 /// Without room the sink's own allocations fail, which shows that an allocation is seen; with room
@@ -129,7 +138,7 @@ const PRINTED: &[Printed] = &[
 #[test]
 fn room_under_refusals(rt: HostRuntime) -> Tested {
     for row in PRINTED {
-        fail_each_of(&rt, rt.alloc(), *row, 0)?.report_from(&rt, row.1, 1)?;
+        fail_each_of(&rt, rt.alloc(), *row, 0)?.report(&rt, row.1, row.4)?;
         fail_each_of(&rt, rt.alloc(), *row, 256)?.expect_even()?;
     }
     Ok(())
