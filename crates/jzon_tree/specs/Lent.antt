@@ -2,12 +2,13 @@
 use Rattle.std.specs.Prelude.{◌≡◌, ℕ, List, [], ◌∷◌, ◌++◌, length, nat_lt, nat_eq, if◌then◌else◌, Option}
 use Rattle.std.specs.Prelude.{None, Some}
 use Rattle.std.specs.Global.{Vec}
-use Rattle.std.proofs.Common.{rules}
+use denote.Hole.Carrier.{roll}
+use Rattle.std.proofs.Common.{ap}
 use Rattle.jzon_tree.specs.Entries.{entries_of, with_entries}
 use Rattle.jzon_tree.specs.Value.{Value, array, list_of_values}
 use Rattle.jzon_tree.specs.declared.object.Object.{Object}
 use Rattle.jzon_tree.specs.declared.value.JsonValue.{JsonValue, out-JsonValue, Null, Object as object_value}
-use Rattle.jzon_tree.specs.declared.value.JsonValue.{Array as array_value, the_lemmas}
+use Rattle.jzon_tree.specs.declared.value.JsonValue.{Array as array_value, roll-JsonValue, out-roll-JsonValue}
 use Rattle.jzon_tree.specs.declared.value.JsonValue.TheOpen.{JsonValue-F}
 
 abbrev object_at : JsonValue-F JsonValue Object → Option Object
@@ -62,7 +63,9 @@ place_made v i = place_in (items_in v) i
 -- ---- an object or array value has what it was built from
 
 pub entries_in-object : (ps : List (List ℕ × JsonValue)) → entries_in (object_value (with_entries ps)) ≡ ps
-entries_in-object ps = search (rules, the_lemmas)
+unfolding roll-JsonValue out-JsonValue roll
+entries_in-object ps = ap entries_at (out-roll-JsonValue (JsonValue-F.Object (with_entries ps)))
 
 pub items_in-array : (vs : Vec JsonValue) → items_in (array_value vs) ≡ Some vs.items
-items_in-array vs = search (rules, the_lemmas)
+unfolding roll-JsonValue out-JsonValue roll
+items_in-array vs = ap items_at (out-roll-JsonValue (JsonValue-F.Array vs))
