@@ -24,6 +24,7 @@ pub mod Rising
 pub mod Merged
 pub mod MergedRuns
 pub mod PutEach
+pub mod KnownKeys
 pub mod Handed
 pub mod FlatRuns
 pub mod Tables
