@@ -284,7 +284,7 @@ impl Stacks {
             return self.push_new_key(name, wide);
         }
         self.merge_at_limit()?;
-        self.keys.push(Key::from_wide(self.alloc, name, wide)?)?;
+        Key::push_wide(&mut self.keys, self.alloc, name, wide)?;
         Ok(false)
     }
 
@@ -305,7 +305,7 @@ impl Stacks {
         if known.has_or_adds(self.alloc, keys, name)? {
             return Ok(true);
         }
-        self.keys.push(Key::from_wide(self.alloc, name, wide)?)?;
+        Key::push_wide(&mut self.keys, self.alloc, name, wide)?;
         self.known = known;
         Ok(false)
     }

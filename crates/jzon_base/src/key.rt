@@ -1,7 +1,7 @@
 //! A key of an object: text that is stored inline if it is short (docs/RULES.md, "Short and long
 //! strings").
 ghost use Rattle.std.specs.Prelude.{◌≡◌, ◌+◌, ◌<◌, ◌≤◌, ◌++◌, ◌∷◌, [], false, true, length, take};
-ghost use Rattle.std.specs.Prelude.{string_bytes, vec_len, vec_capacity, IfOk, IsOkUnless, MatchOption, OnErr};
+ghost use Rattle.std.specs.Prelude.{string_bytes, vec_len, vec_capacity, IfOk, IsOkUnless, MatchOption, OnErr, OnOk};
 ghost use Rattle.std.specs.Str.{bytes_eq};
 ghost use Rattle.std.specs.Cmp.{partial_equiv_from_equiv};
 ghost use Rattle.std.specs.Cmp.Lexicographic.{nat_list_eq_equiv};
@@ -94,21 +94,29 @@ impl Key {
         }
     }
 
-    /// The key with this text, with which `wide` begins. The same as `new`, and faster if `wide`
-    /// has 32 bytes.
+    /// Appends the key with this text, with which `wide` begins, to `keys`. It is made there, so that
+    /// it isn't moved; this is faster if `wide` has 32 bytes. The error is a failed allocation.
     #[doc(hidden)]
     #[inline(always)]
-    pub fn from_wide(alloc: Global, text: &str, wide: &str) -> Result<Key, AllocError>
+    pub fn push_wide(
+        keys: &mut Vec<Key>,
+        alloc: Global,
+        text: &str,
+        wide: &str,
+    ) -> Result<(), AllocError>
         requires wide { take (length text.now) wide.now ≡ text.now }
-        ensures bytes { IfOk result (λ k. k ≡ text.now) }
-        ensures long { OnErr result (32 < length text.now) }
+        ensures ok { OnOk result (keys.new.items ≡ keys.old.items ++ text.now ∷ []) }
+        ensures err { OnErr result (keys.new.items ≡ keys.old.items) }
     {
+        keys.reserve(1)?;
         if text.len() <= INLINE_MAX {
-            return Ok(Key {
+            keys.push_reserved(Key {
                 text: Text::Inline(inline::front_of(text, wide)),
             });
+            return Ok(());
         }
-        Key::new(alloc, text)
+        keys.push_reserved(Key::new(alloc, text)?);
+        Ok(())
     }
 
     /// A copy. Text of up to 32 bytes allocates nothing; for longer text the error is a failed

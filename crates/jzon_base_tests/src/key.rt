@@ -21,7 +21,9 @@ fn expect_text(rt: &impl Abort, alloc: Global, text: &str) -> Result<(), Fail> {
     expect_eq(rt, text, key.as_str(), text);
     expect(rt, text, key == Key::new(alloc, text)?);
     expect(rt, text, key != Key::new(alloc, "other")?);
-    expect(rt, text, key == Key::from_wide(alloc, text, text)?);
+    let mut keys = Vec::new(alloc);
+    Key::push_wide(&mut keys, alloc, text, text)?;
+    expect(rt, text, keys.len() == 1 && keys[0] == key);
     let copy = key.clone(alloc)?;
     let string = copy.into_string(alloc)?;
     expect_eq(rt, text, string.as_str(), text);

@@ -39,8 +39,8 @@ pub invariant_of-self-2 : goal.invariant_of-self-2
 invariant_of-self-2 c =
     let name = c.args.name.now in
     let s = c.self.inside in
-    IsLaidOut-key s c.push.new.self c.has_or_adds.new.self name c.self.invariant
-    (c.in_ok-push.ensures.items ∙ ap (λ k. s.keys.items ++ k ∷ []) c.in_ok-from_wide.ensures.bytes)
+    IsLaidOut-key s c.push_wide.new.keys c.has_or_adds.new.self name c.self.invariant
+    c.in_ok-push_wide.ensures.ok
     (λ _. subst (λ ks. IsTable (ks ++ name ∷ []) c.has_or_adds.new.self)
     (own c.deref.result.now s.keys.items s.first_key c.deref.ensures.value)
     (c.in_ok-has_or_adds.ensures.missing c.if-branch.false))
@@ -49,8 +49,8 @@ pub returns-clause-kept : goal.returns-clause-kept
 returns-clause-kept c =
     let name = c.args.name.now in
     let s = c.self.inside in
-    let seen = view-key s c.push.new.self c.has_or_adds.new.self name c.self.invariant
-    (c.in_ok-push.ensures.items ∙ ap (λ k. s.keys.items ++ k ∷ []) c.in_ok-from_wide.ensures.bytes)
+    let seen = view-key s c.push_wide.new.keys c.has_or_adds.new.self name c.self.invariant
+    c.in_ok-push_wide.ensures.ok
     (λ _. subst (λ ks. IsTable (ks ++ name ∷ []) c.has_or_adds.new.self)
     (own c.deref.result.now s.keys.items s.first_key c.deref.ensures.value)
     (c.in_ok-has_or_adds.ensures.missing c.if-branch.false))
@@ -62,8 +62,8 @@ pub returns-clause-pushed : goal.returns-clause-pushed
 returns-clause-pushed c = λ _.
     let name = c.args.name.now in
     let s = c.self.inside in
-    let seen = view-key s c.push.new.self c.has_or_adds.new.self name c.self.invariant
-    (c.in_ok-push.ensures.items ∙ ap (λ k. s.keys.items ++ k ∷ []) c.in_ok-from_wide.ensures.bytes)
+    let seen = view-key s c.push_wide.new.keys c.has_or_adds.new.self name c.self.invariant
+    c.in_ok-push_wide.ensures.ok
     (λ _. subst (λ ks. IsTable (ks ++ name ∷ []) c.has_or_adds.new.self)
     (own c.deref.result.now s.keys.items s.first_key c.deref.ensures.value)
     (c.in_ok-has_or_adds.ensures.missing c.if-branch.false))
