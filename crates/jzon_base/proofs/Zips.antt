@@ -24,6 +24,10 @@ module _ {V : Type 0} where
   zip-push (l ∷ ks) [] k v e = absurd (omega arith)
   zip-push (l ∷ ks) (w ∷ vs) k v e = ap (λ r. (l, w) ∷ r) (zip-push ks vs k v (omega arith))
 
+  pub zip-parts : (ps : List (List ℕ × V)) → zip (keys_of ps) (values_of ps) ≡ ps
+  zip-parts [] = refl
+  zip-parts (p ∷ ps) = ap (λ r. p ∷ r) (zip-parts ps)
+
   -- the last key and the last of as many values
   pub length-last : (ks ls : List (List ℕ)) (vs ws : List V) (k : List ℕ) (v : V) → ks ≡ ls ++ k ∷ []
       → vs ≡ ws ++ v ∷ [] → length vs ≡ length ks → length ws ≡ length ls
