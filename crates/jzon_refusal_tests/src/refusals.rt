@@ -3,10 +3,10 @@
 
 mod built;
 mod changed;
+mod containers;
 mod counted;
 mod frugal;
 mod grown;
-mod hints;
 mod objects;
 mod owned;
 mod room;

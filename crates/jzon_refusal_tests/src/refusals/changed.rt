@@ -103,13 +103,27 @@ const REPEATED: &str = "{\"a\":1,\"b\":1,\"c\":2,\"d\":3,\"e\":4,\"f\":5,\"g\":6
     \"j\":9,\"k\":10,\"l\":11,\"m\":12,\"n\":13,\"o\":14,\"p\":15,\"q\":16,\"r\":17,\"s\":18,\
     \"t\":19,\"a\":0}";
 
-/// The second object is allocated for as many entries as the first one has.
+/// The first array takes the block of the stack of values, and the second one a block of its length.
+/// Each object takes the block of the stack of keys, which begins anew.
 const ALIKE: &str = "[{\"a\":[1,2]},{\"a\":[3,4]}]";
+
+/// An object in another: a box and two blocks of its length. The other one has its box, and takes
+/// the blocks of both stacks; the stack of containers is a block too.
+const ONE_IN_ANOTHER: &str = "{\"z\":0,\"y\":{\"a\":1}}";
+
+const THREE_IN_ANOTHER: &str = "{\"z\":0,\"y\":{\"a\":1,\"b\":2,\"c\":3}}";
+
+/// Both stacks grow twice for it, and the other one leaves them, for two blocks of its length.
+const SIXTEEN_IN_ANOTHER: &str = "{\"z\":0,\"y\":{\"a\":0,\"b\":1,\"c\":2,\"d\":3,\"e\":4,\"f\":5,\
+    \"g\":6,\"h\":7,\"i\":8,\"j\":9,\"k\":10,\"l\":11,\"m\":12,\"n\":13,\"o\":14,\"p\":15}}";
+
+/// An array in an object: one block.
+const ARRAY_IN_OBJECT: &str = "{\"z\":0,\"y\":[1,2,3]}";
 
 const KEYED: &str = "{\"0123456789abcdef0123456789abcdef01234567\":null}";
 
 const CHANGED: &[Row<Changed>] = &[
-    (Changed::Parse(DOCUMENT), "parse", "null", DUMP, 9),
+    (Changed::Parse(DOCUMENT), "parse", "null", DUMP, 6),
     (
         Changed::Parse(ESCAPED),
         "parse of a long string",
@@ -122,35 +136,63 @@ const CHANGED: &[Row<Changed>] = &[
         "parse of a long key",
         "null",
         LONG_DOCUMENT,
-        18,
+        11,
     ),
     (
         Changed::Parse(REPEATED),
         "parse of a repeated key among twenty",
         "null",
         TWENTY_KEYS,
-        14,
+        10,
     ),
     (
         Changed::Parse(ALIKE),
         "parse of elements that are alike",
         "null",
         ALIKE,
-        15,
+        10,
+    ),
+    (
+        Changed::Parse(ONE_IN_ANOTHER),
+        "parse of an object of one key in another",
+        "null",
+        ONE_IN_ANOTHER,
+        7,
+    ),
+    (
+        Changed::Parse(THREE_IN_ANOTHER),
+        "parse of an object of three keys in another",
+        "null",
+        THREE_IN_ANOTHER,
+        7,
+    ),
+    (
+        Changed::Parse(SIXTEEN_IN_ANOTHER),
+        "parse of an object of 16 keys in another",
+        "null",
+        SIXTEEN_IN_ANOTHER,
+        13,
+    ),
+    (
+        Changed::Parse(ARRAY_IN_OBJECT),
+        "parse of an array in an object",
+        "null",
+        ARRAY_IN_OBJECT,
+        5,
     ),
     (
         Changed::ParseStrictly(DOCUMENT),
         "strict parse_as",
         "null",
         DUMP,
-        9,
+        6,
     ),
     (
         Changed::ParseStrictly(TWENTY_KEYS),
         "strict parse_as of twenty keys",
         "null",
         TWENTY_KEYS,
-        15,
+        12,
     ),
     (Changed::Clone, "clone", DOCUMENT, DUMP, 4),
     (

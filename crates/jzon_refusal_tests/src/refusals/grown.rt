@@ -153,10 +153,10 @@ const GROWN: &[GrownRow] = &[
         48,
     ),
     (Grown::Clone, "Object::clone of 1,100 keys", 1100, 124),
-    (Grown::Build, "Builder of 1,100 keys", 1100, 71),
+    (Grown::Build, "Builder of 1,100 keys", 1100, 69),
     (Grown::Repeat, "Builder of 40 repeated keys", 40, 99),
-    (Grown::Repeat, "Builder of 300 repeated keys", 300, 110),
-    (Grown::Pairs, "from_pairs of 1,100 keys", 1100, 59),
+    (Grown::Repeat, "Builder of 300 repeated keys", 300, 109),
+    (Grown::Pairs, "from_pairs of 1,100 keys", 1100, 57),
     (Grown::Collect, "collect of 40 keys", 40, 45),
     (Grown::Map, "into_json of a map of 20 strings", 20, 68),
     (

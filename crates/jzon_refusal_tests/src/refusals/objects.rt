@@ -108,7 +108,7 @@ const OF_OBJECTS: &[Row<OfObject>] = &[
         "Object::from_pairs",
         "null",
         "{\"a\":3,\"b\":2}",
-        4,
+        3,
     ),
     (
         OfObject::StdClone,
@@ -129,7 +129,7 @@ const OF_OBJECTS: &[Row<OfObject>] = &[
         "collect",
         "null",
         "{\"a\":\"\",\"b\":\"\"}",
-        5,
+        4,
     ),
     (OfObject::WriteAt, "write_at", "5", KEYED, 4),
     (

@@ -242,7 +242,7 @@ const OWNED: &[Row<Owned>] = &[
         "Object::from_pairs of owned strings",
         "null",
         PAIRED,
-        10,
+        9,
     ),
     (Owned::WriteAt, "write_at of an owned string", "5", KEYED, 5),
     (
@@ -355,7 +355,7 @@ const OWNED: &[Row<Owned>] = &[
         "clear of containers in an object",
         "null",
         "{\"a\":[],\"b\":{},\"d\":[]}",
-        22,
+        14,
     ),
     (
         Owned::Rejected(IN_ARRAY),
@@ -369,7 +369,7 @@ const OWNED: &[Row<Owned>] = &[
         "parse rejects in an object",
         "null",
         "null",
-        6,
+        5,
     ),
     (
         Owned::Rejected(AFTER_KEY),
@@ -383,14 +383,14 @@ const OWNED: &[Row<Owned>] = &[
         "parse rejects in NESTED containers",
         "null",
         "null",
-        11,
+        6,
     ),
     (
         Owned::Rejected(AFTER_END),
         "parse rejects after the end",
         "null",
         "null",
-        9,
+        6,
     ),
 ];
 

@@ -46,16 +46,19 @@ fn fail_each_at(rt: &(impl Eprint + Abort), alloc: Global, size: Size) -> Tested
     Ok(())
 }
 
-/// Up to 16 keys have no index. A strict reading compares more of them by tags, for which there is
-/// more room from the 65th on.
+/// The parser has all keys on one stack and all values on another, each with room for eight that
+/// doubles; the object takes both blocks and a box. Each `[1]` is a block, and the first one opens
+/// the stack of containers. Up to 16 keys have no index; more have one in two blocks. A strict
+/// reading has an index of its own from the 17th key on, in three blocks, one of which doubles at
+/// the 33rd and the 65th. At the 257th key an index is made to look for repeated keys, and let go.
 const SIZES: &[Size] = &[
-    (1, "[1]", false, 0, 8),
-    (11, "[1]", false, 1, 22),
-    (16, "[1]", false, 6, 25),
-    (17, "[1]", false, 7, 32),
-    (65, "[1]", false, 55, 84),
-    (70, "null", true, 60, 20),
-    (300, "null", false, 290, 22),
+    (1, "[1]", false, 0, 5),
+    (11, "[1]", false, 1, 17),
+    (16, "[1]", false, 6, 22),
+    (17, "[1]", false, 7, 27),
+    (65, "[1]", false, 55, 79),
+    (70, "null", true, 60, 18),
+    (300, "null", false, 290, 19),
 ];
 
 #[test]

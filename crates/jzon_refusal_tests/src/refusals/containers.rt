@@ -1,5 +1,5 @@
-//! What `parse` requests for containers of which the next ones could be thought to be as large: a
-//! length serves one container, and not each that opens until another ends.
+//! How many bytes are requested for containers: for those after a long one, for many of one length,
+//! for small ones, and for those of a key that is repeated again and again.
 
 use super::*;
 use jzon::object::Object;
@@ -16,9 +16,9 @@ const MOST_OF_ARRAY: usize = 8 * 48 * 2000;
 
 const MOST_OF_OBJECT: usize = 8 * 96 * 2000;
 
-/// Eight times the 48 bytes of each of the four values that an array first has room for, or of as
-/// many keys and values.
-const MOST_OF_TWO: usize = 8 * 96 * 4;
+/// Twice the 48 bytes of each of the eight keys and eight values that the parser's stacks first have
+/// room for.
+const MOST_OF_TWO: usize = 2 * 96 * 8;
 
 /// An array of two: a large one, and small ones in one another.
 fn arrays(alloc: Global) -> Result<String> {
@@ -68,8 +68,9 @@ fn expect_parsed_within(
     Ok(())
 }
 
+/// The containers after a long one have no room for as many.
 #[test]
-fn hints_counted(rt: HostRuntime) -> Tested {
+fn deep_after_long_counted(rt: HostRuntime) -> Tested {
     let alloc = rt.alloc();
     let arrays = arrays(alloc)?;
     expect_parsed_within(
@@ -107,22 +108,22 @@ impl Call for Extended {
     }
 }
 
-/// With unused room there would be fewer allocations: at the end of a container each of its vectors
-/// is moved to a block of its size, and grows for what is added.
+/// A container that is the whole text takes the blocks of the stacks, which have room for eight: so
+/// nothing is allocated for what is added.
 const EXTENDED: &[Row<Extended>] = &[
     (
         Extended("[1,2,3]"),
         "push onto what was parsed",
         "null",
         "[1,2,3,true]",
-        3,
+        1,
     ),
     (
         Extended("{\"a\":1,\"b\":2,\"c\":3}"),
         "insert into what was parsed",
         "null",
         "{\"a\":1,\"b\":2,\"c\":3,\"d\":true}",
-        7,
+        3,
     ),
 ];
 
@@ -139,11 +140,15 @@ const FIVE_ELEMENTS: &str = "[0,1,2,3,4]";
 
 const FIVE_ENTRIES: &str = "{\"a\":0,\"b\":1,\"c\":2,\"d\":3,\"e\":4}";
 
-/// Twice the 48 bytes of each value in a thousand such arrays, and of each key and each value in as
-/// many objects. Without hints each container would request three times its bytes.
-const MOST_OF_ALIKE_ARRAYS: usize = 2 * 48 * 5 * 1000;
+/// The 48 bytes of each value on the stack, whose room doubles up to 1,024.
+const STACK: usize = 48 * 2048;
 
-const MOST_OF_ALIKE_OBJECTS: usize = 2 * 96 * 5 * 1000;
+/// The 48 bytes of each value in a thousand such arrays, and of one more for each.
+const MOST_OF_ALIKE_ARRAYS: usize = STACK + 48 * 6 * 1000;
+
+/// Each such object takes the block of the stack of keys, which begins anew with room for four and
+/// grows to eight. It has five values, and a box of less than the bytes of two.
+const MOST_OF_ALIKE_OBJECTS: usize = STACK + 48 * 19 * 1000;
 
 /// An array of a thousand such containers, and 1.
 fn alike(alloc: Global, container: &str) -> Result<String> {
@@ -157,7 +162,7 @@ fn alike(alloc: Global, container: &str) -> Result<String> {
     Ok(text)
 }
 
-/// Containers that are as long as the ones before them get their room at once.
+/// Each of many containers requests little more than what it holds.
 #[test]
 fn alike_counted(rt: HostRuntime) -> Tested {
     for (name, container, most) in [
@@ -174,7 +179,7 @@ fn alike_counted(rt: HostRuntime) -> Tested {
     Ok(())
 }
 
-/// Where no container of the same depth has ended, little is requested.
+/// Little is requested for a small container.
 #[test]
 fn first_room_counted(rt: HostRuntime) -> Tested {
     for (name, text) in [
@@ -195,11 +200,11 @@ fn escapes_counted(rt: HostRuntime) -> Tested {
     expect_parsed_within(&rt, alloc, name, text.as_str(), MOST_OF_TWO)
 }
 
-/// Eight times the 48 bytes of each key and each value that are gathered before one sort looks for
-/// a repeated key.
-const MOST_OF_GATHERED: usize = 8 * 96 * 256;
+/// Twice the 48 bytes of each of 256 keys and values, which are gathered before the entries of equal
+/// keys are merged. Each merge requests 16 bytes for each of its entries, and frees them.
+const MOST_OF_GATHERED: usize = 2 * 96 * 256 + 17 * 100000;
 
-/// A key that is repeated again and again takes no memory for each time.
+/// The entries of a key that is repeated again and again aren't kept.
 #[test]
 fn repeated_keys_counted(rt: HostRuntime) -> Tested {
     let alloc = rt.alloc();
