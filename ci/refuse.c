@@ -14,6 +14,7 @@
  *     MARK + 3 * STEP + n                   succeeds if at most n bytes were requested since MARK + STEP, and fails otherwise.
  *     MARK + 4 * STEP + n                   succeeds if the blocks that were allocated since MARK + STEP and not freed have at most n bytes, and fails
  *                                           otherwise. The C library makes a block up to 24 bytes larger than requested.
+ *     MARK + 5 * STEP + n                   succeeds if these blocks had at most n bytes at each time, and fails otherwise.
  *
  * A block that grows counts as one, and its whole new size as requested. An allocation that fails counts in neither. Without allocations of marked sizes
  * all memory comes from the C library. Only one thread may allocate at a time.
@@ -39,9 +40,10 @@ static const size_t STEP = (size_t)1 << 40;
 static size_t allocations_left = 0;
 static int has_failed = 0;
 
-/* Blocks allocated less those freed, their bytes, and bytes requested, since they are counted. */
+/* Blocks allocated less those freed, their bytes now and at most, and bytes requested, since they are counted. */
 static long blocks = 0;
 static long held = 0;
+static long most_held = 0;
 static size_t bytes = 0;
 
 /* Blocks allocated less those freed, since the program began. */
@@ -75,6 +77,7 @@ static int set_counting(void)
 {
     blocks = 0;
     held = 0;
+    most_held = 0;
     bytes = 0;
     return 1;
 }
@@ -100,6 +103,9 @@ static void *marked(size_t kind, size_t n)
     case 4:
         is_yes = held <= (long)n;
         break;
+    case 5:
+        is_yes = most_held <= (long)n;
+        break;
     }
     return is_yes ? &granted : NULL;
 }
@@ -111,6 +117,8 @@ static void *counted(void *block, size_t size, int is_new)
         blocks += is_new;
         left += is_new;
         held += (long)malloc_usable_size(block);
+        if (most_held < held)
+            most_held = held;
         bytes += size;
     }
     return block;
@@ -118,7 +126,7 @@ static void *counted(void *block, size_t size, int is_new)
 
 void *malloc(size_t size)
 {
-    if (size >= MARK && size - MARK < 5 * STEP)
+    if (size >= MARK && size - MARK < 6 * STEP)
         return marked((size - MARK) / STEP, (size - MARK) % STEP);
     return fails() ? NULL : counted(__libc_malloc(size), size, 1);
 }

@@ -19,6 +19,9 @@ const IS_WITHIN: usize = (1 << 62) + (3 << 40);
 /// With a number of bytes added, fails if the blocks that are left have more.
 const IS_HELD: usize = (1 << 62) + (4 << 40);
 
+/// With a number of bytes added, fails if the blocks that were there at one time had more.
+const IS_AT_MOST: usize = (1 << 62) + (5 << 40);
+
 /// The largest number of runs of one call. No test needs as many.
 pub const RUNS_MAX: usize = 200;
 
@@ -128,6 +131,21 @@ impl Refusals {
             Ok(())
         } else {
             Err("the blocks that are left have more bytes")
+        }
+    }
+
+    /// The same for the blocks that were there at one time: an error if they ever had more than
+    /// `most` bytes.
+    pub fn expect_at_most(
+        &self,
+        rt: &impl Eprint,
+        test: &str,
+        most: usize,
+    ) -> Result<(), &'static str> {
+        if self.expect_counted(rt, test, IS_AT_MOST.saturating_add(most)) {
+            Ok(())
+        } else {
+            Err("the blocks had more bytes at one time")
         }
     }
 
