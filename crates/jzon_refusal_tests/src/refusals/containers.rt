@@ -1,5 +1,5 @@
-//! How many bytes are requested for containers: for those after a long one, for many of one length,
-//! for small ones, and for those of a key that is repeated again and again.
+//! How much memory containers take: those after a long one, those that grow after `parse`, many of one
+//! length, small ones, and those of a key that is repeated again and again.
 
 use super::*;
 use jzon::object::Object;
