@@ -29,7 +29,7 @@ fn run_under_refusals(rt: HostRuntime) -> Result<(), Fail> {
             break;
         }
     }
-    refusals.report(&rt, "run_under_refusals", 12)?;
+    refusals.report(&rt, "run_under_refusals", 9)?;
     Ok(())
 }
 
