@@ -89,20 +89,22 @@ impl Model for Stacks {
     ghost invariant = { IsLaidOut };
 }
 
-/// Takes what is on the stack from `start` on, into a block of its exact size; if that is all, the
-/// stack's own block, unless most of it is unused. The error is a failed allocation.
+/// Takes what is on the stack from `start` on, into a block of its exact size. The outermost
+/// container takes the stack's own block, unless most of it is unused. The error is a failed
+/// allocation.
 #[inline(always)]
 fn cut_tail<T>(
     alloc: Global,
     stack: &mut Vec<T>,
     start: usize,
+    is_outermost: bool,
 ) -> std::result::Result<Vec<T>, AllocError>
     requires { start ≤ vec_len stack.old }
     ensures items { OnOk result (stack.new.items ≡ take start stack.old.items) }
     ensures tail { IfOk result (λ tail. tail.items ≡ drop start stack.old.items) }
     ensures err { OnErr result (stack.new.items ≡ stack.old.items) }
 {
-    if start == 0 && stack.capacity() / 2 <= stack.len().max(FIRST_ROOM / 2) {
+    if is_outermost && start == 0 && stack.capacity() / 2 <= stack.len().max(FIRST_ROOM / 2) {
         return Ok(mem::replace(stack, Vec::new(alloc)));
     }
     stack.split_off(start)
@@ -115,6 +117,7 @@ fn cut_values(
     alloc: Global,
     stack: &mut Vec<JsonValue>,
     start: usize,
+    is_outermost: bool,
 ) -> std::result::Result<Vec<JsonValue>, AllocError>
     requires { start ≤ vec_len stack.old }
     ensures items { OnOk result (stack.new.items ≡ take start stack.old.items) }
@@ -122,10 +125,10 @@ fn cut_values(
     ensures err { OnErr result (vec_len stack.new ≡ vec_len stack.old) }
 {
     let count = stack.len() - start;
-    if LONG < count && 0 < start && start < count {
+    if LONG < count && !is_outermost && start < count {
         return cut_long(stack, start);
     }
-    cut_tail(alloc, stack, start)
+    cut_tail(alloc, stack, start, is_outermost)
 }
 
 #[cold]
@@ -173,8 +176,8 @@ fn merge_tails(
         drop(keys::merge(alloc, keys, values)?);
         return Ok(());
     }
-    let mut own_keys = cut_tail(alloc, keys, first_key)?;
-    let mut own_values = cut_values(alloc, values, first_value)?;
+    let mut own_keys = keys.split_off(first_key)?;
+    let mut own_values = values.split_off(first_value)?;
     drop(keys::merge(alloc, &mut own_keys, &mut own_values)?);
     keys.append(&mut own_keys)?;
     values.append(&mut own_values)
@@ -392,7 +395,8 @@ impl Stacks {
             }
             return Ok(one);
         }
-        Ok(cut_values(self.alloc, &mut self.values, self.first_value)?)
+        let is_outermost = self.around.is_empty();
+        Ok(cut_values(self.alloc, &mut self.values, self.first_value, is_outermost)?)
     }
 
     /// The object of the entries of the innermost container, which ends. The error is
@@ -406,8 +410,9 @@ impl Stacks {
         ensures memory { IsOkUnless result Error.OutOfMemory }
     {
         self.known = KnownKeys::new();
-        let keys = cut_tail(self.alloc, &mut self.keys, self.first_key)?;
-        let values = cut_values(self.alloc, &mut self.values, self.first_value)?;
+        let is_outermost = self.around.is_empty();
+        let keys = cut_tail(self.alloc, &mut self.keys, self.first_key, is_outermost)?;
+        let values = cut_values(self.alloc, &mut self.values, self.first_value, is_outermost)?;
         Object::from_entries(self.alloc, keys, values)
     }
 
