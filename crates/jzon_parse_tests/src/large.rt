@@ -371,7 +371,7 @@ fn prefixes_under_refusals(rt: HostRuntime) -> Result<(), Fail> {
         let text = joined(alloc, &[(prefix, 1), ("?", 1)])?;
         fail_each(&rt, alloc, text.as_str())?;
     }
-    fail_each(&rt, alloc, NESTED)?.report(&rt, "parse_as of each prefix", 32)?;
+    fail_each(&rt, alloc, NESTED)?.report(&rt, "parse_as of each prefix", 33)?;
     Ok(())
 }
 
