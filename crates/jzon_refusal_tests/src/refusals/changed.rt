@@ -103,8 +103,8 @@ const REPEATED: &str = "{\"a\":1,\"b\":1,\"c\":2,\"d\":3,\"e\":4,\"f\":5,\"g\":6
     \"j\":9,\"k\":10,\"l\":11,\"m\":12,\"n\":13,\"o\":14,\"p\":15,\"q\":16,\"r\":17,\"s\":18,\
     \"t\":19,\"a\":0}";
 
-/// The first array takes the block of the stack of values, and the second one a block of its length.
-/// Each object takes the block of the stack of keys, which begins anew.
+/// Both arrays have a block of their length, and both objects a box and two blocks. The outermost
+/// array takes the block of the stack of values; the stacks of keys and containers keep theirs.
 const ALIKE: &str = "[{\"a\":[1,2]},{\"a\":[3,4]}]";
 
 /// An object in another: a box and two blocks of its length. The other one has its box, and takes
@@ -150,7 +150,7 @@ const CHANGED: &[Row<Changed>] = &[
         "parse of elements that are alike",
         "null",
         ALIKE,
-        10,
+        11,
     ),
     (
         Changed::Parse(ONE_IN_ANOTHER),

@@ -143,12 +143,12 @@ const FIVE_ENTRIES: &str = "{\"a\":0,\"b\":1,\"c\":2,\"d\":3,\"e\":4}";
 /// The 48 bytes of each value on the stack, whose room doubles up to 1,024.
 const STACK: usize = 48 * 2048;
 
-/// The 48 bytes of each value in a thousand such arrays, and of one more for each.
+/// The 48 bytes of each value in a thousand such arrays, and in the array of them.
 const MOST_OF_ALIKE_ARRAYS: usize = STACK + 48 * 6 * 1000;
 
-/// Each such object takes the block of the stack of keys, which begins anew with room for four and
-/// grows to eight. It has five values, and a box of less than the bytes of two.
-const MOST_OF_ALIKE_OBJECTS: usize = STACK + 48 * 19 * 1000;
+/// Each such object has five keys and five values, a box of less than the bytes of two, and its
+/// place in the array of them. The stack of keys keeps its block, of eight.
+const MOST_OF_ALIKE_OBJECTS: usize = STACK + 48 * 13 * 1000;
 
 /// An array of a thousand such containers, and 1.
 fn alike(alloc: Global, container: &str) -> Result<String> {
