@@ -31,5 +31,4 @@ pub mod Tables
 pub mod Retained
 pub mod Refilled
 pub mod Cut
-pub mod Slots
 pub mod Fronts

@@ -5,4 +5,3 @@ pub mod Keys
 pub mod NumberFields
 pub mod PlainBytes
 pub mod Same
-pub mod Slots
