@@ -131,6 +131,7 @@ fn cut_values(
     cut_tail(alloc, stack, start, is_outermost)
 }
 
+/// The same where they keep the stack's block.
 #[cold]
 #[inline(never)]
 fn cut_long(

@@ -153,20 +153,6 @@ key_closes t fs es text end e mark read =
     open_key t.reading t.source.now t.index fs es (utf8_of t) t.boundary
     (byte_within t.source.now t.index 34 e (lit< tt)) e mark ∙ read
 
--- and the reading doesn't reject it as a repetition
-pub key_stands : (t u : Cursor) (fs : Frames) (es : Entries) (text : List ℕ) (end : ℕ)
-    → left t (before_key fs es) ≡ from_closed t.reading t.source.now (as_key fs es (left_at t.source.now t.index)) text
-    end
-    → (t.reading.strict && is_some (find text es)) ≡ false → t.index < end → IsPast t.reading t.source.now end u
-    → Reached t (before_key fs es) u (after_key fs es text)
-key_stands t u fs es text end read new lt past = record {
-  text = past.text;
-  reading = past.reading;
-  within = omega (arith, past.within);
-  same = read ∙ key_goes t.reading t.source.now fs es (left_at t.source.now t.index) text end new
-      ∙ past.same (after_key fs es text) refl;
-}
-
 pub key_missing : (t : Cursor) (fs : Frames) (es : Entries) → key_mark t.reading fs es ≡ None → next_byte t ≢ 34
     → (es ≡ [] → next_byte t ≢ 125) → left t (before_key fs es) ≡ fault_here (chars (drop t.index t.source.now))
 key_missing t fs es mark no_quote no_end =

@@ -24,11 +24,6 @@ use Rattle.jzon.proofs.Texts.Cursors.{Reached}
 
 -- ---- the innermost container by its brackets
 
-pub before_element : (s : OpenContainers) → s.innermost.bracket ≡ Array → before_item s ≡ before (frames_here s)
-before_element s e =
-    ap (λ b. before_item_as b (frames_around s) s.innermost) e
-    ∙ sym (ap (λ b. before (open_as b (frames_around s) s.innermost)) e)
-
 pub before_entry : (s : OpenContainers) → s.innermost.bracket ≡ Object
     → before_item s ≡ before_key (frames_around s) (entries_so_far s.innermost)
 before_entry s e = ap (λ b. before_item_as b (frames_around s) s.innermost) e

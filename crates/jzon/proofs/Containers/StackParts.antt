@@ -583,23 +583,6 @@ view-key s ks known k h pushed table =
       around = (containers_of s).around;
     })
 
--- what is known of the innermost container's keys may be let go
-pub IsLaidOut-forgot : (s : Inside) (known : List (List (ℕ × ℕ))) → IsLaidOut s → known ≡ []
-    → IsLaidOut (record s { known = known })
-IsLaidOut-forgot s known h none = IsLaidOut-kept s (record s { known = known }) h (record {
-  strict = refl;
-  around = refl;
-  first_key = refl;
-  first_value = refl;
-  keys = refl;
-  keys_within = h.keys_within;
-  values_within = h.values_within;
-  known = λ strict. record {
-    distinct = (h.known strict).1.distinct;
-    indexed = IsIndexed-empty (drop s.first_key s.keys.items) known (ap (λ rs. length (entries_of rs)) none);
-  };
-})
-
 -- a key that is added comes next
 pub HasKeyNext-added : (o p : OpenContainers) (k : List ℕ) → IsMerged o p
     → HasKeyNext k o.innermost (key_added p k).innermost

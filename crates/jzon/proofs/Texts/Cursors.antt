@@ -29,12 +29,6 @@ pub record ReadTo (t : Cursor) (o p : State) (end : ℕ) : Type 0 where
 pub read_to_here : (t : Cursor) (p : State) → ReadTo t p p t.index
 read_to_here t p = record { boundary = t.boundary; within = omega arith; same = refl }
 
--- the same for one byte
-pub byte_goes : (t u : Cursor) (p q : State) → IsPast t.reading t.source.now (t.index + 1) u
-    → allows_whitespace q ≡ true
-    → left t p ≡ from t.reading t.source.now q (t.index + 1) → IsAfter t u × (left t p ≡ left u q)
-byte_goes t u p q past allows e = token_goes t u p q (t.index + 1) past (omega arith) allows e
-
 -- The outcome of what was left of a text is the outcome of what is left here, at the old offset or after it.
 pub record Reached (t : Cursor) (o : State) (m : Cursor) (p : State) : Type 0 where
   pub text : m.source.now ≡ t.source.now

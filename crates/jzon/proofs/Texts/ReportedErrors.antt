@@ -36,33 +36,6 @@ pub reported_deep : (t rest : List ℕ) (o : Outcome) → o ≡ refused (limit d
     → ReportsUnlessMemory t ExceededDepthLimit o
 reported_deep t rest o q = reported t ExceededDepthLimit o (refused (limit deep) rest) q refl
 
--- ---- whole results
-
--- a text that can't go on is rejected
-pub fault_here_leads : {T : Type 0} (t : List ℕ) (o p : Outcome) (f : T → Outcome) (result : Result T Error) → o ≡ p
-    → MatchResult result (λ v. ⊥) (λ e. Reports t e p) → MatchResult result (λ v. o ≡ f v) (λ e. Reports t e o)
-fault_here_leads t o p f (Ok v) q h = absurd h
-fault_here_leads t o p f (Err e) q h = subst (Reports t e) (sym q) h
-
-pub fault_here_reported : {T : Type 0} (t : List ℕ) (o p : Outcome) (f : T → Outcome) (result : Result T Error) → o ≡ p
-    → MatchResult result (λ v. ⊥) (λ e. Reports t e p)
-    → MatchResult result (λ v. o ≡ f v) (λ e. ReportsUnlessMemory t e o)
-fault_here_reported t o p f (Ok v) q h = absurd h
-fault_here_reported t o p f (Err e) q h = reported t e o p q h
-
--- a result that agrees with an outcome agrees with an equal outcome
-pub same_unless_memory : {T : Type 0} (o p : Outcome) (f : T → Outcome) (t : List ℕ) (result : Result T Error) → o ≡ p
-    → MatchResult result (λ v. p ≡ f v) (λ e. ReportsUnlessMemory t e p)
-    → MatchResult result (λ v. o ≡ f v) (λ e. ReportsUnlessMemory t e o)
-same_unless_memory o p f t result e h = subst (λ q. MatchResult result (λ v. q ≡ f v) (λ x. ReportsUnlessMemory t x q))
-    (sym e) h
-
-pub same_or_memory : {T : Type 0} (o p : Outcome) (f : T → Outcome) (t : List ℕ) (result : Result T Error) → o ≡ p
-    → MatchResult result (λ v. p ≡ f v) (λ e. Reports t e p) → MatchResult result (λ v. o ≡ f v)
-    (λ e. ReportsUnlessMemory t e o)
-same_or_memory o p f t (Ok v) q h = q ∙ h
-same_or_memory o p f t (Err e) q h = reported t e o p q h
-
 -- ---- memory
 
 -- the error of a text is never `OutOfMemory`

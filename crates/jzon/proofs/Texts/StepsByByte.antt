@@ -129,8 +129,3 @@ pub from_end : (r : Reading) (bs : List ℕ) (i : ℕ) (p : State) → length bs
 unfolding from
 from_end r bs i p le = ap (λ cs. outcome r cs p)
     (ap chars (nil_from_length (drop i bs) (omega (arith, length-drop i bs))) ∙ chars-nil)
-
--- a result that agrees with an outcome agrees with an equal outcome
-pub same_outcome : {T : Type 0} (o p : Outcome) (f : T → Outcome) (t : List ℕ) (result : Result T Error) → o ≡ p
-    → MatchResult result (λ v. p ≡ f v) (λ e. Reports t e p) → MatchResult result (λ v. o ≡ f v) (λ e. Reports t e o)
-same_outcome o p f t result e h = subst (λ q. MatchResult result (λ v. q ≡ f v) (λ x. Reports t x q)) (sym e) h

@@ -336,12 +336,6 @@ Leads r bytes p i result next =
     MatchResult result (λ x. from r bytes p i ≡ from r bytes (next x.0) x.1)
     (λ e. Reports (chars bytes) e (from r bytes p i))
 
--- the same, or an allocation failed
-abbrev pub LeadsUnlessMemory : {A : Type 0} → Reading → List ℕ → State → ℕ → Result (A × ℕ) Error → (A → State) → Type 0
-LeadsUnlessMemory r bytes p i result next =
-    MatchResult result (λ x. from r bytes p i ≡ from r bytes (next x.0) x.1)
-    (λ e. ReportsUnlessMemory (chars bytes) e (from r bytes p i))
-
 -- the result agrees with this outcome of a text, unless an allocation failed
 abbrev pub Reads : List ℕ → Result JsonValue Error → Outcome → Type 0
 Reads t (Ok v) o = o ≡ meant (view v)
