@@ -1,11 +1,10 @@
 //! Changes to values (docs/RULES.md, "Changers"). A call that fails leaves the value's meaning
 //! unchanged and drops the value that was passed to it.
+#![tactic(auto, using(crate::proofs::Views::views, crate::proofs::Seen::seen))]
 
-ghost use Rattle.std.specs.Prelude.{◌≡◌, ◌-◌, codes, true, false, string_bytes, option_map, slice_get, remove, IfOk, IfErr};
-ghost use Rattle.std.specs.Prelude.{OnOk, OnErr, IsOkUnless, None};
+ghost use Rattle.std.specs.Prelude.{◌≡◌, ◌-◌, codes, true, false, string_bytes, option_map, slice_get, remove, IfOk, IfErr, OnOk, OnErr, IsOkUnless, None};
 ghost use Rattle.jzon_base.specs.PairList.{find};
-ghost use Rattle.jzon_tree.specs.Changers.{is_short, without_text, without_item, with_item, without_entry, with_entry};
-ghost use Rattle.jzon_tree.specs.Changers.{cleared, IsRefusal};
+ghost use Rattle.jzon_tree.specs.Changers.{is_short, without_text, without_item, with_item, without_entry, with_entry, cleared, IsRefusal};
 ghost use Rattle.jzon_tree.specs.Lent.{entries_in};
 ghost use Rattle.jzon_tree.specs.Readers.{is_array, is_object, text_in, items, entries, count, or_null};
 ghost use Rattle.jzon_tree.specs.Value.{Value, null, array, no_values, object, no_pairs};
@@ -21,7 +20,6 @@ use std::mem;
 
 impl JsonValue {
     /// An object without entries. It allocates nothing.
-    #[tactic(auto, using(crate::proofs::Views::views, crate::proofs::Seen::seen))]
     pub fn new_object(alloc: Global) -> JsonValue
         ensures { view result ≡ object no_pairs }
     {
@@ -29,7 +27,6 @@ impl JsonValue {
     }
 
     /// An array without elements. It allocates nothing.
-    #[tactic(auto, using(crate::proofs::Views::views, crate::proofs::Seen::seen))]
     pub fn new_array(alloc: Global) -> JsonValue
         ensures { view result ≡ array no_values }
     {
@@ -77,7 +74,6 @@ impl JsonValue {
     ///     list.push(alloc, *name)?;
     /// }
     /// ```
-    #[tactic(auto, using(crate::proofs::Views::views, crate::proofs::Seen::seen))]
     pub fn push<T: IntoJson>(&mut self, alloc: Global, value: T) -> Result<()>
         ensures ok { OnOk result ((v : Value) × T.means value v
             × (view self.new ≡ with_item v (view self.old))) }
@@ -97,7 +93,6 @@ impl JsonValue {
 
     /// Removes the last element of an array and returns it. Null if the array is empty, and for any
     /// other value, which is left as it is.
-    #[tactic(auto, using(crate::proofs::Views::views, crate::proofs::Seen::seen))]
     pub fn pop(&mut self) -> JsonValue
         ensures value { view result ≡ or_null
             (slice_get (items (view self.old)) (count (view self.old) - 1)) }
@@ -114,7 +109,6 @@ impl JsonValue {
     /// ```rust
     /// data.insert(alloc, "first", first)?;
     /// ```
-    #[tactic(auto, using(crate::proofs::Views::views, crate::proofs::Seen::seen))]
     pub fn insert<T: IntoJson>(&mut self, alloc: Global, key: &str, value: T) -> Result<()>
         ensures ok { OnOk result ((v : Value) × T.means value v
             × (view self.new ≡ with_entry key.now v (view self.old))) }
@@ -132,7 +126,6 @@ impl JsonValue {
 
     /// Removes the entry of the key of an object and returns its value, as `Object::remove` does.
     /// Null if the key is missing, and for any other value, which is left as it is.
-    #[tactic(auto, using(crate::proofs::Views::views, crate::proofs::Seen::seen))]
     pub fn remove(&mut self, key: &str) -> JsonValue
         ensures value { view result ≡ or_null (find key.now (entries (view self.old))) }
         ensures after { view self.new ≡ without_entry key.now (view self.old) }
@@ -146,7 +139,6 @@ impl JsonValue {
     /// Removes the element at a position of an array and returns it. Null past the end, and for any
     /// other value, which is left as it is. The other elements keep their order: those after it
     /// move up, so the time of a call grows with their number (measured, not proved).
-    #[tactic(auto, using(crate::proofs::Views::views, crate::proofs::Seen::seen))]
     pub fn array_remove(&mut self, index: usize) -> JsonValue
         ensures value { view result ≡ or_null (slice_get (items (view self.old)) index) }
         ensures after { view self.new ≡ without_item index (view self.old) }
@@ -159,7 +151,6 @@ impl JsonValue {
 
     /// Makes a string, an array or an object empty; a string stays inline or allocated. Any other
     /// value becomes null.
-    #[tactic(auto, using(crate::proofs::Views::views, crate::proofs::Seen::seen))]
     pub fn clear(&mut self)
         ensures { view self.new ≡ cleared (view self.old) }
     {

@@ -1,8 +1,8 @@
 //! Copies of values and of objects: `clone(alloc)`, and std's `Clone` for `derive(Clone)` and for
 //! `clone` of lists.
+#![tactic(auto, using(crate::proofs::Views::views))]
 
-ghost use Rattle.std.specs.Prelude.{◌≡◌, ◌+◌, ◌<◌, ◌++◌, ◌∷◌, [], map, true, false, IfOk};
-ghost use Rattle.std.specs.Prelude.{IsOkUnless, vec_len, vec_capacity};
+ghost use Rattle.std.specs.Prelude.{◌≡◌, ◌+◌, ◌<◌, ◌++◌, ◌∷◌, [], map, true, false, IfOk, IsOkUnless, vec_len, vec_capacity};
 ghost use Rattle.jzon_tree.specs.View.{view, view_object};
 
 use crate::object::Object;
@@ -16,7 +16,6 @@ impl JsonValue {
     // Inlined into the loop over elements, so that an array in an array takes one stack frame.
     #[inline(always)]
     #[cycle(copy)]
-    #[tactic(auto, using(crate::proofs::Views::views))]
     pub fn clone(&self, alloc: Global) -> Result<JsonValue>
         ensures copy { IfOk result (λ copy. view copy ≡ view self.now) }
         ensures memory { IsOkUnless result Error.OutOfMemory }
@@ -67,7 +66,6 @@ fn copy_items(alloc: Global, items: &[JsonValue]) -> Result<Vec<JsonValue>>
 
 /// Adds a copy of the value if it is stored inline, and returns whether it is.
 #[inline(always)]
-#[tactic(auto, using(crate::proofs::Views::views))]
 fn push_inline(copies: &mut Vec<JsonValue>, value: &JsonValue) -> bool
     requires { vec_len copies.old < vec_capacity copies.old }
     ensures copy { result ≡ true → map view copies.new.items
@@ -101,7 +99,6 @@ fn push_inline(copies: &mut Vec<JsonValue>, value: &JsonValue) -> bool
 impl Clone for JsonValue {
     ghost is_clone = { λ v w. view w ≡ view v };
 
-    #[tactic(auto, using(crate::proofs::Views::views))]
     fn clone(&self) -> std::result::Result<JsonValue, AllocError> {
         match self {
             JsonValue::Null => Ok(JsonValue::Null),
@@ -110,10 +107,7 @@ impl Clone for JsonValue {
             JsonValue::Number(number) => Ok(JsonValue::Number(*number)),
             JsonValue::Boolean(boolean) => Ok(JsonValue::Boolean(*boolean)),
             JsonValue::Object(object) => Ok(JsonValue::Object(Clone::clone(object)?)),
-            JsonValue::Array(items) => match self.clone(*items.allocator()) {
-                Ok(copy) => Ok(copy),
-                Err(_) => Err(AllocError),
-            },
+            JsonValue::Array(items) => self.clone(*items.allocator()).map_err(|_| AllocError),
         }
     }
 }
@@ -123,9 +117,6 @@ impl Clone for Object {
     ghost is_clone = { λ o p. view_object p ≡ view_object o };
 
     fn clone(&self) -> std::result::Result<Object, AllocError> {
-        match self.clone(self.pairs.allocator()) {
-            Ok(copy) => Ok(copy),
-            Err(_) => Err(AllocError),
-        }
+        self.clone(self.pairs.allocator()).map_err(|_| AllocError)
     }
 }

@@ -1,7 +1,6 @@
 //! Objects.
 
-ghost use Rattle.std.specs.Prelude.{◌≡◌, ◌-◌, ◌==◌, List, [], length, OnOk, OnErr, IfOk, IsOkUnless, None, IfSome};
-ghost use Rattle.std.specs.Prelude.{Some, is_some};
+ghost use Rattle.std.specs.Prelude.{◌≡◌, ◌-◌, ◌==◌, List, [], length, OnOk, OnErr, IfOk, IsOkUnless, None, IfSome, Some, is_some};
 ghost use Rattle.std.specs.Option.{option_copied, option_copied_mut};
 ghost use Rattle.std.specs.Iterator.{Drains, IsFinite, YieldsFirstBy, YieldsLastBy, item_count, at_most, UpTo};
 ghost use Rattle.std.specs.Iterator.SizeHint.{IsWithinCount};

@@ -1,4 +1,5 @@
 //! Reading values (docs/RULES.md, "Readers"). None of these calls allocates.
+#![tactic(auto, using(crate::proofs::Views::views, crate::proofs::Seen::seen))]
 
 ghost use Rattle.std.specs.Prelude.{◌≡◌, map, is_some, option_map};
 ghost use Rattle.std.specs.List.{list_any};
@@ -68,7 +69,6 @@ impl JsonValue {
     }
 
     /// Whether it is null, false, a zero, NaN, an empty string or an empty container.
-    #[tactic(auto, using(crate::proofs::Views::views, crate::proofs::Seen::seen))]
     pub fn is_empty(&self) -> bool
         ensures { result ≡ is_empty (view self.now) }
     {
@@ -84,7 +84,6 @@ impl JsonValue {
     }
 
     /// The number of entries of an object or of elements of an array, and 0 for any other value.
-    #[tactic(auto, using(crate::proofs::Views::views, crate::proofs::Seen::seen))]
     pub fn len(&self) -> usize
         ensures { result ≡ count (view self.now) }
     {
@@ -127,7 +126,6 @@ impl JsonValue {
     }
 
     /// The object. `None` for any other value.
-    #[tactic(auto, using(crate::proofs::Views::views, crate::proofs::Seen::seen))]
     pub fn as_object(&self) -> Option<&Object>
         ensures { option_map (λ o. view_object o.now) result ≡ object_of (view self.now) }
     {
@@ -138,7 +136,6 @@ impl JsonValue {
     }
 
     /// The elements of the array. `None` for any other value.
-    #[tactic(auto, using(crate::proofs::Views::views, crate::proofs::Seen::seen))]
     pub fn as_array(&self) -> Option<&Vec<JsonValue>>
         ensures { option_map (λ vs. array (view_values vs.now.items)) result
             ≡ array_of (view self.now) }
@@ -150,7 +147,6 @@ impl JsonValue {
     }
 
     /// The value of the key of an object. `None` if the key is missing, and for any other value.
-    #[tactic(auto, using(crate::proofs::Views::views, crate::proofs::Seen::seen))]
     pub fn get(&self, key: &str) -> Option<&JsonValue>
         ensures { option_map (λ v. view v.now) result ≡ find key.now (entries (view self.now)) }
     {
@@ -175,7 +171,6 @@ impl JsonValue {
     ///     sum = sum.checked_add(order.at("amount").as_u64()?)?;
     /// }
     /// ```
-    #[tactic(auto, using(crate::proofs::Views::views, crate::proofs::Seen::seen))]
     pub fn members(&self) -> Members<'_>
         ensures { map view (iter_rest result) ≡ items (view self.now) }
     {
@@ -195,7 +190,6 @@ impl JsonValue {
     ///     }
     /// }
     /// ```
-    #[tactic(auto, using(crate::proofs::Views::views, crate::proofs::Seen::seen))]
     pub fn entries(&self) -> Entries<'_>
         ensures { viewed result ≡ entries (view self.now) }
     {

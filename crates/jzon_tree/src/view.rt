@@ -1,4 +1,5 @@
 //! A value inside a value, which may be missing (docs/RULES.md, "Readers").
+#![tactic(auto, using(crate::proofs::Views::views, crate::proofs::Seen::seen))]
 
 ghost use Rattle.std.specs.Prelude.{◌≡◌, ◌<◌, ◌^◌, pos, map, is_some, option_map, slice_get, FitsSigned, Some};
 ghost use Rattle.std.specs.Int.{w8, w16, w32, w64};
@@ -52,7 +53,6 @@ impl JsonValue {
     }
 
     /// The element at a position of an array. Missing past the end, and for any other value.
-    #[tactic(auto, using(crate::proofs::Views::views, crate::proofs::Seen::seen))]
     pub fn at_index(&self, index: usize) -> View<'_>
         ensures { shown result ≡ slice_get (items (view self.now)) index }
     {
@@ -67,7 +67,6 @@ impl JsonValue {
 
 impl Object {
     /// The value of the key, or missing if the key is.
-    #[tactic(auto, using(crate::proofs::Views::views, crate::proofs::Seen::seen))]
     pub fn at(&self, key: &str) -> View<'_>
         ensures { shown result ≡ find key.now (viewed (entries_of self.now)) }
     {

@@ -1,12 +1,10 @@
 //! Goes over a value or an object, and calls the hooks of a generator.
 
-ghost use Rattle.std.specs.Prelude.{◌≡◌, ◌+◌, ◌-◌, ◌<◌, ◌^◌, [], length, map, slice_index_or, MatchResult, OnOk};
-ghost use Rattle.std.specs.Prelude.{OnErr, IfErr, IsSome};
+ghost use Rattle.std.specs.Prelude.{◌≡◌, ◌-◌, ◌<◌, [], length, map, slice_index_or, OnOk, OnErr, IsSome};
 ghost use Rattle.jzon_base.specs.PairList.{keys_of};
 ghost use Rattle.jzon_tree.specs.Entries.{entries_of};
-ghost use Rattle.jzon_tree.specs.Generator.{Added, Emits, Failed, IsAnswer, Just, Prints, noted, positions};
+ghost use Rattle.jzon_tree.specs.Generator.{Emits, IsAnswer, Prints, positions};
 ghost use Rattle.jzon_tree.specs.Lawful.{IsValue, AreValues, ArePairs, IsPair};
-ghost use Rattle.jzon_tree.specs.Private.Inspected.{IsInspected};
 ghost use Rattle.jzon_tree.specs.Private.Printing.{IsBetween, IsClosing, AreItems, IsEntry, AreMembers, PrintsIf};
 ghost use Rattle.jzon_tree.specs.Value.{array};
 ghost use Rattle.jzon_tree.specs.View.{view, view_object, view_values, view_pairs, viewed};
@@ -16,7 +14,7 @@ use crate::codegen::error_slot::{ErrorSlot, SlotResult, store, take_error};
 use crate::codegen::generator::Generator;
 use crate::object::Object;
 use crate::value::JsonValue;
-use crate::value::inspect::{Inspection, inspect, inspect_object, see_number};
+use crate::value::inspect::{inspect, inspect_object, see_number};
 use std::io;
 
 /// Writes the value in the generator's style, counted from the indents that are open. The entries
@@ -37,7 +35,14 @@ pub fn write_json<G: Generator>(g: &mut G, json: &JsonValue) -> io::Result<()>
         (G.meaning g.old) (G.meaning g.new) result }
     ensures value { IsValue (view json.now) }
 {
-    print_value(g, json).map_err(|fault| fault.error)
+    let mut slot = None;
+    match write_value(g, json, &mut slot) {
+        Ok(()) => Ok(()),
+        Err(_) => {
+            let _found = inspect(json);
+            Err(take_error(slot))
+        }
+    }
 }
 
 /// Writes the object in the generator's style, as `write_json` writes a value.
@@ -47,60 +52,26 @@ pub fn write_object<G: Generator>(g: &mut G, object: &Object) -> io::Result<()>
         (G.meaning g.old) (G.meaning g.new) result }
     ensures value { IsValue (view_object object.now) }
 {
-    print_object(g, object).map_err(|fault| fault.error)
-}
-
-/// Why a value wasn't written.
-#[derive(Drop)]
-pub(crate) struct Unwritten {
-    /// The error of a hook.
-    error: io::Error,
-    /// What the value contains.
-    pub(crate) found: Inspection,
-}
-
-/// `write_json`, and after an error what the value contains.
-pub(crate) fn print_value<G: Generator>(g: &mut G, json: &JsonValue) -> Result<(), Unwritten>
-    ensures written { Prints (Writes (G.meaning g.old).style (G.meaning g.old).dent (view json.now))
-        (G.meaning g.old) (G.meaning g.new) result }
-    ensures value { IsValue (view json.now) }
-    ensures found { IfErr result (λ fault. IsInspected (view json.now) fault.found.has_nan
-        fault.found.nest) }
-{
-    let mut slot = None;
-    match write_value(g, json, &mut slot) {
-        Ok(()) => Ok(()),
-        Err(_) => Err(Unwritten {
-            error: take_error(slot),
-            found: inspect(json),
-        }),
-    }
-}
-
-/// `write_object`, and after an error what the object contains.
-pub(crate) fn print_object<G: Generator>(g: &mut G, object: &Object) -> Result<(), Unwritten>
-    ensures written { Prints (Writes (G.meaning g.old).style (G.meaning g.old).dent
-        (view_object object.now))
-        (G.meaning g.old) (G.meaning g.new) result }
-    ensures value { IsValue (view_object object.now) }
-    ensures found { IfErr result (λ fault. IsInspected (view_object object.now)
-        fault.found.has_nan fault.found.nest) }
-{
     let mut slot = None;
     match write_pairs(g, object, &mut slot) {
         Ok(()) => Ok(()),
-        Err(_) => Err(Unwritten {
-            error: take_error(slot),
-            found: inspect_object(object),
-        }),
+        Err(_) => {
+            let _found = inspect_object(object);
+            Err(take_error(slot))
+        }
     }
 }
 
-/// Inlined into the loops over elements and entries, so that only containers recurse.
+/// Writes the value; the error of the hook that failed is in the slot. Inlined into the loops over
+/// elements and entries, so that only containers recurse.
 #[inline(always)]
 #[cycle(write_value)]
 #[tactic(auto, using(crate::proofs::Views::views))]
-fn write_value<G: Generator>(g: &mut G, json: &JsonValue, slot: &mut ErrorSlot) -> SlotResult<()>
+pub(crate) fn write_value<G: Generator>(
+    g: &mut G,
+    json: &JsonValue,
+    slot: &mut ErrorSlot,
+) -> SlotResult<()>
     ensures written { PrintsIf (IsValue (view json.now))
         (Writes (G.meaning g.old).style (G.meaning g.old).dent (view json.now))
         (G.meaning g.old) (G.meaning g.new) result }
@@ -158,7 +129,11 @@ fn write_items<G: Generator>(g: &mut G, items: &[JsonValue], slot: &mut ErrorSlo
 
 #[cycle(write_value)]
 #[inline(never)]
-fn write_pairs<G: Generator>(g: &mut G, object: &Object, slot: &mut ErrorSlot) -> SlotResult<()>
+pub(crate) fn write_pairs<G: Generator>(
+    g: &mut G,
+    object: &Object,
+    slot: &mut ErrorSlot,
+) -> SlotResult<()>
     ensures written { PrintsIf (IsValue (view_object object.now))
         (Writes (G.meaning g.old).style (G.meaning g.old).dent (view_object object.now))
         (G.meaning g.old) (G.meaning g.new) result }

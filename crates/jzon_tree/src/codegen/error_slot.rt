@@ -1,12 +1,12 @@
 //! Keeps an 88-byte `io::Error` out of return values: it is stored in a slot, and a one-byte
 //! `Failed` is returned.
+#![tactic(auto, using(crate::proofs::Sent::sent))]
 
 ghost use Rattle.std.specs.Prelude.{◌≡◌, ◌≤◌, Some, Ok, IfErr, IsErr, IsSome, OnOk, OnErr, MatchResult, length, drop};
 ghost use Rattle.jzon_tree.specs.Generator.{Sends, Just};
 
 use jzon_base::util::write_bytes;
-use std::io;
-use std::io::{ErrorKind, Write};
+use std::io::{self, ErrorKind, Write};
 
 /// Holds the error of a call that failed.
 pub type ErrorSlot = Option<io::Error>;
@@ -62,7 +62,6 @@ pub(super) fn take_error(slot: ErrorSlot) -> io::Error
 /// Writes the bytes, of which a prefix is written where the writer fails. Most writers take them
 /// all at once.
 #[inline(always)]
-#[tactic(auto, using(crate::proofs::Sent::sent))]
 pub(super) fn send<W: Write>(writer: &mut W, bytes: &[u8], slot: &mut ErrorSlot) -> SlotResult<()>
     ensures bytes { Sends (Just bytes.now) (W.contents writer.old) (W.contents writer.new) result }
     ensures kept { OnOk result (slot.new ≡ slot.old) }
@@ -81,7 +80,6 @@ pub(super) fn send<W: Write>(writer: &mut W, bytes: &[u8], slot: &mut ErrorSlot)
 /// Writes the bytes after those that the writer took.
 #[cold]
 #[inline(never)]
-#[tactic(auto, using(crate::proofs::Sent::sent))]
 fn send_rest<W: Write>(
     writer: &mut W,
     bytes: &[u8],

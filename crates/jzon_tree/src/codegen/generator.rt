@@ -1,7 +1,6 @@
 //! The trait `Generator`: its hooks, and the provided methods.
 
-ghost use Rattle.std.specs.Prelude.{◌≡◌, ◌+◌, ◌-◌, ◌<◌, ◌≤◌, ◌^◌, ◌∷◌, ◌++◌, [], length, take, drop, MatchResult};
-ghost use Rattle.std.specs.Prelude.{OnErr, IsSome};
+ghost use Rattle.std.specs.Prelude.{◌≡◌, ◌+◌, ◌-◌, ◌<◌, ◌≤◌, ◌^◌, ◌∷◌, ◌++◌, [], length, take, drop, MatchResult, OnErr, IsSome};
 ghost use Rattle.std.specs.Borrow.{sem, Lends};
 ghost use Rattle.jzon_base.specs.NumberText.{written_text};
 ghost use Rattle.jzon_base.specs.PairList.{keys_of};
@@ -17,8 +16,7 @@ use crate::object::Object;
 use jzon_base::number::Number;
 use jzon_base::util::plain::plain_len;
 use jzon_base::util::print_dec;
-use std::io;
-use std::io::{ErrorKind, Write};
+use std::io::{self, ErrorKind, Write};
 
 /// Writes values, piece by piece, to a writer: `write_json` and `write_object` go over a value and
 /// call its hooks.

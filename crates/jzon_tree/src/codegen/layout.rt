@@ -1,8 +1,7 @@
 //! Layouts: the whitespace of a text, which is written here, and the order of an object's entries
 //! (docs/RULES.md, "Layouts of one's own").
 
-ghost use Rattle.std.specs.Prelude.{◌≡◌, ◌+◌, ◌≤◌, ◌<◌, ◌∷◌, ◌++◌, Bool, true, false, IsTrue, IfOk, Ok, None};
-ghost use Rattle.std.specs.Prelude.{OnErr, IsSome, replicate};
+ghost use Rattle.std.specs.Prelude.{◌≡◌, ◌+◌, ◌<◌, ◌∷◌, ◌++◌, Bool, true, false, IsTrue, IfOk, Ok, None, OnErr, IsSome, replicate};
 ghost use Rattle.jzon_base.specs.PairList.{keys_of};
 ghost use Rattle.jzon_tree.specs.Entries.{entries_of};
 ghost use Rattle.jzon_tree.specs.Generator.{IsAnswer, Sends, Just};
@@ -22,13 +21,8 @@ const SPACES: [u8; 512] = [b' '; 512];
 const LINE_ROOM: usize = 8;
 
 /// The newline, and the spaces that are written with it.
-#[rattlefmt::skip]
-const NEWLINE_AND_SPACES: [u8; 64] = [
-    b'\n', b' ', b' ', b' ', b' ', b' ', b' ', b' ', b' ', b' ', b' ', b' ', b' ', b' ', b' ', b' ',
-    b' ', b' ', b' ', b' ', b' ', b' ', b' ', b' ', b' ', b' ', b' ', b' ', b' ', b' ', b' ', b' ',
-    b' ', b' ', b' ', b' ', b' ', b' ', b' ', b' ', b' ', b' ', b' ', b' ', b' ', b' ', b' ', b' ',
-    b' ', b' ', b' ', b' ', b' ', b' ', b' ', b' ', b' ', b' ', b' ', b' ', b' ', b' ', b' ', b' ',
-];
+const NEWLINE_AND_SPACES: [u8; 64] =
+    *b"\n                                                               ";
 
 /// The layout of a text: how many spaces begin its lines, if it has lines, and the order of an
 /// object's entries. `JsonValue::lay_out` and `write_layout` take one, and `TextGenerator`.

@@ -1,7 +1,6 @@
 //! Where a `TextGenerator` writes (docs/RULES.md, "Generators").
 
-ghost use Rattle.std.specs.Prelude.{◌≡◌, ◌∷◌, ℕ, List, [], Option, None, Some, IsTrue, false, refl};
-ghost use Rattle.std.specs.Prelude.{replicate, IfOk, OnErr};
+ghost use Rattle.std.specs.Prelude.{◌≡◌, ◌∷◌, ℕ, List, Option, None, Some, IsTrue, false, refl, replicate, IfOk, OnErr};
 ghost use Rattle.std.specs.Borrow.{GName, sem, Lends};
 ghost use Rattle.jzon_base.specs.NumberText.{written_text};
 ghost use Rattle.jzon_tree.specs.Generator.{Adds, Just};

@@ -1,7 +1,6 @@
 //! Strings and their escapes (docs/RULES.md, "Printed values").
 
-ghost use Rattle.std.specs.Prelude.{◌≡◌, ◌+◌, ◌≤◌, ◌++◌, ◌∷◌, [], false, length, take, drop, OnErr, IsSome};
-ghost use Rattle.std.specs.Prelude.{IfOk, IsTrue, slice_index_or, vec_len, vec_capacity};
+ghost use Rattle.std.specs.Prelude.{◌≡◌, ◌+◌, ◌≤◌, ◌++◌, ◌∷◌, [], false, length, take, drop, OnErr, IsSome, IfOk, IsTrue, slice_index_or};
 ghost use Rattle.std.specs.List.{prefix_len};
 ghost use Rattle.jzon_base.specs.Private.PlainBytes.{is_plain};
 ghost use Rattle.jzon_tree.specs.Generator.{Sends, Just};

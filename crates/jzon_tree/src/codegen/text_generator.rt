@@ -1,8 +1,7 @@
 //! The generators of the crate: they write a text in a layout, into memory of their own or to a
 //! borrowed writer.
 
-ghost use Rattle.std.specs.Prelude.{◌≡◌, [], Ok, None, Some, IsSome, IsTrue, IsUtf8, IfErr, IfOk, MatchResult, OnErr};
-ghost use Rattle.std.specs.Prelude.{string_bytes};
+ghost use Rattle.std.specs.Prelude.{◌≡◌, [], Ok, None, Some, IsSome, IsTrue, IsUtf8, IfErr, IfOk, MatchResult, OnErr, string_bytes};
 ghost use Rattle.std.specs.IoError.{error_kind};
 ghost use Rattle.jzon_base.specs.PairList.{keys_of};
 ghost use Rattle.jzon_tree.specs.Entries.{entries_of};
@@ -21,8 +20,7 @@ use crate::object::Object;
 use jzon_base::error::{Error, Result};
 use jzon_base::number::Number;
 use std::alloc::{AllocError, Global};
-use std::io;
-use std::io::{ErrorKind, Write};
+use std::io::{self, ErrorKind, Write};
 
 /// How many bytes a text that is written into memory first has room for.
 const FIRST_ROOM: usize = 1024;

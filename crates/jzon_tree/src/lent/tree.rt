@@ -20,8 +20,7 @@ ghost use Rattle.jzon_tree.specs.Lent.{entries_in, items_in, with_place, place_i
 ghost use Rattle.jzon_tree.specs.LentTypes.{vec_row};
 ghost use Rattle.jzon_tree.specs.Value.{Value};
 ghost use Rattle.jzon_tree.specs.View.{view};
-ghost use Rattle.jzon_tree.specs.declared.value.JsonValue.{Object as object_value, Array as array_value};
-ghost use Rattle.jzon_tree.specs.declared.value.JsonValue.{Null as null_value};
+ghost use Rattle.jzon_tree.specs.declared.value.JsonValue.{Object as object_value, Array as array_value, Null as null_value};
 
 use crate::object::Object;
 use crate::value::JsonValue;

@@ -1,7 +1,7 @@
 //! Writes into a value, by calls whose contracts say what the value is afterwards.
+#![tactic(auto, using(crate::proofs::WrittenViews::written))]
 
-ghost use Rattle.std.specs.Prelude.{◌≡◌, ◌≤◌, length, slice_set, IfSome, OnOk, OnErr, IsOkUnless, MatchOption, is_some};
-ghost use Rattle.std.specs.Prelude.{None, Some, true, false};
+ghost use Rattle.std.specs.Prelude.{◌≡◌, ◌≤◌, length, slice_set, IfSome, OnOk, OnErr, IsOkUnless, MatchOption, is_some, None, Some, true, false};
 ghost use Rattle.jzon_base.specs.PairList.{find, put};
 ghost use Rattle.jzon_tree.specs.Lent.{with_place, place_in, items_of};
 ghost use Rattle.jzon_tree.specs.Readers.{entries};
@@ -15,7 +15,6 @@ use std::alloc::Global;
 
 /// Writes the value of an object's key, as through `get_mut`, and returns whether the key is
 /// present. If it isn't, nothing changes, and `item` is dropped.
-#[tactic(auto, using(crate::proofs::WrittenViews::written))]
 pub fn write_present(value: &mut JsonValue, key: &str, item: JsonValue) -> bool
     ensures found { result ≡ is_some (find key.now (entries (view value.old))) }
     ensures written { result ≡ true → view value.new ≡
@@ -27,7 +26,6 @@ pub fn write_present(value: &mut JsonValue, key: &str, item: JsonValue) -> bool
 
 /// Writes the value of an object's key, as through `at_mut`. Fails with `OutOfMemory` only, and
 /// then nothing has changed; a key that is present needs no allocation.
-#[tactic(auto, using(crate::proofs::WrittenViews::written))]
 pub fn write_at(value: &mut JsonValue, alloc: Global, key: &str, item: JsonValue) -> Result<()>
     ensures ok { OnOk result (view value.new ≡
         object (pairs_of (put key.now (view item) (entries (view value.old))))) }
@@ -40,7 +38,6 @@ pub fn write_at(value: &mut JsonValue, alloc: Global, key: &str, item: JsonValue
 
 /// Writes the element of an array at an index, as through `at_index_mut`. Fails with `OutOfMemory`
 /// only, and then the value means what it meant; an index in range of an array needs no allocation.
-#[tactic(auto, using(crate::proofs::WrittenViews::written))]
 pub fn write_at_index(
     value: &mut JsonValue,
     alloc: Global,

@@ -8,7 +8,7 @@ use super::Object;
 use crate::value::JsonValue;
 
 impl Object {
-    ghost use Rattle.std.specs.Borrow.{sem, Lends, LendsIf, Array};
+    ghost use Rattle.std.specs.Borrow.{sem, LendsIf};
     ghost use Rattle.jzon_tree.specs.contracts.object.Object.{the_row};
     ghost use Rattle.jzon_tree.specs.contracts.value.JsonValue.{the_row as value_row};
     ghost use Rattle.jzon_tree.specs.Entries.{entries_of, with_entries};

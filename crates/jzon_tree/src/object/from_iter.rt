@@ -19,9 +19,6 @@ impl<K: AsStr + Drop, V: IntoJson> FromIterator<(K, V)> for Object {
         alloc: Global,
         pairs: U,
     ) -> Result<Object, AllocError> {
-        match Object::from_pairs(alloc, pairs.into_iter()) {
-            Ok(object) => Ok(object),
-            Err(_) => Err(AllocError),
-        }
+        Object::from_pairs(alloc, pairs.into_iter()).map_err(|_| AllocError)
     }
 }

@@ -8,7 +8,7 @@ ghost use Rattle.jzon_tree.specs.Value.{nest};
 ghost use Rattle.jzon_tree.specs.View.{view_object};
 ghost use Rattle.jzon_tree.specs.Writing.{Writes};
 
-use crate::codegen::driver::print_object;
+use crate::codegen::driver::write_pairs;
 use crate::codegen::{Compact, Layout, Pretty, TextGenerator};
 use crate::object::Object;
 use crate::value::inspect::inspect_object;
@@ -60,9 +60,9 @@ impl Object {
         let Ok(mut generator) = TextGenerator::with_room(alloc, layout) else {
             return Err(inspect_object(self).refusal());
         };
-        match print_object(&mut generator, self) {
+        match write_pairs(&mut generator, self, &mut None) {
             Ok(()) => Ok(generator.into_text()),
-            Err(fault) => Err(fault.found.refusal()),
+            Err(_) => Err(inspect_object(self).refusal()),
         }
     }
 }

@@ -11,7 +11,7 @@ ghost use Rattle.jzon_tree.specs.Value.{nest};
 ghost use Rattle.jzon_tree.specs.View.{view};
 ghost use Rattle.jzon_tree.specs.Writing.{Writes};
 
-use crate::codegen::driver::print_value;
+use crate::codegen::driver::write_value;
 use crate::codegen::{
     Compact, Layout, Outlet, Pretty, PrettyWriterGenerator, TextGenerator, WriterGenerator,
     write_json,
@@ -20,8 +20,7 @@ use crate::value::JsonValue;
 use crate::value::inspect::inspect;
 use jzon_base::error::{Error, Result};
 use std::alloc::Global;
-use std::io;
-use std::io::Write;
+use std::io::{self, Write};
 
 impl JsonValue {
     /// The compact text of the value, with no whitespace outside of its strings. Fails with
@@ -73,9 +72,9 @@ impl JsonValue {
         let Ok(mut generator) = TextGenerator::with_room(alloc, layout) else {
             return Err(inspect(self).refusal());
         };
-        match print_value(&mut generator, self) {
+        match write_value(&mut generator, self, &mut None) {
             Ok(()) => Ok(generator.into_text()),
-            Err(fault) => Err(fault.found.refusal()),
+            Err(_) => Err(inspect(self).refusal()),
         }
     }
 

@@ -7,19 +7,21 @@ use Rattle.jzon_tree.proofs.object.Object.lay_out.Goals as goal
 pub into_text-requires : goal.into_text-requires
 into_text-requires g c =
     (laid_out (g.L.Layout.style c.args.layout) (view_object c.args.self.now) _ _ _ c.in-Ok.ensures
-    c.in-Ok-print_object.ensures.value c.in-Ok-print_object.ensures.written refl).0
+    c.in-Ok-write_pairs.ensures.value c.in-Ok-write_pairs.ensures.written refl).0
 
-pub returns-in-Ok-print_object-clause-writing : goal.returns-in-Ok-print_object-clause-writing
-returns-in-Ok-print_object-clause-writing g c =
+pub returns-in-Ok-write_pairs-clause-writing : goal.returns-in-Ok-write_pairs-clause-writing
+returns-in-Ok-write_pairs-clause-writing g c =
     subst (Writes (g.L.Layout.style c.args.layout) 0 (view_object c.args.self.now)) (sym c.into_text.ensures)
     (laid_out (g.L.Layout.style c.args.layout) (view_object c.args.self.now) _ _ _ c.in-Ok.ensures
-    c.in-Ok-print_object.ensures.value c.in-Ok-print_object.ensures.written refl).1
+    c.in-Ok-write_pairs.ensures.value c.in-Ok-write_pairs.ensures.written refl).1
 
 pub returns-in-Err-clause-memory : goal.returns-in-Err-clause-memory
-returns-in-Err-clause-memory g c = c.refusal-in-Err.ensures.memory (view_object c.args.self.now) c.in-Err.ensures.found
+returns-in-Err-clause-memory g c =
+    c.refusal-in-Err.ensures.memory (view_object c.args.self.now) c.inspect_object-in-Err.ensures
 
 pub returns-in-Err-clause-depth : goal.returns-in-Err-clause-depth
-returns-in-Err-clause-depth g c = c.refusal-in-Err.ensures.depth (view_object c.args.self.now) c.in-Err.ensures.found
+returns-in-Err-clause-depth g c =
+    c.refusal-in-Err.ensures.depth (view_object c.args.self.now) c.inspect_object-in-Err.ensures
 
 pub returns-in_default-clause-memory : goal.returns-in_default-clause-memory
 returns-in_default-clause-memory g c = c.refusal.ensures.memory (view_object c.args.self.now) c.inspect_object.ensures
