@@ -1,16 +1,12 @@
 //! A text and the offset up to which it is read.
 
-ghost use Rattle.std.specs.Prelude.{◌≡◌, ◌≢◌, ◌<◌, ◌≤◌, ◌+◌, ℕ, List, length, chars};
-ghost use Rattle.std.specs.Prelude.{drop, false, slice_index, Err, IfOk, None, Some, if◌then◌else◌, MatchOption};
+ghost use Rattle.std.specs.Prelude.{◌≡◌, ◌≢◌, ◌<◌, ◌≤◌, ◌+◌, length, chars, drop, false, slice_index, Err, IfOk, None, Some, if◌then◌else◌, MatchOption};
 ghost use Rattle.std.specs.Str.{IsCharBoundary, IsUtf8};
 ghost use Rattle.jzon_tree.specs.Value.{Value};
 ghost use Rattle.jzon_tree.specs.View.{view};
 ghost use Rattle.jzon_tree.specs.Writing.{is_whitespace};
-ghost use Rattle.jzon.specs.Private.Brackets.{opener, closer, empty_container, innermost_bracket};
-ghost use Rattle.jzon.specs.Private.Brackets.{after_opener, after_comma, after_closer};
-ghost use Rattle.jzon.specs.Private.Machine.{Entries, Frames, object_frame, frames_depth, value_mark};
-ghost use Rattle.jzon.specs.Private.Machine.{State, before, after_key, after_value, from};
-ghost use Rattle.jzon.specs.Private.Machine.{fault_here, Reports};
+ghost use Rattle.jzon.specs.Private.Brackets.{opener, closer, empty_container, innermost_bracket, after_opener, after_comma, after_closer};
+ghost use Rattle.jzon.specs.Private.Machine.{Frames, frames_depth, value_mark, before, after_value, from, fault_here, Reports};
 ghost use Rattle.jzon_base.specs.Tokens.{begin_array, begin_object};
 
 use crate::bytes_at::byte_at;
@@ -80,7 +76,7 @@ pub(crate) struct Cursor<'a> {
 }
 
 impl<'a> Cursor<'a> {
-    ghost use Rattle.jzon.specs.Private.Cursor.{left, next_byte, IsPast, GoesOn};
+    ghost use Rattle.jzon.specs.Private.Cursor.{next_byte, IsPast, GoesOn, EndsItem, EndsKey};
 
     /// Before the first token of a text.
     pub(crate) fn new(source: &'a str, reading: Reading) -> Cursor<'a>
@@ -187,10 +183,7 @@ impl<'a> Cursor<'a> {
     pub(crate) fn container_ends_at(&mut self, end: usize, bracket: Bracket) -> Result<bool>
         requires boundary { IsCharBoundary self.old.source.now end }
         requires further { self.old.index < end }
-        ensures { (p : State) (fs : Frames) (v : Value) → innermost_bracket fs ≡ Some bracket →
-            left self.old p ≡ from self.old.reading self.old.source.now (after_value fs v) end →
-            GoesOn self.old p result self.new
-            (λ ends. if ends then after_closer fs v else after_comma fs v) }
+        ensures { EndsItem self.old end bracket result self.new }
     {
         let next = byte_at(self.source, end);
         if next == b',' {
@@ -209,10 +202,7 @@ impl<'a> Cursor<'a> {
     fn container_ends_later(&mut self, end: usize, bracket: Bracket) -> Result<bool>
         requires boundary { IsCharBoundary self.old.source.now end }
         requires further { self.old.index < end }
-        ensures { (p : State) (fs : Frames) (v : Value) → innermost_bracket fs ≡ Some bracket →
-            left self.old p ≡ from self.old.reading self.old.source.now (after_value fs v) end →
-            GoesOn self.old p result self.new
-            (λ ends. if ends then after_closer fs v else after_comma fs v) }
+        ensures { EndsItem self.old end bracket result self.new }
     {
         self.go_to(end);
         self.container_ends(bracket)
@@ -224,9 +214,7 @@ impl<'a> Cursor<'a> {
     pub(crate) fn colon_at(&mut self, end: usize) -> Result<()>
         requires boundary { IsCharBoundary self.old.source.now end }
         requires further { self.old.index < end }
-        ensures { (p : State) (fs : Frames) (es : Entries) (k : List ℕ) →
-            left self.old p ≡ from self.old.reading self.old.source.now (after_key fs es k) end →
-            GoesOn self.old p result self.new (λ _. before (object_frame fs es k)) }
+        ensures { EndsKey self.old end result self.new }
     {
         if byte_at(self.source, end) == b':' {
             self.go_to(end + 1);
@@ -240,9 +228,7 @@ impl<'a> Cursor<'a> {
     fn colon_later(&mut self, end: usize) -> Result<()>
         requires boundary { IsCharBoundary self.old.source.now end }
         requires further { self.old.index < end }
-        ensures { (p : State) (fs : Frames) (es : Entries) (k : List ℕ) →
-            left self.old p ≡ from self.old.reading self.old.source.now (after_key fs es k) end →
-            GoesOn self.old p result self.new (λ _. before (object_frame fs es k)) }
+        ensures { EndsKey self.old end result self.new }
     {
         self.go_to(end);
         if self.peek() != b':' {

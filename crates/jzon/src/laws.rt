@@ -4,8 +4,7 @@
 //! function, by the name `c.reads_back.ensures`. CALLING.md, "How a law is called", has the lemmas
 //! that most callers need instead. A program needs none of them.
 
-ghost use Rattle.jzon.specs.Laws.{OneReading, OneText, DigitBreaches, OneFault, NumberText, Redump, StrictStyles};
-ghost use Rattle.jzon.specs.Laws.{ReadsBack};
+ghost use Rattle.jzon.specs.Laws.{OneReading, OneText, DigitBreaches, OneFault, NumberText, Redump, StrictStyles, ReadsBack};
 
 /// Two trees that spell the same text are equal.
 pub fn one_reading()

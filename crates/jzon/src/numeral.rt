@@ -14,8 +14,7 @@ ghost use Rattle.jzon.specs.Reading.{Reading};
 ghost use Rattle.jzon.specs.Grammar.{is_exponent_letter};
 ghost use Rattle.jzon.specs.Private.Classes.{lettered};
 ghost use Rattle.jzon_base.specs.Tokens.{zero_digit};
-ghost use Rattle.jzon.specs.Private.Machine.{Frames, numeral, numeral_after_first, after_value};
-ghost use Rattle.jzon.specs.Private.Machine.{from, fault_here, Leads};
+ghost use Rattle.jzon.specs.Private.Machine.{Frames, numeral, numeral_after_first, after_value, from, fault_here, Leads};
 ghost use Rattle.jzon.specs.Private.Numerals.{LeadsTo, MissesDigit, HasTooMany};
 
 use crate::bytes_at::has_byte;

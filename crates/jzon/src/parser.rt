@@ -1,19 +1,16 @@
 //! Parses texts (RFC 8259, section 2; docs/RULES.md, "Texts").
 
-ghost use Rattle.std.specs.Prelude.{◌≡◌, ◌≢◌, ◌&&◌, ◌<◌, ◌+◌, [], length, chars, IfOk, IfErr, Err, None, Some};
-ghost use Rattle.std.specs.Prelude.{OnOk, IsOkUnless, true, false};
+ghost use Rattle.std.specs.Prelude.{◌≡◌, ◌≢◌, ◌<◌, ◌+◌, length, chars, IfOk, IfErr, Err, None, Some, OnOk, true};
 ghost use Rattle.jzon_tree.specs.View.{view};
 ghost use Rattle.jzon.specs.Answer.{IsMeaningOf, IsReadable, IsErrorUnlessMemory, TakesMemory};
 ghost use Rattle.jzon.specs.Private.Cursor.{left, next_byte, GoesOn, PassesOn};
 ghost use Rattle.jzon.specs.Private.Brackets.{opener};
 ghost use Rattle.jzon.specs.Private.Machine.{no_frames, is_fresh, before, after_value, Reads};
-ghost use Rattle.jzon.specs.Private.OpenContainers.{entries_so_far, frames_around, frames_here};
-ghost use Rattle.jzon.specs.Private.OpenContainers.{before_item, after_items, after_end, whole};
-ghost use Rattle.jzon.specs.Private.OpenContainers.{IsEven, AwaitsValue, IsBeforeItem, IsAfterItems, IsAfterEnd};
-ghost use Rattle.jzon.specs.Private.OpenContainers.{KeepsAround, new_container};
+ghost use Rattle.jzon.specs.Private.OpenContainers.{frames_around, frames_here, before_item, after_items, after_end, whole};
+ghost use Rattle.jzon.specs.Private.OpenContainers.{IsEven, AwaitsValue, IsBeforeItem, IsAfterItems, IsAfterEnd, KeepsAround};
 ghost use Rattle.jzon.specs.Private.Read.{after_read, IsAfterValue};
 ghost use Rattle.jzon.specs.Reading.{usual};
-ghost use Rattle.jzon_base.specs.Tokens.{begin_array, begin_object, end_array};
+ghost use Rattle.jzon_base.specs.Tokens.{end_array};
 
 use crate::cursor::{Bracket, Cursor};
 use crate::fault::duplicate_at;
@@ -256,28 +253,9 @@ impl<'a> Parser<'a> {
             self.new.cursor (after_read self.new.stacks) }
     {
         let first = self.cursor.peek();
-        match Bracket::opened_by(first) {
-            None => self.read_primitive(container, first),
-            Some(opened) => self.read_opened(container, opened),
+        if let Some(opened) = Bracket::opened_by(first) {
+            return self.read_opened(container, opened);
         }
-    }
-
-    /// The same of a primitive, whose first byte is `first` (0 at the end of the text).
-    #[inline(always)]
-    fn read_primitive(&mut self, container: Bracket, first: u8) -> Result<Next>
-        requires first { first ≡ next_byte self.old.cursor }
-        requires no_array { first ≢ begin_array }
-        requires no_object { first ≢ begin_object }
-        requires bracket { self.old.stacks.innermost.bracket ≡ container }
-        requires awaits { AwaitsValue container self.old.stacks.innermost }
-        requires room { length self.old.stacks.around < self.old.cursor.reading.depth }
-        requires some { is_fresh (frames_here self.old.stacks) ≡ true →
-            next_byte self.old.cursor ≢ end_array }
-        ensures kept { OnOk result (KeepsAround self.old.stacks self.new.stacks) }
-        ensures after { IfOk result (IsAfterValue self.new.cursor self.new.stacks) }
-        ensures outcome { GoesOn self.old.cursor (before (frames_here self.old.stacks)) result
-            self.new.cursor (after_read self.new.stacks) }
-    {
         let source = self.cursor.source;
         let start = self.cursor.index;
         let end = self

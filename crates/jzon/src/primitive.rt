@@ -1,18 +1,15 @@
 //! Reads primitives: numbers, strings and literals (RFC 8259, section 3). Each is put where it is to
 //! stay by the function that makes it, so that no value is moved from call to call.
 
-ghost use Rattle.std.specs.Prelude.{◌≡◌, ◌≢◌, ◌⊎◌, ◌<◌, ◌+◌, ◌^◌, ◌∷◌, ◌++◌, [], length, chars, IsTrue};
-ghost use Rattle.std.specs.Prelude.{IfOk, Err, MatchResult, codes, drop, vec_len, vec_capacity};
-ghost use Rattle.std.specs.Prelude.{slice_index, None, true, false, IsAscii, ⊤};
+ghost use Rattle.std.specs.Prelude.{◌≡◌, ◌≢◌, ◌⊎◌, ◌<◌, ◌+◌, ◌^◌, [], length, chars, IsTrue};
+ghost use Rattle.std.specs.Prelude.{IfOk, Err, MatchResult, codes, drop, slice_index, None, true, false, IsAscii, ⊤};
 ghost use Rattle.std.specs.Char.{is_ascii_digit};
 ghost use Rattle.std.specs.Str.{IsCharBoundary};
 ghost use Rattle.jzon_tree.specs.Value.{Value, null, boolean};
 ghost use Rattle.jzon_tree.specs.View.{view};
 ghost use Rattle.jzon.specs.Private.Classes.{after_minus, letter_n, letter_t, letter_f};
-ghost use Rattle.jzon.specs.Private.Machine.{numeral, numeral_after_first, string, as_value};
-ghost use Rattle.jzon.specs.Private.Machine.{between, before, Frames};
-ghost use Rattle.jzon.specs.Private.Machine.{after_value, past_letter, value_mark, from, Reports};
-ghost use Rattle.jzon.specs.Private.Machine.{fault_here};
+ghost use Rattle.jzon.specs.Private.Machine.{numeral, numeral_after_first, string, as_value, between, before, Frames};
+ghost use Rattle.jzon.specs.Private.Machine.{after_value, past_letter, value_mark, from, Reports, fault_here};
 ghost use Rattle.jzon.specs.Private.Places.{MayBegin, Puts};
 ghost use Rattle.jzon.specs.Reading.{Reading};
 ghost use Rattle.jzon_base.specs.Tokens.{begin_array, begin_object, quotation_mark};
@@ -56,30 +53,6 @@ pub(crate) fn put_primitive<P: Place>(
         b'n' | b't' | b'f' => put_literal(source, start, first, place),
         _ => stopped_at(source, start),
     }
-}
-
-/// Pushes the primitive at `start`, whose first byte is `first` (0 at the end of the text), onto
-/// `values`. Returns the offset after it.
-#[inline(always)]
-pub(crate) fn push_primitive(
-    alloc: Global,
-    source: &str,
-    start: usize,
-    first: u8,
-    buffer: &mut String,
-    values: &mut Vec<JsonValue>,
-) -> Result<usize>
-    requires boundary { IsCharBoundary source.now start }
-    requires first { first ≡ slice_index source.now start }
-    requires no_array { first ≢ begin_array }
-    requires no_object { first ≢ begin_object }
-    requires room { vec_len values.old < vec_capacity values.old }
-    ensures end { IfOk result (λ end. (start < end) × IsCharBoundary source.now end) }
-    ensures memory { result ≡ Err Error.OutOfMemory → first ≡ quotation_mark }
-    ensures outcome { Puts (λ v new. new.items ≡ values.old.items ++ v ∷ []) values.old values.new
-        result source.now start before (λ r fs. MayBegin r fs source.now start) }
-{
-    put_primitive(alloc, source, start, first, buffer, values)
 }
 
 /// The error of a text that has no valid continuation at `index`. Inlined, so that the stack slot

@@ -1,25 +1,22 @@
 //! The open containers of a text. All their keys are on one stack, and all their values on another;
 //! each container has a part of both, and is made of it at its end.
 
-ghost use Rattle.std.specs.Prelude.{◌≡◌, ◌≢◌, ◌&&◌, slice_index, IfSome, None, ◌≤◌, ◌<◌, [], ◌∷◌, length, take, drop, vec_len, IfOk, IfErr, OnOk, OnErr};
-ghost use Rattle.std.specs.Prelude.{IsOkUnless, MatchResult, MatchOption, true, false, ℕ, ◌+◌};
+ghost use Rattle.std.specs.Prelude.{◌≡◌, ◌≢◌, ◌&&◌, slice_index, IfSome, None, ◌≤◌, ◌<◌, [], length, take, drop, vec_len, IfOk, OnOk, OnErr};
+ghost use Rattle.std.specs.Prelude.{IsOkUnless, true, false, ◌+◌};
 ghost use Rattle.std.specs.List.{zip};
 ghost use Rattle.std.specs.Option.{is_some};
 ghost use Rattle.jzon_base.specs.PairList.{find, put_each};
-ghost use Rattle.jzon_tree.specs.View.{view};
-ghost use Rattle.jzon.specs.Private.OpenContainers.{Container, OpenContainers, entries_so_far};
-ghost use Rattle.jzon.specs.Private.OpenContainers.{IsEven, AwaitsValue, with_value, new_container};
-ghost use Rattle.jzon.specs.Private.OpenContainers.{HasKeyNext, IsClosed, IsMerged, KeepsAround, whole};
-ghost use Rattle.jzon.specs.Private.OpenContainers.{value_added, container_added, innermost_ended};
+ghost use Rattle.jzon_tree.specs.View.{view, view_object};
+ghost use Rattle.jzon.specs.Private.OpenContainers.{OpenContainers, entries_so_far, IsEven, AwaitsValue, new_container};
+ghost use Rattle.jzon.specs.Private.OpenContainers.{HasKeyNext, IsClosed, IsMerged, KeepsAround, whole, value_added, container_added, innermost_ended};
 ghost use Rattle.jzon.specs.Private.Brackets.{empty_container};
 ghost use Rattle.jzon.specs.Private.Machine.{before};
 ghost use Rattle.jzon.specs.Private.Places.{MayBegin, Puts};
 ghost use Rattle.jzon_base.specs.Tokens.{begin_array, begin_object};
-ghost use Rattle.jzon_tree.specs.View.{view_object};
 ghost use Rattle.std.specs.Str.{IsCharBoundary};
 
 use crate::cursor::Bracket;
-use crate::primitive::push_primitive;
+use crate::primitive::put_primitive;
 use jzon_base::error::{Error, Result};
 use jzon_base::key::Key;
 use jzon_base::keys::{self, KnownKeys};
@@ -228,16 +225,6 @@ impl Stacks {
         self.around.len() + 1
     }
 
-    /// Adds a value to the innermost container. The error is `OutOfMemory`.
-    #[inline(always)]
-    pub(crate) fn push_value(&mut self, value: JsonValue) -> Result<()>
-        ensures ok { OnOk result (self.new ≡ value_added self.old value) }
-        ensures memory { IsOkUnless result Error.OutOfMemory }
-    {
-        self.values.push(value)?;
-        Ok(())
-    }
-
     /// Adds an empty container. The error is `OutOfMemory`.
     #[inline(always)]
     pub(crate) fn push_empty(&mut self, bracket: Bracket) -> Result<()>
@@ -245,7 +232,8 @@ impl Stacks {
             × (self.new ≡ value_added self.old v)) }
         ensures memory { IsOkUnless result Error.OutOfMemory }
     {
-        self.push_value(bracket.empty(self.alloc))
+        self.values.push(bracket.empty(self.alloc))?;
+        Ok(())
     }
 
     /// Adds the primitive at `start`, whose first byte is `first` (0 at the end of the text). Returns
@@ -267,7 +255,7 @@ impl Stacks {
             source.now start before (λ r fs. MayBegin r fs source.now start) }
     {
         self.values.reserve(1)?;
-        push_primitive(self.alloc, source, start, first, buffer, &mut self.values)
+        put_primitive(self.alloc, source, start, first, buffer, &mut self.values)
     }
 
     /// Adds a key to the innermost container, which is an object, unless the reading rejects it: it

@@ -1,9 +1,8 @@
 //! Reads strings (RFC 8259, section 7; docs/RULES.md, "Strings").
 
-ghost use Rattle.std.specs.Prelude.{◌≡◌, ◌==◌, ◌<◌, ◌≤◌, ◌+◌, ◌-◌, ◌++◌, ◌&&◌, ◌⊎◌, ◌↔◌, Contains, ℕ, List, [], length};
+ghost use Rattle.std.specs.Prelude.{◌≡◌, ◌<◌, ◌≤◌, ◌+◌, ◌-◌, ◌++◌, ◌&&◌, ◌⊎◌, ◌↔◌, Contains, ℕ, List, [], length};
 ghost use Rattle.std.specs.Prelude.{drop, take, chars, IsTrue, IfOk, IsOk, IsOkUnless, SomeIff, MatchResult, OnOk, OnErr};
-ghost use Rattle.std.specs.Prelude.{slice_index, slice_range, string_bytes, encode_utf8, if◌then◌else◌, false};
-ghost use Rattle.std.specs.Char.{is_ascii_hexdigit, digit_value};
+ghost use Rattle.std.specs.Prelude.{slice_index, slice_range, string_bytes, if◌then◌else◌, false};
 ghost use Rattle.std.specs.Str.{IsCharBoundary};
 ghost use Rattle.jzon_base.specs.declared.error.Error.TheVariants.{OutOfMemory};
 ghost use Rattle.jzon_base.specs.Private.PlainBytes.{is_plain};
@@ -11,14 +10,13 @@ ghost use Rattle.jzon_base.specs.Tokens.{escape};
 ghost use Rattle.jzon_tree.specs.Value.{text, kind_of};
 ghost use Rattle.jzon_tree.specs.View.{view};
 ghost use Rattle.jzon.specs.Reading.{Reading};
-ghost use Rattle.jzon.specs.Grammar.{is_simple, is_high, is_low, is_surrogate, code_unit};
-ghost use Rattle.jzon.specs.Meaning.{unescaped, pair_char};
-ghost use Rattle.jzon.specs.Private.Quote.{EndsAtQuote};
-ghost use Rattle.jzon.specs.Private.Machine.{Role, string, between, slash, code, second};
-ghost use Rattle.jzon.specs.Private.Machine.{second_code, after_unit, move_pair};
+ghost use Rattle.jzon.specs.Grammar.{is_high, is_low, is_surrogate, code_unit};
+ghost use Rattle.jzon.specs.Meaning.{pair_char};
+ghost use Rattle.jzon.specs.Private.Quote.{EndsAtQuote, ReadsCharacter};
+ghost use Rattle.jzon.specs.Private.Machine.{Role, string, between, slash, code, second, second_code, after_unit, move_pair};
 ghost use Rattle.jzon.specs.Private.Machine.{outcome_on, from, from_closed, Reports};
 
-use crate::bytes_at::has_byte;
+use crate::bytes_at::{byte_at, has_byte};
 use crate::fault::fault_at;
 use crate::place::Place;
 use jzon_base::error::{Error, Result};
@@ -204,28 +202,15 @@ fn push_run(source: &str, start: usize, buffer: &mut String) -> Result<usize>
 fn read_escape(source: &str, start: usize) -> Result<(char, usize)>
     requires { IsCharBoundary source.now start }
     ensures end { IfOk result (λ r. (start < r.1) × IsCharBoundary source.now r.1) }
-    ensures outcome { (r : Reading) (role : Role) (bs : List ℕ) → MatchResult result
-        (λ x. from r source.now (string role bs slash) start
-        ≡ from r source.now (string role (bs ++ encode_utf8 x.0) between) x.1)
-        (λ e. Reports (chars source.now) e (from r source.now (string role bs slash) start)) }
+    ensures outcome { ReadsCharacter source.now start (λ role bs. string role bs slash) result }
 {
     if has_byte(source, start, b'u') {
         return read_unicode(source, start + 1);
     }
-    match simple_escape(source, start) {
+    match meant_by(byte_at(source, start)) {
         Some(ch) => Ok((ch, start + 1)),
         None => Err(fault_at(source, start)),
     }
-}
-
-/// The character of the escape whose letter is at `index`.
-fn simple_escape(source: &str, index: usize) -> Option<char>
-    ensures { SomeIff result
-        ((index < length source.now) × IsTrue (is_simple (slice_index source.now index)))
-        (unescaped (slice_index source.now index)) }
-{
-    let letter = source.as_bytes().get(index)?;
-    meant_by(*letter)
 }
 
 /// The character of the `\u` escape whose digits are at `start`, or of a surrogate pair that begins
@@ -233,10 +218,7 @@ fn simple_escape(source: &str, index: usize) -> Option<char>
 fn read_unicode(source: &str, start: usize) -> Result<(char, usize)>
     requires { IsCharBoundary source.now start }
     ensures end { IfOk result (λ r. (start < r.1) × IsCharBoundary source.now r.1) }
-    ensures outcome { (r : Reading) (role : Role) (bs : List ℕ) → MatchResult result
-        (λ x. from r source.now (string role bs (code 3 0)) start
-        ≡ from r source.now (string role (bs ++ encode_utf8 x.0) between) x.1)
-        (λ e. Reports (chars source.now) e (from r source.now (string role bs (code 3 0)) start)) }
+    ensures outcome { ReadsCharacter source.now start (λ role bs. string role bs (code 3 0)) result }
 {
     let unit = read_hex(source, start)?;
     match char::from_u32(unit) {
@@ -250,11 +232,7 @@ fn read_unicode(source: &str, start: usize) -> Result<(char, usize)>
 fn read_second(source: &str, start: usize, first: u32) -> Result<(char, usize)>
     requires { IsCharBoundary source.now start }
     ensures end { IfOk result (λ r. (start < r.1) × IsCharBoundary source.now r.1) }
-    ensures outcome { (r : Reading) (role : Role) (bs : List ℕ) → MatchResult result
-        (λ x. from r source.now (string role bs (second first)) start
-        ≡ from r source.now (string role (bs ++ encode_utf8 x.0) between) x.1)
-        (λ e. Reports (chars source.now) e (from r source.now (string role bs
-        (second first)) start)) }
+    ensures outcome { ReadsCharacter source.now start (λ role bs. string role bs (second first)) result }
 {
     if !has_byte(source, start, b'\\') {
         return Err(fault_at(source, start));
@@ -301,20 +279,10 @@ fn read_hex(source: &str, start: usize) -> Result<u32>
 {
     let mut unit = 0;
     for index in start..start + 4 {
-        match hex_digit(source, index) {
+        match hex_value(byte_at(source, index)) {
             Some(digit) => unit = unit * 16 + digit,
             None => return Err(fault_at(source, index)),
         }
     }
     Ok(unit)
-}
-
-/// The value of the hexadecimal digit at `index`.
-fn hex_digit(source: &str, index: usize) -> Option<u32>
-    ensures { SomeIff result
-        ((index < length source.now) × IsTrue (is_ascii_hexdigit (slice_index source.now index)))
-        (digit_value (slice_index source.now index)) }
-{
-    let byte = source.as_bytes().get(index)?;
-    hex_value(*byte)
 }

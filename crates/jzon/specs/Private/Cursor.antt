@@ -1,8 +1,13 @@
 -- How the parser's offset in a text relates to the automaton.
-use Rattle.std.specs.Prelude.{◌≡◌, ℕ, ◌<◌, ◌≤◌, List, true, chars, Result, MatchResult, slice_index}
+use Rattle.std.specs.Prelude.{◌≡◌, ℕ, ◌<◌, ◌≤◌, List, Bool, true, Some, chars, Result, MatchResult, slice_index}
+use Rattle.std.specs.Prelude.{if◌then◌else◌}
 use Rattle.jzon_base.specs.declared.error.Error.{Error}
+use Rattle.jzon_tree.specs.Value.{Value}
 use Rattle.jzon.specs.Reading.{Reading}
-use Rattle.jzon.specs.Private.Machine.{State, Outcome, allows_whitespace, from, ReportsUnlessMemory}
+use Rattle.jzon.specs.Private.Brackets.{innermost_bracket, after_closer, after_comma}
+use Rattle.jzon.specs.Private.Machine.{Entries, Frames, State, Outcome, object_frame, before, after_key, after_value}
+use Rattle.jzon.specs.Private.Machine.{allows_whitespace, from, ReportsUnlessMemory}
+use Rattle.jzon.specs.declared.cursor.Bracket.{Bracket}
 use Rattle.jzon.specs.declared.cursor.Cursor.{Cursor}
 
 -- the outcome of the rest of the text from this state of the automaton
@@ -37,3 +42,17 @@ GoesOn t p result u next =
 abbrev pub PassesOn : {A : Type 0} → Cursor → State → Result A Error → Cursor → (A → State) → Type 0
 PassesOn t p result u next =
     (s : Cursor) (o : State) → IsAfter s t × (left s o ≡ left t p) → GoesOn s o result u next
+
+-- What leads to the end of an item at offset `end` goes on after the closing bracket or the comma that follows it.
+abbrev pub EndsItem : Cursor → ℕ → Bracket → Result Bool Error → Cursor → Type 0
+EndsItem t end bracket result u =
+    (p : State) (fs : Frames) (v : Value) → innermost_bracket fs ≡ Some bracket
+    → left t p ≡ from t.reading t.source.now (after_value fs v) end
+    → GoesOn t p result u (λ ends. if ends then after_closer fs v else after_comma fs v)
+
+-- What leads to the end of a key at offset `end` goes on after the colon that follows it.
+abbrev pub EndsKey : {A : Type 0} → Cursor → ℕ → Result A Error → Cursor → Type 0
+EndsKey t end result u =
+    (p : State) (fs : Frames) (es : Entries) (k : List ℕ)
+    → left t p ≡ from t.reading t.source.now (after_key fs es k) end
+    → GoesOn t p result u (λ _. before (object_frame fs es k))

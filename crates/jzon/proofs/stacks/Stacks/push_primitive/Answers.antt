@@ -45,13 +45,13 @@ puts_onto s o mid new (Err e) bs i p G h is same put = (
 
 pub invariant_of-self-2 : goal.invariant_of-self-2
 invariant_of-self-2 c =
-    let more = no_fewer c.reserve.new.self c.push_primitive.new.values c.push_primitive.result c.args.source.now
-    c.args.start _ _ c.push_primitive.ensures.outcome in
-    IsLaidOut-values c.self.inside c.push_primitive.new.values c.self.invariant
+    let more = no_fewer c.reserve.new.self c.put_primitive.new.place c.put_primitive.result c.args.source.now
+    c.args.start _ _ c.put_primitive.ensures.outcome in
+    IsLaidOut-values c.self.inside c.put_primitive.new.place c.self.invariant
     (omega (arith, more, c.self.invariant.values_within, c.in_ok-reserve.ensures.len))
 
 pub returns-clause-outcome : goal.returns-clause-outcome
 returns-clause-outcome c =
-    puts_onto c.self.inside c.args.self.now c.reserve.new.self c.push_primitive.new.values c.push_primitive.result
+    puts_onto c.self.inside c.args.self.now c.reserve.new.self c.put_primitive.new.place c.put_primitive.result
     c.args.source.now c.args.start _ _ c.self.invariant c.self.view_is c.in_ok-reserve.ensures.items
-    c.push_primitive.ensures.outcome
+    c.put_primitive.ensures.outcome

@@ -6,7 +6,7 @@ use Rattle.jzon.specs.Private.Places.{MayBegin}
 use Rattle.jzon.proofs.Containers.OpenItems.{brackets_here, awaits_here, no_mark, added_keeps, added_even, added_before}
 use Rattle.jzon.proofs.Containers.OpenItems.{ended_here, goes_to_item}
 use Rattle.jzon.proofs.Texts.Cursors.{reached_start, fails_on}
-use Rattle.jzon.proofs.parser.Parser.read_primitive.Goals as goal
+use Rattle.jzon.proofs.parser.Parser.read_value.Goals as goal
 
 pub returns-in_err-end-clause-outcome : goal.returns-in_err-end-clause-outcome
 returns-in_err-end-clause-outcome c =
