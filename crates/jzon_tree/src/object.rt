@@ -73,7 +73,7 @@ impl Object {
     ghost use Rattle.std.specs.Borrow.{sem, LendsIf, LendsIfOk};
     ghost use Rattle.jzon_tree.specs.contracts.object.Object.{the_row};
     ghost use Rattle.jzon_tree.specs.contracts.value.JsonValue.{the_row as value_row};
-    ghost use Rattle.jzon_tree.specs.Entries.{entries_of, with_entries};
+    ghost use Rattle.jzon_tree.specs.Entries.{with_entries};
 
     /// An object without entries. It allocates nothing.
     pub fn new(alloc: Global) -> Object
@@ -321,8 +321,6 @@ impl<'a> IntoIterator for &'a Object {
 
     type IntoIter = Iter<'a>;
 
-    ghost use Rattle.jzon_tree.specs.Entries.{entries_of};
-
     ghost into_iter_gives = { λ object it. it ≡ entries_of object.now };
 
     fn into_iter(self) -> Iter<'a> {
@@ -335,8 +333,6 @@ impl<'a> IntoIterator for &'a mut Object {
     type Item = (&'a str, &'a mut JsonValue);
 
     type IntoIter = IterMut<'a>;
-
-    ghost use Rattle.jzon_tree.specs.Entries.{entries_of};
 
     ghost into_iter_gives = { λ object it. iter_mut_rest it ≡ entries_of object.now };
 
@@ -397,7 +393,6 @@ impl IntoIterator for Object {
 
     type IntoIter = IntoIter;
 
-    ghost use Rattle.jzon_tree.specs.Entries.{entries_of};
     ghost use Rattle.jzon_tree.specs.IntoIter.{entries_left};
 
     ghost into_iter_gives = { λ object it. entries_left it ≡ entries_of object };

@@ -3,6 +3,7 @@ use Rattle.std.specs.Prelude.{◌≡◌, ℕ, ◌<◌, Bool, true, false, IsTrue
 use Rattle.std.specs.Prelude.{Result, slice_index_or}
 use Rattle.jzon_tree.specs.Displayed.{comma_text}
 use Rattle.jzon_tree.specs.Generator.{Emitted, Added, Stopped}
+use Rattle.jzon_tree.specs.Lawful.{IsValue}
 use Rattle.jzon_tree.specs.Text.{quoted}
 use Rattle.jzon_tree.specs.Value.{Value, null, values_of}
 use Rattle.jzon_tree.specs.Writing.{Style, IsAllowedWhitespace, Writes, WritesEach, text_at, colon_text}
@@ -44,3 +45,7 @@ AreMembers s dent es ps b =
 -- the effect of writing a value, where at `Err` the prefix is promised only if K holds
 abbrev pub PrintsIf : {E : Type 0} → Type 0 → (List ℕ → Type 0) → Emitted → Emitted → Result (Unit {0}) E → Type 0
 PrintsIf K P old new r = MatchResult r (λ _. Added P old new) (λ _. K → Stopped P old new)
+
+-- the same of a value, where the prefix is promised only if the value is valid
+abbrev pub PrintsValue : {E : Type 0} → Value → Emitted → Emitted → Result (Unit {0}) E → Type 0
+PrintsValue v old new r = PrintsIf (IsValue v) (Writes old.style old.dent v) old new r

@@ -1,11 +1,11 @@
 //! `Display` of a value (docs/RULES.md, "Layouts"). It writes to the formatter as it goes, and
 //! allocates nothing.
 
-ghost use Rattle.std.specs.Prelude.{◌≡◌, false};
+ghost use Rattle.std.specs.Prelude.{◌≡◌, Some, false};
 ghost use Rattle.std.specs.Fmt.{WritesOnOk};
 ghost use Rattle.jzon_base.specs.NumberText.{written_text};
 ghost use Rattle.jzon_base.specs.Private.PlainBytes.{is_plain};
-ghost use Rattle.jzon_tree.specs.Displayed.{comma_text, member_text};
+ghost use Rattle.jzon_tree.specs.Displayed.{comma_text, displayed, member_text};
 ghost use Rattle.jzon_tree.specs.Text.{compact, escaped_byte, quoted};
 ghost use Rattle.jzon_tree.specs.Value.{array};
 ghost use Rattle.jzon_tree.specs.View.{view, view_object, view_values};
@@ -20,10 +20,6 @@ use std::{fmt, str};
 /// A string without quotes, a number as `Number` shows it, and all else as in the compact layout.
 /// An error is the formatter's.
 impl fmt::Display for JsonValue {
-    ghost use Rattle.std.specs.Prelude.{Some};
-    ghost use Rattle.jzon_tree.specs.Displayed.{displayed};
-    ghost use Rattle.jzon_tree.specs.View.{view};
-
     ghost output = { λ value. Some (displayed (view value)) };
 
     fn fmt<W: fmt::Write>(&self, f: &mut fmt::Formatter<W>) -> fmt::Result {

@@ -5,7 +5,7 @@ ghost use Rattle.jzon_base.specs.PairList.{keys_of};
 ghost use Rattle.jzon_tree.specs.Entries.{entries_of};
 ghost use Rattle.jzon_tree.specs.Generator.{Emits, IsAnswer, Prints, positions};
 ghost use Rattle.jzon_tree.specs.Lawful.{IsValue, AreValues, ArePairs, IsPair};
-ghost use Rattle.jzon_tree.specs.Private.Printing.{IsBetween, IsClosing, AreItems, IsEntry, AreMembers, PrintsIf};
+ghost use Rattle.jzon_tree.specs.Private.Printing.{IsBetween, IsClosing, AreItems, IsEntry, AreMembers, PrintsIf, PrintsValue};
 ghost use Rattle.jzon_tree.specs.Value.{array};
 ghost use Rattle.jzon_tree.specs.View.{view, view_object, view_values, view_pairs, viewed};
 ghost use Rattle.jzon_tree.specs.Writing.{Writes};
@@ -72,9 +72,7 @@ pub(crate) fn write_value<G: Generator>(
     json: &JsonValue,
     slot: &mut ErrorSlot,
 ) -> SlotResult<()>
-    ensures written { PrintsIf (IsValue (view json.now))
-        (Writes (G.meaning g.old).style (G.meaning g.old).dent (view json.now))
-        (G.meaning g.old) (G.meaning g.new) result }
+    ensures written { PrintsValue (view json.now) (G.meaning g.old) (G.meaning g.new) result }
     ensures slot { OnErr result (IsSome slot.new) }
     ensures value { OnOk result (IsValue (view json.now)) }
 {
@@ -96,9 +94,8 @@ pub(crate) fn write_value<G: Generator>(
 #[cycle(write_value)]
 #[inline(never)]
 fn write_array<G: Generator>(g: &mut G, items: &[JsonValue], slot: &mut ErrorSlot) -> SlotResult<()>
-    ensures written { PrintsIf (AreValues (view_values items.now))
-        (Writes (G.meaning g.old).style (G.meaning g.old).dent (array (view_values items.now)))
-        (G.meaning g.old) (G.meaning g.new) result }
+    ensures written { PrintsValue (array (view_values items.now)) (G.meaning g.old)
+        (G.meaning g.new) result }
     ensures slot { OnErr result (IsSome slot.new) }
     ensures value { OnOk result (AreValues (view_values items.now)) }
 {
@@ -134,9 +131,8 @@ pub(crate) fn write_pairs<G: Generator>(
     object: &Object,
     slot: &mut ErrorSlot,
 ) -> SlotResult<()>
-    ensures written { PrintsIf (IsValue (view_object object.now))
-        (Writes (G.meaning g.old).style (G.meaning g.old).dent (view_object object.now))
-        (G.meaning g.old) (G.meaning g.new) result }
+    ensures written { PrintsValue (view_object object.now) (G.meaning g.old) (G.meaning g.new)
+        result }
     ensures slot { OnErr result (IsSome slot.new) }
     ensures value { OnOk result (IsValue (view_object object.now)) }
 {
