@@ -1,7 +1,7 @@
 //! What the tests compare by. To prove an assertion takes seconds, and a call of one of these hardly
 //! any time.
 
-use jzon::{JsonValue, parse};
+use jzon::{Error, JsonValue, Reading, parse, parse_as};
 use std::alloc::Global;
 use std::fmt::Debug;
 use std::process::Abort;
@@ -34,39 +34,28 @@ pub fn expect_read(rt: &impl Abort, alloc: Global, text: &str, dump: &str) -> Re
     expect_dump(rt, alloc, &parse(alloc, text)?, dump)
 }
 
-/// What the text of each row means dumps the text beside it.
-pub fn expect_each_read(rt: &impl Abort, alloc: Global, rows: &[(&str, &str)]) -> Result<(), Fail> {
-    for (text, dump) in rows {
-        expect_read(rt, alloc, text, dump)?;
+/// What the text means by a reading of this strictness and depth.
+pub fn read(alloc: Global, strict: bool, depth: u16, text: &str) -> jzon::Result<JsonValue> {
+    match Reading::new(strict, depth) {
+        Some(reading) => parse_as(alloc, text, &reading),
+        None => Err(Error::OutOfMemory),
     }
-    Ok(())
 }
 
-/// The text is rejected with this message.
+/// The outcome is an error with this message.
 pub fn expect_rejected(
     rt: &impl Abort,
     alloc: Global,
-    text: &str,
+    row: &str,
+    outcome: jzon::Result<JsonValue>,
     message: &str,
 ) -> Result<(), Fail> {
-    match parse(alloc, text) {
-        Ok(_) => expect(rt, text, false),
+    match outcome {
+        Ok(_) => expect(rt, row, false),
         Err(error) => {
             let words = error.to_string(alloc)?;
-            expect_eq(rt, text, words.as_str(), message);
+            expect_eq(rt, row, words.as_str(), message);
         }
-    }
-    Ok(())
-}
-
-/// The text of each row is rejected with the message beside it.
-pub fn expect_each_rejected(
-    rt: &impl Abort,
-    alloc: Global,
-    rows: &[(&str, &str)],
-) -> Result<(), Fail> {
-    for (text, message) in rows {
-        expect_rejected(rt, alloc, text, message)?;
     }
     Ok(())
 }

@@ -1,119 +1,76 @@
 //! Large texts, faults late in them, each depth, and what is left of a text that is rejected.
 
-use crate::common::{expect, expect_dump, expect_eq, expect_rejected};
-use jzon::{Error, Reading, parse, parse_as};
-use jzon_test_support::{RUNS_MAX, Refusals, joined, keys_by_hash, object_text};
+use crate::common::{expect, expect_dump, expect_rejected, read};
+use jzon::{Error, parse};
+use jzon_test_support::{Long, RUNS_MAX, Refusals, joined, keys_by_hash, object_text, spelled};
 use std::alloc::Global;
 use std::process::Abort;
 use std::test::Fail;
 
-/// Pieces of a text, each with how often it comes.
-type Parts = &'static [(&'static str, usize)];
-
 /// A text, and its dump.
-const READ: &[(Parts, Parts)] = &[
+const READ: &[(Long, Long)] = &[
     (
-        &[("\"", 1), ("\\uD834\\uDD1E", 70000), ("\"", 1)],
-        &[("\"", 1), ("\u{1d11e}", 70000), ("\"", 1)],
+        ("\"", &[("\\uD834\\uDD1E", 70000, "\"")]),
+        ("\"", &[("\u{1d11e}", 70000, "\"")]),
     ),
     (
-        &[("\"", 1), ("p", 200000), ("\\u0001\\u0041\"", 1)],
-        &[("\"", 1), ("p", 200000), ("\\u0001A\"", 1)],
+        ("\"", &[("p", 200000, "\\u0001\\u0041\"")]),
+        ("\"", &[("p", 200000, "\\u0001A\"")]),
     ),
     (
-        &[
-            ("[\"\\n", 1),
-            ("p", 200000),
-            ("\\u0009", 1),
-            ("é", 70000),
-            ("\"]", 1),
-        ],
-        &[
-            ("[\"\\n", 1),
-            ("p", 200000),
-            ("\\t", 1),
-            ("é", 70000),
-            ("\"]", 1),
-        ],
+        ("[\"\\n", &[("p", 200000, "\\u0009"), ("é", 70000, "\"]")]),
+        ("[\"\\n", &[("p", 200000, "\\t"), ("é", 70000, "\"]")]),
     ),
     (
-        &[
-            ("{\"", 1),
-            ("\\n", 200000),
-            ("\":\"", 1),
-            ("\\u00e9", 70000),
-            ("\"}", 1),
-        ],
-        &[
-            ("{\"", 1),
-            ("\\n", 200000),
-            ("\":\"", 1),
-            ("é", 70000),
-            ("\"}", 1),
-        ],
+        (
+            "{\"",
+            &[("\\n", 200000, "\":\""), ("\\u00e9", 70000, "\"}")],
+        ),
+        ("{\"", &[("\\n", 200000, "\":\""), ("é", 70000, "\"}")]),
     ),
     (
-        &[
-            (" ", 70000),
-            ("[", 1),
-            ("\t", 70000),
-            ("1", 1),
-            ("\n", 70000),
-            (",2]", 1),
-        ],
-        &[("[1,2]", 1)],
+        (
+            "",
+            &[(" ", 70000, "["), ("\t", 70000, "1"), ("\n", 70000, ",2]")],
+        ),
+        ("[1,2]", &[]),
     ),
     (
-        &[
-            ("{", 1),
-            ("\n ", 70000),
-            ("\"a\"", 1),
-            (" ", 70000),
-            (":", 1),
-            ("\r", 70000),
-            ("{}}", 1),
-        ],
-        &[("{\"a\":{}}", 1)],
+        (
+            "{",
+            &[
+                ("\n ", 70000, "\"a\""),
+                (" ", 70000, ":"),
+                ("\r", 70000, "{}}"),
+            ],
+        ),
+        ("{\"a\":{}}", &[]),
     ),
     (
-        &[("[", 1), (" ", 70000), ("]", 1), ("\r\n", 70000)],
-        &[("[]", 1)],
+        ("[", &[(" ", 70000, "]"), ("\r\n", 70000, "")]),
+        ("[]", &[]),
     ),
     (
-        &[
-            ("[9.", 1),
-            ("9", 200000),
-            (",1e", 1),
-            ("9", 200000),
-            (",1e-", 1),
-            ("9", 200000),
-            ("]", 1),
-        ],
-        &[("[9.999999999999999999,1e32767,1e-32768]", 1)],
+        (
+            "[9.",
+            &[
+                ("9", 200000, ",1e"),
+                ("9", 200000, ",1e-"),
+                ("9", 200000, "]"),
+            ],
+        ),
+        ("[9.999999999999999999,1e32767,1e-32768]", &[]),
     ),
     (
-        &[
-            ("[8", 1),
-            ("0", 32785),
-            (",0.", 1),
-            ("0", 32767),
-            ("1,0.", 1),
-            ("0", 32768),
-            ("]", 1),
-        ],
-        &[("[8.000000000000000000e32785,1e-32768,0]", 1)],
+        (
+            "[8",
+            &[("0", 32785, ",0."), ("0", 32767, "1,0."), ("0", 32768, "]")],
+        ),
+        ("[8.000000000000000000e32785,1e-32768,0]", &[]),
     ),
     (
-        &[
-            ("[{}", 1),
-            (",[[[{\"a\":[{},null]}]],\"é\"]", 70000),
-            ("]", 1),
-        ],
-        &[
-            ("[{}", 1),
-            (",[[[{\"a\":[{},null]}]],\"é\"]", 70000),
-            ("]", 1),
-        ],
+        ("[{}", &[(",[[[{\"a\":[{},null]}]],\"é\"]", 70000, "]")]),
+        ("[{}", &[(",[[[{\"a\":[{},null]}]],\"é\"]", 70000, "]")]),
     ),
 ];
 
@@ -121,9 +78,9 @@ const READ: &[(Parts, Parts)] = &[
 #[test]
 fn reads_large_texts(rt: HostRuntime) -> Result<(), Fail> {
     let alloc = rt.alloc();
-    for (parts, dumped) in READ {
-        let text = joined(alloc, parts)?;
-        let dump = joined(alloc, dumped)?;
+    for (text, dump) in READ {
+        let text = spelled(alloc, text)?;
+        let dump = spelled(alloc, dump)?;
         let value = parse(alloc, text.as_str())?;
         expect_dump(&rt, alloc, &value, dump.as_str())?;
         let strict = read(alloc, true, 512, text.as_str())?;
@@ -164,139 +121,124 @@ fn makes_little_room_after_a_large_object(rt: HostRuntime) -> Result<(), Fail> {
     Ok(())
 }
 
-/// What the text means by a reading of this strictness and depth.
-fn read(alloc: Global, strict: bool, depth: u16, text: &str) -> jzon::Result<jzon::JsonValue> {
-    match Reading::new(strict, depth) {
-        Some(reading) => parse_as(alloc, text, &reading),
-        None => Err(Error::FailedUtf8Parsing),
-    }
-}
+/// Whether the reading is strict, a text, and its first wrong character, with line and column.
+const WRONG_LATE: &[(bool, Long, &str)] = &[
+    (false, ("[\n", &[("1,\n", 70000, "x")]), "x at (70002:1)"),
+    (true, ("[", &[("1,", 35000, "x")]), "x at (1:70002)"),
+    (false, ("[\"", &[("é", 70000, "\" x")]), "x at (1:70005)"),
+    (true, ("[", &[("\n", 70000, "é")]), "é at (70001:1)"),
+    (false, ("\"", &[("p", 200000, "\\x")]), "x at (1:200003)"),
+    (false, ("\"", &[("\\n", 70000, "\n")]), "\n at (1:140002)"),
+    (
+        false,
+        ("{\"a\":1", &[(",\"a\":1", 70000, ",}")]),
+        "} at (1:420008)",
+    ),
+    (true, ("[", &[(" ", 70000, "\u{c}")]), "\u{c} at (1:70002)"),
+    (false, ("", &[("[", 512, "x")]), "x at (1:513)"),
+];
+
+const DEEP: &str = "Exceeded depth limit";
+
+const END: &str = "Unexpected end of JSON";
+
+const NO_PAIR: &str = "Failed to parse UTF-8 bytes";
 
 /// Whether the reading is strict, a text, and the message of its first fault.
-const REJECTED: &[(bool, Parts, &str)] = &[
+const REJECTED: &[(bool, Long, &str)] = &[
+    (false, ("\"", &[("p", 200000, "\\uDC00\\uDC00")]), NO_PAIR),
+    (true, ("{\"", &[("\\n", 70000, "\\ud800\\u0041")]), NO_PAIR),
+    (true, ("[8", &[("0", 32786, "]")]), DEEP),
+    (false, ("[0.", &[("0", 32769, "]")]), DEEP),
+    (true, ("[8", &[("0", 200000, ",")]), DEEP),
+    (true, ("{\"a\":[", &[("\"b\",", 70000, "")]), END),
+    // More digits than a number may have.
+    (false, ("8", &[("0", 32786, "")]), DEEP),
+    (false, ("8", &[("0", 40000, "e-40000")]), DEEP),
+    (false, ("0.", &[("0", 32769, "")]), DEEP),
+    (false, ("0.", &[("0", 40000, "")]), DEEP),
+    (false, ("0.", &[("0", 40000, "e40000")]), DEEP),
+    (false, ("8", &[("0", 32786, ".")]), DEEP),
+    (false, ("8", &[("0", 32786, ".e")]), DEEP),
+    (false, ("-0.", &[("0", 32769, "ex")]), DEEP),
+    // Open containers.
+    (false, ("[0", &[(",0", 70000, ","), ("[", 512, "1")]), DEEP),
+    (false, ("[0", &[(",0", 70000, ","), ("[", 512, "")]), END),
+    (false, ("", &[("[", 513, "null"), ("]", 513, "")]), DEEP),
     (
         false,
-        &[("[\n", 1), ("1,\n", 70000), ("x", 1)],
-        "Unexpected character: x at (70002:1)",
+        ("", &[("[{\"a\":", 5000, "null"), ("}]", 5000, "")]),
+        DEEP,
     ),
+    (
+        false,
+        ("", &[("[", 512, "{\"a\":1}"), ("]", 512, "")]),
+        DEEP,
+    ),
+    (
+        false,
+        ("", &[("{\"a\":", 512, "[1]"), ("}", 512, "")]),
+        DEEP,
+    ),
+    (false, ("", &[("[", 513, "}")]), DEEP),
+    (false, ("", &[("[", 513, "x")]), DEEP),
+    (false, ("", &[("[", 100000, "")]), DEEP),
+    (false, ("", &[("[", 512, "{1")]), DEEP),
+    (false, ("", &[("[", 513, "")]), END),
+    (false, ("", &[("[", 512, "{ ")]), END),
+    // Texts without end.
+    (false, ("", &[("[{\"a\":", 100000, "")]), DEEP),
+    (false, ("\"", &[("a", 100000, "")]), END),
+    (false, ("\"", &[("\\", 100000, "")]), END),
+    (false, ("[", &[("1,", 100000, "")]), END),
+    (false, ("", &[(" ", 100000, "")]), END),
+    // Keys that are repeated.
     (
         true,
-        &[("[", 1), ("1,", 35000), ("x", 1)],
-        "Unexpected character: x at (1:70002)",
-    ),
-    (
-        false,
-        &[("[\"", 1), ("é", 70000), ("\" x", 1)],
-        "Unexpected character: x at (1:70005)",
-    ),
-    (
-        true,
-        &[("[", 1), ("\n", 70000), ("é", 1)],
-        "Unexpected character: é at (70001:1)",
-    ),
-    (
-        false,
-        &[("\"", 1), ("p", 200000), ("\\x", 1)],
-        "Unexpected character: x at (1:200003)",
-    ),
-    (
-        false,
-        &[("\"", 1), ("\\n", 70000), ("\n", 1)],
-        "Unexpected character: \n at (1:140002)",
-    ),
-    (
-        false,
-        &[("{\"a\":1", 1), (",\"a\":1", 70000), (",}", 1)],
-        "Unexpected character: } at (1:420008)",
-    ),
-    (
-        false,
-        &[("\"", 1), ("p", 200000), ("\\uDC00\\uDC00", 1)],
-        "Failed to parse UTF-8 bytes",
-    ),
-    (
-        true,
-        &[("{\"", 1), ("\\n", 70000), ("\\ud800\\u0041", 1)],
-        "Failed to parse UTF-8 bytes",
-    ),
-    (
-        false,
-        &[("[0", 1), (",0", 70000), (",", 1), ("[", 512), ("1", 1)],
-        "Exceeded depth limit",
-    ),
-    (
-        true,
-        &[("[8", 1), ("0", 32786), ("]", 1)],
-        "Exceeded depth limit",
-    ),
-    (
-        false,
-        &[("[0.", 1), ("0", 32769), ("]", 1)],
-        "Exceeded depth limit",
-    ),
-    (
-        true,
-        &[("[8", 1), ("0", 200000), (",", 1)],
-        "Exceeded depth limit",
-    ),
-    (
-        false,
-        &[("[0", 1), (",0", 70000), (",", 1), ("[", 512)],
-        "Unexpected end of JSON",
-    ),
-    (
-        true,
-        &[("{\"a\":[", 1), ("\"b\",", 70000)],
-        "Unexpected end of JSON",
-    ),
-    (
-        true,
-        &[("[", 1), (" ", 70000), ("\u{c}", 1)],
-        "Unexpected character: \u{c} at (1:70002)",
-    ),
-    (
-        true,
-        &[
-            ("{\"", 1),
-            ("k", 200000),
-            ("\":1,\"", 1),
-            ("k", 200000),
-            ("\":2}", 1),
-        ],
+        ("{\"", &[("k", 200000, "\":1,\""), ("k", 200000, "\":2}")]),
         "Duplicate key at (1:200007)",
     ),
     (
         true,
-        &[("{\"a\":1,", 1), ("\n", 70000), ("\"\\u0061\"", 1)],
+        ("{\"a\":1,", &[("\n", 70000, "\"\\u0061\"")]),
         "Duplicate key at (70001:1)",
     ),
     (
         true,
-        &[("{\"a\":1,\"b\":\"", 1), ("é", 70000), ("\",\"a\":2}", 1)],
+        ("{\"a\":1,\"b\":\"", &[("é", 70000, "\",\"a\":2}")]),
         "Duplicate key at (1:70015)",
     ),
     (
         true,
-        &[("[", 1), ("{\"a\":1},", 70000), ("{\"a\":1,\"a\"", 1)],
+        ("[", &[("{\"a\":1},", 70000, "{\"a\":1,\"a\"")]),
         "Duplicate key at (1:560009)",
     ),
 ];
 
-/// Also by `parse`, if the reading isn't strict.
+/// The text is rejected with this message, also by `parse` if the reading isn't strict.
+fn expect_late_fault(
+    rt: &impl Abort,
+    alloc: Global,
+    strict: bool,
+    text: &Long,
+    message: &str,
+) -> Result<(), Fail> {
+    let text = spelled(alloc, text)?;
+    if !strict {
+        expect_rejected(rt, alloc, message, parse(alloc, text.as_str()), message)?;
+    }
+    let outcome = read(alloc, strict, 512, text.as_str());
+    expect_rejected(rt, alloc, message, outcome, message)
+}
+
 #[test]
 fn rejects_late_faults(rt: HostRuntime) -> Result<(), Fail> {
-    for (strict, parts, message) in REJECTED {
-        let text = joined(rt.alloc(), parts)?;
-        if !*strict {
-            expect_rejected(&rt, rt.alloc(), text.as_str(), message)?;
-        }
-        match read(rt.alloc(), *strict, 512, text.as_str()) {
-            Ok(_) => expect(&rt, message, false),
-            Err(error) => {
-                let words = error.to_string(rt.alloc())?;
-                expect_eq(&rt, message, words.as_str(), *message);
-            }
-        }
+    for (strict, text, place) in WRONG_LATE {
+        let message = format!(in rt.alloc(); "Unexpected character: {place}")?;
+        expect_late_fault(&rt, rt.alloc(), *strict, text, message.as_str())?;
+    }
+    for (strict, text, message) in REJECTED {
+        expect_late_fault(&rt, rt.alloc(), *strict, text, message)?;
     }
     Ok(())
 }
@@ -376,30 +318,33 @@ fn prefixes_under_refusals(rt: HostRuntime) -> Result<(), Fail> {
 }
 
 /// Texts that are rejected in many or deep containers, or for a key that is repeated in one.
-const DROPPED: &[Parts] = &[
-    &[
-        ("[0", 1),
-        (",\"a text of more than thirty bytes\"", 5000),
-        (",]", 1),
-    ],
-    &[("[\"a text of more than thirty bytes\",", 512)],
-    &[("{\"0123456789abcdef0123456789abcdef!\":", 512), ("x", 1)],
-    &[
-        ("[\"a text of more than thirty bytes\",{\"a\":", 256),
-        ("]", 1),
-    ],
-    &[
-        ("{\"0123456789abcdef0123456789abcdef!\":[[\"a\"],", 256),
-        ("[1", 1),
-    ],
-    &[("[[1],[{\"a\":\"a text of more than thirty bytes\",\"a\"", 1)],
-    &[
-        (
-            "{\"a\":[1],\"b\":[{\"0123456789abcdef0123456789abcdef!\":[1],",
-            1,
-        ),
-        ("\"0123456789abcdef0123456789abcdef!\":[", 1),
-    ],
+const DROPPED: &[Long] = &[
+    (
+        "[0",
+        &[(",\"a text of more than thirty bytes\"", 5000, ",]")],
+    ),
+    ("", &[("[\"a text of more than thirty bytes\",", 512, "")]),
+    ("", &[("{\"0123456789abcdef0123456789abcdef!\":", 512, "x")]),
+    (
+        "",
+        &[("[\"a text of more than thirty bytes\",{\"a\":", 256, "]")],
+    ),
+    (
+        "",
+        &[(
+            "{\"0123456789abcdef0123456789abcdef!\":[[\"a\"],",
+            256,
+            "[1",
+        )],
+    ),
+    (
+        "[[1],[{\"a\":\"a text of more than thirty bytes\",\"a\"",
+        &[],
+    ),
+    (
+        "{\"a\":[1],\"b\":[{\"0123456789abcdef0123456789abcdef!\":[1],",
+        &[("\"0123456789abcdef0123456789abcdef!\":[", 1, "")],
+    ),
 ];
 
 /// More than the rejected texts take.
@@ -420,8 +365,8 @@ fn expect_nothing_left(rt: &(impl Eprint + Abort), alloc: Global, text: &str) ->
 #[test]
 fn rejections_counted(rt: HostRuntime) -> Result<(), Fail> {
     let alloc = rt.alloc();
-    for parts in DROPPED {
-        expect_nothing_left(&rt, alloc, joined(alloc, parts)?.as_str())?;
+    for text in DROPPED {
+        expect_nothing_left(&rt, alloc, spelled(alloc, text)?.as_str())?;
     }
     let text = object_text(alloc, keys_by_hash(alloc, 5000)?.as_slice())?;
     let text = text.replace(alloc, "null", "\"a text of more than thirty bytes\"")?;

@@ -4,10 +4,6 @@
 #[cfg(test)]
 mod common;
 #[cfg(test)]
-mod forms;
-#[cfg(test)]
-mod hostile;
-#[cfg(test)]
 mod large;
 #[cfg(test)]
 mod macros;

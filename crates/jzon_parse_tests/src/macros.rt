@@ -14,12 +14,6 @@ fn containers(alloc: Global) -> Result<JsonValue> {
     )
 }
 
-#[test]
-fn builds_containers(rt: HostRuntime) -> std::result::Result<(), Fail> {
-    let text = "[{},{\"a\":null},[null],[],null,null]";
-    expect_dump(&rt, rt.alloc(), &containers(rt.alloc())?, text)
-}
-
 /// An object with each form of a key, one with a key twice, and arrays and objects of nothing.
 fn asked(alloc: Global, key: &str) -> Result<JsonValue> {
     Ok(jzon::array![alloc;
@@ -66,6 +60,61 @@ fn values(alloc: Global, one: u8) -> Result<JsonValue> {
     ])
 }
 
+fn basic(alloc: Global) -> Result<JsonValue> {
+    Ok(jzon::object! {alloc; a: 1, b: true, c: false, d: null, e: 2})
+}
+
+fn listed(alloc: Global) -> Result<JsonValue> {
+    Ok(jzon::object! {alloc; a: 1, f: [1, 2, 3, false, true, [], {}]})
+}
+
+fn deep(alloc: Global) -> Result<JsonValue> {
+    Ok(jzon::object! {alloc; a: 1, b: {c: 2, d: {h: [{z: 1}, {y: 2, x: [{}, {}]}]}, j: []}})
+}
+
+fn array(alloc: Global) -> Result<JsonValue> {
+    Ok(jzon::array![alloc; 1, 2, 3, false, true, [], {}])
+}
+
+/// What these values dump, in this order.
+const BUILT: [&str; 11] = [
+    "[{},{\"a\":null},[null],[],null,null]",
+    "[{\"foo\":false,\"bar\":null,\"z\":42,\"list\":[null,\"world\",true]},{\"a\":2},[],{},[],{}]",
+    "[-1,3,1,2,true,[-2,2],{\"a\":-3}]",
+    "{\"a\":-1,\"b\":3,\" z \":1,\"z\":2,\"e\":-4}",
+    "{\"z\":{\"x\":-1,\"y\":[-2,{\"z\":2}]},\"l\":\"m\"}",
+    "[null,[],[-1,2],{},{\"a\":-1,\"b\":{\"c\":1}}]",
+    "[1,true,-1,3,\"x\",2,-5]",
+    "{\"a\":1,\"b\":true,\"c\":false,\"d\":null,\"e\":2}",
+    "{\"a\":1,\"f\":[1,2,3,false,true,[],{}]}",
+    "{\"a\":1,\"b\":{\"c\":2,\"d\":{\"h\":[{\"z\":1},{\"y\":2,\"x\":[{},{}]}]},\"j\":[]}}",
+    "[1,2,3,false,true,[],{}]",
+];
+
+/// Each value dumps its text, and is what this text means.
+#[test]
+fn builds_expressions(rt: HostRuntime) -> std::result::Result<(), Fail> {
+    let alloc = rt.alloc();
+    let built = [
+        containers(alloc)?,
+        asked(alloc, "z")?,
+        elements(alloc, 1)?,
+        members(alloc, 1, " z ")?,
+        last_members(alloc, 1, " z ")?,
+        forms(alloc, 1)?,
+        values(alloc, 1)?,
+        basic(alloc)?,
+        listed(alloc)?,
+        deep(alloc)?,
+        array(alloc)?,
+    ];
+    for (value, text) in built.iter().zip(BUILT) {
+        expect_dump(&rt, alloc, value, text)?;
+        expect(&rt, text, parse(alloc, text)? == *value);
+    }
+    Ok(())
+}
+
 /// The number of the call, counted from 1.
 fn next(calls: &mut u8) -> u8 {
     *calls = calls.saturating_add(1);
@@ -96,12 +145,8 @@ fn with_counted_entries(alloc: Global, calls: &mut u8) -> Result<JsonValue> {
 fn evaluates_keys_before_values(rt: HostRuntime) -> std::result::Result<(), Fail> {
     let mut calls = 0;
     let value = with_counted_entries(rt.alloc(), &mut calls)?;
-    expect_dump(
-        &rt,
-        rt.alloc(),
-        &value,
-        "{\"1\":2,\"3\":4,\"5\":[6],\"7\":8}",
-    )?;
+    let text = "{\"1\":2,\"3\":4,\"5\":[6],\"7\":8}";
+    expect_dump(&rt, rt.alloc(), &value, text)?;
     expect(&rt, "the calls", calls == 8);
     Ok(())
 }
@@ -114,22 +159,13 @@ fn counted_alloc(calls: &mut usize, alloc: Global) -> Global {
 
 /// Each form of each macro, with an allocator that is counted.
 fn with_counted_allocs(alloc: Global, calls: &mut usize) -> std::result::Result<JsonValue, Fail> {
-    let mut values = JsonValue::new_array(alloc);
-    values.push(
-        alloc,
+    Ok(jzon::array![alloc;
         jzon::array![counted_alloc(calls, alloc); 1, -2, [3], {a: 4}],
-    )?;
-    values.push(
-        alloc,
-        jzon::object! {counted_alloc(calls, alloc); a: 1, "b" => -2, c: [3], d: {}},
-    )?;
-    values.push(alloc, jzon::value!(counted_alloc(calls, alloc); [1, -2]))?;
-    values.push(
-        alloc,
+        jzon::object!{counted_alloc(calls, alloc); a: 1, "b" => -2, c: [3], d: {}},
+        jzon::value!(counted_alloc(calls, alloc); [1, -2]),
         jzon::value!(counted_alloc(calls, alloc); {a: 1, "b" => -2}),
-    )?;
-    values.push(alloc, jzon::value!(counted_alloc(calls, alloc); -5))?;
-    Ok(values)
+        jzon::value!(counted_alloc(calls, alloc); -5),
+    ])
 }
 
 /// The allocator is evaluated once too, and the error may be another one that is `From<Error>`.
@@ -177,78 +213,28 @@ impl IntoJson for Unconvertible {
     }
 }
 
-/// A macro, and an expression of one token or of several, whose conversion fails.
-#[derive(Clone, Copy)]
-enum Failing {
-    Item,
-    LongItem,
-    Entry,
-    LongEntry,
-    LongEntryLast,
-    Value,
-    LongValue,
-}
-
-impl Failing {
-    fn build(self, alloc: Global) -> Result<JsonValue> {
-        let item = Unconvertible;
-        Ok(match self {
-            Failing::Item => jzon::array![alloc; 1, item, 2],
-            Failing::LongItem => jzon::array![alloc; 1, Some(item), 2],
-            Failing::Entry => jzon::object! {alloc; a: item, b: 1},
-            Failing::LongEntry => jzon::object! {alloc; a: Some(item), b: 1},
-            Failing::LongEntryLast => jzon::object! {alloc; a: [1], "b" => Some(item)},
-            Failing::Value => jzon::value!(alloc; item),
-            Failing::LongValue => jzon::value!(alloc; [[Some(item)]]),
-        })
-    }
+/// One of seven uses of the macros: an expression of one token or of several, whose conversion
+/// fails, as an element, as the value of an entry, and alone.
+fn build_unconvertible(alloc: Global, number: u8) -> Result<JsonValue> {
+    let item = Unconvertible;
+    Ok(match number {
+        0 => jzon::array![alloc; 1, item, 2],
+        1 => jzon::array![alloc; 1, Some(item), 2],
+        2 => jzon::object! {alloc; a: item, b: 1},
+        3 => jzon::object! {alloc; a: Some(item), b: 1},
+        4 => jzon::object! {alloc; a: [1], "b" => Some(item)},
+        5 => jzon::value!(alloc; item),
+        _ => jzon::value!(alloc; [[Some(item)]]),
+    })
 }
 
 /// The error is propagated.
 #[test]
 fn fails_where_a_conversion_fails(rt: HostRuntime) {
-    for failing in [
-        Failing::Item,
-        Failing::LongItem,
-        Failing::Entry,
-        Failing::LongEntry,
-        Failing::LongEntryLast,
-        Failing::Value,
-        Failing::LongValue,
-    ] {
-        let outcome = failing.build(rt.alloc());
+    for number in 0..7 {
+        let outcome = build_unconvertible(rt.alloc(), number);
         expect(&rt, "the error", matches!(outcome, Err(Error::OutOfMemory)));
     }
-}
-
-const BUILT: [&str; 5] = [
-    "[{\"foo\":false,\"bar\":null,\"z\":42,\"list\":[null,\"world\",true]},{\"a\":2},[],{},[],{}]",
-    "[-1,3,1,2,true,[-2,2],{\"a\":-3}]",
-    "{\"a\":-1,\"b\":3,\" z \":1,\"z\":2,\"e\":-4}",
-    "{\"z\":{\"x\":-1,\"y\":[-2,{\"z\":2}]},\"l\":\"m\"}",
-    "[null,[],[-1,2],{},{\"a\":-1,\"b\":{\"c\":1}}]",
-];
-
-#[test]
-fn builds_expressions(rt: HostRuntime) -> Result<()> {
-    let alloc = rt.alloc();
-    let built = [
-        asked(alloc, "z")?,
-        elements(alloc, 1)?,
-        members(alloc, 1, " z ")?,
-        last_members(alloc, 1, " z ")?,
-        forms(alloc, 1)?,
-    ];
-    for (value, text) in built.iter().zip(BUILT) {
-        expect(&rt, text, value.dump(alloc)?.as_str() == text);
-    }
-    Ok(())
-}
-
-#[test]
-fn builds_values(rt: HostRuntime) -> std::result::Result<(), Fail> {
-    let text = "[1,true,-1,3,\"x\",2,-5]";
-    expect_dump(&rt, rt.alloc(), &values(rt.alloc(), 1)?, text)
 }
 
 /// The value by `value!`, of one token and of several, as an element, and as the value of an entry.
@@ -275,22 +261,10 @@ fn builds_large_values(rt: HostRuntime) -> std::result::Result<(), Fail> {
     for text in &texts {
         let value = held(alloc, &parse(alloc, text.as_str())?)?;
         let text = text.as_str();
-        let parts = [
-            ("[", 1),
-            (text, 1),
-            (",", 1),
-            (text, 1),
-            (",[", 1),
-            (text, 1),
-            (",", 1),
-            (text, 1),
-            ("],{\"a\":", 1),
-            (text, 1),
-            (",\"b\":", 1),
-            (text, 1),
-            ("}]", 1),
-        ];
-        expect_dump(&rt, alloc, &value, joined(alloc, &parts)?.as_str())?;
+        let dump = format!(in alloc;
+            "[{text},{text},[{text},{text}],{{\"a\":{text},\"b\":{text}}}]"
+        )?;
+        expect_dump(&rt, alloc, &value, dump.as_str())?;
     }
     Ok(())
 }

@@ -1,8 +1,8 @@
 //! Readings: which exist, what they accept and reject, and what they admit.
 
-use crate::common::{expect, expect_dump, expect_eq};
+use crate::common::{expect, expect_dump, expect_eq, expect_rejected, read};
 use jzon::number::NAN;
-use jzon::{JsonValue, Reading, parse, parse_as};
+use jzon::{JsonValue, Reading, parse};
 use std::test::Fail;
 
 /// Whether it is strict, the depth, and whether there is such a reading.
@@ -19,14 +19,11 @@ const READINGS: &[(bool, u16, bool)] = &[
 #[test]
 fn has_at_most_512_open(rt: HostRuntime) {
     for (strict, depth, is_some) in READINGS {
-        match Reading::new(*strict, *depth) {
-            Some(reading) => {
-                expect(&rt, "a reading", *is_some);
-                expect_eq(&rt, "strict", reading.strict(), *strict);
-                expect_eq(&rt, "the depth", reading.depth(), *depth);
-            }
-            None => expect(&rt, "no reading", !*is_some),
-        }
+        let reading = Reading::new(*strict, *depth);
+        expect_eq(&rt, "a reading", reading.is_some(), *is_some);
+        let found = reading.map(|reading| (reading.strict(), reading.depth()));
+        let is_right = found.is_none_or(|found| found == (*strict, *depth));
+        expect(&rt, "its strictness and depth", is_right);
     }
 }
 
@@ -57,13 +54,8 @@ const ACCEPTED: &[(bool, u16, &str, &str)] = &[
 #[test]
 fn accepts(rt: HostRuntime) -> Result<(), Fail> {
     for (strict, depth, text, dump) in ACCEPTED {
-        match Reading::new(*strict, *depth) {
-            Some(reading) => {
-                let value = parse_as(rt.alloc(), text, &reading)?;
-                expect_dump(&rt, rt.alloc(), &value, dump)?;
-            }
-            None => expect(&rt, text, false),
-        }
+        let value = read(rt.alloc(), *strict, *depth, text)?;
+        expect_dump(&rt, rt.alloc(), &value, dump)?;
     }
     Ok(())
 }
@@ -77,56 +69,31 @@ const FAULTS: &[(bool, u16, &str, &str)] = &[
     (false, 0, "x", "Unexpected character: x at (1:1)"),
     (false, 1, "[[1]]", "Exceeded depth limit"),
     (false, 1, "[1,{\"a\":2}]", "Exceeded depth limit"),
-    (true, 512, "{\"a\":1,\"a\"", "Duplicate key at (1:8)"),
-    (true, 512, "{\"a\":1,\"a", "Unexpected end of JSON"),
-    (true, 512, "{\"a\":1,\"a\"x", "Duplicate key at (1:8)"),
-    (true, 512, "{\"a\":1,\n\"a\":2}", "Duplicate key at (2:1)"),
-    (
-        true,
-        512,
-        "{\"a\":1,\"\\u0061\":2}",
-        "Duplicate key at (1:8)",
-    ),
-    (
-        true,
-        512,
-        "[\"é\",{\"é\":1,\"é\":2}]",
-        "Duplicate key at (1:13)",
-    ),
-    (
-        true,
-        512,
-        "{\"a\":[1],\"b\":2,\"a\":3}",
-        "Duplicate key at (1:16)",
-    ),
-    (
-        true,
-        512,
-        "[\u{c}1]",
-        "Unexpected character: \u{c} at (1:2)",
-    ),
-    (true, 512, "\u{b}1", "Unexpected character: \u{b} at (1:1)"),
-    (
-        true,
-        1,
-        "{\"a\":1,\"b\":[1],\"a\":2}",
-        "Exceeded depth limit",
-    ),
+    (true, 1, r#"{"a":1,"b":[1],"a":2}"#, "Exceeded depth limit"),
+];
+
+/// A text, and the message of its first fault by the strict reading of depth 512.
+const STRICT_FAULTS: &[(&str, &str)] = &[
+    ("{\"a\":1,\"a\"", "Duplicate key at (1:8)"),
+    ("{\"a\":1,\"a", "Unexpected end of JSON"),
+    ("{\"a\":1,\"a\"x", "Duplicate key at (1:8)"),
+    ("{\"a\":1,\n\"a\":2}", "Duplicate key at (2:1)"),
+    ("{\"a\":1,\"\\u0061\":2}", "Duplicate key at (1:8)"),
+    ("[\"é\",{\"é\":1,\"é\":2}]", "Duplicate key at (1:13)"),
+    ("{\"a\":[1],\"b\":2,\"a\":3}", "Duplicate key at (1:16)"),
+    ("[\u{c}1]", "Unexpected character: \u{c} at (1:2)"),
+    ("\u{b}1", "Unexpected character: \u{b} at (1:1)"),
 ];
 
 #[test]
 fn reports_the_first_fault(rt: HostRuntime) -> Result<(), Fail> {
     for (strict, depth, text, message) in FAULTS {
-        let Some(reading) = Reading::new(*strict, *depth) else {
-            return Err("no reading".into());
-        };
-        match parse_as(rt.alloc(), text, &reading) {
-            Ok(_) => expect(&rt, text, false),
-            Err(error) => {
-                let words = error.to_string(rt.alloc())?;
-                expect_eq(&rt, text, words.as_str(), *message);
-            }
-        }
+        let outcome = read(rt.alloc(), *strict, *depth, text);
+        expect_rejected(&rt, rt.alloc(), text, outcome, message)?;
+    }
+    for (text, message) in STRICT_FAULTS {
+        let outcome = read(rt.alloc(), true, 512, text);
+        expect_rejected(&rt, rt.alloc(), text, outcome, message)?;
     }
     Ok(())
 }
@@ -146,14 +113,11 @@ const ADMITTED: &[(u16, &str, bool)] = &[
 fn admits_what_reads_back(rt: HostRuntime) -> Result<(), Fail> {
     for (depth, text, admitted) in ADMITTED {
         let value = parse(rt.alloc(), text)?;
-        match Reading::new(true, *depth) {
-            Some(reading) => expect_eq(&rt, text, reading.admits(&value), *admitted),
-            None => expect(&rt, text, false),
-        }
+        let admits = Reading::new(true, *depth).map(|reading| reading.admits(&value));
+        expect_eq(&rt, text, admits, Some(*admitted));
     }
-    let Some(reading) = Reading::new(false, 512) else {
-        return Err("no reading".into());
-    };
-    expect(&rt, "NaN", !reading.admits(&JsonValue::Number(NAN)));
+    let nan = JsonValue::Number(NAN);
+    let admits = Reading::new(false, 512).map(|reading| reading.admits(&nan));
+    expect_eq(&rt, "NaN", admits, Some(false));
     Ok(())
 }

@@ -5,13 +5,10 @@ ghost use Rattle.jzon_tree.specs.Text.{compact};
 ghost use Rattle.jzon.specs.Laws.{IsReadAs};
 ghost use Rattle.jzon.specs.Reading.{usual};
 
-use crate::common::{
-    expect, expect_dump, expect_each_read, expect_each_rejected, expect_eq, expect_read,
-    expect_rejected,
-};
-use jzon::{Error, JsonValue, laws, parse};
+use crate::common::{expect, expect_dump, expect_eq, expect_read, expect_rejected};
+use jzon::{JsonValue, laws, parse};
 use jzon_test_support::joined;
-use std::alloc::Global;
+use std::alloc::{AllocError, Global};
 use std::process::Abort;
 use std::test::Fail;
 
@@ -74,6 +71,9 @@ const LITERALS_AND_NUMBERS: &[(&str, Option<(bool, u64, i16)>, &str)] = &[
     ("0.0", Some((true, 0, -1)), "0"),
     ("5E2", Some((true, 5, 2)), "500"),
     ("5e+2", Some((true, 5, 2)), "500"),
+    ("5E+2", Some((true, 5, 2)), "500"),
+    ("5e-2", Some((true, 5, -2)), "0.05"),
+    ("5E-2", Some((true, 5, -2)), "0.05"),
     ("7e70", Some((true, 7, 70)), "7e70"),
     ("5e19", Some((true, 5, 19)), "50000000000000000000"),
     (
@@ -95,15 +95,7 @@ fn reads_literals_and_numbers(rt: HostRuntime) -> Result<(), Fail> {
 }
 
 /// A prefix, what is repeated after it and how often, what comes last, and the parts of the number.
-type Long = (
-    &'static str,
-    &'static str,
-    usize,
-    &'static str,
-    (bool, u64, i16),
-);
-
-const LONG_NUMBERS: &[Long] = &[
+const LONG_NUMBERS: &[(&str, &str, usize, &str, (bool, u64, i16))] = &[
     ("1e", "9", 60, "", (true, 1, 32767)),
     ("1e", "9", 1000000, "", (true, 1, 32767)),
     ("1e-", "9", 1000000, "", (true, 1, -32768)),
@@ -138,29 +130,9 @@ fn reads_one_number_from_several_texts(rt: HostRuntime) -> Result<(), Fail> {
     Ok(())
 }
 
-/// A prefix, the number of zeros after it, and what comes last.
-const TOO_LONG: &[(&str, usize, &str)] = &[
-    ("8", 32786, ""),
-    ("8", 40000, "e-40000"),
-    ("0.", 32769, ""),
-    ("0.", 40000, ""),
-    ("0.", 40000, "e40000"),
-    ("8", 32786, "."),
-    ("8", 32786, ".e"),
-    ("-0.", 32769, "ex"),
-];
-
-#[test]
-fn rejects_digits_past_the_limits(rt: HostRuntime) -> Result<(), Fail> {
-    for (prefix, count, back) in TOO_LONG {
-        let text = joined(rt.alloc(), &[(prefix, 1), ("0", *count), (back, 1)])?;
-        let result = parse(rt.alloc(), text.as_str());
-        expect(&rt, back, matches!(result, Err(Error::ExceededDepthLimit)));
-    }
-    Ok(())
-}
-
-const ENDS_AND_WRONG_TURNS: &[(&str, &str)] = &[
+/// A text, and the message of its first fault.
+const REJECTED: &[(&str, &str)] = &[
+    // Ends and wrong turns.
     ("", "Unexpected end of JSON"),
     ("  ", "Unexpected end of JSON"),
     ("-", "Unexpected end of JSON"),
@@ -176,14 +148,7 @@ const ENDS_AND_WRONG_TURNS: &[(&str, &str)] = &[
     ("01", "Unexpected character: 1 at (1:2)"),
     ("-01", "Unexpected character: 1 at (1:3)"),
     ("1.e", "Unexpected character: e at (1:3)"),
-];
-
-#[test]
-fn reports_where_a_text_ends_early_or_goes_wrong(rt: HostRuntime) -> Result<(), Fail> {
-    expect_each_rejected(&rt, rt.alloc(), ENDS_AND_WRONG_TURNS)
-}
-
-const WRONG_CHARACTERS: &[(&str, &str)] = &[
+    // Wrong characters.
     ("1e+-", "Unexpected character: - at (1:4)"),
     ("1ee", "Unexpected character: e at (1:3)"),
     ("1 2", "Unexpected character: 2 at (1:3)"),
@@ -202,14 +167,7 @@ const WRONG_CHARACTERS: &[(&str, &str)] = &[
     ("1,", "Unexpected character: , at (1:2)"),
     ("å", "Unexpected character: å at (1:1)"),
     ("[C3A9] <=> [é]", "Unexpected character: C at (1:2)"),
-];
-
-#[test]
-fn reports_the_first_wrong_character(rt: HostRuntime) -> Result<(), Fail> {
-    expect_each_rejected(&rt, rt.alloc(), WRONG_CHARACTERS)
-}
-
-const FAULTY_STRINGS: &[(&str, &str)] = &[
+    // Strings.
     ("\"", "Unexpected end of JSON"),
     ("\"ab", "Unexpected end of JSON"),
     ("\"a\\", "Unexpected end of JSON"),
@@ -229,14 +187,7 @@ const FAULTY_STRINGS: &[(&str, &str)] = &[
     ("\"\\né\n\"", "Unexpected character: \n at (1:5)"),
     ("\"\\uDD1E\\uD834\"", "Failed to parse UTF-8 bytes"),
     ("\"\\uD834\\u0041\"", "Failed to parse UTF-8 bytes"),
-];
-
-#[test]
-fn reports_the_first_fault_of_a_string(rt: HostRuntime) -> Result<(), Fail> {
-    expect_each_rejected(&rt, rt.alloc(), FAULTY_STRINGS)
-}
-
-const FAULTY_CONTAINERS: &[(&str, &str)] = &[
+    // Containers.
     ("[", "Unexpected end of JSON"),
     ("{", "Unexpected end of JSON"),
     ("[1", "Unexpected end of JSON"),
@@ -256,14 +207,7 @@ const FAULTY_CONTAINERS: &[(&str, &str)] = &[
     ("[1,,2]", "Unexpected character: , at (1:4)"),
     ("[1 2]", "Unexpected character: 2 at (1:4)"),
     ("[1]]", "Unexpected character: ] at (1:4)"),
-];
-
-#[test]
-fn reports_the_first_fault_of_a_container(rt: HostRuntime) -> Result<(), Fail> {
-    expect_each_rejected(&rt, rt.alloc(), FAULTY_CONTAINERS)
-}
-
-const FAULTY_ITEMS: &[(&str, &str)] = &[
+    // Elements and members.
     ("[]1", "Unexpected character: 1 at (1:3)"),
     ("[0x14]", "Unexpected character: x at (1:3)"),
     ("['a']", "Unexpected character: ' at (1:2)"),
@@ -281,11 +225,32 @@ const FAULTY_ITEMS: &[(&str, &str)] = &[
     ("{\"a\":1 \"b\"}", "Unexpected character: \" at (1:8)"),
     ("{\"a\":[1}", "Unexpected character: } at (1:8)"),
     ("{\"a\":1]", "Unexpected character: ] at (1:7)"),
+    ("[1.]", "Unexpected character: ] at (1:4)"),
+    // What only looks like JSON.
+    (r"[\bare]", "Unexpected character: \\ at (1:2)"),
+    (r#"["octal \017"]"#, "Unexpected character: 0 at (1:10)"),
+    (
+        r#"{"two colons":: null}"#,
+        "Unexpected character: : at (1:15)",
+    ),
+    (r#"{"a comma", null}"#, "Unexpected character: , at (1:11)"),
+    (r#"["a colon": false]"#, "Unexpected character: : at (1:11)"),
+    ("[\"\ttab\"]", "Unexpected character: \t at (1:3)"),
+    ("[\"tab\\\t\"]", "Unexpected character: \t at (1:7)"),
+    ("[\"line\\\nbreak\"]", "Unexpected character: \n at (1:8)"),
+    ("[0e]", "Unexpected character: ] at (1:4)"),
+    ("[0e+]", "Unexpected character: ] at (1:5)"),
+    (r#"["open""#, "Unexpected end of JSON"),
+    (r#"{"call": g()}"#, "Unexpected character: g at (1:10)"),
+    (r#"{"sum": 1 + 2}"#, "Unexpected character: + at (1:11)"),
 ];
 
 #[test]
-fn reports_the_first_fault_of_an_element_or_member(rt: HostRuntime) -> Result<(), Fail> {
-    expect_each_rejected(&rt, rt.alloc(), FAULTY_ITEMS)
+fn reports_the_first_fault_of_a_text(rt: HostRuntime) -> Result<(), Fail> {
+    for (text, message) in REJECTED {
+        expect_rejected(&rt, rt.alloc(), text, parse(rt.alloc(), text), message)?;
+    }
+    Ok(())
 }
 
 /// After these a string isn't among the last bytes of a text.
@@ -378,6 +343,47 @@ fn reads_strings(rt: HostRuntime) -> Result<(), Fail> {
     Ok(())
 }
 
+/// A text with each form of the grammar but surrogate pairs.
+const EACH_FORM: &str = r#"
+[
+  "a pattern", {"one member":["one item"]}, {}, [], -42, true, false, null,
+  {"real": -9876.543210, "e": 0.123456789e-12, "E": 1.234567890E+34, "": 23456789012E66,
+   "controls": "\b\f\n\r\t", "slash": "/ & \/", "special": "`~!@#$%^&*()_+-={':[,]}|;.</>?",
+   "hex": "\u0123\uCDEF\uabcd", "array":[  ], "object":{  }, " s p a c e d " :[1,2 , 3
+
+,
+
+4 ], "\/\\\"\uCAFE\b`"
+: "a key can be any text"},
+  0.5 ,98.6
+,
+99.44
+,
+
+1e1, 0.1e1, 1e-1, 1e00,2e+00,2e-00
+,"the end"]
+
+"#;
+
+const EACH_FORM_DUMP: &str = concat!(
+    r#"["a pattern",{"one member":["one item"]},{},[],-42,true,false,null,"#,
+    r#"{"real":-9876.543210,"e":1.23456789e-13,"E":1.234567890e34,"":2.3456789012e76,"#,
+    r#""controls":"\b\f\n\r\t","slash":"/ & /","special":"`~!@#$%^&*()_+-={':[,]}|;.</>?","#,
+    r#""hex":"ģ췯ꯍ","array":[],"object":{}," s p a c e d ":[1,2,3,4],"#,
+    r#""/\\\"쫾\b`":"a key can be any text"},"#,
+    r#"0.5,98.6,99.44,10,1,0.1,1,2,2,"the end"]"#
+);
+
+/// 19 arrays, one in another.
+const NESTED: &str = "[[[[[[[[[[[[[[[[[[[\"innermost\"]]]]]]]]]]]]]]]]]]]";
+
+/// An object in an object, with empty lines before and after it.
+const OUTER: &str =
+    "\n\n{\n    \"outer\": {\n        \"a\": \"an object.\",\n        \"b c\": \"It ends.\"\n    }\n}\n\n";
+
+const OUTER_DUMP: &str = "{\"outer\":{\"a\":\"an object.\",\"b c\":\"It ends.\"}}";
+
+/// A text, and the dump of its value.
 const ARRAYS_AND_OBJECTS: &[(&str, &str)] = &[
     ("[]", "[]"),
     ("{}", "{}"),
@@ -409,11 +415,66 @@ const ARRAYS_AND_OBJECTS: &[(&str, &str)] = &[
         "{\"x\\ty\":\"z\",\"w\":\"\\u0041\"}",
         "{\"x\\ty\":\"z\",\"w\":\"A\"}",
     ),
+    (NESTED, NESTED),
+    (OUTER, OUTER_DUMP),
+    (EACH_FORM, EACH_FORM_DUMP),
 ];
 
 #[test]
 fn reads_arrays_and_objects(rt: HostRuntime) -> Result<(), Fail> {
-    expect_each_read(&rt, rt.alloc(), ARRAYS_AND_OBJECTS)
+    for (text, dump) in ARRAYS_AND_OBJECTS {
+        expect_read(&rt, rt.alloc(), text, dump)?;
+    }
+    Ok(())
+}
+
+/// A string with this escape after `position` letters, and with letters after it, 70 in all.
+fn with_escape(alloc: Global, escape: &str, position: usize) -> Result<String, AllocError> {
+    let left = 70usize.saturating_sub(position);
+    joined(
+        alloc,
+        &[
+            ("\"", 1),
+            ("a", position),
+            (escape, 1),
+            ("b", left),
+            ("\"", 1),
+        ],
+    )
+}
+
+/// An escape, or `é`, and how it is printed.
+const WRITTEN: &[(&str, &str)] = &[
+    ("\\n", "\\n"),
+    ("\\u001f", "\\u001f"),
+    ("\\uD834\\uDD1E", "\u{1d11e}"),
+    ("\\/", "/"),
+    ("é", "é"),
+];
+
+/// At each offset of the 32-byte blocks in which plain bytes are looked for.
+#[test]
+fn reads_and_prints_an_escape_at_each_position(rt: HostRuntime) -> Result<(), Fail> {
+    for (written, printed) in WRITTEN {
+        for position in 0..=70 {
+            let text = with_escape(rt.alloc(), written, position)?;
+            let dump = with_escape(rt.alloc(), printed, position)?;
+            expect_read(&rt, rt.alloc(), text.as_str(), dump.as_str())?;
+        }
+    }
+    Ok(())
+}
+
+#[test]
+fn rejects_a_control_at_each_position(rt: HostRuntime) -> Result<(), Fail> {
+    for position in 0..=70usize {
+        let text = with_escape(rt.alloc(), "\n", position)?;
+        let column = position.saturating_add(2);
+        let message = format!(in rt.alloc(); "Unexpected character: \n at (1:{column})")?;
+        let outcome = parse(rt.alloc(), text.as_str());
+        expect_rejected(&rt, rt.alloc(), text.as_str(), outcome, message.as_str())?;
+    }
+    Ok(())
 }
 
 /// The brackets, how many of each, the value inside, and its dump.
@@ -431,45 +492,6 @@ fn reads_512_open_containers(rt: HostRuntime) -> Result<(), Fail> {
         let text = joined(rt.alloc(), &[(open, *count), (inside, 1), (close, *count)])?;
         let printed = joined(rt.alloc(), &[(open, *count), (dump, 1), (close, *count)])?;
         expect_read(&rt, rt.alloc(), text.as_str(), printed.as_str())?;
-    }
-    Ok(())
-}
-
-/// The parts of a text, each with how often it comes, and the message.
-const TOO_DEEP: &[(&[(&str, usize)], &str)] = &[
-    (
-        &[("[", 513), ("null", 1), ("]", 513)],
-        "Exceeded depth limit",
-    ),
-    (
-        &[("[{\"a\":", 5000), ("null", 1), ("}]", 5000)],
-        "Exceeded depth limit",
-    ),
-    (
-        &[("[", 512), ("{\"a\":1}", 1), ("]", 512)],
-        "Exceeded depth limit",
-    ),
-    (
-        &[("{\"a\":", 512), ("[1]", 1), ("}", 512)],
-        "Exceeded depth limit",
-    ),
-    (&[("[", 513), ("}", 1)], "Exceeded depth limit"),
-    (&[("[", 513), ("x", 1)], "Exceeded depth limit"),
-    (&[("[", 100000)], "Exceeded depth limit"),
-    (&[("[", 512), ("{1", 1)], "Exceeded depth limit"),
-    (&[("[", 513)], "Unexpected end of JSON"),
-    (&[("[", 512), ("{ ", 1)], "Unexpected end of JSON"),
-    (
-        &[("[", 512), ("x", 1)],
-        "Unexpected character: x at (1:513)",
-    ),
-];
-
-#[test]
-fn rejects_another_open_container(rt: HostRuntime) -> Result<(), Fail> {
-    for (parts, message) in TOO_DEEP {
-        let text = joined(rt.alloc(), parts)?;
-        expect_rejected(&rt, rt.alloc(), text.as_str(), message)?;
     }
     Ok(())
 }

@@ -33,3 +33,15 @@ pub fn joined(alloc: Global, parts: &[(&str, usize)]) -> Result<String, AllocErr
     }
     Ok(text)
 }
+
+/// How a text begins, and then pieces, each with how often it comes and what comes once after it.
+pub type Long = (&'static str, &'static [(&'static str, usize, &'static str)]);
+
+/// The whole text.
+pub fn spelled(alloc: Global, text: &Long) -> Result<String, AllocError> {
+    let mut whole = String::from_str(alloc, text.0)?;
+    for (piece, count, next) in text.1 {
+        whole.push_str(joined(alloc, &[(piece, *count), (next, 1)])?.as_str())?;
+    }
+    Ok(whole)
+}
