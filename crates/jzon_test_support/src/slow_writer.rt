@@ -115,8 +115,8 @@ pub struct SlowWriter {
     pub calls: usize,
     /// How often `flush` was called.
     pub flushes: usize,
-    /// Whether a flush succeeds.
-    pub can_flush: bool,
+    /// What the first flush does, if it fails.
+    pub flush_trouble: Option<Trouble>,
     trouble_at: usize,
     trouble: Trouble,
 }
@@ -128,7 +128,7 @@ impl SlowWriter {
             bytes: Vec::new(alloc),
             calls: 0,
             flushes: 0,
-            can_flush: true,
+            flush_trouble: None,
             trouble_at,
             trouble,
         }
@@ -157,10 +157,9 @@ impl Write for SlowWriter {
 
     fn flush(&mut self) -> io::Result<()> {
         self.flushes = self.flushes.saturating_add(1);
-        if self.can_flush {
-            Ok(())
-        } else {
-            Err(io::Error::new(ErrorKind::StorageFull, WORDS))
+        match self.flush_trouble {
+            Some(trouble) if self.flushes == 1 => Err(trouble.error()),
+            _ => Ok(()),
         }
     }
 }

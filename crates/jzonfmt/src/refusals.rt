@@ -2,8 +2,8 @@
 //! counts blocks: bin/test runs these tests once more with it.
 
 use crate::engine;
-use crate::engine::{Layout, RunFault};
-use crate::tests::{expect, usual};
+use crate::engine::RunFault;
+use crate::tests::{NOT_WRITTEN, expect, expect_status, run};
 use jzon_test_support::{DOCUMENT, DUMP, RUNS_MAX, Refusals, SlowWriter, Trouble};
 use std::alloc::Global;
 use std::io::ErrorKind;
@@ -19,15 +19,14 @@ fn run_under_refusals(rt: HostRuntime) -> Result<(), Fail> {
         let mut reader = DOCUMENT.as_bytes();
         let mut writer: Vec<u8> = Vec::with_capacity(alloc, 256)?;
         refusals.begin();
-        let result = engine::run(alloc, &mut reader, &mut writer, &usual(), Layout::Compact);
-        if refusals.has_failed() {
-            assert!(rt; matches!(result, Err(RunFault::Memory)));
-            assert!(rt; writer.is_empty());
-        } else {
-            assert!(rt; result.is_ok());
-            assert_eq!(rt; str::from_utf8(&writer)?.strip_suffix('\n'), Some(DUMP));
+        let result = run(alloc, &mut reader, &mut writer);
+        if !refusals.has_failed() {
+            let written = str::from_utf8(&writer)?.strip_suffix('\n');
+            expect(&rt, "the output", result.is_ok() && written == Some(DUMP));
             break;
         }
+        expect(&rt, "the error", matches!(result, Err(RunFault::Memory)));
+        expect(&rt, "no output", writer.is_empty());
     }
     refusals.report(&rt, "run_under_refusals", 9)?;
     Ok(())
@@ -56,22 +55,18 @@ fn drive(
     refusals: &mut Refusals,
     row: &Driven,
 ) -> Result<bool, Fail> {
-    let mut reader = row.0;
+    let (mut reader, mut status, mut output, mut message, _) = *row;
     let mut writer: Vec<u8> = Vec::with_capacity(alloc, 64)?;
     let mut faults: Vec<u8> = Vec::with_capacity(alloc, 64)?;
     refusals.begin();
-    let status = engine::drive(alloc, &[], &mut reader, &mut writer, &mut faults);
+    let found = engine::drive(alloc, &[], &mut reader, &mut writer, &mut faults);
     let has_failed = refusals.has_failed();
     if has_failed {
-        expect(rt, "the status", status == 3);
-        let message = b"jzonfmt: Out of memory\n".as_slice();
-        expect(rt, "the message", faults.as_slice() == message);
-        expect(rt, "the output", writer.is_empty());
-    } else {
-        expect(rt, "the status", status == row.1);
-        expect(rt, "the message", faults.as_slice() == row.3);
-        expect(rt, "the output", writer.as_slice() == row.2);
+        (status, output, message) = (3, b"", b"jzonfmt: Out of memory\n");
     }
+    expect(rt, "the status", found == status);
+    expect(rt, "the message", faults.as_slice() == message);
+    expect(rt, "the output", writer.as_slice() == output);
     Ok(has_failed)
 }
 
@@ -105,13 +100,8 @@ const MOST_OF_FAILED: usize = 1 << 20;
 fn fail_at(rt: &impl Abort, alloc: Global, call: usize) {
     let mut reader: &[u8] = b"-12.50e3";
     let mut writer = SlowWriter::new(alloc, call, Trouble::Fails(ErrorKind::BrokenPipe));
-    let mut faults: Vec<u8> = Vec::new(alloc);
-    let status = engine::drive(alloc, &[], &mut reader, &mut writer, &mut faults);
-    expect(
-        rt,
-        "a writer that fails",
-        status == 3 && writer.calls == call,
-    );
+    expect_status(rt, alloc, &mut reader, &mut writer, 3, NOT_WRITTEN);
+    expect(rt, "the calls", writer.calls == call);
 }
 
 /// A run whose writer fails drops all that it allocates.
