@@ -1,16 +1,20 @@
 //! Calls that allocate, with each of their allocations failing in turn. Each run must free all that
 //! it allocates, the argument of a call that fails too.
 
+/// The rows of a table, each on a line of its own.
+macro_rules! rows {
+    ($($row:tt)*) => { &[$($row),*] };
+}
+
 mod built;
 mod changed;
 mod containers;
 mod counted;
-mod frugal;
-mod grown;
+mod many_entries;
 mod objects;
 mod owned;
+mod requested_bytes;
 mod room;
-mod sizes;
 mod written;
 
 use jzon::{Error, JsonValue, Result, parse};
@@ -29,6 +33,9 @@ const LONG_DOCUMENT: &str =
 const LONG_KEY: &str = "0123456789abcdef0123456789abcdef01234567";
 
 const LONG_TEXT: &str = "abcdefghijklmnopqrstuvwxyz01234";
+
+/// An object of this key, with null.
+const KEYED: &str = "{\"0123456789abcdef0123456789abcdef01234567\":null}";
 
 /// A call on a value. What it returns becomes the value.
 trait Call: Copy {
@@ -103,8 +110,20 @@ fn fail_each_on<C: Call>(
     Ok(())
 }
 
-/// The same on the value of the row's text.
-fn fail_each<C: Call>(rt: &(impl Eprint + Abort), alloc: Global, row: &Row<C>) -> Tested {
-    let before = parse(alloc, row.2)?;
-    fail_each_on(rt, alloc, row.0, (row.1, row.3, row.4), &before)
+/// The same for each row of a table, on the value of the row's text.
+fn fail_each<C: Call>(rt: &(impl Eprint + Abort), alloc: Global, rows: &[Row<C>]) -> Tested {
+    for row in rows {
+        let before = parse(alloc, row.2)?;
+        fail_each_on(rt, alloc, row.0, (row.1, row.3, row.4), &before)?;
+    }
+    Ok(())
+}
+
+/// A call fails because of the value's kind. If an allocation failed, this is reported instead.
+fn passed_over(answer: Result<()>) -> Result<()> {
+    match answer {
+        Err(Error::WrongType(_)) => Ok(()),
+        Err(error) => Err(error),
+        Ok(()) => Err(Error::UnexpectedEndOfJson),
+    }
 }

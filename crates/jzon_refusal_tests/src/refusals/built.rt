@@ -104,95 +104,30 @@ impl Call for Built {
 
 const MAPPED: &str = "{\"a\":\"abcdefghijklmnopqrstuvwxyz01234\"}";
 
-const BUILT: &[Row<Built>] = &[
-    (
-        Built::From,
-        "from",
-        "null",
-        "\"abcdefghijklmnopqrstuvwxyz01234\"",
-        1,
-    ),
-    (
-        Built::Texts,
-        "into_json of strings",
-        "null",
-        "[\"abcdefghijklmnopqrstuvwxyz01234\",\"\",\"abcdefghijklmnopqrstuvwxyz01234\"]",
-        4,
-    ),
-    (
-        Built::Slice,
-        "into_json of a slice",
-        "null",
-        "[\"abcdefghijklmnopqrstuvwxyz01234\",\"\"]",
-        2,
-    ),
-    (Built::Map, "into_json of a map", "null", MAPPED, 6),
-    (
-        Built::BorrowedMap,
-        "into_json of a map of borrowed keys",
-        "null",
-        MAPPED,
-        5,
-    ),
-    (Built::HashMap, "into_json of a hash map", "null", MAPPED, 8),
-    (
-        Built::OwnedHashMap,
-        "into_json of a hash map of owned keys",
-        "null",
-        MAPPED,
-        9,
-    ),
-    (
-        Built::Value,
-        "value!",
-        "null",
-        "[\"abcdefghijklmnopqrstuvwxyz01234\",null]",
-        2,
-    ),
-    (
-        Built::Expression,
-        "value! of an expression",
-        "null",
-        "\"abcdefghijklmnopqrstuvwxyz01234\"",
-        1,
-    ),
-    (
-        Built::Array,
-        "array!",
-        "null",
-        "[1,\"abcdefghijklmnopqrstuvwxyz01234\",{},\"abcdefghijklmnopqrstuvwxyz01234\"]",
-        3,
-    ),
-    (
-        Built::Object,
-        "object!",
-        "null",
-        "{\"a\":[1],\"0123456789abcdef0123456789abcdef01234567\":true,\
-          \"b\":\"abcdefghijklmnopqrstuvwxyz01234\"}",
-        6,
-    ),
-    (
-        Built::Stringify,
-        "stringify",
-        "null",
-        "\"[\\\"0123456789abcdef0123456789abcdef01234567\\\",null]\"",
-        3,
-    ),
-    (
-        Built::StringifyPretty,
-        "stringify_pretty",
-        "null",
-        "\"[\\n  \\\"0123456789abcdef0123456789abcdef01234567\\\"\\n]\"",
-        3,
-    ),
-    (Built::WrongType, "wrong_type", "null", "\"Array\"", 1),
-    (Built::Short, "Short::into_string", "null", "\"inline\"", 1),
-];
+const BUILT: &[Row<Built>] = rows! {
+    (Built::From, "from", "null", "\"abcdefghijklmnopqrstuvwxyz01234\"", 1)
+    (Built::Texts, "into_json of strings", "null",
+        "[\"abcdefghijklmnopqrstuvwxyz01234\",\"\",\"abcdefghijklmnopqrstuvwxyz01234\"]", 4)
+    (Built::Slice, "into_json of a slice", "null", "[\"abcdefghijklmnopqrstuvwxyz01234\",\"\"]", 2)
+    (Built::Map, "into_json of a map", "null", MAPPED, 6)
+    (Built::BorrowedMap, "into_json of a map of borrowed keys", "null", MAPPED, 5)
+    (Built::HashMap, "into_json of a hash map", "null", MAPPED, 8)
+    (Built::OwnedHashMap, "into_json of a hash map of owned keys", "null", MAPPED, 9)
+    (Built::Value, "value!", "null", "[\"abcdefghijklmnopqrstuvwxyz01234\",null]", 2)
+    (Built::Expression, "value! of an expression", "null", "\"abcdefghijklmnopqrstuvwxyz01234\"", 1)
+    (Built::Array, "array!", "null",
+        "[1,\"abcdefghijklmnopqrstuvwxyz01234\",{},\"abcdefghijklmnopqrstuvwxyz01234\"]", 3)
+    (Built::Object, "object!", "null", "{\"a\":[1],\"0123456789abcdef0123456789abcdef01234567\":true,\
+          \"b\":\"abcdefghijklmnopqrstuvwxyz01234\"}", 6)
+    (Built::Stringify, "stringify", "null",
+        "\"[\\\"0123456789abcdef0123456789abcdef01234567\\\",null]\"", 3)
+    (Built::StringifyPretty, "stringify_pretty", "null",
+        "\"[\\n  \\\"0123456789abcdef0123456789abcdef01234567\\\"\\n]\"", 3)
+    (Built::WrongType, "wrong_type", "null", "\"Array\"", 1)
+    (Built::Short, "Short::into_string", "null", "\"inline\"", 1)
+};
 
 #[test]
 fn built_under_refusals(rt: HostRuntime) -> Tested {
-    for row in BUILT {
-        fail_each(&rt, rt.alloc(), row)?;
-    }
-    Ok(())
+    fail_each(&rt, rt.alloc(), BUILT)
 }

@@ -8,6 +8,8 @@ use jzon_test_support::{DOCUMENT, DUMP};
 enum Changed {
     Parse(&'static str),
     ParseStrictly(&'static str),
+    ParseAndPush(&'static str),
+    ParseAndInsert(&'static str),
     Clone,
     StdClone,
     Push,
@@ -18,15 +20,6 @@ enum Changed {
     AtMut,
     AtIndexMut(usize),
     TakeString,
-}
-
-/// A wrong kind is reported where no allocation failed.
-fn passed_over(answer: Result<()>) -> Result<()> {
-    match answer {
-        Err(Error::WrongType(_)) => Ok(()),
-        Err(error) => Err(error),
-        Ok(()) => Err(Error::UnexpectedEndOfJson),
-    }
 }
 
 pub(super) fn parse_strictly(alloc: Global, text: &str) -> Result<JsonValue> {
@@ -43,22 +36,21 @@ fn take_string(value: &mut JsonValue, alloc: Global) -> Result<()> {
     Ok(())
 }
 
-/// The reference isn't used.
-fn at_mut(value: &mut JsonValue, alloc: Global) -> Result<()> {
-    value.at_mut(alloc, LONG_KEY)?;
-    Ok(())
-}
-
-fn at_index_mut(value: &mut JsonValue, alloc: Global, index: usize) -> Result<()> {
-    value.at_index_mut(alloc, index)?;
-    Ok(())
-}
-
 impl Call for Changed {
     fn call(self, value: &mut JsonValue, alloc: Global) -> Result<()> {
         match self {
             Changed::Parse(text) => *value = parse(alloc, text)?,
             Changed::ParseStrictly(text) => *value = parse_strictly(alloc, text)?,
+            Changed::ParseAndPush(text) => {
+                let mut read = parse(alloc, text)?;
+                read.push(alloc, true)?;
+                *value = read;
+            }
+            Changed::ParseAndInsert(text) => {
+                let mut read = parse(alloc, text)?;
+                read.insert(alloc, "d", true)?;
+                *value = read;
+            }
             Changed::Clone => *value = value.clone(alloc)?,
             Changed::StdClone => *value = Clone::clone(value)?,
             Changed::Push => value.push(alloc, true)?,
@@ -66,8 +58,13 @@ impl Call for Changed {
             Changed::PushOnNull => passed_over(value.push(alloc, LONG_TEXT))?,
             Changed::Insert => value.insert(alloc, LONG_KEY, true)?,
             Changed::InsertOnArray => passed_over(value.insert(alloc, "a", LONG_TEXT))?,
-            Changed::AtMut => at_mut(value, alloc)?,
-            Changed::AtIndexMut(index) => at_index_mut(value, alloc, index)?,
+            // The reference isn't used.
+            Changed::AtMut => {
+                value.at_mut(alloc, LONG_KEY)?;
+            }
+            Changed::AtIndexMut(index) => {
+                value.at_index_mut(alloc, index)?;
+            }
             Changed::TakeString => take_string(value, alloc)?,
         }
         Ok(())
@@ -120,161 +117,46 @@ const SIXTEEN_IN_ANOTHER: &str = "{\"z\":0,\"y\":{\"a\":0,\"b\":1,\"c\":2,\"d\":
 /// An array in an object: one block.
 const ARRAY_IN_OBJECT: &str = "{\"z\":0,\"y\":[1,2,3]}";
 
-const KEYED: &str = "{\"0123456789abcdef0123456789abcdef01234567\":null}";
-
-const CHANGED: &[Row<Changed>] = &[
-    (Changed::Parse(DOCUMENT), "parse", "null", DUMP, 6),
-    (
-        Changed::Parse(ESCAPED),
-        "parse of a long string",
-        "null",
-        UNESCAPED,
-        4,
-    ),
-    (
-        Changed::Parse(LONG_DOCUMENT),
-        "parse of a long key",
-        "null",
-        LONG_DOCUMENT,
-        11,
-    ),
-    (
-        Changed::Parse(REPEATED),
-        "parse of a repeated key among twenty",
-        "null",
-        TWENTY_KEYS,
-        10,
-    ),
-    (
-        Changed::Parse(ALIKE),
-        "parse of elements that are alike",
-        "null",
-        ALIKE,
-        11,
-    ),
-    (
-        Changed::Parse(ONE_IN_ANOTHER),
-        "parse of an object of one key in another",
-        "null",
-        ONE_IN_ANOTHER,
-        7,
-    ),
-    (
-        Changed::Parse(THREE_IN_ANOTHER),
-        "parse of an object of three keys in another",
-        "null",
-        THREE_IN_ANOTHER,
-        7,
-    ),
-    (
-        Changed::Parse(SIXTEEN_IN_ANOTHER),
-        "parse of an object of 16 keys in another",
-        "null",
-        SIXTEEN_IN_ANOTHER,
-        13,
-    ),
-    (
-        Changed::Parse(ARRAY_IN_OBJECT),
-        "parse of an array in an object",
-        "null",
-        ARRAY_IN_OBJECT,
-        5,
-    ),
-    (
-        Changed::ParseStrictly(DOCUMENT),
-        "strict parse_as",
-        "null",
-        DUMP,
-        6,
-    ),
-    (
-        Changed::ParseStrictly(TWENTY_KEYS),
-        "strict parse_as of twenty keys",
-        "null",
-        TWENTY_KEYS,
-        12,
-    ),
-    (Changed::Clone, "clone", DOCUMENT, DUMP, 4),
-    (
-        Changed::Clone,
-        "clone of a long key",
-        LONG_DOCUMENT,
-        LONG_DOCUMENT,
-        10,
-    ),
-    (
-        Changed::StdClone,
-        "std's Clone",
-        LONG_DOCUMENT,
-        LONG_DOCUMENT,
-        10,
-    ),
-    (Changed::Push, "push", "[]", "[true]", 1),
-    (
-        Changed::PushLongText,
-        "push of a long string",
-        "[]",
-        "[\"abcdefghijklmnopqrstuvwxyz01234\"]",
-        2,
-    ),
-    (Changed::PushOnNull, "push on null", "null", "null", 1),
-    (
-        Changed::Insert,
-        "insert",
-        "{\"a\":null}",
-        "{\"a\":null,\"0123456789abcdef0123456789abcdef01234567\":true}",
-        3,
-    ),
-    (
-        Changed::Insert,
-        "insert of the 17th key",
-        SIXTEEN_KEYS,
-        SEVENTEEN_KEYS,
-        5,
-    ),
-    (
-        Changed::InsertOnArray,
-        "insert on an array",
-        "[1]",
-        "[1]",
-        1,
-    ),
-    (Changed::AtMut, "at_mut of a number", "5", KEYED, 4),
-    (Changed::AtMut, "at_mut", "{}", KEYED, 4),
-    (
-        Changed::AtMut,
-        "at_mut of the 17th key",
-        SIXTEEN_KEYS,
-        SEVENTEENTH_NULL,
-        5,
-    ),
-    (
-        Changed::AtIndexMut(0),
-        "at_index_mut of a number",
-        "5",
-        "[null]",
-        1,
-    ),
-    (
-        Changed::AtIndexMut(9),
-        "at_index_mut",
-        "[true]",
-        "[true,null]",
-        1,
-    ),
-    (
-        Changed::TakeString,
-        "take_string",
-        "\"inline\"",
-        "\"inline\"",
-        1,
-    ),
-];
+const CHANGED: &[Row<Changed>] = rows! {
+    (Changed::Parse(DOCUMENT), "parse", "null", DUMP, 6)
+    (Changed::Parse(ESCAPED), "parse of a long string", "null", UNESCAPED, 4)
+    (Changed::Parse(LONG_DOCUMENT), "parse of a long key", "null", LONG_DOCUMENT, 11)
+    (Changed::Parse(REPEATED), "parse of a repeated key among twenty", "null", TWENTY_KEYS, 10)
+    (Changed::Parse(ALIKE), "parse of elements that are alike", "null", ALIKE, 11)
+    (Changed::Parse(ONE_IN_ANOTHER), "parse of an object of one key in another", "null",
+        ONE_IN_ANOTHER, 7)
+    (Changed::Parse(THREE_IN_ANOTHER), "parse of an object of three keys in another", "null",
+        THREE_IN_ANOTHER, 7)
+    (Changed::Parse(SIXTEEN_IN_ANOTHER), "parse of an object of 16 keys in another", "null",
+        SIXTEEN_IN_ANOTHER, 13)
+    (Changed::Parse(ARRAY_IN_OBJECT), "parse of an array in an object", "null", ARRAY_IN_OBJECT, 5)
+    (Changed::ParseStrictly(DOCUMENT), "strict parse_as", "null", DUMP, 6)
+    (Changed::ParseStrictly(TWENTY_KEYS), "strict parse_as of twenty keys", "null", TWENTY_KEYS, 12)
+    // A container that is the whole text takes the blocks of the stacks, which have room for eight:
+    // so nothing is allocated for what is added.
+    (Changed::ParseAndPush("[1,2,3]"), "push onto what was parsed", "null", "[1,2,3,true]", 1)
+    (Changed::ParseAndInsert("{\"a\":1,\"b\":2,\"c\":3}"), "insert into what was parsed", "null",
+        "{\"a\":1,\"b\":2,\"c\":3,\"d\":true}", 3)
+    (Changed::Clone, "clone", DOCUMENT, DUMP, 4)
+    (Changed::Clone, "clone of a long key", LONG_DOCUMENT, LONG_DOCUMENT, 10)
+    (Changed::StdClone, "std's Clone", LONG_DOCUMENT, LONG_DOCUMENT, 10)
+    (Changed::Push, "push", "[]", "[true]", 1)
+    (Changed::PushLongText, "push of a long string", "[]", "[\"abcdefghijklmnopqrstuvwxyz01234\"]",
+        2)
+    (Changed::PushOnNull, "push on null", "null", "null", 1)
+    (Changed::Insert, "insert", "{\"a\":null}",
+        "{\"a\":null,\"0123456789abcdef0123456789abcdef01234567\":true}", 3)
+    (Changed::Insert, "insert of the 17th key", SIXTEEN_KEYS, SEVENTEEN_KEYS, 5)
+    (Changed::InsertOnArray, "insert on an array", "[1]", "[1]", 1)
+    (Changed::AtMut, "at_mut of a number", "5", KEYED, 4)
+    (Changed::AtMut, "at_mut", "{}", KEYED, 4)
+    (Changed::AtMut, "at_mut of the 17th key", SIXTEEN_KEYS, SEVENTEENTH_NULL, 5)
+    (Changed::AtIndexMut(0), "at_index_mut of a number", "5", "[null]", 1)
+    (Changed::AtIndexMut(9), "at_index_mut", "[true]", "[true,null]", 1)
+    (Changed::TakeString, "take_string", "\"inline\"", "\"inline\"", 1)
+};
 
 #[test]
 fn changed_under_refusals(rt: HostRuntime) -> Tested {
-    for row in CHANGED {
-        fail_each(&rt, rt.alloc(), row)?;
-    }
-    Ok(())
+    fail_each(&rt, rt.alloc(), CHANGED)
 }

@@ -84,88 +84,23 @@ impl Call for OfObject {
     }
 }
 
-const KEYED: &str = "{\"0123456789abcdef0123456789abcdef01234567\":null}";
-
-const OF_OBJECTS: &[Row<OfObject>] = &[
-    (
-        OfObject::WithCapacity,
-        "Object::with_capacity",
-        "null",
-        "{}",
-        3,
-    ),
-    (OfObject::Insert, "Object::insert", "{}", KEYED, 4),
-    (OfObject::AtMut, "Object::at_mut", "{}", KEYED, 4),
-    (
-        OfObject::Clone,
-        "Object::clone",
-        LONG_DOCUMENT,
-        LONG_DOCUMENT,
-        10,
-    ),
-    (
-        OfObject::FromPairs,
-        "Object::from_pairs",
-        "null",
-        "{\"a\":3,\"b\":2}",
-        3,
-    ),
-    (
-        OfObject::StdClone,
-        "std's Clone of an object",
-        LONG_DOCUMENT,
-        LONG_DOCUMENT,
-        10,
-    ),
-    (
-        OfObject::FromBuilder,
-        "Object::from_builder",
-        "null",
-        KEYED,
-        6,
-    ),
-    (
-        OfObject::Collected,
-        "collect",
-        "null",
-        "{\"a\":\"\",\"b\":\"\"}",
-        4,
-    ),
-    (OfObject::WriteAt, "write_at", "5", KEYED, 4),
-    (
-        OfObject::WriteAtIndex,
-        "write_at_index",
-        "[true]",
-        "[true,null]",
-        1,
-    ),
-    (
-        OfObject::Key(LONG_KEY),
-        "Key::new",
-        "null",
-        "\"0123456789abcdef0123456789abcdef01234567\"",
-        1,
-    ),
-    (
-        OfObject::KeyClone,
-        "Key::clone",
-        "null",
-        "\"0123456789abcdef0123456789abcdef01234567\"",
-        2,
-    ),
-    (
-        OfObject::Key("inline"),
-        "Key::into_string",
-        "null",
-        "\"inline\"",
-        1,
-    ),
-];
+const OF_OBJECTS: &[Row<OfObject>] = rows! {
+    (OfObject::WithCapacity, "Object::with_capacity", "null", "{}", 3)
+    (OfObject::Insert, "Object::insert", "{}", KEYED, 4)
+    (OfObject::AtMut, "Object::at_mut", "{}", KEYED, 4)
+    (OfObject::Clone, "Object::clone", LONG_DOCUMENT, LONG_DOCUMENT, 10)
+    (OfObject::FromPairs, "Object::from_pairs", "null", "{\"a\":3,\"b\":2}", 3)
+    (OfObject::StdClone, "std's Clone of an object", LONG_DOCUMENT, LONG_DOCUMENT, 10)
+    (OfObject::FromBuilder, "Object::from_builder", "null", KEYED, 6)
+    (OfObject::Collected, "collect", "null", "{\"a\":\"\",\"b\":\"\"}", 4)
+    (OfObject::WriteAt, "write_at", "5", KEYED, 4)
+    (OfObject::WriteAtIndex, "write_at_index", "[true]", "[true,null]", 1)
+    (OfObject::Key(LONG_KEY), "Key::new", "null", "\"0123456789abcdef0123456789abcdef01234567\"", 1)
+    (OfObject::KeyClone, "Key::clone", "null", "\"0123456789abcdef0123456789abcdef01234567\"", 2)
+    (OfObject::Key("inline"), "Key::into_string", "null", "\"inline\"", 1)
+};
 
 #[test]
 fn objects_under_refusals(rt: HostRuntime) -> Tested {
-    for row in OF_OBJECTS {
-        fail_each(&rt, rt.alloc(), row)?;
-    }
-    Ok(())
+    fail_each(&rt, rt.alloc(), OF_OBJECTS)
 }

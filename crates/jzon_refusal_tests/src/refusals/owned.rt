@@ -11,7 +11,7 @@ use jzon_test_support::joined;
 enum Owned {
     Push,
     PushOnNull,
-    Insert,
+    Insert(&'static str),
     InsertOnArray,
     ObjectInsert,
     FromPairs,
@@ -22,9 +22,6 @@ enum Owned {
     OverrideLast,
     Clear,
     Consume,
-    InsertPresent,
-    WritePresentPresent,
-    WriteAtIndexPresent,
     AtMut,
     AtIndexMut,
     ClearArray,
@@ -41,15 +38,6 @@ fn text(alloc: Global) -> Result<String> {
 
 fn item(alloc: Global) -> Result<JsonValue> {
     Ok(JsonValue::String(text(alloc)?))
-}
-
-/// A wrong kind, and a text that is rejected, are reported where no allocation failed.
-fn passed_over(answer: Result<()>) -> Result<()> {
-    match answer {
-        Err(Error::OutOfMemory) => Err(Error::OutOfMemory),
-        Err(_) => Ok(()),
-        Ok(()) => Err(Error::UnexpectedEndOfJson),
-    }
 }
 
 fn object_insert(value: &mut JsonValue, alloc: Global) -> Result<()> {
@@ -116,15 +104,8 @@ fn retained(value: &mut JsonValue, alloc: Global) -> Result<()> {
 
 /// More entries than are gathered, of one key; then a long key and its string, five times.
 fn repeated(alloc: Global) -> Result<JsonValue> {
-    let entries = [
-        ("{\"a\":0", 1),
-        (",\"a\":0", 256),
-        (
-            ",\"0123456789abcdef0123456789abcdef01234567\":\"abcdefghijklmnopqrstuvwxyz01234\"",
-            5,
-        ),
-        ("}", 1),
-    ];
+    let entry = ",\"0123456789abcdef0123456789abcdef01234567\":\"abcdefghijklmnopqrstuvwxyz01234\"";
+    let entries = [("{\"a\":0", 1), (",\"a\":0", 256), (entry, 5), ("}", 1)];
     parse(alloc, joined(alloc, &entries)?.as_str())
 }
 
@@ -137,9 +118,13 @@ fn emptied(alloc: Global) -> Result<JsonValue> {
     Ok(object)
 }
 
+/// A text that is rejected is reported where no allocation failed.
 fn rejected(alloc: Global, text: &str) -> Result<()> {
-    parse(alloc, text)?;
-    Ok(())
+    match parse(alloc, text) {
+        Err(Error::OutOfMemory) => Err(Error::OutOfMemory),
+        Err(_) => Ok(()),
+        Ok(_) => Err(Error::UnexpectedEndOfJson),
+    }
 }
 
 impl Call for Owned {
@@ -150,7 +135,7 @@ impl Call for Owned {
                 let text = text(alloc)?;
                 passed_over(value.push(alloc, text))?;
             }
-            Owned::Insert => value.insert(alloc, LONG_KEY, text(alloc)?)?,
+            Owned::Insert(key) => value.insert(alloc, key, text(alloc)?)?,
             Owned::InsertOnArray => {
                 let text = text(alloc)?;
                 passed_over(value.insert(alloc, "a", text))?;
@@ -166,11 +151,6 @@ impl Call for Owned {
             Owned::OverrideLast => override_last(value, alloc)?,
             Owned::Clear => cleared(value, alloc)?,
             Owned::Consume => consumed(alloc)?,
-            Owned::InsertPresent => value.insert(alloc, "a", text(alloc)?)?,
-            Owned::WritePresentPresent => {
-                write_present(value, "a", item(alloc)?);
-            }
-            Owned::WriteAtIndexPresent => write_at_index(value, alloc, 1, item(alloc)?)?,
             Owned::AtMut => {
                 value.at_mut(alloc, "a")?;
             }
@@ -188,7 +168,7 @@ impl Call for Owned {
             Owned::Retain => retained(value, alloc)?,
             Owned::Repeated => *value = repeated(alloc)?,
             Owned::Emptied => *value = emptied(alloc)?,
-            Owned::Rejected(text) => passed_over(rejected(alloc, text))?,
+            Owned::Rejected(text) => rejected(alloc, text)?,
         }
         Ok(())
     }
@@ -196,6 +176,16 @@ impl Call for Owned {
 
 const KEYED: &str =
     "{\"0123456789abcdef0123456789abcdef01234567\":\"abcdefghijklmnopqrstuvwxyz01234\"}";
+
+const OTHER_TEXT: &str = "\"a text of more than thirty bytes\"";
+
+/// An object of a long string, and what it is after its string was replaced.
+const PRESENT: &str = "{\"a\":\"a text of more than thirty bytes\"}";
+
+const REPLACED: &str = "{\"a\":\"abcdefghijklmnopqrstuvwxyz01234\"}";
+
+const REPEATED: &str =
+    "{\"a\":0,\"0123456789abcdef0123456789abcdef01234567\":\"abcdefghijklmnopqrstuvwxyz01234\"}";
 
 const LISTED: &str = "[true,\"abcdefghijklmnopqrstuvwxyz01234\"]";
 
@@ -213,191 +203,39 @@ const NESTED: &str = "[{\"a\":[{\"b\":\"abcdefghijklmnopqrstuvwxyz01234\",\"c\":
 
 const AFTER_END: &str = "{\"a\":[\"abcdefghijklmnopqrstuvwxyz01234\"]}]";
 
-const OWNED: &[Row<Owned>] = &[
-    (Owned::Push, "push of an owned string", "[true]", LISTED, 2),
-    (
-        Owned::PushOnNull,
-        "push of an owned string on null",
-        "null",
-        "null",
-        2,
-    ),
-    (Owned::Insert, "insert of an owned string", "{}", KEYED, 5),
-    (
-        Owned::InsertOnArray,
-        "insert of an owned string on an array",
-        "[1]",
-        "[1]",
-        2,
-    ),
-    (
-        Owned::ObjectInsert,
-        "Object::insert of an owned string",
-        "{}",
-        KEYED,
-        5,
-    ),
-    (
-        Owned::FromPairs,
-        "Object::from_pairs of owned strings",
-        "null",
-        PAIRED,
-        9,
-    ),
-    (Owned::WriteAt, "write_at of an owned string", "5", KEYED, 5),
-    (
-        Owned::WriteAtIndex,
-        "write_at_index of an owned string",
-        "[true]",
-        LISTED,
-        2,
-    ),
-    (
-        Owned::WritePresent,
-        "write_present where nothing is present",
-        "[1]",
-        "[1]",
-        1,
-    ),
-    (
-        Owned::Remove,
-        "remove of a long key and its string",
-        "{}",
-        "{}",
-        5,
-    ),
-    (
-        Owned::OverrideLast,
-        "override_last of a long string",
-        "{\"a\":\"a text of more than thirty bytes\"}",
-        "{\"a\":\"abcdefghijklmnopqrstuvwxyz01234\"}",
-        1,
-    ),
-    (
-        Owned::Clear,
-        "Object::clear of a long key and its string",
-        "{}",
-        "{}",
-        5,
-    ),
-    (
-        Owned::Consume,
-        "consume of bytes that aren't UTF-8",
-        "null",
-        "null",
-        1,
-    ),
-    (
-        Owned::InsertPresent,
-        "insert over a long string",
-        "{\"a\":\"a text of more than thirty bytes\"}",
-        "{\"a\":\"abcdefghijklmnopqrstuvwxyz01234\"}",
-        1,
-    ),
-    (
-        Owned::WritePresentPresent,
-        "write_present over a long string",
-        "{\"a\":\"a text of more than thirty bytes\"}",
-        "{\"a\":\"abcdefghijklmnopqrstuvwxyz01234\"}",
-        1,
-    ),
-    (
-        Owned::WriteAtIndexPresent,
-        "write_at_index over a long string",
-        "[true,\"a text of more than thirty bytes\"]",
-        LISTED,
-        1,
-    ),
-    (
-        Owned::AtIndexMut,
-        "at_index_mut of a long string",
-        "\"a text of more than thirty bytes\"",
-        "[null,null]",
-        1,
-    ),
-    (
-        Owned::AtMut,
-        "at_mut of a long string",
-        "\"a text of more than thirty bytes\"",
-        "{\"a\":null}",
-        3,
-    ),
-    (
-        Owned::ClearArray,
-        "clear of an array and its string",
-        "[]",
-        "[]",
-        2,
-    ),
-    (
-        Owned::ClearString,
-        "clear of an allocated string",
-        "null",
-        "\"\"",
-        1,
-    ),
-    (
-        Owned::Retain,
-        "retain of a long key and its string",
-        "{}",
-        "{}",
-        5,
-    ),
-    (
-        Owned::Repeated,
-        "parse of long keys repeated among many",
-        "null",
-        "{\"a\":0,\"0123456789abcdef0123456789abcdef01234567\":\"abcdefghijklmnopqrstuvwxyz01234\"}",
-        35,
-    ),
-    (
-        Owned::Emptied,
-        "clear of containers in an object",
-        "null",
-        "{\"a\":[],\"b\":{},\"d\":[]}",
-        14,
-    ),
-    (
-        Owned::Rejected(IN_ARRAY),
-        "parse rejects in an array",
-        "null",
-        "null",
-        2,
-    ),
-    (
-        Owned::Rejected(IN_OBJECT),
-        "parse rejects in an object",
-        "null",
-        "null",
-        5,
-    ),
-    (
-        Owned::Rejected(AFTER_KEY),
-        "parse rejects after a key",
-        "null",
-        "null",
-        4,
-    ),
-    (
-        Owned::Rejected(NESTED),
-        "parse rejects in NESTED containers",
-        "null",
-        "null",
-        6,
-    ),
-    (
-        Owned::Rejected(AFTER_END),
-        "parse rejects after the end",
-        "null",
-        "null",
-        6,
-    ),
-];
+const OWNED: &[Row<Owned>] = rows! {
+    (Owned::Push, "push of an owned string", "[true]", LISTED, 2)
+    (Owned::PushOnNull, "push of an owned string on null", "null", "null", 2)
+    (Owned::Insert(LONG_KEY), "insert of an owned string", "{}", KEYED, 5)
+    (Owned::InsertOnArray, "insert of an owned string on an array", "[1]", "[1]", 2)
+    (Owned::ObjectInsert, "Object::insert of an owned string", "{}", KEYED, 5)
+    (Owned::FromPairs, "Object::from_pairs of owned strings", "null", PAIRED, 9)
+    (Owned::WriteAt, "write_at of an owned string", "5", KEYED, 5)
+    (Owned::WriteAtIndex, "write_at_index of an owned string", "[true]", LISTED, 2)
+    (Owned::WritePresent, "write_present where nothing is present", "[1]", "[1]", 1)
+    (Owned::Remove, "remove of a long key and its string", "{}", "{}", 5)
+    (Owned::OverrideLast, "override_last of a long string", PRESENT, REPLACED, 1)
+    (Owned::Clear, "Object::clear of a long key and its string", "{}", "{}", 5)
+    (Owned::Consume, "consume of bytes that aren't UTF-8", "null", "null", 1)
+    (Owned::Insert("a"), "insert over a long string", PRESENT, REPLACED, 1)
+    (Owned::WritePresent, "write_present over a long string", PRESENT, REPLACED, 1)
+    (Owned::WriteAtIndex, "write_at_index over a long string",
+        "[true,\"a text of more than thirty bytes\"]", LISTED, 1)
+    (Owned::AtIndexMut, "at_index_mut of a long string", OTHER_TEXT, "[null,null]", 1)
+    (Owned::AtMut, "at_mut of a long string", OTHER_TEXT, "{\"a\":null}", 3)
+    (Owned::ClearArray, "clear of an array and its string", "[]", "[]", 2)
+    (Owned::ClearString, "clear of an allocated string", "null", "\"\"", 1)
+    (Owned::Retain, "retain of a long key and its string", "{}", "{}", 5)
+    (Owned::Repeated, "parse of long keys repeated among many", "null", REPEATED, 35)
+    (Owned::Emptied, "clear of containers in an object", "null", "{\"a\":[],\"b\":{},\"d\":[]}", 14)
+    (Owned::Rejected(IN_ARRAY), "parse rejects in an array", "null", "null", 2)
+    (Owned::Rejected(IN_OBJECT), "parse rejects in an object", "null", "null", 5)
+    (Owned::Rejected(AFTER_KEY), "parse rejects after a key", "null", "null", 4)
+    (Owned::Rejected(NESTED), "parse rejects in NESTED containers", "null", "null", 6)
+    (Owned::Rejected(AFTER_END), "parse rejects after the end", "null", "null", 6)
+};
 
 #[test]
 fn owned_under_refusals(rt: HostRuntime) -> Tested {
-    for row in OWNED {
-        fail_each(&rt, rt.alloc(), row)?;
-    }
-    Ok(())
+    fail_each(&rt, rt.alloc(), OWNED)
 }

@@ -2,6 +2,7 @@
 
 use super::*;
 use jzon::codegen::{Compact, DumpGenerator, Pretty, PrettyGenerator, write_json};
+use jzon::{stringify, stringify_pretty};
 use jzon_test_support::{DOCUMENT, joined};
 use std::io;
 use std::io::ErrorKind;
@@ -19,6 +20,8 @@ enum Writing {
     Write,
     WritePretty,
     WriteLayout,
+    Stringify,
+    StringifyPretty,
 }
 
 /// The result of a writer in memory, whose one error is a failed allocation.
@@ -30,17 +33,11 @@ fn of_memory(outcome: io::Result<()>) -> Result<()> {
     }
 }
 
-fn dump_of(value: &JsonValue, alloc: Global) -> Result<String> {
-    match value {
-        JsonValue::Object(object) => object.dump(alloc),
-        _ => Ok(String::new(alloc)),
-    }
-}
-
-fn pretty_of(value: &JsonValue, alloc: Global) -> Result<String> {
-    match value {
-        JsonValue::Object(object) => object.pretty(alloc, 2),
-        _ => Ok(String::new(alloc)),
+fn object_text(call: Writing, value: &JsonValue, alloc: Global) -> Result<String> {
+    match (call, value.as_object()) {
+        (Writing::ObjectDump, Some(object)) => object.dump(alloc),
+        (_, Some(object)) => object.pretty(alloc, 2),
+        _ => Err(Error::UnexpectedEndOfJson),
     }
 }
 
@@ -63,21 +60,13 @@ fn text_of(bytes: Vec<u8>) -> Result<String> {
     }
 }
 
-fn written(value: &JsonValue, alloc: Global) -> Result<String> {
+fn written(call: Writing, value: &JsonValue, alloc: Global) -> Result<String> {
     let mut bytes = Vec::new(alloc);
-    of_memory(value.write(&mut bytes))?;
-    text_of(bytes)
-}
-
-fn pretty_written(value: &JsonValue, alloc: Global) -> Result<String> {
-    let mut bytes = Vec::new(alloc);
-    of_memory(value.write_pretty(&mut bytes, 2))?;
-    text_of(bytes)
-}
-
-fn laid_out(value: &JsonValue, alloc: Global) -> Result<String> {
-    let mut bytes = Vec::new(alloc);
-    of_memory(value.write_layout(&mut bytes, Pretty(2)))?;
+    of_memory(match call {
+        Writing::Write => value.write(&mut bytes),
+        Writing::WritePretty => value.write_pretty(&mut bytes, 2),
+        _ => value.write_layout(&mut bytes, Pretty(2)),
+    })?;
     text_of(bytes)
 }
 
@@ -86,15 +75,14 @@ impl Call for Writing {
         let text = match self {
             Writing::Dump => value.dump(alloc)?,
             Writing::Pretty => value.pretty(alloc, 2)?,
-            Writing::ObjectDump => dump_of(value, alloc)?,
-            Writing::ObjectPretty => pretty_of(value, alloc)?,
+            Writing::ObjectDump | Writing::ObjectPretty => object_text(self, value, alloc)?,
             Writing::LayOut => value.lay_out(alloc, Compact)?,
             Writing::PrettyLayOut => value.lay_out(alloc, Pretty(2))?,
             Writing::DumpGenerator => dumped(value, alloc)?,
             Writing::PrettyGenerator => prettified(value, alloc)?,
-            Writing::Write => written(value, alloc)?,
-            Writing::WritePretty => pretty_written(value, alloc)?,
-            Writing::WriteLayout => laid_out(value, alloc)?,
+            Writing::Stringify => stringify(alloc, value.take())?,
+            Writing::StringifyPretty => stringify_pretty(alloc, value.take(), 2)?,
+            _ => written(self, value, alloc)?,
         };
         *value = JsonValue::String(text);
         Ok(())
@@ -140,10 +128,7 @@ const GROWING: &[(Writing, &str)] = &[
 
 #[test]
 fn written_under_refusals(rt: HostRuntime) -> Tested {
-    for row in WRITTEN {
-        fail_each(&rt, rt.alloc(), row)?;
-    }
-    Ok(())
+    fail_each(&rt, rt.alloc(), WRITTEN)
 }
 
 #[test]
@@ -157,6 +142,32 @@ fn grown_texts_under_refusals(rt: HostRuntime) -> Tested {
     let before = parse(alloc, source.as_str())?;
     for (call, name) in GROWING {
         fail_each_on(&rt, alloc, *call, (name, text.as_str(), 2), &before)?;
+    }
+    Ok(())
+}
+
+const SHORT: &[(Writing, &str)] = &[
+    (Writing::Dump, "dump of a short text"),
+    (Writing::Pretty, "pretty of a short text"),
+    (Writing::PrettyLayOut, "lay_out of a short text"),
+    (Writing::ObjectDump, "Object::dump of a short text"),
+    (Writing::ObjectPretty, "Object::pretty of a short text"),
+    (Writing::Stringify, "stringify of a short text"),
+    (Writing::StringifyPretty, "stringify_pretty of a short text"),
+];
+
+/// Each requests room for 1,024 bytes, once.
+#[test]
+fn texts_counted(rt: HostRuntime) -> Tested {
+    let alloc = rt.alloc();
+    for (call, name) in SHORT {
+        let mut value = parse(alloc, LONG_DOCUMENT)?;
+        let mut refusals = Refusals::new(alloc);
+        refusals.open();
+        call.call(&mut value, alloc)?;
+        refusals.expect_within(&rt, name, 1024)?;
+        let text = value.as_str().unwrap_or("");
+        expect(&rt, name, text.contains("a text of more than thirty bytes"));
     }
     Ok(())
 }

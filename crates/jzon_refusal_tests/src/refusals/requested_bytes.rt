@@ -9,7 +9,7 @@ use jzon::codegen::{
 use jzon::lent::{write_at, write_at_index, write_present};
 use jzon::object::{Key, Object};
 use jzon::short::Short;
-use jzon::{IntoJson, Reading, parse_as, stringify, stringify_pretty};
+use jzon::{IntoJson, Reading, parse_as};
 use jzon_test_support::{joined, keys_by_hash};
 use jzon_tree::object::Builder;
 use std::fmt::Write;
@@ -308,120 +308,63 @@ impl Call for Frugal {
     }
 }
 
-/// The calls on an object.
-const OF_OBJECT: &[(Frugal, &str)] = &[
-    (Frugal::Insert("69999"), "insert of a present key"),
-    (Frugal::Insert(LONG_KEY), "insert of a present long key"),
-    (Frugal::AtMut("69999"), "at_mut of a present key"),
-    (Frugal::AtMut(LONG_KEY), "at_mut of a present long key"),
-    (Frugal::WriteAt("1"), "write_at of a present key"),
-    (Frugal::WriteAt(LONG_KEY), "write_at of a present long key"),
-    (Frugal::WritePresent, "write_present"),
-    (Frugal::GetMut, "get_mut"),
-    (Frugal::Remove, "remove"),
-    (
-        Frugal::ObjectInsert("69999"),
-        "Object::insert of a present key",
-    ),
-    (
-        Frugal::ObjectInsert(LONG_KEY),
-        "Object::insert of a present long key",
-    ),
-    (
-        Frugal::ObjectAtMut("69999"),
-        "Object::at_mut of a present key",
-    ),
-    (
-        Frugal::ObjectAtMut(LONG_KEY),
-        "Object::at_mut of a present long key",
-    ),
-    (Frugal::OverrideLast, "Object::override_last"),
-    (Frugal::Retain, "Object::retain"),
-    (Frugal::IntoIter, "into_iter"),
-    (Frugal::Clear, "clear of an object"),
-    (Frugal::Take, "take of an object"),
-    (Frugal::Read, "readers of an object"),
-    (Frugal::Lend, "what lends parts of an object"),
-    (Frugal::Equal, "== of objects"),
-    (Frugal::Write, "what writes an object"),
-    (Frugal::Generate, "generators of an object"),
-    (Frugal::Order, "order of an object"),
-    (Frugal::Admits, "admits of an object"),
-    (Frugal::Display, "Display of an object"),
-    (Frugal::IntoJson, "into_json of an object"),
-    (Frugal::From, "From of an object"),
-    (Frugal::New, "what makes something empty"),
-    (Frugal::Inline, "what is stored inline"),
-    (Frugal::Parse, "parse of primitives"),
-];
+/// A call, its name, and the kinds of values on which it requests nothing.
+const CALLS: &[(Frugal, &str, &str)] = rows! {
+    (Frugal::Insert("69999"), "insert of a present key", "object")
+    (Frugal::Insert(LONG_KEY), "insert of a present long key", "object")
+    (Frugal::AtMut("69999"), "at_mut of a present key", "object")
+    (Frugal::AtMut(LONG_KEY), "at_mut of a present long key", "object")
+    (Frugal::WriteAt("1"), "write_at of a present key", "object")
+    (Frugal::WriteAt(LONG_KEY), "write_at of a present long key", "object")
+    (Frugal::WritePresent, "write_present", "object")
+    (Frugal::GetMut, "get_mut", "object")
+    (Frugal::Remove, "remove", "object nothing")
+    (Frugal::ObjectInsert("69999"), "Object::insert of a present key", "object")
+    (Frugal::ObjectInsert(LONG_KEY), "Object::insert of a present long key", "object")
+    (Frugal::ObjectAtMut("69999"), "Object::at_mut of a present key", "object")
+    (Frugal::ObjectAtMut(LONG_KEY), "Object::at_mut of a present long key", "object")
+    (Frugal::OverrideLast, "Object::override_last", "object nothing")
+    (Frugal::Retain, "Object::retain", "object nothing")
+    (Frugal::IntoIter, "into_iter", "object nothing")
+    (Frugal::ArrayRemove, "array_remove", "array nothing")
+    (Frugal::Pop, "pop", "array nothing")
+    (Frugal::AtIndexMut, "at_index_mut in range", "array")
+    (Frugal::WriteAtIndex, "write_at_index in range", "array")
+    (Frugal::TakeString, "take_string of an allocated string", "string")
+    (Frugal::Clear, "clear", "object array string nothing")
+    (Frugal::Take, "take", "object array string nothing")
+    (Frugal::Read, "readers", "object array")
+    (Frugal::Lend, "what lends parts", "object array string")
+    (Frugal::Equal, "==", "object array string nothing")
+    (Frugal::Write, "what writes", "object array string nothing")
+    (Frugal::Generate, "generators", "object array string nothing")
+    (Frugal::Order, "order", "object nothing")
+    (Frugal::Admits, "admits", "object array string nothing")
+    (Frugal::Display, "Display", "object array string nothing")
+    (Frugal::IntoJson, "into_json", "object array string nothing")
+    (Frugal::From, "From", "object string nothing")
+    (Frugal::New, "what makes something empty", "object")
+    (Frugal::Inline, "what is stored inline", "object")
+    (Frugal::Parse, "parse of primitives", "object")
+};
 
-/// The calls on an array.
-const OF_ARRAY: &[(Frugal, &str)] = &[
-    (Frugal::ArrayRemove, "array_remove"),
-    (Frugal::Pop, "pop"),
-    (Frugal::AtIndexMut, "at_index_mut in range"),
-    (Frugal::WriteAtIndex, "write_at_index in range"),
-    (Frugal::Clear, "clear of an array"),
-    (Frugal::Take, "take of an array"),
-    (Frugal::Read, "readers of an array"),
-    (Frugal::Lend, "what lends parts of an array"),
-    (Frugal::Equal, "== of arrays"),
-    (Frugal::Write, "what writes an array"),
-    (Frugal::Generate, "generators of an array"),
-    (Frugal::Admits, "admits of an array"),
-    (Frugal::Display, "Display of an array"),
-    (Frugal::IntoJson, "into_json of an array"),
-];
-
-/// The calls on a string that is allocated.
-const OF_STRING: &[(Frugal, &str)] = &[
-    (Frugal::TakeString, "take_string of an allocated string"),
-    (Frugal::Clear, "clear of a string"),
-    (Frugal::Take, "take of a string"),
-    (Frugal::Lend, "what lends parts of a string"),
-    (Frugal::Equal, "== of strings"),
-    (Frugal::Write, "what writes a string"),
-    (Frugal::Generate, "generators of a string"),
-    (Frugal::Admits, "admits of a string"),
-    (Frugal::Display, "Display of a string"),
-    (Frugal::IntoJson, "into_json of a string"),
-    (Frugal::From, "From of a string"),
-];
-
-/// The calls on what is empty, or is no container.
-const OF_EMPTY: &[(Frugal, &str)] = &[
-    (Frugal::Remove, "remove from nothing"),
-    (Frugal::ArrayRemove, "array_remove from nothing"),
-    (Frugal::Pop, "pop of nothing"),
-    (Frugal::OverrideLast, "Object::override_last of nothing"),
-    (Frugal::Retain, "Object::retain of nothing"),
-    (Frugal::IntoIter, "into_iter of nothing"),
-    (Frugal::Clear, "clear of nothing"),
-    (Frugal::Take, "take of nothing"),
-    (Frugal::Equal, "== of nothing"),
-    (Frugal::Write, "what writes nothing"),
-    (Frugal::Generate, "generators of nothing"),
-    (Frugal::Order, "order of nothing"),
-    (Frugal::Admits, "admits of nothing"),
-    (Frugal::Display, "Display of nothing"),
-    (Frugal::IntoJson, "into_json of nothing"),
-    (Frugal::From, "From of nothing"),
-];
-
-/// Each call succeeds on a copy of the value, and requests no byte.
+/// Each call of this kind succeeds on a copy of the value, and requests no byte.
 fn expect_frugal(
     rt: &(impl Eprint + Abort),
     alloc: Global,
+    kind: &str,
     whole: &JsonValue,
-    calls: &[(Frugal, &str)],
 ) -> Tested {
-    for (call, name) in calls {
-        let mut value = whole.clone(alloc)?;
-        let mut refusals = Refusals::new(alloc);
-        refusals.open();
-        let outcome = call.call(&mut value, alloc);
-        refusals.expect_within(rt, name, 0)?;
-        expect(rt, name, outcome.is_ok());
+    for (call, name, kinds) in CALLS {
+        if kinds.contains(kind) {
+            let name = format!(in alloc; "{kind}: {name}")?;
+            let mut value = whole.clone(alloc)?;
+            let mut refusals = Refusals::new(alloc);
+            refusals.open();
+            let outcome = call.call(&mut value, alloc);
+            refusals.expect_within(rt, name.as_str(), 0)?;
+            expect(rt, name.as_str(), outcome.is_ok());
+        }
     }
     Ok(())
 }
@@ -429,13 +372,13 @@ fn expect_frugal(
 #[test]
 fn no_memory_counted(rt: HostRuntime) -> Tested {
     let alloc = rt.alloc();
-    expect_frugal(&rt, alloc, &numbered(alloc)?, OF_OBJECT)?;
-    expect_frugal(&rt, alloc, &numbers(alloc)?, OF_ARRAY)?;
+    expect_frugal(&rt, alloc, "object", &numbered(alloc)?)?;
+    expect_frugal(&rt, alloc, "array", &numbers(alloc)?)?;
     let long = JsonValue::String(joined(alloc, &[("plain\n", 20000)])?);
-    expect_frugal(&rt, alloc, &long, OF_STRING)
+    expect_frugal(&rt, alloc, "string", &long)
 }
 
-/// Also on what is empty, and on an object that was emptied.
+/// Also on what is empty or no container, and on an object that was emptied.
 #[test]
 fn no_memory_for_nothing_counted(rt: HostRuntime) -> Tested {
     let alloc = rt.alloc();
@@ -448,7 +391,7 @@ fn no_memory_for_nothing_counted(rt: HostRuntime) -> Tested {
         JsonValue::String(String::new(alloc)),
         emptied,
     ] {
-        expect_frugal(&rt, alloc, &value, OF_EMPTY)?;
+        expect_frugal(&rt, alloc, "nothing", &value)?;
     }
     Ok(())
 }
@@ -492,65 +435,6 @@ fn made_counted(rt: HostRuntime) -> Tested {
         let made = call.make(alloc, list, &array)?;
         refusals.expect_within(&rt, name, 48 * COUNT as usize)?;
         expect(&rt, name, made == array);
-    }
-    Ok(())
-}
-
-/// What prints a short text into memory.
-#[derive(Clone, Copy)]
-enum Text {
-    Dump,
-    Pretty,
-    LayOut,
-    ObjectDump,
-    ObjectPretty,
-    Stringify,
-    StringifyPretty,
-}
-
-impl Text {
-    fn print(self, alloc: Global, value: JsonValue) -> Result<String> {
-        match self {
-            Text::Dump => value.dump(alloc),
-            Text::Pretty => value.pretty(alloc, 2),
-            Text::LayOut => value.lay_out(alloc, Pretty(2)),
-            Text::Stringify => stringify(alloc, value),
-            Text::StringifyPretty => stringify_pretty(alloc, value, 2),
-            Text::ObjectDump | Text::ObjectPretty => self.print_object(alloc, &value),
-        }
-    }
-
-    fn print_object(self, alloc: Global, value: &JsonValue) -> Result<String> {
-        match (self, value.as_object()) {
-            (Text::ObjectDump, Some(object)) => object.dump(alloc),
-            (_, Some(object)) => object.pretty(alloc, 2),
-            _ => Err(Error::UnexpectedEndOfJson),
-        }
-    }
-}
-
-const TEXTS: [(Text, &str); 7] = [
-    (Text::Dump, "dump of a short text"),
-    (Text::Pretty, "pretty of a short text"),
-    (Text::LayOut, "lay_out of a short text"),
-    (Text::ObjectDump, "Object::dump of a short text"),
-    (Text::ObjectPretty, "Object::pretty of a short text"),
-    (Text::Stringify, "stringify of a short text"),
-    (Text::StringifyPretty, "stringify_pretty of a short text"),
-];
-
-/// Each requests room for 1,024 bytes, once.
-#[test]
-fn texts_counted(rt: HostRuntime) -> Tested {
-    let alloc = rt.alloc();
-    for (call, name) in TEXTS {
-        let value = parse(alloc, LONG_DOCUMENT)?;
-        let mut refusals = Refusals::new(alloc);
-        refusals.open();
-        let text = call.print(alloc, value)?;
-        refusals.expect_within(&rt, name, 1024)?;
-        let has_string = text.as_str().contains("a text of more than thirty bytes");
-        expect(&rt, name, has_string);
     }
     Ok(())
 }

@@ -1,0 +1,228 @@
+//! Objects of many sizes. They are made past the counts at which an index begins, another run of it,
+//! the join of runs, and the search for repeated keys; or each is read, loses members, and is dropped.
+
+use super::changed::parse_strictly;
+use super::*;
+use jzon::IntoJson;
+use jzon::object::{Key, Object};
+use jzon_test_support::{keys_by_hash, object_text};
+use jzon_tree::object::Builder;
+use std::collections::{BTreeMap, HashMap};
+
+/// How an object of keys is made, or read from a text that has this value at each key.
+#[derive(Clone, Copy)]
+enum Grown {
+    Insert,
+    AtMut,
+    Reserve,
+    Clone,
+    Build,
+    Repeat,
+    Pairs,
+    Collect,
+    Map,
+    HashMap,
+    Parse(&'static str),
+    ParseStrictly(&'static str),
+}
+
+/// `count` keys, of which about twenty are too long to be stored inline.
+fn keys_of(alloc: Global, count: u32) -> Result<Vec<String>> {
+    let step = (count / 20).max(1);
+    let mut keys = Vec::new(alloc);
+    for number in 0..count {
+        let end = if number % step == 0 {
+            ", more than 32 bytes with its words"
+        } else {
+            ""
+        };
+        keys.push(format!(in alloc; "{number}{end}")?)?;
+    }
+    Ok(keys)
+}
+
+/// The text for a key: a long one for a long key.
+fn text_for(key: &str) -> &'static str {
+    if key.len() > 32 { LONG_TEXT } else { "" }
+}
+
+fn inserted(call: Grown, alloc: Global, keys: &[String], mut object: Object) -> Result<Object> {
+    for key in keys {
+        let item = text_for(key.as_str()).into_json(alloc)?;
+        match call {
+            Grown::AtMut => *object.at_mut(alloc, key.as_str())? = item,
+            _ => object.insert(alloc, key.as_str(), item)?,
+        }
+    }
+    Ok(object)
+}
+
+fn push(alloc: Global, builder: &mut Builder, key: &str) -> Result<()> {
+    let item = text_for(key).into_json(alloc)?;
+    builder.push(alloc, Key::new(alloc, key)?, item)?;
+    Ok(())
+}
+
+/// By a builder, with each key twice if they are repeated.
+fn built(call: Grown, alloc: Global, keys: &[String]) -> Result<Object> {
+    let mut builder = Builder::with_capacity(alloc, 0)?;
+    for key in keys {
+        push(alloc, &mut builder, key.as_str())?;
+    }
+    if matches!(call, Grown::Repeat) {
+        for key in keys {
+            push(alloc, &mut builder, key.as_str())?;
+        }
+    }
+    Object::from_builder(alloc, builder)
+}
+
+fn mapped(alloc: Global, keys: &[String]) -> Result<usize> {
+    let mut map = BTreeMap::new(alloc);
+    for key in keys {
+        map.insert(
+            key.clone()?,
+            String::from_str(alloc, text_for(key.as_str()))?,
+        )?;
+    }
+    Ok(map.into_json(alloc)?.len())
+}
+
+fn hash_mapped(alloc: Global, keys: &[String]) -> Result<usize> {
+    let mut map = HashMap::new(alloc);
+    for key in keys {
+        map.insert(
+            key.clone()?,
+            String::from_str(alloc, text_for(key.as_str()))?,
+        )?;
+    }
+    Ok(map.into_json(alloc)?.len())
+}
+
+/// Reads an object, removes its keys of one digit, and drops the rest. Returns how many were left.
+fn reduced(alloc: Global, text: &str, is_strict: bool) -> Result<usize> {
+    let value = if is_strict {
+        parse_strictly(alloc, text)?
+    } else {
+        parse(alloc, text)?
+    };
+    match value {
+        JsonValue::Object(object) => {
+            let mut object = object;
+            object.retain(|key, _| key.len() != 1);
+            Ok(object.len())
+        }
+        _ => Err(Error::UnexpectedEndOfJson),
+    }
+}
+
+/// The same of the one text in a list.
+fn reduced_one(alloc: Global, texts: &[String], is_strict: bool) -> Result<usize> {
+    match texts.first() {
+        Some(text) => reduced(alloc, text.as_str(), is_strict),
+        None => Err(Error::UnexpectedEndOfJson),
+    }
+}
+
+impl Grown {
+    fn make(self, alloc: Global, keys: &[String]) -> Result<Object> {
+        let texts = keys.iter().map(|key| key.as_str());
+        let pairs = keys.iter().map(|key| key.as_str()).zip(texts);
+        match self {
+            Grown::Insert | Grown::AtMut => inserted(self, alloc, keys, Object::new(alloc)),
+            Grown::Reserve => inserted(self, alloc, keys, Object::with_capacity(alloc, 100)?),
+            Grown::Clone => inserted(self, alloc, keys, Object::new(alloc))?.clone(alloc),
+            Grown::Pairs => Object::from_pairs(alloc, pairs),
+            Grown::Collect => Ok(pairs.collect(alloc)?),
+            _ => built(self, alloc, keys),
+        }
+    }
+
+    /// The keys, or the text of an object of keys and this value.
+    fn inputs(self, alloc: Global, count: u32) -> Result<Vec<String>> {
+        match self {
+            Grown::Parse(value) | Grown::ParseStrictly(value) => {
+                let keys = keys_by_hash(alloc, count)?;
+                let text = object_text(alloc, keys.as_slice())?.replace(alloc, "null", value)?;
+                Ok(vec![in alloc; text]?)
+            }
+            _ => keys_of(alloc, count),
+        }
+    }
+
+    /// How many entries were made, or are left.
+    fn call(self, alloc: Global, keys: &[String]) -> Result<usize> {
+        match self {
+            Grown::Parse(_) => reduced_one(alloc, keys, false),
+            Grown::ParseStrictly(_) => reduced_one(alloc, keys, true),
+            Grown::Map => mapped(alloc, keys),
+            Grown::HashMap => hash_mapped(alloc, keys),
+            _ => Ok(self.make(alloc, keys)?.len()),
+        }
+    }
+}
+
+/// A way, its name, the number of keys, that of the entries in the end, and that of allocations.
+type GrownRow = (Grown, &'static str, u32, usize, usize);
+
+/// Runs each way with its allocations failing in turn.
+fn fail_each_of(rt: &(impl Eprint + Abort), alloc: Global, rows: &[GrownRow]) -> Tested {
+    for (call, name, count, entries, allocations) in rows {
+        let inputs = call.inputs(alloc, *count)?;
+        let mut refusals = Refusals::new(alloc);
+        for _ in 0..RUNS_MAX {
+            refusals.open();
+            refusals.begin();
+            let outcome = call.call(alloc, &inputs);
+            let has_failed = refusals.has_failed();
+            refusals.close();
+            if !has_failed {
+                expect(rt, name, outcome == Ok(*entries));
+                break;
+            }
+            expect(rt, name, outcome == Err(Error::OutOfMemory));
+        }
+        refusals.report(rt, name, *allocations)?;
+    }
+    Ok(())
+}
+
+const GROWN: &[GrownRow] = rows! {
+    (Grown::Insert, "insert of 18 keys", 18, 18, 45)
+    (Grown::Insert, "insert of 1,100 keys", 1100, 1100, 78)
+    (Grown::AtMut, "at_mut of 1,100 keys", 1100, 1100, 78)
+    (Grown::Reserve, "insert of 200 keys, with room for 100", 200, 200, 48)
+    (Grown::Clone, "Object::clone of 1,100 keys", 1100, 1100, 124)
+    (Grown::Build, "Builder of 1,100 keys", 1100, 1100, 69)
+    (Grown::Repeat, "Builder of 40 repeated keys", 40, 40, 99)
+    (Grown::Repeat, "Builder of 300 repeated keys", 300, 300, 109)
+    (Grown::Pairs, "from_pairs of 1,100 keys", 1100, 1100, 57)
+    (Grown::Collect, "collect of 40 keys", 40, 40, 45)
+    (Grown::Map, "into_json of a map of 20 strings", 20, 20, 68)
+    (Grown::HashMap, "into_json of a hash map of 20 strings", 20, 20, 77)
+};
+
+/// The parser has all keys on one stack and all values on another, each with room for eight that
+/// doubles; the object takes both blocks and a box. Each `[1]` is a block, and the first one opens
+/// the stack of containers. Up to 16 keys have no index; more have one in two blocks. A strict
+/// reading has an index of its own from the 17th key on, in three blocks, one of which doubles at
+/// the 33rd and the 65th. At the 257th key an index is made to look for repeated keys, and let go.
+const SIZES: &[GrownRow] = rows! {
+    (Grown::Parse("[1]"), "parse, retain and drop of 1 key", 1, 0, 5)
+    (Grown::Parse("[1]"), "parse, retain and drop of 11 keys", 11, 1, 17)
+    (Grown::Parse("[1]"), "parse, retain and drop of 16 keys", 16, 6, 22)
+    (Grown::Parse("[1]"), "parse, retain and drop of 17 keys", 17, 7, 27)
+    (Grown::Parse("[1]"), "parse, retain and drop of 65 keys", 65, 55, 79)
+    (Grown::ParseStrictly("null"), "strict parse_as, retain and drop of 70 keys", 70, 60, 18)
+    (Grown::Parse("null"), "parse, retain and drop of 300 keys", 300, 290, 19)
+};
+
+#[test]
+fn grown_under_refusals(rt: HostRuntime) -> Tested {
+    fail_each_of(&rt, rt.alloc(), GROWN)
+}
+
+#[test]
+fn sizes_under_refusals(rt: HostRuntime) -> Tested {
+    fail_each_of(&rt, rt.alloc(), SIZES)
+}
