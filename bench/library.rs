@@ -1,15 +1,47 @@
 //! The calls of library.rt.in by the Rust crate, and by serde_json where that is built in: `beside SIDE CALL REPEATS`.
 use std::io::{stdin, Read};
 
+/// The calls of a side, by the functions of its module and these of its values.
+macro_rules! work {
+    ($value:ident, $read:expr, $len:expr, $dump:expr, $pretty:expr) => {
+        fn half_removed(keys: &[String]) -> usize {
+            let mut object = inserted(keys);
+            keys.iter().step_by(2).for_each(|key| drop(object.remove(key)));
+            object.len()
+        }
+
+        pub fn work(call: &str, repeats: usize, source: &str) -> usize {
+            let read = || -> $value { $read(source).expect("a valid text") };
+            if call == "parse" || call == "strict" {
+                return (0..repeats).map(|_| $len(&read())).sum();
+            }
+            let (value, other) = (read(), read());
+            let keys = strings(&value);
+            let object = inserted(&keys);
+            let once = || match call {
+                "clone" => $len(&value.clone()),
+                "eq" => usize::from(value == other),
+                "dump" => $dump(&value).len(),
+                "pretty" => $pretty(&value).len(),
+                "entries" => visited(&value),
+                "get" => keys.iter().filter(|key| object.get(key.as_str()).is_some()).count(),
+                "insert" => inserted(&keys).len(),
+                "from_pairs" => of_pairs(&keys).len(),
+                "remove" => half_removed(&keys),
+                _ => pushed(keys.len()),
+            };
+            (0..repeats).map(|_| once()).sum()
+        }
+    };
+}
+
 mod rust_crate {
     use jzon::{object::Object, parse, JsonValue};
 
-    fn inserted(keys: &[String]) -> Object {
-        let mut object = Object::new();
-        for key in keys {
-            object.insert(key, JsonValue::Null);
-        }
-        object
+    work!(JsonValue, parse, JsonValue::len, JsonValue::dump, (|value: &JsonValue| value.pretty(2)));
+
+    fn strings(value: &JsonValue) -> Vec<String> {
+        value.members().filter_map(|item| item.as_str().map(String::from)).collect()
     }
 
     fn visited(value: &JsonValue) -> usize {
@@ -17,10 +49,10 @@ mod rust_crate {
         of_items + value.entries().map(|(key, _)| key.len()).sum::<usize>()
     }
 
-    fn half_removed(keys: &[String]) -> usize {
-        let mut object = inserted(keys);
-        keys.iter().step_by(2).for_each(|key| drop(object.remove(key)));
-        object.len()
+    fn inserted(keys: &[String]) -> Object {
+        let mut object = Object::new();
+        keys.iter().for_each(|key| object.insert(key, JsonValue::Null));
+        object
     }
 
     fn of_pairs(keys: &[String]) -> Object {
@@ -34,94 +66,40 @@ mod rust_crate {
         (0..count).for_each(|_| array.push(JsonValue::Null).expect("an array"));
         array.len()
     }
-
-    pub fn work(call: &str, repeats: usize, source: &str) -> usize {
-        let read = || parse(source).expect("a valid text");
-        if call == "parse" || call == "strict" {
-            return (0..repeats).map(|_| read().len()).sum();
-        }
-        let (value, other) = (read(), read());
-        let keys: Vec<String> = value.members().filter_map(|item| item.as_str().map(String::from)).collect();
-        let object = inserted(&keys);
-        let once = || match call {
-            "clone" => value.clone().len(),
-            "eq" => usize::from(value == other),
-            "dump" => value.dump().len(),
-            "pretty" => value.pretty(2).len(),
-            "entries" => visited(&value),
-            "get" => keys.iter().filter(|key| object.get(key).is_some()).count(),
-            "insert" => inserted(&keys).len(),
-            "from_pairs" => of_pairs(&keys).len(),
-            "remove" => half_removed(&keys),
-            _ => pushed(keys.len()),
-        };
-        (0..repeats).map(|_| once()).sum()
-    }
 }
 
+/// Its remove moves the last entry into the gap.
 #[cfg(feature = "serde")]
 mod serde {
     use serde_json::{from_str, to_string, to_string_pretty, Map, Value};
 
+    work!(Value, from_str, len, (|value| to_string(value).expect("text")), (|value| to_string_pretty(value).expect("text")));
+
     fn len(value: &Value) -> usize {
-        match value {
-            Value::Array(items) => items.len(),
-            Value::Object(object) => object.len(),
-            _ => 0,
-        }
+        value.as_array().map_or(0, Vec::len) + value.as_object().map_or(0, Map::len)
     }
 
-    fn inserted(keys: &[String], value: Value) -> Map<String, Value> {
-        keys.iter().map(|key| (key.clone(), value.clone())).collect()
-    }
-
-    fn members(value: &Value) -> usize {
-        value.as_object().map_or(0, |object| object.iter().map(|(key, inner)| key.len() + len(inner)).sum())
+    fn strings(value: &Value) -> Vec<String> {
+        value.as_array().into_iter().flatten().filter_map(|item| item.as_str().map(String::from)).collect()
     }
 
     fn visited(value: &Value) -> usize {
-        match value {
-            Value::Array(items) => items.iter().map(members).sum(),
-            Value::Object(object) => object.keys().map(|key| key.len()).sum(),
-            _ => 0,
-        }
+        let items = value.as_array().into_iter().flatten().filter_map(Value::as_object).flatten();
+        items.map(|(key, inner)| key.len() + len(inner)).sum::<usize>() + value.as_object().into_iter().flatten().map(|(key, _)| key.len()).sum::<usize>()
     }
 
-    /// Its remove moves the last entry into the gap.
-    fn half_removed(keys: &[String]) -> usize {
-        let mut object = inserted(keys, Value::Null);
-        keys.iter().step_by(2).for_each(|key| drop(object.remove(key)));
-        object.len()
+    fn inserted(keys: &[String]) -> Map<String, Value> {
+        keys.iter().map(|key| (key.clone(), Value::Null)).collect()
+    }
+
+    fn of_pairs(keys: &[String]) -> Map<String, Value> {
+        keys.iter().map(|key| (key.clone(), Value::from(7u64))).collect()
     }
 
     fn pushed(count: usize) -> usize {
         let mut items = Vec::new();
         (0..count).for_each(|_| items.push(Value::Null));
         items.len()
-    }
-
-    pub fn work(call: &str, repeats: usize, source: &str) -> usize {
-        let read = || from_str::<Value>(source).expect("a valid text");
-        if call == "parse" || call == "strict" {
-            return (0..repeats).map(|_| len(&read())).sum();
-        }
-        let (value, other) = (read(), read());
-        let items = value.as_array().map_or(&[][..], |items| items.as_slice());
-        let keys: Vec<String> = items.iter().filter_map(|item| item.as_str().map(String::from)).collect();
-        let object = inserted(&keys, Value::Null);
-        let once = || match call {
-            "clone" => len(&value.clone()),
-            "eq" => usize::from(value == other),
-            "dump" => to_string(&value).expect("text").len(),
-            "pretty" => to_string_pretty(&value).expect("text").len(),
-            "entries" => visited(&value),
-            "get" => keys.iter().filter(|key| object.get(key.as_str()).is_some()).count(),
-            "insert" => inserted(&keys, Value::Null).len(),
-            "from_pairs" => inserted(&keys, Value::from(7u64)).len(),
-            "remove" => half_removed(&keys),
-            _ => pushed(keys.len()),
-        };
-        (0..repeats).map(|_| once()).sum()
     }
 }
 
@@ -132,7 +110,7 @@ fn main() {
     let repeats = words[3].parse().expect("a number");
     let sum = match words[1].as_str() {
         #[cfg(feature = "serde")]
-        "serde" => serde::work(&words[2], repeats, &source),
+        "serde_json" => serde::work(&words[2], repeats, &source),
         _ => rust_crate::work(&words[2], repeats, &source),
     };
     eprintln!("{sum}");

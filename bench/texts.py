@@ -1,10 +1,11 @@
 #!/usr/bin/env python3
 """Makes the texts that are measured. `texts.py FOLDER BYTES NAME..` writes a file FOLDER/NAME.json of about BYTES bytes for each name. The names of hard keys are
-`KIND-COUNT`, for an object of COUNT members, and `KIND-COUNT-list`, for an array of the keys of these members; BYTES doesn't matter for them. The same arguments
-make the same texts. The benches run this script in a process of its own, so that their own process stays small."""
+`KIND-COUNT`, for an object of COUNT members, and `KIND-COUNT-list`, for an array of the keys of these members; BYTES doesn't matter for them, nor for the small
+texts. The same arguments make the same texts. The benches run this script in a process of its own, so that their own process stays small."""
 import json
 import os
 import random
+import re
 import sys
 
 WORDS = "amber basil cedar delta ember fjord grove heath inlet jetty knoll ledge mound north ocean".split()
@@ -152,14 +153,18 @@ MEMORY_TITLES = {
     "smallest": '`{"":1}`',
     "nested": '`{"":{"":..1..}}`, 511 objects in one another',
 }
-KEY_TITLES = {
-    "rising": "in ascending order of hash",
-    "falling": "in descending order of hash",
-    "one-hash": "of one hash",
-    "random": "in random order",
-    "repeated-keys": "repeated",
-    "long": "long",
+# What docs/MEASURED.md calls the hard keys, and how many an object has at first.
+KEY_KINDS = {
+    "rising": ("in ascending order of hash", 10_000),
+    "falling": ("in descending order of hash", 10_000),
+    "one-hash": ("of one hash", 20_000),
+    "random": ("in random order", 200_000),
+    "repeated-keys": ("repeated", 400_000),
+    "long": ("long", 10_000),
 }
+# Small texts like those that people send, by name. A name is on the line before its text.
+with open(os.path.join(os.path.dirname(os.path.realpath(__file__)), "small.txt"), encoding="utf-8") as file:
+    SMALL = dict(part.rstrip("\n").split("\n", 1) for part in re.split("^# ", file.read(), flags=re.M)[1:])
 
 
 def text(name, size):
@@ -213,7 +218,7 @@ def main():
     for name in names:
         path = os.path.join(folder, name + ".json")
         kind, _, count = name.removesuffix("-list").rpartition("-")
-        made = hard(kind, int(count), name.endswith("-list")) if kind in HARD else text(name, int(size))
+        made = SMALL[name] if name in SMALL else hard(kind, int(count), name.endswith("-list")) if kind in HARD else text(name, int(size))
         with open(path, "w", encoding="utf-8") as file:
             file.write(made)
 
