@@ -1,9 +1,10 @@
-//! Keys and their positions.
+//! Keys and their positions, and hashes of keys.
 
 use crate::common::{expect, expect_eq};
 use jzon_base::key::Key;
 use jzon_base::keys::hash::hash_of;
 use jzon_base::keys::{Iter, Keys};
+use jzon_test_support::digits_below;
 use std::alloc::{AllocError, Global};
 use std::process::Abort;
 
@@ -42,18 +43,13 @@ fn without(alloc: Global, keys: &Keys, index: usize) -> Result<Keys, AllocError>
     Ok(left)
 }
 
-/// A copy of the keys, cleared.
-fn cleared(alloc: Global, keys: &Keys) -> Result<Keys, AllocError> {
-    let mut left = keys.clone(alloc)?;
-    left.clear();
-    Ok(left)
-}
-
 #[test]
 fn changes_a_copy(rt: HostRuntime) -> Result<(), AllocError> {
     let whole = of_names(rt.alloc(), &["c", "a", "", "b", "a"])?;
-    expect_names(&rt, &cleared(rt.alloc(), &whole)?, &[]);
-    expect_names(&rt, &without(rt.alloc(), &whole, 1)?, &["c", "", "b"]);
+    let mut left = without(rt.alloc(), &whole, 1)?;
+    expect_names(&rt, &left, &["c", "", "b"]);
+    left.clear();
+    expect_names(&rt, &left, &[]);
     expect_names(&rt, &whole, &["c", "a", "", "b"]);
     Ok(())
 }
@@ -97,37 +93,36 @@ fn goes_over_keys_from_both_ends(rt: HostRuntime) -> Result<(), AllocError> {
     Ok(())
 }
 
-/// More than 16 bits count.
-const MANY: usize = 70_000;
-
-fn digits_of(alloc: Global, number: usize) -> Result<String, AllocError> {
-    format!(in alloc; "{number}")
-}
-
-/// The digits of the numbers below `MANY`.
-fn put_many(alloc: Global) -> Result<Keys, AllocError> {
-    let mut keys = Keys::new(alloc);
-    for number in 0..MANY {
-        let name = digits_of(alloc, number)?;
-        put(alloc, &mut keys, name.as_str())?;
+/// More keys than 16 bits can count.
+#[test]
+fn puts_many_keys(rt: HostRuntime) -> Result<(), AllocError> {
+    let names = digits_below(rt.alloc(), 70_000)?;
+    let mut keys = Keys::new(rt.alloc());
+    for name in &names {
+        put(rt.alloc(), &mut keys, name.as_str())?;
     }
-    Ok(keys)
-}
-
-/// They are all there, at the positions of their numbers.
-fn expect_many(rt: &impl Abort, alloc: Global, keys: &Keys) -> Result<(), AllocError> {
-    expect_eq(rt, "the number of keys", keys.len(), MANY);
-    for number in 0..MANY {
-        let name = digits_of(alloc, number)?;
-        let position = keys.position(name.as_str());
-        expect_eq(rt, name.as_str(), position, Some(number));
+    let copy = keys.clone(rt.alloc())?;
+    for keys in [&keys, &copy] {
+        expect_eq(&rt, "the number of keys", keys.len(), names.len());
+        for (index, name) in names.iter().enumerate() {
+            let position = keys.position(name.as_str());
+            expect_eq(&rt, name.as_str(), position, Some(index));
+        }
     }
     Ok(())
 }
 
+const HASHES: &[(&str, u64)] = &[
+    ("77kepQFQ8Kl", 0),
+    ("77kepQFQ8Kl\0\0GhL ,\u{8}\u{1b}s\u{5}\u{18}\0", 0),
+    ("", 0xcbf2_9ce4_8422_2325),
+    ("a", 0xaf63_dc4c_8601_ec8c),
+    ("foobar", 0x8594_4171_f739_67e8),
+];
+
 #[test]
-fn puts_many_keys(rt: HostRuntime) -> Result<(), AllocError> {
-    let keys = put_many(rt.alloc())?;
-    expect_many(&rt, rt.alloc(), &keys)?;
-    expect_many(&rt, rt.alloc(), &keys.clone(rt.alloc())?)
+fn hashes_texts(rt: HostRuntime) {
+    for (text, want) in HASHES {
+        expect_eq(&rt, text, hash_of(text), *want);
+    }
 }

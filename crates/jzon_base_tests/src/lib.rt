@@ -10,13 +10,7 @@ mod error;
 #[cfg(test)]
 mod escapes;
 #[cfg(test)]
-mod fixed_point;
-#[cfg(test)]
-mod from_integer;
-#[cfg(test)]
-mod hash;
-#[cfg(test)]
-mod key;
+mod integers;
 #[cfg(test)]
 mod keys;
 #[cfg(test)]
@@ -24,14 +18,10 @@ mod number;
 #[cfg(test)]
 mod pairs;
 #[cfg(test)]
-mod plain;
-#[cfg(test)]
 mod print_dec;
 #[cfg(test)]
 mod runs;
 #[cfg(test)]
-mod short;
-#[cfg(test)]
-mod to_integer;
+mod strings;
 #[cfg(test)]
 mod write_bytes;

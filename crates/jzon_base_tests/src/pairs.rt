@@ -7,12 +7,12 @@ use crate::common::{expect, expect_eq};
 use jzon_base::key::Key;
 use jzon_base::keys::KnownKeys;
 use jzon_base::pairs::{Builder, IterMut, Pairs};
-use jzon_test_support::{RUNS_MAX, Refusals, keys_by_hash};
+use jzon_test_support::{RUNS_MAX, Refusals, digits_below, joined, keys_by_hash};
 use std::alloc::{AllocError, Global};
 use std::process::Abort;
 use std::test::Fail;
 
-fn of_pairs(alloc: Global, pairs: &[(&str, u32)]) -> Result<Pairs<u32>, AllocError> {
+fn of_pairs(alloc: Global, pairs: &[(&str, usize)]) -> Result<Pairs<usize>, AllocError> {
     let mut made = Pairs::new(alloc);
     for (name, value) in pairs {
         made.insert(alloc, name, *value)?;
@@ -21,7 +21,7 @@ fn of_pairs(alloc: Global, pairs: &[(&str, u32)]) -> Result<Pairs<u32>, AllocErr
 }
 
 /// The pairs as `a1 b2 `.
-fn shown(alloc: Global, pairs: &Pairs<u32>) -> Result<String, AllocError> {
+fn shown(alloc: Global, pairs: &Pairs<usize>) -> Result<String, AllocError> {
     let mut text = String::new(alloc);
     for (name, value) in pairs {
         write!(text, "{name}{value} ")?;
@@ -32,7 +32,7 @@ fn shown(alloc: Global, pairs: &Pairs<u32>) -> Result<String, AllocError> {
 fn expect_shown(
     rt: &impl Abort,
     alloc: Global,
-    pairs: &Pairs<u32>,
+    pairs: &Pairs<usize>,
     want: &str,
 ) -> Result<(), AllocError> {
     let text = shown(alloc, pairs)?;
@@ -42,7 +42,7 @@ fn expect_shown(
 
 /// Sets the first and the last value to 0: `next` and `next_back` require nothing of who borrows
 /// the iterator.
-fn clear_ends(lent: &mut IterMut<'_, u32>) {
+fn clear_ends(lent: &mut IterMut<'_, usize>) {
     if let Some((_, first)) = lent.next() {
         *first = 0;
     }
@@ -70,7 +70,7 @@ fn writes_through_its_iterator(rt: HostRuntime) -> Result<(), AllocError> {
 }
 
 /// Sets the first of two values to 6. Whether the other pair is `b` and 3.
-fn set_first(pairs: &mut Pairs<u32>) -> bool {
+fn set_first(pairs: &mut Pairs<usize>) -> bool {
     if pairs.len() != 2 {
         return false;
     }
@@ -99,262 +99,8 @@ fn finds_and_removes(rt: HostRuntime) -> Result<(), AllocError> {
     expect_shown(&rt, rt.alloc(), &pairs, "b3 ")
 }
 
-/// Puts an entry of this number under each of the names.
-fn push_names(
-    alloc: Global,
-    built: &mut Builder<u32>,
-    names: &[&str],
-    number: u32,
-) -> Result<(), AllocError> {
-    for name in names {
-        built.push(alloc, Key::new(alloc, name)?, number)?;
-    }
-    Ok(())
-}
-
-#[test]
-fn builds_pairs_of_few_keys(rt: HostRuntime) -> Result<(), AllocError> {
-    let mut built = Builder::with_capacity(rt.alloc(), 2)?;
-    for round in 0u32..1000 {
-        push_names(rt.alloc(), &mut built, &["c", "a", "b"], round)?;
-    }
-    push_names(rt.alloc(), &mut built, &["d", "a", "d"], 7)?;
-    let pairs = built.finish(rt.alloc())?;
-    expect_shown(&rt, rt.alloc(), &pairs, "c999 a7 b999 d7 ")
-}
-
-/// One of 40 names, of which each comes once in 40 numbers: in one order, and in the next 40 in
-/// another.
-fn shuffled(alloc: Global, number: usize) -> Result<String, AllocError> {
-    let step = if number / 40 % 2 == 0 { 7 } else { 11 };
-    let name = number % 40 * step % 40;
-    format!(in alloc; "k{name}")
-}
-
-/// Puts each number under its name, after it 300 names once each, and one of them again.
-fn push_shuffled(alloc: Global, built: &mut Builder<usize>) -> Result<(), AllocError> {
-    for number in 0..2_000 {
-        let name = shuffled(alloc, number)?;
-        built.push(alloc, Key::new(alloc, name.as_str())?, number)?;
-    }
-    for number in 0..300 {
-        let name = format!(in alloc; "n{number}")?;
-        built.push(alloc, Key::new(alloc, name.as_str())?, number)?;
-    }
-    built.push(alloc, Key::new(alloc, "n0")?, 2_000)
-}
-
-/// A name has the position of its first entry and the value of its last.
-#[test]
-fn builds_pairs_of_shuffled_keys(rt: HostRuntime) -> Result<(), AllocError> {
-    let mut built = Builder::with_capacity(rt.alloc(), 0)?;
-    push_shuffled(rt.alloc(), &mut built)?;
-    let pairs = built.finish(rt.alloc())?;
-    for number in 0..40 {
-        let first = shuffled(rt.alloc(), number)?;
-        let position = pairs.position(first.as_str());
-        expect_eq(&rt, first.as_str(), position, Some(number));
-        let last = shuffled(rt.alloc(), 1_960 + number)?;
-        let value = pairs.get(last.as_str()).copied();
-        expect_eq(&rt, last.as_str(), value, Some(1_960 + number));
-    }
-    expect_eq(&rt, "n299", pairs.position("n299"), Some(339));
-    expect_eq(&rt, "n0", pairs.get("n0").copied(), Some(2_000));
-    expect_eq(&rt, "the number of pairs", pairs.len(), 340);
-    Ok(())
-}
-
-/// A text of the hash 0. What comes after it keeps the hash: zero bytes, and `BLOCK` among them.
-const ZERO: &str = "77kepQFQ8Kl";
-
-const BLOCK: &str = "GhL ,\u{8}\u{1b}s\u{5}\u{18}";
-
-fn push_zeros(name: &mut String, count: usize) -> Result<(), AllocError> {
-    for _ in 0..count {
-        name.push('\0')?;
-    }
-    Ok(())
-}
-
-/// One of 20,000 texts of one hash.
-fn name_of(alloc: Global, number: usize) -> Result<String, AllocError> {
-    let mut name = String::from_str(alloc, ZERO)?;
-    push_zeros(&mut name, number / 150)?;
-    name.push_str(BLOCK)?;
-    push_zeros(&mut name, number % 150)?;
-    Ok(name)
-}
-
-/// Entries of `count` keys of one hash, and their numbers.
-fn of_one_hash(alloc: Global, count: usize) -> Result<Pairs<usize>, AllocError> {
-    let mut built = Builder::with_capacity(alloc, 0)?;
-    for number in 0..count {
-        let name = name_of(alloc, number)?;
-        built.push(alloc, Key::new(alloc, name.as_str())?, number)?;
-    }
-    built.finish(alloc)
-}
-
-/// The keys have their numbers as values, and each hundredth is found.
-fn expect_numbered(rt: &impl Abort, alloc: Global, pairs: &Pairs<usize>) -> Result<(), AllocError> {
-    expect_eq(rt, "the number of pairs", pairs.len(), 20_000);
-    for (place, number) in pairs.values().iter().enumerate() {
-        expect_eq(rt, "a value", *number, place);
-    }
-    for hundred in 0..200 {
-        let number = 100 * hundred + 99;
-        let name = name_of(alloc, number)?;
-        expect_eq(rt, "a key", pairs.position(name.as_str()), Some(number));
-    }
-    let name = name_of(alloc, 20_000)?;
-    expect_eq(rt, "no key", pairs.position(name.as_str()), None);
-    Ok(())
-}
-
-#[test]
-fn finds_many_keys_of_one_hash(rt: HostRuntime) -> Result<(), AllocError> {
-    let pairs = of_one_hash(rt.alloc(), 20_000)?;
-    expect_numbered(&rt, rt.alloc(), &pairs)
-}
-
-#[test]
-fn inserts_many_keys_of_one_hash(rt: HostRuntime) -> Result<(), AllocError> {
-    let mut pairs = Pairs::new(rt.alloc());
-    for number in 0..20_000 {
-        let name = name_of(rt.alloc(), number)?;
-        pairs.insert(rt.alloc(), name.as_str(), number)?;
-    }
-    expect_numbered(&rt, rt.alloc(), &pairs)
-}
-
-/// Adds a key that isn't known yet.
-fn push_new(
-    alloc: Global,
-    known: &mut KnownKeys,
-    keys: &mut Vec<Key>,
-    name: &str,
-) -> Result<(), AllocError>
-    requires { IsTable keys.old.items known.old }
-    ensures { OnOk result (IsTable keys.new.items known.new) }
-{
-    if !known.has_or_adds(alloc, keys.as_slice(), name)? {
-        keys.push(Key::new(alloc, name)?)?;
-    }
-    Ok(())
-}
-
-/// Each comes twice.
-#[test]
-fn knows_the_keys_of_one_hash(rt: HostRuntime) -> Result<(), AllocError> {
-    let mut known = KnownKeys::new();
-    let mut keys = Vec::new(rt.alloc());
-    for number in 0..600 {
-        let name = name_of(rt.alloc(), number % 300)?;
-        push_new(rt.alloc(), &mut known, &mut keys, name.as_str())?;
-    }
-    expect_eq(&rt, "the number of keys", keys.len(), 300);
-    Ok(())
-}
-
-/// Puts each of the first `count` keys with 0.
-fn insert_first(
-    pairs: &mut Pairs<u32>,
-    alloc: Global,
-    keys: &[String],
-    count: usize,
-) -> Result<(), AllocError> {
-    for key in keys.iter().take(count) {
-        pairs.insert(alloc, key.as_str(), 0)?;
-    }
-    Ok(())
-}
-
-/// Puts each of these keys with 0.
-fn insert_each(pairs: &mut Pairs<u32>, alloc: Global, keys: &[String]) -> Result<(), AllocError> {
-    insert_first(pairs, alloc, keys, keys.len())
-}
-
-/// The same by `place`.
-fn place_each(pairs: &mut Pairs<u32>, alloc: Global, keys: &[String]) -> Result<(), AllocError> {
-    for key in keys {
-        pairs.place(alloc, key.as_str(), 0)?;
-    }
-    Ok(())
-}
-
-/// Fills pairs that have room for these keys, by `place` or by `insert`. No memory is requested: the
-/// first allocation would fail.
-fn expect_room(
-    rt: &impl Abort,
-    alloc: Global,
-    refusals: &mut Refusals,
-    pairs: &mut Pairs<u32>,
-    keys: &[String],
-    are_placed: bool,
-) {
-    refusals.begin();
-    let outcome = if are_placed {
-        place_each(pairs, alloc, keys)
-    } else {
-        insert_each(pairs, alloc, keys)
-    };
-    let has_failed = refusals.has_failed();
-    expect(rt, "no allocation", !has_failed && outcome.is_ok());
-    expect_eq(rt, "the number of pairs", pairs.len(), keys.len());
-}
-
-/// Pairs of these keys, in room that they got by `with_capacity` and that `clear` kept.
-fn in_room(
-    rt: &impl Abort,
-    alloc: Global,
-    refusals: &mut Refusals,
-    keys: &[String],
-    are_placed: bool,
-) -> Result<Pairs<u32>, AllocError> {
-    let mut pairs = Pairs::with_capacity(alloc, keys.len())?;
-    expect_room(rt, alloc, refusals, &mut pairs, keys, are_placed);
-    pairs.clear();
-    expect_room(rt, alloc, refusals, &mut pairs, keys, are_placed);
-    Ok(pairs)
-}
-
-/// How many pairs there is room for, and the number of allocations of one more. Keys and values grow,
-/// and so does the index, which begins after 16 keys and has room for up to 1,024.
-const ROOMS: [(u32, usize); 3] = [(16, 3), (100, 2), (1024, 3)];
-
-/// `with_capacity` gives keys, values and index their room, and `clear` keeps it. One key more
-/// takes memory.
-fn expect_capacity(rt: &impl Abort, alloc: Global, count: u32) -> Result<Refusals, Fail> {
-    let keys = keys_by_hash(alloc, count)?;
-    let mut refusals = Refusals::new(alloc);
-    drop(in_room(rt, alloc, &mut refusals, keys.as_slice(), true)?);
-    let mut pairs = in_room(rt, alloc, &mut refusals, keys.as_slice(), false)?;
-    for _ in 0..RUNS_MAX {
-        refusals.begin();
-        let inserted = pairs.insert(alloc, "one more", 0);
-        let has_failed = refusals.has_failed();
-        expect(rt, "the result", inserted.is_err() == has_failed);
-        if !has_failed {
-            break;
-        }
-        expect_eq(rt, "the number of pairs", pairs.len(), keys.len());
-    }
-    Ok(refusals)
-}
-
-#[test]
-fn room_for_pairs_under_refusals(rt: HostRuntime) -> Result<(), Fail> {
-    for (count, allocations) in ROOMS {
-        let refusals = expect_capacity(&rt, rt.alloc(), count)?;
-        refusals.report(&rt, "Pairs::insert past the room", allocations)?;
-    }
-    Ok(())
-}
-
-/// More than 16 bits count.
-const MANY: usize = 70_000;
-
-/// How pairs of the numbers below `MANY` are made, each under its digits.
+/// How pairs are made of keys, each with its number in the list as value: put one by one, or built of
+/// entries. Of a repeated key the last value is kept.
 #[derive(Clone, Copy)]
 enum Made {
     Insert,
@@ -378,76 +124,260 @@ const MADE: [Made; 8] = [
     Made::RepeatAll,
 ];
 
-fn digits_of(alloc: Global, number: usize) -> Result<String, AllocError> {
-    format!(in alloc; "{number}")
-}
-
-/// One by one; what was there before is found.
-fn put_each(made: Made, alloc: Global, pairs: &mut Pairs<usize>) -> Result<(), AllocError> {
-    for number in 0..MANY {
-        let name = digits_of(alloc, number)?;
-        match made {
-            Made::Place => {
-                pairs.place(alloc, name.as_str(), number)?;
-            }
-            Made::AtMut => *pairs.at_mut(alloc, name.as_str(), 0)? = number,
-            _ => pairs.insert(alloc, name.as_str(), number)?,
-        }
-    }
-    Ok(())
-}
-
-/// An entry of each number.
-fn push_each(made: Made, alloc: Global, built: &mut Builder<usize>) -> Result<(), AllocError> {
-    for number in 0..MANY {
-        let name = digits_of(alloc, number)?;
-        if matches!(made, Made::RepeatEach) {
-            built.push(alloc, Key::new(alloc, name.as_str())?, 0)?;
-        }
-        built.push(alloc, Key::new(alloc, name.as_str())?, number)?;
-    }
-    Ok(())
-}
-
 impl Made {
-    fn make(self, alloc: Global) -> Result<Pairs<usize>, AllocError> {
+    /// One by one.
+    fn put_each(
+        self,
+        alloc: Global,
+        pairs: &mut Pairs<usize>,
+        keys: &[String],
+    ) -> Result<(), AllocError> {
+        for (number, key) in keys.iter().enumerate() {
+            match self {
+                Made::Place => {
+                    let index = pairs.place(alloc, key.as_str(), number)?;
+                    if index < pairs.len() {
+                        *pairs.value_mut(index) = number;
+                    }
+                }
+                Made::AtMut => *pairs.at_mut(alloc, key.as_str(), 0)? = number,
+                _ => pairs.insert(alloc, key.as_str(), number)?,
+            }
+        }
+        Ok(())
+    }
+
+    /// An entry of each key.
+    fn push_each(
+        self,
+        alloc: Global,
+        built: &mut Builder<usize>,
+        keys: &[String],
+    ) -> Result<(), AllocError> {
+        for (number, key) in keys.iter().enumerate() {
+            if matches!(self, Made::RepeatEach) {
+                built.push(alloc, Key::new(alloc, key.as_str())?, 0)?;
+            }
+            built.push(alloc, Key::new(alloc, key.as_str())?, number)?;
+        }
+        Ok(())
+    }
+
+    fn make(self, alloc: Global, keys: &[String]) -> Result<Pairs<usize>, AllocError> {
         let mut pairs = match self {
-            Made::Reserve => Pairs::with_capacity(alloc, MANY)?,
+            Made::Reserve => Pairs::with_capacity(alloc, keys.len())?,
             _ => Pairs::new(alloc),
         };
         if matches!(
             self,
             Made::Insert | Made::Place | Made::AtMut | Made::Reserve
         ) {
-            put_each(self, alloc, &mut pairs)?;
+            self.put_each(alloc, &mut pairs, keys)?;
             return Ok(pairs);
         }
         let room = match self {
-            Made::BuildWithRoom => MANY,
+            Made::BuildWithRoom => keys.len(),
+            Made::RepeatEach => 2,
             _ => 0,
         };
         let mut built = Builder::with_capacity(alloc, room)?;
-        push_each(self, alloc, &mut built)?;
+        self.push_each(alloc, &mut built, keys)?;
         if matches!(self, Made::RepeatAll) {
-            push_each(self, alloc, &mut built)?;
+            self.push_each(alloc, &mut built, keys)?;
         }
         built.finish(alloc)
     }
 }
 
+/// 40 names, of which each comes once in 40 numbers, in one order and in the next 40 in another; after
+/// them 300 names once each, and one of them again.
+fn shuffled(alloc: Global) -> Result<Vec<String>, AllocError> {
+    let mut names = Vec::new(alloc);
+    for number in 0..2_000 {
+        let step = if number / 40 % 2 == 0 { 7 } else { 11 };
+        let name = number % 40 * step % 40;
+        names.push(format!(in alloc; "k{name}")?)?;
+    }
+    for number in (0..300).chain([0]) {
+        names.push(format!(in alloc; "n{number}")?)?;
+    }
+    Ok(names)
+}
+
+/// A name has the position of its first number and the value of its last.
+#[test]
+fn makes_pairs_of_repeated_keys(rt: HostRuntime) -> Result<(), AllocError> {
+    let names = shuffled(rt.alloc())?;
+    for made in MADE {
+        let pairs = made.make(rt.alloc(), names.as_slice())?;
+        for (number, name) in names.iter().enumerate() {
+            let name = name.as_str();
+            if number < 40 {
+                expect_eq(&rt, name, pairs.position(name), Some(number));
+            }
+            if (1_960..2_000).contains(&number) {
+                expect_eq(&rt, name, pairs.get(name).copied(), Some(number));
+            }
+        }
+        expect_eq(&rt, "n299", pairs.position("n299"), Some(339));
+        expect_eq(&rt, "n0", pairs.get("n0").copied(), Some(2_300));
+        expect_eq(&rt, "the number of pairs", pairs.len(), 340);
+    }
+    Ok(())
+}
+
+/// Three names a thousand times each, and then a fourth twice.
+#[test]
+fn makes_pairs_of_few_keys(rt: HostRuntime) -> Result<(), AllocError> {
+    let mut names = Vec::new(rt.alloc());
+    for letter in joined(rt.alloc(), &[("cab", 1000), ("dad", 1)])?.chars() {
+        names.push(format!(in rt.alloc(); "{letter}")?)?;
+    }
+    for made in MADE {
+        let pairs = made.make(rt.alloc(), names.as_slice())?;
+        let text = "c2997 a3001 b2999 d3002 ";
+        expect_shown(&rt, rt.alloc(), &pairs, text)?;
+    }
+    Ok(())
+}
+
+/// Pairs that are made of all keys but the last have these at their positions, and not the last.
+fn expect_made(
+    rt: &impl Abort,
+    alloc: Global,
+    made: Made,
+    keys: &[String],
+) -> Result<(), AllocError> {
+    let Some((missing, keys)) = keys.split_last() else {
+        return Ok(());
+    };
+    let pairs = made.make(alloc, keys)?;
+    expect_eq(rt, "the number of pairs", pairs.len(), keys.len());
+    for (index, (key, value)) in keys.iter().zip(pairs.values()).enumerate() {
+        let position = pairs.position(key.as_str());
+        expect_eq(rt, "a key", position, Some(index));
+        expect_eq(rt, "a value", *value, index);
+    }
+    expect_eq(rt, "no key", pairs.position(missing.as_str()), None);
+    Ok(())
+}
+
+/// More keys than 16 bits can count.
 #[test]
 fn makes_many_pairs(rt: HostRuntime) -> Result<(), AllocError> {
+    let keys = digits_below(rt.alloc(), 70_001)?;
     for made in MADE {
-        let pairs = made.make(rt.alloc())?;
-        expect_eq(&rt, "the number of pairs", pairs.len(), MANY);
-        for number in 0..MANY {
-            let name = digits_of(rt.alloc(), number)?;
-            let position = pairs.position(name.as_str());
-            expect_eq(&rt, name.as_str(), position, Some(number));
+        expect_made(&rt, rt.alloc(), made, keys.as_slice())?;
+    }
+    Ok(())
+}
+
+/// A text of the hash 0. What comes after it keeps the hash: zero bytes, and `BLOCK` among them.
+const ZERO: &str = "77kepQFQ8Kl";
+
+const BLOCK: &str = "GhL ,\u{8}\u{1b}s\u{5}\u{18}";
+
+/// Distinct texts of one hash, at most 20,100 of them.
+fn names_of_one_hash(alloc: Global, count: usize) -> Result<Vec<String>, AllocError> {
+    let mut names = Vec::new(alloc);
+    for number in 0..count {
+        let before = ("\0", number / 150);
+        let after = ("\0", number % 150);
+        names.push(joined(alloc, &[(ZERO, 1), before, (BLOCK, 1), after])?)?;
+    }
+    Ok(names)
+}
+
+#[test]
+fn makes_many_pairs_of_one_hash(rt: HostRuntime) -> Result<(), AllocError> {
+    let keys = names_of_one_hash(rt.alloc(), 20_001)?;
+    for made in [Made::Build, Made::Insert] {
+        expect_made(&rt, rt.alloc(), made, keys.as_slice())?;
+    }
+    Ok(())
+}
+
+/// Adds a key that isn't known yet.
+fn push_new(
+    alloc: Global,
+    known: &mut KnownKeys,
+    keys: &mut Vec<Key>,
+    name: &str,
+) -> Result<(), AllocError>
+    requires { IsTable keys.old.items known.old }
+    ensures { OnOk result (IsTable keys.new.items known.new) }
+{
+    if !known.has_or_adds(alloc, keys.as_slice(), name)? {
+        keys.push(Key::new(alloc, name)?)?;
+    }
+    Ok(())
+}
+
+/// Each comes twice.
+#[test]
+fn knows_the_keys_of_one_hash(rt: HostRuntime) -> Result<(), AllocError> {
+    let names = names_of_one_hash(rt.alloc(), 300)?;
+    let mut known = KnownKeys::new();
+    let mut keys = Vec::new(rt.alloc());
+    for name in names.iter().chain(names.iter()) {
+        push_new(rt.alloc(), &mut known, &mut keys, name.as_str())?;
+    }
+    expect_eq(&rt, "the number of keys", keys.len(), 300);
+    Ok(())
+}
+
+/// How many pairs there is room for, and the number of allocations of one more. Keys and values grow,
+/// and so does the index, which begins after 16 keys and has room for up to 1,024.
+const ROOMS: [(u32, usize); 3] = [(16, 3), (100, 2), (1024, 3)];
+
+/// Pairs of these keys, in room that they got by `with_capacity`, and then in the room that `clear`
+/// kept. No memory is requested: the first allocation would fail.
+fn in_room(
+    rt: &impl Abort,
+    refusals: &mut Refusals,
+    made: Made,
+    alloc: Global,
+    keys: &[String],
+) -> Result<Pairs<usize>, AllocError> {
+    let mut pairs = Pairs::with_capacity(alloc, keys.len())?;
+    for is_cleared in [false, true] {
+        if is_cleared {
+            pairs.clear();
         }
-        for (number, value) in pairs.values().iter().enumerate() {
-            expect_eq(&rt, "a value", *value, number);
+        refusals.begin();
+        let outcome = made.put_each(alloc, &mut pairs, keys);
+        let has_failed = refusals.has_failed();
+        expect(rt, "no allocation", !has_failed && outcome.is_ok());
+        expect_eq(rt, "the number of pairs", pairs.len(), keys.len());
+    }
+    Ok(pairs)
+}
+
+/// Keys, values and index have their room. One key more takes memory.
+fn expect_capacity(rt: &impl Abort, alloc: Global, count: u32) -> Result<Refusals, Fail> {
+    let keys = keys_by_hash(alloc, count)?;
+    let keys = keys.as_slice();
+    let mut refusals = Refusals::new(alloc);
+    drop(in_room(rt, &mut refusals, Made::Place, alloc, keys)?);
+    let mut pairs = in_room(rt, &mut refusals, Made::Insert, alloc, keys)?;
+    for _ in 0..RUNS_MAX {
+        refusals.begin();
+        let inserted = pairs.insert(alloc, "one more", 0);
+        let has_failed = refusals.has_failed();
+        expect(rt, "the result", inserted.is_err() == has_failed);
+        if !has_failed {
+            break;
         }
+        expect_eq(rt, "the number of pairs", pairs.len(), keys.len());
+    }
+    Ok(refusals)
+}
+
+#[test]
+fn room_for_pairs_under_refusals(rt: HostRuntime) -> Result<(), Fail> {
+    for (count, allocations) in ROOMS {
+        let refusals = expect_capacity(&rt, rt.alloc(), count)?;
+        refusals.report(&rt, "Pairs::insert past the room", allocations)?;
     }
     Ok(())
 }
@@ -456,11 +386,11 @@ fn makes_many_pairs(rt: HostRuntime) -> Result<(), AllocError> {
 #[test]
 fn room_for_entries_counted(rt: HostRuntime) -> Result<(), Fail> {
     let alloc = rt.alloc();
-    let names = ["a", "b", "c", "d", "e", "f", "g", "h", "i"];
+    let names = digits_below(alloc, 9)?;
     let mut refusals = Refusals::new(alloc);
     let mut built = Builder::with_capacity(alloc, 9)?;
     refusals.open();
-    push_names(alloc, &mut built, names.as_slice(), 0)?;
+    Made::Build.push_each(alloc, &mut built, names.as_slice())?;
     refusals.expect_within(&rt, "Builder::push into its room", 0)?;
     let pairs = built.finish(alloc)?;
     expect_eq(&rt, "the number of pairs", pairs.len(), names.len());
@@ -479,9 +409,11 @@ fn room_of_runs_counted(rt: HostRuntime) -> Result<(), Fail> {
     for (capacity, begun, full) in BEGUN {
         let mut pairs = Pairs::with_capacity(alloc, capacity)?;
         let mut refusals = Refusals::new(alloc);
-        insert_first(&mut pairs, alloc, keys.as_slice(), begun)?;
+        let first = keys.as_slice().get(..begun).unwrap_or(&[]);
+        Made::Insert.put_each(alloc, &mut pairs, first)?;
+        let first = keys.as_slice().get(..full).unwrap_or(&[]);
         refusals.open();
-        insert_first(&mut pairs, alloc, keys.as_slice(), full)?;
+        Made::Insert.put_each(alloc, &mut pairs, first)?;
         refusals.expect_within(&rt, "Pairs::insert into a run's room", 0)?;
         expect_eq(&rt, "the number of pairs", pairs.len(), full);
     }

@@ -1,9 +1,5 @@
 //! The index of keys, by hashes that the caller gives.
 
-ghost use Rattle.std.specs.Prelude.{◌≡◌, ◌<◌, ◌++◌, ◌∷◌, [], length, remove, None, OnOk};
-ghost use Rattle.std.specs.List.{position};
-ghost use Rattle.std.specs.Str.{bytes_eq};
-
 use crate::common::expect_eq;
 use jzon_base::key::Key;
 use jzon_base::keys::runs::Runs;
@@ -33,89 +29,55 @@ impl Model for Sevens {
 }
 
 impl Sevens {
-    fn new(alloc: Global) -> Sevens
-        ensures { result ≡ [] }
-    {
+    fn new(alloc: Global) -> Sevens {
         Sevens {
             keys: Vec::new(alloc),
             index: Runs::new(alloc),
         }
     }
 
-    fn len(&self) -> usize
-        ensures { result ≡ length self.now }
-    {
-        self.keys.len()
-    }
-
-    fn find(&self, name: &str) -> Option<usize>
-        ensures { result ≡ position (λ k. bytes_eq k name.now) self.now }
-    {
+    fn find(&self, name: &str) -> Option<usize> {
         self.index.search(self.keys.as_slice(), 7, name).ok()
     }
 
-    fn add(&mut self, alloc: Global, name: &str) -> Result<(), AllocError>
-        requires { position (λ k. bytes_eq k name.now) self.old ≡ None }
-        ensures { OnOk result (self.new ≡ self.old ++ name.now ∷ []) }
-    {
+    /// Adds a key unless it is there.
+    fn add(&mut self, alloc: Global, name: &str) -> Result<(), AllocError> {
         let key = Key::new(alloc, name)?;
         self.keys.reserve(1)?;
         match self.index.search(self.keys.as_slice(), 7, name) {
-            Ok(_) => unreachable!(),
+            Ok(_) => return Ok(()),
             Err(spot) => self.index.add(alloc, self.keys.as_slice(), 7, spot)?,
         }
         self.keys.push_reserved(key);
         Ok(())
     }
 
-    fn cut(&mut self, at: usize)
-        requires { at < length self.old }
-        ensures { self.new ≡ remove self.old at }
-    {
-        drop(self.keys.remove(at));
-        self.index.cut(at);
-    }
-}
-
-fn of_names(alloc: Global, names: &[&str]) -> Result<Sevens, AllocError> {
-    let mut keys = Sevens::new(alloc);
-    for name in names {
-        if keys.find(name).is_none() {
-            keys.add(alloc, name)?;
+    fn cut(&mut self, at: usize) {
+        if at < self.keys.len() {
+            drop(self.keys.remove(at));
+            self.index.cut(at);
         }
     }
-    Ok(keys)
 }
 
-fn expect_positions(rt: &impl Abort, keys: &Sevens, rows: &[(&str, Option<usize>)]) {
-    for (name, want) in rows {
-        expect_eq(rt, name, keys.find(name), *want);
+/// The keys are these, in this order, and not the absent ones.
+fn expect_keys(rt: &impl Abort, keys: &Sevens, names: &[&str], absent: &[&str]) {
+    for (index, name) in names.iter().enumerate() {
+        expect_eq(rt, name, keys.find(name), Some(index));
+    }
+    for name in absent {
+        expect_eq(rt, name, keys.find(name), None);
     }
 }
-
-const WHOLE: &[(&str, Option<usize>)] = &[
-    ("d", Some(0)),
-    ("b", Some(1)),
-    ("a", Some(2)),
-    ("c", Some(3)),
-    ("e", None),
-];
-
-const WITHOUT_B: &[(&str, Option<usize>)] = &[
-    ("d", Some(0)),
-    ("a", Some(1)),
-    ("c", Some(2)),
-    ("b", None),
-    ("e", None),
-];
 
 #[test]
 fn finds_keys_of_one_hash(rt: HostRuntime) -> Result<(), AllocError> {
-    let mut keys = of_names(rt.alloc(), &["d", "b", "a", "c"])?;
-    expect_positions(&rt, &keys, WHOLE);
-    if keys.len() == 4 {
-        keys.cut(1);
+    let mut keys = Sevens::new(rt.alloc());
+    for name in ["d", "b", "a", "c"] {
+        keys.add(rt.alloc(), name)?;
     }
-    expect_positions(&rt, &keys, WITHOUT_B);
+    expect_keys(&rt, &keys, &["d", "b", "a", "c"], &["e"]);
+    keys.cut(1);
+    expect_keys(&rt, &keys, &["d", "a", "c"], &["b", "e"]);
     Ok(())
 }

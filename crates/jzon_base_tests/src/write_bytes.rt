@@ -7,6 +7,13 @@ use std::alloc::Global;
 use std::process::Abort;
 use std::test::Fail;
 
+/// It took these bytes, one for each call but a failed one, and wasn't flushed.
+fn expect_taken(rt: &impl Abort, writer: &SlowWriter, bytes: &[u8], calls: usize) {
+    expect(rt, "the bytes", writer.bytes.as_slice() == bytes);
+    expect_eq(rt, "the calls", writer.calls, calls);
+    expect_eq(rt, "the flushes", writer.flushes, 0);
+}
+
 /// The text of the longest number, to a writer that fails at each call in turn: the bytes before it
 /// are written, no byte follows, and the error is returned.
 fn expect_returned(rt: &impl Abort, alloc: Global, trouble: Trouble) -> Result<(), Fail> {
@@ -19,10 +26,7 @@ fn expect_returned(rt: &impl Abort, alloc: Global, trouble: Trouble) -> Result<(
             Err(error) => trouble.is_returned(alloc, &error)?,
         };
         expect(rt, "the error", is_returned);
-        let is_prefix = writer.bytes.as_slice() == &text[..call - 1];
-        expect(rt, "the bytes", is_prefix);
-        expect_eq(rt, "the calls", writer.calls, call);
-        expect_eq(rt, "the flushes", writer.flushes, 0);
+        expect_taken(rt, &writer, &text[..call - 1], call);
     }
     Ok(())
 }
@@ -41,9 +45,7 @@ fn writes_all_bytes(rt: HostRuntime) -> Result<(), Fail> {
     for text in ["", "a", "\0\u{1F984}", "a longer text\n", long.as_str()] {
         let mut writer = SlowWriter::new(rt.alloc(), NO_FAILING_CALL, Trouble::TakesNothing);
         write_bytes(&mut writer, text.as_bytes())?;
-        expect(&rt, text, writer.bytes.as_slice() == text.as_bytes());
-        expect_eq(&rt, text, writer.calls, text.len());
-        expect_eq(&rt, text, writer.flushes, 0);
+        expect_taken(&rt, &writer, text.as_bytes(), text.len());
     }
     Ok(())
 }
@@ -53,12 +55,6 @@ fn writes_all_bytes(rt: HostRuntime) -> Result<(), Fail> {
 fn writes_a_number(rt: HostRuntime) -> Result<(), Fail> {
     let mut writer = SlowWriter::new(rt.alloc(), NO_FAILING_CALL, Trouble::TakesNothing);
     print_dec::write(&mut writer, false, 125, -1)?;
-    expect(
-        &rt,
-        "the text",
-        writer.bytes.as_slice() == b"-12.5".as_slice(),
-    );
-    expect_eq(&rt, "the calls", writer.calls, 5);
-    expect_eq(&rt, "the flushes", writer.flushes, 0);
+    expect_taken(&rt, &writer, b"-12.5", 5);
     Ok(())
 }

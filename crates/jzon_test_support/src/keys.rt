@@ -3,12 +3,18 @@
 use jzon_base::keys::hash::hash_of;
 use std::alloc::{AllocError, Global};
 
-/// `count` keys, in ascending order of their hashes.
-pub fn keys_by_hash(alloc: Global, count: u32) -> Result<Vec<String>, AllocError> {
+/// The digits of the numbers below `count`, in the order of the numbers.
+pub fn digits_below(alloc: Global, count: u32) -> Result<Vec<String>, AllocError> {
     let mut keys = Vec::new(alloc);
     for number in 0..count {
         keys.push(format!(in alloc; "{number}")?)?;
     }
+    Ok(keys)
+}
+
+/// `count` keys, in ascending order of their hashes.
+pub fn keys_by_hash(alloc: Global, count: u32) -> Result<Vec<String>, AllocError> {
+    let mut keys = digits_below(alloc, count)?;
     keys.sort_by_key(|key| hash_of(key.as_str()))?;
     Ok(keys)
 }

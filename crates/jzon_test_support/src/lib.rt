@@ -8,7 +8,7 @@ mod refusals;
 mod slow_writer;
 
 pub use failing_formatter::{FailingFormatter, show_failing};
-pub use keys::{keys_by_hash, keys_of_one_hash, object_text};
+pub use keys::{digits_below, keys_by_hash, keys_of_one_hash, object_text};
 pub use refusals::{RUNS_MAX, Refusals};
 pub use slow_writer::{FAILURES, NO_FAILING_CALL, SlowWriter, Trouble, WORDS, is_same_error};
 use std::alloc::{AllocError, Global};
