@@ -28,12 +28,7 @@ fn converts_integers(rt: HostRuntime) -> Tested {
     expect_dump(&rt, alloc, 65535u16, "65535")?;
     expect_dump(&rt, alloc, 4294967295u32, "4294967295")?;
     expect_dump(&rt, alloc, 18446744073709551615u64, "18446744073709551615")?;
-    expect_dump(
-        &rt,
-        alloc,
-        18446744073709551615usize,
-        "18446744073709551615",
-    )?;
+    expect_dump(&rt, alloc, usize::MAX, "18446744073709551615")?;
     expect_dump(&rt, alloc, -128i8, "-128")?;
     expect_dump(&rt, alloc, -32768i16, "-32768")?;
     expect_dump(&rt, alloc, -2147483648i32, "-2147483648")?;
@@ -45,12 +40,8 @@ fn converts_integers(rt: HostRuntime) -> Tested {
 fn converts_without_allocating(rt: HostRuntime) -> Tested {
     let alloc = rt.alloc();
     expect_dump(&rt, alloc, true, "true")?;
-    expect_dump(
-        &rt,
-        alloc,
-        Number::from_parts_unchecked(true, 150, -2),
-        "1.50",
-    )?;
+    let number = Number::from_parts_unchecked(true, 150, -2);
+    expect_dump(&rt, alloc, number, "1.50")?;
     expect_dump(&rt, alloc, NAN, "null")?;
     expect_dump(&rt, alloc, Object::new(alloc), "{}")?;
     expect_dump(&rt, alloc, JsonValue::Boolean(false), "false")
@@ -132,11 +123,32 @@ fn puts_entries(rt: HostRuntime) -> Tested {
     expect_dump(&rt, alloc, object, "{\"a\":3,\"c\":4}")
 }
 
-/// Becomes the number of conversions before its own, unless its own is the one that fails.
-#[derive(Clone, Copy, Drop)]
-struct Counted<'a> {
-    count: &'a Cell<u64>,
+/// How often values of a user's type are converted and cloned, and which conversion fails.
+#[derive(Drop)]
+struct Counts {
+    conversions: Cell<u64>,
+    clones: Cell<u64>,
     fails_after: u64,
+}
+
+fn fresh_counts(fails_after: u64) -> Counts {
+    Counts {
+        conversions: Cell::new(0),
+        clones: Cell::new(0),
+        fails_after,
+    }
+}
+
+/// Becomes the number of conversions before its own, unless its own is the one that fails.
+#[derive(Drop)]
+struct Counted<'a>(&'a Counts);
+
+impl Clone for Counted<'_> {
+    fn clone(&self) -> std::result::Result<Self, AllocError> {
+        let clones = &self.0.clones;
+        clones.set(clones.get().saturating_add(1));
+        Ok(Counted(self.0))
+    }
 }
 
 impl IntoJson for Counted<'_> {
@@ -147,106 +159,64 @@ impl IntoJson for Counted<'_> {
     ghost is_free = { λ _. ⊥ };
 
     fn into_json(self, alloc: Global) -> Result<JsonValue> {
-        let count = self.count.get();
-        self.count.set(count.saturating_add(1));
-        if count == self.fails_after {
+        let count = self.0.conversions.get();
+        self.0.conversions.set(count.saturating_add(1));
+        if count == self.0.fails_after {
             return Err(Error::OutOfMemory);
         }
         count.into_json(alloc)
     }
 }
 
-/// Counts its clones.
-#[derive(Drop)]
-struct Cloned<'a> {
-    count: &'a Cell<u64>,
-}
-
-impl Clone for Cloned<'_> {
-    fn clone(&self) -> std::result::Result<Self, AllocError> {
-        self.count.set(self.count.get().saturating_add(1));
-        Ok(Cloned { count: self.count })
-    }
-}
-
-impl IntoJson for Cloned<'_> {
-    ghost use Rattle.std.specs.Prelude.{◌≡◌};
-
-    ghost means = { λ _ v. v ≡ v };
-
-    ghost is_free = { λ _. ⊥ };
-
-    fn into_json(self, _alloc: Global) -> Result<JsonValue> {
-        Ok(JsonValue::Null)
-    }
-}
-
-/// The elements of a slice are cloned once each, and those of a list aren't.
-#[test]
-fn clones_the_elements_of_slices(rt: HostRuntime) -> Tested {
-    let count = Cell::new(0);
-    let list = vec![in rt.alloc(); Cloned { count: &count }, Cloned { count: &count }]?;
-    expect_dump(&rt, rt.alloc(), list.as_slice(), "[null,null]")?;
-    expect_eq(&rt, "of a slice", count.get(), 2);
-    expect_dump(&rt, rt.alloc(), list, "[null,null]")?;
-    expect_eq(&rt, "of a list", count.get(), 2);
-    Ok(())
-}
-
-/// Elements and entries are converted in their order, each once.
+/// Elements and entries are converted in their order, each once. The elements of a slice are cloned
+/// once each, and those of a list aren't.
 #[test]
 fn converts_in_order(rt: HostRuntime) -> Tested {
     let alloc = rt.alloc();
-    let count = Cell::new(0);
-    let counted = Counted {
-        count: &count,
-        fails_after: u64::MAX,
-    };
-    let list = vec![in alloc; counted, counted, counted]?;
+    let counts = fresh_counts(u64::MAX);
+    let list = vec![in alloc; Counted(&counts), Counted(&counts), Counted(&counts)]?;
     expect_dump(&rt, alloc, list.as_slice(), "[0,1,2]")?;
+    expect_eq(&rt, "of a slice", counts.clones.get(), 3);
     expect_dump(&rt, alloc, list, "[3,4,5]")?;
-    let pairs = [("b", counted), ("a", counted), ("b", counted)];
-    let object = Object::from_pairs(alloc, pairs.into_iter())?;
+    expect_eq(&rt, "of a list", counts.clones.get(), 3);
+    let pairs = ["b", "a", "b"]
+        .into_iter()
+        .map(|key| (key, Counted(&counts)));
+    let object = Object::from_pairs(alloc, pairs)?;
     expect_dump(&rt, alloc, object, "{\"b\":8,\"a\":7}")?;
     let mut map = BTreeMap::new(alloc);
-    map.insert("b", counted)?;
-    map.insert("a", counted)?;
+    map.insert("b", Counted(&counts))?;
+    map.insert("a", Counted(&counts))?;
     expect_dump(&rt, alloc, map, "{\"a\":9,\"b\":10}")?;
-    expect_eq(&rt, "the conversions", count.get(), 11);
+    expect_eq(&rt, "the conversions", counts.conversions.get(), 11);
     Ok(())
 }
 
-/// The second of three conversions fails, and there is no third.
-fn expect_stop<T: IntoJson>(rt: &impl Abort, alloc: Global, source: T, count: &Cell<u64>) {
-    count.set(0);
-    let outcome = source.into_json(alloc);
+/// The second of three conversions failed, and there is no third.
+fn expect_stopped<T: Drop>(rt: &impl Abort, outcome: Result<T>, counts: &Counts) {
     expect(rt, "the error", matches!(outcome, Err(Error::OutOfMemory)));
-    expect_eq(rt, "the conversions", count.get(), 2);
+    expect_eq(rt, "the conversions", counts.conversions.get(), 2);
+    counts.conversions.set(0);
 }
 
 #[test]
 fn converts_until_one_fails(rt: HostRuntime) -> Tested {
     let alloc = rt.alloc();
-    let count = Cell::new(0);
-    let counted = Counted {
-        count: &count,
-        fails_after: 1,
-    };
-    let list = vec![in alloc; counted, counted, counted]?;
-    expect_stop(&rt, alloc, list.as_slice(), &count);
-    expect_stop(&rt, alloc, list, &count);
+    let counts = fresh_counts(1);
+    let list = vec![in alloc; Counted(&counts), Counted(&counts), Counted(&counts)]?;
+    expect_stopped(&rt, list.as_slice().into_json(alloc), &counts);
+    expect_stopped(&rt, list.into_json(alloc), &counts);
     let mut map = BTreeMap::new(alloc);
     let mut hash_map = HashMap::new(alloc);
     for key in ["a", "b", "c"] {
-        map.insert(key, counted)?;
-        hash_map.insert(String::from_str(alloc, key)?, counted)?;
+        map.insert(key, Counted(&counts))?;
+        hash_map.insert(String::from_str(alloc, key)?, Counted(&counts))?;
     }
-    expect_stop(&rt, alloc, map, &count);
-    expect_stop(&rt, alloc, hash_map, &count);
-    count.set(0);
-    let pairs = [("a", counted), ("b", counted), ("c", counted)];
-    let outcome = Object::from_pairs(alloc, pairs.into_iter());
-    expect(&rt, "the error", matches!(outcome, Err(Error::OutOfMemory)));
-    expect_eq(&rt, "the conversions", count.get(), 2);
+    expect_stopped(&rt, map.into_json(alloc), &counts);
+    expect_stopped(&rt, hash_map.into_json(alloc), &counts);
+    let pairs = ["a", "b", "c"]
+        .into_iter()
+        .map(|key| (key, Counted(&counts)));
+    expect_stopped(&rt, Object::from_pairs(alloc, pairs), &counts);
     Ok(())
 }

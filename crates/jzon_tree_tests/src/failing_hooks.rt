@@ -1,5 +1,6 @@
-//! Each hook, called directly, where the writer fails: of the four generators, of one that overrides
-//! `write`, and of a user's own that has the required hooks alone.
+//! Each hook, called directly, and `write_json` and `write_object`, over a writer, also where it fails:
+//! of the two generators over a writer, of one that overrides `write`, and of a user's own that has
+//! the required hooks alone.
 
 ghost use Rattle.std.specs.Prelude.{None, refl};
 ghost use Rattle.jzon_tree.specs.StyleLaws.{IsStyle-compact};
@@ -7,18 +8,15 @@ ghost use Rattle.jzon_tree.specs.Styles.{compact_style};
 
 use crate::common::{Tested, expect, expect_bytes, expect_eq, numbers};
 use crate::counting::Counting;
-use crate::hooks::{Hook, ROWS, Row, call};
-use jzon_test_support::{FAILURES, RUNS_MAX, Refusals, SlowWriter, Trouble};
-use jzon_tree::codegen::{
-    DumpGenerator, Generator, PrettyGenerator, PrettyWriterGenerator, WriterGenerator, write_json,
-};
+use crate::hooks::{Hook, ROWS, Row, outcome_of};
+use jzon_test_support::{FAILURES, SlowWriter, Trouble};
+use jzon_tree::codegen::{Generator, PrettyWriterGenerator, WriterGenerator, write_json};
 use jzon_tree::object::Object;
 use jzon_tree::value::JsonValue;
 use std::alloc::Global;
 use std::io;
 use std::io::{ErrorKind, Write};
 use std::process::Abort;
-use std::test::Fail;
 
 /// Compact text, by the required hooks alone.
 #[derive(Drop)]
@@ -78,34 +76,53 @@ impl<W: Write> Generator for Plain<W> {
     ghost style_law = { λ _. IsStyle-compact };
 }
 
-/// A generator over a writer that fails.
+/// A generator over a writer.
 #[derive(Clone, Copy)]
 enum Over {
     Compact,
     Pretty,
     Counting,
+    CountingPretty,
     Plain,
 }
 
-const OVERS: [Over; 4] = [Over::Compact, Over::Pretty, Over::Counting, Over::Plain];
+const OVERS: [Over; 5] = [
+    Over::Compact,
+    Over::Pretty,
+    Over::Counting,
+    Over::CountingPretty,
+    Over::Plain,
+];
 
 impl Over {
     /// What the hook of the row appends.
     fn text(self, row: Row) -> &'static str {
         match self {
-            Over::Pretty => row.2,
+            Over::Pretty | Over::CountingPretty => row.2,
             _ => row.1,
         }
     }
 
-    /// The error of the row's hook.
-    fn error(self, rt: &impl Abort, alloc: Global, writer: &mut SlowWriter, row: Row) -> Failure {
+    /// The outcome of the row's hook.
+    fn outcome(
+        self,
+        rt: &impl Abort,
+        writer: &mut SlowWriter,
+        row: Row,
+        value: &JsonValue,
+    ) -> io::Result<()> {
         match self {
-            Over::Compact => error_of(rt, alloc, &mut WriterGenerator::new(writer), row),
-            Over::Pretty => error_of(rt, alloc, &mut PrettyWriterGenerator::new(writer, 1), row),
+            Over::Compact => outcome_of(rt, &mut WriterGenerator::new(writer), row, value),
+            Over::Pretty => {
+                outcome_of(rt, &mut PrettyWriterGenerator::new(writer, 1), row, value)
+            }
             Over::Counting => {
                 let inner = WriterGenerator::new(writer);
-                error_of(rt, alloc, &mut Counting::new(inner), row)
+                outcome_of(rt, &mut Counting::new(inner), row, value)
+            }
+            Over::CountingPretty => {
+                let inner = PrettyWriterGenerator::new(writer, 1);
+                outcome_of(rt, &mut Counting::new(inner), row, value)
             }
             Over::Plain => {
                 let mut plain = Plain {
@@ -113,170 +130,87 @@ impl Over {
                     dent: 0,
                     faults: 0,
                 };
-                error_of(rt, alloc, &mut plain, row)
+                outcome_of(rt, &mut plain, row, value)
             }
         }
     }
 }
 
-/// The error of a hook, if it failed.
-type Failure = Option<io::Error>;
-
-/// Two indents are open as before, and one fault is counted, but for a write to the writer directly.
-fn expect_one_fault<G: Generator>(rt: &impl Abort, generator: &mut G, hook: Hook) {
-    let faults = if matches!(hook, Hook::GetWriter) {
-        0
-    } else {
-        1
-    };
-    expect_eq(rt, "the faults", generator.faults(), faults);
-    expect_eq(rt, "the indents", generator.dent(), 2);
-}
-
-/// The error of the row's hook.
-fn error_of<G: Generator>(rt: &impl Abort, alloc: Global, generator: &mut G, row: Row) -> Failure {
-    generator.set_dent(2);
-    let error = call(generator, row.0, &Object::new(alloc)).err();
-    expect_one_fault(rt, generator, row.0);
-    error
-}
-
-/// The writer fails at each of the hook's calls in turn: its own error is returned, the bytes
-/// before that call were written, and the writer isn't flushed.
+/// The writer fails at each of the hook's calls in turn, and at last after them: its own error is
+/// returned, the bytes before that call were written, and the writer isn't flushed.
 fn expect_failures(
     rt: &impl Abort,
     alloc: Global,
     over: Over,
     row: Row,
+    value: &JsonValue,
     trouble: Trouble,
 ) -> Tested {
     let text = over.text(row).as_bytes();
-    for call in 1..=text.len() {
-        let mut writer = SlowWriter::new(alloc, call, trouble);
-        match over.error(rt, alloc, &mut writer, row) {
-            Some(error) => expect(rt, "the error", trouble.is_returned(alloc, &error)?),
-            None => expect(rt, "no error", false),
+    for len in 0..=text.len() {
+        let mut writer = SlowWriter::new(alloc, len.saturating_add(1), trouble);
+        match over.outcome(rt, &mut writer, row, value) {
+            Ok(()) => expect(rt, "no error", len == text.len()),
+            Err(error) => {
+                let is_returned = trouble.is_returned(alloc, &error)?;
+                expect(rt, "the error", is_returned && len < text.len());
+            }
         }
-        expect(
-            rt,
-            "the bytes",
-            writer.bytes.as_slice() == &text[..call - 1],
-        );
+        expect(rt, "the bytes", writer.bytes.as_slice() == &text[..len]);
         expect_eq(rt, "the flushes", writer.flushes, 0);
     }
     Ok(())
 }
 
-/// A hook that appends nothing isn't called: `hooks` has its result.
 #[test]
 fn hooks_over_a_failing_writer(rt: HostRuntime) -> Tested {
+    let value = JsonValue::new_object(rt.alloc());
     for over in OVERS {
         for row in ROWS {
             for trouble in FAILURES {
-                expect_failures(&rt, rt.alloc(), over, row, trouble)?;
+                expect_failures(&rt, rt.alloc(), over, row, &value, trouble)?;
             }
         }
     }
     Ok(())
 }
 
-const ON_LINES: &str = "{\n  \"a\": [\n    1,\n    20\n  ],\n  \"b\\n\": null\n}";
+const ON_ONE_LINE: &str = "{\"a\":[1,20],\"b\\n\":null}";
 
-fn on_lines(alloc: Global) -> jzon_base::error::Result<JsonValue> {
-    let mut object = JsonValue::new_object(alloc);
-    object.insert(alloc, "a", numbers(alloc, &[1, 20])?)?;
-    object.insert(alloc, "b\n", JsonValue::Null)?;
-    Ok(object)
-}
+/// Two indents are open before it.
+const ON_LINES: &str = "{\n   \"a\": [\n    1,\n    20\n   ],\n   \"b\\n\": null\n  }";
 
-/// Over a user's own generator `write_json` returns the writer's own error too, whichever hook
-/// fails.
+const PRINTED: [Row; 2] = [
+    (Hook::WriteJson, ON_ONE_LINE, ON_LINES, 2, 0),
+    (Hook::WriteObject, ON_ONE_LINE, ON_LINES, 2, 0),
+];
+
+/// Also over a user's own generator the writer's own error is returned, whichever hook fails.
 #[test]
 fn write_json_over_a_failing_writer(rt: HostRuntime) -> Tested {
-    let value = on_lines(rt.alloc())?;
+    let mut value = JsonValue::new_object(rt.alloc());
+    value.insert(rt.alloc(), "a", numbers(rt.alloc(), &[1, 20])?)?;
+    value.insert(rt.alloc(), "b\n", JsonValue::Null)?;
     let trouble = Trouble::Fails(ErrorKind::BrokenPipe);
-    for call in 1..=ON_LINES.len() {
-        let mut writer = SlowWriter::new(rt.alloc(), call, trouble);
-        let inner = PrettyWriterGenerator::new(&mut writer, 2);
-        match write_json(&mut Counting::new(inner), &value) {
-            Ok(()) => expect(&rt, "no error", false),
-            Err(error) => expect(&rt, "the error", trouble.is_returned(rt.alloc(), &error)?),
+    for over in OVERS {
+        for row in PRINTED {
+            expect_failures(&rt, rt.alloc(), over, row, &value, trouble)?;
         }
-        expect_bytes(&rt, &writer.bytes, ON_LINES.get(..call - 1).unwrap_or(""));
     }
     Ok(())
 }
 
-/// One run of the row's hook, on a generator that is new. Whether no allocation failed in it; else
-/// its error says so, and nothing was appended.
-fn is_spared<G: Generator<T = Vec<u8>>>(
-    rt: &impl Abort,
-    refusals: &mut Refusals,
-    generator: &mut G,
-    object: &Object,
-    row: Row,
-    text: &str,
-) -> bool {
-    generator.set_dent(2);
-    refusals.begin();
-    let result = call(generator, row.0, object);
-    let is_spared = !refusals.has_failed();
-    match result {
-        Ok(()) => expect(rt, "no error", is_spared),
-        Err(error) => {
-            expect(
-                rt,
-                "the error",
-                !is_spared && error.kind() == ErrorKind::OutOfMemory,
-            );
-            expect_one_fault(rt, generator, row.0);
-        }
-    }
-    expect_bytes(
-        rt,
-        generator.get_writer(),
-        if is_spared { text } else { "" },
-    );
-    is_spared
-}
-
-/// The row's hook of `DumpGenerator`, with each of its allocations failing in turn.
-fn fail_each_compact(rt: &(impl Eprint + Abort), alloc: Global, row: Row) -> Result<(), Fail> {
-    let mut refusals = Refusals::new(alloc);
-    let object = Object::new(alloc);
-    for _ in 0..RUNS_MAX {
-        let mut generator = DumpGenerator::new(alloc);
-        if is_spared(rt, &mut refusals, &mut generator, &object, row, row.1) {
-            break;
-        }
-    }
-    refusals.report(rt, "a hook of DumpGenerator", 1)?;
-    Ok(())
-}
-
-/// That of `PrettyGenerator`.
-fn fail_each_pretty(rt: &(impl Eprint + Abort), alloc: Global, row: Row) -> Result<(), Fail> {
-    let mut refusals = Refusals::new(alloc);
-    let object = Object::new(alloc);
-    for _ in 0..RUNS_MAX {
-        let mut generator = PrettyGenerator::new(alloc, 1);
-        if is_spared(rt, &mut refusals, &mut generator, &object, row, row.2) {
-            break;
-        }
-    }
-    refusals.report(rt, "a hook of PrettyGenerator", 1)?;
-    Ok(())
-}
-
+/// The indents that were open when the error occurred stay open.
 #[test]
-fn hooks_over_memory_under_refusals(rt: HostRuntime) -> Tested {
-    for row in ROWS {
-        if !row.1.is_empty() {
-            fail_each_compact(&rt, rt.alloc(), row)?;
-        }
-        if !row.2.is_empty() {
-            fail_each_pretty(&rt, rt.alloc(), row)?;
-        }
-    }
+fn leaves_the_indents_open(rt: HostRuntime) -> Tested {
+    let value = numbers(rt.alloc(), &[1])?;
+    let trouble = Trouble::Fails(ErrorKind::BrokenPipe);
+    let mut writer = SlowWriter::new(rt.alloc(), 4, trouble);
+    let mut generator = PrettyWriterGenerator::new(&mut writer, 2);
+    let result = write_json(&mut generator, &value);
+    expect(&rt, "the error", result.is_err());
+    expect_eq(&rt, "the indents", generator.dent(), 1);
+    expect_eq(&rt, "the faults", generator.faults(), 1);
+    expect_bytes(&rt, &writer.bytes, "[\n ");
     Ok(())
 }

@@ -1,4 +1,4 @@
-//! A user's own layout, and the orders of generators.
+//! A user's own layout, and all calls that print in a layout.
 
 ghost use Rattle.std.specs.Prelude.{◌≡◌, length, IfOk};
 ghost use Rattle.jzon_base.specs.PairList.{keys_of};
@@ -8,6 +8,7 @@ ghost use Rattle.jzon_tree.specs.StyleLaws.{IsStyle-any};
 ghost use Rattle.jzon_tree.specs.Writing.{any_style, IsOrder};
 
 use crate::common::{Tested, expect, expect_bytes, expect_eq};
+use crate::outlets::{Buffer, Plain};
 use jzon_base::error::Error;
 use jzon_test_support::{
     RUNS_MAX, Refusals, SlowWriter, Trouble, keys_by_hash, keys_of_one_hash, object_text,
@@ -20,16 +21,9 @@ use std::cell::Cell;
 use std::io;
 use std::io::ErrorKind;
 use std::process::Abort;
-use std::test::Fail;
-
-/// A user's layout: the entries of each object are in the order of their keys.
-#[derive(Drop)]
-struct Sorting {
-    alloc: Global,
-}
 
 fn key_at(object: &Object, position: usize) -> Option<&str> {
-    object.iter().nth(position).map(|pair| pair.0)
+    object.get_index(position).map(|pair| pair.0)
 }
 
 fn insertion_order(alloc: Global, count: usize) -> Result<Vec<usize>, AllocError>
@@ -42,6 +36,7 @@ fn insertion_order(alloc: Global, count: usize) -> Result<Vec<usize>, AllocError
     Ok(positions)
 }
 
+/// The entries in the order of their keys.
 fn sorted_order(alloc: Global, object: &Object) -> Result<Vec<usize>, AllocError>
     ensures { IfOk result (λ positions. IsOrder
         (length (keys_of (entries_of object.now))) positions.items) }
@@ -51,18 +46,142 @@ fn sorted_order(alloc: Global, object: &Object) -> Result<Vec<usize>, AllocError
     Ok(positions)
 }
 
-impl Layout for Sorting {
+/// The last entry first.
+fn reversed_order(alloc: Global, object: &Object) -> Result<Vec<usize>, AllocError>
+    ensures { IfOk result (λ positions. IsOrder
+        (length (keys_of (entries_of object.now))) positions.items) }
+{
+    let mut positions = insertion_order(alloc, object.len())?;
+    positions.reverse();
+    Ok(positions)
+}
+
+#[derive(Clone, Copy)]
+enum Order {
+    Insertion,
+    Sorted,
+    Reversed,
+    Failing,
+}
+
+/// A user's layout, whose style allows any whitespace and any order. It counts the calls of its
+/// `order`.
+#[derive(Clone, Copy, Drop)]
+struct Own<'a> {
+    alloc: Global,
+    order: Order,
+    spaces: Option<u16>,
+    asked: &'a Cell<u64>,
+}
+
+impl Layout for Own<'_> {
     ghost style = { λ _. any_style };
 
     fn spaces(&self) -> Option<u16> {
-        None
+        match self.spaces {
+            None => None,
+            Some(spaces) => Some(spaces),
+        }
     }
 
     fn order(&self, object: &Object) -> Result<Option<Vec<usize>>, AllocError> {
-        Ok(Some(sorted_order(self.alloc, object)?))
+        self.asked.set(self.asked.get().saturating_add(1));
+        match self.order {
+            Order::Insertion => Ok(None),
+            Order::Sorted => Ok(Some(sorted_order(self.alloc, object)?)),
+            Order::Reversed => Ok(Some(reversed_order(self.alloc, object)?)),
+            Order::Failing => Err(AllocError),
+        }
     }
 
     ghost style_law = { λ _. IsStyle-any };
+}
+
+/// A layout without whitespace, in this order.
+fn in_order(alloc: Global, order: Order, asked: &Cell<u64>) -> Own<'_> {
+    Own {
+        alloc,
+        order,
+        spaces: None,
+        asked,
+    }
+}
+
+/// A call that prints a value in a layout.
+#[derive(Clone, Copy)]
+enum Call {
+    LayOut,
+    WriteLayout,
+    InMemory,
+    ToWriter,
+    WriteOutlet,
+    /// `write_outlet` to a buffer with room for this number of bytes.
+    ToBuffer(usize),
+}
+
+/// No text of a test is as long as the last buffer.
+const CALLS: [Call; 7] = [
+    Call::LayOut,
+    Call::WriteLayout,
+    Call::InMemory,
+    Call::ToWriter,
+    Call::WriteOutlet,
+    Call::ToBuffer(0),
+    Call::ToBuffer(4_000_000),
+];
+
+impl Call {
+    /// Prints the value to these bytes, and returns the outcome. `lay_out` has no text after an error.
+    fn print<L: Layout + Copy>(
+        self,
+        alloc: Global,
+        value: &JsonValue,
+        layout: L,
+    ) -> Result<(Vec<u8>, io::Result<()>), AllocError> {
+        let mut bytes = Vec::new(alloc);
+        let outcome = match self {
+            Call::LayOut => match value.lay_out(alloc, layout) {
+                Ok(text) => return Ok((text.into_bytes(), Ok(()))),
+                Err(Error::OutOfMemory) => Err(io::Error::from(ErrorKind::OutOfMemory)),
+                Err(_) => Err(io::Error::from(ErrorKind::Other)),
+            },
+            Call::WriteLayout => value.write_layout(&mut bytes, layout),
+            Call::InMemory => {
+                let mut generator = TextGenerator::in_memory(alloc, layout);
+                let outcome = write_json(&mut generator, value);
+                bytes.extend_from_slice(generator.get_writer())?;
+                outcome
+            }
+            Call::ToWriter => write_json(&mut TextGenerator::to_writer(&mut bytes, layout), value),
+            Call::WriteOutlet => {
+                let mut plain = Plain { bytes };
+                let outcome = value.write_outlet(&mut plain, layout);
+                return Ok((plain.bytes, outcome));
+            }
+            Call::ToBuffer(room) => {
+                let mut buffer = Buffer::new(Vec::with_capacity(alloc, room)?);
+                let outcome = value.write_outlet(&mut buffer, layout);
+                return Ok((buffer.bytes, outcome));
+            }
+        };
+        Ok((bytes, outcome))
+    }
+}
+
+/// Each call prints this text.
+pub fn expect_laid_out<L: Layout + Copy>(
+    rt: &impl Abort,
+    alloc: Global,
+    value: &JsonValue,
+    layout: L,
+    text: &str,
+) -> Tested {
+    for call in CALLS {
+        let (bytes, outcome) = call.print(alloc, value, layout)?;
+        outcome?;
+        expect(rt, text, bytes.as_slice() == text.as_bytes());
+    }
+    Ok(())
 }
 
 /// `{"c":null,"b":null,"a":null}`
@@ -74,11 +193,50 @@ fn unsorted(alloc: Global) -> jzon_base::error::Result<Object> {
     Ok(object)
 }
 
+const UNSORTED: &str = "{\"c\":null,\"b\":null,\"a\":null}";
+
 const SORTED: &str = "{\"a\":null,\"b\":null,\"c\":null}";
 
-/// One run of `write_object` by `Sorting`. Whether an allocation failed in it.
+const SPACIOUS: &str = "{\n  \"c\": null,\n  \"b\": null,\n  \"a\": null\n}";
+
+const SORTED_LINES: &str = "{\n\"a\": null,\n\"b\": null,\n\"c\": null\n}";
+
+/// What is printed in an order with this number of spaces.
+const LAID_OUT: [(Order, Option<u16>, &str); 5] = [
+    (Order::Insertion, None, UNSORTED),
+    (Order::Insertion, Some(2), SPACIOUS),
+    (Order::Sorted, None, SORTED),
+    (Order::Sorted, Some(0), SORTED_LINES),
+    (Order::Reversed, None, SORTED),
+];
+
+const BROKEN: Trouble = Trouble::Fails(ErrorKind::BrokenPipe);
+
+#[test]
+fn writes_in_a_layout(rt: HostRuntime) -> Tested {
+    let alloc = rt.alloc();
+    let value = JsonValue::Object(unsorted(alloc)?);
+    let asked = Cell::new(0);
+    for (order, spaces, text) in LAID_OUT {
+        let layout = Own {
+            spaces,
+            ..in_order(alloc, order, &asked)
+        };
+        expect_laid_out(&rt, alloc, &value, layout, text)?;
+        let mut writer = SlowWriter::new(alloc, 6, BROKEN);
+        match value.write_layout(&mut writer, layout) {
+            Ok(()) => expect(&rt, "no error", false),
+            Err(error) => expect(&rt, "the error", BROKEN.is_returned(alloc, &error)?),
+        }
+        expect_bytes(&rt, &writer.bytes, text.get(..5).unwrap_or(""));
+    }
+    Ok(())
+}
+
+/// One run of `write_object` in the order of keys. Whether an allocation failed in it.
 fn sort_once(rt: &impl Abort, alloc: Global, object: &Object, refusals: &mut Refusals) -> bool {
-    let mut generator = TextGenerator::in_memory(alloc, Sorting { alloc });
+    let asked = Cell::new(0);
+    let mut generator = TextGenerator::in_memory(alloc, in_order(alloc, Order::Sorted, &asked));
     refusals.begin();
     let result = write_object(&mut generator, object);
     let has_failed = refusals.has_failed();
@@ -107,193 +265,71 @@ fn sorting_under_refusals(rt: HostRuntime) -> Tested {
             break;
         }
     }
-    refusals.report(&rt, "Sorting", 4)?;
+    refusals.report(&rt, "Sorted", 4)?;
     Ok(())
 }
 
-#[test]
-fn writes_in_a_layout(rt: HostRuntime) -> Tested {
-    let alloc = rt.alloc();
-    let value = JsonValue::Object(unsorted(alloc)?);
-    let mut bytes: Vec<u8> = Vec::new(alloc);
-    value.write_layout(&mut bytes, Sorting { alloc })?;
-    expect_bytes(&rt, &bytes, SORTED);
-    let trouble = Trouble::Fails(ErrorKind::BrokenPipe);
-    let mut writer = SlowWriter::new(alloc, 6, trouble);
-    match value.write_layout(&mut writer, Sorting { alloc }) {
-        Ok(()) => expect(&rt, "no error", false),
-        Err(error) => expect(&rt, "the error", trouble.is_returned(alloc, &error)?),
+/// An object with these keys, each with null.
+fn object_of(alloc: Global, keys: &[String]) -> jzon_base::error::Result<Object> {
+    let mut object = Object::new(alloc);
+    for key in keys {
+        object.insert(alloc, key.as_str(), JsonValue::Null)?;
     }
-    expect_bytes(&rt, &writer.bytes, "{\"a\":");
-    Ok(())
+    Ok(object)
 }
 
 /// An object of a thousand keys, each but the first longer than the one before it.
 #[test]
 fn sorts_a_large_object(rt: HostRuntime) -> Tested {
     let alloc = rt.alloc();
-    let mut object = Object::new(alloc);
-    for key in keys_of_one_hash(alloc, 1000)?.iter().rev() {
-        object.insert(alloc, key.as_str(), JsonValue::Null)?;
-    }
-    let value = JsonValue::Object(object);
-    let text = value.lay_out(alloc, Sorting { alloc })?;
-    let sorted = object_text(alloc, keys_of_one_hash(alloc, 1000)?.as_slice())?;
-    expect(&rt, "the text", text.as_str() == sorted.as_str());
-    let mut bytes: Vec<u8> = Vec::new(alloc);
-    value.write_layout(&mut bytes, Sorting { alloc })?;
-    expect(&rt, "write_layout", bytes.as_slice() == sorted.as_bytes());
-    Ok(())
-}
-
-/// The order in which the last entry is first.
-fn reversed_order(alloc: Global, object: &Object) -> Result<Vec<usize>, AllocError>
-    ensures { IfOk result (λ positions. IsOrder
-        (length (keys_of (entries_of object.now))) positions.items) }
-{
-    let mut positions = insertion_order(alloc, object.len())?;
-    positions.reverse();
-    Ok(positions)
-}
-
-/// A layout in this order.
-#[derive(Clone, Copy)]
-pub struct Reversing {
-    pub alloc: Global,
-}
-
-impl Layout for Reversing {
-    ghost style = { λ _. any_style };
-
-    fn spaces(&self) -> Option<u16> {
-        None
-    }
-
-    fn order(&self, object: &Object) -> Result<Option<Vec<usize>>, AllocError> {
-        Ok(Some(reversed_order(self.alloc, object)?))
-    }
-
-    ghost style_law = { λ _. IsStyle-any };
-}
-
-/// An object of as many entries, and its text in this order.
-pub fn reversed_entries(alloc: Global, count: u32) -> Result<(Object, String), Fail> {
-    let mut keys = keys_by_hash(alloc, count)?;
-    let mut object = Object::new(alloc);
-    for key in &keys {
-        object.insert(alloc, key.as_str(), JsonValue::Null)?;
-    }
+    let mut keys = keys_of_one_hash(alloc, 1000)?;
+    let text = object_text(alloc, keys.as_slice())?;
     keys.reverse();
-    Ok((object, object_text(alloc, keys.as_slice())?))
+    let value = JsonValue::Object(object_of(alloc, keys.as_slice())?);
+    let asked = Cell::new(0);
+    let layout = in_order(alloc, Order::Sorted, &asked);
+    expect_laid_out(&rt, alloc, &value, layout, text.as_str())
 }
 
-/// An order has more positions than 16 bits can count.
+/// An order has more positions than 16 bits can count. An outlet is asked for each of the keys.
 #[test]
 fn writes_many_entries_in_an_order(rt: HostRuntime) -> Tested {
     let alloc = rt.alloc();
-    let layout = Reversing { alloc };
-    let (object, text) = reversed_entries(alloc, 70_000)?;
+    let mut keys = keys_by_hash(alloc, 70_000)?;
+    let object = object_of(alloc, keys.as_slice())?;
+    keys.reverse();
+    let text = object_text(alloc, keys.as_slice())?;
+    let asked = Cell::new(0);
+    let layout = in_order(alloc, Order::Reversed, &asked);
     let mut generator = TextGenerator::in_memory(alloc, layout);
     write_object(&mut generator, &object)?;
     let written = generator.consume()?;
     expect(&rt, "write_object", written.as_str() == text.as_str());
     let value = JsonValue::Object(object);
-    let mut bytes: Vec<u8> = Vec::new(alloc);
-    write_json(&mut TextGenerator::to_writer(&mut bytes, layout), &value)?;
-    expect(&rt, "write_json", bytes.as_slice() == text.as_bytes());
-    let laid_out = value.lay_out(alloc, layout)?;
-    expect(&rt, "lay_out", laid_out.as_str() == text.as_str());
+    expect_laid_out(&rt, alloc, &value, layout, text.as_str())?;
+    let mut buffer = Buffer::new(Vec::new(alloc));
+    value.write_outlet(&mut buffer, layout)?;
+    expect_eq(&rt, "the keys", buffer.asked, 70_000);
     Ok(())
-}
-
-/// A layout whose style allows any whitespace, with two spaces an indent.
-#[derive(Clone, Copy)]
-struct Spacious;
-
-impl Layout for Spacious {
-    ghost style = { λ _. any_style };
-
-    fn spaces(&self) -> Option<u16> {
-        Some(2)
-    }
-
-    fn order(&self, _object: &Object) -> Result<Option<Vec<usize>>, AllocError> {
-        Ok(None)
-    }
-
-    ghost style_law = { λ _. IsStyle-any };
-}
-
-const SPACIOUS: &str = "{\n  \"c\": null,\n  \"b\": null,\n  \"a\": null\n}";
-
-#[test]
-fn writes_the_spaces_of_a_layout(rt: HostRuntime) -> Tested {
-    let value = JsonValue::Object(unsorted(rt.alloc())?);
-    let text = value.lay_out(rt.alloc(), Spacious)?;
-    expect_bytes(&rt, text.as_bytes(), SPACIOUS);
-    Ok(())
-}
-
-/// A layout that counts how often its `order` is called.
-#[derive(Clone, Copy, Drop)]
-struct Asked<'a> {
-    count: &'a Cell<u64>,
-}
-
-impl Layout for Asked<'_> {
-    ghost style = { λ _. any_style };
-
-    fn spaces(&self) -> Option<u16> {
-        None
-    }
-
-    fn order(&self, _object: &Object) -> Result<Option<Vec<usize>>, AllocError> {
-        self.count.set(self.count.get().saturating_add(1));
-        Ok(None)
-    }
-
-    ghost style_law = { λ _. IsStyle-any };
 }
 
 /// The order is asked for once for each of two objects, of which one is empty.
 #[test]
 fn asks_for_each_order_once(rt: HostRuntime) -> Tested {
     let alloc = rt.alloc();
-    let mut object = Object::new(alloc);
-    object.insert(alloc, "a", JsonValue::Object(Object::new(alloc)))?;
-    let value = JsonValue::Object(object);
-    let count = Cell::new(0);
-    let asked = Asked { count: &count };
-    value.lay_out(alloc, asked)?;
-    expect_eq(&rt, "lay_out", count.get(), 2);
-    let mut bytes: Vec<u8> = Vec::new(alloc);
-    value.write_layout(&mut bytes, asked)?;
-    expect_eq(&rt, "write_layout", count.get(), 4);
-    write_json(&mut TextGenerator::in_memory(alloc, asked), &value)?;
-    expect_eq(&rt, "TextGenerator", count.get(), 6);
+    let mut value = JsonValue::new_object(alloc);
+    value.insert(alloc, "a", JsonValue::new_object(alloc))?;
+    for call in CALLS {
+        let asked = Cell::new(0);
+        call.print(alloc, &value, in_order(alloc, Order::Insertion, &asked))?
+            .1?;
+        expect_eq(&rt, "the calls of order", asked.get(), 2);
+    }
     Ok(())
 }
 
-/// A layout whose `order` always fails.
-#[derive(Clone, Copy)]
-pub struct Orderless;
-
-impl Layout for Orderless {
-    ghost style = { λ _. any_style };
-
-    fn spaces(&self) -> Option<u16> {
-        None
-    }
-
-    fn order(&self, _object: &Object) -> Result<Option<Vec<usize>>, AllocError> {
-        Err(AllocError)
-    }
-
-    ghost style_law = { λ _. IsStyle-any };
-}
-
 /// The error is that of a failed allocation.
-pub fn is_out_of_memory(outcome: io::Result<()>) -> bool {
+fn is_out_of_memory(outcome: io::Result<()>) -> bool {
     outcome.is_err_and(|error| error.kind() == ErrorKind::OutOfMemory)
 }
 
@@ -302,27 +338,23 @@ pub fn is_out_of_memory(outcome: io::Result<()>) -> bool {
 #[test]
 fn propagates_a_failed_order(rt: HostRuntime) -> Tested {
     let alloc = rt.alloc();
+    let asked = Cell::new(0);
+    let layout = in_order(alloc, Order::Failing, &asked);
     let object = unsorted(alloc)?;
-    let mut generator = TextGenerator::in_memory(alloc, Orderless);
+    let mut generator = TextGenerator::in_memory(alloc, layout);
     let result = write_object(&mut generator, &object);
-    expect(
-        &rt,
-        "write_object",
-        is_out_of_memory(result) && generator.faults() == 1,
-    );
+    expect(&rt, "write_object", is_out_of_memory(result));
+    expect_eq(&rt, "one fault", generator.faults(), 1);
     let value = JsonValue::Array(vec![in alloc; JsonValue::Object(object)]?);
     let result = write_json(&mut generator, &value);
-    expect(
-        &rt,
-        "write_json",
-        is_out_of_memory(result) && generator.faults() == 2,
-    );
+    expect(&rt, "write_json", is_out_of_memory(result));
+    expect_eq(&rt, "two faults", generator.faults(), 2);
     expect_bytes(&rt, generator.get_writer(), "[");
-    let mut bytes: Vec<u8> = Vec::new(alloc);
-    let result = value.write_layout(&mut bytes, Orderless);
-    expect(&rt, "write_layout", is_out_of_memory(result));
-    expect_bytes(&rt, &bytes, "[");
-    let result = value.lay_out(alloc, Orderless);
-    expect(&rt, "lay_out", matches!(result, Err(Error::OutOfMemory)));
+    for call in CALLS {
+        let (bytes, outcome) = call.print(alloc, &value, layout)?;
+        expect(&rt, "the error", is_out_of_memory(outcome));
+        let is_lent = !matches!(call, Call::LayOut);
+        expect_bytes(&rt, &bytes, if is_lent { "[" } else { "" });
+    }
     Ok(())
 }

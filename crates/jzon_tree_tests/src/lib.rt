@@ -18,5 +18,3 @@ mod hooks;
 mod outlets;
 #[cfg(test)]
 mod printing;
-#[cfg(test)]
-mod writers;

@@ -1,7 +1,7 @@
 //! A user's own outlet: a buffer that takes what it has room for at once.
 
 use crate::common::{Tested, expect, expect_bytes, expect_eq};
-use crate::generators::{Orderless, Reversing, is_out_of_memory, reversed_entries};
+use crate::generators::expect_laid_out;
 use jzon_base::error::Result;
 use jzon_base::number::{NAN, Number};
 use jzon_tree::codegen::{Compact, Outlet, Pretty, push_digits, push_line, push_short};
@@ -13,16 +13,16 @@ use std::io::Write;
 /// Memory, how often it was asked to take something at once, and how many strings, numbers and
 /// starts of lines it took.
 #[derive(Drop)]
-struct Buffer {
-    bytes: Vec<u8>,
-    asked: usize,
+pub struct Buffer {
+    pub bytes: Vec<u8>,
+    pub asked: usize,
     strings: usize,
     numbers: usize,
     lines: usize,
 }
 
 impl Buffer {
-    fn new(bytes: Vec<u8>) -> Buffer {
+    pub fn new(bytes: Vec<u8>) -> Buffer {
         Buffer {
             bytes,
             asked: 0,
@@ -73,8 +73,8 @@ impl Outlet for Buffer {
 
 /// An outlet that takes nothing at once.
 #[derive(Drop)]
-struct Plain {
-    bytes: Vec<u8>,
+pub struct Plain {
+    pub bytes: Vec<u8>,
 }
 
 impl Write for Plain {
@@ -123,7 +123,8 @@ fn writes_to_a_buffer_with_room(rt: HostRuntime) -> Tested {
     value.write_outlet(&mut buffer, Pretty(1))?;
     expect_bytes(&rt, &buffer.bytes, ON_LINES);
     expect_eq(&rt, "the lines", buffer.lines, 7);
-    Ok(())
+    expect_laid_out(&rt, rt.alloc(), &value, Compact, ON_ONE_LINE)?;
+    expect_laid_out(&rt, rt.alloc(), &value, Pretty(1), ON_LINES)
 }
 
 /// A key and a string of more bytes than are added at once, one with an escape, NaN, and 0.
@@ -155,47 +156,11 @@ fn asks_for_each_piece(rt: HostRuntime) -> Tested {
 }
 
 #[test]
-fn writes_to_outlets_without_room(rt: HostRuntime) -> Tested {
-    let value = mixed(rt.alloc())?;
-    let mut buffer = Buffer::new(Vec::new(rt.alloc()));
-    value.write_outlet(&mut buffer, Pretty(1))?;
-    expect_bytes(&rt, &buffer.bytes, ON_LINES);
+fn takes_nothing_at_once(rt: HostRuntime) {
     let mut plain = Plain {
         bytes: Vec::new(rt.alloc()),
     };
     let number = Number::from_parts_unchecked(true, 7, 0);
     let is_taken = plain.put_string(b"a") || plain.put_number(&number) || plain.put_line(1);
     expect(&rt, "nothing is taken", !is_taken && plain.bytes.is_empty());
-    value.write_outlet(&mut plain, Compact)?;
-    expect_bytes(&rt, &plain.bytes, ON_ONE_LINE);
-    Ok(())
-}
-
-#[test]
-fn returns_the_error_of_order(rt: HostRuntime) -> Tested {
-    let mut array = JsonValue::new_array(rt.alloc());
-    array.push(rt.alloc(), JsonValue::new_object(rt.alloc()))?;
-    let mut plain = Plain {
-        bytes: Vec::new(rt.alloc()),
-    };
-    let result = array.write_outlet(&mut plain, Orderless);
-    expect(&rt, "the error", is_out_of_memory(result));
-    expect_bytes(&rt, &plain.bytes, "[");
-    Ok(())
-}
-
-/// In an order with more positions than 16 bits can count, also to a buffer with room.
-#[test]
-fn writes_many_entries_to_an_outlet(rt: HostRuntime) -> Tested {
-    let alloc = rt.alloc();
-    let (object, text) = reversed_entries(alloc, 70_000)?;
-    let value = JsonValue::Object(object);
-    for room in [0, text.len().saturating_add(34)] {
-        let mut buffer = Buffer::new(Vec::with_capacity(alloc, room)?);
-        value.write_outlet(&mut buffer, Reversing { alloc })?;
-        let bytes = buffer.bytes.as_slice();
-        expect(&rt, "the text", bytes == text.as_bytes());
-        expect_eq(&rt, "the keys", buffer.asked, 70_000);
-    }
-    Ok(())
 }

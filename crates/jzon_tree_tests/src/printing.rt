@@ -1,24 +1,18 @@
 //! What is printed, by several calls that print.
 
 use crate::common::{Tested, empty_containers, expect, expect_bytes, expect_eq, numbers};
+use crate::generators::expect_laid_out;
 use jzon_base::error::Error;
 use jzon_base::number::NAN;
 use jzon_tree::codegen::{
-    Compact, DumpGenerator, Generator, Layout, Pretty, PrettyGenerator, PrettyWriterGenerator,
-    WriterGenerator, push_line, push_short, write_json,
+    Compact, DumpGenerator, Generator, Layout, Pretty, PrettyGenerator, TextGenerator, push_line,
+    push_short, write_json,
 };
 use jzon_tree::object::Object;
 use jzon_tree::value::JsonValue;
 use std::alloc::Global;
-use std::io;
 use std::process::Abort;
 use std::test::Fail;
-
-fn dumped(alloc: Global, value: &JsonValue) -> Result<String, Fail> {
-    let mut generator = DumpGenerator::new(alloc);
-    write_json(&mut generator, value)?;
-    Ok(generator.consume()?)
-}
 
 fn prettified(alloc: Global, value: &JsonValue, spaces: u16) -> Result<String, Fail> {
     let mut generator = PrettyGenerator::new(alloc, spaces);
@@ -26,29 +20,16 @@ fn prettified(alloc: Global, value: &JsonValue, spaces: u16) -> Result<String, F
     Ok(generator.consume()?)
 }
 
-/// Both calls that print in a layout print this text of the value.
-fn expect_layout<L: Layout + Copy>(
-    rt: &impl Abort,
-    alloc: Global,
-    value: &JsonValue,
-    layout: L,
-    text: &str,
-) -> Tested {
-    let mut bytes = Vec::new(alloc);
-    value.write_layout(&mut bytes, layout)?;
-    expect_bytes(rt, &bytes, text);
-    expect_bytes(rt, value.lay_out(alloc, layout)?.as_bytes(), text);
-    Ok(())
-}
-
 /// Each call prints this compact text of the value.
 fn expect_compact(rt: &impl Abort, alloc: Global, value: &JsonValue, text: &str) -> Tested {
-    expect_bytes(rt, value.dump(alloc)?.as_bytes(), text);
-    expect_bytes(rt, dumped(alloc, value)?.as_bytes(), text);
     let mut bytes = Vec::new(alloc);
     value.write(&mut bytes)?;
     expect_bytes(rt, &bytes, text);
-    expect_layout(rt, alloc, value, Compact, text)
+    expect_bytes(rt, value.dump(alloc)?.as_bytes(), text);
+    let mut generator = DumpGenerator::new(alloc);
+    write_json(&mut generator, value)?;
+    expect_bytes(rt, generator.consume()?.as_bytes(), text);
+    expect_laid_out(rt, alloc, value, Compact, text)
 }
 
 /// Each call prints this text of the value, with `spaces` spaces for each open container.
@@ -59,25 +40,20 @@ fn expect_pretty(
     spaces: u16,
     text: &str,
 ) -> Tested {
-    expect_bytes(rt, value.pretty(alloc, spaces)?.as_bytes(), text);
-    expect_bytes(rt, prettified(alloc, value, spaces)?.as_bytes(), text);
     let mut bytes = Vec::new(alloc);
     value.write_pretty(&mut bytes, spaces)?;
     expect_bytes(rt, &bytes, text);
-    expect_layout(rt, alloc, value, Pretty(spaces), text)
+    expect_bytes(rt, value.pretty(alloc, spaces)?.as_bytes(), text);
+    expect_bytes(rt, prettified(alloc, value, spaces)?.as_bytes(), text);
+    expect_laid_out(rt, alloc, value, Pretty(spaces), text)
 }
 
 #[test]
 fn prints_containers(rt: HostRuntime) -> Tested {
     let value = empty_containers(rt.alloc())?;
     expect_compact(&rt, rt.alloc(), &value, "{\"a\":[],\"b\":{}}")?;
-    expect_pretty(
-        &rt,
-        rt.alloc(),
-        &value,
-        2,
-        "{\n  \"a\": [],\n  \"b\": {}\n}",
-    )
+    let text = "{\n  \"a\": [],\n  \"b\": {}\n}";
+    expect_pretty(&rt, rt.alloc(), &value, 2, text)
 }
 
 #[test]
@@ -113,40 +89,9 @@ fn prettifies_an_object(rt: HostRuntime) -> Tested {
     let mut object = Object::new(rt.alloc());
     object.insert(rt.alloc(), "a", JsonValue::Null)?;
     object.insert(rt.alloc(), "b", numbers(rt.alloc(), &[2])?)?;
-    let text = object.pretty(rt.alloc(), 1)?;
-    expect_bytes(
-        &rt,
-        text.as_bytes(),
-        "{\n \"a\": null,\n \"b\": [\n  2\n ]\n}",
-    );
-    Ok(())
-}
-
-/// A string whose first 2 bytes, and then 3, are written as they are.
-fn write_complex<G: Generator>(generator: &mut G) -> io::Result<()> {
-    generator.write_string_complex("ab\"c", 2)?;
-    generator.write_string_complex("ab\"c", 3)
-}
-
-const COMPLEX: &str = "ab\\\"c\"ab\"c\"";
-
-#[test]
-fn writes_the_rest_escaped(rt: HostRuntime) -> Tested {
-    let mut generator = DumpGenerator::new(rt.alloc());
-    write_complex(&mut generator)?;
-    expect_bytes(&rt, generator.consume()?.as_bytes(), COMPLEX);
-    let mut generator = PrettyGenerator::new(rt.alloc(), 2);
-    write_complex(&mut generator)?;
-    expect_bytes(&rt, generator.consume()?.as_bytes(), COMPLEX);
-    Ok(())
-}
-
-#[test]
-fn writes_the_rest_escaped_to_a_writer(rt: HostRuntime) -> Tested {
-    let mut bytes = Vec::new(rt.alloc());
-    write_complex(&mut WriterGenerator::new(&mut bytes))?;
-    write_complex(&mut PrettyWriterGenerator::new(&mut bytes, 2))?;
-    expect_bytes(&rt, &bytes, "ab\\\"c\"ab\"c\"ab\\\"c\"ab\"c\"");
+    let found = object.pretty(rt.alloc(), 1)?;
+    let text = "{\n \"a\": null,\n \"b\": [\n  2\n ]\n}";
+    expect_bytes(&rt, found.as_bytes(), text);
     Ok(())
 }
 
@@ -179,16 +124,8 @@ fn adds_short_lines_where_there_is_room(rt: HostRuntime) -> Tested {
             let mut bytes = Vec::with_capacity(rt.alloc(), room)?;
             let is_added = push_line(&mut bytes, spaces as u128);
             expect_eq(&rt, "added", is_added, spaces < 8 && room == 8);
-            let len = if is_added {
-                spaces.saturating_add(1)
-            } else {
-                0
-            };
-            expect(
-                &rt,
-                "the bytes",
-                line.as_bytes().get(..len) == Some(bytes.as_slice()),
-            );
+            let len = usize::from(is_added).saturating_mul(spaces + 1);
+            expect_bytes(&rt, &bytes, line.get(..len).unwrap_or("\n"));
         }
     }
     Ok(())
@@ -203,59 +140,46 @@ fn fails_at_an_indent_too_many(rt: HostRuntime) {
     expect_eq(&rt, "the faults", generator.faults(), 1);
 }
 
-fn dump_of_bytes(alloc: Global, bytes: &[u8]) -> Result<Result<String, Error>, Fail> {
-    let mut generator = DumpGenerator::new(alloc);
-    generator.write(bytes)?;
-    Ok(generator.consume())
-}
+/// Bytes, and their text if they are UTF-8.
+const CONSUMED: &[(&[u8], Option<&str>)] = &[
+    (b"\xff", None),
+    (b"\xc3", None),
+    (b"\xed\xa0\x80", None),
+    (b"\xc3\xa9", Some("é")),
+];
 
-fn pretty_of_bytes(alloc: Global, bytes: &[u8]) -> Result<Result<String, Error>, Fail> {
-    let mut generator = PrettyGenerator::new(alloc, 2);
-    generator.write(bytes)?;
-    Ok(generator.consume())
+/// A generator that was given these bytes, by `write` or by its writer itself, consumes them as this
+/// text, or fails.
+fn expect_consumed<L: Layout + Copy + Drop>(
+    rt: &impl Abort,
+    alloc: Global,
+    layout: L,
+    bytes: &[u8],
+    text: Option<&str>,
+) -> Tested {
+    for is_direct in [false, true] {
+        let mut generator = TextGenerator::in_memory(alloc, layout);
+        if is_direct {
+            generator.get_writer().extend_from_slice(bytes)?;
+        } else {
+            generator.write(bytes)?;
+        }
+        match generator.consume() {
+            Ok(found) => expect_eq(rt, "the text", Some(found.as_str()), text),
+            Err(error) => {
+                let is_foreign = matches!(error, Error::FailedUtf8Parsing);
+                expect(rt, "the error", is_foreign && text.is_none());
+            }
+        }
+    }
+    Ok(())
 }
-
-/// The bytes are given to the writer itself.
-fn writer_of_bytes(alloc: Global, bytes: &[u8]) -> Result<Result<String, Error>, Fail> {
-    let mut generator = DumpGenerator::new(alloc);
-    generator.get_writer().extend_from_slice(bytes)?;
-    Ok(generator.consume())
-}
-
-/// Bytes that aren't UTF-8.
-const FOREIGN: &[&[u8]] = &[b"\xff", b"\xc3", b"\xed\xa0\x80"];
 
 #[test]
 fn consumes_no_foreign_bytes(rt: HostRuntime) -> Tested {
-    for bytes in FOREIGN {
-        let dump = dump_of_bytes(rt.alloc(), bytes)?;
-        expect(
-            &rt,
-            "compact",
-            matches!(dump, Err(Error::FailedUtf8Parsing)),
-        );
-        let written = writer_of_bytes(rt.alloc(), bytes)?;
-        expect(
-            &rt,
-            "by the writer",
-            matches!(written, Err(Error::FailedUtf8Parsing)),
-        );
-        let pretty = pretty_of_bytes(rt.alloc(), bytes)?;
-        expect(
-            &rt,
-            "pretty",
-            matches!(pretty, Err(Error::FailedUtf8Parsing)),
-        );
+    for (bytes, text) in CONSUMED {
+        expect_consumed(&rt, rt.alloc(), Compact, bytes, *text)?;
+        expect_consumed(&rt, rt.alloc(), Pretty(2), bytes, *text)?;
     }
-    expect_bytes(
-        &rt,
-        dump_of_bytes(rt.alloc(), b"\xc3\xa9")??.as_bytes(),
-        "é",
-    );
-    expect_bytes(
-        &rt,
-        pretty_of_bytes(rt.alloc(), b"\xc3\xa9")??.as_bytes(),
-        "é",
-    );
     Ok(())
 }
