@@ -209,16 +209,15 @@ def rattle_build(room, source, *deps):
     return program
 
 
-def cargo_build(room, checkout, source, features=()):
-    """Builds a program of Rust over a checkout of the crate `jzon`, and over serde_json with the feature `serde`. Its path."""
+def cargo_build(room, checkout, source):
+    """Builds a program of Rust over a checkout of the crate `jzon`. Its path."""
     folder = os.path.join(room, "rust")
     os.makedirs(os.path.join(folder, "src"), exist_ok=True)
     shutil.copy(os.path.join(HERE, source), os.path.join(folder, "src", "main.rs"))
-    lines = ["[package]", 'name = "beside"', 'version = "0.1.0"', 'edition = "2021"', "[features]", "serde = []", "[dependencies]", f'jzon = {{ path = "{os.path.realpath(checkout)}" }}']
-    lines += ['serde_json = { version = "1", features = ["preserve_order"] }'] * len(features)
+    lines = ["[package]", 'name = "beside"', 'version = "0.1.0"', 'edition = "2021"', "[dependencies]", f'jzon = {{ path = "{os.path.realpath(checkout)}" }}']
     with open(os.path.join(folder, "Cargo.toml"), "w", encoding="utf-8") as file:
         file.write("\n".join(lines) + "\n")
-    ran = subprocess.run(["cargo", "build", "--release", *[f"--features={name}" for name in features]], cwd=folder, capture_output=True, text=True)
+    ran = subprocess.run(["cargo", "build", "--release"], cwd=folder, capture_output=True, text=True)
     if ran.returncode:
         sys.exit("bench: cargo can't build the Rust side:\n" + ran.stderr[-2000:])
     return os.path.join(folder, "target", "release", "beside")
