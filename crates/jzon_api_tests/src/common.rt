@@ -1,13 +1,12 @@
 //! What the tests share. To prove an assertion takes seconds, and a call of `expect` or `expect_eq`
 //! hardly any time.
 
-ghost use Rattle.std.specs.Prelude.{Some};
-
-use jzon::JsonValue;
 use jzon::codegen::Outlet;
 use jzon::number::{NAN, Number};
 use jzon::object::Object;
-use std::alloc::Global;
+use jzon::{JsonValue, parse};
+use jzon_test_support::Trouble;
+use std::alloc::{AllocGlobal, Global};
 use std::fmt::Debug;
 use std::io;
 use std::io::Write;
@@ -15,6 +14,11 @@ use std::process::Abort;
 use std::test::Fail;
 
 pub type Tested = std::result::Result<(), Fail>;
+
+/// The runtime of a test, which may abort it and gives its allocator.
+pub trait Tester: Abort + AllocGlobal {}
+
+impl<R: Abort + AllocGlobal> Tester for R {}
 
 /// It holds of this row.
 pub fn expect(rt: &impl Abort, row: &str, holds: bool) {
@@ -78,23 +82,44 @@ pub fn each_unread(alloc: Global) -> jzon::Result<[(&'static str, JsonValue); 8]
     ])
 }
 
+/// All of these values, each with its compact text.
+pub fn each_value(alloc: Global) -> jzon::Result<Vec<(&'static str, JsonValue)>> {
+    let mut values = Vec::new(alloc);
+    for text in EACH_KIND {
+        values.push((*text, parse(alloc, text)?))?;
+    }
+    for unread in each_unread(alloc)? {
+        values.push(unread)?;
+    }
+    Ok(values)
+}
+
 /// An allocated string, however short.
 pub fn long(alloc: Global, text: &str) -> jzon::Result<JsonValue> {
     Ok(JsonValue::String(String::from_str(alloc, text)?))
 }
 
 /// The value dumps this text.
-pub fn expect_dump(rt: &impl Abort, alloc: Global, value: &JsonValue, text: &str) -> Tested {
-    let dump = value.dump(alloc)?;
+pub fn expect_dump(rt: &impl Tester, value: &JsonValue, text: &str) -> Tested {
+    let dump = value.dump(rt.alloc())?;
     expect_eq(rt, text, dump.as_str(), text);
     Ok(())
 }
 
 /// The object dumps this text, and is empty only if that is `{}`.
-pub fn expect_text(rt: &impl Abort, alloc: Global, object: &Object, text: &str) -> Tested {
-    let dump = object.dump(alloc)?;
+pub fn expect_text(rt: &impl Tester, object: &Object, text: &str) -> Tested {
+    let dump = object.dump(rt.alloc())?;
     expect_eq(rt, text, dump.as_str(), text);
     expect_eq(rt, text, object.is_empty(), text == "{}");
+    Ok(())
+}
+
+/// The call failed with this error.
+pub fn expect_trouble(rt: &impl Tester, outcome: io::Result<()>, trouble: Trouble) -> Tested {
+    match outcome {
+        Ok(()) => expect(rt, "no error", false),
+        Err(error) => expect(rt, "the error", trouble.is_returned(rt.alloc(), &error)?),
+    }
     Ok(())
 }
 
@@ -106,31 +131,18 @@ pub fn is_entry(entry: Option<(&str, &JsonValue)>, key: &str, number: u64) -> bo
     }
 }
 
-/// An outlet that takes nothing at once.
+/// An outlet that takes nothing at once, over a writer.
 #[derive(Drop)]
-pub struct Plain {
-    pub bytes: Vec<u8>,
-}
+pub struct Plain<'a, W>(pub &'a mut W);
 
-impl Plain {
-    pub fn new(alloc: Global) -> Plain {
-        Plain {
-            bytes: Vec::new(alloc),
-        }
-    }
-}
-
-impl Write for Plain {
-    ghost contents = { λ plain. Some plain.bytes.items };
-
+impl<W: Write> Write for Plain<'_, W> {
     fn write(&mut self, buf: &[u8]) -> io::Result<usize> {
-        self.bytes.extend_from_slice(buf)?;
-        Ok(buf.len())
+        self.0.write(buf)
     }
 
     fn flush(&mut self) -> io::Result<()> {
-        Ok(())
+        self.0.flush()
     }
 }
 
-impl Outlet for Plain {}
+impl<W: Write> Outlet for Plain<'_, W> {}

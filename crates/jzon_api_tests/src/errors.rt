@@ -1,16 +1,7 @@
 //! What errors report.
 
 use crate::common::{Tested, expect, expect_eq};
-use jzon::{JsonError, JsonResult, JsonValue, Reading, parse_as};
-use std::alloc::Global;
-
-/// Parses strictly.
-fn strictly(alloc: Global, text: &str) -> JsonResult<JsonValue> {
-    match Reading::new(true, 512) {
-        Some(reading) => parse_as(alloc, text, &reading),
-        None => Err(JsonError::OutOfMemory),
-    }
-}
+use jzon::{Reading, parse_as};
 
 /// A text, and the line and the column of its error, counted by hand.
 const PLACES: &[(&str, Option<usize>, Option<usize>)] = &[
@@ -23,8 +14,9 @@ const PLACES: &[(&str, Option<usize>, Option<usize>)] = &[
 
 #[test]
 fn reports_line_and_column(rt: HostRuntime) -> Tested {
+    let strict = Reading::new(true, 512).unwrap();
     for (text, line, column) in PLACES {
-        match strictly(rt.alloc(), text) {
+        match parse_as(rt.alloc(), text, &strict) {
             Ok(_) => expect(&rt, text, false),
             Err(error) => {
                 expect_eq(&rt, text, error.line(), *line);

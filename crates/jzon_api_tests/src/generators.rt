@@ -1,11 +1,12 @@
-//! A user's own generator, whose whitespace is vertical tabs, and long arguments of each hook.
+//! Generators: the hooks of the library's and of a user's own, with long arguments, failing, and in
+//! the order in which `write_json` calls them.
 
-ghost use Rattle.std.specs.Prelude.{◌∷◌, [], false, Some, None, refl};
+ghost use Rattle.std.specs.Prelude.{◌∷◌, ◌≡◌, [], false, Some, None, refl};
 ghost use Rattle.jzon.specs.StyleLaws.{IsStyle-any, IsStyle-only};
 ghost use Rattle.jzon.specs.Styles.{only};
 ghost use Rattle.jzon.specs.Writing.{any_style};
 
-use crate::common::{Plain, Tested, expect, expect_eq};
+use crate::common::{Plain, Tested, Tester, expect, expect_eq, expect_trouble};
 use jzon::codegen::{
     DumpGenerator, Generator, Layout, PrettyGenerator, PrettyWriterGenerator, TextGenerator,
     WriterGenerator, write_json, write_object,
@@ -16,7 +17,6 @@ use jzon::{JsonValue, parse};
 use jzon_test_support::{Refusals, SlowWriter, Trouble, joined};
 use std::alloc::{AllocError, Global};
 use std::io;
-use std::process::Abort;
 use std::test::Fail;
 
 /// Writes a vertical tab before each element and each closing bracket, in a style that allows no
@@ -109,7 +109,7 @@ fn goes_round(alloc: Global, source: &str) -> Result<(Vec<u8>, bool), Fail> {
 }
 
 #[test]
-fn reads_vertical_tabs(rt: HostRuntime) -> Result<(), Fail> {
+fn reads_vertical_tabs(rt: HostRuntime) -> Tested {
     let (bytes, is_equal) = goes_round(rt.alloc(), "[1,2]")?;
     let expected = b"\x5b\x0b\x31\x2c\x0b\x32\x0b\x5d".as_slice();
     expect_eq(&rt, "the bytes", bytes.as_slice(), expected);
@@ -125,7 +125,7 @@ const LARGE: [[(&str, usize); 3]; 3] = [
 ];
 
 #[test]
-fn reads_back_large_values(rt: HostRuntime) -> Result<(), Fail> {
+fn reads_back_large_values(rt: HostRuntime) -> Tested {
     for parts in LARGE {
         let text = joined(rt.alloc(), &parts)?;
         let (_, is_equal) = goes_round(rt.alloc(), text.as_str())?;
@@ -157,21 +157,16 @@ fn append_all<G: Generator>(generator: &mut G, string: &str) -> io::Result<()> {
 
 /// They append what the rules say, where a line and the colon have these parts.
 fn expect_all<G: Generator<T = Vec<u8>>>(
-    rt: &impl Abort,
-    alloc: Global,
+    rt: &impl Tester,
     generator: &mut G,
     line: &[(&str, usize)],
-) -> Result<(), Fail> {
+) -> Tested {
+    let alloc = rt.alloc();
     append_all(generator, quotes_last(alloc)?.as_str())?;
-    let strings = [
-        ("plain", 40000),
-        ("\"\"\"\"", 1),
-        ("plain", 40000),
-        ("\\\"\\\"\\\"\"", 1),
-        ("plain", 40000),
-        ("\"\\\"\\\"\"", 1),
-    ];
-    let mut text = joined(alloc, &strings)?;
+    let mut text = String::new(alloc);
+    for end in ["\"\"\"\"", "\\\"\\\"\\\"\"", "\"\\\"\\\"\""] {
+        text.push_str(joined(alloc, &[("plain", 40000), (end, 1)])?.as_str())?;
+    }
     text.push_str(joined(alloc, line)?.as_str())?;
     text.push_str("1.8446744073709551615e32786.")?;
     let written = generator.get_writer().as_slice() == text.as_bytes();
@@ -182,27 +177,22 @@ fn expect_all<G: Generator<T = Vec<u8>>>(
 }
 
 #[test]
-fn hooks_take_long_arguments(rt: HostRuntime) -> Result<(), Fail> {
+fn hooks_take_long_arguments(rt: HostRuntime) -> Tested {
     let alloc = rt.alloc();
     let colon = [(":", 1)];
-    expect_all(&rt, alloc, &mut DumpGenerator::new(alloc), &colon)?;
+    expect_all(&rt, &mut DumpGenerator::new(alloc), &colon)?;
     let line = [("\n", 1), (" ", 210000), (": ", 1)];
-    expect_all(&rt, alloc, &mut PrettyGenerator::new(alloc, 3), &line)?;
-    expect_all(&rt, alloc, &mut TabGenerator::new(alloc), &[("\u{b}:", 1)])?;
+    expect_all(&rt, &mut PrettyGenerator::new(alloc, 3), &line)?;
+    expect_all(&rt, &mut TabGenerator::new(alloc), &[("\u{b}:", 1)])?;
     let mut bytes: Vec<u8> = Vec::new(alloc);
-    expect_all(&rt, alloc, &mut WriterGenerator::new(&mut bytes), &colon)?;
+    expect_all(&rt, &mut WriterGenerator::new(&mut bytes), &colon)?;
     let mut bytes: Vec<u8> = Vec::new(alloc);
-    expect_all(
-        &rt,
-        alloc,
-        &mut PrettyWriterGenerator::new(&mut bytes, 3),
-        &line,
-    )
+    expect_all(&rt, &mut PrettyWriterGenerator::new(&mut bytes, 3), &line)
 }
 
 /// A value is written where one indent more may be open, and not where none may.
 #[test]
-fn writes_below_the_most_indents(rt: HostRuntime) -> Result<(), Fail> {
+fn writes_below_the_most_indents(rt: HostRuntime) -> Tested {
     let value = parse(rt.alloc(), "[1]")?;
     for (dent, text, faults) in [(u64::MAX - 1, "[1]", 0), (u64::MAX, "[", 1)] {
         let mut generator = DumpGenerator::new(rt.alloc());
@@ -211,11 +201,8 @@ fn writes_below_the_most_indents(rt: HostRuntime) -> Result<(), Fail> {
         expect_eq(&rt, text, outcome.is_ok(), faults == 0);
         expect_eq(&rt, text, generator.faults(), faults);
         expect_eq(&rt, text, generator.dent(), dent);
-        expect(
-            &rt,
-            text,
-            generator.get_writer().as_slice() == text.as_bytes(),
-        );
+        let written = generator.get_writer().as_slice();
+        expect_eq(&rt, text, written, text.as_bytes());
     }
     Ok(())
 }
@@ -226,27 +213,21 @@ fn returns_the_error_of_order(rt: HostRuntime) -> Tested {
     let alloc = rt.alloc();
     let mut generator = TabGenerator::new(alloc);
     generator.has_order = false;
-    match write_json(&mut generator, &parse(alloc, "[[1,{}]]")?) {
-        Ok(()) => expect(&rt, "no error", false),
-        Err(error) => expect(&rt, "the error", ORDERLESS.is_returned(alloc, &error)?),
-    }
+    let outcome = write_json(&mut generator, &parse(alloc, "[[1,{}]]")?);
+    expect_trouble(&rt, outcome, ORDERLESS)?;
     let written = b"[\x0b[\x0b1,\x0b".as_slice();
     expect_eq(&rt, "the bytes", generator.code.as_slice(), written);
     expect_eq(&rt, "the indents", generator.dent, 2);
     expect_eq(&rt, "the faults", generator.faults, 1);
-    match write_object(&mut generator, &Object::new(alloc)) {
-        Ok(()) => expect(&rt, "no error", false),
-        Err(error) => expect(&rt, "the error", ORDERLESS.is_returned(alloc, &error)?),
-    }
+    let outcome = write_object(&mut generator, &Object::new(alloc));
+    expect_trouble(&rt, outcome, ORDERLESS)?;
     expect_eq(&rt, "the faults", generator.faults, 2);
     Ok(())
 }
 
 /// A layout that owns memory. A space is before each element for each open container.
 #[derive(Drop)]
-struct Owning {
-    _words: String,
-}
+struct Owning(String);
 
 impl Layout for Owning {
     ghost style = { λ _. any_style };
@@ -263,25 +244,21 @@ impl Layout for Owning {
 }
 
 fn new_layout(alloc: Global) -> Result<Owning, AllocError> {
-    Ok(Owning {
-        _words: String::from_str(alloc, "words of a layout")?,
-    })
+    Ok(Owning(String::from_str(alloc, "words of a layout")?))
 }
 
 /// Each call that takes a layout, to memory, to a writer that fails, and to an outlet.
-fn lay_out(rt: &impl Abort, alloc: Global, value: &JsonValue) -> Tested {
+fn lay_out(rt: &impl Tester, value: &JsonValue) -> Tested {
+    let alloc = rt.alloc();
     let text = value.lay_out(alloc, new_layout(alloc)?)?;
     expect(rt, "lay_out", text.as_str() == "[\n 1\n]");
     let mut writer = SlowWriter::new(alloc, 3, Trouble::TakesNothing);
     let outcome = value.write_layout(&mut writer, new_layout(alloc)?);
     expect(rt, "write_layout", outcome.is_err());
-    let mut outlet = Plain::new(alloc);
-    value.write_outlet(&mut outlet, new_layout(alloc)?)?;
-    expect(
-        rt,
-        "write_outlet",
-        outlet.bytes.as_slice() == b"[\n 1\n]".as_slice(),
-    );
+    let mut bytes: Vec<u8> = Vec::new(alloc);
+    value.write_outlet(&mut Plain(&mut bytes), new_layout(alloc)?)?;
+    let want = b"[\n 1\n]".as_slice();
+    expect_eq(rt, "write_outlet", bytes.as_slice(), want);
     let mut generator = TextGenerator::in_memory(alloc, new_layout(alloc)?);
     write_json(&mut generator, value)?;
     expect(rt, "consume", generator.consume()?.as_str() == "[\n 1\n]");
@@ -297,9 +274,168 @@ fn layouts_counted(rt: HostRuntime) -> Tested {
     let value = parse(rt.alloc(), "[1]")?;
     let mut refusals = Refusals::new(rt.alloc());
     refusals.open();
-    lay_out(&rt, rt.alloc(), &value)?;
+    lay_out(&rt, &value)?;
     refusals.close();
     refusals.expect_within(&rt, "layouts", MOST_OF_LAYOUTS)?;
     refusals.expect_even()?;
+    Ok(())
+}
+
+const TOO_DEEP: Trouble = Trouble::FailsBySystem(5);
+
+/// Notes a character for each hook that is called, and passes the call on.
+#[derive(Drop)]
+struct Noting<G: Generator> {
+    inner: G,
+    calls: String,
+}
+
+impl<G: Generator> Noting<G> {
+    /// One that has noted nothing.
+    fn new(alloc: Global, inner: G) -> Noting<G>
+        ensures { result.inner ≡ inner }
+    {
+        Noting {
+            inner,
+            calls: String::new(alloc),
+        }
+    }
+
+    /// Where memory runs out the call isn't noted.
+    fn note(&mut self, hook: char)
+        ensures { self.new ≡ record self.old { calls = self.new.calls } }
+    {
+        let _ = self.calls.push(hook);
+    }
+}
+
+impl<G: Generator> Generator for Noting<G> {
+    type T = G::T;
+
+    ghost meaning = { λ g. G.meaning g.inner };
+
+    ghost with_writer = { λ g w. record g { inner = G.with_writer g.inner w } };
+
+    fn get_writer(&mut self) -> &mut G::T {
+        self.inner.get_writer()
+    }
+
+    fn write(&mut self, slice: &[u8]) -> io::Result<()> {
+        self.note('w');
+        self.inner.write(slice)
+    }
+
+    /// Noted by the character itself.
+    fn write_char(&mut self, ch: u8) -> io::Result<()> {
+        self.note(char::from(ch));
+        self.inner.write_char(ch)
+    }
+
+    fn write_min(&mut self, slice: &[u8], min: u8) -> io::Result<()> {
+        self.note(':');
+        self.inner.write_min(slice, min)
+    }
+
+    fn write_string(&mut self, string: &str) -> io::Result<()> {
+        self.note('s');
+        self.inner.write_string(string)
+    }
+
+    fn write_number(&mut self, num: &Number) -> io::Result<()> {
+        self.note('n');
+        self.inner.write_number(num)
+    }
+
+    fn new_line(&mut self) -> io::Result<()> {
+        self.note('l');
+        self.inner.new_line()
+    }
+
+    /// Its error is one of its own.
+    fn indent(&mut self) -> io::Result<()> {
+        self.note('+');
+        match self.inner.indent() {
+            Ok(()) => Ok(()),
+            Err(_) => Err(TOO_DEEP.error()),
+        }
+    }
+
+    fn dedent(&mut self) {
+        self.note('-');
+        self.inner.dedent()
+    }
+
+    fn order(&mut self, object: &Object) -> io::Result<Option<Vec<usize>>> {
+        self.note('o');
+        self.inner.order(object)
+    }
+
+    fn faults(&self) -> u64 {
+        self.inner.faults()
+    }
+
+    fn dent(&self) -> u64 {
+        self.inner.dent()
+    }
+
+    fn note_fault(&mut self) {
+        self.inner.note_fault()
+    }
+
+    fn set_dent(&mut self, dent: u64) {
+        self.inner.set_dent(dent)
+    }
+
+    ghost writer_law = { λ g w. G.writer_law g.inner w };
+
+    ghost style_law = { λ g. G.style_law g.inner };
+}
+
+/// A text, and the hooks that are called for its value.
+const CALLED: &[(&str, &str)] = &[
+    ("null", "w"),
+    ("true", "w"),
+    ("false", "w"),
+    ("-1.50", "n"),
+    ("\"a\\n\"", "s"),
+    ("[]", "w"),
+    ("{}", "ow"),
+    ("[1,\"a\"]", "[+ln,ls-l]"),
+    ("{\"a\":[],\"b\":{\"c\":null}}", "o{+ls:w,ls:o{+ls:w-l}-l}"),
+];
+
+fn expect_called(rt: &impl Tester, text: &str, hooks: &str) -> Tested {
+    let alloc = rt.alloc();
+    let value = parse(alloc, text)?;
+    let mut generator = Noting::new(alloc, DumpGenerator::new(alloc));
+    write_json(&mut generator, &value)?;
+    expect_eq(rt, text, generator.calls.as_str(), hooks);
+    if let Some(object) = value.as_object() {
+        let mut generator = Noting::new(alloc, DumpGenerator::new(alloc));
+        write_object(&mut generator, object)?;
+        expect_eq(rt, text, generator.calls.as_str(), hooks);
+    }
+    Ok(())
+}
+
+#[test]
+fn calls_hooks_in_order(rt: HostRuntime) -> Tested {
+    for (text, hooks) in CALLED {
+        expect_called(&rt, text, hooks)?;
+    }
+    Ok(())
+}
+
+/// Where no indent more may be open, the error is that of the hook, and no hook is called after it.
+#[test]
+fn returns_the_error_of_indent(rt: HostRuntime) -> Tested {
+    let alloc = rt.alloc();
+    for (text, hooks) in [("[1]", "[+"), ("{\"a\":1}", "o{+")] {
+        let mut generator = Noting::new(alloc, DumpGenerator::new(alloc));
+        generator.set_dent(u64::MAX);
+        let outcome = write_json(&mut generator, &parse(alloc, text)?);
+        expect_trouble(&rt, outcome, TOO_DEEP)?;
+        expect_eq(&rt, text, generator.calls.as_str(), hooks);
+    }
     Ok(())
 }

@@ -1,15 +1,15 @@
 //! Many keys, and keys that are hostile to an index over hashes.
 
-use crate::common::{Tested, expect, expect_eq, is_entry};
+use crate::common::{Tested, Tester, expect, expect_eq, is_entry};
 use jzon::object::Object;
 use jzon::{JsonValue, parse};
 use jzon_test_support::{keys_by_hash, keys_of_one_hash, object_text};
 use std::alloc::{AllocError, Global};
-use std::process::Abort;
 
 /// The object of these keys has each of them, and no other.
-fn expect_keys(rt: &impl Abort, alloc: Global, keys: &[String]) -> Tested {
-    let value = parse(alloc, object_text(alloc, keys)?.as_str())?;
+fn expect_keys(rt: &impl Tester, keys: &[String]) -> Tested {
+    let text = object_text(rt.alloc(), keys)?;
+    let value = parse(rt.alloc(), text.as_str())?;
     expect_eq(rt, "the number of keys", value.len(), keys.len());
     for key in keys {
         expect(rt, key.as_str(), value.has_key(key.as_str()));
@@ -20,12 +20,12 @@ fn expect_keys(rt: &impl Abort, alloc: Global, keys: &[String]) -> Tested {
 
 #[test]
 fn finds_keys_in_ascending_order_of_hash(rt: HostRuntime) -> Tested {
-    expect_keys(&rt, rt.alloc(), &keys_by_hash(rt.alloc(), 100000)?)
+    expect_keys(&rt, &keys_by_hash(rt.alloc(), 100000)?)
 }
 
 #[test]
 fn finds_keys_of_one_hash(rt: HostRuntime) -> Tested {
-    expect_keys(&rt, rt.alloc(), &keys_of_one_hash(rt.alloc(), 2000)?)
+    expect_keys(&rt, &keys_of_one_hash(rt.alloc(), 2000)?)
 }
 
 fn key(alloc: Global, number: u64) -> Result<String, AllocError> {
@@ -42,9 +42,9 @@ fn a_thousand(alloc: Global) -> jzon::Result<Object> {
 }
 
 /// Removes those of even numbers, in ascending order.
-fn remove_even(rt: &impl Abort, alloc: Global, object: &mut Object) -> Tested {
+fn remove_even(rt: &impl Tester, object: &mut Object) -> Tested {
     for number in (0..1000).step_by(2) {
-        let name = key(alloc, number)?;
+        let name = key(rt.alloc(), number)?;
         let removed = object.remove(name.as_str()).unwrap_or(JsonValue::Null);
         expect(rt, name.as_str(), removed.eq_u64(number));
     }
@@ -52,16 +52,16 @@ fn remove_even(rt: &impl Abort, alloc: Global, object: &mut Object) -> Tested {
 }
 
 /// Those of odd numbers are left, in order, and found.
-fn expect_odd(rt: &impl Abort, alloc: Global, object: &Object) -> Tested {
+fn expect_odd(rt: &impl Tester, object: &Object) -> Tested {
     let mut entries = object.iter();
     for number in (1..1000).step_by(2) {
-        let name = key(alloc, number)?;
+        let name = key(rt.alloc(), number)?;
         let is_next = is_entry(entries.next(), name.as_str(), number);
         expect(rt, name.as_str(), is_next);
     }
     expect(rt, "no more", entries.next().is_none());
     for number in 0..1000 {
-        let name = key(alloc, number)?;
+        let name = key(rt.alloc(), number)?;
         let is_there = object.get(name.as_str()).is_some();
         expect_eq(rt, name.as_str(), is_there, number % 2 == 1);
     }
@@ -72,15 +72,11 @@ fn expect_odd(rt: &impl Abort, alloc: Global, object: &Object) -> Tested {
 fn keeps_a_thousand_keys(rt: HostRuntime) -> Tested {
     let alloc = rt.alloc();
     let mut object = a_thousand(alloc)?;
-    remove_even(&rt, alloc, &mut object)?;
-    expect_odd(&rt, alloc, &object)?;
+    remove_even(&rt, &mut object)?;
+    expect_odd(&rt, &object)?;
     object.insert(alloc, "k0", JsonValue::Null)?;
-    let last = object.iter().next_back();
-    expect(
-        &rt,
-        "the last key",
-        matches!(last, Some(("k0", JsonValue::Null))),
-    );
+    let is_last = object.iter().next_back() == Some(("k0", &JsonValue::Null));
+    expect(&rt, "the last key", is_last);
     expect_eq(&rt, "the number of keys", object.len(), 501);
     Ok(())
 }

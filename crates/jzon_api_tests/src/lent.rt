@@ -7,12 +7,15 @@ ghost use Rattle.jzon_tree.specs.Readers.{entries};
 ghost use Rattle.jzon_tree.specs.Value.{null, array, object, values_of, pairs_of};
 ghost use Rattle.jzon_tree.specs.View.{view};
 
-use crate::common::{EACH_KIND, Tested, each_unread, expect, expect_dump, expect_text, number};
+use crate::common::{
+    Tested, Tester, each_value, expect, expect_dump, expect_eq, expect_text, number,
+};
 use jzon::lent::{write_at, write_at_index, write_present};
 use jzon::object::Object;
 use jzon::{JsonValue, Result, parse};
 use std::alloc::Global;
-use std::process::Abort;
+
+const ALLOCATED: &str = "\"abcdefghijklmnopqrstuvwxyz01234\"";
 
 /// A value, what `at_mut` of `a` lends, and the whole after 7 is written there.
 const KEYS: &[(&str, &str, &str)] = &[
@@ -24,7 +27,7 @@ const KEYS: &[(&str, &str, &str)] = &[
     ("[1,2]", "null", "{\"a\":7}"),
     ("true", "null", "{\"a\":7}"),
     ("\"ab\"", "null", "{\"a\":7}"),
-    ("\"abcdefghijklmnopqrstuvwxyz01234\"", "null", "{\"a\":7}"),
+    (ALLOCATED, "null", "{\"a\":7}"),
 ];
 
 #[test]
@@ -33,9 +36,9 @@ fn makes_keys(rt: HostRuntime) -> Tested {
     for (before, borrowed, after) in KEYS {
         let mut value = parse(alloc, before)?;
         let place = value.at_mut(alloc, "a")?;
-        expect_dump(&rt, alloc, place, borrowed)?;
+        expect_dump(&rt, place, borrowed)?;
         *place = number(7);
-        expect_dump(&rt, alloc, &value, after)?;
+        expect_dump(&rt, &value, after)?;
     }
     Ok(())
 }
@@ -44,7 +47,7 @@ fn makes_keys(rt: HostRuntime) -> Tested {
 fn makes_keys_of_keys(rt: HostRuntime) -> Tested {
     let mut value = JsonValue::Null;
     *value.at_mut(rt.alloc(), "foo")?.at_mut(rt.alloc(), "bar")? = number(100);
-    expect_dump(&rt, rt.alloc(), &value, "{\"foo\":{\"bar\":100}}")
+    expect_dump(&rt, &value, "{\"foo\":{\"bar\":100}}")
 }
 
 /// A value, an index, what `at_index_mut` lends there, the whole then, and the whole after 7 is
@@ -57,13 +60,7 @@ const ELEMENTS: &[(&str, usize, &str, &str, &str)] = &[
     ("null", 1, "null", "[null,null]", "[null,7]"),
     ("true", 1, "null", "[null,null]", "[null,7]"),
     ("\"ab\"", 0, "null", "[null]", "[7]"),
-    (
-        "\"abcdefghijklmnopqrstuvwxyz01234\"",
-        0,
-        "null",
-        "[null]",
-        "[7]",
-    ),
+    (ALLOCATED, 0, "null", "[null]", "[7]"),
     ("[1]", 9, "null", "[1,null]", "[1,7]"),
     ("[1]", 1, "null", "[1,null]", "[1,7]"),
     ("[]", 0, "null", "[null]", "[7]"),
@@ -76,11 +73,11 @@ fn makes_elements(rt: HostRuntime) -> Tested {
     let alloc = rt.alloc();
     for (before, index, borrowed, made, written) in ELEMENTS {
         let mut value = parse(alloc, before)?;
-        expect_dump(&rt, alloc, value.at_index_mut(alloc, *index)?, borrowed)?;
-        expect_dump(&rt, alloc, &value, made)?;
+        expect_dump(&rt, value.at_index_mut(alloc, *index)?, borrowed)?;
+        expect_dump(&rt, &value, made)?;
         let mut value = parse(alloc, before)?;
         *value.at_index_mut(alloc, *index)? = number(7);
-        expect_dump(&rt, alloc, &value, written)?;
+        expect_dump(&rt, &value, written)?;
     }
     Ok(())
 }
@@ -88,8 +85,8 @@ fn makes_elements(rt: HostRuntime) -> Tested {
 /// There is nothing of another kind in it to borrow: of an object no elements, of an array no
 /// entries, of any other value nothing. In an empty container there is nothing either, even if it
 /// has room. What isn't borrowed leaves the value as it was, and an allocated string allocated.
-fn borrow_nothing(rt: &impl Abort, alloc: Global, text: &str, mut value: JsonValue) -> Tested {
-    let before = value.clone(alloc)?;
+fn borrow_nothing(rt: &impl Tester, text: &str, mut value: JsonValue) -> Tested {
+    let before = value.clone(rt.alloc())?;
     let is_allocated = matches!(value, JsonValue::String(_));
     if !value.is_object() {
         expect(rt, text, value.get_mut("a").is_none());
@@ -104,22 +101,20 @@ fn borrow_nothing(rt: &impl Abort, alloc: Global, text: &str, mut value: JsonVal
     if !value.is_array() || value.is_empty() {
         expect(rt, text, value.members_mut().next().is_none());
     }
-    expect(
+    expect(rt, text, value == before);
+    expect_eq(
         rt,
         text,
-        value == before && matches!(value, JsonValue::String(_)) == is_allocated,
+        matches!(value, JsonValue::String(_)),
+        is_allocated,
     );
-    expect_dump(rt, alloc, &value, text)
+    expect_dump(rt, &value, text)
 }
 
 #[test]
 fn borrows_nothing_of_another_kind(rt: HostRuntime) -> Tested {
-    let alloc = rt.alloc();
-    for text in EACH_KIND {
-        borrow_nothing(&rt, alloc, text, parse(alloc, text)?)?;
-    }
-    for (text, value) in each_unread(alloc)? {
-        borrow_nothing(&rt, alloc, text, value)?;
+    for (text, value) in each_value(rt.alloc())? {
+        borrow_nothing(&rt, text, value)?;
     }
     Ok(())
 }
@@ -132,16 +127,16 @@ fn borrows_what_is_there(rt: HostRuntime) -> Tested {
     if let Some(place) = value.get_mut("a") {
         place.push(alloc, 2)?;
     }
-    expect_dump(&rt, alloc, &value, "{\"a\":[1,2]}")?;
+    expect_dump(&rt, &value, "{\"a\":[1,2]}")?;
     if let Some(object) = value.as_object_mut() {
         object.clear();
     }
-    expect_dump(&rt, alloc, &value, "{}")?;
+    expect_dump(&rt, &value, "{}")?;
     let mut value = parse(alloc, "[1]")?;
     if let Some(items) = value.as_array_mut() {
         items.clear();
     }
-    expect_dump(&rt, alloc, &value, "[]")
+    expect_dump(&rt, &value, "[]")
 }
 
 /// From the back, each element becomes the one that was taken before it, and the last one null.
@@ -188,10 +183,10 @@ fn borrows_members_and_entries(rt: HostRuntime) -> Tested {
     for (before, members, entries) in MOVED {
         let mut value = parse(rt.alloc(), before)?;
         move_members(&mut value);
-        expect_dump(&rt, rt.alloc(), &value, members)?;
+        expect_dump(&rt, &value, members)?;
         let mut value = parse(rt.alloc(), before)?;
         move_entries(&mut value);
-        expect_dump(&rt, rt.alloc(), &value, entries)?;
+        expect_dump(&rt, &value, entries)?;
     }
     Ok(())
 }
@@ -202,28 +197,25 @@ fn writes(rt: HostRuntime) -> Tested {
     let mut value = JsonValue::Null;
     expect(&rt, "no a", !write_present(&mut value, "a", number(1)));
     put_value(&mut value, alloc, "a", number(2))?;
-    expect_dump(&rt, alloc, &value, "{\"a\":2}")?;
+    expect_dump(&rt, &value, "{\"a\":2}")?;
     expect(&rt, "a", write_present(&mut value, "a", number(3)));
-    expect_dump(&rt, alloc, &value, "{\"a\":3}")?;
+    expect_dump(&rt, &value, "{\"a\":3}")?;
     put_item(&mut value, alloc, 1, number(4))?;
-    expect_dump(&rt, alloc, &value, "[null,4]")
+    expect_dump(&rt, &value, "[null,4]")
 }
 
-/// An object without entries lends the values of two keys.
-fn make_keys(rt: &impl Abort, alloc: Global, mut object: Object) -> Tested {
-    *object.at_mut(alloc, "a")? = number(1);
-    expect(rt, "b", object.at_mut(alloc, "b")?.is_null());
-    expect(rt, "a", object.at_mut(alloc, "a")?.eq_u64(1));
-    *object.at_mut(alloc, "a")? = number(2);
-    expect_text(rt, alloc, &object, "{\"a\":2,\"b\":null}")
-}
-
-/// Also one that has room.
+/// An object without entries lends the values of two keys, also one that has room.
 #[test]
 fn objects_make_keys(rt: HostRuntime) -> Tested {
     let alloc = rt.alloc();
-    make_keys(&rt, alloc, Object::new(alloc))?;
-    make_keys(&rt, alloc, Object::with_capacity(alloc, 5)?)
+    for mut object in [Object::new(alloc), Object::with_capacity(alloc, 5)?] {
+        *object.at_mut(alloc, "a")? = number(1);
+        expect(&rt, "b", object.at_mut(alloc, "b")?.is_null());
+        expect(&rt, "a", object.at_mut(alloc, "a")?.eq_u64(1));
+        *object.at_mut(alloc, "a")? = number(2);
+        expect_text(&rt, &object, "{\"a\":2,\"b\":null}")?;
+    }
+    Ok(())
 }
 
 /// A caller's proof knows what was written.

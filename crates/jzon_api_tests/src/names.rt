@@ -1,6 +1,6 @@
 //! Public names of `jzon`, many of which no other test uses.
 
-use crate::common::{Tested, expect, expect_dump, expect_eq};
+use crate::common::{Tested, Tester, expect, expect_dump, expect_eq};
 use jzon::codegen::{Compact, Pretty, WriterGenerator, write_object};
 use jzon::iterators::{Entries, EntriesMut, Members, MembersMut};
 use jzon::number::{Number, NumberOutOfScope};
@@ -8,7 +8,6 @@ use jzon::object::{IntoIter, Iter, IterMut, Key, Object};
 use jzon::util::{print_dec, write_bytes};
 use jzon::{Array, JsonError, JsonResult, JsonValue, Null, array, laws, object, short};
 use std::alloc::Global;
-use std::process::Abort;
 
 fn list(alloc: Global) -> JsonResult<JsonValue> {
     let mut items: Array = Vec::new(alloc);
@@ -18,14 +17,9 @@ fn list(alloc: Global) -> JsonResult<JsonValue> {
 }
 
 /// They are null and true.
-fn expect_elements(rt: &impl Abort, items: Members<'_>) {
-    let mut items = items;
-    expect(rt, "null", matches!(items.next(), Some(JsonValue::Null)));
-    expect(
-        rt,
-        "true",
-        matches!(items.next(), Some(JsonValue::Boolean(true))),
-    );
+fn expect_elements(rt: &impl Tester, mut items: Members<'_>) {
+    expect(rt, "null", items.next() == Some(&Null));
+    expect(rt, "true", items.next() == Some(&JsonValue::Boolean(true)));
     expect_eq(rt, "how many are left", items.len(), 0);
 }
 
@@ -50,7 +44,7 @@ fn names_elements(rt: HostRuntime) -> Tested {
 }
 
 /// There is one, of `a`.
-fn expect_entry(rt: &impl Abort, entries: Entries<'_>) {
+fn expect_entry(rt: &impl Tester, entries: Entries<'_>) {
     let mut entries: Iter<'_> = entries;
     expect(rt, "a", matches!(entries.next(), Some(("a", _))));
     expect(rt, "no more", entries.next().is_none());
@@ -71,16 +65,11 @@ fn clear_object(object: &mut Object) {
 }
 
 /// There is one, of `a`, which is true.
-fn expect_taken(rt: &impl Abort, entries: IntoIter) {
-    let mut entries = entries;
+fn expect_taken(rt: &impl Tester, mut entries: IntoIter) {
     expect_eq(rt, "the number of entries", entries.len(), 1);
-    match entries.next() {
-        Some((key, value)) => {
-            let key: Key = key;
-            expect(rt, "the entry", key.as_str() == "a" && value.eq_bool(true));
-        }
-        None => expect(rt, "no entry", false),
-    }
+    let entry: Option<(Key, JsonValue)> = entries.next();
+    let is_there = entry.is_some_and(|(key, value)| key.as_str() == "a" && value.eq_bool(true));
+    expect(rt, "the entry", is_there);
     expect(rt, "no more", entries.next_back().is_none());
 }
 
@@ -90,16 +79,10 @@ fn one_entry(alloc: Global) -> JsonResult<JsonValue> {
 
 #[test]
 fn names_entries(rt: HostRuntime) -> Tested {
-    let value = one_entry(rt.alloc())?;
-    expect_entry(&rt, value.entries());
-    Ok(())
-}
-
-#[test]
-fn names_entries_to_write(rt: HostRuntime) -> Tested {
     let mut value = one_entry(rt.alloc())?;
+    expect_entry(&rt, value.entries());
     clear_entries(&mut value);
-    expect_dump(&rt, rt.alloc(), &value, "{\"a\":null}")
+    expect_dump(&rt, &value, "{\"a\":null}")
 }
 
 #[test]
@@ -125,18 +108,10 @@ fn names_what_writes(rt: HostRuntime) -> Tested {
     write_bytes(&mut out, &room[start..])?;
     let object = Object::new(rt.alloc());
     write_object(&mut WriterGenerator::new(&mut out), &object)?;
-    expect_eq(
-        &rt,
-        "the bytes",
-        out.as_slice(),
-        b"-12500 1.25{}".as_slice(),
-    );
-    expect_eq(
-        &rt,
-        "the lengths",
-        (short::MAX_LEN, print_dec::MAX_LEN),
-        (30, 29),
-    );
+    let want = b"-12500 1.25{}".as_slice();
+    expect_eq(&rt, "the bytes", out.as_slice(), want);
+    expect_eq(&rt, "the length", short::MAX_LEN, 30);
+    expect_eq(&rt, "the length", print_dec::MAX_LEN, 29);
     let read: Result<u8, NumberOutOfScope> = u8::try_from(Number::from(256u16));
     expect(&rt, "256 as u8", read.is_err());
     Ok(())

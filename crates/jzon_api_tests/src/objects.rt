@@ -1,10 +1,12 @@
 //! Objects.
 
-use crate::common::{Tested, expect, expect_dump, expect_eq, expect_text, is_entry, number, parts};
-use jzon::object::{Iter, IterMut, Object};
+use self::Call::*;
+use crate::common::{
+    Tested, Tester, expect, expect_dump, expect_eq, expect_text, is_entry, number, parts,
+};
+use jzon::object::{Iter, IterMut, Keys, Object, Values};
 use jzon::{Error, JsonValue, Result, parse};
 use std::alloc::Global;
-use std::process::Abort;
 
 /// The object that a text means.
 fn object_of(alloc: Global, text: &str) -> Result<Object> {
@@ -26,7 +28,7 @@ fn inserts(rt: HostRuntime) -> Tested {
     for (before, after) in INSERTED {
         let mut object = object_of(rt.alloc(), before)?;
         object.insert(rt.alloc(), "a", number(9))?;
-        expect_text(&rt, rt.alloc(), &object, after)?;
+        expect_text(&rt, &object, after)?;
     }
     Ok(())
 }
@@ -45,10 +47,10 @@ fn removes(rt: HostRuntime) -> Tested {
     for (before, removed, left) in REMOVED {
         let mut object = object_of(rt.alloc(), before)?;
         match (object.remove("a"), removed) {
-            (Some(value), Some(removed)) => expect_dump(&rt, rt.alloc(), &value, removed)?,
+            (Some(value), Some(removed)) => expect_dump(&rt, &value, removed)?,
             (value, _) => expect(&rt, before, value.is_none() && removed.is_none()),
         }
-        expect_text(&rt, rt.alloc(), &object, left)?;
+        expect_text(&rt, &object, left)?;
     }
     Ok(())
 }
@@ -59,12 +61,12 @@ fn puts_a_removed_key_last(rt: HostRuntime) -> Tested {
     let alloc = rt.alloc();
     let mut object = object_of(alloc, "{\"a\":1,\"b\":2,\"c\":3}")?;
     expect(&rt, "no x", object.remove("x").is_none());
-    expect_text(&rt, alloc, &object, "{\"a\":1,\"b\":2,\"c\":3}")?;
+    expect_text(&rt, &object, "{\"a\":1,\"b\":2,\"c\":3}")?;
     let removed = object.remove("b").unwrap_or(JsonValue::Null);
     expect(&rt, "2", removed.eq_u64(2));
-    expect_text(&rt, alloc, &object, "{\"a\":1,\"c\":3}")?;
+    expect_text(&rt, &object, "{\"a\":1,\"c\":3}")?;
     object.insert(alloc, "b", number(4))?;
-    expect_text(&rt, alloc, &object, "{\"a\":1,\"c\":3,\"b\":4}")
+    expect_text(&rt, &object, "{\"a\":1,\"c\":3,\"b\":4}")
 }
 
 /// An object, and its members with other keys than `b`, in order, each with what the closure wrote.
@@ -84,7 +86,7 @@ fn retains(rt: HostRuntime) -> Tested {
             *value = number(9);
             key != "b"
         });
-        expect_text(&rt, rt.alloc(), &object, after)?;
+        expect_text(&rt, &object, after)?;
     }
     Ok(())
 }
@@ -93,12 +95,12 @@ fn retains(rt: HostRuntime) -> Tested {
 fn overrides_the_last(rt: HostRuntime) -> Tested {
     let mut object = object_of(rt.alloc(), "{\"a\":1,\"b\":2,\"c\":3}")?;
     object.override_last(number(9));
-    expect_text(&rt, rt.alloc(), &object, "{\"a\":1,\"b\":2,\"c\":9}")?;
+    expect_text(&rt, &object, "{\"a\":1,\"b\":2,\"c\":9}")?;
     expect_eq(&rt, "the length", object.len(), 3);
     object.clear();
     object.override_last(number(9));
     expect_eq(&rt, "the length", object.len(), 0);
-    expect_text(&rt, rt.alloc(), &object, "{}")
+    expect_text(&rt, &object, "{}")
 }
 
 #[test]
@@ -108,16 +110,11 @@ fn borrows_its_values(rt: HostRuntime) -> Tested {
     if let Some(value) = object.get_mut("b") {
         *value = JsonValue::Null;
     }
-    expect_text(&rt, rt.alloc(), &object, "{\"a\":1,\"b\":null,\"c\":3}")?;
+    expect_text(&rt, &object, "{\"a\":1,\"b\":null,\"c\":3}")?;
     for (_, value) in object.iter_mut() {
         *value = JsonValue::Boolean(true);
     }
-    expect_text(
-        &rt,
-        rt.alloc(),
-        &object,
-        "{\"a\":true,\"b\":true,\"c\":true}",
-    )
+    expect_text(&rt, &object, "{\"a\":true,\"b\":true,\"c\":true}")
 }
 
 #[test]
@@ -156,21 +153,12 @@ fn gives_its_keys_whole(rt: HostRuntime) -> Tested {
     object.insert(rt.alloc(), INLINE, number(1))?;
     object.insert(rt.alloc(), OWNED, number(2))?;
     expect(&rt, "get", object.get(INLINE) == Some(&number(1)));
-    expect(
-        &rt,
-        "get of a longer key",
-        object.get(OWNED) == Some(&number(2)),
-    );
-    expect(
-        &rt,
-        "at",
-        object.at(INLINE).eq_u64(1) && object.at(OWNED).eq_u64(2),
-    );
-    expect(
-        &rt,
-        "no x",
-        object.get("x").is_none() && object.at("x").value().is_none(),
-    );
+    let longer = object.get(OWNED);
+    expect(&rt, "get of a longer key", longer == Some(&number(2)));
+    expect(&rt, "at", object.at(INLINE).eq_u64(1));
+    expect(&rt, "at", object.at(OWNED).eq_u64(2));
+    let is_missing = object.get("x").is_none() && object.at("x").value().is_none();
+    expect(&rt, "no x", is_missing);
     let keys = keys_from_the_back(rt.alloc(), object)?;
     let want = "0123456789abcdef0123456789abcdef!,0123456789abcdef0123456789abcdef,";
     expect_eq(&rt, "the keys", keys.as_str(), want);
@@ -187,7 +175,7 @@ fn equals_in_any_order(rt: HostRuntime) -> Tested {
     expect(&rt, "equal", object == other);
     let copy = other.clone(rt.alloc())?;
     expect(&rt, "the copy", object == copy);
-    expect_text(&rt, rt.alloc(), &copy, "{\"b\":2,\"a\":1.0}")
+    expect_text(&rt, &copy, "{\"b\":2,\"a\":1.0}")
 }
 
 #[test]
@@ -195,5 +183,181 @@ fn shows_its_keys(rt: HostRuntime) -> Tested {
     let object = object_of(rt.alloc(), "{\"a\\n\":1}")?;
     let text = format!(in rt.alloc(); "{object:?}")?;
     expect(&rt, "Debug", text.as_str().contains("\"a\\n\""));
+    Ok(())
+}
+
+/// A position, and the text of the object after 9 is written there.
+const WRITTEN: &[(usize, &str)] = &[
+    (0, "{\"b\":9,\"a\":2}"),
+    (1, "{\"b\":1,\"a\":9}"),
+    (2, "{\"b\":1,\"a\":2}"),
+];
+
+#[test]
+fn reads_and_writes_by_position(rt: HostRuntime) -> Tested {
+    let alloc = rt.alloc();
+    let object = object_of(alloc, "{\"b\":1,\"a\":2}")?;
+    expect(&rt, "at 0", is_entry(object.get_index(0), "b", 1));
+    expect(&rt, "at 1", is_entry(object.get_index(1), "a", 2));
+    expect(&rt, "at 2", object.get_index(2).is_none());
+    for (index, text) in WRITTEN {
+        let mut object = object_of(alloc, "{\"b\":1,\"a\":2}")?;
+        if let Some(value) = object.get_index_mut(*index) {
+            *value = number(9);
+        }
+        expect_text(&rt, &object, text)?;
+    }
+    Ok(())
+}
+
+#[test]
+fn collects_entries(rt: HostRuntime) -> Tested {
+    let alloc = rt.alloc();
+    let object: Object = [("b", 1u8), ("a", 2), ("b", 3)].into_iter().collect(alloc)?;
+    expect_text(&rt, &object, "{\"b\":3,\"a\":2}")?;
+    let names = ["a", "bc", ""];
+    let object: Object = names.iter().map(|name| (*name, name.len())).collect(alloc)?;
+    expect_text(&rt, &object, "{\"a\":1,\"bc\":2,\"\":0}")?;
+    let empty: [(String, bool); 0] = [];
+    let object: Object = empty.into_iter().collect(alloc)?;
+    expect(&rt, "nothing", object.is_empty());
+    Ok(())
+}
+
+/// They are `b` and `a`, from both ends.
+fn expect_keys(rt: &impl Tester, mut keys: Keys<'_>) {
+    expect_eq(rt, "the number of keys", keys.len(), 2);
+    expect_eq(rt, "the last key", keys.next_back(), Some("a"));
+    expect_eq(rt, "the first key", keys.next(), Some("b"));
+    expect_eq(rt, "no more", keys.next(), None);
+}
+
+/// They are 2 and null, from both ends.
+fn expect_values(rt: &impl Tester, mut values: Values<'_>) {
+    expect_eq(rt, "the number of values", values.len(), 2);
+    let last = values.next_back();
+    expect(rt, "the last", last == Some(&JsonValue::Null));
+    expect(rt, "the first", values.next() == Some(&number(2)));
+    expect(rt, "no more", values.next().is_none());
+}
+
+#[test]
+fn lists_keys_and_values(rt: HostRuntime) -> Tested {
+    let alloc = rt.alloc();
+    let object = object_of(alloc, "{\"b\":1,\"a\":null,\"b\":2}")?;
+    expect_keys(&rt, object.keys());
+    expect_values(&rt, object.values());
+    expect(&rt, "a", object.contains_key("a"));
+    expect(&rt, "ab", !object.contains_key("ab"));
+    let none = Object::new(alloc);
+    expect(&rt, "no key", none.keys().next().is_none());
+    expect(&rt, "no value", none.values().next().is_none());
+    Ok(())
+}
+
+/// A key that no object of these has.
+const NEW: &str = "0123456789abcdef0123456789abcdef01234567";
+
+/// The objects of these many entries, which are `true` under keys of six and of 38 bytes: one that
+/// grew, one that had room before, and two that had an entry more, which was removed.
+fn objects(alloc: Global, count: u32) -> Result<[Object; 4]> {
+    let mut grown = Object::new(alloc);
+    fill(alloc, &mut grown, count)?;
+    let mut roomy = Object::with_capacity(alloc, 40)?;
+    fill(alloc, &mut roomy, count)?;
+    let mut removed = Object::new(alloc);
+    fill(alloc, &mut removed, count)?;
+    removed.insert(alloc, NEW, JsonValue::Null)?;
+    drop(removed.remove(NEW));
+    let mut retained = Object::new(alloc);
+    retained.insert(alloc, NEW, JsonValue::Null)?;
+    fill(alloc, &mut retained, count)?;
+    retained.retain(|key, _| key != NEW);
+    Ok([grown, roomy, removed, retained])
+}
+
+fn fill(alloc: Global, object: &mut Object, count: u32) -> Result<()> {
+    for number in 0..count {
+        let width = if number % 3 == 0 { 38 } else { 6 };
+        let key = format!(in alloc; "{number:0width$}")?;
+        object.insert(alloc, key.as_str(), JsonValue::Boolean(true))?;
+    }
+    Ok(())
+}
+
+/// A call on an object. `SetLast` is `override_last`.
+#[derive(Clone, Copy)]
+enum Call {
+    Insert,
+    AtMut,
+    SetLast,
+    Remove,
+    Retain,
+    Clear,
+    GetMut,
+    IterMut,
+    IntoIter,
+    CloneAll,
+}
+
+const CALLS: [Call; 10] = [
+    Insert, AtMut, SetLast, Remove, Retain, Clear, GetMut, IterMut, IntoIter, CloneAll,
+];
+
+/// The first two entries and the last one are read, and the others dropped. How many were read.
+fn read_some(object: Object) -> usize {
+    let mut entries = object.into_iter();
+    let read = [entries.next(), entries.next(), entries.next_back()];
+    read.iter().filter(|entry| entry.is_some()).count()
+}
+
+impl Call {
+    /// How many entries the call leaves, or reads, of an object of this many.
+    fn left(self, count: usize) -> usize {
+        match self {
+            Insert | AtMut => count.saturating_add(1),
+            Remove => count.saturating_sub(1),
+            Retain => count / 2,
+            Clear => 0,
+            IntoIter => count.min(3),
+            _ => count,
+        }
+    }
+
+    /// How many entries are left or read.
+    fn call(self, alloc: Global, mut object: Object) -> Result<usize> {
+        match self {
+            Insert => object.insert(alloc, NEW, JsonValue::Null)?,
+            AtMut => drop(object.at_mut(alloc, NEW)?.take()),
+            SetLast => object.override_last(JsonValue::Null),
+            Remove => drop(object.remove("00000000000000000000000000000000000000")),
+            Retain => {
+                let mut is_kept = true;
+                object.retain(|_, _| {
+                    is_kept = !is_kept;
+                    is_kept
+                });
+            }
+            Clear => object.clear(),
+            GetMut => drop(object.get_mut(NEW).is_none()),
+            IterMut => drop(object.iter_mut().next_back().is_some()),
+            IntoIter => return Ok(read_some(object)),
+            CloneAll => return Ok(object.clone(alloc)?.len()),
+        }
+        Ok(object.len())
+    }
+}
+
+#[test]
+fn changes_objects_of_each_room(rt: HostRuntime) -> Tested {
+    let alloc = rt.alloc();
+    for call in CALLS {
+        for count in [0, 1, 2, 16, 17, 40, 300] {
+            for object in objects(alloc, count)? {
+                let left = call.call(alloc, object)?;
+                expect(&rt, "what is left", left == call.left(count as usize));
+            }
+        }
+    }
     Ok(())
 }

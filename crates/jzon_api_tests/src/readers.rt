@@ -1,10 +1,9 @@
-//! What is read of a value.
+//! What is read of a value, and of a view into one.
 
-use crate::common::{Tested, expect, expect_eq, is_entry, long, number};
+use crate::common::{Tested, Tester, expect, expect_eq, is_entry, long, number};
 use jzon::number::NAN;
 use jzon::object::Object;
-use jzon::{JsonValue, parse};
-use std::process::Abort;
+use jzon::{JsonValue, View, parse};
 
 /// Whether it is null, a boolean, a number, a string, an object, an array.
 type Kinds = [bool; 6];
@@ -21,19 +20,28 @@ const OBJECT: Kinds = [false, false, false, false, true, false];
 
 const ARRAY: Kinds = [false, false, false, false, false, true];
 
-/// What is read of kind, emptiness and length.
-fn expect_kind(rt: &impl Abort, value: &JsonValue, kinds: Kinds, empty: bool, len: usize) {
-    let read = [
-        value.is_null(),
-        value.is_boolean(),
-        value.is_number(),
-        value.is_string(),
-        value.is_object(),
-        value.is_array(),
-    ];
-    expect_eq(rt, "the kind", read, kinds);
-    expect_eq(rt, "is_empty", value.is_empty(), empty);
-    expect_eq(rt, "len", value.len(), len);
+/// The kind of a value or of a view, whether it is empty, and its length.
+macro_rules! kind {
+    ($read:expr) => {
+        (
+            [
+                $read.is_null(),
+                $read.is_boolean(),
+                $read.is_number(),
+                $read.is_string(),
+                $read.is_object(),
+                $read.is_array(),
+            ],
+            $read.is_empty(),
+            $read.len(),
+        )
+    };
+}
+
+fn expect_kind(rt: &impl Tester, value: &JsonValue, kinds: Kinds, empty: bool, len: usize) {
+    expect_eq(rt, "a value", kind!(value), (kinds, empty, len));
+    let view = value.as_view();
+    expect_eq(rt, "a view", kind!(view), (kinds, empty, len));
 }
 
 /// A value, its kind, whether it is empty, and its length.
@@ -64,28 +72,33 @@ fn reads_kind_emptiness_and_length(rt: HostRuntime) -> Tested {
     Ok(())
 }
 
-/// The string, the whole number and the boolean that are read of it.
-fn expect_primitive(
-    rt: &impl Abort,
-    value: &JsonValue,
-    text: Option<&str>,
-    whole: Option<u64>,
-    boolean: Option<bool>,
-) {
-    expect_eq(rt, "as_str", value.as_str(), text);
-    expect_eq(
-        rt,
-        "as_number",
-        value.as_number().is_some(),
-        whole.is_some(),
-    );
-    expect_eq(rt, "as_u64", value.as_u64(), whole);
-    expect_eq(rt, "at point 0", value.as_fixed_point_u64(0), whole);
-    expect_eq(rt, "as_bool", value.as_bool(), boolean);
-    let is_a = matches!(text, Some("a"));
-    expect_eq(rt, "eq_str", value.eq_str("a"), is_a);
-    expect_eq(rt, "eq_bool", value.eq_bool(true), boolean == Some(true));
-    expect_eq(rt, "eq_bool", value.eq_bool(false), boolean == Some(false));
+/// The string, the whole number and the boolean that are read.
+type Primitive<'a> = (Option<&'a str>, Option<u64>, Option<bool>);
+
+/// They are read of a value, or of a view, and it equals them alone.
+macro_rules! expect_primitive {
+    ($rt:expr, $read:expr, $text:expr, $whole:expr, $boolean:expr) => {
+        expect_eq($rt, "as_str", $read.as_str(), $text);
+        expect_eq($rt, "as_u64", $read.as_u64(), $whole);
+        expect_eq($rt, "at point 0", $read.as_fixed_point_u64(0), $whole);
+        expect_eq($rt, "as_bool", $read.as_bool(), $boolean);
+        let parts = $read.as_number().map(|read| read.as_parts());
+        expect_eq($rt, "the parts", parts, $whole.map(|whole| (true, whole, 0)));
+        expect_eq($rt, "eq_str", $read.eq_str("a"), matches!($text, Some("a")));
+        expect_eq($rt, "eq_str", $read.eq_str("world"), matches!($text, Some("world")));
+        expect_eq($rt, "eq_u64", $read.eq_u64(7), matches!($whole, Some(7)));
+        expect_eq($rt, "eq_bool", $read.eq_bool(true), $boolean == Some(true));
+        expect_eq($rt, "eq_bool", $read.eq_bool(false), $boolean == Some(false));
+    };
+}
+
+fn expect_of_value(rt: &impl Tester, value: &JsonValue, (text, whole, boolean): Primitive<'_>) {
+    expect_primitive!(rt, value, text, whole, boolean);
+    expect_of_view(rt, value.as_view(), (text, whole, boolean));
+}
+
+fn expect_of_view(rt: &impl Tester, view: View<'_>, (text, whole, boolean): Primitive<'_>) {
+    expect_primitive!(rt, view, text, whole, boolean);
 }
 
 /// A value, and the string, the whole number and the boolean that are read of it.
@@ -101,18 +114,16 @@ const PRIMITIVES: &[(&str, Option<&str>, Option<u64>, Option<bool>)] = &[
 
 #[test]
 fn reads_strings_numbers_and_booleans(rt: HostRuntime) -> Tested {
-    let alloc = rt.alloc();
     for (source, text, whole, boolean) in PRIMITIVES {
-        expect_primitive(&rt, &parse(alloc, source)?, *text, *whole, *boolean);
+        let value = parse(rt.alloc(), source)?;
+        expect_of_value(&rt, &value, (*text, *whole, *boolean));
     }
-    expect_primitive(&rt, &long(alloc, "a")?, Some("a"), None, None);
-    let parts = number(7).as_number().map(|read| read.as_parts());
-    expect_eq(&rt, "the parts", parts, Some((true, 7, 0)));
+    expect_of_value(&rt, &long(rt.alloc(), "a")?, (Some("a"), None, None));
     Ok(())
 }
 
 /// It is `{"a":1,"b":2}`.
-fn look_into_an_object(rt: &impl Abort, object: &JsonValue) {
+fn look_into_an_object(rt: &impl Tester, object: &JsonValue) {
     expect(rt, "a", object.get("a") == Some(&number(1)));
     expect(
         rt,
@@ -133,7 +144,7 @@ fn look_into_an_object(rt: &impl Abort, object: &JsonValue) {
 }
 
 /// It is `[1,2]`.
-fn look_into_an_array(rt: &impl Abort, array: &JsonValue) {
+fn look_into_an_array(rt: &impl Tester, array: &JsonValue) {
     expect(rt, "no a", array.get("a").is_none() && !array.has_key("a"));
     expect(rt, "2", array.contains(&number(2)));
     expect(rt, "no 3", !array.contains(&number(3)));
@@ -155,17 +166,29 @@ fn looks_into_containers(rt: HostRuntime) -> Tested {
     Ok(())
 }
 
-/// It is no container, and so nothing is in it.
-fn find_nothing(rt: &impl Abort, value: &JsonValue) {
+/// Nothing is in this value or view, which is no container.
+macro_rules! expect_nothing {
+    ($rt:expr, $read:expr) => {
+        expect($rt, "has_key", !$read.has_key("a"));
+        expect($rt, "contains", !$read.contains(&JsonValue::Null));
+        expect($rt, "as_object", $read.as_object().is_none());
+        expect($rt, "as_array", $read.as_array().is_none());
+        expect($rt, "members", $read.members().next().is_none());
+        expect($rt, "entries", $read.entries().next().is_none());
+        expect($rt, "at", $read.at("a").value().is_none());
+        expect($rt, "at_index", $read.at_index(0).value().is_none());
+    };
+}
+
+fn find_nothing(rt: &impl Tester, value: &JsonValue) {
+    expect_nothing!(rt, value);
     expect(rt, "get", value.get("a").is_none());
-    expect(rt, "has_key", !value.has_key("a"));
     expect(rt, "contains", !value.contains(value));
-    expect(rt, "as_object", value.as_object().is_none());
-    expect(rt, "as_array", value.as_array().is_none());
-    expect(rt, "members", value.members().next().is_none());
-    expect(rt, "entries", value.entries().next().is_none());
-    expect(rt, "at", value.at("a").value().is_none());
-    expect(rt, "at_index", value.at_index(0).value().is_none());
+    find_nothing_in_view(rt, value.as_view());
+}
+
+fn find_nothing_in_view(rt: &impl Tester, view: View<'_>) {
+    expect_nothing!(rt, view);
 }
 
 const NO_CONTAINERS: &[&str] = &["null", "\"a\"", "1", "true"];
@@ -196,6 +219,85 @@ fn contains_elements_of_each_kind(rt: HostRuntime) -> Tested {
     for (text, is_there) in CONTAINED {
         let value = parse(rt.alloc(), text)?;
         expect_eq(&rt, text, array.contains(&value), *is_there);
+    }
+    Ok(())
+}
+
+const NESTED: &str = "{\"list\":[null,\"world\",true,7],\"map\":{\"a\":null}}";
+
+/// The elements of the list: their kinds, and what is read of them.
+const ELEMENTS: [(Kinds, Primitive<'static>); 4] = [
+    (NULL, (None, None, None)),
+    (STRING, (Some("world"), None, None)),
+    (BOOLEAN, (None, None, Some(true))),
+    (NUMBER, (None, Some(7), None)),
+];
+
+fn look_at_elements(rt: &impl Tester, list: View<'_>) {
+    for (index, (kinds, primitive)) in ELEMENTS.iter().enumerate() {
+        let view = list.at_index(index);
+        expect(rt, "value", view.value().is_some());
+        expect_eq(rt, "the kind", kind!(view).0, *kinds);
+        expect_of_view(rt, view, *primitive);
+    }
+    expect(rt, "past the end", list.at_index(4).value().is_none());
+}
+
+fn look_at_the_list(rt: &impl Tester, list: View<'_>) {
+    expect(rt, "at", list.at("a").value().is_none());
+    expect_eq(rt, "the kind", kind!(list), (ARRAY, false, 4));
+    expect(rt, "contains", list.contains(&JsonValue::Boolean(true)));
+    expect(rt, "contains", !list.contains(&JsonValue::Boolean(false)));
+    let len = list.as_array().map(|items| items.len());
+    expect_eq(rt, "as_array", len, Some(4));
+    expect_eq(rt, "members", list.members().len(), 4);
+}
+
+fn look_at_the_map(rt: &impl Tester, map: View<'_>) {
+    expect_eq(rt, "the kind", kind!(map), (OBJECT, false, 1));
+    expect(rt, "has_key", map.has_key("a") && !map.has_key("b"));
+    expect(rt, "at", map.at("a").is_null());
+    let first = map.entries().next();
+    expect(rt, "entries", matches!(first, Some(("a", JsonValue::Null))));
+    let len = map.as_object().map(Object::len);
+    expect_eq(rt, "as_object", len, Some(1));
+}
+
+#[test]
+fn goes_from_view_to_view(rt: HostRuntime) -> Tested {
+    let value = parse(rt.alloc(), NESTED)?;
+    look_at_elements(&rt, value.at("list"));
+    look_at_the_list(&rt, value.at("list"));
+    look_at_the_map(&rt, value.as_view().at("map"));
+    Ok(())
+}
+
+#[test]
+fn reads_what_is_there_and_what_is_missing(rt: HostRuntime) -> Tested {
+    let value = parse(rt.alloc(), "{\"list\":[null,\"world\"]}")?;
+    let text = value.at("list").at_index(1).as_str();
+    expect_eq(&rt, "as_str", text, Some("world"));
+    let missing = value.at("this").at("does");
+    expect(&rt, "is_null", missing.is_null());
+    expect(&rt, "value", missing.value().is_none());
+    Ok(())
+}
+
+/// A missing view reads as null.
+#[test]
+fn reads_what_is_missing_as_null(rt: HostRuntime) -> Tested {
+    let value = parse(rt.alloc(), NESTED)?;
+    for missing in [
+        value.at("this"),
+        value.at("this").at("does"),
+        value.at("this").at_index(0),
+        value.at("list").at_index(9),
+    ] {
+        expect(&rt, "value", missing.value().is_none());
+        expect_eq(&rt, "the kind", kind!(missing), (NULL, true, 0));
+        expect_of_view(&rt, missing, (None, None, None));
+        expect(&rt, "eq_str", !missing.eq_str(""));
+        find_nothing_in_view(&rt, missing);
     }
     Ok(())
 }

@@ -1,14 +1,15 @@
-//! Printing, cloning and equality of values.
+//! Equality and copies of values.
 
-use crate::common::{Tested, expect_dump, expect_eq, long, parts};
+use crate::common::{Tested, Tester, each_value, expect, expect_dump, expect_eq, long, parts};
 use jzon::number::NAN;
+use jzon::object::Object;
 use jzon::short::Short;
-use jzon::{JsonValue, Result, object, parse};
+use jzon::{IntoJson, JsonValue, Result, object, parse};
+use jzon_test_support::joined;
 use std::alloc::Global;
-use std::process::Abort;
 
 /// `==` from both sides, and `!=`.
-fn expect_equal(rt: &impl Abort, left: &JsonValue, right: &JsonValue, is_equal: bool) {
+fn expect_equal(rt: &impl Tester, left: &JsonValue, right: &JsonValue, is_equal: bool) {
     expect_eq(rt, "left == right", left == right, is_equal);
     expect_eq(rt, "right == left", right == left, is_equal);
     expect_eq(rt, "left != right", left != right, !is_equal);
@@ -50,16 +51,14 @@ fn equals(rt: HostRuntime) -> Tested {
 #[test]
 fn equals_what_is_kept_otherwise(rt: HostRuntime) -> Tested {
     let long = long(rt.alloc(), "a")?;
-    expect_equal(&rt, &long, &JsonValue::Short(Short::from_slice("a")), true);
-    expect_equal(
-        &rt,
-        &long,
-        &JsonValue::Short(Short::from_slice("ab")),
-        false,
-    );
-    expect_equal(&rt, &JsonValue::Number(NAN), &JsonValue::Number(NAN), true);
-    expect_equal(&rt, &JsonValue::Number(NAN), &JsonValue::Null, false);
-    expect_equal(&rt, &JsonValue::Number(NAN), &parts(true, 0, 0), false);
+    for (text, is_equal) in [("a", true), ("ab", false)] {
+        let short = JsonValue::Short(Short::from_slice(text));
+        expect_equal(&rt, &long, &short, is_equal);
+    }
+    let nan = JsonValue::Number(NAN);
+    expect_equal(&rt, &nan, &JsonValue::Number(NAN), true);
+    expect_equal(&rt, &nan, &JsonValue::Null, false);
+    expect_equal(&rt, &nan, &parts(true, 0, 0), false);
     Ok(())
 }
 
@@ -88,15 +87,60 @@ const CLONED: &[&str] = &[
     "1.50",
     "\"a\"",
     "[[],{},[null,{\"a\":\"b\"}],true]",
+    "[null,true,1.50,\"a\",\"abcdefghijklmnopqrstuvwxyz01234\",[],{\"b\":[1],\"a\":{}}]",
 ];
 
-#[test]
-fn clones(rt: HostRuntime) -> Tested {
-    for text in CLONED {
-        let value = parse(rt.alloc(), text)?;
-        let copy = value.clone(rt.alloc())?;
-        expect_equal(&rt, &copy, &value, true);
-        expect_dump(&rt, rt.alloc(), &copy, text)?;
+/// By `clone` and by std's `Clone`, alone, in a list and in a slice. A string that is allocated stays
+/// so, however short it is.
+fn expect_copies(rt: &impl Tester, value: JsonValue, text: &str) -> Tested {
+    let alloc = rt.alloc();
+    let is_allocated = matches!(value, JsonValue::String(_));
+    for copy in [value.clone(alloc)?, Clone::clone(&value)?] {
+        expect_equal(rt, &copy, &value, true);
+        expect_dump(rt, &copy, text)?;
+        expect_eq(rt, text, matches!(copy, JsonValue::String(_)), is_allocated);
+    }
+    let items = vec![in alloc; value]?;
+    let sliced = items.as_slice().into_json(alloc)?;
+    let list = joined(alloc, &[("[", 1), (text, 1), ("]", 1)])?;
+    for copy in [JsonValue::Array(items.clone()?), sliced] {
+        expect_dump(rt, &copy, list.as_str())?;
     }
     Ok(())
+}
+
+/// An empty string, a short one and one of 31 bytes that are allocated are among these values.
+#[test]
+fn clones(rt: HostRuntime) -> Tested {
+    let alloc = rt.alloc();
+    for text in CLONED {
+        expect_copies(&rt, parse(alloc, text)?, text)?;
+    }
+    for (text, value) in each_value(alloc)? {
+        expect_copies(&rt, value, text)?;
+    }
+    Ok(())
+}
+
+#[derive(Clone, Drop)]
+struct Setting {
+    name: String,
+    value: JsonValue,
+    fallback: Option<Object>,
+}
+
+#[test]
+fn derives_clone(rt: HostRuntime) -> Tested {
+    let alloc = rt.alloc();
+    let text = "{\"b\":[null,true,1.50,\"a\"],\"a\":{}}";
+    let setting = Setting {
+        name: String::from_str(alloc, "x")?,
+        value: parse(alloc, text)?,
+        fallback: Some(Object::new(alloc)),
+    };
+    let copy = setting.clone()?;
+    expect_eq(&rt, "the string", copy.name.as_str(), "x");
+    expect(&rt, "the object", copy.fallback.is_some());
+    expect(&rt, "the value", copy.value == setting.value);
+    expect_dump(&rt, &copy.value, text)
 }

@@ -1,93 +1,335 @@
-//! A value as a whole: each call prints it, copies equal it, and what it prints is read as it.
+//! A value as a whole: each call prints it, copies equal it, what it prints is read as it, and each
+//! call that adds it to a container keeps it. Tried on each kind of value at its edges, and on
+//! generated values.
 
-use crate::common::{Plain, Tested, expect};
+use crate::common::{
+    EACH_KIND, Plain, Tested, Tester, each_unread, each_value, expect, expect_dump, parts,
+};
 use jzon::codegen::{
     Compact, DumpGenerator, Pretty, PrettyGenerator, PrettyWriterGenerator, WriterGenerator,
     write_json,
 };
-use jzon::{JsonValue, Reading, parse, parse_as, stringify_pretty};
+use jzon::lent::{write_at, write_at_index, write_present};
+use jzon::object::Object;
+use jzon::{
+    IntoJson, JsonValue, Reading, Result, array, object, parse, parse_as, stringify,
+    stringify_pretty,
+};
+use jzon_test_support::joined;
 use std::alloc::Global;
-use std::process::Abort;
+use std::collections::BTreeMap;
 
-/// What prints a value in the compact layout prints this text.
-pub fn expect_printed(rt: &impl Abort, alloc: Global, value: &JsonValue, text: &str) -> Tested {
+/// What prints a value in the compact layout prints this text: the calls, among them one to an
+/// outlet that takes nothing at once, and the generators.
+fn expect_compact(rt: &impl Tester, value: &JsonValue, text: &str) -> Tested {
+    let alloc = rt.alloc();
     expect(rt, "dump", value.dump(alloc)?.as_str() == text);
-    expect(
-        rt,
-        "lay_out",
-        value.lay_out(alloc, Compact)?.as_str() == text,
-    );
+    let laid_out = value.lay_out(alloc, Compact)?;
+    expect(rt, "lay_out", laid_out.as_str() == text);
+    let printed = stringify(alloc, value.clone(alloc)?)?;
+    expect(rt, "stringify", printed.as_str() == text);
     let mut bytes: Vec<u8> = Vec::new(alloc);
     value.write(&mut bytes)?;
     expect(rt, "write", bytes.as_slice() == text.as_bytes());
-    for spaces in [0, 2] {
-        expect_lines(rt, alloc, value, spaces)?;
-    }
-    Ok(())
-}
-
-/// What prints a value in the pretty layout prints the same text.
-fn expect_lines(rt: &impl Abort, alloc: Global, value: &JsonValue, spaces: u16) -> Tested {
-    let pretty = value.pretty(alloc, spaces)?;
-    let lines = value.lay_out(alloc, Pretty(spaces))?;
-    expect(rt, "lay_out on lines", lines.as_str() == pretty.as_str());
     let mut bytes: Vec<u8> = Vec::new(alloc);
-    value.write_pretty(&mut bytes, spaces)?;
-    expect(rt, "write_pretty", bytes.as_slice() == pretty.as_bytes());
-    let printed = stringify_pretty(alloc, value.clone(alloc)?, spaces)?;
-    expect(rt, "stringify_pretty", printed.as_str() == pretty.as_str());
-    Ok(())
-}
-
-/// So do an outlet that takes nothing at once, and the generators, of which two print on lines.
-pub fn expect_generated(rt: &impl Abort, alloc: Global, value: &JsonValue, text: &str) -> Tested {
-    let mut plain = Plain::new(alloc);
-    value.write_outlet(&mut plain, Compact)?;
-    let bytes = plain.bytes.as_slice();
-    expect(rt, "write_outlet", bytes == text.as_bytes());
+    value.write_outlet(&mut Plain(&mut bytes), Compact)?;
+    expect(rt, "write_outlet", bytes.as_slice() == text.as_bytes());
     let mut generator = DumpGenerator::new(alloc);
     write_json(&mut generator, value)?;
     expect(rt, "DumpGenerator", generator.consume()?.as_str() == text);
-    let mut generator = PrettyGenerator::new(alloc, 2);
-    write_json(&mut generator, value)?;
-    let pretty = value.pretty(alloc, 2)?;
-    let lines = generator.consume()?;
-    expect(rt, "PrettyGenerator", lines.as_str() == pretty.as_str());
     let mut bytes: Vec<u8> = Vec::new(alloc);
     write_json(&mut WriterGenerator::new(&mut bytes), value)?;
     expect(rt, "WriterGenerator", bytes.as_slice() == text.as_bytes());
+    Ok(())
+}
+
+/// What prints a value in the pretty layout with this number of spaces prints this text.
+pub fn expect_lines(rt: &impl Tester, value: &JsonValue, spaces: u16, text: &str) -> Tested {
+    let alloc = rt.alloc();
+    let pretty = value.pretty(alloc, spaces)?;
+    expect(rt, "pretty", pretty.as_str() == text);
+    let lines = value.lay_out(alloc, Pretty(spaces))?;
+    expect(rt, "lay_out on lines", lines.as_str() == text);
+    let printed = stringify_pretty(alloc, value.clone(alloc)?, spaces)?;
+    expect(rt, "stringify_pretty", printed.as_str() == text);
     let mut bytes: Vec<u8> = Vec::new(alloc);
-    write_json(&mut PrettyWriterGenerator::new(&mut bytes, 2), value)?;
-    let is_same = bytes.as_slice() == pretty.as_bytes();
+    value.write_pretty(&mut bytes, spaces)?;
+    expect(rt, "write_pretty", bytes.as_slice() == text.as_bytes());
+    let mut bytes: Vec<u8> = Vec::new(alloc);
+    value.write_outlet(&mut Plain(&mut bytes), Pretty(spaces))?;
+    expect(rt, "write_outlet", bytes.as_slice() == text.as_bytes());
+    let mut generator = PrettyGenerator::new(alloc, spaces);
+    write_json(&mut generator, value)?;
+    let lines = generator.consume()?;
+    expect(rt, "PrettyGenerator", lines.as_str() == text);
+    let mut bytes: Vec<u8> = Vec::new(alloc);
+    write_json(&mut PrettyWriterGenerator::new(&mut bytes, spaces), value)?;
+    let is_same = bytes.as_slice() == text.as_bytes();
     expect(rt, "PrettyWriterGenerator", is_same);
     Ok(())
 }
 
-/// The value prints this text, `shown` by `Display`, and equals what the text and its pretty text
-/// mean, and its copies.
-pub fn expect_whole(
-    rt: &impl Abort,
-    alloc: Global,
-    value: &JsonValue,
-    text: &str,
-    shown: &str,
-) -> Tested {
-    expect_printed(rt, alloc, value, text)?;
-    expect_generated(rt, alloc, value, text)?;
+/// What `{}` shows of a value of this compact text.
+fn shown<'a>(value: &'a JsonValue, text: &'a str) -> &'a str {
+    match value {
+        JsonValue::Number(number) if number.is_nan() => "nan",
+        _ => value.as_str().unwrap_or(text),
+    }
+}
+
+/// The value prints this text, and equals its copies.
+pub fn expect_printed(rt: &impl Tester, value: &JsonValue, text: &str) -> Tested {
+    let alloc = rt.alloc();
+    expect_compact(rt, value, text)?;
+    for spaces in [0, 2] {
+        let lines = value.pretty(alloc, spaces)?;
+        expect_lines(rt, value, spaces, lines.as_str())?;
+    }
     let formatted = format!(in alloc; "{value}")?;
-    expect(rt, "Display", formatted.as_str() == shown);
-    expect(rt, "parse", *value == parse(alloc, text)?);
-    let lines = value.pretty(alloc, 2)?;
-    expect(
-        rt,
-        "parse of lines",
-        *value == parse(alloc, lines.as_str())?,
-    );
-    let strict = Reading::new(true, 512).unwrap();
-    expect(rt, "parse_as", *value == parse_as(alloc, text, &strict)?);
+    expect(rt, "Display", formatted.as_str() == shown(value, text));
     let copy = value.clone(alloc)?;
-    expect_printed(rt, alloc, &copy, text)?;
+    expect(rt, "the copy", copy.dump(alloc)?.as_str() == text);
     expect(rt, "clone", *value == copy);
     expect(rt, "std's clone", *value == Clone::clone(&copy)?);
+    Ok(())
+}
+
+/// It also equals what this text and its pretty text are read as.
+pub fn expect_whole(rt: &impl Tester, value: &JsonValue, text: &str) -> Tested {
+    let alloc = rt.alloc();
+    expect_printed(rt, value, text)?;
+    expect(rt, "parse", *value == parse(alloc, text)?);
+    let lines = value.pretty(alloc, 2)?;
+    let read = parse(alloc, lines.as_str())?;
+    expect(rt, "parse of lines", *value == read);
+    let strict = Reading::new(true, 512).unwrap();
+    expect(rt, "parse_as", *value == parse_as(alloc, text, &strict)?);
+    Ok(())
+}
+
+/// By each call that adds an element: the array of this value alone. One had room before.
+fn arrays_of(alloc: Global, value: &JsonValue) -> Result<[JsonValue; 7]> {
+    let mut pushed = JsonValue::new_array(alloc);
+    pushed.push(alloc, value.clone(alloc)?)?;
+    let mut borrowed = JsonValue::Array(Vec::with_capacity(alloc, 5)?);
+    *borrowed.at_index_mut(alloc, 0)? = value.clone(alloc)?;
+    let mut written = JsonValue::new_array(alloc);
+    write_at_index(&mut written, alloc, 0, value.clone(alloc)?)?;
+    let items = vec![in alloc; value.clone(alloc)?]?;
+    let sliced = items.as_slice().into_json(alloc)?;
+    let item = value.clone(alloc)?;
+    Ok([
+        pushed,
+        borrowed,
+        written,
+        sliced,
+        items.into_json(alloc)?,
+        array![alloc; item],
+        array![alloc; value.clone(alloc)?],
+    ])
+}
+
+/// The same for values: the object of this entry alone, the key missing before.
+fn values_of(alloc: Global, key: &str, value: &JsonValue) -> Result<[JsonValue; 7]> {
+    let mut inserted = JsonValue::new_object(alloc);
+    inserted.insert(alloc, key, value.clone(alloc)?)?;
+    let mut replaced = object! {alloc; [key]: 1};
+    replaced.insert(alloc, key, value.clone(alloc)?)?;
+    let mut borrowed = JsonValue::Null;
+    *borrowed.at_mut(alloc, key)? = value.clone(alloc)?;
+    let mut written = JsonValue::Null;
+    write_at(&mut written, alloc, key, value.clone(alloc)?)?;
+    let mut present = object! {alloc; [key]: true};
+    write_present(&mut present, key, value.clone(alloc)?);
+    let item = value.clone(alloc)?;
+    Ok([
+        inserted,
+        replaced,
+        borrowed,
+        written,
+        present,
+        object! {alloc; [key]: item},
+        object! {alloc; [key]: value.clone(alloc)?},
+    ])
+}
+
+/// The same by the calls of objects and of maps. One object had room before.
+fn objects_of(alloc: Global, key: &str, value: &JsonValue) -> Result<[Object; 5]> {
+    let mut inserted = Object::new(alloc);
+    inserted.insert(alloc, key, value.clone(alloc)?)?;
+    let mut borrowed = Object::with_capacity(alloc, 5)?;
+    *borrowed.at_mut(alloc, key)? = value.clone(alloc)?;
+    let pairs = Object::from_pairs(alloc, [(key, value.clone(alloc)?)].into_iter())?;
+    let collected: Object = [(key, value.clone(alloc)?)].into_iter().collect(alloc)?;
+    let mut map = BTreeMap::new(alloc);
+    map.insert(String::from_str(alloc, key)?, value.clone(alloc)?)?;
+    let mapped = match map.into_json(alloc)? {
+        JsonValue::Object(object) => object,
+        _ => Object::new(alloc),
+    };
+    Ok([inserted, borrowed, pairs, collected, mapped])
+}
+
+/// Keys that are empty, short and allocated.
+const KEYS: [&str; 3] = ["", "a", "0123456789abcdef0123456789abcdef01234567"];
+
+/// The value is held by each of these, and is what they print and give back.
+pub fn expect_held(rt: &impl Tester, key: &str, value: &JsonValue, text: &str) -> Tested {
+    let alloc = rt.alloc();
+    let list = joined(alloc, &[("[", 1), (text, 1), ("]", 1)])?;
+    for mut array in arrays_of(alloc, value)? {
+        expect_dump(rt, &array, list.as_str())?;
+        expect(rt, "pop", array.pop() == *value && array.is_empty());
+    }
+    let name = stringify(alloc, key)?;
+    let whole = format!(in alloc; "{{{name}:{text}}}")?;
+    for mut object in values_of(alloc, key, value)? {
+        expect_dump(rt, &object, whole.as_str())?;
+        let removed = object.remove(key);
+        expect(rt, "remove", removed == *value && object.is_empty());
+    }
+    for mut object in objects_of(alloc, key, value)? {
+        expect_object(rt, &object, whole.as_str())?;
+        let removed = object.remove(key);
+        expect(rt, "Object::remove", removed.as_ref() == Some(value));
+        expect(rt, "what is left", object.is_empty());
+    }
+    Ok(())
+}
+
+/// The object prints this text, and its copies equal it.
+pub fn expect_object(rt: &impl Tester, object: &Object, text: &str) -> Tested {
+    let alloc = rt.alloc();
+    expect(rt, "dump", object.dump(alloc)?.as_str() == text);
+    let lines = JsonValue::Object(object.clone(alloc)?).pretty(alloc, 0)?;
+    let pretty = object.pretty(alloc, 0)?;
+    expect(rt, "pretty", pretty.as_str() == lines.as_str());
+    expect(rt, "clone", object.clone(alloc)? == *object);
+    expect(rt, "std's clone", Clone::clone(object)? == *object);
+    Ok(())
+}
+
+#[test]
+fn holds_each_kind(rt: HostRuntime) -> Tested {
+    for (text, value) in each_value(rt.alloc())? {
+        for key in KEYS {
+            expect_held(&rt, key, &value, text)?;
+        }
+    }
+    Ok(())
+}
+
+/// Values that no text is read as are only printed and copied.
+#[test]
+fn prints_and_copies_each_kind(rt: HostRuntime) -> Tested {
+    for text in EACH_KIND {
+        expect_whole(&rt, &parse(rt.alloc(), text)?, text)?;
+    }
+    for (text, value) in each_unread(rt.alloc())? {
+        expect_printed(&rt, &value, text)?;
+    }
+    Ok(())
+}
+
+/// Pieces of strings and keys: empty, plain, escaped, of two to four bytes, and controls.
+const PIECES: [&str; 14] = [
+    "", "a", "B7", "é", "\n", "\"", "\\", "\u{1}", "/", "𝄞", " ", "\u{7f}", "01234567", "\u{ffff}",
+];
+
+const EXPONENTS: [i16; 8] = [0, -1, -17, -300, 2, 17, 300, 32000];
+
+/// A fixed sequence of numbers without a pattern.
+#[derive(Drop)]
+struct Sequence {
+    state: u64,
+}
+
+impl Sequence {
+    fn next(&mut self) -> u64 {
+        self.state = self
+            .state
+            .wrapping_mul(6364136223846793005)
+            .wrapping_add(1442695040888963407);
+        self.state >> 20
+    }
+
+    fn text(&mut self, alloc: Global) -> Result<String> {
+        let mut text = String::new(alloc);
+        for _ in 0..self.next() % 8 {
+            let piece = PIECES.get((self.next() % 14) as usize);
+            text.push_str(piece.copied().unwrap_or(""))?;
+        }
+        Ok(text)
+    }
+
+    fn number(&mut self) -> JsonValue {
+        let mantissa = self.next() >> (self.next() % 40);
+        let exponent = EXPONENTS.get((self.next() % 8) as usize);
+        let exponent = exponent.copied().unwrap_or(0);
+        parts(self.next() % 2 == 0, mantissa, exponent)
+    }
+
+    /// A value without elements and entries. Of the two kinds of strings one is allocated.
+    fn leaf(&mut self, alloc: Global) -> Result<JsonValue> {
+        match self.next() % 8 {
+            0 => Ok(JsonValue::Null),
+            1 => Ok(JsonValue::Boolean(self.next() % 2 == 0)),
+            2 => Ok(JsonValue::new_array(alloc)),
+            3 => Ok(JsonValue::new_object(alloc)),
+            4 => Ok(JsonValue::String(self.text(alloc)?)),
+            5 => self.text(alloc)?.as_str().into_json(alloc),
+            _ => Ok(self.number()),
+        }
+    }
+
+    /// The value among others in an array.
+    fn array(&mut self, alloc: Global, value: JsonValue) -> Result<JsonValue> {
+        let mut array = JsonValue::new_array(alloc);
+        for _ in 0..self.next() % 4 {
+            array.push(alloc, self.leaf(alloc)?)?;
+        }
+        array.push(alloc, value)?;
+        Ok(array)
+    }
+
+    /// The value among others in an object.
+    fn object(&mut self, alloc: Global, value: JsonValue) -> Result<JsonValue> {
+        let mut object = JsonValue::new_object(alloc);
+        for _ in 0..self.next() % 20 {
+            let key = self.text(alloc)?;
+            object.insert(alloc, key.as_str(), self.leaf(alloc)?)?;
+        }
+        let key = self.text(alloc)?;
+        object.insert(alloc, key.as_str(), value)?;
+        Ok(object)
+    }
+
+    /// A value, in up to four containers.
+    fn value(&mut self, alloc: Global) -> Result<JsonValue> {
+        let mut value = self.leaf(alloc)?;
+        for _ in 0..self.next() % 5 {
+            value = if self.next() % 2 == 0 {
+                self.array(alloc, value)?
+            } else {
+                self.object(alloc, value)?
+            };
+        }
+        Ok(value)
+    }
+}
+
+/// The compact text, which `dump` is proved to return, is what the other calls are compared with.
+#[test]
+fn prints_copies_and_holds_generated_values(rt: HostRuntime) -> Tested {
+    let alloc = rt.alloc();
+    let mut printed = Sequence { state: 1 };
+    let mut held = Sequence { state: 2 };
+    for _ in 0..500 {
+        let value = printed.value(alloc)?;
+        expect_whole(&rt, &value, value.dump(alloc)?.as_str())?;
+        let key = held.text(alloc)?;
+        let value = held.value(alloc)?;
+        expect_held(&rt, key.as_str(), &value, value.dump(alloc)?.as_str())?;
+    }
     Ok(())
 }

@@ -1,36 +1,16 @@
 //! Writers that take one byte a call, and fail at one call.
 
-use crate::common::{Tested, expect, expect_eq};
+use crate::common::{Plain, Tested, Tester, expect, expect_eq, expect_trouble};
 use jzon::codegen::{
-    Compact, Outlet, Pretty, PrettyWriterGenerator, WriterGenerator, write_json, write_object,
+    Compact, Pretty, PrettyWriterGenerator, WriterGenerator, write_json, write_object,
 };
-use jzon::{JsonValue, parse};
+use jzon::{JsonValue, Result, parse};
 use jzon_test_support::{
     DOCUMENT, DUMP, FAILURES, NO_FAILING_CALL, PRETTY, Refusals, SlowWriter, Trouble, joined,
 };
 use std::alloc::Global;
 use std::io;
-use std::io::{ErrorKind, Write};
-use std::process::Abort;
-use std::test::Fail;
-
-/// An outlet that takes nothing at once, over a writer.
-#[derive(Drop)]
-struct Over<'a> {
-    writer: &'a mut SlowWriter,
-}
-
-impl Write for Over<'_> {
-    fn write(&mut self, buf: &[u8]) -> io::Result<usize> {
-        self.writer.write(buf)
-    }
-
-    fn flush(&mut self) -> io::Result<()> {
-        self.writer.flush()
-    }
-}
-
-impl Outlet for Over<'_> {}
+use std::io::ErrorKind;
 
 /// How a value is written.
 #[derive(Clone, Copy)]
@@ -68,7 +48,7 @@ struct Sample {
 }
 
 /// A small one with a value of nearly each kind.
-fn small(alloc: Global) -> std::result::Result<Sample, Fail> {
+fn small(alloc: Global) -> Result<Sample> {
     Ok(Sample {
         value: parse(alloc, DOCUMENT)?,
         compact: String::from_str(alloc, DUMP)?,
@@ -78,7 +58,7 @@ fn small(alloc: Global) -> std::result::Result<Sample, Fail> {
 }
 
 /// One with 40,000 elements, so that even its compact text is longer than 16 bits can count.
-fn large(alloc: Global) -> std::result::Result<Sample, Fail> {
+fn large(alloc: Global) -> Result<Sample> {
     let compact = joined(alloc, &[("{\"a\":[0", 1), (",0", 39999), ("]}", 1)])?;
     let parts = [
         ("{\n  \"a\": [\n    0", 1),
@@ -94,20 +74,12 @@ fn large(alloc: Global) -> std::result::Result<Sample, Fail> {
 }
 
 /// One whose lines begin with more spaces than are written at once.
-fn wide(alloc: Global) -> std::result::Result<Sample, Fail> {
-    let parts = [
-        ("{\n", 1),
-        (" ", 600),
-        ("\"a\": [\n", 1),
-        (" ", 1200),
-        ("0\n", 1),
-        (" ", 600),
-        ("]\n}", 1),
-    ];
+fn wide(alloc: Global) -> Result<Sample> {
+    let indent = joined(alloc, &[(" ", 600)])?;
     Ok(Sample {
         value: parse(alloc, "{\"a\":[0]}")?,
         compact: String::from_str(alloc, "{\"a\":[0]}")?,
-        pretty: joined(alloc, &parts)?,
+        pretty: format!(in alloc; "{{\n{indent}\"a\": [\n{indent}{indent}0\n{indent}]\n}}")?,
         spaces: 600,
     })
 }
@@ -115,12 +87,10 @@ fn wide(alloc: Global) -> std::result::Result<Sample, Fail> {
 impl How {
     fn text(self, sample: &Sample) -> &str {
         match self {
-            How::Compact | How::Layout | How::Outlet | How::Generator | How::Object => {
-                sample.compact.as_str()
-            }
             How::Pretty | How::PrettyLayout | How::PrettyOutlet | How::PrettyGenerator => {
                 sample.pretty.as_str()
             }
+            _ => sample.compact.as_str(),
         }
     }
 
@@ -132,8 +102,8 @@ impl How {
             How::Pretty => value.write_pretty(writer, spaces),
             How::Layout => value.write_layout(writer, Compact),
             How::PrettyLayout => value.write_layout(writer, Pretty(spaces)),
-            How::Outlet => value.write_outlet(&mut Over { writer }, Compact),
-            How::PrettyOutlet => value.write_outlet(&mut Over { writer }, Pretty(spaces)),
+            How::Outlet => value.write_outlet(&mut Plain(writer), Compact),
+            How::PrettyOutlet => value.write_outlet(&mut Plain(writer), Pretty(spaces)),
             How::Generator => write_json(&mut WriterGenerator::new(writer), value),
             How::PrettyGenerator => {
                 write_json(&mut PrettyWriterGenerator::new(writer, spaces), value)
@@ -147,7 +117,7 @@ impl How {
 }
 
 /// The writer holds the first bytes of the text, and this was its last call.
-fn expect_prefix(rt: &impl Abort, writer: &SlowWriter, text: &str, call: usize) {
+fn expect_prefix(rt: &impl Tester, writer: &SlowWriter, text: &str, call: usize) {
     expect_eq(rt, "the calls", writer.calls, call);
     expect_eq(rt, "the flushes", writer.flushes, 0);
     expect_eq(rt, "the bytes", writer.bytes.len(), call.saturating_sub(1));
@@ -156,32 +126,22 @@ fn expect_prefix(rt: &impl Abort, writer: &SlowWriter, text: &str, call: usize) 
 
 /// The writer fails at this call: the error is its own, and nothing is written after it.
 fn expect_stop(
-    rt: &impl Abort,
-    alloc: Global,
+    rt: &impl Tester,
     sample: &Sample,
     how: How,
     trouble: Trouble,
     call: usize,
 ) -> Tested {
-    let mut writer = SlowWriter::new(alloc, call, trouble);
-    match how.write(sample, &mut writer) {
-        Err(error) => expect(rt, "the error", trouble.is_returned(alloc, &error)?),
-        Ok(()) => expect(rt, "no error", false),
-    }
+    let mut writer = SlowWriter::new(rt.alloc(), call, trouble);
+    expect_trouble(rt, how.write(sample, &mut writer), trouble)?;
     expect_prefix(rt, &writer, how.text(sample), call);
     Ok(())
 }
 
 /// The writer fails at each call in turn.
-fn expect_stops(
-    rt: &impl Abort,
-    alloc: Global,
-    sample: &Sample,
-    how: How,
-    trouble: Trouble,
-) -> Tested {
+fn expect_stops(rt: &impl Tester, sample: &Sample, how: How, trouble: Trouble) -> Tested {
     for call in 1..=how.text(sample).len() {
-        expect_stop(rt, alloc, sample, how, trouble, call)?;
+        expect_stop(rt, sample, how, trouble, call)?;
     }
     Ok(())
 }
@@ -191,9 +151,9 @@ fn stops_at_each_call_that_fails(rt: HostRuntime) -> Tested {
     let sample = small(rt.alloc())?;
     for how in HOWS {
         for trouble in FAILURES {
-            expect_stops(&rt, rt.alloc(), &sample, how, trouble)?;
+            expect_stops(&rt, &sample, how, trouble)?;
         }
-        expect_stops(&rt, rt.alloc(), &sample, how, Trouble::TakesNothing)?;
+        expect_stops(&rt, &sample, how, Trouble::TakesNothing)?;
     }
     Ok(())
 }
@@ -205,7 +165,7 @@ fn stops_late(rt: HostRuntime) -> Tested {
     let trouble = Trouble::Fails(ErrorKind::BrokenPipe);
     for how in HOWS {
         for call in [65535, 65536, 65537, how.text(&sample).len()] {
-            expect_stop(&rt, rt.alloc(), &sample, how, trouble, call)?;
+            expect_stop(&rt, &sample, how, trouble, call)?;
         }
     }
     Ok(())
@@ -217,7 +177,7 @@ fn stops_in_wide_lines(rt: HostRuntime) -> Tested {
     let sample = wide(rt.alloc())?;
     let trouble = Trouble::Fails(ErrorKind::BrokenPipe);
     for how in HOWS {
-        expect_stops(&rt, rt.alloc(), &sample, how, trouble)?;
+        expect_stops(&rt, &sample, how, trouble)?;
     }
     Ok(())
 }
@@ -233,7 +193,7 @@ fn failed_writes_counted(rt: HostRuntime) -> Tested {
     for how in HOWS {
         let mut refusals = Refusals::new(rt.alloc());
         refusals.open();
-        expect_stops(&rt, rt.alloc(), &sample, how, trouble)?;
+        expect_stops(&rt, &sample, how, trouble)?;
         refusals.close();
         refusals.expect_within(&rt, "writes that fail", MOST_OF_FAILED)?;
         refusals.expect_even()?;
@@ -263,10 +223,7 @@ fn stops_at_the_fourth_call(rt: HostRuntime) -> Tested {
     let value = parse(rt.alloc(), "[1,2,3]")?;
     let trouble = Trouble::Fails(ErrorKind::BrokenPipe);
     let mut writer = SlowWriter::new(rt.alloc(), 4, trouble);
-    match value.write(&mut writer) {
-        Ok(()) => expect(&rt, "no error", false),
-        Err(error) => expect(&rt, "the error", trouble.is_returned(rt.alloc(), &error)?),
-    }
+    expect_trouble(&rt, value.write(&mut writer), trouble)?;
     expect_prefix(&rt, &writer, "[1,", 4);
     Ok(())
 }

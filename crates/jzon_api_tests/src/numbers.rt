@@ -1,9 +1,8 @@
-//! What is read of a number as an integer.
+//! What is read of a number as an integer, also at a fixed point.
 
-use crate::common::{Tested, expect, expect_eq, number, parts};
+use crate::common::{Tested, Tester, expect, expect_eq, number, parts};
 use jzon::number::NAN;
 use jzon::{JsonValue, View, parse};
-use std::process::Abort;
 
 /// What is read as each unsigned type, from `u8` to `u64`, and then `usize`.
 type Unsigned = (
@@ -23,44 +22,18 @@ type Signed = (
     Option<isize>,
 );
 
-fn unsigned(view: View<'_>) -> Unsigned {
-    (
-        view.as_u8(),
-        view.as_u16(),
-        view.as_u32(),
-        view.as_u64(),
-        view.as_usize(),
-    )
+/// What is read of a value, or of a view, as each unsigned type.
+macro_rules! unsigned {
+    ($read:expr) => {
+        ($read.as_u8(), $read.as_u16(), $read.as_u32(), $read.as_u64(), $read.as_usize())
+    };
 }
 
-fn signed(view: View<'_>) -> Signed {
-    (
-        view.as_i8(),
-        view.as_i16(),
-        view.as_i32(),
-        view.as_i64(),
-        view.as_isize(),
-    )
-}
-
-fn unsigned_of_value(value: &JsonValue) -> Unsigned {
-    (
-        value.as_u8(),
-        value.as_u16(),
-        value.as_u32(),
-        value.as_u64(),
-        value.as_usize(),
-    )
-}
-
-fn signed_of_value(value: &JsonValue) -> Signed {
-    (
-        value.as_i8(),
-        value.as_i16(),
-        value.as_i32(),
-        value.as_i64(),
-        value.as_isize(),
-    )
+/// The same for the signed types.
+macro_rules! signed {
+    ($read:expr) => {
+        ($read.as_i8(), $read.as_i16(), $read.as_i32(), $read.as_i64(), $read.as_isize())
+    };
 }
 
 const NO_UNSIGNED: Unsigned = (None, None, None, None, None);
@@ -97,16 +70,21 @@ const WIDTHS: &[((bool, u64, i16), Unsigned, Signed)] = &[
 fn reads_each_width(rt: HostRuntime) {
     for ((positive, mantissa, exponent), of_unsigned, of_signed) in WIDTHS {
         let value = parts(*positive, *mantissa, *exponent);
-        expect_eq(&rt, "unsigned", unsigned_of_value(&value), *of_unsigned);
-        expect_eq(&rt, "signed", signed_of_value(&value), *of_signed);
+        expect_eq(&rt, "unsigned", unsigned!(value), *of_unsigned);
+        expect_eq(&rt, "signed", signed!(value), *of_signed);
         let view = value.as_view();
-        expect_eq(&rt, "unsigned", unsigned(view), *of_unsigned);
-        expect_eq(&rt, "signed", signed(view), *of_signed);
+        expect_eq(&rt, "unsigned", unsigned!(view), *of_unsigned);
+        expect_eq(&rt, "signed", signed!(view), *of_signed);
     }
 }
 
 /// What is read of it as a `u64` and as an `i64`.
-fn expect_integers(rt: &impl Abort, value: &JsonValue, unsigned: Option<u64>, signed: Option<i64>) {
+fn expect_integers(
+    rt: &impl Tester,
+    value: &JsonValue,
+    unsigned: Option<u64>,
+    signed: Option<i64>,
+) {
     expect_eq(rt, "u64", value.as_u64(), unsigned);
     expect_eq(rt, "i64", value.as_i64(), signed);
 }
@@ -120,6 +98,9 @@ fn reads_integers(rt: HostRuntime) {
     expect_integers(&rt, &number(u64::MAX), Some(u64::MAX), None);
     expect_integers(&rt, &JsonValue::Number(NAN), None, None);
 }
+
+/// What is read as a `u64` and as an `i64`.
+type Both = (Option<u64>, Option<i64>);
 
 /// Parts, the point, and what is read there as a `u64` and as an `i64`.
 type FixedPoint = ((bool, u64, i16), u16, Option<u64>, Option<i64>);
@@ -140,6 +121,55 @@ fn reads_fixed_points(rt: HostRuntime) {
         expect_eq(&rt, "u64", value.as_fixed_point_u64(*point), *unsigned);
         expect_eq(&rt, "i64", value.as_fixed_point_i64(*point), *signed);
     }
+}
+
+/// What is read at the point, without losing a digit.
+fn expect_view(rt: &impl Tester, view: View<'_>, point: u16, (unsigned, signed): Both) {
+    let read = view.as_exact_fixed_point_u64(point);
+    expect_eq(rt, "u64 of a view", read, unsigned);
+    let read = view.as_exact_fixed_point_i64(point);
+    expect_eq(rt, "i64 of a view", read, signed);
+}
+
+/// From the value, and from its `View`.
+fn expect_exact(rt: &impl Tester, value: &JsonValue, point: u16, both: Both) {
+    expect_eq(rt, "u64", value.as_exact_fixed_point_u64(point), both.0);
+    expect_eq(rt, "i64", value.as_exact_fixed_point_i64(point), both.1);
+    expect_view(rt, value.as_view(), point, both);
+}
+
+/// A text, and the readings at 2.
+const AMOUNTS: &[(&str, Option<u64>, Option<i64>)] = &[
+    ("12.3", Some(1230), Some(1230)),
+    ("12.30", Some(1230), Some(1230)),
+    ("12.300", Some(1230), Some(1230)),
+    ("12.301", None, None),
+    ("12.3000001", None, None),
+    ("-0.05", None, Some(-5)),
+    ("1e1", Some(1000), Some(1000)),
+    ("0e-9", Some(0), Some(0)),
+    ("-0", None, Some(0)),
+    ("1e-30", None, None),
+    ("1e18", None, None),
+    ("\"12.3\"", None, None),
+];
+
+#[test]
+fn reads_amounts(rt: HostRuntime) -> Tested {
+    for (text, unsigned, signed) in AMOUNTS {
+        expect_exact(&rt, &parse(rt.alloc(), text)?, 2, (*unsigned, *signed));
+    }
+    Ok(())
+}
+
+#[test]
+fn reads_at_the_limits(rt: HostRuntime) {
+    expect_exact(&rt, &number(u64::MAX), 0, (Some(u64::MAX), None));
+    expect_exact(&rt, &parts(true, 0, -32768), 0, (Some(0), Some(0)));
+    expect_exact(&rt, &parts(false, 7, -32768), 32768, (None, Some(-7)));
+    expect_exact(&rt, &parts(true, 1, 32767), 65535, (None, None));
+    expect_exact(&rt, &JsonValue::Number(NAN), 0, (None, None));
+    expect_view(&rt, JsonValue::Null.at("a"), 0, (None, None));
 }
 
 #[test]

@@ -1,0 +1,180 @@
+//! What `{}`, `stringify`, `stringify_pretty`, `pretty` and `write` print.
+
+use crate::common::{EACH_KIND, Tested, Tester, expect, expect_dump, expect_eq};
+use jzon::number::NAN;
+use jzon::{JsonValue, array, parse, stringify, stringify_pretty};
+use jzon_test_support::{NO_FAILING_CALL, joined, show_failing};
+use std::alloc::Global;
+
+/// A text, and what is shown of its value.
+const SHOWN: &[(&str, &str)] = &[
+    ("\"foobar\"", "foobar"),
+    ("42", "42"),
+    ("true", "true"),
+    ("false", "false"),
+    ("null", "null"),
+    ("[1, true, \"three\"]", "[1,true,\"three\"]"),
+    (
+        "{\"foo\": \"bar\", \"answer\": 42}",
+        "{\"foo\":\"bar\",\"answer\":42}",
+    ),
+    ("\"a\\n\\\"\\u0001é\"", "a\n\"\u{1}é"),
+    ("[\"a\\n\\\"\\u001fé\"]", "[\"a\\n\\\"\\u001fé\"]"),
+    ("[[], {}, [[]]]", "[[],{},[[]]]"),
+    (
+        "\"a text of more than thirty bytes\\\\\"",
+        "a text of more than thirty bytes\\",
+    ),
+    ("-12.50e3", "-12500"),
+    (
+        "{\"a\\n\":[1.50,true,\"b\\u0001\\\"c\"],\"d\":{},\"e\":null}",
+        "{\"a\\n\":[1.50,true,\"b\\u0001\\\"c\"],\"d\":{},\"e\":null}",
+    ),
+];
+
+fn expect_shown(rt: &impl Tester, value: &JsonValue, text: &str) -> Tested {
+    let shown = format!(in rt.alloc(); "{value}")?;
+    expect_eq(rt, text, shown.as_str(), text);
+    Ok(())
+}
+
+#[test]
+fn shows(rt: HostRuntime) -> Tested {
+    let alloc = rt.alloc();
+    for (source, text) in SHOWN {
+        expect_shown(&rt, &parse(alloc, source)?, text)?;
+    }
+    expect_shown(&rt, &JsonValue::Number(NAN), "nan")?;
+    let array = array![alloc; JsonValue::Number(NAN)];
+    expect_shown(&rt, &array, "[null]")
+}
+
+/// The formatter fails at this call: there is an error, a prefix was shown, and nothing is shown
+/// after it.
+fn expect_failure(rt: &impl Tester, value: &JsonValue, whole: &str, call: usize) {
+    let (is_shown, formatter) = show_failing(rt.alloc(), value, call);
+    expect(rt, whole, !is_shown && formatter.calls == call);
+    expect(rt, whole, whole.starts_with(formatter.text.as_str()));
+}
+
+/// The value is shown whole by this many calls of the formatter.
+fn calls_of(rt: &impl Tester, value: &JsonValue, whole: &str) -> usize {
+    let (is_shown, formatter) = show_failing(rt.alloc(), value, NO_FAILING_CALL);
+    expect(rt, whole, is_shown && formatter.text.as_str() == whole);
+    formatter.calls
+}
+
+#[test]
+fn stops_where_the_formatter_fails(rt: HostRuntime) -> Tested {
+    let alloc = rt.alloc();
+    for (source, whole) in SHOWN {
+        let value = parse(alloc, source)?;
+        for call in 1..=calls_of(&rt, &value, whole) {
+            expect_failure(&rt, &value, whole, call);
+        }
+    }
+    Ok(())
+}
+
+/// The parts of compact texts: many elements, and many escapes.
+const LARGE: [[(&str, usize); 3]; 2] = [
+    [("[0", 1), (",0", 70000), ("]", 1)],
+    [("[\"", 1), ("a\\n", 70000), ("\"]", 1)],
+];
+
+/// The formatter fails at its last calls.
+#[test]
+fn stops_late_where_the_formatter_fails(rt: HostRuntime) -> Tested {
+    let alloc = rt.alloc();
+    for parts in LARGE {
+        let whole = joined(alloc, &parts)?;
+        let value = parse(alloc, whole.as_str())?;
+        let calls = calls_of(&rt, &value, whole.as_str());
+        for call in [calls.saturating_sub(1), calls] {
+            expect_failure(&rt, &value, whole.as_str(), call);
+        }
+    }
+    Ok(())
+}
+
+/// Flags, a width, a fill and a precision change nothing.
+#[test]
+fn ignores_width_fill_and_the_alternate_form(rt: HostRuntime) -> Tested {
+    let alloc = rt.alloc();
+    for text in EACH_KIND {
+        let value = parse(alloc, text)?;
+        let plain = format!(in alloc; "{value}")?;
+        let alternate = format!(in alloc; "{value:#}")?;
+        let right = format!(in alloc; "{value:>+40}")?;
+        let filled = format!(in alloc; "{value:*^40}")?;
+        let cut = format!(in alloc; "{value:040.1}")?;
+        for other in [alternate, right, filled, cut] {
+            expect_eq(&rt, text, other.as_str(), plain.as_str());
+        }
+    }
+    Ok(())
+}
+
+#[test]
+fn stringifies_what_is_pushed(rt: HostRuntime) -> Tested {
+    let mut array = JsonValue::new_array(rt.alloc());
+    array.push(rt.alloc(), 7)?;
+    array.push(rt.alloc(), JsonValue::Null)?;
+    array.push(rt.alloc(), true)?;
+    array.push(rt.alloc(), Some("some text"))?;
+    let text = stringify(rt.alloc(), array)?;
+    let want = "[7,null,true,\"some text\"]";
+    expect_eq(&rt, want, text.as_str(), want);
+    Ok(())
+}
+
+const ON_ONE_LINE: &str =
+    "{\"title\":\"Dune\",\"by\":{\"first\":\"Frank\",\"last\":\"Herbert\"},\"parts\":[\"one\",2]}";
+
+const ON_LINES: &str =
+    "{\n  \"title\": \"Dune\",\n  \"by\": {\n    \"first\": \"Frank\",\n    \"last\": \"Herbert\"\n  },\n  \"parts\": [\n    \"one\",\n    2\n  ]\n}";
+
+#[test]
+fn stringifies_lists_and_lines(rt: HostRuntime) -> Tested {
+    let list = vec![in rt.alloc(); Some(1i32), None, Some(2)]?;
+    let text = stringify(rt.alloc(), list)?;
+    expect_eq(&rt, "a list", text.as_str(), "[1,null,2]");
+    let text = stringify_pretty(rt.alloc(), parse(rt.alloc(), ON_ONE_LINE)?, 2)?;
+    expect_eq(&rt, "lines", text.as_str(), ON_LINES);
+    Ok(())
+}
+
+/// A text, and its value on lines, with four spaces for each open container.
+const WITH_FOUR_SPACES: &[(&str, &str)] = &[
+    (
+        "[1,true,\"three\"]",
+        "[\n    1,\n    true,\n    \"three\"\n]",
+    ),
+    (
+        "{\"foo\":\"bar\",\"answer\":42}",
+        "{\n    \"foo\": \"bar\",\n    \"answer\": 42\n}",
+    ),
+    ("\"foobar\"", "\"foobar\""),
+    ("42", "42"),
+    ("true", "true"),
+    ("null", "null"),
+];
+
+#[test]
+fn prints_with_four_spaces(rt: HostRuntime) -> Tested {
+    for (source, text) in WITH_FOUR_SPACES {
+        let lines = parse(rt.alloc(), source)?.pretty(rt.alloc(), 4)?;
+        expect_eq(&rt, source, lines.as_str(), *text);
+    }
+    Ok(())
+}
+
+#[test]
+fn writes_null_for_nan(rt: HostRuntime) -> Tested {
+    let alloc = rt.alloc();
+    let value = array![alloc; JsonValue::Number(NAN)];
+    let mut bytes: Vec<u8> = Vec::new(alloc);
+    value.write(&mut bytes)?;
+    expect_eq(&rt, "the bytes", bytes.as_slice(), b"[null]".as_slice());
+    expect_dump(&rt, &value, "[null]")
+}
