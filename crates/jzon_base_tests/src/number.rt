@@ -31,6 +31,8 @@ fn strips_zeros(rt: HostRuntime) -> Result<(), Fail> {
         expect(&rt, "kept", made == kept);
     }
     let number = Number::from_parts(true, 150, -2);
+    let shown = format!(in rt.alloc(); "{number}")?;
+    expect_eq(&rt, "Display", shown.as_str(), "1.5");
     let shown = format!(in rt.alloc(); "{number:?}")?;
     let text = "Number { category: Positive, exponent: -1, mantissa: 15 }";
     expect_eq(&rt, "Debug", shown.as_str(), text);

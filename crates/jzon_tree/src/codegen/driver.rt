@@ -39,6 +39,7 @@ pub fn write_json<G: Generator>(g: &mut G, json: &JsonValue) -> io::Result<()>
     match write_value(g, json, &mut slot) {
         Ok(()) => Ok(()),
         Err(_) => {
+            // Both clauses speak of the whole value, also of the parts that weren't written.
             let _found = inspect(json);
             Err(take_error(slot))
         }
@@ -56,6 +57,7 @@ pub fn write_object<G: Generator>(g: &mut G, object: &Object) -> io::Result<()>
     match write_pairs(g, object, &mut slot) {
         Ok(()) => Ok(()),
         Err(_) => {
+            // As in `write_json`.
             let _found = inspect_object(object);
             Err(take_error(slot))
         }
