@@ -2,6 +2,7 @@
 import argparse
 import math
 import os
+import pathlib
 import resource
 import shutil
 import subprocess
@@ -9,11 +10,12 @@ import sys
 import tempfile
 import threading
 import time
+from statistics import geometric_mean, median_high, median_low
 
 import texts
 
-HERE = os.path.dirname(os.path.realpath(__file__))
-TOP = os.path.dirname(HERE)
+HERE = pathlib.Path(__file__).resolve().parent
+TOP = HERE.parent
 # A run that takes more seconds is ended, and its side left out.
 SECONDS_MAX = 60
 CALLGRIND = ["valgrind", "--tool=callgrind", "--callgrind-out-file=/dev/null"]
@@ -150,15 +152,9 @@ class Table:
         print("| " + " | ".join(map(str.ljust, cells, self.widths)) + " |", flush=True)
 
 
-def mean(ratios):
-    """The geometric mean."""
-    return math.exp(sum(map(math.log, ratios)) / len(ratios))
-
-
 def median(ratios):
     """The one in the middle, or the geometric mean of the two there."""
-    ordered = sorted(ratios)
-    return mean(ordered[(len(ordered) - 1) // 2 : len(ordered) // 2 + 1])
+    return geometric_mean([median_low(ratios), median_high(ratios)])
 
 
 def slower(ratios):
@@ -171,7 +167,7 @@ def summary(ratios):
         return
     print()
     table = Table("All rows", *ratios)
-    for title, of in (("geometric mean", mean), ("median", median), ("least", min)):
+    for title, of in (("geometric mean", geometric_mean), ("median", median), ("least", min)):
         table.row(title, *[f"{of(found):.2f}" for found in ratios.values()])
     table.row("below 1.00", *map(slower, ratios.values()))
 
