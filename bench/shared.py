@@ -118,7 +118,7 @@ def growth(given, room, side, cases):
     table = Table("Keys", "n", f"{'Instructions' if given.instructions else 'Seconds'} for n", "Longer at 2n")
     progress = Progress(len(cases) * given.rounds)
     for title, kind, ending, words, repeats in cases:
-        name, count = texts.KEY_KINDS[kind]
+        name, count, _ = texts.KEY_KINDS[kind]
         count, title = max(2, int(count * given.scale)), title.format(name)
         paths = make_texts(room, 0, [f"{kind}-{number}{ending}" for number in (count, 2 * count)]).values()
         [once], [twice] = measured([Row(path, [side], words, repeats) for path in paths], given, title, progress)
