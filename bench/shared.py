@@ -1,4 +1,5 @@
-"""What the benches share: texts that another process makes, runs of a program with their cost and peak memory, tables, and the builds of our programs and of the Rust crate's."""
+"""What the benches share: options, texts that another process makes, runs of a program with their cost and peak memory, tables, and the builds of our
+programs and of the Rust crate's."""
 import argparse
 import math
 import os
@@ -8,17 +9,24 @@ import shutil
 import subprocess
 import sys
 import tempfile
-import threading
-import time
 from statistics import geometric_mean, median_high, median_low
 
 import texts
 
 HERE = pathlib.Path(__file__).resolve().parent
 TOP = HERE.parent
-# A run that takes more seconds is ended, and its side left out.
+# The texts and the builds are kept here.
+ROOM = pathlib.Path(tempfile.gettempdir(), "jzon-bench")
+# A run that takes more processor time is ended, and its side left out.
 SECONDS_MAX = 60
 CALLGRIND = ["valgrind", "--tool=callgrind", "--callgrind-out-file=/dev/null"]
+MANIFEST = """[package]
+name = "beside"
+version = "0.1.0"
+edition = "2021"
+[dependencies]
+jzon = {{ path = "{}" }}
+"""
 
 
 def parser(doc):
@@ -29,30 +37,22 @@ def parser(doc):
     made.add_argument("--scale", type=float, default=1)
     made.add_argument("--growth", action="store_true")
     made.add_argument("--instructions", action="store_true")
-    made.add_argument("--program", help="our program, where it is built already")
     return made
 
 
-def parsed(made):
-    """The options. Instructions are counted once."""
-    given = made.parse_args()
-    given.rounds = 1 if given.instructions else given.rounds
-    return given
-
-
 class Run:
-    """One run of a program: its processor time in seconds or its instructions, peak memory in kilobytes (None where it is below that of this process), status and errors' text."""
+    """One run of a program: its status, what it printed on standard error, its processor time in seconds or its instructions, and its peak memory in
+    kilobytes, which is None if it is below that of this process."""
 
     def __init__(self, words, source=os.devnull, target=os.devnull, counts=False):
-        with open(source, "rb") as given, open(target, "wb") as taken, tempfile.TemporaryFile() as errors:
-            child = subprocess.Popen([*CALLGRIND * counts, *words], stdin=given, stdout=taken, stderr=errors)
-            timer = threading.Timer(SECONDS_MAX * (20 if counts else 1), child.kill)
-            timer.start()
-            _, status, used = os.wait4(child.pid, 0)
-            timer.cancel()
-            child.returncode = self.status = os.waitstatus_to_exitcode(status)
-            errors.seek(0)
-            lines = errors.read().decode(errors="replace").splitlines()
+        with open(source, "rb") as given, open(target, "wb") as taken:
+            words = [*CALLGRIND * counts, *words]
+            child = subprocess.Popen(words, stdin=given, stdout=taken, stderr=subprocess.PIPE, text=True, errors="replace")
+        resource.prlimit(child.pid, resource.RLIMIT_CPU, (SECONDS_MAX * (20 if counts else 1),) * 2)
+        with child.stderr:
+            lines = child.stderr.read().splitlines()
+        _, status, used = os.wait4(child.pid, 0)
+        child.returncode = self.status = os.waitstatus_to_exitcode(status)
         self.said = "\n".join(line for line in lines if not line.startswith("=="))
         self.cost = used.ru_utime + used.ru_stime
         if counts and self.status == 0:
@@ -62,82 +62,52 @@ class Run:
         self.peak = used.ru_maxrss if used.ru_maxrss > own and not counts else None
 
 
-class Row:
-    """A text on each side: the least cost of the runs, less that of a run without calls, and the peak memory. With `repeats`, they are the command's last word."""
-
-    def __init__(self, path, sides, words, repeats=0):
-        self.path, self.sides, self.words, self.repeats = path, sides, words, repeats
-        self.least, self.peaks, self.said = {}, [None] * len(sides), set()
-
-    def turn(self, number, counts):
-        """One run of each side with the calls, and one without. A side that failed isn't run again."""
-        for at in sorted(range(len(self.sides)), reverse=number % 2 == 0):
-            for repeats in (self.repeats, 0)[: 2 if self.repeats else 1]:
-                if number and (at, repeats) not in self.least:
+def measured(sides, given, repeats=0):
+    """Runs the sides, each a command and the path of its text, in turns. Returns a list of what one call costs on each side, a list of the peaks, and
+    the set of what the sides printed on standard error. With `repeats`, the number of calls is the command's last word, and the cost of a run without
+    calls is subtracted. The least cost of the rounds counts; instructions are counted once. A cost is None if the side failed or has no such call, or
+    if its time is lost in that of a run without calls."""
+    least, peaks, said, costs = {}, [None] * len(sides), set(), []
+    for number in range(1 if given.instructions else given.rounds):
+        for at in sorted(range(len(sides)), reverse=number % 2 == 0):
+            words, path = sides[at]
+            for calls in (repeats, 0) if repeats else (0,):
+                # A side that failed isn't run again.
+                if number and (at, calls) not in least:
                     continue
-                run = Run([*self.sides[at], *self.words, *[str(repeats)] * bool(self.repeats)], self.path, counts=counts)
+                run = Run([*words, *[str(calls)] * bool(repeats)], path, counts=given.instructions)
                 if run.status == 0:
-                    self.least[at, repeats] = min(self.least.get((at, repeats), math.inf), run.cost)
-                if run.status == 0 and repeats == self.repeats:
-                    self.peaks[at] = run.peak
-                    self.said.add(run.said)
-
-    def costs(self, given):
-        """Of one call on each side; None if the side failed or has no such call, or if its time is lost in that of a run without calls."""
-        found = []
-        for at in range(len(self.sides)):
-            full, empty = self.least.get((at, self.repeats)), self.least.get((at, 0), 0) if self.repeats else 0
-            is_clear = full is not None and full - empty > (0 if given.instructions else full / 50)
-            found.append((full - empty) / max(1, self.repeats) if is_clear else None)
-        return found
+                    least[at, calls] = min(run.cost, least.get((at, calls), math.inf))
+                if run.status == 0 and calls == repeats:
+                    peaks[at] = run.peak
+                    said.add(run.said)
+    for at in range(len(sides)):
+        full, empty = least.get((at, repeats)), least.get((at, 0), 0) if repeats else 0
+        is_clear = full is not None and full - empty > (0 if given.instructions else full / 50)
+        costs.append((full - empty) / max(1, repeats) if is_clear else None)
+    return costs, peaks, said
 
 
-def measured(rows, given, name, progress):
-    """The costs of rows that take turns."""
-    for number in range(given.rounds):
-        for row in rows:
-            row.turn(number, given.instructions)
-        progress.step(name)
-    return [row.costs(given) for row in rows]
+def make_text(size, name):
+    """The path of a text. It is made in a process of its own if it isn't there yet, or is older than what makes it."""
+    path = ROOM / str(size) / f"{name}.json"
+    since = max((HERE / source).stat().st_mtime for source in ("texts.py", "small.txt"))
+    if not path.exists() or path.stat().st_mtime < since:
+        path.parent.mkdir(parents=True, exist_ok=True)
+        subprocess.run([sys.executable, HERE / "texts.py", path.parent, str(size), name], check=True)
+    return path
 
 
-def make_texts(room, size, names):
-    """Makes the texts that aren't there yet, or are older than what makes them, in a process of its own. Their paths by name."""
-    folder = os.path.join(room, str(size))
-    os.makedirs(folder, exist_ok=True)
-    paths = {name: os.path.join(folder, name + ".json") for name in names}
-    since = max(os.path.getmtime(os.path.join(HERE, name)) for name in ("texts.py", "small.txt"))
-    lacking = [name for name, path in paths.items() if not os.path.exists(path) or os.path.getmtime(path) < since]
-    if lacking:
-        subprocess.run([sys.executable, os.path.join(HERE, "texts.py"), folder, str(size), *lacking], check=True)
-    return paths
-
-
-def growth(given, room, side, cases):
-    """Cases on objects of n and of 2n hard keys. A case has a title, the kind of its keys, what follows in the names of its texts, the words of the command and the repeats."""
+def growth(given, cases):
+    """Cases on objects of n and of 2n hard keys. A case has a title, the kind of its keys, what follows in the names of its texts, the command and the
+    repeats."""
     table = Table("Keys", "n", f"{'Instructions' if given.instructions else 'Seconds'} for n", "Longer at 2n")
-    progress = Progress(len(cases) * given.rounds)
     for title, kind, ending, words, repeats in cases:
         name, count, _ = texts.KEY_KINDS[kind]
-        count, title = max(2, int(count * given.scale)), title.format(name)
-        paths = make_texts(room, 0, [f"{kind}-{number}{ending}" for number in (count, 2 * count)]).values()
-        [once], [twice] = measured([Row(path, [side], words, repeats) for path in paths], given, title, progress)
-        table.row(title, f"{count:,}", figure(once, given), ratio_text(twice, once))
-
-
-class Progress:
-    """A line on standard error each few seconds: which row of how many, which round, and how long still."""
-
-    def __init__(self, steps):
-        self.steps, self.done, self.began, self.said = steps, 0, time.monotonic(), time.monotonic()
-
-    def step(self, name):
-        self.done += 1
-        now = time.monotonic()
-        if now - self.said >= 5:
-            self.said = now
-            left = (now - self.began) / self.done * (self.steps - self.done)
-            print(f"bench: {name}, {self.done} of {self.steps} runs, about {left / 60:.0f} min left", file=sys.stderr, flush=True)
+        count = max(2, int(count * given.scale))
+        sides = [(words, make_text(0, f"{kind}-{number}{ending}")) for number in (count, 2 * count)]
+        [once, twice], *_ = measured(sides, given, repeats)
+        table.row(title.format(name), f"{count:,}", figure(once, given), ratio_text(twice, once))
 
 
 class Table:
@@ -182,38 +152,32 @@ def figure(cost, given):
     return "-" if cost is None else f"{cost:,.0f}" if given.instructions else f"{cost:,.{4 if cost < 1 else 2}f}"
 
 
-def rattle_build(room, source, *deps):
-    """Proves and builds main.rt.in with this source in a copy of the crates. Without arguments the program ends with the status 1. Its path."""
-    folder = os.path.join(room, source)
-    home = os.path.join(folder, "crates", "calls")
-    shutil.rmtree(folder, ignore_errors=True)
-    shutil.copytree(os.path.join(TOP, "crates"), os.path.join(folder, "crates"), ignore=shutil.ignore_patterns("out", "must-fail*"))
-    os.makedirs(os.path.join(home, "src"))
-    os.mkdir(os.path.join(folder, ".git"))
-    shutil.copy(os.path.join(HERE, "main.rt.in"), os.path.join(home, "src", "main.rt"))
-    shutil.copy(os.path.join(HERE, source), os.path.join(home, "src", "calls.rt"))
-    for name in ("HANDLES", "crates.txt"):
-        shutil.copy(os.path.join(TOP, name), folder)
-    with open(os.path.join(folder, "crates.txt"), "a", encoding="utf-8") as file:
-        file.write(f"calls: {' '.join(deps)}\n")
-    print(f"bench: proving and building {source}, which takes minutes where it or its library isn't proved yet", file=sys.stderr, flush=True)
-    ran = subprocess.run(["rt", "run"], cwd=home, stdin=subprocess.DEVNULL, capture_output=True, text=True)
-    program = os.path.join(home, "out", "calls")
-    if ran.returncode != 1 or not os.access(program, os.X_OK):
-        lines = [line for line in (ran.stdout + ran.stderr).splitlines() if "error" in line or line.startswith("rt:")]
-        sys.exit(f"bench: {source} doesn't build:\n" + "\n".join(lines[-20:]))
+def build(words, folder, program, status):
+    """The path of the program that a command builds in a folder. The command ends with this status."""
+    ran = subprocess.run(words, cwd=folder, stdin=subprocess.DEVNULL, stdout=subprocess.PIPE, stderr=subprocess.STDOUT, text=True)
+    if ran.returncode != status or not os.access(program, os.X_OK):
+        sys.exit(f"bench: '{' '.join(words)}' in {folder} doesn't build the program:\n{ran.stdout[-4000:]}")
     return program
 
 
-def cargo_build(room, checkout, source):
-    """Builds a program of Rust over a checkout of the crate `jzon`. Its path."""
-    folder = os.path.join(room, "rust")
-    os.makedirs(os.path.join(folder, "src"), exist_ok=True)
-    shutil.copy(os.path.join(HERE, source), os.path.join(folder, "src", "main.rs"))
-    lines = ["[package]", 'name = "beside"', 'version = "0.1.0"', 'edition = "2021"', "[dependencies]", f'jzon = {{ path = "{os.path.realpath(checkout)}" }}']
-    with open(os.path.join(folder, "Cargo.toml"), "w", encoding="utf-8") as file:
-        file.write("\n".join(lines) + "\n")
-    ran = subprocess.run(["cargo", "build", "--release"], cwd=folder, capture_output=True, text=True)
-    if ran.returncode:
-        sys.exit("bench: cargo can't build the Rust side:\n" + ran.stderr[-2000:])
-    return os.path.join(folder, "target", "release", "beside")
+def rattle_build(source, *deps):
+    """Proves and builds main.rt.in with this source in a copy of the crates. Without arguments the program ends with the status 1."""
+    folder, crate = ROOM / source, ROOM / source / "crates/calls"
+    shutil.rmtree(folder, ignore_errors=True)
+    shutil.copytree(TOP / "crates", folder / "crates", ignore=shutil.ignore_patterns("out", "must-fail*"))
+    (crate / "src").mkdir(parents=True)
+    (folder / ".git").mkdir()
+    for file, copy in ((HERE / "main.rt.in", crate / "src/main.rt"), (HERE / source, crate / "src/calls.rt"), (TOP / "HANDLES", folder)):
+        shutil.copy(file, copy)
+    (folder / "crates.txt").write_text((TOP / "crates.txt").read_text("utf-8") + f"calls: {' '.join(deps)}\n", "utf-8")
+    print(f"bench: proving and building {source}, which takes minutes where it or its library isn't proved yet", file=sys.stderr, flush=True)
+    return build(["rt", "run"], crate, crate / "out/calls", 1)
+
+
+def cargo_build(checkout, source):
+    """Builds a program of Rust over a checkout of the crate `jzon`."""
+    folder = ROOM / source
+    (folder / "src").mkdir(parents=True, exist_ok=True)
+    shutil.copy(HERE / source, folder / "src/main.rs")
+    (folder / "Cargo.toml").write_text(MANIFEST.format(os.path.realpath(checkout)), "utf-8")
+    return build(["cargo", "build", "--release"], folder, folder / "target/release/beside", 0)
