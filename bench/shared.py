@@ -1,7 +1,6 @@
 """What the benches share: options, texts that another process makes, runs of a program with their cost and peak memory, tables, and the builds of our
 programs and of the Rust crate's."""
 import argparse
-import math
 import os
 import pathlib
 import resource
@@ -20,24 +19,18 @@ ROOM = pathlib.Path(tempfile.gettempdir(), "jzon-bench")
 # A run that takes more processor time is ended, and its side left out.
 SECONDS_MAX = 60
 CALLGRIND = ["valgrind", "--tool=callgrind", "--callgrind-out-file=/dev/null"]
-MANIFEST = """[package]
-name = "beside"
-version = "0.1.0"
-edition = "2021"
-[dependencies]
-jzon = {{ path = "{}" }}
-"""
 
 
-def parser(doc):
-    """The options that bench/program and bench/library have."""
-    made = argparse.ArgumentParser(description=doc, formatter_class=argparse.RawDescriptionHelpFormatter)
-    made.add_argument("--rust", metavar="CHECKOUT", help="a checkout of the Rust crate, built by cargo")
-    made.add_argument("--rounds", type=int, default=7)
-    made.add_argument("--scale", type=float, default=1)
-    made.add_argument("--growth", action="store_true")
-    made.add_argument("--instructions", action="store_true")
-    return made
+def options(doc, words, *flags, **numbers):
+    """The options of bench/program and bench/library: these words, the flags, and the numbers with their defaults."""
+    parser = argparse.ArgumentParser(description=doc, formatter_class=argparse.RawDescriptionHelpFormatter)
+    parser.add_argument("words", nargs="*", metavar="WORD", choices=[[], *words], help=" ".join(words))
+    parser.add_argument("--rust", metavar="CHECKOUT", help="a checkout of the Rust crate, built by cargo")
+    for flag in ("growth", "instructions", *flags):
+        parser.add_argument(f"--{flag}", action="store_true")
+    for name, default in {"rounds": 7, "scale": 1.0, **numbers}.items():
+        parser.add_argument(f"--{name}", type=type(default), default=default, metavar="N")
+    return parser.parse_args()
 
 
 class Run:
@@ -77,7 +70,7 @@ def measured(sides, given, repeats=0):
                     continue
                 run = Run([*words, *[str(calls)] * bool(repeats)], path, counts=given.instructions)
                 if run.status == 0:
-                    least[at, calls] = min(run.cost, least.get((at, calls), math.inf))
+                    least[at, calls] = min(run.cost, least.get((at, calls), run.cost))
                 if run.status == 0 and calls == repeats:
                     peaks[at] = run.peak
                     said.add(run.said)
@@ -98,16 +91,16 @@ def make_text(size, name):
     return path
 
 
-def growth(given, cases):
-    """Cases on objects of n and of 2n hard keys. A case has a title, the kind of its keys, what follows in the names of its texts, the command and the
-    repeats."""
+def growth(given, calls, repeats=0):
+    """Calls on objects of n and of 2n hard keys: the title, the command, what follows in the texts' names, and whether keys may be repeated."""
     table = Table("Keys", "n", f"{'Instructions' if given.instructions else 'Seconds'} for n", "Longer at 2n")
-    for title, kind, ending, words, repeats in cases:
-        name, count, _ = texts.KEY_KINDS[kind]
+    for kind, (name, count, _) in texts.KEY_KINDS.items():
         count = max(2, int(count * given.scale))
-        sides = [(words, make_text(0, f"{kind}-{number}{ending}")) for number in (count, 2 * count)]
-        [once, twice], *_ = measured(sides, given, repeats)
-        table.row(title.format(name), f"{count:,}", figure(once, given), ratio_text(twice, once))
+        for title, command, ending, allows_repeated in calls:
+            if kind != "repeated-keys" or allows_repeated:
+                sides = [(command, make_text(0, f"{kind}-{number}{ending}")) for number in (count, 2 * count)]
+                [once, twice], *_ = measured(sides, given, repeats)
+                table.row(title.format(name), f"{count:,}", figure(once, given), ratio_text(twice, once))
 
 
 class Table:
@@ -133,13 +126,12 @@ def slower(ratios):
 
 def summary(ratios):
     """Lists of ratios side by side, by name."""
-    if not ratios:
-        return
-    print()
-    table = Table("All rows", *ratios)
-    for title, of in (("geometric mean", geometric_mean), ("median", median), ("least", min)):
-        table.row(title, *[f"{of(found):.2f}" for found in ratios.values()])
-    table.row("below 1.00", *map(slower, ratios.values()))
+    if ratios:
+        print()
+        table = Table("All rows", *ratios)
+        for title, of in (("geometric mean", geometric_mean), ("median", median), ("least", min)):
+            table.row(title, *[f"{of(found):.2f}" for found in ratios.values()])
+        table.row("below 1.00", *map(slower, ratios.values()))
 
 
 def ratio_text(above, below):
@@ -179,5 +171,6 @@ def cargo_build(checkout, source):
     folder = ROOM / source
     (folder / "src").mkdir(parents=True, exist_ok=True)
     shutil.copy(HERE / source, folder / "src/main.rs")
-    (folder / "Cargo.toml").write_text(MANIFEST.format(os.path.realpath(checkout)), "utf-8")
+    package = '[package]\nname = "beside"\nversion = "0.1.0"\nedition = "2021"\n'
+    (folder / "Cargo.toml").write_text(f'{package}[dependencies]\njzon = {{ path = "{os.path.realpath(checkout)}" }}\n', "utf-8")
     return build(["cargo", "build", "--release"], folder, folder / "target/release/beside", 0)

@@ -119,8 +119,8 @@ def hash_of(key):
     return value
 
 
-def numbered(count):
-    return [f"k{index}" for index in range(count)]
+def numbered(count, before="k"):
+    return [f"{before}{index}" for index in range(count)]
 
 
 def shuffled(keys):
@@ -136,10 +136,6 @@ def of_one_hash(count):
     return shuffled(keys)
 
 
-def plain(count):
-    return RECORD_KEYS[:count] if count <= len(RECORD_KEYS) else [f"key{index}" for index in range(count)]
-
-
 # For each kind of hard keys: what docs/MEASURED.md calls them, how many an object has at first, and what makes them.
 KEY_KINDS = {
     "rising": ("in ascending order of hash", 10_000, lambda count: sorted(numbered(count), key=hash_of)),
@@ -147,8 +143,10 @@ KEY_KINDS = {
     "one-hash": ("of one hash", 20_000, of_one_hash),
     "random": ("in random order", 200_000, lambda count: shuffled(numbered(count))),
     "repeated-keys": ("repeated", 400_000, lambda count: [f"k{index % 50}" for index in range(count)]),
-    "long": ("long", 10_000, lambda count: ["x" * 200 + str(index) for index in range(count)]),
+    "long": ("long", 10_000, lambda count: numbered(count, "x" * 200)),
 }
+KEYS = {kind: make for kind, (_, _, make) in KEY_KINDS.items()}
+KEYS["plain"] = lambda count: RECORD_KEYS[:count] if count <= len(RECORD_KEYS) else numbered(count, "key")
 
 
 def text(name, size):
@@ -156,8 +154,8 @@ def text(name, size):
     if name in SMALL:
         return SMALL[name]
     kind, _, count = name.removesuffix("-list").rpartition("-")
-    if kind == "plain" or kind in KEY_KINDS:
-        keys = map(json.dumps, (plain if kind == "plain" else KEY_KINDS[kind][2])(int(count)))
+    if kind in KEYS:
+        keys = map(json.dumps, KEYS[kind](int(count)))
         return "[" + ",".join(keys) + "]" if name.endswith("-list") else "{" + ",".join(f"{key}:1" for key in keys) + "}"
     rng, parts, left = random.Random(name), [], size
     while left > 0 or not parts:
