@@ -3,9 +3,8 @@ use Rattle.std.proofs.Common.{◌≡◌, ℕ, suc, ◌+◌, ◌-◌, ◌≤◌, 
 use Rattle.std.proofs.Common.{arith, ap, sym, ◌∙◌, length-drop, length-append, replicate}
 use Rattle.std.specs.List.{copy_within}
 use Rattle.std.proofs.lemmas.List.{append-nil, drop-drop, drop_all, length-take-le, append_assoc, take-replicate}
-use Rattle.std.proofs.lemmas.List.{take-set-le, take-append-drop, length-replicate, take_all, length-set}
+use Rattle.std.proofs.lemmas.List.{take-set-le, take-append-drop, length-replicate, take_all}
 use Rattle.std.proofs.lemmas.List.{take-append-le}
-use Rattle.std.proofs.lemmas.List.Edits.{length-paste}
 use Rattle.std.proofs.Math.Seq.{append_snoc, drop-append_seam, drop-cons, set-append_seam, take-append-add, take-append_seam}
 use Rattle.jzon_base.specs.NumberText.{point_after}
 
@@ -51,12 +50,6 @@ moved_before xs start point some order within =
     take-set-le (start - 1) (copy_within xs start point (start - 1)) (point - 1) 46 (omega arith)
     ∙ ap (take (start - 1)) (append_assoc prefix middle rest)
     ∙ ap (λ k. take k (prefix ++ (middle ++ rest))) (sym front) ∙ take-append_seam prefix (middle ++ rest)
-
-pub moved_length : (xs : List ℕ) (start point : ℕ) → 0 < start → start < point → point ≤ length xs
-    → length (set (copy_within xs start point (start - 1)) (point - 1) 46) ≡ length xs
-moved_length xs start point some order within =
-    length-set (copy_within xs start point (start - 1)) (point - 1) 46
-    ∙ length-paste xs (start - 1) (drop start xs) (point - start) (omega arith) (omega (arith, length-drop start xs))
 
 -- digits after a sign and one byte more, which becomes a digit when the point is put
 pub point_put : (old items put ds : List ℕ) (x sign start point places : ℕ)

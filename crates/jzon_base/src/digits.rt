@@ -1,8 +1,8 @@
 //! The digits of a number in a text, and the number that they mean (RFC 8259, section 6;
 //! docs/RULES.md, "What digits mean" and "Digit limits").
 
-ghost use Rattle.std.specs.Prelude.{◌≡◌, ℕ, pos, ◌+◌, ◌%◌, ◌<◌, ◌≤◌, ◌^◌, ◌-ℤ◌, ◌+ℤ◌, ◌++◌, length, take, min, IfErr};
-ghost use Rattle.std.specs.Prelude.{OkIff};
+ghost use Rattle.std.specs.Prelude.{◌≡◌, ℕ, pos, ◌+◌, ◌%◌, ◌<◌, ◌≤◌, ◌^◌, ◌-ℤ◌, ◌+ℤ◌, ◌++◌, length, take, min};
+ghost use Rattle.std.specs.Prelude.{IfErr, OkIff};
 ghost use Rattle.std.specs.Char.{is_ascii_digit};
 ghost use Rattle.std.specs.List.{fold, prefix_len, All};
 ghost use Rattle.jzon_base.specs.Decimal.{signed};
@@ -114,7 +114,7 @@ fn scan_by_bytes(bytes: &[u8], before: u64) -> (usize, u64)
     (bytes.len(), number)
 }
 
-/// The longest prefix of the digits before and after the point that spells a number below 2^64.
+/// A prefix of the digits before and after the point.
 #[derive(Clone, Copy)]
 struct Prefix {
     number: u64,
@@ -122,6 +122,8 @@ struct Prefix {
     kept_fraction: usize,
 }
 
+/// The longest prefix that spells a number below 2^64. `number` is the one that all digits spell,
+/// modulo 2^64.
 fn kept_prefix(whole: &[u8], fraction: &[u8], number: u64) -> Prefix
     requires whole { All IsDigit whole.now }
     requires fraction { All IsDigit fraction.now }
@@ -137,17 +139,6 @@ fn kept_prefix(whole: &[u8], fraction: &[u8], number: u64) -> Prefix
             kept_fraction: fraction.len(),
         };
     }
-    searched_prefix(whole, fraction)
-}
-
-/// The same prefix, computed digit by digit.
-fn searched_prefix(whole: &[u8], fraction: &[u8]) -> Prefix
-    requires whole { All IsDigit whole.now }
-    requires fraction { All IsDigit fraction.now }
-    ensures number { result.number ≡ digits_number (kept (whole.now ++ fraction.now)) }
-    ensures dropped { result.dropped ≡ dropped whole.now fraction.now }
-    ensures kept { result.kept_fraction ≡ kept_fraction whole.now fraction.now }
-{
     let (number, count) = longest_prefix(0, whole);
     if count < whole.len() {
         return Prefix {
@@ -198,11 +189,12 @@ fn clamped_exponent(dropped: usize, kept_fraction: usize, positive: bool, writte
 {
     let written = capped_number(written) as i32;
     let power = dropped as i32 - kept_fraction as i32;
-    if positive {
-        clamped(power + written)
+    let sum = if positive {
+        power + written
     } else {
-        clamped(power - written)
-    }
+        power - written
+    };
+    sum.clamp(i32::from(i16::MIN), i32::from(i16::MAX)) as i16
 }
 
 /// The number that the digits spell, at most `MAX_WRITTEN`.
@@ -215,12 +207,6 @@ fn capped_number(digits: &[u8]) -> u32
         number = (number * 10 + u32::from(*digit - b'0')).min(MAX_WRITTEN);
     }
     number
-}
-
-fn clamped(sum: i32) -> i16
-    ensures { result ≡ clamp sum }
-{
-    sum.clamp(i32::from(i16::MIN), i32::from(i16::MAX)) as i16
 }
 
 /// A law on the definitions alone: the kept digits are the longest prefix that spells a number

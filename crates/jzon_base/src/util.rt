@@ -4,8 +4,7 @@ ghost use Rattle.std.specs.Prelude.{OnOk, OnErr};
 ghost use Rattle.std.specs.Io.KnownBytes.{Appends};
 ghost use Rattle.jzon_base.specs.Written.{AppendsBeginning};
 
-use std::io;
-use std::io::Write;
+use std::io::{self, Write};
 
 pub mod escapes;
 pub mod plain;

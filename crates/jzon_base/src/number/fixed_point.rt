@@ -88,10 +88,17 @@ fn is_whole(mantissa: u64, exponent: i16, point: u16) -> bool
     ensures { result ≡ is_whole mantissa (exponent +ℤ pos point) }
 {
     let power = i32::from(exponent) + i32::from(point);
-    power >= 0 || is_multiple(mantissa, power.unsigned_abs())
+    if power >= 0 {
+        return true;
+    }
+    match 10u64.checked_pow(power.unsigned_abs()) {
+        Some(divisor) => mantissa % divisor == 0,
+        None => mantissa == 0,
+    }
 }
 
 /// `mantissa * 10 ^ (exponent + point)`, truncated to an integer, if it fits.
+#[tactic(auto, using(crate::proofs::Scaled::over_rules))]
 fn whole_part(mantissa: u64, exponent: i16, point: u16) -> Option<u64>
     ensures { let n = whole_part mantissa (exponent +ℤ pos point) in SomeIff result (n < 2 ^ 64) n }
 {
@@ -99,30 +106,11 @@ fn whole_part(mantissa: u64, exponent: i16, point: u16) -> Option<u64>
         return Some(0);
     }
     let power = i32::from(exponent) + i32::from(point);
-    if power < 0 {
-        Some(over_power(mantissa, power.unsigned_abs()))
-    } else {
-        times_power(mantissa, power as u32)
+    if power >= 0 {
+        return times_power(mantissa, power as u32);
     }
-}
-
-/// Whether `10 ^ power` divides the mantissa.
-fn is_multiple(mantissa: u64, power: u32) -> bool
-    ensures { result ≡ (mantissa % 10 ^ power == 0) }
-{
-    match 10u64.checked_pow(power) {
-        Some(divisor) => mantissa % divisor == 0,
-        None => mantissa == 0,
-    }
-}
-
-/// `mantissa / 10 ^ power`, which is 0 if `10 ^ power` doesn't fit.
-#[tactic(auto, using(crate::proofs::Scaled::over_rules))]
-fn over_power(mantissa: u64, power: u32) -> u64
-    ensures { result ≡ mantissa / 10 ^ power }
-{
-    match 10u64.checked_pow(power) {
-        Some(divisor) => mantissa / divisor,
-        None => 0,
+    match 10u64.checked_pow(power.unsigned_abs()) {
+        Some(divisor) => Some(mantissa / divisor),
+        None => Some(0),
     }
 }

@@ -1,6 +1,6 @@
 //! The text of a number (docs/RULES.md, "Printed numbers"; RFC 8259, section 6).
 
-ghost use Rattle.std.specs.Prelude.{◌≡◌, negsuc, ◌+◌, ◌-◌, ◌≤◌, ◌<◌, ◌++◌, length, take, drop, replicate, decimal};
+ghost use Rattle.std.specs.Prelude.{◌≡◌, ◌+◌, ◌-◌, ◌≤◌, ◌<◌, ◌++◌, length, drop, replicate, decimal};
 ghost use Rattle.std.specs.Prelude.{IsAscii, IsTrue, false, OnOk, OnErr, vec_len, vec_capacity};
 ghost use Rattle.std.specs.Io.KnownBytes.{Appends};
 ghost use Rattle.arrayvec.specs.ArrayString.{array_string_len};
@@ -11,8 +11,7 @@ ghost use Rattle.jzon_base.specs.Written.{AppendsBeginning};
 use crate::util::write_bytes;
 use arrayvec::ArrayString;
 use itoa::{Buffer, write_digits};
-use std::io;
-use std::io::Write;
+use std::io::{self, Write};
 
 /// The most bytes in the text of a number.
 pub const MAX_LEN: usize = 29;
@@ -70,10 +69,12 @@ fn push_decimal(bytes: &mut Vec<u8>, positive: bool, n: u64, places: usize) -> b
     if n.ilog10() as usize + 1 <= places {
         return false;
     }
-    let start = bytes.len() + usize::from(!positive);
+    let start = bytes.len() + usize::from(!positive) + 1;
     push_after_minuses(bytes, usize::from(!positive) + 1, n);
     let point = bytes.len() - places;
-    put_point(bytes.as_mut_slice(), start + 1, point);
+    // The digits before the point are moved over the last minus.
+    bytes.copy_within(start..point, start - 1);
+    bytes[point - 1] = b'.';
     true
 }
 
@@ -107,19 +108,6 @@ pub fn put(room: &mut [u8; MAX_LEN], positive: bool, n: u64, exponent: i16) -> u
     start
 }
 
-/// Moves the bytes from `start` up to `point` one byte to the left, and puts a point after them.
-fn put_point(room: &mut [u8], start: usize, point: usize)
-    requires some { 0 < start }
-    requires order { start < point }
-    requires within { point ≤ length room.old }
-    ensures before { take (start - 1) room.new ≡ take (start - 1) room.old }
-    ensures point { drop (start - 1) room.new ≡ point_after (point - start) (drop start room.old) }
-    ensures len { length room.new ≡ length room.old }
-{
-    room.copy_within(start..point, start - 1);
-    room[point - 1] = b'.';
-}
-
 /// The whole text of a number.
 #[tactic(auto, using(std::proofs::lemmas::Fmt::decimal_nonempty))]
 pub(crate) fn number_text(positive: bool, mantissa: u64, exponent: i16) -> NumberText
@@ -146,37 +134,21 @@ fn push_magnitude(text: &mut NumberText, digits: &str, exponent: i16)
     ensures { text.new.bytes ≡ text.old.bytes ++ magnitude_text digits.now exponent }
 {
     let size = exponent.unsigned_abs() as usize;
-    if exponent < 0 {
-        push_negative_power(text, digits, size);
-    } else if exponent == 0 {
+    if exponent == 0 {
         text.push_str(digits);
-    } else if digits.len() + size <= 20 {
+    } else if exponent > 0 && digits.len() + size <= 20 {
         text.push_str(digits);
         push_zeros(text, size);
-    } else {
+    } else if exponent > 0 {
         push_point_after_first(text, digits);
         text.push('e');
         let mut buffer = Buffer::new();
         text.push_str(buffer.format((size + digits.len() - 1) as u16));
-    }
-}
-
-/// The digits divided by `10 ^ places`: with an exponent if `places` is above 17 and the exponent
-/// isn't 0.
-fn push_negative_power(text: &mut NumberText, digits: &str, places: usize)
-    requires ascii { IsAscii digits.now }
-    requires some { 0 < length digits.now }
-    requires digits { length digits.now ≤ 20 }
-    requires start { array_string_len text.old ≤ 1 }
-    requires negative { 0 < places }
-    requires places { places ≤ 32768 }
-    ensures { text.new.bytes ≡ text.old.bytes ++ magnitude_text digits.now (negsuc (places - 1)) }
-{
-    if places <= 17 {
-        push_fraction(text, digits, places);
+    } else if size <= 17 {
+        push_fraction(text, digits, size);
     } else {
         push_point_after_first(text, digits);
-        push_small_exponent(text, digits.len(), places);
+        push_small_exponent(text, digits.len(), size);
     }
 }
 
@@ -198,8 +170,8 @@ fn push_fraction(text: &mut NumberText, digits: &str, places: usize)
     }
 }
 
-/// The exponent of `count` digits divided by `10 ^ places`, of which one is before the point;
-/// nothing where it is 0.
+/// The exponent of `count` digits divided by `10 ^ places`, of which one is before the point:
+/// nothing if it is 0.
 fn push_small_exponent(text: &mut NumberText, count: usize, places: usize)
     requires count { count ≤ 20 }
     requires small { 18 ≤ places }

@@ -1,9 +1,10 @@
 use Rattle.std.proofs.Common.{arith}
 use Rattle.std.proofs.lemmas.Int.{ints, clamps}
 use Rattle.jzon_base.proofs.digits.clamped_exponent.Goals as goal
+use Rattle.jzon_base.proofs.digits.clamped_exponent.Goals.{then-positive, else-positive}
 
-pub returns-then-positive : goal.returns-then-positive
-returns-then-positive c = rw c.if-positive.true (omega (arith, ints, clamps, c.clamped.ensures))
-
-pub returns-else-positive : goal.returns-else-positive
-returns-else-positive c = rw c.if-positive.false (omega (arith, ints, clamps, c.clamped-else-positive.ensures))
+pub returns : goal.returns
+returns c = elim c.if-positive.branch [
+  | then-positive w ↦ rw w.if-positive.true (omega (arith, ints, clamps, w.sum-is, c.clamp.ensures))
+  | else-positive w ↦ rw w.if-positive.false (omega (arith, ints, clamps, w.sum-is, c.clamp.ensures))
+]

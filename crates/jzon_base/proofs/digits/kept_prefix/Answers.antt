@@ -1,10 +1,10 @@
-use Rattle.std.proofs.Common.{◌≡◌, ◌≤◌, ◌∙◌, ◌++◌, length, length-append, arith}
+use Rattle.std.proofs.Common.{◌≡◌, ◌≤◌, ◌+◌, ◌∙◌, ◌++◌, take, length, length-append, arith, ap, sym}
 use Rattle.std.proofs.Math.Nat.{mod-eq_of_lt}
-use Rattle.std.proofs.lemmas.List.{take_all}
+use Rattle.std.proofs.lemmas.List.{take-append-le, take_all}
 use Rattle.std.specs.List.{All}
 use Rattle.std.proofs.lemmas.List.Elements.{All-append}
-use Rattle.jzon_base.specs.Digits.{IsDigit, kept_len}
-use Rattle.jzon_base.proofs.Kept.{few_fit, few_kept}
+use Rattle.jzon_base.specs.Digits.{digits_number, IsDigit, kept_len}
+use Rattle.jzon_base.proofs.Kept.{few_fit, few_kept, kept_len-within_whole, kept_len-past_whole, digits_number-take-append}
 use Rattle.jzon_base.proofs.digits.kept_prefix.Goals as goal
 
 pub returns-then-whole-fraction-le-ALWAYS_KEPT : goal.returns-then-whole-fraction-le-ALWAYS_KEPT
@@ -20,4 +20,35 @@ returns-then-whole-fraction-le-ALWAYS_KEPT c =
           (c.requires.number ∙ mod-eq_of_lt (few_fit (whole ++ fraction) all few));
       dropped = omega (arith, e, length-append whole fraction);
       kept = omega (arith, e, length-append whole fraction);
+    }
+
+pub returns-then-count-whole : goal.returns-then-count-whole
+returns-then-count-whole c =
+    let prefix = c.longest_prefix-number.ensures in
+    let few = c.if-count-whole.true in
+    let e : kept_len (c.args.whole.now ++ c.args.fraction.now) ≡ c.longest_prefix-number.result.1 =
+    kept_len-within_whole _ _ _ few (omega (arith, prefix.number, prefix.fits)) (prefix.longest few) in
+    record {
+      number = rw e (prefix.number ∙ ap digits_number (sym (take-append-le _ c.args.whole.now c.args.fraction.now
+          (omega (arith, few)))));
+      dropped = omega (arith, e);
+      kept = omega (arith, e);
+    }
+
+pub returns : goal.returns
+returns c =
+    let first = c.longest_prefix-number.ensures in
+    let second = c.longest_prefix-number-2.ensures in
+    let all : take c.longest_prefix-number.result.1 c.args.whole.now
+    ≡ c.args.whole.now = take_all _ _ (c.if-count-whole.false) in
+    let value : c.longest_prefix-number.result.0 ≡ digits_number c.args.whole.now = first.number
+    ∙ ap digits_number all in
+    let e : kept_len (c.args.whole.now ++ c.args.fraction.now)
+    ≡ length c.args.whole.now + c.longest_prefix-number-2.result.1 =
+    kept_len-past_whole _ _ _ second.within (omega (arith, rw value at second.number, second.fits))
+    (λ few. rw value at (second.longest few)) in
+    record {
+      number = rw (e, digits_number-take-append) (rw value at second.number);
+      dropped = omega (arith, e);
+      kept = omega (arith, e);
     }

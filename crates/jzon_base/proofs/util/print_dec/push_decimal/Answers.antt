@@ -1,11 +1,11 @@
 use Rattle.std.proofs.Common.{◌≡◌, ◌+◌, ◌-◌, ◌≤◌, ◌<◌, ◌++◌, ◌∙◌, ℕ, List, Bool, true, false, not, length, replicate}
-use Rattle.std.proofs.Common.{refl, ap, sym, arith, length-append}
+use Rattle.std.proofs.Common.{refl, ap, sym, arith, length-append, set}
 use Rattle.std.proofs.lemmas.List.{length-replicate}
 use Rattle.std.specs.Fmt.{decimal}
 use Rattle.std.specs.Int.{from_bool}
 use Rattle.jzon_base.specs.NumberText.{sign_text, point_after}
 use Rattle.jzon_base.proofs.Kept.{if-lt}
-use Rattle.jzon_base.proofs.Laid.{put_back, point_put}
+use Rattle.jzon_base.proofs.Laid.{moved, moved_before, point_put}
 use Rattle.jzon_base.proofs.Powers.{length-decimal}
 use Rattle.jzon_base.proofs.util.print_dec.push_decimal.Goals as goal
 
@@ -29,31 +29,28 @@ overflow_sub-point c =
     c.push_after_minuses.ensures in
     omega (arith, count, all, c.len-2.ensures, c.if-ilog10-places.false)
 
-pub put_point-requires-clause-order : goal.put_point-requires-clause-order
-put_point-requires-clause-order c =
+pub overflow_sub-point-2 : goal.overflow_sub-point-2
+overflow_sub-point-2 c =
     let count = length-decimal c.ilog10.result c.args.n c.ranges.n.fits c.ilog10.ensures.power_le
     c.ilog10.ensures.next_power_gt in
     let all = length-added c.args.bytes.now.items c.push_after_minuses.new.bytes.items (decimal c.args.n) _
     c.push_after_minuses.ensures in
-    omega (
-      arith,
-      count,
-      all,
-      c.len.ensures,
-      c.len-2.ensures,
-      c.from.ensures,
-      c.from-2.ensures,
-      c.if-ilog10-places.false,
-    )
+    omega (arith, count, all, c.len-2.ensures, c.if-ilog10-places.false)
+
+pub copy_within-requires-clause-start_le_end : goal.copy_within-requires-clause-start_le_end
+copy_within-requires-clause-start_le_end c =
+    let count = length-decimal c.ilog10.result c.args.n c.ranges.n.fits c.ilog10.ensures.power_le
+    c.ilog10.ensures.next_power_gt in
+    let all = length-added c.args.bytes.now.items c.push_after_minuses.new.bytes.items (decimal c.args.n) _
+    c.push_after_minuses.ensures in
+    omega (arith, count, all, c.len.ensures, c.len-2.ensures, c.from.ensures, c.from-2.ensures, c.if-ilog10-places.false)
 
 pub returns-clause-done : goal.returns-clause-done
 returns-clause-done c = λ _.
     let old : List ℕ = c.args.bytes.now.items in
     let items : List ℕ = c.push_after_minuses.new.bytes.items in
-    let put : List ℕ = c.put_point.new.room in
     let ds : List ℕ = decimal c.args.n in
     let places : ℕ = c.args.places in
-    let value = c.as_mut_slice.ensures.value in
     let sign = minuses c.args.positive c.from.result c.from.ensures in
     let count : length ds ≡ c.ilog10.result + 1 =
     length-decimal c.ilog10.result c.args.n c.ranges.n.fits c.ilog10.ensures.power_le c.ilog10.ensures.next_power_gt in
@@ -61,9 +58,13 @@ returns-clause-done c = λ _.
     let filled : items ≡ old ++ (replicate (c.from.result + 1) 45 ++ ds) =
     rw (c.from-2.ensures ∙ sym c.from.ensures) at c.push_after_minuses.ensures in
     let few : places < length ds = omega (arith, count, c.if-ilog10-places.false) in
-    put_back put items c.push_after_minuses.new.bytes.len (c.put_point.ensures.len ∙ ap length value) (omega arith)
-    ∙ point_put old items put ds 45 c.from.result (c.len.result + c.from.result + 1) (c.len-2.result - places) places
-    filled (omega (arith, c.len.ensures)) (omega (arith, count, all, few, c.len-2.ensures)) few
-    (rw value at c.put_point.ensures.before) (rw value at c.put_point.ensures.point)
+    let start : ℕ = c.len.result + c.from.result + 1 in
+    let point : ℕ = c.len-2.result - places in
+    let within : point ≤ length items = omega (arith, c.len-2.ensures) in
+    let order : start < point = omega (arith, count, all, c.len.ensures, c.len-2.ensures, c.from.ensures, c.from-2.ensures, few) in
+    ap (λ (l : List ℕ). set l (point - 1) 46) c.copy_within.ensures.items
+    ∙ point_put old items _ ds 45 c.from.result start point places filled (omega (arith, c.len.ensures))
+    (omega (arith, count, all, few, c.len-2.ensures)) few
+    (moved_before items start point (omega arith) order within) (moved items start point (omega arith) order within)
     ∙ ap (λ (l : List ℕ). old ++ (l ++ point_after (length ds - places) ds)) sign.1
     ∙ ap (λ (l : List ℕ). old ++ (sign_text c.args.positive ++ l)) (sym (if-lt places (length ds) _ _ few))
