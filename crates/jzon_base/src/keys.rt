@@ -7,13 +7,13 @@
 //! depend on which hashes the keys have.
 //!
 //! `merge` finds repeated keys by one sort of such entries.
-ghost use Rattle.std.specs.Prelude.{◌≡◌, ◌<◌, ◌≤◌, ◌++◌, ◌∷◌, ◌==◌, [], length, remove, slice_get, map};
+ghost use Rattle.std.specs.Prelude.{◌≡◌, ◌<◌, ◌++◌, ◌∷◌, ◌==◌, [], length, remove, slice_get, List, ℕ};
 ghost use Rattle.std.specs.Prelude.{IfOk, IfErr, OnOk, OnErr, MatchOption, None, Some, vec_len, vec_capacity};
 ghost use Rattle.std.specs.List.{position, zip, IsDistinct};
 ghost use Rattle.std.specs.Result.{result_ok};
 ghost use Rattle.std.specs.Str.{bytes_eq};
 ghost use Rattle.jzon_base.specs.PairList.{put_each};
-ghost use Rattle.jzon_base.specs.Private.Handed.{entries_of, IsIndexed, IsSpotFor, IsTable};
+ghost use Rattle.jzon_base.specs.Private.Handed.{IsIndexed, IsSpotFor, IsTable};
 
 pub mod hash;
 pub(crate) mod index;
@@ -31,7 +31,6 @@ pub use known::KnownKeys;
 use runs::Runs;
 use std::alloc::{AllocError, Global};
 use std::marker::Model;
-use std::mem;
 
 /// Distinct keys in the order in which they were put, and the index in which the position of each
 /// is found. A clause sees the list of their bytes.
@@ -45,9 +44,6 @@ pub struct Keys {
 }
 
 impl Model for Keys {
-    ghost use Rattle.std.specs.Prelude.{List, ℕ};
-    ghost use Rattle.jzon_base.specs.Private.Handed.{IsTable};
-
     ghost Value = { List (List ℕ) };
 
     ghost view = { λ k. k.keys.items };
@@ -191,19 +187,6 @@ pub fn merge<V: Drop>(
     }
 }
 
-/// A copy of each key. The error is a failed allocation.
-fn copy_each(alloc: Global, keys: &[Key]) -> Result<Vec<Key>, AllocError>
-    ensures { IfOk result (λ v. v.items ≡ keys.now) }
-{
-    let mut copies = Vec::with_capacity(alloc, keys.len())?;
-    for key in keys {
-        if !key.push_inline(&mut copies) {
-            copies.push_reserved(key.clone(alloc)?);
-        }
-    }
-    Ok(copies)
-}
-
 impl Keys {
     /// No key. Takes no memory.
     pub fn new(alloc: Global) -> Keys
@@ -333,10 +316,14 @@ impl Keys {
     pub fn clone(&self, alloc: Global) -> Result<Keys, AllocError>
         ensures { IfOk result (λ k. k ≡ self.now) }
     {
-        Ok(Keys {
-            keys: copy_each(alloc, self.keys.as_slice())?,
-            index: self.index.clone(alloc)?,
-        })
+        let mut keys = Vec::with_capacity(alloc, self.keys.len())?;
+        for key in self.keys.as_slice() {
+            if !key.push_inline(&mut keys) {
+                keys.push_reserved(key.clone(alloc)?);
+            }
+        }
+        let index = self.index.clone(alloc)?;
+        Ok(Keys { keys, index })
     }
 
     /// The keys in their order, each by its text.

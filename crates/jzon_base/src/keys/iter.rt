@@ -1,7 +1,8 @@
 //! An iterator over keys.
-ghost use Rattle.std.specs.Prelude.{◌≡◌, [], length, IfSome, Some};
+ghost use Rattle.std.specs.Prelude.{◌≡◌, List, ℕ, [], length, IfSome, Some};
 ghost use Rattle.std.specs.Iterator.{YieldsFirstRef, YieldsLastRef, item_count, at_most, UpTo};
 ghost use Rattle.std.specs.Iterator.SizeHint.{IsWithinCount};
+ghost use Rattle.std.specs.Slice.Iter.{iter_rest};
 
 use crate::key::Key;
 use std::iter::FusedIterator;
@@ -15,9 +16,6 @@ pub struct Iter<'a> {
 }
 
 impl<'a> Model for Iter<'a> {
-    ghost use Rattle.std.specs.Prelude.{List, ℕ};
-    ghost use Rattle.std.specs.Slice.Iter.{iter_rest};
-
     ghost Value = { List (List ℕ) };
 
     ghost view = { λ a. iter_rest a.keys };

@@ -3,10 +3,10 @@
 //!
 //! Up to 16 keys are compared one by one. From the 17th key on there is an index, as in `Keys`, so
 //! that n keys take about n (log n)^2 comparisons, whatever the keys are.
-ghost use Rattle.std.specs.Prelude.{◌≡◌, ◌++◌, ◌∷◌, [], true, false, is_some, IfOk};
+ghost use Rattle.std.specs.Prelude.{◌≡◌, ◌++◌, ◌∷◌, [], true, false, is_some, IfOk, List, ℕ};
 ghost use Rattle.std.specs.List.{position};
 ghost use Rattle.std.specs.Str.{bytes_eq};
-ghost use Rattle.jzon_base.specs.Private.Handed.{IsIndexed, IsTable};
+ghost use Rattle.jzon_base.specs.Private.Handed.{runs_in, IsTable};
 
 use super::runs::Runs;
 use super::{add_entry, index, search};
@@ -24,9 +24,6 @@ pub struct KnownKeys {
 }
 
 impl Model for KnownKeys {
-    ghost use Rattle.std.specs.Prelude.{List, ℕ};
-    ghost use Rattle.jzon_base.specs.Private.Handed.{runs_in};
-
     ghost Value = { List (List (ℕ × ℕ)) };
 
     ghost view = { λ k. runs_in k.index };

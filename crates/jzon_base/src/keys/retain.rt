@@ -1,12 +1,10 @@
 //! Keys and values that are kept, and the index of the keys that are left.
-ghost use Rattle.std.specs.Prelude.{◌≡◌, ◌≢◌, ◌≤◌, length};
+ghost use Rattle.std.specs.Prelude.{◌≡◌, length};
 ghost use Rattle.std.specs.List.{zip};
 ghost use Rattle.std.specs.Map.Calls.{CalledAtPair, CallableOnEachPair, RetainsPairs, TakesPair};
-ghost use Rattle.jzon_base.specs.Private.Handed.{entries_of, IsIndexed};
 
 use super::Keys;
 use crate::key::Key;
-use crate::keys::runs::Runs;
 
 /// Whether `keep` keeps this entry. It may change the value.
 #[inline(always)]
@@ -42,17 +40,6 @@ fn retain_entries<V: Drop, F: FnMut(&str, &mut V) -> bool>(
     values.truncate(kept);
 }
 
-/// Makes the index that of the keys that are left, in the room that it has. Takes no memory.
-fn reindex(keys: &[Key], index: &mut Runs)
-    requires { length (entries_of index.old) ≢ 0
-        → length keys.now ≤ length (entries_of index.old) }
-    ensures { IsIndexed keys.now index.new }
-{
-    if !index.is_empty() {
-        index.refill(keys);
-    }
-}
-
 impl Keys {
     /// Keeps the keys and the values for which `keep` returns `true`, in their order. Takes no
     /// memory.
@@ -66,8 +53,8 @@ impl Keys {
     {
         let count = self.keys.len();
         retain_entries(&mut self.keys, values, keep);
-        if self.keys.len() < count {
-            reindex(self.keys.as_slice(), &mut self.index);
+        if self.keys.len() < count && !self.index.is_empty() {
+            self.index.refill(self.keys.as_slice());
         }
     }
 }
