@@ -1,6 +1,7 @@
 //! Why a call fails (docs/RULES.md, "Errors").
 
 ghost use Rattle.std.specs.Prelude.{◌≡◌, Some, IfOk, IsOkUnless};
+ghost use Rattle.jzon_base.specs.declared.error.Error.TheVariants.{OutOfMemory};
 ghost use Rattle.jzon_base.specs.ErrorPlace.{line_in, column_in};
 ghost use Rattle.jzon_base.specs.ErrorText.{error_text, IsWrongType};
 
@@ -106,9 +107,6 @@ impl std::error::Error for Error {}
 
 /// `OutOfMemory`, so that `?` after a call of std returns it.
 impl From<AllocError> for Error {
-    ghost use Rattle.std.specs.Prelude.{◌≡◌};
-    ghost use Rattle.jzon_base.specs.declared.error.Error.TheVariants.{OutOfMemory};
-
     ghost from_gives = { λ _ e. e ≡ OutOfMemory };
 
     fn from(_refused: AllocError) -> Error {
@@ -118,9 +116,6 @@ impl From<AllocError> for Error {
 
 /// `OutOfMemory`. What was to be stored, and came back with the error, is dropped.
 impl<T: Drop> From<AllocFailed<T>> for Error {
-    ghost use Rattle.std.specs.Prelude.{◌≡◌};
-    ghost use Rattle.jzon_base.specs.declared.error.Error.TheVariants.{OutOfMemory};
-
     ghost from_gives = { λ _ e. e ≡ OutOfMemory };
 
     fn from(_refused: AllocFailed<T>) -> Error {

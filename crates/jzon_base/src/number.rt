@@ -1,8 +1,12 @@
 //! Numbers: exact decimals, and NaN (docs/RULES.md, "Numbers").
 
-ghost use Rattle.std.specs.Prelude.{◌≡◌, ◌+◌, ◌*◌, ◌^◌, ◌<◌, ◌≤◌, ◌≤ℤ◌, ◌==◌, ◌||◌, MatchOption};
-ghost use Rattle.jzon_base.specs.Decimal.{nan, parts, parts_of, is_nan, is_zero, is_positive, negated, same};
-ghost use Rattle.jzon_base.specs.Decimal.{scaled, StripsTo};
+ghost use Rattle.std.specs.Prelude.{◌≡◌, ◌*◌, ◌^◌, ◌<◌, ◌≤◌, ◌≤ℤ◌, ◌==◌, ◌||◌, MatchOption, Some};
+ghost use Rattle.std.specs.Cmp.{partial_equiv_from_equiv};
+ghost use Rattle.jzon_base.specs.Decimal.{parts, parts_of, is_nan, is_zero, is_positive, negated, same};
+ghost use Rattle.jzon_base.specs.Decimal.{scaled, Decimal, StripsTo};
+ghost use Rattle.jzon_base.specs.NumberText.{decimal_text};
+ghost use Rattle.jzon_base.specs.Private.NumberFields.{value_at, HasNoParts, fields_of};
+ghost use Rattle.jzon_base.specs.Private.Same.{same_equiv};
 
 mod fixed_point;
 mod from_integer;
@@ -35,12 +39,7 @@ pub struct Number {
 }
 
 impl Model for Number {
-    ghost use Rattle.std.specs.Prelude.{◌≡◌};
-    ghost use Rattle.jzon_base.specs.Decimal.{Decimal};
-
     ghost Value = { Decimal };
-
-    ghost use Rattle.jzon_base.specs.Private.NumberFields.{value_at, HasNoParts, fields_of};
 
     ghost view = { λ n. value_at n.category n.mantissa n.exponent };
 
@@ -169,9 +168,6 @@ impl std::ops::Neg for Number {
 /// Numbers are equal if their signs and exact decimals are, whatever their parts. All zeros are
 /// equal, and NaN equals only itself.
 impl PartialEq for Number {
-    ghost use Rattle.std.specs.Cmp.{partial_equiv_from_equiv};
-    ghost use Rattle.jzon_base.specs.Private.Same.{same_equiv};
-
     ghost eq = { same };
 
     ghost laws = { partial_equiv_from_equiv same_equiv };
@@ -192,8 +188,6 @@ impl PartialEq for Number {
 }
 
 impl Eq for Number {
-    ghost use Rattle.jzon_base.specs.Private.Same.{same_equiv};
-
     ghost laws = { same_equiv };
 }
 
@@ -211,9 +205,6 @@ impl fmt::Debug for Number {
 /// The text of docs/RULES.md, "Printed numbers", in which a value prints it; `nan` for NaN. Widths
 /// and other flags are ignored.
 impl fmt::Display for Number {
-    ghost use Rattle.std.specs.Prelude.{Some};
-    ghost use Rattle.jzon_base.specs.NumberText.{decimal_text};
-
     ghost output = { λ n. Some (decimal_text n) };
 
     fn fmt<W: fmt::Write>(&self, f: &mut fmt::Formatter<W>) -> fmt::Result {

@@ -1,11 +1,12 @@
 //! Values under distinct keys, in a box (docs/RULES.md, "Objects").
-ghost use Rattle.std.specs.Prelude.{◌≡◌, ◌<◌, ◌-◌, ◌∷◌, ◌==◌, [], length, remove, slice_get};
+ghost use Rattle.std.specs.Prelude.{◌≡◌, ◌<◌, ◌-◌, ◌∷◌, ◌==◌, List, ℕ, [], length, remove, slice_get};
 ghost use Rattle.std.specs.Prelude.{Some, None, OnOk, OnErr, IfOk, MatchOption};
 ghost use Rattle.std.specs.List.{position, zip, IsDistinct};
 ghost use Rattle.std.specs.Map.Calls.{CalledAtPair, CallableOnEachPair, RetainsPairs, TakesPair};
 ghost use Rattle.std.specs.Str.{bytes_eq};
 ghost use Rattle.std.specs.Option.{option_copied, option_copied_mut};
-ghost use Rattle.jzon_base.specs.PairList.{put_each};
+ghost use Rattle.std.specs.Coded.{coded_ℕ, coded_list, coded×};
+ghost use Rattle.jzon_base.specs.PairList.{entries_in, put_each};
 
 mod builder;
 mod entries;
@@ -34,10 +35,6 @@ pub struct Pairs<V> {
 }
 
 impl<V> Model for Pairs<V> {
-    ghost use Rattle.std.specs.Prelude.{List, ℕ};
-    ghost use Rattle.std.specs.Coded.{coded_ℕ, coded_list, coded×};
-    ghost use Rattle.jzon_base.specs.PairList.{entries_in};
-
     ghost Value = { List (List ℕ × V) };
 
     ghost coded = { coded_list (coded× (coded_list coded_ℕ) V.code) };
@@ -49,8 +46,7 @@ impl<V> Pairs<V> {
     ghost use Rattle.std.specs.Borrow.{sem, Lends, LendsIf, LendsIfOk};
     ghost use Rattle.jzon_base.specs.contracts.pairs.Pairs.{the_row};
     ghost use Rattle.jzon_base.specs.contracts.pairs.entries.Entries.{the_row as entries_row};
-    ghost use Rattle.jzon_base.specs.PairList.{find, put, cut, set_value, keys_of, values_of};
-    ghost use Rattle.jzon_base.specs.PairList.{with_default};
+    ghost use Rattle.jzon_base.specs.PairList.{find, put, cut, set_value, with_default, keys_of, values_of};
 
     /// No entry. Takes no memory.
     pub fn new(alloc: Global) -> Pairs<V>

@@ -1,6 +1,8 @@
 //! Short strings, stored inline (docs/RULES.md, "Short and long strings").
 
-ghost use Rattle.std.specs.Prelude.{◌≡◌, ◌≤◌, length, take, IfOk, IsOkUnless, IsUtf8, string_bytes};
+ghost use Rattle.std.specs.Prelude.{◌≡◌, ◌≤◌, List, ℕ, length, take, IfOk, IsOkUnless, IsUtf8, Some, string_bytes};
+ghost use Rattle.std.specs.Cmp.{partial_equiv_from_equiv};
+ghost use Rattle.std.specs.Cmp.Lexicographic.{nat_list_eq_equiv};
 ghost use Rattle.std.specs.Str.{bytes_eq};
 ghost use Rattle.jzon_base.specs.declared.error.Error.TheVariants.{OutOfMemory};
 
@@ -22,8 +24,6 @@ pub struct Short {
 }
 
 impl Model for Short {
-    ghost use Rattle.std.specs.Prelude.{ℕ, List};
-
     ghost Value = { List ℕ };
 
     ghost view = { λ s. s.text.bytes };
@@ -90,9 +90,6 @@ impl Short {
 
 /// Short strings are equal if their bytes are.
 impl PartialEq for Short {
-    ghost use Rattle.std.specs.Cmp.{partial_equiv_from_equiv};
-    ghost use Rattle.std.specs.Cmp.Lexicographic.{nat_list_eq_equiv};
-
     ghost eq = { bytes_eq };
 
     ghost laws = { partial_equiv_from_equiv nat_list_eq_equiv };
@@ -103,8 +100,6 @@ impl PartialEq for Short {
 }
 
 impl Eq for Short {
-    ghost use Rattle.std.specs.Cmp.Lexicographic.{nat_list_eq_equiv};
-
     ghost laws = { nat_list_eq_equiv };
 }
 
@@ -117,8 +112,6 @@ impl fmt::Debug for Short {
 
 /// The bare string. Widths and other flags are ignored.
 impl fmt::Display for Short {
-    ghost use Rattle.std.specs.Prelude.{Some};
-
     ghost output = { λ s. Some s };
 
     fn fmt<W: fmt::Write>(&self, f: &mut fmt::Formatter<W>) -> fmt::Result {

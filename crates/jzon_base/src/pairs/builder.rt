@@ -2,8 +2,10 @@
 //! of equal keys are merged at the end, and before it whenever there are four times as many entries
 //! as the last merge left, and at least 256. So few keys that are often repeated take little memory,
 //! and n entries make about log n merges.
-ghost use Rattle.std.specs.Prelude.{◌≡◌, [], IfOk, OnOk, OnErr};
-ghost use Rattle.jzon_base.specs.PairList.{put};
+ghost use Rattle.std.specs.Prelude.{◌≡◌, List, ℕ, [], length, IfOk, OnOk, OnErr};
+ghost use Rattle.std.specs.Coded.{coded_ℕ, coded_list, coded×};
+ghost use Rattle.std.specs.List.{zip};
+ghost use Rattle.jzon_base.specs.PairList.{put, put_each};
 
 use super::Pairs;
 use crate::fit::fit;
@@ -26,11 +28,6 @@ pub struct Builder<V> {
 }
 
 impl<V> Model for Builder<V> {
-    ghost use Rattle.std.specs.Prelude.{◌≡◌, List, ℕ, length};
-    ghost use Rattle.std.specs.List.{zip};
-    ghost use Rattle.std.specs.Coded.{coded_ℕ, coded_list, coded×};
-    ghost use Rattle.jzon_base.specs.PairList.{put_each};
-
     ghost Value = { List (List ℕ × V) };
 
     ghost coded = { coded_list (coded× (coded_list coded_ℕ) V.code) };

@@ -1,11 +1,11 @@
 //! The keys and the values of `Pairs`, which are in its box.
-ghost use Rattle.std.specs.Prelude.{◌≡◌, ◌<◌, [], length, remove, slice_get};
+ghost use Rattle.std.specs.Prelude.{◌≡◌, ◌<◌, List, ℕ, [], length, remove, slice_get};
 ghost use Rattle.std.specs.Prelude.{Some, None, OnOk, OnErr, IfOk};
 ghost use Rattle.std.specs.List.{position, zip, IsDistinct};
 ghost use Rattle.std.specs.Map.Calls.{CalledAtPair, CallableOnEachPair, RetainsPairs, TakesPair};
 ghost use Rattle.std.specs.Str.{bytes_eq};
+ghost use Rattle.std.specs.Coded.{coded_ℕ, coded_list, coded×};
 
-use crate::key::Key;
 use crate::keys::Keys;
 use std::alloc::{AllocError, Global};
 use std::marker::Model;
@@ -18,10 +18,6 @@ pub struct Entries<V> {
 }
 
 impl<V> Model for Entries<V> {
-    ghost use Rattle.std.specs.Prelude.{◌≡◌, List, ℕ, length};
-    ghost use Rattle.std.specs.List.{zip};
-    ghost use Rattle.std.specs.Coded.{coded_ℕ, coded_list, coded×};
-
     ghost Value = { List (List ℕ × V) };
 
     ghost coded = { coded_list (coded× (coded_list coded_ℕ) V.code) };
@@ -34,8 +30,7 @@ impl<V> Model for Entries<V> {
 impl<V> Entries<V> {
     ghost use Rattle.std.specs.Borrow.{sem, Lends};
     ghost use Rattle.jzon_base.specs.contracts.pairs.entries.Entries.{the_row};
-    ghost use Rattle.jzon_base.specs.PairList.{find, put, set_value, keys_of, values_of};
-    ghost use Rattle.jzon_base.specs.PairList.{with_default};
+    ghost use Rattle.jzon_base.specs.PairList.{find, put, set_value, with_default, keys_of, values_of};
 
     /// No entry. Takes no memory.
     pub fn new(alloc: Global) -> Entries<V>

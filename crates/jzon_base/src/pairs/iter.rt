@@ -1,10 +1,12 @@
 //! An iterator over entries.
-ghost use Rattle.std.specs.Prelude.{◌≡◌, [], length, IfSome, Some};
+ghost use Rattle.std.specs.Prelude.{◌≡◌, List, ℕ, [], length, IfSome, Some};
+ghost use Rattle.std.specs.Coded.{coded_ℕ, coded_list, coded×};
 ghost use Rattle.std.specs.Iterator.{YieldsFirstBy, YieldsLastBy, item_count, at_most, UpTo};
 ghost use Rattle.std.specs.Iterator.SizeHint.{IsWithinCount};
+ghost use Rattle.std.specs.List.{zip};
+ghost use Rattle.std.specs.Slice.Iter.{iter_rest};
 
 use super::Pairs;
-use super::entries::Entries;
 use crate::keys;
 use std::iter::FusedIterator;
 use std::marker::Model;
@@ -19,11 +21,6 @@ pub struct Iter<'a, V> {
 }
 
 impl<'a, V> Model for Iter<'a, V> {
-    ghost use Rattle.std.specs.Prelude.{◌≡◌, List, ℕ, length};
-    ghost use Rattle.std.specs.List.{zip};
-    ghost use Rattle.std.specs.Coded.{coded_ℕ, coded_list, coded×};
-    ghost use Rattle.std.specs.Slice.Iter.{iter_rest};
-
     ghost Value = { List (List ℕ × V) };
 
     ghost coded = { coded_list (coded× (coded_list coded_ℕ) V.code) };
@@ -86,25 +83,17 @@ impl<'a, V> ExactSizeIterator for Iter<'a, V> {
 
 impl<'a, V> FusedIterator for Iter<'a, V> {}
 
-impl<V> Entries<V> {
-    /// The entries in their order, each as its key's text and its value.
-    fn iter(&self) -> Iter<'_, V>
-        ensures { result ≡ self.now }
-    {
-        Iter {
-            keys: self.keys.iter(),
-            values: self.values.iter(),
-        }
-    }
-}
-
 impl<V> Pairs<V> {
     /// The entries in their order, each as its key's text and its value.
     pub fn iter(&self) -> Iter<'_, V>
         ensures { result ≡ self.now }
     {
         if let Some(entries) = &self.entries {
-            return entries.iter();
+            let entries = entries.as_ref();
+            return Iter {
+                keys: entries.keys.iter(),
+                values: entries.values.iter(),
+            };
         }
         Iter::empty()
     }

@@ -5,7 +5,6 @@ ghost use Rattle.std.specs.Iterator.SizeHint.{IsWithinCount};
 ghost use Rattle.std.specs.Slice.Iter as slice_iter;
 
 use super::Pairs;
-use super::entries::Entries;
 use crate::keys;
 use std::iter::FusedIterator;
 use std::slice;
@@ -81,20 +80,6 @@ impl<'a, V> ExactSizeIterator for IterMut<'a, V> {
 
 impl<'a, V> FusedIterator for IterMut<'a, V> {}
 
-impl<V> Entries<V> {
-    ghost use Rattle.jzon_base.specs.IterMut.{iter_mut_rest};
-
-    /// The entries in their order, each as its key's text and its value, which may be written.
-    fn iter_mut(&mut self) -> IterMut<'_, V>
-        ensures rest { iter_mut_rest result ≡ self.old }
-    {
-        IterMut {
-            keys: self.keys.iter(),
-            values: self.values.iter_mut(),
-        }
-    }
-}
-
 impl<V> Pairs<V> {
     ghost use Rattle.jzon_base.specs.IterMut.{iter_mut_rest};
 
@@ -103,7 +88,11 @@ impl<V> Pairs<V> {
         ensures rest { iter_mut_rest result ≡ self.old }
     {
         if let Some(entries) = &mut self.entries {
-            return entries.iter_mut();
+            let entries = entries.as_mut();
+            return IterMut {
+                keys: entries.keys.iter(),
+                values: entries.values.iter_mut(),
+            };
         }
         IterMut::empty()
     }
