@@ -1,7 +1,6 @@
 //! Which bytes are at an offset of a text.
 
 ghost use Rattle.std.specs.Prelude.{◌≡◌, ◌<◌, ◌≤◌, ◌+◌, ◌↔◌, length, IsTrue, slice_index};
-ghost use Rattle.std.specs.Char.{is_ascii_digit};
 
 /// The byte at `index`, or 0 past the end of the text. No token begins with 0.
 #[inline(always)]
@@ -41,13 +40,4 @@ pub(crate) fn has_four(source: &str, index: usize, four: [u8; 4]) -> bool
         [a, b, c, d, ..] => u32::from_le_bytes([*a, *b, *c, *d]) == u32::from_le_bytes(four),
         _ => false,
     }
-}
-
-/// Whether the byte at `index` is a digit.
-pub(crate) fn has_digit(source: &str, index: usize) -> bool
-    ensures { IsTrue result
-        ↔ ((index < length source.now) × IsTrue (is_ascii_digit (slice_index source.now index))) }
-{
-    let bytes = source.as_bytes();
-    index < bytes.len() && bytes[index].is_ascii_digit()
 }

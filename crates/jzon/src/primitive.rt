@@ -1,20 +1,18 @@
 //! Reads primitives: numbers, strings and literals (RFC 8259, section 3). Each is put where it is to
 //! stay by the function that makes it, so that no value is moved from call to call.
 
-ghost use Rattle.std.specs.Prelude.{◌≡◌, ◌≢◌, ◌⊎◌, ◌<◌, ◌+◌, ◌^◌, [], length, chars, IsTrue};
-ghost use Rattle.std.specs.Prelude.{IfOk, Err, MatchResult, codes, drop, slice_index, None, true, false, IsAscii, ⊤};
+ghost use Rattle.std.specs.Prelude.{◌≡◌, ◌≢◌, ◌⊎◌, ◌<◌, ◌+◌, ◌^◌, length, chars, IsTrue, IfOk, Err, MatchResult, codes, drop, slice_index, None, true, false, IsAscii, ⊤};
 ghost use Rattle.std.specs.Char.{is_ascii_digit};
 ghost use Rattle.std.specs.Str.{IsCharBoundary};
 ghost use Rattle.jzon_tree.specs.Value.{Value, null, boolean};
 ghost use Rattle.jzon_tree.specs.View.{view};
-ghost use Rattle.jzon.specs.Private.Classes.{after_minus, letter_n, letter_t, letter_f};
-ghost use Rattle.jzon.specs.Private.Machine.{numeral, numeral_after_first, string, as_value, between, before, Frames};
-ghost use Rattle.jzon.specs.Private.Machine.{after_value, past_letter, value_mark, from, Reports, fault_here};
+ghost use Rattle.jzon.specs.Private.Classes.{letter_n, letter_t, letter_f};
+ghost use Rattle.jzon.specs.Private.Machine.{numeral_after_first, before, Frames, after_value, past_letter, value_mark, from, Reports, fault_here};
 ghost use Rattle.jzon.specs.Private.Places.{MayBegin, Puts};
 ghost use Rattle.jzon.specs.Reading.{Reading};
 ghost use Rattle.jzon_base.specs.Tokens.{begin_array, begin_object, quotation_mark};
 
-use crate::bytes_at::{has_byte, has_digit, has_four};
+use crate::bytes_at::{byte_at, has_byte, has_four};
 use crate::fault::fault_at;
 use crate::numeral::read_number;
 use crate::place::Place;
@@ -48,8 +46,18 @@ pub(crate) fn put_primitive<P: Place>(
         return put_magnitude(source, start, false, place);
     }
     match first {
-        b'-' => put_negative(source, start + 1, place),
-        b'"' => put_string(alloc, source, start + 1, buffer, place),
+        b'-' => {
+            if !byte_at(source, start + 1).is_ascii_digit() {
+                return stopped_at(source, start + 1);
+            }
+            put_magnitude(source, start + 1, true, place)
+        }
+        b'"' => {
+            let spelled = read_string(source, start + 1, buffer)?;
+            let (content, wide) = spelled.text(source, start + 1, buffer);
+            put_text(alloc, content, wide, place)?;
+            Ok(spelled.end)
+        }
         b'n' | b't' | b'f' => put_literal(source, start, first, place),
         _ => stopped_at(source, start),
     }
@@ -64,43 +72,6 @@ fn stopped_at(source: &str, index: usize) -> Result<usize>
         (λ e. Reports (chars source.now) e (fault_here (chars (drop index source.now)))) }
 {
     Err(fault_at(source, index))
-}
-
-/// Puts the string whose opening quote is before `start`. Returns the offset after it.
-#[inline(always)]
-fn put_string<P: Place>(
-    alloc: Global,
-    source: &str,
-    start: usize,
-    buffer: &mut String,
-    place: &mut P,
-) -> Result<usize>
-    requires boundary { IsCharBoundary source.now start }
-    requires room { P.has_room place.old }
-    ensures end { IfOk result (λ end. (start < end) × IsCharBoundary source.now end) }
-    ensures outcome { Puts (P.takes place.old) place.old place.new result source.now start
-        (λ fs. string (as_value fs) [] between) (λ r fs. ⊤) }
-{
-    let spelled = read_string(source, start, buffer)?;
-    let (content, wide) = spelled.text(source, start, buffer);
-    put_text(alloc, content, wide, place)?;
-    Ok(spelled.end)
-}
-
-/// Puts the number whose minus is before `start`. Returns the offset after it.
-#[inline(always)]
-fn put_negative<P: Place>(source: &str, start: usize, place: &mut P) -> Result<usize>
-    requires boundary { IsCharBoundary source.now start }
-    requires room { P.has_room place.old }
-    ensures end { IfOk result (λ end. (start < end) × IsCharBoundary source.now end) }
-    ensures memory { result ≢ Err Error.OutOfMemory }
-    ensures outcome { Puts (P.takes place.old) place.old place.new result source.now start
-        (λ fs. numeral fs true after_minus) (λ r fs. ⊤) }
-{
-    if !has_digit(source, start) {
-        return stopped_at(source, start);
-    }
-    put_magnitude(source, start, true, place)
 }
 
 /// Puts the number whose first digit is at `start`. Returns the offset after it.
