@@ -1,7 +1,7 @@
 //! The error of a text at an offset, with its line and column (docs/RULES.md, "Which error is
 //! reported").
 
-ghost use Rattle.std.specs.Prelude.{◌≡◌, ◌+◌, length, take, drop, chars};
+ghost use Rattle.std.specs.Prelude.{◌≡◌, ◌+◌, take, drop, chars};
 ghost use Rattle.std.specs.Str.{IsCharBoundary};
 ghost use Rattle.jzon_base.specs.declared.error.Error.TheVariants.{DuplicateKey};
 ghost use Rattle.jzon.specs.Fault.{line, column};
@@ -16,20 +16,13 @@ fn line_after(prefix: &str) -> usize
     prefix.chars().filter(|c| *c == '\n').count() + 1
 }
 
-/// The column after a prefix of a line, counted from 1.
-fn column_in_line(line: &str) -> usize
-    ensures { result ≡ length (chars line.now) + 1 }
-{
-    line.chars().count() + 1
-}
-
 /// The column of the character after a prefix of a text, counted from 1.
 fn column_after(prefix: &str) -> usize
     ensures { result ≡ column (chars prefix.now) }
 {
     match prefix.rfind('\n') {
-        None => column_in_line(prefix),
-        Some(newline) => column_in_line(&prefix[newline + 1..]),
+        None => prefix.chars().count() + 1,
+        Some(newline) => prefix[newline + 1..].chars().count() + 1,
     }
 }
 
