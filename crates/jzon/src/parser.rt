@@ -4,11 +4,9 @@ ghost use Rattle.std.specs.Prelude.{◌≡◌, ◌≢◌, ◌<◌, ◌+◌, leng
 ghost use Rattle.jzon_tree.specs.View.{view};
 ghost use Rattle.jzon.specs.Answer.{IsMeaningOf, IsReadable, IsErrorUnlessMemory, TakesMemory};
 ghost use Rattle.jzon.specs.Private.Cursor.{left, next_byte, GoesOn, PassesOn};
-ghost use Rattle.jzon.specs.Private.Brackets.{opener};
 ghost use Rattle.jzon.specs.Private.Machine.{no_frames, is_fresh, before, after_value, Reads};
-ghost use Rattle.jzon.specs.Private.OpenContainers.{frames_around, frames_here, before_item, after_items, after_end, whole};
-ghost use Rattle.jzon.specs.Private.OpenContainers.{IsEven, AwaitsValue, IsBeforeItem, IsAfterItems, IsAfterEnd, KeepsAround};
-ghost use Rattle.jzon.specs.Private.Read.{after_read, IsAfterValue};
+ghost use Rattle.jzon.specs.Private.OpenContainers.{frames_around, frames_here, before_item, after_end, whole, IsEven, AwaitsValue, IsBeforeItem, IsAfterEnd, KeepsAround};
+ghost use Rattle.jzon.specs.Private.Read.{after_read, IsAfterValue, ReadsItems};
 ghost use Rattle.jzon.specs.Reading.{usual};
 ghost use Rattle.jzon_base.specs.Tokens.{end_array};
 
@@ -75,22 +73,13 @@ pub fn parse_as(alloc: Global, source: &str, reading: &Reading) -> Result<JsonVa
 {
     let mut cursor = Cursor::new(source, *reading);
     let first = cursor.peek();
-    let bracket = match Bracket::opened_by(first) {
-        None => {
-            let mut buffer = String::new(alloc);
-            let mut value = JsonValue::Null;
-            let end = put_primitive(
-                alloc,
-                cursor.source,
-                cursor.index,
-                first,
-                &mut buffer,
-                &mut value,
-            )?;
-            cursor.go_to(end);
-            return expect_end(&cursor, value);
-        }
-        Some(bracket) => bracket,
+    let Some(bracket) = Bracket::opened_by(first) else {
+        let (source, start) = (cursor.source, cursor.index);
+        let mut buffer = String::new(alloc);
+        let mut value = JsonValue::Null;
+        let end = put_primitive(alloc, source, start, first, &mut buffer, &mut value)?;
+        cursor.go_to(end);
+        return expect_end(&cursor, value);
     };
     if cursor.open_container(bracket, 0)? {
         return expect_end(&cursor, bracket.empty(alloc));
@@ -162,10 +151,7 @@ impl<'a> Parser<'a> {
     fn read_items(&mut self) -> Result<Option<Bracket>>
         requires before { IsBeforeItem self.old.cursor self.old.stacks }
         requires strict { self.old.stacks.strict ≡ self.old.cursor.reading.strict }
-        ensures kept { OnOk result (KeepsAround self.old.stacks self.new.stacks) }
-        ensures after { IfOk result (IsAfterItems self.new.cursor self.new.stacks) }
-        ensures outcome { GoesOn self.old.cursor (before_item self.old.stacks) result self.new.cursor
-            (after_items self.new.stacks) }
+        ensures { ReadsItems self.old.cursor self.old.stacks result self.new.cursor self.new.stacks }
     {
         match self.stacks.bracket() {
             Bracket::Array => self.read_elements(),
@@ -178,10 +164,7 @@ impl<'a> Parser<'a> {
     fn read_elements(&mut self) -> Result<Option<Bracket>>
         requires array { self.old.stacks.innermost.bracket ≡ Bracket.Array }
         requires before { IsBeforeItem self.old.cursor self.old.stacks }
-        ensures kept { OnOk result (KeepsAround self.old.stacks self.new.stacks) }
-        ensures after { IfOk result (IsAfterItems self.new.cursor self.new.stacks) }
-        ensures outcome { GoesOn self.old.cursor (before_item self.old.stacks) result self.new.cursor
-            (after_items self.new.stacks) }
+        ensures { ReadsItems self.old.cursor self.old.stacks result self.new.cursor self.new.stacks }
     {
         loop {
             match self.read_value(Bracket::Array)? {
@@ -198,10 +181,7 @@ impl<'a> Parser<'a> {
         requires object { self.old.stacks.innermost.bracket ≡ Bracket.Object }
         requires before { IsBeforeItem self.old.cursor self.old.stacks }
         requires strict { self.old.stacks.strict ≡ self.old.cursor.reading.strict }
-        ensures kept { OnOk result (KeepsAround self.old.stacks self.new.stacks) }
-        ensures after { IfOk result (IsAfterItems self.new.cursor self.new.stacks) }
-        ensures outcome { GoesOn self.old.cursor (before_item self.old.stacks) result self.new.cursor
-            (after_items self.new.stacks) }
+        ensures { ReadsItems self.old.cursor self.old.stacks result self.new.cursor self.new.stacks }
     {
         loop {
             self.read_key()?;
@@ -254,7 +234,15 @@ impl<'a> Parser<'a> {
     {
         let first = self.cursor.peek();
         if let Some(opened) = Bracket::opened_by(first) {
-            return self.read_opened(container, opened);
+            let depth = self.stacks.depth();
+            if !self.cursor.open_container(opened, depth)? {
+                return Ok(Next::Opened(opened));
+            }
+            self.stacks.push_empty(opened)?;
+            if self.cursor.container_ends(container)? {
+                return Ok(Next::End);
+            }
+            return Ok(Next::Item);
         }
         let source = self.cursor.source;
         let start = self.cursor.index;
@@ -262,29 +250,6 @@ impl<'a> Parser<'a> {
             .stacks
             .push_primitive(source, start, first, &mut self.buffer)?;
         if self.cursor.container_ends_at(end, container)? {
-            return Ok(Next::End);
-        }
-        Ok(Next::Item)
-    }
-
-    /// The same of a container whose opening bracket comes next.
-    #[inline(always)]
-    fn read_opened(&mut self, container: Bracket, opened: Bracket) -> Result<Next>
-        requires opening { next_byte self.old.cursor ≡ opener opened }
-        requires bracket { self.old.stacks.innermost.bracket ≡ container }
-        requires awaits { AwaitsValue container self.old.stacks.innermost }
-        requires room { length self.old.stacks.around < self.old.cursor.reading.depth }
-        ensures kept { OnOk result (KeepsAround self.old.stacks self.new.stacks) }
-        ensures after { IfOk result (IsAfterValue self.new.cursor self.new.stacks) }
-        ensures outcome { GoesOn self.old.cursor (before (frames_here self.old.stacks)) result
-            self.new.cursor (after_read self.new.stacks) }
-    {
-        let depth = self.stacks.depth();
-        if !self.cursor.open_container(opened, depth)? {
-            return Ok(Next::Opened(opened));
-        }
-        self.stacks.push_empty(opened)?;
-        if self.cursor.container_ends(container)? {
             return Ok(Next::End);
         }
         Ok(Next::Item)

@@ -1,7 +1,11 @@
--- What comes after a value in a container that was read.
-use Rattle.std.specs.Prelude.{Some, None}
+-- What comes after values in a container that were read.
+use Rattle.std.specs.Prelude.{Some, None, Option, Result, IfOk, OnOk}
+use Rattle.jzon_base.specs.declared.error.Error.{Error}
+use Rattle.jzon.specs.Private.Cursor.{GoesOn}
 use Rattle.jzon.specs.Private.Machine.{State}
 use Rattle.jzon.specs.Private.OpenContainers.{OpenContainers, before_item, after_items, IsBeforeItem, IsAfterItems}
+use Rattle.jzon.specs.Private.OpenContainers.{KeepsAround}
+use Rattle.jzon.specs.declared.cursor.Bracket.{Bracket}
 use Rattle.jzon.specs.declared.cursor.Cursor.{Cursor}
 use Rattle.jzon.specs.declared.parser.Next.{Next}
 use Rattle.jzon.specs.declared.parser.Next.TheVariants.{Item, Opened, End}
@@ -15,3 +19,10 @@ abbrev pub IsAfterValue : Cursor → OpenContainers → Next → Type 0
 IsAfterValue t s Item = IsBeforeItem t s
 IsAfterValue t s (Opened b) = IsAfterItems t s (Some b)
 IsAfterValue t s End = IsAfterItems t s None
+
+-- Items of the innermost container of s were read from t on; after them the cursor is u, and the containers are n.
+pub record ReadsItems (t : Cursor) (s : OpenContainers) (result : Result (Option Bracket) Error) (u : Cursor)
+    (n : OpenContainers) : Type 0 where
+  pub kept : OnOk result (KeepsAround s n)
+  pub after : IfOk result (IsAfterItems u n)
+  pub outcome : GoesOn t (before_item s) result u (after_items n)

@@ -43,8 +43,8 @@ takes_memory t Object e =
 begins : (t : Cursor) → MayBegin t.reading no_frames t.source.now t.index
 begins t = record { shallow = refl; no_space = t.past_whitespace; no_end = λ f. absurd (true≢false (sym f)) }
 
-pub returns-in_err-end-in-None-clause-error : goal.returns-in_err-end-in-None-clause-error
-returns-in_err-end-in-None-clause-error c =
+pub returns-in_err-end-clause-error : goal.returns-in_err-end-clause-error
+returns-in_err-end-clause-error c =
     let t = c.new-cursor.result in
     let r = c.args.reading.now in
     let bytes = c.args.source.now in
@@ -53,17 +53,17 @@ returns-in_err-end-in-None-clause-error c =
     let reported : Reads (chars bytes) (Err failed.0) (from r bytes (before no_frames) 0) =
     reads_from bytes (from r bytes (before no_frames) 0) t (before no_frames) (Err failed.0)
     past.text (past.same (before no_frames) refl)
-    (rw failed.2 (c.in_err-end-in-None.ensures.outcome.1 t.reading no_frames (begins t))) in
+    (rw failed.2 (c.in_err-end.ensures.outcome.1 t.reading no_frames (begins t))) in
     error_of r (chars bytes) c.from_residual.result
     (answer r bytes c.from_residual.result
     (subst (λ z. Reads (chars bytes) z (from r bytes (before no_frames) 0)) (sym failed.1) reported))
 
-pub returns-in_err-end-in-None-clause-memory : goal.returns-in_err-end-in-None-clause-memory
-returns-in_err-end-in-None-clause-memory c e =
+pub returns-in_err-end-clause-memory : goal.returns-in_err-end-clause-memory
+returns-in_err-end-clause-memory c e =
     let t = c.new-cursor.result in
     let failed = err_from_is_err_and c.from_residual.result c.from_residual.ensures.1 in
-    let of_value : Err c.in_err-end-in-None.field-0.0 ≡ Err OutOfMemory = cc (failed.1, failed.2, e) in
-    let quote : next_byte t ≡ 34 = sym c.peek-first.ensures ∙ c.in_err-end-in-None.ensures.memory of_value in
+    let of_value : Err c.in_err-end.field-0.0 ≡ Err OutOfMemory = cc (failed.1, failed.2, e) in
+    let quote : next_byte t ≡ 34 = sym c.peek-first.ensures ∙ c.in_err-end.ensures.memory of_value in
     subst (λ bs. TakesMemory (chars bs)) c.new-cursor.ensures.text
     (inl (has_character t.source.now t.index 34 (utf8_of t) (byte_within t.source.now t.index 34 quote (lit< tt)) quote
     (lit< tt)))
@@ -73,26 +73,26 @@ primitive c =
     let t = c.new-cursor.result in
     let u = c.go_to.new.self in
     let past = c.new-cursor.ensures in
-    let put = c.in_ok-end-in-None.ensures.outcome in
-    let read = token_goes t u (before no_frames) (after_value no_frames (view put.0)) c.in_ok-end-in-None.end
-    c.go_to.ensures c.in_ok-end-in-None.ensures.end.0 refl (put.2 t.reading no_frames (begins t)) in
+    let put = c.in_ok-end.ensures.outcome in
+    let read = token_goes t u (before no_frames) (after_value no_frames (view put.0)) c.in_ok-end.end
+    c.go_to.ensures c.in_ok-end.ensures.end.0 refl (put.2 t.reading no_frames (begins t)) in
     answer c.args.reading.now c.args.source.now c.expect_end.result
     (reads_from _ _ u (after_value no_frames (view c.put_primitive.new.place)) c.expect_end.result
     (read.0.text ∙ past.text)
     (past.same (before no_frames) refl ∙ read.1 ∙ ap (λ v. left u (after_value no_frames (view v))) (sym put.1))
     c.expect_end.ensures.outcome)
 
-pub returns-in-None-clause-value : goal.returns-in-None-clause-value
-returns-in-None-clause-value c = value_of c.args.reading.now (chars c.args.source.now) c.expect_end.result
-    (primitive (goal.at.returns-in-None-clause-value c).After-expect_end)
+pub returns-in_default-clause-value : goal.returns-in_default-clause-value
+returns-in_default-clause-value c = value_of c.args.reading.now (chars c.args.source.now) c.expect_end.result
+    (primitive (goal.at.returns-in_default-clause-value c).After-expect_end)
 
-pub returns-in-None-clause-readable : goal.returns-in-None-clause-readable
-returns-in-None-clause-readable c = readable_of c.args.reading.now (chars c.args.source.now) c.expect_end.result
-    (primitive (goal.at.returns-in-None-clause-readable c).After-expect_end)
+pub returns-in_default-clause-readable : goal.returns-in_default-clause-readable
+returns-in_default-clause-readable c = readable_of c.args.reading.now (chars c.args.source.now) c.expect_end.result
+    (primitive (goal.at.returns-in_default-clause-readable c).After-expect_end)
 
-pub returns-in-None-clause-error : goal.returns-in-None-clause-error
-returns-in-None-clause-error c = error_of c.args.reading.now (chars c.args.source.now) c.expect_end.result
-    (primitive (goal.at.returns-in-None-clause-error c).After-expect_end)
+pub returns-in_default-clause-error : goal.returns-in_default-clause-error
+returns-in_default-clause-error c = error_of c.args.reading.now (chars c.args.source.now) c.expect_end.result
+    (primitive (goal.at.returns-in_default-clause-error c).After-expect_end)
 
 -- ---- a container
 
