@@ -1,7 +1,6 @@
 //! Reads numbers (RFC 8259, section 6; docs/RULES.md, "Numbers").
 
-ghost use Rattle.std.specs.Prelude.{◌≡◌, ℕ, pos, List, [], ◌∷◌, ◌<◌, ◌≤◌, ◌+◌, ◌%◌, ◌^◌, ◌++◌, length, drop, chars};
-ghost use Rattle.std.specs.Prelude.{not, Bool, true, false, ◌==◌, ◌↔◌, IsTrue, IfOk, slice_index, if◌then◌else◌};
+ghost use Rattle.std.specs.Prelude.{◌≡◌, ℕ, pos, List, [], ◌∷◌, ◌<◌, ◌≤◌, ◌+◌, ◌%◌, ◌^◌, ◌++◌, length, drop, chars, not, Bool, true, false, ◌==◌, ◌↔◌, IsTrue, IfOk, slice_index, if◌then◌else◌};
 ghost use Rattle.std.specs.Char.{is_ascii_digit};
 ghost use Rattle.std.specs.List.{All, fold, take_while};
 ghost use Rattle.std.specs.Str.{IsCharBoundary};

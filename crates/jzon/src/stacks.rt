@@ -1,8 +1,7 @@
 //! The open containers of a text. All their keys are on one stack, and all their values on another;
 //! each container has a part of both, and is made of it at its end.
 
-ghost use Rattle.std.specs.Prelude.{◌≡◌, ◌≢◌, ◌&&◌, slice_index, IfSome, None, ◌≤◌, ◌<◌, [], length, take, drop, vec_len, IfOk, OnOk, OnErr};
-ghost use Rattle.std.specs.Prelude.{IsOkUnless, true, false, ◌+◌};
+ghost use Rattle.std.specs.Prelude.{◌≡◌, ◌≢◌, ◌&&◌, slice_index, IfSome, None, ◌≤◌, ◌<◌, [], length, take, drop, vec_len, IfOk, OnOk, OnErr, IsOkUnless, true, false, ◌+◌};
 ghost use Rattle.std.specs.List.{zip};
 ghost use Rattle.std.specs.Option.{is_some};
 ghost use Rattle.jzon_base.specs.PairList.{find, put_each};

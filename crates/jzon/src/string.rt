@@ -1,7 +1,6 @@
 //! Reads strings (RFC 8259, section 7; docs/RULES.md, "Strings").
 
-ghost use Rattle.std.specs.Prelude.{◌≡◌, ◌<◌, ◌≤◌, ◌+◌, ◌-◌, ◌++◌, ◌&&◌, ◌⊎◌, ◌↔◌, Contains, ℕ, List, [], length};
-ghost use Rattle.std.specs.Prelude.{drop, take, chars, IsTrue, IfOk, IsOk, IsOkUnless, SomeIff, MatchResult, OnOk, OnErr};
+ghost use Rattle.std.specs.Prelude.{◌≡◌, ◌<◌, ◌≤◌, ◌+◌, ◌-◌, ◌++◌, ◌&&◌, ◌⊎◌, ◌↔◌, Contains, ℕ, List, [], length, drop, take, chars, IsTrue, IfOk, IsOk, IsOkUnless, SomeIff, MatchResult, OnOk, OnErr};
 ghost use Rattle.std.specs.Prelude.{slice_index, slice_range, string_bytes, if◌then◌else◌, false};
 ghost use Rattle.std.specs.Str.{IsCharBoundary};
 ghost use Rattle.jzon_base.specs.declared.error.Error.TheVariants.{OutOfMemory};
@@ -13,8 +12,7 @@ ghost use Rattle.jzon.specs.Reading.{Reading};
 ghost use Rattle.jzon.specs.Grammar.{is_high, is_low, is_surrogate, code_unit};
 ghost use Rattle.jzon.specs.Meaning.{pair_char};
 ghost use Rattle.jzon.specs.Private.Quote.{EndsAtQuote, ReadsCharacter};
-ghost use Rattle.jzon.specs.Private.Machine.{Role, string, between, slash, code, second, second_code, after_unit, move_pair};
-ghost use Rattle.jzon.specs.Private.Machine.{outcome_on, from, from_closed, Reports};
+ghost use Rattle.jzon.specs.Private.Machine.{Role, string, between, slash, code, second, second_code, after_unit, move_pair, outcome_on, from, from_closed, Reports};
 
 use crate::bytes_at::{byte_at, has_byte};
 use crate::fault::fault_at;

@@ -1,10 +1,8 @@
 -- The tokens of arrays and objects, by the offset of the parser's cursor.
-use Rattle.std.proofs.Common.{◌≡◌, ◌≢◌, ◌∙◌, ℕ, ◌+◌, ◌<◌, ◌≤◌, ◌&&◌, false, List, [], length, drop, get_or, refl, arith, None}
+use Rattle.std.proofs.Common.{◌≡◌, ◌≢◌, ◌∙◌, ℕ, ◌+◌, ◌<◌, ◌≤◌, List, [], length, drop, get_or, refl, arith, None}
 use Rattle.std.proofs.Common.{Some, sym, ap, true, lit<}
 use Rattle.std.specs.Prelude.{chars}
-use Rattle.std.specs.Option.{is_some}
 use Rattle.std.proofs.lemmas.Bool.{le-leb}
-use Rattle.jzon_base.specs.PairList.{find}
 use Rattle.jzon_base.specs.declared.error.Error.TheVariants.{UnexpectedEndOfJson, ExceededDepthLimit}
 use Rattle.jzon_tree.specs.Value.{Value, array, no_values, object, no_pairs}
 use Rattle.jzon.specs.Private.Brackets.{opener, closer, empty_container, innermost_bracket, after_opener, after_comma}
@@ -23,9 +21,8 @@ use Rattle.jzon.specs.declared.cursor.Cursor.{Cursor}
 use Rattle.jzon.proofs.Containers.ContainerSteps.{deep_element, deep_key, no_element, no_entry, open_key, no_key}
 use Rattle.jzon.proofs.Containers.ContainerSteps.{no_colon}
 use Rattle.jzon.proofs.Texts.ClassesOfCharacters.{char_of, class-char}
-use Rattle.jzon.proofs.Texts.Cursors.{Reached, ReadTo, read_to_here, utf8_of, token_goes}
+use Rattle.jzon.proofs.Texts.Cursors.{ReadTo, read_to_here, utf8_of, token_goes}
 use Rattle.jzon.proofs.Containers.FrameViews.{byte_within}
-use Rattle.jzon.proofs.Strings.Quotes.{key_goes}
 use Rattle.jzon.proofs.Texts.StepsByByte.{from_step, from_stop}
 use Rattle.jzon.proofs.Texts.ReportedErrors.{reported_deep, reported_end}
 

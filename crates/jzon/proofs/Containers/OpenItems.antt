@@ -9,7 +9,7 @@ use Rattle.jzon_tree.specs.View.{view, viewed}
 use Rattle.jzon_tree.specs.declared.value.JsonValue.{JsonValue}
 use Rattle.jzon.specs.Private.Brackets.{innermost_bracket, after_opener, after_comma, after_closer}
 use Rattle.jzon.specs.Private.Cursor.{left, IsAfter, GoesOn}
-use Rattle.jzon.specs.Private.Machine.{State, no_frames, before, before_key, after_value, object_frame, frames_depth}
+use Rattle.jzon.specs.Private.Machine.{State, no_frames, before_key, after_value, object_frame, frames_depth}
 use Rattle.jzon.specs.Private.Machine.{value_mark, key_mark}
 use Rattle.jzon.specs.Private.OpenContainers.{Container, OpenContainers, entries_so_far, open_as, frames_in}
 use Rattle.jzon.specs.Private.OpenContainers.{frames_around, frames_here, whole, before_item_as, before_item, IsEven}

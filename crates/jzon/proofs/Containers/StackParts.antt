@@ -9,9 +9,9 @@ use Rattle.std.specs.List.{list_any, position, position_or_len, zip}
 use Rattle.std.specs.Option.{is_some}
 use Rattle.std.specs.Str.{bytes_eq}
 use Rattle.jzon_base.specs.PairList.{find, put_each}
-use Rattle.jzon_base.specs.Private.Handed.{IsTable, entries_of}
+use Rattle.jzon_base.specs.Private.Handed.{IsTable}
 use Rattle.jzon_base.proofs.KnownKeys.{known-put_each}
-use Rattle.jzon_base.proofs.Tables.{IsTable-none, IsIndexed-empty}
+use Rattle.jzon_base.proofs.Tables.{IsTable-none}
 use Rattle.jzon_tree.specs.declared.value.JsonValue.{JsonValue}
 use Rattle.jzon_tree.specs.View.{view, viewed}
 use Rattle.jzon_tree.proofs.Views.{find-viewed}

@@ -1,20 +1,19 @@
 -- One move of the automaton, by the byte at an offset of a text: it goes on, stops, reports a depth limit, or the text
 -- ends.
 use Rattle.std.proofs.Common.{◌≡◌, ◌⊎◌, inl, inr, ℕ, suc, ◌+◌, ◌<◌, ◌≤◌, List, [], ◌∷◌, length, drop, get_or, refl, sym}
-use Rattle.std.proofs.Common.{ap, subst, ◌∙◌, arith, drop-cons, add-one, None, Result}
-use Rattle.std.specs.Prelude.{chars, IsUtf8, encode_utf8, encode_utf8_all, ◌++◌, IsTrue, MatchResult}
+use Rattle.std.proofs.Common.{ap, subst, ◌∙◌, arith, drop-cons, add-one, None}
+use Rattle.std.specs.Prelude.{chars, IsUtf8, encode_utf8, encode_utf8_all, ◌++◌, IsTrue}
 use Rattle.std.specs.Char.{is_ascii_digit}
 use Rattle.std.specs.Str.{IsCharBoundary}
 use Rattle.std.proofs.lemmas.Bool.{cases_lt}
 use Rattle.std.proofs.lemmas.Bool.Decides.{nat_tests}
 use Rattle.std.proofs.lemmas.List.{length-drop, get_or-drop, nil_from_length}
 use Rattle.std.proofs.lemmas.Str.{IsUtf8-drop, chars-nil, encodes-chars, byte_from_char}
-use Rattle.jzon_base.specs.declared.error.Error.{Error}
 use Rattle.jzon.specs.Reading.{Reading}
 use Rattle.jzon.specs.Spelling.{deep}
 use Rattle.jzon.specs.Fault.{Fault, limit}
 use Rattle.jzon.specs.Private.Machine.{State, Move, go, bad, move, last, outcome, outcome_on, from, left_at, fault_here}
-use Rattle.jzon.specs.Private.Machine.{Outcome, refused, Reports}
+use Rattle.jzon.specs.Private.Machine.{Outcome, refused}
 use Rattle.jzon.proofs.Texts.AsciiRuns.{chars-ascii}
 
 pub digit_is_ascii : (c : ℕ) → IsTrue (is_ascii_digit c) → c < 128
