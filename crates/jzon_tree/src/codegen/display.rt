@@ -1,19 +1,16 @@
 //! `Display` of a value (docs/RULES.md, "Layouts"). It writes to the formatter as it goes, and
 //! allocates nothing.
 
-ghost use Rattle.std.specs.Prelude.{◌≡◌, Some, false};
+ghost use Rattle.std.specs.Prelude.{Some};
 ghost use Rattle.std.specs.Fmt.{WritesOnOk};
-ghost use Rattle.jzon_base.specs.NumberText.{written_text};
-ghost use Rattle.jzon_base.specs.Private.PlainBytes.{is_plain};
-ghost use Rattle.jzon_tree.specs.Displayed.{comma_text, displayed, member_text};
-ghost use Rattle.jzon_tree.specs.Text.{compact, escaped_byte, quoted};
+ghost use Rattle.jzon_tree.specs.Displayed.{comma_text, displayed};
+ghost use Rattle.jzon_tree.specs.Text.{compact, quoted};
 ghost use Rattle.jzon_tree.specs.Value.{array};
 ghost use Rattle.jzon_tree.specs.View.{view, view_object, view_values};
 
 use crate::codegen::strings::{ESCAPE_MAX_LEN, put_escape};
 use crate::object::Object;
 use crate::value::JsonValue;
-use jzon_base::number::Number;
 use jzon_base::util::plain::plain_len;
 use std::{fmt, str};
 
@@ -41,7 +38,8 @@ fn show<W: fmt::Write>(value: &JsonValue, f: &mut fmt::Formatter<W>) -> fmt::Res
         JsonValue::Null => f.write_str("null"),
         JsonValue::Short(text) => show_text(text.as_str(), f),
         JsonValue::String(text) => show_text(text.as_str(), f),
-        JsonValue::Number(number) => show_number(number, f),
+        JsonValue::Number(number) if number.is_nan() => f.write_str("null"),
+        JsonValue::Number(number) => fmt::Display::fmt(number, f),
         JsonValue::Boolean(true) => f.write_str("true"),
         JsonValue::Boolean(false) => f.write_str("false"),
         JsonValue::Object(object) => show_object(object, f),
@@ -70,23 +68,11 @@ fn show_object<W: fmt::Write>(object: &Object, f: &mut fmt::Formatter<W>) -> fmt
     for index in 0..object.len() {
         let (key, value) = object.pairs.get_at(index);
         show_comma(index > 0, f)?;
-        show_member(key, value, f)?;
+        show_text(key, f)?;
+        f.write_str(":")?;
+        show(value, f)?;
     }
     f.write_str("}")
-}
-
-#[cycle(show)]
-fn show_member<W: fmt::Write>(
-    key: &str,
-    value: &JsonValue,
-    f: &mut fmt::Formatter<W>,
-) -> fmt::Result
-    ensures { WritesOnOk W.write_str_gives f.old result
-        (member_text (key.now, view value.now)) f.new }
-{
-    show_text(key, f)?;
-    f.write_str(":")?;
-    show(value, f)
 }
 
 /// Shows a comma, unless what follows is the first element or entry.
@@ -97,15 +83,6 @@ fn show_comma<W: fmt::Write>(comma: bool, f: &mut fmt::Formatter<W>) -> fmt::Res
         return f.write_str(",");
     }
     Ok(())
-}
-
-fn show_number<W: fmt::Write>(number: &Number, f: &mut fmt::Formatter<W>) -> fmt::Result
-    ensures { WritesOnOk W.write_str_gives f.old result (written_text number.now) f.new }
-{
-    if number.is_nan() {
-        return f.write_str("null");
-    }
-    fmt::Display::fmt(number, f)
 }
 
 /// Shows the string in quotes, escaped. Runs of bytes that need no escape are shown whole.
@@ -120,7 +97,9 @@ fn show_text<W: fmt::Write>(text: &str, f: &mut fmt::Formatter<W>) -> fmt::Resul
         let Some((byte, others)) = others.split_first() else {
             break;
         };
-        show_escape(*byte, f)?;
+        let mut room = [0; ESCAPE_MAX_LEN];
+        let at = put_escape(&mut room, *byte);
+        show_bytes(&room[at..], f)?;
         rest = others;
     }
     f.write_str("\"")
@@ -134,14 +113,4 @@ fn show_bytes<W: fmt::Write>(bytes: &[u8], f: &mut fmt::Formatter<W>) -> fmt::Re
         Ok(text) => f.write_str(text),
         Err(_) => Err(fmt::Error),
     }
-}
-
-/// Shows the escape of a byte that needs one.
-fn show_escape<W: fmt::Write>(byte: u8, f: &mut fmt::Formatter<W>) -> fmt::Result
-    requires { is_plain byte ≡ false }
-    ensures { WritesOnOk W.write_str_gives f.old result (escaped_byte byte) f.new }
-{
-    let mut room = [0; ESCAPE_MAX_LEN];
-    let at = put_escape(&mut room, byte);
-    show_bytes(&room[at..], f)
 }

@@ -41,8 +41,8 @@ show_object-loop-index-init g t c = λ plain. (
       (entries_of c.args.object.now),
 )
 
-pub show_object-show_member-requires : goal.show_object-show_member-requires
-show_object-show_member-requires g t c κs within =
+pub show_object-show-requires : goal.show_object-show-requires
+show_object-show-requires g t c κs within =
     let larger = most-at (entries_of c.args.object.now) c.loop-index.index c.get_at.result.0.now c.get_at.result.1.now
     c.get_at.ensures in
     (search (rules, larger, the_lemmas), within)
@@ -53,10 +53,13 @@ show_object-loop-index-preserved g t c = λ plain.
     let entry : List ℕ × JsonValue = (c.get_at.result.0.now, c.get_at.result.1.now) in
     let so_far = c.loop-index.invariant plain in
     let comma = c.in_ok-show_comma.ensures so_far.1.plain refl in
-    let member = c.in_ok-show_member.ensures comma.plain refl in
+    let key = c.in_ok-show_text.ensures comma.plain refl in
+    let colon = c.in_ok-write_str-2.ensures.writes key.plain refl in
+    let value = c.in_ok-show.ensures colon.plain refl in
     let took = g.W.Write.write_str_gives in (
       _,
-      has_written_append took _ _ _ _ _ (has_written_append took _ _ _ _ _ so_far.1 comma) member,
+      has_written_append took _ _ _ _ _ (has_written_append took _ _ _ _ _ so_far.1 comma)
+          (has_written_append took _ _ _ _ _ key (has_written_append took _ _ _ _ _ colon value)),
       item_shown entry_text 123 125 entries c.loop-index.index entry
           (slice_get_within entries c.loop-index.index entry c.get_at.ensures)
           (sym (get_or_from_slice_get entries c.loop-index.index entry entry c.get_at.ensures)) so_far.0 so_far.2,

@@ -1,7 +1,7 @@
 use Rattle.std.proofs.Common.{[], ◌∷◌, ◌∙◌, sym, refl, ap, List, ℕ}
 use Rattle.std.proofs.Output.{has_written_append, has_written_of_eq}
 use Rattle.std.proofs.lemmas.List.Sums.{prefix_len-le-length}
-use Rattle.std.proofs.lemmas.List.{nil_from_length}
+use Rattle.std.proofs.lemmas.List.{nil_from_length, take_rest}
 use Rattle.jzon_base.specs.Private.PlainBytes.{is_plain}
 use Rattle.jzon_tree.specs.Text.{escaped}
 use Rattle.jzon_tree.proofs.SentStrings.{needs_escape}
@@ -19,15 +19,17 @@ loop-byte-init g c = λ plain. (
       c.as_bytes-rest.ensures.value,
 )
 
-pub show_escape-requires : goal.show_escape-requires
-show_escape-requires g c = needs_escape c.loop-byte.rest.now c.in-Some.others.now _ _ c.plain_len.ensures
+pub put_escape-at-requires : goal.put_escape-at-requires
+put_escape-at-requires g c = needs_escape c.loop-byte.rest.now c.in-Some.others.now _ _ c.plain_len.ensures
     (sym c.split_at.ensures.back ∙ c.in-Some.ensures.cases.0)
 
 pub loop-byte-preserved : goal.loop-byte-preserved
 loop-byte-preserved g c = λ plain.
     let so_far = c.loop-byte.invariant plain in
     let run = c.in_ok-show_bytes.ensures so_far.1.plain refl in
-    let escape = c.in_ok-show_escape.ensures run.plain refl in
+    let same = rw c.put_escape-at.array_long at
+    (take_rest c.put_escape-at.new.room c.put_escape-at.result ∙ c.put_escape-at.ensures.text) in
+    let escape = (rw same at c.in_ok-show_bytes-2.ensures) run.plain refl in
     let took = g.W.Write.write_str_gives in (
       _,
       has_written_append took _ _ _ _ _ (has_written_append took _ _ _ _ _ so_far.1 run) escape,
