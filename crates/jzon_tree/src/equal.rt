@@ -1,11 +1,11 @@
 //! Equality of values and of objects (docs/RULES.md, "Equality").
 
-ghost use Rattle.std.specs.Prelude.{◌≡◌, Some, option_map};
+ghost use Rattle.std.specs.Prelude.{◌≡◌, Some};
 ghost use Rattle.std.specs.Option.{option_copied};
 ghost use Rattle.std.specs.Cmp.{on_equiv, on_per, partial_equiv_from_equiv};
 ghost use Rattle.jzon_base.specs.PairList.{find};
 ghost use Rattle.jzon_tree.specs.Entries.{entries_of};
-ghost use Rattle.jzon_tree.specs.Same.{same, same_items, passes};
+ghost use Rattle.jzon_tree.specs.Same.{same, same_items};
 ghost use Rattle.jzon_tree.specs.SameLaws.{same_equiv};
 ghost use Rattle.jzon_tree.specs.View.{view, view_object, view_values};
 
@@ -57,7 +57,10 @@ impl PartialEq for Object {
             return false;
         }
         for ((key, value), entry) in self.iter().zip(other) {
-            if !same_found(value, find_from(other, key, entry)) {
+            let Some(found) = find_from(other, key, entry) else {
+                return false;
+            };
+            if !value.eq(found) {
                 return false;
             }
         }
@@ -84,17 +87,6 @@ fn same_array(items: &[JsonValue], others: &[JsonValue]) -> bool
         }
     }
     true
-}
-
-/// Whether a value was found, and equals `value`.
-#[cycle(same)]
-fn same_found(value: &JsonValue, found: Option<&JsonValue>) -> bool
-    ensures { result ≡ passes (same (view value.now)) (option_map (λ w. view w.now) found.entry) }
-{
-    match found {
-        Some(other) => value.eq(other),
-        None => false,
-    }
 }
 
 /// The value of the key. Equal objects mostly have their keys in the same order, so the entry at

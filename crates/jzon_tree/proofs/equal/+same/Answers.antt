@@ -1,4 +1,4 @@
-use Rattle.std.proofs.Common.{◌∙◌, ℕ, List, length, inl, inr, sym, ap, arith}
+use Rattle.std.proofs.Common.{◌∙◌, ℕ, List, length, inl, inr, refl, sym, ap, arith}
 use Rattle.std.specs.Iterator.Adapters.{zip_first, zip_second}
 use Rattle.jzon_base.specs.PairList.{find}
 use Rattle.jzon_tree.specs.Entries.{entries_of}
@@ -24,14 +24,23 @@ ObjectPartialEq::eq-find_from-requires t c =
     next_found (entries_of c.args.other.now) (zip_second c.loop-key.key-iterator) (zip_second c.next.new.self) _ _
     c.loop-key.invariant.1 c.in-Some.ensures.steps.1
 
-pub ObjectPartialEq::eq-returns-then-not-same_found : goal.ObjectPartialEq::eq-returns-then-not-same_found
-ObjectPartialEq::eq-returns-then-not-same_found t c =
+pub ObjectPartialEq::eq-returns-in_default : goal.ObjectPartialEq::eq-returns-in_default
+ObjectPartialEq::eq-returns-in_default t c =
     let others = entries_of c.args.other.now in
     let found = ap (passes (same (view c.in-Some.value.now)))
     (view_found c.find_from.result (find c.in-Some.key.now others) c.find_from.ensures) in
     sym (value_differs (entries_of c.args.self.now) others (zip_first c.loop-key.key-iterator)
     (zip_first c.next.new.self) _ _ c.loop-key.invariant.0 c.in-Some.ensures.steps.0
-    (sym found ∙ sym c.if-not-same_found.ensures))
+    (sym found ∙ rw c.in_default.is refl))
+
+pub ObjectPartialEq::eq-returns-then-not-eq : goal.ObjectPartialEq::eq-returns-then-not-eq
+ObjectPartialEq::eq-returns-then-not-eq t c =
+    let others = entries_of c.args.other.now in
+    let found = ap (passes (same (view c.in-Some.value.now)))
+    (view_found c.find_from.result (find c.in-Some.key.now others) c.find_from.ensures) in
+    sym (value_differs (entries_of c.args.self.now) others (zip_first c.loop-key.key-iterator)
+    (zip_first c.next.new.self) _ _ c.loop-key.invariant.0 c.in-Some.ensures.steps.0
+    (sym found ∙ rw c.in-Some-find_from.is (sym c.if-not-eq.ensures)))
 
 pub ObjectPartialEq::eq-loop-key-preserved : goal.ObjectPartialEq::eq-loop-key-preserved
 ObjectPartialEq::eq-loop-key-preserved t c =
@@ -43,7 +52,7 @@ ObjectPartialEq::eq-loop-key-preserved t c =
     let counted = ap (λ (xs : List (List ℕ × JsonValue)). length xs) first in
     let beside = ap (λ (xs : List (List ℕ × JsonValue)). length xs) second in (
       compared_next (entries_of c.args.self.now) others (zip_first c.loop-key.key-iterator)
-          (zip_first c.next.new.self) _ _ c.loop-key.invariant.0 first (sym found ∙ sym c.if-not-same_found.ensures),
+          (zip_first c.next.new.self) _ _ c.loop-key.invariant.0 first (sym found ∙ rw c.in-Some-find_from.is (sym c.if-not-eq.ensures)),
       left_next others (zip_second c.loop-key.key-iterator) (zip_second c.next.new.self) _ _
           c.loop-key.invariant.1 second,
       omega (arith, counted, beside),
