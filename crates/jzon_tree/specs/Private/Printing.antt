@@ -1,6 +1,8 @@
 -- The parts of a written value, as the functions that write values add them.
-use Rattle.std.specs.Prelude.{◌≡◌, ℕ, ◌<◌, Bool, true, false, IsTrue, List, [], ◌∷◌, ◌++◌, length, map, MatchResult}
-use Rattle.std.specs.Prelude.{Result, slice_index_or}
+use Rattle.std.specs.Prelude.{◌≡◌, ℕ, ◌+◌, ◌<◌, ◌≤◌, Bool, true, false, IsTrue, List, [], ◌∷◌, ◌++◌, length, map, take}
+use Rattle.std.specs.Prelude.{MatchResult, Result, slice_index_or}
+use Rattle.std.specs.List.{prefix_len}
+use Rattle.jzon_base.specs.Private.PlainBytes.{is_plain}
 use Rattle.jzon_tree.specs.Displayed.{comma_text}
 use Rattle.jzon_tree.specs.Generator.{Emitted, Added, Stopped}
 use Rattle.jzon_tree.specs.Lawful.{IsValue}
@@ -49,3 +51,12 @@ PrintsIf K P old new r = MatchResult r (λ _. Added P old new) (λ _. K → Stop
 -- the same of a value, where the prefix is promised only if the value is valid
 abbrev pub PrintsValue : {E : Type 0} → Value → Emitted → Emitted → Result (Unit {0}) E → Type 0
 PrintsValue v old new r = PrintsIf (IsValue v) (Writes old.style old.dent v) old new r
+
+-- a string that needs no escape was put at this offset, and the byte after it is as before; or all bytes are
+pub record PutsPlain (offset : ℕ) (string old new : List ℕ) (done : Bool) : Type 0 where
+  pub plain : IsTrue done → length string ≤ prefix_len is_plain string
+  pub text : IsTrue done → take (offset + length string) new ≡ take offset old ++ string
+  pub next : IsTrue done
+      → slice_index_or new (offset + length string) 0 ≡ slice_index_or old (offset + length string) 0
+  pub left : done ≡ false → new ≡ old
+  pub len : length new ≡ length old

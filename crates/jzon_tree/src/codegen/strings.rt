@@ -1,9 +1,9 @@
 //! Strings and their escapes (docs/RULES.md, "Printed values").
 
-ghost use Rattle.std.specs.Prelude.{◌≡◌, ◌+◌, ◌≤◌, ◌++◌, ◌∷◌, [], false, length, take, drop, OnErr, IsSome, IfOk, IsTrue, slice_index_or};
-ghost use Rattle.std.specs.List.{prefix_len};
+ghost use Rattle.std.specs.Prelude.{◌≡◌, ◌+◌, ◌≤◌, ◌++◌, ◌∷◌, [], false, length, drop, OnErr, IsSome, IfOk, IsTrue};
 ghost use Rattle.jzon_base.specs.Private.PlainBytes.{is_plain};
 ghost use Rattle.jzon_tree.specs.Generator.{Sends, Just};
+ghost use Rattle.jzon_tree.specs.Private.Printing.{PutsPlain};
 ghost use Rattle.jzon_tree.specs.Text.{escaped, escaped_byte, quoted};
 
 use crate::codegen::error_slot::{ErrorSlot, SlotResult, send};
@@ -79,13 +79,7 @@ pub fn push_short(bytes: &mut Vec<u8>, string: &[u8]) -> bool
 fn put_if_plain(bytes: &mut [u8], offset: usize, string: &[u8]) -> bool
     requires few { length string.now ≤ BY_ENDS_MAX_LEN }
     requires within { offset + length string.now ≤ length bytes.old }
-    ensures plain { IsTrue result → length string.now ≤ prefix_len is_plain string.now }
-    ensures text { IsTrue result → take (offset + length string.now) bytes.new
-        ≡ take offset bytes.old ++ string.now }
-    ensures next { IsTrue result → slice_index_or bytes.new (offset + length string.now) 0
-        ≡ slice_index_or bytes.old (offset + length string.now) 0 }
-    ensures left { result ≡ false → bytes.new ≡ bytes.old }
-    ensures len { length bytes.new ≡ length bytes.old }
+    ensures { PutsPlain offset string.now bytes.old bytes.new result }
 {
     match string.len() {
         0 => true,
@@ -104,13 +98,7 @@ fn put_plain_ends<const N: usize>(bytes: &mut [u8], offset: usize, string: &[u8]
     requires few { N ≤ length string.now }
     requires covered { length string.now ≤ N + N }
     requires within { offset + length string.now ≤ length bytes.old }
-    ensures plain { IsTrue result → length string.now ≤ prefix_len is_plain string.now }
-    ensures text { IsTrue result → take (offset + length string.now) bytes.new
-        ≡ take offset bytes.old ++ string.now }
-    ensures next { IsTrue result → slice_index_or bytes.new (offset + length string.now) 0
-        ≡ slice_index_or bytes.old (offset + length string.now) 0 }
-    ensures left { result ≡ false → bytes.new ≡ bytes.old }
-    ensures len { length bytes.new ≡ length bytes.old }
+    ensures { PutsPlain offset string.now bytes.old bytes.new result }
 {
     if !is_plain_by_ends::<N>(string) {
         return false;
