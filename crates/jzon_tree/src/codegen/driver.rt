@@ -10,7 +10,7 @@ ghost use Rattle.jzon_tree.specs.Value.{array};
 ghost use Rattle.jzon_tree.specs.View.{view, view_object, view_values, view_pairs, viewed};
 ghost use Rattle.jzon_tree.specs.Writing.{Writes};
 
-use crate::codegen::error_slot::{ErrorSlot, SlotResult, store, take_error};
+use crate::codegen::error_slot::{ErrorSlot, SlotResult, store};
 use crate::codegen::generator::Generator;
 use crate::object::Object;
 use crate::value::JsonValue;
@@ -41,7 +41,7 @@ pub fn write_json<G: Generator>(g: &mut G, json: &JsonValue) -> io::Result<()>
         Err(_) => {
             // Both clauses speak of the whole value, also of the parts that weren't written.
             let _found = inspect(json);
-            Err(take_error(slot))
+            Err(slot.unwrap())
         }
     }
 }
@@ -59,7 +59,7 @@ pub fn write_object<G: Generator>(g: &mut G, object: &Object) -> io::Result<()>
         Err(_) => {
             // As in `write_json`.
             let _found = inspect_object(object);
-            Err(take_error(slot))
+            Err(slot.unwrap())
         }
     }
 }

@@ -43,19 +43,7 @@ pub(super) fn take_result(step: SlotResult<()>, slot: ErrorSlot) -> io::Result<(
 {
     match step {
         Ok(()) => Ok(()),
-        Err(Failed) => Err(take_error(slot)),
-    }
-}
-
-/// The stored error.
-#[cold]
-pub(super) fn take_error(slot: ErrorSlot) -> io::Error
-    requires { IsSome slot }
-    ensures { slot ≡ Some result }
-{
-    match slot {
-        Some(error) => error,
-        None => unreachable!(),
+        Err(Failed) => Err(slot.unwrap()),
     }
 }
 
