@@ -42,9 +42,8 @@ impl Object {
         ensures memory { IsOkUnless result Error.OutOfMemory }
     {
         let values = copy_items(alloc, self.pairs.values())?;
-        Ok(Object {
-            pairs: self.pairs.with_values(alloc, values)?,
-        })
+        let pairs = self.pairs.with_values(alloc, values)?;
+        Ok(Object { pairs })
     }
 }
 

@@ -40,10 +40,9 @@ impl JsonValue {
             self.old) }
         ensures value { option_copied_mut result ≡ object_in self.old }
     {
-        if let JsonValue::Object(object) = self {
-            Some(object)
-        } else {
-            None
+        match self {
+            JsonValue::Object(object) => Some(object),
+            _ => None,
         }
     }
 
@@ -53,10 +52,9 @@ impl JsonValue {
             (vec_row the_row) self.entry result array_value self.old) }
         ensures value { option_map (λ items. items.now.items) result ≡ items_in self.old }
     {
-        if let JsonValue::Array(items) = self {
-            Some(items)
-        } else {
-            None
+        match self {
+            JsonValue::Array(items) => Some(items),
+            _ => None,
         }
     }
 

@@ -79,9 +79,8 @@ impl Object {
     pub fn new(alloc: Global) -> Object
         ensures { entries_of result ≡ [] }
     {
-        Object {
-            pairs: Pairs::new(alloc),
-        }
+        let pairs = Pairs::new(alloc);
+        Object { pairs }
     }
 
     /// An object without entries, with room for about `capacity` of them; how much isn't promised.
@@ -90,9 +89,8 @@ impl Object {
         ensures empty { IfOk result (λ object. entries_of object ≡ []) }
         ensures memory { IsOkUnless result Error.OutOfMemory }
     {
-        Ok(Object {
-            pairs: Pairs::with_capacity(alloc, capacity)?,
-        })
+        let pairs = Pairs::with_capacity(alloc, capacity)?;
+        Ok(Object { pairs })
     }
 
     /// The object of these pairs, put one after the other: a later pair of a key replaces that
@@ -130,9 +128,8 @@ impl Object {
             ≡ put_each (zip keys.items values.items)) }
         ensures memory { IsOkUnless result Error.OutOfMemory }
     {
-        Ok(Object {
-            pairs: Pairs::from_entries(alloc, keys, values)?,
-        })
+        let pairs = Pairs::from_entries(alloc, keys, values)?;
+        Ok(Object { pairs })
     }
 
     /// The object of the builder's entries. Fails with `OutOfMemory` only.
@@ -140,9 +137,8 @@ impl Object {
         ensures pairs { IfOk result (λ object. entries_of object ≡ builder) }
         ensures memory { IsOkUnless result Error.OutOfMemory }
     {
-        Ok(Object {
-            pairs: builder.finish(alloc)?,
-        })
+        let pairs = builder.finish(alloc)?;
+        Ok(Object { pairs })
     }
 
     /// The number of entries.

@@ -9,10 +9,8 @@ ghost use Rattle.std.specs.Slice.Iter.{iter_rest};
 ghost use Rattle.jzon_base.specs.Decimal.{integer_parts, SomeWhere};
 ghost use Rattle.jzon_base.specs.PairList.{find};
 ghost use Rattle.jzon_tree.specs.Place.{shown, seen};
-ghost use Rattle.jzon_tree.specs.Readers.{is_null, is_boolean, is_number, is_text, is_object, is_array, is_empty};
-ghost use Rattle.jzon_tree.specs.Readers.{truth_in, number_in, integer_in, unsigned_in, fixed_point_in};
-ghost use Rattle.jzon_tree.specs.Readers.{unsigned_fixed_point_in, text_in, object_of, array_of, items, entries, count};
-ghost use Rattle.jzon_tree.specs.Readers.{exact_fixed_point_in, exact_unsigned_fixed_point_in};
+ghost use Rattle.jzon_tree.specs.Readers.{is_null, is_boolean, is_number, is_text, is_object, is_array, is_empty, truth_in, number_in, integer_in, unsigned_in, fixed_point_in};
+ghost use Rattle.jzon_tree.specs.Readers.{unsigned_fixed_point_in, text_in, object_of, array_of, items, entries, count, exact_fixed_point_in, exact_unsigned_fixed_point_in};
 ghost use Rattle.jzon_tree.specs.Same.{same};
 ghost use Rattle.jzon_tree.specs.Value.{array, boolean, number, short, text};
 ghost use Rattle.jzon_tree.specs.View.{view, view_object, view_values, viewed};
@@ -47,9 +45,8 @@ impl JsonValue {
     pub fn at(&self, key: &str) -> View<'_>
         ensures { shown result ≡ find key.now (entries (view self.now)) }
     {
-        View {
-            value: self.get(key),
-        }
+        let value = self.get(key);
+        View { value }
     }
 
     /// The element at a position of an array. Missing past the end, and for any other value.
@@ -70,9 +67,8 @@ impl Object {
     pub fn at(&self, key: &str) -> View<'_>
         ensures { shown result ≡ find key.now (viewed (entries_of self.now)) }
     {
-        View {
-            value: self.get(key),
-        }
+        let value = self.get(key);
+        View { value }
     }
 }
 

@@ -1,13 +1,11 @@
 //! A buffered writer whose contract says that its writer stays the same.
 
-ghost use Rattle.std.specs.Prelude.{◌≡◌, ℕ, ◌+◌, ◌≤◌, [], length, take, vec_len, vec_capacity, MatchOption, OnOk};
-ghost use Rattle.std.specs.Prelude.{IfNone, IfSome, IsSome};
+ghost use Rattle.std.specs.Prelude.{◌≡◌, ℕ, ◌+◌, ◌≤◌, [], length, take, vec_len, vec_capacity, MatchOption, OnOk, IfNone, IfSome, IsSome};
 ghost use Rattle.std.specs.Io.KnownBytes.{Appends, Keeps};
 
 use jzon::codegen::{Outlet, push_digits, push_line, push_short};
 use jzon::number::Number;
-use std::io;
-use std::io::{ErrorKind, Write};
+use std::io::{self, ErrorKind, Write};
 use std::marker::{Brand, PhantomData};
 
 /// A number that only proofs use: how many bytes the writer had before the buffer was made.

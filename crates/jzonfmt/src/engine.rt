@@ -1,13 +1,11 @@
 //! What the program does, over any reader and any writers (docs/RULES.md, "The program jzonfmt").
 
-ghost use Rattle.std.specs.Prelude.{◌≡◌, ℕ, List, [], IfOk, IfErr, OnOk, map, option_map, string_bytes};
-ghost use Rattle.std.specs.Prelude.{vec_len};
+ghost use Rattle.std.specs.Prelude.{◌≡◌, ℕ, List, [], IfOk, IfErr, OnOk, map, option_map, string_bytes, vec_len};
 ghost use Rattle.std.specs.Io.KnownBytes.{Consumes, Keeps};
 ghost use Rattle.jzon.specs.View.{view};
 ghost use Rattle.jzonfmt.specs.Buffered.{count, held, left};
 ghost use Rattle.jzonfmt.specs.Run.{Answers, IsReadFault, Reads, Runs, WritesWhole, line, text};
-ghost use Rattle.jzonfmt.specs.Drive.{Drives, asked_layout, asked_options, asked_spaces, asking};
-ghost use Rattle.jzonfmt.specs.Drive.{fault_status};
+ghost use Rattle.jzonfmt.specs.Drive.{Drives, asked_layout, asked_options, asked_spaces, asking, fault_status};
 
 use crate::buffered::{Buffered, Start};
 use jzon::codegen::{Compact, Outlet, Pretty};

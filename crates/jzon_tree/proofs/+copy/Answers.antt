@@ -8,6 +8,6 @@ use Rattle.jzon_tree.proofs.+copy.Goals as goal
 pub object::Object::clone-returns-clause-copy : goal.object::Object::clone-returns-clause-copy
 object::Object::clone-returns-clause-copy t c =
     let pairs = entries_of c.args.self.now in
-    rw c.in_ok-with_values.ensures
+    rw c.in_ok-pairs.ensures
     (ap object (view_pairs-zip pairs c.in_ok-values.values.items
     (c.in_ok-values.ensures.copy ∙ ap (map view) c.values.ensures)))

@@ -8,8 +8,7 @@
 //! `row`. `LendsIf` and `LendsIfOk` say this of `Some` and of `Ok`. Their last argument is what the
 //! tree is at `None` or at `Err`. `LendsSoOk` has relations in place of `after` and of this value.
 
-ghost use Rattle.std.specs.Prelude.{◌≡◌, ◌≤◌, ◌<◌, List, ℕ, [], length, slice_get, slice_set, IfOk, IfSome, OnOk};
-ghost use Rattle.std.specs.Prelude.{OnErr, IsOkUnless, IsSome, MatchOption, Option, None, Some};
+ghost use Rattle.std.specs.Prelude.{◌≡◌, ◌≤◌, ◌<◌, List, ℕ, [], length, slice_get, slice_set, IfOk, IfSome, OnOk, OnErr, IsOkUnless, IsSome, MatchOption, Option, None, Some};
 ghost use Rattle.std.specs.Borrow.{sem, Lends, LendsIf, LendsIfOk, LendsSoOk};
 ghost use Rattle.std.specs.Global.{Vec};
 ghost use Rattle.std.specs.Option.{option_copied_mut};

@@ -3,8 +3,7 @@
 ghost use Rattle.std.specs.Prelude.{◌≡◌, ◌<◌, ◌^◌, pos, FitsSigned};
 ghost use Rattle.std.specs.Int.{w8, w16, w32, w64};
 ghost use Rattle.jzon_base.specs.Decimal.{integer_parts, SomeWhere};
-ghost use Rattle.jzon_tree.specs.Readers.{integer_in, unsigned_in, fixed_point_in, unsigned_fixed_point_in};
-ghost use Rattle.jzon_tree.specs.Readers.{exact_fixed_point_in, exact_unsigned_fixed_point_in};
+ghost use Rattle.jzon_tree.specs.Readers.{integer_in, unsigned_in, fixed_point_in, unsigned_fixed_point_in, exact_fixed_point_in, exact_unsigned_fixed_point_in};
 ghost use Rattle.jzon_tree.specs.Same.{same};
 ghost use Rattle.jzon_tree.specs.Value.{number};
 ghost use Rattle.jzon_tree.specs.View.{view};
