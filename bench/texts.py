@@ -28,15 +28,10 @@ def decimal(rng):
 def record(rng, number):
     """An object as one of a list of users."""
     name = rng.choice(WORDS)
-    return {
-        "id": number,
-        "name": f"{name} {number}",
-        "email": f"{name}{number}@example.org",
-        "is_active": number % 3 == 0,
-        "balance": round(rng.uniform(0, 5000), 2),
-        "tags": rng.sample(WORDS, 3),
-        "address": {"street": f"{rng.choice(WORDS)} {number % 97}", "city": rng.choice(WORDS), "zip": str(10000 + number % 89999)},
-    }
+    head = {"id": number, "name": f"{name} {number}", "email": f"{name}{number}@example.org", "is_active": number % 3 == 0}
+    tail = {"balance": round(rng.uniform(0, 5000), 2), "tags": rng.sample(WORDS, 3)}
+    address = {"street": f"{rng.choice(WORDS)} {number % 97}", "city": rng.choice(WORDS), "zip": str(10000 + number % 89999)}
+    return {**head, **tail, "address": address}
 
 
 def message(rng, number):

@@ -33,12 +33,12 @@ static const size_t STEP = (size_t)1 << 40;
 static size_t allocations_left = 0;
 static int has_failed = 0;
 
-/* Blocks allocated less those freed, their bytes now and at most, and bytes requested, since they are counted. */
-static long blocks = 0, held = 0, most_held = 0;
-static size_t requested = 0;
+/* Blocks allocated less those freed, since the program began, and how many these were when counting began. */
+static long left = 0, left_before = 0;
 
-/* Blocks allocated less those freed, since the program began. */
-static long left = 0;
+/* The bytes of such blocks now and at most, and bytes requested, since they are counted. */
+static long held = 0, most_held = 0;
+static size_t requested = 0;
 
 /* What a marked allocation gets. */
 static char granted;
@@ -63,11 +63,12 @@ static int is_granted(size_t kind, size_t n)
         has_failed = 0;
         return !is_failure;
     case 1:
-        blocks = held = most_held = 0;
+        left_before = left;
+        held = most_held = 0;
         requested = 0;
         return 1;
     case 2:
-        return blocks == 0;
+        return left == left_before;
     case 3:
         return requested <= n;
     case 4:
@@ -82,7 +83,6 @@ static void *counted(void *block, size_t size, int is_new)
 {
     if (block == NULL)
         return NULL;
-    blocks += is_new;
     left += is_new;
     held += (long)malloc_usable_size(block);
     most_held = most_held < held ? held : most_held;
@@ -116,7 +116,6 @@ void free(void *block)
 {
     if (block == NULL || block == &granted)
         return;
-    blocks--;
     left--;
     held -= (long)malloc_usable_size(block);
     __libc_free(block);
