@@ -1,6 +1,7 @@
 """What the benches share: options, texts that another process makes, runs of a program with their cost and peak memory, tables, and the builds of our
 programs and of the Rust crate's."""
 import argparse
+import collections
 import os
 import pathlib
 import resource
@@ -60,24 +61,18 @@ def measured(sides, given, repeats=0):
     the set of what the sides printed on standard error. With `repeats`, the number of calls is the command's last word, and the cost of a run without
     calls is subtracted. The least cost of the rounds counts; instructions are counted once. A cost is None if the side failed or has no such call, or
     if its time is lost in that of a run without calls."""
-    least, peaks, said, costs = {}, [None] * len(sides), set(), []
+    runs, costs, peaks, said = collections.defaultdict(list), [], [], set()
     for number in range(1 if given.instructions else given.rounds):
-        for at in sorted(range(len(sides)), reverse=number % 2 == 0):
-            words, path = sides[at]
+        for at, (words, path) in sorted(enumerate(sides), reverse=number % 2 == 0):
             for calls in (repeats, 0) if repeats else (0,):
-                # A side that failed isn't run again.
-                if number and (at, calls) not in least:
-                    continue
                 run = Run([*words, *[str(calls)] * bool(repeats)], path, counts=given.instructions)
-                if run.status == 0:
-                    least[at, calls] = min(run.cost, least.get((at, calls), run.cost))
-                if run.status == 0 and calls == repeats:
-                    peaks[at] = run.peak
-                    said.add(run.said)
+                runs[at, calls] += [run] * (run.status == 0)
     for at in range(len(sides)):
-        full, empty = least.get((at, repeats)), least.get((at, 0), 0) if repeats else 0
-        is_clear = full is not None and full - empty > (0 if given.instructions else full / 50)
-        costs.append((full - empty) / max(1, repeats) if is_clear else None)
+        full, empty = (min((run.cost for run in runs[at, calls]), default=0) for calls in (repeats, 0))
+        cost = full - empty * bool(repeats)
+        costs.append(cost / max(1, repeats) if cost > (0 if given.instructions else full / 50) else None)
+        peaks.append(runs[at, repeats][-1].peak if runs[at, repeats] else None)
+        said.update(run.said for run in runs[at, repeats])
     return costs, peaks, said
 
 

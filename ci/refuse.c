@@ -67,14 +67,10 @@ static int is_granted(size_t kind, size_t n)
         held = most_held = 0;
         requested = 0;
         return 1;
-    case 2:
-        return left == left_before;
-    case 3:
-        return requested <= n;
-    case 4:
-        return held <= (long)n;
-    default:
-        return most_held <= (long)n;
+    case 2: return left == left_before;
+    case 3: return requested <= n;
+    case 4: return held <= (long)n;
+    default: return most_held <= (long)n;
     }
 }
 
