@@ -61,11 +61,6 @@ def polygon(rng, number):
     return [[*ring, ring[0]]]
 
 
-def reading(rng, number):
-    head = {"sensor": f"s{number % 400}", "at": 1700000000 + number, "unit": rng.choice(("C", "hPa", "lx"))}
-    return {**head, "values": [round(rng.uniform(0, 100), 3) for _ in range(6)]}
-
-
 # For each name of a text: what docs/MEASURED.md calls it, and what makes an element of it, as a value.
 VALUES = {
     "integers": ("integers", lambda rng, number: rng.randrange(10 ** rng.randint(1, 18)) * rng.choice((1, -1))),
@@ -79,7 +74,10 @@ VALUES = {
     "polygons": ("polygons of coordinates", polygon),
     "rows": ("rows of 100 small integers", lambda rng, number: [rng.randrange(1000) for _ in range(100)]),
     "articles": ("articles of long strings", lambda rng, number: {"title": phrase(rng, 4, 9), "text": phrase(rng, 300, 900)}),
-    "readings": ("readings of sensors, objects of 4 keys and arrays of 6 decimals", reading),
+    "readings": ("readings of sensors, objects of 4 keys and arrays of 6 decimals", lambda rng, number: {
+        "sensor": f"s{number % 400}", "at": 1700000000 + number, "unit": rng.choice(("C", "hPa", "lx")),
+        "values": [round(rng.uniform(0, 100), 3) for _ in range(6)],
+    }),
 }
 # The same, but an element is made as a piece of JSON text. The last three texts take much memory for their length.
 PIECES = {
