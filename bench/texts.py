@@ -12,6 +12,7 @@ import sys
 WORDS = "amber basil cedar delta ember fjord grove heath inlet jetty knoll ledge mound north ocean".split()
 # Keys as records have them, for objects of few keys.
 RECORD_KEYS = "id name email is_active balance tags address created_at updated_at phone company notes".split()
+ESCAPED = 'ab"\\\n\té漢\U0001f984/'
 # In FNV-1a of 64 bits a key of hash 0, which a zero byte leaves at 0, and ten bytes that do so too.
 OF_HASH_0 = "77kepQFQ8Kl"
 LEAVES_0 = "GhL ,\x08\x1bs\x05\x18"
@@ -61,11 +62,12 @@ def polygon(rng, number):
     return [[*ring, ring[0]]]
 
 
-# For each name of a text: what docs/MEASURED.md calls it, and what makes an element of it, as a value.
-VALUES = {
+# For each name of a text: what docs/MEASURED.md calls it, and what makes an element of it, as a value, or as a piece of JSON text. Texts of the last three
+# take much memory for their length.
+KINDS = {
     "integers": ("integers", lambda rng, number: rng.randrange(10 ** rng.randint(1, 18)) * rng.choice((1, -1))),
-    "strings": ("strings", lambda rng, number: phrase(rng, 3, 60)),
-    "escapes": ("strings with escapes", lambda rng, number: "".join(rng.choice('ab"\\\n\té漢\U0001f984/') for _ in range(rng.randint(10, 60)))),
+    "strings": ("strings", lambda rng, number: json.dumps(phrase(rng, 3, 60))),
+    "escapes": ("strings with escapes", lambda rng, number: json.dumps("".join(rng.choice(ESCAPED) for _ in range(rng.randint(10, 60))))),
     "records": ("records", record),
     "record": ("one record", record),
     "messages": ("objects of 40, 25, 5 and 2 keys in one another", message),
@@ -78,9 +80,6 @@ VALUES = {
         "sensor": f"s{number % 400}", "at": 1700000000 + number, "unit": rng.choice(("C", "hPa", "lx")),
         "values": [round(rng.uniform(0, 100), 3) for _ in range(6)],
     }),
-}
-# The same, but an element is made as a piece of JSON text. The last three texts take much memory for their length.
-PIECES = {
     "decimals": ("decimals", lambda rng, number: decimal(rng)),
     "indented": ("indented records", lambda rng, number: json.dumps(record(rng, number), indent=4)),
     "wide": ("one wide object", lambda rng, number: f'"key{number:07}":{number}'),
@@ -94,7 +93,7 @@ PIECES = {
     "smallest": ('`{"":1}`', lambda rng, number: '{"":1}'),
     "nested": ('`{"":{"":..1..}}`, 511 objects in one another', lambda rng, number: '{"":' * 511 + "1" + "}" * 511),
 }
-TITLES = {name: title for name, (title, _) in [*VALUES.items(), *PIECES.items()]}
+TITLES = {name: title for name, (title, _) in KINDS.items()}
 # The texts of bench/program: those of the first table of docs/MEASURED.md, those of other kinds, and those of --memory.
 NAMES = "integers decimals strings escapes records indented wide repeated deep messages pairs literals".split()
 OTHERS = "logs configurations polygons rows articles readings".split()
@@ -152,7 +151,8 @@ def text(name, size):
         return "[" + ",".join(keys) + "]" if name.endswith("-list") else "{" + ",".join(f"{key}:1" for key in keys) + "}"
     rng, parts, left = random.Random(name), [], size
     while left > 0 or not parts:
-        parts.append(PIECES[name][1](rng, len(parts)) if name in PIECES else json.dumps(VALUES[name][1](rng, len(parts))))
+        part = KINDS[name][1](rng, len(parts))
+        parts.append(part if isinstance(part, str) else json.dumps(part))
         left -= len(parts[-1]) + 1
     return "{" + ",".join(parts) + "}" if name in ("wide", "repeated") else "[" + ",".join(parts) + "]"
 
