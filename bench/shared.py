@@ -40,8 +40,7 @@ class Run:
 
     def __init__(self, words, source=os.devnull, target=os.devnull, counts=False):
         with open(source, "rb") as given, open(target, "wb") as taken:
-            words = [*CALLGRIND * counts, *words]
-            child = subprocess.Popen(words, stdin=given, stdout=taken, stderr=subprocess.PIPE, text=True, errors="replace")
+            child = subprocess.Popen([*CALLGRIND * counts, *words], stdin=given, stdout=taken, stderr=subprocess.PIPE, text=True, errors="replace")
         resource.prlimit(child.pid, resource.RLIMIT_CPU, (SECONDS_MAX * (20 if counts else 1),) * 2)
         with child.stderr:
             lines = child.stderr.read().splitlines()

@@ -44,8 +44,7 @@ static size_t requested = 0;
 static char granted;
 
 /* Whether this allocation is the one that fails. */
-static int fails(void)
-{
+static int fails(void) {
     if (allocations_left == 0 || --allocations_left > 0)
         return 0;
     has_failed = 1;
@@ -53,8 +52,7 @@ static int fails(void)
 }
 
 /* Whether an allocation of the marked size MARK + kind * STEP + n succeeds. */
-static int is_granted(size_t kind, size_t n)
-{
+static int is_granted(size_t kind, size_t n) {
     int is_failure = n == 0 && has_failed;
 
     switch (kind) {
@@ -75,8 +73,7 @@ static int is_granted(size_t kind, size_t n)
 }
 
 /* Counts an allocation of this block. */
-static void *counted(void *block, size_t size, int is_new)
-{
+static void *counted(void *block, size_t size, int is_new) {
     if (block == NULL)
         return NULL;
     left += is_new;
@@ -86,30 +83,25 @@ static void *counted(void *block, size_t size, int is_new)
     return block;
 }
 
-void *malloc(size_t size)
-{
+void *malloc(size_t size) {
     if (size >= MARK && size - MARK < 6 * STEP)
         return is_granted((size - MARK) / STEP, (size - MARK) % STEP) ? &granted : NULL;
     return fails() ? NULL : counted(__libc_malloc(size), size, 1);
 }
 
-void *calloc(size_t count, size_t size)
-{
+void *calloc(size_t count, size_t size) {
     return fails() ? NULL : counted(__libc_calloc(count, size), count * size, 1);
 }
 
-void *realloc(void *block, size_t size)
-{
+void *realloc(void *block, size_t size) {
     size_t before = malloc_usable_size(block);
     void *grown = fails() ? NULL : __libc_realloc(block, size);
 
-    if (grown != NULL)
-        held -= (long)before;
+    held -= grown != NULL ? (long)before : 0;
     return counted(grown, size, block == NULL);
 }
 
-void free(void *block)
-{
+void free(void *block) {
     if (block == NULL || block == &granted)
         return;
     left--;
@@ -117,8 +109,7 @@ void free(void *block)
     __libc_free(block);
 }
 
-__attribute__((destructor)) static void expect_all_freed(void)
-{
+__attribute__((destructor)) static void expect_all_freed(void) {
     if (left == 0 || getenv("KEEPS") != NULL)
         return;
     dprintf(STDERR_FILENO, "ci/refuse.c: %ld blocks weren't freed\n", left);
