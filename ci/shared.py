@@ -22,7 +22,6 @@ def files(*patterns):
 
 def report(wrong, summary=""):
     """Prints each thing that is wrong, and the summary. Ends with the status 0 only if nothing is wrong."""
-    script = os.path.basename(sys.argv[0])
     for line in [*wrong, *[summary] * bool(summary)]:
-        print(f"ci/{script}: {line}")
+        print(f"ci/{os.path.basename(sys.argv[0])}: {line}")
     sys.exit(bool(wrong))
