@@ -8,10 +8,10 @@ use Rattle.jzon_tree.specs.Lawful.{IsValue}
 use Rattle.jzon_tree.specs.Value.{Value, nest}
 
 module _ {T : Type 0} (means : Value → Type 0) (v : Value) where
-  pub text_of : (P W : Value → T → Type 0) (r : Result T Error) → means v → IsValue v → IfOk r (P v) → IfOk r (W v)
+  pub text_held : (P W : Value → T → Type 0) (r : Result T Error) → means v → IsValue v → IfOk r (P v) → IfOk r (W v)
       → IfOk r (λ t. (w : Value) × means w × IsValue w × P w t × W w t)
-  text_of P W (Ok t) m value p w = (v, m, value, p, w)
-  text_of P W (Err e) m value p w = tt
+  text_held P W (Ok t) m value p w = (v, m, value, p, w)
+  text_held P W (Err e) m value p w = tt
 
   pub refusal_of : (r : Result T Error) → means v → (nest v < 2 ^ 64 → IsOkUnless r OutOfMemory)
       → (2 ^ 64 ≤ nest v → IsOkUnless r ExceededDepthLimit) → IfErr r (IsTextRefusal means)

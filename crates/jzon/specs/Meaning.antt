@@ -42,13 +42,13 @@ item_text (single u) = code_unit u ∷ []
 item_text (double u v) = if is_pair u v then pair_char (code_unit u) (code_unit v) ∷ [] else []
 
 -- the characters that a string means
-abbrev pub text_of : List Item → List ℕ
-text_of [] = []
-text_of (i ∷ is) = item_text i ++ text_of is
+abbrev pub characters_of : List Item → List ℕ
+characters_of [] = []
+characters_of (i ∷ is) = item_text i ++ characters_of is
 
 -- the same, as bytes of UTF-8
 unfoldable pub bytes_of : List Item → List ℕ
-bytes_of is = encode_utf8_all (text_of is)
+bytes_of is = encode_utf8_all (characters_of is)
 
 -- ---- values
 

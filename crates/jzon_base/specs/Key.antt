@@ -4,6 +4,6 @@ use Rattle.jzon_base.specs.declared.key.Text.{Text}
 use Rattle.jzon_base.specs.declared.key.Text.TheVariants.{Inline, Owned}
 
 -- its bytes, wherever they are stored
-abbrev pub text_of : Text → List ℕ
-text_of (Inline text) = text.bytes
-text_of (Owned text) = string_bytes text
+abbrev pub key_bytes : Text → List ℕ
+key_bytes (Inline text) = text.bytes
+key_bytes (Owned text) = string_bytes text

@@ -39,6 +39,6 @@ with_default k v [] = (k, v) ∷ []
 with_default k v (p ∷ ps) = if bytes_eq p.0 k then p ∷ ps else p ∷ with_default k v ps
 
 -- the entries in a box, and none if there is no box
-abbrev pub entries_in : {V : Type 0} → Option (Box (List (List ℕ × V)) Global) → List (List ℕ × V)
-entries_in None = []
-entries_in (Some b) = b.value
+abbrev pub entries_in_box : {V : Type 0} → Option (Box (List (List ℕ × V)) Global) → List (List ℕ × V)
+entries_in_box None = []
+entries_in_box (Some b) = b.value

@@ -3,7 +3,7 @@
 ghost use Rattle.std.specs.Prelude.{◌≡◌, ◌+◌, ◌<◌, ◌≤◌, ◌++◌, ◌∷◌, List, ℕ, [], false, true, length, take};
 ghost use Rattle.std.specs.Prelude.{string_bytes, vec_len, vec_capacity, IfOk, IsOkUnless, MatchOption, OnErr, OnOk};
 ghost use Rattle.std.specs.Str.{bytes_eq};
-ghost use Rattle.jzon_base.specs.Key.{text_of};
+ghost use Rattle.jzon_base.specs.Key.{key_bytes};
 ghost use Rattle.std.specs.Cmp.{partial_equiv_from_equiv};
 ghost use Rattle.std.specs.Cmp.Lexicographic.{nat_list_eq_equiv};
 
@@ -34,7 +34,7 @@ enum Text {
 impl Model for Key {
     ghost Value = { List ℕ };
 
-    ghost view = { λ k. text_of k.text };
+    ghost view = { λ k. key_bytes k.text };
 }
 
 impl Key {

@@ -6,17 +6,17 @@ ghost use Rattle.std.specs.Map.Calls.{CalledAtPair, CallableOnEachPair, RetainsP
 ghost use Rattle.std.specs.Str.{bytes_eq};
 ghost use Rattle.std.specs.Option.{option_copied, option_copied_mut};
 ghost use Rattle.std.specs.Coded.{coded_ℕ, coded_list, coded×};
-ghost use Rattle.jzon_base.specs.PairList.{entries_in, put_each};
+ghost use Rattle.jzon_base.specs.PairList.{entries_in_box, put_each};
 
 mod builder;
-mod entries;
+mod contents;
 mod iter;
 mod iter_mut;
 
 use crate::key::Key;
 use crate::keys::{self, Keys};
 pub use builder::Builder;
-use entries::Entries;
+use contents::Contents;
 pub use iter::Iter;
 pub use iter_mut::IterMut;
 use std::alloc::{AllocError, Global};
@@ -31,7 +31,7 @@ use std::marker::Model;
 #[derive(Drop)]
 pub struct Pairs<V> {
     alloc: Global,
-    entries: Option<Box<Entries<V>>>,
+    entries: Option<Box<Contents<V>>>,
 }
 
 impl<V> Model for Pairs<V> {
@@ -39,13 +39,13 @@ impl<V> Model for Pairs<V> {
 
     ghost coded = { coded_list (coded× (coded_list coded_ℕ) V.code) };
 
-    ghost view = { λ p. entries_in p.entries };
+    ghost view = { λ p. entries_in_box p.entries };
 }
 
 impl<V> Pairs<V> {
     ghost use Rattle.std.specs.Borrow.{sem, Lends, LendsIf, LendsIfOk};
     ghost use Rattle.jzon_base.specs.contracts.pairs.Pairs.{the_row};
-    ghost use Rattle.jzon_base.specs.contracts.pairs.entries.Entries.{the_row as entries_row};
+    ghost use Rattle.jzon_base.specs.contracts.pairs.contents.Contents.{the_row as entries_row};
     ghost use Rattle.jzon_base.specs.PairList.{find, put, cut, set_value, with_default, keys_of, values_of};
 
     /// No entry. Takes no memory.
@@ -59,7 +59,7 @@ impl<V> Pairs<V> {
     }
 
     /// These entries. The error is a failed allocation.
-    fn boxed(alloc: Global, entries: Entries<V>) -> Result<Pairs<V>, AllocError>
+    fn boxed(alloc: Global, entries: Contents<V>) -> Result<Pairs<V>, AllocError>
     where
         V: Drop,
         ensures { IfOk result (λ p. p ≡ entries) }
@@ -82,7 +82,7 @@ impl<V> Pairs<V> {
         }
         let keys = Keys::with_capacity(alloc, capacity)?;
         let values = Vec::with_capacity(alloc, capacity)?;
-        Pairs::boxed(alloc, Entries::from_parts(keys, values))
+        Pairs::boxed(alloc, Contents::from_parts(keys, values))
     }
 
     /// The entries of keys and as many values, put one after the other: those of equal keys become
@@ -104,9 +104,9 @@ impl<V> Pairs<V> {
         if keys.is_empty() {
             return Ok(Pairs::new(alloc));
         }
-        let mut entries = Box::new(alloc, Entries::new(alloc))?;
+        let mut entries = Box::new(alloc, Contents::new(alloc))?;
         let keys = Keys::from_entries(alloc, keys, &mut values)?;
-        *entries = Entries::from_parts(keys, values);
+        *entries = Contents::from_parts(keys, values);
         Ok(Pairs {
             alloc,
             entries: Some(entries),
@@ -123,7 +123,7 @@ impl<V> Pairs<V> {
         match &self.entries {
             Some(entries) => {
                 let keys = entries.keys().clone(alloc)?;
-                Pairs::boxed(alloc, Entries::from_parts(keys, values))
+                Pairs::boxed(alloc, Contents::from_parts(keys, values))
             }
             None => Ok(Pairs::new(alloc)),
         }
@@ -205,7 +205,7 @@ impl<V> Pairs<V> {
     }
 
     /// The entries in their box, to be written.
-    fn entries_mut(&mut self) -> Option<&mut Entries<V>>
+    fn entries_mut(&mut self) -> Option<&mut Contents<V>>
         ensures* writes_back { sem 𝓛 (LendsIf (the_row V.row) (entries_row V.row) self.entry result
             (λ es. es) []) }
         ensures value { MatchOption result (self.old ≡ [])
@@ -260,7 +260,7 @@ impl<V> Pairs<V> {
         ensures ok { OnOk result (self.new ≡ (name.now, value) ∷ []) }
         ensures err { OnErr result (self.new ≡ self.old) }
     {
-        let mut entries = Box::new(alloc, Entries::new(alloc))?;
+        let mut entries = Box::new(alloc, Contents::new(alloc))?;
         entries.insert(alloc, name, value)?;
         self.entries = Some(entries);
         Ok(())

@@ -3,7 +3,7 @@
 use Rattle.std.specs.Prelude.{ℕ, List, if◌then◌else◌}
 use Rattle.jzon.specs.PairList.{find, put, cut}
 use Rattle.jzon.specs.Readers.{entries, or_null, is_null}
-use Rattle.jzon.specs.Value.{Value, null, boolean, text, number, array, object, Pairs, no_pairs, pair, pairs_of}
+use Rattle.jzon.specs.Value.{Value, null, boolean, text, number, array, object, ValuePairs, no_pairs, pair, pairs_of}
 
 abbrev mutual
   pub patched : Value → Value → Value
@@ -14,7 +14,7 @@ abbrev mutual
   patched t (array vs) = array vs
   patched t (object ps) = object (pairs_of (patched_pairs (entries t) ps))
 
-  pub patched_pairs : List (List ℕ × Value) → Pairs → List (List ℕ × Value)
+  pub patched_pairs : List (List ℕ × Value) → ValuePairs → List (List ℕ × Value)
   patched_pairs ts no_pairs = ts
   patched_pairs ts (pair k v ps) =
       patched_pairs (if is_null v then cut k ts else put k (patched (or_null (find k ts)) v) ts) ps

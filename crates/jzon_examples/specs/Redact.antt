@@ -2,7 +2,7 @@
 use Rattle.std.specs.Prelude.{ℕ, List, Bool, false, Option, None, Some, codes, if◌then◌else◌}
 use Rattle.std.specs.List.{list_any}
 use Rattle.std.specs.Str.{bytes_eq}
-use Rattle.jzon.specs.Value.{Value, null, boolean, text, number, array, object, Values, no_values, value, Pairs}
+use Rattle.jzon.specs.Value.{Value, null, boolean, text, number, array, object, Values, no_values, value, ValuePairs}
 use Rattle.jzon.specs.Value.{no_pairs, pair, short}
 
 -- what replaces a member's value
@@ -31,7 +31,7 @@ abbrev mutual
   redacted_values names no_values = no_values
   redacted_values names (value v vs) = value (redacted names v) (redacted_values names vs)
 
-  pub redacted_pairs : List (List ℕ) → Pairs → Pairs
+  pub redacted_pairs : List (List ℕ) → ValuePairs → ValuePairs
   redacted_pairs names no_pairs = no_pairs
   redacted_pairs names (pair k v ps) =
       pair k (if is_among names k then hidden else redacted names v) (redacted_pairs names ps)

@@ -6,7 +6,7 @@ use Rattle.jzon_tree.specs.Generator.{Adds, Emitted, Added}
 use Rattle.jzon_tree.specs.Generators.{fresh}
 use Rattle.jzon_tree.specs.Lawful.{IsValue}
 use Rattle.jzon_tree.specs.Styles.{only}
-use Rattle.jzon_tree.specs.Text.{Layout, layout_text}
+use Rattle.jzon_tree.specs.Text.{Spacing, layout_text}
 use Rattle.jzon_tree.specs.Value.{Value}
 use Rattle.jzon_tree.specs.Writing.{Style, Writes, colon_text}
 use Rattle.jzon_tree.proofs.PrintedUtf8.{IsUtf8-writing}
@@ -23,7 +23,7 @@ laid_out style v old new bytes e h a k =
     (IsUtf8-writing style 0 v bytes h w, w)
 
 module _ (line : ℕ → List ℕ) (wide : Bool) where
-  abbrev layout : Layout
+  abbrev layout : Spacing
   layout = record { line = line; colon = colon_text wide }
 
   -- what is laid out in this style is this text

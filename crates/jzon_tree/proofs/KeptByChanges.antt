@@ -10,7 +10,7 @@ use Rattle.jzon_base.proofs.PairLaws.{All-put, All-cut, All-found, distinct-put,
 use Rattle.jzon_tree.specs.Changers.{without_text, with_item, without_item, with_entry, without_entry, cleared}
 use Rattle.jzon_tree.specs.Lawful.{IsText, IsValue, AreValues, ArePairs, HasNoNan, HaveNoNan, PairsHaveNoNan}
 use Rattle.jzon_tree.specs.Readers.{items, entries}
-use Rattle.jzon_tree.specs.Value.{Value, null, text, array, object, Kind, short, long, Values, no_values, value, Pairs}
+use Rattle.jzon_tree.specs.Value.{Value, null, text, array, object, Kind, short, long, Values, no_values, value, ValuePairs}
 use Rattle.jzon_tree.specs.Value.{no_pairs, pair, values_of, pairs_of, list_of_values, list_of_pairs, nest, most_nest}
 use Rattle.jzon_tree.specs.Value.{most_nest_under}
 use Rattle.jzon_tree.proofs.Views.{list_of_pairs-pairs_of}
@@ -45,7 +45,7 @@ pub record GoesInside (P Q : Value → Type 0) (K : List ℕ → Type 0) (D : Li
   pub array-to : (vs : Values) → P (array vs) → AllByRecursion Q (list_of_values vs)
   pub object-from : (ps : List (List ℕ × Value)) → AllByRecursion (λ p. K p.0 × Q p.1) ps → D (keys_of ps)
       → P (object (pairs_of ps))
-  pub object-to : (ps : Pairs) → P (object ps)
+  pub object-to : (ps : ValuePairs) → P (object ps)
       → AllByRecursion (λ p. K p.0 × Q p.1) (list_of_pairs ps) × D (keys_of (list_of_pairs ps))
   pub none : D []
   pub put : (k : List ℕ) (v : Value) (ps : List (List ℕ × Value)) → D (keys_of ps) → D (keys_of (put k v ps))
@@ -116,7 +116,7 @@ pairs-from : (ps : List (List ℕ × Value)) → AllByRecursion (λ p. IsUtf8 p.
 pairs-from [] all = tt
 pairs-from (p ∷ ps) all = (all.0.0, all.0.1, pairs-from ps all.1)
 
-pairs-to : (ps : Pairs) → ArePairs ps → AllByRecursion (λ p. IsUtf8 p.0 × IsValue p.1) (list_of_pairs ps)
+pairs-to : (ps : ValuePairs) → ArePairs ps → AllByRecursion (λ p. IsUtf8 p.0 × IsValue p.1) (list_of_pairs ps)
 pairs-to no_pairs all = tt
 pairs-to (pair k v ps) all = ((all.0, all.1), pairs-to ps all.2)
 
@@ -153,7 +153,7 @@ number_pairs-from : (ps : List (List ℕ × Value)) → AllByRecursion (λ p. �
 number_pairs-from [] all = tt
 number_pairs-from (p ∷ ps) all = (all.0.1, number_pairs-from ps all.1)
 
-number_pairs-to : (ps : Pairs) → PairsHaveNoNan ps → AllByRecursion (λ p. ⊤ × HasNoNan p.1) (list_of_pairs ps)
+number_pairs-to : (ps : ValuePairs) → PairsHaveNoNan ps → AllByRecursion (λ p. ⊤ × HasNoNan p.1) (list_of_pairs ps)
 number_pairs-to no_pairs all = tt
 number_pairs-to (pair k v ps) all = ((tt, all.0), number_pairs-to ps all.1)
 
@@ -204,12 +204,12 @@ nest_object-from : (h : ℕ) (ps : List (List ℕ × Value)) → AllByRecursion 
 nest_object-from h [] all = omega arith
 nest_object-from h (p ∷ ps) all = omega (arith, all.0.1, most_under-below h ps (omega (arith, all.0.1)) all.1)
 
-each_under-below : (h : ℕ) (ps : Pairs) → most_nest_under ps < h
+each_under-below : (h : ℕ) (ps : ValuePairs) → most_nest_under ps < h
     → AllByRecursion (λ p. ⊤ × NestsBelow h p.1) (list_of_pairs ps)
 each_under-below h no_pairs most = tt
 each_under-below h (pair k v ps) most = ((tt, omega (arith, most)), each_under-below h ps (omega (arith, most)))
 
-nest_object-to : (h : ℕ) (ps : Pairs) → nest (object ps) ≤ h
+nest_object-to : (h : ℕ) (ps : ValuePairs) → nest (object ps) ≤ h
     → AllByRecursion (λ p. ⊤ × NestsBelow h p.1) (list_of_pairs ps)
 nest_object-to h no_pairs most = tt
 nest_object-to h (pair k v ps) most = each_under-below h (pair k v ps) most

@@ -17,16 +17,16 @@ use Rattle.jzon_tree.proofs.Sorted.{ascend_in_order}
 abbrev pub texts_of : List (Bor (List ℕ)) → List (List ℕ)
 texts_of = map (λ key. key.now)
 
-text_of : (keys : List (Bor (List ℕ))) (p : ℕ) (d : Bor (List ℕ)) → p < length keys
+text_lent : (keys : List (Bor (List ℕ))) (p : ℕ) (d : Bor (List ℕ)) → p < length keys
     → (get_or keys p d).now ≡ text_at (texts_of keys) p
-text_of [] p d h = absurd (omega arith)
-text_of (k ∷ ks) zero d h = refl
-text_of (k ∷ ks) (suc p) d h = text_of ks p d (omega arith)
+text_lent [] p d h = absurd (omega arith)
+text_lent (k ∷ ks) zero d h = refl
+text_lent (k ∷ ks) (suc p) d h = text_lent ks p d (omega arith)
 
 key_at : (keys : List (Bor (List ℕ))) (p : ℕ) → p < length keys
     → (key : Bor (List ℕ)) × (slice_get keys p ≡ Some key) × (key.now ≡ text_at (texts_of keys) p)
 key_at [] p h = absurd (omega arith)
-key_at (k ∷ ks) p h = (get_or (k ∷ ks) p k, slice_get-get_or (k ∷ ks) p k h, text_of (k ∷ ks) p k h)
+key_at (k ∷ ks) p h = (get_or (k ∷ ks) p k, slice_get-get_or (k ∷ ks) p k h, text_lent (k ∷ ks) p k h)
 
 abbrev by_text : Bor (List ℕ) → Bor (List ℕ) → Ordering
 by_text a b = slice_cmp nat_cmp a.now b.now

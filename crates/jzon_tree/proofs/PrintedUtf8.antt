@@ -19,7 +19,7 @@ use Rattle.jzon_base.specs.NumberText.{sign_text, point_after, point_after_first
 use Rattle.jzon_base.specs.NumberText.{magnitude_text, written_text}
 use Rattle.jzon_tree.specs.Lawful.{InRange, IsText, IsValue, AreValues, ArePairs}
 use Rattle.jzon_tree.specs.Text.{escaped_byte, escaped, quoted}
-use Rattle.jzon_tree.specs.Value.{Value, null, boolean, text, number, array, object, Values, no_values, value, Pairs}
+use Rattle.jzon_tree.specs.Value.{Value, null, boolean, text, number, array, object, Values, no_values, value, ValuePairs}
 use Rattle.jzon_tree.specs.Value.{no_pairs, pair, Kind, short, long}
 use Rattle.jzon_tree.specs.Writing.{Style, is_whitespace, is_all_whitespace, text_at, Joins, Encloses, Writes}
 use Rattle.jzon_tree.specs.Writing.{WritesEach, WritesPairs, colon_text}
@@ -229,7 +229,7 @@ mutual
   utf8_each s d (value v vs) (t ∷ ts) h e = (IsUtf8-writing s d v t h.0 e.0, utf8_each s d vs ts h.1 e.1)
   utf8_each s d _ _ h e = absurd e
 
-  utf8_pairs : (s : Style) (d : ℕ) (ps : Pairs) (ts : List (List ℕ)) → ArePairs ps → WritesPairs s d ps ts → AreUtf8 ts
+  utf8_pairs : (s : Style) (d : ℕ) (ps : ValuePairs) (ts : List (List ℕ)) → ArePairs ps → WritesPairs s d ps ts → AreUtf8 ts
   utf8_pairs s d no_pairs [] h e = tt
   utf8_pairs s d (pair k v ps) (t ∷ ts) h ((wide, x, c, w, e), rest) = (
     subst IsUtf8 (sym e) (IsUtf8-append _ _ (IsUtf8-quoted k h.0)

@@ -10,7 +10,7 @@ use Rattle.jzon_base.specs.Private.PlainBytes.{is_plain}
 use Rattle.jzon_tree.specs.Displayed.{comma_text, member_text}
 use Rattle.jzon_tree.specs.Text.{escaped, escaped_byte, quoted, compact, compact_layout, layout_text, more_values_text}
 use Rattle.jzon_tree.specs.Text.{more_pairs_text}
-use Rattle.jzon_tree.specs.Value.{Value, array, object, Values, no_values, value, Pairs, no_pairs, pair}
+use Rattle.jzon_tree.specs.Value.{Value, array, object, Values, no_values, value, ValuePairs, no_pairs, pair}
 use Rattle.jzon_tree.specs.View.{view, view_values, view_pairs}
 use Rattle.jzon_tree.specs.declared.value.JsonValue.{JsonValue}
 use Rattle.jzon_tree.proofs.Plain.{escaped-run}
@@ -49,7 +49,7 @@ mutual
   same_values d e no_values = refl
   same_values d e (value v vs) = λ i. 44 ∷ (same_depth (suc d) (suc e) v i ++ same_values d e vs i)
 
-  same_pairs : (d e : ℕ) (ps : Pairs) → more_pairs_text compact_layout d ps ≡ more_pairs_text compact_layout e ps
+  same_pairs : (d e : ℕ) (ps : ValuePairs) → more_pairs_text compact_layout d ps ≡ more_pairs_text compact_layout e ps
   same_pairs d e no_pairs = refl
   same_pairs d e (pair k v ps) =
       λ i. 44 ∷ (((quoted k ++ 58 ∷ []) ++ same_depth (suc d) (suc e) v i) ++ same_pairs d e ps i)

@@ -13,8 +13,8 @@ use Rattle.jzon_base.specs.PairList.{keys_of}
 use Rattle.jzon_tree.specs.Generator.{Adds, Begins, Sends, Emitted, Prints, insertion}
 use Rattle.jzon_tree.specs.Generators.{fresh}
 use Rattle.jzon_tree.specs.Styles.{only, same_form}
-use Rattle.jzon_tree.specs.Text.{Layout, layout_text, more_values_text, more_pairs_text, quoted}
-use Rattle.jzon_tree.specs.Value.{Value, array, object, Values, no_values, value, Pairs, no_pairs, pair, list_of_pairs}
+use Rattle.jzon_tree.specs.Text.{Spacing, layout_text, more_values_text, more_pairs_text, quoted}
+use Rattle.jzon_tree.specs.Value.{Value, array, object, Values, no_values, value, ValuePairs, no_pairs, pair, list_of_pairs}
 use Rattle.jzon_tree.specs.Writing.{Style, IsAllowedWhitespace, text_at, Joins, Writes, WritesEach, WritesPairs}
 use Rattle.jzon_tree.specs.Writing.{colon_text}
 
@@ -39,7 +39,7 @@ after_comma l t m rest = ap (λ x. x ++ rest) (sym (append_assoc l t (44 ∷ m))
 
 -- ---- the texts of the values and entries
 module _ (line : ℕ → List ℕ) (wide : Bool) where
-  abbrev layout : Layout
+  abbrev layout : Spacing
   layout = record { line = line; colon = colon_text wide }
 
   abbrev style : Style
@@ -52,7 +52,7 @@ module _ (line : ℕ → List ℕ) (wide : Bool) where
   value_texts d no_values = []
   value_texts d (value v vs) = layout_text layout d v ∷ value_texts d vs
 
-  abbrev pair_texts : ℕ → Pairs → List (List ℕ)
+  abbrev pair_texts : ℕ → ValuePairs → List (List ℕ)
   pair_texts d no_pairs = []
   pair_texts d (pair k v ps) = (quoted k ++ (colon_text wide ++ layout_text layout d v)) ∷ pair_texts d ps
 
@@ -76,7 +76,7 @@ module _ (line : ℕ → List ℕ) (wide : Bool) where
       ap (λ x. x ++ rest) (sym (append_assoc (line d) (quoted k) (colon_text wide ++ layout_text layout d v))
       ∙ sym (append_assoc (line d ++ quoted k) (colon_text wide) (layout_text layout d v)))
 
-  pairs_inside : (d : ℕ) (k : List ℕ) (v : Value) (ps : Pairs) (b w : List ℕ)
+  pairs_inside : (d : ℕ) (k : List ℕ) (v : Value) (ps : ValuePairs) (b w : List ℕ)
       → Joins style (suc d) (pair_texts (suc d) (pair k v ps)) b → w ≡ line d
       → b ++ (w ++ 125 ∷ []) ≡ start (suc d) k v ++ more_pairs_text layout d ps
   pairs_inside d k v no_pairs b w (u, h, e) f = rw (e, whitespace_is (suc d) u h, f)
@@ -86,7 +86,7 @@ module _ (line : ℕ → List ℕ) (wide : Bool) where
       ∙ started (suc d) k v (44 ∷ (m ++ (w ++ 125 ∷ [])))
       ∙ ap (λ y. start (suc d) k v ++ 44 ∷ y) (pairs_inside d l x ps m w j f))
 
-  length-texts : (d : ℕ) (ps : Pairs) → length (pair_texts d ps) ≡ length (keys_of (list_of_pairs ps))
+  length-texts : (d : ℕ) (ps : ValuePairs) → length (pair_texts d ps) ≡ length (keys_of (list_of_pairs ps))
   length-texts d no_pairs = refl
   length-texts d (pair k v ps) = ap suc (length-texts d ps)
 
@@ -110,7 +110,7 @@ module _ (line : ℕ → List ℕ) (wide : Bool) where
     written_values d (value v vs) (t ∷ ts) h = rw (written d v t h.0, written_values d vs ts h.1) refl
     written_values d _ _ h = absurd h
 
-    written_pairs : (d : ℕ) (ps : Pairs) (ts : List (List ℕ)) → WritesPairs style d ps ts → ts ≡ pair_texts d ps
+    written_pairs : (d : ℕ) (ps : ValuePairs) (ts : List (List ℕ)) → WritesPairs style d ps ts → ts ≡ pair_texts d ps
     written_pairs d no_pairs [] h = refl
     written_pairs d (pair k v ps) (t ∷ ts) ((form, x, c, i, e), h) = rw
         (e, form_is form wide c, written d v x i, written_pairs d ps ts h) refl

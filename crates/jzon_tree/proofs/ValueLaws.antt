@@ -18,7 +18,7 @@ use Rattle.jzon_tree.specs.Entries.{entries_of, with_entries}
 use Rattle.jzon_tree.specs.Lent.{object_in, entries_in, items_in}
 use Rattle.jzon_tree.specs.Readers.{items, entries, is_array, is_object, object_of, array_of}
 use Rattle.jzon_tree.specs.Value.{Value, null, text, number, array, object, short, long, list_of_values, list_of_pairs}
-use Rattle.jzon_tree.specs.Value.{Values, Pairs, no_values, value, no_pairs, pair, values_of, pairs_of}
+use Rattle.jzon_tree.specs.Value.{Values, ValuePairs, no_values, value, no_pairs, pair, values_of, pairs_of}
 use Rattle.jzon_tree.specs.View.{view, viewed, view_object}
 use Rattle.jzon_tree.specs.declared.object.Object.{Object}
 use Rattle.jzon_tree.specs.declared.value.JsonValue.{JsonValue, out-JsonValue, roll-JsonValue, the_lemmas, Short}
@@ -137,7 +137,7 @@ pub values_of-list_of_values : (vs : Values) → values_of (list_of_values vs) �
 values_of-list_of_values no_values = refl
 values_of-list_of_values (value v vs) = ap (λ ws. value v ws) (values_of-list_of_values vs)
 
-pub pairs_of-list_of_pairs : (ps : Pairs) → pairs_of (list_of_pairs ps) ≡ ps
+pub pairs_of-list_of_pairs : (ps : ValuePairs) → pairs_of (list_of_pairs ps) ≡ ps
 pairs_of-list_of_pairs no_pairs = refl
 pairs_of-list_of_pairs (pair k v ps) = ap (λ qs. pair k v qs) (pairs_of-list_of_pairs ps)
 

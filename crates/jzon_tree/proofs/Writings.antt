@@ -7,7 +7,7 @@ use Rattle.jzon_base.specs.NumberText.{written_text}
 use Rattle.jzon_base.specs.PairList.{keys_of}
 use Rattle.jzon_tree.specs.Text.{quoted, boolean_text}
 use Rattle.jzon_tree.specs.Value.{Value, null, boolean, text, number, array, object, Values, no_values, value}
-use Rattle.jzon_tree.specs.Value.{values_of, Pairs, no_pairs, pair, list_of_pairs}
+use Rattle.jzon_tree.specs.Value.{values_of, ValuePairs, no_pairs, pair, list_of_pairs}
 use Rattle.jzon_tree.specs.Writing.{Style, IsStyle, text_at, Joins, Encloses, Writes, WritesEach, WritesPairs}
 use Rattle.jzon_tree.specs.Writing.{colon_text}
 use Rattle.jzon_tree.specs.Lawful.{IsValue, AreValues, ArePairs}
@@ -57,7 +57,7 @@ some_enclosed s lawful d opening closing t ts =
     (opening ∷ (i.0 ++ c.0), encloses s d opening closing t ts i.0 c.0 i.1 c.1)
 
 -- ---- some text of a value without repeated keys
-length-texts : (s : Style) (d : ℕ) (ps : Pairs) (ts : List (List ℕ)) → WritesPairs s d ps ts
+length-texts : (s : Style) (d : ℕ) (ps : ValuePairs) (ts : List (List ℕ)) → WritesPairs s d ps ts
     → length ts ≡ length (keys_of (list_of_pairs ps))
 length-texts s d no_pairs [] h = refl
 length-texts s d (pair k v ps) (t ∷ ts) h = ap suc (length-texts s d ps ts h.1)
@@ -98,7 +98,7 @@ mutual
       let xs : (ts : List (List ℕ)) × WritesEach s d vs ts = some_writings s lawful d vs h.1 in
       (x.0 ∷ xs.0, (x.1, xs.1))
 
-  some_pairs : (s : Style) → IsStyle s → (d : ℕ) (ps : Pairs) → ArePairs ps → (ts : List (List ℕ))
+  some_pairs : (s : Style) → IsStyle s → (d : ℕ) (ps : ValuePairs) → ArePairs ps → (ts : List (List ℕ))
       × WritesPairs s d ps ts
   some_pairs s lawful d no_pairs h = ([], tt)
   some_pairs s lawful d (pair k v ps) h =

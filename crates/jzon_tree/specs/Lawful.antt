@@ -3,7 +3,7 @@ use Rattle.std.specs.Prelude.{◌≢◌, ℕ, ◌≤◌, ◌<◌, ◌^◌, List,
 use Rattle.std.specs.Int.{w16}
 use Rattle.jzon_base.specs.Decimal.{Decimal, nan, parts}
 use Rattle.jzon_base.specs.PairList.{keys_of}
-use Rattle.jzon_tree.specs.Value.{Value, null, boolean, text, number, array, object, Values, no_values, value, Pairs}
+use Rattle.jzon_tree.specs.Value.{Value, null, boolean, text, number, array, object, Values, no_values, value, ValuePairs}
 use Rattle.jzon_tree.specs.Value.{no_pairs, pair, list_of_pairs, Kind, short, long}
 
 -- a mantissa of 64 bits and an exponent of 16 bits
@@ -29,7 +29,7 @@ abbrev mutual
   AreValues no_values = ⊤
   AreValues (value v vs) = IsValue v × AreValues vs
 
-  pub ArePairs : Pairs → Type 0
+  pub ArePairs : ValuePairs → Type 0
   ArePairs no_pairs = ⊤
   ArePairs (pair k v ps) = IsUtf8 k × IsValue v × ArePairs ps
 
@@ -56,6 +56,6 @@ abbrev mutual
   HaveNoNan no_values = ⊤
   HaveNoNan (value v vs) = HasNoNan v × HaveNoNan vs
 
-  pub PairsHaveNoNan : Pairs → Type 0
+  pub PairsHaveNoNan : ValuePairs → Type 0
   PairsHaveNoNan no_pairs = ⊤
   PairsHaveNoNan (pair k v ps) = HasNoNan v × PairsHaveNoNan ps

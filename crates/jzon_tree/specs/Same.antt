@@ -5,7 +5,7 @@ use Rattle.std.specs.Bool.{beq}
 use Rattle.std.specs.Str.{bytes_eq}
 use Rattle.jzon_base.specs.Decimal as decimal
 use Rattle.jzon_base.specs.PairList.{find}
-use Rattle.jzon_tree.specs.Value.{Value, null, boolean, text, number, array, object, Values, no_values, value, Pairs}
+use Rattle.jzon_tree.specs.Value.{Value, null, boolean, text, number, array, object, Values, no_values, value, ValuePairs}
 use Rattle.jzon_tree.specs.Value.{no_pairs, pair, list_of_pairs}
 
 -- the key is one of these
@@ -14,7 +14,7 @@ is_known [] k = false
 is_known (j ∷ js) k = bytes_eq j k || is_known js k
 
 -- each key of the first is a key of the second
-abbrev pub has_keys_within : Pairs → Pairs → Bool
+abbrev pub has_keys_within : ValuePairs → ValuePairs → Bool
 has_keys_within no_pairs qs = true
 has_keys_within (pair k v ps) qs = is_some (find k (list_of_pairs qs)) && has_keys_within ps qs
 
@@ -40,7 +40,7 @@ abbrev mutual
   same_items _ _ = false
 
   -- Each key of ps has the same value in qs; of a repeated key the first value counts. `seen` are the keys before.
-  pub same_under : List (List ℕ) → Pairs → Pairs → Bool
+  pub same_under : List (List ℕ) → ValuePairs → ValuePairs → Bool
   same_under seen no_pairs qs = true
   same_under seen (pair k v ps) qs = (is_known seen k || passes (same v) (find k (list_of_pairs qs))) && same_under
       (k ∷ seen) ps qs

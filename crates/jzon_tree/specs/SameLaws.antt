@@ -8,18 +8,18 @@ use Rattle.std.proofs.lemmas.Option.{none-some, same_Some}
 use Rattle.std.proofs.lemmas.Slice.Eq.{bytes_eq-Decides}
 use Rattle.jzon_base.specs.PairList.{find}
 use Rattle.jzon_base.specs.Private.Same.{same_equiv as decimal_equiv}
-use Rattle.jzon_tree.specs.Value.{Value, null, boolean, text, number, array, object, Values, no_values, value, Pairs}
+use Rattle.jzon_tree.specs.Value.{Value, null, boolean, text, number, array, object, Values, no_values, value, ValuePairs}
 use Rattle.jzon_tree.specs.Value.{no_pairs, pair, list_of_pairs}
 use Rattle.jzon_tree.specs.Same.{same, same_items, same_under, has_keys_within, is_known, passes}
 
 -- ---- what a lookup finds
 
 -- the value at a key
-abbrev pub at : List ℕ → Pairs → Option Value
+abbrev pub at : List ℕ → ValuePairs → Option Value
 at k ps = find k (list_of_pairs ps)
 
 -- P holds of the value of each entry
-abbrev Each : (Value → Type 0) → Pairs → Type 0
+abbrev Each : (Value → Type 0) → ValuePairs → Type 0
 Each P no_pairs = Unit {0}
 Each P (pair k v ps) = P v × Each P ps
 
@@ -28,7 +28,7 @@ each_cond : (P : Value → Type 0) (b : Bool) (v w : Value) (rest : Option Value
 each_cond P true v w rest here later e = subst P (same_Some w v e) here
 each_cond P false v w rest here later e = later e
 
-each_found : (P : Value → Type 0) (ps : Pairs) (k : List ℕ) (v : Value) → Each P ps → at k ps ≡ Some v → P v
+each_found : (P : Value → Type 0) (ps : ValuePairs) (k : List ℕ) (v : Value) → Each P ps → at k ps ≡ Some v → P v
 each_found P no_pairs k v each e = absurd (none-some v e)
 each_found P (pair l w ps) k v each e = each_cond P (bytes_eq l k) v w (at k ps) each.0 (each_found P ps k v each.1) e
 
@@ -42,35 +42,35 @@ module _ {V : Type 0} where
   find-past l k w ps e = rw e refl
 
 -- ---- `has_keys_within`, by lookups
-abbrev KeysWithin : Pairs → Pairs → Type 0
+abbrev KeysWithin : ValuePairs → ValuePairs → Type 0
 KeysWithin ps qs = (k : List ℕ) (v : Value) → at k ps ≡ Some v → is_some (at k qs) ≡ true
 
-within-elim-head : (l : List ℕ) (w : Value) (ps qs : Pairs) → is_some (at l qs) ≡ true → KeysWithin ps qs
+within-elim-head : (l : List ℕ) (w : Value) (ps qs : ValuePairs) → is_some (at l qs) ≡ true → KeysWithin ps qs
     → (k : List ℕ) (v : Value) (b : Bool) → bytes_eq l k ≡ b → cond b (Some w) (at k ps) ≡ Some v
     → is_some (at k qs) ≡ true
 within-elim-head l w ps qs here later k v true e f = subst (λ (q : List ℕ). is_some (at q qs) ≡ true)
     ((bytes_eq-Decides l k).0 e) here
 within-elim-head l w ps qs here later k v false e f = later k v f
 
-within-elim : (ps qs : Pairs) → has_keys_within ps qs ≡ true → KeysWithin ps qs
+within-elim : (ps qs : ValuePairs) → has_keys_within ps qs ≡ true → KeysWithin ps qs
 within-elim no_pairs qs h k v e = absurd (none-some v e)
 within-elim (pair l w ps) qs h k v e =
     let both = and_parts (is_some (at l qs)) (has_keys_within ps qs) h in
     within-elim-head l w ps qs both.0 (within-elim ps qs both.1) k v (bytes_eq l k) refl e
 
-within-intro-tail : (l : List ℕ) (w : Value) (ps qs : Pairs) → KeysWithin (pair l w ps) qs
+within-intro-tail : (l : List ℕ) (w : Value) (ps qs : ValuePairs) → KeysWithin (pair l w ps) qs
     → (k : List ℕ) (v : Value) (b : Bool) → bytes_eq l k ≡ b → at k ps ≡ Some v → is_some (at k qs) ≡ true
 within-intro-tail l w ps qs h k v true e f = h k w (rw e refl)
 within-intro-tail l w ps qs h k v false e f = h k v (find-past l k w (list_of_pairs ps) e ∙ f)
 
-within-intro : (ps qs : Pairs) → KeysWithin ps qs → has_keys_within ps qs ≡ true
+within-intro : (ps qs : ValuePairs) → KeysWithin ps qs → has_keys_within ps qs ≡ true
 within-intro no_pairs qs h = refl
 within-intro (pair l w ps) qs h =
     and_from _ _ (h l w (find-head l w (list_of_pairs ps))) (within-intro ps qs
     (λ k v e. within-intro-tail l w ps qs h k v (bytes_eq l k) refl e))
 
 -- ---- `same_under`, by lookups: keys that are in `seen` aren't compared again
-abbrev Agrees : List (List ℕ) → Pairs → Pairs → Type 0
+abbrev Agrees : List (List ℕ) → ValuePairs → ValuePairs → Type 0
 Agrees seen ps qs = (k : List ℕ) (v : Value) → at k ps ≡ Some v → is_known seen k ≡ false
     → passes (same v) (at k qs) ≡ true
 
@@ -82,7 +82,7 @@ or_known : (b c : Bool) → (b ≡ false → c ≡ true) → (b || c) ≡ true
 or_known true c h = refl
 or_known false c h = h refl
 
-under-elim-head : (seen : List (List ℕ)) (l : List ℕ) (w : Value) (ps qs : Pairs)
+under-elim-head : (seen : List (List ℕ)) (l : List ℕ) (w : Value) (ps qs : ValuePairs)
     → (is_known seen l || passes (same w) (at l qs)) ≡ true → Agrees (l ∷ seen) ps qs
     → (k : List ℕ) (v : Value) (b : Bool) → bytes_eq l k ≡ b → cond b (Some w) (at k ps) ≡ Some v
     → is_known seen k ≡ false → passes (same v) (at k qs) ≡ true
@@ -92,13 +92,13 @@ under-elim-head seen l w ps qs here later k v true e f unseen =
     subst (λ (x : Value). passes (same x) (at k qs) ≡ true) (same_Some w v f) (known_or _ _ unseen there)
 under-elim-head seen l w ps qs here later k v false e f unseen = later k v f (rw (e, unseen) refl)
 
-under-elim : (seen : List (List ℕ)) (ps qs : Pairs) → same_under seen ps qs ≡ true → Agrees seen ps qs
+under-elim : (seen : List (List ℕ)) (ps qs : ValuePairs) → same_under seen ps qs ≡ true → Agrees seen ps qs
 under-elim seen no_pairs qs h k v e unseen = absurd (none-some v e)
 under-elim seen (pair l w ps) qs h k v e unseen =
     let both = and_parts (is_known seen l || passes (same w) (at l qs)) (same_under (l ∷ seen) ps qs) h in
     under-elim-head seen l w ps qs both.0 (under-elim (l ∷ seen) ps qs both.1) k v (bytes_eq l k) refl e unseen
 
-under-intro : (seen : List (List ℕ)) (ps qs : Pairs) → Agrees seen ps qs → same_under seen ps qs ≡ true
+under-intro : (seen : List (List ℕ)) (ps qs : ValuePairs) → Agrees seen ps qs → same_under seen ps qs ≡ true
 under-intro seen no_pairs qs h = refl
 under-intro seen (pair l w ps) qs h =
     and_from _ _
@@ -113,7 +113,7 @@ same_at None None = true
 same_at None (Some w) = false
 same_at (Some v) p = passes (same v) p
 
-abbrev pub SameAtEach : Pairs → Pairs → Type 0
+abbrev pub SameAtEach : ValuePairs → ValuePairs → Type 0
 SameAtEach ps qs = (k : List ℕ) → same_at (at k ps) (at k qs) ≡ true
 
 same_at-from : (o p : Option Value) → ((v : Value) → o ≡ Some v → passes (same v) p ≡ true)
@@ -131,13 +131,13 @@ same_at-there None None w h e = absurd (none-some w e)
 same_at-there None (Some x) w h e = h
 same_at-there (Some v) p w h e = refl
 
-pub object-elim : (ps qs : Pairs) → same (object ps) (object qs) ≡ true → SameAtEach ps qs
+pub object-elim : (ps qs : ValuePairs) → same (object ps) (object qs) ≡ true → SameAtEach ps qs
 object-elim ps qs h k =
     let both = and_parts (same_under [] ps qs) (has_keys_within qs ps) h in
     same_at-from (at k ps) (at k qs) (λ v e. under-elim [] ps qs both.0 k v e refl)
     (λ w e. within-elim qs ps both.1 k w e)
 
-pub object-intro : (ps qs : Pairs) → SameAtEach ps qs → same (object ps) (object qs) ≡ true
+pub object-intro : (ps qs : ValuePairs) → SameAtEach ps qs → same (object ps) (object qs) ≡ true
 object-intro ps qs h =
     and_from _ _ (under-intro [] ps qs (λ k v e unseen. same_at-passes (at k ps) (at k qs) v (h k) e))
     (within-intro qs ps (λ k w e. same_at-there (at k ps) (at k qs) w (h k) e))
@@ -147,7 +147,7 @@ same_at-refl : (o : Option Value) → ((v : Value) → o ≡ Some v → same v v
 same_at-refl None h = refl
 same_at-refl (Some v) h = h v refl
 
-object-refl : (ps : Pairs) → Each (λ v. same v v ≡ true) ps → same (object ps) (object ps) ≡ true
+object-refl : (ps : ValuePairs) → Each (λ v. same v v ≡ true) ps → same (object ps) (object ps) ≡ true
 object-refl ps each = object-intro ps ps (λ k. same_at-refl (at k ps)
     (λ v e. each_found (λ x. same x x ≡ true) ps k v each e))
 
@@ -164,7 +164,7 @@ mutual
   items-refl no_values = refl
   items-refl (value v vs) = and_from _ _ (same-refl v) (items-refl vs)
 
-  each-refl : (ps : Pairs) → Each (λ v. same v v ≡ true) ps
+  each-refl : (ps : ValuePairs) → Each (λ v. same v v ≡ true) ps
   each-refl no_pairs = tt
   each-refl (pair k v ps) = (same-refl v, each-refl ps)
 
@@ -180,7 +180,7 @@ same_at-alike (Some v) None r alike h = absurd (false≢true h)
 same_at-alike (Some v) (Some w) None alike h = refl
 same_at-alike (Some v) (Some w) (Some x) alike h = alike v refl w h x
 
-object-alike : (ps qs xs : Pairs) → Each IsAlike ps → same (object ps) (object qs) ≡ true
+object-alike : (ps qs xs : ValuePairs) → Each IsAlike ps → same (object ps) (object qs) ≡ true
     → same (object ps) (object xs) ≡ same (object qs) (object xs)
 object-alike ps qs xs each h =
     let along : (k : List ℕ) → same_at (at k ps) (at k xs) ≡ same_at (at k qs) (at k xs) = λ k. same_at-alike (at k ps)
@@ -214,7 +214,7 @@ mutual
       rw (same-alike v w both.0 x, items-alike vs ws both.1 xs) refl
   items-alike _ _ h _ = absurd (false≢true h)
 
-  each-alike : (ps : Pairs) → Each IsAlike ps
+  each-alike : (ps : ValuePairs) → Each IsAlike ps
   each-alike no_pairs = tt
   each-alike (pair k v ps) = (same-alike v, each-alike ps)
 

@@ -23,36 +23,36 @@ same_form-refl false = refl
 -- ---- the order of insertion has each position once
 
 -- how often i occurs in a, a + 1, ..., a + n - 1
-abbrev count : ℕ → ℕ → ℕ → ℕ
-count i a n = count_by (λ j. j == i) (range_with_len a n)
+abbrev occurrences : ℕ → ℕ → ℕ → ℕ
+occurrences i a n = count_by (λ j. j == i) (range_with_len a n)
 
-count-step : (i a n : ℕ) → count i a (suc n) ≡ cond (a == i) 1 0 + count i (suc a) n
-count-step i a n =
+occurrences-step : (i a n : ℕ) → occurrences i a (suc n) ≡ cond (a == i) 1 0 + occurrences i (suc a) n
+occurrences-step i a n =
     sum_by-cons (λ j. cond (j == i) 1 0) a (range_with_len (a + 1) n)
-    ∙ ap (λ b. cond (a == i) 1 0 + count i b n) (sym (suc-eq-add-one a))
+    ∙ ap (λ b. cond (a == i) 1 0 + occurrences i b n) (sym (suc-eq-add-one a))
 
-count-past : (i a n : ℕ) → i < a → count i a n ≡ 0
-count-past i a zero h = refl
-count-past i a (suc n) h =
-    count-step i a n ∙ ap (λ t. cond t 1 0 + count i (suc a) n) (ne_eqb a i (λ e. ne_of_lt h (sym e)))
-    ∙ zero-add (count i (suc a) n) ∙ count-past i (suc a) n (lt_trans h (lt-suc_self a))
+occurrences-past : (i a n : ℕ) → i < a → occurrences i a n ≡ 0
+occurrences-past i a zero h = refl
+occurrences-past i a (suc n) h =
+    occurrences-step i a n ∙ ap (λ t. cond t 1 0 + occurrences i (suc a) n) (ne_eqb a i (λ e. ne_of_lt h (sym e)))
+    ∙ zero-add (occurrences i (suc a) n) ∙ occurrences-past i (suc a) n (lt_trans h (lt-suc_self a))
 
-count-one : (a k n : ℕ) → k < n → count (a + k) a n ≡ 1
-count-one a k zero h = absurd (not-suc-le-zero h)
-count-one a zero (suc n) h =
-    count-step (a + zero) a n ∙ ap (λ t. cond t 1 0 + count (a + zero) (suc a) n)
+occurrences-one : (a k n : ℕ) → k < n → occurrences (a + k) a n ≡ 1
+occurrences-one a k zero h = absurd (not-suc-le-zero h)
+occurrences-one a zero (suc n) h =
+    occurrences-step (a + zero) a n ∙ ap (λ t. cond t 1 0 + occurrences (a + zero) (suc a) n)
     (eq-eqb a (a + zero) (sym (add-zero a)))
-    ∙ ap (λ c. 1 + c) (count-past (a + zero) (suc a) n (subst (λ x. x < suc a) (sym (add-zero a)) (lt-suc_self a)))
-count-one a (suc k) (suc n) h =
-    count-step (a + suc k) a n ∙ ap (λ t. cond t 1 0 + count (a + suc k) (suc a) n)
+    ∙ ap (λ c. 1 + c) (occurrences-past (a + zero) (suc a) n (subst (λ x. x < suc a) (sym (add-zero a)) (lt-suc_self a)))
+occurrences-one a (suc k) (suc n) h =
+    occurrences-step (a + suc k) a n ∙ ap (λ t. cond t 1 0 + occurrences (a + suc k) (suc a) n)
     (ne_eqb a (a + suc k) (ne_of_lt (subst (λ x. a < x) (sym (add-suc a k)) (suc-le-suc_iff.1 (le-add_right a k)))))
-    ∙ zero-add (count (a + suc k) (suc a) n) ∙ ap (λ i. count i (suc a) n) (add-suc a k ∙ sym (suc-add a k))
-    ∙ count-one (suc a) k n (le_of_suc-le-suc h)
+    ∙ zero-add (occurrences (a + suc k) (suc a) n) ∙ ap (λ i. occurrences i (suc a) n) (add-suc a k ∙ sym (suc-add a k))
+    ∙ occurrences-one (suc a) k n (le_of_suc-le-suc h)
 
 pub IsOrder-insertion : (n : ℕ) → IsOrder n (insertion n)
 IsOrder-insertion n = record {
   as_many = length-range_with_len 0 n;
-  once = λ i h. subst (λ x. count x 0 n ≡ 1) (zero-add i) (count-one 0 i n h);
+  once = λ i h. subst (λ x. occurrences x 0 n ≡ 1) (zero-add i) (occurrences-one 0 i n h);
 }
 
 -- ---- the styles

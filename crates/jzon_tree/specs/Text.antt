@@ -5,7 +5,7 @@ use Rattle.std.specs.Char.{digit_char}
 use Rattle.jzon_base.specs.NumberText.{written_text}
 use Rattle.jzon_base.specs.Tokens.{begin_array, begin_object, end_array, end_object, escape, quotation_mark}
 use Rattle.jzon_base.specs.Tokens.{value_separator}
-use Rattle.jzon_tree.specs.Value.{Value, null, boolean, text, number, array, object, Values, no_values, value, Pairs}
+use Rattle.jzon_tree.specs.Value.{Value, null, boolean, text, number, array, object, Values, no_values, value, ValuePairs}
 use Rattle.jzon_tree.specs.Value.{no_pairs, pair}
 
 -- The escaped form of byte c in a string: a simple escape if there is one, `\u00` and two lower-case digits for the
@@ -32,13 +32,13 @@ boolean_text b = if b then codes "true" else codes "false"
 
 -- What precedes each element, each key and each closing bracket of a non-empty container, by the number of open
 -- containers, and what separates a key from its value.
-pub record Layout : Type 0 where
+pub record Spacing : Type 0 where
   pub line : ℕ → List ℕ
   pub colon : List ℕ
 
 abbrev mutual
   -- the text of a value inside `depth` open containers
-  pub layout_text : Layout → ℕ → Value → List ℕ
+  pub layout_text : Spacing → ℕ → Value → List ℕ
   layout_text l depth null = codes "null"
   layout_text l depth (boolean b) = boolean_text b
   layout_text l depth (text k s) = quoted s
@@ -53,24 +53,24 @@ abbrev mutual
       ++ more_pairs_text l depth ps)
 
   -- the remaining elements and the closing bracket
-  pub more_values_text : Layout → ℕ → Values → List ℕ
+  pub more_values_text : Spacing → ℕ → Values → List ℕ
   more_values_text l depth no_values = l.line depth ++ end_array ∷ []
   more_values_text l depth (value v vs) = value_separator
       ∷ (l.line (suc depth) ++ layout_text l (suc depth) v ++ more_values_text l
       depth vs)
 
-  pub more_pairs_text : Layout → ℕ → Pairs → List ℕ
+  pub more_pairs_text : Spacing → ℕ → ValuePairs → List ℕ
   more_pairs_text l depth no_pairs = l.line depth ++ end_object ∷ []
   more_pairs_text l depth (pair k v ps) =
       value_separator ∷ (l.line (suc depth) ++ quoted k ++ l.colon ++ layout_text l (suc depth) v
       ++ more_pairs_text l depth ps)
 
 -- no whitespace
-abbrev pub compact_layout : Layout
+abbrev pub compact_layout : Spacing
 compact_layout = record { line = λ depth. []; colon = codes ":" }
 
 -- a newline and `spaces` spaces for each open container, and a space after each colon
-abbrev pub pretty_layout : ℕ → Layout
+abbrev pub pretty_layout : ℕ → Spacing
 pretty_layout spaces = record { line = λ depth. 10 ∷ replicate (depth * spaces) 32; colon = codes ": " }
 
 abbrev pub compact : Value → List ℕ

@@ -15,15 +15,15 @@ mutual
     text : Kind → List ℕ → Value
     number : Decimal → Value
     array : Values → Value
-    object : Pairs → Value
+    object : ValuePairs → Value
 
   pub data Values : Type 0 where
     no_values : Values
     value : Value → Values → Values
 
-  pub data Pairs : Type 0 where
-    no_pairs : Pairs
-    pair : List ℕ → Value → Pairs → Pairs
+  pub data ValuePairs : Type 0 where
+    no_pairs : ValuePairs
+    pair : List ℕ → Value → ValuePairs → ValuePairs
 
 -- the kind of a string read from a text: short up to 30 bytes
 abbrev pub kind_of : List ℕ → Kind
@@ -35,7 +35,7 @@ abbrev pub values_of : List Value → Values
 values_of [] = no_values
 values_of (v ∷ vs) = value v (values_of vs)
 
-abbrev pub pairs_of : List (List ℕ × Value) → Pairs
+abbrev pub pairs_of : List (List ℕ × Value) → ValuePairs
 pairs_of [] = no_pairs
 pairs_of (p ∷ ps) = pair p.0 p.1 (pairs_of ps)
 
@@ -43,7 +43,7 @@ abbrev pub list_of_values : Values → List Value
 list_of_values no_values = []
 list_of_values (value v vs) = v ∷ list_of_values vs
 
-abbrev pub list_of_pairs : Pairs → List (List ℕ × Value)
+abbrev pub list_of_pairs : ValuePairs → List (List ℕ × Value)
 list_of_pairs no_pairs = []
 list_of_pairs (pair k v ps) = (k, v) ∷ list_of_pairs ps
 
@@ -64,6 +64,6 @@ abbrev mutual
   most_nest no_values = 0
   most_nest (value v vs) = max (nest v) (most_nest vs)
 
-  pub most_nest_under : Pairs → ℕ
+  pub most_nest_under : ValuePairs → ℕ
   most_nest_under no_pairs = 0
   most_nest_under (pair k v ps) = max (nest v) (most_nest_under ps)

@@ -1,6 +1,6 @@
 -- The value that a `JsonValue` stands for.
 use Rattle.std.specs.Prelude.{ℕ, List, map, string_bytes}
-use Rattle.jzon_tree.specs.Value.{Value, Values, Pairs, null, boolean, number, text, array, object, short, long}
+use Rattle.jzon_tree.specs.Value.{Value, Values, ValuePairs, null, boolean, number, text, array, object, short, long}
 use Rattle.jzon_tree.specs.Value.{values_of, pairs_of}
 use Rattle.jzon_tree.specs.Entries.{entries_of}
 use Rattle.jzon_tree.specs.declared.object.Object.{Object}
@@ -8,7 +8,7 @@ use Rattle.jzon_tree.specs.declared.value.JsonValue.{JsonValue, fold-JsonValue}
 use Rattle.jzon_tree.specs.declared.value.JsonValue.TheOpen.{JsonValue-F, Object-F}
 
 -- one level, given the views of the values inside
-abbrev pub value_step : JsonValue-F Value Pairs → Value
+abbrev pub value_step : JsonValue-F Value ValuePairs → Value
 value_step JsonValue-F.Null = null
 value_step (JsonValue-F.Short s) = text short s
 value_step (JsonValue-F.String s) = text long (string_bytes s)
@@ -17,11 +17,11 @@ value_step (JsonValue-F.Boolean b) = boolean b
 value_step (JsonValue-F.Object ps) = object ps
 value_step (JsonValue-F.Array vs) = array (values_of vs.items)
 
-abbrev pub object_step : Object-F Value Pairs → Pairs
+abbrev pub object_step : Object-F Value ValuePairs → ValuePairs
 object_step o = pairs_of o.pairs
 
 abbrev pub view : JsonValue → Value
-view = fold-JsonValue Value Pairs value_step object_step
+view = fold-JsonValue Value ValuePairs value_step object_step
 
 -- the views of values and of entries
 abbrev pub view_values : List JsonValue → Values
@@ -30,7 +30,7 @@ view_values vs = values_of (map view vs)
 abbrev pub viewed : List (List ℕ × JsonValue) → List (List ℕ × Value)
 viewed ps = map (λ p. (p.0, view p.1)) ps
 
-abbrev pub view_pairs : List (List ℕ × JsonValue) → Pairs
+abbrev pub view_pairs : List (List ℕ × JsonValue) → ValuePairs
 view_pairs ps = pairs_of (viewed ps)
 
 -- the value that an `Object` stands for

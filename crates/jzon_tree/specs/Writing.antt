@@ -6,7 +6,7 @@ use Rattle.std.specs.List.{list_all}
 use Rattle.jzon_base.specs.NumberText.{written_text}
 use Rattle.jzon_base.specs.PairList.{keys_of}
 use Rattle.jzon_base.specs.Tokens.{begin_array, begin_object, end_array, end_object, value_separator}
-use Rattle.jzon_tree.specs.Value.{Value, null, boolean, text, number, array, object, Values, no_values, value, Pairs}
+use Rattle.jzon_tree.specs.Value.{Value, null, boolean, text, number, array, object, Values, no_values, value, ValuePairs}
 use Rattle.jzon_tree.specs.Value.{no_pairs, pair, list_of_pairs}
 use Rattle.jzon_tree.specs.Text.{quoted, boolean_text}
 
@@ -77,7 +77,7 @@ abbrev mutual
   WritesEach s dent _ _ = ⊥
 
   -- each of these texts is a text of the entry at its position: its key, a colon and its value
-  pub WritesPairs : Style → ℕ → Pairs → List (List ℕ) → Type 0
+  pub WritesPairs : Style → ℕ → ValuePairs → List (List ℕ) → Type 0
   WritesPairs s dent no_pairs [] = ⊤
   WritesPairs s dent (pair k v ps) (t ∷ ts) =
       ((wide : Bool) × (x : List ℕ) × IsTrue (s.colon wide) × Writes s dent v x

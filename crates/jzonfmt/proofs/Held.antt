@@ -8,7 +8,7 @@ use Rattle.std.proofs.lemmas.List.{length-append, length-take-le, length-drop, t
 use Rattle.std.proofs.Math.Seq.{drop-drop, take-append_seam, take-append-add, take-take, take-length}
 use Rattle.std.specs.Io.KnownBytes.{Appends, Keeps}
 use Rattle.jzon.specs.Written.{AppendsBeginning}
-use Rattle.jzonfmt.specs.Buffered.{listed, held_since, count}
+use Rattle.jzonfmt.specs.Buffered.{listed, held_since, known_len}
 use Rattle.jzonfmt.specs.Run.{WritesWhole}
 
 -- bytes that go from the buffer to the writer: what is held stays the same
@@ -91,7 +91,7 @@ stays_known start name name' x empty rest bs s a =
     (λ e. le-leb start (length x) (omega (arith, e))) s a
 
 module _ (start name name' : ℕ) (empty rest : List ℕ) (h : empty ≡ []) where
-  appends_all : (bs : List ℕ) (a b f : Option (List ℕ)) → start ≡ count a → (name ≡ name' → f ≡ b) → rest ≡ []
+  appends_all : (bs : List ℕ) (a b f : Option (List ℕ)) → start ≡ known_len a → (name ≡ name' → f ≡ b) → rest ≡ []
       → Appends (held_since start name empty a) (held_since start name' rest b) bs → Appends a f bs
   appends_all bs None b f s same l p = tt
   appends_all bs (Some x) None f s same l p = absurd (stays_known start name name' x empty rest bs s p)
@@ -100,7 +100,7 @@ module _ (start name name' : ℕ) (empty rest : List ℕ) (h : empty ≡ []) whe
       let k : g.1 ≡ length bs = omega (arith, g.2, ap (λ (l : List ℕ). length l) l) in
       rw (same g.0) (g.3 ∙ ap (λ (n : ℕ). x ++ take n bs) k ∙ ap (λ (l : List ℕ). x ++ l) (take-length bs))
 
-  appends_prefix : (bs : List ℕ) (a b f : Option (List ℕ)) → start ≡ count a → (name ≡ name' → f ≡ b)
+  appends_prefix : (bs : List ℕ) (a b f : Option (List ℕ)) → start ≡ known_len a → (name ≡ name' → f ≡ b)
       → Appends (held_since start name empty a) (held_since start name' rest b) bs
       → (k : ℕ) × (k ≤ length bs) × Appends a f (take k bs)
   appends_prefix bs None b f s same p = (0, omega arith, tt)
@@ -109,7 +109,7 @@ module _ (start name name' : ℕ) (empty rest : List ℕ) (h : empty ≡ []) whe
       let g = grown start name name' x y empty rest bs s h p in
       (g.1, omega (arith, g.2), rw (same g.0) g.3)
 
-  appends_part : (bs : List ℕ) (a b f : Option (List ℕ)) → start ≡ count a → (name ≡ name' → f ≡ b)
+  appends_part : (bs : List ℕ) (a b f : Option (List ℕ)) → start ≡ known_len a → (name ≡ name' → f ≡ b)
       → AppendsBeginning (held_since start name empty a) (held_since start name' rest b) bs → AppendsBeginning a f bs
   appends_part bs a b f s same (n, l, p) =
       let (k, m, q) = appends_prefix (take n bs) a b f s same p in
@@ -118,7 +118,7 @@ module _ (start name name' : ℕ) (empty rest : List ℕ) (h : empty ≡ []) whe
 
   -- the same by the result of all calls
   pub written : {E : Type 0} (r : Result (Unit {0}) E) (bs : List ℕ) (a b f : Option (List ℕ))
-      → start ≡ count a → (name ≡ name' → f ≡ b) → OnOk r (rest ≡ [])
+      → start ≡ known_len a → (name ≡ name' → f ≡ b) → OnOk r (rest ≡ [])
       → WritesWhole bs r (held_since start name empty a) (held_since start name' rest b) → WritesWhole bs r a f
   written (Ok u) bs a b f s same l p = appends_all bs a b f s same l p
   written (Err x) bs a b f s same l p = appends_part bs a b f s same p

@@ -9,7 +9,7 @@ use Rattle.jzon.specs.Error.TheVariants.{UnexpectedCharacter, UnexpectedEndOfJso
 use Rattle.jzon.specs.Error.TheVariants.{FailedUtf8Parsing, WrongType, OutOfMemory, DuplicateKey}
 use Rattle.jzon.specs.Reading.{Reading}
 use Rattle.jzon.specs.Answer.{IsErrorUnlessMemory}
-use Rattle.jzonfmt.specs.Run.{fault_of, Reads, Answers}
+use Rattle.jzonfmt.specs.Run.{fault_of, ReadsInput, Answers}
 use Rattle.jzonfmt.specs.declared.engine.Layout.{Layout}
 use Rattle.jzonfmt.specs.declared.engine.RunFault.{RunFault}
 use Rattle.jzonfmt.specs.declared.engine.RunFault.TheVariants.{Read, NotUtf8, Json, Write, Memory}
@@ -42,7 +42,7 @@ answers_error {T = T} reading layout input e (Err f) w u h r = subst
 
 -- the input was read to its end, whatever the result is
 pub reads_all : {T : Type 0} (r : Result T RunFault) (old new : Option (List ℕ)) (input : List ℕ)
-    → Consumes old new input × IsAtEnd new → Reads r old new input
+    → Consumes old new input × IsAtEnd new → ReadsInput r old new input
 reads_all (Ok v) old new input h = h
 reads_all (Err (Read e)) old new input h = h.0
 reads_all (Err NotUtf8) old new input h = h

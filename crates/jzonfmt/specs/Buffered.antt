@@ -17,9 +17,9 @@ held_since start name rest (Some xs) =
     if nat_le start (length xs) then Some (listed (record { writer = name; bytes = xs ++ rest })) else None
 
 -- how many bytes there are, 0 where they are unknown
-abbrev pub count : Option (List ℕ) → ℕ
-count None = 0
-count (Some xs) = length xs
+abbrev pub known_len : Option (List ℕ) → ℕ
+known_len None = 0
+known_len (Some xs) = length xs
 
 -- the bytes that the writer didn't take yet
 abbrev pub left : {W : Type 0} {S : Type 0} → Buffered W S → List ℕ

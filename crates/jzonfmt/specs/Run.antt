@@ -23,10 +23,10 @@ fault_of e = Json e
 -- ---- what is read
 
 -- these bytes are read: all of the reader's, unless it fails or an allocation fails
-abbrev pub Reads : {T : Type 0} → Result T RunFault → Option (List ℕ) → Option (List ℕ) → List ℕ → Type 0
-Reads (Err (Read e)) old new input = Consumes old new input
-Reads (Err Memory) old new input = Consumes old new input
-Reads _ old new input = Consumes old new input × IsAtEnd new
+abbrev pub ReadsInput : {T : Type 0} → Result T RunFault → Option (List ℕ) → Option (List ℕ) → List ℕ → Type 0
+ReadsInput (Err (Read e)) old new input = Consumes old new input
+ReadsInput (Err Memory) old new input = Consumes old new input
+ReadsInput _ old new input = Consumes old new input × IsAtEnd new
 
 -- the reader failed, or an allocation did
 abbrev pub IsReadFault : RunFault → Type 0
@@ -79,5 +79,5 @@ pub record Streams : Type 0 where
 -- some bytes are read, and the result is the one for them
 abbrev pub Runs : {T : Type 0} → Reading → Layout → Result T RunFault → Streams → Streams → Type 0
 Runs reading layout result before after =
-    (input : List ℕ) × Reads result before.unread after.unread input
+    (input : List ℕ) × ReadsInput result before.unread after.unread input
     × Answers reading layout input result before.written after.written

@@ -3,8 +3,8 @@
 ghost use Rattle.std.specs.Prelude.{◌≡◌, ℕ, List, [], IfOk, IfErr, OnOk, map, option_map, string_bytes, vec_len};
 ghost use Rattle.std.specs.Io.KnownBytes.{Consumes, Keeps};
 ghost use Rattle.jzon.specs.View.{view};
-ghost use Rattle.jzonfmt.specs.Buffered.{count, held, left};
-ghost use Rattle.jzonfmt.specs.Run.{Answers, IsReadFault, Reads, Runs, WritesWhole, line, text};
+ghost use Rattle.jzonfmt.specs.Buffered.{held, known_len, left};
+ghost use Rattle.jzonfmt.specs.Run.{Answers, IsReadFault, ReadsInput, Runs, WritesWhole, line, text};
 ghost use Rattle.jzonfmt.specs.Drive.{Drives, asked_layout, asked_options, asked_spaces, asking, fault_status};
 
 use crate::buffered::{Buffered, Start};
@@ -128,7 +128,7 @@ pub fn run<R: Read, W: Write>(
 /// Reads to the end, in chunks.
 fn read_input<R: Read>(alloc: Global, reader: &mut R) -> Result<Vec<u8>, RunFault>
     ensures all { IfOk result
-        (λ input. Reads result (R.remaining reader.old) (R.remaining reader.new) input.items) }
+        (λ input. ReadsInput result (R.remaining reader.old) (R.remaining reader.new) input.items) }
     ensures fault { IfErr result IsReadFault }
     ensures some { (input : List ℕ) × Consumes (R.remaining reader.old)
         (R.remaining reader.new) input }
@@ -182,7 +182,7 @@ fn write_line<W: Write, S: Start>(
     layout: Layout,
 ) -> io::Result<()>
     requires empty { memory.items ≡ [] }
-    requires start { S.start ≡ count (W.contents writer.old) }
+    requires start { S.start ≡ known_len (W.contents writer.old) }
     ensures { WritesWhole (line layout (view value.now)) result (W.contents writer.old)
         (W.contents writer.new) }
 {

@@ -19,7 +19,7 @@ use Rattle.jzon.specs.Grammar.{IsWhitespace, IsKey, IsNode, AreElements, AreMemb
 use Rattle.jzon.specs.Spelling.{duplicate, Cell, cell, plain, breach_if, items_cells, items_length, duplicate_if}
 use Rattle.jzon.specs.Spelling.{key_cells, node_cells, elements_cells, members_cells, cells}
 use Rattle.jzon.specs.Meaning.{bytes_of, meaning, elements_meaning, members_meaning}
-use Rattle.jzon.specs.Private.Machine.{Entries, Frames, no_frames, array_frame, object_frame, as_key, State, before}
+use Rattle.jzon.specs.Private.Machine.{EntriesSoFar, Frames, no_frames, array_frame, object_frame, as_key, State, before}
 use Rattle.jzon.specs.Private.Machine.{before_key, after_key, after_value, go, move, Outcome, meant, frames_depth}
 use Rattle.jzon.specs.Private.Machine.{value_mark, key_mark, repeated_if}
 use Rattle.jzon.specs.Private.Classes.{quote, opens_array, closes_array, opens_object, closes_object, comma, colon}
@@ -52,21 +52,21 @@ pub not_first_value : (r : Reading) (fs : Frames) (us : List Value) (v : Value)
 not_first_value r fs [] v = refl
 not_first_value r fs (u ∷ us) v = refl
 
-not_first_by : (r : Reading) (fs : Frames) (t : Bool) (p q : List ℕ × Value) (ps qs : Entries)
+not_first_by : (r : Reading) (fs : Frames) (t : Bool) (p q : List ℕ × Value) (ps qs : EntriesSoFar)
     → key_mark r fs (cond t (p ∷ ps) (q ∷ qs)) ≡ None
 not_first_by r fs true p q ps qs = refl
 not_first_by r fs false p q ps qs = refl
 
-pub not_first_key : (r : Reading) (fs : Frames) (k : List ℕ) (v : Value) (es : Entries)
+pub not_first_key : (r : Reading) (fs : Frames) (k : List ℕ) (v : Value) (es : EntriesSoFar)
     → key_mark r fs (put k v es) ≡ None
 not_first_key r fs k v [] = refl
 not_first_key r fs k v (e ∷ es) = not_first_by r fs (bytes_eq e.0 k) _ _ _ _
 
 -- the keys of the object so far are those in `seen`
-abbrev Knows : List (List ℕ) → Entries → Type 0
+abbrev Knows : List (List ℕ) → EntriesSoFar → Type 0
 Knows seen es = (q : List ℕ) → is_some (find q es) ≡ is_known seen q
 
-knows-put : (seen : List (List ℕ)) (es : Entries) (k : List ℕ) (v : Value) → Knows seen es
+knows-put : (seen : List (List ℕ)) (es : EntriesSoFar) (k : List ℕ) (v : Value) → Knows seen es
     → Knows (k ∷ seen) (put k v es)
 knows-put seen es k v h q = known-put q k v es ∙ ap (λ t. bytes_eq k q || t) (h q)
 
@@ -91,7 +91,7 @@ module _ (r : Reading) (G : Outcome → Type 0) where
 
   -- ---- keys
 
-  complete_key : (fs : Frames) (es : Entries) (seen : List (List ℕ)) (key : Key) (k : List Cell) → Knows seen es
+  complete_key : (fs : Frames) (es : EntriesSoFar) (seen : List (List ℕ)) (key : Key) (k : List Cell) → Knows seen es
       → IsKey r key → F k (before (object_frame fs es (bytes_of key.items)))
       → F (key_cells r seen key (key_mark r fs es) k) (before_key fs es)
   complete_key fs es seen key k knows ok h =
@@ -171,14 +171,14 @@ module _ (r : Reading) (G : Outcome → Type 0) where
               (sym (with_prefix-append vs v (value.value (meaning n) (elements_meaning es)))) h))))),
         )
 
-    complete_members : (ms : Members) (fs : Frames) (es : Entries) (key : List ℕ) (v : Value) (seen : List (List ℕ))
+    complete_members : (ms : Members) (fs : Frames) (es : EntriesSoFar) (key : List ℕ) (v : Value) (seen : List (List ℕ))
         (k : List Cell) → Knows seen (put key v es) → AreMembers r ms
         → F k (after_value fs
         (value.object (pairs_of (fold (λ qs p. put p.0 p.1 qs) (put key v es) (members_meaning ms)))))
         → F (members_cells r ms seen (suc (frames_depth fs)) k) (after_value (object_frame fs es key) v)
     complete_members no_members fs es key v seen k knows ok h = rw (class-char r.strict closes_object) (refl, h)
     complete_members (member key' b n c ms) fs es key v seen k knows ok h =
-        let so_far : Entries = put key v es in
+        let so_far : EntriesSoFar = put key v es in
         let inner : Frames = object_frame fs so_far (bytes_of key'.items) in
         let rest : List Cell = plain b (node_cells r n (suc (frames_depth fs)) None
         (plain c (members_cells r ms (bytes_of key'.items ∷ seen) (suc (frames_depth fs)) k))) in

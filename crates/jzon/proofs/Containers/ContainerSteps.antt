@@ -9,7 +9,7 @@ use Rattle.jzon.specs.Reading.{Reading}
 use Rattle.jzon.specs.Spelling.{deep, breach_if}
 use Rattle.jzon.specs.Fault.{limit}
 use Rattle.jzon.specs.Private.Classes.{Class, whitespace, quote, closes_array, closes_object, comma, colon, class_of}
-use Rattle.jzon.specs.Private.Machine.{Entries, Frames, frames_depth, array_frame, object_frame, as_key, between, State}
+use Rattle.jzon.specs.Private.Machine.{EntriesSoFar, Frames, frames_depth, array_frame, object_frame, as_key, between, State}
 use Rattle.jzon.specs.Private.Machine.{before, before_key, string, after_key, after_value}
 use Rattle.jzon.specs.Private.Machine.{allows_whitespace, go, bad, bad_at, value_mark, key_mark, move_before}
 use Rattle.jzon.specs.Private.Machine.{move_before_key, move_after_key, move_empty_object, move_after_value, refused}
@@ -56,7 +56,7 @@ deep_key r bs i fs u at lt s n h =
 
 -- ---- keys and colons
 
-pub open_key : (r : Reading) (bs : List ℕ) (i : ℕ) (fs : Frames) (es : Entries) → IsUtf8 bs → IsCharBoundary bs i
+pub open_key : (r : Reading) (bs : List ℕ) (i : ℕ) (fs : Frames) (es : EntriesSoFar) → IsUtf8 bs → IsCharBoundary bs i
     → i < length bs → get_or bs i 0 ≡ 34 → key_mark r fs es ≡ None
     → from r bs (before_key fs es) i ≡ from r bs (string (as_key fs es (left_at bs i)) [] between) (i + 1)
 open_key r bs i fs es u at lt e h =
@@ -64,11 +64,11 @@ open_key r bs i fs es u at lt e h =
     (ap (λ k. move_before_key r k fs es (left_at bs i)) (class-char r.strict quote)
     ∙ ap (λ m. go m (string (as_key fs es (left_at bs i)) [] between)) h)
 
-no_pairs_on : (fs : Frames) (es : Entries) → (es ≡ [] → ⊥) → move_empty_object fs es ≡ bad
+no_pairs_on : (fs : Frames) (es : EntriesSoFar) → (es ≡ [] → ⊥) → move_empty_object fs es ≡ bad
 no_pairs_on fs [] h = absurd (h refl)
 no_pairs_on fs (e ∷ es) h = refl
 
-no_key_on : (r : Reading) (fs : Frames) (es : Entries) (c left : ℕ) (k : Class) → key_mark r fs es ≡ None
+no_key_on : (r : Reading) (fs : Frames) (es : EntriesSoFar) (c left : ℕ) (k : Class) → key_mark r fs es ≡ None
     → is_whitespace r.strict c ≡ false → c ≢ 34
     → (es ≡ [] → c ≢ 125) → class_of r.strict c ≡ k → move_before_key r k fs es left ≡ bad
 no_key_on r fs es c left whitespace h s q n e = absurd (no_space r.strict c s e)
@@ -77,7 +77,7 @@ no_key_on r fs es c left closes_object h s q n e = no_pairs_on fs es (λ f. n f 
 no_key_on r fs es c left _ h s q n e = ap bad_at h
 
 -- no key begins here
-pub no_key : (r : Reading) (bs : List ℕ) (i : ℕ) (fs : Frames) (es : Entries) → key_mark r fs es ≡ None
+pub no_key : (r : Reading) (bs : List ℕ) (i : ℕ) (fs : Frames) (es : EntriesSoFar) → key_mark r fs es ≡ None
     → (i < length bs → is_whitespace r.strict (get_or bs i 0) ≡ false) → ((i < length bs) × (get_or bs i 0 ≡ 34) → ⊥)
     → (es ≡ [] → get_or bs i 0 ≢ 125) → StopsAt r (before_key fs es) bs i
 no_key r bs i fs es h s q n =
@@ -87,11 +87,11 @@ no_key r bs i fs es h s q n =
     (λ c wide. no_key_on r fs es c (left_at bs i) (class_of r.strict c) h (wide_is_no_space r.strict c wide)
     (λ e. absurd (omega (arith, e))) (λ f e. absurd (omega (arith, e))) refl)
 
-pub before_key_skips : (r : Reading) (fs : Frames) (es : Entries) → Skips r (before_key fs es) (is_whitespace r.strict)
+pub before_key_skips : (r : Reading) (fs : Frames) (es : EntriesSoFar) → Skips r (before_key fs es) (is_whitespace r.strict)
 before_key_skips r fs es =
     record { ascii = space_is_ascii r.strict; stays = λ c n e. rw (whitespace-class r c e) refl }
 
-pub after_key_skips : (r : Reading) (fs : Frames) (es : Entries) (k : List ℕ)
+pub after_key_skips : (r : Reading) (fs : Frames) (es : EntriesSoFar) (k : List ℕ)
     → Skips r (after_key fs es k) (is_whitespace r.strict)
 after_key_skips r fs es k =
     record { ascii = space_is_ascii r.strict; stays = λ c n e. rw (whitespace-class r c e) refl }
@@ -104,14 +104,14 @@ whitespace_skips r (after_key fs es k) e = after_key_skips r fs es k
 whitespace_skips r (after_value fs v) e = after_skips r fs v
 whitespace_skips r _ e = absurd (cc)
 
-no_colon_on : (r : Reading) (fs : Frames) (es : Entries) (k : List ℕ) (c : ℕ) (x : Class)
+no_colon_on : (r : Reading) (fs : Frames) (es : EntriesSoFar) (k : List ℕ) (c : ℕ) (x : Class)
     → is_whitespace r.strict c ≡ false → c ≢ 58 → class_of r.strict c ≡ x → move_after_key x fs es k ≡ bad
 no_colon_on r fs es k c whitespace s n e = absurd (no_space r.strict c s e)
 no_colon_on r fs es k c colon s n e = absurd (n (class-says r.strict c e))
 no_colon_on r fs es k c _ s n e = refl
 
 -- no colon follows the key here
-pub no_colon : (r : Reading) (bs : List ℕ) (i : ℕ) (fs : Frames) (es : Entries) (k : List ℕ)
+pub no_colon : (r : Reading) (bs : List ℕ) (i : ℕ) (fs : Frames) (es : EntriesSoFar) (k : List ℕ)
     → (i < length bs → is_whitespace r.strict (get_or bs i 0) ≡ false)
     → ((i < length bs) × (get_or bs i 0 ≡ 58) → ⊥) → StopsAt r (after_key fs es k) bs i
 no_colon r bs i fs es k s n =
@@ -143,7 +143,7 @@ no_element r bs i fs vs v s m n =
 
 -- ---- after a member's value
 
-no_entry_on : (r : Reading) (fs : Frames) (es : Entries) (k : List ℕ) (v : Value) (c : ℕ) (x : Class)
+no_entry_on : (r : Reading) (fs : Frames) (es : EntriesSoFar) (k : List ℕ) (v : Value) (c : ℕ) (x : Class)
     → is_whitespace r.strict c ≡ false → c ≢ 44 → c ≢ 125
     → class_of r.strict c ≡ x → move_after_value x (object_frame fs es k) v ≡ bad
 no_entry_on r fs es k v c whitespace s m n e = absurd (no_space r.strict c s e)
@@ -152,7 +152,7 @@ no_entry_on r fs es k v c closes_object s m n e = absurd (n (class-says r.strict
 no_entry_on r fs es k v c _ s m n e = refl
 
 -- the next character is neither a comma nor the closing bracket of the object
-pub no_entry : (r : Reading) (bs : List ℕ) (i : ℕ) (fs : Frames) (es : Entries) (k : List ℕ) (v : Value)
+pub no_entry : (r : Reading) (bs : List ℕ) (i : ℕ) (fs : Frames) (es : EntriesSoFar) (k : List ℕ) (v : Value)
     → (i < length bs → is_whitespace r.strict (get_or bs i 0) ≡ false) → ((i < length bs) × (get_or bs i 0 ≡ 44) → ⊥)
     → ((i < length bs) × (get_or bs i 0 ≡ 125) → ⊥) → StopsAt r (after_value (object_frame fs es k) v) bs i
 no_entry r bs i fs es k v s m n =

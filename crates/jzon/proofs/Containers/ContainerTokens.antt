@@ -10,7 +10,7 @@ use Rattle.jzon.specs.Private.Brackets.{after_closer}
 use Rattle.jzon.specs.Private.Classes.{Class, opens_array, closes_array, opens_object, closes_object, comma, colon}
 use Rattle.jzon.specs.Private.Classes.{class_of}
 use Rattle.jzon.specs.Private.Cursor.{left, next_byte, IsPast, IsAfter}
-use Rattle.jzon.specs.Private.Machine.{Entries, Frames, no_frames, array_frame, object_frame, as_key, between, before}
+use Rattle.jzon.specs.Private.Machine.{EntriesSoFar, Frames, no_frames, array_frame, object_frame, as_key, between, before}
 use Rattle.jzon.specs.Private.Machine.{before_key, string, after_key, after_value, frames_depth, value_mark, key_mark}
 use Rattle.jzon.specs.Private.Machine.{from, from_closed, left_at, fault_here, ReportsUnlessMemory, State, Move, go}
 use Rattle.jzon.specs.Private.Machine.{move, allows_whitespace, move_before, move_before_key, move_after_key}
@@ -140,7 +140,7 @@ item_stops b t (object_frame fs es k) v here no_comma no_end =
 -- ---- keys
 
 -- a key was read up to its closing quote, which is before this offset
-pub key_closes : (t : Cursor) (fs : Frames) (es : Entries) (text : List ℕ) (end : ℕ) → next_byte t ≡ 34
+pub key_closes : (t : Cursor) (fs : Frames) (es : EntriesSoFar) (text : List ℕ) (end : ℕ) → next_byte t ≡ 34
     → key_mark t.reading fs es ≡ None
     → from t.reading t.source.now (string (as_key fs es (left_at t.source.now t.index)) [] between) (t.index + 1)
     ≡ from_closed t.reading t.source.now (as_key fs es (left_at t.source.now t.index)) text end
@@ -150,20 +150,20 @@ key_closes t fs es text end e mark read =
     open_key t.reading t.source.now t.index fs es (utf8_of t) t.boundary
     (byte_within t.source.now t.index 34 e (lit< tt)) e mark ∙ read
 
-pub key_missing : (t : Cursor) (fs : Frames) (es : Entries) → key_mark t.reading fs es ≡ None → next_byte t ≢ 34
+pub key_missing : (t : Cursor) (fs : Frames) (es : EntriesSoFar) → key_mark t.reading fs es ≡ None → next_byte t ≢ 34
     → (es ≡ [] → next_byte t ≢ 125) → left t (before_key fs es) ≡ fault_here (chars (drop t.index t.source.now))
 key_missing t fs es mark no_quote no_end =
     from_stop t.reading t.source.now t.index (before_key fs es) (utf8_of t) t.boundary
     (no_key t.reading t.source.now t.index fs es mark t.past_whitespace (λ here. no_quote here.1) no_end)
 
-pub colon_read : (t u : Cursor) (o : State) (end : ℕ) (fs : Frames) (es : Entries) (k : List ℕ)
+pub colon_read : (t u : Cursor) (o : State) (end : ℕ) (fs : Frames) (es : EntriesSoFar) (k : List ℕ)
     → ReadTo t o (after_key fs es k) end → IsPast t.reading t.source.now (end + 1) u → get_or t.source.now end 0 ≡ 58
     → IsAfter t u × (left t o ≡ left u (before (object_frame fs es k)))
 colon_read t u o end fs es k read past e =
     leads_at colon t u o (after_key fs es k) (before (object_frame fs es k)) end (λ x. move_after_key x fs es k) refl
     refl (lit< tt) (lit< tt) refl read past e
 
-pub colon_missing : (t : Cursor) (fs : Frames) (es : Entries) (k : List ℕ) → next_byte t ≢ 58
+pub colon_missing : (t : Cursor) (fs : Frames) (es : EntriesSoFar) (k : List ℕ) → next_byte t ≢ 58
     → left t (after_key fs es k) ≡ fault_here (chars (drop t.index t.source.now))
 colon_missing t fs es k none =
     from_stop t.reading t.source.now t.index (after_key fs es k) (utf8_of t) t.boundary

@@ -15,7 +15,7 @@ use Rattle.jzon_tree.proofs.Views.{viewed-put}
 use Rattle.jzon.specs.Reading.{Reading}
 use Rattle.jzon.specs.Spelling.{breach_if, deep}
 use Rattle.jzon.specs.Private.Brackets.{innermost_bracket, after_comma, after_closer}
-use Rattle.jzon.specs.Private.Machine.{Entries, Frames, array_frame, frames_depth, is_fresh}
+use Rattle.jzon.specs.Private.Machine.{EntriesSoFar, Frames, array_frame, frames_depth, is_fresh}
 use Rattle.jzon.specs.Private.Machine.{before, before_key, after_value, value_mark, key_mark}
 use Rattle.jzon.specs.Private.OpenContainers.{Container, entries_so_far, last_key, open_as, frames_in, whole_as}
 use Rattle.jzon.specs.Private.OpenContainers.{before_item_as, AwaitsValue, IsEven, with_value}
@@ -40,7 +40,7 @@ pub value_mark-shallow : (r : Reading) (fs : Frames) → frames_depth fs ≤ r.d
 value_mark-shallow r (array_frame fs []) le = not_too_deep r.depth (frames_depth fs) (omega arith)
 value_mark-shallow r _ le = refl
 
-pub key_mark-shallow : (r : Reading) (fs : Frames) (es : Entries) → frames_depth fs < r.depth → key_mark r fs es ≡ None
+pub key_mark-shallow : (r : Reading) (fs : Frames) (es : EntriesSoFar) → frames_depth fs < r.depth → key_mark r fs es ≡ None
 key_mark-shallow r fs [] lt = not_too_deep r.depth (frames_depth fs) lt
 key_mark-shallow r fs (e ∷ es) lt = refl
 

@@ -18,7 +18,7 @@ use Rattle.jzon.specs.Fault.{Spells}
 use Rattle.jzon.specs.Private.Classes.{Class, whitespace, digits, minus_char, quote, opens_array, closes_array}
 use Rattle.jzon.specs.Private.Classes.{opens_object, closes_object, comma, colon, begins_null, begins_true}
 use Rattle.jzon.specs.Private.Classes.{begins_false, class_of, after_first_digit, after_minus}
-use Rattle.jzon.specs.Private.Machine.{Entries, Frames, no_frames, array_frame, object_frame, as_value, as_key, State}
+use Rattle.jzon.specs.Private.Machine.{EntriesSoFar, Frames, no_frames, array_frame, object_frame, as_value, as_key, State}
 use Rattle.jzon.specs.Private.Machine.{before, Role, Move, numeral, last, meant, meant_at, closed_string, before_key}
 use Rattle.jzon.specs.Private.Machine.{word, string, after_key, after_value, between, go, bad, past_letter, value_mark}
 use Rattle.jzon.specs.Private.Machine.{key_mark, bad_at, move_before, move_before_key, move_after_key, move_after_value}
@@ -57,17 +57,17 @@ module _ (r : Reading) (v : Value) where
   ArrayCloses _ t = ⊥
 
   -- whitespace, a colon and a value
-  abbrev ColonLeft : Frames → Entries → List ℕ → List ℕ → Type 0
+  abbrev ColonLeft : Frames → EntriesSoFar → List ℕ → List ℕ → Type 0
   ColonLeft fs es k t = (z : List ℕ) × (u : List ℕ) × IsWhitespace r z × (t ≡ z ++ (58 ∷ u))
       × ValueLeft (object_frame fs es k) u
 
   -- a key, a colon and a value
-  abbrev MemberLeft : Frames → Entries → List ℕ → Type 0
+  abbrev MemberLeft : Frames → EntriesSoFar → List ℕ → Type 0
   MemberLeft fs es t = (key : Key) × (b : List ℕ) × (n : Node) × (u : List ℕ) × IsKey r key × IsWhitespace r b
       × IsNode r n × (t ≡ key_chars key (b ++ node_chars n u))
       × AfterValue (object_frame fs es (bytes_of key.items)) (meaning n) u
 
-  abbrev ObjectCloses : Frames → Entries → List ℕ → Type 0
+  abbrev ObjectCloses : Frames → EntriesSoFar → List ℕ → Type 0
   ObjectCloses fs [] t = (w : List ℕ) × (u : List ℕ) × IsWhitespace r w × (t ≡ w ++ (125 ∷ u))
       × AfterValue fs (value.object value.no_pairs) u
   ObjectCloses fs (e ∷ es) t = ⊥
@@ -126,7 +126,7 @@ module _ (r : Reading) (v : Value) where
         no_close [] h = h
         no_close (y ∷ us) h = h
 
-    member_on : (fs : Frames) (es : Entries) (k : List ℕ) (x : Value) → c ≡ 44 → Left (before_key fs (put k x es)) cs
+    member_on : (fs : Frames) (es : EntriesSoFar) (k : List ℕ) (x : Value) → c ≡ 44 → Left (before_key fs (put k x es)) cs
         → AfterValue (object_frame fs es k) x (c ∷ cs)
     member_on fs es k x e (inl (key, b, y, u, key_ok, b_ok, y_ok, f, (w, ms, u', w_ok, ms_ok, g, h))) = (
       [],
@@ -139,12 +139,12 @@ module _ (r : Reading) (v : Value) where
     )
     member_on fs es k x e (inr h) = absurd (no_close es h)
       where
-        by_test : (a : Bool) (p q : List ℕ × Value) (ps qs : Entries)
+        by_test : (a : Bool) (p q : List ℕ × Value) (ps qs : EntriesSoFar)
             → ObjectCloses fs (cond a (p ∷ ps) (q ∷ qs)) cs → ⊥
         by_test true p q ps qs h = h
         by_test false p q ps qs h = h
 
-        no_close : (ps : Entries) → ObjectCloses fs (put k x ps) cs → ⊥
+        no_close : (ps : EntriesSoFar) → ObjectCloses fs (put k x ps) cs → ⊥
         no_close [] h = h
         no_close (p ∷ ps) h = by_test (bytes_eq p.0 k) _ _ _ _ h
 
@@ -257,7 +257,7 @@ module _ (r : Reading) (v : Value) where
 
     -- keys
 
-    key_more : (fs : Frames) (es : Entries) → class_of r.strict c ≡ whitespace → Left (before_key fs es) cs
+    key_more : (fs : Frames) (es : EntriesSoFar) → class_of r.strict c ≡ whitespace → Left (before_key fs es) cs
         → Left (before_key fs es) (c ∷ cs)
     key_more fs es e (inl (key, b, x, u, (a_ok, i_ok, z_ok), b_ok, x_ok, f, h)) =
         inl (
@@ -275,11 +275,11 @@ module _ (r : Reading) (v : Value) where
         inr (c ∷ w, u, (class-says r.strict c e, w_ok), ap (λ z. c ∷ z) f, h)
     key_more fs (x ∷ es) e (inr h) = absurd h
 
-    object_closes : (fs : Frames) (es : Entries) → c ≡ 125 → M (move_empty_object fs es) → ObjectCloses fs es (c ∷ cs)
+    object_closes : (fs : Frames) (es : EntriesSoFar) → c ≡ 125 → M (move_empty_object fs es) → ObjectCloses fs es (c ∷ cs)
     object_closes fs [] e h = ([], cs, tt, ap (λ z. z ∷ cs) e, ih (after_value fs (value.object value.no_pairs)) h)
     object_closes fs (x ∷ es) e h = absurd h
 
-    quote_on : (fs : Frames) (es : Entries) (opened : ℕ) → c ≡ 34 → Left (string (as_key fs es opened) [] between) cs
+    quote_on : (fs : Frames) (es : EntriesSoFar) (opened : ℕ) → c ≡ 34 → Left (string (as_key fs es opened) [] between) cs
         → MemberLeft fs es (c ∷ cs)
     quote_on fs es opened e (is, u, is_ok, f, (z, u', z_ok, g, (b, x, u'', b_ok, x_ok, k, h))) = (
       record { before = []; items = is; after = z },
@@ -293,7 +293,7 @@ module _ (r : Reading) (v : Value) where
       h,
     )
 
-    key_on : (k : Class) (fs : Frames) (es : Entries) → class_of r.strict c ≡ k
+    key_on : (k : Class) (fs : Frames) (es : EntriesSoFar) → class_of r.strict c ≡ k
         → M (move_before_key r k fs es (suc (length cs))) → Left (before_key fs es) (c ∷ cs)
     key_on whitespace fs es e h = key_more fs es e (ih (before_key fs es) h)
     key_on quote fs es e h =
@@ -302,12 +302,12 @@ module _ (r : Reading) (v : Value) where
     key_on closes_object fs es e h = inr (object_closes fs es (class-says r.strict c e) h)
     key_on _ fs es e h = absurd (no_more (key_mark r fs es) _ h)
 
-    colon_value : (fs : Frames) (es : Entries) (k : List ℕ) → c ≡ 58 → Left (before (object_frame fs es k)) cs
+    colon_value : (fs : Frames) (es : EntriesSoFar) (k : List ℕ) → c ≡ 58 → Left (before (object_frame fs es k)) cs
         → ColonLeft fs es k (c ∷ cs)
     colon_value fs es k e (inl h) = ([], cs, tt, ap (λ z. z ∷ cs) e, h)
     colon_value fs es k e (inr h) = absurd h
 
-    colon_on : (class : Class) (fs : Frames) (es : Entries) (k : List ℕ) → class_of r.strict c ≡ class
+    colon_on : (class : Class) (fs : Frames) (es : EntriesSoFar) (k : List ℕ) → class_of r.strict c ≡ class
         → M (move_after_key class fs es k) → ColonLeft fs es k (c ∷ cs)
     colon_on whitespace fs es k e h =
         let g = ih (after_key fs es k) h in (c ∷ g.0, g.1, (class-says r.strict c e, g.2), ap (λ z. c ∷ z) g.3, g.4)

@@ -30,7 +30,7 @@ use Rattle.jzon.specs.Grammar.{is_surrogate, code_unit, IsNode, AreElements, Are
 use Rattle.jzon.specs.Grammar as grammar
 use Rattle.jzon.specs.Spelling.{Breach, Cell, cell, plain, deep_if, deep, breach_if, node_cells, elements_cells}
 use Rattle.jzon.specs.Spelling.{members_cells, cells}
-use Rattle.jzon.specs.Meaning.{written_exponent, number_of, unescaped, pair_char, item_text, text_of, bytes_of, meaning}
+use Rattle.jzon.specs.Meaning.{written_exponent, number_of, unescaped, pair_char, item_text, characters_of, bytes_of, meaning}
 use Rattle.jzon.specs.Meaning.{elements_meaning, members_meaning}
 use Rattle.jzon.specs.Fault.{Parses}
 use Rattle.jzon.specs.Laws.{IsReadAs, Redump}
@@ -95,7 +95,7 @@ bytes_utf8 : (is : List Item) → AreItems is → IsUtf8 (bytes_of is)
 unfolding bytes_of
 bytes_utf8 [] h = IsUtf8-nil
 bytes_utf8 (i ∷ is) h =
-    subst IsUtf8 (sym (encodes-append (item_text i) (text_of is)))
+    subst IsUtf8 (sym (encodes-append (item_text i) (characters_of is)))
     (IsUtf8-append _ _ (item_text i, (item_scalars i h.0, refl)) (bytes_utf8 is h.1))
 
 -- ---- objects

@@ -12,7 +12,7 @@ use Rattle.jzon_base.specs.Decimal.{nan, parts}
 use Rattle.jzon_base.specs.PairList.{keys_of, find, put_each}
 use Rattle.jzon_base.proofs.PutEach.{put_each-distinct}
 use Rattle.jzon_tree.specs.Value.{Value, null, boolean, text, number, array, object, Values, no_values, value}
-use Rattle.jzon_tree.specs.Value.{values_of, Pairs, no_pairs, pair, pairs_of, list_of_pairs, nest, most_nest}
+use Rattle.jzon_tree.specs.Value.{values_of, ValuePairs, no_pairs, pair, pairs_of, list_of_pairs, nest, most_nest}
 use Rattle.jzon_tree.specs.Value.{most_nest_under}
 use Rattle.jzon_tree.specs.Text.{quoted}
 use Rattle.jzon_tree.specs.Lawful.{IsValue, AreValues, ArePairs, HasNoNan, HaveNoNan, PairsHaveNoNan}
@@ -49,7 +49,7 @@ record ReadNodes (r : Reading) (vs : Values) (ts : List (List ℕ)) : Type 0 whe
   alike : same_items (values_of (map meaning nodes)) vs ≡ true
 
 -- in the order of the object
-record ReadEntries (r : Reading) (ps : Pairs) (ts : List (List ℕ)) : Type 0 where
+record ReadEntries (r : Reading) (ps : ValuePairs) (ts : List (List ℕ)) : Type 0 where
   entries : List Entry
   texts : map entry_text entries ≡ ts
   spell : AllByRecursion (EntrySpells r (most_nest_under ps)) entries
@@ -101,7 +101,7 @@ array_from r s dent v vs b (t ∷ ts) (n ∷ ns) fit each alike w =
 -- ---- objects
 
 -- the entries in the order in which they are written
-object_from : (r : Reading) (s : Style) (dent : ℕ) (k : List ℕ) (v : Value) (ps : Pairs) (b : List ℕ) (es : List Entry)
+object_from : (r : Reading) (s : Style) (dent : ℕ) (k : List ℕ) (v : Value) (ps : ValuePairs) (b : List ℕ) (es : List Entry)
     → AllowsWhitespaceOf r s
     → AllByRecursion (EntrySpells r (most_nest_under (pair k v ps))) es → IsDistinct bytes_eq (entry_keys es)
     → ((q : List ℕ) → same_at (find q (map entry_meaning es)) (find q (list_of_pairs (pair k v ps))) ≡ true)
@@ -133,7 +133,7 @@ object_from r s dent k v ps b (e ∷ es) fit each distinct alike w =
           (list_of_pairs-pairs_of (map entry_meaning (e ∷ es))) ∙ alike q);
     }
 
-object_read : (r : Reading) (s : Style) (dent : ℕ) (k : List ℕ) (v : Value) (ps : Pairs) (b : List ℕ)
+object_read : (r : Reading) (s : Style) (dent : ℕ) (k : List ℕ) (v : Value) (ps : ValuePairs) (b : List ℕ)
     (ts : List (List ℕ)) (positions : List ℕ) (es : List Entry)
     → AllowsWhitespaceOf r s → AllPairs (λ x y. x ≢ y) (keys_of (list_of_pairs (pair k v ps))) → map entry_text es ≡ ts
     → AllByRecursion (EntrySpells r (most_nest_under (pair k v ps))) es
@@ -249,7 +249,7 @@ mutual
       }
   read_nodes r s dent _ _ fit h no_nan w = absurd w
 
-  read_entries : (r : Reading) (s : Style) (dent : ℕ) (ps : Pairs) (ts : List (List ℕ)) → AllowsWhitespaceOf r s
+  read_entries : (r : Reading) (s : Style) (dent : ℕ) (ps : ValuePairs) (ts : List (List ℕ)) → AllowsWhitespaceOf r s
       → ArePairs ps → PairsHaveNoNan ps → WritesPairs s dent ps ts → ReadEntries r ps ts
   read_entries r s dent no_pairs [] fit h no_nan w =
       record { entries = []; texts = refl; spell = tt; keys = refl; alike = λ q. refl }

@@ -9,7 +9,7 @@ use Rattle.std.proofs.lemmas.Slice.Eq.{bytes_eq-Decides}
 use Rattle.jzon_base.specs.Decimal.{nan, parts}
 use Rattle.jzon_base.specs.PairList.{keys_of, put_each}
 use Rattle.jzon_base.proofs.PutEach.{put_each-distinct}
-use Rattle.jzon_tree.specs.Value.{Value, null, boolean, text, number, array, object, Values, no_values, value, Pairs}
+use Rattle.jzon_tree.specs.Value.{Value, null, boolean, text, number, array, object, Values, no_values, value, ValuePairs}
 use Rattle.jzon_tree.specs.Value.{no_pairs, pair, pairs_of, list_of_pairs, nest, most_nest, most_nest_under}
 use Rattle.jzon_tree.specs.Text.{compact_layout, layout_text, more_values_text, more_pairs_text, quoted}
 use Rattle.jzon_tree.specs.Lawful.{IsValue, AreValues, ArePairs}
@@ -37,7 +37,7 @@ record DumpedValues (r : Reading) (d : ℕ) (vs : Values) : Type 0 where
   spell : ElementsSpell r (most_nest vs) (more_values_text compact_layout d vs) elements
   again : (e : ℕ) → more_values_text compact_layout e (elements_meaning elements) ≡ more_values_text compact_layout e vs
 
-record DumpedPairs (r : Reading) (d : ℕ) (ps : Pairs) : Type 0 where
+record DumpedPairs (r : Reading) (d : ℕ) (ps : ValuePairs) : Type 0 where
   members : Members
   spell : MembersSpell r (most_nest_under ps) (keys_of (list_of_pairs ps)) (more_pairs_text compact_layout d ps) members
   keys : keys_of (members_meaning members) ≡ keys_of (list_of_pairs ps)
@@ -112,7 +112,7 @@ mutual
         again = λ e. rw (one.again (suc e), more.again e) refl;
       }
 
-  dumped_pairs : (r : Reading) (d : ℕ) (ps : Pairs) → ArePairs ps → DumpedPairs r d ps
+  dumped_pairs : (r : Reading) (d : ℕ) (ps : ValuePairs) → ArePairs ps → DumpedPairs r d ps
   dumped_pairs r d no_pairs h =
       record { members = no_members; spell = no_members_spell r; keys = refl; again = λ e. refl }
   dumped_pairs r d (pair k v ps) h =

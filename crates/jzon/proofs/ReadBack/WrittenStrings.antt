@@ -19,7 +19,7 @@ use Rattle.jzon.specs.Grammar.{Item, simple, single, double, IsItem, AreItems, i
 use Rattle.jzon.specs.Grammar.{code_unit}
 use Rattle.jzon.specs.Grammar as grammar
 use Rattle.jzon.specs.Spelling.{Cell, cell, plain, item_cells, items_cells}
-use Rattle.jzon.specs.Meaning.{item_text, text_of, bytes_of}
+use Rattle.jzon.specs.Meaning.{item_text, characters_of, bytes_of}
 use Rattle.jzon.proofs.Texts.Cells.{plain-append}
 use Rattle.jzon.proofs.Strings.PlainRuns.{plain_wide}
 use Rattle.jzon.proofs.Strings.StringCharacters.{are_hex, hex-true}
@@ -139,11 +139,11 @@ items-plain (c ∷ cs) k h =
     (written c t.0).spelled (items_cells (items_of cs) k) ∙ ap (λ q. plain (escaped_byte c) q) (items-plain cs k t.1)
     ∙ sym (plain-append (escaped_byte c) (escaped cs) k)
 
-items_mean : (cs : List ℕ) → scalars cs ≡ true → text_of (items_of cs) ≡ cs
+items_mean : (cs : List ℕ) → scalars cs ≡ true → characters_of (items_of cs) ≡ cs
 items_mean [] h = refl
 items_mean (c ∷ cs) h =
     let t = and_parts (scalar c) (scalars cs) h in
-    ap (λ x. x ++ text_of (items_of cs)) (written c t.0).means ∙ ap (λ x. c ∷ x) (items_mean cs t.1)
+    ap (λ x. x ++ characters_of (items_of cs)) (written c t.0).means ∙ ap (λ x. c ∷ x) (items_mean cs t.1)
 
 -- ---- a string of bytes
 

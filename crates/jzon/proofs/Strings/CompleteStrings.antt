@@ -14,7 +14,7 @@ use Rattle.jzon.specs.Grammar.{is_low}
 use Rattle.jzon.specs.Grammar as grammar
 use Rattle.jzon.specs.Spelling.{Breach, pair, Cell, cell, plain, marked_last, breach_if, item_cells, items_cells}
 use Rattle.jzon.specs.Spelling.{items_length}
-use Rattle.jzon.specs.Meaning.{item_text, text_of, bytes_of, is_pair, pair_char}
+use Rattle.jzon.specs.Meaning.{item_text, characters_of, bytes_of, is_pair, pair_char}
 use Rattle.jzon.specs.Private.Machine.{Frames, Role, as_value, before, string, after_value, between, code, second_code}
 use Rattle.jzon.specs.Private.Machine.{Outcome, value_mark, after_unit, move_pair, add_hex}
 use Rattle.jzon.specs.Private.Classes.{quote}
@@ -28,7 +28,7 @@ use Rattle.jzon.proofs.Texts.Runs.{Meets, Follows}
 pub bytes-more : (bs : List ℕ) (i : Item) (is : List Item)
     → bs ++ bytes_of (i ∷ is) ≡ (bs ++ encode_utf8_all (item_text i)) ++ bytes_of is
 unfolding bytes_of
-bytes-more bs i is = ap (λ z. bs ++ z) (encodes-append (item_text i) (text_of is))
+bytes-more bs i is = ap (λ z. bs ++ z) (encodes-append (item_text i) (characters_of is))
     ∙ sym (append_assoc bs (encode_utf8_all (item_text i)) (bytes_of is))
 
 pub bytes-none : (bs : List ℕ) → bs ++ bytes_of [] ≡ bs

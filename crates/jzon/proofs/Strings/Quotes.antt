@@ -13,7 +13,7 @@ use Rattle.jzon.specs.Grammar.{is_unescaped}
 use Rattle.jzon.specs.Spelling.{duplicate, breach_if}
 use Rattle.jzon.specs.Fault.{limit}
 use Rattle.jzon.specs.Private.Quote.{EndsAtQuote}
-use Rattle.jzon.specs.Private.Machine.{Entries, Frames, Role, as_key, after_key, Move, go, refused, string, between}
+use Rattle.jzon.specs.Private.Machine.{EntriesSoFar, Frames, Role, as_key, after_key, Move, go, refused, string, between}
 use Rattle.jzon.specs.Private.Machine.{slash, closed_string, bad, move_between, outcome_on, from, from_closed, left_at}
 use Rattle.jzon.specs.Private.Machine.{fault_here}
 use Rattle.jzon.proofs.Strings.StringSteps.{byte_moves, byte_stops}
@@ -65,14 +65,14 @@ string_stops r role xs bs i u at no_plain no_escape no_end =
     (λ e. no_escape b.within (sym same ∙ e)))
 
 -- after the closing quote of a key that isn't rejected, and of one that is
-pub key_goes : (r : Reading) (bs : List ℕ) (fs : Frames) (es : Entries) (opened : ℕ) (k : List ℕ) (i : ℕ)
+pub key_goes : (r : Reading) (bs : List ℕ) (fs : Frames) (es : EntriesSoFar) (opened : ℕ) (k : List ℕ) (i : ℕ)
     → (r.strict && is_some (find k es)) ≡ false
     → from_closed r bs (as_key fs es opened) k i ≡ from r bs (after_key fs es k) i
 key_goes r bs fs es opened k i e =
     ap (λ t. outcome_on (go (breach_if t (duplicate (opened - left_at bs (i - 1)))) (after_key fs es k))
     (λ p. from r bs p i) (chars (drop (i - 1) bs))) e
 
-pub key_refused : (r : Reading) (bs : List ℕ) (fs : Frames) (es : Entries) (opened : ℕ) (k : List ℕ) (i : ℕ)
+pub key_refused : (r : Reading) (bs : List ℕ) (fs : Frames) (es : EntriesSoFar) (opened : ℕ) (k : List ℕ) (i : ℕ)
     → (r.strict && is_some (find k es)) ≡ true
     → from_closed r bs (as_key fs es opened) k i ≡ refused (limit (duplicate (opened - left_at bs (i - 1))))
     (chars (drop (i - 1) bs))

@@ -17,7 +17,7 @@ use Rattle.jzon.specs.Private.Classes.{Class, whitespace, digits, minus_char, pl
 use Rattle.jzon.specs.Private.Classes.{opens_array, closes_array, opens_object, closes_object, comma, colon}
 use Rattle.jzon.specs.Private.Classes.{begins_null, begins_true, begins_false, class_of, NumberState, after_minus}
 use Rattle.jzon.specs.Private.Classes.{zero_read, whole, pointed, fraction, lettered, signed_exponent, exponent}
-use Rattle.jzon.specs.Private.Machine.{Entries, Frames, array_frame, object_frame, Role, as_value, as_key, StringState}
+use Rattle.jzon.specs.Private.Machine.{EntriesSoFar, Frames, array_frame, object_frame, Role, as_value, as_key, StringState}
 use Rattle.jzon.specs.Private.Machine.{between, slash, code, second, second_slash, second_code, State, before}
 use Rattle.jzon.specs.Private.Machine.{before_key, word, numeral, string, after_key, after_value, Move, go, bad}
 use Rattle.jzon.specs.Private.Machine.{bad_deep, move, value_mark, key_mark, last, frames_depth, bad_at}
@@ -54,7 +54,7 @@ IsDeep r p = next_mark r p ≡ Some deep
 
 -- a function that doesn't depend on how many characters are left is the same on alike states
 role_same : {A : Type 0} (f : State → A) (i j : ℕ) (role : Role) (bs : List ℕ) (x : StringState) (q : State)
-    → ((fs : Frames) (es : Entries) (m n : ℕ) → f (string (as_key fs es m) bs x) ≡ f (string (as_key fs es n) bs x))
+    → ((fs : Frames) (es : EntriesSoFar) (m n : ℕ) → f (string (as_key fs es m) bs x) ≡ f (string (as_key fs es n) bs x))
     → AlikeKey i j role bs x q → f (string role bs x) ≡ f q
 role_same f i j (as_value fs) bs x q same h = ap f h
 role_same f i j (as_key fs es opened) bs x q same h = same fs es opened (h.0 + j) ∙ ap f h.2
@@ -111,7 +111,7 @@ value_bad : (r : Reading) (fs : Frames) → Reports Keyless (value_mark r fs) (b
 value_bad r (array_frame fs []) = bad_reports Keyless (nat_le r.depth (frames_depth fs))
 value_bad r _ = λ e. cc
 
-key_bad : (r : Reading) (fs : Frames) (es : Entries) → Reports (λ p. ⊤) (key_mark r fs es) (bad_at (key_mark r fs es))
+key_bad : (r : Reading) (fs : Frames) (es : EntriesSoFar) → Reports (λ p. ⊤) (key_mark r fs es) (bad_at (key_mark r fs es))
 key_bad r fs [] = bad_reports (λ p. ⊤) (nat_le r.depth (frames_depth fs))
 key_bad r fs (e ∷ es) = λ e. cc
 
@@ -134,19 +134,19 @@ before_reports r begins_true fs c = (λ e. e, tt)
 before_reports r begins_false fs c = (λ e. e, tt)
 before_reports r _ fs c = value_bad r fs
 
-object_reports : (r : Reading) (fs : Frames) (es : Entries)
+object_reports : (r : Reading) (fs : Frames) (es : EntriesSoFar)
     → Reports (λ p. ⊤) (key_mark r fs es) (move_empty_object fs es)
 object_reports r fs [] = (unmarked _, tt)
 object_reports r fs (e ∷ es) = λ e. cc
 
-key_reports : (r : Reading) (class : Class) (fs : Frames) (es : Entries) (left : ℕ)
+key_reports : (r : Reading) (class : Class) (fs : Frames) (es : EntriesSoFar) (left : ℕ)
     → Reports (λ p. ⊤) (key_mark r fs es) (move_before_key r class fs es left)
 key_reports r whitespace fs es left = (unmarked _, tt)
 key_reports r quote fs es left = (λ e. e, tt)
 key_reports r closes_object fs es left = object_reports r fs es
 key_reports r _ fs es left = key_bad r fs es
 
-after_key_reports : (class : Class) (fs : Frames) (es : Entries) (k : List ℕ)
+after_key_reports : (class : Class) (fs : Frames) (es : EntriesSoFar) (k : List ℕ)
     → Reports Keyless None (move_after_key class fs es k)
 after_key_reports whitespace fs es k = (unmarked _, tt)
 after_key_reports colon fs es k = (unmarked _, tt)
@@ -286,7 +286,7 @@ if_alike i j true x y z w h k = h
 if_alike i j false x y z w h k = k
 
 -- inside a key
-module _ (r : Reading) (i j : ℕ) (fs : Frames) (es : Entries) (opened back : ℕ) (e : opened ≡ back + suc i) where
+module _ (r : Reading) (i j : ℕ) (fs : Frames) (es : EntriesSoFar) (opened back : ℕ) (e : opened ≡ back + suc i) where
   abbrev here : Role
   here = as_key fs es opened
 
@@ -339,7 +339,7 @@ bad_alike : (i j : ℕ) (m : Option Breach) → AlikeMove i j (bad_at m) (bad_at
 bad_alike i j None = refl
 bad_alike i j (Some b) = refl
 
-key_alike : (r : Reading) (i j : ℕ) (class : Class) (fs : Frames) (es : Entries)
+key_alike : (r : Reading) (i j : ℕ) (class : Class) (fs : Frames) (es : EntriesSoFar)
     → AlikeMove i j (move_before_key r class fs es (suc i)) (move_before_key r class fs es (suc j))
 key_alike r i j whitespace fs es = (before_key fs es, refl, refl)
 key_alike r i j quote fs es =

@@ -13,7 +13,7 @@ use Rattle.jzon.specs.Private.Classes.{begins_null}
 use Rattle.jzon.specs.Private.Machine.{Frames, no_frames, array_frame, object_frame, Role, as_value, as_key}
 use Rattle.jzon.specs.Private.Machine.{StringState, between, slash, code, second, second_slash, second_code, State}
 use Rattle.jzon.specs.Private.Machine.{before, before_key, word, numeral, string, after_key, after_value, add_hex}
-use Rattle.jzon.specs.Private.Machine.{Entries, go, last_numeral, meant_at, move_numeral, move_after_value, move_pair}
+use Rattle.jzon.specs.Private.Machine.{EntriesSoFar, go, last_numeral, meant_at, move_numeral, move_after_value, move_pair}
 use Rattle.jzon.specs.Private.Machine.{after_unit, past_letter}
 use Rattle.jzon.proofs.Texts.ClassesOfCharacters.{class-char, digits-class}
 use Rattle.jzon.proofs.Texts.Runs.{On, Goes}
@@ -78,7 +78,7 @@ module _ (r : Reading) where
   ends_after (object_frame fs es k) x =
       let h = ends_after fs (value.object (pairs_of (put k x es))) in (h.0, rw (class-char r.strict closes_object) h.1)
 
-  ends_after_key : (fs : Frames) (es : Entries) (k : List ℕ) → Ends (codes ":null}" ++ brackets fs) (after_key fs es k)
+  ends_after_key : (fs : Frames) (es : EntriesSoFar) (k : List ℕ) → Ends (codes ":null}" ++ brackets fs) (after_key fs es k)
   ends_after_key fs es k =
       let h = ends_after fs (value.object (pairs_of (put k value.null es))) in (
         h.0,

@@ -5,7 +5,7 @@ use Rattle.jzon_base.specs.declared.error.Error.{Error}
 use Rattle.jzon_tree.specs.Value.{Value}
 use Rattle.jzon.specs.Reading.{Reading}
 use Rattle.jzon.specs.Private.Brackets.{innermost_bracket, after_closer, after_comma}
-use Rattle.jzon.specs.Private.Machine.{Entries, Frames, State, Outcome, object_frame, before, after_key, after_value}
+use Rattle.jzon.specs.Private.Machine.{EntriesSoFar, Frames, State, Outcome, object_frame, before, after_key, after_value}
 use Rattle.jzon.specs.Private.Machine.{allows_whitespace, from, ReportsUnlessMemory}
 use Rattle.jzon.specs.declared.cursor.Bracket.{Bracket}
 use Rattle.jzon.specs.declared.cursor.Cursor.{Cursor}
@@ -53,6 +53,6 @@ EndsItem t end bracket result u =
 -- What leads to the end of a key at offset `end` goes on after the colon that follows it.
 abbrev pub EndsKey : {A : Type 0} → Cursor → ℕ → Result A Error → Cursor → Type 0
 EndsKey t end result u =
-    (p : State) (fs : Frames) (es : Entries) (k : List ℕ)
+    (p : State) (fs : Frames) (es : EntriesSoFar) (k : List ℕ)
     → left t p ≡ from t.reading t.source.now (after_key fs es k) end
     → GoesOn t p result u (λ _. before (object_frame fs es k))

@@ -27,19 +27,19 @@ use Rattle.jzon.specs.Private.Classes.{zero_read, whole, pointed, fraction, lett
 use Rattle.jzon.specs.Private.Classes.{after_first_digit}
 
 -- the entries of an object read so far
-abbrev pub Entries : Type 0
-Entries = List (List ℕ × Value)
+abbrev pub EntriesSoFar : Type 0
+EntriesSoFar = List (List ℕ × Value)
 
 -- the open containers, the innermost first: the contents of each so far, and in an object the key of the current value
 pub data Frames : Type 0 where
   no_frames : Frames
   array_frame : Frames → List Value → Frames
-  object_frame : Frames → Entries → List ℕ → Frames
+  object_frame : Frames → EntriesSoFar → List ℕ → Frames
 
 -- a string is a value, or a key of an object; for a key, the number of characters left at its opening quote
 pub data Role : Type 0 where
   as_value : Frames → Role
-  as_key : Frames → Entries → ℕ → Role
+  as_key : Frames → EntriesSoFar → ℕ → Role
 
 -- The state inside a string. A code unit that is being read is a number, with the count of digits missing after the
 -- next one.
@@ -53,12 +53,12 @@ pub data StringState : Type 0 where
 
 pub data State : Type 0 where
   before : Frames → State
-  before_key : Frames → Entries → State
+  before_key : Frames → EntriesSoFar → State
   word : Frames → Value → ℕ → List ℕ → State
   numeral : Frames → Bool → NumberState → State
   -- with the bytes of the string so far
   string : Role → List ℕ → StringState → State
-  after_key : Frames → Entries → List ℕ → State
+  after_key : Frames → EntriesSoFar → List ℕ → State
   after_value : Frames → Value → State
 
 -- whitespace is allowed there
@@ -98,7 +98,7 @@ value_mark r (array_frame fs []) = deep_if r (frames_depth fs)
 value_mark r (array_frame fs (v ∷ vs)) = None
 value_mark r (object_frame fs es k) = None
 
-abbrev pub key_mark : Reading → Frames → Entries → Option Breach
+abbrev pub key_mark : Reading → Frames → EntriesSoFar → Option Breach
 key_mark r fs [] = deep_if r (frames_depth fs)
 key_mark r fs (e ∷ es) = None
 
@@ -125,17 +125,17 @@ move_before r begins_true fs c = go (value_mark r fs) (word fs (value.boolean tr
 move_before r begins_false fs c = go (value_mark r fs) (word fs (value.boolean false) 97 (108 ∷ 115 ∷ 101 ∷ []))
 move_before r _ fs c = bad_at (value_mark r fs)
 
-abbrev pub move_empty_object : Frames → Entries → Move
+abbrev pub move_empty_object : Frames → EntriesSoFar → Move
 move_empty_object fs [] = go None (after_value fs (value.object value.no_pairs))
 move_empty_object fs (e ∷ es) = bad
 
-abbrev pub move_before_key : Reading → Class → Frames → Entries → ℕ → Move
+abbrev pub move_before_key : Reading → Class → Frames → EntriesSoFar → ℕ → Move
 move_before_key r whitespace fs es left = go None (before_key fs es)
 move_before_key r quote fs es left = go (key_mark r fs es) (string (as_key fs es left) [] between)
 move_before_key r closes_object fs es left = move_empty_object fs es
 move_before_key r _ fs es left = bad_at (key_mark r fs es)
 
-abbrev pub move_after_key : Class → Frames → Entries → List ℕ → Move
+abbrev pub move_after_key : Class → Frames → EntriesSoFar → List ℕ → Move
 move_after_key whitespace fs es k = go None (after_key fs es k)
 move_after_key colon fs es k = go None (before (object_frame fs es k))
 move_after_key _ fs es k = bad
@@ -206,7 +206,7 @@ move_numeral (exponent ws ds l s xs) class fs negative c = move_after_value clas
 -- ---- strings
 
 -- a breach if a strict reading finds the same key earlier in the object; the opening quote is `back` characters before
-abbrev pub repeated_if : Reading → Entries → List ℕ → ℕ → Option Breach
+abbrev pub repeated_if : Reading → EntriesSoFar → List ℕ → ℕ → Option Breach
 repeated_if r es k back = breach_if (r.strict && is_some (find k es)) (duplicate back)
 
 -- after the closing quote

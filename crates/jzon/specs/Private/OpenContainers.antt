@@ -7,7 +7,7 @@ use Rattle.jzon_tree.specs.View.{view, viewed}
 use Rattle.jzon_tree.specs.declared.value.JsonValue.{JsonValue}
 use Rattle.jzon.specs.Private.Brackets.{closer, after_opener}
 use Rattle.jzon.specs.Private.Cursor.{next_byte}
-use Rattle.jzon.specs.Private.Machine.{Entries, Frames, no_frames, array_frame, object_frame}
+use Rattle.jzon.specs.Private.Machine.{EntriesSoFar, Frames, no_frames, array_frame, object_frame}
 use Rattle.jzon.specs.Private.Machine.{State, before, before_key, after_value}
 use Rattle.jzon.specs.declared.cursor.Bracket.{Bracket}
 use Rattle.jzon.specs.declared.cursor.Bracket.TheVariants.{Array, Object}
@@ -26,7 +26,7 @@ pub record OpenContainers : Type 0 where
   pub innermost : Container
   pub around : List Container
 
-abbrev pub entries_so_far : Container → Entries
+abbrev pub entries_so_far : Container → EntriesSoFar
 entries_so_far c = viewed (put_each (zip c.keys c.values))
 
 abbrev pub last_key : List (List ℕ) → List ℕ

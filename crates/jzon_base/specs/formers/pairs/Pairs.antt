@@ -21,13 +21,13 @@ use Rattle.std.specs.contracts.option.Option as option
 use Rattle.std.specs.declared.alloc.Global.{Global}
 use Rattle.std.specs.contracts.alloc.Global as heap
 use Rattle.std.specs.contracts.impls.GlobalAllocator.TheImpl.{ghosts}
-use Rattle.jzon_base.specs.PairList.{entries_in}
+use Rattle.jzon_base.specs.PairList.{entries_in_box}
 use Rattle.jzon_base.specs.declared.pairs.Pairs.TheInside.{Inside}
 use Rattle.jzon_base.specs.declared.pairs.Pairs.TheView.{view, invariant}
 use Rattle.jzon_base.specs.contracts.pairs.Pairs as C
 use Rattle.jzon_base.specs.contracts.pairs.Pairs.TheInside as I
-use Rattle.jzon_base.specs.contracts.pairs.entries.Entries as T
-use Rattle.jzon_base.specs.formers.pairs.entries.Entries as entries
+use Rattle.jzon_base.specs.contracts.pairs.contents.Contents as T
+use Rattle.jzon_base.specs.formers.pairs.contents.Contents as entries
 
 abbrev pub the_former : Former {0} → Former {0}
 the_former = entries.the_former
@@ -79,7 +79,7 @@ module _ (X : Type 0) where
   with_entries u o = record { alloc = u.alloc; entries = o }
 
   keeps : (u : Inside X) (o : Option (BoxOf X))
-      → held (the_former this) X (entries_in o) ≡ held fields X (with_entries u o)
+      → held (the_former this) X (entries_in_box o) ≡ held fields X (with_entries u o)
   keeps u None = refl
   keeps u (Some b) = refl
 
@@ -102,7 +102,7 @@ module _ (X Y : Type 0) (h : X → Y) where
   mapped (Some b) = refl
 
   natural : (u : Inside X) (o : Option (BoxOf X))
-      → entries_in (fields.map X Y h (with_entries X u o)).entries ≡ over_list (entries_in o)
+      → entries_in_box (fields.map X Y h (with_entries X u o)).entries ≡ over_list (entries_in_box o)
   natural u None = refl
   natural u (Some b) = refl
 

@@ -1,6 +1,6 @@
 use Rattle.std.proofs.Common.{◌≡◌, rules, ap, ℕ, drop, [], ◌∙◌, sym}
 use Rattle.jzonfmt.proofs.Held.{written}
-use Rattle.jzonfmt.specs.Buffered.{count}
+use Rattle.jzonfmt.specs.Buffered.{known_len}
 use Rattle.jzonfmt.specs.Run.{line}
 use Rattle.jzon.specs.View.{view}
 use Rattle.jzonfmt.proofs.engine.write_line.Goals as goal
@@ -16,5 +16,5 @@ returns g c =
     (drop n.taken n.bytes.items) empty c.write_held-answer.result
     (line c.args.layout (view c.args.value.now)) _
     (g.W.Write.contents n.inner.now) _
-    (c.requires.start ∙ ap (λ w. count (g.W.Write.contents w)) (sym c.new-buffered.ensures.writer))
+    (c.requires.start ∙ ap (λ w. known_len (g.W.Write.contents w)) (sym c.new-buffered.ensures.writer))
     (λ name. search rules) c.write_held-answer.ensures.all c.write_held-answer.ensures.bytes)

@@ -1,5 +1,5 @@
 use Rattle.jzon_base.proofs.Zips.{AreParts-zip}
-use Rattle.jzon_base.proofs.pairs.entries.Entries.keys.Goals as goal
+use Rattle.jzon_base.proofs.pairs.contents.Contents.keys.Goals as goal
 
 pub returns : goal.returns
 returns g c = (AreParts-zip _ _ _ c.self.view_is c.self.invariant).keys

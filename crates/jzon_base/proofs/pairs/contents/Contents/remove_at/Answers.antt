@@ -2,7 +2,7 @@ use Rattle.std.proofs.Common.{◌∙◌, ap, arith}
 use Rattle.std.proofs.lemmas.Option.{slice_get_read}
 use Rattle.std.specs.List.{zip, remove}
 use Rattle.jzon_base.proofs.Zips.{AreParts-zip, zip-remove}
-use Rattle.jzon_base.proofs.pairs.entries.Entries.remove_at.Goals as goal
+use Rattle.jzon_base.proofs.pairs.contents.Contents.remove_at.Goals as goal
 
 pub remove-requires : goal.remove-requires
 remove-requires g c = omega (arith, (AreParts-zip _ _ _ c.self.view_is c.self.invariant).keys_length)

@@ -2,7 +2,7 @@ use Rattle.std.proofs.Common.{◌∙◌, ap, refl, arith}
 use Rattle.std.proofs.lemmas.Option.{slice_get_read}
 use Rattle.jzon_base.specs.PairList.{set_value}
 use Rattle.jzon_base.proofs.Zips.{AreParts-zip, zip-set}
-use Rattle.jzon_base.proofs.pairs.entries.Entries.value_mut.Goals as goal
+use Rattle.jzon_base.proofs.pairs.contents.Contents.value_mut.Goals as goal
 
 pub index_mut-requires : goal.index_mut-requires
 index_mut-requires g c =

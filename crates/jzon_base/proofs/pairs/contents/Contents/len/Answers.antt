@@ -1,6 +1,6 @@
 use Rattle.std.proofs.Common.{◌∙◌}
 use Rattle.jzon_base.proofs.Zips.{AreParts-zip}
-use Rattle.jzon_base.proofs.pairs.entries.Entries.len.Goals as goal
+use Rattle.jzon_base.proofs.pairs.contents.Contents.len.Goals as goal
 
 pub returns : goal.returns
 returns g c =

@@ -2,7 +2,7 @@ use Rattle.std.proofs.Common.{◌∙◌, sym, ap, arith}
 use Rattle.std.proofs.lemmas.Option.{slice_get_read}
 use Rattle.std.specs.List.{slice_get}
 use Rattle.jzon_base.proofs.Zips.{AreParts-zip, slice_get-zip}
-use Rattle.jzon_base.proofs.pairs.entries.Entries.get_at.Goals as goal
+use Rattle.jzon_base.proofs.pairs.contents.Contents.get_at.Goals as goal
 
 pub get-requires : goal.get-requires
 get-requires g c = omega (arith, (AreParts-zip _ _ _ c.self.view_is c.self.invariant).keys_length)

@@ -2,7 +2,7 @@ use Rattle.std.proofs.Common.{◌∙◌, ap}
 use Rattle.std.specs.List.{position}
 use Rattle.std.specs.Str.{bytes_eq}
 use Rattle.jzon_base.proofs.Zips.{AreParts-zip}
-use Rattle.jzon_base.proofs.pairs.entries.Entries.position.Goals as goal
+use Rattle.jzon_base.proofs.pairs.contents.Contents.position.Goals as goal
 
 pub returns : goal.returns
 returns g c = c.position.ensures ∙ ap (position (λ k. bytes_eq k c.args.name.now))

@@ -1,5 +1,5 @@
 use Rattle.jzon_base.proofs.Zips.{AreParts-zip}
-use Rattle.jzon_base.proofs.pairs.entries.Entries.into_parts.Goals as goal
+use Rattle.jzon_base.proofs.pairs.contents.Contents.into_parts.Goals as goal
 
 pub returns-clause-keys : goal.returns-clause-keys
 returns-clause-keys g c = (AreParts-zip _ _ _ c.self.view_is c.self.invariant).keys

@@ -12,12 +12,12 @@ use std::marker::Model;
 
 /// Distinct keys, and as many values in the order of their keys. A clause sees the list of entries.
 #[derive(Drop)]
-pub struct Entries<V> {
+pub struct Contents<V> {
     pub(super) keys: Keys,
     pub(super) values: Vec<V>,
 }
 
-impl<V> Model for Entries<V> {
+impl<V> Model for Contents<V> {
     ghost Value = { List (List ℕ × V) };
 
     ghost coded = { coded_list (coded× (coded_list coded_ℕ) V.code) };
@@ -27,27 +27,27 @@ impl<V> Model for Entries<V> {
     ghost invariant = { λ p. length p.values.items ≡ length p.keys };
 }
 
-impl<V> Entries<V> {
+impl<V> Contents<V> {
     ghost use Rattle.std.specs.Borrow.{sem, Lends};
-    ghost use Rattle.jzon_base.specs.contracts.pairs.entries.Entries.{the_row};
+    ghost use Rattle.jzon_base.specs.contracts.pairs.contents.Contents.{the_row};
     ghost use Rattle.jzon_base.specs.PairList.{find, put, set_value, with_default, keys_of, values_of};
 
     /// No entry. Takes no memory.
-    pub fn new(alloc: Global) -> Entries<V>
+    pub fn new(alloc: Global) -> Contents<V>
         ensures { result ≡ [] }
     {
-        Entries {
+        Contents {
             keys: Keys::new(alloc),
             values: Vec::new(alloc),
         }
     }
 
     /// The entries of keys and as many values.
-    pub fn from_parts(keys: Keys, values: Vec<V>) -> Entries<V>
+    pub fn from_parts(keys: Keys, values: Vec<V>) -> Contents<V>
         requires { length values.items ≡ length keys }
         ensures { result ≡ zip keys values.items }
     {
-        Entries { keys, values }
+        Contents { keys, values }
     }
 
     /// The keys, and the values in the order of their keys.

@@ -4,7 +4,7 @@ use Rattle.std.specs.Str.{bytes_eq}
 use Rattle.jzon_base.specs.PairList.{find}
 use Rattle.jzon_base.proofs.PairPlaces.{find_missing, zip-put_placed, zip-put_missing}
 use Rattle.jzon_base.proofs.Zips.{AreParts-zip}
-use Rattle.jzon_base.proofs.pairs.entries.Entries.insert.Goals as goal
+use Rattle.jzon_base.proofs.pairs.contents.Contents.insert.Goals as goal
 
 pub returns-in_err-index-clause-present : goal.returns-in_err-index-clause-present
 returns-in_err-index-clause-present g c =

@@ -18,10 +18,10 @@ use Rattle.std.specs.declared.alloc.Global.{Global}
 use Rattle.std.specs.contracts.alloc.Global as heap
 use Rattle.std.specs.contracts.impls.GlobalAllocator.TheImpl.{ghosts}
 use base.Stored.{code_map, coded×, coded_list, coded_ℕ, gcons}
-use Rattle.jzon_base.specs.declared.pairs.entries.Entries.TheInside.{Inside}
-use Rattle.jzon_base.specs.declared.pairs.entries.Entries.TheView.{view, invariant}
-use Rattle.jzon_base.specs.contracts.pairs.entries.Entries as C
-use Rattle.jzon_base.specs.contracts.pairs.entries.Entries.TheInside as I
+use Rattle.jzon_base.specs.declared.pairs.contents.Contents.TheInside.{Inside}
+use Rattle.jzon_base.specs.declared.pairs.contents.Contents.TheView.{view, invariant}
+use Rattle.jzon_base.specs.contracts.pairs.contents.Contents as C
+use Rattle.jzon_base.specs.contracts.pairs.contents.Contents.TheInside as I
 use Rattle.jzon_base.specs.PairList.{values_of}
 
 -- a key with one of g's values
