@@ -1,7 +1,7 @@
 -- Laws on results, for callers: what a result that meets the clauses of `parse` or of `parse_as` is, if it is known
 -- what the text is read as, or which error it has. They hold for every reading.
-use Rattle.std.proofs.Common.{◌≡◌, ◌⊎◌, inl, inr, ℕ, ◌≤◌, List, Result, Ok, Err, IsTrue, IfOk, IfErr, MatchResult}
-use Rattle.std.proofs.Common.{IsOkUnless, sym, ap, ◌∙◌, subst, chars}
+use Rattle.jzon_base.proofs.Common.{◌≡◌, ◌⊎◌, inl, inr, ℕ, ◌≤◌, List, Result, Ok, Err, IsTrue, IfOk, IfErr, MatchResult}
+use Rattle.jzon_base.proofs.Common.{IsOkUnless, sym, ap, ◌∙◌, subst, chars}
 use Rattle.jzon_base.specs.declared.error.Error.{Error}
 use Rattle.jzon_base.specs.declared.error.Error.TheVariants.{OutOfMemory}
 use Rattle.jzon_tree.specs.Lawful.{IsValue}

@@ -1,6 +1,5 @@
 -- The text of a value that a source means, and the error in its place.
-use Rattle.std.proofs.Common.{◌^◌, ◌<◌, ◌≤◌, inl, inr, Result, Ok, Err, IfOk, IfErr, IsOkUnless}
-use Rattle.std.proofs.lemmas.Bool.{cases_lt}
+use Rattle.jzon_base.proofs.Common.{◌^◌, ◌<◌, ◌≤◌, inl, inr, Result, Ok, Err, IfOk, IfErr, IsOkUnless, cases_lt}
 use Rattle.jzon_base.specs.declared.error.Error.{Error}
 use Rattle.jzon_base.specs.declared.error.Error.TheVariants.{OutOfMemory, ExceededDepthLimit}
 use Rattle.jzon_tree.specs.IntoJson.{IsTextRefusal}

@@ -1,7 +1,7 @@
 -- Tables with a number for each byte, or for the first of them.
-use Rattle.std.proofs.Common.{◌≡◌, ℕ, ◌<◌, List, Bool, true, false, cond, map, get_or, refl, ap, ◌∙◌, arith, IsTrue}
+use Rattle.jzon_base.proofs.Common.{◌≡◌, ℕ, ◌<◌, List, Bool, true, false, cond, map, get_or, refl, ap, ◌∙◌, arith}
+use Rattle.jzon_base.proofs.Common.{IsTrue, range_with_len}
 use Rattle.std.proofs.lemmas.List.FromFn.{get_or-map-range_with_len}
-use Rattle.std.specs.List.{range_with_len}
 
 -- an entry of the table of a function
 pub table_at : (f : ℕ → ℕ) (n : ℕ) (table : List ℕ) → table ≡ map f (range_with_len 0 n) → (b : ℕ) → b < n

@@ -1,7 +1,6 @@
 -- Eight digits joined two by two, then four by four, then all eight, in the bytes of a word.
-use Rattle.std.proofs.Common.{◌≡◌, ℕ, ◌+◌, ◌*◌, ◌/◌, ◌%◌, ◌^◌, ◌<◌, List, [], ◌∷◌, length, bit_and, ap, ap₂, ◌∙◌}
-use Rattle.std.proofs.Common.{arith}
-use Rattle.std.specs.List.{All}
+use Rattle.jzon_base.proofs.Common.{◌≡◌, ℕ, ◌+◌, ◌*◌, ◌/◌, ◌%◌, ◌^◌, ◌<◌, List, [], ◌∷◌, length, bit_and, ap, ap₂, ◌∙◌}
+use Rattle.jzon_base.proofs.Common.{arith, All}
 use lib.Bits.{and_block, and_mask}
 use lib.Lanes.{number_l}
 use Rattle.jzon_base.specs.Digits.{values_number}

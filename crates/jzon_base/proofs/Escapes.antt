@@ -1,6 +1,5 @@
 -- What is printed as an escape is read back.
-use Rattle.std.proofs.Common.{◌≡◌, ◌<◌, ℕ, IsTrue, arith}
-use Rattle.std.proofs.lemmas.Bool.Decides.{nat_tests}
+use Rattle.jzon_base.proofs.Common.{◌≡◌, ◌<◌, ℕ, IsTrue, arith, nat_tests}
 use Rattle.jzon_base.specs.Escapes.{is_simple, unescaped, letter_of}
 
 -- the letter of a byte's simple escape means that byte

@@ -1,12 +1,10 @@
 -- What an exact fixed-point reading is: the decimal itself, with its point moved.
-use Rattle.std.proofs.Common.{◌≡◌, ℕ, zero, suc, ℤ, pos, negsuc, neg_ℤ, ◌+◌, ◌*◌, ◌/◌, ◌%◌, ◌^◌, ◌≤◌, ◌<◌, ◌==◌, ◌+ℤ◌}
-use Rattle.std.proofs.Common.{Bool, true, false, Option, Some, None, refl, sym, ap, ◌∙◌, arith, FitsSigned, subst}
-use Rattle.std.specs.Prelude.{IsTrue, IfSome, ◌||◌, ◌&&◌}
-use Rattle.std.specs.Int.{w16, w64}
+use Rattle.jzon_base.proofs.Common.{◌≡◌, ℕ, zero, suc, ℤ, pos, negsuc, neg_ℤ, ◌+◌, ◌*◌, ◌/◌, ◌%◌, ◌^◌, ◌≤◌, ◌<◌, ◌==◌}
+use Rattle.jzon_base.proofs.Common.{◌+ℤ◌, Bool, true, false, Option, Some, None, refl, sym, ap, ◌∙◌, arith, FitsSigned}
+use Rattle.jzon_base.proofs.Common.{subst, IsTrue, IfSome, ◌||◌, ◌&&◌, w16, eq-eqb, ints, same_Some}
+use Rattle.std.specs.Int.{w64}
 use Rattle.std.proofs.Math.Nat.{mod-eq-sub-div-mul, div-mul-le_self}
-use Rattle.std.proofs.lemmas.Bool.{eqb-true, eq-eqb}
-use Rattle.std.proofs.lemmas.Int.{ints}
-use Rattle.std.proofs.lemmas.Option.{same_Some}
+use Rattle.std.proofs.lemmas.Bool.{eqb-true}
 use Rattle.jzon_base.specs.Decimal.{Decimal, nan, parts, scaled, shifted, whole_part, is_whole, is_whole_at}
 use Rattle.jzon_base.specs.Decimal.{fixed_point, unsigned_fixed_point, integer_at, same, signed, parts_of}
 use Rattle.jzon_base.specs.Decimal.{IsExactAt, SomeWhere}

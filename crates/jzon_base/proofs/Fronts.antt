@@ -1,7 +1,7 @@
 -- A text with which a longer one begins, cut off after the bytes that were copied.
-use Rattle.std.proofs.Common.{◌≡◌, ◌∙◌, ℕ, ◌≤◌, List, length, take, arith, length-take-le, take-take}
-use Rattle.std.proofs.lemmas.Str.{IsUtf8-take, IsCharBoundary-from_take}
-use Rattle.std.specs.Str.{IsUtf8, IsCharBoundary}
+use Rattle.jzon_base.proofs.Common.{◌≡◌, ◌∙◌, ℕ, ◌≤◌, List, length, take, arith, IsUtf8-take, IsUtf8, IsCharBoundary}
+use Rattle.std.proofs.Common.{length-take-le, take-take}
+use Rattle.std.proofs.lemmas.Str.{IsCharBoundary-from_take}
 use Rattle.std.specs.String.Boundary.{IsSplitPoint}
 
 pub splits_front : (wide text : List ℕ) (m : ℕ) → IsUtf8 wide → IsUtf8 text → IsCharBoundary wide m → length text ≤ m

@@ -1,38 +1,33 @@
 -- An index of keys by hashes that the caller passes: an entry is found, added and removed.
-use Rattle.std.proofs.Common.{◌≡◌, ◌≢◌, ℕ, zero, suc, ◌+◌, ◌-◌, ◌<◌, ◌≤◌, Bool, true, false, ◌||◌, eqb}
-use Rattle.std.proofs.Common.{List, Result, Ok, Err, IfOk, IfErr}
-use Rattle.std.proofs.Common.{[], ◌∷◌, ◌++◌, length, get_or, map, filter, set, take, drop, refl}
-use Rattle.std.proofs.Common.{sym, ap, ◌∙◌}
-use Rattle.std.proofs.Common.{subst, inl, inr, arith, add-zero, zero-add, cond, ltb}
-use Rattle.std.proofs.lemmas.List.{get_or_default, get_or_append_left, get_or_push, get_or-map, length_push, take-append-drop}
+use Rattle.jzon_base.proofs.Common.{◌≡◌, ◌≢◌, ℕ, zero, suc, ◌+◌, ◌-◌, ◌<◌, ◌≤◌, Bool, true, false, ◌||◌, eqb, List}
+use Rattle.jzon_base.proofs.Common.{Result, Ok, Err, IfOk, IfErr, [], ◌∷◌, ◌++◌, length, get_or, map, filter, set, take}
+use Rattle.jzon_base.proofs.Common.{drop, refl, sym, ap, ◌∙◌, subst, inl, inr, arith, add-zero, zero-add, cond, ltb}
+use Rattle.jzon_base.proofs.Common.{get_or_default, get_or_append_left, get_or_push, get_or-map, length_push, All-nil}
+use Rattle.jzon_base.proofs.Common.{All-cons, All-push, All-same, All-take, All-drop, IsPermutation-refl}
+use Rattle.jzon_base.proofs.Common.{IsPermutation-trans, IsPermutation-cons, IsPermutation-sym, IsPermutation-to_front}
+use Rattle.jzon_base.proofs.Common.{IsPermutation-append_right, flat_map-append, All-permutation, cases_Bool, cases_lt}
+use Rattle.jzon_base.proofs.Common.{false≢true, eq-eqb, eqb-false, not-true, tied_itself, exact_pairs, exact_unsigned}
+use Rattle.jzon_base.proofs.Common.{exact_bytes, bytes_eq-Decides, take-append_seam, drop-append_seam, slice_cmp, All}
+use Rattle.jzon_base.proofs.Common.{Contains, insert, position, remove, IsDistinct, list_any, IsBinarySearchResult}
+use Rattle.jzon_base.proofs.Common.{IsPermutation, IsSorted, IsSortedBy, nat_cmp, ordering_reverse, is_lt, result_ok}
+use Rattle.jzon_base.proofs.Common.{bytes_eq, Ordering, Less, Equal, Greater}
+use Rattle.std.proofs.lemmas.List.{take-append-drop}
 use Rattle.std.proofs.lemmas.List.Folds.{list_any_at, list_any_none, list_any-append}
 use Rattle.std.proofs.lemmas.List.Edits.{length-insert, get_or-insert_below, get_or-insert_at, get_or-insert_above}
 use Rattle.std.proofs.lemmas.List.Edits.{length-remove, get_or-remove_below, get_or-remove_above}
-use Rattle.std.proofs.lemmas.List.Elements.{All-nil, All-cons, All-push, All-same, All-take, All-drop, All-weaker}
+use Rattle.std.proofs.lemmas.List.Elements.{All-weaker}
 use Rattle.std.proofs.lemmas.List.Elements.{All-map, All-set, All-contains, filter_passes}
 use Rattle.std.proofs.lemmas.List.Elements.{Contains-append_left, Contains-append_right}
 use Rattle.std.proofs.lemmas.List.Kept.{IsSortedBy-filter}
-use Rattle.std.proofs.lemmas.List.Sorted.{IsPermutation-map, IsPermutation-push_more, IsPermutation-refl}
-use Rattle.std.proofs.lemmas.List.Sorted.{IsPermutation-trans, IsPermutation-insert, IsPermutation-cons}
-use Rattle.std.proofs.lemmas.List.Sorted.{IsPermutation-sym, IsPermutation-to_front, IsPermutation-append_right}
+use Rattle.std.proofs.lemmas.List.Sorted.{IsPermutation-map, IsPermutation-push_more}
+use Rattle.std.proofs.lemmas.List.Sorted.{IsPermutation-insert}
 use Rattle.std.proofs.lemmas.List.Sorted.{ranks_by, IsNonDecreasingBy-from_sort}
-use Rattle.std.proofs.lemmas.List.Concat.{flat_map-append}
-use Rattle.std.proofs.lemmas.List.Sorted.{list_any-IsPermutation, All-permutation, searchable_from_sorted}
-use Rattle.std.proofs.lemmas.Bool.{cases_Bool, cases_lt, false≢true, eq-eqb, eqb-false, not-true}
+use Rattle.std.proofs.lemmas.List.Sorted.{list_any-IsPermutation, searchable_from_sorted}
 use Rattle.std.proofs.Math.ListN.{length-map}
-use Rattle.std.proofs.lemmas.Cmp.{nat_cmp_total, nat_list_cmp_total, on_total, then_total, tied_itself}
-use Rattle.std.proofs.lemmas.Map.Lookups.{exact_pairs, exact_unsigned, exact_bytes}
-use Rattle.std.proofs.lemmas.Slice.Eq.{bytes_eq-Decides}
-use Rattle.std.proofs.Math.Seq.{take-append_seam, drop-append_seam}
+use Rattle.std.proofs.lemmas.Cmp.{nat_cmp_total, nat_list_cmp_total, on_total, then_total}
 use Rattle.std.specs.Cmp.{IsTotalOrder, IsStrictWeakOrder}
-use Rattle.std.specs.Cmp.Lexicographic.{slice_cmp}
-use Rattle.std.specs.List.{All, Contains, insert, position, remove, IsDistinct, list_any}
-use Rattle.std.specs.List.Sorted.{IsBinarySearchResult, IsNonDecreasingBy, IsPartitionPoint, IsPermutation, IsSorted, IsSortedBy}
-use Rattle.std.specs.Ordering.{nat_cmp, ordering_then, ordering_index, ordering_reverse, is_eq, is_lt}
-use Rattle.std.specs.Result.{result_ok}
-use Rattle.std.specs.Str.{bytes_eq}
-use Rattle.std.specs.declared.cmp.Ordering.{Ordering}
-use Rattle.std.specs.declared.cmp.Ordering.TheVariants.{Less, Equal, Greater}
+use Rattle.std.specs.List.Sorted.{IsNonDecreasingBy, IsPartitionPoint}
+use Rattle.std.specs.Ordering.{ordering_then, ordering_index, is_eq}
 use Rattle.jzon_base.specs.Private.Handed.{numbered, entries_of, AreHanded, AreSorted, IsBegun, IsIndexOf, IsPlace}
 use Rattle.jzon_base.specs.Private.Handed.{IsSpot}
 use Rattle.jzon_base.specs.Private.Keys.{beside, entry_cmp, lowered}

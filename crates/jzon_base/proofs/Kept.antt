@@ -1,15 +1,9 @@
 -- The longest prefix of digits that spells a number below 2 ^ 64.
-use Rattle.std.proofs.Common.{◌≡◌, ℕ, zero, suc, ◌+◌, ◌-◌, ◌^◌, ◌≤◌, ◌<◌, List, [], ◌∷◌, ◌++◌, length, take, drop, ap}
-use Rattle.std.proofs.Common.{◌∙◌, subst, arith, inl, inr, length-append, add-zero, zero-add, add-suc, suc-add, pow-suc}
-use Rattle.std.proofs.Common.{nat_lt, if◌then◌else◌, lit<}
-use Rattle.std.specs.List.{fold, All}
-use Rattle.std.proofs.lemmas.List.Sums.{fold-append}
-use Rattle.std.proofs.lemmas.List.{take-append-le, take_all}
-use Rattle.std.proofs.lemmas.List.Elements.{All-head, All-tail}
-use Rattle.std.proofs.Math.Nat.{pow-le-pow_right}
-use Rattle.std.proofs.Math.Seq.{take-add, take-append-add}
-use Rattle.std.proofs.lemmas.Bool.{cases_lt}
-use Rattle.std.proofs.lemmas.Bool.Decides.{nat_tests}
+use Rattle.jzon_base.proofs.Common.{◌≡◌, ℕ, zero, suc, ◌+◌, ◌-◌, ◌^◌, ◌≤◌, ◌<◌, List, [], ◌∷◌, ◌++◌, length, take, drop}
+use Rattle.jzon_base.proofs.Common.{ap, ◌∙◌, subst, arith, inl, inr, length-append, add-zero, zero-add, add-suc}
+use Rattle.jzon_base.proofs.Common.{suc-add, pow-suc, nat_lt, if◌then◌else◌, lit<, fold, All, fold-append}
+use Rattle.jzon_base.proofs.Common.{take-append-le, take_all, All-head, All-tail, pow-le-pow_right, take-add}
+use Rattle.jzon_base.proofs.Common.{take-append-add, cases_lt, nat_tests}
 use Rattle.jzon_base.specs.DigitLimits.{IsLongestPrefix}
 use Rattle.jzon_base.specs.Digits.{IsDigit, add_digit, digits_number, longest_up_to, kept_len}
 

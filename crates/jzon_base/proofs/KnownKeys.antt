@@ -1,11 +1,8 @@
 -- Whether a key is known, once entries are put one after the other.
-use Rattle.std.proofs.Common.{◌≡◌, ◌∙◌, ℕ, Bool, true, false, cond, ◌||◌, List, [], ◌∷◌, length, Option}
-use Rattle.std.proofs.Common.{Some, None, refl, sym, ap, arith}
-use Rattle.std.specs.Option.{is_some}
-use Rattle.std.specs.List.{fold, zip, list_any}
-use Rattle.std.specs.Str.{bytes_eq}
+use Rattle.jzon_base.proofs.Common.{◌≡◌, ◌∙◌, ℕ, Bool, true, false, cond, ◌||◌, List, [], ◌∷◌, length, Option, Some}
+use Rattle.jzon_base.proofs.Common.{None, refl, sym, ap, arith, is_some, fold, zip, list_any, bytes_eq}
+use Rattle.jzon_base.proofs.Common.{bytes_eq-Decides}
 use Rattle.std.proofs.Math.Bool.{or-false}
-use Rattle.std.proofs.lemmas.Slice.Eq.{bytes_eq-Decides}
 use Rattle.jzon_base.specs.PairList.{find, put, put_each}
 
 or_swap : (a b c : Bool) → (a || (b || c)) ≡ (b || (a || c))

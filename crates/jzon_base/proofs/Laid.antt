@@ -1,11 +1,13 @@
 -- The bytes of a number, put at the end of a buffer or after what a vector has.
-use Rattle.std.proofs.Common.{◌≡◌, ℕ, suc, ◌+◌, ◌-◌, ◌≤◌, ◌<◌, List, [], ◌∷◌, ◌++◌, length, take, drop, set, get_or}
-use Rattle.std.proofs.Common.{arith, ap, sym, ◌∙◌, length-drop, length-append, replicate}
-use Rattle.std.specs.List.{copy_within}
-use Rattle.std.proofs.lemmas.List.{append-nil, drop-drop, drop_all, length-take-le, append_assoc, take-replicate}
-use Rattle.std.proofs.lemmas.List.{take-set-le, take-append-drop, length-replicate, take_all}
-use Rattle.std.proofs.lemmas.List.{take-append-le}
-use Rattle.std.proofs.Math.Seq.{append_snoc, drop-append_seam, drop-cons, set-append_seam, take-append-add, take-append_seam}
+use Rattle.jzon_base.proofs.Common.{◌≡◌, ℕ, suc, ◌+◌, ◌-◌, ◌≤◌, ◌<◌, List, [], ◌∷◌, ◌++◌, length, take, drop, set}
+use Rattle.jzon_base.proofs.Common.{get_or, arith, ap, sym, ◌∙◌, length-append, replicate, copy_within, drop-drop}
+use Rattle.jzon_base.proofs.Common.{drop_all, length-take-le, take-replicate, take-set-le, length-replicate, take_all}
+use Rattle.jzon_base.proofs.Common.{take-append-le, drop-append_seam, set-append_seam, take-append-add}
+use Rattle.jzon_base.proofs.Common.{take-append_seam}
+use Rattle.std.proofs.Common.{length-drop}
+use Rattle.std.proofs.lemmas.List.{append-nil, append_assoc}
+use Rattle.std.proofs.lemmas.List.{take-append-drop}
+use Rattle.std.proofs.Math.Seq.{append_snoc, drop-cons}
 use Rattle.jzon_base.specs.NumberText.{point_after}
 
 put_behind : (prefix middle : List ℕ) (x y : ℕ) (rest : List ℕ)

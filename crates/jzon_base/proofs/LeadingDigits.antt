@@ -1,20 +1,19 @@
 -- The leading digits of eight bytes: how many they are, and their word.
-use Rattle.std.proofs.Common.{◌≡◌, ℕ, zero, suc, ◌+◌, ◌-◌, ◌*◌, ◌%◌, ◌^◌, ◌<◌, ◌≤◌, Bool, true, false, not, cond, ltb}
-use Rattle.std.proofs.Common.{eqb}
-use Rattle.std.proofs.Common.{List, [], ◌∷◌, ◌++◌, length, take, drop, map, replicate, Fits, w8, w64, refl, sym, ap}
-use Rattle.std.proofs.Common.{◌∙◌, arith, pow-suc}
-use Rattle.std.specs.Char.{is_ascii_digit}
+use Rattle.jzon_base.proofs.Common.{◌≡◌, ℕ, zero, suc, ◌+◌, ◌-◌, ◌*◌, ◌%◌, ◌^◌, ◌<◌, ◌≤◌, Bool, true, false, not, cond}
+use Rattle.jzon_base.proofs.Common.{ltb, eqb, List, [], ◌∷◌, ◌++◌, length, take, drop, map, replicate, Fits, w8, refl}
+use Rattle.jzon_base.proofs.Common.{sym, ap, ◌∙◌, arith, pow-suc, is_ascii_digit, fold, prefix_len, All, agree_below_at}
+use Rattle.jzon_base.proofs.Common.{cond-true, cond-false, eq-eqb, ne_eqb, nat_tests, length-map, length-take}
+use Rattle.jzon_base.proofs.Common.{one-le-pow, mul-le-mul_right, prefix_len-le-length, All-append, All-cons, All-nil}
+use Rattle.jzon_base.proofs.Common.{first_set_mask_l, map-map, mask_l-mod, zip2_splat}
+use Rattle.std.proofs.Common.{w64}
 use Rattle.std.specs.Int.{from_le_bytes}
-use Rattle.std.specs.List.{fold, prefix_len, All}
-use Rattle.std.proofs.lemmas.Bool.{agree_below_at, cond-true, cond-false, eq-eqb, eqb-true, ne_eqb}
-use Rattle.std.proofs.lemmas.Bool.Decides.{nat_tests}
-use Rattle.std.proofs.lemmas.List.{length-append, length-map, length-take, take-map}
-use Rattle.std.proofs.Math.Nat.{one-le-pow, mul-le-mul_right, pos_of_ne-zero}
-use Rattle.std.proofs.lemmas.List.Sums.{prefix_len-le-length}
-use Rattle.std.proofs.lemmas.List.Elements.{All-append, All-cons, All-nil, All-replicate}
+use Rattle.std.proofs.lemmas.Bool.{eqb-true}
+use Rattle.std.proofs.lemmas.List.{length-append, take-map}
+use Rattle.std.proofs.Math.Nat.{pos_of_ne-zero}
+use Rattle.std.proofs.lemmas.List.Elements.{All-replicate}
 use Rattle.std.proofs.lemmas.Nat.{mod-mul-add, pow-add}
 use Rattle.std.proofs.lemmas.Nat.Bits.{bit_at-trailing_zeros, bit_at_above}
-use Rattle.std.proofs.lemmas.Simd.{first_set_mask_l, length-replicate, map-map, mask_l-lt, mask_l-mod, zip2_splat}
+use Rattle.std.proofs.lemmas.Simd.{length-replicate, mask_l-lt}
 use Rattle.std.proofs.lemmas.Simd.{zip2_splat_left}
 use lib.Count.{count_trailing_zeros}
 use lib.Lanes.{Each1, mask_l, number_l, top, zip2}

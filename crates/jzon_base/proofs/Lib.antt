@@ -1,3 +1,4 @@
+pub mod Common
 pub mod ByteTables
 pub mod EightDigits
 pub mod Escapes

@@ -1,15 +1,10 @@
 -- Entries put one after the other, in place: the first ones are those that are put.
-use Rattle.std.proofs.Common.{◌≡◌, ◌∙◌, ℕ, zero, suc, ◌+◌, ◌<◌, ◌≤◌, List, [], ◌∷◌, ◌++◌, length, get_or, set, take, drop}
-use Rattle.std.proofs.Common.{None, Some, refl, sym, ap, inl, inr, arith, length-append}
-use Rattle.std.proofs.lemmas.Bool.{cases_lt}
-use Rattle.std.proofs.lemmas.List.{get_or-set_same, get_or-set_other, length-set, length-take-le, take_more, drop_more}
-use Rattle.std.proofs.lemmas.List.{take-set-le, drop-set-lt}
-use Rattle.std.proofs.lemmas.List.Edits.{swap_is, length-swap}
-use Rattle.std.proofs.lemmas.List.Quantifiers.{position-Some}
-use Rattle.std.proofs.lemmas.List.Sums.{fold-append}
-use Rattle.std.proofs.lemmas.Slice.Zip.{length-zip}
-use Rattle.std.specs.List.{fold, position, swap, zip, IsDistinct}
-use Rattle.std.specs.Str.{bytes_eq}
+use Rattle.jzon_base.proofs.Common.{◌≡◌, ◌∙◌, ℕ, zero, suc, ◌+◌, ◌<◌, ◌≤◌, List, [], ◌∷◌, ◌++◌, length, get_or, set}
+use Rattle.jzon_base.proofs.Common.{take, drop, None, Some, refl, sym, ap, inl, inr, arith, length-append, cases_lt}
+use Rattle.jzon_base.proofs.Common.{get_or-set_same, get_or-set_other, length-set, length-take-le, take_more, drop_more}
+use Rattle.jzon_base.proofs.Common.{take-set-le, drop-set-lt, length-swap, position-Some, fold-append, length-zip, fold}
+use Rattle.jzon_base.proofs.Common.{position, swap, zip, IsDistinct, bytes_eq}
+use Rattle.std.proofs.lemmas.List.Edits.{swap_is}
 use Rattle.jzon_base.specs.PairList.{keys_of, put, put_each}
 use Rattle.jzon_base.specs.Private.Handed.{entries_of, IsIndexed, IsTable}
 use Rattle.jzon_base.proofs.PairPlaces.{zip-put_placed, zip-put_missing}

@@ -1,18 +1,11 @@
 -- The laws of lists of entries: what is found under a key after `put` and `cut`, that distinct keys stay distinct, and
 -- what holds of each entry.
 pub use Rattle.jzon_base.proofs.PutEach.{put_each-distinct, put_each-put_each}
-use Rattle.std.proofs.Common.{◌≡◌, ◌≢◌, ℕ, List, [], ◌∷◌, Bool, true, false, cond, Option, Some, None, refl, sym, ap}
-use Rattle.std.proofs.Common.{subst, ◌∙◌}
+use Rattle.jzon_base.proofs.Common.{◌≡◌, ◌≢◌, ℕ, List, [], ◌∷◌, Bool, true, false, cond, Option, Some, None, refl, sym}
+use Rattle.jzon_base.proofs.Common.{ap, subst, ◌∙◌, AllPairs, nat_list_eq_equiv, fold, AllByRecursion, IsDistinct}
+use Rattle.jzon_base.proofs.Common.{bytes_eq, IsDistinct-head, IsDistinct-tail, IsDistinct-from_AllPairs}
+use Rattle.jzon_base.proofs.Common.{AllPairs-from_IsDistinct, false≢true, none-some, same_Some, bytes_eq-Decides}
 use Rattle.std.specs.Option.{option_or}
-use Rattle.std.specs.Prelude.{AllPairs}
-use Rattle.std.specs.Cmp.Lexicographic.{nat_list_eq_equiv}
-use Rattle.std.specs.List.{fold, AllByRecursion, IsDistinct}
-use Rattle.std.specs.Str.{bytes_eq}
-use Rattle.std.proofs.lemmas.Map.Keys.{IsDistinct-head, IsDistinct-tail}
-use Rattle.std.proofs.lemmas.Map.Made.{IsDistinct-from_AllPairs, AllPairs-from_IsDistinct}
-use Rattle.std.proofs.lemmas.Bool.{false≢true}
-use Rattle.std.proofs.lemmas.Option.{none-some, same_Some}
-use Rattle.std.proofs.lemmas.Slice.Eq.{bytes_eq-Decides}
 use Rattle.jzon_base.specs.PairList.{find, put, put_each, cut, keys_of}
 use Rattle.jzon_base.proofs.PutEach.{IsDistinct-put, IsDistinct-put_each}
 

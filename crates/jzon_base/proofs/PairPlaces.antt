@@ -1,12 +1,8 @@
 -- What the position of a key says of a list of entries.
-use Rattle.std.proofs.Common.{◌≡◌, ℕ, zero, suc, ◌<◌, Bool, true, false, List, [], ◌∷◌, ◌++◌, length, get_or, set, None}
-use Rattle.std.proofs.Common.{Some, IsSome, refl, sym, ap, ◌∙◌, arith}
-use Rattle.std.proofs.lemmas.List.Quantifiers.{position-Some}
-use Rattle.std.proofs.lemmas.Option.{none-some, same_Some, slice_get-map}
-use Rattle.std.specs.Cmp.Lexicographic.{nat_list_eq_equiv}
-use Rattle.std.specs.Option.{option_map}
-use Rattle.std.specs.List.{position, remove, slice_get, zip}
-use Rattle.std.specs.Str.{bytes_eq}
+use Rattle.jzon_base.proofs.Common.{◌≡◌, ℕ, zero, suc, ◌<◌, Bool, true, false, List, [], ◌∷◌, ◌++◌, length, get_or, set}
+use Rattle.jzon_base.proofs.Common.{None, Some, IsSome, refl, sym, ap, ◌∙◌, arith, position-Some, none-some, same_Some}
+use Rattle.jzon_base.proofs.Common.{slice_get-map, nat_list_eq_equiv, option_map, position, remove, slice_get, zip}
+use Rattle.jzon_base.proofs.Common.{bytes_eq}
 use Rattle.jzon_base.specs.PairList.{keys_of, values_of, find, put, cut, set_value, with_default}
 use Rattle.jzon_base.proofs.Positions.{position-first, position-None-before}
 use Rattle.jzon_base.proofs.Zips.{AreParts-zip, zip-push, zip-set}

@@ -1,14 +1,14 @@
 -- From the lanes of one block to the bytes that need no escape.
-use Rattle.std.proofs.Common.{◌≡◌, ℕ, ◌+◌, ◌-◌, ◌%◌, ◌^◌, ◌≤◌, ◌<◌, ltb, eqb, Bool, true, false, not, cond, List, []}
-use Rattle.std.proofs.Common.{◌∷◌, length, take, drop, get_or, map, replicate, bit_or, Fits, w8, refl, sym, ap, ap₂}
-use Rattle.std.proofs.Common.{◌∙◌, zero, suc, zero-add, arith}
-use Rattle.std.specs.List.{prefix_len}
-use Rattle.std.proofs.lemmas.Bool.{agree_below, agree_below_at, cond-true, cond-false, eq-eqb, ne_eqb}
-use Rattle.std.proofs.lemmas.List.{drop-drop, length-drop, length-map, take-append-drop, take_rest}
-use Rattle.std.proofs.lemmas.List.Sums.{prefix_len-le-length}
+use Rattle.jzon_base.proofs.Common.{◌≡◌, ℕ, ◌+◌, ◌-◌, ◌%◌, ◌^◌, ◌≤◌, ◌<◌, ltb, eqb, Bool, true, false, not, cond, List}
+use Rattle.jzon_base.proofs.Common.{[], ◌∷◌, length, take, drop, get_or, map, replicate, bit_or, Fits, w8, refl, sym}
+use Rattle.jzon_base.proofs.Common.{ap, ap₂, ◌∙◌, zero, suc, zero-add, arith, prefix_len, agree_below_at, cond-true}
+use Rattle.jzon_base.proofs.Common.{cond-false, eq-eqb, ne_eqb, drop-drop, length-drop, length-map, take_rest}
+use Rattle.jzon_base.proofs.Common.{prefix_len-le-length, chunk-fits, first_set_mask_l, length-chunk, map-map}
+use Rattle.jzon_base.proofs.Common.{mask_l-mod, zip2_splat}
+use Rattle.std.proofs.lemmas.Bool.{agree_below}
+use Rattle.std.proofs.lemmas.List.{take-append-drop}
 use Rattle.std.proofs.lemmas.List.Folds.{prefix_len-append}
-use Rattle.std.proofs.lemmas.Simd.{chunk-fits, first_set_mask_l, length-chunk, map-map, mask_l-mod, zip2_of_maps}
-use Rattle.std.proofs.lemmas.Simd.{zip2_splat}
+use Rattle.std.proofs.lemmas.Simd.{zip2_of_maps}
 use lib.Count.{count_trailing_zeros}
 use lib.Lanes.{Each1, chunk, mask_l, top, zip2}
 use Rattle.jzon_base.specs.Private.PlainBytes.{is_plain}

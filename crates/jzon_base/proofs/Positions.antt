@@ -1,9 +1,7 @@
 -- The first position in a list where a test passes.
-use Rattle.std.proofs.Common.{◌≡◌, ℕ, ◌<◌, Bool, true, false, cond, nat_lt, List, length, get_or, Option}
-use Rattle.std.proofs.Common.{Some, None, arith}
-use Rattle.std.proofs.lemmas.Bool.Decides.{nat_tests}
+use Rattle.jzon_base.proofs.Common.{◌≡◌, ℕ, ◌<◌, Bool, true, false, cond, nat_lt, List, length, get_or, Option, Some}
+use Rattle.jzon_base.proofs.Common.{None, arith, nat_tests, position, position_or_len}
 use Rattle.std.proofs.lemmas.List.Sums.{position_or_len_is, fails_before_first}
-use Rattle.std.specs.List.{position, position_or_len}
 
 within : (p n i : ℕ) → p ≡ i → i < n → ◌≡◌ {A = Option ℕ} (cond (nat_lt p n) (Some p) None) (Some i)
 within p n i e h = grind (arith, nat_tests)

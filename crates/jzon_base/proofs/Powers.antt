@@ -1,10 +1,10 @@
 -- Products with powers of ten, and how many digits a number has.
-use Rattle.std.proofs.Common.{◌≡◌, ℕ, suc, ◌+◌, length, ◌*◌, ◌/◌, ◌^◌, ◌≤◌, ◌<◌, ◌==◌, inl, inr, sym, ap, ◌∙◌, arith}
-use Rattle.std.proofs.Math.Nat.{one-le-pow, mul-le-mul_right, mul-div_cancel, pow-le-pow_right, pow-suc}
-use Rattle.std.proofs.lemmas.Bool.{cases_eq, cases_lt, eq-eqb, ne_eqb}
-use Rattle.std.proofs.lemmas.Fmt.{length-decimal-le, decimal_is_IsNumeral}
+use Rattle.jzon_base.proofs.Common.{◌≡◌, ℕ, suc, ◌+◌, length, ◌*◌, ◌/◌, ◌^◌, ◌≤◌, ◌<◌, ◌==◌, inl, inr, sym, ap, ◌∙◌}
+use Rattle.jzon_base.proofs.Common.{arith, one-le-pow, mul-le-mul_right, pow-le-pow_right, cases_eq, cases_lt, eq-eqb}
+use Rattle.jzon_base.proofs.Common.{ne_eqb, length-decimal-le, decimal}
+use Rattle.std.proofs.Math.Nat.{mul-div_cancel, pow-suc}
+use Rattle.std.proofs.lemmas.Fmt.{decimal_is_IsNumeral}
 use Rattle.std.proofs.lemmas.Int.Digits.{digits_value-lt}
-use Rattle.std.specs.Fmt.{decimal}
 
 -- a multiple of a number that is too large is too large
 pub too_large : (m p : ℕ) → 0 < m → 2 ^ 64 ≤ p → 2 ^ 64 ≤ m * p

@@ -1,6 +1,5 @@
 -- The texts of some numbers (docs/RULES.md, "Printed numbers"), computed from the definition.
-use Rattle.std.proofs.Common.{◌≡◌, pos, negsuc, true, false, codes, refl}
-use Rattle.std.specs.Fmt.{digits}
+use Rattle.jzon_base.proofs.Common.{◌≡◌, pos, negsuc, true, false, codes, refl, digits}
 use Rattle.jzon_base.specs.NumberText.{number_text}
 
 zero : number_text true 0 (pos 100) ≡ codes "0"

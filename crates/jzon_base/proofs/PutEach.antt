@@ -1,10 +1,7 @@
 -- Entries put one after the other.
-use Rattle.std.proofs.Common.{◌≡◌, ◌∙◌, ℕ, List, [], ◌∷◌, ◌++◌, Bool, true, false, cond, length, refl, sym, ap, subst}
-use Rattle.std.proofs.Common.{append_assoc, append-nil}
-use Rattle.std.specs.List.{fold, zip, AllByRecursion, IsDistinct}
-use Rattle.std.specs.Str.{bytes_eq}
-use Rattle.std.proofs.lemmas.List.Sums.{fold-append}
-use Rattle.std.proofs.lemmas.Map.Keys.{IsDistinct-head, IsDistinct-tail}
+use Rattle.jzon_base.proofs.Common.{◌≡◌, ◌∙◌, ℕ, List, [], ◌∷◌, ◌++◌, Bool, true, false, cond, length, refl, sym, ap}
+use Rattle.jzon_base.proofs.Common.{subst, append_assoc, append-nil, fold, zip, AllByRecursion, IsDistinct, bytes_eq}
+use Rattle.jzon_base.proofs.Common.{fold-append, IsDistinct-head, IsDistinct-tail}
 use Rattle.jzon_base.specs.PairList.{keys_of, put, put_each}
 use Rattle.jzon_base.proofs.Zips.{AreParts-zip}
 

@@ -1,7 +1,6 @@
 -- What some digits mean (docs/RULES.md, "Numbers"), computed from the definitions.
-use Rattle.std.proofs.Common.{◌≡◌, ℕ, ℤ, pos, negsuc, ◌-◌, ◌≤◌, ◌+ℤ◌, ◌-ℤ◌, Bool, true, false, List, [], ◌++◌, length}
-use Rattle.std.proofs.Common.{take, replicate, codes, refl, ap, lit<, lit≤, arith}
-use Rattle.std.proofs.lemmas.Int.{ints, clamps}
+use Rattle.jzon_base.proofs.Common.{◌≡◌, ℕ, ℤ, pos, negsuc, ◌-◌, ◌≤◌, ◌+ℤ◌, ◌-ℤ◌, Bool, true, false, List, [], ◌++◌}
+use Rattle.jzon_base.proofs.Common.{length, take, replicate, codes, refl, ap, lit<, lit≤, arith, ints, clamps}
 use Rattle.jzon_base.specs.Decimal.{parts}
 use Rattle.jzon_base.specs.Digits.{digits_number, kept_len, dropped, kept_fraction, clamp, read_number}
 use Rattle.jzon_base.proofs.Kept.{kept_len-at}

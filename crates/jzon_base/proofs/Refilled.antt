@@ -1,16 +1,12 @@
 -- An index of fewer keys in the room of the index of more.
-use Rattle.std.proofs.Common.{◌≡◌, ◌≢◌, ◌∙◌, ℕ, ◌+◌, ◌-◌, ◌<◌, ◌≤◌, min, List, [], ◌∷◌, ◌++◌, length, get_or}
-use Rattle.std.proofs.Common.{set, take, drop, map, sym, ap, subst, arith, zero-add, take_all, append-nil}
-use Rattle.std.proofs.Common.{length-append}
-use Rattle.std.proofs.Math.Seq.{take-add}
-use Rattle.std.proofs.lemmas.List.{take_more_set, drop-set-lt, drop_more, drop_all, length-take-le}
-use Rattle.std.proofs.lemmas.List.Concat.{flat_map-append}
-use Rattle.std.proofs.lemmas.List.Sorted.{IsPermutation-append, IsPermutation-refl, length_permutation}
+use Rattle.jzon_base.proofs.Common.{◌≡◌, ◌≢◌, ◌∙◌, ℕ, ◌+◌, ◌-◌, ◌<◌, ◌≤◌, min, List, [], ◌∷◌, ◌++◌, length, get_or, set}
+use Rattle.jzon_base.proofs.Common.{take, drop, map, sym, ap, subst, arith, zero-add, append-nil, length-append}
+use Rattle.jzon_base.proofs.Common.{take-add, take_more_set, drop-set-lt, drop_more, drop_all, length-take-le}
+use Rattle.jzon_base.proofs.Common.{flat_map-append, IsPermutation-refl, length_permutation, flat_map, IsPermutation}
+use Rattle.jzon_base.proofs.Common.{IsSorted, All-nil, All-push, All-same}
+use Rattle.std.proofs.Common.{take_all}
+use Rattle.std.proofs.lemmas.List.Sorted.{IsPermutation-append}
 use Rattle.std.proofs.Math.ListN.{length-map}
-use Rattle.std.specs.List.{flat_map}
-use Rattle.std.specs.List.Sorted.{IsPermutation}
-use Rattle.std.specs.List.Sorted.{IsSorted}
-use Rattle.std.proofs.lemmas.List.Elements.{All-nil, All-push, All-same}
 use Rattle.jzon_base.specs.Private.Handed.{entries_of, AreSorted, IsIndexOf, IsIndexed}
 use Rattle.jzon_base.specs.Private.Hash.{hash_of}
 use Rattle.jzon_base.specs.Private.Keys.{entry_cmp, hashed_from}

@@ -1,15 +1,11 @@
 -- What `retain` leaves of keys and values.
-use Rattle.std.proofs.Common.{◌≡◌, ◌∙◌, ℕ, suc, ◌+◌, ◌<◌, ◌≤◌, Bool, true, false, cond, List, [], ◌∷◌, ◌++◌, length}
-use Rattle.std.proofs.Common.{get_or, set, take, drop, refl, sym, ap, subst, arith, append_assoc, append-nil}
-use Rattle.std.proofs.lemmas.List.{drop_more, drop_all, drop-set-lt, take-set-le, get_or-set_same, length-set}
-use Rattle.std.proofs.lemmas.List.{length-take-le}
-use Rattle.std.proofs.lemmas.List.Edits.{length-swap}
-use Rattle.std.proofs.lemmas.Map.Made.{keys_of-zip}
-use Rattle.std.proofs.lemmas.Slice.Zip.{length-zip}
-use Rattle.std.specs.List.{swap, zip, AllByRecursion, IsDistinct}
+use Rattle.jzon_base.proofs.Common.{◌≡◌, ◌∙◌, ℕ, suc, ◌+◌, ◌<◌, ◌≤◌, Bool, true, false, cond, List, [], ◌∷◌, ◌++◌}
+use Rattle.jzon_base.proofs.Common.{length, get_or, set, take, drop, refl, sym, ap, subst, arith, append_assoc}
+use Rattle.jzon_base.proofs.Common.{append-nil, drop_more, drop_all, drop-set-lt, take-set-le, get_or-set_same}
+use Rattle.jzon_base.proofs.Common.{length-set, length-take-le, length-swap, keys_of-zip, length-zip, swap, zip}
+use Rattle.jzon_base.proofs.Common.{AllByRecursion, IsDistinct, bytes_eq}
 use Rattle.std.specs.Map.{keys_of}
 use Rattle.std.specs.Map.Calls.{CallableOnEachPair, RetainsPairs}
-use Rattle.std.specs.Str.{bytes_eq}
 use Rattle.jzon_base.proofs.Merged.{swap_prefix, swap_back}
 use Rattle.jzon_base.proofs.Zips.{zip-push}
 

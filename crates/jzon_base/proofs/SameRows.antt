@@ -1,5 +1,5 @@
 -- Equality of some numbers (docs/RULES.md, "Numbers"), computed from the definition.
-use Rattle.std.proofs.Common.{◌≡◌, pos, negsuc, true, false, refl}
+use Rattle.jzon_base.proofs.Common.{◌≡◌, pos, negsuc, true, false, refl}
 use Rattle.jzon_base.specs.Decimal.{nan, parts, same, scaled}
 
 greatest_exponent : same (parts true 10 (pos 32767)) (parts true 100 (pos 32766)) ≡ true

@@ -1,10 +1,7 @@
 -- Decimals scaled to whole numbers.
-use Rattle.std.proofs.Common.{◌≡◌, ℕ, zero, suc, ℤ, pos, negsuc, ◌+◌, ◌*◌, ◌/◌, ◌%◌, ◌^◌, ◌≤◌, ◌<◌, ◌==◌, ◌+ℤ◌, ◌<ℤ◌}
-use Rattle.std.proofs.Common.{false, refl, sym, arith, pow-add, FitsSigned}
-use Rattle.std.specs.Int.{w16}
-use Rattle.std.proofs.Math.Nat.{div-eq_of_lt, mod-eq_of_lt}
-use Rattle.std.proofs.lemmas.Bool.{ne_eqb}
-use Rattle.std.proofs.lemmas.Int.{ints}
+use Rattle.jzon_base.proofs.Common.{◌≡◌, ℕ, zero, suc, ℤ, pos, negsuc, ◌+◌, ◌*◌, ◌/◌, ◌%◌, ◌^◌, ◌≤◌, ◌<◌, ◌==◌, ◌+ℤ◌}
+use Rattle.jzon_base.proofs.Common.{◌<ℤ◌, false, refl, sym, arith, pow-add, FitsSigned, w16, mod-eq_of_lt, ne_eqb, ints}
+use Rattle.std.proofs.Math.Nat.{div-eq_of_lt}
 use Rattle.jzon_base.specs.Decimal.{scaled, shifted}
 use Rattle.jzon_base.proofs.Powers.{power_pos, eq-times}
 

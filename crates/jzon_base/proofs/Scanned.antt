@@ -1,15 +1,10 @@
 -- The leading digits of a text, as they are accumulated.
-use Rattle.std.proofs.Common.{◌≡◌, ℕ, zero, suc, ◌+◌, ◌-◌, ◌*◌, ◌^◌, ◌%◌, ◌≤◌, true, List, [], ◌∷◌, ◌++◌, length}
-use Rattle.std.proofs.Common.{take, drop, refl, ap}
-use Rattle.std.proofs.Common.{sym, ◌∙◌, arith, pow-suc}
-use Rattle.std.specs.Char.{is_ascii_digit}
-use Rattle.std.specs.List.{fold, prefix_len, take_while, All}
+use Rattle.jzon_base.proofs.Common.{◌≡◌, ℕ, zero, suc, ◌+◌, ◌-◌, ◌*◌, ◌^◌, ◌%◌, ◌≤◌, true, List, [], ◌∷◌, ◌++◌, length}
+use Rattle.jzon_base.proofs.Common.{take, drop, refl, ap, sym, ◌∙◌, arith, pow-suc, is_ascii_digit, fold, prefix_len}
+use Rattle.jzon_base.proofs.Common.{take_while, All, mul-mod_first, length-drop, length-take, take_rest, All-head}
+use Rattle.jzon_base.proofs.Common.{All-tail, nat_tests, fold-append, prefix_len-le-length}
 use Rattle.std.proofs.Math.Nat.{add-mod, mod-mod}
-use Rattle.std.proofs.lemmas.Nat.{mul-mod_first}
-use Rattle.std.proofs.lemmas.List.{length-drop, length-take, take_rest}
-use Rattle.std.proofs.lemmas.List.Elements.{All-head, All-tail}
-use Rattle.std.proofs.lemmas.Bool.Decides.{nat_tests}
-use Rattle.std.proofs.lemmas.List.Sums.{fold-append, prefix_len-le-length, take_while-cons}
+use Rattle.std.proofs.lemmas.List.Sums.{take_while-cons}
 use Rattle.jzon_base.proofs.PlainBlocks.{goes_past}
 use Rattle.jzon_base.specs.Digits.{IsDigit, add_digit, digits_number}
 

@@ -1,14 +1,9 @@
 -- Keys, and the index of their hashes if there is one.
-use Rattle.std.proofs.Common.{◌≡◌, ℕ, zero, suc, ◌+◌, ◌<◌, eqb, not, List, [], ◌∷◌, ◌++◌}
-use Rattle.std.proofs.Common.{length, get_or, map, filter, None, refl, sym, ap, ◌∙◌, subst, arith, append-nil}
-use Rattle.std.proofs.lemmas.List.{get_or-map}
-use Rattle.std.proofs.lemmas.List.Elements.{All-nil, All-cons}
-use Rattle.std.proofs.lemmas.List.Sorted.{IsPermutation-refl}
+use Rattle.jzon_base.proofs.Common.{◌≡◌, ℕ, zero, suc, ◌+◌, ◌<◌, eqb, not, List, [], ◌∷◌, ◌++◌, length, get_or, map}
+use Rattle.jzon_base.proofs.Common.{filter, None, refl, sym, ap, ◌∙◌, subst, arith, append-nil, get_or-map, All-nil}
+use Rattle.jzon_base.proofs.Common.{All-cons, IsPermutation-refl, bytes_eq-Decides, position, remove, IsDistinct}
+use Rattle.jzon_base.proofs.Common.{IsPermutation, IsSorted, bytes_eq}
 use Rattle.std.proofs.Math.ListN.{length-map}
-use Rattle.std.proofs.lemmas.Slice.Eq.{bytes_eq-Decides}
-use Rattle.std.specs.List.{position, remove, IsDistinct}
-use Rattle.std.specs.List.Sorted.{IsPermutation, IsSorted}
-use Rattle.std.specs.Str.{bytes_eq}
 use Rattle.jzon_base.specs.Private.Handed.{numbered, entries_of, AreHanded, IsIndexOf, IsIndexed, IsTable}
 use Rattle.jzon_base.specs.Private.Hash.{hash_of}
 use Rattle.jzon_base.specs.Private.Keys.{entry_cmp, hashed_from, lowered}

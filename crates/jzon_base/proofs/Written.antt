@@ -1,9 +1,7 @@
 -- What a writer holds after several writes.
-use Rattle.std.proofs.Common.{◌≡◌, ℕ, ◌-◌, ◌+◌, List, length, take, drop, arith, Option}
-use Rattle.std.specs.Io.KnownBytes.{Appends}
+use Rattle.jzon_base.proofs.Common.{◌≡◌, ℕ, ◌-◌, ◌+◌, List, length, take, drop, arith, Option, Appends, take-add}
+use Rattle.jzon_base.proofs.Common.{take_all, length-drop}
 use Rattle.std.proofs.KnownBytes.{Appends-trans}
-use Rattle.std.proofs.Math.Seq.{take-add}
-use Rattle.std.proofs.lemmas.List.{take_all, length-drop}
 
 -- a write of n of the bytes after the first i, which are written already
 pub Appends-more : (a b c : Option (List ℕ)) (bs : List ℕ) (i n : ℕ) → Appends a b (take i bs)

@@ -1,9 +1,7 @@
 -- Separate lists of keys and values, as a list of entries.
-use Rattle.std.proofs.Common.{◌≡◌, ℕ, zero, suc, List, [], ◌∷◌, ◌++◌, length, set, Some, refl, sym, ap, ◌∙◌, arith}
-use Rattle.std.proofs.lemmas.List.{length_push}
-use Rattle.std.proofs.lemmas.Map.Made.{keys_of-zip}
-use Rattle.std.proofs.lemmas.Slice.Zip.{length-zip, seconds-zip}
-use Rattle.std.specs.List.{zip, remove, slice_get}
+use Rattle.jzon_base.proofs.Common.{◌≡◌, ℕ, zero, suc, List, [], ◌∷◌, ◌++◌, length, set, Some, refl, sym, ap, ◌∙◌}
+use Rattle.jzon_base.proofs.Common.{arith, length_push, keys_of-zip, length-zip, zip, remove, slice_get}
+use Rattle.std.proofs.lemmas.Slice.Zip.{seconds-zip}
 use Rattle.jzon_base.specs.PairList.{keys_of, values_of, set_value}
 
 none_at : {A : Type 0} {x : A} (i : ℕ) → slice_get [] i ≡ Some x → ⊥

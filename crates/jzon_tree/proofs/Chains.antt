@@ -1,12 +1,10 @@
 -- The list that a chain of iterator calls over a value's members or elements goes over, for callers: where std's lemmas
 -- on `all`, `any`, `position`, `find`, `map` and the like take a `YieldsList`, these give it.
-use Rattle.std.proofs.Common.{◌≡◌, ℕ, List, map, length, Option, ap, ◌∙◌, subst}
+use Rattle.jzon_base.proofs.Common.{◌≡◌, ℕ, List, map, length, Option, ap, ◌∙◌, subst, length-map, Bor, iter_rest}
 use Rattle.std.proofs.lemmas.Iterator.{YieldsList}
 use Rattle.std.proofs.lemmas.Iterator.Consumers.{YieldsList-from_shown}
-use Rattle.std.proofs.lemmas.List.{length-map}
-use Rattle.std.specs.Borrow.{Bor}
 use Rattle.std.specs.Iterator.{YieldsFirstBy, YieldsFirstRef}
-use Rattle.std.specs.Slice.Iter.{iter_rest, iter_steps}
+use Rattle.std.specs.Slice.Iter.{iter_steps}
 use Rattle.std.specs.declared.slice.Iter.{Iter}
 use Rattle.jzon_tree.specs.Value.{Value}
 use Rattle.jzon_tree.specs.View.{view, viewed}

@@ -1,13 +1,10 @@
 -- The loops that compare two arrays and two objects.
-use Rattle.std.proofs.Common.{◌≡◌, ◌⊎◌, ℕ, suc, ◌≤◌, Bool, true, false, List, [], ◌∷◌, length, cond, Option, Some, None}
-use Rattle.std.proofs.Common.{option_map, is_some, refl, sym, ap, ◌∙◌, subst, inl, inr, arith}
+use Rattle.jzon_base.proofs.Common.{◌≡◌, ◌⊎◌, ℕ, suc, ◌≤◌, Bool, true, false, List, [], ◌∷◌, length, cond, Option, Some}
+use Rattle.jzon_base.proofs.Common.{None, option_map, is_some, refl, sym, ap, ◌∙◌, subst, inl, inr, arith, IsDistinct}
+use Rattle.jzon_base.proofs.Common.{bytes_eq, false≢true, false_from_ne_true, IsDistinct-head, IsDistinct-tail}
+use Rattle.jzon_base.proofs.Common.{none-some, same_Some, bytes_eq-Decides}
 use denote.Param.Weighed.{most}
-use Rattle.std.specs.List.{IsDistinct}
-use Rattle.std.specs.Str.{bytes_eq}
-use Rattle.std.proofs.lemmas.Bool.{false≢true, false_from_ne_true, and_right}
-use Rattle.std.proofs.lemmas.Map.Keys.{IsDistinct-head, IsDistinct-tail}
-use Rattle.std.proofs.lemmas.Option.{none-some, same_Some}
-use Rattle.std.proofs.lemmas.Slice.Eq.{bytes_eq-Decides}
+use Rattle.std.proofs.lemmas.Bool.{and_right}
 use Rattle.jzon_base.specs.PairList.{find, keys_of, values_of}
 use Rattle.jzon_tree.specs.Value.{Value, object}
 use Rattle.jzon_tree.specs.Same.{same, same_items, passes}

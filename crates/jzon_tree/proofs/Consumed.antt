@@ -1,7 +1,6 @@
 -- The bytes that a generator over memory writes for a value, if it was empty before: a text of the value in the
 -- generator's style, and in the style of a layout its text there.
-use Rattle.std.proofs.Common.{◌≡◌, ℕ, Bool, List, [], Some, None, Result, Ok, Err, sym, subst}
-use Rattle.std.specs.Prelude.{IfOk, IsUtf8}
+use Rattle.jzon_base.proofs.Common.{◌≡◌, ℕ, Bool, List, [], Some, None, Result, Ok, Err, sym, subst, IfOk, IsUtf8}
 use Rattle.jzon_tree.specs.Generator.{Adds, Emitted, Added}
 use Rattle.jzon_tree.specs.Generators.{fresh}
 use Rattle.jzon_tree.specs.Lawful.{IsValue}

@@ -1,8 +1,6 @@
 -- The effect of several hooks, one after the other.
-use Rattle.std.proofs.Common.{◌≡◌, ℕ, suc, ◌+◌, ◌-◌, List, [], ◌∷◌, ◌++◌, refl, sym, ap, subst, ◌∙◌, append_assoc}
-use Rattle.std.proofs.Common.{append-nil, add-one, Result, Ok, Err, arith, Option}
-use Rattle.std.specs.Prelude.{MatchResult}
-use Rattle.std.specs.Result.{IsErr}
+use Rattle.jzon_base.proofs.Common.{◌≡◌, ℕ, suc, ◌+◌, ◌-◌, List, [], ◌∷◌, ◌++◌, refl, sym, ap, subst, ◌∙◌, append_assoc}
+use Rattle.jzon_base.proofs.Common.{append-nil, add-one, Result, Ok, Err, arith, Option, MatchResult, IsErr}
 use Rattle.jzon_tree.proofs.Sent.{adds_same, adds_then, adds_weaker, Sends-laid}
 use Rattle.jzon_tree.specs.Generator.{Adds, Begins, Just, Sends, Emitted, Added, Failed, Stopped, Emits, Counts, noted}
 use Rattle.jzon_tree.specs.Private.Printing.{IsClosing, PrintsIf}

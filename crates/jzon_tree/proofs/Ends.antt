@@ -1,9 +1,10 @@
 -- Bytes that are put by their first and last ones, which may overlap.
-use Rattle.std.proofs.Common.{◌≡◌, ℕ, ◌+◌, ◌-◌, ◌≤◌, List, [], ◌∷◌, ◌++◌, length, take, drop, get_or}
-use Rattle.std.proofs.Common.{sym, ap, ◌∙◌, append_assoc, take-append-drop, replicate, arith}
-use Rattle.std.proofs.lemmas.List.{length-append, length-drop, length-replicate, length-take-le, take-take, take_all}
-use Rattle.std.proofs.lemmas.List.{take_more, take-replicate, get_or-append-add, get_or-replicate}
-use Rattle.std.proofs.Math.Seq.{take-append-add}
+use Rattle.jzon_base.proofs.Common.{◌≡◌, ℕ, ◌+◌, ◌-◌, ◌≤◌, List, [], ◌∷◌, ◌++◌, length, take, drop, get_or, sym, ap}
+use Rattle.jzon_base.proofs.Common.{◌∙◌, append_assoc, take-append-drop, replicate, arith, length-drop}
+use Rattle.jzon_base.proofs.Common.{length-replicate, length-take-le, take-take, take_all, take_more, take-replicate}
+use Rattle.jzon_base.proofs.Common.{get_or-append-add, take-append-add}
+use Rattle.std.proofs.lemmas.List.{length-append}
+use Rattle.std.proofs.lemmas.List.{get_or-replicate}
 use Rattle.std.proofs.lemmas.Simd.{take_more_put_chunk, length-put_chunk, get_or-put_chunk_above}
 use lib.Lanes.{chunk, put_chunk}
 

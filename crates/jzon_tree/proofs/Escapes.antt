@@ -1,6 +1,5 @@
 -- The simple escapes and the others.
-use Rattle.std.proofs.Common.{◌≡◌, ℕ, ◌<◌, ◌∷◌, [], List, Bool, true, false, cond, refl, arith}
-use Rattle.std.specs.Prelude.{◌==◌, ◌||◌}
+use Rattle.jzon_base.proofs.Common.{◌≡◌, ℕ, ◌<◌, ◌∷◌, [], List, Bool, true, false, cond, refl, arith, ◌==◌, ◌||◌}
 use Rattle.jzon_base.specs.Escapes.{letter_of}
 use Rattle.jzon_tree.specs.Text.{escaped_byte}
 

@@ -1,10 +1,7 @@
 -- What has been written when the functions that write values return.
-use Rattle.std.proofs.Common.{◌≡◌, ℕ, zero, suc, ◌+◌, ◌-◌, ◌<◌, List, [], ◌∷◌, ◌++◌, length, Result, ◌∙◌, ap, subst}
-use Rattle.std.proofs.Common.{get_or, take, append_assoc, append-nil, sym, refl, true, false, Bool, inl, inr, add-one}
-use Rattle.std.proofs.Common.{arith, length-append}
-use Rattle.std.specs.Result.{IsErr}
-use Rattle.std.specs.Prelude.{nat_lt, IsTrue}
-use Rattle.std.proofs.lemmas.Bool.{lt-ltb}
+use Rattle.jzon_base.proofs.Common.{◌≡◌, ℕ, zero, suc, ◌+◌, ◌-◌, ◌<◌, List, [], ◌∷◌, ◌++◌, length, Result, ◌∙◌, ap}
+use Rattle.jzon_base.proofs.Common.{subst, get_or, take, append_assoc, append-nil, sym, refl, true, false, Bool, inl}
+use Rattle.jzon_base.proofs.Common.{inr, add-one, arith, length-append, IsErr, nat_lt, IsTrue, lt-ltb}
 use Rattle.jzon_base.specs.PairList.{keys_of}
 use Rattle.jzon_tree.specs.Generator.{Begins, Just, Emitted, Added, Failed, Stopped, Emits, noted, IsForm}
 use Rattle.jzon_tree.specs.Lawful.{IsValue, AreValues, ArePairs}

@@ -1,9 +1,9 @@
 -- A loop that writes a list in place, one position after the other, for callers: what its invariant says, and the laws
 -- of its steps. `see` is what is seen of an item, `view` of an array's elements and `seen_member` of an object's
 -- members, and `h` is what each one becomes.
-use Rattle.std.proofs.Common.{◌≡◌, ◌≤◌, ◌<◌, ◌+◌, ℕ, zero, suc, List, [], ◌∷◌, map, take, drop, length, set, get_or}
-use Rattle.std.proofs.Common.{Option, Some, None, refl, ap, sym, ◌∙◌, arith, add-one, slice_get, option_map}
-use Rattle.std.proofs.lemmas.Option.{slice_get-get_or}
+use Rattle.jzon_base.proofs.Common.{◌≡◌, ◌≤◌, ◌<◌, ◌+◌, ℕ, zero, suc, List, [], ◌∷◌, map, take, drop, length, set}
+use Rattle.jzon_base.proofs.Common.{get_or, Option, Some, None, refl, ap, sym, ◌∙◌, arith, add-one, slice_get}
+use Rattle.jzon_base.proofs.Common.{option_map, slice_get-get_or}
 use Rattle.std.specs.Borrow.{MutBor}
 use Rattle.std.specs.Option.{option_copied_mut}
 use Rattle.jzon_base.specs.PairList.{set_value}

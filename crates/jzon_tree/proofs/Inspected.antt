@@ -1,9 +1,8 @@
 -- What an inspection finds of a container, one element or entry after the other.
-use Rattle.std.proofs.Common.{◌≡◌, ℕ, zero, suc, ◌+◌, ◌-◌, ◌<◌, ◌≤◌, ◌^◌, List, [], ◌∷◌, ◌++◌, map, take, Some, add-one}
-use Rattle.std.proofs.Common.{Bool, refl, ap, arith}
-use Rattle.std.specs.Prelude.{slice_get, max, min, ◌||◌, ◌↔◌}
-use Rattle.std.proofs.Math.Nat.{max-le, le-max_left, le-max_right}
-use Rattle.std.proofs.lemmas.Bool.{or_parts, or_from}
+use Rattle.jzon_base.proofs.Common.{◌≡◌, ℕ, zero, suc, ◌+◌, ◌-◌, ◌<◌, ◌≤◌, ◌^◌, List, [], ◌∷◌, ◌++◌, map, take, Some}
+use Rattle.jzon_base.proofs.Common.{add-one, Bool, refl, ap, arith, slice_get, max, min, ◌||◌, ◌↔◌, le-max_left}
+use Rattle.jzon_base.proofs.Common.{le-max_right, or_parts, or_from}
+use Rattle.std.proofs.Math.Nat.{max-le}
 use Rattle.jzon_tree.specs.Private.Inspected.{IsInspected}
 use Rattle.jzon_tree.specs.Lawful.{IsValue, AreValues, HasNoNan, HaveNoNan, PairsHaveNoNan}
 use Rattle.jzon_tree.specs.Value.{Value, Values, array, object, nest, most_nest, most_nest_under, values_of, pairs_of}

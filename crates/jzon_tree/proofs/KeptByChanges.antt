@@ -1,10 +1,7 @@
 -- What the changers of values preserve: that a program can hold the value, that it contains no NaN, and its nesting
 -- depth.
-use Rattle.std.proofs.Common.{◌≡◌, ◌≢◌, ℕ, zero, suc, ◌<◌, ◌≤◌, List, [], ◌∷◌, ◌++◌, remove, slice_get, Some, refl}
-use Rattle.std.proofs.Common.{subst, arith}
-use Rattle.std.specs.Prelude.{⊤, AllPairs, IsUtf8}
-use Rattle.std.specs.List.{AllByRecursion}
-use Rattle.std.proofs.lemmas.Option.{none-some, same_Some}
+use Rattle.jzon_base.proofs.Common.{◌≡◌, ◌≢◌, ℕ, zero, suc, ◌<◌, ◌≤◌, List, [], ◌∷◌, ◌++◌, remove, slice_get, Some}
+use Rattle.jzon_base.proofs.Common.{refl, subst, arith, ⊤, AllPairs, IsUtf8, AllByRecursion, none-some, same_Some}
 use Rattle.jzon_base.specs.PairList.{find, put, cut, keys_of}
 use Rattle.jzon_base.proofs.PairLaws.{All-put, All-cut, All-found, distinct-put, distinct-cut}
 use Rattle.jzon_tree.specs.Changers.{without_text, with_item, without_item, with_entry, without_entry, cleared}

@@ -1,11 +1,8 @@
 -- What the conversions return: a value that a program can hold, without NaN, and its nesting depth, from what each part
 -- of a source means.
-use Rattle.std.proofs.Common.{◌≡◌, ℕ, ◌<◌, ◌≤◌, ◌^◌, pos, List, [], ◌∷◌, length, Bool, true, false, nat_le}
-use Rattle.std.proofs.Common.{if◌then◌else◌, Option, Some, None, refl, subst, sym, arith}
-use Rattle.std.specs.Prelude.{IsUtf8}
-use Rattle.std.specs.List.{AllByRecursion, AllZip, fold}
-use Rattle.std.proofs.lemmas.Int.{ints}
-use Rattle.std.proofs.lemmas.Bool.{leb-true}
+use Rattle.jzon_base.proofs.Common.{◌≡◌, ℕ, ◌<◌, ◌≤◌, ◌^◌, pos, List, [], ◌∷◌, length, Bool, true, false, nat_le}
+use Rattle.jzon_base.proofs.Common.{if◌then◌else◌, Option, Some, None, refl, subst, sym, arith, IsUtf8, AllByRecursion}
+use Rattle.jzon_base.proofs.Common.{AllZip, fold, ints, leb-true}
 use Rattle.jzon_base.specs.Decimal.{integer_parts}
 use Rattle.jzon_base.specs.PairList.{keys_of, put, put_each}
 use Rattle.jzon_base.proofs.PairLaws.{All-put}

@@ -1,13 +1,9 @@
 -- Positions that were sorted by the keys at them, for generators that sort.
-use Rattle.std.proofs.Common.{Ordering, ◌≡◌, ℕ, zero, suc, ◌+◌, ◌<◌, false, IsTrue, List, [], ◌∷◌, ◌++◌, append-nil}
-use Rattle.std.proofs.Common.{length, get_or, map, Bor, Some, refl, sym, ap, ◌∙◌, subst, arith}
-use Rattle.std.proofs.lemmas.List.{length-map}
-use Rattle.std.proofs.lemmas.Option.{slice_get-get_or}
-use Rattle.std.specs.Prelude.{slice_get}
-use Rattle.std.specs.Cmp.Lexicographic.{slice_cmp}
+use Rattle.jzon_base.proofs.Common.{Ordering, ◌≡◌, ℕ, zero, suc, ◌+◌, ◌<◌, false, IsTrue, List, [], ◌∷◌, ◌++◌}
+use Rattle.jzon_base.proofs.Common.{append-nil, length, get_or, map, Bor, Some, refl, sym, ap, ◌∙◌, subst, arith}
+use Rattle.jzon_base.proofs.Common.{length-map, slice_get-get_or, slice_get, slice_cmp, nat_cmp, is_lt}
 use Rattle.std.specs.List.Sorted.{IsSortedByKey}
 use Rattle.std.specs.Option.{option_cmp}
-use Rattle.std.specs.Ordering.{nat_cmp, is_lt}
 use Rattle.jzon_base.specs.PairList.{keys_of}
 use Rattle.jzon_tree.specs.SortedStyle.{is_before, ascend}
 use Rattle.jzon_tree.specs.Writing.{IsOrder, text_at}

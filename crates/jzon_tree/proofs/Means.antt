@@ -1,9 +1,6 @@
 -- Relations that hold at each position of two lists, one element after the other.
-use Rattle.std.proofs.Common.{◌≡◌, ℕ, suc, ◌+◌, ◌<◌, List, [], ◌∷◌, ◌++◌, length, take, map, ap, subst, sym, ◌∙◌, arith}
-use Rattle.std.proofs.Common.{append-nil, append_assoc, slice_index_or}
-use Rattle.std.proofs.Math.Seq.{take-suc}
-use Rattle.std.proofs.lemmas.List.{map-append}
-use Rattle.std.specs.List.{AllZip}
+use Rattle.jzon_base.proofs.Common.{◌≡◌, ℕ, suc, ◌+◌, ◌<◌, List, [], ◌∷◌, ◌++◌, length, take, map, ap, subst, sym, ◌∙◌}
+use Rattle.jzon_base.proofs.Common.{arith, append-nil, append_assoc, slice_index_or, take-suc, map-append, AllZip}
 
 pub AllZip-push : {X Y : Type 0} (R : X → Y → Type 0) (xs : List X) (ys : List Y) (x : X) (y : Y) → AllZip R xs ys
     → R x y → AllZip R (xs ++ x ∷ []) (ys ++ y ∷ [])

@@ -1,12 +1,10 @@
 -- The entries of an object, in any order.
-use Rattle.std.proofs.Common.{◌≡◌, ◌≢◌, ℕ, zero, suc, ◌+◌, ◌-◌, ◌<◌, ◌≤◌, false, List, [], ◌∷◌, ◌++◌, refl, sym, ap}
-use Rattle.std.proofs.Common.{subst, ◌∙◌, length, append_assoc, append-nil, arith, map, get_or, take, set, replicate}
-use Rattle.std.proofs.Common.{inl, inr, length-take, length-set}
-use Rattle.std.proofs.Math.Seq.{take-suc}
-use Rattle.std.proofs.lemmas.Bool.{cases_lt}
-use Rattle.std.proofs.lemmas.List.{get_or-set_other, get_or-set_same, get_or-take, length-take-le, take_all, length-map}
-use Rattle.std.proofs.lemmas.List.{length-replicate, map-append}
-use Rattle.std.specs.Prelude.{nat_lt, IsTrue}
+use Rattle.jzon_base.proofs.Common.{◌≡◌, ◌≢◌, ℕ, zero, suc, ◌+◌, ◌-◌, ◌<◌, ◌≤◌, false, List, [], ◌∷◌, ◌++◌, refl, sym}
+use Rattle.jzon_base.proofs.Common.{ap, subst, ◌∙◌, length, append_assoc, append-nil, arith, map, get_or, take, set}
+use Rattle.jzon_base.proofs.Common.{replicate, inl, inr, take-suc, cases_lt, get_or-set_other, get_or-set_same}
+use Rattle.jzon_base.proofs.Common.{get_or-take, length-take-le, take_all, length-map, length-replicate, map-append}
+use Rattle.jzon_base.proofs.Common.{nat_lt, IsTrue}
+use Rattle.std.proofs.Common.{length-take, length-set}
 use Rattle.jzon_base.specs.PairList.{keys_of}
 use Rattle.jzon_tree.specs.Generator.{Begins}
 use Rattle.jzon_tree.specs.Text.{quoted}

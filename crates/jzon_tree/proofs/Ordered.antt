@@ -1,18 +1,12 @@
 -- The entries of an object in the order that the generator returned.
-use Rattle.std.proofs.Common.{◌≡◌, ℕ, zero, suc, ◌+◌, ◌<◌, ◌≤◌, List, [], ◌∷◌, ◌++◌, length, length-take, drop, Option}
-use Rattle.std.proofs.Common.{Some, None, map, refl, sym, ap, ◌∙◌, get_or, take, true, false, Bool, add-one, arith}
-use Rattle.std.proofs.Common.{subst, inl, inr}
+use Rattle.jzon_base.proofs.Common.{◌≡◌, ℕ, zero, suc, ◌+◌, ◌<◌, ◌≤◌, List, [], ◌∷◌, ◌++◌, length, drop, Option, Some}
+use Rattle.jzon_base.proofs.Common.{None, map, refl, sym, ap, ◌∙◌, get_or, take, true, false, Bool, add-one, arith}
+use Rattle.jzon_base.proofs.Common.{subst, inl, inr, IsTrue, IsUtf8, ◌==◌, slice_get, Result, IsDistinct, bytes_eq}
+use Rattle.jzon_base.proofs.Common.{cases_lt, length-map, AllPairs-from_IsDistinct, bytes_eq-Decides, Vec, Global}
+use Rattle.std.proofs.Common.{length-take}
 use denote.Param.Weighed.{most}
-use Rattle.std.specs.Prelude.{IsTrue, IsUtf8, ◌==◌, slice_get, Result}
-use Rattle.std.specs.List.{IsDistinct}
-use Rattle.std.specs.Str.{bytes_eq}
-use Rattle.std.proofs.lemmas.Bool.{eqb-true, cases_lt}
-use Rattle.std.proofs.lemmas.List.{length-map}
+use Rattle.std.proofs.lemmas.Bool.{eqb-true}
 use Rattle.std.proofs.lemmas.Map.Entries.{length-keys_of}
-use Rattle.std.proofs.lemmas.Map.Made.{AllPairs-from_IsDistinct}
-use Rattle.std.proofs.lemmas.Slice.Eq.{bytes_eq-Decides}
-use Rattle.std.specs.declared.vec.Vec.{Vec}
-use Rattle.std.specs.declared.alloc.Global.{Global}
 use Rattle.jzon_base.specs.PairList.{keys_of, values_of}
 use Rattle.jzon_tree.specs.declared.value.JsonValue.{JsonValue, size-JsonValue}
 use Rattle.jzon_tree.specs.Generator.{Emitted, Added, Just, Emits, IsAnswer, positions}

@@ -1,13 +1,8 @@
 -- Lists of entries with distinct keys, by lookups.
-use Rattle.std.proofs.Common.{◌≡◌, ℕ, suc, ◌≤◌, Bool, true, false, List, [], ◌∷◌, length, cond, Option, Some, None}
-use Rattle.std.proofs.Common.{is_some, refl, sym, ap, ◌∙◌, subst, arith}
-use Rattle.std.specs.Cmp.Lexicographic.{nat_list_eq_equiv}
-use Rattle.std.specs.List.{IsDistinct}
-use Rattle.std.specs.Str.{bytes_eq}
-use Rattle.std.proofs.lemmas.Bool.{false≢true}
-use Rattle.std.proofs.lemmas.Map.Keys.{IsDistinct-head, IsDistinct-tail, IsDistinct-cons}
-use Rattle.std.proofs.lemmas.Option.{none-some}
-use Rattle.std.proofs.lemmas.Slice.Eq.{bytes_eq-Decides}
+use Rattle.jzon_base.proofs.Common.{◌≡◌, ℕ, suc, ◌≤◌, Bool, true, false, List, [], ◌∷◌, length, cond, Option, Some}
+use Rattle.jzon_base.proofs.Common.{None, is_some, refl, sym, ap, ◌∙◌, subst, arith, nat_list_eq_equiv, IsDistinct}
+use Rattle.jzon_base.proofs.Common.{bytes_eq, false≢true, IsDistinct-head, IsDistinct-tail, IsDistinct-cons, none-some}
+use Rattle.jzon_base.proofs.Common.{bytes_eq-Decides}
 use Rattle.jzon_base.proofs.PairLaws.{IsApart, find-cut_other}
 use Rattle.jzon_base.specs.PairList.{find, cut, keys_of}
 use Rattle.jzon_tree.specs.SameLaws.{find-head, find-past}

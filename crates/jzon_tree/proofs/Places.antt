@@ -1,7 +1,7 @@
 -- The position of the element that `at_index_mut` lends: the index, but at most the last position.
-use Rattle.std.proofs.Common.{◌≡◌, ℕ, zero, suc, ◌-◌, min, List, [], ◌∷◌, ◌++◌, length, refl, arith, inl, inr}
-use Rattle.std.proofs.Common.{Bool, true, false, if◌then◌else◌, nat_lt, nat_eq, Option, Some, None}
-use Rattle.std.proofs.lemmas.Bool.{ltb-true, lt-ltb, cases_lt}
+use Rattle.jzon_base.proofs.Common.{◌≡◌, ℕ, zero, suc, ◌-◌, min, List, [], ◌∷◌, ◌++◌, length, refl, arith, inl, inr}
+use Rattle.jzon_base.proofs.Common.{Bool, true, false, if◌then◌else◌, nat_lt, nat_eq, Option, Some, None, ltb-true}
+use Rattle.jzon_base.proofs.Common.{lt-ltb, cases_lt}
 use Rattle.std.proofs.lemmas.List.{length-append}
 use Rattle.jzon_tree.specs.Lent.{with_place, place_in}
 

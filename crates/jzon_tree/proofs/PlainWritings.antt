@@ -1,5 +1,5 @@
 -- The compact and the pretty text of a value are allowed by their styles.
-use Rattle.std.proofs.Common.{ℕ, true, false, List, subst}
+use Rattle.jzon_base.proofs.Common.{ℕ, true, false, List, subst}
 use Rattle.jzon_tree.specs.Lawful.{IsValue}
 use Rattle.jzon_tree.specs.StyleLaws.{IsStyle-compact, IsStyle-pretty}
 use Rattle.jzon_tree.specs.Styles.{compact_style, pretty_style}

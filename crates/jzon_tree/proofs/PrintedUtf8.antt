@@ -1,19 +1,13 @@
 -- A text of a value, in whatever style, is UTF-8: its strings are, and all its other bytes are below 128.
-use Rattle.std.proofs.Common.{◌≡◌, ◌∙◌, ℕ, zero, suc, ℤ, pos, negsuc, ◌+◌, ◌-◌, ◌^◌, ◌<◌, ◌≤◌, List, [], ◌∷◌, ◌++◌}
-use Rattle.std.proofs.Common.{length, take, drop, replicate, get_or, Bool, true, false, ◌&&◌, ◌==◌, nat_le, nat_lt}
-use Rattle.std.proofs.Common.{if◌then◌else◌, decimal, FitsSigned, codes, refl, sym, ap, subst, append-nil, inl, inr}
-use Rattle.std.proofs.Common.{arith, rules}
-use Rattle.std.specs.Int.{w16}
-use Rattle.std.specs.Prelude.{⊤, IsUtf8, IsTrue, map, encode_utf8, encode_utf8_all}
-use Rattle.std.specs.Str.{IsAscii}
-use Rattle.std.proofs.Math.Utf8.{scalar, scalars}
-use Rattle.std.proofs.lemmas.Bool.{cases_lt, and_parts, ltb-true}
-use Rattle.std.proofs.lemmas.Bool.Decides.{nat_tests}
-use Rattle.std.proofs.lemmas.Fmt.{IsAscii-decimal, length-decimal-le}
-use Rattle.std.proofs.lemmas.List.Concat.{flat_map-append}
-use Rattle.std.proofs.lemmas.Str.{encode_ascii, inside_one, IsAscii-append, IsAscii-take, IsAscii-drop, IsUtf8-append}
-use Rattle.std.proofs.lemmas.Str.{IsUtf8-from_ascii, IsUtf8-nil}
-use Rattle.std.proofs.lemmas.Str.Ascii.{IsAscii-nil, IsAscii-cons}
+use Rattle.jzon_base.proofs.Common.{◌≡◌, ◌∙◌, ℕ, zero, suc, ℤ, pos, negsuc, ◌+◌, ◌-◌, ◌^◌, ◌<◌, ◌≤◌, List, [], ◌∷◌}
+use Rattle.jzon_base.proofs.Common.{◌++◌, length, take, drop, replicate, get_or, Bool, true, false, ◌&&◌, ◌==◌, nat_le}
+use Rattle.jzon_base.proofs.Common.{nat_lt, if◌then◌else◌, decimal, FitsSigned, codes, refl, sym, ap, subst, append-nil}
+use Rattle.jzon_base.proofs.Common.{inl, inr, arith, rules, w16, ⊤, IsUtf8, IsTrue, map, encode_utf8, encode_utf8_all}
+use Rattle.jzon_base.proofs.Common.{IsAscii, scalar, scalars, cases_lt, and_parts, ltb-true, nat_tests}
+use Rattle.jzon_base.proofs.Common.{length-decimal-le, flat_map-append, encode_ascii, IsUtf8-append, IsUtf8-from_ascii}
+use Rattle.jzon_base.proofs.Common.{IsUtf8-nil, IsAscii-nil, IsAscii-cons}
+use Rattle.std.proofs.lemmas.Fmt.{IsAscii-decimal}
+use Rattle.std.proofs.lemmas.Str.{inside_one, IsAscii-append, IsAscii-take, IsAscii-drop}
 use Rattle.jzon_base.specs.Decimal.{Decimal, nan, parts}
 use Rattle.jzon_base.specs.NumberText.{sign_text, point_after, point_after_first, fraction_text, small_exponent_text}
 use Rattle.jzon_base.specs.NumberText.{magnitude_text, written_text}

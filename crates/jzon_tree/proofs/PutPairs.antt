@@ -1,9 +1,8 @@
 -- Entries that are put one after the other, and maps that are iterated over.
-use Rattle.std.proofs.Common.{◌≡◌, ℕ, Bool, false, List, [], ◌∷◌, ◌++◌, map, refl, sym, ap, subst, ◌∙◌}
+use Rattle.jzon_base.proofs.Common.{◌≡◌, ℕ, Bool, false, List, [], ◌∷◌, ◌++◌, map, refl, sym, ap, subst, ◌∙◌}
+use Rattle.jzon_base.proofs.Common.{AllByRecursion, IsDistinct, bytes_eq}
 use Rattle.std.specs.Iterator.{Drains}
-use Rattle.std.specs.List.{AllByRecursion, IsDistinct}
 use Rattle.std.specs.Map.Iter.{TakesFirst}
-use Rattle.std.specs.Str.{bytes_eq}
 use Rattle.jzon_base.specs.PairList.{keys_of, put, put_each}
 use Rattle.jzon_base.proofs.PutEach.{put_each-distinct, put_each-push}
 use Rattle.jzon_tree.specs.IntoJson.{MapMeans, PairsMean, PutMeans}

@@ -1,6 +1,6 @@
 -- The definitions applied to some values: their texts, their equality, their nesting depth.
-use Rattle.std.specs.Prelude.{◌≡◌, ℕ, zero, suc, pos, negsuc, List, [], ◌∷◌, ◌++◌, true, false, codes, refl}
-use Rattle.std.specs.Fmt.{digits}
+use Rattle.jzon_base.proofs.Common.{◌≡◌, ℕ, zero, suc, pos, negsuc, List, [], ◌∷◌, ◌++◌, true, false, codes, refl}
+use Rattle.jzon_base.proofs.Common.{digits}
 use Rattle.jzon_base.specs.Decimal.{nan, parts, scaled}
 use Rattle.jzon_base.specs.PairList.{put, cut}
 use Rattle.jzon_tree.specs.Value.{Value, null, boolean, text, number, array, object, values_of, pairs_of, kind_of}

@@ -1,10 +1,8 @@
 -- Views of the parts of a container, and of what is left of it after a change.
-use Rattle.std.proofs.Common.{◌≡◌, ℕ, List, [], ◌∷◌, ◌++◌, map, length, ◌==◌, Bool, ◌||◌, remove}
-use Rattle.std.proofs.Common.{slice_get, unwrap_or, Option, Some, None, option_map, Vec, Global, Bor, refl, sym}
-use Rattle.std.proofs.Common.{ap, ◌∙◌}
-use Rattle.std.specs.List.{list_any}
-use Rattle.std.proofs.lemmas.List.{length-map, map-append}
-use Rattle.std.proofs.lemmas.Option.{slice_get-map, slice_get_past, slice_get-get_or}
+use Rattle.jzon_base.proofs.Common.{◌≡◌, ℕ, List, [], ◌∷◌, ◌++◌, map, length, ◌==◌, Bool, ◌||◌, remove, slice_get}
+use Rattle.jzon_base.proofs.Common.{unwrap_or, Option, Some, None, option_map, Vec, Global, Bor, refl, sym, ap, ◌∙◌}
+use Rattle.jzon_base.proofs.Common.{list_any, length-map, map-append, slice_get-map, slice_get-get_or}
+use Rattle.std.proofs.lemmas.Option.{slice_get_past}
 use Rattle.std.specs.Slice.{IsItemAt}
 use Rattle.jzon_base.proofs.Lists.{map-remove}
 use Rattle.jzon_base.specs.PairList.{put, cut}

@@ -1,9 +1,7 @@
 -- What several calls add to known bytes, one after the other.
-use Rattle.std.proofs.Common.{ℕ, List, [], ◌++◌, take, drop, Option, None, Some, refl, sym, ap, ◌∙◌}
-use Rattle.std.proofs.Common.{append_assoc, append-nil, take-append-drop, Result, Ok, Err}
-use Rattle.std.specs.Result.{IsErr}
-use Rattle.std.specs.Prelude.{◌≡◌, OnOk, OnErr, MatchResult}
-use Rattle.std.specs.Io.KnownBytes.{Appends}
+use Rattle.jzon_base.proofs.Common.{ℕ, List, [], ◌++◌, take, drop, Option, None, Some, refl, sym, ap, ◌∙◌, append_assoc}
+use Rattle.jzon_base.proofs.Common.{append-nil, take-append-drop, Result, Ok, Err, IsErr, ◌≡◌, OnOk, OnErr, MatchResult}
+use Rattle.jzon_base.proofs.Common.{Appends}
 use Rattle.jzon_base.specs.Written.{AppendsBeginning}
 use Rattle.jzon_tree.specs.Generator.{Adds, Begins, Just, Sends}
 

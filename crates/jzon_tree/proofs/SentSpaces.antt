@@ -1,9 +1,8 @@
 -- Spaces that are sent run by run.
-use Rattle.std.proofs.Common.{◌≡◌, ℕ, suc, ◌+◌, ◌-◌, ◌≤◌, List, ◌∷◌, ◌++◌, length, take, replicate, Option, refl, ap}
-use Rattle.std.proofs.Common.{◌∙◌, arith, Result}
-use Rattle.std.proofs.lemmas.List.{replicate-append-replicate, take-replicate}
+use Rattle.jzon_base.proofs.Common.{◌≡◌, ℕ, suc, ◌+◌, ◌-◌, ◌≤◌, List, ◌∷◌, ◌++◌, length, take, replicate, Option, refl}
+use Rattle.jzon_base.proofs.Common.{ap, ◌∙◌, arith, Result, take-replicate, take-append-add}
+use Rattle.std.proofs.lemmas.List.{replicate-append-replicate}
 use Rattle.jzon_tree.specs.Generator.{Adds, Begins, Just, Sends}
-use Rattle.std.proofs.Math.Seq.{take-append-add}
 use Rattle.jzon_tree.proofs.Sent.{adds_then, adds_weaker, Begins-after, Begins-early, Sends-after}
 
 -- a newline and n spaces

@@ -1,8 +1,7 @@
 -- A string that is sent run by run.
-use Rattle.std.proofs.Common.{◌≡◌, ℕ, ◌<◌, false, List, [], ◌∷◌, ◌++◌, length, get_or, take, drop, Option, refl, sym}
-use Rattle.std.proofs.Common.{ap, ◌∙◌, append_assoc, append-nil, arith, Result}
-use Rattle.std.specs.List.{prefix_len}
-use Rattle.std.proofs.lemmas.List.{length-drop, get_or-drop}
+use Rattle.jzon_base.proofs.Common.{◌≡◌, ℕ, ◌<◌, false, List, [], ◌∷◌, ◌++◌, length, get_or, take, drop, Option, refl}
+use Rattle.jzon_base.proofs.Common.{sym, ap, ◌∙◌, append_assoc, append-nil, arith, Result, prefix_len, length-drop}
+use Rattle.jzon_base.proofs.Common.{get_or-drop}
 use Rattle.jzon_base.specs.Private.PlainBytes.{is_plain}
 use Rattle.jzon_tree.specs.Text.{escaped, escaped_byte}
 use Rattle.jzon_tree.specs.Generator.{Adds, Begins, Just, Sends}

@@ -1,10 +1,8 @@
 -- Sorted positions are still an order.
-use Rattle.std.proofs.Common.{◌≡◌, ℕ, zero, suc, ◌+◌, ◌<◌, false, IsTrue, List, [], ◌∷◌, ◌++◌, cond, length, get_or}
-use Rattle.std.proofs.Common.{map, refl, ap, ◌∙◌, sym, add-one, add-zero, zero-add, arith}
-use Rattle.std.specs.List.{range_with_len}
-use Rattle.std.specs.Prelude.{◌==◌}
-use Rattle.std.specs.List.Sorted.{IsPermutation}
-use Rattle.std.proofs.lemmas.List.Sorted.{sum_by-IsPermutation, length_permutation}
+use Rattle.jzon_base.proofs.Common.{◌≡◌, ℕ, zero, suc, ◌+◌, ◌<◌, false, IsTrue, List, [], ◌∷◌, ◌++◌, cond, length}
+use Rattle.jzon_base.proofs.Common.{get_or, map, refl, ap, ◌∙◌, sym, add-one, add-zero, zero-add, arith, range_with_len}
+use Rattle.jzon_base.proofs.Common.{◌==◌, IsPermutation, length_permutation}
+use Rattle.std.proofs.lemmas.List.Sorted.{sum_by-IsPermutation}
 use Rattle.jzon_tree.specs.Generator.{insertion}
 use Rattle.jzon_tree.specs.SortedStyle.{is_before, ascend}
 use Rattle.jzon_tree.specs.StyleLaws.{IsOrder-insertion}

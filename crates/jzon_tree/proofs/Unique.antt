@@ -1,13 +1,9 @@
 -- A style with exactly one choice of each kind allows exactly one text for each value: the text in its layout.
-use Rattle.std.proofs.Common.{◌≡◌, ℕ, suc, ◌+◌, Bool, true, false, List, [], ◌∷◌, ◌++◌, refl, sym, ap, ◌∙◌, length}
-use Rattle.std.proofs.Common.{append_assoc, length-append, arith, map, Option, Some, None, subst, Result, Ok, Err}
-use Rattle.std.specs.Prelude.{IsTrue, OnOk, OnErr}
-use Rattle.std.specs.List.{range_with_len}
-use Rattle.std.specs.Str.{bytes_eq}
+use Rattle.jzon_base.proofs.Common.{◌≡◌, ℕ, suc, ◌+◌, Bool, true, false, List, [], ◌∷◌, ◌++◌, refl, sym, ap, ◌∙◌}
+use Rattle.jzon_base.proofs.Common.{length, append_assoc, length-append, arith, map, Option, Some, None, subst, Result}
+use Rattle.jzon_base.proofs.Common.{Ok, Err, IsTrue, OnOk, OnErr, range_with_len, bytes_eq, Appends, get_or-append_seam}
+use Rattle.jzon_base.proofs.Common.{take-append_seam, bytes_eq-Decides}
 use Rattle.std.specs.Borrow.{GName}
-use Rattle.std.specs.Io.KnownBytes.{Appends}
-use Rattle.std.proofs.Math.Seq.{get_or-append_seam, take-append_seam}
-use Rattle.std.proofs.lemmas.Slice.Eq.{bytes_eq-Decides}
 use Rattle.jzon_base.specs.Written.{AppendsBeginning}
 use Rattle.jzon_base.specs.PairList.{keys_of}
 use Rattle.jzon_tree.specs.Generator.{Adds, Begins, Sends, Emitted, Prints, insertion}

@@ -4,12 +4,9 @@ pub use Rattle.jzon_tree.proofs.Views.{view-Null, view-Boolean, view-Array, view
 pub use Rattle.jzon_tree.proofs.Views.{list_of_pairs-pairs_of, find-viewed, viewed-put, viewed-cut}
 pub use Rattle.jzon_tree.proofs.Ordered.{keys-viewed}
 pub use Rattle.jzon_tree.proofs.Seen.{list_of_values-values_of, items-Array, entries-Object, count-Array, count-Object}
-use Rattle.std.proofs.Common.{◌≡◌, ◌≢◌, ℕ, zero, suc, List, [], ◌∷◌, ◌++◌, map, remove, Bool, true, false, cond, Some}
-use Rattle.std.proofs.Common.{None, option_map, unwrap_or, refl, sym, ap, ◌∙◌, subst, rules, string_bytes, String}
-use Rattle.std.proofs.Common.{Global}
-use Rattle.std.specs.Prelude.{AllPairs}
-use Rattle.std.specs.Str.{bytes_eq}
-use Rattle.std.proofs.lemmas.Option.{none-some}
+use Rattle.jzon_base.proofs.Common.{◌≡◌, ◌≢◌, ℕ, zero, suc, List, [], ◌∷◌, ◌++◌, map, remove, Bool, true, false, cond}
+use Rattle.jzon_base.proofs.Common.{Some, None, option_map, unwrap_or, refl, sym, ap, ◌∙◌, subst, rules, string_bytes}
+use Rattle.jzon_base.proofs.Common.{String, Global, AllPairs, bytes_eq, none-some}
 use Rattle.jzon_base.specs.Decimal.{Decimal}
 use Rattle.jzon_base.specs.PairList.{find, put, cut, keys_of}
 use Rattle.jzon_base.proofs.PairLaws.{find-put_same, find-put_other, find-cut_same, find-cut_other}

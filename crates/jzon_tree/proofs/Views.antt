@@ -1,10 +1,8 @@
 -- A value viewed level by level, and the views of an object's entries.
-use Rattle.std.proofs.Common.{◌≡◌, ℕ, List, [], ◌∷◌, map, Option, Some, None, option_map, Vec, Global, cond, Bool, true}
-use Rattle.std.proofs.Common.{false, Bor, refl, sym, ap, ◌∙◌, ◌≤◌, arith, rules}
+use Rattle.jzon_base.proofs.Common.{◌≡◌, ℕ, List, [], ◌∷◌, map, Option, Some, None, option_map, Vec, Global, cond, Bool}
+use Rattle.jzon_base.proofs.Common.{true, false, Bor, refl, sym, ap, ◌∙◌, ◌≤◌, arith, rules, zip, bytes_eq}
 use denote.Param.Weighed.{most}
 use Rattle.std.specs.Option.{option_copied}
-use Rattle.std.specs.List.{zip}
-use Rattle.std.specs.Str.{bytes_eq}
 use Rattle.jzon_base.specs.PairList.{find, put, cut, keys_of, values_of}
 use Rattle.jzon_tree.specs.Value.{Value, null, boolean, array, pairs_of, list_of_pairs}
 use Rattle.jzon_tree.specs.View.{view, view_object, viewed, view_pairs, view_values}

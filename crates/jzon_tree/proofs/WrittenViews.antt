@@ -1,10 +1,9 @@
 -- The view of a value after a write into it: to a member of an object, and to an element of an array.
-use Rattle.std.proofs.Common.{◌≡◌, ℕ, List, [], ◌∷◌, ◌++◌, map, length, refl, sym, ap, subst, ◌∙◌, rules, Bool, true}
-use Rattle.std.proofs.Common.{false, if◌then◌else◌, nat_lt, nat_eq, Option, Some, None, option_map}
-use Rattle.std.specs.Prelude.{slice_set, ◌≤◌, IfSome, OnErr, Result, Ok, Err}
+use Rattle.jzon_base.proofs.Common.{◌≡◌, ℕ, List, [], ◌∷◌, ◌++◌, map, length, refl, sym, ap, subst, ◌∙◌, rules, Bool}
+use Rattle.jzon_base.proofs.Common.{true, false, if◌then◌else◌, nat_lt, nat_eq, Option, Some, None, option_map}
+use Rattle.jzon_base.proofs.Common.{slice_set, ◌≤◌, IfSome, OnErr, Result, Ok, Err, length-map, map-append, same_Some}
 use Rattle.jzon_base.specs.declared.error.Error.{Error}
-use Rattle.std.proofs.lemmas.List.{length-map, map-append, map-set}
-use Rattle.std.proofs.lemmas.Option.{same_Some}
+use Rattle.std.proofs.lemmas.List.{map-set}
 use Rattle.jzon_base.specs.PairList.{put}
 use Rattle.jzon_tree.specs.Entries.{entries_of, with_entries}
 use Rattle.jzon_tree.specs.Lent.{entries_in, items_in, items_of, with_place, place_in}

@@ -1,12 +1,8 @@
 -- Complete (`complete`): over the cells of a tree the automaton goes from before it to after its meaning, each move
 -- with its cell's mark. Shown for each part of a tree, whatever cells k follow it and whatever G is required at the
 -- end: if G is reached from after the part over k, it is reached from before the part over its cells and k.
-use Rattle.std.proofs.Common.{◌≡◌, ◌∙◌, ℕ, suc, ◌+◌, ◌-◌, List, [], ◌∷◌, ◌++◌, length, Bool, true, false, cond, ◌&&◌}
-use Rattle.std.proofs.Common.{◌||◌, None, refl, sym, subst, ap, arith}
-use Rattle.std.specs.Prelude.{IsTrue}
-use Rattle.std.specs.List.{fold}
-use Rattle.std.specs.Option.{is_some}
-use Rattle.std.specs.Str.{bytes_eq}
+use Rattle.jzon_base.proofs.Common.{◌≡◌, ◌∙◌, ℕ, suc, ◌+◌, ◌-◌, List, [], ◌∷◌, ◌++◌, length, Bool, true, false, cond}
+use Rattle.jzon_base.proofs.Common.{◌&&◌, ◌||◌, None, refl, sym, subst, ap, arith, IsTrue, fold, is_some, bytes_eq}
 use Rattle.jzon_base.specs.PairList.{find, put}
 use Rattle.jzon_base.proofs.KnownKeys.{known-put}
 use Rattle.jzon_tree.specs.Same.{is_known}

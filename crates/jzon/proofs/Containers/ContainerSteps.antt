@@ -1,8 +1,6 @@
 -- Moves of the automaton at the tokens of arrays and objects, by the byte at an offset of a text.
-use Rattle.std.proofs.Common.{◌≡◌, ◌≢◌, ℕ, ◌+◌, ◌<◌, true, false, List, [], ◌∷◌, length, drop, get_or, refl, ap, ◌∙◌}
-use Rattle.std.proofs.Common.{arith, Some, None, lit<}
-use Rattle.std.specs.Prelude.{chars, IsUtf8, IsTrue, nat_le}
-use Rattle.std.specs.Str.{IsCharBoundary}
+use Rattle.jzon_base.proofs.Common.{◌≡◌, ◌≢◌, ℕ, ◌+◌, ◌<◌, true, false, List, [], ◌∷◌, length, drop, get_or, refl, ap}
+use Rattle.jzon_base.proofs.Common.{◌∙◌, arith, Some, None, lit<, chars, IsUtf8, IsTrue, nat_le, IsCharBoundary}
 use Rattle.jzon_tree.specs.Value.{Value}
 use Rattle.jzon_tree.specs.Writing.{is_whitespace}
 use Rattle.jzon.specs.Reading.{Reading}

@@ -1,7 +1,6 @@
 -- The tokens of arrays and objects, by the offset of the parser's cursor.
-use Rattle.std.proofs.Common.{◌≡◌, ◌≢◌, ◌∙◌, ℕ, ◌+◌, ◌<◌, ◌≤◌, List, [], length, drop, get_or, refl, arith, None}
-use Rattle.std.proofs.Common.{Some, sym, ap, true, lit<}
-use Rattle.std.specs.Prelude.{chars}
+use Rattle.jzon_base.proofs.Common.{◌≡◌, ◌≢◌, ◌∙◌, ℕ, ◌+◌, ◌<◌, ◌≤◌, List, [], length, drop, get_or, refl, arith, None}
+use Rattle.jzon_base.proofs.Common.{Some, sym, ap, true, lit<, chars}
 use Rattle.std.proofs.lemmas.Bool.{le-leb}
 use Rattle.jzon_base.specs.declared.error.Error.TheVariants.{UnexpectedEndOfJson, ExceededDepthLimit}
 use Rattle.jzon_tree.specs.Value.{Value, array, no_values, object, no_pairs}

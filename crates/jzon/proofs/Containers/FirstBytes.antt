@@ -1,10 +1,6 @@
 -- Which bytes begin a value, whatever containers are open.
-use Rattle.std.proofs.Common.{◌≡◌, ◌≢◌, ℕ, ◌+◌, ◌<◌, ◌≤◌, Bool, true, false, List, [], length, get_or, refl, ap, ◌∙◌}
-use Rattle.std.proofs.Common.{arith, None}
-use Rattle.std.specs.Prelude.{IsUtf8, IsTrue, ◌==◌}
-use Rattle.std.specs.Char.{is_ascii_digit}
-use Rattle.std.specs.Str.{IsCharBoundary}
-use Rattle.std.proofs.lemmas.Bool.Decides.{nat_tests}
+use Rattle.jzon_base.proofs.Common.{◌≡◌, ◌≢◌, ℕ, ◌+◌, ◌<◌, ◌≤◌, Bool, true, false, List, [], length, get_or, refl, ap}
+use Rattle.jzon_base.proofs.Common.{◌∙◌, arith, None, IsUtf8, IsTrue, ◌==◌, is_ascii_digit, IsCharBoundary, nat_tests}
 use Rattle.jzon_tree.specs.Writing.{is_whitespace}
 use Rattle.jzon.specs.Reading.{Reading}
 use Rattle.jzon.specs.Private.Classes.{Class, whitespace, digits, minus_char, quote, opens_array, closes_array}

@@ -1,11 +1,7 @@
 -- The open containers, as the automaton sees them.
-use Rattle.std.proofs.Common.{◌≡◌, ◌≢◌, ◌⊎◌, inl, inr, get_or, ℕ, suc, ◌+◌, ◌<◌, ◌≤◌, true, List, []}
-use Rattle.std.proofs.Common.{◌∷◌, ◌++◌, length, length-append, map, refl, sym, ap, ◌∙◌, arith, Some, None}
-use Rattle.std.specs.Prelude.{nat_le}
-use Rattle.std.specs.List.{zip}
-use Rattle.std.proofs.lemmas.Bool.{cases_lt, lt-leb}
-use Rattle.std.proofs.lemmas.List.{map-append}
-use Rattle.std.proofs.lemmas.List.Sums.{fold-append}
+use Rattle.jzon_base.proofs.Common.{◌≡◌, ◌≢◌, ◌⊎◌, inl, inr, get_or, ℕ, suc, ◌+◌, ◌<◌, ◌≤◌, true, List, [], ◌∷◌, ◌++◌}
+use Rattle.jzon_base.proofs.Common.{length, length-append, map, refl, sym, ap, ◌∙◌, arith, Some, None, nat_le, zip}
+use Rattle.jzon_base.proofs.Common.{cases_lt, lt-leb, map-append, fold-append}
 use Rattle.std.proofs.Math.ListN.{get_or-eq_default}
 use Rattle.jzon_base.specs.PairList.{put, put_each}
 use Rattle.jzon_tree.specs.Value.{Value, array, values_of, object, pairs_of}

@@ -1,8 +1,6 @@
 -- Items of the innermost open container: how the parser's stacks change with them, and where the automaton is then.
-use Rattle.std.proofs.Common.{◌≡◌, ◌≢◌, ◌∙◌, ◌+◌, ◌<◌, ℕ, Bool, true, false, cond, List, [], ◌∷◌, length, refl, sym, ap}
-use Rattle.std.proofs.Common.{subst, arith, None, Some, Result, Ok, Err}
-use Rattle.std.specs.List.{zip, fold}
-use Rattle.std.specs.Str.{bytes_eq}
+use Rattle.jzon_base.proofs.Common.{◌≡◌, ◌≢◌, ◌∙◌, ◌+◌, ◌<◌, ℕ, Bool, true, false, cond, List, [], ◌∷◌, length, refl}
+use Rattle.jzon_base.proofs.Common.{sym, ap, subst, arith, None, Some, Result, Ok, Err, zip, fold, bytes_eq}
 use Rattle.jzon_base.specs.PairList.{put, put_each}
 use Rattle.jzon_base.specs.declared.error.Error.{Error}
 use Rattle.jzon_tree.specs.View.{view, viewed}

@@ -1,6 +1,5 @@
 -- Values that are put in places, where another step of the automaton comes first, or an error is propagated.
-use Rattle.std.proofs.Common.{◌≡◌, ◌∙◌, ℕ, List, refl, Result, Ok, Err}
-use Rattle.std.specs.Prelude.{chars, IsErrAnd, MatchResult}
+use Rattle.jzon_base.proofs.Common.{◌≡◌, ◌∙◌, ℕ, List, refl, Result, Ok, Err, chars, IsErrAnd, MatchResult}
 use Rattle.jzon_base.specs.declared.error.Error.{Error}
 use Rattle.jzon_tree.specs.declared.value.JsonValue.{JsonValue}
 use Rattle.jzon.specs.Reading.{Reading}

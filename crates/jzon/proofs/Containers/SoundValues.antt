@@ -2,10 +2,8 @@
 -- value. By induction over the text: `Left p t` says what the text t is from state p to its end (from inside an array:
 -- the rest of an element, then elements, the bracket, and what follows the array), and `on` extends it by one
 -- character.
-use Rattle.std.proofs.Common.{◌≡◌, ◌∙◌, ◌⊎◌, inl, inr, ℕ, suc, List, [], ◌∷◌, ◌++◌, length, Bool, true, false, cond}
-use Rattle.std.proofs.Common.{◌==◌, Option, Some, None, refl, sym, subst, ap, eqb-true}
-use Rattle.std.specs.List.{fold}
-use Rattle.std.specs.Str.{bytes_eq}
+use Rattle.jzon_base.proofs.Common.{◌≡◌, ◌∙◌, ◌⊎◌, inl, inr, ℕ, suc, List, [], ◌∷◌, ◌++◌, length, Bool, true, false}
+use Rattle.jzon_base.proofs.Common.{cond, ◌==◌, Option, Some, None, refl, sym, subst, ap, eqb-true, fold, bytes_eq}
 use Rattle.jzon_base.specs.PairList.{put}
 use Rattle.jzon_tree.specs.Value as value
 use Rattle.jzon_tree.specs.Value.{Value, values_of, pairs_of, kind_of}

@@ -1,13 +1,10 @@
 -- The parts of the two stacks: what a change of the innermost container leaves of those around it.
-use Rattle.std.proofs.Common.{◌≡◌, ℕ, ◌+◌, ◌-◌, ◌≤◌, Bool, true, false, cond, nat_lt, suc, List, [], ◌∷◌, ◌++◌, length, take, drop, vec_len}
-use Rattle.std.proofs.Common.{Option, None, Some, option_map, Vec, Global, length-append, refl, sym, ap, ◌∙◌, subst, arith}
-use Rattle.std.proofs.lemmas.List.{drop-drop, drop-take, take-take, take_all, drop_all, length-drop, length-take}
-use Rattle.std.proofs.lemmas.List.{take-append-le, drop-append-le}
-use Rattle.std.proofs.lemmas.Bool.{false≢true}
-use Rattle.std.proofs.lemmas.Bool.Decides.{nat_tests}
-use Rattle.std.specs.List.{list_any, position, position_or_len, zip}
-use Rattle.std.specs.Option.{is_some}
-use Rattle.std.specs.Str.{bytes_eq}
+use Rattle.jzon_base.proofs.Common.{◌≡◌, ℕ, ◌+◌, ◌-◌, ◌≤◌, Bool, true, false, cond, nat_lt, suc, List, [], ◌∷◌, ◌++◌}
+use Rattle.jzon_base.proofs.Common.{length, take, drop, vec_len, Option, None, Some, option_map, Vec, Global}
+use Rattle.jzon_base.proofs.Common.{length-append, refl, sym, ap, ◌∙◌, subst, arith, drop-drop, take-take, take_all}
+use Rattle.jzon_base.proofs.Common.{drop_all, length-drop, length-take, take-append-le, drop-append-le, false≢true}
+use Rattle.jzon_base.proofs.Common.{nat_tests, list_any, position, position_or_len, zip, is_some, bytes_eq}
+use Rattle.std.proofs.lemmas.List.{drop-take}
 use Rattle.jzon_base.specs.PairList.{find, put_each}
 use Rattle.jzon_base.specs.Private.Handed.{IsTable}
 use Rattle.jzon_base.proofs.KnownKeys.{known-put_each}
@@ -171,19 +168,39 @@ IsLaidOut-kept s t h k =
           (omega (arith, h.values, k.values_within, k.first_value, t.values.ok.0)) (λ a. a) h.await);
     }
 
--- the values may be any, if there are enough
-pub IsLaidOut-values : (s : Inside) (vs : Vec JsonValue Global) → IsLaidOut s → s.first_value ≤ vec_len vs
-    → IsLaidOut (record s { values = vs })
-IsLaidOut-values s vs h within = IsLaidOut-kept s (record s { values = vs }) h (record {
+-- what a clause sees of s, with these parts of the innermost container
+abbrev with_parts : Inside → List (List ℕ) → List JsonValue → OpenContainers
+with_parts s ks vs = record {
+  strict = s.strict;
+  innermost = record { bracket = s.bracket; keys = ks; values = vs };
+  around = (containers_of s).around;
+}
+
+-- all but the part of the innermost container is that of s
+KeepsBelow-of : (s : Inside) (ks : Vec (List ℕ) Global) (vs : Vec JsonValue Global) (known : List (List (ℕ × ℕ)))
+    (merge_at : ℕ) → take s.first_key s.keys.items ≡ take s.first_key ks.items → s.first_key ≤ vec_len ks
+    → s.first_value ≤ vec_len vs → (s.strict ≡ true → IsTable (drop s.first_key ks.items) known)
+    → KeepsBelow s (record s { keys = ks; values = vs; known = known; merge_at = merge_at })
+KeepsBelow-of s ks vs known merge_at kept k v table = record {
   strict = refl;
   around = refl;
   first_key = refl;
   first_value = refl;
-  keys = refl;
-  keys_within = h.keys_within;
-  values_within = within;
-  known = λ strict. (h.known strict).1;
-})
+  keys = kept;
+  keys_within = k;
+  values_within = v;
+  known = table;
+}
+
+-- the values may be any, if there are enough
+KeepsBelow-values : (s : Inside) (vs : Vec JsonValue Global) → IsLaidOut s → s.first_value ≤ vec_len vs
+    → KeepsBelow s (record s { values = vs })
+KeepsBelow-values s vs h within =
+    KeepsBelow-of s s.keys vs s.known s.merge_at refl h.keys_within within (λ strict. (h.known strict).1)
+
+pub IsLaidOut-values : (s : Inside) (vs : Vec JsonValue Global) → IsLaidOut s → s.first_value ≤ vec_len vs
+    → IsLaidOut (record s { values = vs })
+IsLaidOut-values s vs h within = IsLaidOut-kept s (record s { values = vs }) h (KeepsBelow-values s vs h within)
 
 -- a clause sees the change of the innermost container alone, if the values below it are kept
 pub view-kept : (s t : Inside) → IsLaidOut s → KeepsBelow s t
@@ -213,25 +230,10 @@ view-kept s t h k kept =
 
 view-values : (s : Inside) (vs : Vec JsonValue Global) → IsLaidOut s → s.first_value ≤ vec_len vs
     → take s.first_value s.values.items ≡ take s.first_value vs.items
-    → containers_of (record s { values = vs }) ≡ (record {
-      strict = s.strict;
-      innermost = record {
-        bracket = s.bracket;
-        keys = drop s.first_key s.keys.items;
-        values = drop s.first_value vs.items;
-      };
-      around = (containers_of s).around;
-    })
-view-values s vs h within kept = view-kept s (record s { values = vs }) h (record {
-  strict = refl;
-  around = refl;
-  first_key = refl;
-  first_value = refl;
-  keys = refl;
-  keys_within = h.keys_within;
-  values_within = within;
-  known = λ strict. (h.known strict).1;
-}) kept
+    → containers_of (record s { values = vs })
+    ≡ with_parts s (drop s.first_key s.keys.items) (drop s.first_value vs.items)
+view-values s vs h within kept =
+    view-kept s (record s { values = vs }) h (KeepsBelow-values s vs h within) kept
 
 pub view-pushed : (s : Inside) (vs : Vec JsonValue Global) (v : JsonValue) → IsLaidOut s
     → vs.items ≡ s.values.items ++ v ∷ []
@@ -240,15 +242,8 @@ view-pushed s vs v h pushed =
     let within : s.first_value ≤ length s.values.items = omega (arith, h.values_within, s.values.ok.0) in
     view-values s vs h (omega (arith, within, ap length pushed, length-append s.values.items (v ∷ []), vs.ok.0))
     (sym (ap (take s.first_value) pushed ∙ take-append-le s.first_value s.values.items (v ∷ []) within))
-    ∙ (λ i. record {
-      strict = s.strict;
-      innermost = record {
-        bracket = s.bracket;
-        keys = drop s.first_key s.keys.items;
-        values = (ap (drop s.first_value) pushed ∙ drop-append-le s.first_value s.values.items (v ∷ []) within) i;
-      };
-      around = (containers_of s).around;
-    })
+    ∙ ap (with_parts s (drop s.first_key s.keys.items))
+    (ap (drop s.first_value) pushed ∙ drop-append-le s.first_value s.values.items (v ∷ []) within)
 
 -- ---- the values of the innermost container are cut off, or all of it
 
@@ -263,11 +258,8 @@ within_cut n xs ys cut within = omega (arith, within, ap length cut, length-take
 
 pub view-cut_values : (s : Inside) (vs : Vec JsonValue Global) → IsLaidOut s
     → vs.items ≡ take s.first_value s.values.items
-    → (s.first_value ≤ vec_len vs) × (containers_of (record s { values = vs }) ≡ (record {
-      strict = s.strict;
-      innermost = record { bracket = s.bracket; keys = drop s.first_key s.keys.items; values = [] };
-      around = (containers_of s).around;
-    }))
+    → (s.first_value ≤ vec_len vs)
+    × (containers_of (record s { values = vs }) ≡ with_parts s (drop s.first_key s.keys.items) [])
 view-cut_values s vs h cut =
     let within : s.first_value ≤ vec_len vs = omega (
       arith,
@@ -277,37 +269,24 @@ view-cut_values s vs h cut =
     ) in (
       within,
       view-values s vs h within (cut_again s.first_value s.values.items vs.items cut)
-          ∙ (λ i. record {
-            strict = s.strict;
-            innermost = record {
-              bracket = s.bracket;
-              keys = drop s.first_key s.keys.items;
-              values = nothing_above s.first_value s.values.items vs.items cut i;
-            };
-            around = (containers_of s).around;
-          }),
+          ∙ ap (with_parts s (drop s.first_key s.keys.items))
+          (nothing_above s.first_value s.values.items vs.items cut),
     )
 
 pub KeepsBelow-cut_keys : (s : Inside) (ks : Vec (List ℕ) Global) (vs : Vec JsonValue Global)
     (known : List (List (ℕ × ℕ))) → IsLaidOut s → ks.items ≡ take s.first_key s.keys.items
     → s.first_value ≤ vec_len vs → known ≡ []
     → KeepsBelow s (record s { keys = ks; values = vs; known = known })
-KeepsBelow-cut_keys s ks vs known h cut within none = record {
-  strict = refl;
-  around = refl;
-  first_key = refl;
-  first_value = refl;
-  keys = cut_again s.first_key s.keys.items ks.items cut;
-  keys_within = omega (
-    arith,
-    ks.ok.0,
-    within_cut s.first_key s.keys.items ks.items cut
-        (omega (arith, h.keys_within, s.keys.ok.0)),
-  );
-  values_within = within;
-  known = λ strict. subst (IsTable (drop s.first_key ks.items)) (sym none)
-      (subst (λ ls. IsTable ls []) (sym (nothing_above s.first_key s.keys.items ks.items cut)) (IsTable-none [] refl));
-}
+KeepsBelow-cut_keys s ks vs known h cut within none =
+    KeepsBelow-of s ks vs known s.merge_at (cut_again s.first_key s.keys.items ks.items cut)
+    (omega (
+      arith,
+      ks.ok.0,
+      within_cut s.first_key s.keys.items ks.items cut
+          (omega (arith, h.keys_within, s.keys.ok.0)),
+    )) within
+    (λ strict. subst (IsTable (drop s.first_key ks.items)) (sym none)
+    (subst (λ ls. IsTable ls []) (sym (nothing_above s.first_key s.keys.items ks.items cut)) (IsTable-none [] refl)))
 
 pub view-cut_keys : (s : Inside) (ks : Vec (List ℕ) Global) (vs : Vec JsonValue Global) (known : List (List (ℕ × ℕ)))
     → IsLaidOut s → ks.items ≡ take s.first_key s.keys.items → vs.items ≡ take s.first_value s.values.items
@@ -318,15 +297,8 @@ view-cut_keys s ks vs known h cut_keys cut_values none =
     let below = KeepsBelow-cut_keys s ks vs known h cut_keys (view-cut_values s vs h cut_values).0 none in (
       IsLaidOut-kept s t h below,
       view-kept s t h below (cut_again s.first_value s.values.items vs.items cut_values)
-          ∙ (λ i. record {
-            strict = s.strict;
-            innermost = record {
-              bracket = s.bracket;
-              keys = nothing_above s.first_key s.keys.items ks.items cut_keys i;
-              values = nothing_above s.first_value s.values.items vs.items cut_values i;
-            };
-            around = (containers_of s).around;
-          }),
+          ∙ (λ i. with_parts s (nothing_above s.first_key s.keys.items ks.items cut_keys i)
+          (nothing_above s.first_value s.values.items vs.items cut_values i)),
     )
 
 -- ---- a container is opened in the innermost one
@@ -527,16 +499,8 @@ pub KeepsBelow-usual : (s : Inside) (ks : Vec (List ℕ) Global) (vs : Vec JsonV
     → s.strict ≡ false → s.first_key ≤ vec_len ks → s.first_value ≤ vec_len vs
     → take s.first_key s.keys.items ≡ take s.first_key ks.items
     → KeepsBelow s (record s { keys = ks; values = vs; merge_at = merge_at })
-KeepsBelow-usual s ks vs merge_at usual k v kept = record {
-  strict = refl;
-  around = refl;
-  first_key = refl;
-  first_value = refl;
-  keys = kept;
-  keys_within = k;
-  values_within = v;
-  known = λ strict. absurd (false≢true (sym usual ∙ strict));
-}
+KeepsBelow-usual s ks vs merge_at usual k v kept =
+    KeepsBelow-of s ks vs s.known merge_at kept k v (λ strict. absurd (false≢true (sym usual ∙ strict)))
 
 -- ---- a key is pushed
 
@@ -546,18 +510,11 @@ KeepsBelow-key : (s : Inside) (ks : Vec (List ℕ) Global) (known : List (List (
     → KeepsBelow s (record s { keys = ks; known = known })
 KeepsBelow-key s ks known k h pushed table =
     let within : s.first_key ≤ length s.keys.items = omega (arith, h.keys_within, s.keys.ok.0) in
-    record {
-      strict = refl;
-      around = refl;
-      first_key = refl;
-      first_value = refl;
-      keys = sym (ap (take s.first_key) pushed ∙ take-append-le s.first_key s.keys.items (k ∷ []) within);
-      keys_within =
-          omega (arith, within, ap length pushed, length-append s.keys.items (k ∷ []), s.keys.ok.0, ks.ok.0);
-      values_within = h.values_within;
-      known = λ strict. subst (λ ls. IsTable ls known)
-          (sym (ap (drop s.first_key) pushed ∙ drop-append-le s.first_key s.keys.items (k ∷ []) within)) (table strict);
-    }
+    KeepsBelow-of s ks s.values known s.merge_at
+    (sym (ap (take s.first_key) pushed ∙ take-append-le s.first_key s.keys.items (k ∷ []) within))
+    (omega (arith, within, ap length pushed, length-append s.keys.items (k ∷ []), s.keys.ok.0, ks.ok.0)) h.values_within
+    (λ strict. subst (λ ls. IsTable ls known)
+    (sym (ap (drop s.first_key) pushed ∙ drop-append-le s.first_key s.keys.items (k ∷ []) within)) (table strict))
 
 pub IsLaidOut-key : (s : Inside) (ks : Vec (List ℕ) Global) (known : List (List (ℕ × ℕ))) (k : List ℕ) → IsLaidOut s
     → ks.items ≡ s.keys.items ++ k ∷ []
@@ -572,16 +529,8 @@ pub view-key : (s : Inside) (ks : Vec (List ℕ) Global) (known : List (List (�
     → containers_of (record s { keys = ks; known = known }) ≡ key_added (containers_of s) k
 view-key s ks known k h pushed table =
     view-kept s (record s { keys = ks; known = known }) h (KeepsBelow-key s ks known k h pushed table) refl
-    ∙ (λ i. record {
-      strict = s.strict;
-      innermost = record {
-        bracket = s.bracket;
-        keys = (ap (drop s.first_key) pushed ∙ drop-append-le s.first_key s.keys.items (k ∷ [])
-            (omega (arith, h.keys_within, s.keys.ok.0))) i;
-        values = drop s.first_value s.values.items;
-      };
-      around = (containers_of s).around;
-    })
+    ∙ ap (λ ls. with_parts s ls (drop s.first_value s.values.items)) (ap (drop s.first_key) pushed
+    ∙ drop-append-le s.first_key s.keys.items (k ∷ []) (omega (arith, h.keys_within, s.keys.ok.0)))
 
 -- a key that is added comes next
 pub HasKeyNext-added : (o p : OpenContainers) (k : List ℕ) → IsMerged o p

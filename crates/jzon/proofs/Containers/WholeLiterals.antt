@@ -1,9 +1,7 @@
 -- `null`, `true` and `false`, four letters of which the code compares at once.
-use Rattle.std.proofs.Common.{◌≡◌, ◌≢◌, ◌⊎◌, inl, inr, ℕ, ◌+◌, ◌<◌, ◌≤◌, true, false, List, [], ◌∷◌, length, get_or}
-use Rattle.std.proofs.Common.{refl, sym, ap, subst, ◌∙◌, arith, None, lit<}
-use Rattle.std.specs.Prelude.{IsUtf8}
-use Rattle.std.specs.Str.{IsCharBoundary}
-use Rattle.std.proofs.lemmas.Str.{IsCharBoundary-before_ascii, IsCharBoundary-after_ascii}
+use Rattle.jzon_base.proofs.Common.{◌≡◌, ◌≢◌, ◌⊎◌, inl, inr, ℕ, ◌+◌, ◌<◌, ◌≤◌, true, false, List, [], ◌∷◌, length}
+use Rattle.jzon_base.proofs.Common.{get_or, refl, sym, ap, subst, ◌∙◌, arith, None, lit<, IsUtf8, IsCharBoundary}
+use Rattle.jzon_base.proofs.Common.{IsCharBoundary-before_ascii, IsCharBoundary-after_ascii}
 use Rattle.jzon_tree.specs.Value.{Value, null, boolean}
 use Rattle.jzon.specs.Reading.{Reading}
 use Rattle.jzon.specs.Private.Classes.{begins_null, begins_true, begins_false}

@@ -1,8 +1,6 @@
 -- The automaton on a whole run of digits: it reads the run, or stops at the digit that exceeds a limit.
-use Rattle.std.proofs.Common.{◌≡◌, ◌∙◌, ℕ, zero, suc, ◌+◌, ◌<◌, ◌≤◌, List, [], ◌∷◌, ◌++◌, length, drop, Bool, true}
-use Rattle.std.proofs.Common.{false, refl, ap}
-use Rattle.std.specs.Prelude.{IsTrue}
-use Rattle.std.specs.Char.{is_ascii_digit}
+use Rattle.jzon_base.proofs.Common.{◌≡◌, ◌∙◌, ℕ, zero, suc, ◌+◌, ◌<◌, ◌≤◌, List, [], ◌∷◌, ◌++◌, length, drop, Bool}
+use Rattle.jzon_base.proofs.Common.{true, false, refl, ap, IsTrue, is_ascii_digit}
 use Rattle.jzon_base.specs.Digits.{kept_len, dropped, kept_fraction}
 use Rattle.jzon.specs.Reading.{Reading}
 use Rattle.jzon.specs.Grammar.{Sign, unsigned, AreDigits, IsDigits}

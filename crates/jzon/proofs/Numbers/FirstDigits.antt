@@ -1,8 +1,6 @@
 -- The first digit after a minus, by the byte there.
-use Rattle.std.proofs.Common.{◌≡◌, ℕ, ◌+◌, ◌<◌, true, List, length, get_or, refl, ap, ◌∙◌}
-use Rattle.std.specs.Prelude.{IsUtf8, IsTrue, ◌==◌}
-use Rattle.std.specs.Char.{is_ascii_digit}
-use Rattle.std.specs.Str.{IsCharBoundary}
+use Rattle.jzon_base.proofs.Common.{◌≡◌, ℕ, ◌+◌, ◌<◌, true, List, length, get_or, refl, ap, ◌∙◌, IsUtf8, IsTrue, ◌==◌}
+use Rattle.jzon_base.proofs.Common.{is_ascii_digit, IsCharBoundary}
 use Rattle.jzon.specs.Reading.{Reading}
 use Rattle.jzon.specs.Private.Classes.{Class, digits, class_of, after_minus, after_first_digit}
 use Rattle.jzon.specs.Private.Machine.{Frames, numeral, bad, move_numeral, from}

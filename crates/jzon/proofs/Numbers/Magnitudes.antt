@@ -1,16 +1,10 @@
 -- The digits of a number before its exponent, by offsets of the text's bytes: `reads_whole_alone` without a fraction,
 -- `reads_whole_and_fraction` with one.
-use Rattle.std.proofs.Common.{◌≡◌, ◌∙◌, ℕ, ◌+◌, ◌<◌, ◌≤◌, Bool, true, false, not, if◌then◌else◌, ◌==◌, List, [], ◌∷◌}
-use Rattle.std.proofs.Common.{◌++◌, length, drop, get_or, pos, refl, sym, ap, subst, arith, eqb-true, true≢false}
-use Rattle.std.proofs.Common.{length-append}
-use Rattle.std.specs.Prelude.{chars, IsUtf8, IsTrue}
-use Rattle.std.specs.Char.{is_ascii_digit}
-use Rattle.std.specs.Str.{IsCharBoundary}
-use Rattle.std.specs.List.{All, take_while}
-use Rattle.std.proofs.lemmas.Bool.{ne_eqb}
-use Rattle.std.proofs.lemmas.Bool.Decides.{nat_tests}
-use Rattle.std.proofs.lemmas.List.Elements.{All-nil, All-cons}
-use Rattle.std.proofs.lemmas.Str.{IsCharBoundary-before_ascii, IsCharBoundary-after_ascii}
+use Rattle.jzon_base.proofs.Common.{◌≡◌, ◌∙◌, ℕ, ◌+◌, ◌<◌, ◌≤◌, Bool, true, false, not, if◌then◌else◌, ◌==◌, List, []}
+use Rattle.jzon_base.proofs.Common.{◌∷◌, ◌++◌, length, drop, get_or, pos, refl, sym, ap, subst, arith, eqb-true}
+use Rattle.jzon_base.proofs.Common.{true≢false, length-append, chars, IsUtf8, IsTrue, is_ascii_digit, IsCharBoundary}
+use Rattle.jzon_base.proofs.Common.{All, take_while, ne_eqb, nat_tests, All-nil, All-cons, IsCharBoundary-before_ascii}
+use Rattle.jzon_base.proofs.Common.{IsCharBoundary-after_ascii}
 use Rattle.jzon_base.specs.Digits.{IsDigit, dropped, kept_fraction, read_number}
 use Rattle.jzon_base.specs.DigitLimits.{AreFewEnough, IsFirstTooMany}
 use Rattle.jzon_base.specs.declared.digits.DigitFault.{DigitFault}

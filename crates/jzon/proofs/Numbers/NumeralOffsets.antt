@@ -1,17 +1,10 @@
 -- The digits of a number and its exponent, by offsets of the text's bytes.
-use Rattle.std.proofs.Common.{◌≡◌, ◌∙◌, ℕ, suc, ◌+◌, ◌<◌, ◌≤◌, Bool, true, false, cond, ◌==◌, List, [], ◌∷◌, ◌++◌}
-use Rattle.std.proofs.Common.{length, take, drop, get_or, refl, sym, ap, subst, arith, eqb-true, not}
-use Rattle.std.specs.Prelude.{chars, IsUtf8}
-use Rattle.std.specs.Char.{is_ascii_digit}
-use Rattle.std.specs.Str.{IsCharBoundary}
-use Rattle.std.specs.List.{All, take_while, prefix_len}
-use Rattle.std.proofs.lemmas.Bool.{ne_eqb}
-use Rattle.std.proofs.lemmas.Bool.Decides.{nat_tests}
-use Rattle.std.proofs.lemmas.List.{drop-drop, length-drop}
-use Rattle.std.proofs.lemmas.List.Elements.{All-nil, All-cons}
+use Rattle.jzon_base.proofs.Common.{◌≡◌, ◌∙◌, ℕ, suc, ◌+◌, ◌<◌, ◌≤◌, Bool, true, false, cond, ◌==◌, List, [], ◌∷◌, ◌++◌}
+use Rattle.jzon_base.proofs.Common.{length, take, drop, get_or, refl, sym, ap, subst, arith, eqb-true, not, chars}
+use Rattle.jzon_base.proofs.Common.{IsUtf8, is_ascii_digit, IsCharBoundary, All, take_while, prefix_len, ne_eqb}
+use Rattle.jzon_base.proofs.Common.{nat_tests, drop-drop, length-drop, All-nil, All-cons, prefix_len-le-length}
+use Rattle.jzon_base.proofs.Common.{IsUtf8-drop, IsCharBoundary-from_drop, IsCharBoundary-after_ascii}
 use Rattle.std.proofs.lemmas.List.Folds.{length-prefix_len}
-use Rattle.std.proofs.lemmas.List.Sums.{prefix_len-le-length}
-use Rattle.std.proofs.lemmas.Str.{IsUtf8-drop, IsCharBoundary-from_drop, IsCharBoundary-after_ascii}
 use Rattle.jzon_base.specs.Decimal.{signed}
 use Rattle.jzon_base.specs.Digits.{IsDigit, digits_number, read_number}
 use Rattle.jzon_tree.specs.Value as value

@@ -1,11 +1,8 @@
 -- Sound, for numbers (`number_on`, `number_ends`): if the automaton goes to a value from inside a number, the rest of
 -- the text begins with the rest of a number, `InNumeral`, and continues with what is allowed after it. Shown for one
 -- more character, given the statement for the text after it.
-use Rattle.std.proofs.Common.{◌≡◌, ◌∙◌, ℕ, List, [], ◌∷◌, ◌++◌, Bool, true, false, not, ◌==◌, Option, None, refl, sym}
-use Rattle.std.proofs.Common.{subst, ap, eqb-true}
-use Rattle.std.specs.Prelude.{IsTrue}
-use Rattle.std.specs.Char.{is_ascii_digit}
-use Rattle.std.proofs.lemmas.Bool.{and_from}
+use Rattle.jzon_base.proofs.Common.{◌≡◌, ◌∙◌, ℕ, List, [], ◌∷◌, ◌++◌, Bool, true, false, not, ◌==◌, Option, None, refl}
+use Rattle.jzon_base.proofs.Common.{sym, subst, ap, eqb-true, IsTrue, is_ascii_digit, and_from}
 use Rattle.jzon_tree.specs.Value.{Value}
 use Rattle.jzon_tree.specs.Value as value
 use Rattle.jzon.specs.Reading.{Reading}

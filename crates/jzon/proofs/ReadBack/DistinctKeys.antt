@@ -1,10 +1,6 @@
 -- Keys each of which is new.
-use Rattle.std.proofs.Common.{◌≡◌, ℕ, List, [], ◌∷◌, false, refl}
-use Rattle.std.specs.Prelude.{⊤}
-use Rattle.std.specs.List.{AllByRecursion, IsDistinct}
-use Rattle.std.specs.Str.{bytes_eq}
-use Rattle.std.proofs.lemmas.Bool.{or_from}
-use Rattle.std.proofs.lemmas.Map.Keys.{IsDistinct-head, IsDistinct-tail}
+use Rattle.jzon_base.proofs.Common.{◌≡◌, ℕ, List, [], ◌∷◌, false, refl, ⊤, AllByRecursion, IsDistinct, bytes_eq}
+use Rattle.jzon_base.proofs.Common.{or_from, IsDistinct-head, IsDistinct-tail}
 use Rattle.jzon_tree.specs.Same.{is_known}
 
 -- each key is neither one of those seen before nor one of the keys before it

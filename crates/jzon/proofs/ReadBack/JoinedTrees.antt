@@ -1,7 +1,6 @@
 -- Trees of what a style joins: values separated by commas with whitespace around them, and members.
-use Rattle.std.proofs.Common.{◌≡◌, ◌∙◌, ℕ, ◌≤◌, max, List, [], ◌∷◌, ◌++◌, map, refl, ap, append_assoc, arith}
-use Rattle.std.specs.Prelude.{IsUtf8, ⊤}
-use Rattle.std.specs.List.{AllByRecursion}
+use Rattle.jzon_base.proofs.Common.{◌≡◌, ◌∙◌, ℕ, ◌≤◌, max, List, [], ◌∷◌, ◌++◌, map, refl, ap, append_assoc, arith}
+use Rattle.jzon_base.proofs.Common.{IsUtf8, ⊤, AllByRecursion}
 use Rattle.jzon_base.specs.PairList.{keys_of}
 use Rattle.jzon_tree.specs.Value.{Value, value, values_of}
 use Rattle.jzon_tree.specs.Text.{quoted}

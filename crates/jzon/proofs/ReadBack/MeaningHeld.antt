@@ -1,18 +1,10 @@
 -- The meaning of a tree that breaks no limit is a value that the laws `redump` and `reads_back` apply to.
-use Rattle.std.proofs.Common.{◌≡◌, ℕ, suc, ◌-◌, ◌<◌, ◌≤◌, max, ℤ, pos, ◌+ℤ◌, ◌-ℤ◌, List, [], ◌∷◌, ◌++◌, Bool, true}
-use Rattle.std.proofs.Common.{false, ◌&&◌, nat_le, if◌then◌else◌, Option, None, codes, refl, sym, subst, arith}
-use Rattle.std.proofs.Common.{FitsSigned}
-use Rattle.std.specs.Prelude.{IsUtf8}
-use Rattle.std.specs.Int.{w16}
-use Rattle.std.specs.List.{fold, AllByRecursion, IsDistinct}
-use Rattle.std.specs.Str.{bytes_eq}
-use Rattle.std.proofs.Math.Utf8.{scalar, scalars}
-use Rattle.std.proofs.lemmas.Bool.{and_parts, leb-false}
-use Rattle.std.proofs.lemmas.Bool.Decides.{nat_tests}
-use Rattle.std.proofs.lemmas.Int.{ints, clamps}
-use Rattle.std.proofs.lemmas.Map.Made.{AllPairs-from_IsDistinct}
-use Rattle.std.proofs.lemmas.Slice.Eq.{bytes_eq-Decides}
-use Rattle.std.proofs.lemmas.Str.{encodes-append, IsUtf8-append, IsUtf8-nil}
+use Rattle.jzon_base.proofs.Common.{◌≡◌, ℕ, suc, ◌-◌, ◌<◌, ◌≤◌, max, ℤ, pos, ◌+ℤ◌, ◌-ℤ◌, List, [], ◌∷◌, ◌++◌, Bool}
+use Rattle.jzon_base.proofs.Common.{true, false, ◌&&◌, nat_le, if◌then◌else◌, Option, None, codes, refl, sym, subst}
+use Rattle.jzon_base.proofs.Common.{arith, FitsSigned, IsUtf8, w16, fold, AllByRecursion, IsDistinct, bytes_eq, scalar}
+use Rattle.jzon_base.proofs.Common.{scalars, and_parts, nat_tests, ints, clamps, AllPairs-from_IsDistinct}
+use Rattle.jzon_base.proofs.Common.{bytes_eq-Decides, encodes-append, IsUtf8-append, IsUtf8-nil}
+use Rattle.std.proofs.lemmas.Bool.{leb-false}
 use Rattle.jzon_base.specs.Digits.{dropped, kept_fraction, clamp}
 use Rattle.jzon_base.specs.PairList.{keys_of, put, put_each}
 use Rattle.jzon_base.proofs.Kept.{kept_len_is_longest}

@@ -1,11 +1,10 @@
 -- The length of the text of a number.
-use Rattle.std.proofs.Common.{◌≡◌, ℕ, ℤ, pos, negsuc, ◌+◌, ◌-◌, ◌^◌, ◌≤◌, ◌<◌, ◌==◌, List, [], ◌++◌, length, replicate}
-use Rattle.std.proofs.Common.{Bool, true, false, refl, arith, decimal, codes, nat_le, nat_lt, if◌then◌else◌, FitsSigned}
-use Rattle.std.proofs.Common.{length-append, length-take, length-drop}
-use Rattle.std.proofs.lemmas.List.{length-replicate}
-use Rattle.std.specs.Int.{w16}
-use Rattle.std.proofs.lemmas.Fmt.{length-decimal-le}
-use Rattle.std.proofs.lemmas.Bool.{leb-true, ltb-false}
+use Rattle.jzon_base.proofs.Common.{◌≡◌, ℕ, ℤ, pos, negsuc, ◌+◌, ◌-◌, ◌^◌, ◌≤◌, ◌<◌, ◌==◌, List, [], ◌++◌, length}
+use Rattle.jzon_base.proofs.Common.{replicate, Bool, true, false, refl, arith, decimal, codes, nat_le, nat_lt}
+use Rattle.jzon_base.proofs.Common.{if◌then◌else◌, FitsSigned, length-append, length-replicate, w16, length-decimal-le}
+use Rattle.jzon_base.proofs.Common.{leb-true}
+use Rattle.std.proofs.Common.{length-take, length-drop}
+use Rattle.std.proofs.lemmas.Bool.{ltb-false}
 use Rattle.jzon_base.specs.NumberText.{sign_text, point_after, point_after_first, fraction_text, small_exponent_text}
 use Rattle.jzon_base.specs.NumberText.{magnitude_text, number_text}
 

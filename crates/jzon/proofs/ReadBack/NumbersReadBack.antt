@@ -1,10 +1,7 @@
 -- The text of a number is read as an equal number.
-use Rattle.std.proofs.Common.{◌≡◌, ◌∙◌, ℕ, suc, zero, ℤ, pos, negsuc, ◌+◌, ◌*◌, ◌^◌, ◌≤◌, ◌<◌, None, List, [], length}
-use Rattle.std.proofs.Common.{Bool, sym, ap, subst, arith, decimal, FitsSigned, inl, inr, chars}
-use Rattle.std.specs.Int.{w16}
-use Rattle.std.specs.Str.{IsAscii}
-use Rattle.std.proofs.lemmas.Bool.{cases_lt}
-use Rattle.std.proofs.lemmas.Str.{chars-IsAscii}
+use Rattle.jzon_base.proofs.Common.{◌≡◌, ◌∙◌, ℕ, suc, zero, ℤ, pos, negsuc, ◌+◌, ◌*◌, ◌^◌, ◌≤◌, ◌<◌, None, List, []}
+use Rattle.jzon_base.proofs.Common.{length, Bool, sym, ap, subst, arith, decimal, FitsSigned, inl, inr, chars, w16}
+use Rattle.jzon_base.proofs.Common.{IsAscii, cases_lt, chars-IsAscii}
 use Rattle.jzon_base.specs.Decimal.{parts}
 use Rattle.jzon_base.specs.NumberText.{number_text}
 use Rattle.jzon_tree.proofs.PrintedUtf8.{IsAscii-written}

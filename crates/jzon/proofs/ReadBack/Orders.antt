@@ -1,17 +1,11 @@
 -- Lists in another order, by their positions.
-use Rattle.std.proofs.Common.{◌≡◌, ◌∙◌, ◌≢◌, ℕ, zero, suc, ◌<◌, ◌≤◌, ◌==◌, List, [], ◌∷◌, length, map, get_or, Bool}
-use Rattle.std.proofs.Common.{true, false, cond, Option, Some, None, refl, sym, ap, arith, inl, inr}
-use Rattle.std.specs.Prelude.{AllPairs}
-use Rattle.std.specs.List.{AllByRecursion, IsDistinct}
-use Rattle.std.specs.Str.{bytes_eq}
+use Rattle.jzon_base.proofs.Common.{◌≡◌, ◌∙◌, ◌≢◌, ℕ, zero, suc, ◌<◌, ◌≤◌, ◌==◌, List, [], ◌∷◌, length, map, get_or}
+use Rattle.jzon_base.proofs.Common.{Bool, true, false, cond, Option, Some, None, refl, sym, ap, arith, inl, inr}
+use Rattle.jzon_base.proofs.Common.{AllPairs, AllByRecursion, IsDistinct, bytes_eq, cases_lt, cases_eq, nat_tests}
+use Rattle.jzon_base.proofs.Common.{length-map, get_or_default, recursion_from_All, IsDistinct-cons, same_Some}
+use Rattle.jzon_base.proofs.Common.{none-some, bytes_eq-Decides}
 use Rattle.std.proofs.Math.ListN.{get_or-map}
-use Rattle.std.proofs.lemmas.Bool.{cases_lt, cases_eq}
-use Rattle.std.proofs.lemmas.Bool.Decides.{nat_tests}
-use Rattle.std.proofs.lemmas.List.{length-map, get_or_default}
-use Rattle.std.proofs.lemmas.List.Elements.{All-from_get_or, recursion_from_All}
-use Rattle.std.proofs.lemmas.Map.Keys.{IsDistinct-cons}
-use Rattle.std.proofs.lemmas.Option.{same_Some, none-some}
-use Rattle.std.proofs.lemmas.Slice.Eq.{bytes_eq-Decides}
+use Rattle.std.proofs.lemmas.List.Elements.{All-from_get_or}
 use Rattle.jzon_base.specs.PairList.{keys_of, find}
 use Rattle.jzon_base.proofs.PairLaws.{bytes_eq-other}
 use Rattle.jzon_tree.specs.Writing.{IsOrder, text_at}

@@ -1,14 +1,12 @@
 -- The forms of a printed number that preserve its mantissa and its exponent.
-use Rattle.std.proofs.Common.{◌≡◌, ℕ, suc, zero, ℤ, pos, negsuc, ◌+ℤ◌, ◌-ℤ◌, ◌+◌, ◌-◌, ◌^◌, ◌≤◌, ◌<◌, Option, Some}
-use Rattle.std.proofs.Common.{None, List, [], ◌∷◌, ◌++◌, length, take, drop, replicate, Bool, true, false, refl, sym}
-use Rattle.std.proofs.Common.{ap, ◌∙◌, arith, decimal, codes, FitsSigned, get_or, length-append, length-take}
-use Rattle.std.proofs.Common.{length-drop, append_assoc, append-nil, inl, inr}
-use Rattle.std.specs.Int.{w16}
-use Rattle.std.specs.List.{fold}
-use Rattle.std.proofs.lemmas.Int.{ints}
-use Rattle.std.proofs.lemmas.Bool.{cases_eq}
-use Rattle.std.proofs.lemmas.List.Sums.{fold-append}
-use Rattle.std.proofs.lemmas.List.{length-replicate, take-append-drop}
+use Rattle.jzon_base.proofs.Common.{◌≡◌, ℕ, suc, zero, ℤ, pos, negsuc, ◌+ℤ◌, ◌-ℤ◌, ◌+◌, ◌-◌, ◌^◌, ◌≤◌, ◌<◌, Option}
+use Rattle.jzon_base.proofs.Common.{Some, None, List, [], ◌∷◌, ◌++◌, length, take, drop, replicate, Bool, true, false}
+use Rattle.jzon_base.proofs.Common.{refl, sym, ap, ◌∙◌, arith, decimal, codes, FitsSigned, get_or, length-append}
+use Rattle.jzon_base.proofs.Common.{append_assoc, append-nil, inl, inr, w16, fold, ints, cases_eq, fold-append}
+use Rattle.jzon_base.proofs.Common.{length-replicate}
+use Rattle.std.proofs.Common.{length-take}
+use Rattle.std.proofs.Common.{length-drop}
+use Rattle.std.proofs.lemmas.List.{take-append-drop}
 use Rattle.jzon_base.specs.Digits.{add_digit, digits_number}
 use Rattle.jzon_base.specs.Decimal.{parts}
 use Rattle.jzon_base.specs.NumberText.{point_after, point_after_first, small_exponent_text, magnitude_text, number_text}

@@ -1,19 +1,14 @@
 -- Numbers of the grammar that have the text of given parts, and mean the same parts.
-use Rattle.std.proofs.Common.{◌≡◌, ℕ, suc, ℤ, pos, ◌+ℤ◌, ◌-ℤ◌, ◌^◌, ◌&&◌, ◌≤◌, ◌<◌, ◌==◌, Option, Some, List, [], ◌∷◌}
-use Rattle.std.proofs.Common.{◌++◌, length, take, drop, replicate, Bool, true, false, not, refl, sym, ap, ◌∙◌, arith}
-use Rattle.std.proofs.Common.{rules, codes, nat_le, if◌then◌else◌, FitsSigned, get_or, length-append, append_assoc}
-use Rattle.std.proofs.Common.{decimal, zero}
-use Rattle.std.proofs.Math.Bool.{not-not}
-use Rattle.std.specs.Int.{w16}
-use Rattle.std.specs.Char.{is_ascii_digit}
-use Rattle.std.specs.List.{fold, AllByRecursion}
-use Rattle.std.proofs.lemmas.Int.{ints, clamps}
+use Rattle.jzon_base.proofs.Common.{◌≡◌, ℕ, suc, ℤ, pos, ◌+ℤ◌, ◌-ℤ◌, ◌^◌, ◌&&◌, ◌≤◌, ◌<◌, ◌==◌, Option, Some, List, []}
+use Rattle.jzon_base.proofs.Common.{◌∷◌, ◌++◌, length, take, drop, replicate, Bool, true, false, not, refl, sym, ap}
+use Rattle.jzon_base.proofs.Common.{◌∙◌, arith, rules, codes, nat_le, if◌then◌else◌, FitsSigned, get_or, length-append}
+use Rattle.jzon_base.proofs.Common.{append_assoc, decimal, zero, not-not, w16, is_ascii_digit, fold, AllByRecursion}
+use Rattle.jzon_base.proofs.Common.{ints, clamps, length-decimal-le, nat_tests, take_all, All-append, All-take}
+use Rattle.jzon_base.proofs.Common.{All-drop, recursion_from_All}
 use Rattle.std.proofs.lemmas.Str.Parse.{IsNumeralModel, numerals_by_fold}
-use Rattle.std.proofs.lemmas.Fmt.{length-decimal-le, decimal_nonempty, digits_decimal, first_decimal}
+use Rattle.std.proofs.lemmas.Fmt.{decimal_nonempty, digits_decimal, first_decimal}
 use Rattle.std.proofs.lemmas.Fmt.{digits_value-decimal}
-use Rattle.std.proofs.lemmas.Bool.Decides.{nat_tests}
-use Rattle.std.proofs.lemmas.List.{take_all}
-use Rattle.std.proofs.lemmas.List.Elements.{All-append, All-take, All-drop, All-from_recursion, recursion_from_All}
+use Rattle.std.proofs.lemmas.List.Elements.{All-from_recursion}
 use Rattle.jzon_base.specs.Digits.{IsDigit, add_digit, digits_number, kept_len, kept, dropped, kept_fraction}
 use Rattle.jzon_base.specs.Digits.{read_exponent, clamp}
 use Rattle.jzon_base.specs.Decimal.{Decimal, parts, same}

@@ -1,13 +1,8 @@
 -- Each text that is written for a value without NaN is read as an equal value.
-use Rattle.std.proofs.Common.{◌≡◌, ◌∙◌, ◌≢◌, ℕ, suc, ◌≤◌, max, List, [], ◌∷◌, ◌++◌, length, map, Bool, true, false}
-use Rattle.std.proofs.Common.{cond, Option, Some, refl, sym, ap, subst, arith}
-use Rattle.std.specs.Prelude.{IsUtf8, IsTrue, AllPairs}
-use Rattle.std.specs.List.{AllByRecursion, IsDistinct}
-use Rattle.std.specs.Str.{bytes_eq}
-use Rattle.std.proofs.Math.Nat.{le-max_left, le-max_right}
-use Rattle.std.proofs.lemmas.Bool.{and_parts, and_from}
-use Rattle.std.proofs.lemmas.List.{length-map}
-use Rattle.std.proofs.lemmas.Slice.Eq.{bytes_eq-Decides}
+use Rattle.jzon_base.proofs.Common.{◌≡◌, ◌∙◌, ◌≢◌, ℕ, suc, ◌≤◌, max, List, [], ◌∷◌, ◌++◌, length, map, Bool, true}
+use Rattle.jzon_base.proofs.Common.{false, cond, Option, Some, refl, sym, ap, subst, arith, IsUtf8, IsTrue, AllPairs}
+use Rattle.jzon_base.proofs.Common.{AllByRecursion, IsDistinct, bytes_eq, le-max_left, le-max_right, and_parts}
+use Rattle.jzon_base.proofs.Common.{and_from, length-map, bytes_eq-Decides}
 use Rattle.jzon_base.specs.Decimal.{nan, parts}
 use Rattle.jzon_base.specs.PairList.{keys_of, find, put_each}
 use Rattle.jzon_base.proofs.PutEach.{put_each-distinct}

@@ -1,11 +1,7 @@
 -- The compact text of a value is read as a value with the same compact text.
-use Rattle.std.proofs.Common.{◌≡◌, ◌∙◌, ℕ, suc, List, [], ◌∷◌, ◌++◌, true, false, codes, refl, sym, ap, subst}
-use Rattle.std.proofs.Common.{append_assoc}
-use Rattle.std.specs.Prelude.{IsUtf8}
-use Rattle.std.specs.List.{IsDistinct}
-use Rattle.std.specs.Str.{bytes_eq}
-use Rattle.std.proofs.lemmas.Map.Made.{IsDistinct-from_AllPairs}
-use Rattle.std.proofs.lemmas.Slice.Eq.{bytes_eq-Decides}
+use Rattle.jzon_base.proofs.Common.{◌≡◌, ◌∙◌, ℕ, suc, List, [], ◌∷◌, ◌++◌, true, false, codes, refl, sym, ap, subst}
+use Rattle.jzon_base.proofs.Common.{append_assoc, IsUtf8, IsDistinct, bytes_eq, IsDistinct-from_AllPairs}
+use Rattle.jzon_base.proofs.Common.{bytes_eq-Decides}
 use Rattle.jzon_base.specs.Decimal.{nan, parts}
 use Rattle.jzon_base.specs.PairList.{keys_of, put_each}
 use Rattle.jzon_base.proofs.PutEach.{put_each-distinct}

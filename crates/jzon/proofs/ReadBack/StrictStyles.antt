@@ -1,8 +1,5 @@
 -- The styles of the four generators allow only whitespace of a strict reading.
-use Rattle.std.proofs.Common.{◌≡◌, ℕ, ◌*◌, List, [], true, refl, sym, subst}
-use Rattle.std.specs.Prelude.{IsTrue}
-use Rattle.std.specs.Str.{bytes_eq}
-use Rattle.std.proofs.lemmas.Slice.Eq.{bytes_eq-Decides}
+use Rattle.jzon_base.proofs.Common.{◌≡◌, ℕ, ◌*◌, List, [], true, refl, sym, subst, IsTrue, bytes_eq, bytes_eq-Decides}
 use Rattle.jzon_tree.specs.StyleLaws.{spaces_are_whitespace}
 use Rattle.jzon_tree.specs.Text.{pretty_layout}
 use Rattle.jzon_tree.specs.Writing.{is_all_whitespace}

@@ -1,15 +1,15 @@
 -- A printed number with zeros after its digits: it is read with a larger mantissa, and one zero is dropped if the
 -- mantissa has no room for it.
-use Rattle.std.proofs.Common.{◌≡◌, ℕ, suc, zero, ℤ, pos, ◌+ℤ◌, ◌-ℤ◌, ◌+◌, ◌*◌, ◌/◌, ◌%◌, ◌^◌, ◌&&◌, ◌≤◌, ◌<◌, ◌==◌}
-use Rattle.std.proofs.Common.{None, List, [], ◌∷◌, ◌++◌, length, take, replicate, Bool, true, false, not, refl, sym, ap}
-use Rattle.std.proofs.Common.{◌∙◌, arith, decimal, length-append, append_assoc, append-nil, pow-add, eq-eqb}
-use Rattle.std.specs.List.{fold}
-use Rattle.std.proofs.lemmas.Int.{ints}
+use Rattle.jzon_base.proofs.Common.{◌≡◌, ℕ, suc, zero, ℤ, pos, ◌+ℤ◌, ◌-ℤ◌, ◌+◌, ◌*◌, ◌/◌, ◌%◌, ◌^◌, ◌&&◌, ◌≤◌, ◌<◌}
+use Rattle.jzon_base.proofs.Common.{◌==◌, None, List, [], ◌∷◌, ◌++◌, length, take, replicate, Bool, true, false, not}
+use Rattle.jzon_base.proofs.Common.{refl, sym, ap, ◌∙◌, arith, decimal, length-append, append_assoc, append-nil}
+use Rattle.jzon_base.proofs.Common.{pow-add, fold, ints, not-not, one-le-pow, mul-le-mul_right, pow-le-pow_right}
+use Rattle.jzon_base.proofs.Common.{fold-append, length-replicate, take_all, get_or_append_left}
+use Rattle.std.proofs.Common.{eq-eqb}
 use Rattle.std.proofs.lemmas.Fmt.{decimal_step}
-use Rattle.std.proofs.Math.Bool.{not-not, or-true}
-use Rattle.std.proofs.Math.Nat.{pow-suc, one-le-mul, one-le-pow, mul-le-mul_right, pow-le-pow_right}
-use Rattle.std.proofs.lemmas.List.Sums.{fold-append}
-use Rattle.std.proofs.lemmas.List.{length-replicate, take_at, take_all, get_or_append_left}
+use Rattle.std.proofs.Math.Bool.{or-true}
+use Rattle.std.proofs.Math.Nat.{pow-suc, one-le-mul}
+use Rattle.std.proofs.lemmas.List.{take_at}
 use Rattle.jzon_base.specs.Digits.{add_digit, digits_number, kept_len, kept, dropped, kept_fraction, read_exponent}
 use Rattle.jzon_base.specs.Digits.{clamp}
 use Rattle.jzon_base.specs.Decimal.{parts, same, scaled}

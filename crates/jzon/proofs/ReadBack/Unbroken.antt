@@ -1,6 +1,5 @@
 -- A tree that breaks no limit, by its cells: none has a mark.
-use Rattle.std.proofs.Common.{◌≡◌, ◌∙◌, ℕ, List, [], Some, ap, subst, append-nil}
-use Rattle.std.specs.Prelude.{slice_get}
+use Rattle.jzon_base.proofs.Common.{◌≡◌, ◌∙◌, ℕ, List, [], Some, ap, subst, append-nil, slice_get}
 use Rattle.jzon.specs.Reading.{Reading}
 use Rattle.jzon.specs.Grammar.{Document, IsDocument}
 use Rattle.jzon.specs.Spelling.{plain, cells}

@@ -1,7 +1,7 @@
 -- Cells without marks: the cells after each part of a tree have no marks either, and neither has the first character of
 -- a value.
-use Rattle.std.proofs.Common.{◌≡◌, ℕ, List, [], ◌∷◌, suc, Bool, true, false, if◌then◌else◌, Option, Some, None, ap}
-use Rattle.std.specs.Prelude.{⊤, slice_get}
+use Rattle.jzon_base.proofs.Common.{◌≡◌, ℕ, List, [], ◌∷◌, suc, Bool, true, false, if◌then◌else◌, Option, Some, None}
+use Rattle.jzon_base.proofs.Common.{ap, ⊤, slice_get}
 use Rattle.jzon.specs.Reading.{Reading}
 use Rattle.jzon.specs.Grammar.{Sign, unsigned, plus, minus, Exponent, Numeral, Item, simple, single, double, Key}
 use Rattle.jzon.specs.Grammar.{IsWhole}

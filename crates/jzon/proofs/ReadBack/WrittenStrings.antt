@@ -1,17 +1,12 @@
 -- A written string is a string of the grammar, and means the string that was written.
-use Rattle.std.proofs.Common.{◌≡◌, ◌∙◌, ℕ, ◌/◌, ◌%◌, ◌≤◌, List, [], ◌∷◌, ◌++◌, map, Bool, true, false, not, ◌&&◌, ◌||◌}
-use Rattle.std.proofs.Common.{◌==◌, nat_lt, if◌then◌else◌, refl, sym, ap, subst, arith, inl, inr, append-nil, chars}
-use Rattle.std.proofs.Common.{None}
-use Rattle.std.specs.Prelude.{IsUtf8, encode_utf8, encode_utf8_all}
+use Rattle.jzon_base.proofs.Common.{◌≡◌, ◌∙◌, ℕ, ◌/◌, ◌%◌, ◌≤◌, List, [], ◌∷◌, ◌++◌, map, Bool, true, false, not, ◌&&◌}
+use Rattle.jzon_base.proofs.Common.{◌||◌, ◌==◌, nat_lt, if◌then◌else◌, refl, sym, ap, subst, arith, inl, inr}
+use Rattle.jzon_base.proofs.Common.{append-nil, chars, None, IsUtf8, encode_utf8, encode_utf8_all, IsAscii, bytes_eq}
+use Rattle.jzon_base.proofs.Common.{scalar, scalars, cases_lt, and_parts, not-true, nat_tests, flat_map-append}
+use Rattle.jzon_base.proofs.Common.{bytes_eq-Decides, chars_from_encodes, chars-append, encodes-append, encodes-chars}
+use Rattle.jzon_base.proofs.Common.{scalars-chars, encode_ascii, IsUtf8-from_ascii, chars-IsAscii}
 use Rattle.std.specs.Char.{digit_char}
-use Rattle.std.specs.Str.{IsAscii, bytes_eq}
-use Rattle.std.proofs.Math.Utf8.{scalar, scalars}
-use Rattle.std.proofs.lemmas.Bool.{cases_lt, and_parts, not-true}
-use Rattle.std.proofs.lemmas.Bool.Decides.{nat_tests}
-use Rattle.std.proofs.lemmas.List.Concat.{flat_map-append}
-use Rattle.std.proofs.lemmas.Slice.Eq.{bytes_eq-Decides}
-use Rattle.std.proofs.lemmas.Str.{chars_from_encodes, chars-append, encodes-append, encodes-chars, scalars-chars}
-use Rattle.std.proofs.lemmas.Str.{encode_ascii, IsUtf8-from_ascii, encodes-IsAscii, chars-IsAscii}
+use Rattle.std.proofs.lemmas.Str.{encodes-IsAscii}
 use Rattle.jzon_tree.specs.Text.{escaped_byte, escaped, quoted}
 use Rattle.jzon_tree.proofs.PrintedUtf8.{all_below, at_below, large_escaped, escaped_large, encode_large, IsAscii-one}
 use Rattle.jzon_tree.proofs.PrintedUtf8.{IsAscii-escaped_byte, IsUtf8-escaped}

@@ -1,13 +1,9 @@
 -- Trees of written texts: a tree that breaks no limit, with the bytes that it spells.
-use Rattle.std.proofs.Common.{◌≡◌, ◌∙◌, ℕ, suc, ◌+◌, ◌<◌, ◌≤◌, ◌^◌, max, ℤ, List, [], ◌∷◌, ◌++◌, Bool, true, false}
-use Rattle.std.proofs.Common.{◌&&◌, codes, None, refl, sym, ap, arith, chars, FitsSigned}
-use Rattle.std.specs.Prelude.{IsUtf8}
-use Rattle.std.specs.Int.{w16}
-use Rattle.std.specs.Str.{IsAscii}
+use Rattle.jzon_base.proofs.Common.{◌≡◌, ◌∙◌, ℕ, suc, ◌+◌, ◌<◌, ◌≤◌, ◌^◌, max, ℤ, List, [], ◌∷◌, ◌++◌, Bool, true}
+use Rattle.jzon_base.proofs.Common.{false, ◌&&◌, codes, None, refl, sym, ap, arith, chars, FitsSigned, IsUtf8, w16}
+use Rattle.jzon_base.proofs.Common.{IsAscii, chars-append, chars-IsAscii, IsUtf8-append, IsUtf8-from_ascii, IsAscii-nil}
+use Rattle.jzon_base.proofs.Common.{IsAscii-cons, lt-leb}
 use Rattle.std.proofs.Math.Bool.{and-false}
-use Rattle.std.proofs.lemmas.Str.{chars-append, chars-IsAscii, IsUtf8-append, IsUtf8-from_ascii}
-use Rattle.std.proofs.lemmas.Str.Ascii.{IsAscii-nil, IsAscii-cons}
-use Rattle.std.proofs.lemmas.Bool.{lt-leb}
 use Rattle.jzon_base.specs.NumberText.{number_text}
 use Rattle.jzon_tree.specs.Same.{is_known}
 use Rattle.jzon_tree.specs.Text.{quoted}

@@ -1,11 +1,8 @@
 -- Complete, for strings (`complete_string`, `read_items`): over the items of a string the automaton goes from between
 -- two items to after them, each move with its cell's mark, and has the bytes that they mean.
-use Rattle.std.proofs.Common.{◌≡◌, ◌∙◌, ℕ, zero, suc, ◌+◌, List, [], ◌∷◌, ◌++◌, length, Bool, true, false, not, ◌&&◌}
-use Rattle.std.proofs.Common.{Option, None, refl, sym, subst, ap, arith, append_assoc, append-nil, encode_utf8}
-use Rattle.std.proofs.Common.{encode_utf8_all}
-use Rattle.std.specs.Prelude.{if◌then◌else◌}
-use Rattle.std.specs.List.{fold}
-use Rattle.std.proofs.lemmas.Str.{encodes-append}
+use Rattle.jzon_base.proofs.Common.{◌≡◌, ◌∙◌, ℕ, zero, suc, ◌+◌, List, [], ◌∷◌, ◌++◌, length, Bool, true, false, not}
+use Rattle.jzon_base.proofs.Common.{◌&&◌, Option, None, refl, sym, subst, ap, arith, append_assoc, append-nil}
+use Rattle.jzon_base.proofs.Common.{encode_utf8, encode_utf8_all, if◌then◌else◌, fold, encodes-append}
 use Rattle.jzon_tree.specs.Value as value
 use Rattle.jzon_tree.specs.Value.{kind_of}
 use Rattle.jzon.specs.Reading.{Reading}

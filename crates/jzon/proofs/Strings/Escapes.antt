@@ -1,11 +1,7 @@
 -- Escapes of a string, by the bytes of a text: a simple one, one of four digits, and the second one after a surrogate.
-use Rattle.std.proofs.Common.{◌≡◌, ℕ, ◌+◌, ◌<◌, Bool, true, false, cond, List, ◌++◌, length, drop, get_or, refl, ap}
-use Rattle.std.proofs.Common.{subst, ◌∙◌, arith, None}
-use Rattle.std.specs.Prelude.{chars, IsUtf8, encode_utf8, ◌==◌}
-use Rattle.std.specs.Str.{IsCharBoundary}
-use Rattle.std.proofs.lemmas.Bool.{false_from_ne_true}
-use Rattle.std.proofs.lemmas.Bool.Decides.{nat_tests}
-use Rattle.std.proofs.lemmas.Str.{IsCharBoundary-after_ascii}
+use Rattle.jzon_base.proofs.Common.{◌≡◌, ℕ, ◌+◌, ◌<◌, Bool, true, false, cond, List, ◌++◌, length, drop, get_or, refl}
+use Rattle.jzon_base.proofs.Common.{ap, subst, ◌∙◌, arith, None, chars, IsUtf8, encode_utf8, ◌==◌, IsCharBoundary}
+use Rattle.jzon_base.proofs.Common.{false_from_ne_true, nat_tests, IsCharBoundary-after_ascii}
 use Rattle.jzon.specs.Reading.{Reading}
 use Rattle.jzon.specs.Grammar.{is_simple}
 use Rattle.jzon.specs.Meaning.{unescaped}

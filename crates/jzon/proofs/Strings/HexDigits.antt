@@ -1,17 +1,11 @@
 -- The four hexadecimal digits of an escape, by the bytes of a text.
-use Rattle.std.proofs.Common.{◌≡◌, ℕ, zero, suc, ◌+◌, ◌-◌, ◌^◌, ◌<◌, ◌≤◌, true, false, cond, List, [], ◌∷◌, length}
-use Rattle.std.proofs.Common.{take, drop, get_or, refl, sym, ap, ◌∙◌, arith, None, ◌&&◌, length-drop}
-use Rattle.std.specs.Prelude.{chars, IsUtf8, slice_range}
-use Rattle.std.specs.List.{fold}
-use Rattle.std.specs.Char.{is_ascii_hexdigit, digit_value}
-use Rattle.std.specs.Str.{IsCharBoundary}
-use Rattle.std.proofs.Math.Nat.{pow-le-pow_right}
-use Rattle.std.proofs.lemmas.Bool.{false_from_ne_true}
-use Rattle.std.proofs.lemmas.Bool.Decides.{nat_tests}
+use Rattle.jzon_base.proofs.Common.{◌≡◌, ℕ, zero, suc, ◌+◌, ◌-◌, ◌^◌, ◌<◌, ◌≤◌, true, false, cond, List, [], ◌∷◌}
+use Rattle.jzon_base.proofs.Common.{length, take, drop, get_or, refl, sym, ap, ◌∙◌, arith, None, ◌&&◌, chars, IsUtf8}
+use Rattle.jzon_base.proofs.Common.{slice_range, fold, is_ascii_hexdigit, digit_value, IsCharBoundary, pow-le-pow_right}
+use Rattle.jzon_base.proofs.Common.{false_from_ne_true, nat_tests, get_or-drop, take_more, fold-append}
+use Rattle.jzon_base.proofs.Common.{IsCharBoundary-after_ascii}
+use Rattle.std.proofs.Common.{length-drop}
 use Rattle.std.proofs.lemmas.Grind.{pow_more}
-use Rattle.std.proofs.lemmas.List.{get_or-drop, take_more}
-use Rattle.std.proofs.lemmas.List.Sums.{fold-append}
-use Rattle.std.proofs.lemmas.Str.{IsCharBoundary-after_ascii}
 use Rattle.jzon.specs.Reading.{Reading}
 use Rattle.jzon.specs.Grammar.{is_high, is_low, is_surrogate, code_unit}
 use Rattle.jzon.specs.Fault as fault

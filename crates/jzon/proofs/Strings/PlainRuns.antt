@@ -1,17 +1,13 @@
 -- Runs of unescaped bytes in a string: the automaton adds them to the string.
-use Rattle.std.proofs.Common.{◌≡◌, ℕ, ◌+◌, ◌<◌, ◌≤◌, Bool, true, false, cond, List, [], ◌∷◌, ◌++◌, length, take, drop}
-use Rattle.std.proofs.Common.{get_or, refl, sym, ap, subst, ◌∙◌, inl, inr, arith, append_assoc, append-nil}
-use Rattle.std.proofs.Common.{take-append-drop, length-append, None}
-use Rattle.std.specs.Prelude.{chars, IsUtf8, encode_utf8, encode_utf8_all, slice_range, Contains, not, ◌&&◌, ◌||◌, ◌==◌}
-use Rattle.std.specs.Prelude.{nat_le}
+use Rattle.jzon_base.proofs.Common.{◌≡◌, ℕ, ◌+◌, ◌<◌, ◌≤◌, Bool, true, false, cond, List, [], ◌∷◌, ◌++◌, length, take}
+use Rattle.jzon_base.proofs.Common.{drop, get_or, refl, sym, ap, subst, ◌∙◌, inl, inr, arith, append_assoc, append-nil}
+use Rattle.jzon_base.proofs.Common.{take-append-drop, length-append, None, chars, IsUtf8, encode_utf8, encode_utf8_all}
+use Rattle.jzon_base.proofs.Common.{slice_range, Contains, not, ◌&&◌, ◌||◌, ◌==◌, nat_le, IsCharBoundary, prefix_len}
+use Rattle.jzon_base.proofs.Common.{cases_lt, and_parts, nat_tests, drop-drop, length-take-le, get_or-append-add}
+use Rattle.jzon_base.proofs.Common.{get_or-take, get_or_default, prefix_len-le-length, chars-append, encode_ascii}
+use Rattle.jzon_base.proofs.Common.{encodes-chars, scalars-chars, IsUtf8-between}
 use lib.Utf8.{scalar, scalars}
-use Rattle.std.specs.Str.{IsCharBoundary}
-use Rattle.std.specs.List.{prefix_len}
-use Rattle.std.proofs.lemmas.Bool.{cases_lt, and_parts}
-use Rattle.std.proofs.lemmas.Bool.Decides.{nat_tests}
-use Rattle.std.proofs.lemmas.List.{drop-drop, length-take-le, get_or-append-add, get_or-take, get_or_default}
-use Rattle.std.proofs.lemmas.List.Sums.{prefix_len-le-length, prefix_len_passes}
-use Rattle.std.proofs.lemmas.Str.{chars-append, encode_ascii, encodes-chars, scalars-chars, IsUtf8-between}
+use Rattle.std.proofs.lemmas.List.Sums.{prefix_len_passes}
 use Rattle.jzon_base.specs.Private.PlainBytes.{is_plain}
 use Rattle.jzon.specs.Reading.{Reading}
 use Rattle.jzon.specs.Grammar.{is_unescaped}

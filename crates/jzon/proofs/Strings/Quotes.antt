@@ -1,11 +1,7 @@
 -- Where a run of plain characters of a string ends: a quote, a backslash, or a fault.
-use Rattle.std.proofs.Common.{◌≡◌, ℕ, ◌+◌, ◌-◌, ◌<◌, Bool, true, false, ◌&&◌, cond, List, length, drop, get_or, refl}
-use Rattle.std.proofs.Common.{ap, sym, subst, ◌∙◌, arith}
-use Rattle.std.specs.Prelude.{chars, IsUtf8, ◌==◌}
-use Rattle.std.specs.Option.{is_some}
-use Rattle.std.specs.Str.{IsCharBoundary}
-use Rattle.std.proofs.lemmas.Bool.Decides.{nat_tests}
-use Rattle.std.proofs.lemmas.Str.{IsCharBoundary-after_ascii}
+use Rattle.jzon_base.proofs.Common.{◌≡◌, ℕ, ◌+◌, ◌-◌, ◌<◌, Bool, true, false, ◌&&◌, cond, List, length, drop, get_or}
+use Rattle.jzon_base.proofs.Common.{refl, ap, sym, subst, ◌∙◌, arith, chars, IsUtf8, ◌==◌, is_some, IsCharBoundary}
+use Rattle.jzon_base.proofs.Common.{nat_tests, IsCharBoundary-after_ascii}
 use Rattle.jzon_base.specs.Private.PlainBytes.{is_plain}
 use Rattle.jzon_base.specs.PairList.{find}
 use Rattle.jzon.specs.Reading.{Reading}

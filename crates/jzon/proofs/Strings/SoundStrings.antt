@@ -1,12 +1,9 @@
 -- Sound, for strings (`string_on`): if the automaton goes to a value from inside a string, the rest of the text begins
 -- with the rest of a string, `Left`, and continues with what is allowed after its closing quote. Shown for one more
 -- character, given the statement for the text after it.
-use Rattle.std.proofs.Common.{◌≡◌, ◌∙◌, ◌⊎◌, ℕ, zero, suc, List, [], ◌∷◌, ◌++◌, length, Bool, true, false, cond, ◌&&◌}
-use Rattle.std.proofs.Common.{◌==◌, None, inl, inr, refl, sym, subst, ap, eqb-true, encode_utf8, encode_utf8_all}
-use Rattle.std.proofs.Common.{append-nil}
-use Rattle.std.specs.Prelude.{IsTrue, if◌then◌else◌}
-use Rattle.std.specs.Char.{is_ascii_hexdigit}
-use Rattle.std.specs.List.{fold}
+use Rattle.jzon_base.proofs.Common.{◌≡◌, ◌∙◌, ◌⊎◌, ℕ, zero, suc, List, [], ◌∷◌, ◌++◌, length, Bool, true, false, cond}
+use Rattle.jzon_base.proofs.Common.{◌&&◌, ◌==◌, None, inl, inr, refl, sym, subst, ap, eqb-true, encode_utf8}
+use Rattle.jzon_base.proofs.Common.{encode_utf8_all, append-nil, IsTrue, if◌then◌else◌, is_ascii_hexdigit, fold}
 use Rattle.jzon_tree.specs.Value.{Value}
 use Rattle.jzon.specs.Reading.{Reading}
 use Rattle.jzon.specs.Grammar.{Item, simple, single, double, AreHex, AreItems, IsItem, code_unit, is_surrogate, is_high}

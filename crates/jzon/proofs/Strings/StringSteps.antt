@@ -1,12 +1,10 @@
 -- One move by the character at an offset, which may be past ASCII: it goes on with an ASCII character (`byte_moves`),
 -- with the only one that the state expects (`expected_byte`), or with none (`byte_stops`).
-use Rattle.std.proofs.Common.{◌≡◌, ℕ, ◌+◌, ◌<◌, cond, List, [], ◌∷◌, length, drop, get_or, refl, ap, subst, sym, ◌∙◌}
-use Rattle.std.proofs.Common.{arith, None, eq-eqb, eqb-true}
-use Rattle.std.specs.Prelude.{chars, IsUtf8, encode_utf8_all, ◌==◌}
-use Rattle.std.specs.Str.{IsCharBoundary}
-use Rattle.std.proofs.lemmas.Bool.{false_from_ne_true}
-use Rattle.std.proofs.lemmas.List.{length-drop, get_or-drop}
-use Rattle.std.proofs.lemmas.Str.{char_from_byte, IsUtf8-drop}
+use Rattle.jzon_base.proofs.Common.{◌≡◌, ℕ, ◌+◌, ◌<◌, cond, List, [], ◌∷◌, length, drop, get_or, refl, ap, subst, sym}
+use Rattle.jzon_base.proofs.Common.{◌∙◌, arith, None, eqb-true, chars, IsUtf8, encode_utf8_all, ◌==◌, IsCharBoundary}
+use Rattle.jzon_base.proofs.Common.{false_from_ne_true, length-drop, get_or-drop, IsUtf8-drop}
+use Rattle.std.proofs.Common.{eq-eqb}
+use Rattle.std.proofs.lemmas.Str.{char_from_byte}
 use Rattle.jzon.specs.Reading.{Reading}
 use Rattle.jzon.specs.Fault as fault
 use Rattle.jzon.specs.Private.Machine.{State, go, move, bad, last, refused, outcome_on, from, left_at, fault_here}

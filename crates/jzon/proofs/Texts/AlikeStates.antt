@@ -4,10 +4,8 @@
 -- And depth: a depth breach is at the first element or name in a container too many, so the state before that decides
 -- whether there can be one (`IsDeep`). There can if a move has that mark (`deep_of_go`) or is `bad_deep`
 -- (`deep_of_bad_deep`); then no move is `bad` (`deep_not_bad`), and some move has that mark (`deep_some`).
-use Rattle.std.proofs.Common.{◌≡◌, ℕ, zero, suc, ◌+◌, ◌-◌, List, [], ◌∷◌, Bool, true, false, cond, ◌==◌, nat_le, Option}
-use Rattle.std.proofs.Common.{Some, None, refl, subst, ap, ◌∙◌, arith}
-use Rattle.std.specs.Prelude.{⊤}
-use Rattle.std.specs.Char.{is_ascii_hexdigit}
+use Rattle.jzon_base.proofs.Common.{◌≡◌, ℕ, zero, suc, ◌+◌, ◌-◌, List, [], ◌∷◌, Bool, true, false, cond, ◌==◌, nat_le}
+use Rattle.jzon_base.proofs.Common.{Option, Some, None, refl, subst, ap, ◌∙◌, arith, ⊤, is_ascii_hexdigit}
 use Rattle.jzon_tree.specs.Value.{Value}
 use Rattle.jzon_tree.specs.Value as value
 use Rattle.jzon.specs.Reading.{Reading}

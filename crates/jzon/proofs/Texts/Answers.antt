@@ -1,6 +1,7 @@
 -- The result of a parser that returns the automaton's outcome (`answers_of`): the value that the text means, or its
 -- error. And the error of one text, by computation (`refused_error`).
-use Rattle.std.proofs.Common.{inl, inr, ◌≡◌, ℕ, ◌-◌, List, length, Result, Ok, Err, subst, sym, ◌∙◌, refl}
+use Rattle.jzon_base.proofs.Common.{inl, inr, ◌≡◌, ℕ, ◌-◌, List, length, Result, Ok, Err, subst, sym, ◌∙◌, refl, IfOk}
+use Rattle.jzon_base.proofs.Common.{IfErr}
 use Rattle.jzon_base.specs.declared.error.Error.{Error}
 use Rattle.jzon_base.specs.declared.error.Error.TheVariants.{ExceededDepthLimit}
 use Rattle.jzon_tree.specs.View.{view}
@@ -9,7 +10,6 @@ use Rattle.jzon.specs.Reading.{Reading}
 use Rattle.jzon.specs.Spelling.{deep, digit}
 use Rattle.jzon.specs.Fault.{Fault, limit, error_at, IsErrorOf}
 use Rattle.jzon.specs.Private.Machine.{no_frames, before, Outcome, meant, refused, outcome, Reads}
-use Rattle.std.specs.Prelude.{IfOk, IfErr}
 use Rattle.jzon.specs.Answer.{IsMeaningOf, IsReadable, IsErrorUnlessMemory}
 use Rattle.jzon.proofs.Texts.Verdict.{Verdict, answers}
 use Rattle.jzon.proofs.ReadBack.MeaningHeld.{meaning_held}

@@ -1,14 +1,10 @@
 -- Runs of ASCII bytes of a text, such as whitespace and digits, and the rest of the text after them.
-use Rattle.std.proofs.Common.{◌≡◌, ℕ, suc, ◌+◌, ◌<◌, ◌≤◌, Bool, true, false, cond, List, [], ◌∷◌, ◌++◌, length, drop}
-use Rattle.std.proofs.Common.{add-one, drop-cons, get_or, refl, sym, ap, subst, ◌∙◌, arith, None}
-use Rattle.std.specs.Prelude.{chars, IsUtf8}
-use Rattle.std.specs.Str.{IsCharBoundary}
-use Rattle.std.specs.List.{prefix_len}
-use Rattle.std.proofs.lemmas.Bool.Decides.{nat_tests}
-use Rattle.std.proofs.lemmas.List.{drop-drop, length-drop, get_or-drop}
-use Rattle.std.proofs.lemmas.List.Sums.{prefix_len-le-length, prefix_len_stops}
-use Rattle.std.proofs.lemmas.Str.{chars_past_char, encode_ascii, IsUtf8-past_char, IsUtf8-drop}
-use Rattle.std.proofs.lemmas.Str.{IsCharBoundary-from_drop}
+use Rattle.jzon_base.proofs.Common.{◌≡◌, ℕ, suc, ◌+◌, ◌<◌, ◌≤◌, Bool, true, false, cond, List, [], ◌∷◌, ◌++◌, length}
+use Rattle.jzon_base.proofs.Common.{drop, add-one, drop-cons, get_or, refl, sym, ap, subst, ◌∙◌, arith, None, chars}
+use Rattle.jzon_base.proofs.Common.{IsUtf8, IsCharBoundary, prefix_len, nat_tests, drop-drop, length-drop, get_or-drop}
+use Rattle.jzon_base.proofs.Common.{prefix_len-le-length, prefix_len_stops, chars_past_char, encode_ascii, IsUtf8-drop}
+use Rattle.jzon_base.proofs.Common.{IsCharBoundary-from_drop}
+use Rattle.std.proofs.lemmas.Str.{IsUtf8-past_char}
 use Rattle.jzon_tree.specs.Value.{Value}
 use Rattle.jzon_tree.specs.Writing.{is_whitespace}
 use Rattle.jzon.specs.Reading.{Reading}

@@ -1,6 +1,6 @@
 -- Closing: from each state some text leads to an end (`closes`). The text is computed by `closer` from the state alone:
 -- the missing digit or letter, a quote, a value, and the brackets that close the open containers. It may break limits.
-use Rattle.std.proofs.Common.{◌≡◌, ℕ, zero, suc, List, [], ◌∷◌, ◌++◌, codes, refl, Bool, true, false, None, ◌&&◌}
+use Rattle.jzon_base.proofs.Common.{◌≡◌, ℕ, zero, suc, List, [], ◌∷◌, ◌++◌, codes, refl, Bool, true, false, None, ◌&&◌}
 use Rattle.std.proofs.Common.{eq-eqb}
 use Rattle.jzon_base.specs.PairList.{put}
 use Rattle.jzon_tree.specs.Value as value

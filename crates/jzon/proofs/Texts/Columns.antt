@@ -1,14 +1,13 @@
 -- The column after a prefix of a text, by its last newline.
-use Rattle.std.proofs.Common.{◌≡◌, ℕ, zero, suc, ◌+◌, ◌-◌, ◌<◌, ◌≤◌, Bool, true, List, [], ◌∷◌, ◌++◌, length, take}
-use Rattle.std.proofs.Common.{drop, get_or, refl, sym, ap, subst, ◌∙◌, arith, take-append-drop}
-use Rattle.std.specs.Prelude.{not, ◌==◌, chars, IsUtf8}
-use Rattle.std.specs.Str.{NonePass, NoCharPasses, IsCharBoundary}
+use Rattle.jzon_base.proofs.Common.{◌≡◌, ℕ, zero, suc, ◌+◌, ◌-◌, ◌<◌, ◌≤◌, Bool, true, List, [], ◌∷◌, ◌++◌, length}
+use Rattle.jzon_base.proofs.Common.{take, drop, get_or, refl, sym, ap, subst, ◌∙◌, arith, take-append-drop, not, ◌==◌}
+use Rattle.jzon_base.proofs.Common.{chars, IsUtf8, IsCharBoundary, get_or-append-add, chars-append, chars_past_char}
+use Rattle.jzon_base.proofs.Common.{chars_from_encodes, IsUtf8-take, IsUtf8-drop, get_or-append_seam}
+use Rattle.std.specs.Str.{NonePass, NoCharPasses}
 use Rattle.std.specs.Str.Pattern.{HasCharAt}
 use Rattle.std.specs.List.{suffix_len}
-use Rattle.std.proofs.lemmas.List.{get_or-append-add, length-append}
+use Rattle.std.proofs.lemmas.List.{length-append}
 use Rattle.std.proofs.lemmas.List.Sums.{suffix_len_is}
-use Rattle.std.proofs.lemmas.Str.{chars-append, chars_past_char, chars_from_encodes, IsUtf8-take, IsUtf8-drop}
-use Rattle.std.proofs.Math.Seq.{get_or-append_seam}
 use Rattle.jzon.specs.Fault.{column}
 
 abbrev is_newline : ℕ → Bool

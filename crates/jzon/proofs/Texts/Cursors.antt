@@ -1,8 +1,7 @@
 -- From one offset of the parser's cursor to a later one: the outcome of the rest of the text in the old state is the
 -- outcome of what is left now in the new state.
-use Rattle.std.proofs.Common.{◌≡◌, ℕ, ◌<◌, ◌≤◌, List, true, refl, sym, subst, ◌∙◌, arith, Result, Ok, Err}
-use Rattle.std.specs.Prelude.{chars, IsErrAnd, IsUtf8}
-use Rattle.std.specs.Str.{IsCharBoundary}
+use Rattle.jzon_base.proofs.Common.{◌≡◌, ℕ, ◌<◌, ◌≤◌, List, true, refl, sym, subst, ◌∙◌, arith, Result, Ok, Err, chars}
+use Rattle.jzon_base.proofs.Common.{IsErrAnd, IsUtf8, IsCharBoundary}
 use Rattle.std.proofs.lemmas.Str.{IsUtf8-had}
 use Rattle.jzon_base.specs.declared.error.Error.{Error}
 use Rattle.jzon_tree.specs.declared.value.JsonValue.{JsonValue}

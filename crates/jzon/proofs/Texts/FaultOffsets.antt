@@ -1,11 +1,9 @@
 -- The error of a text that stops at an offset, from the bytes before it and after it.
-use Rattle.std.proofs.Common.{◌≡◌, ℕ, ◌+◌, ◌-◌, ◌≤◌, refl, List, [], ◌∷◌, ◌++◌, length, take, drop, get_or, sym, ap}
-use Rattle.std.proofs.Common.{subst, ◌∙◌, arith, take-append-drop, slice_get, Some}
-use Rattle.std.specs.Prelude.{chars, IsUtf8, slice_range}
-use Rattle.std.specs.Str.{IsCharBoundary}
-use Rattle.std.proofs.lemmas.List.{drop-drop, length-append}
-use Rattle.std.proofs.lemmas.Str.{chars-append, IsUtf8-take, IsUtf8-between}
-use Rattle.std.proofs.Math.Seq.{get_or-append_seam, take-append_seam}
+use Rattle.jzon_base.proofs.Common.{◌≡◌, ℕ, ◌+◌, ◌-◌, ◌≤◌, refl, List, [], ◌∷◌, ◌++◌, length, take, drop, get_or, sym}
+use Rattle.jzon_base.proofs.Common.{ap, subst, ◌∙◌, arith, take-append-drop, slice_get, Some, chars, IsUtf8}
+use Rattle.jzon_base.proofs.Common.{slice_range, IsCharBoundary, drop-drop, chars-append, IsUtf8-take, IsUtf8-between}
+use Rattle.jzon_base.proofs.Common.{get_or-append_seam, take-append_seam}
+use Rattle.std.proofs.lemmas.List.{length-append}
 use Rattle.jzon_base.specs.declared.error.Error.TheVariants.{UnexpectedCharacter, DuplicateKey}
 use Rattle.jzon.specs.Spelling.{duplicate}
 use Rattle.jzon.specs.Fault.{character, limit, line, column, error_at}

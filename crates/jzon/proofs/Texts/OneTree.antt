@@ -1,11 +1,9 @@
 -- One tree: two trees that spell the same text are equal (`same_tree`). No automaton is involved: two trees are
 -- compared part by part, since the first character of what is left decides which part comes next, and the class of the
 -- character after a part decides where the part ends.
-use Rattle.std.proofs.Common.{◌≡◌, ◌∙◌, ℕ, zero, suc, List, [], ◌∷◌, ◌++◌, Bool, true, false, cond, ◌==◌, Option, Some}
-use Rattle.std.proofs.Common.{None, refl, sym, subst, ap, arith, append-nil}
-use Rattle.std.specs.Prelude.{IsTrue, ⊤}
-use Rattle.std.specs.Char.{is_ascii_digit}
-use Rattle.std.proofs.lemmas.Bool.{and_parts}
+use Rattle.jzon_base.proofs.Common.{◌≡◌, ◌∙◌, ℕ, zero, suc, List, [], ◌∷◌, ◌++◌, Bool, true, false, cond, ◌==◌, Option}
+use Rattle.jzon_base.proofs.Common.{Some, None, refl, sym, subst, ap, arith, append-nil, IsTrue, ⊤, is_ascii_digit}
+use Rattle.jzon_base.proofs.Common.{and_parts}
 use Rattle.jzon_tree.specs.Writing.{is_whitespace}
 use Rattle.jzon.specs.Reading.{Reading}
 use Rattle.jzon.specs.Grammar.{Sign, unsigned, plus, minus, Exponent, Numeral, Item, simple, single, double, Key, Node}

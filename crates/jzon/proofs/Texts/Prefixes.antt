@@ -3,8 +3,8 @@
 -- has no mark inside f, and from a state alike to p the automaton follows its other cells (`onward`, by `complete`);
 -- and what goes to a value from a state alike to p goes there with f before it (`back`, for `sound`). So f has a
 -- completion (`closed`), and so has f with a character with which the automaton goes on (`closed_next`).
-use Rattle.std.proofs.Common.{◌≡◌, ℕ, suc, List, [], ◌∷◌, ◌++◌, length, Option, None, refl, sym, subst, ap, ◌∙◌}
-use Rattle.std.proofs.Common.{append_assoc}
+use Rattle.jzon_base.proofs.Common.{◌≡◌, ℕ, suc, List, [], ◌∷◌, ◌++◌, length, Option, None, refl, sym, subst, ap, ◌∙◌}
+use Rattle.jzon_base.proofs.Common.{append_assoc}
 use Rattle.jzon_tree.specs.Value.{Value}
 use Rattle.jzon.specs.Reading.{Reading}
 use Rattle.jzon.specs.Grammar.{Document}

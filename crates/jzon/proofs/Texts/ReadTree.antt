@@ -1,11 +1,7 @@
 -- The tree of one text, by computation (`read_tree`): the automaton accepts the text, and a tree of the grammar spells
 -- it.
-use Rattle.std.proofs.Common.{◌≡◌, ◌∙◌, ℕ, List, [], ◌∷◌, Bool, true, false, not, ◌&&◌, refl, subst}
-use Rattle.std.specs.Prelude.{IsTrue}
-use Rattle.std.specs.List.{list_all}
-use Rattle.std.specs.Str.{bytes_eq}
-use Rattle.std.proofs.lemmas.Bool.{and_parts, not-true}
-use Rattle.std.proofs.lemmas.Slice.Eq.{bytes_eq-Decides}
+use Rattle.jzon_base.proofs.Common.{◌≡◌, ◌∙◌, ℕ, List, [], ◌∷◌, Bool, true, false, not, ◌&&◌, refl, subst, IsTrue}
+use Rattle.jzon_base.proofs.Common.{list_all, bytes_eq, and_parts, not-true, bytes_eq-Decides}
 use Rattle.jzon_tree.specs.Value.{Value}
 use Rattle.jzon_tree.specs.Writing.{is_whitespace}
 use Rattle.jzon.specs.Reading.{Reading}

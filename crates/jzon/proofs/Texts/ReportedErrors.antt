@@ -1,12 +1,10 @@
 -- From the automaton's outcome of a text to the error that reports it; that error is never `OutOfMemory`, which is
 -- returned if an allocation fails.
-use Rattle.std.proofs.Common.{◌≡◌, ◌≢◌, inr, ℕ, suc, ◌-◌, ◌<◌, ◌≤◌, List, [], ◌∷◌, ◌++◌, length, take, drop, drop-cons}
-use Rattle.std.proofs.Common.{get_or, refl, sym, ap, subst, ◌∙◌, arith, Result, Ok, Err}
-use Rattle.std.specs.Prelude.{Contains, chars, IsErrAnd, IsUtf8, MatchResult}
-use Rattle.std.specs.Str.{IsCharBoundary}
-use Rattle.std.proofs.Math.Seq.{get_or-append_seam}
+use Rattle.jzon_base.proofs.Common.{◌≡◌, ◌≢◌, inr, ℕ, suc, ◌-◌, ◌<◌, ◌≤◌, List, [], ◌∷◌, ◌++◌, length, take, drop}
+use Rattle.jzon_base.proofs.Common.{drop-cons, get_or, refl, sym, ap, subst, ◌∙◌, arith, Result, Ok, Err, Contains}
+use Rattle.jzon_base.proofs.Common.{chars, IsErrAnd, IsUtf8, MatchResult, IsCharBoundary, get_or-append_seam}
+use Rattle.jzon_base.proofs.Common.{IsUtf8-drop, IsCharBoundary-before_ascii}
 use Rattle.std.proofs.lemmas.List.{length-append}
-use Rattle.std.proofs.lemmas.Str.{IsUtf8-drop, IsCharBoundary-before_ascii}
 use Rattle.jzon_base.specs.declared.error.Error.{Error}
 use Rattle.jzon_base.specs.declared.error.Error.TheVariants.{OutOfMemory, UnexpectedEndOfJson, ExceededDepthLimit}
 use Rattle.jzon.specs.Reading.{Reading}

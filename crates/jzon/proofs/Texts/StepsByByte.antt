@@ -1,14 +1,11 @@
 -- One move of the automaton, by the byte at an offset of a text: it goes on, stops, reports a depth limit, or the text
 -- ends.
-use Rattle.std.proofs.Common.{◌≡◌, ◌⊎◌, inl, inr, ℕ, suc, ◌+◌, ◌<◌, ◌≤◌, List, [], ◌∷◌, length, drop, get_or, refl, sym}
-use Rattle.std.proofs.Common.{ap, subst, ◌∙◌, arith, drop-cons, add-one, None}
-use Rattle.std.specs.Prelude.{chars, IsUtf8, encode_utf8, encode_utf8_all, ◌++◌, IsTrue}
-use Rattle.std.specs.Char.{is_ascii_digit}
-use Rattle.std.specs.Str.{IsCharBoundary}
-use Rattle.std.proofs.lemmas.Bool.{cases_lt}
-use Rattle.std.proofs.lemmas.Bool.Decides.{nat_tests}
-use Rattle.std.proofs.lemmas.List.{length-drop, get_or-drop, nil_from_length}
-use Rattle.std.proofs.lemmas.Str.{IsUtf8-drop, chars-nil, encodes-chars, byte_from_char}
+use Rattle.jzon_base.proofs.Common.{◌≡◌, ◌⊎◌, inl, inr, ℕ, suc, ◌+◌, ◌<◌, ◌≤◌, List, [], ◌∷◌, length, drop, get_or}
+use Rattle.jzon_base.proofs.Common.{refl, sym, ap, subst, ◌∙◌, arith, drop-cons, add-one, None, chars, IsUtf8}
+use Rattle.jzon_base.proofs.Common.{encode_utf8, encode_utf8_all, ◌++◌, IsTrue, is_ascii_digit, IsCharBoundary}
+use Rattle.jzon_base.proofs.Common.{cases_lt, nat_tests, length-drop, get_or-drop, nil_from_length, IsUtf8-drop}
+use Rattle.jzon_base.proofs.Common.{encodes-chars}
+use Rattle.std.proofs.lemmas.Str.{chars-nil, byte_from_char}
 use Rattle.jzon.specs.Reading.{Reading}
 use Rattle.jzon.specs.Spelling.{deep}
 use Rattle.jzon.specs.Fault.{Fault, limit}

@@ -1,7 +1,6 @@
 -- What may follow the value of a whole text: only whitespace.
-use Rattle.std.proofs.Common.{◌≡◌, ℕ, ◌<◌, true, false, List, [], ◌∷◌, length, drop, get_or, refl, ap}
-use Rattle.std.specs.Prelude.{chars, IsUtf8}
-use Rattle.std.specs.Str.{IsCharBoundary}
+use Rattle.jzon_base.proofs.Common.{◌≡◌, ℕ, ◌<◌, true, false, List, [], ◌∷◌, length, drop, get_or, refl, ap, chars}
+use Rattle.jzon_base.proofs.Common.{IsUtf8, IsCharBoundary}
 use Rattle.jzon_tree.specs.Value.{Value}
 use Rattle.jzon_tree.specs.Writing.{is_whitespace}
 use Rattle.jzon.specs.Reading.{Reading}

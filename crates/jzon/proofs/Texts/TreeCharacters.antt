@@ -1,8 +1,7 @@
 -- The text of a tree without its marks, part by part, each with what follows; `spells`: it equals the result of
 -- `spell`.
-use Rattle.std.proofs.Common.{◌≡◌, ◌∙◌, ℕ, List, [], ◌∷◌, ◌++◌, Bool, true, false, Option, Some, None, refl, ap}
-use Rattle.std.proofs.Common.{append-nil}
-use Rattle.std.specs.Prelude.{if◌then◌else◌}
+use Rattle.jzon_base.proofs.Common.{◌≡◌, ◌∙◌, ℕ, List, [], ◌∷◌, ◌++◌, Bool, true, false, Option, Some, None, refl, ap}
+use Rattle.jzon_base.proofs.Common.{append-nil, if◌then◌else◌}
 use Rattle.jzon.specs.Reading.{Reading}
 use Rattle.jzon.specs.Grammar.{Sign, unsigned, plus, minus, Exponent, Numeral, Item, simple, single, double, Key, Node}
 use Rattle.jzon.specs.Grammar.{Elements, no_elements, element, Members, no_members, member, Document}

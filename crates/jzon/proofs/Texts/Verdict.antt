@@ -2,11 +2,9 @@
 -- lemma for each way to stop: `accepted`, `limit_fault` (a limit), `bad_deep_fault` (depth, at a character with which
 -- no text goes on), `character_fault` (an unexpected character), `end_fault` (the end of the text); `first` says of
 -- each that no fault is before it. docs/ARCHITECTURE.md walks through them.
-use Rattle.std.proofs.Common.{◌≡◌, ◌⊎◌, ℕ, suc, ◌-◌, ◌<◌, ◌≤◌, List, [], ◌∷◌, ◌++◌, length, take, Option, Some, None}
-use Rattle.std.proofs.Common.{inl, inr, refl, sym, subst, ap, ◌∙◌, slice_get, arith, append_assoc, append-nil}
-use Rattle.std.proofs.Common.{length-append, Bool}
-use Rattle.std.proofs.lemmas.List.{take-append-le}
-use Rattle.std.proofs.Math.Seq.{take-append_seam}
+use Rattle.jzon_base.proofs.Common.{◌≡◌, ◌⊎◌, ℕ, suc, ◌-◌, ◌<◌, ◌≤◌, List, [], ◌∷◌, ◌++◌, length, take, Option, Some}
+use Rattle.jzon_base.proofs.Common.{None, inl, inr, refl, sym, subst, ap, ◌∙◌, slice_get, arith, append_assoc}
+use Rattle.jzon_base.proofs.Common.{append-nil, length-append, Bool, take-append-le, take-append_seam}
 use Rattle.jzon_tree.specs.Value.{Value}
 use Rattle.jzon.specs.Reading.{Reading}
 use Rattle.jzon.specs.Grammar.{Document}

@@ -1,10 +1,8 @@
 -- Worked rows of docs/RULES.md, "Depth", "Strings" and "Readings": where trees break a limit, computed from the
 -- definitions: a reading, a text, its tree, and each offset at which the tree breaks a limit.
 use Prim.Native.String.{String}
-use Rattle.std.proofs.Common.{◌≡◌, ℕ, ◌+◌, List, [], ◌∷◌, ◌++◌, replicate, All, Option, Some, None, codes}
-use Rattle.std.proofs.Common.{refl, ap}
-use Rattle.std.specs.Char.{encode_utf8}
-use Rattle.std.specs.List.{repeat}
+use Rattle.jzon_base.proofs.Common.{◌≡◌, ℕ, ◌+◌, List, [], ◌∷◌, ◌++◌, replicate, All, Option, Some, None, codes, refl}
+use Rattle.jzon_base.proofs.Common.{ap, encode_utf8, repeat}
 use Rattle.jzon.specs.Reading.{Reading, usual}
 use Rattle.jzon.specs.Grammar.{Node, no_elements, code_unit}
 use Rattle.jzon.specs.Meaning.{bytes_of}

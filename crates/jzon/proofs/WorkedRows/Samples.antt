@@ -1,11 +1,8 @@
 -- What the worked rows share: how a list of rows is proved, readings, trees, and tests of numbers of the grammar.
 use Prim.Native.String.{String}
-use Rattle.std.proofs.Common.{◌≡◌, ℕ, zero, suc, List, [], ◌∷◌, ◌++◌, map, replicate, Bool, true, false, not}
-use Rattle.std.proofs.Common.{◌&&◌, ◌==◌, Option, Some, None, All, codes, refl, ap, arith}
-use Rattle.std.proofs.lemmas.Bool.{and_parts}
-use Rattle.std.specs.Prelude.{IsTrue}
-use Rattle.std.specs.Char.{is_ascii_digit}
-use Rattle.std.specs.List.{list_all}
+use Rattle.jzon_base.proofs.Common.{◌≡◌, ℕ, zero, suc, List, [], ◌∷◌, ◌++◌, map, replicate, Bool, true, false, not}
+use Rattle.jzon_base.proofs.Common.{◌&&◌, ◌==◌, Option, Some, None, All, codes, refl, ap, arith, and_parts, IsTrue}
+use Rattle.jzon_base.proofs.Common.{is_ascii_digit, list_all}
 pub use Rattle.jzon.specs.Laws.{alone}
 use Rattle.jzon.specs.Reading.{Reading}
 use Rattle.jzon.specs.Grammar.{Sign, plus, Exponent, Numeral, Item, plain, single, double, Key, Node, Elements}

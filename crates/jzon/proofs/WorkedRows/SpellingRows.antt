@@ -1,10 +1,8 @@
 -- Worked rows of docs/RULES.md, "Texts" and "Numbers": a text, its tree, what that means and how it is printed, by the
 -- definitions; then printed, equal and changed values.
 use Prim.Native.String.{String}
-use Rattle.std.proofs.Common.{◌≡◌, pos, negsuc, ℕ, List, [], ◌∷◌, ◌++◌, map, replicate, Bool, true, false, All, codes}
-use Rattle.std.proofs.Common.{encode_utf8_all, refl, ap}
-use Rattle.std.specs.Fmt.{digits}
-use Rattle.std.specs.Char.{encode_utf8}
+use Rattle.jzon_base.proofs.Common.{◌≡◌, pos, negsuc, ℕ, List, [], ◌∷◌, ◌++◌, map, replicate, Bool, true, false, All}
+use Rattle.jzon_base.proofs.Common.{codes, encode_utf8_all, refl, ap, digits, encode_utf8}
 use Rattle.jzon_base.specs.Decimal.{Decimal, nan, parts, scaled}
 use Rattle.jzon_base.specs.PairList.{put, cut}
 use Rattle.jzon_base.specs.Digits.{kept_len}

@@ -1,15 +1,9 @@
 -- A text that a loose style allows for an object, with its members in another order: it is a text of the object, and
 -- what it is read as is so by the definitions.
-use Rattle.std.proofs.Common.{◌≡◌, ◌≢◌, ℕ, zero, suc, ◌<◌, List, [], ◌∷◌, count_by, ◌==◌, true, false, codes, negsuc}
-use Rattle.std.proofs.Common.{refl, arith}
-use Rattle.std.specs.Prelude.{IsTrue, AllPairs}
-use Rattle.std.specs.Char.{encode_utf8}
-use Rattle.std.specs.Fmt.{digits}
-use Rattle.std.specs.List.{IsDistinct}
+use Rattle.jzon_base.proofs.Common.{◌≡◌, ◌≢◌, ℕ, zero, suc, ◌<◌, List, [], ◌∷◌, count_by, ◌==◌, true, false, codes}
+use Rattle.jzon_base.proofs.Common.{negsuc, refl, arith, IsTrue, AllPairs, encode_utf8, digits, IsDistinct, ints}
+use Rattle.jzon_base.proofs.Common.{AllPairs-from_IsDistinct, bytes_eq-Decides}
 use Rattle.std.specs.Str.{chars}
-use Rattle.std.proofs.lemmas.Int.{ints}
-use Rattle.std.proofs.lemmas.Map.Made.{AllPairs-from_IsDistinct}
-use Rattle.std.proofs.lemmas.Slice.Eq.{bytes_eq-Decides}
 use Rattle.jzon_base.specs.Decimal.{parts, scaled}
 use Rattle.jzon_base.specs.Digits.{kept_len}
 use Rattle.jzon_tree.specs.Value.{Value, text, number, array, object, short, no_values, value, no_pairs, pair}

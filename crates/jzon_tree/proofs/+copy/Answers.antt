@@ -1,4 +1,4 @@
-use Rattle.std.proofs.Common.{◌∙◌, ap, map}
+use Rattle.jzon_base.proofs.Common.{◌∙◌, ap, map}
 use Rattle.jzon_tree.specs.Entries.{entries_of}
 use Rattle.jzon_tree.specs.Value.{object}
 use Rattle.jzon_tree.specs.View.{view}

@@ -1,4 +1,4 @@
-use Rattle.std.proofs.Common.{◌≡◌, ◌≤◌, take, map, length}
+use Rattle.jzon_base.proofs.Common.{◌≡◌, ◌≤◌, take, map, length}
 use Rattle.jzon_tree.specs.View.{view}
 use Rattle.jzon_tree.proofs.+copy.Given as goal
 

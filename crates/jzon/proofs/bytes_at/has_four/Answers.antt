@@ -1,8 +1,7 @@
-use Rattle.std.proofs.Common.{rules, ◌≡◌, ◌<◌, ◌+◌, ◌∷◌, [], List, ℕ, zero, suc, sym, ap, ◌∙◌, get_or, drop, take}
-use Rattle.std.proofs.Common.{eqb, eqb-true, w32, ◌-◌, length, arith, lit<, add-zero}
+use Rattle.jzon_base.proofs.Common.{rules, ◌≡◌, ◌<◌, ◌+◌, ◌∷◌, [], List, ℕ, zero, suc, sym, ap, ◌∙◌, get_or, drop, take}
+use Rattle.jzon_base.proofs.Common.{eqb, eqb-true, w32, ◌-◌, length, arith, lit<, add-zero, IsTrue, get_or-drop}
+use Rattle.jzon_base.proofs.Common.{take_rest}
 use Rattle.std.specs.Int.{to_le_bytes}
-use Rattle.std.specs.Prelude.{IsTrue}
-use Rattle.std.proofs.lemmas.List.{get_or-drop, take_rest}
 use Rattle.std.proofs.lemmas.Nat.{le_bytes_4}
 use Rattle.jzon.proofs.bytes_at.has_four.Goals.{After-from_le_bytes-in-len4-up}
 use Rattle.jzon.proofs.bytes_at.has_four.Goals as goal

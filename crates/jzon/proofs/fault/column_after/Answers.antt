@@ -1,6 +1,4 @@
-use Rattle.std.proofs.Common.{◌≡◌, ◌∙◌, sym, ap, rules}
-use Rattle.std.specs.Prelude.{◌+◌, length, chars}
-use Rattle.std.proofs.lemmas.Str.{chars_from_encodes}
+use Rattle.jzon_base.proofs.Common.{◌≡◌, ◌∙◌, sym, ap, rules, ◌+◌, length, chars, chars_from_encodes}
 use Rattle.jzon.proofs.Texts.Columns.{column_of_one_line, column_of_last_line}
 use Rattle.jzon.proofs.fault.column_after.Goals as goal
 

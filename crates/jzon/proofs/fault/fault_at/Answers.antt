@@ -1,5 +1,4 @@
-use Rattle.std.proofs.Common.{◌≡◌, sym, ap, ◌∙◌, take, Some, slice_get, arith, drop}
-use Rattle.std.specs.Prelude.{chars}
+use Rattle.jzon_base.proofs.Common.{◌≡◌, sym, ap, ◌∙◌, take, Some, slice_get, arith, drop, chars}
 use Rattle.jzon.specs.Fault.{line, column}
 use Rattle.jzon.proofs.Texts.FaultOffsets.{reports_character}
 use Rattle.jzon.proofs.fault.fault_at.Goals as goal

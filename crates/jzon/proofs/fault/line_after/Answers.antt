@@ -1,5 +1,4 @@
-use Rattle.std.proofs.Common.{rules}
-use Rattle.std.proofs.lemmas.Str.{chars_from_encodes}
+use Rattle.jzon_base.proofs.Common.{rules, chars_from_encodes}
 use Rattle.jzon.proofs.fault.line_after.Goals as goal
 
 pub returns : goal.returns

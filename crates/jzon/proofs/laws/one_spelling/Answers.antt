@@ -1,6 +1,5 @@
-use Rattle.std.proofs.Common.{◌≡◌, ◌∙◌, ◌<◌, ℕ, zero, suc, List, [], ◌∷◌, length, take, Bool, true, false, refl, sym, arith}
-use Rattle.std.proofs.Common.{Option, Some}
-use Rattle.std.proofs.lemmas.Bool.Decides.{nat_tests}
+use Rattle.jzon_base.proofs.Common.{◌≡◌, ◌∙◌, ◌<◌, ℕ, zero, suc, List, [], ◌∷◌, length, take, Bool, true, false, refl}
+use Rattle.jzon_base.proofs.Common.{sym, arith, Option, Some, nat_tests}
 use Rattle.jzon.specs.Laws.{mark_at}
 use Rattle.jzon.specs.Spelling.{Breach, digit, Cell, onto, drops_too_many, keeps_too_many, digits_cells, whole_cells}
 use Rattle.jzon.specs.Spelling.{fraction_cells}

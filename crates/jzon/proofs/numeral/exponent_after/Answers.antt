@@ -1,4 +1,4 @@
-use Rattle.std.proofs.Common.{◌∙◌, sym, true≢false}
+use Rattle.jzon_base.proofs.Common.{◌∙◌, sym, true≢false}
 use Rattle.jzon.proofs.Numbers.NumeralOffsets.{ReadsExponent, reads_minus, reads_plus, reads_unsigned}
 use Rattle.jzon.proofs.numeral.exponent_after.Goals as goal
 

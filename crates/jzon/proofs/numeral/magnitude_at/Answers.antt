@@ -1,7 +1,6 @@
-use Rattle.std.proofs.Common.{◌∙◌, sym, refl, ap, [], ◌+◌, ◌%◌, ◌^◌, length, false, true≢false}
+use Rattle.jzon_base.proofs.Common.{◌∙◌, sym, refl, ap, [], ◌+◌, ◌%◌, ◌^◌, length, false, true≢false, All-nil}
+use Rattle.jzon_base.proofs.Common.{fold-append}
 use Rattle.std.proofs.lemmas.List.{append-nil}
-use Rattle.std.proofs.lemmas.List.Elements.{All-nil}
-use Rattle.std.proofs.lemmas.List.Sums.{fold-append}
 use Rattle.jzon_base.specs.Digits.{IsDigit, add_digit, digits_number}
 use Rattle.jzon.proofs.Numbers.Magnitudes.{WholeStands, whole_stands, ReadsMagnitude, reads_whole_alone}
 use Rattle.jzon.proofs.Numbers.Magnitudes.{reads_whole_and_fraction}

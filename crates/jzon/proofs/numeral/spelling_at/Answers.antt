@@ -1,5 +1,4 @@
-use Rattle.std.proofs.Common.{get_or}
-use Rattle.std.proofs.lemmas.Str.{IsCharBoundary-after_ascii}
+use Rattle.jzon_base.proofs.Common.{get_or, IsCharBoundary-after_ascii}
 use Rattle.jzon.proofs.Numbers.Magnitudes.{letter_is_ascii}
 use Rattle.jzon.proofs.numeral.spelling_at.Goals as goal
 

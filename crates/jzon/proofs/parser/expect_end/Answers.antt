@@ -1,4 +1,4 @@
-use Rattle.std.specs.Prelude.{chars}
+use Rattle.jzon_base.proofs.Common.{chars}
 use Rattle.jzon_tree.specs.View.{view}
 use Rattle.jzon.specs.Private.Machine.{no_frames, after_value}
 use Rattle.jzon.proofs.Texts.Cursors.{utf8_of}

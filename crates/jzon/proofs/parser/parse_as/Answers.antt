@@ -1,7 +1,5 @@
-use Rattle.std.proofs.Common.{◌≡◌, ◌∙◌, ℕ, List, Result, Err, inl, inr, refl, sym, ap, subst, cond, lit<}
-use Rattle.std.specs.Prelude.{chars}
-use Rattle.std.proofs.lemmas.Bool.{true≢false}
-use Rattle.std.proofs.lemmas.Result.{err_from_is_err_and}
+use Rattle.jzon_base.proofs.Common.{◌≡◌, ◌∙◌, ℕ, List, Result, Err, inl, inr, refl, sym, ap, subst, cond, lit<, chars}
+use Rattle.jzon_base.proofs.Common.{true≢false, err_from_is_err_and}
 use Rattle.jzon_base.specs.declared.error.Error.{Error}
 use Rattle.jzon_base.specs.declared.error.Error.TheVariants.{OutOfMemory}
 use Rattle.jzon_tree.specs.View.{view}

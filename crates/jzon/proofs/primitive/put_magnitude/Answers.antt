@@ -1,5 +1,4 @@
-use Rattle.std.proofs.Common.{◌≡◌, ◌∙◌, ◌+◌, ap, get_or, inr, refl, rules, sym}
-use Rattle.std.specs.Prelude.{⊤, chars}
+use Rattle.jzon_base.proofs.Common.{◌≡◌, ◌∙◌, ◌+◌, ap, get_or, inr, refl, rules, sym, ⊤, chars}
 use Rattle.jzon_tree.specs.Value.{number}
 use Rattle.jzon_tree.specs.View.{view}
 use Rattle.jzon_tree.specs.declared.value.JsonValue.{Number, the_lemmas}

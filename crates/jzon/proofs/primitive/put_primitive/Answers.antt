@@ -1,9 +1,6 @@
-use Rattle.std.proofs.Common.{◌≡◌, ℕ, ◌<◌, ◌+◌, List, length, None, drop, true, false, get_or, refl, sym, ap, ◌∙◌, arith, subst, lit<}
-use Rattle.std.specs.Prelude.{⊤, chars}
-use Rattle.std.specs.Char.{is_ascii_digit}
-use Rattle.std.proofs.lemmas.Bool.{false≢true}
-use Rattle.std.proofs.lemmas.Bool.Decides.{nat_tests}
-use Rattle.std.proofs.lemmas.Str.{IsCharBoundary-after_ascii}
+use Rattle.jzon_base.proofs.Common.{◌≡◌, ℕ, ◌<◌, ◌+◌, List, length, None, drop, true, false, get_or, refl, sym, ap, ◌∙◌}
+use Rattle.jzon_base.proofs.Common.{arith, subst, lit<, ⊤, chars, is_ascii_digit, false≢true, nat_tests}
+use Rattle.jzon_base.proofs.Common.{IsCharBoundary-after_ascii}
 use Rattle.jzon.specs.Private.Classes.{minus_char, quote, after_minus}
 use Rattle.jzon_tree.specs.Value.{kind_of, text}
 use Rattle.jzon.specs.Private.Machine.{before, numeral, numeral_after_first, as_value, after_value, from, value_mark}

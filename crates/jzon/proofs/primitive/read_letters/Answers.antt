@@ -1,7 +1,5 @@
-use Rattle.std.proofs.Common.{◌≡◌, ◌+◌, suc, ◌∷◌, ◌∙◌, sym, ap, subst, arith, drop, drop-cons, add-one, get_or, true}
-use Rattle.std.proofs.Common.{false}
-use Rattle.std.specs.Prelude.{chars}
-use Rattle.std.proofs.lemmas.Str.{IsCharBoundary-after_ascii}
+use Rattle.jzon_base.proofs.Common.{◌≡◌, ◌+◌, suc, ◌∷◌, ◌∙◌, sym, ap, subst, arith, drop, drop-cons, add-one, get_or}
+use Rattle.jzon_base.proofs.Common.{true, false, chars, IsCharBoundary-after_ascii}
 use Rattle.jzon.specs.Private.Machine.{from, past_letter, Reports}
 use Rattle.jzon.proofs.Containers.LiteralLetters.{letter_read, letter_missing}
 use Rattle.jzon.proofs.primitive.read_letters.Goals as goal

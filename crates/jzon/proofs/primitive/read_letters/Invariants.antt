@@ -1,5 +1,4 @@
-use Rattle.std.proofs.Common.{◌≡◌, ◌+◌, drop}
-use Rattle.std.specs.Str.{IsCharBoundary}
+use Rattle.jzon_base.proofs.Common.{◌≡◌, ◌+◌, drop, IsCharBoundary}
 use Rattle.jzon_tree.specs.Value.{Value}
 use Rattle.jzon.specs.Reading.{Reading}
 use Rattle.jzon.specs.Private.Machine.{Frames, past_letter, from}

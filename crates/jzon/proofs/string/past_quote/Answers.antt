@@ -1,6 +1,4 @@
-use Rattle.std.proofs.Common.{refl, sym, subst}
-use Rattle.std.specs.Prelude.{chars}
-use Rattle.std.proofs.lemmas.Bool.{iff_false}
+use Rattle.jzon_base.proofs.Common.{refl, sym, subst, chars, iff_false}
 use Rattle.jzon.specs.Private.Machine.{Reports}
 use Rattle.jzon.proofs.Strings.Quotes.{quote_closes, quote_ends, string_stops}
 use Rattle.jzon.proofs.string.past_quote.Goals as goal

@@ -1,6 +1,4 @@
-use Rattle.std.proofs.Common.{◌≡◌, ◌≤◌, ◌+◌, ◌-◌, ◌∙◌, ap, arith, take, drop, length}
-use Rattle.std.proofs.lemmas.List.{take_rest}
-use Rattle.std.specs.List.{prefix_len}
+use Rattle.jzon_base.proofs.Common.{◌≡◌, ◌≤◌, ◌+◌, ◌-◌, ◌∙◌, ap, arith, take, drop, length, take_rest, prefix_len}
 use Rattle.jzon_base.specs.Private.PlainBytes.{is_plain}
 use Rattle.jzon.proofs.Texts.AsciiRuns.{stops_run, within_run}
 use Rattle.jzon.proofs.Strings.PlainRuns.{plain_boundary, plain_no_escape, plain_run}

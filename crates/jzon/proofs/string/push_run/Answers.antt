@@ -1,5 +1,4 @@
-use Rattle.std.proofs.Common.{◌∙◌, ◌++◌, ap, sym}
-use Rattle.std.specs.String.{string_bytes}
+use Rattle.jzon_base.proofs.Common.{◌∙◌, ◌++◌, ap, sym, string_bytes}
 use Rattle.jzon.specs.Private.Machine.{string, between, from}
 use Rattle.jzon.proofs.string.push_run.Goals as goal
 

@@ -1,8 +1,5 @@
-use Rattle.std.proofs.Common.{◌≡◌, ◌+◌, ◌++◌, ◌∙◌, ◌<◌, ℕ, true, ap, refl, sym, subst, arith}
-use Rattle.std.specs.Prelude.{chars, encode_utf8, MatchResult}
-use Rattle.std.proofs.lemmas.Bool.{iff_false}
-use Rattle.std.proofs.lemmas.Bool.Decides.{nat_tests}
-use Rattle.std.proofs.lemmas.Str.{IsCharBoundary-after_ascii}
+use Rattle.jzon_base.proofs.Common.{◌≡◌, ◌+◌, ◌++◌, ◌∙◌, ◌<◌, ℕ, true, ap, refl, sym, subst, arith, chars, encode_utf8}
+use Rattle.jzon_base.proofs.Common.{MatchResult, iff_false, nat_tests, IsCharBoundary-after_ascii}
 use Rattle.jzon.specs.Grammar.{is_simple}
 use Rattle.jzon.specs.Meaning.{unescaped}
 use Rattle.jzon.specs.Private.Machine.{string, between, from, Reports}

@@ -1,8 +1,6 @@
-use Rattle.std.proofs.Common.{◌∙◌, ap, sym, subst, arith, inr}
-use Rattle.std.specs.Prelude.{chars}
-use Rattle.std.specs.String.{string_bytes}
-use Rattle.std.proofs.lemmas.Result.{err_from_is_err_and, MatchResult-weaker}
-use Rattle.std.proofs.lemmas.Str.{IsCharBoundary-after_ascii}
+use Rattle.jzon_base.proofs.Common.{◌∙◌, ap, sym, subst, arith, inr, chars, string_bytes, err_from_is_err_and}
+use Rattle.jzon_base.proofs.Common.{IsCharBoundary-after_ascii}
+use Rattle.std.proofs.lemmas.Result.{MatchResult-weaker}
 use Rattle.jzon.specs.Private.Machine.{string, between, from, Reports}
 use Rattle.jzon.proofs.Strings.Quotes.{backslash_begins}
 use Rattle.jzon.proofs.string.read_escapes.Goals as goal

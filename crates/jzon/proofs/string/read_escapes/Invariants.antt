@@ -1,6 +1,4 @@
-use Rattle.std.proofs.Common.{◌≡◌, ◌-◌, ◌<◌, ◌≤◌, length, false, slice_index}
-use Rattle.std.specs.Str.{IsCharBoundary}
-use Rattle.std.specs.String.{string_bytes}
+use Rattle.jzon_base.proofs.Common.{◌≡◌, ◌-◌, ◌<◌, ◌≤◌, length, false, slice_index, IsCharBoundary, string_bytes}
 use Rattle.jzon_base.specs.Private.PlainBytes.{is_plain}
 use Rattle.jzon.specs.Reading.{Reading}
 use Rattle.jzon.specs.Private.Machine.{Role, string, between, from}

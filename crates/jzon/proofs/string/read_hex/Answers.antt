@@ -1,7 +1,5 @@
-use Rattle.std.proofs.Common.{◌≡◌, ◌<◌, ℕ, true, ◌+◌, ◌*◌, ◌∙◌, ap, refl, sym, subst, arith}
-use Rattle.std.proofs.lemmas.Bool.Decides.{nat_tests}
-use Rattle.std.specs.Char.{is_ascii_hexdigit, digit_value}
-use Rattle.std.specs.Prelude.{chars}
+use Rattle.jzon_base.proofs.Common.{◌≡◌, ◌<◌, ℕ, true, ◌+◌, ◌*◌, ◌∙◌, ap, refl, sym, subst, arith, nat_tests}
+use Rattle.jzon_base.proofs.Common.{is_ascii_hexdigit, digit_value, chars}
 use Rattle.jzon.specs.Private.Machine.{Reports}
 use Rattle.jzon.proofs.Containers.FrameViews.{byte_within}
 use Rattle.jzon.proofs.Strings.HexDigits.{HexRead, hex_is_below_16, code_reads, second_code_reads, hex_begun, hex_more}

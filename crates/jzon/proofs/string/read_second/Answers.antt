@@ -1,8 +1,6 @@
-use Rattle.std.proofs.Common.{◌≡◌, ◌+◌, ◌++◌, ◌∙◌, ◌&&◌, false, refl, ap, sym, subst, arith, drop, encode_utf8}
-use Rattle.std.specs.Prelude.{chars}
-use Rattle.std.proofs.lemmas.Bool.{false_from_ne_true, iff_false}
-use Rattle.std.proofs.lemmas.Result.{err_from_is_err_and}
-use Rattle.std.proofs.lemmas.Str.{IsCharBoundary-after_ascii}
+use Rattle.jzon_base.proofs.Common.{◌≡◌, ◌+◌, ◌++◌, ◌∙◌, ◌&&◌, false, refl, ap, sym, subst, arith, drop, encode_utf8}
+use Rattle.jzon_base.proofs.Common.{chars, false_from_ne_true, iff_false, err_from_is_err_and}
+use Rattle.jzon_base.proofs.Common.{IsCharBoundary-after_ascii}
 use Rattle.jzon_base.specs.declared.error.Error.TheVariants.{FailedUtf8Parsing}
 use Rattle.jzon.specs.Grammar.{is_high, is_low}
 use Rattle.jzon.specs.Meaning.{pair_char}

@@ -1,7 +1,6 @@
-use Rattle.std.proofs.Common.{◌≡◌, ◌+◌, ◌++◌, ◌∙◌, ℕ, ◌<◌, true, ap, arith, encode_utf8, subst, sym}
-use Rattle.std.specs.Prelude.{MatchResult, chars}
+use Rattle.jzon_base.proofs.Common.{◌≡◌, ◌+◌, ◌++◌, ◌∙◌, ℕ, ◌<◌, true, ap, arith, encode_utf8, subst, sym, MatchResult}
+use Rattle.jzon_base.proofs.Common.{chars, nat_tests}
 use Rattle.std.specs.Char.{OutOfScalarRange}
-use Rattle.std.proofs.lemmas.Bool.Decides.{nat_tests}
 use Rattle.jzon.specs.Grammar.{is_surrogate}
 use Rattle.jzon.specs.Private.Machine.{string, between, after_unit, from, Reports}
 use Rattle.jzon.proofs.string.read_unicode.Goals as goal

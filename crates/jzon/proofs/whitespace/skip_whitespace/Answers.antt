@@ -1,5 +1,4 @@
-use Rattle.std.proofs.Common.{◌≡◌, ◌∙◌, ap, arith, drop, length, ◌+◌, ◌≤◌}
-use Rattle.std.specs.List.{prefix_len}
+use Rattle.jzon_base.proofs.Common.{◌≡◌, ◌∙◌, ap, arith, drop, length, ◌+◌, ◌≤◌, prefix_len}
 use Rattle.jzon_tree.specs.Writing.{is_whitespace}
 use Rattle.jzon.specs.Private.Machine.{no_frames}
 use Rattle.jzon.proofs.Containers.ContainerSteps.{whitespace_skips}

@@ -1,7 +1,4 @@
-use Rattle.std.proofs.Common.{◌∙◌, ap, arith, drop}
-use Rattle.std.specs.List.{prefix_len}
-use Rattle.std.proofs.lemmas.List.{take_rest}
-use Rattle.std.proofs.lemmas.List.Sums.{prefix_len-le-length}
+use Rattle.jzon_base.proofs.Common.{◌∙◌, ap, arith, drop, prefix_len, take_rest, prefix_len-le-length}
 use Rattle.jzon_tree.specs.Writing.{is_whitespace}
 use Rattle.jzon.proofs.whitespace.whitespace_length.Goals as goal
 

@@ -1,5 +1,4 @@
-use Rattle.std.proofs.Common.{◌≡◌, ◌≤◌, ◌+◌, ◌-◌, drop, length}
-use Rattle.std.specs.List.{prefix_len}
+use Rattle.jzon_base.proofs.Common.{◌≡◌, ◌≤◌, ◌+◌, ◌-◌, drop, length, prefix_len}
 use Rattle.jzon_tree.specs.Writing.{is_whitespace}
 use Rattle.jzon.proofs.whitespace.whitespace_length.Given as goal
 

@@ -1,4 +1,4 @@
-use Rattle.std.proofs.Common.{◌≡◌, min, take}
+use Rattle.jzon_base.proofs.Common.{◌≡◌, min, take}
 use Rattle.jzon_base.specs.Digits.{digits_number}
 use Rattle.jzon_base.proofs.digits.capped_number.Given as goal
 

@@ -1,5 +1,4 @@
-use Rattle.std.proofs.Common.{arith}
-use Rattle.std.proofs.lemmas.Int.{ints, clamps}
+use Rattle.jzon_base.proofs.Common.{arith, ints, clamps}
 use Rattle.jzon_base.proofs.digits.clamped_exponent.Goals as goal
 use Rattle.jzon_base.proofs.digits.clamped_exponent.Goals.{then-positive, else-positive}
 

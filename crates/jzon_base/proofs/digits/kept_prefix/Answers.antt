@@ -1,8 +1,5 @@
-use Rattle.std.proofs.Common.{◌≡◌, ◌≤◌, ◌+◌, ◌∙◌, ◌++◌, take, length, length-append, arith, ap, sym}
-use Rattle.std.proofs.Math.Nat.{mod-eq_of_lt}
-use Rattle.std.proofs.lemmas.List.{take-append-le, take_all}
-use Rattle.std.specs.List.{All}
-use Rattle.std.proofs.lemmas.List.Elements.{All-append}
+use Rattle.jzon_base.proofs.Common.{◌≡◌, ◌≤◌, ◌+◌, ◌∙◌, ◌++◌, take, length, length-append, arith, ap, sym, mod-eq_of_lt}
+use Rattle.jzon_base.proofs.Common.{take-append-le, take_all, All, All-append}
 use Rattle.jzon_base.specs.Digits.{digits_number, IsDigit, kept_len}
 use Rattle.jzon_base.proofs.Kept.{few_fit, few_kept, kept_len-within_whole, kept_len-past_whole, digits_number-take-append}
 use Rattle.jzon_base.proofs.digits.kept_prefix.Goals as goal

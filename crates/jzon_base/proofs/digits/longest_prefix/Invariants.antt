@@ -1,5 +1,4 @@
-use Rattle.std.proofs.Common.{◌≡◌, take, ◌<◌, ◌^◌}
-use Rattle.std.specs.List.{fold}
+use Rattle.jzon_base.proofs.Common.{◌≡◌, take, ◌<◌, ◌^◌, fold}
 use Rattle.jzon_base.specs.Digits.{add_digit}
 use Rattle.jzon_base.proofs.digits.longest_prefix.Given as goal
 

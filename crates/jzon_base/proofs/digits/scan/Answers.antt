@@ -1,4 +1,4 @@
-use Rattle.std.proofs.Common.{arith}
+use Rattle.jzon_base.proofs.Common.{arith}
 use Rattle.jzon_base.proofs.Scanned.{number_more, number_rest, scanned_block}
 use Rattle.jzon_base.proofs.digits.scan.Goals as goal
 

@@ -1,4 +1,4 @@
-use Rattle.std.proofs.Common.{◌-◌, length}
+use Rattle.jzon_base.proofs.Common.{◌-◌, length}
 use Rattle.jzon_base.proofs.Scanned.{HasScanned}
 use Rattle.jzon_base.proofs.digits.scan.Given as goal
 

@@ -1,6 +1,4 @@
-use Rattle.std.proofs.Common.{◌∙◌, map, sym}
-use Rattle.std.proofs.lemmas.Bool.{eqb-false}
-use Rattle.std.proofs.lemmas.Result.{on_ok_weaker}
+use Rattle.jzon_base.proofs.Common.{◌∙◌, map, sym, eqb-false, on_ok_weaker}
 use Rattle.jzon_base.specs.Private.Hash.{hash_of}
 use Rattle.jzon_base.proofs.Tables.{IsIndexOf-key}
 use Rattle.jzon_base.proofs.keys.add_entry.Goals as goal

@@ -1,5 +1,4 @@
-use Rattle.std.proofs.Common.{map}
-use Rattle.std.proofs.lemmas.Result.{on_ok_weaker}
+use Rattle.jzon_base.proofs.Common.{map, on_ok_weaker}
 use Rattle.jzon_base.specs.Private.Hash.{hash_of}
 use Rattle.jzon_base.proofs.Tables.{AreHanded-own, IsIndexOf-key}
 use Rattle.jzon_base.proofs.keys.begin_index.Goals as goal

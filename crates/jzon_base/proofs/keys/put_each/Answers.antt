@@ -1,9 +1,5 @@
-use Rattle.std.proofs.Common.{◌≡◌, ◌∙◌, ◌<◌, ◌++◌, ◌∷◌, [], get_or, length, take, ap, sym, arith}
-use Rattle.std.proofs.lemmas.List.{get_or_default}
-use Rattle.std.proofs.lemmas.Slice.Zip.{length-zip}
-use Rattle.std.specs.List.{position}
-use Rattle.std.specs.Result.{result_ok}
-use Rattle.std.specs.Str.{bytes_eq}
+use Rattle.jzon_base.proofs.Common.{◌≡◌, ◌∙◌, ◌<◌, ◌++◌, ◌∷◌, [], get_or, length, take, ap, sym, arith, get_or_default}
+use Rattle.jzon_base.proofs.Common.{length-zip, position, result_ok, bytes_eq}
 use Rattle.jzon_base.specs.Private.Handed.{entries_of, IsIndexed}
 use Rattle.jzon_base.proofs.Merged.{merging_none, merging_old, merging_new}
 use Rattle.jzon_base.proofs.keys.put_each.Goals as goal

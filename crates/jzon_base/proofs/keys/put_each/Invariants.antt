@@ -1,4 +1,4 @@
-use Rattle.std.specs.List.{zip}
+use Rattle.jzon_base.proofs.Common.{zip}
 use Rattle.jzon_base.proofs.Merged.{IsMerging}
 use Rattle.jzon_base.proofs.keys.put_each.Given as goal
 

@@ -1,5 +1,4 @@
-use Rattle.std.proofs.Common.{◌∙◌, map, sym}
-use Rattle.std.proofs.lemmas.Bool.{eqb-false}
+use Rattle.jzon_base.proofs.Common.{◌∙◌, map, sym, eqb-false}
 use Rattle.jzon_base.specs.Private.Hash.{hash_of}
 use Rattle.jzon_base.proofs.Tables.{AreHanded-own}
 use Rattle.jzon_base.proofs.keys.search.Goals as goal

@@ -1,5 +1,4 @@
-use Rattle.std.proofs.lemmas.Grind.{common_steps}
-use Rattle.std.proofs.Common.{arith}
+use Rattle.jzon_base.proofs.Common.{common_steps, arith}
 use Rattle.jzon_base.proofs.Written.{Appends-more}
 use Rattle.jzon_base.proofs.util.write_bytes.Goals as goal
 

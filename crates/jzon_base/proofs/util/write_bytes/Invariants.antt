@@ -1,5 +1,4 @@
-use Rattle.std.proofs.Common.{◌≤◌, ◌-◌, take, length}
-use Rattle.std.specs.Io.KnownBytes.{Appends}
+use Rattle.jzon_base.proofs.Common.{◌≤◌, ◌-◌, take, length, Appends}
 use Rattle.jzon_base.proofs.util.write_bytes.Given as goal
 
 abbrev pub decreases-loop-written : goal.decreases-loop-written

@@ -1,5 +1,4 @@
-use Rattle.std.proofs.Common.{◌∙◌, ℕ, List, length, inl, inr, refl, sym, ap, arith}
-use Rattle.std.specs.Iterator.Adapters.{zip_first, zip_second}
+use Rattle.jzon_base.proofs.Common.{◌∙◌, ℕ, List, length, inl, inr, refl, sym, ap, arith, zip_first, zip_second}
 use Rattle.jzon_base.specs.PairList.{find}
 use Rattle.jzon_tree.specs.Entries.{entries_of}
 use Rattle.jzon_tree.specs.declared.value.JsonValue.{JsonValue}

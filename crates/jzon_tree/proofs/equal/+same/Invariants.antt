@@ -1,6 +1,4 @@
-use Rattle.std.proofs.Common.{◌≡◌, length}
-use Rattle.std.specs.Iterator.Adapters.{zip_first, zip_second}
-use Rattle.std.specs.Slice.Iter.{iter_rest}
+use Rattle.jzon_base.proofs.Common.{◌≡◌, length, zip_first, zip_second, iter_rest}
 use Rattle.jzon_tree.specs.Entries.{entries_of}
 use Rattle.jzon_tree.proofs.Compared.{ComparedItems, ComparedPairs, LeftEntries}
 use Rattle.jzon_tree.proofs.equal.+same.Given as goal

@@ -1,5 +1,4 @@
-use Rattle.std.proofs.Common.{refl, arith}
-use Rattle.std.proofs.lemmas.Str.{IsCharBoundary-after_ascii}
+use Rattle.jzon_base.proofs.Common.{refl, arith, IsCharBoundary-after_ascii}
 use Rattle.jzon.proofs.Texts.Cursors.{utf8_of}
 use Rattle.jzon.proofs.Containers.FrameViews.{byte_within}
 use Rattle.jzon.proofs.cursor.Cursor.bump.Goals as goal

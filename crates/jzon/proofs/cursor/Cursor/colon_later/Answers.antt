@@ -1,5 +1,4 @@
-use Rattle.std.proofs.Common.{◌∙◌, refl, sym}
-use Rattle.std.specs.Prelude.{chars}
+use Rattle.jzon_base.proofs.Common.{◌∙◌, refl, sym, chars}
 use Rattle.jzon.specs.Private.Machine.{after_key}
 use Rattle.jzon.proofs.Containers.ContainerTokens.{colon_read, colon_missing}
 use Rattle.jzon.proofs.Texts.Cursors.{read_to_here, reached, token_goes, goes_after, reported_on}

@@ -1,5 +1,4 @@
-use Rattle.std.proofs.Common.{◌∙◌, sym}
-use Rattle.std.specs.Prelude.{chars}
+use Rattle.jzon_base.proofs.Common.{◌∙◌, sym, chars}
 use Rattle.jzon.proofs.Containers.ContainerTokens.{closes, comma_goes, item_stops}
 use Rattle.jzon.proofs.Texts.Cursors.{read_to_here}
 use Rattle.jzon.proofs.Texts.ReportedErrors.{reported}

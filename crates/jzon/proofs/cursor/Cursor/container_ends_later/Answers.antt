@@ -1,4 +1,4 @@
-use Rattle.std.proofs.Common.{refl}
+use Rattle.jzon_base.proofs.Common.{refl}
 use Rattle.jzon.specs.Private.Machine.{after_value}
 use Rattle.jzon.proofs.Texts.Cursors.{reached, token_goes, goes_on}
 use Rattle.jzon.proofs.cursor.Cursor.container_ends_later.Goals as goal

@@ -1,4 +1,4 @@
-use Rattle.std.proofs.Common.{refl}
+use Rattle.jzon_base.proofs.Common.{refl}
 use Rattle.jzon.proofs.cursor.Cursor.go_to.Goals as goal
 
 pub invariant_of-self : goal.invariant_of-self

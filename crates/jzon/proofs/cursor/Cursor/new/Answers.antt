@@ -1,4 +1,4 @@
-use Rattle.std.proofs.Common.{refl, arith}
+use Rattle.jzon_base.proofs.Common.{refl, arith}
 use Rattle.std.proofs.lemmas.Str.{IsCharBoundary-start}
 use Rattle.jzon.proofs.cursor.Cursor.new.Goals as goal
 

@@ -1,4 +1,4 @@
-use Rattle.std.proofs.Common.{◌≡◌, ◌≢◌, ◌∙◌, ◌<◌, None, length, sym, arith}
+use Rattle.jzon_base.proofs.Common.{◌≡◌, ◌≢◌, ◌∙◌, ◌<◌, None, length, sym, arith}
 use Rattle.jzon_base.specs.declared.error.Error.TheVariants.{UnexpectedEndOfJson, ExceededDepthLimit}
 use Rattle.jzon.specs.Private.Brackets.{closer, after_opener}
 use Rattle.jzon.specs.Private.Cursor.{next_byte}

@@ -1,4 +1,4 @@
-use Rattle.std.proofs.Common.{◌∙◌, ap, arith, length}
+use Rattle.jzon_base.proofs.Common.{◌∙◌, ap, arith, length}
 use Rattle.jzon_tree.specs.View.{view}
 use Rattle.jzon.specs.Private.Cursor.{left}
 use Rattle.jzon.specs.Private.Machine.{after_value}

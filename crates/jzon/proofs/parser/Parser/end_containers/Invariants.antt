@@ -1,4 +1,4 @@
-use Rattle.std.proofs.Common.{◌≡◌, ◌<◌, ◌-◌, length}
+use Rattle.jzon_base.proofs.Common.{◌≡◌, ◌<◌, ◌-◌, length}
 use Rattle.jzon.specs.Private.Machine.{after_value}
 use Rattle.jzon.specs.Private.OpenContainers.{frames_around, whole, IsEven}
 use Rattle.jzon.proofs.Texts.Cursors.{Reached}

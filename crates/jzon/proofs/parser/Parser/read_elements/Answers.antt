@@ -1,4 +1,4 @@
-use Rattle.std.proofs.Common.{◌≢◌, subst}
+use Rattle.jzon_base.proofs.Common.{◌≢◌, subst}
 use Rattle.jzon.specs.Private.Brackets.{closer}
 use Rattle.jzon.specs.Private.Cursor.{next_byte}
 use Rattle.jzon.specs.Private.OpenContainers.{frames_around}

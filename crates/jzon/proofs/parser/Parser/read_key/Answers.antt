@@ -1,7 +1,5 @@
-use Rattle.std.proofs.Common.{◌≡◌, ◌≢◌, ◌∙◌, ◌+◌, ◌-◌, ◌&&◌, [], sym, ap, subst, arith, true, false, lit<}
-use Rattle.std.specs.Prelude.{chars, slice_range, string_bytes, if◌then◌else◌}
-use Rattle.std.specs.Option.{is_some}
-use Rattle.std.proofs.lemmas.Str.{IsCharBoundary-after_ascii}
+use Rattle.jzon_base.proofs.Common.{◌≡◌, ◌≢◌, ◌∙◌, ◌+◌, ◌-◌, ◌&&◌, [], sym, ap, subst, arith, true, false, lit<, chars}
+use Rattle.jzon_base.proofs.Common.{slice_range, string_bytes, if◌then◌else◌, is_some, IsCharBoundary-after_ascii}
 use Rattle.jzon_base.specs.PairList.{find}
 use Rattle.jzon_base.specs.Tokens.{end_object}
 use Rattle.jzon.specs.Private.Brackets.{closer}

@@ -1,4 +1,4 @@
-use Rattle.std.proofs.Common.{◌≡◌, ◌-◌, length}
+use Rattle.jzon_base.proofs.Common.{◌≡◌, ◌-◌, length}
 use Rattle.jzon.specs.Private.OpenContainers.{before_item, IsBeforeItem}
 use Rattle.jzon.proofs.Texts.Cursors.{Reached}
 use Rattle.jzon.proofs.parser.Parser.read_to_end.Given as goal

@@ -1,4 +1,4 @@
-use Rattle.std.proofs.Common.{◌∙◌, ap, sym, arith, cond}
+use Rattle.jzon_base.proofs.Common.{◌∙◌, ap, sym, arith, cond}
 use Rattle.jzon_tree.specs.View.{view}
 use Rattle.jzon.specs.Private.Brackets.{empty_container, after_opener}
 use Rattle.jzon.specs.Private.Cursor.{left}

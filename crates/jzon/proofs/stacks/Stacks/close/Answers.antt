@@ -1,4 +1,4 @@
-use Rattle.std.proofs.Common.{◌∙◌, ap, arith}
+use Rattle.jzon_base.proofs.Common.{◌∙◌, ap, arith}
 use Rattle.jzon.specs.Private.Stacks.{keys_under, values_under}
 use Rattle.jzon.proofs.Containers.StackParts.{keys_under-snoc, values_under-snoc, popped, IsEnded-from}
 use Rattle.jzon.proofs.Containers.StackParts.{IsLaidOut-popped, IsLaidOut-values, IsClosed-popped}

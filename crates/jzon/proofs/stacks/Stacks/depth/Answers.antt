@@ -1,4 +1,4 @@
-use Rattle.std.proofs.Common.{[], length, ap, arith}
+use Rattle.jzon_base.proofs.Common.{[], length, ap, arith}
 use Rattle.jzon.specs.Private.OpenContainers.{OpenContainers}
 use Rattle.jzon.proofs.Containers.StackParts.{length-opened_in}
 use Rattle.jzon.proofs.stacks.Stacks.depth.Goals as goal

@@ -1,4 +1,4 @@
-use Rattle.std.proofs.Common.{◌∙◌, [], take, ap, arith}
+use Rattle.jzon_base.proofs.Common.{◌∙◌, [], take, ap, arith}
 use Rattle.jzon.specs.Private.OpenContainers.{OpenContainers}
 use Rattle.jzon.proofs.Containers.StackParts.{IsLaidOut-values, view-cut_values}
 use Rattle.jzon.proofs.stacks.Stacks.end_array.Goals as goal

@@ -1,4 +1,4 @@
-use Rattle.std.proofs.Common.{◌≤◌, ◌∙◌, ap, arith, Result, Ok, Err, OnOk, vec_len}
+use Rattle.jzon_base.proofs.Common.{◌≤◌, ◌∙◌, ap, arith, Result, Ok, Err, OnOk, vec_len}
 use Rattle.jzon.specs.Private.OpenContainers.{innermost_ended}
 use Rattle.jzon.proofs.Containers.StackParts.{IsLaidOut-kept, KeepsBelow-cut_keys, view-cut_keys}
 use Rattle.jzon.proofs.stacks.Stacks.end_object.Goals as goal

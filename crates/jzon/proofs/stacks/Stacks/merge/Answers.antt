@@ -1,4 +1,4 @@
-use Rattle.std.proofs.Common.{◌∙◌, sym, ap}
+use Rattle.jzon_base.proofs.Common.{◌∙◌, sym, ap}
 use Rattle.jzon_tree.specs.View.{viewed}
 use Rattle.jzon.specs.Private.OpenContainers.{OpenContainers, entries_so_far}
 use Rattle.jzon.proofs.Containers.StackParts.{KeepsBelow-usual, IsLaidOut-kept, view-kept}

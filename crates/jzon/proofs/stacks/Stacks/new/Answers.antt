@@ -1,4 +1,4 @@
-use Rattle.std.proofs.Common.{refl}
+use Rattle.jzon_base.proofs.Common.{refl}
 use Rattle.jzon.proofs.Containers.StackParts.{IsLaidOut-new}
 use Rattle.jzon.proofs.stacks.Stacks.new.Goals as goal
 

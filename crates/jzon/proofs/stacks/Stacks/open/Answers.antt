@@ -1,4 +1,4 @@
-use Rattle.std.proofs.Common.{◌∙◌, ◌++◌, ◌∷◌, [], ◌+◌, ◌-◌, ap, sym, refl, subst, arith}
+use Rattle.jzon_base.proofs.Common.{◌∙◌, ◌++◌, ◌∷◌, [], ◌+◌, ◌-◌, ap, sym, refl, subst, arith}
 use Rattle.jzon.specs.Private.OpenContainers.{OpenContainers, AwaitsValue, container_added}
 use Rattle.jzon.specs.declared.stacks.Frame.{Frame}
 use Rattle.jzon.specs.declared.stacks.Stacks.TheInside.{Inside}

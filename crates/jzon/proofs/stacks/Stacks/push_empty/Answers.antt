@@ -1,4 +1,4 @@
-use Rattle.std.proofs.Common.{◌∙◌, ap, arith}
+use Rattle.jzon_base.proofs.Common.{◌∙◌, ap, arith}
 use Rattle.jzon.specs.Private.OpenContainers.{value_added}
 use Rattle.jzon.proofs.Containers.StackParts.{IsLaidOut-values, view-pushed}
 use Rattle.jzon.proofs.stacks.Stacks.push_empty.Goals as goal

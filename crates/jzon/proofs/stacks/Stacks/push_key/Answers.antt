@@ -1,5 +1,4 @@
-use Rattle.std.proofs.Common.{Bool, ◌≡◌, ◌∙◌, false, sym, ap, subst}
-use Rattle.std.proofs.lemmas.Bool.{false≢true}
+use Rattle.jzon_base.proofs.Common.{Bool, ◌≡◌, ◌∙◌, false, sym, ap, subst, false≢true}
 use Rattle.jzon.specs.Private.OpenContainers.{OpenContainers, KeepsAround, HasKeyNext, key_added}
 use Rattle.jzon.proofs.Containers.StackParts.{IsLaidOut-key, view-key, KeepsAround-added, HasKeyNext-added}
 use Rattle.jzon.proofs.stacks.Stacks.push_key.Goals as goal

@@ -1,8 +1,5 @@
-use Rattle.std.proofs.Common.{Bool, ◌≡◌, ◌∙◌, ◌++◌, ◌∷◌, [], ℕ, ◌-◌, List, length, take, drop, sym, ap, subst}
-use Rattle.std.proofs.lemmas.List.{take_rest}
-use Rattle.std.specs.List.{position}
-use Rattle.std.specs.Option.{is_some}
-use Rattle.std.specs.Str.{bytes_eq}
+use Rattle.jzon_base.proofs.Common.{Bool, ◌≡◌, ◌∙◌, ◌++◌, ◌∷◌, [], ℕ, ◌-◌, List, length, take, drop, sym, ap, subst}
+use Rattle.jzon_base.proofs.Common.{take_rest, position, is_some, bytes_eq}
 use Rattle.jzon_base.specs.Private.Handed.{IsTable}
 use Rattle.jzon.specs.Private.OpenContainers.{OpenContainers, KeepsAround, HasKeyNext, key_added}
 use Rattle.jzon.proofs.Containers.StackParts.{IsLaidOut-key, view-key, has_key, IsMerged-same, KeepsAround-added}

@@ -1,5 +1,5 @@
-use Rattle.std.proofs.Common.{◌≡◌, ◌∙◌, ◌++◌, ◌≤◌, ◌∷◌, [], ℕ, List, length, length-append, drop, ap, arith, vec_len, Vec, Global}
-use Rattle.std.proofs.Common.{Result, Ok, Err}
+use Rattle.jzon_base.proofs.Common.{◌≡◌, ◌∙◌, ◌++◌, ◌≤◌, ◌∷◌, [], ℕ, List, length, length-append, drop, ap, arith}
+use Rattle.jzon_base.proofs.Common.{vec_len, Vec, Global, Result, Ok, Err}
 use Rattle.jzon_base.specs.declared.error.Error.{Error}
 use Rattle.jzon_tree.specs.declared.value.JsonValue.{JsonValue}
 use Rattle.jzon.specs.Private.Machine.{Frames, State}

@@ -1,4 +1,4 @@
-use Rattle.std.proofs.lemmas.Nat.{mul-mod_first}
+use Rattle.jzon_base.proofs.Common.{mul-mod_first}
 use Rattle.std.proofs.Math.Nat.{mul_assoc}
 use Rattle.jzon_base.proofs.LeadingDigits.{two_shifts}
 use Rattle.jzon_base.proofs.digits.eight_at_once.last_bytes.Goals as goal

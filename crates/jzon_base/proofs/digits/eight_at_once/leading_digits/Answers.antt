@@ -1,8 +1,5 @@
-use Rattle.std.proofs.Common.{drop, take, w8, ap, ◌∙◌, arith}
-use Rattle.std.proofs.lemmas.Simd.{chunk-fits, length-chunk}
-use Rattle.std.proofs.lemmas.List.{take_all, take-take}
-use Rattle.std.proofs.lemmas.List.Sums.{prefix_len-le-length}
-use Rattle.std.specs.Char.{is_ascii_digit}
+use Rattle.jzon_base.proofs.Common.{drop, take, w8, ap, ◌∙◌, arith, chunk-fits, length-chunk, take_all, take-take}
+use Rattle.jzon_base.proofs.Common.{prefix_len-le-length, is_ascii_digit}
 use Rattle.jzon_base.specs.Digits.{digits_number}
 use Rattle.jzon_base.proofs.LeadingDigits.{all_eight, first_other, first_below, spells_first}
 use Rattle.jzon_base.proofs.digits.eight_at_once.leading_digits.Goals as goal

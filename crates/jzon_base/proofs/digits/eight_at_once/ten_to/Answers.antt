@@ -1,5 +1,5 @@
-use Rattle.std.proofs.Common.{◌^◌, eqb, get_or, true, refl, arith}
-use Rattle.std.proofs.lemmas.Bool.{agree_below_at, eqb-true}
+use Rattle.jzon_base.proofs.Common.{◌^◌, eqb, get_or, true, refl, arith, agree_below_at}
+use Rattle.std.proofs.lemmas.Bool.{eqb-true}
 use Rattle.jzon_base.specs.declared.digits.eight_at_once.TheConstants.{POWERS_OF_TEN}
 use Rattle.jzon_base.proofs.digits.eight_at_once.ten_to.Goals as goal
 

@@ -1,4 +1,4 @@
-use Rattle.std.proofs.Common.{◌∙◌, sym}
+use Rattle.jzon_base.proofs.Common.{◌∙◌, sym}
 use Rattle.jzon_base.proofs.PutEach.{put_each-zip}
 use Rattle.jzon_base.proofs.keys.Keys.from_entries.Goals as goal
 

@@ -1,4 +1,4 @@
-use Rattle.std.proofs.Common.{sym}
+use Rattle.jzon_base.proofs.Common.{sym}
 use Rattle.jzon_base.proofs.Tables.{IsTable-push}
 use Rattle.jzon_base.proofs.keys.Keys.put.Goals as goal
 

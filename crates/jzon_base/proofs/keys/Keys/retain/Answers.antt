@@ -1,6 +1,5 @@
-use Rattle.std.proofs.Common.{◌≡◌, ◌≤◌, ◌∙◌, length, sym, subst, ap, arith}
-use Rattle.std.proofs.lemmas.Bool.{eqb-false, eqb-true}
-use Rattle.std.specs.Map.Calls.{CalledAtPair}
+use Rattle.jzon_base.proofs.Common.{◌≡◌, ◌≤◌, ◌∙◌, length, sym, subst, ap, arith, eqb-false, CalledAtPair}
+use Rattle.std.proofs.lemmas.Bool.{eqb-true}
 use Rattle.jzon_base.specs.Private.Handed.{IsTable}
 use Rattle.jzon_base.proofs.Refilled.{room_for_fewer}
 use Rattle.jzon_base.proofs.Retained.{IsDistinct-retained, fewer_retained, same_retained}

@@ -1,8 +1,5 @@
-use Rattle.std.proofs.Common.{ℕ, List, [], ◌∷◌, take, arith, refl, subst}
-use Rattle.std.specs.List.{IsDistinct}
-use Rattle.std.specs.Str.{bytes_eq}
-use Rattle.std.proofs.lemmas.Bool.{false≢true}
-use Rattle.std.proofs.lemmas.List.{take_all}
+use Rattle.jzon_base.proofs.Common.{ℕ, List, [], ◌∷◌, take, arith, refl, subst, IsDistinct, bytes_eq, false≢true}
+use Rattle.jzon_base.proofs.Common.{take_all}
 use Rattle.jzon_base.proofs.Indexes.{IsDistinct-more, repeated}
 use Rattle.jzon_base.proofs.keys.index.are_distinct.Goals as goal
 

@@ -1,6 +1,4 @@
-use Rattle.std.proofs.Common.{take}
-use Rattle.std.specs.List.{IsDistinct}
-use Rattle.std.specs.Str.{bytes_eq}
+use Rattle.jzon_base.proofs.Common.{take, IsDistinct, bytes_eq}
 use Rattle.jzon_base.proofs.keys.index.are_distinct.Given as goal
 
 abbrev pub invariant-loop-at : goal.invariant-loop-at

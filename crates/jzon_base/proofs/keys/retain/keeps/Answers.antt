@@ -1,4 +1,4 @@
-use Rattle.std.proofs.Common.{refl}
+use Rattle.jzon_base.proofs.Common.{refl}
 use Rattle.jzon_base.proofs.keys.retain.keeps.Goals as goal
 
 pub returns : goal.returns

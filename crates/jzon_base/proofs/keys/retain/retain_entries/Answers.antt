@@ -1,5 +1,4 @@
-use Rattle.std.proofs.Common.{◌∙◌, ap, arith, subst}
-use Rattle.std.specs.Map.Calls.{CalledAtPair, TakesPair}
+use Rattle.jzon_base.proofs.Common.{◌∙◌, ap, arith, subst, CalledAtPair, TakesPair}
 use Rattle.jzon_base.proofs.Retained.{asked, dropped, kept, sifted_none, sifted_all}
 use Rattle.jzon_base.proofs.keys.retain.retain_entries.Goals as goal
 use Rattle.jzon_base.proofs.keys.retain.retain_entries.Goals.{then-keeps, else-keeps}

@@ -1,6 +1,4 @@
-use Rattle.std.proofs.Common.{length}
-use Rattle.std.specs.List.{zip}
-use Rattle.std.specs.Map.Calls.{CalledAtPair, TakesPair}
+use Rattle.jzon_base.proofs.Common.{length, zip, CalledAtPair, TakesPair}
 use Rattle.jzon_base.proofs.Retained.{IsSifted}
 use Rattle.jzon_base.proofs.keys.retain.retain_entries.Given as goal
 

@@ -1,6 +1,4 @@
-use Rattle.std.proofs.Common.{◌≡◌, ◌+ℤ◌, ◌<ℤ◌, ◌∙◌, pos, arith, inr, FitsSigned, to_z, of_z}
-use Rattle.std.specs.Int.{w16}
-use Rattle.std.proofs.lemmas.Int.{ints}
+use Rattle.jzon_base.proofs.Common.{◌≡◌, ◌+ℤ◌, ◌<ℤ◌, ◌∙◌, pos, arith, inr, FitsSigned, to_z, of_z, w16, ints}
 use Rattle.jzon_base.proofs.Scaled.{scaled-strip}
 use Rattle.jzon_base.proofs.number.Number.from_parts.Goals as goal
 

@@ -1,5 +1,4 @@
-use Rattle.std.proofs.Common.{◌≡◌, ◌≤ℤ◌, ◌⊎◌, pos}
-use Rattle.std.specs.Prelude.{unsigned_abs}
+use Rattle.jzon_base.proofs.Common.{◌≡◌, ◌≤ℤ◌, ◌⊎◌, pos, unsigned_abs}
 use Rattle.jzon_base.specs.Decimal.{scaled}
 use Rattle.jzon_base.proofs.number.Number.from_parts.Given as goal
 

@@ -1,6 +1,4 @@
-use Rattle.std.proofs.Common.{◌≡◌, ◌∙◌, sym, rules, arith, FitsSigned}
-use Rattle.std.specs.Int.{w16}
-use Rattle.std.proofs.lemmas.Grind.{common_steps}
+use Rattle.jzon_base.proofs.Common.{◌≡◌, ◌∙◌, sym, rules, arith, FitsSigned, w16, common_steps}
 use Rattle.jzon_base.specs.Decimal.{is_whole_at}
 use Rattle.jzon_base.proofs.ExactPoints.{IsExactAt-whole}
 use Rattle.jzon_base.proofs.number.Number.is_exact_at.Goals as goal

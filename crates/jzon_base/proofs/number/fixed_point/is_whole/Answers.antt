@@ -1,5 +1,4 @@
-use Rattle.std.proofs.Common.{◌^◌, arith, rules}
-use Rattle.std.proofs.lemmas.Grind.{common_steps}
+use Rattle.jzon_base.proofs.Common.{◌^◌, arith, rules, common_steps}
 use Rattle.jzon_base.proofs.Scaled.{rest_of_larger}
 use Rattle.jzon_base.proofs.Powers.{power_pos}
 use Rattle.jzon_base.proofs.number.fixed_point.is_whole.Goals as goal

@@ -1,4 +1,4 @@
-use Rattle.std.specs.List.{IsDistinct}
+use Rattle.jzon_base.proofs.Common.{IsDistinct}
 use Rattle.jzon_base.proofs.pairs.Pairs.len.Goals as goal
 
 pub returns-in-None-clause-distinct : goal.returns-in-None-clause-distinct

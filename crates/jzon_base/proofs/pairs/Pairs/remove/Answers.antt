@@ -1,4 +1,4 @@
-use Rattle.std.proofs.Common.{sym}
+use Rattle.jzon_base.proofs.Common.{sym}
 use Rattle.jzon_base.proofs.PairPlaces.{find_placed}
 use Rattle.jzon_base.proofs.pairs.Pairs.remove.Goals as goal
 

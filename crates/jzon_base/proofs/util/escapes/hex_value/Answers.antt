@@ -1,7 +1,5 @@
-use Rattle.std.proofs.Common.{◌≡◌, ℕ, ◌<◌, true, cond, map, refl, sym, ◌∙◌, arith}
-use Rattle.std.proofs.lemmas.Bool.Decides.{nat_tests}
-use Rattle.std.specs.Char.{digit_value, is_ascii_hexdigit}
-use Rattle.std.specs.List.{range_with_len}
+use Rattle.jzon_base.proofs.Common.{◌≡◌, ℕ, ◌<◌, true, cond, map, refl, sym, ◌∙◌, arith, nat_tests, digit_value}
+use Rattle.jzon_base.proofs.Common.{is_ascii_hexdigit, range_with_len}
 use Rattle.jzon_base.proofs.ByteTables.{table_at, marked, unmarked}
 use Rattle.jzon_base.specs.declared.util.escapes.TheConstants.{DIGIT_VALUES}
 use Rattle.jzon_base.proofs.util.escapes.hex_value.Goals as goal

@@ -1,5 +1,4 @@
-use Rattle.std.proofs.Common.{◌≡◌, map, refl, sym, ap, subst, ◌∙◌, IsTrue, arith}
-use Rattle.std.specs.List.{range_with_len}
+use Rattle.jzon_base.proofs.Common.{◌≡◌, map, refl, sym, ap, subst, ◌∙◌, IsTrue, arith, range_with_len}
 use Rattle.jzon_base.proofs.ByteTables.{table_at}
 use Rattle.jzon_base.proofs.Escapes.{letter_means}
 use Rattle.jzon_base.specs.Escapes.{is_simple, unescaped, letter_of}

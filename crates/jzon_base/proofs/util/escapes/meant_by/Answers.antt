@@ -1,5 +1,5 @@
-use Rattle.std.proofs.Common.{◌≡◌, ℕ, zero, suc, ◌<◌, Bool, true, false, cond, map, refl, sym, ◌∙◌, arith}
-use Rattle.std.specs.List.{range_with_len}
+use Rattle.jzon_base.proofs.Common.{◌≡◌, ℕ, zero, suc, ◌<◌, Bool, true, false, cond, map, refl, sym, ◌∙◌, arith}
+use Rattle.jzon_base.proofs.Common.{range_with_len}
 use Rattle.jzon_base.proofs.ByteTables.{table_at, marked, unmarked}
 use Rattle.jzon_base.specs.Escapes.{is_simple, unescaped}
 use Rattle.jzon_base.specs.declared.util.escapes.TheConstants.{UNESCAPED}

@@ -1,4 +1,4 @@
-use Rattle.std.proofs.Common.{refl, arith}
+use Rattle.jzon_base.proofs.Common.{refl, arith}
 use Rattle.jzon_base.proofs.PlainBlocks.{block_none, block_some}
 use Rattle.jzon_base.proofs.util.plain.escapes_in_lanes.Goals as goal
 

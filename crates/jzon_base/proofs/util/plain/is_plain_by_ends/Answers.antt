@@ -1,4 +1,4 @@
-use Rattle.std.proofs.Common.{◌≡◌, ◌-◌, ◌&&◌, true, false, Bool, length, refl, arith}
+use Rattle.jzon_base.proofs.Common.{◌≡◌, ◌-◌, ◌&&◌, true, false, Bool, length, refl, arith}
 use Rattle.std.proofs.lemmas.Bool.{eqb-true}
 use Rattle.jzon_base.specs.Private.PlainBytes.{is_plain}
 use Rattle.jzon_base.proofs.PlainBlocks.{prefix_passes, ends_in_last}

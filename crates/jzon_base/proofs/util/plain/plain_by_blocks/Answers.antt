@@ -1,6 +1,4 @@
-use Rattle.std.proofs.Common.{◌≡◌, ◌+◌, ◌-◌, length, arith}
-use Rattle.std.specs.List.{prefix_len}
-use Rattle.std.proofs.lemmas.List.Sums.{prefix_len-le-length}
+use Rattle.jzon_base.proofs.Common.{◌≡◌, ◌+◌, ◌-◌, length, arith, prefix_len, prefix_len-le-length}
 use Rattle.jzon_base.specs.Private.PlainBytes.{is_plain}
 use Rattle.jzon_base.proofs.PlainBlocks.{prefix_ends, prefix_passes, passes_block, ends_in_block, ends_in_last}
 use Rattle.jzon_base.proofs.util.plain.plain_by_blocks.Goals as goal

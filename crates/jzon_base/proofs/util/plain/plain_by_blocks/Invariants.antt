@@ -1,5 +1,4 @@
-use Rattle.std.proofs.Common.{◌-◌, ◌≤◌}
-use Rattle.std.specs.List.{prefix_len}
+use Rattle.jzon_base.proofs.Common.{◌-◌, ◌≤◌, prefix_len}
 use Rattle.jzon_base.specs.Private.PlainBytes.{is_plain}
 use Rattle.jzon_base.proofs.util.plain.plain_by_blocks.Given as goal
 

@@ -1,7 +1,5 @@
-use Rattle.std.proofs.Common.{◌≡◌, ◌+◌, ◌≤◌, ◌++◌, ◌∙◌, ℕ, length, replicate, ap, arith}
-use Rattle.std.proofs.Common.{length-append}
-use Rattle.std.proofs.lemmas.Grind.{common_steps}
-use Rattle.std.specs.Fmt.{decimal}
+use Rattle.jzon_base.proofs.Common.{◌≡◌, ◌+◌, ◌≤◌, ◌++◌, ◌∙◌, ℕ, length, replicate, ap, arith, length-append}
+use Rattle.jzon_base.proofs.Common.{common_steps, decimal}
 use Rattle.jzon_base.proofs.Laid.{length-put_over, put_over, cut_back}
 use Rattle.jzon_base.proofs.Powers.{length-decimal}
 use Rattle.jzon_base.proofs.util.print_dec.push_after_minuses.Goals as goal

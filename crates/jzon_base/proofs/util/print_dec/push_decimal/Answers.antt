@@ -1,8 +1,6 @@
-use Rattle.std.proofs.Common.{◌≡◌, ◌+◌, ◌-◌, ◌≤◌, ◌<◌, ◌++◌, ◌∙◌, ℕ, List, Bool, true, false, not, length, replicate}
-use Rattle.std.proofs.Common.{refl, ap, sym, arith, length-append, set}
-use Rattle.std.proofs.lemmas.List.{length-replicate}
-use Rattle.std.specs.Fmt.{decimal}
-use Rattle.std.specs.Int.{from_bool}
+use Rattle.jzon_base.proofs.Common.{◌≡◌, ◌+◌, ◌-◌, ◌≤◌, ◌<◌, ◌++◌, ◌∙◌, ℕ, List, Bool, true, false, not, length}
+use Rattle.jzon_base.proofs.Common.{replicate, refl, ap, sym, arith, length-append, set, length-replicate, decimal}
+use Rattle.jzon_base.proofs.Common.{from_bool}
 use Rattle.jzon_base.specs.NumberText.{sign_text, point_after}
 use Rattle.jzon_base.proofs.Kept.{if-lt}
 use Rattle.jzon_base.proofs.Laid.{moved, moved_before, point_put}

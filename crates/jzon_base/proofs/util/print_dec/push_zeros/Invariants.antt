@@ -1,4 +1,4 @@
-use Rattle.std.proofs.Common.{◌≡◌, ◌++◌, replicate}
+use Rattle.jzon_base.proofs.Common.{◌≡◌, ◌++◌, replicate}
 use Rattle.jzon_base.proofs.util.print_dec.push_zeros.Given as goal
 
 abbrev pub invariant-loop : goal.invariant-loop

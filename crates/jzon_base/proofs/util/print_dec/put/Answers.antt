@@ -1,5 +1,4 @@
-use Rattle.std.proofs.Common.{◌∙◌, ◌-◌, w16, arith}
-use Rattle.std.proofs.lemmas.Int.{to_z-of_z}
+use Rattle.jzon_base.proofs.Common.{◌∙◌, ◌-◌, w16, arith, to_z-of_z}
 use Rattle.jzon_base.proofs.Laid.{put_last}
 use Rattle.jzon_base.proofs.util.print_dec.put.Goals as goal
 

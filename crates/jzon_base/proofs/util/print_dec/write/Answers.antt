@@ -1,5 +1,4 @@
-use Rattle.std.proofs.Common.{◌∙◌, w16}
-use Rattle.std.proofs.lemmas.Int.{to_z-of_z}
+use Rattle.jzon_base.proofs.Common.{◌∙◌, w16, to_z-of_z}
 use Rattle.jzon_base.proofs.util.print_dec.write.Goals as goal
 
 pub returns-clause-ok : goal.returns-clause-ok

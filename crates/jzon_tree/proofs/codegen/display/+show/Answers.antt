@@ -1,5 +1,5 @@
-use Rattle.std.proofs.Common.{[], ◌∷◌, ◌∙◌, sym, refl, List, ℕ, arith, rules}
-use Rattle.std.proofs.Output.{has_written_append, has_written_of_eq}
+use Rattle.jzon_base.proofs.Common.{[], ◌∷◌, ◌∙◌, sym, refl, List, ℕ, arith, rules, has_written_append}
+use Rattle.jzon_base.proofs.Common.{has_written_of_eq}
 use Rattle.std.proofs.lemmas.Option.{get_or_from_slice_get, slice_get_within}
 use Rattle.jzon_tree.specs.declared.value.JsonValue.{JsonValue, the_lemmas}
 use Rattle.jzon_tree.specs.Entries.{entries_of}

@@ -1,5 +1,4 @@
-use Rattle.std.proofs.Common.{List, ℕ}
-use Rattle.std.specs.Fmt.{HasWritten, IsPlainFormatter}
+use Rattle.jzon_base.proofs.Common.{List, ℕ, HasWritten, IsPlainFormatter}
 use Rattle.jzon_tree.specs.Entries.{entries_of}
 use Rattle.jzon_tree.proofs.Shown.{ItemsLeft, item_text, entry_text}
 use Rattle.jzon_tree.proofs.codegen.display.+show.Given as goal

@@ -1,7 +1,5 @@
-use Rattle.std.proofs.Common.{[], ◌∷◌, ◌∙◌, sym, refl, ap, List, ℕ}
-use Rattle.std.proofs.Output.{has_written_append, has_written_of_eq}
-use Rattle.std.proofs.lemmas.List.Sums.{prefix_len-le-length}
-use Rattle.std.proofs.lemmas.List.{nil_from_length, take_rest}
+use Rattle.jzon_base.proofs.Common.{[], ◌∷◌, ◌∙◌, sym, refl, ap, List, ℕ, has_written_append, has_written_of_eq}
+use Rattle.jzon_base.proofs.Common.{prefix_len-le-length, nil_from_length, take_rest}
 use Rattle.jzon_base.specs.Private.PlainBytes.{is_plain}
 use Rattle.jzon_tree.specs.Text.{escaped}
 use Rattle.jzon_tree.proofs.SentStrings.{needs_escape}

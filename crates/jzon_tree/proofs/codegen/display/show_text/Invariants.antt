@@ -1,5 +1,4 @@
-use Rattle.std.proofs.Common.{List, ℕ, length}
-use Rattle.std.specs.Fmt.{HasWritten, IsPlainFormatter}
+use Rattle.jzon_base.proofs.Common.{List, ℕ, length, HasWritten, IsPlainFormatter}
 use Rattle.jzon_tree.proofs.Shown.{TextLeft}
 use Rattle.jzon_tree.proofs.codegen.display.show_text.Given as goal
 

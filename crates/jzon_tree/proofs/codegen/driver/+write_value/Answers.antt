@@ -1,5 +1,5 @@
-use Rattle.std.proofs.Common.{ℕ, List, [], ◌∷◌, ◌+◌, refl, sym, map, length, take, drop, arith, rules, subst}
-use Rattle.std.proofs.lemmas.List.{take_all}
+use Rattle.jzon_base.proofs.Common.{ℕ, List, [], ◌∷◌, ◌+◌, refl, sym, map, length, take, drop, arith, rules, subst}
+use Rattle.jzon_base.proofs.Common.{take_all}
 use Rattle.jzon_tree.specs.declared.value.JsonValue.{the_lemmas}
 use Rattle.jzon_tree.specs.Entries.{entries_of}
 use Rattle.jzon_tree.specs.Generator.{Just, IsForm, positions}

@@ -1,4 +1,4 @@
-use Rattle.std.proofs.Common.{ℕ, ◌<◌, length, map, take, get_or}
+use Rattle.jzon_base.proofs.Common.{ℕ, ◌<◌, length, map, take, get_or}
 use Rattle.jzon_tree.specs.Entries.{entries_of}
 use Rattle.jzon_tree.specs.Generator.{Added, positions}
 use Rattle.jzon_tree.specs.Lawful.{AreValues, IsPair}

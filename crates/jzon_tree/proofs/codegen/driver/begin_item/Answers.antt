@@ -1,4 +1,4 @@
-use Rattle.std.proofs.Common.{[], ◌∷◌, refl}
+use Rattle.jzon_base.proofs.Common.{[], ◌∷◌, refl}
 use Rattle.jzon_tree.specs.Generator.{Just}
 use Rattle.jzon_tree.specs.Private.Printing.{IsBetween}
 use Rattle.jzon_tree.proofs.Emitting.{Failed-begins, Emits-at_err}

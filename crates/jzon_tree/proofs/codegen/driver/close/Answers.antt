@@ -1,4 +1,4 @@
-use Rattle.std.proofs.Common.{[], ◌∷◌, ◌++◌, ap, refl}
+use Rattle.jzon_base.proofs.Common.{[], ◌∷◌, ◌++◌, ap, refl}
 use Rattle.jzon_tree.specs.Generator.{Just}
 use Rattle.jzon_tree.specs.Private.Printing.{IsClosing}
 use Rattle.jzon_tree.specs.Writing.{IsAllowedWhitespace}

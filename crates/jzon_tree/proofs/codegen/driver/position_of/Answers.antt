@@ -1,4 +1,4 @@
-use Rattle.std.proofs.Common.{sym, zero-add}
+use Rattle.jzon_base.proofs.Common.{sym, zero-add}
 use Rattle.std.proofs.lemmas.List.FromFn.{get_or-range_with_len, length-range_with_len}
 use Rattle.jzon_tree.proofs.codegen.driver.position_of.Goals as goal
 

@@ -1,4 +1,4 @@
-use Rattle.std.proofs.Common.{◌+◌, ap, ◌∙◌, take, arith}
+use Rattle.jzon_base.proofs.Common.{◌+◌, ap, ◌∙◌, take, arith}
 use Rattle.jzon_tree.proofs.SentSpaces.{line_cut}
 use Rattle.jzon_tree.proofs.codegen.layout.push_line.Goals as goal
 

@@ -1,4 +1,4 @@
-use Rattle.std.proofs.Common.{arith}
+use Rattle.jzon_base.proofs.Common.{arith}
 use Rattle.jzon_tree.proofs.Sent.{Sends-at_err}
 use Rattle.jzon_tree.proofs.SentSpaces.{take-line, line_stopped, line_continued, line_whole}
 use Rattle.jzon_tree.proofs.codegen.layout.send_line.Goals as goal

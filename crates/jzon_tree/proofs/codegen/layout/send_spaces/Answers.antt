@@ -1,5 +1,4 @@
-use Rattle.std.proofs.Common.{ℕ, arith}
-use Rattle.std.proofs.lemmas.List.{take-replicate}
+use Rattle.jzon_base.proofs.Common.{ℕ, arith, take-replicate}
 use Rattle.jzon_tree.proofs.Sent.{Sends-at_err}
 use Rattle.jzon_tree.proofs.SentSpaces.{spaces_stopped, spaces_sent}
 use Rattle.jzon_tree.proofs.codegen.layout.send_spaces.Goals as goal

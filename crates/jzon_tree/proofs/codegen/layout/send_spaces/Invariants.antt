@@ -1,4 +1,4 @@
-use Rattle.std.proofs.Common.{◌-◌, ◌≤◌, replicate}
+use Rattle.jzon_base.proofs.Common.{◌-◌, ◌≤◌, replicate}
 use Rattle.jzon_tree.specs.Generator.{Adds, Just}
 use Rattle.jzon_tree.proofs.codegen.layout.send_spaces.Given as goal
 

@@ -1,6 +1,4 @@
-use Rattle.std.proofs.Common.{◌≡◌, ◌∙◌, ℕ, ℤ, Bool, false, FitsSigned, w16, refl, rules}
-use Rattle.std.proofs.lemmas.Int.{to_z-of_z}
-use Rattle.std.proofs.lemmas.List.{take_rest}
+use Rattle.jzon_base.proofs.Common.{◌≡◌, ◌∙◌, ℕ, ℤ, Bool, false, FitsSigned, w16, refl, rules, to_z-of_z, take_rest}
 use Rattle.jzon_base.specs.Decimal.{Decimal, nan, parts, parts_of, is_nan}
 use Rattle.jzon_base.specs.NumberText.{number_text, written_text}
 use Rattle.jzon_tree.proofs.codegen.numbers.text_of_number.Goals as goal

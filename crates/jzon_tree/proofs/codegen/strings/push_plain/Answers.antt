@@ -1,4 +1,4 @@
-use Rattle.std.proofs.Common.{◌∷◌, ◌++◌, [], ap, ◌∙◌, arith}
+use Rattle.jzon_base.proofs.Common.{◌∷◌, ◌++◌, [], ap, ◌∙◌, arith}
 use Rattle.jzon_tree.proofs.Plain.{quoted-plain}
 use Rattle.jzon_tree.proofs.codegen.strings.push_plain.Goals as goal
 

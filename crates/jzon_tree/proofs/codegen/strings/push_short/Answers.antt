@@ -1,5 +1,4 @@
-use Rattle.std.proofs.Common.{◌≡◌, ◌+◌, ◌++◌, ◌∷◌, [], length, ap, ◌∙◌, sym, arith, replicate}
-use Rattle.std.proofs.lemmas.Grind.{common_steps}
+use Rattle.jzon_base.proofs.Common.{◌≡◌, ◌+◌, ◌++◌, ◌∷◌, [], length, ap, ◌∙◌, sym, arith, replicate, common_steps}
 use Rattle.jzon_base.proofs.Laid.{cut_back}
 use Rattle.jzon_tree.proofs.Ends.{put_in_quotes}
 use Rattle.jzon_tree.proofs.Plain.{escaped-plain}

@@ -1,4 +1,4 @@
-use Rattle.std.proofs.Common.{◌∷◌, [], ap, sym, ◌∙◌}
+use Rattle.jzon_base.proofs.Common.{◌∷◌, [], ap, sym, ◌∙◌}
 use Rattle.jzon_tree.proofs.Escapes.{short_escape}
 use Rattle.jzon_tree.proofs.codegen.strings.put_escape.Goals as goal
 

@@ -1,4 +1,4 @@
-use Rattle.std.proofs.lemmas.Bool.{true≢false}
+use Rattle.jzon_base.proofs.Common.{true≢false}
 use Rattle.jzon_tree.proofs.Ends.{ends_put, ends_leave, ends_length}
 use Rattle.jzon_tree.proofs.codegen.strings.put_plain_ends.Goals as goal
 

@@ -1,6 +1,4 @@
-use Rattle.std.proofs.Common.{◌∙◌, sym}
-use Rattle.std.proofs.lemmas.List.Sums.{prefix_len-le-length}
-use Rattle.std.proofs.lemmas.List.{nil_from_length, take_rest}
+use Rattle.jzon_base.proofs.Common.{◌∙◌, sym, prefix_len-le-length, nil_from_length, take_rest}
 use Rattle.jzon_base.specs.Private.PlainBytes.{is_plain}
 use Rattle.jzon_tree.proofs.Sent.{Sends-at_err}
 use Rattle.jzon_tree.proofs.SentStrings.{any_run_stopped, escape_stopped, escape_sent, last_sent, needs_escape, closes}

@@ -1,4 +1,4 @@
-use Rattle.std.proofs.Common.{length}
+use Rattle.jzon_base.proofs.Common.{length}
 use Rattle.jzon_tree.specs.Generator.{Adds}
 use Rattle.jzon_tree.proofs.SentStrings.{Left}
 use Rattle.jzon_tree.proofs.codegen.strings.send_string.Given as goal

@@ -1,7 +1,4 @@
-use Rattle.std.proofs.Common.{◌≡◌, ◌∙◌, ◌+◌, ap, length, rules}
-use Rattle.std.proofs.lemmas.List.{length_push}
-use Rattle.std.specs.List.{zip}
-use Rattle.std.specs.Vec.Iter.{into_iter_items}
+use Rattle.jzon_base.proofs.Common.{◌≡◌, ◌∙◌, ◌+◌, ap, length, rules, length_push, zip, into_iter_items}
 use Rattle.jzon_base.proofs.Zips.{length-last, zip-last}
 use Rattle.jzon_tree.specs.IntoIter.{entries_left}
 use Rattle.jzon_tree.proofs.object.IntoIterDoubleEndedIterator.next_back.Goals as goal

@@ -1,6 +1,4 @@
-use Rattle.std.proofs.Common.{arith}
-use Rattle.std.proofs.lemmas.Slice.Zip.{length-zip}
-use Rattle.std.specs.Vec.Iter.{into_iter_items}
+use Rattle.jzon_base.proofs.Common.{arith, length-zip, into_iter_items}
 use Rattle.jzon_tree.proofs.object.IntoIterExactSizeIterator.len.Goals as goal
 
 pub returns-clause-value : goal.returns-clause-value

@@ -1,4 +1,4 @@
-use Rattle.std.proofs.Common.{[], ◌∷◌, ◌++◌, ◌∙◌, refl}
+use Rattle.jzon_base.proofs.Common.{[], ◌∷◌, ◌++◌, ◌∙◌, refl}
 use Rattle.jzon_tree.specs.View.{view}
 use Rattle.jzon_tree.proofs.Means.{AllZip-push}
 use Rattle.jzon_tree.proofs.PutPairs.{viewed-put_each}

@@ -1,4 +1,4 @@
-use Rattle.std.proofs.Common.{◌≡◌, ℕ, List}
+use Rattle.jzon_base.proofs.Common.{◌≡◌, ℕ, List}
 use Rattle.jzon_base.specs.PairList.{put_each}
 use Rattle.jzon_tree.specs.IntoJson.{PairsMean}
 use Rattle.jzon_tree.specs.Value.{Value}

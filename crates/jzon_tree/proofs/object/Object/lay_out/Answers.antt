@@ -1,4 +1,4 @@
-use Rattle.std.proofs.Common.{refl, sym, subst}
+use Rattle.jzon_base.proofs.Common.{refl, sym, subst}
 use Rattle.jzon_tree.specs.View.{view_object}
 use Rattle.jzon_tree.specs.Writing.{Writes}
 use Rattle.jzon_tree.proofs.Consumed.{laid_out}

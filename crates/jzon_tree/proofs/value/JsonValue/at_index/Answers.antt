@@ -1,7 +1,5 @@
-use Rattle.std.proofs.Common.{◌∙◌, sym, ap}
-use Rattle.std.specs.List.{slice_get}
+use Rattle.jzon_base.proofs.Common.{◌∙◌, sym, ap, slice_get, List}
 use Rattle.jzon_tree.specs.Value.{Value}
-use Rattle.std.proofs.Common.{List}
 use Rattle.jzon_tree.proofs.Seen.{items-Array, item_lent}
 use Rattle.jzon_tree.proofs.value.JsonValue.at_index.Goals as goal
 

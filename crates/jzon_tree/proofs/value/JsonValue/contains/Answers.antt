@@ -1,5 +1,4 @@
-use Rattle.std.proofs.Common.{◌∙◌, Bool, sym, ap}
-use Rattle.std.specs.List.{list_any}
+use Rattle.jzon_base.proofs.Common.{◌∙◌, Bool, sym, ap, list_any}
 use Rattle.jzon_tree.specs.Same.{same}
 use Rattle.jzon_tree.specs.Value.{Value}
 use Rattle.jzon_tree.specs.View.{view}

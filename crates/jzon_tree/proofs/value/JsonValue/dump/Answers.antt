@@ -1,4 +1,4 @@
-use Rattle.std.specs.Prelude.{false, string_bytes}
+use Rattle.jzon_base.proofs.Common.{false, string_bytes}
 use Rattle.jzon_tree.specs.Text.{compact_layout}
 use Rattle.jzon_tree.specs.View.{view}
 use Rattle.jzon_tree.proofs.Consumed.{only_text}

@@ -1,4 +1,4 @@
-use Rattle.std.specs.Prelude.{true, string_bytes}
+use Rattle.jzon_base.proofs.Common.{true, string_bytes}
 use Rattle.jzon_tree.specs.Text.{pretty_layout}
 use Rattle.jzon_tree.specs.View.{view}
 use Rattle.jzon_tree.proofs.Consumed.{only_text}

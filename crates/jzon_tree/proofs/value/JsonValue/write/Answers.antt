@@ -1,4 +1,4 @@
-use Rattle.std.proofs.Common.{refl, false, rules}
+use Rattle.jzon_base.proofs.Common.{refl, false, rules}
 use Rattle.jzon_tree.specs.Text.{compact_layout}
 use Rattle.jzon_tree.specs.View.{view}
 use Rattle.jzon_tree.proofs.Unique.{given_back_ok, given_back_err}

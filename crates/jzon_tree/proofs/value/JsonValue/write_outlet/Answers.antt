@@ -1,4 +1,4 @@
-use Rattle.std.proofs.Common.{refl, rules}
+use Rattle.jzon_base.proofs.Common.{refl, rules}
 use Rattle.jzon_tree.specs.View.{view}
 use Rattle.jzon_tree.proofs.Unique.{given_back}
 use Rattle.jzon_tree.proofs.value.JsonValue.write_outlet.Goals as goal

@@ -1,4 +1,4 @@
-use Rattle.std.proofs.Common.{refl, true, rules}
+use Rattle.jzon_base.proofs.Common.{refl, true, rules}
 use Rattle.jzon_tree.specs.Text.{pretty_layout}
 use Rattle.jzon_tree.specs.View.{view}
 use Rattle.jzon_tree.proofs.Unique.{given_back_ok, given_back_err}

@@ -1,5 +1,4 @@
-use Rattle.std.proofs.Common.{arith, rules, take}
-use Rattle.std.proofs.lemmas.List.{take_all}
+use Rattle.jzon_base.proofs.Common.{arith, rules, take, take_all}
 use Rattle.jzon_tree.specs.declared.value.JsonValue.{the_lemmas}
 use Rattle.jzon_tree.specs.Entries.{entries_of}
 use Rattle.jzon_tree.specs.View.{view}

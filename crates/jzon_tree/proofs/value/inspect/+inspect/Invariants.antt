@@ -1,4 +1,4 @@
-use Rattle.std.proofs.Common.{take, map}
+use Rattle.jzon_base.proofs.Common.{take, map}
 use Rattle.jzon_tree.specs.Entries.{entries_of}
 use Rattle.jzon_tree.specs.Private.Inspected.{IsInspected}
 use Rattle.jzon_tree.specs.Lawful.{ArePairs}

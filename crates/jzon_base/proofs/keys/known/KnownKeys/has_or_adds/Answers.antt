@@ -1,6 +1,5 @@
-use Rattle.std.proofs.Common.{◌≡◌, ◌∙◌, ◌++◌, ◌∷◌, [], ℕ, false, Option, None, Some, refl, sym}
-use Rattle.std.specs.Option.{is_some}
-use Rattle.std.proofs.lemmas.Bool.{false≢true}
+use Rattle.jzon_base.proofs.Common.{◌≡◌, ◌∙◌, ◌++◌, ◌∷◌, [], ℕ, false, Option, None, Some, refl, sym, is_some}
+use Rattle.jzon_base.proofs.Common.{false≢true}
 use Rattle.jzon_base.proofs.Tables.{IsIndexed-empty, IsTable-push}
 use Rattle.jzon_base.proofs.keys.known.KnownKeys.has_or_adds.Goals as goal
 use Rattle.jzon_base.proofs.keys.known.KnownKeys.has_or_adds.Goals.{in-Ok, in-Err+in_ok-add_entry-in-Err}

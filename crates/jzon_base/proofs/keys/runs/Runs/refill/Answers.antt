@@ -1,5 +1,4 @@
-use Rattle.std.proofs.Common.{◌∙◌, length, refl, ap, arith}
-use Rattle.std.proofs.lemmas.List.{length-set}
+use Rattle.jzon_base.proofs.Common.{◌∙◌, length, refl, ap, arith, length-set}
 use Rattle.jzon_base.specs.Private.Handed.{entries_of}
 use Rattle.jzon_base.proofs.Refilled.{AreRefilled-none, AreRefilled-more, AreRefilled-all}
 use Rattle.jzon_base.proofs.keys.runs.Runs.refill.Goals as goal

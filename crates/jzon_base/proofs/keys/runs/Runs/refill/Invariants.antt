@@ -1,4 +1,4 @@
-use Rattle.std.proofs.Common.{◌≡◌, length}
+use Rattle.jzon_base.proofs.Common.{◌≡◌, length}
 use Rattle.jzon_base.proofs.Refilled.{AreRefilled}
 use Rattle.jzon_base.proofs.keys.runs.Runs.refill.Given as goal
 

@@ -1,5 +1,5 @@
-use Rattle.std.proofs.Common.{◌≡◌, ◌-◌, ◌∙◌, length, take, drop, length-drop, take_all, sym, arith}
-use Rattle.std.proofs.lemmas.List.{length-take-le}
+use Rattle.jzon_base.proofs.Common.{◌≡◌, ◌-◌, ◌∙◌, length, take, drop, sym, arith, length-take-le}
+use Rattle.std.proofs.Common.{length-drop, take_all}
 use Rattle.jzon_base.specs.Private.Keys.{hashed_from}
 use Rattle.jzon_base.proofs.Indexes.{hashed_from-none}
 use Rattle.jzon_base.proofs.Refilled.{hashed_from-set}

@@ -1,6 +1,4 @@
-use Rattle.std.proofs.Common.{◌∙◌, sym, ap, arith}
-use Rattle.std.proofs.lemmas.Option.{slice_get_read}
-use Rattle.std.specs.List.{slice_get}
+use Rattle.jzon_base.proofs.Common.{◌∙◌, sym, ap, arith, slice_get_read, slice_get}
 use Rattle.jzon_base.proofs.Zips.{AreParts-zip, slice_get-zip}
 use Rattle.jzon_base.proofs.pairs.contents.Contents.get_at.Goals as goal
 

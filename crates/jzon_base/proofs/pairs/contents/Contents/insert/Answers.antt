@@ -1,6 +1,4 @@
-use Rattle.std.proofs.Common.{◌≡◌, ◌∙◌, ◌++◌, ◌∷◌, [], ap, set, sym, rules, None}
-use Rattle.std.specs.List.{zip, position}
-use Rattle.std.specs.Str.{bytes_eq}
+use Rattle.jzon_base.proofs.Common.{◌≡◌, ◌∙◌, ◌++◌, ◌∷◌, [], ap, set, sym, rules, None, zip, position, bytes_eq}
 use Rattle.jzon_base.specs.PairList.{find}
 use Rattle.jzon_base.proofs.PairPlaces.{find_missing, zip-put_placed, zip-put_missing}
 use Rattle.jzon_base.proofs.Zips.{AreParts-zip}

@@ -1,6 +1,4 @@
-use Rattle.std.proofs.Common.{◌∙◌, ap}
-use Rattle.std.specs.List.{position}
-use Rattle.std.specs.Str.{bytes_eq}
+use Rattle.jzon_base.proofs.Common.{◌∙◌, ap, position, bytes_eq}
 use Rattle.jzon_base.proofs.Zips.{AreParts-zip}
 use Rattle.jzon_base.proofs.pairs.contents.Contents.position.Goals as goal
 

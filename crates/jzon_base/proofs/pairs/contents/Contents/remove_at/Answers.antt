@@ -1,6 +1,4 @@
-use Rattle.std.proofs.Common.{◌∙◌, ap, arith}
-use Rattle.std.proofs.lemmas.Option.{slice_get_read}
-use Rattle.std.specs.List.{zip, remove}
+use Rattle.jzon_base.proofs.Common.{◌∙◌, ap, arith, slice_get_read, zip, remove}
 use Rattle.jzon_base.proofs.Zips.{AreParts-zip, zip-remove}
 use Rattle.jzon_base.proofs.pairs.contents.Contents.remove_at.Goals as goal
 

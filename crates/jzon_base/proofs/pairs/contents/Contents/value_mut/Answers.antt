@@ -1,5 +1,4 @@
-use Rattle.std.proofs.Common.{◌∙◌, ap, refl, arith}
-use Rattle.std.proofs.lemmas.Option.{slice_get_read}
+use Rattle.jzon_base.proofs.Common.{◌∙◌, ap, refl, arith, slice_get_read}
 use Rattle.jzon_base.specs.PairList.{set_value}
 use Rattle.jzon_base.proofs.Zips.{AreParts-zip, zip-set}
 use Rattle.jzon_base.proofs.pairs.contents.Contents.value_mut.Goals as goal

@@ -1,4 +1,4 @@
-use Rattle.std.proofs.Common.{◌∙◌}
+use Rattle.jzon_base.proofs.Common.{◌∙◌}
 use Rattle.jzon_base.proofs.Zips.{AreParts-zip}
 use Rattle.jzon_base.proofs.pairs.contents.Contents.values.Goals as goal
 

@@ -1,7 +1,4 @@
-use Rattle.std.proofs.Common.{◌≡◌, ◌∙◌, ◌+◌, sym, ap, length, rules}
-use Rattle.std.proofs.lemmas.List.{length_push}
-use Rattle.std.specs.List.{zip}
-use Rattle.std.specs.Slice.Iter.{iter_rest}
+use Rattle.jzon_base.proofs.Common.{◌≡◌, ◌∙◌, ◌+◌, sym, ap, length, rules, length_push, zip, iter_rest}
 use Rattle.jzon_base.proofs.Zips.{zip-last}
 use Rattle.jzon_base.proofs.pairs.iter.IterDoubleEndedIterator.next_back.Goals as goal
 

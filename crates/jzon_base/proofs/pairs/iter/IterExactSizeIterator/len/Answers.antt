@@ -1,6 +1,4 @@
-use Rattle.std.proofs.Common.{ap, length, arith}
-use Rattle.std.proofs.lemmas.Slice.Zip.{length-zip}
-use Rattle.std.specs.Slice.Iter.{iter_rest}
+use Rattle.jzon_base.proofs.Common.{ap, length, arith, length-zip, iter_rest}
 use Rattle.jzon_base.proofs.pairs.iter.IterExactSizeIterator.len.Goals as goal
 
 pub returns-clause-value : goal.returns-clause-value

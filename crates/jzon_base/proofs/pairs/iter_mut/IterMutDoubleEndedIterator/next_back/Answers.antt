@@ -1,6 +1,4 @@
-use Rattle.std.proofs.Common.{◌≡◌, ◌∙◌, ◌+◌, ap, length, rules}
-use Rattle.std.proofs.lemmas.List.{length_push}
-use Rattle.std.specs.List.{zip}
+use Rattle.jzon_base.proofs.Common.{◌≡◌, ◌∙◌, ◌+◌, ap, length, rules, length_push, zip}
 use Rattle.std.specs.Slice.Iter as slice
 use Rattle.jzon_base.specs.IterMut.{iter_mut_rest}
 use Rattle.jzon_base.proofs.Zips.{length-last, zip-last}

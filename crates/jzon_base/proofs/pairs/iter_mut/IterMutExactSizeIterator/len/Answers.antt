@@ -1,5 +1,4 @@
-use Rattle.std.proofs.Common.{arith}
-use Rattle.std.proofs.lemmas.Slice.Zip.{length-zip}
+use Rattle.jzon_base.proofs.Common.{arith, length-zip}
 use Rattle.std.specs.Slice.Iter as slice
 use Rattle.jzon_base.proofs.pairs.iter_mut.IterMutExactSizeIterator.len.Goals as goal
 

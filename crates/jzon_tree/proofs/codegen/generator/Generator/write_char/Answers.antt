@@ -1,4 +1,4 @@
-use Rattle.std.proofs.Common.{[], ◌∷◌, refl}
+use Rattle.jzon_base.proofs.Common.{[], ◌∷◌, refl}
 use Rattle.jzon_tree.specs.Generator.{Just}
 use Rattle.jzon_tree.proofs.Emitting.{Emits-handed}
 use Rattle.jzon_tree.proofs.codegen.generator.Generator.write_char.Goals as goal

@@ -1,6 +1,5 @@
-use Rattle.std.proofs.Common.{◌∙◌, ◌∷◌, ◌++◌, [], take, drop, sym, append_assoc}
-use Rattle.std.proofs.lemmas.List.Sums.{prefix_len-le-length}
-use Rattle.std.proofs.lemmas.List.{nil_from_length, take_rest}
+use Rattle.jzon_base.proofs.Common.{◌∙◌, ◌∷◌, ◌++◌, [], take, drop, sym, append_assoc, prefix_len-le-length}
+use Rattle.jzon_base.proofs.Common.{nil_from_length, take_rest}
 use Rattle.jzon_base.specs.Private.PlainBytes.{is_plain}
 use Rattle.jzon_tree.specs.Generator.{Just}
 use Rattle.jzon_tree.specs.Text.{escaped}

@@ -1,4 +1,4 @@
-use Rattle.std.proofs.Common.{length, take, drop}
+use Rattle.jzon_base.proofs.Common.{length, take, drop}
 use Rattle.jzon_tree.specs.Generator.{Added}
 use Rattle.jzon_tree.proofs.SentStrings.{Left}
 use Rattle.jzon_tree.proofs.codegen.generator.Generator.write_string_complex.Given as goal

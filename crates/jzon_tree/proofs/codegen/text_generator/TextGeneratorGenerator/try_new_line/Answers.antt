@@ -1,4 +1,4 @@
-use Rattle.std.proofs.Common.{◌∙◌, ◌*◌, Some, false, refl}
+use Rattle.jzon_base.proofs.Common.{◌∙◌, ◌*◌, Some, false, refl}
 use Rattle.jzon_tree.specs.Generators.{text_meaning, same_emitted}
 use Rattle.jzon_tree.specs.StyleLaws.{spaces_are_whitespace}
 use Rattle.jzon_tree.specs.Styles.{LaysOut}

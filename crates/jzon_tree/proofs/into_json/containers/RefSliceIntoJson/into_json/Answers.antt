@@ -1,5 +1,5 @@
-use Rattle.std.proofs.Common.{rules, ◌++◌, ◌∷◌, [], map, subst, take_all}
-use Rattle.std.specs.List.{AllZip}
+use Rattle.jzon_base.proofs.Common.{rules, ◌++◌, ◌∷◌, [], map, subst, AllZip}
+use Rattle.std.proofs.Common.{take_all}
 use Rattle.jzon_tree.specs.View.{view}
 use Rattle.jzon_tree.proofs.Means.{AllZip-push_map, AllZip-take_next}
 use Rattle.jzon_tree.proofs.Views.{view-Array}

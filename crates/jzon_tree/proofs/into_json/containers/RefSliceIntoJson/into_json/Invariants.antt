@@ -1,5 +1,4 @@
-use Rattle.std.proofs.Common.{map, take, List}
-use Rattle.std.specs.List.{AllZip}
+use Rattle.jzon_base.proofs.Common.{map, take, List, AllZip}
 use Rattle.jzon_tree.specs.View.{view}
 use Rattle.jzon_tree.proofs.into_json.containers.RefSliceIntoJson.into_json.Given as goal
 

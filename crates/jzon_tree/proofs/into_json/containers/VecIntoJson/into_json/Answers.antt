@@ -1,6 +1,4 @@
-use Rattle.std.proofs.Common.{arith, map, subst}
-use Rattle.std.specs.Vec.Iter.{into_iter_items}
-use Rattle.std.specs.List.{AllZip}
+use Rattle.jzon_base.proofs.Common.{arith, map, subst, into_iter_items, AllZip}
 use Rattle.jzon_tree.specs.View.{view}
 use Rattle.jzon_tree.proofs.Means.{AllZip-push_map, one_more, nothing_left}
 use Rattle.jzon_tree.proofs.Views.{view-Array}

@@ -1,6 +1,4 @@
-use Rattle.std.proofs.Common.{◌≡◌, ◌++◌, map}
-use Rattle.std.specs.Vec.Iter.{into_iter_items}
-use Rattle.std.specs.List.{AllZip}
+use Rattle.jzon_base.proofs.Common.{◌≡◌, ◌++◌, map, into_iter_items, AllZip}
 use Rattle.jzon_tree.specs.View.{view}
 use Rattle.jzon_tree.proofs.into_json.containers.VecIntoJson.into_json.Given as goal
 

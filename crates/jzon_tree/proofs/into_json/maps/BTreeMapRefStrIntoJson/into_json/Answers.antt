@@ -1,9 +1,5 @@
-use Rattle.std.proofs.Common.{ℕ, List, Bor}
-use Rattle.std.specs.BTreeMap.{keys}
-use Rattle.std.specs.Cmp.Lexicographic.{slice_cmp}
-use Rattle.std.specs.Ordering.{eq_by_cmp, nat_cmp}
-use Rattle.std.proofs.lemmas.Map.Keys.{IsDistinct-from_sorted}
-use Rattle.std.proofs.lemmas.Map.Text.{is_eq-slice_cmp}
+use Rattle.jzon_base.proofs.Common.{ℕ, List, Bor, keys, slice_cmp, eq_by_cmp, nat_cmp, IsDistinct-from_sorted}
+use Rattle.jzon_base.proofs.Common.{is_eq-slice_cmp}
 use Rattle.jzon_tree.proofs.PutPairs.{map_put}
 use Rattle.jzon_tree.proofs.into_json.maps.BTreeMapRefStrIntoJson.into_json.Goals as goal
 

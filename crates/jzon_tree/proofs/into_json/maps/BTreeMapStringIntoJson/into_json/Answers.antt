@@ -1,9 +1,5 @@
-use Rattle.std.proofs.Common.{string_bytes}
-use Rattle.std.specs.BTreeMap.{keys}
-use Rattle.std.specs.Ordering.{eq_by_cmp}
+use Rattle.jzon_base.proofs.Common.{string_bytes, keys, eq_by_cmp, IsDistinct-from_sorted, is_eq-slice_cmp}
 use Rattle.std.specs.String.{string_cmp}
-use Rattle.std.proofs.lemmas.Map.Keys.{IsDistinct-from_sorted}
-use Rattle.std.proofs.lemmas.Map.Text.{is_eq-slice_cmp}
 use Rattle.jzon_tree.proofs.PutPairs.{map_put}
 use Rattle.jzon_tree.proofs.into_json.maps.BTreeMapStringIntoJson.into_json.Goals as goal
 

@@ -1,6 +1,5 @@
-use Rattle.std.proofs.Common.{ℕ, List, Bor, nat_eq, refl}
+use Rattle.jzon_base.proofs.Common.{ℕ, List, Bor, nat_eq, refl, IsPermutation-refl}
 use Rattle.std.specs.Cmp.Lexicographic.{pointwise}
-use Rattle.std.proofs.lemmas.List.Sorted.{IsPermutation-refl}
 use Rattle.jzon_tree.proofs.PutPairs.{map_put}
 use Rattle.jzon_tree.proofs.into_json.maps.HashMapRefStrIntoJson.into_json.Goals as goal
 

@@ -1,6 +1,5 @@
-use Rattle.std.proofs.Common.{refl, string_bytes}
+use Rattle.jzon_base.proofs.Common.{refl, string_bytes, IsPermutation-refl}
 use Rattle.std.specs.String.{string_eq}
-use Rattle.std.proofs.lemmas.List.Sorted.{IsPermutation-refl}
 use Rattle.jzon_tree.proofs.PutPairs.{map_put}
 use Rattle.jzon_tree.proofs.into_json.maps.HashMapStringIntoJson.into_json.Goals as goal
 

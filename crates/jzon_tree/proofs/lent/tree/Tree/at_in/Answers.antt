@@ -1,4 +1,4 @@
-use Rattle.std.proofs.Common.{◌≡◌, ◌∙◌, ap, inl, sym, IsSome}
+use Rattle.jzon_base.proofs.Common.{◌≡◌, ◌∙◌, ap, inl, sym, IsSome}
 use Rattle.jzon_base.specs.PairList.{find, put, with_default}
 use Rattle.jzon_base.proofs.PairPlaces.{find-with_default, put-with_default}
 use Rattle.jzon_tree.proofs.lent.tree.Tree.at_in.Goals as goal

@@ -1,4 +1,4 @@
-use Rattle.std.proofs.Common.{rules}
+use Rattle.jzon_base.proofs.Common.{rules}
 use Rattle.jzon_tree.proofs.Inspected.{inspected_more}
 use Rattle.jzon_tree.proofs.value.inspect.Inspection.with.Goals as goal
 
