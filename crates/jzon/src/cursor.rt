@@ -194,7 +194,7 @@ impl<'a> Cursor<'a> {
             self.go_to(end + 1);
             return Ok(true);
         }
-        self.container_ends_later(end, bracket)
+        Ok(self.container_ends_later(end, bracket)?)
     }
 
     /// The same where whitespace may come first.
@@ -220,7 +220,8 @@ impl<'a> Cursor<'a> {
             self.go_to(end + 1);
             return Ok(());
         }
-        self.colon_later(end)
+        self.colon_later(end)?;
+        Ok(())
     }
 
     /// The same where whitespace may come first.

@@ -272,9 +272,11 @@ impl Stacks {
         ensures memory { IsOkUnless result Error.OutOfMemory }
     {
         if self.strict {
-            return self.push_new_key(name, wide);
+            return Ok(self.push_new_key(name, wide)?);
         }
-        self.merge_at_limit()?;
+        if self.keys.len() == self.merge_at {
+            self.merge()?;
+        }
         Key::push_wide(&mut self.keys, self.alloc, name, wide)?;
         Ok(false)
     }
@@ -299,21 +301,6 @@ impl Stacks {
         Key::push_wide(&mut self.keys, self.alloc, name, wide)?;
         self.known = known;
         Ok(false)
-    }
-
-    /// Merges the entries of equal keys of the innermost container if they are many. The error is
-    /// `OutOfMemory`.
-    #[inline(always)]
-    fn merge_at_limit(&mut self) -> Result<()>
-        requires usual { self.old.strict ≡ false }
-        requires even { IsEven Bracket.Object self.old.innermost }
-        ensures merged { OnOk result (IsMerged self.old self.new) }
-        ensures memory { IsOkUnless result Error.OutOfMemory }
-    {
-        if self.keys.len() == self.merge_at {
-            return self.merge();
-        }
-        Ok(())
     }
 
     /// Merges the entries of equal keys of the innermost container. The error is `OutOfMemory`.

@@ -187,8 +187,11 @@ fn clamped_exponent(dropped: usize, kept_fraction: usize, positive: bool, writte
     ensures { result ≡ clamp ((pos dropped -ℤ pos kept_fraction) +ℤ signed positive
         (digits_number written.now)) }
 {
-    let written = capped_number(written) as i32;
     let power = dropped as i32 - kept_fraction as i32;
+    if written.is_empty() {
+        return power as i16;
+    }
+    let written = capped_number(written) as i32;
     let sum = if positive {
         power + written
     } else {

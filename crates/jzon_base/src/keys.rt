@@ -176,9 +176,11 @@ pub fn merge<V: Drop>(
     ensures table { IfOk result (λ r. IsTable keys.new.items r) }
 {
     if keys.len() <= index::LINEAR_MAX {
-        if index::are_distinct(keys.as_slice()) {
-            return Ok(Runs::new(alloc));
-        }
+        return put_each(alloc, keys, values);
+    }
+    // Few keys, often repeated, aren't sorted: mostly the last key is among the first ones.
+    let last = keys[keys.len() - 1].as_str();
+    if index::has_name(&keys[..keys.len() / 4], last) {
         return put_each(alloc, keys, values);
     }
     match index::of(alloc, keys.as_slice())? {
@@ -207,6 +209,18 @@ impl Keys {
             keys: Vec::with_capacity(alloc, capacity)?,
             index: Runs::with_capacity(alloc, capacity)?,
         })
+    }
+
+    /// Distinct keys, without an index.
+    #[inline(always)]
+    pub fn from_distinct(alloc: Global, keys: Vec<Key>) -> Keys
+        requires { IsDistinct bytes_eq keys.items }
+        ensures { result ≡ keys.items }
+    {
+        Keys {
+            keys,
+            index: Runs::new(alloc),
+        }
     }
 
     /// The keys of entries: those of equal keys become one, with the last value at the position of

@@ -14,6 +14,7 @@ mod iter;
 mod iter_mut;
 
 use crate::key::Key;
+use crate::keys::index::{LINEAR_MAX, are_distinct};
 use crate::keys::{self, Keys};
 pub use builder::Builder;
 use contents::Contents;
@@ -59,6 +60,7 @@ impl<V> Pairs<V> {
     }
 
     /// These entries. The error is a failed allocation.
+    #[inline(always)]
     fn boxed(alloc: Global, entries: Contents<V>) -> Result<Pairs<V>, AllocError>
     where
         V: Drop,
@@ -86,15 +88,14 @@ impl<V> Pairs<V> {
     }
 
     /// The entries of keys and as many values, put one after the other: those of equal keys become
-    /// one, with the last value at the position of the first. The error is a failed allocation. The
-    /// box is allocated before anything is merged.
+    /// one, with the last value at the position of the first. The error is a failed allocation.
     ///
-    /// Inlined with what it calls for few keys, because each small object of a text is made here.
+    /// Inlined for few keys of which none repeats, because each small object of a text is made here.
     #[inline(always)]
     pub fn from_entries(
         alloc: Global,
         keys: Vec<Key>,
-        mut values: Vec<V>,
+        values: Vec<V>,
     ) -> Result<Pairs<V>, AllocError>
     where
         V: Drop,
@@ -104,13 +105,23 @@ impl<V> Pairs<V> {
         if keys.is_empty() {
             return Ok(Pairs::new(alloc));
         }
-        let mut entries = Box::new(alloc, Contents::new(alloc))?;
+        if keys.len() <= LINEAR_MAX && are_distinct(keys.as_slice()) {
+            let keys = Keys::from_distinct(alloc, keys);
+            return Pairs::boxed(alloc, Contents::from_parts(keys, values));
+        }
+        Pairs::merged(alloc, keys, values)
+    }
+
+    /// The same for many keys, and for those of which some repeat.
+    #[inline(never)]
+    fn merged(alloc: Global, keys: Vec<Key>, mut values: Vec<V>) -> Result<Pairs<V>, AllocError>
+    where
+        V: Drop,
+        requires { length values.items ≡ length keys.items }
+        ensures { IfOk result (λ p. p ≡ put_each (zip keys.items values.items)) }
+    {
         let keys = Keys::from_entries(alloc, keys, &mut values)?;
-        *entries = Contents::from_parts(keys, values);
-        Ok(Pairs {
-            alloc,
-            entries: Some(entries),
-        })
+        Pairs::boxed(alloc, Contents::from_parts(keys, values))
     }
 
     /// A copy of the keys, with these values. The error is a failed allocation.

@@ -95,10 +95,10 @@ const TWENTY_KEYS: &str = "{\"a\":0,\"b\":1,\"c\":2,\"d\":3,\"e\":4,\"f\":5,\"g\
     \"i\":8,\"j\":9,\"k\":10,\"l\":11,\"m\":12,\"n\":13,\"o\":14,\"p\":15,\"q\":16,\"r\":17,\
     \"s\":18,\"t\":19}";
 
-/// One of them twice.
+/// One of them twice, and it isn't the last: so their index entries are sorted.
 const REPEATED: &str = "{\"a\":1,\"b\":1,\"c\":2,\"d\":3,\"e\":4,\"f\":5,\"g\":6,\"h\":7,\"i\":8,\
     \"j\":9,\"k\":10,\"l\":11,\"m\":12,\"n\":13,\"o\":14,\"p\":15,\"q\":16,\"r\":17,\"s\":18,\
-    \"t\":19,\"a\":0}";
+    \"a\":0,\"t\":19}";
 
 /// Both arrays have a block of their length, and both objects a box and two blocks. The outermost
 /// array takes the block of the stack of values; the stacks of keys and containers keep theirs.
