@@ -1,6 +1,7 @@
 -- Private definitions: how the code relates to those that public clauses cite. No public clause of `jzon` cites them.
 pub mod Classes
 pub mod Quote
+pub mod Stops
 pub mod Machine
 pub mod Places
 pub mod Numerals

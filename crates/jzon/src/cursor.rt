@@ -10,10 +10,9 @@ ghost use Rattle.jzon.specs.Private.Machine.{Frames, frames_depth, value_mark, b
 ghost use Rattle.jzon_base.specs.Tokens.{begin_array, begin_object};
 
 use crate::bytes_at::byte_at;
-use crate::fault::fault_at;
+use crate::fault::{Result, Stop, fault_at};
 use crate::reading::Reading;
 use crate::whitespace::skip_whitespace;
-use jzon_base::error::{Error, Result};
 use jzon_tree::object::Object;
 use jzon_tree::value::JsonValue;
 use std::alloc::Global;
@@ -116,23 +115,24 @@ impl<'a> Cursor<'a> {
         self.go_to(self.index + 1);
     }
 
-    /// The error of a text that has no valid continuation from here.
-    pub(crate) fn fault(&self) -> Error
-        ensures { Reports (chars self.now.source.now) result
+    /// The text has no valid continuation from here.
+    #[inline(always)]
+    pub(crate) fn fault(&self) -> Stop
+        ensures { Reports self.now.source.now result
             (fault_here (chars (drop self.now.index self.now.source.now))) }
     {
         fault_at(self.source, self.index)
     }
 
     /// Moves past the opening bracket that comes next, inside of `depth` containers. Whether the
-    /// container is empty; then it moves past the closing bracket too. Else `UnexpectedEndOfJson`
-    /// at the end of the text, or `ExceededDepthLimit` if `depth` is what the reading allows.
+    /// container is empty; then it moves past the closing bracket too. Else `At` at
+    /// the end of the text, or `Limit` if `depth` is what the reading allows.
     #[inline(always)]
     pub(crate) fn open_container(&mut self, bracket: Bracket, depth: usize) -> Result<bool>
         requires room { depth ≤ self.old.reading.depth }
         requires opening { next_byte self.old ≡ opener bracket }
         ensures reading { self.new.reading ≡ self.old.reading }
-        ensures memory { result ≢ Err Error.OutOfMemory }
+        ensures memory { result ≢ Err Stop.Memory }
         ensures filled { IfOk result (λ is_empty. is_empty ≡ false →
             (depth < self.old.reading.depth)
             × (next_byte self.new ≢ closer bracket)) }
@@ -149,10 +149,10 @@ impl<'a> Cursor<'a> {
             return Ok(true);
         }
         if self.index == self.source.len() {
-            return Err(Error::UnexpectedEndOfJson);
+            return Err(self.fault());
         }
         if depth == usize::from(self.reading.depth()) {
-            return Err(Error::ExceededDepthLimit);
+            return Err(Stop::Limit);
         }
         Ok(false)
     }
@@ -194,16 +194,6 @@ impl<'a> Cursor<'a> {
             self.go_to(end + 1);
             return Ok(true);
         }
-        Ok(self.container_ends_later(end, bracket)?)
-    }
-
-    /// The same where whitespace may come first.
-    #[inline(never)]
-    fn container_ends_later(&mut self, end: usize, bracket: Bracket) -> Result<bool>
-        requires boundary { IsCharBoundary self.old.source.now end }
-        requires further { self.old.index < end }
-        ensures { EndsItem self.old end bracket result self.new }
-    {
         self.go_to(end);
         self.container_ends(bracket)
     }
@@ -220,17 +210,6 @@ impl<'a> Cursor<'a> {
             self.go_to(end + 1);
             return Ok(());
         }
-        self.colon_later(end)?;
-        Ok(())
-    }
-
-    /// The same where whitespace may come first.
-    #[inline(never)]
-    fn colon_later(&mut self, end: usize) -> Result<()>
-        requires boundary { IsCharBoundary self.old.source.now end }
-        requires further { self.old.index < end }
-        ensures { EndsKey self.old end result self.new }
-    {
         self.go_to(end);
         if self.peek() != b':' {
             return Err(self.fault());

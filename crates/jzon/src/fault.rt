@@ -1,13 +1,71 @@
-//! The error of a text at an offset, with its line and column (docs/RULES.md, "Which error is
-//! reported").
+//! Where a text isn't read on, and the error that says so, with its line and column (docs/RULES.md,
+//! "Which error is reported").
 
-ghost use Rattle.std.specs.Prelude.{◌≡◌, ◌+◌, take, drop, chars};
+ghost use Rattle.std.specs.Prelude.{◌≡◌, ◌+◌, drop, chars};
 ghost use Rattle.std.specs.Str.{IsCharBoundary};
-ghost use Rattle.jzon_base.specs.declared.error.Error.TheVariants.{DuplicateKey};
 ghost use Rattle.jzon.specs.Fault.{line, column};
 ghost use Rattle.jzon.specs.Private.Machine.{Reports, fault_here};
+ghost use Rattle.jzon.specs.Private.Stops.{IsAtBoundary, reported_error};
 
 use jzon_base::error::Error;
+use std::alloc::AllocError;
+
+/// Why a text isn't read on. The functions of the parser return it in place of an `Error`, which is
+/// made at the end: a result that may hold an `Error` has 48 bytes, and each time that one is made
+/// they are cleared.
+#[derive(Clone, Copy)]
+pub(crate) enum Stop {
+    /// An allocation failed.
+    Memory,
+    /// The text has more open containers, or a number more digits, than is allowed.
+    Limit,
+    /// Two escapes of surrogates mean no character together.
+    Surrogates,
+    /// The text has no valid continuation at this offset.
+    At(usize),
+    /// The key whose opening quote is at this offset was there before.
+    Duplicate(usize),
+}
+
+/// The result of a function of the parser.
+pub(crate) type Result<T> = std::result::Result<T, Stop>;
+
+/// `Memory`, so that `?` after a call of std returns it.
+impl From<AllocError> for Stop {
+    ghost use Rattle.jzon.specs.declared.fault.Stop.TheVariants.{Memory};
+
+    ghost from_gives = { λ _ e. e ≡ Memory };
+
+    fn from(_refused: AllocError) -> Stop {
+        Stop::Memory
+    }
+}
+
+impl Stop {
+    /// The error that says so.
+    pub(crate) fn error(self, source: &str) -> Error
+        requires { IsAtBoundary source.now self }
+        ensures { result ≡ reported_error source.now self }
+    {
+        match self {
+            Stop::Memory => Error::OutOfMemory,
+            Stop::Limit => Error::ExceededDepthLimit,
+            Stop::Surrogates => Error::FailedUtf8Parsing,
+            Stop::At(index) => match source[index..].chars().next() {
+                None => Error::UnexpectedEndOfJson,
+                Some(ch) => Error::UnexpectedCharacter {
+                    ch,
+                    line: line_after(&source[..index]),
+                    column: column_after(&source[..index]),
+                },
+            },
+            Stop::Duplicate(start) => Error::DuplicateKey {
+                line: line_after(&source[..start]),
+                column: column_after(&source[..start]),
+            },
+        }
+    }
+}
 
 /// The line of the character after a prefix of a text, counted from 1.
 fn line_after(prefix: &str) -> usize
@@ -26,34 +84,12 @@ fn column_after(prefix: &str) -> usize
     }
 }
 
-/// `DuplicateKey` for the key whose opening quote is at `start`.
-pub(crate) fn duplicate_at(source: &str, start: usize) -> Error
-    requires { IsCharBoundary source.now start }
-    ensures { result ≡ DuplicateKey (line (chars (take start source.now)))
-        (column (chars (take start source.now))) }
-{
-    let prefix = &source[..start];
-    Error::DuplicateKey {
-        line: line_after(prefix),
-        column: column_after(prefix),
-    }
-}
-
-/// The error of a text that has no valid continuation at `index`: `UnexpectedEndOfJson` at its end,
-/// else `UnexpectedCharacter`.
-pub(crate) fn fault_at(source: &str, index: usize) -> Error
+/// The text has no valid continuation at `index`: the end is there, or a character that isn't
+/// allowed.
+#[inline(always)]
+pub(crate) fn fault_at(source: &str, index: usize) -> Stop
     requires { IsCharBoundary source.now index }
-    ensures { Reports (chars source.now) result (fault_here (chars (drop index source.now))) }
+    ensures { Reports source.now result (fault_here (chars (drop index source.now))) }
 {
-    match source[index..].chars().next() {
-        None => Error::UnexpectedEndOfJson,
-        Some(ch) => {
-            let prefix = &source[..index];
-            Error::UnexpectedCharacter {
-                ch,
-                line: line_after(prefix),
-                column: column_after(prefix),
-            }
-        }
-    }
+    Stop::At(index)
 }

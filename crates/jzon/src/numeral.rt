@@ -17,9 +17,8 @@ ghost use Rattle.jzon.specs.Private.Machine.{Frames, numeral, numeral_after_firs
 ghost use Rattle.jzon.specs.Private.Numerals.{LeadsTo, MissesDigit, HasTooMany};
 
 use crate::bytes_at::has_byte;
-use crate::fault::fault_at;
+use crate::fault::{Result, Stop, fault_at};
 use jzon_base::digits::{read_scanned, scan};
-use jzon_base::error::{Error, Result};
 use jzon_base::number::Number;
 
 /// The number whose first digit is at `start`, and the offset after it.
@@ -44,7 +43,7 @@ pub(crate) fn read_number(source: &str, start: usize, negative: bool) -> Result<
         spelling.exponent,
     );
     match number {
-        Err(_) => Err(Error::ExceededDepthLimit),
+        Err(_) => Err(Stop::Limit),
         Ok(_) if spelling.is_missing => Err(fault_at(source, spelling.end)),
         Ok(number) => Ok((number, spelling.end)),
     }

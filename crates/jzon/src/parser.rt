@@ -4,14 +4,14 @@ ghost use Rattle.std.specs.Prelude.{◌≡◌, ◌≢◌, ◌<◌, ◌+◌, leng
 ghost use Rattle.jzon_tree.specs.View.{view};
 ghost use Rattle.jzon.specs.Answer.{IsMeaningOf, IsReadable, IsErrorUnlessMemory, TakesMemory};
 ghost use Rattle.jzon.specs.Private.Cursor.{left, next_byte, GoesOn, PassesOn};
-ghost use Rattle.jzon.specs.Private.Machine.{no_frames, is_fresh, before, after_value, Reads};
+ghost use Rattle.jzon.specs.Private.Machine.{no_frames, is_fresh, before, after_value, from, Reads};
 ghost use Rattle.jzon.specs.Private.OpenContainers.{frames_around, frames_here, before_item, after_end, whole, IsEven, AwaitsValue, IsBeforeItem, IsAfterEnd, KeepsAround};
 ghost use Rattle.jzon.specs.Private.Read.{after_read, IsAfterValue, ReadsItems};
 ghost use Rattle.jzon.specs.Reading.{usual};
 ghost use Rattle.jzon_base.specs.Tokens.{end_array};
 
 use crate::cursor::{Bracket, Cursor};
-use crate::fault::duplicate_at;
+use crate::fault::{self, Stop};
 use crate::primitive::put_primitive;
 use crate::reading::{Reading, USUAL};
 use crate::stacks::Stacks;
@@ -71,7 +71,18 @@ pub fn parse_as(alloc: Global, source: &str, reading: &Reading) -> Result<JsonVa
     ensures error { IfErr result (IsErrorUnlessMemory reading.now (chars source.now)) }
     ensures memory { result ≡ Err Error.OutOfMemory → TakesMemory (chars source.now) }
 {
-    let mut cursor = Cursor::new(source, *reading);
+    match read(alloc, source, *reading) {
+        Ok(value) => Ok(value),
+        Err(stop) => Err(stop.error(source)),
+    }
+}
+
+/// The same, where an error has no line and column yet.
+fn read(alloc: Global, source: &str, reading: Reading) -> fault::Result<JsonValue>
+    ensures outcome { Reads source.now result (from reading source.now (before no_frames) 0) }
+    ensures memory { result ≡ Err Stop.Memory → TakesMemory (chars source.now) }
+{
+    let mut cursor = Cursor::new(source, reading);
     let first = cursor.peek();
     let Some(bracket) = Bracket::opened_by(first) else {
         let (source, start) = (cursor.source, cursor.index);
@@ -105,9 +116,9 @@ enum Next {
 }
 
 /// Expects the end of the text, whose value this is.
-fn expect_end(cursor: &Cursor<'_>, value: JsonValue) -> Result<JsonValue>
-    ensures memory { result ≢ Err Error.OutOfMemory }
-    ensures outcome { Reads (chars cursor.now.source.now) result
+fn expect_end(cursor: &Cursor<'_>, value: JsonValue) -> fault::Result<JsonValue>
+    ensures memory { result ≢ Err Stop.Memory }
+    ensures outcome { Reads cursor.now.source.now result
         (left cursor.now (after_value no_frames (view value))) }
 {
     if cursor.index < cursor.source.len() {
@@ -128,10 +139,10 @@ struct Parser<'a> {
 
 impl<'a> Parser<'a> {
     /// Reads the rest of the text: all that the containers hold, and the end.
-    fn read_to_end(&mut self) -> Result<JsonValue>
+    fn read_to_end(&mut self) -> fault::Result<JsonValue>
         requires before { IsBeforeItem self.old.cursor self.old.stacks }
         requires strict { self.old.stacks.strict ≡ self.old.cursor.reading.strict }
-        ensures { Reads (chars self.old.cursor.source.now) result
+        ensures { Reads self.old.cursor.source.now result
             (left self.old.cursor (before_item self.old.stacks)) }
     {
         loop {
@@ -148,7 +159,7 @@ impl<'a> Parser<'a> {
     /// Reads items of the innermost container: to its end, or to a container in it that isn't empty,
     /// of which it reads the opening bracket.
     #[inline(always)]
-    fn read_items(&mut self) -> Result<Option<Bracket>>
+    fn read_items(&mut self) -> fault::Result<Option<Bracket>>
         requires before { IsBeforeItem self.old.cursor self.old.stacks }
         requires strict { self.old.stacks.strict ≡ self.old.cursor.reading.strict }
         ensures { ReadsItems self.old.cursor self.old.stacks result self.new.cursor self.new.stacks }
@@ -161,7 +172,7 @@ impl<'a> Parser<'a> {
 
     /// The same in an array.
     #[inline(always)]
-    fn read_elements(&mut self) -> Result<Option<Bracket>>
+    fn read_elements(&mut self) -> fault::Result<Option<Bracket>>
         requires array { self.old.stacks.innermost.bracket ≡ Bracket.Array }
         requires before { IsBeforeItem self.old.cursor self.old.stacks }
         ensures { ReadsItems self.old.cursor self.old.stacks result self.new.cursor self.new.stacks }
@@ -177,7 +188,7 @@ impl<'a> Parser<'a> {
 
     /// The same in an object.
     #[inline(always)]
-    fn read_entries(&mut self) -> Result<Option<Bracket>>
+    fn read_entries(&mut self) -> fault::Result<Option<Bracket>>
         requires object { self.old.stacks.innermost.bracket ≡ Bracket.Object }
         requires before { IsBeforeItem self.old.cursor self.old.stacks }
         requires strict { self.old.stacks.strict ≡ self.old.cursor.reading.strict }
@@ -195,7 +206,7 @@ impl<'a> Parser<'a> {
 
     /// Reads the next key of the innermost container, and the colon.
     #[inline(always)]
-    fn read_key(&mut self) -> Result<()>
+    fn read_key(&mut self) -> fault::Result<()>
         requires object { self.old.stacks.innermost.bracket ≡ Bracket.Object }
         requires before { IsBeforeItem self.old.cursor self.old.stacks }
         requires strict { self.old.stacks.strict ≡ self.old.cursor.reading.strict }
@@ -212,7 +223,7 @@ impl<'a> Parser<'a> {
         let spelled = read_string(source, start + 1, &mut self.buffer)?;
         let (name, wide) = spelled.text(source, start + 1, &self.buffer);
         if self.stacks.push_key(name, wide)? {
-            return Err(duplicate_at(source, start));
+            return Err(Stop::Duplicate(start));
         }
         self.cursor.colon_at(spelled.end)
     }
@@ -221,7 +232,7 @@ impl<'a> Parser<'a> {
     /// that isn't empty only up to its opening bracket. Else also the comma or the closing bracket
     /// after the value.
     #[inline(always)]
-    fn read_value(&mut self, container: Bracket) -> Result<Next>
+    fn read_value(&mut self, container: Bracket) -> fault::Result<Next>
         requires bracket { self.old.stacks.innermost.bracket ≡ container }
         requires awaits { AwaitsValue container self.old.stacks.innermost }
         requires room { length self.old.stacks.around < self.old.cursor.reading.depth }
@@ -258,7 +269,7 @@ impl<'a> Parser<'a> {
     /// After the end of the innermost container: makes its value, and reads on after it, as long as
     /// containers end. The value of the outermost one, if it ended.
     #[inline(always)]
-    fn end_containers(&mut self) -> Result<Option<JsonValue>>
+    fn end_containers(&mut self) -> fault::Result<Option<JsonValue>>
         requires even { IsEven self.old.stacks.innermost.bracket self.old.stacks.innermost }
         requires room { length self.old.stacks.around < self.old.cursor.reading.depth }
         ensures strict { IfOk result (λ v. v ≡ None

@@ -13,11 +13,10 @@ ghost use Rattle.jzon.specs.Reading.{Reading};
 ghost use Rattle.jzon_base.specs.Tokens.{begin_array, begin_object, quotation_mark};
 
 use crate::bytes_at::{byte_at, has_byte, has_four};
-use crate::fault::fault_at;
+use crate::fault::{Result, Stop, fault_at};
 use crate::numeral::read_number;
 use crate::place::Place;
 use crate::string::{put_text, read_string};
-use jzon_base::error::{Error, Result};
 use jzon_tree::value::JsonValue;
 use std::alloc::Global;
 
@@ -38,7 +37,7 @@ pub(crate) fn put_primitive<P: Place>(
     requires no_object { first ≢ begin_object }
     requires room { P.has_room place.old }
     ensures end { IfOk result (λ end. (start < end) × IsCharBoundary source.now end) }
-    ensures memory { result ≡ Err Error.OutOfMemory → first ≡ quotation_mark }
+    ensures memory { result ≡ Err Stop.Memory → first ≡ quotation_mark }
     ensures outcome { Puts (P.takes place.old) place.old place.new result source.now start before
         (λ r fs. MayBegin r fs source.now start) }
 {
@@ -48,7 +47,7 @@ pub(crate) fn put_primitive<P: Place>(
     match first {
         b'-' => {
             if !byte_at(source, start + 1).is_ascii_digit() {
-                return stopped_at(source, start + 1);
+                return Err(fault_at(source, start + 1));
             }
             put_magnitude(source, start + 1, true, place)
         }
@@ -59,19 +58,8 @@ pub(crate) fn put_primitive<P: Place>(
             Ok(spelled.end)
         }
         b'n' | b't' | b'f' => put_literal(source, start, first, place),
-        _ => stopped_at(source, start),
+        _ => Err(fault_at(source, start)),
     }
-}
-
-/// The error of a text that has no valid continuation at `index`. Inlined, so that the stack slot
-/// of an error is cleared only where one is reported.
-#[inline(always)]
-fn stopped_at(source: &str, index: usize) -> Result<usize>
-    requires { IsCharBoundary source.now index }
-    ensures { MatchResult result (λ _. ⊥)
-        (λ e. Reports (chars source.now) e (fault_here (chars (drop index source.now)))) }
-{
-    Err(fault_at(source, index))
 }
 
 /// Puts the number whose first digit is at `start`. Returns the offset after it.
@@ -86,7 +74,7 @@ fn put_magnitude<P: Place>(
     requires digit { IsTrue (is_ascii_digit (slice_index source.now start)) }
     requires room { P.has_room place.old }
     ensures end { IfOk result (λ end. (start < end) × IsCharBoundary source.now end) }
-    ensures memory { result ≢ Err Error.OutOfMemory }
+    ensures memory { result ≢ Err Stop.Memory }
     ensures outcome { Puts (P.takes place.old) place.old place.new result source.now (start + 1)
         (λ fs. numeral_after_first fs negative (slice_index source.now start)) (λ r fs. ⊤) }
 {
@@ -105,7 +93,7 @@ fn put_literal<P: Place>(source: &str, start: usize, first: u8, place: &mut P) -
     requires word { (first ≡ letter_n) ⊎ (first ≡ letter_t) ⊎ (first ≡ letter_f) }
     requires room { P.has_room place.old }
     ensures end { IfOk result (λ end. (start < end) × IsCharBoundary source.now end) }
-    ensures memory { result ≢ Err Error.OutOfMemory }
+    ensures memory { result ≢ Err Stop.Memory }
     ensures outcome { Puts (P.takes place.old) place.old place.new result source.now start before
         (λ r fs. value_mark r fs ≡ None) }
 {
@@ -171,7 +159,7 @@ fn read_letters(source: &str, start: usize, letters: &[u8]) -> Result<usize>
     ensures outcome { (r : Reading) (fs : Frames) (v : Value) → MatchResult result
         (λ end. from r source.now (past_letter fs v letters.now) start
         ≡ from r source.now (after_value fs v) end)
-        (λ e. Reports (chars source.now) e (from r source.now
+        (λ e. Reports source.now e (from r source.now
         (past_letter fs v letters.now) start)) }
 {
     let mut index = start;

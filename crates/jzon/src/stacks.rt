@@ -15,8 +15,8 @@ ghost use Rattle.jzon_base.specs.Tokens.{begin_array, begin_object};
 ghost use Rattle.std.specs.Str.{IsCharBoundary};
 
 use crate::cursor::Bracket;
+use crate::fault;
 use crate::primitive::put_primitive;
-use jzon_base::error::{Error, Result};
 use jzon_base::key::Key;
 use jzon_base::keys::{self, KnownKeys};
 use jzon_tree::object::Object;
@@ -94,7 +94,7 @@ fn cut_tail<T>(
     stack: &mut Vec<T>,
     start: usize,
     is_outermost: bool,
-) -> std::result::Result<Vec<T>, AllocError>
+) -> Result<Vec<T>, AllocError>
     requires { start ≤ vec_len stack.old }
     ensures items { OnOk result (stack.new.items ≡ take start stack.old.items) }
     ensures tail { IfOk result (λ tail. tail.items ≡ drop start stack.old.items) }
@@ -114,7 +114,7 @@ fn cut_values(
     stack: &mut Vec<JsonValue>,
     start: usize,
     is_outermost: bool,
-) -> std::result::Result<Vec<JsonValue>, AllocError>
+) -> Result<Vec<JsonValue>, AllocError>
     requires { start ≤ vec_len stack.old }
     ensures items { OnOk result (stack.new.items ≡ take start stack.old.items) }
     ensures tail { IfOk result (λ tail. tail.items ≡ drop start stack.old.items) }
@@ -130,10 +130,7 @@ fn cut_values(
 /// The same where they keep the stack's block.
 #[cold]
 #[inline(never)]
-fn cut_long(
-    stack: &mut Vec<JsonValue>,
-    start: usize,
-) -> std::result::Result<Vec<JsonValue>, AllocError>
+fn cut_long(stack: &mut Vec<JsonValue>, start: usize) -> Result<Vec<JsonValue>, AllocError>
     requires { start ≤ vec_len stack.old }
     ensures items { OnOk result (stack.new.items ≡ take start stack.old.items) }
     ensures tail { IfOk result (λ tail. tail.items ≡ drop start stack.old.items) }
@@ -153,7 +150,7 @@ fn merge_tails(
     first_key: usize,
     values: &mut Vec<JsonValue>,
     first_value: usize,
-) -> std::result::Result<(), AllocError>
+) -> Result<(), AllocError>
     requires key { first_key ≤ vec_len keys.old }
     requires value { first_value ≤ vec_len values.old }
     requires even { length (drop first_value values.old.items)
@@ -181,14 +178,13 @@ fn merge_tails(
 }
 
 impl Stacks {
-    /// One open container, which is empty. The error is `OutOfMemory`.
-    pub(crate) fn new(alloc: Global, strict: bool, bracket: Bracket) -> Result<Stacks>
+    /// One open container, which is empty. The error is a failed allocation.
+    pub(crate) fn new(alloc: Global, strict: bool, bracket: Bracket) -> Result<Stacks, AllocError>
         ensures ok { IfOk result (λ stacks. stacks ≡ record {
           strict = strict;
           innermost = new_container bracket;
           around = [];
         }) }
-        ensures memory { IsOkUnless result Error.OutOfMemory }
     {
         let key_room = match bracket {
             Bracket::Array => 0,
@@ -224,14 +220,14 @@ impl Stacks {
         self.around.len() + 1
     }
 
-    /// Adds an empty container. The error is `OutOfMemory`.
+    /// Adds an empty container. The error is a failed allocation.
     #[inline(always)]
-    pub(crate) fn push_empty(&mut self, bracket: Bracket) -> Result<()>
+    pub(crate) fn push_empty(&mut self, bracket: Bracket) -> Result<(), AllocError>
         ensures ok { OnOk result ((v : JsonValue) × (view v ≡ empty_container bracket)
             × (self.new ≡ value_added self.old v)) }
-        ensures memory { IsOkUnless result Error.OutOfMemory }
     {
-        self.values.push(bracket.empty(self.alloc))?;
+        self.values.reserve(1)?;
+        self.values.push_reserved(bracket.empty(self.alloc));
         Ok(())
     }
 
@@ -244,7 +240,7 @@ impl Stacks {
         start: usize,
         first: u8,
         buffer: &mut String,
-    ) -> Result<usize>
+    ) -> fault::Result<usize>
         requires boundary { IsCharBoundary source.now start }
         requires first { first ≡ slice_index source.now start }
         requires no_array { first ≢ begin_array }
@@ -260,7 +256,7 @@ impl Stacks {
     /// Adds a key to the innermost container, which is an object, unless the reading rejects it: it
     /// is strict, and the object has the key. Whether it is rejected. `wide` begins with `name`.
     #[inline(always)]
-    pub(crate) fn push_key(&mut self, name: &str, wide: &str) -> Result<bool>
+    pub(crate) fn push_key(&mut self, name: &str, wide: &str) -> Result<bool, AllocError>
         requires object { self.old.innermost.bracket ≡ Bracket.Object }
         requires even { IsEven Bracket.Object self.old.innermost }
         requires wide { take (length name.now) wide.now ≡ name.now }
@@ -269,10 +265,9 @@ impl Stacks {
         ensures kept { OnOk result (KeepsAround self.old self.new) }
         ensures pushed { IfOk result (λ rejected. rejected ≡ false →
             HasKeyNext name.now self.old.innermost self.new.innermost) }
-        ensures memory { IsOkUnless result Error.OutOfMemory }
     {
         if self.strict {
-            return Ok(self.push_new_key(name, wide)?);
+            return self.push_new_key(name, wide);
         }
         if self.keys.len() == self.merge_at {
             self.merge()?;
@@ -282,7 +277,7 @@ impl Stacks {
     }
 
     /// The same in a strict reading.
-    fn push_new_key(&mut self, name: &str, wide: &str) -> Result<bool>
+    fn push_new_key(&mut self, name: &str, wide: &str) -> Result<bool, AllocError>
         requires strict { self.old.strict ≡ true }
         requires even { IsEven Bracket.Object self.old.innermost }
         requires wide { take (length name.now) wide.now ≡ name.now }
@@ -291,7 +286,6 @@ impl Stacks {
         ensures kept { OnOk result (KeepsAround self.old self.new) }
         ensures pushed { IfOk result (λ rejected. rejected ≡ false →
             HasKeyNext name.now self.old.innermost self.new.innermost) }
-        ensures memory { IsOkUnless result Error.OutOfMemory }
     {
         let mut known = mem::replace(&mut self.known, KnownKeys::new());
         let keys = &self.keys[self.first_key..];
@@ -303,14 +297,13 @@ impl Stacks {
         Ok(false)
     }
 
-    /// Merges the entries of equal keys of the innermost container. The error is `OutOfMemory`.
+    /// Merges the entries of equal keys of the innermost container. The error is a failed allocation.
     #[cold]
     #[inline(never)]
-    fn merge(&mut self) -> Result<()>
+    fn merge(&mut self) -> Result<(), AllocError>
         requires usual { self.old.strict ≡ false }
         requires even { IsEven Bracket.Object self.old.innermost }
         ensures merged { OnOk result (IsMerged self.old self.new) }
-        ensures memory { IsOkUnless result Error.OutOfMemory }
     {
         merge_tails(
             self.alloc,
@@ -326,12 +319,11 @@ impl Stacks {
         Ok(())
     }
 
-    /// Opens a container in the innermost one, whose next value it is. The error is `OutOfMemory`.
+    /// Opens a container in the innermost one, whose next value it is. The error is a failed allocation.
     #[inline(always)]
-    pub(crate) fn open(&mut self, bracket: Bracket) -> Result<()>
+    pub(crate) fn open(&mut self, bracket: Bracket) -> Result<(), AllocError>
         requires { AwaitsValue self.old.innermost.bracket self.old.innermost }
         ensures ok { OnOk result (self.new ≡ container_added self.old bracket) }
-        ensures memory { IsOkUnless result Error.OutOfMemory }
     {
         self.around.reserve(1)?;
         self.around.push_reserved(Frame {
@@ -348,9 +340,9 @@ impl Stacks {
         Ok(())
     }
 
-    /// The elements of the innermost container, which ends. The error is `OutOfMemory`.
+    /// The elements of the innermost container, which ends. The error is a failed allocation.
     #[inline(always)]
-    fn end_array(&mut self) -> Result<Vec<JsonValue>>
+    fn end_array(&mut self) -> Result<Vec<JsonValue>, AllocError>
         ensures values { IfOk result (λ values. values.items ≡ self.old.innermost.values) }
         ensures ok { OnOk result (self.new ≡ record {
           strict = self.old.strict;
@@ -361,7 +353,6 @@ impl Stacks {
           };
           around = self.old.around;
         }) }
-        ensures memory { IsOkUnless result Error.OutOfMemory }
     {
         if self.values.len() - self.first_value == 1 {
             let mut one = Vec::with_capacity(self.alloc, 1)?;
@@ -375,14 +366,13 @@ impl Stacks {
     }
 
     /// The object of the entries of the innermost container, which ends. The error is
-    /// `OutOfMemory`.
+    /// failed allocation.
     #[inline(always)]
-    fn end_object(&mut self) -> Result<Object>
+    fn end_object(&mut self) -> Result<Object, AllocError>
         requires object { self.old.innermost.bracket ≡ Bracket.Object }
         requires even { IsEven Bracket.Object self.old.innermost }
         ensures object { IfOk result (λ object. view_object object ≡ whole self.old.innermost) }
         ensures ok { OnOk result (self.new ≡ innermost_ended self.old) }
-        ensures memory { IsOkUnless result Error.OutOfMemory }
     {
         self.known = KnownKeys::new();
         let is_outermost = self.around.is_empty();
@@ -391,13 +381,12 @@ impl Stacks {
         Object::from_entries(self.alloc, keys, values)
     }
 
-    /// The value of the innermost container, which ends. The error is `OutOfMemory`.
+    /// The value of the innermost container, which ends. The error is a failed allocation.
     #[inline(always)]
-    fn end_innermost(&mut self) -> Result<JsonValue>
+    fn end_innermost(&mut self) -> Result<JsonValue, AllocError>
         requires { IsEven self.old.innermost.bracket self.old.innermost }
         ensures means { IfOk result (λ v. view v ≡ whole self.old.innermost) }
         ensures ok { OnOk result (self.new ≡ innermost_ended self.old) }
-        ensures memory { IsOkUnless result Error.OutOfMemory }
     {
         match self.bracket {
             Bracket::Array => Ok(JsonValue::Array(self.end_array()?)),
@@ -406,14 +395,13 @@ impl Stacks {
     }
 
     /// Ends the innermost container. If it is in another one, its value is added there. Else it is
-    /// returned. The error is `OutOfMemory`.
+    /// returned. The error is a failed allocation.
     #[inline(always)]
-    pub(crate) fn close(&mut self) -> Result<Option<JsonValue>>
+    pub(crate) fn close(&mut self) -> Result<Option<JsonValue>, AllocError>
         requires { IsEven self.old.innermost.bracket self.old.innermost }
         ensures outermost { IfOk result (λ v. IfSome v (λ w. (self.old.around ≡ [])
             × (view w ≡ whole self.old.innermost))) }
         ensures inner { IfOk result (λ v. v ≡ None → IsClosed self.old self.new) }
-        ensures memory { IsOkUnless result Error.OutOfMemory }
     {
         let value = self.end_innermost()?;
         let Some(frame) = self.around.pop() else {
@@ -424,7 +412,8 @@ impl Stacks {
         self.first_value -= frame.values;
         self.merge_at = frame.merge_at;
         self.known = frame.known;
-        self.values.push(value)?;
+        self.values.reserve(1)?;
+        self.values.push_reserved(value);
         Ok(None)
     }
 }

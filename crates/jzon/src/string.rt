@@ -3,7 +3,6 @@
 ghost use Rattle.std.specs.Prelude.{◌≡◌, ◌<◌, ◌≤◌, ◌+◌, ◌-◌, ◌++◌, ◌&&◌, ◌⊎◌, ◌↔◌, Contains, ℕ, List, [], length, drop, take, chars, IsTrue, IfOk, IsOk, IsOkUnless, SomeIff, MatchResult, OnOk, OnErr};
 ghost use Rattle.std.specs.Prelude.{slice_index, slice_range, string_bytes, if◌then◌else◌, false};
 ghost use Rattle.std.specs.Str.{IsCharBoundary};
-ghost use Rattle.jzon_base.specs.declared.error.Error.TheVariants.{OutOfMemory};
 ghost use Rattle.jzon_base.specs.Private.PlainBytes.{is_plain};
 ghost use Rattle.jzon_base.specs.Tokens.{escape};
 ghost use Rattle.jzon_tree.specs.Value.{text, kind_of};
@@ -12,12 +11,12 @@ ghost use Rattle.jzon.specs.Reading.{Reading};
 ghost use Rattle.jzon.specs.Grammar.{is_high, is_low, is_surrogate, code_unit};
 ghost use Rattle.jzon.specs.Meaning.{pair_char};
 ghost use Rattle.jzon.specs.Private.Quote.{EndsAtQuote, ReadsCharacter};
+ghost use Rattle.jzon.specs.declared.fault.Stop.TheVariants.{Memory};
 ghost use Rattle.jzon.specs.Private.Machine.{Role, string, between, slash, code, second, second_code, after_unit, move_pair, outcome_on, from, from_closed, Reports};
 
 use crate::bytes_at::{byte_at, has_byte};
-use crate::fault::fault_at;
+use crate::fault::{Result, Stop, fault_at};
 use crate::place::Place;
-use jzon_base::error::{Error, Result};
 use jzon_base::short::{MAX_LEN, Short};
 use jzon_base::util::escapes::{hex_value, meant_by};
 use jzon_base::util::plain::plain_len;
@@ -59,7 +58,7 @@ impl Spelled {
 }
 
 /// Puts a string value, with whose string `wide` begins: up to 30 bytes are stored inline, which
-/// never fails, and more are allocated. The error is `OutOfMemory`.
+/// never fails, and more are allocated. The error is `Memory`.
 #[inline(always)]
 pub(crate) fn put_text<P: Place>(
     alloc: Global,
@@ -72,7 +71,7 @@ pub(crate) fn put_text<P: Place>(
     ensures value { IfOk result (λ _. (v : JsonValue) × P.takes place.old v place.new
         × (view v ≡ text (kind_of content.now) content.now)) }
     ensures kept { OnErr result (place.new ≡ place.old) }
-    ensures memory { IsOkUnless result OutOfMemory }
+    ensures memory { IsOkUnless result Memory }
     ensures in_place { length content.now ≤ 30 → IsOk result }
 {
     if content.len() <= MAX_LEN {
@@ -98,8 +97,8 @@ pub(crate) fn read_string(source: &str, start: usize, buffer: &mut String) -> Re
         ≡ from_closed r source.now role
         (if s.is_escaped then string_bytes buffer.new else slice_range source.now start
         (s.end - 1)) s.end)
-        (λ e. (e ≡ OutOfMemory)
-        ⊎ Reports (chars source.now) e (from r source.now (string role [] between) start)) }
+        (λ e. (e ≡ Memory)
+        ⊎ Reports source.now e (from r source.now (string role [] between) start)) }
 {
     let stop = plain_end(source, start);
     if !has_byte(source, stop, b'\\') {
@@ -142,7 +141,7 @@ fn past_quote(source: &str, index: usize) -> Result<usize>
     ensures outcome { (r : Reading) (role : Role) (bs : List ℕ) → MatchResult result
         (λ end. from r source.now (string role bs between) index
         ≡ from_closed r source.now role bs end)
-        (λ e. Reports (chars source.now) e (from r source.now (string role bs between) index)) }
+        (λ e. Reports source.now e (from r source.now (string role bs between) index)) }
 {
     if has_byte(source, index, b'"') {
         Ok(index + 1)
@@ -161,7 +160,7 @@ fn read_escapes(source: &str, start: usize, buffer: &mut String) -> Result<usize
     ensures outcome { (r : Reading) (role : Role) → MatchResult result
         (λ end. from r source.now (string role (string_bytes buffer.old) between) start
         ≡ from_closed r source.now role (string_bytes buffer.new) end)
-        (λ e. (e ≡ OutOfMemory) ⊎ Reports (chars source.now) e
+        (λ e. (e ≡ Memory) ⊎ Reports source.now e
         (from r source.now (string role (string_bytes buffer.old) between) start)) }
 {
     let mut index = start;
@@ -174,7 +173,7 @@ fn read_escapes(source: &str, start: usize, buffer: &mut String) -> Result<usize
 }
 
 /// Adds the unescaped characters from `start` on to the buffer; returns the offset after them. The
-/// error is `OutOfMemory`. An escape at `start` is tested first, since escapes often follow one
+/// error is `Memory`. An escape at `start` is tested first, since escapes often follow one
 /// another.
 #[inline(always)]
 fn push_run(source: &str, start: usize, buffer: &mut String) -> Result<usize>
@@ -186,7 +185,7 @@ fn push_run(source: &str, start: usize, buffer: &mut String) -> Result<usize>
     ensures outcome { (r : Reading) (role : Role) → IfOk result (λ end.
         from r source.now (string role (string_bytes buffer.old) between) start
         ≡ from r source.now (string role (string_bytes buffer.new) between) end) }
-    ensures memory { IsOkUnless result OutOfMemory }
+    ensures memory { IsOkUnless result Memory }
 {
     if has_byte(source, start, b'\\') {
         return Ok(start);
@@ -241,7 +240,7 @@ fn read_second(source: &str, start: usize, first: u32) -> Result<(char, usize)>
     let unit = read_hex(source, start + 2)?;
     match paired_char(first, unit) {
         Some(ch) => Ok((ch, start + 6)),
-        None => Err(Error::FailedUtf8Parsing),
+        None => Err(Stop::Surrogates),
     }
 }
 
@@ -266,13 +265,13 @@ fn read_hex(source: &str, start: usize) -> Result<u32>
     ensures first { (r : Reading) (role : Role) (bs : List ℕ) → MatchResult result
         (λ u. from r source.now (string role bs (code 3 0)) start
         ≡ from r source.now (after_unit (is_surrogate u) role bs u) (start + 4))
-        (λ e. Reports (chars source.now) e (from r source.now (string role bs (code 3 0)) start)) }
+        (λ e. Reports source.now e (from r source.now (string role bs (code 3 0)) start)) }
     ensures second { (r : Reading) (role : Role) (bs : List ℕ) (h : ℕ) → MatchResult result
         (λ u. from r source.now (string role bs (second_code h 3 0)) start
         ≡ outcome_on (move_pair (is_high h && is_low u) role bs h u)
         (λ p. from r source.now p (start + 4))
         (chars (drop (start + 3) source.now)))
-        (λ e. Reports (chars source.now) e (from r source.now (string role bs
+        (λ e. Reports source.now e (from r source.now (string role bs
         (second_code h 3 0)) start)) }
 {
     let mut unit = 0;

@@ -25,7 +25,7 @@ use jzon_base::error::{Error, Result};
 pub use jzon_base::key::Key;
 use jzon_base::keys;
 use jzon_base::pairs::{self, Pairs};
-use std::alloc::Global;
+use std::alloc::{AllocError, Global};
 use std::convert::AsStr;
 use std::iter::FusedIterator;
 use std::{slice, vec};
@@ -119,14 +119,17 @@ impl Object {
     }
 
     /// The object of the entries of keys and as many values, put one after the other, as by
-    /// `from_pairs`. Fails with `OutOfMemory` only.
+    /// `from_pairs`. The error is a failed allocation.
     #[doc(hidden)]
     #[inline(always)]
-    pub fn from_entries(alloc: Global, keys: Vec<Key>, values: Vec<JsonValue>) -> Result<Object>
+    pub fn from_entries(
+        alloc: Global,
+        keys: Vec<Key>,
+        values: Vec<JsonValue>,
+    ) -> std::result::Result<Object, AllocError>
         requires even { length values.items ≡ length keys.items }
         ensures pairs { IfOk result (λ object. entries_of object
             ≡ put_each (zip keys.items values.items)) }
-        ensures memory { IsOkUnless result Error.OutOfMemory }
     {
         let pairs = Pairs::from_entries(alloc, keys, values)?;
         Ok(Object { pairs })

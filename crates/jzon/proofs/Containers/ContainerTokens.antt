@@ -2,7 +2,8 @@
 use Rattle.jzon_base.proofs.Common.{◌≡◌, ◌≢◌, ◌∙◌, ℕ, ◌+◌, ◌<◌, ◌≤◌, List, [], length, drop, get_or, refl, arith, None}
 use Rattle.jzon_base.proofs.Common.{Some, sym, ap, true, lit<, chars}
 use Rattle.std.proofs.lemmas.Bool.{le-leb}
-use Rattle.jzon_base.specs.declared.error.Error.TheVariants.{UnexpectedEndOfJson, ExceededDepthLimit}
+use Rattle.jzon.specs.declared.fault.Stop.{Stop}
+use Rattle.jzon.specs.declared.fault.Stop.TheVariants.{Limit}
 use Rattle.jzon_tree.specs.Value.{Value, array, no_values, object, no_pairs}
 use Rattle.jzon.specs.Private.Brackets.{opener, closer, empty_container, innermost_bracket, after_opener, after_comma}
 use Rattle.jzon.specs.Private.Brackets.{after_closer}
@@ -11,7 +12,7 @@ use Rattle.jzon.specs.Private.Classes.{class_of}
 use Rattle.jzon.specs.Private.Cursor.{left, next_byte, IsPast, IsAfter}
 use Rattle.jzon.specs.Private.Machine.{EntriesSoFar, Frames, no_frames, array_frame, object_frame, as_key, between, before}
 use Rattle.jzon.specs.Private.Machine.{before_key, string, after_key, after_value, frames_depth, value_mark, key_mark}
-use Rattle.jzon.specs.Private.Machine.{from, from_closed, left_at, fault_here, ReportsUnlessMemory, State, Move, go}
+use Rattle.jzon.specs.Private.Machine.{from, from_closed, left_at, fault_here, Reports, ReportsUnlessMemory, State, Move, go}
 use Rattle.jzon.specs.Private.Machine.{move, allows_whitespace, move_before, move_before_key, move_after_key}
 use Rattle.jzon.specs.Private.Machine.{move_after_value}
 use Rattle.jzon.specs.declared.cursor.Bracket.{Bracket}
@@ -81,20 +82,21 @@ empty_closes Object t u fs past e =
     leads closes_object t u (before_key fs []) (after_value fs (object no_pairs))
     (λ k. move_before_key t.reading k fs [] (left_at t.source.now t.index)) refl refl (lit< tt) (lit< tt) refl past e
 
-pub left_open : (b : Bracket) (t : Cursor) (fs : Frames) → length t.source.now ≤ t.index
-    → ReportsUnlessMemory (chars t.source.now) UnexpectedEndOfJson (left t (after_opener b fs))
-left_open Array t fs le = reported_end t.reading t.source.now t.index (before (array_frame fs [])) _ refl le refl
-left_open Object t fs le = reported_end t.reading t.source.now t.index (before_key fs []) _ refl le refl
+pub left_open : (b : Bracket) (t : Cursor) (fs : Frames) (e : Stop) → length t.source.now ≤ t.index
+    → Reports t.source.now e (fault_here (chars (drop t.index t.source.now)))
+    → ReportsUnlessMemory t.source.now e (left t (after_opener b fs))
+left_open Array t fs e le = reported_end t.reading t.source.now t.index (before (array_frame fs [])) e le refl
+left_open Object t fs e le = reported_end t.reading t.source.now t.index (before_key fs []) e le refl
 
 pub item_too_deep : (b : Bracket) (t : Cursor) (fs : Frames) → t.index < length t.source.now → next_byte t ≢ closer b
     → t.reading.depth ≤ frames_depth fs
-    → ReportsUnlessMemory (chars t.source.now) ExceededDepthLimit (left t (after_opener b fs))
+    → ReportsUnlessMemory t.source.now Limit (left t (after_opener b fs))
 item_too_deep Array t fs lt n le =
-    reported_deep (chars t.source.now) (chars (drop t.index t.source.now)) _
+    reported_deep t.source.now (chars (drop t.index t.source.now)) _
     (deep_element t.reading t.source.now t.index fs (utf8_of t) t.boundary lt (t.past_whitespace lt) n
     (le-leb t.reading.depth (frames_depth fs) le))
 item_too_deep Object t fs lt n le =
-    reported_deep (chars t.source.now) (chars (drop t.index t.source.now)) _
+    reported_deep t.source.now (chars (drop t.index t.source.now)) _
     (deep_key t.reading t.source.now t.index fs (utf8_of t) t.boundary lt (t.past_whitespace lt) n
     (le-leb t.reading.depth (frames_depth fs) le))
 

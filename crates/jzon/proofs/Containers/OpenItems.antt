@@ -2,7 +2,7 @@
 use Rattle.jzon_base.proofs.Common.{◌≡◌, ◌≢◌, ◌∙◌, ◌+◌, ◌<◌, ℕ, Bool, true, false, cond, List, [], ◌∷◌, length, refl}
 use Rattle.jzon_base.proofs.Common.{sym, ap, subst, arith, None, Some, Result, Ok, Err, zip, fold, bytes_eq}
 use Rattle.jzon_base.specs.PairList.{put, put_each}
-use Rattle.jzon_base.specs.declared.error.Error.{Error}
+use Rattle.jzon.specs.declared.fault.Stop.{Stop}
 use Rattle.jzon_tree.specs.View.{view, viewed}
 use Rattle.jzon_tree.specs.declared.value.JsonValue.{JsonValue}
 use Rattle.jzon.specs.Private.Brackets.{innermost_bracket, after_opener, after_comma, after_closer}
@@ -119,7 +119,7 @@ key_here s u k e keeps next =
     ∙ ap (λ b. open_as b (frames_around u) u.innermost) (sym (next.bracket ∙ e))
 
 -- the same with another form of the state after it
-pub goes_as : {A : Type 0} (t u : Cursor) (p : State) (result : Result A Error) (f g : A → State)
+pub goes_as : {A : Type 0} (t u : Cursor) (p : State) (result : Result A Stop) (f g : A → State)
     → ((x : A) → f x ≡ g x) → GoesOn t p result u f → GoesOn t p result u g
 goes_as t u p (Ok x) f g e h = (h.0, h.1 ∙ ap (left u) (e x))
 goes_as t u p (Err e) f g same h = h

@@ -177,11 +177,11 @@ with_parts s ks vs = record {
 }
 
 -- all but the part of the innermost container is that of s
-KeepsBelow-of : (s : Inside) (ks : Vec (List ℕ) Global) (vs : Vec JsonValue Global) (known : List (List (ℕ × ℕ)))
+KeepsBelow-innermost_changed : (s : Inside) (ks : Vec (List ℕ) Global) (vs : Vec JsonValue Global) (known : List (List (ℕ × ℕ)))
     (merge_at : ℕ) → take s.first_key s.keys.items ≡ take s.first_key ks.items → s.first_key ≤ vec_len ks
     → s.first_value ≤ vec_len vs → (s.strict ≡ true → IsTable (drop s.first_key ks.items) known)
     → KeepsBelow s (record s { keys = ks; values = vs; known = known; merge_at = merge_at })
-KeepsBelow-of s ks vs known merge_at kept k v table = record {
+KeepsBelow-innermost_changed s ks vs known merge_at kept k v table = record {
   strict = refl;
   around = refl;
   first_key = refl;
@@ -196,7 +196,7 @@ KeepsBelow-of s ks vs known merge_at kept k v table = record {
 KeepsBelow-values : (s : Inside) (vs : Vec JsonValue Global) → IsLaidOut s → s.first_value ≤ vec_len vs
     → KeepsBelow s (record s { values = vs })
 KeepsBelow-values s vs h within =
-    KeepsBelow-of s s.keys vs s.known s.merge_at refl h.keys_within within (λ strict. (h.known strict).1)
+    KeepsBelow-innermost_changed s s.keys vs s.known s.merge_at refl h.keys_within within (λ strict. (h.known strict).1)
 
 pub IsLaidOut-values : (s : Inside) (vs : Vec JsonValue Global) → IsLaidOut s → s.first_value ≤ vec_len vs
     → IsLaidOut (record s { values = vs })
@@ -278,7 +278,7 @@ pub KeepsBelow-cut_keys : (s : Inside) (ks : Vec (List ℕ) Global) (vs : Vec Js
     → s.first_value ≤ vec_len vs → known ≡ []
     → KeepsBelow s (record s { keys = ks; values = vs; known = known })
 KeepsBelow-cut_keys s ks vs known h cut within none =
-    KeepsBelow-of s ks vs known s.merge_at (cut_again s.first_key s.keys.items ks.items cut)
+    KeepsBelow-innermost_changed s ks vs known s.merge_at (cut_again s.first_key s.keys.items ks.items cut)
     (omega (
       arith,
       ks.ok.0,
@@ -500,7 +500,7 @@ pub KeepsBelow-usual : (s : Inside) (ks : Vec (List ℕ) Global) (vs : Vec JsonV
     → take s.first_key s.keys.items ≡ take s.first_key ks.items
     → KeepsBelow s (record s { keys = ks; values = vs; merge_at = merge_at })
 KeepsBelow-usual s ks vs merge_at usual k v kept =
-    KeepsBelow-of s ks vs s.known merge_at kept k v (λ strict. absurd (false≢true (sym usual ∙ strict)))
+    KeepsBelow-innermost_changed s ks vs s.known merge_at kept k v (λ strict. absurd (false≢true (sym usual ∙ strict)))
 
 -- ---- a key is pushed
 
@@ -510,7 +510,7 @@ KeepsBelow-key : (s : Inside) (ks : Vec (List ℕ) Global) (known : List (List (
     → KeepsBelow s (record s { keys = ks; known = known })
 KeepsBelow-key s ks known k h pushed table =
     let within : s.first_key ≤ length s.keys.items = omega (arith, h.keys_within, s.keys.ok.0) in
-    KeepsBelow-of s ks s.values known s.merge_at
+    KeepsBelow-innermost_changed s ks s.values known s.merge_at
     (sym (ap (take s.first_key) pushed ∙ take-append-le s.first_key s.keys.items (k ∷ []) within))
     (omega (arith, within, ap length pushed, length-append s.keys.items (k ∷ []), s.keys.ok.0, ks.ok.0)) h.values_within
     (λ strict. subst (λ ls. IsTable ls known)

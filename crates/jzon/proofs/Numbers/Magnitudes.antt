@@ -9,7 +9,6 @@ use Rattle.jzon_base.specs.Digits.{IsDigit, dropped, kept_fraction, read_number}
 use Rattle.jzon_base.specs.DigitLimits.{AreFewEnough, IsFirstTooMany}
 use Rattle.jzon_base.specs.declared.digits.DigitFault.{DigitFault}
 use Rattle.jzon_base.specs.declared.digits.DigitFault.TheVariants.{Whole, Fraction}
-use Rattle.jzon_base.specs.declared.error.Error.TheVariants.{ExceededDepthLimit}
 use Rattle.jzon_base.proofs.Kept.{kept_len_is_longest}
 use Rattle.jzon_tree.specs.Value as value
 use Rattle.jzon.specs.Reading.{Reading, usual}
@@ -17,6 +16,7 @@ use Rattle.jzon.specs.Grammar.{AreDigits, IsDigits, is_exponent_letter}
 use Rattle.jzon.specs.Spelling.{digit}
 use Rattle.jzon.specs.Fault.{limit}
 use Rattle.jzon.specs.Private.Classes.{pointed, lettered}
+use Rattle.jzon.specs.declared.fault.Stop.TheVariants.{Limit}
 use Rattle.jzon.specs.Private.Machine.{Frames, numeral, after_value, Outcome, refused, outcome, from, Reports}
 use Rattle.jzon.specs.Private.Numerals.{after_first, LeadsTo, MissesDigit, HasTooMany}
 use Rattle.jzon.proofs.Numbers.DigitRuns.{refuse_fraction}
@@ -91,8 +91,8 @@ pub record ReadsMagnitude (bs : List ℕ) (i : ℕ) (ws ds : List ℕ) (e : ℕ)
   pub refuses : (f : DigitFault) → IsFirstTooMany ws ds f → HasTooMany bs i
 
 -- this error reports a fault at a digit
-reports_digit : (t rest : List ℕ) (o : Outcome) → o ≡ refused (limit digit) rest → Reports t ExceededDepthLimit o
-reports_digit t rest o e = subst (Reports t ExceededDepthLimit) (sym e) refl
+reports_digit : (t rest : List ℕ) (o : Outcome) → o ≡ refused (limit digit) rest → Reports t Limit o
+reports_digit t rest o e = subst (Reports t Limit) (sym e) (tt, refl)
 
 pub letter_is_ascii : (c : ℕ) → is_exponent_letter c ≡ true → c < 128
 letter_is_ascii c h = grind (arith, nat_tests)
@@ -105,7 +105,7 @@ whole_too_many : (bs : List ℕ) (i : ℕ) (ws ds : List ℕ) → WholeStands bs
 unfolding from
 whole_too_many bs i ws ds w many r fs negative =
     let k = (w.reads r).refuses fs negative ds many in
-    reports_digit (chars bs) k.0 _ k.1
+    reports_digit bs k.0 _ k.1
 
 pub reads_whole_alone : (bs : List ℕ) (i : ℕ) (ws : List ℕ) → IsUtf8 bs → WholeStands bs i ws
     → ((i + length ws < length bs) × (get_or bs (i + length ws) 0 ≡ 46) → ⊥)
@@ -150,11 +150,11 @@ to_point bs i p ws ds u w at lt is_point few r fs negative =
 
 fraction_too_many : (bs : List ℕ) (j : ℕ) (ws ds : List ℕ) → AreDigitsAt bs j ds → 32769 ≤ kept_fraction ws ds
     → (r : Reading) (fs : Frames) (negative : Bool)
-    → Reports (chars bs) ExceededDepthLimit (from r bs (numeral fs negative (pointed ws)) j)
+    → Reports bs Limit (from r bs (numeral fs negative (pointed ws)) j)
 unfolding from
 fraction_too_many bs j ws ds k many r fs negative =
     let some : 0 < length ds = omega (arith, (kept_len_is_longest (ws ++ ds)).within, length-append ws ds) in
-    reports_digit (chars bs) (drop 32768 ds ++ chars (drop (j + length ds) bs)) _
+    reports_digit bs (drop 32768 ds ++ chars (drop (j + length ds) bs)) _
     (ap (λ cs. outcome r cs (numeral fs negative (pointed ws))) k.split
     ∙ refuse_fraction r fs negative ws ds (chars (drop (j + length ds) bs)) (some_digits ds k.digits some) many)
 
@@ -199,7 +199,7 @@ reads_whole_and_fraction bs i p ws ds u w at lt is_point same =
     too_many : AreDigitsAt bs (p + 1) ds → (f : DigitFault) → IsFirstTooMany ws ds f → HasTooMany bs i
     too_many k (Whole n) h r fs negative = whole_too_many bs i ws ds w h.0 r fs negative
     too_many k (Fraction n) h r fs negative =
-        subst (Reports (chars bs) ExceededDepthLimit)
+        subst (Reports bs Limit)
         (sym (to_point bs i p ws ds u w at lt is_point (omega (arith, h.0))
         r fs negative))
         (fraction_too_many bs (p + 1) ws ds k h.0 r fs negative)

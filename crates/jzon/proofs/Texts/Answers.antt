@@ -1,6 +1,6 @@
 -- The result of a parser that returns the automaton's outcome (`answers_of`): the value that the text means, or its
 -- error. And the error of one text, by computation (`refused_error`).
-use Rattle.jzon_base.proofs.Common.{inl, inr, ◌≡◌, ℕ, ◌-◌, List, length, Result, Ok, Err, subst, sym, ◌∙◌, refl, IfOk}
+use Rattle.jzon_base.proofs.Common.{inl, inr, ◌≡◌, ℕ, ◌-◌, List, length, Result, Ok, Err, subst, sym, ◌∙◌, refl, IfOk, chars}
 use Rattle.jzon_base.proofs.Common.{IfErr}
 use Rattle.jzon_base.specs.declared.error.Error.{Error}
 use Rattle.jzon_base.specs.declared.error.Error.TheVariants.{ExceededDepthLimit}
@@ -9,7 +9,9 @@ use Rattle.jzon_tree.specs.declared.value.JsonValue.{JsonValue}
 use Rattle.jzon.specs.Reading.{Reading}
 use Rattle.jzon.specs.Spelling.{deep, digit}
 use Rattle.jzon.specs.Fault.{Fault, limit, error_at, IsErrorOf}
-use Rattle.jzon.specs.Private.Machine.{no_frames, before, Outcome, meant, refused, outcome, Reads}
+use Rattle.jzon.specs.Private.Machine.{no_frames, before, Outcome, meant, refused, outcome, from, Reads}
+use Rattle.jzon.specs.Private.Stops.{reported_error}
+use Rattle.jzon.specs.declared.fault.Stop.{Stop}
 use Rattle.jzon.specs.Answer.{IsMeaningOf, IsReadable, IsErrorUnlessMemory}
 use Rattle.jzon.proofs.Texts.Verdict.{Verdict, answers}
 use Rattle.jzon.proofs.ReadBack.MeaningHeld.{meaning_held}
@@ -19,18 +21,26 @@ abbrev pub Answers : Reading → List ℕ → Result JsonValue Error → Type 0
 Answers r t (Ok v) = IsMeaningOf r t v
 Answers r t (Err e) = IsErrorUnlessMemory r t e
 
-answers_by : (r : Reading) (t : List ℕ) (result : Result JsonValue Error) (o : Outcome) → Verdict r t o
-    → Reads t result o → Answers r t result
-answers_by r t (Ok v) (meant w) reported read =
-    let same : w ≡ view v = cc in (reported.0, reported.1, sym (reported.2 ∙ same))
-answers_by r t (Ok v) (refused f rest) reported read = absurd (cc)
-answers_by r t (Err e) o reported (inl memory) = inl memory
-answers_by r t (Err e) (meant w) reported (inr reports) = absurd reports
-answers_by r t (Err e) (refused f rest) reported (inr reports) = inr (length t - length rest, f, reported, reports)
+-- the result of the parser, whose errors have no line and column yet, as that of a call
+abbrev pub with_errors : List ℕ → Result JsonValue Stop → Result JsonValue Error
+with_errors bytes (Ok v) = Ok v
+with_errors bytes (Err e) = Err (reported_error bytes e)
 
-pub answers_of : (r : Reading) (t : List ℕ) (result : Result JsonValue Error)
-    → Reads t result (outcome r t (before no_frames)) → Answers r t result
-answers_of r t result read = answers_by r t result (outcome r t (before no_frames)) (answers r t) read
+answers_by : (r : Reading) (bytes : List ℕ) (result : Result JsonValue Stop) (o : Outcome)
+    → Verdict r (chars bytes) o → Reads bytes result o → Answers r (chars bytes) (with_errors bytes result)
+answers_by r bytes (Ok v) (meant w) verdict read =
+    let same : w ≡ view v = cc in (verdict.0, verdict.1, sym (verdict.2 ∙ same))
+answers_by r bytes (Ok v) (refused f rest) verdict read = absurd (cc)
+answers_by r bytes (Err e) o verdict (inl memory) = rw memory (inl refl)
+answers_by r bytes (Err e) (meant w) verdict (inr reports) = absurd reports
+answers_by r bytes (Err e) (refused f rest) verdict (inr reports) =
+    inr (length (chars bytes) - length rest, f, verdict, reports.1)
+
+pub answers_of : (r : Reading) (bytes : List ℕ) (result : Result JsonValue Stop)
+    → Reads bytes result (from r bytes (before no_frames) 0) → Answers r (chars bytes) (with_errors bytes result)
+unfolding from
+answers_of r bytes result read =
+    answers_by r bytes result (outcome r (chars bytes) (before no_frames)) (answers r (chars bytes)) read
 
 -- the same, clause by clause
 pub value_of : (r : Reading) (t : List ℕ) (result : Result JsonValue Error) → Answers r t result

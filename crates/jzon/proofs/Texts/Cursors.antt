@@ -1,9 +1,9 @@
 -- From one offset of the parser's cursor to a later one: the outcome of the rest of the text in the old state is the
 -- outcome of what is left now in the new state.
-use Rattle.jzon_base.proofs.Common.{◌≡◌, ℕ, ◌<◌, ◌≤◌, List, true, refl, sym, subst, ◌∙◌, arith, Result, Ok, Err, chars}
+use Rattle.jzon_base.proofs.Common.{◌≡◌, ℕ, ◌<◌, ◌≤◌, List, true, refl, sym, subst, ◌∙◌, arith, Result, Ok, Err}
 use Rattle.jzon_base.proofs.Common.{IsErrAnd, IsUtf8, IsCharBoundary}
 use Rattle.std.proofs.lemmas.Str.{IsUtf8-had}
-use Rattle.jzon_base.specs.declared.error.Error.{Error}
+use Rattle.jzon.specs.declared.fault.Stop.{Stop}
 use Rattle.jzon_tree.specs.declared.value.JsonValue.{JsonValue}
 use Rattle.jzon.specs.Private.Cursor.{left, IsPast, IsAfter, GoesOn}
 use Rattle.jzon.specs.Private.Machine.{State, Outcome, allows_whitespace, from, Reads, ReportsUnlessMemory}
@@ -49,24 +49,24 @@ goes_after q h k = (
   h.same ∙ k.1,
 )
 
-pub reported_on : {t m : Cursor} {o p : State} (e : Error) → Reached t o m p
-    → ReportsUnlessMemory (chars m.source.now) e (left m p) → ReportsUnlessMemory (chars t.source.now) e (left t o)
-reported_on {t} {m} {o} {p} e h k = reported_again (chars t.source.now) e _ _ h.same
-    (subst (λ bs. ReportsUnlessMemory (chars bs) e (left m p)) h.text k)
+pub reported_on : {t m : Cursor} {o p : State} (e : Stop) → Reached t o m p
+    → ReportsUnlessMemory m.source.now e (left m p) → ReportsUnlessMemory t.source.now e (left t o)
+reported_on {t} {m} {o} {p} e h k = reported_again t.source.now e _ _ h.same
+    (subst (λ bs. ReportsUnlessMemory bs e (left m p)) h.text k)
 
-pub goes_on : {A : Type 0} {t m : Cursor} {o p : State} (u : Cursor) (result : Result A Error) (next : A → State)
+pub goes_on : {A : Type 0} {t m : Cursor} {o p : State} (u : Cursor) (result : Result A Stop) (next : A → State)
     → Reached t o m p → GoesOn m p result u next → GoesOn t o result u next
 goes_on u (Ok x) next h k = goes_after (next x) h k
 goes_on u (Err e) next h k = reported_on e h k
 
 -- an error that is propagated
-pub fails_on : {A : Type 0} {t m : Cursor} {o p : State} {e : Error} (u : Cursor) (result : Result A Error)
+pub fails_on : {A : Type 0} {t m : Cursor} {o p : State} {e : Stop} (u : Cursor) (result : Result A Stop)
     (next : A → State) → IsErrAnd result (λ x. x ≡ e) → Reached t o m p
-    → ReportsUnlessMemory (chars m.source.now) e (left m p) → GoesOn t o result u next
+    → ReportsUnlessMemory m.source.now e (left m p) → GoesOn t o result u next
 fails_on u (Ok x) next is h k = absurd is
 fails_on u (Err x) next is h k = rw is (reported_on _ h k)
 
-pub reads_from : (bytes : List ℕ) (o : Outcome) (m : Cursor) (p : State) (result : Result JsonValue Error)
-    → m.source.now ≡ bytes → o ≡ left m p → Reads (chars m.source.now) result (left m p) → Reads (chars bytes) result o
+pub reads_from : (bytes : List ℕ) (o : Outcome) (m : Cursor) (p : State) (result : Result JsonValue Stop)
+    → m.source.now ≡ bytes → o ≡ left m p → Reads m.source.now result (left m p) → Reads bytes result o
 reads_from bytes o m p result text same k =
-    subst (λ z. Reads (chars bytes) result z) (sym same) (subst (λ bs. Reads (chars bs) result (left m p)) text k)
+    subst (λ z. Reads bytes result z) (sym same) (subst (λ bs. Reads bs result (left m p)) text k)

@@ -1,13 +1,17 @@
 -- The error of a text that stops at an offset, from the bytes before it and after it.
 use Rattle.jzon_base.proofs.Common.{◌≡◌, ℕ, ◌+◌, ◌-◌, ◌≤◌, refl, List, [], ◌∷◌, ◌++◌, length, take, drop, get_or, sym}
-use Rattle.jzon_base.proofs.Common.{ap, subst, ◌∙◌, arith, take-append-drop, slice_get, Some, chars, IsUtf8}
+use Rattle.jzon_base.proofs.Common.{ap, subst, ◌∙◌, arith, take-append-drop, chars, IsUtf8}
 use Rattle.jzon_base.proofs.Common.{slice_range, IsCharBoundary, drop-drop, chars-append, IsUtf8-take, IsUtf8-between}
 use Rattle.jzon_base.proofs.Common.{get_or-append_seam, take-append_seam}
 use Rattle.std.proofs.lemmas.List.{length-append}
+use Rattle.jzon_base.specs.declared.error.Error.{Error}
 use Rattle.jzon_base.specs.declared.error.Error.TheVariants.{UnexpectedCharacter, DuplicateKey}
 use Rattle.jzon.specs.Spelling.{duplicate}
 use Rattle.jzon.specs.Fault.{character, limit, line, column, error_at}
-use Rattle.jzon.specs.Private.Machine.{Reports, refused, left_at, fault_here}
+use Rattle.jzon.specs.Private.Machine.{Reports, Outcome, meant, refused, left_at, fault_here}
+use Rattle.jzon.specs.Private.Stops.{IsAtBoundary, error_between, reported_error}
+use Rattle.jzon.specs.declared.fault.Stop.{Stop}
+use Rattle.jzon.specs.declared.fault.Stop.TheVariants.{At, Duplicate}
 
 -- the characters of a text are those before a boundary and those after it
 pub chars_split : (bs : List ℕ) (i : ℕ) → IsUtf8 bs → IsCharBoundary bs i
@@ -15,26 +19,30 @@ pub chars_split : (bs : List ℕ) (i : ℕ) → IsUtf8 bs → IsCharBoundary bs 
 chars_split bs i u at = ap chars (sym (take-append-drop i bs))
     ∙ chars-append (take i bs) (drop i bs) (IsUtf8-take bs i u at)
 
-reports_after : (f rest : List ℕ) (c : ℕ) → slice_get rest 0 ≡ Some c
-    → Reports (f ++ rest) (UnexpectedCharacter c (line f) (column f)) (fault_here rest)
-reports_after f [] c e = absurd (cc)
-reports_after f (x ∷ rest) c e =
-    let same : x ≡ c = cc in
-    let n : length (f ++ (x ∷ rest)) - length (x ∷ rest) ≡ length f = omega (arith, length-append f (x ∷ rest)) in
-    let here : get_or (f ++ (x ∷ rest)) (length f) 0 ≡ c = get_or-append_seam f x rest 0 ∙ same in
-    let prefix : take (length f) (f ++ (x ∷ rest)) ≡ f = take-append_seam f (x ∷ rest) in
-    subst (λ k. UnexpectedCharacter c (line f) (column f) ≡ error_at (f ++ (x ∷ rest)) k character) (sym n)
-    (ap (λ z. UnexpectedCharacter z (line f) (column f)) (sym here)
-    ∙ ap (λ z. UnexpectedCharacter (get_or (f ++ (x ∷ rest)) (length f) 0) (line z) (column z)) (sym prefix))
+-- the error reports this outcome of a text
+abbrev Tells : List ℕ → Error → Outcome → Type 0
+Tells t e (meant v) = ⊥
+Tells t e (refused f rest) = e ≡ error_at t (length t - length rest) f
 
-pub reports_character : (bs : List ℕ) (i c l k : ℕ) → IsUtf8 bs → IsCharBoundary bs i
-    → slice_get (chars (drop i bs)) 0 ≡ Some c → l ≡ line (chars (take i bs)) → k ≡ column (chars (take i bs))
-    → Reports (chars bs) (UnexpectedCharacter c l k) (fault_here (chars (drop i bs)))
-reports_character bs i c l k u at e el ek =
-    let split = chars_split bs i u at in
-    rw (el, ek) (subst (λ t. Reports t (UnexpectedCharacter c (line (chars (take i bs))) (column (chars (take i bs))))
-    (fault_here (chars (drop i bs)))) (sym split)
-    (reports_after (chars (take i bs)) (chars (drop i bs)) c e))
+tells_between : (f rest : List ℕ) → Tells (f ++ rest) (error_between f rest) (fault_here rest)
+tells_between f [] = refl
+tells_between f (c ∷ rest) =
+    let n : length (f ++ (c ∷ rest)) - length (c ∷ rest) ≡ length f = omega (arith, length-append f (c ∷ rest)) in
+    let here : get_or (f ++ (c ∷ rest)) (length f) 0 ≡ c = get_or-append_seam f c rest 0 in
+    let prefix : take (length f) (f ++ (c ∷ rest)) ≡ f = take-append_seam f (c ∷ rest) in
+    subst (λ k. UnexpectedCharacter c (line f) (column f) ≡ error_at (f ++ (c ∷ rest)) k character) (sym n)
+    (ap (λ z. UnexpectedCharacter z (line f) (column f)) (sym here)
+    ∙ ap (λ z. UnexpectedCharacter (get_or (f ++ (c ∷ rest)) (length f) 0) (line z) (column z)) (sym prefix))
+
+reports_by : (bs : List ℕ) (e : Stop) (o : Outcome) → IsAtBoundary bs e → Tells (chars bs) (reported_error bs e) o → Reports bs e o
+reports_by bs e (meant v) at h = h
+reports_by bs e (refused f rest) at h = (at, h)
+
+pub reports_at : (bs : List ℕ) (i : ℕ) → IsUtf8 bs → IsCharBoundary bs i
+    → Reports bs (At i) (fault_here (chars (drop i bs)))
+reports_at bs i u at = reports_by bs (At i) (fault_here (chars (drop i bs))) at
+    (subst (λ t. Tells t (error_between (chars (take i bs)) (chars (drop i bs))) (fault_here (chars (drop i bs))))
+    (sym (chars_split bs i u at)) (tells_between (chars (take i bs)) (chars (drop i bs))))
 
 -- the rest from an offset on is the characters between and the rest after them
 left_after : (bs : List ℕ) (i j : ℕ) → IsUtf8 bs → IsCharBoundary bs i → IsCharBoundary bs j → i ≤ j
@@ -59,7 +67,7 @@ prefix_of f rest i e = ap (λ k. take k (f ++ rest)) e ∙ take-append_seam f re
 
 -- a repeated key is reported at its opening quote, at offset i
 pub reports_duplicate : (bs : List ℕ) (i j : ℕ) → IsUtf8 bs → IsCharBoundary bs i → IsCharBoundary bs j → i ≤ j
-    → Reports (chars bs) (DuplicateKey (line (chars (take i bs))) (column (chars (take i bs))))
+    → Reports bs (Duplicate i)
     (refused (limit (duplicate (left_at bs i - left_at bs j))) (chars (drop j bs)))
 reports_duplicate bs i j u from to le =
     let split = chars_split bs i u from in
@@ -71,4 +79,4 @@ reports_duplicate bs i j u from to le =
     ≡ chars (take i bs) =
     ap (take (length (chars bs) - left_at bs j - (left_at bs i - left_at bs j))) split
     ∙ prefix_of (chars (take i bs)) (chars (drop i bs)) _ at in
-    ap (λ f. DuplicateKey (line f) (column f)) (sym prefix)
+    (from, ap (λ f. DuplicateKey (line f) (column f)) (sym prefix))

@@ -1,38 +1,41 @@
--- From the automaton's outcome of a text to the error that reports it; that error is never `OutOfMemory`, which is
--- returned if an allocation fails.
+-- From the automaton's outcome of a text to what reports it; that is never `Memory`, which is returned if an allocation
+-- fails.
 use Rattle.jzon_base.proofs.Common.{◌≡◌, ◌≢◌, inr, ℕ, suc, ◌-◌, ◌<◌, ◌≤◌, List, [], ◌∷◌, ◌++◌, length, take, drop}
 use Rattle.jzon_base.proofs.Common.{drop-cons, get_or, refl, sym, ap, subst, ◌∙◌, arith, Result, Ok, Err, Contains}
 use Rattle.jzon_base.proofs.Common.{chars, IsErrAnd, IsUtf8, MatchResult, IsCharBoundary, get_or-append_seam}
-use Rattle.jzon_base.proofs.Common.{IsUtf8-drop, IsCharBoundary-before_ascii}
+use Rattle.jzon_base.proofs.Common.{IsUtf8-drop, IsCharBoundary-before_ascii, length-drop, nil_from_length}
 use Rattle.std.proofs.lemmas.List.{length-append}
-use Rattle.jzon_base.specs.declared.error.Error.{Error}
-use Rattle.jzon_base.specs.declared.error.Error.TheVariants.{OutOfMemory, UnexpectedEndOfJson, ExceededDepthLimit}
+use Rattle.std.proofs.lemmas.Str.{chars-nil}
+use Rattle.jzon_base.specs.declared.error.Error.TheVariants.{OutOfMemory}
 use Rattle.jzon.specs.Reading.{Reading}
 use Rattle.jzon.specs.Spelling.{deep}
 use Rattle.jzon.specs.Fault.{Fault, limit, error_at}
-use Rattle.jzon.specs.Private.Machine.{State, Outcome, meant, refused, last, from, Reports, ReportsUnlessMemory}
+use Rattle.jzon.specs.Private.Machine.{State, Outcome, meant, refused, last, from, fault_here, Reports}
+use Rattle.jzon.specs.Private.Machine.{ReportsUnlessMemory}
+use Rattle.jzon.specs.declared.fault.Stop.{Stop}
+use Rattle.jzon.specs.declared.fault.Stop.TheVariants.{Memory, Limit}
 use Rattle.jzon.proofs.Texts.FaultOffsets.{chars_split}
 use Rattle.jzon.proofs.Texts.AsciiRuns.{chars-ascii}
 use Rattle.jzon.proofs.Texts.StepsByByte.{from_end}
 
--- an error that reports an outcome reports an equal outcome
-pub reported : (t : List ℕ) (e : Error) (o p : Outcome) → o ≡ p → Reports t e p → ReportsUnlessMemory t e o
+-- what reports an outcome reports an equal outcome
+pub reported : (t : List ℕ) (e : Stop) (o p : Outcome) → o ≡ p → Reports t e p → ReportsUnlessMemory t e o
 reported t e o p q h = inr (subst (Reports t e) (sym q) h)
 
-pub reported_again : (t : List ℕ) (e : Error) (o p : Outcome) → o ≡ p → ReportsUnlessMemory t e p
+pub reported_again : (t : List ℕ) (e : Stop) (o p : Outcome) → o ≡ p → ReportsUnlessMemory t e p
     → ReportsUnlessMemory t e o
 reported_again t e o p q h = subst (ReportsUnlessMemory t e) (sym q) h
 
 -- the end of a text, where it may not end
-pub reported_end : (r : Reading) (bs : List ℕ) (i : ℕ) (p : State) (o : Outcome) → o ≡ from r bs p i → length bs ≤ i
-    → last p ≡ refused Fault.end [] → ReportsUnlessMemory (chars bs) UnexpectedEndOfJson o
-reported_end r bs i p o q le h = reported (chars bs) UnexpectedEndOfJson o (refused Fault.end [])
-    (q ∙ from_end r bs i p le ∙ h)
-    refl
+pub reported_end : (r : Reading) (bs : List ℕ) (i : ℕ) (p : State) (e : Stop) → length bs ≤ i
+    → last p ≡ refused Fault.end [] → Reports bs e (fault_here (chars (drop i bs)))
+    → ReportsUnlessMemory bs e (from r bs p i)
+reported_end r bs i p e le h = reported bs e (from r bs p i) (fault_here (chars (drop i bs)))
+    (from_end r bs i p le ∙ h ∙ sym (ap fault_here
+    (ap chars (nil_from_length (drop i bs) (omega (arith, length-drop i bs))) ∙ chars-nil)))
 
-pub reported_deep : (t rest : List ℕ) (o : Outcome) → o ≡ refused (limit deep) rest
-    → ReportsUnlessMemory t ExceededDepthLimit o
-reported_deep t rest o q = reported t ExceededDepthLimit o (refused (limit deep) rest) q refl
+pub reported_deep : (bs rest : List ℕ) (o : Outcome) → o ≡ refused (limit deep) rest → ReportsUnlessMemory bs Limit o
+reported_deep bs rest o q = reported bs Limit o (refused (limit deep) rest) q (tt, refl)
 
 -- ---- memory
 
@@ -41,19 +44,19 @@ error_at_memory : (t : List ℕ) (i : ℕ) (f : Fault) → OutOfMemory ≡ error
 error_at_memory t i (limit deep) e = cc
 error_at_memory t i _ e = cc
 
-reports_no_memory : (t : List ℕ) (o : Outcome) → Reports t OutOfMemory o → ⊥
-reports_no_memory t (meant v) h = h
-reports_no_memory t (refused f rest) h = error_at_memory t (length t - length rest) f h
+reports_no_memory : (bs : List ℕ) (o : Outcome) → Reports bs Memory o → ⊥
+reports_no_memory bs (meant v) h = h
+reports_no_memory bs (refused f rest) h = error_at_memory (chars bs) (length (chars bs) - length rest) f h.1
 
-pub never_memory : {T : Type 0} (P : T → Type 0) (t : List ℕ) (o : Outcome) (result : Result T Error)
-    → MatchResult result P (λ e. Reports t e o) → result ≢ Err OutOfMemory
+pub never_memory : {T : Type 0} (P : T → Type 0) (t : List ℕ) (o : Outcome) (result : Result T Stop)
+    → MatchResult result P (λ e. Reports t e o) → result ≢ Err Memory
 never_memory P t o (Ok v) h e = cc
-never_memory P t o (Err x) h e = let same : x ≡ OutOfMemory = cc in reports_no_memory t o
+never_memory P t o (Err x) h e = let same : x ≡ Memory = cc in reports_no_memory t o
     (subst (λ z. Reports t z o) same h)
 
 -- an error that is propagated
-pub fails_without_memory : {T : Type 0} (t : List ℕ) (o : Outcome) (e : Error) (result : Result T Error)
-    → IsErrAnd result (λ x. x ≡ e) → Reports t e o → result ≢ Err OutOfMemory
+pub fails_without_memory : {T : Type 0} (t : List ℕ) (o : Outcome) (e : Stop) (result : Result T Stop)
+    → IsErrAnd result (λ x. x ≡ e) → Reports t e o → result ≢ Err Memory
 fails_without_memory t o e (Ok v) is h = absurd is
 fails_without_memory t o e (Err x) is h = never_memory (λ _. ⊥) t o (Err x) (rw is h)
 

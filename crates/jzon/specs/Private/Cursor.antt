@@ -1,9 +1,9 @@
 -- How the parser's offset in a text relates to the automaton.
-use Rattle.std.specs.Prelude.{◌≡◌, ℕ, ◌<◌, ◌≤◌, List, Bool, true, Some, chars, Result, MatchResult, slice_index}
+use Rattle.std.specs.Prelude.{◌≡◌, ℕ, ◌<◌, ◌≤◌, List, Bool, true, Some, Result, MatchResult, slice_index}
 use Rattle.std.specs.Prelude.{if◌then◌else◌}
-use Rattle.jzon_base.specs.declared.error.Error.{Error}
 use Rattle.jzon_tree.specs.Value.{Value}
 use Rattle.jzon.specs.Reading.{Reading}
+use Rattle.jzon.specs.declared.fault.Stop.{Stop}
 use Rattle.jzon.specs.Private.Brackets.{innermost_bracket, after_closer, after_comma}
 use Rattle.jzon.specs.Private.Machine.{EntriesSoFar, Frames, State, Outcome, object_frame, before, after_key, after_value}
 use Rattle.jzon.specs.Private.Machine.{allows_whitespace, from, ReportsUnlessMemory}
@@ -33,25 +33,25 @@ pub record IsAfter (t u : Cursor) : Type 0 where
 
 -- The outcome of the rest of the text at cursor t in state p equals that at the new cursor u in the state that the
 -- result gives; or the error reports it, or an allocation failed.
-abbrev pub GoesOn : {A : Type 0} → Cursor → State → Result A Error → Cursor → (A → State) → Type 0
+abbrev pub GoesOn : {A : Type 0} → Cursor → State → Result A Stop → Cursor → (A → State) → Type 0
 GoesOn t p result u next =
     MatchResult result (λ x. IsAfter t u × (left t p ≡ left u (next x)))
-    (λ e. ReportsUnlessMemory (chars t.source.now) e (left t p))
+    (λ e. ReportsUnlessMemory t.source.now e (left t p))
 
 -- What goes on to cursor t in state p goes on by this result too.
-abbrev pub PassesOn : {A : Type 0} → Cursor → State → Result A Error → Cursor → (A → State) → Type 0
+abbrev pub PassesOn : {A : Type 0} → Cursor → State → Result A Stop → Cursor → (A → State) → Type 0
 PassesOn t p result u next =
     (s : Cursor) (o : State) → IsAfter s t × (left s o ≡ left t p) → GoesOn s o result u next
 
 -- What leads to the end of an item at offset `end` goes on after the closing bracket or the comma that follows it.
-abbrev pub EndsItem : Cursor → ℕ → Bracket → Result Bool Error → Cursor → Type 0
+abbrev pub EndsItem : Cursor → ℕ → Bracket → Result Bool Stop → Cursor → Type 0
 EndsItem t end bracket result u =
     (p : State) (fs : Frames) (v : Value) → innermost_bracket fs ≡ Some bracket
     → left t p ≡ from t.reading t.source.now (after_value fs v) end
     → GoesOn t p result u (λ ends. if ends then after_closer fs v else after_comma fs v)
 
 -- What leads to the end of a key at offset `end` goes on after the colon that follows it.
-abbrev pub EndsKey : {A : Type 0} → Cursor → ℕ → Result A Error → Cursor → Type 0
+abbrev pub EndsKey : {A : Type 0} → Cursor → ℕ → Result A Stop → Cursor → Type 0
 EndsKey t end result u =
     (p : State) (fs : Frames) (es : EntriesSoFar) (k : List ℕ)
     → left t p ≡ from t.reading t.source.now (after_key fs es k) end

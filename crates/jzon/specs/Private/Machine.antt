@@ -6,8 +6,6 @@ use Rattle.std.specs.Prelude.{encode_utf8}
 use Rattle.std.specs.Char.{is_ascii_hexdigit, digit_value}
 use Rattle.std.specs.Option.{is_some}
 use Rattle.jzon_base.specs.PairList.{find, put}
-use Rattle.jzon_base.specs.declared.error.Error.{Error}
-use Rattle.jzon_base.specs.declared.error.Error.TheVariants.{OutOfMemory}
 use Rattle.jzon_base.specs.Tokens.{escape, quotation_mark, zero_digit}
 use Rattle.jzon_tree.specs.Value.{Value, values_of, pairs_of, kind_of}
 use Rattle.jzon_tree.specs.Value as value
@@ -25,6 +23,9 @@ use Rattle.jzon.specs.Private.Classes.{opens_array, closes_array, opens_object, 
 use Rattle.jzon.specs.Private.Classes.{begins_null, begins_true, begins_false, class_of, NumberState, after_minus}
 use Rattle.jzon.specs.Private.Classes.{zero_read, whole, pointed, fraction, lettered, signed_exponent, exponent}
 use Rattle.jzon.specs.Private.Classes.{after_first_digit}
+use Rattle.jzon.specs.Private.Stops.{IsAtBoundary, reported_error}
+use Rattle.jzon.specs.declared.fault.Stop.{Stop}
+use Rattle.jzon.specs.declared.fault.Stop.TheVariants.{Memory}
 
 -- the entries of an object read so far
 abbrev pub EntriesSoFar : Type 0
@@ -321,22 +322,23 @@ abbrev pub fault_here : List ℕ → Outcome
 fault_here [] = refused Fault.end []
 fault_here (c ∷ cs) = refused character (c ∷ cs)
 
--- the error reports this outcome of a text
-abbrev pub Reports : List ℕ → Error → Outcome → Type 0
-Reports t e (meant v) = ⊥
-Reports t e (refused f rest) = e ≡ error_at t (length t - length rest) f
+-- the error of the stop reports this outcome of a text
+abbrev pub Reports : List ℕ → Stop → Outcome → Type 0
+Reports bytes e (meant v) = ⊥
+Reports bytes e (refused f rest) =
+    IsAtBoundary bytes e × (reported_error bytes e ≡ error_at (chars bytes) (length (chars bytes) - length rest) f)
 
--- the error reports this outcome of a text, or an allocation failed
-abbrev pub ReportsUnlessMemory : List ℕ → Error → Outcome → Type 0
-ReportsUnlessMemory t e o = (e ≡ OutOfMemory) ⊎ Reports t e o
+-- it reports this outcome of a text, or an allocation failed
+abbrev pub ReportsUnlessMemory : List ℕ → Stop → Outcome → Type 0
+ReportsUnlessMemory bytes e o = (e ≡ Memory) ⊎ Reports bytes e o
 
 -- The outcome from byte i on in this state is the outcome after what was read, or the error reports it.
-abbrev pub Leads : {A : Type 0} → Reading → List ℕ → State → ℕ → Result (A × ℕ) Error → (A → State) → Type 0
+abbrev pub Leads : {A : Type 0} → Reading → List ℕ → State → ℕ → Result (A × ℕ) Stop → (A → State) → Type 0
 Leads r bytes p i result next =
     MatchResult result (λ x. from r bytes p i ≡ from r bytes (next x.0) x.1)
-    (λ e. Reports (chars bytes) e (from r bytes p i))
+    (λ e. Reports bytes e (from r bytes p i))
 
 -- the result agrees with this outcome of a text, unless an allocation failed
-abbrev pub Reads : List ℕ → Result JsonValue Error → Outcome → Type 0
-Reads t (Ok v) o = o ≡ meant (view v)
-Reads t (Err e) o = ReportsUnlessMemory t e o
+abbrev pub Reads : List ℕ → Result JsonValue Stop → Outcome → Type 0
+Reads bytes (Ok v) o = o ≡ meant (view v)
+Reads bytes (Err e) o = ReportsUnlessMemory bytes e o

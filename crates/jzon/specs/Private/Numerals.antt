@@ -1,7 +1,7 @@
 -- What the rest of a text leads to after the first digit of a number, in any reading and inside any open containers.
 use Rattle.std.specs.Prelude.{◌≡◌, ℕ, ◌+◌, List, Bool, chars, drop, slice_index}
-use Rattle.jzon_base.specs.declared.error.Error.TheVariants.{ExceededDepthLimit}
 use Rattle.jzon.specs.Reading.{Reading}
+use Rattle.jzon.specs.declared.fault.Stop.TheVariants.{Limit}
 use Rattle.jzon.specs.Private.Machine.{Frames, Outcome, State, numeral_after_first, from, fault_here, Reports}
 
 -- the outcome of the rest of the text after the digit at offset `start`
@@ -22,4 +22,4 @@ MissesDigit text start end = (r : Reading) (fs : Frames) (negative : Bool)
 -- the number has more digits than one may have
 abbrev pub HasTooMany : List ℕ → ℕ → Type 0
 HasTooMany text start = (r : Reading) (fs : Frames) (negative : Bool)
-    → Reports (chars text) ExceededDepthLimit (after_first r fs negative text start)
+    → Reports text Limit (after_first r fs negative text start)

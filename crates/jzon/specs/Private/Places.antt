@@ -1,11 +1,11 @@
 -- Where values that are read go, and how the automaton goes on after them.
-use Rattle.std.specs.Prelude.{◌≡◌, ◌≢◌, ℕ, ◌<◌, List, true, false, None, chars, Result, MatchResult, slice_index, length}
-use Rattle.jzon_base.specs.declared.error.Error.{Error}
+use Rattle.std.specs.Prelude.{◌≡◌, ◌≢◌, ℕ, ◌<◌, List, true, false, None, Result, MatchResult, slice_index, length}
 use Rattle.jzon_base.specs.Tokens.{end_array}
 use Rattle.jzon_tree.specs.View.{view}
 use Rattle.jzon_tree.specs.Writing.{is_whitespace}
 use Rattle.jzon_tree.specs.declared.value.JsonValue.{JsonValue}
 use Rattle.jzon.specs.Reading.{Reading}
+use Rattle.jzon.specs.declared.fault.Stop.{Stop}
 use Rattle.jzon.specs.Private.Machine.{Frames, State, is_fresh, value_mark, after_value, from, ReportsUnlessMemory}
 
 -- A value may begin at byte i inside of the containers fs: they are not too many, and neither whitespace nor the end of
@@ -18,7 +18,7 @@ pub record MayBegin (r : Reading) (fs : Frames) (bytes : List ℕ) (i : ℕ) : T
 -- A value was put in a place, and in each reading and containers where `allowed` holds, the outcome from byte i on in
 -- the state `start` is the outcome after the value; or the place was left as it was, and the error reports the outcome,
 -- or an allocation failed.
-abbrev pub Puts : {P : Type 0} → (JsonValue → P → Type 0) → P → P → Result ℕ Error → List ℕ → ℕ → (Frames → State)
+abbrev pub Puts : {P : Type 0} → (JsonValue → P → Type 0) → P → P → Result ℕ Stop → List ℕ → ℕ → (Frames → State)
     → (Reading → Frames → Type 0) → Type 0
 Puts takes old new result bytes i start allowed =
     MatchResult result
@@ -26,4 +26,4 @@ Puts takes old new result bytes i start allowed =
     × ((r : Reading) (fs : Frames) → allowed r fs
     → from r bytes (start fs) i ≡ from r bytes (after_value fs (view v)) end))
     (λ e. (new ≡ old)
-    × ((r : Reading) (fs : Frames) → allowed r fs → ReportsUnlessMemory (chars bytes) e (from r bytes (start fs) i)))
+    × ((r : Reading) (fs : Frames) → allowed r fs → ReportsUnlessMemory bytes e (from r bytes (start fs) i)))

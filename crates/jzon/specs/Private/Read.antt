@@ -1,7 +1,7 @@
 -- What comes after values in a container that were read.
 use Rattle.std.specs.Prelude.{Some, None, Option, Result, IfOk, OnOk}
-use Rattle.jzon_base.specs.declared.error.Error.{Error}
 use Rattle.jzon.specs.Private.Cursor.{GoesOn}
+use Rattle.jzon.specs.declared.fault.Stop.{Stop}
 use Rattle.jzon.specs.Private.Machine.{State}
 use Rattle.jzon.specs.Private.OpenContainers.{OpenContainers, before_item, after_items, IsBeforeItem, IsAfterItems}
 use Rattle.jzon.specs.Private.OpenContainers.{KeepsAround}
@@ -21,7 +21,7 @@ IsAfterValue t s (Opened b) = IsAfterItems t s (Some b)
 IsAfterValue t s End = IsAfterItems t s None
 
 -- Items of the innermost container of s were read from t on; after them the cursor is u, and the containers are n.
-pub record ReadsItems (t : Cursor) (s : OpenContainers) (result : Result (Option Bracket) Error) (u : Cursor)
+pub record ReadsItems (t : Cursor) (s : OpenContainers) (result : Result (Option Bracket) Stop) (u : Cursor)
     (n : OpenContainers) : Type 0 where
   pub kept : OnOk result (KeepsAround s n)
   pub after : IfOk result (IsAfterItems u n)

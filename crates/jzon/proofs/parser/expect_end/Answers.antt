@@ -1,4 +1,3 @@
-use Rattle.jzon_base.proofs.Common.{chars}
 use Rattle.jzon_tree.specs.View.{view}
 use Rattle.jzon.specs.Private.Machine.{no_frames, after_value}
 use Rattle.jzon.proofs.Texts.Cursors.{utf8_of}
@@ -10,7 +9,7 @@ use Rattle.jzon.proofs.parser.expect_end.Goals as goal
 pub returns-then-cursor-clause-outcome : goal.returns-then-cursor-clause-outcome
 returns-then-cursor-clause-outcome c =
     let t = c.args.cursor.now in
-    reported (chars t.source.now) c.fault.result _ _
+    reported t.source.now c.fault.result _ _
     (trailing_stops t.reading t.source.now t.index (view c.args.value) (utf8_of t) t.boundary c.if-cursor.true
     (t.past_whitespace c.if-cursor.true))
     c.fault.ensures

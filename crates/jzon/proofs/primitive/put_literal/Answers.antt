@@ -1,4 +1,4 @@
-use Rattle.jzon_base.proofs.Common.{◌≡◌, ◌+◌, ◌∙◌, ℕ, List, [], ◌∷◌, None, refl, sym, IsTrue, chars}
+use Rattle.jzon_base.proofs.Common.{◌≡◌, ◌+◌, ◌∙◌, ℕ, List, [], ◌∷◌, None, refl, sym, IsTrue}
 use Rattle.jzon_tree.specs.View.{view}
 use Rattle.jzon.specs.Reading.{Reading, usual}
 use Rattle.jzon.specs.Private.Machine.{Frames, no_frames, before, value_mark}
@@ -65,7 +65,7 @@ read_letters-requires-clause-boundary g c =
 
 pub returns-in_err-end-clause-memory : goal.returns-in_err-end-clause-memory
 returns-in_err-end-clause-memory g c =
-    fails_without_memory (chars c.args.source.now) _ _ c.from_residual.result c.from_residual.ensures.1
+    fails_without_memory c.args.source.now _ _ c.from_residual.result c.from_residual.ensures.1
     (c.in_err-end.ensures.outcome usual no_frames (view c.literal_value-value.result))
 
 pub returns-in_err-end-clause-outcome : goal.returns-in_err-end-clause-outcome
@@ -74,7 +74,7 @@ returns-in_err-end-clause-outcome g c =
     c.args.source.now c.args.start before (λ r fs. value_mark r fs ≡ None) _ c.from_residual.ensures.1 refl (λ r fs m.
     let begin = begins g (goal.at.returns-in_err-end-clause-outcome g c).After-has_four r fs c.last_four-2.result m
     (record { null = c.last_four-2.ensures.null; yes = c.last_four-2.ensures.yes; no = c.last_four-2.ensures.no }) in
-    reported (chars c.args.source.now) _ _ _ begin.same (c.in_err-end.ensures.outcome r fs (view c.literal_value-value.result)))
+    reported c.args.source.now _ _ _ begin.same (c.in_err-end.ensures.outcome r fs (view c.literal_value-value.result)))
 
 pub returns-clause-outcome : goal.returns-clause-outcome
 returns-clause-outcome g c = (

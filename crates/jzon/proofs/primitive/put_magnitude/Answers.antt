@@ -1,4 +1,4 @@
-use Rattle.jzon_base.proofs.Common.{◌≡◌, ◌∙◌, ◌+◌, ap, get_or, inr, refl, rules, sym, ⊤, chars}
+use Rattle.jzon_base.proofs.Common.{◌≡◌, ◌∙◌, ◌+◌, ap, get_or, inr, refl, rules, sym, ⊤}
 use Rattle.jzon_tree.specs.Value.{number}
 use Rattle.jzon_tree.specs.View.{view}
 use Rattle.jzon_tree.specs.declared.value.JsonValue.{Number, the_lemmas}
@@ -10,7 +10,7 @@ use Rattle.jzon.proofs.primitive.put_magnitude.Goals as goal
 
 pub returns-in_err-number-clause-memory : goal.returns-in_err-number-clause-memory
 returns-in_err-number-clause-memory g c =
-    fails_without_memory (chars c.args.source.now) _ _ c.from_residual.result c.from_residual.ensures.1
+    fails_without_memory c.args.source.now _ _ c.from_residual.result c.from_residual.ensures.1
     (c.in_err-number.ensures.outcome usual no_frames)
 
 pub returns-in_err-number-clause-outcome : goal.returns-in_err-number-clause-outcome

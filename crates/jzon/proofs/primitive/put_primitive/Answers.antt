@@ -1,5 +1,5 @@
 use Rattle.jzon_base.proofs.Common.{◌≡◌, ℕ, ◌<◌, ◌+◌, List, length, None, drop, true, false, get_or, refl, sym, ap, ◌∙◌}
-use Rattle.jzon_base.proofs.Common.{arith, subst, lit<, ⊤, chars, is_ascii_digit, false≢true, nat_tests}
+use Rattle.jzon_base.proofs.Common.{Err, arith, subst, lit<, ⊤, chars, is_ascii_digit, false≢true, nat_tests}
 use Rattle.jzon_base.proofs.Common.{IsCharBoundary-after_ascii}
 use Rattle.jzon.specs.Private.Classes.{minus_char, quote, after_minus}
 use Rattle.jzon_tree.specs.Value.{kind_of, text}
@@ -47,8 +47,8 @@ put_magnitude-requires-in-45 g c =
     (sym c.is_ascii_digit-in-45.ensures.value ∙ c.if-not-is_ascii_digit.false) in
     record { within = here.0; digit = here.1; room = c.requires.room }
 
-pub stopped_at-requires : goal.stopped_at-requires
-stopped_at-requires g c =
+pub fault_at-requires : goal.fault_at-requires
+fault_at-requires g c =
     let e : get_or c.args.source.now c.args.start 0 ≡ 45 = sym c.requires.first ∙ c.in-45.is in
     IsCharBoundary-after_ascii c.args.source.now c.args.start c.utf8.source
     (byte_within c.args.source.now c.args.start 45 e (lit< tt)) (omega (arith, e))
@@ -67,8 +67,8 @@ text-requires-clause-begin g c =
 
 pub returns-then-not-is_ascii_digit-clause-memory : goal.returns-then-not-is_ascii_digit-clause-memory
 returns-then-not-is_ascii_digit-clause-memory g c = λ e.
-    absurd (never_memory (λ _. ⊥) (chars c.args.source.now)
-    (fault_here (chars (drop (c.args.start + 1) c.args.source.now))) c.stopped_at.result c.stopped_at.ensures e)
+    absurd (never_memory (λ _. ⊥) c.args.source.now
+    (fault_here (chars (drop (c.args.start + 1) c.args.source.now))) (Err c.fault_at.result) c.fault_at.ensures e)
 
 pub returns-then-not-is_ascii_digit-clause-outcome : goal.returns-then-not-is_ascii_digit-clause-outcome
 returns-then-not-is_ascii_digit-clause-outcome g c =
@@ -76,7 +76,7 @@ returns-then-not-is_ascii_digit-clause-outcome g c =
     let start = c.args.start in
     let e : get_or source start 0 ≡ 45 = sym c.requires.first ∙ c.in-45.is in
     let within = byte_within source start 45 e (lit< tt) in
-    puts_fault (g.P.Place.takes c.args.place.now) c.args.place.now c.stopped_at.result source start before
+    puts_fault (g.P.Place.takes c.args.place.now) c.args.place.now (Err c.fault_at.result) source start before
     (λ r fs. MayBegin r fs source start) (fault_here (chars (drop (start + 1) source)))
     (λ r fs may. begin_by r source start fs minus_char _ refl c.utf8.source c.requires.boundary within e (lit< tt)
     may.shallow
@@ -86,7 +86,7 @@ returns-then-not-is_ascii_digit-clause-outcome g c =
     let no : is_ascii_digit c.byte_at.result ≡ false =
     sym c.is_ascii_digit-in-45.ensures.value ∙ c.if-not-is_ascii_digit.true in
     absurd (false≢true (sym no ∙ ap is_ascii_digit c.byte_at.ensures ∙ h.1)))))
-    c.stopped_at.ensures
+    c.fault_at.ensures
 
 pub returns-else-not-is_ascii_digit-clause-outcome : goal.returns-else-not-is_ascii_digit-clause-outcome
 returns-else-not-is_ascii_digit-clause-outcome g c =
@@ -114,7 +114,7 @@ returns-in_err-spelled-in-34-clause-outcome g c =
     let e : get_or source start 0 ≡ 34 = sym c.requires.first ∙ c.in-34.is in
     puts_none (g.P.Place.takes c.args.place.now) c.args.place.now c.args.place.now c.from_residual.result
     source start before (λ r fs. MayBegin r fs source start) _ c.from_residual.ensures.1 refl
-    (λ r fs may. subst (ReportsUnlessMemory (chars source) _)
+    (λ r fs may. subst (ReportsUnlessMemory source _)
     (sym (begin_by r source start fs quote _ refl c.utf8.source c.requires.boundary
     (byte_within source start 34 e (lit< tt)) e (lit< tt) may.shallow))
     (c.in_err-spelled-in-34.ensures.outcome r (as_value fs)))
@@ -143,7 +143,7 @@ returns-in-110-clause-outcome g c =
 pub returns-in_default-clause-outcome : goal.returns-in_default-clause-outcome
 returns-in_default-clause-outcome g c =
     let first = c.requires.first in
-    puts_fault (g.P.Place.takes c.args.place.now) c.args.place.now c.stopped_at-in_default.result c.args.source.now c.args.start
+    puts_fault (g.P.Place.takes c.args.place.now) c.args.place.now (Err c.fault_at-in_default.result) c.args.source.now c.args.start
     before (λ r fs. MayBegin r fs c.args.source.now c.args.start) (fault_here (chars (drop c.args.start c.args.source.now)))
     (λ r fs may. from_stop r c.args.source.now c.args.start (before fs) c.utf8.source c.requires.boundary
     (stops_before r c.args.source.now c.args.start fs may.shallow (λ lt. record {
@@ -159,4 +159,4 @@ returns-in_default-clause-outcome g c =
       no_false = λ e. absurd (grind (arith, e, first, c.in_default));
       no_end = may.no_end;
     })))
-    c.stopped_at-in_default.ensures
+    c.fault_at-in_default.ensures

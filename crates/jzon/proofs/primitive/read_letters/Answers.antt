@@ -1,5 +1,5 @@
 use Rattle.jzon_base.proofs.Common.{◌≡◌, ◌+◌, suc, ◌∷◌, ◌∙◌, sym, ap, subst, arith, drop, drop-cons, add-one, get_or}
-use Rattle.jzon_base.proofs.Common.{true, false, chars, IsCharBoundary-after_ascii}
+use Rattle.jzon_base.proofs.Common.{true, false, IsCharBoundary-after_ascii}
 use Rattle.jzon.specs.Private.Machine.{from, past_letter, Reports}
 use Rattle.jzon.proofs.Containers.LiteralLetters.{letter_read, letter_missing}
 use Rattle.jzon.proofs.primitive.read_letters.Goals as goal
@@ -10,7 +10,7 @@ returns-then-not-has_byte-clause-outcome c r fs v =
     let letters = c.args.letters.now in
     let next : drop k letters ≡ get_or letters k 0 ∷ drop (suc k) letters = drop-cons letters k 0
     c.loop-letter-test.true in
-    subst (Reports (chars c.args.source.now) c.fault_at.result)
+    subst (Reports c.args.source.now c.fault_at.result)
     (sym (c.loop-letter.invariant.2 r fs v ∙ ap (λ ls. from r c.args.source.now (past_letter fs v ls)
     c.loop-letter.index) next
     ∙ letter_missing r c.args.source.now c.loop-letter.index (get_or letters k 0) (drop (suc k) letters) fs v

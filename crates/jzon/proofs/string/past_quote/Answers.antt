@@ -1,4 +1,4 @@
-use Rattle.jzon_base.proofs.Common.{refl, sym, subst, chars, iff_false}
+use Rattle.jzon_base.proofs.Common.{refl, sym, subst, iff_false}
 use Rattle.jzon.specs.Private.Machine.{Reports}
 use Rattle.jzon.proofs.Strings.Quotes.{quote_closes, quote_ends, string_stops}
 use Rattle.jzon.proofs.string.past_quote.Goals as goal
@@ -15,7 +15,7 @@ returns-then-has_byte-clause-outcome c r role bs =
 
 pub returns-else-has_byte-clause-outcome : goal.returns-else-has_byte-clause-outcome
 returns-else-has_byte-clause-outcome c r role bs =
-    subst (Reports (chars c.args.source.now) c.fault_at.result)
+    subst (Reports c.args.source.now c.fault_at.result)
     (sym (string_stops r role bs c.args.source.now c.args.index c.utf8.source c.requires.boundary c.requires.stop
     c.requires.no_escape
     (iff_false c.has_byte.ensures c.if-has_byte.false)))

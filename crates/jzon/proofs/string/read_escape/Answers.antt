@@ -1,4 +1,4 @@
-use Rattle.jzon_base.proofs.Common.{◌≡◌, ◌+◌, ◌++◌, ◌∙◌, ◌<◌, ℕ, true, ap, refl, sym, subst, arith, chars, encode_utf8}
+use Rattle.jzon_base.proofs.Common.{◌≡◌, ◌+◌, ◌++◌, ◌∙◌, ◌<◌, ℕ, true, ap, refl, sym, subst, arith, encode_utf8}
 use Rattle.jzon_base.proofs.Common.{MatchResult, iff_false, nat_tests, IsCharBoundary-after_ascii}
 use Rattle.jzon.specs.Grammar.{is_simple}
 use Rattle.jzon.specs.Meaning.{unescaped}
@@ -17,7 +17,7 @@ returns-then-has_byte-clause-outcome c r role bs =
     let text = c.args.source.now in
     let here = c.has_byte.ensures.0 c.if-has_byte.true in
     subst (λ o. MatchResult c.read_unicode.result (λ x. o ≡ from r text (string role (bs ++ encode_utf8 x.0) between)
-    x.1) (λ e. Reports (chars text) e o))
+    x.1) (λ e. Reports text e o))
     (sym (digits_begin r role bs text c.args.start c.utf8.source c.requires here.0 here.1))
     (c.read_unicode.ensures.outcome r role bs)
 
@@ -43,7 +43,7 @@ returns-in-Some-clause-outcome c r role bs =
 
 pub returns-in-None-clause-outcome : goal.returns-in-None-clause-outcome
 returns-in-None-clause-outcome c r role bs =
-    subst (Reports (chars c.args.source.now) c.fault_at.result)
+    subst (Reports c.args.source.now c.fault_at.result)
     (sym (escape_stops r role bs c.args.source.now c.args.start c.utf8.source c.requires
     (iff_false c.has_byte.ensures c.if-has_byte.false)
     (λ h. c.in-None.ensures (subst (λ b. is_simple b ≡ true) (sym c.byte_at.ensures) h.1))))

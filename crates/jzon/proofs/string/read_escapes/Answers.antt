@@ -1,4 +1,4 @@
-use Rattle.jzon_base.proofs.Common.{◌∙◌, ap, sym, subst, arith, inr, chars, string_bytes, err_from_is_err_and}
+use Rattle.jzon_base.proofs.Common.{◌∙◌, ap, sym, subst, arith, inr, string_bytes, err_from_is_err_and}
 use Rattle.jzon_base.proofs.Common.{IsCharBoundary-after_ascii}
 use Rattle.std.proofs.lemmas.Result.{MatchResult-weaker}
 use Rattle.jzon.specs.Private.Machine.{string, between, from, Reports}
@@ -19,7 +19,7 @@ returns-in_err-ch-clause-outcome c r role =
     let escape = c.loop-start.invariant.same r role
     ∙ backslash_begins r role read text c.loop-start.index c.utf8.source c.loop-start.invariant.boundary here.0 here.1
     in
-    rw (reported.1, reported.2) (inr (subst (Reports (chars text) _) (sym escape)
+    rw (reported.1, reported.2) (inr (subst (Reports text _) (sym escape)
     (c.in_err-ch.ensures.outcome r role read)))
 
 pub loop-start-preserved : goal.loop-start-preserved
@@ -45,4 +45,4 @@ returns-clause-outcome c r role =
     let so_far = c.loop-start.invariant.same r role in
     MatchResult-weaker c.past_quote.result (c.past_quote.ensures.outcome r role (string_bytes c.loop-start.buffer))
     (λ end h. so_far ∙ h)
-    (λ e h. inr (subst (Reports (chars c.args.source.now) e) (sym so_far) h))
+    (λ e h. inr (subst (Reports c.args.source.now e) (sym so_far) h))

@@ -1,5 +1,5 @@
 use Rattle.jzon_base.proofs.Common.{◌≡◌, ◌<◌, ℕ, true, ◌+◌, ◌*◌, ◌∙◌, ap, refl, sym, subst, arith, nat_tests}
-use Rattle.jzon_base.proofs.Common.{is_ascii_hexdigit, digit_value, chars}
+use Rattle.jzon_base.proofs.Common.{is_ascii_hexdigit, digit_value}
 use Rattle.jzon.specs.Private.Machine.{Reports}
 use Rattle.jzon.proofs.Containers.FrameViews.{byte_within}
 use Rattle.jzon.proofs.Strings.HexDigits.{HexRead, hex_is_below_16, code_reads, second_code_reads, hex_begun, hex_more}
@@ -37,7 +37,7 @@ loop-index-preserved c =
 
 pub returns-in-None-clause-first : goal.returns-in-None-clause-first
 returns-in-None-clause-first c r role bs =
-    subst (Reports (chars c.args.source.now) c.fault_at.result)
+    subst (Reports c.args.source.now c.fault_at.result)
     (sym (hex_stops r c.args.source.now c.args.start c.loop-index.index c.loop-index.unit _ _ c.loop-index.invariant
     (code_reads r role bs)
     c.utf8.source c.loop-index.auto.index c.loop-index-test.true
@@ -46,7 +46,7 @@ returns-in-None-clause-first c r role bs =
 
 pub returns-in-None-clause-second : goal.returns-in-None-clause-second
 returns-in-None-clause-second c r role bs h =
-    subst (Reports (chars c.args.source.now) c.fault_at.result)
+    subst (Reports c.args.source.now c.fault_at.result)
     (sym (hex_stops r c.args.source.now c.args.start c.loop-index.index c.loop-index.unit _ _ c.loop-index.invariant
     (second_code_reads r role bs h)
     c.utf8.source c.loop-index.auto.index c.loop-index-test.true

@@ -1,7 +1,7 @@
 use Rattle.jzon_base.proofs.Common.{◌≡◌, ◌+◌, ◌++◌, ◌∙◌, ◌&&◌, false, refl, ap, sym, subst, arith, drop, encode_utf8}
 use Rattle.jzon_base.proofs.Common.{chars, false_from_ne_true, iff_false, err_from_is_err_and}
 use Rattle.jzon_base.proofs.Common.{IsCharBoundary-after_ascii}
-use Rattle.jzon_base.specs.declared.error.Error.TheVariants.{FailedUtf8Parsing}
+use Rattle.jzon.specs.declared.fault.Stop.TheVariants.{Surrogates}
 use Rattle.jzon.specs.Grammar.{is_high, is_low}
 use Rattle.jzon.specs.Meaning.{pair_char}
 use Rattle.jzon.specs.Private.Machine.{string, between, move_pair, outcome_on, from, Reports}
@@ -10,7 +10,7 @@ use Rattle.jzon.proofs.string.read_second.Goals as goal
 
 pub returns-then-not-has_byte-clause-outcome : goal.returns-then-not-has_byte-clause-outcome
 returns-then-not-has_byte-clause-outcome c r role bs =
-    subst (Reports (chars c.args.source.now) c.fault_at.result)
+    subst (Reports c.args.source.now c.fault_at.result)
     (sym (second_stops r role bs c.args.source.now c.args.first c.args.start c.utf8.source c.requires
     (iff_false c.has_byte.ensures c.if-not-has_byte.true)))
     c.fault_at.ensures
@@ -22,7 +22,7 @@ fault_at-requires-then-not-has_byte-2 c =
 
 pub returns-then-not-has_byte-2-clause-outcome : goal.returns-then-not-has_byte-2-clause-outcome
 returns-then-not-has_byte-2-clause-outcome c r role bs =
-    subst (Reports (chars c.args.source.now) c.fault_at-then-not-has_byte-2.result)
+    subst (Reports c.args.source.now c.fault_at-then-not-has_byte-2.result)
     (sym (second_u_stops r role bs c.args.source.now c.args.first c.args.start c.utf8.source c.requires
     (c.has_byte.ensures.0 c.if-not-has_byte.false)
     (iff_false c.has_byte-2.ensures c.if-not-has_byte-2.true)))
@@ -38,7 +38,7 @@ returns-in_err-unit-clause-outcome c r role bs =
     let reported = err_from_is_err_and c.from_residual.result c.from_residual.ensures.1 in
     let digits = second_begins r role bs c.args.source.now c.args.first c.args.start c.utf8.source c.requires
     (c.has_byte.ensures.0 c.if-not-has_byte.false) (c.has_byte-2.ensures.0 c.if-not-has_byte-2.false) in
-    rw (reported.1, reported.2) (subst (Reports (chars c.args.source.now) _) (sym digits)
+    rw (reported.1, reported.2) (subst (Reports c.args.source.now _) (sym digits)
     (c.in_err-unit.ensures.second r role bs c.args.first))
 
 pub returns-in-Some-clause-outcome : goal.returns-in-Some-clause-outcome
@@ -65,9 +65,9 @@ returns-in-None-clause-outcome c r role bs =
     let digits = second_begins r role bs text c.args.first c.args.start c.utf8.source c.requires
     (c.has_byte.ensures.0 c.if-not-has_byte.false)
     (c.has_byte-2.ensures.0 c.if-not-has_byte-2.false) in
-    subst (Reports (chars text) FailedUtf8Parsing)
+    subst (Reports text Surrogates)
     (sym (digits ∙ c.in_ok-unit.ensures.second r role bs c.args.first
     ∙ ap (λ t. outcome_on (move_pair t role bs c.args.first c.in_ok-unit.unit)
     (λ p. from r text p (c.args.start + 2 + 4))
     rest) no_pair))
-    refl
+    (tt, refl)

@@ -1,5 +1,5 @@
 use Rattle.jzon_base.proofs.Common.{◌≡◌, ◌+◌, ◌++◌, ◌∙◌, ℕ, ◌<◌, true, ap, arith, encode_utf8, subst, sym, MatchResult}
-use Rattle.jzon_base.proofs.Common.{chars, nat_tests}
+use Rattle.jzon_base.proofs.Common.{nat_tests}
 use Rattle.std.specs.Char.{OutOfScalarRange}
 use Rattle.jzon.specs.Grammar.{is_surrogate}
 use Rattle.jzon.specs.Private.Machine.{string, between, after_unit, from, Reports}
@@ -13,7 +13,7 @@ returns-in-None-clause-outcome c r role bs =
     let text = c.args.source.now in
     let unit = c.in_ok-unit.unit in
     subst (λ o. MatchResult c.read_second.result (λ x. o ≡ from r text (string role (bs ++ encode_utf8 x.0) between)
-    x.1) (λ e. Reports (chars text) e o))
+    x.1) (λ e. Reports text e o))
     (sym (c.in_ok-unit.ensures.first r role bs
     ∙ ap (λ t. from r text (after_unit t role bs unit) (c.args.start + 4))
     (surrogate unit c.in_ok-unit.ensures.small c.in-None.ensures.cases)))

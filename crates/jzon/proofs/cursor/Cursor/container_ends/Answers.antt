@@ -1,4 +1,4 @@
-use Rattle.jzon_base.proofs.Common.{◌∙◌, sym, chars}
+use Rattle.jzon_base.proofs.Common.{◌∙◌, sym}
 use Rattle.jzon.proofs.Containers.ContainerTokens.{closes, comma_goes, item_stops}
 use Rattle.jzon.proofs.Texts.Cursors.{read_to_here}
 use Rattle.jzon.proofs.Texts.ReportedErrors.{reported}
@@ -18,7 +18,7 @@ returns-then-next-eq44 c fs v here =
 
 pub returns : goal.returns
 returns c fs v here =
-    reported (chars c.args.self.now.source.now) c.fault.result _ _
+    reported c.args.self.now.source.now c.fault.result _ _
     (item_stops c.args.bracket c.args.self.now fs v here (λ e. c.if-next-eq44.false (c.peek-next.ensures ∙ e))
     (λ e. c.if-next-closer.false (c.peek-next.ensures ∙ e ∙ sym c.closer.ensures)))
     c.fault.ensures

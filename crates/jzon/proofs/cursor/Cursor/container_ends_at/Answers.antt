@@ -1,7 +1,8 @@
-use Rattle.jzon_base.proofs.Common.{◌≡◌, ◌∙◌, get_or, sym, arith, lit<, IsCharBoundary-after_ascii}
+use Rattle.jzon_base.proofs.Common.{◌≡◌, ◌∙◌, get_or, refl, sym, arith, lit<, IsCharBoundary-after_ascii}
+use Rattle.jzon.specs.Private.Machine.{after_value}
 use Rattle.jzon.proofs.Containers.ContainerTokens.{closes, comma_goes, closer_bounds}
 use Rattle.jzon.proofs.Containers.FrameViews.{byte_within}
-use Rattle.jzon.proofs.Texts.Cursors.{utf8_of}
+use Rattle.jzon.proofs.Texts.Cursors.{utf8_of, reached, token_goes, goes_on}
 use Rattle.jzon.proofs.cursor.Cursor.container_ends_at.Goals as goal
 
 pub go_to-requires : goal.go_to-requires
@@ -30,3 +31,10 @@ returns-then-next-closer c p fs v here before =
     closes c.args.bracket c.args.self.now c.go_to-then-next-closer.new.self p c.args.end fs v here
     (record { boundary = c.requires.boundary; within = omega (arith, c.requires.further); same = before })
     c.go_to-then-next-closer.ensures (sym c.byte_at-next.ensures ∙ c.if-next-closer.true ∙ c.closer.ensures)
+
+pub returns : goal.returns
+returns c p fs v here before =
+    goes_on _ c.container_ends.result _
+    (reached (token_goes c.args.self.now c.go_to-2.new.self p (after_value fs v) c.args.end c.go_to-2.ensures
+    c.requires.further refl before))
+    (c.container_ends.ensures fs v here)

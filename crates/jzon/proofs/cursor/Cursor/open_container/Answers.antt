@@ -1,5 +1,5 @@
 use Rattle.jzon_base.proofs.Common.{◌≡◌, ◌≢◌, ◌∙◌, ◌<◌, None, length, sym, arith}
-use Rattle.jzon_base.specs.declared.error.Error.TheVariants.{UnexpectedEndOfJson, ExceededDepthLimit}
+use Rattle.jzon.specs.declared.fault.Stop.TheVariants.{Limit}
 use Rattle.jzon.specs.Private.Brackets.{closer, after_opener}
 use Rattle.jzon.specs.Private.Cursor.{next_byte}
 use Rattle.jzon.specs.Private.Machine.{Frames, before, value_mark}
@@ -27,9 +27,9 @@ returns-then-first-closer-clause-outcome c fs mark depth =
 
 pub returns-then-self-clause-outcome : goal.returns-then-self-clause-outcome
 returns-then-self-clause-outcome c fs mark depth =
-    reported_on UnexpectedEndOfJson
+    reported_on c.fault.result
     (at_first (goal.at.returns-then-self-clause-outcome c).After-bump fs mark)
-    (left_open c.args.bracket c.bump.new.self fs (omega arith))
+    (left_open c.args.bracket c.bump.new.self fs c.fault.result (omega arith) c.fault.ensures)
 
 pub returns-then-depth-from-clause-outcome : goal.returns-then-depth-from-clause-outcome
 returns-then-depth-from-clause-outcome c fs mark depth =
@@ -38,7 +38,7 @@ returns-then-depth-from-clause-outcome c fs mark depth =
     let lt : m.index < length m.source.now = omega (arith, m.boundary.0) in
     let other : next_byte m ≢ closer b = λ f. c.if-first-closer.false
     (c.peek-first.ensures ∙ f ∙ sym c.closer.ensures) in
-    reported_on ExceededDepthLimit
+    reported_on Limit
     (at_first (goal.at.returns-then-depth-from-clause-outcome c).After-bump fs mark)
     (item_too_deep b m fs lt other
     (omega (arith, depth, c.if-depth-from.true, c.from.ensures, c.depth.ensures.depth)))

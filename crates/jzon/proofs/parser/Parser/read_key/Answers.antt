@@ -1,4 +1,4 @@
-use Rattle.jzon_base.proofs.Common.{◌≡◌, ◌≢◌, ◌∙◌, ◌+◌, ◌-◌, ◌&&◌, [], sym, ap, subst, arith, true, false, lit<, chars}
+use Rattle.jzon_base.proofs.Common.{◌≡◌, ◌≢◌, ◌∙◌, ◌+◌, ◌-◌, ◌&&◌, [], sym, ap, subst, arith, true, false, lit<}
 use Rattle.jzon_base.proofs.Common.{slice_range, string_bytes, if◌then◌else◌, is_some, IsCharBoundary-after_ascii}
 use Rattle.jzon_base.specs.PairList.{find}
 use Rattle.jzon_base.specs.Tokens.{end_object}
@@ -12,6 +12,7 @@ use Rattle.jzon.proofs.Containers.FrameViews.{byte_within}
 use Rattle.jzon.proofs.Containers.OpenItems.{at_key, no_key_mark, no_entries, key_here, goes_as}
 use Rattle.jzon.proofs.Strings.Quotes.{key_refused, key_goes}
 use Rattle.jzon.proofs.Texts.Cursors.{utf8_of, reported_on, fails_on}
+use Rattle.jzon.specs.declared.fault.Stop.TheVariants.{Duplicate}
 use Rattle.jzon.proofs.Texts.FaultOffsets.{reports_duplicate}
 use Rattle.jzon.proofs.Texts.ReportedErrors.{reported, reported_again}
 use Rattle.jzon.proofs.parser.Parser.read_key.Goals as goal
@@ -24,7 +25,7 @@ returns-then-peek-ne34-clause-outcome c =
     λ none. subst (λ b. next_byte t ≢ closer b) c.requires.object (c.requires.before.some
     (no_entries s.innermost (subst (λ b. IsEven b s.innermost) c.requires.object c.requires.before.even) none)) in
     reported_on c.fault.result (at_key t s c.requires.object)
-    (reported (chars t.source.now) c.fault.result _ _
+    (reported t.source.now c.fault.result _ _
     (key_missing t (frames_around s) (entries_so_far s.innermost) (no_key_mark t s c.requires.before.room)
     (λ e. c.if-peek-ne34.true (c.peek.ensures ∙ e)) some)
     c.fault.ensures)
@@ -44,7 +45,7 @@ returns-in_err-spelled-clause-outcome c =
     let es = entries_so_far s.innermost in
     let quote : next_byte t ≡ 34 = sym c.peek.ensures ∙ c.if-peek-ne34.false in
     fails_on _ c.from_residual.result _ c.from_residual.ensures.1 (at_key t s c.requires.object)
-    (reported_again (chars t.source.now) _ _ _
+    (reported_again t.source.now _ _ _
     (open_key t.reading t.source.now t.index fs es (utf8_of t) t.boundary
     (byte_within t.source.now t.index 34 quote (lit< tt)) quote (no_key_mark t s c.requires.before.room))
     (c.in_err-spelled.ensures.outcome t.reading (as_key fs es (left_at t.source.now t.index))))
@@ -69,13 +70,12 @@ returns-then-branch-clause-outcome c =
     ap (λ k. t.reading.strict && is_some (find k es)) (sym c.text.ensures.text)
     ∙ ap (λ z. z && is_some (find c.text.result.0.now es)) (sym c.requires.strict)
     ∙ sym c.in_ok-push_key.ensures.rejected ∙ c.if-branch.true in
-    reported_on c.duplicate_at.result (at_key t s c.requires.object)
-    (reported (chars t.source.now) c.duplicate_at.result _ _
+    reported_on (Duplicate t.index) (at_key t s c.requires.object)
+    (reported t.source.now (Duplicate t.index) _ _
     (key_closes t fs es text end (sym c.peek.ensures ∙ c.if-peek-ne34.false) (no_key_mark t s c.requires.before.room)
     (c.in_ok-spelled.ensures.outcome t.reading (as_key fs es (left_at t.source.now t.index)))
     ∙ key_refused t.reading t.source.now fs es (left_at t.source.now t.index) text end known)
-    (c.duplicate_at.ensures
-    ∙ reports_duplicate t.source.now t.index (end - 1) (utf8_of t) t.boundary c.in_ok-spelled.ensures.quote.1
+    (reports_duplicate t.source.now t.index (end - 1) (utf8_of t) t.boundary c.in_ok-spelled.ensures.quote.1
     (omega (arith, c.in_ok-spelled.ensures.quote.0))))
 
 pub returns-clause-outcome : goal.returns-clause-outcome

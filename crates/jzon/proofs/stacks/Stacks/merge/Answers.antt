@@ -18,19 +18,20 @@ invariant_of-self-2 c =
     c.merge_tails.new.values c.saturating_add-self-inside.result
     (ap (λ (o : OpenContainers). o.strict) c.self.view_is ∙ c.requires.usual) after.key after.value after.keys)
 
-pub returns-clause-merged : goal.returns-clause-merged
-returns-clause-merged c =
-    let after = c.in_ok-merge_tails.ensures in
-    let below = KeepsBelow-usual c.self.inside c.merge_tails.new.keys c.merge_tails.new.values
-    c.saturating_add-self-inside.result (ap (λ (o : OpenContainers). o.strict) c.self.view_is ∙ c.requires.usual)
-    after.key after.value after.keys in
-    record {
-      around = record {
-        strict = ap (λ (o : OpenContainers). o.strict) c.self.view_is;
-        bracket = ap (λ (o : OpenContainers). o.innermost.bracket) c.self.view_is;
-        around = ap (λ (o : OpenContainers). o.around) (view-kept c.self.inside _ c.self.invariant below after.values)
-            ∙ ap (λ (o : OpenContainers). o.around) c.self.view_is;
+pub returns : goal.returns
+returns c = record {
+  merged = let after = c.in_ok-merge_tails.ensures in
+      let below = KeepsBelow-usual c.self.inside c.merge_tails.new.keys c.merge_tails.new.values
+      c.saturating_add-self-inside.result (ap (λ (o : OpenContainers). o.strict) c.self.view_is ∙ c.requires.usual)
+      after.key after.value after.keys in
+      record {
+        around = record {
+          strict = ap (λ (o : OpenContainers). o.strict) c.self.view_is;
+          bracket = ap (λ (o : OpenContainers). o.innermost.bracket) c.self.view_is;
+          around = ap (λ (o : OpenContainers). o.around) (view-kept c.self.inside _ c.self.invariant below after.values)
+              ∙ ap (λ (o : OpenContainers). o.around) c.self.view_is;
+        };
+        even = sym after.even;
+        entries = ap viewed after.merged ∙ ap (λ (o : OpenContainers). entries_so_far o.innermost) c.self.view_is;
       };
-      even = sym after.even;
-      entries = ap viewed after.merged ∙ ap (λ (o : OpenContainers). entries_so_far o.innermost) c.self.view_is;
-    }
+}

@@ -45,7 +45,9 @@ unfolding after
 invariant_of-self-2 c = IsLaidOut-opened c.self.inside (after c) (frame c) c.self.invariant (opened c)
     (subst (λ (o : OpenContainers). AwaitsValue o.innermost.bracket o.innermost) (sym c.self.view_is) c.requires)
 
-pub returns-clause-ok : goal.returns-clause-ok
+pub returns : goal.returns
 unfolding after
-returns-clause-ok c = view-opened c.self.inside (after c) (frame c) c.self.invariant (opened c)
-    ∙ ap (λ o. container_added o c.args.bracket) c.self.view_is
+returns c = record {
+  ok = view-opened c.self.inside (after c) (frame c) c.self.invariant (opened c)
+      ∙ ap (λ o. container_added o c.args.bracket) c.self.view_is;
+}

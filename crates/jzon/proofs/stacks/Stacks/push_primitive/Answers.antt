@@ -1,6 +1,6 @@
 use Rattle.jzon_base.proofs.Common.{◌≡◌, ◌∙◌, ◌++◌, ◌≤◌, ◌∷◌, [], ℕ, List, length, length-append, drop, ap, arith}
 use Rattle.jzon_base.proofs.Common.{vec_len, Vec, Global, Result, Ok, Err}
-use Rattle.jzon_base.specs.declared.error.Error.{Error}
+use Rattle.jzon.specs.declared.fault.Stop.{Stop}
 use Rattle.jzon_tree.specs.declared.value.JsonValue.{JsonValue}
 use Rattle.jzon.specs.Private.Machine.{Frames, State}
 use Rattle.jzon.specs.Private.OpenContainers.{OpenContainers, value_added}
@@ -12,7 +12,7 @@ use Rattle.jzon.proofs.Containers.StackParts.{IsLaidOut-values, view-pushed}
 use Rattle.jzon.proofs.stacks.Stacks.push_primitive.Goals as goal
 
 -- no value is lost
-no_fewer : (old new : Vec JsonValue Global) (result : Result ℕ Error) (bs : List ℕ) (i : ℕ) (p : Frames → State)
+no_fewer : (old new : Vec JsonValue Global) (result : Result ℕ Stop) (bs : List ℕ) (i : ℕ) (p : Frames → State)
     (G : Reading → Frames → Type 0) → Puts (λ v vs. vs.items ≡ old.items ++ v ∷ []) old new result bs i p G
     → vec_len old ≤ vec_len new
 no_fewer old new (Ok end) bs i p G put =
@@ -20,7 +20,7 @@ no_fewer old new (Ok end) bs i p G put =
 no_fewer old new (Err e) bs i p G put = omega (arith, ap (λ vs. vec_len vs) put.0)
 
 -- a clause sees the value added to the innermost container
-puts_onto : (s : Inside) (o : OpenContainers) (mid new : Vec JsonValue Global) (result : Result ℕ Error) (bs : List ℕ)
+puts_onto : (s : Inside) (o : OpenContainers) (mid new : Vec JsonValue Global) (result : Result ℕ Stop) (bs : List ℕ)
     (i : ℕ) (p : Frames → State) (G : Reading → Frames → Type 0) → IsLaidOut s → containers_of s ≡ o
     → mid.items ≡ s.values.items → Puts (λ v vs. vs.items ≡ mid.items ++ v ∷ []) mid new result bs i p G
     → Puts (λ v t. t ≡ value_added o v) o (containers_of (record s { values = new })) result bs i p G
