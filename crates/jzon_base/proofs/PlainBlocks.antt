@@ -1,16 +1,17 @@
 -- From the lanes of one block to the bytes that need no escape.
 use Rattle.jzon_base.proofs.Common.{◌≡◌, ℕ, ◌+◌, ◌-◌, ◌%◌, ◌^◌, ◌≤◌, ◌<◌, ltb, eqb, Bool, true, false, not, cond, List}
-use Rattle.jzon_base.proofs.Common.{[], ◌∷◌, length, take, drop, get_or, map, replicate, bit_or, Fits, w8, refl, sym}
+use Rattle.jzon_base.proofs.Common.{[], ◌∷◌, ◌++◌, cases_eq, length, take, drop, get_or, map, replicate, bit_or, Fits, w8, refl, sym}
 use Rattle.jzon_base.proofs.Common.{ap, ap₂, ◌∙◌, zero, suc, zero-add, arith, prefix_len, agree_below_at, cond-true}
 use Rattle.jzon_base.proofs.Common.{cond-false, eq-eqb, ne_eqb, drop-drop, length-drop, length-map, take_rest}
 use Rattle.jzon_base.proofs.Common.{prefix_len-le-length, chunk-fits, first_set_mask_l, length-chunk, map-map}
-use Rattle.jzon_base.proofs.Common.{mask_l-mod, zip2_splat}
+use Rattle.jzon_base.proofs.Common.{inl, inr, length-take-le, mask_l-mod, zip2_splat}
 use Rattle.std.proofs.lemmas.Bool.{agree_below}
 use Rattle.std.proofs.lemmas.List.{take-append-drop}
 use Rattle.std.proofs.lemmas.List.Folds.{prefix_len-append}
-use Rattle.std.proofs.lemmas.Simd.{zip2_of_maps}
+use Rattle.std.proofs.lemmas.Simd.{length-put_chunk, take_more_put_chunk, zip2_of_maps}
+use Rattle.std.specs.Int.Bits.{bit_xor}
 use lib.Count.{count_trailing_zeros}
-use lib.Lanes.{Each1, chunk, mask_l, top, zip2}
+use lib.Lanes.{Each1, chunk, mask_l, put_chunk, top, zip2}
 use Rattle.jzon_base.specs.Private.PlainBytes.{is_plain}
 
 abbrev below : ℕ → ℕ → ℕ
@@ -19,9 +20,9 @@ below a b = cond (ltb a b) 255 0
 abbrev equal : ℕ → ℕ → ℕ
 equal a b = cond (eqb a b) 255 0
 
--- the result of the code's three tests for one lane
+-- the result of the code's two tests for one lane
 abbrev lane : ℕ → ℕ → ℕ → ℕ → ℕ
-lane a b c x = bit_or (bit_or (below x a) (equal x b)) (equal x c)
+lane a b c x = bit_or (below (bit_xor x a) b) (equal x c)
 
 abbrev pub stops : ℕ → ℕ → ℕ → ℕ → Bool
 stops a b c x = top 7 (lane a b c x)
@@ -34,13 +35,16 @@ same_run p q (x ∷ xs) all fits = ap₂ (λ (b : Bool) (n : ℕ). cond b (1 + n
 
 -- the mask of a block of n bytes
 abbrev pub mask_of : ℕ → ℕ → ℕ → ℕ → List ℕ → ℕ
-mask_of a b c n v = mask_l (map (top 7) (zip2 bit_or (zip2 bit_or (zip2 below v (replicate n a))
-    (zip2 equal v (replicate n b))) (zip2 equal v (replicate n c)))) % 2 ^ 64
+mask_of a b c n v = mask_l (map (top 7) (zip2 bit_or (zip2 below (zip2 bit_xor v (replicate n a)) (replicate n b))
+    (zip2 equal v (replicate n c)))) % 2 ^ 64
 
 mask_is : (a b c n : ℕ) (v : List ℕ) → length v ≡ n → n ≤ 64 → mask_of a b c n v ≡ mask_l (map (stops a b c) v)
 mask_is a b c n v long few =
-    let lanes = zip2_of_maps bit_or _ _ v (zip2_of_maps bit_or _ _ v (zip2_splat below v n a long)
-    (zip2_splat equal v n b long)) (zip2_splat equal v n c long) in
+    let turned = zip2_splat bit_xor v n a long in
+    let low = ap (λ l. zip2 below l (replicate n b)) turned
+    ∙ zip2_splat below (map (λ x. bit_xor x a) v) n b (length-map v (λ x. bit_xor x a) ∙ long)
+    ∙ map-map (λ x. below x b) (λ x. bit_xor x a) v in
+    let lanes = zip2_of_maps bit_or _ _ v low (zip2_splat equal v n c long) in
     ap (λ l. mask_l l % 2 ^ 64) (ap (map (top 7)) lanes ∙ map-map (top 7) (lane a b c) v)
     ∙ mask_l-mod (map (stops a b c) v) 64 (omega (arith, length-map v (stops a b c), long))
 
@@ -134,3 +138,35 @@ ends_in_last d i n r whole counted before =
     let left : n ≡ length d - i = omega arith in
     ap (λ (m : ℕ). i + m) (counted ∙ ap (λ (m : ℕ). prefix_len is_plain (take m (drop i d))) left
     ∙ ap (prefix_len is_plain) (take_rest d i)) ∙ past is_plain d i before
+
+-- ---- the first n bytes of a text and the last n, side by side
+side_by_side : (d zs : List ℕ) (n : ℕ) → length zs ≡ n + n → n ≤ length d
+    → take (n + n) (put_chunk n (put_chunk 0 zs (chunk 0 n d)) (chunk (length d - n) n d))
+    ≡ take n d ++ chunk (length d - n) n d
+side_by_side d zs n long room =
+    let one = put_chunk 0 zs (take n d) in
+    let last = chunk (length d - n) n d in
+    let len : length (take n d) ≡ n = length-take-le n d room in
+    take_more_put_chunk n one last (n + n) (omega (arith, length-chunk (length d - n) n d (omega arith)))
+    (omega (arith, long, length-put_chunk 0 zs (take n d)))
+    ∙ ap (λ (l : List ℕ). l ++ last) (take_more_put_chunk 0 zs (take n d) n (omega (arith, len)) (omega (arith, long)))
+
+-- if they are all plain, the text is
+pub plain_by_ends : (d zs : List ℕ) (n : ℕ) → length zs ≡ n + n → n ≤ length d → length d ≤ n + n
+    → n + n ≡ prefix_len is_plain (take (n + n) (put_chunk n (put_chunk 0 zs (chunk 0 n d)) (chunk (length d - n) n d)))
+    → length d ≤ prefix_len is_plain d
+plain_by_ends d zs n long room covered plain =
+    let k : ℕ = length d - n in
+    let first : ℕ = prefix_len is_plain (take n d) in
+    let len : length (take n d) ≡ n = length-take-le n d room in
+    let both = plain ∙ ap (prefix_len is_plain) (side_by_side d zs n long room)
+    ∙ prefix_len-append is_plain (take n d) (chunk k n d) in
+    elim (cases_eq first (length (take n d))) [
+      | inl e ↦
+          let one : n ≡ first = omega (arith, e, len) in
+          let two : n ≡ prefix_len is_plain (chunk k n d) = omega (arith, both ∙ cond-true _ _ _ (eq-eqb _ _ e), len) in
+          let passed = prefix_passes is_plain d n n room one (omega arith) in
+          omega (arith, ends_in_last d k n n (omega arith) two (omega (arith, passed)))
+      | inr e ↦
+          omega (arith, both ∙ cond-false _ _ _ (ne_eqb _ _ e), len, prefix_len-le-length is_plain (take n d))
+    ]

@@ -76,18 +76,21 @@ fn plain_by_blocks(bytes: &[u8]) -> usize
     last + plain_in_lanes::<32>(bytes, last)
 }
 
-/// Whether `N` to `2 * N` bytes need no escape: the first `N` and the last `N` are compared, which
-/// may overlap.
+/// Whether `N` to `2 * N` bytes need no escape: the first `N` and the last `N`, which may overlap,
+/// are put side by side and compared at once. `M` is `2 * N`.
 #[inline(always)]
-pub fn is_plain_by_ends<const N: usize>(bytes: &[u8]) -> bool
-    requires few { N ≤ 32 }
+pub fn is_plain_by_ends<const N: usize, const M: usize>(bytes: &[u8]) -> bool
+    requires few { M ≤ 32 }
+    requires ends { M ≡ N + N }
     requires room { N ≤ length bytes.now }
-    requires covered { length bytes.now ≤ N + N }
+    requires covered { length bytes.now ≤ M }
     ensures { IsTrue result → length bytes.now ≤ prefix_len is_plain bytes.now }
 {
-    let first = escapes_in_lanes::<N>(bytes, 0) == 0;
-    let last = escapes_in_lanes::<N>(bytes, bytes.len() - N) == 0;
-    first & last
+    let mut both = [0; M];
+    let ends = &mut both[..];
+    Simd::<u8, N>::from_slice(bytes).copy_to_slice(ends);
+    Simd::<u8, N>::from_slice(&bytes[bytes.len() - N..]).copy_to_slice(&mut ends[N..]);
+    escapes_in_lanes::<M>(ends, 0) == 0
 }
 
 /// How many of the `N` bytes at an offset come before the first that needs an escape: all of them
@@ -116,8 +119,8 @@ fn escapes_in_lanes<const N: usize>(bytes: &[u8], start: usize) -> u64
         ≡ prefix_len is_plain (take N (drop start bytes.now)) }
 {
     let lanes = Simd::<u8, N>::from_slice(&bytes[start..]);
-    let stops = lanes.simd_lt(Simd::splat(32))
-        | lanes.simd_eq(Simd::splat(b'"'))
-        | lanes.simd_eq(Simd::splat(b'\\'));
+    // A quote is 34. Its bit 2 is turned over in all lanes, and then it is next to those below 32.
+    let low = (lanes ^ Simd::splat(2)).simd_lt(Simd::splat(33));
+    let stops = low | lanes.simd_eq(Simd::splat(b'\\'));
     stops.to_bitmask()
 }

@@ -83,24 +83,30 @@ fn put_if_plain(bytes: &mut [u8], offset: usize, string: &[u8]) -> bool
 {
     match string.len() {
         0 => true,
-        1 => put_plain_ends::<1>(bytes, offset, string),
-        2..=3 => put_plain_ends::<2>(bytes, offset, string),
-        4..=7 => put_plain_ends::<4>(bytes, offset, string),
-        8..=15 => put_plain_ends::<8>(bytes, offset, string),
-        _ => put_plain_ends::<16>(bytes, offset, string),
+        1 => put_plain_ends::<1, 2>(bytes, offset, string),
+        2..=3 => put_plain_ends::<2, 4>(bytes, offset, string),
+        4..=7 => put_plain_ends::<4, 8>(bytes, offset, string),
+        8..=15 => put_plain_ends::<8, 16>(bytes, offset, string),
+        _ => put_plain_ends::<16, 32>(bytes, offset, string),
     }
 }
 
-/// The same, for `N` to `2 * N` bytes: the first `N` and the last `N`, which may overlap.
+/// The same, for `N` to `2 * N` bytes: the first `N` and the last `N`, which may overlap. `M` is
+/// `2 * N`.
 #[inline(always)]
-fn put_plain_ends<const N: usize>(bytes: &mut [u8], offset: usize, string: &[u8]) -> bool
-    requires lanes { N ≤ 16 }
+fn put_plain_ends<const N: usize, const M: usize>(
+    bytes: &mut [u8],
+    offset: usize,
+    string: &[u8],
+) -> bool
+    requires lanes { M ≤ 32 }
+    requires ends { M ≡ N + N }
     requires few { N ≤ length string.now }
     requires covered { length string.now ≤ N + N }
     requires within { offset + length string.now ≤ length bytes.old }
     ensures { PutsPlain offset string.now bytes.old bytes.new result }
 {
-    if !is_plain_by_ends::<N>(string) {
+    if !is_plain_by_ends::<N, M>(string) {
         return false;
     }
     let start = string.len() - N;
