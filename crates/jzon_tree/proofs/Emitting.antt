@@ -284,3 +284,9 @@ pub stored_err : {A E F : Type 0} (r : Result A E) (s : Result A F) (f : F) → 
     → MatchResult r (λ y. s ≡ Ok y) (λ _. IsErr s) → (e : E) × (r ≡ Err e)
 stored_err (Ok y) s f k h = absurd (cc)
 stored_err (Err e) s f k h = (e, refl)
+
+-- the effect of a call whose error was stored
+pub Emits-stored : {E F : Type 0} (P : List ℕ → Type 0) (a b : Emitted) (r : Result (Unit {0}) E)
+    (s : Result (Unit {0}) F) → MatchResult r (λ x. s ≡ Ok x) (λ _. IsErr s) → Emits P a b r → Emits P a b s
+Emits-stored P a b (Ok u) s k h = rw k h
+Emits-stored P a b (Err e) s k h = Emits-at_err P a b s k h

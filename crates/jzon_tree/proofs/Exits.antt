@@ -1,9 +1,9 @@
 -- What has been written when the functions that write values return.
 use Rattle.jzon_base.proofs.Common.{◌≡◌, ℕ, zero, suc, ◌+◌, ◌-◌, ◌<◌, List, [], ◌∷◌, ◌++◌, length, Result, ◌∙◌, ap}
-use Rattle.jzon_base.proofs.Common.{subst, get_or, take, append_assoc, append-nil, sym, refl, true, false, Bool, inl}
+use Rattle.jzon_base.proofs.Common.{subst, get_or, take, append_assoc, append-nil, sym, refl, true, false, inl}
 use Rattle.jzon_base.proofs.Common.{inr, add-one, arith, length-append, IsErr, nat_lt, IsTrue, lt-ltb}
 use Rattle.jzon_base.specs.PairList.{keys_of}
-use Rattle.jzon_tree.specs.Generator.{Begins, Just, Emitted, Added, Failed, Stopped, Emits, noted, IsForm}
+use Rattle.jzon_tree.specs.Generator.{Begins, Just, Emitted, Added, Failed, Stopped, Emits, noted, IsForm, IsKey}
 use Rattle.jzon_tree.specs.Lawful.{IsValue, AreValues, ArePairs}
 use Rattle.jzon_tree.specs.Private.Printing.{IsBetween, IsClosing, AreItems, IsEntry, pair_at, AreMembers, PrintsIf}
 use Rattle.jzon_tree.specs.Text.{quoted}
@@ -225,29 +225,23 @@ module _ (a : Emitted) (lawful : IsStyle a.style) (es : List (List ℕ × Value)
       object_at_close f = printed_at_close 123 125 (λ s d. AreMembers s d es ps) this_object a
           (object_closed a.style a.dent es ps o t n) b c d h e (IsValue (object (pairs_of es))) f r
 
--- ---- an entry in three steps
+-- ---- a key, and its colon
+module _ (s : Style) (k : List ℕ) where
+  pub key_colon : (x y : List ℕ) → Just (quoted k) x → IsForm s (58 ∷ 32 ∷ []) 58 y → IsKey s k (x ++ y)
+  key_colon x y p (inl q) = (true, q.1, ap (λ w. w ++ y) p ∙ ap (λ w. quoted k ++ w) q.0)
+  key_colon x y p (inr q) = (false, q.1, ap (λ w. w ++ y) p ∙ ap (λ w. quoted k ++ w) q.0)
+
+  pub key_begins : IsStyle s → (x : List ℕ) → Just (quoted k) x → Begins (IsKey s k) x
+  key_begins lawful x p =
+      let (wide, t) = lawful.colon in
+      (colon_text wide, (wide, t, ap (λ w. w ++ colon_text wide) p))
+
+-- ---- an entry: its key with the colon, and its value
 module _ (s : Style) (d : ℕ) (e : List ℕ × Value) where
-  pub AfterColon : List ℕ → Type 0
-  AfterColon x = (wide : Bool) × IsTrue (s.colon wide) × (x ≡ quoted e.0 ++ colon_text wide)
-
-  pub pair_colon : (x y : List ℕ) → Just (quoted e.0) x → IsForm s (58 ∷ 32 ∷ []) 58 y → AfterColon (x ++ y)
-  unfolding AfterColon
-  pair_colon x y p (inl q) = (true, q.1, ap (λ w. w ++ y) p ∙ ap (λ w. quoted e.0 ++ w) q.0)
-  pair_colon x y p (inr q) = (false, q.1, ap (λ w. w ++ y) p ∙ ap (λ w. quoted e.0 ++ w) q.0)
-
-  pub pair_value : (x y : List ℕ) → AfterColon x → Writes s d e.1 y → IsEntry s d e (x ++ y)
-  unfolding AfterColon
+  pub pair_value : (x y : List ℕ) → IsKey s e.0 x → Writes s d e.1 y → IsEntry s d e (x ++ y)
   pair_value x y (wide, t, p) q = (wide, y, t, q, ap (λ w. w ++ y) p ∙ append_assoc (quoted e.0) (colon_text wide) y)
 
-  module _ (lawful : IsStyle s) (keyed : IsValue e.1) where
-    pub after_colon : (x : List ℕ) → AfterColon x → Begins (IsEntry s d e) x
-    after_colon x p =
-        let y : (b : List ℕ) × Writes s d e.1 b = some_writing s lawful d e.1 keyed in
-        (y.0, pair_value x y.0 p y.1)
-
-    pub after_key : (x : List ℕ) → Just (quoted e.0) x → Begins (IsEntry s d e) x
-    after_key x p =
-        let y : (b : List ℕ) × Writes s d e.1 b = some_writing s lawful d e.1 keyed in (
-          colon_text lawful.colon.0 ++ y.0,
-          (lawful.colon.0, y.0, lawful.colon.1, y.1, ap (λ w. w ++ (colon_text lawful.colon.0 ++ y.0)) p),
-        )
+  pub after_key : IsStyle s → IsValue e.1 → (x : List ℕ) → IsKey s e.0 x → Begins (IsEntry s d e) x
+  after_key lawful keyed x p =
+      let y : (b : List ℕ) × Writes s d e.1 b = some_writing s lawful d e.1 keyed in
+      (y.0, pair_value x y.0 p y.1)

@@ -1,11 +1,12 @@
 -- The state that the contracts of a generator speak of, and what its hooks do to it (docs/RULES.md, "Generators").
-use Rattle.std.specs.Prelude.{◌≡◌, ℕ, ◌+◌, ◌-◌, ◌^◌, ◌≤◌, min, true, false, IsTrue, List, [], ◌∷◌, ◌++◌, ◌⊎◌, ⊤, length}
+use Rattle.std.specs.Prelude.{◌≡◌, ℕ, ◌+◌, ◌-◌, ◌^◌, ◌≤◌, min, Bool, true, false, IsTrue, List, [], ◌∷◌, ◌++◌, ◌⊎◌, ⊤, length}
 use Rattle.std.specs.Prelude.{MatchResult, Option, Result, Some, None}
 use Rattle.std.specs.Borrow.{GName}
 use Rattle.std.specs.List.{range_with_len}
 use Rattle.std.specs.declared.vec.Vec.{Vec}
 use Rattle.std.specs.declared.alloc.Global.{Global}
-use Rattle.jzon_tree.specs.Writing.{Style, IsOrder}
+use Rattle.jzon_tree.specs.Text.{quoted}
+use Rattle.jzon_tree.specs.Writing.{Style, IsOrder, colon_text}
 
 -- known bytes grow by bytes that P allows
 abbrev pub Adds : (List ℕ → Type 0) → Option (List ℕ) → Option (List ℕ) → Type 0
@@ -77,6 +78,10 @@ Prints P old new r = MatchResult r (λ _. Added P old new) (λ _. Stopped P old 
 -- `slice` if the style allows a space after a colon, or `min` if it allows a bare colon
 abbrev pub IsForm : Style → List ℕ → ℕ → List ℕ → Type 0
 IsForm s slice min b = ((b ≡ slice) × IsTrue (s.colon true)) ⊎ ((b ≡ min ∷ []) × IsTrue (s.colon false))
+
+-- a key in quotes, and a colon as the style allows
+abbrev pub IsKey : Style → List ℕ → List ℕ → Type 0
+IsKey s key b = (wide : Bool) × IsTrue (s.colon wide) × (b ≡ quoted key ++ colon_text wide)
 
 -- the positions 0 to n - 1
 abbrev pub insertion : ℕ → List ℕ

@@ -80,10 +80,8 @@ fn plain_by_blocks(bytes: &[u8]) -> usize
 /// are put side by side and compared at once. `M` is `2 * N`.
 #[inline(always)]
 pub fn is_plain_by_ends<const N: usize, const M: usize>(bytes: &[u8]) -> bool
-    requires few { M ≤ 32 }
-    requires ends { M ≡ N + N }
-    requires room { N ≤ length bytes.now }
-    requires covered { length bytes.now ≤ M }
+    requires lanes { (M ≤ 32) × (M ≡ N + N) }
+    requires ends { (N ≤ length bytes.now) × (length bytes.now ≤ N + N) }
     ensures { IsTrue result → length bytes.now ≤ prefix_len is_plain bytes.now }
 {
     let mut both = [0; M];

@@ -197,8 +197,7 @@ fn write_pair<G: Generator>(
     ensures slot { OnErr result (IsSome slot.new) }
     ensures value { OnOk result (IsPair (key.now, view value.now)) }
 {
-    g.try_write_string(key, slot)?;
-    g.try_write_min(b": ", b':', slot)?;
+    g.try_write_key(key, slot)?;
     write_value(g, value, slot)
 }
 

@@ -5,7 +5,7 @@ ghost use Rattle.std.specs.Borrow.{sem, Lends};
 ghost use Rattle.jzon_base.specs.NumberText.{written_text};
 ghost use Rattle.jzon_base.specs.PairList.{keys_of};
 ghost use Rattle.jzon_tree.specs.Entries.{entries_of};
-ghost use Rattle.jzon_tree.specs.Generator.{Emitted, Added, Failed, Emits, Counts, Just, IsForm, IsAnswer, noted};
+ghost use Rattle.jzon_tree.specs.Generator.{Emitted, Added, Failed, Emits, Counts, Just, IsForm, IsKey, IsAnswer, noted};
 ghost use Rattle.jzon_tree.specs.Text.{escaped, quoted};
 ghost use Rattle.jzon_tree.specs.Writing.{IsAllowedWhitespace, IsStyle};
 
@@ -225,16 +225,6 @@ pub trait Generator {
         store(self.write_char(ch), slot)
     }
 
-    /// `write_min`, as `write_json` calls it.
-    #[doc(hidden)]
-    fn try_write_min(&mut self, slice: &[u8], min: u8, slot: &mut ErrorSlot) -> SlotResult<()>
-        ensures bytes { Emits (IsForm (meaning self.old).style slice.now min)
-            (meaning self.old) (meaning self.new) result }
-        ensures slot { OnErr result (IsSome slot.new) }
-    {
-        store(self.write_min(slice, min), slot)
-    }
-
     /// `write_string`, as `write_json` calls it.
     #[doc(hidden)]
     fn try_write_string(&mut self, string: &str, slot: &mut ErrorSlot) -> SlotResult<()>
@@ -242,6 +232,17 @@ pub trait Generator {
         ensures slot { OnErr result (IsSome slot.new) }
     {
         store(self.write_string(string), slot)
+    }
+
+    /// `write_string` and `write_min`, as `write_json` calls them for a key and its colon.
+    #[doc(hidden)]
+    fn try_write_key(&mut self, key: &str, slot: &mut ErrorSlot) -> SlotResult<()>
+        ensures bytes { Emits (IsKey (meaning self.old).style key.now) (meaning self.old)
+            (meaning self.new) result }
+        ensures slot { OnErr result (IsSome slot.new) }
+    {
+        self.try_write_string(key, slot)?;
+        store(self.write_min(b": ", b':'), slot)
     }
 
     /// `write_number`, as `write_json` calls it.

@@ -1,15 +1,16 @@
 //! Where a `TextGenerator` writes (docs/RULES.md, "Generators").
 
-ghost use Rattle.std.specs.Prelude.{◌≡◌, ◌∷◌, ℕ, List, Option, None, Some, IsTrue, false, refl, replicate, IfOk, OnErr};
+ghost use Rattle.std.specs.Prelude.{◌≡◌, ◌++◌, ◌∷◌, ℕ, List, Option, None, Some, IsTrue, false, refl, replicate, IfOk, OnErr};
 ghost use Rattle.std.specs.Borrow.{GName, sem, Lends};
 ghost use Rattle.jzon_base.specs.NumberText.{written_text};
 ghost use Rattle.jzon_tree.specs.Generator.{Adds, Just};
 ghost use Rattle.jzon_tree.specs.Generators.{bytes_in, with_bytes};
 ghost use Rattle.jzon_tree.specs.Text.{quoted};
+ghost use Rattle.jzon_tree.specs.Writing.{colon_text};
 
 use crate::codegen::layout::push_line;
 use crate::codegen::numbers::push_digits;
-use crate::codegen::strings::{push_plain, push_short};
+use crate::codegen::strings::{BY_ENDS_ROOM, push_plain, push_short};
 use jzon_base::number::Number;
 use std::alloc::AllocError;
 use std::io::Write;
@@ -87,7 +88,18 @@ pub trait Place {
         false
     }
 
-    /// The same for a string that `put_string` doesn't add. The error is a failed allocation, and
+    /// The same for a key and its colon, with a space if `wide`.
+    #[inline(always)]
+    fn put_key(&mut self, key: &[u8], wide: bool) -> bool
+        ensures done { IsTrue result → Adds (Just (quoted key.now ++ colon_text wide))
+            (out self.old) (out self.new) }
+        ensures left { result ≡ false → out self.new ≡ out self.old }
+        ensures lender { lender self.new ≡ lender self.old }
+    {
+        false
+    }
+
+    /// As `put_string`, for a string that it doesn't add. The error is a failed allocation, and
     /// then nothing is added.
     #[inline(always)]
     fn put_long(&mut self, string: &[u8]) -> Result<bool, AllocError>
@@ -148,6 +160,19 @@ impl Place for Memory {
     #[inline(always)]
     fn put_string(&mut self, string: &[u8]) -> bool {
         push_short(&mut self.bytes, string)
+    }
+
+    #[inline(always)]
+    fn put_key(&mut self, key: &[u8], wide: bool) -> bool {
+        let bytes = &mut self.bytes;
+        if bytes.capacity() - bytes.len() < BY_ENDS_ROOM + 2 || !push_short(bytes, key) {
+            return false;
+        }
+        bytes.push_reserved(b':');
+        if wide {
+            bytes.push_reserved(b' ');
+        }
+        true
     }
 
     #[inline(always)]

@@ -1,6 +1,6 @@
 //! Strings and their escapes (docs/RULES.md, "Printed values").
 
-ghost use Rattle.std.specs.Prelude.{◌≡◌, ◌+◌, ◌≤◌, ◌++◌, ◌∷◌, [], false, length, drop, OnErr, IsSome, IfOk, IsTrue};
+ghost use Rattle.std.specs.Prelude.{◌≡◌, ◌+◌, ◌≤◌, ◌++◌, ◌∷◌, [], false, length, drop, OnErr, IsSome, IfOk, IsTrue, vec_capacity, vec_len};
 ghost use Rattle.jzon_base.specs.Private.PlainBytes.{is_plain};
 ghost use Rattle.jzon_tree.specs.Generator.{Sends, Just};
 ghost use Rattle.jzon_tree.specs.Private.Printing.{PutsPlain};
@@ -20,7 +20,7 @@ pub(super) const ESCAPE_MAX_LEN: usize = 6;
 const BY_ENDS_MAX_LEN: usize = 32;
 
 /// The room that any of these takes with its quotes.
-const BY_ENDS_ROOM: usize = BY_ENDS_MAX_LEN + 2;
+pub(super) const BY_ENDS_ROOM: usize = BY_ENDS_MAX_LEN + 2;
 
 /// Writes the prefix as it is, the text escaped, and the closing quote. Runs of bytes that need no
 /// escape are written whole.
@@ -56,6 +56,8 @@ pub(super) fn send_string<W: Write>(
 pub fn push_short(bytes: &mut Vec<u8>, string: &[u8]) -> bool
     ensures done { IsTrue result → bytes.new.items ≡ bytes.old.items ++ quoted string.now }
     ensures left { result ≡ false → bytes.new.items ≡ bytes.old.items }
+    ensures len { vec_len bytes.new ≤ vec_len bytes.old + BY_ENDS_ROOM }
+    ensures capacity { vec_capacity bytes.old ≤ vec_capacity bytes.new }
 {
     let start = bytes.len();
     if string.len() > BY_ENDS_MAX_LEN || bytes.capacity() - start < BY_ENDS_ROOM {
@@ -82,38 +84,32 @@ fn put_if_plain(bytes: &mut [u8], offset: usize, string: &[u8]) -> bool
     ensures { PutsPlain offset string.now bytes.old bytes.new result }
 {
     match string.len() {
-        0 => true,
-        1 => put_plain_ends::<1, 2>(bytes, offset, string),
-        2..=3 => put_plain_ends::<2, 4>(bytes, offset, string),
-        4..=7 => put_plain_ends::<4, 8>(bytes, offset, string),
-        8..=15 => put_plain_ends::<8, 16>(bytes, offset, string),
-        _ => put_plain_ends::<16, 32>(bytes, offset, string),
+        0..=3 => match string.len() {
+            0 => true,
+            1 => put_ends::<1, 2>(bytes, offset, string),
+            _ => put_ends::<2, 4>(bytes, offset, string),
+        },
+        4..=7 => put_ends::<4, 8>(bytes, offset, string),
+        8..=15 => put_ends::<8, 16>(bytes, offset, string),
+        _ => put_ends::<16, 32>(bytes, offset, string),
     }
 }
 
 /// The same, for `N` to `2 * N` bytes: the first `N` and the last `N`, which may overlap. `M` is
 /// `2 * N`.
 #[inline(always)]
-fn put_plain_ends<const N: usize, const M: usize>(
-    bytes: &mut [u8],
-    offset: usize,
-    string: &[u8],
-) -> bool
-    requires lanes { M ≤ 32 }
-    requires ends { M ≡ N + N }
-    requires few { N ≤ length string.now }
-    requires covered { length string.now ≤ N + N }
-    requires within { offset + length string.now ≤ length bytes.old }
-    ensures { PutsPlain offset string.now bytes.old bytes.new result }
+fn put_ends<const N: usize, const M: usize>(bytes: &mut [u8], at: usize, string: &[u8]) -> bool
+    requires lanes { (M ≤ 32) × (M ≡ N + N) }
+    requires ends { (N ≤ length string.now) × (length string.now ≤ N + N) }
+    requires within { at + length string.now ≤ length bytes.old }
+    ensures { PutsPlain at string.now bytes.old bytes.new result }
 {
     if !is_plain_by_ends::<N, M>(string) {
         return false;
     }
     let start = string.len() - N;
-    let first = Simd::<u8, N>::from_slice(string);
-    let last = Simd::<u8, N>::from_slice(&string[start..]);
-    first.copy_to_slice(&mut bytes[offset..]);
-    last.copy_to_slice(&mut bytes[offset + start..]);
+    Simd::<u8, N>::from_slice(string).copy_to_slice(&mut bytes[at..]);
+    Simd::<u8, N>::from_slice(&string[start..]).copy_to_slice(&mut bytes[at + start..]);
     true
 }
 
@@ -148,13 +144,8 @@ pub(super) fn put_escape(room: &mut [u8; ESCAPE_MAX_LEN], byte: u8) -> usize
         *room = [0, 0, 0, 0, b'\\', letter];
         return 4;
     }
-    *room = [
-        b'\\',
-        b'u',
-        b'0',
-        b'0',
-        hex_digit(byte / 16),
-        hex_digit(byte % 16),
-    ];
+    let high = hex_digit(byte / 16);
+    let low = hex_digit(byte % 16);
+    *room = [b'\\', b'u', b'0', b'0', high, low];
     0
 }

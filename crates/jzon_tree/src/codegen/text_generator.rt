@@ -93,7 +93,11 @@ impl<P: Place, L: Layout> Generator for TextGenerator<P, L> {
 
     fn write_min(&mut self, slice: &[u8], min: u8) -> io::Result<()> {
         let mut slot = None;
-        let step = self.try_write_min(slice, min, &mut slot);
+        let step = if self.layout.spaces().is_some() {
+            self.try_write(slice, &mut slot)
+        } else {
+            self.try_write_char(min, &mut slot)
+        };
         take_result(step, slot)
     }
 
@@ -166,20 +170,20 @@ impl<P: Place, L: Layout> Generator for TextGenerator<P, L> {
         self.count(step)
     }
 
-    #[inline(always)]
-    fn try_write_min(&mut self, slice: &[u8], min: u8, slot: &mut ErrorSlot) -> SlotResult<()> {
-        if self.layout.spaces().is_some() {
-            self.try_write(slice, slot)
-        } else {
-            self.try_write_char(min, slot)
-        }
-    }
-
     fn try_write_string(&mut self, string: &str, slot: &mut ErrorSlot) -> SlotResult<()> {
         if self.place.put_string(string.as_bytes()) {
             return Ok(());
         }
         self.write_long(string, slot)
+    }
+
+    fn try_write_key(&mut self, key: &str, slot: &mut ErrorSlot) -> SlotResult<()> {
+        let wide = self.layout.spaces().is_some();
+        if self.place.put_key(key.as_bytes(), wide) {
+            return Ok(());
+        }
+        self.try_write_string(key, slot)?;
+        self.try_write(&b": "[..1 + usize::from(wide)], slot)
     }
 
     fn try_write_number(&mut self, num: &Number, slot: &mut ErrorSlot) -> SlotResult<()> {

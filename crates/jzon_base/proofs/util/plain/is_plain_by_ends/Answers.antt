@@ -6,6 +6,5 @@ use Rattle.jzon_base.proofs.util.plain.is_plain_by_ends.Goals as goal
 pub returns : goal.returns
 returns g c = λ none.
     let n = g.row.N in
-    let q = c.requires in
-    plain_by_ends c.args.bytes.now (replicate (n + n) 0) n (length-replicate (n + n) 0) q.room (rw q.ends at q.covered)
-    (rw q.ends at (c.escapes_in_lanes.ensures.none (eqb-true _ 0 none)))
+    plain_by_ends c.args.bytes.now (replicate (n + n) 0) n (length-replicate (n + n) 0) c.requires.ends.0
+    c.requires.ends.1 (rw c.requires.lanes.1 at (c.escapes_in_lanes.ensures.none (eqb-true _ 0 none)))

@@ -1,20 +1,19 @@
-use Rattle.jzon_base.proofs.Common.{ℕ, List, [], ◌∷◌, ◌+◌, refl, sym, map, length, take, drop, arith, rules, subst}
+use Rattle.jzon_base.proofs.Common.{ℕ, List, [], ◌+◌, refl, sym, map, length, take, drop, arith, rules, subst}
 use Rattle.jzon_base.proofs.Common.{take_all}
 use Rattle.jzon_tree.specs.declared.value.JsonValue.{the_lemmas}
 use Rattle.jzon_tree.specs.Entries.{entries_of}
-use Rattle.jzon_tree.specs.Generator.{Just, IsForm, positions}
+use Rattle.jzon_tree.specs.Generator.{IsKey, Just, positions}
 use Rattle.jzon_tree.specs.Lawful.{IsPair}
 use Rattle.jzon_tree.specs.Private.Printing.{IsEntry}
-use Rattle.jzon_tree.specs.Text.{quoted}
 use Rattle.jzon_tree.specs.Value.{Value}
 use Rattle.jzon_tree.specs.View.{view, view_object, viewed}
 use Rattle.jzon_tree.specs.Writing.{Writes}
-use Rattle.jzon_tree.proofs.Emitting.{Added-nothing, Added-after, Failed-after, PrintsIf-after, Failed-begins}
+use Rattle.jzon_tree.proofs.Emitting.{Added-nothing, PrintsIf-after, Failed-begins}
 use Rattle.jzon_tree.proofs.Emitting.{Stopped-failed, PrintsIf-at_err, stored_ok, stored_err}
 use Rattle.jzon_tree.proofs.Exits.{array_at_opening, array_at_indent, array_at_items, array_at_close, items_at_begin}
 use Rattle.jzon_tree.proofs.Exits.{items_at_item, items_more, members_at_begin, members_at_entry, members_more}
-use Rattle.jzon_tree.proofs.Exits.{object_at_opening, object_at_indent, object_at_members, object_at_close, AfterColon}
-use Rattle.jzon_tree.proofs.Exits.{pair_colon, pair_value, after_colon, after_key}
+use Rattle.jzon_tree.proofs.Exits.{object_at_opening, object_at_indent, object_at_members, object_at_close}
+use Rattle.jzon_tree.proofs.Exits.{pair_value, after_key}
 use Rattle.jzon_tree.proofs.Ordered.{after_order, no_pair, some_pair, entry_named, answer_allowed, answer_order}
 use Rattle.jzon_tree.proofs.Ordered.{answer_length, most-at, map-at, map-take_more, length-map-take, not_empty}
 use Rattle.jzon_tree.proofs.Ordered.{length-viewed, keyed_more, named_more, pairs_named, whole_object}
@@ -89,33 +88,20 @@ write_items-loop-index-preserved g t c =
           c.in_ok-write_value.ensures.value,
     )
 
-pub write_pair-returns-in_err-try_write_string-clause-written :
-    goal.write_pair-returns-in_err-try_write_string-clause-written
-write_pair-returns-in_err-try_write_string-clause-written g t c =
+pub write_pair-returns-in_err-try_write_key-clause-written : goal.write_pair-returns-in_err-try_write_key-clause-written
+write_pair-returns-in_err-try_write_key-clause-written g t c =
     let a = g.G.Generator.meaning c.args.g.now in
     let e : List ℕ × Value = (c.args.key.now, view c.args.value.now) in
     PrintsIf-at_err _ _ _ _ _ c.from_residual.ensures.0 (λ keyed. Stopped-failed _ _ _
-    (Failed-begins (Just (quoted e.0)) (IsEntry a.style a.dent e) _ _
-    (after_key a.style a.dent e (g.met.G.Generator.style_law c.args.g.now) keyed) c.in_err-try_write_string.ensures.bytes))
-
-pub write_pair-returns-in_err-try_write_min-clause-written : goal.write_pair-returns-in_err-try_write_min-clause-written
-write_pair-returns-in_err-try_write_min-clause-written g t c =
-    let a = g.G.Generator.meaning c.args.g.now in
-    let e : List ℕ × Value = (c.args.key.now, view c.args.value.now) in
-    PrintsIf-at_err _ _ _ _ _ c.from_residual-in_err-try_write_min.ensures.0 (λ keyed. Stopped-failed _ _ _
-    (Failed-begins (AfterColon a.style a.dent e) (IsEntry a.style a.dent e) _ _
-    (after_colon a.style a.dent e (g.met.G.Generator.style_law c.args.g.now) keyed)
-    (Failed-after (Just (quoted e.0)) (λ s d. IsForm s (58 ∷ 32 ∷ []) 58) (AfterColon a.style a.dent e) _ _ _
-    (pair_colon a.style a.dent e) c.in_ok-try_write_string.ensures.bytes c.in_err-try_write_min.ensures.bytes)))
+    (Failed-begins (IsKey a.style e.0) (IsEntry a.style a.dent e) _ _
+    (after_key a.style a.dent e (g.met.G.Generator.style_law c.args.g.now) keyed) c.in_err-try_write_key.ensures.bytes))
 
 pub write_pair-returns-clause-written : goal.write_pair-returns-clause-written
 write_pair-returns-clause-written g t c =
     let a = g.G.Generator.meaning c.args.g.now in
     let e : List ℕ × Value = (c.args.key.now, view c.args.value.now) in
-    let k = Added-after (Just (quoted e.0)) (λ s d. IsForm s (58 ∷ 32 ∷ []) 58) (AfterColon a.style a.dent e) _ _ _
-    (pair_colon a.style a.dent e) c.in_ok-try_write_string.ensures.bytes c.in_ok-try_write_min.ensures.bytes in
-    PrintsIf-after (AfterColon a.style a.dent e) (λ s d. Writes s d e.1) (IsEntry a.style a.dent e) _ _ _
-    (pair_value a.style a.dent e) k _ _ c.write_value.ensures.written
+    PrintsIf-after (IsKey a.style e.0) (λ s d. Writes s d e.1) (IsEntry a.style a.dent e) _ _ _
+    (pair_value a.style a.dent e) c.in_ok-try_write_key.ensures.bytes _ _ c.write_value.ensures.written
 
 pub write_members-position_of-position-requires : goal.write_members-position_of-position-requires
 write_members-position_of-position-requires g t c =
