@@ -1,7 +1,6 @@
 //! Reads strings (RFC 8259, section 7; docs/RULES.md, "Strings").
 
-ghost use Rattle.std.specs.Prelude.{◌≡◌, ◌<◌, ◌≤◌, ◌+◌, ◌-◌, ◌++◌, ◌&&◌, ◌⊎◌, ◌↔◌, Contains, ℕ, List, [], length, drop, take, chars, IsTrue, IfOk, IsOk, IsOkUnless, SomeIff, MatchResult, OnOk, OnErr};
-ghost use Rattle.std.specs.Prelude.{slice_index, slice_range, string_bytes, if◌then◌else◌, false};
+ghost use Rattle.std.specs.Prelude.{◌≡◌, ◌<◌, ◌≤◌, ◌+◌, ◌-◌, ◌++◌, ◌&&◌, ◌⊎◌, ◌↔◌, Contains, ℕ, List, [], length, drop, take, chars, IsTrue, IfOk, IsOk, IsOkUnless, SomeIff, MatchResult, OnOk, OnErr, slice_index, slice_range, string_bytes, if◌then◌else◌, false};
 ghost use Rattle.std.specs.Str.{IsCharBoundary};
 ghost use Rattle.jzon_base.specs.Private.PlainBytes.{is_plain};
 ghost use Rattle.jzon_base.specs.Tokens.{escape};

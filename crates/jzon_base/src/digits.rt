@@ -1,13 +1,11 @@
 //! The digits of a number in a text, and the number that they mean (RFC 8259, section 6;
 //! docs/RULES.md, "What digits mean" and "Digit limits").
 
-ghost use Rattle.std.specs.Prelude.{◌≡◌, ℕ, pos, ◌+◌, ◌%◌, ◌<◌, ◌≤◌, ◌^◌, ◌-ℤ◌, ◌+ℤ◌, ◌++◌, length, take, min};
-ghost use Rattle.std.specs.Prelude.{IfErr, OkIff};
+ghost use Rattle.std.specs.Prelude.{◌≡◌, ℕ, pos, ◌+◌, ◌%◌, ◌<◌, ◌≤◌, ◌^◌, ◌-ℤ◌, ◌+ℤ◌, ◌++◌, length, take, min, IfErr, OkIff};
 ghost use Rattle.std.specs.Char.{is_ascii_digit};
 ghost use Rattle.std.specs.List.{fold, prefix_len, All};
 ghost use Rattle.jzon_base.specs.Decimal.{signed};
-ghost use Rattle.jzon_base.specs.Digits.{IsDigit, add_digit, digits_number, kept, dropped, kept_fraction, clamp};
-ghost use Rattle.jzon_base.specs.Digits.{read_number};
+ghost use Rattle.jzon_base.specs.Digits.{IsDigit, add_digit, digits_number, kept, dropped, kept_fraction, clamp, read_number};
 ghost use Rattle.jzon_base.specs.DigitLimits.{AreFewEnough, IsFirstTooMany, KeepsLongestPrefix};
 
 use crate::number::Number;

@@ -7,8 +7,7 @@
 //! depend on which hashes the keys have.
 //!
 //! `merge` finds repeated keys by one sort of such entries.
-ghost use Rattle.std.specs.Prelude.{◌≡◌, ◌<◌, ◌++◌, ◌∷◌, ◌==◌, [], length, remove, slice_get, List, ℕ};
-ghost use Rattle.std.specs.Prelude.{IfOk, IfErr, OnOk, OnErr, MatchOption, None, Some, vec_len, vec_capacity};
+ghost use Rattle.std.specs.Prelude.{◌≡◌, ◌<◌, ◌++◌, ◌∷◌, ◌==◌, [], length, remove, slice_get, List, ℕ, IfOk, IfErr, OnOk, OnErr, MatchOption, None, Some, vec_len, vec_capacity};
 ghost use Rattle.std.specs.List.{position, zip, IsDistinct};
 ghost use Rattle.std.specs.Result.{result_ok};
 ghost use Rattle.std.specs.Str.{bytes_eq};
@@ -225,7 +224,6 @@ impl Keys {
 
     /// The keys of entries: those of equal keys become one, with the last value at the position of
     /// the first. The error is a failed allocation.
-    #[inline(always)]
     pub fn from_entries<V: Drop>(
         alloc: Global,
         mut keys: Vec<Key>,

@@ -2,8 +2,7 @@
 
 ghost use Rattle.std.specs.Prelude.{◌≡◌, ◌*◌, ◌^◌, ◌<◌, ◌≤◌, ◌≤ℤ◌, ◌==◌, ◌||◌, MatchOption, Some};
 ghost use Rattle.std.specs.Cmp.{partial_equiv_from_equiv};
-ghost use Rattle.jzon_base.specs.Decimal.{parts, parts_of, is_nan, is_zero, is_positive, negated, same};
-ghost use Rattle.jzon_base.specs.Decimal.{scaled, Decimal, StripsTo};
+ghost use Rattle.jzon_base.specs.Decimal.{parts, parts_of, is_nan, is_zero, is_positive, negated, same, scaled, Decimal, StripsTo};
 ghost use Rattle.jzon_base.specs.NumberText.{decimal_text};
 ghost use Rattle.jzon_base.specs.Private.NumberFields.{value_at, HasNoParts, fields_of};
 ghost use Rattle.jzon_base.specs.Private.Same.{same_equiv};

@@ -1,14 +1,10 @@
 //! Numbers as fixed-point integers (docs/RULES.md, "Fixed-point readings"): `mantissa * 10 ^
 //! (exponent + point)`, so that `point` is the number of decimal places that are kept.
 
-ghost use Rattle.std.specs.Prelude.{◌≡◌, pos, ◌/◌, ◌%◌, ◌==◌, ◌+ℤ◌, ◌<◌, ◌≤◌, ◌^◌, FitsSigned};
-ghost use Rattle.std.specs.Prelude.{IfSome, IsTrue, true};
+ghost use Rattle.std.specs.Prelude.{◌≡◌, pos, ◌/◌, ◌%◌, ◌==◌, ◌+ℤ◌, ◌<◌, ◌≤◌, ◌^◌, FitsSigned, IfSome, IsTrue, true};
 ghost use Rattle.std.specs.Int.{w64};
 ghost use Rattle.std.specs.Option.{SomeIff};
-ghost use Rattle.jzon_base.specs.Decimal.{fixed_point, unsigned_fixed_point, whole_part, SomeWhere};
-ghost use Rattle.jzon_base.specs.Decimal.{exact_fixed_point, exact_unsigned_fixed_point, is_whole};
-ghost use Rattle.jzon_base.specs.Decimal.{is_whole_at, integer_at};
-ghost use Rattle.jzon_base.specs.Decimal.{same, IsExactAt};
+ghost use Rattle.jzon_base.specs.Decimal.{fixed_point, unsigned_fixed_point, whole_part, SomeWhere, exact_fixed_point, exact_unsigned_fixed_point, is_whole, is_whole_at, integer_at, same, IsExactAt};
 
 use super::to_integer::with_sign;
 use super::{Number, times_power};

@@ -1,11 +1,9 @@
 //! The text of a number (docs/RULES.md, "Printed numbers"; RFC 8259, section 6).
 
-ghost use Rattle.std.specs.Prelude.{◌≡◌, ◌+◌, ◌-◌, ◌≤◌, ◌<◌, ◌++◌, length, drop, replicate, decimal};
-ghost use Rattle.std.specs.Prelude.{IsAscii, IsTrue, false, OnOk, OnErr, vec_len, vec_capacity};
+ghost use Rattle.std.specs.Prelude.{◌≡◌, ◌+◌, ◌-◌, ◌≤◌, ◌<◌, ◌++◌, length, drop, replicate, decimal, IsAscii, IsTrue, false, OnOk, OnErr, vec_len, vec_capacity};
 ghost use Rattle.std.specs.Io.KnownBytes.{Appends};
 ghost use Rattle.arrayvec.specs.ArrayString.{array_string_len};
-ghost use Rattle.jzon_base.specs.NumberText.{sign_text, point_after, point_after_first, fraction_text};
-ghost use Rattle.jzon_base.specs.NumberText.{small_exponent_text, magnitude_text, number_text};
+ghost use Rattle.jzon_base.specs.NumberText.{sign_text, point_after, point_after_first, fraction_text, small_exponent_text, magnitude_text, number_text};
 ghost use Rattle.jzon_base.specs.Written.{AppendsBeginning};
 
 use crate::util::write_bytes;
