@@ -32,17 +32,23 @@ pub fn first_null(value: &JsonValue) -> Option<usize>
 #[cfg(test)]
 mod tests {
     use super::*;
-    use std::test::Fail;
+    use crate::common::{Tested, expect_eq};
 
     #[test]
-    fn looks_at_each(rt: HostRuntime) -> Result<(), Fail> {
+    fn looks_at_each(rt: HostRuntime) -> Tested {
         let alloc = rt.alloc();
-        let known = jzon::parse(alloc, "{\"port\": 80, \"name\": \"a\"}")?;
-        let unknown = jzon::parse(alloc, "{\"port\": 80, \"user\": \"a\"}")?;
-        assert!(rt; has_only_known_names(&known));
-        assert!(rt; !has_only_known_names(&unknown));
-        assert!(rt; first_null(&jzon::parse(alloc, "[0, null, null]")?) == Some(1));
-        assert!(rt; first_null(&jzon::parse(alloc, "{\"a\": null}")?).is_none());
+        let rows = [
+            ("{\"port\": 80, \"name\": \"a\"}", true),
+            ("{\"port\": 80, \"user\": \"a\"}", false),
+        ];
+        for (text, is_known) in rows {
+            let value = jzon::parse(alloc, text)?;
+            expect_eq(&rt, text, has_only_known_names(&value), is_known);
+        }
+        for (text, position) in [("[0, null, null]", Some(1)), ("{\"a\": null}", None)] {
+            let value = jzon::parse(alloc, text)?;
+            expect_eq(&rt, text, first_null(&value), position);
+        }
         Ok(())
     }
 }

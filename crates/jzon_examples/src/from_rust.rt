@@ -65,26 +65,33 @@ pub fn printed(alloc: Global, value: &JsonValue) -> Result<JsonValue> {
 #[cfg(test)]
 mod tests {
     use super::*;
-    use std::test::Fail;
+    use crate::common::{Tested, expect, expect_dump, expect_eq};
 
     #[test]
-    fn tours(rt: HostRuntime) -> std::result::Result<(), Fail> {
+    fn tours(rt: HostRuntime) -> Tested {
         let alloc = rt.alloc();
-        assert!(rt; first_look(alloc)?);
+        expect(&rt, "first_look", first_look(alloc)?);
         let text = tour(alloc, "{\"list\": [7], \"name\": \"x\"}")?;
-        assert_eq!(rt;
+        expect_eq(
+            &rt,
+            "tour",
             text.as_str(),
-            "{\"list\":[7,\"last\"],\"name\":\"x\",\"count\":1,\"first\":7,\"is_named\":true,\"built\":{\"a\":5,\"b\":[true,null],\"c\":[1,\"two\",null]}}"
+            "{\"list\":[7,\"last\"],\"name\":\"x\",\"count\":1,\"first\":7,\"is_named\":true,\"built\":{\"a\":5,\"b\":[true,null],\"c\":[1,\"two\",null]}}",
         );
+        Ok(())
+    }
+
+    #[test]
+    fn changes_and_prints(rt: HostRuntime) -> Tested {
+        let alloc = rt.alloc();
         let mut named = jzon::parse(alloc, "{\"name\": \"x\"}")?;
         rename(&mut named, JsonValue::Boolean(true));
-        assert_eq!(rt; named.dump(alloc)?.as_str(), "{\"name\":true}");
+        expect_dump(&rt, &named, "{\"name\":true}")?;
         let value = jzon::parse(alloc, "{\"abc\": [1, 2]}")?;
-        assert_eq!(rt; longest(&value), 3);
-        assert_eq!(rt;
-            printed(alloc, &value)?.at_index(2).as_str(),
-            Some("\"text\"")
-        );
+        expect_eq(&rt, "longest", longest(&value), 3);
+        let texts = printed(alloc, &value)?;
+        let text = texts.at_index(2).as_str();
+        expect_eq(&rt, "stringify", text, Some("\"text\""));
         Ok(())
     }
 }

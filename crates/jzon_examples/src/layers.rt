@@ -41,23 +41,16 @@ fn copied(alloc: Global, value: &JsonValue) -> Result<JsonValue>
 #[cfg(test)]
 mod tests {
     use super::*;
-    use std::test::Fail;
+    use crate::common::{Tested, expect_dump};
 
     #[test]
-    fn layers(rt: HostRuntime) -> std::result::Result<(), Fail> {
+    fn layers(rt: HostRuntime) -> Tested {
         let alloc = rt.alloc();
         let base = jzon::parse(alloc, "{\"host\": \"a\", \"port\": 80}")?;
         let later = jzon::parse(alloc, "{\"port\": 81, \"log\": null}")?;
-        assert_eq!(rt;
-            layered(alloc, &base, &later)?.dump(alloc)?.as_str(),
-            "{\"host\":\"a\",\"port\":81,\"log\":null}"
-        );
-        assert_eq!(rt;
-            layered(alloc, &later, &JsonValue::Null)?
-                .dump(alloc)?
-                .as_str(),
-            "{\"port\":81,\"log\":null}"
-        );
-        Ok(())
+        let both = layered(alloc, &base, &later)?;
+        expect_dump(&rt, &both, "{\"host\":\"a\",\"port\":81,\"log\":null}")?;
+        let alone = layered(alloc, &later, &JsonValue::Null)?;
+        expect_dump(&rt, &alone, "{\"port\":81,\"log\":null}")
     }
 }

@@ -33,13 +33,14 @@ fn add_line(alloc: Global, line: &str, printed: &mut String) -> Result<()>
 #[cfg(test)]
 mod tests {
     use super::*;
-    use std::test::Fail;
+    use crate::common::{Tested, expect, expect_eq};
 
     #[test]
-    fn prints_each_line(rt: HostRuntime) -> std::result::Result<(), Fail> {
+    fn prints_each_line(rt: HostRuntime) -> Tested {
         let printed = compacted(rt.alloc(), " {\"a\": 1}\n[ ]\r\n\"x\"")?;
-        assert_eq!(rt; printed.as_str(), "{\"a\":1}\n[]\n\"x\"\n");
-        assert!(rt; compacted(rt.alloc(), "1\n\n2").is_err());
+        expect_eq(&rt, "printed", printed.as_str(), "{\"a\":1}\n[]\n\"x\"\n");
+        let faulty = compacted(rt.alloc(), "1\n\n2");
+        expect(&rt, "an error", faulty.is_err());
         Ok(())
     }
 }

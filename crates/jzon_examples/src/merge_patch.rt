@@ -84,12 +84,19 @@ fn members_of(alloc: Global, value: &JsonValue) -> Result<Object>
 #[cfg(test)]
 mod tests {
     use super::*;
-    use std::test::Fail;
+    use crate::common::{Tested, Tester, expect_dump};
+
+    /// The target with the patch is this value.
+    fn expect_merged(rt: &impl Tester, target: &str, patch: &str, merged: &str) -> Tested {
+        let patch = jzon::parse(rt.alloc(), patch)?;
+        let mut value = jzon::parse(rt.alloc(), target)?;
+        merge(rt.alloc(), &mut value, &patch)?;
+        expect_dump(rt, &value, merged)
+    }
 
     /// Rows of the appendix of RFC 7396.
     #[test]
-    fn merges(rt: HostRuntime) -> std::result::Result<(), Fail> {
-        let alloc = rt.alloc();
+    fn merges(rt: HostRuntime) -> Tested {
         let rows = [
             ("{\"a\":\"b\"}", "{\"a\":\"c\"}", "{\"a\":\"c\"}"),
             (
@@ -112,10 +119,8 @@ mod tests {
             ),
             ("{\"e\":null}", "{\"a\":1}", "{\"e\":null,\"a\":1}"),
         ];
-        for (target, patch, result) in &rows {
-            let mut value = jzon::parse(alloc, target)?;
-            merge(alloc, &mut value, &jzon::parse(alloc, patch)?)?;
-            assert_eq!(rt; value.dump(alloc)?.as_str(), *result);
+        for (target, patch, merged) in rows {
+            expect_merged(&rt, target, patch, merged)?;
         }
         Ok(())
     }

@@ -165,59 +165,53 @@ fn test(found: &JsonValue, expected: &JsonValue) -> Result<(), PatchError>
 #[cfg(test)]
 mod tests {
     use super::*;
+    use crate::common::{Tested, Tester, expect, expect_dump};
     use crate::pointer;
-    use std::process::Abort;
-    use std::test::Fail;
+    use std::alloc::AllocError;
 
     /// Examples of the appendix of RFC 6902 whose paths lead through objects alone.
     #[test]
-    fn applies(rt: HostRuntime) -> Result<(), Fail> {
+    fn applies(rt: HostRuntime) -> Tested {
         let alloc = rt.alloc();
         let one = Operation::Add(jzon::parse(alloc, "\"qux\"")?);
-        expect(
+        expect_applied(
             &rt,
-            alloc,
             "{\"foo\":\"bar\"}",
             "/baz",
             one,
             "{\"foo\":\"bar\",\"baz\":\"qux\"}",
         )?;
-        expect(
+        expect_applied(
             &rt,
-            alloc,
             "{\"baz\":\"qux\",\"foo\":\"bar\"}",
             "/baz",
             Operation::Remove,
             "{\"foo\":\"bar\"}",
         )?;
         let boo = Operation::Replace(jzon::parse(alloc, "\"boo\"")?);
-        expect(
+        expect_applied(
             &rt,
-            alloc,
             "{\"baz\":\"qux\",\"foo\":\"bar\"}",
             "/baz",
             boo,
             "{\"baz\":\"boo\",\"foo\":\"bar\"}",
         )?;
         let child = Operation::Add(jzon::parse(alloc, "{\"grandchild\":{}}")?);
-        expect(
+        expect_applied(
             &rt,
-            alloc,
             "{\"foo\":\"bar\"}",
             "/child",
             child,
             "{\"foo\":\"bar\",\"child\":{\"grandchild\":{}}}",
-        )?;
-        Ok(())
+        )
     }
 
     #[test]
-    fn fails(rt: HostRuntime) -> Result<(), Fail> {
+    fn fails(rt: HostRuntime) -> Tested {
         let alloc = rt.alloc();
         let bar = Operation::Test(jzon::parse(alloc, "\"bar\"")?);
         expect_error(
             &rt,
-            alloc,
             "{\"baz\":\"qux\"}",
             "/baz",
             bar,
@@ -226,7 +220,6 @@ mod tests {
         let inner = Operation::Add(jzon::parse(alloc, "\"qux\"")?);
         expect_error(
             &rt,
-            alloc,
             "{\"foo\":\"bar\"}",
             "/baz/bat",
             inner,
@@ -234,42 +227,47 @@ mod tests {
         )?;
         expect_error(
             &rt,
-            alloc,
             "{\"a\":{\"b\":1}}",
             "/a/c",
             Operation::Remove,
             PatchError::NoTarget,
-        )?;
-        Ok(())
+        )
     }
 
-    fn expect(
-        rt: &impl Abort,
-        alloc: Global,
+    fn expect_applied(
+        rt: &impl Tester,
         text: &str,
         path: &str,
         operation: Operation,
         expected: &str,
-    ) -> Result<(), Fail> {
-        let mut value = jzon::parse(alloc, text)?;
-        let tokens = pointer::tokens_of(alloc, path)?.unwrap_or(Vec::new(alloc));
-        assert!(rt; apply(alloc, &mut value, &tokens, operation).is_ok());
-        assert_eq!(rt; value.dump(alloc)?.as_str(), expected);
-        Ok(())
+    ) -> Tested {
+        let mut value = jzon::parse(rt.alloc(), text)?;
+        let result = apply_at(rt.alloc(), &mut value, path, operation)?;
+        expect(rt, path, result.is_ok());
+        expect_dump(rt, &value, expected)
     }
 
     fn expect_error(
-        rt: &impl Abort,
-        alloc: Global,
+        rt: &impl Tester,
         text: &str,
         path: &str,
         operation: Operation,
         expected: PatchError,
-    ) -> Result<(), Fail> {
-        let mut value = jzon::parse(alloc, text)?;
-        let tokens = pointer::tokens_of(alloc, path)?.unwrap_or(Vec::new(alloc));
-        assert!(rt; apply(alloc, &mut value, &tokens, operation) == Err(expected));
-        assert_eq!(rt; value.dump(alloc)?.as_str(), text);
-        Ok(())
+    ) -> Tested {
+        let mut value = jzon::parse(rt.alloc(), text)?;
+        let result = apply_at(rt.alloc(), &mut value, path, operation)?;
+        expect(rt, path, result == Err(expected));
+        expect_dump(rt, &value, text)
+    }
+
+    /// Does the operation at the end of the path that the pointer names.
+    fn apply_at(
+        alloc: Global,
+        value: &mut JsonValue,
+        pointer: &str,
+        operation: Operation,
+    ) -> Result<Result<(), PatchError>, AllocError> {
+        let tokens = pointer::tokens_of(alloc, pointer)?.unwrap_or(Vec::new(alloc));
+        Ok(apply(alloc, value, &tokens, operation))
     }
 }

@@ -104,10 +104,24 @@ fn unescaped(alloc: Global, piece: &str) -> Result<Option<String>, AllocError> {
 #[cfg(test)]
 mod tests {
     use super::*;
-    use std::test::Fail;
+    use crate::common::{Tested, Tester, expect, expect_dump};
+
+    /// The pointer leads to the value of this text, or to none.
+    fn expect_found(
+        rt: &impl Tester,
+        pointer: &str,
+        found: Option<&JsonValue>,
+        expected: Option<&str>,
+    ) -> Tested {
+        match (found, expected) {
+            (Some(found), Some(expected)) => expect_dump(rt, found, expected)?,
+            (found, expected) => expect(rt, pointer, found.is_none() && expected.is_none()),
+        }
+        Ok(())
+    }
 
     #[test]
-    fn finds(rt: HostRuntime) -> Result<(), Fail> {
+    fn finds(rt: HostRuntime) -> Tested {
         let alloc = rt.alloc();
         let value = jzon::parse(
             alloc,
@@ -125,17 +139,12 @@ mod tests {
             ("/m~0n", Some("8")),
             ("/m~n", None),
         ];
-        for (text, expected) in &rows {
+        for (text, expected) in rows {
             let found = match tokens_of(alloc, text)? {
                 Some(tokens) => walk(&value, &tokens),
                 None => None,
             };
-            match (found, expected) {
-                (Some(found), Some(expected)) => {
-                    assert_eq!(rt; found.dump(alloc)?.as_str(), *expected);
-                }
-                (found, expected) => assert!(rt; found.is_none() && expected.is_none()),
-            }
+            expect_found(&rt, text, found, expected)?;
         }
         Ok(())
     }

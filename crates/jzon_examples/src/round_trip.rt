@@ -53,17 +53,20 @@ pub fn redump(alloc: Global, value: &JsonValue) -> Result<String>
 #[cfg(test)]
 mod tests {
     use super::*;
-    use std::test::Fail;
+    use crate::common::{Tested, expect, expect_eq};
 
     #[test]
-    fn goes_round(rt: HostRuntime) -> std::result::Result<(), Fail> {
+    fn goes_round(rt: HostRuntime) -> Tested {
         let alloc = rt.alloc();
         let value = jzon::parse(alloc, " {\"b\": [1.50, null], \"a\": \"x\\n\"} ")?;
-        assert!(rt; reread(alloc, &value)? == value);
-        assert!(rt; reread_lines(alloc, &value, 65535)? == value);
-        assert_eq!(rt;
-            redump(alloc, &value)?.as_str(),
-            "{\"b\":[1.50,null],\"a\":\"x\\n\"}"
+        expect(&rt, "reread", reread(alloc, &value)? == value);
+        expect(&rt, "lines", reread_lines(alloc, &value, 65535)? == value);
+        let text = redump(alloc, &value)?;
+        expect_eq(
+            &rt,
+            "redump",
+            text.as_str(),
+            "{\"b\":[1.50,null],\"a\":\"x\\n\"}",
         );
         Ok(())
     }

@@ -21,15 +21,11 @@ pub fn server(alloc: Global, host: &str, port: u16) -> Result<JsonValue>
 #[cfg(test)]
 mod tests {
     use super::*;
-    use std::test::Fail;
+    use crate::common::{Tested, expect_dump};
 
     #[test]
-    fn builds(rt: HostRuntime) -> std::result::Result<(), Fail> {
-        let alloc = rt.alloc();
-        assert_eq!(rt;
-            server(alloc, "a", 80)?.dump(alloc)?.as_str(),
-            "{\"host\":\"a\",\"port\":80,\"tags\":[]}"
-        );
-        Ok(())
+    fn builds(rt: HostRuntime) -> Tested {
+        let value = server(rt.alloc(), "a", 80)?;
+        expect_dump(&rt, &value, "{\"host\":\"a\",\"port\":80,\"tags\":[]}")
     }
 }

@@ -104,12 +104,10 @@ impl<W: Write> Generator for SortedGenerator<W> {
 #[cfg(test)]
 mod tests {
     use super::*;
+    use crate::common::{Tested, Tester, expect, expect_dump, expect_eq};
     use jzon::codegen::write_object;
     use jzon_test_support::{NO_FAILING_CALL, RUNS_MAX, Refusals, SlowWriter, Trouble};
-    use std::process::Abort;
     use std::test::Fail;
-
-    type Tested = Result<(), Fail>;
 
     const SOURCE: &str = "{\"c\":null,\"b\":null,\"a\":null}";
 
@@ -148,33 +146,30 @@ mod tests {
         for (source, sorted) in [(SOURCE, SORTED), (NESTED, NESTED_SORTED)] {
             let value = jzon::parse(alloc, source)?;
             let bytes = sorted_bytes(alloc, &value)?;
-            assert_eq!(rt; bytes.as_slice(), sorted.as_bytes());
+            expect_eq(&rt, source, bytes.as_slice(), sorted.as_bytes());
             let mut generator = sorting(alloc, Vec::new(alloc));
             write(&mut generator, &value, true)?;
-            assert_eq!(rt; generator.writer.as_slice(), sorted.as_bytes());
-            assert_eq!(rt; value.dump(alloc)?.as_str(), source);
+            expect_eq(&rt, source, generator.writer.as_slice(), sorted.as_bytes());
+            expect_dump(&rt, &value, source)?;
         }
         Ok(())
     }
 
     /// The writer fails at this call: its own error is returned, one fault is counted, and the
     /// bytes before it were written.
-    fn expect_stop(
-        rt: &impl Abort,
-        alloc: Global,
-        value: &JsonValue,
-        is_object: bool,
-        call: usize,
-    ) -> Tested {
+    fn expect_stop(rt: &impl Tester, value: &JsonValue, is_object: bool, call: usize) -> Tested {
         let trouble = Trouble::Fails(ErrorKind::BrokenPipe);
-        let mut generator = sorting(alloc, SlowWriter::new(alloc, call, trouble));
+        let mut generator = sorting(rt.alloc(), SlowWriter::new(rt.alloc(), call, trouble));
         match write(&mut generator, value, is_object) {
-            Err(error) => assert!(rt; trouble.is_returned(alloc, &error)?, "call {call}"),
-            Ok(()) => assert!(rt; false, "no error at call {call}"),
+            Err(error) => expect(rt, "its error", trouble.is_returned(rt.alloc(), &error)?),
+            Ok(()) => expect(rt, "no error", false),
         }
-        let written = &generator.writer.bytes;
-        assert_eq!(rt; (generator.faults, generator.writer.calls), (1, call));
-        assert!(rt; NESTED_SORTED.as_bytes().starts_with(written) && written.len() + 1 == call);
+        let written = generator.writer.bytes.as_slice();
+        expect_eq(rt, "one fault", generator.faults, 1);
+        expect_eq(rt, "calls", generator.writer.calls, call);
+        expect_eq(rt, "length", written.len() + 1, call);
+        let is_prefix = NESTED_SORTED.as_bytes().starts_with(written);
+        expect(rt, "a prefix", is_prefix);
         Ok(())
     }
 
@@ -183,19 +178,36 @@ mod tests {
         let alloc = rt.alloc();
         let value = jzon::parse(alloc, NESTED)?;
         for call in 1..=NESTED_SORTED.len() {
-            expect_stop(&rt, alloc, &value, false, call)?;
-            expect_stop(&rt, alloc, &value, true, call)?;
+            expect_stop(&rt, &value, false, call)?;
+            expect_stop(&rt, &value, true, call)?;
         }
         let writer = SlowWriter::new(alloc, NO_FAILING_CALL, Trouble::TakesNothing);
         let mut generator = sorting(alloc, writer);
         write_json(&mut generator, &value)?;
-        assert_eq!(rt; generator.writer.bytes.as_slice(), NESTED_SORTED.as_bytes());
+        let written = generator.writer.bytes.as_slice();
+        expect_eq(&rt, NESTED, written, NESTED_SORTED.as_bytes());
         Ok(())
     }
 
-    /// Each allocation fails in turn, those of `order` first: the error says so, one fault is
-    /// counted, and what was written is a prefix of the sorted text.
-    fn fail_each(rt: &impl Abort, alloc: Global, is_object: bool) -> Result<Refusals, Fail> {
+    /// The error says that an allocation failed, one fault is counted, and what was written is a
+    /// prefix of the sorted text.
+    fn expect_refused(
+        rt: &impl Tester,
+        generator: &SortedGenerator<Vec<u8>>,
+        outcome: io::Result<()>,
+    ) {
+        match outcome {
+            Err(error) => expect_eq(rt, "error", error.kind(), ErrorKind::OutOfMemory),
+            Ok(()) => expect(rt, "no error", false),
+        }
+        expect_eq(rt, "one fault", generator.faults, 1);
+        let is_prefix = NESTED_SORTED.as_bytes().starts_with(&generator.writer);
+        expect(rt, "a prefix", is_prefix);
+    }
+
+    /// Each allocation fails in turn, those of `order` first.
+    fn fail_each(rt: &impl Tester, is_object: bool) -> Result<Refusals, Fail> {
+        let alloc = rt.alloc();
         let value = jzon::parse(alloc, NESTED)?;
         let mut refusals = Refusals::new(alloc);
         for _ in 0..RUNS_MAX {
@@ -203,21 +215,20 @@ mod tests {
             refusals.begin();
             let result = write(&mut generator, &value, is_object);
             if !refusals.has_failed() {
-                assert!(rt; result.is_ok());
-                assert_eq!(rt; generator.writer.as_slice(), NESTED_SORTED.as_bytes());
+                expect(rt, "no error", result.is_ok());
+                let written = generator.writer.as_slice();
+                expect_eq(rt, NESTED, written, NESTED_SORTED.as_bytes());
                 break;
             }
-            assert!(rt; result.is_err_and(|error| error.kind() == ErrorKind::OutOfMemory));
-            assert_eq!(rt; generator.faults, 1);
-            assert!(rt; NESTED_SORTED.as_bytes().starts_with(&generator.writer));
+            expect_refused(rt, &generator, result);
         }
         Ok(refusals)
     }
 
     #[test]
     fn generator_under_refusals(rt: HostRuntime) -> Tested {
-        fail_each(&rt, rt.alloc(), false)?.report(&rt, "write_json, SortedGenerator", 8)?;
-        fail_each(&rt, rt.alloc(), true)?.report(&rt, "write_object, SortedGenerator", 8)?;
+        fail_each(&rt, false)?.report(&rt, "write_json, SortedGenerator", 8)?;
+        fail_each(&rt, true)?.report(&rt, "write_object, SortedGenerator", 8)?;
         Ok(())
     }
 }

@@ -28,15 +28,15 @@ pub fn set_port(alloc: Global, value: &mut JsonValue, port: u16) -> Result<()>
 #[cfg(test)]
 mod tests {
     use super::*;
-    use std::test::Fail;
+    use crate::common::{Tested, expect, expect_dump};
 
     #[test]
-    fn writes(rt: HostRuntime) -> std::result::Result<(), Fail> {
+    fn writes(rt: HostRuntime) -> Tested {
         let alloc = rt.alloc();
+        let failed = set_port(alloc, &mut JsonValue::Null, 80);
+        expect(&rt, "an error", failed.is_err());
         let mut value = jzon::parse(alloc, "{\"port\": 1, \"host\": \"a\"}")?;
         set_port(alloc, &mut value, 80)?;
-        assert_eq!(rt; value.dump(alloc)?.as_str(), "{\"port\":80,\"host\":\"a\"}");
-        assert!(rt; set_port(alloc, &mut JsonValue::Null, 80).is_err());
-        Ok(())
+        expect_dump(&rt, &value, "{\"port\":80,\"host\":\"a\"}")
     }
 }

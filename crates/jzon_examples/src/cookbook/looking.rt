@@ -181,10 +181,10 @@ pub fn means_the_same(alloc: Global, one: &str, other: &str) -> Result<bool> {
 #[cfg(test)]
 mod tests {
     use super::*;
-    use std::test::Fail;
+    use crate::common::{Tested, expect_eq};
 
     #[test]
-    fn goes_over(rt: HostRuntime) -> std::result::Result<(), Fail> {
+    fn goes_over(rt: HostRuntime) -> Tested {
         let alloc = rt.alloc();
         let orders = jzon::parse(alloc, r#"[{"amount": 2}, {"amount": 3}]"#)?;
         assert_eq!(rt; total(&orders), Some(5));
@@ -202,7 +202,7 @@ mod tests {
     }
 
     #[test]
-    fn finds_servers(rt: HostRuntime) -> std::result::Result<(), Fail> {
+    fn finds_servers(rt: HostRuntime) -> Tested {
         let alloc = rt.alloc();
         let value = jzon::parse(alloc, r#"{"host": "a", "tags": ["x", 1, "y"]}"#)?;
         assert_eq!(rt;
@@ -223,7 +223,7 @@ mod tests {
     }
 
     #[test]
-    fn reads_lists_and_defaults(rt: HostRuntime) -> std::result::Result<(), Fail> {
+    fn reads_lists_and_defaults(rt: HostRuntime) -> Tested {
         let alloc = rt.alloc();
         let numbers = numbers_of(alloc, &jzon::parse(alloc, "[1, 20, 300]")?)?;
         assert_eq!(rt; numbers.as_slice(), [1, 20, 300].as_slice());
@@ -239,8 +239,7 @@ mod tests {
     }
 
     #[test]
-    fn reads_numbers(rt: HostRuntime) -> std::result::Result<(), Fail> {
-        let alloc = rt.alloc();
+    fn reads_numbers(rt: HostRuntime) -> Tested {
         let rows = [
             ("100", Some(100), Some(100)),
             ("1e2", None, Some(100)),
@@ -249,16 +248,15 @@ mod tests {
             ("-1", None, None),
         ];
         for (text, by_parts, by_value) in rows {
-            let value = jzon::parse(alloc, text)?;
-            assert_eq!(rt; value.as_u64(), by_parts);
-            assert_eq!(rt; integer(&value), by_value);
+            let value = jzon::parse(rt.alloc(), text)?;
+            expect_eq(&rt, text, value.as_u64(), by_parts);
+            expect_eq(&rt, text, integer(&value), by_value);
         }
         Ok(())
     }
 
     #[test]
-    fn reads_prices(rt: HostRuntime) -> std::result::Result<(), Fail> {
-        let alloc = rt.alloc();
+    fn reads_prices(rt: HostRuntime) -> Tested {
         let rows = [
             (r#"{"price": 19.99}"#, Some(1999)),
             (r#"{"price": 20}"#, Some(2000)),
@@ -267,13 +265,14 @@ mod tests {
             (r#"{"price": "20"}"#, None),
         ];
         for (text, expected) in rows {
-            assert_eq!(rt; cents(&jzon::parse(alloc, text)?), expected);
+            let order = jzon::parse(rt.alloc(), text)?;
+            expect_eq(&rt, text, cents(&order), expected);
         }
         Ok(())
     }
 
     #[test]
-    fn keeps_long_digits_in_strings(rt: HostRuntime) -> std::result::Result<(), Fail> {
+    fn keeps_long_digits_in_strings(rt: HostRuntime) -> Tested {
         let alloc = rt.alloc();
         let cut = jzon::parse(alloc, r#"{"id": 123456789012345678901234567890}"#)?;
         assert_eq!(rt;
@@ -286,7 +285,7 @@ mod tests {
     }
 
     #[test]
-    fn compares(rt: HostRuntime) -> std::result::Result<(), Fail> {
+    fn compares(rt: HostRuntime) -> Tested {
         let alloc = rt.alloc();
         assert!(rt; means_the_same(alloc, r#"{"a": 1.50, "b": []}"#, r#"{"b":[],"a":15e-1}"#)?);
         assert!(rt; !means_the_same(alloc, "[1, 2]", "[2, 1]")?);

@@ -1,0 +1,32 @@
+//! What the tests share. To prove an assertion takes seconds, and a call of `expect` or `expect_eq`
+//! hardly any time. The cookbook quotes assertions, so its tests have some.
+
+use jzon::JsonValue;
+use std::alloc::AllocGlobal;
+use std::fmt::Debug;
+use std::process::Abort;
+use std::test::Fail;
+
+pub type Tested = std::result::Result<(), Fail>;
+
+/// The runtime of a test, which may abort it and gives its allocator.
+pub trait Tester: Abort + AllocGlobal {}
+
+impl<R: Abort + AllocGlobal> Tester for R {}
+
+/// It holds of this row.
+pub fn expect(rt: &impl Abort, row: &str, holds: bool) {
+    assert!(rt; holds, "{row}");
+}
+
+/// Both are equal, in this row.
+pub fn expect_eq<T: Copy + PartialEq + Debug>(rt: &impl Abort, row: &str, found: T, want: T) {
+    assert_eq!(rt; found, want, "{row}");
+}
+
+/// The value dumps this text.
+pub fn expect_dump(rt: &impl Tester, value: &JsonValue, text: &str) -> Tested {
+    let dump = value.dump(rt.alloc())?;
+    expect_eq(rt, text, dump.as_str(), text);
+    Ok(())
+}
