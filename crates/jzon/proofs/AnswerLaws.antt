@@ -12,7 +12,7 @@ use Rattle.jzon_tree.specs.Value.{Value, nest}
 use Rattle.jzon_tree.specs.View.{view}
 use Rattle.jzon_tree.specs.Writing.{Style, Writes}
 use Rattle.jzon_tree.specs.declared.value.JsonValue.{JsonValue}
-use Rattle.jzon_tree.proofs.PlainWritings.{Writes-compact, Writes-pretty}
+use Rattle.jzon_tree.proofs.Laws.PlainWritings.{Writes-compact, Writes-pretty}
 use Rattle.jzon.specs.Answer.{IsMeaningOf, IsReadable, IsErrorUnlessMemory}
 use Rattle.jzon.specs.Fault.{Parses, IsErrorOf, error_at}
 use Rattle.jzon.specs.Grammar.{Document}

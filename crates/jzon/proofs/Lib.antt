@@ -7,13 +7,13 @@ pub mod WorkedRows
 pub mod AnswerLaws
 mod PrintedTexts
 -- the lower crates' laws, for callers (crates/jzon/CALLING.md)
-pub use Rattle.jzon_base.proofs.PairLaws
-pub use Rattle.jzon_tree.proofs.ValueLaws
-pub use Rattle.jzon_tree.proofs.KeptByChanges
-pub use Rattle.jzon_tree.proofs.KeptByConversions
-pub use Rattle.jzon_tree.proofs.Chains
-pub use Rattle.jzon_tree.proofs.InPlace
-pub use Rattle.jzon_tree.proofs.PlainWritings
-pub use Rattle.jzon_tree.proofs.Sorted
-pub use Rattle.jzon_tree.proofs.KeyOrder
-pub use Rattle.jzon_tree.proofs.Unique
+pub use Rattle.jzon_base.proofs.Entries.PairLaws
+pub use Rattle.jzon_tree.proofs.Laws.ValueLaws
+pub use Rattle.jzon_tree.proofs.Laws.KeptByChanges
+pub use Rattle.jzon_tree.proofs.Laws.KeptByConversions
+pub use Rattle.jzon_tree.proofs.Laws.Chains
+pub use Rattle.jzon_tree.proofs.Laws.InPlace
+pub use Rattle.jzon_tree.proofs.Laws.PlainWritings
+pub use Rattle.jzon_tree.proofs.Laws.Sorted
+pub use Rattle.jzon_tree.proofs.Laws.KeyOrder
+pub use Rattle.jzon_tree.proofs.Laws.Unique

@@ -31,6 +31,7 @@ pub mod Answers
 pub mod ReadTree
 -- the bytes
 pub mod AsciiRuns
+pub mod WhitespaceBlocks
 pub mod StepsByByte
 pub mod FaultOffsets
 pub mod ReportedErrors

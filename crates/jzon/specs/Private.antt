@@ -3,7 +3,7 @@ pub mod Classes
 pub mod Quote
 pub mod Stops
 pub mod Machine
-pub mod Places
+pub mod Targets
 pub mod Numerals
 pub mod Brackets
 pub mod Cursor

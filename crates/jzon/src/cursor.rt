@@ -5,7 +5,7 @@ ghost use Rattle.std.specs.Str.{IsCharBoundary, IsUtf8};
 ghost use Rattle.jzon_tree.specs.Value.{Value};
 ghost use Rattle.jzon_tree.specs.View.{view};
 ghost use Rattle.jzon_tree.specs.Writing.{is_whitespace};
-ghost use Rattle.jzon.specs.Private.Brackets.{opener, closer, empty_container, innermost_bracket, after_opener, after_comma, after_closer};
+ghost use Rattle.jzon.specs.Private.Brackets.{opener, closer, empty_container, innermost_kind, after_opener, after_comma, after_closer};
 ghost use Rattle.jzon.specs.Private.Machine.{Frames, frames_depth, value_mark, before, after_value, from, fault_here, Reports};
 ghost use Rattle.jzon_base.specs.Tokens.{begin_array, begin_object};
 
@@ -19,21 +19,21 @@ use std::alloc::Global;
 
 /// The brackets of one kind of container.
 #[derive(Clone, Copy)]
-pub(crate) enum Bracket {
+pub(crate) enum ContainerKind {
     Array,
     Object,
 }
 
-impl Bracket {
+impl ContainerKind {
     /// The brackets of the container whose first byte this is, if it is one.
     #[inline(always)]
-    pub(crate) fn opened_by(first: u8) -> Option<Bracket>
+    pub(crate) fn opened_by(first: u8) -> Option<ContainerKind>
         ensures { MatchOption result ((first ≢ begin_array) × (first ≢ begin_object))
             (λ b. first ≡ opener b) }
     {
         match first {
-            b'[' => Some(Bracket::Array),
-            b'{' => Some(Bracket::Object),
+            b'[' => Some(ContainerKind::Array),
+            b'{' => Some(ContainerKind::Object),
             _ => None,
         }
     }
@@ -44,8 +44,8 @@ impl Bracket {
         ensures { view result ≡ empty_container self }
     {
         match self {
-            Bracket::Array => JsonValue::Array(Vec::new(alloc)),
-            Bracket::Object => JsonValue::Object(Object::new(alloc)),
+            ContainerKind::Array => JsonValue::Array(Vec::new(alloc)),
+            ContainerKind::Object => JsonValue::Object(Object::new(alloc)),
         }
     }
 
@@ -55,8 +55,8 @@ impl Bracket {
         ensures { result ≡ closer self }
     {
         match self {
-            Bracket::Array => b']',
-            Bracket::Object => b'}',
+            ContainerKind::Array => b']',
+            ContainerKind::Object => b'}',
         }
     }
 }
@@ -128,23 +128,23 @@ impl<'a> Cursor<'a> {
     /// container is empty; then it moves past the closing bracket too. Else `At` at
     /// the end of the text, or `Limit` if `depth` is what the reading allows.
     #[inline(always)]
-    pub(crate) fn open_container(&mut self, bracket: Bracket, depth: usize) -> Result<bool>
+    pub(crate) fn open_container(&mut self, kind: ContainerKind, depth: usize) -> Result<bool>
         requires room { depth ≤ self.old.reading.depth }
-        requires opening { next_byte self.old ≡ opener bracket }
+        requires opening { next_byte self.old ≡ opener kind }
         ensures reading { self.new.reading ≡ self.old.reading }
         ensures memory { result ≢ Err Stop.Memory }
         ensures filled { IfOk result (λ is_empty. is_empty ≡ false →
             (depth < self.old.reading.depth)
-            × (next_byte self.new ≢ closer bracket)) }
+            × (next_byte self.new ≢ closer kind)) }
         ensures outcome { (fs : Frames) → value_mark self.old.reading fs ≡ None →
             frames_depth fs ≡ depth →
             GoesOn self.old (before fs) result self.new
-            (λ is_empty. if is_empty then after_value fs (empty_container bracket)
-            else after_opener bracket fs) }
+            (λ is_empty. if is_empty then after_value fs (empty_container kind)
+            else after_opener kind fs) }
     {
         self.bump();
         let first = self.peek();
-        if first == bracket.closer() {
+        if first == kind.closer() {
             self.bump();
             return Ok(true);
         }
@@ -160,13 +160,13 @@ impl<'a> Cursor<'a> {
     /// After an element or an entry: whether the container ends. Moves past its closing bracket or
     /// the comma.
     #[inline(always)]
-    pub(crate) fn container_ends(&mut self, bracket: Bracket) -> Result<bool>
-        ensures { (fs : Frames) (v : Value) → innermost_bracket fs ≡ Some bracket →
+    pub(crate) fn container_ends(&mut self, kind: ContainerKind) -> Result<bool>
+        ensures { (fs : Frames) (v : Value) → innermost_kind fs ≡ Some kind →
             GoesOn self.old (after_value fs v) result self.new
             (λ ends. if ends then after_closer fs v else after_comma fs v) }
     {
         let next = self.peek();
-        if next == bracket.closer() {
+        if next == kind.closer() {
             self.bump();
             return Ok(true);
         }
@@ -177,25 +177,26 @@ impl<'a> Cursor<'a> {
         Err(self.fault())
     }
 
-    /// The same after the item that ends at `end`. Most texts have no whitespace there, so the comma
-    /// and the closing bracket are looked for before it is skipped.
+    /// After the element or entry that ends at `end`: whether the container ends, as
+    /// `container_ends`. Most texts have no whitespace there, so the comma and the closing bracket are
+    /// looked for before it is skipped.
     #[inline(always)]
-    pub(crate) fn container_ends_at(&mut self, end: usize, bracket: Bracket) -> Result<bool>
+    pub(crate) fn container_ends_at(&mut self, end: usize, kind: ContainerKind) -> Result<bool>
         requires boundary { IsCharBoundary self.old.source.now end }
         requires further { self.old.index < end }
-        ensures { EndsItem self.old end bracket result self.new }
+        ensures { EndsItem self.old end kind result self.new }
     {
         let next = byte_at(self.source, end);
         if next == b',' {
             self.go_to(end + 1);
             return Ok(false);
         }
-        if next == bracket.closer() {
+        if next == kind.closer() {
             self.go_to(end + 1);
             return Ok(true);
         }
         self.go_to(end);
-        self.container_ends(bracket)
+        self.container_ends(kind)
     }
 
     /// After the key that ends at `end`: moves past the colon, which is looked for before whitespace

@@ -1,5 +1,5 @@
-//! Where a text isn't read on, and the error that says so, with its line and column (docs/RULES.md,
-//! "Which error is reported").
+//! Why the parser stops before the end of a text, and the error with line and column that is
+//! returned for it (docs/RULES.md, "Which error is reported").
 
 ghost use Rattle.std.specs.Prelude.{◌≡◌, ◌+◌, drop, chars};
 ghost use Rattle.std.specs.Str.{IsCharBoundary};
@@ -10,9 +10,8 @@ ghost use Rattle.jzon.specs.Private.Stops.{IsAtBoundary, reported_error};
 use jzon_base::error::Error;
 use std::alloc::AllocError;
 
-/// Why a text isn't read on. The functions of the parser return it in place of an `Error`, which is
-/// made at the end: a result that may hold an `Error` has 48 bytes, and each time that one is made
-/// they are cleared.
+/// Why the parser stops. Its functions return this in place of an `Error`, which is made at the end:
+/// a result that may hold an `Error` has 48 bytes, which are cleared each time that one is made.
 #[derive(Clone, Copy)]
 pub(crate) enum Stop {
     /// An allocation failed.
@@ -42,7 +41,7 @@ impl From<AllocError> for Stop {
 }
 
 impl Stop {
-    /// The error that says so.
+    /// The error that is returned for it, with the line and column of its offset.
     pub(crate) fn error(self, source: &str) -> Error
         requires { IsAtBoundary source.now self }
         ensures { result ≡ reported_error source.now self }
@@ -85,7 +84,7 @@ fn column_after(prefix: &str) -> usize
 }
 
 /// The text has no valid continuation at `index`: the end is there, or a character that isn't
-/// allowed.
+/// allowed. The text is an argument only for the contract, which says that this is its error.
 #[inline(always)]
 pub(crate) fn fault_at(source: &str, index: usize) -> Stop
     requires { IsCharBoundary source.now index }

@@ -1,8 +1,8 @@
 //! Laws on texts, their trees and their values, for every reading: RFC 8259 with the project's own
-//! rules (`docs/RULES.md`, "Laws"). These functions do nothing; each law is a function's contract.
-//! Call one in a function, as `laws::reads_back()`, to have its law as a fact in the proof of that
-//! function, by the name `c.reads_back.ensures`. CALLING.md, "How a law is called", has the lemmas
-//! that most callers need instead. A program needs none of them.
+//! rules (`crates/jzon/CALLING.md`, "Laws"). These functions do nothing; each law is a function's
+//! contract. Call one in a function, as `laws::reads_back()`, to have its law as a fact in the proof
+//! of that function, by the name `c.reads_back.ensures`. CALLING.md, "How a law is called", has the
+//! lemmas that most callers need instead. A program needs none of them.
 
 ghost use Rattle.jzon.specs.Laws.{OneReading, OneText, DigitBreaches, OneFault, NumberText, Redump, StrictStyles, ReadsBack};
 

@@ -11,11 +11,11 @@ pub mod laws;
 mod macros;
 mod numeral;
 mod parser;
-mod place;
 mod primitive;
 mod reading;
 mod stacks;
 mod string;
+mod target;
 mod whitespace;
 
 pub use conversions::{from, stringify, stringify_pretty};

@@ -10,7 +10,7 @@ ghost use Rattle.jzon.specs.Private.Read.{after_read, IsAfterValue, ReadsItems};
 ghost use Rattle.jzon.specs.Reading.{usual};
 ghost use Rattle.jzon_base.specs.Tokens.{end_array};
 
-use crate::cursor::{Bracket, Cursor};
+use crate::cursor::{ContainerKind, Cursor};
 use crate::fault::{self, Stop};
 use crate::primitive::put_primitive;
 use crate::reading::{Reading, USUAL};
@@ -77,14 +77,14 @@ pub fn parse_as(alloc: Global, source: &str, reading: &Reading) -> Result<JsonVa
     }
 }
 
-/// The same, where an error has no line and column yet.
+/// Parses a text, or stops at its first error, whose line and column aren't counted yet.
 fn read(alloc: Global, source: &str, reading: Reading) -> fault::Result<JsonValue>
     ensures outcome { Reads source.now result (from reading source.now (before no_frames) 0) }
     ensures memory { result ≡ Err Stop.Memory → TakesMemory (chars source.now) }
 {
     let mut cursor = Cursor::new(source, reading);
     let first = cursor.peek();
-    let Some(bracket) = Bracket::opened_by(first) else {
+    let Some(kind) = ContainerKind::opened_by(first) else {
         let (source, start) = (cursor.source, cursor.index);
         let mut buffer = String::new(alloc);
         let mut value = JsonValue::Null;
@@ -92,10 +92,10 @@ fn read(alloc: Global, source: &str, reading: Reading) -> fault::Result<JsonValu
         cursor.go_to(end);
         return expect_end(&cursor, value);
     };
-    if cursor.open_container(bracket, 0)? {
-        return expect_end(&cursor, bracket.empty(alloc));
+    if cursor.open_container(kind, 0)? {
+        return expect_end(&cursor, kind.empty(alloc));
     }
-    let stacks = Stacks::new(alloc, reading.strict(), bracket)?;
+    let stacks = Stacks::new(alloc, reading.strict(), kind)?;
     let mut parser = Parser {
         cursor,
         stacks,
@@ -110,7 +110,7 @@ enum Next {
     /// The value, and the comma after it.
     Item,
     /// The opening bracket of a container that isn't empty.
-    Opened(Bracket),
+    Opened(ContainerKind),
     /// The value, and the closing bracket after it.
     End,
 }
@@ -139,6 +139,7 @@ struct Parser<'a> {
 
 impl<'a> Parser<'a> {
     /// Reads the rest of the text: all that the containers hold, and the end.
+    #[inline(never)]
     fn read_to_end(&mut self) -> fault::Result<JsonValue>
         requires before { IsBeforeItem self.old.cursor self.old.stacks }
         requires strict { self.old.stacks.strict ≡ self.old.cursor.reading.strict }
@@ -146,8 +147,8 @@ impl<'a> Parser<'a> {
             (left self.old.cursor (before_item self.old.stacks)) }
     {
         loop {
-            if let Some(bracket) = self.read_items()? {
-                self.stacks.open(bracket)?;
+            if let Some(kind) = self.read_items()? {
+                self.stacks.open(kind)?;
                 continue;
             }
             if let Some(value) = self.end_containers()? {
@@ -159,46 +160,48 @@ impl<'a> Parser<'a> {
     /// Reads items of the innermost container: to its end, or to a container in it that isn't empty,
     /// of which it reads the opening bracket.
     #[inline(always)]
-    fn read_items(&mut self) -> fault::Result<Option<Bracket>>
+    fn read_items(&mut self) -> fault::Result<Option<ContainerKind>>
         requires before { IsBeforeItem self.old.cursor self.old.stacks }
         requires strict { self.old.stacks.strict ≡ self.old.cursor.reading.strict }
         ensures { ReadsItems self.old.cursor self.old.stacks result self.new.cursor self.new.stacks }
     {
-        match self.stacks.bracket() {
-            Bracket::Array => self.read_elements(),
-            Bracket::Object => self.read_entries(),
+        match self.stacks.innermost_kind() {
+            ContainerKind::Array => self.read_elements(),
+            ContainerKind::Object => self.read_entries(),
         }
     }
 
-    /// The same in an array.
+    /// Reads elements of the innermost container, which is an array: to its end, or to a container in
+    /// it that isn't empty, of which it reads the opening bracket.
     #[inline(always)]
-    fn read_elements(&mut self) -> fault::Result<Option<Bracket>>
-        requires array { self.old.stacks.innermost.bracket ≡ Bracket.Array }
+    fn read_elements(&mut self) -> fault::Result<Option<ContainerKind>>
+        requires array { self.old.stacks.innermost.kind ≡ ContainerKind.Array }
         requires before { IsBeforeItem self.old.cursor self.old.stacks }
         ensures { ReadsItems self.old.cursor self.old.stacks result self.new.cursor self.new.stacks }
     {
         loop {
-            match self.read_value(Bracket::Array)? {
+            match self.read_value(ContainerKind::Array)? {
                 Next::Item => {}
-                Next::Opened(bracket) => return Ok(Some(bracket)),
+                Next::Opened(kind) => return Ok(Some(kind)),
                 Next::End => return Ok(None),
             }
         }
     }
 
-    /// The same in an object.
+    /// Reads entries of the innermost container, which is an object: to its end, or to a container in
+    /// it that isn't empty, of which it reads the opening bracket.
     #[inline(always)]
-    fn read_entries(&mut self) -> fault::Result<Option<Bracket>>
-        requires object { self.old.stacks.innermost.bracket ≡ Bracket.Object }
+    fn read_entries(&mut self) -> fault::Result<Option<ContainerKind>>
+        requires object { self.old.stacks.innermost.kind ≡ ContainerKind.Object }
         requires before { IsBeforeItem self.old.cursor self.old.stacks }
         requires strict { self.old.stacks.strict ≡ self.old.cursor.reading.strict }
         ensures { ReadsItems self.old.cursor self.old.stacks result self.new.cursor self.new.stacks }
     {
         loop {
             self.read_key()?;
-            match self.read_value(Bracket::Object)? {
+            match self.read_value(ContainerKind::Object)? {
                 Next::Item => {}
-                Next::Opened(bracket) => return Ok(Some(bracket)),
+                Next::Opened(kind) => return Ok(Some(kind)),
                 Next::End => return Ok(None),
             }
         }
@@ -207,11 +210,11 @@ impl<'a> Parser<'a> {
     /// Reads the next key of the innermost container, and the colon.
     #[inline(always)]
     fn read_key(&mut self) -> fault::Result<()>
-        requires object { self.old.stacks.innermost.bracket ≡ Bracket.Object }
+        requires object { self.old.stacks.innermost.kind ≡ ContainerKind.Object }
         requires before { IsBeforeItem self.old.cursor self.old.stacks }
         requires strict { self.old.stacks.strict ≡ self.old.cursor.reading.strict }
         ensures kept { OnOk result (KeepsAround self.old.stacks self.new.stacks) }
-        ensures awaits { OnOk result (AwaitsValue Bracket.Object self.new.stacks.innermost) }
+        ensures awaits { OnOk result (AwaitsValue ContainerKind.Object self.new.stacks.innermost) }
         ensures outcome { GoesOn self.old.cursor (before_item self.old.stacks) result self.new.cursor
             (λ _. before (frames_here self.new.stacks)) }
     {
@@ -232,8 +235,8 @@ impl<'a> Parser<'a> {
     /// that isn't empty only up to its opening bracket. Else also the comma or the closing bracket
     /// after the value.
     #[inline(always)]
-    fn read_value(&mut self, container: Bracket) -> fault::Result<Next>
-        requires bracket { self.old.stacks.innermost.bracket ≡ container }
+    fn read_value(&mut self, container: ContainerKind) -> fault::Result<Next>
+        requires kind { self.old.stacks.innermost.kind ≡ container }
         requires awaits { AwaitsValue container self.old.stacks.innermost }
         requires room { length self.old.stacks.around < self.old.cursor.reading.depth }
         requires some { is_fresh (frames_here self.old.stacks) ≡ true →
@@ -244,7 +247,7 @@ impl<'a> Parser<'a> {
             self.new.cursor (after_read self.new.stacks) }
     {
         let first = self.cursor.peek();
-        if let Some(opened) = Bracket::opened_by(first) {
+        if let Some(opened) = ContainerKind::opened_by(first) {
             let depth = self.stacks.depth();
             if !self.cursor.open_container(opened, depth)? {
                 return Ok(Next::Opened(opened));
@@ -270,7 +273,7 @@ impl<'a> Parser<'a> {
     /// containers end. The value of the outermost one, if it ended.
     #[inline(always)]
     fn end_containers(&mut self) -> fault::Result<Option<JsonValue>>
-        requires even { IsEven self.old.stacks.innermost.bracket self.old.stacks.innermost }
+        requires even { IsEven self.old.stacks.innermost.kind self.old.stacks.innermost }
         requires room { length self.old.stacks.around < self.old.cursor.reading.depth }
         ensures strict { IfOk result (λ v. v ≡ None
             → self.new.stacks.strict ≡ self.old.stacks.strict) }
@@ -283,7 +286,7 @@ impl<'a> Parser<'a> {
                 Some(value) => return Ok(Some(value)),
                 None => {}
             }
-            let container = self.stacks.bracket();
+            let container = self.stacks.innermost_kind();
             if !self.cursor.container_ends(container)? {
                 return Ok(None);
             }

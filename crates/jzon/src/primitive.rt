@@ -8,22 +8,22 @@ ghost use Rattle.jzon_tree.specs.Value.{Value, null, boolean};
 ghost use Rattle.jzon_tree.specs.View.{view};
 ghost use Rattle.jzon.specs.Private.Classes.{letter_n, letter_t, letter_f};
 ghost use Rattle.jzon.specs.Private.Machine.{numeral_after_first, before, Frames, after_value, past_letter, value_mark, from, Reports, fault_here};
-ghost use Rattle.jzon.specs.Private.Places.{MayBegin, Puts};
+ghost use Rattle.jzon.specs.Private.Targets.{MayBegin, Puts};
 ghost use Rattle.jzon.specs.Reading.{Reading};
 ghost use Rattle.jzon_base.specs.Tokens.{begin_array, begin_object, quotation_mark};
 
 use crate::bytes_at::{byte_at, has_byte, has_four};
 use crate::fault::{Result, Stop, fault_at};
 use crate::numeral::read_number;
-use crate::place::Place;
 use crate::string::{put_text, read_string};
+use crate::target::Target;
 use jzon_tree::value::JsonValue;
 use std::alloc::Global;
 
 /// Puts the primitive at `start`, whose first byte is `first` (0 at the end of the text). Returns
 /// the offset after it.
 #[inline(always)]
-pub(crate) fn put_primitive<P: Place>(
+pub(crate) fn put_primitive<P: Target>(
     alloc: Global,
     source: &str,
     start: usize,
@@ -64,7 +64,7 @@ pub(crate) fn put_primitive<P: Place>(
 
 /// Puts the number whose first digit is at `start`. Returns the offset after it.
 #[inline(always)]
-fn put_magnitude<P: Place>(
+fn put_magnitude<P: Target>(
     source: &str,
     start: usize,
     negative: bool,
@@ -87,7 +87,7 @@ fn put_magnitude<P: Place>(
 /// last four letters are compared at once, and there is no branch for each of the three literals,
 /// since processors can't predict which comes next.
 #[inline(always)]
-fn put_literal<P: Place>(source: &str, start: usize, first: u8, place: &mut P) -> Result<usize>
+fn put_literal<P: Target>(source: &str, start: usize, first: u8, place: &mut P) -> Result<usize>
     requires within { start < length source.now }
     requires first { first ≡ slice_index source.now start }
     requires word { (first ≡ letter_n) ⊎ (first ≡ letter_t) ⊎ (first ≡ letter_f) }

@@ -1,70 +1,59 @@
 //! The open containers of a text. All their keys are on one stack, and all their values on another;
 //! each container has a part of both, and is made of it at its end.
 
-ghost use Rattle.std.specs.Prelude.{◌≡◌, ◌≢◌, ◌&&◌, slice_index, IfSome, None, ◌≤◌, ◌<◌, [], length, take, drop, vec_len, IfOk, OnOk, OnErr, IsOkUnless, true, false, ◌+◌};
+ghost use Rattle.std.specs.Prelude.{◌≡◌, ◌≢◌, ◌&&◌, if◌then◌else◌, slice_index, IfSome, None, Some, ◌≤◌, ◌<◌, [], ◌∷◌, ◌++◌, length, take, drop, vec_len, IfOk, OnOk, OnErr, MatchOption, true, ◌+◌};
 ghost use Rattle.std.specs.List.{zip};
 ghost use Rattle.std.specs.Option.{is_some};
 ghost use Rattle.jzon_base.specs.PairList.{find, put_each};
+ghost use Rattle.jzon_base.specs.Private.Known.{Knows};
+ghost use Rattle.jzon_tree.specs.Entries.{entries_of};
 ghost use Rattle.jzon_tree.specs.View.{view, view_object};
-ghost use Rattle.jzon.specs.Private.OpenContainers.{OpenContainers, entries_so_far, IsEven, AwaitsValue, new_container, HasKeyNext, IsClosed, IsMerged, KeepsAround, whole, value_added, container_added, innermost_ended};
+ghost use Rattle.jzon.specs.Private.OpenContainers.{OpenContainers, entries_so_far, IsEven, AwaitsValue, new_container, IsAdded, IsClosed, whole, value_added, key_added, container_added, innermost_ended};
 ghost use Rattle.jzon.specs.Private.Brackets.{empty_container};
 ghost use Rattle.jzon.specs.Private.Machine.{before};
-ghost use Rattle.jzon.specs.Private.Places.{MayBegin, Puts};
+ghost use Rattle.jzon.specs.Private.Targets.{MayBegin, Puts};
 ghost use Rattle.jzon_base.specs.Tokens.{begin_array, begin_object};
 ghost use Rattle.std.specs.Str.{IsCharBoundary};
 
-use crate::cursor::Bracket;
+use crate::cursor::ContainerKind;
 use crate::fault;
 use crate::primitive::put_primitive;
 use jzon_base::key::Key;
-use jzon_base::keys::{self, KnownKeys};
+use jzon_base::keys::KnownKeys;
 use jzon_tree::object::Object;
 use jzon_tree::value::JsonValue;
 use std::alloc::{AllocError, Global};
 use std::marker::Model;
 use std::mem;
 
-/// How many entries of an object are gathered before equal keys among them are merged; after that
-/// four times as many as are left. So few keys, often repeated, take little memory, and merging
-/// takes little time.
-const FIRST_LIMIT: usize = 256;
-
 /// How many values the stack first has room for.
 const FIRST_ROOM: usize = 8;
 
-/// More values than these keep the stack's block if they are most of it.
+/// The most values that are always copied to a block of their own (`cut_values`).
 const LONG: usize = 1024;
 
-/// A container around the innermost one.
-#[derive(Drop)]
+/// An open container: its kind, and where its keys and values begin.
+#[derive(Clone, Copy)]
 struct Frame {
-    bracket: Bracket,
-    /// How many keys and values it has so far.
-    keys: usize,
-    values: usize,
-    /// The length of the stack of keys at which its entries are merged next.
-    merge_at: usize,
-    /// What a strict reading knows of its keys.
-    known: KnownKeys,
+    kind: ContainerKind,
+    first_key: usize,
+    first_value: usize,
 }
 
 /// Open containers. A clause sees them one by one, each with its keys and values so far.
 #[derive(Drop)]
 pub(crate) struct Stacks {
     alloc: Global,
-    /// Whether a repeated key is rejected.
-    strict: bool,
     keys: Vec<Key>,
     values: Vec<JsonValue>,
+    innermost: Frame,
     /// The containers around the innermost one, the outermost first.
     around: Vec<Frame>,
-    /// Of the innermost one: its kind, where its keys and values begin, the length of the stack of
-    /// keys at which its entries are merged next, and what a strict reading knows of its keys.
-    bracket: Bracket,
-    first_key: usize,
-    first_value: usize,
-    merge_at: usize,
-    known: KnownKeys,
+    /// What a strict reading, which rejects a repeated key, knows of the keys of the innermost
+    /// container. A usual one has none.
+    known: Option<KnownKeys>,
+    /// What it knows of the keys of the containers around.
+    known_around: Vec<KnownKeys>,
 }
 
 impl Model for Stacks {
@@ -105,8 +94,9 @@ fn cut_tail<T>(
     stack.split_off(start)
 }
 
-/// Takes the values from `start` on, as `cut_tail`. Where they are many, and most of the stack,
-/// they keep its block, and those before them are moved out, so that fewer new pages are touched.
+/// Takes the values from `start` on, as `cut_tail`. If they are many and few are before them, they
+/// keep the stack's block unless most of it is unused, and those before them are moved out: so no
+/// new pages are touched for a copy.
 #[inline(always)]
 fn cut_values(
     alloc: Global,
@@ -120,13 +110,13 @@ fn cut_values(
     ensures err { OnErr result (vec_len stack.new ≡ vec_len stack.old) }
 {
     let count = stack.len() - start;
-    if LONG < count && !is_outermost && start < count {
+    if LONG < count && !is_outermost && start <= count / 8 && stack.capacity() / 2 <= count {
         return cut_long(stack, start);
     }
     cut_tail(alloc, stack, start, is_outermost)
 }
 
-/// The same where they keep the stack's block.
+/// Takes the values from `start` on with the stack's block. Those before them get a new one.
 #[cold]
 #[inline(never)]
 fn cut_long(stack: &mut Vec<JsonValue>, start: usize) -> Result<Vec<JsonValue>, AllocError>
@@ -141,74 +131,96 @@ fn cut_long(stack: &mut Vec<JsonValue>, start: usize) -> Result<Vec<JsonValue>, 
     Ok(mem::replace(stack, front))
 }
 
-/// Merges the entries of equal keys: of the keys from `first_key` on, and of as many values from
-/// `first_value` on. The error is a failed allocation.
-fn merge_tails(
-    alloc: Global,
-    keys: &mut Vec<Key>,
-    first_key: usize,
-    values: &mut Vec<JsonValue>,
-    first_value: usize,
-) -> Result<(), AllocError>
-    requires key { first_key ≤ vec_len keys.old }
-    requires value { first_value ≤ vec_len values.old }
-    requires even { length (drop first_value values.old.items)
-        ≡ length (drop first_key keys.old.items) }
-    ensures key { first_key ≤ vec_len keys.new }
-    ensures value { first_value ≤ vec_len values.new }
-    ensures keys { take first_key keys.old.items ≡ take first_key keys.new.items }
-    ensures values { OnOk result (take first_value values.old.items
-        ≡ take first_value values.new.items) }
-    ensures even { OnOk result (length (drop first_value values.new.items)
-        ≡ length (drop first_key keys.new.items)) }
-    ensures merged { OnOk result (put_each (zip (drop first_key keys.new.items)
-        (drop first_value values.new.items)) ≡ put_each (zip (drop first_key keys.old.items)
-        (drop first_value values.old.items))) }
+/// In a strict reading: stores what is known of the keys of a container in which one is opened, and
+/// begins anew. The error is a failed allocation.
+#[cold]
+#[inline(never)]
+fn open_known(known: &mut Option<KnownKeys>, around: &mut Vec<KnownKeys>) -> Result<(), AllocError>
+    requires { is_some known.old ≡ true }
+    ensures new { OnOk result (is_some known.new ≡ true) }
+    ensures known { OnOk result (IfSome known.new (Knows [])) }
+    ensures around { OnOk result (IfSome known.old (λ outer. around.new.items
+        ≡ around.old.items ++ outer ∷ [])) }
+    ensures err { OnErr result ((known.new ≡ known.old) × (around.new.items ≡ around.old.items)) }
 {
-    if first_key == 0 && first_value == 0 {
-        drop(keys::merge(alloc, keys, values)?);
-        return Ok(());
+    around.reserve(1)?;
+    if let Some(outer) = mem::replace(known, Some(KnownKeys::new())) {
+        around.push_reserved(outer);
     }
-    let mut own_keys = keys.split_off(first_key)?;
-    let mut own_values = values.split_off(first_value)?;
-    drop(keys::merge(alloc, &mut own_keys, &mut own_values)?);
-    keys.append(&mut own_keys)?;
-    values.append(&mut own_values)
+    Ok(())
+}
+
+/// In a strict reading: takes back what is known of the keys of the container around one that ended.
+#[cold]
+#[inline(never)]
+fn close_known(known: &mut Option<KnownKeys>, around: &mut Vec<KnownKeys>)
+    ensures { MatchOption known.new (around.old.items ≡ [])
+        (λ outer. around.old.items ≡ around.new.items ++ outer ∷ []) }
+{
+    *known = around.pop();
+}
+
+/// In a strict reading: the object of distinct keys, of which this is known, and of as many values.
+/// The next container begins with nothing known. The error is a failed allocation.
+#[cold]
+#[inline(never)]
+fn object_of_known(
+    alloc: Global,
+    keys: Vec<Key>,
+    known: &mut Option<KnownKeys>,
+    values: Vec<JsonValue>,
+) -> Result<Object, AllocError>
+    requires even { length values.items ≡ length keys.items }
+    requires some { is_some known.old ≡ true }
+    requires known { IfSome known.old (Knows keys.items) }
+    ensures new { is_some known.new ≡ true }
+    ensures known { IfSome known.new (Knows []) }
+    ensures pairs { IfOk result (λ object. entries_of object ≡ put_each (zip keys.items values.items)) }
+{
+    match mem::replace(known, Some(KnownKeys::new())) {
+        Some(known) => Object::from_known(alloc, keys, known, values),
+        None => unreachable!(),
+    }
 }
 
 impl Stacks {
     /// One open container, which is empty. The error is a failed allocation.
-    pub(crate) fn new(alloc: Global, strict: bool, bracket: Bracket) -> Result<Stacks, AllocError>
+    pub(crate) fn new(
+        alloc: Global,
+        strict: bool,
+        kind: ContainerKind,
+    ) -> Result<Stacks, AllocError>
         ensures ok { IfOk result (λ stacks. stacks ≡ record {
           strict = strict;
-          innermost = new_container bracket;
+          innermost = new_container kind;
           around = [];
         }) }
     {
-        let key_room = match bracket {
-            Bracket::Array => 0,
-            Bracket::Object => FIRST_ROOM,
+        let key_room = match kind {
+            ContainerKind::Array => 0,
+            ContainerKind::Object => FIRST_ROOM,
         };
         Ok(Stacks {
             alloc,
-            strict,
             keys: Vec::with_capacity(alloc, key_room)?,
             values: Vec::with_capacity(alloc, FIRST_ROOM)?,
+            innermost: Frame {
+                kind,
+                first_key: 0,
+                first_value: 0,
+            },
             around: Vec::new(alloc),
-            bracket,
-            first_key: 0,
-            first_value: 0,
-            merge_at: FIRST_LIMIT,
-            known: KnownKeys::new(),
+            known: if strict { Some(KnownKeys::new()) } else { None },
+            known_around: Vec::new(alloc),
         })
     }
 
     /// The kind of the innermost container.
     #[inline(always)]
-    pub(crate) fn bracket(&self) -> Bracket
-        ensures { result ≡ self.now.innermost.bracket }
+    pub(crate) fn innermost_kind(&self) -> ContainerKind
+        ensures { result ≡ self.now.innermost.kind }
     {
-        self.bracket
+        self.innermost.kind
     }
 
     /// How many containers are open.
@@ -221,12 +233,12 @@ impl Stacks {
 
     /// Adds an empty container. The error is a failed allocation.
     #[inline(always)]
-    pub(crate) fn push_empty(&mut self, bracket: Bracket) -> Result<(), AllocError>
-        ensures ok { OnOk result ((v : JsonValue) × (view v ≡ empty_container bracket)
+    pub(crate) fn push_empty(&mut self, kind: ContainerKind) -> Result<(), AllocError>
+        ensures ok { OnOk result ((v : JsonValue) × (view v ≡ empty_container kind)
             × (self.new ≡ value_added self.old v)) }
     {
         self.values.reserve(1)?;
-        self.values.push_reserved(bracket.empty(self.alloc));
+        self.values.push_reserved(kind.empty(self.alloc));
         Ok(())
     }
 
@@ -256,104 +268,73 @@ impl Stacks {
     /// is strict, and the object has the key. Whether it is rejected. `wide` begins with `name`.
     #[inline(always)]
     pub(crate) fn push_key(&mut self, name: &str, wide: &str) -> Result<bool, AllocError>
-        requires object { self.old.innermost.bracket ≡ Bracket.Object }
-        requires even { IsEven Bracket.Object self.old.innermost }
+        requires object { self.old.innermost.kind ≡ ContainerKind.Object }
+        requires even { IsEven ContainerKind.Object self.old.innermost }
         requires wide { take (length name.now) wide.now ≡ name.now }
         ensures rejected { IfOk result (λ rejected. rejected ≡ (self.old.strict
             && is_some (find name.now (entries_so_far self.old.innermost)))) }
-        ensures kept { OnOk result (KeepsAround self.old self.new) }
-        ensures pushed { IfOk result (λ rejected. rejected ≡ false →
-            HasKeyNext name.now self.old.innermost self.new.innermost) }
+        ensures pushed { IfOk result (λ rejected. self.new
+            ≡ (if rejected then self.old else key_added self.old name.now)) }
     {
-        if self.strict {
+        if self.known.is_some() {
             return self.push_new_key(name, wide);
-        }
-        if self.keys.len() == self.merge_at {
-            self.merge()?;
         }
         Key::push_wide(&mut self.keys, self.alloc, name, wide)?;
         Ok(false)
     }
 
-    /// The same in a strict reading.
+    /// Does this in a strict reading.
+    #[cold]
+    #[inline(never)]
     fn push_new_key(&mut self, name: &str, wide: &str) -> Result<bool, AllocError>
         requires strict { self.old.strict ≡ true }
-        requires even { IsEven Bracket.Object self.old.innermost }
+        requires even { IsEven ContainerKind.Object self.old.innermost }
         requires wide { take (length name.now) wide.now ≡ name.now }
         ensures rejected { IfOk result (λ rejected. rejected
             ≡ is_some (find name.now (entries_so_far self.old.innermost))) }
-        ensures kept { OnOk result (KeepsAround self.old self.new) }
-        ensures pushed { IfOk result (λ rejected. rejected ≡ false →
-            HasKeyNext name.now self.old.innermost self.new.innermost) }
+        ensures pushed { IfOk result (λ rejected. self.new
+            ≡ (if rejected then self.old else key_added self.old name.now)) }
     {
-        let mut known = mem::replace(&mut self.known, KnownKeys::new());
-        let keys = &self.keys[self.first_key..];
-        if known.has_or_adds(self.alloc, keys, name)? {
-            return Ok(true);
+        let Some(mut known) = self.known.take() else {
+            unreachable!()
+        };
+        let keys = &self.keys[self.innermost.first_key..];
+        let is_known = known.has_or_adds(self.alloc, keys, name)?;
+        if !is_known {
+            Key::push_wide(&mut self.keys, self.alloc, name, wide)?;
         }
-        Key::push_wide(&mut self.keys, self.alloc, name, wide)?;
-        self.known = known;
-        Ok(false)
-    }
-
-    /// Merges the entries of equal keys of the innermost container. The error is a failed allocation.
-    #[cold]
-    #[inline(never)]
-    fn merge(&mut self) -> Result<(), AllocError>
-        requires usual { self.old.strict ≡ false }
-        requires even { IsEven Bracket.Object self.old.innermost }
-        ensures merged { OnOk result (IsMerged self.old self.new) }
-    {
-        merge_tails(
-            self.alloc,
-            &mut self.keys,
-            self.first_key,
-            &mut self.values,
-            self.first_value,
-        )?;
-        let count = self.keys.len() - self.first_key;
-        self.merge_at = self
-            .first_key
-            .saturating_add(count.saturating_mul(4).max(FIRST_LIMIT));
-        Ok(())
+        self.known = Some(known);
+        Ok(is_known)
     }
 
     /// Opens a container in the innermost one, whose next value it is. The error is a failed allocation.
     #[inline(always)]
-    pub(crate) fn open(&mut self, bracket: Bracket) -> Result<(), AllocError>
-        requires { AwaitsValue self.old.innermost.bracket self.old.innermost }
-        ensures ok { OnOk result (self.new ≡ container_added self.old bracket) }
+    pub(crate) fn open(&mut self, kind: ContainerKind) -> Result<(), AllocError>
+        requires { AwaitsValue self.old.innermost.kind self.old.innermost }
+        ensures ok { OnOk result (self.new ≡ container_added self.old kind) }
     {
         self.around.reserve(1)?;
-        self.around.push_reserved(Frame {
-            bracket: self.bracket,
-            keys: self.keys.len() - self.first_key,
-            values: self.values.len() - self.first_value,
-            merge_at: self.merge_at,
-            known: mem::replace(&mut self.known, KnownKeys::new()),
-        });
-        self.bracket = bracket;
-        self.first_key = self.keys.len();
-        self.first_value = self.values.len();
-        self.merge_at = self.first_key + FIRST_LIMIT;
+        if self.known.is_some() {
+            open_known(&mut self.known, &mut self.known_around)?;
+        }
+        self.around.push_reserved(self.innermost);
+        self.innermost = Frame {
+            kind,
+            first_key: self.keys.len(),
+            first_value: self.values.len(),
+        };
         Ok(())
     }
 
     /// The elements of the innermost container, which ends. The error is a failed allocation.
     #[inline(always)]
     fn end_array(&mut self) -> Result<Vec<JsonValue>, AllocError>
+        requires { self.old.innermost.keys ≡ [] }
         ensures values { IfOk result (λ values. values.items ≡ self.old.innermost.values) }
-        ensures ok { OnOk result (self.new ≡ record {
-          strict = self.old.strict;
-          innermost = record {
-            bracket = self.old.innermost.bracket;
-            keys = self.old.innermost.keys;
-            values = [];
-          };
-          around = self.old.around;
-        }) }
+        ensures ok { OnOk result (self.new ≡ innermost_ended self.old) }
     {
-        if self.values.len() - self.first_value == 1 {
+        let start = self.innermost.first_value;
+        if self.values.len() - start == 1 {
             let mut one = Vec::with_capacity(self.alloc, 1)?;
             if let Some(value) = self.values.pop() {
                 one.push_reserved(value);
@@ -361,58 +342,70 @@ impl Stacks {
             return Ok(one);
         }
         let is_outermost = self.around.is_empty();
-        Ok(cut_values(self.alloc, &mut self.values, self.first_value, is_outermost)?)
+        cut_values(self.alloc, &mut self.values, start, is_outermost)
     }
 
-    /// The object of the entries of the innermost container, which ends. The error is
-    /// failed allocation.
+    /// The object of the entries of the innermost container, which ends. The error is a failed
+    /// allocation.
     #[inline(always)]
     fn end_object(&mut self) -> Result<Object, AllocError>
-        requires object { self.old.innermost.bracket ≡ Bracket.Object }
-        requires even { IsEven Bracket.Object self.old.innermost }
+        requires object { self.old.innermost.kind ≡ ContainerKind.Object }
+        requires even { IsEven ContainerKind.Object self.old.innermost }
         ensures object { IfOk result (λ object. view_object object ≡ whole self.old.innermost) }
         ensures ok { OnOk result (self.new ≡ innermost_ended self.old) }
     {
-        self.known = KnownKeys::new();
         let is_outermost = self.around.is_empty();
-        let keys = cut_tail(self.alloc, &mut self.keys, self.first_key, is_outermost)?;
-        let values = cut_values(self.alloc, &mut self.values, self.first_value, is_outermost)?;
+        let Frame {
+            first_key,
+            first_value,
+            ..
+        } = self.innermost;
+        let values = cut_values(self.alloc, &mut self.values, first_value, is_outermost)?;
+        let keys = cut_tail(self.alloc, &mut self.keys, first_key, is_outermost)?;
+        if self.known.is_some() {
+            return object_of_known(self.alloc, keys, &mut self.known, values);
+        }
         Object::from_entries(self.alloc, keys, values)
     }
 
-    /// The value of the innermost container, which ends. The error is a failed allocation.
+    /// Adds this value of the innermost container, which ended, to the one around it. If there is
+    /// none, the value is returned. The error is a failed allocation.
     #[inline(always)]
-    fn end_innermost(&mut self) -> Result<JsonValue, AllocError>
-        requires { IsEven self.old.innermost.bracket self.old.innermost }
-        ensures means { IfOk result (λ v. view v ≡ whole self.old.innermost) }
-        ensures ok { OnOk result (self.new ≡ innermost_ended self.old) }
+    fn close_with(&mut self, value: JsonValue) -> Result<Option<JsonValue>, AllocError>
+        requires { self.old.innermost ≡ new_container self.old.innermost.kind }
+        ensures outermost { IfOk result (λ v. IfSome v (λ w. (self.old.around ≡ []) × (w ≡ value))) }
+        ensures inner { IfOk result (λ v. v ≡ None → IsAdded self.old value self.new) }
     {
-        match self.bracket {
-            Bracket::Array => Ok(JsonValue::Array(self.end_array()?)),
-            Bracket::Object => Ok(JsonValue::Object(self.end_object()?)),
+        let Some(frame) = self.around.pop() else {
+            return Ok(Some(value));
+        };
+        self.innermost = frame;
+        if self.known.is_some() {
+            close_known(&mut self.known, &mut self.known_around);
         }
+        self.values.reserve(1)?;
+        self.values.push_reserved(value);
+        Ok(None)
     }
 
     /// Ends the innermost container. If it is in another one, its value is added there. Else it is
     /// returned. The error is a failed allocation.
     #[inline(always)]
     pub(crate) fn close(&mut self) -> Result<Option<JsonValue>, AllocError>
-        requires { IsEven self.old.innermost.bracket self.old.innermost }
+        requires { IsEven self.old.innermost.kind self.old.innermost }
         ensures outermost { IfOk result (λ v. IfSome v (λ w. (self.old.around ≡ [])
             × (view w ≡ whole self.old.innermost))) }
         ensures inner { IfOk result (λ v. v ≡ None → IsClosed self.old self.new) }
     {
-        let value = self.end_innermost()?;
-        let Some(frame) = self.around.pop() else {
-            return Ok(Some(value));
-        };
-        self.bracket = frame.bracket;
-        self.first_key -= frame.keys;
-        self.first_value -= frame.values;
-        self.merge_at = frame.merge_at;
-        self.known = frame.known;
-        self.values.reserve(1)?;
-        self.values.push_reserved(value);
-        Ok(None)
+        match self.innermost.kind {
+            ContainerKind::Array => {
+                let elements = self.end_array()?;
+                self.close_with(JsonValue::Array(elements))
+            }
+            ContainerKind::Object => {
+                let object = self.end_object()?;
+                self.close_with(JsonValue::Object(object))
+            }
+        }
     }
 }

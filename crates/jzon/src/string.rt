@@ -9,13 +9,13 @@ ghost use Rattle.jzon_tree.specs.View.{view};
 ghost use Rattle.jzon.specs.Reading.{Reading};
 ghost use Rattle.jzon.specs.Grammar.{is_high, is_low, is_surrogate, code_unit};
 ghost use Rattle.jzon.specs.Meaning.{pair_char};
-ghost use Rattle.jzon.specs.Private.Quote.{EndsAtQuote, ReadsCharacter};
+ghost use Rattle.jzon.specs.Private.Quote.{EndsAtQuote, ReadsCharacter, ReadsUnit, ReadsSecondUnit};
 ghost use Rattle.jzon.specs.declared.fault.Stop.TheVariants.{Memory};
 ghost use Rattle.jzon.specs.Private.Machine.{Role, string, between, slash, code, second, second_code, after_unit, move_pair, outcome_on, from, from_closed, Reports};
 
 use crate::bytes_at::{byte_at, has_byte};
 use crate::fault::{Result, Stop, fault_at};
-use crate::place::Place;
+use crate::target::Target;
 use jzon_base::short::{MAX_LEN, Short};
 use jzon_base::util::escapes::{hex_value, meant_by};
 use jzon_base::util::plain::plain_len;
@@ -59,7 +59,7 @@ impl Spelled {
 /// Puts a string value, with whose string `wide` begins: up to 30 bytes are stored inline, which
 /// never fails, and more are allocated. The error is `Memory`.
 #[inline(always)]
-pub(crate) fn put_text<P: Place>(
+pub(crate) fn put_text<P: Target>(
     alloc: Global,
     content: &str,
     wide: &str,
@@ -261,17 +261,28 @@ fn read_hex(source: &str, start: usize) -> Result<u32>
     ensures value { IfOk result (λ u. u ≡ code_unit (slice_range source.now start (start + 4))) }
     ensures small { IfOk result (λ u. u < 0x10000) }
     ensures boundary { OnOk result (IsCharBoundary source.now (start + 4)) }
-    ensures first { (r : Reading) (role : Role) (bs : List ℕ) → MatchResult result
-        (λ u. from r source.now (string role bs (code 3 0)) start
-        ≡ from r source.now (after_unit (is_surrogate u) role bs u) (start + 4))
-        (λ e. Reports source.now e (from r source.now (string role bs (code 3 0)) start)) }
-    ensures second { (r : Reading) (role : Role) (bs : List ℕ) (h : ℕ) → MatchResult result
-        (λ u. from r source.now (string role bs (second_code h 3 0)) start
-        ≡ outcome_on (move_pair (is_high h && is_low u) role bs h u)
-        (λ p. from r source.now p (start + 4))
-        (chars (drop (start + 3) source.now)))
-        (λ e. Reports source.now e (from r source.now (string role bs
-        (second_code h 3 0)) start)) }
+    ensures first { ReadsUnit source.now start result }
+    ensures second { ReadsSecondUnit source.now start result }
+{
+    if let [a, b, c, d, ..] = &source.as_bytes()[start..] {
+        let digits = (hex_value(*a), hex_value(*b), hex_value(*c), hex_value(*d));
+        if let (Some(a), Some(b), Some(c), Some(d)) = digits {
+            return Ok(((a * 16 + b) * 16 + c) * 16 + d);
+        }
+    }
+    read_hex_by_digits(source, start)
+}
+
+/// The code unit, read digit by digit, so that the error is at the first byte that is no digit.
+#[cold]
+#[inline(never)]
+fn read_hex_by_digits(source: &str, start: usize) -> Result<u32>
+    requires { IsCharBoundary source.now start }
+    ensures value { IfOk result (λ u. u ≡ code_unit (slice_range source.now start (start + 4))) }
+    ensures small { IfOk result (λ u. u < 0x10000) }
+    ensures boundary { OnOk result (IsCharBoundary source.now (start + 4)) }
+    ensures first { ReadsUnit source.now start result }
+    ensures second { ReadsSecondUnit source.now start result }
 {
     let mut unit = 0;
     for index in start..start + 4 {

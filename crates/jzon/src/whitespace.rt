@@ -1,13 +1,18 @@
 //! Whitespace (RFC 8259, section 2; docs/RULES.md, "Texts").
 
-ghost use Rattle.std.specs.Prelude.{◌≡◌, IsTrue, ◌<◌, ◌≤◌, length, true, false, slice_index};
+ghost use Rattle.std.specs.Prelude.{◌≡◌, IsTrue, ◌<◌, ◌≤◌, ◌+◌, drop, length, true, false, slice_index};
+ghost use Rattle.std.specs.Int.{w64, trailing_zeros};
 ghost use Rattle.std.specs.List.{prefix_len};
 ghost use Rattle.std.specs.Str.{IsCharBoundary};
 ghost use Rattle.jzon_tree.specs.Writing.{is_whitespace};
 ghost use Rattle.jzon.specs.Private.Machine.{State, allows_whitespace, from};
 
-use crate::bytes_at::{has_byte, has_four};
+use crate::bytes_at::has_byte;
 use crate::reading::Reading;
+use std::simd::prelude::*;
+
+/// The bytes that are compared at once.
+const LANES: usize = 16;
 
 /// The offset after the whitespace at `start`.
 #[inline(always)]
@@ -26,7 +31,7 @@ pub(crate) fn skip_whitespace(source: &str, reading: Reading, start: usize) -> u
     if has_byte(source, start, b' ') && is_above_space(source, start + 1) {
         return start + 1;
     }
-    start + whitespace_length(&source[start..], reading.strict())
+    start + whitespace_length(&source.as_bytes()[start..], reading.strict())
 }
 
 /// Whether the byte at `index` is above the space. No such byte is whitespace.
@@ -40,17 +45,41 @@ fn is_above_space(source: &str, index: usize) -> bool
     index < bytes.len() && bytes[index] > b' '
 }
 
-/// How many bytes at the start are whitespace. A newline and the spaces after it are tried first:
-/// they are most of the whitespace of an indented text.
+/// How many bytes at the start are whitespace. Most whitespace is a newline and the indentation after
+/// it, so `LANES` bytes are compared at once.
 #[inline(never)]
-fn whitespace_length(text: &str, strict: bool) -> usize
-    ensures { result ≡ prefix_len (is_whitespace strict) text.now }
+fn whitespace_length(bytes: &[u8], strict: bool) -> usize
+    ensures { result ≡ prefix_len (is_whitespace strict) bytes.now }
 {
-    let mut len = usize::from(has_byte(text, 0, b'\n'));
-    while has_four(text, len, *b"    ") {
-        len += 4;
+    let mut len = 0;
+    while bytes.len() - len >= LANES {
+        let others = others_in_lanes(bytes, len);
+        if others != 0 {
+            let end = len + others.trailing_zeros() as usize;
+            if bytes[end] > b' ' {
+                return end;
+            }
+            return end + whitespace_by_bytes(&bytes[end..], strict);
+        }
+        len += LANES;
     }
-    len + whitespace_by_bytes(&text.as_bytes()[len..], strict)
+    len + whitespace_by_bytes(&bytes[len..], strict)
+}
+
+/// Which of the `LANES` bytes at an offset are not tabs, newlines, carriage returns or spaces, a bit
+/// for each.
+#[inline(always)]
+fn others_in_lanes(bytes: &[u8], start: usize) -> u64
+    requires { start + LANES ≤ length bytes.now }
+    ensures none { result ≡ 0 → LANES ≤ prefix_len (is_whitespace true) (drop start bytes.now) }
+    ensures within { ¬ (result ≡ 0) → trailing_zeros w64 result < LANES }
+    ensures some { ¬ (result ≡ 0) → trailing_zeros w64 result
+        ≡ prefix_len (is_whitespace true) (drop start bytes.now) }
+{
+    let lanes = Simd::<u8, 16>::from_slice(&bytes[start..]);
+    let blanks = lanes.simd_eq(Simd::splat(b' ')) | lanes.simd_eq(Simd::splat(b'\t'));
+    let line_ends = lanes.simd_eq(Simd::splat(b'\n')) | lanes.simd_eq(Simd::splat(b'\r'));
+    0xFFFF - (blanks | line_ends).to_bitmask()
 }
 
 /// How many bytes at the start are whitespace, one by one.

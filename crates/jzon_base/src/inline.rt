@@ -17,7 +17,7 @@ pub(crate) fn text_in<const MAX: usize>(text: &str) -> ArrayString<MAX>
 /// The text, with which `wide` begins. Where `wide` can be cut after `MAX` bytes, these are copied,
 /// which takes no call, and those after the text are dropped.
 #[inline(always)]
-#[tactic(auto, using(crate::proofs::Fronts::splits_front))]
+#[tactic(auto, using(crate::proofs::Strings::CopiedPrefixes::splits_front))]
 pub(crate) fn front_of<const MAX: usize>(text: &str, wide: &str) -> ArrayString<MAX>
     requires short { length text.now ≤ MAX }
     requires wide { take (length text.now) wide.now ≡ text.now }

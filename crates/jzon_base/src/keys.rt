@@ -1,35 +1,40 @@
 //! The keys of an object in the order in which they were put, and the position of each
 //! (docs/RULES.md, "Objects").
 //!
-//! How a key is found: up to 16 keys that have no index are compared one by one. From the 17th key
+//! How a key is found: up to 32 keys that have no index are compared one by one. From the 33rd key
 //! on, and still after removals, `Runs` has an entry of hash and position for each key, in few runs
 //! in the order of hashes and texts; each is asked by binary search, so that the time doesn't
 //! depend on which hashes the keys have.
 //!
-//! `merge` finds repeated keys by one sort of such entries.
+//! `from_entries` finds repeated keys by one sort of such entries.
 ghost use Rattle.std.specs.Prelude.{◌≡◌, ◌<◌, ◌++◌, ◌∷◌, ◌==◌, [], length, remove, slice_get, List, ℕ, IfOk, IfErr, OnOk, OnErr, MatchOption, None, Some, vec_len, vec_capacity};
 ghost use Rattle.std.specs.List.{position, zip, IsDistinct};
 ghost use Rattle.std.specs.Result.{result_ok};
 ghost use Rattle.std.specs.Str.{bytes_eq};
 ghost use Rattle.jzon_base.specs.PairList.{put_each};
 ghost use Rattle.jzon_base.specs.Private.Handed.{IsIndexed, IsSpotFor, IsTable};
+ghost use Rattle.jzon_base.specs.Private.Known.{Knows};
 
+mod entries;
+pub(crate) mod few;
+mod filter;
 pub mod hash;
-pub(crate) mod index;
 mod iter;
 mod known;
-mod order;
 mod retain;
 pub mod runs;
 
-use crate::fit::reserve_next;
 use crate::key::Key;
+use few::LINEAR_MAX;
 use hash::hash_of;
 pub use iter::Iter;
 pub use known::KnownKeys;
 use runs::Runs;
 use std::alloc::{AllocError, Global};
 use std::marker::Model;
+
+/// How many elements a vector that grows one by one first has room for.
+const FIRST_ROOM: usize = 8;
 
 /// Distinct keys in the order in which they were put, and the index in which the position of each
 /// is found. A clause sees the list of their bytes.
@@ -66,7 +71,7 @@ fn search(keys: &[Key], index: &Runs, name: &str) -> Result<usize, Spot>
     ensures spot { IfErr result (λ s. IsSpotFor keys.now index.now name.now s.hash s.at) }
 {
     if index.is_empty() {
-        return match index::position(keys, name) {
+        return match few::position(keys, name) {
             Some(position) => Ok(position),
             None => Err(Spot { hash: 0, at: 0 }),
         };
@@ -112,7 +117,7 @@ fn add_entry(
     ensures err { OnErr result (IsIndexed keys.now index.new) }
 {
     if index.is_empty() {
-        if keys.len() < index::LINEAR_MAX {
+        if keys.len() < LINEAR_MAX {
             return Ok(());
         }
         return begin_index(alloc, keys, index, name);
@@ -120,20 +125,27 @@ fn add_entry(
     index.add(alloc, keys, spot.hash, spot.at)
 }
 
-/// Puts the entries one after the other, in place: of those with equal keys, the last value at the
-/// position of the first. Returns the index of the keys that are left. The error is a failed
-/// allocation, and then the first of them have been put.
+/// Makes room for one more element. The error is a failed allocation.
+#[inline(always)]
+fn reserve_next<T>(items: &mut Vec<T>) -> Result<(), AllocError>
+    ensures items { items.new.items ≡ items.old.items }
+    ensures room { OnOk result (vec_len items.new < vec_capacity items.new) }
+{
+    let room = if items.capacity() == 0 { FIRST_ROOM } else { 1 };
+    items.reserve(room)
+}
+
+/// The keys and the values of entries that are put one after the other: of those with equal keys,
+/// the last value at the position of the first. The error is a failed allocation.
 #[inline(never)]
 fn put_each<V: Drop>(
     alloc: Global,
-    keys: &mut Vec<Key>,
-    values: &mut Vec<V>,
-) -> Result<Runs, AllocError>
-    requires { length values.old.items ≡ length keys.old.items }
-    ensures even { length values.new.items ≡ length keys.new.items }
-    ensures merged { put_each (zip keys.new.items values.new.items)
-        ≡ put_each (zip keys.old.items values.old.items) }
-    ensures table { IfOk result (λ r. IsTable keys.new.items r) }
+    mut keys: Vec<Key>,
+    mut values: Vec<V>,
+) -> Result<(Keys, Vec<V>), AllocError>
+    requires { length values.items ≡ length keys.items }
+    ensures even { IfOk result (λ r. length r.1.items ≡ length r.0) }
+    ensures merged { IfOk result (λ r. zip r.0 r.1.items ≡ put_each (zip keys.items values.items)) }
 {
     let mut index = Runs::new(alloc);
     let mut kept = 0;
@@ -143,11 +155,7 @@ fn put_each<V: Drop>(
         match search(before, &index, name) {
             Ok(position) => values.swap(position, at),
             Err(spot) => {
-                if let Err(error) = add_entry(alloc, before, &mut index, name, spot) {
-                    keys.drain(kept..at);
-                    values.drain(kept..at);
-                    return Err(error);
-                }
+                add_entry(alloc, before, &mut index, name, spot)?;
                 keys.swap(kept, at);
                 values.swap(kept, at);
                 kept += 1;
@@ -156,36 +164,10 @@ fn put_each<V: Drop>(
     }
     keys.truncate(kept);
     values.truncate(kept);
-    Ok(index)
-}
-
-/// Merges the entries of equal keys, in place: the last value at the position of the first. Returns
-/// the index of the keys that are left, or none if they were few. The error is a failed allocation,
-/// and then some of the merges have been made.
-#[inline(always)]
-pub fn merge<V: Drop>(
-    alloc: Global,
-    keys: &mut Vec<Key>,
-    values: &mut Vec<V>,
-) -> Result<Runs, AllocError>
-    requires { length values.old.items ≡ length keys.old.items }
-    ensures even { length values.new.items ≡ length keys.new.items }
-    ensures merged { put_each (zip keys.new.items values.new.items)
-        ≡ put_each (zip keys.old.items values.old.items) }
-    ensures table { IfOk result (λ r. IsTable keys.new.items r) }
-{
-    if keys.len() <= index::LINEAR_MAX {
-        return put_each(alloc, keys, values);
-    }
-    // Few keys, often repeated, aren't sorted: mostly the last key is among the first ones.
-    let last = keys[keys.len() - 1].as_str();
-    if index::has_name(&keys[..keys.len() / 4], last) {
-        return put_each(alloc, keys, values);
-    }
-    match index::of(alloc, keys.as_slice())? {
-        Some(index) => Runs::of(alloc, index),
-        None => put_each(alloc, keys, values),
-    }
+    // Copies, because the room of the entries that are gone would stay idle.
+    let keys = keys.split_off(0)?;
+    let values = values.split_off(0)?;
+    Ok((Keys { keys, index }, values))
 }
 
 impl Keys {
@@ -199,7 +181,7 @@ impl Keys {
         }
     }
 
-    /// No key, with room for `capacity` of them. More than 16 have an index, with room for up to
+    /// No key, with room for `capacity` of them. More than 32 have an index, with room for up to
     /// 1,024 of them. The error is a failed allocation.
     pub fn with_capacity(alloc: Global, capacity: usize) -> Result<Keys, AllocError>
         ensures { IfOk result (λ k. k ≡ []) }
@@ -222,20 +204,37 @@ impl Keys {
         }
     }
 
-    /// The keys of entries: those of equal keys become one, with the last value at the position of
-    /// the first. The error is a failed allocation.
+    /// The keys and the values of entries that are put one after the other: those of equal keys
+    /// become one, with the last value at the position of the first. The error is a failed
+    /// allocation.
     pub fn from_entries<V: Drop>(
         alloc: Global,
-        mut keys: Vec<Key>,
-        values: &mut Vec<V>,
-    ) -> Result<Keys, AllocError>
-        requires { length values.old.items ≡ length keys.items }
-        ensures even { IfOk result (λ k. length values.new.items ≡ length k) }
-        ensures merged { IfOk result (λ k. zip k values.new.items
-            ≡ put_each (zip keys.items values.old.items)) }
+        keys: Vec<Key>,
+        values: Vec<V>,
+    ) -> Result<(Keys, Vec<V>), AllocError>
+        requires { length values.items ≡ length keys.items }
+        ensures even { IfOk result (λ r. length r.1.items ≡ length r.0) }
+        ensures merged { IfOk result (λ r. zip r.0 r.1.items
+            ≡ put_each (zip keys.items values.items)) }
     {
-        let index = merge(alloc, &mut keys, values)?;
-        Ok(Keys { keys, index })
+        if LINEAR_MAX < keys.len() {
+            if let Some(entries) = entries::of(alloc, keys.as_slice())? {
+                let index = Runs::of(alloc, entries)?;
+                return Ok((Keys { keys, index }, values));
+            }
+        }
+        put_each(alloc, keys, values)
+    }
+
+    /// Distinct keys, with the index of them that was made.
+    pub fn from_known(alloc: Global, keys: Vec<Key>, known: KnownKeys) -> Keys
+        requires { Knows keys.items known }
+        ensures { result ≡ keys.items }
+    {
+        Keys {
+            keys,
+            index: known.into_index(alloc),
+        }
     }
 
     /// The keys, without their index.

@@ -4,7 +4,6 @@
 
 pub mod digits;
 pub mod error;
-pub mod fit;
 mod inline;
 pub mod key;
 pub mod keys;

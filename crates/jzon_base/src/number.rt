@@ -173,11 +173,14 @@ impl PartialEq for Number {
 
     #[tactic(auto, using(crate::specs::Private::Same::zero_rules))]
     fn eq(&self, other: &Number) -> bool {
+        let (positive, mantissa, exponent) = self.as_parts();
+        let (other_positive, other_mantissa, other_exponent) = other.as_parts();
+        if mantissa != 0 && mantissa == other_mantissa && exponent == other_exponent {
+            return positive == other_positive;
+        }
         if self.is_nan() || other.is_nan() {
             return self.is_nan() && other.is_nan();
         }
-        let (positive, mantissa, exponent) = self.as_parts();
-        let (other_positive, other_mantissa, other_exponent) = other.as_parts();
         if mantissa == 0 || other_mantissa == 0 {
             return mantissa == other_mantissa;
         }
@@ -229,7 +232,7 @@ fn same_magnitude(mantissa: u64, exponent: i16, other_mantissa: u64, other_expon
 }
 
 /// Whether `mantissa * 10 ^ (exponent - lower)` is the other mantissa.
-#[tactic(auto, using(crate::proofs::Scaled::same_rules))]
+#[tactic(auto, using(crate::proofs::Numbers::Scaling::same_rules))]
 fn is_scaled(mantissa: u64, exponent: i16, other_mantissa: u64, lower: i16) -> bool
     requires some { 0 < mantissa }
     requires order { lower ≤ℤ exponent }
@@ -239,7 +242,7 @@ fn is_scaled(mantissa: u64, exponent: i16, other_mantissa: u64, lower: i16) -> b
 }
 
 /// `mantissa * 10 ^ power`, if it fits.
-#[tactic(auto, using(crate::proofs::Powers::too_large))]
+#[tactic(auto, using(crate::proofs::Numbers::Powers::too_large))]
 fn times_power(mantissa: u64, power: u32) -> Option<u64>
     requires { 0 < mantissa }
     ensures { MatchOption result (2 ^ 64 ≤ mantissa * 10 ^ power) (λ r. r ≡ mantissa * 10 ^ power) }

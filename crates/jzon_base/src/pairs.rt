@@ -6,16 +6,15 @@ ghost use Rattle.std.specs.Str.{bytes_eq};
 ghost use Rattle.std.specs.Option.{option_copied, option_copied_mut};
 ghost use Rattle.std.specs.Coded.{coded_ℕ, coded_list, coded×};
 ghost use Rattle.jzon_base.specs.PairList.{entries_in_box, put_each};
+ghost use Rattle.jzon_base.specs.Private.Known.{Knows};
 
-mod builder;
 mod contents;
 mod iter;
 mod iter_mut;
 
 use crate::key::Key;
-use crate::keys::index::{LINEAR_MAX, are_distinct};
-use crate::keys::{self, Keys};
-pub use builder::Builder;
+use crate::keys::few::{LINEAR_MAX, are_distinct};
+use crate::keys::{self, Keys, KnownKeys};
 use contents::Contents;
 pub use iter::Iter;
 pub use iter_mut::IterMut;
@@ -71,7 +70,7 @@ impl<V> Pairs<V> {
         })
     }
 
-    /// No entry, with room for keys and values of `capacity` entries. More than 16 have an index,
+    /// No entry, with room for keys and values of `capacity` entries. More than 32 have an index,
     /// with room for up to 1,024 of them. The error is a failed allocation.
     pub fn with_capacity(alloc: Global, capacity: usize) -> Result<Pairs<V>, AllocError>
     where
@@ -111,15 +110,36 @@ impl<V> Pairs<V> {
         Pairs::merged(alloc, keys, values)
     }
 
-    /// The same for many keys, and for those of which some repeat.
+    /// The entries of many keys, or of keys of which some repeat.
     #[inline(never)]
-    fn merged(alloc: Global, keys: Vec<Key>, mut values: Vec<V>) -> Result<Pairs<V>, AllocError>
+    fn merged(alloc: Global, keys: Vec<Key>, values: Vec<V>) -> Result<Pairs<V>, AllocError>
     where
         V: Drop,
         requires { length values.items ≡ length keys.items }
         ensures { IfOk result (λ p. p ≡ put_each (zip keys.items values.items)) }
     {
-        let keys = Keys::from_entries(alloc, keys, &mut values)?;
+        let (keys, values) = Keys::from_entries(alloc, keys, values)?;
+        Pairs::boxed(alloc, Contents::from_parts(keys, values))
+    }
+
+    /// The entries of keys that are known to be distinct, and of as many values. The error is a
+    /// failed allocation.
+    pub fn from_known(
+        alloc: Global,
+        keys: Vec<Key>,
+        known: KnownKeys,
+        values: Vec<V>,
+    ) -> Result<Pairs<V>, AllocError>
+    where
+        V: Drop,
+        requires even { length values.items ≡ length keys.items }
+        requires known { Knows keys.items known }
+        ensures { IfOk result (λ p. p ≡ put_each (zip keys.items values.items)) }
+    {
+        if keys.is_empty() {
+            return Ok(Pairs::new(alloc));
+        }
+        let keys = Keys::from_known(alloc, keys, known);
         Pairs::boxed(alloc, Contents::from_parts(keys, values))
     }
 
@@ -241,7 +261,7 @@ impl<V> Pairs<V> {
     }
 
     /// The value of a key.
-    #[tactic(auto, using(crate::proofs::PairPlaces::places))]
+    #[tactic(auto, using(crate::proofs::Entries::PairPositions::places))]
     pub fn get(&self, name: &str) -> Option<&V>
         ensures { option_copied result ≡ find name.now self.now }
     {
@@ -249,7 +269,7 @@ impl<V> Pairs<V> {
     }
 
     /// The value of a key, to be written: nothing else changes.
-    #[tactic(auto, using(crate::proofs::PairPlaces::places))]
+    #[tactic(auto, using(crate::proofs::Entries::PairPositions::places))]
     pub fn get_mut(&mut self, name: &str) -> Option<&mut V>
         ensures* writes_back { sem 𝓛 (LendsIf (the_row V.row) V.row self.entry result
             (λ w. put name.now w self.old)
@@ -311,7 +331,7 @@ impl<V> Pairs<V> {
 
     /// The value of a key, to be written. Where the key is missing it is put last with `value`, and
     /// the error is a failed allocation.
-    #[tactic(auto, using(crate::proofs::PairPlaces::places))]
+    #[tactic(auto, using(crate::proofs::Entries::PairPositions::places))]
     pub fn at_mut(&mut self, alloc: Global, name: &str, value: V) -> Result<&mut V, AllocError>
     where
         V: Drop,
@@ -352,7 +372,7 @@ impl<V> Pairs<V> {
 
     /// Removes the entry of a key, and returns its value. The others keep their order. Takes no
     /// memory.
-    #[tactic(auto, using(crate::proofs::PairPlaces::places))]
+    #[tactic(auto, using(crate::proofs::Entries::PairPositions::places))]
     pub fn remove(&mut self, name: &str) -> Option<V>
         ensures value { result ≡ find name.now self.old }
         ensures after { self.new ≡ cut name.now self.old }

@@ -1,4 +1,4 @@
--- The state that the contracts of a generator speak of, and what its hooks do to it (docs/RULES.md, "Generators").
+-- The state that the contracts of a generator speak of, and what its hooks do to it (docs/GENERATORS.md, "Hooks").
 use Rattle.std.specs.Prelude.{◌≡◌, ℕ, ◌+◌, ◌-◌, ◌^◌, ◌≤◌, min, Bool, true, false, IsTrue, List, [], ◌∷◌, ◌++◌, ◌⊎◌, ⊤, length}
 use Rattle.std.specs.Prelude.{MatchResult, Option, Result, Some, None}
 use Rattle.std.specs.Borrow.{GName}

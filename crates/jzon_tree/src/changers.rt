@@ -1,6 +1,6 @@
 //! Changes to values (docs/RULES.md, "Changers"). A call that fails leaves the value's meaning
 //! unchanged and drops the value that was passed to it.
-#![tactic(auto, using(crate::proofs::Views::views, crate::proofs::Seen::seen))]
+#![tactic(auto, using(crate::proofs::Values::Views::views, crate::proofs::Values::PartViews::seen))]
 
 ghost use Rattle.std.specs.Prelude.{◌≡◌, ◌-◌, codes, true, false, string_bytes, option_map, slice_get, remove, IfOk, IfErr, OnOk, OnErr, IsOkUnless, None};
 ghost use Rattle.jzon_base.specs.PairList.{find};

@@ -1,6 +1,6 @@
 //! Copies of values and of objects: `clone(alloc)`, and std's `Clone` for `derive(Clone)` and for
 //! `clone` of lists.
-#![tactic(auto, using(crate::proofs::Views::views))]
+#![tactic(auto, using(crate::proofs::Values::Views::views))]
 
 ghost use Rattle.std.specs.Prelude.{◌≡◌, ◌+◌, ◌<◌, ◌++◌, ◌∷◌, [], map, true, false, IfOk, IsOkUnless, vec_len, vec_capacity};
 ghost use Rattle.jzon_tree.specs.View.{view, view_object};

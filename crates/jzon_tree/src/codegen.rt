@@ -1,6 +1,17 @@
-//! Printing: generators and layouts (docs/RULES.md, "Generators"). `driver` goes over a value and
+//! Printing: generators and layouts (docs/GENERATORS.md). `driver` goes over a value and
 //! calls the hooks of a `generator`; `text_generator` has the generators of the crate, which write
 //! to an `outlet` by `strings`, `numbers` and `layout`.
+//!
+//! ```text
+//! trait        implemented by                                used by
+//! Generator    TextGenerator; a caller's own                 write_json, write_object
+//! Layout       Compact; Pretty; a reference; a caller's own  TextGenerator
+//! Destination  Memory: dump, pretty, lay_out                 TextGenerator
+//!              &mut W: write, write_pretty, write_layout
+//!              Through: write_outlet
+//! Outlet       a caller's buffer                             Through
+//! Write        a vector; a caller's writer; each Outlet      Destination
+//! ```
 
 mod display;
 pub(crate) mod driver;

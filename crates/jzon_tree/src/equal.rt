@@ -20,7 +20,7 @@ impl PartialEq for JsonValue {
     ghost laws = { on_per view (partial_equiv_from_equiv same_equiv) };
 
     #[cycle(same)]
-    #[tactic(auto, using(crate::proofs::Views::views))]
+    #[tactic(auto, using(crate::proofs::Values::Views::views))]
     fn eq(&self, other: &JsonValue) -> bool {
         match (self, other) {
             (JsonValue::Null, JsonValue::Null) => true,

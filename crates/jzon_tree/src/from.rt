@@ -130,7 +130,7 @@ impl From<String> for JsonValue {
 impl From<Object> for JsonValue {
     ghost from_gives = { λ o v. view v ≡ view_object o };
 
-    #[tactic(auto, using(crate::proofs::Views::views))]
+    #[tactic(auto, using(crate::proofs::Values::Views::views))]
     fn from(object: Object) -> JsonValue {
         JsonValue::Object(object)
     }

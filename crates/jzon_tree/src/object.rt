@@ -10,6 +10,7 @@ ghost use Rattle.std.specs.Slice.Iter.{iter_rest};
 ghost use Rattle.std.specs.Str.{bytes_eq};
 ghost use Rattle.std.specs.Vec.Iter.{into_iter_items};
 ghost use Rattle.jzon_base.specs.IterMut.{iter_mut_rest};
+ghost use Rattle.jzon_base.specs.Private.Known.{Knows};
 ghost use Rattle.jzon_base.specs.PairList.{find, put, put_each, cut, set_value, with_default, keys_of, values_of};
 ghost use Rattle.jzon_tree.specs.IntoJson.{PutMeans};
 ghost use Rattle.jzon_tree.specs.Entries.{entries_of};
@@ -23,7 +24,7 @@ use crate::into_json::IntoJson;
 use crate::value::JsonValue;
 use jzon_base::error::{Error, Result};
 pub use jzon_base::key::Key;
-use jzon_base::keys;
+use jzon_base::keys::{self, KnownKeys};
 use jzon_base::pairs::{self, Pairs};
 use std::alloc::{AllocError, Global};
 use std::convert::AsStr;
@@ -55,11 +56,6 @@ pub struct IntoIter {
     // As many values are left as keys, so that `next` requires nothing of its caller.
     ghost as_many: { length (into_iter_items values) ≡ length (into_iter_items keys) },
 }
-
-/// The entries of an object that is being made: `push` adds one, and `Object::from_builder` makes
-/// the object. A clause sees the entries so far: a later entry of a key replaces that key's value
-/// at its position.
-pub type Builder = pairs::Builder<JsonValue>;
 
 /// A JSON object (RFC 8259, section 4): entries, each a key and a value, in the order in which
 /// their keys were first put. Keys are distinct, compared by their bytes.
@@ -110,12 +106,14 @@ impl Object {
         ensures memory { IsOkUnless result Error.OutOfMemory }
     {
         let (least, _) = pairs.size_hint();
-        let mut builder = Builder::with_capacity(alloc, least.min(ROOM_MAX))?;
+        let mut keys = Vec::with_capacity(alloc, least.min(ROOM_MAX))?;
+        let mut values = Vec::with_capacity(alloc, least.min(ROOM_MAX))?;
         for (key, value) in pairs {
             let key = Key::new(alloc, key.as_str())?;
-            builder.push(alloc, key, value.into_json(alloc)?)?;
+            keys.push(key)?;
+            values.push(value.into_json(alloc)?)?;
         }
-        Object::from_builder(alloc, builder)
+        Ok(Object::from_entries(alloc, keys, values)?)
     }
 
     /// The object of the entries of keys and as many values, put one after the other, as by
@@ -135,12 +133,21 @@ impl Object {
         Ok(Object { pairs })
     }
 
-    /// The object of the builder's entries. Fails with `OutOfMemory` only.
-    pub fn from_builder(alloc: Global, builder: Builder) -> Result<Object>
-        ensures pairs { IfOk result (λ object. entries_of object ≡ builder) }
-        ensures memory { IsOkUnless result Error.OutOfMemory }
+    /// The object of the entries of keys that are known to be distinct, and of as many values. The
+    /// error is a failed allocation.
+    #[doc(hidden)]
+    pub fn from_known(
+        alloc: Global,
+        keys: Vec<Key>,
+        known: KnownKeys,
+        values: Vec<JsonValue>,
+    ) -> std::result::Result<Object, AllocError>
+        requires even { length values.items ≡ length keys.items }
+        requires known { Knows keys.items known }
+        ensures pairs { IfOk result (λ object. entries_of object
+            ≡ put_each (zip keys.items values.items)) }
     {
-        let pairs = builder.finish(alloc)?;
+        let pairs = Pairs::from_known(alloc, keys, known, values)?;
         Ok(Object { pairs })
     }
 

@@ -1,5 +1,5 @@
 //! Reading values (docs/RULES.md, "Readers"). None of these calls allocates.
-#![tactic(auto, using(crate::proofs::Views::views, crate::proofs::Seen::seen))]
+#![tactic(auto, using(crate::proofs::Values::Views::views, crate::proofs::Values::PartViews::seen))]
 
 ghost use Rattle.std.specs.Prelude.{◌≡◌, map, is_some, option_map};
 ghost use Rattle.std.specs.List.{list_any};

@@ -1,5 +1,5 @@
 //! A value inside a value, which may be missing (docs/RULES.md, "Readers").
-#![tactic(auto, using(crate::proofs::Views::views, crate::proofs::Seen::seen))]
+#![tactic(auto, using(crate::proofs::Values::Views::views, crate::proofs::Values::PartViews::seen))]
 
 ghost use Rattle.std.specs.Prelude.{◌≡◌, ◌<◌, ◌^◌, pos, map, is_some, option_map, slice_get, FitsSigned, Some};
 ghost use Rattle.std.specs.Int.{w8, w16, w32, w64};

@@ -1,4 +1,4 @@
--- What the program does for its arguments (docs/RULES.md, "The program jzonfmt").
+-- What the program does for its arguments (docs/JZONFMT.md).
 use Rattle.std.specs.Prelude.{◌≡◌, ℕ, ◌^◌, Bool, true, false, List, [], ◌∷◌, length, nat_le, nat_lt, ◌&&◌}
 use Rattle.std.specs.Prelude.{if◌then◌else◌, Result, Ok, Err, Option, None, Some, option_map, codes, MatchOption}
 use Rattle.std.specs.Char.{is_digit}

@@ -1,4 +1,4 @@
--- What a run does (docs/RULES.md, "The program jzonfmt").
+-- What a run does (docs/JZONFMT.md).
 use Rattle.std.specs.Prelude.{ℕ, List, [], ◌∷◌, ◌++◌, Result, Ok, Err, Option, IsUtf8, MatchResult, chars, ⊤}
 use Rattle.std.specs.Io.KnownBytes.{Appends, Keeps, Consumes, IsAtEnd}
 use Rattle.jzon.specs.Error.{Error}

@@ -131,6 +131,8 @@ impl<W: Write, S: Start> Write for Buffered<'_, W, S> {
 
     ghost contents = { held W.contents S.start };
 
+    /// Holds the bytes if there is room for all of them. Otherwise writes out what is held, and then
+    /// holds as many of them as there is room for.
     #[inline(always)]
     fn write(&mut self, buf: &[u8]) -> io::Result<usize> {
         if buf.len() <= self.bytes.capacity() - self.bytes.len() {

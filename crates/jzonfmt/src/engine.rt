@@ -1,4 +1,4 @@
-//! What the program does, over any reader and any writers (docs/RULES.md, "The program jzonfmt").
+//! What the program does, over any reader and any writers (docs/JZONFMT.md).
 
 ghost use Rattle.std.specs.Prelude.{◌≡◌, ℕ, List, [], IfOk, IfErr, OnOk, map, option_map, string_bytes, vec_len};
 ghost use Rattle.std.specs.Io.KnownBytes.{Consumes, Keeps};

@@ -4,7 +4,7 @@
 use Rattle.jzon_base.proofs.Common.{◌≡◌, ◌∙◌, ℕ, suc, ◌+◌, ◌-◌, List, [], ◌∷◌, ◌++◌, length, Bool, true, false, cond}
 use Rattle.jzon_base.proofs.Common.{◌&&◌, ◌||◌, None, refl, sym, subst, ap, arith, IsTrue, fold, is_some, bytes_eq}
 use Rattle.jzon_base.specs.PairList.{find, put}
-use Rattle.jzon_base.proofs.KnownKeys.{known-put}
+use Rattle.jzon_base.proofs.KeyIndex.KnownKeys.{known-put}
 use Rattle.jzon_tree.specs.Same.{is_known}
 use Rattle.jzon_tree.specs.Writing.{is_whitespace}
 use Rattle.jzon_tree.specs.Value as value

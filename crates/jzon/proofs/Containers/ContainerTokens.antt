@@ -5,7 +5,7 @@ use Rattle.std.proofs.lemmas.Bool.{le-leb}
 use Rattle.jzon.specs.declared.fault.Stop.{Stop}
 use Rattle.jzon.specs.declared.fault.Stop.TheVariants.{Limit}
 use Rattle.jzon_tree.specs.Value.{Value, array, no_values, object, no_pairs}
-use Rattle.jzon.specs.Private.Brackets.{opener, closer, empty_container, innermost_bracket, after_opener, after_comma}
+use Rattle.jzon.specs.Private.Brackets.{opener, closer, empty_container, innermost_kind, after_opener, after_comma}
 use Rattle.jzon.specs.Private.Brackets.{after_closer}
 use Rattle.jzon.specs.Private.Classes.{Class, opens_array, closes_array, opens_object, closes_object, comma, colon}
 use Rattle.jzon.specs.Private.Classes.{class_of}
@@ -15,8 +15,8 @@ use Rattle.jzon.specs.Private.Machine.{before_key, string, after_key, after_valu
 use Rattle.jzon.specs.Private.Machine.{from, from_closed, left_at, fault_here, Reports, ReportsUnlessMemory, State, Move, go}
 use Rattle.jzon.specs.Private.Machine.{move, allows_whitespace, move_before, move_before_key, move_after_key}
 use Rattle.jzon.specs.Private.Machine.{move_after_value}
-use Rattle.jzon.specs.declared.cursor.Bracket.{Bracket}
-use Rattle.jzon.specs.declared.cursor.Bracket.TheVariants.{Array, Object}
+use Rattle.jzon.specs.declared.cursor.ContainerKind.{ContainerKind}
+use Rattle.jzon.specs.declared.cursor.ContainerKind.TheVariants.{Array, Object}
 use Rattle.jzon.specs.declared.cursor.Cursor.{Cursor}
 use Rattle.jzon.proofs.Containers.ContainerSteps.{deep_element, deep_key, no_element, no_entry, open_key, no_key}
 use Rattle.jzon.proofs.Containers.ContainerSteps.{no_colon}
@@ -28,15 +28,15 @@ use Rattle.jzon.proofs.Texts.ReportedErrors.{reported_deep, reported_end}
 
 -- ---- brackets
 
-pub opener_bounds : (b : Bracket) → (0 < opener b) × (opener b < 128)
+pub opener_bounds : (b : ContainerKind) → (0 < opener b) × (opener b < 128)
 opener_bounds Array = (omega arith, omega arith)
 opener_bounds Object = (omega arith, omega arith)
 
-pub closer_bounds : (b : Bracket) → (0 < closer b) × (closer b < 128)
+pub closer_bounds : (b : ContainerKind) → (0 < closer b) × (closer b < 128)
 closer_bounds Array = (omega arith, omega arith)
 closer_bounds Object = (omega arith, omega arith)
 
-same_closer : (b d : Bracket) → Some b ≡ Some d → closer d ≡ closer b
+same_closer : (b d : ContainerKind) → Some b ≡ Some d → closer d ≡ closer b
 same_closer b d e = cc
 
 -- ---- one character
@@ -63,7 +63,7 @@ leads k t u p q moves by goes some ascii allows past e =
 
 -- ---- after the opening bracket
 
-pub opens : (b : Bracket) (t u : Cursor) (fs : Frames) → IsPast t.reading t.source.now (t.index + 1) u
+pub opens : (b : ContainerKind) (t u : Cursor) (fs : Frames) → IsPast t.reading t.source.now (t.index + 1) u
     → next_byte t ≡ opener b → value_mark t.reading fs ≡ None
     → IsAfter t u × (left t (before fs) ≡ left u (after_opener b fs))
 opens Array t u fs past e mark =
@@ -73,7 +73,7 @@ opens Object t u fs past e mark =
     leads opens_object t u (before fs) (before_key fs []) (λ k. move_before t.reading k fs 123) refl
     (ap (λ m. go m (before_key fs [])) mark) (lit< tt) (lit< tt) refl past e
 
-pub empty_closes : (b : Bracket) (t u : Cursor) (fs : Frames) → IsPast t.reading t.source.now (t.index + 1) u
+pub empty_closes : (b : ContainerKind) (t u : Cursor) (fs : Frames) → IsPast t.reading t.source.now (t.index + 1) u
     → next_byte t ≡ closer b → IsAfter t u × (left t (after_opener b fs) ≡ left u (after_value fs (empty_container b)))
 empty_closes Array t u fs past e =
     leads closes_array t u (before (array_frame fs [])) (after_value fs (array no_values))
@@ -82,13 +82,13 @@ empty_closes Object t u fs past e =
     leads closes_object t u (before_key fs []) (after_value fs (object no_pairs))
     (λ k. move_before_key t.reading k fs [] (left_at t.source.now t.index)) refl refl (lit< tt) (lit< tt) refl past e
 
-pub left_open : (b : Bracket) (t : Cursor) (fs : Frames) (e : Stop) → length t.source.now ≤ t.index
+pub left_open : (b : ContainerKind) (t : Cursor) (fs : Frames) (e : Stop) → length t.source.now ≤ t.index
     → Reports t.source.now e (fault_here (chars (drop t.index t.source.now)))
     → ReportsUnlessMemory t.source.now e (left t (after_opener b fs))
 left_open Array t fs e le = reported_end t.reading t.source.now t.index (before (array_frame fs [])) e le refl
 left_open Object t fs e le = reported_end t.reading t.source.now t.index (before_key fs []) e le refl
 
-pub item_too_deep : (b : Bracket) (t : Cursor) (fs : Frames) → t.index < length t.source.now → next_byte t ≢ closer b
+pub item_too_deep : (b : ContainerKind) (t : Cursor) (fs : Frames) → t.index < length t.source.now → next_byte t ≢ closer b
     → t.reading.depth ≤ frames_depth fs
     → ReportsUnlessMemory t.source.now Limit (left t (after_opener b fs))
 item_too_deep Array t fs lt n le =
@@ -102,8 +102,8 @@ item_too_deep Object t fs lt n le =
 
 -- ---- after an item
 
-pub closes : (b : Bracket) (t u : Cursor) (o : State) (end : ℕ) (fs : Frames) (v : Value)
-    → innermost_bracket fs ≡ Some b → ReadTo t o (after_value fs v) end → IsPast t.reading t.source.now (end + 1) u
+pub closes : (b : ContainerKind) (t u : Cursor) (o : State) (end : ℕ) (fs : Frames) (v : Value)
+    → innermost_kind fs ≡ Some b → ReadTo t o (after_value fs v) end → IsPast t.reading t.source.now (end + 1) u
     → get_or t.source.now end 0 ≡ closer b → IsAfter t u × (left t o ≡ left u (after_closer fs v))
 closes b t u o end no_frames v here read past e = absurd (cc)
 closes b t u o end (array_frame fs vs) v here read past e =
@@ -115,8 +115,8 @@ closes b t u o end (object_frame fs es k) v here read past e =
     (λ x. move_after_value x (object_frame fs es k) v) refl refl (lit< tt) (lit< tt) refl read past
     (e ∙ same_closer Object b here)
 
-pub comma_goes : (b : Bracket) (t u : Cursor) (o : State) (end : ℕ) (fs : Frames) (v : Value)
-    → innermost_bracket fs ≡ Some b → ReadTo t o (after_value fs v) end → IsPast t.reading t.source.now (end + 1) u
+pub comma_goes : (b : ContainerKind) (t u : Cursor) (o : State) (end : ℕ) (fs : Frames) (v : Value)
+    → innermost_kind fs ≡ Some b → ReadTo t o (after_value fs v) end → IsPast t.reading t.source.now (end + 1) u
     → get_or t.source.now end 0 ≡ 44 → IsAfter t u × (left t o ≡ left u (after_comma fs v))
 comma_goes b t u o end no_frames v here read past e = absurd (cc)
 comma_goes b t u o end (array_frame fs vs) v here read past e =
@@ -126,7 +126,7 @@ comma_goes b t u o end (object_frame fs es k) v here read past e =
     leads_at comma t u o (after_value (object_frame fs es k) v) (after_comma (object_frame fs es k) v) end
     (λ x. move_after_value x (object_frame fs es k) v) refl refl (lit< tt) (lit< tt) refl read past e
 
-pub item_stops : (b : Bracket) (t : Cursor) (fs : Frames) (v : Value) → innermost_bracket fs ≡ Some b → next_byte t ≢ 44
+pub item_stops : (b : ContainerKind) (t : Cursor) (fs : Frames) (v : Value) → innermost_kind fs ≡ Some b → next_byte t ≢ 44
     → next_byte t ≢ closer b → left t (after_value fs v) ≡ fault_here (chars (drop t.index t.source.now))
 item_stops b t no_frames v here no_comma no_end = absurd (cc)
 item_stops b t (array_frame fs vs) v here no_comma no_end =

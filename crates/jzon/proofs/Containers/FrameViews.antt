@@ -7,26 +7,26 @@ use Rattle.jzon_base.specs.PairList.{put, put_each}
 use Rattle.jzon_tree.specs.Value.{Value, array, values_of, object, pairs_of}
 use Rattle.jzon_tree.specs.View.{view, viewed}
 use Rattle.jzon_tree.specs.declared.value.JsonValue.{JsonValue}
-use Rattle.jzon_tree.proofs.Views.{viewed-put}
+use Rattle.jzon_tree.proofs.Values.Views.{viewed-put}
 use Rattle.jzon.specs.Reading.{Reading}
 use Rattle.jzon.specs.Spelling.{breach_if, deep}
-use Rattle.jzon.specs.Private.Brackets.{innermost_bracket, after_comma, after_closer}
+use Rattle.jzon.specs.Private.Brackets.{innermost_kind, after_comma, after_closer}
 use Rattle.jzon.specs.Private.Machine.{EntriesSoFar, Frames, array_frame, frames_depth, is_fresh}
 use Rattle.jzon.specs.Private.Machine.{before, before_key, after_value, value_mark, key_mark}
 use Rattle.jzon.specs.Private.OpenContainers.{Container, entries_so_far, last_key, open_as, frames_in, whole_as}
 use Rattle.jzon.specs.Private.OpenContainers.{before_item_as, AwaitsValue, IsEven, with_value}
-use Rattle.jzon.specs.declared.cursor.Bracket.{Bracket}
-use Rattle.jzon.specs.declared.cursor.Bracket.TheVariants.{Array, Object}
+use Rattle.jzon.specs.declared.cursor.ContainerKind.{ContainerKind}
+use Rattle.jzon.specs.declared.cursor.ContainerKind.TheVariants.{Array, Object}
 
 -- ---- the depth
 
-depth_one_more : (b : Bracket) (fs : Frames) (c : Container) → frames_depth (open_as b fs c) ≡ suc (frames_depth fs)
+depth_one_more : (b : ContainerKind) (fs : Frames) (c : Container) → frames_depth (open_as b fs c) ≡ suc (frames_depth fs)
 depth_one_more Array fs c = refl
 depth_one_more Object fs c = refl
 
 pub frames_depth-in : (cs : List Container) → frames_depth (frames_in cs) ≡ length cs
 frames_depth-in [] = refl
-frames_depth-in (c ∷ cs) = let one = depth_one_more c.bracket (frames_in cs) c in
+frames_depth-in (c ∷ cs) = let one = depth_one_more c.kind (frames_in cs) c in
     let rest = frames_depth-in cs in omega arith
 
 pub not_too_deep : (m n : ℕ) → n < m → breach_if (nat_le m n) deep ≡ None
@@ -42,7 +42,7 @@ key_mark-shallow r fs (e ∷ es) lt = refl
 
 -- ---- elements and entries
 
-pub brackets_of : (b : Bracket) (fs : Frames) (c : Container) → innermost_bracket (open_as b fs c) ≡ Some b
+pub brackets_of : (b : ContainerKind) (fs : Frames) (c : Container) → innermost_kind (open_as b fs c) ≡ Some b
 brackets_of Array fs c = refl
 brackets_of Object fs c = refl
 
@@ -55,7 +55,7 @@ fresh_frame fs [] e = refl
 fresh_frame fs (v ∷ vs) e = absurd (cc)
 
 -- only an array without elements is fresh
-pub fresh_is_empty : (b : Bracket) (fs : Frames) (c : Container) → is_fresh (open_as b fs c) ≡ true
+pub fresh_is_empty : (b : ContainerKind) (fs : Frames) (c : Container) → is_fresh (open_as b fs c) ≡ true
     → (c.values ≡ []) × (b ≡ Array)
 fresh_is_empty Array fs c e = (no_views c.values (fresh_frame fs (map view c.values) e), refl)
 fresh_is_empty Object fs c e = absurd (cc)
@@ -94,18 +94,18 @@ last_of (l ∷ []) k = refl
 last_of (l ∷ m ∷ ks) k = last_of (m ∷ ks) k
 
 -- after a value the next item comes, or the container ends
-pub after_comma-item : (b : Bracket) (fs : Frames) (c : Container) (v : JsonValue) → AwaitsValue b c
+pub after_comma-item : (b : ContainerKind) (fs : Frames) (c : Container) (v : JsonValue) → AwaitsValue b c
     → after_comma (open_as b fs c) (view v) ≡ before_item_as b fs (with_value c v)
 after_comma-item Array fs c v h = ap (λ ws. before (array_frame fs ws)) (sym (map-append view c.values (v ∷ [])))
 after_comma-item Object fs c v h = ap (before_key fs) (sym (entries_with_value c v h))
 
-pub after_closer-whole : (b : Bracket) (fs : Frames) (c : Container) (v : JsonValue) → AwaitsValue b c
+pub after_closer-whole : (b : ContainerKind) (fs : Frames) (c : Container) (v : JsonValue) → AwaitsValue b c
     → after_closer (open_as b fs c) (view v) ≡ after_value fs (whole_as b (with_value c v))
 after_closer-whole Array fs c v h =
     ap (λ ws. after_value fs (array (values_of ws))) (sym (map-append view c.values (v ∷ [])))
 after_closer-whole Object fs c v h = ap (λ es. after_value fs (object (pairs_of es))) (sym (entries_with_value c v h))
 
-pub even_again : (b : Bracket) (c : Container) (v : JsonValue) → AwaitsValue b c → IsEven b (with_value c v)
+pub even_again : (b : ContainerKind) (c : Container) (v : JsonValue) → AwaitsValue b c → IsEven b (with_value c v)
 even_again Array c v h = h
 even_again Object c v h = h ∙ sym (length-append c.values (v ∷ []))
 

@@ -1,32 +1,34 @@
 -- Items of the innermost open container: how the parser's stacks change with them, and where the automaton is then.
 use Rattle.jzon_base.proofs.Common.{◌≡◌, ◌≢◌, ◌∙◌, ◌+◌, ◌<◌, ℕ, Bool, true, false, cond, List, [], ◌∷◌, length, refl}
-use Rattle.jzon_base.proofs.Common.{sym, ap, subst, arith, None, Some, Result, Ok, Err, zip, fold, bytes_eq}
+use Rattle.jzon_base.proofs.Common.{sym, ap, subst, arith, None, Some, Result, Ok, Err, fold, bytes_eq}
+use Rattle.jzon_base.proofs.Common.{length-append, zip}
 use Rattle.jzon_base.specs.PairList.{put, put_each}
 use Rattle.jzon.specs.declared.fault.Stop.{Stop}
 use Rattle.jzon_tree.specs.View.{view, viewed}
 use Rattle.jzon_tree.specs.declared.value.JsonValue.{JsonValue}
-use Rattle.jzon.specs.Private.Brackets.{innermost_bracket, after_opener, after_comma, after_closer}
+use Rattle.jzon.specs.Private.Brackets.{innermost_kind, after_opener, after_comma, after_closer}
 use Rattle.jzon.specs.Private.Cursor.{left, IsAfter, GoesOn}
 use Rattle.jzon.specs.Private.Machine.{State, no_frames, before_key, after_value, object_frame, frames_depth}
 use Rattle.jzon.specs.Private.Machine.{value_mark, key_mark}
 use Rattle.jzon.specs.Private.OpenContainers.{Container, OpenContainers, entries_so_far, open_as, frames_in}
 use Rattle.jzon.specs.Private.OpenContainers.{frames_around, frames_here, whole, before_item_as, before_item, IsEven}
-use Rattle.jzon.specs.Private.OpenContainers.{AwaitsValue, value_added, HasKeyNext, KeepsAround, IsBeforeItem}
+use Rattle.jzon.specs.Private.OpenContainers.{AwaitsValue, value_added, key_added, KeepsAround, IsBeforeItem}
 use Rattle.jzon.specs.Private.OpenContainers.{IsClosed, new_container}
-use Rattle.jzon.specs.declared.cursor.Bracket.{Bracket}
-use Rattle.jzon.specs.declared.cursor.Bracket.TheVariants.{Array, Object}
+use Rattle.jzon.specs.declared.cursor.ContainerKind.{ContainerKind}
+use Rattle.jzon.specs.declared.cursor.ContainerKind.TheVariants.{Array, Object}
 use Rattle.jzon.specs.declared.cursor.Cursor.{Cursor}
 use Rattle.jzon.proofs.Containers.FrameViews.{frames_depth-in, value_mark-shallow, key_mark-shallow, brackets_of}
 use Rattle.jzon.proofs.Containers.FrameViews.{after_comma-item, after_closer-whole, even_again, some_more}
+use Rattle.jzon.proofs.Containers.FrameViews.{zip_key, last_of}
 use Rattle.jzon.proofs.Texts.Cursors.{Reached}
 
 -- ---- the innermost container by its brackets
 
-pub before_entry : (s : OpenContainers) → s.innermost.bracket ≡ Object
+pub before_entry : (s : OpenContainers) → s.innermost.kind ≡ Object
     → before_item s ≡ before_key (frames_around s) (entries_so_far s.innermost)
 before_entry s e = ap (λ b. before_item_as b (frames_around s) s.innermost) e
 
-pub at_key : (t : Cursor) (s : OpenContainers) → s.innermost.bracket ≡ Object
+pub at_key : (t : Cursor) (s : OpenContainers) → s.innermost.kind ≡ Object
     → Reached t (before_item s) t (before_key (frames_around s) (entries_so_far s.innermost))
 at_key t s e = record {
   text = refl;
@@ -35,12 +37,12 @@ at_key t s e = record {
   same = ap (left t) (before_entry s e);
 }
 
-pub brackets_here : (s : OpenContainers) (b : Bracket) → s.innermost.bracket ≡ b
-    → innermost_bracket (frames_here s) ≡ Some b
-brackets_here s b e = brackets_of s.innermost.bracket (frames_around s) s.innermost ∙ ap Some e
+pub brackets_here : (s : OpenContainers) (b : ContainerKind) → s.innermost.kind ≡ b
+    → innermost_kind (frames_here s) ≡ Some b
+brackets_here s b e = brackets_of s.innermost.kind (frames_around s) s.innermost ∙ ap Some e
 
-pub awaits_here : (s : OpenContainers) (b : Bracket) → s.innermost.bracket ≡ b → AwaitsValue b s.innermost
-    → AwaitsValue s.innermost.bracket s.innermost
+pub awaits_here : (s : OpenContainers) (b : ContainerKind) → s.innermost.kind ≡ b → AwaitsValue b s.innermost
+    → AwaitsValue s.innermost.kind s.innermost
 awaits_here s b e h = subst (λ a. AwaitsValue a s.innermost) (sym e) h
 
 -- ---- how many are open
@@ -63,26 +65,26 @@ no_key_mark t s room =
 pub added_keeps : (s u : OpenContainers) (v : JsonValue) → u ≡ value_added s v → KeepsAround s u
 added_keeps s u v e = record {
   strict = ap (λ z. z.strict) e;
-  bracket = ap (λ z. z.innermost.bracket) e;
+  kind = ap (λ z. z.innermost.kind) e;
   around = ap (λ z. z.around) e;
 }
 
-pub added_even : (s u : OpenContainers) (v : JsonValue) → AwaitsValue s.innermost.bracket s.innermost
-    → u ≡ value_added s v → IsEven u.innermost.bracket u.innermost
+pub added_even : (s u : OpenContainers) (v : JsonValue) → AwaitsValue s.innermost.kind s.innermost
+    → u ≡ value_added s v → IsEven u.innermost.kind u.innermost
 added_even s u v h e =
-    subst (λ z. IsEven z.innermost.bracket z.innermost) (sym e) (even_again s.innermost.bracket s.innermost v h)
+    subst (λ z. IsEven z.innermost.kind z.innermost) (sym e) (even_again s.innermost.kind s.innermost v h)
 
-pub added_before : (n : Cursor) (s u : OpenContainers) (v : JsonValue) → AwaitsValue s.innermost.bracket s.innermost
+pub added_before : (n : Cursor) (s u : OpenContainers) (v : JsonValue) → AwaitsValue s.innermost.kind s.innermost
     → u ≡ value_added s v → length s.around < n.reading.depth → IsBeforeItem n u
 added_before n s u v h e room =
     subst (λ z. IsBeforeItem n z) (sym e) (record {
-      even = even_again s.innermost.bracket s.innermost v h;
+      even = even_again s.innermost.kind s.innermost v h;
       room = room;
       some = λ none. absurd (some_more s.innermost.values v none);
     })
 
 pub ended_here : (t n : Cursor) (o : State) (s u : OpenContainers) (v : JsonValue) (b : Bool)
-    → AwaitsValue s.innermost.bracket s.innermost → u ≡ value_added s v → b ≡ true
+    → AwaitsValue s.innermost.kind s.innermost → u ≡ value_added s v → b ≡ true
     → IsAfter t n × (left t o ≡ left n (cond b (after_closer (frames_here s) (view v))
     (after_comma (frames_here s) (view v))))
     → IsAfter t n × (left t o ≡ left n (after_value (frames_around u) (whole u.innermost)))
@@ -90,12 +92,12 @@ ended_here t n o s u v b h e is read = (
   read.0,
   read.1
       ∙ ap (λ a. left n (cond a (after_closer (frames_here s) (view v)) (after_comma (frames_here s) (view v)))) is
-      ∙ ap (left n) (after_closer-whole s.innermost.bracket (frames_around s) s.innermost v h)
+      ∙ ap (left n) (after_closer-whole s.innermost.kind (frames_around s) s.innermost v h)
       ∙ ap (λ z. left n (after_value (frames_around z) (whole z.innermost))) (sym e),
 )
 
 pub goes_to_item : (t n : Cursor) (o : State) (s u : OpenContainers) (v : JsonValue) (b : Bool)
-    → AwaitsValue s.innermost.bracket s.innermost → u ≡ value_added s v → b ≡ false
+    → AwaitsValue s.innermost.kind s.innermost → u ≡ value_added s v → b ≡ false
     → IsAfter t n × (left t o ≡ left n (cond b (after_closer (frames_here s) (view v))
     (after_comma (frames_here s) (view v))))
     → IsAfter t n × (left t o ≡ left n (before_item u))
@@ -103,20 +105,33 @@ goes_to_item t n o s u v b h e is read = (
   read.0,
   read.1
       ∙ ap (λ a. left n (cond a (after_closer (frames_here s) (view v)) (after_comma (frames_here s) (view v)))) is
-      ∙ ap (left n) (after_comma-item s.innermost.bracket (frames_around s) s.innermost v h)
+      ∙ ap (left n) (after_comma-item s.innermost.kind (frames_around s) s.innermost v h)
       ∙ ap (λ z. left n (before_item z)) (sym e),
 )
 
 -- ---- a key was added
 
-pub key_here : (s u : OpenContainers) (k : List ℕ) → s.innermost.bracket ≡ Object → KeepsAround s u
-    → HasKeyNext k s.innermost u.innermost
-    → object_frame (frames_around s) (entries_so_far s.innermost) k ≡ frames_here u
-key_here s u k e keeps next =
-    ap (λ cs. object_frame (frames_in cs) (entries_so_far s.innermost) k) (sym keeps.around)
-    ∙ ap (λ es. object_frame (frames_around u) es k) (sym next.entries)
-    ∙ ap (object_frame (frames_around u) (entries_so_far u.innermost)) (sym next.key)
-    ∙ ap (λ b. open_as b (frames_around u) u.innermost) (sym (next.bracket ∙ e))
+pub key_here : (s u : OpenContainers) (k : List ℕ) → s.innermost.kind ≡ Object → IsEven Object s.innermost
+    → u ≡ key_added s k → object_frame (frames_around s) (entries_so_far s.innermost) k ≡ frames_here u
+key_here s u k e even is =
+    ap (λ ps. object_frame (frames_around s) (viewed (put_each ps)) k)
+    (sym (zip_key s.innermost.keys s.innermost.values k even))
+    ∙ ap (object_frame (frames_around s) (entries_so_far (key_added s k).innermost)) (sym (last_of s.innermost.keys k))
+    ∙ ap (λ b. open_as b (frames_around s) (key_added s k).innermost) (sym e)
+    ∙ ap frames_here (sym is)
+
+pub key_keeps : (s u : OpenContainers) (k : List ℕ) → u ≡ key_added s k → KeepsAround s u
+key_keeps s u k is = record {
+  strict = ap (λ z. z.strict) is;
+  kind = ap (λ z. z.innermost.kind) is;
+  around = ap (λ z. z.around) is;
+}
+
+pub key_awaits : (s u : OpenContainers) (k : List ℕ) → IsEven Object s.innermost → u ≡ key_added s k
+    → AwaitsValue Object u.innermost
+key_awaits s u k even is =
+    subst (λ z. AwaitsValue Object z.innermost) (sym is)
+    (omega (arith, even, length-append s.innermost.keys (k ∷ [])))
 
 -- the same with another form of the state after it
 pub goes_as : {A : Type 0} (t u : Cursor) (p : State) (result : Result A Stop) (f g : A → State)
@@ -153,18 +168,18 @@ no_entries c even e = none_zipped c.keys c.values even (no_views (put_each (zip 
 
 -- those around it, which the other one is the innermost of
 abbrev pub outer_of : {s u : OpenContainers} → IsClosed s u → OpenContainers
-outer_of {s} h = record { strict = s.strict; innermost = h.outer; around = h.rest }
+outer_of {s} h = record { strict = s.strict; innermost = h.added.outer; around = h.added.rest }
 
 pub closed_in : {s u : OpenContainers} (h : IsClosed s u)
     → after_value (frames_around s) (whole s.innermost) ≡ after_value (frames_here (outer_of h)) (view h.value)
 closed_in {s} h =
-    ap (λ cs. after_value (frames_in cs) (whole s.innermost)) h.around
+    ap (λ cs. after_value (frames_in cs) (whole s.innermost)) h.added.around
     ∙ ap (after_value (frames_here (outer_of h))) (sym h.means)
 
-pub outer_brackets : {s u : OpenContainers} (h : IsClosed s u) (b : Bracket) → b ≡ u.innermost.bracket
-    → innermost_bracket (frames_here (outer_of h)) ≡ Some b
+pub outer_brackets : {s u : OpenContainers} (h : IsClosed s u) (b : ContainerKind) → b ≡ u.innermost.kind
+    → innermost_kind (frames_here (outer_of h)) ≡ Some b
 outer_brackets h b e =
-    brackets_here (outer_of h) b (sym (ap (λ z. z.innermost.bracket) h.closed) ∙ sym e)
+    brackets_here (outer_of h) b (sym (ap (λ z. z.innermost.kind) h.added.closed) ∙ sym e)
 
 -- what goes on to the start, goes on to what the start reaches
 pub goes_to : {s t u : Cursor} {p q : State} (o : State) → IsAfter s t × (left s o ≡ left t p) → Reached t p u q
@@ -174,7 +189,7 @@ goes_to o h k = (
   h.1 ∙ k.same,
 )
 
-pub before_first : (strict : Bool) (b : Bracket)
+pub before_first : (strict : Bool) (b : ContainerKind)
     → before_item (record { strict = strict; innermost = new_container b; around = [] }) ≡ after_opener b no_frames
 before_first strict Array = refl
 before_first strict Object = refl

@@ -4,7 +4,7 @@ use Rattle.jzon.specs.declared.fault.Stop.{Stop}
 use Rattle.jzon_tree.specs.declared.value.JsonValue.{JsonValue}
 use Rattle.jzon.specs.Reading.{Reading}
 use Rattle.jzon.specs.Private.Machine.{Frames, Outcome, State, from, Reports, ReportsUnlessMemory}
-use Rattle.jzon.specs.Private.Places.{Puts}
+use Rattle.jzon.specs.Private.Targets.{Puts}
 use Rattle.jzon.proofs.Texts.ReportedErrors.{reported, reported_again}
 
 -- the value begins at byte i, and is put from byte j on

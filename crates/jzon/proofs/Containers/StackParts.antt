@@ -1,557 +1,528 @@
 -- The parts of the two stacks: what a change of the innermost container leaves of those around it.
-use Rattle.jzon_base.proofs.Common.{◌≡◌, ℕ, ◌+◌, ◌-◌, ◌≤◌, Bool, true, false, cond, nat_lt, suc, List, [], ◌∷◌, ◌++◌}
-use Rattle.jzon_base.proofs.Common.{length, take, drop, vec_len, Option, None, Some, option_map, Vec, Global}
-use Rattle.jzon_base.proofs.Common.{length-append, refl, sym, ap, ◌∙◌, subst, arith, drop-drop, take-take, take_all}
-use Rattle.jzon_base.proofs.Common.{drop_all, length-drop, length-take, take-append-le, drop-append-le, false≢true}
+use Rattle.jzon_base.proofs.Common.{◌≡◌, ℕ, ◌+◌, ◌≤◌, Bool, true, false, cond, nat_lt, suc, List, [], ◌∷◌, ◌++◌}
+use Rattle.jzon_base.proofs.Common.{length, take, drop, vec_len, Option, None, Some, option_map, IfSome, Vec, Global}
+use Rattle.jzon_base.proofs.Common.{length-append, refl, sym, ap, ◌∙◌, subst, arith, take-take, take_all}
+use Rattle.jzon_base.proofs.Common.{drop_all, length-take, length-drop, false≢true, take-append-le, drop-append-le}
 use Rattle.jzon_base.proofs.Common.{nat_tests, list_any, position, position_or_len, zip, is_some, bytes_eq}
-use Rattle.std.proofs.lemmas.List.{drop-take}
+use Rattle.std.specs.Prelude.{reverse, MatchOption}
+use Rattle.std.proofs.lemmas.List.{reverse-append}
 use Rattle.jzon_base.specs.PairList.{find, put_each}
-use Rattle.jzon_base.specs.Private.Handed.{IsTable}
-use Rattle.jzon_base.proofs.KnownKeys.{known-put_each}
-use Rattle.jzon_base.proofs.Tables.{IsTable-none}
+use Rattle.jzon_base.specs.Private.Known.{Knows}
+use Rattle.jzon_base.specs.declared.keys.known.KnownKeys.{KnownKeys}
+use Rattle.jzon_base.proofs.KeyIndex.KnownKeys.{known-put_each}
 use Rattle.jzon_tree.specs.declared.value.JsonValue.{JsonValue}
-use Rattle.jzon_tree.specs.View.{view, viewed}
-use Rattle.jzon_tree.proofs.Views.{find-viewed}
-use Rattle.jzon.specs.Private.OpenContainers.{Container, OpenContainers, AwaitsValue, new_container, with_value}
-use Rattle.jzon.specs.Private.OpenContainers.{value_added, key_added, innermost_ended, whole, IsClosed}
-use Rattle.jzon.specs.Private.OpenContainers.{HasKeyNext, IsMerged, KeepsAround, entries_so_far}
-use Rattle.jzon.proofs.Containers.FrameViews.{zip_key, last_of}
-use Rattle.jzon.specs.Private.Stacks.{keys_under, values_under, container_of, opened_in, containers_of}
-use Rattle.jzon.specs.Private.Stacks.{AllAwaitValue, AllKnown, IsLaidOut}
-use Rattle.jzon.specs.declared.cursor.Bracket.{Bracket}
-use Rattle.jzon.specs.declared.cursor.Bracket.TheVariants.{Array, Object}
+use Rattle.jzon_tree.specs.View.{view}
+use Rattle.jzon_tree.proofs.Values.Views.{find-viewed}
+use Rattle.jzon.specs.Private.OpenContainers.{Container, OpenContainers, AwaitsValue, new_container, entries_so_far}
+use Rattle.jzon.specs.Private.OpenContainers.{value_added, key_added, innermost_ended, container_added, with_value}
+use Rattle.jzon.specs.Private.OpenContainers.{IsAdded}
+use Rattle.jzon.specs.Private.Stacks.{container_of, containers_in, containers_of, AreNested, AllAwaitValue, AllKnown}
+use Rattle.jzon.specs.Private.Stacks.{IsLaidOut}
+use Rattle.jzon.specs.declared.cursor.ContainerKind.{ContainerKind}
+use Rattle.jzon.specs.declared.cursor.ContainerKind.TheVariants.{Array, Object}
 use Rattle.jzon.specs.declared.stacks.Frame.{Frame}
 use Rattle.jzon.specs.declared.stacks.Stacks.TheInside.{Inside}
 
--- ---- the first parts of two lists
-
-first_part : {X : Type 0} (m n : ℕ) (xs ys : List X) → take (m + n) xs ≡ take (m + n) ys → take m xs ≡ take m ys
-first_part m n xs ys e =
-    sym (take-take m (m + n) xs (omega arith)) ∙ ap (take m) e ∙ take-take m (m + n) ys (omega arith)
-
-second_part : {X : Type 0} (m n : ℕ) (xs ys : List X) → take (m + n) xs ≡ take (m + n) ys
-    → take n (drop m xs) ≡ take n (drop m ys)
-second_part m n xs ys e = sym (drop-take m n xs) ∙ ap (drop m) e ∙ drop-take m n ys
-
--- ---- the containers around the innermost one
-
--- what is above their parts doesn't matter
-pub opened_in-agree : (cs : List Container) (fs : List Frame) (ks ls : List (List ℕ)) (vs ws : List JsonValue)
-    → take (keys_under fs) ks ≡ take (keys_under fs) ls → take (values_under fs) vs ≡ take (values_under fs) ws
-    → opened_in cs fs ks vs ≡ opened_in cs fs ls ws
-opened_in-agree cs [] ks ls vs ws k v = refl
-opened_in-agree cs (f ∷ fs) ks ls vs ws k v =
-    (λ i. opened_in (record {
-      bracket = f.bracket;
-      keys = first_part f.keys (keys_under fs) ks ls k i;
-      values = first_part f.values (values_under fs) vs ws v i;
-    } ∷ cs) fs (drop f.keys ks) (drop f.values vs))
-    ∙ opened_in-agree (container_of f ls ws ∷ cs) fs (drop f.keys ks) (drop f.keys ls) (drop f.values vs)
-    (drop f.values ws) (second_part f.keys (keys_under fs) ks ls k) (second_part f.values (values_under fs) vs ws v)
-
-pub AllKnown-agree : (fs : List Frame) (ks ls : List (List ℕ)) → take (keys_under fs) ks ≡ take (keys_under fs) ls
-    → AllKnown fs ks → AllKnown fs ls
-AllKnown-agree [] ks ls k h = tt
-AllKnown-agree (f ∷ fs) ks ls k h = (
-  subst (λ ts. IsTable ts f.known) (first_part f.keys (keys_under fs) ks ls k) h.0,
-  AllKnown-agree fs (drop f.keys ks) (drop f.keys ls) (second_part f.keys (keys_under fs) ks ls k) h.1,
-)
-
--- ---- one more frame
-
-opened_in-snoc : (cs : List Container) (fs : List Frame) (f : Frame) (ks : List (List ℕ)) (vs : List JsonValue)
-    → opened_in cs (fs ++ f ∷ []) ks vs
-    ≡ container_of f (drop (keys_under fs) ks) (drop (values_under fs) vs) ∷ opened_in cs fs ks vs
-opened_in-snoc cs [] f ks vs = refl
-opened_in-snoc cs (g ∷ fs) f ks vs =
-    opened_in-snoc (container_of g ks vs ∷ cs) fs f (drop g.keys ks) (drop g.values vs)
-    ∙ (λ i. container_of f (drop-drop (keys_under fs) g.keys ks i) (drop-drop (values_under fs) g.values vs i)
-    ∷ opened_in (container_of g ks vs ∷ cs) fs (drop g.keys ks) (drop g.values vs))
-
-pub keys_under-snoc : (fs : List Frame) (f : Frame) → keys_under (fs ++ f ∷ []) ≡ keys_under fs + f.keys
-keys_under-snoc [] f = omega arith
-keys_under-snoc (g ∷ fs) f = omega (arith, keys_under-snoc fs f)
-
-pub values_under-snoc : (fs : List Frame) (f : Frame) → values_under (fs ++ f ∷ []) ≡ values_under fs + f.values
-values_under-snoc [] f = omega arith
-values_under-snoc (g ∷ fs) f = omega (arith, values_under-snoc fs f)
-
--- the container of the last frame has what is left of the stacks
-pub opened_in-last : (fs : List Frame) (f : Frame) (ks : List (List ℕ)) (vs : List JsonValue)
-    → length ks ≡ keys_under fs + f.keys → length vs ≡ values_under fs + f.values
-    → opened_in [] (fs ++ f ∷ []) ks vs ≡ (record {
-      bracket = f.bracket;
-      keys = drop (keys_under fs) ks;
-      values = drop (values_under fs) vs;
-    }) ∷ opened_in [] fs ks vs
-opened_in-last fs f ks vs k v =
-    opened_in-snoc [] fs f ks vs
-    ∙ (λ i. record {
-      bracket = f.bracket;
-      keys = take_all f.keys (drop (keys_under fs) ks) (omega (arith, k, length-drop (keys_under fs) ks)) i;
-      values = take_all f.values (drop (values_under fs) vs) (omega (arith, v, length-drop (values_under fs) vs)) i;
-    } ∷ opened_in [] fs ks vs)
-
-pub AllKnown-snoc : (fs : List Frame) (f : Frame) (ks : List (List ℕ)) → AllKnown fs ks
-    → IsTable (take f.keys (drop (keys_under fs) ks)) f.known → AllKnown (fs ++ f ∷ []) ks
-AllKnown-snoc [] f ks h t = (t, tt)
-AllKnown-snoc (g ∷ fs) f ks h t = (
-  h.0,
-  AllKnown-snoc fs f (drop g.keys ks) h.1
-      (subst (λ ts. IsTable (take f.keys ts) f.known) (sym (drop-drop (keys_under fs) g.keys ks)) t),
-)
-
-pub AllKnown-init : (fs : List Frame) (f : Frame) (ks : List (List ℕ)) → AllKnown (fs ++ f ∷ []) ks
-    → AllKnown fs ks × IsTable (take f.keys (drop (keys_under fs) ks)) f.known
-AllKnown-init [] f ks h = (tt, h.0)
-AllKnown-init (g ∷ fs) f ks h =
-    let rest = AllKnown-init fs f (drop g.keys ks) h.1 in
-    ((h.0, rest.0), subst (λ ts. IsTable (take f.keys ts) f.known) (drop-drop (keys_under fs) g.keys ks) rest.1)
-
-pub length-opened_in : (cs : List Container) (fs : List Frame) (ks : List (List ℕ)) (vs : List JsonValue)
-    → length (opened_in cs fs ks vs) ≡ length fs + length cs
-length-opened_in cs [] ks vs = omega arith
-length-opened_in cs (f ∷ fs) ks vs =
-    omega (arith, length-opened_in (container_of f ks vs ∷ cs) fs (drop f.keys ks) (drop f.values vs))
-
 -- ---- the innermost container changes
 
--- a value comes next in each of them, whatever their values are, if there are enough
-awaits_with : (b : Bracket) (c d : Container) → c.keys ≡ d.keys → length c.values ≡ length d.values
-    → AwaitsValue b c → AwaitsValue b d
-awaits_with Array c d k v h = sym k ∙ h
-awaits_with Object c d k v h = omega (arith, ap length k, v, h)
+-- ys has the first n of xs, and may have others after them
+pub record Keeps {X : Type 0} (n : ℕ) (xs ys : List X) : Type 0 where
+  pub within : n ≤ length ys
+  pub first : take n ys ≡ take n xs
 
-all_await_with : (cs ds : List Container) (fs : List Frame) (ks ls : List (List ℕ)) (vs ws : List JsonValue)
-    → take (keys_under fs) ks ≡ take (keys_under fs) ls → values_under fs ≤ length vs → values_under fs ≤ length ws
-    → (AllAwaitValue cs → AllAwaitValue ds) → AllAwaitValue (opened_in cs fs ks vs)
-    → AllAwaitValue (opened_in ds fs ls ws)
-all_await_with cs ds [] ks ls vs ws k v w step h = step h
-all_await_with cs ds (f ∷ fs) ks ls vs ws k v w step h =
-    all_await_with (container_of f ks vs ∷ cs) (container_of f ls ws ∷ ds) fs (drop f.keys ks) (drop f.keys ls)
-    (drop f.values vs) (drop f.values ws) (second_part f.keys (keys_under fs) ks ls k)
-    (omega (arith, v, length-drop f.values vs)) (omega (arith, w, length-drop f.values ws))
-    (λ both. (
-      awaits_with f.bracket (container_of f ks vs) (container_of f ls ws)
-          (first_part f.keys (keys_under fs) ks ls k) (omega (arith, length-take f.values vs, length-take f.values ws, v, w))
-          both.0,
-      step both.1,
-    )) h
-
--- t has the frames of s, and the keys below its innermost container
-pub record KeepsBelow (s t : Inside) : Type 0 where
-  pub strict : t.strict ≡ s.strict
-  pub around : t.around.items ≡ s.around.items
-  pub first_key : t.first_key ≡ s.first_key
-  pub first_value : t.first_value ≡ s.first_value
-  pub keys : take s.first_key s.keys.items ≡ take s.first_key t.keys.items
-  pub keys_within : t.first_key ≤ vec_len t.keys
-  pub values_within : t.first_value ≤ vec_len t.values
-  pub known : t.strict ≡ true → IsTable (drop t.first_key t.keys.items) t.known
-
-pub IsLaidOut-kept : (s t : Inside) → IsLaidOut s → KeepsBelow s t → IsLaidOut t
-IsLaidOut-kept s t h k =
-    let below = subst (λ n. take n s.keys.items ≡ take n t.keys.items) h.keys k.keys in
-    record {
-      keys = k.first_key ∙ h.keys ∙ ap keys_under (sym k.around);
-      values = k.first_value ∙ h.values ∙ ap values_under (sym k.around);
-      keys_within = k.keys_within;
-      values_within = k.values_within;
-      known = λ strict. (
-        subst (λ fs. AllKnown fs t.keys.items) (sym k.around)
-            (AllKnown-agree s.around.items s.keys.items t.keys.items below (h.known (sym k.strict ∙ strict)).0),
-        k.known strict,
-      );
-      await = subst (λ fs. AllAwaitValue (opened_in [] fs t.keys.items t.values.items)) (sym k.around)
-          (all_await_with [] [] s.around.items s.keys.items t.keys.items s.values.items t.values.items below
-          (omega (arith, h.values, h.values_within, s.values.ok.0))
-          (omega (arith, h.values, k.values_within, k.first_value, t.values.ok.0)) (λ a. a) h.await);
-    }
-
--- what a clause sees of s, with these parts of the innermost container
-abbrev with_parts : Inside → List (List ℕ) → List JsonValue → OpenContainers
-with_parts s ks vs = record {
-  strict = s.strict;
-  innermost = record { bracket = s.bracket; keys = ks; values = vs };
-  around = (containers_of s).around;
+pub keeps_pushed : {X : Type 0} (n : ℕ) (xs ys : List X) (x : X) → n ≤ length xs → ys ≡ xs ++ x ∷ [] → Keeps n xs ys
+keeps_pushed n xs ys x le e = record {
+  within = omega (arith, le, ap length e, length-append xs (x ∷ []));
+  first = ap (take n) e ∙ take-append-le n xs (x ∷ []) le;
 }
 
--- all but the part of the innermost container is that of s
-KeepsBelow-innermost_changed : (s : Inside) (ks : Vec (List ℕ) Global) (vs : Vec JsonValue Global) (known : List (List (ℕ × ℕ)))
-    (merge_at : ℕ) → take s.first_key s.keys.items ≡ take s.first_key ks.items → s.first_key ≤ vec_len ks
-    → s.first_value ≤ vec_len vs → (s.strict ≡ true → IsTable (drop s.first_key ks.items) known)
-    → KeepsBelow s (record s { keys = ks; values = vs; known = known; merge_at = merge_at })
-KeepsBelow-innermost_changed s ks vs known merge_at kept k v table = record {
-  strict = refl;
-  around = refl;
-  first_key = refl;
-  first_value = refl;
-  keys = kept;
-  keys_within = k;
-  values_within = v;
-  known = table;
+pub keeps_cut : {X : Type 0} (n : ℕ) (xs ys : List X) → n ≤ length xs → ys ≡ take n xs → Keeps n xs ys
+keeps_cut n xs ys le e = record {
+  within = omega (arith, le, ap length e, length-take n xs);
+  first = ap (take n) e ∙ take-take n n xs (omega arith);
 }
 
--- the values may be any, if there are enough
-KeepsBelow-values : (s : Inside) (vs : Vec JsonValue Global) → IsLaidOut s → s.first_value ≤ vec_len vs
-    → KeepsBelow s (record s { values = vs })
-KeepsBelow-values s vs h within =
-    KeepsBelow-innermost_changed s s.keys vs s.known s.merge_at refl h.keys_within within (λ strict. (h.known strict).1)
+pub keeps_same : {X : Type 0} (n : ℕ) (xs ys : List X) → n ≤ length xs → ys ≡ xs → Keeps n xs ys
+keeps_same n xs ys le e = record { within = omega (arith, le, ap length e); first = ap (take n) e }
 
-pub IsLaidOut-values : (s : Inside) (vs : Vec JsonValue Global) → IsLaidOut s → s.first_value ≤ vec_len vs
-    → IsLaidOut (record s { values = vs })
-IsLaidOut-values s vs h within = IsLaidOut-kept s (record s { values = vs }) h (KeepsBelow-values s vs h within)
+-- how s changes: the keys and values of the innermost container, and what a strict reading knows of these keys
+pub record IsChange (s : Inside) (ks : Vec (List ℕ) Global) (vs : Vec JsonValue Global) (known : Option KnownKeys) :
+    Type 0 where
+  pub keys : Keeps s.innermost.first_key s.keys.items ks.items
+  pub values : Keeps s.innermost.first_value s.values.items vs.items
+  pub strict : is_some known ≡ is_some s.known
+  pub knows : IfSome known (Knows (drop s.innermost.first_key ks.items))
 
--- a clause sees the change of the innermost container alone, if the values below it are kept
-pub view-kept : (s t : Inside) → IsLaidOut s → KeepsBelow s t
-    → take s.first_value s.values.items ≡ take s.first_value t.values.items → containers_of t ≡ (record {
-      strict = s.strict;
-      innermost = record {
-        bracket = t.bracket;
-        keys = drop s.first_key t.keys.items;
-        values = drop s.first_value t.values.items;
-      };
+abbrev pub changed : Inside → Vec (List ℕ) Global → Vec JsonValue Global → Option KnownKeys → Inside
+changed s ks vs known = record s { keys = ks; values = vs; known = known }
+
+around-changed : (s : Inside) (ks : Vec (List ℕ) Global) (vs : Vec JsonValue Global) (known : Option KnownKeys)
+    → Keeps s.innermost.first_key s.keys.items ks.items → Keeps s.innermost.first_value s.values.items vs.items
+    → (containers_of (changed s ks vs known)).around ≡ (containers_of s).around
+around-changed s ks vs known k v = λ i. containers_in (reverse s.around.items) (k.first i) (v.first i)
+
+-- the containers around are known as before
+still_known : (P Q : KnownKeys → Type 0) (cs ds : List Container) (ls : List KnownKeys) (a b : Option KnownKeys)
+    → ds ≡ cs → is_some b ≡ is_some a → IfSome a (λ l. P l × AllKnown cs ls) → IfSome b Q
+    → IfSome b (λ l. Q l × AllKnown ds ls)
+still_known P Q cs ds ls a None e strict h q = tt
+still_known P Q cs ds ls None (Some l) e strict h q = absurd (false≢true (sym strict))
+still_known P Q cs ds ls (Some k) (Some l) e strict h q = (q, subst (λ es. AllKnown es ls) (sym e) h.1)
+
+-- if nothing is known any more, the reading counts as usual
+pub IsLaidOut-forgotten : (s : Inside) (ks : Vec (List ℕ) Global) (vs : Vec JsonValue Global) → IsLaidOut s
+    → Keeps s.innermost.first_key s.keys.items ks.items → Keeps s.innermost.first_value s.values.items vs.items
+    → IsLaidOut (changed s ks vs None)
+IsLaidOut-forgotten s ks vs h k v = record {
+  keys_within = omega (arith, k.within, ks.ok.0);
+  values_within = omega (arith, v.within, vs.ok.0);
+  nested = h.nested;
+  await = subst AllAwaitValue (sym (around-changed s ks vs None k v)) h.await;
+  known = tt;
+}
+
+pub IsLaidOut-changed : (s : Inside) (ks : Vec (List ℕ) Global) (vs : Vec JsonValue Global) (known : Option KnownKeys)
+    → IsLaidOut s → IsChange s ks vs known → IsLaidOut (changed s ks vs known)
+IsLaidOut-changed s ks vs known h c = record {
+  keys_within = omega (arith, c.keys.within, ks.ok.0);
+  values_within = omega (arith, c.values.within, vs.ok.0);
+  nested = h.nested;
+  await = subst AllAwaitValue (sym (around-changed s ks vs known c.keys c.values)) h.await;
+  known =
+      still_known (Knows (containers_of s).innermost.keys) _ (containers_of s).around _ (reverse s.known_around.items) s.known known
+      (around-changed s ks vs known c.keys c.values) c.strict h.known c.knows;
+}
+
+-- a clause sees the change of the innermost container alone
+pub view-changed : (s : Inside) (ks : Vec (List ℕ) Global) (vs : Vec JsonValue Global) (known : Option KnownKeys)
+    → IsChange s ks vs known → containers_of (changed s ks vs known) ≡ (record {
+      strict = is_some s.known;
+      innermost = container_of s.innermost ks.items vs.items;
       around = (containers_of s).around;
     })
-view-kept s t h k kept =
-    let around = (λ i. opened_in [] (k.around i) t.keys.items t.values.items)
-    ∙ sym (opened_in-agree [] s.around.items s.keys.items t.keys.items s.values.items t.values.items
-    (subst (λ n. take n s.keys.items ≡ take n t.keys.items) h.keys k.keys)
-    (subst (λ n. take n s.values.items ≡ take n t.values.items) h.values kept)) in
-    λ i. record {
-      strict = k.strict i;
-      innermost = record {
-        bracket = t.bracket;
-        keys = drop (k.first_key i) t.keys.items;
-        values = drop (k.first_value i) t.values.items;
-      };
-      around = around i;
-    }
+view-changed s ks vs known c = λ i. record {
+  strict = c.strict i;
+  innermost = container_of s.innermost ks.items vs.items;
+  around = around-changed s ks vs known c.keys c.values i;
+}
 
-view-values : (s : Inside) (vs : Vec JsonValue Global) → IsLaidOut s → s.first_value ≤ vec_len vs
-    → take s.first_value s.values.items ≡ take s.first_value vs.items
-    → containers_of (record s { values = vs })
-    ≡ with_parts s (drop s.first_key s.keys.items) (drop s.first_value vs.items)
-view-values s vs h within kept =
-    view-kept s (record s { values = vs }) h (KeepsBelow-values s vs h within) kept
+-- ---- only its values change
+
+pub known_here : (a : Option KnownKeys) (P Q : KnownKeys → Type 0) → IfSome a (λ l. P l × Q l) → IfSome a P
+known_here None P Q h = tt
+known_here (Some l) P Q h = h.0
+
+values_within : (s : Inside) → IsLaidOut s → s.innermost.first_value ≤ length s.values.items
+values_within s h = omega (arith, h.values_within, s.values.ok.0)
+
+keys_within : (s : Inside) → IsLaidOut s → s.innermost.first_key ≤ length s.keys.items
+keys_within s h = omega (arith, h.keys_within, s.keys.ok.0)
+
+pub IsChange-values : (s : Inside) (vs : Vec JsonValue Global) → IsLaidOut s
+    → Keeps s.innermost.first_value s.values.items vs.items → IsChange s s.keys vs s.known
+IsChange-values s vs h v = record {
+  keys = keeps_same s.innermost.first_key s.keys.items s.keys.items (keys_within s h) refl;
+  values = v;
+  strict = refl;
+  knows =
+      known_here s.known (Knows (containers_of s).innermost.keys)
+      (λ _. AllKnown (containers_of s).around (reverse s.known_around.items)) h.known;
+}
+
+pub IsChange-same : (s : Inside) (ks : Vec (List ℕ) Global) (vs : Vec JsonValue Global) (known : Option KnownKeys)
+    → IsLaidOut s → ks.items ≡ s.keys.items → vs.items ≡ s.values.items → is_some known ≡ is_some s.known
+    → IfSome known (Knows (drop s.innermost.first_key s.keys.items)) → IsChange s ks vs known
+IsChange-same s ks vs known h k v strict table = record {
+  keys = keeps_same s.innermost.first_key s.keys.items ks.items (keys_within s h) k;
+  values = keeps_same s.innermost.first_value s.values.items vs.items (values_within s h) v;
+  strict = strict;
+  knows = subst (λ ls. IfSome known (Knows (drop s.innermost.first_key ls))) (sym k) table;
+}
+
+pub IsLaidOut-values : (s : Inside) (vs : Vec JsonValue Global) → IsLaidOut s
+    → Keeps s.innermost.first_value s.values.items vs.items → IsLaidOut (record s { values = vs })
+IsLaidOut-values s vs h v = IsLaidOut-changed s s.keys vs s.known h (IsChange-values s vs h v)
+
+pub IsLaidOut-same : (s : Inside) (vs : Vec JsonValue Global) → IsLaidOut s → vs.items ≡ s.values.items
+    → IsLaidOut (record s { values = vs })
+IsLaidOut-same s vs h e = IsLaidOut-values s vs h (keeps_same _ s.values.items vs.items (values_within s h) e)
+
+pub IsLaidOut-cut : (s : Inside) (vs : Vec JsonValue Global) → IsLaidOut s
+    → vs.items ≡ take s.innermost.first_value s.values.items → IsLaidOut (record s { values = vs })
+IsLaidOut-cut s vs h cut = IsLaidOut-values s vs h (keeps_cut _ s.values.items vs.items (values_within s h) cut)
+
+pub IsLaidOut-pushed : (s : Inside) (vs : Vec JsonValue Global) (v : JsonValue) → IsLaidOut s
+    → vs.items ≡ s.values.items ++ v ∷ [] → IsLaidOut (record s { values = vs })
+IsLaidOut-pushed s vs v h e = IsLaidOut-values s vs h (keeps_pushed _ s.values.items vs.items v (values_within s h) e)
 
 pub view-pushed : (s : Inside) (vs : Vec JsonValue Global) (v : JsonValue) → IsLaidOut s
     → vs.items ≡ s.values.items ++ v ∷ []
     → containers_of (record s { values = vs }) ≡ value_added (containers_of s) v
-view-pushed s vs v h pushed =
-    let within : s.first_value ≤ length s.values.items = omega (arith, h.values_within, s.values.ok.0) in
-    view-values s vs h (omega (arith, within, ap length pushed, length-append s.values.items (v ∷ []), vs.ok.0))
-    (sym (ap (take s.first_value) pushed ∙ take-append-le s.first_value s.values.items (v ∷ []) within))
-    ∙ ap (with_parts s (drop s.first_key s.keys.items))
-    (ap (drop s.first_value) pushed ∙ drop-append-le s.first_value s.values.items (v ∷ []) within)
-
--- ---- the values of the innermost container are cut off, or all of it
-
-cut_again : {X : Type 0} (n : ℕ) (xs ys : List X) → ys ≡ take n xs → take n xs ≡ take n ys
-cut_again n xs ys cut = sym (ap (take n) cut ∙ take-take n n xs (omega arith))
-
-nothing_above : {X : Type 0} (n : ℕ) (xs ys : List X) → ys ≡ take n xs → drop n ys ≡ []
-nothing_above n xs ys cut = drop_all n ys (omega (arith, ap length cut, length-take n xs))
-
-within_cut : {X : Type 0} (n : ℕ) (xs ys : List X) → ys ≡ take n xs → n ≤ length xs → n ≤ length ys
-within_cut n xs ys cut within = omega (arith, within, ap length cut, length-take n xs)
-
-pub view-cut_values : (s : Inside) (vs : Vec JsonValue Global) → IsLaidOut s
-    → vs.items ≡ take s.first_value s.values.items
-    → (s.first_value ≤ vec_len vs)
-    × (containers_of (record s { values = vs }) ≡ with_parts s (drop s.first_key s.keys.items) [])
-view-cut_values s vs h cut =
-    let within : s.first_value ≤ vec_len vs = omega (
-      arith,
-      vs.ok.0,
-      within_cut s.first_value s.values.items vs.items cut
-          (omega (arith, h.values_within, s.values.ok.0)),
-    ) in (
-      within,
-      view-values s vs h within (cut_again s.first_value s.values.items vs.items cut)
-          ∙ ap (with_parts s (drop s.first_key s.keys.items))
-          (nothing_above s.first_value s.values.items vs.items cut),
-    )
-
-pub KeepsBelow-cut_keys : (s : Inside) (ks : Vec (List ℕ) Global) (vs : Vec JsonValue Global)
-    (known : List (List (ℕ × ℕ))) → IsLaidOut s → ks.items ≡ take s.first_key s.keys.items
-    → s.first_value ≤ vec_len vs → known ≡ []
-    → KeepsBelow s (record s { keys = ks; values = vs; known = known })
-KeepsBelow-cut_keys s ks vs known h cut within none =
-    KeepsBelow-innermost_changed s ks vs known s.merge_at (cut_again s.first_key s.keys.items ks.items cut)
-    (omega (
-      arith,
-      ks.ok.0,
-      within_cut s.first_key s.keys.items ks.items cut
-          (omega (arith, h.keys_within, s.keys.ok.0)),
-    )) within
-    (λ strict. subst (IsTable (drop s.first_key ks.items)) (sym none)
-    (subst (λ ls. IsTable ls []) (sym (nothing_above s.first_key s.keys.items ks.items cut)) (IsTable-none [] refl)))
-
-pub view-cut_keys : (s : Inside) (ks : Vec (List ℕ) Global) (vs : Vec JsonValue Global) (known : List (List (ℕ × ℕ)))
-    → IsLaidOut s → ks.items ≡ take s.first_key s.keys.items → vs.items ≡ take s.first_value s.values.items
-    → known ≡ [] → IsLaidOut (record s { keys = ks; values = vs; known = known })
-    × (containers_of (record s { keys = ks; values = vs; known = known }) ≡ innermost_ended (containers_of s))
-view-cut_keys s ks vs known h cut_keys cut_values none =
-    let t = record s { keys = ks; values = vs; known = known } in
-    let below = KeepsBelow-cut_keys s ks vs known h cut_keys (view-cut_values s vs h cut_values).0 none in (
-      IsLaidOut-kept s t h below,
-      view-kept s t h below (cut_again s.first_value s.values.items vs.items cut_values)
-          ∙ (λ i. with_parts s (nothing_above s.first_key s.keys.items ks.items cut_keys i)
-          (nothing_above s.first_value s.values.items vs.items cut_values i)),
-    )
-
--- ---- a container is opened in the innermost one
-
--- t has the frames of s and f, which is that of the innermost container of s
-pub record IsOpened (s t : Inside) (f : Frame) : Type 0 where
-  pub strict : t.strict ≡ s.strict
-  pub keys : t.keys.items ≡ s.keys.items
-  pub values : t.values.items ≡ s.values.items
-  pub around : t.around.items ≡ s.around.items ++ f ∷ []
-  pub first_key : t.first_key ≡ vec_len s.keys
-  pub first_value : t.first_value ≡ vec_len s.values
-  pub bracket : f.bracket ≡ s.bracket
-  pub frame_keys : f.keys + s.first_key ≡ vec_len s.keys
-  pub frame_values : f.values + s.first_value ≡ vec_len s.values
-  pub frame_known : f.known ≡ s.known
-  pub known : t.known ≡ []
-
-pub around-opened : (s t : Inside) (f : Frame) → IsLaidOut s → IsOpened s t f
-    → opened_in [] t.around.items t.keys.items t.values.items
-    ≡ (record {
-      bracket = s.bracket;
-      keys = drop s.first_key s.keys.items;
-      values = drop s.first_value s.values.items;
-    }) ∷ opened_in [] s.around.items s.keys.items s.values.items
-around-opened s t f h o =
-    (λ i. opened_in [] (o.around i) (o.keys i) (o.values i))
-    ∙ opened_in-last s.around.items f s.keys.items s.values.items
-    (omega (arith, s.keys.ok.0, h.keys, o.frame_keys)) (omega (arith, s.values.ok.0, h.values, o.frame_values))
+view-pushed s vs v h e =
+    let n = s.innermost.first_value in
+    view-changed s s.keys vs s.known
+    (IsChange-values s vs h (keeps_pushed n s.values.items vs.items v (values_within s h) e))
     ∙ (λ i. record {
-      bracket = o.bracket i;
-      keys = drop (sym h.keys i) s.keys.items;
-      values = drop (sym h.values i) s.values.items;
-    } ∷ opened_in [] s.around.items s.keys.items s.values.items)
+      strict = is_some s.known;
+      innermost = record {
+        kind = s.innermost.kind;
+        keys = drop s.innermost.first_key s.keys.items;
+        values = (ap (drop n) e ∙ drop-append-le n s.values.items (v ∷ []) (values_within s h)) i;
+      };
+      around = (containers_of s).around;
+    })
 
-known-opened : (s t : Inside) (f : Frame) → IsLaidOut s → IsOpened s t f
-    → AllKnown s.around.items s.keys.items × IsTable (drop s.first_key s.keys.items) s.known
-    → AllKnown t.around.items t.keys.items × IsTable (drop t.first_key t.keys.items) t.known
-known-opened s t f h o known =
-    let fs = s.around.items in
-    let ks = s.keys.items in
-    let under = keys_under fs in
-    let le : length (drop under ks) ≤ f.keys =
-    omega (arith, s.keys.ok.0, h.keys, o.frame_keys, length-drop under ks) in
-    let own = subst (λ ls. IsTable ls f.known) (ap (λ n. drop n ks) h.keys ∙ sym (take_all f.keys (drop under ks) le))
-    (subst (IsTable (drop s.first_key ks)) (sym o.frame_known) known.1) in
-    let none : drop t.first_key t.keys.items ≡ [] = drop_all t.first_key t.keys.items
-    (omega (arith, o.first_key, ap length o.keys, s.keys.ok.0)) in (
-      subst (λ gs. AllKnown gs t.keys.items) (sym o.around) (subst (AllKnown (fs ++ f ∷ [])) (sym o.keys)
-          (AllKnown-snoc fs f ks known.0 own)),
-      subst (λ ls. IsTable ls t.known) (sym none) (subst (IsTable []) (sym o.known) (IsTable-none [] refl)),
-    )
+-- if the values aren't kept, but their number is
 
-pub IsLaidOut-opened : (s t : Inside) (f : Frame) → IsLaidOut s → IsOpened s t f
-    → AwaitsValue s.bracket (containers_of s).innermost → IsLaidOut t
-IsLaidOut-opened s t f h o awaits = record {
-  keys = omega (arith, o.first_key, h.keys, o.frame_keys, keys_under-snoc s.around.items f, ap keys_under o.around);
-  values =
-      omega (arith, o.first_value, h.values, o.frame_values, values_under-snoc s.around.items f, ap values_under o.around);
-  keys_within = omega (arith, o.first_key, ap length o.keys, s.keys.ok.0, t.keys.ok.0);
-  values_within = omega (arith, o.first_value, ap length o.values, s.values.ok.0, t.values.ok.0);
-  known = λ strict. known-opened s t f h o (h.known (sym o.strict ∙ strict));
-  await = subst AllAwaitValue (sym (around-opened s t f h o)) (awaits, h.await);
-}
+awaits_with : (b : ContainerKind) (c d : Container) → c.keys ≡ d.keys → length c.values ≡ length d.values
+    → AwaitsValue b c → AwaitsValue b d
+awaits_with Array c d k v h = sym k ∙ h
+awaits_with Object c d k v h = omega (arith, ap length k, v, h)
 
-pub view-opened : (s t : Inside) (f : Frame) → IsLaidOut s → IsOpened s t f → containers_of t ≡ (record {
-  strict = s.strict;
-  innermost = new_container t.bracket;
-  around = (containers_of s).innermost ∷ (containers_of s).around;
-})
-view-opened s t f h o = λ i. record {
-  strict = o.strict i;
-  innermost = record {
-    bracket = t.bracket;
-    keys = drop_all t.first_key t.keys.items (omega (arith, o.first_key, ap length o.keys, s.keys.ok.0)) i;
-    values = drop_all t.first_value t.values.items (omega (arith, o.first_value, ap length o.values, s.values.ok.0)) i;
-  };
-  around = around-opened s t f h o i;
-}
+await_with : (fs : List Frame) (ks : List (List ℕ)) (vs ws : List JsonValue) → length vs ≡ length ws
+    → AllAwaitValue (containers_in fs ks vs) → AllAwaitValue (containers_in fs ks ws)
+await_with [] ks vs ws e h = tt
+await_with (f ∷ fs) ks vs ws e h = (
+  awaits_with f.kind (container_of f ks vs) (container_of f ks ws) refl
+      (omega (arith, e, length-drop f.first_value vs, length-drop f.first_value ws)) h.0,
+  await_with fs (take f.first_key ks) (take f.first_value vs) (take f.first_value ws)
+      (omega (arith, e, length-take f.first_value vs, length-take f.first_value ws)) h.1,
+)
+
+known_with : (fs : List Frame) (ks : List (List ℕ)) (vs ws : List JsonValue) (ls : List KnownKeys)
+    → AllKnown (containers_in fs ks vs) ls → AllKnown (containers_in fs ks ws) ls
+known_with [] ks vs ws ls h = tt
+known_with (f ∷ fs) ks vs ws [] h = h
+known_with (f ∷ fs) ks vs ws (l ∷ ls) h =
+    (h.0, known_with fs (take f.first_key ks) (take f.first_value vs) (take f.first_value ws) ls h.1)
+
+if_known : (P Q : KnownKeys → Type 0) (a : Option KnownKeys) → ((l : KnownKeys) → P l → Q l) → IfSome a P → IfSome a Q
+if_known P Q None step h = tt
+if_known P Q (Some l) step h = step l h
+
+pub IsLaidOut-as_many : (s : Inside) (vs : Vec JsonValue Global) → IsLaidOut s → vec_len vs ≡ vec_len s.values
+    → IsLaidOut (record s { values = vs })
+IsLaidOut-as_many s vs h e =
+    let n = s.innermost.first_value in
+    let fs = reverse s.around.items in
+    let ks = take s.innermost.first_key s.keys.items in
+    let same : length (take n s.values.items) ≡ length (take n vs.items) =
+    omega (arith, e, s.values.ok.0, vs.ok.0, length-take n s.values.items, length-take n vs.items) in
+    record {
+      keys_within = h.keys_within;
+      values_within = omega (arith, e, h.values_within);
+      nested = h.nested;
+      await = await_with fs ks (take n s.values.items) (take n vs.items) same h.await;
+      known =
+          if_known _ _ s.known (λ l h. (
+            h.0,
+            known_with fs ks (take n s.values.items) (take n vs.items)
+                (reverse s.known_around.items) h.1,
+          )) h.known;
+    }
 
 -- ---- the innermost container ends
 
--- s without its last frame, f, which is that of the innermost container now
-abbrev pub popped : Inside → Vec Frame Global → Frame → Inside
-popped s fs f = record s {
-  around = fs;
-  bracket = f.bracket;
-  first_key = s.first_key - f.keys;
-  first_value = s.first_value - f.values;
-  merge_at = f.merge_at;
-  known = f.known;
+nothing_after : {X : Type 0} (n : ℕ) (xs ys : List X) → ys ≡ take n xs → drop n ys ≡ []
+nothing_after n xs ys cut = drop_all n ys (omega (arith, ap length cut, length-take n xs))
+
+-- its keys and values are cut off, and nothing is known of it
+pub IsChange-ended : (s : Inside) (ks : Vec (List ℕ) Global) (vs : Vec JsonValue Global) (known : Option KnownKeys)
+    → IsLaidOut s → ks.items ≡ take s.innermost.first_key s.keys.items
+    → vs.items ≡ take s.innermost.first_value s.values.items → is_some known ≡ is_some s.known
+    → IfSome known (Knows []) → IsChange s ks vs known
+IsChange-ended s ks vs known h k v strict none = record {
+  keys = keeps_cut s.innermost.first_key s.keys.items ks.items (keys_within s h) k;
+  values = keeps_cut s.innermost.first_value s.values.items vs.items (values_within s h) v;
+  strict = strict;
+  knows =
+      subst (λ ls. IfSome known (Knows ls)) (sym (nothing_after s.innermost.first_key s.keys.items ks.items k)) none;
 }
 
--- nothing is in the innermost container of s, and f is the last frame
-pub record IsEnded (s : Inside) (fs : Vec Frame Global) (f : Frame) : Type 0 where
-  pub laid : IsLaidOut s
-  pub keys : drop s.first_key s.keys.items ≡ []
-  pub values : drop s.first_value s.values.items ≡ []
-  pub around : s.around.items ≡ fs.items ++ f ∷ []
-
-under-ended : (s : Inside) (fs : Vec Frame Global) (f : Frame) → IsEnded s fs f
-    → (s.first_key ≡ keys_under fs.items + f.keys) × (s.first_value ≡ values_under fs.items + f.values)
-under-ended s fs f e = (
-  omega (arith, e.laid.keys, ap keys_under e.around, keys_under-snoc fs.items f),
-  omega (arith, e.laid.values, ap values_under e.around, values_under-snoc fs.items f),
-)
-
-lengths-ended : (s : Inside) (fs : Vec Frame Global) (f : Frame) → IsEnded s fs f
-    → (length s.keys.items ≡ keys_under fs.items + f.keys) × (length s.values.items ≡ values_under fs.items + f.values)
-lengths-ended s fs f e =
-    let under = under-ended s fs f e in (
-      omega (arith, under.0, e.laid.keys_within, s.keys.ok.0, ap length e.keys, length-drop s.first_key s.keys.items),
-      omega (
-        arith,
-        under.1,
-        e.laid.values_within,
-        s.values.ok.0,
-        ap length e.values,
-        length-drop s.first_value s.values.items,
-      ),
-    )
-
-pub around-popped : (s : Inside) (fs : Vec Frame Global) (f : Frame) → IsEnded s fs f
-    → (containers_of s).around ≡ (containers_of (popped s fs f)).innermost ∷ (containers_of (popped s fs f)).around
-around-popped s fs f e =
-    let under = under-ended s fs f e in
-    let lengths = lengths-ended s fs f e in
-    let k : keys_under fs.items ≡ s.first_key - f.keys = omega (arith, under.0) in
-    let v : values_under fs.items ≡ s.first_value - f.values = omega (arith, under.1) in
-    (λ i. opened_in [] (e.around i) s.keys.items s.values.items)
-    ∙ opened_in-last fs.items f s.keys.items s.values.items lengths.0 lengths.1
-    ∙ (λ i. record { bracket = f.bracket; keys = drop (k i) s.keys.items; values = drop (v i) s.values.items }
-    ∷ opened_in [] fs.items s.keys.items s.values.items)
-
-known-popped : (s : Inside) (fs : Vec Frame Global) (f : Frame) → IsEnded s fs f
-    → AllKnown s.around.items s.keys.items
-    → AllKnown fs.items s.keys.items × IsTable (drop (s.first_key - f.keys) s.keys.items) f.known
-known-popped s fs f e known =
-    let ks = s.keys.items in
-    let under = under-ended s fs f e in
-    let lengths = lengths-ended s fs f e in
-    let k : keys_under fs.items ≡ s.first_key - f.keys = omega (arith, under.0) in
-    let both = AllKnown-init fs.items f ks (subst (λ gs. AllKnown gs ks) e.around known) in
-    let le : length (drop (keys_under fs.items) ks) ≤ f.keys =
-    omega (arith, lengths.0, length-drop (keys_under fs.items) ks) in (
-      both.0,
-      subst (λ ls. IsTable ls f.known)
-          (take_all f.keys (drop (keys_under fs.items) ks) le ∙ ap (λ n. drop n ks) k) both.1,
-    )
-
-pub IsLaidOut-popped : (s : Inside) (fs : Vec Frame Global) (f : Frame) → IsEnded s fs f → IsLaidOut (popped s fs f)
-IsLaidOut-popped s fs f e = record {
-  keys = omega (arith, (under-ended s fs f e).0);
-  values = omega (arith, (under-ended s fs f e).1);
-  keys_within = omega (arith, e.laid.keys_within);
-  values_within = omega (arith, e.laid.values_within);
-  known = λ strict. known-popped s fs f e (e.laid.known strict).0;
-  await = (subst AllAwaitValue (around-popped s fs f e) e.laid.await).1;
-}
-
--- a value comes next in the container around one that ends
-pub awaits-popped : (s : Inside) (fs : Vec Frame Global) (f : Frame) → IsEnded s fs f
-    → AwaitsValue f.bracket (containers_of (popped s fs f)).innermost
-awaits-popped s fs f e = (subst AllAwaitValue (around-popped s fs f e) e.laid.await).0
-
-pub IsEnded-from : (o : OpenContainers) (s : Inside) (fs : Vec Frame Global) (f : Frame) → IsLaidOut s
-    → containers_of s ≡ innermost_ended o → s.around.items ≡ fs.items ++ f ∷ [] → IsEnded s fs f
-IsEnded-from o s fs f laid seen around = record {
-  laid = laid;
-  keys = ap (λ (p : OpenContainers). p.innermost.keys) seen;
-  values = ap (λ (p : OpenContainers). p.innermost.values) seen;
-  around = around;
-}
-
-pub IsClosed-popped : (o : OpenContainers) (s : Inside) (fs : Vec Frame Global) (f : Frame)
-    (vs : Vec JsonValue Global) (v : JsonValue) → IsEnded s fs f → containers_of s ≡ innermost_ended o
-    → vs.items ≡ s.values.items ++ v ∷ [] → view v ≡ whole o.innermost
-    → IsClosed o (containers_of (record (popped s fs f) { values = vs }))
-IsClosed-popped o s fs f vs v e seen pushed means =
-    let t = popped s fs f in
-    record {
-      value = v;
-      means = means;
-      outer = (containers_of t).innermost;
-      rest = (containers_of t).around;
-      around = sym (ap (λ (p : OpenContainers). p.around) seen) ∙ around-popped s fs f e;
-      awaits = awaits-popped s fs f e;
-      closed = view-pushed t vs v (IsLaidOut-popped s fs f e) pushed ∙ (λ i. record {
-        strict = ap (λ (p : OpenContainers). p.strict) seen i;
-        innermost = with_value (containers_of t).innermost v;
-        around = (containers_of t).around;
-      });
-    }
-
--- ---- a usual reading changes the entries of the innermost container
-
-pub KeepsBelow-usual : (s : Inside) (ks : Vec (List ℕ) Global) (vs : Vec JsonValue Global) (merge_at : ℕ)
-    → s.strict ≡ false → s.first_key ≤ vec_len ks → s.first_value ≤ vec_len vs
-    → take s.first_key s.keys.items ≡ take s.first_key ks.items
-    → KeepsBelow s (record s { keys = ks; values = vs; merge_at = merge_at })
-KeepsBelow-usual s ks vs merge_at usual k v kept =
-    KeepsBelow-innermost_changed s ks vs s.known merge_at kept k v (λ strict. absurd (false≢true (sym usual ∙ strict)))
+pub view-ended : (s : Inside) (ks : Vec (List ℕ) Global) (vs : Vec JsonValue Global) (known : Option KnownKeys)
+    → IsChange s ks vs known → ks.items ≡ take s.innermost.first_key s.keys.items
+    → vs.items ≡ take s.innermost.first_value s.values.items
+    → containers_of (changed s ks vs known) ≡ innermost_ended (containers_of s)
+view-ended s ks vs known c k v = view-changed s ks vs known c ∙ (λ i. record {
+  strict = is_some s.known;
+  innermost = record {
+    kind = s.innermost.kind;
+    keys = nothing_after s.innermost.first_key s.keys.items ks.items k i;
+    values = nothing_after s.innermost.first_value s.values.items vs.items v i;
+  };
+  around = (containers_of s).around;
+})
 
 -- ---- a key is pushed
 
-KeepsBelow-key : (s : Inside) (ks : Vec (List ℕ) Global) (known : List (List (ℕ × ℕ))) (k : List ℕ) → IsLaidOut s
-    → ks.items ≡ s.keys.items ++ k ∷ []
-    → (s.strict ≡ true → IsTable (drop s.first_key s.keys.items ++ k ∷ []) known)
-    → KeepsBelow s (record s { keys = ks; known = known })
-KeepsBelow-key s ks known k h pushed table =
-    let within : s.first_key ≤ length s.keys.items = omega (arith, h.keys_within, s.keys.ok.0) in
-    KeepsBelow-innermost_changed s ks s.values known s.merge_at
-    (sym (ap (take s.first_key) pushed ∙ take-append-le s.first_key s.keys.items (k ∷ []) within))
-    (omega (arith, within, ap length pushed, length-append s.keys.items (k ∷ []), s.keys.ok.0, ks.ok.0)) h.values_within
-    (λ strict. subst (λ ls. IsTable ls known)
-    (sym (ap (drop s.first_key) pushed ∙ drop-append-le s.first_key s.keys.items (k ∷ []) within)) (table strict))
+pub IsChange-key : (s : Inside) (ks : Vec (List ℕ) Global) (known : Option KnownKeys) (k : List ℕ) → IsLaidOut s
+    → ks.items ≡ s.keys.items ++ k ∷ [] → is_some known ≡ is_some s.known
+    → IfSome known (Knows (drop s.innermost.first_key s.keys.items ++ k ∷ [])) → IsChange s ks s.values known
+IsChange-key s ks known k h e strict table =
+    let n = s.innermost.first_key in
+    record {
+      keys = keeps_pushed n s.keys.items ks.items k (keys_within s h) e;
+      values = keeps_same s.innermost.first_value s.values.items s.values.items (values_within s h) refl;
+      strict = strict;
+      knows =
+          subst (λ ls. IfSome known (Knows ls))
+          (sym (ap (drop n) e ∙ drop-append-le n s.keys.items (k ∷ []) (keys_within s h))) table;
+    }
 
-pub IsLaidOut-key : (s : Inside) (ks : Vec (List ℕ) Global) (known : List (List (ℕ × ℕ))) (k : List ℕ) → IsLaidOut s
-    → ks.items ≡ s.keys.items ++ k ∷ []
-    → (s.strict ≡ true → IsTable (drop s.first_key s.keys.items ++ k ∷ []) known)
-    → IsLaidOut (record s { keys = ks; known = known })
-IsLaidOut-key s ks known k h pushed table =
-    IsLaidOut-kept s (record s { keys = ks; known = known }) h (KeepsBelow-key s ks known k h pushed table)
+pub view-key : (s : Inside) (ks : Vec (List ℕ) Global) (known : Option KnownKeys) (k : List ℕ) → IsLaidOut s
+    → IsChange s ks s.values known → ks.items ≡ s.keys.items ++ k ∷ []
+    → containers_of (changed s ks s.values known) ≡ key_added (containers_of s) k
+view-key s ks known k h c e =
+    let n = s.innermost.first_key in
+    view-changed s ks s.values known c ∙ (λ i. record {
+      strict = is_some s.known;
+      innermost = record {
+        kind = s.innermost.kind;
+        keys = (ap (drop n) e ∙ drop-append-le n s.keys.items (k ∷ []) (keys_within s h)) i;
+        values = drop s.innermost.first_value s.values.items;
+      };
+      around = (containers_of s).around;
+    })
 
-pub view-key : (s : Inside) (ks : Vec (List ℕ) Global) (known : List (List (ℕ × ℕ))) (k : List ℕ) → IsLaidOut s
-    → ks.items ≡ s.keys.items ++ k ∷ []
-    → (s.strict ≡ true → IsTable (drop s.first_key s.keys.items ++ k ∷ []) known)
-    → containers_of (record s { keys = ks; known = known }) ≡ key_added (containers_of s) k
-view-key s ks known k h pushed table =
-    view-kept s (record s { keys = ks; known = known }) h (KeepsBelow-key s ks known k h pushed table) refl
-    ∙ ap (λ ls. with_parts s ls (drop s.first_value s.values.items)) (ap (drop s.first_key) pushed
-    ∙ drop-append-le s.first_key s.keys.items (k ∷ []) (omega (arith, h.keys_within, s.keys.ok.0)))
+-- ---- a container is opened in the innermost one
 
--- a key that is added comes next
-pub HasKeyNext-added : (o p : OpenContainers) (k : List ℕ) → IsMerged o p
-    → HasKeyNext k o.innermost (key_added p k).innermost
-HasKeyNext-added o p k m = record {
-  bracket = m.around.bracket;
-  awaits = omega (arith, length-append p.innermost.keys (k ∷ []), m.even);
-  entries = ap (λ ps. viewed (put_each ps)) (zip_key p.innermost.keys p.innermost.values k m.even) ∙ m.entries;
-  key = last_of p.innermost.keys k;
+reverse_snoc : {X : Type 0} (xs ys : List X) (x : X) → ys ≡ xs ++ x ∷ [] → reverse ys ≡ x ∷ reverse xs
+reverse_snoc xs ys x e = ap reverse e ∙ reverse-append xs (x ∷ [])
+
+-- t is s with a container opened in the innermost one
+pub record IsOpened (s t : Inside) : Type 0 where
+  pub keys : t.keys ≡ s.keys
+  pub values : t.values ≡ s.values
+  pub around : t.around.items ≡ s.around.items ++ s.innermost ∷ []
+  pub first_key : t.innermost.first_key ≡ vec_len s.keys
+  pub first_value : t.innermost.first_value ≡ vec_len s.values
+  pub strict : is_some t.known ≡ is_some s.known
+  pub known : IfSome t.known (Knows [])
+  pub known_around : IfSome s.known (λ l. t.known_around.items ≡ s.known_around.items ++ l ∷ [])
+
+opened_keys : (s t : Inside) → IsOpened s t → take t.innermost.first_key t.keys.items ≡ s.keys.items
+opened_keys s t o = ap (λ ks. take t.innermost.first_key ks.items) o.keys
+    ∙ take_all t.innermost.first_key s.keys.items (omega (arith, o.first_key, s.keys.ok.0))
+
+opened_values : (s t : Inside) → IsOpened s t → take t.innermost.first_value t.values.items ≡ s.values.items
+opened_values s t o = ap (λ vs. take t.innermost.first_value vs.items) o.values
+    ∙ take_all t.innermost.first_value s.values.items (omega (arith, o.first_value, s.values.ok.0))
+
+around-opened : (s t : Inside) → IsOpened s t
+    → (containers_of t).around ≡ (containers_of s).innermost ∷ (containers_of s).around
+around-opened s t o = λ i. containers_in (reverse_snoc s.around.items t.around.items s.innermost o.around i)
+    (opened_keys s t o i) (opened_values s t o i)
+
+opened_known : (cs ds : List Container) (c : Container) (ks : List (List ℕ)) (ls ms : List KnownKeys)
+    (a b : Option KnownKeys) → ds ≡ c ∷ cs → is_some b ≡ is_some a → IfSome a (λ l. ms ≡ ls ++ l ∷ [])
+    → IfSome a (λ l. Knows c.keys l × AllKnown cs (reverse ls)) → IfSome b (Knows ks)
+    → IfSome b (λ l. Knows ks l × AllKnown ds (reverse ms))
+opened_known cs ds c ks ls ms a None e strict around h none = tt
+opened_known cs ds c ks ls ms None (Some l) e strict around h none = absurd (false≢true (sym strict))
+opened_known cs ds c ks ls ms (Some k) (Some l) e strict around h none = (
+  none,
+  subst (λ es. AllKnown es (reverse ms)) (sym e)
+      (subst (AllKnown (c ∷ cs)) (sym (reverse_snoc ls ms k around)) h),
+)
+
+nothing_opened : {X : Type 0} (n : ℕ) (xs ys : List X) → ys ≡ xs → length xs ≤ n → drop n ys ≡ []
+nothing_opened n xs ys e le = drop_all n ys (omega (arith, le, ap length e))
+
+no_keys : (s t : Inside) → IsOpened s t → drop t.innermost.first_key t.keys.items ≡ []
+no_keys s t o = nothing_opened t.innermost.first_key s.keys.items t.keys.items (ap (λ ks. ks.items) o.keys)
+    (omega (arith, o.first_key, s.keys.ok.0))
+
+pub IsLaidOut-opened : (s t : Inside) → IsLaidOut s → IsOpened s t
+    → AwaitsValue s.innermost.kind (containers_of s).innermost → IsLaidOut t
+IsLaidOut-opened s t h o awaits = record {
+  keys_within = omega (arith, o.first_key, ap (λ ks. vec_len ks) o.keys);
+  values_within = omega (arith, o.first_value, ap (λ vs. vec_len vs) o.values);
+  nested =
+      subst (λ fs. AreNested fs t.innermost.first_key t.innermost.first_value)
+      (sym (reverse_snoc s.around.items t.around.items s.innermost o.around))
+      (omega (arith, o.first_key, h.keys_within), omega (arith, o.first_value, h.values_within), h.nested);
+  await = subst AllAwaitValue (sym (around-opened s t o)) (awaits, h.await);
+  known =
+      opened_known (containers_of s).around _ (containers_of s).innermost _ s.known_around.items t.known_around.items
+      s.known t.known (around-opened s t o) o.strict o.known_around h.known
+      (subst (λ ks. IfSome t.known (Knows ks)) (sym (no_keys s t o)) o.known);
 }
 
-pub KeepsAround-added : (o p : OpenContainers) (k : List ℕ) → IsMerged o p → KeepsAround o (key_added p k)
-KeepsAround-added o p k m =
-    record { strict = m.around.strict; bracket = m.around.bracket; around = m.around.around }
-
-pub IsMerged-same : (o : OpenContainers) → length o.innermost.keys ≡ length o.innermost.values → IsMerged o o
-IsMerged-same o even = record {
-  around = record { strict = refl; bracket = refl; around = refl };
-  even = even;
-  entries = refl;
+pub view-opened : (s t : Inside) → IsOpened s t
+    → containers_of t ≡ container_added (containers_of s) t.innermost.kind
+view-opened s t o = λ i. record {
+  strict = o.strict i;
+  innermost = record {
+    kind = t.innermost.kind;
+    keys = no_keys s t o i;
+    values =
+        nothing_opened t.innermost.first_value s.values.items t.values.items (ap (λ vs. vs.items) o.values)
+        (omega (arith, o.first_value, s.values.ok.0)) i;
+  };
+  around = around-opened s t o i;
 }
+
+-- ---- back to the container around one that ended
+
+-- s without its last frame, f, which is that of the innermost container now
+abbrev pub popped : Inside → Vec Frame Global → Frame → Option KnownKeys → Vec KnownKeys Global → Inside
+popped s fs f known ls = record s { around = fs; innermost = f; known = known; known_around = ls }
+
+-- what is known of the containers around is taken from the list; of a usual reading nothing is known
+pub record PopsKnown (a b : Option KnownKeys) (ls ms : List KnownKeys) : Type 0 where
+  pub usual : is_some a ≡ false → b ≡ a
+  pub strict : is_some a ≡ true → MatchOption b (ls ≡ []) (λ l. ls ≡ ms ++ l ∷ [])
+
+popped_known : (P : KnownKeys → Type 0) (c : Container) (cs : List Container) (ls ms : List KnownKeys)
+    (a b : Option KnownKeys) → PopsKnown a b ls ms → IfSome a (λ l. P l × AllKnown (c ∷ cs) (reverse ls))
+    → (is_some b ≡ is_some a) × IfSome b (λ l. Knows c.keys l × AllKnown cs (reverse ms))
+popped_known P c cs ls ms None b p h = (
+  ap is_some (p.usual refl),
+  subst (λ o. IfSome o (λ l. Knows c.keys l × AllKnown cs (reverse ms))) (sym (p.usual refl)) tt,
+)
+popped_known P c cs ls ms (Some k) None p h =
+    absurd (subst (λ l. AllKnown (c ∷ cs) (reverse l)) (p.strict refl) h.1)
+popped_known P c cs ls ms (Some k) (Some l) p h =
+    (refl, subst (AllKnown (c ∷ cs)) (reverse_snoc ms ls l (p.strict refl)) h.1)
+
+-- nothing is in the innermost container of s, and f is the last frame
+pub record IsEnded (s : Inside) (fs : Vec Frame Global) (f : Frame) (known : Option KnownKeys)
+    (ls : Vec KnownKeys Global) : Type 0 where
+  pub laid : IsLaidOut s
+  pub keys : drop s.innermost.first_key s.keys.items ≡ []
+  pub values : drop s.innermost.first_value s.values.items ≡ []
+  pub around : s.around.items ≡ fs.items ++ f ∷ []
+  pub pops : PopsKnown s.known known s.known_around.items ls.items
+
+all_taken : {X : Type 0} (n : ℕ) (xs : List X) → drop n xs ≡ [] → take n xs ≡ xs
+all_taken n xs none = take_all n xs (omega (arith, ap length none, length-drop n xs))
+
+pub length-containers_in : (fs : List Frame) (ks : List (List ℕ)) (vs : List JsonValue)
+    → length (containers_in fs ks vs) ≡ length fs
+length-containers_in [] ks vs = refl
+length-containers_in (f ∷ fs) ks vs =
+    omega (arith, length-containers_in fs (take f.first_key ks) (take f.first_value vs))
+
+module _ (s : Inside) (fs : Vec Frame Global) (f : Frame) (known : Option KnownKeys) (ls : Vec KnownKeys Global)
+    (e : IsEnded s fs f known ls) where
+  around-popped : (containers_of s).around ≡ (containers_of (popped s fs f known ls)).innermost
+      ∷ (containers_of (popped s fs f known ls)).around
+  around-popped = λ i. containers_in (reverse_snoc fs.items s.around.items f e.around i)
+      (all_taken s.innermost.first_key s.keys.items e.keys i)
+      (all_taken s.innermost.first_value s.values.items e.values i)
+
+  known-popped : (is_some known ≡ is_some s.known) × IfSome known (λ l.
+      Knows (containers_of (popped s fs f known ls)).innermost.keys l
+      × AllKnown (containers_of (popped s fs f known ls)).around (reverse ls.items))
+  known-popped = popped_known (Knows (containers_of s).innermost.keys) (containers_of (popped s fs f known ls)).innermost
+      (containers_of (popped s fs f known ls)).around s.known_around.items ls.items s.known known e.pops
+      (subst (λ cs. IfSome s.known (λ l. Knows (containers_of s).innermost.keys l
+      × AllKnown cs (reverse s.known_around.items))) around-popped e.laid.known)
+
+  nested-popped : AreNested (f ∷ reverse fs.items) s.innermost.first_key s.innermost.first_value
+  nested-popped = subst (λ gs. AreNested gs s.innermost.first_key s.innermost.first_value)
+      (reverse_snoc fs.items s.around.items f e.around) e.laid.nested
+
+  pub IsLaidOut-popped : IsLaidOut (popped s fs f known ls)
+  IsLaidOut-popped = record {
+    keys_within = omega (arith, nested-popped.0, e.laid.keys_within);
+    values_within = omega (arith, nested-popped.1, e.laid.values_within);
+    nested = nested-popped.2;
+    await = (subst AllAwaitValue around-popped e.laid.await).1;
+    known = known-popped.1;
+  }
+
+  -- a clause sees the value added to the container around the one that ended
+  pub IsAdded-popped : (vs : Vec JsonValue Global) (v : JsonValue) → vs.items ≡ s.values.items ++ v ∷ []
+      → IsAdded (containers_of s) v (containers_of (record (popped s fs f known ls) { values = vs }))
+  IsAdded-popped vs v pushed =
+      let t = popped s fs f known ls in
+      record {
+        outer = (containers_of t).innermost;
+        rest = (containers_of t).around;
+        around = around-popped;
+        awaits = (subst AllAwaitValue around-popped e.laid.await).0;
+        closed = view-pushed t vs v IsLaidOut-popped pushed ∙ (λ i. record {
+          strict = known-popped.0 i;
+          innermost = with_value (containers_of t).innermost v;
+          around = (containers_of t).around;
+        });
+      }
+
+-- an array ends: it has no keys
+pub view-array_ended : (s : Inside) (vs : Vec JsonValue Global) (o : OpenContainers) → IsLaidOut s
+    → containers_of s ≡ o → o.innermost.keys ≡ [] → vs.items ≡ take s.innermost.first_value s.values.items
+    → containers_of (record s { values = vs }) ≡ innermost_ended o
+view-array_ended s vs o h seen none cut =
+    view-ended s s.keys vs s.known
+    (IsChange-values s vs h (keeps_cut s.innermost.first_value s.values.items vs.items (values_within s h) cut))
+    (sym (all_taken s.innermost.first_key s.keys.items (ap (λ (p : OpenContainers). p.innermost.keys) seen ∙ none)))
+    cut ∙ ap innermost_ended seen
+
+pub IsLaidOut-values_cut : (s : Inside) (ks : Vec (List ℕ) Global) (vs : Vec JsonValue Global) → IsLaidOut s
+    → ks.items ≡ s.keys.items → vs.items ≡ take s.innermost.first_value s.values.items
+    → IsLaidOut (record s { keys = ks; values = vs })
+IsLaidOut-values_cut s ks vs h same cut = IsLaidOut-changed s ks vs s.known h (record {
+  keys = keeps_same s.innermost.first_key s.keys.items ks.items (keys_within s h) same;
+  values = keeps_cut s.innermost.first_value s.values.items vs.items (values_within s h) cut;
+  strict = refl;
+  knows =
+      subst (λ ls. IfSome s.known (Knows (drop s.innermost.first_key ls))) (sym same)
+      (known_here s.known (Knows (containers_of s).innermost.keys)
+      (λ _. AllKnown (containers_of s).around (reverse s.known_around.items)) h.known);
+})
+
+-- ---- the containers around are back, and the value of the one that ended is added
+
+-- j is s back in the container around
+pub record IsBack (s j : Inside) : Type 0 where
+  pub fs : Vec Frame Global
+  pub f : Frame
+  pub l : Option KnownKeys
+  pub ls : Vec KnownKeys Global
+  pub ended : IsEnded s fs f l ls
+  pub is : j ≡ popped s fs f l ls
+
+pub IsBack-from : (o : OpenContainers) (s j : Inside) (fs : Vec Frame Global) (f : Frame) (l : Option KnownKeys)
+    (ls : Vec KnownKeys Global) → IsLaidOut s → containers_of s ≡ o → o.innermost ≡ new_container o.innermost.kind
+    → s.around.items ≡ fs.items ++ f ∷ [] → PopsKnown s.known l s.known_around.items ls.items
+    → j ≡ popped s fs f l ls → IsBack s j
+IsBack-from o s j fs f l ls laid seen ended around pops is = record {
+  fs = fs;
+  f = f;
+  l = l;
+  ls = ls;
+  ended = record {
+    laid = laid;
+    keys = ap (λ (p : OpenContainers). p.innermost.keys) seen ∙ ap (λ (c : Container). c.keys) ended;
+    values = ap (λ (p : OpenContainers). p.innermost.values) seen ∙ ap (λ (c : Container). c.values) ended;
+    around = around;
+    pops = pops;
+  };
+  is = is;
+}
+
+pub IsLaidOut-back : (s j : Inside) (vs : Vec JsonValue Global) → IsBack s j → vs.items ≡ j.values.items
+    → IsLaidOut (record j { values = vs })
+IsLaidOut-back s j vs b e =
+    subst (λ t. IsLaidOut (record t { values = vs })) (sym b.is)
+    (IsLaidOut-same (popped s b.fs b.f b.l b.ls) vs (IsLaidOut-popped s b.fs b.f b.l b.ls b.ended)
+    (e ∙ ap (λ t. t.values.items) b.is))
+
+pub IsLaidOut-back_pushed : (s j : Inside) (vs : Vec JsonValue Global) (v : JsonValue) → IsBack s j
+    → vs.items ≡ j.values.items ++ v ∷ [] → IsLaidOut (record j { values = vs })
+IsLaidOut-back_pushed s j vs v b e =
+    subst (λ t. IsLaidOut (record t { values = vs })) (sym b.is)
+    (IsLaidOut-pushed (popped s b.fs b.f b.l b.ls) vs v (IsLaidOut-popped s b.fs b.f b.l b.ls b.ended)
+    (e ∙ ap (λ t. t.values.items ++ v ∷ []) b.is))
+
+pub IsAdded-back : (o : OpenContainers) (s j : Inside) (vs : Vec JsonValue Global) (v : JsonValue)
+    → containers_of s ≡ o → IsBack s j → vs.items ≡ j.values.items ++ v ∷ []
+    → IsAdded o v (containers_of (record j { values = vs }))
+IsAdded-back o s j vs v seen b e =
+    subst (λ p. IsAdded p v (containers_of (record j { values = vs }))) seen
+    (subst (λ t. IsAdded (containers_of s) v (containers_of (record t { values = vs }))) (sym b.is)
+    (IsAdded-popped s b.fs b.f b.l b.ls b.ended vs v (e ∙ ap (λ t. t.values.items ++ v ∷ []) b.is)))
 
 -- ---- a key is found among the entries so far if it is among the keys
 
@@ -595,17 +566,25 @@ has_key o name even =
 
 -- ---- one open container, which is empty
 
-pub IsLaidOut-new : (s : Inside) → s.around.items ≡ [] → s.keys.items ≡ [] → s.first_key ≡ 0 → s.first_value ≡ 0
-    → s.known ≡ [] → IsLaidOut s
+none_around : (s : Inside) → s.around.items ≡ [] → (containers_of s).around ≡ []
+none_around s e = ap (λ fs. containers_in (reverse fs) (take s.innermost.first_key s.keys.items)
+    (take s.innermost.first_value s.values.items)) e
+
+all_known : (P : KnownKeys → Type 0) (cs : List Container) (ls : List KnownKeys) (a : Option KnownKeys) → cs ≡ []
+    → IfSome a P → IfSome a (λ l. P l × AllKnown cs ls)
+all_known P cs ls None none h = tt
+all_known P cs ls (Some k) none h = (h, subst (λ ds. AllKnown ds ls) (sym none) tt)
+
+pub IsLaidOut-new : (s : Inside) → s.around.items ≡ [] → s.keys.items ≡ [] → s.innermost.first_key ≡ 0
+    → s.innermost.first_value ≡ 0 → IfSome s.known (Knows []) → IsLaidOut s
 IsLaidOut-new s around keys first_key first_value known = record {
-  keys = first_key ∙ sym (ap keys_under around);
-  values = first_value ∙ sym (ap values_under around);
   keys_within = omega (arith, first_key);
   values_within = omega (arith, first_value);
-  known = λ _. (
-    subst (λ fs. AllKnown fs s.keys.items) (sym around) tt,
-    subst (λ n. IsTable (drop n s.keys.items) s.known) (sym first_key) (subst (λ ks. IsTable ks s.known) (sym keys)
-        (subst (IsTable []) (sym known) (IsTable-none [] refl))),
-  );
-  await = subst (λ fs. AllAwaitValue (opened_in [] fs s.keys.items s.values.items)) (sym around) tt;
+  nested =
+      subst (λ fs. AreNested (reverse fs) s.innermost.first_key s.innermost.first_value) (sym around) tt;
+  await = subst AllAwaitValue (sym (none_around s around)) tt;
+  known =
+      all_known (Knows (containers_of s).innermost.keys) (containers_of s).around _ s.known (none_around s around)
+      (subst (λ ks. IfSome s.known (Knows (drop s.innermost.first_key ks))) (sym keys)
+      (subst (λ ks. IfSome s.known (Knows ks)) (sym (drop_all s.innermost.first_key [] (omega arith))) known));
 }

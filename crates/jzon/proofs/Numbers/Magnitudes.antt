@@ -9,7 +9,7 @@ use Rattle.jzon_base.specs.Digits.{IsDigit, dropped, kept_fraction, read_number}
 use Rattle.jzon_base.specs.DigitLimits.{AreFewEnough, IsFirstTooMany}
 use Rattle.jzon_base.specs.declared.digits.DigitFault.{DigitFault}
 use Rattle.jzon_base.specs.declared.digits.DigitFault.TheVariants.{Whole, Fraction}
-use Rattle.jzon_base.proofs.Kept.{kept_len_is_longest}
+use Rattle.jzon_base.proofs.Numbers.DigitPrefixes.{kept_len_is_longest}
 use Rattle.jzon_tree.specs.Value as value
 use Rattle.jzon.specs.Reading.{Reading, usual}
 use Rattle.jzon.specs.Grammar.{AreDigits, IsDigits, is_exponent_letter}

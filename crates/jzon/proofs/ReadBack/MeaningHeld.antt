@@ -7,14 +7,14 @@ use Rattle.jzon_base.proofs.Common.{bytes_eq-Decides, encodes-append, IsUtf8-app
 use Rattle.std.proofs.lemmas.Bool.{leb-false}
 use Rattle.jzon_base.specs.Digits.{dropped, kept_fraction, clamp}
 use Rattle.jzon_base.specs.PairList.{keys_of, put, put_each}
-use Rattle.jzon_base.proofs.Kept.{kept_len_is_longest}
-use Rattle.jzon_base.proofs.PairLaws.{All-put}
-use Rattle.jzon_base.proofs.PutEach.{IsDistinct-put_each}
+use Rattle.jzon_base.proofs.Numbers.DigitPrefixes.{kept_len_is_longest}
+use Rattle.jzon_base.proofs.Entries.PairLaws.{All-put}
+use Rattle.jzon_base.proofs.Entries.PutEach.{IsDistinct-put_each}
 use Rattle.jzon_tree.specs.Value.{Value, object, Values, pairs_of, nest, most_nest, most_nest_under}
 use Rattle.jzon_tree.specs.Text.{compact}
 use Rattle.jzon_tree.specs.Lawful.{InRange, IsValue, AreValues, ArePairs, HasNoNan, HaveNoNan, PairsHaveNoNan}
-use Rattle.jzon_tree.proofs.KeptByConversions.{IsValue-text}
-use Rattle.jzon_tree.proofs.Views.{list_of_pairs-pairs_of}
+use Rattle.jzon_tree.proofs.Laws.KeptByConversions.{IsValue-text}
+use Rattle.jzon_tree.proofs.Values.Views.{list_of_pairs-pairs_of}
 use Rattle.jzon.specs.Reading.{Reading}
 use Rattle.jzon.specs.Grammar.{Numeral, Item, simple, single, double, Node, Elements, no_elements, element, Members}
 use Rattle.jzon.specs.Grammar.{no_members, member, Document, AreHex, IsItem, AreItems, is_simple, is_high, is_low}

@@ -4,7 +4,7 @@ use Rattle.jzon_base.proofs.Common.{length, Bool, sym, ap, subst, arith, decimal
 use Rattle.jzon_base.proofs.Common.{IsAscii, cases_lt, chars-IsAscii}
 use Rattle.jzon_base.specs.Decimal.{parts}
 use Rattle.jzon_base.specs.NumberText.{number_text}
-use Rattle.jzon_tree.proofs.PrintedUtf8.{IsAscii-written}
+use Rattle.jzon_tree.proofs.Printing.PrintedUtf8.{IsAscii-written}
 use Rattle.jzon.specs.Reading.{Reading}
 use Rattle.jzon.specs.Grammar.{Numeral, Node}
 use Rattle.jzon.specs.Spelling.{Cell, plain, numeral_cells}

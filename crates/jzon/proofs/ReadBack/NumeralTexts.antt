@@ -1,7 +1,7 @@
 -- The text of a number of the grammar that has few digits.
 use Rattle.jzon_base.proofs.Common.{◌≡◌, ◌∙◌, ℕ, ◌+◌, ◌<◌, ◌≤◌, List, [], ◌∷◌, ◌++◌, length, Bool, true, false, codes}
 use Rattle.jzon_base.proofs.Common.{Option, Some, None, refl, sym, ap, arith, length-append}
-use Rattle.jzon_base.proofs.Kept.{kept_len_is_longest}
+use Rattle.jzon_base.proofs.Numbers.DigitPrefixes.{kept_len_is_longest}
 use Rattle.jzon.specs.Grammar.{Sign, unsigned, plus, minus, Exponent, Numeral}
 use Rattle.jzon.specs.Spelling.{Cell, cell, plain, digits_cells, drops_too_many, keeps_too_many, fraction_cells}
 use Rattle.jzon.specs.Spelling.{exponent_cells, sign_cells, whole_cells, magnitude_cells, numeral_cells}

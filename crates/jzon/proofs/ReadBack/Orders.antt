@@ -7,9 +7,9 @@ use Rattle.jzon_base.proofs.Common.{none-some, bytes_eq-Decides}
 use Rattle.std.proofs.Math.ListN.{get_or-map}
 use Rattle.std.proofs.lemmas.List.Elements.{All-from_get_or}
 use Rattle.jzon_base.specs.PairList.{keys_of, find}
-use Rattle.jzon_base.proofs.PairLaws.{bytes_eq-other}
+use Rattle.jzon_base.proofs.Entries.PairLaws.{bytes_eq-other}
 use Rattle.jzon_tree.specs.Writing.{IsOrder, text_at}
-use Rattle.jzon_tree.proofs.Orders.{times, times-cons, order_within}
+use Rattle.jzon_tree.proofs.Printing.Orders.{times, times-cons, order_within}
 
 -- the elements at these positions, and d for one past the end of the list
 abbrev pub picked : {X : Type 0} → X → List X → List ℕ → List X

@@ -10,7 +10,7 @@ use Rattle.std.proofs.lemmas.List.{take-append-drop}
 use Rattle.jzon_base.specs.Digits.{add_digit, digits_number}
 use Rattle.jzon_base.specs.Decimal.{parts}
 use Rattle.jzon_base.specs.NumberText.{point_after, point_after_first, small_exponent_text, magnitude_text, number_text}
-use Rattle.jzon_base.proofs.Kept.{if-lt, if-ge}
+use Rattle.jzon_base.proofs.Numbers.DigitPrefixes.{if-lt, if-ge}
 use Rattle.jzon.specs.Grammar.{unsigned, plus, minus, Exponent}
 use Rattle.jzon.specs.Grammar as grammar
 use Rattle.jzon.specs.Meaning.{written_exponent}

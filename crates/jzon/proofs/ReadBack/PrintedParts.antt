@@ -14,7 +14,7 @@ use Rattle.jzon_base.specs.Digits.{read_exponent, clamp}
 use Rattle.jzon_base.specs.Decimal.{Decimal, parts, same}
 use Rattle.jzon_base.specs.NumberText.{sign_text, magnitude_text, number_text, decimal_text}
 use Rattle.jzon_base.specs.Private.Same.{same_equiv}
-use Rattle.jzon_base.proofs.Kept.{kept_all}
+use Rattle.jzon_base.proofs.Numbers.DigitPrefixes.{kept_all}
 use Rattle.jzon.specs.Grammar.{Sign, Exponent, Numeral, AreDigits}
 use Rattle.jzon.specs.Grammar as grammar
 use Rattle.jzon.specs.Meaning.{written_exponent, number_of}

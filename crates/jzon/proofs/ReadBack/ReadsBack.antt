@@ -5,7 +5,7 @@ use Rattle.jzon_base.proofs.Common.{AllByRecursion, IsDistinct, bytes_eq, le-max
 use Rattle.jzon_base.proofs.Common.{and_from, length-map, bytes_eq-Decides}
 use Rattle.jzon_base.specs.Decimal.{nan, parts}
 use Rattle.jzon_base.specs.PairList.{keys_of, find, put_each}
-use Rattle.jzon_base.proofs.PutEach.{put_each-distinct}
+use Rattle.jzon_base.proofs.Entries.PutEach.{put_each-distinct}
 use Rattle.jzon_tree.specs.Value.{Value, null, boolean, text, number, array, object, Values, no_values, value}
 use Rattle.jzon_tree.specs.Value.{values_of, ValuePairs, no_pairs, pair, pairs_of, list_of_pairs, nest, most_nest}
 use Rattle.jzon_tree.specs.Value.{most_nest_under}
@@ -15,8 +15,8 @@ use Rattle.jzon_tree.specs.Same.{same, same_items}
 use Rattle.jzon_tree.specs.SameLaws.{same_at, object-intro}
 use Rattle.jzon_tree.specs.Writing.{Style, Writes, WritesEach, WritesPairs, Encloses, IsOrder, text_at, colon_text}
 use Rattle.jzon_tree.specs.Writing.{is_whitespace, is_all_whitespace}
-use Rattle.jzon_tree.proofs.PrintedUtf8.{text_utf8}
-use Rattle.jzon_tree.proofs.Views.{list_of_pairs-pairs_of}
+use Rattle.jzon_tree.proofs.Printing.PrintedUtf8.{text_utf8}
+use Rattle.jzon_tree.proofs.Values.Views.{list_of_pairs-pairs_of}
 use Rattle.jzon.specs.Reading.{Reading}
 use Rattle.jzon.specs.Grammar.{Node, Each, IsWhitespace}
 use Rattle.jzon.specs.Meaning.{bytes_of, meaning, members_meaning}

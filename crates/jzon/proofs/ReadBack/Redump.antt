@@ -4,12 +4,12 @@ use Rattle.jzon_base.proofs.Common.{append_assoc, IsUtf8, IsDistinct, bytes_eq, 
 use Rattle.jzon_base.proofs.Common.{bytes_eq-Decides}
 use Rattle.jzon_base.specs.Decimal.{nan, parts}
 use Rattle.jzon_base.specs.PairList.{keys_of, put_each}
-use Rattle.jzon_base.proofs.PutEach.{put_each-distinct}
+use Rattle.jzon_base.proofs.Entries.PutEach.{put_each-distinct}
 use Rattle.jzon_tree.specs.Value.{Value, null, boolean, text, number, array, object, Values, no_values, value, ValuePairs}
 use Rattle.jzon_tree.specs.Value.{no_pairs, pair, pairs_of, list_of_pairs, nest, most_nest, most_nest_under}
 use Rattle.jzon_tree.specs.Text.{compact_layout, layout_text, more_values_text, more_pairs_text, quoted}
 use Rattle.jzon_tree.specs.Lawful.{IsValue, AreValues, ArePairs}
-use Rattle.jzon_tree.proofs.PrintedUtf8.{text_utf8}
+use Rattle.jzon_tree.proofs.Printing.PrintedUtf8.{text_utf8}
 use Rattle.jzon.specs.Reading.{Reading}
 use Rattle.jzon.specs.Grammar.{Node, Elements, no_elements, element, Members, no_members, member}
 use Rattle.jzon.specs.Meaning.{bytes_of, meaning, elements_meaning, members_meaning}

@@ -15,8 +15,8 @@ use Rattle.jzon_base.specs.Digits.{clamp}
 use Rattle.jzon_base.specs.Decimal.{parts, same, scaled}
 use Rattle.jzon_base.specs.NumberText.{sign_text, number_text}
 use Rattle.jzon_base.specs.Private.Same.{same_equiv}
-use Rattle.jzon_base.proofs.Kept.{kept_len-at}
-use Rattle.jzon_base.proofs.Scaled.{scaled-eq-fits}
+use Rattle.jzon_base.proofs.Numbers.DigitPrefixes.{kept_len-at}
+use Rattle.jzon_base.proofs.Numbers.Scaling.{scaled-eq-fits}
 use Rattle.jzon.specs.Meaning.{number_of}
 use Rattle.jzon.proofs.ReadBack.NumeralTexts.{numeral_spelled, minus_spelled}
 use Rattle.jzon.proofs.ReadBack.PrintedParts.{HasNumeral, numeral, AllDigits, IsWholePart, whole_test, all-zeros}

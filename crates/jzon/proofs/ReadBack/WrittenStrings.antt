@@ -8,8 +8,8 @@ use Rattle.jzon_base.proofs.Common.{scalars-chars, encode_ascii, IsUtf8-from_asc
 use Rattle.std.specs.Char.{digit_char}
 use Rattle.std.proofs.lemmas.Str.{encodes-IsAscii}
 use Rattle.jzon_tree.specs.Text.{escaped_byte, escaped, quoted}
-use Rattle.jzon_tree.proofs.PrintedUtf8.{all_below, at_below, large_escaped, escaped_large, encode_large, IsAscii-one}
-use Rattle.jzon_tree.proofs.PrintedUtf8.{IsAscii-escaped_byte, IsUtf8-escaped}
+use Rattle.jzon_tree.proofs.Printing.PrintedUtf8.{all_below, at_below, large_escaped, escaped_large, encode_large, IsAscii-one}
+use Rattle.jzon_tree.proofs.Printing.PrintedUtf8.{IsAscii-escaped_byte, IsUtf8-escaped}
 use Rattle.jzon.specs.Grammar.{Item, simple, single, double, IsItem, AreItems, is_unescaped, is_simple, is_surrogate}
 use Rattle.jzon.specs.Grammar.{code_unit}
 use Rattle.jzon.specs.Grammar as grammar

@@ -7,7 +7,7 @@ use Rattle.std.proofs.Math.Bool.{and-false}
 use Rattle.jzon_base.specs.NumberText.{number_text}
 use Rattle.jzon_tree.specs.Same.{is_known}
 use Rattle.jzon_tree.specs.Text.{quoted}
-use Rattle.jzon_tree.proofs.PrintedUtf8.{IsAscii-one, IsAscii-true, IsUtf8-quoted}
+use Rattle.jzon_tree.proofs.Printing.PrintedUtf8.{IsAscii-one, IsAscii-true, IsUtf8-quoted}
 use Rattle.jzon.specs.Reading.{Reading}
 use Rattle.jzon.specs.Grammar.{Numeral, Key, Node, Elements, no_elements, element, Members, no_members, member}
 use Rattle.jzon.specs.Grammar.{IsWhitespace, IsNode, AreElements, AreMembers}

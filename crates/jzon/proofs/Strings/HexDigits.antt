@@ -1,9 +1,10 @@
 -- The four hexadecimal digits of an escape, by the bytes of a text.
-use Rattle.jzon_base.proofs.Common.{◌≡◌, ℕ, zero, suc, ◌+◌, ◌-◌, ◌^◌, ◌<◌, ◌≤◌, true, false, cond, List, [], ◌∷◌}
-use Rattle.jzon_base.proofs.Common.{length, take, drop, get_or, refl, sym, ap, ◌∙◌, arith, None, ◌&&◌, chars, IsUtf8}
+use Rattle.jzon_base.proofs.Common.{◌≡◌, ℕ, zero, suc, ◌+◌, ◌-◌, ◌*◌, ◌^◌, ◌<◌, ◌≤◌, true, false, cond, List, []}
+use Rattle.jzon_base.proofs.Common.{◌∷◌, length, take, drop, get_or, refl, sym, ap, subst, ◌∙◌, arith, None, ◌&&◌}
+use Rattle.jzon_base.proofs.Common.{chars, IsUtf8}
 use Rattle.jzon_base.proofs.Common.{slice_range, fold, is_ascii_hexdigit, digit_value, IsCharBoundary, pow-le-pow_right}
 use Rattle.jzon_base.proofs.Common.{false_from_ne_true, nat_tests, get_or-drop, take_more, fold-append}
-use Rattle.jzon_base.proofs.Common.{IsCharBoundary-after_ascii}
+use Rattle.jzon_base.proofs.Common.{IsCharBoundary-after_ascii, add-zero}
 use Rattle.std.proofs.Common.{length-drop}
 use Rattle.std.proofs.lemmas.Grind.{pow_more}
 use Rattle.jzon.specs.Reading.{Reading}
@@ -158,3 +159,40 @@ pub hex_spelled : (bs : List ℕ) (start i u : ℕ) → HexRead bs start i u →
     → u ≡ code_unit (slice_range bs start (start + 4))
 unfolding code_unit
 hex_spelled bs start i u k e = k.value ∙ ap (λ n. fold add_hex 0 (slice_range bs start n)) e
+
+-- all four at once
+pub hex_four : (bs : List ℕ) (start a b c d : ℕ) → IsUtf8 bs → IsCharBoundary bs start → start + 4 ≤ length bs
+    → a ≡ get_or bs start 0 → b ≡ get_or bs (start + 1) 0 → c ≡ get_or bs (start + 2) 0 → d ≡ get_or bs (start + 3) 0
+    → is_ascii_hexdigit a ≡ true → is_ascii_hexdigit b ≡ true → is_ascii_hexdigit c ≡ true → is_ascii_hexdigit d ≡ true
+    → HexRead bs start (start + 4) (add_hex (add_hex (add_hex (digit_value a) b) c) d)
+hex_four bs start a b c d text here room ea eb ec ed ha hb hc hd =
+    let digit : (i x u : ℕ) → HexRead bs start i u → start ≤ i → i < start + 4 → x ≡ get_or bs i 0
+    → is_ascii_hexdigit x ≡ true → HexRead bs start (i + 1) (add_hex u x) = λ i x u k low high e h.
+    rw e (hex_more bs start i u k text low high (omega arith) (ap is_ascii_hexdigit (sym e) ∙ h)) in
+    let one : HexRead bs start (start + 1) (digit_value a) =
+    subst (HexRead bs start (start + 1)) (omega arith)
+    (digit start a 0 (hex_begun bs start here) (omega arith) (omega arith) ea ha) in
+    let two : HexRead bs start (start + 2) (add_hex (digit_value a) b) =
+    subst (λ n. HexRead bs start n (add_hex (digit_value a) b)) (omega arith)
+    (digit (start + 1) b (digit_value a) one (omega arith) (omega arith) eb hb) in
+    let three : HexRead bs start (start + 3) (add_hex (add_hex (digit_value a) b) c) =
+    subst (λ n. HexRead bs start n (add_hex (add_hex (digit_value a) b) c)) (omega arith)
+    (digit (start + 2) c _ two (omega arith) (omega arith) ec hc) in
+    subst (λ n. HexRead bs start n (add_hex (add_hex (add_hex (digit_value a) b) c) d)) (omega arith)
+    (digit (start + 3) d _ three (omega arith) (omega arith) ed hd)
+
+-- x is the value of the digit b
+abbrev pub Digit : ℕ → ℕ → Type 0
+Digit x b = (is_ascii_hexdigit b ≡ true) × (x ≡ digit_value b)
+
+-- the digits are the first four of the bytes from `start` on
+pub hex_at_once : (bs rest : List ℕ) (start a b c d : ℕ) → IsUtf8 bs → IsCharBoundary bs start → rest ≡ drop start bs
+    → 4 ≤ length rest → Digit a (get_or rest 0 0) → Digit b (get_or rest 1 0) → Digit c (get_or rest 2 0)
+    → Digit d (get_or rest 3 0) → HexRead bs start (start + 4) (((a * 16 + b) * 16 + c) * 16 + d)
+hex_at_once bs rest start a b c d text here e room da db dc dd =
+    let at : (k : ℕ) → get_or rest k 0 ≡ get_or bs (start + k) 0 =
+    λ k. ap (λ s. get_or s k 0) e ∙ get_or-drop start bs k 0 in
+    let first : get_or rest 0 0 ≡ get_or bs start 0 = at 0 ∙ ap (λ n. get_or bs n 0) (add-zero start) in
+    let four = hex_four bs start (get_or rest 0 0) (get_or rest 1 0) (get_or rest 2 0) (get_or rest 3 0) text here
+    (omega (arith, room, ap length e, length-drop start bs)) first (at 1) (at 2) (at 3) da.0 db.0 dc.0 dd.0 in
+    rw (da.1, db.1, dc.1, dd.1) four

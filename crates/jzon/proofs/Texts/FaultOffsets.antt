@@ -1,4 +1,4 @@
--- The error of a text that stops at an offset, from the bytes before it and after it.
+-- The error for a fault at an offset of a text, from the bytes before and after the offset.
 use Rattle.jzon_base.proofs.Common.{◌≡◌, ℕ, ◌+◌, ◌-◌, ◌≤◌, refl, List, [], ◌∷◌, ◌++◌, length, take, drop, get_or, sym}
 use Rattle.jzon_base.proofs.Common.{ap, subst, ◌∙◌, arith, take-append-drop, chars, IsUtf8}
 use Rattle.jzon_base.proofs.Common.{slice_range, IsCharBoundary, drop-drop, chars-append, IsUtf8-take, IsUtf8-between}
@@ -19,7 +19,7 @@ pub chars_split : (bs : List ℕ) (i : ℕ) → IsUtf8 bs → IsCharBoundary bs 
 chars_split bs i u at = ap chars (sym (take-append-drop i bs))
     ∙ chars-append (take i bs) (drop i bs) (IsUtf8-take bs i u at)
 
--- the error reports this outcome of a text
+-- the error is that of this outcome of a text
 abbrev Tells : List ℕ → Error → Outcome → Type 0
 Tells t e (meant v) = ⊥
 Tells t e (refused f rest) = e ≡ error_at t (length t - length rest) f

@@ -6,31 +6,31 @@ use Rattle.jzon_tree.specs.Value.{Value, no_values, values_of, no_pairs, pairs_o
 use Rattle.jzon_tree.specs.Value as value
 use Rattle.jzon.specs.Private.Machine.{Frames, no_frames, array_frame, object_frame, State, before, before_key}
 use Rattle.jzon.specs.Private.Machine.{after_value}
-use Rattle.jzon.specs.declared.cursor.Bracket.{Bracket}
-use Rattle.jzon.specs.declared.cursor.Bracket.TheVariants.{Array, Object}
+use Rattle.jzon.specs.declared.cursor.ContainerKind.{ContainerKind}
+use Rattle.jzon.specs.declared.cursor.ContainerKind.TheVariants.{Array, Object}
 
-abbrev pub opener : Bracket → ℕ
+abbrev pub opener : ContainerKind → ℕ
 opener Array = begin_array
 opener Object = begin_object
 
-abbrev pub closer : Bracket → ℕ
+abbrev pub closer : ContainerKind → ℕ
 closer Array = end_array
 closer Object = end_object
 
-abbrev pub empty_container : Bracket → Value
+abbrev pub empty_container : ContainerKind → Value
 empty_container Array = value.array no_values
 empty_container Object = value.object no_pairs
 
 -- after the opening bracket of a container in fs
-abbrev pub after_opener : Bracket → Frames → State
+abbrev pub after_opener : ContainerKind → Frames → State
 after_opener Array fs = before (array_frame fs [])
 after_opener Object fs = before_key fs []
 
 -- the brackets of the innermost open container
-abbrev pub innermost_bracket : Frames → Option Bracket
-innermost_bracket no_frames = None
-innermost_bracket (array_frame fs vs) = Some Array
-innermost_bracket (object_frame fs es k) = Some Object
+abbrev pub innermost_kind : Frames → Option ContainerKind
+innermost_kind no_frames = None
+innermost_kind (array_frame fs vs) = Some Array
+innermost_kind (object_frame fs es k) = Some Object
 
 -- after the comma that follows the item v of the innermost container
 abbrev pub after_comma : Frames → Value → State

@@ -4,10 +4,10 @@ use Rattle.std.specs.Prelude.{if◌then◌else◌}
 use Rattle.jzon_tree.specs.Value.{Value}
 use Rattle.jzon.specs.Reading.{Reading}
 use Rattle.jzon.specs.declared.fault.Stop.{Stop}
-use Rattle.jzon.specs.Private.Brackets.{innermost_bracket, after_closer, after_comma}
+use Rattle.jzon.specs.Private.Brackets.{innermost_kind, after_closer, after_comma}
 use Rattle.jzon.specs.Private.Machine.{EntriesSoFar, Frames, State, Outcome, object_frame, before, after_key, after_value}
 use Rattle.jzon.specs.Private.Machine.{allows_whitespace, from, ReportsUnlessMemory}
-use Rattle.jzon.specs.declared.cursor.Bracket.{Bracket}
+use Rattle.jzon.specs.declared.cursor.ContainerKind.{ContainerKind}
 use Rattle.jzon.specs.declared.cursor.Cursor.{Cursor}
 
 -- the outcome of the rest of the text from this state of the automaton
@@ -31,8 +31,8 @@ pub record IsAfter (t u : Cursor) : Type 0 where
   pub reading : u.reading ≡ t.reading
   pub index : t.index < u.index
 
--- The outcome of the rest of the text at cursor t in state p equals that at the new cursor u in the state that the
--- result gives; or the error reports it, or an allocation failed.
+-- Reading went on from t to u: what the rest of the text from t means in state p, it means from u in the state that
+-- the result gives. Or the error is the one that this rest of the text has, or an allocation failed.
 abbrev pub GoesOn : {A : Type 0} → Cursor → State → Result A Stop → Cursor → (A → State) → Type 0
 GoesOn t p result u next =
     MatchResult result (λ x. IsAfter t u × (left t p ≡ left u (next x)))
@@ -44,9 +44,9 @@ PassesOn t p result u next =
     (s : Cursor) (o : State) → IsAfter s t × (left s o ≡ left t p) → GoesOn s o result u next
 
 -- What leads to the end of an item at offset `end` goes on after the closing bracket or the comma that follows it.
-abbrev pub EndsItem : Cursor → ℕ → Bracket → Result Bool Stop → Cursor → Type 0
-EndsItem t end bracket result u =
-    (p : State) (fs : Frames) (v : Value) → innermost_bracket fs ≡ Some bracket
+abbrev pub EndsItem : Cursor → ℕ → ContainerKind → Result Bool Stop → Cursor → Type 0
+EndsItem t end kind result u =
+    (p : State) (fs : Frames) (v : Value) → innermost_kind fs ≡ Some kind
     → left t p ≡ from t.reading t.source.now (after_value fs v) end
     → GoesOn t p result u (λ ends. if ends then after_closer fs v else after_comma fs v)
 

@@ -304,7 +304,7 @@ abbrev pub outcome : Reading → List ℕ → State → Outcome
 outcome r [] p = last p
 outcome r (c ∷ cs) p = outcome_on (move r p c (length (c ∷ cs))) (λ p'. outcome r cs p') (c ∷ cs)
 
--- the same for the rest of a text from byte i on
+-- the outcome of the rest of a text from byte i on
 unfoldable pub from : Reading → List ℕ → State → ℕ → Outcome
 from r bytes p i = outcome r (chars (drop i bytes)) p
 
@@ -317,22 +317,23 @@ abbrev pub from_closed : Reading → List ℕ → Role → List ℕ → ℕ → 
 from_closed r bytes role text i =
     outcome_on (closed_string r role text (left_at bytes (i - 1))) (λ p. from r bytes p i) (chars (drop (i - 1) bytes))
 
--- the outcome of the rest of a text that can't go on
+-- the outcome of the rest of a text whose next character, or whose end there, is a fault
 abbrev pub fault_here : List ℕ → Outcome
 fault_here [] = refused Fault.end []
 fault_here (c ∷ cs) = refused character (c ∷ cs)
 
--- the error of the stop reports this outcome of a text
+-- the error that is returned for a stop is the error of this outcome of a text
 abbrev pub Reports : List ℕ → Stop → Outcome → Type 0
 Reports bytes e (meant v) = ⊥
 Reports bytes e (refused f rest) =
     IsAtBoundary bytes e × (reported_error bytes e ≡ error_at (chars bytes) (length (chars bytes) - length rest) f)
 
--- it reports this outcome of a text, or an allocation failed
+-- either that error is returned, or an allocation failed
 abbrev pub ReportsUnlessMemory : List ℕ → Stop → Outcome → Type 0
 ReportsUnlessMemory bytes e o = (e ≡ Memory) ⊎ Reports bytes e o
 
--- The outcome from byte i on in this state is the outcome after what was read, or the error reports it.
+-- The outcome from byte i on in this state is the outcome in the next state after what was read; or it is a fault, and
+-- the error that is returned is its error.
 abbrev pub Leads : {A : Type 0} → Reading → List ℕ → State → ℕ → Result (A × ℕ) Stop → (A → State) → Type 0
 Leads r bytes p i result next =
     MatchResult result (λ x. from r bytes p i ≡ from r bytes (next x.0) x.1)

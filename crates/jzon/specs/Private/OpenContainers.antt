@@ -9,14 +9,14 @@ use Rattle.jzon.specs.Private.Brackets.{closer, after_opener}
 use Rattle.jzon.specs.Private.Cursor.{next_byte}
 use Rattle.jzon.specs.Private.Machine.{EntriesSoFar, Frames, no_frames, array_frame, object_frame}
 use Rattle.jzon.specs.Private.Machine.{State, before, before_key, after_value}
-use Rattle.jzon.specs.declared.cursor.Bracket.{Bracket}
-use Rattle.jzon.specs.declared.cursor.Bracket.TheVariants.{Array, Object}
+use Rattle.jzon.specs.declared.cursor.ContainerKind.{ContainerKind}
+use Rattle.jzon.specs.declared.cursor.ContainerKind.TheVariants.{Array, Object}
 use Rattle.jzon.specs.declared.cursor.Cursor.{Cursor}
 
 -- what an open container holds so far; an object has one key more than values where the value of the last key comes
 -- next
 pub record Container : Type 0 where
-  pub bracket : Bracket
+  pub kind : ContainerKind
   pub keys : List (List ℕ)
   pub values : List JsonValue
 
@@ -35,12 +35,12 @@ last_key (k ∷ []) = k
 last_key (k ∷ l ∷ ks) = last_key (l ∷ ks)
 
 -- the containers fs with this one opened inside, of which a value comes next
-abbrev pub open_as : Bracket → Frames → Container → Frames
+abbrev pub open_as : ContainerKind → Frames → Container → Frames
 open_as Array fs c = array_frame fs (map view c.values)
 open_as Object fs c = object_frame fs (entries_so_far c) (last_key c.keys)
 
 abbrev pub open_in : Frames → Container → Frames
-open_in fs c = open_as c.bracket fs c
+open_in fs c = open_as c.kind fs c
 
 abbrev pub frames_in : List Container → Frames
 frames_in [] = no_frames
@@ -55,42 +55,42 @@ abbrev pub frames_here : OpenContainers → Frames
 frames_here s = open_in (frames_around s) s.innermost
 
 -- what the container means if it ends here
-abbrev pub whole_as : Bracket → Container → Value
+abbrev pub whole_as : ContainerKind → Container → Value
 whole_as Array c = array (values_of (map view c.values))
 whole_as Object c = object (pairs_of (entries_so_far c))
 
 abbrev pub whole : Container → Value
-whole c = whole_as c.bracket c
+whole c = whole_as c.kind c
 
 -- before an element or a key of the container, inside of fs
-abbrev pub before_item_as : Bracket → Frames → Container → State
+abbrev pub before_item_as : ContainerKind → Frames → Container → State
 before_item_as Array fs c = before (array_frame fs (map view c.values))
 before_item_as Object fs c = before_key fs (entries_so_far c)
 
 abbrev pub before_item : OpenContainers → State
-before_item s = before_item_as s.innermost.bracket (frames_around s) s.innermost
+before_item s = before_item_as s.innermost.kind (frames_around s) s.innermost
 
 -- no key is without its value
-abbrev pub IsEven : Bracket → Container → Type 0
+abbrev pub IsEven : ContainerKind → Container → Type 0
 IsEven Array c = c.keys ≡ []
 IsEven Object c = length c.keys ≡ length c.values
 
 -- the last key of an object is without its value
-abbrev pub AwaitsValue : Bracket → Container → Type 0
+abbrev pub AwaitsValue : ContainerKind → Container → Type 0
 AwaitsValue Array c = c.keys ≡ []
 AwaitsValue Object c = length c.keys ≡ length c.values + 1
 
 abbrev pub with_value : Container → JsonValue → Container
-with_value c v = record { bracket = c.bracket; keys = c.keys; values = c.values ++ v ∷ [] }
+with_value c v = record { kind = c.kind; keys = c.keys; values = c.values ++ v ∷ [] }
 
-abbrev pub new_container : Bracket → Container
-new_container b = record { bracket = b; keys = []; values = [] }
+abbrev pub new_container : ContainerKind → Container
+new_container b = record { kind = b; keys = []; values = [] }
 
 abbrev pub value_added : OpenContainers → JsonValue → OpenContainers
 value_added s v = record { strict = s.strict; innermost = with_value s.innermost v; around = s.around }
 
 -- with one more container opened inside of the innermost one
-abbrev pub container_added : OpenContainers → Bracket → OpenContainers
+abbrev pub container_added : OpenContainers → ContainerKind → OpenContainers
 container_added s b =
     record { strict = s.strict; innermost = new_container b; around = s.innermost ∷ s.around }
 
@@ -99,7 +99,7 @@ abbrev pub key_added : OpenContainers → List ℕ → OpenContainers
 key_added s k = record {
   strict = s.strict;
   innermost = record {
-    bracket = s.innermost.bracket;
+    kind = s.innermost.kind;
     keys = s.innermost.keys ++ k ∷ [];
     values = s.innermost.values;
   };
@@ -109,31 +109,24 @@ key_added s k = record {
 -- with nothing in the innermost one
 abbrev pub innermost_ended : OpenContainers → OpenContainers
 innermost_ended s =
-    record { strict = s.strict; innermost = new_container s.innermost.bracket; around = s.around }
-
--- d is c with a new last key, k; entries of equal keys may have been merged
-pub record HasKeyNext (k : List ℕ) (c d : Container) : Type 0 where
-  pub bracket : d.bracket ≡ c.bracket
-  pub awaits : length d.keys ≡ length d.values + 1
-  pub entries : entries_so_far d ≡ entries_so_far c
-  pub key : last_key d.keys ≡ k
+    record { strict = s.strict; innermost = new_container s.innermost.kind; around = s.around }
 
 -- after items of the innermost container: it ended, or another one that isn't empty was opened in it
-abbrev pub after_items : OpenContainers → Option Bracket → State
+abbrev pub after_items : OpenContainers → Option ContainerKind → State
 after_items s None = after_value (frames_around s) (whole s.innermost)
 after_items s (Some b) = after_opener b (frames_here s)
 
 -- an element or a key comes next, in containers that the reading allows
 pub record IsBeforeItem (t : Cursor) (s : OpenContainers) : Type 0 where
-  pub even : IsEven s.innermost.bracket s.innermost
+  pub even : IsEven s.innermost.kind s.innermost
   pub room : length s.around < t.reading.depth
-  pub some : s.innermost.values ≡ [] → next_byte t ≢ closer s.innermost.bracket
+  pub some : s.innermost.values ≡ [] → next_byte t ≢ closer s.innermost.kind
 
 -- the innermost container ended, or the reading allows the one that was opened in it, in which something comes next
-abbrev pub IsAfterItems : Cursor → OpenContainers → Option Bracket → Type 0
-IsAfterItems t s None = IsEven s.innermost.bracket s.innermost
+abbrev pub IsAfterItems : Cursor → OpenContainers → Option ContainerKind → Type 0
+IsAfterItems t s None = IsEven s.innermost.kind s.innermost
 IsAfterItems t s (Some b) =
-    AwaitsValue s.innermost.bracket s.innermost × (length s.around + 1 < t.reading.depth) × (next_byte t ≢ closer b)
+    AwaitsValue s.innermost.kind s.innermost × (length s.around + 1 < t.reading.depth) × (next_byte t ≢ closer b)
 
 -- after a container that ended, of which `outermost` is the value if it was the outermost one
 abbrev pub after_end : OpenContainers → Option JsonValue → State
@@ -144,24 +137,22 @@ abbrev pub IsAfterEnd : Cursor → OpenContainers → Option JsonValue → Type 
 IsAfterEnd t s None = IsBeforeItem t s
 IsAfterEnd t s (Some v) = Unit {0}
 
+-- the value of the innermost container of s, which ended, was added to the one around it
+pub record IsAdded (s : OpenContainers) (value : JsonValue) (t : OpenContainers) : Type 0 where
+  pub outer : Container
+  pub rest : List Container
+  pub around : s.around ≡ outer ∷ rest
+  pub awaits : AwaitsValue outer.kind outer
+  pub closed : t ≡ record { strict = s.strict; innermost = with_value outer value; around = rest }
+
 -- the innermost container of s ended, and its value was added to the one around it
 pub record IsClosed (s t : OpenContainers) : Type 0 where
   pub value : JsonValue
   pub means : view value ≡ whole s.innermost
-  pub outer : Container
-  pub rest : List Container
-  pub around : s.around ≡ outer ∷ rest
-  pub awaits : AwaitsValue outer.bracket outer
-  pub closed : t ≡ record { strict = s.strict; innermost = with_value outer value; around = rest }
+  pub added : IsAdded s value t
 
 -- the containers around the innermost one, and its kind, are as before
 pub record KeepsAround (s t : OpenContainers) : Type 0 where
   pub strict : t.strict ≡ s.strict
-  pub bracket : t.innermost.bracket ≡ s.innermost.bracket
+  pub kind : t.innermost.kind ≡ s.innermost.kind
   pub around : t.around ≡ s.around
-
--- entries of equal keys of the innermost object may have been merged
-pub record IsMerged (s t : OpenContainers) : Type 0 where
-  pub around : KeepsAround s t
-  pub even : IsEven Object t.innermost
-  pub entries : entries_so_far t.innermost ≡ entries_so_far s.innermost

@@ -1,4 +1,4 @@
--- Where a text isn't read on, and the error that says so.
+-- Why the parser stops before the end of a text, and the error that is returned for it.
 use Rattle.std.specs.Prelude.{ℕ, List, [], ◌∷◌, ⊤, take, drop, chars}
 use Rattle.std.specs.Str.{IsCharBoundary}
 use Rattle.jzon_base.specs.declared.error.Error.{Error}
@@ -8,18 +8,19 @@ use Rattle.jzon.specs.Fault.{line, column}
 use Rattle.jzon.specs.declared.fault.Stop.{Stop}
 use Rattle.jzon.specs.declared.fault.Stop.TheVariants.{Memory, Limit, Surrogates, At, Duplicate}
 
--- its offset, if it has one, is that of a character or the end
+-- the offset of a stop, if it has one, is that of a character or of the end of the text
 abbrev pub IsAtBoundary : List ℕ → Stop → Type 0
 IsAtBoundary bytes (At i) = IsCharBoundary bytes i
 IsAtBoundary bytes (Duplicate i) = IsCharBoundary bytes i
 IsAtBoundary bytes _ = ⊤
 
--- the error of a text that can't go on between the characters before and those after
+-- the error of a text that is valid as far as the characters `before`, but not with the character after them, or if it
+-- ends there
 abbrev pub error_between : List ℕ → List ℕ → Error
 error_between before [] = UnexpectedEndOfJson
 error_between before (c ∷ cs) = UnexpectedCharacter c (line before) (column before)
 
--- the error of a text that isn't read on for this reason
+-- the error that is returned if the parser stops for this reason
 abbrev pub reported_error : List ℕ → Stop → Error
 reported_error bytes Memory = OutOfMemory
 reported_error bytes Limit = ExceededDepthLimit

@@ -1,14 +1,11 @@
 -- An index of keys by hashes that the caller passes, whatever they are: runs of entries, each a hash and a position.
 use Rattle.std.specs.Prelude.{◌≡◌, ◌≢◌, ◌+◌, ◌-◌, ◌<◌, ◌≤◌, ℕ, true, List, [], ◌∷◌, ◌++◌, map, length, slice_index_or}
-use Rattle.std.specs.Prelude.{Option, None, Some}
 use Rattle.std.specs.List.{flat_map, All, IsDistinct}
 use Rattle.std.specs.List.Sorted.{IsPartitionPoint, IsPermutation, IsSorted}
 use Rattle.std.specs.Str.{bytes_eq}
-use Rattle.std.specs.declared.alloc.Global.{Global}
-use Rattle.std.specs.declared.boxed.Box.{Box}
 use Rattle.std.specs.declared.cmp.Ordering.TheVariants.{Less, Greater}
 use Rattle.jzon_base.specs.Private.Hash.{hash_of}
-use Rattle.jzon_base.specs.Private.Keys.{beside, entry_cmp}
+use Rattle.jzon_base.specs.Private.Keys.{compare_with, entry_cmp}
 
 -- each hash with its position, from n on
 unfoldable pub numbered : ℕ → List ℕ → List (ℕ × ℕ)
@@ -36,7 +33,7 @@ pub record AreHanded (hs : List ℕ) (ks : List (List ℕ)) (h : ℕ) (name : Li
 -- a run has no entry of this hash and name, and one belongs at this position
 pub record IsPlace (ks : List (List ℕ)) (h : ℕ) (name : List ℕ) (r : List (ℕ × ℕ)) (at : ℕ) : Type 0 where
   pub within : at ≤ length r
-  pub point : IsPartitionPoint (λ p. beside ks h name p ≡ Less) (λ p. beside ks h name p ≡ Greater) r at
+  pub point : IsPartitionPoint (λ p. compare_with ks h name p ≡ Less) (λ p. compare_with ks h name p ≡ Greater) r at
 
 -- the same of the last run
 abbrev pub IsSpot : List (List ℕ) → ℕ → List ℕ → List (List (ℕ × ℕ)) → ℕ → Type 0
@@ -62,8 +59,3 @@ pub record IsTable (ks : List (List ℕ)) (rs : List (List (ℕ × ℕ))) : Type
 pub record IsSpotFor (ks : List (List ℕ)) (rs : List (List (ℕ × ℕ))) (name : List ℕ) (h at : ℕ) : Type 0 where
   pub own : length (entries_of rs) ≢ 0 → h ≡ hash_of name
   pub spot : length (entries_of rs) ≢ 0 → IsSpot ks h name rs at
-
--- the index in a box, and none if there is no box
-abbrev pub runs_in : Option (Box (List (List (ℕ × ℕ))) Global) → List (List (ℕ × ℕ))
-runs_in None = []
-runs_in (Some b) = b.value

@@ -94,7 +94,7 @@ fn is_whole(mantissa: u64, exponent: i16, point: u16) -> bool
 }
 
 /// `mantissa * 10 ^ (exponent + point)`, truncated to an integer, if it fits.
-#[tactic(auto, using(crate::proofs::Scaled::over_rules))]
+#[tactic(auto, using(crate::proofs::Numbers::Scaling::over_rules))]
 fn whole_part(mantissa: u64, exponent: i16, point: u16) -> Option<u64>
     ensures { let n = whole_part mantissa (exponent +ℤ pos point) in SomeIff result (n < 2 ^ 64) n }
 {

@@ -107,7 +107,7 @@ impl<V> Contents<V> {
     /// Puts a value under a key: in its place where the key is there, which takes no memory, else
     /// last. The error is a failed allocation.
     #[inline(always)]
-    #[tactic(auto, using(crate::proofs::PairPlaces::places))]
+    #[tactic(auto, using(crate::proofs::Entries::PairPositions::places))]
     pub fn insert(&mut self, alloc: Global, name: &str, value: V) -> Result<(), AllocError>
     where
         V: Drop,
@@ -124,7 +124,7 @@ impl<V> Contents<V> {
 
     /// The position of a key. Where the key is missing it is put last with `value`, and the error
     /// is a failed allocation.
-    #[tactic(auto, using(crate::proofs::PairPlaces::places))]
+    #[tactic(auto, using(crate::proofs::Entries::PairPositions::places))]
     pub fn place(&mut self, alloc: Global, name: &str, value: V) -> Result<usize, AllocError>
     where
         V: Drop,

@@ -1,6 +1,6 @@
 //! Runs of bytes that need no escape (RFC 8259, section 7).
 
-ghost use Rattle.std.specs.Prelude.{◌≡◌, ◌+◌, ◌≤◌, drop, length, take, IsTrue};
+ghost use Rattle.std.specs.Prelude.{◌≡◌, ◌+◌, ◌<◌, ◌≤◌, drop, length, take, IsTrue};
 ghost use Rattle.std.specs.Int.{w64, trailing_zeros};
 ghost use Rattle.std.specs.List.{prefix_len};
 ghost use Rattle.jzon_base.specs.Private.PlainBytes.{is_plain};
@@ -10,24 +10,40 @@ use std::simd::prelude::*;
 /// The bytes of a block, which are compared at once.
 const BLOCK: usize = 32;
 
-/// The bytes of half a block. Most strings end within as many.
+/// The bytes of half a block.
 const HALF: usize = 16;
 
 /// The length of the longest prefix of bytes that a string of a text has unescaped: from 32 on, and
-/// neither a quote nor a backslash.
+/// neither a quote nor a backslash. Most strings end within half a block, which is compared here:
+/// for them no function is called.
+#[inline(always)]
 pub fn plain_len(bytes: &[u8]) -> usize
+    ensures { result ≡ prefix_len is_plain bytes.now }
+{
+    if bytes.len() < HALF {
+        return plain_in_few(bytes);
+    }
+    let plain = plain_in_lanes::<16>(bytes, 0);
+    if plain < HALF {
+        return plain;
+    }
+    plain_after_half(bytes)
+}
+
+/// The length of the plain prefix of fewer than `HALF` bytes.
+#[inline(never)]
+fn plain_in_few(bytes: &[u8]) -> usize
+    requires { length bytes.now < HALF }
     ensures { result ≡ prefix_len is_plain bytes.now }
 {
     match bytes.len() {
         0..=3 => plain_by_bytes(bytes),
         4..=7 => plain_by_ends::<4>(bytes),
-        8..=15 => plain_by_ends::<8>(bytes),
-        16..=31 => plain_by_ends::<16>(bytes),
-        _ => plain_by_blocks(bytes),
+        _ => plain_by_ends::<8>(bytes),
     }
 }
 
-/// The same length, found byte by byte.
+/// The length of the plain prefix, byte by byte.
 fn plain_by_bytes(bytes: &[u8]) -> usize
     ensures { result ≡ prefix_len is_plain bytes.now }
 {
@@ -37,8 +53,8 @@ fn plain_by_bytes(bytes: &[u8]) -> usize
         .count()
 }
 
-/// The same length, for `N` to `2 * N` bytes: the first `N` and the last `N` are compared, which
-/// may overlap.
+/// The length of the plain prefix of `N` to `2 * N` bytes: the first `N` and the last `N` are
+/// compared, which may overlap.
 #[inline(always)]
 fn plain_by_ends<const N: usize>(bytes: &[u8]) -> usize
     requires few { N ≤ 32 }
@@ -54,15 +70,16 @@ fn plain_by_ends<const N: usize>(bytes: &[u8]) -> usize
     last + plain_in_lanes::<N>(bytes, last)
 }
 
-/// The same length, for a block or more: in half a block, within which most strings end, and then
-/// block by block, of which the last may overlap the one before.
-fn plain_by_blocks(bytes: &[u8]) -> usize
-    requires { BLOCK ≤ length bytes.now }
+/// The length of the plain prefix, which has the first half of a block: block by block, of which the
+/// last may overlap the one before.
+#[inline(never)]
+fn plain_after_half(bytes: &[u8]) -> usize
+    requires { HALF ≤ prefix_len is_plain bytes.now }
     ensures { result ≡ prefix_len is_plain bytes.now }
 {
-    let plain = plain_in_lanes::<16>(bytes, 0);
-    if plain < HALF {
-        return plain;
+    if bytes.len() < BLOCK {
+        let last = bytes.len() - HALF;
+        return last + plain_in_lanes::<16>(bytes, last);
     }
     let last = bytes.len() - BLOCK;
     let mut start = HALF;
@@ -117,7 +134,7 @@ fn escapes_in_lanes<const N: usize>(bytes: &[u8], start: usize) -> u64
         ≡ prefix_len is_plain (take N (drop start bytes.now)) }
 {
     let lanes = Simd::<u8, N>::from_slice(&bytes[start..]);
-    // A quote is 34. Its bit 2 is turned over in all lanes, and then it is next to those below 32.
+    // `^ 2` makes a quote, 34, into 32, and keeps the bytes below 32 there: one comparison finds both.
     let low = (lanes ^ Simd::splat(2)).simd_lt(Simd::splat(33));
     let stops = low | lanes.simd_eq(Simd::splat(b'\\'));
     stops.to_bitmask()

@@ -1,6 +1,6 @@
 //! The text of a number (docs/RULES.md, "Printed numbers"; RFC 8259, section 6).
 
-ghost use Rattle.std.specs.Prelude.{◌≡◌, ◌+◌, ◌-◌, ◌≤◌, ◌<◌, ◌++◌, length, drop, replicate, decimal, IsAscii, IsTrue, false, OnOk, OnErr, vec_len, vec_capacity};
+ghost use Rattle.std.specs.Prelude.{◌≡◌, ◌+◌, ◌-◌, ◌≤◌, ◌<◌, ◌++◌, ◌∷◌, length, take, drop, replicate, decimal, IsAscii, IsTrue, false, OnOk, OnErr, vec_len, vec_capacity};
 ghost use Rattle.std.specs.Io.KnownBytes.{Appends};
 ghost use Rattle.arrayvec.specs.ArrayString.{array_string_len};
 ghost use Rattle.jzon_base.specs.NumberText.{sign_text, point_after, point_after_first, fraction_text, small_exponent_text, magnitude_text, number_text};
@@ -10,12 +10,17 @@ use crate::util::write_bytes;
 use arrayvec::ArrayString;
 use itoa::{Buffer, write_digits};
 use std::io::{self, Write};
+use std::simd::Simd;
 
 /// The most bytes in the text of a number.
 pub const MAX_LEN: usize = 29;
 
-/// The room that `push_digits` needs: two stores fill it; a sign, 20 digits and a point take 22.
-const DIGITS_ROOM: usize = 32;
+/// The most digits that `push_digits` adds after a point: they are moved at once.
+const PLACES: usize = 16;
+
+/// The room that `push_digits` needs: a sign, 19 digits, and the 17 bytes to which a point and the
+/// digits after it are moved. Three stores fill it.
+const DIGITS_ROOM: usize = 48;
 
 type NumberText = ArrayString<MAX_LEN>;
 
@@ -33,7 +38,7 @@ pub fn write<W: Write>(wr: &mut W, positive: bool, n: u64, exponent: i16) -> io:
 }
 
 /// Adds the text of the number if it is the mantissa's digits, with at most a minus before them and
-/// a point before the last 1 to 17, and there is room, and returns whether it did. Otherwise, and
+/// a point before the last 1 to 16, and there is room, and returns whether it did. Otherwise, and
 /// for 0, nothing is added.
 #[doc(hidden)]
 #[inline(always)]
@@ -43,7 +48,7 @@ pub fn push_digits(bytes: &mut Vec<u8>, positive: bool, mantissa: u64, exponent:
     ensures some { IsTrue result → 0 < mantissa }
     ensures left { result ≡ false → bytes.new.items ≡ bytes.old.items }
 {
-    let is_common = mantissa != 0 && exponent <= 0 && -17 <= exponent;
+    let is_common = mantissa != 0 && exponent <= 0 && -16 <= exponent;
     if !is_common || bytes.capacity() - bytes.len() < DIGITS_ROOM {
         return false;
     }
@@ -56,9 +61,10 @@ pub fn push_digits(bytes: &mut Vec<u8>, positive: bool, mantissa: u64, exponent:
 
 /// Adds the sign and the digits of a number, with a point before the last `places`, if a digit
 /// precedes it, and returns whether it did. Otherwise nothing is added.
+#[inline(always)]
 fn push_decimal(bytes: &mut Vec<u8>, positive: bool, n: u64, places: usize) -> bool
     requires some { 0 < n }
-    requires places { (0 < places) × (places ≤ 17) }
+    requires places { places ≤ 16 }
     requires reserved { vec_len bytes.old + DIGITS_ROOM ≤ vec_capacity bytes.old }
     ensures done { IsTrue result → bytes.new.items
         ≡ bytes.old.items ++ (sign_text positive ++ fraction_text (decimal n) places) }
@@ -67,23 +73,48 @@ fn push_decimal(bytes: &mut Vec<u8>, positive: bool, n: u64, places: usize) -> b
     if n.ilog10() as usize + 1 <= places {
         return false;
     }
-    let start = bytes.len() + usize::from(!positive) + 1;
-    push_after_minuses(bytes, usize::from(!positive) + 1, n);
-    let point = bytes.len() - places;
-    // The digits before the point are moved over the last minus.
-    bytes.copy_within(start..point, start - 1);
-    bytes[point - 1] = b'.';
+    let end = put_after_minuses(bytes, usize::from(!positive), n);
+    put_point(bytes.as_mut_slice(), end - places);
+    bytes.truncate(end + 1);
     true
 }
 
-/// Adds `minuses` minuses and the digits of `n`, which overwrite more minuses; the rest is
-/// truncated.
+/// Puts a point at the offset; the bytes from there on are moved by one, 16 of them.
+#[inline(always)]
+fn put_point(room: &mut [u8], point: usize)
+    requires { point + 17 ≤ length room.old }
+    ensures text { room.new ≡ take point room.old
+        ++ (46 ∷ (take 16 (drop point room.old) ++ drop (point + 17) room.old)) }
+    ensures len { length room.new ≡ length room.old }
+{
+    let places = Simd::<u8, PLACES>::from_slice(&room[point..]);
+    places.copy_to_slice(&mut room[point + 1..]);
+    room[point] = b'.';
+}
+
+/// Adds `minuses` minuses and the digits of `n`.
 #[inline(always)]
 fn push_after_minuses(bytes: &mut Vec<u8>, minuses: usize, n: u64)
     requires some { 0 < n }
-    requires minuses { minuses ≤ 2 }
+    requires minuses { minuses ≤ 1 }
     requires reserved { vec_len bytes.old + DIGITS_ROOM ≤ vec_capacity bytes.old }
     ensures { bytes.new.items ≡ bytes.old.items ++ (replicate minuses 45 ++ decimal n) }
+{
+    let end = put_after_minuses(bytes, minuses, n);
+    bytes.truncate(end);
+}
+
+/// Adds 48 bytes, of which the first are `minuses` minuses and the digits of `n`, and returns the
+/// offset after these digits.
+#[inline(always)]
+fn put_after_minuses(bytes: &mut Vec<u8>, minuses: usize, n: u64) -> usize
+    requires some { 0 < n }
+    requires minuses { minuses ≤ 1 }
+    requires reserved { vec_len bytes.old + DIGITS_ROOM ≤ vec_capacity bytes.old }
+    ensures len { vec_len bytes.new ≡ vec_len bytes.old + DIGITS_ROOM }
+    ensures end { result ≡ vec_len bytes.old + (minuses + length (decimal n)) }
+    ensures text { take result bytes.new.items
+        ≡ bytes.old.items ++ (replicate minuses 45 ++ decimal n) }
 {
     let start = bytes.len();
     let end = start + minuses + n.ilog10() as usize + 1;
@@ -91,7 +122,7 @@ fn push_after_minuses(bytes: &mut Vec<u8>, minuses: usize, n: u64)
         unreachable!()
     };
     write_digits(n, bytes.as_mut_slice(), end);
-    bytes.truncate(end);
+    end
 }
 
 /// Puts the text of the number `n * 10 ^ exponent` with its sign at the end of the buffer, and

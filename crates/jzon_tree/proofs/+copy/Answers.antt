@@ -2,7 +2,7 @@ use Rattle.jzon_base.proofs.Common.{◌∙◌, ap, map}
 use Rattle.jzon_tree.specs.Entries.{entries_of}
 use Rattle.jzon_tree.specs.Value.{object}
 use Rattle.jzon_tree.specs.View.{view}
-use Rattle.jzon_tree.proofs.Views.{view_pairs-zip}
+use Rattle.jzon_tree.proofs.Values.Views.{view_pairs-zip}
 use Rattle.jzon_tree.proofs.+copy.Goals as goal
 
 pub object::Object::clone-returns-clause-copy : goal.object::Object::clone-returns-clause-copy

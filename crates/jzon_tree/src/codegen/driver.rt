@@ -64,11 +64,12 @@ pub fn write_object<G: Generator>(g: &mut G, object: &Object) -> io::Result<()>
     }
 }
 
-/// Writes the value; the error of the hook that failed is in the slot. Inlined into the loops over
-/// elements and entries, so that only containers recurse.
+/// Writes the value by the generator's hooks. If a hook fails, its error is in the slot, and no
+/// other hook that writes is called. Inlined into the loops over elements and entries, so that only
+/// containers recurse.
 #[inline(always)]
 #[cycle(write_value)]
-#[tactic(auto, using(crate::proofs::Views::views))]
+#[tactic(auto, using(crate::proofs::Values::Views::views))]
 pub(crate) fn write_value<G: Generator>(
     g: &mut G,
     json: &JsonValue,
@@ -93,6 +94,8 @@ pub(crate) fn write_value<G: Generator>(
     }
 }
 
+/// Writes `[]`, or the brackets of an array and its elements between them, in an indent of their
+/// own.
 #[cycle(write_value)]
 #[inline(never)]
 fn write_array<G: Generator>(g: &mut G, items: &[JsonValue], slot: &mut ErrorSlot) -> SlotResult<()>
@@ -126,6 +129,8 @@ fn write_items<G: Generator>(g: &mut G, items: &[JsonValue], slot: &mut ErrorSlo
     Ok(())
 }
 
+/// Asks for the order of the entries. Then writes `{}`, or the brackets of an object and its entries
+/// between them, in an indent of their own.
 #[cycle(write_value)]
 #[inline(never)]
 pub(crate) fn write_pairs<G: Generator>(
@@ -184,6 +189,7 @@ fn position_of(order: &Option<Vec<usize>>, index: usize, count: usize) -> usize
     }
 }
 
+/// Writes an entry: the key with its colon, and the value.
 #[cycle(write_value)]
 fn write_pair<G: Generator>(
     g: &mut G,

@@ -1,6 +1,6 @@
 //! Keeps an 88-byte `io::Error` out of return values: it is stored in a slot, and a one-byte
 //! `Failed` is returned.
-#![tactic(auto, using(crate::proofs::Sent::sent))]
+#![tactic(auto, using(crate::proofs::Printing::Appends::sent))]
 
 ghost use Rattle.std.specs.Prelude.{◌≡◌, ◌≤◌, Some, Ok, IfErr, IsErr, IsSome, OnOk, OnErr, MatchResult, length, drop};
 ghost use Rattle.jzon_tree.specs.Generator.{Sends, Just};

@@ -234,7 +234,8 @@ pub trait Generator {
         store(self.write_string(string), slot)
     }
 
-    /// `write_string` and `write_min`, as `write_json` calls them for a key and its colon.
+    /// Adds a key in quotes and its colon, by `write_string` and `write_min`. It is one call, so that
+    /// a generator into memory can add both at once. An error is stored in the slot.
     #[doc(hidden)]
     fn try_write_key(&mut self, key: &str, slot: &mut ErrorSlot) -> SlotResult<()>
         ensures bytes { Emits (IsKey (meaning self.old).style key.now) (meaning self.old)

@@ -24,7 +24,7 @@ pub(super) fn send_number<W: Write>(
 }
 
 /// For an outlet's `put_number`: adds the text of the number if it is the mantissa's digits, with
-/// at most a minus before them and a point before the last 1 to 17, and there is room for 32 bytes,
+/// at most a minus before them and a point before the last 1 to 16, and there is room for 48 bytes,
 /// and returns whether it did. Otherwise, and for 0 and NaN, nothing is added.
 #[inline(always)]
 pub fn push_digits(bytes: &mut Vec<u8>, number: &Number) -> bool

@@ -1,4 +1,4 @@
-//! Where a `TextGenerator` writes (docs/RULES.md, "Generators").
+//! Where a `TextGenerator` writes (docs/GENERATORS.md, "Layouts of one's own").
 
 ghost use Rattle.std.specs.Prelude.{◌≡◌, ◌++◌, ◌∷◌, ℕ, List, Option, None, Some, IsTrue, false, refl, replicate, IfOk, OnErr};
 ghost use Rattle.std.specs.Borrow.{GName, sem, Lends};
@@ -59,7 +59,7 @@ pub trait Outlet: Write {
 }
 
 /// Where a `TextGenerator` writes: memory of its own, a borrowed writer, or a borrowed outlet.
-pub trait Place {
+pub trait Destination {
     /// The writer.
     type T: Write;
 
@@ -88,7 +88,7 @@ pub trait Place {
         false
     }
 
-    /// The same for a key and its colon, with a space if `wide`.
+    /// Adds the key in quotes, escaped, with its colon and, if `wide`, a space, or nothing.
     #[inline(always)]
     fn put_key(&mut self, key: &[u8], wide: bool) -> bool
         ensures done { IsTrue result → Adds (Just (quoted key.now ++ colon_text wide))
@@ -146,7 +146,7 @@ pub struct Memory {
     pub(super) bytes: Vec<u8>,
 }
 
-impl Place for Memory {
+impl Destination for Memory {
     type T = Vec<u8>;
 
     ghost out = { bytes_in };
@@ -196,7 +196,7 @@ impl Place for Memory {
 }
 
 /// A borrowed writer.
-impl<'a, W: Write> Place for &'a mut W {
+impl<'a, W: Write> Destination for &'a mut W {
     type T = W;
 
     ghost out = { λ o. W.contents o.now };
@@ -220,7 +220,7 @@ pub struct Through<'a, W> {
     pub(super) outlet: &'a mut W,
 }
 
-impl<'a, W: Outlet> Place for Through<'a, W> {
+impl<'a, W: Outlet> Destination for Through<'a, W> {
     type T = W;
 
     ghost out = { λ p. W.Write.contents p.outlet.now };

@@ -56,7 +56,7 @@ pub(super) fn send_string<W: Write>(
 pub fn push_short(bytes: &mut Vec<u8>, string: &[u8]) -> bool
     ensures done { IsTrue result → bytes.new.items ≡ bytes.old.items ++ quoted string.now }
     ensures left { result ≡ false → bytes.new.items ≡ bytes.old.items }
-    ensures len { vec_len bytes.new ≤ vec_len bytes.old + BY_ENDS_ROOM }
+    ensures len { vec_len bytes.new ≤ vec_len bytes.old + 34 }
     ensures capacity { vec_capacity bytes.old ≤ vec_capacity bytes.new }
 {
     let start = bytes.len();
@@ -95,8 +95,8 @@ fn put_if_plain(bytes: &mut [u8], offset: usize, string: &[u8]) -> bool
     }
 }
 
-/// The same, for `N` to `2 * N` bytes: the first `N` and the last `N`, which may overlap. `M` is
-/// `2 * N`.
+/// Puts a string of `N` to `2 * N` bytes if it needs no escape: the first `N` and the last `N`,
+/// which may overlap. `M` is `2 * N`.
 #[inline(always)]
 fn put_ends<const N: usize, const M: usize>(bytes: &mut [u8], at: usize, string: &[u8]) -> bool
     requires lanes { (M ≤ 32) × (M ≡ N + N) }

@@ -3,6 +3,7 @@
 
 ghost use Rattle.std.specs.Prelude.{◌≡◌, [], Ok, None, Some, IsSome, IsTrue, IsUtf8, IfErr, IfOk, MatchResult, OnErr, string_bytes};
 ghost use Rattle.std.specs.IoError.{error_kind};
+ghost use Rattle.jzon_base.specs.NumberText.{written_text};
 ghost use Rattle.jzon_base.specs.PairList.{keys_of};
 ghost use Rattle.jzon_tree.specs.Entries.{entries_of};
 ghost use Rattle.jzon_tree.specs.Generator.{Added, Failed, Counts, Emits, Just, IsAnswer};
@@ -14,7 +15,7 @@ use crate::codegen::error_slot::{ErrorSlot, SlotResult, send, store, take_result
 use crate::codegen::generator::Generator;
 use crate::codegen::layout::{Compact, Layout, Pretty, send_line};
 use crate::codegen::numbers::send_number;
-use crate::codegen::outlet::{Memory, Outlet, Place, Through};
+use crate::codegen::outlet::{Destination, Memory, Outlet, Through};
 use crate::codegen::strings::send_string;
 use crate::object::Object;
 use jzon_base::error::{Error, Result};
@@ -28,14 +29,14 @@ const FIRST_ROOM: usize = 1024;
 /// Writes text in a layout, to memory, a writer or an outlet. `in_memory` and `to_writer` make one;
 /// `consume` returns the text that is in memory.
 #[derive(Debug, Drop)]
-pub struct TextGenerator<P: Place, L: Layout> {
+pub struct TextGenerator<P: Destination, L: Layout> {
     pub(super) place: P,
     layout: L,
     dent: u64,
     faults: u64,
 }
 
-impl<P: Place, L: Layout> TextGenerator<P, L> {
+impl<P: Destination, L: Layout> TextGenerator<P, L> {
     /// A generator of this layout that adds to what was written there.
     pub(super) fn over(place: P, layout: L) -> TextGenerator<P, L>
         ensures { ⟦<TextGenerator<P, L> as Generator>⟧.meaning result
@@ -62,8 +63,8 @@ impl<P: Place, L: Layout> TextGenerator<P, L> {
         step
     }
 
-    /// Writes a string that isn't put at once. It is a function of its own so that
-    /// `try_write_string` saves no registers for a short string.
+    /// Writes a string that isn't put at once. It is a function of its own, so that no registers are
+    /// saved for a short string.
     #[inline(never)]
     fn write_long(&mut self, string: &str, slot: &mut ErrorSlot) -> SlotResult<()>
         ensures bytes { Emits (Just (quoted string.now)) (text_meaning P.out P.lender L.style self.old)
@@ -78,9 +79,36 @@ impl<P: Place, L: Layout> TextGenerator<P, L> {
         };
         self.count(step)
     }
+
+    /// Writes a number whose exponent isn't 0. It is a function of its own, so that
+    /// `try_write_number` saves no registers for an integer.
+    #[inline(never)]
+    fn write_decimal(&mut self, num: &Number, slot: &mut ErrorSlot) -> SlotResult<()>
+        ensures bytes { Emits (Just (written_text num.now))
+            (text_meaning P.out P.lender L.style self.old)
+            (text_meaning P.out P.lender L.style self.new) result }
+        ensures slot { OnErr result (IsSome slot.new) }
+    {
+        if self.place.put_number(num) {
+            return Ok(());
+        }
+        self.write_number_text(num, slot)
+    }
+
+    /// Writes a number that isn't put at once, in a function of its own as `write_decimal` is.
+    #[inline(never)]
+    fn write_number_text(&mut self, num: &Number, slot: &mut ErrorSlot) -> SlotResult<()>
+        ensures bytes { Emits (Just (written_text num.now))
+            (text_meaning P.out P.lender L.style self.old)
+            (text_meaning P.out P.lender L.style self.new) result }
+        ensures slot { OnErr result (IsSome slot.new) }
+    {
+        let step = send_number(self.place.writer(), num, slot);
+        self.count(step)
+    }
 }
 
-impl<P: Place, L: Layout> Generator for TextGenerator<P, L> {
+impl<P: Destination, L: Layout> Generator for TextGenerator<P, L> {
     type T = P::T;
 
     ghost meaning = { text_meaning P.out P.lender L.style };
@@ -170,6 +198,7 @@ impl<P: Place, L: Layout> Generator for TextGenerator<P, L> {
         self.count(step)
     }
 
+    #[inline(always)]
     fn try_write_string(&mut self, string: &str, slot: &mut ErrorSlot) -> SlotResult<()> {
         if self.place.put_string(string.as_bytes()) {
             return Ok(());
@@ -187,11 +216,13 @@ impl<P: Place, L: Layout> Generator for TextGenerator<P, L> {
     }
 
     fn try_write_number(&mut self, num: &Number, slot: &mut ErrorSlot) -> SlotResult<()> {
+        if num.as_parts().2 != 0 {
+            return self.write_decimal(num, slot);
+        }
         if self.place.put_number(num) {
             return Ok(());
         }
-        let step = send_number(self.place.writer(), num, slot);
-        self.count(step)
+        self.write_number_text(num, slot)
     }
 
     #[inline(always)]
@@ -253,8 +284,8 @@ impl<L: Layout> TextGenerator<Memory, L> {
 }
 
 impl<L: Layout + Drop> TextGenerator<Memory, L> {
-    /// The same with room for 1,024 bytes, so that a small text needs one allocation. The error is
-    /// a failed one.
+    /// A generator of this layout that has written nothing, with room for 1,024 bytes, so that a
+    /// small text needs one allocation. The error is a failed one.
     pub(crate) fn with_room(
         alloc: Global,
         layout: L,
@@ -332,7 +363,8 @@ impl<'a, W: Outlet, L: Layout> TextGenerator<Through<'a, W>, L> {
         TextGenerator::over(Through { outlet }, layout)
     }
 
-    /// The outlet.
+    /// Ends the generator and returns its outlet: a caller's clause can then speak of the bytes that
+    /// the outlet has.
     pub(crate) fn into_outlet(self) -> &'a mut W
     where
         L: Drop,

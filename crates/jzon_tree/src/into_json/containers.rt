@@ -16,7 +16,7 @@ impl IntoJson for Object {
 
     ghost is_free = { λ _. ⊤ };
 
-    #[tactic(auto, using(crate::proofs::Views::views))]
+    #[tactic(auto, using(crate::proofs::Values::Views::views))]
     fn into_json(self, _alloc: Global) -> Result<JsonValue> {
         Ok(JsonValue::Object(self))
     }

@@ -112,7 +112,7 @@ pub trait Tree {
 
     /// The element of an array for an index, which is added if it is missing. Fails only with
     /// `OutOfMemory`, and then the value means what it meant.
-    #[tactic(auto, using(crate::proofs::Places::place_is))]
+    #[tactic(auto, using(crate::proofs::Values::LentPositions::place_is))]
     final fn at_index_in(&mut self, alloc: Global, index: usize) -> Result<&mut Self::Node>
         ensures* writes_back { sem 𝓛 (LendsSoOk Self.row Self.Node.row self.entry result
             (λ n w. items n ≡ Some (slice_set (with_place null (items self.old) index)

@@ -1,5 +1,5 @@
 //! Writes into a value, by calls whose contracts say what the value is afterwards.
-#![tactic(auto, using(crate::proofs::WrittenViews::written))]
+#![tactic(auto, using(crate::proofs::Values::WriteViews::written))]
 
 ghost use Rattle.std.specs.Prelude.{◌≡◌, ◌≤◌, length, slice_set, IfSome, OnOk, OnErr, IsOkUnless, MatchOption, is_some, None, Some, true, false};
 ghost use Rattle.jzon_base.specs.PairList.{find, put};

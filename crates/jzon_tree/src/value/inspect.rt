@@ -70,7 +70,7 @@ pub fn is_readable(value: &JsonValue, depth: u16) -> bool
 
 /// Inspects all parts of the value.
 #[cycle(inspect)]
-#[tactic(auto, using(crate::proofs::Views::views))]
+#[tactic(auto, using(crate::proofs::Values::Views::views))]
 pub(crate) fn inspect(value: &JsonValue) -> Inspection
     ensures { IsInspected (view value.now) result.has_nan result.nest }
 {

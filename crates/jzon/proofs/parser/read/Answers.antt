@@ -6,9 +6,9 @@ use Rattle.jzon.specs.Private.Brackets.{opener, empty_container, after_opener}
 use Rattle.jzon.specs.Private.Cursor.{left, next_byte}
 use Rattle.jzon.specs.Private.Machine.{no_frames, before, after_value, from, Reads}
 use Rattle.jzon.specs.Private.OpenContainers.{before_item}
-use Rattle.jzon.specs.Private.Places.{MayBegin}
-use Rattle.jzon.specs.declared.cursor.Bracket.{Bracket}
-use Rattle.jzon.specs.declared.cursor.Bracket.TheVariants.{Array, Object}
+use Rattle.jzon.specs.Private.Targets.{MayBegin}
+use Rattle.jzon.specs.declared.cursor.ContainerKind.{ContainerKind}
+use Rattle.jzon.specs.declared.cursor.ContainerKind.TheVariants.{Array, Object}
 use Rattle.jzon.specs.declared.cursor.Cursor.{Cursor}
 use Rattle.jzon.specs.declared.fault.Stop.TheVariants.{Memory}
 use Rattle.jzon.proofs.Containers.FrameViews.{byte_within}
@@ -17,7 +17,7 @@ use Rattle.jzon.proofs.Texts.Cursors.{utf8_of, token_goes, reads_from}
 use Rattle.jzon.proofs.Texts.ReportedErrors.{has_character}
 use Rattle.jzon.proofs.parser.read.Goals as goal
 
-takes_memory : (t : Cursor) (b : Bracket) → next_byte t ≡ opener b → TakesMemory (chars t.source.now)
+takes_memory : (t : Cursor) (b : ContainerKind) → next_byte t ≡ opener b → TakesMemory (chars t.source.now)
 takes_memory t Array e =
     inr (inl (has_character t.source.now t.index 91 (utf8_of t) (byte_within t.source.now t.index 91 e (lit< tt)) e
     (lit< tt)))
@@ -86,22 +86,22 @@ returns-then-branch-clause-outcome c =
     reads_from _ _ u (after_value no_frames (view c.empty.result)) c.expect_end-then-branch.result
     (read.0.text ∙ past.text)
     (past.same (before no_frames) refl ∙ read.1
-    ∙ ap (λ b. left u (cond b (after_value no_frames (empty_container c.in-Some.bracket))
-    (after_opener c.in-Some.bracket no_frames))) c.if-branch.true
+    ∙ ap (λ b. left u (cond b (after_value no_frames (empty_container c.in-Some.kind))
+    (after_opener c.in-Some.kind no_frames))) c.if-branch.true
     ∙ ap (λ w. left u (after_value no_frames w)) (sym c.empty.ensures))
     c.expect_end-then-branch.ensures.outcome
 
 pub returns-in_err-stacks-clause-memory : goal.returns-in_err-stacks-clause-memory
 returns-in_err-stacks-clause-memory c e =
     subst (λ bs. TakesMemory (chars bs)) c.new-cursor.ensures.text
-    (takes_memory c.new-cursor.result c.in-Some.bracket (sym c.peek-first.ensures ∙ c.in-Some.ensures))
+    (takes_memory c.new-cursor.result c.in-Some.kind (sym c.peek-first.ensures ∙ c.in-Some.ensures))
 
 pub returns-clause-outcome : goal.returns-clause-outcome
 returns-clause-outcome c =
     let u = c.open_container.new.self in
     let past = c.new-cursor.ensures in
     let read = c.in_ok-open_container.ensures.outcome no_frames refl refl in
-    let b = c.in-Some.bracket in
+    let b = c.in-Some.kind in
     reads_from _ _ u (before_item c.in_ok-stacks.stacks) c.read_to_end.result
     (read.0.text ∙ past.text)
     (past.same (before no_frames) refl ∙ read.1
@@ -112,4 +112,4 @@ returns-clause-outcome c =
 pub returns-clause-memory : goal.returns-clause-memory
 returns-clause-memory c e =
     subst (λ bs. TakesMemory (chars bs)) c.new-cursor.ensures.text
-    (takes_memory c.new-cursor.result c.in-Some.bracket (sym c.peek-first.ensures ∙ c.in-Some.ensures))
+    (takes_memory c.new-cursor.result c.in-Some.kind (sym c.peek-first.ensures ∙ c.in-Some.ensures))

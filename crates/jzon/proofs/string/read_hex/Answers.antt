@@ -1,72 +1,148 @@
-use Rattle.jzon_base.proofs.Common.{◌≡◌, ◌<◌, ℕ, true, ◌+◌, ◌*◌, ◌∙◌, ap, refl, sym, subst, arith, nat_tests}
-use Rattle.jzon_base.proofs.Common.{is_ascii_hexdigit, digit_value}
-use Rattle.jzon.specs.Private.Machine.{Reports}
-use Rattle.jzon.proofs.Containers.FrameViews.{byte_within}
-use Rattle.jzon.proofs.Strings.HexDigits.{HexRead, hex_is_below_16, code_reads, second_code_reads, hex_begun, hex_more}
-use Rattle.jzon.proofs.Strings.HexDigits.{hex_stops, hex_end, hex_small, hex_spelled}
+use Rattle.jzon_base.proofs.Common.{◌+◌, ◌-◌, ◌∙◌, List, ℕ, ap, arith, drop, length, refl, take, take_rest}
+use Rattle.jzon.proofs.Strings.HexDigits.{code_reads, second_code_reads, hex_at_once, hex_end, hex_small, hex_spelled}
 use Rattle.jzon.proofs.string.read_hex.Goals as goal
 
-pub loop-index-init : goal.loop-index-init
-loop-index-init c = hex_begun c.args.source.now c.args.start c.requires
+pub overflow_add-result : goal.overflow_add-result
+overflow_add-result c =
+    let rest : List ℕ = take (length c.as_bytes.result.now - c.args.start)
+    (drop c.args.start c.as_bytes.result.now) in
+    let read = hex_at_once c.args.source.now rest c.args.start c.in-Some-Some-Some-Some.a
+    c.in-Some-Some-Some-Some.b c.in-Some-Some-Some-Some.c c.in-Some-Some-Some-Some.d c.utf8.source c.requires
+    (ap (λ bs. take (length bs - c.args.start) (drop c.args.start bs)) c.as_bytes.ensures.value
+    ∙ take_rest c.args.source.now c.args.start)
+    (omega (arith, c.in-len4-up.len_at_least)) (rw c.in-Some-Some-Some-Some.is-0 at c.hex_value.ensures)
+    (rw c.in-Some-Some-Some-Some.is-1 at c.hex_value-in-len4-up.ensures)
+    (rw c.in-Some-Some-Some-Some.is-2 at c.hex_value-in-len4-up-2.ensures)
+    (rw c.in-Some-Some-Some-Some.is-3 at c.hex_value-in-len4-up-3.ensures) in
+    let small = hex_small c.args.source.now c.args.start (c.args.start + 4) _ read (omega arith) in
+    omega (arith, small)
 
-pub overflow_mul-unit : goal.overflow_mul-unit
-overflow_mul-unit c =
-    let small = hex_small c.args.source.now c.args.start c.loop-index.index c.loop-index.unit c.loop-index.invariant
-    (omega arith) in
-    omega arith
+pub overflow_mul-result-in-Some-Some-Some-Some : goal.overflow_mul-result-in-Some-Some-Some-Some
+overflow_mul-result-in-Some-Some-Some-Some c =
+    let rest : List ℕ = take (length c.as_bytes.result.now - c.args.start)
+    (drop c.args.start c.as_bytes.result.now) in
+    let read = hex_at_once c.args.source.now rest c.args.start c.in-Some-Some-Some-Some.a
+    c.in-Some-Some-Some-Some.b c.in-Some-Some-Some-Some.c c.in-Some-Some-Some-Some.d c.utf8.source c.requires
+    (ap (λ bs. take (length bs - c.args.start) (drop c.args.start bs)) c.as_bytes.ensures.value
+    ∙ take_rest c.args.source.now c.args.start)
+    (omega (arith, c.in-len4-up.len_at_least)) (rw c.in-Some-Some-Some-Some.is-0 at c.hex_value.ensures)
+    (rw c.in-Some-Some-Some-Some.is-1 at c.hex_value-in-len4-up.ensures)
+    (rw c.in-Some-Some-Some-Some.is-2 at c.hex_value-in-len4-up-2.ensures)
+    (rw c.in-Some-Some-Some-Some.is-3 at c.hex_value-in-len4-up-3.ensures) in
+    let small = hex_small c.args.source.now c.args.start (c.args.start + 4) _ read (omega arith) in
+    omega (arith, small)
 
-pub overflow_add-unit : goal.overflow_add-unit
-overflow_add-unit c =
-    let small = hex_small c.args.source.now c.args.start c.loop-index.index c.loop-index.unit c.loop-index.invariant
-    (omega arith) in
-    let digit = c.in-Some.ensures in
-    omega (arith, small, digit.1, hex_is_below_16 c.byte_at.result digit.0)
+pub overflow_add-result-in-Some-Some-Some-Some : goal.overflow_add-result-in-Some-Some-Some-Some
+overflow_add-result-in-Some-Some-Some-Some c =
+    let rest : List ℕ = take (length c.as_bytes.result.now - c.args.start)
+    (drop c.args.start c.as_bytes.result.now) in
+    let read = hex_at_once c.args.source.now rest c.args.start c.in-Some-Some-Some-Some.a
+    c.in-Some-Some-Some-Some.b c.in-Some-Some-Some-Some.c c.in-Some-Some-Some-Some.d c.utf8.source c.requires
+    (ap (λ bs. take (length bs - c.args.start) (drop c.args.start bs)) c.as_bytes.ensures.value
+    ∙ take_rest c.args.source.now c.args.start)
+    (omega (arith, c.in-len4-up.len_at_least)) (rw c.in-Some-Some-Some-Some.is-0 at c.hex_value.ensures)
+    (rw c.in-Some-Some-Some-Some.is-1 at c.hex_value-in-len4-up.ensures)
+    (rw c.in-Some-Some-Some-Some.is-2 at c.hex_value-in-len4-up-2.ensures)
+    (rw c.in-Some-Some-Some-Some.is-3 at c.hex_value-in-len4-up-3.ensures) in
+    let small = hex_small c.args.source.now c.args.start (c.args.start + 4) _ read (omega arith) in
+    omega (arith, small)
 
-hex_is_some : (b : ℕ) → is_ascii_hexdigit b ≡ true → 0 < b
-hex_is_some b h = grind (arith, nat_tests)
+pub overflow_mul-result-in-Some-Some-Some-Some-2 : goal.overflow_mul-result-in-Some-Some-Some-Some-2
+overflow_mul-result-in-Some-Some-Some-Some-2 c =
+    let rest : List ℕ = take (length c.as_bytes.result.now - c.args.start)
+    (drop c.args.start c.as_bytes.result.now) in
+    let read = hex_at_once c.args.source.now rest c.args.start c.in-Some-Some-Some-Some.a
+    c.in-Some-Some-Some-Some.b c.in-Some-Some-Some-Some.c c.in-Some-Some-Some-Some.d c.utf8.source c.requires
+    (ap (λ bs. take (length bs - c.args.start) (drop c.args.start bs)) c.as_bytes.ensures.value
+    ∙ take_rest c.args.source.now c.args.start)
+    (omega (arith, c.in-len4-up.len_at_least)) (rw c.in-Some-Some-Some-Some.is-0 at c.hex_value.ensures)
+    (rw c.in-Some-Some-Some-Some.is-1 at c.hex_value-in-len4-up.ensures)
+    (rw c.in-Some-Some-Some-Some.is-2 at c.hex_value-in-len4-up-2.ensures)
+    (rw c.in-Some-Some-Some-Some.is-3 at c.hex_value-in-len4-up-3.ensures) in
+    let small = hex_small c.args.source.now c.args.start (c.args.start + 4) _ read (omega arith) in
+    omega (arith, small)
 
-pub loop-index-preserved : goal.loop-index-preserved
-loop-index-preserved c =
-    let digit = c.in-Some.ensures in
-    let here = subst (λ b. is_ascii_hexdigit b ≡ true) c.byte_at.ensures digit.0 in
-    subst (HexRead c.args.source.now c.args.start (c.loop-index.index + 1))
-    (ap (λ d. c.loop-index.unit * 16 + d) (sym (digit.1 ∙ ap digit_value c.byte_at.ensures)))
-    (hex_more c.args.source.now c.args.start c.loop-index.index c.loop-index.unit c.loop-index.invariant c.utf8.source
-    c.loop-index.auto.index c.loop-index-test.true
-    (byte_within c.args.source.now c.loop-index.index _ refl (hex_is_some _ here)) here)
+pub overflow_add-result-in-Some-Some-Some-Some-2 : goal.overflow_add-result-in-Some-Some-Some-Some-2
+overflow_add-result-in-Some-Some-Some-Some-2 c =
+    let rest : List ℕ = take (length c.as_bytes.result.now - c.args.start)
+    (drop c.args.start c.as_bytes.result.now) in
+    let read = hex_at_once c.args.source.now rest c.args.start c.in-Some-Some-Some-Some.a
+    c.in-Some-Some-Some-Some.b c.in-Some-Some-Some-Some.c c.in-Some-Some-Some-Some.d c.utf8.source c.requires
+    (ap (λ bs. take (length bs - c.args.start) (drop c.args.start bs)) c.as_bytes.ensures.value
+    ∙ take_rest c.args.source.now c.args.start)
+    (omega (arith, c.in-len4-up.len_at_least)) (rw c.in-Some-Some-Some-Some.is-0 at c.hex_value.ensures)
+    (rw c.in-Some-Some-Some-Some.is-1 at c.hex_value-in-len4-up.ensures)
+    (rw c.in-Some-Some-Some-Some.is-2 at c.hex_value-in-len4-up-2.ensures)
+    (rw c.in-Some-Some-Some-Some.is-3 at c.hex_value-in-len4-up-3.ensures) in
+    let small = hex_small c.args.source.now c.args.start (c.args.start + 4) _ read (omega arith) in
+    omega (arith, small)
 
-pub returns-in-None-clause-first : goal.returns-in-None-clause-first
-returns-in-None-clause-first c r role bs =
-    subst (Reports c.args.source.now c.fault_at.result)
-    (sym (hex_stops r c.args.source.now c.args.start c.loop-index.index c.loop-index.unit _ _ c.loop-index.invariant
-    (code_reads r role bs)
-    c.utf8.source c.loop-index.auto.index c.loop-index-test.true
-    (λ h. c.in-None.ensures (subst (λ b. is_ascii_hexdigit b ≡ true) (sym c.byte_at.ensures) h.1))))
-    c.fault_at.ensures
+pub returns-in-Some-Some-Some-Some-clause-value : goal.returns-in-Some-Some-Some-Some-clause-value
+returns-in-Some-Some-Some-Some-clause-value c =
+    let rest : List ℕ = take (length c.as_bytes.result.now - c.args.start)
+    (drop c.args.start c.as_bytes.result.now) in
+    let read = hex_at_once c.args.source.now rest c.args.start c.in-Some-Some-Some-Some.a
+    c.in-Some-Some-Some-Some.b c.in-Some-Some-Some-Some.c c.in-Some-Some-Some-Some.d c.utf8.source c.requires
+    (ap (λ bs. take (length bs - c.args.start) (drop c.args.start bs)) c.as_bytes.ensures.value
+    ∙ take_rest c.args.source.now c.args.start)
+    (omega (arith, c.in-len4-up.len_at_least)) (rw c.in-Some-Some-Some-Some.is-0 at c.hex_value.ensures)
+    (rw c.in-Some-Some-Some-Some.is-1 at c.hex_value-in-len4-up.ensures)
+    (rw c.in-Some-Some-Some-Some.is-2 at c.hex_value-in-len4-up-2.ensures)
+    (rw c.in-Some-Some-Some-Some.is-3 at c.hex_value-in-len4-up-3.ensures) in
+    hex_spelled c.args.source.now c.args.start (c.args.start + 4) _ read refl
 
-pub returns-in-None-clause-second : goal.returns-in-None-clause-second
-returns-in-None-clause-second c r role bs h =
-    subst (Reports c.args.source.now c.fault_at.result)
-    (sym (hex_stops r c.args.source.now c.args.start c.loop-index.index c.loop-index.unit _ _ c.loop-index.invariant
-    (second_code_reads r role bs h)
-    c.utf8.source c.loop-index.auto.index c.loop-index-test.true
-    (λ h. c.in-None.ensures (subst (λ b. is_ascii_hexdigit b ≡ true) (sym c.byte_at.ensures) h.1))))
-    c.fault_at.ensures
+pub returns-in-Some-Some-Some-Some-clause-small : goal.returns-in-Some-Some-Some-Some-clause-small
+returns-in-Some-Some-Some-Some-clause-small c =
+    let rest : List ℕ = take (length c.as_bytes.result.now - c.args.start)
+    (drop c.args.start c.as_bytes.result.now) in
+    let read = hex_at_once c.args.source.now rest c.args.start c.in-Some-Some-Some-Some.a
+    c.in-Some-Some-Some-Some.b c.in-Some-Some-Some-Some.c c.in-Some-Some-Some-Some.d c.utf8.source c.requires
+    (ap (λ bs. take (length bs - c.args.start) (drop c.args.start bs)) c.as_bytes.ensures.value
+    ∙ take_rest c.args.source.now c.args.start)
+    (omega (arith, c.in-len4-up.len_at_least)) (rw c.in-Some-Some-Some-Some.is-0 at c.hex_value.ensures)
+    (rw c.in-Some-Some-Some-Some.is-1 at c.hex_value-in-len4-up.ensures)
+    (rw c.in-Some-Some-Some-Some.is-2 at c.hex_value-in-len4-up-2.ensures)
+    (rw c.in-Some-Some-Some-Some.is-3 at c.hex_value-in-len4-up-3.ensures) in
+    hex_small c.args.source.now c.args.start (c.args.start + 4) _ read (omega arith)
 
-pub returns-clause-value : goal.returns-clause-value
-returns-clause-value c = hex_spelled c.args.source.now c.args.start c.loop-index.index c.loop-index.unit
-    c.loop-index.invariant (omega arith)
+pub returns-in-Some-Some-Some-Some-clause-boundary : goal.returns-in-Some-Some-Some-Some-clause-boundary
+returns-in-Some-Some-Some-Some-clause-boundary c =
+    let rest : List ℕ = take (length c.as_bytes.result.now - c.args.start)
+    (drop c.args.start c.as_bytes.result.now) in
+    let read = hex_at_once c.args.source.now rest c.args.start c.in-Some-Some-Some-Some.a
+    c.in-Some-Some-Some-Some.b c.in-Some-Some-Some-Some.c c.in-Some-Some-Some-Some.d c.utf8.source c.requires
+    (ap (λ bs. take (length bs - c.args.start) (drop c.args.start bs)) c.as_bytes.ensures.value
+    ∙ take_rest c.args.source.now c.args.start)
+    (omega (arith, c.in-len4-up.len_at_least)) (rw c.in-Some-Some-Some-Some.is-0 at c.hex_value.ensures)
+    (rw c.in-Some-Some-Some-Some.is-1 at c.hex_value-in-len4-up.ensures)
+    (rw c.in-Some-Some-Some-Some.is-2 at c.hex_value-in-len4-up-2.ensures)
+    (rw c.in-Some-Some-Some-Some.is-3 at c.hex_value-in-len4-up-3.ensures) in
+    read.boundary
 
-pub returns-clause-small : goal.returns-clause-small
-returns-clause-small c = hex_small c.args.source.now c.args.start c.loop-index.index c.loop-index.unit
-    c.loop-index.invariant (omega arith)
+pub returns-in-Some-Some-Some-Some-clause-first : goal.returns-in-Some-Some-Some-Some-clause-first
+returns-in-Some-Some-Some-Some-clause-first c r role bs =
+    let rest : List ℕ = take (length c.as_bytes.result.now - c.args.start)
+    (drop c.args.start c.as_bytes.result.now) in
+    let read = hex_at_once c.args.source.now rest c.args.start c.in-Some-Some-Some-Some.a
+    c.in-Some-Some-Some-Some.b c.in-Some-Some-Some-Some.c c.in-Some-Some-Some-Some.d c.utf8.source c.requires
+    (ap (λ bs. take (length bs - c.args.start) (drop c.args.start bs)) c.as_bytes.ensures.value
+    ∙ take_rest c.args.source.now c.args.start)
+    (omega (arith, c.in-len4-up.len_at_least)) (rw c.in-Some-Some-Some-Some.is-0 at c.hex_value.ensures)
+    (rw c.in-Some-Some-Some-Some.is-1 at c.hex_value-in-len4-up.ensures)
+    (rw c.in-Some-Some-Some-Some.is-2 at c.hex_value-in-len4-up-2.ensures)
+    (rw c.in-Some-Some-Some-Some.is-3 at c.hex_value-in-len4-up-3.ensures) in
+    hex_end r c.args.source.now c.args.start (c.args.start + 4) _ _ _ read (code_reads r role bs) refl
 
-pub returns-clause-first : goal.returns-clause-first
-returns-clause-first c r role bs =
-    hex_end r c.args.source.now c.args.start c.loop-index.index c.loop-index.unit _ _ c.loop-index.invariant
-    (code_reads r role bs) (omega arith)
-
-pub returns-clause-second : goal.returns-clause-second
-returns-clause-second c r role bs h =
-    hex_end r c.args.source.now c.args.start c.loop-index.index c.loop-index.unit _ _ c.loop-index.invariant
-    (second_code_reads r role bs h) (omega arith)
+pub returns-in-Some-Some-Some-Some-clause-second : goal.returns-in-Some-Some-Some-Some-clause-second
+returns-in-Some-Some-Some-Some-clause-second c r role bs h =
+    let rest : List ℕ = take (length c.as_bytes.result.now - c.args.start)
+    (drop c.args.start c.as_bytes.result.now) in
+    let read = hex_at_once c.args.source.now rest c.args.start c.in-Some-Some-Some-Some.a
+    c.in-Some-Some-Some-Some.b c.in-Some-Some-Some-Some.c c.in-Some-Some-Some-Some.d c.utf8.source c.requires
+    (ap (λ bs. take (length bs - c.args.start) (drop c.args.start bs)) c.as_bytes.ensures.value
+    ∙ take_rest c.args.source.now c.args.start)
+    (omega (arith, c.in-len4-up.len_at_least)) (rw c.in-Some-Some-Some-Some.is-0 at c.hex_value.ensures)
+    (rw c.in-Some-Some-Some-Some.is-1 at c.hex_value-in-len4-up.ensures)
+    (rw c.in-Some-Some-Some-Some.is-2 at c.hex_value-in-len4-up-2.ensures)
+    (rw c.in-Some-Some-Some-Some.is-3 at c.hex_value-in-len4-up-3.ensures) in
+    hex_end r c.args.source.now c.args.start (c.args.start + 4) _ _ _ read (second_code_reads r role bs h) refl

@@ -1,4 +1,4 @@
-use Rattle.jzon_base.proofs.Common.{◌≡◌, ◌∙◌, ap, arith, drop, length, ◌+◌, ◌≤◌, prefix_len}
+use Rattle.jzon_base.proofs.Common.{◌≡◌, ◌∙◌, ap, arith, drop, length, take, take_rest, ◌+◌, ◌-◌, ◌≤◌, prefix_len}
 use Rattle.jzon_tree.specs.Writing.{is_whitespace}
 use Rattle.jzon.specs.Private.Machine.{no_frames}
 use Rattle.jzon.proofs.Containers.ContainerSteps.{whitespace_skips}
@@ -8,8 +8,11 @@ use Rattle.jzon.proofs.whitespace.skip_whitespace.Goals as goal
 run : (c : goal.After-whitespace_length) → c.whitespace_length.result
     ≡ prefix_len (is_whitespace c.args.reading.strict) (drop c.args.start c.args.source.now)
 run c =
-    c.whitespace_length.ensures ∙ ap (λ t. prefix_len (is_whitespace t) c.range_from.result.now) c.strict.ensures
-    ∙ ap (prefix_len (is_whitespace c.args.reading.strict)) c.range_from.ensures.value
+    c.whitespace_length.ensures ∙ ap (λ t. prefix_len (is_whitespace t)
+    (take (length c.as_bytes.result.now - c.args.start) (drop c.args.start c.as_bytes.result.now))) c.strict.ensures
+    ∙ ap (prefix_len (is_whitespace c.args.reading.strict))
+    (ap (λ bs. take (length bs - c.args.start) (drop c.args.start bs)) c.as_bytes.ensures.value
+    ∙ take_rest c.args.source.now c.args.start)
 
 pub overflow_add-result-2 : goal.overflow_add-result-2
 overflow_add-result-2 c =

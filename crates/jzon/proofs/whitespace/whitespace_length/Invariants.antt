@@ -1,10 +1,9 @@
-use Rattle.jzon_base.proofs.Common.{◌≡◌, ◌≤◌, ◌+◌, ◌-◌, drop, length, prefix_len}
+use Rattle.jzon_base.proofs.Common.{◌≤◌, ◌-◌, length, prefix_len}
 use Rattle.jzon_tree.specs.Writing.{is_whitespace}
 use Rattle.jzon.proofs.whitespace.whitespace_length.Given as goal
 
 abbrev pub invariant-loop-len : goal.invariant-loop-len
-invariant-loop-len l = (l.len ≤ length l.text)
-    × (prefix_len (is_whitespace l.strict) l.text ≡ l.len + prefix_len (is_whitespace l.strict) (drop l.len l.text))
+invariant-loop-len l = (l.len ≤ length l.bytes) × (l.len ≤ prefix_len (is_whitespace l.strict) l.bytes)
 
 abbrev pub decreases-loop-len : goal.decreases-loop-len
-decreases-loop-len l = length l.text - l.len
+decreases-loop-len l = length l.bytes - l.len

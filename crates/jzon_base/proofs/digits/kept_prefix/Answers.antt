@@ -1,7 +1,7 @@
 use Rattle.jzon_base.proofs.Common.{◌≡◌, ◌≤◌, ◌+◌, ◌∙◌, ◌++◌, take, length, length-append, arith, ap, sym, mod-eq_of_lt}
 use Rattle.jzon_base.proofs.Common.{take-append-le, take_all, All, All-append}
 use Rattle.jzon_base.specs.Digits.{digits_number, IsDigit, kept_len}
-use Rattle.jzon_base.proofs.Kept.{few_fit, few_kept, kept_len-within_whole, kept_len-past_whole, digits_number-take-append}
+use Rattle.jzon_base.proofs.Numbers.DigitPrefixes.{few_fit, few_kept, kept_len-within_whole, kept_len-past_whole, digits_number-take-append}
 use Rattle.jzon_base.proofs.digits.kept_prefix.Goals as goal
 
 pub returns-then-whole-fraction-le-ALWAYS_KEPT : goal.returns-then-whole-fraction-le-ALWAYS_KEPT

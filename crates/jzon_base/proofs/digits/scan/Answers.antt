@@ -1,5 +1,5 @@
 use Rattle.jzon_base.proofs.Common.{arith}
-use Rattle.jzon_base.proofs.Scanned.{number_more, number_rest, scanned_block}
+use Rattle.jzon_base.proofs.Numbers.DigitScans.{number_more, number_rest, scanned_block}
 use Rattle.jzon_base.proofs.digits.scan.Goals as goal
 
 pub returns-then-count-lt-EIGHT-clause-number : goal.returns-then-count-lt-EIGHT-clause-number

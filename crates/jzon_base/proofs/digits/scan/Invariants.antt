@@ -1,5 +1,5 @@
 use Rattle.jzon_base.proofs.Common.{◌-◌, length}
-use Rattle.jzon_base.proofs.Scanned.{HasScanned}
+use Rattle.jzon_base.proofs.Numbers.DigitScans.{HasScanned}
 use Rattle.jzon_base.proofs.digits.scan.Given as goal
 
 abbrev pub invariant-loop-len : goal.invariant-loop-len

@@ -1,6 +1,6 @@
 use Rattle.jzon_base.proofs.Common.{◌∙◌, map, sym, eqb-false, on_ok_weaker}
 use Rattle.jzon_base.specs.Private.Hash.{hash_of}
-use Rattle.jzon_base.proofs.Tables.{IsIndexOf-key}
+use Rattle.jzon_base.proofs.KeyIndex.Tables.{IsIndexOf-key}
 use Rattle.jzon_base.proofs.keys.add_entry.Goals as goal
 
 pub returns-clause-ok : goal.returns-clause-ok

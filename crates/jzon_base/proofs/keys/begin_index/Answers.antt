@@ -1,6 +1,6 @@
 use Rattle.jzon_base.proofs.Common.{map, on_ok_weaker}
 use Rattle.jzon_base.specs.Private.Hash.{hash_of}
-use Rattle.jzon_base.proofs.Tables.{AreHanded-own, IsIndexOf-key}
+use Rattle.jzon_base.proofs.KeyIndex.Tables.{AreHanded-own, IsIndexOf-key}
 use Rattle.jzon_base.proofs.keys.begin_index.Goals as goal
 
 pub search-requires-clause-handed : goal.search-requires-clause-handed

@@ -1,5 +1,5 @@
 use Rattle.jzon_base.proofs.Common.{zip}
-use Rattle.jzon_base.proofs.Merged.{IsMerging}
+use Rattle.jzon_base.proofs.Entries.Merges.{IsMerging}
 use Rattle.jzon_base.proofs.keys.put_each.Given as goal
 
 abbrev pub invariant-loop-at : goal.invariant-loop-at

@@ -1,6 +1,6 @@
 use Rattle.jzon_base.proofs.Common.{◌∙◌, map, sym, eqb-false}
 use Rattle.jzon_base.specs.Private.Hash.{hash_of}
-use Rattle.jzon_base.proofs.Tables.{AreHanded-own}
+use Rattle.jzon_base.proofs.KeyIndex.Tables.{AreHanded-own}
 use Rattle.jzon_base.proofs.keys.search.Goals as goal
 
 pub search-requires-clause-handed : goal.search-requires-clause-handed

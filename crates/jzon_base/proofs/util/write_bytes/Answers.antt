@@ -1,5 +1,5 @@
 use Rattle.jzon_base.proofs.Common.{common_steps, arith}
-use Rattle.jzon_base.proofs.Written.{Appends-more}
+use Rattle.jzon_base.proofs.Strings.WriterBytes.{Appends-more}
 use Rattle.jzon_base.proofs.util.write_bytes.Goals as goal
 
 pub loop-written-preserved : goal.loop-written-preserved

@@ -7,8 +7,8 @@ ghost use Rattle.jzon_base.specs.Private.Keys.{entry_cmp, hashed_from};
 
 use super::{Run, Runs};
 use crate::key::Key;
+use crate::keys::entries;
 use crate::keys::hash::hash_of;
-use crate::keys::order;
 
 /// Replaces entries by those of as many keys from a position on.
 fn put_hashed(entries: &mut [(u64, usize)], keys: &[Key], from: usize)
@@ -34,7 +34,7 @@ impl Run {
         self.entries.truncate(keys.len() - from);
         let end = from + self.entries.len();
         put_hashed(self.entries.as_mut_slice(), keys, from);
-        order::sort(keys, &mut self.entries);
+        entries::sort(keys, &mut self.entries);
         end
     }
 }

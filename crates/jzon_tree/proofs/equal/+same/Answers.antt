@@ -4,9 +4,9 @@ use Rattle.jzon_tree.specs.Entries.{entries_of}
 use Rattle.jzon_tree.specs.declared.value.JsonValue.{JsonValue}
 use Rattle.jzon_tree.specs.Same.{same, passes}
 use Rattle.jzon_tree.specs.View.{view}
-use Rattle.jzon_tree.proofs.Views.{view_found}
-use Rattle.jzon_tree.proofs.Compared.{lengths_differ, counts_differ, value_differs, compared_next, left_next}
-use Rattle.jzon_tree.proofs.Compared.{next_found, none_left, all_compared}
+use Rattle.jzon_tree.proofs.Values.Views.{view_found}
+use Rattle.jzon_tree.proofs.Values.Comparisons.{lengths_differ, counts_differ, value_differs, compared_next, left_next}
+use Rattle.jzon_tree.proofs.Values.Comparisons.{next_found, none_left, all_compared}
 use Rattle.jzon_tree.proofs.equal.+same.Goals as goal
 
 pub same_array-returns-then-items-others : goal.same_array-returns-then-items-others

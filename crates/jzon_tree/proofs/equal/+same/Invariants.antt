@@ -1,6 +1,6 @@
 use Rattle.jzon_base.proofs.Common.{◌≡◌, length, zip_first, zip_second, iter_rest}
 use Rattle.jzon_tree.specs.Entries.{entries_of}
-use Rattle.jzon_tree.proofs.Compared.{ComparedItems, ComparedPairs, LeftEntries}
+use Rattle.jzon_tree.proofs.Values.Comparisons.{ComparedItems, ComparedPairs, LeftEntries}
 use Rattle.jzon_tree.proofs.equal.+same.Given as goal
 
 abbrev pub invariant-same_array-loop-item : goal.invariant-same_array-loop-item

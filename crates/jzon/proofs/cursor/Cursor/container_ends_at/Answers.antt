@@ -14,7 +14,7 @@ go_to-requires c =
 
 pub returns-then-next-eq44 : goal.returns-then-next-eq44
 returns-then-next-eq44 c p fs v here before =
-    comma_goes c.args.bracket c.args.self.now c.go_to.new.self p c.args.end fs v here
+    comma_goes c.args.kind c.args.self.now c.go_to.new.self p c.args.end fs v here
     (record { boundary = c.requires.boundary; within = omega (arith, c.requires.further); same = before })
     c.go_to.ensures (sym c.byte_at-next.ensures ∙ c.if-next-eq44.true)
 
@@ -22,13 +22,13 @@ pub go_to-requires-then-next-closer : goal.go_to-requires-then-next-closer
 go_to-requires-then-next-closer c =
     let t = c.args.self.now in
     let is = sym c.byte_at-next.ensures ∙ c.if-next-closer.true ∙ c.closer.ensures in
-    let bounds = closer_bounds c.args.bracket in
+    let bounds = closer_bounds c.args.kind in
     IsCharBoundary-after_ascii t.source.now c.args.end (utf8_of t)
     (byte_within t.source.now c.args.end _ is bounds.0) (omega (arith, is, bounds.1))
 
 pub returns-then-next-closer : goal.returns-then-next-closer
 returns-then-next-closer c p fs v here before =
-    closes c.args.bracket c.args.self.now c.go_to-then-next-closer.new.self p c.args.end fs v here
+    closes c.args.kind c.args.self.now c.go_to-then-next-closer.new.self p c.args.end fs v here
     (record { boundary = c.requires.boundary; within = omega (arith, c.requires.further); same = before })
     c.go_to-then-next-closer.ensures (sym c.byte_at-next.ensures ∙ c.if-next-closer.true ∙ c.closer.ensures)
 

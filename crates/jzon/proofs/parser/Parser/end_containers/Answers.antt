@@ -28,53 +28,53 @@ returns-in_err-container_ends-clause-outcome c s o h =
     fails_on _ c.from_residual-in_err-container_ends.result _ c.from_residual-in_err-container_ends.ensures.1
     (reached (goes_to o h (came at)))
     (c.in_err-container_ends.ensures (frames_here (outer_of (closed at))) (view (closed at).value)
-    (outer_brackets (closed at) _ c.bracket-container.ensures))
+    (outer_brackets (closed at) _ c.innermost_kind-container.ensures))
 
 -- the bracket or the comma after the container was read
 pub returns-then-not-branch-clause-after : goal.returns-then-not-branch-clause-after
 returns-then-not-branch-clause-after c =
     let at = (goal.at.returns-then-not-branch-clause-after c).After-container_ends in
     let ends = c.in_ok-container_ends.ensures (frames_here (outer_of (closed at))) (view (closed at).value)
-    (outer_brackets (closed at) _ c.bracket-container.ensures) in
-    added_before _ (outer_of (closed at)) _ (closed at).value (closed at).awaits (closed at).closed
+    (outer_brackets (closed at) _ c.innermost_kind-container.ensures) in
+    added_before _ (outer_of (closed at)) _ (closed at).value (closed at).added.awaits (closed at).added.closed
     (omega (
       arith,
       c.loop-value.invariant.room,
-      ap length (closed at).around,
+      ap length (closed at).added.around,
       ap (λ r. r.depth) ends.0.reading,
     ))
 
 pub returns-then-not-branch-clause-outcome : goal.returns-then-not-branch-clause-outcome
 returns-then-not-branch-clause-outcome c s o h =
     let at = (goal.at.returns-then-not-branch-clause-outcome c).After-container_ends in
-    goes_to_item s _ o (outer_of (closed at)) _ (closed at).value _ (closed at).awaits (closed at).closed
+    goes_to_item s _ o (outer_of (closed at)) _ (closed at).value _ (closed at).added.awaits (closed at).added.closed
     c.if-not-branch.true
     (goes_after _ (reached (goes_to o h (came at)))
     (c.in_ok-container_ends.ensures (frames_here (outer_of (closed at))) (view (closed at).value)
-    (outer_brackets (closed at) _ c.bracket-container.ensures)))
+    (outer_brackets (closed at) _ c.innermost_kind-container.ensures)))
 
 pub loop-value-smaller : goal.loop-value-smaller
 loop-value-smaller c =
     let at = (goal.at.loop-value-smaller c).After-container_ends in
     let ends = c.in_ok-container_ends.ensures (frames_here (outer_of (closed at))) (view (closed at).value)
-    (outer_brackets (closed at) _ c.bracket-container.ensures) in
+    (outer_brackets (closed at) _ c.innermost_kind-container.ensures) in
     omega (arith, ends.0.index, ap length ends.0.text, c.container_ends.new.self.boundary.0)
 
 pub loop-value-preserved : goal.loop-value-preserved
 loop-value-preserved c =
     let at = (goal.at.loop-value-preserved c).After-container_ends in
     let ends = c.in_ok-container_ends.ensures (frames_here (outer_of (closed at))) (view (closed at).value)
-    (outer_brackets (closed at) _ c.bracket-container.ensures) in
+    (outer_brackets (closed at) _ c.innermost_kind-container.ensures) in
     record {
-      strict = ap (λ z. z.strict) (closed at).closed ∙ c.loop-value.invariant.strict;
-      even = added_even (outer_of (closed at)) _ (closed at).value (closed at).awaits (closed at).closed;
+      strict = ap (λ z. z.strict) (closed at).added.closed ∙ c.loop-value.invariant.strict;
+      even = added_even (outer_of (closed at)) _ (closed at).value (closed at).added.awaits (closed at).added.closed;
       room = omega (
         arith,
         c.loop-value.invariant.room,
-        ap length (closed at).around,
-        ap (λ z. length z.around) (closed at).closed,
+        ap length (closed at).added.around,
+        ap (λ z. length z.around) (closed at).added.closed,
         ap (λ r. r.depth) ends.0.reading,
       );
       came = reached (ended_here c.args.self.now.cursor _ _ (outer_of (closed at)) _ (closed at).value _
-          (closed at).awaits (closed at).closed c.if-not-branch.false (goes_after _ (came at) ends));
+          (closed at).added.awaits (closed at).added.closed c.if-not-branch.false (goes_after _ (came at) ends));
     }

@@ -1,15 +1,17 @@
 use Rattle.jzon_base.proofs.Common.{◌≡◌, ◌≢◌, ◌∙◌, ◌+◌, ◌-◌, ◌&&◌, [], sym, ap, subst, arith, true, false, lit<}
-use Rattle.jzon_base.proofs.Common.{slice_range, string_bytes, if◌then◌else◌, is_some, IsCharBoundary-after_ascii}
+use Rattle.jzon_base.proofs.Common.{slice_range, string_bytes, if◌then◌else◌, is_some, IsCharBoundary-after_ascii, Result, Ok, Err, OnOk}
 use Rattle.jzon_base.specs.PairList.{find}
 use Rattle.jzon_base.specs.Tokens.{end_object}
 use Rattle.jzon.specs.Private.Brackets.{closer}
 use Rattle.jzon.specs.Private.Cursor.{next_byte}
 use Rattle.jzon.specs.Private.Machine.{as_key, left_at, before, object_frame}
-use Rattle.jzon.specs.Private.OpenContainers.{before_item, entries_so_far, frames_around, frames_here, IsEven}
+use Rattle.jzon.specs.Private.OpenContainers.{before_item, entries_so_far, frames_around, frames_here, key_added}
+use Rattle.jzon.specs.Private.OpenContainers.{IsEven}
 use Rattle.jzon.proofs.Containers.ContainerSteps.{open_key}
 use Rattle.jzon.proofs.Containers.ContainerTokens.{key_closes, key_missing}
 use Rattle.jzon.proofs.Containers.FrameViews.{byte_within}
-use Rattle.jzon.proofs.Containers.OpenItems.{at_key, no_key_mark, no_entries, key_here, goes_as}
+use Rattle.jzon.proofs.Containers.OpenItems.{at_key, no_key_mark, no_entries, key_here, key_keeps, key_awaits}
+use Rattle.jzon.proofs.Containers.OpenItems.{goes_as}
 use Rattle.jzon.proofs.Strings.Quotes.{key_refused, key_goes}
 use Rattle.jzon.proofs.Texts.Cursors.{utf8_of, reported_on, fails_on}
 use Rattle.jzon.specs.declared.fault.Stop.TheVariants.{Duplicate}
@@ -93,8 +95,9 @@ returns-clause-outcome c =
     ap (λ k. t.reading.strict && is_some (find k es)) (sym c.text.ensures.text)
     ∙ ap (λ z. z && is_some (find name es)) (sym c.requires.strict)
     ∙ sym c.in_ok-push_key.ensures.rejected ∙ c.if-branch.false in
-    let next = key_here s u name c.requires.object c.in_ok-push_key.ensures.kept
-    (c.in_ok-push_key.ensures.pushed c.if-branch.false) in
+    let even = subst (λ b. IsEven b s.innermost) c.requires.object c.requires.before.even in
+    let pushed = c.in_ok-push_key.ensures.pushed ∙ ap (λ b. if b then s else key_added s name) c.if-branch.false in
+    let next = key_here s u name c.requires.object even pushed in
     goes_as t c.colon_at.new.self (before_item s) c.colon_at.result (λ _. before (object_frame fs es text))
     (λ _. before (frames_here u))
     (λ _. ap (λ k. before (object_frame fs es k)) (sym c.text.ensures.text) ∙ ap before next)
@@ -102,3 +105,22 @@ returns-clause-outcome c =
     ∙ key_closes t fs es text end (sym c.peek.ensures ∙ c.if-peek-ne34.false) (no_key_mark t s c.requires.before.room)
     (c.in_ok-spelled.ensures.outcome t.reading (as_key fs es (left_at t.source.now t.index)))
     ∙ key_goes t.reading t.source.now fs es (left_at t.source.now t.index) text end new))
+
+on_ok : {T E P : Type 0} (r : Result T E) → P → OnOk r P
+on_ok (Ok x) p = p
+on_ok (Err e) p = tt
+
+pub returns-clause-kept : goal.returns-clause-kept
+returns-clause-kept c =
+    let s = c.args.self.now.stacks in
+    let name = c.text.result.0.now in
+    on_ok c.colon_at.result (key_keeps s c.push_key.new.self name (c.in_ok-push_key.ensures.pushed
+    ∙ ap (λ b. if b then s else key_added s name) c.if-branch.false))
+
+pub returns-clause-awaits : goal.returns-clause-awaits
+returns-clause-awaits c =
+    let s = c.args.self.now.stacks in
+    let name = c.text.result.0.now in
+    let even = subst (λ b. IsEven b s.innermost) c.requires.object c.requires.before.even in
+    on_ok c.colon_at.result (key_awaits s c.push_key.new.self name even (c.in_ok-push_key.ensures.pushed
+    ∙ ap (λ b. if b then s else key_added s name) c.if-branch.false))

@@ -4,7 +4,7 @@ use Rattle.jzon.specs.Private.Brackets.{empty_container, after_opener}
 use Rattle.jzon.specs.Private.Cursor.{left}
 use Rattle.jzon.specs.Private.Machine.{before, after_value}
 use Rattle.jzon.specs.Private.OpenContainers.{frames_here}
-use Rattle.jzon.specs.Private.Places.{MayBegin}
+use Rattle.jzon.specs.Private.Targets.{MayBegin}
 use Rattle.jzon.proofs.Containers.OpenItems.{brackets_here, awaits_here, depth_here, no_mark, added_keeps, added_even}
 use Rattle.jzon.proofs.Containers.OpenItems.{added_before, ended_here, goes_to_item}
 use Rattle.jzon.proofs.Texts.Cursors.{Reached, reached, reached_start, goes_after, fails_on}
@@ -55,7 +55,7 @@ returns-in_err-container_ends-clause-outcome c =
     let at = (goal.at.returns-in_err-container_ends-clause-outcome c).After-container_ends in
     fails_on _ c.from_residual-in_err-container_ends.result _ c.from_residual-in_err-container_ends.ensures.1 (came at)
     (c.in_err-container_ends.ensures (frames_here s) (view c.in_ok-push_empty.ensures.ok.0)
-    (brackets_here s c.args.container c.requires.bracket))
+    (brackets_here s c.args.container c.requires.kind))
 
 pub returns-then-branch-clause-outcome : goal.returns-then-branch-clause-outcome
 returns-then-branch-clause-outcome c =
@@ -63,9 +63,9 @@ returns-then-branch-clause-outcome c =
     let ok = c.in_ok-push_empty.ensures.ok in
     let at = (goal.at.returns-then-branch-clause-outcome c).After-container_ends in
     ended_here c.args.self.now.cursor _ (before (frames_here s)) s _ ok.0 _
-    (awaits_here s c.args.container c.requires.bracket c.requires.awaits) ok.2 c.if-branch.true
+    (awaits_here s c.args.container c.requires.kind c.requires.awaits) ok.2 c.if-branch.true
     (goes_after _ (came at) (c.in_ok-container_ends.ensures (frames_here s) (view ok.0)
-    (brackets_here s c.args.container c.requires.bracket)))
+    (brackets_here s c.args.container c.requires.kind)))
 
 pub returns-then-branch-clause-kept : goal.returns-then-branch-clause-kept
 returns-then-branch-clause-kept c =
@@ -75,7 +75,7 @@ pub returns-then-branch-clause-after : goal.returns-then-branch-clause-after
 returns-then-branch-clause-after c =
     let s = c.args.self.now.stacks in
     let ok = c.in_ok-push_empty.ensures.ok in
-    added_even s _ ok.0 (awaits_here s c.args.container c.requires.bracket c.requires.awaits) ok.2
+    added_even s _ ok.0 (awaits_here s c.args.container c.requires.kind c.requires.awaits) ok.2
 
 pub returns-in-Some-clause-after : goal.returns-in-Some-clause-after
 returns-in-Some-clause-after c =
@@ -83,8 +83,8 @@ returns-in-Some-clause-after c =
     let ok = c.in_ok-push_empty.ensures.ok in
     let at = (goal.at.returns-in-Some-clause-after c).After-container_ends in
     let ends = goes_after _ (came at) (c.in_ok-container_ends.ensures (frames_here s) (view ok.0)
-    (brackets_here s c.args.container c.requires.bracket)) in
-    added_before _ s _ ok.0 (awaits_here s c.args.container c.requires.bracket c.requires.awaits) ok.2
+    (brackets_here s c.args.container c.requires.kind)) in
+    added_before _ s _ ok.0 (awaits_here s c.args.container c.requires.kind c.requires.awaits) ok.2
     (omega (arith, c.requires.room, ap (λ r. r.depth) ends.0.reading))
 
 pub returns-in-Some-clause-outcome : goal.returns-in-Some-clause-outcome
@@ -93,9 +93,9 @@ returns-in-Some-clause-outcome c =
     let ok = c.in_ok-push_empty.ensures.ok in
     let at = (goal.at.returns-in-Some-clause-outcome c).After-container_ends in
     goes_to_item c.args.self.now.cursor _ (before (frames_here s)) s _ ok.0 _
-    (awaits_here s c.args.container c.requires.bracket c.requires.awaits) ok.2 c.if-branch.false
+    (awaits_here s c.args.container c.requires.kind c.requires.awaits) ok.2 c.if-branch.false
     (goes_after _ (came at) (c.in_ok-container_ends.ensures (frames_here s) (view ok.0)
-    (brackets_here s c.args.container c.requires.bracket)))
+    (brackets_here s c.args.container c.requires.kind)))
 
 -- ---- a primitive
 
@@ -118,7 +118,7 @@ returns-in_err-container_ends_at-clause-outcome c =
     fails_on _ c.from_residual-in_err-container_ends_at.result _ c.from_residual-in_err-container_ends_at.ensures.1
     reached_start
     (c.in_err-container_ends_at.ensures (before (frames_here s)) (frames_here s) (view read.0)
-    (brackets_here s c.args.container c.requires.bracket) (read.2 t.reading (frames_here s) begins))
+    (brackets_here s c.args.container c.requires.kind) (read.2 t.reading (frames_here s) begins))
 
 pub returns-then-branch-2-clause-outcome : goal.returns-then-branch-2-clause-outcome
 returns-then-branch-2-clause-outcome c =
@@ -128,9 +128,9 @@ returns-then-branch-2-clause-outcome c =
     record { shallow = no_mark t s c.requires.room; no_space = t.past_whitespace; no_end = c.requires.some } in
     let read = c.in_ok-end.ensures.outcome in
     ended_here t _ (before (frames_here s)) s _ read.0 _
-    (awaits_here s c.args.container c.requires.bracket c.requires.awaits) read.1 c.if-branch-2.true
+    (awaits_here s c.args.container c.requires.kind c.requires.awaits) read.1 c.if-branch-2.true
     (c.in_ok-container_ends_at.ensures (before (frames_here s)) (frames_here s) (view read.0)
-    (brackets_here s c.args.container c.requires.bracket) (read.2 t.reading (frames_here s) begins))
+    (brackets_here s c.args.container c.requires.kind) (read.2 t.reading (frames_here s) begins))
 
 pub returns-clause-kept : goal.returns-clause-kept
 returns-clause-kept c =
@@ -145,8 +145,8 @@ returns-clause-after c =
     record { shallow = no_mark t s c.requires.room; no_space = t.past_whitespace; no_end = c.requires.some } in
     let read = c.in_ok-end.ensures.outcome in
     let ends = c.in_ok-container_ends_at.ensures (before (frames_here s)) (frames_here s) (view read.0)
-    (brackets_here s c.args.container c.requires.bracket) (read.2 t.reading (frames_here s) begins) in
-    added_before _ s _ read.0 (awaits_here s c.args.container c.requires.bracket c.requires.awaits) read.1
+    (brackets_here s c.args.container c.requires.kind) (read.2 t.reading (frames_here s) begins) in
+    added_before _ s _ read.0 (awaits_here s c.args.container c.requires.kind c.requires.awaits) read.1
     (omega (arith, c.requires.room, ap (λ r. r.depth) ends.0.reading))
 
 pub returns-clause-outcome : goal.returns-clause-outcome
@@ -157,6 +157,6 @@ returns-clause-outcome c =
     record { shallow = no_mark t s c.requires.room; no_space = t.past_whitespace; no_end = c.requires.some } in
     let read = c.in_ok-end.ensures.outcome in
     goes_to_item t _ (before (frames_here s)) s _ read.0 _
-    (awaits_here s c.args.container c.requires.bracket c.requires.awaits) read.1 c.if-branch-2.false
+    (awaits_here s c.args.container c.requires.kind c.requires.awaits) read.1 c.if-branch-2.false
     (c.in_ok-container_ends_at.ensures (before (frames_here s)) (frames_here s) (view read.0)
-    (brackets_here s c.args.container c.requires.bracket) (read.2 t.reading (frames_here s) begins))
+    (brackets_here s c.args.container c.requires.kind) (read.2 t.reading (frames_here s) begins))

@@ -1,6 +1,8 @@
-use Rattle.jzon_base.proofs.Common.{[], length, ap, arith}
+use Rattle.jzon_base.proofs.Common.{length, take, ap, arith}
+use Rattle.std.specs.Prelude.{reverse}
+use Rattle.std.proofs.lemmas.List.{length-reverse}
 use Rattle.jzon.specs.Private.OpenContainers.{OpenContainers}
-use Rattle.jzon.proofs.Containers.StackParts.{length-opened_in}
+use Rattle.jzon.proofs.Containers.StackParts.{length-containers_in}
 use Rattle.jzon.proofs.stacks.Stacks.depth.Goals as goal
 
 pub returns : goal.returns
@@ -10,6 +12,8 @@ returns c =
       arith,
       c.len.ensures,
       s.around.ok.0,
-      length-opened_in [] s.around.items s.keys.items s.values.items,
+      length-containers_in (reverse s.around.items) (take s.innermost.first_key s.keys.items)
+          (take s.innermost.first_value s.values.items),
+      length-reverse s.around.items,
       ap (λ (o : OpenContainers). length o.around) c.self.view_is,
     )

@@ -1,11 +1,11 @@
-use Rattle.jzon_base.proofs.Common.{◌∙◌, ◌++◌, ◌∷◌, [], ap, arith}
+use Rattle.jzon_base.proofs.Common.{◌∙◌, ◌++◌, ◌∷◌, [], ap}
 use Rattle.jzon.specs.Private.OpenContainers.{value_added}
-use Rattle.jzon.proofs.Containers.StackParts.{IsLaidOut-values, view-pushed}
+use Rattle.jzon.proofs.Containers.StackParts.{IsLaidOut-pushed, view-pushed}
 use Rattle.jzon.proofs.stacks.Stacks.push_empty.Goals as goal
 
 pub invariant_of-self-2 : goal.invariant_of-self-2
-invariant_of-self-2 c = IsLaidOut-values c.self.inside c.push_reserved.new.self c.self.invariant
-    (omega (arith, c.self.invariant.values_within, c.push_reserved.ensures.len, c.in_ok-reserve.ensures.len))
+invariant_of-self-2 c = IsLaidOut-pushed c.self.inside c.push_reserved.new.self c.empty.result c.self.invariant
+    (c.push_reserved.ensures.items ∙ ap (λ vs. vs ++ c.empty.result ∷ []) c.in_ok-reserve.ensures.items)
 
 pub returns : goal.returns
 returns c = record {

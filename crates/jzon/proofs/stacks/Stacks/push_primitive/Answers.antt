@@ -1,23 +1,24 @@
-use Rattle.jzon_base.proofs.Common.{◌≡◌, ◌∙◌, ◌++◌, ◌≤◌, ◌∷◌, [], ℕ, List, length, length-append, drop, ap, arith}
-use Rattle.jzon_base.proofs.Common.{vec_len, Vec, Global, Result, Ok, Err}
+use Rattle.jzon_base.proofs.Common.{◌≡◌, ◌∙◌, ◌++◌, ◌∷◌, [], ℕ, List, take, ap, is_some}
+use Rattle.jzon_base.proofs.Common.{Vec, Global, Result, Ok, Err}
+use Rattle.std.specs.Prelude.{reverse}
 use Rattle.jzon.specs.declared.fault.Stop.{Stop}
 use Rattle.jzon_tree.specs.declared.value.JsonValue.{JsonValue}
 use Rattle.jzon.specs.Private.Machine.{Frames, State}
 use Rattle.jzon.specs.Private.OpenContainers.{OpenContainers, value_added}
-use Rattle.jzon.specs.Private.Places.{Puts}
-use Rattle.jzon.specs.Private.Stacks.{containers_of, opened_in, IsLaidOut}
+use Rattle.jzon.specs.Private.Targets.{Puts}
+use Rattle.jzon.specs.Private.Stacks.{container_of, containers_in, containers_of, IsLaidOut}
 use Rattle.jzon.specs.Reading.{Reading}
 use Rattle.jzon.specs.declared.stacks.Stacks.TheInside.{Inside}
-use Rattle.jzon.proofs.Containers.StackParts.{IsLaidOut-values, view-pushed}
+use Rattle.jzon.proofs.Containers.StackParts.{IsLaidOut-pushed, IsLaidOut-same, view-pushed}
 use Rattle.jzon.proofs.stacks.Stacks.push_primitive.Goals as goal
 
--- no value is lost
-no_fewer : (old new : Vec JsonValue Global) (result : Result ℕ Stop) (bs : List ℕ) (i : ℕ) (p : Frames → State)
-    (G : Reading → Frames → Type 0) → Puts (λ v vs. vs.items ≡ old.items ++ v ∷ []) old new result bs i p G
-    → vec_len old ≤ vec_len new
-no_fewer old new (Ok end) bs i p G put =
-    omega (arith, ap length put.1, length-append old.items (put.0 ∷ []), old.ok.0, new.ok.0)
-no_fewer old new (Err e) bs i p G put = omega (arith, ap (λ vs. vec_len vs) put.0)
+-- a value is added, or none
+laid_after : (s : Inside) (mid new : Vec JsonValue Global) (result : Result ℕ Stop) (bs : List ℕ) (i : ℕ)
+    (p : Frames → State) (G : Reading → Frames → Type 0) → IsLaidOut s → mid.items ≡ s.values.items
+    → Puts (λ v vs. vs.items ≡ mid.items ++ v ∷ []) mid new result bs i p G → IsLaidOut (record s { values = new })
+laid_after s mid new (Ok end) bs i p G h same put =
+    IsLaidOut-pushed s new put.0 h (put.1 ∙ ap (λ vs. vs ++ put.0 ∷ []) same)
+laid_after s mid new (Err e) bs i p G h same put = IsLaidOut-same s new h (ap (λ vs. vs.items) put.0 ∙ same)
 
 -- a clause sees the value added to the innermost container
 puts_onto : (s : Inside) (o : OpenContainers) (mid new : Vec JsonValue Global) (result : Result ℕ Stop) (bs : List ℕ)
@@ -31,13 +32,11 @@ puts_onto s o mid new (Ok end) bs i p G h is same put = (
 )
 puts_onto s o mid new (Err e) bs i p G h is same put = (
   ap (λ vs. record {
-    strict = s.strict;
-    innermost = record {
-      bracket = s.bracket;
-      keys = drop s.first_key s.keys.items;
-      values = drop s.first_value vs;
-    };
-    around = opened_in [] s.around.items s.keys.items vs;
+    strict = is_some s.known;
+    innermost = container_of s.innermost s.keys.items vs;
+    around =
+        containers_in (reverse s.around.items) (take s.innermost.first_key s.keys.items)
+        (take s.innermost.first_value vs);
   }) (ap (λ vs. vs.items) put.0 ∙ same)
       ∙ is,
   put.1,
@@ -45,10 +44,8 @@ puts_onto s o mid new (Err e) bs i p G h is same put = (
 
 pub invariant_of-self-2 : goal.invariant_of-self-2
 invariant_of-self-2 c =
-    let more = no_fewer c.reserve.new.self c.put_primitive.new.place c.put_primitive.result c.args.source.now
-    c.args.start _ _ c.put_primitive.ensures.outcome in
-    IsLaidOut-values c.self.inside c.put_primitive.new.place c.self.invariant
-    (omega (arith, more, c.self.invariant.values_within, c.in_ok-reserve.ensures.len))
+    laid_after c.self.inside c.reserve.new.self c.put_primitive.new.place c.put_primitive.result c.args.source.now
+    c.args.start _ _ c.self.invariant c.in_ok-reserve.ensures.items c.put_primitive.ensures.outcome
 
 pub returns-clause-outcome : goal.returns-clause-outcome
 returns-clause-outcome c =

@@ -1,6 +1,6 @@
 use Rattle.jzon_base.proofs.Common.{mul-mod_first}
 use Rattle.std.proofs.Math.Nat.{mul_assoc}
-use Rattle.jzon_base.proofs.LeadingDigits.{two_shifts}
+use Rattle.jzon_base.proofs.Numbers.LeadingDigits.{two_shifts}
 use Rattle.jzon_base.proofs.digits.eight_at_once.last_bytes.Goals as goal
 
 pub returns : goal.returns

@@ -1,7 +1,7 @@
 use Rattle.jzon_base.proofs.Common.{drop, take, w8, ap, ◌∙◌, arith, chunk-fits, length-chunk, take_all, take-take}
 use Rattle.jzon_base.proofs.Common.{prefix_len-le-length, is_ascii_digit}
 use Rattle.jzon_base.specs.Digits.{digits_number}
-use Rattle.jzon_base.proofs.LeadingDigits.{all_eight, first_other, first_below, spells_first}
+use Rattle.jzon_base.proofs.Numbers.LeadingDigits.{all_eight, first_other, first_below, spells_first}
 use Rattle.jzon_base.proofs.digits.eight_at_once.leading_digits.Goals as goal
 
 pub returns-then-others-eq0-clause-count : goal.returns-then-others-eq0-clause-count

@@ -1,9 +1,21 @@
-use Rattle.jzon_base.proofs.Common.{◌∙◌, sym}
-use Rattle.jzon_base.proofs.PutEach.{put_each-zip}
+use Rattle.jzon_base.proofs.Common.{refl, sym}
+use Rattle.jzon_base.specs.Private.Keys.{IsIndex}
+use Rattle.jzon_base.proofs.Entries.PutEach.{put_each-zip}
+use Rattle.jzon_base.proofs.KeyIndex.Tables.{IsIndexOf-one}
 use Rattle.jzon_base.proofs.keys.Keys.from_entries.Goals as goal
 
-pub returns-clause-merged : goal.returns-clause-merged
-returns-clause-merged g c =
-    let ks = c.merge.new.keys.items in
-    let vs = c.merge.new.values.items in
-    sym (put_each-zip ks vs c.merge.ensures.even c.in_ok-index.ensures.table.distinct) ∙ c.merge.ensures.merged
+pub invariant_of-result : goal.invariant_of-result
+invariant_of-result g c =
+    let ks = c.args.keys.items in
+    let entries = c.in-Some.entries.items in
+    let index : IsIndex ks entries = rw (c.in-Some.is, c.as_slice.ensures.value) at c.in_ok-entries.ensures.index in
+    let distinct = rw (c.in-Some.is, c.as_slice.ensures.value) at c.in_ok-entries.ensures.distinct in
+    rw c.in_ok-index.ensures (record {
+      indexed = record { index = λ _. IsIndexOf-one ks entries index.whole index.sorted };
+      distinct = distinct.0 refl;
+    })
+
+pub returns-in-Some-clause-merged : goal.returns-in-Some-clause-merged
+returns-in-Some-clause-merged g c =
+    let distinct = rw (c.in-Some.is, c.as_slice.ensures.value) at c.in_ok-entries.ensures.distinct in
+    sym (put_each-zip c.args.keys.items c.args.values.items c.requires (distinct.0 refl))

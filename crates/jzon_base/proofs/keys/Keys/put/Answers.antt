@@ -1,5 +1,5 @@
 use Rattle.jzon_base.proofs.Common.{sym}
-use Rattle.jzon_base.proofs.Tables.{IsTable-push}
+use Rattle.jzon_base.proofs.KeyIndex.Tables.{IsTable-push}
 use Rattle.jzon_base.proofs.keys.Keys.put.Goals as goal
 
 pub invariant_of-self-2 : goal.invariant_of-self-2

@@ -1,5 +1,5 @@
 use Rattle.jzon_base.proofs.Common.{◌∙◌, ap, arith, subst, CalledAtPair, TakesPair}
-use Rattle.jzon_base.proofs.Retained.{asked, dropped, kept, sifted_none, sifted_all}
+use Rattle.jzon_base.proofs.Entries.Retention.{asked, dropped, kept, sifted_none, sifted_all}
 use Rattle.jzon_base.proofs.keys.retain.retain_entries.Goals as goal
 use Rattle.jzon_base.proofs.keys.retain.retain_entries.Goals.{then-keeps, else-keeps}
 

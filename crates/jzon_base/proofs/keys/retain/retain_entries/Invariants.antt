@@ -1,5 +1,5 @@
 use Rattle.jzon_base.proofs.Common.{length, zip, CalledAtPair, TakesPair}
-use Rattle.jzon_base.proofs.Retained.{IsSifted}
+use Rattle.jzon_base.proofs.Entries.Retention.{IsSifted}
 use Rattle.jzon_base.proofs.keys.retain.retain_entries.Given as goal
 
 abbrev pub invariant-loop-at : goal.invariant-loop-at

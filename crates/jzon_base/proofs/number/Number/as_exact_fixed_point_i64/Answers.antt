@@ -1,4 +1,4 @@
-use Rattle.jzon_base.proofs.ExactPoints.{exact_signed}
+use Rattle.jzon_base.proofs.Numbers.ExactPoints.{exact_signed}
 use Rattle.jzon_base.proofs.number.Number.as_exact_fixed_point_i64.Goals as goal
 
 pub returns-then-is_exact_at-clause-equal : goal.returns-then-is_exact_at-clause-equal

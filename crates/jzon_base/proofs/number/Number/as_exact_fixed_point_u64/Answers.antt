@@ -1,4 +1,4 @@
-use Rattle.jzon_base.proofs.ExactPoints.{exact_unsigned}
+use Rattle.jzon_base.proofs.Numbers.ExactPoints.{exact_unsigned}
 use Rattle.jzon_base.proofs.number.Number.as_exact_fixed_point_u64.Goals as goal
 
 pub returns-then-is_exact_at-clause-equal : goal.returns-then-is_exact_at-clause-equal

@@ -1,5 +1,5 @@
 use Rattle.jzon_base.proofs.Common.{◌≡◌, ◌+ℤ◌, ◌<ℤ◌, ◌∙◌, pos, arith, inr, FitsSigned, to_z, of_z, w16, ints}
-use Rattle.jzon_base.proofs.Scaled.{scaled-strip}
+use Rattle.jzon_base.proofs.Numbers.Scaling.{scaled-strip}
 use Rattle.jzon_base.proofs.number.Number.from_parts.Goals as goal
 
 pub loop-exponent-preserved : goal.loop-exponent-preserved

@@ -1,6 +1,6 @@
 use Rattle.jzon_base.proofs.Common.{◌≡◌, ◌∙◌, sym, rules, arith, FitsSigned, w16, common_steps}
 use Rattle.jzon_base.specs.Decimal.{is_whole_at}
-use Rattle.jzon_base.proofs.ExactPoints.{IsExactAt-whole}
+use Rattle.jzon_base.proofs.Numbers.ExactPoints.{IsExactAt-whole}
 use Rattle.jzon_base.proofs.number.Number.is_exact_at.Goals as goal
 
 pub returns-clause-exact : goal.returns-clause-exact

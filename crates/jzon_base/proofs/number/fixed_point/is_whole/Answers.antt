@@ -1,6 +1,6 @@
 use Rattle.jzon_base.proofs.Common.{◌^◌, arith, rules, common_steps}
-use Rattle.jzon_base.proofs.Scaled.{rest_of_larger}
-use Rattle.jzon_base.proofs.Powers.{power_pos}
+use Rattle.jzon_base.proofs.Numbers.Scaling.{rest_of_larger}
+use Rattle.jzon_base.proofs.Numbers.Powers.{power_pos}
 use Rattle.jzon_base.proofs.number.fixed_point.is_whole.Goals as goal
 
 pub nonzero_rem-result : goal.nonzero_rem-result

@@ -1,6 +1,6 @@
 use Rattle.jzon_base.proofs.Common.{◌∙◌, sym, ap, inl}
 use Rattle.jzon_base.specs.PairList.{find}
-use Rattle.jzon_base.proofs.PairPlaces.{default_written, find_placed}
+use Rattle.jzon_base.proofs.Entries.PairPositions.{default_written, find_placed}
 use Rattle.jzon_base.proofs.pairs.Pairs.at_mut.Goals as goal
 
 pub returns : goal.returns

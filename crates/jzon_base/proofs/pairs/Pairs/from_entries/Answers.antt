@@ -1,6 +1,6 @@
 use Rattle.jzon_base.proofs.Common.{◌≡◌, ◌∙◌, ap, sym, zip, IsDistinct, bytes_eq, IfOk-weaker}
 use Rattle.jzon_base.specs.PairList.{put_each}
-use Rattle.jzon_base.proofs.PutEach.{put_each-zip}
+use Rattle.jzon_base.proofs.Entries.PutEach.{put_each-zip}
 use Rattle.jzon_base.proofs.pairs.Pairs.from_entries.Goals as goal
 
 pub returns-then-are_distinct : goal.returns-then-are_distinct

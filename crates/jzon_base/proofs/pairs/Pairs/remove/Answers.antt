@@ -1,5 +1,5 @@
 use Rattle.jzon_base.proofs.Common.{sym}
-use Rattle.jzon_base.proofs.PairPlaces.{find_placed}
+use Rattle.jzon_base.proofs.Entries.PairPositions.{find_placed}
 use Rattle.jzon_base.proofs.pairs.Pairs.remove.Goals as goal
 
 pub returns-clause-value : goal.returns-clause-value

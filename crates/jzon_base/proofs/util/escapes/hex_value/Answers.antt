@@ -1,6 +1,6 @@
 use Rattle.jzon_base.proofs.Common.{◌≡◌, ℕ, ◌<◌, true, cond, map, refl, sym, ◌∙◌, arith, nat_tests, digit_value}
 use Rattle.jzon_base.proofs.Common.{is_ascii_hexdigit, range_with_len}
-use Rattle.jzon_base.proofs.ByteTables.{table_at, marked, unmarked}
+use Rattle.jzon_base.proofs.Strings.ByteTables.{table_at, marked, unmarked}
 use Rattle.jzon_base.specs.declared.util.escapes.TheConstants.{DIGIT_VALUES}
 use Rattle.jzon_base.proofs.util.escapes.hex_value.Goals as goal
 

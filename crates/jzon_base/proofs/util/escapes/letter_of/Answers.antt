@@ -1,6 +1,6 @@
 use Rattle.jzon_base.proofs.Common.{◌≡◌, map, refl, sym, ap, subst, ◌∙◌, IsTrue, arith, range_with_len}
-use Rattle.jzon_base.proofs.ByteTables.{table_at}
-use Rattle.jzon_base.proofs.Escapes.{letter_means}
+use Rattle.jzon_base.proofs.Strings.ByteTables.{table_at}
+use Rattle.jzon_base.proofs.Strings.Escapes.{letter_means}
 use Rattle.jzon_base.specs.Escapes.{is_simple, unescaped, letter_of}
 use Rattle.jzon_base.specs.declared.util.escapes.TheConstants.{ESCAPE_LETTERS}
 use Rattle.jzon_base.proofs.util.escapes.letter_of.Goals as goal

@@ -1,6 +1,6 @@
 use Rattle.jzon_base.proofs.Common.{◌≡◌, ℕ, zero, suc, ◌<◌, Bool, true, false, cond, map, refl, sym, ◌∙◌, arith}
 use Rattle.jzon_base.proofs.Common.{range_with_len}
-use Rattle.jzon_base.proofs.ByteTables.{table_at, marked, unmarked}
+use Rattle.jzon_base.proofs.Strings.ByteTables.{table_at, marked, unmarked}
 use Rattle.jzon_base.specs.Escapes.{is_simple, unescaped}
 use Rattle.jzon_base.specs.declared.util.escapes.TheConstants.{UNESCAPED}
 use Rattle.jzon_base.proofs.util.escapes.meant_by.Goals as goal

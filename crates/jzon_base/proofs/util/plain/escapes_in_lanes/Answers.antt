@@ -1,5 +1,5 @@
 use Rattle.jzon_base.proofs.Common.{refl, arith}
-use Rattle.jzon_base.proofs.PlainBlocks.{block_none, block_some}
+use Rattle.jzon_base.proofs.Strings.PlainBlocks.{block_none, block_some}
 use Rattle.jzon_base.proofs.util.plain.escapes_in_lanes.Goals as goal
 
 pub returns-clause-none : goal.returns-clause-none

@@ -1,6 +1,6 @@
 use Rattle.jzon_base.proofs.Common.{◌+◌, replicate, length-replicate}
 use Rattle.std.proofs.lemmas.Bool.{eqb-true}
-use Rattle.jzon_base.proofs.PlainBlocks.{plain_by_ends}
+use Rattle.jzon_base.proofs.Strings.PlainBlocks.{plain_by_ends}
 use Rattle.jzon_base.proofs.util.plain.is_plain_by_ends.Goals as goal
 
 pub returns : goal.returns

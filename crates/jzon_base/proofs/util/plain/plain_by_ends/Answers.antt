@@ -1,10 +1,10 @@
 use Rattle.jzon_base.proofs.Common.{◌≡◌, ◌+◌, ◌-◌, length, arith, prefix_len, prefix_len-le-length}
 use Rattle.jzon_base.specs.Private.PlainBytes.{is_plain}
-use Rattle.jzon_base.proofs.PlainBlocks.{prefix_ends, prefix_passes, ends_in_last}
+use Rattle.jzon_base.proofs.Strings.PlainBlocks.{prefix_ends, prefix_passes, ends_in_last}
 use Rattle.jzon_base.proofs.util.plain.plain_by_ends.Goals as goal
 
 pub returns-then-plain : goal.returns-then-plain
-returns-then-plain g c = prefix_ends c.args.bytes.now g.row.N c.plain_in_lanes-plain.result (omega arith)
+returns-then-plain g c = prefix_ends is_plain c.args.bytes.now g.row.N c.plain_in_lanes-plain.result (omega arith)
     c.plain_in_lanes-plain.ensures (omega arith)
 
 pub returns : goal.returns

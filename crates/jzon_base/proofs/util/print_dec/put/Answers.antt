@@ -1,5 +1,5 @@
 use Rattle.jzon_base.proofs.Common.{◌∙◌, ◌-◌, w16, arith, to_z-of_z}
-use Rattle.jzon_base.proofs.Laid.{put_last}
+use Rattle.jzon_base.proofs.Numbers.NumberBytes.{put_last}
 use Rattle.jzon_base.proofs.util.print_dec.put.Goals as goal
 
 pub returns-clause-text : goal.returns-clause-text

@@ -3,9 +3,9 @@ use Rattle.jzon_base.proofs.Common.{has_written_of_eq}
 use Rattle.std.proofs.lemmas.Option.{get_or_from_slice_get, slice_get_within}
 use Rattle.jzon_tree.specs.declared.value.JsonValue.{JsonValue, the_lemmas}
 use Rattle.jzon_tree.specs.Entries.{entries_of}
-use Rattle.jzon_tree.proofs.Ordered.{most-at}
-use Rattle.jzon_tree.proofs.Shown.{item_shown, items_shown, none_shown, item_text, entry_text, array_shown}
-use Rattle.jzon_tree.proofs.Shown.{object_shown}
+use Rattle.jzon_tree.proofs.Printing.OrderedEntries.{most-at}
+use Rattle.jzon_tree.proofs.Printing.FormattedPieces.{item_shown, items_shown, none_shown, item_text, entry_text, array_shown}
+use Rattle.jzon_tree.proofs.Printing.FormattedPieces.{object_shown}
 use Rattle.jzon_tree.proofs.codegen.display.+show.Goals as goal
 
 pub show_array-loop-index-init : goal.show_array-loop-index-init

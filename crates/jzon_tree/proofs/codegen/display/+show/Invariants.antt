@@ -1,6 +1,6 @@
 use Rattle.jzon_base.proofs.Common.{List, ℕ, HasWritten, IsPlainFormatter}
 use Rattle.jzon_tree.specs.Entries.{entries_of}
-use Rattle.jzon_tree.proofs.Shown.{ItemsLeft, item_text, entry_text}
+use Rattle.jzon_tree.proofs.Printing.FormattedPieces.{ItemsLeft, item_text, entry_text}
 use Rattle.jzon_tree.proofs.codegen.display.+show.Given as goal
 
 -- what has been shown and what is left make up the container

@@ -2,8 +2,8 @@ use Rattle.jzon_base.proofs.Common.{[], ◌∷◌, ◌∙◌, sym, refl, ap, Lis
 use Rattle.jzon_base.proofs.Common.{prefix_len-le-length, nil_from_length, take_rest}
 use Rattle.jzon_base.specs.Private.PlainBytes.{is_plain}
 use Rattle.jzon_tree.specs.Text.{escaped}
-use Rattle.jzon_tree.proofs.SentStrings.{needs_escape}
-use Rattle.jzon_tree.proofs.Shown.{escape_shown, text_shown}
+use Rattle.jzon_tree.proofs.Printing.StringRuns.{needs_escape}
+use Rattle.jzon_tree.proofs.Printing.FormattedPieces.{escape_shown, text_shown}
 use Rattle.jzon_tree.proofs.codegen.display.show_text.Goals as goal
 
 pub split_at-requires : goal.split_at-requires

@@ -1,5 +1,5 @@
 use Rattle.jzon_base.proofs.Common.{List, ℕ, length, HasWritten, IsPlainFormatter}
-use Rattle.jzon_tree.proofs.Shown.{TextLeft}
+use Rattle.jzon_tree.proofs.Printing.FormattedPieces.{TextLeft}
 use Rattle.jzon_tree.proofs.codegen.display.show_text.Given as goal
 
 -- what has been shown and what is left make up the string

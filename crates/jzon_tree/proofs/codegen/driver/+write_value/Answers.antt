@@ -8,18 +8,18 @@ use Rattle.jzon_tree.specs.Private.Printing.{IsEntry}
 use Rattle.jzon_tree.specs.Value.{Value}
 use Rattle.jzon_tree.specs.View.{view, view_object, viewed}
 use Rattle.jzon_tree.specs.Writing.{Writes}
-use Rattle.jzon_tree.proofs.Emitting.{Added-nothing, PrintsIf-after, Failed-begins}
-use Rattle.jzon_tree.proofs.Emitting.{Stopped-failed, PrintsIf-at_err, stored_ok, stored_err}
-use Rattle.jzon_tree.proofs.Exits.{array_at_opening, array_at_indent, array_at_items, array_at_close, items_at_begin}
-use Rattle.jzon_tree.proofs.Exits.{items_at_item, items_more, members_at_begin, members_at_entry, members_more}
-use Rattle.jzon_tree.proofs.Exits.{object_at_opening, object_at_indent, object_at_members, object_at_close}
-use Rattle.jzon_tree.proofs.Exits.{pair_value, after_key}
-use Rattle.jzon_tree.proofs.Ordered.{after_order, no_pair, some_pair, entry_named, answer_allowed, answer_order}
-use Rattle.jzon_tree.proofs.Ordered.{answer_length, most-at, map-at, map-take_more, length-map-take, not_empty}
-use Rattle.jzon_tree.proofs.Ordered.{length-viewed, keyed_more, named_more, pairs_named, whole_object}
-use Rattle.jzon_tree.proofs.Members.{members_none}
-use Rattle.jzon_tree.proofs.Writings.{some_writing}
-use Rattle.jzon_tree.proofs.Orders.{order_within}
+use Rattle.jzon_tree.proofs.Printing.Emissions.{Added-nothing, PrintsIf-after, Failed-begins}
+use Rattle.jzon_tree.proofs.Printing.Emissions.{Stopped-failed, PrintsIf-at_err, stored_ok, stored_err}
+use Rattle.jzon_tree.proofs.Printing.Exits.{array_at_opening, array_at_indent, array_at_items, array_at_close, items_at_begin}
+use Rattle.jzon_tree.proofs.Printing.Exits.{items_at_item, items_more, members_at_begin, members_at_entry, members_more}
+use Rattle.jzon_tree.proofs.Printing.Exits.{object_at_opening, object_at_indent, object_at_members, object_at_close}
+use Rattle.jzon_tree.proofs.Printing.Exits.{pair_value, after_key}
+use Rattle.jzon_tree.proofs.Printing.OrderedEntries.{after_order, no_pair, some_pair, entry_named, answer_allowed, answer_order}
+use Rattle.jzon_tree.proofs.Printing.OrderedEntries.{answer_length, most-at, map-at, map-take_more, length-map-take, not_empty}
+use Rattle.jzon_tree.proofs.Printing.OrderedEntries.{length-viewed, keyed_more, named_more, pairs_named, whole_object}
+use Rattle.jzon_tree.proofs.Printing.Members.{members_none}
+use Rattle.jzon_tree.proofs.Printing.Writings.{some_writing}
+use Rattle.jzon_tree.proofs.Printing.Orders.{order_within}
 use Rattle.jzon_tree.proofs.codegen.driver.+write_value.Goals as goal
 
 pub write_array-returns-in_err-try_write_char-clause-written :

@@ -1,7 +1,7 @@
 use Rattle.jzon_base.proofs.Common.{[], ◌∷◌, refl}
 use Rattle.jzon_tree.specs.Generator.{Just}
 use Rattle.jzon_tree.specs.Private.Printing.{IsBetween}
-use Rattle.jzon_tree.proofs.Emitting.{Failed-begins, Emits-at_err}
+use Rattle.jzon_tree.proofs.Printing.Emissions.{Failed-begins, Emits-at_err}
 use Rattle.jzon_tree.proofs.codegen.driver.begin_item.Goals as goal
 
 pub returns-in_err-try_write_char-clause-bytes : goal.returns-in_err-try_write_char-clause-bytes

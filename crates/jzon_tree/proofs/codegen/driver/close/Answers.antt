@@ -2,7 +2,7 @@ use Rattle.jzon_base.proofs.Common.{[], ◌∷◌, ◌++◌, ap, refl}
 use Rattle.jzon_tree.specs.Generator.{Just}
 use Rattle.jzon_tree.specs.Private.Printing.{IsClosing}
 use Rattle.jzon_tree.specs.Writing.{IsAllowedWhitespace}
-use Rattle.jzon_tree.proofs.Emitting.{Failed-begins, Emits-at_err, Emits-after}
+use Rattle.jzon_tree.proofs.Printing.Emissions.{Failed-begins, Emits-at_err, Emits-after}
 use Rattle.jzon_tree.proofs.codegen.driver.close.Goals as goal
 
 pub returns-in_err-try_new_line-clause-bytes : goal.returns-in_err-try_new_line-clause-bytes

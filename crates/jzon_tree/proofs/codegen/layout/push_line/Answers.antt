@@ -1,5 +1,5 @@
 use Rattle.jzon_base.proofs.Common.{◌+◌, ap, ◌∙◌, take, arith}
-use Rattle.jzon_tree.proofs.SentSpaces.{line_cut}
+use Rattle.jzon_tree.proofs.Printing.SpaceRuns.{line_cut}
 use Rattle.jzon_tree.proofs.codegen.layout.push_line.Goals as goal
 
 pub returns-clause-done : goal.returns-clause-done

@@ -1,6 +1,6 @@
 use Rattle.jzon_base.proofs.Common.{arith}
-use Rattle.jzon_tree.proofs.Sent.{Sends-at_err}
-use Rattle.jzon_tree.proofs.SentSpaces.{take-line, line_stopped, line_continued, line_whole}
+use Rattle.jzon_tree.proofs.Printing.Appends.{Sends-at_err}
+use Rattle.jzon_tree.proofs.Printing.SpaceRuns.{take-line, line_stopped, line_continued, line_whole}
 use Rattle.jzon_tree.proofs.codegen.layout.send_line.Goals as goal
 
 pub returns-in_err-send-clause-bytes : goal.returns-in_err-send-clause-bytes

@@ -1,6 +1,6 @@
 use Rattle.jzon_base.proofs.Common.{ℕ, arith, take-replicate}
-use Rattle.jzon_tree.proofs.Sent.{Sends-at_err}
-use Rattle.jzon_tree.proofs.SentSpaces.{spaces_stopped, spaces_sent}
+use Rattle.jzon_tree.proofs.Printing.Appends.{Sends-at_err}
+use Rattle.jzon_tree.proofs.Printing.SpaceRuns.{spaces_stopped, spaces_sent}
 use Rattle.jzon_tree.proofs.codegen.layout.send_spaces.Goals as goal
 
 pub returns-in_err-send-clause-bytes : goal.returns-in_err-send-clause-bytes

@@ -1,5 +1,5 @@
 use Rattle.jzon_base.proofs.Common.{◌∷◌, ◌++◌, [], ap, ◌∙◌, arith}
-use Rattle.jzon_tree.proofs.Plain.{quoted-plain}
+use Rattle.jzon_tree.proofs.Printing.PlainRuns.{quoted-plain}
 use Rattle.jzon_tree.proofs.codegen.strings.push_plain.Goals as goal
 
 pub returns-clause-done : goal.returns-clause-done

@@ -1,7 +1,7 @@
 use Rattle.jzon_base.proofs.Common.{◌≡◌, ◌+◌, ◌++◌, ◌∷◌, [], length, ap, ◌∙◌, sym, arith, replicate, common_steps}
-use Rattle.jzon_base.proofs.Laid.{cut_back}
-use Rattle.jzon_tree.proofs.Ends.{put_in_quotes}
-use Rattle.jzon_tree.proofs.Plain.{escaped-plain}
+use Rattle.jzon_base.proofs.Numbers.NumberBytes.{cut_back}
+use Rattle.jzon_tree.proofs.Printing.ByteEnds.{put_in_quotes}
+use Rattle.jzon_tree.proofs.Printing.PlainRuns.{escaped-plain}
 use Rattle.jzon_tree.proofs.codegen.strings.push_short.Goals as goal
 
 pub returns-then-put_if_plain-clause-done : goal.returns-then-put_if_plain-clause-done

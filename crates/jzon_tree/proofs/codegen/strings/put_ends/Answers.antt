@@ -1,5 +1,5 @@
 use Rattle.jzon_base.proofs.Common.{true≢false}
-use Rattle.jzon_tree.proofs.Ends.{ends_put, ends_leave, ends_length}
+use Rattle.jzon_tree.proofs.Printing.ByteEnds.{ends_put, ends_leave, ends_length}
 use Rattle.jzon_tree.proofs.codegen.strings.put_ends.Goals as goal
 
 pub returns : goal.returns

@@ -1,5 +1,5 @@
 use Rattle.jzon_base.proofs.Common.{◌∷◌, [], ap, sym, ◌∙◌}
-use Rattle.jzon_tree.proofs.Escapes.{short_escape}
+use Rattle.jzon_tree.proofs.Printing.Escapes.{short_escape}
 use Rattle.jzon_tree.proofs.codegen.strings.put_escape.Goals as goal
 
 pub returns-in-Some-clause-text : goal.returns-in-Some-clause-text

@@ -1,7 +1,7 @@
 use Rattle.jzon_base.proofs.Common.{◌∙◌, sym, prefix_len-le-length, nil_from_length, take_rest}
 use Rattle.jzon_base.specs.Private.PlainBytes.{is_plain}
-use Rattle.jzon_tree.proofs.Sent.{Sends-at_err}
-use Rattle.jzon_tree.proofs.SentStrings.{any_run_stopped, escape_stopped, escape_sent, last_sent, needs_escape, closes}
+use Rattle.jzon_tree.proofs.Printing.Appends.{Sends-at_err}
+use Rattle.jzon_tree.proofs.Printing.StringRuns.{any_run_stopped, escape_stopped, escape_sent, last_sent, needs_escape, closes}
 use Rattle.jzon_tree.proofs.codegen.strings.send_string.Goals as goal
 
 pub split_at-requires : goal.split_at-requires

@@ -1,6 +1,6 @@
 use Rattle.jzon_base.proofs.Common.{length}
 use Rattle.jzon_tree.specs.Generator.{Adds}
-use Rattle.jzon_tree.proofs.SentStrings.{Left}
+use Rattle.jzon_tree.proofs.Printing.StringRuns.{Left}
 use Rattle.jzon_tree.proofs.codegen.strings.send_string.Given as goal
 
 -- what has been sent and what is left make up the whole

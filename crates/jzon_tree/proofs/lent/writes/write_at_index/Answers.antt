@@ -1,4 +1,4 @@
-use Rattle.jzon_tree.proofs.WrittenViews.{past_items}
+use Rattle.jzon_tree.proofs.Values.WriteViews.{past_items}
 use Rattle.jzon_tree.proofs.lent.writes.write_at_index.Goals as goal
 
 pub returns-clause-present : goal.returns-clause-present

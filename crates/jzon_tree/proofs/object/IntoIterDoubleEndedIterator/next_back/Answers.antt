@@ -1,5 +1,5 @@
 use Rattle.jzon_base.proofs.Common.{◌≡◌, ◌∙◌, ◌+◌, ap, length, rules, length_push, zip, into_iter_items}
-use Rattle.jzon_base.proofs.Zips.{length-last, zip-last}
+use Rattle.jzon_base.proofs.Entries.Zips.{length-last, zip-last}
 use Rattle.jzon_tree.specs.IntoIter.{entries_left}
 use Rattle.jzon_tree.proofs.object.IntoIterDoubleEndedIterator.next_back.Goals as goal
 

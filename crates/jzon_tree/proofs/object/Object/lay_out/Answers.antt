@@ -1,7 +1,7 @@
 use Rattle.jzon_base.proofs.Common.{refl, sym, subst}
 use Rattle.jzon_tree.specs.View.{view_object}
 use Rattle.jzon_tree.specs.Writing.{Writes}
-use Rattle.jzon_tree.proofs.Consumed.{laid_out}
+use Rattle.jzon_tree.proofs.Printing.MemoryTexts.{laid_out}
 use Rattle.jzon_tree.proofs.object.Object.lay_out.Goals as goal
 
 pub into_text-requires : goal.into_text-requires

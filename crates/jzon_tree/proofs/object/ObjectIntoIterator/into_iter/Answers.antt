@@ -1,5 +1,5 @@
 use Rattle.jzon_base.proofs.Common.{◌∙◌, zip}
-use Rattle.jzon_base.proofs.Zips.{zip-parts}
+use Rattle.jzon_base.proofs.Entries.Zips.{zip-parts}
 use Rattle.jzon_tree.specs.Entries.{entries_of}
 use Rattle.jzon_tree.proofs.object.ObjectIntoIterator.into_iter.Goals as goal
 

@@ -1,6 +1,6 @@
 use Rattle.jzon_base.proofs.Common.{◌∙◌, sym, ap, slice_get, List}
 use Rattle.jzon_tree.specs.Value.{Value}
-use Rattle.jzon_tree.proofs.Seen.{items-Array, item_lent}
+use Rattle.jzon_tree.proofs.Values.PartViews.{items-Array, item_lent}
 use Rattle.jzon_tree.proofs.value.JsonValue.at_index.Goals as goal
 
 pub returns-in-Array : goal.returns-in-Array

@@ -1,14 +1,14 @@
 -- `at_index_mut` returns the reference that the trait's `at_index_in` returns. The borrow checker produces no proof of
 -- a clause from a type to itself.
-use Rattle.jzon_tree.proofs.LentSteps.{[], ◌∷◌, refl, proved, leaves, full_share, id⊢, emp, ftrue, flft, ◌⊑◌, fact}
-use Rattle.jzon_tree.proofs.LentSteps.{fact_i, tables, ‵, raw, ◌⊛◌, some, later, ◌$◌, ◌∵◌, !, qed, by, move, keep, drop}
-use Rattle.jzon_tree.proofs.LentSteps.{use0, use1, use2, split, join, fjoin, pick, await, enter, addr, stop, no_more}
-use Rattle.jzon_tree.proofs.LentSteps.{and_then, returns, alloc_all, pass_all, free_all, look_at, get, through, sets}
-use Rattle.jzon_tree.proofs.LentSteps.{lands_as, RefMutOf, usize, yes, no, RattleType, Valss, owns, MutRef, mut_vals}
-use Rattle.jzon_tree.proofs.LentSteps.{mut_Tells, row_lawful, lent_field, row_loose, uint_vals, uint_Tells, plain}
-use Rattle.jzon_tree.proofs.LentSteps.{type_at, types_at, nothing, peeks, Is, shows, calls_at, lasts, Lasts, at_exit}
-use Rattle.jzon_tree.proofs.LentSteps.{triple_of, framed, Stays, walk_of, stay_dropped, Goes-dropped, Goes-spent_ref}
-use Rattle.jzon_tree.proofs.LentSteps.{named, w64, Lfts, Shares, vals, tells, within_static}
+use Rattle.jzon_tree.proofs.Values.LentSteps.{[], ◌∷◌, refl, proved, leaves, full_share, id⊢, emp, ftrue, flft, ◌⊑◌, fact}
+use Rattle.jzon_tree.proofs.Values.LentSteps.{fact_i, tables, ‵, raw, ◌⊛◌, some, later, ◌$◌, ◌∵◌, !, qed, by, move, keep, drop}
+use Rattle.jzon_tree.proofs.Values.LentSteps.{use0, use1, use2, split, join, fjoin, pick, await, enter, addr, stop, no_more}
+use Rattle.jzon_tree.proofs.Values.LentSteps.{and_then, returns, alloc_all, pass_all, free_all, look_at, get, through, sets}
+use Rattle.jzon_tree.proofs.Values.LentSteps.{lands_as, RefMutOf, usize, yes, no, RattleType, Valss, owns, MutRef, mut_vals}
+use Rattle.jzon_tree.proofs.Values.LentSteps.{mut_Tells, row_lawful, lent_field, row_loose, uint_vals, uint_Tells, plain}
+use Rattle.jzon_tree.proofs.Values.LentSteps.{type_at, types_at, nothing, peeks, Is, shows, calls_at, lasts, Lasts, at_exit}
+use Rattle.jzon_tree.proofs.Values.LentSteps.{triple_of, framed, Stays, walk_of, stay_dropped, Goes-dropped, Goes-spent_ref}
+use Rattle.jzon_tree.proofs.Values.LentSteps.{named, w64, Lfts, Shares, vals, tells, within_static}
 use Rattle.std.specs.contracts.result.Result as result
 use Rattle.jzon_base.specs.contracts.error.Error as error
 use Rattle.jzon_base.proofs.error.Error.TheLaws as error_laws

@@ -1,14 +1,14 @@
 -- `at_mut` returns the reference that the trait's `at_in` returns. The borrow checker produces no proof of a clause
 -- from a type to itself.
-use Rattle.jzon_tree.proofs.LentSteps.{[], ◌∷◌, refl, proved, leaves, full_share, id⊢, emp, ftrue, flft, ◌⊑◌, fact}
-use Rattle.jzon_tree.proofs.LentSteps.{fact_i, tables, ‵, raw, ◌⊛◌, some, later, ◌$◌, ◌∵◌, !, qed, by, move, keep, drop}
-use Rattle.jzon_tree.proofs.LentSteps.{use0, use1, use2, split, join, fjoin, pick, await, enter, addr, stop, no_more}
-use Rattle.jzon_tree.proofs.LentSteps.{and_then, returns, alloc_all, pass_all, free_all, look_at, get, through, sets}
-use Rattle.jzon_tree.proofs.LentSteps.{lands_as, RefMutOf, StrRefOf, yes, no, RattleType, Valss, owns, MutRef, mut_vals}
-use Rattle.jzon_tree.proofs.LentSteps.{mut_Tells, row_lawful, lent_field, row_loose, shr_slice_vals, plain, type_at}
-use Rattle.jzon_tree.proofs.LentSteps.{types_at, nothing, peeks, Is, shows, calls_at, lasts, Lasts, at_exit, triple_of}
-use Rattle.jzon_tree.proofs.LentSteps.{framed, Stays, walk_of, stay_dropped, Goes-dropped, Goes-spent_ref, named, Lfts}
-use Rattle.jzon_tree.proofs.LentSteps.{Shares, vals, tells, within_static}
+use Rattle.jzon_tree.proofs.Values.LentSteps.{[], ◌∷◌, refl, proved, leaves, full_share, id⊢, emp, ftrue, flft, ◌⊑◌, fact}
+use Rattle.jzon_tree.proofs.Values.LentSteps.{fact_i, tables, ‵, raw, ◌⊛◌, some, later, ◌$◌, ◌∵◌, !, qed, by, move, keep, drop}
+use Rattle.jzon_tree.proofs.Values.LentSteps.{use0, use1, use2, split, join, fjoin, pick, await, enter, addr, stop, no_more}
+use Rattle.jzon_tree.proofs.Values.LentSteps.{and_then, returns, alloc_all, pass_all, free_all, look_at, get, through, sets}
+use Rattle.jzon_tree.proofs.Values.LentSteps.{lands_as, RefMutOf, StrRefOf, yes, no, RattleType, Valss, owns, MutRef, mut_vals}
+use Rattle.jzon_tree.proofs.Values.LentSteps.{mut_Tells, row_lawful, lent_field, row_loose, shr_slice_vals, plain, type_at}
+use Rattle.jzon_tree.proofs.Values.LentSteps.{types_at, nothing, peeks, Is, shows, calls_at, lasts, Lasts, at_exit, triple_of}
+use Rattle.jzon_tree.proofs.Values.LentSteps.{framed, Stays, walk_of, stay_dropped, Goes-dropped, Goes-spent_ref, named, Lfts}
+use Rattle.jzon_tree.proofs.Values.LentSteps.{Shares, vals, tells, within_static}
 use Rattle.std.specs.contracts.result.Result as result
 use Rattle.jzon_base.specs.contracts.error.Error as error
 use Rattle.jzon_base.proofs.error.Error.TheLaws as error_laws

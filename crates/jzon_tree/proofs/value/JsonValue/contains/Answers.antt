@@ -2,7 +2,7 @@ use Rattle.jzon_base.proofs.Common.{◌∙◌, Bool, sym, ap, list_any}
 use Rattle.jzon_tree.specs.Same.{same}
 use Rattle.jzon_tree.specs.Value.{Value}
 use Rattle.jzon_tree.specs.View.{view}
-use Rattle.jzon_tree.proofs.Seen.{items-Array, any-viewed}
+use Rattle.jzon_tree.proofs.Values.PartViews.{items-Array, any-viewed}
 use Rattle.jzon_tree.proofs.value.JsonValue.contains.Goals as goal
 
 pub returns-in-Array : goal.returns-in-Array

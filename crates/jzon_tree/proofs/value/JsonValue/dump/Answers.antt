@@ -1,7 +1,7 @@
 use Rattle.jzon_base.proofs.Common.{false, string_bytes}
 use Rattle.jzon_tree.specs.Text.{compact_layout}
 use Rattle.jzon_tree.specs.View.{view}
-use Rattle.jzon_tree.proofs.Consumed.{only_text}
+use Rattle.jzon_tree.proofs.Printing.MemoryTexts.{only_text}
 use Rattle.jzon_tree.proofs.value.JsonValue.dump.Goals as goal
 
 pub returns-clause-text : goal.returns-clause-text

@@ -1,14 +1,14 @@
 -- `get_mut` returns the reference that the trait's `get_in` returns. The borrow checker produces no proof of a clause
 -- from a type to itself.
-use Rattle.jzon_tree.proofs.LentSteps.{[], ◌∷◌, refl, proved, leaves, full_share, id⊢, emp, ftrue, flft, ◌⊑◌, fact}
-use Rattle.jzon_tree.proofs.LentSteps.{fact_i, tables, ‵, raw, ◌⊛◌, some, later, ◌$◌, ◌∵◌, !, qed, by, move, keep, drop}
-use Rattle.jzon_tree.proofs.LentSteps.{use0, use1, use2, split, join, fjoin, pick, await, enter, addr, stop, no_more}
-use Rattle.jzon_tree.proofs.LentSteps.{and_then, returns, alloc_all, pass_all, free_all, look_at, get, through, sets}
-use Rattle.jzon_tree.proofs.LentSteps.{lands_as, RefMutOf, StrRefOf, yes, no, RattleType, Valss, owns, MutRef, mut_vals}
-use Rattle.jzon_tree.proofs.LentSteps.{mut_Tells, row_lawful, lent_field, shr_slice_vals, plain, type_at, types_at}
-use Rattle.jzon_tree.proofs.LentSteps.{nothing, peeks, Is, shows, calls_at, lasts, Lasts, at_exit, triple_of, framed}
-use Rattle.jzon_tree.proofs.LentSteps.{Stays, walk_of, stay_dropped, Goes-dropped, Goes-spent_ref, named, Lfts, Shares}
-use Rattle.jzon_tree.proofs.LentSteps.{within_static}
+use Rattle.jzon_tree.proofs.Values.LentSteps.{[], ◌∷◌, refl, proved, leaves, full_share, id⊢, emp, ftrue, flft, ◌⊑◌, fact}
+use Rattle.jzon_tree.proofs.Values.LentSteps.{fact_i, tables, ‵, raw, ◌⊛◌, some, later, ◌$◌, ◌∵◌, !, qed, by, move, keep, drop}
+use Rattle.jzon_tree.proofs.Values.LentSteps.{use0, use1, use2, split, join, fjoin, pick, await, enter, addr, stop, no_more}
+use Rattle.jzon_tree.proofs.Values.LentSteps.{and_then, returns, alloc_all, pass_all, free_all, look_at, get, through, sets}
+use Rattle.jzon_tree.proofs.Values.LentSteps.{lands_as, RefMutOf, StrRefOf, yes, no, RattleType, Valss, owns, MutRef, mut_vals}
+use Rattle.jzon_tree.proofs.Values.LentSteps.{mut_Tells, row_lawful, lent_field, shr_slice_vals, plain, type_at, types_at}
+use Rattle.jzon_tree.proofs.Values.LentSteps.{nothing, peeks, Is, shows, calls_at, lasts, Lasts, at_exit, triple_of, framed}
+use Rattle.jzon_tree.proofs.Values.LentSteps.{Stays, walk_of, stay_dropped, Goes-dropped, Goes-spent_ref, named, Lfts, Shares}
+use Rattle.jzon_tree.proofs.Values.LentSteps.{within_static}
 use Rattle.std.specs.contracts.option.Option as option
 use Rattle.jzon_tree.specs.contracts.value.JsonValue.{the_row as J}
 use Rattle.jzon_tree.specs.contracts.value.JsonValue.get_mut as f

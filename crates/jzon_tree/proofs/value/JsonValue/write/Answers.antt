@@ -1,7 +1,7 @@
 use Rattle.jzon_base.proofs.Common.{refl, false, rules}
 use Rattle.jzon_tree.specs.Text.{compact_layout}
 use Rattle.jzon_tree.specs.View.{view}
-use Rattle.jzon_tree.proofs.Unique.{given_back_ok, given_back_err}
+use Rattle.jzon_tree.proofs.Laws.Unique.{given_back_ok, given_back_err}
 use Rattle.jzon_tree.proofs.value.JsonValue.write.Goals as goal
 
 pub returns-clause-ok : goal.returns-clause-ok

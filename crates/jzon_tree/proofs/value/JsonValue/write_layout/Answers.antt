@@ -1,6 +1,6 @@
 use Rattle.jzon_base.proofs.Common.{refl, rules}
 use Rattle.jzon_tree.specs.View.{view}
-use Rattle.jzon_tree.proofs.Unique.{given_back}
+use Rattle.jzon_tree.proofs.Laws.Unique.{given_back}
 use Rattle.jzon_tree.proofs.value.JsonValue.write_layout.Goals as goal
 
 pub returns-clause-writing : goal.returns-clause-writing

@@ -2,8 +2,8 @@ use Rattle.jzon_base.proofs.Common.{arith, rules, take, take_all}
 use Rattle.jzon_tree.specs.declared.value.JsonValue.{the_lemmas}
 use Rattle.jzon_tree.specs.Entries.{entries_of}
 use Rattle.jzon_tree.specs.View.{view}
-use Rattle.jzon_tree.proofs.Inspected.{inside, inside_more, inspected_object}
-use Rattle.jzon_tree.proofs.Ordered.{whole_object, pairs_more, most-at}
+use Rattle.jzon_tree.proofs.Values.Inspections.{inside, inside_more, inspected_object}
+use Rattle.jzon_tree.proofs.Printing.OrderedEntries.{whole_object, pairs_more, most-at}
 use Rattle.jzon_tree.proofs.value.inspect.+inspect.Goals as goal
 
 pub inspect_object-inspect-requires : goal.inspect_object-inspect-requires

@@ -4,7 +4,7 @@ use Rattle.jzon_tree.specs.Private.Inspected.{IsInspected}
 use Rattle.jzon_tree.specs.Lawful.{ArePairs}
 use Rattle.jzon_tree.specs.Value.{array, values_of}
 use Rattle.jzon_tree.specs.View.{view, view_pairs}
-use Rattle.jzon_tree.proofs.Inspected.{inside}
+use Rattle.jzon_tree.proofs.Values.Inspections.{inside}
 use Rattle.jzon_tree.proofs.value.inspect.+inspect.Given as goal
 
 abbrev pub invariant-inspect_items-loop-item : goal.invariant-inspect_items-loop-item

@@ -1,6 +1,6 @@
 use Rattle.jzon_base.proofs.Common.{◌∙◌, length, refl, ap, arith, length-set}
 use Rattle.jzon_base.specs.Private.Handed.{entries_of}
-use Rattle.jzon_base.proofs.Refilled.{AreRefilled-none, AreRefilled-more, AreRefilled-all}
+use Rattle.jzon_base.proofs.KeyIndex.Refills.{AreRefilled-none, AreRefilled-more, AreRefilled-all}
 use Rattle.jzon_base.proofs.keys.runs.Runs.refill.Goals as goal
 
 pub loop-at-init : goal.loop-at-init

@@ -1,5 +1,5 @@
 use Rattle.jzon_base.proofs.Common.{◌≡◌, length}
-use Rattle.jzon_base.proofs.Refilled.{AreRefilled}
+use Rattle.jzon_base.proofs.KeyIndex.Refills.{AreRefilled}
 use Rattle.jzon_base.proofs.keys.runs.Runs.refill.Given as goal
 
 abbrev pub invariant-loop-at : goal.invariant-loop-at

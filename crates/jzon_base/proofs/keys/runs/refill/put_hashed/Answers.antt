@@ -1,8 +1,8 @@
 use Rattle.jzon_base.proofs.Common.{◌≡◌, ◌-◌, ◌∙◌, length, take, drop, sym, arith, length-take-le}
 use Rattle.std.proofs.Common.{length-drop, take_all}
 use Rattle.jzon_base.specs.Private.Keys.{hashed_from}
-use Rattle.jzon_base.proofs.Indexes.{hashed_from-none}
-use Rattle.jzon_base.proofs.Refilled.{hashed_from-set}
+use Rattle.jzon_base.proofs.KeyIndex.Indexes.{hashed_from-none}
+use Rattle.jzon_base.proofs.KeyIndex.Refills.{hashed_from-set}
 use Rattle.jzon_base.proofs.keys.runs.refill.put_hashed.Goals as goal
 
 pub loop-at-init : goal.loop-at-init

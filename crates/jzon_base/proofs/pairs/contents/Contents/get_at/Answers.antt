@@ -1,5 +1,5 @@
 use Rattle.jzon_base.proofs.Common.{◌∙◌, sym, ap, arith, slice_get_read, slice_get}
-use Rattle.jzon_base.proofs.Zips.{AreParts-zip, slice_get-zip}
+use Rattle.jzon_base.proofs.Entries.Zips.{AreParts-zip, slice_get-zip}
 use Rattle.jzon_base.proofs.pairs.contents.Contents.get_at.Goals as goal
 
 pub get-requires : goal.get-requires

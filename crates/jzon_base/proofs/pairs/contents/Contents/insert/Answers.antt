@@ -1,7 +1,7 @@
 use Rattle.jzon_base.proofs.Common.{◌≡◌, ◌∙◌, ◌++◌, ◌∷◌, [], ap, set, sym, rules, None, zip, position, bytes_eq}
 use Rattle.jzon_base.specs.PairList.{find}
-use Rattle.jzon_base.proofs.PairPlaces.{find_missing, zip-put_placed, zip-put_missing}
-use Rattle.jzon_base.proofs.Zips.{AreParts-zip}
+use Rattle.jzon_base.proofs.Entries.PairPositions.{find_missing, zip-put_placed, zip-put_missing}
+use Rattle.jzon_base.proofs.Entries.Zips.{AreParts-zip}
 use Rattle.jzon_base.proofs.pairs.contents.Contents.insert.Goals as goal
 
 pub returns-in_err-index-clause-present : goal.returns-in_err-index-clause-present

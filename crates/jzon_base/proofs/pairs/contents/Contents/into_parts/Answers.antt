@@ -1,4 +1,4 @@
-use Rattle.jzon_base.proofs.Zips.{AreParts-zip}
+use Rattle.jzon_base.proofs.Entries.Zips.{AreParts-zip}
 use Rattle.jzon_base.proofs.pairs.contents.Contents.into_parts.Goals as goal
 
 pub returns-clause-keys : goal.returns-clause-keys

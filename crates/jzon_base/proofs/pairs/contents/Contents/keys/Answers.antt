@@ -1,4 +1,4 @@
-use Rattle.jzon_base.proofs.Zips.{AreParts-zip}
+use Rattle.jzon_base.proofs.Entries.Zips.{AreParts-zip}
 use Rattle.jzon_base.proofs.pairs.contents.Contents.keys.Goals as goal
 
 pub returns : goal.returns

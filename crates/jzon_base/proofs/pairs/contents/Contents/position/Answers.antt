@@ -1,5 +1,5 @@
 use Rattle.jzon_base.proofs.Common.{◌∙◌, ap, position, bytes_eq}
-use Rattle.jzon_base.proofs.Zips.{AreParts-zip}
+use Rattle.jzon_base.proofs.Entries.Zips.{AreParts-zip}
 use Rattle.jzon_base.proofs.pairs.contents.Contents.position.Goals as goal
 
 pub returns : goal.returns

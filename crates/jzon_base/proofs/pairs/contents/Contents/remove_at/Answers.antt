@@ -1,5 +1,5 @@
 use Rattle.jzon_base.proofs.Common.{◌∙◌, ap, arith, slice_get_read, zip, remove}
-use Rattle.jzon_base.proofs.Zips.{AreParts-zip, zip-remove}
+use Rattle.jzon_base.proofs.Entries.Zips.{AreParts-zip, zip-remove}
 use Rattle.jzon_base.proofs.pairs.contents.Contents.remove_at.Goals as goal
 
 pub remove-requires : goal.remove-requires

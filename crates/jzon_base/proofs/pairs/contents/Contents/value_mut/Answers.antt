@@ -1,6 +1,6 @@
 use Rattle.jzon_base.proofs.Common.{◌∙◌, ap, refl, arith, slice_get_read}
 use Rattle.jzon_base.specs.PairList.{set_value}
-use Rattle.jzon_base.proofs.Zips.{AreParts-zip, zip-set}
+use Rattle.jzon_base.proofs.Entries.Zips.{AreParts-zip, zip-set}
 use Rattle.jzon_base.proofs.pairs.contents.Contents.value_mut.Goals as goal
 
 pub index_mut-requires : goal.index_mut-requires

@@ -1,5 +1,5 @@
 use Rattle.jzon_base.proofs.Common.{◌∙◌}
-use Rattle.jzon_base.proofs.Zips.{AreParts-zip}
+use Rattle.jzon_base.proofs.Entries.Zips.{AreParts-zip}
 use Rattle.jzon_base.proofs.pairs.contents.Contents.values.Goals as goal
 
 pub returns : goal.returns

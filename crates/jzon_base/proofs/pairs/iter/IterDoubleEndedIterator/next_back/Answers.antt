@@ -1,5 +1,5 @@
 use Rattle.jzon_base.proofs.Common.{◌≡◌, ◌∙◌, ◌+◌, sym, ap, length, rules, length_push, zip, iter_rest}
-use Rattle.jzon_base.proofs.Zips.{zip-last}
+use Rattle.jzon_base.proofs.Entries.Zips.{zip-last}
 use Rattle.jzon_base.proofs.pairs.iter.IterDoubleEndedIterator.next_back.Goals as goal
 
 pub returns-clause-steps : goal.returns-clause-steps

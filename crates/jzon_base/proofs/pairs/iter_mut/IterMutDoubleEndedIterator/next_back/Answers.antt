@@ -1,7 +1,7 @@
 use Rattle.jzon_base.proofs.Common.{◌≡◌, ◌∙◌, ◌+◌, ap, length, rules, length_push, zip}
 use Rattle.std.specs.Slice.Iter as slice
 use Rattle.jzon_base.specs.IterMut.{iter_mut_rest}
-use Rattle.jzon_base.proofs.Zips.{length-last, zip-last}
+use Rattle.jzon_base.proofs.Entries.Zips.{length-last, zip-last}
 use Rattle.jzon_base.proofs.pairs.iter_mut.IterMutDoubleEndedIterator.next_back.Goals as goal
 
 pub returns-clause-steps : goal.returns-clause-steps

@@ -1,8 +1,8 @@
 use Rattle.jzon_base.proofs.Common.{[], ◌∷◌}
 use Rattle.jzon_tree.specs.Generator.{Just, IsForm, IsKey}
 use Rattle.jzon_tree.specs.Text.{quoted}
-use Rattle.jzon_tree.proofs.Emitting.{Failed-begins, Emits-at_err, Emits-after, Emits-stored}
-use Rattle.jzon_tree.proofs.Exits.{key_colon, key_begins}
+use Rattle.jzon_tree.proofs.Printing.Emissions.{Failed-begins, Emits-at_err, Emits-after, Emits-stored}
+use Rattle.jzon_tree.proofs.Printing.Exits.{key_colon, key_begins}
 use Rattle.jzon_tree.proofs.codegen.generator.Generator.try_write_key.Goals as goal
 
 pub returns-in_err-try_write_string-clause-bytes : goal.returns-in_err-try_write_string-clause-bytes

@@ -1,6 +1,6 @@
 use Rattle.jzon_base.proofs.Common.{[], ◌∷◌, refl}
 use Rattle.jzon_tree.specs.Generator.{Just}
-use Rattle.jzon_tree.proofs.Emitting.{Emits-handed}
+use Rattle.jzon_tree.proofs.Printing.Emissions.{Emits-handed}
 use Rattle.jzon_tree.proofs.codegen.generator.Generator.write_char.Goals as goal
 
 pub returns : goal.returns

@@ -3,8 +3,8 @@ use Rattle.jzon_base.proofs.Common.{prefix_len, prefix_len-le-length}
 use Rattle.jzon_base.specs.Private.PlainBytes.{is_plain}
 use Rattle.jzon_tree.specs.Generator.{Just}
 use Rattle.jzon_tree.specs.Text.{escaped, quoted}
-use Rattle.jzon_tree.proofs.Emitting.{Failed-begins, Emits-at_err, Emits-after}
-use Rattle.jzon_tree.proofs.Plain.{escaped-run}
+use Rattle.jzon_tree.proofs.Printing.Emissions.{Failed-begins, Emits-at_err, Emits-after}
+use Rattle.jzon_tree.proofs.Printing.PlainRuns.{escaped-run}
 use Rattle.jzon_tree.proofs.codegen.generator.Generator.write_string.Goals as goal
 
 pub returns-in_err-write_char : goal.returns-in_err-write_char

@@ -3,9 +3,9 @@ use Rattle.jzon_base.proofs.Common.{nil_from_length, take_rest}
 use Rattle.jzon_base.specs.Private.PlainBytes.{is_plain}
 use Rattle.jzon_tree.specs.Generator.{Just}
 use Rattle.jzon_tree.specs.Text.{escaped}
-use Rattle.jzon_tree.proofs.Emitting.{Added-chain, Failed-chain, Added-chained, Failed-chained}
-use Rattle.jzon_tree.proofs.Emitting.{Emits-at_err, Emits-after}
-use Rattle.jzon_tree.proofs.SentStrings.{any_run_stopped, escape_stopped, escape_sent, last_sent, needs_escape, whole}
+use Rattle.jzon_tree.proofs.Printing.Emissions.{Added-chain, Failed-chain, Added-chained, Failed-chained}
+use Rattle.jzon_tree.proofs.Printing.Emissions.{Emits-at_err, Emits-after}
+use Rattle.jzon_tree.proofs.Printing.StringRuns.{any_run_stopped, escape_stopped, escape_sent, last_sent, needs_escape, whole}
 use Rattle.jzon_tree.proofs.codegen.generator.Generator.write_string_complex.Goals as goal
 
 pub split_at-requires-in-loop-byte : goal.split_at-requires-in-loop-byte

@@ -1,6 +1,6 @@
 use Rattle.jzon_base.proofs.Common.{length, take, drop}
 use Rattle.jzon_tree.specs.Generator.{Added}
-use Rattle.jzon_tree.proofs.SentStrings.{Left}
+use Rattle.jzon_tree.proofs.Printing.StringRuns.{Left}
 use Rattle.jzon_tree.proofs.codegen.generator.Generator.write_string_complex.Given as goal
 
 -- what has been written and what is left make up the whole

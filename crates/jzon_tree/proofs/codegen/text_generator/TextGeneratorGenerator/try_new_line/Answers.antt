@@ -4,8 +4,8 @@ use Rattle.jzon_tree.specs.StyleLaws.{spaces_are_whitespace}
 use Rattle.jzon_tree.specs.Styles.{LaysOut}
 use Rattle.jzon_tree.specs.Text.{pretty_layout}
 use Rattle.jzon_tree.specs.Writing.{IsAllowedWhitespace}
-use Rattle.jzon_tree.proofs.Emitting.{Emits-counted}
-use Rattle.jzon_tree.proofs.Sent.{adds_weaker}
+use Rattle.jzon_tree.proofs.Printing.Emissions.{Emits-counted}
+use Rattle.jzon_tree.proofs.Printing.Appends.{adds_weaker}
 use Rattle.jzon_tree.specs.Generator.{Just}
 use Rattle.jzon_tree.proofs.codegen.text_generator.TextGeneratorGenerator.try_new_line.Goals as goal
 
@@ -33,9 +33,9 @@ returns-clause-bytes g c =
     let place = c.put_line.new.self in
     let writer = c.send_line-step.new.writer in
     Emits-counted (IsAllowedWhitespace style s.dent) ((pretty_layout n).line s.dent)
-    (text_meaning g.P.Place.out g.P.Place.lender g.L.Layout.style s) _ _ _ _ _ _
+    (text_meaning g.P.Destination.out g.P.Destination.lender g.L.Layout.style s) _ _ _ _ _ _
     (spaces_are_whitespace false (s.dent * n), laid.0 s.dent)
     (c.writer.ensures.bytes ∙ c.put_line.ensures.left c.if-put_line.false) c.send_line-step.ensures.bytes
-    (same_emitted (g.met.P.Place.out_law place writer)
-    (g.met.P.Place.lender_law place writer ∙ c.put_line.ensures.lender))
+    (same_emitted (g.met.P.Destination.out_law place writer)
+    (g.met.P.Destination.lender_law place writer ∙ c.put_line.ensures.lender))
     c.count.ensures.result c.count.ensures.faults

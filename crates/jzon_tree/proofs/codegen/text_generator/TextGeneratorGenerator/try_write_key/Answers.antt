@@ -6,8 +6,8 @@ use Rattle.jzon_tree.specs.Generators.{text_meaning, same_emitted}
 use Rattle.jzon_tree.specs.Styles.{LaysOut}
 use Rattle.jzon_tree.specs.Text.{quoted}
 use Rattle.jzon_tree.specs.Writing.{Style}
-use Rattle.jzon_tree.proofs.Emitting.{Failed-begins, Emits-at_err, Emits-after}
-use Rattle.jzon_tree.proofs.Exits.{key_begins}
+use Rattle.jzon_tree.proofs.Printing.Emissions.{Failed-begins, Emits-at_err, Emits-after}
+use Rattle.jzon_tree.proofs.Printing.Exits.{key_begins}
 use Rattle.jzon_tree.proofs.codegen.text_generator.TextGeneratorGenerator.try_write_key.Goals as goal
 use mir.Val.{bool_byte}
 
@@ -21,7 +21,7 @@ pub returns-in_err-try_write_string-clause-bytes : goal.returns-in_err-try_write
 returns-in_err-try_write_string-clause-bytes g c =
     let s = c.args.self.now in
     let k = c.args.key.now in
-    let end = text_meaning g.P.Place.out g.P.Place.lender g.L.Layout.style c.try_write_string.new.self in
+    let end = text_meaning g.P.Destination.out g.P.Destination.lender g.L.Layout.style c.try_write_string.new.self in
     Emits-at_err _ _ _ _ c.from_residual.ensures.0 (Failed-begins (Just (quoted k)) (IsKey (g.L.Layout.style s.layout) k)
     _ _ (key_begins (g.L.Layout.style s.layout) k (g.met.L.Layout.style_law s.layout))
     (subst (λ (m : Emitted). Failed (Just (quoted k)) m end)
@@ -32,7 +32,7 @@ pub returns-clause-bytes : goal.returns-clause-bytes
 returns-clause-bytes g c =
     let k = c.args.key.now in
     let style = g.L.Layout.style c.args.self.now.layout in
-    let mid = text_meaning g.P.Place.out g.P.Place.lender g.L.Layout.style c.try_write_string.new.self in
+    let mid = text_meaning g.P.Destination.out g.P.Destination.lender g.L.Layout.style c.try_write_string.new.self in
     Emits-after (Just (quoted k)) (λ _ _. Just (take (1 + c.from.result) (58 ∷ 32 ∷ []))) (IsKey style k) _ _ _
     (λ x y. laid_key style c.spaces.result _ _ k x y c.is_some-wide.ensures c.from.ensures c.spaces.ensures)
     (subst (λ (m : Emitted). Added (Just (quoted k)) m mid)

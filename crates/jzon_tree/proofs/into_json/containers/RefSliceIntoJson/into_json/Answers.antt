@@ -1,8 +1,8 @@
 use Rattle.jzon_base.proofs.Common.{rules, ◌++◌, ◌∷◌, [], map, subst, AllZip}
 use Rattle.std.proofs.Common.{take_all}
 use Rattle.jzon_tree.specs.View.{view}
-use Rattle.jzon_tree.proofs.Means.{AllZip-push_map, AllZip-take_next}
-use Rattle.jzon_tree.proofs.Views.{view-Array}
+use Rattle.jzon_tree.proofs.Values.PointwiseRelations.{AllZip-push_map, AllZip-take_next}
+use Rattle.jzon_tree.proofs.Values.Views.{view-Array}
 use Rattle.jzon_tree.proofs.into_json.containers.RefSliceIntoJson.into_json.Goals as goal
 
 pub loop-item-preserved : goal.loop-item-preserved

@@ -1,7 +1,7 @@
 use Rattle.jzon_base.proofs.Common.{arith, map, subst, into_iter_items, AllZip}
 use Rattle.jzon_tree.specs.View.{view}
-use Rattle.jzon_tree.proofs.Means.{AllZip-push_map, one_more, nothing_left}
-use Rattle.jzon_tree.proofs.Views.{view-Array}
+use Rattle.jzon_tree.proofs.Values.PointwiseRelations.{AllZip-push_map, one_more, nothing_left}
+use Rattle.jzon_tree.proofs.Values.Views.{view-Array}
 use Rattle.jzon_tree.proofs.into_json.containers.VecIntoJson.into_json.Goals as goal
 
 pub loop-item-preserved : goal.loop-item-preserved

@@ -1,6 +1,6 @@
 use Rattle.jzon_base.proofs.Common.{ℕ, List, Bor, keys, slice_cmp, eq_by_cmp, nat_cmp, IsDistinct-from_sorted}
 use Rattle.jzon_base.proofs.Common.{is_eq-slice_cmp}
-use Rattle.jzon_tree.proofs.PutPairs.{map_put}
+use Rattle.jzon_tree.proofs.Values.PutPairs.{map_put}
 use Rattle.jzon_tree.proofs.into_json.maps.BTreeMapRefStrIntoJson.into_json.Goals as goal
 
 pub returns-clause-meant : goal.returns-clause-meant

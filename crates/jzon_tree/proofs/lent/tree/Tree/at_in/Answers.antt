@@ -1,6 +1,6 @@
 use Rattle.jzon_base.proofs.Common.{◌≡◌, ◌∙◌, ap, inl, sym, IsSome}
 use Rattle.jzon_base.specs.PairList.{find, put, with_default}
-use Rattle.jzon_base.proofs.PairPlaces.{find-with_default, put-with_default}
+use Rattle.jzon_base.proofs.Entries.PairPositions.{find-with_default, put-with_default}
 use Rattle.jzon_tree.proofs.lent.tree.Tree.at_in.Goals as goal
 
 pub unreachable-requires : goal.unreachable-requires

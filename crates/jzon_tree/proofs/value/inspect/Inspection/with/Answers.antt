@@ -1,5 +1,5 @@
 use Rattle.jzon_base.proofs.Common.{rules}
-use Rattle.jzon_tree.proofs.Inspected.{inspected_more}
+use Rattle.jzon_tree.proofs.Values.Inspections.{inspected_more}
 use Rattle.jzon_tree.proofs.value.inspect.Inspection.with.Goals as goal
 
 pub returns : goal.returns

@@ -1,0 +1,142 @@
+-- Whitespace of 16 bytes at once. Letters: v the bytes of a block, d all bytes, i the offset of the block.
+use Rattle.jzon_base.proofs.Common.{◌≡◌, ℕ, suc, ◌+◌, ◌-◌, ◌*◌, ◌%◌, ◌^◌, ◌≤◌, ◌<◌, eqb, Bool, true, false, not, cond}
+use Rattle.jzon_base.proofs.Common.{List, [], ◌∷◌, length, take, drop, get_or, map, replicate, bit_or, Fits, w8, refl}
+use Rattle.jzon_base.proofs.Common.{sym, ap, ◌∙◌, arith, nat_tests, prefix_len, length-drop, length-map, pow-suc}
+use Rattle.jzon_base.proofs.Common.{cases_lt, inl, inr, take_rest, chunk-fits, length-chunk, map-map, mask_l-mod}
+use Rattle.jzon_base.proofs.Common.{zip2_splat}
+use Rattle.std.proofs.lemmas.List.Sums.{prefix_len_passes}
+use Rattle.std.proofs.lemmas.Simd.{leading_from_mask_l, trailing_mask_l, zip2_of_maps}
+use lib.Count.{count_trailing_zeros}
+use lib.Lanes.{chunk, mask_l, top, zip2}
+use Rattle.jzon_tree.specs.Writing.{is_whitespace}
+use Rattle.jzon_base.proofs.Strings.PlainBlocks.{past, prefix_ends, prefix_passes, same_run}
+
+abbrev equal : ℕ → ℕ → ℕ
+equal a b = cond (eqb a b) 255 0
+
+-- the result of the code's four tests for one byte
+abbrev lane : ℕ → ℕ
+lane x = bit_or (bit_or (equal x 32) (equal x 9)) (bit_or (equal x 10) (equal x 13))
+
+abbrev other : ℕ → Bool
+other x = not (top 7 (lane x))
+
+-- the bytes of a block that pass one of the tests, a bit for each
+abbrev pub mask_of : List ℕ → ℕ
+mask_of v = mask_l (map (top 7) (zip2 bit_or
+    (zip2 bit_or (zip2 equal v (replicate 16 32)) (zip2 equal v (replicate 16 9)))
+    (zip2 bit_or (zip2 equal v (replicate 16 10)) (zip2 equal v (replicate 16 13))))) % 2 ^ 64
+
+mask_is : (v : List ℕ) → length v ≡ 16 → mask_of v ≡ mask_l (map (λ x. top 7 (lane x)) v)
+mask_is v long =
+    let blanks = zip2_of_maps bit_or _ _ v (zip2_splat equal v 16 32 long) (zip2_splat equal v 16 9 long) in
+    let ends = zip2_of_maps bit_or _ _ v (zip2_splat equal v 16 10 long) (zip2_splat equal v 16 13 long) in
+    ap (λ l. mask_l l % 2 ^ 64)
+    (ap (map (top 7)) (zip2_of_maps bit_or _ _ v blanks ends) ∙ map-map (top 7) lane v)
+    ∙ mask_l-mod (map (λ x. top 7 (lane x)) v) 64 (omega (arith, length-map v (λ x. top 7 (lane x)), long))
+
+-- the mask of the other bytes
+others-at : (b : Bool) (m k n : ℕ) → m + k + 1 ≡ 2 ^ n
+    → (cond b 1 0 + 2 * m) + (cond (not b) 1 0 + 2 * k) + 1 ≡ 2 ^ suc n
+others-at true m k n e = omega (arith, e, pow-suc 2 n)
+others-at false m k n e = omega (arith, e, pow-suc 2 n)
+
+others : (p : ℕ → Bool) (v : List ℕ) → mask_l (map p v) + mask_l (map (λ x. not (p x)) v) + 1 ≡ 2 ^ length v
+others p [] = refl
+others p (x ∷ xs) = others-at (p x) (mask_l (map p xs)) (mask_l (map (λ y. not (p y)) xs)) (length xs) (others p xs)
+
+others_are : (v : List ℕ) → length v ≡ 16 → 65535 - mask_of v ≡ mask_l (map other v)
+others_are v long =
+    let both = others (λ x. top 7 (lane x)) v ∙ ap (λ (n : ℕ). 2 ^ n) long in
+    omega (arith, both, mask_is v long)
+
+pub block_fits : (d : List ℕ) (i : ℕ) → i + 16 ≤ length d → mask_of (chunk i 16 d) ≤ 65535
+block_fits d i room =
+    let long = length-chunk i 16 d room in
+    let both = others (λ x. top 7 (lane x)) (chunk i 16 d) ∙ ap (λ (n : ℕ). 2 ^ n) long in
+    omega (arith, both, mask_is (chunk i 16 d) long)
+
+-- if there is one, it is in the block
+first-at : (b : Bool) (m n l : ℕ) → (0 < m → n < l) → 0 < cond b 1 0 + 2 * m → cond (not b) (1 + n) 0 < suc l
+first-at true m n l later some = omega arith
+first-at false m n l later some = omega (arith, later (omega arith))
+
+first : (p : ℕ → Bool) (v : List ℕ) → 0 < mask_l (map p v) → prefix_len (λ x. not (p x)) v < length v
+first p [] some = absurd (omega arith)
+first p (x ∷ xs) some =
+    first-at (p x) (mask_l (map p xs)) (prefix_len (λ y. not (p y)) xs) (length xs) (first p xs) some
+
+spaces : (d : List ℕ) (i : ℕ) → ((k : ℕ) → Fits w8 (get_or d k 0))
+    → prefix_len (λ x. not (other x)) (chunk i 16 d) ≡ prefix_len (is_whitespace true) (chunk i 16 d)
+spaces d i fits = same_run (λ x. not (other x)) (is_whitespace true) (chunk i 16 d) refl (chunk-fits w8 i 16 d fits)
+
+pub block_none : (d : List ℕ) (i : ℕ) → i + 16 ≤ length d → ((k : ℕ) → Fits w8 (get_or d k 0))
+    → 65535 - mask_of (chunk i 16 d) ≡ 0 → 16 ≤ prefix_len (is_whitespace true) (drop i d)
+block_none d i room fits none =
+    let long = length-chunk i 16 d room in
+    let all = leading_from_mask_l other (chunk i 16 d) (sym (others_are (chunk i 16 d) long) ∙ none) in
+    let passed = prefix_passes (is_whitespace true) (drop i d) 16 16 (omega (arith, length-drop i d))
+    (sym (sym (spaces d i fits) ∙ all ∙ long)) (omega arith) in
+    omega (arith, passed)
+
+pub block_within : (d : List ℕ) (i : ℕ) → i + 16 ≤ length d → (65535 - mask_of (chunk i 16 d) ≡ 0 → ⊥)
+    → count_trailing_zeros 64 (65535 - mask_of (chunk i 16 d)) < 16
+block_within d i room some =
+    let long = length-chunk i 16 d room in
+    let mask = others_are (chunk i 16 d) long in
+    let one : 0 < mask_l (map other (chunk i 16 d)) = omega (arith, some, mask) in
+    let zeros = ap (count_trailing_zeros 64) mask
+    ∙ trailing_mask_l other 64 (chunk i 16 d) (omega (arith, long)) one in
+    omega (arith, zeros, first other (chunk i 16 d) one, long)
+
+pub block_some : (d : List ℕ) (i : ℕ) → i + 16 ≤ length d → ((k : ℕ) → Fits w8 (get_or d k 0))
+    → (65535 - mask_of (chunk i 16 d) ≡ 0 → ⊥)
+    → count_trailing_zeros 64 (65535 - mask_of (chunk i 16 d)) ≡ prefix_len (is_whitespace true) (drop i d)
+block_some d i room fits some =
+    let long = length-chunk i 16 d room in
+    let mask = others_are (chunk i 16 d) long in
+    let one : 0 < mask_l (map other (chunk i 16 d)) = omega (arith, some, mask) in
+    let zeros = ap (count_trailing_zeros 64) mask
+    ∙ trailing_mask_l other 64 (chunk i 16 d) (omega (arith, long)) one ∙ spaces d i fits in
+    prefix_ends (is_whitespace true) (drop i d) 16 _ (omega (arith, length-drop i d)) zeros
+    (block_within d i room some)
+
+-- ---- in any reading
+
+strict_is_any : (s : Bool) (c : ℕ) → is_whitespace true c ≡ true → is_whitespace s c ≡ true
+strict_is_any true c h = h
+strict_is_any false c h = grind (arith, nat_tests)
+
+grows-at : (a b : Bool) (m n : ℕ) → (a ≡ true → b ≡ true) → m ≤ n → cond a (1 + m) 0 ≤ cond b (1 + n) 0
+grows-at true true m n h le = omega arith
+grows-at true false m n h le = absurd (let no : false ≡ true = h refl in cc)
+grows-at false b m n h le = omega arith
+
+grows : (s : Bool) (xs : List ℕ) → prefix_len (is_whitespace true) xs ≤ prefix_len (is_whitespace s) xs
+grows s [] = omega arith
+grows s (x ∷ xs) = grows-at (is_whitespace true x) (is_whitespace s x) _ _ (strict_is_any s x) (grows s xs)
+
+-- a run that goes on from i by at least n bytes
+pub goes_on : (s : Bool) (d : List ℕ) (i n : ℕ) → i ≤ prefix_len (is_whitespace s) d
+    → n ≤ prefix_len (is_whitespace true) (drop i d) → i + n ≤ prefix_len (is_whitespace s) d
+goes_on s d i n before more = omega (arith, past (is_whitespace s) d i before, grows s (drop i d))
+
+above_is_none : (s : Bool) (c : ℕ) → 32 < c → is_whitespace s c ≡ true → ⊥
+above_is_none true c lt h = grind (arith, nat_tests)
+above_is_none false c lt h = grind (arith, nat_tests)
+
+-- it ends at a byte above the space
+pub ends_above : (s : Bool) (d : List ℕ) (i : ℕ) → i ≤ prefix_len (is_whitespace s) d → 32 < get_or d i 0
+    → i ≡ prefix_len (is_whitespace s) d
+ends_above s d i before above =
+    elim (cases_lt i (prefix_len (is_whitespace s) d)) [
+      | inl lt ↦
+          absurd (above_is_none s (get_or d i 0) above (prefix_len_passes (is_whitespace s) d i 0 lt))
+      | inr ge ↦ omega (arith, before, ge)
+    ]
+
+-- it ends after the r bytes that are counted from i on
+pub ends_after : (s : Bool) (d : List ℕ) (i r : ℕ) → i ≤ prefix_len (is_whitespace s) d
+    → r ≡ prefix_len (is_whitespace s) (take (length d - i) (drop i d)) → i + r ≡ prefix_len (is_whitespace s) d
+ends_after s d i r before counted =
+    omega (arith, counted ∙ ap (prefix_len (is_whitespace s)) (take_rest d i), past (is_whitespace s) d i before)

@@ -1,0 +1,56 @@
+use Rattle.jzon_base.proofs.Common.{◌∙◌, ◌++◌, ◌∷◌, [], ap, refl, false≢true}
+use Rattle.jzon.proofs.Containers.StackParts.{IsBack-from, IsLaidOut-back, IsLaidOut-back_pushed}
+use Rattle.jzon.proofs.Containers.StackParts.{IsAdded-back}
+use Rattle.jzon.proofs.stacks.Stacks.close_with.Goals.{then-is_some, else-is_some}
+use Rattle.jzon.proofs.stacks.Stacks.close_with.Goals as goal
+
+pub invariant_of-self-in_err-reserve : goal.invariant_of-self-in_err-reserve
+invariant_of-self-in_err-reserve c =
+    IsLaidOut-back c.self.inside c.if-is_some.self-inside c.reserve.new.self (elim c.if-is_some.branch [
+      | then-is_some w ↦ IsBack-from c.args.self.now c.self.inside c.if-is_some.self-inside c.pop.new.self c.in-Some.frame
+          w.close_known.new.known w.close_known.new.around c.self.invariant c.self.view_is c.requires
+          c.in-Some.ensures.items (record {
+            usual = λ e. absurd (false≢true (cc (e, w.if-is_some.true, c.is_some.ensures)));
+            strict = λ _. w.close_known.ensures;
+          }) w.self-inside-is
+      | else-is_some w ↦ IsBack-from c.args.self.now c.self.inside c.if-is_some.self-inside c.pop.new.self c.in-Some.frame
+          c.self.inside.known c.self.inside.known_around c.self.invariant c.self.view_is c.requires
+          c.in-Some.ensures.items (record {
+            usual = λ _. refl;
+            strict = λ e. absurd (false≢true (cc (e, w.if-is_some.false, c.is_some.ensures)));
+          }) w.self-inside-is
+    ]) c.in_err-reserve.ensures.items
+
+pub invariant_of-self-2 : goal.invariant_of-self-2
+invariant_of-self-2 c =
+    IsLaidOut-back_pushed c.self.inside c.if-is_some.self-inside c.push_reserved.new.self c.args.value (elim c.if-is_some.branch [
+      | then-is_some w ↦ IsBack-from c.args.self.now c.self.inside c.if-is_some.self-inside c.pop.new.self c.in-Some.frame
+          w.close_known.new.known w.close_known.new.around c.self.invariant c.self.view_is c.requires
+          c.in-Some.ensures.items (record {
+            usual = λ e. absurd (false≢true (cc (e, w.if-is_some.true, c.is_some.ensures)));
+            strict = λ _. w.close_known.ensures;
+          }) w.self-inside-is
+      | else-is_some w ↦ IsBack-from c.args.self.now c.self.inside c.if-is_some.self-inside c.pop.new.self c.in-Some.frame
+          c.self.inside.known c.self.inside.known_around c.self.invariant c.self.view_is c.requires
+          c.in-Some.ensures.items (record {
+            usual = λ _. refl;
+            strict = λ e. absurd (false≢true (cc (e, w.if-is_some.false, c.is_some.ensures)));
+          }) w.self-inside-is
+    ]) (c.push_reserved.ensures.items ∙ ap (λ vs. vs ++ c.args.value ∷ []) c.in_ok-reserve.ensures.items)
+
+pub returns-clause-inner : goal.returns-clause-inner
+returns-clause-inner c = λ none.
+    IsAdded-back c.args.self.now c.self.inside c.if-is_some.self-inside c.push_reserved.new.self c.args.value c.self.view_is (elim c.if-is_some.branch [
+      | then-is_some w ↦ IsBack-from c.args.self.now c.self.inside c.if-is_some.self-inside c.pop.new.self c.in-Some.frame
+          w.close_known.new.known w.close_known.new.around c.self.invariant c.self.view_is c.requires
+          c.in-Some.ensures.items (record {
+            usual = λ e. absurd (false≢true (cc (e, w.if-is_some.true, c.is_some.ensures)));
+            strict = λ _. w.close_known.ensures;
+          }) w.self-inside-is
+      | else-is_some w ↦ IsBack-from c.args.self.now c.self.inside c.if-is_some.self-inside c.pop.new.self c.in-Some.frame
+          c.self.inside.known c.self.inside.known_around c.self.invariant c.self.view_is c.requires
+          c.in-Some.ensures.items (record {
+            usual = λ _. refl;
+            strict = λ e. absurd (false≢true (cc (e, w.if-is_some.false, c.is_some.ensures)));
+          }) w.self-inside-is
+    ]) (c.push_reserved.ensures.items ∙ ap (λ vs. vs ++ c.args.value ∷ []) c.in_ok-reserve.ensures.items)

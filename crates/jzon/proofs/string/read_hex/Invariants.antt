@@ -1,5 +1,0 @@
-use Rattle.jzon.proofs.Strings.HexDigits.{HexRead}
-use Rattle.jzon.proofs.string.read_hex.Given as goal
-
-abbrev pub invariant-loop-index : goal.invariant-loop-index
-invariant-loop-index l = HexRead l.source l.start l.index l.unit

@@ -1,0 +1,45 @@
+//! Where values that are read go.
+
+ghost use Rattle.std.specs.Prelude.{◌≡◌, ◌<◌, ◌∷◌, ◌++◌, [], ⊤, vec_len, vec_capacity};
+ghost use Rattle.jzon_tree.specs.declared.value.JsonValue.{JsonValue};
+
+use jzon_tree::value::JsonValue;
+
+/// A place for a value. Functions that read one put it there themselves: a value that is returned
+/// is moved from call to call.
+pub(crate) trait Target {
+    // The place can take a value.
+    ghost has_room: { Self → Type 0 };
+
+    // The place before, a value, and the place with this value.
+    ghost takes: { Self → JsonValue → Self → Type 0 };
+
+    /// Puts the value there.
+    fn put(&mut self, value: JsonValue)
+        requires { has_room self.old }
+        ensures { takes self.old value self.new };
+}
+
+/// After the other values.
+impl Target for Vec<JsonValue> {
+    ghost has_room = { λ values. vec_len values < vec_capacity values };
+
+    ghost takes = { λ before value after. after.items ≡ before.items ++ value ∷ [] };
+
+    #[inline(always)]
+    fn put(&mut self, value: JsonValue) {
+        self.push_reserved(value);
+    }
+}
+
+/// Over the value that is there.
+impl Target for JsonValue {
+    ghost has_room = { λ _. ⊤ };
+
+    ghost takes = { λ before value after. after ≡ value };
+
+    #[inline(always)]
+    fn put(&mut self, value: JsonValue) {
+        *self = value;
+    }
+}

@@ -1,0 +1,17 @@
+-- The filter of keys: each key sets one of 256 bits, in four words.
+use Rattle.std.specs.Prelude.{◌≡◌, ℕ, ◌+◌, ◌-◌, ◌*◌, ◌/◌, ◌%◌, List, length, slice_index}
+use Rattle.std.specs.Int.{bit_at}
+use Rattle.std.specs.List.{All}
+
+-- the number of a key's bit
+unfoldable pub spot_of : List ℕ → ℕ
+spot_of k = (length k % 16 * 16 + slice_index k 0 + slice_index k (length k - 1) * 2 + slice_index k (length k / 2) * 8)
+    % 256
+
+-- the bit of a key is set
+abbrev pub HasBit : List ℕ → List ℕ → Type 0
+HasBit ws k = bit_at (slice_index ws (spot_of k / 64)) (spot_of k % 64) ≡ 1
+
+-- the bit of each key is set
+abbrev pub HaveBits : List (List ℕ) → List ℕ → Type 0
+HaveBits ks ws = All (HasBit ws) ks

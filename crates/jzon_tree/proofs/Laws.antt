@@ -1,0 +1,10 @@
+-- Laws for callers.
+pub mod Chains
+pub mod Sorted
+pub mod KeyOrder
+pub mod Unique
+pub mod ValueLaws
+pub mod KeptByChanges
+pub mod KeptByConversions
+pub mod InPlace
+pub mod PlainWritings
