@@ -1,12 +1,12 @@
-//! Pairs, and pairs that are built of entries.
+//! Pairs, and pairs that are made of entries.
 
 ghost use Rattle.std.specs.Prelude.{OnOk};
-ghost use Rattle.jzon_base.specs.Private.Handed.{IsTable};
+ghost use Rattle.jzon_base.specs.Private.Known.{Knows};
 
 use crate::common::{expect, expect_eq};
 use jzon_base::key::Key;
 use jzon_base::keys::KnownKeys;
-use jzon_base::pairs::{Builder, IterMut, Pairs};
+use jzon_base::pairs::{IterMut, Pairs};
 use jzon_test_support::{RUNS_MAX, Refusals, digits_below, joined, keys_by_hash};
 use std::alloc::{AllocError, Global};
 use std::process::Abort;
@@ -99,27 +99,25 @@ fn finds_and_removes(rt: HostRuntime) -> Result<(), AllocError> {
     expect_shown(&rt, rt.alloc(), &pairs, "b3 ")
 }
 
-/// How pairs are made of keys, each with its number in the list as value: put one by one, or built of
-/// entries. Of a repeated key the last value is kept.
+/// How pairs are made of keys, each with its number in the list as value: put one by one, or made of
+/// all entries at once. Of a repeated key the last value is kept.
 #[derive(Clone, Copy)]
 enum Made {
     Insert,
     Place,
     AtMut,
     Reserve,
-    Build,
-    BuildWithRoom,
+    Entries,
     RepeatEach,
     RepeatAll,
 }
 
-const MADE: [Made; 8] = [
+const MADE: [Made; 7] = [
     Made::Insert,
     Made::Place,
     Made::AtMut,
     Made::Reserve,
-    Made::Build,
-    Made::BuildWithRoom,
+    Made::Entries,
     Made::RepeatEach,
     Made::RepeatAll,
 ];
@@ -151,41 +149,43 @@ impl Made {
     fn push_each(
         self,
         alloc: Global,
-        built: &mut Builder<usize>,
+        names: &mut Vec<Key>,
+        values: &mut Vec<usize>,
         keys: &[String],
     ) -> Result<(), AllocError> {
         for (number, key) in keys.iter().enumerate() {
             if matches!(self, Made::RepeatEach) {
-                built.push(alloc, Key::new(alloc, key.as_str())?, 0)?;
+                names.push(Key::new(alloc, key.as_str())?)?;
+                values.push(0)?;
             }
-            built.push(alloc, Key::new(alloc, key.as_str())?, number)?;
+            names.push(Key::new(alloc, key.as_str())?)?;
+            values.push(number)?;
         }
         Ok(())
     }
 
     fn make(self, alloc: Global, keys: &[String]) -> Result<Pairs<usize>, AllocError> {
-        let mut pairs = match self {
-            Made::Reserve => Pairs::with_capacity(alloc, keys.len())?,
-            _ => Pairs::new(alloc),
-        };
         if matches!(
             self,
             Made::Insert | Made::Place | Made::AtMut | Made::Reserve
         ) {
+            let mut pairs = match self {
+                Made::Reserve => Pairs::with_capacity(alloc, keys.len())?,
+                _ => Pairs::new(alloc),
+            };
             self.put_each(alloc, &mut pairs, keys)?;
             return Ok(pairs);
         }
-        let room = match self {
-            Made::BuildWithRoom => keys.len(),
-            Made::RepeatEach => 2,
-            _ => 0,
-        };
-        let mut built = Builder::with_capacity(alloc, room)?;
-        self.push_each(alloc, &mut built, keys)?;
+        let mut names = Vec::new(alloc);
+        let mut values = Vec::new(alloc);
+        self.push_each(alloc, &mut names, &mut values, keys)?;
         if matches!(self, Made::RepeatAll) {
-            self.push_each(alloc, &mut built, keys)?;
+            self.push_each(alloc, &mut names, &mut values, keys)?;
         }
-        built.finish(alloc)
+        if values.len() != names.len() {
+            return Err(AllocError);
+        }
+        Pairs::from_entries(alloc, names, values)
     }
 }
 
@@ -291,44 +291,86 @@ fn names_of_one_hash(alloc: Global, count: usize) -> Result<Vec<String>, AllocEr
 #[test]
 fn makes_many_pairs_of_one_hash(rt: HostRuntime) -> Result<(), AllocError> {
     let keys = names_of_one_hash(rt.alloc(), 20_001)?;
-    for made in [Made::Build, Made::Insert] {
+    for made in [Made::Entries, Made::Insert] {
         expect_made(&rt, rt.alloc(), made, keys.as_slice())?;
     }
     Ok(())
 }
 
-/// Adds a key that isn't known yet.
+/// Adds a key unless it is known. Whether it was known.
 fn push_new(
     alloc: Global,
     known: &mut KnownKeys,
     keys: &mut Vec<Key>,
     name: &str,
-) -> Result<(), AllocError>
-    requires { IsTable keys.old.items known.old }
-    ensures { OnOk result (IsTable keys.new.items known.new) }
+) -> Result<bool, AllocError>
+    requires { Knows keys.old.items known.old }
+    ensures { OnOk result (Knows keys.new.items known.new) }
 {
-    if !known.has_or_adds(alloc, keys.as_slice(), name)? {
+    let is_known = known.has_or_adds(alloc, keys.as_slice(), name)?;
+    if !is_known {
         keys.push(Key::new(alloc, name)?)?;
     }
-    Ok(())
+    Ok(is_known)
 }
 
-/// Each comes twice.
-#[test]
-fn knows_the_keys_of_one_hash(rt: HostRuntime) -> Result<(), AllocError> {
-    let names = names_of_one_hash(rt.alloc(), 300)?;
-    let mut known = KnownKeys::new();
-    let mut keys = Vec::new(rt.alloc());
-    for name in names.iter().chain(names.iter()) {
-        push_new(rt.alloc(), &mut known, &mut keys, name.as_str())?;
+/// The numbers below a count.
+fn numbers_below(alloc: Global, count: usize) -> Result<Vec<usize>, AllocError> {
+    let mut numbers = Vec::new(alloc);
+    for number in 0..count {
+        numbers.push(number)?;
     }
-    expect_eq(&rt, "the number of keys", keys.len(), 300);
+    Ok(numbers)
+}
+
+/// Pairs of known keys, each with its number as value.
+fn of_known(alloc: Global, keys: Vec<Key>, known: KnownKeys) -> Result<Pairs<usize>, AllocError>
+    requires { Knows keys.items known }
+{
+    let values = numbers_below(alloc, keys.len())?;
+    if values.len() != keys.len() {
+        return Err(AllocError);
+    }
+    Pairs::from_known(alloc, keys, known, values)
+}
+
+/// Pairs of these keys, each of which comes twice: it is new at first, and then it is known. `None` if
+/// an answer was wrong.
+fn known_of(alloc: Global, names: &[String]) -> Result<Option<Pairs<usize>>, AllocError> {
+    let mut known = KnownKeys::new();
+    let mut keys = Vec::new(alloc);
+    for name in names.iter().chain(names.iter()) {
+        let has_all = keys.len() == names.len();
+        let is_known = push_new(alloc, &mut known, &mut keys, name.as_str())?;
+        if is_known != has_all {
+            return Ok(None);
+        }
+    }
+    Ok(Some(of_known(alloc, keys, known)?))
+}
+
+fn expect_numbered(rt: &impl Abort, pairs: &Pairs<usize>, names: &[String]) {
+    expect_eq(rt, "the number of keys", pairs.len(), names.len());
+    for (number, name) in names.iter().enumerate() {
+        let position = pairs.position(name.as_str());
+        expect_eq(rt, "a key", position, Some(number));
+    }
+}
+
+/// Few keys of a filter, and more that have an index.
+#[test]
+fn knows_the_keys_of_one_hash(rt: HostRuntime) -> Result<(), Fail> {
+    for count in [9, 32, 33, 300] {
+        let names = names_of_one_hash(rt.alloc(), count)?;
+        let pairs = known_of(rt.alloc(), names.as_slice())?.ok_or("a known key")?;
+        expect_numbered(&rt, &pairs, names.as_slice());
+    }
     Ok(())
 }
 
 /// How many pairs there is room for, and the number of allocations of one more. Keys and values grow,
-/// and so does the index, which begins after 16 keys and has room for up to 1,024.
-const ROOMS: [(u32, usize); 3] = [(16, 3), (100, 2), (1024, 3)];
+/// and so does the index, which begins after 32 keys and has room for up to 1,024.
+const ROOMS: [(u32, usize); 3] = [(32, 3), (100, 2), (1024, 3)];
 
 /// Pairs of these keys, in room that they got by `with_capacity`, and then in the room that `clear`
 /// kept. No memory is requested: the first allocation would fail.
@@ -382,24 +424,9 @@ fn room_for_pairs_under_refusals(rt: HostRuntime) -> Result<(), Fail> {
     Ok(())
 }
 
-/// A builder with room for nine entries takes them without an allocation.
-#[test]
-fn room_for_entries_counted(rt: HostRuntime) -> Result<(), Fail> {
-    let alloc = rt.alloc();
-    let names = digits_below(alloc, 9)?;
-    let mut refusals = Refusals::new(alloc);
-    let mut built = Builder::with_capacity(alloc, 9)?;
-    refusals.open();
-    Made::Build.push_each(alloc, &mut built, names.as_slice())?;
-    refusals.expect_within(&rt, "Builder::push into its room", 0)?;
-    let pairs = built.finish(alloc)?;
-    expect_eq(&rt, "the number of pairs", pairs.len(), names.len());
-    Ok(())
-}
-
 /// How many pairs there is room for, after how many inserted keys the index has begun a run, and to
 /// how many that run has room.
-const BEGUN: [(usize, usize, usize); 2] = [(16, 17, 32), (1152, 1025, 1152)];
+const BEGUN: [(usize, usize, usize); 2] = [(32, 33, 64), (1152, 1025, 1152)];
 
 /// A run that the index has begun takes entries without an allocation.
 #[test]

@@ -17,7 +17,7 @@ const PLAIN: &[(bool, u64, i16, &str)] = &[
     (true, 100, -2, "1.00"),
     (true, u64::MAX, 0, "18446744073709551615"),
     (false, 7, 0, "-7"),
-    (false, u64::MAX, -17, "-184.46744073709551615"),
+    (false, u64::MAX, -16, "-1844.6744073709551615"),
     (false, 125, -1, "-12.5"),
     (true, 1, 0, "1"),
     (false, 9, 0, "-9"),
@@ -25,11 +25,13 @@ const PLAIN: &[(bool, u64, i16, &str)] = &[
     (true, 10000000000000000000, 0, "10000000000000000000"),
     (false, u64::MAX, 0, "-18446744073709551615"),
     (false, 1250, -2, "-12.50"),
-    (true, 123456789012345678, -17, "1.23456789012345678"),
+    (true, 12345678901234567, -16, "1.2345678901234567"),
 ];
 
 /// Parts and their text, of other forms.
 const OTHER: &[(bool, u64, i16, &str)] = &[
+    (false, u64::MAX, -17, "-184.46744073709551615"),
+    (true, 123456789012345678, -17, "1.23456789012345678"),
     (true, 0, 100, "0"),
     (false, 0, -100, "-0"),
     (true, 5, -2, "0.05"),
@@ -61,7 +63,7 @@ const OTHER: &[(bool, u64, i16, &str)] = &[
     (true, 1234567890123456789, -18, "1.234567890123456789"),
 ];
 
-/// All calls print the text. `push_digits` adds only a plain one, where there is room for 32 bytes;
+/// All calls print the text. `push_digits` adds only a plain one, where there is room for 48 bytes;
 /// otherwise it adds nothing.
 fn expect_printed(
     rt: &impl Abort,
@@ -75,10 +77,10 @@ fn expect_printed(
     let mut written = Vec::new(alloc);
     write(&mut written, positive, mantissa, exponent)?;
     expect(rt, text, written.as_slice() == text.as_bytes());
-    for room in [31, 32, 100] {
+    for room in [47, 48, 100] {
         let mut bytes = Vec::with_capacity(alloc, room)?;
         let is_added = push_digits(&mut bytes, positive, mantissa, exponent);
-        expect_eq(rt, text, is_added, is_plain && room >= 32);
+        expect_eq(rt, text, is_added, is_plain && room >= 48);
         let added = if is_added { text } else { "" };
         expect(rt, text, bytes.as_slice() == added.as_bytes());
     }

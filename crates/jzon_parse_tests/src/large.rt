@@ -313,7 +313,7 @@ fn prefixes_under_refusals(rt: HostRuntime) -> Result<(), Fail> {
         let text = joined(alloc, &[(prefix, 1), ("?", 1)])?;
         fail_each(&rt, alloc, text.as_str())?;
     }
-    fail_each(&rt, alloc, NESTED)?.report(&rt, "parse_as of each prefix", 33)?;
+    fail_each(&rt, alloc, NESTED)?.report(&rt, "parse_as of each prefix", 35)?;
     Ok(())
 }
 

@@ -14,8 +14,6 @@ mod many_entries;
 mod objects;
 mod owned;
 mod requested_bytes;
-mod room;
-mod written;
 
 use jzon::{Error, JsonValue, Result, parse};
 use jzon_test_support::{RUNS_MAX, Refusals};

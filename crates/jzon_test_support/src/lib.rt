@@ -1,17 +1,30 @@
 //! Shared by the tests of several crates: runs with failing allocations, a writer and a formatter
-//! that fail, long texts, hostile keys, and a sample text.
+//! that fail, long texts, hostile keys, a sample text, and values of each kind.
 #![tactic(auto)]
 
 mod failing_formatter;
 mod keys;
 mod refusals;
 mod slow_writer;
+mod values;
 
 pub use failing_formatter::{FailingFormatter, show_failing};
 pub use keys::{digits_below, keys_by_hash, keys_of_one_hash, object_text};
 pub use refusals::{RUNS_MAX, Refusals};
 pub use slow_writer::{FAILURES, NO_FAILING_CALL, SlowWriter, Trouble, WORDS, is_same_error};
-use std::alloc::{AllocError, Global};
+use std::alloc::{AllocError, AllocGlobal, Global};
+use std::process::Abort;
+use std::test::Fail;
+
+/// What a test returns, and what checks a part of it.
+pub type Tested = Result<(), Fail>;
+
+/// The runtime of a test, which may abort it and gives its allocator.
+pub trait Tester: Abort + AllocGlobal {}
+
+impl<R: Abort + AllocGlobal> Tester for R {}
+
+pub use values::{EACH_KIND, each_unread, long, number, parts};
 
 /// A JSON text with a value of each kind but a boolean.
 pub const DOCUMENT: &str = "{\"a\":[1,-0.5e+2,\"x\\u00e9\\uD834\\uDD1E\"],\"b\":null}";

@@ -77,25 +77,34 @@ const ESCAPED: &str = "\"\\u00e9 and a text of more than thirty bytes\\n\\uD834\
 const UNESCAPED: &str = "\"é and a text of more than thirty bytes\\n\u{1d11e}\"";
 
 /// The most keys that have no index, and are compared one by one.
-const SIXTEEN_KEYS: &str = "{\"a\":0,\"b\":1,\"c\":2,\"d\":3,\"e\":4,\"f\":5,\"g\":6,\"h\":7,\
-    \"i\":8,\"j\":9,\"k\":10,\"l\":11,\"m\":12,\"n\":13,\"o\":14,\"p\":15}";
+const THIRTY_TWO_KEYS: &str = "{\
+    \"a\":0,\"b\":1,\"c\":2,\"d\":3,\"e\":4,\"f\":5,\"g\":6,\"h\":7,\"i\":8,\"j\":9,\"k\":10,\
+    \"l\":11,\"m\":12,\"n\":13,\"o\":14,\"p\":15,\"q\":16,\"r\":17,\"s\":18,\"t\":19,\"u\":20,\
+    \"v\":21,\"w\":22,\"x\":23,\"y\":24,\"z\":25,\"A\":26,\"B\":27,\"C\":28,\"D\":29,\"E\":30,\
+    \"F\":31}";
 
 /// With another key, with which they have an index.
-const SEVENTEEN_KEYS: &str = "{\"a\":0,\"b\":1,\"c\":2,\"d\":3,\"e\":4,\"f\":5,\"g\":6,\"h\":7,\
-    \"i\":8,\"j\":9,\"k\":10,\"l\":11,\"m\":12,\"n\":13,\"o\":14,\"p\":15,\
+const THIRTY_THREE_KEYS: &str = "{\
+    \"a\":0,\"b\":1,\"c\":2,\"d\":3,\"e\":4,\"f\":5,\"g\":6,\"h\":7,\"i\":8,\"j\":9,\"k\":10,\
+    \"l\":11,\"m\":12,\"n\":13,\"o\":14,\"p\":15,\"q\":16,\"r\":17,\"s\":18,\"t\":19,\"u\":20,\
+    \"v\":21,\"w\":22,\"x\":23,\"y\":24,\"z\":25,\"A\":26,\"B\":27,\"C\":28,\"D\":29,\"E\":30,\
+    \"F\":31,\
     \"0123456789abcdef0123456789abcdef01234567\":true}";
 
-/// The same, but the value of the last key is null.
-const SEVENTEENTH_NULL: &str = "{\"a\":0,\"b\":1,\"c\":2,\"d\":3,\"e\":4,\"f\":5,\"g\":6,\"h\":7,\
-    \"i\":8,\"j\":9,\"k\":10,\"l\":11,\"m\":12,\"n\":13,\"o\":14,\"p\":15,\
+/// With another key, whose value is null.
+const THIRTY_THIRD_NULL: &str = "{\
+    \"a\":0,\"b\":1,\"c\":2,\"d\":3,\"e\":4,\"f\":5,\"g\":6,\"h\":7,\"i\":8,\"j\":9,\"k\":10,\
+    \"l\":11,\"m\":12,\"n\":13,\"o\":14,\"p\":15,\"q\":16,\"r\":17,\"s\":18,\"t\":19,\"u\":20,\
+    \"v\":21,\"w\":22,\"x\":23,\"y\":24,\"z\":25,\"A\":26,\"B\":27,\"C\":28,\"D\":29,\"E\":30,\
+    \"F\":31,\
     \"0123456789abcdef0123456789abcdef01234567\":null}";
 
-/// More keys than are compared one by one.
+/// More keys than are compared with each other: a filter finds which may repeat.
 const TWENTY_KEYS: &str = "{\"a\":0,\"b\":1,\"c\":2,\"d\":3,\"e\":4,\"f\":5,\"g\":6,\"h\":7,\
     \"i\":8,\"j\":9,\"k\":10,\"l\":11,\"m\":12,\"n\":13,\"o\":14,\"p\":15,\"q\":16,\"r\":17,\
     \"s\":18,\"t\":19}";
 
-/// One of them twice, and it isn't the last: so their index entries are sorted.
+/// One of them twice, and it isn't the last.
 const REPEATED: &str = "{\"a\":1,\"b\":1,\"c\":2,\"d\":3,\"e\":4,\"f\":5,\"g\":6,\"h\":7,\"i\":8,\
     \"j\":9,\"k\":10,\"l\":11,\"m\":12,\"n\":13,\"o\":14,\"p\":15,\"q\":16,\"r\":17,\"s\":18,\
     \"a\":0,\"t\":19}";
@@ -121,7 +130,7 @@ const CHANGED: &[Row<Changed>] = rows! {
     (Changed::Parse(DOCUMENT), "parse", "null", DUMP, 6)
     (Changed::Parse(ESCAPED), "parse of a long string", "null", UNESCAPED, 4)
     (Changed::Parse(LONG_DOCUMENT), "parse of a long key", "null", LONG_DOCUMENT, 11)
-    (Changed::Parse(REPEATED), "parse of a repeated key among twenty", "null", TWENTY_KEYS, 10)
+    (Changed::Parse(REPEATED), "parse of a repeated key among twenty", "null", TWENTY_KEYS, 9)
     (Changed::Parse(ALIKE), "parse of elements that are alike", "null", ALIKE, 11)
     (Changed::Parse(ONE_IN_ANOTHER), "parse of an object of one key in another", "null",
         ONE_IN_ANOTHER, 7)
@@ -130,8 +139,8 @@ const CHANGED: &[Row<Changed>] = rows! {
     (Changed::Parse(SIXTEEN_IN_ANOTHER), "parse of an object of 16 keys in another", "null",
         SIXTEEN_IN_ANOTHER, 13)
     (Changed::Parse(ARRAY_IN_OBJECT), "parse of an array in an object", "null", ARRAY_IN_OBJECT, 5)
-    (Changed::ParseStrictly(DOCUMENT), "strict parse_as", "null", DUMP, 6)
-    (Changed::ParseStrictly(TWENTY_KEYS), "strict parse_as of twenty keys", "null", TWENTY_KEYS, 12)
+    (Changed::ParseStrictly(DOCUMENT), "strict parse_as", "null", DUMP, 7)
+    (Changed::ParseStrictly(TWENTY_KEYS), "strict parse_as of twenty keys", "null", TWENTY_KEYS, 7)
     // A container that is the whole text takes the blocks of the stacks, which have room for eight:
     // so nothing is allocated for what is added.
     (Changed::ParseAndPush("[1,2,3]"), "push onto what was parsed", "null", "[1,2,3,true]", 1)
@@ -146,11 +155,11 @@ const CHANGED: &[Row<Changed>] = rows! {
     (Changed::PushOnNull, "push on null", "null", "null", 1)
     (Changed::Insert, "insert", "{\"a\":null}",
         "{\"a\":null,\"0123456789abcdef0123456789abcdef01234567\":true}", 3)
-    (Changed::Insert, "insert of the 17th key", SIXTEEN_KEYS, SEVENTEEN_KEYS, 5)
+    (Changed::Insert, "insert of the 33rd key", THIRTY_TWO_KEYS, THIRTY_THREE_KEYS, 5)
     (Changed::InsertOnArray, "insert on an array", "[1]", "[1]", 1)
     (Changed::AtMut, "at_mut of a number", "5", KEYED, 4)
     (Changed::AtMut, "at_mut", "{}", KEYED, 4)
-    (Changed::AtMut, "at_mut of the 17th key", SIXTEEN_KEYS, SEVENTEENTH_NULL, 5)
+    (Changed::AtMut, "at_mut of the 33rd key", THIRTY_TWO_KEYS, THIRTY_THIRD_NULL, 5)
     (Changed::AtIndexMut(0), "at_index_mut of a number", "5", "[null]", 1)
     (Changed::AtIndexMut(9), "at_index_mut", "[true]", "[true,null]", 1)
     (Changed::TakeString, "take_string", "\"inline\"", "\"inline\"", 1)

@@ -5,8 +5,7 @@ use super::*;
 use jzon::IntoJson;
 use jzon::codegen::{Compact, DumpGenerator, Pretty, write_json};
 use jzon::lent::{write_at, write_at_index, write_present};
-use jzon::object::{Key, Object};
-use jzon_tree::object::Builder;
+use jzon::object::Object;
 use std::collections::{BTreeMap, HashMap};
 
 /// Few, more than are compared one by one, and more than 16 bits count.
@@ -65,8 +64,7 @@ enum Freed {
     WritePresent,
     InsertNew,
     AtMutNew,
-    Build,
-    DropBuilder,
+    FromPairs,
     Map,
     HashMap,
     Print,
@@ -121,13 +119,15 @@ fn insert_each(call: Freed, alloc: Global, count: u32) -> Result<()> {
 }
 
 /// Each key twice.
-fn builder(alloc: Global, count: u32) -> Result<Builder> {
-    let mut builder = Builder::with_capacity(alloc, 0)?;
+fn paired(alloc: Global, count: u32) -> Result<()> {
+    let mut keys = Vec::new(alloc);
     for number in (0..count).chain(0..count) {
-        let key = Key::new(alloc, long_text(alloc, number)?.as_str())?;
-        builder.push(alloc, key, long_item(alloc)?)?;
+        keys.push(long_text(alloc, number)?)?;
     }
-    Ok(builder)
+    let texts = keys.iter().map(|key| key.as_str());
+    let pairs = keys.iter().map(|key| key.as_str()).zip(texts);
+    drop(Object::from_pairs(alloc, pairs)?);
+    Ok(())
 }
 
 fn mapped(alloc: Global, count: u32) -> Result<()> {
@@ -284,8 +284,7 @@ impl Counted for Freed {
                 replace_each(self, alloc, count)?
             }
             Freed::InsertNew | Freed::AtMutNew => insert_each(self, alloc, count)?,
-            Freed::Build => drop(Object::from_builder(alloc, builder(alloc, count)?)?),
-            Freed::DropBuilder => drop(builder(alloc, count)?),
+            Freed::FromPairs => paired(alloc, count)?,
             Freed::Map => mapped(alloc, count)?,
             Freed::HashMap => hash_mapped(alloc, count)?,
             _ => self.call_on(owned_object(alloc, count)?, alloc)?,
@@ -339,8 +338,7 @@ const FREED: &[(Freed, &str)] = &[
     (Freed::WritePresent, "write_present over each string"),
     (Freed::InsertNew, "insert of each key"),
     (Freed::AtMutNew, "at_mut of each key"),
-    (Freed::Build, "Object::from_builder"),
-    (Freed::DropBuilder, "drop of a builder"),
+    (Freed::FromPairs, "Object::from_pairs"),
     (Freed::Map, "into_json of a map"),
     (Freed::HashMap, "into_json of a hash map"),
     (Freed::Print, "texts of an object"),

@@ -4,9 +4,8 @@
 use super::changed::parse_strictly;
 use super::*;
 use jzon::IntoJson;
-use jzon::object::{Key, Object};
+use jzon::object::Object;
 use jzon_test_support::{keys_by_hash, object_text};
-use jzon_tree::object::Builder;
 use std::collections::{BTreeMap, HashMap};
 
 /// How an object of keys is made, or read from a text that has this value at each key.
@@ -16,7 +15,6 @@ enum Grown {
     AtMut,
     Reserve,
     Clone,
-    Build,
     Repeat,
     Pairs,
     Collect,
@@ -57,24 +55,14 @@ fn inserted(call: Grown, alloc: Global, keys: &[String], mut object: Object) -> 
     Ok(object)
 }
 
-fn push(alloc: Global, builder: &mut Builder, key: &str) -> Result<()> {
-    let item = text_for(key).into_json(alloc)?;
-    builder.push(alloc, Key::new(alloc, key)?, item)?;
-    Ok(())
-}
-
-/// By a builder, with each key twice if they are repeated.
-fn built(call: Grown, alloc: Global, keys: &[String]) -> Result<Object> {
-    let mut builder = Builder::with_capacity(alloc, 0)?;
-    for key in keys {
-        push(alloc, &mut builder, key.as_str())?;
-    }
-    if matches!(call, Grown::Repeat) {
-        for key in keys {
-            push(alloc, &mut builder, key.as_str())?;
-        }
-    }
-    Object::from_builder(alloc, builder)
+/// Of each key twice.
+fn repeated(alloc: Global, keys: &[String]) -> Result<Object> {
+    let names = keys.iter().chain(keys.iter()).map(|key| key.as_str());
+    let texts = keys
+        .iter()
+        .chain(keys.iter())
+        .map(|key| text_for(key.as_str()));
+    Object::from_pairs(alloc, names.zip(texts))
 }
 
 fn mapped(alloc: Global, keys: &[String]) -> Result<usize> {
@@ -132,9 +120,9 @@ impl Grown {
             Grown::Insert | Grown::AtMut => inserted(self, alloc, keys, Object::new(alloc)),
             Grown::Reserve => inserted(self, alloc, keys, Object::with_capacity(alloc, 100)?),
             Grown::Clone => inserted(self, alloc, keys, Object::new(alloc))?.clone(alloc),
-            Grown::Pairs => Object::from_pairs(alloc, pairs),
             Grown::Collect => Ok(pairs.collect(alloc)?),
-            _ => built(self, alloc, keys),
+            Grown::Repeat => repeated(alloc, keys),
+            _ => Object::from_pairs(alloc, pairs),
         }
     }
 
@@ -188,33 +176,33 @@ fn fail_each_of(rt: &(impl Eprint + Abort), alloc: Global, rows: &[GrownRow]) ->
 }
 
 const GROWN: &[GrownRow] = rows! {
-    (Grown::Insert, "insert of 18 keys", 18, 18, 45)
-    (Grown::Insert, "insert of 1,100 keys", 1100, 1100, 78)
-    (Grown::AtMut, "at_mut of 1,100 keys", 1100, 1100, 78)
+    (Grown::Insert, "insert of 34 keys", 34, 34, 79)
+    (Grown::Insert, "insert of 1,100 keys", 1100, 1100, 77)
+    (Grown::AtMut, "at_mut of 1,100 keys", 1100, 1100, 77)
     (Grown::Reserve, "insert of 200 keys, with room for 100", 200, 200, 48)
-    (Grown::Clone, "Object::clone of 1,100 keys", 1100, 1100, 124)
-    (Grown::Build, "Builder of 1,100 keys", 1100, 1100, 67)
-    (Grown::Repeat, "Builder of 40 repeated keys", 40, 40, 99)
-    (Grown::Repeat, "Builder of 300 repeated keys", 300, 300, 109)
-    (Grown::Pairs, "from_pairs of 1,100 keys", 1100, 1100, 55)
+    (Grown::Clone, "Object::clone of 1,100 keys", 1100, 1100, 123)
+    (Grown::Repeat, "from_pairs of 40 repeated keys", 40, 40, 88)
+    (Grown::Repeat, "from_pairs of 300 repeated keys", 300, 300, 96)
+    (Grown::Pairs, "from_pairs of 1,100 keys", 1100, 1100, 51)
     (Grown::Collect, "collect of 40 keys", 40, 40, 45)
-    (Grown::Map, "into_json of a map of 20 strings", 20, 20, 68)
-    (Grown::HashMap, "into_json of a hash map of 20 strings", 20, 20, 77)
+    (Grown::Map, "into_json of a map of 20 strings", 20, 20, 66)
+    (Grown::HashMap, "into_json of a hash map of 20 strings", 20, 20, 75)
 };
 
 /// The parser has all keys on one stack and all values on another, each with room for eight that
 /// doubles; the object takes both blocks and a box. Each `[1]` is a block, and the first one opens
-/// the stack of containers. Up to 16 keys have no index; more have one in two blocks. A strict
-/// reading has an index of its own from the 17th key on, in three blocks, one of which doubles at
-/// the 33rd and the 65th. At the 257th key an index is made to look for repeated keys, and let go.
+/// the stack of containers. Up to 32 keys have no index; more have one in two blocks. A strict
+/// reading has an index from the 33rd key on, in three blocks, one of which doubles at the 65th,
+/// and the object takes it over.
 const SIZES: &[GrownRow] = rows! {
     (Grown::Parse("[1]"), "parse, retain and drop of 1 key", 1, 0, 5)
     (Grown::Parse("[1]"), "parse, retain and drop of 11 keys", 11, 1, 17)
-    (Grown::Parse("[1]"), "parse, retain and drop of 16 keys", 16, 6, 22)
-    (Grown::Parse("[1]"), "parse, retain and drop of 17 keys", 17, 7, 27)
+    (Grown::Parse("[1]"), "parse, retain and drop of 32 keys", 32, 22, 40)
+    (Grown::Parse("[1]"), "parse, retain and drop of 33 keys", 33, 23, 45)
     (Grown::Parse("[1]"), "parse, retain and drop of 65 keys", 65, 55, 79)
-    (Grown::ParseStrictly("null"), "strict parse_as, retain and drop of 70 keys", 70, 60, 18)
-    (Grown::Parse("null"), "parse, retain and drop of 300 keys", 300, 290, 19)
+    (Grown::ParseStrictly("null"), "strict parse_as, retain and drop of 70 keys", 70, 60, 15)
+    (Grown::ParseStrictly("[1]"), "strict parse_as of 70 arrays, retain and drop", 70, 60, 87)
+    (Grown::Parse("null"), "parse, retain and drop of 300 keys", 300, 290, 17)
 };
 
 #[test]

@@ -3,7 +3,7 @@
 use super::*;
 use jzon::lent::{write_at, write_at_index};
 use jzon::object::{Key, Object};
-use jzon_tree::object::Builder;
+use jzon_test_support::keys_by_hash;
 use std::alloc::AllocError;
 
 #[derive(Clone, Copy)]
@@ -13,7 +13,6 @@ enum OfObject {
     AtMut,
     Clone,
     FromPairs,
-    FromBuilder,
     Collected,
     StdClone,
     WriteAt,
@@ -39,13 +38,6 @@ fn pairs(alloc: Global) -> Result<JsonValue> {
     Ok(JsonValue::Object(Object::from_pairs(alloc, pairs.into_iter())?))
 }
 
-/// The builder has more room than its entries need, and fits it at the end.
-fn built(alloc: Global) -> Result<JsonValue> {
-    let mut builder = Builder::with_capacity(alloc, 4)?;
-    builder.push(alloc, Key::new(alloc, LONG_KEY)?, JsonValue::Null)?;
-    Ok(JsonValue::Object(Object::from_builder(alloc, builder)?))
-}
-
 fn collected(alloc: Global) -> std::result::Result<JsonValue, AllocError> {
     let pairs = [("a", LONG_TEXT), ("b", ""), ("a", "")];
     let object: Object = pairs.into_iter().collect(alloc)?;
@@ -68,7 +60,6 @@ impl Call for OfObject {
         match self {
             OfObject::WithCapacity => *value = JsonValue::Object(Object::with_capacity(alloc, 3)?),
             OfObject::FromPairs => *value = pairs(alloc)?,
-            OfObject::FromBuilder => *value = built(alloc)?,
             OfObject::Collected => *value = collected(alloc)?,
             OfObject::KeyClone => *value = cloned_key(alloc)?,
             OfObject::WriteAt => write_at(value, alloc, LONG_KEY, JsonValue::Null)?,
@@ -89,10 +80,9 @@ const OF_OBJECTS: &[Row<OfObject>] = rows! {
     (OfObject::Insert, "Object::insert", "{}", KEYED, 4)
     (OfObject::AtMut, "Object::at_mut", "{}", KEYED, 4)
     (OfObject::Clone, "Object::clone", LONG_DOCUMENT, LONG_DOCUMENT, 10)
-    (OfObject::FromPairs, "Object::from_pairs", "null", "{\"a\":3,\"b\":2}", 3)
+    (OfObject::FromPairs, "Object::from_pairs", "null", "{\"a\":3,\"b\":2}", 5)
     (OfObject::StdClone, "std's Clone of an object", LONG_DOCUMENT, LONG_DOCUMENT, 10)
-    (OfObject::FromBuilder, "Object::from_builder", "null", KEYED, 6)
-    (OfObject::Collected, "collect", "null", "{\"a\":\"\",\"b\":\"\"}", 4)
+    (OfObject::Collected, "collect", "null", "{\"a\":\"\",\"b\":\"\"}", 6)
     (OfObject::WriteAt, "write_at", "5", KEYED, 4)
     (OfObject::WriteAtIndex, "write_at_index", "[true]", "[true,null]", 1)
     (OfObject::Key(LONG_KEY), "Key::new", "null", "\"0123456789abcdef0123456789abcdef01234567\"", 1)
@@ -103,4 +93,40 @@ const OF_OBJECTS: &[Row<OfObject>] = rows! {
 #[test]
 fn objects_under_refusals(rt: HostRuntime) -> Tested {
     fail_each(&rt, rt.alloc(), OF_OBJECTS)
+}
+
+/// Puts each of these keys with null.
+fn fill(object: &mut Object, alloc: Global, keys: &[String]) -> Result<()> {
+    for key in keys {
+        object.insert(alloc, key.as_str(), JsonValue::Null)?;
+    }
+    Ok(())
+}
+
+/// An object with room for a hundred entries takes them without an allocation, but not one more. It
+/// keeps the room where it is read while it is empty.
+#[test]
+fn capacity_under_refusals(rt: HostRuntime) -> Tested {
+    let alloc = rt.alloc();
+    let keys = keys_by_hash(alloc, 100)?;
+    let mut object = Object::with_capacity(alloc, 100)?;
+    expect(&rt, "no entry", object.iter_mut().next().is_none());
+    let mut refusals = Refusals::new(alloc);
+    refusals.begin();
+    let filled = fill(&mut object, alloc, &keys);
+    let has_failed = refusals.has_failed();
+    expect(&rt, "no allocation", !has_failed && filled.is_ok());
+    expect(&rt, "the length", object.len() == 100);
+    for _ in 0..RUNS_MAX {
+        refusals.begin();
+        let result = object.insert(alloc, "one more", JsonValue::Null);
+        if !refusals.has_failed() {
+            expect(&rt, "one more", result.is_ok());
+            break;
+        }
+        expect(&rt, "the error", result == Err(Error::OutOfMemory));
+        expect(&rt, "the length", object.len() == 100);
+    }
+    refusals.report(&rt, "Object::insert past the room", 2)?;
+    Ok(())
 }

@@ -102,7 +102,7 @@ fn retained(value: &mut JsonValue, alloc: Global) -> Result<()> {
     Ok(())
 }
 
-/// More entries than are gathered, of one key; then a long key and its string, five times.
+/// Many entries of one key; then those of a long key and its string, five times.
 fn repeated(alloc: Global) -> Result<JsonValue> {
     let entry = ",\"0123456789abcdef0123456789abcdef01234567\":\"abcdefghijklmnopqrstuvwxyz01234\"";
     let entries = [("{\"a\":0", 1), (",\"a\":0", 256), (entry, 5), ("}", 1)];
@@ -209,7 +209,7 @@ const OWNED: &[Row<Owned>] = rows! {
     (Owned::Insert(LONG_KEY), "insert of an owned string", "{}", KEYED, 5)
     (Owned::InsertOnArray, "insert of an owned string on an array", "[1]", "[1]", 2)
     (Owned::ObjectInsert, "Object::insert of an owned string", "{}", KEYED, 5)
-    (Owned::FromPairs, "Object::from_pairs of owned strings", "null", PAIRED, 9)
+    (Owned::FromPairs, "Object::from_pairs of owned strings", "null", PAIRED, 11)
     (Owned::WriteAt, "write_at of an owned string", "5", KEYED, 5)
     (Owned::WriteAtIndex, "write_at_index of an owned string", "[true]", LISTED, 2)
     (Owned::WritePresent, "write_present where nothing is present", "[1]", "[1]", 1)
@@ -226,7 +226,7 @@ const OWNED: &[Row<Owned>] = rows! {
     (Owned::ClearArray, "clear of an array and its string", "[]", "[]", 2)
     (Owned::ClearString, "clear of an allocated string", "null", "\"\"", 1)
     (Owned::Retain, "retain of a long key and its string", "{}", "{}", 5)
-    (Owned::Repeated, "parse of long keys repeated among many", "null", REPEATED, 34)
+    (Owned::Repeated, "parse of long keys repeated among many", "null", REPEATED, 37)
     (Owned::Emptied, "clear of containers in an object", "null", "{\"a\":[],\"b\":{},\"d\":[]}", 14)
     (Owned::Rejected(IN_ARRAY), "parse rejects in an array", "null", "null", 2)
     (Owned::Rejected(IN_OBJECT), "parse rejects in an object", "null", "null", 5)

@@ -11,7 +11,6 @@ use jzon::object::{Key, Object};
 use jzon::short::Short;
 use jzon::{IntoJson, Reading, parse_as};
 use jzon_test_support::{joined, keys_by_hash};
-use jzon_tree::object::Builder;
 use std::fmt::Write;
 use std::{fmt, io};
 
@@ -196,7 +195,6 @@ fn make_empty(alloc: Global) {
         JsonValue::new_array(alloc),
     ));
     drop((DumpGenerator::new(alloc), PrettyGenerator::new(alloc, 2)));
-    drop(Builder::with_capacity(alloc, 0));
 }
 
 /// What is stored inline.
@@ -445,7 +443,6 @@ enum Held {
     Clone,
     StdClone,
     ObjectClone,
-    Build,
     List,
     Text,
     TextClone,
@@ -497,22 +494,12 @@ fn removals_counted(rt: HostRuntime) -> Tested {
     Ok(())
 }
 
-/// Five nulls of a builder with room for a hundred.
-fn built(alloc: Global) -> Result<Object> {
-    let mut builder = Builder::with_capacity(alloc, 100)?;
-    for key in ["a", "b", "c", "d", "e"] {
-        builder.push(alloc, Key::new(alloc, key)?, JsonValue::Null)?;
-    }
-    Object::from_builder(alloc, builder)
-}
-
 impl Held {
     fn make(self, alloc: Global) -> Result<JsonValue> {
         match self {
             Held::Clone => roomy_array(alloc)?.clone(alloc),
             Held::StdClone => Ok(Clone::clone(&roomy_array(alloc)?)?),
             Held::ObjectClone => Ok(JsonValue::Object(roomy_object(alloc)?.clone(alloc)?)),
-            Held::Build => Ok(JsonValue::Object(built(alloc)?)),
             Held::List => vec![in alloc; 1u8, 2, 3, 4, 5]?.into_json(alloc),
             Held::Text => LONG_TEXT.into_json(alloc),
             Held::TextClone => {
@@ -543,7 +530,6 @@ const HELD: &[(Held, &str, usize)] = &[
         5 * 48 + 24,
     ),
     (Held::ObjectClone, "Object::clone with room", 5 * 96 + 224),
-    (Held::Build, "Object::from_builder with room", 5 * 96 + 224),
     (Held::List, "into_json of a list", 5 * 48 + 24),
     (Held::Text, "into_json of a long string", 31 + 24),
     (Held::TextClone, "clone of a string with room", 31 + 24),
@@ -564,33 +550,6 @@ fn room_counted(rt: HostRuntime) -> Tested {
         drop(value);
         refusals.close();
         refusals.expect_even()?;
-    }
-    Ok(())
-}
-
-/// The most bytes of the box of an object, which is all that it needs besides its entries.
-const MOST_OF_BOX: usize = 152;
-
-/// A builder of this many of five nulls, with room for them and no more.
-fn exact_builder(alloc: Global, count: usize) -> Result<Builder> {
-    let mut builder = Builder::with_capacity(alloc, count)?;
-    for key in ["a", "b", "c", "d", "e"].iter().take(count) {
-        builder.push(alloc, Key::new(alloc, key)?, JsonValue::Null)?;
-    }
-    Ok(builder)
-}
-
-/// An object takes over what its builder holds, and requests a box alone; without entries, nothing.
-#[test]
-fn built_counted(rt: HostRuntime) -> Tested {
-    let alloc = rt.alloc();
-    for (count, most) in [(0, 0), (1, MOST_OF_BOX), (5, MOST_OF_BOX)] {
-        let builder = exact_builder(alloc, count)?;
-        let mut refusals = Refusals::new(alloc);
-        refusals.open();
-        let object = Object::from_builder(alloc, builder)?;
-        refusals.expect_within(&rt, "Object::from_builder without spare room", most)?;
-        expect(&rt, "the length", object.len() == count);
     }
     Ok(())
 }

@@ -1,7 +1,7 @@
 use Rattle.std.proofs.Common.{◌∙◌, ◌%◌, ◌^◌, ap, refl, sym}
 use Rattle.std.proofs.lemmas.List.Sums.{fold-append}
 use Rattle.jzon_base.specs.Digits.{add_digit, digits_number}
-use Rattle.jzon_base.proofs.Scanned.{all_scanned}
+use Rattle.jzon_base.proofs.Numbers.DigitScans.{all_scanned}
 use Rattle.jzon_base_tests.proofs.digits.number_modulo.Goals as goal
 
 pub returns : goal.returns

@@ -1,6 +1,6 @@
 use Rattle.std.proofs.Common.{map, refl, sym}
-use Rattle.jzon_base.proofs.Tables.{IsIndexOf-key}
-use Rattle.jzon_base.proofs.Indexes.{IsDistinct-missing}
+use Rattle.jzon_base.proofs.KeyIndex.Tables.{IsIndexOf-key}
+use Rattle.jzon_base.proofs.KeyIndex.Indexes.{IsDistinct-missing}
 use Rattle.jzon_base_tests.proofs.runs.Sevens.add.Goals as goal
 
 pub invariant_of-self-2 : goal.invariant_of-self-2

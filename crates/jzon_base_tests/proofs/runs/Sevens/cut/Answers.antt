@@ -1,6 +1,6 @@
 use Rattle.std.proofs.Common.{arith}
-use Rattle.jzon_base.proofs.Indexes.{IsDistinct-remove}
-use Rattle.jzon_base.proofs.Tables.{IsIndexOf-cut}
+use Rattle.jzon_base.proofs.KeyIndex.Indexes.{IsDistinct-remove}
+use Rattle.jzon_base.proofs.KeyIndex.Tables.{IsIndexOf-cut}
 use Rattle.jzon_base_tests.proofs.runs.Sevens.cut.Goals as goal
 
 pub invariant_of-self : goal.invariant_of-self

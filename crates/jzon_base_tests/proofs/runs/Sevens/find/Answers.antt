@@ -1,5 +1,5 @@
 use Rattle.std.proofs.Common.{map, refl}
-use Rattle.jzon_base.proofs.Tables.{AreHanded-own}
+use Rattle.jzon_base.proofs.KeyIndex.Tables.{AreHanded-own}
 use Rattle.jzon_base_tests.proofs.runs.Sevens.find.Goals as goal
 
 pub search-requires-clause-handed : goal.search-requires-clause-handed

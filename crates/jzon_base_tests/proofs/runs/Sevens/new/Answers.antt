@@ -1,5 +1,5 @@
 use Rattle.std.specs.List.{IsDistinct}
-use Rattle.jzon_base.proofs.Tables.{IsIndexOf-none}
+use Rattle.jzon_base.proofs.KeyIndex.Tables.{IsIndexOf-none}
 use Rattle.jzon_base_tests.proofs.runs.Sevens.new.Goals as goal
 
 pub invariant_of-result : goal.invariant_of-result

@@ -1,6 +1,7 @@
 //! Writers that take one byte a call, and fail at one call.
 
-use crate::common::{Plain, Tested, Tester, expect, expect_eq, expect_trouble};
+use crate::common::{Tested, Tester, expect, expect_eq, expect_trouble};
+use crate::outlets::Plain;
 use jzon::codegen::{
     Compact, Pretty, PrettyWriterGenerator, WriterGenerator, write_json, write_object,
 };

@@ -1,21 +1,20 @@
-//! A user's own layout, and all calls that print in a layout.
+//! A user's own layouts, and all calls that print in a layout.
 
 ghost use Rattle.std.specs.Prelude.{◌≡◌, length, IfOk};
-ghost use Rattle.jzon_base.specs.PairList.{keys_of};
-ghost use Rattle.jzon_tree.specs.Entries.{entries_of};
-ghost use Rattle.jzon_tree.specs.Generator.{insertion};
-ghost use Rattle.jzon_tree.specs.StyleLaws.{IsStyle-any};
-ghost use Rattle.jzon_tree.specs.Writing.{any_style, IsOrder};
+ghost use Rattle.jzon.specs.PairList.{keys_of};
+ghost use Rattle.jzon.specs.Entries.{entries_of};
+ghost use Rattle.jzon.specs.Generator.{insertion};
+ghost use Rattle.jzon.specs.StyleLaws.{IsStyle-any};
+ghost use Rattle.jzon.specs.Writing.{any_style, IsOrder};
 
-use crate::common::{Tested, expect, expect_bytes, expect_eq};
+use crate::common::{Tested, Tester, expect, expect_bytes, expect_eq};
 use crate::outlets::{Buffer, Plain};
-use jzon_base::error::Error;
+use jzon::codegen::{Generator, Layout, TextGenerator, write_json, write_object};
+use jzon::object::Object;
+use jzon::{Error, JsonValue, parse};
 use jzon_test_support::{
     RUNS_MAX, Refusals, SlowWriter, Trouble, keys_by_hash, keys_of_one_hash, object_text,
 };
-use jzon_tree::codegen::{Generator, Layout, TextGenerator, write_json, write_object};
-use jzon_tree::object::Object;
-use jzon_tree::value::JsonValue;
 use std::alloc::{AllocError, Global};
 use std::cell::Cell;
 use std::io;
@@ -153,11 +152,7 @@ impl Call {
                 outcome
             }
             Call::ToWriter => write_json(&mut TextGenerator::to_writer(&mut bytes, layout), value),
-            Call::WriteOutlet => {
-                let mut plain = Plain { bytes };
-                let outcome = value.write_outlet(&mut plain, layout);
-                return Ok((plain.bytes, outcome));
-            }
+            Call::WriteOutlet => value.write_outlet(&mut Plain(&mut bytes), layout),
             Call::ToBuffer(room) => {
                 let mut buffer = Buffer::new(Vec::with_capacity(alloc, room)?);
                 let outcome = value.write_outlet(&mut buffer, layout);
@@ -185,7 +180,7 @@ pub fn expect_laid_out<L: Layout + Copy>(
 }
 
 /// `{"c":null,"b":null,"a":null}`
-fn unsorted(alloc: Global) -> jzon_base::error::Result<Object> {
+fn unsorted(alloc: Global) -> jzon::Result<Object> {
     let mut object = Object::new(alloc);
     for key in ["c", "b", "a"] {
         object.insert(alloc, key, JsonValue::Null)?;
@@ -270,7 +265,7 @@ fn sorting_under_refusals(rt: HostRuntime) -> Tested {
 }
 
 /// An object with these keys, each with null.
-fn object_of(alloc: Global, keys: &[String]) -> jzon_base::error::Result<Object> {
+fn object_of(alloc: Global, keys: &[String]) -> jzon::Result<Object> {
     let mut object = Object::new(alloc);
     for key in keys {
         object.insert(alloc, key.as_str(), JsonValue::Null)?;
@@ -305,6 +300,7 @@ fn writes_many_entries_in_an_order(rt: HostRuntime) -> Tested {
     write_object(&mut generator, &object)?;
     let written = generator.consume()?;
     expect(&rt, "write_object", written.as_str() == text.as_str());
+    expect_eq(&rt, "the calls of order", asked.get(), 1);
     let value = JsonValue::Object(object);
     expect_laid_out(&rt, alloc, &value, layout, text.as_str())?;
     let mut buffer = Buffer::new(Vec::new(alloc));
@@ -356,5 +352,61 @@ fn propagates_a_failed_order(rt: HostRuntime) -> Tested {
         let is_lent = !matches!(call, Call::LayOut);
         expect_bytes(&rt, &bytes, if is_lent { "[" } else { "" });
     }
+    Ok(())
+}
+
+/// A layout that owns memory. A space is before each element for each open container.
+#[derive(Drop)]
+struct Owning(String);
+
+impl Layout for Owning {
+    ghost style = { λ _. any_style };
+
+    fn spaces(&self) -> Option<u16> {
+        Some(1)
+    }
+
+    fn order(&self, _object: &Object) -> Result<Option<Vec<usize>>, AllocError> {
+        Ok(None)
+    }
+
+    ghost style_law = { λ _. IsStyle-any };
+}
+
+fn new_layout(alloc: Global) -> Result<Owning, AllocError> {
+    Ok(Owning(String::from_str(alloc, "words of a layout")?))
+}
+
+/// Each call that takes a layout, to memory, to a writer that fails, and to an outlet.
+fn lay_out(rt: &impl Tester, value: &JsonValue) -> Tested {
+    let alloc = rt.alloc();
+    let text = value.lay_out(alloc, new_layout(alloc)?)?;
+    expect(rt, "lay_out", text.as_str() == "[\n 1\n]");
+    let mut writer = SlowWriter::new(alloc, 3, Trouble::TakesNothing);
+    let outcome = value.write_layout(&mut writer, new_layout(alloc)?);
+    expect(rt, "write_layout", outcome.is_err());
+    let mut bytes: Vec<u8> = Vec::new(alloc);
+    value.write_outlet(&mut Plain(&mut bytes), new_layout(alloc)?)?;
+    let want = b"[\n 1\n]".as_slice();
+    expect_eq(rt, "write_outlet", bytes.as_slice(), want);
+    let mut generator = TextGenerator::in_memory(alloc, new_layout(alloc)?);
+    write_json(&mut generator, value)?;
+    expect(rt, "consume", generator.consume()?.as_str() == "[\n 1\n]");
+    Ok(())
+}
+
+/// More than these texts and layouts take.
+const MOST_OF_LAYOUTS: usize = 1 << 20;
+
+/// Each call drops the layout that it is passed.
+#[test]
+fn layouts_counted(rt: HostRuntime) -> Tested {
+    let value = parse(rt.alloc(), "[1]")?;
+    let mut refusals = Refusals::new(rt.alloc());
+    refusals.open();
+    lay_out(&rt, &value)?;
+    refusals.close();
+    refusals.expect_within(&rt, "layouts", MOST_OF_LAYOUTS)?;
+    refusals.expect_even()?;
     Ok(())
 }

@@ -1,8 +1,8 @@
 use Rattle.std.proofs.Common.{sym}
 use Rattle.std.proofs.lemmas.List.{length-map}
-use Rattle.jzon_tree.specs.Entries.{entries_of}
-use Rattle.jzon_tree.proofs.Sorted.{IsOrder_permuted}
-use Rattle.jzon_tree_tests.proofs.generators.reversed_order.Goals as goal
+use Rattle.jzon.specs.Entries.{entries_of}
+use Rattle.jzon.proofs.Sorted.{IsOrder_permuted}
+use Rattle.jzon_print_tests.proofs.layouts.reversed_order.Goals as goal
 
 pub returns : goal.returns
 returns c =

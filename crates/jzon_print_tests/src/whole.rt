@@ -3,8 +3,9 @@
 //! generated values.
 
 use crate::common::{
-    EACH_KIND, Plain, Tested, Tester, each_unread, each_value, expect, expect_dump, parts,
+    EACH_KIND, Tested, Tester, each_unread, each_value, expect, expect_dump, parts,
 };
+use crate::layouts::expect_laid_out;
 use jzon::codegen::{
     Compact, DumpGenerator, Pretty, PrettyGenerator, PrettyWriterGenerator, WriterGenerator,
     write_json,
@@ -19,28 +20,22 @@ use jzon_test_support::joined;
 use std::alloc::Global;
 use std::collections::BTreeMap;
 
-/// What prints a value in the compact layout prints this text: the calls, among them one to an
-/// outlet that takes nothing at once, and the generators.
-fn expect_compact(rt: &impl Tester, value: &JsonValue, text: &str) -> Tested {
+/// What prints a value in the compact layout prints this text: the calls and the generators.
+pub fn expect_compact(rt: &impl Tester, value: &JsonValue, text: &str) -> Tested {
     let alloc = rt.alloc();
     expect(rt, "dump", value.dump(alloc)?.as_str() == text);
-    let laid_out = value.lay_out(alloc, Compact)?;
-    expect(rt, "lay_out", laid_out.as_str() == text);
     let printed = stringify(alloc, value.clone(alloc)?)?;
     expect(rt, "stringify", printed.as_str() == text);
     let mut bytes: Vec<u8> = Vec::new(alloc);
     value.write(&mut bytes)?;
     expect(rt, "write", bytes.as_slice() == text.as_bytes());
-    let mut bytes: Vec<u8> = Vec::new(alloc);
-    value.write_outlet(&mut Plain(&mut bytes), Compact)?;
-    expect(rt, "write_outlet", bytes.as_slice() == text.as_bytes());
     let mut generator = DumpGenerator::new(alloc);
     write_json(&mut generator, value)?;
     expect(rt, "DumpGenerator", generator.consume()?.as_str() == text);
     let mut bytes: Vec<u8> = Vec::new(alloc);
     write_json(&mut WriterGenerator::new(&mut bytes), value)?;
     expect(rt, "WriterGenerator", bytes.as_slice() == text.as_bytes());
-    Ok(())
+    expect_laid_out(rt, alloc, value, Compact, text)
 }
 
 /// What prints a value in the pretty layout with this number of spaces prints this text.
@@ -48,16 +43,11 @@ pub fn expect_lines(rt: &impl Tester, value: &JsonValue, spaces: u16, text: &str
     let alloc = rt.alloc();
     let pretty = value.pretty(alloc, spaces)?;
     expect(rt, "pretty", pretty.as_str() == text);
-    let lines = value.lay_out(alloc, Pretty(spaces))?;
-    expect(rt, "lay_out on lines", lines.as_str() == text);
     let printed = stringify_pretty(alloc, value.clone(alloc)?, spaces)?;
     expect(rt, "stringify_pretty", printed.as_str() == text);
     let mut bytes: Vec<u8> = Vec::new(alloc);
     value.write_pretty(&mut bytes, spaces)?;
     expect(rt, "write_pretty", bytes.as_slice() == text.as_bytes());
-    let mut bytes: Vec<u8> = Vec::new(alloc);
-    value.write_outlet(&mut Plain(&mut bytes), Pretty(spaces))?;
-    expect(rt, "write_outlet", bytes.as_slice() == text.as_bytes());
     let mut generator = PrettyGenerator::new(alloc, spaces);
     write_json(&mut generator, value)?;
     let lines = generator.consume()?;
@@ -66,7 +56,7 @@ pub fn expect_lines(rt: &impl Tester, value: &JsonValue, spaces: u16, text: &str
     write_json(&mut PrettyWriterGenerator::new(&mut bytes, spaces), value)?;
     let is_same = bytes.as_slice() == text.as_bytes();
     expect(rt, "PrettyWriterGenerator", is_same);
-    Ok(())
+    expect_laid_out(rt, alloc, value, Pretty(spaces), text)
 }
 
 /// What `{}` shows of a value of this compact text.

@@ -1,11 +1,11 @@
-//! A user's own outlet: a buffer that takes what it has room for at once.
+//! Outlets: a user's own buffer that takes what it has room for at once, and one that takes nothing at
+//! once; and the functions by which a buffer takes it.
 
 use crate::common::{Tested, expect, expect_bytes, expect_eq};
-use crate::generators::expect_laid_out;
-use jzon_base::error::Result;
-use jzon_base::number::{NAN, Number};
-use jzon_tree::codegen::{Compact, Outlet, Pretty, push_digits, push_line, push_short};
-use jzon_tree::value::JsonValue;
+use crate::layouts::expect_laid_out;
+use jzon::codegen::{Compact, Outlet, Pretty, push_digits, push_line, push_short};
+use jzon::number::{NAN, Number};
+use jzon::{JsonValue, Result};
 use std::alloc::Global;
 use std::io;
 use std::io::Write;
@@ -71,28 +71,21 @@ impl Outlet for Buffer {
     }
 }
 
-/// An outlet that takes nothing at once.
+/// An outlet that takes nothing at once, over a writer.
 #[derive(Drop)]
-pub struct Plain {
-    pub bytes: Vec<u8>,
-}
+pub struct Plain<'a, W>(pub &'a mut W);
 
-impl Write for Plain {
-    ghost use Rattle.std.specs.Prelude.{Some};
-
-    ghost contents = { λ plain. Some plain.bytes.items };
-
+impl<W: Write> Write for Plain<'_, W> {
     fn write(&mut self, buf: &[u8]) -> io::Result<usize> {
-        self.bytes.extend_from_slice(buf)?;
-        Ok(buf.len())
+        self.0.write(buf)
     }
 
     fn flush(&mut self) -> io::Result<()> {
-        Ok(())
+        self.0.flush()
     }
 }
 
-impl Outlet for Plain {}
+impl<W: Write> Outlet for Plain<'_, W> {}
 
 /// Strings and numbers of which one each is taken at once, NaN, and an empty array.
 fn mixed(alloc: Global) -> Result<JsonValue> {
@@ -157,10 +150,45 @@ fn asks_for_each_piece(rt: HostRuntime) -> Tested {
 
 #[test]
 fn takes_nothing_at_once(rt: HostRuntime) {
-    let mut plain = Plain {
-        bytes: Vec::new(rt.alloc()),
-    };
+    let mut bytes: Vec<u8> = Vec::new(rt.alloc());
+    let mut plain = Plain(&mut bytes);
     let number = Number::from_parts_unchecked(true, 7, 0);
     let is_taken = plain.put_string(b"a") || plain.put_number(&number) || plain.put_line(1);
-    expect(&rt, "nothing is taken", !is_taken && plain.bytes.is_empty());
+    expect(&rt, "nothing is taken", !is_taken && bytes.is_empty());
+}
+
+/// Strings of up to 32 bytes are added at once where there is room for 34.
+#[test]
+fn adds_short_strings_where_there_is_room(rt: HostRuntime) -> Tested {
+    let text = [b'a'; 40];
+    for len in 0..40usize {
+        for room in [33, 34, 100] {
+            let mut bytes = Vec::with_capacity(rt.alloc(), room)?;
+            let string = text.get(..len).unwrap_or(b"");
+            let is_added = push_short(&mut bytes, string);
+            expect_eq(&rt, "added", is_added, len <= 32 && room >= 34);
+            expect_eq(&rt, "the bytes", bytes.is_empty(), !is_added);
+        }
+    }
+    let mut bytes = Vec::with_capacity(rt.alloc(), 100)?;
+    expect(&rt, "ab", push_short(&mut bytes, b"ab"));
+    expect(&rt, "a newline", !push_short(&mut bytes, b"a\n"));
+    expect_bytes(&rt, &bytes, "\"ab\"");
+    Ok(())
+}
+
+/// Up to 7 spaces are added at once where there is room for 8 bytes.
+#[test]
+fn adds_short_lines_where_there_is_room(rt: HostRuntime) -> Tested {
+    let line = "\n       ";
+    for spaces in 0..9usize {
+        for room in [7, 8] {
+            let mut bytes = Vec::with_capacity(rt.alloc(), room)?;
+            let is_added = push_line(&mut bytes, spaces as u128);
+            expect_eq(&rt, "added", is_added, spaces < 8 && room == 8);
+            let len = usize::from(is_added).saturating_mul(spaces + 1);
+            expect_bytes(&rt, &bytes, line.get(..len).unwrap_or("\n"));
+        }
+    }
+    Ok(())
 }

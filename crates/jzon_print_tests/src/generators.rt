@@ -1,29 +1,29 @@
-//! Generators: the hooks of the library's and of a user's own, with long arguments, failing, and in
-//! the order in which `write_json` calls them.
+//! A user's own generators: one of the required hooks alone, one that overrides `write` and
+//! `write_char` to count, and one that notes each hook that `write_json` calls.
 
-ghost use Rattle.std.specs.Prelude.{◌∷◌, ◌≡◌, [], false, Some, None, refl};
-ghost use Rattle.jzon.specs.StyleLaws.{IsStyle-any, IsStyle-only};
+ghost use Rattle.std.specs.Prelude.{◌∷◌, ◌≡◌, [], false, None, refl};
+ghost use Rattle.jzon.specs.StyleLaws.{IsStyle-only};
 ghost use Rattle.jzon.specs.Styles.{only};
-ghost use Rattle.jzon.specs.Writing.{any_style};
 
-use crate::common::{Plain, Tested, Tester, expect, expect_eq, expect_trouble};
-use jzon::codegen::{
-    DumpGenerator, Generator, Layout, PrettyGenerator, PrettyWriterGenerator, TextGenerator,
-    WriterGenerator, write_json, write_object,
+use crate::common::{
+    Tested, Tester, empty_containers, expect, expect_bytes, expect_eq, expect_trouble, numbers,
 };
-use jzon::number::Number;
+use jzon::codegen::{DumpGenerator, Generator, write_json, write_object};
+use jzon::number::{NAN, Number};
 use jzon::object::Object;
 use jzon::{JsonValue, parse};
-use jzon_test_support::{Refusals, SlowWriter, Trouble, joined};
-use std::alloc::{AllocError, Global};
+use jzon_test_support::{Trouble, joined};
+use std::alloc::Global;
 use std::io;
+use std::io::Write;
+use std::process::Abort;
 use std::test::Fail;
 
-/// Writes a vertical tab before each element and each closing bracket, in a style that allows no
-/// other whitespace. Its `order` may fail with an error of its own.
+/// Has the required hooks alone. Writes a vertical tab before each element and each closing bracket,
+/// in a style that allows no other whitespace. Its `order` may fail with an error of its own.
 #[derive(Drop)]
-struct TabGenerator {
-    code: Vec<u8>,
+pub struct TabGenerator<W> {
+    writer: W,
     dent: u64,
     faults: u64,
     has_order: bool,
@@ -31,11 +31,11 @@ struct TabGenerator {
 
 const ORDERLESS: Trouble = Trouble::FailsBySystem(5);
 
-impl Generator for TabGenerator {
-    type T = Vec<u8>;
+impl<W: Write> Generator for TabGenerator<W> {
+    type T = W;
 
     ghost meaning = { λ g. record {
-      out = Some g.code.items;
+      out = W.contents g.writer;
       dent = g.dent;
       faults = g.faults;
       style = only
@@ -43,10 +43,10 @@ impl Generator for TabGenerator {
       lender = None;
     } };
 
-    ghost with_writer = { λ g code. record g { code = code } };
+    ghost with_writer = { λ g writer. record g { writer = writer } };
 
-    fn get_writer(&mut self) -> &mut Vec<u8> {
-        &mut self.code
+    fn get_writer(&mut self) -> &mut W {
+        &mut self.writer
     }
 
     fn write_min(&mut self, _slice: &[u8], min: u8) -> io::Result<()> {
@@ -86,11 +86,11 @@ impl Generator for TabGenerator {
     ghost style_law = { λ _. IsStyle-only (λ dent. 11 ∷ []) false (λ dent. refl) };
 }
 
-impl TabGenerator {
+impl<W> TabGenerator<W> {
     /// One that has written nothing.
-    fn new(alloc: Global) -> TabGenerator {
+    pub fn new(writer: W) -> TabGenerator<W> {
         TabGenerator {
-            code: Vec::new(alloc),
+            writer,
             dent: 0,
             faults: 0,
             has_order: true,
@@ -101,9 +101,9 @@ impl TabGenerator {
 /// What the generator writes of a text's value, and whether it is read back equal.
 fn goes_round(alloc: Global, source: &str) -> Result<(Vec<u8>, bool), Fail> {
     let value = parse(alloc, source)?;
-    let mut generator = TabGenerator::new(alloc);
+    let mut generator = TabGenerator::new(Vec::new(alloc));
     write_json(&mut generator, &value)?;
-    let text = String::from_utf8(generator.code)?;
+    let text = String::from_utf8(generator.writer)?;
     let is_equal = parse(alloc, text.as_str())? == value;
     Ok((text.into_bytes(), is_equal))
 }
@@ -134,89 +134,16 @@ fn reads_back_large_values(rt: HostRuntime) -> Tested {
     Ok(())
 }
 
-/// A string that is written as it is, with three quotes after it.
-fn quotes_last(alloc: Global) -> Result<String, AllocError> {
-    joined(alloc, &[("plain", 40000), ("\"\"\"", 1)])
-}
-
-/// Appends this string by each hook that takes one, whole, and from the second of its quotes on;
-/// then, with 70,000 indents open, the whitespace of a line and the colon after a key.
-fn append_all<G: Generator>(generator: &mut G, string: &str) -> io::Result<()> {
-    generator.write(string.as_bytes())?;
-    generator.write_string(string)?;
-    generator.write_string_complex(string, string.len().min(200001))?;
-    generator.set_dent(69999);
-    generator.indent()?;
-    generator.new_line()?;
-    generator.write_min(b": ", b':')?;
-    generator.set_dent(u64::MAX - 1);
-    generator.indent()?;
-    generator.write_number(&Number::from_parts_unchecked(true, u64::MAX, 32767))?;
-    generator.write_char(b'.')
-}
-
-/// They append what the rules say, where a line and the colon have these parts.
-fn expect_all<G: Generator<T = Vec<u8>>>(
-    rt: &impl Tester,
-    generator: &mut G,
-    line: &[(&str, usize)],
-) -> Tested {
-    let alloc = rt.alloc();
-    append_all(generator, quotes_last(alloc)?.as_str())?;
-    let mut text = String::new(alloc);
-    for end in ["\"\"\"\"", "\\\"\\\"\\\"\"", "\"\\\"\\\"\""] {
-        text.push_str(joined(alloc, &[("plain", 40000), (end, 1)])?.as_str())?;
-    }
-    text.push_str(joined(alloc, line)?.as_str())?;
-    text.push_str("1.8446744073709551615e32786.")?;
-    let written = generator.get_writer().as_slice() == text.as_bytes();
-    expect(rt, "the bytes", written);
-    expect(rt, "the indents", generator.dent() == u64::MAX);
-    expect(rt, "the faults", generator.faults() == 0);
-    Ok(())
-}
-
-#[test]
-fn hooks_take_long_arguments(rt: HostRuntime) -> Tested {
-    let alloc = rt.alloc();
-    let colon = [(":", 1)];
-    expect_all(&rt, &mut DumpGenerator::new(alloc), &colon)?;
-    let line = [("\n", 1), (" ", 210000), (": ", 1)];
-    expect_all(&rt, &mut PrettyGenerator::new(alloc, 3), &line)?;
-    expect_all(&rt, &mut TabGenerator::new(alloc), &[("\u{b}:", 1)])?;
-    let mut bytes: Vec<u8> = Vec::new(alloc);
-    expect_all(&rt, &mut WriterGenerator::new(&mut bytes), &colon)?;
-    let mut bytes: Vec<u8> = Vec::new(alloc);
-    expect_all(&rt, &mut PrettyWriterGenerator::new(&mut bytes, 3), &line)
-}
-
-/// A value is written where one indent more may be open, and not where none may.
-#[test]
-fn writes_below_the_most_indents(rt: HostRuntime) -> Tested {
-    let value = parse(rt.alloc(), "[1]")?;
-    for (dent, text, faults) in [(u64::MAX - 1, "[1]", 0), (u64::MAX, "[", 1)] {
-        let mut generator = DumpGenerator::new(rt.alloc());
-        generator.set_dent(dent);
-        let outcome = write_json(&mut generator, &value);
-        expect_eq(&rt, text, outcome.is_ok(), faults == 0);
-        expect_eq(&rt, text, generator.faults(), faults);
-        expect_eq(&rt, text, generator.dent(), dent);
-        let written = generator.get_writer().as_slice();
-        expect_eq(&rt, text, written, text.as_bytes());
-    }
-    Ok(())
-}
-
 /// What was written before the object stays, and one fault is counted.
 #[test]
 fn returns_the_error_of_order(rt: HostRuntime) -> Tested {
     let alloc = rt.alloc();
-    let mut generator = TabGenerator::new(alloc);
+    let mut generator = TabGenerator::new(Vec::new(alloc));
     generator.has_order = false;
     let outcome = write_json(&mut generator, &parse(alloc, "[[1,{}]]")?);
     expect_trouble(&rt, outcome, ORDERLESS)?;
     let written = b"[\x0b[\x0b1,\x0b".as_slice();
-    expect_eq(&rt, "the bytes", generator.code.as_slice(), written);
+    expect_eq(&rt, "the bytes", generator.writer.as_slice(), written);
     expect_eq(&rt, "the indents", generator.dent, 2);
     expect_eq(&rt, "the faults", generator.faults, 1);
     let outcome = write_object(&mut generator, &Object::new(alloc));
@@ -225,60 +152,152 @@ fn returns_the_error_of_order(rt: HostRuntime) -> Tested {
     Ok(())
 }
 
-/// A layout that owns memory. A space is before each element for each open container.
+/// Counts the bytes passed to a generator, not those that go to its writer directly, and the calls
+/// of `write` and of `write_char`.
 #[derive(Drop)]
-struct Owning(String);
-
-impl Layout for Owning {
-    ghost style = { λ _. any_style };
-
-    fn spaces(&self) -> Option<u16> {
-        Some(1)
-    }
-
-    fn order(&self, _object: &Object) -> Result<Option<Vec<usize>>, AllocError> {
-        Ok(None)
-    }
-
-    ghost style_law = { λ _. IsStyle-any };
+pub struct Counting<G: Generator> {
+    inner: G,
+    count: usize,
+    writes: usize,
+    chars: usize,
 }
 
-fn new_layout(alloc: Global) -> Result<Owning, AllocError> {
-    Ok(Owning(String::from_str(alloc, "words of a layout")?))
+impl<G: Generator> Counting<G> {
+    /// One that has counted nothing.
+    pub fn new(inner: G) -> Counting<G>
+        ensures { result.inner ≡ inner }
+    {
+        Counting {
+            inner,
+            count: 0,
+            writes: 0,
+            chars: 0,
+        }
+    }
+
+    fn add(&mut self, count: usize)
+        ensures { self.new ≡ record self.old { count = self.new.count } }
+    {
+        self.count = self.count.saturating_add(count);
+    }
 }
 
-/// Each call that takes a layout, to memory, to a writer that fails, and to an outlet.
-fn lay_out(rt: &impl Tester, value: &JsonValue) -> Tested {
-    let alloc = rt.alloc();
-    let text = value.lay_out(alloc, new_layout(alloc)?)?;
-    expect(rt, "lay_out", text.as_str() == "[\n 1\n]");
-    let mut writer = SlowWriter::new(alloc, 3, Trouble::TakesNothing);
-    let outcome = value.write_layout(&mut writer, new_layout(alloc)?);
-    expect(rt, "write_layout", outcome.is_err());
-    let mut bytes: Vec<u8> = Vec::new(alloc);
-    value.write_outlet(&mut Plain(&mut bytes), new_layout(alloc)?)?;
-    let want = b"[\n 1\n]".as_slice();
-    expect_eq(rt, "write_outlet", bytes.as_slice(), want);
-    let mut generator = TextGenerator::in_memory(alloc, new_layout(alloc)?);
+impl<G: Generator> Generator for Counting<G> {
+    type T = G::T;
+
+    ghost meaning = { λ g. G.meaning g.inner };
+
+    ghost with_writer = { λ g w. record g { inner = G.with_writer g.inner w } };
+
+    fn get_writer(&mut self) -> &mut G::T {
+        self.inner.get_writer()
+    }
+
+    fn write(&mut self, slice: &[u8]) -> io::Result<()> {
+        self.add(slice.len());
+        self.writes = self.writes.saturating_add(1);
+        self.inner.write(slice)
+    }
+
+    fn write_char(&mut self, ch: u8) -> io::Result<()> {
+        self.add(1);
+        self.chars = self.chars.saturating_add(1);
+        self.inner.write_char(ch)
+    }
+
+    fn write_min(&mut self, slice: &[u8], min: u8) -> io::Result<()> {
+        self.add(1);
+        self.inner.write_min(slice, min)
+    }
+
+    fn faults(&self) -> u64 {
+        self.inner.faults()
+    }
+
+    fn dent(&self) -> u64 {
+        self.inner.dent()
+    }
+
+    fn note_fault(&mut self) {
+        self.inner.note_fault()
+    }
+
+    fn set_dent(&mut self, dent: u64) {
+        self.inner.set_dent(dent)
+    }
+
+    fn new_line(&mut self) -> io::Result<()> {
+        self.inner.new_line()
+    }
+
+    fn order(&mut self, object: &Object) -> io::Result<Option<Vec<usize>>> {
+        self.inner.order(object)
+    }
+
+    ghost writer_law = { λ g w. G.writer_law g.inner w };
+
+    ghost style_law = { λ g. G.style_law g.inner };
+}
+
+/// The value has this text, each byte of which is counted, and `write` is called `writes` times.
+fn expect_counted(
+    rt: &impl Abort,
+    alloc: Global,
+    value: &JsonValue,
+    text: &str,
+    writes: usize,
+) -> Tested {
+    let mut generator = Counting::new(DumpGenerator::new(alloc));
     write_json(&mut generator, value)?;
-    expect(rt, "consume", generator.consume()?.as_str() == "[\n 1\n]");
+    expect_bytes(rt, generator.get_writer(), text);
+    expect_eq(rt, text, generator.count, text.len());
+    expect_eq(rt, text, generator.writes, writes);
     Ok(())
 }
 
-/// More than these texts and layouts take.
-const MOST_OF_LAYOUTS: usize = 1 << 20;
+/// A string, its text, and the calls of `write`: the bytes before the first escape, then in turn
+/// those before an escape and the escape, and those after the last.
+const STRINGS: &[(&str, &str, usize)] = &[
+    ("", "\"\"", 2),
+    ("plain", "\"plain\"", 2),
+    ("a\"b\\\n\u{1}é", "\"a\\\"b\\\\\\n\\u0001é\"", 10),
+];
 
-/// Each call drops the layout that it is passed.
+const NUMBERS: &[(bool, u64, i16, &str)] = &[(false, 125, -1, "-12.5"), (true, 1, 30, "1e30")];
+
 #[test]
-fn layouts_counted(rt: HostRuntime) -> Tested {
-    let value = parse(rt.alloc(), "[1]")?;
-    let mut refusals = Refusals::new(rt.alloc());
-    refusals.open();
-    lay_out(&rt, &value)?;
-    refusals.close();
-    refusals.expect_within(&rt, "layouts", MOST_OF_LAYOUTS)?;
-    refusals.expect_even()?;
-    Ok(())
+fn counts_strings_and_numbers(rt: HostRuntime) -> Tested {
+    let alloc = rt.alloc();
+    for (string, text, writes) in STRINGS {
+        let value = JsonValue::String(String::from_str(alloc, string)?);
+        expect_counted(&rt, alloc, &value, text, *writes)?;
+    }
+    for (positive, mantissa, exponent, text) in NUMBERS {
+        let number = Number::from_parts_unchecked(*positive, *mantissa, *exponent);
+        expect_counted(&rt, alloc, &JsonValue::Number(number), text, 1)?;
+    }
+    expect_counted(&rt, alloc, &JsonValue::Number(NAN), "null", 1)
+}
+
+/// The provided hooks take a string of any length.
+#[test]
+fn counts_a_long_string(rt: HostRuntime) -> Tested {
+    let alloc = rt.alloc();
+    let string = joined(alloc, &[("plain", 40000)])?;
+    let text = joined(alloc, &[("\"", 1), ("plain", 40000), ("\"", 1)])?;
+    expect_counted(&rt, alloc, &JsonValue::String(string), text.as_str(), 2)
+}
+
+/// Each comma and each bracket is a call of `write_char`.
+#[test]
+fn counts_containers(rt: HostRuntime) -> Tested {
+    let array = numbers(rt.alloc(), &[1, 20])?;
+    expect_counted(&rt, rt.alloc(), &array, "[1,20]", 2)?;
+    let mut generator = Counting::new(DumpGenerator::new(rt.alloc()));
+    write_json(&mut generator, &array)?;
+    expect_eq(&rt, "write_char", generator.chars, 3);
+    let object = empty_containers(rt.alloc())?;
+    expect_counted(&rt, rt.alloc(), &object, "{\"a\":[],\"b\":{}}", 6)
 }
 
 const TOO_DEEP: Trouble = Trouble::FailsBySystem(5);

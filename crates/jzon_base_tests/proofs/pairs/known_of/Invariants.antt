@@ -1,0 +1,5 @@
+use Rattle.jzon_base.specs.Private.Known.{Knows}
+use Rattle.jzon_base_tests.proofs.pairs.known_of.Given as goal
+
+abbrev pub invariant-loop-name : goal.invariant-loop-name
+invariant-loop-name l = Knows l.keys.items l.known

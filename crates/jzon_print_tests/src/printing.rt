@@ -1,0 +1,176 @@
+//! What is printed of one value: texts on one line and on lines, and what generators consume.
+
+use crate::common::{
+    Tested, empty_containers, expect, expect_bytes, expect_dump, expect_eq, numbers,
+};
+use crate::whole::{expect_compact, expect_lines};
+use jzon::codegen::{
+    Compact, Generator, Layout, Pretty, PrettyGenerator, TextGenerator, write_json,
+};
+use jzon::number::NAN;
+use jzon::object::Object;
+use jzon::{Error, JsonValue, array, parse, stringify, stringify_pretty};
+use std::alloc::Global;
+use std::process::Abort;
+use std::test::Fail;
+
+fn prettified(alloc: Global, value: &JsonValue, spaces: u16) -> Result<String, Fail> {
+    let mut generator = PrettyGenerator::new(alloc, spaces);
+    write_json(&mut generator, value)?;
+    Ok(generator.consume()?)
+}
+
+#[test]
+fn prints_containers(rt: HostRuntime) -> Tested {
+    let value = empty_containers(rt.alloc())?;
+    expect_compact(&rt, &value, "{\"a\":[],\"b\":{}}")?;
+    let text = "{\n  \"a\": [],\n  \"b\": {}\n}";
+    expect_lines(&rt, &value, 2, text)
+}
+
+#[test]
+fn prints_numbers(rt: HostRuntime) -> Tested {
+    let value = numbers(rt.alloc(), &[1, 2])?;
+    expect_compact(&rt, &value, "[1,2]")?;
+    expect_lines(&rt, &value, 4, "[\n    1,\n    2\n]")?;
+    expect_lines(&rt, &value, 0, "[\n1,\n2\n]")?;
+    let one = numbers(rt.alloc(), &[1])?;
+    expect_lines(&rt, &one, 0, "[\n1\n]")?;
+    let nan = JsonValue::Number(NAN);
+    expect_compact(&rt, &nan, "null")?;
+    expect_lines(&rt, &nan, 2, "null")?;
+    let inside = JsonValue::Array(vec![in rt.alloc(); nan]?);
+    expect_compact(&rt, &inside, "[null]")?;
+    expect_lines(&rt, &inside, 2, "[\n  null\n]")
+}
+
+#[test]
+fn prints_the_most_spaces(rt: HostRuntime) -> Tested {
+    let alloc = rt.alloc();
+    let value = numbers(alloc, &[1])?;
+    expect_eq(&rt, "pretty", value.pretty(alloc, 65535)?.len(), 65540);
+    let text = prettified(alloc, &value, 65535)?;
+    expect_eq(&rt, "PrettyGenerator", text.len(), 65540);
+    let nested = JsonValue::Array(vec![in alloc; value]?);
+    expect_eq(&rt, "nested", nested.pretty(alloc, 65535)?.len(), 262149);
+    Ok(())
+}
+
+#[test]
+fn prettifies_an_object(rt: HostRuntime) -> Tested {
+    let mut object = Object::new(rt.alloc());
+    object.insert(rt.alloc(), "a", JsonValue::Null)?;
+    object.insert(rt.alloc(), "b", numbers(rt.alloc(), &[2])?)?;
+    let found = object.pretty(rt.alloc(), 1)?;
+    let text = "{\n \"a\": null,\n \"b\": [\n  2\n ]\n}";
+    expect_bytes(&rt, found.as_bytes(), text);
+    Ok(())
+}
+
+#[test]
+fn stringifies_what_is_pushed(rt: HostRuntime) -> Tested {
+    let mut array = JsonValue::new_array(rt.alloc());
+    array.push(rt.alloc(), 7)?;
+    array.push(rt.alloc(), JsonValue::Null)?;
+    array.push(rt.alloc(), true)?;
+    array.push(rt.alloc(), Some("some text"))?;
+    let text = stringify(rt.alloc(), array)?;
+    let want = "[7,null,true,\"some text\"]";
+    expect_eq(&rt, want, text.as_str(), want);
+    Ok(())
+}
+
+const ON_ONE_LINE: &str =
+    "{\"title\":\"Dune\",\"by\":{\"first\":\"Frank\",\"last\":\"Herbert\"},\"parts\":[\"one\",2]}";
+
+const ON_LINES: &str =
+    "{\n  \"title\": \"Dune\",\n  \"by\": {\n    \"first\": \"Frank\",\n    \"last\": \"Herbert\"\n  },\n  \"parts\": [\n    \"one\",\n    2\n  ]\n}";
+
+#[test]
+fn stringifies_lists_and_lines(rt: HostRuntime) -> Tested {
+    let list = vec![in rt.alloc(); Some(1i32), None, Some(2)]?;
+    let text = stringify(rt.alloc(), list)?;
+    expect_eq(&rt, "a list", text.as_str(), "[1,null,2]");
+    let text = stringify_pretty(rt.alloc(), parse(rt.alloc(), ON_ONE_LINE)?, 2)?;
+    expect_eq(&rt, "lines", text.as_str(), ON_LINES);
+    Ok(())
+}
+
+/// A text, and its value on lines, with four spaces for each open container.
+const WITH_FOUR_SPACES: &[(&str, &str)] = &[
+    (
+        "[1,true,\"three\"]",
+        "[\n    1,\n    true,\n    \"three\"\n]",
+    ),
+    (
+        "{\"foo\":\"bar\",\"answer\":42}",
+        "{\n    \"foo\": \"bar\",\n    \"answer\": 42\n}",
+    ),
+    ("\"foobar\"", "\"foobar\""),
+    ("42", "42"),
+    ("true", "true"),
+    ("null", "null"),
+];
+
+#[test]
+fn prints_with_four_spaces(rt: HostRuntime) -> Tested {
+    for (source, text) in WITH_FOUR_SPACES {
+        let lines = parse(rt.alloc(), source)?.pretty(rt.alloc(), 4)?;
+        expect_eq(&rt, source, lines.as_str(), *text);
+    }
+    Ok(())
+}
+
+#[test]
+fn writes_null_for_nan(rt: HostRuntime) -> Tested {
+    let alloc = rt.alloc();
+    let value = array![alloc; JsonValue::Number(NAN)];
+    let mut bytes: Vec<u8> = Vec::new(alloc);
+    value.write(&mut bytes)?;
+    expect_eq(&rt, "the bytes", bytes.as_slice(), b"[null]".as_slice());
+    expect_dump(&rt, &value, "[null]")
+}
+
+/// Bytes, and their text if they are UTF-8.
+const CONSUMED: &[(&[u8], Option<&str>)] = &[
+    (b"\xff", None),
+    (b"\xc3", None),
+    (b"\xed\xa0\x80", None),
+    (b"\xc3\xa9", Some("é")),
+];
+
+/// A generator that was given these bytes, by `write` or by its writer itself, consumes them as this
+/// text, or fails.
+fn expect_consumed<L: Layout + Copy + Drop>(
+    rt: &impl Abort,
+    alloc: Global,
+    layout: L,
+    bytes: &[u8],
+    text: Option<&str>,
+) -> Tested {
+    for is_direct in [false, true] {
+        let mut generator = TextGenerator::in_memory(alloc, layout);
+        if is_direct {
+            generator.get_writer().extend_from_slice(bytes)?;
+        } else {
+            generator.write(bytes)?;
+        }
+        match generator.consume() {
+            Ok(found) => expect_eq(rt, "the text", Some(found.as_str()), text),
+            Err(error) => {
+                let is_foreign = matches!(error, Error::FailedUtf8Parsing);
+                expect(rt, "the error", is_foreign && text.is_none());
+            }
+        }
+    }
+    Ok(())
+}
+
+#[test]
+fn consumes_no_foreign_bytes(rt: HostRuntime) -> Tested {
+    for (bytes, text) in CONSUMED {
+        expect_consumed(&rt, rt.alloc(), Compact, bytes, *text)?;
+        expect_consumed(&rt, rt.alloc(), Pretty(2), bytes, *text)?;
+    }
+    Ok(())
+}
