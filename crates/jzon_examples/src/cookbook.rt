@@ -3,8 +3,10 @@
 
 pub mod building;
 pub mod changing;
+pub mod depth;
 pub mod looking;
 pub mod printing;
 pub mod proved;
 pub mod reading;
+pub mod refused;
 pub mod tabs;

@@ -36,6 +36,22 @@ pub fn child<'a>(value: &'a JsonValue, token: &str) -> Option<&'a JsonValue>
     }
 }
 
+/// The value that the tokens lead to, to be written.
+pub fn walk_mut<'a>(value: &'a mut JsonValue, tokens: &[String]) -> Option<&'a mut JsonValue> {
+    let mut place = value;
+    for token in tokens {
+        place = child_mut(place, token.as_str())?;
+    }
+    Some(place)
+}
+
+fn child_mut<'a>(value: &'a mut JsonValue, token: &str) -> Option<&'a mut JsonValue> {
+    match value {
+        JsonValue::Array(items) => items.get_mut(index_of(token)?),
+        _ => value.get_mut(token),
+    }
+}
+
 /// The index that a token names: digits, with no zero before others.
 #[tactic(auto, using(crate::proofs::PointerSteps::index_read))]
 pub fn index_of(token: &str) -> Option<usize>
@@ -118,6 +134,15 @@ mod tests {
             (found, expected) => expect(rt, pointer, found.is_none() && expected.is_none()),
         }
         Ok(())
+    }
+
+    #[test]
+    fn sets(rt: HostRuntime) -> Tested {
+        let alloc = rt.alloc();
+        let mut value = jzon::parse(alloc, "{\"a\": [1, {\"b\": 2}]}")?;
+        let tokens = tokens_of(alloc, "/a/1/b")?.ok_or("no pointer")?;
+        *walk_mut(&mut value, &tokens).ok_or("no value")? = JsonValue::from(3u8);
+        expect_dump(&rt, &value, "{\"a\":[1,{\"b\":3}]}")
     }
 
     #[test]

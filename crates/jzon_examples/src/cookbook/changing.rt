@@ -1,7 +1,22 @@
 //! Changes of a value, in place.
 
+use jzon::object::Object;
 use jzon::{JsonValue, Result};
 use std::alloc::Global;
+
+/// The code at the top of the README: reads a text, looks into its value, changes it, prints it.
+pub fn pay(alloc: Global) -> Result<(Option<u16>, Option<i64>, String)> {
+    let text = r#"{"id": 7, "price": 19.90, "to": {"city": "Bern"}}"#;
+    let mut order = jzon::parse(alloc, text)?;
+    let id = order.at("id").as_u16();
+    let cents = order.at("price").as_exact_fixed_point_i64(2);
+    order.insert(alloc, "paid", true)?;
+    if let Some(address) = order.get_mut("to") {
+        address.insert(alloc, "zip", "3011")?;
+    }
+    let printed = order.pretty(alloc, 2)?;
+    Ok((id, cents, printed))
+}
 
 /// Turns the entry `debug` off, if there is one.
 pub fn silence(config: &mut JsonValue) {
@@ -55,10 +70,37 @@ pub fn rename(alloc: Global, config: &mut JsonValue) -> Result<()> {
     Ok(())
 }
 
+/// Gives the entry `old` the key `new`, at its position.
+pub fn rename_in_place(alloc: Global, config: &mut JsonValue) -> Result<()> {
+    if let Some(object) = config.as_object_mut() {
+        let mut renamed = Object::with_capacity(alloc, object.len())?;
+        for (key, value) in object.iter() {
+            let value = value.clone(alloc)?;
+            match key {
+                "old" => renamed.insert(alloc, "new", value)?,
+                _ => renamed.insert(alloc, key, value)?,
+            }
+        }
+        *object = renamed;
+    }
+    Ok(())
+}
+
 #[cfg(test)]
 mod tests {
     use super::*;
     use std::test::Fail;
+
+    #[test]
+    fn pays(rt: HostRuntime) -> std::result::Result<(), Fail> {
+        let (id, cents, text) = pay(rt.alloc())?;
+        assert!(rt; id == Some(7) && cents == Some(1990));
+        assert_eq!(rt;
+            text.as_str(),
+            "{\n  \"id\": 7,\n  \"price\": 19.90,\n  \"to\": {\n    \"city\": \"Bern\",\n    \"zip\": \"3011\"\n  },\n  \"paid\": true\n}"
+        );
+        Ok(())
+    }
 
     #[test]
     fn changes(rt: HostRuntime) -> std::result::Result<(), Fail> {
@@ -72,18 +114,21 @@ mod tests {
             config.dump(alloc)?.as_str(),
             r#"{"debug":false,"server":{"port":80},"new":1}"#
         );
+        assert!(rt; change_port(&mut config, 81).is_some());
+        assert!(rt; config.at("server").at("port").eq_u64(81));
+        let mut config = jzon::parse(alloc, r#"{"a": 1, "old": 2, "b": 3}"#)?;
+        rename_in_place(alloc, &mut config)?;
+        assert_eq!(rt; config.dump(alloc)?.as_str(), r#"{"a":1,"new":2,"b":3}"#);
         let mut list = jzon::parse(alloc, "[null, 1, null]")?;
         fill(&mut list);
         assert_eq!(rt; list.dump(alloc)?.as_str(), "[0,1,0]");
         let mut people = jzon::parse(alloc, r#"[{"name": "b", "age": 1}, {"name": "a"}, {}]"#)?;
+        assert!(rt; change_port(&mut people, 81).is_none());
         sort_by_name(&mut people)?;
         assert_eq!(rt;
             people.dump(alloc)?.as_str(),
             r#"[{},{"name":"a"},{"name":"b","age":1}]"#
         );
-        assert!(rt; change_port(&mut people, 81).is_none());
-        assert!(rt; change_port(&mut config, 81).is_some());
-        assert!(rt; config.at("server").at("port").eq_u64(81));
         Ok(())
     }
 }

@@ -2,8 +2,9 @@
 
 use crate::cookbook::building::{Server, Shape};
 use jzon::{Error, JsonValue, Result, View};
-use std::alloc::{AllocError, Global};
+use std::alloc::{AllocError, AllocFailed, Global};
 use std::collections::BTreeMap;
+use std::fmt;
 
 /// Seconds to wait: 30 if the setting is missing or no `u64`.
 pub fn timeout(config: &JsonValue) -> u64 {
@@ -65,45 +66,98 @@ pub fn strings_inside(alloc: Global, value: &JsonValue) -> Result<Vec<&str>> {
 }
 
 /// Why a value is no server.
-#[derive(Debug, Drop, thiserror::Error)]
+#[derive(Debug, Drop)]
 pub enum ServerError {
     /// The text is rejected, or memory ran out.
-    #[error("{0}")]
-    Json(#[from] Error),
-    /// A string couldn't be copied.
-    #[error("out of memory")]
-    Memory(#[from(alloc)] AllocError),
-    /// This key is missing.
-    #[error("`{0}` is missing")]
-    Missing(&'static str),
-    /// The value of this key isn't of this kind.
-    #[error("`{0}` is no {1}")]
-    WrongKind(&'static str, &'static str),
+    Json(Error),
+    /// The value at this path is missing, or isn't of this kind.
+    Field(String, &'static str),
+    /// No field has this name.
+    Unknown(String),
 }
 
-/// The server that a text describes.
-pub fn parse_server(alloc: Global, text: &str) -> std::result::Result<Server, ServerError> {
-    server_of(alloc, &jzon::parse(alloc, text)?)
+impl fmt::Display for ServerError {
+    fn fmt<W: fmt::Write>(&self, f: &mut fmt::Formatter<W>) -> fmt::Result {
+        match self {
+            ServerError::Json(error) => write!(f, "{error}"),
+            ServerError::Field(path, kind) => write!(f, "`{path}` is missing or no {kind}"),
+            ServerError::Unknown(path) => write!(f, "`{path}` is no field"),
+        }
+    }
+}
+
+impl From<Error> for ServerError {
+    fn from(error: Error) -> ServerError {
+        ServerError::Json(error)
+    }
+}
+
+impl From<AllocError> for ServerError {
+    fn from(_error: AllocError) -> ServerError {
+        ServerError::Json(Error::OutOfMemory)
+    }
+}
+
+impl<T: Drop> From<AllocFailed<T>> for ServerError {
+    fn from(_error: AllocFailed<T>) -> ServerError {
+        ServerError::Json(Error::OutOfMemory)
+    }
+}
+
+/// The servers that a text lists.
+pub fn parse_servers(alloc: Global, text: &str) -> std::result::Result<Vec<Server>, ServerError> {
+    let config = jzon::parse(alloc, text)?;
+    let mut servers = Vec::new(alloc);
+    for (index, value) in config.at("servers").members().enumerate() {
+        let path = format!(in alloc; "servers[{index}]")?;
+        servers.push(server_of(alloc, value, path.as_str())?)?;
+    }
+    Ok(servers)
 }
 
 /// The server that an object describes. A missing port is 80, missing tags are an empty list.
-pub fn server_of(alloc: Global, value: &JsonValue) -> std::result::Result<Server, ServerError> {
-    let host = value.get("host").ok_or(ServerError::Missing("host"))?;
-    let host = host
-        .as_str()
-        .ok_or(ServerError::WrongKind("host", "string"))?;
+pub fn server_of(
+    alloc: Global,
+    value: &JsonValue,
+    path: &str,
+) -> std::result::Result<Server, ServerError> {
+    if let Some(key) = unknown_key(value, &["host", "port", "tags"]) {
+        return Err(ServerError::Unknown(format!(in alloc; "{path}.{key}")?));
+    }
+    let Some(host) = value.at("host").as_str() else {
+        let path = format!(in alloc; "{path}.host")?;
+        return Err(ServerError::Field(path, "string"));
+    };
+    let Some(port) = port_of(value) else {
+        let path = format!(in alloc; "{path}.port")?;
+        return Err(ServerError::Field(path, "u16"));
+    };
     Ok(Server {
         host: String::from_str(alloc, host)?,
-        port: port_of(value)?,
+        port,
         tags: strings_of(alloc, value.at("tags"))?,
     })
 }
 
-/// The port: 80 if there is none.
-fn port_of(value: &JsonValue) -> std::result::Result<u16, ServerError> {
+/// The first key of an object that isn't among the known ones.
+fn unknown_key<'a>(value: &'a JsonValue, known: &[&str]) -> Option<&'a str> {
+    for (key, _value) in value.entries() {
+        if !is_among(known, key) {
+            return Some(key);
+        }
+    }
+    None
+}
+
+fn is_among(names: &[&str], key: &str) -> bool {
+    names.iter().any(|name| *name == key)
+}
+
+/// The port: 80 if there is none. `None` if it is no `u16`.
+fn port_of(value: &JsonValue) -> Option<u16> {
     match value.get("port") {
-        Some(port) => port.as_u16().ok_or(ServerError::WrongKind("port", "u16")),
-        None => Ok(80),
+        Some(port) => port.as_u16(),
+        None => Some(80),
     }
 }
 
@@ -173,6 +227,11 @@ pub fn identifier(value: &JsonValue) -> Option<&str> {
     value.get("id")?.as_str()
 }
 
+/// An integer of up to 128 bits, written as a string.
+pub fn wide_identifier(value: &JsonValue) -> Option<u128> {
+    identifier(value)?.parse().ok()
+}
+
 /// Whether two texts mean equal values.
 pub fn means_the_same(alloc: Global, one: &str, other: &str) -> Result<bool> {
     Ok(jzon::parse(alloc, one)? == jzon::parse(alloc, other)?)
@@ -204,19 +263,28 @@ mod tests {
     #[test]
     fn finds_servers(rt: HostRuntime) -> Tested {
         let alloc = rt.alloc();
-        let value = jzon::parse(alloc, r#"{"host": "a", "tags": ["x", 1, "y"]}"#)?;
+        let text = r#"{"servers": [{"host": "a", "tags": ["x", 1, "y"]}]}"#;
         assert_eq!(rt;
-            jzon::stringify(alloc, server_of(alloc, &value)?)?.as_str(),
-            r#"{"host":"a","port":80,"tags":["x","y"]}"#
+            jzon::stringify(alloc, parse_servers(alloc, text)?)?.as_str(),
+            r#"[{"host":"a","port":80,"tags":["x","y"]}]"#
         );
         let rows = [
             ("[1", "Unexpected end of JSON"),
-            ("[1]", "`host` is missing"),
-            (r#"{"host": null}"#, "`host` is no string"),
-            (r#"{"host": "a", "port": 65536}"#, "`port` is no u16"),
+            (
+                r#"{"servers": [{"host": "a"}, 1]}"#,
+                "`servers[1].host` is missing or no string",
+            ),
+            (
+                r#"{"servers": [{"host": "a", "port": 65536}]}"#,
+                "`servers[0].port` is missing or no u16",
+            ),
+            (
+                r#"{"servers": [{"hots": "a"}]}"#,
+                "`servers[0].hots` is no field",
+            ),
         ];
         for (text, message) in rows {
-            let error = parse_server(alloc, text).err().ok_or("no error")?;
+            let error = parse_servers(alloc, text).err().ok_or("no error")?;
             assert_eq!(rt; format!(in alloc; "{error}")?.as_str(), message);
         }
         Ok(())
@@ -281,6 +349,8 @@ mod tests {
         );
         let whole = jzon::parse(alloc, r#"{"id": "123456789012345678901234567890"}"#)?;
         assert_eq!(rt; identifier(&whole), Some("123456789012345678901234567890"));
+        let wide = Some(123456789012345678901234567890);
+        expect_eq(&rt, "128 bits", wide_identifier(&whole), wide);
         Ok(())
     }
 

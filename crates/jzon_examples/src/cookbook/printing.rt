@@ -19,6 +19,12 @@ pub fn write_line<W: Write + Drop>(alloc: Global, writer: W, value: &JsonValue) 
     buffered.flush()
 }
 
+/// Adds the compact text of a value to a string.
+pub fn add_text(text: &mut String, value: &JsonValue) -> Result<()> {
+    write!(text, "{value}")?;
+    Ok(())
+}
+
 /// The compact text of a value, with an escape for each character that isn't ASCII.
 pub fn ascii(alloc: Global, value: &JsonValue) -> Result<String> {
     let text = value.dump(alloc)?;
@@ -59,6 +65,9 @@ mod tests {
             str::from_utf8(&bytes)?,
             "{\n  \"a\": [],\n  \"b\": [\n    1\n  ]\n}\n"
         );
+        let mut text = String::from_str(alloc, "value: ")?;
+        add_text(&mut text, &value)?;
+        assert_eq!(rt; text.as_str(), r#"value: {"a":[],"b":[1]}"#);
         Ok(())
     }
 

@@ -1,18 +1,37 @@
 //! From files, bytes and lines to values, and what to do with an error.
 
 use jzon::{Error, JsonValue, Reading, Result};
-use std::alloc::{AllocError, Global};
-use std::{fs, io};
+use std::alloc::Global;
+use std::{fmt, fs, io};
 
 /// Why a file was not read.
-#[derive(Debug, Drop, thiserror::Error)]
+#[derive(Debug, Drop)]
 pub enum LoadError {
     /// It can't be read, or isn't UTF-8.
-    #[error("can't read the file: {0}")]
-    Io(#[from] io::Error),
+    Io(io::Error),
     /// Its text is rejected.
-    #[error("{0}")]
-    Json(#[from] Error),
+    Json(Error),
+}
+
+impl fmt::Display for LoadError {
+    fn fmt<W: fmt::Write>(&self, f: &mut fmt::Formatter<W>) -> fmt::Result {
+        match self {
+            LoadError::Io(error) => write!(f, "can't read the file: {error}"),
+            LoadError::Json(error) => write!(f, "{error}"),
+        }
+    }
+}
+
+impl From<io::Error> for LoadError {
+    fn from(error: io::Error) -> LoadError {
+        LoadError::Io(error)
+    }
+}
+
+impl From<Error> for LoadError {
+    fn from(error: Error) -> LoadError {
+        LoadError::Json(error)
+    }
 }
 
 /// The value of a file.
@@ -59,28 +78,62 @@ pub fn explained(alloc: Global, text: &str, error: &Error) -> Result<String> {
     Ok(format!(in alloc; "{error}\n{line}")?)
 }
 
-/// Why the lines of a text were not read.
-#[derive(Debug, Drop, thiserror::Error)]
-pub enum LinesError {
-    /// The line with this number, counted from 1, is rejected.
-    #[error("line {0}: {1}")]
-    Line(usize, Error),
-    /// An allocation failed.
-    #[error("out of memory")]
-    Memory(#[from(alloc)] AllocError),
-}
-
 /// The values of a text that has one JSON text on each line. Empty lines are skipped.
-pub fn parse_lines(alloc: Global, text: &str) -> std::result::Result<Vec<JsonValue>, LinesError> {
+pub fn parse_lines(alloc: Global, text: &str) -> Result<Vec<JsonValue>> {
     let mut values = Vec::new(alloc);
-    for (index, line) in text.lines().enumerate() {
+    for line in text.lines() {
         if !line.trim().is_empty() {
-            let number = index.saturating_add(1);
-            let value = jzon::parse(alloc, line).map_err(|error| LinesError::Line(number, error))?;
-            values.push(value)?;
+            values.push(jzon::parse(alloc, line)?)?;
         }
     }
     Ok(values)
+}
+
+/// The values of texts that follow one another, with whitespace or nothing between them. The line
+/// and column of an error are counted in the text that it is about.
+pub fn parse_all(alloc: Global, texts: &str) -> Result<Vec<JsonValue>> {
+    let mut values = Vec::new(alloc);
+    let mut rest = texts;
+    for _ in 0..texts.len() {
+        if rest.trim().is_empty() {
+            break;
+        }
+        rest = add_first(alloc, rest, &mut values)?;
+    }
+    Ok(values)
+}
+
+/// Adds the value of the first text, and returns what follows this text: the first text ends where
+/// `parse` finds the next one to begin.
+fn add_first<'a>(alloc: Global, texts: &'a str, values: &mut Vec<JsonValue>) -> Result<&'a str> {
+    let error = match jzon::parse(alloc, texts) {
+        Ok(value) => {
+            values.push(value)?;
+            return Ok("");
+        }
+        Err(error) => error,
+    };
+    let Some((first, later)) = split_at_error(texts, &error) else {
+        return Err(error);
+    };
+    match jzon::parse(alloc, first) {
+        Ok(value) => values.push(value)?,
+        Err(Error::OutOfMemory) => return Err(Error::OutOfMemory),
+        Err(_) => return Err(error),
+    }
+    Ok(later)
+}
+
+/// What is before the position of an error, and what is from there on.
+fn split_at_error<'a>(text: &'a str, error: &Error) -> Option<(&'a str, &'a str)> {
+    let lines_before = error.line()?.checked_sub(1)?;
+    let characters_before = error.column()?.checked_sub(1)?;
+    let start = match lines_before.checked_sub(1) {
+        Some(index) => text.match_indices('\n').nth(index)?.0.checked_add(1)?,
+        None => 0,
+    };
+    let (offset, _) = text.get(start..)?.char_indices().nth(characters_before)?;
+    text.split_at_checked(start.checked_add(offset)?)
 }
 
 #[cfg(test)]
@@ -112,11 +165,26 @@ mod tests {
             jzon::stringify(alloc, values)?.as_str(),
             r#"[{"a":1},[2]]"#
         );
-        let error = parse_lines(alloc, "1\n\n[2,]\n").err().ok_or("no error")?;
+        Ok(())
+    }
+
+    #[test]
+    fn reads_texts_in_a_row(rt: HostRuntime) -> std::result::Result<(), Fail> {
+        let alloc = rt.alloc();
+        let values = parse_all(alloc, "{\"a\":\n1}[2] \n\n 3 \"é\"null\n")?;
         assert_eq!(rt;
-            format!(in alloc; "{error}")?.as_str(),
-            "line 3: Unexpected character: ] at (1:4)"
+            jzon::stringify(alloc, values)?.as_str(),
+            r#"[{"a":1},[2],3,"é",null]"#
         );
+        assert!(rt; parse_all(alloc, " \n")?.is_empty());
+        let error = parse_all(alloc, "[1]\n[2 3]").err().ok_or("no error")?;
+        assert!(rt; error.line() == Some(1) && error.column() == Some(4));
+        let lone = Error::UnexpectedCharacter {
+            ch: '"',
+            line: 1,
+            column: 8,
+        };
+        assert!(rt; jzon::parse(alloc, r#""\ud83d""#) == Err(lone));
         Ok(())
     }
 
