@@ -7,7 +7,11 @@ fn strings(value: &JsonValue) -> Vec<String> {
 }
 
 fn visited(value: &JsonValue) -> usize {
-    let of_items: usize = value.members().flat_map(|item| item.entries()).map(|(key, inner)| key.len() + inner.len()).sum();
+    let of_items: usize = value
+        .members()
+        .flat_map(|item| item.entries())
+        .map(|(key, inner)| key.len() + inner.len())
+        .sum();
     of_items + value.entries().map(|(key, _)| key.len()).sum::<usize>()
 }
 
@@ -39,6 +43,10 @@ fn work(call: &str, repeats: usize, source: &str) -> usize {
     let read = || parse(source).expect("a valid text");
     if call == "parse" || call == "strict" {
         return (0..repeats).map(|_| read().len()).sum();
+    }
+    if call == "keep" {
+        let values: Vec<JsonValue> = (0..repeats).map(|_| read()).collect();
+        return values.len();
     }
     let (value, other) = (read(), read());
     let keys = strings(&value);

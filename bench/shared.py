@@ -1,5 +1,5 @@
-"""What the benches share: options, texts that another process makes, runs of a program with their cost and peak memory, tables, and the builds of our
-programs and of the Rust crate's."""
+"""What the benches share: options, texts that another process makes, runs of a program with their cost and peak memory,
+tables, and the builds of our programs and of the Rust crate's."""
 import argparse
 import collections
 import os
@@ -35,12 +35,15 @@ def options(doc, words, *flags, **numbers):
 
 
 class Run:
-    """One run of a program: its status, what it printed on standard error, its processor time in seconds or its instructions, and its peak memory in
-    kilobytes, which is None if it is below that of this process."""
+    """One run of a program: its status, what it printed on standard error, its processor time in seconds or its
+    instructions, and its peak memory in kilobytes, which is None if it is below that of this process."""
 
     def __init__(self, words, source=os.devnull, target=os.devnull, counts=False):
         with open(source, "rb") as given, open(target, "wb") as taken:
-            child = subprocess.Popen([*CALLGRIND * counts, *words], stdin=given, stdout=taken, stderr=subprocess.PIPE, text=True, errors="replace")
+            child = subprocess.Popen(
+                [*CALLGRIND * counts, *words], stdin=given, stdout=taken, stderr=subprocess.PIPE, text=True,
+                errors="replace"
+            )
         resource.prlimit(child.pid, resource.RLIMIT_CPU, (SECONDS_MAX * (20 if counts else 1),) * 2)
         with child.stderr:
             lines = child.stderr.read().splitlines()
@@ -56,10 +59,11 @@ class Run:
 
 
 def measured(sides, given, repeats=0):
-    """Runs the sides, each a command and the path of its text, in turns. Returns a list of what one call costs on each side, a list of the peaks, and
-    the set of what the sides printed on standard error. With `repeats`, the number of calls is the command's last word, and the cost of a run without
-    calls is subtracted. The least cost of the rounds counts; instructions are counted once. A cost is None if the side failed or has no such call, or
-    if its time is lost in that of a run without calls."""
+    """Runs the sides, each a command and the path of its text, in turns. Returns a list of what one call costs on each
+    side, a list of the peaks, and the set of what the sides printed on standard error. With `repeats`, the number of
+    calls is the command's last word, and the cost of a run without calls is subtracted. The least cost of the rounds
+    counts; instructions are counted once. A cost is None if the side failed or has no such call, or if its time is lost
+    in that of a run without calls."""
     runs, costs, peaks, said = collections.defaultdict(list), [], [], set()
     for number in range(1 if given.instructions else given.rounds):
         for at, (words, path) in sorted(enumerate(sides), reverse=number % 2 == 0):
@@ -86,7 +90,8 @@ def make_text(size, name):
 
 
 def growth(given, calls, repeats=0):
-    """Calls on objects of n and of 2n hard keys: the title, the command, what follows in the texts' names, and whether keys may be repeated."""
+    """Calls on objects of n and of 2n hard keys: the title, the command, what follows in the texts' names, and whether
+    keys may be repeated."""
     table = Table("Keys", "n", f"{'Instructions' if given.instructions else 'Seconds'} for n", "Longer at 2n")
     for kind, (name, count, _) in texts.KEY_KINDS.items():
         count = max(2, int(count * given.scale))
@@ -140,23 +145,31 @@ def figure(cost, given):
 
 def build(words, folder, program, status):
     """The path of the program that a command builds in a folder. The command ends with this status."""
-    ran = subprocess.run(words, cwd=folder, stdin=subprocess.DEVNULL, stdout=subprocess.PIPE, stderr=subprocess.STDOUT, text=True)
+    ran = subprocess.run(
+        words, cwd=folder, stdin=subprocess.DEVNULL, stdout=subprocess.PIPE, stderr=subprocess.STDOUT, text=True
+    )
     if ran.returncode != status or not os.access(program, os.X_OK):
         sys.exit(f"bench: '{' '.join(words)}' in {folder} doesn't build the program:\n{ran.stdout[-4000:]}")
     return program
 
 
 def rattle_build(source, *deps):
-    """Proves and builds main.rt.in with this source in a copy of the crates. Without arguments the program ends with the status 1."""
+    """Proves and builds main.rt.in with this source in a copy of the crates. Without arguments the program ends with
+    the status 1."""
     folder, crate = ROOM / source, ROOM / source / "crates/calls"
     shutil.rmtree(folder, ignore_errors=True)
     shutil.copytree(TOP / "crates", folder / "crates", ignore=shutil.ignore_patterns("out", "must-fail*"))
     (crate / "src").mkdir(parents=True)
     (folder / ".git").mkdir()
-    for file, copy in ((HERE / "main.rt.in", crate / "src/main.rt"), (HERE / source, crate / "src/calls.rt"), (TOP / "HANDLES", folder)):
+    for file, copy in (
+        (HERE / "main.rt.in", crate / "src/main.rt"), (HERE / source, crate / "src/calls.rt"), (TOP / "HANDLES", folder)
+    ):
         shutil.copy(file, copy)
     (folder / "crates.txt").write_text((TOP / "crates.txt").read_text("utf-8") + f"calls: {' '.join(deps)}\n", "utf-8")
-    print(f"bench: proving and building {source}, which takes minutes where it or its library isn't proved yet", file=sys.stderr, flush=True)
+    print(
+        f"bench: proving and building {source}, which takes minutes where it or its library isn't proved yet",
+        file=sys.stderr, flush=True
+    )
     return build(["rt", "run"], crate, crate / "out/calls", 1)
 
 
@@ -166,5 +179,7 @@ def cargo_build(checkout, source):
     (folder / "src").mkdir(parents=True, exist_ok=True)
     shutil.copy(HERE / source, folder / "src/main.rs")
     package = '[package]\nname = "beside"\nversion = "0.1.0"\nedition = "2021"\n'
-    (folder / "Cargo.toml").write_text(f'{package}[dependencies]\njzon = {{ path = "{os.path.realpath(checkout)}" }}\n', "utf-8")
+    (folder / "Cargo.toml").write_text(
+        f'{package}[dependencies]\njzon = {{ path = "{os.path.realpath(checkout)}" }}\n', "utf-8"
+    )
     return build(["cargo", "build", "--release"], folder, folder / "target/release/beside", 0)

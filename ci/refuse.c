@@ -1,18 +1,22 @@
 /*
- * Replaces the C library's malloc, calloc, realloc and free (by LD_PRELOAD). It makes one chosen allocation fail, and counts blocks and bytes, so that a test
- * can check both. A program that ends and hasn't freed each of its blocks says so, and has the status 3, unless the environment has a variable KEEPS.
+ * Replaces the C library's malloc, calloc, realloc and free (by LD_PRELOAD). It makes one chosen allocation fail, and
+ * counts blocks and bytes, so that a test can check both. A program that ends and hasn't freed each of its blocks says
+ * so, and has the status 3, unless the environment has a variable KEEPS.
  *
- * Each call of one of the first three is an allocation, the growth of a block too. A block that grows counts as one, and its whole new size as requested; an
- * allocation that fails counts in neither. Only one thread may allocate at a time. A test controls this by allocations of marked sizes, which no system can
- * serve: without this library they fail. One that succeeds gets a block of its own, which the test only frees, and which isn't counted.
+ * Each call of one of the first three is an allocation, the growth of a block too. A block that grows counts as one,
+ * and its whole new size as requested; an allocation that fails counts in neither. Only one thread may allocate at a
+ * time. A test controls this by allocations of marked sizes, which no system can serve: without this library they fail.
+ * One that succeeds gets a block of its own, which the test only frees, and which isn't counted.
  *
  *     MARK + n, for an n of 1 to STEP - 1   succeeds. The nth allocation after it fails.
- *     MARK                                  ends that. It fails if an allocation failed since, and succeeds if none did.
+ *     MARK                                  ends that. It fails if an allocation failed since, and succeeds if none
+ *                                           did.
  *     MARK + STEP                           succeeds. From here on blocks and requested bytes are counted.
  *     MARK + 2 * STEP                       succeeds if as many blocks were freed as allocated since MARK + STEP.
  *     MARK + 3 * STEP + n                   succeeds if at most n bytes were requested since MARK + STEP.
- *     MARK + 4 * STEP + n                   succeeds if the blocks that were allocated since MARK + STEP and not freed have at most n bytes. The C library
- *                                           makes a block up to 24 bytes larger than requested.
+ *     MARK + 4 * STEP + n                   succeeds if the blocks that were allocated since MARK + STEP and not freed
+ *                                           have at most n bytes. The C library makes a block up to 24 bytes larger
+ *                                           than requested.
  *     MARK + 5 * STEP + n                   succeeds if these blocks had at most n bytes at each time.
  */
 #include <malloc.h>

@@ -1,7 +1,9 @@
-"""What the checks share. A script that imports it runs in the repository's top folder. Their first line has -B, so that Python keeps no folder __pycache__."""
+"""What the checks share. A script that imports it runs in the repository's top folder. Their first line has -B, so that
+Python keeps no folder __pycache__."""
 import glob
 import os
 import pathlib
+import re
 import sys
 
 os.chdir(pathlib.Path(__file__).resolve().parent.parent)
@@ -25,3 +27,19 @@ def report(wrong, summary=""):
     for line in [*wrong, *[summary] * bool(summary)]:
         print(f"ci/{os.path.basename(sys.argv[0])}: {line}")
     sys.exit(bool(wrong))
+
+
+def processes(gigabytes, spare=0):
+    """How many processes run side by side: RT_JOBS says it, else one a processor, where each has so much memory and the
+    spare one stays free. In a container the limit may be less than what is free."""
+    free = [int(re.search(r"MemAvailable: *(\d+)", read("/proc/meminfo"))[1]) * 1024]
+    limit = pathlib.Path("/sys/fs/cgroup/memory.max")
+    if limit.exists() and limit.read_text().strip().isdigit():
+        free.append(int(limit.read_text()))
+    most = int((min(free) / 1e9 - spare) // gigabytes)
+    return max(1, min(int(os.environ.get("RT_JOBS") or os.cpu_count()), most))
+
+
+def is_of_allocations(crate, test):
+    """Whether this is a test of allocations, which is of use only beside ci/refuse.c (ci/beside)."""
+    return crate == "jzon_refusal_tests" or test.endswith(("_under_refusals", "_counted"))
