@@ -31,6 +31,16 @@ pub fn set_port(alloc: Global, config: &mut JsonValue, port: u16) -> Result<()> 
     Ok(())
 }
 
+/// Adds an element to the list `tags`, which is made if it is missing. `WrongType` if there is
+/// another value.
+pub fn add_tag(alloc: Global, config: &mut JsonValue, tag: &str) -> Result<()> {
+    let tags = config.at_mut(alloc, "tags")?;
+    if tags.is_null() {
+        *tags = JsonValue::new_array(alloc);
+    }
+    tags.push(alloc, tag)
+}
+
 /// Changes the port, if it is there. `None` if it isn't: then nothing has changed.
 pub fn change_port(config: &mut JsonValue, port: u16) -> Option<()> {
     *config.get_mut("server")?.get_mut("port")? = JsonValue::from(port);
@@ -124,6 +134,10 @@ mod tests {
         assert_eq!(rt; list.dump(alloc)?.as_str(), "[0,1,0]");
         let mut people = jzon::parse(alloc, r#"[{"name": "b", "age": 1}, {"name": "a"}, {}]"#)?;
         assert!(rt; change_port(&mut people, 81).is_none());
+        let mut empty = JsonValue::new_object(alloc);
+        add_tag(alloc, &mut empty, "a")?;
+        add_tag(alloc, &mut empty, "b")?;
+        assert_eq!(rt; empty.dump(alloc)?.as_str(), r#"{"tags":["a","b"]}"#);
         sort_by_name(&mut people)?;
         assert_eq!(rt;
             people.dump(alloc)?.as_str(),

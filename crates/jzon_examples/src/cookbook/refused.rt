@@ -93,6 +93,20 @@ pub fn last_null(list: &JsonValue) -> Option<usize> {
     last
 }
 
+/// Not `while let Some(next) = work.pop()`, if the loop also adds to the list.
+pub fn count_inside(alloc: Global, value: &JsonValue) -> Result<usize> {
+    let mut work = vec![in alloc; value]?;
+    let mut count = 0usize;
+    for _ in 0..u64::MAX {
+        let Some(next) = work.pop() else { break };
+        count = count.saturating_add(1);
+        for element in next.members() {
+            work.push(element)?;
+        }
+    }
+    Ok(count)
+}
+
 /// What is proved as it is in Rust.
 pub fn as_in_rust(alloc: Global, list: &JsonValue) -> Result<JsonValue> {
     let nulls = list.members().filter(|element| element.is_null()).count();
@@ -175,6 +189,7 @@ mod tests {
         expect_eq(&rt, "after_first_byte", after_first_byte("é"), None);
         expect_eq(&rt, "total_length", total_length(&list), Some(0));
         expect_eq(&rt, "last_null", last_null(&list), Some(3));
+        expect_eq(&rt, "count_inside", count_inside(alloc, &list)?, 5);
         expect_dump(
             &rt,
             &as_in_rust(alloc, &list)?,
