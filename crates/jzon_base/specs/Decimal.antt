@@ -81,7 +81,7 @@ abbrev pub integer_of : Decimal → Option ℤ
 integer_of nan = None
 integer_of (parts positive m e) = if int_eq e (pos 0) then Some (signed positive m) else None
 
--- the same, if the sign is positive (-0 isn't)
+-- the integer that the decimal is written as, if the sign is positive (-0 has none)
 abbrev pub unsigned_of : Decimal → Option ℕ
 unsigned_of nan = None
 unsigned_of (parts true m e) = if int_eq e (pos 0) then Some m else None
@@ -107,7 +107,7 @@ abbrev pub fixed_point : Decimal → ℕ → Option ℤ
 fixed_point nan point = None
 fixed_point (parts positive m e) point = Some (signed positive (whole_part m (e +ℤ pos point)))
 
--- the same, if the sign is positive
+-- the whole part of the decimal times a power of ten, if the sign is positive
 abbrev pub unsigned_fixed_point : Decimal → ℕ → Option ℕ
 unsigned_fixed_point nan point = None
 unsigned_fixed_point (parts true m e) point = Some (whole_part m (e +ℤ pos point))

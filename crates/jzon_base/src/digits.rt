@@ -94,7 +94,8 @@ pub fn scan(bytes: &[u8], before: u64) -> (usize, u64)
     (len + count, number)
 }
 
-/// The same, one byte at a time.
+/// How many digits `bytes` begin with, and the number of `before` with these digits after it, modulo
+/// 2^64: one byte is read at a time.
 fn scan_by_bytes(bytes: &[u8], before: u64) -> (usize, u64)
     ensures count { result.0 ≡ prefix_len is_ascii_digit bytes.now }
     ensures number { (n : ℕ) → before ≡ n % 2 ^ 64

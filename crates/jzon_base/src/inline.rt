@@ -14,7 +14,7 @@ pub(crate) fn text_in<const MAX: usize>(text: &str) -> ArrayString<MAX>
     inline
 }
 
-/// The text, with which `wide` begins. Where `wide` can be cut after `MAX` bytes, these are copied,
+/// The text, with which `wide` begins. If `wide` can be cut after `MAX` bytes, these are copied,
 /// which takes no call, and those after the text are dropped.
 #[inline(always)]
 #[tactic(auto, using(crate::proofs::Strings::CopiedPrefixes::splits_front))]

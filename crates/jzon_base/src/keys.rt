@@ -6,7 +6,8 @@
 //! in the order of hashes and texts; each is asked by binary search, so that the time doesn't
 //! depend on which hashes the keys have.
 //!
-//! `from_entries` finds repeated keys by one sort of such entries.
+//! `from_entries` sorts the index entries of more than 32 keys once. If no key repeats, they are the
+//! index; else, and for fewer keys, the entries of the object are put one after the other.
 ghost use Rattle.std.specs.Prelude.{◌≡◌, ◌<◌, ◌++◌, ◌∷◌, ◌==◌, [], length, remove, slice_get, List, ℕ, IfOk, IfErr, OnOk, OnErr, MatchOption, None, Some, vec_len, vec_capacity};
 ghost use Rattle.std.specs.List.{position, zip, IsDistinct};
 ghost use Rattle.std.specs.Result.{result_ok};
@@ -21,6 +22,7 @@ mod filter;
 pub mod hash;
 mod iter;
 mod known;
+mod many;
 mod retain;
 pub mod runs;
 
@@ -39,8 +41,8 @@ const FIRST_ROOM: usize = 8;
 /// Distinct keys in the order in which they were put, and the index in which the position of each
 /// is found. A clause sees the list of their bytes.
 ///
-/// A look-up compares keys without an index one by one. The hashes of others are passed to the
-/// index, except by `retain`, whose `refill` computes them.
+/// A look-up compares keys without an index one by one. `fill`, `refill` and `entries::hashed`
+/// compute the hashes of keys; else the caller passes them to the index.
 #[derive(Drop)]
 pub struct Keys {
     keys: Vec<Key>,
@@ -181,8 +183,8 @@ impl Keys {
         }
     }
 
-    /// No key, with room for `capacity` of them. More than 32 have an index, with room for up to
-    /// 1,024 of them. The error is a failed allocation.
+    /// No key, with room for `capacity` of them, and for up to 1,024 index entries if `capacity` is
+    /// above 32. The error is a failed allocation.
     pub fn with_capacity(alloc: Global, capacity: usize) -> Result<Keys, AllocError>
         ensures { IfOk result (λ k. k ≡ []) }
     {
@@ -226,15 +228,14 @@ impl Keys {
         put_each(alloc, keys, values)
     }
 
-    /// Distinct keys, with the index of them that was made.
-    pub fn from_known(alloc: Global, keys: Vec<Key>, known: KnownKeys) -> Keys
+    /// Distinct keys, of which this is known, with their index if they are more than 32. The error is
+    /// a failed allocation.
+    pub fn from_known(alloc: Global, keys: Vec<Key>, known: KnownKeys) -> Result<Keys, AllocError>
         requires { Knows keys.items known }
-        ensures { result ≡ keys.items }
+        ensures { IfOk result (λ k. k ≡ keys.items) }
     {
-        Keys {
-            keys,
-            index: known.into_index(alloc),
-        }
+        let index = known.into_index(alloc, keys.as_slice())?;
+        Ok(Keys { keys, index })
     }
 
     /// The keys, without their index.

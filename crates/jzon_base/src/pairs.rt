@@ -25,8 +25,8 @@ use std::marker::Model;
 /// Values under distinct keys, in the order in which the keys were put. A clause sees the list of
 /// entries.
 ///
-/// The entries are in a box, so that what holds `Pairs` is small; there is no box where no entry
-/// was put and no room asked for.
+/// The entries are in a box, so that what holds `Pairs` is small. There is no box before an entry is
+/// put or room is asked for.
 #[derive(Drop)]
 pub struct Pairs<V> {
     alloc: Global,
@@ -57,7 +57,7 @@ impl<V> Pairs<V> {
         }
     }
 
-    /// These entries. The error is a failed allocation.
+    /// `Pairs` of these entries, which are put in a box. The error is a failed allocation.
     #[inline(always)]
     fn boxed(alloc: Global, entries: Contents<V>) -> Result<Pairs<V>, AllocError>
     where
@@ -70,8 +70,8 @@ impl<V> Pairs<V> {
         })
     }
 
-    /// No entry, with room for keys and values of `capacity` entries. More than 32 have an index,
-    /// with room for up to 1,024 of them. The error is a failed allocation.
+    /// No entry, with room for keys and values of `capacity` entries, and for up to 1,024 index
+    /// entries if `capacity` is above 32. The error is a failed allocation.
     pub fn with_capacity(alloc: Global, capacity: usize) -> Result<Pairs<V>, AllocError>
     where
         V: Drop,
@@ -139,7 +139,7 @@ impl<V> Pairs<V> {
         if keys.is_empty() {
             return Ok(Pairs::new(alloc));
         }
-        let keys = Keys::from_known(alloc, keys, known);
+        let keys = Keys::from_known(alloc, keys, known)?;
         Pairs::boxed(alloc, Contents::from_parts(keys, values))
     }
 
@@ -280,8 +280,8 @@ impl<V> Pairs<V> {
         Some(self.value_mut(index))
     }
 
-    /// Puts the first entry, in a box that is asked for before the room of keys and values. The
-    /// error is a failed allocation.
+    /// Puts the first entry. The box is allocated before the room for keys and values. The error is
+    /// a failed allocation.
     #[inline(never)]
     fn insert_first(&mut self, alloc: Global, name: &str, value: V) -> Result<(), AllocError>
     where
@@ -296,8 +296,8 @@ impl<V> Pairs<V> {
         Ok(())
     }
 
-    /// Puts a value under a key: in its place where the key is there, which takes no memory, else
-    /// last. The error is a failed allocation.
+    /// Puts a value under a key. If the key is there, its value is replaced, which takes no memory;
+    /// else the entry is put last. The error is a failed allocation.
     pub fn insert(&mut self, alloc: Global, name: &str, value: V) -> Result<(), AllocError>
     where
         V: Drop,
@@ -311,8 +311,8 @@ impl<V> Pairs<V> {
         self.insert_first(alloc, name, value)
     }
 
-    /// The position of a key. Where the key is missing it is put last with `value`, and the error
-    /// is a failed allocation.
+    /// The position of a key. If the key is missing, it is put last with `value`. The error is a
+    /// failed allocation.
     pub fn place(&mut self, alloc: Global, name: &str, value: V) -> Result<usize, AllocError>
     where
         V: Drop,
@@ -329,8 +329,8 @@ impl<V> Pairs<V> {
         Ok(0)
     }
 
-    /// The value of a key, to be written. Where the key is missing it is put last with `value`, and
-    /// the error is a failed allocation.
+    /// The value of a key, to be written. If the key is missing, it is put last with `value`. The
+    /// error is a failed allocation.
     #[tactic(auto, using(crate::proofs::Entries::PairPositions::places))]
     pub fn at_mut(&mut self, alloc: Global, name: &str, value: V) -> Result<&mut V, AllocError>
     where
@@ -346,7 +346,7 @@ impl<V> Pairs<V> {
         Ok(self.value_mut(index))
     }
 
-    /// Changes the last value alone, and nothing where there is no entry.
+    /// Replaces the last value. Changes nothing if there is no entry.
     pub fn override_last(&mut self, value: V)
     where
         V: Drop,

@@ -40,8 +40,8 @@ impl Short {
         }
     }
 
-    /// A copy of the string, with which `wide` begins. The same as `from_slice`, and faster if
-    /// `wide` has 30 bytes.
+    /// A copy of the string, with which `wide` begins. This is faster than `from_slice` if `wide` has
+    /// 30 bytes.
     #[doc(hidden)]
     #[inline(always)]
     pub fn from_wide(slice: &str, wide: &str) -> Short

@@ -41,3 +41,7 @@ any_by test xs (Some i) e =
 -- an element passes if there is a first one
 pub list_any-position : (test : List ℕ → Bool) (xs : List (List ℕ)) → list_any test xs ≡ is_some (position test xs)
 list_any-position test xs = any_by test xs (position test xs) refl
+
+pub none_of_is_some : (o : Option ℕ) → is_some o ≡ false → o ≡ None
+none_of_is_some None e = refl
+none_of_is_some (Some i) e = absurd cc

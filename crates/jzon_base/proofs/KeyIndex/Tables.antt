@@ -32,6 +32,12 @@ IsIndexOf-one ks r whole up = record {
   sorted = All-cons (IsSorted (entry_cmp ks)) r [] up (All-nil (IsSorted (entry_cmp ks)));
 }
 
+-- sorted entries of distinct keys
+pub IsTable-one : (ks : List (List ℕ)) (r : List (ℕ × ℕ)) → IsPermutation (hashed_from 0 ks) r
+    → IsSorted (entry_cmp ks) r → IsDistinct bytes_eq ks → IsTable ks (r ∷ [])
+IsTable-one ks r whole up distinct =
+    record { indexed = record { index = λ _. IsIndexOf-one ks r whole up }; distinct = distinct }
+
 -- the hashes may be those of any function
 module _ (hash : List ℕ → ℕ) where
   pub hashes-push : (ks : List (List ℕ)) (k : List ℕ) → map hash (ks ++ k ∷ []) ≡ map hash ks ++ hash k ∷ []

@@ -35,7 +35,7 @@ pub record IsPlace (ks : List (List ℕ)) (h : ℕ) (name : List ℕ) (r : List 
   pub within : at ≤ length r
   pub point : IsPartitionPoint (λ p. compare_with ks h name p ≡ Less) (λ p. compare_with ks h name p ≡ Greater) r at
 
--- the same of the last run
+-- an entry of this hash and name belongs at this position of the last run, which has none
 abbrev pub IsSpot : List (List ℕ) → ℕ → List ℕ → List (List (ℕ × ℕ)) → ℕ → Type 0
 IsSpot ks h name rs at = 0 < length rs → IsPlace ks h name (slice_index_or rs (length rs - 1) []) at
 

@@ -1,4 +1,4 @@
-//! Keys that are few have no index: they are compared one by one.
+//! Up to 32 keys have no index: they are compared one by one.
 ghost use Rattle.std.specs.Prelude.{◌≡◌, ◌-◌, length, IsTrue, ◌↔◌, slice_index};
 ghost use Rattle.std.specs.List.{list_any, position, IsDistinct};
 ghost use Rattle.std.specs.Str.{bytes_eq};

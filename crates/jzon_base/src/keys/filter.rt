@@ -1,23 +1,23 @@
-//! A filter: nearly every key that is missing is found to be so without comparing keys.
+//! A filter of few keys: most absent names are rejected without comparing keys.
 ghost use Rattle.std.specs.Prelude.{◌≡◌, ◌<◌, ◌++◌, ◌∷◌, [], true, List, ℕ};
 ghost use Rattle.std.specs.List.{list_any};
 ghost use Rattle.std.specs.Str.{bytes_eq};
-ghost use Rattle.jzon_base.specs.Private.Filter.{spot_of, HasBit, HaveBits};
+ghost use Rattle.jzon_base.specs.Private.Filter.{bit_of, HasBit, HaveBits};
 
-use super::few::{has_name, last_byte};
+use super::few::has_name;
 use crate::key::Key;
 
-/// 256 bits, of which each key sets one: equal keys the same.
+/// 256 bits. Each key sets one of them, and equal keys set the same.
 #[derive(Drop)]
 pub struct Filter {
     words: [u64; 4],
 }
 
-/// The number of a key's bit, of its length and three of its bytes.
+/// The number of a key's bit, which is computed from its length and three of its bytes.
 #[inline(always)]
-#[tactic(auto, unfolding(crate::specs::Private::Filter::spot_of))]
-fn spot_of(name: &str) -> usize
-    ensures spot { result ≡ spot_of name.now }
+#[tactic(auto, unfolding(crate::specs::Private::Filter::bit_of))]
+fn bit_of(name: &str) -> usize
+    ensures bit { result ≡ bit_of name.now }
     ensures within { result < 256 }
 {
     let bytes = name.as_bytes();
@@ -25,9 +25,9 @@ fn spot_of(name: &str) -> usize
     if len == 0 {
         return 0;
     }
-    let middle = usize::from(bytes[len / 2]);
     let last = usize::from(bytes[len - 1]);
-    (len % 16 * 16 + usize::from(bytes[0]) + last * 2 + middle * 8) % 256
+    let before = usize::from(bytes[len.saturating_sub(2)]);
+    (len % 16 * 16 + usize::from(bytes[0]) + last * 2 + before * 21) % 256
 }
 
 impl Filter {
@@ -38,20 +38,20 @@ impl Filter {
         Filter { words: [0; 4] }
     }
 
-    /// Sets the bit of a key. Whether it was set.
+    /// Sets the bit of a name. Returns whether it was set before.
     #[inline(always)]
     fn set_bit(&mut self, name: &str) -> bool
         ensures known { HasBit self.old.words name.now → result ≡ true }
         ensures own { HasBit self.new.words name.now }
         ensures kept { (k : List ℕ) → HasBit self.old.words k → HasBit self.new.words k }
     {
-        let spot = spot_of(name);
-        let word = self.words[spot / 64];
-        self.words[spot / 64] = word | 1 << (spot % 64);
-        word >> (spot % 64) & 1 == 1
+        let bit = bit_of(name);
+        let word = self.words[bit / 64];
+        self.words[bit / 64] = word | 1 << (bit % 64);
+        word >> (bit % 64) & 1 == 1
     }
 
-    /// Whether a key has this name. The bit of each key is set, and then that of the name.
+    /// Whether a key has this name. The bits of the keys must be set; that of the name is set now.
     #[inline(always)]
     pub fn has_or_adds(&mut self, keys: &[Key], name: &str) -> bool
         requires { HaveBits keys.now self.old.words }

@@ -1,10 +1,11 @@
-//! Whether a key repeats one before it, for keys that are in a vector of somebody else: a strict
-//! reading asks before it takes a key.
+//! Whether a name repeats a key before it, for keys that are in a vector of the caller. A strict
+//! reading asks this before it adds a key.
 //!
-//! Of up to 32 keys there is a filter, so that keys are compared only if one may repeat. From the
-//! 33rd key on there is an index, as in `Keys`, so that n keys take about n (log n)^2 comparisons,
-//! whatever the keys are.
-ghost use Rattle.std.specs.Prelude.{◌≡◌, ◌++◌, ◌∷◌, [], true, false, is_some, IfOk, List, ℕ};
+//! Up to 32 keys have a filter, and more have another one, which grows: keys are compared only if a
+//! filter says that one may repeat. Nearly all such answers are right for the keys of usual texts.
+//! After 16 of them the keys get an index, as in `Keys`: so n keys take about n (log n)^2
+//! comparisons, whatever the keys are.
+ghost use Rattle.std.specs.Prelude.{◌≡◌, ◌++◌, ◌∷◌, [], true, false, is_some, IfOk, OnErr, List, ℕ};
 ghost use Rattle.std.specs.List.{position};
 ghost use Rattle.std.specs.Str.{bytes_eq};
 ghost use Rattle.jzon_base.specs.Private.Handed.{IsTable};
@@ -12,24 +13,27 @@ ghost use Rattle.jzon_base.specs.Private.Known.{Knows};
 
 use super::few::LINEAR_MAX;
 use super::filter::Filter;
+use super::many::ManyKeys;
 use super::runs::Runs;
 use super::{add_entry, search};
 use crate::key::Key;
 use std::alloc::{AllocError, Global};
 
-/// What is known of distinct keys that are in a vector of somebody else. `Knows` says of which.
+/// What is known of the distinct keys of a vector of the caller. In a clause, `Knows` says of which.
 ///
-/// The index is in a box, so that `KnownKeys` is small.
+/// What is known of many keys is in a box, so that `KnownKeys` is small.
 #[derive(Drop)]
 pub enum KnownKeys {
     /// The filter of few keys.
     Few(Filter),
-    /// The index of more.
-    Many(Box<Runs>),
+    /// The filter and the index entries of more keys.
+    Many(Box<ManyKeys>),
+    /// The index of keys of which the filter was wrong too often.
+    Indexed(Box<Runs>),
 }
 
-/// Whether there is a key of this name. If not, its entry is added to the index, and the key is to
-/// be put after these. The error is a failed allocation.
+/// Whether there is a key of this name. If not, its index entry is added, and the caller puts the
+/// key after these. The error is a failed allocation.
 fn has_or_indexes(
     alloc: Global,
     keys: &[Key],
@@ -42,6 +46,7 @@ fn has_or_indexes(
     ensures present { IfOk result (λ known. known ≡ true → IsTable keys.now index.new) }
     ensures missing { IfOk result (λ known. known ≡ false
         → IsTable (keys.now ++ name.now ∷ []) index.new) }
+    ensures err { OnErr result (IsTable keys.now index.new) }
 {
     match search(keys, index, name) {
         Ok(_) => Ok(true),
@@ -60,8 +65,8 @@ impl KnownKeys {
         KnownKeys::Few(Filter::new())
     }
 
-    /// Whether there is a key of this name. If not, the name is known from now on: its key is to be
-    /// put after these. The error is a failed allocation.
+    /// Whether there is a key of this name. If not, the name is known from now on, and the caller
+    /// puts its key after these. The error is a failed allocation.
     pub fn has_or_adds(
         &mut self,
         alloc: Global,
@@ -74,28 +79,40 @@ impl KnownKeys {
         ensures present { IfOk result (λ known. known ≡ true → Knows keys.now self.new) }
         ensures missing { IfOk result (λ known. known ≡ false
             → Knows (keys.now ++ name.now ∷ []) self.new) }
+        ensures err { OnErr result (Knows keys.now self.new) }
     {
         match self {
             KnownKeys::Few(filter) => {
                 if keys.len() < LINEAR_MAX {
                     return Ok(filter.has_or_adds(keys, name));
                 }
-                let mut index = Box::new(alloc, Runs::new(alloc))?;
-                let known = has_or_indexes(alloc, keys, &mut index, name)?;
-                *self = KnownKeys::Many(index);
+                let mut many = Box::new(alloc, ManyKeys::of(alloc, keys)?)?;
+                let known = many.has_or_adds(alloc, keys, name)?;
+                *self = KnownKeys::Many(many);
                 Ok(known)
             }
-            KnownKeys::Many(index) => has_or_indexes(alloc, keys, index, name),
+            KnownKeys::Many(many) => {
+                if many.scans_left == 0 {
+                    let mut index = Box::new(alloc, Runs::new(alloc))?;
+                    let known = has_or_indexes(alloc, keys, &mut index, name)?;
+                    *self = KnownKeys::Indexed(index);
+                    return Ok(known);
+                }
+                many.has_or_adds(alloc, keys, name)
+            }
+            KnownKeys::Indexed(index) => has_or_indexes(alloc, keys, index, name),
         }
     }
 
-    /// The index of the keys, or none if they are few.
-    pub(super) fn into_index(self, alloc: Global) -> Runs
-        ensures { (ks : List (List ℕ)) → Knows ks self → IsTable ks result }
+    /// The index of these keys, which is empty if they are few. The error is a failed allocation.
+    pub(super) fn into_index(self, alloc: Global, keys: &[Key]) -> Result<Runs, AllocError>
+        requires { Knows keys.now self }
+        ensures { IfOk result (IsTable keys.now) }
     {
         match self {
-            KnownKeys::Few(_) => Runs::new(alloc),
-            KnownKeys::Many(index) => Box::into_inner(index),
+            KnownKeys::Few(_) => Ok(Runs::new(alloc)),
+            KnownKeys::Many(many) => Box::into_inner(many).into_index(alloc, keys),
+            KnownKeys::Indexed(index) => Ok(Box::into_inner(index)),
         }
     }
 }

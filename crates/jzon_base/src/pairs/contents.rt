@@ -104,8 +104,8 @@ impl<V> Contents<V> {
         &mut self.values[index]
     }
 
-    /// Puts a value under a key: in its place where the key is there, which takes no memory, else
-    /// last. The error is a failed allocation.
+    /// Puts a value under a key. If the key is there, its value is replaced, which takes no memory;
+    /// else the entry is put last. The error is a failed allocation.
     #[inline(always)]
     #[tactic(auto, using(crate::proofs::Entries::PairPositions::places))]
     pub fn insert(&mut self, alloc: Global, name: &str, value: V) -> Result<(), AllocError>
@@ -122,8 +122,8 @@ impl<V> Contents<V> {
         Ok(())
     }
 
-    /// The position of a key. Where the key is missing it is put last with `value`, and the error
-    /// is a failed allocation.
+    /// The position of a key. If the key is missing, it is put last with `value`. The error is a
+    /// failed allocation.
     #[tactic(auto, using(crate::proofs::Entries::PairPositions::places))]
     pub fn place(&mut self, alloc: Global, name: &str, value: V) -> Result<usize, AllocError>
     where

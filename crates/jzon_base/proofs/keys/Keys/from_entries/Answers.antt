@@ -1,7 +1,7 @@
 use Rattle.jzon_base.proofs.Common.{refl, sym}
 use Rattle.jzon_base.specs.Private.Keys.{IsIndex}
 use Rattle.jzon_base.proofs.Entries.PutEach.{put_each-zip}
-use Rattle.jzon_base.proofs.KeyIndex.Tables.{IsIndexOf-one}
+use Rattle.jzon_base.proofs.KeyIndex.Tables.{IsTable-one}
 use Rattle.jzon_base.proofs.keys.Keys.from_entries.Goals as goal
 
 pub invariant_of-result : goal.invariant_of-result
@@ -10,10 +10,7 @@ invariant_of-result g c =
     let entries = c.in-Some.entries.items in
     let index : IsIndex ks entries = rw (c.in-Some.is, c.as_slice.ensures.value) at c.in_ok-entries.ensures.index in
     let distinct = rw (c.in-Some.is, c.as_slice.ensures.value) at c.in_ok-entries.ensures.distinct in
-    rw c.in_ok-index.ensures (record {
-      indexed = record { index = λ _. IsIndexOf-one ks entries index.whole index.sorted };
-      distinct = distinct.0 refl;
-    })
+    rw c.in_ok-index.ensures (IsTable-one ks entries index.whole index.sorted (distinct.0 refl))
 
 pub returns-in-Some-clause-merged : goal.returns-in-Some-clause-merged
 returns-in-Some-clause-merged g c =

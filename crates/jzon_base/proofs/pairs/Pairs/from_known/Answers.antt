@@ -9,5 +9,5 @@ returns g c =
     let ks = c.args.keys.items in
     let vs = c.args.values.items in
     IfOk-weaker c.boxed.result (λ p. p ≡ c.from_parts.result) (λ p. p ≡ put_each (zip ks vs))
-    (λ p e. e ∙ c.from_parts.ensures ∙ ap (λ ls. zip ls vs) c.from_known-keys.ensures
+    (λ p e. e ∙ c.from_parts.ensures ∙ ap (λ ls. zip ls vs) c.in_ok-keys.ensures
     ∙ sym (put_each-zip ks vs c.requires.even (IsDistinct-known ks c.args.known c.requires.known))) c.boxed.ensures

@@ -1,13 +1,9 @@
-use Rattle.jzon_base.proofs.Common.{◌≡◌, ◌∙◌, ℕ, false, Option, None, Some, sym, refl, is_some}
+use Rattle.jzon_base.proofs.Common.{◌∙◌, sym}
 use Rattle.jzon_base.proofs.Common.{bytes_eq}
 use Rattle.jzon_base.proofs.KeyIndex.Filters.{HaveBits-before, IsDistinct-known}
 use Rattle.jzon_base.proofs.KeyIndex.Indexes.{IsDistinct-missing}
-use Rattle.jzon_base.proofs.KeyIndex.Positions.{list_any-position}
+use Rattle.jzon_base.proofs.KeyIndex.Positions.{list_any-position, none_of_is_some}
 use Rattle.jzon_base.proofs.keys.known.KnownKeys.has_or_adds.Goals as goal
-
-is_none : (o : Option ℕ) → is_some o ≡ false → o ≡ None
-is_none None e = refl
-is_none (Some i) e = absurd cc
 
 pub returns-then-keys-lt-LINEAR_MAX-clause-known : goal.returns-then-keys-lt-LINEAR_MAX-clause-known
 returns-then-keys-lt-LINEAR_MAX-clause-known c =
@@ -21,6 +17,6 @@ pub returns-then-keys-lt-LINEAR_MAX-clause-missing : goal.returns-then-keys-lt-L
 returns-then-keys-lt-LINEAR_MAX-clause-missing c = λ e. (
   IsDistinct-missing c.args.name.now c.args.keys.now
       (IsDistinct-known c.args.keys.now c.args.self.now c.requires)
-      (is_none _ (sym (returns-then-keys-lt-LINEAR_MAX-clause-known c) ∙ e)),
+      (none_of_is_some _ (sym (returns-then-keys-lt-LINEAR_MAX-clause-known c) ∙ e)),
   c.has_or_adds.ensures.bits,
 )

@@ -1,0 +1,11 @@
+use Rattle.jzon_base.proofs.Common.{◌∙◌, sym, subst, ap, is_some}
+use Rattle.jzon_base.specs.Private.Filter.{HasHash}
+use Rattle.jzon_base.proofs.KeyIndex.Filters.{missing_by_hash}
+use Rattle.jzon_base.proofs.keys.many.ManyKeys.has_or_sets.Goals as goal
+
+pub returns-else-set_bits-clause-known : goal.returns-else-set_bits-clause-known
+returns-else-set_bits-clause-known c =
+    let ws = c.args.self.now.words.items in
+    c.if-set_bits.false ∙ sym (ap is_some (missing_by_hash c.args.keys.now ws c.args.self.now.entries.items c.requires.knows.entries
+    c.requires.knows.bits c.args.name.now c.set_bits.result
+    (λ has. c.set_bits.ensures.known (subst (HasHash ws) (sym c.requires.hash) has)) c.if-set_bits.false))
