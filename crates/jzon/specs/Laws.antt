@@ -84,7 +84,7 @@ Redump = (r : Reading) (v : Value) → IsValue v → nest v ≤ r.depth → IsRe
 abbrev pub AllowsStrictAlone : Style → Type 0
 AllowsStrictAlone s = (dent : ℕ) (w : List ℕ) → IsAllowedWhitespace s dent w → IsTrue (is_all_whitespace true w)
 
--- the two styles of the four generators, compact and one line per element or member, allow no other whitespace
+-- the two styles of the four generators, compact and one line per element or entry, allow no other whitespace
 abbrev pub StrictStyles : Type 0
 StrictStyles = AllowsStrictAlone compact_style × ((spaces : ℕ) → AllowsStrictAlone (pretty_style spaces))
 

@@ -103,9 +103,8 @@ fn names_what_writes(rt: HostRuntime) -> Tested {
     let mut out: Vec<u8> = Vec::new(rt.alloc());
     print_dec::write(&mut out, false, 1250, 1)?;
     write_bytes(&mut out, b" ")?;
-    let mut room = [0; print_dec::MAX_LEN];
-    let start = print_dec::put(&mut room, true, 125, -2);
-    write_bytes(&mut out, &room[start..])?;
+    let text = print_dec::number_text(true, 125, -2);
+    write_bytes(&mut out, text.as_str().as_bytes())?;
     let object = Object::new(rt.alloc());
     write_object(&mut WriterGenerator::new(&mut out), &object)?;
     let want = b"-12500 1.25{}".as_slice();

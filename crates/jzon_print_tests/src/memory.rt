@@ -116,7 +116,7 @@ const WRITTEN: &[Row] = &[
     (Writing::ObjectPretty, "Object::pretty", LISTED, ON_LINES, 1),
     (Writing::LayOut, "lay_out", LISTED, LISTED, 1),
     (Writing::PrettyLayOut, "lay_out 2", LISTED, ON_LINES, 1),
-    (Writing::DumpGenerator, "generator", LISTED, LISTED, 3),
+    (Writing::DumpGenerator, "generator", LISTED, LISTED, 4),
     (Writing::PrettyGenerator, "generator 2", LISTED, ON_LINES, 5),
     (Writing::Write, "write", LISTED, LISTED, 4),
     (Writing::WritePretty, "write_pretty", LISTED, ON_LINES, 5),

@@ -27,12 +27,12 @@ abbrev pub with_item : Value → Value → Value
 with_item v (array vs) = array (values_of (list_of_values vs ++ v ∷ []))
 with_item v w = w
 
--- an object without the member of name k
+-- an object without the entry of key k
 abbrev pub without_entry : List ℕ → Value → Value
 without_entry k (object ps) = object (pairs_of (cut k (list_of_pairs ps)))
 without_entry k v = v
 
--- an object with the member (k, v): at the position of k if it is present, else last
+-- an object with the entry (k, v): at the position of k if it is present, else last
 abbrev pub with_entry : List ℕ → Value → Value → Value
 with_entry k v (object ps) = object (pairs_of (put k v (list_of_pairs ps)))
 with_entry k v w = w

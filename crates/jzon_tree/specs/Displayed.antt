@@ -15,6 +15,6 @@ displayed v = compact v
 abbrev pub comma_text : Bool → List ℕ
 comma_text comma = if comma then value_separator ∷ [] else []
 
--- a member in the compact layout
+-- an entry in the compact layout
 abbrev pub member_text : List ℕ × Value → List ℕ
 member_text p = quoted p.0 ++ name_separator ∷ compact p.1

@@ -1,4 +1,4 @@
--- The state of a `TextGenerator`, over any place and in any layout.
+-- The state of a `TextGenerator`, over any destination and in any layout.
 use Rattle.std.specs.Prelude.{◌≡◌, ℕ, List, Option, Some, None, Result, MatchResult, IsUtf8, string_bytes}
 use Rattle.std.specs.Borrow.{GName}
 use Rattle.std.specs.declared.string.String.{String}
@@ -16,7 +16,7 @@ use Rattle.jzon_tree.specs.declared.codegen.text_generator.TextGenerator.{TextGe
 abbrev pub fresh : Option (List ℕ) → Style → Option GName → Emitted
 fresh out style lender = record { out = out; dent = 0; faults = 0; style = style; lender = lender }
 
--- the state of a generator over a place in a layout, from its bytes and reference and the layout's style
+-- the state of a generator over a destination, from its bytes and reference and the layout's style
 abbrev pub text_meaning : {O L T : Type 0} → (O → Option (List ℕ)) → (O → Option GName) → (L → Style)
     → TextGenerator O L T → Emitted
 text_meaning out lender style g = record {
@@ -27,14 +27,15 @@ text_meaning out lender style g = record {
   lender = lender g.place;
 }
 
--- the generator with this writer in its place
+-- the generator with this writer in its destination
 abbrev pub with_writer_in : {O L T : Type 0} → (O → T → O) → TextGenerator O L T → T → TextGenerator O L T
 with_writer_in with_writer g w = record g { place = with_writer g.place w }
 
--- a generator that writes to memory: its bytes, and the same with other bytes
+-- memory's bytes
 abbrev pub bytes_in : Memory → Option (List ℕ)
 bytes_in m = Some m.bytes.items
 
+-- memory with other bytes
 abbrev pub with_bytes : Memory → Vec ℕ Global → Memory
 with_bytes m bytes = record m { bytes = bytes }
 

@@ -35,7 +35,7 @@ items_at _ = None
 abbrev pub items_in : JsonValue → Option (List JsonValue)
 items_in v = items_at (out-JsonValue v)
 
--- the same for a `Value`
+-- the elements of an array, if the `Value` is one
 abbrev pub items_of : Value → Option (List Value)
 items_of (array vs) = Some (list_of_values vs)
 items_of _ = None

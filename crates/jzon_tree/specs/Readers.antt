@@ -46,7 +46,7 @@ number_in _ = None
 abbrev pub integer_in : Value → Option ℤ
 integer_in v = option_and_then integer_of (number_in v)
 
--- the same, if its sign is positive
+-- the number as an integer, if its sign is positive
 abbrev pub unsigned_in : Value → Option ℕ
 unsigned_in v = option_and_then unsigned_of (number_in v)
 
@@ -54,7 +54,7 @@ unsigned_in v = option_and_then unsigned_of (number_in v)
 abbrev pub fixed_point_in : Value → ℕ → Option ℤ
 fixed_point_in v point = option_and_then (λ n. fixed_point n point) (number_in v)
 
--- the same, if its sign is positive
+-- `fixed_point_in`, if the sign is positive
 abbrev pub unsigned_fixed_point_in : Value → ℕ → Option ℕ
 unsigned_fixed_point_in v point = option_and_then (λ n. unsigned_fixed_point n point) (number_in v)
 
@@ -62,7 +62,7 @@ unsigned_fixed_point_in v point = option_and_then (λ n. unsigned_fixed_point n 
 abbrev pub exact_fixed_point_in : Value → ℕ → Option ℤ
 exact_fixed_point_in v point = option_and_then (λ n. exact_fixed_point n point) (number_in v)
 
--- the same, if its sign is positive
+-- `exact_fixed_point_in`, if the sign is positive
 abbrev pub exact_unsigned_fixed_point_in : Value → ℕ → Option ℕ
 exact_unsigned_fixed_point_in v point = option_and_then (λ n. exact_unsigned_fixed_point n point) (number_in v)
 
@@ -90,7 +90,7 @@ abbrev pub entries : Value → List (List ℕ × Value)
 entries (object ps) = list_of_pairs ps
 entries _ = []
 
--- the number of members or elements
+-- the number of entries or elements
 abbrev pub count : Value → ℕ
 count (object ps) = length (list_of_pairs ps)
 count (array vs) = length (list_of_values vs)

@@ -1,4 +1,4 @@
--- Equality of values (docs/RULES.md, "Equality"): the order of an object's members doesn't matter (RFC 8259, section
+-- Equality of values (docs/RULES.md, "Equality"): the order of an object's entries doesn't matter (RFC 8259, section
 -- 4), nor does how a string is stored or how a decimal is written.
 use Rattle.std.specs.Prelude.{ℕ, Bool, true, false, ◌&&◌, ◌||◌, List, [], ◌∷◌, Option, None, Some, is_some}
 use Rattle.std.specs.Bool.{beq}

@@ -16,6 +16,6 @@ ascend [] = true
 ascend (k ∷ []) = true
 ascend (j ∷ k ∷ ks) = not (is_before k j) && ascend (k ∷ ks)
 
--- as compact, but with the members of each object in the order of their names
+-- as compact, but with the entries of each object in the order of their keys
 abbrev pub sorted_style : Style
 sorted_style = record compact_style { order = λ ks positions. ascend (map (text_at ks) positions) }

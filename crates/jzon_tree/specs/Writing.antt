@@ -1,5 +1,5 @@
 -- What a generator may write for a value, in its style: the compact text up to whitespace, the space after a colon and
--- the order of an object's members.
+-- the order of an object's entries.
 use Rattle.std.specs.Prelude.{◌≡◌, ℕ, suc, ◌<◌, List, [], ◌∷◌, ◌++◌, length, map, Bool, true, false, not, ◌&&◌}
 use Rattle.std.specs.Prelude.{◌||◌, ◌==◌, IsTrue, ⊤, codes, count_by, if◌then◌else◌, ◌≢◌, AllPairs, slice_index_or}
 use Rattle.std.specs.List.{list_all}

@@ -45,7 +45,7 @@ abbrev pub text : Layout → Value → List ℕ
 text Compact v = compact v
 text (Pretty spaces) v = pretty v spaces 0
 
--- the same and a newline
+-- the text of a value in the layout, and a newline
 abbrev pub line : Layout → Value → List ℕ
 line layout v = text layout v ++ 10 ∷ []
 

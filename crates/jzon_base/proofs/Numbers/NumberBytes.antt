@@ -1,4 +1,4 @@
--- The bytes of a number, put at the end of a buffer or after what a vector has.
+-- The bytes of a number, put after what a vector has.
 use Rattle.jzon_base.proofs.Common.{◌≡◌, ℕ, ◌+◌, ◌-◌, ◌≤◌, ◌<◌, List, [], ◌∷◌, ◌++◌, length, take, drop, set}
 use Rattle.jzon_base.proofs.Common.{get_or, arith, ap, sym, ◌∙◌, length-append, replicate, drop-drop, take_more, length-set}
 use Rattle.jzon_base.proofs.Common.{drop_all, length-take-le, take-replicate, length-replicate, take_all}
@@ -79,17 +79,6 @@ point_between old room sign ds end places few fit at text =
     ∙ take-append_seam (front ++ (46 ∷ mid)) (more ++ tail) ∙ append_assoc old (sign ++ take k ds) (46 ∷ mid)
     ∙ ap (λ (l : List ℕ). old ++ l) (append_assoc sign (take k ds) (46 ∷ mid)
     ∙ ap (λ (l : List ℕ). sign ++ l) (sym (append_snoc (take k ds) 46 mid)))
-
--- what is put after the first `start` bytes, up to the end, is what is there
-pub put_last : (xs ys : List ℕ) (start count : ℕ) → start + count ≡ length xs
-    → drop start (take start xs ++ (ys ++ drop count (drop start xs))) ≡ ys
-put_last xs ys start count whole =
-    let front : length (take start xs) ≡ start = length-take-le start xs (omega (arith, whole)) in
-    let end : drop count (drop start xs) ≡ [] =
-    drop-drop count start xs ∙ drop_all (start + count) xs (omega (arith, whole)) in
-    ap (λ n. drop n (take start xs ++ (ys ++ drop count (drop start xs)))) (sym front)
-    ∙ drop-append_seam (take start xs) (ys ++ drop count (drop start xs))
-    ∙ ap (λ (l : List ℕ). ys ++ l) end ∙ append-nil ys
 
 -- Digits overwrite a part of what was added: what was added before them stays, as a sign.
 module _ (old items new ds : List ℕ) (m x sign start end : ℕ) (filled : items ≡ old ++ replicate m x)

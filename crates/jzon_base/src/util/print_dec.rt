@@ -125,21 +125,9 @@ fn put_after_minuses(bytes: &mut Vec<u8>, minuses: usize, n: u64) -> usize
     end
 }
 
-/// Puts the text of the number `n * 10 ^ exponent` with its sign at the end of the buffer, and
-/// returns the offset `start` at which it begins: the text is `room[start..]`.
-pub fn put(room: &mut [u8; MAX_LEN], positive: bool, n: u64, exponent: i16) -> usize
-    ensures start { result ≤ MAX_LEN }
-    ensures text { drop result room.new ≡ number_text positive n exponent }
-{
-    let text = number_text(positive, n, exponent);
-    let start = MAX_LEN - text.len();
-    room[start..].copy_from_slice(text.as_str().as_bytes());
-    start
-}
-
-/// The whole text of a number.
+/// The text of the number `mantissa * 10 ^ exponent` with its sign, at most 29 bytes.
 #[tactic(auto, using(std::proofs::lemmas::Fmt::decimal_nonempty))]
-pub(crate) fn number_text(positive: bool, mantissa: u64, exponent: i16) -> NumberText
+pub fn number_text(positive: bool, mantissa: u64, exponent: i16) -> NumberText
     ensures { result.bytes ≡ number_text positive mantissa exponent }
 {
     let mut text = NumberText::new();

@@ -1,9 +1,9 @@
 -- Runs of plain bytes in a string.
 use Rattle.jzon_base.proofs.Common.{◌≡◌, ℕ, zero, suc, ◌+◌, ◌≤◌, ◌<◌, Bool, true, false, cond, List, [], ◌∷◌, ◌++◌}
-use Rattle.jzon_base.proofs.Common.{length, get_or, take, drop, refl, sym, ap, ◌∙◌, append_assoc, append-nil, arith}
+use Rattle.jzon_base.proofs.Common.{length, get_or, take, drop, refl, sym, ap, ◌∙◌, append-nil, arith}
 use Rattle.jzon_base.proofs.Common.{take_all, drop_all, prefix_len, nat_tests, prefix_len_stops}
 use Rattle.jzon_base.specs.Private.PlainBytes.{is_plain}
-use Rattle.jzon_tree.specs.Text.{escaped, escaped_byte, quoted}
+use Rattle.jzon_tree.specs.Text.{escaped, escaped_byte}
 
 pub escaped_byte-plain : (c : ℕ) → is_plain c ≡ true → escaped_byte c ≡ c ∷ []
 escaped_byte-plain c h = grind (arith, nat_tests)
@@ -27,12 +27,6 @@ pub escaped-plain : (bs : List ℕ) → length bs ≤ prefix_len is_plain bs →
 escaped-plain bs h = escaped-run bs (length bs) h
     ∙ ap (λ (xs : List ℕ). xs ++ escaped (drop (length bs) bs)) (take_all (length bs) bs (omega arith))
     ∙ ap (λ (xs : List ℕ). bs ++ escaped xs) (drop_all (length bs) bs (omega arith)) ∙ append-nil bs
-
--- the same with its quotes, after other bytes
-pub quoted-plain : (xs bs : List ℕ) → length bs ≤ prefix_len is_plain bs
-    → ((xs ++ 34 ∷ []) ++ bs) ++ 34 ∷ [] ≡ xs ++ quoted bs
-quoted-plain xs bs h = append_assoc (xs ++ 34 ∷ []) bs (34 ∷ []) ∙ append_assoc xs (34 ∷ []) (bs ++ 34 ∷ [])
-    ∙ ap (λ (w : List ℕ). xs ++ 34 ∷ (w ++ 34 ∷ [])) (sym (escaped-plain bs h))
 
 -- the byte after a run needs an escape
 pub escape_stands : (bs : List ℕ) (n : ℕ) → n ≡ prefix_len is_plain bs → n < length bs

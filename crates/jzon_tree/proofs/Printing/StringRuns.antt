@@ -1,12 +1,12 @@
 -- A string that is sent run by run.
 use Rattle.jzon_base.proofs.Common.{◌≡◌, ℕ, ◌<◌, false, List, [], ◌∷◌, ◌++◌, length, get_or, take, drop, Option, refl}
-use Rattle.jzon_base.proofs.Common.{sym, ap, ◌∙◌, append_assoc, append-nil, arith, Result, prefix_len, length-drop}
+use Rattle.jzon_base.proofs.Common.{sym, ap, ◌∙◌, append_assoc, append-nil, arith, prefix_len, length-drop}
 use Rattle.jzon_base.proofs.Common.{get_or-drop}
 use Rattle.jzon_base.specs.Private.PlainBytes.{is_plain}
 use Rattle.jzon_tree.specs.Text.{escaped, escaped_byte}
-use Rattle.jzon_tree.specs.Generator.{Adds, Begins, Just, Sends}
+use Rattle.jzon_tree.specs.Generator.{Adds, Begins, Just}
 use Rattle.jzon_tree.proofs.Printing.PlainRuns.{escaped-run, escape_stands}
-use Rattle.jzon_tree.proofs.Printing.Appends.{adds_then, Begins-after, Begins-early, Sends-after}
+use Rattle.jzon_tree.proofs.Printing.Appends.{adds_then, Begins-after, Begins-early}
 
 -- x of a prefix and a string has been sent, and `rest` of the string is left
 abbrev pub Left : List ℕ → List ℕ → List ℕ → List ℕ → Type 0
@@ -82,9 +82,3 @@ pub needs_escape : (bs rest : List ℕ) (n c : ℕ) → n ≡ prefix_len is_plai
 needs_escape bs rest n c e q =
     let l : n < length bs = omega (arith, ap (λ (xs : List ℕ). length xs) q, length-drop n bs) in
     rw (sym (drop-head bs n c rest q)) (escape_stands bs n e l)
-
-pub closes : {E : Type 0} (prefix text : List ℕ) (a b c : Option (List ℕ)) (r : Result (Unit {0}) E)
-    → Adds (Just (prefix ++ escaped text)) a b → Sends (Just (34 ∷ [])) b c r → Sends (Just (whole prefix text)) a c r
-closes prefix text a b c r h k = Sends-after (Just (prefix ++ escaped text)) (Just (34 ∷ []))
-    (Just (whole prefix text)) a
-    b c (λ x y p q. rw (p, q) (append_assoc prefix (escaped text) (34 ∷ []))) h r k

@@ -44,11 +44,11 @@ AreMembers s dent es ps b =
     → IsEntry s dent (pair_at es (slice_index_or ps k 0)) (text_at ts (slice_index_or ps k 0)))
     × Items s dent false (map (text_at ts) ps) b
 
--- the effect of writing a value, where at `Err` the prefix is promised only if K holds
+-- the effect of writing a text that P allows; at `Err` the prefix is promised only if K holds
 abbrev pub PrintsIf : {E : Type 0} → Type 0 → (List ℕ → Type 0) → Emitted → Emitted → Result (Unit {0}) E → Type 0
 PrintsIf K P old new r = MatchResult r (λ _. Added P old new) (λ _. K → Stopped P old new)
 
--- the same of a value, where the prefix is promised only if the value is valid
+-- the effect of writing this value in the style; at `Err` the prefix is promised only if the value is valid
 abbrev pub PrintsValue : {E : Type 0} → Value → Emitted → Emitted → Result (Unit {0}) E → Type 0
 PrintsValue v old new r = PrintsIf (IsValue v) (Writes old.style old.dent v) old new r
 

@@ -10,12 +10,11 @@ ghost use Rattle.jzon_tree.specs.Text.{escaped, quoted};
 ghost use Rattle.jzon_tree.specs.Writing.{IsAllowedWhitespace, IsStyle};
 
 use crate::codegen::error_slot::{ErrorSlot, SlotResult, send, store, take_result};
-use crate::codegen::numbers::text_of_number;
 use crate::codegen::strings::{ESCAPE_MAX_LEN, put_escape};
 use crate::object::Object;
 use jzon_base::number::Number;
 use jzon_base::util::plain::plain_len;
-use jzon_base::util::print_dec;
+use jzon_base::util::print_dec::number_text;
 use std::io::{self, ErrorKind, Write};
 
 /// Writes values, piece by piece, to a writer: `write_json` and `write_object` go over a value and
@@ -92,8 +91,7 @@ pub trait Generator {
     fn set_dent(&mut self, dent: u64)
         ensures { meaning self.new ≡ record (meaning self.old) { dent = dent } };
 
-    /// Returns `answer`, the result of a call of the writer, and counts a fault where it is an
-    /// error.
+    /// Returns `answer`, the result of a call of the writer, and counts a fault if it is an error.
     #[inline]
     fn hand_on(&mut self, answer: io::Result<()>) -> io::Result<()>
         ensures result { result ≡ answer }
@@ -128,7 +126,7 @@ pub trait Generator {
         ensures { Emits (IsAllowedWhitespace (meaning self.old).style (meaning self.old).dent)
             (meaning self.old) (meaning self.new) result };
 
-    /// Opens an indent. Fails only where `u64::MAX` of them are open, and then counts a fault.
+    /// Opens an indent. Fails only if `u64::MAX` of them are open, and then counts a fault.
     fn indent(&mut self) -> io::Result<()>
         ensures { MatchResult result
             (λ _. meaning self.new
@@ -173,28 +171,21 @@ pub trait Generator {
             (meaning self.old) (meaning self.new) result }
     {
         let (prefix, text) = string.as_bytes().split_at(start);
-        self.write(prefix)?;
-        let mut rest = text;
-        loop {
-            let (run, others) = rest.split_at(plain_len(rest));
-            self.write(run)?;
-            let Some((byte, others)) = others.split_first() else {
-                break;
-            };
-            let mut room = [0; ESCAPE_MAX_LEN];
-            let at = put_escape(&mut room, *byte);
-            self.write(&room[at..])?;
-            rest = others;
-        }
-        self.write_char(b'"')
+        let mut slot = None;
+        let step = self.try_write_escaped(prefix, text, &mut slot);
+        take_result(step, slot)
     }
 
     /// Adds the text of the number, or `null` for NaN. The bytes go through `write`.
     fn write_number(&mut self, num: &Number) -> io::Result<()>
         ensures { Emits (Just (written_text num.now)) (meaning self.old) (meaning self.new) result }
     {
-        let mut room = [0; print_dec::MAX_LEN];
-        self.write(text_of_number(&mut room, num))
+        if num.is_nan() {
+            return self.write(b"null");
+        }
+        let (positive, mantissa, exponent) = num.as_parts();
+        let text = number_text(positive, mantissa, exponent);
+        self.write(text.as_str().as_bytes())
     }
 
     /// The order in which the entries of the object are written, as their positions, each exactly
@@ -232,6 +223,36 @@ pub trait Generator {
         ensures slot { OnErr result (IsSome slot.new) }
     {
         store(self.write_string(string), slot)
+    }
+
+    /// Adds the prefix as it is, the text escaped, and the closing quote, by `write` and `write_char`.
+    /// Runs of bytes that need no escape are written whole. An error is stored in the slot.
+    #[doc(hidden)]
+    #[inline(never)]
+    fn try_write_escaped(
+        &mut self,
+        prefix: &[u8],
+        text: &[u8],
+        slot: &mut ErrorSlot,
+    ) -> SlotResult<()>
+        ensures bytes { Emits (Just (prefix.now ++ (escaped text.now ++ 34 ∷ [])))
+            (meaning self.old) (meaning self.new) result }
+        ensures slot { OnErr result (IsSome slot.new) }
+    {
+        self.try_write(prefix, slot)?;
+        let mut rest = text;
+        loop {
+            let (run, others) = rest.split_at(plain_len(rest));
+            self.try_write(run, slot)?;
+            let Some((byte, others)) = others.split_first() else {
+                break;
+            };
+            let mut room = [0; ESCAPE_MAX_LEN];
+            let at = put_escape(&mut room, *byte);
+            self.try_write(&room[at..], slot)?;
+            rest = others;
+        }
+        self.try_write_char(b'"', slot)
     }
 
     /// Adds a key in quotes and its colon, by `write_string` and `write_min`. It is one call, so that

@@ -48,8 +48,8 @@ pub trait Layout {
     // Whether `order` always returns `None`.
     ghost keeps_order: { Self → Bool } = { λ _. false };
 
-    /// The number of spaces for each open indent, where each element and entry has its own line and
-    /// a space follows each colon; `None` for no whitespace at all.
+    /// The number of spaces for each open indent, if each element and entry has its own line and a
+    /// space follows each colon; `None` for no whitespace at all.
     fn spaces(&self) -> Option<u16>
         ensures { LaysOut (style self.now) result };
 

@@ -10,9 +10,8 @@ ghost use Rattle.jzon_tree.specs.Writing.{colon_text};
 
 use crate::codegen::layout::push_line;
 use crate::codegen::numbers::push_digits;
-use crate::codegen::strings::{BY_ENDS_ROOM, push_plain, push_short};
+use crate::codegen::strings::{BY_ENDS_ROOM, push_short};
 use jzon_base::number::Number;
-use std::alloc::AllocError;
 use std::io::Write;
 
 /// A writer that may take a string, a number or the start of a line at once. A buffer of your own
@@ -68,7 +67,7 @@ pub trait Destination {
 
     ghost lender: { Self → Option GName } = { λ _. None };
 
-    // The place with this writer instead of its own.
+    // The destination with this writer instead of its own.
     ghost with_writer: { Self → Self.T → Self };
 
     /// Lends the writer.
@@ -97,19 +96,6 @@ pub trait Destination {
         ensures lender { lender self.new ≡ lender self.old }
     {
         false
-    }
-
-    /// As `put_string`, for a string that it doesn't add. The error is a failed allocation, and
-    /// then nothing is added.
-    #[inline(always)]
-    fn put_long(&mut self, string: &[u8]) -> Result<bool, AllocError>
-        ensures done { IfOk result (λ done. IsTrue done
-            → Adds (Just (quoted string.now)) (out self.old) (out self.new)) }
-        ensures left { IfOk result (λ done. done ≡ false → out self.new ≡ out self.old) }
-        ensures err { OnErr result (out self.new ≡ out self.old) }
-        ensures lender { lender self.new ≡ lender self.old }
-    {
-        Ok(false)
     }
 
     /// As `Outlet::put_number`.
@@ -173,11 +159,6 @@ impl Destination for Memory {
             bytes.push_reserved(b' ');
         }
         true
-    }
-
-    #[inline(always)]
-    fn put_long(&mut self, string: &[u8]) -> Result<bool, AllocError> {
-        push_plain(&mut self.bytes, string)
     }
 
     #[inline(always)]

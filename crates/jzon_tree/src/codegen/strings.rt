@@ -1,16 +1,12 @@
 //! Strings and their escapes (docs/RULES.md, "Printed values").
 
-ghost use Rattle.std.specs.Prelude.{◌≡◌, ◌+◌, ◌≤◌, ◌++◌, ◌∷◌, [], false, length, drop, OnErr, IsSome, IfOk, IsTrue, vec_capacity, vec_len};
+ghost use Rattle.std.specs.Prelude.{◌≡◌, ◌+◌, ◌≤◌, ◌++◌, false, length, drop, IsTrue, vec_capacity, vec_len};
 ghost use Rattle.jzon_base.specs.Private.PlainBytes.{is_plain};
-ghost use Rattle.jzon_tree.specs.Generator.{Sends, Just};
 ghost use Rattle.jzon_tree.specs.Private.Printing.{PutsPlain};
-ghost use Rattle.jzon_tree.specs.Text.{escaped, escaped_byte, quoted};
+ghost use Rattle.jzon_tree.specs.Text.{escaped_byte, quoted};
 
-use crate::codegen::error_slot::{ErrorSlot, SlotResult, send};
 use jzon_base::util::escapes::{hex_digit, letter_of};
-use jzon_base::util::plain::{is_plain_by_ends, plain_len};
-use std::alloc::AllocError;
-use std::io::Write;
+use jzon_base::util::plain::is_plain_by_ends;
 use std::simd::Simd;
 
 /// The length of the longest escape.
@@ -21,34 +17,6 @@ const BY_ENDS_MAX_LEN: usize = 32;
 
 /// The room that any of these takes with its quotes.
 pub(super) const BY_ENDS_ROOM: usize = BY_ENDS_MAX_LEN + 2;
-
-/// Writes the prefix as it is, the text escaped, and the closing quote. Runs of bytes that need no
-/// escape are written whole.
-pub(super) fn send_string<W: Write>(
-    writer: &mut W,
-    prefix: &[u8],
-    text: &[u8],
-    slot: &mut ErrorSlot,
-) -> SlotResult<()>
-    ensures bytes { Sends (Just (prefix.now ++ (escaped text.now ++ 34 ∷ [])))
-        (W.contents writer.old) (W.contents writer.new) result }
-    ensures slot { OnErr result (IsSome slot.new) }
-{
-    send(writer, prefix, slot)?;
-    let mut rest = text;
-    loop {
-        let (run, others) = rest.split_at(plain_len(rest));
-        send(writer, run, slot)?;
-        let Some((byte, others)) = others.split_first() else {
-            break;
-        };
-        let mut room = [0; ESCAPE_MAX_LEN];
-        let start = put_escape(&mut room, *byte);
-        send(writer, &room[start..], slot)?;
-        rest = others;
-    }
-    send(writer, b"\"", slot)
-}
 
 /// For an outlet's `put_string`: adds a string of at most 32 bytes in quotes if it needs no escape
 /// and there is room for 34 bytes, and returns whether it did. Otherwise nothing is added.
@@ -76,7 +44,7 @@ pub fn push_short(bytes: &mut Vec<u8>, string: &[u8]) -> bool
 }
 
 /// Puts a short string at an offset if it needs no escape. Otherwise nothing is put, and the result
-/// is false.
+/// is false. Each arm takes the strings of `N` to `2 * N` bytes, or of 1 byte, or the empty one.
 #[inline(always)]
 fn put_if_plain(bytes: &mut [u8], offset: usize, string: &[u8]) -> bool
     requires few { length string.now ≤ BY_ENDS_MAX_LEN }
@@ -111,27 +79,6 @@ fn put_ends<const N: usize, const M: usize>(bytes: &mut [u8], at: usize, string:
     Simd::<u8, N>::from_slice(string).copy_to_slice(&mut bytes[at..]);
     Simd::<u8, N>::from_slice(&string[start..]).copy_to_slice(&mut bytes[at + start..]);
     true
-}
-
-/// Adds a string in quotes if it needs no escape, and returns whether it did. Otherwise nothing is
-/// added. Room is requested once; the error is a failed allocation, and then nothing is added.
-#[inline(never)]
-pub(super) fn push_plain(bytes: &mut Vec<u8>, string: &[u8]) -> Result<bool, AllocError>
-    ensures done { IfOk result (λ done. IsTrue done
-        → bytes.new.items ≡ bytes.old.items ++ quoted string.now) }
-    ensures left { IfOk result (λ done. done ≡ false → bytes.new.items ≡ bytes.old.items) }
-    ensures err { OnErr result (bytes.new.items ≡ bytes.old.items) }
-{
-    if plain_len(string) < string.len() {
-        return Ok(false);
-    }
-    bytes.reserve(string.len() + 2)?;
-    bytes.push_reserved(b'"');
-    let Ok(()) = bytes.extend_from_slice(string) else {
-        unreachable!()
-    };
-    bytes.push_reserved(b'"');
-    Ok(true)
 }
 
 /// Puts the escape of a byte that needs one at the end of `room`, and returns its start.

@@ -9,17 +9,15 @@ ghost use Rattle.jzon_tree.specs.Entries.{entries_of};
 ghost use Rattle.jzon_tree.specs.Generator.{Added, Failed, Counts, Emits, Just, IsAnswer};
 ghost use Rattle.jzon_tree.specs.Generators.{text_meaning, with_writer_in, same_emitted, fresh, IsConsumed};
 ghost use Rattle.jzon_tree.specs.Styles.{compact_style, pretty_style};
-ghost use Rattle.jzon_tree.specs.Text.{quoted};
 
-use crate::codegen::error_slot::{ErrorSlot, SlotResult, send, store, take_result};
+use crate::codegen::error_slot::{ErrorSlot, SlotResult, send, take_result};
 use crate::codegen::generator::Generator;
 use crate::codegen::layout::{Compact, Layout, Pretty, send_line};
-use crate::codegen::numbers::send_number;
 use crate::codegen::outlet::{Destination, Memory, Outlet, Through};
-use crate::codegen::strings::send_string;
 use crate::object::Object;
 use jzon_base::error::{Error, Result};
 use jzon_base::number::Number;
+use jzon_base::util::print_dec::number_text;
 use std::alloc::{AllocError, Global};
 use std::io::{self, ErrorKind, Write};
 
@@ -37,7 +35,7 @@ pub struct TextGenerator<P: Destination, L: Layout> {
 }
 
 impl<P: Destination, L: Layout> TextGenerator<P, L> {
-    /// A generator of this layout that adds to what was written there.
+    /// A generator of this layout that adds to what was written to the destination.
     pub(super) fn over(place: P, layout: L) -> TextGenerator<P, L>
         ensures { ⟦<TextGenerator<P, L> as Generator>⟧.meaning result
             ≡ fresh (P.out place) (L.style layout) (P.lender place) }
@@ -50,7 +48,7 @@ impl<P: Destination, L: Layout> TextGenerator<P, L> {
         }
     }
 
-    /// Returns the result of a call, and counts a fault where it failed.
+    /// Returns the result of a call, and counts a fault if it failed.
     #[inline(always)]
     fn count(&mut self, step: SlotResult<()>) -> SlotResult<()>
         ensures result { result ≡ step }
@@ -61,23 +59,6 @@ impl<P: Destination, L: Layout> TextGenerator<P, L> {
             self.note_fault();
         }
         step
-    }
-
-    /// Writes a string that isn't put at once. It is a function of its own, so that no registers are
-    /// saved for a short string.
-    #[inline(never)]
-    fn write_long(&mut self, string: &str, slot: &mut ErrorSlot) -> SlotResult<()>
-        ensures bytes { Emits (Just (quoted string.now)) (text_meaning P.out P.lender L.style self.old)
-            (text_meaning P.out P.lender L.style self.new) result }
-        ensures slot { OnErr result (IsSome slot.new) }
-    {
-        let bytes = string.as_bytes();
-        let step = match self.place.put_long(bytes) {
-            Ok(true) => return Ok(()),
-            Ok(false) => send_string(self.place.writer(), b"\"", bytes, slot),
-            Err(error) => store(Err(io::Error::from(error)), slot),
-        };
-        self.count(step)
     }
 
     /// Writes a number whose exponent isn't 0. It is a function of its own, so that
@@ -103,8 +84,12 @@ impl<P: Destination, L: Layout> TextGenerator<P, L> {
             (text_meaning P.out P.lender L.style self.new) result }
         ensures slot { OnErr result (IsSome slot.new) }
     {
-        let step = send_number(self.place.writer(), num, slot);
-        self.count(step)
+        if num.is_nan() {
+            return self.try_write(b"null", slot);
+        }
+        let (positive, mantissa, exponent) = num.as_parts();
+        let text = number_text(positive, mantissa, exponent);
+        self.try_write(text.as_str().as_bytes(), slot)
     }
 }
 
@@ -163,7 +148,7 @@ impl<P: Destination, L: Layout> Generator for TextGenerator<P, L> {
         take_result(step, slot)
     }
 
-    /// The order of the layout. Where its `keeps_order` holds, that is `None`, and nothing of the
+    /// The order of the layout. If its `keeps_order` holds, that is `None`, and nothing of the
     /// generator changes.
     #[inline(always)]
     fn order(&mut self, object: &Object) -> io::Result<Option<Vec<usize>>>
@@ -203,7 +188,7 @@ impl<P: Destination, L: Layout> Generator for TextGenerator<P, L> {
         if self.place.put_string(string.as_bytes()) {
             return Ok(());
         }
-        self.write_long(string, slot)
+        self.try_write_escaped(b"\"", string.as_bytes(), slot)
     }
 
     fn try_write_key(&mut self, key: &str, slot: &mut ErrorSlot) -> SlotResult<()> {

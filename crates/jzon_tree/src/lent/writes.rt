@@ -37,7 +37,8 @@ pub fn write_at(value: &mut JsonValue, alloc: Global, key: &str, item: JsonValue
 }
 
 /// Writes the element of an array at an index, as through `at_index_mut`. Fails with `OutOfMemory`
-/// only, and then the value means what it meant; an index in range of an array needs no allocation.
+/// only, and then the value is equal to the one before; an index that is in the range of an array
+/// needs no allocation.
 pub fn write_at_index(
     value: &mut JsonValue,
     alloc: Global,
@@ -72,7 +73,7 @@ where
     }
 }
 
-/// `write_at` of any `Tree`: an object of `T.pairs` is `T.object` of them.
+/// `write_at` of any tree.
 fn write_at_in<T: Tree>(tree: &mut T, alloc: Global, key: &str, value: T::Node) -> Result<()>
 where
     T::Node: Drop,

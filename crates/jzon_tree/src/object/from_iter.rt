@@ -8,8 +8,8 @@ use crate::into_json::IntoJson;
 use std::alloc::{AllocError, Global};
 use std::convert::AsStr;
 
-/// The object of these entries, put one after the other as `Object::from_pairs` does: a repeated
-/// key keeps its first position and takes the last value. The error is a failed allocation.
+/// The object that `Object::from_pairs` makes of these entries: a repeated key keeps its first
+/// position and takes the last value. The error is a failed allocation.
 impl<K: AsStr + Drop, V: IntoJson> FromIterator<(K, V)> for Object {
     type Alloc = Global;
 

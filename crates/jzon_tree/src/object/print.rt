@@ -47,7 +47,7 @@ impl Object {
         self.lay_out(alloc, Pretty(spaces))
     }
 
-    /// The text of the object in a layout.
+    /// The text of the object in a layout. Fails as `JsonValue::lay_out`.
     fn lay_out<L: Layout + Drop>(&self, alloc: Global, layout: L) -> Result<String>
         ensures writing { IfOk result (λ text. Writes (L.style layout) 0 (view_object self.now)
             (string_bytes text)) }

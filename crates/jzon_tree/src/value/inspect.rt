@@ -76,6 +76,8 @@ pub(crate) fn inspect(value: &JsonValue) -> Inspection
 {
     match value {
         JsonValue::Null | JsonValue::Boolean(_) => Inspection::PLAIN,
+        // `_text` and `_parts` below have no use at run time. The proof learns from them what the
+        // types promise.
         JsonValue::Short(text) => {
             let _text = text.as_str();
             Inspection::PLAIN
