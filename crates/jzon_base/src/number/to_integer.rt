@@ -113,7 +113,7 @@ impl TryFrom<Number> for usize {
     }
 }
 
-/// `NumberOutOfScope` for NaN, an exponent other than 0, and a number that an `i8` can\'t hold.
+/// `NumberOutOfScope` for NaN, an exponent other than 0, and a number that an `i8` can't hold.
 impl TryFrom<Number> for i8 {
     type Error = NumberOutOfScope;
 
@@ -125,7 +125,7 @@ impl TryFrom<Number> for i8 {
     }
 }
 
-/// `NumberOutOfScope` for NaN, an exponent other than 0, and a number that an `i16` can\'t hold.
+/// `NumberOutOfScope` for NaN, an exponent other than 0, and a number that an `i16` can't hold.
 impl TryFrom<Number> for i16 {
     type Error = NumberOutOfScope;
 
@@ -137,7 +137,7 @@ impl TryFrom<Number> for i16 {
     }
 }
 
-/// `NumberOutOfScope` for NaN, an exponent other than 0, and a number that an `i32` can\'t hold.
+/// `NumberOutOfScope` for NaN, an exponent other than 0, and a number that an `i32` can't hold.
 impl TryFrom<Number> for i32 {
     type Error = NumberOutOfScope;
 
@@ -149,7 +149,7 @@ impl TryFrom<Number> for i32 {
     }
 }
 
-/// `NumberOutOfScope` for NaN, an exponent other than 0, and a number that an `i64` can\'t hold.
+/// `NumberOutOfScope` for NaN, an exponent other than 0, and a number that an `i64` can't hold.
 impl TryFrom<Number> for i64 {
     type Error = NumberOutOfScope;
 
@@ -160,7 +160,7 @@ impl TryFrom<Number> for i64 {
     }
 }
 
-/// `NumberOutOfScope` for NaN, an exponent other than 0, and a number that an `isize` can\'t hold.
+/// `NumberOutOfScope` for NaN, an exponent other than 0, and a number that an `isize` can't hold.
 impl TryFrom<Number> for isize {
     type Error = NumberOutOfScope;
 

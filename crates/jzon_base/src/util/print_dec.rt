@@ -53,7 +53,8 @@ pub fn push_digits(bytes: &mut Vec<u8>, positive: bool, mantissa: u64, exponent:
         return false;
     }
     if exponent == 0 {
-        push_after_minuses(bytes, usize::from(!positive), mantissa);
+        let end = put_after_minuses(bytes, usize::from(!positive), mantissa);
+        bytes.truncate(end);
         return true;
     }
     push_decimal(bytes, positive, mantissa, exponent.unsigned_abs() as usize)
@@ -90,18 +91,6 @@ fn put_point(room: &mut [u8], point: usize)
     let places = Simd::<u8, PLACES>::from_slice(&room[point..]);
     places.copy_to_slice(&mut room[point + 1..]);
     room[point] = b'.';
-}
-
-/// Adds `minuses` minuses and the digits of `n`.
-#[inline(always)]
-fn push_after_minuses(bytes: &mut Vec<u8>, minuses: usize, n: u64)
-    requires some { 0 < n }
-    requires minuses { minuses ≤ 1 }
-    requires reserved { vec_len bytes.old + DIGITS_ROOM ≤ vec_capacity bytes.old }
-    ensures { bytes.new.items ≡ bytes.old.items ++ (replicate minuses 45 ++ decimal n) }
-{
-    let end = put_after_minuses(bytes, minuses, n);
-    bytes.truncate(end);
 }
 
 /// Adds 48 bytes, of which the first are `minuses` minuses and the digits of `n`, and returns the
