@@ -23,7 +23,7 @@ pub record Exponent : Type 0 where
   pub sign : Sign
   pub digits : List ℕ
 
--- A number (section 6). Digits are characters; there is a point where `fraction` isn't empty.
+-- A number (section 6). Digits are characters; there is a point if `fraction` isn't empty.
 pub record Numeral : Type 0 where
   pub negative : Bool
   pub whole : List ℕ

@@ -30,7 +30,7 @@ abbrev pub mark_at : List Cell → ℕ → Option (Option Breach)
 mark_at cs i = slice_get (map (λ c. c.mark) cs) i
 
 -- A cell has one mark, and the first digit of a number may have that of a container too many. It hides no other: one
--- digit is never too many, and where the digits up to a later one are, the mark there is `digit`.
+-- digit is never too many, and if the digits up to a later one are, the mark there is `digit`.
 abbrev pub DigitBreaches : Type 0
 DigitBreaches =
     ((d : ℕ) → drops_too_many (d ∷ []) ≡ false)

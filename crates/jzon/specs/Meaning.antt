@@ -46,7 +46,7 @@ abbrev pub characters_of : List Item → List ℕ
 characters_of [] = []
 characters_of (i ∷ is) = item_text i ++ characters_of is
 
--- the same, as bytes of UTF-8
+-- these characters as bytes of UTF-8
 unfoldable pub bytes_of : List Item → List ℕ
 bytes_of is = encode_utf8_all (characters_of is)
 

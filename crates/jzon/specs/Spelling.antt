@@ -42,7 +42,7 @@ abbrev pub plain : List ℕ → List Cell → List Cell
 plain [] k = k
 plain (c ∷ cs) k = cell c None ∷ plain cs k
 
--- the same, with the breach at the last one
+-- characters with this breach at the last one alone
 abbrev pub marked_last : List ℕ → Option Breach → List Cell → List Cell
 marked_last [] m k = k
 marked_last (c ∷ []) m k = cell c m ∷ k

@@ -17,7 +17,7 @@ use jzon_tree::object::Object;
 use jzon_tree::value::JsonValue;
 use std::alloc::Global;
 
-/// The brackets of one kind of container.
+/// A kind of container.
 #[derive(Clone, Copy)]
 pub(crate) enum ContainerKind {
     Array,
@@ -25,11 +25,11 @@ pub(crate) enum ContainerKind {
 }
 
 impl ContainerKind {
-    /// The brackets of the container whose first byte this is, if it is one.
+    /// The kind of container whose opening bracket this byte is, if it is one.
     #[inline(always)]
     pub(crate) fn opened_by(first: u8) -> Option<ContainerKind>
         ensures { MatchOption result ((first ≢ begin_array) × (first ≢ begin_object))
-            (λ b. first ≡ opener b) }
+            (λ kind. first ≡ opener kind) }
     {
         match first {
             b'[' => Some(ContainerKind::Array),
@@ -124,9 +124,9 @@ impl<'a> Cursor<'a> {
         fault_at(self.source, self.index)
     }
 
-    /// Moves past the opening bracket that comes next, inside of `depth` containers. Whether the
-    /// container is empty; then it moves past the closing bracket too. Else `At` at
-    /// the end of the text, or `Limit` if `depth` is what the reading allows.
+    /// Moves past the opening bracket that comes next, inside of `depth` containers. Returns whether
+    /// the container is empty, and then moves past its closing bracket too. If it isn't empty, the
+    /// error is `At` at the end of the text, and `Limit` if `depth` is the most that the reading allows.
     #[inline(always)]
     pub(crate) fn open_container(&mut self, kind: ContainerKind, depth: usize) -> Result<bool>
         requires room { depth ≤ self.old.reading.depth }
@@ -157,8 +157,8 @@ impl<'a> Cursor<'a> {
         Ok(false)
     }
 
-    /// After an element or an entry: whether the container ends. Moves past its closing bracket or
-    /// the comma.
+    /// Moves past the comma or the closing bracket after an element or an entry. Returns whether the
+    /// container ends.
     #[inline(always)]
     pub(crate) fn container_ends(&mut self, kind: ContainerKind) -> Result<bool>
         ensures { (fs : Frames) (v : Value) → innermost_kind fs ≡ Some kind →
@@ -177,9 +177,9 @@ impl<'a> Cursor<'a> {
         Err(self.fault())
     }
 
-    /// After the element or entry that ends at `end`: whether the container ends, as
-    /// `container_ends`. Most texts have no whitespace there, so the comma and the closing bracket are
-    /// looked for before it is skipped.
+    /// Does what `container_ends` does, after an element or an entry that ends at `end`. Most texts
+    /// have no whitespace there, so it is skipped only if neither a comma nor a closing bracket is
+    /// there.
     #[inline(always)]
     pub(crate) fn container_ends_at(&mut self, end: usize, kind: ContainerKind) -> Result<bool>
         requires boundary { IsCharBoundary self.old.source.now end }
@@ -199,8 +199,8 @@ impl<'a> Cursor<'a> {
         self.container_ends(kind)
     }
 
-    /// After the key that ends at `end`: moves past the colon, which is looked for before whitespace
-    /// is skipped.
+    /// Moves past the colon after the key that ends at `end`. Whitespace before the colon is skipped
+    /// only if no colon is at `end`.
     #[inline(always)]
     pub(crate) fn colon_at(&mut self, end: usize) -> Result<()>
         requires boundary { IsCharBoundary self.old.source.now end }

@@ -235,9 +235,8 @@ impl<'a> Parser<'a> {
         self.cursor.colon_at(spelled.end)
     }
 
-    /// Reads the next value of the innermost container, of which these are the brackets; a container
-    /// that isn't empty only up to its opening bracket. Else also the comma or the closing bracket
-    /// after the value.
+    /// Reads the next value of the innermost container, whose kind is `container`, and the comma or
+    /// the closing bracket after it. Of a container that isn't empty it reads only the opening bracket.
     #[inline(always)]
     fn read_value(&mut self, container: ContainerKind) -> fault::Result<Next>
         requires kind { self.old.stacks.innermost.kind ≡ container }
@@ -273,8 +272,9 @@ impl<'a> Parser<'a> {
         Ok(Next::Item)
     }
 
-    /// After the end of the innermost container: makes its value, and reads on after it, as long as
-    /// containers end. The value of the outermost one, if it ended.
+    /// Makes the value of the innermost container, which ended, and reads the comma or the closing
+    /// bracket after it, and goes on as long as containers end. Returns the value of the outermost
+    /// one, if it ended.
     #[inline(always)]
     fn end_containers(&mut self) -> fault::Result<Option<JsonValue>>
         requires even { IsEven self.old.stacks.innermost.kind self.old.stacks.innermost }

@@ -1,5 +1,5 @@
-//! Reads primitives: numbers, strings and literals (RFC 8259, section 3). Each is put where it is to
-//! stay by the function that makes it, so that no value is moved from call to call.
+//! Reads primitives: numbers, strings and literals (RFC 8259, section 3). The function that makes one
+//! puts it into its target, so that no value is moved from call to call.
 
 ghost use Rattle.std.specs.Prelude.{◌≡◌, ◌≢◌, ◌⊎◌, ◌<◌, ◌+◌, ◌^◌, length, chars, IsTrue, IfOk, Err, MatchResult, codes, drop, slice_index, None, true, false, IsAscii, ⊤};
 ghost use Rattle.std.specs.Char.{is_ascii_digit};
@@ -23,63 +23,63 @@ use std::alloc::Global;
 /// Puts the primitive at `start`, whose first byte is `first` (0 at the end of the text). Returns
 /// the offset after it.
 #[inline(always)]
-pub(crate) fn put_primitive<P: Target>(
+pub(crate) fn put_primitive<T: Target>(
     alloc: Global,
     source: &str,
     start: usize,
     first: u8,
     buffer: &mut String,
-    place: &mut P,
+    target: &mut T,
 ) -> Result<usize>
     requires boundary { IsCharBoundary source.now start }
     requires first { first ≡ slice_index source.now start }
     requires no_array { first ≢ begin_array }
     requires no_object { first ≢ begin_object }
-    requires room { P.has_room place.old }
+    requires room { T.has_room target.old }
     ensures end { IfOk result (λ end. (start < end) × IsCharBoundary source.now end) }
     ensures memory { result ≡ Err Stop.Memory → first ≡ quotation_mark }
-    ensures outcome { Puts (P.takes place.old) place.old place.new result source.now start before
+    ensures outcome { Puts (T.takes target.old) target.old target.new result source.now start before
         (λ r fs. MayBegin r fs source.now start) }
 {
     if first.is_ascii_digit() {
-        return put_magnitude(source, start, false, place);
+        return put_magnitude(source, start, false, target);
     }
     match first {
         b'-' => {
             if !byte_at(source, start + 1).is_ascii_digit() {
                 return Err(fault_at(source, start + 1));
             }
-            put_magnitude(source, start + 1, true, place)
+            put_magnitude(source, start + 1, true, target)
         }
         b'"' => {
             let spelled = read_string(source, start + 1, buffer)?;
             let (content, wide) = spelled.text(source, start + 1, buffer);
-            put_text(alloc, content, wide, place)?;
+            put_text(alloc, content, wide, target)?;
             Ok(spelled.end)
         }
-        b'n' | b't' | b'f' => put_literal(source, start, first, place),
+        b'n' | b't' | b'f' => put_literal(source, start, first, target),
         _ => Err(fault_at(source, start)),
     }
 }
 
 /// Puts the number whose first digit is at `start`. Returns the offset after it.
 #[inline(always)]
-fn put_magnitude<P: Target>(
+fn put_magnitude<T: Target>(
     source: &str,
     start: usize,
     negative: bool,
-    place: &mut P,
+    target: &mut T,
 ) -> Result<usize>
     requires within { start < length source.now }
     requires digit { IsTrue (is_ascii_digit (slice_index source.now start)) }
-    requires room { P.has_room place.old }
+    requires room { T.has_room target.old }
     ensures end { IfOk result (λ end. (start < end) × IsCharBoundary source.now end) }
     ensures memory { result ≢ Err Stop.Memory }
-    ensures outcome { Puts (P.takes place.old) place.old place.new result source.now (start + 1)
+    ensures outcome { Puts (T.takes target.old) target.old target.new result source.now (start + 1)
         (λ fs. numeral_after_first fs negative (slice_index source.now start)) (λ r fs. ⊤) }
 {
     let (number, end) = read_number(source, start, negative)?;
-    place.put(JsonValue::Number(number));
+    target.put(JsonValue::Number(number));
     Ok(end)
 }
 
@@ -87,24 +87,24 @@ fn put_magnitude<P: Target>(
 /// last four letters are compared at once, and there is no branch for each of the three literals,
 /// since processors can't predict which comes next.
 #[inline(always)]
-fn put_literal<P: Target>(source: &str, start: usize, first: u8, place: &mut P) -> Result<usize>
+fn put_literal<T: Target>(source: &str, start: usize, first: u8, target: &mut T) -> Result<usize>
     requires within { start < length source.now }
     requires first { first ≡ slice_index source.now start }
     requires word { (first ≡ letter_n) ⊎ (first ≡ letter_t) ⊎ (first ≡ letter_f) }
-    requires room { P.has_room place.old }
+    requires room { T.has_room target.old }
     ensures end { IfOk result (λ end. (start < end) × IsCharBoundary source.now end) }
     ensures memory { result ≢ Err Stop.Memory }
-    ensures outcome { Puts (P.takes place.old) place.old place.new result source.now start before
+    ensures outcome { Puts (T.takes target.old) target.old target.new result source.now start before
         (λ r fs. value_mark r fs ≡ None) }
 {
     let prefix = last_four_at(start, first);
     let value = literal_value(first);
     if has_four(source, prefix, last_four(first)) {
-        place.put(value);
+        target.put(value);
         return Ok(prefix + 4);
     }
     let end = read_letters(source, prefix, &last_four(first))?;
-    place.put(value);
+    target.put(value);
     Ok(end)
 }
 

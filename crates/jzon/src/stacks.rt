@@ -26,10 +26,12 @@ use std::alloc::{AllocError, Global};
 use std::marker::Model;
 use std::mem;
 
-/// How many values the stack first has room for.
+/// How many values there is room for at first, and how many keys if the outermost container is an
+/// object.
 const FIRST_ROOM: usize = 8;
 
-/// The most values that are always copied to a block of their own (`cut_values`).
+/// Up to this many values of a nested container are always copied to a block of their own
+/// (`cut_values`).
 const LONG: usize = 1024;
 
 /// An open container: its kind, and where its keys and values begin.
@@ -49,10 +51,10 @@ pub(crate) struct Stacks {
     innermost: Frame,
     /// The containers around the innermost one, the outermost first.
     around: Vec<Frame>,
-    /// What a strict reading, which rejects a repeated key, knows of the keys of the innermost
-    /// container. A usual one has none.
+    /// In a strict reading, which rejects a repeated key: the keys of the innermost container. `None`
+    /// in one that isn't strict.
     known: Option<KnownKeys>,
-    /// What it knows of the keys of the containers around.
+    /// In a strict reading: the keys of each container around, the outermost first.
     known_around: Vec<KnownKeys>,
 }
 
@@ -73,9 +75,9 @@ impl Model for Stacks {
     ghost invariant = { IsLaidOut };
 }
 
-/// Takes what is on the stack from `start` on, into a block of its exact size. The outermost
-/// container takes the stack's own block, unless most of it is unused. The error is a failed
-/// allocation.
+/// Removes what is on the stack from `start` on, and returns it in a block of its exact size. The
+/// outermost container gets the stack's own block instead, unless most of it is unused. The error is
+/// a failed allocation.
 #[inline(always)]
 fn cut_tail<T>(
     alloc: Global,
@@ -94,9 +96,9 @@ fn cut_tail<T>(
     stack.split_off(start)
 }
 
-/// Takes the values from `start` on, as `cut_tail`. If they are many and few are before them, they
-/// keep the stack's block unless most of it is unused, and those before them are moved out: so no
-/// new pages are touched for a copy.
+/// Does what `cut_tail` does, with one exception. If the values from `start` on are many, only few are
+/// before them, and most of the block is used, they keep the block, and those before them are moved to
+/// a new one, because a copy of many values touches new pages.
 #[inline(always)]
 fn cut_values(
     alloc: Global,
@@ -116,7 +118,8 @@ fn cut_values(
     cut_tail(alloc, stack, start, is_outermost)
 }
 
-/// Takes the values from `start` on with the stack's block. Those before them get a new one.
+/// Removes the values from `start` on, and returns them in the stack's block. Those before them get
+/// a new one. After an error the values are in another order.
 #[cold]
 #[inline(never)]
 fn cut_long(stack: &mut Vec<JsonValue>, start: usize) -> Result<Vec<JsonValue>, AllocError>
@@ -160,8 +163,8 @@ fn close_known(known: &mut Option<KnownKeys>, around: &mut Vec<KnownKeys>)
     *known = around.pop();
 }
 
-/// In a strict reading: the object of distinct keys, of which this is known, and of as many values.
-/// The next container begins with nothing known. The error is a failed allocation.
+/// In a strict reading: the object of these keys, which are distinct, and as many values. `known` has
+/// these keys, and then none, for the next container. The error is a failed allocation.
 #[cold]
 #[inline(never)]
 fn object_of_known(
@@ -264,8 +267,9 @@ impl Stacks {
         put_primitive(self.alloc, source, start, first, buffer, &mut self.values)
     }
 
-    /// Adds a key to the innermost container, which is an object, unless the reading rejects it: it
-    /// is strict, and the object has the key. Whether it is rejected. `wide` begins with `name`.
+    /// Adds a key to the innermost container, which is an object. If the reading is strict and the
+    /// object has the key, it is rejected instead. Returns whether it is rejected. `wide` begins with
+    /// `name`.
     #[inline(always)]
     pub(crate) fn push_key(&mut self, name: &str, wide: &str) -> Result<bool, AllocError>
         requires object { self.old.innermost.kind ≡ ContainerKind.Object }
@@ -283,7 +287,7 @@ impl Stacks {
         Ok(false)
     }
 
-    /// Does this in a strict reading.
+    /// Does what `push_key` does, in a strict reading.
     #[cold]
     #[inline(never)]
     fn push_new_key(&mut self, name: &str, wide: &str) -> Result<bool, AllocError>
@@ -326,7 +330,8 @@ impl Stacks {
         Ok(())
     }
 
-    /// The elements of the innermost container, which ends. The error is a failed allocation.
+    /// Removes the elements of the innermost container, which is an array that ended, and returns them.
+    /// The error is a failed allocation.
     #[inline(always)]
     fn end_array(&mut self) -> Result<Vec<JsonValue>, AllocError>
         requires { self.old.innermost.keys ≡ [] }
@@ -345,8 +350,8 @@ impl Stacks {
         cut_values(self.alloc, &mut self.values, start, is_outermost)
     }
 
-    /// The object of the entries of the innermost container, which ends. The error is a failed
-    /// allocation.
+    /// Removes the entries of the innermost container, which is an object that ended, and returns this
+    /// object. The error is a failed allocation.
     #[inline(always)]
     fn end_object(&mut self) -> Result<Object, AllocError>
         requires object { self.old.innermost.kind ≡ ContainerKind.Object }

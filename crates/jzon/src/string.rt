@@ -33,8 +33,8 @@ pub(crate) struct Spelled {
 }
 
 impl Spelled {
-    /// The contents of the string whose opening quote is before `start`, and all text from these
-    /// contents on.
+    /// The contents of the string whose opening quote is before `start`, and a string that begins with
+    /// them: all of the source from there on, or of the buffer.
     pub(crate) fn text<'a>(
         self,
         source: &'a str,
@@ -59,24 +59,24 @@ impl Spelled {
 /// Puts a string value, with whose string `wide` begins: up to 30 bytes are stored inline, which
 /// never fails, and more are allocated. The error is `Memory`.
 #[inline(always)]
-pub(crate) fn put_text<P: Target>(
+pub(crate) fn put_text<T: Target>(
     alloc: Global,
     content: &str,
     wide: &str,
-    place: &mut P,
+    target: &mut T,
 ) -> Result<()>
     requires wide { take (length content.now) wide.now ≡ content.now }
-    requires room { P.has_room place.old }
-    ensures value { IfOk result (λ _. (v : JsonValue) × P.takes place.old v place.new
+    requires room { T.has_room target.old }
+    ensures value { IfOk result (λ _. (v : JsonValue) × T.takes target.old v target.new
         × (view v ≡ text (kind_of content.now) content.now)) }
-    ensures kept { OnErr result (place.new ≡ place.old) }
+    ensures kept { OnErr result (target.new ≡ target.old) }
     ensures memory { IsOkUnless result Memory }
     ensures in_place { length content.now ≤ 30 → IsOk result }
 {
     if content.len() <= MAX_LEN {
-        place.put(JsonValue::Short(Short::from_wide(content, wide)));
+        target.put(JsonValue::Short(Short::from_wide(content, wide)));
     } else {
-        place.put(JsonValue::String(String::from_str(alloc, content)?));
+        target.put(JsonValue::String(String::from_str(alloc, content)?));
     }
     Ok(())
 }

@@ -5,16 +5,16 @@ ghost use Rattle.jzon_tree.specs.declared.value.JsonValue.{JsonValue};
 
 use jzon_tree::value::JsonValue;
 
-/// A place for a value. Functions that read one put it there themselves: a value that is returned
-/// is moved from call to call.
+/// What takes a value that is read. Functions that read a value put it into the target themselves,
+/// because a value that is returned is moved from call to call.
 pub(crate) trait Target {
-    // The place can take a value.
+    // The target can take a value.
     ghost has_room: { Self → Type 0 };
 
-    // The place before, a value, and the place with this value.
+    // The target before, a value, and the target with this value.
     ghost takes: { Self → JsonValue → Self → Type 0 };
 
-    /// Puts the value there.
+    /// Puts the value into the target.
     fn put(&mut self, value: JsonValue)
         requires { has_room self.old }
         ensures { takes self.old value self.new };

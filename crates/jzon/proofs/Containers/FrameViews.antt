@@ -42,9 +42,9 @@ key_mark-shallow r fs (e ∷ es) lt = refl
 
 -- ---- elements and entries
 
-pub brackets_of : (b : ContainerKind) (fs : Frames) (c : Container) → innermost_kind (open_as b fs c) ≡ Some b
-brackets_of Array fs c = refl
-brackets_of Object fs c = refl
+pub kind_of_frame : (b : ContainerKind) (fs : Frames) (c : Container) → innermost_kind (open_as b fs c) ≡ Some b
+kind_of_frame Array fs c = refl
+kind_of_frame Object fs c = refl
 
 no_views : (vs : List JsonValue) → map view vs ≡ [] → vs ≡ []
 no_views [] e = refl

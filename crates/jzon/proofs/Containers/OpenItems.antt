@@ -17,12 +17,12 @@ use Rattle.jzon.specs.Private.OpenContainers.{IsClosed, new_container}
 use Rattle.jzon.specs.declared.cursor.ContainerKind.{ContainerKind}
 use Rattle.jzon.specs.declared.cursor.ContainerKind.TheVariants.{Array, Object}
 use Rattle.jzon.specs.declared.cursor.Cursor.{Cursor}
-use Rattle.jzon.proofs.Containers.FrameViews.{frames_depth-in, value_mark-shallow, key_mark-shallow, brackets_of}
+use Rattle.jzon.proofs.Containers.FrameViews.{frames_depth-in, value_mark-shallow, key_mark-shallow, kind_of_frame}
 use Rattle.jzon.proofs.Containers.FrameViews.{after_comma-item, after_closer-whole, even_again, some_more}
 use Rattle.jzon.proofs.Containers.FrameViews.{zip_key, last_of}
 use Rattle.jzon.proofs.Texts.Cursors.{Reached}
 
--- ---- the innermost container by its brackets
+-- ---- the innermost container by its kind
 
 pub before_entry : (s : OpenContainers) → s.innermost.kind ≡ Object
     → before_item s ≡ before_key (frames_around s) (entries_so_far s.innermost)
@@ -37,9 +37,9 @@ at_key t s e = record {
   same = ap (left t) (before_entry s e);
 }
 
-pub brackets_here : (s : OpenContainers) (b : ContainerKind) → s.innermost.kind ≡ b
+pub kind_here : (s : OpenContainers) (b : ContainerKind) → s.innermost.kind ≡ b
     → innermost_kind (frames_here s) ≡ Some b
-brackets_here s b e = brackets_of s.innermost.kind (frames_around s) s.innermost ∙ ap Some e
+kind_here s b e = kind_of_frame s.innermost.kind (frames_around s) s.innermost ∙ ap Some e
 
 pub awaits_here : (s : OpenContainers) (b : ContainerKind) → s.innermost.kind ≡ b → AwaitsValue b s.innermost
     → AwaitsValue s.innermost.kind s.innermost
@@ -133,7 +133,7 @@ key_awaits s u k even is =
     subst (λ z. AwaitsValue Object z.innermost) (sym is)
     (omega (arith, even, length-append s.innermost.keys (k ∷ [])))
 
--- the same with another form of the state after it
+-- reading that goes on, with another form of the state after it
 pub goes_as : {A : Type 0} (t u : Cursor) (p : State) (result : Result A Stop) (f g : A → State)
     → ((x : A) → f x ≡ g x) → GoesOn t p result u f → GoesOn t p result u g
 goes_as t u p (Ok x) f g e h = (h.0, h.1 ∙ ap (left u) (e x))
@@ -176,10 +176,10 @@ closed_in {s} h =
     ap (λ cs. after_value (frames_in cs) (whole s.innermost)) h.added.around
     ∙ ap (after_value (frames_here (outer_of h))) (sym h.means)
 
-pub outer_brackets : {s u : OpenContainers} (h : IsClosed s u) (b : ContainerKind) → b ≡ u.innermost.kind
+pub outer_kind : {s u : OpenContainers} (h : IsClosed s u) (b : ContainerKind) → b ≡ u.innermost.kind
     → innermost_kind (frames_here (outer_of h)) ≡ Some b
-outer_brackets h b e =
-    brackets_here (outer_of h) b (sym (ap (λ z. z.innermost.kind) h.added.closed) ∙ sym e)
+outer_kind h b e =
+    kind_here (outer_of h) b (sym (ap (λ z. z.innermost.kind) h.added.closed) ∙ sym e)
 
 -- what goes on to the start, goes on to what the start reaches
 pub goes_to : {s t u : Cursor} {p q : State} (o : State) → IsAfter s t × (left s o ≡ left t p) → Reached t p u q
@@ -188,8 +188,3 @@ goes_to o h k = (
   record { text = k.text ∙ h.0.text; reading = k.reading ∙ h.0.reading; index = omega (arith, h.0.index, k.within) },
   h.1 ∙ k.same,
 )
-
-pub before_first : (strict : Bool) (b : ContainerKind)
-    → before_item (record { strict = strict; innermost = new_container b; around = [] }) ≡ after_opener b no_frames
-before_first strict Array = refl
-before_first strict Object = refl

@@ -1,4 +1,4 @@
--- Values that are put in places, where another step of the automaton comes first, or an error is propagated.
+-- Values that are put into targets, after another step of the automaton; and errors that are propagated.
 use Rattle.jzon_base.proofs.Common.{◌≡◌, ◌∙◌, ℕ, List, refl, Result, Ok, Err, IsErrAnd, MatchResult}
 use Rattle.jzon.specs.declared.fault.Stop.{Stop}
 use Rattle.jzon_tree.specs.declared.value.JsonValue.{JsonValue}

@@ -26,13 +26,13 @@ abbrev pub after_opener : ContainerKind → Frames → State
 after_opener Array fs = before (array_frame fs [])
 after_opener Object fs = before_key fs []
 
--- the brackets of the innermost open container
+-- the kind of the innermost open container
 abbrev pub innermost_kind : Frames → Option ContainerKind
 innermost_kind no_frames = None
 innermost_kind (array_frame fs vs) = Some Array
 innermost_kind (object_frame fs es k) = Some Object
 
--- after the comma that follows the item v of the innermost container
+-- after the comma that follows the element or entry with the value v of the innermost container
 abbrev pub after_comma : Frames → Value → State
 after_comma no_frames v = after_value no_frames v
 after_comma (array_frame fs vs) v = before (array_frame fs (vs ++ v ∷ []))

@@ -43,7 +43,7 @@ abbrev pub PassesOn : {A : Type 0} → Cursor → State → Result A Stop → Cu
 PassesOn t p result u next =
     (s : Cursor) (o : State) → IsAfter s t × (left s o ≡ left t p) → GoesOn s o result u next
 
--- What leads to the end of an item at offset `end` goes on after the closing bracket or the comma that follows it.
+-- What leads to the end of an element or entry at offset `end` goes on after the closing bracket or the comma that follows it.
 abbrev pub EndsItem : Cursor → ℕ → ContainerKind → Result Bool Stop → Cursor → Type 0
 EndsItem t end kind result u =
     (p : State) (fs : Frames) (v : Value) → innermost_kind fs ≡ Some kind

@@ -13,8 +13,7 @@ use Rattle.jzon.specs.declared.cursor.ContainerKind.{ContainerKind}
 use Rattle.jzon.specs.declared.cursor.ContainerKind.TheVariants.{Array, Object}
 use Rattle.jzon.specs.declared.cursor.Cursor.{Cursor}
 
--- what an open container holds so far; an object has one key more than values where the value of the last key comes
--- next
+-- what an open container holds so far; an object has one key more than values if the value of the last key comes next
 pub record Container : Type 0 where
   pub kind : ContainerKind
   pub keys : List (List ℕ)
@@ -111,7 +110,7 @@ abbrev pub innermost_ended : OpenContainers → OpenContainers
 innermost_ended s =
     record { strict = s.strict; innermost = new_container s.innermost.kind; around = s.around }
 
--- after items of the innermost container: it ended, or another one that isn't empty was opened in it
+-- after elements or entries of the innermost container: it ended, or another one that isn't empty was opened in it
 abbrev pub after_items : OpenContainers → Option ContainerKind → State
 after_items s None = after_value (frames_around s) (whole s.innermost)
 after_items s (Some b) = after_opener b (frames_here s)

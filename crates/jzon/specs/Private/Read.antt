@@ -15,14 +15,14 @@ after_read s Item = before_item s
 after_read s (Opened b) = after_items s (Some b)
 after_read s End = after_items s None
 
--- After a value was read: an item comes next if a comma was read; if a container was opened, its value is what the
+-- After a value was read: an element or a key comes next if a comma was read; if a container was opened, its value is what the
 -- innermost one waits for, and something comes next in it; if the innermost one ended, no key is without its value.
 abbrev pub IsAfterValue : Cursor → OpenContainers → Next → Type 0
 IsAfterValue t s Item = IsBeforeItem t s
 IsAfterValue t s (Opened b) = IsAfterItems t s (Some b)
 IsAfterValue t s End = IsAfterItems t s None
 
--- Items of the innermost container were read, to its end or to a container that was opened in it: reading went on
+-- Elements or entries of the innermost container were read, to its end or to a container that was opened in it: reading went on
 -- from t to u, and the containers around the innermost one are those of s in n too.
 pub record ReadsItems (t : Cursor) (s : OpenContainers) (result : Result (Option ContainerKind) Stop) (u : Cursor)
     (n : OpenContainers) : Type 0 where

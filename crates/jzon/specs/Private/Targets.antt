@@ -15,9 +15,9 @@ pub record MayBegin (r : Reading) (fs : Frames) (bytes : List ℕ) (i : ℕ) : T
   pub no_space : i < length bytes → is_whitespace r.strict (slice_index bytes i) ≡ false
   pub no_end : is_fresh fs ≡ true → slice_index bytes i ≢ end_array
 
--- A value was put in a place, and in each reading and containers where `allowed` holds, the outcome from byte i on in
--- the state `start` is the outcome after the value; or the place was left as it was, and the error reports the outcome,
--- or an allocation failed.
+-- A value was put into a target, and for each reading and containers for which `allowed` holds, the outcome from byte i
+-- on in the state `start` is the outcome after the value. Or the target was left as it was, and the error reports the
+-- outcome, or an allocation failed.
 abbrev pub Puts : {P : Type 0} → (JsonValue → P → Type 0) → P → P → Result ℕ Stop → List ℕ → ℕ → (Frames → State)
     → (Reading → Frames → Type 0) → Type 0
 Puts takes old new result bytes i start allowed =

@@ -57,7 +57,7 @@ returns-in_default-clause-outcome c =
     let put = c.in_ok-end.ensures.outcome in
     let read = token_goes t u (before no_frames) (after_value no_frames (view put.0)) c.in_ok-end.end
     c.go_to.ensures c.in_ok-end.ensures.end.0 refl (put.2 t.reading no_frames (begins t)) in
-    reads_from _ _ u (after_value no_frames (view c.put_primitive.new.place)) c.expect_end.result
+    reads_from _ _ u (after_value no_frames (view c.put_primitive.new.target)) c.expect_end.result
     (read.0.text ∙ past.text)
     (past.same (before no_frames) refl ∙ read.1 ∙ ap (λ v. left u (after_value no_frames (view v))) (sym put.1))
     c.expect_end.ensures.outcome

@@ -70,7 +70,7 @@ returns-in_err-end-clause-memory g c =
 
 pub returns-in_err-end-clause-outcome : goal.returns-in_err-end-clause-outcome
 returns-in_err-end-clause-outcome g c =
-    puts_none (g.P.Target.takes c.args.place.now) c.args.place.now c.args.place.now c.from_residual.result
+    puts_none (g.T.Target.takes c.args.target.now) c.args.target.now c.args.target.now c.from_residual.result
     c.args.source.now c.args.start before (λ r fs. value_mark r fs ≡ None) _ c.from_residual.ensures.1 refl (λ r fs m.
     let begin = begins g (goal.at.returns-in_err-end-clause-outcome g c).After-has_four r fs c.last_four-2.result m
     (record { null = c.last_four-2.ensures.null; yes = c.last_four-2.ensures.yes; no = c.last_four-2.ensures.no }) in

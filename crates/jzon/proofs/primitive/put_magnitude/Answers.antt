@@ -15,7 +15,7 @@ returns-in_err-number-clause-memory g c =
 
 pub returns-in_err-number-clause-outcome : goal.returns-in_err-number-clause-outcome
 returns-in_err-number-clause-outcome g c =
-    puts_none (g.P.Target.takes c.args.place.now) c.args.place.now c.args.place.now c.from_residual.result
+    puts_none (g.T.Target.takes c.args.target.now) c.args.target.now c.args.target.now c.from_residual.result
     c.args.source.now (c.args.start + 1)
     (λ fs. numeral_after_first fs c.args.negative (get_or c.args.source.now c.args.start 0)) (λ r fs. ⊤) _
     c.from_residual.ensures.1 refl (λ r fs _. inr (c.in_err-number.ensures.outcome r fs))

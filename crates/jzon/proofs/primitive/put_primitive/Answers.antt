@@ -31,7 +31,7 @@ pub returns-then-is_ascii_digit-clause-outcome : goal.returns-then-is_ascii_digi
 returns-then-is_ascii_digit-clause-outcome g c =
     let here = digit_within c.args.source.now c.args.start c.args.first c.requires.first
     (sym c.is_ascii_digit.ensures.value ∙ c.if-is_ascii_digit.true) in
-    puts_from (g.P.Target.takes c.args.place.now) c.args.place.now c.put_magnitude.new.place c.put_magnitude.result
+    puts_from (g.T.Target.takes c.args.target.now) c.args.target.now c.put_magnitude.new.target c.put_magnitude.result
     c.args.source.now c.args.start (c.args.start + 1) before
     (λ fs. numeral_after_first fs false (get_or c.args.source.now c.args.start 0))
     (λ r fs. MayBegin r fs c.args.source.now c.args.start) (λ r fs. ⊤)
@@ -76,7 +76,7 @@ returns-then-not-is_ascii_digit-clause-outcome g c =
     let start = c.args.start in
     let e : get_or source start 0 ≡ 45 = sym c.requires.first ∙ c.in-45.is in
     let within = byte_within source start 45 e (lit< tt) in
-    puts_fault (g.P.Target.takes c.args.place.now) c.args.place.now (Err c.fault_at.result) source start before
+    puts_fault (g.T.Target.takes c.args.target.now) c.args.target.now (Err c.fault_at.result) source start before
     (λ r fs. MayBegin r fs source start) (fault_here (chars (drop (start + 1) source)))
     (λ r fs may. begin_by r source start fs minus_char _ refl c.utf8.source c.requires.boundary within e (lit< tt)
     may.shallow
@@ -94,7 +94,7 @@ returns-else-not-is_ascii_digit-clause-outcome g c =
     let start = c.args.start in
     let e : get_or source start 0 ≡ 45 = sym c.requires.first ∙ c.in-45.is in
     let within = byte_within source start 45 e (lit< tt) in
-    puts_from (g.P.Target.takes c.args.place.now) c.args.place.now c.put_magnitude-in-45.new.place
+    puts_from (g.T.Target.takes c.args.target.now) c.args.target.now c.put_magnitude-in-45.new.target
     c.put_magnitude-in-45.result source start (start + 1 + 1) before
     (λ fs. numeral_after_first fs true (get_or source (start + 1) 0)) (λ r fs. MayBegin r fs source start) (λ r fs. ⊤)
     (λ r fs may. (
@@ -112,7 +112,7 @@ returns-in_err-spelled-in-34-clause-outcome g c =
     let source = c.args.source.now in
     let start = c.args.start in
     let e : get_or source start 0 ≡ 34 = sym c.requires.first ∙ c.in-34.is in
-    puts_none (g.P.Target.takes c.args.place.now) c.args.place.now c.args.place.now c.from_residual.result
+    puts_none (g.T.Target.takes c.args.target.now) c.args.target.now c.args.target.now c.from_residual.result
     source start before (λ r fs. MayBegin r fs source start) _ c.from_residual.ensures.1 refl
     (λ r fs may. subst (ReportsUnlessMemory source _)
     (sym (begin_by r source start fs quote _ refl c.utf8.source c.requires.boundary
@@ -136,14 +136,14 @@ returns-in_ok-put_text-in-34-clause-outcome g c =
 
 pub returns-in-110-clause-outcome : goal.returns-in-110-clause-outcome
 returns-in-110-clause-outcome g c =
-    puts_from (g.P.Target.takes c.args.place.now) c.args.place.now c.put_literal.new.place c.put_literal.result
+    puts_from (g.T.Target.takes c.args.target.now) c.args.target.now c.put_literal.new.target c.put_literal.result
     c.args.source.now c.args.start c.args.start before before
     (λ r fs. MayBegin r fs c.args.source.now c.args.start) (λ r fs. value_mark r fs ≡ None) (λ r fs may. (may.shallow, refl)) c.put_literal.ensures.outcome
 
 pub returns-in_default-clause-outcome : goal.returns-in_default-clause-outcome
 returns-in_default-clause-outcome g c =
     let first = c.requires.first in
-    puts_fault (g.P.Target.takes c.args.place.now) c.args.place.now (Err c.fault_at-in_default.result) c.args.source.now c.args.start
+    puts_fault (g.T.Target.takes c.args.target.now) c.args.target.now (Err c.fault_at-in_default.result) c.args.source.now c.args.start
     before (λ r fs. MayBegin r fs c.args.source.now c.args.start) (fault_here (chars (drop c.args.start c.args.source.now)))
     (λ r fs may. from_stop r c.args.source.now c.args.start (before fs) c.utf8.source c.requires.boundary
     (stops_before r c.args.source.now c.args.start fs may.shallow (λ lt. record {

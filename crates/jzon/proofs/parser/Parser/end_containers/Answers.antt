@@ -4,7 +4,7 @@ use Rattle.jzon.specs.Private.Cursor.{left}
 use Rattle.jzon.specs.Private.Machine.{after_value}
 use Rattle.jzon.specs.Private.OpenContainers.{frames_around, frames_here, whole, IsClosed}
 use Rattle.jzon.proofs.Containers.OpenItems.{added_before, added_even, ended_here, goes_to_item, outer_of, closed_in}
-use Rattle.jzon.proofs.Containers.OpenItems.{outer_brackets, goes_to}
+use Rattle.jzon.proofs.Containers.OpenItems.{outer_kind, goes_to}
 use Rattle.jzon.proofs.Texts.Cursors.{Reached, reached, goes_after, fails_on}
 use Rattle.jzon.proofs.parser.Parser.end_containers.Goals.{After-container_ends}
 use Rattle.jzon.proofs.parser.Parser.end_containers.Goals as goal
@@ -28,14 +28,14 @@ returns-in_err-container_ends-clause-outcome c s o h =
     fails_on _ c.from_residual-in_err-container_ends.result _ c.from_residual-in_err-container_ends.ensures.1
     (reached (goes_to o h (came at)))
     (c.in_err-container_ends.ensures (frames_here (outer_of (closed at))) (view (closed at).value)
-    (outer_brackets (closed at) _ c.innermost_kind-container.ensures))
+    (outer_kind (closed at) _ c.innermost_kind-container.ensures))
 
 -- the bracket or the comma after the container was read
 pub returns-then-not-branch-clause-after : goal.returns-then-not-branch-clause-after
 returns-then-not-branch-clause-after c =
     let at = (goal.at.returns-then-not-branch-clause-after c).After-container_ends in
     let ends = c.in_ok-container_ends.ensures (frames_here (outer_of (closed at))) (view (closed at).value)
-    (outer_brackets (closed at) _ c.innermost_kind-container.ensures) in
+    (outer_kind (closed at) _ c.innermost_kind-container.ensures) in
     added_before _ (outer_of (closed at)) _ (closed at).value (closed at).added.awaits (closed at).added.closed
     (omega (
       arith,
@@ -51,20 +51,20 @@ returns-then-not-branch-clause-outcome c s o h =
     c.if-not-branch.true
     (goes_after _ (reached (goes_to o h (came at)))
     (c.in_ok-container_ends.ensures (frames_here (outer_of (closed at))) (view (closed at).value)
-    (outer_brackets (closed at) _ c.innermost_kind-container.ensures)))
+    (outer_kind (closed at) _ c.innermost_kind-container.ensures)))
 
 pub loop-value-smaller : goal.loop-value-smaller
 loop-value-smaller c =
     let at = (goal.at.loop-value-smaller c).After-container_ends in
     let ends = c.in_ok-container_ends.ensures (frames_here (outer_of (closed at))) (view (closed at).value)
-    (outer_brackets (closed at) _ c.innermost_kind-container.ensures) in
+    (outer_kind (closed at) _ c.innermost_kind-container.ensures) in
     omega (arith, ends.0.index, ap length ends.0.text, c.container_ends.new.self.boundary.0)
 
 pub loop-value-preserved : goal.loop-value-preserved
 loop-value-preserved c =
     let at = (goal.at.loop-value-preserved c).After-container_ends in
     let ends = c.in_ok-container_ends.ensures (frames_here (outer_of (closed at))) (view (closed at).value)
-    (outer_brackets (closed at) _ c.innermost_kind-container.ensures) in
+    (outer_kind (closed at) _ c.innermost_kind-container.ensures) in
     record {
       strict = ap (λ z. z.strict) (closed at).added.closed ∙ c.loop-value.invariant.strict;
       even = added_even (outer_of (closed at)) _ (closed at).value (closed at).added.awaits (closed at).added.closed;

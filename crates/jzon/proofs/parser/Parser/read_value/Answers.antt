@@ -5,7 +5,7 @@ use Rattle.jzon.specs.Private.Cursor.{left}
 use Rattle.jzon.specs.Private.Machine.{before, after_value}
 use Rattle.jzon.specs.Private.OpenContainers.{frames_here}
 use Rattle.jzon.specs.Private.Targets.{MayBegin}
-use Rattle.jzon.proofs.Containers.OpenItems.{brackets_here, awaits_here, depth_here, no_mark, added_keeps, added_even}
+use Rattle.jzon.proofs.Containers.OpenItems.{kind_here, awaits_here, depth_here, no_mark, added_keeps, added_even}
 use Rattle.jzon.proofs.Containers.OpenItems.{added_before, ended_here, goes_to_item}
 use Rattle.jzon.proofs.Texts.Cursors.{Reached, reached, reached_start, goes_after, fails_on}
 use Rattle.jzon.proofs.parser.Parser.read_value.Goals.{After-container_ends}
@@ -55,7 +55,7 @@ returns-in_err-container_ends-clause-outcome c =
     let at = (goal.at.returns-in_err-container_ends-clause-outcome c).After-container_ends in
     fails_on _ c.from_residual-in_err-container_ends.result _ c.from_residual-in_err-container_ends.ensures.1 (came at)
     (c.in_err-container_ends.ensures (frames_here s) (view c.in_ok-push_empty.ensures.ok.0)
-    (brackets_here s c.args.container c.requires.kind))
+    (kind_here s c.args.container c.requires.kind))
 
 pub returns-then-branch-clause-outcome : goal.returns-then-branch-clause-outcome
 returns-then-branch-clause-outcome c =
@@ -65,7 +65,7 @@ returns-then-branch-clause-outcome c =
     ended_here c.args.self.now.cursor _ (before (frames_here s)) s _ ok.0 _
     (awaits_here s c.args.container c.requires.kind c.requires.awaits) ok.2 c.if-branch.true
     (goes_after _ (came at) (c.in_ok-container_ends.ensures (frames_here s) (view ok.0)
-    (brackets_here s c.args.container c.requires.kind)))
+    (kind_here s c.args.container c.requires.kind)))
 
 pub returns-then-branch-clause-kept : goal.returns-then-branch-clause-kept
 returns-then-branch-clause-kept c =
@@ -83,7 +83,7 @@ returns-in-Some-clause-after c =
     let ok = c.in_ok-push_empty.ensures.ok in
     let at = (goal.at.returns-in-Some-clause-after c).After-container_ends in
     let ends = goes_after _ (came at) (c.in_ok-container_ends.ensures (frames_here s) (view ok.0)
-    (brackets_here s c.args.container c.requires.kind)) in
+    (kind_here s c.args.container c.requires.kind)) in
     added_before _ s _ ok.0 (awaits_here s c.args.container c.requires.kind c.requires.awaits) ok.2
     (omega (arith, c.requires.room, ap (λ r. r.depth) ends.0.reading))
 
@@ -95,7 +95,7 @@ returns-in-Some-clause-outcome c =
     goes_to_item c.args.self.now.cursor _ (before (frames_here s)) s _ ok.0 _
     (awaits_here s c.args.container c.requires.kind c.requires.awaits) ok.2 c.if-branch.false
     (goes_after _ (came at) (c.in_ok-container_ends.ensures (frames_here s) (view ok.0)
-    (brackets_here s c.args.container c.requires.kind)))
+    (kind_here s c.args.container c.requires.kind)))
 
 -- ---- a primitive
 
@@ -118,7 +118,7 @@ returns-in_err-container_ends_at-clause-outcome c =
     fails_on _ c.from_residual-in_err-container_ends_at.result _ c.from_residual-in_err-container_ends_at.ensures.1
     reached_start
     (c.in_err-container_ends_at.ensures (before (frames_here s)) (frames_here s) (view read.0)
-    (brackets_here s c.args.container c.requires.kind) (read.2 t.reading (frames_here s) begins))
+    (kind_here s c.args.container c.requires.kind) (read.2 t.reading (frames_here s) begins))
 
 pub returns-then-branch-2-clause-outcome : goal.returns-then-branch-2-clause-outcome
 returns-then-branch-2-clause-outcome c =
@@ -130,7 +130,7 @@ returns-then-branch-2-clause-outcome c =
     ended_here t _ (before (frames_here s)) s _ read.0 _
     (awaits_here s c.args.container c.requires.kind c.requires.awaits) read.1 c.if-branch-2.true
     (c.in_ok-container_ends_at.ensures (before (frames_here s)) (frames_here s) (view read.0)
-    (brackets_here s c.args.container c.requires.kind) (read.2 t.reading (frames_here s) begins))
+    (kind_here s c.args.container c.requires.kind) (read.2 t.reading (frames_here s) begins))
 
 pub returns-clause-kept : goal.returns-clause-kept
 returns-clause-kept c =
@@ -145,7 +145,7 @@ returns-clause-after c =
     record { shallow = no_mark t s c.requires.room; no_space = t.past_whitespace; no_end = c.requires.some } in
     let read = c.in_ok-end.ensures.outcome in
     let ends = c.in_ok-container_ends_at.ensures (before (frames_here s)) (frames_here s) (view read.0)
-    (brackets_here s c.args.container c.requires.kind) (read.2 t.reading (frames_here s) begins) in
+    (kind_here s c.args.container c.requires.kind) (read.2 t.reading (frames_here s) begins) in
     added_before _ s _ read.0 (awaits_here s c.args.container c.requires.kind c.requires.awaits) read.1
     (omega (arith, c.requires.room, ap (λ r. r.depth) ends.0.reading))
 
@@ -159,4 +159,4 @@ returns-clause-outcome c =
     goes_to_item t _ (before (frames_here s)) s _ read.0 _
     (awaits_here s c.args.container c.requires.kind c.requires.awaits) read.1 c.if-branch-2.false
     (c.in_ok-container_ends_at.ensures (before (frames_here s)) (frames_here s) (view read.0)
-    (brackets_here s c.args.container c.requires.kind) (read.2 t.reading (frames_here s) begins))
+    (kind_here s c.args.container c.requires.kind) (read.2 t.reading (frames_here s) begins))
