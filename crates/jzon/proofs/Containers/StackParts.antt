@@ -69,18 +69,6 @@ still_known P Q cs ds ls a None e strict h q = tt
 still_known P Q cs ds ls None (Some l) e strict h q = absurd (false≢true (sym strict))
 still_known P Q cs ds ls (Some k) (Some l) e strict h q = (q, subst (λ es. AllKnown es ls) (sym e) h.1)
 
--- if nothing is known any more, the reading counts as usual
-pub IsLaidOut-forgotten : (s : Inside) (ks : Vec (List ℕ) Global) (vs : Vec JsonValue Global) → IsLaidOut s
-    → Keeps s.innermost.first_key s.keys.items ks.items → Keeps s.innermost.first_value s.values.items vs.items
-    → IsLaidOut (changed s ks vs None)
-IsLaidOut-forgotten s ks vs h k v = record {
-  keys_within = omega (arith, k.within, ks.ok.0);
-  values_within = omega (arith, v.within, vs.ok.0);
-  nested = h.nested;
-  await = subst AllAwaitValue (sym (around-changed s ks vs None k v)) h.await;
-  known = tt;
-}
-
 pub IsLaidOut-changed : (s : Inside) (ks : Vec (List ℕ) Global) (vs : Vec JsonValue Global) (known : Option KnownKeys)
     → IsLaidOut s → IsChange s ks vs known → IsLaidOut (changed s ks vs known)
 IsLaidOut-changed s ks vs known h c = record {
@@ -226,19 +214,6 @@ IsLaidOut-as_many s vs h e =
 nothing_after : {X : Type 0} (n : ℕ) (xs ys : List X) → ys ≡ take n xs → drop n ys ≡ []
 nothing_after n xs ys cut = drop_all n ys (omega (arith, ap length cut, length-take n xs))
 
--- its keys and values are cut off, and nothing is known of it
-pub IsChange-ended : (s : Inside) (ks : Vec (List ℕ) Global) (vs : Vec JsonValue Global) (known : Option KnownKeys)
-    → IsLaidOut s → ks.items ≡ take s.innermost.first_key s.keys.items
-    → vs.items ≡ take s.innermost.first_value s.values.items → is_some known ≡ is_some s.known
-    → IfSome known (Knows []) → IsChange s ks vs known
-IsChange-ended s ks vs known h k v strict none = record {
-  keys = keeps_cut s.innermost.first_key s.keys.items ks.items (keys_within s h) k;
-  values = keeps_cut s.innermost.first_value s.values.items vs.items (values_within s h) v;
-  strict = strict;
-  knows =
-      subst (λ ls. IfSome known (Knows ls)) (sym (nothing_after s.innermost.first_key s.keys.items ks.items k)) none;
-}
-
 pub view-ended : (s : Inside) (ks : Vec (List ℕ) Global) (vs : Vec JsonValue Global) (known : Option KnownKeys)
     → IsChange s ks vs known → ks.items ≡ take s.innermost.first_key s.keys.items
     → vs.items ≡ take s.innermost.first_value s.values.items
@@ -268,21 +243,6 @@ IsChange-key s ks known k h e strict table =
           subst (λ ls. IfSome known (Knows ls))
           (sym (ap (drop n) e ∙ drop-append-le n s.keys.items (k ∷ []) (keys_within s h))) table;
     }
-
-pub view-key : (s : Inside) (ks : Vec (List ℕ) Global) (known : Option KnownKeys) (k : List ℕ) → IsLaidOut s
-    → IsChange s ks s.values known → ks.items ≡ s.keys.items ++ k ∷ []
-    → containers_of (changed s ks s.values known) ≡ key_added (containers_of s) k
-view-key s ks known k h c e =
-    let n = s.innermost.first_key in
-    view-changed s ks s.values known c ∙ (λ i. record {
-      strict = is_some s.known;
-      innermost = record {
-        kind = s.innermost.kind;
-        keys = (ap (drop n) e ∙ drop-append-le n s.keys.items (k ∷ []) (keys_within s h)) i;
-        values = drop s.innermost.first_value s.values.items;
-      };
-      around = (containers_of s).around;
-    })
 
 -- ---- a container is opened in the innermost one
 
@@ -346,20 +306,6 @@ IsLaidOut-opened s t h o awaits = record {
       opened_known (containers_of s).around _ (containers_of s).innermost _ s.known_around.items t.known_around.items
       s.known t.known (around-opened s t o) o.strict o.known_around h.known
       (subst (λ ks. IfSome t.known (Knows ks)) (sym (no_keys s t o)) o.known);
-}
-
-pub view-opened : (s t : Inside) → IsOpened s t
-    → containers_of t ≡ container_added (containers_of s) t.innermost.kind
-view-opened s t o = λ i. record {
-  strict = o.strict i;
-  innermost = record {
-    kind = t.innermost.kind;
-    keys = no_keys s t o i;
-    values =
-        nothing_opened t.innermost.first_value s.values.items t.values.items (ap (λ vs. vs.items) o.values)
-        (omega (arith, o.first_value, s.values.ok.0)) i;
-  };
-  around = around-opened s t o i;
 }
 
 -- ---- back to the container around one that ended
@@ -563,28 +509,3 @@ has_key o name even =
     ∙ known-put_each name ks ks vs (put_each (zip ks vs)) refl (sym even) refl
     ∙ sym (is_some-map (find name (put_each (zip ks vs))))
     ∙ ap is_some (find-viewed name (put_each (zip ks vs)))
-
--- ---- one open container, which is empty
-
-none_around : (s : Inside) → s.around.items ≡ [] → (containers_of s).around ≡ []
-none_around s e = ap (λ fs. containers_in (reverse fs) (take s.innermost.first_key s.keys.items)
-    (take s.innermost.first_value s.values.items)) e
-
-all_known : (P : KnownKeys → Type 0) (cs : List Container) (ls : List KnownKeys) (a : Option KnownKeys) → cs ≡ []
-    → IfSome a P → IfSome a (λ l. P l × AllKnown cs ls)
-all_known P cs ls None none h = tt
-all_known P cs ls (Some k) none h = (h, subst (λ ds. AllKnown ds ls) (sym none) tt)
-
-pub IsLaidOut-new : (s : Inside) → s.around.items ≡ [] → s.keys.items ≡ [] → s.innermost.first_key ≡ 0
-    → s.innermost.first_value ≡ 0 → IfSome s.known (Knows []) → IsLaidOut s
-IsLaidOut-new s around keys first_key first_value known = record {
-  keys_within = omega (arith, first_key);
-  values_within = omega (arith, first_value);
-  nested =
-      subst (λ fs. AreNested (reverse fs) s.innermost.first_key s.innermost.first_value) (sym around) tt;
-  await = subst AllAwaitValue (sym (none_around s around)) tt;
-  known =
-      all_known (Knows (containers_of s).innermost.keys) (containers_of s).around _ s.known (none_around s around)
-      (subst (λ ks. IfSome s.known (Knows (drop s.innermost.first_key ks))) (sym keys)
-      (subst (λ ks. IfSome s.known (Knows ks)) (sym (drop_all s.innermost.first_key [] (omega arith))) known));
-}

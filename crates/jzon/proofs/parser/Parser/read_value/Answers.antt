@@ -1,10 +1,12 @@
-use Rattle.jzon_base.proofs.Common.{◌∙◌, ap, sym, arith, cond}
+use Rattle.jzon_base.proofs.Common.{◌≡◌, ◌≢◌, ◌∙◌, ◌<◌, ap, sym, arith, cond, true, length}
+use Rattle.jzon_base.specs.Tokens.{end_array}
 use Rattle.jzon_tree.specs.View.{view}
 use Rattle.jzon.specs.Private.Brackets.{empty_container, after_opener}
-use Rattle.jzon.specs.Private.Cursor.{left}
-use Rattle.jzon.specs.Private.Machine.{before, after_value}
-use Rattle.jzon.specs.Private.OpenContainers.{frames_here}
+use Rattle.jzon.specs.Private.Cursor.{left, next_byte}
+use Rattle.jzon.specs.Private.Machine.{before, after_value, is_fresh}
+use Rattle.jzon.specs.Private.OpenContainers.{OpenContainers, frames_here}
 use Rattle.jzon.specs.Private.Targets.{MayBegin}
+use Rattle.jzon.specs.declared.cursor.Cursor.{Cursor}
 use Rattle.jzon.proofs.Containers.OpenItems.{kind_here, awaits_here, depth_here, no_mark, added_keeps, added_even}
 use Rattle.jzon.proofs.Containers.OpenItems.{added_before, ended_here, goes_to_item}
 use Rattle.jzon.proofs.Texts.Cursors.{Reached, reached, reached_start, goes_after, fails_on}
@@ -99,38 +101,37 @@ returns-in-Some-clause-outcome c =
 
 -- ---- a primitive
 
+begins : (t : Cursor) (s : OpenContainers) → length s.around < t.reading.depth
+    → (is_fresh (frames_here s) ≡ true → next_byte t ≢ end_array)
+    → MayBegin t.reading (frames_here s) t.source.now t.index
+begins t s room some = record { shallow = no_mark t s room; no_space = t.past_whitespace; no_end = some }
+
 pub returns-in_err-end-clause-outcome : goal.returns-in_err-end-clause-outcome
 returns-in_err-end-clause-outcome c =
     let t = c.args.self.now.cursor in
     let s = c.args.self.now.stacks in
-    let begins : MayBegin t.reading (frames_here s) t.source.now t.index =
-    record { shallow = no_mark t s c.requires.room; no_space = t.past_whitespace; no_end = c.requires.some } in
     fails_on _ c.from_residual-in_err-end.result _ c.from_residual-in_err-end.ensures.1 reached_start
-    (c.in_err-end.ensures.outcome.1 t.reading (frames_here s) begins)
+    (c.in_err-end.ensures.outcome.1 t.reading (frames_here s) (begins t s c.requires.room c.requires.some))
 
 pub returns-in_err-container_ends_at-clause-outcome : goal.returns-in_err-container_ends_at-clause-outcome
 returns-in_err-container_ends_at-clause-outcome c =
     let t = c.args.self.now.cursor in
     let s = c.args.self.now.stacks in
-    let begins : MayBegin t.reading (frames_here s) t.source.now t.index =
-    record { shallow = no_mark t s c.requires.room; no_space = t.past_whitespace; no_end = c.requires.some } in
     let read = c.in_ok-end.ensures.outcome in
     fails_on _ c.from_residual-in_err-container_ends_at.result _ c.from_residual-in_err-container_ends_at.ensures.1
     reached_start
     (c.in_err-container_ends_at.ensures (before (frames_here s)) (frames_here s) (view read.0)
-    (kind_here s c.args.container c.requires.kind) (read.2 t.reading (frames_here s) begins))
+    (kind_here s c.args.container c.requires.kind) (read.2 t.reading (frames_here s) (begins t s c.requires.room c.requires.some)))
 
 pub returns-then-branch-2-clause-outcome : goal.returns-then-branch-2-clause-outcome
 returns-then-branch-2-clause-outcome c =
     let t = c.args.self.now.cursor in
     let s = c.args.self.now.stacks in
-    let begins : MayBegin t.reading (frames_here s) t.source.now t.index =
-    record { shallow = no_mark t s c.requires.room; no_space = t.past_whitespace; no_end = c.requires.some } in
     let read = c.in_ok-end.ensures.outcome in
     ended_here t _ (before (frames_here s)) s _ read.0 _
     (awaits_here s c.args.container c.requires.kind c.requires.awaits) read.1 c.if-branch-2.true
     (c.in_ok-container_ends_at.ensures (before (frames_here s)) (frames_here s) (view read.0)
-    (kind_here s c.args.container c.requires.kind) (read.2 t.reading (frames_here s) begins))
+    (kind_here s c.args.container c.requires.kind) (read.2 t.reading (frames_here s) (begins t s c.requires.room c.requires.some)))
 
 pub returns-clause-kept : goal.returns-clause-kept
 returns-clause-kept c =
@@ -141,11 +142,9 @@ pub returns-clause-after : goal.returns-clause-after
 returns-clause-after c =
     let t = c.args.self.now.cursor in
     let s = c.args.self.now.stacks in
-    let begins : MayBegin t.reading (frames_here s) t.source.now t.index =
-    record { shallow = no_mark t s c.requires.room; no_space = t.past_whitespace; no_end = c.requires.some } in
     let read = c.in_ok-end.ensures.outcome in
     let ends = c.in_ok-container_ends_at.ensures (before (frames_here s)) (frames_here s) (view read.0)
-    (kind_here s c.args.container c.requires.kind) (read.2 t.reading (frames_here s) begins) in
+    (kind_here s c.args.container c.requires.kind) (read.2 t.reading (frames_here s) (begins t s c.requires.room c.requires.some)) in
     added_before _ s _ read.0 (awaits_here s c.args.container c.requires.kind c.requires.awaits) read.1
     (omega (arith, c.requires.room, ap (λ r. r.depth) ends.0.reading))
 
@@ -153,10 +152,8 @@ pub returns-clause-outcome : goal.returns-clause-outcome
 returns-clause-outcome c =
     let t = c.args.self.now.cursor in
     let s = c.args.self.now.stacks in
-    let begins : MayBegin t.reading (frames_here s) t.source.now t.index =
-    record { shallow = no_mark t s c.requires.room; no_space = t.past_whitespace; no_end = c.requires.some } in
     let read = c.in_ok-end.ensures.outcome in
     goes_to_item t _ (before (frames_here s)) s _ read.0 _
     (awaits_here s c.args.container c.requires.kind c.requires.awaits) read.1 c.if-branch-2.false
     (c.in_ok-container_ends_at.ensures (before (frames_here s)) (frames_here s) (view read.0)
-    (kind_here s c.args.container c.requires.kind) (read.2 t.reading (frames_here s) begins))
+    (kind_here s c.args.container c.requires.kind) (read.2 t.reading (frames_here s) (begins t s c.requires.room c.requires.some)))
