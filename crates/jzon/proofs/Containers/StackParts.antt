@@ -14,7 +14,7 @@ use Rattle.jzon_tree.specs.declared.value.JsonValue.{JsonValue}
 use Rattle.jzon_tree.specs.View.{view}
 use Rattle.jzon_tree.proofs.Values.Views.{find-viewed}
 use Rattle.jzon.specs.Private.OpenContainers.{Container, OpenContainers, AwaitsValue, new_container, entries_so_far}
-use Rattle.jzon.specs.Private.OpenContainers.{value_added, key_added, innermost_ended, container_added, with_value}
+use Rattle.jzon.specs.Private.OpenContainers.{value_added, innermost_ended, with_value}
 use Rattle.jzon.specs.Private.OpenContainers.{IsAdded}
 use Rattle.jzon.specs.Private.Stacks.{container_of, containers_in, containers_of, AreNested, AllAwaitValue, AllKnown}
 use Rattle.jzon.specs.Private.Stacks.{IsLaidOut}
