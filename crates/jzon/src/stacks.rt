@@ -299,16 +299,20 @@ impl Stacks {
         ensures pushed { IfOk result (λ rejected. self.new
             ≡ (if rejected then self.old else key_added self.old name.now)) }
     {
-        let Some(mut known) = self.known.take() else {
+        let Some(known) = &mut self.known else {
             unreachable!()
         };
         let keys = &self.keys[self.innermost.first_key..];
         let is_known = known.has_or_adds(self.alloc, keys, name)?;
-        if !is_known {
-            Key::push_wide(&mut self.keys, self.alloc, name, wide)?;
+        if is_known {
+            return Ok(true);
         }
-        self.known = Some(known);
-        Ok(is_known)
+        if let Err(error) = Key::push_wide(&mut self.keys, self.alloc, name, wide) {
+            // The name is known, but its key isn't there.
+            self.known = None;
+            return Err(error);
+        }
+        Ok(false)
     }
 
     /// Opens a container in the innermost one, whose next value it is. The error is a failed allocation.

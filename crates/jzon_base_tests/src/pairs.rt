@@ -357,7 +357,7 @@ fn expect_numbered(rt: &impl Abort, pairs: &Pairs<usize>, names: &[String]) {
     }
 }
 
-/// Few keys of a filter, and more that have an index.
+/// Few keys of a filter, and more, all of which the second filter may know.
 #[test]
 fn knows_the_keys_of_one_hash(rt: HostRuntime) -> Result<(), Fail> {
     for count in [9, 32, 33, 300] {
@@ -365,6 +365,15 @@ fn knows_the_keys_of_one_hash(rt: HostRuntime) -> Result<(), Fail> {
         let pairs = known_of(rt.alloc(), names.as_slice())?.ok_or("a known key")?;
         expect_numbered(&rt, &pairs, names.as_slice());
     }
+    Ok(())
+}
+
+/// A filter that grows three times.
+#[test]
+fn knows_many_keys(rt: HostRuntime) -> Result<(), Fail> {
+    let names = digits_below(rt.alloc(), 3_000)?;
+    let pairs = known_of(rt.alloc(), names.as_slice())?.ok_or("a known key")?;
+    expect_numbered(&rt, &pairs, names.as_slice());
     Ok(())
 }
 
