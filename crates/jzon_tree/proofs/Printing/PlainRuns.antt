@@ -1,6 +1,6 @@
 -- Runs of plain bytes in a string.
 use Rattle.jzon_base.proofs.Common.{◌≡◌, ℕ, zero, suc, ◌+◌, ◌≤◌, ◌<◌, Bool, true, false, cond, List, [], ◌∷◌, ◌++◌}
-use Rattle.jzon_base.proofs.Common.{length, get_or, take, drop, refl, sym, ap, ◌∙◌, append-nil, arith}
+use Rattle.jzon_base.proofs.Common.{length, get_or, take, drop, refl, ap, ◌∙◌, append-nil, arith}
 use Rattle.jzon_base.proofs.Common.{take_all, drop_all, prefix_len, nat_tests, prefix_len_stops}
 use Rattle.jzon_base.specs.Private.PlainBytes.{is_plain}
 use Rattle.jzon_tree.specs.Text.{escaped, escaped_byte}

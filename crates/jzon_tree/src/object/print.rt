@@ -57,12 +57,11 @@ impl Object {
         ensures depth { 2 ^ 64 ≤ nest (view_object self.now)
             → IsOkUnless result Error.ExceededDepthLimit }
     {
-        let Ok(mut generator) = TextGenerator::with_room(alloc, layout) else {
-            return Err(inspect_object(self).refusal());
-        };
-        match write_pairs(&mut generator, self, &mut None) {
-            Ok(()) => Ok(generator.into_text()),
-            Err(_) => Err(inspect_object(self).refusal()),
+        if let Ok(mut generator) = TextGenerator::with_room(alloc, layout)
+            && let Ok(()) = write_pairs(&mut generator, self, &mut None)
+        {
+            return Ok(generator.into_text());
         }
+        Err(inspect_object(self).refusal())
     }
 }

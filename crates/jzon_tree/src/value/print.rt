@@ -69,13 +69,12 @@ impl JsonValue {
         ensures memory { nest (view self.now) < 2 ^ 64 → IsOkUnless result Error.OutOfMemory }
         ensures depth { 2 ^ 64 ≤ nest (view self.now) → IsOkUnless result Error.ExceededDepthLimit }
     {
-        let Ok(mut generator) = TextGenerator::with_room(alloc, layout) else {
-            return Err(inspect(self).refusal());
-        };
-        match write_value(&mut generator, self, &mut None) {
-            Ok(()) => Ok(generator.into_text()),
-            Err(_) => Err(inspect(self).refusal()),
+        if let Ok(mut generator) = TextGenerator::with_room(alloc, layout)
+            && let Ok(()) = write_value(&mut generator, self, &mut None)
+        {
+            return Ok(generator.into_text());
         }
+        Err(inspect(self).refusal())
     }
 
     /// Writes the compact text of the value, with no whitespace outside of its strings. An error is

@@ -9,22 +9,14 @@ into_text-requires g c =
     (laid_out (g.L.Layout.style c.args.layout) (view_object c.args.self.now) _ _ _ c.in-Ok.ensures
     c.in-Ok-write_pairs.ensures.value c.in-Ok-write_pairs.ensures.written refl).0
 
-pub returns-in-Ok-write_pairs-clause-writing : goal.returns-in-Ok-write_pairs-clause-writing
-returns-in-Ok-write_pairs-clause-writing g c =
+pub returns-clause-writing : goal.returns-clause-writing
+returns-clause-writing g c =
     subst (Writes (g.L.Layout.style c.args.layout) 0 (view_object c.args.self.now)) (sym c.into_text.ensures)
     (laid_out (g.L.Layout.style c.args.layout) (view_object c.args.self.now) _ _ _ c.in-Ok.ensures
     c.in-Ok-write_pairs.ensures.value c.in-Ok-write_pairs.ensures.written refl).1
 
-pub returns-in-Err-clause-memory : goal.returns-in-Err-clause-memory
-returns-in-Err-clause-memory g c =
-    c.refusal-in-Err.ensures.memory (view_object c.args.self.now) c.inspect_object-in-Err.ensures
+pub returns-2-clause-memory : goal.returns-2-clause-memory
+returns-2-clause-memory g c = c.refusal.ensures.memory (view_object c.args.self.now) c.inspect_object.ensures
 
-pub returns-in-Err-clause-depth : goal.returns-in-Err-clause-depth
-returns-in-Err-clause-depth g c =
-    c.refusal-in-Err.ensures.depth (view_object c.args.self.now) c.inspect_object-in-Err.ensures
-
-pub returns-in_default-clause-memory : goal.returns-in_default-clause-memory
-returns-in_default-clause-memory g c = c.refusal.ensures.memory (view_object c.args.self.now) c.inspect_object.ensures
-
-pub returns-in_default-clause-depth : goal.returns-in_default-clause-depth
-returns-in_default-clause-depth g c = c.refusal.ensures.depth (view_object c.args.self.now) c.inspect_object.ensures
+pub returns-2-clause-depth : goal.returns-2-clause-depth
+returns-2-clause-depth g c = c.refusal.ensures.depth (view_object c.args.self.now) c.inspect_object.ensures

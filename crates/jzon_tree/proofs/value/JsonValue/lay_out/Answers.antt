@@ -9,8 +9,8 @@ into_text-requires g c =
     (laid_out (g.L.Layout.style c.args.layout) (view c.args.self.now) _ _ _ c.in-Ok.ensures
     c.in-Ok-write_value.ensures.value c.in-Ok-write_value.ensures.written refl).0
 
-pub returns-in-Ok-write_value-clause-writing : goal.returns-in-Ok-write_value-clause-writing
-returns-in-Ok-write_value-clause-writing g c =
+pub returns-clause-writing : goal.returns-clause-writing
+returns-clause-writing g c =
     subst (Writes (g.L.Layout.style c.args.layout) 0 (view c.args.self.now)) (sym c.into_text.ensures)
     (laid_out (g.L.Layout.style c.args.layout) (view c.args.self.now) _ _ _ c.in-Ok.ensures
     c.in-Ok-write_value.ensures.value c.in-Ok-write_value.ensures.written refl).1
