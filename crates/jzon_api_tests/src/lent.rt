@@ -178,15 +178,19 @@ const MOVED: &[(&str, &str, &str)] = &[
     ("7", "7", "7"),
 ];
 
+fn expect_moved(rt: &impl Tester, before: &str, members: &str, entries: &str) -> Tested {
+    let mut value = parse(rt.alloc(), before)?;
+    move_members(&mut value);
+    expect_dump(rt, &value, members)?;
+    let mut value = parse(rt.alloc(), before)?;
+    move_entries(&mut value);
+    expect_dump(rt, &value, entries)
+}
+
 #[test]
 fn borrows_members_and_entries(rt: HostRuntime) -> Tested {
     for (before, members, entries) in MOVED {
-        let mut value = parse(rt.alloc(), before)?;
-        move_members(&mut value);
-        expect_dump(&rt, &value, members)?;
-        let mut value = parse(rt.alloc(), before)?;
-        move_entries(&mut value);
-        expect_dump(&rt, &value, entries)?;
+        expect_moved(&rt, before, members, entries)?;
     }
     Ok(())
 }

@@ -1,10 +1,8 @@
 //! Values that macros write.
 
-ghost use Rattle.std.specs.Prelude.{◌≡◌};
-
 use crate::common::{expect, expect_dump};
-use jzon::{Error, IntoJson, JsonValue, Result, parse};
-use jzon_test_support::{joined, keys_by_hash, object_text};
+use jzon::{Error, JsonValue, Result, parse};
+use jzon_test_support::{Unconvertible, joined, keys_by_hash, object_text};
 use std::alloc::Global;
 use std::test::Fail;
 
@@ -145,10 +143,9 @@ fn with_counted_entries(alloc: Global, calls: &mut u8) -> Result<JsonValue> {
 fn evaluates_keys_before_values(rt: HostRuntime) -> std::result::Result<(), Fail> {
     let mut calls = 0;
     let value = with_counted_entries(rt.alloc(), &mut calls)?;
-    let text = "{\"1\":2,\"3\":4,\"5\":[6],\"7\":8}";
-    expect_dump(&rt, rt.alloc(), &value, text)?;
     expect(&rt, "the calls", calls == 8);
-    Ok(())
+    let text = "{\"1\":2,\"3\":4,\"5\":[6],\"7\":8}";
+    expect_dump(&rt, rt.alloc(), &value, text)
 }
 
 /// The allocator, and one call more.
@@ -175,9 +172,8 @@ fn evaluates_allocators_once(rt: HostRuntime) -> std::result::Result<(), Fail> {
     let values = with_counted_allocs(rt.alloc(), &mut calls)?;
     let text =
         "[[1,-2,[3],{\"a\":4}],{\"a\":1,\"b\":-2,\"c\":[3],\"d\":{}},[1,-2],{\"a\":1,\"b\":-2},-5]";
-    expect_dump(&rt, rt.alloc(), &values, text)?;
     expect(&rt, "the calls", calls == 5);
-    Ok(())
+    expect_dump(&rt, rt.alloc(), &values, text)
 }
 
 /// Elements and values that are counted, of one token and of several.
@@ -194,23 +190,8 @@ fn evaluates_values_once(rt: HostRuntime) -> std::result::Result<(), Fail> {
     let mut calls = 0;
     let value = with_counted_values(rt.alloc(), &mut calls)?;
     let text = "[1,2,[3,4],{\"a\":5,\"b\":6},{\"c\":7,\"d\":8},9]";
-    expect_dump(&rt, rt.alloc(), &value, text)?;
     expect(&rt, "the calls", calls == 9);
-    Ok(())
-}
-
-/// Can't become a value: its conversion runs out of memory.
-#[derive(Drop)]
-struct Unconvertible;
-
-impl IntoJson for Unconvertible {
-    ghost means = { λ _ v. v ≡ v };
-
-    ghost is_free = { λ _. ⊥ };
-
-    fn into_json(self, _alloc: Global) -> Result<JsonValue> {
-        Err(Error::OutOfMemory)
-    }
+    expect_dump(&rt, rt.alloc(), &value, text)
 }
 
 /// One of seven uses of the macros: an expression of one token or of several, whose conversion

@@ -1,22 +1,14 @@
 //! What the tests share. To prove an assertion takes seconds, and a call of `expect` or `expect_eq`
 //! hardly any time.
 
-use jzon::number::{NAN, Number};
 use jzon::object::Object;
 use jzon::{JsonValue, Result, parse};
 use jzon_test_support::Trouble;
-use std::alloc::{AllocGlobal, Global};
+pub use jzon_test_support::{EACH_KIND, Tested, Tester, each_unread, number, parts};
+use std::alloc::Global;
 use std::fmt::Debug;
 use std::io;
 use std::process::Abort;
-use std::test::Fail;
-
-pub type Tested = std::result::Result<(), Fail>;
-
-/// The runtime of a test, which may abort it and gives its allocator.
-pub trait Tester: Abort + AllocGlobal {}
-
-impl<R: Abort + AllocGlobal> Tester for R {}
 
 /// It holds of this row.
 pub fn expect(rt: &impl Abort, row: &str, holds: bool) {
@@ -26,58 +18,6 @@ pub fn expect(rt: &impl Abort, row: &str, holds: bool) {
 /// Both are equal, in this row.
 pub fn expect_eq<T: Copy + PartialEq + Debug>(rt: &impl Abort, row: &str, found: T, want: T) {
     assert_eq!(rt; found, want, "{row}");
-}
-
-/// A number of these parts.
-pub fn parts(positive: bool, mantissa: u64, exponent: i16) -> JsonValue {
-    JsonValue::Number(Number::from_parts_unchecked(positive, mantissa, exponent))
-}
-
-/// A whole number.
-pub fn number(mantissa: u64) -> JsonValue {
-    parts(true, mantissa, 0)
-}
-
-/// A value of each kind, empty too. Its compact text is the same text.
-pub const EACH_KIND: &[&str] = &[
-    "null",
-    "true",
-    "false",
-    "0",
-    "-0",
-    "7",
-    "-12.50",
-    "1e30",
-    "18446744073709551615",
-    "\"\"",
-    "\"ab\"",
-    "\"abcdefghijklmnopqrstuvwxyz0123\"",
-    "\"abcdefghijklmnopqrstuvwxyz01234\"",
-    "[]",
-    "[1]",
-    "[\"\",[],{},-7,null,true]",
-    "{}",
-    "{\"\":\"\"}",
-    "{\"ab\":[1],\"c\":\"d\",\"\":{}}",
-];
-
-/// A value that no text is read as, or that is kept otherwise than one that was read: its compact
-/// text, and the value.
-pub fn each_unread(alloc: Global) -> jzon::Result<[(&'static str, JsonValue); 8]> {
-    let thirty = long(alloc, "abcdefghijklmnopqrstuvwxyz0123")?;
-    let mut emptied = JsonValue::new_object(alloc);
-    emptied.insert(alloc, "a", 1)?;
-    emptied.clear();
-    Ok([
-        ("null", JsonValue::Number(NAN)),
-        ("\"\"", long(alloc, "")?),
-        ("\"a\"", long(alloc, "a")?),
-        ("\"abcdefghijklmnopqrstuvwxyz0123\"", thirty),
-        ("[]", JsonValue::Array(Vec::with_capacity(alloc, 5)?)),
-        ("{}", JsonValue::Object(Object::with_capacity(alloc, 5)?)),
-        ("{}", JsonValue::Object(Object::with_capacity(alloc, 0)?)),
-        ("{}", emptied),
-    ])
 }
 
 /// All of these values, each with its compact text.
@@ -92,10 +32,13 @@ pub fn each_value(alloc: Global) -> jzon::Result<Vec<(&'static str, JsonValue)>>
     Ok(values)
 }
 
-/// An allocated string, however short.
-pub fn long(alloc: Global, text: &str) -> jzon::Result<JsonValue> {
-    Ok(JsonValue::String(String::from_str(alloc, text)?))
-}
+/// Lengths that rise by a tenth, so that no call can fail in a wider band of lengths unseen; and some
+/// at which room may double.
+pub const LENGTHS: [u16; 42] = [
+    330, 363, 399, 438, 481, 512, 513, 529, 581, 639, 702, 772, 849, 933, 1024, 1025, 1026, 1128,
+    1240, 1364, 1500, 1650, 1815, 1996, 2195, 2414, 2655, 2920, 3212, 3533, 3886, 4274, 4701, 5171,
+    5688, 6256, 6881, 7569, 8325, 9157, 10072, 11079,
+];
 
 /// The value dumps this text.
 pub fn expect_dump(rt: &impl Tester, value: &JsonValue, text: &str) -> Tested {

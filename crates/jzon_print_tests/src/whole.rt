@@ -97,92 +97,185 @@ pub fn expect_whole(rt: &impl Tester, value: &JsonValue, text: &str) -> Tested {
     Ok(())
 }
 
-/// By each call that adds an element: the array of this value alone. One had room before.
-fn arrays_of(alloc: Global, value: &JsonValue) -> Result<[JsonValue; 7]> {
-    let mut pushed = JsonValue::new_array(alloc);
-    pushed.push(alloc, value.clone(alloc)?)?;
-    let mut borrowed = JsonValue::Array(Vec::with_capacity(alloc, 5)?);
-    *borrowed.at_index_mut(alloc, 0)? = value.clone(alloc)?;
-    let mut written = JsonValue::new_array(alloc);
-    write_at_index(&mut written, alloc, 0, value.clone(alloc)?)?;
-    let items = vec![in alloc; value.clone(alloc)?]?;
-    let sliced = items.as_slice().into_json(alloc)?;
-    let item = value.clone(alloc)?;
-    Ok([
-        pushed,
-        borrowed,
-        written,
-        sliced,
-        items.into_json(alloc)?,
-        array![alloc; item],
-        array![alloc; value.clone(alloc)?],
-    ])
+/// How an array of one value is made. For `AtIndexMut` it has room before.
+#[derive(Clone, Copy)]
+enum ArrayBy {
+    Push,
+    AtIndexMut,
+    WriteAtIndex,
+    Slice,
+    List,
+    Name,
+    Expression,
 }
 
-/// The same for values: the object of this entry alone, the key missing before.
-fn values_of(alloc: Global, key: &str, value: &JsonValue) -> Result<[JsonValue; 7]> {
-    let mut inserted = JsonValue::new_object(alloc);
-    inserted.insert(alloc, key, value.clone(alloc)?)?;
-    let mut replaced = object! {alloc; [key]: 1};
-    replaced.insert(alloc, key, value.clone(alloc)?)?;
-    let mut borrowed = JsonValue::Null;
-    *borrowed.at_mut(alloc, key)? = value.clone(alloc)?;
-    let mut written = JsonValue::Null;
-    write_at(&mut written, alloc, key, value.clone(alloc)?)?;
-    let mut present = object! {alloc; [key]: true};
-    write_present(&mut present, key, value.clone(alloc)?);
-    let item = value.clone(alloc)?;
-    Ok([
-        inserted,
-        replaced,
-        borrowed,
-        written,
-        present,
-        object! {alloc; [key]: item},
-        object! {alloc; [key]: value.clone(alloc)?},
-    ])
+const ARRAYS: [ArrayBy; 7] = [
+    ArrayBy::Push,
+    ArrayBy::AtIndexMut,
+    ArrayBy::WriteAtIndex,
+    ArrayBy::Slice,
+    ArrayBy::List,
+    ArrayBy::Name,
+    ArrayBy::Expression,
+];
+
+impl ArrayBy {
+    fn array(self, alloc: Global, value: &JsonValue) -> Result<JsonValue> {
+        let item = value.clone(alloc)?;
+        let mut array = JsonValue::new_array(alloc);
+        match self {
+            ArrayBy::Push => array.push(alloc, item)?,
+            ArrayBy::AtIndexMut => {
+                array = JsonValue::Array(Vec::with_capacity(alloc, 5)?);
+                *array.at_index_mut(alloc, 0)? = item;
+            }
+            ArrayBy::WriteAtIndex => write_at_index(&mut array, alloc, 0, item)?,
+            ArrayBy::Slice => return vec![in alloc; item]?.as_slice().into_json(alloc),
+            ArrayBy::List => return vec![in alloc; item]?.into_json(alloc),
+            ArrayBy::Name => return Ok(array![alloc; item]),
+            ArrayBy::Expression => return Ok(array![alloc; value.clone(alloc)?]),
+        }
+        Ok(array)
+    }
 }
 
-/// The same by the calls of objects and of maps. One object had room before.
-fn objects_of(alloc: Global, key: &str, value: &JsonValue) -> Result<[Object; 5]> {
-    let mut inserted = Object::new(alloc);
-    inserted.insert(alloc, key, value.clone(alloc)?)?;
-    let mut borrowed = Object::with_capacity(alloc, 5)?;
-    *borrowed.at_mut(alloc, key)? = value.clone(alloc)?;
-    let pairs = Object::from_pairs(alloc, [(key, value.clone(alloc)?)].into_iter())?;
-    let collected: Object = [(key, value.clone(alloc)?)].into_iter().collect(alloc)?;
+/// How an object of one entry is made, of a value whose key is missing or present before.
+#[derive(Clone, Copy)]
+enum ValueBy {
+    Insert,
+    InsertOver,
+    AtMut,
+    WriteAt,
+    WritePresent,
+    Name,
+    Expression,
+}
+
+const VALUES: [ValueBy; 7] = [
+    ValueBy::Insert,
+    ValueBy::InsertOver,
+    ValueBy::AtMut,
+    ValueBy::WriteAt,
+    ValueBy::WritePresent,
+    ValueBy::Name,
+    ValueBy::Expression,
+];
+
+impl ValueBy {
+    /// The value before.
+    fn before(self, alloc: Global, key: &str) -> Result<JsonValue> {
+        match self {
+            ValueBy::Insert => Ok(JsonValue::new_object(alloc)),
+            ValueBy::InsertOver => Ok(object! {alloc; [key]: 1}),
+            ValueBy::WritePresent => Ok(object! {alloc; [key]: true}),
+            _ => Ok(JsonValue::Null),
+        }
+    }
+
+    fn object(self, alloc: Global, key: &str, value: &JsonValue) -> Result<JsonValue> {
+        let item = value.clone(alloc)?;
+        let mut object = self.before(alloc, key)?;
+        match self {
+            ValueBy::Insert | ValueBy::InsertOver => object.insert(alloc, key, item)?,
+            ValueBy::AtMut => *object.at_mut(alloc, key)? = item,
+            ValueBy::WriteAt => write_at(&mut object, alloc, key, item)?,
+            ValueBy::WritePresent => drop(write_present(&mut object, key, item)),
+            ValueBy::Name => return Ok(object! {alloc; [key]: item}),
+            ValueBy::Expression => return Ok(object! {alloc; [key]: value.clone(alloc)?}),
+        }
+        Ok(object)
+    }
+}
+
+/// The same by the calls of objects and of maps. For `AtMut` it has room before.
+#[derive(Clone, Copy)]
+enum ObjectBy {
+    Insert,
+    AtMut,
+    Pairs,
+    Collect,
+    Map,
+}
+
+const OBJECTS: [ObjectBy; 5] = [
+    ObjectBy::Insert,
+    ObjectBy::AtMut,
+    ObjectBy::Pairs,
+    ObjectBy::Collect,
+    ObjectBy::Map,
+];
+
+/// A map of this entry as an object.
+fn mapped(alloc: Global, key: &str, item: JsonValue) -> Result<Object> {
     let mut map = BTreeMap::new(alloc);
-    map.insert(String::from_str(alloc, key)?, value.clone(alloc)?)?;
-    let mapped = match map.into_json(alloc)? {
-        JsonValue::Object(object) => object,
-        _ => Object::new(alloc),
-    };
-    Ok([inserted, borrowed, pairs, collected, mapped])
+    map.insert(String::from_str(alloc, key)?, item)?;
+    match map.into_json(alloc)? {
+        JsonValue::Object(object) => Ok(object),
+        _ => Ok(Object::new(alloc)),
+    }
+}
+
+impl ObjectBy {
+    fn object(self, alloc: Global, key: &str, value: &JsonValue) -> Result<Object> {
+        let item = value.clone(alloc)?;
+        let mut object = Object::new(alloc);
+        match self {
+            ObjectBy::Insert => object.insert(alloc, key, item)?,
+            ObjectBy::AtMut => {
+                object = Object::with_capacity(alloc, 5)?;
+                *object.at_mut(alloc, key)? = item;
+            }
+            ObjectBy::Pairs => return Object::from_pairs(alloc, [(key, item)].into_iter()),
+            ObjectBy::Collect => return Ok([(key, item)].into_iter().collect(alloc)?),
+            ObjectBy::Map => return mapped(alloc, key, item),
+        }
+        Ok(object)
+    }
 }
 
 /// Keys that are empty, short and allocated.
 const KEYS: [&str; 3] = ["", "a", "0123456789abcdef0123456789abcdef01234567"];
 
+/// A key, its value, and the text of an object of this entry alone.
+type Entry<'a> = (&'a str, &'a JsonValue, &'a str);
+
+/// The array prints this text, and gives the value back.
+fn expect_element(rt: &impl Tester, mut array: JsonValue, value: &JsonValue, text: &str) -> Tested {
+    expect_dump(rt, &array, text)?;
+    expect(rt, "pop", array.pop() == *value && array.is_empty());
+    Ok(())
+}
+
+fn expect_entry(rt: &impl Tester, mut object: JsonValue, (key, value, text): Entry<'_>) -> Tested {
+    expect_dump(rt, &object, text)?;
+    let removed = object.remove(key);
+    expect(rt, "remove", removed == *value && object.is_empty());
+    Ok(())
+}
+
+fn expect_only(rt: &impl Tester, mut object: Object, (key, value, text): Entry<'_>) -> Tested {
+    expect_object(rt, &object, text)?;
+    let removed = object.remove(key);
+    expect(rt, "Object::remove", removed.as_ref() == Some(value));
+    expect(rt, "what is left", object.is_empty());
+    Ok(())
+}
+
 /// The value is held by each of these, and is what they print and give back.
 pub fn expect_held(rt: &impl Tester, key: &str, value: &JsonValue, text: &str) -> Tested {
     let alloc = rt.alloc();
     let list = joined(alloc, &[("[", 1), (text, 1), ("]", 1)])?;
-    for mut array in arrays_of(alloc, value)? {
-        expect_dump(rt, &array, list.as_str())?;
-        expect(rt, "pop", array.pop() == *value && array.is_empty());
+    for call in ARRAYS {
+        expect_element(rt, call.array(alloc, value)?, value, list.as_str())?;
     }
     let name = stringify(alloc, key)?;
     let whole = format!(in alloc; "{{{name}:{text}}}")?;
-    for mut object in values_of(alloc, key, value)? {
-        expect_dump(rt, &object, whole.as_str())?;
-        let removed = object.remove(key);
-        expect(rt, "remove", removed == *value && object.is_empty());
+    let entry = (key, value, whole.as_str());
+    for call in VALUES {
+        expect_entry(rt, call.object(alloc, key, value)?, entry)?;
     }
-    for mut object in objects_of(alloc, key, value)? {
-        expect_object(rt, &object, whole.as_str())?;
-        let removed = object.remove(key);
-        expect(rt, "Object::remove", removed.as_ref() == Some(value));
-        expect(rt, "what is left", object.is_empty());
+    for call in OBJECTS {
+        expect_only(rt, call.object(alloc, key, value)?, entry)?;
     }
     Ok(())
 }

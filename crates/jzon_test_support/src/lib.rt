@@ -15,6 +15,7 @@ pub use slow_writer::{FAILURES, NO_FAILING_CALL, SlowWriter, Trouble, WORDS, is_
 use std::alloc::{AllocError, AllocGlobal, Global};
 use std::process::Abort;
 use std::test::Fail;
+pub use values::{EACH_KIND, Unconvertible, each_unread, long, number, parts};
 
 /// What a test returns, and what checks a part of it.
 pub type Tested = Result<(), Fail>;
@@ -23,8 +24,6 @@ pub type Tested = Result<(), Fail>;
 pub trait Tester: Abort + AllocGlobal {}
 
 impl<R: Abort + AllocGlobal> Tester for R {}
-
-pub use values::{EACH_KIND, each_unread, long, number, parts};
 
 /// A JSON text with a value of each kind but a boolean.
 pub const DOCUMENT: &str = "{\"a\":[1,-0.5e+2,\"x\\u00e9\\uD834\\uDD1E\"],\"b\":null}";
@@ -35,6 +34,12 @@ pub const DUMP: &str = "{\"a\":[1,-50,\"xé\u{1d11e}\"],\"b\":null}";
 /// What its value prints on lines, with two spaces for each open container.
 pub const PRETTY: &str =
     "{\n  \"a\": [\n    1,\n    -50,\n    \"xé\u{1d11e}\"\n  ],\n  \"b\": null\n}";
+
+/// The rows of a table, each on a line of its own.
+#[macro_export]
+macro_rules! rows {
+    ($($row:tt)*) => { &[$($row),*] };
+}
 
 /// Concatenates texts, each repeated as often as its number says.
 pub fn joined(alloc: Global, parts: &[(&str, usize)]) -> Result<String, AllocError> {

@@ -1,7 +1,10 @@
-//! Values of each kind.
+//! Values of each kind, and what can't become a value.
 
-use jzon_base::error::Result;
+ghost use Rattle.std.specs.Prelude.{◌≡◌};
+
+use jzon_base::error::{Error, Result};
 use jzon_base::number::{NAN, Number};
+use jzon_tree::into_json::IntoJson;
 use jzon_tree::object::Object;
 use jzon_tree::value::JsonValue;
 use std::alloc::Global;
@@ -61,4 +64,18 @@ pub fn each_unread(alloc: Global) -> Result<[(&'static str, JsonValue); 8]> {
         ("{}", JsonValue::Object(Object::with_capacity(alloc, 0)?)),
         ("{}", emptied),
     ])
+}
+
+/// Can't become a value: its conversion runs out of memory.
+#[derive(Drop)]
+pub struct Unconvertible;
+
+impl IntoJson for Unconvertible {
+    ghost means = { λ _ v. v ≡ v };
+
+    ghost is_free = { λ _. ⊥ };
+
+    fn into_json(self, _alloc: Global) -> Result<JsonValue> {
+        Err(Error::OutOfMemory)
+    }
 }
