@@ -1,9 +1,15 @@
 //! Calls that allocate, with each of their allocations failing in turn. Each run must free all that
 //! it allocates, the argument of a call that fails too.
 
-/// The rows of a table, each on a line of its own.
-macro_rules! rows {
-    ($($row:tt)*) => { &[$($row),*] };
+/// The object of a map of this type, with a key and a value for each of these items.
+macro_rules! mapped {
+    ($map:ident, $alloc:ident, $item:ident in $items:expr, $key:expr, $value:expr) => {{
+        let mut map = $map::new($alloc);
+        for $item in $items {
+            map.insert($key?, $value?)?;
+        }
+        map.into_json($alloc)?
+    }};
 }
 
 mod built;
@@ -16,7 +22,7 @@ mod owned;
 mod requested_bytes;
 
 use jzon::{Error, JsonValue, Result, parse};
-use jzon_test_support::{RUNS_MAX, Refusals};
+use jzon_test_support::{RUNS_MAX, Refusals, rows};
 use std::alloc::Global;
 use std::process::Abort;
 use std::test::Fail;

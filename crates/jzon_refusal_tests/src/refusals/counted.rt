@@ -130,21 +130,13 @@ fn paired(alloc: Global, count: u32) -> Result<()> {
     Ok(())
 }
 
-fn mapped(alloc: Global, count: u32) -> Result<()> {
-    let mut map = BTreeMap::new(alloc);
-    for number in 0..count {
-        map.insert(long_text(alloc, number)?, long_item(alloc)?)?;
-    }
-    drop(map.into_json(alloc)?);
+fn map(alloc: Global, count: u32) -> Result<()> {
+    drop(mapped!(BTreeMap, alloc, n in 0..count, long_text(alloc, n), long_item(alloc)));
     Ok(())
 }
 
-fn hash_mapped(alloc: Global, count: u32) -> Result<()> {
-    let mut map = HashMap::new(alloc);
-    for number in 0..count {
-        map.insert(long_text(alloc, number)?, long_item(alloc)?)?;
-    }
-    drop(map.into_json(alloc)?);
+fn hash_map(alloc: Global, count: u32) -> Result<()> {
+    drop(mapped!(HashMap, alloc, n in 0..count, long_text(alloc, n), long_item(alloc)));
     Ok(())
 }
 
@@ -285,8 +277,8 @@ impl Counted for Freed {
             }
             Freed::InsertNew | Freed::AtMutNew => insert_each(self, alloc, count)?,
             Freed::FromPairs => paired(alloc, count)?,
-            Freed::Map => mapped(alloc, count)?,
-            Freed::HashMap => hash_mapped(alloc, count)?,
+            Freed::Map => map(alloc, count)?,
+            Freed::HashMap => hash_map(alloc, count)?,
             _ => self.call_on(owned_object(alloc, count)?, alloc)?,
         }
         Ok(())
@@ -321,51 +313,48 @@ fn expect_freed<C: Counted>(
     Ok(())
 }
 
-const FREED: &[(Freed, &str)] = &[
-    (Freed::Drop, "drop of an object"),
-    (Freed::Clear, "Object::clear"),
-    (Freed::Retain, "Object::retain"),
-    (Freed::Remove, "Object::remove"),
-    (Freed::DropUnread, "into_iter that isn't read"),
-    (Freed::DropHalfRead, "into_iter that is read half"),
-    (Freed::Read, "into_iter from the back"),
-    (Freed::OverrideLast, "Object::override_last"),
-    (Freed::Clone, "Object::clone"),
-    (Freed::StdClone, "std's Clone of an object"),
-    (Freed::Insert, "insert over each string"),
-    (Freed::AtMut, "at_mut of each string"),
-    (Freed::WriteAt, "write_at over each string"),
-    (Freed::WritePresent, "write_present over each string"),
-    (Freed::InsertNew, "insert of each key"),
-    (Freed::AtMutNew, "at_mut of each key"),
-    (Freed::FromPairs, "Object::from_pairs"),
-    (Freed::Map, "into_json of a map"),
-    (Freed::HashMap, "into_json of a hash map"),
-    (Freed::Print, "texts of an object"),
-];
+const FREED: &[(Freed, &str)] = rows! {
+    (Freed::Drop, "drop of an object")
+    (Freed::Clear, "Object::clear")
+    (Freed::Retain, "Object::retain")
+    (Freed::Remove, "Object::remove")
+    (Freed::DropUnread, "into_iter that isn't read")
+    (Freed::DropHalfRead, "into_iter that is read half")
+    (Freed::Read, "into_iter from the back")
+    (Freed::OverrideLast, "Object::override_last")
+    (Freed::Clone, "Object::clone")
+    (Freed::StdClone, "std's Clone of an object")
+    (Freed::Insert, "insert over each string")
+    (Freed::AtMut, "at_mut of each string")
+    (Freed::WriteAt, "write_at over each string")
+    (Freed::WritePresent, "write_present over each string")
+    (Freed::InsertNew, "insert of each key")
+    (Freed::AtMutNew, "at_mut of each key")
+    (Freed::FromPairs, "Object::from_pairs")
+    (Freed::Map, "into_json of a map")
+    (Freed::HashMap, "into_json of a hash map")
+    (Freed::Print, "texts of an object")
+};
 
-const FREED_OF_ARRAY: &[(FreedOfArray, &str)] = &[
-    (FreedOfArray::Drop, "drop of an array"),
-    (FreedOfArray::Clear, "clear of an array"),
-    (FreedOfArray::Pop, "pop of each string"),
-    (FreedOfArray::ArrayRemove, "array_remove"),
-    (FreedOfArray::MembersMut, "members_mut, each written"),
-    (
-        FreedOfArray::WriteAtIndex,
-        "write_at_index over each string",
-    ),
-    (FreedOfArray::AtMut, "at_mut of an array"),
-    (FreedOfArray::AtIndexMut, "at_index_mut, written"),
-    (FreedOfArray::Take, "take of an array"),
-    (FreedOfArray::TakeString, "take_string of each string"),
-    (FreedOfArray::Clone, "clone of an array"),
-    (FreedOfArray::StdClone, "std's Clone of an array"),
-    (FreedOfArray::Slice, "into_json of a slice of strings"),
-    (FreedOfArray::Push, "push of each string"),
-    (FreedOfArray::Append, "at_index_mut past the end"),
-    (FreedOfArray::Print, "texts of an array"),
-    (FreedOfArray::DropGenerator, "drop of a generator"),
-];
+const FREED_OF_ARRAY: &[(FreedOfArray, &str)] = rows! {
+    (FreedOfArray::Drop, "drop of an array")
+    (FreedOfArray::Clear, "clear of an array")
+    (FreedOfArray::Pop, "pop of each string")
+    (FreedOfArray::ArrayRemove, "array_remove")
+    (FreedOfArray::MembersMut, "members_mut, each written")
+    (FreedOfArray::WriteAtIndex, "write_at_index over each string")
+    (FreedOfArray::AtMut, "at_mut of an array")
+    (FreedOfArray::AtIndexMut, "at_index_mut, written")
+    (FreedOfArray::Take, "take of an array")
+    (FreedOfArray::TakeString, "take_string of each string")
+    (FreedOfArray::Clone, "clone of an array")
+    (FreedOfArray::StdClone, "std's Clone of an array")
+    (FreedOfArray::Slice, "into_json of a slice of strings")
+    (FreedOfArray::Push, "push of each string")
+    (FreedOfArray::Append, "at_index_mut past the end")
+    (FreedOfArray::Print, "texts of an array")
+    (FreedOfArray::DropGenerator, "drop of a generator")
+};
 
 #[test]
 fn freed_counted(rt: HostRuntime) -> Tested {

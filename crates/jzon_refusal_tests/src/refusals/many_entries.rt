@@ -65,26 +65,16 @@ fn repeated(alloc: Global, keys: &[String]) -> Result<Object> {
     Object::from_pairs(alloc, names.zip(texts))
 }
 
-fn mapped(alloc: Global, keys: &[String]) -> Result<usize> {
-    let mut map = BTreeMap::new(alloc);
-    for key in keys {
-        map.insert(
-            key.clone()?,
-            String::from_str(alloc, text_for(key.as_str()))?,
-        )?;
-    }
-    Ok(map.into_json(alloc)?.len())
+fn owned_text(alloc: Global, key: &str) -> Result<String> {
+    Ok(String::from_str(alloc, text_for(key))?)
 }
 
-fn hash_mapped(alloc: Global, keys: &[String]) -> Result<usize> {
-    let mut map = HashMap::new(alloc);
-    for key in keys {
-        map.insert(
-            key.clone()?,
-            String::from_str(alloc, text_for(key.as_str()))?,
-        )?;
-    }
-    Ok(map.into_json(alloc)?.len())
+fn map(alloc: Global, keys: &[String]) -> Result<usize> {
+    Ok(mapped!(BTreeMap, alloc, key in keys, key.clone(), owned_text(alloc, key)).len())
+}
+
+fn hash_map(alloc: Global, keys: &[String]) -> Result<usize> {
+    Ok(mapped!(HashMap, alloc, key in keys, key.clone(), owned_text(alloc, key)).len())
 }
 
 /// Reads an object, removes its keys of one digit, and drops the rest. Returns how many were left.
@@ -143,8 +133,8 @@ impl Grown {
         match self {
             Grown::Parse(_) => reduced_one(alloc, keys, false),
             Grown::ParseStrictly(_) => reduced_one(alloc, keys, true),
-            Grown::Map => mapped(alloc, keys),
-            Grown::HashMap => hash_mapped(alloc, keys),
+            Grown::Map => map(alloc, keys),
+            Grown::HashMap => hash_map(alloc, keys),
             _ => Ok(self.make(alloc, keys)?.len()),
         }
     }
