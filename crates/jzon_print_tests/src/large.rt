@@ -1,9 +1,9 @@
 //! Values far beyond what is kept inline, compared in place, made room for in advance, or counted
 //! in 16 bits: each call that may run out of memory succeeds at eleven hundred elements or entries,
-//! those that make or print a value also at 70,000, at long strings, at 70,000 escapes, at arrays
-//! and objects 1,100 deep, and at the widest indents.
+//! those that make or print a value also at lengths that rise by a tenth and at 70,000, at long
+//! strings, at 70,000 escapes, at arrays and objects 1,100 deep, and at the widest indents.
 
-use crate::common::{Tested, Tester, expect};
+use crate::common::{LENGTHS, Tested, Tester, expect};
 use crate::whole::{expect_held, expect_lines, expect_object, expect_printed, expect_whole};
 use jzon::lent::{write_at, write_at_index};
 use jzon::object::Object;
@@ -30,149 +30,259 @@ fn names(alloc: Global, count: u32) -> std::result::Result<Vec<String>, AllocErr
     Ok(names)
 }
 
-/// `[0,1,2` and so on, `count` elements.
-fn array_text(alloc: Global, count: u32) -> std::result::Result<String, AllocError> {
-    let mut text = String::from_str(alloc, "[0")?;
-    for number in 1..count {
-        text.push_str(format!(in alloc; ",{number}")?.as_str())?;
+/// The text of an array of the numbers below `count`, or of an object with each under its name.
+fn numbers_text(
+    alloc: Global,
+    count: u32,
+    is_object: bool,
+) -> std::result::Result<String, AllocError> {
+    let (open, close) = if is_object { ('{', '}') } else { ('[', ']') };
+    let mut text = String::new(alloc);
+    for number in 0..count {
+        text.push(if text.is_empty() { open } else { ',' })?;
+        if is_object {
+            text.push_str(format!(in alloc; "\"{number:05}\":")?.as_str())?;
+        }
+        text.push_str(format!(in alloc; "{number}")?.as_str())?;
     }
-    text.push(']')?;
+    text.push(close)?;
     Ok(text)
 }
 
-/// `{"00000":0,"00001":1` and so on, `count` entries.
-fn numbers_by_name(alloc: Global, count: u32) -> std::result::Result<String, AllocError> {
-    let mut text = String::from_str(alloc, "{\"00000\":0")?;
-    for number in 1..count {
-        text.push_str(format!(in alloc; ",\"{number:05}\":{number}")?.as_str())?;
-    }
-    text.push('}')?;
-    Ok(text)
-}
+/// What a string begins with, a piece that it repeats, and what comes after the pieces.
+type Spelling = [&'static str; 3];
 
-/// A piece, how often a string has it, what comes after it, and both as they are printed: 200,000
-/// bytes that are written as they are, without and with escapes after them, and 200 and 350,000 bytes
-/// with an escape in every five.
-const STRINGS: [(&str, usize, &str, &str, &str); 4] = [
-    ("plain", 40000, "", "plain", ""),
-    ("plain", 40000, "\u{1}é\"", "plain", "\\u0001é\\\""),
-    ("ab\né", 40, "", "ab\\né", ""),
-    ("ab\né", 70000, "", "ab\\né", ""),
+/// How often a string repeats its piece, how it is spelled, and how it is printed: 200,000 bytes that
+/// are written as they are, without and with escapes after them, and 200 and 350,000 bytes with an
+/// escape in every five.
+const STRINGS: [(u32, Spelling, Spelling); 4] = [
+    (40000, ["", "plain", ""], ["", "plain", ""]),
+    (
+        40000,
+        ["", "plain", "\u{1}é\""],
+        ["", "plain", "\\u0001é\\\""],
+    ),
+    (40, ["", "ab\né", ""], ["", "ab\\né", ""]),
+    (70000, ["", "ab\né", ""], ["", "ab\\né", ""]),
 ];
 
-/// These strings, each with its text.
+/// Strings of each length: plain, and between escapes.
+const OF_EACH_LENGTH: [(Spelling, Spelling); 2] = [
+    (["", "p", ""], ["", "p", ""]),
+    (["\n", "p", "\n"], ["\\n", "p", "\\n"]),
+];
+
+/// A string, and its text.
+fn string_of(
+    alloc: Global,
+    count: u32,
+    [start, piece, end]: Spelling,
+    [printed_start, printed, printed_end]: Spelling,
+) -> std::result::Result<(String, String), AllocError> {
+    let count = count as usize;
+    let string = joined(alloc, &[(start, 1), (piece, count), (end, 1)])?;
+    let parts = [
+        ("\"", 1),
+        (printed_start, 1),
+        (printed, count),
+        (printed_end, 1),
+        ("\"", 1),
+    ];
+    Ok((string, joined(alloc, &parts)?))
+}
+
+/// All these strings, each with its text.
 fn strings(alloc: Global) -> std::result::Result<Vec<(String, String)>, AllocError> {
     let mut strings = Vec::new(alloc);
-    for (piece, count, end, printed, printed_end) in STRINGS {
-        let string = joined(alloc, &[(piece, count), (end, 1)])?;
-        let parts = [("\"", 1), (printed, count), (printed_end, 1), ("\"", 1)];
-        strings.push((string, joined(alloc, &parts)?))?;
+    for (count, spelling, printed) in STRINGS {
+        strings.push(string_of(alloc, count, spelling, printed)?)?;
+    }
+    for len in LENGTHS {
+        for (spelling, printed) in OF_EACH_LENGTH {
+            strings.push(string_of(alloc, u32::from(len), spelling, printed)?)?;
+        }
     }
     Ok(strings)
 }
 
-/// Also as elements, which `Display` too shows in quotes and escaped.
+/// Each call that makes, takes or prints a string does so with this one. A text that ends after the
+/// string isn't read.
+fn expect_string(rt: &impl Tester, string: &str, text: &str) -> Tested {
+    let alloc = rt.alloc();
+    expect_whole(rt, &string.into_json(alloc)?, text)?;
+    let owned = String::from_str(alloc, string)?;
+    expect_whole(rt, &owned.into_json(alloc)?, text)?;
+    let printed = stringify(alloc, string)?;
+    expect(rt, "stringify", printed.as_str() == text);
+    let printed = stringify_pretty(alloc, string, 2)?;
+    expect(rt, "stringify_pretty", printed.as_str() == text);
+    let taken = parse(alloc, text)?.take_string(alloc)?;
+    expect(rt, "take_string", taken.as_deref() == Some(string));
+    let cut = joined(alloc, &[("[", 1), (text, 1)])?;
+    expect(rt, "no end", parse(alloc, cut.as_str()).is_err());
+    Ok(())
+}
+
+/// `Display` too shows the strings in an array in quotes and escaped.
 #[test]
 fn long_strings(rt: HostRuntime) -> Tested {
     let alloc = rt.alloc();
     for (string, text) in &strings(alloc)? {
-        let (string, text) = (string.as_str(), text.as_str());
-        expect_whole(&rt, &string.into_json(alloc)?, text)?;
-        let owned = String::from_str(alloc, string)?;
-        expect_whole(&rt, &owned.into_json(alloc)?, text)?;
-        let printed = stringify(alloc, string)?;
-        expect(&rt, "stringify", printed.as_str() == text);
-        let printed = stringify_pretty(alloc, string, 2)?;
-        expect(&rt, "stringify_pretty", printed.as_str() == text);
-        let taken = parse(alloc, text)?.take_string(alloc)?;
-        expect(&rt, "take_string", taken.as_deref() == Some(string));
+        expect_string(&rt, string, text)?;
         let inside = joined(alloc, &[("[", 1), (text, 1), ("]", 1)])?;
-        let array = parse(alloc, inside.as_str())?;
-        expect_whole(&rt, &array, inside.as_str())?;
+        expect_whole(&rt, &parse(alloc, inside.as_str())?, inside.as_str())?;
     }
     Ok(())
 }
 
-/// Each call that puts an entry puts it under these keys, also with the key as its value.
+/// Each call that puts an entry puts it under this key, also with the key as its value.
+fn expect_key(rt: &impl Tester, key: &str, text: &str) -> Tested {
+    let alloc = rt.alloc();
+    expect_held(rt, key, &JsonValue::from(1), "1")?;
+    let parts = [("{", 1), (text, 1), (":", 1), (text, 1), ("}", 1)];
+    let whole = joined(alloc, &parts)?;
+    let mut object = JsonValue::new_object(alloc);
+    object.insert(alloc, key, key)?;
+    expect_whole(rt, &object, whole.as_str())
+}
+
 #[test]
 fn long_keys(rt: HostRuntime) -> Tested {
-    let alloc = rt.alloc();
-    for (key, text) in &strings(alloc)? {
-        let (key, text) = (key.as_str(), text.as_str());
-        expect_held(&rt, key, &JsonValue::from(1), "1")?;
-        let parts = [("{", 1), (text, 1), (":", 1), (text, 1), ("}", 1)];
-        let whole = joined(alloc, &parts)?;
-        let mut object = JsonValue::new_object(alloc);
-        object.insert(alloc, key, key)?;
-        expect_whole(&rt, &object, whole.as_str())?;
+    for (key, text) in &strings(rt.alloc())? {
+        expect_key(&rt, key, text)?;
     }
     Ok(())
 }
 
-/// By each call that makes an array longer, and by the conversion of a list and of a slice.
-fn arrays(alloc: Global, count: u32) -> Result<[JsonValue; 5]> {
-    let mut pushed = JsonValue::new_array(alloc);
-    let mut indexed = JsonValue::new_array(alloc);
-    let mut written = JsonValue::new_array(alloc);
-    for number in 0..count {
-        pushed.push(alloc, number)?;
-        *indexed.at_index_mut(alloc, usize::MAX)? = JsonValue::from(number);
-        write_at_index(&mut written, alloc, usize::MAX, JsonValue::from(number))?;
+/// The calls that make an array longer, and the conversions of a slice and of a list.
+#[derive(Clone, Copy)]
+enum ArrayBy {
+    Slice,
+    List,
+    Push,
+    AtIndexMut,
+    WriteAtIndex,
+}
+
+const ARRAYS: [ArrayBy; 5] = [
+    ArrayBy::Slice,
+    ArrayBy::List,
+    ArrayBy::Push,
+    ArrayBy::AtIndexMut,
+    ArrayBy::WriteAtIndex,
+];
+
+impl ArrayBy {
+    fn add(self, array: &mut JsonValue, alloc: Global, number: u32) -> Result<()> {
+        match self {
+            ArrayBy::Push => array.push(alloc, number)?,
+            ArrayBy::AtIndexMut => {
+                *array.at_index_mut(alloc, usize::MAX)? = JsonValue::from(number);
+            }
+            _ => write_at_index(array, alloc, usize::MAX, JsonValue::from(number))?,
+        }
+        Ok(())
     }
-    let numbers: Vec<u32> = (0..count).collect(alloc)?;
-    let sliced = numbers.as_slice().into_json(alloc)?;
-    Ok([pushed, indexed, written, sliced, numbers.into_json(alloc)?])
+
+    /// The array of the numbers below `count`.
+    fn array(self, alloc: Global, count: u32) -> Result<JsonValue> {
+        let numbers: Vec<u32> = (0..count).collect(alloc)?;
+        match self {
+            ArrayBy::Slice => numbers.as_slice().into_json(alloc),
+            ArrayBy::List => numbers.into_json(alloc),
+            _ => self.added(alloc, count),
+        }
+    }
+
+    fn added(self, alloc: Global, count: u32) -> Result<JsonValue> {
+        let mut array = JsonValue::new_array(alloc);
+        for number in 0..count {
+            self.add(&mut array, alloc, number)?;
+        }
+        Ok(array)
+    }
+}
+
+fn expect_long_array(rt: &impl Tester, mut array: JsonValue, text: &str) -> Tested {
+    expect_whole(rt, &array, text)?;
+    expect(rt, "pop", array.pop().eq_u64(1099));
+    expect(rt, "array_remove", array.array_remove(500).eq_u64(500));
+    expect(rt, "the length", array.len() == 1098);
+    expect(rt, "at_index", array.at_index(500).eq_u64(501));
+    Ok(())
 }
 
 #[test]
 fn long_arrays(rt: HostRuntime) -> Tested {
-    let alloc = rt.alloc();
-    let text = array_text(alloc, COUNT)?;
-    for mut array in arrays(alloc, COUNT)? {
-        expect_whole(&rt, &array, text.as_str())?;
-        expect(&rt, "pop", array.pop().eq_u64(1099));
-        expect(&rt, "array_remove", array.array_remove(500).eq_u64(500));
-        expect(&rt, "the length", array.len() == 1098);
-        expect(&rt, "at_index", array.at_index(500).eq_u64(501));
+    let text = numbers_text(rt.alloc(), COUNT, false)?;
+    for call in ARRAYS {
+        expect_long_array(&rt, call.array(rt.alloc(), COUNT)?, text.as_str())?;
+    }
+    Ok(())
+}
+
+/// An array of this length by each of these calls is the one of its text.
+fn expect_elements(rt: &impl Tester, count: u32) -> Tested {
+    let whole = parse(rt.alloc(), numbers_text(rt.alloc(), count, false)?.as_str())?;
+    for call in ARRAYS {
+        expect(rt, "the whole", call.array(rt.alloc(), count)? == whole);
     }
     Ok(())
 }
 
 #[test]
 fn many_elements(rt: HostRuntime) -> Tested {
-    let alloc = rt.alloc();
-    let text = array_text(alloc, MANY)?;
-    let whole = parse(alloc, text.as_str())?;
-    expect_printed(&rt, &whole, text.as_str())?;
-    for array in arrays(alloc, MANY)? {
-        expect(&rt, "the whole", array == whole);
+    for count in LENGTHS {
+        expect_elements(&rt, u32::from(count))?;
     }
+    expect_elements(&rt, MANY)?;
+    let text = numbers_text(rt.alloc(), MANY, false)?;
+    expect_printed(&rt, &parse(rt.alloc(), text.as_str())?, text.as_str())
+}
+
+/// Copies of the value equal it, and it prints this text.
+fn expect_text(rt: &impl Tester, value: &JsonValue, text: &str) -> Tested {
+    let alloc = rt.alloc();
+    expect(rt, "clone", value.clone(alloc)? == *value);
+    expect(rt, "dump", value.dump(alloc)?.as_str() == text);
+    let shown = format!(in alloc; "{value}")?;
+    expect(rt, "Display", shown.as_str() == text);
+    let mut bytes: Vec<u8> = Vec::new(alloc);
+    value.write(&mut bytes)?;
+    expect(rt, "write", bytes.as_slice() == text.as_bytes());
     Ok(())
 }
 
-/// Texts of an array and an object of this length are read, also strictly.
-fn expect_length(rt: &impl Tester, count: u32) -> Tested {
+/// The text is read as a container of this length, also strictly, and also inside an array, which is
+/// copied and printed.
+fn expect_length(rt: &impl Tester, text: &str, len: usize) -> Tested {
     let alloc = rt.alloc();
     let strict = Reading::new(true, 512).unwrap();
-    let len = count as usize;
-    let array = joined(alloc, &[("[0", 1), (",0", len.saturating_sub(1)), ("]", 1)])?;
-    let object = object_text(alloc, keys_by_hash(alloc, count)?.as_slice())?;
-    for text in [array.as_str(), object.as_str()] {
-        expect(rt, "parse", parse(alloc, text)?.len() == len);
-        expect(rt, "parse_as", parse_as(alloc, text, &strict)?.len() == len);
-    }
-    Ok(())
+    expect(rt, "parse", parse(alloc, text)?.len() == len);
+    expect(rt, "parse_as", parse_as(alloc, text, &strict)?.len() == len);
+    let outer = joined(alloc, &[("[0,", 1), (text, 1), (",0]", 1)])?;
+    let value = parse(alloc, outer.as_str())?;
+    expect(rt, "inside", value.at_index(1).len() == len);
+    expect_text(rt, &value, outer.as_str())
 }
 
-/// At these lengths room may double, or a count may need another byte.
-const LENGTHS: [u32; 5] = [512, 513, 1024, 1025, 65537];
+/// An array of zeros, and an object of keys whose hashes ascend.
+fn expect_containers(rt: &impl Tester, count: u32) -> Tested {
+    let alloc = rt.alloc();
+    let len = count as usize;
+    let array = joined(alloc, &[("[0", 1), (",0", len.saturating_sub(1)), ("]", 1)])?;
+    expect_length(rt, array.as_str(), len)?;
+    let object = object_text(alloc, keys_by_hash(alloc, count)?.as_slice())?;
+    expect_length(rt, object.as_str(), len)
+}
 
+/// Also at a length that needs a third byte.
 #[test]
 fn arrays_and_objects_of_each_length(rt: HostRuntime) -> Tested {
     for count in (1..=300).chain(LENGTHS) {
-        expect_length(&rt, count)?;
+        expect_containers(&rt, u32::from(count))?;
     }
-    Ok(())
+    expect_containers(&rt, 65537)
 }
 
 /// More than 1,024, and deeper than any text that is read.
@@ -206,63 +316,132 @@ fn deep_values(rt: HostRuntime) -> Tested {
     Ok(())
 }
 
-/// With the most spaces for each open container.
-#[test]
-fn the_widest_indents(rt: HostRuntime) -> Tested {
+/// Three open containers, with this number of spaces for each.
+fn expect_spaces(rt: &impl Tester, spaces: u16) -> Tested {
     let alloc = rt.alloc();
     let value = parse(alloc, "[[[1]]]")?;
-    let i = joined(alloc, &[(" ", 65535)])?;
+    let i = joined(alloc, &[(" ", usize::from(spaces))])?;
     let text = format!(in alloc; "[\n{i}[\n{i}{i}[\n{i}{i}{i}1\n{i}{i}]\n{i}]\n]")?;
-    expect_lines(&rt, &value, 65535, text.as_str())?;
-    expect(&rt, "parse", parse(alloc, text.as_str())? == value);
+    expect_lines(rt, &value, spaces, text.as_str())?;
+    expect(rt, "parse", parse(alloc, text.as_str())? == value);
     Ok(())
 }
 
-/// By the calls that make an object longer, and by the conversions of lists of entries, one of
-/// unknown length, and of maps: the object of these names, each with its position.
-fn objects(alloc: Global, names: &[String]) -> Result<[JsonValue; 9]> {
-    let mut inserted = JsonValue::new_object(alloc);
-    let mut borrowed = JsonValue::Null;
-    let mut written = JsonValue::Null;
-    let mut object = Object::new(alloc);
-    let mut map = BTreeMap::new(alloc);
-    let mut owned_map = BTreeMap::new(alloc);
-    for (name, number) in names.iter().zip(0u32..) {
-        inserted.insert(alloc, name, number)?;
-        *borrowed.at_mut(alloc, name)? = jzon::from(alloc, number)?;
-        write_at(&mut written, alloc, name, JsonValue::from(number))?;
-        *object.at_mut(alloc, name)? = JsonValue::from(number);
-        map.insert(name.as_str(), number)?;
-        owned_map.insert(name.clone()?, number)?;
+/// Also with the most spaces.
+#[test]
+fn the_widest_indents(rt: HostRuntime) -> Tested {
+    for spaces in (0..=300).chain(LENGTHS) {
+        expect_spaces(&rt, spaces)?;
     }
-    let texts = names.iter().map(|name| name.as_str());
-    let pairs: Vec<(&str, u32)> = texts.zip(0u32..).collect(alloc)?;
-    let listed = Object::from_pairs(alloc, pairs.iter().copied())?;
-    let named = pairs.iter().copied().filter(|pair| !pair.0.is_empty());
-    let filtered = Object::from_pairs(alloc, named)?;
-    let collected: Object = pairs.into_iter().collect(alloc)?;
-    Ok([
-        inserted,
-        borrowed,
-        written,
-        map.into_json(alloc)?,
-        owned_map.into_json(alloc)?,
-        JsonValue::Object(object),
-        JsonValue::Object(listed),
-        JsonValue::Object(filtered),
-        JsonValue::Object(collected),
-    ])
+    expect_spaces(&rt, u16::MAX)
 }
 
-/// The same by the conversions of hash maps, with the entries in any order.
-fn unordered(alloc: Global, names: &[String]) -> Result<[JsonValue; 2]> {
-    let mut map = HashMap::new(alloc);
-    let mut owned_map = HashMap::new(alloc);
-    for (name, number) in names.iter().zip(0u32..) {
-        map.insert(name.as_str(), number)?;
-        owned_map.insert(name.clone()?, number)?;
+/// The calls that make an object longer, and the conversions of lists of entries, one of unknown
+/// length, and of maps.
+#[derive(Clone, Copy)]
+enum ObjectBy {
+    Insert,
+    AtMut,
+    WriteAt,
+    ObjectAtMut,
+    Map,
+    OwnedMap,
+    Pairs,
+    FilteredPairs,
+    Collect,
+    HashMap,
+    OwnedHashMap,
+}
+
+const OBJECTS: [ObjectBy; 9] = [
+    ObjectBy::Insert,
+    ObjectBy::AtMut,
+    ObjectBy::WriteAt,
+    ObjectBy::ObjectAtMut,
+    ObjectBy::Map,
+    ObjectBy::OwnedMap,
+    ObjectBy::Pairs,
+    ObjectBy::FilteredPairs,
+    ObjectBy::Collect,
+];
+
+/// They make an object with its entries in any order.
+const UNORDERED: [ObjectBy; 2] = [ObjectBy::HashMap, ObjectBy::OwnedHashMap];
+
+type Pairs<'a> = Vec<(&'a str, u32)>;
+
+/// The same, with keys of their own.
+fn owned(alloc: Global, pairs: &[(&str, u32)]) -> Result<Vec<(String, u32)>> {
+    let mut owned = Vec::with_capacity(alloc, pairs.len())?;
+    for (name, number) in pairs {
+        owned.push((String::from_str(alloc, name)?, *number))?;
     }
-    Ok([map.into_json(alloc)?, owned_map.into_json(alloc)?])
+    Ok(owned)
+}
+
+fn filtered(alloc: Global, pairs: &[(&str, u32)]) -> Result<Object> {
+    let named = pairs.iter().copied().filter(|pair| !pair.0.is_empty());
+    Object::from_pairs(alloc, named)
+}
+
+impl ObjectBy {
+    fn add(self, value: &mut JsonValue, alloc: Global, name: &str, number: u32) -> Result<()> {
+        match self {
+            ObjectBy::Insert => value.insert(alloc, name, number)?,
+            ObjectBy::AtMut => *value.at_mut(alloc, name)? = jzon::from(alloc, number)?,
+            ObjectBy::ObjectAtMut => {
+                if let Some(object) = value.as_object_mut() {
+                    *object.at_mut(alloc, name)? = JsonValue::from(number);
+                }
+            }
+            _ => write_at(value, alloc, name, JsonValue::from(number))?,
+        }
+        Ok(())
+    }
+
+    fn added(self, alloc: Global, mut value: JsonValue, pairs: Pairs<'_>) -> Result<JsonValue> {
+        for (name, number) in pairs {
+            self.add(&mut value, alloc, name, number)?;
+        }
+        Ok(value)
+    }
+
+    /// The object of these names, each with its position.
+    fn object(self, alloc: Global, names: &[String]) -> Result<JsonValue> {
+        let texts = names.iter().map(|name| name.as_str());
+        let pairs: Pairs<'_> = texts.zip(0u32..).collect(alloc)?;
+        match self {
+            ObjectBy::AtMut | ObjectBy::WriteAt => self.added(alloc, JsonValue::Null, pairs),
+            ObjectBy::Map => {
+                let map: BTreeMap<&str, u32> = pairs.into_iter().collect(alloc)?;
+                map.into_json(alloc)
+            }
+            ObjectBy::FilteredPairs => Ok(JsonValue::Object(filtered(alloc, pairs.as_slice())?)),
+            ObjectBy::OwnedMap => {
+                let owned = owned(alloc, pairs.as_slice())?;
+                let map: BTreeMap<String, u32> = owned.into_iter().collect(alloc)?;
+                map.into_json(alloc)
+            }
+            ObjectBy::Pairs => {
+                let object = Object::from_pairs(alloc, pairs.iter().copied())?;
+                Ok(JsonValue::Object(object))
+            }
+            ObjectBy::HashMap => {
+                let map: HashMap<&str, u32> = pairs.into_iter().collect(alloc)?;
+                map.into_json(alloc)
+            }
+            ObjectBy::Collect => {
+                let object: Object = pairs.into_iter().collect(alloc)?;
+                Ok(JsonValue::Object(object))
+            }
+            ObjectBy::OwnedHashMap => {
+                let owned = owned(alloc, pairs.as_slice())?;
+                let map: HashMap<String, u32> = owned.into_iter().collect(alloc)?;
+                map.into_json(alloc)
+            }
+            _ => self.added(alloc, JsonValue::new_object(alloc), pairs),
+        }
+    }
 }
 
 /// The object has as many entries as `whole`, and is equal to it.
@@ -278,38 +457,45 @@ fn expect_entries(rt: &impl Tester, mut object: JsonValue, whole: &JsonValue) {
 fn large_objects(rt: HostRuntime) -> Tested {
     let alloc = rt.alloc();
     let names = names(alloc, COUNT)?;
-    let text = numbers_by_name(alloc, COUNT)?;
+    let text = numbers_text(alloc, COUNT, true)?;
     let whole = parse(alloc, text.as_str())?;
-    for object in objects(alloc, &names)? {
+    for call in OBJECTS {
+        let object = call.object(alloc, &names)?;
         expect_whole(&rt, &object, text.as_str())?;
         expect_entries(&rt, object, &whole);
     }
-    for object in unordered(alloc, &names)? {
+    for call in UNORDERED {
+        let object = call.object(alloc, &names)?;
         expect(&rt, "the text", object.dump(alloc)?.len() == text.len());
         expect_entries(&rt, object, &whole);
     }
     Ok(())
 }
 
-#[test]
-fn many_entries(rt: HostRuntime) -> Tested {
+/// An object of this length by each of these calls is the one of its text.
+fn expect_many_entries(rt: &impl Tester, count: u32) -> Tested {
     let alloc = rt.alloc();
-    let names = names(alloc, MANY)?;
-    let whole = parse(alloc, numbers_by_name(alloc, MANY)?.as_str())?;
-    for object in objects(alloc, &names)? {
-        expect(&rt, "the whole", object == whole);
-    }
-    for object in unordered(alloc, &names)? {
-        expect(&rt, "the whole", object == whole);
+    let names = names(alloc, count)?;
+    let whole = parse(alloc, numbers_text(alloc, count, true)?.as_str())?;
+    for call in OBJECTS.into_iter().chain(UNORDERED) {
+        expect(rt, "the whole", call.object(alloc, &names)? == whole);
     }
     Ok(())
+}
+
+#[test]
+fn many_entries(rt: HostRuntime) -> Tested {
+    for count in LENGTHS {
+        expect_many_entries(&rt, u32::from(count))?;
+    }
+    expect_many_entries(&rt, MANY)
 }
 
 /// Calls on an object itself, and those that print a value.
 #[test]
 fn calls_on_a_large_object(rt: HostRuntime) -> Tested {
     let alloc = rt.alloc();
-    let text = numbers_by_name(alloc, MANY)?;
+    let text = numbers_text(alloc, MANY, true)?;
     let value = parse(alloc, text.as_str())?;
     expect_printed(&rt, &value, text.as_str())?;
     if let Some(object) = value.as_object() {
