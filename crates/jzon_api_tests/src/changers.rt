@@ -1,13 +1,12 @@
 //! Calls that change a value.
 
-ghost use Rattle.std.specs.Prelude.{◌≡◌};
-
 use self::Change::*;
 use crate::common::{
     Tested, Tester, each_unread, each_value, expect, expect_dump, expect_eq, long,
 };
 use jzon::lent::{write_at, write_at_index, write_present};
-use jzon::{Error, IntoJson, JsonValue, Result, parse};
+use jzon::{Error, JsonValue, Result, parse};
+use jzon_test_support::Unconvertible;
 use std::alloc::Global;
 
 /// A value, and what `clear` leaves of it.
@@ -22,14 +21,17 @@ const CLEARED: &[(&str, &str)] = &[
 ];
 
 /// A `Short` stays a `Short`.
+fn expect_cleared(rt: &impl Tester, mut value: JsonValue, text: &str) -> Tested {
+    let is_short = matches!(value, JsonValue::Short(_));
+    value.clear();
+    expect_eq(rt, text, matches!(value, JsonValue::Short(_)), is_short);
+    expect_dump(rt, &value, text)
+}
+
 #[test]
 fn clears(rt: HostRuntime) -> Tested {
     for (before, after) in CLEARED {
-        let mut value = parse(rt.alloc(), before)?;
-        let is_short = matches!(value, JsonValue::Short(_));
-        value.clear();
-        expect_eq(&rt, before, matches!(value, JsonValue::Short(_)), is_short);
-        expect_dump(&rt, &value, after)?;
+        expect_cleared(&rt, parse(rt.alloc(), before)?, after)?;
     }
     Ok(())
 }
@@ -166,20 +168,6 @@ fn inserts_members(rt: HostRuntime) -> Tested {
     Ok(())
 }
 
-/// Can't become a value: its conversion runs out of memory.
-#[derive(Drop)]
-struct Unconvertible;
-
-impl IntoJson for Unconvertible {
-    ghost means = { λ _ v. v ≡ v };
-
-    ghost is_free = { λ _. ⊥ };
-
-    fn into_json(self, _alloc: Global) -> Result<JsonValue> {
-        Err(Error::OutOfMemory)
-    }
-}
-
 /// The call failed with this message.
 fn expect_failed(rt: &impl Tester, outcome: Result<()>, message: &str) -> Tested {
     match outcome {
@@ -271,11 +259,8 @@ fn is_right(outcome: Result<()>) -> Result<bool> {
 /// How many elements there are to be written, from both ends.
 fn members(value: &mut JsonValue) -> usize {
     let mut members = value.members_mut();
-    let mut count = usize::from(members.next_back().is_some());
-    for _ in members {
-        count = count.saturating_add(1);
-    }
-    count
+    let last = usize::from(members.next_back().is_some());
+    last.saturating_add(members.count())
 }
 
 /// How many entries there are to be written, from both ends.

@@ -356,7 +356,7 @@ impl Call {
 fn changes_objects_of_each_room(rt: HostRuntime) -> Tested {
     let alloc = rt.alloc();
     for call in CALLS {
-        for count in [0, 1, 2, 16, 17, 40, 300] {
+        for count in [0, 1, 2, 32, 33, 40, 300] {
             for object in objects(alloc, count)? {
                 let left = call.call(alloc, object)?;
                 expect(&rt, "what is left", left == call.left(count as usize));
