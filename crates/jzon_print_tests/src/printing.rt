@@ -10,6 +10,7 @@ use jzon::codegen::{
 use jzon::number::NAN;
 use jzon::object::Object;
 use jzon::{Error, JsonValue, array, parse, stringify, stringify_pretty};
+use jzon_test_support::rows;
 use std::alloc::Global;
 use std::process::Abort;
 use std::test::Fail;
@@ -97,26 +98,19 @@ fn stringifies_lists_and_lines(rt: HostRuntime) -> Tested {
 }
 
 /// A text, and its value on lines, with four spaces for each open container.
-const WITH_FOUR_SPACES: &[(&str, &str)] = &[
-    (
-        "[1,true,\"three\"]",
-        "[\n    1,\n    true,\n    \"three\"\n]",
-    ),
-    (
-        "{\"foo\":\"bar\",\"answer\":42}",
-        "{\n    \"foo\": \"bar\",\n    \"answer\": 42\n}",
-    ),
-    ("\"foobar\"", "\"foobar\""),
-    ("42", "42"),
-    ("true", "true"),
-    ("null", "null"),
-];
+const WITH_FOUR_SPACES: &[(&str, &str)] = rows! {
+    ("[1,true,\"three\"]", "[\n    1,\n    true,\n    \"three\"\n]")
+    ("{\"foo\":\"bar\",\"answer\":42}", "{\n    \"foo\": \"bar\",\n    \"answer\": 42\n}")
+    ("\"foobar\"", "\"foobar\"")
+    ("42", "42")
+    ("true", "true")
+    ("null", "null")
+};
 
 #[test]
 fn prints_with_four_spaces(rt: HostRuntime) -> Tested {
     for (source, text) in WITH_FOUR_SPACES {
-        let lines = parse(rt.alloc(), source)?.pretty(rt.alloc(), 4)?;
-        expect_eq(&rt, source, lines.as_str(), *text);
+        expect_lines(&rt, &parse(rt.alloc(), source)?, 4, text)?;
     }
     Ok(())
 }
