@@ -3,6 +3,7 @@
 use crate::common::{expect, expect_dump, expect_eq, expect_rejected, read};
 use jzon::number::NAN;
 use jzon::{JsonValue, Reading, parse};
+use jzon_test_support::rows;
 use std::test::Fail;
 
 /// Whether it is strict, the depth, and whether there is such a reading.
@@ -28,28 +29,18 @@ fn has_at_most_512_open(rt: HostRuntime) {
 }
 
 /// Whether the reading is strict, its depth, a text, and the dump of its value.
-const ACCEPTED: &[(bool, u16, &str, &str)] = &[
-    (false, 0, "1", "1"),
-    (false, 0, "[ ]", "[]"),
-    (false, 0, "{}", "{}"),
-    (false, 1, "[[]]", "[[]]"),
-    (false, 1, "{\"a\":[],\"b\":{}}", "{\"a\":[],\"b\":{}}"),
-    (false, 512, "{\"a\":1,\"a\":2}", "{\"a\":2}"),
-    (false, 512, "\u{b}[\u{c}1]", "[1]"),
-    (true, 512, "\t\n\r [1]", "[1]"),
-    (
-        true,
-        512,
-        "{\"a\":{\"a\":1},\"b\":{\"a\":1}}",
-        "{\"a\":{\"a\":1},\"b\":{\"a\":1}}",
-    ),
-    (
-        true,
-        512,
-        "{\"a\":1,\"A\":2,\"\":3,\"aa\":4}",
-        "{\"a\":1,\"A\":2,\"\":3,\"aa\":4}",
-    ),
-];
+const ACCEPTED: &[(bool, u16, &str, &str)] = rows! {
+    (false, 0, "1", "1")
+    (false, 0, "[ ]", "[]")
+    (false, 0, "{}", "{}")
+    (false, 1, "[[]]", "[[]]")
+    (false, 1, "{\"a\":[],\"b\":{}}", "{\"a\":[],\"b\":{}}")
+    (false, 512, "{\"a\":1,\"a\":2}", "{\"a\":2}")
+    (false, 512, "\u{b}[\u{c}1]", "[1]")
+    (true, 512, "\t\n\r [1]", "[1]")
+    (true, 512, "{\"a\":{\"a\":1},\"b\":{\"a\":1}}", "{\"a\":{\"a\":1},\"b\":{\"a\":1}}")
+    (true, 512, "{\"a\":1,\"A\":2,\"\":3,\"aa\":4}", "{\"a\":1,\"A\":2,\"\":3,\"aa\":4}")
+};
 
 #[test]
 fn accepts(rt: HostRuntime) -> Result<(), Fail> {
