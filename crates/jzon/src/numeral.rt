@@ -33,56 +33,82 @@ pub(crate) fn read_number(source: &str, start: usize, negative: bool) -> Result<
         (start + 1) result
         (λ v. after_value fs (number v)) }
 {
-    let magnitude = magnitude_at(source, start);
-    let exponent = if !magnitude.is_missing && has_exponent_letter(source, magnitude.end) {
-        exponent_after(source, magnitude.end + 1)
-    } else {
-        Exponent {
-            is_positive: true,
-            digits: &[],
-            end: magnitude.end,
-            is_missing: magnitude.is_missing,
-        }
-    };
+    let spelling = spelling_at(source, start);
     let number = read_scanned(
         !negative,
-        magnitude.whole,
-        magnitude.fraction,
-        magnitude.number,
-        exponent.is_positive,
-        exponent.digits,
+        spelling.whole,
+        spelling.fraction,
+        spelling.number,
+        spelling.positive_exponent,
+        spelling.exponent,
     );
     match number {
         Err(_) => Err(Stop::Limit),
-        Ok(_) if exponent.is_missing => Err(fault_at(source, exponent.end)),
-        Ok(number) => Ok((number, exponent.end)),
+        Ok(_) if spelling.is_missing => Err(fault_at(source, spelling.end)),
+        Ok(number) => Ok((number, spelling.end)),
     }
 }
 
-/// The digits of a number up to its exponent.
+/// The digits of a number in a text.
 #[derive(Clone, Copy)]
-struct Magnitude<'a> {
+struct Spelling<'a> {
     whole: &'a [u8],
     fraction: &'a [u8],
     /// The number that the digits of both spell, modulo 2^64.
     number: u64,
-    /// The offset after them.
+    positive_exponent: bool,
+    exponent: &'a [u8],
+    /// The offset after the number.
     end: usize,
     /// Whether a digit is required at `end`, and there is none.
     is_missing: bool,
     ghost whole_digits: { All IsDigit whole.now },
     ghost fraction_digits: { All IsDigit fraction.now },
     ghost added_up: { number ≡ digits_number (whole.now ++ fraction.now) % 2 ^ 64 },
+    ghost exponent_digits: { All IsDigit exponent.now },
 }
 
-/// The digits of the number whose first digit is at `start`, up to its exponent. Three clauses say
-/// what follows them: an exponent's letter, no letter, or a missing digit.
+/// The digits of the number whose first digit is at `start`.
 #[inline(always)]
-fn magnitude_at(source: &str, start: usize) -> Magnitude<'_>
+fn spelling_at(source: &str, start: usize) -> Spelling<'_>
     requires within { start < length source.now }
     requires digit { IsTrue (is_ascii_digit (slice_index source.now start)) }
     ensures end { (start < result.end) × (result.end ≤ length source.now)
         × IsCharBoundary source.now result.end }
+    ensures number { AreFewEnough result.whole.now result.fraction.now → result.is_missing ≡ false
+        → LeadsTo source.now start result.end (λ fs negative. after_value fs (number (read_number
+        (not negative) result.whole.now result.fraction.now
+        (signed result.positive_exponent (digits_number result.exponent.now))))) }
+    ensures missing { AreFewEnough result.whole.now result.fraction.now → result.is_missing ≡ true
+        → MissesDigit source.now start result.end }
+    ensures too_many { (f : DigitFault) → IsFirstTooMany result.whole.now result.fraction.now f
+        → HasTooMany source.now start }
+{
+    let magnitude = magnitude_at(source, start);
+    if magnitude.is_missing || !has_exponent_letter(source, magnitude.end) {
+        return magnitude;
+    }
+    let exponent = exponent_after(source, magnitude.end + 1);
+    Spelling {
+        whole: magnitude.whole,
+        fraction: magnitude.fraction,
+        number: magnitude.number,
+        positive_exponent: exponent.is_positive,
+        exponent: exponent.digits,
+        end: exponent.end,
+        is_missing: exponent.digits.is_empty(),
+    }
+}
+
+/// The digits up to the exponent, which is empty in the result. Three clauses say what follows
+/// them: an exponent's letter, no letter, or a missing digit.
+#[inline(always)]
+fn magnitude_at(source: &str, start: usize) -> Spelling<'_>
+    requires within { start < length source.now }
+    requires digit { IsTrue (is_ascii_digit (slice_index source.now start)) }
+    ensures end { (start < result.end) × (result.end ≤ length source.now)
+        × IsCharBoundary source.now result.end }
+    ensures exponent { (result.positive_exponent ≡ true) × (result.exponent.now ≡ []) }
     ensures letter { AreFewEnough result.whole.now result.fraction.now → result.is_missing ≡ false
         → result.end < length source.now
         → IsTrue (is_exponent_letter (slice_index source.now result.end))
@@ -101,19 +127,23 @@ fn magnitude_at(source: &str, start: usize) -> Magnitude<'_>
     let (whole, before) = whole_at(source, start);
     let end = start + whole.len();
     if !has_byte(source, end, b'.') {
-        return Magnitude {
+        return Spelling {
             whole,
             fraction: &[],
             number: before,
+            positive_exponent: true,
+            exponent: &[],
             end,
             is_missing: false,
         };
     }
     let (fraction, number) = digits_at(source, end + 1, before);
-    Magnitude {
+    Spelling {
         whole,
         fraction,
         number,
+        positive_exponent: true,
+        exponent: &[],
         end: end + 1 + fraction.len(),
         is_missing: fraction.is_empty(),
     }
@@ -150,15 +180,12 @@ fn digits_at(source: &str, start: usize, before: u64) -> (&[u8], u64)
     (&rest[..count], number)
 }
 
-/// The exponent of a number. If it has none, `digits` is empty.
+/// The digits of an exponent, maybe none, and the offset after them.
 #[derive(Clone, Copy)]
 struct Exponent<'a> {
     is_positive: bool,
     digits: &'a [u8],
-    /// The offset after the number.
     end: usize,
-    /// Whether a digit is required at `end`, and there is none.
-    is_missing: bool,
 }
 
 /// The exponent whose letter is before `start`.
@@ -169,7 +196,6 @@ fn exponent_after(source: &str, start: usize) -> Exponent<'_>
     ensures end { (start ≤ result.end) × (result.end ≤ length source.now)
         × IsCharBoundary source.now result.end }
     ensures digits { All IsDigit result.digits.now }
-    ensures is_missing { result.is_missing ≡ (length result.digits.now == 0) }
     ensures number { 0 < length result.digits.now →
         (r : Reading) (fs : Frames) (negative : Bool) (ws ds : List ℕ)
         (l : ℕ)
@@ -195,7 +221,6 @@ fn exponent_after(source: &str, start: usize) -> Exponent<'_>
 fn exponent_at(source: &str, start: usize, is_positive: bool) -> Exponent<'_>
     requires { start ≤ length source.now }
     ensures sign { result.is_positive ≡ is_positive }
-    ensures is_missing { result.is_missing ≡ (length result.digits.now == 0) }
     ensures digits { result.digits.now ≡ take_while is_ascii_digit (drop start source.now) }
     ensures end { result.end ≡ start + length result.digits.now }
 {
@@ -204,7 +229,6 @@ fn exponent_at(source: &str, start: usize, is_positive: bool) -> Exponent<'_>
         is_positive,
         digits,
         end: start + digits.len(),
-        is_missing: digits.is_empty(),
     }
 }
 

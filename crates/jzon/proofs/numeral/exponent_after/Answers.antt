@@ -10,13 +10,7 @@ returns-then-has_byte c =
     rw (c.exponent_at.ensures.sign, c.exponent_at.ensures.end)
     (reads_minus c.args.source.now c.args.start c.exponent_at.result.digits.now c.utf8.source c.requires here.0 here.1
     c.exponent_at.ensures.digits) in
-    record {
-      end = (k.after, k.boundary.0, k.boundary);
-      digits = k.all;
-      is_missing = c.exponent_at.ensures.is_missing;
-      number = k.number;
-      missing = k.missing;
-    }
+    record { end = (k.after, k.boundary.0, k.boundary); digits = k.all; number = k.number; missing = k.missing }
 
 pub returns-then-has_byte-2 : goal.returns-then-has_byte-2
 returns-then-has_byte-2 c =
@@ -26,13 +20,7 @@ returns-then-has_byte-2 c =
     rw (r.ensures.sign, r.ensures.end)
     (reads_plus c.args.source.now c.args.start r.result.digits.now c.utf8.source c.requires here.0 here.1
     r.ensures.digits) in
-    record {
-      end = (k.after, k.boundary.0, k.boundary);
-      digits = k.all;
-      is_missing = r.ensures.is_missing;
-      number = k.number;
-      missing = k.missing;
-    }
+    record { end = (k.after, k.boundary.0, k.boundary); digits = k.all; number = k.number; missing = k.missing }
 
 pub returns : goal.returns
 returns c =
@@ -42,10 +30,4 @@ returns c =
     (reads_unsigned c.args.source.now c.args.start r.result.digits.now c.utf8.source c.requires
     (λ h. true≢false (sym (c.has_byte.ensures.1 h) ∙ c.if-has_byte.false))
     (λ h. true≢false (sym (c.has_byte-2.ensures.1 h) ∙ c.if-has_byte-2.false)) r.ensures.digits) in
-    record {
-      end = (k.after, k.boundary.0, k.boundary);
-      digits = k.all;
-      is_missing = r.ensures.is_missing;
-      number = k.number;
-      missing = k.missing;
-    }
+    record { end = (k.after, k.boundary.0, k.boundary); digits = k.all; number = k.number; missing = k.missing }

@@ -20,6 +20,7 @@ invariant_of-result c =
       whole_digits = whole.all;
       fraction_digits = All-nil IsDigit;
       added_up = rw append-nil c.whole_at-before.ensures.number;
+      exponent_digits = All-nil IsDigit;
     }
 
 pub returns-then-not-has_byte : goal.returns-then-not-has_byte
@@ -31,6 +32,7 @@ returns-then-not-has_byte c =
     (λ h. true≢false (sym (c.has_byte.ensures.1 h) ∙ c.if-not-has_byte.true)) in
     record {
       end = (k.after, k.boundary.0, k.boundary);
+      exponent = (refl, refl);
       letter = k.to_letter;
       number = k.to_end;
       missing = k.stops;
@@ -51,6 +53,7 @@ invariant_of-result-2 c =
       added_up = c.digits_at-number.ensures.number (digits_number c.whole_at-before.result.0.now)
           c.whole_at-before.ensures.number ∙ ap (λ n. n % 2 ^ 64)
           (sym (fold-append add_digit 0 c.whole_at-before.result.0.now fraction));
+      exponent_digits = All-nil IsDigit;
     }
 
 pub returns : goal.returns
@@ -66,6 +69,7 @@ returns c =
     whole refl here.0 here.1 c.digits_at-number.ensures.digits) in
     record {
       end = (k.after, k.boundary.0, k.boundary);
+      exponent = (refl, refl);
       letter = k.to_letter;
       number = k.to_end;
       missing = k.stops;
