@@ -1,11 +1,8 @@
 //! Parses texts (RFC 8259, section 2; docs/RULES.md, "Texts").
 
-ghost use Rattle.std.specs.Prelude.{◌≡◌, ◌≢◌, ◌<◌, ◌+◌, length, slice_index, chars, false, IfOk, IfErr, Err, None, Some, OnOk, true};
-ghost use Rattle.std.specs.Str.{IsCharBoundary};
+ghost use Rattle.std.specs.Prelude.{◌≡◌, ◌≢◌, ◌<◌, ◌+◌, length, chars, IfOk, IfErr, Err, None, Some, OnOk, true};
 ghost use Rattle.jzon_tree.specs.View.{view};
-ghost use Rattle.jzon_tree.specs.Writing.{is_whitespace};
 ghost use Rattle.jzon.specs.Answer.{IsMeaningOf, IsReadable, IsErrorUnlessMemory, TakesMemory};
-ghost use Rattle.jzon.specs.Private.Brackets.{closer, after_opener};
 ghost use Rattle.jzon.specs.Private.Cursor.{left, next_byte, GoesOn, PassesOn};
 ghost use Rattle.jzon.specs.Private.Machine.{no_frames, is_fresh, before, after_value, from, Reads};
 ghost use Rattle.jzon.specs.Private.OpenContainers.{frames_around, frames_here, before_item, after_end, whole, IsEven, AwaitsValue, IsBeforeItem, IsAfterEnd, KeepsAround};
@@ -98,47 +95,13 @@ fn read(alloc: Global, source: &str, reading: Reading) -> fault::Result<JsonValu
     if cursor.open_container(kind, 0)? {
         return expect_end(&cursor, kind.empty(alloc));
     }
-    read_container(alloc, cursor.source, cursor.index, cursor.reading, kind)
-}
-
-/// Reads the rest of a text that is a container which isn't empty, from `index` on, the offset after
-/// its opening bracket and whitespace. It has a stack frame of its own: texts without such a
-/// container need none.
-#[inline(never)]
-fn read_container(
-    alloc: Global,
-    source: &str,
-    index: usize,
-    reading: Reading,
-    kind: ContainerKind,
-) -> fault::Result<JsonValue>
-    requires boundary { IsCharBoundary source.now index }
-    requires past_whitespace { index < length source.now
-        → is_whitespace reading.strict (slice_index source.now index) ≡ false }
-    requires room { 0 < reading.depth }
-    requires some { slice_index source.now index ≢ closer kind }
-    ensures { Reads source.now result (from reading source.now (after_opener kind no_frames) index) }
-{
+    let stacks = Stacks::new(alloc, reading.strict(), kind)?;
     let mut parser = Parser {
-        cursor: Cursor {
-            source,
-            index,
-            reading,
-        },
-        stacks: Stacks::new(alloc, reading.strict(), kind)?,
+        cursor,
+        stacks,
         buffer: String::new(alloc),
     };
-    loop {
-        let opened = match parser.stacks.innermost_kind() {
-            ContainerKind::Array => parser.read_elements()?,
-            ContainerKind::Object => parser.read_entries()?,
-        };
-        if let Some(kind) = opened {
-            parser.stacks.open(kind)?;
-        } else if let Some(value) = parser.end_containers()? {
-            return expect_end(&parser.cursor, value);
-        }
-    }
+    parser.read_to_end()
 }
 
 /// What was read of a value in a container.
@@ -175,6 +138,27 @@ struct Parser<'a> {
 }
 
 impl<'a> Parser<'a> {
+    /// Reads the rest of the text: all that the containers hold, and the end.
+    #[inline(never)]
+    fn read_to_end(&mut self) -> fault::Result<JsonValue>
+        requires before { IsBeforeItem self.old.cursor self.old.stacks }
+        requires strict { self.old.stacks.strict ≡ self.old.cursor.reading.strict }
+        ensures { Reads self.old.cursor.source.now result
+            (left self.old.cursor (before_item self.old.stacks)) }
+    {
+        loop {
+            let opened = match self.stacks.innermost_kind() {
+                ContainerKind::Array => self.read_elements()?,
+                ContainerKind::Object => self.read_entries()?,
+            };
+            if let Some(kind) = opened {
+                self.stacks.open(kind)?;
+            } else if let Some(value) = self.end_containers()? {
+                return expect_end(&self.cursor, value);
+            }
+        }
+    }
+
     /// Reads elements of the innermost container, which is an array: to its end, or to a container in
     /// it that isn't empty, of which it reads the opening bracket.
     #[inline(always)]

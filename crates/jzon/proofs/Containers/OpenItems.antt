@@ -6,16 +6,16 @@ use Rattle.jzon_base.specs.PairList.{put, put_each}
 use Rattle.jzon.specs.declared.fault.Stop.{Stop}
 use Rattle.jzon_tree.specs.View.{view, viewed}
 use Rattle.jzon_tree.specs.declared.value.JsonValue.{JsonValue}
-use Rattle.jzon.specs.Private.Brackets.{innermost_kind, after_comma, after_closer}
+use Rattle.jzon.specs.Private.Brackets.{innermost_kind, after_comma, after_closer, after_opener}
 use Rattle.jzon.specs.Private.Cursor.{left, IsAfter, GoesOn}
-use Rattle.jzon.specs.Private.Machine.{State, before_key, after_value, object_frame, frames_depth}
+use Rattle.jzon.specs.Private.Machine.{State, no_frames, before_key, after_value, object_frame, frames_depth}
 use Rattle.jzon.specs.Private.Machine.{value_mark, key_mark}
 use Rattle.jzon.specs.Private.OpenContainers.{Container, OpenContainers, entries_so_far, open_as, frames_in}
 use Rattle.jzon.specs.Private.OpenContainers.{frames_around, frames_here, whole, before_item_as, before_item, IsEven}
-use Rattle.jzon.specs.Private.OpenContainers.{AwaitsValue, value_added, key_added, KeepsAround, IsBeforeItem}
+use Rattle.jzon.specs.Private.OpenContainers.{AwaitsValue, value_added, key_added, KeepsAround, IsBeforeItem, new_container}
 use Rattle.jzon.specs.Private.OpenContainers.{IsClosed}
 use Rattle.jzon.specs.declared.cursor.ContainerKind.{ContainerKind}
-use Rattle.jzon.specs.declared.cursor.ContainerKind.TheVariants.{Object}
+use Rattle.jzon.specs.declared.cursor.ContainerKind.TheVariants.{Array, Object}
 use Rattle.jzon.specs.declared.cursor.Cursor.{Cursor}
 use Rattle.jzon.proofs.Containers.FrameViews.{frames_depth-in, value_mark-shallow, key_mark-shallow, kind_of_frame}
 use Rattle.jzon.proofs.Containers.FrameViews.{after_comma-item, after_closer-whole, even_again, some_more}
@@ -188,3 +188,8 @@ goes_to o h k = (
   record { text = k.text ∙ h.0.text; reading = k.reading ∙ h.0.reading; index = omega (arith, h.0.index, k.within) },
   h.1 ∙ k.same,
 )
+
+pub before_first : (strict : Bool) (b : ContainerKind)
+    → before_item (record { strict = strict; innermost = new_container b; around = [] }) ≡ after_opener b no_frames
+before_first strict Array = refl
+before_first strict Object = refl

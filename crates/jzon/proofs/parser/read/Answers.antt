@@ -5,12 +5,14 @@ use Rattle.jzon.specs.Answer.{TakesMemory}
 use Rattle.jzon.specs.Private.Brackets.{opener, empty_container, after_opener}
 use Rattle.jzon.specs.Private.Cursor.{left, next_byte}
 use Rattle.jzon.specs.Private.Machine.{no_frames, before, after_value, from, Reads}
+use Rattle.jzon.specs.Private.OpenContainers.{before_item}
 use Rattle.jzon.specs.Private.Targets.{MayBegin}
 use Rattle.jzon.specs.declared.cursor.ContainerKind.{ContainerKind}
 use Rattle.jzon.specs.declared.cursor.ContainerKind.TheVariants.{Array, Object}
 use Rattle.jzon.specs.declared.cursor.Cursor.{Cursor}
 use Rattle.jzon.specs.declared.fault.Stop.TheVariants.{Memory}
 use Rattle.jzon.proofs.Containers.FrameViews.{byte_within}
+use Rattle.jzon.proofs.Containers.OpenItems.{before_first}
 use Rattle.jzon.proofs.Texts.Cursors.{utf8_of, token_goes, reads_from}
 use Rattle.jzon.proofs.Texts.ReportedErrors.{has_character}
 use Rattle.jzon.proofs.parser.read.Goals as goal
@@ -89,16 +91,23 @@ returns-then-branch-clause-outcome c =
     ∙ ap (λ w. left u (after_value no_frames w)) (sym c.empty.ensures))
     c.expect_end-then-branch.ensures.outcome
 
+pub returns-in_err-stacks-clause-memory : goal.returns-in_err-stacks-clause-memory
+returns-in_err-stacks-clause-memory c e =
+    subst (λ bs. TakesMemory (chars bs)) c.new-cursor.ensures.text
+    (takes_memory c.new-cursor.result c.in-Some.kind (sym c.peek-first.ensures ∙ c.in-Some.ensures))
+
 pub returns-clause-outcome : goal.returns-clause-outcome
 returns-clause-outcome c =
     let u = c.open_container.new.self in
     let past = c.new-cursor.ensures in
     let read = c.in_ok-open_container.ensures.outcome no_frames refl refl in
     let b = c.in-Some.kind in
-    reads_from _ _ u (after_opener b no_frames) c.read_container.result (read.0.text ∙ past.text)
+    reads_from _ _ u (before_item c.in_ok-stacks.stacks) c.read_to_end.result
+    (read.0.text ∙ past.text)
     (past.same (before no_frames) refl ∙ read.1
-    ∙ ap (λ z. left u (cond z (after_value no_frames (empty_container b)) (after_opener b no_frames))) c.if-branch.false)
-    c.read_container.ensures
+    ∙ ap (λ z. left u (cond z (after_value no_frames (empty_container b)) (after_opener b no_frames))) c.if-branch.false
+    ∙ ap (left u) (sym (before_first c.args.reading.strict b)) ∙ ap (λ s. left u (before_item s)) (sym c.in_ok-stacks.ensures.ok))
+    c.read_to_end.ensures
 
 pub returns-clause-memory : goal.returns-clause-memory
 returns-clause-memory c e =
