@@ -1,7 +1,7 @@
 //! The open containers of a text. All their keys are on one stack, and all their values on another;
 //! each container has a part of both, and is made of it at its end.
 
-ghost use Rattle.std.specs.Prelude.{◌≡◌, ◌≢◌, ◌&&◌, if◌then◌else◌, slice_index, IfSome, None, Some, ◌≤◌, ◌<◌, [], ◌∷◌, ◌++◌, length, take, drop, vec_len, IfOk, OnOk, OnErr, MatchOption, true, ◌+◌};
+ghost use Rattle.std.specs.Prelude.{◌≡◌, ◌≢◌, ◌&&◌, if◌then◌else◌, slice_index, IfSome, None, Some, ◌≤◌, ◌<◌, [], ◌∷◌, ◌++◌, length, take, drop, vec_len, vec_capacity, IfOk, OnOk, OnErr, MatchOption, true, ◌+◌};
 ghost use Rattle.std.specs.List.{zip};
 ghost use Rattle.std.specs.Option.{is_some};
 ghost use Rattle.jzon_base.specs.PairList.{find, put_each};
@@ -29,6 +29,10 @@ use std::mem;
 /// How many values there is room for at first, and how many keys if the outermost container is an
 /// object.
 const FIRST_ROOM: usize = 8;
+
+/// How many values there is room for when the first room is full: the most of a block that glibc
+/// still keeps at hand after it is freed.
+const SECOND_ROOM: usize = 21;
 
 /// Up to this many values of a nested container are always copied to a block of their own
 /// (`cut_values`).
@@ -73,6 +77,35 @@ impl Model for Stacks {
     ghost view = { containers_of };
 
     ghost invariant = { IsLaidOut };
+}
+
+/// Makes room for one more value. The error is a failed allocation.
+#[inline(always)]
+fn reserve_value(alloc: Global, values: &mut Vec<JsonValue>) -> Result<(), AllocError>
+    ensures items { values.new.items ≡ values.old.items }
+    ensures ok { OnOk result (vec_len values.new + 1 ≤ vec_capacity values.new) }
+{
+    if values.len() < values.capacity() {
+        return Ok(());
+    }
+    grow(alloc, values)
+}
+
+/// Makes room for more values. The second block is a new one: glibc has one at hand more often than
+/// it can enlarge the first.
+#[cold]
+#[inline(never)]
+fn grow(alloc: Global, values: &mut Vec<JsonValue>) -> Result<(), AllocError>
+    ensures items { values.new.items ≡ values.old.items }
+    ensures ok { OnOk result (vec_len values.new + 1 ≤ vec_capacity values.new) }
+{
+    if FIRST_ROOM < values.len() {
+        return values.reserve(1);
+    }
+    let mut larger = Vec::with_capacity(alloc, SECOND_ROOM)?;
+    larger.append(values)?;
+    *values = larger;
+    Ok(())
 }
 
 /// Removes what is on the stack from `start` on, and returns it in a block of its exact size. The
@@ -240,7 +273,7 @@ impl Stacks {
         ensures ok { OnOk result ((v : JsonValue) × (view v ≡ empty_container kind)
             × (self.new ≡ value_added self.old v)) }
     {
-        self.values.reserve(1)?;
+        reserve_value(self.alloc, &mut self.values)?;
         self.values.push_reserved(kind.empty(self.alloc));
         Ok(())
     }
@@ -263,7 +296,7 @@ impl Stacks {
         ensures outcome { Puts (λ v new. new ≡ value_added self.old v) self.old self.new result
             source.now start before (λ r fs. MayBegin r fs source.now start) }
     {
-        self.values.reserve(1)?;
+        reserve_value(self.alloc, &mut self.values)?;
         put_primitive(self.alloc, source, start, first, buffer, &mut self.values)
     }
 
@@ -392,7 +425,7 @@ impl Stacks {
         if self.known.is_some() {
             close_known(&mut self.known, &mut self.known_around);
         }
-        self.values.reserve(1)?;
+        reserve_value(self.alloc, &mut self.values)?;
         self.values.push_reserved(value);
         Ok(None)
     }

@@ -4,9 +4,9 @@ use Rattle.jzon.proofs.Containers.StackParts.{IsAdded-back}
 use Rattle.jzon.proofs.stacks.Stacks.close_with.Goals.{then-is_some, else-is_some}
 use Rattle.jzon.proofs.stacks.Stacks.close_with.Goals as goal
 
-pub invariant_of-self-in_err-reserve : goal.invariant_of-self-in_err-reserve
-invariant_of-self-in_err-reserve c =
-    IsLaidOut-back c.self.inside c.if-is_some.self-inside c.reserve.new.self (elim c.if-is_some.branch [
+pub invariant_of-self-in_err-reserve_value : goal.invariant_of-self-in_err-reserve_value
+invariant_of-self-in_err-reserve_value c =
+    IsLaidOut-back c.self.inside c.if-is_some.self-inside c.reserve_value.new.values (elim c.if-is_some.branch [
       | then-is_some w ↦ IsBack-from c.args.self.now c.self.inside c.if-is_some.self-inside c.pop.new.self c.in-Some.frame
           w.close_known.new.known w.close_known.new.around c.self.invariant c.self.view_is c.requires
           c.in-Some.ensures.items (record {
@@ -19,7 +19,7 @@ invariant_of-self-in_err-reserve c =
             usual = λ _. refl;
             strict = λ e. absurd (false≢true (cc (e, w.if-is_some.false, c.is_some.ensures)));
           }) w.self-inside-is
-    ]) c.in_err-reserve.ensures.items
+    ]) c.in_err-reserve_value.ensures.items
 
 pub invariant_of-self-2 : goal.invariant_of-self-2
 invariant_of-self-2 c =
@@ -36,7 +36,7 @@ invariant_of-self-2 c =
             usual = λ _. refl;
             strict = λ e. absurd (false≢true (cc (e, w.if-is_some.false, c.is_some.ensures)));
           }) w.self-inside-is
-    ]) (c.push_reserved.ensures.items ∙ ap (λ vs. vs ++ c.args.value ∷ []) c.in_ok-reserve.ensures.items)
+    ]) (c.push_reserved.ensures.items ∙ ap (λ vs. vs ++ c.args.value ∷ []) c.in_ok-reserve_value.ensures.items)
 
 pub returns-clause-inner : goal.returns-clause-inner
 returns-clause-inner c = λ none.
@@ -53,4 +53,4 @@ returns-clause-inner c = λ none.
             usual = λ _. refl;
             strict = λ e. absurd (false≢true (cc (e, w.if-is_some.false, c.is_some.ensures)));
           }) w.self-inside-is
-    ]) (c.push_reserved.ensures.items ∙ ap (λ vs. vs ++ c.args.value ∷ []) c.in_ok-reserve.ensures.items)
+    ]) (c.push_reserved.ensures.items ∙ ap (λ vs. vs ++ c.args.value ∷ []) c.in_ok-reserve_value.ensures.items)

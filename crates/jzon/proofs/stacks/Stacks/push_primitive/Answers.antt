@@ -44,11 +44,11 @@ puts_onto s o mid new (Err e) bs i p G h is same put = (
 
 pub invariant_of-self-2 : goal.invariant_of-self-2
 invariant_of-self-2 c =
-    laid_after c.self.inside c.reserve.new.self c.put_primitive.new.target c.put_primitive.result c.args.source.now
-    c.args.start _ _ c.self.invariant c.in_ok-reserve.ensures.items c.put_primitive.ensures.outcome
+    laid_after c.self.inside c.reserve_value.new.values c.put_primitive.new.target c.put_primitive.result c.args.source.now
+    c.args.start _ _ c.self.invariant c.in_ok-reserve_value.ensures.items c.put_primitive.ensures.outcome
 
 pub returns-clause-outcome : goal.returns-clause-outcome
 returns-clause-outcome c =
-    puts_onto c.self.inside c.args.self.now c.reserve.new.self c.put_primitive.new.target c.put_primitive.result
-    c.args.source.now c.args.start _ _ c.self.invariant c.self.view_is c.in_ok-reserve.ensures.items
+    puts_onto c.self.inside c.args.self.now c.reserve_value.new.values c.put_primitive.new.target c.put_primitive.result
+    c.args.source.now c.args.start _ _ c.self.invariant c.self.view_is c.in_ok-reserve_value.ensures.items
     c.put_primitive.ensures.outcome
