@@ -130,17 +130,17 @@ const CHANGED: &[Row<Changed>] = rows! {
     (Changed::Parse(DOCUMENT), "parse", "null", DUMP, 6)
     (Changed::Parse(ESCAPED), "parse of a long string", "null", UNESCAPED, 4)
     (Changed::Parse(LONG_DOCUMENT), "parse of a long key", "null", LONG_DOCUMENT, 11)
-    (Changed::Parse(REPEATED), "parse of a repeated key among twenty", "null", TWENTY_KEYS, 9)
+    (Changed::Parse(REPEATED), "parse of a repeated key among twenty", "null", TWENTY_KEYS, 8)
     (Changed::Parse(ALIKE), "parse of elements that are alike", "null", ALIKE, 11)
     (Changed::Parse(ONE_IN_ANOTHER), "parse of an object of one key in another", "null",
         ONE_IN_ANOTHER, 7)
     (Changed::Parse(THREE_IN_ANOTHER), "parse of an object of three keys in another", "null",
         THREE_IN_ANOTHER, 7)
     (Changed::Parse(SIXTEEN_IN_ANOTHER), "parse of an object of 16 keys in another", "null",
-        SIXTEEN_IN_ANOTHER, 13)
+        SIXTEEN_IN_ANOTHER, 12)
     (Changed::Parse(ARRAY_IN_OBJECT), "parse of an array in an object", "null", ARRAY_IN_OBJECT, 5)
     (Changed::ParseStrictly(DOCUMENT), "strict parse_as", "null", DUMP, 7)
-    (Changed::ParseStrictly(TWENTY_KEYS), "strict parse_as of twenty keys", "null", TWENTY_KEYS, 7)
+    (Changed::ParseStrictly(TWENTY_KEYS), "strict parse_as of twenty keys", "null", TWENTY_KEYS, 6)
     // A container that is the whole text takes the blocks of the stacks, which have room for eight:
     // so nothing is allocated for what is added.
     (Changed::ParseAndPush("[1,2,3]"), "push onto what was parsed", "null", "[1,2,3,true]", 1)

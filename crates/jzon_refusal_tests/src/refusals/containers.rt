@@ -17,8 +17,9 @@ const MOST_OF_OBJECT: usize = 8 * 96 * 2000;
 /// room for.
 const MOST_OF_TWO: usize = 2 * 96 * 8;
 
-/// The 48 bytes of each value on the stack, whose room doubles up to 1,024.
-const STACK: usize = 48 * 2048;
+/// The 48 bytes of each value on the stack, which has room for 8, then 21, 42 and so on up to 1,344.
+/// The outermost array and what is known of open containers take less than 8 values.
+const STACK: usize = 48 * (2675 + 8);
 
 /// The 48 bytes of each value in a thousand such arrays, and in the array of them.
 const MOST_OF_ALIKE_ARRAYS: usize = STACK + 48 * 6 * 1000;

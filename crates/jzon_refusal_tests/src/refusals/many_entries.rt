@@ -189,11 +189,11 @@ const SIZES: &[GrownRow] = rows! {
     (Grown::Parse("[1]"), "parse, retain and drop of 1 key", 1, 0, 5)
     (Grown::Parse("[1]"), "parse, retain and drop of 11 keys", 11, 1, 17)
     (Grown::Parse("[1]"), "parse, retain and drop of 32 keys", 32, 22, 40)
-    (Grown::Parse("[1]"), "parse, retain and drop of 33 keys", 33, 23, 45)
-    (Grown::Parse("[1]"), "parse, retain and drop of 65 keys", 65, 55, 79)
-    (Grown::ParseStrictly("null"), "strict parse_as, retain and drop of 70 keys", 70, 60, 18)
-    (Grown::ParseStrictly("[1]"), "strict parse_as of 70 arrays, retain and drop", 70, 60, 90)
-    (Grown::Parse("null"), "parse, retain and drop of 300 keys", 300, 290, 17)
+    (Grown::Parse("[1]"), "parse, retain and drop of 33 keys", 33, 23, 44)
+    (Grown::Parse("[1]"), "parse, retain and drop of 65 keys", 65, 55, 78)
+    (Grown::ParseStrictly("null"), "strict parse_as, retain and drop of 70 keys", 70, 60, 17)
+    (Grown::ParseStrictly("[1]"), "strict parse_as of 70 arrays, retain and drop", 70, 60, 89)
+    (Grown::Parse("null"), "parse, retain and drop of 300 keys", 300, 290, 16)
 };
 
 #[test]

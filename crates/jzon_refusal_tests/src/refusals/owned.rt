@@ -226,7 +226,7 @@ const OWNED: &[Row<Owned>] = rows! {
     (Owned::ClearArray, "clear of an array and its string", "[]", "[]", 2)
     (Owned::ClearString, "clear of an allocated string", "null", "\"\"", 1)
     (Owned::Retain, "retain of a long key and its string", "{}", "{}", 5)
-    (Owned::Repeated, "parse of long keys repeated among many", "null", REPEATED, 37)
+    (Owned::Repeated, "parse of long keys repeated among many", "null", REPEATED, 36)
     (Owned::Emptied, "clear of containers in an object", "null", "{\"a\":[],\"b\":{},\"d\":[]}", 14)
     (Owned::Rejected(IN_ARRAY), "parse rejects in an array", "null", "null", 2)
     (Owned::Rejected(IN_OBJECT), "parse rejects in an object", "null", "null", 5)

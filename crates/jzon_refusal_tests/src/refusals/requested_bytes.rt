@@ -535,8 +535,8 @@ const HELD: &[(Held, &str, usize)] = &[
     (Held::TextClone, "clone of a string with room", 31 + 24),
     (Held::Key, "Key::new of a long key", 40 + 24),
     (Held::KeyClone, "Key::clone of a long key", 40 + 24),
-    // A text that grows may have as much room again.
-    (Held::Dump, "dump of a long string", 2 * 200_002 + 24),
+    // A text that grows may have as much room again, and a block of this size ends with its page.
+    (Held::Dump, "dump of a long string", 2 * 200_002 + 4096),
 ];
 
 #[test]
