@@ -115,7 +115,7 @@ impl<'a> Cursor<'a> {
         self.go_to(self.index + 1);
     }
 
-    /// The text has no valid continuation from here.
+    /// The stop at the next character, or at the end, if the text has no valid continuation from here.
     #[inline(always)]
     pub(crate) fn fault(&self) -> Stop
         ensures { Reports self.now.source.now result

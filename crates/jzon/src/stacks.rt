@@ -109,8 +109,8 @@ fn grow(alloc: Global, values: &mut Vec<JsonValue>) -> Result<(), AllocError>
 }
 
 /// Removes what is on the stack from `start` on, and returns it in a block of its exact size. The
-/// outermost container gets the stack's own block instead, unless most of it is unused. The error is
-/// a failed allocation.
+/// outermost container gets the stack's own block instead, unless it has outgrown the first room and
+/// more than half of it is unused. The error is a failed allocation.
 #[inline(always)]
 fn cut_tail<T>(
     alloc: Global,
@@ -368,7 +368,8 @@ impl Stacks {
     }
 
     /// Removes the elements of the innermost container, which is an array that ended, and returns them.
-    /// The error is a failed allocation.
+    /// A single one gets a block of one, also in the outermost container, where `cut_values` would
+    /// leave it the block of eight. The error is a failed allocation.
     #[inline(always)]
     fn end_array(&mut self) -> Result<Vec<JsonValue>, AllocError>
         requires { self.old.innermost.keys ≡ [] }

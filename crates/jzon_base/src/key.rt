@@ -62,7 +62,7 @@ impl Key {
         })
     }
 
-    /// The key with this text if it is longer than 32 bytes: the part of `push` that allocates. The
+    /// The key with this text if it is longer than 32 bytes, made before `push`, which doesn't allocate. The
     /// error is a failed allocation.
     #[inline(always)]
     pub(crate) fn long(alloc: Global, text: &str) -> Result<Option<Key>, AllocError>

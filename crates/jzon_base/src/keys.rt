@@ -246,7 +246,7 @@ impl Keys {
         self.keys
     }
 
-    /// How many keys there are.
+    /// How many keys there are. The clause `distinct` gives proofs the invariant.
     pub fn len(&self) -> usize
         ensures len { result ≡ length self.now }
         ensures distinct { IsDistinct bytes_eq self.now }

@@ -175,7 +175,7 @@ impl<V> Pairs<V> {
         self.alloc
     }
 
-    /// The number of entries.
+    /// The number of entries. The clause `distinct` gives proofs the invariant.
     pub fn len(&self) -> usize
         ensures len { result ≡ length self.now }
         ensures distinct { IsDistinct bytes_eq (keys_of self.now) }
@@ -280,7 +280,8 @@ impl<V> Pairs<V> {
         Some(self.value_mut(index))
     }
 
-    /// Puts the first entry. The box is allocated before the room for keys and values. The error is
+    /// Puts the first entry, into a new box: there is none yet. The box is allocated before the room
+    /// for keys and values. The error is
     /// a failed allocation.
     #[inline(never)]
     fn insert_first(&mut self, alloc: Global, name: &str, value: V) -> Result<(), AllocError>

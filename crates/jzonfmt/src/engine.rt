@@ -37,7 +37,7 @@ pub struct Options {
 /// Why a text was not printed, or only in part.
 #[derive(Debug, Drop)]
 pub enum RunFault {
-    /// The reader failed with this error; an interruption counts.
+    /// The reader failed with this error, an interruption included; or the arguments couldn't be read.
     Read(io::Error),
     /// The input is not UTF-8.
     NotUtf8,

@@ -24,6 +24,7 @@ const POWERS_OF_TEN: [u64; 9] = [
     100_000_000,
 ];
 
+/// A power of ten.
 #[inline(always)]
 pub(crate) fn ten_to(n: usize) -> u64
     requires { n ≤ 8 }

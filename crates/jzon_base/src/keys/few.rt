@@ -1,4 +1,5 @@
-//! Up to 32 keys have no index: they are compared one by one.
+//! Up to 32 keys have no index, unless there were more since there was none: they are compared one
+//! by one.
 ghost use Rattle.std.specs.Prelude.{◌≡◌, ◌-◌, length, IsTrue, ◌↔◌, slice_index};
 ghost use Rattle.std.specs.List.{list_any, position, IsDistinct};
 ghost use Rattle.std.specs.Str.{bytes_eq};
@@ -12,7 +13,8 @@ pub const LINEAR_MAX: usize = 32;
 /// Up to how many keys are compared with each other. Of more, a filter finds which may repeat.
 const COMPARED_MAX: usize = 8;
 
-/// Whether texts have the same bytes.
+/// Whether texts have the same bytes. It is a function of its own, so that `are_equal` makes a call
+/// only if lengths and last bytes agree.
 #[inline(never)]
 fn have_same_bytes(a: &str, b: &str) -> bool
     ensures { result ≡ bytes_eq a.now b.now }

@@ -53,7 +53,7 @@ impl Number {
     }
 
     /// The number times `10 ^ point`, with its sign, if that is an integer: at point 2, -12.30 is
-    /// -1230. `None` if a digit would be lost, for NaN, and if it doesn't fit.
+    /// -1230. `None` if a digit other than 0 would be lost, for NaN, and if it doesn't fit.
     pub fn as_exact_fixed_point_i64(&self, point: u16) -> Option<i64>
         ensures number { SomeWhere (exact_fixed_point self.now point) (FitsSigned w64) result }
         ensures equal { IfSome result (λ n. point ≤ 32768
@@ -66,7 +66,7 @@ impl Number {
         }
     }
 
-    /// Whether the fixed-point readings at this point lose no digit.
+    /// Whether the fixed-point readings at this point lose no digit but zeros.
     fn is_exact_at(&self, point: u16) -> bool
         ensures whole { result ≡ is_whole_at self.now point }
         ensures exact { result ≡ true → IsExactAt self.now point }

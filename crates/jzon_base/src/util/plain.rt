@@ -14,8 +14,8 @@ const BLOCK: usize = 32;
 const HALF: usize = 16;
 
 /// The length of the longest prefix of bytes that a string of a text has unescaped: from 32 on, and
-/// neither a quote nor a backslash. Most strings end within half a block, which is compared here:
-/// for them no function is called.
+/// neither a quote nor a backslash. Most strings end within half a block, which is compared here
+/// without a call, if there are 16 bytes.
 #[inline(always)]
 pub fn plain_len(bytes: &[u8]) -> usize
     ensures { result ≡ prefix_len is_plain bytes.now }

@@ -132,6 +132,8 @@ pub fn number_text(positive: bool, mantissa: u64, exponent: i16) -> NumberText
     text
 }
 
+/// Adds digits with their exponent: as they are, with zeros after them, with a point between them, or
+/// with an exponent (docs/RULES.md, "Printed numbers").
 fn push_magnitude(text: &mut NumberText, digits: &str, exponent: i16)
     requires ascii { IsAscii digits.now }
     requires some { 0 < length digits.now }
@@ -197,6 +199,7 @@ fn push_small_exponent(text: &mut NumberText, count: usize, places: usize)
     text.push_str(buffer.format((places + 1 - count) as u16));
 }
 
+/// Adds digits with a point after the first, if there are more.
 fn push_point_after_first(text: &mut NumberText, digits: &str)
     requires ascii { IsAscii digits.now }
     requires room { array_string_len text.old + length digits.now + 1 ≤ 29 }
@@ -209,6 +212,7 @@ fn push_point_after_first(text: &mut NumberText, digits: &str)
     }
 }
 
+/// Adds digits with a point after `whole` of them.
 fn push_point_after(text: &mut NumberText, digits: &str, whole: usize)
     requires ascii { IsAscii digits.now }
     requires within { whole ≤ length digits.now }
@@ -220,6 +224,7 @@ fn push_point_after(text: &mut NumberText, digits: &str, whole: usize)
     text.push_str(&digits[whole..]);
 }
 
+/// Adds zeros.
 fn push_zeros(text: &mut NumberText, count: usize)
     requires { array_string_len text.old + count ≤ 29 }
     ensures { text.new.bytes ≡ text.old.bytes ++ replicate count 48 }

@@ -15,7 +15,7 @@ pub(super) const ESCAPE_MAX_LEN: usize = 6;
 /// The most bytes of a string that is added by its first and last bytes.
 const BY_ENDS_MAX_LEN: usize = 32;
 
-/// The room that any of these takes with its quotes.
+/// The room that such a string takes with its quotes, at most.
 pub(super) const BY_ENDS_ROOM: usize = BY_ENDS_MAX_LEN + 2;
 
 /// For an outlet's `put_string`: adds a string of at most 32 bytes in quotes if it needs no escape
@@ -44,7 +44,7 @@ pub fn push_short(bytes: &mut Vec<u8>, string: &[u8]) -> bool
 }
 
 /// Puts a short string at an offset if it needs no escape. Otherwise nothing is put, and the result
-/// is false. Each arm takes the strings of `N` to `2 * N` bytes, or of 1 byte, or the empty one.
+/// is false. Each arm puts the first and the last `N` bytes, which may overlap (`put_ends`).
 #[inline(always)]
 fn put_if_plain(bytes: &mut [u8], offset: usize, string: &[u8]) -> bool
     requires few { length string.now ≤ BY_ENDS_MAX_LEN }

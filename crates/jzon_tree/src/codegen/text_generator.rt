@@ -201,6 +201,7 @@ impl<P: Destination, L: Layout> Generator for TextGenerator<P, L> {
     }
 
     fn try_write_number(&mut self, num: &Number, slot: &mut ErrorSlot) -> SlotResult<()> {
+        // `write_decimal` does what follows, in a function of its own.
         if num.as_parts().2 != 0 {
             return self.write_decimal(num, slot);
         }

@@ -68,8 +68,9 @@ pub trait Tree {
         ensures present { OnErr result (find key.now (pairs self.old) ≡ None) }
         ensures memory { IsOkUnless result Error.OutOfMemory };
 
-    /// Makes the value an array that has an element for the index. Fails only with `OutOfMemory`,
-    /// and then the value means what it meant.
+    /// Makes the value an array that has an element for the index: past its end an array gains one
+    /// null, whatever the index, and any other value becomes `[null]` for the index 0, else
+    /// `[null,null]`. Fails only with `OutOfMemory`, and then the value means what it meant.
     fn make_place(&mut self, alloc: Global, index: usize) -> Result<()>
         ensures ok { OnOk result (items self.new ≡ Some (with_place null (items self.old) index)) }
         ensures err { OnErr result (meaning self.new ≡ meaning self.old) }

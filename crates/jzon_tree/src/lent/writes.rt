@@ -56,7 +56,8 @@ pub fn write_at_index(
     write_at_index_in(value, alloc, index, item)
 }
 
-/// `write_present` of any tree.
+/// `write_present` of any tree: the checker proves a write back only if node and tree are of
+/// different types.
 fn write_present_in<T: Tree>(tree: &mut T, key: &str, value: T::Node) -> bool
 where
     T::Node: Drop,

@@ -12,7 +12,7 @@ use crate::value::JsonValue;
 
 impl JsonValue {
     /// The number as a `u64`, if its exponent is 0, its sign is positive, and it fits. `None` also
-    /// for an integer that is written with a point or an exponent, as `1.0`, `1e2` and `100e-2`:
+    /// for most integers that are written with a point or an exponent, as `1.0`, `1e2` and `100e-2`:
     /// `as_exact_fixed_point_u64(0)` returns these.
     ///
     /// ```rust
@@ -52,8 +52,8 @@ impl JsonValue {
         usize::try_from(self.as_number()?).ok()
     }
 
-    /// The number as an `i64`, if its exponent is 0 and it fits. `None` also for an integer that is
-    /// written with a point or an exponent, as `1.0`, `1e2` and `100e-2`:
+    /// The number as an `i64`, if its exponent is 0 and it fits. `None` also for most integers that
+    /// are written with a point or an exponent, as `1.0`, `1e2` and `100e-2`:
     /// `as_exact_fixed_point_i64(0)` returns these.
     pub fn as_i64(&self) -> Option<i64>
         ensures { SomeWhere (integer_in (view self.now)) (FitsSigned w64) result }

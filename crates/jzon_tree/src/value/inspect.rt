@@ -111,6 +111,7 @@ pub(crate) fn inspect_object(object: &Object) -> Inspection
     found
 }
 
+/// What elements have in common.
 #[cycle(inspect)]
 fn inspect_items(items: &[JsonValue]) -> Inspection
     ensures { IsInspected (array (view_values items.now)) result.has_nan result.nest }
