@@ -21,8 +21,9 @@ const FIRST_WORDS: usize = 64;
 /// How many times as many words it gets when it has one for each key.
 const GROWTH: usize = 4;
 
-/// How often all keys are compared with a name before they get an index.
-const SCANS_MAX: u8 = 16;
+/// How often all keys are compared with a name while the filter has one size, before they get an
+/// index.
+const SCANS_MAX: u8 = 64;
 
 /// An odd number by which a hash is multiplied, so that all its bits change the upper ones.
 const MIXER: u64 = 0x9e37_79b9_7f4a_7c15;
@@ -33,7 +34,7 @@ const MIXER: u64 = 0x9e37_79b9_7f4a_7c15;
 pub struct ManyKeys {
     words: Vec<u64>,
     entries: Vec<(u64, usize)>,
-    /// How often all keys may still be compared with a name.
+    /// How often all keys may still be compared with a name before the filter grows.
     pub(super) scans_left: u8,
 }
 
@@ -114,6 +115,7 @@ impl ManyKeys {
         if self.words.len() <= keys.len() {
             let count = self.words.len().saturating_mul(GROWTH);
             self.words = words_of(alloc, count, self.entries.as_slice())?;
+            self.scans_left = SCANS_MAX;
         }
         Ok(())
     }
