@@ -159,14 +159,15 @@ fn stops_at_each_call_that_fails(rt: HostRuntime) -> Tested {
     Ok(())
 }
 
+const BROKEN: Trouble = Trouble::Fails(ErrorKind::BrokenPipe);
+
 /// The writer fails where 16 bits no longer count its calls, and at its last call.
 #[test]
 fn stops_late(rt: HostRuntime) -> Tested {
     let sample = large(rt.alloc())?;
-    let trouble = Trouble::Fails(ErrorKind::BrokenPipe);
     for how in HOWS {
         for call in [65535, 65536, 65537, how.text(&sample).len()] {
-            expect_stop(&rt, &sample, how, trouble, call)?;
+            expect_stop(&rt, &sample, how, BROKEN, call)?;
         }
     }
     Ok(())
@@ -176,9 +177,8 @@ fn stops_late(rt: HostRuntime) -> Tested {
 #[test]
 fn stops_in_wide_lines(rt: HostRuntime) -> Tested {
     let sample = wide(rt.alloc())?;
-    let trouble = Trouble::Fails(ErrorKind::BrokenPipe);
     for how in HOWS {
-        expect_stops(&rt, &sample, how, trouble)?;
+        expect_stops(&rt, &sample, how, BROKEN)?;
     }
     Ok(())
 }
@@ -190,11 +190,10 @@ const MOST_OF_FAILED: usize = 1 << 20;
 #[test]
 fn failed_writes_counted(rt: HostRuntime) -> Tested {
     let sample = small(rt.alloc())?;
-    let trouble = Trouble::Fails(ErrorKind::BrokenPipe);
     for how in HOWS {
         let mut refusals = Refusals::new(rt.alloc());
         refusals.open();
-        expect_stops(&rt, &sample, how, trouble)?;
+        expect_stops(&rt, &sample, how, BROKEN)?;
         refusals.close();
         refusals.expect_within(&rt, "writes that fail", MOST_OF_FAILED)?;
         refusals.expect_even()?;
@@ -222,9 +221,8 @@ fn writes_the_whole_text(rt: HostRuntime) -> Tested {
 #[test]
 fn stops_at_the_fourth_call(rt: HostRuntime) -> Tested {
     let value = parse(rt.alloc(), "[1,2,3]")?;
-    let trouble = Trouble::Fails(ErrorKind::BrokenPipe);
-    let mut writer = SlowWriter::new(rt.alloc(), 4, trouble);
-    expect_trouble(&rt, value.write(&mut writer), trouble)?;
+    let mut writer = SlowWriter::new(rt.alloc(), 4, BROKEN);
+    expect_trouble(&rt, value.write(&mut writer), BROKEN)?;
     expect_prefix(&rt, &writer, "[1,", 4);
     Ok(())
 }

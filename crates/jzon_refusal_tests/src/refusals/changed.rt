@@ -76,28 +76,32 @@ const ESCAPED: &str = "\"\\u00e9 and a text of more than thirty bytes\\n\\uD834\
 
 const UNESCAPED: &str = "\"é and a text of more than thirty bytes\\n\u{1d11e}\"";
 
+/// An object of 32 keys, and of these entries.
+macro_rules! after_32_keys {
+    ($more:literal) => {
+        concat!(
+            "{\"a\":0,\"b\":1,\"c\":2,\"d\":3,\"e\":4,\"f\":5,\"g\":6,\"h\":7,\"i\":8,\"j\":9,",
+            "\"k\":10,\"l\":11,\"m\":12,\"n\":13,\"o\":14,\"p\":15,\"q\":16,\"r\":17,\"s\":18,",
+            "\"t\":19,\"u\":20,\"v\":21,\"w\":22,\"x\":23,\"y\":24,\"z\":25,\"A\":26,\"B\":27,",
+            "\"C\":28,\"D\":29,\"E\":30,\"F\":31",
+            $more,
+            "}"
+        )
+    };
+}
+
 /// The most keys that have no index, and are compared one by one.
-const THIRTY_TWO_KEYS: &str = "{\
-    \"a\":0,\"b\":1,\"c\":2,\"d\":3,\"e\":4,\"f\":5,\"g\":6,\"h\":7,\"i\":8,\"j\":9,\"k\":10,\
-    \"l\":11,\"m\":12,\"n\":13,\"o\":14,\"p\":15,\"q\":16,\"r\":17,\"s\":18,\"t\":19,\"u\":20,\
-    \"v\":21,\"w\":22,\"x\":23,\"y\":24,\"z\":25,\"A\":26,\"B\":27,\"C\":28,\"D\":29,\"E\":30,\
-    \"F\":31}";
+const THIRTY_TWO_KEYS: &str = after_32_keys!("");
 
 /// With another key, with which they have an index.
-const THIRTY_THREE_KEYS: &str = "{\
-    \"a\":0,\"b\":1,\"c\":2,\"d\":3,\"e\":4,\"f\":5,\"g\":6,\"h\":7,\"i\":8,\"j\":9,\"k\":10,\
-    \"l\":11,\"m\":12,\"n\":13,\"o\":14,\"p\":15,\"q\":16,\"r\":17,\"s\":18,\"t\":19,\"u\":20,\
-    \"v\":21,\"w\":22,\"x\":23,\"y\":24,\"z\":25,\"A\":26,\"B\":27,\"C\":28,\"D\":29,\"E\":30,\
-    \"F\":31,\
-    \"0123456789abcdef0123456789abcdef01234567\":true}";
+const THIRTY_THREE_KEYS: &str = after_32_keys!(
+    ",\"0123456789abcdef0123456789abcdef01234567\":true"
+);
 
 /// With another key, whose value is null.
-const THIRTY_THIRD_NULL: &str = "{\
-    \"a\":0,\"b\":1,\"c\":2,\"d\":3,\"e\":4,\"f\":5,\"g\":6,\"h\":7,\"i\":8,\"j\":9,\"k\":10,\
-    \"l\":11,\"m\":12,\"n\":13,\"o\":14,\"p\":15,\"q\":16,\"r\":17,\"s\":18,\"t\":19,\"u\":20,\
-    \"v\":21,\"w\":22,\"x\":23,\"y\":24,\"z\":25,\"A\":26,\"B\":27,\"C\":28,\"D\":29,\"E\":30,\
-    \"F\":31,\
-    \"0123456789abcdef0123456789abcdef01234567\":null}";
+const THIRTY_THIRD_NULL: &str = after_32_keys!(
+    ",\"0123456789abcdef0123456789abcdef01234567\":null"
+);
 
 /// More keys than are compared with each other: a filter finds which may repeat.
 const TWENTY_KEYS: &str = "{\"a\":0,\"b\":1,\"c\":2,\"d\":3,\"e\":4,\"f\":5,\"g\":6,\"h\":7,\
