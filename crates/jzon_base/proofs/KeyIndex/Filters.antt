@@ -3,10 +3,11 @@ use Rattle.jzon_base.proofs.Common.{◌≡◌, ◌∙◌, ℕ, ◌<◌, ◌*◌,
 use Rattle.jzon_base.proofs.Common.{get_or, set, bit_or, sym, ap, subst, inl, inr, arith, get_or-set_same, get_or-set_other}
 use Rattle.jzon_base.proofs.Common.{◌/◌, get_or_append_left, length-append, length-set, get_or_default, zero-add, None, position, All, All-push}
 use Rattle.std.proofs.lemmas.Nat.{or_comm, or_shr}
-use Rattle.jzon_base.proofs.Common.{cases_Bool, bytes_eq, bytes_eq-Decides, list_any, true≢false, IsDistinct}
+use Rattle.jzon_base.proofs.Common.{cases_Bool, bytes_eq, bytes_eq-Decides, list_any, true≢false, IsDistinct, nat_tests}
 use Rattle.std.specs.Int.{bit_at, w64}
 use Rattle.std.proofs.lemmas.Bool.{cases_eq}
-use Rattle.std.proofs.lemmas.List.Folds.{list_any_none}
+use Rattle.std.specs.Prelude.{◌==◌}
+use Rattle.std.proofs.lemmas.List.Folds.{list_any_none, list_any-from_Any}
 use Rattle.std.proofs.lemmas.Nat.Bits.{bit_at_set_same, bit_at_set_other}
 use Rattle.jzon_base.specs.declared.keys.known.KnownKeys.{KnownKeys}
 use Rattle.jzon_base.specs.declared.keys.known.KnownKeys.TheVariants.{Few, Many, Indexed}
@@ -116,19 +117,40 @@ module _ (ws : List ℕ) (h n w m : ℕ) (some : 0 < length ws) (long : n ≡ le
       (subst (λ vs. HasMask vs (h % n) (mask_of h)) new_is
       (subst (HasMask (with_mask ws (h % n) m) (h % n)) own (mask_same ws (h % n) m within)))
 
-module _ (ks : List (List ℕ)) (ws : List ℕ) (ps : List (ℕ × ℕ)) (entries : ps ≡ hashed_from 0 ks)
-    (bits : All (λ p. HasHash ws p.0) ps) (name : List ℕ) (b : Bool) (known : HasHash ws (hash_of name) → b ≡ true) where
+eq_by : (a b : ℕ) → a ≡ b → (a == b) ≡ true
+eq_by a b e = grind (arith, nat_tests)
+
+module _ (ks : List (List ℕ)) (ps : List (ℕ × ℕ)) (entries : ps ≡ hashed_from 0 ks) (name : List ℕ) where
+  own_hash : (j : ℕ) → j < length ks → bytes_eq (get_or ks j []) name ≡ true
+      → (get_or {A = ℕ × ℕ} ps j (0, 0)).0 ≡ hash_of name
+  own_hash j l same =
+      ap (λ (qs : List (ℕ × ℕ)). (get_or qs j (0, 0)).0) entries ∙ ap (λ (p : ℕ × ℕ). p.0) (get_or-hashed_from ks 0 j (0, 0) l)
+      ∙ ap hash_of ((bytes_eq-Decides _ name).0 same)
+
+  is_entry : (j : ℕ) → j < length ks → j < length ps
+  is_entry j l = omega (arith, l, ap length entries ∙ length-hashed_from 0 ks)
+
   -- a key whose bits aren't all set is missing
-  pub missing_by_hash : b ≡ false → position (λ k. bytes_eq k name) ks ≡ None
-  missing_by_hash clear = position-none (λ k. bytes_eq k name) ks [] (λ j l.
+  pub missing_by_hash : (ws : List ℕ) (b : Bool) → All (λ p. HasHash ws p.0) ps
+      → (HasHash ws (hash_of name) → b ≡ true) → b ≡ false → position (λ k. bytes_eq k name) ks ≡ None
+  missing_by_hash ws b bits known clear = position-none (λ k. bytes_eq k name) ks [] (λ j l.
       elim (cases_Bool (bytes_eq (get_or ks j []) name)) [
         | inr other ↦ other
         | inl same ↦
-            (let own : (get_or {A = ℕ × ℕ} ps j (0, 0)).0 ≡ hash_of name =
-            ap (λ (qs : List (ℕ × ℕ)). (get_or qs j (0, 0)).0) entries ∙ ap (λ (p : ℕ × ℕ). p.0) (get_or-hashed_from ks 0 j (0, 0) l)
-            ∙ ap hash_of ((bytes_eq-Decides _ name).0 same) in
-            let long : length ps ≡ length ks = ap length entries ∙ length-hashed_from 0 ks in
-            absurd (true≢false (sym (known (subst (HasHash ws) own (bits j (0, 0) (omega (arith, l, long))))) ∙ clear)))
+            absurd (true≢false (sym (known (subst (HasHash ws) (own_hash j l same) (bits j (0, 0) (is_entry j l)))) ∙ clear))
+      ])
+
+  -- a key whose hash no entry has is missing
+  pub missing_by_entry : (h : ℕ) → h ≡ hash_of name → list_any (λ p. p.0 == h) ps ≡ false
+      → position (λ k. bytes_eq k name) ks ≡ None
+  missing_by_entry h hash none = position-none (λ k. bytes_eq k name) ks [] (λ j l.
+      elim (cases_Bool (bytes_eq (get_or ks j []) name)) [
+        | inr other ↦ other
+        | inl same ↦
+            (let p : ℕ × ℕ = get_or ps j (0, 0) in
+            let has : (p.0 == h) ≡ true = eq_by p.0 h (own_hash j l same ∙ sym hash) in
+            absurd (true≢false (sym (list_any-from_Any (λ (q : ℕ × ℕ). q.0 == h) ps
+            (j, p, is_entry j l, sym (get_or_default ps j (0, 0) p (is_entry j l)), has)) ∙ none)))
       ])
 
 -- one more key

@@ -2,8 +2,8 @@
 //! reading asks this before it adds a key.
 //!
 //! Up to 32 keys have a filter, and more have another one, which grows: keys are compared only if a
-//! filter says that one may repeat. Nearly all such answers are right for the keys of usual texts.
-//! After 16 of them the keys get an index, as in `Keys`: so n keys take about n (log n)^2
+//! filter says that one may repeat. For the keys of usual texts it is seldom wrong. If it is wrong
+//! 64 times in one size, the keys get an index, as in `Keys`: so n keys take about n (log n)^2
 //! comparisons, whatever the keys are.
 ghost use Rattle.std.specs.Prelude.{◌≡◌, ◌++◌, ◌∷◌, [], true, false, is_some, IfOk, OnErr, List, ℕ};
 ghost use Rattle.std.specs.List.{position};

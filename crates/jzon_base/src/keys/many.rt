@@ -1,12 +1,13 @@
 //! What is known of more than 32 keys that are in a vector of the caller: their index entries in the
 //! order of the keys, and a filter of their hashes that grows. A usual key that is new takes its
 //! hash and a test of bits; the entries are sorted once, when the keys get their index.
-ghost use Rattle.std.specs.Prelude.{◌≡◌, ◌<◌, ◌++◌, ◌∷◌, [], true, false, is_some, length, IfOk, OnErr, OnOk, ℕ};
-ghost use Rattle.std.specs.List.{position, All, IsDistinct};
+ghost use Rattle.std.specs.Prelude.{◌≡◌, ◌<◌, ◌==◌, ◌++◌, ◌∷◌, [], true, false, is_some, length, IfOk, OnErr, OnOk, ℕ};
+ghost use Rattle.std.specs.List.{list_any, position, All, IsDistinct};
 ghost use Rattle.std.specs.Str.{bytes_eq};
 ghost use Rattle.jzon_base.specs.Private.Filter.{mask_of, HasHash};
 ghost use Rattle.jzon_base.specs.Private.Handed.{IsTable};
 ghost use Rattle.jzon_base.specs.Private.Hash.{hash_of};
+ghost use Rattle.jzon_base.specs.Private.Keys.{hashed_from};
 ghost use Rattle.jzon_base.specs.Private.Known.{KnowsMany};
 
 use super::hash::hash_of;
@@ -21,7 +22,7 @@ const FIRST_WORDS: usize = 64;
 /// How many times as many words it gets when it has one for each key.
 const GROWTH: usize = 4;
 
-/// How often all keys are compared with a name while the filter has one size, before they get an
+/// How often all hashes are compared with one while the filter has one size, before the keys get an
 /// index.
 const SCANS_MAX: u8 = 64;
 
@@ -34,7 +35,7 @@ const MIXER: u64 = 0x9e37_79b9_7f4a_7c15;
 pub struct ManyKeys {
     words: Vec<u64>,
     entries: Vec<(u64, usize)>,
-    /// How often all keys may still be compared with a name before the filter grows.
+    /// How often all hashes may still be compared with one before the filter grows.
     pub(super) scans_left: u8,
 }
 
@@ -78,6 +79,13 @@ fn words_of(alloc: Global, count: usize, entries: &[(u64, usize)]) -> Result<Vec
     Ok(words)
 }
 
+/// Whether an entry has this hash.
+fn has_hash(entries: &[(u64, usize)], hash: u64) -> bool
+    ensures { result ≡ list_any (λ p. p.0 == hash) entries.now }
+{
+    entries.iter().any(|entry| entry.0 == hash)
+}
+
 impl ManyKeys {
     /// What is known of these keys. The error is a failed allocation.
     pub fn of(alloc: Global, keys: &[Key]) -> Result<ManyKeys, AllocError>
@@ -93,16 +101,19 @@ impl ManyKeys {
         })
     }
 
-    /// Whether there is a key of this name, by a comparison with all keys.
+    /// Whether there is a key of this name, which has this hash, by a comparison with the hashes of
+    /// all keys, and with the keys if one is equal.
     #[cold]
     #[inline(never)]
-    fn scan(&mut self, keys: &[Key], name: &str) -> bool
+    fn scan(&mut self, keys: &[Key], name: &str, hash: u64) -> bool
+        requires entries { self.old.entries.items ≡ hashed_from 0 keys.now }
+        requires hash { hash ≡ hash_of name.now }
         ensures known { result ≡ is_some (position (λ k. bytes_eq k name.now) keys.now) }
         ensures words { self.new.words ≡ self.old.words }
         ensures entries { self.new.entries ≡ self.old.entries }
     {
         self.scans_left = self.scans_left.saturating_sub(1);
-        few::position(keys, name).is_some()
+        has_hash(self.entries.as_slice(), hash) && few::position(keys, name).is_some()
     }
 
     /// Gives the filter more words if it has no more than there are keys. The error is a failed
@@ -129,7 +140,7 @@ impl ManyKeys {
         ensures knows { KnowsMany keys.now self.new.words.items self.new.entries.items }
         ensures own { HasHash self.new.words.items hash }
     {
-        set_bits(&mut self.words, hash) && self.scan(keys, name)
+        set_bits(&mut self.words, hash) && self.scan(keys, name, hash)
     }
 
     /// Whether there is a key of this name. If not, the name is known from now on. The error is a
