@@ -71,7 +71,7 @@ pub fn remove_nulls(config: &mut JsonValue) {
     }
 }
 
-/// Moves the value of the key `old` to the key `new`, at the end.
+/// Moves the value of the key `old` to the key `new`, which is put last if it is missing.
 pub fn rename(alloc: Global, config: &mut JsonValue) -> Result<()> {
     if config.has_key("old") {
         let value = config.remove("old");

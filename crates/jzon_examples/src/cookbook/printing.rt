@@ -19,7 +19,7 @@ pub fn write_line<W: Write + Drop>(alloc: Global, writer: W, value: &JsonValue) 
     buffered.flush()
 }
 
-/// Adds the compact text of a value to a string.
+/// Adds the compact text of an array or object to a string.
 pub fn add_text(text: &mut String, value: &JsonValue) -> Result<()> {
     write!(text, "{value}")?;
     Ok(())
