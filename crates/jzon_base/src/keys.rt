@@ -41,7 +41,7 @@ const FIRST_ROOM: usize = 8;
 /// Distinct keys in the order in which they were put, and the index in which the position of each
 /// is found. A clause sees the list of their bytes.
 ///
-/// A look-up compares keys without an index one by one. `fill`, `refill` and `entries::hashed`
+/// A look-up compares keys without an index one by one. `refill` and `entries::fill`
 /// compute the hashes of keys; else the caller passes them to the index.
 #[derive(Drop)]
 pub struct Keys {
@@ -252,13 +252,6 @@ impl Keys {
         ensures distinct { IsDistinct bytes_eq self.now }
     {
         self.keys.len()
-    }
-
-    /// Whether there is no key.
-    pub fn is_empty(&self) -> bool
-        ensures { result ≡ (length self.now == 0) }
-    {
-        self.len() == 0
     }
 
     /// The position of a key.

@@ -57,17 +57,16 @@ impl<V> Pairs<V> {
         }
     }
 
-    /// `Pairs` of these entries, which are put in a box. The error is a failed allocation.
+    /// `Pairs` of keys and as many values, which are put in a box. The error is a failed allocation.
     #[inline(always)]
-    fn boxed(alloc: Global, entries: Contents<V>) -> Result<Pairs<V>, AllocError>
+    fn boxed(alloc: Global, keys: Keys, values: Vec<V>) -> Result<Pairs<V>, AllocError>
     where
         V: Drop,
-        ensures { IfOk result (λ p. p ≡ entries) }
+        requires { length values.items ≡ length keys }
+        ensures { IfOk result (λ p. p ≡ zip keys values.items) }
     {
-        Ok(Pairs {
-            alloc,
-            entries: Some(Box::new(alloc, entries)?),
-        })
+        let entries = Some(Box::new(alloc, Contents { keys, values })?);
+        Ok(Pairs { alloc, entries })
     }
 
     /// No entry, with room for keys and values of `capacity` entries, and for up to 1,024 index
@@ -82,7 +81,7 @@ impl<V> Pairs<V> {
         }
         let keys = Keys::with_capacity(alloc, capacity)?;
         let values = Vec::with_capacity(alloc, capacity)?;
-        Pairs::boxed(alloc, Contents::from_parts(keys, values))
+        Pairs::boxed(alloc, keys, values)
     }
 
     /// The entries of keys and as many values, put one after the other: those of equal keys become
@@ -104,8 +103,7 @@ impl<V> Pairs<V> {
             return Ok(Pairs::new(alloc));
         }
         if keys.len() <= LINEAR_MAX && are_distinct(keys.as_slice()) {
-            let keys = Keys::from_distinct(alloc, keys);
-            return Pairs::boxed(alloc, Contents::from_parts(keys, values));
+            return Pairs::boxed(alloc, Keys::from_distinct(alloc, keys), values);
         }
         Pairs::merged(alloc, keys, values)
     }
@@ -119,7 +117,7 @@ impl<V> Pairs<V> {
         ensures { IfOk result (λ p. p ≡ put_each (zip keys.items values.items)) }
     {
         let (keys, values) = Keys::from_entries(alloc, keys, values)?;
-        Pairs::boxed(alloc, Contents::from_parts(keys, values))
+        Pairs::boxed(alloc, keys, values)
     }
 
     /// The entries of keys that are known to be distinct, and of as many values. The error is a
@@ -140,7 +138,7 @@ impl<V> Pairs<V> {
             return Ok(Pairs::new(alloc));
         }
         let keys = Keys::from_known(alloc, keys, known)?;
-        Pairs::boxed(alloc, Contents::from_parts(keys, values))
+        Pairs::boxed(alloc, keys, values)
     }
 
     /// A copy of the keys, with these values. The error is a failed allocation.
@@ -151,10 +149,7 @@ impl<V> Pairs<V> {
         ensures { IfOk result (λ p. p ≡ zip (keys_of self.now) values.items) }
     {
         match &self.entries {
-            Some(entries) => {
-                let keys = entries.keys().clone(alloc)?;
-                Pairs::boxed(alloc, Contents::from_parts(keys, values))
-            }
+            Some(entries) => Pairs::boxed(alloc, entries.keys().clone(alloc)?, values),
             None => Ok(Pairs::new(alloc)),
         }
     }
@@ -281,8 +276,7 @@ impl<V> Pairs<V> {
     }
 
     /// Puts the first entry, into a new box: there is none yet. The box is allocated before the room
-    /// for keys and values. The error is
-    /// a failed allocation.
+    /// for keys and values. The error is a failed allocation.
     #[inline(never)]
     fn insert_first(&mut self, alloc: Global, name: &str, value: V) -> Result<(), AllocError>
     where

@@ -26,7 +26,6 @@ fn of_names(alloc: Global, names: &[&str]) -> Result<Keys, AllocError> {
 /// The keys are these, in this order, and "d" isn't among them.
 fn expect_names(rt: &impl Abort, keys: &Keys, names: &[&str]) {
     expect_eq(rt, "the number of keys", keys.len(), names.len());
-    expect_eq(rt, "is_empty", keys.is_empty(), names.is_empty());
     for (index, name) in names.iter().enumerate() {
         expect_eq(rt, name, keys.position(name), Some(index));
         expect(rt, name, index < keys.len() && keys.get(index) == *name);

@@ -23,7 +23,7 @@ fn of_pairs(alloc: Global, pairs: &[(&str, usize)]) -> Result<Pairs<usize>, Allo
 /// The pairs as `a1 b2 `.
 fn shown(alloc: Global, pairs: &Pairs<usize>) -> Result<String, AllocError> {
     let mut text = String::new(alloc);
-    for (name, value) in pairs {
+    for (name, value) in pairs.iter() {
         write!(text, "{name}{value} ")?;
     }
     Ok(text)
@@ -61,7 +61,7 @@ fn lends_its_iterator(rt: HostRuntime) -> Result<(), AllocError> {
 #[test]
 fn writes_through_its_iterator(rt: HostRuntime) -> Result<(), AllocError> {
     let mut pairs = of_pairs(rt.alloc(), &[("a", 1), ("b", 2), ("c", 3)])?;
-    for (name, value) in &mut pairs {
+    for (name, value) in pairs.iter_mut() {
         if name != "b" {
             *value = 7;
         }

@@ -86,16 +86,6 @@ module _ {F V : Type 0} (T : F → List ℕ → V → Bool → V → F → Type 
       pub rest : (qs : List (List ℕ × V)) → RetainsPairs T f (zip (drop i ks) (drop i vs)) qs
           → RetainsPairs T f₀ ps₀ (zip (take n ks) (take n vs) ++ qs)
 
-    pub sifted_none : (f : F) (ks : List (List ℕ)) (vs : List V) → length vs ≡ length ks
-        → CallableOnEachPair T Q f (zip ks vs) → IsSifted f (zip ks vs) (length ks) f ks vs 0 0
-    sifted_none f ks vs even callable = record {
-      counted = refl;
-      even = even;
-      within = omega arith;
-      ready = callable;
-      rest = λ qs r. r;
-    }
-
     module _ {f₀ : F} {ps₀ : List (List ℕ × V)} {e : ℕ} {f : F} {ks : List (List ℕ)} {vs : List V} {n i : ℕ}
         (s : IsSifted f₀ ps₀ e f ks vs n i) where
       module _ (k : List ℕ) (v : V) (more : i < e) (is : k ≡ get_or ks i k) (has : v ≡ get_or vs i v) where

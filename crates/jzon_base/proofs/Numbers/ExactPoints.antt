@@ -2,11 +2,10 @@
 use Rattle.jzon_base.proofs.Common.{◌≡◌, ℕ, zero, suc, ℤ, pos, negsuc, neg_ℤ, ◌+◌, ◌*◌, ◌/◌, ◌%◌, ◌^◌, ◌≤◌, ◌<◌, ◌==◌}
 use Rattle.jzon_base.proofs.Common.{◌+ℤ◌, Bool, true, false, Option, Some, None, refl, sym, ap, ◌∙◌, arith, FitsSigned}
 use Rattle.jzon_base.proofs.Common.{subst, IsTrue, IfSome, ◌||◌, ◌&&◌, w16, eq-eqb, ints, same_Some}
-use Rattle.std.specs.Int.{w64}
 use Rattle.std.proofs.Math.Nat.{mod-eq-sub-div-mul, div-mul-le_self}
 use Rattle.std.proofs.lemmas.Bool.{eqb-true}
 use Rattle.jzon_base.specs.Decimal.{Decimal, nan, parts, scaled, shifted, whole_part, is_whole, is_whole_at}
-use Rattle.jzon_base.specs.Decimal.{fixed_point, unsigned_fixed_point, integer_at, same, signed, parts_of}
+use Rattle.jzon_base.specs.Decimal.{unsigned_fixed_point, integer_at, same, signed, parts_of}
 use Rattle.jzon_base.specs.Decimal.{IsExactAt, SomeWhere}
 use Rattle.jzon_base.proofs.Numbers.Powers.{power_pos, eq-times}
 use Rattle.jzon_base.proofs.Numbers.Scaling.{scaled-down}
@@ -87,10 +86,3 @@ exact_unsigned d point None exact h = tt
 exact_unsigned nan point (Some n) exact h = absurd (cc)
 exact_unsigned (parts true m e) point (Some n) exact h = λ low. exact low (pos n) (ap (λ k. Some (pos k)) (sym h.1))
 exact_unsigned (parts false m e) point (Some n) exact h = absurd (cc)
-
-pub exact_signed : (d : Decimal) (point : ℕ) (r : Option ℤ) → IsExactAt d point
-    → SomeWhere (fixed_point d point) (FitsSigned w64) r
-    → IfSome r (λ n. point ≤ 32768 → IsTrue (same d (integer_at n point)))
-exact_signed d point None exact h = tt
-exact_signed nan point (Some n) exact h = absurd (cc)
-exact_signed (parts positive m e) point (Some n) exact h = λ low. exact low n (ap (λ k. Some k) (sym h.1))

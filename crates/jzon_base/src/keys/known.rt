@@ -5,7 +5,7 @@
 //! filter says that one may repeat. For the keys of usual texts it is seldom wrong. If it is wrong
 //! 64 times in one size, the keys get an index, as in `Keys`: so n keys take about n (log n)^2
 //! comparisons, whatever the keys are.
-ghost use Rattle.std.specs.Prelude.{◌≡◌, ◌++◌, ◌∷◌, [], true, false, is_some, IfOk, OnErr, List, ℕ};
+ghost use Rattle.std.specs.Prelude.{◌≡◌, ◌++◌, ◌∷◌, [], true, false, is_some, IfOk, OnErr};
 ghost use Rattle.std.specs.List.{position};
 ghost use Rattle.std.specs.Str.{bytes_eq};
 ghost use Rattle.jzon_base.specs.Private.Handed.{IsTable};

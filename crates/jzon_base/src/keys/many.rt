@@ -1,7 +1,7 @@
 //! What is known of more than 32 keys that are in a vector of the caller: their index entries in the
 //! order of the keys, and a filter of their hashes that grows. A usual key that is new takes its
 //! hash and a test of bits; the entries are sorted once, when the keys get their index.
-ghost use Rattle.std.specs.Prelude.{◌≡◌, ◌<◌, ◌==◌, ◌++◌, ◌∷◌, [], true, false, is_some, length, IfOk, OnErr, OnOk, ℕ};
+ghost use Rattle.std.specs.Prelude.{◌≡◌, ◌<◌, ◌==◌, ◌++◌, ◌∷◌, [], true, false, is_some, length, IfOk, OnErr, ℕ};
 ghost use Rattle.std.specs.List.{list_any, position, All, IsDistinct};
 ghost use Rattle.std.specs.Str.{bytes_eq};
 ghost use Rattle.jzon_base.specs.Private.Filter.{mask_of, HasHash};
@@ -92,7 +92,8 @@ impl ManyKeys {
         requires { IsDistinct bytes_eq keys.now }
         ensures { IfOk result (λ m. KnowsMany keys.now m.words.items m.entries.items) }
     {
-        let entries = entries::hashed(alloc, keys)?;
+        let mut entries = Vec::new(alloc);
+        entries::fill(&mut entries, keys)?;
         let words = words_of(alloc, FIRST_WORDS, entries.as_slice())?;
         Ok(ManyKeys {
             words,

@@ -41,14 +41,6 @@ impl<V> Contents<V> {
         }
     }
 
-    /// The entries of keys and as many values.
-    pub fn from_parts(keys: Keys, values: Vec<V>) -> Contents<V>
-        requires { length values.items ≡ length keys }
-        ensures { result ≡ zip keys values.items }
-    {
-        Contents { keys, values }
-    }
-
     /// The keys, and the values in the order of their keys.
     pub fn into_parts(self) -> (Keys, Vec<V>)
         ensures keys { result.0 ≡ keys_of self }

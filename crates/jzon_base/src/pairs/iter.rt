@@ -98,15 +98,3 @@ impl<V> Pairs<V> {
         Iter::empty()
     }
 }
-
-impl<'a, V> IntoIterator for &'a Pairs<V> {
-    type Item = (&'a str, &'a V);
-
-    type IntoIter = Iter<'a, V>;
-
-    ghost into_iter_gives = { λ p it. it ≡ p.now };
-
-    fn into_iter(self) -> Iter<'a, V> {
-        self.iter()
-    }
-}

@@ -97,17 +97,3 @@ impl<V> Pairs<V> {
         IterMut::empty()
     }
 }
-
-impl<'a, V> IntoIterator for &'a mut Pairs<V> {
-    ghost use Rattle.jzon_base.specs.IterMut.{iter_mut_rest};
-
-    type Item = (&'a str, &'a mut V);
-
-    type IntoIter = IterMut<'a, V>;
-
-    ghost into_iter_gives = { λ p it. iter_mut_rest it ≡ p.now };
-
-    fn into_iter(self) -> IterMut<'a, V> {
-        self.iter_mut()
-    }
-}

@@ -1,5 +1,4 @@
-use Rattle.jzon_base.proofs.Common.{ℕ, List, [], ◌∷◌, take, arith, refl, subst, IsDistinct, bytes_eq, false≢true}
-use Rattle.jzon_base.proofs.Common.{take_all}
+use Rattle.jzon_base.proofs.Common.{ℕ, List, [], ◌∷◌, take, arith, IsDistinct, bytes_eq, false≢true}
 use Rattle.jzon_base.proofs.KeyIndex.Indexes.{IsDistinct-more, repeated}
 use Rattle.jzon_base.proofs.keys.few.are_distinct.Goals as goal
 
@@ -23,10 +22,4 @@ returns-then-has_name c = (
   λ distinct. absurd
       (repeated c.args.keys.now c.loop-at.at _ c.index-keys-at.result c.as_str.result.now (omega arith) (omega arith)
       c.index-keys-at.is c.as_str.ensures c.if-has_name.ensures distinct),
-)
-
-pub returns : goal.returns
-returns c = (
-  λ _. subst (IsDistinct bytes_eq) (take_all c.loop-at.at c.args.keys.now c.loop-at-test.false) c.loop-at.invariant,
-  λ _. refl,
 )

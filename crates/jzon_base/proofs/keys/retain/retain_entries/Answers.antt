@@ -1,11 +1,7 @@
 use Rattle.jzon_base.proofs.Common.{◌∙◌, ap, arith, subst, CalledAtPair, TakesPair}
-use Rattle.jzon_base.proofs.Entries.Retention.{asked, dropped, kept, sifted_none, sifted_all}
+use Rattle.jzon_base.proofs.Entries.Retention.{asked, dropped, kept, sifted_all}
 use Rattle.jzon_base.proofs.keys.retain.retain_entries.Goals as goal
 use Rattle.jzon_base.proofs.keys.retain.retain_entries.Goals.{then-keeps, else-keeps}
-
-pub loop-at-init : goal.loop-at-init
-loop-at-init g c = sifted_none (CalledAtPair g.F.FnMut) (TakesPair g.F.FnMut) c.args.keep c.args.keys.now.items
-    c.args.values.now.items c.requires.even c.requires.callable
 
 pub keeps-requires : goal.keeps-requires
 keeps-requires g c =

@@ -9,6 +9,6 @@ returns-then-are_distinct g c =
     let vs = c.args.values.items in
     let distinct : IsDistinct bytes_eq ks =
     rw c.as_slice.ensures.value at (c.are_distinct.ensures.0 c.if-are_distinct.true) in
-    IfOk-weaker c.boxed.result (λ p. p ≡ c.from_parts.result) (λ p. p ≡ put_each (zip ks vs))
-    (λ p e. e ∙ c.from_parts.ensures ∙ ap (λ ls. zip ls vs) c.from_distinct-keys.ensures
+    IfOk-weaker c.boxed.result (λ p. p ≡ zip c.from_distinct.result vs) (λ p. p ≡ put_each (zip ks vs))
+    (λ p e. e ∙ ap (λ ls. zip ls vs) c.from_distinct.ensures
     ∙ sym (put_each-zip ks vs c.requires distinct)) c.boxed.ensures

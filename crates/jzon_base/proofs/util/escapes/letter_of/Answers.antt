@@ -8,11 +8,6 @@ use Rattle.jzon_base.proofs.util.escapes.letter_of.Goals as goal
 table_is : ESCAPE_LETTERS ≡ map letter_of (range_with_len 0 96)
 table_is = refl
 
-pub returns-then-letter-eq0-clause-letter : goal.returns-then-letter-eq0-clause-letter
-returns-then-letter-eq0-clause-letter c =
-    let e = table_at letter_of 96 ESCAPE_LETTERS table_is c.args.byte (omega (arith, c.if-byte-ge96.false)) in
-    λ h. omega (arith, h, e, c.if-letter-eq0.true)
-
 pub returns-else-letter-eq0-clause-letter : goal.returns-else-letter-eq0-clause-letter
 returns-else-letter-eq0-clause-letter c =
     let e = table_at letter_of 96 ESCAPE_LETTERS table_is c.args.byte (omega (arith, c.if-byte-ge96.false)) in

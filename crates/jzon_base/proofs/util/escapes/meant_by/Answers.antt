@@ -1,6 +1,6 @@
-use Rattle.jzon_base.proofs.Common.{◌≡◌, ℕ, zero, suc, ◌<◌, Bool, true, false, cond, map, refl, sym, ◌∙◌, arith}
+use Rattle.jzon_base.proofs.Common.{◌≡◌, ℕ, zero, suc, ◌<◌, Bool, true, false, cond, map, refl, ◌∙◌, arith}
 use Rattle.jzon_base.proofs.Common.{range_with_len}
-use Rattle.jzon_base.proofs.Strings.ByteTables.{table_at, marked, unmarked}
+use Rattle.jzon_base.proofs.Strings.ByteTables.{table_at, unmarked}
 use Rattle.jzon_base.specs.Escapes.{is_simple, unescaped}
 use Rattle.jzon_base.specs.declared.util.escapes.TheConstants.{UNESCAPED}
 use Rattle.jzon_base.proofs.util.escapes.meant_by.Goals as goal
@@ -23,13 +23,6 @@ chosen false false false false false n h = h
 positive : (b : ℕ) → is_simple b ≡ true → 0 < unescaped b
 positive zero h = absurd (cc h)
 positive (suc n) h = chosen _ _ _ _ _ (suc n) (omega arith)
-
-pub returns-then-meant-eq0 : goal.returns-then-meant-eq0
-returns-then-meant-eq0 c =
-    let b = c.args.letter in
-    let e = table_at mark 256 UNESCAPED table_is b (omega arith) in
-    marked (is_simple b) (unescaped b) 0 (sym e ∙ c.if-meant-eq0.true)
-    (λ h same. let above : 0 < unescaped b = positive b h in omega (arith, above, same))
 
 pub returns-else-meant-eq0 : goal.returns-else-meant-eq0
 returns-else-meant-eq0 c =

@@ -12,9 +12,6 @@ loop-at-init c = record {
   ));
 }
 
-pub refill-from-requires : goal.refill-from-requires
-refill-from-requires c = c.loop-at.invariant.refilled.within
-
 pub loop-at-preserved : goal.loop-at-preserved
 loop-at-preserved c =
     let rs = c.loop-at.self-inside.runs.items in

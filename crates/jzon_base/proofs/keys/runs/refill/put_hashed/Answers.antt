@@ -1,6 +1,5 @@
-use Rattle.jzon_base.proofs.Common.{◌≡◌, ◌-◌, ◌∙◌, length, take, drop, sym, arith, length-take-le}
-use Rattle.std.proofs.Common.{length-drop, take_all}
-use Rattle.jzon_base.specs.Private.Keys.{hashed_from}
+use Rattle.jzon_base.proofs.Common.{◌-◌, length, take, drop, sym, arith, length-take-le}
+use Rattle.std.proofs.Common.{length-drop}
 use Rattle.jzon_base.proofs.KeyIndex.Indexes.{hashed_from-none}
 use Rattle.jzon_base.proofs.KeyIndex.Refills.{hashed_from-set}
 use Rattle.jzon_base.proofs.keys.runs.refill.put_hashed.Goals as goal
@@ -16,12 +15,3 @@ loop-at-preserved c =
     let long = length-take-le (length ks - from) (drop from ks) (omega (arith, length-drop from ks)) in
     hashed_from-set from rest c.loop-at.at c.loop-at.entries c.hash_of.result _ _ (omega (arith, long)) (omega arith)
     c.loop-at.invariant c.index-rest-at.is c.as_str.ensures c.hash_of.ensures
-
-pub returns : goal.returns
-returns c =
-    let ks = c.args.keys.now in
-    let from = c.args.from in
-    let e : c.loop-at.at ≡ length c.args.entries.now = omega arith in
-    let all = take_all (length ks - from) (drop from ks) (omega (arith, length-drop from ks)) in
-    sym (take_all c.loop-at.at c.loop-at.entries (omega arith)) ∙ c.loop-at.invariant
-    ∙ (λ i. hashed_from from (take (e i) (all i)))
