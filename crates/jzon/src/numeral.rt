@@ -16,7 +16,7 @@ ghost use Rattle.jzon_base.specs.Tokens.{zero_digit};
 ghost use Rattle.jzon.specs.Private.Machine.{Frames, numeral, numeral_after_first, after_value, from, fault_here, Leads};
 ghost use Rattle.jzon.specs.Private.Numerals.{LeadsTo, MissesDigit, HasTooMany};
 
-use crate::bytes_at::has_byte;
+use crate::bytes_at::{byte_at, has_byte};
 use crate::fault::{Result, Stop, fault_at};
 use jzon_base::digits::{read_scanned, scan};
 use jzon_base::number::Number;
@@ -208,27 +208,16 @@ fn exponent_after(source: &str, start: usize) -> Exponent<'_>
         → from r source.now (numeral fs negative (lettered ws ds l)) start
         ≡ fault_here (chars (drop result.end source.now)) }
 {
-    if has_byte(source, start, b'-') {
-        return exponent_at(source, start + 1, false);
-    }
-    if has_byte(source, start, b'+') {
-        return exponent_at(source, start + 1, true);
-    }
-    exponent_at(source, start, true)
-}
-
-/// The exponent whose digits, if any, are at `start`.
-fn exponent_at(source: &str, start: usize, is_positive: bool) -> Exponent<'_>
-    requires { start ≤ length source.now }
-    ensures sign { result.is_positive ≡ is_positive }
-    ensures digits { result.digits.now ≡ take_while is_ascii_digit (drop start source.now) }
-    ensures end { result.end ≡ start + length result.digits.now }
-{
-    let (digits, _) = digits_at(source, start, 0);
+    let (is_positive, first) = match byte_at(source, start) {
+        b'-' => (false, start + 1),
+        b'+' => (true, start + 1),
+        _ => (true, start),
+    };
+    let (digits, _) = digits_at(source, first, 0);
     Exponent {
         is_positive,
         digits,
-        end: start + digits.len(),
+        end: first + digits.len(),
     }
 }
 

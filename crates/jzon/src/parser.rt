@@ -147,11 +147,7 @@ impl<'a> Parser<'a> {
             (left self.old.cursor (before_item self.old.stacks)) }
     {
         loop {
-            let opened = match self.stacks.innermost_kind() {
-                ContainerKind::Array => self.read_elements()?,
-                ContainerKind::Object => self.read_entries()?,
-            };
-            if let Some(kind) = opened {
+            if let Some(kind) = self.read_items()? {
                 self.stacks.open(kind)?;
             } else if let Some(value) = self.end_containers()? {
                 return expect_end(&self.cursor, value);
@@ -159,35 +155,25 @@ impl<'a> Parser<'a> {
         }
     }
 
-    /// Reads elements of the innermost container, which is an array: to its end, or to a container in
-    /// it that isn't empty, of which it reads the opening bracket.
+    /// Reads items of the innermost container: to its end, or to a container in it that isn't empty,
+    /// of which it reads the opening bracket.
     #[inline(always)]
-    fn read_elements(&mut self) -> fault::Result<Option<ContainerKind>>
-        requires array { self.old.stacks.innermost.kind ≡ ContainerKind.Array }
-        requires before { IsBeforeItem self.old.cursor self.old.stacks }
-        ensures { ReadsItems self.old.cursor self.old.stacks result self.new.cursor self.new.stacks }
-    {
-        loop {
-            match self.read_value(ContainerKind::Array)? {
-                Next::Item => {}
-                Next::Opened(kind) => return Ok(Some(kind)),
-                Next::End => return Ok(None),
-            }
-        }
-    }
-
-    /// Reads entries of the innermost container, which is an object: to its end, or to a container in
-    /// it that isn't empty, of which it reads the opening bracket.
-    #[inline(always)]
-    fn read_entries(&mut self) -> fault::Result<Option<ContainerKind>>
-        requires object { self.old.stacks.innermost.kind ≡ ContainerKind.Object }
+    fn read_items(&mut self) -> fault::Result<Option<ContainerKind>>
         requires before { IsBeforeItem self.old.cursor self.old.stacks }
         requires strict { self.old.stacks.strict ≡ self.old.cursor.reading.strict }
         ensures { ReadsItems self.old.cursor self.old.stacks result self.new.cursor self.new.stacks }
     {
+        let container = self.stacks.innermost_kind();
         loop {
-            self.read_key()?;
-            match self.read_value(ContainerKind::Object)? {
+            // One call of `read_value` for each kind: each is compiled with its closing bracket.
+            let next = match container {
+                ContainerKind::Array => self.read_value(ContainerKind::Array)?,
+                ContainerKind::Object => {
+                    self.read_key()?;
+                    self.read_value(ContainerKind::Object)?
+                }
+            };
+            match next {
                 Next::Item => {}
                 Next::Opened(kind) => return Ok(Some(kind)),
                 Next::End => return Ok(None),

@@ -98,28 +98,14 @@ fn put_literal<T: Target>(source: &str, start: usize, first: u8, target: &mut T)
         (λ r fs. value_mark r fs ≡ None) }
 {
     let prefix = last_four_at(start, first);
-    let value = literal_value(first);
-    if has_four(source, prefix, last_four(first)) {
+    let (value, letters) = literal(first);
+    if has_four(source, prefix, letters) {
         target.put(value);
         return Ok(prefix + 4);
     }
-    let end = read_letters(source, prefix, &last_four(first))?;
+    let end = read_letters(source, prefix, &letters)?;
     target.put(value);
     Ok(end)
-}
-
-/// The value of the literal with this first letter.
-#[inline(always)]
-fn literal_value(first: u8) -> JsonValue
-    ensures null { first ≡ letter_n → view result ≡ null }
-    ensures yes { first ≡ letter_t → view result ≡ boolean true }
-    ensures no { first ≡ letter_f → view result ≡ boolean false }
-{
-    if first == b'n' {
-        JsonValue::Null
-    } else {
-        JsonValue::Boolean(first == b't')
-    }
 }
 
 /// The offset of the last four letters of the literal with this first letter at `start`.
@@ -132,18 +118,18 @@ fn last_four_at(start: usize, first: u8) -> usize
     start + usize::from(first == b'f')
 }
 
-/// The last four letters of the literal with this first letter.
+/// The value of the literal with this first letter, and its last four letters.
 #[inline(always)]
-fn last_four(first: u8) -> [u8; 4]
-    ensures ascii { IsAscii result }
-    ensures null { first ≡ letter_n → result ≡ codes "null" }
-    ensures yes { first ≡ letter_t → result ≡ codes "true" }
-    ensures no { first ≡ letter_f → result ≡ codes "alse" }
+fn literal(first: u8) -> (JsonValue, [u8; 4])
+    ensures ascii { IsAscii result.1 }
+    ensures null { first ≡ letter_n → (view result.0 ≡ null) × (result.1 ≡ codes "null") }
+    ensures yes { first ≡ letter_t → (view result.0 ≡ boolean true) × (result.1 ≡ codes "true") }
+    ensures no { first ≡ letter_f → (view result.0 ≡ boolean false) × (result.1 ≡ codes "alse") }
 {
     match first {
-        b'n' => *b"null",
-        b't' => *b"true",
-        _ => *b"alse",
+        b'n' => (JsonValue::Null, *b"null"),
+        b't' => (JsonValue::Boolean(true), *b"true"),
+        _ => (JsonValue::Boolean(false), *b"alse"),
     }
 }
 

@@ -131,7 +131,8 @@ fn cut_tail<T>(
 
 /// Does what `cut_tail` does, with one exception. If the values from `start` on are many, only few are
 /// before them, and most of the block is used, they keep the block, and those before them are moved to
-/// a new one, because a copy of many values touches new pages.
+/// a new one, because a copy of many values touches new pages. After an error the values may be in
+/// another order.
 #[inline(always)]
 fn cut_values(
     alloc: Global,
@@ -146,25 +147,11 @@ fn cut_values(
 {
     let count = stack.len() - start;
     if LONG < count && !is_outermost && start <= count / 8 && stack.capacity() / 2 <= count {
-        return cut_long(stack, start);
+        stack.as_mut_slice().rotate_left(start);
+        let front = stack.split_off(count)?;
+        return Ok(mem::replace(stack, front));
     }
     cut_tail(alloc, stack, start, is_outermost)
-}
-
-/// Removes the values from `start` on, and returns them in the stack's block. Those before them get
-/// a new one. After an error the values are in another order.
-#[cold]
-#[inline(never)]
-fn cut_long(stack: &mut Vec<JsonValue>, start: usize) -> Result<Vec<JsonValue>, AllocError>
-    requires { start ≤ vec_len stack.old }
-    ensures items { OnOk result (stack.new.items ≡ take start stack.old.items) }
-    ensures tail { IfOk result (λ tail. tail.items ≡ drop start stack.old.items) }
-    ensures err { OnErr result (vec_len stack.new ≡ vec_len stack.old) }
-{
-    let count = stack.len() - start;
-    stack.as_mut_slice().rotate_left(start);
-    let front = stack.split_off(count)?;
-    Ok(mem::replace(stack, front))
 }
 
 /// In a strict reading: stores what is known of the keys of a container in which one is opened, and

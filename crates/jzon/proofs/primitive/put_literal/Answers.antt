@@ -1,4 +1,4 @@
-use Rattle.jzon_base.proofs.Common.{◌≡◌, ◌+◌, ◌∙◌, ℕ, List, [], ◌∷◌, None, refl, sym, IsTrue}
+use Rattle.jzon_base.proofs.Common.{◌≡◌, ◌+◌, ◌∙◌, ℕ, [], ◌∷◌, None, refl, sym, IsTrue}
 use Rattle.jzon_tree.specs.View.{view}
 use Rattle.jzon.specs.Reading.{Reading, usual}
 use Rattle.jzon.specs.Private.Machine.{Frames, no_frames, before, value_mark}
@@ -9,34 +9,37 @@ use Rattle.jzon.proofs.primitive.put_literal.Given.{Over}
 use Rattle.jzon.proofs.primitive.put_literal.Goals.{After-has_four}
 use Rattle.jzon.proofs.primitive.put_literal.Goals as goal
 
--- the last four letters are expected
-begins : (g : Over) (c : After-has_four g) (r : Reading) (fs : Frames) (four : List ℕ) → value_mark r fs ≡ None
-    → Spells c.args.first four (110 ∷ 117 ∷ 108 ∷ 108 ∷ []) (116 ∷ 114 ∷ 117 ∷ 101 ∷ []) (97 ∷ 108 ∷ 115 ∷ 101 ∷ [])
-    → Begins r c.args.source.now c.args.start c.last_four_at-prefix.result fs (view c.literal_value-value.result) four
-begins g c r fs four m spells =
-    word_begins r c.args.source.now c.args.start c.args.first c.last_four_at-prefix.result fs _ four
-    c.utf8.source c.requires.within (sym c.requires.first) m c.requires.word
+-- the last four letters of the literal
+spells : (g : Over) (c : After-has_four g) → Spells c.args.first c.literal-value.result.1
+    (110 ∷ 117 ∷ 108 ∷ 108 ∷ []) (116 ∷ 114 ∷ 117 ∷ 101 ∷ []) (97 ∷ 108 ∷ 115 ∷ 101 ∷ [])
+spells g c = record {
+  null = λ e. (c.literal-value.ensures.null e).1;
+  yes = λ e. (c.literal-value.ensures.yes e).1;
+  no = λ e. (c.literal-value.ensures.no e).1;
+}
+
+-- they are expected
+begins : (g : Over) (c : After-has_four g) (r : Reading) (fs : Frames) → value_mark r fs ≡ None
+    → Begins r c.args.source.now c.args.start c.last_four_at-prefix.result fs (view c.literal-value.result.0)
+    c.literal-value.result.1
+begins g c r fs m =
+    word_begins r c.args.source.now c.args.start c.args.first c.last_four_at-prefix.result fs _
+    c.literal-value.result.1 c.utf8.source c.requires.within (sym c.requires.first) m c.requires.word
     (record {
-      null = c.literal_value-value.ensures.null;
-      yes = c.literal_value-value.ensures.yes;
-      no = c.literal_value-value.ensures.no;
+      null = λ e. (c.literal-value.ensures.null e).0;
+      yes = λ e. (c.literal-value.ensures.yes e).0;
+      no = λ e. (c.literal-value.ensures.no e).0;
     })
-    spells c.last_four_at-prefix.ensures.short c.last_four_at-prefix.ensures.long
+    (spells g c) c.last_four_at-prefix.ensures.short c.last_four_at-prefix.ensures.long
 
 -- if they are there, the literal ends after them
 ends : (g : Over) (c : After-has_four g) (r : Reading) (fs : Frames) → value_mark r fs ≡ None → IsTrue c.has_four.result
     → WordEnds r c.args.source.now c.args.start (c.last_four_at-prefix.result + 4) fs
-    (view c.literal_value-value.result)
+    (view c.literal-value.result.0)
 ends g c r fs m all =
     let four = c.has_four.ensures in
-    let spells : Spells c.args.first c.last_four.result (110 ∷ 117 ∷ 108 ∷ 108 ∷ []) (116 ∷ 114 ∷ 117 ∷ 101 ∷ [])
-    (97 ∷ 108 ∷ 115 ∷ 101 ∷ []) = record {
-      null = c.last_four.ensures.null;
-      yes = c.last_four.ensures.yes;
-      no = c.last_four.ensures.no;
-    } in
-    word_ends r c.args.source.now c.args.start c.args.first c.last_four_at-prefix.result fs _ c.last_four.result
-    c.utf8.source (begins g c r fs c.last_four.result m spells) c.requires.word spells
+    word_ends r c.args.source.now c.args.start c.args.first c.last_four_at-prefix.result fs _ c.literal-value.result.1
+    c.utf8.source (begins g c r fs m) c.requires.word (spells g c)
     (record {
       within = four.within all;
       first = four.first all;
@@ -60,27 +63,24 @@ returns-then-has_four-clause-outcome g c = (
 
 pub read_letters-requires-clause-boundary : goal.read_letters-requires-clause-boundary
 read_letters-requires-clause-boundary g c =
-    (begins g (goal.at.read_letters-requires-clause-boundary g c).After-has_four usual no_frames c.last_four-2.result refl
-    (record { null = c.last_four-2.ensures.null; yes = c.last_four-2.ensures.yes; no = c.last_four-2.ensures.no })).boundary
+    (begins g (goal.at.read_letters-requires-clause-boundary g c).After-has_four usual no_frames refl).boundary
 
 pub returns-in_err-end-clause-memory : goal.returns-in_err-end-clause-memory
 returns-in_err-end-clause-memory g c =
     fails_without_memory c.args.source.now _ _ c.from_residual.result c.from_residual.ensures.1
-    (c.in_err-end.ensures.outcome usual no_frames (view c.literal_value-value.result))
+    (c.in_err-end.ensures.outcome usual no_frames (view c.literal-value.result.0))
 
 pub returns-in_err-end-clause-outcome : goal.returns-in_err-end-clause-outcome
 returns-in_err-end-clause-outcome g c =
     puts_none (g.T.Target.takes c.args.target.now) c.args.target.now c.args.target.now c.from_residual.result
     c.args.source.now c.args.start before (λ r fs. value_mark r fs ≡ None) _ c.from_residual.ensures.1 refl (λ r fs m.
-    let begin = begins g (goal.at.returns-in_err-end-clause-outcome g c).After-has_four r fs c.last_four-2.result m
-    (record { null = c.last_four-2.ensures.null; yes = c.last_four-2.ensures.yes; no = c.last_four-2.ensures.no }) in
-    reported c.args.source.now _ _ _ begin.same (c.in_err-end.ensures.outcome r fs (view c.literal_value-value.result)))
+    let begin = begins g (goal.at.returns-in_err-end-clause-outcome g c).After-has_four r fs m in
+    reported c.args.source.now _ _ _ begin.same (c.in_err-end.ensures.outcome r fs (view c.literal-value.result.0)))
 
 pub returns-clause-outcome : goal.returns-clause-outcome
 returns-clause-outcome g c = (
   _,
   c.put-2.ensures,
-  λ r fs m. (begins g (goal.at.returns-clause-outcome g c).After-has_four r fs c.last_four-2.result m
-      (record { null = c.last_four-2.ensures.null; yes = c.last_four-2.ensures.yes; no = c.last_four-2.ensures.no })).same
-      ∙ c.in_ok-end.ensures.outcome r fs (view c.literal_value-value.result),
+  λ r fs m. (begins g (goal.at.returns-clause-outcome g c).After-has_four r fs m).same
+      ∙ c.in_ok-end.ensures.outcome r fs (view c.literal-value.result.0),
 )

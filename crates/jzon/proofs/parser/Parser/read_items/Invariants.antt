@@ -1,7 +1,7 @@
 use Rattle.jzon_base.proofs.Common.{◌-◌, length}
 use Rattle.jzon.specs.Private.OpenContainers.{before_item, KeepsAround, IsBeforeItem}
 use Rattle.jzon.proofs.Texts.Cursors.{Reached}
-use Rattle.jzon.proofs.parser.Parser.read_entries.Given as goal
+use Rattle.jzon.proofs.parser.Parser.read_items.Given as goal
 
 abbrev pub invariant-loop-self : goal.invariant-loop-self
 invariant-loop-self l = record {
