@@ -1,4 +1,4 @@
-use Rattle.jzon_base.proofs.Common.{◌≡◌, ◌+◌, ◌∙◌, ℕ, [], ◌∷◌, None, refl, sym, IsTrue}
+use Rattle.jzon_base.proofs.Common.{◌≡◌, ◌+◌, ◌∙◌, [], ◌∷◌, None, refl, sym, IsTrue}
 use Rattle.jzon_tree.specs.View.{view}
 use Rattle.jzon.specs.Reading.{Reading, usual}
 use Rattle.jzon.specs.Private.Machine.{Frames, no_frames, before, value_mark}
