@@ -74,24 +74,13 @@ fn push_inline(copies: &mut Vec<JsonValue>, value: &JsonValue) -> bool
     ensures len { result ≡ true → vec_len copies.new ≡ vec_len copies.old + 1 }
 {
     match value {
-        JsonValue::Null => {
-            copies.push_reserved(JsonValue::Null);
-            true
-        }
-        JsonValue::Short(text) => {
-            copies.push_reserved(JsonValue::Short(text.copy_fields()));
-            true
-        }
-        JsonValue::Number(number) => {
-            copies.push_reserved(JsonValue::Number(number.copy_fields()));
-            true
-        }
-        JsonValue::Boolean(truth) => {
-            copies.push_reserved(JsonValue::Boolean(*truth));
-            true
-        }
-        _ => false,
+        JsonValue::Null => copies.push_reserved(JsonValue::Null),
+        JsonValue::Short(text) => copies.push_reserved(JsonValue::Short(text.copy_fields())),
+        JsonValue::Number(number) => copies.push_reserved(JsonValue::Number(number.copy_fields())),
+        JsonValue::Boolean(truth) => copies.push_reserved(JsonValue::Boolean(*truth)),
+        _ => return false,
     }
+    true
 }
 
 /// As `JsonValue::clone`, with the allocator of the value. The error is a failed allocation.

@@ -2,136 +2,156 @@
 
 ghost use Rattle.std.specs.Prelude.{◌≡◌, pos, string_bytes};
 ghost use Rattle.jzon_base.specs.Decimal.{integer_parts};
-ghost use Rattle.jzon_tree.specs.Value.{boolean, long, number, text};
+ghost use Rattle.jzon_tree.specs.Value.{Value, boolean, long, number, text};
 ghost use Rattle.jzon_tree.specs.View.{view, view_object};
 
 use crate::object::Object;
 use crate::value::JsonValue;
 use jzon_base::number::Number;
 
-/// The number of this integer, with the exponent 0.
-impl From<u8> for JsonValue {
-    ghost from_gives = { λ n v. view v ≡ number (integer_parts (pos n)) };
+/// Types that convert into a value without an allocation, so without an error. They implement
+/// `From`, and `IntoJson`.
+pub trait Direct: Drop {
+    // What a source means.
+    ghost value: { Self → Value };
 
-    fn from(integer: u8) -> JsonValue {
-        JsonValue::Number(Number::from(integer))
+    /// Converts into a value.
+    fn into_value(self) -> JsonValue
+        ensures { view result ≡ value self };
+}
+
+/// Never fails, and allocates nothing.
+impl<T: Direct> From<T> for JsonValue {
+    ghost from_gives = { λ x v. view v ≡ T.value x };
+
+    fn from(source: T) -> JsonValue {
+        source.into_value()
     }
 }
 
 /// The number of this integer, with the exponent 0.
-impl From<u16> for JsonValue {
-    ghost from_gives = { λ n v. view v ≡ number (integer_parts (pos n)) };
+impl Direct for u8 {
+    ghost value = { λ n. number (integer_parts (pos n)) };
 
-    fn from(integer: u16) -> JsonValue {
-        JsonValue::Number(Number::from(integer))
+    fn into_value(self) -> JsonValue {
+        JsonValue::Number(Number::from(self))
     }
 }
 
 /// The number of this integer, with the exponent 0.
-impl From<u32> for JsonValue {
-    ghost from_gives = { λ n v. view v ≡ number (integer_parts (pos n)) };
+impl Direct for u16 {
+    ghost value = { λ n. number (integer_parts (pos n)) };
 
-    fn from(integer: u32) -> JsonValue {
-        JsonValue::Number(Number::from(integer))
+    fn into_value(self) -> JsonValue {
+        JsonValue::Number(Number::from(self))
     }
 }
 
 /// The number of this integer, with the exponent 0.
-impl From<u64> for JsonValue {
-    ghost from_gives = { λ n v. view v ≡ number (integer_parts (pos n)) };
+impl Direct for u32 {
+    ghost value = { λ n. number (integer_parts (pos n)) };
 
-    fn from(integer: u64) -> JsonValue {
-        JsonValue::Number(Number::from(integer))
+    fn into_value(self) -> JsonValue {
+        JsonValue::Number(Number::from(self))
     }
 }
 
 /// The number of this integer, with the exponent 0.
-impl From<usize> for JsonValue {
-    ghost from_gives = { λ n v. view v ≡ number (integer_parts (pos n)) };
+impl Direct for u64 {
+    ghost value = { λ n. number (integer_parts (pos n)) };
 
-    fn from(integer: usize) -> JsonValue {
-        JsonValue::Number(Number::from(integer))
+    fn into_value(self) -> JsonValue {
+        JsonValue::Number(Number::from(self))
     }
 }
 
 /// The number of this integer, with the exponent 0.
-impl From<i8> for JsonValue {
-    ghost from_gives = { λ n v. view v ≡ number (integer_parts n) };
+impl Direct for usize {
+    ghost value = { λ n. number (integer_parts (pos n)) };
 
-    fn from(integer: i8) -> JsonValue {
-        JsonValue::Number(Number::from(integer))
+    fn into_value(self) -> JsonValue {
+        JsonValue::Number(Number::from(self))
     }
 }
 
 /// The number of this integer, with the exponent 0.
-impl From<i16> for JsonValue {
-    ghost from_gives = { λ n v. view v ≡ number (integer_parts n) };
+impl Direct for i8 {
+    ghost value = { λ n. number (integer_parts n) };
 
-    fn from(integer: i16) -> JsonValue {
-        JsonValue::Number(Number::from(integer))
+    fn into_value(self) -> JsonValue {
+        JsonValue::Number(Number::from(self))
     }
 }
 
 /// The number of this integer, with the exponent 0.
-impl From<i32> for JsonValue {
-    ghost from_gives = { λ n v. view v ≡ number (integer_parts n) };
+impl Direct for i16 {
+    ghost value = { λ n. number (integer_parts n) };
 
-    fn from(integer: i32) -> JsonValue {
-        JsonValue::Number(Number::from(integer))
+    fn into_value(self) -> JsonValue {
+        JsonValue::Number(Number::from(self))
     }
 }
 
 /// The number of this integer, with the exponent 0.
-impl From<i64> for JsonValue {
-    ghost from_gives = { λ n v. view v ≡ number (integer_parts n) };
+impl Direct for i32 {
+    ghost value = { λ n. number (integer_parts n) };
 
-    fn from(integer: i64) -> JsonValue {
-        JsonValue::Number(Number::from(integer))
+    fn into_value(self) -> JsonValue {
+        JsonValue::Number(Number::from(self))
     }
 }
 
 /// The number of this integer, with the exponent 0.
-impl From<isize> for JsonValue {
-    ghost from_gives = { λ n v. view v ≡ number (integer_parts n) };
+impl Direct for i64 {
+    ghost value = { λ n. number (integer_parts n) };
 
-    fn from(integer: isize) -> JsonValue {
-        JsonValue::Number(Number::from(integer))
+    fn into_value(self) -> JsonValue {
+        JsonValue::Number(Number::from(self))
+    }
+}
+
+/// The number of this integer, with the exponent 0.
+impl Direct for isize {
+    ghost value = { λ n. number (integer_parts n) };
+
+    fn into_value(self) -> JsonValue {
+        JsonValue::Number(Number::from(self))
     }
 }
 
 /// A boolean.
-impl From<bool> for JsonValue {
-    ghost from_gives = { λ b v. view v ≡ boolean b };
+impl Direct for bool {
+    ghost value = { boolean };
 
-    fn from(truth: bool) -> JsonValue {
-        JsonValue::Boolean(truth)
+    fn into_value(self) -> JsonValue {
+        JsonValue::Boolean(self)
     }
 }
 
 /// A number keeps its parts.
-impl From<Number> for JsonValue {
-    ghost from_gives = { λ n v. view v ≡ number n };
+impl Direct for Number {
+    ghost value = { number };
 
-    fn from(number: Number) -> JsonValue {
-        JsonValue::Number(number)
+    fn into_value(self) -> JsonValue {
+        JsonValue::Number(self)
     }
 }
 
 /// A `String` becomes a `JsonValue::String`, however short it is.
-impl From<String> for JsonValue {
-    ghost from_gives = { λ s v. view v ≡ text long (string_bytes s) };
+impl Direct for String {
+    ghost value = { λ s. text long (string_bytes s) };
 
-    fn from(text: String) -> JsonValue {
-        JsonValue::String(text)
+    fn into_value(self) -> JsonValue {
+        JsonValue::String(self)
     }
 }
 
 /// An object, as it is.
-impl From<Object> for JsonValue {
-    ghost from_gives = { λ o v. view v ≡ view_object o };
+impl Direct for Object {
+    ghost value = { view_object };
 
     #[tactic(auto, using(crate::proofs::Values::Views::views))]
-    fn from(object: Object) -> JsonValue {
-        JsonValue::Object(object)
+    fn into_value(self) -> JsonValue {
+        JsonValue::Object(self)
     }
 }

@@ -1,16 +1,16 @@
 //! Conversions into values (docs/RULES.md, "Conversions").
 
-ghost use Rattle.std.specs.Prelude.{◌≡◌, ⊤, IfOk, IsOk, IsOkUnless};
-ghost use Rattle.jzon_tree.specs.Value.{Value};
+ghost use Rattle.std.specs.Prelude.{◌≡◌, ◌≤◌, ⊤, IfOk, IsOk, IsOkUnless, length};
+ghost use Rattle.jzon_tree.specs.Value.{Value, kind_of, text};
 ghost use Rattle.jzon_tree.specs.View.{view};
 
 mod containers;
-mod integers;
 mod maps;
-mod primitives;
 
+use crate::from::Direct;
 use crate::value::JsonValue;
 use jzon_base::error::{Error, Result};
+use jzon_base::short::{MAX_LEN, Short};
 use std::alloc::Global;
 
 /// Types that convert into a value. An implementation says by the relation `means` which values a
@@ -55,5 +55,31 @@ impl IntoJson for JsonValue {
 
     fn into_json(self, _alloc: Global) -> Result<JsonValue> {
         Ok(self)
+    }
+}
+
+/// As `From` converts. It allocates nothing.
+impl<T: Direct> IntoJson for T {
+    ghost means = { λ x v. v ≡ T.value x };
+
+    ghost is_free = { λ _. ⊤ };
+
+    fn into_json(self, _alloc: Global) -> Result<JsonValue> {
+        Ok(self.into_value())
+    }
+}
+
+/// A string of at most 30 bytes is stored inline, without an allocation.
+impl IntoJson for &str {
+    ghost means = { λ s v. v ≡ text (kind_of s.now) s.now };
+
+    ghost is_free = { λ s. length s.now ≤ 30 };
+
+    fn into_json(self, alloc: Global) -> Result<JsonValue> {
+        if self.len() <= MAX_LEN {
+            Ok(JsonValue::Short(Short::from_slice(self)))
+        } else {
+            Ok(JsonValue::String(String::from_str(alloc, self)?))
+        }
     }
 }

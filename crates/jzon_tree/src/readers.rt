@@ -149,10 +149,7 @@ impl JsonValue {
     pub fn get(&self, key: &str) -> Option<&JsonValue>
         ensures { option_map (λ v. view v.now) result ≡ find key.now (entries (view self.now)) }
     {
-        match self {
-            JsonValue::Object(object) => object.get(key),
-            _ => None,
-        }
+        self.as_object()?.get(key)
     }
 
     /// Whether it is an object that has the key.

@@ -83,20 +83,14 @@ impl<'a> View<'a> {
     pub fn at(self, key: &str) -> View<'a>
         ensures { shown result ≡ find key.now (entries (seen self.entry)) }
     {
-        match self.value {
-            Some(value) => value.at(key),
-            None => self,
-        }
+        self.value.map_or(self, |value| value.at(key))
     }
 
     /// The element at a position of an array. Missing past the end, and for any other value.
     pub fn at_index(self, index: usize) -> View<'a>
         ensures { shown result ≡ slice_get (items (seen self.entry)) index }
     {
-        match self.value {
-            Some(value) => value.at_index(index),
-            None => self,
-        }
+        self.value.map_or(self, |value| value.at_index(index))
     }
 
     /// Whether it is null or missing.

@@ -172,18 +172,3 @@ module _ (line : ℕ → List ℕ) (wide : Bool) (v : Value) {E : Type 0} (a b :
     pub sent_err : OnErr r (AppendsBeginning a b (layout_text (layout line wide) 0 v))
     sent_err = sends_err (Writes (only line wide) 0 v) (layout_text (layout line wide) 0 v) a b r
         (written line wide 0 v) sent
-
--- and for a generator in such a style that began without an indent
-module _ (line : ℕ → List ℕ) (wide : Bool) (v : Value) {W E : Type 0} (contents : W → Option (List ℕ))
-    (old new : Emitted) (o : Option (List ℕ)) (l : Option GName) (r : Result (Unit {0}) E) (n m : GName) (x now : W)
-    (begun : old ≡ fresh o (only line wide) l) (printed : Prints (Writes old.style old.dent v) old new r)
-    (e : old.lender ≡ Some n) (f : new.lender ≡ Some m) (same : n ≡ m → x ≡ now) (out : new.out ≡ contents now)
-  where
-    sent : Sends (Writes (only line wide) 0 v) o (contents x) r
-    sent = given_back (only line wide) v contents old new o l r n m x now begun printed e f same out
-
-    pub given_back_ok : OnOk r (Appends o (contents x) (layout_text (layout line wide) 0 v))
-    given_back_ok = sent_ok line wide v o (contents x) r sent
-
-    pub given_back_err : OnErr r (AppendsBeginning o (contents x) (layout_text (layout line wide) 0 v))
-    given_back_err = sent_err line wide v o (contents x) r sent

@@ -10,7 +10,7 @@ ghost use Rattle.jzon_tree.specs.Value.{array};
 ghost use Rattle.jzon_tree.specs.View.{view, view_object, view_values, view_pairs, viewed};
 ghost use Rattle.jzon_tree.specs.Writing.{Writes};
 
-use crate::codegen::error_slot::{ErrorSlot, SlotResult, store};
+use crate::codegen::error_slot::{ErrorSlot, SlotResult, store, take_result};
 use crate::codegen::generator::Generator;
 use crate::object::Object;
 use crate::value::JsonValue;
@@ -36,14 +36,12 @@ pub fn write_json<G: Generator>(g: &mut G, json: &JsonValue) -> io::Result<()>
     ensures value { IsValue (view json.now) }
 {
     let mut slot = None;
-    match write_value(g, json, &mut slot) {
-        Ok(()) => Ok(()),
-        Err(_) => {
-            // Both clauses speak of the whole value, also of the parts that weren't written.
-            let _found = inspect(json);
-            Err(slot.unwrap())
-        }
+    let step = write_value(g, json, &mut slot);
+    if step.is_err() {
+        // Both clauses speak of the whole value, also of the parts that weren't written.
+        let _found = inspect(json);
     }
+    take_result(step, slot)
 }
 
 /// Writes the object in the generator's style, as `write_json` writes a value.
@@ -54,14 +52,12 @@ pub fn write_object<G: Generator>(g: &mut G, object: &Object) -> io::Result<()>
     ensures value { IsValue (view_object object.now) }
 {
     let mut slot = None;
-    match write_pairs(g, object, &mut slot) {
-        Ok(()) => Ok(()),
-        Err(_) => {
-            // As in `write_json`.
-            let _found = inspect_object(object);
-            Err(slot.unwrap())
-        }
+    let step = write_pairs(g, object, &mut slot);
+    if step.is_err() {
+        // As in `write_json`.
+        let _found = inspect_object(object);
     }
+    take_result(step, slot)
 }
 
 /// Writes the value by the generator's hooks. If a hook fails, its error is in the slot, and no

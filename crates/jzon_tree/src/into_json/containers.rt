@@ -1,26 +1,12 @@
-//! Objects, options and lists as values.
+//! Options and lists as values.
 
 ghost use Rattle.std.specs.Prelude.{◌≡◌, ⊤, MatchOption};
 ghost use Rattle.jzon_tree.specs.IntoJson.{OptionMeans, ListMeans, CloneListMeans};
-ghost use Rattle.jzon_tree.specs.View.{view_object};
 
 use super::IntoJson;
-use crate::object::Object;
 use crate::value::JsonValue;
 use jzon_base::error::Result;
 use std::alloc::Global;
-
-/// An object means itself. It allocates nothing.
-impl IntoJson for Object {
-    ghost means = { λ o v. v ≡ view_object o };
-
-    ghost is_free = { λ _. ⊤ };
-
-    #[tactic(auto, using(crate::proofs::Values::Views::views))]
-    fn into_json(self, _alloc: Global) -> Result<JsonValue> {
-        Ok(JsonValue::Object(self))
-    }
-}
 
 /// `None` is null, and `Some` means what its content means.
 impl<T: IntoJson> IntoJson for Option<T> {

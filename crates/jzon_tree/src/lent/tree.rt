@@ -10,9 +10,11 @@
 
 ghost use Rattle.std.specs.Prelude.{◌≡◌, ◌≤◌, ◌<◌, List, ℕ, [], length, slice_get, slice_set, IfOk, IfSome, OnOk, OnErr, IsOkUnless, IsSome, MatchOption, Option, None, Some};
 ghost use Rattle.std.specs.Borrow.{sem, Lends, LendsIf, LendsIfOk, LendsSoOk};
+ghost use Rattle.std.specs.List.{position};
+ghost use Rattle.std.specs.Str.{bytes_eq};
 ghost use Rattle.std.specs.Global.{Vec};
 ghost use Rattle.std.specs.Option.{option_copied_mut};
-ghost use Rattle.jzon_base.specs.PairList.{find, put, with_default};
+ghost use Rattle.jzon_base.specs.PairList.{find, keys_of, put, with_default};
 ghost use Rattle.jzon_base.specs.contracts.pairs.Pairs.{the_row as pairs_row};
 ghost use Rattle.jzon_tree.specs.Entries.{with_entries};
 ghost use Rattle.jzon_tree.specs.Lent.{entries_in, items_in, with_place, place_in, entries_in-object, items_in-array};
@@ -59,10 +61,12 @@ pub trait Tree {
         ensures value { MatchOption result (pairs self.old ≡ [])
             (λ lent. (lent.now ≡ pairs self.old) × (object (pairs self.old) ≡ self.old)) };
 
-    /// Makes the value an object that has the key: what isn't an object becomes an empty one, and
-    /// then a missing key is put last, with null. Fails only with `OutOfMemory`, and then nothing
-    /// has changed.
-    fn make_key(&mut self, alloc: Global, key: &str) -> Result<()>
+    /// Makes the value an object that has the key, and returns its position: what isn't an object
+    /// becomes an empty one, and then a missing key is put last, with null. Fails only with
+    /// `OutOfMemory`, and then nothing has changed.
+    fn make_key(&mut self, alloc: Global, key: &str) -> Result<usize>
+        ensures position { IfOk result (λ i. position (λ k. bytes_eq k key.now)
+            (keys_of (with_default key.now null (pairs self.old))) ≡ Some i) }
         ensures ok { OnOk result (self.new ≡ object (with_default key.now null (pairs self.old))) }
         ensures err { OnErr result (self.new ≡ self.old) }
         ensures present { OnErr result (find key.now (pairs self.old) ≡ None) }
@@ -104,9 +108,9 @@ pub trait Tree {
         ensures present { OnErr result (find key.now (pairs self.old) ≡ None) }
         ensures memory { IsOkUnless result Error.OutOfMemory }
     {
-        self.make_key(alloc, key)?;
-        match self.get_in(key) {
-            Some(node) => Ok(node),
+        let index = self.make_key(alloc, key)?;
+        match self.pairs_mut() {
+            Some(pairs) => Ok(pairs.value_mut(index)),
             None => unreachable!(),
         }
     }
@@ -155,15 +159,14 @@ impl Tree for JsonValue {
         Some(&mut object.pairs)
     }
 
-    fn make_key(&mut self, alloc: Global, key: &str) -> Result<()> {
+    fn make_key(&mut self, alloc: Global, key: &str) -> Result<usize> {
         if let JsonValue::Object(object) = self {
-            object.pairs.place(alloc, key, JsonValue::Null)?;
-            return Ok(());
+            return Ok(object.pairs.place(alloc, key, JsonValue::Null)?);
         }
         let mut object = Object::new(alloc);
         object.insert(alloc, key, JsonValue::Null)?;
         *self = JsonValue::Object(object);
-        Ok(())
+        Ok(0)
     }
 
     fn make_place(&mut self, alloc: Global, index: usize) -> Result<()> {
