@@ -1,5 +1,5 @@
 //! What users of a JSON library want to do. docs/COOKBOOK.md quotes these functions, file by file,
-//! and the tests beside them run each.
+//! and the crate `jzon_examples_tests` runs each.
 
 pub mod building;
 pub mod changing;

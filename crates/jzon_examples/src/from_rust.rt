@@ -61,37 +61,3 @@ pub fn printed(alloc: Global, value: &JsonValue) -> Result<JsonValue> {
     let texts = jzon::array![alloc; compact, lines, text];
     Ok(texts)
 }
-
-#[cfg(test)]
-mod tests {
-    use super::*;
-    use crate::common::{Tested, expect, expect_dump, expect_eq};
-
-    #[test]
-    fn tours(rt: HostRuntime) -> Tested {
-        let alloc = rt.alloc();
-        expect(&rt, "first_look", first_look(alloc)?);
-        let text = tour(alloc, "{\"list\": [7], \"name\": \"x\"}")?;
-        expect_eq(
-            &rt,
-            "tour",
-            text.as_str(),
-            "{\"list\":[7,\"last\"],\"name\":\"x\",\"count\":1,\"first\":7,\"is_named\":true,\"built\":{\"a\":5,\"b\":[true,null],\"c\":[1,\"two\",null]}}",
-        );
-        Ok(())
-    }
-
-    #[test]
-    fn changes_and_prints(rt: HostRuntime) -> Tested {
-        let alloc = rt.alloc();
-        let mut named = jzon::parse(alloc, "{\"name\": \"x\"}")?;
-        rename(&mut named, JsonValue::Boolean(true));
-        expect_dump(&rt, &named, "{\"name\":true}")?;
-        let value = jzon::parse(alloc, "{\"abc\": [1, 2]}")?;
-        expect_eq(&rt, "longest", longest(&value), 3);
-        let texts = printed(alloc, &value)?;
-        let text = texts.at_index(2).as_str();
-        expect_eq(&rt, "stringify", text, Some("\"text\""));
-        Ok(())
-    }
-}

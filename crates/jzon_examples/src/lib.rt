@@ -4,8 +4,6 @@
 
 pub mod canonical;
 pub mod chains;
-#[cfg(test)]
-mod common;
 pub mod cookbook;
 pub mod faults;
 pub mod from_rust;

@@ -49,25 +49,3 @@ pub fn redump(alloc: Global, value: &JsonValue) -> Result<String>
     let again = jzon::parse(alloc, text.as_str())?;
     again.dump(alloc)
 }
-
-#[cfg(test)]
-mod tests {
-    use super::*;
-    use crate::common::{Tested, expect, expect_eq};
-
-    #[test]
-    fn goes_round(rt: HostRuntime) -> Tested {
-        let alloc = rt.alloc();
-        let value = jzon::parse(alloc, " {\"b\": [1.50, null], \"a\": \"x\\n\"} ")?;
-        expect(&rt, "reread", reread(alloc, &value)? == value);
-        expect(&rt, "lines", reread_lines(alloc, &value, 65535)? == value);
-        let text = redump(alloc, &value)?;
-        expect_eq(
-            &rt,
-            "redump",
-            text.as_str(),
-            "{\"b\":[1.50,null],\"a\":\"x\\n\"}",
-        );
-        Ok(())
-    }
-}

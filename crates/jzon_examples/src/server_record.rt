@@ -17,15 +17,3 @@ pub fn server(alloc: Global, host: &str, port: u16) -> Result<JsonValue>
     value.insert(alloc, "tags", JsonValue::new_array(alloc))?;
     Ok(value)
 }
-
-#[cfg(test)]
-mod tests {
-    use super::*;
-    use crate::common::{Tested, expect_dump};
-
-    #[test]
-    fn builds(rt: HostRuntime) -> Tested {
-        let value = server(rt.alloc(), "a", 80)?;
-        expect_dump(&rt, &value, "{\"host\":\"a\",\"port\":80,\"tags\":[]}")
-    }
-}

@@ -24,19 +24,3 @@ pub fn set_port(alloc: Global, value: &mut JsonValue, port: u16) -> Result<()>
 {
     value.insert(alloc, "port", port)
 }
-
-#[cfg(test)]
-mod tests {
-    use super::*;
-    use crate::common::{Tested, expect, expect_dump};
-
-    #[test]
-    fn writes(rt: HostRuntime) -> Tested {
-        let alloc = rt.alloc();
-        let failed = set_port(alloc, &mut JsonValue::Null, 80);
-        expect(&rt, "an error", failed.is_err());
-        let mut value = jzon::parse(alloc, "{\"port\": 1, \"host\": \"a\"}")?;
-        set_port(alloc, &mut value, 80)?;
-        expect_dump(&rt, &value, "{\"port\":80,\"host\":\"a\"}")
-    }
-}

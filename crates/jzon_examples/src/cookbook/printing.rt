@@ -48,36 +48,3 @@ fn push_escape(alloc: Global, text: &mut String, character: char) -> Result<()> 
     }
     Ok(())
 }
-
-#[cfg(test)]
-mod tests {
-    use super::*;
-    use std::test::Fail;
-
-    #[test]
-    fn writes(rt: HostRuntime) -> std::result::Result<(), Fail> {
-        let alloc = rt.alloc();
-        let mut bytes = Vec::new(alloc);
-        let value = jzon::parse(alloc, r#"{"a":[],"b":[1]}"#)?;
-        save(&rt, "/dev/null", &value)?;
-        write_line(alloc, &mut bytes, &value)?;
-        assert_eq!(rt;
-            str::from_utf8(&bytes)?,
-            "{\n  \"a\": [],\n  \"b\": [\n    1\n  ]\n}\n"
-        );
-        let mut text = String::from_str(alloc, "value: ")?;
-        add_text(&mut text, &value)?;
-        assert_eq!(rt; text.as_str(), r#"value: {"a":[],"b":[1]}"#);
-        Ok(())
-    }
-
-    #[test]
-    fn escapes(rt: HostRuntime) -> std::result::Result<(), Fail> {
-        let alloc = rt.alloc();
-        let value = jzon::parse(alloc, r#"["é", "🦄", "a"]"#)?;
-        let text = ascii(alloc, &value)?;
-        assert_eq!(rt; text.as_str(), r#"["\u00e9","\ud83e\udd84","a"]"#);
-        assert!(rt; jzon::parse(alloc, text.as_str())? == value);
-        Ok(())
-    }
-}

@@ -105,20 +105,3 @@ pub fn with_tabs(alloc: Global, value: &JsonValue) -> Result<String>
         Err(_) => Err(Error::OutOfMemory),
     }
 }
-
-#[cfg(test)]
-mod tests {
-    use super::*;
-    use std::test::Fail;
-
-    #[test]
-    fn begins_lines_with_tabs(rt: HostRuntime) -> std::result::Result<(), Fail> {
-        let alloc = rt.alloc();
-        let value = jzon::parse(alloc, r#"{"a": [1, {}], "b": null}"#)?;
-        assert_eq!(rt;
-            with_tabs(alloc, &value)?.as_str(),
-            "{\n\t\"a\": [\n\t\t1,\n\t\t{}\n\t],\n\t\"b\": null\n}"
-        );
-        Ok(())
-    }
-}

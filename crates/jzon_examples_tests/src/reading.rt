@@ -1,0 +1,112 @@
+//! Tests of `cookbook::reading`.
+
+use crate::common::Tested;
+use jzon::Error;
+use jzon_examples::cookbook::reading::{
+    LoadError, explained, load, parse_after_mark, parse_all, parse_bytes, parse_flat, parse_lines,
+    parse_strictly,
+};
+use std::test::Fail;
+
+#[test]
+fn loads(rt: HostRuntime) -> Tested {
+    let empty = load(&rt, "/dev/null");
+    assert!(rt; matches!(empty, Err(LoadError::Json(Error::UnexpectedEndOfJson))));
+    let missing = load(&rt, "/dev/null/none.json");
+    assert!(rt; matches!(missing, Err(LoadError::Io(_))));
+    let message = format!(in rt.alloc(); "{}", empty.err().ok_or("no error")?)?;
+    assert_eq!(rt; message.as_str(), "Unexpected end of JSON");
+    Ok(())
+}
+
+#[test]
+fn reads_bytes_and_lines(rt: HostRuntime) -> Tested {
+    let alloc = rt.alloc();
+    assert!(rt; parse_bytes(alloc, b"true")?.eq_bool(true));
+    assert!(rt; parse_bytes(alloc, b"\"\xff\"") == Err(Error::FailedUtf8Parsing));
+    Ok(())
+}
+
+#[test]
+fn reads_after_a_mark(rt: HostRuntime) -> Tested {
+    let alloc = rt.alloc();
+    let marked = "\u{feff}true";
+    assert!(rt; jzon::parse(alloc, marked).is_err());
+    assert!(rt; parse_after_mark(alloc, marked)?.eq_bool(true));
+    Ok(())
+}
+
+#[test]
+fn reads_lines(rt: HostRuntime) -> Tested {
+    let alloc = rt.alloc();
+    let values = parse_lines(alloc, "{\"a\": 1}\n\n[2]\r\n")?;
+    assert_eq!(rt;
+        jzon::stringify(alloc, values)?.as_str(),
+        r#"[{"a":1},[2]]"#
+    );
+    Ok(())
+}
+
+#[test]
+fn reads_texts_in_a_row(rt: HostRuntime) -> Tested {
+    let alloc = rt.alloc();
+    let values = parse_all(alloc, "{\"a\":\n1}[2] \n\n 3 \"é\"null\n")?;
+    assert_eq!(rt;
+        jzon::stringify(alloc, values)?.as_str(),
+        r#"[{"a":1},[2],3,"é",null]"#
+    );
+    Ok(())
+}
+
+#[test]
+fn rejects_texts_in_a_row(rt: HostRuntime) -> Tested {
+    let alloc = rt.alloc();
+    assert!(rt; parse_all(alloc, " \n")?.is_empty());
+    let error = parse_all(alloc, "[1]\n[2 3]").err().ok_or("no error")?;
+    assert!(rt; error.line() == Some(1) && error.column() == Some(4));
+    Ok(())
+}
+
+#[test]
+fn rejects_a_lone_surrogate(rt: HostRuntime) -> Tested {
+    let alloc = rt.alloc();
+    let lone = Error::UnexpectedCharacter {
+        ch: '"',
+        line: 1,
+        column: 8,
+    };
+    assert!(rt; jzon::parse(alloc, r#""\ud83d""#) == Err(lone));
+    Ok(())
+}
+
+#[test]
+fn explains(rt: HostRuntime) -> Tested {
+    let alloc = rt.alloc();
+    let faulty = "{\n  \"a\": 1\n  \"b\": 2\n}";
+    let error = jzon::parse(alloc, faulty).err().ok_or("no error")?;
+    assert_eq!(rt;
+        explained(alloc, faulty, &error)?.as_str(),
+        "Unexpected character: \" at (3:3)\n  \"b\": 2"
+    );
+    Ok(())
+}
+
+#[test]
+fn reads_by_other_rules(rt: HostRuntime) -> Tested {
+    let alloc = rt.alloc();
+    let twice = "{\"a\": 1,\n \"a\": 2}";
+    assert!(rt; jzon::parse(alloc, twice)?.at("a").eq_u64(2));
+    let repeated = Error::DuplicateKey { line: 2, column: 2 };
+    assert!(rt; parse_strictly(alloc, twice) == Err(repeated));
+    Ok(())
+}
+
+#[test]
+fn reads_flat_texts(rt: HostRuntime) -> Tested {
+    let alloc = rt.alloc();
+    let deep = "[[[[[[[[[[[[[[[[[1]]]]]]]]]]]]]]]]]";
+    assert!(rt; jzon::parse(alloc, deep).is_ok());
+    assert!(rt; parse_flat(alloc, deep) == Err(Error::ExceededDepthLimit));
+    assert!(rt; parse_flat(alloc, &deep[1..34]).is_ok());
+    Ok(())
+}
