@@ -8,8 +8,8 @@ use Rattle.std.specs.Str.Parse.{digits_value}
 use Rattle.std.specs.Io.KnownBytes.{Keeps}
 use Rattle.jzon.specs.ErrorText.{error_text}
 use Rattle.jzon.specs.Reading.{Reading, usual}
-use Rattle.jzonfmt.specs.declared.engine.Format.{Format}
-use Rattle.jzonfmt.specs.declared.engine.Format.TheVariants.{Compact, Pretty}
+use Rattle.jzonfmt.specs.declared.engine.Layout.{Layout}
+use Rattle.jzonfmt.specs.declared.engine.Layout.TheVariants.{Compact, Pretty}
 use Rattle.jzonfmt.specs.declared.engine.Options.{Options}
 use Rattle.jzonfmt.specs.declared.engine.RunFault.{RunFault}
 use Rattle.jzonfmt.specs.declared.engine.RunFault.TheVariants.{Read, NotUtf8, Json, Write, Memory}
@@ -39,30 +39,30 @@ asked_spaces n =
     if nat_lt 0 (length n) && nat_le (length n) 5 && list_all (λ c. is_digit c 10) n
     && nat_lt (digits_value 10 n) (2 ^ 16) then Some (digits_value 10 n) else None
 
--- The format that the arguments name, if they name one: none for the compact format, and `--pretty N` for the pretty
+-- The layout that the arguments name, if they name one: none for the compact layout, and `--pretty N` for the pretty
 -- one with N spaces.
-abbrev pub asked_format : List (List ℕ) → Option Format
-asked_format [] = Some Compact
-asked_format (option ∷ spaces ∷ []) =
+abbrev pub asked_layout : List (List ℕ) → Option Layout
+asked_layout [] = Some Compact
+asked_layout (option ∷ spaces ∷ []) =
     if bytes_eq option (codes "--pretty") then option_map Pretty (asked_spaces spaces) else None
-asked_format _ = None
+asked_layout _ = None
 
 abbrev pub reading_of : Bool → Reading
 reading_of strict = record usual { strict = strict }
 
-abbrev pub asking : Bool → Format → Options
-asking strict format = record { reading = reading_of strict; format = format }
+abbrev pub asking : Bool → Layout → Options
+asking strict layout = record { reading = reading_of strict; layout = layout }
 
--- a format's arguments, with `--strict` after them or without it
+-- a layout's arguments, with `--strict` after them or without it
 abbrev pub asked_strict_last : List (List ℕ) → Option Options
 asked_strict_last (a ∷ b ∷ option ∷ []) =
-    if bytes_eq option (codes "--strict") then option_map (asking true) (asked_format (a ∷ b ∷ [])) else None
-asked_strict_last words = option_map (asking false) (asked_format words)
+    if bytes_eq option (codes "--strict") then option_map (asking true) (asked_layout (a ∷ b ∷ [])) else None
+asked_strict_last words = option_map (asking false) (asked_layout words)
 
--- What the arguments ask for: a format; with `--strict` before or after it a strict reading, else that of `parse`.
+-- What the arguments ask for: a layout; with `--strict` before or after it a strict reading, else that of `parse`.
 abbrev pub asked_options : List (List ℕ) → Option Options
 asked_options (option ∷ words) =
-    if bytes_eq option (codes "--strict") then option_map (asking true) (asked_format words)
+    if bytes_eq option (codes "--strict") then option_map (asking true) (asked_layout words)
     else asked_strict_last (option ∷ words)
 asked_options [] = asked_strict_last []
 
@@ -72,5 +72,5 @@ abbrev pub Drives : List (List ℕ) → ℕ → Streams → Streams → Type 0
 Drives words status before after =
     MatchOption (asked_options words)
     ((status ≡ 2) × Keeps before.unread after.unread × Keeps before.written after.written)
-    (λ options. (answer : Result (Unit {0}) RunFault) × Runs options.reading options.format answer before after
+    (λ options. (answer : Result (Unit {0}) RunFault) × Runs options.reading options.layout answer before after
     × (status ≡ status_of answer))

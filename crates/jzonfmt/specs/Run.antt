@@ -10,8 +10,8 @@ use Rattle.jzon.specs.Reading.{Reading}
 use Rattle.jzon.specs.Grammar.{Document}
 use Rattle.jzon.specs.Meaning.{meaning}
 use Rattle.jzon.specs.Fault.{Parses, IsErrorOf}
-use Rattle.jzonfmt.specs.declared.engine.Format.{Format}
-use Rattle.jzonfmt.specs.declared.engine.Format.TheVariants.{Compact, Pretty}
+use Rattle.jzonfmt.specs.declared.engine.Layout.{Layout}
+use Rattle.jzonfmt.specs.declared.engine.Layout.TheVariants.{Compact, Pretty}
 use Rattle.jzonfmt.specs.declared.engine.RunFault.{RunFault}
 use Rattle.jzonfmt.specs.declared.engine.RunFault.TheVariants.{Read, NotUtf8, Json, Write, Memory}
 
@@ -40,18 +40,18 @@ IsReadFault _ = ⊥
 abbrev pub IsTextOf : Reading → List ℕ → Document → Type 0
 IsTextOf reading input d = IsUtf8 input × Parses reading (chars input) d
 
--- the text of a value in the format
-abbrev pub text : Format → Value → List ℕ
+-- the text of a value in the layout
+abbrev pub text : Layout → Value → List ℕ
 text Compact v = compact v
 text (Pretty spaces) v = pretty v spaces 0
 
--- the text of a value in the format, and a newline
-abbrev pub line : Format → Value → List ℕ
-line format v = text format v ++ 10 ∷ []
+-- the text of a value in the layout, and a newline
+abbrev pub line : Layout → Value → List ℕ
+line layout v = text layout v ++ 10 ∷ []
 
 -- the line printed for a tree: that of the value it means
-abbrev pub printed : Format → Document → List ℕ
-printed format d = line format (meaning d.node)
+abbrev pub printed : Layout → Document → List ℕ
+printed layout d = line layout (meaning d.node)
 
 -- these bytes are written, or after an error a prefix of them
 abbrev pub WritesWhole : {E : Type 0} → List ℕ → Result (Unit {0}) E → Option (List ℕ) → Option (List ℕ) → Type 0
@@ -61,15 +61,15 @@ WritesWhole bs r old new = MatchResult r (λ _. Appends old new bs) (λ _. Appen
 
 -- The result for the input, and what the writer holds before and after. After a fault nothing is written, except after
 -- a fault of the writer: then a prefix of what was to be printed is.
-abbrev pub Answers : {T : Type 0} → Reading → Format → List ℕ → Result T RunFault → Option (List ℕ) → Option (List ℕ)
+abbrev pub Answers : {T : Type 0} → Reading → Layout → List ℕ → Result T RunFault → Option (List ℕ) → Option (List ℕ)
     → Type 0
-Answers reading format input (Ok _) old new = (d : Document) × IsTextOf reading input d
-    × Appends old new (printed format d)
-Answers reading format input (Err (Write e)) old new = (d : Document) × IsTextOf reading input d
-    × AppendsBeginning old new (printed format d)
-Answers reading format input (Err NotUtf8) old new = (¬ (IsUtf8 input)) × Keeps old new
-Answers reading format input (Err (Json e)) old new = (IsUtf8 input × IsErrorOf reading (chars input) e) × Keeps old new
-Answers reading format input (Err _) old new = Keeps old new
+Answers reading layout input (Ok _) old new = (d : Document) × IsTextOf reading input d
+    × Appends old new (printed layout d)
+Answers reading layout input (Err (Write e)) old new = (d : Document) × IsTextOf reading input d
+    × AppendsBeginning old new (printed layout d)
+Answers reading layout input (Err NotUtf8) old new = (¬ (IsUtf8 input)) × Keeps old new
+Answers reading layout input (Err (Json e)) old new = (IsUtf8 input × IsErrorOf reading (chars input) e) × Keeps old new
+Answers reading layout input (Err _) old new = Keeps old new
 
 -- what is left in the reader and what the writer holds, if they report it
 pub record Streams : Type 0 where
@@ -77,7 +77,7 @@ pub record Streams : Type 0 where
   pub written : Option (List ℕ)
 
 -- some bytes are read, and the result is the one for them
-abbrev pub Runs : {T : Type 0} → Reading → Format → Result T RunFault → Streams → Streams → Type 0
-Runs reading format result before after =
+abbrev pub Runs : {T : Type 0} → Reading → Layout → Result T RunFault → Streams → Streams → Type 0
+Runs reading layout result before after =
     (input : List ℕ) × ReadsInput result before.unread after.unread input
-    × Answers reading format input result before.written after.written
+    × Answers reading layout input result before.written after.written

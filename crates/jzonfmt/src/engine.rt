@@ -5,7 +5,7 @@ ghost use Rattle.std.specs.Io.KnownBytes.{Consumes, Keeps};
 ghost use Rattle.jzon.specs.View.{view};
 ghost use Rattle.jzonfmt.specs.Buffered.{held, known_len, left};
 ghost use Rattle.jzonfmt.specs.Run.{Answers, IsReadFault, ReadsInput, Runs, WritesWhole, line, text};
-ghost use Rattle.jzonfmt.specs.Drive.{Drives, asked_format, asked_options, asked_spaces, asking, fault_status};
+ghost use Rattle.jzonfmt.specs.Drive.{Drives, asked_layout, asked_options, asked_spaces, asking, fault_status};
 
 use crate::buffered::{Buffered, Start};
 use jzon::codegen::{Compact, Outlet, Pretty};
@@ -15,9 +15,9 @@ use std::io::{Read, Write};
 use std::marker::Brand;
 use std::{fmt, io, mem};
 
-/// The formats that the arguments can choose.
+/// The layouts that the arguments can choose.
 #[derive(Clone, Copy, Debug, PartialEq, Eq)]
-pub enum Format {
+pub enum Layout {
     /// Without whitespace.
     Compact,
     /// With a new line before each element, each entry and the closing bracket of a container that
@@ -31,7 +31,7 @@ pub struct Options {
     /// How it is read.
     pub reading: Reading,
     /// How it is printed.
-    pub format: Format,
+    pub layout: Layout,
 }
 
 /// Why a text was not printed, or only in part.
@@ -108,21 +108,21 @@ const CHUNK_SIZE: usize = 65536;
 /// How many bytes of the printed text are collected before they are written.
 const BUFFER_SIZE: usize = 65536;
 
-/// Reads one text by `reading`, and writes its value in `format` and a newline. The reader is read
+/// Reads one text by `reading`, and writes its value in `layout` and a newline. The reader is read
 /// to its end before anything is written, and its first error ends the run.
 pub fn run<R: Read, W: Write>(
     alloc: Global,
     reader: &mut R,
     writer: &mut W,
     reading: &Reading,
-    format: Format,
+    layout: Layout,
 ) -> Result<(), RunFault>
-    ensures { Runs reading.now format result
+    ensures { Runs reading.now layout result
         (record { unread = R.remaining reader.old; written = W.contents writer.old })
         (record { unread = R.remaining reader.new; written = W.contents writer.new }) }
 {
     let input = read_input(alloc, reader)?;
-    print_input(alloc, input.as_slice(), writer, reading, format)
+    print_input(alloc, input.as_slice(), writer, reading, layout)
 }
 
 /// Reads to the end, in chunks.
@@ -157,9 +157,9 @@ fn print_input<W: Write>(
     input: &[u8],
     writer: &mut W,
     reading: &Reading,
-    format: Format,
+    layout: Layout,
 ) -> Result<(), RunFault>
-    ensures { Answers reading.now format input.now result (W.contents writer.old)
+    ensures { Answers reading.now layout input.now result (W.contents writer.old)
         (W.contents writer.new) }
 {
     let Ok(source) = str::from_utf8(input) else {
@@ -167,27 +167,27 @@ fn print_input<W: Write>(
     };
     let value = jzon::parse_as(alloc, source, reading)?;
     let memory = Vec::with_capacity(alloc, BUFFER_SIZE)?;
-    let answer = write_line::<W, Brand>(writer, memory, &value, format);
+    let answer = write_line::<W, Brand>(writer, memory, &value, layout);
     // The program ends once the text is written, so dropping the value would cost time for nothing.
     mem::forget(value);
     answer.map_err(RunFault::Write)
 }
 
-/// Writes the text of the value in the format and a newline, buffered in `memory`. After an error a
+/// Writes the text of the value in the layout and a newline, buffered in `memory`. After an error a
 /// prefix of them is written.
 fn write_line<W: Write, S: Start>(
     writer: &mut W,
     memory: Vec<u8>,
     value: &JsonValue,
-    format: Format,
+    layout: Layout,
 ) -> io::Result<()>
     requires empty { memory.items ≡ [] }
     requires start { S.start ≡ known_len (W.contents writer.old) }
-    ensures { WritesWhole (line format (view value.now)) result (W.contents writer.old)
+    ensures { WritesWhole (line layout (view value.now)) result (W.contents writer.old)
         (W.contents writer.new) }
 {
     let mut buffered: Buffered<'_, W, S> = Buffered::new(writer, memory);
-    let answer = write_held(&mut buffered, value, format);
+    let answer = write_held(&mut buffered, value, layout);
     let inner = buffered.into_writer();
     // No effect at run time. From this use the proof learns what the writer holds.
     let _ = &*inner;
@@ -198,25 +198,25 @@ fn write_line<W: Write, S: Start>(
 fn write_held<W: Write, S: Start>(
     buffered: &mut Buffered<'_, W, S>,
     value: &JsonValue,
-    format: Format,
+    layout: Layout,
 ) -> io::Result<()>
-    ensures bytes { WritesWhole (line format (view value.now)) result
+    ensures bytes { WritesWhole (line layout (view value.now)) result
         (held W.contents S.start buffered.old) (held W.contents S.start buffered.new) }
     ensures all { OnOk result (left buffered.new ≡ []) }
 {
-    write_text(buffered, value, format)?;
+    write_text(buffered, value, layout)?;
     util::write_bytes(buffered, b"\n")?;
     buffered.write_out()
 }
 
-/// Writes the text of the value in the format.
-fn write_text<W: Outlet>(writer: &mut W, value: &JsonValue, format: Format) -> io::Result<()>
-    ensures { WritesWhole (text format (view value.now)) result (W.Write.contents writer.old)
+/// Writes the text of the value in the layout.
+fn write_text<W: Outlet>(writer: &mut W, value: &JsonValue, layout: Layout) -> io::Result<()>
+    ensures { WritesWhole (text layout (view value.now)) result (W.Write.contents writer.old)
         (W.Write.contents writer.new) }
 {
-    match format {
-        Format::Compact => value.write_outlet(writer, Compact),
-        Format::Pretty(spaces) => value.write_outlet(writer, Pretty(spaces)),
+    match layout {
+        Layout::Compact => value.write_outlet(writer, Compact),
+        Layout::Pretty(spaces) => value.write_outlet(writer, Pretty(spaces)),
     }
 }
 
@@ -245,20 +245,20 @@ pub fn drive<R: Read, W: Write, F: Write>(
     }
 }
 
-/// The options that the arguments name: a format, and maybe `--strict` before or after it.
+/// The options that the arguments name: a layout, and maybe `--strict` before or after it.
 fn options_of(words: &[String]) -> Option<Options>
     ensures { result ≡ asked_options (map string_bytes words.now) }
 {
     let (strict, words) = split_strict(words);
-    let format = format_of(words)?;
+    let layout = layout_of(words)?;
     let reading = Reading::new(strict, 512)?;
-    Some(Options { reading, format })
+    Some(Options { reading, layout })
 }
 
 /// Whether `--strict` is the first argument, or the last of three; and the other arguments.
 fn split_strict(words: &[String]) -> (bool, &[String])
     ensures { asked_options (map string_bytes words.now)
-        ≡ option_map (asking result.0) (asked_format (map string_bytes result.1.now)) }
+        ≡ option_map (asking result.0) (asked_layout (map string_bytes result.1.now)) }
 {
     match words {
         [option, rest @ ..] if option.as_str() == "--strict" => (true, rest),
@@ -267,14 +267,14 @@ fn split_strict(words: &[String]) -> (bool, &[String])
     }
 }
 
-/// The format that the arguments name.
-fn format_of(words: &[String]) -> Option<Format>
-    ensures { result ≡ asked_format (map string_bytes words.now) }
+/// The layout that the arguments name.
+fn layout_of(words: &[String]) -> Option<Layout>
+    ensures { result ≡ asked_layout (map string_bytes words.now) }
 {
     match words {
-        [] => Some(Format::Compact),
+        [] => Some(Layout::Compact),
         [option, spaces] if option.as_str() == "--pretty" => {
-            Some(Format::Pretty(spaces_of(spaces.as_str())?))
+            Some(Layout::Pretty(spaces_of(spaces.as_str())?))
         }
         _ => None,
     }
@@ -297,11 +297,11 @@ fn run_and_flush<R: Read, W: Write>(
     writer: &mut W,
     options: Options,
 ) -> Result<(), RunFault>
-    ensures { Runs options.reading options.format result
+    ensures { Runs options.reading options.layout result
         (record { unread = R.remaining reader.old; written = W.contents writer.old })
         (record { unread = R.remaining reader.new; written = W.contents writer.new }) }
 {
-    run(alloc, reader, writer, &options.reading, options.format)?;
+    run(alloc, reader, writer, &options.reading, options.layout)?;
     match writer.flush() {
         Ok(()) => Ok(()),
         Err(error) => Err(RunFault::Write(error)),

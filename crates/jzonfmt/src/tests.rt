@@ -3,7 +3,7 @@
 ghost use Rattle.std.specs.Prelude.{Some};
 
 use crate::engine;
-use crate::engine::{Format, RunFault};
+use crate::engine::{Layout, RunFault};
 use jzon::Reading;
 use jzon_test_support::{
     DOCUMENT, FAILURES, Long, NO_FAILING_CALL, SlowWriter, Trouble, joined, keys_by_hash,
@@ -238,7 +238,7 @@ pub(crate) fn run<R: Read, W: Write>(
     reader: &mut R,
     writer: &mut W,
 ) -> Result<(), RunFault> {
-    engine::run(alloc, reader, writer, &usual(), Format::Compact)
+    engine::run(alloc, reader, writer, &usual(), Layout::Compact)
 }
 
 /// `run` fails with this error of the text, and writes nothing.
@@ -259,7 +259,7 @@ fn expect_fault(rt: &impl Abort, alloc: Global, input: &[u8], message: &str) -> 
 fn expect_printed(
     rt: &impl Abort,
     alloc: Global,
-    format: Format,
+    layout: Layout,
     input: &str,
     text: &str,
 ) -> Result<usize, Fail> {
@@ -268,7 +268,7 @@ fn expect_printed(
         bytes: Vec::new(alloc),
         calls: 0,
     };
-    let outcome = engine::run(alloc, &mut reader, &mut writer, &usual(), format);
+    let outcome = engine::run(alloc, &mut reader, &mut writer, &usual(), layout);
     expect(rt, "the outcome", outcome.is_ok() && reader.is_empty());
     let written = str::from_utf8(&writer.bytes)?.strip_suffix('\n');
     expect(rt, "the text", written == Some(text));
@@ -277,7 +277,7 @@ fn expect_printed(
 
 /// The text is printed as it is.
 fn expect_itself(rt: &impl Abort, alloc: Global, text: &str) -> Result<(), Fail> {
-    expect_printed(rt, alloc, Format::Compact, text, text)?;
+    expect_printed(rt, alloc, Layout::Compact, text, text)?;
     Ok(())
 }
 
@@ -306,7 +306,7 @@ fn prints_long_numbers(rt: HostRuntime) -> Result<(), Fail> {
     ];
     for (prefix, repeated, count, back, printed) in rows {
         let text = joined(alloc, &[(prefix, 1), (repeated, count), (back, 1)])?;
-        expect_printed(&rt, alloc, Format::Compact, text.as_str(), printed)?;
+        expect_printed(&rt, alloc, Layout::Compact, text.as_str(), printed)?;
     }
     Ok(())
 }
@@ -349,7 +349,7 @@ fn rejects_what_exceeds_the_limits(rt: HostRuntime) -> Result<(), Fail> {
 fn reads_inputs_round_a_chunk(rt: HostRuntime) -> Result<(), Fail> {
     for spaces in [65531, 65532, 65533, 131072, 200000] {
         let text = joined(rt.alloc(), &[(" ", spaces), ("null", 1)])?;
-        expect_printed(&rt, rt.alloc(), Format::Compact, text.as_str(), "null")?;
+        expect_printed(&rt, rt.alloc(), Layout::Compact, text.as_str(), "null")?;
     }
     Ok(())
 }
@@ -492,25 +492,25 @@ fn prints_more_lines_than_the_buffer_holds(rt: HostRuntime) -> Result<(), Fail> 
         let first = joined(alloc, &[("[\n  \"", 1), ("p", spaces), ("\"", 1)])?;
         let parts = [(first.as_str(), 1), (",\n  12345678901", 10000), ("\n]", 1)];
         let text = joined(alloc, &parts)?;
-        expect_printed(&rt, alloc, Format::Pretty(2), text.as_str(), text.as_str())?;
+        expect_printed(&rt, alloc, Layout::Pretty(2), text.as_str(), text.as_str())?;
     }
     Ok(())
 }
 
-/// A format, how a text of it begins, what comes again and again, how it ends, and the calls of the
+/// A layout, how a text of it begins, what comes again and again, how it ends, and the calls of the
 /// writer: 200,004 bytes by 65,536, and 400,007.
-const SELDOM: [(Format, &str, &str, &str, usize); 2] = [
-    (Format::Compact, "[1", ",1", "]", 4),
-    (Format::Pretty(1), "[\n 1", ",\n 1", "\n]", 7),
+const SELDOM: [(Layout, &str, &str, &str, usize); 2] = [
+    (Layout::Compact, "[1", ",1", "]", 4),
+    (Layout::Pretty(1), "[\n 1", ",\n 1", "\n]", 7),
 ];
 
 /// Many bytes are written at once, but no more than the buffer holds.
 #[test]
 fn writes_seldom(rt: HostRuntime) -> Result<(), Fail> {
     let alloc = rt.alloc();
-    for (format, open, next, close, calls) in SELDOM {
+    for (layout, open, next, close, calls) in SELDOM {
         let text = joined(alloc, &[(open, 1), (next, 100000), (close, 1)])?;
-        let found = expect_printed(&rt, alloc, format, text.as_str(), text.as_str())?;
+        let found = expect_printed(&rt, alloc, layout, text.as_str(), text.as_str())?;
         expect(&rt, "the calls", found == calls);
     }
     Ok(())

@@ -11,5 +11,5 @@ returns-in_err-value g c =
     let error : IsErrorUnlessMemory c.args.reading.now (chars c.args.input.now) c.in_err-value.field-0.0 =
     subst (λ s. IsErrorUnlessMemory c.args.reading.now (chars s) c.in_err-value.field-0.0) same
     c.in_err-value.ensures.error in
-    answers_error c.args.reading.now c.args.format c.args.input.now c.in_err-value.field-0.0 c.from_residual.result _
+    answers_error c.args.reading.now c.args.layout c.args.input.now c.in_err-value.field-0.0 c.from_residual.result _
     text error c.from_residual.ensures.1

@@ -14,7 +14,7 @@ returns g c =
     rw (sym c.new-buffered.ensures.writer)
     (written g.S.Start.start b.inner.ghost_name n.inner.ghost_name (drop b.taken b.bytes.items)
     (drop n.taken n.bytes.items) empty c.write_held-answer.result
-    (line c.args.format (view c.args.value.now)) _
+    (line c.args.layout (view c.args.value.now)) _
     (g.W.Write.contents n.inner.now) _
     (c.requires.start ∙ ap (λ w. known_len (g.W.Write.contents w)) (sym c.new-buffered.ensures.writer))
     (λ name. search rules) c.write_held-answer.ensures.all c.write_held-answer.ensures.bytes)
