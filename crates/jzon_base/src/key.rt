@@ -62,8 +62,8 @@ impl Key {
         })
     }
 
-    /// The key with this text if it is longer than 32 bytes, made before `push`, which doesn't allocate. The
-    /// error is a failed allocation.
+    /// The key with this text if it is longer than 32 bytes. It is made before `push`, which doesn't
+    /// allocate. The error is a failed allocation.
     #[inline(always)]
     pub(crate) fn long(alloc: Global, text: &str) -> Result<Option<Key>, AllocError>
         ensures bytes { IfOk result (λ long. MatchOption long (length text.now ≤ 32)

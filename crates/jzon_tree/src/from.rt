@@ -9,8 +9,9 @@ use crate::object::Object;
 use crate::value::JsonValue;
 use jzon_base::number::Number;
 
-/// Types that convert into a value without an allocation, so without an error. They implement
-/// `From`, and `IntoJson`.
+/// Types that convert into a value without an allocation, so without an error. `JsonValue`
+/// implements `From` for each of them, and each implements `IntoJson`. No other crate can name this
+/// trait.
 pub trait Direct: Drop {
     // What a source means.
     ghost value: { Self → Value };

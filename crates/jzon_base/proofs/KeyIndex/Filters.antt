@@ -130,28 +130,28 @@ module _ (ks : List (List ℕ)) (ps : List (ℕ × ℕ)) (entries : ps ≡ hashe
   is_entry : (j : ℕ) → j < length ks → j < length ps
   is_entry j l = omega (arith, l, ap length entries ∙ length-hashed_from 0 ks)
 
-  -- a key whose bits aren't all set is missing
-  pub missing_by_hash : (ws : List ℕ) (b : Bool) → All (λ p. HasHash ws p.0) ps
-      → (HasHash ws (hash_of name) → b ≡ true) → b ≡ false → position (λ k. bytes_eq k name) ks ≡ None
-  missing_by_hash ws b bits known clear = position-none (λ k. bytes_eq k name) ks [] (λ j l.
+  -- a key whose hash no entry has is missing
+  missing : ((j : ℕ) → j < length ps → (get_or {A = ℕ × ℕ} ps j (0, 0)).0 ≡ hash_of name → ⊥)
+      → position (λ k. bytes_eq k name) ks ≡ None
+  missing none = position-none (λ k. bytes_eq k name) ks [] (λ j l.
       elim (cases_Bool (bytes_eq (get_or ks j []) name)) [
         | inr other ↦ other
-        | inl same ↦
-            absurd (true≢false (sym (known (subst (HasHash ws) (own_hash j l same) (bits j (0, 0) (is_entry j l)))) ∙ clear))
+        | inl same ↦ absurd (none j (is_entry j l) (own_hash j l same))
       ])
 
-  -- a key whose hash no entry has is missing
+  -- .. as its bits aren't all set
+  pub missing_by_hash : (ws : List ℕ) (b : Bool) → All (λ p. HasHash ws p.0) ps
+      → (HasHash ws (hash_of name) → b ≡ true) → b ≡ false → position (λ k. bytes_eq k name) ks ≡ None
+  missing_by_hash ws b bits known clear = missing (λ j l same.
+      true≢false (sym (known (subst (HasHash ws) same (bits j (0, 0) l))) ∙ clear))
+
+  -- .. as a comparison with all shows
   pub missing_by_entry : (h : ℕ) → h ≡ hash_of name → list_any (λ p. p.0 == h) ps ≡ false
       → position (λ k. bytes_eq k name) ks ≡ None
-  missing_by_entry h hash none = position-none (λ k. bytes_eq k name) ks [] (λ j l.
-      elim (cases_Bool (bytes_eq (get_or ks j []) name)) [
-        | inr other ↦ other
-        | inl same ↦
-            (let p : ℕ × ℕ = get_or ps j (0, 0) in
-            let has : (p.0 == h) ≡ true = eq_by p.0 h (own_hash j l same ∙ sym hash) in
-            absurd (true≢false (sym (list_any-from_Any (λ (q : ℕ × ℕ). q.0 == h) ps
-            (j, p, is_entry j l, sym (get_or_default ps j (0, 0) p (is_entry j l)), has)) ∙ none)))
-      ])
+  missing_by_entry h hash none = missing (λ j l same.
+      let p : ℕ × ℕ = get_or ps j (0, 0) in
+      true≢false (sym (list_any-from_Any (λ (q : ℕ × ℕ). q.0 == h) ps
+      (j, p, l, sym (get_or_default ps j (0, 0) p l), eq_by p.0 h (same ∙ sym hash))) ∙ none))
 
 -- one more key
 pub KnowsMany-push : (ks : List (List ℕ)) (ws : List ℕ) (ps : List (ℕ × ℕ)) (name : List ℕ) (h n : ℕ)

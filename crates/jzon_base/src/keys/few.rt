@@ -1,5 +1,5 @@
-//! Up to 32 keys have no index, unless there were more since there was none: they are compared one
-//! by one.
+//! Keys without an index are compared one by one. Up to 32 keys have none, unless it is left from
+//! when there were more.
 ghost use Rattle.std.specs.Prelude.{◌≡◌, ◌-◌, length, IsTrue, ◌↔◌, slice_index};
 ghost use Rattle.std.specs.List.{list_any, position, IsDistinct};
 ghost use Rattle.std.specs.Str.{bytes_eq};
