@@ -62,6 +62,8 @@ fn reads_texts_in_a_row(rt: HostRuntime) -> Tested {
 fn rejects_texts_in_a_row(rt: HostRuntime) -> Tested {
     let alloc = rt.alloc();
     assert!(rt; parse_all(alloc, " \n")?.is_empty());
+    // A no-break space is no whitespace of JSON.
+    assert!(rt; parse_lines(alloc, "\u{a0}").is_err() && parse_all(alloc, "1\u{a0}").is_err());
     let error = parse_all(alloc, "[1]\n[2 3]").err().ok_or("no error")?;
     assert!(rt; error.line() == Some(1) && error.column() == Some(4));
     Ok(())

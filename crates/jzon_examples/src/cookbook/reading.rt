@@ -78,11 +78,16 @@ pub fn explained(alloc: Global, text: &str, error: &Error) -> Result<String> {
     Ok(format!(in alloc; "{error}\n{line}")?)
 }
 
-/// The values of a text that has one JSON text on each line. Empty lines are skipped.
+/// Whether nothing but whitespace of JSON is in the text.
+fn is_blank(text: &str) -> bool {
+    text.bytes().all(|byte| matches!(byte, 9..=13 | 32))
+}
+
+/// The values of a text that has one JSON text on each line. Blank lines are skipped.
 pub fn parse_lines(alloc: Global, text: &str) -> Result<Vec<JsonValue>> {
     let mut values = Vec::new(alloc);
     for line in text.lines() {
-        if !line.trim().is_empty() {
+        if !is_blank(line) {
             values.push(jzon::parse(alloc, line)?)?;
         }
     }
@@ -95,7 +100,7 @@ pub fn parse_all(alloc: Global, texts: &str) -> Result<Vec<JsonValue>> {
     let mut values = Vec::new(alloc);
     let mut rest = texts;
     for _ in 0..texts.len() {
-        if rest.trim().is_empty() {
+        if is_blank(rest) {
             break;
         }
         rest = add_first(alloc, rest, &mut values)?;
