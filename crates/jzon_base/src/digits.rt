@@ -56,20 +56,15 @@ pub fn read_scanned(
         (signed positive_exponent (digits_number exponent.now))) }
     ensures fault { IfErr result (IsFirstTooMany whole.now fraction.now) }
 {
-    let prefix = kept_prefix(whole, fraction, number);
-    if prefix.dropped > MAX_DROPPED {
-        return Err(DigitFault::Whole(whole.len() - prefix.dropped + MAX_DROPPED));
+    let (number, dropped, kept_fraction) = kept_prefix(whole, fraction, number);
+    if dropped > MAX_DROPPED {
+        return Err(DigitFault::Whole(whole.len() - dropped + MAX_DROPPED));
     }
-    if prefix.kept_fraction > MAX_KEPT_FRACTION {
+    if kept_fraction > MAX_KEPT_FRACTION {
         return Err(DigitFault::Fraction(MAX_KEPT_FRACTION));
     }
-    let exponent = clamped_exponent(
-        prefix.dropped,
-        prefix.kept_fraction,
-        positive_exponent,
-        exponent,
-    );
-    Ok(Number::from_parts_unchecked(positive, prefix.number, exponent))
+    let exponent = clamped_exponent(dropped, kept_fraction, positive_exponent, exponent);
+    Ok(Number::from_parts_unchecked(positive, number, exponent))
 }
 
 /// The number of leading digits, and the number that they spell when appended to `before`, modulo
@@ -113,45 +108,26 @@ fn scan_by_bytes(bytes: &[u8], before: u64) -> (usize, u64)
     (bytes.len(), number)
 }
 
-/// A prefix of the digits before and after the point.
-#[derive(Clone, Copy)]
-struct Prefix {
-    number: u64,
-    dropped: usize,
-    kept_fraction: usize,
-}
-
-/// The longest prefix that spells a number below 2^64. `number` is the one that all digits spell,
-/// modulo 2^64.
-fn kept_prefix(whole: &[u8], fraction: &[u8], number: u64) -> Prefix
+/// The longest prefix of the digits that spells a number below 2^64: this number, how many digits
+/// before the point are dropped, and how many after it are kept. `number` is the one that all digits
+/// spell, modulo 2^64.
+fn kept_prefix(whole: &[u8], fraction: &[u8], number: u64) -> (u64, usize, usize)
     requires whole { All IsDigit whole.now }
     requires fraction { All IsDigit fraction.now }
     requires number { number ≡ digits_number (whole.now ++ fraction.now) % 2 ^ 64 }
-    ensures number { result.number ≡ digits_number (kept (whole.now ++ fraction.now)) }
-    ensures dropped { result.dropped ≡ dropped whole.now fraction.now }
-    ensures kept { result.kept_fraction ≡ kept_fraction whole.now fraction.now }
+    ensures number { result.0 ≡ digits_number (kept (whole.now ++ fraction.now)) }
+    ensures dropped { result.1 ≡ dropped whole.now fraction.now }
+    ensures kept { result.2 ≡ kept_fraction whole.now fraction.now }
 {
     if whole.len() + fraction.len() <= ALWAYS_KEPT {
-        return Prefix {
-            number,
-            dropped: 0,
-            kept_fraction: fraction.len(),
-        };
+        return (number, 0, fraction.len());
     }
     let (number, count) = longest_prefix(0, whole);
     if count < whole.len() {
-        return Prefix {
-            number,
-            dropped: whole.len() - count,
-            kept_fraction: 0,
-        };
+        return (number, whole.len() - count, 0);
     }
     let (number, kept_fraction) = longest_prefix(number, fraction);
-    Prefix {
-        number,
-        dropped: 0,
-        kept_fraction,
-    }
+    (number, 0, kept_fraction)
 }
 
 /// Appends digits to `before` as long as the number stays below 2^64: the number and how many
