@@ -1,10 +1,10 @@
 //! Numbers as integers (docs/RULES.md, "Integer readings"). Only a number of exponent 0 is one:
 //! `1.0`, `5e2` and `100e-2` aren't. For these there is `as_exact_fixed_point_u64(0)`.
 
-ghost use Rattle.std.specs.Prelude.{◌≡◌, ◌<◌, ◌^◌, FitsSigned};
+ghost use Rattle.std.specs.Prelude.{◌<◌, ◌^◌, FitsSigned};
 ghost use Rattle.std.specs.Int.{w8, w16, w32, w64};
 ghost use Rattle.std.specs.Option.{SomeIff};
-ghost use Rattle.jzon_base.specs.Decimal.{integer_of, signed, unsigned_of, OkWhere, SomeWhere};
+ghost use Rattle.jzon_base.specs.Decimal.{integer_of, signed, unsigned_of, OkWhere};
 
 use super::Number;
 
@@ -15,25 +15,25 @@ pub struct NumberOutOfScope;
 
 impl Number {
     /// The mantissa, if the sign is positive and the exponent is 0.
-    fn unsigned(self) -> Option<u64>
-        ensures { result ≡ unsigned_of self }
+    fn unsigned(self) -> Result<u64, NumberOutOfScope>
+        ensures { OkWhere (unsigned_of self) (λ n. n < 2 ^ 64) result }
     {
         match self.as_parts() {
-            (true, mantissa, 0) => Some(mantissa),
-            _ => None,
+            (true, mantissa, 0) => Ok(mantissa),
+            _ => Err(NumberOutOfScope),
         }
     }
 
     /// The mantissa with its sign, if the exponent is 0.
-    fn signed(self) -> Option<i64>
-        ensures { SomeWhere (integer_of self) (FitsSigned w64) result }
+    fn signed(self) -> Result<i64, NumberOutOfScope>
+        ensures { OkWhere (integer_of self) (FitsSigned w64) result }
     {
         if self.is_nan() {
-            return None;
+            return Err(NumberOutOfScope);
         }
         match self.as_parts() {
-            (positive, mantissa, 0) => with_sign(positive, mantissa),
-            _ => None,
+            (positive, mantissa, 0) => with_sign(positive, mantissa).ok_or(NumberOutOfScope),
+            _ => Err(NumberOutOfScope),
         }
     }
 }
@@ -57,8 +57,7 @@ impl TryFrom<Number> for u8 {
     ghost try_from_gives = { λ number r. OkWhere (unsigned_of number) (λ n. n < 2 ^ 8) r };
 
     fn try_from(value: Number) -> Result<u8, NumberOutOfScope> {
-        let integer = value.unsigned().ok_or(NumberOutOfScope)?;
-        u8::try_from(integer).map_err(|_| NumberOutOfScope)
+        u8::try_from(value.unsigned()?).map_err(|_| NumberOutOfScope)
     }
 }
 
@@ -70,8 +69,7 @@ impl TryFrom<Number> for u16 {
     ghost try_from_gives = { λ number r. OkWhere (unsigned_of number) (λ n. n < 2 ^ 16) r };
 
     fn try_from(value: Number) -> Result<u16, NumberOutOfScope> {
-        let integer = value.unsigned().ok_or(NumberOutOfScope)?;
-        u16::try_from(integer).map_err(|_| NumberOutOfScope)
+        u16::try_from(value.unsigned()?).map_err(|_| NumberOutOfScope)
     }
 }
 
@@ -83,8 +81,7 @@ impl TryFrom<Number> for u32 {
     ghost try_from_gives = { λ number r. OkWhere (unsigned_of number) (λ n. n < 2 ^ 32) r };
 
     fn try_from(value: Number) -> Result<u32, NumberOutOfScope> {
-        let integer = value.unsigned().ok_or(NumberOutOfScope)?;
-        u32::try_from(integer).map_err(|_| NumberOutOfScope)
+        u32::try_from(value.unsigned()?).map_err(|_| NumberOutOfScope)
     }
 }
 
@@ -96,7 +93,7 @@ impl TryFrom<Number> for u64 {
     ghost try_from_gives = { λ number r. OkWhere (unsigned_of number) (λ n. n < 2 ^ 64) r };
 
     fn try_from(value: Number) -> Result<u64, NumberOutOfScope> {
-        value.unsigned().ok_or(NumberOutOfScope)
+        value.unsigned()
     }
 }
 
@@ -108,8 +105,7 @@ impl TryFrom<Number> for usize {
     ghost try_from_gives = { λ number r. OkWhere (unsigned_of number) (λ n. n < 2 ^ 64) r };
 
     fn try_from(value: Number) -> Result<usize, NumberOutOfScope> {
-        let integer = value.unsigned().ok_or(NumberOutOfScope)?;
-        usize::try_from(integer).map_err(|_| NumberOutOfScope)
+        usize::try_from(value.unsigned()?).map_err(|_| NumberOutOfScope)
     }
 }
 
@@ -120,8 +116,7 @@ impl TryFrom<Number> for i8 {
     ghost try_from_gives = { λ number r. OkWhere (integer_of number) (FitsSigned w8) r };
 
     fn try_from(value: Number) -> Result<i8, NumberOutOfScope> {
-        let integer = value.signed().ok_or(NumberOutOfScope)?;
-        i8::try_from(integer).map_err(|_| NumberOutOfScope)
+        i8::try_from(value.signed()?).map_err(|_| NumberOutOfScope)
     }
 }
 
@@ -132,8 +127,7 @@ impl TryFrom<Number> for i16 {
     ghost try_from_gives = { λ number r. OkWhere (integer_of number) (FitsSigned w16) r };
 
     fn try_from(value: Number) -> Result<i16, NumberOutOfScope> {
-        let integer = value.signed().ok_or(NumberOutOfScope)?;
-        i16::try_from(integer).map_err(|_| NumberOutOfScope)
+        i16::try_from(value.signed()?).map_err(|_| NumberOutOfScope)
     }
 }
 
@@ -144,8 +138,7 @@ impl TryFrom<Number> for i32 {
     ghost try_from_gives = { λ number r. OkWhere (integer_of number) (FitsSigned w32) r };
 
     fn try_from(value: Number) -> Result<i32, NumberOutOfScope> {
-        let integer = value.signed().ok_or(NumberOutOfScope)?;
-        i32::try_from(integer).map_err(|_| NumberOutOfScope)
+        i32::try_from(value.signed()?).map_err(|_| NumberOutOfScope)
     }
 }
 
@@ -156,7 +149,7 @@ impl TryFrom<Number> for i64 {
     ghost try_from_gives = { λ number r. OkWhere (integer_of number) (FitsSigned w64) r };
 
     fn try_from(value: Number) -> Result<i64, NumberOutOfScope> {
-        value.signed().ok_or(NumberOutOfScope)
+        value.signed()
     }
 }
 
@@ -167,7 +160,6 @@ impl TryFrom<Number> for isize {
     ghost try_from_gives = { λ number r. OkWhere (integer_of number) (FitsSigned w64) r };
 
     fn try_from(value: Number) -> Result<isize, NumberOutOfScope> {
-        let integer = value.signed().ok_or(NumberOutOfScope)?;
-        isize::try_from(integer).map_err(|_| NumberOutOfScope)
+        isize::try_from(value.signed()?).map_err(|_| NumberOutOfScope)
     }
 }
