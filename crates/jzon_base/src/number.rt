@@ -1,6 +1,6 @@
 //! Numbers: exact decimals, and NaN (docs/RULES.md, "Numbers").
 
-ghost use Rattle.std.specs.Prelude.{◌≡◌, ◌*◌, ◌^◌, ◌<◌, ◌≤◌, ◌≤ℤ◌, ◌==◌, ◌||◌, MatchOption, Some};
+ghost use Rattle.std.specs.Prelude.{◌≡◌, ◌*◌, ◌^◌, ◌<◌, ◌≤◌, ◌==◌, ◌||◌, MatchOption, Some};
 ghost use Rattle.std.specs.Cmp.{partial_equiv_from_equiv};
 ghost use Rattle.jzon_base.specs.Decimal.{parts, parts_of, is_nan, is_zero, is_positive, negated, same, scaled, Decimal, StripsTo};
 ghost use Rattle.jzon_base.specs.NumberText.{decimal_text};
@@ -96,11 +96,7 @@ impl Number {
     pub fn as_parts(&self) -> (bool, u64, i16)
         ensures { result ≡ parts_of self.now }
     {
-        (
-            matches!(self.category, Category::Positive),
-            self.mantissa,
-            self.exponent,
-        )
+        (self.is_sign_positive(), self.mantissa, self.exponent)
     }
 
     /// Whether this is NaN.
@@ -218,27 +214,20 @@ impl fmt::Display for Number {
     }
 }
 
-/// Whether two numbers of one sign, neither 0, with these mantissas and exponents are equal.
+/// Whether two numbers of one sign, neither 0, with these mantissas and exponents are equal: that of
+/// the higher exponent is scaled down to the lower one.
+#[tactic(auto, using(crate::proofs::Numbers::Scaling::same_rules))]
 fn same_magnitude(mantissa: u64, exponent: i16, other_mantissa: u64, other_exponent: i16) -> bool
     requires left { 0 < mantissa }
     requires right { 0 < other_mantissa }
     ensures { result ≡ (scaled mantissa exponent == scaled other_mantissa other_exponent) }
 {
+    let power = u32::from(exponent.abs_diff(other_exponent));
     if exponent >= other_exponent {
-        is_scaled(mantissa, exponent, other_mantissa, other_exponent)
+        times_power(mantissa, power) == Some(other_mantissa)
     } else {
-        is_scaled(other_mantissa, other_exponent, mantissa, exponent)
+        times_power(other_mantissa, power) == Some(mantissa)
     }
-}
-
-/// Whether `mantissa * 10 ^ (exponent - lower)` is the other mantissa.
-#[tactic(auto, using(crate::proofs::Numbers::Scaling::same_rules))]
-fn is_scaled(mantissa: u64, exponent: i16, other_mantissa: u64, lower: i16) -> bool
-    requires some { 0 < mantissa }
-    requires order { lower ≤ℤ exponent }
-    ensures { result ≡ (scaled mantissa exponent == scaled other_mantissa lower) }
-{
-    times_power(mantissa, u32::from(exponent.abs_diff(lower))) == Some(other_mantissa)
 }
 
 /// `mantissa * 10 ^ power`, if it fits.
