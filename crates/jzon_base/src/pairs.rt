@@ -160,7 +160,10 @@ impl<V> Pairs<V> {
         ensures values { result.1.items ≡ values_of self }
     {
         match self.entries {
-            Some(entries) => Box::into_inner(entries).into_parts(),
+            Some(entries) => {
+                let Contents { keys, values } = Box::into_inner(entries);
+                (keys, values)
+            }
             None => (Keys::new(self.alloc), Vec::new(self.alloc)),
         }
     }
@@ -176,7 +179,7 @@ impl<V> Pairs<V> {
         ensures distinct { IsDistinct bytes_eq (keys_of self.now) }
     {
         match &self.entries {
-            Some(entries) => entries.len(),
+            Some(entries) => entries.keys().len(),
             None => 0,
         }
     }
@@ -203,7 +206,7 @@ impl<V> Pairs<V> {
         ensures { result.now ≡ values_of self.now }
     {
         if let Some(entries) = &self.entries {
-            return entries.values();
+            return entries.values.as_slice();
         }
         &[]
     }
@@ -213,7 +216,7 @@ impl<V> Pairs<V> {
         ensures { result ≡ position (λ k. bytes_eq k name.now) (keys_of self.now) }
     {
         match &self.entries {
-            Some(entries) => entries.position(name),
+            Some(entries) => entries.keys().position(name),
             None => None,
         }
     }
@@ -224,7 +227,7 @@ impl<V> Pairs<V> {
         ensures { slice_get self.now index ≡ Some (result.0.now, result.1.now) }
     {
         match &self.entries {
-            Some(entries) => entries.get_at(index),
+            Some(entries) => (entries.keys().get(index), &entries.values[index]),
             None => unreachable!(),
         }
     }
@@ -285,7 +288,9 @@ impl<V> Pairs<V> {
         ensures ok { OnOk result (self.new ≡ (name.now, value) ∷ []) }
         ensures err { OnErr result (self.new ≡ self.old) }
     {
-        let mut entries = Box::new(alloc, Contents::new(alloc))?;
+        let keys = Keys::new(alloc);
+        let values = Vec::new(alloc);
+        let mut entries = Box::new(alloc, Contents { keys, values })?;
         entries.insert(alloc, name, value)?;
         self.entries = Some(entries);
         Ok(())
@@ -385,7 +390,8 @@ impl<V> Pairs<V> {
         ensures { RetainsPairs (CalledAtPair F.FnMut) keep self.old self.new }
     {
         if let Some(entries) = &mut self.entries {
-            entries.retain(keep);
+            let entries = entries.as_mut();
+            entries.keys.retain(&mut entries.values, keep);
         }
     }
 
@@ -396,7 +402,9 @@ impl<V> Pairs<V> {
         ensures { self.new ≡ [] }
     {
         if let Some(entries) = &mut self.entries {
-            entries.clear();
+            let entries = entries.as_mut();
+            entries.keys.clear();
+            entries.values.clear();
         }
     }
 }

@@ -1,7 +1,6 @@
 //! The keys and the values of `Pairs`, which are in its box.
-ghost use Rattle.std.specs.Prelude.{◌≡◌, ◌<◌, List, ℕ, [], length, remove, slice_get, Some, None, OnOk, OnErr, IfOk};
-ghost use Rattle.std.specs.List.{position, zip, IsDistinct};
-ghost use Rattle.std.specs.Map.Calls.{CalledAtPair, CallableOnEachPair, RetainsPairs, TakesPair};
+ghost use Rattle.std.specs.Prelude.{◌≡◌, ◌<◌, List, ℕ, length, remove, slice_get, Some, None, OnOk, OnErr, IfOk};
+ghost use Rattle.std.specs.List.{position, zip};
 ghost use Rattle.std.specs.Str.{bytes_eq};
 ghost use Rattle.std.specs.Coded.{coded_ℕ, coded_list, coded×};
 
@@ -31,59 +30,11 @@ impl<V> Contents<V> {
     ghost use Rattle.jzon_base.specs.contracts.pairs.contents.Contents.{the_row};
     ghost use Rattle.jzon_base.specs.PairList.{find, put, set_value, with_default, keys_of, values_of};
 
-    /// No entry. Takes no memory.
-    pub fn new(alloc: Global) -> Contents<V>
-        ensures { result ≡ [] }
-    {
-        Contents {
-            keys: Keys::new(alloc),
-            values: Vec::new(alloc),
-        }
-    }
-
-    /// The keys, and the values in the order of their keys.
-    pub fn into_parts(self) -> (Keys, Vec<V>)
-        ensures keys { result.0 ≡ keys_of self }
-        ensures values { result.1.items ≡ values_of self }
-    {
-        (self.keys, self.values)
-    }
-
-    /// The number of entries.
-    pub fn len(&self) -> usize
-        ensures len { result ≡ length self.now }
-        ensures distinct { IsDistinct bytes_eq (keys_of self.now) }
-    {
-        self.keys.len()
-    }
-
     /// The keys in their order.
     pub fn keys(&self) -> &Keys
         ensures { result.now ≡ keys_of self.now }
     {
         &self.keys
-    }
-
-    /// The values in the order of their keys.
-    pub fn values(&self) -> &[V]
-        ensures { result.now ≡ values_of self.now }
-    {
-        self.values.as_slice()
-    }
-
-    /// The position of a key.
-    pub fn position(&self, name: &str) -> Option<usize>
-        ensures { result ≡ position (λ k. bytes_eq k name.now) (keys_of self.now) }
-    {
-        self.keys.position(name)
-    }
-
-    /// The entry at a position.
-    pub fn get_at(&self, index: usize) -> (&str, &V)
-        requires { index < length self.now }
-        ensures { slice_get self.now index ≡ Some (result.0.now, result.1.now) }
-    {
-        (self.keys.get(index), &self.values[index])
     }
 
     /// The value at a position, to be written: nothing else changes.
@@ -144,26 +95,5 @@ impl<V> Contents<V> {
     {
         self.keys.remove(index);
         self.values.remove(index)
-    }
-
-    /// Keeps the entries for which `keep` returns `true`, in their order. `keep` is called once for
-    /// each entry, in order, and may change the value. Takes no memory.
-    pub fn retain<F: FnMut(&str, &mut V) -> bool>(&mut self, keep: F)
-    where
-        V: Drop,
-        requires { CallableOnEachPair (CalledAtPair F.FnMut) (TakesPair F.FnMut) keep self.old }
-        ensures { RetainsPairs (CalledAtPair F.FnMut) keep self.old self.new }
-    {
-        self.keys.retain(&mut self.values, keep);
-    }
-
-    /// Removes all entries.
-    pub fn clear(&mut self)
-    where
-        V: Drop,
-        ensures { self.new ≡ [] }
-    {
-        self.keys.clear();
-        self.values.clear();
     }
 }
