@@ -50,9 +50,7 @@ impl<'a, V> Iterator for Iter<'a, V> {
     ghost remaining = { item_count (λ s. s) };
 
     fn next(&mut self) -> Option<(&'a str, &'a V)> {
-        let key = self.keys.next()?;
-        let value = self.values.next()?;
-        Some((key, value))
+        Some((self.keys.next()?, self.values.next()?))
     }
 
     fn size_hint(&self) -> (usize, Option<usize>)
@@ -69,9 +67,7 @@ impl<'a, V> DoubleEndedIterator for Iter<'a, V> {
     ghost next_back_gives = { YieldsLastBy (λ x. (x.0.now, x.1.now)) (λ s. s) };
 
     fn next_back(&mut self) -> Option<(&'a str, &'a V)> {
-        let key = self.keys.next_back()?;
-        let value = self.values.next_back()?;
-        Some((key, value))
+        Some((self.keys.next_back()?, self.values.next_back()?))
     }
 }
 

@@ -44,9 +44,7 @@ impl<'a, V> Iterator for IterMut<'a, V> {
     ghost remaining = { item_count iter_mut_rest };
 
     fn next(&mut self) -> Option<(&'a str, &'a mut V)> {
-        let key = self.keys.next()?;
-        let value = self.values.next()?;
-        Some((key, value))
+        Some((self.keys.next()?, self.values.next()?))
     }
 
     fn size_hint(&self) -> (usize, Option<usize>)
@@ -66,9 +64,7 @@ impl<'a, V> DoubleEndedIterator for IterMut<'a, V> {
     ghost next_back_gives = { YieldsLastBy (λ x. (x.0.now, x.1.now)) iter_mut_rest };
 
     fn next_back(&mut self) -> Option<(&'a str, &'a mut V)> {
-        let key = self.keys.next_back()?;
-        let value = self.values.next_back()?;
-        Some((key, value))
+        Some((self.keys.next_back()?, self.values.next_back()?))
     }
 }
 
