@@ -27,10 +27,7 @@ fn have_same_bytes(a: &str, b: &str) -> bool
 pub fn last_byte(text: &str) -> u8
     ensures { result ≡ slice_index text.now (length text.now - 1) }
 {
-    match text.as_bytes().last() {
-        Some(byte) => *byte,
-        None => 0,
-    }
+    text.as_bytes().last().copied().unwrap_or(0)
 }
 
 /// Whether texts are equal. Most unequal ones differ in length or in the last byte, which are
