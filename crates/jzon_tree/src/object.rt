@@ -357,9 +357,7 @@ impl Iterator for IntoIter {
     ghost remaining = { item_count entries_left };
 
     fn next(&mut self) -> Option<(Key, JsonValue)> {
-        let key = self.keys.next()?;
-        let value = self.values.next()?;
-        Some((key, value))
+        Some((self.keys.next()?, self.values.next()?))
     }
 
     fn size_hint(&self) -> (usize, Option<usize>)
@@ -379,9 +377,7 @@ impl DoubleEndedIterator for IntoIter {
     ghost next_back_gives = { YieldsLastBy (λ x. x) entries_left };
 
     fn next_back(&mut self) -> Option<(Key, JsonValue)> {
-        let key = self.keys.next_back()?;
-        let value = self.values.next_back()?;
-        Some((key, value))
+        Some((self.keys.next_back()?, self.values.next_back()?))
     }
 }
 
