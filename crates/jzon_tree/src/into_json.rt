@@ -5,7 +5,6 @@ ghost use Rattle.jzon_tree.specs.Value.{Value, kind_of, text};
 ghost use Rattle.jzon_tree.specs.View.{view};
 
 mod containers;
-mod maps;
 
 use crate::from::Direct;
 use crate::value::JsonValue;

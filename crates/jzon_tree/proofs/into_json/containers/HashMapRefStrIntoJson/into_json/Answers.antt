@@ -1,7 +1,7 @@
 use Rattle.jzon_base.proofs.Common.{ℕ, List, Bor, nat_eq, refl, IsPermutation-refl}
 use Rattle.std.specs.Cmp.Lexicographic.{pointwise}
 use Rattle.jzon_tree.proofs.Values.PutPairs.{map_put}
-use Rattle.jzon_tree.proofs.into_json.maps.HashMapRefStrIntoJson.into_json.Goals as goal
+use Rattle.jzon_tree.proofs.into_json.containers.HashMapRefStrIntoJson.into_json.Goals as goal
 
 pub returns-clause-meant : goal.returns-clause-meant
 returns-clause-meant g c = (

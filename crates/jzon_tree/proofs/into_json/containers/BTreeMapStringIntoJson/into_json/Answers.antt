@@ -1,7 +1,7 @@
 use Rattle.jzon_base.proofs.Common.{string_bytes, keys, eq_by_cmp, IsDistinct-from_sorted, is_eq-slice_cmp}
 use Rattle.std.specs.String.{string_cmp}
 use Rattle.jzon_tree.proofs.Values.PutPairs.{map_put}
-use Rattle.jzon_tree.proofs.into_json.maps.BTreeMapStringIntoJson.into_json.Goals as goal
+use Rattle.jzon_tree.proofs.into_json.containers.BTreeMapStringIntoJson.into_json.Goals as goal
 
 pub returns-clause-meant : goal.returns-clause-meant
 returns-clause-meant g c = map_put string_bytes (eq_by_cmp string_cmp)

@@ -1,7 +1,7 @@
 use Rattle.jzon_base.proofs.Common.{refl, string_bytes, IsPermutation-refl}
 use Rattle.std.specs.String.{string_eq}
 use Rattle.jzon_tree.proofs.Values.PutPairs.{map_put}
-use Rattle.jzon_tree.proofs.into_json.maps.HashMapStringIntoJson.into_json.Goals as goal
+use Rattle.jzon_tree.proofs.into_json.containers.HashMapStringIntoJson.into_json.Goals as goal
 
 pub returns-clause-meant : goal.returns-clause-meant
 returns-clause-meant g c = (

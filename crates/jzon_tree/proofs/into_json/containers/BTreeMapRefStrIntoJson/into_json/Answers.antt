@@ -1,7 +1,7 @@
 use Rattle.jzon_base.proofs.Common.{ℕ, List, Bor, keys, slice_cmp, eq_by_cmp, nat_cmp, IsDistinct-from_sorted}
 use Rattle.jzon_base.proofs.Common.{is_eq-slice_cmp}
 use Rattle.jzon_tree.proofs.Values.PutPairs.{map_put}
-use Rattle.jzon_tree.proofs.into_json.maps.BTreeMapRefStrIntoJson.into_json.Goals as goal
+use Rattle.jzon_tree.proofs.into_json.containers.BTreeMapRefStrIntoJson.into_json.Goals as goal
 
 pub returns-clause-meant : goal.returns-clause-meant
 returns-clause-meant g c = map_put (λ (key : Bor (List ℕ)). key.now)
