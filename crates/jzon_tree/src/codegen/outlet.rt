@@ -1,6 +1,6 @@
 //! Where a `TextGenerator` writes (docs/GENERATORS.md, "Layouts of one's own").
 
-ghost use Rattle.std.specs.Prelude.{◌≡◌, ◌++◌, ◌∷◌, ℕ, List, Option, None, Some, IsTrue, false, refl, replicate, IfOk, OnErr};
+ghost use Rattle.std.specs.Prelude.{◌≡◌, ◌++◌, ◌∷◌, ℕ, List, Option, None, Some, IsTrue, false, refl, replicate};
 ghost use Rattle.std.specs.Borrow.{GName, sem, Lends};
 ghost use Rattle.jzon_base.specs.NumberText.{written_text};
 ghost use Rattle.jzon_tree.specs.Generator.{Adds, Just};

@@ -179,8 +179,7 @@ impl<P: Destination, L: Layout> Generator for TextGenerator<P, L> {
 
     #[inline(always)]
     fn try_write_char(&mut self, ch: u8, slot: &mut ErrorSlot) -> SlotResult<()> {
-        let step = send(self.place.writer(), &[ch], slot);
-        self.count(step)
+        self.try_write(&[ch], slot)
     }
 
     #[inline(always)]
