@@ -1,6 +1,6 @@
 //! A key of an object: text that is stored inline if it is short (docs/RULES.md, "Short and long
 //! strings").
-ghost use Rattle.std.specs.Prelude.{◌≡◌, ◌+◌, ◌<◌, ◌≤◌, ◌++◌, ◌∷◌, List, ℕ, [], false, true, length, take, string_bytes, vec_len, vec_capacity, IfOk, IsOkUnless, MatchOption, OnErr, OnOk};
+ghost use Rattle.std.specs.Prelude.{◌≡◌, ◌<◌, ◌≤◌, ◌++◌, ◌∷◌, List, ℕ, [], length, take, string_bytes, vec_len, vec_capacity, IfOk, IsOkUnless, MatchOption, OnErr, OnOk};
 ghost use Rattle.std.specs.Str.{bytes_eq};
 ghost use Rattle.jzon_base.specs.Key.{key_bytes};
 ghost use Rattle.std.specs.Cmp.{partial_equiv_from_equiv};
@@ -116,7 +116,8 @@ impl Key {
     }
 
     /// A copy. Text of up to 32 bytes allocates nothing; for longer text the error is a failed
-    /// allocation.
+    /// allocation. Inlined, so that a copy is made where it stays.
+    #[inline(always)]
     pub fn clone(&self, alloc: Global) -> Result<Key, AllocError>
         ensures bytes { IfOk result (λ k. k ≡ self.now) }
         ensures long { OnErr result (32 < length self.now) }
@@ -126,27 +127,6 @@ impl Key {
                 text: Text::Inline(*inline),
             }),
             Text::Owned(owned) => Key::new(alloc, owned.as_str()),
-        }
-    }
-
-    /// If the text is stored inline, appends a copy to `copies`, which have room, and returns
-    /// `true`. The copy is made in place.
-    #[inline(always)]
-    pub(crate) fn push_inline(&self, copies: &mut Vec<Key>) -> bool
-        requires { vec_len copies.old < vec_capacity copies.old }
-        ensures copy { result ≡ true → copies.new.items ≡ copies.old.items ++ self.now ∷ [] }
-        ensures other { result ≡ false → copies.new ≡ copies.old }
-        ensures room { vec_capacity copies.new ≡ vec_capacity copies.old }
-        ensures len { result ≡ true → vec_len copies.new ≡ vec_len copies.old + 1 }
-    {
-        match &self.text {
-            Text::Inline(inline) => {
-                copies.push_reserved(Key {
-                    text: Text::Inline(*inline),
-                });
-                true
-            }
-            Text::Owned(_) => false,
         }
     }
 

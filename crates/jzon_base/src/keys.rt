@@ -323,9 +323,7 @@ impl Keys {
     {
         let mut keys = Vec::with_capacity(alloc, self.keys.len())?;
         for key in self.keys.as_slice() {
-            if !key.push_inline(&mut keys) {
-                keys.push_reserved(key.clone(alloc)?);
-            }
+            keys.push_reserved(key.clone(alloc)?);
         }
         let index = self.index.clone(alloc)?;
         Ok(Keys { keys, index })
