@@ -73,16 +73,12 @@ fn search(keys: &[Key], index: &Runs, name: &str) -> Result<usize, Spot>
     ensures spot { IfErr result (λ s. IsSpotFor keys.now index.now name.now s.hash s.at) }
 {
     if index.is_empty() {
-        return match few::position(keys, name) {
-            Some(position) => Ok(position),
-            None => Err(Spot { hash: 0, at: 0 }),
-        };
+        return few::position(keys, name).ok_or(Spot { hash: 0, at: 0 });
     }
     let hash = hash_of(name);
-    match index.search(keys, hash, name) {
-        Ok(position) => Ok(position),
-        Err(at) => Err(Spot { hash, at }),
-    }
+    index
+        .search(keys, hash, name)
+        .map_err(|at| Spot { hash, at })
 }
 
 /// Makes the index of keys and a missing key that is put after them. The error is a failed
