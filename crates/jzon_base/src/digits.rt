@@ -56,6 +56,11 @@ pub fn read_scanned(
         (signed positive_exponent (digits_number exponent.now))) }
     ensures fault { IfErr result (IsFirstTooMany whole.now fraction.now) }
 {
+    // Most numbers: no digit is dropped, so the exponent is minus the length of the fraction.
+    if whole.len() + fraction.len() <= ALWAYS_KEPT && exponent.is_empty() {
+        let exponent = -(fraction.len() as i16);
+        return Ok(Number::from_parts_unchecked(positive, number, exponent));
+    }
     let (number, dropped, kept_fraction) = kept_prefix(whole, fraction, number);
     if dropped > MAX_DROPPED {
         return Err(DigitFault::Whole(whole.len() - dropped + MAX_DROPPED));
@@ -132,6 +137,8 @@ fn kept_prefix(whole: &[u8], fraction: &[u8], number: u64) -> (u64, usize, usize
 
 /// Appends digits to `before` as long as the number stays below 2^64: the number and how many
 /// digits were appended.
+#[cold]
+#[inline(never)]
 fn longest_prefix(before: u64, digits: &[u8]) -> (u64, usize)
     requires { All IsDigit digits.now }
     ensures number { result.0 ≡ fold add_digit before (take result.1 digits.now) }
