@@ -124,7 +124,7 @@ fn magnitude_at(source: &str, start: usize) -> Spelling<'_>
     ensures too_many { (f : DigitFault) → IsFirstTooMany result.whole.now result.fraction.now f
         → HasTooMany source.now start }
 {
-    let (whole, before) = whole_at(source, start);
+    let (whole, before) = before_point(source, start);
     let end = start + whole.len();
     if !has_byte(source, end, b'.') {
         return Spelling {
@@ -150,20 +150,28 @@ fn magnitude_at(source: &str, start: usize) -> Spelling<'_>
 }
 
 /// The digits before the point, a single `0` or all digits from `start` on, and their number modulo
-/// 2^64.
+/// 2^64. One or two before a point need no scan.
 #[inline(always)]
-fn whole_at(source: &str, start: usize) -> (&[u8], u64)
-    requires { start < length source.now }
+fn before_point(source: &str, start: usize) -> (&[u8], u64)
+    requires within { start < length source.now }
+    requires digit { IsTrue (is_ascii_digit (slice_index source.now start)) }
     ensures digits { result.0.now
         ≡ (if slice_index source.now start == zero_digit then zero_digit ∷ []
         else take_while is_ascii_digit (drop start source.now)) }
     ensures number { result.1 ≡ digits_number result.0.now % 2 ^ 64 }
 {
-    if has_byte(source, start, b'0') {
-        (&source.as_bytes()[start..start + 1], 0)
-    } else {
-        digits_at(source, start, 0)
+    let bytes = source.as_bytes();
+    if has_byte(source, start + 1, b'.') || bytes[start] == b'0' {
+        return (&bytes[start..start + 1], u64::from(bytes[start] - b'0'));
     }
+    if has_byte(source, start + 2, b'.') && bytes[start + 1].is_ascii_digit() {
+        let tens = u64::from(bytes[start] - b'0') * 10;
+        return (
+            &bytes[start..start + 2],
+            tens + u64::from(bytes[start + 1] - b'0'),
+        );
+    }
+    digits_at(source, start, 0)
 }
 
 /// The digits from `start` on, and the number that they make when appended to the digits of

@@ -4,31 +4,31 @@ use Rattle.std.proofs.lemmas.List.{append-nil}
 use Rattle.jzon_base.specs.Digits.{IsDigit, add_digit, digits_number}
 use Rattle.jzon.proofs.Numbers.Magnitudes.{WholeStands, whole_stands, ReadsMagnitude, reads_whole_alone}
 use Rattle.jzon.proofs.Numbers.Magnitudes.{reads_whole_and_fraction}
-use Rattle.jzon.proofs.numeral.magnitude_at.Goals.{After-whole_at-before}
+use Rattle.jzon.proofs.numeral.magnitude_at.Goals.{After-before_point-before}
 use Rattle.jzon.proofs.numeral.magnitude_at.Goals as goal
 
 -- the digits before the point
-whole_digits : (c : After-whole_at-before) → WholeStands c.args.source.now c.args.start c.whole_at-before.result.0.now
-whole_digits c = whole_stands c.args.source.now c.args.start c.whole_at-before.result.0.now c.utf8.source
-    c.requires.within c.requires.digit c.whole_at-before.ensures.digits
+whole_digits : (c : After-before_point-before) → WholeStands c.args.source.now c.args.start c.before_point-before.result.0.now
+whole_digits c = whole_stands c.args.source.now c.args.start c.before_point-before.result.0.now c.utf8.source
+    c.requires.within c.requires.digit c.before_point-before.ensures.digits
 
 -- without a point
 pub invariant_of-result : goal.invariant_of-result
 invariant_of-result c =
-    let whole = whole_digits (goal.at.invariant_of-result c).After-whole_at-before in
+    let whole = whole_digits (goal.at.invariant_of-result c).After-before_point-before in
     record {
       whole_digits = whole.all;
       fraction_digits = All-nil IsDigit;
-      added_up = rw append-nil c.whole_at-before.ensures.number;
+      added_up = rw append-nil c.before_point-before.ensures.number;
       exponent_digits = All-nil IsDigit;
     }
 
 pub returns-then-not-has_byte : goal.returns-then-not-has_byte
 returns-then-not-has_byte c =
-    let end = c.args.start + length c.whole_at-before.result.0.now in
-    let whole = whole_digits (goal.at.returns-then-not-has_byte c).After-whole_at-before in
-    let k : ReadsMagnitude c.args.source.now c.args.start c.whole_at-before.result.0.now [] end false =
-    reads_whole_alone c.args.source.now c.args.start c.whole_at-before.result.0.now c.utf8.source whole
+    let end = c.args.start + length c.before_point-before.result.0.now in
+    let whole = whole_digits (goal.at.returns-then-not-has_byte c).After-before_point-before in
+    let k : ReadsMagnitude c.args.source.now c.args.start c.before_point-before.result.0.now [] end false =
+    reads_whole_alone c.args.source.now c.args.start c.before_point-before.result.0.now c.utf8.source whole
     (λ h. true≢false (sym (c.has_byte.ensures.1 h) ∙ c.if-not-has_byte.true)) in
     record {
       end = (k.after, k.boundary.0, k.boundary);
@@ -42,30 +42,30 @@ returns-then-not-has_byte c =
 -- with a point
 pub invariant_of-result-2 : goal.invariant_of-result-2
 invariant_of-result-2 c =
-    let whole = whole_digits (goal.at.invariant_of-result-2 c).After-whole_at-before in
+    let whole = whole_digits (goal.at.invariant_of-result-2 c).After-before_point-before in
     let fraction = c.digits_at-number.result.0.now in
     let here = c.has_byte.ensures.0 c.if-not-has_byte.false in
-    let k = reads_whole_and_fraction c.args.source.now c.args.start _ c.whole_at-before.result.0.now fraction
+    let k = reads_whole_and_fraction c.args.source.now c.args.start _ c.before_point-before.result.0.now fraction
     c.utf8.source whole refl here.0 here.1 c.digits_at-number.ensures.digits in
     record {
       whole_digits = k.all_whole;
       fraction_digits = k.all_fraction;
-      added_up = c.digits_at-number.ensures.number (digits_number c.whole_at-before.result.0.now)
-          c.whole_at-before.ensures.number ∙ ap (λ n. n % 2 ^ 64)
-          (sym (fold-append add_digit 0 c.whole_at-before.result.0.now fraction));
+      added_up = c.digits_at-number.ensures.number (digits_number c.before_point-before.result.0.now)
+          c.before_point-before.ensures.number ∙ ap (λ n. n % 2 ^ 64)
+          (sym (fold-append add_digit 0 c.before_point-before.result.0.now fraction));
       exponent_digits = All-nil IsDigit;
     }
 
 pub returns : goal.returns
 returns c =
-    let end = c.args.start + length c.whole_at-before.result.0.now in
-    let whole = whole_digits (goal.at.returns c).After-whole_at-before in
+    let end = c.args.start + length c.before_point-before.result.0.now in
+    let whole = whole_digits (goal.at.returns c).After-before_point-before in
     let fraction = c.digits_at-number.result.0.now in
     let here = c.has_byte.ensures.0 c.if-not-has_byte.false in
-    let k : ReadsMagnitude c.args.source.now c.args.start c.whole_at-before.result.0.now fraction
+    let k : ReadsMagnitude c.args.source.now c.args.start c.before_point-before.result.0.now fraction
     (end + 1 + length fraction) c.is_empty.result =
     rw c.is_empty.ensures
-    (reads_whole_and_fraction c.args.source.now c.args.start end c.whole_at-before.result.0.now fraction c.utf8.source
+    (reads_whole_and_fraction c.args.source.now c.args.start end c.before_point-before.result.0.now fraction c.utf8.source
     whole refl here.0 here.1 c.digits_at-number.ensures.digits) in
     record {
       end = (k.after, k.boundary.0, k.boundary);
