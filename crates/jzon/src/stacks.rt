@@ -345,12 +345,10 @@ impl Stacks {
         if self.known.is_some() {
             open_known(&mut self.known, &mut self.known_around)?;
         }
-        self.around.push_reserved(self.innermost);
-        self.innermost = Frame {
-            kind,
-            first_key: self.keys.len(),
-            first_value: self.values.len(),
-        };
+        self.around.push_reserved(Frame { ..self.innermost });
+        self.innermost.kind = kind;
+        self.innermost.first_key = self.keys.len();
+        self.innermost.first_value = self.values.len();
         Ok(())
     }
 

@@ -18,8 +18,8 @@ invariant_of-self-2 c = IsLaidOut-opened c.self.inside _ c.self.invariant (elim 
     values = ap (λ t. t.values) w.self-inside-is;
     around = c.push_reserved.ensures.items ∙ ap (λ t. t.around.items ++ t.innermost ∷ []) w.self-inside-is
         ∙ ap (λ fs. fs ++ c.self.inside.innermost ∷ []) c.in_ok-reserve.ensures.items;
-    first_key = c.len.ensures ∙ ap (λ t. vec_len t.keys) w.self-inside-is;
-    first_value = c.len-2.ensures ∙ ap (λ t. vec_len t.values) w.self-inside-is;
+    first_key = c.len-self-inside.ensures ∙ ap (λ t. vec_len t.keys) w.self-inside-is;
+    first_value = c.len-self-inside-2.ensures ∙ ap (λ t. vec_len t.values) w.self-inside-is;
     strict = ap (λ t. is_some t.known) w.self-inside-is ∙ w.in_ok-open_known.ensures.new
         ∙ sym (cc (w.if-is_some.true, c.is_some.ensures));
     known = subst (λ t. IfSome t.known (Knows [])) (sym w.self-inside-is) w.in_ok-open_known.ensures.known;
@@ -32,8 +32,8 @@ invariant_of-self-2 c = IsLaidOut-opened c.self.inside _ c.self.invariant (elim 
     values = ap (λ t. t.values) w.self-inside-is;
     around = c.push_reserved.ensures.items ∙ ap (λ t. t.around.items ++ t.innermost ∷ []) w.self-inside-is
         ∙ ap (λ fs. fs ++ c.self.inside.innermost ∷ []) c.in_ok-reserve.ensures.items;
-    first_key = c.len.ensures ∙ ap (λ t. vec_len t.keys) w.self-inside-is;
-    first_value = c.len-2.ensures ∙ ap (λ t. vec_len t.values) w.self-inside-is;
+    first_key = c.len-self-inside.ensures ∙ ap (λ t. vec_len t.keys) w.self-inside-is;
+    first_value = c.len-self-inside-2.ensures ∙ ap (λ t. vec_len t.values) w.self-inside-is;
     strict = ap (λ t. is_some t.known) w.self-inside-is;
     known =
         subst (λ t. IfSome t.known (Knows [])) (sym w.self-inside-is)
