@@ -48,8 +48,7 @@ module _ (r : Reading) where
       absurd (begins k u (ws ++ t) w u_no (sym e) (of w w_ok.0))
   same_run k test of (w ∷ ws) (x ∷ xs) t u w_ok x_ok t_no u_no e =
       let first : w ≡ x = cc in
-      let rest : ws ++ t ≡ xs ++ u = cc in
-      let g = same_run k test of ws xs t u w_ok.1 x_ok.1 t_no u_no rest in
+      let g = same_run k test of ws xs t u w_ok.1 x_ok.1 t_no u_no (cc) in
       (rw (first, g.0) refl, g.1)
 
   same_blanks : (w x t u : List ℕ) → IsWhitespace r w → IsWhitespace r x → Not whitespace t → Not whitespace u
@@ -131,16 +130,10 @@ module _ (r : Reading) where
       (letter_e-class r.strict x.letter ok.0))
   same_exponent (Some x) (Some y) t u ok ko h k e =
       let letter : x.letter ≡ y.letter = cc in
-      let rest : sign_chars x.sign (x.digits ++ t) ≡ sign_chars y.sign (y.digits ++ u) = cc in
-      let s = same_sign x.sign y.sign x.digits y.digits t u ok.1 ko.1 rest in
+      let s = same_sign x.sign y.sign x.digits y.digits t u ok.1 ko.1 (cc) in
       let d = same_digits x.digits y.digits t u (are_digits x.digits ok.1) (are_digits y.digits ko.1)
       (fault_here digits t refl h) (fault_here digits u refl k) s.1 in
-      (same_parts x.letter y.letter x.sign y.sign x.digits y.digits letter s.0 d.0, d.1)
-    where
-      same_parts : (a b : ℕ) (p q : Sign) (ds es : List ℕ) → a ≡ b → p ≡ q → ds ≡ es
-          → ◌≡◌ {A = Option Exponent} (Some (record { letter = a; sign = p; digits = ds }))
-          (Some (record { letter = b; sign = q; digits = es }))
-      same_parts a b p q ds es e f g = rw (e, f, g) refl
+      (λ i. Some (record { letter = letter i; sign = s.0 i; digits = d.0 i }), d.1)
 
   same_fraction : (ds es : List ℕ) (x y : Option Exponent) (t u : List ℕ) → AreDigits ds → AreDigits es → IsExponent x
       → IsExponent y → Stops t → Stops u
@@ -154,9 +147,8 @@ module _ (r : Reading) where
       absurd (begins point (exponent_chars y u) _ 46 (exponent_not point y u refl (λ f. cc) y_ok k) (sym e)
       (class-char r.strict point))
   same_fraction (d ∷ ds) (c ∷ es) x y t u ok ko x_ok y_ok h k e =
-      let rest : (d ∷ ds) ++ exponent_chars x t ≡ (c ∷ es) ++ exponent_chars y u = cc in
       same_digits (d ∷ ds) (c ∷ es) (exponent_chars x t) (exponent_chars y u) ok ko
-      (exponent_not digits x t refl (λ f. cc) x_ok h) (exponent_not digits y u refl (λ f. cc) y_ok k) rest
+      (exponent_not digits x t refl (λ f. cc) x_ok h) (exponent_not digits y u refl (λ f. cc) y_ok k) (cc)
 
   whole_digits : (ds : List ℕ) → IsWhole ds → IsDigits ds
   whole_digits [] ok = ok
@@ -188,15 +180,8 @@ module _ (r : Reading) where
       → numeral_chars m.negative m t ≡ numeral_chars n.negative n u → (m ≡ n) × (t ≡ u)
   same_numeral m n t u ok ko h k e =
       let a = same_numeral_by m.negative n.negative m n t u ok ko h k e in
-      let b = same_magnitude m n t u ok ko h k a.1 in (
-        same_parts m.negative n.negative m.whole n.whole m.fraction n.fraction m.exponent n.exponent a.0 b.0 b.1 b.2,
-        b.3,
-      )
-    where
-      same_parts : (a b : Bool) (ws vs ds es : List ℕ) (x y : Option Exponent) → a ≡ b → ws ≡ vs → ds ≡ es → x ≡ y
-          → ◌≡◌ {A = Numeral} (record { negative = a; whole = ws; fraction = ds; exponent = x })
-          (record { negative = b; whole = vs; fraction = es; exponent = y })
-      same_parts a b ws vs ds es x y e f g h = rw (e, f, g, h) refl
+      let b = same_magnitude m n t u ok ko h k a.1 in
+      (λ i. record { negative = a.0 i; whole = b.0 i; fraction = b.1 i; exponent = b.2 i }, b.3)
 
   -- ---- strings
 
@@ -233,8 +218,7 @@ module _ (r : Reading) where
   same_hex (suc n) (c ∷ u) [] s t ok ko e = absurd ko
   same_hex (suc n) (c ∷ u) (d ∷ v) s t ok ko e =
       let first : c ≡ d = cc in
-      let rest : u ++ s ≡ v ++ t = cc in
-      let g = same_hex n u v s t ok.1 ko.1 rest in
+      let g = same_hex n u v s t ok.1 ko.1 (cc) in
       (rw (first, g.0) refl, g.1)
 
   -- one escape isn't two: the first of two names a surrogate
@@ -247,13 +231,11 @@ module _ (r : Reading) where
   same_items [] [] t u ok ko e = (refl, let f : t ≡ u = cc in f)
   same_items (grammar.plain c ∷ is) (grammar.plain d ∷ js) t u ok ko e =
       let first : c ≡ d = cc in
-      let rest : items_chars is (34 ∷ t) ≡ items_chars js (34 ∷ u) = cc in
-      let g = same_items is js t u ok.1 ko.1 rest in
+      let g = same_items is js t u ok.1 ko.1 (cc) in
       (rw (first, g.0) refl, g.1)
   same_items (simple c ∷ is) (simple d ∷ js) t u ok ko e =
       let first : c ≡ d = cc in
-      let rest : items_chars is (34 ∷ t) ≡ items_chars js (34 ∷ u) = cc in
-      let g = same_items is js t u ok.1 ko.1 rest in
+      let g = same_items is js t u ok.1 ko.1 (cc) in
       (rw (first, g.0) refl, g.1)
   same_items (single a ∷ is) (single b ∷ js) t u ok ko e =
       let rest : a ++ items_chars is (34 ∷ t) ≡ b ++ items_chars js (34 ∷ u) = cc in
@@ -372,11 +354,7 @@ module _ (r : Reading) where
       let i = same_items k.items l.items (k.after ++ (58 ∷ t)) (l.after ++ (58 ∷ u)) ok.1 ko.1 rest in
       let z = same_blanks k.after l.after _ _ ok.2 ko.2 (token_blank colon (λ f. cc))
       (token_blank colon (λ f. cc)) i.1 in
-      (same_parts k.before l.before k.items l.items k.after l.after a.0 i.0 z.0, let x = z.1 in let f : t ≡ u = cc in f)
-    where
-      same_parts : (a b : List ℕ) (is js : List Item) (y z : List ℕ) → a ≡ b → is ≡ js → y ≡ z
-          → ◌≡◌ {A = Key} (record { before = a; items = is; after = y }) (record { before = b; items = js; after = z })
-      same_parts a b is js y z e f g = rw (e, f, g) refl
+      (λ j. record { before = a.0 j; items = i.0 j; after = z.0 j }, let x = z.1 in let f : t ≡ u = cc in f)
 
   -- an empty container isn't one with elements or members
   no_empty_array : (b c t u : List ℕ) (n : Node) → IsWhitespace r b → IsWhitespace r c → IsNode r n
@@ -404,15 +382,14 @@ module _ (r : Reading) where
     same_node (Node.number m) (Node.number n) t u ok ko h k e =
         let g = same_numeral m n t u ok ko h k e in (ap Node.number g.0, g.1)
     same_node (Node.string is) (Node.string js) t u ok ko h k e =
-        let rest : items_chars is (34 ∷ t) ≡ items_chars js (34 ∷ u) = cc in
-        let g = same_items is js t u ok ko rest in (ap Node.string g.0, g.1)
+        let g = same_items is js t u ok ko (cc) in (ap Node.string g.0, g.1)
     same_node (Node.empty_array b) (Node.empty_array c) t u ok ko h k e =
-        let rest : b ++ (93 ∷ t) ≡ c ++ (93 ∷ u) = cc in
-        let g = same_blanks b c _ _ ok ko (elements_blank no_elements t) (elements_blank no_elements u) rest in
+        let g = same_blanks b c (93 ∷ t) (93 ∷ u) ok ko (elements_blank no_elements t) (elements_blank no_elements u)
+        (cc) in
         (ap Node.empty_array g.0, let x = g.1 in let f : t ≡ u = cc in f)
     same_node (Node.empty_object b) (Node.empty_object c) t u ok ko h k e =
-        let rest : b ++ (125 ∷ t) ≡ c ++ (125 ∷ u) = cc in
-        let g = same_blanks b c _ _ ok ko (members_blank no_members t) (members_blank no_members u) rest in
+        let g = same_blanks b c (125 ∷ t) (125 ∷ u) ok ko (members_blank no_members t) (members_blank no_members u)
+        (cc) in
         (ap Node.empty_object g.0, let x = g.1 in let f : t ≡ u = cc in f)
     same_node (Node.array b m c es) (Node.array b' n c' fs) t u ok ko h k e =
         let rest : b ++ node_chars m (c ++ elements_chars es t) ≡ b' ++ node_chars n (c' ++ elements_chars fs u) = cc in
@@ -431,17 +408,13 @@ module _ (r : Reading) where
         let s = same_members ms ns t u ok.4 ko.4 z.1 in
         (rw (y.0, a.0, g.0, z.0, s.0) refl, s.1)
     same_node (Node.empty_array b) (Node.array c n d es) t u ok ko h k e =
-        let f : b ++ (93 ∷ t) ≡ c ++ node_chars n (d ++ elements_chars es u) = cc in
-        absurd (no_empty_array b c t _ n ok ko.0 ko.1 f)
+        absurd (no_empty_array b c t (d ++ elements_chars es u) n ok ko.0 ko.1 (cc))
     same_node (Node.array c n d es) (Node.empty_array b) t u ok ko h k e =
-        let f : b ++ (93 ∷ u) ≡ c ++ node_chars n (d ++ elements_chars es t) = cc in
-        absurd (no_empty_array b c u _ n ko ok.0 ok.1 f)
+        absurd (no_empty_array b c u (d ++ elements_chars es t) n ko ok.0 ok.1 (cc))
     same_node (Node.empty_object b) (Node.object key c n d ms) t u ok ko h k e =
-        let f : b ++ (125 ∷ t) ≡ key_chars key (c ++ node_chars n (d ++ members_chars ms u)) = cc in
-        absurd (no_empty_object b t _ key ok ko.0 f)
+        absurd (no_empty_object b t (c ++ node_chars n (d ++ members_chars ms u)) key ok ko.0 (cc))
     same_node (Node.object key c n d ms) (Node.empty_object b) t u ok ko h k e =
-        let f : b ++ (125 ∷ u) ≡ key_chars key (c ++ node_chars n (d ++ members_chars ms t)) = cc in
-        absurd (no_empty_object b u _ key ko ok.0 f)
+        absurd (no_empty_object b u (c ++ node_chars n (d ++ members_chars ms t)) key ko ok.0 (cc))
     same_node m n t u ok ko h k e =
         absurd (let f : Some (kind m) ≡ Some (kind n) = sym (lead m t ok) ∙ ap first e ∙ lead n u ko in cc)
 
@@ -480,12 +453,7 @@ module _ (r : Reading) where
   same_document d e ok ko h =
       let a = same_blanks d.before e.before _ _ ok.0 ko.0 (no_blank d.node _ ok.1) (no_blank e.node _ ko.1) h in
       let g = same_node d.node e.node d.after e.after ok.1 ko.1 (after_stops d.after ok.2) (after_stops e.after ko.2)
-      a.1 in
-      same_parts d.before e.before d.node e.node d.after e.after a.0 g.0 g.1
-    where
-      same_parts : (a b : List ℕ) (m n : Node) (y z : List ℕ) → a ≡ b → m ≡ n → y ≡ z
-          → ◌≡◌ {A = Document} (record { before = a; node = m; after = y }) (record { before = b; node = n; after = z })
-      same_parts a b m n y z e f g = rw (e, f, g) refl
+      a.1 in λ i. record { before = a.0 i; node = g.0 i; after = g.1 i }
 
 pub same_tree : (r : Reading) (t : List ℕ) (d e : Document) → Spells r t d → Spells r t e → d ≡ e
 same_tree r t d e h k = same_document r d e h.0 k.0 (sym (spells r d) ∙ h.1 ∙ sym k.1 ∙ spells r e)
