@@ -96,11 +96,6 @@ other_mark false b m other e = absurd (cc)
 digit_mark : (v : Bool) → breach_if v digit ≡ Some deep → None ≡ Some deep
 digit_mark v = other_mark v digit None (λ e. cc)
 
-if_reports : (K : State → Type 0) (v : Bool) (m : Option Breach) (x y : Move) → Reports K m x → Reports K m y
-    → Reports K m (cond v x y)
-if_reports K true m x y h k = h
-if_reports K false m x y h k = k
-
 bad_reports : (K : State → Type 0) (v : Bool) → Reports K (breach_if v deep) (bad_at (breach_if v deep))
 bad_reports K true = refl
 bad_reports K false = λ e. cc
@@ -190,42 +185,58 @@ numeral_reports (exponent ws ds l s xs) digits fs negative c = (unmarked _, tt)
 numeral_reports (exponent ws ds l s xs) class fs negative c =
     after_reports class fs (number_value negative ws ds (exponent_of l s (onto xs [])))
 
--- For strings: K holds of each state inside and after them.
-module _ (r : Reading) (K : State → Type 0) (role : Role)
-    (inside : (bs : List ℕ) (x : StringState) → K (string role bs x)) where
-  code_reports : (bs : List ℕ) (n u c : ℕ) → Reports K None (move_code role bs n u c)
-  code_reports bs zero u c = (unmarked _, by_test (is_surrogate (add_hex u c)))
+-- ---- strings
+
+-- A relation of moves that holds of two roles' moves inside a string, and of two bad moves, holds of how the automaton
+-- moves inside a string in the two roles, if it holds of what the closing quote does.
+module _ (r : Reading) (Both : Move → Move → Type 0) (one two : Role) (fails : Both bad bad)
+    (inside : (m : Option Breach) → (m ≡ Some deep → ⊥) → (bs : List ℕ) (x : StringState)
+    → Both (go m (string one bs x)) (go m (string two bs x))) where
+  by_test : (t : Bool) (x y z w : Move) → Both x z → Both y w → Both (cond t x y) (cond t z w)
+  by_test true x y z w h k = h
+  by_test false x y z w h k = k
+
+  code_both : (bs : List ℕ) (n u c : ℕ) → Both (move_code one bs n u c) (move_code two bs n u c)
+  code_both bs zero u c = unit_both (is_surrogate (add_hex u c))
     where
-      by_test : (t : Bool) → K (after_unit t role bs (add_hex u c))
-      by_test true = inside bs _
-      by_test false = inside _ between
-  code_reports bs (suc n) u c = (unmarked _, inside bs _)
+      unit_both : (t : Bool)
+          → Both (go None (after_unit t one bs (add_hex u c))) (go None (after_unit t two bs (add_hex u c)))
+      unit_both true = inside None shut bs _
+      unit_both false = inside None shut _ between
+  code_both bs (suc n) u c = inside None shut bs _
 
-  pair_reports : (t : Bool) (bs : List ℕ) (u v : ℕ) → Reports K None (move_pair t role bs u v)
-  pair_reports true bs u v = (unmarked _, inside _ between)
-  pair_reports false bs u v = ((λ e. absurd (cc)), inside bs between)
+  pair_both : (t : Bool) (bs : List ℕ) (u v : ℕ) → Both (move_pair t one bs u v) (move_pair t two bs u v)
+  pair_both true bs u v = inside None shut _ between
+  pair_both false bs u v = inside (Some pair) (λ e. cc) bs between
 
-  second_code_reports : (bs : List ℕ) (u n v c : ℕ) → Reports K None (move_second_code role bs u n v c)
-  second_code_reports bs u zero v c = pair_reports _ bs u _
-  second_code_reports bs u (suc n) v c = (unmarked _, inside bs _)
+  second_both : (bs : List ℕ) (u n v c : ℕ) → Both (move_second_code one bs u n v c) (move_second_code two bs u n v c)
+  second_both bs u zero v c = pair_both _ bs u _
+  second_both bs u (suc n) v c = inside None shut bs _
 
-  string_reports : (x : StringState) (bs : List ℕ) (c left : ℕ) → Reports K None (closed_string r role bs left)
-      → Reports K None (move_string r x role bs c left)
-  string_reports between bs c left h =
-      if_reports K (c == 34) None _ _ h (if_reports K (c == 92) None _ _ (unmarked _, inside bs _)
-      (if_reports K (is_unescaped c) None _ _ (unmarked _, inside _ between) shut))
-  string_reports slash bs c left h =
-      if_reports K (c == 117) None _ _ (unmarked _, inside bs _)
-      (if_reports K (is_simple c) None _ _ (unmarked _, inside _ between) shut)
-  string_reports (code n u) bs c left h = if_reports K (is_ascii_hexdigit c) None _ _ (code_reports bs n u c) shut
-  string_reports (second u) bs c left h = if_reports K (c == 92) None _ _ (unmarked _, inside bs _) shut
-  string_reports (second_slash u) bs c left h = if_reports K (c == 117) None _ _ (unmarked _, inside bs _) shut
-  string_reports (second_code u n v) bs c left h =
-      if_reports K (is_ascii_hexdigit c) None _ _ (second_code_reports bs u n v c) shut
+  string_both : (x : StringState) (bs : List ℕ) (c i j : ℕ) → Both (closed_string r one bs i) (closed_string r two bs j)
+      → Both (move_string r x one bs c i) (move_string r x two bs c j)
+  string_both between bs c i j h =
+      by_test (c == 34) _ _ _ _ h (by_test (c == 92) _ _ _ _ (inside None shut bs _)
+      (by_test (is_unescaped c) _ _ _ _ (inside None shut _ between) fails))
+  string_both slash bs c i j h =
+      by_test (c == 117) _ _ _ _ (inside None shut bs _)
+      (by_test (is_simple c) _ _ _ _ (inside None shut _ between) fails)
+  string_both (code n u) bs c i j h = by_test (is_ascii_hexdigit c) _ _ _ _ (code_both bs n u c) fails
+  string_both (second u) bs c i j h = by_test (c == 92) _ _ _ _ (inside None shut bs _) fails
+  string_both (second_slash u) bs c i j h = by_test (c == 117) _ _ _ _ (inside None shut bs _) fails
+  string_both (second_code u n v) bs c i j h = by_test (is_ascii_hexdigit c) _ _ _ _ (second_both bs u n v c) fails
+
+-- K holds of each state inside the string and after it
+string_reports : (r : Reading) (K : State → Type 0) (role : Role) (x : StringState) (bs : List ℕ) (c left : ℕ)
+    → ((bs : List ℕ) (y : StringState) → K (string role bs y)) → Reports K None (closed_string r role bs left)
+    → Reports K None (move_string r x role bs c left)
+string_reports r K role x bs c left inside h =
+    string_both r (λ z w. Reports K None z) role role shut (λ m other bs y. ((λ e. absurd (other e)), inside bs y))
+    x bs c left left h
 
 value_string_reports : (r : Reading) (fs : Frames) (x : StringState) (bs : List ℕ) (c left : ℕ)
     → Reports Keyless None (move_string r x (as_value fs) bs c left)
-value_string_reports r fs x bs c left = string_reports r Keyless (as_value fs) (λ b y. tt) x bs c left (unmarked _, tt)
+value_string_reports r fs x bs c left = string_reports r Keyless (as_value fs) x bs c left (λ b y. tt) (unmarked _, tt)
 
 word_reports : (t : Bool) (fs : Frames) (v : Value) (ls : List ℕ)
     → Reports Keyless None (cond t (go None (past_letter fs v ls)) bad)
@@ -244,7 +255,7 @@ reports r (word fs v l ls) c left = loose _ _ _ (word_reports (c == l) fs v ls)
 reports r (numeral fs negative x) c left = loose _ _ _ (numeral_reports x (class_of r.strict c) fs negative c)
 reports r (string (as_value fs) bs x) c left = loose _ _ _ (value_string_reports r fs x bs c left)
 reports r (string (as_key fs es opened) bs x) c left =
-    string_reports r (λ q. ⊤) (as_key fs es opened) (λ b y. tt) x bs c left (other_mark _ _ None (λ e. cc), tt)
+    string_reports r (λ q. ⊤) (as_key fs es opened) x bs c left (λ b y. tt) (other_mark _ _ None (λ e. cc), tt)
 reports r (after_key fs es k) c left = loose _ _ _ (after_key_reports (class_of r.strict c) fs es k)
 reports r (after_value fs v) c left = loose _ _ _ (after_reports (class_of r.strict c) fs v)
 
@@ -278,60 +289,16 @@ same_move : (i j : ℕ) (m : Option Breach) (z : Move) → Reports Keyless m z �
 same_move i j m (go v p) h = (p, refl, keyless_alike i j p h.1)
 same_move i j m _ h = refl
 
-if_alike : (i j : ℕ) (t : Bool) (x y z w : Move) → AlikeMove i j x z → AlikeMove i j y w
-    → AlikeMove i j (cond t x y) (cond t z w)
-if_alike i j true x y z w h k = h
-if_alike i j false x y z w h k = k
-
 -- inside a key
-module _ (r : Reading) (i j : ℕ) (fs : Frames) (es : EntriesSoFar) (opened back : ℕ) (e : opened ≡ back + suc i) where
-  abbrev here : Role
-  here = as_key fs es opened
-
-  abbrev there : Role
-  there = as_key fs es (back + suc j)
-
-  inner : (m : Option Breach) (bs : List ℕ) (x : StringState)
-      → AlikeMove i j (go m (string here bs x)) (go m (string there bs x))
-  inner m bs x =
-      let f : suc back + j ≡ back + suc j = omega arith in
-      (string there bs x, refl, (suc back, omega (arith, e), ap (λ n. string (as_key fs es n) bs x) f))
-
-  closed_alike : (bs : List ℕ) → AlikeMove i j (closed_string r here bs (suc i)) (closed_string r there bs (suc j))
-  closed_alike bs =
-      let f : back + suc j - suc j ≡ opened - suc i = omega (arith, e) in
-      (after_key fs es bs, ap (λ n. go (repeated_if r es bs n) (after_key fs es bs)) f, refl)
-
-  code_alike : (n u : ℕ) (bs : List ℕ) (c : ℕ) → AlikeMove i j (move_code here bs n u c) (move_code there bs n u c)
-  code_alike zero u bs c = by_test (is_surrogate (add_hex u c))
-    where
-      by_test : (t : Bool)
-          → AlikeMove i j (go None (after_unit t here bs (add_hex u c))) (go None (after_unit t there bs (add_hex u c)))
-      by_test true = inner None bs _
-      by_test false = inner None _ between
-  code_alike (suc n) u bs c = inner None bs _
-
-  pair_alike : (t : Bool) (bs : List ℕ) (u v : ℕ) → AlikeMove i j (move_pair t here bs u v) (move_pair t there bs u v)
-  pair_alike true bs u v = inner None _ between
-  pair_alike false bs u v = inner (Some pair) bs between
-
-  second_alike : (u n v : ℕ) (bs : List ℕ) (c : ℕ)
-      → AlikeMove i j (move_second_code here bs u n v c) (move_second_code there bs u n v c)
-  second_alike u zero v bs c = pair_alike _ bs u _
-  second_alike u (suc n) v bs c = inner None bs _
-
-  string_alike : (x : StringState) (bs : List ℕ) (c : ℕ)
-      → AlikeMove i j (move_string r x here bs c (suc i)) (move_string r x there bs c (suc j))
-  string_alike between bs c =
-      if_alike i j (c == 34) _ _ _ _ (closed_alike bs) (if_alike i j (c == 92) _ _ _ _ (inner None bs slash)
-      (if_alike i j (is_unescaped c) _ _ _ _ (inner None _ between) refl))
-  string_alike slash bs c =
-      if_alike i j (c == 117) _ _ _ _ (inner None bs _)
-      (if_alike i j (is_simple c) _ _ _ _ (inner None _ between) refl)
-  string_alike (code n u) bs c = if_alike i j (is_ascii_hexdigit c) _ _ _ _ (code_alike n u bs c) refl
-  string_alike (second u) bs c = if_alike i j (c == 92) _ _ _ _ (inner None bs _) refl
-  string_alike (second_slash u) bs c = if_alike i j (c == 117) _ _ _ _ (inner None bs _) refl
-  string_alike (second_code u n v) bs c = if_alike i j (is_ascii_hexdigit c) _ _ _ _ (second_alike u n v bs c) refl
+key_string_alike : (r : Reading) (i j : ℕ) (fs : Frames) (es : EntriesSoFar) (opened back : ℕ) → opened ≡ back + suc i
+    → (x : StringState) (bs : List ℕ) (c : ℕ) → AlikeMove i j (move_string r x (as_key fs es opened) bs c (suc i))
+    (move_string r x (as_key fs es (back + suc j)) bs c (suc j))
+key_string_alike r i j fs es opened back e x bs c =
+    let f : suc back + j ≡ back + suc j = omega arith in
+    let g : back + suc j - suc j ≡ opened - suc i = omega (arith, e) in
+    string_both r (AlikeMove i j) (as_key fs es opened) (as_key fs es (back + suc j)) refl
+    (λ m other bs y. (_, refl, (suc back, omega (arith, e), ap (λ n. string (as_key fs es n) bs y) f))) x bs c
+    (suc i) (suc j) (after_key fs es bs, ap (λ n. go (repeated_if r es bs n) (after_key fs es bs)) g, refl)
 
 bad_alike : (i j : ℕ) (m : Option Breach) → AlikeMove i j (bad_at m) (bad_at m)
 bad_alike i j None = refl
@@ -367,9 +334,6 @@ pub moves_alike : (r : Reading) (i j c : ℕ) (p q : State) → Alike (suc i) (s
     → AlikeMove i j (move r p c (suc i)) (move r q c (suc j))
 moves_alike r i j c (string (as_key fs es opened) bs x) q h =
     subst (λ z. AlikeMove i j (move_string r x (as_key fs es opened) bs c (suc i)) (move r z c (suc j))) h.2
-    (string_alike r i j fs es opened h.0 h.1 x bs c)
-moves_alike r i j c (string (as_value fs) bs x) q h =
-    subst (λ z. AlikeMove i j (move_string r x (as_value fs) bs c (suc i)) (move r z c (suc j))) h
-    (alike_value_string r i j fs x bs c)
+    (key_string_alike r i j fs es opened h.0 h.1 x bs c)
 moves_alike r i j c p q h =
     subst (λ z. AlikeMove i j (move r p c (suc i)) (move r z c (suc j))) h (same_alike r i j c p tt)
