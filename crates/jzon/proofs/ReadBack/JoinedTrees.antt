@@ -92,9 +92,8 @@ joined_elements r s dent high t (u ∷ ts) n (m ∷ ns) inside w fit each join s
       space = tt;
       spell =
           elements_raised r (max high high) high _ _ (no_higher high)
-          (element_spells r high high more.before u more.after more.rest m more.elements more.whitespace more.space
-          each.1.0
-          more.spell);
+          (element_spells r high more.before u more.after more.rest m more.whitespace more.space each.1.0 high
+          more.elements more.spell);
       text =
           ap (λ x. x ++ (w ++ 93 ∷ [])) join.4 ∙ after_value join.0 t (44 ∷ join.1) (w ++ 93 ∷ [])
           ∙ ap (λ x. join.0 ++ (t ++ 44 ∷ x)) more.text;
@@ -169,9 +168,8 @@ joined_members r s dent high e (f ∷ es) inside w fit each join space =
       space = tt;
       spell =
           members_raised r (max high high) high _ _ _ (no_higher high)
-          (member_spells r high high (entry_keys es) more.before f.key f.gap f.text more.after more.rest f.node
-          more.members more.whitespace each.1.0.utf8 each.1.0.whitespace
-          more.space each.1.0.spells more.spell);
+          (member_spells r high f.gap f.text more.after more.rest f.node each.1.0.whitespace more.space
+          each.1.0.spells high _ more.members more.spell more.before f.key more.whitespace each.1.0.utf8);
       text =
           ap (λ x. x ++ (w ++ 125 ∷ [])) join.4 ∙ after_value join.0 (entry_text e) (44 ∷ join.1) (w ++ 125 ∷ [])
           ∙ entry_after e join.0 (44 ∷ (join.1 ++ (w ++ 125 ∷ [])))

@@ -89,7 +89,7 @@ array_from r s dent v vs b (t ∷ ts) (n ∷ ns) fit each alike w =
       spells =
           subst (λ x. NodeSpells r (suc high) x node) (sym (w.4 ∙ ap (λ x. 91 ∷ x) j.text))
           (node_raised r (suc (max high high)) (suc high) _ node (above_max high)
-          (array_spells r high high j.before t j.after j.rest n j.elements j.whitespace j.space each.0 j.spell));
+          (array_spells r high j.before t j.after j.rest n j.whitespace j.space each.0 high j.elements j.spell));
       alike = ap (λ ms. same_items (value (meaning n) ms) (value v vs)) j.means ∙ alike;
     }
 
@@ -117,10 +117,8 @@ object_from r s dent k v ps b (e ∷ es) fit each distinct alike w =
       spells =
           subst (λ x. NodeSpells r (suc high) x node) (sym (w.4 ∙ ap (λ x. 123 ∷ x) j.text))
           (node_raised r (suc (max high high)) (suc high) _ node (above_max high)
-          (object_spells r high high (entry_keys es) j.before e.key e.gap e.text j.after j.rest e.node j.members
-          j.whitespace
-          each.0.utf8 each.0.whitespace j.space each.0.spells
-          j.spell (AreNew-IsDistinct (entry_keys (e ∷ es)) distinct)));
+          (object_spells r high e.gap e.text j.after j.rest e.node each.0.whitespace j.space each.0.spells high _
+          j.members j.spell j.before e.key j.whitespace each.0.utf8 (AreNew-IsDistinct (entry_keys (e ∷ es)) distinct)));
       alike =
           ap (λ qs. same (object (pairs_of qs)) (object (pair k v ps))) means
           ∙ object-intro (pairs_of (map entry_meaning (e ∷ es))) (pair k v ps)

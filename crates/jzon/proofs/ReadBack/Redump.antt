@@ -67,7 +67,7 @@ mutual
       let more = dumped_values r d vs h.1 in
       record {
         node = Node.array [] one.node [] more.elements;
-        spells = array_spells r (nest v) (most_nest vs) [] _ [] _ one.node more.elements tt tt one.spells more.spell;
+        spells = array_spells r (nest v) [] _ [] _ one.node tt tt one.spells (most_nest vs) more.elements more.spell;
         again = λ e. rw (one.again (suc e), more.again e) refl;
       }
   dumped r d (object no_pairs) h =
@@ -84,8 +84,8 @@ mutual
             subst (λ b. NodeSpells r (nest (object (pair k v ps))) (123 ∷ b)
             (Node.object (key_for [] k) [] one.node [] more.members))
             (sym (laid_out k (layout_text compact_layout (suc d) v) (more_pairs_text compact_layout d ps)))
-            (object_spells r (nest v) (most_nest_under ps) (keys_of (list_of_pairs ps)) [] k [] _ [] _ one.node
-            more.members tt h.0.0 tt tt one.spells more.spell new);
+            (object_spells r (nest v) [] _ [] _ one.node tt tt one.spells (most_nest_under ps) _ more.members
+            more.spell [] k tt h.0.0 new);
         again = λ e.
             let bytes : bytes_of (items_for k) ≡ k = bytes_of-items_for k h.0.0 in
             let kept : put_each ((bytes_of (items_for k), meaning one.node) ∷ members_meaning more.members)
@@ -104,7 +104,7 @@ mutual
       let more = dumped_values r d vs h.1 in
       record {
         elements = element [] one.node [] more.elements;
-        spell = element_spells r (nest v) (most_nest vs) [] _ [] _ one.node more.elements tt tt one.spells more.spell;
+        spell = element_spells r (nest v) [] _ [] _ one.node tt tt one.spells (most_nest vs) more.elements more.spell;
         again = λ e. rw (one.again (suc e), more.again e) refl;
       }
 
@@ -121,8 +121,8 @@ mutual
             subst (λ b. MembersSpell r (most_nest_under (pair k v ps)) (k ∷ keys_of (list_of_pairs ps)) (44 ∷ b)
             (member (key_for [] k) [] one.node [] more.members))
             (sym (laid_out k (layout_text compact_layout (suc d) v) (more_pairs_text compact_layout d ps)))
-            (member_spells r (nest v) (most_nest_under ps) (keys_of (list_of_pairs ps)) [] k [] _ [] _ one.node
-            more.members tt h.0 tt tt one.spells more.spell);
+            (member_spells r (nest v) [] _ [] _ one.node tt tt one.spells (most_nest_under ps) _ more.members
+            more.spell [] k tt h.0);
         keys = ap (λ y. y ∷ keys_of (members_meaning more.members)) bytes ∙ ap (λ ks. k ∷ ks) more.keys;
         again = λ e. rw (bytes, one.again (suc e), more.again e) refl;
       }

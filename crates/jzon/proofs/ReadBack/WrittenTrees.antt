@@ -75,12 +75,10 @@ pub null_spells : (r : Reading) → NodeSpells r 0 (codes "null") Node.null
 null_spells r = ascii_spells r (codes "null") Node.null (IsAscii-true (codes "null") refl) tt (λ depth k. refl)
 
 pub true_spells : (r : Reading) → NodeSpells r 0 (codes "true") (Node.boolean true)
-true_spells r = ascii_spells r (codes "true") (Node.boolean true) (IsAscii-true (codes "true") refl) tt
-    (λ depth k. refl)
+true_spells r = ascii_spells r _ (Node.boolean true) (IsAscii-true (codes "true") refl) tt (λ depth k. refl)
 
 pub false_spells : (r : Reading) → NodeSpells r 0 (codes "false") (Node.boolean false)
-false_spells r =
-    ascii_spells r (codes "false") (Node.boolean false) (IsAscii-true (codes "false") refl) tt (λ depth k. refl)
+false_spells r = ascii_spells r _ (Node.boolean false) (IsAscii-true (codes "false") refl) tt (λ depth k. refl)
 
 pub number_spells : (r : Reading) (s : Bool) (m : ℕ) (e : ℤ) (n : Numeral) → m < 2 ^ 64 → FitsSigned w16 e
     → IsPrintedAs s m e n → NodeSpells r 0 (number_text s m e) (Node.number n)
@@ -89,12 +87,10 @@ number_spells r s m e n fits small h =
     (λ depth k. printed-plain s m e n k fits small h)
 
 pub empty_array_spells : (r : Reading) → NodeSpells r 0 (codes "[]") (Node.empty_array [])
-empty_array_spells r = ascii_spells r (codes "[]") (Node.empty_array []) (IsAscii-true (codes "[]") refl) tt
-    (λ depth k. refl)
+empty_array_spells r = ascii_spells r _ (Node.empty_array []) (IsAscii-true (codes "[]") refl) tt (λ depth k. refl)
 
 pub empty_object_spells : (r : Reading) → NodeSpells r 0 (codes "{}") (Node.empty_object [])
-empty_object_spells r = ascii_spells r (codes "{}") (Node.empty_object []) (IsAscii-true (codes "{}") refl) tt
-    (λ depth k. refl)
+empty_object_spells r = ascii_spells r _ (Node.empty_object []) (IsAscii-true (codes "{}") refl) tt (λ depth k. refl)
 
 pub string_spells : (r : Reading) (s : List ℕ) → IsUtf8 s → NodeSpells r 0 (quoted s) (Node.string (items_for s))
 string_spells r s u = record {
@@ -103,7 +99,7 @@ string_spells r s u = record {
   unbroken = λ depth k h. quoted-plain s k u;
 }
 
--- ---- arrays
+-- ---- arrays and objects
 
 pub no_elements_spell : (r : Reading) → ElementsSpell r 0 (93 ∷ []) no_elements
 no_elements_spell r = record {
@@ -112,63 +108,16 @@ no_elements_spell r = record {
   unbroken = λ depth k h. ap (λ t. plain t k) (sym (chars-IsAscii (93 ∷ []) (IsAscii-one 93 (omega arith))));
 }
 
--- whitespace, a value, whitespace and the elements after it
-abbrev pub run_text : List ℕ → List ℕ → List ℕ → List ℕ → List ℕ
-run_text w x c b = w ++ (x ++ (c ++ b))
-
-run-plain : (r : Reading) (h depth : ℕ) (w x c b : List ℕ) (n : Node) (rest k : List Cell)
-    → IsWhitespace r w → IsWhitespace r c → NodeSpells r h x n → depth + h ≤ r.depth → rest ≡ plain (chars b) k
-    → plain w (node_cells r n depth None (plain c rest)) ≡ plain (chars (run_text w x c b)) k
-run-plain r h depth w x c b n rest k whitespace space node few more =
-    ap (λ q. plain w (node_cells r n depth None (plain c q))) more
-    ∙ ap (λ q. plain w q) (node.unbroken depth (plain c (plain (chars b) k)) few
-    ∙ ap (λ q. plain (chars x) q) (sym (text-ascii c b k (IsAscii-whitespace r c space)))
-    ∙ sym (text-append x (c ++ b) k node.utf8))
-    ∙ sym (text-ascii w (x ++ (c ++ b)) k (IsAscii-whitespace r w whitespace))
-
-IsUtf8-run : (r : Reading) (w x c b : List ℕ) → IsWhitespace r w → IsWhitespace r c → IsUtf8 x → IsUtf8 b
-    → IsUtf8 (run_text w x c b)
-IsUtf8-run r w x c b whitespace space u v =
-    IsUtf8-ascii_append w _ (IsAscii-whitespace r w whitespace) (IsUtf8-append x _ u
-    (IsUtf8-ascii_append c b (IsAscii-whitespace r c space) v))
-
-pub element_spells : (r : Reading) (h high : ℕ) (w x c b : List ℕ) (n : Node) (es : Elements) → IsWhitespace r w
-    → IsWhitespace r c → NodeSpells r h x n
-    → ElementsSpell r high b es → ElementsSpell r (max h high) (44 ∷ run_text w x c b) (element w n c es)
-element_spells r h high w x c b n es whitespace space node more = record {
-  utf8 = IsUtf8-ascii_append (44 ∷ []) _ (IsAscii-one 44 (omega arith))
-      (IsUtf8-run r w x c b whitespace space node.utf8 more.utf8);
-  in_grammar = (whitespace, node.in_grammar, space, more.in_grammar);
-  unbroken = λ depth k few.
-      ap (λ q. cell 44 None ∷ q) (run-plain r h depth w x c b n _ k whitespace space node (omega arith)
-      (more.unbroken depth k (omega arith)))
-      ∙ sym (text-ascii (44 ∷ []) (run_text w x c b) k (IsAscii-one 44 (omega arith)));
-}
-
-pub array_spells : (r : Reading) (h high : ℕ) (w x c b : List ℕ) (n : Node) (es : Elements) → IsWhitespace r w
-    → IsWhitespace r c → NodeSpells r h x n → ElementsSpell r high b es
-    → NodeSpells r (suc (max h high)) (91 ∷ run_text w x c b) (Node.array w n c es)
-array_spells r h high w x c b n es whitespace space node more = record {
-  utf8 = IsUtf8-ascii_append (91 ∷ []) _ (IsAscii-one 91 (omega arith))
-      (IsUtf8-run r w x c b whitespace space node.utf8 more.utf8);
-  in_grammar = (whitespace, node.in_grammar, space, more.in_grammar);
-  unbroken = λ depth k few.
-      ap (λ t. cell 91 None ∷ plain w (node_cells r n (suc depth) (breach_if t deep)
-      (plain c (elements_cells r es (suc depth) k))))
-      (lt-leb r.depth depth (omega arith))
-      ∙ ap (λ q. cell 91 None ∷ q) (run-plain r h (suc depth) w x c b n _ k whitespace space node (omega arith)
-      (more.unbroken (suc depth) k (omega arith)))
-      ∙ sym (text-ascii (91 ∷ []) (run_text w x c b) k (IsAscii-one 91 (omega arith)));
-}
-
--- ---- objects
-
 pub no_members_spell : (r : Reading) → MembersSpell r 0 [] (125 ∷ []) no_members
 no_members_spell r = record {
   utf8 = IsUtf8-from_ascii (125 ∷ []) (IsAscii-one 125 (omega arith));
   in_grammar = tt;
   unbroken = λ seen depth k new h. ap (λ t. plain t k) (sym (chars-IsAscii (125 ∷ []) (IsAscii-one 125 (omega arith))));
 }
+
+-- whitespace, a value, whitespace and the elements or members after it
+abbrev pub run_text : List ℕ → List ℕ → List ℕ → List ℕ → List ℕ
+run_text w x c b = w ++ (x ++ (c ++ b))
 
 -- a key as it is written, after whitespace
 abbrev pub key_for : List ℕ → List ℕ → Key
@@ -189,67 +138,87 @@ key-plain r seen w key k u new =
     (cell 34 (breach_if t (duplicate (items_length (items_for key) + 1))) ∷ cell 58 None ∷ k))) none
     ∙ ap (λ q. plain w q) (quoted-plain key (cell 58 None ∷ k) u)
 
-pair-plain : (r : Reading) (h high depth : ℕ) (seen keys : List (List ℕ)) (w key g x c b : List ℕ) (n : Node)
-    (ms : Members) (k : List Cell)
-    → IsWhitespace r w → IsUtf8 key → IsWhitespace r g → IsWhitespace r c → NodeSpells r h x n
-    → MembersSpell r high keys b ms
-    → AreNew seen (key ∷ keys)
-    → depth + max h high ≤ r.depth
-    → key_cells r seen (key_for w key) None
-    (plain g (node_cells r n depth None (plain c (members_cells r ms (bytes_of (items_for key) ∷ seen) depth k))))
-    ≡ plain (chars (pair_text w key g x c b)) k
-pair-plain r h high depth seen keys w key g x c b n ms k whitespace u gap space node more new few =
-    key-plain r seen w key _ u new.0
-    ∙ ap (λ q. plain w (plain (chars (quoted key)) (cell 58 None ∷ q)))
-    (ap (λ y. plain g (node_cells r n depth None (plain c (members_cells r ms (y ∷ seen) depth k))))
-    (bytes_of-items_for key u)
-    ∙ run-plain r h depth g x c b n _ k gap space node (omega arith)
-    (more.unbroken (key ∷ seen) depth k new.1 (omega arith)))
-    ∙ ap (λ q. plain w (plain (chars (quoted key)) q)) (sym (text-ascii (58 ∷ []) (run_text g x c b) k
-    (IsAscii-one 58 (omega arith))))
-    ∙ ap (λ q. plain w q) (sym (text-append (quoted key) (58 ∷ run_text g x c b) k (IsUtf8-quoted key u)))
-    ∙ sym (text-ascii w (quoted key ++ (58 ∷ run_text g x c b)) k (IsAscii-whitespace r w whitespace))
+-- g and c: the whitespace around the value, whose text is x; b: the text after it
+module _ (r : Reading) (h : ℕ) (g x c b : List ℕ) (n : Node) (gap : IsWhitespace r g) (space : IsWhitespace r c)
+    (node : NodeSpells r h x n) where
+  run-plain : (depth : ℕ) (rest k : List Cell) → depth + h ≤ r.depth → rest ≡ plain (chars b) k
+      → plain g (node_cells r n depth None (plain c rest)) ≡ plain (chars (run_text g x c b)) k
+  run-plain depth rest k few more =
+      ap (λ q. plain g (node_cells r n depth None (plain c q))) more
+      ∙ ap (λ q. plain g q) (node.unbroken depth (plain c (plain (chars b) k)) few
+      ∙ ap (λ q. plain (chars x) q) (sym (text-ascii c b k (IsAscii-whitespace r c space)))
+      ∙ sym (text-append x (c ++ b) k node.utf8))
+      ∙ sym (text-ascii g (x ++ (c ++ b)) k (IsAscii-whitespace r g gap))
 
-IsUtf8-pair : (r : Reading) (w key g x c b : List ℕ) → IsWhitespace r w → IsUtf8 key → IsWhitespace r g
-    → IsWhitespace r c → IsUtf8 x → IsUtf8 b → IsUtf8 (pair_text w key g x c b)
-IsUtf8-pair r w key g x c b whitespace u gap space v t =
-    IsUtf8-ascii_append w _ (IsAscii-whitespace r w whitespace)
-    (IsUtf8-append (quoted key) _ (IsUtf8-quoted key u) (IsUtf8-ascii_append (58 ∷ []) _ (IsAscii-one 58 (omega arith))
-    (IsUtf8-run r g x c b gap space v t)))
+  IsUtf8-run : IsUtf8 b → IsUtf8 (run_text g x c b)
+  IsUtf8-run v = IsUtf8-ascii_append g _ (IsAscii-whitespace r g gap)
+      (IsUtf8-append x _ node.utf8 (IsUtf8-ascii_append c b (IsAscii-whitespace r c space) v))
 
-pub member_spells : (r : Reading) (h high : ℕ) (keys : List (List ℕ)) (w key g x c b : List ℕ) (n : Node) (ms : Members)
-    → IsWhitespace r w → IsUtf8 key
-    → IsWhitespace r g → IsWhitespace r c → NodeSpells r h x n → MembersSpell r high keys b ms
-    → MembersSpell r (max h high) (key ∷ keys) (44 ∷ pair_text w key g x c b) (member (key_for w key) g n c ms)
-member_spells r h high keys w key g x c b n ms whitespace u gap space node more = record {
-  utf8 = IsUtf8-ascii_append (44 ∷ []) _ (IsAscii-one 44 (omega arith))
-      (IsUtf8-pair r w key g x c b whitespace u gap space node.utf8 more.utf8);
-  in_grammar = ((whitespace, items_for_in_grammar key u, tt), gap, node.in_grammar, space, more.in_grammar);
-  unbroken = λ seen depth k new few.
-      ap (λ q. cell 44 None ∷ q) (pair-plain r h high depth seen keys w key g x c b n ms k whitespace u gap space node
-      more
-      new few)
-      ∙ sym (text-ascii (44 ∷ []) (pair_text w key g x c b) k (IsAscii-one 44 (omega arith)));
-}
+  module _ (high : ℕ) (es : Elements) (more : ElementsSpell r high b es) where
+    pub element_spells : ElementsSpell r (max h high) (44 ∷ run_text g x c b) (element g n c es)
+    element_spells = record {
+      utf8 = IsUtf8-ascii_append (44 ∷ []) _ (IsAscii-one 44 (omega arith)) (IsUtf8-run more.utf8);
+      in_grammar = (gap, node.in_grammar, space, more.in_grammar);
+      unbroken = λ depth k few.
+          ap (λ q. cell 44 None ∷ q) (run-plain depth _ k (omega arith) (more.unbroken depth k (omega arith)))
+          ∙ sym (text-ascii (44 ∷ []) (run_text g x c b) k (IsAscii-one 44 (omega arith)));
+    }
 
-pub object_spells : (r : Reading) (h high : ℕ) (keys : List (List ℕ)) (w key g x c b : List ℕ) (n : Node) (ms : Members)
-    → IsWhitespace r w → IsUtf8 key
-    → IsWhitespace r g → IsWhitespace r c → NodeSpells r h x n → MembersSpell r high keys b ms → AreNew [] (key ∷ keys)
-    → NodeSpells r (suc (max h high)) (123 ∷ pair_text w key g x c b) (Node.object (key_for w key) g n c ms)
-object_spells r h high keys w key g x c b n ms whitespace u gap space node more new = record {
-  utf8 = IsUtf8-ascii_append (123 ∷ []) _ (IsAscii-one 123 (omega arith))
-      (IsUtf8-pair r w key g x c b whitespace u gap space node.utf8 more.utf8);
-  in_grammar = ((whitespace, items_for_in_grammar key u, tt), gap, node.in_grammar, space, more.in_grammar);
-  unbroken = λ depth k few.
-      ap (λ t. cell 123 None ∷ key_cells r [] (key_for w key) (breach_if t deep)
-      (plain g (node_cells r n (suc depth) None (plain c (members_cells r ms (bytes_of (items_for key) ∷ []) (suc depth)
-      k)))))
-      (lt-leb r.depth depth (omega arith))
-      ∙ ap (λ q. cell 123 None ∷ q) (pair-plain r h high
-      (suc depth) [] keys w key g x c b n ms k whitespace u gap space node
-      more new (omega arith))
-      ∙ sym (text-ascii (123 ∷ []) (pair_text w key g x c b) k (IsAscii-one 123 (omega arith)));
-}
+    pub array_spells : NodeSpells r (suc (max h high)) (91 ∷ run_text g x c b) (Node.array g n c es)
+    array_spells = record {
+      utf8 = IsUtf8-ascii_append (91 ∷ []) _ (IsAscii-one 91 (omega arith)) (IsUtf8-run more.utf8);
+      in_grammar = (gap, node.in_grammar, space, more.in_grammar);
+      unbroken = λ depth k few.
+          ap (λ t. cell 91 None ∷ plain g (node_cells r n (suc depth) (breach_if t deep)
+          (plain c (elements_cells r es (suc depth) k)))) (lt-leb r.depth depth (omega arith))
+          ∙ ap (λ q. cell 91 None ∷ q) (run-plain (suc depth) _ k (omega arith)
+          (more.unbroken (suc depth) k (omega arith)))
+          ∙ sym (text-ascii (91 ∷ []) (run_text g x c b) k (IsAscii-one 91 (omega arith)));
+    }
+
+  module _ (high : ℕ) (keys : List (List ℕ)) (ms : Members) (more : MembersSpell r high keys b ms) (w key : List ℕ)
+      (whitespace : IsWhitespace r w) (u : IsUtf8 key) where
+    pair-plain : (depth : ℕ) (seen : List (List ℕ)) (k : List Cell) → AreNew seen (key ∷ keys)
+        → depth + max h high ≤ r.depth → key_cells r seen (key_for w key) None
+        (plain g (node_cells r n depth None (plain c (members_cells r ms (bytes_of (items_for key) ∷ seen) depth k))))
+        ≡ plain (chars (pair_text w key g x c b)) k
+    pair-plain depth seen k new few =
+        key-plain r seen w key _ u new.0
+        ∙ ap (λ q. plain w (plain (chars (quoted key)) (cell 58 None ∷ q)))
+        (ap (λ y. plain g (node_cells r n depth None (plain c (members_cells r ms (y ∷ seen) depth k))))
+        (bytes_of-items_for key u)
+        ∙ run-plain depth _ k (omega arith) (more.unbroken (key ∷ seen) depth k new.1 (omega arith)))
+        ∙ ap (λ q. plain w (plain (chars (quoted key)) q))
+        (sym (text-ascii (58 ∷ []) (run_text g x c b) k (IsAscii-one 58 (omega arith))))
+        ∙ ap (λ q. plain w q) (sym (text-append (quoted key) (58 ∷ run_text g x c b) k (IsUtf8-quoted key u)))
+        ∙ sym (text-ascii w (quoted key ++ (58 ∷ run_text g x c b)) k (IsAscii-whitespace r w whitespace))
+
+    IsUtf8-pair : IsUtf8 (pair_text w key g x c b)
+    IsUtf8-pair = IsUtf8-ascii_append w _ (IsAscii-whitespace r w whitespace)
+        (IsUtf8-append (quoted key) _ (IsUtf8-quoted key u)
+        (IsUtf8-ascii_append (58 ∷ []) _ (IsAscii-one 58 (omega arith)) (IsUtf8-run more.utf8)))
+
+    pub member_spells : MembersSpell r (max h high) (key ∷ keys) (44 ∷ pair_text w key g x c b)
+        (member (key_for w key) g n c ms)
+    member_spells = record {
+      utf8 = IsUtf8-ascii_append (44 ∷ []) _ (IsAscii-one 44 (omega arith)) IsUtf8-pair;
+      in_grammar = ((whitespace, items_for_in_grammar key u, tt), gap, node.in_grammar, space, more.in_grammar);
+      unbroken = λ seen depth k new few. ap (λ q. cell 44 None ∷ q) (pair-plain depth seen k new few)
+          ∙ sym (text-ascii (44 ∷ []) (pair_text w key g x c b) k (IsAscii-one 44 (omega arith)));
+    }
+
+    pub object_spells : AreNew [] (key ∷ keys) → NodeSpells r (suc (max h high)) (123 ∷ pair_text w key g x c b)
+        (Node.object (key_for w key) g n c ms)
+    object_spells new = record {
+      utf8 = IsUtf8-ascii_append (123 ∷ []) _ (IsAscii-one 123 (omega arith)) IsUtf8-pair;
+      in_grammar = ((whitespace, items_for_in_grammar key u, tt), gap, node.in_grammar, space, more.in_grammar);
+      unbroken = λ depth k few.
+          ap (λ t. cell 123 None ∷ key_cells r [] (key_for w key) (breach_if t deep) (plain g (node_cells r n (suc depth)
+          None (plain c (members_cells r ms (bytes_of (items_for key) ∷ []) (suc depth) k)))))
+          (lt-leb r.depth depth (omega arith))
+          ∙ ap (λ q. cell 123 None ∷ q) (pair-plain (suc depth) [] k new (omega arith))
+          ∙ sym (text-ascii (123 ∷ []) (pair_text w key g x c b) k (IsAscii-one 123 (omega arith)));
+    }
 
 -- ---- a text of one value
 
