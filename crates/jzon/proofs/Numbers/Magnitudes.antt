@@ -117,13 +117,13 @@ reads_whole_alone bs i ws u w no_point =
       boundary = w.boundary;
       all_whole = w.all;
       all_fraction = All-nil IsDigit;
-      to_letter = λ few has lt letter r fs negative. whole_to_letter r (get_or bs i 0) (get_or bs e 0) ws
-          (chars (drop (i + 1) bs)) (chars (drop (e + 1) bs)) fs negative
+      to_letter = λ few has lt letter r fs negative. whole_to_letter r fs negative (get_or bs i 0) ws
+          (chars (drop (i + 1) bs)) (get_or bs e 0) (chars (drop (e + 1) bs))
           (subst (ReadsWhole r (get_or bs i 0) ws (chars (drop (i + 1) bs)))
           (next_is bs e (get_or bs e 0) u w.boundary lt refl (letter_is_ascii (get_or bs e 0) letter)) (w.reads r))
           (omega (arith, few)) letter;
-      to_end = λ few has no_letter r fs negative. whole_to_end r (get_or bs i 0) ws (chars (drop (i + 1) bs))
-          (chars (drop e bs)) fs negative (w.reads r) (omega (arith, few))
+      to_end = λ few has no_letter r fs negative. whole_to_end r fs negative (get_or bs i 0) ws
+          (chars (drop (i + 1) bs)) (chars (drop e bs)) (w.reads r) (omega (arith, few))
           (next_fails (λ c. c == 46) bs e (λ c h. omega (arith, eqb-true c 46 h)) u w.boundary
           (λ lt. ne_eqb (get_or bs e 0) 46 (λ same. no_point (lt, same))))
           (next_fails is_exponent_letter bs e letter_is_ascii u w.boundary no_letter);
@@ -144,7 +144,7 @@ to_point bs i p ws ds u w at lt is_point few r fs negative =
     let reads : ReadsWhole r (get_or bs i 0) ws (chars (drop (i + 1) bs)) (chars (drop p bs)) =
     subst (λ n. ReadsWhole r (get_or bs i 0) ws (chars (drop (i + 1) bs)) (chars (drop n bs))) (sym at) (w.reads r) in
     let boundary : IsCharBoundary bs p = subst (IsCharBoundary bs) (sym at) w.boundary in
-    whole_to_point r (get_or bs i 0) ws (chars (drop (i + 1) bs)) (chars (drop (p + 1) bs)) ds fs negative
+    whole_to_point r fs negative (get_or bs i 0) ws (chars (drop (i + 1) bs)) (chars (drop (p + 1) bs)) ds
     (subst (ReadsWhole r (get_or bs i 0) ws (chars (drop (i + 1) bs)))
     (next_is bs p 46 u boundary lt is_point (omega arith)) reads) few
 
@@ -181,10 +181,10 @@ reads_whole_and_fraction bs i p ws ds u w at lt is_point same =
       to_letter = λ few has below letter r fs negative. begins (omega (arith, few)) r fs negative
           ∙ ap (λ cs. outcome r (ds ++ cs) (numeral fs negative (pointed ws)))
           (next_is bs e (get_or bs e 0) u k.boundary below refl (letter_is_ascii (get_or bs e 0) letter))
-          ∙ fraction_to_letter r (get_or bs e 0) ws ds (chars (drop (e + 1) bs)) fs negative (there has)
+          ∙ fraction_to_letter r fs negative (get_or bs e 0) ws ds (chars (drop (e + 1) bs)) (there has)
           (omega (arith, few)) letter;
       to_end = λ few has no_letter r fs negative. begins (omega (arith, few)) r fs negative
-          ∙ fraction_to_end r ws ds (chars (drop e bs)) fs negative (there has) (omega (arith, few)) k.next
+          ∙ fraction_to_end r fs negative ws ds (chars (drop e bs)) (there has) (omega (arith, few)) k.next
           (next_fails is_exponent_letter bs e letter_is_ascii u k.boundary no_letter);
       stops = λ few lacks r fs negative. begins (omega (arith, few)) r fs negative
           ∙ ap (λ cs. outcome r cs (numeral fs negative (pointed ws)))

@@ -128,7 +128,7 @@ reads_unsigned bs i xs u at no_minus no_plus e =
       boundary = k.boundary;
       all = k.all;
       number = λ some r fs negative ws ds l. ap (λ cs. outcome r cs (numeral fs negative (lettered ws ds l))) k.split
-          ∙ unsigned_to_end r ws ds l xs (chars (drop (i + length xs) bs)) fs negative (some_digits xs k.digits some)
+          ∙ unsigned_to_end r fs negative ws ds l xs (chars (drop (i + length xs) bs)) (some_digits xs k.digits some)
           k.next;
       missing = λ none r fs negative ws ds l.
           let here : chars (drop i bs) ≡ chars (drop (i + length xs) bs) = k.split
@@ -166,7 +166,7 @@ reads_signed bs i xs s b positive u at lt here ascii step sign e =
       boundary = k.boundary;
       all = k.all;
       number = λ some r fs negative ws ds l. to_sign r fs negative ws ds l
-          ∙ signed_to_end r ws ds l s xs rest fs negative (some_digits xs k.digits some) k.next
+          ∙ signed_to_end r fs negative ws ds l s xs rest (some_digits xs k.digits some) k.next
           ∙ ap (λ z. outcome r rest (after_value fs (value.number (read_number (not negative) ws ds z))))
           (sym (sign (digits_number xs)));
       missing = λ none r fs negative ws ds l. to_sign r fs negative ws ds l
