@@ -40,119 +40,100 @@ mark_at : (r : Reading) (f : List ℕ) (y : Cell) (q : List Cell) (d : Document)
     → cells r d ≡ plain f (y ∷ q) → slice_get (marks_of (cells r d)) (length f) ≡ Some y.mark
 mark_at r f y q d e = ap (λ z. slice_get (marks_of z) (length f)) e ∙ mark_after f (y ∷ q)
 
--- no fault is in a prefix over which the automaton has gone: its closing text completes it, and no tree has a mark
--- there
-no_fault_before : (r : Reading) (f u : List ℕ) (left : ℕ) (p : State) (j : ℕ) (g : Fault) → Reaches r f left p
-    → j < length f → IsFault r (f ++ u) j g → ⊥
-no_fault_before r f u left p j g reached lt h =
-    let x = closed r f left p reached in
-    let whole_prefix : Completes r f x.0 = (x.1.0, closer p, x.1.1) in
-    let split = (reached.onward x.0 whole_prefix).split in
-    let rest = (reached.onward x.0 whole_prefix).cells_left in
-    let in_text : j < length (f ++ u) = omega (arith, length-append f u) in
-    no_fault_at r (f ++ u) j g x.0 in_text
-    (subst (λ z. Completes r z x.0) (sym (take-append-le (suc j) f u lt)) (completes_take r (suc j) f x.0 whole_prefix))
-    (λ b e. plain_unmarked f rest j b lt (subst (λ z. slice_get (marks_of z) j ≡ Some (Some b)) split e)) h
+-- No fault is in a prefix over which the automaton has gone: its closing text completes it, and no tree has a mark
+-- there. So a fault after such a prefix is the first.
+module _ (r : Reading) (f u : List ℕ) (left : ℕ) (p : State) (reached : Reaches r f left p) where
+  no_fault_before : (j : ℕ) (g : Fault) → j < length f → IsFault r (f ++ u) j g → ⊥
+  no_fault_before j g lt h =
+      let x = closed r f left p reached in
+      let whole_prefix : Completes r f x.0 = (x.1.0, closer p, x.1.1) in
+      let split = (reached.onward x.0 whole_prefix).split in
+      let rest = (reached.onward x.0 whole_prefix).cells_left in
+      let in_text : j < length (f ++ u) = omega (arith, length-append f u) in
+      no_fault_at r (f ++ u) j g x.0 in_text (subst (λ z. Completes r z x.0) (sym (take-append-le (suc j) f u lt))
+      (completes_take r (suc j) f x.0 whole_prefix))
+      (λ b e. plain_unmarked f rest j b lt (subst (λ z. slice_get (marks_of z) j ≡ Some (Some b)) split e)) h
 
--- so a fault after such a prefix is the first
-first : (r : Reading) (f u : List ℕ) (left : ℕ) (p : State) (g : Fault) → Reaches r f left p
-    → IsFault r (f ++ u) (length f) g → IsFirstFault r (f ++ u) (length f) g
-first r f u left p g reached h = (h, λ j k e. not_before j k e)
-  where
-    not_before : (j : ℕ) (k : Fault) → IsFault r (f ++ u) j k → length f ≤ j
-    not_before j k e = let no : j < length f → ⊥ = λ lt. no_fault_before r f u left p j k reached lt e in omega arith
+  first : (g : Fault) → IsFault r (f ++ u) (length f) g → IsFirstFault r (f ++ u) (length f) g
+  first g h = (h, λ j k e. not_before j k e)
+    where
+      not_before : (j : ℕ) (k : Fault) → IsFault r (f ++ u) j k → length f ≤ j
+      not_before j k e = let no : j < length f → ⊥ = λ lt. no_fault_before j k lt e in omega arith
 
--- ---- a limit is broken
+-- ---- the fault is at the next character
 
--- each tree that goes on with the character has the mark there
-breaks : (r : Reading) (f : List ℕ) (c left : ℕ) (p s : State) (b : Breach) (d : Document) → Reaches r f (suc left) p
-    → move r p c (suc left) ≡ go (Some b) s → Completes r (f ++ (c ∷ [])) d
-    → slice_get (marks_of (cells r d)) (length f) ≡ Some (Some b)
-breaks r f c left p s b d reached e h =
-    let n = next r f c left p d reached h in
-    let g = next_goes r f c h.1 left (Some b) s (move r p c (suc left)) d n e in
-    mark_at r f (cell c n.mark) n.cells_left d n.split ∙ ap Some g.1
+module _ (r : Reading) (f u : List ℕ) (c left : ℕ) (p : State) (reached : Reaches r f (suc left) p) where
+  -- each tree that goes on with the character, which leads to a mark, has the mark there
+  breaks : (x : ℕ) (s : State) (b : Breach) (d : Document) → move r p x (suc left) ≡ go (Some b) s
+      → Completes r (f ++ (x ∷ [])) d → slice_get (marks_of (cells r d)) (length f) ≡ Some (Some b)
+  breaks x s b d e h =
+      let n = next r f x left p d reached h in
+      let g = next_goes r f x h.1 left (Some b) s (move r p x (suc left)) d n e in
+      mark_at r f (cell x n.mark) n.cells_left d n.split ∙ ap Some g.1
 
-all_break : (r : Reading) (f u : List ℕ) (c left : ℕ) (p s : State) (b : Breach) → Reaches r f (suc left) p
-    → move r p c (suc left) ≡ go (Some b) s → AllBreakAt r (take (suc (length f)) (f ++ (c ∷ u))) b (length f)
-all_break r f u c left p s b reached e d h =
-    breaks r f c left p s b d reached e (subst (λ z. Completes r z d) (take_next f u c) h)
+  all_break : (s : State) (b : Breach) → move r p c (suc left) ≡ go (Some b) s
+      → AllBreakAt r (take (suc (length f)) (f ++ (c ∷ u))) b (length f)
+  all_break s b e d h = breaks c s b d e (subst (λ z. Completes r z d) (take_next f u c) h)
 
-goes_on : (r : Reading) (f u : List ℕ) (c left : ℕ) (p s : State) (m : Option Breach) → Reaches r f (suc left) p
-    → move r p c (suc left) ≡ go m s → HasCompletion r (take (suc (length f)) (f ++ (c ∷ u)))
-goes_on r f u c left p s m reached e =
-    let x = closed_next r f c left p s m reached e in (
-      x.0,
-      subst (λ z. Completes r z x.0) (sym (take_next f u c))
-          (x.1.0, closer s, x.1.1 ∙ sym (append_assoc f (c ∷ []) (closer s))),
-    )
+  goes_on : (s : State) (m : Option Breach) → move r p c (suc left) ≡ go m s
+      → HasCompletion r (take (suc (length f)) (f ++ (c ∷ u)))
+  goes_on s m e =
+      let x = closed_next r f c left p s m reached e in
+      let k = x.1.1 ∙ sym (append_assoc f (c ∷ []) (closer s)) in
+      (x.0, subst (λ z. Completes r z x.0) (sym (take_next f u c)) (x.1.0, closer s, k))
 
--- some tree goes on with one container too many
-depth_fault : (r : Reading) (f u : List ℕ) (c x left : ℕ) (p s : State) → Reaches r f (suc left) p
-    → move r p x (suc left) ≡ go (Some deep) s
-    → AllBreakAt r (take (suc (length f)) (f ++ (c ∷ u))) deep (length f) → IsDepthFault r (f ++ (c ∷ u)) (length f)
-depth_fault r f u c x left p s reached e all =
-    let d = closed_next r f x left p s (Some deep) reached e in (
-      within f u c,
-      (
-        d.0,
-        subst (λ z. Completes r z d.0) (sym (take-append_seam f (c ∷ u))) (d.1.0, x ∷ closer s, d.1.1),
-        breaks r f x left p s deep d.0 reached e
-            (d.1.0, closer s, d.1.1 ∙ sym (append_assoc f (x ∷ []) (closer s))),
-      ),
-      all,
-    )
+  -- some tree goes on with one container too many
+  depth_fault : (x : ℕ) (s : State) → move r p x (suc left) ≡ go (Some deep) s
+      → AllBreakAt r (take (suc (length f)) (f ++ (c ∷ u))) deep (length f) → IsDepthFault r (f ++ (c ∷ u)) (length f)
+  depth_fault x s e all =
+      let d = closed_next r f x left p s (Some deep) reached e in
+      let k = breaks x s deep d.0 e (d.1.0, closer s, d.1.1 ∙ sym (append_assoc f (x ∷ []) (closer s))) in
+      let g = subst (λ z. Completes r z d.0) (sym (take-append_seam f (c ∷ u))) (d.1.0, x ∷ closer s, d.1.1) in
+      (within f u c, (d.0, g, k), all)
 
--- the move has a mark
-limit_fault : (r : Reading) (f u : List ℕ) (c left : ℕ) (p s : State) (b : Breach) → Reaches r f (suc left) p
-    → move r p c (suc left) ≡ go (Some b) s → IsFault r (f ++ (c ∷ u)) (length f) (limit b)
-limit_fault r f u c left p s deep reached e = depth_fault r f u c c left p s reached e
-    (all_break r f u c left p s deep reached e)
-limit_fault r f u c left p s b reached e =
-    (within f u c, goes_on r f u c left p s (Some b) reached e, all_break r f u c left p s b reached e)
+  -- the move has a mark
+  limit_fault : (s : State) (b : Breach) → move r p c (suc left) ≡ go (Some b) s
+      → IsFault r (f ++ (c ∷ u)) (length f) (limit b)
+  limit_fault s deep e = depth_fault c s e (all_break s deep e)
+  limit_fault s b e = (within f u c, goes_on s (Some b) e, all_break s b e)
 
--- ---- no text goes on with the character
+  -- no text goes on with c, but some text goes on with one container too many
+  bad_deep_fault : move r p c (suc left) ≡ bad_deep → IsFault r (f ++ (c ∷ u)) (length f) (limit deep)
+  bad_deep_fault e =
+      let h = deep_some r p (suc left) (deep_of_bad_deep r p c (suc left) e) in
+      depth_fault h.0 h.1 h.2 (λ d g.
+      let k = subst (λ z. Completes r z d) (take_next f u c) g in
+      absurd (next_bad_deep r f c k.1 left (move r p c (suc left)) d (next r f c left p d reached k) e))
 
--- no text goes on with c, but some text goes on with one container too many
-bad_deep_fault : (r : Reading) (f u : List ℕ) (c left : ℕ) (p : State) → Reaches r f (suc left) p
-    → move r p c (suc left) ≡ bad_deep → IsFault r (f ++ (c ∷ u)) (length f) (limit deep)
-bad_deep_fault r f u c left p reached e =
-    let h = deep_some r p (suc left) (deep_of_bad_deep r p c (suc left) e) in
-    depth_fault r f u c h.0 left p h.1 reached h.2 (λ d g.
-    let k = subst (λ z. Completes r z d) (take_next f u c) g in
-    absurd (next_bad_deep r f c k.1 left (move r p c (suc left)) d (next r f c left p d reached k) e))
+  -- if a move is `bad`, no tree has one container too many: the state would be deep, and no move from there is `bad`
+  no_depth_fault : move r p c (suc left) ≡ bad → IsDepthFault r (f ++ (c ∷ u)) (length f) → ⊥
+  no_depth_fault e (lt, (d, g, b), all) =
+      let h = reached.onward d (subst (λ z. Completes r z d) (take-append_seam f (c ∷ u)) g) in
+      let deep_there = on (λ o. o ≡ meant (meaning d.node)) h.cells_left h.place h.follows
+      (sym (mark_after f h.cells_left) ∙ ap (λ z. slice_get (marks_of z) (length f)) (sym h.split) ∙ b) in
+      deep_not_bad r p c (suc left) (mark-alike r (suc left) (length h.cells_left) p h.place h.alike ∙ deep_there) e
+    where
+      meets_deep : (s : State) (x left : ℕ) (v : Option Breach) (F : State → Type 0) (z : Move) → move r s x left ≡ z
+          → Meets z v F → v ≡ Some deep → IsDeep r s
+      meets_deep s x left v F (go m q) e h k = deep_of_go r s q x left (e ∙ ap (λ y. go y q) (h.0 ∙ k))
+      meets_deep s x left v F _ e h k = absurd h
 
--- if a move is `bad`, no tree has one container too many: the state would be deep, and no move from there is `bad`
-no_depth_fault : (r : Reading) (f u : List ℕ) (c left : ℕ) (p : State) → Reaches r f (suc left) p
-    → move r p c (suc left) ≡ bad → IsDepthFault r (f ++ (c ∷ u)) (length f) → ⊥
-no_depth_fault r f u c left p reached e (lt, (d, g, b), all) =
-    let h = reached.onward d (subst (λ z. Completes r z d) (take-append_seam f (c ∷ u)) g) in
-    let deep_there = on (λ o. o ≡ meant (meaning d.node)) h.cells_left h.place h.follows
-    (sym (mark_after f h.cells_left) ∙ ap (λ z. slice_get (marks_of z) (length f)) (sym h.split) ∙ b) in
-    deep_not_bad r p c (suc left) (mark-alike r (suc left) (length h.cells_left) p h.place h.alike ∙ deep_there) e
-  where
-    meets_deep : (s : State) (x left : ℕ) (v : Option Breach) (F : State → Type 0) (z : Move) → move r s x left ≡ z
-        → Meets z v F → v ≡ Some deep → IsDeep r s
-    meets_deep s x left v F (go m q) e h k = deep_of_go r s q x left (e ∙ ap (λ y. go y q) (h.0 ∙ k))
-    meets_deep s x left v F _ e h k = absurd h
+      on : (G : Outcome → Type 0) (q : List Cell) (s : State) → Follows r G q s
+          → slice_get (marks_of q) 0 ≡ Some (Some deep) → IsDeep r s
+      on G [] s h m = absurd (cc)
+      on G (y ∷ q) s h m = meets_deep s y.char (suc (length q)) y.mark _ (move r s y.char (suc (length q))) refl h (cc)
 
-    on : (G : Outcome → Type 0) (q : List Cell) (s : State) → Follows r G q s
-        → slice_get (marks_of q) 0 ≡ Some (Some deep) → IsDeep r s
-    on G [] s h m = absurd (cc)
-    on G (y ∷ q) s h m = meets_deep s y.char (suc (length q)) y.mark _ (move r s y.char (suc (length q))) refl h (cc)
-
--- an unexpected character: f has a completion, f with c has none, and no depth limit is broken
-character_fault : (r : Reading) (f u : List ℕ) (c left : ℕ) (p : State) → Reaches r f (suc left) p
-    → move r p c (suc left) ≡ bad → IsFault r (f ++ (c ∷ u)) (length f) character
-character_fault r f u c left p reached e =
-    let x = closed r f (suc left) p reached in (
-      within f u c,
-      (x.0, subst (λ z. Completes r z x.0) (sym (take-append_seam f (c ∷ u))) (x.1.0, closer p, x.1.1)),
-      (λ g.
-          let k = subst (λ z. Completes r z g.0) (take_next f u c) g.1 in
-          next_bad r f c k.1 left (move r p c (suc left)) g.0 (next r f c left p g.0 reached k) e),
-      no_depth_fault r f u c left p reached e,
-    )
+  -- an unexpected character: f has a completion, f with c has none, and no depth limit is broken
+  character_fault : move r p c (suc left) ≡ bad → IsFault r (f ++ (c ∷ u)) (length f) character
+  character_fault e =
+      let x = closed r f (suc left) p reached in (
+        within f u c,
+        (x.0, subst (λ z. Completes r z x.0) (sym (take-append_seam f (c ∷ u))) (x.1.0, closer p, x.1.1)),
+        (λ g.
+            let k = subst (λ z. Completes r z g.0) (take_next f u c) g.1 in
+            next_bad r f c k.1 left (move r p c (suc left)) g.0 (next r f c left p g.0 reached k) e),
+        no_depth_fault e,
+      )
 
 -- ---- the end of the text
 
@@ -225,20 +206,23 @@ last_verdict : (r : Reading) (f : List ℕ) (p : State) → Reaches r f 0 p
 last_verdict r f p reached (inl (w, e)) =
     subst (λ z. Verdict r z (last p)) (sym (append-nil f)) (subst (Verdict r f) (sym e) (accepted r f p w reached e))
 last_verdict r f p reached (inr e) =
-    subst (Verdict r (f ++ [])) (sym e) (refused_at r f [] Fault.end (first r f [] 0 p Fault.end reached
+    subst (Verdict r (f ++ [])) (sym e) (refused_at r f [] Fault.end (first r f [] 0 p reached Fault.end
     (subst (λ z. IsFault r z (length f) Fault.end) (sym (append-nil f)) (end_fault r f p reached e))))
 
 verdict_on : (r : Reading) (f u : List ℕ) (c : ℕ) (p : State) (z : Move) (g : State → Outcome)
     → Reaches r f (suc (length u)) p → move r p c (suc (length u)) ≡ z
     → ((s : State) → Reaches r (f ++ (c ∷ [])) (length u) s → Verdict r (f ++ (c ∷ u)) (g s))
     → Verdict r (f ++ (c ∷ u)) (outcome_on z g (c ∷ u))
-verdict_on r f u c p (go None s) g reached e ih = ih s (reaches_next r f c (length u) p s reached e)
-verdict_on r f u c p (go (Some b) s) g reached e ih = refused_at r f (c ∷ u) (limit b)
-    (first r f (c ∷ u) (suc (length u)) p (limit b) reached (limit_fault r f u c (length u) p s b reached e))
-verdict_on r f u c p bad g reached e ih = refused_at r f (c ∷ u) character
-    (first r f (c ∷ u) (suc (length u)) p character reached (character_fault r f u c (length u) p reached e))
-verdict_on r f u c p bad_deep g reached e ih = refused_at r f (c ∷ u) (limit deep)
-    (first r f (c ∷ u) (suc (length u)) p (limit deep) reached (bad_deep_fault r f u c (length u) p reached e))
+verdict_on r f u c p z g reached e ih = by_move z e
+  where
+    fails : (k : Fault) → IsFault r (f ++ (c ∷ u)) (length f) k → Verdict r (f ++ (c ∷ u)) (refused k (c ∷ u))
+    fails k h = refused_at r f (c ∷ u) k (first r f (c ∷ u) (suc (length u)) p reached k h)
+
+    by_move : (z : Move) → move r p c (suc (length u)) ≡ z → Verdict r (f ++ (c ∷ u)) (outcome_on z g (c ∷ u))
+    by_move (go None s) e = ih s (reaches_next r f c (length u) p s reached e)
+    by_move (go (Some b) s) e = fails (limit b) (limit_fault r f u c (length u) p reached s b e)
+    by_move bad e = fails character (character_fault r f u c (length u) p reached e)
+    by_move bad_deep e = fails (limit deep) (bad_deep_fault r f u c (length u) p reached e)
 
 verdict : (r : Reading) (u f : List ℕ) (p : State) → Reaches r f (length u) p → Verdict r (f ++ u) (outcome r u p)
 verdict r [] f p reached = last_verdict r f p reached (value_or_end p)
