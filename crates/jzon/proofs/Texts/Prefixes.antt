@@ -77,8 +77,7 @@ next_of r prefix c rest left p place d (y ∷ q) e x alike h =
       split = subst (λ z. cells r d ≡ plain prefix (cell z y.mark ∷ q)) ec e;
       text = cc;
       alike = moves_alike r left (length q) c p place alike;
-      meets = subst (λ z. Meets (move r place z (suc (length q))) y.mark
-          (λ s. Follows r (λ o. o ≡ meant (meaning d.node)) q s)) ec h;
+      meets = rw ec at h;
     }
 
 pub next : (r : Reading) (prefix : List ℕ) (c left : ℕ) (p : State) (d : Document) → Reaches r prefix (suc left) p
@@ -87,60 +86,63 @@ next r prefix c left p d reached h =
     let g = reached.onward d (h.0, c ∷ h.1, h.2 ∙ append_assoc prefix (c ∷ []) h.1) in
     next_of r prefix c h.1 left p g.place d g.cells_left g.split g.text g.alike g.follows
 
--- if the text goes on, with a mark or none, the next cell has the same
-meets_go : (r : Reading) (m v : Option Breach) (i j : ℕ) (s : State) (z w : Move) (F : State → Type 0) → z ≡ go m s
-    → AlikeMove i j z w → Meets w v F → (q : State) × (v ≡ m) × Alike i j s q × F q
-meets_go r m v i j s z w F e alike h =
-    let a : AlikeMove i j (go m s) w = subst (λ x. AlikeMove i j x w) e alike in
-    let k : Meets (go m a.0) v F = subst (λ x. Meets x v F) a.1 h in
-    (a.0, sym k.0, a.2, k.1)
+module _ (r : Reading) (prefix : List ℕ) (c : ℕ) (rest : List ℕ) (left : ℕ) (z : Move) (d : Document)
+    (n : Next r prefix c rest left z d) where
+  -- if the text goes on, with a mark or none, the next cell has the same
+  pub next_goes : (m : Option Breach) (s : State) → z ≡ go m s → (q : State) × (n.mark ≡ m)
+      × Alike left (length n.cells_left) s q × Follows r (λ o. o ≡ meant (meaning d.node)) n.cells_left q
+  next_goes m s e =
+      let a = rw e at n.alike in
+      let k = rw a.1 at n.meets in
+      (a.0, sym k.0, a.2, k.1)
 
-pub next_goes : (r : Reading) (prefix : List ℕ) (c : ℕ) (rest : List ℕ) (left : ℕ) (m : Option Breach) (s : State)
-    (z : Move) (d : Document) (n : Next r prefix c rest left z d) → z ≡ go m s
-    → (q : State) × (n.mark ≡ m) × Alike left (length n.cells_left) s q
-    × Follows r (λ o. o ≡ meant (meaning d.node)) n.cells_left q
-next_goes r prefix c rest left m s z d n e =
-    meets_go r m n.mark left (length n.cells_left) s z n.other _ e n.alike n.meets
+  pub next_bad : z ≡ bad → ⊥
+  next_bad e = rw (rw e at n.alike) at n.meets
 
-pub next_bad : (r : Reading) (prefix : List ℕ) (c : ℕ) (rest : List ℕ) (left : ℕ)
-    (z : Move) (d : Document) → Next r prefix c rest left z d → z ≡ bad → ⊥
-next_bad r prefix c rest left z d n e =
-    let w : n.other ≡ bad = subst (λ x. AlikeMove left (length n.cells_left) x n.other) e n.alike in
-    subst (λ x. Meets x n.mark (λ s. Follows r (λ o. o ≡ meant (meaning d.node)) n.cells_left s)) w n.meets
+  pub next_bad_deep : z ≡ bad_deep → ⊥
+  next_bad_deep e = rw (rw e at n.alike) at n.meets
 
-pub next_bad_deep : (r : Reading) (prefix : List ℕ) (c : ℕ) (rest : List ℕ) (left : ℕ)
-    (z : Move) (d : Document) → Next r prefix c rest left z d → z ≡ bad_deep → ⊥
-next_bad_deep r prefix c rest left z d n e =
-    let w : n.other ≡ bad_deep = subst (λ x. AlikeMove left (length n.cells_left) x n.other) e n.alike in
-    subst (λ x. Meets x n.mark (λ s. Follows r (λ o. o ≡ meant (meaning d.node)) n.cells_left s)) w n.meets
+-- the prefix, closed, is a text of the grammar
+closed_at : (r : Reading) (prefix : List ℕ) (left : ℕ) (p : State) → Reached r prefix left p (length (closer p))
+    → (d : Document) × Spells r (prefix ++ closer p) d
+closed_at r prefix left p b =
+    let g = closes r b.place in
+    let d = sound r g.0 (prefix ++ closer p) (b.goes (closer p) g.0 refl
+    (rw (closer-alike left (length (closer p)) p b.place b.alike) g.1)) in
+    (d.0, d.1)
 
--- after one more character, with any mark
-onto_next : (r : Reading) (prefix : List ℕ) (c left : ℕ) (p s : State) (m : Option Breach)
-    → Reaches r prefix (suc left) p → move r p c (suc left) ≡ go m s → (other : ℕ)
-    → Reached r (prefix ++ (c ∷ [])) left s other
-onto_next r prefix c left p s m reached e other =
-    let b = reached.back (suc other) in
-    let a : AlikeMove left other (go m s) (move r b.place c (suc other)) =
-    subst (λ x. AlikeMove left other x (move r b.place c (suc other))) e
-    (moves_alike r left other c p b.place b.alike) in
-    record {
-      place = a.0;
-      alike = a.2;
-      goes = λ t v l h. subst (λ z. Goes r v z (before no_frames)) (sym (append_assoc prefix (c ∷ []) t))
-          (b.goes (c ∷ t) v (ap suc l) (subst (λ n. On (move r b.place c (suc n)) (λ x. Goes r v t x)) (sym l)
-          (subst (λ z. On z (λ x. Goes r v t x)) (sym a.1) h)));
-    }
+pub closed : (r : Reading) (prefix : List ℕ) (left : ℕ) (p : State) → Reaches r prefix left p
+    → (d : Document) × Spells r (prefix ++ closer p) d
+closed r prefix left p reached = closed_at r prefix left p (reached.back (length (closer p)))
+
+-- The automaton goes on with one more character, with any mark.
+module _ (r : Reading) (prefix : List ℕ) (c left : ℕ) (p s : State) (m : Option Breach)
+    (reached : Reaches r prefix (suc left) p) (e : move r p c (suc left) ≡ go m s) where
+  onto_next : (other : ℕ) → Reached r (prefix ++ (c ∷ [])) left s other
+  onto_next other =
+      let b = reached.back (suc other) in
+      let a = rw e at (moves_alike r left other c p b.place b.alike) in
+      record {
+        place = a.0;
+        alike = a.2;
+        goes = λ t v l h. rw append_assoc (b.goes (c ∷ t) v (ap suc l) (rw (l, a.1) h));
+      }
+
+  -- the prefix with the character, closed, is a text of the grammar
+  pub closed_next : (d : Document) × Spells r (prefix ++ (c ∷ closer s)) d
+  closed_next =
+      let d = closed_at r (prefix ++ (c ∷ [])) left s (onto_next (length (closer s))) in
+      (d.0, subst (λ t. Spells r t d.0) (append_assoc prefix (c ∷ []) (closer s)) d.1)
 
 -- one more character, without a breach
 pub reaches_next : (r : Reading) (prefix : List ℕ) (c left : ℕ) (p s : State) → Reaches r prefix (suc left) p
     → move r p c (suc left) ≡ go None s → Reaches r (prefix ++ (c ∷ [])) left s
-reaches_next r prefix c left p s reached e =
-    record { onward = onward; back = λ other. onto_next r prefix c left p s None reached e other }
+reaches_next r prefix c left p s reached e = record { onward = onward; back = onto_next r prefix c left p s None reached e }
   where
     onward : (d : Document) (h : Completes r (prefix ++ (c ∷ [])) d) → Followed r (prefix ++ (c ∷ [])) h.1 left s d
     onward d h =
         let n = next r prefix c left p d reached h in
-        let g = next_goes r prefix c h.1 left None s (move r p c (suc left)) d n e in
+        let g = next_goes r prefix c h.1 left (move r p c (suc left)) d n None s e in
         record {
           cells_left = n.cells_left;
           place = g.0;
@@ -150,24 +152,3 @@ reaches_next r prefix c left p s reached e =
           alike = g.2;
           follows = g.3;
         }
-
--- the prefix, closed, is a text of the grammar
-closed_at : (r : Reading) (prefix : List ℕ) (left : ℕ) (p : State) → Reached r prefix left p (length (closer p))
-    → (d : Document) × Spells r (prefix ++ closer p) d
-closed_at r prefix left p b =
-    let g = closes r b.place in
-    let d = sound r g.0 (prefix ++ closer p) (b.goes (closer p) g.0 refl
-    (subst (λ t. Goes r g.0 t b.place) (sym (closer-alike left (length (closer p)) p b.place b.alike)) g.1)) in
-    (d.0, d.1)
-
-pub closed : (r : Reading) (prefix : List ℕ) (left : ℕ) (p : State) → Reaches r prefix left p
-    → (d : Document) × Spells r (prefix ++ closer p) d
-closed r prefix left p reached = closed_at r prefix left p (reached.back (length (closer p)))
-
--- so is the prefix with the character, if the automaton goes on with it, with any mark
-pub closed_next : (r : Reading) (prefix : List ℕ) (c left : ℕ) (p s : State) (m : Option Breach)
-    → Reaches r prefix (suc left) p → move r p c (suc left) ≡ go m s
-    → (d : Document) × Spells r (prefix ++ (c ∷ closer s)) d
-closed_next r prefix c left p s m reached e =
-    let d = closed_at r (prefix ++ (c ∷ [])) left s (onto_next r prefix c left p s m reached e (length (closer s))) in
-    (d.0, subst (λ t. Spells r t d.0) (append_assoc prefix (c ∷ []) (closer s)) d.1)

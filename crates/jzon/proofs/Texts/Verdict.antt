@@ -68,7 +68,7 @@ module _ (r : Reading) (f u : List ℕ) (c left : ℕ) (p : State) (reached : Re
       → Completes r (f ++ (x ∷ [])) d → slice_get (marks_of (cells r d)) (length f) ≡ Some (Some b)
   breaks x s b d e h =
       let n = next r f x left p d reached h in
-      let g = next_goes r f x h.1 left (Some b) s (move r p x (suc left)) d n e in
+      let g = next_goes r f x h.1 left (move r p x (suc left)) d n (Some b) s e in
       mark_at r f (cell x n.mark) n.cells_left d n.split ∙ ap Some g.1
 
   all_break : (s : State) (b : Breach) → move r p c (suc left) ≡ go (Some b) s
