@@ -108,16 +108,8 @@ module _ (r : Reading) (v : Value) where
 
     element_on : (fs : Frames) (vs : List Value) (x : Value) → c ≡ 44 → Left (before (array_frame fs (vs ++ x ∷ []))) cs
         → AfterValue (array_frame fs vs) x (c ∷ cs)
-    element_on fs vs x e (inl (b, y, u, b_ok, y_ok, f, (w, es, u', w_ok, es_ok, g, h))) = (
-      [],
-      element b y w es,
-      u',
-      tt,
-      (b_ok, y_ok, w_ok, es_ok),
-      rw e (ap (λ z. 44 ∷ z) (f ∙ ap (λ z. b ++ node_chars y z) g)),
-      subst (λ z. AfterValue fs (value.array z) u')
-          (with_prefix-append vs x (value.value (meaning y) (elements_meaning es))) h,
-    )
+    element_on fs vs x e (inl (b, y, u, b_ok, y_ok, f, (w, es, u', w_ok, es_ok, g, h))) =
+        ([], element b y w es, u', tt, (b_ok, y_ok, w_ok, es_ok), (cc), rw with_prefix-append at h)
     element_on fs vs x e (inr h) = absurd (no_close vs h)
       where
         no_close : (us : List Value) → ArrayCloses (array_frame fs (us ++ x ∷ [])) cs → ⊥
@@ -126,15 +118,8 @@ module _ (r : Reading) (v : Value) where
 
     member_on : (fs : Frames) (es : EntriesSoFar) (k : List ℕ) (x : Value) → c ≡ 44 → Left (before_key fs (put k x es)) cs
         → AfterValue (object_frame fs es k) x (c ∷ cs)
-    member_on fs es k x e (inl (key, b, y, u, key_ok, b_ok, y_ok, f, (w, ms, u', w_ok, ms_ok, g, h))) = (
-      [],
-      member key b y w ms,
-      u',
-      tt,
-      (key_ok, b_ok, y_ok, w_ok, ms_ok),
-      rw e (ap (λ z. 44 ∷ z) (f ∙ ap (λ z. key_chars key (b ++ node_chars y z)) g)),
-      h,
-    )
+    member_on fs es k x e (inl (key, b, y, u, key_ok, b_ok, y_ok, f, (w, ms, u', w_ok, ms_ok, g, h))) =
+        ([], member key b y w ms, u', tt, (key_ok, b_ok, y_ok, w_ok, ms_ok), (cc), h)
     member_on fs es k x e (inr h) = absurd (no_close es h)
       where
         by_test : (a : Bool) (p q : List ℕ × Value) (ps qs : EntriesSoFar)
@@ -161,25 +146,11 @@ module _ (r : Reading) (v : Value) where
         element_on fs vs x (class-says r.strict c e) (ih (before (array_frame fs (vs ++ x ∷ []))) h)
     after_on comma (object_frame fs es k) x e h =
         member_on fs es k x (class-says r.strict c e) (ih (before_key fs (put k x es)) h)
-    after_on closes_array (array_frame fs vs) x e h = (
-      [],
-      no_elements,
-      cs,
-      tt,
-      tt,
-      ap (λ z. z ∷ cs) (class-says r.strict c e),
-      subst (λ z. AfterValue fs (value.array z) cs) (closed-values vs x)
-          (ih (after_value fs (value.array (values_of (vs ++ x ∷ [])))) h),
-    )
-    after_on closes_object (object_frame fs es k) x e h = (
-      [],
-      no_members,
-      cs,
-      tt,
-      tt,
-      ap (λ z. z ∷ cs) (class-says r.strict c e),
-      ih (after_value fs (value.object (pairs_of (put k x es)))) h,
-    )
+    after_on closes_array (array_frame fs vs) x e h =
+        let k = ih (after_value fs (value.array (values_of (vs ++ x ∷ [])))) h in
+        ([], no_elements, cs, tt, tt, ap (λ z. z ∷ cs) (class-says r.strict c e), rw closed-values at k)
+    after_on closes_object (object_frame fs es k) x e h =
+        ([], no_members, cs, tt, tt, ap (λ z. z ∷ cs) (class-says r.strict c e), ih _ h)
     after_on _ fs x e h = absurd h
 
     -- before a value
@@ -197,30 +168,14 @@ module _ (r : Reading) (v : Value) where
     array_closes _ e h = absurd h
 
     array_on : (fs : Frames) → c ≡ 91 → Left (before (array_frame fs [])) cs → ValueLeft fs (c ∷ cs)
-    array_on fs e (inl (b, x, u, b_ok, x_ok, f, (w, es, u', w_ok, es_ok, g, h))) = (
-      [],
-      Node.array b x w es,
-      u',
-      tt,
-      (b_ok, x_ok, w_ok, es_ok),
-      rw e (ap (λ z. 91 ∷ z) (f ∙ ap (λ z. b ++ node_chars x z) g)),
-      h,
-    )
-    array_on fs e (inr (w, u, w_ok, f, h)) =
-        ([], Node.empty_array w, u, tt, w_ok, rw e (ap (λ z. 91 ∷ z) f), h)
+    array_on fs e (inl (b, x, u, b_ok, x_ok, f, (w, es, u', w_ok, es_ok, g, h))) =
+        ([], Node.array b x w es, u', tt, (b_ok, x_ok, w_ok, es_ok), (cc), h)
+    array_on fs e (inr (w, u, w_ok, f, h)) = ([], Node.empty_array w, u, tt, w_ok, (cc), h)
 
     object_on : (fs : Frames) → c ≡ 123 → Left (before_key fs []) cs → ValueLeft fs (c ∷ cs)
-    object_on fs e (inl (key, b, x, u, key_ok, b_ok, x_ok, f, (w, ms, u', w_ok, ms_ok, g, h))) = (
-      [],
-      Node.object key b x w ms,
-      u',
-      tt,
-      (key_ok, b_ok, x_ok, w_ok, ms_ok),
-      rw e (ap (λ z. 123 ∷ z) (f ∙ ap (λ z. key_chars key (b ++ node_chars x z)) g)),
-      h,
-    )
-    object_on fs e (inr (w, u, w_ok, f, h)) =
-        ([], Node.empty_object w, u, tt, w_ok, rw e (ap (λ z. 123 ∷ z) f), h)
+    object_on fs e (inl (key, b, x, u, key_ok, b_ok, x_ok, f, (w, ms, u', w_ok, ms_ok, g, h))) =
+        ([], Node.object key b x w ms, u', tt, (key_ok, b_ok, x_ok, w_ok, ms_ok), (cc), h)
+    object_on fs e (inr (w, u, w_ok, f, h)) = ([], Node.empty_object w, u, tt, w_ok, (cc), h)
 
     -- the first letter of a literal is read
     word_on : (fs : Frames) (n : Node) (d l : ℕ) (ls : List ℕ) → c ≡ d → IsNode r n
@@ -258,17 +213,8 @@ module _ (r : Reading) (v : Value) where
     key_more : (fs : Frames) (es : EntriesSoFar) → class_of r.strict c ≡ whitespace → Left (before_key fs es) cs
         → Left (before_key fs es) (c ∷ cs)
     key_more fs es e (inl (key, b, x, u, (a_ok, i_ok, z_ok), b_ok, x_ok, f, h)) =
-        inl (
-          record { before = c ∷ key.before; items = key.items; after = key.after },
-          b,
-          x,
-          u,
-          ((class-says r.strict c e, a_ok), i_ok, z_ok),
-          b_ok,
-          x_ok,
-          ap (λ z. c ∷ z) f,
-          h,
-        )
+        let longer : Key = record key { before = c ∷ key.before } in
+        inl (longer, b, x, u, ((class-says r.strict c e, a_ok), i_ok, z_ok), b_ok, x_ok, ap (λ z. c ∷ z) f, h)
     key_more fs [] e (inr (w, u, w_ok, f, h)) =
         inr (c ∷ w, u, (class-says r.strict c e, w_ok), ap (λ z. c ∷ z) f, h)
     key_more fs (x ∷ es) e (inr h) = absurd h
@@ -279,17 +225,8 @@ module _ (r : Reading) (v : Value) where
 
     quote_on : (fs : Frames) (es : EntriesSoFar) (opened : ℕ) → c ≡ 34 → Left (string (as_key fs es opened) [] between) cs
         → MemberLeft fs es (c ∷ cs)
-    quote_on fs es opened e (is, u, is_ok, f, (z, u', z_ok, g, (b, x, u'', b_ok, x_ok, k, h))) = (
-      record { before = []; items = is; after = z },
-      b,
-      x,
-      u'',
-      (tt, is_ok, z_ok),
-      b_ok,
-      x_ok,
-      rw e (ap (λ y. 34 ∷ y) (f ∙ ap (λ y. items_chars is (34 ∷ y)) (g ∙ ap (λ y. z ++ (58 ∷ y)) k))),
-      h,
-    )
+    quote_on fs es opened e (is, u, is_ok, f, (z, u', z_ok, g, (b, x, u'', b_ok, x_ok, k, h))) =
+        (record { before = []; items = is; after = z }, b, x, u'', (tt, is_ok, z_ok), b_ok, x_ok, (cc), h)
 
     key_on : (k : Class) (fs : Frames) (es : EntriesSoFar) → class_of r.strict c ≡ k
         → M (move_before_key r k fs es (suc (length cs))) → Left (before_key fs es) (c ∷ cs)
@@ -320,13 +257,10 @@ module _ (r : Reading) (v : Value) where
     past fs x [] h = (cs, refl, ih (after_value fs x) h)
     past fs x (l ∷ ls) h = ih (word fs x l ls) h
 
-    one_letter : (fs : Frames) (x : Value) (l : ℕ) (ls : List ℕ) → c ≡ l
-        → (u : List ℕ) × (cs ≡ ls ++ u) × AfterValue fs x u → Left (word fs x l ls) (c ∷ cs)
-    one_letter fs x l ls e (u, f, h) = (u, rw e (ap (λ z. l ∷ z) f), h)
-
     letter_on : (a : Bool) (fs : Frames) (x : Value) (l : ℕ) (ls : List ℕ) → c == l ≡ a
         → M (cond a (go None (past_letter fs x ls)) bad) → Left (word fs x l ls) (c ∷ cs)
-    letter_on true fs x l ls e h = one_letter fs x l ls (eqb-true c l e) (past fs x ls h)
+    letter_on true fs x l ls e h =
+        let (u, f, k) = past fs x ls h in (u, ap (λ z. z ∷ cs) (eqb-true c l e) ∙ ap (λ z. l ∷ z) f, k)
     letter_on false fs x l ls e h = absurd h
 
     closing : (role : Role) (bs : List ℕ) → M (closed_string r role bs (suc (length cs))) → AfterString role bs cs

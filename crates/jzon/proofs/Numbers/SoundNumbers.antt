@@ -55,17 +55,13 @@ module _ (r : Reading) (v : Value) (fs : Frames) (Beh : Value → List ℕ → T
 
   -- ---- the first digit
 
-  first_whole : (negative : Bool) (c : ℕ) (t : List ℕ) → IsTrue (is_ascii_digit c) → c == 48 ≡ false
-      → InNumeral negative (whole (c ∷ [])) t → MagnitudeLeft negative c t
-  first_whole negative c t ok e ([], u, es_ok, f, h) = ([], u, ok, f, h)
-  first_whole negative c t ok e (x ∷ es, u, es_ok, f, h) =
-      (x ∷ es, u, (and_from _ _ ok (ap not e), es_ok), f, h)
-
   pub magnitude_left : (is_zero negative : Bool) (c : ℕ) (t : List ℕ) → IsTrue (is_ascii_digit c) → c == 48 ≡ is_zero
       → InNumeral negative (after_first_digit is_zero c) t → MagnitudeLeft negative c t
   magnitude_left true negative c t ok e h =
       ([], t, ok, refl, subst (λ z. TailLeft negative (z ∷ []) t) (sym (eqb-true c 48 e)) h)
-  magnitude_left false negative c t ok e h = first_whole negative c t ok e h
+  magnitude_left false negative c t ok e ([], u, es_ok, f, h) = ([], u, ok, f, h)
+  magnitude_left false negative c t ok e (x ∷ es, u, es_ok, f, h) =
+      (x ∷ es, u, (and_from _ _ ok (ap not e), es_ok), f, h)
 
   -- ---- the end of the text
 
@@ -191,19 +187,9 @@ module _ (r : Reading) (v : Value) (fs : Frames) (Beh : Value → List ℕ → T
       → NumberLeft (c ∷ cs)
   digit_sound c cs e h =
       let (es, u, ok, f, (ds, x, u', ds_ok, x_ok, g, k)) =
-      magnitude_left (c == 48) false c cs (class-says r.strict c e) refl h in (
-        record { negative = false; whole = c ∷ es; fraction = ds; exponent = x },
-        u',
-        (ok, ds_ok, x_ok),
-        ap (λ z. c ∷ z) (f ∙ ap (λ z. es ++ z) g),
-        k,
-      )
+      magnitude_left (c == 48) false c cs (class-says r.strict c e) refl h in
+      (record { negative = false; whole = c ∷ es; fraction = ds; exponent = x }, u', (ok, ds_ok, x_ok), (cc), k)
 
   pub minus_sound : (t : List ℕ) → InNumeral true after_minus t → NumberLeft (45 ∷ t)
-  minus_sound t (c, u, e, (es, u1, ok, f, (ds, x, u', ds_ok, x_ok, g, k))) = (
-    record { negative = true; whole = c ∷ es; fraction = ds; exponent = x },
-    u',
-    (ok, ds_ok, x_ok),
-    ap (λ z. 45 ∷ z) (e ∙ ap (λ z. c ∷ z) (f ∙ ap (λ z. es ++ z) g)),
-    k,
-  )
+  minus_sound t (c, u, e, (es, u1, ok, f, (ds, x, u', ds_ok, x_ok, g, k))) =
+      (record { negative = true; whole = c ∷ es; fraction = ds; exponent = x }, u', (ok, ds_ok, x_ok), (cc), k)
