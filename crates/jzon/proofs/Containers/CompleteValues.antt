@@ -17,11 +17,11 @@ use Rattle.jzon.specs.Spelling.{key_cells, node_cells, elements_cells, members_c
 use Rattle.jzon.specs.Meaning.{bytes_of, meaning, elements_meaning, members_meaning}
 use Rattle.jzon.specs.Private.Machine.{EntriesSoFar, Frames, no_frames, array_frame, object_frame, as_key, State, before}
 use Rattle.jzon.specs.Private.Machine.{before_key, after_key, after_value, go, move, Outcome, meant, frames_depth}
-use Rattle.jzon.specs.Private.Machine.{value_mark, key_mark, repeated_if}
+use Rattle.jzon.specs.Private.Machine.{value_mark, key_mark, repeated_if, allows_whitespace}
 use Rattle.jzon.specs.Private.Classes.{quote, opens_array, closes_array, opens_object, closes_object, comma, colon}
 use Rattle.jzon.specs.Private.Classes.{begins_null, begins_true, begins_false}
-use Rattle.jzon.proofs.Texts.ClassesOfCharacters.{whitespace-class, class-char}
-use Rattle.jzon.proofs.Texts.Runs.{Follows}
+use Rattle.jzon.proofs.Texts.ClassesOfCharacters.{class-char}
+use Rattle.jzon.proofs.Texts.Runs.{Follows, stays}
 use Rattle.jzon.proofs.Numbers.CompleteNumbers.{complete_number}
 use Rattle.jzon.proofs.Strings.CompleteStrings.{read_items, complete_string, length-items}
 
@@ -72,18 +72,11 @@ module _ (r : Reading) (G : Outcome → Type 0) where
   abbrev F : List Cell → State → Type 0
   F q p = Follows r G q p
 
-  blanks : (w : List ℕ) (p : State) (q : List Cell) → IsWhitespace r w
-      → ((c left : ℕ) → IsTrue (is_whitespace r.strict c) → move r p c left ≡ go None p) → F q p → F (plain w q) p
-  blanks [] p q ok stays h = h
-  blanks (c ∷ w) p q ok stays h = rw (stays c (suc (length (plain w q))) ok.0) (refl, blanks w p q ok.1 stays h)
-
-  blanks_before : (w : List ℕ) (fs : Frames) (q : List Cell) → IsWhitespace r w → F q (before fs)
-      → F (plain w q) (before fs)
-  blanks_before w fs q ok h = blanks w (before fs) q ok (λ c left e. rw (whitespace-class r c e) refl) h
-
-  blanks_after : (w : List ℕ) (fs : Frames) (v : Value) (q : List Cell) → IsWhitespace r w → F q (after_value fs v)
-      → F (plain w q) (after_value fs v)
-  blanks_after w fs v q ok h = blanks w (after_value fs v) q ok (λ c left e. rw (whitespace-class r c e) refl) h
+  blanks : (w : List ℕ) (p : State) (q : List Cell) → IsWhitespace r w → allows_whitespace p ≡ true → F q p
+      → F (plain w q) p
+  blanks [] p q ok allows h = h
+  blanks (c ∷ w) p q ok allows h =
+      rw (stays r p c (suc (length (plain w q))) allows ok.0) (refl, blanks w p q ok.1 allows h)
 
   -- ---- keys
 
@@ -99,15 +92,10 @@ module _ (r : Reading) (G : Outcome → Type 0) where
       let mark : repeated_if r es (bytes_of key.items) (opened - suc (length after)) ≡ duplicate_if r seen key.items =
       ap (λ t. breach_if (r.strict && t) (duplicate (opened - suc (length after)))) (knows (bytes_of key.items))
       ∙ ap (λ n. breach_if (r.strict && is_known seen (bytes_of key.items)) (duplicate n)) back in
-      blanks key.before (before_key fs es) _ ok.0 (λ c left e. rw (whitespace-class r c e) refl)
-      (rw (class-char r.strict quote) (
-        refl,
-        read_items r G (as_key fs es opened) [] key.items (closing ∷ after) ok.1 (
-          mark,
-          blanks key.after (after_key fs es (bytes_of key.items)) _ ok.2
-              (λ c left e. rw (whitespace-class r c e) refl) (rw (class-char r.strict colon) (refl, h)),
-        ),
-      ))
+      let colon_next = blanks key.after (after_key fs es (bytes_of key.items)) _ ok.2 refl
+      (rw (class-char r.strict colon) (refl, h)) in
+      blanks key.before (before_key fs es) _ ok.0 refl (rw (class-char r.strict quote)
+      (refl, read_items r G (as_key fs es opened) [] key.items (closing ∷ after) ok.1 (mark, colon_next)))
 
   -- ---- values
 
@@ -122,30 +110,24 @@ module _ (r : Reading) (G : Outcome → Type 0) where
     complete_node (Node.string is) fs k ok h = complete_string r G fs is k ok h
     complete_node (Node.empty_array b) fs k ok h =
         rw (class-char r.strict opens_array)
-        (refl, blanks_before b (array_frame fs []) _ ok (rw (class-char r.strict closes_array) (refl, h)))
+        (refl, blanks b (before (array_frame fs [])) _ ok refl (rw (class-char r.strict closes_array) (refl, h)))
     complete_node (Node.empty_object b) fs k ok h =
-        rw (class-char r.strict opens_object) (
-          refl,
-          blanks b (before_key fs []) _ ok (λ c left e. rw (whitespace-class r c e) refl)
-              (rw (class-char r.strict closes_object) (refl, h)),
-        )
+        rw (class-char r.strict opens_object)
+        (refl, blanks b (before_key fs []) _ ok refl (rw (class-char r.strict closes_object) (refl, h)))
     complete_node (Node.array b n c es) fs k ok h =
-        rw (class-char r.strict opens_array) (
-          refl,
-          blanks_before b (array_frame fs []) _ ok.0
-              (complete_node n (array_frame fs []) _ ok.1
-              (blanks_after c (array_frame fs []) (meaning n) _ ok.2
-              (complete_elements es fs [] (meaning n) k ok.3 h))),
-        )
+        let inner : Frames = array_frame fs [] in
+        let rest = blanks c (after_value inner (meaning n)) _ ok.2 refl (complete_elements es fs [] (meaning n) k ok.3 h)
+        in
+        rw (class-char r.strict opens_array) (refl, blanks b (before inner) _ ok.0 refl (complete_node n inner _ ok.1 rest))
     complete_node (Node.object key b n c ms) fs k ok h =
+        let name : List ℕ = bytes_of key.items in
+        let inner : Frames = object_frame fs [] name in
+        let rest = blanks c (after_value inner (meaning n)) _ ok.3 refl (complete_members ms fs [] name (meaning n)
+        (name ∷ []) k (knows-put [] [] name (meaning n) (λ q. refl)) ok.4 h) in
         rw (class-char r.strict opens_object) (
           refl,
           complete_key fs [] [] key _ (λ q. refl) ok.0
-              (blanks_before b (object_frame fs [] (bytes_of key.items)) _ ok.1
-              (complete_node n (object_frame fs [] (bytes_of key.items)) _ ok.2
-              (blanks_after c (object_frame fs [] (bytes_of key.items)) (meaning n) _ ok.3
-              (complete_members ms fs [] (bytes_of key.items) (meaning n) (bytes_of key.items ∷ []) k
-              (knows-put [] [] (bytes_of key.items) (meaning n) (λ q. refl)) ok.4 h)))),
+              (blanks b (before inner) _ ok.1 refl (complete_node n inner _ ok.2 rest)),
         )
 
     complete_elements : (es : Elements) (fs : Frames) (vs : List Value) (v : Value) (k : List Cell) → AreElements r es
@@ -157,14 +139,11 @@ module _ (r : Reading) (G : Outcome → Type 0) where
     complete_elements (element b n c es) fs vs v k ok h =
         let inner : Frames = array_frame fs (vs ++ v ∷ []) in
         let rest : List Cell = plain c (elements_cells r es (suc (frames_depth fs)) k) in
+        let more = complete_elements es fs (vs ++ v ∷ []) (meaning n) k ok.3 (rw with_prefix-append h) in
         rw (class-char r.strict comma) (
           refl,
-          blanks_before b inner _ ok.0
-              (subst (λ m. F (node_cells r n (suc (frames_depth fs)) m rest) (before inner)) (not_first_value r fs vs v)
-              (complete_node n inner rest ok.1 (blanks_after c inner (meaning n) _ ok.2
-              (complete_elements es fs (vs ++ v ∷ []) (meaning n) k ok.3
-              (subst (λ z. F k (after_value fs (value.array z)))
-              (sym (with_prefix-append vs v (value.value (meaning n) (elements_meaning es)))) h))))),
+          blanks b (before inner) _ ok.0 refl (rw (← (not_first_value r fs vs v))
+              (complete_node n inner rest ok.1 (blanks c (after_value inner (meaning n)) _ ok.2 refl more))),
         )
 
     complete_members : (ms : Members) (fs : Frames) (es : EntriesSoFar) (key : List ℕ) (v : Value) (seen : List (List ℕ))
@@ -178,18 +157,18 @@ module _ (r : Reading) (G : Outcome → Type 0) where
         let inner : Frames = object_frame fs so_far (bytes_of key'.items) in
         let rest : List Cell = plain b (node_cells r n (suc (frames_depth fs)) None
         (plain c (members_cells r ms (bytes_of key'.items ∷ seen) (suc (frames_depth fs)) k))) in
+        let more = complete_members ms fs so_far (bytes_of key'.items) (meaning n) (bytes_of key'.items ∷ seen) k
+        (knows-put seen so_far (bytes_of key'.items) (meaning n) knows) ok.4 h in
         rw (class-char r.strict comma) (
           refl,
-          subst (λ m. F (key_cells r seen key' m rest) (before_key fs so_far)) (not_first_key r fs key v es)
-              (complete_key fs so_far seen key' rest knows ok.0
-              (blanks_before b inner _ ok.1 (complete_node n inner _ ok.2 (blanks_after c inner (meaning n) _ ok.3
-              (complete_members ms fs so_far (bytes_of key'.items) (meaning n) (bytes_of key'.items ∷ seen) k
-              (knows-put seen so_far (bytes_of key'.items) (meaning n) knows) ok.4 h))))),
+          subst (λ m. F (key_cells r seen key' m rest) (before_key fs so_far))
+              (not_first_key r fs key v es) (complete_key fs so_far seen key' rest knows ok.0 (blanks b (before inner) _ ok.1
+              refl (complete_node n inner _ ok.2 (blanks c (after_value inner (meaning n)) _ ok.3 refl more)))),
         )
 
 pub complete : (r : Reading) (d : Document) → IsDocument r d
     → Follows r (λ o. o ≡ meant (meaning d.node)) (cells r d) (before no_frames)
 complete r d ok =
     let G : Outcome → Type 0 = λ o. o ≡ meant (meaning d.node) in
-    blanks_before r G d.before no_frames _ ok.0 (complete_node r G d.node no_frames _ ok.1
-    (blanks_after r G d.after no_frames (meaning d.node) [] ok.2 refl))
+    blanks r G d.before (before no_frames) _ ok.0 refl (complete_node r G d.node no_frames _ ok.1
+    (blanks r G d.after (after_value no_frames (meaning d.node)) [] ok.2 refl refl))

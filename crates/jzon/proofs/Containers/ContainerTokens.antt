@@ -18,8 +18,8 @@ use Rattle.jzon.specs.Private.Machine.{move_after_value}
 use Rattle.jzon.specs.declared.cursor.ContainerKind.{ContainerKind}
 use Rattle.jzon.specs.declared.cursor.ContainerKind.TheVariants.{Array, Object}
 use Rattle.jzon.specs.declared.cursor.Cursor.{Cursor}
-use Rattle.jzon.proofs.Containers.ContainerSteps.{deep_element, deep_key, no_element, no_entry, open_key, no_key}
-use Rattle.jzon.proofs.Containers.ContainerSteps.{no_colon}
+pub use Rattle.jzon.proofs.Containers.ContainerSteps.{closer_bounds}
+use Rattle.jzon.proofs.Containers.ContainerSteps.{same_closer, deep_item, no_item, open_key, no_key, no_colon}
 use Rattle.jzon.proofs.Texts.ClassesOfCharacters.{char_of, class-char}
 use Rattle.jzon.proofs.Texts.Cursors.{ReadTo, read_to_here, utf8_of, token_goes}
 use Rattle.jzon.proofs.Containers.FrameViews.{byte_within}
@@ -31,13 +31,6 @@ use Rattle.jzon.proofs.Texts.ReportedErrors.{reported_deep, reported_end}
 pub opener_bounds : (b : ContainerKind) → (0 < opener b) × (opener b < 128)
 opener_bounds Array = (omega arith, omega arith)
 opener_bounds Object = (omega arith, omega arith)
-
-pub closer_bounds : (b : ContainerKind) → (0 < closer b) × (closer b < 128)
-closer_bounds Array = (omega arith, omega arith)
-closer_bounds Object = (omega arith, omega arith)
-
-same_closer : (b d : ContainerKind) → Some b ≡ Some d → closer d ≡ closer b
-same_closer b d e = cc
 
 -- ---- one character
 
@@ -91,13 +84,9 @@ left_open Object t fs e le = reported_end t.reading t.source.now t.index (before
 pub item_too_deep : (b : ContainerKind) (t : Cursor) (fs : Frames) → t.index < length t.source.now → next_byte t ≢ closer b
     → t.reading.depth ≤ frames_depth fs
     → ReportsUnlessMemory t.source.now Limit (left t (after_opener b fs))
-item_too_deep Array t fs lt n le =
+item_too_deep b t fs lt n le =
     reported_deep t.source.now (chars (drop t.index t.source.now)) _
-    (deep_element t.reading t.source.now t.index fs (utf8_of t) t.boundary lt (t.past_whitespace lt) n
-    (le-leb t.reading.depth (frames_depth fs) le))
-item_too_deep Object t fs lt n le =
-    reported_deep t.source.now (chars (drop t.index t.source.now)) _
-    (deep_key t.reading t.source.now t.index fs (utf8_of t) t.boundary lt (t.past_whitespace lt) n
+    (deep_item t.reading t.source.now t.index b fs (utf8_of t) t.boundary lt (t.past_whitespace lt) n
     (le-leb t.reading.depth (frames_depth fs) le))
 
 -- ---- after an item
@@ -128,15 +117,9 @@ comma_goes b t u o end (object_frame fs es k) v here read past e =
 
 pub item_stops : (b : ContainerKind) (t : Cursor) (fs : Frames) (v : Value) → innermost_kind fs ≡ Some b → next_byte t ≢ 44
     → next_byte t ≢ closer b → left t (after_value fs v) ≡ fault_here (chars (drop t.index t.source.now))
-item_stops b t no_frames v here no_comma no_end = absurd (cc)
-item_stops b t (array_frame fs vs) v here no_comma no_end =
-    from_stop t.reading t.source.now t.index (after_value (array_frame fs vs) v) (utf8_of t) t.boundary
-    (no_element t.reading t.source.now t.index fs vs v t.past_whitespace (λ h. no_comma h.1)
-    (λ h. no_end (h.1 ∙ sym (same_closer Array b here))))
-item_stops b t (object_frame fs es k) v here no_comma no_end =
-    from_stop t.reading t.source.now t.index (after_value (object_frame fs es k) v) (utf8_of t) t.boundary
-    (no_entry t.reading t.source.now t.index fs es k v t.past_whitespace (λ h. no_comma h.1)
-    (λ h. no_end (h.1 ∙ sym (same_closer Object b here))))
+item_stops b t fs v here no_comma no_end =
+    from_stop t.reading t.source.now t.index (after_value fs v) (utf8_of t) t.boundary
+    (no_item t.reading t.source.now t.index b fs v here t.past_whitespace no_comma no_end)
 
 -- ---- keys
 

@@ -5,10 +5,9 @@ use Rattle.jzon_base.proofs.Common.{IsUtf8, IsCharBoundary, prefix_len, nat_test
 use Rattle.jzon_base.proofs.Common.{prefix_len-le-length, prefix_len_stops, chars_past_char, encode_ascii, IsUtf8-drop}
 use Rattle.jzon_base.proofs.Common.{IsCharBoundary-from_drop}
 use Rattle.std.proofs.lemmas.Str.{IsUtf8-past_char}
-use Rattle.jzon_tree.specs.Value.{Value}
 use Rattle.jzon_tree.specs.Writing.{is_whitespace}
 use Rattle.jzon.specs.Reading.{Reading}
-use Rattle.jzon.specs.Private.Machine.{State, Frames, before, after_value, go, move, outcome, outcome_on, from}
+use Rattle.jzon.specs.Private.Machine.{State, Frames, before, go, move, outcome, outcome_on, from}
 use Rattle.jzon.proofs.Texts.ClassesOfCharacters.{whitespace-class}
 
 -- an ASCII byte is a character, and what follows it is text
@@ -58,9 +57,6 @@ wide_is_no_space false c le = grind (arith, nat_tests)
 
 pub before_skips : (r : Reading) (fs : Frames) → Skips r (before fs) (is_whitespace r.strict)
 before_skips r fs = record { ascii = space_is_ascii r.strict; stays = λ c n e. rw (whitespace-class r c e) refl }
-
-pub after_skips : (r : Reading) (fs : Frames) (v : Value) → Skips r (after_value fs v) (is_whitespace r.strict)
-after_skips r fs v = record { ascii = space_is_ascii r.strict; stays = λ c n e. rw (whitespace-class r c e) refl }
 
 -- ---- by the index of a byte
 
