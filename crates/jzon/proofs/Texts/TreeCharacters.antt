@@ -95,13 +95,11 @@ chars-sign _ k = refl
 
 chars-exponent : (x : Option Exponent) (k : List Cell) → chars_of (exponent_cells x k) ≡ exponent_chars x (chars_of k)
 chars-exponent None k = refl
-chars-exponent (Some e) k = ap (λ z. e.letter ∷ z)
-    (chars-sign e.sign (plain e.digits k) ∙ ap (sign_chars e.sign) (chars-plain e.digits k))
+chars-exponent (Some e) k = simp (chars-sign, chars-plain)
 
 chars-magnitude : (n : Numeral) (m : Option Breach) (k : List Cell)
     → chars_of (magnitude_cells n m k) ≡ magnitude_chars n (chars_of k)
-chars-magnitude n m k = chars-whole n.whole m _ ∙ ap (λ z. n.whole ++ z)
-    (chars-fraction n.whole n.fraction _ ∙ ap (fraction_chars n.fraction) (chars-exponent n.exponent k))
+chars-magnitude n m k = simp (chars-whole, chars-fraction, chars-exponent)
 
 chars-numeral : (negative : Bool) (n : Numeral) (m : Option Breach) (k : List Cell)
     → chars_of (if negative then cell 45 m ∷ magnitude_cells n None k else magnitude_cells n m k)
@@ -113,8 +111,7 @@ chars-item : (i : Item) (k : List Cell) → chars_of (item_cells i k) ≡ item_c
 chars-item (grammar.plain c) k = refl
 chars-item (simple c) k = refl
 chars-item (single u) k = ap (λ z. 92 ∷ 117 ∷ z) (chars-plain u k)
-chars-item (double u v) k = ap (λ z. 92 ∷ 117 ∷ z) (chars-plain u _
-    ∙ ap (λ z. u ++ (92 ∷ 117 ∷ z)) (chars-marked v _ k))
+chars-item (double u v) k = simp (chars-plain, chars-marked)
 
 chars-items : (is : List Item) (k : List Cell) → chars_of (items_cells is k) ≡ items_chars is (chars_of k)
 chars-items [] k = refl
@@ -122,8 +119,7 @@ chars-items (i ∷ is) k = chars-item i (items_cells is k) ∙ ap (item_chars i)
 
 chars-key : (r : Reading) (seen : List (List ℕ)) (key : Key) (m : Option Breach) (k : List Cell)
     → chars_of (key_cells r seen key m k) ≡ key_chars key (chars_of k)
-chars-key r seen key m k = chars-plain key.before _ ∙ ap (λ z. key.before ++ (34 ∷ z))
-    (chars-items key.items _ ∙ ap (λ z. items_chars key.items (34 ∷ z)) (chars-plain key.after _))
+chars-key r seen key m k = simp (chars-plain, chars-items)
 
 mutual
   pub chars-node : (r : Reading) (n : Node) (i : ℕ) (m : Option Breach) (k : List Cell)
@@ -135,25 +131,18 @@ mutual
   chars-node r (Node.string is) i m k = ap (λ z. 34 ∷ z) (chars-items is _)
   chars-node r (Node.empty_array b) i m k = ap (λ z. 91 ∷ z) (chars-plain b _)
   chars-node r (Node.empty_object b) i m k = ap (λ z. 123 ∷ z) (chars-plain b _)
-  chars-node r (Node.array b n c es) i m k = ap (λ z. 91 ∷ z) (chars-plain b _ ∙ ap (λ z. b ++ z)
-      (chars-node r n _ _ _ ∙ ap (node_chars n) (chars-plain c _ ∙ ap (λ z. c ++ z) (chars-elements r es _ k))))
-  chars-node r (Node.object key b n c ms) i m k = ap (λ z. 123 ∷ z) (chars-key r [] key _ _ ∙ ap (key_chars key)
-      (chars-plain b _ ∙ ap (λ z. b ++ z) (chars-node r n _ _ _ ∙ ap (node_chars n)
-      (chars-plain c _ ∙ ap (λ z. c ++ z) (chars-members r ms _ _ k)))))
+  chars-node r (Node.array b n c es) i m k = simp (chars-plain, chars-node r n, chars-elements r es)
+  chars-node r (Node.object key b n c ms) i m k = simp (chars-key, chars-plain, chars-node r n, chars-members r ms)
 
   pub chars-elements : (r : Reading) (es : Elements) (i : ℕ) (k : List Cell)
       → chars_of (elements_cells r es i k) ≡ elements_chars es (chars_of k)
   chars-elements r no_elements i k = refl
-  chars-elements r (element b n c es) i k = ap (λ z. 44 ∷ z) (chars-plain b _ ∙ ap (λ z. b ++ z)
-      (chars-node r n _ _ _ ∙ ap (node_chars n) (chars-plain c _ ∙ ap (λ z. c ++ z) (chars-elements r es _ k))))
+  chars-elements r (element b n c es) i k = simp (chars-plain, chars-node r n, chars-elements r es)
 
   pub chars-members : (r : Reading) (ms : Members) (seen : List (List ℕ)) (i : ℕ) (k : List Cell)
       → chars_of (members_cells r ms seen i k) ≡ members_chars ms (chars_of k)
   chars-members r no_members seen i k = refl
-  chars-members r (member key b n c ms) seen i k = ap (λ z. 44 ∷ z) (chars-key r seen key _ _ ∙ ap (key_chars key)
-      (chars-plain b _ ∙ ap (λ z. b ++ z) (chars-node r n _ _ _ ∙ ap (node_chars n)
-      (chars-plain c _ ∙ ap (λ z. c ++ z) (chars-members r ms _ _ k)))))
+  chars-members r (member key b n c ms) seen i k = simp (chars-key, chars-plain, chars-node r n, chars-members r ms)
 
 pub spells : (r : Reading) (d : Document) → spell r d ≡ document_chars d
-spells r d = chars-plain d.before _ ∙ ap (λ z. d.before ++ z)
-    (chars-node r d.node 0 None _ ∙ ap (node_chars d.node) (chars-plain d.after [] ∙ append-nil d.after))
+spells r d = simp (chars-plain, chars-node, append-nil)
