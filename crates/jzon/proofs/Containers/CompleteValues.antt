@@ -2,11 +2,10 @@
 -- with its cell's mark. Shown for each part of a tree, whatever cells k follow it and whatever G is required at the
 -- end: if G is reached from after the part over k, it is reached from before the part over its cells and k.
 use Rattle.jzon_base.proofs.Common.{◌≡◌, ◌∙◌, ℕ, suc, ◌+◌, ◌-◌, List, [], ◌∷◌, ◌++◌, length, Bool, true, false, cond}
-use Rattle.jzon_base.proofs.Common.{◌&&◌, ◌||◌, None, refl, sym, subst, ap, arith, IsTrue, fold, is_some, bytes_eq}
+use Rattle.jzon_base.proofs.Common.{◌&&◌, ◌||◌, None, refl, sym, subst, ap, arith, fold, is_some, bytes_eq}
 use Rattle.jzon_base.specs.PairList.{find, put}
 use Rattle.jzon_base.proofs.KeyIndex.KnownKeys.{known-put}
 use Rattle.jzon_tree.specs.Same.{is_known}
-use Rattle.jzon_tree.specs.Writing.{is_whitespace}
 use Rattle.jzon_tree.specs.Value as value
 use Rattle.jzon_tree.specs.Value.{Value, Values, pairs_of}
 use Rattle.jzon.specs.Reading.{Reading}
@@ -16,7 +15,7 @@ use Rattle.jzon.specs.Spelling.{duplicate, Cell, cell, plain, breach_if, items_c
 use Rattle.jzon.specs.Spelling.{key_cells, node_cells, elements_cells, members_cells, cells}
 use Rattle.jzon.specs.Meaning.{bytes_of, meaning, elements_meaning, members_meaning}
 use Rattle.jzon.specs.Private.Machine.{EntriesSoFar, Frames, no_frames, array_frame, object_frame, as_key, State, before}
-use Rattle.jzon.specs.Private.Machine.{before_key, after_key, after_value, go, move, Outcome, meant, frames_depth}
+use Rattle.jzon.specs.Private.Machine.{before_key, after_key, after_value, Outcome, meant, frames_depth}
 use Rattle.jzon.specs.Private.Machine.{value_mark, key_mark, repeated_if, allows_whitespace}
 use Rattle.jzon.specs.Private.Classes.{quote, opens_array, closes_array, opens_object, closes_object, comma, colon}
 use Rattle.jzon.specs.Private.Classes.{begins_null, begins_true, begins_false}

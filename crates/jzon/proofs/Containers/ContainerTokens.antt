@@ -1,6 +1,6 @@
 -- The tokens of arrays and objects, by the offset of the parser's cursor.
 use Rattle.jzon_base.proofs.Common.{◌≡◌, ◌≢◌, ◌∙◌, ℕ, ◌+◌, ◌<◌, ◌≤◌, List, [], length, drop, get_or, refl, arith, None}
-use Rattle.jzon_base.proofs.Common.{Some, sym, ap, true, lit<, chars}
+use Rattle.jzon_base.proofs.Common.{Some, ap, true, lit<, chars}
 use Rattle.std.proofs.lemmas.Bool.{le-leb}
 use Rattle.jzon.specs.declared.fault.Stop.{Stop}
 use Rattle.jzon.specs.declared.fault.Stop.TheVariants.{Limit}

@@ -3,7 +3,7 @@
 -- the rest of an element, then elements, the bracket, and what follows the array), and `on` extends it by one
 -- character.
 use Rattle.jzon_base.proofs.Common.{◌≡◌, ◌∙◌, ◌⊎◌, inl, inr, ℕ, suc, List, [], ◌∷◌, ◌++◌, length, Bool, true, false}
-use Rattle.jzon_base.proofs.Common.{cond, ◌==◌, Option, Some, None, refl, sym, subst, ap, eqb-true, fold, bytes_eq}
+use Rattle.jzon_base.proofs.Common.{cond, ◌==◌, Option, Some, None, refl, sym, ap, eqb-true, fold, bytes_eq}
 use Rattle.jzon_base.specs.PairList.{put}
 use Rattle.jzon_tree.specs.Value as value
 use Rattle.jzon_tree.specs.Value.{Value, values_of, pairs_of, kind_of}
@@ -23,7 +23,7 @@ use Rattle.jzon.specs.Private.Machine.{key_mark, bad_at, move_before, move_befor
 use Rattle.jzon.specs.Private.Machine.{move_empty_array, move_empty_object}
 use Rattle.jzon.proofs.Texts.ClassesOfCharacters.{class-says}
 use Rattle.jzon.proofs.Texts.Runs.{On, Goes}
-use Rattle.jzon.proofs.Texts.TreeCharacters.{items_chars, key_chars, node_chars, elements_chars, members_chars, spells}
+use Rattle.jzon.proofs.Texts.TreeCharacters.{key_chars, node_chars, elements_chars, members_chars, spells}
 use Rattle.jzon.proofs.Containers.CompleteValues.{with_prefix, with_prefix-append, closed-values}
 use Rattle.jzon.proofs.Numbers.SoundNumbers.{InNumeral, number_ends, number_on, digit_sound, minus_sound}
 use Rattle.jzon.proofs.Strings.SoundStrings.{Left as string_left, string_on}

@@ -1,7 +1,7 @@
 -- Sound, for numbers (`number_on`, `number_ends`): if the automaton goes to a value from inside a number, the rest of
 -- the text begins with the rest of a number, `InNumeral`, and continues with what is allowed after it. Shown for one
 -- more character, given the statement for the text after it.
-use Rattle.jzon_base.proofs.Common.{◌≡◌, ◌∙◌, ℕ, List, [], ◌∷◌, ◌++◌, Bool, true, false, not, ◌==◌, Option, None, refl}
+use Rattle.jzon_base.proofs.Common.{◌≡◌, ℕ, List, [], ◌∷◌, ◌++◌, Bool, true, false, not, ◌==◌, Option, None, refl}
 use Rattle.jzon_base.proofs.Common.{sym, subst, ap, eqb-true, IsTrue, is_ascii_digit, and_from}
 use Rattle.jzon_tree.specs.Value.{Value}
 use Rattle.jzon_tree.specs.Value as value

@@ -1,7 +1,7 @@
 -- Each text that is written for a value without NaN is read as an equal value.
 use Rattle.jzon_base.proofs.Common.{◌≡◌, ◌∙◌, ◌≢◌, ℕ, suc, ◌≤◌, max, List, [], ◌∷◌, ◌++◌, length, map, Bool, true}
 use Rattle.jzon_base.proofs.Common.{false, cond, Option, Some, refl, sym, ap, subst, arith, IsUtf8, IsTrue, AllPairs}
-use Rattle.jzon_base.proofs.Common.{AllByRecursion, IsDistinct, bytes_eq, le-max_left, le-max_right, and_parts}
+use Rattle.jzon_base.proofs.Common.{AllByRecursion, IsDistinct, bytes_eq, and_parts}
 use Rattle.jzon_base.proofs.Common.{and_from, length-map, bytes_eq-Decides}
 use Rattle.jzon_base.specs.Decimal.{nan, parts}
 use Rattle.jzon_base.specs.PairList.{keys_of, find, put_each}
@@ -9,7 +9,6 @@ use Rattle.jzon_base.proofs.Entries.PutEach.{put_each-distinct}
 use Rattle.jzon_tree.specs.Value.{Value, null, boolean, text, number, array, object, Values, no_values, value}
 use Rattle.jzon_tree.specs.Value.{values_of, ValuePairs, no_pairs, pair, pairs_of, list_of_pairs, nest, most_nest}
 use Rattle.jzon_tree.specs.Value.{most_nest_under}
-use Rattle.jzon_tree.specs.Text.{quoted}
 use Rattle.jzon_tree.specs.Lawful.{IsValue, AreValues, ArePairs, HasNoNan, HaveNoNan, PairsHaveNoNan}
 use Rattle.jzon_tree.specs.Same.{same, same_items}
 use Rattle.jzon_tree.specs.SameLaws.{same_at, object-intro}
@@ -40,33 +39,16 @@ record ReadNode (r : Reading) (v : Value) (b : List ℕ) : Type 0 where
 
 record ReadNodes (r : Reading) (vs : Values) (ts : List (List ℕ)) : Type 0 where
   nodes : List Node
-  spell : EachSpells r (most_nest vs) ts nodes
+  spell : (high : ℕ) → most_nest vs ≤ high → EachSpells r high ts nodes
   alike : same_items (values_of (map meaning nodes)) vs ≡ true
 
 -- in the order of the object
 record ReadEntries (r : Reading) (ps : ValuePairs) (ts : List (List ℕ)) : Type 0 where
   entries : List Entry
   texts : map entry_text entries ≡ ts
-  spell : AllByRecursion (EntrySpells r (most_nest_under ps)) entries
+  spell : (high : ℕ) → most_nest_under ps ≤ high → AllByRecursion (EntrySpells r high) entries
   keys : entry_keys entries ≡ keys_of (list_of_pairs ps)
   alike : (q : List ℕ) → same_at (find q (map entry_meaning entries)) (find q (list_of_pairs ps)) ≡ true
-
--- ---- higher bounds
-
-each_raised : (r : Reading) (h g : ℕ) (ts : List (List ℕ)) (ns : List Node) → h ≤ g → EachSpells r h ts ns
-    → EachSpells r g ts ns
-each_raised r h g [] [] le e = tt
-each_raised r h g (t ∷ ts) (n ∷ ns) le e = (node_raised r h g t n le e.0, each_raised r h g ts ns le e.1)
-each_raised r h g _ _ le e = e
-
-entry_raised : (r : Reading) (h g : ℕ) (e : Entry) → h ≤ g → EntrySpells r h e → EntrySpells r g e
-entry_raised r h g e le k =
-    record { utf8 = k.utf8; whitespace = k.whitespace; spells = node_raised r h g e.text e.node le k.spells }
-
-entries_raised : (r : Reading) (h g : ℕ) (es : List Entry) → h ≤ g → AllByRecursion (EntrySpells r h) es
-    → AllByRecursion (EntrySpells r g) es
-entries_raised r h g [] le k = tt
-entries_raised r h g (e ∷ es) le k = (entry_raised r h g e le k.0, entries_raised r h g es le k.1)
 
 above_max : (n : ℕ) → suc (max n n) ≤ suc n
 above_max n = omega arith
@@ -216,28 +198,24 @@ mutual
   read_node r s dent (array no_values) b fit h no_nan w =
       leaf r (array no_values) b _ (Node.empty_array []) w (empty_array_spells r) refl
   read_node r s dent (array (value v vs)) b fit h no_nan w =
-      let e = read_nodes r s (suc dent) (value v vs) w.0 fit h no_nan w.1 in array_from r s dent v vs b w.0 e.nodes fit
-      e.spell e.alike w.2
+      let e = read_nodes r s (suc dent) (value v vs) w.0 fit h no_nan w.1 in
+      array_from r s dent v vs b w.0 e.nodes fit (e.spell _ (omega arith)) e.alike w.2
   read_node r s dent (object no_pairs) b fit h no_nan w =
       leaf r (object no_pairs) b _ (Node.empty_object []) w (empty_object_spells r) refl
   read_node r s dent (object (pair k v ps)) b fit h no_nan w =
       let e = read_entries r s (suc dent) (pair k v ps) w.0 fit h.0 no_nan w.2 in
-      object_read r s dent k v ps b w.0 w.1 e.entries fit h.1 e.texts e.spell e.keys e.alike w.3 w.5
+      object_read r s dent k v ps b w.0 w.1 e.entries fit h.1 e.texts (e.spell _ (omega arith)) e.keys e.alike w.3 w.5
 
   read_nodes : (r : Reading) (s : Style) (dent : ℕ) (vs : Values) (ts : List (List ℕ)) → AllowsWhitespaceOf r s
       → AreValues vs → HaveNoNan vs → WritesEach s dent vs ts → ReadNodes r vs ts
-  read_nodes r s dent no_values [] fit h no_nan w = record { nodes = []; spell = tt; alike = refl }
+  read_nodes r s dent no_values [] fit h no_nan w = record { nodes = []; spell = λ high le. tt; alike = refl }
   read_nodes r s dent (value v vs) (t ∷ ts) fit h no_nan w =
       let one = read_node r s dent v t fit h.0 no_nan.0 w.0 in
       let more = read_nodes r s dent vs ts fit h.1 no_nan.1 w.1 in
       record {
         nodes = one.node ∷ more.nodes;
-        spell = (
-          node_raised r (nest v) (max (nest v) (most_nest vs)) t one.node
-              (le-max_left (nest v) (most_nest vs)) one.spells,
-          each_raised r (most_nest vs) (max (nest v) (most_nest vs)) ts more.nodes
-              (le-max_right (nest v) (most_nest vs)) more.spell,
-        );
+        spell = λ high le.
+            (node_raised r (nest v) high t one.node (omega arith) one.spells, more.spell high (omega arith));
         alike = and_from _ _ one.alike more.alike;
       }
   read_nodes r s dent _ _ fit h no_nan w = absurd w
@@ -245,30 +223,19 @@ mutual
   read_entries : (r : Reading) (s : Style) (dent : ℕ) (ps : ValuePairs) (ts : List (List ℕ)) → AllowsWhitespaceOf r s
       → ArePairs ps → PairsHaveNoNan ps → WritesPairs s dent ps ts → ReadEntries r ps ts
   read_entries r s dent no_pairs [] fit h no_nan w =
-      record { entries = []; texts = refl; spell = tt; keys = refl; alike = λ q. refl }
+      record { entries = []; texts = refl; spell = λ high le. tt; keys = refl; alike = λ q. refl }
   read_entries r s dent (pair k v ps) (t ∷ ts) fit h no_nan w =
       let wide : Bool = w.0.0 in
       let x : List ℕ = w.0.1 in
       let one = read_node r s dent v x fit h.1 no_nan.0 w.0.3 in
       let more = read_entries r s dent ps ts fit h.2 no_nan.1 w.1 in
-      let high : ℕ = max (nest v) (most_nest_under ps) in
       let here : Entry = record { key = k; gap = gap_of wide; text = x; node = one.node } in
       record {
         entries = here ∷ more.entries;
-        texts =
-            ap (λ y. (quoted k ++ y) ∷ map entry_text more.entries) (sym (colon-gap wide x))
-            ∙ ap (λ y. y ∷ map entry_text more.entries) (sym w.0.4)
-            ∙ ap (λ ys. t ∷ ys) more.texts;
-        spell = (
-          record {
-            utf8 = h.0;
-            whitespace = gap_whitespace r wide;
-            spells = node_raised r (nest v) high x one.node
-                (le-max_left (nest v) (most_nest_under ps)) one.spells;
-          },
-          entries_raised r (most_nest_under ps) high more.entries
-              (le-max_right (nest v) (most_nest_under ps)) more.spell,
-        );
+        texts = rw (w.0.4, colon-gap wide x, more.texts) refl;
+        spell = λ high le.
+            let spells = node_raised r (nest v) high x one.node (omega arith) one.spells in
+            (record { utf8 = h.0; whitespace = gap_whitespace r wide; spells = spells }, more.spell high (omega arith));
         keys = ap (λ ks. k ∷ ks) more.keys;
         alike = λ q.
             same_pair (bytes_eq k q) (meaning one.node) v (find q (map entry_meaning more.entries))

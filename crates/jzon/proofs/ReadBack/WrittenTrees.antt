@@ -144,11 +144,13 @@ module _ (r : Reading) (h : ℕ) (g x c b : List ℕ) (n : Node) (gap : IsWhites
   run-plain : (depth : ℕ) (rest k : List Cell) → depth + h ≤ r.depth → rest ≡ plain (chars b) k
       → plain g (node_cells r n depth None (plain c rest)) ≡ plain (chars (run_text g x c b)) k
   run-plain depth rest k few more =
-      ap (λ q. plain g (node_cells r n depth None (plain c q))) more
-      ∙ ap (λ q. plain g q) (node.unbroken depth (plain c (plain (chars b) k)) few
-      ∙ ap (λ q. plain (chars x) q) (sym (text-ascii c b k (IsAscii-whitespace r c space)))
-      ∙ sym (text-append x (c ++ b) k node.utf8))
-      ∙ sym (text-ascii g (x ++ (c ++ b)) k (IsAscii-whitespace r g gap))
+      rw (
+        more,
+        node.unbroken depth (plain c (plain (chars b) k)) few,
+        text-ascii g _ k (IsAscii-whitespace r g gap),
+        text-append x _ k node.utf8,
+        text-ascii c b k (IsAscii-whitespace r c space),
+      ) refl
 
   IsUtf8-run : IsUtf8 b → IsUtf8 (run_text g x c b)
   IsUtf8-run v = IsUtf8-ascii_append g _ (IsAscii-whitespace r g gap)
@@ -183,15 +185,15 @@ module _ (r : Reading) (h : ℕ) (g x c b : List ℕ) (n : Node) (gap : IsWhites
         (plain g (node_cells r n depth None (plain c (members_cells r ms (bytes_of (items_for key) ∷ seen) depth k))))
         ≡ plain (chars (pair_text w key g x c b)) k
     pair-plain depth seen k new few =
+        let value = run-plain depth _ k (omega arith) (more.unbroken (key ∷ seen) depth k new.1 (omega arith)) in
         key-plain r seen w key _ u new.0
-        ∙ ap (λ q. plain w (plain (chars (quoted key)) (cell 58 None ∷ q)))
-        (ap (λ y. plain g (node_cells r n depth None (plain c (members_cells r ms (y ∷ seen) depth k))))
-        (bytes_of-items_for key u)
-        ∙ run-plain depth _ k (omega arith) (more.unbroken (key ∷ seen) depth k new.1 (omega arith)))
-        ∙ ap (λ q. plain w (plain (chars (quoted key)) q))
-        (sym (text-ascii (58 ∷ []) (run_text g x c b) k (IsAscii-one 58 (omega arith))))
-        ∙ ap (λ q. plain w q) (sym (text-append (quoted key) (58 ∷ run_text g x c b) k (IsUtf8-quoted key u)))
-        ∙ sym (text-ascii w (quoted key ++ (58 ∷ run_text g x c b)) k (IsAscii-whitespace r w whitespace))
+        ∙ rw (
+          bytes_of-items_for key u,
+          value,
+          text-ascii w _ k (IsAscii-whitespace r w whitespace),
+          text-append (quoted key) _ k (IsUtf8-quoted key u),
+          text-ascii (58 ∷ []) (run_text g x c b) k (IsAscii-one 58 (omega arith)),
+        ) refl
 
     IsUtf8-pair : IsUtf8 (pair_text w key g x c b)
     IsUtf8-pair = IsUtf8-ascii_append w _ (IsAscii-whitespace r w whitespace)

@@ -1,11 +1,11 @@
 -- Escapes of a string, by the bytes of a text: a simple one, one of four digits, and the second one after a surrogate.
-use Rattle.jzon_base.proofs.Common.{◌≡◌, ℕ, ◌+◌, ◌<◌, Bool, true, false, cond, List, ◌++◌, length, drop, get_or, refl}
+use Rattle.jzon_base.proofs.Common.{◌≡◌, ℕ, ◌+◌, ◌<◌, true, false, List, ◌++◌, length, drop, get_or, refl}
 use Rattle.jzon_base.proofs.Common.{ap, subst, ◌∙◌, arith, None, chars, IsUtf8, encode_utf8, ◌==◌, IsCharBoundary}
 use Rattle.jzon_base.proofs.Common.{false_from_ne_true, nat_tests, IsCharBoundary-after_ascii}
 use Rattle.jzon.specs.Reading.{Reading}
 use Rattle.jzon.specs.Grammar.{is_simple}
 use Rattle.jzon.specs.Meaning.{unescaped}
-use Rattle.jzon.specs.Private.Machine.{Role, Move, string, between, slash, code, second, second_slash, second_code, go}
+use Rattle.jzon.specs.Private.Machine.{Role, string, between, slash, code, second, second_slash, second_code, go}
 use Rattle.jzon.specs.Private.Machine.{bad, move_slash, outcome_on, from, fault_here}
 use Rattle.jzon.proofs.Strings.StringSteps.{Expects, byte_moves, byte_stops, expected_byte, unexpected_byte}
 
@@ -14,13 +14,9 @@ use Rattle.jzon.proofs.Strings.StringSteps.{Expects, byte_moves, byte_stops, exp
 pub simple_is_ascii : (c : ℕ) → is_simple c ≡ true → (c < 128) × ((c == 117) ≡ false)
 simple_is_ascii c h = (grind (arith, nat_tests), grind (arith, nat_tests))
 
-either : (a t : Bool) (x y z : Move) → a ≡ false → cond a x (cond t y z) ≡ cond t y z
-either a t x y z e = rw e refl
-
 simple_move : (role : Role) (xs : List ℕ) (c : ℕ) → is_simple c ≡ true
     → move_slash role xs c ≡ go None (string role (xs ++ encode_utf8 (unescaped c)) between)
-simple_move role xs c h = either (c == 117) (is_simple c) _ _ _ (simple_is_ascii c h).1
-    ∙ ap (λ t. cond t (go None (string role (xs ++ encode_utf8 (unescaped c)) between)) bad) h
+simple_move role xs c h = rw ((simple_is_ascii c h).1, h) refl
 
 -- a letter adds the character that it means
 pub simple_read : (r : Reading) (role : Role) (xs bs : List ℕ) (i : ℕ) → IsUtf8 bs → IsCharBoundary bs i → i < length bs
@@ -40,9 +36,8 @@ digits_begin r role xs bs i u at lt e = byte_moves r (string role xs slash) bs i
 -- with another character, or none, no text goes on
 no_letter : (role : Role) (xs : List ℕ) (c : ℕ) → (c ≡ 117 → ⊥) → (is_simple c ≡ true → ⊥) → move_slash role xs c ≡ bad
 no_letter role xs c no_u no_simple =
-    either (c == 117) (is_simple c) _ _ _ (grind (arith, nat_tests))
-    ∙ ap (λ t. cond t (go None (string role (xs ++ encode_utf8 (unescaped c)) between)) bad)
-    (false_from_ne_true (is_simple c) no_simple)
+    let other : (c == 117) ≡ false = grind (arith, nat_tests) in
+    rw (other, false_from_ne_true (is_simple c) no_simple) refl
 
 pub escape_stops : (r : Reading) (role : Role) (xs bs : List ℕ) (i : ℕ) → IsUtf8 bs → IsCharBoundary bs i
     → ((i < length bs) × (get_or bs i 0 ≡ 117) → ⊥) → ((i < length bs) × (is_simple (get_or bs i 0) ≡ true) → ⊥)

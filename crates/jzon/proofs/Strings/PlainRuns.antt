@@ -1,8 +1,8 @@
 -- Runs of unescaped bytes in a string: the automaton adds them to the string.
-use Rattle.jzon_base.proofs.Common.{◌≡◌, ℕ, ◌+◌, ◌<◌, ◌≤◌, Bool, true, false, cond, List, [], ◌∷◌, ◌++◌, length, take}
+use Rattle.jzon_base.proofs.Common.{◌≡◌, ℕ, ◌+◌, ◌<◌, ◌≤◌, true, List, [], ◌∷◌, ◌++◌, length, take}
 use Rattle.jzon_base.proofs.Common.{drop, get_or, refl, sym, ap, subst, ◌∙◌, inl, inr, arith, append_assoc, append-nil}
 use Rattle.jzon_base.proofs.Common.{take-append-drop, length-append, None, chars, IsUtf8, encode_utf8, encode_utf8_all}
-use Rattle.jzon_base.proofs.Common.{slice_range, Contains, not, ◌&&◌, ◌||◌, ◌==◌, nat_le, IsCharBoundary, prefix_len}
+use Rattle.jzon_base.proofs.Common.{slice_range, Contains, IsCharBoundary, prefix_len}
 use Rattle.jzon_base.proofs.Common.{cases_lt, and_parts, nat_tests, drop-drop, length-take-le, get_or-append-add}
 use Rattle.jzon_base.proofs.Common.{get_or-take, get_or_default, prefix_len-le-length, chars-append, encode_ascii}
 use Rattle.jzon_base.proofs.Common.{encodes-chars, scalars-chars, IsUtf8-between}
@@ -11,8 +11,9 @@ use Rattle.std.proofs.lemmas.List.Sums.{prefix_len_passes}
 use Rattle.jzon_base.specs.Private.PlainBytes.{is_plain}
 use Rattle.jzon.specs.Reading.{Reading}
 use Rattle.jzon.specs.Grammar.{is_unescaped}
-use Rattle.jzon.specs.Private.Machine.{Role, Move, string, between, go, move_between, outcome, outcome_on, from}
+use Rattle.jzon.specs.Private.Machine.{Role, string, between, go, move_between, outcome, outcome_on, from}
 use Rattle.jzon.proofs.Texts.AsciiRuns.{within_run, stops_run}
+use Rattle.jzon.proofs.Strings.StringCharacters.{plain_parts}
 
 -- ---- characters
 
@@ -38,14 +39,9 @@ plain_rest : (xs ys : List ℕ) → ArePlain (xs ++ ys) → ArePlain ys
 plain_rest xs ys h = λ k lt. subst (λ z. is_plain z ≡ true) (get_or-append-add xs ys k 0)
     (h (length xs + k) (omega (arith, length-append xs ys)))
 
-third : (a b t : Bool) (x y z w : Move) → a ≡ false → b ≡ false → t ≡ true → cond a x (cond b y (cond t z w)) ≡ z
-third a b t x y z w ea eb et = rw (ea, eb, et) refl
-
 plain_move : (r : Reading) (role : Role) (bs : List ℕ) (c left : ℕ) → is_unescaped c ≡ true
     → move_between r role bs c left ≡ go None (string role (bs ++ encode_utf8 c) between)
-plain_move r role bs c left h =
-    let parts = and_parts (scalar c && nat_le 32 c) (not (c == 34 || c == 92)) h in
-    third (c == 34) (c == 92) (is_unescaped c) _ _ _ _ (grind (arith, nat_tests)) (grind (arith, nat_tests)) h
+plain_move r role bs c left h = let t = plain_parts c h in rw (h, t.0, t.1) refl
 
 -- plain characters add their bytes to the string
 read_plain : (r : Reading) (role : Role) (bs cs rest : List ℕ) → scalars cs ≡ true → ArePlain (encode_utf8_all cs)
@@ -55,8 +51,10 @@ read_plain r role bs (c ∷ cs) rest s h =
     let parts = and_parts (scalar c) (scalars cs) s in
     ap (λ m. outcome_on m (λ p. outcome r (cs ++ rest) p) (c ∷ (cs ++ rest)))
     (plain_move r role bs c (length (c ∷ (cs ++ rest))) (plain_first c (encode_utf8_all cs) parts.0 h))
-    ∙ read_plain r role (bs ++ encode_utf8 c) cs rest parts.1 (plain_rest (encode_utf8 c) (encode_utf8_all cs) h)
-    ∙ ap (λ z. outcome r rest (string role z between)) (append_assoc bs (encode_utf8 c) (encode_utf8_all cs))
+    ∙ rw (
+      read_plain r role (bs ++ encode_utf8 c) cs rest parts.1 (plain_rest (encode_utf8 c) (encode_utf8_all cs) h),
+      append_assoc bs (encode_utf8 c) (encode_utf8_all cs),
+    ) refl
 
 -- ---- by the index of a byte
 

@@ -1,5 +1,5 @@
 -- Where a run of plain characters of a string ends: a quote, a backslash, or a fault.
-use Rattle.jzon_base.proofs.Common.{◌≡◌, ℕ, ◌+◌, ◌-◌, ◌<◌, Bool, true, false, ◌&&◌, cond, List, length, drop, get_or}
+use Rattle.jzon_base.proofs.Common.{◌≡◌, ℕ, ◌+◌, ◌-◌, ◌<◌, true, false, ◌&&◌, List, length, drop, get_or}
 use Rattle.jzon_base.proofs.Common.{refl, ap, sym, subst, ◌∙◌, arith, chars, IsUtf8, ◌==◌, is_some, IsCharBoundary}
 use Rattle.jzon_base.proofs.Common.{nat_tests, IsCharBoundary-after_ascii}
 use Rattle.jzon_base.specs.Private.PlainBytes.{is_plain}
@@ -9,13 +9,10 @@ use Rattle.jzon.specs.Grammar.{is_unescaped}
 use Rattle.jzon.specs.Spelling.{duplicate, breach_if}
 use Rattle.jzon.specs.Fault.{limit}
 use Rattle.jzon.specs.Private.Quote.{EndsAtQuote}
-use Rattle.jzon.specs.Private.Machine.{EntriesSoFar, Frames, Role, as_key, after_key, Move, go, refused, string, between}
+use Rattle.jzon.specs.Private.Machine.{EntriesSoFar, Frames, Role, as_key, after_key, go, refused, string, between}
 use Rattle.jzon.specs.Private.Machine.{slash, closed_string, bad, move_between, outcome_on, from, from_closed, left_at}
 use Rattle.jzon.specs.Private.Machine.{fault_here}
 use Rattle.jzon.proofs.Strings.StringSteps.{byte_moves, byte_stops}
-
-none_of : (a b t : Bool) (x y z w : Move) → a ≡ false → b ≡ false → t ≡ false → cond a x (cond b y (cond t z w)) ≡ w
-none_of a b t x y z w ea eb et = rw (ea, eb, et) refl
 
 -- a quote closes the string
 pub quote_closes : (r : Reading) (role : Role) (xs bs : List ℕ) (i : ℕ) → IsUtf8 bs → IsCharBoundary bs i
@@ -46,8 +43,9 @@ backslash_begins r role xs bs i u at lt e = byte_moves r (string role xs between
 no_quote : (r : Reading) (role : Role) (xs : List ℕ) (c left : ℕ) → is_plain c ≡ false → (c ≡ 34 → ⊥)
     → (c ≡ 92 → ⊥) → move_between r role xs c left ≡ bad
 no_quote r role xs c left h no34 no92 =
-    none_of (c == 34) (c == 92) (is_unescaped c) _ _ _ _ (grind (arith, nat_tests)) (grind (arith, nat_tests))
-    (grind (arith, nat_tests))
+    let quote : (c == 34) ≡ false = grind (arith, nat_tests) in
+    let slash : (c == 92) ≡ false = grind (arith, nat_tests) in
+    let other : is_unescaped c ≡ false = grind (arith, nat_tests) in rw (other, quote, slash) refl
 
 pub string_stops : (r : Reading) (role : Role) (xs bs : List ℕ) (i : ℕ) → IsUtf8 bs → IsCharBoundary bs i
     → (i < length bs → is_plain (get_or bs i 0) ≡ false) → (i < length bs → get_or bs i 0 ≡ 92 → ⊥)

@@ -13,7 +13,7 @@ use Rattle.jzon.specs.Spelling.{Breach, Cell, cell, plain, cells}
 use Rattle.jzon.specs.Fault.{Spells, Completes}
 use Rattle.jzon.specs.Private.Machine.{State, Move, go, bad, bad_deep, no_frames, before, move, meant}
 use Rattle.jzon.proofs.Texts.Cells.{chars_of, plain-append}
-use Rattle.jzon.proofs.Texts.Runs.{Meets, Follows, On, Goes}
+use Rattle.jzon.proofs.Texts.Runs.{Meets, Follows, Goes}
 use Rattle.jzon.proofs.Texts.Closing.{closer, closes}
 use Rattle.jzon.proofs.Texts.AlikeStates.{Alike, AlikeMove, moves_alike, closer-alike}
 use Rattle.jzon.proofs.Containers.CompleteValues.{complete}

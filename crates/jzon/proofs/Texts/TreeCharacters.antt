@@ -6,7 +6,7 @@ use Rattle.jzon.specs.Reading.{Reading}
 use Rattle.jzon.specs.Grammar.{Sign, unsigned, plus, minus, Exponent, Numeral, Item, simple, single, double, Key, Node}
 use Rattle.jzon.specs.Grammar.{Elements, no_elements, element, Members, no_members, member, Document}
 use Rattle.jzon.specs.Grammar as grammar
-use Rattle.jzon.specs.Spelling.{Breach, drops_too_many, keeps_too_many, Cell, cell, plain, marked_last, digits_cells}
+use Rattle.jzon.specs.Spelling.{Breach, drops_too_many, keeps_too_many, Cell, cell, marked_last, digits_cells}
 use Rattle.jzon.specs.Spelling.{whole_cells, fraction_cells, sign_cells, exponent_cells, magnitude_cells, item_cells}
 use Rattle.jzon.specs.Spelling.{items_cells, key_cells, node_cells, elements_cells, members_cells, spell}
 use Rattle.jzon.proofs.Texts.Cells.{chars_of, chars-plain}
