@@ -8,11 +8,10 @@ use Rattle.jzon.specs.Spelling.{deep, breach_if}
 use Rattle.jzon.specs.Fault.{Fault, limit}
 use Rattle.jzon.specs.Private.Brackets.{closer, innermost_kind, after_opener}
 use Rattle.jzon.specs.Private.Classes.{Class, whitespace, quote, closes_array, closes_object, comma, colon, class_of}
-use Rattle.jzon.specs.Private.Machine.{EntriesSoFar, Frames, no_frames, frames_depth, array_frame, object_frame, as_key, between}
-use Rattle.jzon.specs.Private.Machine.{before_key, string, after_key, after_value}
-use Rattle.jzon.specs.Private.Machine.{allows_whitespace, go, bad, bad_at, value_mark, key_mark, move_before}
-use Rattle.jzon.specs.Private.Machine.{move_before_key, move_after_key, move_empty_object, move_after_value, refused}
-use Rattle.jzon.specs.Private.Machine.{State, from, left_at, last, move}
+use Rattle.jzon.specs.Private.Machine.{EntriesSoFar, Frames, no_frames, frames_depth, array_frame, object_frame, as_key}
+use Rattle.jzon.specs.Private.Machine.{between, before_key, string, after_key, after_value, allows_whitespace, go, bad}
+use Rattle.jzon.specs.Private.Machine.{bad_at, value_mark, key_mark, move_before, move_before_key, move_after_key}
+use Rattle.jzon.specs.Private.Machine.{move_empty_object, move_after_value, refused, State, from, left_at, last, move}
 use Rattle.jzon.specs.declared.cursor.ContainerKind.{ContainerKind}
 use Rattle.jzon.specs.declared.cursor.ContainerKind.TheVariants.{Array, Object}
 use Rattle.jzon.proofs.Texts.ClassesOfCharacters.{class-says, class-char, no_space}

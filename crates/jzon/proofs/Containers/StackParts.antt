@@ -6,16 +6,17 @@ use Rattle.jzon_base.proofs.Common.{drop_all, length-take, length-drop, false≢
 use Rattle.jzon_base.proofs.Common.{nat_tests, list_any, position, position_or_len, zip, is_some, bytes_eq}
 use Rattle.std.specs.Prelude.{reverse, MatchOption}
 use Rattle.std.proofs.lemmas.List.{reverse-append}
+use Rattle.std.proofs.lemmas.Option.{IfSome_then}
 use Rattle.jzon_base.specs.PairList.{find, put_each}
 use Rattle.jzon_base.specs.Private.Known.{Knows}
 use Rattle.jzon_base.specs.declared.keys.known.KnownKeys.{KnownKeys}
 use Rattle.jzon_base.proofs.KeyIndex.KnownKeys.{known-put_each}
+use Rattle.jzon_base.proofs.KeyIndex.Positions.{list_any-position}
 use Rattle.jzon_tree.specs.declared.value.JsonValue.{JsonValue}
 use Rattle.jzon_tree.specs.View.{view}
 use Rattle.jzon_tree.proofs.Values.Views.{find-viewed}
 use Rattle.jzon.specs.Private.OpenContainers.{Container, OpenContainers, AwaitsValue, new_container, entries_so_far}
-use Rattle.jzon.specs.Private.OpenContainers.{value_added, innermost_ended, with_value}
-use Rattle.jzon.specs.Private.OpenContainers.{IsAdded}
+use Rattle.jzon.specs.Private.OpenContainers.{value_added, innermost_ended, with_value, IsAdded}
 use Rattle.jzon.specs.Private.Stacks.{container_of, containers_in, containers_of, AreNested, AllAwaitValue, AllKnown}
 use Rattle.jzon.specs.Private.Stacks.{IsLaidOut}
 use Rattle.jzon.specs.declared.cursor.ContainerKind.{ContainerKind}
@@ -96,10 +97,6 @@ view-changed s ks vs known c = λ i. record {
 
 -- ---- only its values change
 
-pub known_here : (a : Option KnownKeys) (P Q : KnownKeys → Type 0) → IfSome a (λ l. P l × Q l) → IfSome a P
-known_here None P Q h = tt
-known_here (Some l) P Q h = h.0
-
 values_within : (s : Inside) → IsLaidOut s → s.innermost.first_value ≤ length s.values.items
 values_within s h = omega (arith, h.values_within, s.values.ok.0)
 
@@ -112,19 +109,7 @@ IsChange-values s vs h v = record {
   keys = keeps_same s.innermost.first_key s.keys.items s.keys.items (keys_within s h) refl;
   values = v;
   strict = refl;
-  knows =
-      known_here s.known (Knows (containers_of s).innermost.keys)
-      (λ _. AllKnown (containers_of s).around (reverse s.known_around.items)) h.known;
-}
-
-pub IsChange-same : (s : Inside) (ks : Vec (List ℕ) Global) (vs : Vec JsonValue Global) (known : Option KnownKeys)
-    → IsLaidOut s → ks.items ≡ s.keys.items → vs.items ≡ s.values.items → is_some known ≡ is_some s.known
-    → IfSome known (Knows (drop s.innermost.first_key s.keys.items)) → IsChange s ks vs known
-IsChange-same s ks vs known h k v strict table = record {
-  keys = keeps_same s.innermost.first_key s.keys.items ks.items (keys_within s h) k;
-  values = keeps_same s.innermost.first_value s.values.items vs.items (values_within s h) v;
-  strict = strict;
-  knows = subst (λ ls. IfSome known (Knows (drop s.innermost.first_key ls))) (sym k) table;
+  knows = IfSome_then s.known h.known (λ l k. k.0);
 }
 
 pub IsLaidOut-values : (s : Inside) (vs : Vec JsonValue Global) → IsLaidOut s
@@ -184,10 +169,6 @@ known_with (f ∷ fs) ks vs ws [] h = h
 known_with (f ∷ fs) ks vs ws (l ∷ ls) h =
     (h.0, known_with fs (take f.first_key ks) (take f.first_value vs) (take f.first_value ws) ls h.1)
 
-if_known : (P Q : KnownKeys → Type 0) (a : Option KnownKeys) → ((l : KnownKeys) → P l → Q l) → IfSome a P → IfSome a Q
-if_known P Q None step h = tt
-if_known P Q (Some l) step h = step l h
-
 pub IsLaidOut-as_many : (s : Inside) (vs : Vec JsonValue Global) → IsLaidOut s → vec_len vs ≡ vec_len s.values
     → IsLaidOut (record s { values = vs })
 IsLaidOut-as_many s vs h e =
@@ -202,47 +183,14 @@ IsLaidOut-as_many s vs h e =
       nested = h.nested;
       await = await_with fs ks (take n s.values.items) (take n vs.items) same h.await;
       known =
-          if_known _ _ s.known (λ l h. (
-            h.0,
-            known_with fs ks (take n s.values.items) (take n vs.items)
-                (reverse s.known_around.items) h.1,
-          )) h.known;
+          IfSome_then s.known h.known (λ l k.
+          (k.0, known_with fs ks (take n s.values.items) (take n vs.items) (reverse s.known_around.items) k.1));
     }
 
 -- ---- the innermost container ends
 
 nothing_after : {X : Type 0} (n : ℕ) (xs ys : List X) → ys ≡ take n xs → drop n ys ≡ []
 nothing_after n xs ys cut = drop_all n ys (omega (arith, ap length cut, length-take n xs))
-
-pub view-ended : (s : Inside) (ks : Vec (List ℕ) Global) (vs : Vec JsonValue Global) (known : Option KnownKeys)
-    → IsChange s ks vs known → ks.items ≡ take s.innermost.first_key s.keys.items
-    → vs.items ≡ take s.innermost.first_value s.values.items
-    → containers_of (changed s ks vs known) ≡ innermost_ended (containers_of s)
-view-ended s ks vs known c k v = view-changed s ks vs known c ∙ (λ i. record {
-  strict = is_some s.known;
-  innermost = record {
-    kind = s.innermost.kind;
-    keys = nothing_after s.innermost.first_key s.keys.items ks.items k i;
-    values = nothing_after s.innermost.first_value s.values.items vs.items v i;
-  };
-  around = (containers_of s).around;
-})
-
--- ---- a key is pushed
-
-pub IsChange-key : (s : Inside) (ks : Vec (List ℕ) Global) (known : Option KnownKeys) (k : List ℕ) → IsLaidOut s
-    → ks.items ≡ s.keys.items ++ k ∷ [] → is_some known ≡ is_some s.known
-    → IfSome known (Knows (drop s.innermost.first_key s.keys.items ++ k ∷ [])) → IsChange s ks s.values known
-IsChange-key s ks known k h e strict table =
-    let n = s.innermost.first_key in
-    record {
-      keys = keeps_pushed n s.keys.items ks.items k (keys_within s h) e;
-      values = keeps_same s.innermost.first_value s.values.items s.values.items (values_within s h) refl;
-      strict = strict;
-      knows =
-          subst (λ ls. IfSome known (Knows ls))
-          (sym (ap (drop n) e ∙ drop-append-le n s.keys.items (k ∷ []) (keys_within s h))) table;
-    }
 
 -- ---- a container is opened in the innermost one
 
@@ -261,12 +209,10 @@ pub record IsOpened (s t : Inside) : Type 0 where
   pub known_around : IfSome s.known (λ l. t.known_around.items ≡ s.known_around.items ++ l ∷ [])
 
 opened_keys : (s t : Inside) → IsOpened s t → take t.innermost.first_key t.keys.items ≡ s.keys.items
-opened_keys s t o = ap (λ ks. take t.innermost.first_key ks.items) o.keys
-    ∙ take_all t.innermost.first_key s.keys.items (omega (arith, o.first_key, s.keys.ok.0))
+opened_keys s t o = rw (o.keys) (take_all _ s.keys.items (omega (arith, o.first_key, s.keys.ok.0)))
 
 opened_values : (s t : Inside) → IsOpened s t → take t.innermost.first_value t.values.items ≡ s.values.items
-opened_values s t o = ap (λ vs. take t.innermost.first_value vs.items) o.values
-    ∙ take_all t.innermost.first_value s.values.items (omega (arith, o.first_value, s.values.ok.0))
+opened_values s t o = rw (o.values) (take_all _ s.values.items (omega (arith, o.first_value, s.values.ok.0)))
 
 around-opened : (s t : Inside) → IsOpened s t
     → (containers_of t).around ≡ (containers_of s).innermost ∷ (containers_of s).around
@@ -285,12 +231,8 @@ opened_known cs ds c ks ls ms (Some k) (Some l) e strict around h none = (
       (subst (AllKnown (c ∷ cs)) (sym (reverse_snoc ls ms k around)) h),
 )
 
-nothing_opened : {X : Type 0} (n : ℕ) (xs ys : List X) → ys ≡ xs → length xs ≤ n → drop n ys ≡ []
-nothing_opened n xs ys e le = drop_all n ys (omega (arith, le, ap length e))
-
 no_keys : (s t : Inside) → IsOpened s t → drop t.innermost.first_key t.keys.items ≡ []
-no_keys s t o = nothing_opened t.innermost.first_key s.keys.items t.keys.items (ap (λ ks. ks.items) o.keys)
-    (omega (arith, o.first_key, s.keys.ok.0))
+no_keys s t o = rw (o.keys) (drop_all _ s.keys.items (omega (arith, o.first_key, s.keys.ok.0)))
 
 pub IsLaidOut-opened : (s t : Inside) → IsLaidOut s → IsOpened s t
     → AwaitsValue s.innermost.kind (containers_of s).innermost → IsLaidOut t
@@ -400,10 +342,19 @@ pub view-array_ended : (s : Inside) (vs : Vec JsonValue Global) (o : OpenContain
     → containers_of s ≡ o → o.innermost.keys ≡ [] → vs.items ≡ take s.innermost.first_value s.values.items
     → containers_of (record s { values = vs }) ≡ innermost_ended o
 view-array_ended s vs o h seen none cut =
-    view-ended s s.keys vs s.known
-    (IsChange-values s vs h (keeps_cut s.innermost.first_value s.values.items vs.items (values_within s h) cut))
-    (sym (all_taken s.innermost.first_key s.keys.items (ap (λ (p : OpenContainers). p.innermost.keys) seen ∙ none)))
-    cut ∙ ap innermost_ended seen
+    let n = s.innermost.first_value in
+    view-changed s s.keys vs s.known
+    (IsChange-values s vs h (keeps_cut n s.values.items vs.items (values_within s h) cut))
+    ∙ (λ i. record {
+      strict = is_some s.known;
+      innermost = record {
+        kind = s.innermost.kind;
+        keys = (ap (λ (p : OpenContainers). p.innermost.keys) seen ∙ none) i;
+        values = nothing_after n s.values.items vs.items cut i;
+      };
+      around = (containers_of s).around;
+    })
+    ∙ ap innermost_ended seen
 
 pub IsLaidOut-values_cut : (s : Inside) (ks : Vec (List ℕ) Global) (vs : Vec JsonValue Global) → IsLaidOut s
     → ks.items ≡ s.keys.items → vs.items ≡ take s.innermost.first_value s.values.items
@@ -412,10 +363,7 @@ IsLaidOut-values_cut s ks vs h same cut = IsLaidOut-changed s ks vs s.known h (r
   keys = keeps_same s.innermost.first_key s.keys.items ks.items (keys_within s h) same;
   values = keeps_cut s.innermost.first_value s.values.items vs.items (values_within s h) cut;
   strict = refl;
-  knows =
-      subst (λ ls. IfSome s.known (Knows (drop s.innermost.first_key ls))) (sym same)
-      (known_here s.known (Knows (containers_of s).innermost.keys)
-      (λ _. AllKnown (containers_of s).around (reverse s.known_around.items)) h.known);
+  knows = rw same (IfSome_then s.known h.known (λ l k. k.0));
 })
 
 -- ---- the containers around are back, and the value of the one that ended is added
@@ -451,50 +399,20 @@ IsBack-from o s j fs f l ls laid seen ended around pops is = record {
 pub IsLaidOut-back : (s j : Inside) (vs : Vec JsonValue Global) → IsBack s j → vs.items ≡ j.values.items
     → IsLaidOut (record j { values = vs })
 IsLaidOut-back s j vs b e =
-    subst (λ t. IsLaidOut (record t { values = vs })) (sym b.is)
-    (IsLaidOut-same (popped s b.fs b.f b.l b.ls) vs (IsLaidOut-popped s b.fs b.f b.l b.ls b.ended)
-    (e ∙ ap (λ t. t.values.items) b.is))
+    rw (b.is) (IsLaidOut-same _ vs (IsLaidOut-popped s b.fs b.f b.l b.ls b.ended) (rw (b.is) at e))
 
 pub IsLaidOut-back_pushed : (s j : Inside) (vs : Vec JsonValue Global) (v : JsonValue) → IsBack s j
     → vs.items ≡ j.values.items ++ v ∷ [] → IsLaidOut (record j { values = vs })
 IsLaidOut-back_pushed s j vs v b e =
-    subst (λ t. IsLaidOut (record t { values = vs })) (sym b.is)
-    (IsLaidOut-pushed (popped s b.fs b.f b.l b.ls) vs v (IsLaidOut-popped s b.fs b.f b.l b.ls b.ended)
-    (e ∙ ap (λ t. t.values.items ++ v ∷ []) b.is))
+    rw (b.is) (IsLaidOut-pushed _ vs v (IsLaidOut-popped s b.fs b.f b.l b.ls b.ended) (rw (b.is) at e))
 
 pub IsAdded-back : (o : OpenContainers) (s j : Inside) (vs : Vec JsonValue Global) (v : JsonValue)
     → containers_of s ≡ o → IsBack s j → vs.items ≡ j.values.items ++ v ∷ []
     → IsAdded o v (containers_of (record j { values = vs }))
 IsAdded-back o s j vs v seen b e =
-    subst (λ p. IsAdded p v (containers_of (record j { values = vs }))) seen
-    (subst (λ t. IsAdded (containers_of s) v (containers_of (record t { values = vs }))) (sym b.is)
-    (IsAdded-popped s b.fs b.f b.l b.ls b.ended vs v (e ∙ ap (λ t. t.values.items ++ v ∷ []) b.is)))
+    rw (← seen, b.is) (IsAdded-popped s b.fs b.f b.l b.ls b.ended vs v (rw (b.is) at e))
 
 -- ---- a key is found among the entries so far if it is among the keys
-
-some_if : (b : Bool) (i : ℕ) → is_some (cond b (Some i) None) ≡ b
-some_if true i = refl
-some_if false i = refl
-
-some_left : (n : ℕ) → nat_lt 0 (suc n) ≡ true
-some_left n = grind (arith, nat_tests)
-
-one_more : (m n : ℕ) → nat_lt (1 + m) (suc n) ≡ nat_lt m n
-one_more m n = grind (arith, nat_tests)
-
-module _ (p : List ℕ → Bool) where
-  first_at : (b : Bool) (k : List ℕ) (ks : List (List ℕ)) → p k ≡ b
-      → nat_lt (position_or_len p ks) (length ks) ≡ list_any p ks
-      → nat_lt (position_or_len p (k ∷ ks)) (length (k ∷ ks)) ≡ list_any p (k ∷ ks)
-  first_at true k ks e h = rw e (some_left (length ks))
-  first_at false k ks e h = rw e (one_more (position_or_len p ks) (length ks) ∙ h)
-
-  first_within : (ks : List (List ℕ)) → nat_lt (position_or_len p ks) (length ks) ≡ list_any p ks
-  first_within [] = refl
-  first_within (k ∷ ks) = first_at (p k) k ks refl (first_within ks)
-
-  is_some-position : (ks : List (List ℕ)) → is_some (position p ks) ≡ list_any p ks
-  is_some-position ks = some_if (nat_lt (position_or_len p ks) (length ks)) (position_or_len p ks) ∙ first_within ks
 
 is_some-map : (o : Option JsonValue) → is_some (option_map view o) ≡ is_some o
 is_some-map None = refl
@@ -505,7 +423,7 @@ pub has_key : (o : OpenContainers) (name : List ℕ) → length o.innermost.keys
 has_key o name even =
     let ks = o.innermost.keys in
     let vs = o.innermost.values in
-    is_some-position (λ k. bytes_eq k name) ks
+    sym (list_any-position (λ k. bytes_eq k name) ks)
     ∙ known-put_each name ks ks vs (put_each (zip ks vs)) refl (sym even) refl
     ∙ sym (is_some-map (find name (put_each (zip ks vs))))
     ∙ ap is_some (find-viewed name (put_each (zip ks vs)))

@@ -4,8 +4,7 @@ use Rattle.jzon_base.proofs.Common.{Some, None, List, [], ◌∷◌, ◌++◌, l
 use Rattle.jzon_base.proofs.Common.{refl, sym, ap, ◌∙◌, arith, decimal, codes, FitsSigned, get_or, length-append}
 use Rattle.jzon_base.proofs.Common.{append_assoc, append-nil, inl, inr, w16, fold, ints, cases_eq, fold-append}
 use Rattle.jzon_base.proofs.Common.{length-replicate}
-use Rattle.std.proofs.Common.{length-take}
-use Rattle.std.proofs.Common.{length-drop}
+use Rattle.std.proofs.Common.{length-take, length-drop}
 use Rattle.std.proofs.lemmas.List.{take-append-drop}
 use Rattle.jzon_base.specs.Digits.{add_digit, digits_number}
 use Rattle.jzon_base.specs.Decimal.{parts}

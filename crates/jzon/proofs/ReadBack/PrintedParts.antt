@@ -6,8 +6,7 @@ use Rattle.jzon_base.proofs.Common.{append_assoc, decimal, zero, not-not, w16, i
 use Rattle.jzon_base.proofs.Common.{ints, clamps, length-decimal-le, nat_tests, take_all, All-append, All-take}
 use Rattle.jzon_base.proofs.Common.{All-drop, recursion_from_All}
 use Rattle.std.proofs.lemmas.Str.Parse.{IsNumeralModel, numerals_by_fold}
-use Rattle.std.proofs.lemmas.Fmt.{decimal_nonempty, digits_decimal, first_decimal}
-use Rattle.std.proofs.lemmas.Fmt.{digits_value-decimal}
+use Rattle.std.proofs.lemmas.Fmt.{decimal_nonempty, digits_decimal, first_decimal, digits_value-decimal}
 use Rattle.std.proofs.lemmas.List.Elements.{All-from_recursion}
 use Rattle.jzon_base.specs.Digits.{IsDigit, add_digit, digits_number, kept_len, kept, dropped, kept_fraction}
 use Rattle.jzon_base.specs.Digits.{read_exponent, clamp}

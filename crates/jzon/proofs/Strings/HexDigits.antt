@@ -1,10 +1,9 @@
 -- The four hexadecimal digits of an escape, by the bytes of a text.
-use Rattle.jzon_base.proofs.Common.{◌≡◌, ℕ, zero, suc, ◌+◌, ◌-◌, ◌*◌, ◌^◌, ◌<◌, ◌≤◌, true, false, cond, List, []}
-use Rattle.jzon_base.proofs.Common.{◌∷◌, length, take, drop, get_or, refl, sym, ap, subst, ◌∙◌, arith, None, ◌&&◌}
-use Rattle.jzon_base.proofs.Common.{chars, IsUtf8}
-use Rattle.jzon_base.proofs.Common.{slice_range, fold, is_ascii_hexdigit, digit_value, IsCharBoundary, pow-le-pow_right}
-use Rattle.jzon_base.proofs.Common.{false_from_ne_true, nat_tests, get_or-drop, take_more, fold-append}
-use Rattle.jzon_base.proofs.Common.{IsCharBoundary-after_ascii, add-zero}
+use Rattle.jzon_base.proofs.Common.{◌≡◌, ℕ, zero, suc, ◌+◌, ◌-◌, ◌*◌, ◌^◌, ◌<◌, ◌≤◌, true, false, cond, List, [], ◌∷◌}
+use Rattle.jzon_base.proofs.Common.{length, take, drop, get_or, refl, sym, ap, subst, ◌∙◌, arith, None, ◌&&◌, chars}
+use Rattle.jzon_base.proofs.Common.{IsUtf8, slice_range, fold, is_ascii_hexdigit, digit_value, IsCharBoundary}
+use Rattle.jzon_base.proofs.Common.{pow-le-pow_right, false_from_ne_true, nat_tests, get_or-drop, take_more}
+use Rattle.jzon_base.proofs.Common.{fold-append, IsCharBoundary-after_ascii, add-zero}
 use Rattle.std.proofs.Common.{length-drop}
 use Rattle.std.proofs.lemmas.Grind.{pow_more}
 use Rattle.jzon.specs.Reading.{Reading}
