@@ -82,19 +82,6 @@ IsLaidOut-changed s ks vs known h c = record {
       (around-changed s ks vs known c.keys c.values) c.strict h.known c.knows;
 }
 
--- a clause sees the change of the innermost container alone
-pub view-changed : (s : Inside) (ks : Vec (List ℕ) Global) (vs : Vec JsonValue Global) (known : Option KnownKeys)
-    → IsChange s ks vs known → containers_of (changed s ks vs known) ≡ (record {
-      strict = is_some s.known;
-      innermost = container_of s.innermost ks.items vs.items;
-      around = (containers_of s).around;
-    })
-view-changed s ks vs known c = λ i. record {
-  strict = c.strict i;
-  innermost = container_of s.innermost ks.items vs.items;
-  around = around-changed s ks vs known c.keys c.values i;
-}
-
 -- ---- only its values change
 
 values_within : (s : Inside) → IsLaidOut s → s.innermost.first_value ≤ length s.values.items
@@ -133,17 +120,11 @@ pub view-pushed : (s : Inside) (vs : Vec JsonValue Global) (v : JsonValue) → I
     → containers_of (record s { values = vs }) ≡ value_added (containers_of s) v
 view-pushed s vs v h e =
     let n = s.innermost.first_value in
-    view-changed s s.keys vs s.known
-    (IsChange-values s vs h (keeps_pushed n s.values.items vs.items v (values_within s h) e))
-    ∙ (λ i. record {
-      strict = is_some s.known;
-      innermost = record {
-        kind = s.innermost.kind;
-        keys = drop s.innermost.first_key s.keys.items;
-        values = (ap (drop n) e ∙ drop-append-le n s.values.items (v ∷ []) (values_within s h)) i;
-      };
-      around = (containers_of s).around;
-    })
+    rw (
+      e,
+      drop-append-le n s.values.items (v ∷ []) (values_within s h),
+      take-append-le n s.values.items (v ∷ []) (values_within s h),
+    ) refl
 
 -- if the values aren't kept, but their number is
 
@@ -187,11 +168,6 @@ IsLaidOut-as_many s vs h e =
           (k.0, known_with fs ks (take n s.values.items) (take n vs.items) (reverse s.known_around.items) k.1));
     }
 
--- ---- the innermost container ends
-
-nothing_after : {X : Type 0} (n : ℕ) (xs ys : List X) → ys ≡ take n xs → drop n ys ≡ []
-nothing_after n xs ys cut = drop_all n ys (omega (arith, ap length cut, length-take n xs))
-
 -- ---- a container is opened in the innermost one
 
 reverse_snoc : {X : Type 0} (xs ys : List X) (x : X) → ys ≡ xs ++ x ∷ [] → reverse ys ≡ x ∷ reverse xs
@@ -225,11 +201,8 @@ opened_known : (cs ds : List Container) (c : Container) (ks : List (List ℕ)) (
     → IfSome b (λ l. Knows ks l × AllKnown ds (reverse ms))
 opened_known cs ds c ks ls ms a None e strict around h none = tt
 opened_known cs ds c ks ls ms None (Some l) e strict around h none = absurd (false≢true (sym strict))
-opened_known cs ds c ks ls ms (Some k) (Some l) e strict around h none = (
-  none,
-  subst (λ es. AllKnown es (reverse ms)) (sym e)
-      (subst (AllKnown (c ∷ cs)) (sym (reverse_snoc ls ms k around)) h),
-)
+opened_known cs ds c ks ls ms (Some k) (Some l) e strict around h none =
+    (none, rw (e, reverse_snoc ls ms k around) h)
 
 no_keys : (s t : Inside) → IsOpened s t → drop t.innermost.first_key t.keys.items ≡ []
 no_keys s t o = rw (o.keys) (drop_all _ s.keys.items (omega (arith, o.first_key, s.keys.ok.0)))
@@ -240,14 +213,13 @@ IsLaidOut-opened s t h o awaits = record {
   keys_within = omega (arith, o.first_key, ap (λ ks. vec_len ks) o.keys);
   values_within = omega (arith, o.first_value, ap (λ vs. vec_len vs) o.values);
   nested =
-      subst (λ fs. AreNested fs t.innermost.first_key t.innermost.first_value)
-      (sym (reverse_snoc s.around.items t.around.items s.innermost o.around))
+      rw (reverse_snoc s.around.items t.around.items s.innermost o.around)
       (omega (arith, o.first_key, h.keys_within), omega (arith, o.first_value, h.values_within), h.nested);
   await = subst AllAwaitValue (sym (around-opened s t o)) (awaits, h.await);
   known =
       opened_known (containers_of s).around _ (containers_of s).innermost _ s.known_around.items t.known_around.items
       s.known t.known (around-opened s t o) o.strict o.known_around h.known
-      (subst (λ ks. IfSome t.known (Knows ks)) (sym (no_keys s t o)) o.known);
+      (rw (no_keys s t o) (o.known));
 }
 
 -- ---- back to the container around one that ended
@@ -264,10 +236,7 @@ pub record PopsKnown (a b : Option KnownKeys) (ls ms : List KnownKeys) : Type 0 
 popped_known : (P : KnownKeys → Type 0) (c : Container) (cs : List Container) (ls ms : List KnownKeys)
     (a b : Option KnownKeys) → PopsKnown a b ls ms → IfSome a (λ l. P l × AllKnown (c ∷ cs) (reverse ls))
     → (is_some b ≡ is_some a) × IfSome b (λ l. Knows c.keys l × AllKnown cs (reverse ms))
-popped_known P c cs ls ms None b p h = (
-  ap is_some (p.usual refl),
-  subst (λ o. IfSome o (λ l. Knows c.keys l × AllKnown cs (reverse ms))) (sym (p.usual refl)) tt,
-)
+popped_known P c cs ls ms None b p h = rw (p.usual refl) (refl, tt)
 popped_known P c cs ls ms (Some k) None p h =
     absurd (subst (λ l. AllKnown (c ∷ cs) (reverse l)) (p.strict refl) h.1)
 popped_known P c cs ls ms (Some k) (Some l) p h =
@@ -304,12 +273,10 @@ module _ (s : Inside) (fs : Vec Frame Global) (f : Frame) (known : Option KnownK
       × AllKnown (containers_of (popped s fs f known ls)).around (reverse ls.items))
   known-popped = popped_known (Knows (containers_of s).innermost.keys) (containers_of (popped s fs f known ls)).innermost
       (containers_of (popped s fs f known ls)).around s.known_around.items ls.items s.known known e.pops
-      (subst (λ cs. IfSome s.known (λ l. Knows (containers_of s).innermost.keys l
-      × AllKnown cs (reverse s.known_around.items))) around-popped e.laid.known)
+      (rw around-popped at e.laid.known)
 
   nested-popped : AreNested (f ∷ reverse fs.items) s.innermost.first_key s.innermost.first_value
-  nested-popped = subst (λ gs. AreNested gs s.innermost.first_key s.innermost.first_value)
-      (reverse_snoc fs.items s.around.items f e.around) e.laid.nested
+  nested-popped = rw (reverse_snoc fs.items s.around.items f e.around) at e.laid.nested
 
   pub IsLaidOut-popped : IsLaidOut (popped s fs f known ls)
   IsLaidOut-popped = record {
@@ -330,11 +297,7 @@ module _ (s : Inside) (fs : Vec Frame Global) (f : Frame) (known : Option KnownK
         rest = (containers_of t).around;
         around = around-popped;
         awaits = (subst AllAwaitValue around-popped e.laid.await).0;
-        closed = view-pushed t vs v IsLaidOut-popped pushed ∙ (λ i. record {
-          strict = known-popped.0 i;
-          innermost = with_value (containers_of t).innermost v;
-          around = (containers_of t).around;
-        });
+        closed = view-pushed t vs v IsLaidOut-popped pushed ∙ rw known-popped.0 refl;
       }
 
 -- an array ends: it has no keys
@@ -343,18 +306,10 @@ pub view-array_ended : (s : Inside) (vs : Vec JsonValue Global) (o : OpenContain
     → containers_of (record s { values = vs }) ≡ innermost_ended o
 view-array_ended s vs o h seen none cut =
     let n = s.innermost.first_value in
-    view-changed s s.keys vs s.known
-    (IsChange-values s vs h (keeps_cut n s.values.items vs.items (values_within s h) cut))
-    ∙ (λ i. record {
-      strict = is_some s.known;
-      innermost = record {
-        kind = s.innermost.kind;
-        keys = (ap (λ (p : OpenContainers). p.innermost.keys) seen ∙ none) i;
-        values = nothing_after n s.values.items vs.items cut i;
-      };
-      around = (containers_of s).around;
-    })
-    ∙ ap innermost_ended seen
+    let no_keys : drop s.innermost.first_key s.keys.items ≡ [] = ap (λ (p : OpenContainers). p.innermost.keys) seen ∙ none
+    in
+    let no_values = drop_all n (take n s.values.items) (omega (arith, length-take n s.values.items)) in
+    rw (cut, no_values, take-take n n s.values.items (omega arith), no_keys) (ap innermost_ended seen)
 
 pub IsLaidOut-values_cut : (s : Inside) (ks : Vec (List ℕ) Global) (vs : Vec JsonValue Global) → IsLaidOut s
     → ks.items ≡ s.keys.items → vs.items ≡ take s.innermost.first_value s.values.items
