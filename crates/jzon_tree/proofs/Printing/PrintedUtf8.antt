@@ -46,49 +46,30 @@ IsAscii-after prefix bs e h = IsAscii-append prefix bs (IsAscii-true prefix e) h
 -- ---- numbers
 module _ (ds : List ℕ) (h : IsAscii ds) where
   ascii-point : (k : ℕ) → IsAscii (point_after k ds)
-  ascii-point k =
-      IsAscii-append (take k ds ++ codes ".") (drop k ds)
-      (IsAscii-append (take k ds) (codes ".") (IsAscii-take ds k h) (IsAscii-true (codes ".") refl))
-      (IsAscii-drop ds k h)
+  ascii-point k = search (IsAscii-append, IsAscii-take, IsAscii-drop, IsAscii-true)
 
   ascii-point_first : IsAscii (point_after_first ds)
-  ascii-point_first = IsAscii-if (nat_lt 1 (length ds)) _ _ (ascii-point 1) h
+  ascii-point_first = search (IsAscii-if, ascii-point)
 
   ascii-fraction : (k : ℕ) → IsAscii (fraction_text ds k)
-  ascii-fraction k =
-      IsAscii-if (nat_lt k (length ds)) _ _ (ascii-point (length ds - k))
-      (IsAscii-append (codes "0." ++ replicate (k - length ds) 48) ds
-      (IsAscii-after (codes "0.") (replicate (k - length ds) 48) refl
-      (IsAscii-replicate (k - length ds) 48 (omega arith))) h)
+  ascii-fraction k = search (arith, IsAscii-if, ascii-point, IsAscii-append, IsAscii-replicate, IsAscii-true)
 
   ascii-exponent : (d k : ℕ) → k ≤ 2 ^ 16 → IsAscii (small_exponent_text d k)
-  ascii-exponent d k f =
-      IsAscii-if (d == k + 1) _ _ IsAscii-nil
-      (IsAscii-if (d == k + 2) _ _ (IsAscii-true (codes "e+1") refl)
-      (IsAscii-after (codes "e-") (decimal (k + 1 - d)) refl (IsAscii-decimal (k + 1 - d) (omega (arith, f)))))
+  ascii-exponent d k f = search (arith, IsAscii-if, IsAscii-append, IsAscii-true, IsAscii-decimal)
 
   ascii-magnitude : (e : ℤ) → length ds ≤ 20 → FitsSigned w16 e → IsAscii (magnitude_text ds e)
   ascii-magnitude (pos k) n f =
-      let few : k < 2 ^ 15 = search (rules, f) in
-      IsAscii-if (k == 0) _ _ h
-      (IsAscii-if (nat_le (length ds + k) 20) _ _ (IsAscii-append ds (replicate k 48) h
-      (IsAscii-replicate k 48 (omega arith)))
-      (IsAscii-append (point_after_first ds ++ codes "e") (decimal (k + length ds - 1))
-      (IsAscii-append (point_after_first ds) (codes "e") ascii-point_first (IsAscii-true (codes "e") refl))
-      (IsAscii-decimal (k + length ds - 1) (omega (arith, few, n)))))
+      let few : k < 2 ^ 15 = search (rules, f) in search (arith, IsAscii-if, IsAscii-append, IsAscii-replicate,
+      ascii-point_first, IsAscii-true, IsAscii-decimal)
   ascii-magnitude (negsuc k) n f =
       let few : k < 2 ^ 15 = search (rules, f) in
-      IsAscii-if (nat_le (k + 1) 17) _ _ (ascii-fraction (k + 1))
-      (IsAscii-append (point_after_first ds) (small_exponent_text (length ds) (k + 1)) ascii-point_first
-      (ascii-exponent (length ds) (k + 1) (omega (arith, few))))
+      search (arith, IsAscii-if, ascii-fraction, IsAscii-append, ascii-point_first, ascii-exponent)
 
 pub IsAscii-written : (n : Decimal) → InRange n → IsAscii (written_text n)
 IsAscii-written nan h = IsAscii-true (codes "null") refl
 IsAscii-written (parts positive m e) h =
-    IsAscii-append (sign_text positive) (if m == 0 then codes "0" else magnitude_text (decimal m) e)
-    (IsAscii-if positive _ _ IsAscii-nil (IsAscii-true (codes "-") refl))
-    (IsAscii-if (m == 0) _ _ (IsAscii-true (codes "0") refl) (ascii-magnitude (decimal m) (IsAscii-decimal m h.0) e
-    (length-decimal-le 20 m (omega arith) (omega (arith, h.0)) h.0) h.1))
+    let small : length (decimal m) ≤ 20 = length-decimal-le 20 m (omega arith) (omega (arith, h.0)) h.0 in
+    search (IsAscii-append, IsAscii-if, IsAscii-true, ascii-magnitude, IsAscii-decimal)
 
 -- ---- strings
 abbrev pub all_below : (ℕ → Bool) → ℕ → Bool
@@ -191,15 +172,15 @@ utf8_in_order ts h (p ∷ ps) = (utf8_at ts h p, utf8_in_order ts h ps)
 
 utf8_joined : (s : Style) (d : ℕ) (ts : List (List ℕ)) (b : List ℕ) → AreUtf8 ts → Joins s d ts b → IsUtf8 b
 utf8_joined s d [] b h j = absurd j
-utf8_joined s d (t ∷ []) b h (w, a, e) = subst IsUtf8 (sym e) (IsUtf8-append _ _ (whitespace_utf8 w a.0) h.0)
+utf8_joined s d (t ∷ []) b h (w, a, e) = rw e (IsUtf8-append _ _ (whitespace_utf8 w a.0) h.0)
 utf8_joined s d (t ∷ u ∷ ts) b h (w, more, a, j, e) =
-    subst IsUtf8 (sym e) (IsUtf8-append _ _ (whitespace_utf8 w a.0) (IsUtf8-append _ _ h.0
+    rw e (IsUtf8-append _ _ (whitespace_utf8 w a.0) (IsUtf8-append _ _ h.0
     (IsUtf8-append (44 ∷ []) _ (ascii_utf8 (44 ∷ []) refl) (utf8_joined s d (u ∷ ts) more h.1 j))))
 
 utf8_enclosed : (s : Style) (d opening closing : ℕ) (ts : List (List ℕ)) (b : List ℕ) → opening < 128 → closing < 128
     → AreUtf8 ts → Encloses s d opening ts closing b → IsUtf8 b
 utf8_enclosed s d opening closing ts b o c h (inside, w, j, a, e) =
-    subst IsUtf8 (sym e) (IsUtf8-append (opening ∷ []) _ (IsUtf8-from_ascii _ (IsAscii-one opening o))
+    rw e (IsUtf8-append (opening ∷ []) _ (IsUtf8-from_ascii _ (IsAscii-one opening o))
     (IsUtf8-append _ _ (utf8_joined s (suc d) ts inside h j) (IsUtf8-append _ _ (whitespace_utf8 w a.0)
     (IsUtf8-from_ascii _ (IsAscii-one closing c)))))
 
@@ -225,9 +206,7 @@ mutual
 
   utf8_pairs : (s : Style) (d : ℕ) (ps : ValuePairs) (ts : List (List ℕ)) → ArePairs ps → WritesPairs s d ps ts → AreUtf8 ts
   utf8_pairs s d no_pairs [] h e = tt
-  utf8_pairs s d (pair k v ps) (t ∷ ts) h ((wide, x, c, w, e), rest) = (
-    subst IsUtf8 (sym e) (IsUtf8-append _ _ (IsUtf8-quoted k h.0)
-        (IsUtf8-append _ _ (colon_utf8 wide) (IsUtf8-writing s d v x h.1 w))),
-    utf8_pairs s d ps ts h.2 rest,
-  )
+  utf8_pairs s d (pair k v ps) (t ∷ ts) h ((wide, x, c, w, e), rest) =
+      let utf8 = IsUtf8-writing s d v x h.1 w in
+      (rw e (search (IsUtf8-append, IsUtf8-quoted, colon_utf8, h.0)), utf8_pairs s d ps ts h.2 rest)
   utf8_pairs s d _ _ h e = absurd e
