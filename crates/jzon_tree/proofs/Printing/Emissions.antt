@@ -1,6 +1,6 @@
 -- The effect of several hooks, one after the other.
 use Rattle.jzon_base.proofs.Common.{◌≡◌, ℕ, suc, ◌+◌, ◌-◌, List, [], ◌∷◌, ◌++◌, refl, sym, ap, subst, ◌∙◌, append_assoc}
-use Rattle.jzon_base.proofs.Common.{append-nil, add-one, Result, Ok, Err, arith, Option, MatchResult, IsErr}
+use Rattle.jzon_base.proofs.Common.{append-nil, add-one, ⊤, Result, Ok, Err, arith, Option, MatchResult, IsErr}
 use Rattle.jzon_tree.proofs.Printing.Appends.{adds_same, adds_then, adds_weaker, Sends-laid}
 use Rattle.jzon_tree.specs.Generator.{Adds, Begins, Just, Sends, Emitted, Added, Failed, Stopped, Emits, Counts, noted}
 use Rattle.jzon_tree.specs.Private.Printing.{IsClosing, PrintsIf}
@@ -8,52 +8,6 @@ use Rattle.jzon_tree.specs.Writing.{Style}
 
 pub Added-nothing : (P : List ℕ → Type 0) (e : Emitted) → P [] → Added P e e
 Added-nothing P e p = record { bytes = adds_same P e.out p; dent = refl; faults = refl; style = refl; lender = refl }
-
-at_style : (Q : Style → ℕ → List ℕ → Type 0) {s t : Style} {m n : ℕ} → s ≡ t → m ≡ n → (x : List ℕ) → Q s m x → Q t n x
-at_style Q {s} {t} {m} {n} es en x q = subst (λ k. Q t k x) en (subst (λ k. Q k m x) es q)
-
--- two calls in sequence; the second writes by the style and the indents that the first leaves
-module _ (P : List ℕ → Type 0) (Q : Style → ℕ → List ℕ → Type 0) (R : List ℕ → Type 0) (a b c : Emitted)
-    (join : (x y : List ℕ) → P x → Q a.style a.dent y → R (x ++ y)) (h : Added P a b) where
-  join_begins : (x y : List ℕ) → P x → Begins (Q b.style b.dent) y → Begins R (x ++ y)
-  join_begins x y p (z, q) = (z, rw append_assoc (join x (y ++ z) p (at_style Q h.style h.dent (y ++ z) q)))
-
-  pub Added-after : Added (Q b.style b.dent) b c → Added R a c
-  Added-after k = record {
-    bytes = adds_then P (Q b.style b.dent) R a.out b.out c.out (λ x y p q. join x y p (at_style Q h.style h.dent y q))
-        h.bytes k.bytes;
-    dent = k.dent ∙ h.dent;
-    faults = k.faults ∙ h.faults;
-    style = k.style ∙ h.style;
-    lender = k.lender ∙ h.lender;
-  }
-
-  pub Failed-after : Failed (Q b.style b.dent) b c → Failed R a c
-  Failed-after k = record {
-    bytes = adds_then P (Begins (Q b.style b.dent)) (Begins R) a.out b.out c.out join_begins h.bytes k.bytes;
-    dent = k.dent ∙ h.dent;
-    faults = k.faults ∙ ap noted h.faults;
-    style = k.style ∙ h.style;
-    lender = k.lender ∙ h.lender;
-  }
-
-  pub Stopped-after : Stopped (Q b.style b.dent) b c → Stopped R a c
-  Stopped-after k = record {
-    bytes = adds_then P (Begins (Q b.style b.dent)) (Begins R) a.out b.out c.out join_begins h.bytes k.bytes;
-    dent = rw (sym h.dent) k.dent;
-    faults = k.faults ∙ ap noted h.faults;
-    style = k.style ∙ h.style;
-    lender = k.lender ∙ h.lender;
-  }
-
-  pub Emits-after : {E : Type 0} (r : Result (Unit {0}) E) → Emits (Q b.style b.dent) b c r → Emits R a c r
-  Emits-after (Ok u) k = Added-after k
-  Emits-after (Err e) k = Failed-after k
-
-  pub PrintsIf-after : {E : Type 0} (K : Type 0) (r : Result (Unit {0}) E) → PrintsIf K (Q b.style b.dent) b c r
-      → PrintsIf K R a c r
-  PrintsIf-after K (Ok u) k = Added-after k
-  PrintsIf-after K (Err e) k = λ keyed. Stopped-after (k keyed)
 
 -- two calls in sequence, with known bytes for both together
 module _ (P R : List ℕ → Type 0) (a b c : Emitted) (h : Added P a b) where
@@ -75,25 +29,53 @@ module _ (P R : List ℕ → Type 0) (a b c : Emitted) (h : Added P a b) where
     lender = k.lender ∙ h.lender;
   }
 
+at_style : (Q : Style → ℕ → List ℕ → Type 0) {s t : Style} {m n : ℕ} → s ≡ t → m ≡ n → (x : List ℕ) → Q s m x → Q t n x
+at_style Q {s} {t} {m} {n} es en x q = subst (λ k. Q t k x) en (subst (λ k. Q k m x) es q)
+
+-- two calls in sequence; the second writes by the style and the indents that the first leaves
+module _ (P : List ℕ → Type 0) (Q : Style → ℕ → List ℕ → Type 0) (R : List ℕ → Type 0) (a b c : Emitted)
+    (join : (x y : List ℕ) → P x → Q a.style a.dent y → R (x ++ y)) (h : Added P a b) where
+  join_begins : (x y : List ℕ) → P x → Begins (Q b.style b.dent) y → Begins R (x ++ y)
+  join_begins x y p (z, q) = (z, rw append_assoc (join x (y ++ z) p (at_style Q h.style h.dent (y ++ z) q)))
+
+  pub Added-after : Added (Q b.style b.dent) b c → Added R a c
+  Added-after k =
+      Added-chain P R a b c h (Q b.style b.dent) k (adds_then P (Q b.style b.dent) R a.out b.out c.out
+      (λ x y p q. join x y p (at_style Q h.style h.dent y q)) h.bytes k.bytes)
+
+  pub Failed-after : Failed (Q b.style b.dent) b c → Failed R a c
+  Failed-after k = Failed-chain P R a b c h (Q b.style b.dent) k
+      (adds_then P (Begins (Q b.style b.dent)) (Begins R) a.out b.out c.out join_begins h.bytes k.bytes)
+
+  pub Stopped-after : Stopped (Q b.style b.dent) b c → Stopped R a c
+  Stopped-after k = record {
+    bytes = adds_then P (Begins (Q b.style b.dent)) (Begins R) a.out b.out c.out join_begins h.bytes k.bytes;
+    dent = rw (sym h.dent) k.dent;
+    faults = k.faults ∙ ap noted h.faults;
+    style = k.style ∙ h.style;
+    lender = k.lender ∙ h.lender;
+  }
+
+  pub Emits-after : {E : Type 0} (r : Result (Unit {0}) E) → Emits (Q b.style b.dent) b c r → Emits R a c r
+  Emits-after (Ok u) k = Added-after k
+  Emits-after (Err e) k = Failed-after k
+
+  pub PrintsIf-after : {E : Type 0} (K : Type 0) (r : Result (Unit {0}) E) → PrintsIf K (Q b.style b.dent) b c r
+      → PrintsIf K R a c r
+  PrintsIf-after K (Ok u) k = Added-after k
+  PrintsIf-after K (Err e) k = λ keyed. Stopped-after (k keyed)
+
 -- three calls in sequence
 module _ (P Q R S : List ℕ → Type 0) (a b c d : Emitted) (h : Added P a b) (j : Added Q b c) where
   pub Added-chained : Added S c d → Adds R a.out d.out → Added R a d
-  Added-chained k bytes = record {
-    bytes = bytes;
-    dent = k.dent ∙ j.dent ∙ h.dent;
-    faults = k.faults ∙ j.faults ∙ h.faults;
-    style = k.style ∙ j.style ∙ h.style;
-    lender = k.lender ∙ j.lender ∙ h.lender;
-  }
+  Added-chained k bytes =
+      let any = adds_then Q S (λ _. ⊤) b.out c.out d.out (λ x y p q. tt) j.bytes k.bytes in
+      Added-chain P R a b d h (λ _. ⊤) (Added-chain Q (λ _. ⊤) b c d j S k any) bytes
 
   pub Failed-chained : Failed S c d → Adds (Begins R) a.out d.out → Failed R a d
-  Failed-chained k bytes = record {
-    bytes = bytes;
-    dent = k.dent ∙ j.dent ∙ h.dent;
-    faults = k.faults ∙ ap noted (j.faults ∙ h.faults);
-    style = k.style ∙ j.style ∙ h.style;
-    lender = k.lender ∙ j.lender ∙ h.lender;
-  }
+  Failed-chained k bytes =
+      let any = adds_then Q (Begins S) (Begins (λ _. ⊤)) b.out c.out d.out (λ x y p q. ([], tt)) j.bytes k.bytes in
+      Failed-chain P R a b d h (λ _. ⊤) (Failed-chain Q (λ _. ⊤) b c d j S k any) bytes
 
 -- a fault, where more bytes would have followed
 module _ (P R : List ℕ → Type 0) (a b : Emitted) (more : (x : List ℕ) → P x → Begins R x) where
@@ -101,13 +83,8 @@ module _ (P R : List ℕ → Type 0) (a b : Emitted) (more : (x : List ℕ) → 
   more_begins x (y, p) = (y ++ (more (x ++ y) p).0, rw (sym (append_assoc x y (more (x ++ y) p).0)) (more (x ++ y) p).1)
 
   pub Failed-begins : Failed P a b → Failed R a b
-  Failed-begins h = record {
-    bytes = adds_weaker (Begins P) (Begins R) a.out b.out more_begins h.bytes;
-    dent = h.dent;
-    faults = h.faults;
-    style = h.style;
-    lender = h.lender;
-  }
+  Failed-begins h = Failed-chain (λ _. ⊤) R a a b (Added-nothing (λ _. ⊤) a tt) P h
+      (adds_weaker (Begins P) (Begins R) a.out b.out more_begins h.bytes)
 
   pub Stopped-begins : Stopped P a b → Stopped R a b
   Stopped-begins h = record {
@@ -134,13 +111,8 @@ PrintsIf-at_err K P a b (Err e) h k = k
 
 pub PrintsIf-just : {E : Type 0} (K : Type 0) (P : List ℕ → Type 0) (bs : List ℕ) (a b : Emitted)
     (r : Result (Unit {0}) E) → P bs → Emits (Just bs) a b r → PrintsIf K P a b r
-PrintsIf-just K P bs a b (Ok u) p h = record {
-  bytes = adds_weaker (Just bs) P a.out b.out (λ x e. rw e p) h.bytes;
-  dent = h.dent;
-  faults = h.faults;
-  style = h.style;
-  lender = h.lender;
-}
+PrintsIf-just K P bs a b (Ok u) p h = Added-chain (λ _. ⊤) P a a b (Added-nothing (λ _. ⊤) a tt) (Just bs) h
+    (adds_weaker (Just bs) P a.out b.out (λ x e. rw e p) h.bytes)
 PrintsIf-just K P bs a b (Err u) p h = λ keyed. Stopped-failed P a b
     (Failed-begins (Just bs) P a b (λ x e. ([], rw (append-nil x, e) p)) h)
 
@@ -235,25 +207,15 @@ module _ (opening closing : ℕ) (Q : Style → ℕ → List ℕ → Type 0) (R 
 -- ---- bytes that a style allows, sent to the writer of old
 pub Added-sent : (P : List ℕ → Type 0) (bs : List ℕ) (old : Emitted) (o : Option (List ℕ)) → P bs
     → Adds (Just bs) old.out o → Added P old (record old { out = o })
-Added-sent P bs old o p h = record {
-  bytes = adds_weaker (Just bs) P old.out o (λ x e. rw e p) h;
-  dent = refl;
-  faults =
-      refl;
-  style = refl;
-  lender = refl;
-}
+Added-sent P bs old o p h =
+    let bytes = adds_weaker (Just bs) P old.out o (λ x e. rw e p) h in
+    record { bytes = bytes; dent = refl; faults = refl; style = refl; lender = refl }
 
 pub Failed-sent : (P : List ℕ → Type 0) (bs : List ℕ) (old new : Emitted) (o : Option (List ℕ)) → P bs
     → Adds (Begins (Just bs)) old.out o → new ≡ record old { out = o; faults = noted old.faults } → Failed P old new
-Failed-sent P bs old new o p h e = rw e (record {
-  bytes = adds_weaker (Begins (Just bs)) (Begins P) old.out o
-      (λ x (y, k). (y, rw k p)) h;
-  dent = refl;
-  faults = refl;
-  style = refl;
-  lender = refl;
-})
+Failed-sent P bs old new o p h e =
+    let bytes = adds_weaker (Begins (Just bs)) (Begins P) old.out o (λ x (y, k). (y, rw k p)) h in
+    rw e (record { bytes = bytes; dent = refl; faults = refl; style = refl; lender = refl })
 
 -- ---- what was sent to the writer, with its error counted as a fault
 pub Emits-counted : {E : Type 0} (P : List ℕ → Type 0) (bs : List ℕ) (old mid new : Emitted) (lent o : Option (List ℕ))

@@ -1,6 +1,6 @@
 -- A text of a value, in whatever style, is UTF-8: its strings are, and all its other bytes are below 128.
-use Rattle.jzon_base.proofs.Common.{◌≡◌, ◌∙◌, ℕ, zero, suc, ℤ, pos, negsuc, ◌+◌, ◌-◌, ◌^◌, ◌<◌, ◌≤◌, List, [], ◌∷◌}
-use Rattle.jzon_base.proofs.Common.{◌++◌, length, take, drop, replicate, get_or, Bool, true, false, ◌&&◌, ◌==◌, nat_le}
+use Rattle.jzon_base.proofs.Common.{◌≡◌, ◌∙◌, ℕ, zero, suc, ℤ, pos, negsuc, ◌^◌, ◌<◌, ◌≤◌, List, [], ◌∷◌}
+use Rattle.jzon_base.proofs.Common.{◌++◌, length, replicate, get_or, Bool, true, false, ◌&&◌}
 use Rattle.jzon_base.proofs.Common.{nat_lt, if◌then◌else◌, decimal, FitsSigned, codes, refl, sym, ap, subst, append-nil}
 use Rattle.jzon_base.proofs.Common.{inl, inr, arith, rules, w16, ⊤, IsUtf8, IsTrue, map, encode_utf8, encode_utf8_all}
 use Rattle.jzon_base.proofs.Common.{IsAscii, scalar, scalars, cases_lt, and_parts, ltb-true, nat_tests}
@@ -9,7 +9,7 @@ use Rattle.jzon_base.proofs.Common.{IsUtf8-nil, IsAscii-nil, IsAscii-cons}
 use Rattle.std.proofs.lemmas.Fmt.{IsAscii-decimal}
 use Rattle.std.proofs.lemmas.Str.{inside_one, IsAscii-append, IsAscii-take, IsAscii-drop}
 use Rattle.jzon_base.specs.Decimal.{Decimal, nan, parts}
-use Rattle.jzon_base.specs.NumberText.{sign_text, point_after, point_after_first, fraction_text, small_exponent_text}
+use Rattle.jzon_base.specs.NumberText.{point_after, point_after_first, fraction_text, small_exponent_text}
 use Rattle.jzon_base.specs.NumberText.{magnitude_text, written_text}
 use Rattle.jzon_tree.specs.Lawful.{InRange, IsText, IsValue, AreValues, ArePairs}
 use Rattle.jzon_tree.specs.Text.{escaped_byte, escaped, quoted}
@@ -59,8 +59,15 @@ module _ (ds : List ℕ) (h : IsAscii ds) where
 
   ascii-magnitude : (e : ℤ) → length ds ≤ 20 → FitsSigned w16 e → IsAscii (magnitude_text ds e)
   ascii-magnitude (pos k) n f =
-      let few : k < 2 ^ 15 = search (rules, f) in search (arith, IsAscii-if, IsAscii-append, IsAscii-replicate,
-      ascii-point_first, IsAscii-true, IsAscii-decimal)
+      let few : k < 2 ^ 15 = search (rules, f) in search (
+        arith,
+        IsAscii-if,
+        IsAscii-append,
+        IsAscii-replicate,
+        ascii-point_first,
+        IsAscii-true,
+        IsAscii-decimal,
+      )
   ascii-magnitude (negsuc k) n f =
       let few : k < 2 ^ 15 = search (rules, f) in
       search (arith, IsAscii-if, ascii-fraction, IsAscii-append, ascii-point_first, ascii-exponent)
