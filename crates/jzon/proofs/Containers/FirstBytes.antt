@@ -45,18 +45,7 @@ begins_nothing_on r fs c _ m h e = ap bad_at m
 
 -- no character past ASCII begins a value
 wide_begins_nothing : (strict : Bool) (fs : Frames) (c : ℕ) → 128 ≤ c → BeginsNothing strict fs c
-wide_begins_nothing strict fs c le = record {
-  no_space = wide_is_no_space strict c le;
-  no_digit = grind (arith, nat_tests);
-  no_minus = λ e. absurd (omega (arith, e));
-  no_quote = λ e. absurd (omega (arith, e));
-  no_array = λ e. absurd (omega (arith, e));
-  no_object = λ e. absurd (omega (arith, e));
-  no_null = λ e. absurd (omega (arith, e));
-  no_true = λ e. absurd (omega (arith, e));
-  no_false = λ e. absurd (omega (arith, e));
-  no_end = λ f e. absurd (omega (arith, e));
-}
+wide_begins_nothing strict fs c le = search (arith, nat_tests, wide_is_no_space)
 
 pub stops_before : (r : Reading) (bs : List ℕ) (i : ℕ) (fs : Frames) → value_mark r fs ≡ None
     → (i < length bs → BeginsNothing r.strict fs (get_or bs i 0)) → StopsAt r (before fs) bs i

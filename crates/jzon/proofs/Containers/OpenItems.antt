@@ -10,7 +10,7 @@ use Rattle.jzon.specs.Private.Brackets.{innermost_kind, after_comma, after_close
 use Rattle.jzon.specs.Private.Cursor.{left, IsAfter, GoesOn}
 use Rattle.jzon.specs.Private.Machine.{State, no_frames, before_key, after_value, object_frame, frames_depth}
 use Rattle.jzon.specs.Private.Machine.{value_mark, key_mark}
-use Rattle.jzon.specs.Private.OpenContainers.{Container, OpenContainers, entries_so_far, open_as, frames_in}
+use Rattle.jzon.specs.Private.OpenContainers.{Container, OpenContainers, entries_so_far, frames_in}
 use Rattle.jzon.specs.Private.OpenContainers.{frames_around, frames_here, whole, before_item_as, before_item, IsEven}
 use Rattle.jzon.specs.Private.OpenContainers.{AwaitsValue, value_added, key_added, KeepsAround, IsBeforeItem, new_container}
 use Rattle.jzon.specs.Private.OpenContainers.{IsClosed}
@@ -63,21 +63,16 @@ no_key_mark t s room =
 -- ---- a value was added
 
 pub added_keeps : (s u : OpenContainers) (v : JsonValue) → u ≡ value_added s v → KeepsAround s u
-added_keeps s u v e = record {
-  strict = ap (λ z. z.strict) e;
-  kind = ap (λ z. z.innermost.kind) e;
-  around = ap (λ z. z.around) e;
-}
+added_keeps s u v e = rw e (record { strict = refl; kind = refl; around = refl })
 
 pub added_even : (s u : OpenContainers) (v : JsonValue) → AwaitsValue s.innermost.kind s.innermost
     → u ≡ value_added s v → IsEven u.innermost.kind u.innermost
-added_even s u v h e =
-    subst (λ z. IsEven z.innermost.kind z.innermost) (sym e) (even_again s.innermost.kind s.innermost v h)
+added_even s u v h e = rw e (even_again s.innermost.kind s.innermost v h)
 
 pub added_before : (n : Cursor) (s u : OpenContainers) (v : JsonValue) → AwaitsValue s.innermost.kind s.innermost
     → u ≡ value_added s v → length s.around < n.reading.depth → IsBeforeItem n u
 added_before n s u v h e room =
-    subst (λ z. IsBeforeItem n z) (sym e) (record {
+    rw e (record {
       even = even_again s.innermost.kind s.innermost v h;
       room = room;
       some = λ none. absurd (some_more s.innermost.values v none);
@@ -88,50 +83,31 @@ pub ended_here : (t n : Cursor) (o : State) (s u : OpenContainers) (v : JsonValu
     → IsAfter t n × (left t o ≡ left n (cond b (after_closer (frames_here s) (view v))
     (after_comma (frames_here s) (view v))))
     → IsAfter t n × (left t o ≡ left n (after_value (frames_around u) (whole u.innermost)))
-ended_here t n o s u v b h e is read = (
-  read.0,
-  read.1
-      ∙ ap (λ a. left n (cond a (after_closer (frames_here s) (view v)) (after_comma (frames_here s) (view v)))) is
-      ∙ ap (left n) (after_closer-whole s.innermost.kind (frames_around s) s.innermost v h)
-      ∙ ap (λ z. left n (after_value (frames_around z) (whole z.innermost))) (sym e),
-)
+ended_here t n o s u v b h e is read =
+    rw e (rw (is, after_closer-whole s.innermost.kind (frames_around s) s.innermost v h) at read)
 
 pub goes_to_item : (t n : Cursor) (o : State) (s u : OpenContainers) (v : JsonValue) (b : Bool)
     → AwaitsValue s.innermost.kind s.innermost → u ≡ value_added s v → b ≡ false
     → IsAfter t n × (left t o ≡ left n (cond b (after_closer (frames_here s) (view v))
     (after_comma (frames_here s) (view v))))
     → IsAfter t n × (left t o ≡ left n (before_item u))
-goes_to_item t n o s u v b h e is read = (
-  read.0,
-  read.1
-      ∙ ap (λ a. left n (cond a (after_closer (frames_here s) (view v)) (after_comma (frames_here s) (view v)))) is
-      ∙ ap (left n) (after_comma-item s.innermost.kind (frames_around s) s.innermost v h)
-      ∙ ap (λ z. left n (before_item z)) (sym e),
-)
+goes_to_item t n o s u v b h e is read =
+    rw e (rw (is, after_comma-item s.innermost.kind (frames_around s) s.innermost v h) at read)
 
 -- ---- a key was added
 
 pub key_here : (s u : OpenContainers) (k : List ℕ) → s.innermost.kind ≡ Object → IsEven Object s.innermost
     → u ≡ key_added s k → object_frame (frames_around s) (entries_so_far s.innermost) k ≡ frames_here u
 key_here s u k e even is =
-    ap (λ ps. object_frame (frames_around s) (viewed (put_each ps)) k)
-    (sym (zip_key s.innermost.keys s.innermost.values k even))
-    ∙ ap (object_frame (frames_around s) (entries_so_far (key_added s k).innermost)) (sym (last_of s.innermost.keys k))
-    ∙ ap (λ b. open_as b (frames_around s) (key_added s k).innermost) (sym e)
-    ∙ ap frames_here (sym is)
+    rw (is, e, zip_key s.innermost.keys s.innermost.values k even, last_of s.innermost.keys k) refl
 
 pub key_keeps : (s u : OpenContainers) (k : List ℕ) → u ≡ key_added s k → KeepsAround s u
-key_keeps s u k is = record {
-  strict = ap (λ z. z.strict) is;
-  kind = ap (λ z. z.innermost.kind) is;
-  around = ap (λ z. z.around) is;
-}
+key_keeps s u k is = rw is (record { strict = refl; kind = refl; around = refl })
 
 pub key_awaits : (s u : OpenContainers) (k : List ℕ) → IsEven Object s.innermost → u ≡ key_added s k
     → AwaitsValue Object u.innermost
 key_awaits s u k even is =
-    subst (λ z. AwaitsValue Object z.innermost) (sym is)
-    (omega (arith, even, length-append s.innermost.keys (k ∷ [])))
+    rw is (omega (arith, even, length-append s.innermost.keys (k ∷ [])))
 
 -- reading that goes on, with another form of the state after it
 pub goes_as : {A : Type 0} (t u : Cursor) (p : State) (result : Result A Stop) (f g : A → State)

@@ -1,9 +1,9 @@
 -- The parts of the two stacks: what a change of the innermost container leaves of those around it.
-use Rattle.jzon_base.proofs.Common.{◌≡◌, ℕ, ◌+◌, ◌≤◌, Bool, true, false, cond, nat_lt, suc, List, [], ◌∷◌, ◌++◌}
+use Rattle.jzon_base.proofs.Common.{◌≡◌, ℕ, ◌≤◌, true, false, List, [], ◌∷◌, ◌++◌}
 use Rattle.jzon_base.proofs.Common.{length, take, drop, vec_len, Option, None, Some, option_map, IfSome, Vec, Global}
 use Rattle.jzon_base.proofs.Common.{length-append, refl, sym, ap, ◌∙◌, subst, arith, take-take, take_all}
 use Rattle.jzon_base.proofs.Common.{drop_all, length-take, length-drop, false≢true, take-append-le, drop-append-le}
-use Rattle.jzon_base.proofs.Common.{nat_tests, list_any, position, position_or_len, zip, is_some, bytes_eq}
+use Rattle.jzon_base.proofs.Common.{position, zip, is_some, bytes_eq}
 use Rattle.std.specs.Prelude.{reverse, MatchOption}
 use Rattle.std.proofs.lemmas.List.{reverse-append}
 use Rattle.std.proofs.lemmas.Option.{IfSome_then}
@@ -16,7 +16,7 @@ use Rattle.jzon_tree.specs.declared.value.JsonValue.{JsonValue}
 use Rattle.jzon_tree.specs.View.{view}
 use Rattle.jzon_tree.proofs.Values.Views.{find-viewed}
 use Rattle.jzon.specs.Private.OpenContainers.{Container, OpenContainers, AwaitsValue, new_container, entries_so_far}
-use Rattle.jzon.specs.Private.OpenContainers.{value_added, innermost_ended, with_value, IsAdded}
+use Rattle.jzon.specs.Private.OpenContainers.{value_added, innermost_ended, IsAdded}
 use Rattle.jzon.specs.Private.Stacks.{container_of, containers_in, containers_of, AreNested, AllAwaitValue, AllKnown}
 use Rattle.jzon.specs.Private.Stacks.{IsLaidOut}
 use Rattle.jzon.specs.declared.cursor.ContainerKind.{ContainerKind}

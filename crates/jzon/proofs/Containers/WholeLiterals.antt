@@ -36,11 +36,8 @@ anew : (r : Reading) (bs : List ℕ) (i k l : ℕ) (ls : List ℕ) (fs : Frames)
 anew r bs i k l ls fs v four u lt h ascii here is first =
     let at : IsCharBoundary bs i = IsCharBoundary-before_ascii bs i lt (omega (arith, h)) in record {
       not_before = omega (arith, here);
-      boundary = subst (IsCharBoundary bs) (sym here) at;
-      same =
-          first ∙ sym (letter_read r bs i l ls fs v u at lt h ascii)
-          ∙ ap (λ z. from r bs (past_letter fs v z) i) (sym is)
-          ∙ ap (λ n. from r bs (past_letter fs v four) n) (sym here);
+      boundary = rw here at;
+      same = rw (here, is) (first ∙ sym (letter_read r bs i l ls fs v u at lt h ascii));
     }
 
 pub word_begins : (r : Reading) (bs : List ℕ) (i b k : ℕ) (fs : Frames) (v : Value) (four : List ℕ) → IsUtf8 bs
@@ -50,25 +47,19 @@ pub word_begins : (r : Reading) (bs : List ℕ) (i b k : ℕ) (fs : Frames) (v :
 word_begins r bs i b k fs v four u lt h m (inl e) means spells short long =
     anew r bs i k 110 (117 ∷ 108 ∷ 108 ∷ []) fs v four u lt (h ∙ e) (lit< tt) (short (λ f. absurd (omega (arith, e, f))))
     (spells.null e)
-    (begin_by r bs i fs begins_null _ refl u (IsCharBoundary-before_ascii bs i lt (omega (arith, e, h))) lt (h ∙ e)
-    (lit< tt) m
-    ∙ ap (λ w. from r bs (past_letter fs w (117 ∷ 108 ∷ 108 ∷ [])) (i + 1)) (sym (means.null e)))
+    (rw (means.null e) (begin_by r bs i fs begins_null _ refl u
+    (IsCharBoundary-before_ascii bs i lt (omega (arith, e, h))) lt (h ∙ e) (lit< tt) m))
 word_begins r bs i b k fs v four u lt h m (inr (inl e)) means spells short long =
     anew r bs i k 116 (114 ∷ 117 ∷ 101 ∷ []) fs v four u lt (h ∙ e) (lit< tt) (short (λ f. absurd (omega (arith, e, f))))
     (spells.yes e)
-    (begin_by r bs i fs begins_true _ refl u (IsCharBoundary-before_ascii bs i lt (omega (arith, e, h))) lt (h ∙ e)
-    (lit< tt) m
-    ∙ ap (λ w. from r bs (past_letter fs w (114 ∷ 117 ∷ 101 ∷ [])) (i + 1)) (sym (means.yes e)))
+    (rw (means.yes e) (begin_by r bs i fs begins_true _ refl u
+    (IsCharBoundary-before_ascii bs i lt (omega (arith, e, h))) lt (h ∙ e) (lit< tt) m))
 word_begins r bs i b k fs v four u lt h m (inr (inr e)) means spells short long =
     let here : k ≡ i + 1 = long e in record {
       not_before = omega (arith, here);
-      boundary = subst (IsCharBoundary bs) (sym here) (IsCharBoundary-after_ascii bs i u lt (omega (arith, h, e)));
-      same =
-          begin_by r bs i fs begins_false _ refl u (IsCharBoundary-before_ascii bs i lt (omega (arith, e, h))) lt
-          (h ∙ e) (lit< tt) m
-          ∙ ap (λ w. from r bs (past_letter fs w (97 ∷ 108 ∷ 115 ∷ 101 ∷ [])) (i + 1)) (sym (means.no e))
-          ∙ ap (λ l. from r bs (past_letter fs v l) (i + 1)) (sym (spells.no e))
-          ∙ ap (λ n. from r bs (past_letter fs v four) n) (sym here);
+      boundary = rw here (IsCharBoundary-after_ascii bs i u lt (omega (arith, h, e)));
+      same = rw (here, spells.no e, means.no e) (begin_by r bs i fs begins_false _ refl u
+          (IsCharBoundary-before_ascii bs i lt (omega (arith, e, h))) lt (h ∙ e) (lit< tt) m);
     }
 
 -- four bytes are there

@@ -1,11 +1,11 @@
 -- The meaning of a tree that breaks no limit is a value that the laws `redump` and `reads_back` apply to.
-use Rattle.jzon_base.proofs.Common.{◌≡◌, ℕ, suc, ◌-◌, ◌<◌, ◌≤◌, max, ℤ, pos, ◌+ℤ◌, ◌-ℤ◌, List, [], ◌∷◌, ◌++◌, Bool}
+use Rattle.jzon_base.proofs.Common.{◌≡◌, ℕ, suc, ◌-◌, ◌<◌, ◌≤◌, max, ℤ, List, [], ◌∷◌, ◌++◌, Bool}
 use Rattle.jzon_base.proofs.Common.{true, false, ◌&&◌, nat_le, if◌then◌else◌, Option, None, codes, refl, sym, subst}
 use Rattle.jzon_base.proofs.Common.{arith, FitsSigned, IsUtf8, w16, fold, AllByRecursion, IsDistinct, bytes_eq, scalar}
 use Rattle.jzon_base.proofs.Common.{scalars, and_parts, nat_tests, ints, clamps, AllPairs-from_IsDistinct}
 use Rattle.jzon_base.proofs.Common.{bytes_eq-Decides, encodes-append, IsUtf8-append, IsUtf8-nil}
 use Rattle.std.proofs.lemmas.Bool.{leb-false}
-use Rattle.jzon_base.specs.Digits.{dropped, kept_fraction, clamp}
+use Rattle.jzon_base.specs.Digits.{clamp}
 use Rattle.jzon_base.specs.PairList.{keys_of, put, put_each}
 use Rattle.jzon_base.proofs.Numbers.DigitPrefixes.{kept_len_is_longest}
 use Rattle.jzon_base.proofs.Entries.PairLaws.{All-put}
@@ -22,7 +22,7 @@ use Rattle.jzon.specs.Grammar.{is_surrogate, code_unit, IsNode, AreElements, Are
 use Rattle.jzon.specs.Grammar as grammar
 use Rattle.jzon.specs.Spelling.{Breach, Cell, cell, plain, deep_if, deep, breach_if, node_cells, elements_cells}
 use Rattle.jzon.specs.Spelling.{members_cells, cells}
-use Rattle.jzon.specs.Meaning.{written_exponent, number_of, unescaped, pair_char, item_text, characters_of, bytes_of, meaning}
+use Rattle.jzon.specs.Meaning.{number_of, unescaped, pair_char, item_text, characters_of, bytes_of, meaning}
 use Rattle.jzon.specs.Meaning.{elements_meaning, members_meaning}
 use Rattle.jzon.specs.Fault.{Parses}
 use Rattle.jzon.specs.Laws.{IsReadAs, Redump}
@@ -36,11 +36,7 @@ clamped_fits : (z : ℤ) → FitsSigned w16 (clamp z)
 clamped_fits z = omega (arith, ints, clamps)
 
 number_in_range : (n : Numeral) → InRange (number_of n)
-number_in_range n = (
-  (kept_len_is_longest (n.whole ++ n.fraction)).fits,
-  clamped_fits ((pos (dropped n.whole n.fraction) -ℤ pos (kept_fraction n.whole n.fraction)) +ℤ written_exponent
-      n.exponent),
-)
+number_in_range n = ((kept_len_is_longest (n.whole ++ n.fraction)).fits, search clamped_fits)
 
 -- ---- strings
 
@@ -56,15 +52,7 @@ code_unit_small [] h = absurd h
 code_unit_small (a ∷ []) h = absurd h.1
 code_unit_small (a ∷ b ∷ []) h = absurd h.1.1
 code_unit_small (a ∷ b ∷ c ∷ []) h = absurd h.1.1.1
-code_unit_small (a ∷ b ∷ c ∷ d ∷ []) h =
-    omega (
-      arith,
-      hex_is_below_16 a h.0,
-      hex_is_below_16 b h.1.0,
-      hex_is_below_16 c h.1.1.0,
-      hex_is_below_16 d
-          h.1.1.1.0,
-    )
+code_unit_small (a ∷ b ∷ c ∷ d ∷ []) h = omega (arith, hex_is_below_16)
 code_unit_small (a ∷ b ∷ c ∷ d ∷ e ∷ cs) h = absurd h.1.1.1.1
 
 unit_scalar : (u : ℕ) → u < 65536 → is_surrogate u ≡ false → scalar u ≡ true
@@ -108,29 +96,21 @@ each_held h qs [] done all = done
 each_held h qs (p ∷ ps) done all =
     each_held h (put p.0 p.1 qs) ps (All-put (IsHeldPair h) p.0 p.1 qs all.0 done) all.1
 
-pairs_lawful : (h : ℕ) (ps : List (List ℕ × Value)) → AreHeldPairs h ps → ArePairs (pairs_of ps)
-pairs_lawful h [] all = tt
-pairs_lawful h (p ∷ ps) all = (all.0.utf8, all.0.lawful, pairs_lawful h ps all.1)
-
-pairs_no_nan : (h : ℕ) (ps : List (List ℕ × Value)) → AreHeldPairs h ps → PairsHaveNoNan (pairs_of ps)
-pairs_no_nan h [] all = tt
-pairs_no_nan h (p ∷ ps) all = (all.0.no_nan, pairs_no_nan h ps all.1)
-
-pairs_few : (h : ℕ) (ps : List (List ℕ × Value)) → AreHeldPairs h ps → most_nest_under (pairs_of ps) ≤ h
-pairs_few h [] all = omega arith
-pairs_few h (p ∷ ps) all = omega (arith, all.0.few, pairs_few h ps all.1)
+pairs_held : (h : ℕ) (ps : List (List ℕ × Value)) → AreHeldPairs h ps
+    → ArePairs (pairs_of ps) × PairsHaveNoNan (pairs_of ps) × (most_nest_under (pairs_of ps) ≤ h)
+pairs_held h [] all = (tt, tt, omega arith)
+pairs_held h (p ∷ ps) all =
+    let k = pairs_held h ps all.1 in
+    ((all.0.utf8, all.0.lawful, k.0), (all.0.no_nan, k.1), omega (arith, all.0.few, k.2))
 
 object_few : (h : ℕ) (ps : List (List ℕ × Value)) → AreHeldPairs h ps → nest (object (pairs_of ps)) ≤ suc h
 object_few h [] all = omega arith
-object_few h (p ∷ ps) all = omega (arith, all.0.few, pairs_few h ps all.1)
+object_few h (p ∷ ps) all = omega (arith, (pairs_held h (p ∷ ps) all).2)
 
 object_lawful : (h : ℕ) (ps : List (List ℕ × Value)) → AreHeldPairs h ps → IsDistinct bytes_eq (keys_of ps)
     → IsValue (object (pairs_of ps))
-object_lawful h ps all distinct = (
-  pairs_lawful h ps all,
-  rw (list_of_pairs-pairs_of ps) (AllPairs-from_IsDistinct bytes_eq-Decides (keys_of ps)
-      distinct),
-)
+object_lawful h ps all distinct =
+    ((pairs_held h ps all).0, rw list_of_pairs-pairs_of (AllPairs-from_IsDistinct bytes_eq-Decides (keys_of ps) distinct))
 
 -- ---- values
 
@@ -223,7 +203,7 @@ mutual
       (first, more.pairs) in
       record {
         lawful = object_lawful (r.depth - suc depth) (put_each ps) all (IsDistinct-put_each ps);
-        no_nan = pairs_no_nan (r.depth - suc depth) (put_each ps) all;
+        no_nan = (pairs_held (r.depth - suc depth) (put_each ps) all).1;
         few = deeper _ depth r.depth (object_few (r.depth - suc depth) (put_each ps) all) (room_inside r depth named.0);
         mark = h.0;
         rest = more.rest;

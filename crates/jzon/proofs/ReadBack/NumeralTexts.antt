@@ -1,6 +1,6 @@
 -- The text of a number of the grammar that has few digits.
-use Rattle.jzon_base.proofs.Common.{◌≡◌, ◌∙◌, ℕ, ◌+◌, ◌<◌, ◌≤◌, List, [], ◌∷◌, ◌++◌, length, Bool, true, false, codes}
-use Rattle.jzon_base.proofs.Common.{Option, Some, None, refl, sym, ap, arith, length-append}
+use Rattle.jzon_base.proofs.Common.{◌≡◌, ℕ, ◌+◌, ◌<◌, ◌≤◌, List, [], ◌∷◌, ◌++◌, length, Bool, true, false, codes}
+use Rattle.jzon_base.proofs.Common.{Option, Some, None, refl, ap, arith, length-append}
 use Rattle.jzon_base.proofs.Numbers.DigitPrefixes.{kept_len_is_longest}
 use Rattle.jzon.specs.Grammar.{Sign, unsigned, plus, minus, Exponent, Numeral}
 use Rattle.jzon.specs.Spelling.{Cell, cell, plain, digits_cells, drops_too_many, keeps_too_many, fraction_cells}
@@ -37,8 +37,7 @@ numeral_spelled n = minus_spelled n.negative ++ magnitude_spelled n.whole n.frac
 digits-plain : (too_many : List ℕ → Bool) (prefix ds : List ℕ) (k : List Cell) → AreUnmarked too_many prefix ds
     → digits_cells too_many prefix ds k ≡ plain ds k
 digits-plain too_many prefix [] k h = refl
-digits-plain too_many prefix (d ∷ ds) k h = rw h.0 (ap (λ q. cell d None ∷ q)
-    (digits-plain too_many (d ∷ prefix) ds k h.1))
+digits-plain too_many prefix (d ∷ ds) k h = rw (h.0, digits-plain too_many (d ∷ prefix) ds k h.1) refl
 
 whole-plain : (ws : List ℕ) (k : List Cell) → length ws < 32768 → whole_cells ws None k ≡ plain ws k
 whole-plain [] k h = refl
@@ -60,21 +59,12 @@ sign-plain _ k = refl
 
 exponent-plain : (e : Option Exponent) (k : List Cell) → exponent_cells e k ≡ plain (exponent_spelled e) k
 exponent-plain None k = refl
-exponent-plain (Some e) k =
-    ap (λ q. cell e.letter None ∷ q) (sign-plain e.sign (plain e.digits k)
-    ∙ sym (plain-append (sign_spelled e.sign) e.digits k))
+exponent-plain (Some e) k = simp (sign-plain, plain-append)
 
 magnitude-plain : (n : Numeral) (k : List Cell) → length n.whole < 32768 → length n.fraction < 32769
     → magnitude_cells n None k ≡ plain (magnitude_spelled n.whole n.fraction n.exponent) k
 magnitude-plain n k few fewer =
-    whole-plain n.whole _ few
-    ∙ ap (λ q. plain n.whole q) (fraction-plain n.whole n.fraction _ fewer
-    ∙ ap (λ q. plain (fraction_spelled n.fraction) q) (exponent-plain n.exponent k))
-    ∙ rw (
-      plain-append n.whole (fraction_spelled n.fraction ++ exponent_spelled n.exponent) k,
-      plain-append
-          (fraction_spelled n.fraction) (exponent_spelled n.exponent) k,
-    ) refl
+    simp (whole-plain, fraction-plain, exponent-plain, plain-append)
 
 length-fraction_spelled : (fs : List ℕ) → length fs ≤ length (fraction_spelled fs)
 length-fraction_spelled [] = omega arith

@@ -118,9 +118,12 @@ escaped_encoded c =
 escaped-encodes : (cs : List ℕ) → encode_utf8_all (escaped cs) ≡ escaped (encode_utf8_all cs)
 escaped-encodes [] = refl
 escaped-encodes (c ∷ cs) =
-    encodes-append (escaped_byte c) (escaped cs) ∙ ap (λ t. t ++ encode_utf8_all (escaped cs)) (escaped_encoded c)
-    ∙ ap (λ t. escaped (encode_utf8 c) ++ t) (escaped-encodes cs)
-    ∙ sym (flat_map-append escaped_byte (encode_utf8 c) (encode_utf8_all cs))
+    rw (
+      encodes-append (escaped_byte c) (escaped cs),
+      escaped_encoded c,
+      escaped-encodes cs,
+      flat_map-append escaped_byte (encode_utf8 c) (encode_utf8_all cs),
+    ) refl
 
 items_in_grammar : (cs : List ℕ) → scalars cs ≡ true → AreItems (items_of cs)
 items_in_grammar [] h = tt
@@ -131,14 +134,13 @@ items-plain : (cs : List ℕ) (k : List Cell) → scalars cs ≡ true → items_
 items-plain [] k h = refl
 items-plain (c ∷ cs) k h =
     let t = and_parts (scalar c) (scalars cs) h in
-    (written c t.0).spelled (items_cells (items_of cs) k) ∙ ap (λ q. plain (escaped_byte c) q) (items-plain cs k t.1)
-    ∙ sym (plain-append (escaped_byte c) (escaped cs) k)
+    (written c t.0).spelled (items_cells (items_of cs) k) ∙ rw (items-plain cs k t.1, plain-append (escaped_byte c)) refl
 
 items_mean : (cs : List ℕ) → scalars cs ≡ true → characters_of (items_of cs) ≡ cs
 items_mean [] h = refl
 items_mean (c ∷ cs) h =
     let t = and_parts (scalar c) (scalars cs) h in
-    ap (λ x. x ++ characters_of (items_of cs)) (written c t.0).means ∙ ap (λ x. c ∷ x) (items_mean cs t.1)
+    rw ((written c t.0).means, items_mean cs t.1) refl
 
 -- ---- a string of bytes
 
@@ -165,15 +167,18 @@ quote = IsAscii-one 34 (omega arith)
 chars-quoted : (s : List ℕ) → IsUtf8 s → chars (quoted s) ≡ quoted (chars s)
 chars-quoted s u =
     chars-IsAscii_append (34 ∷ []) (escaped s ++ 34 ∷ []) quote
-    ∙ ap (λ t. 34 ∷ t) (chars-append (escaped s) (34 ∷ []) (IsUtf8-escaped s u)
-    ∙ ap (λ t. t ++ chars (34 ∷ [])) (sym (chars_from_encodes (escaped (chars s)) (escaped s) (IsUtf8-escaped s u)
-    (escaped_text s u)))
-    ∙ ap (λ t. escaped (chars s) ++ t) (chars-IsAscii (34 ∷ []) quote))
+    ∙ rw (
+      chars-append (escaped s) (34 ∷ []) (IsUtf8-escaped s u),
+      chars-IsAscii (34 ∷ []) quote,
+      ← (chars_from_encodes (escaped (chars s)) (escaped s) (IsUtf8-escaped s u) (escaped_text s u)),
+    ) refl
 
 -- the cells of a string and its quotes
 pub quoted-plain : (s : List ℕ) (k : List Cell) → IsUtf8 s → cell 34 None ∷ items_cells (items_for s) (cell 34 None ∷ k)
     ≡ plain (chars (quoted s)) k
 quoted-plain s k u =
-    ap (λ q. cell 34 None ∷ q) (items-plain (chars s) (cell 34 None ∷ k) (scalars-chars s u)
-    ∙ sym (plain-append (escaped (chars s)) (34 ∷ []) k))
-    ∙ ap (λ t. plain t k) (sym (chars-quoted s u))
+    rw (
+      chars-quoted s u,
+      items-plain (chars s) (cell 34 None ∷ k) (scalars-chars s u),
+      plain-append (escaped (chars s)) (34 ∷ []) k,
+    ) refl

@@ -1,7 +1,7 @@
 -- Sound, for strings (`string_on`): if the automaton goes to a value from inside a string, the rest of the text begins
 -- with the rest of a string, `Left`, and continues with what is allowed after its closing quote. Shown for one more
 -- character, given the statement for the text after it.
-use Rattle.jzon_base.proofs.Common.{◌≡◌, ◌∙◌, ◌⊎◌, ℕ, zero, suc, List, [], ◌∷◌, ◌++◌, length, Bool, true, false, cond}
+use Rattle.jzon_base.proofs.Common.{◌≡◌, ◌⊎◌, ℕ, zero, suc, List, [], ◌∷◌, ◌++◌, length, Bool, true, false, cond}
 use Rattle.jzon_base.proofs.Common.{◌&&◌, ◌==◌, None, inl, inr, refl, sym, subst, ap, eqb-true, encode_utf8}
 use Rattle.jzon_base.proofs.Common.{encode_utf8_all, append-nil, IsTrue, if◌then◌else◌, is_ascii_hexdigit, fold}
 use Rattle.jzon_tree.specs.Value.{Value}
@@ -74,15 +74,11 @@ module _ (r : Reading) (v : Value) (role : Role) (Closed : List ℕ → List ℕ
 
   escaped : (bs cs : List ℕ) → Slash bs cs → ItemsLeft bs (92 ∷ cs)
   unfolding code_unit
-  escaped bs cs (inl (c, t, ok, e, h)) =
-      subst (λ z. ItemsLeft bs (92 ∷ z)) (sym e) (char_more (simple c) (unescaped c) bs t ok refl h)
+  escaped bs cs (inl (c, t, ok, e, h)) = rw e (char_more (simple c) (unescaped c) bs t ok refl h)
   escaped bs cs (inr (t, e, (es, t', ok, f, inl (single_one, h)))) =
-      subst (λ z. ItemsLeft bs (92 ∷ z)) (sym (e ∙ ap (λ z. 117 ∷ z) f))
-      (char_more (single es) (fold add_hex 0 es) bs t' (ok, single_one) refl h)
+      rw (e, f) (char_more (single es) (fold add_hex 0 es) bs t' (ok, single_one) refl h)
   escaped bs cs (inr (t, e, (es, t', ok, f, inr (first, (t1, e1, (t2, e2, (fs, t3, fs_ok, e3, h))))))) =
-      subst (λ z. ItemsLeft bs (92 ∷ z))
-      (sym (e ∙ ap (λ z. 117 ∷ z) (f ∙ ap (λ z. es ++ z) (e1 ∙ ap (λ z. 92 ∷ z) (e2 ∙ ap (λ z. 117 ∷ z) e3)))))
-      (item_more (double es fs) bs t3 (ok, first, fs_ok) h)
+      rw (e, f, e1, e2, e3) (item_more (double es fs) bs t3 (ok, first, fs_ok) h)
 
   -- ---- one character
 
