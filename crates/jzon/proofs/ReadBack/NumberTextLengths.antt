@@ -17,38 +17,28 @@ length-point : (k : ℕ) (ds : List ℕ) → length (point_after k ds) ≤ lengt
 length-point k ds = simp (length-append, length-take, length-drop) (omega arith)
 
 length-first : (ds : List ℕ) → length (point_after_first ds) ≤ length ds + 1
-length-first ds = length-if (nat_lt 1 (length ds)) (point_after 1 ds) ds (length ds + 1) (λ _. length-point 1 ds)
-    (λ _. omega arith)
+length-first ds = search (arith, length-if, length-point)
 
 length-fraction : (ds : List ℕ) (k : ℕ) → length ds ≤ 20 → k ≤ 17 → length (fraction_text ds k) ≤ 28
 length-fraction ds k few near =
-    length-if (nat_lt k (length ds)) (point_after (length ds - k) ds) (codes "0." ++ replicate (k - length ds) 48 ++ ds)
-    28
-    (λ t. omega (arith, length-point (length ds - k) ds))
+    length-if (nat_lt k (length ds)) _ _ 28 (λ t. omega (arith, length-point (length ds - k) ds))
     (λ f. simp (length-append, length-replicate) (omega (arith, ltb-false k (length ds) f)))
 
 length-small : (d k : ℕ) → k ≤ 32768 → length (small_exponent_text d k) ≤ 7
 length-small d k near =
-    length-if (d == k + 1) [] (if d == k + 2 then codes "e+1" else codes "e-" ++ decimal (k + 1 - d)) 7
-    (λ _. omega arith)
-    (λ _. length-if (d == k + 2) (codes "e+1") (codes "e-" ++ decimal (k + 1 - d)) 7 (λ _. omega arith)
-    (λ _. let short = length-decimal-le 5 (k + 1 - d) (omega arith) (omega arith) (omega arith) in
-    omega (arith, length-append (codes "e-") (decimal (k + 1 - d)), short)))
+    let short = length-decimal-le 5 (k + 1 - d) (omega arith) (omega arith) (omega arith) in
+    length-if (d == k + 1) [] _ 7 (λ _. omega arith) (λ _. length-if (d == k + 2) (codes "e+1") _ 7 (λ _. omega arith)
+    (λ _. omega (arith, length-append (codes "e-") (decimal (k + 1 - d)), short)))
 
 pub length-magnitude : (ds : List ℕ) (e : ℤ) → length ds ≤ 20 → FitsSigned w16 e → length (magnitude_text ds e) ≤ 28
 length-magnitude ds (pos k) few fits =
-    length-if (k == 0) ds (if nat_le (length ds + k) 20 then ds ++ replicate k 48 else point_after_first ds ++ codes "e"
-    ++ decimal (k + length ds - 1)) 28 (λ _. omega arith)
-    (λ _. length-if (nat_le (length ds + k) 20) (ds ++ replicate k 48)
-    (point_after_first ds ++ codes "e" ++ decimal (k + length ds - 1)) 28
-    (λ t. simp (length-append, length-replicate) (omega (arith, leb-true (length ds + k) 20 t)))
-    (λ _. let short = length-decimal-le 5 (k + length ds - 1) (omega arith) (omega (arith, fits.sfits))
+    let short = length-decimal-le 5 (k + length ds - 1) (omega arith) (omega (arith, fits.sfits))
     (omega (arith, fits.sfits)) in
-    simp length-append (omega (arith, length-first ds, short))))
+    length-if (k == 0) ds _ 28 (λ _. omega arith) (λ _. length-if (nat_le (length ds + k) 20) _ _ 28
+    (λ t. simp (length-append, length-replicate) (omega (arith, leb-true (length ds + k) 20 t)))
+    (λ _. simp length-append (omega (arith, length-first ds, short))))
 length-magnitude ds (negsuc k) few fits =
-    length-if (nat_le (k + 1) 17) (fraction_text ds (k + 1))
-    (point_after_first ds ++ small_exponent_text (length ds) (k + 1)) 28
-    (λ t. length-fraction ds (k + 1) few (leb-true (k + 1) 17 t))
+    length-if (nat_le (k + 1) 17) _ _ 28 (λ t. length-fraction ds (k + 1) few (leb-true (k + 1) 17 t))
     (λ _. simp length-append
     (omega (arith, length-first ds, length-small (length ds) (k + 1) (omega (arith, fits.sfits)))))
 
@@ -56,7 +46,6 @@ pub length-number : (s : Bool) (m : ℕ) (e : ℤ) → m < 2 ^ 64 → FitsSigned
 length-number s m e h fits =
     let few : length (decimal m) ≤ 20 = length-decimal-le 20 m (omega arith) (omega arith) h in
     let size : length (if m == 0 then codes "0" else magnitude_text (decimal m) e) ≤ 28 =
-    length-if (m == 0) (codes "0") (magnitude_text (decimal m) e) 28 (λ _. omega arith)
-    (λ _. length-magnitude (decimal m) e few fits) in
+    search (arith, length-if, length-magnitude) in
     let sign : length (sign_text s) ≤ 1 = length-if s [] (codes "-") 1 (λ _. omega arith) (λ _. omega arith) in
     simp length-append (omega (arith, size, sign))

@@ -69,8 +69,7 @@ array_from r s dent v vs b (t ∷ ts) (n ∷ ns) fit each alike w =
     record {
       node = node;
       spells =
-          subst (λ x. NodeSpells r (suc high) x node) (sym (w.4 ∙ ap (λ x. 91 ∷ x) j.text))
-          (node_raised r (suc (max high high)) (suc high) _ node (above_max high)
+          rw (w.4, j.text) (node_raised r (suc (max high high)) (suc high) _ node (above_max high)
           (array_spells r high j.before t j.after j.rest n j.whitespace j.space each.0 high j.elements j.spell));
       alike = ap (λ ms. same_items (value (meaning n) ms) (value v vs)) j.means ∙ alike;
     }
@@ -97,55 +96,45 @@ object_from r s dent k v ps b (e ∷ es) fit each distinct alike w =
     record {
       node = node;
       spells =
-          subst (λ x. NodeSpells r (suc high) x node) (sym (w.4 ∙ ap (λ x. 123 ∷ x) j.text))
-          (node_raised r (suc (max high high)) (suc high) _ node (above_max high)
+          rw (w.4, j.text) (node_raised r (suc (max high high)) (suc high) _ node (above_max high)
           (object_spells r high e.gap e.text j.after j.rest e.node each.0.whitespace j.space each.0.spells high _
           j.members j.spell j.before e.key j.whitespace each.0.utf8 (AreNew-IsDistinct (entry_keys (e ∷ es)) distinct)));
       alike =
-          ap (λ qs. same (object (pairs_of qs)) (object (pair k v ps))) means
-          ∙ object-intro (pairs_of (map entry_meaning (e ∷ es))) (pair k v ps)
+          rw means (object-intro (pairs_of (map entry_meaning (e ∷ es))) (pair k v ps)
           (λ q. ap (λ qs. same_at (find q qs) (find q (list_of_pairs (pair k v ps))))
-          (list_of_pairs-pairs_of (map entry_meaning (e ∷ es))) ∙ alike q);
+          (list_of_pairs-pairs_of (map entry_meaning (e ∷ es))) ∙ alike q));
     }
 
 object_read : (r : Reading) (s : Style) (dent : ℕ) (k : List ℕ) (v : Value) (ps : ValuePairs) (b : List ℕ)
-    (ts : List (List ℕ)) (positions : List ℕ) (es : List Entry)
-    → AllowsWhitespaceOf r s → AllPairs (λ x y. x ≢ y) (keys_of (list_of_pairs (pair k v ps))) → map entry_text es ≡ ts
+    (positions : List ℕ) (es : List Entry) → AllowsWhitespaceOf r s
+    → AllPairs (λ x y. x ≢ y) (keys_of (list_of_pairs (pair k v ps)))
     → AllByRecursion (EntrySpells r (most_nest_under (pair k v ps))) es
     → entry_keys es ≡ keys_of (list_of_pairs (pair k v ps))
     → ((q : List ℕ) → same_at (find q (map entry_meaning es)) (find q (list_of_pairs (pair k v ps))) ≡ true)
-    → IsOrder (length ts) positions
-    → Encloses s dent 123 (map (text_at ts) positions) 125 b → ReadNode r (object (pair k v ps)) b
-object_read r s dent k v ps b ts positions [] fit distinct texts each keys alike o w = absurd (cc)
-object_read r s dent k v ps b ts positions (e ∷ es) fit distinct texts each keys alike o w =
+    → IsOrder (length (map entry_text es)) positions
+    → Encloses s dent 123 (map (text_at (map entry_text es)) positions) 125 b → ReadNode r (object (pair k v ps)) b
+object_read r s dent k v ps b positions [] fit distinct each keys alike o w = absurd (cc)
+object_read r s dent k v ps b positions (e ∷ es) fit distinct each keys alike o w =
     let all : List Entry = e ∷ es in
     let stored : List (List ℕ × Value) = map entry_meaning all in
-    let size : length ts ≡ length stored = ap length (sym texts) ∙ length-map all entry_text
-    ∙ sym (length-map all entry_meaning) in
+    let size : length (map entry_text all) ≡ length stored = simp length-map in
     let counted : length (keys_of stored) ≡ length stored = length-map stored (λ p. p.0) in
     let order : IsOrder (length stored) positions = subst (λ n. IsOrder n positions) size o in
-    let apart : AllPairs (λ x y. x ≢ y) (keys_of stored) = subst (λ ks. AllPairs (λ x y. x ≢ y) ks) (sym keys) distinct
-    in
-    let below : AreBelow (length (keys_of stored)) positions = subst (λ n. AreBelow n positions) (sym counted)
-    (AreBelow-order (length stored) positions order) in
-    let written : map (text_at ts) positions ≡ map entry_text (picked e all positions) =
-    texts_picked ts positions (entry_text e) (AreBelow-order (length ts) positions o)
-    ∙ ap (λ xs. picked (entry_text e) xs positions) (sym texts)
+    let apart : AllPairs (λ x y. x ≢ y) (keys_of stored) = subst (AllPairs (λ x y. x ≢ y)) (sym keys) distinct in
+    let below : AreBelow (length (keys_of stored)) positions = rw counted (AreBelow-order _ positions order) in
+    let written : map (text_at (map entry_text all)) positions ≡ map entry_text (picked e all positions) =
+    texts_picked (map entry_text all) positions (entry_text e) (AreBelow-order _ positions o)
     ∙ sym (map-picked entry_text e all positions) in
     let meant : map entry_meaning (picked e all positions) ≡ picked (entry_meaning e) stored positions = map-picked
     entry_meaning e all positions in
     let named : entry_keys (picked e all positions) ≡ picked e.key (keys_of stored) positions =
     ap keys_of meant ∙ map-picked (λ (p : List ℕ × Value). p.0) (entry_meaning e) stored positions in
     let new : IsDistinct bytes_eq (entry_keys (picked e all positions)) =
-    subst (λ ks. IsDistinct bytes_eq ks) (sym named)
-    (distinct_picked (keys_of stored) e.key positions apart below
+    rw named (distinct_picked (keys_of stored) e.key positions apart below
     (λ i h. omega (arith, order.once i (omega (arith, counted))))) in
     object_from r s dent k v ps b (picked e all positions) fit
     (each_picked (EntrySpells r (most_nest_under (pair k v ps))) e all positions each.0 each) new
-    (λ q. ap (λ xs. same_at (find q xs) (find q (list_of_pairs (pair k v ps)))) meant
-    ∙ ap (λ x. same_at x (find q (list_of_pairs (pair k v ps))))
-    (find-picked q (entry_meaning e) stored positions apart order) ∙ alike q)
-    (subst (λ xs. Encloses s dent 123 xs 125 b) written w)
+    (λ q. rw (meant, find-picked q (entry_meaning e) stored positions apart order) (alike q)) (rw written at w)
 
 -- ---- one entry
 
@@ -174,37 +163,30 @@ same_text : (s t : List ℕ) → s ≡ t → bytes_eq s t ≡ true
 same_text s t e = (bytes_eq-Decides s t).1 e
 
 -- a value with nothing inside it
-leaf : (r : Reading) (v : Value) (b t : List ℕ) (n : Node) → b ≡ t → NodeSpells r (nest v) t n
+leaf : {r : Reading} {v : Value} {b t : List ℕ} {n : Node} → b ≡ t → NodeSpells r (nest v) t n
     → same (meaning n) v ≡ true → ReadNode r v b
-leaf r v b t n e spells alike =
-    record { node = n; spells = subst (λ x. NodeSpells r (nest v) x n) (sym e) spells; alike = alike }
+leaf {n = n} e spells alike = record { node = n; spells = rw e spells; alike = alike }
 
 mutual
   read_node : (r : Reading) (s : Style) (dent : ℕ) (v : Value) (b : List ℕ) → AllowsWhitespaceOf r s → IsValue v
       → HasNoNan v → Writes s dent v b → ReadNode r v b
-  read_node r s dent null b fit h no_nan w = leaf r null b _ Node.null w (null_spells r) refl
-  read_node r s dent (boolean true) b fit h no_nan w =
-      leaf r (boolean true) b _ (Node.boolean true) w (true_spells r) refl
-  read_node r s dent (boolean false) b fit h no_nan w =
-      leaf r (boolean false) b _ (Node.boolean false) w (false_spells r) refl
+  read_node r s dent null b fit h no_nan w = leaf w (null_spells r) refl
+  read_node r s dent (boolean true) b fit h no_nan w = leaf w (true_spells r) refl
+  read_node r s dent (boolean false) b fit h no_nan w = leaf w (false_spells r) refl
   read_node r s dent (text k t) b fit h no_nan w =
-      let u : IsUtf8 t = text_utf8 k t h in
-      leaf r (text k t) b _ (Node.string (items_for t)) w (string_spells r t u)
-      (same_text (bytes_of (items_for t)) t (bytes_of-items_for t u))
+      let u : IsUtf8 t = text_utf8 k t h in leaf w (string_spells r t u) (same_text _ t (bytes_of-items_for t u))
   read_node r s dent (number nan) b fit h no_nan w = absurd no_nan
   read_node r s dent (number (parts p m x)) b fit h no_nan w =
-      let n = printed_numeral p m x h.0 h.1 in
-      leaf r (number (parts p m x)) b _ (Node.number n.0) w (number_spells r p m x n.0 h.0 h.1 n.1) n.1.alike
-  read_node r s dent (array no_values) b fit h no_nan w =
-      leaf r (array no_values) b _ (Node.empty_array []) w (empty_array_spells r) refl
+      let n = printed_numeral p m x h.0 h.1 in leaf w (number_spells r p m x n.0 h.0 h.1 n.1) n.1.alike
+  read_node r s dent (array no_values) b fit h no_nan w = leaf w (empty_array_spells r) refl
   read_node r s dent (array (value v vs)) b fit h no_nan w =
       let e = read_nodes r s (suc dent) (value v vs) w.0 fit h no_nan w.1 in
       array_from r s dent v vs b w.0 e.nodes fit (e.spell _ (omega arith)) e.alike w.2
-  read_node r s dent (object no_pairs) b fit h no_nan w =
-      leaf r (object no_pairs) b _ (Node.empty_object []) w (empty_object_spells r) refl
+  read_node r s dent (object no_pairs) b fit h no_nan w = leaf w (empty_object_spells r) refl
   read_node r s dent (object (pair k v ps)) b fit h no_nan w =
       let e = read_entries r s (suc dent) (pair k v ps) w.0 fit h.0 no_nan w.2 in
-      object_read r s dent k v ps b w.0 w.1 e.entries fit h.1 e.texts (e.spell _ (omega arith)) e.keys e.alike w.3 w.5
+      object_read r s dent k v ps b w.1 e.entries fit h.1 (e.spell _ (omega arith)) e.keys e.alike
+      (rw (e.texts) w.3) (rw (e.texts) w.5)
 
   read_nodes : (r : Reading) (s : Style) (dent : ℕ) (vs : Values) (ts : List (List ℕ)) → AllowsWhitespaceOf r s
       → AreValues vs → HaveNoNan vs → WritesEach s dent vs ts → ReadNodes r vs ts

@@ -30,9 +30,7 @@ tells_between f (c ∷ rest) =
     let n : length (f ++ (c ∷ rest)) - length (c ∷ rest) ≡ length f = omega (arith, length-append f (c ∷ rest)) in
     let here : get_or (f ++ (c ∷ rest)) (length f) 0 ≡ c = get_or-append_seam f c rest 0 in
     let prefix : take (length f) (f ++ (c ∷ rest)) ≡ f = take-append_seam f (c ∷ rest) in
-    subst (λ k. UnexpectedCharacter c (line f) (column f) ≡ error_at (f ++ (c ∷ rest)) k character) (sym n)
-    (ap (λ z. UnexpectedCharacter z (line f) (column f)) (sym here)
-    ∙ ap (λ z. UnexpectedCharacter (get_or (f ++ (c ∷ rest)) (length f) 0) (line z) (column z)) (sym prefix))
+    rw (n, here, prefix) refl
 
 reports_by : (bs : List ℕ) (e : Stop) (o : Outcome) → IsAtBoundary bs e → Tells (chars bs) (reported_error bs e) o → Reports bs e o
 reports_by bs e (meant v) at h = h
@@ -54,13 +52,8 @@ left_after bs i j u from to le =
     let split : drop i bs ≡ run ++ drop j bs =
     sym (take-append-drop (j - i) (drop i bs)) ∙ ap (λ z. run ++ z) (drop-drop (j - i) i bs ∙ ap (λ k. drop k bs) n) in
     let text : IsUtf8 run = IsUtf8-between bs i j u le from to in
-    omega (
-      arith,
-      ap (λ z. length (chars z)) split,
-      ap length (chars-append run (drop j bs) text),
-      length-append
-          (chars run) (chars (drop j bs)),
-    )
+    let whole = chars-append run (drop j bs) text in
+    rw split (omega (arith, ap length whole, length-append (chars run) (chars (drop j bs))))
 
 prefix_of : (f rest : List ℕ) (i : ℕ) → i ≡ length f → take i (f ++ rest) ≡ f
 prefix_of f rest i e = ap (λ k. take k (f ++ rest)) e ∙ take-append_seam f rest

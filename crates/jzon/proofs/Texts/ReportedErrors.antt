@@ -65,12 +65,9 @@ pub has_character : (bs : List ℕ) (i b : ℕ) → IsUtf8 bs → i < length bs 
     → Contains (chars bs) b
 has_character bs i b u lt e ascii =
     let at : IsCharBoundary bs i = IsCharBoundary-before_ascii bs i lt (omega (arith, e)) in
-    let split : drop i bs ≡ b ∷ drop (suc i) bs = drop-cons bs i 0 lt ∙ ap (λ z. z ∷ drop (suc i) bs) e in
+    let split : drop i bs ≡ b ∷ drop (suc i) bs = rw (drop-cons bs i 0 lt, e) refl in
     let whole : chars bs ≡ chars (take i bs) ++ (b ∷ chars (drop (suc i) bs)) =
     chars_split bs i u at ∙ ap (λ z. chars (take i bs) ++ z)
     (ap chars split ∙ chars-ascii b (drop (suc i) bs) (subst IsUtf8 split (IsUtf8-drop bs i u at)) ascii) in
-    subst (λ z. Contains z b) (sym whole) (
-      length (chars (take i bs)),
-      omega (arith, length-append (chars (take i bs)) (b ∷ chars (drop (suc i) bs))),
-      get_or-append_seam (chars (take i bs)) b (chars (drop (suc i) bs)) b,
-    )
+    let within = length-append (chars (take i bs)) (b ∷ chars (drop (suc i) bs)) in
+    rw whole (length (chars (take i bs)), omega (arith, within), get_or-append_seam (chars (take i bs)) b _ b)

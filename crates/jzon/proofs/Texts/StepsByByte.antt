@@ -33,8 +33,7 @@ some_byte (b ∷ bs) c cs e = omega arith
 pub next_is : (bs : List ℕ) (i b : ℕ) → IsUtf8 bs → IsCharBoundary bs i → i < length bs → get_or bs i 0 ≡ b → b < 128
     → chars (drop i bs) ≡ b ∷ chars (drop (i + 1) bs)
 next_is bs i b u at lt e ascii =
-    let split : drop i bs ≡ b ∷ drop (i + 1) bs = drop-cons bs i 0 lt ∙ ap (λ z. z ∷ drop (suc i) bs) e
-    ∙ ap (λ n. b ∷ drop n bs) (sym (add-one i)) in
+    let split : drop i bs ≡ b ∷ drop (i + 1) bs = rw (drop-cons bs i 0 lt, e, add-one i) refl in
     ap chars split ∙ chars-ascii b (drop (i + 1) bs) (subst IsUtf8 split (IsUtf8-drop bs i u at)) ascii
 
 -- and the automaton moves by it
@@ -69,11 +68,9 @@ pub byte_there : (bs : List ℕ) (i c : ℕ) (cs : List ℕ) → IsUtf8 bs → I
     → c < 128 → (i < length bs) × (get_or bs i 0 ≡ c)
 byte_there bs i c cs u at e lt =
     let w = IsUtf8-drop bs i u at in
-    let some : 0 < length (drop i bs) = some_byte (drop i bs) c cs e in (
-      omega (arith, some, length-drop i bs),
-      ap (λ n. get_or bs n 0) (omega arith) ∙ sym (get_or-drop i bs 0 0)
-          ∙ first_byte (drop i bs) c cs w e lt,
-    )
+    let some : 0 < length (drop i bs) = some_byte (drop i bs) c cs e in
+    let here : get_or (drop i bs) 0 0 ≡ get_or bs i 0 = get_or-drop i bs 0 0 ∙ ap (λ n. get_or bs n 0) (omega arith) in
+    (omega (arith, some, length-drop i bs), sym here ∙ first_byte (drop i bs) c cs w e lt)
 
 -- what holds of the byte at an offset, and of each character past ASCII, holds of the character there
 pub by_character : (P : ℕ → Type 0) (bs : List ℕ) (i c : ℕ) → (i < length bs → P (get_or bs i 0))
