@@ -1,17 +1,17 @@
 -- Complete, for numbers (`complete_number`): over the cells of a number the automaton goes from before it to after it,
 -- each move with its cell's mark. The end of a number is decided by what follows it, so nothing is required of that.
 use Rattle.jzon_base.proofs.Common.{◌≡◌, ℕ, List, [], ◌∷◌, Bool, true, false, not, ◌&&◌, ◌==◌, Option, Some, None, refl}
-use Rattle.jzon_base.proofs.Common.{sym, subst, eqb-true, IsTrue, is_ascii_digit}
+use Rattle.jzon_base.proofs.Common.{sym, subst, eqb-true, IsTrue, is_ascii_digit, ◌∙◌, and_parts, not-true, true≢false}
 use Rattle.jzon_tree.specs.Value as value
 use Rattle.jzon.specs.Reading.{Reading}
 use Rattle.jzon.specs.Grammar.{Sign, unsigned, plus, minus, Exponent, Numeral, AreDigits, IsDigits, IsWhole, IsExponent}
 use Rattle.jzon.specs.Grammar.{IsNumeral}
-use Rattle.jzon.specs.Spelling.{Breach, Cell, plain, onto, digits_cells, drops_too_many, keeps_too_many, sign_cells}
+use Rattle.jzon.specs.Spelling.{Cell, cell, plain, onto, digits_cells, drops_too_many, keeps_too_many, sign_cells}
 use Rattle.jzon.specs.Spelling.{exponent_cells, fraction_cells, numeral_cells}
 use Rattle.jzon.specs.Meaning.{number_of}
 use Rattle.jzon.specs.Private.Classes.{Class, digits, point, letter_e, class_of, NumberState, zero_read, whole}
 use Rattle.jzon.specs.Private.Classes.{fraction, lettered, exponent, after_first_digit, minus_char, plus_char}
-use Rattle.jzon.specs.Private.Machine.{Frames, State, before, numeral, after_value, Outcome, meant_at, last_numeral}
+use Rattle.jzon.specs.Private.Machine.{Frames, Move, before, numeral, after_value, Outcome, meant_at, last_numeral}
 use Rattle.jzon.specs.Private.Machine.{value_mark, number_value, exponent_of, move_after_value, move_after_whole}
 use Rattle.jzon.specs.Private.Machine.{move_numeral}
 use Rattle.jzon.proofs.Texts.ClassesOfCharacters.{digits-class, letter_e-class, class-char}
@@ -26,20 +26,22 @@ module _ (r : Reading) (G : Outcome → Type 0) (fs : Frames) (negative : Bool) 
   abbrev B : List ℕ → List ℕ → Option Exponent → List Cell → Type 0
   B ws ds x q = Follows r G q (after_value fs (number_value negative ws ds x))
 
+  -- the cell y is read by this move, and k follows
+  abbrev Reads : Cell → List Cell → Move → Type 0
+  Reads y k z = Meets z y.mark (λ p. Follows r G k p)
+
   -- ---- the exponent
 
-  past_exponent : (class : Class) (ws ds : List ℕ) (l : ℕ) (s : Sign) (xs : List ℕ) (c : ℕ) (m : Option Breach)
-      (H : State → Type 0)
-      → Meets (move_after_value class fs (number_value negative ws ds (exponent_of l s (onto xs [])))) m H
-      → Meets (move_numeral (exponent ws ds l s xs) class fs negative c) m H
-  past_exponent digits ws ds l s xs c m H h = absurd h
-  past_exponent _ ws ds l s xs c m H h = h
+  past_exponent : (class : Class) (ws ds : List ℕ) (l : ℕ) (s : Sign) (xs : List ℕ) (y : Cell) (k : List Cell)
+      → Reads y k (move_after_value class fs (number_value negative ws ds (exponent_of l s (onto xs []))))
+      → Reads y k (move_numeral (exponent ws ds l s xs) class fs negative y.char)
+  past_exponent digits ws ds l s xs y k h = absurd h
+  past_exponent _ ws ds l s xs y k h = h
 
   read_exponent : (ws ds : List ℕ) (l : ℕ) (s : Sign) (xs es : List ℕ) (k : List Cell) → AreDigits es
       → B ws ds (exponent_of l s (onto xs es)) k → F (plain es k) (exponent ws ds l s xs)
   read_exponent ws ds l s xs [] [] ok h = h
-  read_exponent ws ds l s xs [] (y ∷ k) ok h =
-      past_exponent (class_of r.strict y.char) ws ds l s xs y.char y.mark (λ p. Follows r G k p) h
+  read_exponent ws ds l s xs [] (y ∷ k) ok h = past_exponent (class_of r.strict y.char) ws ds l s xs y k h
   read_exponent ws ds l s xs (e ∷ es) k ok h =
       rw (digits-class r.strict e ok.0) (refl, read_exponent ws ds l s (e ∷ xs) es k ok.1 h)
 
@@ -57,18 +59,17 @@ module _ (r : Reading) (G : Outcome → Type 0) (fs : Frames) (negative : Bool) 
 
   -- ---- the fraction
 
-  past_fraction : (class : Class) (ws ds : List ℕ) (c : ℕ) (m : Option Breach) (H : State → Type 0)
-      → Meets (move_after_value class fs (number_value negative ws (onto ds []) None)) m H
-      → Meets (move_numeral (fraction ws ds) class fs negative c) m H
-  past_fraction digits ws ds c m H h = absurd h
-  past_fraction letter_e ws ds c m H h = absurd h
-  past_fraction _ ws ds c m H h = h
+  past_fraction : (class : Class) (ws ds : List ℕ) (y : Cell) (k : List Cell)
+      → Reads y k (move_after_value class fs (number_value negative ws (onto ds []) None))
+      → Reads y k (move_numeral (fraction ws ds) class fs negative y.char)
+  past_fraction digits ws ds y k h = absurd h
+  past_fraction letter_e ws ds y k h = absurd h
+  past_fraction _ ws ds y k h = h
 
   read_fraction : (ws ds es : List ℕ) (x : Option Exponent) (k : List Cell) → AreDigits es → IsExponent x
       → B ws (onto ds es) x k → F (digits_cells (keeps_too_many ws) ds es (exponent_cells x k)) (fraction ws ds)
   read_fraction ws ds [] None [] ok x_ok h = h
-  read_fraction ws ds [] None (y ∷ k) ok x_ok h =
-      past_fraction (class_of r.strict y.char) ws ds y.char y.mark (λ p. Follows r G k p) h
+  read_fraction ws ds [] None (y ∷ k) ok x_ok h = past_fraction (class_of r.strict y.char) ws ds y k h
   read_fraction ws ds [] (Some x) k ok x_ok h =
       rw (letter_e-class r.strict x.letter x_ok.0)
       (refl, read_letter ws (onto ds []) x.letter x.sign x.digits k x_ok.1 h)
@@ -78,41 +79,42 @@ module _ (r : Reading) (G : Outcome → Type 0) (fs : Frames) (negative : Bool) 
   -- ---- whole digits
 
   -- in this state the whole digits ws are read, and what follows isn't another digit
-  record EndsWhole (x : NumberState) (ws : List ℕ) : Type 1 where
-    past : (class : Class) (c : ℕ) (m : Option Breach) (H : State → Type 0)
-        → Meets (move_after_whole class fs negative ws c) m H → Meets (move_numeral x class fs negative c) m H
+  record EndsWhole (x : NumberState) (ws : List ℕ) : Type 0 where
+    past : (class : Class) (y : Cell) (k : List Cell) → Reads y k (move_after_whole class fs negative ws y.char)
+        → Reads y k (move_numeral x class fs negative y.char)
     ends : G (meant_at fs (number_value negative ws [] None)) → G (last_numeral x fs negative)
 
   zero_ends : EndsWhole zero_read (48 ∷ [])
-  zero_ends = record { past = λ class c m H h. h; ends = λ h. h }
+  zero_ends = record { past = λ class y k h. h; ends = λ h. h }
 
-  past_digits : (class : Class) (ds : List ℕ) (c : ℕ) (m : Option Breach) (H : State → Type 0)
-      → Meets (move_after_whole class fs negative (onto ds []) c) m H
-      → Meets (move_numeral (whole ds) class fs negative c) m H
-  past_digits digits ds c m H h = absurd h
-  past_digits _ ds c m H h = h
+  past_digits : (class : Class) (ds : List ℕ) (y : Cell) (k : List Cell)
+      → Reads y k (move_after_whole class fs negative (onto ds []) y.char)
+      → Reads y k (move_numeral (whole ds) class fs negative y.char)
+  past_digits digits ds y k h = absurd h
+  past_digits _ ds y k h = h
 
   digits_end : (ds : List ℕ) → EndsWhole (whole ds) (onto ds [])
-  digits_end ds = record { past = λ class c m H h. past_digits class ds c m H h; ends = λ h. h }
+  digits_end ds = record { past = λ class y k h. past_digits class ds y k h; ends = λ h. h }
 
-  past_whole : (class : Class) (ws : List ℕ) (c : ℕ) (m : Option Breach) (H : State → Type 0)
-      → Meets (move_after_value class fs (number_value negative ws [] None)) m H
-      → Meets (move_after_whole class fs negative ws c) m H
-  past_whole point ws c m H h = absurd h
-  past_whole letter_e ws c m H h = absurd h
-  past_whole _ ws c m H h = h
+  past_whole : (class : Class) (ws : List ℕ) (y : Cell) (k : List Cell)
+      → Reads y k (move_after_value class fs (number_value negative ws [] None))
+      → Reads y k (move_after_whole class fs negative ws y.char)
+  past_whole point ws y k h = absurd h
+  past_whole letter_e ws y k h = absurd h
+  past_whole _ ws y k h = h
 
   read_after_whole : (x : NumberState) (ws ds : List ℕ) (e : Option Exponent) (k : List Cell) → EndsWhole x ws
       → AreDigits ds → IsExponent e → B ws ds e k → F (fraction_cells ws ds (exponent_cells e k)) x
   read_after_whole x ws [] None [] end ok e_ok h = end.ends h
   read_after_whole x ws [] None (y ∷ k) end ok e_ok h =
-      end.past (class_of r.strict y.char) y.char y.mark (λ p. Follows r G k p)
-      (past_whole (class_of r.strict y.char) ws y.char y.mark (λ p. Follows r G k p) h)
+      end.past (class_of r.strict y.char) y k (past_whole (class_of r.strict y.char) ws y k h)
   read_after_whole x ws [] (Some e) k end ok e_ok h =
-      end.past (class_of r.strict e.letter) e.letter None _ (rw (letter_e-class r.strict e.letter e_ok.0)
+      end.past (class_of r.strict e.letter) (cell e.letter None) (sign_cells e.sign (plain e.digits k))
+      (rw (letter_e-class r.strict e.letter e_ok.0)
       (refl, read_letter ws [] e.letter e.sign e.digits k e_ok.1 h))
   read_after_whole x ws (d ∷ ds) e k end ok e_ok h =
-      end.past (class_of r.strict 46) 46 None _ (rw (class-char r.strict point)
+      end.past (class_of r.strict 46) (cell 46 None) (digits_cells (keeps_too_many ws) [] (d ∷ ds) (exponent_cells e k))
+      (rw (class-char r.strict point)
       (refl, rw (digits-class r.strict d ok.0) (refl, read_fraction ws (d ∷ []) ds e k ok.1 e_ok h)))
 
   read_whole : (ds es : List ℕ) (k : List Cell) → AreDigits es → F k (whole (onto es ds))
@@ -125,11 +127,7 @@ module _ (r : Reading) (G : Outcome → Type 0) (fs : Frames) (negative : Bool) 
       → F (digits_cells drops_too_many (d ∷ []) es k) (after_first_digit is_zero d)
   read_first true d [] k e ok h =
       h zero_read (subst (λ z. EndsWhole zero_read (z ∷ [])) (sym (eqb-true d 48 e)) zero_ends)
-  read_first true d (x ∷ es) k e ok h = absurd (no_zero (is_ascii_digit d) (d == 48) e ok.0)
-    where
-      no_zero : (a b : Bool) → b ≡ true → IsTrue (a && not b) → ⊥
-      no_zero true b e h = cc
-      no_zero false b e h = cc
+  read_first true d (x ∷ es) k e ok h = absurd (true≢false (sym e ∙ not-true _ (and_parts _ _ ok.0).1))
   read_first false d [] k e ok h = h (whole (d ∷ [])) (digits_end (d ∷ []))
   read_first false d (x ∷ es) k e ok h =
       read_whole (d ∷ []) (x ∷ es) k ok.1 (h (whole (onto (x ∷ es) (d ∷ [])))
@@ -137,11 +135,7 @@ module _ (r : Reading) (G : Outcome → Type 0) (fs : Frames) (negative : Bool) 
 
   first_digit : (d : ℕ) (es : List ℕ) → IsWhole (d ∷ es) → IsTrue (is_ascii_digit d)
   first_digit d [] ok = ok
-  first_digit d (x ∷ es) ok = both (is_ascii_digit d) _ ok.0
-    where
-      both : (a b : Bool) → IsTrue (a && b) → IsTrue a
-      both true b h = refl
-      both false b h = absurd (cc)
+  first_digit d (x ∷ es) ok = (and_parts _ _ ok.0).0
 
   read_magnitude : (d : ℕ) (es ds : List ℕ) (x : Option Exponent) (k : List Cell) → IsWhole (d ∷ es) → AreDigits ds
       → IsExponent x → B (d ∷ es) ds x k

@@ -57,13 +57,8 @@ length-item : (i : Item) (k : List Cell) → length (item_cells i k) ≡ item_le
 unfolding item_length
 length-item (grammar.plain c) k = omega arith
 length-item (simple c) k = omega arith
-length-item (single u) k = omega (arith, length-plain u k)
-length-item (double u v) k = omega (
-  arith,
-  length-plain u
-      (cell 92 None ∷ cell 117 None ∷ marked_last v (breach_if (not (is_pair u v)) pair) k),
-  length-marked v (breach_if (not (is_pair u v)) pair) k,
-)
+length-item (single u) k = omega (arith, length-plain)
+length-item (double u v) k = omega (arith, length-plain, length-marked)
 
 pub length-items : (is : List Item) (k : List Cell) → length (items_cells is k) ≡ items_length is + length k
 length-items [] k = omega arith
@@ -104,23 +99,13 @@ module _ (r : Reading) (G : Outcome → Type 0) (role : Role) (bs : List ℕ) wh
   unfolding code_unit
   read_item (grammar.plain c) q ok h =
       let t = plain_parts c ok in
-      rw (ok, t.0, t.1) (refl, subst (λ b. Follows r G q (string role b between)) (bytes-one bs c) h)
+      rw (ok, t.0, t.1) (refl, rw (bytes-one bs c) at h)
   read_item (simple c) q ok h =
-      (refl, rw (simple_not_u c ok, ok) (refl, subst (λ b. Follows r G q (string role b between)) (bytes-one bs _) h))
-  read_item (single u) q ok h = (
-    refl,
-    (refl, read_code 3 0 u q ok.0 (rw (ok.1) (subst (λ b. Follows r G q (string role b between)) (bytes-one bs _) h))),
-  )
-  read_item (double u v) q ok h = (
-    refl,
-    (
-      refl,
-      read_code 3 0 u _ ok.0 (rw (ok.1) (
-        refl,
-        (refl, read_second (code_unit u) 3 0 v _ q ok.2 (meets_pair (is_pair u v) (code_unit u) (code_unit v) q h)),
-      )),
-    ),
-  )
+      (refl, rw (simple_not_u c ok, ok) (refl, rw (bytes-one bs) at h))
+  read_item (single u) q ok h = (refl, (refl, read_code 3 0 u q ok.0 (rw ok.1 (rw (bytes-one bs) at h))))
+  read_item (double u v) q ok h =
+      let second = read_second (code_unit u) 3 0 v _ q ok.2 (meets_pair (is_pair u v) (code_unit u) (code_unit v) q h) in
+      (refl, (refl, read_code 3 0 u _ ok.0 (rw ok.1 (refl, (refl, second)))))
 
 module _ (r : Reading) (G : Outcome → Type 0) (role : Role) where
   pub read_items : (bs : List ℕ) (is : List Item) (q : List Cell) → AreItems is
