@@ -55,6 +55,12 @@ abbrev mutual
 abbrev is_document : Reading → Document → Bool
 is_document r d = is_blank r d.before && (is_node r d.node && is_blank r d.after)
 
+left-true : (a b : Bool) → IsTrue (a && b) → IsTrue a
+left-true a b h = (and_parts a b h).0
+
+right-true : (a b : Bool) → IsTrue (a && b) → IsTrue b
+right-true a b h = (and_parts a b h).1
+
 each-true : (test : ℕ → Bool) (w : List ℕ) → IsTrue (list_all test w) → Each test w
 each-true test [] h = tt
 each-true test (c ∷ w) h = let t = and_parts _ _ h in (t.0, each-true test w t.1)
@@ -62,21 +68,15 @@ each-true test (c ∷ w) h = let t = and_parts _ _ h in (t.0, each-true test w t
 item-true : (i : Item) → IsTrue (is_item i) → IsItem i
 item-true (grammar.plain c) h = h
 item-true (simple c) h = h
-item-true (single u) h = let t = and_parts _ _ h in (hex-true 4 u t.0, not-true _ t.1)
-item-true (double u v) h =
-    let t = and_parts _ _ h in
-    let s = and_parts _ _ t.1 in
-    (hex-true 4 u t.0, s.0, hex-true 4 v s.1)
+item-true (single u) h = search (left-true, right-true, hex-true, not-true)
+item-true (double u v) h = search (left-true, right-true, hex-true)
 
 items-true : (is : List Item) → IsTrue (list_all is_item is) → AreItems is
 items-true [] h = tt
 items-true (i ∷ is) h = let t = and_parts _ _ h in (item-true i t.0, items-true is t.1)
 
 key-true : (r : Reading) (k : Key) → IsTrue (is_key r k) → IsKey r k
-key-true r k h =
-    let t = and_parts _ _ h in
-    let s = and_parts _ _ t.1 in
-    (each-true _ k.before t.0, items-true k.items s.0, each-true _ k.after s.1)
+key-true r k h = search (left-true, right-true, each-true, items-true)
 
 mutual
   node-true : (r : Reading) (n : Node) → IsTrue (is_node r n) → IsNode r n
@@ -86,34 +86,16 @@ mutual
   node-true r (Node.string is) h = items-true is h
   node-true r (Node.empty_array b) h = each-true _ b h
   node-true r (Node.empty_object b) h = each-true _ b h
-  node-true r (Node.array b n c es) h =
-      let t = and_parts _ _ h in
-      let s = and_parts _ _ t.1 in
-      let q = and_parts _ _ s.1 in
-      (each-true _ b t.0, node-true r n s.0, each-true _ c q.0, elements-true r es q.1)
-  node-true r (Node.object k b n c ms) h =
-      let a = and_parts _ _ h in
-      let t = and_parts _ _ a.1 in
-      let s = and_parts _ _ t.1 in
-      let q = and_parts _ _ s.1 in
-      (key-true r k a.0, each-true _ b t.0, node-true r n s.0, each-true _ c q.0, members-true r ms q.1)
+  node-true r (Node.array b n c es) h = search (left-true, right-true, each-true, node-true r n, elements-true r es)
+  node-true r (Node.object k b n c ms) h = search (left-true, right-true, key-true, each-true, node-true r n, members-true r ms)
 
   elements-true : (r : Reading) (es : Elements) → IsTrue (are_elements r es) → AreElements r es
   elements-true r no_elements h = tt
-  elements-true r (element b n c es) h =
-      let t = and_parts _ _ h in
-      let s = and_parts _ _ t.1 in
-      let q = and_parts _ _ s.1 in
-      (each-true _ b t.0, node-true r n s.0, each-true _ c q.0, elements-true r es q.1)
+  elements-true r (element b n c es) h = search (left-true, right-true, each-true, node-true r n, elements-true r es)
 
   members-true : (r : Reading) (ms : Members) → IsTrue (are_members r ms) → AreMembers r ms
   members-true r no_members h = tt
-  members-true r (member k b n c ms) h =
-      let a = and_parts _ _ h in
-      let t = and_parts _ _ a.1 in
-      let s = and_parts _ _ t.1 in
-      let q = and_parts _ _ s.1 in
-      (key-true r k a.0, each-true _ b t.0, node-true r n s.0, each-true _ c q.0, members-true r ms q.1)
+  members-true r (member k b n c ms) h = search (left-true, right-true, key-true, each-true, node-true r n, members-true r ms)
 
 -- ---- one text
 
