@@ -23,7 +23,8 @@ const MAX_DROPPED: usize = 32767;
 /// The most digits after the point that may be kept.
 const MAX_KEPT_FRACTION: usize = 32768;
 
-/// A written exponent above this is clamped, whatever the digits are.
+/// Written exponents are capped at this: whatever the digits are, the sum in `clamped_exponent` is
+/// then clamped too.
 const MAX_WRITTEN: u32 = 65536;
 
 /// The digit that exceeds a limit, by its position among the digits before or after the point.
@@ -72,8 +73,9 @@ pub fn read_scanned(
     Ok(Number::from_parts_unchecked(positive, number, exponent))
 }
 
-/// The number of leading digits, and the number that they spell when appended to `before`, modulo
-/// 2^64. `before` is itself reduced modulo 2^64.
+/// How many digits `bytes` begin with, and the number that they spell when appended to those of
+/// `before`, modulo 2^64. The clause `number` holds for each `n` of which `before` is the
+/// remainder.
 #[inline]
 pub fn scan(bytes: &[u8], before: u64) -> (usize, u64)
     ensures count { result.0 ≡ prefix_len is_ascii_digit bytes.now }
@@ -94,8 +96,7 @@ pub fn scan(bytes: &[u8], before: u64) -> (usize, u64)
     (len + count, number)
 }
 
-/// How many digits `bytes` begin with, and the number of `before` with these digits after it, modulo
-/// 2^64: one byte is read at a time.
+/// Does what `scan` does, one byte at a time.
 fn scan_by_bytes(bytes: &[u8], before: u64) -> (usize, u64)
     ensures count { result.0 ≡ prefix_len is_ascii_digit bytes.now }
     ensures number { (n : ℕ) → before ≡ n % 2 ^ 64
@@ -115,7 +116,7 @@ fn scan_by_bytes(bytes: &[u8], before: u64) -> (usize, u64)
 
 /// The longest prefix of the digits that spells a number below 2^64: this number, how many digits
 /// before the point are dropped, and how many after it are kept. `number` is the one that all digits
-/// spell, modulo 2^64.
+/// spell, modulo 2^64: if they are at most 19, it is the result's number.
 fn kept_prefix(whole: &[u8], fraction: &[u8], number: u64) -> (u64, usize, usize)
     requires whole { All IsDigit whole.now }
     requires fraction { All IsDigit fraction.now }
@@ -135,8 +136,8 @@ fn kept_prefix(whole: &[u8], fraction: &[u8], number: u64) -> (u64, usize, usize
     (number, 0, kept_fraction)
 }
 
-/// Appends digits to `before` as long as the number stays below 2^64: the number and how many
-/// digits were appended.
+/// Appends digits to `before` as long as the number stays below 2^64. Returns this number, and how
+/// many digits were appended.
 #[cold]
 #[inline(never)]
 fn longest_prefix(before: u64, digits: &[u8]) -> (u64, usize)
@@ -160,8 +161,8 @@ fn longest_prefix(before: u64, digits: &[u8]) -> (u64, usize)
     (number, digits.len())
 }
 
-/// The exponent from the dropped and kept digits and the written exponent, added exactly and
-/// clamped once.
+/// The exponent of the number: the written one, plus 1 for each dropped digit before the point,
+/// minus 1 for each kept digit after it. The sum is exact, and then clamped to an `i16`.
 fn clamped_exponent(dropped: usize, kept_fraction: usize, positive: bool, written: &[u8]) -> i16
     requires digits { All IsDigit written.now }
     requires dropped { dropped ≤ 32767 }
@@ -195,7 +196,8 @@ fn capped_number(digits: &[u8]) -> u32
 }
 
 /// A law on the definitions alone: the kept digits are the longest prefix that spells a number
-/// below 2^64, and each longer prefix spells 2^64 or more.
+/// below 2^64, and each longer prefix spells 2^64 or more. Nothing calls this function. It is here
+/// because a statement is proved only if it is in a contract.
 pub fn keeps_longest_prefix()
     ensures { KeepsLongestPrefix }
 {}

@@ -76,8 +76,8 @@ impl Key {
         Ok(Some(Key::new(alloc, text)?))
     }
 
-    /// Appends the key with this text to `keys`, which have room: `long`, or one that is stored
-    /// inline. It is made here, so that it isn't moved.
+    /// Appends the key with this text to `keys`, which have room. `long` is what `Key::long`
+    /// returned for the text. A key that is stored inline is made here, so that it isn't moved.
     #[inline(always)]
     pub(crate) fn push(keys: &mut Vec<Key>, text: &str, long: Option<Key>)
         requires room { vec_len keys.old < vec_capacity keys.old }
@@ -90,8 +90,9 @@ impl Key {
         }
     }
 
-    /// Appends the key with this text, with which `wide` begins, to `keys`. It is made there, so that
-    /// it isn't moved; this is faster if `wide` has 32 bytes. The error is a failed allocation.
+    /// Appends the key with this text, with which `wide` begins, to `keys`. It is made there, so
+    /// that it isn't moved. If `wide` has 32 bytes or more, 32 of them are copied at once, which is
+    /// faster. The error is a failed allocation.
     #[doc(hidden)]
     #[inline(always)]
     pub fn push_wide(

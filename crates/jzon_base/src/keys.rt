@@ -8,6 +8,11 @@
 //!
 //! `from_entries` sorts the index entries of more than 32 keys once. If no key repeats, they are the
 //! index; else, and for fewer keys, the entries of the object are put one after the other.
+//!
+//! In clauses, `bytes_eq` is the equality of keys. `IsIndexed keys index` says that the index is
+//! empty or has the entries of exactly these keys, and `IsTable keys index` that the keys are
+//! distinct too. `IsSpotFor keys index name hash at` says that in an index that isn't empty, the
+//! entry of the missing key `name` has this hash and belongs at position `at` of the last run.
 ghost use Rattle.std.specs.Prelude.{◌≡◌, ◌<◌, ◌++◌, ◌∷◌, ◌==◌, [], length, remove, slice_get, List, ℕ, IfOk, IfErr, OnOk, OnErr, MatchOption, None, Some, vec_len, vec_capacity};
 ghost use Rattle.std.specs.List.{position, zip, IsDistinct};
 ghost use Rattle.std.specs.Result.{result_ok};
@@ -41,8 +46,7 @@ const FIRST_ROOM: usize = 8;
 /// Distinct keys in the order in which they were put, and the index in which the position of each
 /// is found. A clause sees the list of their bytes.
 ///
-/// A look-up compares keys without an index one by one. `refill` and `entries::fill`
-/// compute the hashes of keys; else the caller passes them to the index.
+/// A look-up in keys without an index compares them one by one.
 #[derive(Drop)]
 pub struct Keys {
     keys: Vec<Key>,
@@ -57,15 +61,17 @@ impl Model for Keys {
     ghost invariant = { λ k. IsTable k.keys.items k.index };
 }
 
-/// Where the index entry of a missing key belongs.
+/// Where the index entry of a missing key belongs. It has no use while the keys have no index.
 #[derive(Drop)]
 struct Spot {
+    /// The hash of the key.
     hash: u64,
+    /// The position of the entry in the last run.
     at: usize,
 }
 
 /// The position of a key. The error is where the entry of a missing key belongs, if the keys have
-/// an index.
+/// an index; else its fields are 0.
 #[inline(always)]
 fn search(keys: &[Key], index: &Runs, name: &str) -> Result<usize, Spot>
     requires { IsTable keys.now index.now }
@@ -224,8 +230,8 @@ impl Keys {
         put_each(alloc, keys, values)
     }
 
-    /// Distinct keys, of which this is known, with their index if they are more than 32. The error is
-    /// a failed allocation.
+    /// These keys, with their index if they are more than 32. `known` is what is known of exactly
+    /// them (the clause `Knows`), so they are distinct. The error is a failed allocation.
     pub fn from_known(alloc: Global, keys: Vec<Key>, known: KnownKeys) -> Result<Keys, AllocError>
         requires { Knows keys.items known }
         ensures { IfOk result (λ k. k ≡ keys.items) }
@@ -288,6 +294,7 @@ impl Keys {
             Ok(position) => return Ok(Some(position)),
             Err(spot) => spot,
         };
+        // All allocations come before `Key::push`, so a failed one leaves the keys as they were.
         reserve_next(values)?;
         reserve_next(&mut self.keys)?;
         let long = Key::long(alloc, name)?;

@@ -189,7 +189,7 @@ impl Eq for Number {
     ghost laws = { same_equiv };
 }
 
-/// The fields, for debugging only.
+/// The category, the exponent and the mantissa, for debugging only.
 impl fmt::Debug for Number {
     fn fmt<W: fmt::Write>(&self, f: &mut fmt::Formatter<W>) -> fmt::Result {
         f.debug_struct("Number")
@@ -215,7 +215,8 @@ impl fmt::Display for Number {
 }
 
 /// Whether two numbers of one sign, neither 0, with these mantissas and exponents are equal: that of
-/// the higher exponent is scaled down to the lower one.
+/// the higher exponent is scaled down to the lower one. In clauses, `scaled m e` is
+/// `m * 10 ^ (e + 32768)`, an integer for each exponent.
 #[tactic(auto, using(crate::proofs::Numbers::Scaling::same_rules))]
 fn same_magnitude(mantissa: u64, exponent: i16, other_mantissa: u64, other_exponent: i16) -> bool
     requires left { 0 < mantissa }

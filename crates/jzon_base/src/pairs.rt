@@ -1,4 +1,9 @@
 //! Values under distinct keys, in a box (docs/RULES.md, "Objects").
+//!
+//! A clause `writes_back` says what the receiver is once a returned `&mut` is no longer used.
+//! `Lends .. result f` says that it is `f w`, for the last value `w` to which the reference
+//! referred; `LendsIf .. result f x` and `LendsIfOk .. result f x` say so of `Some` and of `Ok`,
+//! and that the receiver is `x` at `None` or `Err`.
 ghost use Rattle.std.specs.Prelude.{◌≡◌, ◌<◌, ◌-◌, ◌∷◌, ◌==◌, List, ℕ, [], length, remove, slice_get, Some, None, OnOk, OnErr, IfOk, MatchOption};
 ghost use Rattle.std.specs.List.{position, zip, IsDistinct};
 ghost use Rattle.std.specs.Map.Calls.{CalledAtPair, CallableOnEachPair, RetainsPairs, TakesPair};
@@ -168,7 +173,7 @@ impl<V> Pairs<V> {
         }
     }
 
-    /// The allocator of the entries.
+    /// The allocator of the entries, for std's `Clone` of objects, which is passed none.
     pub fn allocator(&self) -> Global {
         self.alloc
     }

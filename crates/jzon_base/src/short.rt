@@ -40,8 +40,8 @@ impl Short {
         }
     }
 
-    /// A copy of the string, with which `wide` begins. This is faster than `from_slice` if `wide` has
-    /// 30 bytes.
+    /// A copy of the string, with which `wide` begins. If `wide` has 30 bytes or more, 30 of them
+    /// are copied at once, which is faster than `from_slice`.
     #[doc(hidden)]
     #[inline(always)]
     pub fn from_wide(slice: &str, wide: &str) -> Short

@@ -39,6 +39,7 @@ pub(crate) fn leading_digits(bytes: &[u8], start: usize) -> (usize, u64)
         return (EIGHT, number_of_eight(word));
     }
     let count = others.trailing_zeros();
+    // With zeros before them, the `count` digits are eight digits of the same number.
     (count as usize, number_of_eight(last_bytes(word, count)))
 }
 
@@ -53,7 +54,8 @@ fn last_bytes(word: u64, count: u32) -> u64
 }
 
 /// The number that eight digits spell, given by their values in the bytes of a word, the first in
-/// the lowest byte: digits are joined two by two, then four by four, then all eight.
+/// the lowest byte: digits are joined two by two, then four by four, then all eight. In the clause
+/// these values are `ds`, and `number_l 256 ds` is the word with these bytes.
 #[inline(always)]
 fn number_of_eight(word: u64) -> u64
     ensures { (ds : List ℕ) → length ds ≡ 8 → All (λ d. d < 10) ds → word ≡ number_l 256 ds

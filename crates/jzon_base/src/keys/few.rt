@@ -7,10 +7,12 @@ ghost use Rattle.std.specs.Str.{bytes_eq};
 use super::filter::Filter;
 use crate::key::Key;
 
-/// Up to how many keys are few. More have an index.
+/// Up to how many keys are few: a look-up compares them one by one, and a filter of 256 bits is
+/// enough for them.
 pub const LINEAR_MAX: usize = 32;
 
-/// Up to how many keys are compared with each other. Of more, a filter finds which may repeat.
+/// Up to how many keys are compared with each other to see whether one repeats. Of more keys, a
+/// filter finds those that may repeat.
 const COMPARED_MAX: usize = 8;
 
 /// Whether texts have the same bytes. It is a function of its own, so that `are_equal` makes a call

@@ -1,4 +1,5 @@
-//! A filter of few keys: most absent names are rejected without comparing keys.
+//! A filter of few keys: most absent names are rejected without comparing keys. In clauses, `HasBit
+//! words key` says that the bit of a key is set, and `HaveBits keys words` says it of all keys.
 ghost use Rattle.std.specs.Prelude.{◌≡◌, ◌<◌, ◌++◌, ◌∷◌, [], true, List, ℕ};
 ghost use Rattle.std.specs.List.{list_any};
 ghost use Rattle.std.specs.Str.{bytes_eq};

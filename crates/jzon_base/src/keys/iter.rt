@@ -22,6 +22,7 @@ impl<'a> Model for Iter<'a> {
 }
 
 impl<'a> Iter<'a> {
+    /// All of these keys.
     pub(super) fn new(keys: &'a [Key]) -> Iter<'a>
         ensures { result ≡ keys.now }
     {

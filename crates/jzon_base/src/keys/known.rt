@@ -19,7 +19,9 @@ use super::{add_entry, search};
 use crate::key::Key;
 use std::alloc::{AllocError, Global};
 
-/// What is known of the distinct keys of a vector of the caller. In a clause, `Knows` says of which.
+/// What is known of the distinct keys of a vector of the caller. In clauses, `Knows keys known`
+/// says that `known` is known of exactly these keys, and `IsTable keys index` that these keys are
+/// distinct and the index is empty or has the entries of exactly them.
 ///
 /// What is known of many keys is in a box, so that `KnownKeys` is small.
 #[derive(Drop)]
@@ -93,6 +95,7 @@ impl KnownKeys {
             }
             KnownKeys::Many(many) => {
                 if many.scans_left == 0 {
+                    // The filter was wrong too often: from here on an index finds the keys.
                     let mut index = Box::new(alloc, Runs::new(alloc))?;
                     let known = has_or_indexes(alloc, keys, &mut index, name)?;
                     *self = KnownKeys::Indexed(index);

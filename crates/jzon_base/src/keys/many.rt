@@ -1,6 +1,10 @@
 //! What is known of more than 32 keys that are in a vector of the caller: their index entries in the
 //! order of the keys, and a filter of their hashes that grows. A usual key that is new takes its
 //! hash and a test of bits; the entries are sorted once, when the keys get their index.
+//!
+//! In clauses, `HasHash words hash` says that the bits of a hash are set. `KnowsMany keys words
+//! entries` says that the keys are distinct, that the entries are theirs, and that the bits of all
+//! are set.
 ghost use Rattle.std.specs.Prelude.{◌≡◌, ◌<◌, ◌==◌, ◌++◌, ◌∷◌, [], true, false, is_some, length, IfOk, OnErr, ℕ};
 ghost use Rattle.std.specs.List.{list_any, position, All, IsDistinct};
 ghost use Rattle.std.specs.Str.{bytes_eq};
@@ -50,7 +54,7 @@ fn mask_of(hash: u64) -> u64
     first | 1 << (mixed >> 46) % 64 | 1 << (mixed >> 40) % 64
 }
 
-/// Sets the bits of a key of this hash. Whether all were set.
+/// Sets the bits of a key of this hash. Returns whether all were set before.
 #[inline(always)]
 fn set_bits(words: &mut Vec<u64>, hash: u64) -> bool
     requires { 0 < length words.old.items }
@@ -102,8 +106,9 @@ impl ManyKeys {
         })
     }
 
-    /// Whether there is a key of this name, which has this hash, by a comparison with the hashes of
-    /// all keys, and with the keys if one is equal.
+    /// Whether there is a key of this name, which has this hash. It is called if the filter says
+    /// that there may be one: it compares the hashes of all keys, and the keys themselves if one is
+    /// equal.
     #[cold]
     #[inline(never)]
     fn scan(&mut self, keys: &[Key], name: &str, hash: u64) -> bool
@@ -132,7 +137,7 @@ impl ManyKeys {
         Ok(())
     }
 
-    /// Sets the bits of a name, which has this hash. Whether there is a key of this name.
+    /// Sets the bits of a name, which has this hash. Returns whether there is a key of this name.
     #[inline(always)]
     fn has_or_sets(&mut self, keys: &[Key], name: &str, hash: u64) -> bool
         requires knows { KnowsMany keys.now self.old.words.items self.old.entries.items }

@@ -1,4 +1,9 @@
 //! Keys and values that are kept, and the index of the keys that are left.
+//!
+//! Clauses on a closure: `CallableOnEachPair .. keep entries` says that `keep` accepts each entry,
+//! after calls for those before it; `RetainsPairs .. keep before after`, that `keep` was called for
+//! each entry of `before` in turn, and that `after` has those for which it returned `true`, with
+//! the values that it left there.
 ghost use Rattle.std.specs.Prelude.{◌≡◌, length};
 ghost use Rattle.std.specs.List.{zip};
 ghost use Rattle.std.specs.Map.Calls.{CalledAtPair, CallableOnEachPair, RetainsPairs, TakesPair};
@@ -6,7 +11,9 @@ ghost use Rattle.std.specs.Map.Calls.{CalledAtPair, CallableOnEachPair, RetainsP
 use super::Keys;
 use crate::key::Key;
 
-/// Whether `keep` keeps this entry. It may change the value.
+/// Whether `keep` keeps this entry. It may change the value. A function of its own, so that the
+/// proof of the loop speaks of keys and values, and not of references to them. `TakesPair` says
+/// that `keep` accepts the entry, and `CalledAtPair` what one call returns and changes.
 #[inline(always)]
 fn keeps<V: Drop, F: FnMut(&str, &mut V) -> bool>(keep: &mut F, key: &str, value: &mut V) -> bool
     requires { TakesPair F.FnMut keep.old key.now value.old }

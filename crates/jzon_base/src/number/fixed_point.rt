@@ -1,5 +1,9 @@
 //! Numbers as fixed-point integers (docs/RULES.md, "Fixed-point readings"): `mantissa * 10 ^
 //! (exponent + point)`, so that `point` is the number of decimal places that are kept.
+//!
+//! In clauses, `SomeWhere o P r` says that `r` is `Some` of the integer in `o`, if there is one and
+//! `P` holds of it, and else `None`. `integer_at n point` is the number `n * 10 ^ -point`, which
+//! has an exponent of 16 bits if `point` is at most 32768.
 
 ghost use Rattle.std.specs.Prelude.{◌≡◌, pos, ◌/◌, ◌%◌, ◌==◌, ◌+ℤ◌, ◌<◌, ◌≤◌, ◌^◌, FitsSigned, IfSome, IsTrue, true};
 ghost use Rattle.std.specs.Int.{w64};

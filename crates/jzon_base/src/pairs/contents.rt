@@ -1,4 +1,8 @@
 //! The keys and the values of `Pairs`, which are in its box.
+//!
+//! A clause `writes_back` says what the receiver is once a returned `&mut` is no longer used.
+//! `Lends .. result f` says that it is `f w`, for the last value `w` to which the reference
+//! referred.
 ghost use Rattle.std.specs.Prelude.{◌≡◌, ◌<◌, List, ℕ, length, remove, slice_get, Some, None, OnOk, OnErr, IfOk};
 ghost use Rattle.std.specs.List.{position, zip};
 ghost use Rattle.std.specs.Str.{bytes_eq};

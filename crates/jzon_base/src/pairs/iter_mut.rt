@@ -11,7 +11,7 @@ use std::slice;
 
 /// The entries, each as its key's text and its value, which may be written.
 ///
-/// It has no model, so that a clause reads what it has left by `iter_mut_rest`.
+/// It has no model, so a clause says by `iter_mut_rest` which entries are left.
 #[derive(Drop)]
 pub struct IterMut<'a, V> {
     keys: keys::Iter<'a>,

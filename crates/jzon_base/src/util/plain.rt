@@ -1,4 +1,5 @@
-//! Runs of bytes that need no escape (RFC 8259, section 7).
+//! Finds the first byte that needs an escape (RFC 8259, section 7). In clauses, `is_plain` holds of
+//! a byte that needs none, and `prefix_len is_plain bytes` is how many such bytes come first.
 
 ghost use Rattle.std.specs.Prelude.{◌≡◌, ◌+◌, ◌<◌, ◌≤◌, drop, length, take, IsTrue};
 ghost use Rattle.std.specs.Int.{w64, trailing_zeros};
@@ -70,8 +71,8 @@ fn plain_by_ends<const N: usize>(bytes: &[u8]) -> usize
     last + plain_in_lanes::<N>(bytes, last)
 }
 
-/// The length of the plain prefix, which has the first half of a block: block by block, of which the
-/// last may overlap the one before.
+/// The length of the plain prefix of bytes whose first `HALF` are plain. Block by block is
+/// compared; the last block ends where the bytes do, so it may overlap the one before.
 #[inline(never)]
 fn plain_after_half(bytes: &[u8]) -> usize
     requires { HALF ≤ prefix_len is_plain bytes.now }
@@ -94,7 +95,8 @@ fn plain_after_half(bytes: &[u8]) -> usize
 }
 
 /// Whether `N` to `2 * N` bytes need no escape: the first `N` and the last `N`, which may overlap,
-/// are put side by side and compared at once. `M` is `2 * N`.
+/// are put side by side and compared at once. `M` is `2 * N`. The clause says only what `true`
+/// means, because at `false` a caller takes the way for bytes that need escapes.
 #[inline(always)]
 pub fn is_plain_by_ends<const N: usize, const M: usize>(bytes: &[u8]) -> bool
     requires lanes { (M ≤ 32) × (M ≡ N + N) }
@@ -108,8 +110,8 @@ pub fn is_plain_by_ends<const N: usize, const M: usize>(bytes: &[u8]) -> bool
     escapes_in_lanes::<M>(ends, 0) == 0
 }
 
-/// How many of the `N` bytes at an offset come before the first that needs an escape: all of them
-/// where none does.
+/// How many of the `N` bytes at an offset come before the first that needs an escape; `N` if none
+/// does.
 #[inline(always)]
 fn plain_in_lanes<const N: usize>(bytes: &[u8], start: usize) -> usize
     requires few { N ≤ 32 }

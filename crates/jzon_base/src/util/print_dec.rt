@@ -1,4 +1,5 @@
-//! The text of a number (docs/RULES.md, "Printed numbers"; RFC 8259, section 6).
+//! The text of a number (docs/RULES.md, "Printed numbers"; RFC 8259, section 6). In clauses, 45, 46
+//! and 48 are the bytes `-`, `.` and `0`, and `decimal n` are the digits of `n`.
 
 ghost use Rattle.std.specs.Prelude.{◌≡◌, ◌+◌, ◌-◌, ◌≤◌, ◌<◌, ◌++◌, ◌∷◌, length, take, drop, replicate, decimal, IsAscii, IsTrue, false, OnOk, OnErr, vec_len, vec_capacity};
 ghost use Rattle.std.specs.Io.KnownBytes.{Appends};
@@ -94,7 +95,8 @@ fn put_point(room: &mut [u8], point: usize)
 }
 
 /// Adds 48 bytes, of which the first are `minuses` minuses and the digits of `n`, and returns the
-/// offset after these digits.
+/// offset after these digits. The bytes after that are room for `put_point`; the caller cuts them
+/// off.
 #[inline(always)]
 fn put_after_minuses(bytes: &mut Vec<u8>, minuses: usize, n: u64) -> usize
     requires some { 0 < n }
@@ -160,7 +162,7 @@ fn push_magnitude(text: &mut NumberText, digits: &str, exponent: i16)
     }
 }
 
-/// The digits divided by `10 ^ places`, without an exponent.
+/// Adds the digits divided by `10 ^ places`, without an exponent.
 fn push_fraction(text: &mut NumberText, digits: &str, places: usize)
     requires ascii { IsAscii digits.now }
     requires places { places ≤ 17 }
@@ -178,8 +180,8 @@ fn push_fraction(text: &mut NumberText, digits: &str, places: usize)
     }
 }
 
-/// The exponent of `count` digits divided by `10 ^ places`, of which one is before the point:
-/// nothing if it is 0.
+/// Adds the exponent of `count` digits divided by `10 ^ places`, if the first digit is before the
+/// point: it is `count - 1 - places`. Nothing is added for the exponent 0.
 fn push_small_exponent(text: &mut NumberText, count: usize, places: usize)
     requires count { count ≤ 20 }
     requires small { 18 ≤ places }

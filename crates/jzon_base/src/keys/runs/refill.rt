@@ -1,4 +1,6 @@
-//! The index of fewer keys, in the room of the index of more.
+//! The index of fewer keys, in the room of the index of more. Each run keeps its length as far as
+//! there are keys. In clauses, `hashed_from n keys` are the index entries of keys with positions
+//! from `n` on, and `entry_cmp keys` is their order, by hashes and then texts.
 ghost use Rattle.std.specs.Prelude.{◌≡◌, ◌≤◌, ◌+◌, ◌-◌, drop, length, map, min, take};
 ghost use Rattle.std.specs.List.Sorted.{IsPermutation, IsSorted};
 ghost use Rattle.jzon_base.specs.Private.Handed.{entries_of, IsIndexOf};
