@@ -63,7 +63,8 @@ fn copy_items(alloc: Global, items: &[JsonValue]) -> Result<Vec<JsonValue>>
     Ok(copies)
 }
 
-/// Adds a copy of the value if it is stored inline, and returns whether it is.
+/// Adds a copy of the value if it is stored inline, and returns whether it is. The copy is made in
+/// place, because a value that is returned is moved.
 #[inline(always)]
 fn push_inline(copies: &mut Vec<JsonValue>, value: &JsonValue) -> bool
     requires { vec_len copies.old < vec_capacity copies.old }

@@ -47,8 +47,8 @@ impl PartialEq for Object {
 
     ghost laws = { on_per view_object (partial_equiv_from_equiv same_equiv) };
 
-    // Not inlined, as `same_array` isn't: the comparison of values without parts then saves no
-    // registers.
+    // Not inlined, as `same_array` isn't, so that comparing two primitives needn't save registers
+    // on the stack.
     #[inline(never)]
     #[cycle(same)]
     fn eq(&self, other: &Object) -> bool {
@@ -89,8 +89,9 @@ fn same_array(items: &[JsonValue], others: &[JsonValue]) -> bool
     true
 }
 
-/// The value of the key. Equal objects mostly have their keys in the same order, so the entry at
-/// the same position is tried first.
+/// The value of the key in the object. `entry` is the object's entry at the position that the key
+/// has in the other object. It is tried first, because equal objects mostly have their keys in one
+/// order.
 #[inline(always)]
 fn find_from<'a>(
     object: &'a Object,

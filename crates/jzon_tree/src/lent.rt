@@ -1,4 +1,11 @@
 //! Mutable references to the parts of a value (docs/RULES.md, "Readers" and "Changers").
+//!
+//! A clause `writes_back` says what the receiver is once a returned `&mut` is no longer used.
+//! `LendsIf .. result f x` says that at `Some` it is `f w`, for the last value `w` to which the
+//! reference referred, and `x` at `None`; `LendsIfOk` says so of `Ok` and `Err`, and `LendsSoOk`
+//! with relations in place of `f` and `x`. The checker proves what is written back only if the
+//! types of the receiver and of the reference differ, so three calls have their bodies in the trait
+//! `Tree`: `get_in`, `at_in` and `at_index_in`.
 
 ghost use Rattle.std.specs.Prelude.{◌≡◌, ◌≤◌, [], length, slice_get, slice_set, IfOk, OnErr, IfSome, IsOkUnless, None, Some, unwrap_or};
 ghost use Rattle.std.specs.Borrow.{sem, LendsIf, LendsIfOk, LendsSoOk};

@@ -1,4 +1,8 @@
 //! Objects.
+//!
+//! A clause `writes_back` says what the receiver is once a returned `&mut` is no longer used.
+//! `LendsIf .. result f x` says that at `Some` it is `f w`, for the last value `w` to which the
+//! reference referred, and `x` at `None`; `LendsIfOk` says so of `Ok` and `Err`.
 
 ghost use Rattle.std.specs.Prelude.{◌≡◌, ◌-◌, ◌==◌, List, [], length, OnOk, OnErr, IfOk, IsOkUnless, None, IfSome, Some, is_some};
 ghost use Rattle.std.specs.Option.{option_copied, option_copied_mut};

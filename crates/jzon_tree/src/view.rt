@@ -1,4 +1,8 @@
 //! A value inside a value, which may be missing (docs/RULES.md, "Readers").
+//!
+//! In clauses, `shown v` is the value that the view `v` shows, or none if it is missing, and `seen
+//! v` is this value, or null if it is missing. `SomeWhere o P r` says that `r` is `Some` of the
+//! integer in `o`, if there is one and `P` holds of it, and else `None`.
 #![tactic(auto, using(crate::proofs::Values::Views::views, crate::proofs::Values::PartViews::seen))]
 
 ghost use Rattle.std.specs.Prelude.{◌≡◌, ◌<◌, ◌^◌, pos, map, is_some, option_map, slice_get, FitsSigned, Some};

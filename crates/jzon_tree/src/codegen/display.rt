@@ -1,5 +1,6 @@
 //! `Display` of a value (docs/RULES.md, "Layouts"). It writes to the formatter as it goes, and
-//! allocates nothing.
+//! allocates nothing. The clause `WritesOnOk .. before result text after` says that an `Ok` wrote
+//! `text` to the formatter.
 
 ghost use Rattle.std.specs.Prelude.{Some};
 ghost use Rattle.std.specs.Fmt.{WritesOnOk};
@@ -47,7 +48,7 @@ fn show<W: fmt::Write>(value: &JsonValue, f: &mut fmt::Formatter<W>) -> fmt::Res
     }
 }
 
-/// Writes an array.
+/// Shows an array.
 #[cycle(show)]
 fn show_array<W: fmt::Write>(items: &[JsonValue], f: &mut fmt::Formatter<W>) -> fmt::Result
     ensures { WritesOnOk W.write_str_gives f.old result
@@ -61,12 +62,13 @@ fn show_array<W: fmt::Write>(items: &[JsonValue], f: &mut fmt::Formatter<W>) -> 
     f.write_str("]")
 }
 
-/// Writes an object.
+/// Shows an object.
 #[cycle(show)]
 fn show_object<W: fmt::Write>(object: &Object, f: &mut fmt::Formatter<W>) -> fmt::Result
     ensures { WritesOnOk W.write_str_gives f.old result (compact (view_object object.now)) f.new }
 {
     f.write_str("{")?;
+    // The position also says whether a comma comes first.
     for index in 0..object.len() {
         let (key, value) = object.pairs.get_at(index);
         show_comma(index > 0, f)?;
@@ -107,7 +109,8 @@ fn show_text<W: fmt::Write>(text: &str, f: &mut fmt::Formatter<W>) -> fmt::Resul
     f.write_str("\"")
 }
 
-/// Shows bytes that are UTF-8: each run ends where the text does, or before a byte below 128.
+/// Shows bytes that are UTF-8: each run ends where the text does, or before a byte below 128. The
+/// error isn't reached.
 fn show_bytes<W: fmt::Write>(bytes: &[u8], f: &mut fmt::Formatter<W>) -> fmt::Result
     ensures { WritesOnOk W.write_str_gives f.old result bytes.now f.new }
 {

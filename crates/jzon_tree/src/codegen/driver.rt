@@ -1,4 +1,14 @@
-//! Goes over a value or an object, and calls the hooks of a generator.
+//! Goes over a value or an object, and calls the hooks of a generator. A hook whose name begins
+//! with `try_` stores its error in the slot (`error_slot`); `store` does so for the other hooks.
+//!
+//! In clauses, `Emits P before after result` says what a hook does to the state of a generator: an
+//! `Ok` adds bytes that `P` allows; an `Err` adds a prefix of such bytes, and counts a fault.
+//! `Prints` says so of a call of several hooks; an `Err` of it may leave more indents open.
+//! `PrintsIf K` promises something of an `Err` only if `K` holds, and `PrintsValue v` is `PrintsIf
+//! (IsValue v)` for the writings of `v`: a part of `v` isn't read after an error, so the proof
+//! doesn't know there whether `v` is a value. `AreItems`, `AreMembers`, `IsEntry`, `IsBetween` and
+//! `IsClosing` allow the bytes of a part: all elements, all entries, one entry, what is before an
+//! element or an entry, and what ends a container.
 
 ghost use Rattle.std.specs.Prelude.{◌≡◌, ◌-◌, ◌<◌, [], length, map, slice_index_or, OnOk, OnErr, IsSome};
 ghost use Rattle.jzon_base.specs.PairList.{keys_of};
@@ -80,6 +90,7 @@ pub(crate) fn write_value<G: Generator>(
         JsonValue::Short(text) => g.try_write_string(text.as_str(), slot),
         JsonValue::String(text) => g.try_write_string(text.as_str(), slot),
         JsonValue::Number(number) => {
+            // Only for the proof, which learns that the number is within range.
             see_number(number);
             g.try_write_number(number, slot)
         }
@@ -174,7 +185,8 @@ fn write_members<G: Generator>(
     Ok(())
 }
 
-/// The position that the order names at the index.
+/// The position that the order names at the index. `count`, the number of entries, is an argument
+/// only for the clauses.
 fn position_of(order: &Option<Vec<usize>>, index: usize, count: usize) -> usize
     requires index_in_range { index < length (positions count order.now) }
     ensures { result ≡ slice_index_or (positions count order.now) index 0 }

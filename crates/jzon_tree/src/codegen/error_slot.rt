@@ -48,7 +48,7 @@ pub(super) fn take_result(step: SlotResult<()>, slot: ErrorSlot) -> io::Result<(
 }
 
 /// Writes the bytes, of which a prefix is written if the writer fails. Most writers take them all
-/// at once.
+/// at once. If there are no bytes, the writer isn't called: its 0 would count as an error.
 #[inline(always)]
 pub(super) fn send<W: Write>(writer: &mut W, bytes: &[u8], slot: &mut ErrorSlot) -> SlotResult<()>
     ensures bytes { Sends (Just bytes.now) (W.contents writer.old) (W.contents writer.new) result }

@@ -1,4 +1,7 @@
 //! The trait `Generator`: its hooks, and the provided methods.
+//!
+//! In clauses, `Emits P before after result` says that an `Ok` adds bytes that `P` allows, and that
+//! an `Err` adds a prefix of such bytes and counts a fault. `Just bytes` allows these bytes alone.
 
 ghost use Rattle.std.specs.Prelude.{◌≡◌, ◌+◌, ◌-◌, ◌<◌, ◌≤◌, ◌^◌, ◌∷◌, ◌++◌, [], length, take, drop, MatchResult, OnErr, IsSome};
 ghost use Rattle.std.specs.Borrow.{sem, Lends};

@@ -57,7 +57,8 @@ pub trait Outlet: Write {
     }
 }
 
-/// Where a `TextGenerator` writes: memory of its own, a borrowed writer, or a borrowed outlet.
+/// Where a `TextGenerator` writes: memory of its own, a borrowed writer, or a borrowed outlet. A
+/// provided method adds nothing, so the generator then writes to the writer.
 pub trait Destination {
     /// The writer.
     type T: Write;
@@ -176,7 +177,7 @@ impl Destination for Memory {
     ghost lender_law = { λ _ _. refl };
 }
 
-/// A borrowed writer.
+/// A borrowed writer, which takes nothing at once.
 impl<'a, W: Write> Destination for &'a mut W {
     type T = W;
 

@@ -1,5 +1,10 @@
 //! The generators of the crate: they write a text in a layout, into memory of their own or to a
 //! borrowed writer.
+//!
+//! In clauses, `text_meaning P.out P.lender L.style g` is the state of the generator `g`: the bytes
+//! of its destination, its indents and faults, the style of its layout, and the reference that it
+//! writes through. `fresh out style lender` is such a state without an indent or a fault. `Emits`
+//! says what a hook adds, as in `generator`.
 
 ghost use Rattle.std.specs.Prelude.{◌≡◌, [], Ok, None, Some, IsSome, IsTrue, IsUtf8, IfErr, IfOk, MatchResult, OnErr, string_bytes};
 ghost use Rattle.std.specs.IoError.{error_kind};
@@ -191,6 +196,7 @@ impl<P: Destination, L: Layout> Generator for TextGenerator<P, L> {
     }
 
     fn try_write_key(&mut self, key: &str, slot: &mut ErrorSlot) -> SlotResult<()> {
+        // A layout with lines has a space after the colon.
         let wide = self.layout.spaces().is_some();
         if self.place.put_key(key.as_bytes(), wide) {
             return Ok(());

@@ -7,6 +7,10 @@
 //! the reference refers; `R` and `S` are the types of the tree and of that value, each named by its
 //! `row`. `LendsIf` and `LendsIfOk` say this of `Some` and of `Ok`. Their last argument is what the
 //! tree is at `None` or at `Err`. `LendsSoOk` has relations in place of `after` and of this value.
+//!
+//! Other words of clauses: `with_place null items index` are the elements once there is one for the
+//! index (`make_place` says how), and `place_in items index` is the position of this one.
+//! `with_default k v entries` are the entries, with (k, v) last if the key `k` is missing.
 
 ghost use Rattle.std.specs.Prelude.{◌≡◌, ◌≤◌, ◌<◌, List, ℕ, [], length, slice_get, slice_set, IfOk, IfSome, OnOk, OnErr, IsOkUnless, IsSome, MatchOption, Option, None, Some};
 ghost use Rattle.std.specs.Borrow.{sem, Lends, LendsIf, LendsIfOk, LendsSoOk};

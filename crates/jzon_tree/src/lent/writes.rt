@@ -1,4 +1,6 @@
-//! Writes into a value, by calls whose contracts say what the value is afterwards.
+//! Writes into a value, by calls whose contracts say what the value is afterwards. In these,
+//! `with_place null items index` are the elements once there is one for the index, as
+//! `at_index_mut` adds it, and `place_in items index` is the position of this one.
 #![tactic(auto, using(crate::proofs::Values::WriteViews::written))]
 
 ghost use Rattle.std.specs.Prelude.{◌≡◌, ◌≤◌, length, slice_set, IfSome, OnOk, OnErr, IsOkUnless, MatchOption, is_some, None, Some, true, false};

@@ -62,6 +62,8 @@ impl Object {
         {
             return Ok(generator.into_text());
         }
+        // The error in the slot isn't needed. Only the depth or an allocation can have failed, and
+        // the depth of the object says which.
         Err(inspect_object(self).refusal())
     }
 }

@@ -1,4 +1,6 @@
-//! Reading values as integers (docs/RULES.md, "Integer readings" and "Fixed-point readings").
+//! Reading values as integers (docs/RULES.md, "Integer readings" and "Fixed-point readings"). In
+//! clauses, `SomeWhere o P r` says that `r` is `Some` of the integer in `o`, if there is one and
+//! `P` holds of it, and else `None`.
 
 ghost use Rattle.std.specs.Prelude.{◌≡◌, ◌<◌, ◌^◌, pos, FitsSigned};
 ghost use Rattle.std.specs.Int.{w8, w16, w32, w64};

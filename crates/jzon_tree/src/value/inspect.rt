@@ -13,7 +13,8 @@ use crate::value::JsonValue;
 use jzon_base::error::Error;
 use jzon_base::number::Number;
 
-/// What was found in a value.
+/// What was found in a value. `IsInspected v nan nest` in a clause says that `v` is a value
+/// (`IsValue`), that `nan` says whether a number in it is NaN, and that `nest` is its depth.
 #[derive(Clone, Copy)]
 pub(crate) struct Inspection {
     /// Whether a number in it is NaN.
@@ -29,7 +30,8 @@ impl Inspection {
         nest: 0,
     };
 
-    /// What is found in a container with one more element or entry.
+    /// What is found in a container with one more element or entry. The clause speaks of an array;
+    /// an object is inspected as the array of its values.
     fn with(self, item: Inspection) -> Inspection
         ensures { (vs : List Value) (v : Value)
             → IsInspected (array (values_of vs)) self.has_nan self.nest
@@ -42,7 +44,7 @@ impl Inspection {
         }
     }
 
-    /// Why printing the value failed.
+    /// Why printing the value into memory failed: it is too deep, or else an allocation failed.
     pub(crate) fn refusal(self) -> Error
         ensures memory { (v : Value) → IsInspected v self.has_nan self.nest → nest v < 2 ^ 64
             → result ≡ Error.OutOfMemory }
@@ -76,8 +78,8 @@ pub(crate) fn inspect(value: &JsonValue) -> Inspection
 {
     match value {
         JsonValue::Null | JsonValue::Boolean(_) => Inspection::PLAIN,
-        // `_text` and `_parts` below have no use at run time. The proof learns from them what the
-        // types promise.
+        // The uses of `_text` do nothing at run time. The proof learns from them what the types
+        // promise; `see_number` is such a use of a number.
         JsonValue::Short(text) => {
             let _text = text.as_str();
             Inspection::PLAIN
@@ -104,6 +106,7 @@ pub(crate) fn inspect_object(object: &Object) -> Inspection
     ensures { IsInspected (view_object object.now) result.has_nan result.nest }
 {
     let mut found = Inspection::PLAIN;
+    // By position: the invariant speaks of the first `index` entries.
     for index in 0..object.len() {
         let (_key, value) = object.pairs.get_at(index);
         found = found.with(inspect(value));
@@ -111,7 +114,7 @@ pub(crate) fn inspect_object(object: &Object) -> Inspection
     found
 }
 
-/// What elements have in common.
+/// Inspects the elements and all their parts.
 #[cycle(inspect)]
 fn inspect_items(items: &[JsonValue]) -> Inspection
     ensures { IsInspected (array (view_values items.now)) result.has_nan result.nest }
@@ -123,7 +126,8 @@ fn inspect_items(items: &[JsonValue]) -> Inspection
     found
 }
 
-/// A number is within range by its type.
+/// Does nothing at run time. The proof learns from this use of the number that it is within range,
+/// as its type promises.
 pub(crate) fn see_number(number: &Number)
     ensures { InRange number.now }
 {

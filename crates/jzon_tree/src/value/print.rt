@@ -74,6 +74,8 @@ impl JsonValue {
         {
             return Ok(generator.into_text());
         }
+        // The error in the slot isn't needed. Only the depth or an allocation can have failed, and
+        // the depth of the value says which.
         Err(inspect(self).refusal())
     }
 
