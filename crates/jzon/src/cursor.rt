@@ -1,4 +1,12 @@
 //! A text and the offset up to which it is read.
+//!
+//! In clauses, `GoesOn before p result after next` compares two runs of the automaton
+//! (docs/ARCHITECTURE.md). At `Ok(x)`, the run from the state `p` at the cursor `before` has the
+//! outcome of the run from the state `next x` at the cursor `after`; at `Err`, the stop becomes the
+//! error of this outcome, or is `Memory`. `EndsItem` and `EndsKey` say so of what follows an
+//! element, an entry or a key that ends at byte `end`. `IsPast r bytes end cursor` says that the
+//! cursor is after byte `end` and the whitespace there. `fs` are the open containers, and `Reports
+//! bytes e o` says that the stop `e` becomes the error of the outcome `o`.
 
 ghost use Rattle.std.specs.Prelude.{◌≡◌, ◌≢◌, ◌<◌, ◌≤◌, ◌+◌, length, chars, drop, false, slice_index, Err, IfOk, None, Some, if◌then◌else◌, MatchOption};
 ghost use Rattle.std.specs.Str.{IsCharBoundary, IsUtf8};
@@ -115,7 +123,7 @@ impl<'a> Cursor<'a> {
         self.go_to(self.index + 1);
     }
 
-    /// The stop at the next character, or at the end, if the text has no valid continuation from here.
+    /// The stop for a text that goes wrong here: neither the next character nor the end is allowed.
     #[inline(always)]
     pub(crate) fn fault(&self) -> Stop
         ensures { Reports self.now.source.now result
@@ -124,9 +132,10 @@ impl<'a> Cursor<'a> {
         fault_at(self.source, self.index)
     }
 
-    /// Moves past the opening bracket that comes next, inside of `depth` containers. Returns whether
-    /// the container is empty, and then moves past its closing bracket too. If it isn't empty, the
-    /// error is `At` at the end of the text, and `Limit` if `depth` is the most that the reading allows.
+    /// Moves past the opening bracket that comes next, inside of `depth` containers. Returns
+    /// whether the container is empty, and then moves past its closing bracket too. If it isn't
+    /// empty, the error is `At` at the end of the text, and `Limit` if `depth` is the most that the
+    /// reading allows. (`value_mark r fs` is the breach of a value in `fs`, if it is too deep.)
     #[inline(always)]
     pub(crate) fn open_container(&mut self, kind: ContainerKind, depth: usize) -> Result<bool>
         requires room { depth ≤ self.old.reading.depth }

@@ -1,5 +1,8 @@
 //! Why the parser stops before the end of a text, and the error with line and column that is
-//! returned for it (docs/RULES.md, "Which error is reported").
+//! returned for it (docs/RULES.md, "Which error is reported"). In clauses, `Reports bytes e o` says
+//! that the stop `e` becomes the error of the outcome `o` of the automaton (docs/ARCHITECTURE.md),
+//! and `fault_here rest` is the outcome if neither the next character nor the end of `rest` is
+//! allowed.
 
 ghost use Rattle.std.specs.Prelude.{◌≡◌, ◌+◌, drop, chars};
 ghost use Rattle.std.specs.Str.{IsCharBoundary};
@@ -83,8 +86,8 @@ fn column_after(prefix: &str) -> usize
     }
 }
 
-/// The text has no valid continuation at `index`: the end is there, or a character that isn't
-/// allowed. The text is an argument only for the contract, which says that this is its error.
+/// The stop for a text that goes wrong at `index`: neither the character there nor the end of the
+/// text is allowed. The text is an argument only for the clause.
 #[inline(always)]
 pub(crate) fn fault_at(source: &str, index: usize) -> Stop
     requires { IsCharBoundary source.now index }

@@ -1,4 +1,15 @@
 //! Reads numbers (RFC 8259, section 6; docs/RULES.md, "Numbers").
+//!
+//! In clauses, `from r bytes p i` is the outcome of the automaton (docs/ARCHITECTURE.md) that
+//! starts in the state `p` at byte `i`, under the reading `r`. `Reports bytes e o` says that the
+//! stop `e` becomes the error of the outcome `o`.
+//!
+//! States: `numeral_after_first fs negative d` is after the first digit `d` of a number, inside the
+//! containers `fs`; `numeral fs negative (lettered ws ds l)` is after the letter `l` of an
+//! exponent, with the digits `ws` before the point and `ds` after it; `after_value fs v` is after
+//! the value `v`. From the first of these states, `LeadsTo source start end p` leads to the state
+//! `p` at byte `end`; `MissesDigit source start end` to the fault that a digit is missing at `end`;
+//! and `HasTooMany source start` to the fault that there are too many digits.
 
 ghost use Rattle.std.specs.Prelude.{◌≡◌, ℕ, pos, List, [], ◌∷◌, ◌<◌, ◌≤◌, ◌+◌, ◌%◌, ◌^◌, ◌++◌, length, drop, chars, not, Bool, true, false, ◌==◌, ◌↔◌, IsTrue, IfOk, slice_index, if◌then◌else◌};
 ghost use Rattle.std.specs.Char.{is_ascii_digit};
@@ -43,6 +54,7 @@ pub(crate) fn read_number(source: &str, start: usize, negative: bool) -> Result<
         spelling.exponent,
     );
     match number {
+        // A digit too many comes before a missing one.
         Err(_) => Err(Stop::Limit),
         Ok(_) if spelling.is_missing => Err(fault_at(source, spelling.end)),
         Ok(number) => Ok((number, spelling.end)),
@@ -175,7 +187,8 @@ fn before_point(source: &str, start: usize) -> (&[u8], u64)
 }
 
 /// The digits from `start` on, and the number that they make when appended to the digits of
-/// `before`, both modulo 2^64.
+/// `before`, both modulo 2^64. The clause `number` holds for each `n` of which `before` is the
+/// remainder.
 #[inline(always)]
 fn digits_at(source: &str, start: usize, before: u64) -> (&[u8], u64)
     requires { start ≤ length source.now }
@@ -196,7 +209,8 @@ struct Exponent<'a> {
     end: usize,
 }
 
-/// The exponent whose letter is before `start`.
+/// The exponent whose letter is before `start`. Clause `number`: with digits, the automaton goes on
+/// to the value of the number. Clause `missing`: without digits, it finds the fault at `end`.
 #[cold]
 #[inline(never)]
 fn exponent_after(source: &str, start: usize) -> Exponent<'_>

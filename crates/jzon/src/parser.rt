@@ -1,4 +1,19 @@
 //! Parses texts (RFC 8259, section 2; docs/RULES.md, "Texts").
+//!
+//! In clauses, `left cursor p` is the outcome of the automaton (docs/ARCHITECTURE.md) that starts
+//! in the state `p` at the cursor, and `Reads bytes result o` says that the result is the value of
+//! this outcome, or a stop that becomes its error, or `Memory`. `GoesOn before p result after next`
+//! says that at `Ok(x)`, `left before p` is `left after (next x)`, and at `Err` the stop becomes
+//! the error of this outcome or is `Memory`. `PassesOn` says so of each run that has come to `p` at
+//! `before`: such a call may end a container without reading a byte.
+//!
+//! States: `before fs` is before a value in the containers `fs`, and `before_item stacks` before an
+//! element or a key of the innermost one. `after_read stacks next` and `after_end stacks v` are
+//! where `read_value` and `end_containers` end. `frames_here stacks` are all open containers, and
+//! `frames_around stacks` all but the innermost one, whose value is `whole stacks.innermost`.
+//! Conditions: `IsBeforeItem`, `IsAfterValue` and `IsAfterEnd` hold of the cursor and the stacks in
+//! these states. `IsEven kind c` says that each key of `c` has its value, and `AwaitsValue kind c`
+//! that the last one has none yet. `KeepsAround` says that the containers around are as before.
 
 ghost use Rattle.std.specs.Prelude.{◌≡◌, ◌≢◌, ◌<◌, ◌+◌, length, chars, IfOk, IfErr, Err, None, Some, OnOk, true};
 ghost use Rattle.jzon_tree.specs.View.{view};
@@ -115,7 +130,7 @@ enum Next {
     End,
 }
 
-/// Expects the end of the text, whose value this is.
+/// Returns the value of the text if the text ends at the cursor; else the stop is there.
 fn expect_end(cursor: &Cursor<'_>, value: JsonValue) -> fault::Result<JsonValue>
     ensures memory { result ≢ Err Stop.Memory }
     ensures outcome { Reads cursor.now.source.now result

@@ -1,5 +1,13 @@
 //! The open containers of a text. All their keys are on one stack, and all their values on another;
 //! each container has a part of both, and is made of it at its end.
+//!
+//! A clause sees a list of containers, each with its kind, keys and values. `AwaitsValue kind c`
+//! says that the last key of an object has no value yet, and `IsEven kind c` that each key has one;
+//! both hold of an array, which has no keys. `whole c` is the value of the container if it ends
+//! now. `value_added s v`, `key_added s k` and `container_added s kind` are the stacks `s` with one
+//! more value, key or container in the innermost one, and `innermost_ended s` has nothing in it.
+//! `IsAdded s v t` says that `t` has the containers around the innermost one of `s`, and the value
+//! `v` added to the last of them; `IsClosed s t` says so of the value of the innermost one.
 
 ghost use Rattle.std.specs.Prelude.{◌≡◌, ◌≢◌, ◌&&◌, if◌then◌else◌, slice_index, IfSome, None, Some, ◌≤◌, ◌<◌, [], ◌∷◌, ◌++◌, length, take, drop, vec_len, vec_capacity, IfOk, OnOk, OnErr, MatchOption, true, ◌+◌};
 ghost use Rattle.std.specs.List.{zip};
@@ -154,8 +162,9 @@ fn cut_values(
     cut_tail(alloc, stack, start, is_outermost)
 }
 
-/// In a strict reading: stores what is known of the keys of a container in which one is opened, and
-/// begins anew. The error is a failed allocation.
+/// In a strict reading: puts what is known of the keys of the innermost container on the stack
+/// `around`, and begins anew, with no keys, for a container that is opened in it. The error is a
+/// failed allocation. (`Knows keys known` in a clause: `known` is known of exactly these keys.)
 #[cold]
 #[inline(never)]
 fn open_known(known: &mut Option<KnownKeys>, around: &mut Vec<KnownKeys>) -> Result<(), AllocError>
@@ -183,8 +192,9 @@ fn close_known(known: &mut Option<KnownKeys>, around: &mut Vec<KnownKeys>)
     *known = around.pop();
 }
 
-/// In a strict reading: the object of these keys, which are distinct, and as many values. `known` has
-/// these keys, and then none, for the next container. The error is a failed allocation.
+/// In a strict reading: the object of these keys, which are distinct, and as many values. `known`
+/// is what is known of these keys, and then of no keys, for the next container. The error is a
+/// failed allocation.
 #[cold]
 #[inline(never)]
 fn object_of_known(
@@ -265,8 +275,9 @@ impl Stacks {
         Ok(())
     }
 
-    /// Adds the primitive at `start`, whose first byte is `first` (0 at the end of the text). Returns
-    /// the offset after it.
+    /// Adds the primitive at `start`, whose first byte is `first` (0 at the end of the text).
+    /// Returns the offset after it. The clause `outcome` says this of the automaton, if a value may
+    /// begin at `start` (`MayBegin`); after an error the stacks are as they were.
     #[inline(always)]
     pub(crate) fn push_primitive(
         &mut self,
@@ -328,7 +339,7 @@ impl Stacks {
             return Ok(true);
         }
         if let Err(error) = Key::push_wide(&mut self.keys, self.alloc, name, wide) {
-            // The name is known, but its key isn't there.
+            // The name is known, but its key isn't there: `known` would break the invariant.
             self.known = None;
             return Err(error);
         }
@@ -396,8 +407,8 @@ impl Stacks {
         Object::from_entries(self.alloc, keys, values)
     }
 
-    /// Adds this value of the innermost container, which ended, to the one around it. If there is
-    /// none, the value is returned. The error is a failed allocation.
+    /// Adds this value of the innermost container, which ended and has nothing left, to the one
+    /// around it. If there is none, the value is returned. The error is a failed allocation.
     #[inline(always)]
     fn close_with(&mut self, value: JsonValue) -> Result<Option<JsonValue>, AllocError>
         requires { self.old.innermost ≡ new_container self.old.innermost.kind }
@@ -416,8 +427,9 @@ impl Stacks {
         Ok(None)
     }
 
-    /// Ends the innermost container. If it is in another one, its value is added there. Else it is
-    /// returned. The error is a failed allocation.
+    /// Ends the innermost container, which has a value for each key. Its value is added to the
+    /// container around it; if there is none, the value is returned. The error is a failed
+    /// allocation; the stacks are unspecified then.
     #[inline(always)]
     pub(crate) fn close(&mut self) -> Result<Option<JsonValue>, AllocError>
         requires { IsEven self.old.innermost.kind self.old.innermost }

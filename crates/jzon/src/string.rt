@@ -1,4 +1,15 @@
 //! Reads strings (RFC 8259, section 7; docs/RULES.md, "Strings").
+//!
+//! In clauses, `from r bytes p i` is the outcome of the automaton (docs/ARCHITECTURE.md) that
+//! starts in the state `p` at byte `i`, under the reading `r`. `Reports bytes e o` says that the
+//! stop `e` becomes the error of the outcome `o`. `from_closed r bytes role content i` is the
+//! outcome after a string with this content, whose closing quote is before byte `i`.
+//!
+//! The state `string role bs s` is in a string: `role` says whether it is a value or a key, `bs`
+//! are the bytes of its content so far, and `s` is `between` characters, `slash` after a backslash,
+//! `code` in the digits of an escape, or `second`, `second_slash` or `second_code` in the second
+//! escape of a surrogate pair. `ReadsCharacter source start p result` says that from such a state
+//! `p` at byte `start`, an `Ok` leads on to `between`, with one more character in `bs`.
 
 ghost use Rattle.std.specs.Prelude.{◌≡◌, ◌<◌, ◌≤◌, ◌+◌, ◌-◌, ◌++◌, ◌&&◌, ◌⊎◌, ◌↔◌, Contains, ℕ, List, [], length, drop, take, chars, IsTrue, IfOk, IsOk, IsOkUnless, SomeIff, MatchResult, OnOk, OnErr, slice_index, slice_range, string_bytes, if◌then◌else◌, false};
 ghost use Rattle.std.specs.Str.{IsCharBoundary};
@@ -33,8 +44,9 @@ pub(crate) struct Spelled {
 }
 
 impl Spelled {
-    /// The contents of the string whose opening quote is before `start`, and a string that begins with
-    /// them: all of the source from there on, or of the buffer.
+    /// The contents of the string whose opening quote is before `start`, and a string that begins
+    /// with them: all of the source from there on, or of the buffer. From the second string a short
+    /// one is copied by a fixed number of bytes, which is faster.
     pub(crate) fn text<'a>(
         self,
         source: &'a str,
@@ -56,8 +68,8 @@ impl Spelled {
     }
 }
 
-/// Puts a string value, with whose string `wide` begins: up to 30 bytes are stored inline, which
-/// never fails, and more are allocated. The error is `Memory`.
+/// Puts the string `content` into the target. Up to 30 bytes are stored inline, which never fails,
+/// and more are allocated. `wide` begins with `content`. The error is `Memory`.
 #[inline(always)]
 pub(crate) fn put_text<T: Target>(
     alloc: Global,
@@ -131,7 +143,8 @@ fn plain_end(source: &str, start: usize) -> usize
     start + plain_len(&source.as_bytes()[start..])
 }
 
-/// The offset after the closing quote, if one is at `index`.
+/// The offset after the closing quote, if one is at `index`, where the unescaped characters end and
+/// there is no backslash.
 fn past_quote(source: &str, index: usize) -> Result<usize>
     requires boundary { IsCharBoundary source.now index }
     requires stop { index < length source.now → is_plain (slice_index source.now index) ≡ false }
@@ -254,8 +267,9 @@ fn paired_char(high: u32, low: u32) -> Option<char>
     }
 }
 
-/// The code unit that the four hexadecimal digits at `start`, of either case, spell: in a first
-/// escape, and in the second of a surrogate pair.
+/// The code unit that the four hexadecimal digits at `start`, of either case, spell. The clauses
+/// `first` and `second` say that the automaton reads it in a first escape, and in the second of a
+/// surrogate pair.
 fn read_hex(source: &str, start: usize) -> Result<u32>
     requires { IsCharBoundary source.now start }
     ensures value { IfOk result (λ u. u ≡ code_unit (slice_range source.now start (start + 4))) }

@@ -20,7 +20,7 @@ pub(crate) trait Target {
         ensures { takes self.old value self.new };
 }
 
-/// After the other values.
+/// A vector takes the value after its others. It needs room for it, and doesn't allocate.
 impl Target for Vec<JsonValue> {
     ghost has_room = { λ values. vec_len values < vec_capacity values };
 
@@ -32,7 +32,7 @@ impl Target for Vec<JsonValue> {
     }
 }
 
-/// Over the value that is there.
+/// A `JsonValue` is replaced by the value.
 impl Target for JsonValue {
     ghost has_room = { λ _. ⊤ };
 

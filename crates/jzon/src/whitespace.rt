@@ -1,4 +1,6 @@
-//! Whitespace (RFC 8259, section 2; docs/RULES.md, "Texts").
+//! Whitespace (RFC 8259, section 2; docs/RULES.md, "Texts"). In clauses, `from r bytes p i` is the
+//! outcome of the automaton (docs/ARCHITECTURE.md) that starts in the state `p` at byte `i`, under
+//! the reading `r`.
 
 ghost use Rattle.std.specs.Prelude.{◌≡◌, IsTrue, ◌<◌, ◌≤◌, ◌+◌, drop, length, true, false, slice_index};
 ghost use Rattle.std.specs.Int.{w64, trailing_zeros};
@@ -59,6 +61,7 @@ fn whitespace_length(bytes: &[u8], strict: bool) -> usize
             if bytes[end] > b' ' {
                 return end;
             }
+            // Maybe a vertical tab or a form feed, which isn't whitespace in a strict reading.
             return end + whitespace_by_bytes(&bytes[end..], strict);
         }
         len += LANES;
