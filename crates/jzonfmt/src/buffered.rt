@@ -1,4 +1,9 @@
 //! A buffered writer whose contract says that its writer stays the same.
+//!
+//! In clauses, `W.contents w` are the bytes of the writer `w`, if they are known. `held W.contents
+//! S.start b` are these and the bytes in the buffer after them, and `left b` are the latter alone.
+//! `Keeps before after` says that bytes stay, and `Appends before after bytes` that these bytes are
+//! added.
 
 ghost use Rattle.std.specs.Prelude.{◌≡◌, ℕ, ◌+◌, ◌≤◌, [], length, take, vec_len, vec_capacity, MatchOption, OnOk, IfNone, IfSome, IsSome};
 ghost use Rattle.std.specs.Io.KnownBytes.{Appends, Keeps};
@@ -8,11 +13,13 @@ use jzon::number::Number;
 use std::io::{self, ErrorKind, Write};
 use std::marker::{Brand, PhantomData};
 
-/// A number that only proofs use: how many bytes the writer had before the buffer was made.
+/// A number that only proofs use: how many bytes the writer had before the buffer was made. By it a
+/// clause says that none of these is lost.
 pub trait Start {
     ghost start: { ℕ };
 }
 
+/// The 0 is unused: the proof of each call that passes `Brand` picks a number for this call.
 impl Start for Brand {
     ghost start = { 0 };
 }
@@ -121,6 +128,7 @@ impl<'a, W: Write, S: Start> Buffered<'a, W, S> {
     {
         match self.error.take() {
             Some(error) => error,
+            // Not reached.
             None => io::Error::from(ErrorKind::Other),
         }
     }

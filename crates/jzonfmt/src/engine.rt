@@ -1,4 +1,11 @@
 //! What the program does, over any reader and any writers (docs/JZONFMT.md).
+//!
+//! In clauses, `W.contents w` are the bytes of the writer `w`, and `R.remaining r` those that the
+//! reader `r` has left, if they are known. `WritesWhole bytes result before after` says that these
+//! bytes are written, or after an error a prefix of them. `Answers reading layout input result
+//! before after` says what the result for an input is: at `Ok` the line of the text's value is
+//! written, at `Write` a prefix of it, and after any other fault nothing. `Runs` says so of an
+//! input that is read too.
 
 ghost use Rattle.std.specs.Prelude.{◌≡◌, ℕ, List, [], IfOk, IfErr, OnOk, map, option_map, string_bytes, vec_len};
 ghost use Rattle.std.specs.Io.KnownBytes.{Consumes, Keeps};
@@ -151,7 +158,8 @@ fn zeros(alloc: Global, count: usize) -> Result<Vec<u8>, AllocError>
     vec![in alloc; 0u8; count]
 }
 
-/// Prints the JSON text in `input`. All memory is allocated before the first byte is written.
+/// Prints the value of the JSON text in `input`. All memory is allocated before the first byte is
+/// written, so after any fault but the writer's nothing is written.
 fn print_input<W: Write>(
     alloc: Global,
     input: &[u8],
@@ -167,6 +175,8 @@ fn print_input<W: Write>(
     };
     let value = jzon::parse_as(alloc, source, reading)?;
     let memory = Vec::with_capacity(alloc, BUFFER_SIZE)?;
+    // `Brand` is nothing at run time. The proof picks its `Start`: how many bytes the writer has
+    // now.
     let answer = write_line::<W, Brand>(writer, memory, &value, layout);
     // The program ends once the text is written, so dropping the value would cost time for nothing.
     mem::forget(value);
@@ -174,7 +184,8 @@ fn print_input<W: Write>(
 }
 
 /// Writes the text of the value in the layout and a newline, buffered in `memory`. After an error a
-/// prefix of them is written.
+/// prefix of them is written. `S.start`, which only the proof has, is how many bytes the writer
+/// has.
 fn write_line<W: Write, S: Start>(
     writer: &mut W,
     memory: Vec<u8>,
@@ -194,7 +205,8 @@ fn write_line<W: Write, S: Start>(
     answer
 }
 
-/// Writes the text and a newline after what is held, and writes out the buffer.
+/// Writes the text and a newline after what is held, and writes out the buffer. In the clauses,
+/// `held` are the writer's bytes and those in the buffer, and `left` the latter alone.
 fn write_held<W: Write, S: Start>(
     buffered: &mut Buffered<'_, W, S>,
     value: &JsonValue,
@@ -284,6 +296,7 @@ fn layout_of(words: &[String]) -> Option<Layout>
 fn spaces_of(word: &str) -> Option<u16>
     ensures { result ≡ asked_spaces word.now }
 {
+    // `parse` accepts a plus.
     if word.len() > 5 || word.as_bytes().first().copied() == Some(b'+') {
         return None;
     }
