@@ -1,5 +1,7 @@
 //! The digits of a number in a text, and the number that they mean (RFC 8259, section 6;
-//! docs/RULES.md, "What digits mean" and "Digit limits").
+//! docs/RULES.md, "What digits mean" and "Digit limits"). In clauses, `digits_number ds` is the
+//! number that the digits `ds` spell, and `fold add_digit n ds` the number `n` with these digits
+//! after its own.
 
 ghost use Rattle.std.specs.Prelude.{◌≡◌, ℕ, pos, ◌+◌, ◌%◌, ◌<◌, ◌≤◌, ◌^◌, ◌-ℤ◌, ◌+ℤ◌, ◌++◌, length, take, min, IfErr, OkIff};
 ghost use Rattle.std.specs.Char.{is_ascii_digit};

@@ -125,8 +125,8 @@ impl<V> Pairs<V> {
         Pairs::boxed(alloc, keys, values)
     }
 
-    /// The entries of keys that are known to be distinct, and of as many values. The error is a
-    /// failed allocation.
+    /// The entries of keys, and of as many values. `known` is what is known of exactly these keys
+    /// (the clause `Knows`), so they are distinct. The error is a failed allocation.
     pub fn from_known(
         alloc: Global,
         keys: Vec<Key>,

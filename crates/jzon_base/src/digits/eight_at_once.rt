@@ -1,4 +1,5 @@
-//! Reads up to eight digits at once, as the bytes of a 64-bit word.
+//! Reads up to eight digits at once, as the bytes of a 64-bit word. In clauses, `digits_number` is
+//! the number that digits spell, and `values_number` that of digits given by their values, 0 to 9.
 
 ghost use Rattle.std.specs.Prelude.{◌≡◌, ℕ, List, ◌+◌, ◌-◌, ◌*◌, ◌%◌, ◌^◌, ◌<◌, ◌≤◌, drop, length, take};
 ghost use Rattle.std.specs.Char.{is_ascii_digit};

@@ -1,4 +1,5 @@
-//! An iterator over keys.
+//! An iterator over keys. The ghost member `next_gives` says that `next` yields the first
+//! of those that are left, and `remaining` how many are left at most.
 ghost use Rattle.std.specs.Prelude.{◌≡◌, List, ℕ, [], length, IfSome, Some};
 ghost use Rattle.std.specs.Iterator.{YieldsFirstRef, YieldsLastRef, item_count, at_most, UpTo};
 ghost use Rattle.std.specs.Iterator.SizeHint.{IsWithinCount};

@@ -4,7 +4,8 @@
 //!
 //! In clauses, `HasHash words hash` says that the bits of a hash are set. `KnowsMany keys words
 //! entries` says that the keys are distinct, that the entries are theirs, and that the bits of all
-//! are set.
+//! are set; `IsTable keys index` says that they are distinct, and that the index has their entries
+//! or none.
 ghost use Rattle.std.specs.Prelude.{◌≡◌, ◌<◌, ◌==◌, ◌++◌, ◌∷◌, [], true, false, is_some, length, IfOk, OnErr, ℕ};
 ghost use Rattle.std.specs.List.{list_any, position, All, IsDistinct};
 ghost use Rattle.std.specs.Str.{bytes_eq};

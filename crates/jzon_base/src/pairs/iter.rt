@@ -1,4 +1,5 @@
-//! An iterator over entries.
+//! An iterator over entries. The ghost member `next_gives` says that `next` yields the first
+//! of those that are left, and `remaining` how many are left at most.
 ghost use Rattle.std.specs.Prelude.{◌≡◌, List, ℕ, [], length, IfSome, Some};
 ghost use Rattle.std.specs.Coded.{coded_ℕ, coded_list, coded×};
 ghost use Rattle.std.specs.Iterator.{YieldsFirstBy, YieldsLastBy, item_count, at_most, UpTo};

@@ -1,4 +1,5 @@
-//! An iterator over entries whose values may be written.
+//! An iterator over entries whose values may be written. The ghost member `next_gives` says that
+//! `next` yields the first of those that are left, and `remaining` how many are left at most.
 ghost use Rattle.std.specs.Prelude.{◌≡◌, [], length, IfSome, Some};
 ghost use Rattle.std.specs.Iterator.{YieldsFirstBy, YieldsLastBy, item_count, at_most, UpTo};
 ghost use Rattle.std.specs.Iterator.SizeHint.{IsWithinCount};
