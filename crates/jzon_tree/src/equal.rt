@@ -1,4 +1,5 @@
-//! Equality of values and of objects (docs/RULES.md, "Equality").
+//! Equality of values and of objects (docs/RULES.md, "Equality"). By the ghost member `eq`, `==` is
+//! the definition `same`, and `laws` proves that this is an equivalence.
 
 ghost use Rattle.std.specs.Prelude.{◌≡◌, Some};
 ghost use Rattle.std.specs.Option.{option_copied};

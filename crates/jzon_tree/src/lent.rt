@@ -5,7 +5,8 @@
 //! reference referred, and `x` at `None`; `LendsIfOk` says so of `Ok` and `Err`, and `LendsSoOk`
 //! with relations in place of `f` and `x`. The checker proves what is written back only if the
 //! types of the receiver and of the reference differ, so three calls have their bodies in the trait
-//! `Tree`: `get_in`, `at_in` and `at_index_in`.
+//! `Tree`: `get_in`, `at_in` and `at_index_in`. `items_with_place v index` are the elements of `v`
+//! once there is one for the index, and `place_made v index` is the position of this one.
 
 ghost use Rattle.std.specs.Prelude.{◌≡◌, ◌≤◌, [], length, slice_get, slice_set, IfOk, OnErr, IfSome, IsOkUnless, None, Some, unwrap_or};
 ghost use Rattle.std.specs.Borrow.{sem, LendsIf, LendsIfOk, LendsSoOk};

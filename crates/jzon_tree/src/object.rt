@@ -137,8 +137,9 @@ impl Object {
         Ok(Object { pairs })
     }
 
-    /// The object of the entries of keys that are known to be distinct, and of as many values. The
-    /// error is a failed allocation.
+    /// The object of the entries of keys, and of as many values. `known` is what is known of
+    /// exactly these keys (the clause `Knows`), so they are distinct. The error is a failed
+    /// allocation.
     #[doc(hidden)]
     pub fn from_known(
         alloc: Global,

@@ -1,5 +1,7 @@
 //! Keeps an 88-byte `io::Error` out of return values: it is stored in a slot, and a one-byte
-//! `Failed` is returned.
+//! `Failed` is returned. In clauses, `Sends P before after result` says that a writer receives
+//! bytes that `P` allows at `Ok`, and a prefix of such bytes at `Err`; `Just bytes` allows these
+//! bytes alone.
 #![tactic(auto, using(crate::proofs::Printing::Appends::sent))]
 
 ghost use Rattle.std.specs.Prelude.{◌≡◌, ◌≤◌, Some, Ok, IfErr, IsErr, IsSome, OnOk, OnErr, MatchResult, length, drop};

@@ -1,5 +1,7 @@
 //! Layouts: the whitespace of a text, which is written here, and the order of an object's entries
-//! (docs/GENERATORS.md, "Layouts of one's own").
+//! (docs/GENERATORS.md, "Layouts of one's own"). In clauses, `Sends P before after result` says
+//! that a writer receives bytes that `P` allows at `Ok`, and a prefix of such bytes at `Err`; `Just
+//! bytes` allows these bytes alone.
 
 ghost use Rattle.std.specs.Prelude.{◌≡◌, ◌+◌, ◌<◌, ◌∷◌, ◌++◌, Bool, true, false, IsTrue, IfOk, Ok, None, OnErr, IsSome, replicate};
 ghost use Rattle.jzon_base.specs.PairList.{keys_of};

@@ -1,4 +1,5 @@
-//! Where a `TextGenerator` writes (docs/GENERATORS.md, "Layouts of one's own").
+//! Where a `TextGenerator` writes (docs/GENERATORS.md, "Layouts of one's own"). In clauses,
+//! `Adds (Just bytes) before after` says that these bytes are added, if the bytes before are known.
 
 ghost use Rattle.std.specs.Prelude.{◌≡◌, ◌++◌, ◌∷◌, ℕ, List, Option, None, Some, IsTrue, false, refl, replicate};
 ghost use Rattle.std.specs.Borrow.{GName, sem, Lends};

@@ -139,6 +139,7 @@ pub trait Tree {
     }
 }
 
+/// The nodes are the values of entries, and the elements.
 impl Tree for JsonValue {
     type Node = JsonValue;
 

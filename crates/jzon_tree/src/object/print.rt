@@ -1,4 +1,5 @@
-//! The texts of objects (docs/RULES.md, "Layouts").
+//! The texts of objects (docs/RULES.md, "Layouts"). In clauses, `Writes style 0 v` holds of each
+//! text of `v` that the style allows.
 
 ghost use Rattle.std.specs.Prelude.{◌≡◌, ◌<◌, ◌≤◌, ◌^◌, IfOk, IsOkUnless, string_bytes};
 ghost use Rattle.jzon_tree.specs.Lawful.{IsValue};
