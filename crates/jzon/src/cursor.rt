@@ -5,8 +5,10 @@
 //! outcome of the run from the state `next x` at the cursor `after`; at `Err`, the stop becomes the
 //! error of this outcome, or is `Memory`. `EndsItem` and `EndsKey` say so of what follows an
 //! element, an entry or a key that ends at byte `end`. `IsPast r bytes end cursor` says that the
-//! cursor is after byte `end` and the whitespace there. `fs` are the open containers, and `Reports
-//! bytes e o` says that the stop `e` becomes the error of the outcome `o`.
+//! cursor is after byte `end` and the whitespace there. `fs` are the open containers; a state such
+//! as `before fs` or `after_closer fs v` is named by what was read in them or comes next, and has
+//! the value `v` that was read last. `Reports bytes e o` says that the stop `e` becomes the error
+//! of the outcome `o`.
 
 ghost use Rattle.std.specs.Prelude.{◌≡◌, ◌≢◌, ◌<◌, ◌≤◌, ◌+◌, length, chars, drop, false, slice_index, Err, IfOk, None, Some, if◌then◌else◌, MatchOption};
 ghost use Rattle.std.specs.Str.{IsCharBoundary, IsUtf8};

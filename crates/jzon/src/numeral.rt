@@ -9,7 +9,11 @@
 //! exponent, with the digits `ws` before the point and `ds` after it; `after_value fs v` is after
 //! the value `v`. From the first of these states, `LeadsTo source start end p` leads to the state
 //! `p` at byte `end`; `MissesDigit source start end` to the fault that a digit is missing at `end`;
-//! and `HasTooMany source start` to the fault that there are too many digits.
+//! and `HasTooMany source start` to the fault that there are too many digits. `Leads` says of a
+//! result that an `Ok` leads to the state after the number, and that an `Err` reports the fault.
+//!
+//! `AreFewEnough` says that no limit on digits is exceeded. `digits_number ds` is the number that
+//! the digits `ds` spell, and `fold add_digit n ds` the number `n` with these digits after its own.
 
 ghost use Rattle.std.specs.Prelude.{◌≡◌, ℕ, pos, List, [], ◌∷◌, ◌<◌, ◌≤◌, ◌+◌, ◌%◌, ◌^◌, ◌++◌, length, drop, chars, not, Bool, true, false, ◌==◌, ◌↔◌, IsTrue, IfOk, slice_index, if◌then◌else◌};
 ghost use Rattle.std.specs.Char.{is_ascii_digit};

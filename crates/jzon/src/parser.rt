@@ -170,8 +170,9 @@ impl<'a> Parser<'a> {
         }
     }
 
-    /// Reads items of the innermost container: to its end, or to a container in it that isn't empty,
-    /// of which it reads the opening bracket.
+    /// Reads items of the innermost container: to its end, or to a container in it that isn't
+    /// empty, of which it reads the opening bracket. `ReadsItems` has the clauses that `read_value`
+    /// has too: `kept`, `after` and `outcome`.
     #[inline(always)]
     fn read_items(&mut self) -> fault::Result<Option<ContainerKind>>
         requires before { IsBeforeItem self.old.cursor self.old.stacks }
@@ -221,7 +222,9 @@ impl<'a> Parser<'a> {
     }
 
     /// Reads the next value of the innermost container, whose kind is `container`, and the comma or
-    /// the closing bracket after it. Of a container that isn't empty it reads only the opening bracket.
+    /// the closing bracket after it. Of a container that isn't empty it reads only the opening
+    /// bracket. Clause `some`: the next byte isn't the `]` of an array without elements
+    /// (`is_fresh`).
     #[inline(always)]
     fn read_value(&mut self, container: ContainerKind) -> fault::Result<Next>
         requires kind { self.old.stacks.innermost.kind ≡ container }

@@ -8,7 +8,8 @@
 //! value (`takes`), and the automaton goes from the state `p fs` at byte `i` to the state after
 //! this value at byte `end`. At `Err` the target is as it was, and the error is that of the
 //! automaton or `Memory`. `MayBegin r fs bytes i` says that a value may begin at byte `i`: it isn't
-//! too deep, and neither whitespace nor the end of an empty array is there.
+//! too deep, and neither whitespace nor the end of an empty array is there. The states `before fs`
+//! and `after_value fs v` are before a value in the containers `fs`, and after the value `v`.
 
 ghost use Rattle.std.specs.Prelude.{◌≡◌, ◌≢◌, ◌⊎◌, ◌<◌, ◌+◌, ◌^◌, length, chars, IsTrue, IfOk, Err, MatchResult, codes, drop, slice_index, None, true, false, IsAscii, ⊤};
 ghost use Rattle.std.specs.Char.{is_ascii_digit};

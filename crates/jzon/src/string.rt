@@ -10,6 +10,8 @@
 //! `code` in the digits of an escape, or `second`, `second_slash` or `second_code` in the second
 //! escape of a surrogate pair. `ReadsCharacter source start p result` says that from such a state
 //! `p` at byte `start`, an `Ok` leads on to `between`, with one more character in `bs`.
+//! `EndsAtQuote source start end` says that the byte before `end` is a quote, and not before
+//! `start`; `is_plain` holds of a byte that needs no escape.
 
 ghost use Rattle.std.specs.Prelude.{◌≡◌, ◌<◌, ◌≤◌, ◌+◌, ◌-◌, ◌++◌, ◌&&◌, ◌⊎◌, ◌↔◌, Contains, ℕ, List, [], length, drop, take, chars, IsTrue, IfOk, IsOk, IsOkUnless, SomeIff, MatchResult, OnOk, OnErr, slice_index, slice_range, string_bytes, if◌then◌else◌, false};
 ghost use Rattle.std.specs.Str.{IsCharBoundary};
