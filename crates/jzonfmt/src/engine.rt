@@ -5,7 +5,7 @@
 //! bytes are written, or after an error a prefix of them. `Answers reading layout input result
 //! before after` says what the result for an input is: at `Ok` the line of the text's value is
 //! written, at `Write` a prefix of it, and after any other fault nothing. `Runs` says so of an
-//! input that is read too.
+//! input that is read first. Names that begin with `asked_` define what the arguments ask for.
 
 ghost use Rattle.std.specs.Prelude.{◌≡◌, ℕ, List, [], IfOk, IfErr, OnOk, map, option_map, string_bytes, vec_len};
 ghost use Rattle.std.specs.Io.KnownBytes.{Consumes, Keeps};
@@ -132,7 +132,8 @@ pub fn run<R: Read, W: Write>(
     print_input(alloc, input.as_slice(), writer, reading, layout)
 }
 
-/// Reads to the end, in chunks.
+/// Reads to the end, in chunks. The clauses say that an `Ok` has all bytes of the reader, and that
+/// a fault is the reader's or a failed allocation. In each case some of its bytes are read.
 fn read_input<R: Read>(alloc: Global, reader: &mut R) -> Result<Vec<u8>, RunFault>
     ensures all { IfOk result
         (λ input. ReadsInput result (R.remaining reader.old) (R.remaining reader.new) input.items) }
