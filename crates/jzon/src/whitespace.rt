@@ -69,9 +69,9 @@ fn whitespace_length(bytes: &[u8], strict: bool) -> usize
     len + whitespace_by_bytes(&bytes[len..], strict)
 }
 
-/// Which of the `LANES` bytes at an offset are not tabs, newlines, carriage returns or spaces, a bit
-/// for each. The clauses say that no bit is set if all are, and that the lowest one that is set is
-/// that of the first other byte.
+/// Which of the `LANES` bytes at an offset are not tabs, newlines, carriage returns or spaces, a
+/// bit for each. The clauses say that no bit is set if all are, and that the lowest one that is set
+/// is that of the first other byte.
 #[inline(always)]
 fn others_in_lanes(bytes: &[u8], start: usize) -> u64
     requires { start + LANES ≤ length bytes.now }

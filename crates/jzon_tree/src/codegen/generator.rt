@@ -2,8 +2,8 @@
 //!
 //! In clauses, `Emits P before after result` says that an `Ok` adds bytes that `P` allows, and that
 //! an `Err` adds a prefix of such bytes and counts a fault. `Just bytes` allows these bytes alone.
-//! The clause `writes_back` of `get_writer` says that once the returned reference is no longer used,
-//! the generator is what it was, with the writer as it is then.
+//! The clause `writes_back` of `get_writer` says that once the returned reference is no longer
+//! used, the generator is what it was, with the writer as it is then.
 
 ghost use Rattle.std.specs.Prelude.{◌≡◌, ◌+◌, ◌-◌, ◌<◌, ◌≤◌, ◌^◌, ◌∷◌, ◌++◌, [], length, take, drop, MatchResult, OnErr, IsSome};
 ghost use Rattle.std.specs.Borrow.{sem, Lends};

@@ -1,6 +1,6 @@
-//! Where a `TextGenerator` writes (docs/GENERATORS.md, "Layouts of one's own"). In clauses,
-//! `Adds (Just bytes) before after` says that these bytes are added, if the bytes before are known.
-//! The clause `writes_back` of `writer` says that once the returned reference is no longer used, the
+//! Where a `TextGenerator` writes (docs/GENERATORS.md, "Layouts of one's own"). In clauses, `Adds
+//! (Just bytes) before after` says that these bytes are added, if the bytes before are known. The
+//! clause `writes_back` of `writer` says that once the returned reference is no longer used, the
 //! destination is what it was, with the writer as it is then.
 
 ghost use Rattle.std.specs.Prelude.{◌≡◌, ◌++◌, ◌∷◌, ℕ, List, Option, None, Some, IsTrue, false, refl, replicate};
