@@ -1,6 +1,6 @@
 -- Complete, for numbers (`complete_number`): over the cells of a number the automaton goes from before it to after it,
 -- each move with its cell's mark. The end of a number is decided by what follows it, so nothing is required of that.
-use Rattle.jzon_base.proofs.Common.{◌≡◌, ℕ, List, [], ◌∷◌, Bool, true, false, not, ◌&&◌, ◌==◌, Option, Some, None, refl}
+use Rattle.jzon_base.proofs.Common.{◌≡◌, ℕ, List, [], ◌∷◌, Bool, true, false, ◌==◌, Option, Some, None, refl}
 use Rattle.jzon_base.proofs.Common.{sym, subst, eqb-true, IsTrue, is_ascii_digit, ◌∙◌, and_parts, not-true, true≢false}
 use Rattle.jzon_tree.specs.Value as value
 use Rattle.jzon.specs.Reading.{Reading}

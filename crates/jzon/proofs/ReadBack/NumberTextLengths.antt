@@ -1,6 +1,6 @@
 -- The length of the text of a number.
-use Rattle.jzon_base.proofs.Common.{◌≡◌, ℕ, ℤ, pos, negsuc, ◌+◌, ◌-◌, ◌^◌, ◌≤◌, ◌<◌, ◌==◌, List, [], ◌++◌, length}
-use Rattle.jzon_base.proofs.Common.{replicate, Bool, true, false, refl, arith, decimal, codes, nat_le, nat_lt}
+use Rattle.jzon_base.proofs.Common.{◌≡◌, ℕ, ℤ, pos, negsuc, ◌+◌, ◌-◌, ◌^◌, ◌≤◌, ◌<◌, ◌==◌, List, [], length}
+use Rattle.jzon_base.proofs.Common.{Bool, true, false, refl, arith, decimal, codes, nat_le, nat_lt}
 use Rattle.jzon_base.proofs.Common.{if◌then◌else◌, FitsSigned, length-append, length-replicate, w16, length-decimal-le}
 use Rattle.jzon_base.proofs.Common.{leb-true}
 use Rattle.std.proofs.Common.{length-take, length-drop}

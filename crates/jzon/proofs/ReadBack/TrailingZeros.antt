@@ -10,8 +10,7 @@ use Rattle.std.proofs.lemmas.Fmt.{decimal_step}
 use Rattle.std.proofs.Math.Bool.{or-true}
 use Rattle.std.proofs.Math.Nat.{pow-suc, one-le-mul}
 use Rattle.std.proofs.lemmas.List.{take_at}
-use Rattle.jzon_base.specs.Digits.{add_digit, digits_number, kept_len, kept, dropped, kept_fraction, read_exponent}
-use Rattle.jzon_base.specs.Digits.{clamp}
+use Rattle.jzon_base.specs.Digits.{add_digit, digits_number, kept_len, dropped, kept_fraction}
 use Rattle.jzon_base.specs.Decimal.{parts, same, scaled}
 use Rattle.jzon_base.specs.NumberText.{sign_text, number_text}
 use Rattle.jzon_base.specs.Private.Same.{same_equiv}
@@ -49,8 +48,7 @@ decimal-ten : (m : ℕ) → 0 < m → m * 10 < 2 ^ 64 → decimal (m * 10) ≡ d
 decimal-ten m above fits =
     let over : m * 10 / 10 ≡ m = omega arith in
     let rest : m * 10 % 10 ≡ 0 = omega arith in
-    decimal_step (m * 10) (omega arith) fits ∙ ap (λ x. decimal x ++ (48 + m * 10 % 10) ∷ []) over
-    ∙ ap (λ r. decimal m ++ (48 + r) ∷ []) rest
+    decimal_step (m * 10) (omega arith) fits ∙ rw (over, rest) refl
 
 -- a mantissa with n more zeros prints as its digits and n zeros
 decimal-zeros : (m n : ℕ) → 0 < m → m * 10 ^ n < 2 ^ 64 → decimal (m * 10 ^ n) ≡ decimal m ++ replicate n 48
@@ -58,9 +56,8 @@ decimal-zeros m zero above fits = ap decimal (times_one m) ∙ sym (append-nil (
 decimal-zeros m (suc n) above fits =
     let e : m * 10 ^ suc n ≡ m * 10 ^ n * 10 = tenfold m n in
     let some : 0 < m * 10 ^ n = one-le-mul above (one-le-pow n 10 (omega arith)) in
-    ap decimal e ∙ decimal-ten (m * 10 ^ n) some (omega (arith, e))
-    ∙ ap (λ t. t ++ 48 ∷ []) (decimal-zeros m n above (omega (arith, e)))
-    ∙ append_assoc (decimal m) (replicate n 48) (48 ∷ []) ∙ ap (λ t. decimal m ++ t) (replicate_end n)
+    ap decimal e ∙ decimal-ten (m * 10 ^ n) some (omega (arith, e)) ∙ rw (decimal-zeros m n above (omega (arith, e)),
+    append_assoc (decimal m) (replicate n 48) (48 ∷ []), replicate_end n) refl
 
 digits_number-zeros : (m k : ℕ) → m < 2 ^ 64 → digits_number (decimal m ++ replicate k 48) ≡ m * 10 ^ k
 digits_number-zeros m k fits =
@@ -125,21 +122,14 @@ one_dropped s w u n all value size =
     let one : dropped w [] ≡ 1 = omega (arith, all, size) in
     let none : kept_fraction w [] ≡ 0 = omega (arith, all, size) in
     let inner : (pos (dropped w []) -ℤ pos (kept_fraction w [])) +ℤ pos 0 ≡ pos 1 = rw (one, none) refl in
-    ap (λ b. parts b (digits_number (kept (w ++ []))) (read_exponent w [] (pos 0))) (not-not s)
-    ∙ ap (λ v. parts s (digits_number (take v (w ++ []))) (read_exponent w [] (pos 0))) all
-    ∙ ap (λ v. parts s v (read_exponent w [] (pos 0))) value ∙ ap (λ z. parts s u (clamp z)) inner
+    rw (not-not s, inner, all, value) refl
 
 below_power : (v : ℕ) (ds : List ℕ) → AllDigits ds → fold add_digit v ds < (v + 1) * 10 ^ length ds
 below_power v [] all = omega arith
 below_power v (c ∷ cs) all =
     let more : add_digit v c + 1 ≤ (v + 1) * 10 = omega (arith, all.0) in
-    omega (
-      arith,
-      below_power (add_digit v c) cs all.1,
-      mul-le-mul_right (10 ^ length cs) more,
-      tenfold (v + 1)
-          (length cs),
-    )
+    let step = mul-le-mul_right (10 ^ length cs) more in
+    omega (arith, below_power (add_digit v c) cs all.1, step, tenfold (v + 1) (length cs))
 
 mantissa_below : (m : ℕ) → 0 < m → m < 2 ^ 64 → m < 10 ^ length (decimal m)
 mantissa_below m above fits =

@@ -1,13 +1,13 @@
 -- Runs of ASCII bytes of a text, such as whitespace and digits, and the rest of the text after them.
 use Rattle.jzon_base.proofs.Common.{◌≡◌, ℕ, suc, ◌+◌, ◌<◌, ◌≤◌, Bool, true, false, cond, List, [], ◌∷◌, ◌++◌, length}
-use Rattle.jzon_base.proofs.Common.{drop, add-one, drop-cons, get_or, refl, sym, ap, subst, ◌∙◌, arith, None, chars}
+use Rattle.jzon_base.proofs.Common.{drop, add-one, drop-cons, get_or, refl, sym, ap, ◌∙◌, arith, None, chars}
 use Rattle.jzon_base.proofs.Common.{IsUtf8, IsCharBoundary, prefix_len, nat_tests, drop-drop, length-drop, get_or-drop}
 use Rattle.jzon_base.proofs.Common.{prefix_len-le-length, prefix_len_stops, chars_past_char, encode_ascii, IsUtf8-drop}
 use Rattle.jzon_base.proofs.Common.{IsCharBoundary-from_drop}
 use Rattle.std.proofs.lemmas.Str.{IsUtf8-past_char}
 use Rattle.jzon_tree.specs.Writing.{is_whitespace}
 use Rattle.jzon.specs.Reading.{Reading}
-use Rattle.jzon.specs.Private.Machine.{State, Frames, before, go, move, outcome, outcome_on, from}
+use Rattle.jzon.specs.Private.Machine.{State, Frames, before, go, move, outcome, from}
 use Rattle.jzon.proofs.Texts.ClassesOfCharacters.{whitespace-class}
 
 -- an ASCII byte is a character, and what follows it is text
@@ -35,9 +35,8 @@ skip_one r p test b bs true n h u e ih =
     let k = ih (IsUtf8-past_ascii b bs u lt) in
     let m : 1 + n ≡ suc n = omega arith in
     let step : outcome r (chars (b ∷ bs)) p ≡ outcome r (chars bs) p =
-    ap (λ cs. outcome r cs p) (chars-ascii b bs u lt) ∙ ap (λ x. outcome_on x (λ q. outcome r (chars bs) q)
-    (b ∷ chars bs)) (h.stays b (length (b ∷ chars bs)) e) in
-    subst (λ j. Skipped r p (b ∷ bs) (drop j (b ∷ bs))) (sym m) (record { same = step ∙ k.same; utf8 = k.utf8 })
+    rw (chars-ascii b bs u lt, h.stays b (suc (length (chars bs))) e) refl in
+    rw m (record { same = step ∙ k.same; utf8 = k.utf8 })
 
 pub skip_run : (r : Reading) (p : State) (test : ℕ → Bool) (bs : List ℕ) → Skips r p test → IsUtf8 bs
     → Skipped r p bs (drop (prefix_len test bs) bs)
@@ -84,18 +83,15 @@ within_run test bs i n le e = omega (arith, e, prefix_len-le-length test (drop i
 pub boundary_skip : (r : Reading) (p : State) (test : ℕ → Bool) (bs : List ℕ) (i n : ℕ) → Skips r p test → IsUtf8 bs
     → IsCharBoundary bs i → n ≡ prefix_len test (drop i bs) → IsCharBoundary bs (i + n)
 boundary_skip r p test bs i n h u at e =
-    let k : IsUtf8 (drop (prefix_len test (drop i bs)) (drop i bs)) =
-    (skip_run r p test (drop i bs) h (IsUtf8-drop bs i u at)).utf8 in
     IsCharBoundary-from_drop bs (i + n) (within_run test bs i n at.0 e)
-    (subst IsUtf8 (ap (λ m. drop m (drop i bs)) (sym e) ∙ drop-drop n i bs) k)
+    (rw (← e, drop-drop n i bs) at (skip_run r p test (drop i bs) h (IsUtf8-drop bs i u at)).utf8)
 
 -- the byte after a run doesn't pass the test
 pub stops_run : (test : ℕ → Bool) (bs : List ℕ) (i n : ℕ) → n ≡ prefix_len test (drop i bs) → i + n < length bs
     → test (get_or bs (i + n) 0) ≡ false
 stops_run test bs i n e lt =
     let k : prefix_len test (drop i bs) < length (drop i bs) = omega (arith, e, length-drop i bs) in
-    subst (λ c. test c ≡ false) (ap (λ m. get_or (drop i bs) m 0) (sym e) ∙ get_or-drop i bs n 0)
-    (prefix_len_stops test (drop i bs) 0 k)
+    rw (← e, get_or-drop i bs n 0) at (prefix_len_stops test (drop i bs) 0 k)
 
 -- ---- only whitespace
 
@@ -103,18 +99,12 @@ above_is_no_space : (s : Bool) (c : ℕ) → 32 < c → is_whitespace s c ≡ fa
 above_is_no_space true c lt = grind (arith, nat_tests)
 above_is_no_space false c lt = grind (arith, nat_tests)
 
-space_is_whitespace : (s : Bool) → is_whitespace s 32 ≡ true
-space_is_whitespace true = refl
-space_is_whitespace false = refl
-
 pub space_alone : (s : Bool) (bs : List ℕ) (i : ℕ) → i + 1 < length bs → get_or bs i 0 ≡ 32 → 32 < get_or bs (i + 1) 0
     → 1 ≡ prefix_len (is_whitespace s) (drop i bs)
 space_alone s bs i lt whitespace above =
     let passes : prefix_len (is_whitespace s) (drop i bs) ≡ 1 + prefix_len (is_whitespace s) (drop (suc i) bs) =
-    ap (prefix_len (is_whitespace s)) (drop-cons bs i 0 (omega arith))
-    ∙ ap (λ t. cond t (1 + prefix_len (is_whitespace s) (drop (suc i) bs)) 0)
-    (ap (is_whitespace s) whitespace ∙ space_is_whitespace s) in
+    rw (drop-cons bs i 0 (omega arith), whitespace) refl in
     let next : prefix_len (is_whitespace s) (drop (suc i) bs) ≡ prefix_len (is_whitespace s) (drop (i + 1) bs) =
-    ap (λ n. prefix_len (is_whitespace s) (drop n bs)) (sym (add-one i)) in
+    rw (add-one i) refl in
     let none = empty_run (is_whitespace s) bs (i + 1) (omega arith) (above_is_no_space s (get_or bs (i + 1) 0) above) in
     omega (arith, passes, next, none)

@@ -5,9 +5,9 @@ use Rattle.jzon_base.proofs.Common.{slice_range, IsCharBoundary, drop-drop, char
 use Rattle.jzon_base.proofs.Common.{get_or-append_seam, take-append_seam}
 use Rattle.std.proofs.lemmas.List.{length-append}
 use Rattle.jzon_base.specs.declared.error.Error.{Error}
-use Rattle.jzon_base.specs.declared.error.Error.TheVariants.{UnexpectedCharacter, DuplicateKey}
+use Rattle.jzon_base.specs.declared.error.Error.TheVariants.{DuplicateKey}
 use Rattle.jzon.specs.Spelling.{duplicate}
-use Rattle.jzon.specs.Fault.{character, limit, line, column, error_at}
+use Rattle.jzon.specs.Fault.{limit, line, column, error_at}
 use Rattle.jzon.specs.Private.Machine.{Reports, Outcome, meant, refused, left_at, fault_here}
 use Rattle.jzon.specs.Private.Stops.{IsAtBoundary, error_between, reported_error}
 use Rattle.jzon.specs.declared.fault.Stop.{Stop}

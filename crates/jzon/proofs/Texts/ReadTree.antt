@@ -12,7 +12,7 @@ use Rattle.jzon.specs.Grammar as grammar
 use Rattle.jzon.specs.Fault.{Spells, Parses}
 use Rattle.jzon.specs.Private.Machine.{no_frames, before, Outcome, meant, refused, outcome}
 use Rattle.jzon.proofs.Strings.StringCharacters.{are_hex, hex-true}
-use Rattle.jzon.proofs.WorkedRows.Samples.{is_numeral, is_numeral-true}
+use Rattle.jzon.proofs.WorkedRows.Samples.{is_numeral, is_numeral-true, left-true, right-true}
 use Rattle.jzon.proofs.Texts.TreeCharacters.{document_chars, spells}
 use Rattle.jzon.proofs.Texts.OneTree.{same_tree}
 use Rattle.jzon.proofs.Texts.Verdict.{Verdict, answers}
@@ -54,12 +54,6 @@ abbrev mutual
 
 abbrev is_document : Reading → Document → Bool
 is_document r d = is_blank r d.before && (is_node r d.node && is_blank r d.after)
-
-left-true : (a b : Bool) → IsTrue (a && b) → IsTrue a
-left-true a b h = (and_parts a b h).0
-
-right-true : (a b : Bool) → IsTrue (a && b) → IsTrue b
-right-true a b h = (and_parts a b h).1
 
 each-true : (test : ℕ → Bool) (w : List ℕ) → IsTrue (list_all test w) → Each test w
 each-true test [] h = tt

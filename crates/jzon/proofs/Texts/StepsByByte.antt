@@ -1,6 +1,6 @@
 -- One move of the automaton, by the byte at an offset of a text: it goes on, stops, reports a depth limit, or the text
 -- ends.
-use Rattle.jzon_base.proofs.Common.{◌≡◌, ◌⊎◌, inl, inr, ℕ, suc, ◌+◌, ◌<◌, ◌≤◌, List, [], ◌∷◌, length, drop, get_or}
+use Rattle.jzon_base.proofs.Common.{◌≡◌, ◌⊎◌, inl, inr, ℕ, ◌+◌, ◌<◌, ◌≤◌, List, [], ◌∷◌, length, drop, get_or}
 use Rattle.jzon_base.proofs.Common.{refl, sym, ap, subst, ◌∙◌, arith, drop-cons, add-one, None, chars, IsUtf8}
 use Rattle.jzon_base.proofs.Common.{encode_utf8, encode_utf8_all, ◌++◌, IsTrue, is_ascii_digit, IsCharBoundary}
 use Rattle.jzon_base.proofs.Common.{cases_lt, nat_tests, length-drop, get_or-drop, nil_from_length, IsUtf8-drop}

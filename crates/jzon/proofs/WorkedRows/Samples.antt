@@ -140,6 +140,12 @@ is_exponent (Some e) = is_exponent_letter e.letter && is_digits e.digits
 abbrev pub is_numeral : Numeral → Bool
 is_numeral n = is_whole n.whole && (are_digits n.fraction && is_exponent n.exponent)
 
+pub left-true : (a b : Bool) → IsTrue (a && b) → IsTrue a
+left-true a b h = (and_parts a b h).0
+
+pub right-true : (a b : Bool) → IsTrue (a && b) → IsTrue b
+right-true a b h = (and_parts a b h).1
+
 are_digits-true : (ds : List ℕ) → IsTrue (are_digits ds) → AreDigits ds
 are_digits-true [] h = tt
 are_digits-true (d ∷ ds) h = let t = and_parts _ _ h in (t.0, are_digits-true ds t.1)
@@ -158,7 +164,4 @@ is_exponent-true None h = tt
 is_exponent-true (Some e) h = let t = and_parts _ _ h in (t.0, is_digits-true e.digits t.1)
 
 pub is_numeral-true : (n : Numeral) → IsTrue (is_numeral n) → IsNumeral n
-is_numeral-true n h =
-    let t = and_parts _ _ h in
-    let u = and_parts _ _ t.1 in
-    (is_whole-true n.whole t.0, are_digits-true n.fraction u.0, is_exponent-true n.exponent u.1)
+is_numeral-true n h = search (left-true, right-true, is_whole-true, are_digits-true, is_exponent-true)
