@@ -120,11 +120,8 @@ pub view-pushed : (s : Inside) (vs : Vec JsonValue Global) (v : JsonValue) → I
     → containers_of (record s { values = vs }) ≡ value_added (containers_of s) v
 view-pushed s vs v h e =
     let n = s.innermost.first_value in
-    rw (
-      e,
-      drop-append-le n s.values.items (v ∷ []) (values_within s h),
-      take-append-le n s.values.items (v ∷ []) (values_within s h),
-    ) refl
+    rw (e, drop-append-le n s.values.items (v ∷ []) (values_within s h))
+    (rw (take-append-le n s.values.items (v ∷ []) (values_within s h)))
 
 -- if the values aren't kept, but their number is
 

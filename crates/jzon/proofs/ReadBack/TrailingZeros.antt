@@ -56,8 +56,11 @@ decimal-zeros m zero above fits = ap decimal (times_one m) ∙ sym (append-nil (
 decimal-zeros m (suc n) above fits =
     let e : m * 10 ^ suc n ≡ m * 10 ^ n * 10 = tenfold m n in
     let some : 0 < m * 10 ^ n = one-le-mul above (one-le-pow n 10 (omega arith)) in
-    ap decimal e ∙ decimal-ten (m * 10 ^ n) some (omega (arith, e)) ∙ rw (decimal-zeros m n above (omega (arith, e)),
-    append_assoc (decimal m) (replicate n 48) (48 ∷ []), replicate_end n) refl
+    ap decimal e ∙ decimal-ten (m * 10 ^ n) some (omega (arith, e)) ∙ rw (
+      decimal-zeros m n above (omega (arith, e)),
+      append_assoc (decimal m) (replicate n 48) (48 ∷ []),
+      replicate_end n,
+    ) refl
 
 digits_number-zeros : (m k : ℕ) → m < 2 ^ 64 → digits_number (decimal m ++ replicate k 48) ≡ m * 10 ^ k
 digits_number-zeros m k fits =

@@ -118,12 +118,8 @@ escaped_encoded c =
 escaped-encodes : (cs : List ℕ) → encode_utf8_all (escaped cs) ≡ escaped (encode_utf8_all cs)
 escaped-encodes [] = refl
 escaped-encodes (c ∷ cs) =
-    rw (
-      encodes-append (escaped_byte c) (escaped cs),
-      escaped_encoded c,
-      escaped-encodes cs,
-      flat_map-append escaped_byte (encode_utf8 c) (encode_utf8_all cs),
-    ) refl
+    rw (encodes-append (escaped_byte c) (escaped cs), escaped_encoded c, escaped-encodes cs)
+    (rw (flat_map-append escaped_byte (encode_utf8 c) (encode_utf8_all cs)))
 
 items_in_grammar : (cs : List ℕ) → scalars cs ≡ true → AreItems (items_of cs)
 items_in_grammar [] h = tt
@@ -167,18 +163,11 @@ quote = IsAscii-one 34 (omega arith)
 chars-quoted : (s : List ℕ) → IsUtf8 s → chars (quoted s) ≡ quoted (chars s)
 chars-quoted s u =
     chars-IsAscii_append (34 ∷ []) (escaped s ++ 34 ∷ []) quote
-    ∙ rw (
-      chars-append (escaped s) (34 ∷ []) (IsUtf8-escaped s u),
-      chars-IsAscii (34 ∷ []) quote,
-      ← (chars_from_encodes (escaped (chars s)) (escaped s) (IsUtf8-escaped s u) (escaped_text s u)),
-    ) refl
+    ∙ rw (chars-append (escaped s) (34 ∷ []) (IsUtf8-escaped s u), chars-IsAscii (34 ∷ []) quote)
+    (rw (← (chars_from_encodes (escaped (chars s)) (escaped s) (IsUtf8-escaped s u) (escaped_text s u))))
 
 -- the cells of a string and its quotes
 pub quoted-plain : (s : List ℕ) (k : List Cell) → IsUtf8 s → cell 34 None ∷ items_cells (items_for s) (cell 34 None ∷ k)
     ≡ plain (chars (quoted s)) k
 quoted-plain s k u =
-    rw (
-      chars-quoted s u,
-      items-plain (chars s) (cell 34 None ∷ k) (scalars-chars s u),
-      plain-append (escaped (chars s)) (34 ∷ []) k,
-    ) refl
+    rw (chars-quoted s u, items-plain (chars s) (cell 34 None ∷ k) (scalars-chars s u)) (rw plain-append)

@@ -144,13 +144,9 @@ module _ (r : Reading) (h : ℕ) (g x c b : List ℕ) (n : Node) (gap : IsWhites
   run-plain : (depth : ℕ) (rest k : List Cell) → depth + h ≤ r.depth → rest ≡ plain (chars b) k
       → plain g (node_cells r n depth None (plain c rest)) ≡ plain (chars (run_text g x c b)) k
   run-plain depth rest k few more =
-      rw (
-        more,
-        node.unbroken depth (plain c (plain (chars b) k)) few,
-        text-ascii g _ k (IsAscii-whitespace r g gap),
-        text-append x _ k node.utf8,
-        text-ascii c b k (IsAscii-whitespace r c space),
-      ) refl
+      rw (more, node.unbroken depth (plain c (plain (chars b) k)) few)
+      (rw (text-ascii g _ k (IsAscii-whitespace r g gap), text-append x _ k node.utf8)
+      (rw (text-ascii c b k (IsAscii-whitespace r c space))))
 
   IsUtf8-run : IsUtf8 b → IsUtf8 (run_text g x c b)
   IsUtf8-run v = IsUtf8-ascii_append g _ (IsAscii-whitespace r g gap)
@@ -187,13 +183,9 @@ module _ (r : Reading) (h : ℕ) (g x c b : List ℕ) (n : Node) (gap : IsWhites
     pair-plain depth seen k new few =
         let value = run-plain depth _ k (omega arith) (more.unbroken (key ∷ seen) depth k new.1 (omega arith)) in
         key-plain r seen w key _ u new.0
-        ∙ rw (
-          bytes_of-items_for key u,
-          value,
-          text-ascii w _ k (IsAscii-whitespace r w whitespace),
-          text-append (quoted key) _ k (IsUtf8-quoted key u),
-          text-ascii (58 ∷ []) (run_text g x c b) k (IsAscii-one 58 (omega arith)),
-        ) refl
+        ∙ rw (bytes_of-items_for key u, value)
+        (rw (text-ascii w _ k (IsAscii-whitespace r w whitespace), text-append (quoted key) _ k (IsUtf8-quoted key u))
+        (rw (text-ascii (58 ∷ []) (run_text g x c b) k (IsAscii-one 58 (omega arith)))))
 
     IsUtf8-pair : IsUtf8 (pair_text w key g x c b)
     IsUtf8-pair = IsUtf8-ascii_append w _ (IsAscii-whitespace r w whitespace)

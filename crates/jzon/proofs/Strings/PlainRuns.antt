@@ -51,10 +51,8 @@ read_plain r role bs (c ∷ cs) rest s h =
     let parts = and_parts (scalar c) (scalars cs) s in
     ap (λ m. outcome_on m (λ p. outcome r (cs ++ rest) p) (c ∷ (cs ++ rest)))
     (plain_move r role bs c (length (c ∷ (cs ++ rest))) (plain_first c (encode_utf8_all cs) parts.0 h))
-    ∙ rw (
-      read_plain r role (bs ++ encode_utf8 c) cs rest parts.1 (plain_rest (encode_utf8 c) (encode_utf8_all cs) h),
-      append_assoc bs (encode_utf8 c) (encode_utf8_all cs),
-    ) refl
+    ∙ read_plain r role (bs ++ encode_utf8 c) cs rest parts.1 (plain_rest (encode_utf8 c) (encode_utf8_all cs) h)
+    ∙ rw append_assoc
 
 -- ---- by the index of a byte
 

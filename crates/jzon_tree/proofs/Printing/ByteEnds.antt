@@ -48,9 +48,7 @@ module _ (old text : List ℕ) (at n : ℕ) (fits : at + length text ≤ length 
       let last : chunk k n text ≡ drop k text = take_all n (drop k text) (omega (arith, length-drop k text)) in
       take_more_put_chunk (at + k) one (chunk k n text) (at + length text) (omega (arith, long_back))
       (omega (arith, long_once))
-      ∙ ap (λ (l : List ℕ). l ++ chunk k n text) cut ∙ ap (λ (l : List ℕ). (take at old ++ take k text) ++ l) last
-      ∙ append_assoc (take at old) (take k text) (drop k text)
-      ∙ ap (λ (l : List ℕ). take at old ++ l) (take-append-drop k text)
+      ∙ rw (cut, last, append_assoc (take at old) (take k text) (drop k text), take-append-drop k text)
 
 -- a text is put between the first two of many quotes, so that the second is after it
 pub put_in_quotes : (old text items new : List ℕ) (s m : ℕ) → s ≡ length old
@@ -61,18 +59,14 @@ pub put_in_quotes : (old text items new : List ℕ) (s m : ℕ) → s ≡ length
 put_in_quotes old text items new s m at quotes room put left same =
     let k : ℕ = s + 1 + length text in
     let many : length items ≡ length old + m =
-    ap length quotes ∙ length-append old (replicate m 34) ∙ ap (λ j. length old + j) (length-replicate m 34) in
+    rw (quotes, length-append old (replicate m 34), length-replicate {A = ℕ} m 34) in
     let end : s + (length text + 2) ≡ k + 1 = omega arith in
     let second : k ≡ length old + (1 + length text) = omega arith in
     let next : s + 1 ≡ length old + 1 = omega arith in
     let quote : get_or items k 0 ≡ 34 =
-    ap (λ l. get_or l k 0) quotes ∙ ap (λ j. get_or (old ++ replicate m 34) j 0) second
-    ∙ get_or-append-add old (replicate m 34) (1 + length text) 0
-    ∙ get_or-replicate m (1 + length text) 34 0 (omega arith) in
+    rw (quotes, second, get_or-append-add old (replicate m 34) (1 + length text) 0)
+    (get_or-replicate m (1 + length text) 34 0 (omega arith)) in
     let opening : take (s + 1) items ≡ old ++ 34 ∷ [] =
-    ap (λ j. take j items) next ∙ ap (take (length old + 1)) quotes ∙ take-append-add old (replicate m 34) 1
-    ∙ ap (λ (l : List ℕ). old ++ l) (take-replicate 1 m 34 (omega arith)) in
-    ap (λ j. take j new) end ∙ take_more new k 0 (omega (arith, many, same))
-    ∙ ap (λ (l : List ℕ). l ++ get_or new k 0 ∷ []) (put ∙ ap (λ (l : List ℕ). l ++ text) opening)
-    ∙ ap (λ b. ((old ++ 34 ∷ []) ++ text) ++ b ∷ []) (left ∙ quote)
-    ∙ append_assoc (old ++ 34 ∷ []) text (34 ∷ []) ∙ append_assoc old (34 ∷ []) (text ++ 34 ∷ [])
+    rw (next, quotes, take-append-add old (replicate m 34) 1, take-replicate {X = ℕ} 1 m 34 (omega arith)) in
+    rw (end, take_more new k 0 (omega (arith, many, same)), put, opening, left, quote)
+    (rw (append_assoc (old ++ 34 ∷ []) text (34 ∷ []), append_assoc old (34 ∷ []) (text ++ 34 ∷ [])))

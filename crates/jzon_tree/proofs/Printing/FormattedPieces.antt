@@ -25,8 +25,7 @@ module _ (whole bs run : List ℕ) (n : ℕ) (p : run ≡ take n bs) (e : n ≡ 
   escape_shown c rest q x h =
       let all : escaped bs ≡ run ++ (escaped_byte c ++ escaped rest) = escaped-run bs n (omega (arith, e))
       ∙ rw (sym p, q) refl in
-      append_assoc (x ++ run) (escaped_byte c) (escaped rest) ∙ append_assoc x run (escaped_byte c ++ escaped rest)
-      ∙ ap (λ (w : List ℕ). x ++ w) (sym all) ∙ h
+      rw (append_assoc, append_assoc, ← all) h
 
   pub text_shown : drop n bs ≡ [] → (x : List ℕ) → TextLeft whole bs x → (x ++ run) ++ 34 ∷ [] ≡ quoted whole
   text_shown q x h =
@@ -76,13 +75,8 @@ module _ {A : Type 0} (shown : A → List ℕ) (opening close : ℕ) (items : Li
       let rest = texts_left close true (map shown (drop (suc i) items)) in
       let here : drop i items ≡ a ∷ drop (suc i) items = drop-cons items i a h
       ∙ ap (λ (b : A). b ∷ drop (suc i) items) (sym is) in
-      let more : x ++ (comma ++ (shown a ++ rest)) ≡ all_shown =
-      ap (λ (others : List A). x ++ texts_left close (nat_lt 0 i) (map shown others)) (sym here) ∙ left
-      in
-      ap (λ (n : ℕ). ((x ++ comma) ++ shown a) ++ texts_left close (nat_lt 0 n) (map shown (drop n items))) (add-one i)
-      ∙ ap (λ (b : Bool). ((x ++ comma) ++ shown a) ++ texts_left close b (map shown (drop (suc i) items)))
-      (lt-ltb 0 (suc i) (omega arith))
-      ∙ append_assoc (x ++ comma) (shown a) rest ∙ append_assoc x comma (shown a ++ rest) ∙ more
+      let more : x ++ (comma ++ (shown a ++ rest)) ≡ all_shown = rw here at left in
+      rw (add-one i, lt-ltb 0 (suc i) (omega arith), append_assoc, append_assoc) more
 
   pub items_shown : (i : ℕ) → i ≡ length items → (x : List ℕ) → ItemsLeft i x → x ++ close ∷ [] ≡ all_shown
   items_shown i e x left =

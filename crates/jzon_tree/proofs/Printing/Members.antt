@@ -120,12 +120,7 @@ pub object_closed : (s : Style) (d : ℕ) (es : List (List ℕ × Value)) (ps : 
     → Writes s d (object (pairs_of es)) (123 ∷ (y ++ z))
 object_closed s d [] ps o t n y z m c = absurd (omega arith)
 object_closed s d (e ∷ es) [] o t n y z m c = absurd (omega (arith, o.as_many))
-object_closed s d (e ∷ es) (p ∷ ps) o t n y z (ts, l, each, items) c = (
-  ts,
-  p ∷ ps,
-  each_pair s (suc d) (e ∷ es) ts l (named s (suc d) (e ∷ es) (p ∷ ps) ts o each),
-  rw l o,
-  rw
-      (list_of_pairs-pairs_of es) t,
-  encloses s d 123 125 (text_at ts p) (map (text_at ts) ps) y z items c,
-)
+object_closed s d (e ∷ es) (p ∷ ps) o t n y z (ts, l, each, items) c =
+    let texts = each_pair s (suc d) (e ∷ es) ts l (named s (suc d) (e ∷ es) (p ∷ ps) ts o each) in
+    let enclosed = encloses s d 123 125 (text_at ts p) (map (text_at ts) ps) y z items c in
+    (ts, p ∷ ps, texts, rw l o, rw (list_of_pairs-pairs_of es) t, enclosed)

@@ -59,15 +59,8 @@ module _ (ds : List ℕ) (h : IsAscii ds) where
 
   ascii-magnitude : (e : ℤ) → length ds ≤ 20 → FitsSigned w16 e → IsAscii (magnitude_text ds e)
   ascii-magnitude (pos k) n f =
-      let few : k < 2 ^ 15 = search (rules, f) in search (
-        arith,
-        IsAscii-if,
-        IsAscii-append,
-        IsAscii-replicate,
-        ascii-point_first,
-        IsAscii-true,
-        IsAscii-decimal,
-      )
+      let few : k < 2 ^ 15 = search (rules, f) in
+      search (arith, IsAscii-if, IsAscii-append, IsAscii-replicate, ascii-point_first, IsAscii-true, IsAscii-decimal)
   ascii-magnitude (negsuc k) n f =
       let few : k < 2 ^ 15 = search (rules, f) in
       search (arith, IsAscii-if, ascii-fraction, IsAscii-append, ascii-point_first, ascii-exponent)

@@ -62,21 +62,14 @@ inspected_more vs v a b m n h k = record {
   value = values_more vs v h.value k.value;
   without = λ e. nan_more vs v (h.without (or_parts a b e).0) (k.without (or_parts a b e).1);
   free = λ e. or_from a b (h.free (nan_parts vs v e).0) (k.free (nan_parts vs v e).1);
-  within = λ r l e. nest_more vs v r (h.within r l (omega (arith, e, le-max_left m (min (n + 1) (2 ^ 128 - 1)))))
-      (omega (
-        arith,
-        k.within (r - 1) (omega (arith, l)) (omega (
-          arith,
-          below n r l (omega
-              (arith, e, le-max_right m (min (n + 1) (2 ^ 128 - 1)))),
-        )),
-      ));
-  reached = λ r l e. max-le (h.reached r l (nest_parts vs v r e).0)
-      (below_back n r (omega (
-        arith,
-        k.reached (r - 1) (omega (arith, l)) (omega (arith, (nest_parts vs v r e).1)),
-        (nest_parts vs v r e).1,
-      )));
+  within = λ r l e.
+      let less = below n r l (omega (arith, e, le-max_right m (min (n + 1) (2 ^ 128 - 1)))) in
+      nest_more vs v r (h.within r l (omega (arith, e, le-max_left m (min (n + 1) (2 ^ 128 - 1)))))
+      (omega (arith, k.within (r - 1) (omega (arith, l)) (omega (arith, less))));
+  reached = λ r l e.
+      let parts = nest_parts vs v r e in
+      let less = k.reached (r - 1) (omega (arith, l)) (omega (arith, parts.1)) in
+      max-le (h.reached r l parts.0) (below_back n r (omega (arith, less, parts.1)));
 }
 
 -- ---- the values of entries

@@ -9,7 +9,7 @@ use Rattle.jzon_base.specs.PairList.{put, cut}
 use Rattle.jzon_tree.specs.Changers.{without_item, with_item, without_entry, with_entry}
 use Rattle.jzon_tree.specs.Entries.{entries_of}
 use Rattle.jzon_tree.specs.Readers.{items, entries, count, is_empty, or_null}
-use Rattle.jzon_tree.specs.Value.{Value, array, object, values_of, pairs_of, list_of_values}
+use Rattle.jzon_tree.specs.Value.{Value, array, object, values_of, list_of_values}
 use Rattle.jzon_tree.specs.View.{view, viewed, view_pairs, view_values}
 use Rattle.jzon_tree.specs.declared.object.Object.{Object}
 use Rattle.jzon_tree.specs.declared.value.JsonValue.{JsonValue, Null, Array, Object as in_object}
@@ -28,20 +28,16 @@ pub entries-Object : (o : Object) → entries (view (in_object o)) ≡ viewed (e
 entries-Object o = ap entries (view-Object o) ∙ list_of_pairs-pairs_of (viewed (entries_of o))
 
 pub count-Array : (v : Vec JsonValue Global) → count (view (Array v)) ≡ length v.items
-count-Array v = ap count (view-Array v) ∙ ap length (list_of_values-values_of (map view v.items))
-    ∙ length-map v.items view
+count-Array v = ap count (view-Array v) ∙ simp (list_of_values-values_of, length-map)
 
 pub count-Object : (o : Object) → count (view (in_object o)) ≡ length (entries_of o)
-count-Object o = ap count (view-Object o) ∙ ap length (list_of_pairs-pairs_of (viewed (entries_of o)))
-    ∙ length-map (entries_of o) _
+count-Object o = ap count (view-Object o) ∙ simp (list_of_pairs-pairs_of, length-map)
 
 pub is_empty-Array : (v : Vec JsonValue Global) → is_empty (view (Array v)) ≡ (length v.items == 0)
-is_empty-Array v = ap is_empty (view-Array v) ∙ ap (λ (n : ℕ). n == 0)
-    (ap length (list_of_values-values_of (map view v.items)) ∙ length-map v.items view)
+is_empty-Array v = ap is_empty (view-Array v) ∙ simp (list_of_values-values_of, length-map)
 
 pub is_empty-Object : (o : Object) → is_empty (view (in_object o)) ≡ (length (entries_of o) == 0)
-is_empty-Object o = ap is_empty (view-Object o) ∙ ap (λ (n : ℕ). n == 0)
-    (ap length (list_of_pairs-pairs_of (viewed (entries_of o))) ∙ length-map (entries_of o) _)
+is_empty-Object o = ap is_empty (view-Object o) ∙ simp (list_of_pairs-pairs_of, length-map)
 
 pub item-viewed : (vs : List JsonValue) (i : ℕ) → slice_get (map view vs) i ≡ option_map view (slice_get vs i)
 item-viewed vs i = slice_get-map view vs i
@@ -69,31 +65,22 @@ view-unwrap_or (Some v) = refl
 pub without_item-Array : (v : Vec JsonValue Global) (i : ℕ) → without_item i (view (Array v))
     ≡ array (view_values (remove v.items i))
 without_item-Array v i =
-    ap (without_item i) (view-Array v)
-    ∙ ap (λ (ws : List Value). array (values_of (remove ws i))) (list_of_values-values_of (map view v.items))
-    ∙ ap (λ (ws : List Value). array (values_of ws)) (sym (map-remove view v.items i))
+    ap (without_item i) (view-Array v) ∙ simp (list_of_values-values_of, map-remove)
 
 pub with_item-Array : (v : Vec JsonValue Global) (w : JsonValue)
     → with_item (view w) (view (Array v)) ≡ array (view_values (v.items ++ w ∷ []))
 with_item-Array v w =
-    ap (with_item (view w)) (view-Array v)
-    ∙ ap (λ (ws : List Value). array (values_of (ws ++ view w ∷ []))) (list_of_values-values_of (map view v.items))
-    ∙ ap (λ (ws : List Value). array (values_of ws)) (sym (map-append view v.items (w ∷ [])))
+    ap (with_item (view w)) (view-Array v) ∙ simp (list_of_values-values_of, map-append)
 
 pub without_entry-Object : (k : List ℕ) (o : Object) → without_entry k (view (in_object o))
     ≡ object (view_pairs (cut k (entries_of o)))
 without_entry-Object k o =
-    ap (without_entry k) (view-Object o)
-    ∙ ap (λ (ps : List (List ℕ × Value)). object (pairs_of (cut k ps))) (list_of_pairs-pairs_of (viewed (entries_of o)))
-    ∙ ap (λ (ps : List (List ℕ × Value)). object (pairs_of ps)) (sym (viewed-cut k (entries_of o)))
+    ap (without_entry k) (view-Object o) ∙ simp (list_of_pairs-pairs_of, viewed-cut)
 
 pub with_entry-Object : (k : List ℕ) (w : JsonValue) (o : Object)
     → with_entry k (view w) (view (in_object o)) ≡ object (view_pairs (put k w (entries_of o)))
 with_entry-Object k w o =
-    ap (with_entry k (view w)) (view-Object o)
-    ∙ ap (λ (ps : List (List ℕ × Value)). object (pairs_of (put k (view w) ps)))
-    (list_of_pairs-pairs_of (viewed (entries_of o)))
-    ∙ ap (λ (ps : List (List ℕ × Value)). object (pairs_of ps)) (sym (viewed-put k w (entries_of o)))
+    ap (with_entry k (view w)) (view-Object o) ∙ simp (list_of_pairs-pairs_of, viewed-put)
 
 pub ruleset seen = (
   items-Array,

@@ -9,7 +9,7 @@ use Rattle.jzon_tree.specs.Entries.{entries_of, with_entries}
 use Rattle.jzon_tree.specs.Lent.{entries_in, items_in, items_of, with_place, place_in}
 use Rattle.jzon_tree.specs.Readers.{entries}
 use Rattle.jzon_tree.specs.Value.{Value, null, array, object, pairs_of, values_of}
-use Rattle.jzon_tree.specs.View.{view, viewed}
+use Rattle.jzon_tree.specs.View.{view}
 use Rattle.jzon_tree.specs.declared.object.Object.{Object}
 use Rattle.jzon_tree.specs.declared.value.JsonValue.{JsonValue, roll-JsonValue, the_lemmas, Null}
 use Rattle.jzon_tree.specs.declared.value.JsonValue.{Object as object_value}
@@ -28,9 +28,7 @@ pub view-put : (k : List ℕ) (w v : JsonValue)
     ≡ object (pairs_of (put k (view w) (entries (view v))))
 view-put k w v =
     view-Object (with_entries (put k w (entries_in v)))
-    ∙ ap (λ (ps : List (List ℕ × JsonValue)). object (pairs_of (viewed ps))) (entries-made (put k w (entries_in v)))
-    ∙ ap (λ (ps : List (List ℕ × Value)). object (pairs_of ps)) (viewed-put k w (entries_in v)
-    ∙ ap (put k (view w)) (sym (entries-view v)))
+    ∙ rw (entries-made (put k w (entries_in v)), viewed-put k w (entries_in v), entries-view v) refl
 
 -- ---- an element
 
@@ -75,13 +73,9 @@ pub view-items : (i : ℕ) (w v u : JsonValue)
     → view u ≡ array (values_of (slice_set (with_place null (items_of (view v)) i) (place_in (items_of (view v)) i)
     (view w)))
 view-items i w v u h =
-    array_of_items (view u) _ (items_of-view u ∙ ap (option_map (map view)) h
-    ∙ ap (λ (ws : List Value). Some ws) (map-set view (with_place Null (items_in v) i) (place_in (items_in v) i) w
-    ∙ sym (ap (λ (o : Option (List Value)). slice_set (with_place null o i) (place_in o i) (view w))
-    (items_of-view v)
-    ∙ ap (λ (ws : List Value). slice_set ws (place_in (option_map (map view) (items_in v)) i) (view w))
-    (with_place-view (items_in v) i)
-    ∙ ap (λ (n : ℕ). slice_set (map view (with_place Null (items_in v) i)) n (view w)) (place_in-view (items_in v) i))))
+    array_of_items (view u) _ (items_of-view u
+    ∙ rw (h, items_of-view v, with_place-view (items_in v) i, place_in-view (items_in v) i)
+    (ap Some (map-set view (with_place Null (items_in v) i) (place_in (items_in v) i) w)))
 
 few_items : (o : Option (List JsonValue)) (i : ℕ) → IfSome o (λ vs. length vs ≤ i)
     → IfSome (option_map (map view) o) (λ vs. length vs ≤ i)
