@@ -123,6 +123,10 @@ record NodeHeld (r : Reading) (depth : ℕ) (m : Option Breach) (k : List Cell) 
   mark : m ≡ None
   rest : HaveNoMarks k
 
+held : {r : Reading} {depth : ℕ} {m : Option Breach} {k : List Cell} {v : Value} → IsValue v → HasNoNan v
+    → nest v ≤ r.depth - depth → m ≡ None → HaveNoMarks k → NodeHeld r depth m k v
+held lawful no_nan few mark rest = record { lawful = lawful; no_nan = no_nan; few = few; mark = mark; rest = rest }
+
 record ElementsHeld (r : Reading) (depth : ℕ) (k : List Cell) (vs : Values) : Type 0 where
   lawful : AreValues vs
   no_nan : HaveNoNan vs
@@ -141,56 +145,31 @@ not_deep false e = refl
 room_inside : (r : Reading) (depth : ℕ) → deep_if r depth ≡ None → depth < r.depth
 room_inside r depth e = leb-false r.depth depth (not_deep (nat_le r.depth depth) e)
 
-one_deeper : (a b depth room : ℕ) → a ≤ room - suc depth → b ≤ room - suc depth → depth < room
-    → suc (max a b) ≤ room - depth
-one_deeper a b depth room h k l = omega arith
-
 deeper : (a depth room : ℕ) → a ≤ suc (room - suc depth) → depth < room → a ≤ room - depth
 deeper a depth room h l = omega arith
 
 mutual
   node_held : (r : Reading) (n : Node) (depth : ℕ) (m : Option Breach) (k : List Cell) → IsNode r n
       → HaveNoMarks (node_cells r n depth m k) → NodeHeld r depth m k (meaning n)
-  node_held r Node.null depth m k ok h =
-      record { lawful = tt; no_nan = tt; few = omega arith; mark = h.0; rest = plain_rest (codes "ull") k h.1 }
-  node_held r (Node.boolean true) depth m k ok h =
-      record { lawful = tt; no_nan = tt; few = omega arith; mark = h.0; rest = plain_rest (codes "rue") k h.1 }
-  node_held r (Node.boolean false) depth m k ok h =
-      record { lawful = tt; no_nan = tt; few = omega arith; mark = h.0; rest = plain_rest (codes "alse") k h.1 }
+  node_held r Node.null depth m k ok h = held tt tt (omega arith) h.0 (plain_rest (codes "ull") k h.1)
+  node_held r (Node.boolean true) depth m k ok h = held tt tt (omega arith) h.0 (plain_rest (codes "rue") k h.1)
+  node_held r (Node.boolean false) depth m k ok h = held tt tt (omega arith) h.0 (plain_rest (codes "alse") k h.1)
   node_held r (Node.number n) depth m k ok h =
-      let first = signed_first n.negative n m k ok.0 h in
-      record { lawful = number_in_range n; no_nan = tt; few = omega arith; mark = first.0; rest = first.1 }
+      let first = signed_first n.negative n m k ok.0 h in held (number_in_range n) tt (omega arith) first.0 first.1
   node_held r (Node.string is) depth m k ok h =
-      record {
-        lawful = IsValue-text (bytes_of is) (bytes_utf8 is ok);
-        no_nan = tt;
-        few = omega arith;
-        mark = h.0;
-        rest = (items_rest is (cell 34 None ∷ k) h.1).1;
-      }
+      held (IsValue-text (bytes_of is) (bytes_utf8 is ok)) tt (omega arith) h.0
+      (items_rest is (cell 34 None ∷ k) h.1).1
   node_held r (Node.empty_array b) depth m k ok h =
-      record { lawful = tt; no_nan = tt; few = omega arith; mark = h.0; rest = (plain_rest b (cell 93 None ∷ k) h.1).1 }
+      held tt tt (omega arith) h.0 (plain_rest b (cell 93 None ∷ k) h.1).1
   node_held r (Node.empty_object b) depth m k ok h =
-      record {
-        lawful = object_lawful 0 [] tt (IsDistinct-put_each {V = Value} []);
-        no_nan = tt;
-        few = omega arith;
-        mark = h.0;
-        rest = (plain_rest b (cell 125 None ∷ k) h.1).1;
-      }
+      held (object_lawful 0 [] tt (IsDistinct-put_each {V = Value} [])) tt (omega arith) h.0
+      (plain_rest b (cell 125 None ∷ k) h.1).1
   node_held r (Node.array b n c es) depth m k ok h =
       let one = node_held r n (suc depth) (deep_if r depth) (plain c (elements_cells r es (suc depth) k)) ok.1
       (plain_rest b _ h.1) in
       let more = elements_held r es (suc depth) k ok.3 (plain_rest c _ one.rest) in
-      record {
-        lawful = (one.lawful, more.lawful);
-        no_nan = (one.no_nan, more.no_nan);
-        few =
-            one_deeper (nest (meaning n)) (most_nest (elements_meaning es)) depth r.depth one.few more.few
-            (room_inside r depth one.mark);
-        mark = h.0;
-        rest = more.rest;
-      }
+      held (one.lawful, more.lawful) (one.no_nan, more.no_nan)
+      (omega (arith, one.few, more.few, room_inside r depth one.mark)) h.0 more.rest
   node_held r (Node.object key b n c ms) depth m k ok h =
       let named = key_first r [] key (deep_if r depth) _ h.1 in
       let one = node_held r n (suc depth) None (plain c (members_cells r ms (bytes_of key.items ∷ []) (suc depth) k))
@@ -201,13 +180,8 @@ mutual
       record { utf8 = bytes_utf8 key.items ok.0.1; lawful = one.lawful; no_nan = one.no_nan; few = one.few } in
       let all : AreHeldPairs (r.depth - suc depth) (put_each ps) = each_held (r.depth - suc depth) [] ps tt
       (first, more.pairs) in
-      record {
-        lawful = object_lawful (r.depth - suc depth) (put_each ps) all (IsDistinct-put_each ps);
-        no_nan = (pairs_held (r.depth - suc depth) (put_each ps) all).1;
-        few = deeper _ depth r.depth (object_few (r.depth - suc depth) (put_each ps) all) (room_inside r depth named.0);
-        mark = h.0;
-        rest = more.rest;
-      }
+      held (object_lawful _ (put_each ps) all (IsDistinct-put_each ps)) (pairs_held _ (put_each ps) all).1
+      (deeper _ depth r.depth (object_few _ (put_each ps) all) (room_inside r depth named.0)) h.0 more.rest
 
   elements_held : (r : Reading) (es : Elements) (depth : ℕ) (k : List Cell) → AreElements r es
       → HaveNoMarks (elements_cells r es depth k) → ElementsHeld r depth k (elements_meaning es)

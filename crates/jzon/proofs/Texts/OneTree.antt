@@ -301,21 +301,17 @@ module _ (r : Reading) where
   lead (Node.empty_object b) t ok = ap (λ k. Some (merged k)) (class-char r.strict opens_object)
   lead (Node.object key b n c ms) t ok = ap (λ k. Some (merged k)) (class-char r.strict opens_object)
 
+  -- neither whitespace nor the bracket that closes an array
   abbrev begins_value : Class → Bool
-  begins_value begins_null = true
-  begins_value begins_true = true
-  begins_value begins_false = true
-  begins_value digits = true
-  begins_value quote = true
-  begins_value opens_array = true
-  begins_value opens_object = true
-  begins_value _ = false
+  begins_value whitespace = false
+  begins_value closes_array = false
+  begins_value _ = true
 
   kind_begins : (n : Node) → begins_value (kind n) ≡ true
   kind_begins Node.null = refl
   kind_begins _ = refl
 
-  -- a value begins with no character of another class
+  -- so a value begins with no character of these two classes
   not_value : (k : Class) (t : List ℕ) (n : Node) → begins_value (merged k) ≡ false → first t ≡ Some (kind n) → Not k t
   not_value k [] n apart e = tt
   not_value k (c ∷ cs) n apart e = λ f.
